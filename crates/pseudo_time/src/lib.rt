@@ -1,0 +1,15 @@
+//! Stamps, pseudotimes, the decisions of commit records and the names of nodes.
+#![tactic(auto)]
+
+mod decisions;
+mod nodes;
+mod stamps;
+mod times;
+
+pub use decisions::Decision;
+pub use nodes::{NodeId, NodeKind};
+pub use stamps::{LAST_CLOCK, Stamp, next_clock};
+pub use times::{PseudoTime, order_of_bytes};
+
+#[cfg(test)]
+mod tests;
