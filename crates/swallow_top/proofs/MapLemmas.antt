@@ -1,0 +1,62 @@
+-- A map of objects by the entries of a `BTreeMap`.
+use Rattle.std.proofs.Common.{◌≡◌, ℕ, List, [], ◌∷◌, cond, sym, refl, ap, ◌∙◌, Some, T, Bool, true, false, ◌&&◌, map, subst}
+use Rattle.std.specs.Prelude.{Option}
+use Rattle.std.specs.Ordering.{nat_cmp}
+use Rattle.std.specs.Cmp.{IsTotalOrder}
+use Rattle.std.specs.BTreeMap.{is_at}
+use Rattle.std.specs.Map.{lookup}
+use Rattle.std.specs.FinMap.{find, get, insert, entries, from_entries, from_sorted, is_sorted, get-from_entries, get-from_sorted, get-insert, entries-from_sorted, same_map}
+use Rattle.std.proofs.lemmas.Cmp.{nat_cmp_total, on_total, then_total, eq_by_cmp_equiv}
+use Rattle.std.proofs.lemmas.Map.Lookups.{CmpEqualImpliesEq, exact_pairs, exact_unsigned}
+use Rattle.value_form.specs.declared.objects.ObjectId.{ObjectId}
+use Rattle.value_form.specs.declared.values.Value.{Value}
+use Rattle.std.specs.Ordering.{is_lt}
+use Rattle.std.specs.declared.cmp.Ordering.TheVariants.{Less}
+use Rattle.std.specs.FinMap.Entries.{below_all}
+use Rattle.std.specs.List.{AllByRecursion}
+use Rattle.std.specs.List.Sorted.{IsStrictlySortedBy}
+use Rattle.value_form.specs.Objects.{object_cmp, Objects}
+
+-- what a `BTreeMap` with these entries has
+abbrev pub found_at : List (ObjectId × Value) → ObjectId → Option Value
+found_at entries object = lookup (is_at (object_cmp object)) entries
+
+object_cmp-exact : CmpEqualImpliesEq object_cmp
+object_cmp-exact a b h = ap (λ (p : ℕ × ℕ). record { repository = p.0; number = p.1 }) (exact_pairs nat_cmp nat_cmp exact_unsigned exact_unsigned (a.repository, a.number) (b.repository, b.number) h)
+
+pub object_cmp-total : IsTotalOrder object_cmp
+object_cmp-total = then_total (on_total (λ s. s.repository) nat_cmp_total) (on_total (λ s. s.number) nat_cmp_total)
+
+find-found_at : (es : List (ObjectId × Value)) (q : ObjectId) → find object_cmp q es ≡ found_at es q
+find-found_at [] q = refl
+find-found_at (e ∷ es) q = ap (cond (is_at (object_cmp q) e.0) (Some e.1)) (find-found_at es q)
+
+pub get-entries_of : (es : List (ObjectId × Value)) (q : ObjectId) → get (from_entries {R = object_cmp} es) q ≡ found_at es q
+get-entries_of es q = get-from_entries object_cmp-total es q ∙ find-found_at es q
+
+pub insert-entries_of : (es fs : List (ObjectId × Value)) (o : ObjectId) (v : Value) → ((q : ObjectId) → found_at fs q ≡ cond (is_at (object_cmp o) q) (Some v) (found_at es q)) → from_entries {R = object_cmp} fs ≡ insert (from_entries es) o v
+insert-entries_of es fs o v h = same_map object_cmp-total object_cmp-exact _ _ (λ q.
+    get-entries_of fs q ∙ h q ∙ ap (λ b. cond b (Some v) (found_at es q)) ((eq_by_cmp_equiv object_cmp-total).symm o q)
+    ∙ sym (get-insert object_cmp-total (from_entries es) o v q ∙ ap (cond (is_at (object_cmp q) o) (Some v)) (get-entries_of es q)))
+
+-- a map keeps entries that rise
+pub entries-entries_of : (es : List (ObjectId × Value)) → T (is_sorted object_cmp es) → entries (from_entries {R = object_cmp} es) ≡ es
+entries-entries_of es rising =
+    ap entries (same_map object_cmp-total object_cmp-exact (from_entries es) (from_sorted es) (λ q. get-from_entries object_cmp-total es q ∙ sym (get-from_sorted object_cmp es q rising)))
+    ∙ entries-from_sorted object_cmp es rising
+
+both : (p q : Bool) → T p → T q → T (p && q)
+both true q a b = b
+both false q a b = absurd a
+
+below_all-rising : (o : ObjectId) (es : List (ObjectId × Value)) → AllByRecursion (λ q. object_cmp o q ≡ Less) (map (λ e. e.0) es) → T (below_all object_cmp o es)
+below_all-rising o [] h = tt
+below_all-rising o (e ∷ es) h = both _ _ (subst (λ r. T (is_lt r)) (sym h.0) tt) (below_all-rising o es h.1)
+
+is_sorted-rising : (es : List (ObjectId × Value)) → IsStrictlySortedBy object_cmp (map (λ e. e.0) es) → T (is_sorted object_cmp es)
+unfolding IsStrictlySortedBy
+is_sorted-rising [] h = tt
+is_sorted-rising (e ∷ es) h = both _ _ (below_all-rising e.0 es h.0) (is_sorted-rising es h.1)
+
+pub rising_entries : (es listed : List (ObjectId × Value)) (m : Objects) → listed ≡ es → IsStrictlySortedBy object_cmp (map (λ e. e.0) es) → from_entries es ≡ m → listed ≡ entries m
+rising_entries es listed m same rising is = same ∙ sym (entries-entries_of es (is_sorted-rising es rising)) ∙ ap entries is

@@ -1,0 +1,15 @@
+-- The words of a run, and what the whole input is.
+use Rattle.std.proofs.Common.{◌≡◌, ℕ, ◌≤◌, List, [], ◌∷◌, ◌++◌, length, get_or, sym, ap, ◌∙◌, arith, None, Some, Bool, eqb}
+use Rattle.std.specs.Prelude.{Option, IfSome, IsTrue, codes}
+use Rattle.std.specs.Borrow.{Bor}
+use Rattle.std.specs.Cmp.Lexicographic.{pointwise}
+use Rattle.std.proofs.lemmas.Bool.Decides.{Decides-eqb}
+use Rattle.std.proofs.lemmas.Slice.Eq.{slice_eq-Decides}
+use Rattle.swallow_top.specs.Top.{AreWords}
+
+pub one_word : (words : List (Bor (List ℕ))) (d : Bor (List ℕ)) (r : Bool) → length words ≡ 1 → r ≡ pointwise eqb (get_or words 0 d).now (codes "run") → (IsTrue r → AreWords words) × (AreWords words → IsTrue r)
+one_word [] d r one e = absurd (omega arith)
+one_word (w ∷ []) d r one e =
+    let same = slice_eq-Decides Decides-eqb w.now (codes "run") r e in
+    (λ t. ap (λ x. x ∷ []) (same.0 t), λ a. same.1 (ap (λ ws. get_or ws 0 []) a))
+one_word (w ∷ v ∷ more) d r one e = absurd (omega arith)

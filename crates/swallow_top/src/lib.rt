@@ -1,0 +1,19 @@
+//! The top call: from words to a report.
+#![tactic(auto)]
+
+mod bodies;
+mod lines;
+mod machines;
+mod names;
+mod object_maps;
+mod plans;
+mod reports;
+mod stops;
+mod streams;
+mod tokens;
+mod top;
+
+pub use top::swallow;
+
+#[cfg(test)]
+mod tests;

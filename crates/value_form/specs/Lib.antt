@@ -1,0 +1,5 @@
+pub mod Meaning
+pub mod Objects
+pub mod Ranges
+pub mod TextForm
+pub mod ValueText
