@@ -1,14 +1,12 @@
 -- What the digits of a number are read as.
-use Rattle.std.proofs.Common.{◌≡◌, ℕ, zero, suc, lit<, ◌<◌, List, [], ◌∷◌, ◌^◌, length, cond, true, false, Bool, sym, refl, ◌∙◌, ap, arith, Ok, Err, None, Some, nat_le, ◌&&◌}
-use Rattle.std.specs.Prelude.{Option, Result, slice_index, ◌==◌, if◌then◌else◌}
+use Rattle.std.proofs.Common.{◌≡◌, ℕ, zero, suc, lit<, ◌<◌, List, [], ◌∷◌, ◌^◌, length, cond, true, false, Bool, refl, arith, Err, None, Some, nat_le, ◌&&◌}
+use Rattle.std.specs.Prelude.{Result, slice_index, ◌==◌}
 use Rattle.std.specs.Char.{is_ascii_digit}
 use Rattle.std.specs.List.{list_all}
-use Rattle.std.specs.Int.{IsInRange}
 use Rattle.std.specs.Result.{OkIff}
 use Rattle.std.specs.Str.{IsUtf8}
 use Rattle.std.specs.Str.Parse.{digits_value, ParsesUnsigned}
 use Rattle.std.proofs.lemmas.Bool.Decides.{nat_tests}
-use Rattle.std.proofs.lemmas.Bool.{cases_lt}
 use Rattle.std.proofs.lemmas.Str.Parse.{IsNumeralModel, IsDigitsTest, numerals_by_value, parse_plain}
 use Rattle.std.proofs.lemmas.Str.{IsUtf8-from_ascii}
 use Rattle.swallow_top.specs.Reading.{plain_digits, number_at}

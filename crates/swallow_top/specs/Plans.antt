@@ -1,7 +1,6 @@
 -- Which inputs are plans of one act, and which plan each is.
 use Rattle.std.specs.Prelude.{ℕ, List, length, codes, Option, Some, None, nat_lt, if◌then◌else◌}
 use Rattle.std.specs.Str.Lines.{lines}
-use Rattle.value_form.specs.declared.acts.ActSpec.{ActSpec}
 use Rattle.swallow_top.specs.declared.plans.Plan.{Plan}
 use Rattle.swallow_top.specs.Reading.{◌>>=◌, after_line, run_at, act_at, body_at}
 

@@ -1,4 +1,4 @@
-use Rattle.std.proofs.Common.{◌≡◌, ◌≤◌, ◌<◌, ◌++◌, length}
+use Rattle.std.proofs.Common.{◌≡◌, ◌≤◌, ◌++◌, length}
 use Rattle.std.specs.Option.{option_map}
 use Rattle.value_form.specs.Ranges.{IsScript}
 use Rattle.swallow_top.specs.Reading.{body_at}

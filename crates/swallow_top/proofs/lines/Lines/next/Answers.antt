@@ -1,4 +1,4 @@
-use Rattle.std.proofs.Common.{◌≡◌, ap, sym, ◌∙◌, ◌∷◌, ◌<◌, length, arith}
+use Rattle.std.proofs.Common.{ap, sym, ◌∙◌, ◌∷◌, ◌<◌, length, arith}
 use Rattle.std.specs.Str.Lines.{lines}
 use Rattle.std.proofs.lemmas.Bool.Decides.{nat_tests}
 use Rattle.swallow_top.proofs.LineLemmas.{lines-cut, lines-uncut, take-drop_all}
