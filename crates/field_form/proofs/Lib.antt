@@ -1,0 +1,4 @@
+pub mod FormLaws
+pub mod NumberLaws
+pub mod TimeLaws
+pub mod DecisionLaws

@@ -1,0 +1,79 @@
+-- A number that is read is the number that was written.
+use Rattle.std.proofs.Common.{◌≡◌, ℕ, suc, ◌^◌, ◌<◌, ◌≤◌, false, ltb, List, [], ◌∷◌, ◌++◌, length, take, drop, Some, refl, sym, ap, ◌∙◌, arith}
+use Rattle.std.specs.Int.{Width, w16, w32, w64, byte_len, from_be_bytes, to_be_bytes}
+use Rattle.std.proofs.lemmas.Bool.{ltb-false, le-ltb}
+use Rattle.std.proofs.lemmas.List.{take_at, drop_at, take-append-drop, length-append, length-take}
+use Rattle.std.proofs.lemmas.Nat.{be_bytes_2, be_bytes_4, be_bytes_8, from_be_bytes-to_be_bytes_2, from_be_bytes-to_be_bytes_4, from_be_bytes-to_be_bytes_8}
+use Rattle.field_form.specs.Forms.{IsBytes, Begins, IsForm}
+use Rattle.field_form.specs.Numbers.{byte_at, number_at}
+use Rattle.field_form.proofs.FormLaws.{IsBytes-drop, IsBytes-take, chosen_else, some_is}
+
+pub record IsWide (w : Width) (limit : ℕ) : Type 0 where
+  pub len : (n : ℕ) → length (to_be_bytes w n) ≡ byte_len w
+  pub back : (bytes : List ℕ) → length bytes ≡ byte_len w → IsBytes bytes → to_be_bytes w (from_be_bytes w bytes) ≡ bytes
+  pub again : (n : ℕ) → n < limit → from_be_bytes w (to_be_bytes w n) ≡ n
+  pub below : (bytes : List ℕ) → IsBytes bytes → from_be_bytes w bytes < limit
+
+wide16 : IsWide w16 (2 ^ 16)
+wide16 = record {
+  len = λ n. refl;
+  back = λ bytes len fits. be_bytes_2 bytes _ len fits refl;
+  again = λ n lt. from_be_bytes-to_be_bytes_2 n lt;
+  below = λ bytes fits. omega (arith, fits 0, fits 1);
+}
+
+wide32 : IsWide w32 (2 ^ 32)
+wide32 = record {
+  len = λ n. refl;
+  back = λ bytes len fits. be_bytes_4 bytes _ len fits refl;
+  again = λ n lt. from_be_bytes-to_be_bytes_4 n lt;
+  below = λ bytes fits. omega (arith, fits 0, fits 1, fits 2, fits 3);
+}
+
+wide64 : IsWide w64 (2 ^ 64)
+wide64 = record {
+  len = λ n. refl;
+  back = λ bytes len fits. be_bytes_8 bytes _ len fits refl;
+  again = λ n lt. from_be_bytes-to_be_bytes_8 n lt;
+  below = λ bytes fits. omega (arith, fits 0, fits 1, fits 2, fits 3, fits 4, fits 5, fits 6, fits 7);
+}
+
+module _ (w : Width) (limit : ℕ) (wide : IsWide w limit) where
+  number_takes : (bytes : List ℕ) (n : ℕ) (rest : List ℕ) → IsBytes bytes → number_at w bytes ≡ Some (n, rest) → Begins bytes (to_be_bytes w n) rest × (n < limit)
+  number_takes bytes n rest fits e =
+      let g = chosen_else (ltb (length bytes) (byte_len w)) (from_be_bytes w (take (byte_len w) bytes), drop (byte_len w) bytes) (n, rest) e in
+      let long : byte_len w ≤ length bytes = ltb-false _ _ g.0 in
+      let n-is : from_be_bytes w (take (byte_len w) bytes) ≡ n = ap (λ (p : ℕ × List ℕ). p.0) g.1 in
+      let rest-is : drop (byte_len w) bytes ≡ rest = ap (λ (p : ℕ × List ℕ). p.1) g.1 in
+      let front : to_be_bytes w n ≡ take (byte_len w) bytes = rw (← n-is) (wide.back (take (byte_len w) bytes) (omega (arith, length-take (byte_len w) bytes)) (IsBytes-take (byte_len w) bytes fits)) in
+      (record { parts = rw (front, ← rest-is) (sym (take-append-drop (byte_len w) bytes)); rest_is_bytes = rw (← rest-is) (IsBytes-drop (byte_len w) bytes fits) }, rw (← n-is) (wide.below (take (byte_len w) bytes) (IsBytes-take (byte_len w) bytes fits)))
+
+  number_again : (n : ℕ) (rest : List ℕ) → n < limit → number_at w (to_be_bytes w n ++ rest) ≡ Some (n, rest)
+  number_again n rest lt =
+      let long : ltb (length (to_be_bytes w n ++ rest)) (byte_len w) ≡ false = le-ltb _ _ (omega (arith, length-append (to_be_bytes w n) rest, wide.len n)) in
+      let front : take (byte_len w) (to_be_bytes w n ++ rest) ≡ to_be_bytes w n = take_at (to_be_bytes w n) rest (byte_len w) (wide.len n) in
+      let after : drop (byte_len w) (to_be_bytes w n ++ rest) ≡ rest = drop_at (to_be_bytes w n) rest (byte_len w) (wide.len n) in
+      rw (long, front, after, wide.again n lt) refl
+
+  number_form : IsForm (to_be_bytes w) (λ n. n < limit) (number_at w)
+  number_form = record { takes = number_takes; again = number_again }
+
+pub u16_form : IsForm (to_be_bytes w16) (λ n. n < 2 ^ 16) (number_at w16)
+u16_form = number_form w16 (2 ^ 16) wide16
+
+pub u32_form : IsForm (to_be_bytes w32) (λ n. n < 2 ^ 32) (number_at w32)
+u32_form = number_form w32 (2 ^ 32) wide32
+
+pub u64_form : IsForm (to_be_bytes w64) (λ n. n < 2 ^ 64) (number_at w64)
+u64_form = number_form w64 (2 ^ 64) wide64
+
+byte_takes : (bytes : List ℕ) (b : ℕ) (rest : List ℕ) → IsBytes bytes → byte_at bytes ≡ Some (b, rest) → Begins bytes (b ∷ []) rest × (b < 256)
+byte_takes [] b rest fits e = absurd (cc)
+byte_takes (a ∷ more) b rest fits e =
+    let p : ◌≡◌ {A = ℕ × List ℕ} (a, more) (b, rest) = some_is (a, more) (b, rest) e in
+    let a-is : a ≡ b = ap (λ (q : ℕ × List ℕ). q.0) p in
+    let rest-is : more ≡ rest = ap (λ (q : ℕ × List ℕ). q.1) p in
+    (record { parts = cc; rest_is_bytes = rw (← rest-is) (λ i. fits (suc i)) }, rw (← a-is) (fits 0))
+
+pub byte_form : IsForm (λ b. b ∷ []) (λ b. b < 256) byte_at
+byte_form = record { takes = byte_takes; again = λ b rest lt. refl }

@@ -1,0 +1,4 @@
+pub mod Decisions
+pub mod Forms
+pub mod Numbers
+pub mod Times

@@ -1,0 +1,15 @@
+//! Fields of byte forms: numbers, stamps, pseudotimes and decisions.
+//!
+//! A field is read off the front of some bytes, and what follows it is given back.
+#![tactic(auto)]
+
+mod decisions;
+mod numbers;
+mod times;
+
+pub use decisions::{decision_of, push_decision};
+pub use numbers::{byte_of, u16_of, u32_of, u64_of};
+pub use times::{push_stamp, push_time, stamp_of, time_of};
+
+#[cfg(test)]
+mod tests;
