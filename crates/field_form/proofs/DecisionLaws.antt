@@ -33,24 +33,24 @@ expiry_again n m rest hn hm =
 
 -- the decision and what follows it, of a tag that was read and of what the tests gave
 decided : (bytes after : List ℕ) (tag : ℕ) (d : Decision) (rest : List ℕ) → Begins bytes (tag ∷ []) after
-  → cond (tag == 1) (Some (Committed, after)) (cond (tag == 2) (Some (Withdrawn, after)) (cond (tag == 3) (expiry_at after) None)) ≡ Some (d, rest) → Begins bytes (decision_text d) rest × IsDecision d
+    → cond (tag == 1) (Some (Committed, after)) (cond (tag == 2) (Some (Withdrawn, after)) (cond (tag == 3) (expiry_at after) None)) ≡ Some (d, rest) → Begins bytes (decision_text d) rest × IsDecision d
 decided bytes after tag d rest front e = elim (chosen (tag == 1) (Some (Committed, after)) _ (Some (d, rest)) e) [
   | inl h ↦
       let is : tag ≡ 1 = let t = h.0 in grind (arith, nat_tests) in
       subst (λ (y : Decision × List ℕ). Begins bytes (decision_text y.0) y.1 × IsDecision y.0) (some_is (Committed, after) (d, rest) h.1) (subst (λ (k : ℕ). Begins bytes (k ∷ []) after) is front, tt)
   | inr other ↦ elim (chosen (tag == 2) (Some (Withdrawn, after)) _ (Some (d, rest)) other.1) [
+    | inl h ↦
+        let is : tag ≡ 2 = let t = h.0 in grind (arith, nat_tests) in
+        subst (λ (y : Decision × List ℕ). Begins bytes (decision_text y.0) y.1 × IsDecision y.0) (some_is (Withdrawn, after) (d, rest) h.1) (subst (λ (k : ℕ). Begins bytes (k ∷ []) after) is front, tt)
+    | inr last ↦ elim (chosen (tag == 3) (expiry_at after) None (Some (d, rest)) last.1) [
       | inl h ↦
-          let is : tag ≡ 2 = let t = h.0 in grind (arith, nat_tests) in
-          subst (λ (y : Decision × List ℕ). Begins bytes (decision_text y.0) y.1 × IsDecision y.0) (some_is (Withdrawn, after) (d, rest) h.1) (subst (λ (k : ℕ). Begins bytes (k ∷ []) after) is front, tt)
-      | inr last ↦ elim (chosen (tag == 3) (expiry_at after) None (Some (d, rest)) last.1) [
-          | inl h ↦
-              let is : tag ≡ 3 = let t = h.0 in grind (arith, nat_tests) in
-              let x = expiry_takes after d rest front.rest_is_bytes h.1 in
-              subst (λ (y : Decision). Begins bytes (decision_text y) rest × IsDecision y) (sym x.2)
-                (Begins-then bytes (3 ∷ []) after (to_be_bytes w64 x.0 ++ to_be_bytes w64 x.1) rest (subst (λ (k : ℕ). Begins bytes (k ∷ []) after) is front) x.3, (x.4, x.5))
-          | inr h ↦ absurd (let t = h.1 in cc)
-        ]
+          let is : tag ≡ 3 = let t = h.0 in grind (arith, nat_tests) in
+          let x = expiry_takes after d rest front.rest_is_bytes h.1 in
+          subst (λ (y : Decision). Begins bytes (decision_text y) rest × IsDecision y) (sym x.2)
+          (Begins-then bytes (3 ∷ []) after (to_be_bytes w64 x.0 ++ to_be_bytes w64 x.1) rest (subst (λ (k : ℕ). Begins bytes (k ∷ []) after) is front) x.3, (x.4, x.5))
+      | inr h ↦ absurd (let t = h.1 in cc)
     ]
+  ]
 ]
 
 decision_takes : (bytes : List ℕ) (d : Decision) (rest : List ℕ) → IsBytes bytes → decision_at bytes ≡ Some (d, rest) → Begins bytes (decision_text d) rest × IsDecision d

@@ -1,12 +1,15 @@
 -- A number that is read is the number that was written.
-use Rattle.std.proofs.Common.{◌≡◌, ℕ, suc, ◌^◌, ◌<◌, ◌≤◌, false, ltb, List, [], ◌∷◌, ◌++◌, length, take, drop, Some, refl, sym, ap, ◌∙◌, arith}
-use Rattle.std.specs.Int.{Width, w16, w32, w64, byte_len, from_be_bytes, to_be_bytes}
+use Rattle.std.proofs.Common.{◌≡◌, ℕ, suc, ◌^◌, ◌<◌, ◌≤◌, false, ltb, List, [], ◌∷◌, ◌++◌, length, take, drop, Some, refl, sym, ap, subst, ◌∙◌, arith}
+use Rattle.std.specs.Int.{Width, w16, w32, w64, byte_len, from_be_bytes, to_be_bytes, cast_signed, cast_unsigned}
+use Rattle.std.specs.Prelude.{ℤ, FitsSigned}
+use Rattle.std.proofs.lemmas.Int.{of_z-to_z, to_z-of_z}
+use Rattle.std.proofs.Math.Facts.{sfits_to_z, Fits-of_lt, Fits-of_z}
 use Rattle.std.proofs.lemmas.Bool.{ltb-false, le-ltb}
 use Rattle.std.proofs.lemmas.List.{take_at, drop_at, take-append-drop, length-append, length-take}
 use Rattle.std.proofs.lemmas.Nat.{be_bytes_2, be_bytes_4, be_bytes_8, from_be_bytes-to_be_bytes_2, from_be_bytes-to_be_bytes_4, from_be_bytes-to_be_bytes_8}
 use Rattle.field_form.specs.Forms.{IsBytes, Begins, IsForm}
-use Rattle.field_form.specs.Numbers.{byte_at, number_at}
-use Rattle.field_form.proofs.FormLaws.{IsBytes-drop, IsBytes-take, chosen_else, some_is}
+use Rattle.field_form.specs.Numbers.{byte_at, number_at, signed_at, front_at}
+use Rattle.field_form.proofs.FormLaws.{IsBytes-drop, IsBytes-take, bind_some, chosen_else, some_is}
 
 pub record IsWide (w : Width) (limit : ℕ) : Type 0 where
   pub len : (n : ℕ) → length (to_be_bytes w n) ≡ byte_len w
@@ -77,3 +80,36 @@ byte_takes (a ∷ more) b rest fits e =
 
 pub byte_form : IsForm (λ b. b ∷ []) (λ b. b < 256) byte_at
 byte_form = record { takes = byte_takes; again = λ b rest lt. refl }
+
+signed_takes : (bytes : List ℕ) (z : ℤ) (rest : List ℕ) → IsBytes bytes → signed_at bytes ≡ Some (z, rest) → Begins bytes (to_be_bytes w64 (cast_unsigned w64 z)) rest × FitsSigned w64 z
+unfolding signed_at
+signed_takes bytes z rest fits e =
+    let a = bind_some (number_at w64 bytes) (λ n. Some (cast_signed w64 n.0, n.1)) (z, rest) e in
+    let t = u64_form.takes bytes a.0.0 a.0.1 fits a.1 in
+    let made : ℤ × List ℕ = (cast_signed w64 a.0.0, a.0.1) in
+    let back : cast_unsigned w64 (cast_signed w64 a.0.0) ≡ a.0.0 = of_z-to_z w64 a.0.0 t.1 in
+    subst (λ (y : ℤ × List ℕ). Begins bytes (to_be_bytes w64 (cast_unsigned w64 y.0)) y.1 × FitsSigned w64 y.0) (some_is made (z, rest) a.2)
+    (subst (λ (k : ℕ). Begins bytes (to_be_bytes w64 k) a.0.1) (sym back) t.0, sfits_to_z {w = w64} {n = a.0.0} (Fits-of_lt t.1))
+
+signed_again : (z : ℤ) (rest : List ℕ) → FitsSigned w64 z → signed_at (to_be_bytes w64 (cast_unsigned w64 z) ++ rest) ≡ Some (z, rest)
+unfolding signed_at
+signed_again z rest fits =
+    let bound : cast_unsigned w64 z < 2 ^ 64 = omega (arith, Fits-of_z fits) in
+    rw (u64_form.again (cast_unsigned w64 z) rest bound, to_z-of_z w64 z fits) refl
+
+pub signed_form : IsForm (λ z. to_be_bytes w64 (cast_unsigned w64 z)) (FitsSigned w64) signed_at
+signed_form = record { takes = signed_takes; again = signed_again }
+
+-- so many bytes at the front, as they stand
+pub front_takes : (count : ℕ) (bytes front rest : List ℕ) → IsBytes bytes → front_at count bytes ≡ Some (front, rest) → Begins bytes front rest × (length front ≡ count) × IsBytes front
+front_takes count bytes front rest fits e =
+    let g = chosen_else (ltb (length bytes) count) (take count bytes, drop count bytes) (front, rest) e in
+    let long : count ≤ length bytes = ltb-false _ _ g.0 in
+    let front-is : take count bytes ≡ front = ap (λ (p : List ℕ × List ℕ). p.0) g.1 in
+    let rest-is : drop count bytes ≡ rest = ap (λ (p : List ℕ × List ℕ). p.1) g.1 in
+    (record { parts = rw (← front-is, ← rest-is) (sym (take-append-drop count bytes)); rest_is_bytes = rw (← rest-is) (IsBytes-drop count bytes fits) }, rw (← front-is) (omega (arith, length-take count bytes)), rw (← front-is) (IsBytes-take count bytes fits))
+
+pub front_again : (front rest : List ℕ) → front_at (length front) (front ++ rest) ≡ Some (front, rest)
+front_again front rest =
+    let long : ltb (length (front ++ rest)) (length front) ≡ false = le-ltb _ _ (omega (arith, length-append front rest)) in
+    rw (long, take_at front rest (length front) refl, drop_at front rest (length front) refl) refl

@@ -27,6 +27,6 @@ unfoldable pub decision_at : List ℕ → Option (Decision × List ℕ)
 decision_at bytes = do
   tag ← byte_at bytes
   if tag.0 == 1 then Some (Committed, tag.1)
-    else if tag.0 == 2 then Some (Withdrawn, tag.1)
-    else if tag.0 == 3 then expiry_at tag.1
-    else None
+      else if tag.0 == 2 then Some (Withdrawn, tag.1)
+      else if tag.0 == 3 then expiry_at tag.1
+      else None

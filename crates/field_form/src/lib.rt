@@ -4,11 +4,13 @@
 #![tactic(auto)]
 
 mod decisions;
+mod laws;
 mod numbers;
 mod times;
 
 pub use decisions::{decision_of, push_decision};
-pub use numbers::{byte_of, u16_of, u32_of, u64_of};
+pub use laws::fields_are_forms;
+pub use numbers::{byte_of, front_of, i64_of, u16_of, u32_of, u64_of};
 pub use times::{push_stamp, push_time, stamp_of, time_of};
 
 #[cfg(test)]

@@ -1,7 +1,7 @@
 ghost use Rattle.std.specs.Prelude.{◌≡◌};
 ghost use Rattle.std.specs.Int.{w16, w32, w64};
 ghost use Rattle.std.specs.Option.{option_map};
-ghost use Rattle.field_form.specs.Numbers.{byte_at, number_at};
+ghost use Rattle.field_form.specs.Numbers.{byte_at, number_at, signed_at, front_at};
 
 /// The first byte. None where there is none.
 pub fn byte_of(bytes: &[u8]) -> Option<(u8, &[u8])>
@@ -50,4 +50,25 @@ pub fn u64_of(bytes: &[u8]) -> Option<(u64, &[u8])>
         front[0], front[1], front[2], front[3], front[4], front[5], front[6], front[7],
     ]);
     Some((number, rest))
+}
+
+/// The signed number in the first eight bytes, in two's complement. None where there are fewer.
+#[tactic(auto, unfolding(crate::specs::Numbers::signed_at))]
+pub fn i64_of(bytes: &[u8]) -> Option<(i64, &[u8])>
+    ensures { option_map (λ p. (p.0, p.1.now)) result ≡ signed_at bytes.now }
+{
+    let Some((number, rest)) = u64_of(bytes) else {
+        return None;
+    };
+    Some((number.cast_signed(), rest))
+}
+
+/// The first `count` bytes. None where there are fewer.
+pub fn front_of(count: usize, bytes: &[u8]) -> Option<(&[u8], &[u8])>
+    ensures { option_map (λ p. (p.0.now, p.1.now)) result ≡ front_at count bytes.now }
+{
+    if bytes.len() < count {
+        return None;
+    }
+    Some(bytes.split_at(count))
 }
