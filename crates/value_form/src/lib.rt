@@ -7,6 +7,8 @@ mod objects;
 mod scripts;
 mod texts;
 mod transcripts;
+mod value_bytes;
+mod value_faults;
 mod values;
 
 pub use acts::ActSpec;
@@ -15,6 +17,8 @@ pub use objects::ObjectId;
 pub use scripts::{Expr, Place, Script, Stmt};
 pub use texts::Bytes;
 pub use transcripts::Line;
+pub use value_bytes::values_apart;
+pub use value_faults::ValueFault;
 pub use values::Value;
 
 #[cfg(test)]

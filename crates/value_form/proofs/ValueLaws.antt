@@ -1,0 +1,123 @@
+-- A value that is read is the one that was written.
+use Rattle.std.proofs.Common.{◌≡◌, ℕ, ◌+◌, ◌-◌, ◌^◌, ◌<◌, ◌≤◌, Bool, true, false, cond, nat_le, List, [], ◌∷◌, ◌++◌, length, take, drop, Option, Some, None, Result, Ok, Err, refl, sym, ap, subst, ◌∙◌, append_assoc, arith, inl, inr}
+use Rattle.std.specs.Prelude.{ℤ, ◌==◌, FitsSigned, IfOk}
+use Rattle.std.specs.Int.{w16, w64, to_be_bytes, cast_unsigned}
+use Rattle.std.proofs.lemmas.Bool.Decides.{nat_tests}
+use Rattle.std.proofs.lemmas.List.{take_at, drop_at, length-append}
+use Rattle.field_form.specs.Forms.{IsBytes, Begins}
+use Rattle.field_form.specs.Numbers.{byte_at, number_at, signed_at, front_at}
+use Rattle.field_form.proofs.FormLaws.{bind_some, chosen_then, Begins-then}
+use Rattle.field_form.proofs.NumberLaws.{byte_form, u16_form, signed_form, front_takes, front_again}
+use Rattle.field_form.proofs.DecisionLaws.{chosen}
+use Rattle.value_form.specs.declared.values.Value.{Value}
+use Rattle.value_form.specs.declared.values.Value.TheVariants.{Nothing, Number, Text}
+use Rattle.value_form.specs.declared.value_faults.ValueFault.{ValueFault}
+use Rattle.value_form.specs.ValueBytes.{IsValue, value_bytes, ◌>>=◌, field, length_at, number_value_at, text_value_at, value_at}
+use Rattle.value_form.specs.ValueReads.{Gives, GivesCount}
+
+-- a field that was there
+pub field_ok : {A B : Type 0} (at : ℕ) (o : Option A) (f : A → Result B ℕ) (y : B) → (field at o >>= f) ≡ Ok y → (x : A) × (o ≡ Some x) × (f x ≡ Ok y)
+field_ok at (Some x) f y e = (x, refl, e)
+field_ok at None f y e = absurd (cc)
+
+pub ok_is : {A : Type 0} (x y : A) → ◌≡◌ {A = Result A ℕ} (Ok x) (Ok y) → x ≡ y
+ok_is x y e = cc
+
+length_takes : (bytes : List ℕ) (n : ℕ) (rest : List ℕ) → IsBytes bytes → length_at bytes ≡ Some (n, rest) → Begins bytes (to_be_bytes w16 n) rest × (n ≤ 1000)
+length_takes bytes n rest fits e =
+    let a = bind_some (number_at w16 bytes) (λ k. cond (nat_le k.0 1000) (Some k) None) (n, rest) e in
+    let g = chosen_then (nat_le a.0.0 1000) a.0 (n, rest) a.2 in
+    let t = u16_form.takes bytes a.0.0 a.0.1 fits a.1 in
+    subst (λ (y : ℕ × List ℕ). Begins bytes (to_be_bytes w16 y.0) y.1 × (y.0 ≤ 1000)) g.1 (t.0, grind (arith, nat_tests, g.0))
+
+length_again : (n : ℕ) (rest : List ℕ) → n ≤ 1000 → length_at (to_be_bytes w16 n ++ rest) ≡ Some (n, rest)
+length_again n rest small =
+    let in_limit : nat_le n 1000 ≡ true = grind (arith, nat_tests) in
+    let below : n < 2 ^ 16 = omega arith in
+    rw (u16_form.again n rest below, in_limit) refl
+
+number_takes : (bytes : List ℕ) (v : Value) (rest : List ℕ) → IsBytes bytes → number_value_at bytes ≡ Ok (v, rest) → (z : ℤ) × (v ≡ Number z) × Begins bytes (to_be_bytes w64 (cast_unsigned w64 z)) rest × FitsSigned w64 z
+unfolding number_value_at
+number_takes bytes v rest fits e =
+    let a = field_ok 1 (signed_at bytes) (λ n. Ok (Number n.0, n.1)) (v, rest) e in
+    let made : Value × List ℕ = (Number a.0.0, a.0.1) in
+    let p : ◌≡◌ {A = Value × List ℕ} made (v, rest) = ok_is made (v, rest) a.2 in
+    let t = signed_form.takes bytes a.0.0 a.0.1 fits a.1 in
+    (a.0.0, sym (ap (λ (y : Value × List ℕ). y.0) p), subst (λ (r : List ℕ). Begins bytes (to_be_bytes w64 (cast_unsigned w64 a.0.0)) r) (ap (λ (y : Value × List ℕ). y.1) p) t.0, t.1)
+
+text_takes : (bytes : List ℕ) (v : Value) (rest : List ℕ) → IsBytes bytes → text_value_at bytes ≡ Ok (v, rest) → (b : List ℕ) × (v ≡ Text b) × Begins bytes (to_be_bytes w16 (length b) ++ b) rest × (length b ≤ 1000) × IsBytes b
+unfolding text_value_at
+text_takes bytes v rest fits e =
+    let a = field_ok 1 (length_at bytes) (λ size. field 3 (front_at size.0 size.1) >>= λ text. Ok (Text text.0, text.1)) (v, rest) e in
+    let b = field_ok 3 (front_at a.0.0 a.0.1) (λ text. Ok (Text text.0, text.1)) (v, rest) a.2 in
+    let made : Value × List ℕ = (Text b.0.0, b.0.1) in
+    let p : ◌≡◌ {A = Value × List ℕ} made (v, rest) = ok_is made (v, rest) b.2 in
+    let size = length_takes bytes a.0.0 a.0.1 fits a.1 in
+    let text = front_takes a.0.0 a.0.1 b.0.0 b.0.1 size.0.rest_is_bytes b.1 in
+    let whole = Begins-then bytes (to_be_bytes w16 a.0.0) a.0.1 b.0.0 b.0.1 size.0 text.0 in
+    let sized : Begins bytes (to_be_bytes w16 (length b.0.0) ++ b.0.0) b.0.1 = subst (λ (k : ℕ). Begins bytes (to_be_bytes w16 k ++ b.0.0) b.0.1) (sym text.1) whole in
+    (b.0.0, sym (ap (λ (y : Value × List ℕ). y.0) p), subst (λ (r : List ℕ). Begins bytes (to_be_bytes w16 (length b.0.0) ++ b.0.0) r) (ap (λ (y : Value × List ℕ). y.1) p) sized, omega (arith, size.1, text.1), text.2)
+
+text_again : (b rest : List ℕ) → length b ≤ 1000 → text_value_at ((to_be_bytes w16 (length b) ++ b) ++ rest) ≡ Ok (Text b, rest)
+unfolding text_value_at
+text_again b rest small =
+    ap text_value_at (append_assoc (to_be_bytes w16 (length b)) b rest) ∙ rw (length_again (length b) (b ++ rest) small, front_again b rest) refl
+
+-- the value and what follows it, of a tag that was read and of what the tests gave
+valued : (bytes after : List ℕ) (tag : ℕ) (v : Value) (rest : List ℕ) → Begins bytes (tag ∷ []) after
+    → cond (tag == 0) (Ok (Nothing, after)) (cond (tag == 1) (number_value_at after) (cond (tag == 2) (text_value_at after) (Err 0))) ≡ Ok (v, rest) → Begins bytes (value_bytes v) rest × IsValue v
+valued bytes after tag v rest front e = elim (chosen (tag == 0) (Ok (Nothing, after)) _ (Ok (v, rest)) e) [
+  | inl h ↦
+      let is : tag ≡ 0 = let t = h.0 in grind (arith, nat_tests) in
+      subst (λ (y : Value × List ℕ). Begins bytes (value_bytes y.0) y.1 × IsValue y.0) (ok_is (Nothing, after) (v, rest) h.1) (subst (λ (k : ℕ). Begins bytes (k ∷ []) after) is front, tt)
+  | inr other ↦ elim (chosen (tag == 1) (number_value_at after) _ (Ok (v, rest)) other.1) [
+    | inl h ↦
+        let is : tag ≡ 1 = let t = h.0 in grind (arith, nat_tests) in
+        let x = number_takes after v rest front.rest_is_bytes h.1 in
+        subst (λ (y : Value). Begins bytes (value_bytes y) rest × IsValue y) (sym x.1)
+        (Begins-then bytes (1 ∷ []) after (to_be_bytes w64 (cast_unsigned w64 x.0)) rest (subst (λ (k : ℕ). Begins bytes (k ∷ []) after) is front) x.2, x.3)
+    | inr last ↦ elim (chosen (tag == 2) (text_value_at after) (Err 0) (Ok (v, rest)) last.1) [
+      | inl h ↦
+          let is : tag ≡ 2 = let t = h.0 in grind (arith, nat_tests) in
+          let x = text_takes after v rest front.rest_is_bytes h.1 in
+          subst (λ (y : Value). Begins bytes (value_bytes y) rest × IsValue y) (sym x.1)
+          (Begins-then bytes (2 ∷ []) after (to_be_bytes w16 (length x.0) ++ x.0) rest (subst (λ (k : ℕ). Begins bytes (k ∷ []) after) is front) x.2, (x.3, x.4))
+      | inr h ↦ absurd (let t = h.1 in cc)
+    ]
+  ]
+]
+
+pub value_takes : (bytes : List ℕ) (v : Value) (rest : List ℕ) → IsBytes bytes → value_at bytes ≡ Ok (v, rest) → Begins bytes (value_bytes v) rest × IsValue v
+unfolding value_at
+value_takes bytes v rest fits e =
+    let a = field_ok 0 (byte_at bytes) (λ tag. cond (tag.0 == 0) (Ok (Nothing, tag.1)) (cond (tag.0 == 1) (number_value_at tag.1) (cond (tag.0 == 2) (text_value_at tag.1) (Err 0)))) (v, rest) e in
+    valued bytes a.0.1 a.0.0 v rest (byte_form.takes bytes a.0.0 a.0.1 fits a.1).0 a.2
+
+pub value_again : (v : Value) (rest : List ℕ) → IsValue v → value_at (value_bytes v ++ rest) ≡ Ok (v, rest)
+unfolding value_at number_value_at
+value_again Nothing rest h = refl
+value_again (Number z) rest h = rw (signed_form.again z rest h) refl
+value_again (Text b) rest h = text_again b rest h.0
+
+pub value_bytes-apart : (a b : Value) (x y : List ℕ) → IsValue a → IsValue b → value_bytes a ++ x ≡ value_bytes b ++ y → (a ≡ b) × (x ≡ y)
+value_bytes-apart a b x y ha hb e =
+    let p : ◌≡◌ {A = Value × List ℕ} (a, x) (b, y) = ok_is (a, x) (b, y) (sym (value_again a x ha) ∙ ap value_at e ∙ value_again b y hb) in
+    (ap (λ (q : Value × List ℕ). q.0) p, ap (λ (q : Value × List ℕ). q.1) p)
+
+-- ---- what a call that counts gives
+
+pub value_at-shorter : (bytes : List ℕ) (v : Value) (rest : List ℕ) → IsBytes bytes → value_at bytes ≡ Ok (v, rest) → length rest ≤ length bytes
+value_at-shorter bytes v rest fits e =
+    let t = value_takes bytes v rest fits e in
+    omega (arith, ap length t.0.parts ∙ length-append (value_bytes v) rest)
+
+pub read_found : (r : Result (Value × ℕ) ValueFault) (bytes : List ℕ) → IsBytes bytes → GivesCount r (length bytes) (value_at bytes) → IfOk r (λ p. IsValue p.0 × (p.1 ≤ length bytes) × (take p.1 bytes ≡ value_bytes p.0))
+read_found (Err fault) bytes fits g = tt
+read_found (Ok p) bytes fits g =
+    let t = value_takes bytes p.0 g.0 fits g.1 in
+    let sizes : length bytes ≡ length (value_bytes p.0) + length g.0 = ap length t.0.parts ∙ length-append (value_bytes p.0) g.0 in
+    let count : length (value_bytes p.0) ≡ p.1 = let k = g.2 in omega arith in
+    (t.1, let k = g.2 in omega arith, rw t.0.parts (take_at (value_bytes p.0) g.0 p.1 count))
+
+pub read_only : (r : Result (Value × ℕ) ValueFault) (bytes : List ℕ) → GivesCount r (length bytes) (value_at bytes) → (v : Value) (rest : List ℕ) → IsValue v → bytes ≡ value_bytes v ++ rest → GivesCount r (length bytes) (Ok (v, rest))
+read_only r bytes g v rest h e = subst (λ (reading : Result (Value × List ℕ) ℕ). GivesCount r (length bytes) reading) (ap value_at e ∙ value_again v rest h) g

@@ -1,0 +1,57 @@
+-- The bytes of a value, and of an object.
+use Rattle.std.specs.Prelude.{ℕ, ◌≤◌, ◌<◌, ◌^◌, ◌==◌, ◌&&◌, FitsSigned, Bool, List, [], ◌∷◌, ◌++◌, length, drop, Option, Some, None, Result, Ok, Err, nat_lt, nat_le, if◌then◌else◌, ◌≡◌}
+use Rattle.std.specs.Int.{w16, w32, w64, to_be_bytes, cast_unsigned}
+use Rattle.field_form.specs.Forms.{IsBytes}
+use Rattle.field_form.specs.Forms as form
+use Rattle.field_form.specs.Numbers.{byte_at, number_at, signed_at, front_at}
+use Rattle.value_form.specs.declared.objects.ObjectId.{ObjectId}
+use Rattle.value_form.specs.declared.values.Value.{Value}
+use Rattle.value_form.specs.declared.values.Value.TheVariants.{Nothing, Number, Text}
+
+-- which values have bytes: a text has at most 1,000
+abbrev pub IsValue : Value → Type 0
+IsValue Nothing = Unit {0}
+IsValue (Number z) = FitsSigned w64 z
+IsValue (Text bytes) = (length bytes ≤ 1000) × IsBytes bytes
+
+-- a tag, then the number in eight bytes, or the length of the text in two and the text
+abbrev pub value_bytes : Value → List ℕ
+value_bytes Nothing = 0 ∷ []
+value_bytes (Number z) = 1 ∷ to_be_bytes w64 (cast_unsigned w64 z)
+value_bytes (Text bytes) = 2 ∷ (to_be_bytes w16 (length bytes) ++ bytes)
+
+-- ---- reading: each field in turn, and else the place of the first that is missing, cut short or out of range
+
+infixl 10 ◌>>=◌
+abbrev pub ◌>>=◌ : {A B : Type 0} → Result A ℕ → (A → Result B ℕ) → Result B ℕ
+(Ok x) >>= f = f x
+(Err at) >>= f = Err at
+
+-- the field that begins at this place
+abbrev pub field : {A : Type 0} → ℕ → Option A → Result A ℕ
+field at None = Err at
+field at (Some x) = Ok x
+
+-- the length of a text, at most 1,000
+abbrev pub length_at : List ℕ → Option (ℕ × List ℕ)
+length_at bytes = form.◌>>=◌ (number_at w16 bytes) (λ n. if nat_le n.0 1000 then Some n else None)
+
+unfoldable pub number_value_at : List ℕ → Result (Value × List ℕ) ℕ
+number_value_at bytes = do
+  number ← field 1 (signed_at bytes)
+  Ok (Number number.0, number.1)
+
+unfoldable pub text_value_at : List ℕ → Result (Value × List ℕ) ℕ
+text_value_at bytes = do
+  size ← field 1 (length_at bytes)
+  text ← field 3 (front_at size.0 size.1)
+  Ok (Text text.0, text.1)
+
+-- the value at the front, and what follows it
+unfoldable pub value_at : List ℕ → Result (Value × List ℕ) ℕ
+value_at bytes = do
+  tag ← field 0 (byte_at bytes)
+  if tag.0 == 0 then Ok (Nothing, tag.1)
+      else if tag.0 == 1 then number_value_at tag.1
+      else if tag.0 == 2 then text_value_at tag.1
+      else Err 0
