@@ -1,5 +1,9 @@
 pub mod Meaning
+pub mod Mirror
+pub mod MirrorLaws
 pub mod Objects
+pub mod Operations
 pub mod Ranges
 pub mod TextForm
 pub mod ValueText
+pub mod formers
