@@ -1,6 +1,7 @@
 pub mod Meaning
 pub mod Mirror
 pub mod MirrorLaws
+pub mod Names
 pub mod Objects
 pub mod Operations
 pub mod Ranges

@@ -11,25 +11,10 @@ use Rattle.value_form.specs.declared.endings.Ending.{Ending}
 use Rattle.value_form.specs.declared.endings.Ending.TheVariants as ending
 use Rattle.value_form.specs.declared.transcripts.Line.{Line}
 use Rattle.value_form.specs.declared.transcripts.Line.TheVariants as line
+use Rattle.value_form.specs.Names.{Names, name_value, with_name}
 use Rattle.value_form.specs.Objects.{Objects, value_at}
 use Rattle.value_form.specs.Mirror.{Term, Number, Text, Nothing, Name, Before, Between, Applied, Given, Spot, Fixed, At, Step, Let, Read, Write, Print, If, IfElse, Repeat, Withdraw, Block, End, Then}
 use Rattle.value_form.specs.Operations.{◌>>=◌, infix_value, prefix_value, call_value, given_value, object_in, count_in, condition_in}
-
--- ---- names
-
--- each name that was set, with its value, in the order in which they were first set
-abbrev pub Names : Type 0
-Names = List (List ℕ × Value)
-
--- a name never set is Nothing
-abbrev pub name_value : Names → List ℕ → Value
-name_value [] name = v.Nothing
-name_value (entry ∷ names) name = if pointwise ◌==◌ entry.0 name then entry.1 else name_value names name
-
--- the names once this one has the value
-abbrev pub with_name : Names → List ℕ → Value → Names
-with_name [] name value = (name, value) ∷ []
-with_name (entry ∷ names) name value = if pointwise ◌==◌ entry.0 name then (entry.0, value) ∷ names else entry ∷ with_name names name value
 
 -- ---- expressions, from left to right
 
@@ -83,6 +68,16 @@ pub data Outcome (W : Type 0) : Type 0 where
 
 -- ---- statements
 
+abbrev pub line_of : Step → ℕ
+line_of (Let l name x) = l
+line_of (Read l name place) = l
+line_of (Write l place x) = l
+line_of (Print l x) = l
+line_of (If l x part e) = l
+line_of (IfElse l x first m second e) = l
+line_of (Repeat l x part e) = l
+line_of (Withdraw l) = l
+
 module _ {W : Type 0} (answers : Answers W) where
   abbrev pub stopped : State W → Stop → Outcome W
   stopped st stop = Stops (record { stop = stop; lines = st.lines; world = st.world })
@@ -114,20 +109,26 @@ module _ {W : Type 0} (answers : Answers W) where
   turns zero part st = Goes st
   turns (suc n) part st = then_do (part st) (turns n part)
 
+  -- `begun` is a statement that the budget had room for
   abbrev mutual
-    pub done : Step → State W → Outcome W
-    done (Let l name x) st0 = counted st0.left l st0 (λ st. valued (value st.names x) l st (λ a. Goes (record st { names = with_name st.names name a })))
-    done (Read l name place) st0 = counted st0.left l st0 (λ st. valued (object_at st.names place) l st (λ o. read_of (answers.read st.world o) name o st))
-    done (Write l place x) st0 = counted st0.left l st0 (λ st. valued (object_at st.names place) l st (λ o. valued (value st.names x) l st (λ a. write_of (answers.write st.world o a) o a st)))
-    done (Print l x) st0 = counted st0.left l st0 (λ st. valued (value st.names x) l st (λ a. Goes (record st { lines = st.lines ++ line.Print a ∷ [] })))
-    done (If l x part e) st0 = counted st0.left l st0 (λ st. valued (value st.names x >>= condition_in) l st (λ holds. if holds then all_done part st else Goes st))
-    done (IfElse l x first m second e) st0 = counted st0.left l st0 (λ st. valued (value st.names x >>= condition_in) l st (λ holds. if holds then all_done first st else all_done second st))
-    done (Repeat l x part e) st0 = counted st0.left l st0 (λ st. valued (value st.names x >>= count_in) l st (λ n. turns n (all_done part) st))
-    done (Withdraw l) st0 = counted st0.left l st0 (λ st. stopped st (Over (ending.Withdrawn l)))
+    pub begun : Step → State W → Outcome W
+    begun (Let l name x) st = valued (value st.names x) l st (λ a. Goes (record st { names = with_name st.names name a }))
+    begun (Read l name place) st = valued (object_at st.names place) l st (λ o. read_of (answers.read st.world o) name o st)
+    begun (Write l place x) st = valued (object_at st.names place) l st (λ o. valued (value st.names x) l st (λ a. write_of (answers.write st.world o a) o a st))
+    begun (Print l x) st = valued (value st.names x) l st (λ a. Goes (record st { lines = st.lines ++ line.Print a ∷ [] }))
+    begun (If l x part e) st = valued (value st.names x >>= condition_in) l st (λ holds. if holds then all_done part st else Goes st)
+    begun (IfElse l x first m second e) st = valued (value st.names x >>= condition_in) l st (λ holds. if holds then all_done first st else all_done second st)
+    begun (Repeat l x part e) st = valued (value st.names x >>= count_in) l st (λ n. turns n (all_done part) st)
+    begun (Withdraw l) st = stopped st (Over (ending.Withdrawn l))
 
+    -- the statements of a part, in order
     pub all_done : Block → State W → Outcome W
     all_done End st = Goes st
-    all_done (Then x b) st = then_do (done x st) (all_done b)
+    all_done (Then x part) st = then_do (counted st.left (line_of x) st (begun x)) (all_done part)
+
+  -- one statement
+  abbrev pub done : Step → State W → Outcome W
+  done x st = counted st.left (line_of x) st (begun x)
 
   -- a script that comes to its end is finished
   abbrev pub finished : Outcome W → Came W
