@@ -1,7 +1,12 @@
 pub mod Meaning
+pub mod Mirror
+pub mod MirrorLaws
+pub mod Names
 pub mod Objects
+pub mod Operations
 pub mod Ranges
 pub mod TextForm
 pub mod ValueBytes
 pub mod ValueReads
 pub mod ValueText
+pub mod formers

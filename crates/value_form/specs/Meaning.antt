@@ -1,57 +1,172 @@
--- What a script does, alone, over a map of objects.
-use Rattle.std.specs.Prelude.{ℕ, List, [], ◌∷◌, ◌++◌, ◌==◌, pos, if◌then◌else◌}
+-- What a script does, in a world that answers its requests.
+use Rattle.std.specs.Prelude.{ℕ, zero, suc, ℤ, pos, Bool, List, [], ◌∷◌, ◌++◌, ◌==◌, Option, Some, None, Result, Ok, Err, if◌then◌else◌}
 use Rattle.std.specs.Cmp.Lexicographic.{pointwise}
-use Rattle.std.specs.FinMap as map
+use Rattle.std.specs.FinMap as finite
 use Rattle.value_form.specs.declared.objects.ObjectId.{ObjectId}
 use Rattle.value_form.specs.declared.values.Value.{Value}
 use Rattle.value_form.specs.declared.values.Value.TheVariants as v
-use Rattle.value_form.specs.declared.scripts.Expr.{Expr}
-use Rattle.value_form.specs.declared.scripts.Expr.TheVariants as e
-use Rattle.value_form.specs.declared.scripts.Place.{Place}
-use Rattle.value_form.specs.declared.scripts.Place.TheVariants as p
-use Rattle.value_form.specs.declared.scripts.Stmt.{Stmt}
-use Rattle.value_form.specs.declared.scripts.Stmt.TheVariants as s
+use Rattle.value_form.specs.declared.fail_kinds.FailKind.{FailKind}
+use Rattle.value_form.specs.declared.fail_kinds.FailKind.TheVariants as fails
+use Rattle.value_form.specs.declared.endings.Ending.{Ending}
+use Rattle.value_form.specs.declared.endings.Ending.TheVariants as ending
 use Rattle.value_form.specs.declared.transcripts.Line.{Line}
 use Rattle.value_form.specs.declared.transcripts.Line.TheVariants as line
+use Rattle.value_form.specs.Names.{Names, name_value, with_name}
 use Rattle.value_form.specs.Objects.{Objects, value_at}
+use Rattle.value_form.specs.Mirror.{Term, Number, Text, Nothing, Name, Before, Between, Applied, Given, Spot, Fixed, At, Step, Let, Read, Write, Print, If, IfElse, Repeat, Withdraw, Block, End, Then}
+use Rattle.value_form.specs.Operations.{◌>>=◌, infix_value, prefix_value, call_value, given_value, object_in, count_in, condition_in}
 
--- each name that was set with its value, the newest first
-abbrev pub Names : Type 0
-Names = List (List ℕ × Value)
+-- ---- expressions, from left to right
 
--- a name never set is Nothing
-abbrev pub name_value : Names → List ℕ → Value
-name_value [] name = v.Nothing
-name_value (entry ∷ names) name = if pointwise ◌==◌ entry.0 name then entry.1 else name_value names name
+abbrev pub value : Names → Term → Result Value FailKind
+value names (Number n) = Ok (v.Number (pos n))
+value names (Text bytes) = Ok (v.Text bytes)
+value names Nothing = Ok v.Nothing
+value names (Name name) = Ok (name_value names name)
+value names (Before o x) = value names x >>= λ a. prefix_value o a
+value names (Between o x y) = value names x >>= λ a. value names y >>= λ b. infix_value o a b
+value names (Applied f x) = value names x >>= λ a. call_value f a
+value names (Given x y) = value names x >>= λ a. value names y >>= λ b. Ok (given_value a b)
 
-abbrev pub value : Names → Expr → Value
-value names (e.Number n) = v.Number (pos n)
-value names (e.Name name) = name_value names name
+abbrev pub object_at : Names → Spot → Result ObjectId FailKind
+object_at names (Fixed object) = Ok object
+object_at names (At repository x) = value names x >>= λ a. object_in repository a
 
-abbrev pub object_of : Place → ObjectId
-object_of (p.Fixed object) = object
+-- ---- requests and endings
 
--- what a run has done so far
-pub record State : Type 0 where
+pub data Request : Type 0 where
+  ToRead : ObjectId → Request
+  ToWrite : ObjectId → Value → Request
+
+-- where a script stops: at a request that isn't answered, or at its end
+pub data Stop : Type 0 where
+  Asks : Request → Stop
+  Over : Ending → Stop
+
+-- a world that answers requests: None where it has no answer left
+pub record Answers (W : Type 0) : Type 0 where
+  pub read : W → ObjectId → Option (Value × W)
+  pub write : W → ObjectId → Value → Option W
+
+-- what a script has done so far
+pub record State (W : Type 0) : Type 0 where
   pub names : Names
+  -- how many more statements may begin
+  pub left : ℕ
   pub lines : List Line
-  pub objects : Objects
+  pub world : W
 
--- one statement is carried out
-abbrev pub done : Stmt → State → State
-done (s.Read l name place) st =
-    let answer = value_at st.objects (object_of place) in
-    record st { names = (name, answer) ∷ st.names; lines = st.lines ++ line.Read (object_of place) answer ∷ [] }
-done (s.Write l place x) st =
-    record st { lines = st.lines ++ line.Wrote (object_of place) (value st.names x) ∷ []; objects = map.insert st.objects (object_of place) (value st.names x) }
-done (s.Print l x) st =
-    record st { lines = st.lines ++ line.Print (value st.names x) ∷ [] }
+-- where it stopped, its transcript and the world
+pub record Came (W : Type 0) : Type 0 where
+  pub stop : Stop
+  pub lines : List Line
+  pub world : W
 
--- statements are carried out in order
-abbrev pub all_done : List Stmt → State → State
-all_done [] st = st
-all_done (x ∷ xs) st = all_done xs (done x st)
+pub data Outcome (W : Type 0) : Type 0 where
+  Goes : State W → Outcome W
+  Stops : Came W → Outcome W
 
--- the transcript of the whole script, and the map after it, are those of the state it leaves
-abbrev pub perform : List Stmt → Objects → State
-perform script objects = all_done script (record { names = []; lines = []; objects = objects })
+-- ---- statements
+
+abbrev pub line_of : Step → ℕ
+line_of (Let l name x) = l
+line_of (Read l name place) = l
+line_of (Write l place x) = l
+line_of (Print l x) = l
+line_of (If l x part e) = l
+line_of (IfElse l x first m second e) = l
+line_of (Repeat l x part e) = l
+line_of (Withdraw l) = l
+
+module _ {W : Type 0} (answers : Answers W) where
+  abbrev pub stopped : State W → Stop → Outcome W
+  stopped st stop = Stops (record { stop = stop; lines = st.lines; world = st.world })
+
+  abbrev pub then_do : Outcome W → (State W → Outcome W) → Outcome W
+  then_do (Goes st) go = go st
+  then_do (Stops came) go = Stops came
+
+  -- a statement begins if the budget has room for it
+  abbrev pub counted : ℕ → ℕ → State W → (State W → Outcome W) → Outcome W
+  counted zero l st go = stopped st (Over (ending.Failed l fails.Budget))
+  counted (suc left) l st go = go (record st { left = left })
+
+  -- a statement goes on with what was evaluated, or fails
+  abbrev pub valued : {A : Type 0} → Result A FailKind → ℕ → State W → (A → Outcome W) → Outcome W
+  valued (Ok x) l st go = go x
+  valued (Err kind) l st go = stopped st (Over (ending.Failed l kind))
+
+  abbrev pub read_of : Option (Value × W) → List ℕ → ObjectId → State W → Outcome W
+  read_of None name object st = stopped st (Asks (ToRead object))
+  read_of (Some p) name object st = Goes (record st { names = with_name st.names name p.0; lines = st.lines ++ line.Read object p.0 ∷ []; world = p.1 })
+
+  abbrev pub write_of : Option W → ObjectId → Value → State W → Outcome W
+  write_of None object value st = stopped st (Asks (ToWrite object value))
+  write_of (Some w) object value st = Goes (record st { lines = st.lines ++ line.Wrote object value ∷ []; world = w })
+
+  -- a part is carried out so many times
+  abbrev pub turns : ℕ → (State W → Outcome W) → State W → Outcome W
+  turns zero part st = Goes st
+  turns (suc n) part st = then_do (part st) (turns n part)
+
+  -- `begun` is a statement that the budget had room for
+  abbrev mutual
+    pub begun : Step → State W → Outcome W
+    begun (Let l name x) st = valued (value st.names x) l st (λ a. Goes (record st { names = with_name st.names name a }))
+    begun (Read l name place) st = valued (object_at st.names place) l st (λ o. read_of (answers.read st.world o) name o st)
+    begun (Write l place x) st = valued (object_at st.names place) l st (λ o. valued (value st.names x) l st (λ a. write_of (answers.write st.world o a) o a st))
+    begun (Print l x) st = valued (value st.names x) l st (λ a. Goes (record st { lines = st.lines ++ line.Print a ∷ [] }))
+    begun (If l x part e) st = valued (value st.names x >>= condition_in) l st (λ holds. if holds then all_done part st else Goes st)
+    begun (IfElse l x first m second e) st = valued (value st.names x >>= condition_in) l st (λ holds. if holds then all_done first st else all_done second st)
+    begun (Repeat l x part e) st = valued (value st.names x >>= count_in) l st (λ n. turns n (all_done part) st)
+    begun (Withdraw l) st = stopped st (Over (ending.Withdrawn l))
+
+    -- the statements of a part, in order
+    pub all_done : Block → State W → Outcome W
+    all_done End st = Goes st
+    all_done (Then x part) st = then_do (counted st.left (line_of x) st (begun x)) (all_done part)
+
+  -- one statement
+  abbrev pub done : Step → State W → Outcome W
+  done x st = counted st.left (line_of x) st (begun x)
+
+  -- a script that comes to its end is finished
+  abbrev pub finished : Outcome W → Came W
+  finished (Goes st) = record { stop = Over ending.Finished; lines = st.lines; world = st.world }
+  finished (Stops came) = came
+
+  -- a whole script, which may begin 10,000 statements
+  abbrev pub carried_out : Block → W → Came W
+  carried_out script w = finished (all_done script (record { names = []; left = 10000; lines = []; world = w }))
+
+-- ---- two worlds
+
+-- a map of objects, which answers every request
+abbrev pub over_objects : Answers Objects
+over_objects = record { read = λ m o. Some (value_at m o, m); write = λ m o a. Some (finite.insert m o a) }
+
+-- what a script does alone, over a map of objects
+abbrev pub perform : Block → Objects → Came Objects
+perform = carried_out over_objects
+
+pub data Answer : Type 0 where
+  Got : Value → Answer
+  Stored : Answer
+
+abbrev pub got_from : List Answer → ObjectId → Option (Value × List Answer)
+got_from [] o = None
+got_from (Got a ∷ more) o = Some (a, more)
+got_from (Stored ∷ more) o = None
+
+abbrev pub stored_from : List Answer → ObjectId → Value → Option (List Answer)
+stored_from [] o a = None
+stored_from (Got b ∷ more) o a = None
+stored_from (Stored ∷ more) o a = Some more
+
+-- a list of answers; one of the wrong kind is as none
+abbrev pub by_answers : Answers (List Answer)
+by_answers = record { read = got_from; write = stored_from }
+
+-- what a script does with these answers
+abbrev pub talk : Block → List Answer → Came (List Answer)
+talk = carried_out by_answers

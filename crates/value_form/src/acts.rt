@@ -1,4 +1,7 @@
+ghost use Rattle.std.specs.Prelude.{◌≡◌, IfOk};
+
 use crate::scripts::Script;
+use std::alloc::{AllocError, Global};
 
 /// An act of a plan: a script, and who carries it out.
 #[derive(Debug, Drop)]
@@ -16,4 +19,22 @@ pub struct ActSpec {
     /// The least clock of its attempts.
     pub clock: u64,
     pub script: Script,
+}
+
+impl ActSpec {
+    /// An equal act.
+    pub fn copy(&self, alloc: Global) -> Result<ActSpec, AllocError>
+        ensures { IfOk result (λ a. a ≡ self.now) }
+    {
+        let script = self.script.copy(alloc)?;
+        Ok(ActSpec {
+            index: self.index,
+            broker: self.broker,
+            home: self.home,
+            timeout: self.timeout,
+            tries: self.tries,
+            clock: self.clock,
+            script,
+        })
+    }
 }

@@ -2,8 +2,16 @@
 #![tactic(auto)]
 
 mod acts;
+mod boxes;
+mod endings;
+mod evaluation;
+mod expressions;
+mod fail_kinds;
 mod lists;
+mod names;
+mod numbers;
 mod objects;
+mod operations;
 mod scripts;
 mod texts;
 mod transcripts;
@@ -12,9 +20,17 @@ mod value_faults;
 mod values;
 
 pub use acts::ActSpec;
+pub use boxes::Boxed;
+pub use endings::Ending;
+pub use evaluation::{evaluate, object_at};
+pub use expressions::{Call, Expr, Infix, Prefix};
+pub use fail_kinds::FailKind;
 pub use lists::Items;
+pub use names::Names;
+pub use numbers::condition_of;
 pub use objects::ObjectId;
-pub use scripts::{Expr, Place, Script, Stmt};
+pub use operations::count_of;
+pub use scripts::{Place, Script, Stmt};
 pub use texts::Bytes;
 pub use transcripts::Line;
 pub use value_bytes::values_apart;

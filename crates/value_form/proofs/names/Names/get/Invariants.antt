@@ -1,0 +1,7 @@
+use Rattle.std.proofs.Common.{◌≡◌, drop}
+use Rattle.value_form.specs.Names.{name_value}
+use Rattle.value_form.proofs.names.Names.get.Given as goal
+
+-- the name's value among what is left is its value
+abbrev pub invariant-loop-known : goal.invariant-loop-known
+invariant-loop-known l = name_value (drop l.known-index l.known-items) l.name ≡ name_value l.known-items l.name
