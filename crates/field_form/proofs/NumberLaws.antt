@@ -1,5 +1,5 @@
 -- A number that is read is the number that was written.
-use Rattle.std.proofs.Common.{◌≡◌, ℕ, suc, ◌^◌, ◌<◌, ◌≤◌, false, ltb, List, [], ◌∷◌, ◌++◌, length, take, drop, Some, refl, sym, ap, subst, ◌∙◌, arith}
+use Rattle.std.proofs.Common.{◌≡◌, ℕ, suc, ◌^◌, ◌<◌, ◌≤◌, ◌||◌, Bool, true, false, cond, nat_lt, ltb, None, Option, List, [], ◌∷◌, ◌++◌, length, take, drop, Some, refl, sym, ap, subst, ◌∙◌, arith}
 use Rattle.std.specs.Int.{Width, w16, w32, w64, byte_len, from_be_bytes, to_be_bytes, cast_signed, cast_unsigned}
 use Rattle.std.specs.Prelude.{ℤ, FitsSigned}
 use Rattle.std.proofs.lemmas.Int.{of_z-to_z, to_z-of_z}
@@ -7,8 +7,9 @@ use Rattle.std.proofs.Math.Facts.{sfits_to_z, Fits-of_lt, Fits-of_z}
 use Rattle.std.proofs.lemmas.Bool.{ltb-false, le-ltb}
 use Rattle.std.proofs.lemmas.List.{take_at, drop_at, take-append-drop, length-append, length-take}
 use Rattle.std.proofs.lemmas.Nat.{be_bytes_2, be_bytes_4, be_bytes_8, from_be_bytes-to_be_bytes_2, from_be_bytes-to_be_bytes_4, from_be_bytes-to_be_bytes_8}
-use Rattle.field_form.specs.Forms.{IsBytes, Begins, IsForm}
-use Rattle.field_form.specs.Numbers.{byte_at, number_at, signed_at, front_at}
+use Rattle.std.proofs.lemmas.Bool.Decides.{nat_tests}
+use Rattle.field_form.specs.Forms.{IsBytes, Begins, IsForm, ◌>>=◌}
+use Rattle.field_form.specs.Numbers.{byte_at, number_at, signed_at, front_at, between}
 use Rattle.field_form.proofs.FormLaws.{IsBytes-drop, IsBytes-take, bind_some, chosen_else, some_is}
 
 pub record IsWide (w : Width) (limit : ℕ) : Type 0 where
@@ -113,3 +114,22 @@ pub front_again : (front rest : List ℕ) → front_at (length front) (front ++ 
 front_again front rest =
     let long : ltb (length (front ++ rest)) (length front) ≡ false = le-ltb _ _ (omega (arith, length-append front rest)) in
     rw (long, take_at front rest (length front) refl, drop_at front rest (length front) refl) refl
+
+outside_not : (p q : Bool) (x y : ℕ × List ℕ) → cond (p || q) None (Some x) ≡ Some y → (p ≡ false) × (q ≡ false) × (x ≡ y)
+outside_not true q x y e = absurd (cc)
+outside_not false true x y e = absurd (cc)
+outside_not false false x y e = (refl, refl, some_is x y e)
+
+-- a number in limits is a form, where the number is
+pub between_form : {text : ℕ → List ℕ} {InRange : ℕ → Type 0} {reads : List ℕ → Option (ℕ × List ℕ)} (least most : ℕ) → IsForm text InRange reads → IsForm text (λ n. InRange n × (least ≤ n) × (n ≤ most)) (λ bytes. between least most (reads bytes))
+between_form {text} {InRange} {reads} least most form = record {
+  takes = λ bytes n rest fits e.
+    let a = bind_some (reads bytes) (λ k. cond (nat_lt k.0 least || nat_lt most k.0) None (Some k)) (n, rest) e in
+    let g = outside_not (nat_lt a.0.0 least) (nat_lt most a.0.0) a.0 (n, rest) a.2 in
+    let t = form.takes bytes a.0.0 a.0.1 fits a.1 in
+    subst (λ (y : ℕ × List ℕ). Begins bytes (text y.0) y.1 × (InRange y.0 × (least ≤ y.0) × (y.0 ≤ most))) g.2 (t.0, (t.1, grind (arith, nat_tests, g.0), grind (arith, nat_tests, g.1)));
+  again = λ n rest h.
+    let low : nat_lt n least ≡ false = let k = h.1 in grind (arith, nat_tests) in
+    let high : nat_lt most n ≡ false = let k = h.2 in grind (arith, nat_tests) in
+    rw (form.again n rest h.0, low, high) refl;
+}

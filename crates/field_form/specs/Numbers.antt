@@ -1,5 +1,5 @@
 -- Numbers, the highest byte first.
-use Rattle.std.specs.Prelude.{ℕ, ℤ, List, [], ◌∷◌, length, take, drop, Option, Some, None, nat_lt, if◌then◌else◌}
+use Rattle.std.specs.Prelude.{ℕ, ℤ, List, [], ◌∷◌, length, take, drop, Option, Some, None, nat_lt, ◌||◌, if◌then◌else◌}
 use Rattle.std.specs.Int.{Width, w64, byte_len, from_be_bytes, cast_signed}
 use Rattle.field_form.specs.Forms.{◌>>=◌}
 
@@ -21,3 +21,7 @@ signed_at bytes = do
 -- so many bytes
 abbrev pub front_at : ℕ → List ℕ → Option (List ℕ × List ℕ)
 front_at count bytes = if nat_lt (length bytes) count then None else Some (take count bytes, drop count bytes)
+
+-- a number in these limits
+abbrev pub between : ℕ → ℕ → Option (ℕ × List ℕ) → Option (ℕ × List ℕ)
+between least most found = found >>= λ n. if nat_lt n.0 least || nat_lt most n.0 then None else Some n

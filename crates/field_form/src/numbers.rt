@@ -1,7 +1,7 @@
 ghost use Rattle.std.specs.Prelude.{◌≡◌};
 ghost use Rattle.std.specs.Int.{w16, w32, w64};
 ghost use Rattle.std.specs.Option.{option_map};
-ghost use Rattle.field_form.specs.Numbers.{byte_at, number_at, signed_at, front_at};
+ghost use Rattle.field_form.specs.Numbers.{byte_at, number_at, signed_at, front_at, between};
 
 /// The first byte. None where there is none.
 pub fn byte_of(bytes: &[u8]) -> Option<(u8, &[u8])>
@@ -71,4 +71,56 @@ pub fn front_of(count: usize, bytes: &[u8]) -> Option<(&[u8], &[u8])>
         return None;
     }
     Some(bytes.split_at(count))
+}
+
+/// The byte, where it is from `least` to `most`.
+pub fn byte_in(least: u8, most: u8, bytes: &[u8]) -> Option<(u8, &[u8])>
+    ensures { option_map (λ p. (p.0, p.1.now)) result ≡ between least most (byte_at bytes.now) }
+{
+    let Some((number, rest)) = byte_of(bytes) else {
+        return None;
+    };
+    if number < least || number > most {
+        return None;
+    }
+    Some((number, rest))
+}
+
+/// The number in two bytes, where it is from `least` to `most`.
+pub fn u16_in(least: u16, most: u16, bytes: &[u8]) -> Option<(u16, &[u8])>
+    ensures { option_map (λ p. (p.0, p.1.now)) result ≡ between least most (number_at w16 bytes.now) }
+{
+    let Some((number, rest)) = u16_of(bytes) else {
+        return None;
+    };
+    if number < least || number > most {
+        return None;
+    }
+    Some((number, rest))
+}
+
+/// The number in four bytes, where it is from `least` to `most`.
+pub fn u32_in(least: u32, most: u32, bytes: &[u8]) -> Option<(u32, &[u8])>
+    ensures { option_map (λ p. (p.0, p.1.now)) result ≡ between least most (number_at w32 bytes.now) }
+{
+    let Some((number, rest)) = u32_of(bytes) else {
+        return None;
+    };
+    if number < least || number > most {
+        return None;
+    }
+    Some((number, rest))
+}
+
+/// The number in eight bytes, where it is from `least` to `most`.
+pub fn u64_in(least: u64, most: u64, bytes: &[u8]) -> Option<(u64, &[u8])>
+    ensures { option_map (λ p. (p.0, p.1.now)) result ≡ between least most (number_at w64 bytes.now) }
+{
+    let Some((number, rest)) = u64_of(bytes) else {
+        return None;
+    };
+    if number < least || number > most {
+        return None;
+    }
+    Some((number, rest))
 }

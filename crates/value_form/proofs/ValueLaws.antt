@@ -1,18 +1,21 @@
 -- A value that is read is the one that was written.
 use Rattle.std.proofs.Common.{◌≡◌, ℕ, ◌+◌, ◌-◌, ◌^◌, ◌<◌, ◌≤◌, Bool, true, false, cond, nat_le, List, [], ◌∷◌, ◌++◌, length, take, drop, Option, Some, None, Result, Ok, Err, refl, sym, ap, subst, ◌∙◌, append_assoc, arith, inl, inr}
 use Rattle.std.specs.Prelude.{ℤ, ◌==◌, FitsSigned, IfOk}
-use Rattle.std.specs.Int.{w16, w64, to_be_bytes, cast_unsigned}
+use Rattle.std.specs.Int.{w16, w32, w64, to_be_bytes, cast_unsigned}
 use Rattle.std.proofs.lemmas.Bool.Decides.{nat_tests}
 use Rattle.std.proofs.lemmas.List.{take_at, drop_at, length-append}
-use Rattle.field_form.specs.Forms.{IsBytes, Begins}
-use Rattle.field_form.specs.Numbers.{byte_at, number_at, signed_at, front_at}
-use Rattle.field_form.proofs.FormLaws.{bind_some, chosen_then, Begins-then}
-use Rattle.field_form.proofs.NumberLaws.{byte_form, u16_form, signed_form, front_takes, front_again}
+use Rattle.field_form.specs.Forms.{IsBytes, Begins, IsForm}
+use Rattle.field_form.specs.Forms as form
+use Rattle.field_form.specs.Numbers.{byte_at, number_at, signed_at, front_at, between}
+use Rattle.field_form.proofs.FormLaws.{bind_some, chosen_then, some_is, Begins-then}
+use Rattle.field_form.proofs.NumberLaws.{byte_form, u16_form, u32_form, signed_form, between_form, front_takes, front_again}
 use Rattle.field_form.proofs.DecisionLaws.{chosen}
 use Rattle.value_form.specs.declared.values.Value.{Value}
 use Rattle.value_form.specs.declared.values.Value.TheVariants.{Nothing, Number, Text}
 use Rattle.value_form.specs.declared.value_faults.ValueFault.{ValueFault}
-use Rattle.value_form.specs.ValueBytes.{IsValue, value_bytes, ◌>>=◌, field, length_at, number_value_at, text_value_at, value_at}
+use Rattle.value_form.specs.declared.objects.ObjectId.{ObjectId}
+use Rattle.value_form.specs.ObjectBytes.{IsObject, object_bytes, object_bytes_at}
+use Rattle.value_form.specs.ValueBytes.{IsValue, value_bytes, ◌>>=◌, field, found, length_at, number_value_at, text_value_at, value_at}
 use Rattle.value_form.specs.ValueReads.{Gives, GivesCount}
 
 -- a field that was there
@@ -121,3 +124,35 @@ read_found (Ok p) bytes fits g =
 
 pub read_only : (r : Result (Value × ℕ) ValueFault) (bytes : List ℕ) → GivesCount r (length bytes) (value_at bytes) → (v : Value) (rest : List ℕ) → IsValue v → bytes ≡ value_bytes v ++ rest → GivesCount r (length bytes) (Ok (v, rest))
 read_only r bytes g v rest h e = subst (λ (reading : Result (Value × List ℕ) ℕ). GivesCount r (length bytes) reading) (ap value_at e ∙ value_again v rest h) g
+
+-- ---- objects
+
+object_takes : (bytes : List ℕ) (o : ObjectId) (rest : List ℕ) → IsBytes bytes → object_bytes_at bytes ≡ Some (o, rest) → Begins bytes (object_bytes o) rest × IsObject o
+unfolding object_bytes_at
+object_takes bytes o rest fits e =
+    let a = bind_some (between 1 16 (byte_at bytes)) (λ r. form.◌>>=◌ (number_at w32 r.1) (λ n. Some (record { repository = r.0; number = n.0 }, n.1))) (o, rest) e in
+    let b = bind_some (number_at w32 a.0.1) (λ n. Some (record { repository = a.0.0; number = n.0 }, n.1)) (o, rest) a.2 in
+    let made : ObjectId × List ℕ = (record { repository = a.0.0; number = b.0.0 }, b.0.1) in
+    let repository = (between_form 1 16 byte_form).takes bytes a.0.0 a.0.1 fits a.1 in
+    let number = u32_form.takes a.0.1 b.0.0 b.0.1 repository.0.rest_is_bytes b.1 in
+    let whole = Begins-then bytes (a.0.0 ∷ []) a.0.1 (to_be_bytes w32 b.0.0) b.0.1 repository.0 number.0 in
+    subst (λ (y : ObjectId × List ℕ). Begins bytes (object_bytes y.0) y.1 × IsObject y.0) (some_is made (o, rest) b.2) (whole, record { repository_low = repository.1.1; repository_high = repository.1.2; number = number.1 })
+
+object_again : (o : ObjectId) (rest : List ℕ) → IsObject o → object_bytes_at (object_bytes o ++ rest) ≡ Some (o, rest)
+unfolding object_bytes_at
+object_again o rest h = rw ((between_form 1 16 byte_form).again o.repository (to_be_bytes w32 o.number ++ rest) (omega (arith, h.repository_high), h.repository_low, h.repository_high), u32_form.again o.number rest h.number) refl
+
+pub object_form : IsForm object_bytes IsObject object_bytes_at
+object_form = record { takes = object_takes; again = object_again }
+
+-- ---- a value as one field
+
+pub value_form : IsForm value_bytes IsValue (λ bytes. found (value_at bytes))
+value_form = record {
+  takes = λ bytes v rest fits e. value_takes bytes v rest fits (found_is (value_at bytes) (v, rest) e);
+  again = λ v rest h. ap found (value_again v rest h);
+}
+  where
+    found_is : (r : Result (Value × List ℕ) ℕ) (y : Value × List ℕ) → found r ≡ Some y → r ≡ Ok y
+    found_is (Ok x) y e = ap Ok (some_is x y e)
+    found_is (Err at) y e = absurd (cc)

@@ -55,3 +55,8 @@ value_at bytes = do
       else if tag.0 == 1 then number_value_at tag.1
       else if tag.0 == 2 then text_value_at tag.1
       else Err 0
+
+-- a value as one field of something else
+abbrev pub found : {A : Type 0} → Result A ℕ → Option A
+found (Ok x) = Some x
+found (Err at) = None
