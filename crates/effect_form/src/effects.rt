@@ -21,15 +21,29 @@ pub enum Effect {
         value: Value,
     },
     /// The version that a read at this pseudotime saw was read up to it.
-    Stretch { object: ObjectId, at: PseudoTime },
+    Stretch {
+        object: ObjectId,
+        at: PseudoTime,
+    },
     /// A commit record, unknown until its deadline at the latest.
-    Begin { stamp: Stamp, deadline: u64 },
+    Begin {
+        stamp: Stamp,
+        deadline: u64,
+    },
     /// The commit record was decided here, at its home.
-    Decide { stamp: Stamp, decision: Decision },
+    Decide {
+        stamp: Stamp,
+        decision: Decision,
+    },
     /// The decision of a commit record with another home was learned.
-    Learn { stamp: Stamp, committed: bool },
+    Learn {
+        stamp: Stamp,
+        committed: bool,
+    },
     /// A broker begins a run.
-    Run { number: u32 },
+    Run {
+        number: u32,
+    },
     /// A broker begins an act.
     Act {
         index: u32,
@@ -40,11 +54,22 @@ pub enum Effect {
         script: Bytes,
     },
     /// A broker begins an attempt.
-    Try { index: u32, stamp: Stamp },
+    Try {
+        index: u32,
+        stamp: Stamp,
+    },
     /// A read of this step was answered.
-    Got { step: u32, value: Value },
+    Got {
+        step: u32,
+        value: Value,
+    },
     /// A write of this step was acknowledged.
-    Acked { step: u32 },
+    Acked {
+        step: u32,
+    },
     /// An attempt ended, or the act is spent.
-    End { index: u32, outcome: Outcome },
+    End {
+        index: u32,
+        outcome: Outcome,
+    },
 }

@@ -3,9 +3,10 @@
 
 mod effects;
 mod faults;
-mod outcomes;
 mod outcome_bytes;
+mod outcomes;
 
 pub use effects::{Effect, Place};
 pub use faults::EffectFault;
+pub use outcome_bytes::{outcome_of, push_outcome};
 pub use outcomes::Outcome;

@@ -1,0 +1,3 @@
+pub mod OutcomeLaws
+pub mod Pieces
+pub mod SequenceLaws
