@@ -1,3 +1,5 @@
+pub mod EffectLaws
 pub mod OutcomeLaws
 pub mod Pieces
+pub mod ReadLaws
 pub mod SequenceLaws

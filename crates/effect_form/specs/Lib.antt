@@ -1,3 +1,4 @@
+pub mod EffectReads
 pub mod Effects
 pub mod Outcomes
 pub mod Sequences

@@ -1,5 +1,8 @@
+ghost use Rattle.std.specs.Prelude.{◌≡◌, IfOk};
+
 use crate::outcomes::Outcome;
 use pseudo_time::{Decision, PseudoTime, Stamp};
+use std::alloc::{AllocError, Global};
 use value_form::{Bytes, ObjectId, Value};
 
 /// Where an effect stands in version storage: its page, and the place of its first byte there.
@@ -72,4 +75,74 @@ pub enum Effect {
         index: u32,
         outcome: Outcome,
     },
+}
+
+impl Effect {
+    /// An equal effect.
+    pub fn copy(&self, alloc: Global) -> Result<Effect, AllocError>
+        ensures { IfOk result (λ e. e ≡ self.now) }
+    {
+        match self {
+            Effect::Put {
+                object,
+                start,
+                value,
+            } => {
+                let value = value.copy(alloc)?;
+                Ok(Effect::Put {
+                    object: *object,
+                    start: *start,
+                    value,
+                })
+            }
+            Effect::Stretch { object, at } => Ok(Effect::Stretch {
+                object: *object,
+                at: *at,
+            }),
+            Effect::Begin { stamp, deadline } => Ok(Effect::Begin {
+                stamp: *stamp,
+                deadline: *deadline,
+            }),
+            Effect::Decide { stamp, decision } => Ok(Effect::Decide {
+                stamp: *stamp,
+                decision: *decision,
+            }),
+            Effect::Learn { stamp, committed } => Ok(Effect::Learn {
+                stamp: *stamp,
+                committed: *committed,
+            }),
+            Effect::Run { number } => Ok(Effect::Run { number: *number }),
+            Effect::Act {
+                index,
+                home,
+                timeout,
+                tries,
+                clock,
+                script,
+            } => {
+                let script = script.copy(alloc)?;
+                Ok(Effect::Act {
+                    index: *index,
+                    home: *home,
+                    timeout: *timeout,
+                    tries: *tries,
+                    clock: *clock,
+                    script,
+                })
+            }
+            Effect::Try { index, stamp } => Ok(Effect::Try {
+                index: *index,
+                stamp: *stamp,
+            }),
+            Effect::Got { step, value } => {
+                let value = value.copy(alloc)?;
+                Ok(Effect::Got { step: *step, value })
+            }
+            Effect::Acked { step } => Ok(Effect::Acked { step: *step }),
+            Effect::End { index, outcome } => Ok(Effect::End {
+                index: *index,
+                outcome: *outcome,
+            }),
+        }
+    }
 }

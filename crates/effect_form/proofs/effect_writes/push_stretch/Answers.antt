@@ -1,0 +1,7 @@
+use Rattle.pseudo_time.specs.TimeParts.{time_bytes}
+use Rattle.value_form.specs.ObjectBytes.{object_bytes}
+use Rattle.effect_form.proofs.Pieces.{tag_and_two}
+use Rattle.effect_form.proofs.effect_writes.push_stretch.Goals as goal
+
+pub returns : goal.returns
+returns c = tag_and_two c.args.out.now.items c.push.new.self.items c.push_object_bytes.new.out.items c.push_time.new.out.items (object_bytes c.args.object) (time_bytes c.args.at) 2 c.in_ok-push.ensures.items c.in_ok-push_object_bytes.ensures c.in_ok-push_time.ensures
