@@ -11,3 +11,6 @@ pub use object_maps::ObjectMap;
 pub use performances::perform;
 pub use value_form::Ending;
 pub use works::Performed;
+
+#[cfg(test)]
+mod tests;
