@@ -1,11 +1,11 @@
 -- A map of objects by the entries of a `BTreeMap`.
-use Rattle.std.proofs.Common.{◌≡◌, ℕ, List, [], ◌∷◌, cond, sym, refl, ap, ◌∙◌, Some, T, Bool, true, false, ◌&&◌, map, subst}
+use Rattle.std.proofs.Common.{◌≡◌, ℕ, List, [], ◌∷◌, ◌++◌, cond, sym, refl, ap, ◌∙◌, Some, T, Bool, true, false, ◌&&◌, map, subst}
 use Rattle.std.specs.Prelude.{Option}
 use Rattle.std.specs.Ordering.{nat_cmp}
 use Rattle.std.specs.Cmp.{IsTotalOrder}
 use Rattle.std.specs.BTreeMap.{is_at}
 use Rattle.std.specs.Map.{lookup}
-use Rattle.std.specs.FinMap.{find, get, insert, entries, from_entries, from_sorted, is_sorted, get-from_entries, get-from_sorted, get-insert, entries-from_sorted, same_map}
+use Rattle.std.specs.FinMap.{empty, find, get, insert, entries, from_entries, from_sorted, is_sorted, get-from_entries, get-from_sorted, get-insert, entries-from_sorted, same_map}
 use Rattle.std.proofs.lemmas.Cmp.{nat_cmp_total, on_total, then_total, eq_by_cmp_equiv}
 use Rattle.std.proofs.lemmas.Map.Lookups.{CmpEqualImpliesEq, exact_pairs, exact_unsigned}
 use Rattle.value_form.specs.declared.objects.ObjectId.{ObjectId}
@@ -60,3 +60,19 @@ is_sorted-rising (e ∷ es) h = both _ _ (below_all-rising e.0 es h.0) (is_sorte
 
 pub rising_entries : (es listed : List (ObjectId × Value)) (m : Objects) → listed ≡ es → IsStrictlySortedBy object_cmp (map (λ e. e.0) es) → from_entries es ≡ m → listed ≡ entries m
 rising_entries es listed m same rising is = same ∙ sym (entries-entries_of es (is_sorted-rising es rising)) ∙ ap entries is
+
+-- the entries put into a map from the last to the first
+abbrev pub onto : Objects → List (ObjectId × Value) → Objects
+onto m [] = m
+onto m (e ∷ es) = insert (onto m es) e.0 e.1
+
+pub onto-last : (m : Objects) (es : List (ObjectId × Value)) (e : ObjectId × Value) → onto m (es ++ e ∷ []) ≡ onto (insert m e.0 e.1) es
+onto-last m [] e = refl
+onto-last m (f ∷ es) e = ap (λ n. insert n f.0 f.1) (onto-last m es e)
+
+pub onto-empty : (es : List (ObjectId × Value)) → onto empty es ≡ from_entries {R = object_cmp} es
+onto-empty [] = refl
+onto-empty (e ∷ es) = ap (λ n. insert n e.0 e.1) (onto-empty es)
+
+pub onto-more : (map new : Objects) (left rest : List (ObjectId × Value)) (o : ObjectId) (v : Value) (all : Objects) → left ≡ rest ++ (o, v) ∷ [] → new ≡ insert map o v → onto map left ≡ all → onto new rest ≡ all
+onto-more map new left rest o v all is next h = ap (λ z. onto z rest) next ∙ sym (onto-last map rest (o, v)) ∙ sym (ap (onto map) is) ∙ h

@@ -6,10 +6,11 @@ mod object_maps;
 mod performances;
 mod works;
 
-pub use laws::{talk_extends, talk_follows, walks};
+pub use laws::{law_of_answers, law_of_questions};
 pub use object_maps::ObjectMap;
-pub use performances::{Performed, perform};
+pub use performances::perform;
 pub use value_form::Ending;
+pub use works::Performed;
 
 #[cfg(test)]
 mod tests;

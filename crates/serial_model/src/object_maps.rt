@@ -2,7 +2,7 @@ ghost use Rattle.std.specs.Prelude.{◌≡◌, OnOk, OnErr, IfOk};
 ghost use Rattle.std.specs.Option.{option_copied};
 ghost use Rattle.std.specs.FinMap as finite;
 ghost use Rattle.std.specs.BTreeMap.{IsOrdered};
-ghost use Rattle.value_form.specs.Objects.{object_cmp};
+ghost use Rattle.value_form.specs.Objects.{object_cmp, value_at};
 
 use std::alloc::{AllocError, Global};
 use std::collections::BTreeMap;
@@ -18,6 +18,33 @@ fn entries_of(
     ensures rising { IsOrdered object_cmp map }
 {
     map.into_iter().collect(alloc)
+}
+
+// Copies of the entries of a map, which rise.
+fn copied(
+    alloc: Global,
+    map: &BTreeMap<ObjectId, Value>,
+) -> Result<Vec<(ObjectId, Value)>, AllocError>
+    ensures { IfOk result (λ v. v.items ≡ map.now.entries) }
+{
+    let mut all = Vec::new(alloc);
+    for (object, value) in map {
+        let value = value.copy(alloc)?;
+        all.push((*object, value))?;
+    }
+    Ok(all)
+}
+
+// The map with these entries.
+fn map_of(alloc: Global, entries: Vec<(ObjectId, Value)>) -> Result<ObjectMap, AllocError>
+    ensures { IfOk result (λ m. m ≡ finite.from_entries {R = object_cmp} entries.items) }
+{
+    let mut map = ObjectMap::new(alloc);
+    let mut left = entries;
+    'entries: while let Some((object, value)) = left.pop() {
+        map.set(object, value)?;
+    }
+    Ok(map)
 }
 
 /// A finite map from objects to values.
@@ -54,6 +81,24 @@ impl ObjectMap {
         ensures { option_copied result ≡ finite.get self.now object }
     {
         self.entries.get(&object)
+    }
+
+    /// A copy of what the object has in the map, which is Nothing where it is outside the map.
+    pub fn value_of(&self, alloc: Global, object: ObjectId) -> Result<Value, AllocError>
+        ensures { IfOk result (λ v. v ≡ value_at self.now object) }
+    {
+        match self.get(object) {
+            Some(value) => value.copy(alloc),
+            None => Ok(Value::Nothing),
+        }
+    }
+
+    /// An equal map.
+    pub fn copy(&self, alloc: Global) -> Result<ObjectMap, AllocError>
+        ensures { IfOk result (λ m. m ≡ self.now) }
+    {
+        let entries = copied(alloc, &self.entries)?;
+        Ok(map_of(alloc, entries)?)
     }
 
     /// Gives the object this value. Where memory is wanting, the map is as before.

@@ -1,13 +1,11 @@
 ghost use Rattle.std.specs.Prelude.{◌≡◌, IfOk};
 ghost use Rattle.value_form.specs.Meaning as meaning;
 ghost use Rattle.value_form.specs.Mirror.{term, spot, plain, block, Let, Read, Write, Print, If, IfElse, Repeat};
-ghost use Rattle.value_form.specs.Objects.{value_at};
-ghost use Rattle.value_form.specs.Operations.{◌>>=◌, condition_in, count_in};
 ghost use Rattle.value_form.specs.Ranges.{IsTerm, IsSpot, IsStep, IsBlock, IsScript};
-ghost use Rattle.serial_model.specs.Alone.{state_of, came_to};
+ghost use Rattle.serial_model.specs.Alone.{state_of, came_to, came_of};
 
 use crate::object_maps::ObjectMap;
-use crate::works::Work;
+use crate::works::{Performed, Work};
 use std::alloc::{AllocError, Global};
 use value_form::{
     Bytes, Ending, Expr, FailKind, Items, Line, Names, Place, Script, Stmt, condition_of, count_of,
@@ -16,15 +14,6 @@ use value_form::{
 
 /// How many statements a script may begin.
 const BUDGET: u32 = 10_000;
-
-/// What a script did alone.
-#[derive(Debug, Drop)]
-pub struct Performed {
-    pub transcript: Items<Line>,
-    /// The map with the script's writes, however it ended.
-    pub after: ObjectMap,
-    pub ending: Ending,
-}
 
 fn line_of(stmt: &Stmt) -> u16
     ensures { result ≡ meaning.line_of (plain stmt.now) }
@@ -48,7 +37,7 @@ fn condition(
     expression: &Expr,
 ) -> Result<Result<bool, FailKind>, AllocError>
     requires { IsTerm (term expression.now) }
-    ensures { IfOk result (λ r. r ≡ (meaning.value names.now (term expression.now) >>= condition_in)) }
+    ensures { IfOk result (λ r. r ≡ meaning.condition names.now (term expression.now)) }
 {
     match evaluate(alloc, names, expression)? {
         Ok(value) => Ok(condition_of(&value)),
@@ -63,7 +52,7 @@ fn count(
     expression: &Expr,
 ) -> Result<Result<u32, FailKind>, AllocError>
     requires { IsTerm (term expression.now) }
-    ensures { IfOk result (λ r. r ≡ (meaning.value names.now (term expression.now) >>= count_in)) }
+    ensures { IfOk result (λ r. r ≡ meaning.count names.now (term expression.now)) }
 {
     match evaluate(alloc, names, expression)? {
         Ok(value) => Ok(count_of(&value)),
@@ -191,73 +180,8 @@ fn turns(
     Ok(None)
 }
 
-#[cycle(statements)]
-fn repeat(
-    alloc: Global,
-    line: u16,
-    expression: &Expr,
-    part: &[Stmt],
-    work: &mut Work,
-) -> Result<Option<Ending>, AllocError>
-    requires { IsTerm (term expression.now) × IsBlock (block part.now) }
-    ensures { IfOk result (λ r. meaning.begun meaning.over_objects (Repeat line (term expression.now) (block part.now) 0) (state_of work.old) ≡ came_to r work.new) }
-{
-    match count(alloc, &work.names, expression)? {
-        Ok(count) => Ok(turns(alloc, count, part, work)?),
-        Err(kind) => Ok(Some(Ending::Failed { line, kind })),
-    }
-}
-
-// Carries out the first part where the condition holds, else the second.
-#[cycle(statements)]
-fn choose(
-    alloc: Global,
-    line: u16,
-    expression: &Expr,
-    first: &[Stmt],
-    second: &[Stmt],
-    work: &mut Work,
-) -> Result<Option<Ending>, AllocError>
-    requires { IsTerm (term expression.now) × IsBlock (block first.now) × IsBlock (block second.now) }
-    ensures { IfOk result (λ r. meaning.begun meaning.over_objects (IfElse line (term expression.now) (block first.now) 0 (block second.now) 0) (state_of work.old) ≡ came_to r work.new) }
-{
-    match condition(alloc, &work.names, expression)? {
-        Ok(holds) => {
-            if holds {
-                return Ok(all(alloc, first, work)?);
-            }
-            Ok(all(alloc, second, work)?)
-        }
-        Err(kind) => Ok(Some(Ending::Failed { line, kind })),
-    }
-}
-
-// Carries out the part where the condition holds.
-#[cycle(statements)]
-fn choose_one(
-    alloc: Global,
-    line: u16,
-    expression: &Expr,
-    part: &[Stmt],
-    work: &mut Work,
-) -> Result<Option<Ending>, AllocError>
-    requires { IsTerm (term expression.now) × IsBlock (block part.now) }
-    ensures { IfOk result (λ r. meaning.begun meaning.over_objects (If line (term expression.now) (block part.now) 0) (state_of work.old) ≡ came_to r work.new) }
-{
-    match condition(alloc, &work.names, expression)? {
-        Ok(holds) => {
-            if holds {
-                return Ok(all(alloc, part, work)?);
-            }
-            Ok(None)
-        }
-        Err(kind) => Ok(Some(Ending::Failed { line, kind })),
-    }
-}
-
 // Carries out a statement for which the budget had room.
 #[cycle(statements)]
-#[tactic(auto, using(value_form::specs::MirrorLaws::plain-if))]
 fn begun(alloc: Global, stmt: &Stmt, work: &mut Work) -> Result<Option<Ending>, AllocError>
     requires { IsStep (plain stmt.now) }
     ensures { IfOk result (λ r. meaning.begun meaning.over_objects (plain stmt.now) (state_of work.old) ≡ came_to r work.new) }
@@ -267,15 +191,22 @@ fn begun(alloc: Global, stmt: &Stmt, work: &mut Work) -> Result<Option<Ending>, 
         Stmt::Read(line, name, place) => Ok(read(alloc, *line, name, place, work)?),
         Stmt::Write(line, place, value) => Ok(write(alloc, *line, place, value, work)?),
         Stmt::Print(line, value) => Ok(print(alloc, *line, value, work)?),
-        Stmt::If(line, condition, part, _) => {
-            Ok(choose_one(alloc, *line, condition, part.as_slice(), work)?)
+        Stmt::If(line, expression, part, _) => match condition(alloc, &work.names, expression)? {
+            Ok(true) => Ok(all(alloc, part.as_slice(), work)?),
+            Ok(false) => Ok(None),
+            Err(kind) => Ok(Some(Ending::Failed { line: *line, kind })),
+        },
+        Stmt::IfElse(line, expression, first, _, second, _) => {
+            match condition(alloc, &work.names, expression)? {
+                Ok(true) => Ok(all(alloc, first.as_slice(), work)?),
+                Ok(false) => Ok(all(alloc, second.as_slice(), work)?),
+                Err(kind) => Ok(Some(Ending::Failed { line: *line, kind })),
+            }
         }
-        Stmt::IfElse(line, condition, first, _, second, _) => {
-            Ok(choose(alloc, *line, condition, first.as_slice(), second.as_slice(), work)?)
-        }
-        Stmt::Repeat(line, count, part, _) => {
-            Ok(repeat(alloc, *line, count, part.as_slice(), work)?)
-        }
+        Stmt::Repeat(line, expression, part, _) => match count(alloc, &work.names, expression)? {
+            Ok(count) => Ok(turns(alloc, count, part.as_slice(), work)?),
+            Err(kind) => Ok(Some(Ending::Failed { line: *line, kind })),
+        },
         Stmt::Withdraw(line) => Ok(Some(Ending::Withdrawn { line: *line })),
     }
 }
@@ -299,7 +230,6 @@ fn one(alloc: Global, stmt: &Stmt, work: &mut Work) -> Result<Option<Ending>, Al
 /// Carries a script out alone, over a map of objects: its transcript, the map with its writes, and
 /// how it ended. An object outside the map has the value Nothing.
 pub fn perform(alloc: Global, script: &Script, map: &ObjectMap) -> Result<Performed, AllocError>
-    ghost use Rattle.serial_model.specs.Came.{came_of};
     requires { IsScript script.now.lines }
     ensures { IfOk result (λ p. came_of p ≡ meaning.perform (block script.now.lines) map.now) }
 {

@@ -1,5 +1,5 @@
 use crate::object_maps::ObjectMap;
-use value_form::{Line, Names};
+use value_form::{Ending, Items, Line, Names};
 
 /// A script at work: its names, how many more statements may begin, its transcript so far and the
 /// objects.
@@ -9,4 +9,13 @@ pub struct Work {
     pub left: u32,
     pub lines: Vec<Line>,
     pub objects: ObjectMap,
+}
+
+/// What a script did alone.
+#[derive(Drop)]
+pub struct Performed {
+    pub transcript: Items<Line>,
+    /// The map with the script's writes, however it ended.
+    pub after: ObjectMap,
+    pub ending: Ending,
 }

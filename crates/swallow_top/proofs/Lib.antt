@@ -1,7 +1,7 @@
 pub mod BodyLemmas
 pub mod LineLemmas
-pub mod MapLemmas
 pub mod NumberLemmas
 pub mod ReportLemmas
+pub mod SimpleLemmas
 pub mod StreamLemmas
 pub mod TopLemmas

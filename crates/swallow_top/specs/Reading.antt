@@ -6,8 +6,8 @@ use Rattle.std.specs.List.{list_all, list_any}
 use Rattle.std.specs.Option.{option_map}
 use Rattle.std.specs.Str.Parse.{digits_value}
 use Rattle.value_form.specs.declared.objects.ObjectId.{ObjectId}
-use Rattle.value_form.specs.declared.scripts.Expr.{Expr}
-use Rattle.value_form.specs.declared.scripts.Expr.TheVariants as e
+use Rattle.value_form.specs.declared.expressions.Expr.{Expr}
+use Rattle.value_form.specs.declared.expressions.Expr.TheVariants as e
 use Rattle.value_form.specs.declared.scripts.Place.TheVariants as p
 use Rattle.value_form.specs.declared.scripts.Stmt.{Stmt}
 use Rattle.value_form.specs.declared.scripts.Stmt.TheVariants as s

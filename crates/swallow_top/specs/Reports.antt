@@ -9,6 +9,7 @@ use Rattle.value_form.specs.declared.values.Value.TheVariants.{Nothing, Number, 
 use Rattle.value_form.specs.declared.transcripts.Line.{Line}
 use Rattle.value_form.specs.declared.transcripts.Line.TheVariants as line
 use Rattle.value_form.specs.Meaning.{perform}
+use Rattle.value_form.specs.Mirror.{block}
 use Rattle.value_form.specs.Objects.{Objects}
 use Rattle.value_form.specs.ValueText.{value_text}
 use Rattle.swallow_top.specs.declared.plans.Plan.{Plan}
@@ -45,4 +46,4 @@ text_of run lines objects = head_text run ++ (flat_map line_text lines ++ (flat_
 
 -- what the plan's script does alone over the empty map
 abbrev pub report_text : Plan → List ℕ
-report_text plan = let after = perform plan.act.script.lines finite.empty in text_of plan.run after.lines after.objects
+report_text plan = let came = perform (block plan.act.script.lines) finite.empty in text_of plan.run came.lines came.world

@@ -1,7 +1,8 @@
-ghost use Rattle.std.specs.Prelude.{◌≡◌, ◌==◌, IfOk, IfSome, codes};
+ghost use Rattle.std.specs.Prelude.{◌≡◌, ◌≤◌, length, ◌==◌, IfOk, IfSome, codes};
 ghost use Rattle.std.specs.Cmp.Lexicographic.{pointwise};
 ghost use Rattle.std.specs.Option.{option_map};
-ghost use Rattle.value_form.specs.Ranges.{IsStmt, IsScript};
+ghost use Rattle.swallow_top.specs.Simple.{IsSimpleStmt, IsSimpleBlock};
+ghost use Rattle.value_form.specs.Mirror.{block};
 ghost use Rattle.swallow_top.specs.Reading.{read_at, write_at, print_at, statement_at, body_at};
 
 use crate::lines::Lines;
@@ -18,7 +19,7 @@ const SCRIPT_BYTES: usize = 3_900;
 // A name, a space and an object.
 fn read_of(alloc: Global, line: u16, text: &[u8]) -> Result<Option<Stmt>, AllocError>
     ensures value { IfOk result (λ found. found ≡ read_at line text.now) }
-    ensures in_range { IfOk result (λ found. IfSome found IsStmt) }
+    ensures simple { IfOk result (λ found. IfSome found IsSimpleStmt) }
 {
     let Some((name, object)) = cut(text, b' ') else {
         return Ok(None);
@@ -36,7 +37,7 @@ fn read_of(alloc: Global, line: u16, text: &[u8]) -> Result<Option<Stmt>, AllocE
 // An object, a space and an expression.
 fn write_of(alloc: Global, line: u16, text: &[u8]) -> Result<Option<Stmt>, AllocError>
     ensures value { IfOk result (λ found. found ≡ write_at line text.now) }
-    ensures in_range { IfOk result (λ found. IfSome found IsStmt) }
+    ensures simple { IfOk result (λ found. IfSome found IsSimpleStmt) }
 {
     let Some((object, expression)) = cut(text, b' ') else {
         return Ok(None);
@@ -52,7 +53,7 @@ fn write_of(alloc: Global, line: u16, text: &[u8]) -> Result<Option<Stmt>, Alloc
 
 fn print_of(alloc: Global, line: u16, text: &[u8]) -> Result<Option<Stmt>, AllocError>
     ensures value { IfOk result (λ found. found ≡ print_at line text.now) }
-    ensures in_range { IfOk result (λ found. IfSome found IsStmt) }
+    ensures simple { IfOk result (λ found. IfSome found IsSimpleStmt) }
 {
     let Some(expression) = expression_of(alloc, text)? else {
         return Ok(None);
@@ -63,7 +64,7 @@ fn print_of(alloc: Global, line: u16, text: &[u8]) -> Result<Option<Stmt>, Alloc
 // The statement with this text.
 fn statement_of(alloc: Global, line: u16, text: &[u8]) -> Result<Option<Stmt>, AllocError>
     ensures value { IfOk result (λ found. found ≡ statement_at line text.now) }
-    ensures in_range { IfOk result (λ found. IfSome found IsStmt) }
+    ensures simple { IfOk result (λ found. IfSome found IsSimpleStmt) }
 {
     if let Some(rest) = strip(text, b"read ") {
         return Ok(read_of(alloc, line, rest)?);
@@ -86,7 +87,8 @@ fn is_done(text: &[u8]) -> bool
 /// The statements of the lines up to `done`, which is the last.
 pub fn body_of(alloc: Global, lines: &mut Lines<'_>) -> Result<Option<Vec<Stmt>>, AllocError>
     ensures value { IfOk result (λ found. option_map (λ v. v.items) found ≡ body_at 1 SCRIPT_BYTES lines.old) }
-    ensures in_range { IfOk result (λ found. IfSome found (λ v. IsScript v.items)) }
+    ensures simple { IfOk result (λ found. IfSome found (λ v. IsSimpleBlock (block v.items))) }
+    ensures few { IfOk result (λ found. IfSome found (λ v. length v.items ≤ 200)) }
 {
     let mut stmts = Vec::new(alloc);
     let mut line = 1u16;

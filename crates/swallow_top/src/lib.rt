@@ -3,9 +3,6 @@
 
 mod bodies;
 mod lines;
-mod machines;
-mod names;
-mod object_maps;
 mod plans;
 mod reports;
 mod stops;

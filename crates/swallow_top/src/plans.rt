@@ -1,6 +1,7 @@
-ghost use Rattle.std.specs.Prelude.{◌≡◌, ◌≤◌, Some, None, IfOk, IfSome, if◌then◌else◌};
+ghost use Rattle.std.specs.Prelude.{◌≤◌, length, ◌≡◌, Some, None, IfOk, IfSome, if◌then◌else◌};
 ghost use Rattle.std.specs.Option.{option_map};
-ghost use Rattle.value_form.specs.Ranges.{IsScript};
+ghost use Rattle.swallow_top.specs.Simple.{IsSimpleBlock};
+ghost use Rattle.value_form.specs.Mirror.{block};
 ghost use Rattle.swallow_top.specs.Reading.{after_line, run_at, act_at};
 ghost use Rattle.swallow_top.specs.Plans.{plan_at};
 
@@ -83,7 +84,8 @@ fn bounds_of(lines: &mut Lines<'_>) -> Option<Bounds>
 /// The plan with this text.
 pub fn plan_of(alloc: Global, bytes: &[u8]) -> Result<Option<Plan>, AllocError>
     ensures value { IfOk result (λ found. found ≡ plan_at bytes.now) }
-    ensures in_range { IfOk result (λ found. IfSome found (λ plan. IsScript plan.act.script.lines)) }
+    ensures simple { IfOk result (λ found. IfSome found (λ plan. IsSimpleBlock (block plan.act.script.lines))) }
+    ensures few { IfOk result (λ found. IfSome found (λ plan. length plan.act.script.lines ≤ 200)) }
 {
     if bytes.len() > PLAN_BYTES {
         return Ok(None);

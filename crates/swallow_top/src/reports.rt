@@ -3,8 +3,8 @@ ghost use Rattle.std.specs.List.{flat_map};
 ghost use Rattle.value_form.specs.ValueText.{value_text};
 ghost use Rattle.swallow_top.specs.Reports.{object_text, line_text, final_text, head_text, totals_text, text_of};
 
-use crate::machines::Machine;
 use std::alloc::{AllocError, Global};
+use serial_model::Performed;
 use value_form::{Line, ObjectId, Value};
 
 // Appends an object.
@@ -103,19 +103,19 @@ fn push_finals(
     Ok(())
 }
 
-/// The report of a run whose one act was carried out by the machine and committed.
-pub fn report(alloc: Global, run: u32, machine: Machine) -> Result<Vec<u8>, AllocError>
-    ensures { IfOk result (λ v. v.items ≡ text_of run machine.lines.items machine.objects) }
+/// The report of a run whose one act did this and was committed.
+pub fn report(alloc: Global, run: u32, act: Performed) -> Result<Vec<u8>, AllocError>
+    ensures { IfOk result (λ v. v.items ≡ text_of run act.transcript act.after) }
 {
-    let Machine {
-        names: _,
-        lines,
-        objects,
-    } = machine;
+    let Performed {
+        transcript,
+        after,
+        ending: _,
+    } = act;
     let mut out = Vec::new(alloc);
     push_head(alloc, &mut out, run)?;
-    push_lines(alloc, &mut out, lines.as_slice())?;
-    let objects = objects.into_list(alloc)?;
+    push_lines(alloc, &mut out, transcript.as_slice())?;
+    let objects = after.into_list(alloc)?;
     push_finals(alloc, &mut out, objects.as_slice())?;
     out.extend_from_slice(
         b"totals acts 1 committed 1 withdrawn 0 failed 0 refused 0 expired 0 spent 0 open 0\n",

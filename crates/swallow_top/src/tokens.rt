@@ -2,7 +2,8 @@ ghost use Rattle.std.specs.Prelude.{◌≡◌, ◌==◌, position, ◌≤◌, �
 ghost use Rattle.std.specs.Char.{is_ascii_digit};
 ghost use Rattle.std.specs.List.{list_all};
 ghost use Rattle.std.specs.Option.{option_map, option_copied};
-ghost use Rattle.value_form.specs.Ranges.{IsExpr};
+ghost use Rattle.value_form.specs.Mirror.{term};
+ghost use Rattle.swallow_top.specs.Simple.{IsSimpleTerm};
 ghost use Rattle.swallow_top.specs.Reading.{cut_at, after_front, plain_digits, number_at, number_between, name_byte, reserved, name_text, object_at, expression_at};
 
 use std::alloc::{AllocError, Global};
@@ -155,7 +156,7 @@ pub fn object_of(bytes: &[u8]) -> Option<ObjectId>
 /// The name or number with this text.
 pub fn expression_of(alloc: Global, bytes: &[u8]) -> Result<Option<Expr>, AllocError>
     ensures value { IfOk result (λ found. found ≡ expression_at bytes.now) }
-    ensures in_range { IfOk result (λ found. IfSome found IsExpr) }
+    ensures simple { IfOk result (λ found. IfSome found (λ x. IsSimpleTerm (term x))) }
 {
     if is_name(bytes) {
         let name = bytes.to_vec(alloc)?;

@@ -5,12 +5,11 @@ ghost use Rattle.swallow_top.specs.Plans.{plan_at};
 ghost use Rattle.swallow_top.specs.Top.{AreWords, IsReport, words_line, plan_line, source_line};
 ghost use Rattle.swallow_top.specs.Written.{AppendsFront, Writes};
 
-use crate::machines::Machine;
-use crate::object_maps::ObjectMap;
 use crate::plans::plan_of;
 use crate::reports::report;
 use crate::stops::Stop;
 use crate::streams::{read_all, write_all};
+use serial_model::{ObjectMap, perform};
 use std::alloc::Global;
 use stream_port::{Sink, Source};
 
@@ -34,9 +33,9 @@ fn work<I: Source>(alloc: Global, source: &mut I) -> Result<Vec<u8>, Stop>
     let Some(plan) = plan_of(alloc, bytes.as_slice())? else {
         return Err(Stop::Plan);
     };
-    let script = plan.act.script.lines.as_slice();
-    let machine = Machine::run(alloc, script, ObjectMap::new(alloc))?;
-    Ok(report(alloc, plan.run, machine)?)
+    let empty = ObjectMap::new(alloc);
+    let act = perform(alloc, &plan.act.script, &empty)?;
+    Ok(report(alloc, plan.run, act)?)
 }
 
 /// Reads a plan from the source, carries it out, and writes its report to the sink. The answer is

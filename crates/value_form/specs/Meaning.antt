@@ -32,6 +32,13 @@ abbrev pub object_at : Names → Spot → Result ObjectId FailKind
 object_at names (Fixed object) = Ok object
 object_at names (At repository x) = value names x >>= λ a. object_in repository a
 
+-- whether a condition holds, and how often a part is repeated
+abbrev pub condition : Names → Term → Result Bool FailKind
+condition names x = value names x >>= condition_in
+
+abbrev pub count : Names → Term → Result ℕ FailKind
+count names x = value names x >>= count_in
+
 -- ---- requests and endings
 
 pub data Request : Type 0 where
@@ -116,9 +123,9 @@ module _ {W : Type 0} (answers : Answers W) where
     begun (Read l name place) st = valued (object_at st.names place) l st (λ o. read_of (answers.read st.world o) name o st)
     begun (Write l place x) st = valued (object_at st.names place) l st (λ o. valued (value st.names x) l st (λ a. write_of (answers.write st.world o a) o a st))
     begun (Print l x) st = valued (value st.names x) l st (λ a. Goes (record st { lines = st.lines ++ line.Print a ∷ [] }))
-    begun (If l x part e) st = valued (value st.names x >>= condition_in) l st (λ holds. if holds then all_done part st else Goes st)
-    begun (IfElse l x first m second e) st = valued (value st.names x >>= condition_in) l st (λ holds. if holds then all_done first st else all_done second st)
-    begun (Repeat l x part e) st = valued (value st.names x >>= count_in) l st (λ n. turns n (all_done part) st)
+    begun (If l x part e) st = valued (condition st.names x) l st (λ holds. if holds then all_done part st else Goes st)
+    begun (IfElse l x first m second e) st = valued (condition st.names x) l st (λ holds. if holds then all_done first st else all_done second st)
+    begun (Repeat l x part e) st = valued (count st.names x) l st (λ n. turns n (all_done part) st)
     begun (Withdraw l) st = stopped st (Over (ending.Withdrawn l))
 
     -- the statements of a part, in order

@@ -41,3 +41,6 @@ pub use values::Value;
 
 #[cfg(test)]
 mod tests;
+
+#[cfg(test)]
+mod operations_tests;

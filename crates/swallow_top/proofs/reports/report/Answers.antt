@@ -7,4 +7,4 @@ use Rattle.swallow_top.proofs.reports.report.Goals as goal
 pub returns : goal.returns
 returns c = four_pieces c.new-out.result.items c.push_head.new.out.items c.push_lines.new.out.items c.push_finals.new.out.items c.extend_from_slice.new.self.items
     (head_text c.args.run) (flat_map line_text c.as_slice.result.now) _ (flat_map final_text c.as_slice-2.result.now) _ totals_text
-    c.new-out.ensures.items c.in_ok-push_head.ensures c.in_ok-push_lines.ensures (ap (flat_map line_text) c.as_slice.ensures.value) c.in_ok-push_finals.ensures (ap (flat_map final_text) (c.as_slice-2.ensures.value ∙ c.in_ok-objects.ensures)) c.in_ok-extend_from_slice.ensures.items
+    c.new-out.ensures.items c.in_ok-push_head.ensures c.in_ok-push_lines.ensures (ap (flat_map line_text) c.as_slice.ensures) c.in_ok-push_finals.ensures (ap (flat_map final_text) (c.as_slice-2.ensures.value ∙ c.in_ok-objects.ensures)) c.in_ok-extend_from_slice.ensures.items

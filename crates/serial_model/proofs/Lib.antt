@@ -1,0 +1,5 @@
+pub mod AnswerLemmas
+pub mod MapLemmas
+pub mod QuestionLemmas
+pub mod ScriptLemmas
+pub mod StatementLemmas
