@@ -7,3 +7,5 @@ pub mod SplitJoin
 pub mod Gathering
 pub mod Belonging
 pub mod Dealing
+pub mod Showing
+pub mod Apart

@@ -26,7 +26,7 @@ module _ {E : Type 0} (owner : E → ℕ) where
   weight-owned_in h l [] = refl
   weight-owned_in h l (p ∷ ps) = omega (arith, weight-owned_in h l ps)
 
-  length-owned_in : (l : List E) (ps : List (Part E)) → length (owned_in owner l ps) ≡ length ps
+  pub length-owned_in : (l : List E) (ps : List (Part E)) → length (owned_in owner l ps) ≡ length ps
   length-owned_in l [] = refl
   length-owned_in l (p ∷ ps) = omega (arith, length-owned_in l ps)
 

@@ -2,3 +2,4 @@ pub mod Story
 pub mod Rule
 pub mod Steps
 pub mod Passes
+pub mod Words

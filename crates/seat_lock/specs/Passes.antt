@@ -14,9 +14,6 @@ use Rattle.seat_lock.specs.Story.{Meaning, Begins, HasOwn}
 use Rattle.seat_lock.specs.Steps.{Seated, ticket_of, Sees}
 
 module _ {T E : Type 0} where
-  abbrev pub base_of : View T E → Option (Snapshot T)
-  base_of v = v.base
-
   -- the seat has found that it is its turn, and has taken the value x, which stands for the list l
   abbrev pub Took : Meaning T E → Seated T E → Seated T E → T → List E → Type 0
   Took m me me' x l = (me' ≡ (record me.0 { stage = Holding (ticket_of me.0.stage); story = l }, (0, x) ∷ me.1)) × (m.story x ≡ l) × Sees m me.0 l × ((b : Snapshot T) → me.0.base ≡ Some b → m.stands b.value x)
@@ -34,8 +31,8 @@ module _ {T E : Type 0} where
   newcomer v p = record v { stage = Idle; parts = p ∷ []; heard = [] }
 
 module _ {T E : Type 0} where
-  -- the pass belongs to the lock of this table, which was made from the base, and has one owner
-  pub record IsPassOf (z : TableId) (base : T) (p : Seat T (View T E)) : Type 0 where
+  -- the pass belongs to the lock of this table, which was made from the base; it has one owner, and is in no visit
+  pub record Belongs (z : TableId) (base : T) (p : Seat T (View T E)) : Type 0 where
     pub here : p.table_id ≡ z
     pub idle : p.me.0.stage ≡ Idle
     pub empty : p.me.1 ≡ []
@@ -49,7 +46,7 @@ module _ {T E : Type 0} where
   AreNew z v (x ∷ xs) [] = ⊥
   AreNew z v (x ∷ xs) (p ∷ ps) = (p.table_id ≡ z) × (p.me ≡ (newcomer v x, [])) × AreNew z v xs ps
 
-  -- the visit's pass is inside its lock, where it has the slot, with the value x
+  -- the visit's pass is inside its lock, and has the slot with the value x
   pub record IsInside (v : Visit T E) (x : T) : Type 0 where
     pub here : v.seat.table_id ≡ v.lock.now.table.shared.table_id
     pub holds : holding v.seat.me.0.stage ≡ 1

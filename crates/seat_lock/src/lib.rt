@@ -1,6 +1,7 @@
 //! A lock whose value stands for a list of entries, its story.
 #![tactic(auto)]
 
+mod boards;
 mod endings;
 mod lends;
 mod locks;

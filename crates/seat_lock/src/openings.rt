@@ -1,9 +1,9 @@
 //! The start of a lock.
-ghost use Rattle.std.specs.Prelude.{◌≡◌, ◌+◌, ◌<◌, ◌≤◌, ◌^◌, ℕ, List, [], ◌∷◌, ◌++◌, length, map, All, Some, IfOk, IfErr, vec_len, vec_capacity, replicate};
+ghost use Rattle.std.specs.Prelude.{◌≡◌, ◌≢◌, ◌+◌, ◌<◌, ◌≤◌, [], length, map, All, AllPairs, IfOk, IfErr, vec_capacity};
 ghost use Rattle.std.specs.declared.snapshot.Snapshot.{Snapshot};
-ghost use Rattle.seat_lock.specs.Rule.{total, same};
-ghost use Rattle.seat_lock.specs.Steps.{founder, all_parts};
-ghost use Rattle.seat_lock.specs.Passes.{newcomer, AreNew};
+ghost use Rattle.seat_lock.specs.Steps.{founder};
+ghost use Rattle.seat_lock.specs.Passes.{AreNew};
+ghost use Rattle.seat_lock.specs.Words.{IsPassOf, knows, fresh, base_of, owners_of, board_size};
 ghost use Rattle.seat_lock.specs.declared.views.Stage.TheVariants.{Idle};
 
 use crate::Storied;
@@ -15,17 +15,21 @@ use std::alloc::{AllocError, Global};
 use std::snapshot::Snapshot;
 
 impl<T: Storied> SeatLock<T> {
-    /// A lock with a board of `words` words, and one pass for each owner.
+    /// A lock that guards the state, with a board of `words` words, and one pass for each owner,
+    /// in order. All words hold 0.
+    ///
+    /// There is at least one owner, the owners differ, and the state stands for the empty list.
+    /// `Err` comes where memory is wanting, and hands the state back.
     pub fn new(
         alloc: Global,
         state: T,
         owners: &[u32],
         words: u32,
     ) -> Result<(SeatLock<T>, Vec<Pass<T>>), (T, AllocError)>
-        requires owners { (0 < length owners.now) × ((o : ℕ) → total (same o) owners.now ≤ 1) }
+        requires owners { (0 < length owners.now) × AllPairs (λ a b. a ≢ b) owners.now }
         requires state { T.stands state state × (T.story state ≡ []) }
-        ensures lock { IfOk result (λ r. (r.0.table.shared.key.owners.items ≡ owners.now) × (r.0.table.shared.key.state.value ≡ state) × (r.0.table.shared.table_id.words ≡ words + 3)) }
-        ensures passes { IfOk result (λ r. (b : Snapshot T) × (b.value ≡ state) × AreNew r.0.table.shared.table_id (founder b owners.now) (all_parts owners.now) r.1.items) }
+        ensures lock { IfOk result (λ r. (owners_of r.0 ≡ owners.now) × (base_of r.0 ≡ state) × (board_size r.0 ≡ words)) }
+        ensures passes { IfOk result (λ r. All (IsPassOf r.0) r.1.items × (map knows r.1.items ≡ map (fresh state) owners.now)) }
         ensures err { IfErr result (λ e. e.0 ≡ state) }
     {
         let Ok(passes) = Vec::with_capacity(alloc, owners.len()) else {
@@ -47,9 +51,9 @@ impl<T: Storied> SeatLock<T> {
         owners: &[u32],
         words: u32,
     ) -> Result<(SeatLock<T>, Pass<T>), (T, AllocError)>
-        requires owners { (0 < length owners.now) × ((o : ℕ) → total (same o) owners.now ≤ 1) }
+        requires owners { (0 < length owners.now) × AllPairs (λ a b. a ≢ b) owners.now }
         requires state { T.stands state state × (T.story state ≡ []) }
-        ensures lock { IfOk result (λ r. (r.0.table.shared.key.owners.items ≡ owners.now) × (r.0.table.shared.key.state.value ≡ state) × (r.0.table.shared.table_id.words ≡ words + 3)) }
+        ensures lock { IfOk result (λ r. (owners_of r.0 ≡ owners.now) × (base_of r.0 ≡ state) × (board_size r.0 ≡ words)) }
         ensures seat { IfOk result (λ r. (r.1.table_id ≡ r.0.table.shared.table_id) × ((b : Snapshot T) × (b.value ≡ state) × (r.1.me ≡ (founder b owners.now, [])))) }
         ensures err { IfErr result (λ e. e.0 ≡ state) }
     {
@@ -79,16 +83,18 @@ impl<T: Storied> SeatLock<T> {
         }
     }
 
-    // Gives each of `count` owners a pass.
+    // Gives each of `count` owners a pass. The last is the seat itself.
     fn deal(&self, mut seat: Pass<T>, count: usize, mut passes: Vec<Pass<T>>) -> Vec<Pass<T>>
         requires here { seat.table_id ≡ self.now.table.shared.table_id }
-        requires idle { (seat.me.0.stage ≡ Idle) × (seat.me.1 ≡ []) × (length seat.me.0.parts ≡ count) }
+        requires idle { (seat.me.0.stage ≡ Idle) × (seat.me.1 ≡ []) × (seat.me.0.heard ≡ []) }
+        requires count { (length seat.me.0.parts ≡ count) × (0 < count) }
         requires room { (passes.items ≡ []) × (count ≤ vec_capacity passes) }
         ensures { AreNew self.now.table.shared.table_id seat.me.0 seat.me.0.parts result.items }
     {
-        for _ in 0..count {
+        for _ in 0..count - 1 {
             passes.push_reserved(self.table.shared.split_seat::<Deal>(&mut seat));
         }
+        passes.push_reserved(seat);
         passes
     }
 }

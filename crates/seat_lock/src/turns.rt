@@ -1,8 +1,9 @@
 //! Entering the lock.
-ghost use Rattle.std.specs.Prelude.{◌≡◌, ◌+◌, ◌%◌, ◌^◌, ◌<◌, ℕ, List, [], ◌∷◌, ◌++◌, length, true, false, Some};
-ghost use Rattle.seat_lock.specs.Story.{meaning, Begins, HasOwn};
+ghost use Rattle.std.specs.Prelude.{◌≡◌, ◌%◌, ◌^◌, ℕ, List, false};
+ghost use Rattle.seat_lock.specs.Story.{meaning};
 ghost use Rattle.seat_lock.specs.Steps.{ticket_of};
-ghost use Rattle.seat_lock.specs.Passes.{Took, IsPassOf, IsInside};
+ghost use Rattle.seat_lock.specs.Passes.{Took, IsInside};
+ghost use Rattle.seat_lock.specs.Words.{IsPassOf, CarriesOn, knows, sees, base_of, lock_of, has_noted};
 ghost use Rattle.seat_lock.specs.declared.views.Stage.TheVariants.{Idle, Waiting};
 
 use crate::Storied;
@@ -13,7 +14,7 @@ use std::sync::Wait;
 impl<T: Storied> SeatLock<T> {
     // Draws a ticket.
     fn draw(&self, seat: &mut Pass<T>) -> u64
-        requires pass { IsPassOf self.now.table.shared.table_id self.now.table.shared.key.state.value seat.old }
+        requires pass { IsPassOf self.now seat.old }
         ensures here { (seat.new.table_id ≡ seat.old.table_id) × (seat.new.me.1 ≡ seat.old.me.1) }
         ensures ticket { (t : ℕ) × (result ≡ t % 2 ^ 64) × (seat.new.me.0 ≡ record seat.old.me.0 { stage = Waiting t }) }
     {
@@ -39,14 +40,18 @@ impl<T: Storied> SeatLock<T> {
         unreachable!()
     }
 
-    /// Waits until no other pass is inside.
+    /// Begins a visit with the pass, and waits until no other pass is inside.
+    ///
+    /// The visit sees a list that begins with all that the pass had seen, and of the pass's owner
+    /// it has just the pass's own entries. Passes enter in the order in which they drew their
+    /// tickets.
     pub fn enter<R: Wait>(&self, rt: &R, pass: Pass<T>) -> Visit<'_, T>
-        requires pass { IsPassOf self.now.table.shared.table_id self.now.table.shared.key.state.value pass }
-        ensures lock { result.lock.now ≡ self.now }
-        ensures sees { Begins pass.me.0.story result.seat.me.0.story × HasOwn T.owner pass.me.0.parts result.seat.me.0.story }
-        ensures value { (x : T) × IsInside result x × (T.story x ≡ result.seat.me.0.story) × T.stands self.now.table.shared.key.state.value x }
-        ensures kept { result.seat.me.0 ≡ record pass.me.0 { stage = result.seat.me.0.stage; story = result.seat.me.0.story } }
-        ensures noted { result.noted ≡ false }
+        requires pass { IsPassOf self.now pass }
+        ensures lock { lock_of result ≡ self.now }
+        ensures value { (x : T) × IsInside result x × T.stands (base_of self.now) x × (T.story x ≡ (sees result).story) }
+        ensures carries { CarriesOn T.owner (knows pass) (sees result).story }
+        ensures kept { sees result ≡ record (knows pass) { story = (sees result).story } }
+        ensures nothing { has_noted result ≡ false }
     {
         let mut seat = pass;
         let ticket = self.draw(&mut seat);

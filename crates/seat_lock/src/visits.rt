@@ -1,22 +1,25 @@
 //! What a visit does.
-ghost use Rattle.std.specs.Prelude.{◌≡◌, ◌+◌, ◌<◌, ℕ, List, [], ◌∷◌, ◌++◌, length, true, false, Some};
-ghost use Rattle.seat_lock.specs.Story.{with_own};
-ghost use Rattle.seat_lock.specs.declared.views.Part.{Part};
-ghost use Rattle.seat_lock.specs.declared.views.Stage.TheVariants.{Idle};
+ghost use Rattle.std.specs.Prelude.{◌≡◌, ◌<◌, [], ◌∷◌, ◌++◌, true, false};
 ghost use Rattle.seat_lock.specs.Passes.{IsInside};
+ghost use Rattle.seat_lock.specs.Words.{IsPassOf, knows, sees, base_of, board_size, lock_of, has_noted};
 
 use crate::Storied;
 use crate::locks::{Pass, Visit};
 use crate::plays::{Leave, Note, Post};
 
 impl<T: Storied> Visit<'_, T> {
-    /// Adds the entry to the story.
+    /// Adds the entry to the story. A visit notes one entry at most, of its own pass's owner.
+    ///
+    /// The value already stands for the list with the entry added. `entry` says which entry that
+    /// is, and is kept nowhere.
     pub fn note(&mut self, entry: &T::Entry)
-        requires nothing { self.old.noted ≡ false }
-        requires mine { (p : Part T.Entry) × (self.old.seat.me.0.parts ≡ p ∷ []) × (T.owner entry.now ≡ p.owner) }
-        requires value { (x : T) × IsInside self.old x × (T.story x ≡ self.old.seat.me.0.story ++ entry.now ∷ []) }
-        ensures here { (self.new.lock ≡ self.old.lock) × (self.new.noted ≡ true) × (self.new.seat.me.1 ≡ self.old.seat.me.1) }
-        ensures story { self.new.seat.me.0 ≡ record self.old.seat.me.0 { story = self.old.seat.me.0.story ++ entry.now ∷ []; parts = with_own entry.now self.old.seat.me.0.parts } }
+        requires nothing { has_noted self.old ≡ false }
+        requires mine { T.owner entry.now ≡ (sees self.old).owner }
+        requires value { (x : T) × IsInside self.old x × (T.story x ≡ (sees self.old).story ++ entry.now ∷ []) }
+        ensures lock { lock_of self.new ≡ lock_of self.old }
+        ensures inside { (x : T) → IsInside self.old x → IsInside self.new x }
+        ensures noted { has_noted self.new ≡ true }
+        ensures sees { sees self.new ≡ record (sees self.old) { story = (sees self.old).story ++ entry.now ∷ []; own = (sees self.old).own ++ entry.now ∷ [] } }
     {
         let _ = entry;
         self.lock
@@ -26,11 +29,15 @@ impl<T: Storied> Visit<'_, T> {
         self.noted = true;
     }
 
+    /// Puts the number on the board, in place of what the word held. `word` counts from 0.
     pub fn post(&mut self, word: u32, number: u64)
-        requires word { word + 3 < self.old.lock.now.table.shared.table_id.words }
-        requires may { ((x : T) × IsInside self.old x) × T.may_hold self.old.lock.now.table.shared.key.state.value self.old.seat.me.0.story word number }
-        ensures here { (self.new.lock ≡ self.old.lock) × (self.new.noted ≡ self.old.noted) × (self.new.seat.me.1 ≡ self.old.seat.me.1) }
-        ensures posted { self.new.seat.me.0 ≡ record self.old.seat.me.0 { posts = self.old.seat.me.0.posts ++ (word, number) ∷ [] } }
+        requires word { word < board_size (lock_of self.old) }
+        requires inside { (x : T) × IsInside self.old x }
+        requires may { T.may_hold (base_of (lock_of self.old)) (sees self.old).story word number }
+        ensures lock { lock_of self.new ≡ lock_of self.old }
+        ensures inside { (x : T) → IsInside self.old x → IsInside self.new x }
+        ensures noted { has_noted self.new ≡ has_noted self.old }
+        ensures sees { sees self.new ≡ record (sees self.old) { posts = (sees self.old).posts ++ (word, number) ∷ [] } }
     {
         self.lock
             .table
@@ -38,10 +45,12 @@ impl<T: Storied> Visit<'_, T> {
             .store::<Post>(&mut self.seat, word as usize + 3, number);
     }
 
+    /// Ends the visit, and lets the next pass in. The value stands for the story that the visit
+    /// sees.
     pub fn leave(self) -> Pass<T>
-        requires stands { (x : T) × IsInside self x × (T.story x ≡ self.seat.me.0.story) × T.stands self.lock.now.table.shared.key.state.value x }
-        ensures here { (result.table_id ≡ self.entry.seat.table_id) × (result.me.1 ≡ []) }
-        ensures kept { result.me.0 ≡ record self.entry.seat.me.0 { stage = Idle } }
+        requires stands { (x : T) × IsInside self x × T.stands (base_of (lock_of self)) x × (T.story x ≡ (sees self).story) }
+        ensures pass { IsPassOf (lock_of self.entry) result }
+        ensures kept { knows result ≡ sees self.entry }
     {
         let Visit {
             lock,

@@ -1,14 +1,14 @@
 use Rattle.std.proofs.Common.{rules, arith, ◌≡◌, [], ◌∷◌, ◌++◌, length, All, ap, sym, ◌∙◌, subst, append_assoc, length-append}
 use Rattle.std.proofs.lemmas.Grind.{common_steps}
 use Rattle.seat_lock.specs.Steps.{gathered}
-use Rattle.seat_lock.specs.Passes.{Covers, IsPassOf}
+use Rattle.seat_lock.specs.Passes.{Covers, Belongs}
 use Rattle.seat_lock.proofs.SplitJoin.{gathers}
 use Rattle.seat_lock.proofs.Gathering.{covers_right, covers_more, all_more, all_cons, all_middle}
 use Rattle.seat_lock.proofs.endings.SeatLock+T.gather.Goals as goal
 
 pub join_seat-requires : goal.join_seat-requires
 join_seat-requires g c =
-    let pass = c.in-Some.pass in let inv = c.loop-pass.invariant in let F = IsPassOf c.args.self.now.table.shared.table_id c.args.self.now.table.shared.key.state.value in
+    let pass = c.in-Some.pass in let inv = c.loop-pass.invariant in let F = Belongs c.args.self.now.table.shared.table_id c.args.self.now.table.shared.key.state.value in
     let items : c.args.passes.items ≡ (c.pop.new.self.items ++ pass ∷ []) ++ inv.4.0 = inv.4.1 ∙ ap (λ l. l ++ inv.4.0) c.in-Some.ensures.items in
     let belongs = all_middle F c.pop.new.self.items pass inv.4.0 (subst (λ l. All F l) items c.requires.passes) in (
       inv.0 ∙ c.requires.pass.here,
@@ -23,7 +23,7 @@ loop-pass-preserved g c =
     let pass = c.in-Some.pass in let inv = c.loop-pass.invariant in let joined = c.join_seat.ensures.2 in
     let v = c.loop-pass.seat.me.0 in let w = pass.me.0 in let owner = g.T.Storied.owner in
     let items : c.args.passes.items ≡ c.pop.new.self.items ++ (pass ∷ inv.4.0) = inv.4.1 ∙ (ap (λ l. l ++ inv.4.0) c.in-Some.ensures.items ∙ append_assoc c.pop.new.self.items (pass ∷ []) inv.4.0) in
-    let F = IsPassOf c.args.self.now.table.shared.table_id c.args.self.now.table.shared.key.state.value in
+    let F = Belongs c.args.self.now.table.shared.table_id c.args.self.now.table.shared.key.state.value in
     let cut : c.args.passes.items ≡ (c.pop.new.self.items ++ pass ∷ []) ++ inv.4.0 = inv.4.1 ∙ ap (λ l. l ++ inv.4.0) c.in-Some.ensures.items in
     let belongs = all_middle F c.pop.new.self.items pass inv.4.0 (subst (λ l. All F l) cut c.requires.passes) in
     let seen = sym (ap (λ m. m.0) joined) in (

@@ -4,6 +4,7 @@ use Rattle.seat_lock.specs.declared.views.View.{View}
 use Rattle.seat_lock.specs.Story.{other_parts}
 use Rattle.seat_lock.specs.Steps.{dealing, dealt_out}
 use Rattle.seat_lock.specs.Passes.{AreNew}
+use Rattle.std.proofs.lemmas.List.{nil_from_length}
 use Rattle.seat_lock.proofs.SplitJoin.{deals}
 use Rattle.seat_lock.proofs.Dealing.{parts_cut, are_new_snoc}
 use Rattle.seat_lock.proofs.openings.SeatLock+T.deal.Goals as goal
@@ -35,3 +36,16 @@ loop-preserved g c =
             (cut.4 ∙ (ap (λ z. (dealt_out z, [])) view_is ∙ λ i. (let w : V = record v0 { stage = Idle; parts = t.1 i; heard = [] } in w, [])))),
       ),
     )
+
+pub returns : goal.returns
+returns g c =
+    let V = View g.row.T.Denot g.row.T-Entry.Denot in let inv = c.loop.invariant in let v0 : V = c.args.seat.me.0 in let v : V = c.loop.seat.me.0 in
+    let some_left : 0 < length v.parts = omega (arith, inv.2, c.loop-test.false, c.loop.auto.counter-end, c.requires.count.1) in
+    let t = parts_cut v.parts some_left in
+    let none_else : length (other_parts v.parts) ≡ 0 = omega (arith, inv.2, c.loop-test.false, c.loop.auto.counter-end, c.requires.count.1, ap length t.2) in
+    let one : v.parts ≡ t.0 ∷ [] = t.2 ∙ ap (λ l. t.0 ∷ l) (nil_from_length (other_parts v.parts) none_else) in
+    let given : v0.parts ≡ inv.5.0 ++ t.0 ∷ [] = inv.5.1 ∙ ap (λ l. inv.5.0 ++ l) one in
+    let me_is = inv.1 ∙ (λ i. (let w : V = record v0 { stage = c.requires.idle.0 i; parts = one i; heard = c.requires.idle.2 i } in w, [])) in
+    subst (λ l. AreNew c.args.self.now.table.shared.table_id v0 l c.push_reserved-2.new.self.items) (sym given)
+    (subst (λ l. AreNew c.args.self.now.table.shared.table_id v0 (inv.5.0 ++ t.0 ∷ []) l) (sym c.push_reserved-2.ensures.items)
+    (are_new_snoc c.args.self.now.table.shared.table_id v0 inv.5.0 c.loop.passes.items t.0 c.loop.seat inv.5.2 (inv.0 ∙ c.requires.here) me_is))
