@@ -9,8 +9,8 @@ use Rattle.seat_lock.specs.declared.locks.Visit.{Visit}
 use Rattle.seat_lock.specs.Story.{Begins, HasOwn, entries_of, owned_in}
 use Rattle.seat_lock.specs.Rule.{holding}
 use Rattle.seat_lock.specs.Steps.{founder, all_parts}
-use Rattle.seat_lock.specs.Passes.{AreNew, Belongs, IsInside}
-use Rattle.seat_lock.specs.Words.{Known, CarriesOn, shown, knows, fresh, base_in, owner_in, own_in}
+use Rattle.seat_lock.specs.Passes.{AreNew, Belongs}
+use Rattle.seat_lock.specs.Words.{Known, IsInside, CarriesOn, shown, knows, fresh, base_in, owner_in, own_in}
 use Rattle.seat_lock.proofs.Beginnings.{own_adds}
 use Rattle.seat_lock.proofs.Gathering.{all_cons}
 

@@ -8,8 +8,6 @@ use lib.ListN.{get_elem?}
 use Rattle.seat_lock.specs.declared.views.Part.{Part}
 use Rattle.seat_lock.specs.declared.views.Stage.TheVariants.{Idle, Holding}
 use Rattle.seat_lock.specs.declared.views.View.{View}
-use Rattle.seat_lock.specs.declared.locks.Visit.{Visit}
-use Rattle.seat_lock.specs.Rule.{holding}
 use Rattle.seat_lock.specs.Story.{Meaning, Begins, HasOwn}
 use Rattle.seat_lock.specs.Steps.{Seated, ticket_of, Sees}
 
@@ -45,11 +43,3 @@ module _ {T E : Type 0} where
   AreNew z v [] (p ∷ ps) = ⊥
   AreNew z v (x ∷ xs) [] = ⊥
   AreNew z v (x ∷ xs) (p ∷ ps) = (p.table_id ≡ z) × (p.me ≡ (newcomer v x, [])) × AreNew z v xs ps
-
-  -- the visit's pass is inside its lock, and has the slot with the value x
-  pub record IsInside (v : Visit T E) (x : T) : Type 0 where
-    pub here : v.seat.table_id ≡ v.lock.now.table.shared.table_id
-    pub holds : holding v.seat.me.0.stage ≡ 1
-    pub slot : v.seat.me.1 ≡ (0, x) ∷ []
-    pub owned : length v.seat.me.0.parts ≡ 1
-    pub based : (b : Snapshot T) × (v.seat.me.0.base ≡ Some b) × (b.value ≡ v.lock.now.table.shared.key.state.value)

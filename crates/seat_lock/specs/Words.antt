@@ -59,6 +59,14 @@ module _ {T E : Type 0} where
     pub begins : Begins known.story l
     pub own : entries_of owner known.owner l ≡ known.own
 
+  -- the visit's pass is inside its lock, and has the slot with the value x
+  pub record IsInside (v : Visit T E) (x : T) : Type 0 where
+    pub here : v.seat.table_id ≡ v.lock.now.table.shared.table_id
+    pub holds : holding v.seat.me.0.stage ≡ 1
+    pub slot : v.seat.me.1 ≡ (0, x) ∷ []
+    pub owned : length v.seat.me.0.parts ≡ 1
+    pub based : (b : Snapshot T) × (v.seat.me.0.base ≡ Some b) × (b.value ≡ v.lock.now.table.shared.key.state.value)
+
   -- the visit after the value x was written into it
   abbrev pub with_value : Visit T E → T → Visit T E
   with_value visit x = record visit { seat = seat_with visit.seat 0 x }

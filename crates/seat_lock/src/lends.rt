@@ -4,8 +4,7 @@ ghost use Rattle.std.specs.Prelude.{◌≡◌, []};
 ghost use Rattle.std.specs.Borrow.{sem, Lends};
 ghost use mir.Syntax.{named};
 ghost use Rattle.seat_lock.specs.contracts.locks.Visit.{the_row};
-ghost use Rattle.seat_lock.specs.Passes.{IsInside};
-ghost use Rattle.seat_lock.specs.Words.{with_value};
+ghost use Rattle.seat_lock.specs.Words.{IsInside, with_value};
 
 use crate::Storied;
 use crate::locks::Visit;

@@ -2,8 +2,8 @@
 ghost use Rattle.std.specs.Prelude.{◌≡◌, ◌%◌, ◌^◌, ℕ, List, false};
 ghost use Rattle.seat_lock.specs.Story.{meaning};
 ghost use Rattle.seat_lock.specs.Steps.{ticket_of};
-ghost use Rattle.seat_lock.specs.Passes.{Took, IsInside};
-ghost use Rattle.seat_lock.specs.Words.{IsPassOf, CarriesOn, knows, sees, base_of, lock_of, has_noted};
+ghost use Rattle.seat_lock.specs.Passes.{Took};
+ghost use Rattle.seat_lock.specs.Words.{IsInside, IsPassOf, CarriesOn, knows, sees, base_of, lock_of, has_noted};
 ghost use Rattle.seat_lock.specs.declared.views.Stage.TheVariants.{Idle, Waiting};
 
 use crate::Storied;

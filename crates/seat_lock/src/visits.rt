@@ -1,7 +1,6 @@
 //! What a visit does.
 ghost use Rattle.std.specs.Prelude.{◌≡◌, ◌<◌, [], ◌∷◌, ◌++◌, true, false};
-ghost use Rattle.seat_lock.specs.Passes.{IsInside};
-ghost use Rattle.seat_lock.specs.Words.{IsPassOf, knows, sees, base_of, board_size, lock_of, has_noted};
+ghost use Rattle.seat_lock.specs.Words.{IsInside, IsPassOf, knows, sees, base_of, board_size, lock_of, has_noted};
 
 use crate::Storied;
 use crate::locks::{Pass, Visit};
