@@ -9,3 +9,4 @@ pub mod Belonging
 pub mod Dealing
 pub mod Showing
 pub mod Apart
+pub mod Popping

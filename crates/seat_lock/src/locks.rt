@@ -7,6 +7,7 @@ use atomic_table::{Seat, Table, TableRule};
 use std::alloc::{Allocator, Global};
 
 /// The table, with one slot and the three words of the lock. It stands apart from the alias, so that it is `Sync` by itself.
+#[derive(Drop)]
 pub struct LockTable<S, V, K, Q: TableRule<S, V, K>, A: Allocator> {
     pub(crate) table: Table<S, V, K, Q, A>,
     ghost sized: { (table.shared.table_id.slots ≡ 1) × (3 ≤ table.shared.table_id.words) },
