@@ -1,5 +1,5 @@
 -- Numbers of which no two are the same.
-use Rattle.std.proofs.Common.{◌≡◌, ◌≢◌, ℕ, zero, suc, ◌≤◌, List, [], ◌∷◌, All, refl, sym, subst, arith}
+use Rattle.std.proofs.Common.{◌≡◌, ◌≢◌, ℕ, suc, ◌≤◌, List, [], ◌∷◌, All, refl, sym, subst, arith}
 use Rattle.std.specs.Prelude.{AllPairs}
 use native.Mathlib.Decide.{ℕ_discrete}
 use Rattle.seat_lock.specs.Rule.{total, same}

@@ -22,16 +22,19 @@ same a b = 1 - ((a - b) + (b - a))
 abbrev pub below : ℕ → ℕ → ℕ
 below a b = 1 - (1 - (b - a))
 
+-- 1 where the seat has the ticket, and else 0
 abbrev pub ticket_at : ℕ → Stage → ℕ
 ticket_at t Idle = 0
 ticket_at t (Waiting k) = same t k
 ticket_at t (Holding k) = same t k
 
+-- 1 where the seat has a ticket, and else 0
 abbrev pub waits : Stage → ℕ
 waits Idle = 0
 waits (Waiting _) = 1
 waits (Holding _) = 1
 
+-- 1 where the seat has the slot, and else 0
 abbrev pub holding : Stage → ℕ
 holding Idle = 0
 holding (Waiting _) = 0
@@ -47,6 +50,7 @@ module _ {T E : Type 0} where
   abbrev pub at_ticket : ℕ → View T E → ℕ
   at_ticket t v = ticket_at t v.stage
 
+  -- the sum of the weights of the view's owners
   abbrev pub weight : (ℕ → ℕ) → View T E → ℕ
   weight h v = total (λ (p : Part E). h p.owner) v.parts
 
@@ -57,6 +61,7 @@ module _ {T E : Type 0} (m : Meaning T E) (base : T) where
   AtStage longest served story (Waiting t) = Unit {0}
   AtStage longest served story (Holding t) = (t ≡ served) × (story ≡ longest)
 
+  -- a view that is true of the longest story
   pub record Fits (longest : List E) (served : ℕ) (v : View T E) : Type 0 where
     pub base_is : (b : Snapshot T) → v.base ≡ Some b → b.value ≡ base
     pub begins : Begins v.story longest
@@ -66,12 +71,15 @@ module _ {T E : Type 0} (m : Meaning T E) (base : T) where
     pub own_all : HasOwn m.owner v.parts longest
     pub heard : (k : ℕ) (l : List E) → get_elem? v.heard k ≡ some l → Begins l longest
 
+  -- the value is at home, and stands for the longest story
   abbrev pub AtHome : State T (View T E) → List E → Type 0
   AtHome s longest = (x : T) × (s.homes ≡ some x ∷ []) × (m.stands base x × (m.story x ≡ longest)) × (total holds_slot s.views ≡ 0)
 
+  -- the value is out with one seat
   abbrev pub IsOut : State T (View T E) → Type 0
   IsOut s = (s.homes ≡ none ∷ []) × (total holds_slot s.views ≡ 1)
 
+  -- what holds between any two steps
   pub record Kept (owners : List ℕ) (s : State T (View T E)) : Type 0 where
     pub longest : List E
     pub drawn : ℕ

@@ -16,9 +16,11 @@ meaning story stands owner may_hold = record { story = story; stands = stands; o
 abbrev pub Begins : {E : Type 0} → List E → List E → Type 0
 Begins {E} part story = (rest : List E) × (part ++ rest ≡ story)
 
+-- the entries of one owner, in order
 abbrev pub entries_of : {E : Type 0} → (E → ℕ) → ℕ → List E → List E
 entries_of owner o es = filter (λ e. owner e == o) es
 
+-- the longer list, and the second where they are as long
 abbrev pub longer : {E : Type 0} → List E → List E → List E
 longer xs ys = cond (nat_le (length xs) (length ys)) ys xs
 
@@ -44,11 +46,3 @@ module _ {E : Type 0} where
   abbrev pub owned_in : (E → ℕ) → List E → List (Part E) → List (Part E)
   owned_in owner l [] = []
   owned_in owner l (p ∷ ps) = record { owner = p.owner; own = entries_of owner p.owner l } ∷ owned_in owner l ps
-
-  abbrev pub owners_of : List (Part E) → List ℕ
-  owners_of [] = []
-  owners_of (p ∷ ps) = p.owner ∷ owners_of ps
-
-  abbrev pub own_of : List (Part E) → List E
-  own_of [] = []
-  own_of (p ∷ ps) = p.own

@@ -209,7 +209,9 @@ fn put_by_two<M: Manner + Send + Sync, R: Threads + Wait + Sync>(
 }
 
 // The clerks 1 to 4 of a new lock, with a board of no words.
-fn four_clerks<M: Manner>(alloc: Global) -> Option<(SeatLock<Pairs<M>>, Clerk<M>, Clerk<M>, Clerk<M>, Clerk<M>)>
+fn four_clerks<M: Manner>(
+    alloc: Global,
+) -> Option<(SeatLock<Pairs<M>>, Clerk<M>, Clerk<M>, Clerk<M>, Clerk<M>)>
     ensures pass { IfSome result (λ r. IsPassOf r.0 r.1.pass × IsPassOf r.0 r.2.pass × IsPassOf r.0 r.3.pass × IsPassOf r.0 r.4.pass) }
     ensures lock { IfSome result (λ r. owners_of r.0 ≡ 1 ∷ 2 ∷ 3 ∷ 4 ∷ []) }
 {
@@ -285,11 +287,7 @@ fn end_four<M: Manner>(
 }
 
 // A visit that notes nothing, and answers how many pairs there are.
-fn look<M: Manner>(
-    rt: &impl Wait,
-    lock: &SeatLock<Pairs<M>>,
-    clerk: Clerk<M>,
-) -> (Clerk<M>, u64)
+fn look<M: Manner>(rt: &impl Wait, lock: &SeatLock<Pairs<M>>, clerk: Clerk<M>) -> (Clerk<M>, u64)
     requires pass { IsPassOf lock.now clerk.pass }
     ensures pass { IsPassOf lock.now result.0.pass }
 {
@@ -367,9 +365,15 @@ fn board<R: Wait + Abort>(rt: &R, alloc: Global) -> Result<(), Fail> {
     let Clerk { who, mut pass } = two;
     assert_eq!(rt; lock.test(&mut pass, 4094), 0);
     assert_eq!(rt; lock.test(&mut pass, 4095), 1);
-    let Clerk { who: first, pass: mut other } = one;
+    let Clerk {
+        who: first,
+        pass: mut other,
+    } = one;
     lock.meet(&mut other, &mut pass);
-    let one = Clerk { who: first, pass: other };
+    let one = Clerk {
+        who: first,
+        pass: other,
+    };
     let two = Clerk { who, pass };
     let pairs = end_two(alloc, lock, one, two).ok_or("the list")?;
     assert_eq!(rt; pairs.pairs.as_slice(), [(1, 1)].as_slice());
