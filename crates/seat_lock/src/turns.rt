@@ -40,6 +40,15 @@ impl<T: Storied> SeatLock<T> {
         unreachable!()
     }
 
+    // Wakes those that wait, after the ticket `served` has left. Where no later ticket was drawn
+    // nobody waits, and who draws one from now on finds it served.
+    pub(crate) fn wake(&self, served: u64) {
+        let shared = &self.table.shared;
+        if shared.peek(0) != served.wrapping_add(1) {
+            shared.wake_all(1);
+        }
+    }
+
     /// Begins a visit with the pass, and waits until no other pass is inside.
     ///
     /// The visit sees a list that begins with all that the pass had seen, and of the pass's owner

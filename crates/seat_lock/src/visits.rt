@@ -56,8 +56,8 @@ impl<T: Storied> Visit<'_, T> {
             mut seat,
             noted: _,
         } = self;
-        lock.table.shared.fetch_add::<Leave>(&mut seat, 1, 1);
-        lock.table.shared.wake_all(1);
+        let served = lock.table.shared.fetch_add::<Leave>(&mut seat, 1, 1);
+        lock.wake(served);
         seat
     }
 }
