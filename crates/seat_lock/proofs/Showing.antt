@@ -1,5 +1,5 @@
 -- What the public words say of views, passes and visits.
-use Rattle.std.proofs.Common.{◌≡◌, ℕ, List, [], ◌∷◌, ◌++◌, length, map, All, refl, sym, ap, ◌∙◌, subst, arith}
+use Rattle.std.proofs.Common.{◌≡◌, ℕ, List, [], ◌∷◌, ◌++◌, length, map, All, Some, refl, sym, ap, ◌∙◌, subst, arith}
 use Rattle.std.specs.declared.snapshot.Snapshot.{Snapshot}
 use Rattle.atomic_table.specs.Seated.{TableId}
 use Rattle.atomic_table.specs.declared.shared.Seat.{Seat}
@@ -50,6 +50,10 @@ module _ {T E : Type 0} where
       → w.seat.table_id ≡ v.seat.table_id → w.seat.me.1 ≡ v.seat.me.1 → w.seat.me.0.stage ≡ v.seat.me.0.stage → w.seat.me.0.base ≡ v.seat.me.0.base → length w.seat.me.0.parts ≡ length v.seat.me.0.parts → IsInside w x
   still_inside v w x h lock key here slots stage base parts =
       record { here = here ∙ (h.here ∙ sym lock); holds = ap holding stage ∙ h.holds; slot = slots ∙ h.slot; owned = parts ∙ h.owned; based = (h.based.0, base ∙ h.based.1, h.based.2 ∙ sym key) }
+
+  -- a pass of a lock has the lock's base
+  pub base_known : (z : TableId) (base : T) (p : Seat T (View T E)) → Belongs z base p → (knows p).base ≡ Some base
+  base_known z base p h = ap base_in h.based.1 ∙ ap (λ x. Some x) h.based.2
 
   new_belong : (z : TableId) (b : Snapshot T) (all os : List ℕ) (ps : List (Seat T (View T E))) → AreNew z (founder b all) (all_parts os) ps → All (Belongs z b.value) ps
   new_belong z b all [] [] h = λ k d lt. absurd (omega arith)
