@@ -1,0 +1,12 @@
+pub mod Sums
+pub mod Beginnings
+pub mod Drawing
+pub mod Looking
+pub mod Visiting
+pub mod SplitJoin
+pub mod Gathering
+pub mod Belonging
+pub mod Dealing
+pub mod Showing
+pub mod Apart
+pub mod Popping

@@ -1,0 +1,74 @@
+//! Entering the lock.
+ghost use Rattle.std.specs.Prelude.{◌≡◌, ◌%◌, ◌^◌, ℕ, List, false};
+ghost use Rattle.seat_lock.specs.Story.{meaning};
+ghost use Rattle.seat_lock.specs.Steps.{ticket_of};
+ghost use Rattle.seat_lock.specs.Passes.{Took};
+ghost use Rattle.seat_lock.specs.Words.{IsInside, IsPassOf, CarriesOn, knows, sees, base_of, lock_of, has_noted};
+ghost use Rattle.seat_lock.specs.declared.views.Stage.TheVariants.{Idle, Waiting};
+
+use crate::Storied;
+use crate::locks::{Pass, SeatLock, Visit};
+use crate::plays::{Draw, Look};
+use std::sync::Wait;
+
+impl<T: Storied> SeatLock<T> {
+    // Draws a ticket.
+    fn draw(&self, seat: &mut Pass<T>) -> u64
+        requires pass { IsPassOf self.now seat.old }
+        ensures here { (seat.new.table_id ≡ seat.old.table_id) × (seat.new.me.1 ≡ seat.old.me.1) }
+        ensures ticket { (t : ℕ) × (result ≡ t % 2 ^ 64) × (seat.new.me.0 ≡ record seat.old.me.0 { stage = Waiting t }) }
+    {
+        self.table.shared.fetch_add::<Draw>(seat, 0, 1)
+    }
+
+    // Waits for its turn, and takes the slot.
+    fn wait<R: Wait>(&self, rt: &R, seat: &mut Pass<T>, ticket: u64)
+        requires here { seat.old.table_id ≡ self.now.table.shared.table_id }
+        requires waits { seat.old.me.0.stage ≡ Waiting (ticket_of seat.old.me.0.stage) }
+        requires ticket { ticket ≡ ticket_of seat.old.me.0.stage % 2 ^ 64 }
+        ensures here { seat.new.table_id ≡ seat.old.table_id }
+        ensures took { (x : T) × (l : List T.Entry) × Took (meaning T.story T.stands T.owner T.may_hold) seat.old.me seat.new.me x l }
+    {
+        let shared = &self.table.shared;
+        for _ in rt.forever() {
+            let served = shared.load::<Look>(seat, 1);
+            if served == ticket {
+                return;
+            }
+            shared.park(rt, 1, (served & 0xffff_ffff) as u32);
+        }
+        unreachable!()
+    }
+
+    // Wakes those that wait, after the ticket `served` has left. Where no later ticket was drawn
+    // nobody waits, and who draws one from now on finds it served.
+    pub(crate) fn wake(&self, served: u64) {
+        let shared = &self.table.shared;
+        if shared.peek(0) != served.wrapping_add(1) {
+            shared.wake_all(1);
+        }
+    }
+
+    /// Begins a visit with the pass, and waits until no other pass is inside.
+    ///
+    /// The visit sees a list that begins with all that the pass had seen, and of the pass's owner
+    /// it has just the pass's own entries. Passes enter in the order in which they drew their
+    /// tickets.
+    pub fn enter<R: Wait>(&self, rt: &R, pass: Pass<T>) -> Visit<'_, T>
+        requires pass { IsPassOf self.now pass }
+        ensures lock { lock_of result ≡ self.now }
+        ensures value { (x : T) × IsInside result x × T.stands (base_of self.now) x × (T.story x ≡ (sees result).story) }
+        ensures carries { CarriesOn T.owner (knows pass) (sees result).story }
+        ensures kept { sees result ≡ record (knows pass) { story = (sees result).story } }
+        ensures nothing { has_noted result ≡ false }
+    {
+        let mut seat = pass;
+        let ticket = self.draw(&mut seat);
+        self.wait(rt, &mut seat, ticket);
+        Visit {
+            lock: self,
+            seat,
+            noted: false,
+        }
+    }
+}
