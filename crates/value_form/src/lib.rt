@@ -34,7 +34,6 @@ pub use transcripts::Line;
 pub use values::Value;
 
 #[cfg(test)]
-mod tests;
-
-#[cfg(test)]
 mod operations_tests;
+#[cfg(test)]
+mod tests;
