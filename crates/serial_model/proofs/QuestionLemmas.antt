@@ -77,8 +77,8 @@ module _ {W : Type 0} (A : Answers W) where
     all_walk End st go = refl
     all_walk (Then x part) st go =
         room_walk st.left (line_of x) st _ (begun A x) (λ st'. carry (all_done A part st') (onward go)) (λ left'.
-            begun_walk x (record st { left = left' }) (λ names' left''. all_asked part names' left'' go)
-            ∙ carry-same (begun A x (record st { left = left' })) _ _ (λ st'. all_walk part st' go))
+        begun_walk x (record st { left = left' }) (λ names' left''. all_asked part names' left'' go)
+        ∙ carry-same (begun A x (record st { left = left' })) _ _ (λ st'. all_walk part st' go))
         ∙ sym (carry-then (counted A st.left (line_of x) st (begun A x)) (all_done A part) (onward go))
 
   finished-carry : (o : Outcome W) → carry o (onward (λ names left. Ends ending.Finished)) ≡ finished A o

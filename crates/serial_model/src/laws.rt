@@ -11,8 +11,7 @@ pub fn law_of_questions()
     ensures alone { (script : Block) (m : Objects) → meaning.perform script m ≡ (record { stop = (told (denote script) m).stop; lines = (told (denote script) m).lines; world = left_by (denote script) m }) }
     ensures answered { (script : Block) (ans : List Answer) → IsTalkOf (talked (denote script) ans) (meaning.talk script ans) }
     ensures stops { (t : Tree) (ans : List Answer) → (talked t ans).stop ≡ stop t ans }
-{
-}
+{}
 
 /// The answers that a script has alone give what it does alone; a proper front of them gives a front
 /// of its transcript, and stops at the request of the next line that is no print; and more answers
@@ -22,5 +21,4 @@ pub fn law_of_answers()
     ensures front { (script : Block) (m : Objects) (before rest : List Line) (l : Line) (q : Request) → (meaning.perform script m).lines ≡ before ++ (l ∷ rest) → request_of l ≡ Some q → IsTalkOf (record { lines = before; stop = Asks q }) (meaning.talk script (answers_of before)) }
     ensures fronts { (lines : List Line) (pre post : List Answer) (a : Answer) → answers_of lines ≡ pre ++ (a ∷ post) → (before : List Line) × (l : Line) × (rest : List Line) × (q : Request) × (lines ≡ before ++ (l ∷ rest)) × (request_of l ≡ Some q) × (answers_of before ≡ pre) }
     ensures more { (script : Block) (ans more : List Answer) → IsFrontOf (meaning.talk script ans).lines (meaning.talk script (ans ++ more)).lines }
-{
-}
+{}

@@ -241,7 +241,12 @@ pub fn perform(alloc: Global, script: &Script, map: &ObjectMap) -> Result<Perfor
         objects,
     };
     let ended = all(alloc, script.lines.as_slice(), &mut work)?;
-    let Work { names: _, left: _, lines, objects } = work;
+    let Work {
+        names: _,
+        left: _,
+        lines,
+        objects,
+    } = work;
     let ending = match ended {
         Some(ending) => ending,
         None => Ending::Finished,

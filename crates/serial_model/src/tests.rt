@@ -1,7 +1,9 @@
 use super::*;
 use std::alloc::Global;
 use std::test::*;
-use value_form::{Bytes, Boxed, Expr, FailKind, Infix, Items, Line, ObjectId, Place, Script, Stmt, Value};
+use value_form::{
+    Boxed, Bytes, Expr, FailKind, Infix, Items, Line, ObjectId, Place, Script, Stmt, Value,
+};
 
 fn name(alloc: Global) -> Result<Bytes, Fail> {
     Ok(Bytes::of(b"x".as_slice().to_vec(alloc)?))
@@ -33,7 +35,13 @@ fn a_sum_that_fails(rt: HostRuntime) -> Result<(), Fail> {
         lines: Items::of(lines),
     };
     let done = perform(alloc, &script, &ObjectMap::new(alloc))?;
-    assert!(rt; done.ending == Ending::Failed { line: 4, kind: FailKind::Overflow });
+    assert!(rt;
+        done.ending
+            == Ending::Failed {
+                line: 4,
+                kind: FailKind::Overflow
+            }
+    );
     assert_eq!(rt; done.transcript.as_slice().len(), 2);
     assert!(rt; done.transcript.as_slice()[0] == Line::Wrote(FIRST, Value::Number(1)));
     assert!(rt; done.after.get(SECOND) == Some(&Value::Number(i64::MAX)));
@@ -51,7 +59,14 @@ fn parts(rt: HostRuntime) -> Result<(), Fail> {
     let mut lines = Vec::new(alloc);
     lines.push(Stmt::Repeat(1, Expr::Number(3), Items::of(part), 3))?;
     lines.push(Stmt::If(4, Expr::Number(0), Items::of(Vec::new(alloc)), 4))?;
-    lines.push(Stmt::IfElse(5, Expr::Number(0), Items::of(Vec::new(alloc)), 5, Items::of(second), 7))?;
+    lines.push(Stmt::IfElse(
+        5,
+        Expr::Number(0),
+        Items::of(Vec::new(alloc)),
+        5,
+        Items::of(second),
+        7,
+    ))?;
     lines.push(Stmt::Withdraw(8))?;
     let script = Script {
         lines: Items::of(lines),

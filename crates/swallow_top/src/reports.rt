@@ -3,8 +3,8 @@ ghost use Rattle.std.specs.List.{flat_map};
 ghost use Rattle.value_form.specs.ValueText.{value_text};
 ghost use Rattle.swallow_top.specs.Reports.{object_text, line_text, final_text, head_text, totals_text, text_of};
 
-use std::alloc::{AllocError, Global};
 use serial_model::Performed;
+use std::alloc::{AllocError, Global};
 use value_form::{Line, ObjectId, Value};
 
 // Appends an object.

@@ -40,7 +40,6 @@ pub use value_faults::ValueFault;
 pub use values::Value;
 
 #[cfg(test)]
-mod tests;
-
-#[cfg(test)]
 mod operations_tests;
+#[cfg(test)]
+mod tests;

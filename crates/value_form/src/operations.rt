@@ -72,7 +72,11 @@ fn comparison(operator: Infix, left: &Value, right: &Value) -> Result<Value, Fai
 }
 
 // Two texts, one after the other.
-fn texts_joined(alloc: Global, left: &[u8], right: &[u8]) -> Result<Result<Value, FailKind>, AllocError>
+fn texts_joined(
+    alloc: Global,
+    left: &[u8],
+    right: &[u8],
+) -> Result<Result<Value, FailKind>, AllocError>
     ensures { IfOk result (λ r. r ≡ spec.texts_joined left.now right.now) }
 {
     if left.len() > TEXT_BYTES || right.len() > TEXT_BYTES - left.len() {

@@ -22,5 +22,5 @@ returns-clause-report g c =
     let few : length c.in-Some.plan.act.script.lines ≤ 200 = subst (λ o. IfSome o (λ p. length p.act.script.lines ≤ 200)) c.in-Some.is c.in_ok-plan.ensures.few in
     let read : IfSome (g.I.Source.left c.args.source.now) (λ input. plan_at input ≡ Some c.in-Some.plan) = search rules in
     is_report (g.I.Source.left c.args.source.now) c.in-Some.plan c.in_ok-report.field-0.items read
-        (simple_ends c.in-Some.plan.act.script.lines finite.empty (record { simple = simple; few = few }))
-        (c.in_ok-report.ensures ∙ ap (λ came. text_of c.in-Some.plan.run came.lines came.world) (c.in_ok-act.ensures ∙ ap (perform (block c.in-Some.plan.act.script.lines)) c.new-empty.ensures))
+    (simple_ends c.in-Some.plan.act.script.lines finite.empty (record { simple = simple; few = few }))
+    (c.in_ok-report.ensures ∙ ap (λ came. text_of c.in-Some.plan.run came.lines came.world) (c.in_ok-act.ensures ∙ ap (perform (block c.in-Some.plan.act.script.lines)) c.new-empty.ensures))
