@@ -1,0 +1,4 @@
+mod Pages
+mod Blanks
+mod Disks
+mod MetLemmas

@@ -1,0 +1,6 @@
+pub mod Disk
+pub mod Image
+pub mod Moment
+pub mod Names
+pub mod Pasts
+pub mod Stops
