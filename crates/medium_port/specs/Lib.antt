@@ -1,4 +1,5 @@
 pub mod Disk
+pub mod Files
 pub mod Image
 pub mod Moment
 pub mod Names

@@ -3,12 +3,18 @@
 #![tactic(auto)]
 
 mod events;
+mod file_media;
+mod file_shelves;
 mod healths;
 mod media;
 mod memory_media;
 mod pasts;
+mod shelves;
 mod stops;
 
+pub use file_media::FileMedium;
+pub use file_shelves::{FileShelf, NEW_PAGES};
 pub use media::{Medium, MediumFault};
 pub use memory_media::MemoryMedium;
+pub use shelves::{MediumName, Shelf};
 pub use stops::{Stop, StopAt};
