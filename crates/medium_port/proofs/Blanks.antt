@@ -2,7 +2,7 @@
 use Rattle.std.proofs.Common.{◌≡◌, ⊎_elim, ℕ, ◌+◌, ◌<◌, List, [], ◌∷◌, ◌++◌, length, get_or, refl, sym, ◌∙◌, ap, subst, arith, length-append, zero, suc}
 use Rattle.std.proofs.Math.ListN.{replicate}
 use Rattle.std.proofs.lemmas.Bool.{cases_eq, cases_lt}
-use Rattle.std.proofs.lemmas.List.{get_or_append_left, get_or_push, get_or_past, ext_get_or}
+use Rattle.std.proofs.lemmas.List.{get_or_append_left, get_or_push, get_or_past, ext_get_or, get_or-replicate, length-replicate}
 use Rattle.medium_port.specs.Image.{Image, IsImage, IsBlankImage, byte_of}
 
 -- one page more
@@ -42,3 +42,21 @@ pub zero_get : (n k : ℕ) → get_or (replicate {A = ℕ} n 0) k 0 ≡ 0
 zero_get zero k = refl
 zero_get (suc n) zero = refl
 zero_get (suc n) (suc k) = zero_get n k
+
+-- as many pages of 0
+module _ (n : ℕ) (zeros : List ℕ) (size : length zeros ≡ 4096) (blank : (k : ℕ) → get_or zeros k 0 ≡ 0) where
+  blank_replicate : IsBlankImage (replicate n zeros)
+  blank_replicate page at = ⊎_elim
+      (λ low. ap (λ (l : List ℕ). get_or l at 0) (get_or-replicate n page zeros [] low) ∙ blank at)
+      (λ past. ap (λ (l : List ℕ). get_or l at 0) (get_or_past (replicate n zeros) page [] (omega (arith, past, length-replicate n zeros))))
+      (cases_lt page n)
+
+  image_replicate : IsImage n (replicate n zeros)
+  image_replicate = record {
+    count = length-replicate n zeros;
+    pages = λ page low. ap (λ (l : List ℕ). length l) (get_or-replicate n page zeros [] low) ∙ size;
+    bytes = λ page at. omega (arith, blank_replicate page at);
+  }
+
+  pub blank_is : (image : Image) → IsImage n image → IsBlankImage image → image ≡ replicate n zeros
+  blank_is image is all = same_blank n image (replicate n zeros) is image_replicate all blank_replicate

@@ -2,3 +2,4 @@ mod Pages
 mod Blanks
 mod Disks
 mod MetLemmas
+mod SlotLemmas

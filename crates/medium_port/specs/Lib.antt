@@ -4,4 +4,5 @@ pub mod Image
 pub mod Moment
 pub mod Names
 pub mod Pasts
+pub mod Slots
 pub mod Stops

@@ -1,5 +1,6 @@
 ghost use Rattle.std.specs.Prelude.{◌≡◌, ◌≤◌, [], None, false, IfOk};
-ghost use Rattle.medium_port.specs.Image.{IsBlankImage};
+ghost use Rattle.medium_port.specs.Image.{IsImage, IsBlankImage, Only};
+ghost use Rattle.medium_port.specs.Pasts.{left_now};
 
 use crate::healths::Health;
 use crate::media::{Medium, MediumFault};
@@ -31,8 +32,9 @@ impl MemoryMedium {
         requires some { 1 ≤ pages }
         requires most { pages ≤ 1048576 }
         ensures count { IfOk result (λ m. m.past.count ≡ pages) }
-        ensures blank { IfOk result (λ m. IsBlankImage m.past.held.items) }
-        ensures fresh { IfOk result (λ m. (m.past.first.items ≡ m.past.held.items) × (m.past.events.items ≡ [])) }
+        ensures blank { IfOk result (λ m. IsImage pages m.past.held.items × IsBlankImage m.past.held.items) }
+        ensures only { IfOk result (λ m. Only m.past.held.items (left_now m.past)) }
+        ensures fresh { IfOk result (λ m. m.past.events.items ≡ []) }
         ensures stops { IfOk result (λ m. (m.stops.items ≡ stops.items) × (m.calls ≡ 0) × (m.met ≡ None)) }
         ensures open { IfOk result (λ m. m.health ≡ record { failed = false; faults = 0 }) }
         ensures starved { IfOk result (λ m. m.starved ≡ 0) }
@@ -56,7 +58,7 @@ impl MemoryMedium {
 
 impl Medium for MemoryMedium {
     ghost use Rattle.std.specs.Prelude.{true};
-    ghost use Rattle.medium_port.specs.Pasts.{moment_of, left_now, left_then};
+    ghost use Rattle.medium_port.specs.Pasts.{moment_of, left_then};
     ghost use Rattle.medium_port.specs.Disk.{replay, disk_of, only_last, counts_last, reads_left};
 
     ghost tells = { true };

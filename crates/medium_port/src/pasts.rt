@@ -114,7 +114,7 @@ fn since(events: &[Event], synced: usize) -> &[Event]
     &events[synced..]
 }
 
-fn zero_page() -> [u8; 4096]
+pub fn zero_page() -> [u8; 4096]
     ensures size { length result ≡ 4096 }
     ensures zero { (k : ℕ) → slice_index result k ≡ 0 }
 {
@@ -139,7 +139,8 @@ impl Past {
     pub fn new(alloc: Global, count: u32) -> Result<Past, AllocError>
         ensures count { IfOk result (λ p. p.count ≡ count) }
         ensures blank { IfOk result (λ p. IsBlankImage p.held.items) }
-        ensures fresh { IfOk result (λ p. (p.first.items ≡ p.held.items) × (p.events.items ≡ [])) }
+        ensures fresh { IfOk result (λ p. p.events.items ≡ []) }
+        ensures only { IfOk result (λ p. Only p.held.items (left_now p)) }
     {
         let first = blank_pages(alloc, count)?;
         let held = blank_pages(alloc, count)?;
