@@ -21,3 +21,6 @@ pub use memory_media::MemoryMedium;
 pub use memory_shelves::MemoryShelf;
 pub use shelves::{MediumName, Shelf};
 pub use stops::{Stop, StopAt};
+
+#[cfg(test)]
+mod tests;

@@ -4,3 +4,6 @@
 mod pages;
 
 pub use pages::{PageState, look, put};
+
+#[cfg(test)]
+mod tests;
