@@ -1,6 +1,10 @@
-ghost use Rattle.std.specs.Prelude.{◌≡◌, ◌≤◌, [], None, false, IfOk};
-ghost use Rattle.medium_port.specs.Image.{IsImage, IsBlankImage, Only};
-ghost use Rattle.medium_port.specs.Pasts.{left_now};
+ghost use Rattle.std.specs.Prelude.{◌≡◌, ◌+◌, ◌<◌, ◌≤◌, ◌⊎◌, [], None, Some, MatchOption, true, false, length, drop, is_err, is_some, IsTrue, IsErr, IfOk, OnOk, OnErr};
+ghost use Rattle.stream_port.specs.Causes.{HasCause, Rose, next_count};
+ghost use Rattle.medium_port.specs.Image.{IsImage, IsBlankImage, page_of, Written, Torn, Follows, Only, NoMore};
+ghost use Rattle.medium_port.specs.Moment.{LeavesOnly, EitherSide};
+ghost use Rattle.medium_port.specs.Stops.{first_met, without_met};
+ghost use Rattle.medium_port.specs.Disk.{after_stop, spans_of};
+ghost use Rattle.medium_port.specs.Pasts.{moment_of, left_now, left_then};
 
 use crate::healths::Health;
 use crate::media::{Medium, MediumFault};
@@ -57,8 +61,6 @@ impl MemoryMedium {
 }
 
 impl Medium for MemoryMedium {
-    ghost use Rattle.std.specs.Prelude.{true};
-    ghost use Rattle.medium_port.specs.Pasts.{moment_of, left_then};
     ghost use Rattle.medium_port.specs.Disk.{replay, disk_of, only_last, counts_last, reads_left};
 
     ghost tells = { true };
@@ -91,7 +93,25 @@ impl Medium for MemoryMedium {
         self.past.count
     }
 
-    fn read(&mut self, page: u32, into: &mut [u8; 4096]) -> Result<(), MediumFault> {
+    fn read(&mut self, page: u32, into: &mut [u8; 4096]) -> Result<(), MediumFault>
+        requires page { page < self.old.past.count }
+        requires open { self.old.health.failed ≡ false }
+        ensures found { IsTrue true → OnOk result (into.new ≡ page_of (self.old.past.held.items) page) }
+        ensures reads { IsTrue true → self.new.past.held.items ≡ self.old.past.held.items }
+        ensures crash { IsTrue true → NoMore (left_now self.old.past) (left_now self.new.past) }
+        ensures time { IsTrue true → LeavesOnly (λ m. moment_of m.past) (λ m. left_then m.past) self.old self.new (EitherSide (left_now self.old.past) (left_now self.new.past)) }
+        ensures last { OnOk result (self.new.last ≡ Some (page, into.new)) }
+        ensures last_err { OnErr result (self.new.last ≡ self.old.last) }
+        ensures size { self.new.past.count ≡ self.old.past.count }
+        ensures state { self.new.health.failed ≡ is_err result }
+        ensures cause { HasCause (self.old.health.faults) (self.new.health.faults) result }
+        // A call fails exactly where it meets a stop or memory is wanting, and each stop is used once.
+        ensures stopped { IsTrue (is_some (first_met (next_count self.old.calls) None self.old.stops.items)) → IsErr result }
+        ensures failed { IsErr result → IsTrue (is_some (first_met (next_count self.old.calls) None self.old.stops.items)) ⊎ Rose self.old.starved self.new.starved }
+        ensures used { self.new.stops.items ≡ without_met (next_count self.old.calls) None self.old.stops.items }
+        ensures waits { MatchOption (first_met (next_count self.old.calls) None self.old.stops.items) (self.new.met ≡ self.old.met) (λ stop. self.new.met ≡ Some stop) }
+        ensures counted { self.new.calls ≡ next_count self.old.calls }
+    {
         self.calls = self.calls.saturating_add(1);
         if let Some(stop) = take_met(&mut self.stops, self.calls, None) {
             self.met = Some(stop);
@@ -102,7 +122,24 @@ impl Medium for MemoryMedium {
         Ok(())
     }
 
-    fn write(&mut self, page: u32, at: u16, bytes: &[u8]) -> Result<(), MediumFault> {
+    fn write(&mut self, page: u32, at: u16, bytes: &[u8]) -> Result<(), MediumFault>
+        requires page { page < self.old.past.count }
+        requires range { at + length bytes.now ≤ 4096 }
+        requires open { self.old.health.failed ≡ false }
+        ensures written { IsTrue true → OnOk result (Written page at bytes.now (self.old.past.held.items) (self.new.past.held.items)) }
+        ensures crash { IsTrue true → Follows (Torn page at (length bytes.now)) (left_now self.old.past) (left_now self.new.past) }
+        ensures time { IsTrue true → LeavesOnly (λ m. moment_of m.past) (λ m. left_then m.past) self.old self.new (EitherSide (left_now self.old.past) (left_now self.new.past)) }
+        ensures last { self.new.last ≡ self.old.last }
+        ensures size { self.new.past.count ≡ self.old.past.count }
+        ensures state { self.new.health.failed ≡ is_err result }
+        ensures cause { HasCause (self.old.health.faults) (self.new.health.faults) result }
+        // A call fails exactly where it meets a stop or memory is wanting, and each stop is used once.
+        ensures stopped { IsTrue (is_some (first_met (next_count self.old.calls) (Some (page, at)) self.old.stops.items)) → IsErr result }
+        ensures failed { IsErr result → IsTrue (is_some (first_met (next_count self.old.calls) (Some (page, at)) self.old.stops.items)) ⊎ Rose self.old.starved self.new.starved }
+        ensures used { self.new.stops.items ≡ without_met (next_count self.old.calls) (Some (page, at)) self.old.stops.items }
+        ensures waits { MatchOption (first_met (next_count self.old.calls) (Some (page, at)) self.old.stops.items) (self.new.met ≡ self.old.met) (λ stop. self.new.met ≡ Some stop) }
+        ensures counted { self.new.calls ≡ next_count self.old.calls }
+    {
         self.calls = self.calls.saturating_add(1);
         let met = take_met(&mut self.stops, self.calls, Some((page, at)));
         if met.is_some() {
@@ -118,7 +155,23 @@ impl Medium for MemoryMedium {
         Ok(())
     }
 
-    fn sync(&mut self) -> Result<(), MediumFault> {
+    fn sync(&mut self) -> Result<(), MediumFault>
+        requires open { self.old.health.failed ≡ false }
+        ensures durable { IsTrue true → OnOk result (Only (self.old.past.held.items) (left_now self.new.past)) }
+        ensures reads { IsTrue true → self.new.past.held.items ≡ self.old.past.held.items }
+        ensures crash { IsTrue true → NoMore (left_now self.old.past) (left_now self.new.past) }
+        ensures time { IsTrue true → LeavesOnly (λ m. moment_of m.past) (λ m. left_then m.past) self.old self.new (EitherSide (left_now self.old.past) (left_now self.new.past)) }
+        ensures last { self.new.last ≡ self.old.last }
+        ensures size { self.new.past.count ≡ self.old.past.count }
+        ensures state { self.new.health.failed ≡ is_err result }
+        ensures cause { HasCause (self.old.health.faults) (self.new.health.faults) result }
+        // A call fails exactly where it meets a stop or memory is wanting, and each stop is used once.
+        ensures stopped { IsTrue (is_some (first_met (next_count self.old.calls) None self.old.stops.items)) → IsErr result }
+        ensures failed { IsErr result → IsTrue (is_some (first_met (next_count self.old.calls) None self.old.stops.items)) ⊎ Rose self.old.starved self.new.starved }
+        ensures used { self.new.stops.items ≡ without_met (next_count self.old.calls) None self.old.stops.items }
+        ensures waits { MatchOption (first_met (next_count self.old.calls) None self.old.stops.items) (self.new.met ≡ self.old.met) (λ stop. self.new.met ≡ Some stop) }
+        ensures counted { self.new.calls ≡ next_count self.old.calls }
+    {
         self.calls = self.calls.saturating_add(1);
         if let Some(stop) = take_met(&mut self.stops, self.calls, None) {
             self.met = Some(stop);
@@ -131,7 +184,22 @@ impl Medium for MemoryMedium {
         Ok(())
     }
 
-    fn reopen(&mut self) -> Result<(), MediumFault> {
+    fn reopen(&mut self) -> Result<(), MediumFault>
+        ensures one { IsTrue true → OnOk result (left_now self.old.past (self.new.past.held.items)) }
+        ensures crash { IsTrue true → NoMore (left_now self.old.past) (left_now self.new.past) }
+        ensures time { IsTrue true → LeavesOnly (λ m. moment_of m.past) (λ m. left_then m.past) self.old self.new (EitherSide (left_now self.old.past) (left_now self.new.past)) }
+        ensures last { self.new.last ≡ self.old.last }
+        ensures size { self.new.past.count ≡ self.old.past.count }
+        ensures state { self.new.health.failed ≡ is_err result }
+        ensures cause { HasCause (self.old.health.faults) (self.new.health.faults) result }
+        // A call fails exactly where it meets a stop or memory is wanting, and each stop is used once.
+        ensures stopped { IsTrue (is_some (first_met (next_count self.old.calls) None self.old.stops.items)) → IsErr result }
+        ensures failed { IsErr result → IsTrue (is_some (first_met (next_count self.old.calls) None self.old.stops.items)) ⊎ Rose self.old.starved self.new.starved }
+        ensures used { self.new.stops.items ≡ without_met (next_count self.old.calls) None self.old.stops.items }
+        // The stop that was waiting has torn what was written and not synced.
+        ensures torn { OnOk result (self.new.past.held.items ≡ after_stop self.old.met (spans_of (drop self.old.past.synced self.old.past.events.items)) self.old.past.held.items) }
+        ensures counted { self.new.calls ≡ next_count self.old.calls }
+    {
         self.calls = self.calls.saturating_add(1);
         if let Some(stop) = take_met(&mut self.stops, self.calls, None) {
             self.met = Some(stop);
