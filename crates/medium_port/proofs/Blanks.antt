@@ -16,9 +16,9 @@ image_push n image page is size small = record {
   bytes = λ k at. ⊎_elim
       (λ front. subst (λ (l : List ℕ). get_or l at 0 < 256) (sym (get_or_append_left image (page ∷ []) [] k (omega (arith, front, is.count)))) (is.bytes k at))
       (λ rest. ⊎_elim
-          (λ last. subst (λ (l : List ℕ). get_or l at 0 < 256) (sym (ap (λ (j : ℕ). get_or (image ++ page ∷ []) j []) last ∙ get_or_push image page [] n is.count)) (small at))
-          (λ other. subst (λ (l : List ℕ). get_or l at 0 < 256) (sym (get_or_past (image ++ page ∷ []) k [] (omega (arith, length-append image (page ∷ []), is.count, rest, other)))) (omega arith))
-          (cases_eq k n))
+      (λ last. subst (λ (l : List ℕ). get_or l at 0 < 256) (sym (ap (λ (j : ℕ). get_or (image ++ page ∷ []) j []) last ∙ get_or_push image page [] n is.count)) (small at))
+      (λ other. subst (λ (l : List ℕ). get_or l at 0 < 256) (sym (get_or_past (image ++ page ∷ []) k [] (omega (arith, length-append image (page ∷ []), is.count, rest, other)))) (omega arith))
+      (cases_eq k n))
       (cases_lt k n);
 }
 
@@ -32,8 +32,8 @@ blank_push (x ∷ image) page old new (suc k) at = blank_push image page (λ j a
 pub same_image : (n : ℕ) (a b : Image) → IsImage n a → IsImage n b → ((page at : ℕ) → byte_of a page at ≡ byte_of b page at) → a ≡ b
 same_image n a b is_a is_b same =
     ext_get_or [] a b (is_a.count ∙ sym is_b.count) (λ page within.
-        let low : page < n = omega (arith, within, is_a.count) in
-        ext_get_or 0 (get_or a page []) (get_or b page []) (is_a.pages page low ∙ sym (is_b.pages page low)) (λ at inside. same page at))
+    let low : page < n = omega (arith, within, is_a.count) in
+    ext_get_or 0 (get_or a page []) (get_or b page []) (is_a.pages page low ∙ sym (is_b.pages page low)) (λ at inside. same page at))
 
 pub same_blank : (n : ℕ) (a b : Image) → IsImage n a → IsImage n b → IsBlankImage a → IsBlankImage b → a ≡ b
 same_blank n a b is_a is_b blank_a blank_b = same_image n a b is_a is_b (λ page at. blank_a page at ∙ sym (blank_b page at))

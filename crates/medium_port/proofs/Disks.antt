@@ -1,15 +1,15 @@
 -- What a medium in memory may leave after one more event.
-use Rattle.std.proofs.Common.{◌≡◌, ◌⊎◌, inl, inr, ⊎_elim, ℕ, ◌+◌, ◌-◌, ◌≤◌, ◌<◌, List, [], ◌∷◌, ◌++◌, length, take, drop, get_or, refl, sym, ◌∙◌, ap, subst, arith, length-append, length-take, length-drop, slice_set, zero, suc}
+use Rattle.std.proofs.Common.{◌≡◌, ◌⊎◌, inl, inr, ⊎_elim, ℕ, ◌+◌, ◌-◌, ◌≤◌, ◌<◌, List, [], ◌∷◌, ◌++◌, length, take, drop, get_or, refl, sym, ◌∙◌, ap, subst, arith, length-append, length-take, length-drop, zero, suc}
 use Rattle.std.specs.Prelude.{Option, Some, None, IfSome}
 use Rattle.std.proofs.Math.ListN.{replicate}
 use Rattle.std.proofs.lemmas.Bool.{cases_eq, cases_lt}
-use Rattle.std.proofs.lemmas.List.{set-set, set-get_or, get_or-take, get_or-drop, length-replicate, get_or_past, take_all, take-append-le, drop-append-le}
+use Rattle.std.proofs.lemmas.List.{set-set, set-get_or, get_or-take, get_or-drop, length-replicate, take_all, take-append-le, drop-append-le}
 use Rattle.medium_port.specs.Image.{Image, IsImage, page_of, byte_of, splice, put_bytes, Torn}
 use Rattle.medium_port.specs.declared.events.Event.{Event}
 use Rattle.medium_port.specs.declared.events.Event.TheVariants.{Wrote, Synced, Reopened}
 use Rattle.medium_port.specs.declared.stops.Stop.{Stop}
 use Rattle.medium_port.specs.Stops.{torn_bytes}
-use Rattle.medium_port.specs.Disk.{Span, OutsideSpan, Outside, Among, spans_of, damaged, Disk, after, after_stop, replay, MayLeave, SpanFits, SpansFit, IsSound, reads_left, LeftSince, only_last}
+use Rattle.medium_port.specs.Disk.{Span, OutsideSpan, Outside, Among, spans_of, damaged, Disk, after, replay, MayLeave, SpanFits, SpansFit, IsSound, reads_left, LeftSince, only_last}
 use Rattle.medium_port.proofs.Pages.{small_append, small_take, small_drop, small_replicate, splice_front, splice_back, splice_size, page_put, image_put, byte_outside, byte_inside}
 use Rattle.medium_port.proofs.Blanks.{same_image}
 
@@ -65,7 +65,7 @@ module _ (n : ℕ) (stop : Stop) (low : stop.fill < 256) where
   damaged_image (s ∷ spans) image fits is =
       let fit = fits s (inl refl) in
       damaged_image spans (put_bytes s.page s.at (torn_bytes stop s.bytes) image) (λ x among. fits x (inr among))
-          (image_put n s.page s.at (torn_bytes stop s.bytes) fit.page (omega (arith, fit.range, torn_size stop s.bytes)) image is (torn_small stop s.bytes low fit.bytes))
+      (image_put n s.page s.at (torn_bytes stop s.bytes) fit.page (omega (arith, fit.range, torn_size stop s.bytes)) image is (torn_small stop s.bytes low fit.bytes))
 
   pub damaged_kept : (base : Image) (all spans : List Span) (image : Image) → SpansFit n spans → IsImage n image → ((p k : ℕ) → Outside all p k → Outside spans p k) → ((p k : ℕ) → Outside all p k → byte_of image p k ≡ byte_of base p k)
       → (p k : ℕ) → Outside all p k → byte_of (damaged stop spans image) p k ≡ byte_of base p k
@@ -74,11 +74,11 @@ module _ (n : ℕ) (stop : Stop) (low : stop.fill < 256) where
       let fit = fits s (inl refl) in
       let range : s.at + length (torn_bytes stop s.bytes) ≤ 4096 = omega (arith, fit.range, torn_size stop s.bytes) in
       damaged_kept base all spans (put_bytes s.page s.at (torn_bytes stop s.bytes) image) (λ x among. fits x (inr among))
-          (image_put n s.page s.at (torn_bytes stop s.bytes) fit.page range image is (torn_small stop s.bytes low fit.bytes))
-          (λ p k o. (among p k o).1)
-          (λ p k o.
-            byte_outside n s.page s.at (torn_bytes stop s.bytes) fit.page range image is p k (λ same. ⊎_elim (λ front. inl front) (λ back. inr (omega (arith, back, torn_size stop s.bytes))) ((among p k o).0 same))
-            ∙ kept p k o)
+      (image_put n s.page s.at (torn_bytes stop s.bytes) fit.page range image is (torn_small stop s.bytes low fit.bytes))
+      (λ p k o. (among p k o).1)
+      (λ p k o.
+      byte_outside n s.page s.at (torn_bytes stop s.bytes) fit.page range image is p k (λ same. ⊎_elim (λ front. inl front) (λ back. inr (omega (arith, back, torn_size stop s.bytes))) ((among p k o).0 same))
+      ∙ kept p k o)
 
 -- soundness is kept
 pub sound_write : (n : ℕ) (d : Disk) (page at : ℕ) (bytes : List ℕ) → IsSound n d → SpanFits n (record { page = page; at = at; bytes = bytes }) → IsSound n (after d (Wrote page at bytes))
@@ -113,25 +113,24 @@ write_crash n d page at bytes c sound within range left =
     let fits : at + length old ≤ 4096 = omega (arith, size, range) in
     let span : Span = record { page = page; at = at; bytes = bytes } in
     let inside : at + length old ≤ length (page_of c page) = omega (arith, fits, left.shape.pages page within) in
-    let there = page_put n page at old within fits c left.shape in
-    (
+    let there = page_put n page at old within fits c left.shape in (
       put_bytes page at old c,
       record {
         shape = image_put n page at old within fits c left.shape (small_take (length bytes) (drop at base) (small_drop at base (sound.base.bytes page)));
         kept = λ p k o. ⊎_elim
             (λ outside.
-              byte_outside n page at old within fits c left.shape p k (λ same. ⊎_elim (λ front. inl front) (λ back. inr (omega (arith, back, size))) (outside same))
-              ∙ left.kept p k (outside_push d.unsynced span p k o outside))
+            byte_outside n page at old within fits c left.shape p k (λ same. ⊎_elim (λ front. inl front) (λ back. inr (omega (arith, back, size))) (outside same))
+            ∙ left.kept p k (outside_push d.unsynced span p k o outside))
             (λ hit.
-              let low : at ≤ k = hit.1 in
-              let high : k < at + length bytes = hit.2 in
-              let sum : at + (k - at) ≡ k = omega (arith, low) in
-              ap (λ (j : ℕ). byte_of (put_bytes page at old c) j k) hit.0
-              ∙ byte_inside n page at old within fits c left.shape k low (omega (arith, high, size))
-              ∙ get_or-take (length bytes) (drop at base) (k - at) 0 (omega (arith, low, high))
-              ∙ get_or-drop at base (k - at) 0
-              ∙ ap (λ (j : ℕ). get_or base j 0) sum
-              ∙ ap (λ (j : ℕ). byte_of d.base j k) (sym hit.0))
+            let low : at ≤ k = hit.1 in
+            let high : k < at + length bytes = hit.2 in
+            let sum : at + (k - at) ≡ k = omega (arith, low) in
+            ap (λ (j : ℕ). byte_of (put_bytes page at old c) j k) hit.0
+            ∙ byte_inside n page at old within fits c left.shape k low (omega (arith, high, size))
+            ∙ get_or-take (length bytes) (drop at base) (k - at) 0 (omega (arith, low, high))
+            ∙ get_or-drop at base (k - at) 0
+            ∙ ap (λ (j : ℕ). get_or base j 0) sum
+            ∙ ap (λ (j : ℕ). byte_of d.base j k) (sym hit.0))
             (span_cases span p k);
       },
       record {
@@ -168,14 +167,14 @@ module _ (n : ℕ) (first : Disk) (es es' : List Event) (e : Event) (pushed : es
       let since = left.1 in
       let until = left.2 in
       ⊎_elim
-          (λ front.
-            let low : k ≤ length es = omega (arith, front) in
-            let same : take k es' ≡ take k es = ap (λ (l : List Event). take k l) pushed ∙ take-append-le k es (e ∷ []) low in
-            inl (k, since, low, subst (λ (l : List Event). MayLeave n (replay first l) c) same left.3))
-          (λ back.
-            let high : length es' ≤ k = omega (arith, back, more) in
-            inr (inr (subst (λ (l : List Event). MayLeave n (replay first l) c) (take_all k es' high) left.3)))
-          (cases_lt k (length es + 1))
+      (λ front.
+      let low : k ≤ length es = omega (arith, front) in
+      let same : take k es' ≡ take k es = ap (λ (l : List Event). take k l) pushed ∙ take-append-le k es (e ∷ []) low in
+      inl (k, since, low, subst (λ (l : List Event). MayLeave n (replay first l) c) same left.3))
+      (λ back.
+      let high : length es' ≤ k = omega (arith, back, more) in
+      inr (inr (subst (λ (l : List Event). MayLeave n (replay first l) c) (take_all k es' high) left.3)))
+      (cases_lt k (length es + 1))
 
   pub each_push : (c : Image) → LeftSince n first es' (length es) c → MayLeave n (replay first es) c ⊎ MayLeave n (replay first es') c
   each_push c left = ⊎_elim (λ was. inl (only_last n first es c was)) (λ now. now) (before_push (length es) c (omega arith) left)

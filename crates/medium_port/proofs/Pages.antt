@@ -1,10 +1,9 @@
 -- What a page and an image are after bytes were put in them.
-use Rattle.std.proofs.Common.{◌≡◌, ◌⊎◌, inl, inr, ⊎_elim, ℕ, ◌+◌, ◌-◌, ◌≤◌, ◌<◌, List, [], ◌∷◌, ◌++◌, length, take, drop, get_or, refl, sym, ◌∙◌, ap, subst, arith, append_assoc, length-append, length-take, length-drop, slice_set, zero, suc}
+use Rattle.std.proofs.Common.{◌≡◌, ◌⊎◌, ⊎_elim, ℕ, ◌+◌, ◌-◌, ◌≤◌, ◌<◌, List, [], ◌∷◌, ◌++◌, length, take, drop, get_or, sym, ◌∙◌, ap, subst, arith, append_assoc, length-append, length-take, length-drop, slice_set, zero, suc}
 use Rattle.std.proofs.Math.ListN.{replicate}
 use Rattle.std.proofs.lemmas.Bool.{cases_eq, cases_lt}
 use Rattle.std.proofs.lemmas.List.{take_at, drop_at, length-set, get_or-set_same, get_or-set_other, set_past, get_or_append_left, get_or-append_right, get_or-take, get_or-drop}
 use Rattle.medium_port.specs.Image.{Image, IsImage, page_of, byte_of, splice, put_bytes}
-use Rattle.medium_port.specs.Disk.{Span, OutsideSpan}
 
 -- lists of bytes
 pub small_append : (xs ys : List ℕ) → ((k : ℕ) → get_or xs k 0 < 256) → ((k : ℕ) → get_or ys k 0 < 256) → (k : ℕ) → get_or (xs ++ ys) k 0 < 256
@@ -46,7 +45,7 @@ module _ (page : List ℕ) (at : ℕ) (bytes : List ℕ) (fits : at + length byt
   splice_outside k side = ⊎_elim
       (λ front. get_or_append_left (take at page ++ bytes) (drop (at + length bytes) page) 0 k (omega (arith, front, long)) ∙ get_or_append_left (take at page) bytes 0 k (omega (arith, front, front_size)) ∙ get_or-take at page k 0 front)
       (λ back. let sum : at + length bytes + (k - (at + length bytes)) ≡ k = omega (arith, back) in
-        get_or-append_right (take at page ++ bytes) (drop (at + length bytes) page) (at + length bytes) k 0 long back ∙ get_or-drop (at + length bytes) page (k - (at + length bytes)) 0 ∙ ap (λ (j : ℕ). get_or page j 0) sum)
+      get_or-append_right (take at page ++ bytes) (drop (at + length bytes) page) (at + length bytes) k 0 long back ∙ get_or-drop (at + length bytes) page (k - (at + length bytes)) 0 ∙ ap (λ (j : ℕ). get_or page j 0) sum)
       side
 
   pub splice_inside : (k : ℕ) → at ≤ k → k < at + length bytes → get_or (splice page at bytes) k 0 ≡ get_or bytes (k - at) 0
@@ -64,8 +63,8 @@ image_set n page image bytes is size small = record {
       (λ other. ap length (get_or-set_other image page p bytes [] other) ∙ is.pages p within) (cases_eq p page);
   bytes = λ p at. ⊎_elim
       (λ same. ⊎_elim
-          (λ inside. subst (λ (l : List ℕ). get_or l at 0 < 256) (sym (ap (λ (k : ℕ). get_or (slice_set image page bytes) k []) same ∙ get_or-set_same image page bytes [] inside)) (small at))
-          (λ past. subst (λ (l : Image). get_or (get_or l p []) at 0 < 256) (sym (set_past image page bytes past)) (is.bytes p at)) (cases_lt page (length image)))
+      (λ inside. subst (λ (l : List ℕ). get_or l at 0 < 256) (sym (ap (λ (k : ℕ). get_or (slice_set image page bytes) k []) same ∙ get_or-set_same image page bytes [] inside)) (small at))
+      (λ past. subst (λ (l : Image). get_or (get_or l p []) at 0 < 256) (sym (set_past image page bytes past)) (is.bytes p at)) (cases_lt page (length image)))
       (λ other. subst (λ (l : List ℕ). get_or l at 0 < 256) (sym (get_or-set_other image page p bytes [] other)) (is.bytes p at)) (cases_eq p page);
 }
 
@@ -82,10 +81,10 @@ module _ (n page at : ℕ) (bytes : List ℕ) (within : page < n) (range : at + 
   pub byte_outside : (p k : ℕ) → (p ≡ page → (k < at) ⊎ (at + length bytes ≤ k)) → byte_of (put_bytes page at bytes image) p k ≡ byte_of image p k
   byte_outside p k outside = ⊎_elim
       (λ same.
-        ap (λ (j : ℕ). byte_of (put_bytes page at bytes image) j k) same
-        ∙ ap (λ (l : List ℕ). get_or l k 0) page_put
-        ∙ splice_outside (page_of image page) at bytes fits k (outside same)
-        ∙ ap (λ (j : ℕ). byte_of image j k) (sym same))
+      ap (λ (j : ℕ). byte_of (put_bytes page at bytes image) j k) same
+      ∙ ap (λ (l : List ℕ). get_or l k 0) page_put
+      ∙ splice_outside (page_of image page) at bytes fits k (outside same)
+      ∙ ap (λ (j : ℕ). byte_of image j k) (sym same))
       (λ other. ap (λ (l : List ℕ). get_or l k 0) (get_or-set_other image page p (splice (page_of image page) at bytes) [] other))
       (cases_eq p page)
 

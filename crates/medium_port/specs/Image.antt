@@ -1,5 +1,5 @@
 -- What a medium's pages may hold.
-use Rattle.std.specs.Prelude.{◌≡◌, ℕ, ◌+◌, ◌≤◌, ◌<◌, List, [], ◌++◌, length, take, drop, slice_set, slice_index_or}
+use Rattle.std.specs.Prelude.{◌≡◌, ℕ, ◌+◌, ◌<◌, List, [], ◌++◌, length, take, drop, slice_set, slice_index_or}
 
 -- the pages, each a list of its bytes
 abbrev pub Image : Type 0

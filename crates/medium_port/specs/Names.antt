@@ -1,5 +1,5 @@
 -- What a shelf has under a name.
-use Rattle.std.specs.Prelude.{◌≡◌, ℕ}
+use Rattle.std.specs.Prelude.{◌≡◌}
 use Rattle.medium_port.specs.Image.{Image}
 
 -- the same is read of both, and a crash may leave the same images of both

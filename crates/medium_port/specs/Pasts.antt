@@ -1,5 +1,5 @@
 -- What the past of a medium in memory says of crashes.
-use Rattle.std.specs.Prelude.{ℕ, ◌⊎◌, ◌≤◌, List, length}
+use Rattle.std.specs.Prelude.{ℕ, length}
 use Rattle.medium_port.specs.Image.{Image}
 use Rattle.medium_port.specs.Disk.{replay, disk_of, MayLeave, LeftSince}
 use Rattle.medium_port.specs.declared.pasts.Past.{Past}

@@ -71,12 +71,22 @@ fn measure(files: &impl Files<File = File>, folder: &str, file: &File) -> io::Re
     Ok(NEW_PAGES as u64)
 }
 
-fn open_medium(alloc: Global, files: &impl Files<File = File>, folder: &str, name: MediumName) -> io::Result<FileMedium>
+fn open_medium(
+    alloc: Global,
+    files: &impl Files<File = File>,
+    folder: &str,
+    name: MediumName,
+) -> io::Result<FileMedium>
     ensures { IfOk result (λ m. IsNewMedium m) }
 {
     make_folder(files, folder)?;
-    let Ok(path) = format!(in alloc; "{}/{}-{}-{}", folder, kind_word(name.kind), name.number, name.volume)
-    else {
+    let Ok(path) = format!(in alloc;
+        "{}/{}-{}-{}",
+        folder,
+        kind_word(name.kind),
+        name.number,
+        name.volume
+    ) else {
         return Err(ErrorKind::OutOfMemory.into());
     };
     let file = File::options()

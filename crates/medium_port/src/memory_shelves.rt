@@ -54,7 +54,13 @@ impl MemoryShelf {
 
     /// Puts a medium to be handed out under a name, also where that name was taken. After a refusal
     /// the shelf is as before.
-    pub fn put(&mut self, kind: NodeKind, number: u8, volume: u32, medium: MemoryMedium) -> Result<(), (MemoryMedium, AllocError)>
+    pub fn put(
+        &mut self,
+        kind: NodeKind,
+        number: u8,
+        volume: u32,
+        medium: MemoryMedium,
+    ) -> Result<(), (MemoryMedium, AllocError)>
         requires { medium.health.failed ≡ false }
         ensures now { OnOk result (NowHas (record { kind = kind; number = number; volume = volume }) (Some medium) self.old.slots.items self.new.slots.items) }
         ensures err { IfErr result (λ e. e.0 ≡ medium) }
@@ -90,7 +96,12 @@ impl MemoryShelf {
 }
 
 // A blank medium, whose name is now taken, where there was memory for it.
-fn make_blank(alloc: Global, pages: u32, slots: &mut Vec<Slot>, name: MediumName) -> Option<MemoryMedium>
+fn make_blank(
+    alloc: Global,
+    pages: u32,
+    slots: &mut Vec<Slot>,
+    name: MediumName,
+) -> Option<MemoryMedium>
     requires some { 1 ≤ pages }
     requires most { pages ≤ 1048576 }
     requires free { slot_of slots.old.items name ≡ None }
@@ -121,7 +132,12 @@ impl Shelf for MemoryShelf {
 
     ghost faults = { λ s. s.faults };
 
-    fn take(&mut self, kind: NodeKind, number: u8, volume: u32) -> Result<MemoryMedium, MediumFault> {
+    fn take(
+        &mut self,
+        kind: NodeKind,
+        number: u8,
+        volume: u32,
+    ) -> Result<MemoryMedium, MediumFault> {
         let name = MediumName {
             kind,
             number,
@@ -135,7 +151,12 @@ impl Shelf for MemoryShelf {
                     }
                 }
                 None => {
-                    if let Some(medium) = make_blank(self.alloc, self.pages, &mut self.slots, name) {
+                    if let Some(medium) = make_blank(
+                        self.alloc,
+                        self.pages,
+                        &mut self.slots,
+                        name,
+                    ) {
                         return Ok(medium);
                     }
                     self.starved = self.starved.saturating_add(1);

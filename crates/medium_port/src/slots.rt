@@ -32,7 +32,12 @@ pub fn place_of(slots: &[Slot], name: MediumName) -> Option<usize>
 }
 
 // Puts something in the place of the name, and gives what stood there.
-pub fn swap(slots: &mut Vec<Slot>, index: usize, name: MediumName, held: Option<MemoryMedium>) -> Option<MemoryMedium>
+pub fn swap(
+    slots: &mut Vec<Slot>,
+    index: usize,
+    name: MediumName,
+    held: Option<MemoryMedium>,
+) -> Option<MemoryMedium>
     requires { IsPlace slots.old.items name index }
     ensures was { slot_of slots.old.items name ≡ Some result }
     ensures now { NowHas name held slots.old.items slots.new.items }
@@ -41,7 +46,11 @@ pub fn swap(slots: &mut Vec<Slot>, index: usize, name: MediumName, held: Option<
 }
 
 // Adds a name, or gives back what it was to have.
-pub fn add(slots: &mut Vec<Slot>, name: MediumName, held: Option<MemoryMedium>) -> Result<(), Option<MemoryMedium>>
+pub fn add(
+    slots: &mut Vec<Slot>,
+    name: MediumName,
+    held: Option<MemoryMedium>,
+) -> Result<(), Option<MemoryMedium>>
     requires { slot_of slots.old.items name ≡ None }
     ensures now { OnOk result (NowHas name held slots.old.items slots.new.items) }
     ensures err { IfErr result (λ back. (back ≡ held) × (slots.new.items ≡ slots.old.items)) }

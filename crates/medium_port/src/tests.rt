@@ -3,9 +3,8 @@ ghost use Rattle.std.specs.Prelude.{◌≡◌, false};
 use super::*;
 use pseudo_time::NodeKind;
 use std::alloc::Global;
-use std::fs;
-use std::process;
 use std::test::*;
+use std::{fs, process};
 
 // What bytes 10 to 12 of page 0 and byte 0 of page 1 read after a stop and a reopening. Before the
 // stop 1, 2, 3 was written at 10 of page 0 and synced, then 7, 8 at 11, and then 9 at 0 of page 1.
@@ -28,6 +27,15 @@ fn after_stop(alloc: Global, stop: Stop) -> Result<[u8; 4], MediumFault> {
         }
     }
     medium.reopen()?;
+    left(&mut medium)
+}
+
+// These bytes. Each stop is used once, so the write at 0 of page 1 doesn't fail again.
+fn left<M: Medium>(medium: &mut M) -> Result<[u8; 4], MediumFault>
+    requires open { M.is_failed medium.old ≡ false }
+    requires size { M.page_count medium.old ≡ 2 }
+{
+    let mut page = [0u8; 4096];
     medium.read(0, &mut page)?;
     let (a, b, c) = (page[10], page[11], page[12]);
     medium.read(1, &mut page)?;
@@ -62,7 +70,11 @@ fn stops(rt: HostRuntime) -> Result<(), Fail> {
 
 // The pages of a medium of a shelf, and what it reads at the end of its last page, after these
 // bytes were written there.
-fn written<S: Shelf>(shelf: &mut S, number: u8, bytes: &[u8; 2]) -> Result<(u32, [u8; 2]), MediumFault> {
+fn written<S: Shelf>(
+    shelf: &mut S,
+    number: u8,
+    bytes: &[u8; 2],
+) -> Result<(u32, [u8; 2]), MediumFault> {
     let mut medium = shelf.take(NodeKind::Repository, number, 0)?;
     let pages = medium.pages();
     medium.write(pages - 1, 4094, bytes)?;

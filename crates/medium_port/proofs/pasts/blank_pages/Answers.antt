@@ -1,4 +1,4 @@
-use Rattle.std.proofs.Common.{◌+◌, ℕ, sym, subst, arith}
+use Rattle.std.proofs.Common.{◌+◌, sym, subst, arith}
 use Rattle.medium_port.specs.Image.{Image, IsImage, IsBlankImage}
 use Rattle.medium_port.proofs.Blanks.{image_push, blank_push}
 use Rattle.medium_port.proofs.pasts.blank_pages.Goals as goal

@@ -1,4 +1,4 @@
-use Rattle.std.proofs.Common.{◌≡◌, ◌++◌, [], ◌∷◌, ◌+◌, ℕ, List, length, drop, get_or, sym, ◌∙◌, ap, subst}
+use Rattle.std.proofs.Common.{[], ◌∷◌, ◌+◌, ℕ, List, drop, get_or, sym, ◌∙◌, ap, subst}
 use Rattle.medium_port.specs.Image.{Image}
 use Rattle.medium_port.specs.declared.events.Event.{Event}
 use Rattle.medium_port.specs.Disk.{Span, Among, SpanFits, spans_of, damaged}

@@ -1,4 +1,4 @@
-use Rattle.std.proofs.Common.{◌≡◌, ◌≤◌, length, sym, arith, rules}
+use Rattle.std.proofs.Common.{arith}
 use Rattle.medium_port.proofs.SlotLemmas.{slot_nowhere}
 use Rattle.medium_port.proofs.slots.place_of.Goals as goal
 

@@ -1,5 +1,5 @@
-use Rattle.std.proofs.Common.{◌≡◌, ◌<◌, ◌≤◌, ◌∙◌, ap, sym, subst, get_or, true, ℕ, List, length, arith, rules}
-use Rattle.std.specs.Prelude.{Option, Some}
+use Rattle.std.proofs.Common.{◌≡◌, ◌<◌, ◌≤◌, ◌∙◌, ap, sym, subst, get_or, true, List, length, arith, rules}
+use Rattle.std.specs.Prelude.{Some}
 use Rattle.medium_port.specs.declared.stops.Stop.{Stop}
 use Rattle.medium_port.specs.Stops.{is_at, first_met, without_met}
 use Rattle.medium_port.proofs.MetLemmas.{met_here, met_nowhere, same_default}

@@ -1,4 +1,4 @@
-use Rattle.std.proofs.Common.{◌≡◌, sym, ◌∙◌, ap, subst, refl, List}
+use Rattle.std.proofs.Common.{sym, ◌∙◌, ap, subst, refl, List}
 use Rattle.medium_port.specs.declared.events.Event.{Event}
 use Rattle.medium_port.specs.Disk.{replay, disk_of, IsSound, MayLeave}
 use Rattle.medium_port.proofs.Blanks.{same_blank, same_image}

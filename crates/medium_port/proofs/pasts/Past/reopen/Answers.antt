@@ -1,10 +1,10 @@
-use Rattle.std.proofs.Common.{◌≡◌, ◌++◌, [], ◌∷◌, ℕ, List, length, drop, sym, ◌∙◌, ap, subst}
+use Rattle.std.proofs.Common.{ℕ, List, length, drop, sym, ◌∙◌, ap, subst}
 use Rattle.std.proofs.lemmas.Bool.Decides.{when_true}
 use Rattle.std.proofs.lemmas.List.{append-nil}
 use Rattle.medium_port.specs.Image.{Image}
 use Rattle.medium_port.specs.declared.events.Event.{Event}
 use Rattle.medium_port.specs.declared.events.Event.TheVariants.{Reopened}
-use Rattle.medium_port.specs.Disk.{Disk, Span, Among, SpanFits, spans_of, replay, disk_of, after_stop, MayLeave, reads_left}
+use Rattle.medium_port.specs.Disk.{Disk, Span, Among, SpanFits, spans_of, replay, disk_of, after_stop, MayLeave}
 use Rattle.medium_port.proofs.Disks.{sound_reopen, reopen_crash, now_push, left_push, sound_push, spans_after}
 use Rattle.medium_port.proofs.pasts.Past.reopen.Goals as goal
 

@@ -1,7 +1,6 @@
-use Rattle.std.proofs.Common.{◌≡◌, ◌⊎◌, inl, inr, ⊎_elim, ◌++◌, [], ◌∷◌, ℕ, List, length, sym, ◌∙◌, ap, subst, refl, arith, rules, ◌≤◌}
-use Rattle.std.proofs.lemmas.Bool.Decides.{when_true, when_false}
+use Rattle.std.proofs.Common.{List, length, sym, ◌∙◌, ap, arith, rules, ◌≤◌}
+use Rattle.std.proofs.lemmas.Bool.Decides.{when_true}
 use Rattle.std.proofs.lemmas.List.{drop_all}
-use Rattle.medium_port.specs.Image.{Image}
 use Rattle.medium_port.specs.declared.events.Event.{Event}
 use Rattle.medium_port.specs.declared.events.Event.TheVariants.{Synced}
 use Rattle.medium_port.specs.Disk.{Disk, replay, disk_of, spans_of}

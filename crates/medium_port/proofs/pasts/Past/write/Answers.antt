@@ -1,4 +1,4 @@
-use Rattle.std.proofs.Common.{◌≡◌, ◌++◌, [], ◌∷◌, ℕ, List, length, get_or, sym, ◌∙◌, ap, subst, arith, length-append}
+use Rattle.std.proofs.Common.{◌++◌, [], ◌∷◌, List, length, sym, ◌∙◌, ap, subst, arith}
 use Rattle.std.proofs.lemmas.Bool.Decides.{when_true, when_false}
 use Rattle.medium_port.specs.Image.{Image, put_bytes}
 use Rattle.medium_port.specs.declared.events.Event.{Event}
@@ -38,7 +38,7 @@ invariant_of-self-2-clause-sound c =
     let first = disk_of m.first.items in
     let kept = when_true _ _ c.if-not-keep_write.false c.keep_write.ensures in
     sound_push m.count first m.events.items _ (Wrote c.args.page c.args.at bytes) kept
-        (sound_write m.count (replay first m.events.items) c.args.page c.args.at bytes m.sound (record { page = c.requires.page; range = c.requires.range; bytes = λ k. omega (arith, c.type_inv.bytes k) }))
+    (sound_write m.count (replay first m.events.items) c.args.page c.args.at bytes m.sound (record { page = c.requires.page; range = c.requires.range; bytes = λ k. omega (arith, c.type_inv.bytes k) }))
 
 pub invariant_of-self-2-clause-unsynced : goal.invariant_of-self-2-clause-unsynced
 invariant_of-self-2-clause-unsynced c =
