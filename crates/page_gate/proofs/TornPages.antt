@@ -2,9 +2,8 @@
 use Rattle.std.proofs.Common.{◌≡◌, ◌≢◌, ◌⊎◌, inl, inr, ℕ, suc, ◌+◌, ◌-◌, ◌≤◌, List, [], ◌∷◌, ◌++◌, length, get_or, take, drop, true, false, refl, sym, ◌∙◌, ap, arith}
 use Rattle.std.proofs.Math.ListN.{replicate}
 use Rattle.std.proofs.lemmas.List.{drop-replicate}
-use Rattle.std.proofs.lemmas.Bool.{cases_eq, cases_Bool, cond-true, cond-false, ne_eqb, eq-eqb, eqb-true, and_parts, and_right}
-use Rattle.std.proofs.lemmas.List.Folds.{list_all-append}
-use Rattle.page_gate.specs.States.{is_blank, state_of, gated_page}
+use Rattle.std.proofs.lemmas.Bool.{cases_eq, cases_Bool, cond-true, cond-false, ne_eqb, eq-eqb, eqb-true, and_parts}
+use Rattle.page_gate.specs.States.{is_blank, state_of}
 use Rattle.page_gate.specs.Steps.{IsPutPage}
 use Rattle.page_gate.specs.declared.pages.PageState.TheVariants.{Blank, Spoiled, Gated}
 use Rattle.medium_port.specs.Image.{splice}
@@ -58,7 +57,7 @@ body_page (p ∷ page) body blank size most =
     let zeros : page ≡ replicate (length page) 0 = blank_is page (and_parts _ _ blank).1 in
     let n : length page - length body ≡ 4095 - length body = omega arith in
     let dropped : drop (1 + length body) (p ∷ page) ≡ replicate (4095 - length body) 0 =
-      ap (λ (k : ℕ). drop k (p ∷ page)) (omega_one (length body)) ∙ ap (λ (l : List ℕ). drop (length body) l) zeros ∙ drop-replicate (length body) (length page) 0 ∙ ap (λ (k : ℕ). replicate k 0) n in
+    ap (λ (k : ℕ). drop k (p ∷ page)) (omega_one (length body)) ∙ ap (λ (l : List ℕ). drop (length body) l) zeros ∙ drop-replicate (length body) (length page) 0 ∙ ap (λ (k : ℕ). replicate k 0) n in
     ap (λ (x : ℕ). ((x ∷ []) ++ body) ++ drop (1 + length body) (p ∷ page)) zero_p ∙ ap (λ (l : List ℕ). 0 ∷ body ++ l) dropped
   where
     omega_one : (k : ℕ) → 1 + k ≡ suc k

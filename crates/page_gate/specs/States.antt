@@ -1,5 +1,5 @@
 -- What a page's bytes say.
-use Rattle.std.specs.Prelude.{◌≡◌, ℕ, ◌-◌, List, [], ◌∷◌, ◌++◌, Bool, length, drop, replicate, if◌then◌else◌, ◌==◌, slice_index}
+use Rattle.std.specs.Prelude.{ℕ, ◌-◌, List, ◌∷◌, ◌++◌, Bool, length, drop, replicate, if◌then◌else◌, ◌==◌, slice_index}
 use Rattle.std.specs.List.{list_all}
 use Rattle.page_gate.specs.declared.pages.PageState.{PageState}
 use Rattle.page_gate.specs.declared.pages.PageState.TheVariants.{Blank, Spoiled, Gated}

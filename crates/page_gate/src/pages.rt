@@ -62,7 +62,12 @@ fn all_zero(bytes: &[u8]) -> bool
 }
 
 // Writes, and has it on the medium.
-fn write_through<M: Medium>(medium: &mut M, page: u32, at: u16, bytes: &[u8]) -> Result<(), MediumFault>
+fn write_through<M: Medium>(
+    medium: &mut M,
+    page: u32,
+    at: u16,
+    bytes: &[u8],
+) -> Result<(), MediumFault>
     requires page { page < M.page_count medium.old }
     requires range { at + length bytes.now ≤ 4096 }
     requires open { M.is_failed medium.old ≡ false }
