@@ -1,0 +1,5 @@
+mod Pages
+mod Blanks
+mod Disks
+mod MetLemmas
+mod SlotLemmas

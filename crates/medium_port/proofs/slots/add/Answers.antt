@@ -1,0 +1,16 @@
+use Rattle.std.proofs.Common.{◌≡◌, List, sym, subst}
+use Rattle.std.specs.Prelude.{Some}
+use Rattle.medium_port.specs.declared.slots.Slot.{Slot}
+use Rattle.medium_port.specs.Slots.{slot_of}
+use Rattle.medium_port.proofs.SlotLemmas.{slot_pushed, slot_kept}
+use Rattle.medium_port.proofs.slots.add.Goals as goal
+
+pub returns-in-Ok-clause-now : goal.returns-in-Ok-clause-now
+returns-in-Ok-clause-now c =
+    let old = c.args.slots.now.items in
+    let new : Slot = record { name = c.args.name; held = c.args.held } in
+    let pushed = sym c.in-Ok.ensures.items in
+    record {
+      there = subst (λ (l : List Slot). slot_of l c.args.name ≡ Some c.args.held) pushed (slot_pushed old new c.requires);
+      others = λ other ne. subst (λ (l : List Slot). slot_of l other ≡ slot_of old other) pushed (slot_kept old new other ne);
+    }

@@ -1,0 +1,22 @@
+use Rattle.std.proofs.Common.{◌≡◌, ◌∙◌, sym, ap, subst, true}
+use Rattle.std.specs.Prelude.{Option, Some}
+use Rattle.medium_port.specs.declared.memory_media.MemoryMedium.{MemoryMedium}
+use Rattle.medium_port.specs.declared.slots.Slot.{Slot}
+use Rattle.medium_port.specs.Slots.{is_same_name}
+use Rattle.medium_port.proofs.SlotLemmas.{same_is, slot_there, slot_set, slot_others}
+use Rattle.medium_port.proofs.slots.swap.Goals as goal
+
+pub returns-clause-was : goal.returns-clause-was
+returns-clause-was c =
+    let d = c.index_mut.result.now in
+    slot_there c.args.slots.now.items c.args.name c.args.index d c.requires ∙ ap (λ (s : Slot). Some s.held) (sym c.index_mut.ensures.value) ∙ ap (λ (o : Option MemoryMedium). Some o) (sym c.replace.ensures.value)
+
+pub returns-clause-now : goal.returns-clause-now
+returns-clause-now c =
+    let d = c.index_mut.result.now in
+    let is = same_is d.name c.args.name (subst (λ (s : Slot). is_same_name s.name c.args.name ≡ true) (sym c.index_mut.ensures.value) (c.requires.here d)) in
+    let new : Slot = record { name = d.name; held = c.replace.new.dest } in
+    record {
+      there = slot_set c.args.slots.now.items c.args.name c.args.index new c.requires is ∙ ap (λ (o : Option MemoryMedium). Some o) c.replace.ensures.after;
+      others = λ other ne. slot_others c.args.slots.now.items c.args.name other c.args.index new c.requires is ne;
+    }

@@ -1,0 +1,127 @@
+ghost use Rattle.std.specs.Prelude.{◌≡◌, ◌≤◌, None, false};
+
+use crate::healths::Health;
+use crate::media::{Medium, MediumFault};
+use std::fs::File;
+use std::io;
+use std::os::fd::AsRawFd;
+use std::os::unix::fs::FileExt;
+
+/// A medium over a file. It tells no content.
+///
+/// What is assumed of the file is what the trait says of a medium: that reads give what was
+/// written, and that a crash after a sync leaves it.
+#[derive(Drop)]
+pub struct FileMedium {
+    file: File,
+    count: u32,
+    health: Health,
+    last: Option<(u32, [u8; 4096])>,
+    ghost some: { 1 ≤ count },
+    ghost most: { count ≤ 1048576 },
+}
+
+// Syncs a file, and drops the system's copies of its pages, so that reads give what is on the disk.
+pub fn settle(file: &File) -> io::Result<()> {
+    file.sync_all()?;
+    let advised = libc::posix_fadvise(file.as_raw_fd(), 0, 0, libc::POSIX_FADV_DONTNEED);
+    if advised != 0 {
+        return Err(io::Error::from_raw_os_error(advised));
+    }
+    Ok(())
+}
+
+// The place of a byte of a page in the file.
+fn offset(page: u32, at: u16) -> u64 {
+    page as u64 * 4096 + at as u64
+}
+
+impl FileMedium {
+    // A medium of the file's first pages.
+    pub fn new(file: File, count: u32) -> FileMedium
+        requires some { 1 ≤ count }
+        requires most { count ≤ 1048576 }
+        ensures open { result.health ≡ record { failed = false; faults = 0 } }
+        ensures size { result.count ≡ count }
+        ensures last { result.last ≡ None }
+    {
+        FileMedium {
+            file,
+            count,
+            health: Health {
+                failed: false,
+                faults: 0,
+            },
+            last: None,
+        }
+    }
+}
+
+impl Medium for FileMedium {
+    ghost use Rattle.std.specs.Prelude.{[], ⊤};
+    ghost use Rattle.std.proofs.lemmas.Bool.{false≢true};
+
+    ghost tells = { false };
+
+    ghost page_count = { λ m. m.count };
+
+    ghost is_failed = { λ m. m.health.failed };
+
+    ghost last_page = { λ m. m.last };
+
+    ghost faults = { λ m. m.health.faults };
+
+    ghost reads = { λ _. [] };
+
+    ghost may_leave = { λ _ _. ⊤ };
+
+    ghost moment = { λ _. 0 };
+
+    ghost left_since = { λ _ _ _. ⊤ };
+
+    ghost reads_now = { λ m told. tt };
+
+    ghost counts_now = { λ m t c told le now. tt };
+
+    ghost only_now = { λ m c told left. tt };
+
+    ghost shape = { λ m c told left. absurd (false≢true told) };
+
+    fn pages(&self) -> u32 {
+        self.count
+    }
+
+    fn read(&mut self, page: u32, into: &mut [u8; 4096]) -> Result<(), MediumFault> {
+        match self.file.read_exact_at(into, offset(page, 0)) {
+            Ok(()) => {
+                self.last = Some((page, *into));
+                Ok(())
+            }
+            Err(_) => Err(self.health.fail()),
+        }
+    }
+
+    fn write(&mut self, page: u32, at: u16, bytes: &[u8]) -> Result<(), MediumFault> {
+        match self.file.write_all_at(bytes, offset(page, at)) {
+            Ok(()) => Ok(()),
+            Err(_) => Err(self.health.fail()),
+        }
+    }
+
+    fn sync(&mut self) -> Result<(), MediumFault> {
+        match self.file.sync_data() {
+            Ok(()) => Ok(()),
+            Err(_) => Err(self.health.fail()),
+        }
+    }
+
+    fn reopen(&mut self) -> Result<(), MediumFault> {
+        match settle(&self.file) {
+            Ok(()) => {
+                self.health.failed = false;
+                Ok(())
+            }
+            Err(_) => Err(self.health.fail()),
+        }
+    }
+}

@@ -1,0 +1,26 @@
+//! Media of pages that crashes may tear, the shelves that hand them out, and their forms over
+//! memory and files.
+#![tactic(auto)]
+
+mod events;
+mod file_media;
+mod file_shelves;
+mod healths;
+mod media;
+mod memory_media;
+mod memory_shelves;
+mod pasts;
+mod shelves;
+mod slots;
+mod stops;
+
+pub use file_media::FileMedium;
+pub use file_shelves::{FileShelf, NEW_PAGES};
+pub use media::{Medium, MediumFault};
+pub use memory_media::MemoryMedium;
+pub use memory_shelves::MemoryShelf;
+pub use shelves::{MediumName, Shelf};
+pub use stops::{Stop, StopAt};
+
+#[cfg(test)]
+mod tests;

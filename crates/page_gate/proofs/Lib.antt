@@ -1,0 +1,2 @@
+mod TornPages
+mod Puts

@@ -1,0 +1,9 @@
+//! Pages behind a gate: a crash leaves each blank, spoiled, or gated with its whole body.
+#![tactic(auto)]
+
+mod pages;
+
+pub use pages::{PageState, look, put};
+
+#[cfg(test)]
+mod tests;
