@@ -1,9 +1,9 @@
 -- A value that is read is the one that was written.
-use Rattle.std.proofs.Common.{◌≡◌, ℕ, ◌+◌, ◌-◌, ◌^◌, ◌<◌, ◌≤◌, Bool, true, false, cond, nat_le, List, [], ◌∷◌, ◌++◌, length, take, drop, Option, Some, None, Result, Ok, Err, refl, sym, ap, subst, ◌∙◌, append_assoc, arith, inl, inr}
+use Rattle.std.proofs.Common.{◌≡◌, ℕ, ◌+◌, ◌^◌, ◌<◌, ◌≤◌, true, cond, nat_le, List, [], ◌∷◌, ◌++◌, length, take, Option, Some, None, Result, Ok, Err, refl, sym, ap, subst, ◌∙◌, append_assoc, arith, inl, inr}
 use Rattle.std.specs.Prelude.{ℤ, ◌==◌, FitsSigned, IfOk}
 use Rattle.std.specs.Int.{w16, w32, w64, to_be_bytes, cast_unsigned}
 use Rattle.std.proofs.lemmas.Bool.Decides.{nat_tests}
-use Rattle.std.proofs.lemmas.List.{take_at, drop_at, length-append}
+use Rattle.std.proofs.lemmas.List.{take_at, length-append}
 use Rattle.field_form.specs.Forms.{IsBytes, Begins, IsForm}
 use Rattle.field_form.specs.Forms as form
 use Rattle.field_form.specs.Numbers.{byte_at, number_at, signed_at, front_at, between}
@@ -16,7 +16,7 @@ use Rattle.value_form.specs.declared.value_faults.ValueFault.{ValueFault}
 use Rattle.value_form.specs.declared.objects.ObjectId.{ObjectId}
 use Rattle.value_form.specs.ObjectBytes.{IsObject, object_bytes, object_bytes_at}
 use Rattle.value_form.specs.ValueBytes.{IsValue, value_bytes, ◌>>=◌, field, found, length_at, number_value_at, text_value_at, value_at}
-use Rattle.value_form.specs.ValueReads.{Gives, GivesCount}
+use Rattle.value_form.specs.ValueReads.{GivesCount}
 
 -- a field that was there
 pub field_ok : {A B : Type 0} (at : ℕ) (o : Option A) (f : A → Result B ℕ) (y : B) → (field at o >>= f) ≡ Ok y → (x : A) × (o ≡ Some x) × (f x ≡ Ok y)

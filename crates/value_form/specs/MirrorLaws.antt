@@ -1,7 +1,6 @@
 -- The plain tree of a script and the script are the same: each is made back from the other.
 use Rattle.std.specs.Prelude.{◌≡◌, ℕ, List, [], ◌∷◌, map, refl}
 use Rattle.std.proofs.Common.{ap, sym, ◌∙◌, subst}
-use Rattle.value_form.specs.declared.objects.ObjectId.{ObjectId}
 use Rattle.value_form.specs.declared.expressions.Prefix.{Prefix}
 use Rattle.value_form.specs.declared.expressions.Infix.{Infix}
 use Rattle.value_form.specs.declared.expressions.Call.{Call}
@@ -9,14 +8,14 @@ use Rattle.value_form.specs.declared.expressions.Expr.{Expr}
 use Rattle.value_form.specs.declared.expressions.Expr.TheVariants as e
 use Rattle.value_form.specs.declared.expressions.Expr.TheOpen.{Expr-F}
 use Rattle.value_form.specs.declared.expressions.Expr.TheViews.{roll-Expr}
-use Rattle.value_form.specs.declared.expressions.Expr.TheFolds.{fold-Expr, fold-roll-Expr, ind-Expr, map-Expr}
+use Rattle.value_form.specs.declared.expressions.Expr.TheFolds.{fold-roll-Expr, ind-Expr, map-Expr}
 use Rattle.value_form.specs.declared.scripts.Place.{Place}
 use Rattle.value_form.specs.declared.scripts.Place.TheVariants as p
 use Rattle.value_form.specs.declared.scripts.Stmt.{Stmt, out-Stmt}
 use Rattle.value_form.specs.declared.scripts.Stmt.TheVariants as s
 use Rattle.value_form.specs.declared.scripts.Stmt.TheOpen.{Stmt-F}
 use Rattle.value_form.specs.declared.scripts.Stmt.TheViews.{roll-Stmt}
-use Rattle.value_form.specs.declared.scripts.Stmt.TheFolds.{fold-Stmt, fold-roll-Stmt, fold_out-Stmt, ind-Stmt, map-Stmt}
+use Rattle.value_form.specs.declared.scripts.Stmt.TheFolds.{fold-roll-Stmt, fold_out-Stmt, ind-Stmt, map-Stmt}
 use Rattle.value_form.specs.Mirror.{Term, Number, Text, Nothing, Name, Before, Between, Applied, Given, Spot, Fixed, At, Step, Let, Read, Write, Print, If, IfElse, Repeat, Withdraw, Block, End, Then, term, term_layer, spot, block_of, step_layer, plain, block}
 
 -- the expression of a plain tree

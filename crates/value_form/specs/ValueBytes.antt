@@ -1,10 +1,9 @@
 -- The bytes of a value, and of an object.
-use Rattle.std.specs.Prelude.{ℕ, ◌≤◌, ◌<◌, ◌^◌, ◌==◌, ◌&&◌, FitsSigned, Bool, List, [], ◌∷◌, ◌++◌, length, drop, Option, Some, None, Result, Ok, Err, nat_lt, nat_le, if◌then◌else◌, ◌≡◌}
-use Rattle.std.specs.Int.{w16, w32, w64, to_be_bytes, cast_unsigned}
+use Rattle.std.specs.Prelude.{ℕ, ◌≤◌, ◌==◌, FitsSigned, List, [], ◌∷◌, ◌++◌, length, Option, Some, None, Result, Ok, Err, nat_le, if◌then◌else◌}
+use Rattle.std.specs.Int.{w16, w64, to_be_bytes, cast_unsigned}
 use Rattle.field_form.specs.Forms.{IsBytes}
 use Rattle.field_form.specs.Forms as form
 use Rattle.field_form.specs.Numbers.{byte_at, number_at, signed_at, front_at}
-use Rattle.value_form.specs.declared.objects.ObjectId.{ObjectId}
 use Rattle.value_form.specs.declared.values.Value.{Value}
 use Rattle.value_form.specs.declared.values.Value.TheVariants.{Nothing, Number, Text}
 

@@ -1,5 +1,5 @@
 -- What a call that reads a value gives.
-use Rattle.std.specs.Prelude.{◌≡◌, ℕ, ◌+◌, ◌-◌, List, length, Result, Ok, Err}
+use Rattle.std.specs.Prelude.{◌≡◌, ℕ, ◌+◌, List, length, Result, Ok, Err}
 use Rattle.value_form.specs.declared.values.Value.{Value}
 use Rattle.value_form.specs.declared.value_faults.ValueFault.{ValueFault}
 use Rattle.value_form.specs.declared.value_faults.ValueFault.TheVariants.{Form, NoMemory}

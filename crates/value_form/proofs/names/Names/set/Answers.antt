@@ -1,4 +1,4 @@
-use Rattle.std.proofs.Common.{◌≡◌, ◌++◌, ◌∷◌, [], sym, ap, ◌∙◌, arith}
+use Rattle.std.proofs.Common.{sym, ap, ◌∙◌, arith}
 use Rattle.value_form.specs.Names.{with_name}
 use Rattle.value_form.proofs.NameLemmas.{within_at, set_at, new_at}
 use Rattle.value_form.proofs.names.Names.set.Goals as goal
