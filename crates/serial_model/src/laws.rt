@@ -1,10 +1,10 @@
-ghost use Rattle.std.specs.Prelude.{◌≡◌, ◌∷◌, ◌++◌, List, Some};
+ghost use Rattle.std.specs.Prelude.{◌≡◌, [], ◌∷◌, ◌++◌, List, Some};
 ghost use Rattle.value_form.specs.declared.transcripts.Line.{Line};
 ghost use Rattle.value_form.specs.Objects.{Objects};
 ghost use Rattle.value_form.specs.Mirror.{Block};
 ghost use Rattle.value_form.specs.Meaning as meaning;
-ghost use Rattle.value_form.specs.Meaning.{Request, Asks, Answer};
-ghost use Rattle.serial_model.specs.Questions.{Tree, denote, told, talked, left_by, stop, answers_of, request_of, IsFrontOf, IsTalkOf};
+ghost use Rattle.value_form.specs.Meaning.{Request, Asks, Answer, Answers};
+ghost use Rattle.serial_model.specs.Questions.{Tree, denote, walk, told, talked, left_by, stop, answers_of, request_of, IsFrontOf, IsTalkOf};
 
 /// A script alone, and a script with a list of answers, are what its tree of questions says.
 pub fn law_of_questions()
@@ -21,4 +21,10 @@ pub fn law_of_answers()
     ensures front { (script : Block) (m : Objects) (before rest : List Line) (l : Line) (q : Request) → (meaning.perform script m).lines ≡ before ++ (l ∷ rest) → request_of l ≡ Some q → IsTalkOf (record { lines = before; stop = Asks q }) (meaning.talk script (answers_of before)) }
     ensures fronts { (lines : List Line) (pre post : List Answer) (a : Answer) → answers_of lines ≡ pre ++ (a ∷ post) → (before : List Line) × (l : Line) × (rest : List Line) × (q : Request) × (lines ≡ before ++ (l ∷ rest)) × (request_of l ≡ Some q) × (answers_of before ≡ pre) }
     ensures more { (script : Block) (ans more : List Answer) → IsFrontOf (meaning.talk script ans).lines (meaning.talk script (ans ++ more)).lines }
+{}
+
+/// In every world that answers requests, a script does what the walk of that world through its tree
+/// of questions does.
+pub fn law_of_worlds<W>()
+    ensures { (answers : Answers W) (script : Block) (w : W) → meaning.carried_out answers script w ≡ walk answers (denote script) [] w }
 {}
