@@ -124,12 +124,12 @@ outside_not false false x y e = (refl, refl, some_is x y e)
 pub between_form : {text : ℕ → List ℕ} {InRange : ℕ → Type 0} {reads : List ℕ → Option (ℕ × List ℕ)} (least most : ℕ) → IsForm text InRange reads → IsForm text (λ n. InRange n × (least ≤ n) × (n ≤ most)) (λ bytes. between least most (reads bytes))
 between_form {text} {InRange} {reads} least most form = record {
   takes = λ bytes n rest fits e.
-    let a = bind_some (reads bytes) (λ k. cond (nat_lt k.0 least || nat_lt most k.0) None (Some k)) (n, rest) e in
-    let g = outside_not (nat_lt a.0.0 least) (nat_lt most a.0.0) a.0 (n, rest) a.2 in
-    let t = form.takes bytes a.0.0 a.0.1 fits a.1 in
-    subst (λ (y : ℕ × List ℕ). Begins bytes (text y.0) y.1 × (InRange y.0 × (least ≤ y.0) × (y.0 ≤ most))) g.2 (t.0, (t.1, grind (arith, nat_tests, g.0), grind (arith, nat_tests, g.1)));
+      let a = bind_some (reads bytes) (λ k. cond (nat_lt k.0 least || nat_lt most k.0) None (Some k)) (n, rest) e in
+      let g = outside_not (nat_lt a.0.0 least) (nat_lt most a.0.0) a.0 (n, rest) a.2 in
+      let t = form.takes bytes a.0.0 a.0.1 fits a.1 in
+      subst (λ (y : ℕ × List ℕ). Begins bytes (text y.0) y.1 × (InRange y.0 × (least ≤ y.0) × (y.0 ≤ most))) g.2 (t.0, (t.1, grind (arith, nat_tests, g.0), grind (arith, nat_tests, g.1)));
   again = λ n rest h.
-    let low : nat_lt n least ≡ false = let k = h.1 in grind (arith, nat_tests) in
-    let high : nat_lt most n ≡ false = let k = h.2 in grind (arith, nat_tests) in
-    rw (form.again n rest h.0, low, high) refl;
+      let low : nat_lt n least ≡ false = let k = h.1 in grind (arith, nat_tests) in
+      let high : nat_lt most n ≡ false = let k = h.2 in grind (arith, nat_tests) in
+      rw (form.again n rest h.0, low, high) refl;
 }
