@@ -3,8 +3,6 @@ ghost use Rattle.std.specs.Prelude.{◌≡◌, ◌≤◌, None, false};
 use crate::healths::Health;
 use crate::media::{Medium, MediumFault};
 use std::fs::File;
-use std::io;
-use std::os::fd::AsRawFd;
 use std::os::unix::fs::FileExt;
 
 /// A medium over a file. It tells no content.
@@ -19,16 +17,6 @@ pub struct FileMedium {
     last: Option<(u32, [u8; 4096])>,
     ghost some: { 1 ≤ count },
     ghost most: { count ≤ 1048576 },
-}
-
-// Syncs a file, and drops the system's copies of its pages, so that reads give what is on the disk.
-pub fn settle(file: &File) -> io::Result<()> {
-    file.sync_all()?;
-    let advised = libc::posix_fadvise(file.as_raw_fd(), 0, 0, libc::POSIX_FADV_DONTNEED);
-    if advised != 0 {
-        return Err(io::Error::from_raw_os_error(advised));
-    }
-    Ok(())
 }
 
 // The place of a byte of a page in the file.
@@ -116,7 +104,7 @@ impl Medium for FileMedium {
     }
 
     fn reopen(&mut self) -> Result<(), MediumFault> {
-        match settle(&self.file) {
+        match self.file.sync_all() {
             Ok(()) => {
                 self.health.failed = false;
                 Ok(())
