@@ -124,3 +124,20 @@ fn written_values(rt: HostRuntime) -> Result<(), Fail> {
     );
     Ok(())
 }
+
+#[test]
+fn copied_lines(rt: HostRuntime) -> Result<(), Fail> {
+    let alloc = rt.alloc();
+    let object = ObjectId {
+        repository: 1,
+        number: 7,
+    };
+    for line in [
+        Line::Read(object, Value::Nothing),
+        Line::Wrote(object, Value::Number(10)),
+        Line::Print(Value::Text(Bytes::of(b"a".as_slice().to_vec(alloc)?))),
+    ] {
+        assert!(rt; line.copy(alloc)? == line);
+    }
+    Ok(())
+}
