@@ -17,6 +17,20 @@ fn numbers(rt: HostRuntime) {
     );
 }
 
+fn is_stamp(bytes: &[u8], stamp: Stamp, left: usize) -> bool {
+    match stamp_of(bytes) {
+        Some((read, rest)) => read == stamp && rest.len() == left,
+        None => false,
+    }
+}
+
+fn is_time(bytes: &[u8], time: PseudoTime, left: usize) -> bool {
+    match time_of(bytes) {
+        Some((read, rest)) => read == time && rest.len() == left,
+        None => false,
+    }
+}
+
 #[test]
 fn times(rt: HostRuntime) -> Result<(), Fail> {
     let alloc = rt.alloc();
@@ -29,8 +43,7 @@ fn times(rt: HostRuntime) -> Result<(), Fail> {
         0u8, 0, 0, 0, 0, 0, 0, 1, 2, 1, 0, 0, 0, 0, 0, 0, 0, 1, 2, 1, 0, 0, 0, 1,
     ];
     assert_eq!(rt; out.as_slice(), bytes.as_slice());
-    assert!(rt; stamp_of(&bytes).map(|p| (p.0, p.1.len())) == Some((stamp, 14)));
-    assert!(rt; time_of(&bytes[10..]).map(|p| (p.0, p.1.len())) == Some((time, 0)));
+    assert!(rt; is_stamp(&bytes, stamp, 14) && is_time(&bytes[10..], time, 0));
     for wrong in [
         [0u8, 0, 0, 0, 0, 0, 0, 0, 2, 1, 0, 0, 0, 1],
         [0, 0, 1, 0, 0, 0, 0, 0, 2, 1, 0, 0, 0, 1],

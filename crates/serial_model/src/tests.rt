@@ -1,3 +1,7 @@
+ghost use Rattle.std.specs.Prelude.{◌<◌, ◌^◌, IfOk};
+ghost use Rattle.value_form.specs.Mirror.{term, plain};
+ghost use Rattle.value_form.specs.Ranges.{IsTerm, IsStep, IsScript};
+
 use super::*;
 use std::alloc::Global;
 use std::test::*;
@@ -87,47 +91,80 @@ fn named(alloc: Global, text: &[u8]) -> Result<Bytes, Fail> {
     Ok(Bytes::of(text.to_vec(alloc)?))
 }
 
-fn variable(alloc: Global, text: &[u8]) -> Result<Expr, Fail> {
+fn variable(alloc: Global, text: &[u8]) -> Result<Expr, Fail>
+    ensures { IfOk result (λ e. IsTerm (term e)) }
+{
     Ok(Expr::Name(named(alloc, text)?))
 }
 
-fn infix(alloc: Global, operator: Infix, left: Expr, right: Expr) -> Result<Expr, Fail> {
+fn infix(alloc: Global, operator: Infix, left: Expr, right: Expr) -> Result<Expr, Fail>
+    requires left { IsTerm (term left) }
+    requires right { IsTerm (term right) }
+    ensures { IfOk result (λ e. IsTerm (term e)) }
+{
     let left = Boxed::new(alloc, left)?;
     let right = Boxed::new(alloc, right)?;
     Ok(Expr::Infix(operator, left, right))
 }
 
-fn minus(alloc: Global, number: u64) -> Result<Expr, Fail> {
+fn minus(alloc: Global, number: u64) -> Result<Expr, Fail>
+    requires { number < 2 ^ 63 }
+    ensures { IfOk result (λ e. IsTerm (term e)) }
+{
     let number = Boxed::new(alloc, Expr::Number(number))?;
     Ok(Expr::Prefix(Prefix::Minus, number))
 }
 
-// `let s = 0`, three times `read v 1[s]` and `let s = s + given(v, 1)`, `print s` and
-// `print "a\"b" & text(s)`: objects 1.0 to 1.2 are read, and 3 is printed, then "a\"b3".
-#[test]
-fn objects_found_by_a_name(rt: HostRuntime) -> Result<(), Fail> {
-    let alloc = rt.alloc();
+// `read v 1[s]` and `let s = s + given(v, 1)`.
+fn a_turn(alloc: Global) -> Result<(Stmt, Stmt), Fail>
+    ensures { IfOk result (λ p. IsStep (plain p.0) × IsStep (plain p.1)) }
+{
     let v = Boxed::new(alloc, variable(alloc, b"v")?)?;
     let one = Boxed::new(alloc, Expr::Number(1))?;
-    let given = Expr::Given(v, one);
-    let sum = infix(alloc, Infix::Add, variable(alloc, b"s")?, given)?;
-    let mut part = Vec::new(alloc);
+    let sum = infix(
+        alloc,
+        Infix::Add,
+        variable(alloc, b"s")?,
+        Expr::Given(v, one),
+    )?;
     let place = Place::At(1, variable(alloc, b"s")?);
-    part.push(Stmt::Read(3, named(alloc, b"v")?, place))?;
-    part.push(Stmt::Let(4, named(alloc, b"s")?, sum))?;
+    let read = Stmt::Read(3, named(alloc, b"v")?, place);
+    Ok((read, Stmt::Let(4, named(alloc, b"s")?, sum)))
+}
+
+// `print "a\"b" & text(s)`.
+fn a_print_of_both(alloc: Global) -> Result<Stmt, Fail>
+    ensures { IfOk result (λ s. IsStep (plain s)) }
+{
     let s = Boxed::new(alloc, variable(alloc, b"s")?)?;
-    let text = Expr::Call(Call::Text, s);
     let front = Expr::Text(named(alloc, b"a\"b")?);
-    let joined = infix(alloc, Infix::Join, front, text)?;
+    let joined = infix(alloc, Infix::Join, front, Expr::Call(Call::Text, s))?;
+    Ok(Stmt::Print(7, joined))
+}
+
+// `let s = 0`, three times the turn, `print s` and the print of both.
+fn a_sum_of_three(alloc: Global) -> Result<Script, Fail>
+    ensures { IfOk result (λ s. IsScript s.lines) }
+{
+    let (read, sum) = a_turn(alloc)?;
+    let mut part = Vec::new(alloc);
+    part.push(read)?;
+    part.push(sum)?;
     let mut lines = Vec::new(alloc);
     lines.push(Stmt::Let(1, named(alloc, b"s")?, Expr::Number(0)))?;
     lines.push(Stmt::Repeat(2, Expr::Number(3), Items::of(part), 5))?;
     lines.push(Stmt::Print(6, variable(alloc, b"s")?))?;
-    lines.push(Stmt::Print(7, joined))?;
-    let script = Script {
+    lines.push(a_print_of_both(alloc)?)?;
+    Ok(Script {
         lines: Items::of(lines),
-    };
-    let done = perform(alloc, &script, &ObjectMap::new(alloc))?;
+    })
+}
+
+// Objects 1.0 to 1.2 are read, and 3 is printed, then "a\"b3".
+#[test]
+fn objects_found_by_a_name(rt: HostRuntime) -> Result<(), Fail> {
+    let alloc = rt.alloc();
+    let done = perform(alloc, &a_sum_of_three(alloc)?, &ObjectMap::new(alloc))?;
     let transcript = done.transcript.as_slice();
     assert!(rt; done.ending == Ending::Finished);
     assert_eq!(rt; transcript.len(), 5);
@@ -180,21 +217,26 @@ fn signs_of_quotients(rt: HostRuntime) -> Result<(), Fail> {
     Ok(())
 }
 
-// Nine times a repetition of 1,000 statements, one of 989, and so many prints: 10,000 statements
-// without a print.
-fn long_script(alloc: Global, prints: u16) -> Result<Script, Fail> {
-    let mut inner = Vec::new(alloc);
-    inner.push(Stmt::Let(3, named(alloc, b"x")?, Expr::Number(1)))?;
+// `repeat COUNT` of one `let`.
+fn repeated(alloc: Global, line: u16, count: u64) -> Result<Stmt, Fail>
+    requires { count < 2 ^ 63 }
+    ensures { IfOk result (λ s. IsStep (plain s)) }
+{
+    let mut part = Vec::new(alloc);
+    part.push(Stmt::Let(3, named(alloc, b"x")?, Expr::Number(1)))?;
+    Ok(Stmt::Repeat(line, Expr::Number(count), Items::of(part), 4))
+}
+
+// Nine times a repetition of 1,000 statements, and one of `last`: 10,000 statements where that is 989.
+fn long_script(alloc: Global, last: u64) -> Result<Script, Fail>
+    requires { last < 2 ^ 63 }
+    ensures { IfOk result (λ s. IsScript s.lines) }
+{
     let mut outer = Vec::new(alloc);
-    outer.push(Stmt::Repeat(2, Expr::Number(1000), Items::of(inner), 4))?;
-    let mut last = Vec::new(alloc);
-    last.push(Stmt::Let(7, named(alloc, b"x")?, Expr::Number(2)))?;
+    outer.push(repeated(alloc, 2, 1000)?)?;
     let mut lines = Vec::new(alloc);
     lines.push(Stmt::Repeat(1, Expr::Number(9), Items::of(outer), 5))?;
-    lines.push(Stmt::Repeat(6, Expr::Number(989), Items::of(last), 8))?;
-    for _ in 0..prints {
-        lines.push(Stmt::Print(9, Expr::Number(1)))?;
-    }
+    lines.push(repeated(alloc, 6, last)?)?;
     Ok(Script {
         lines: Items::of(lines),
     })
@@ -203,13 +245,13 @@ fn long_script(alloc: Global, prints: u16) -> Result<Script, Fail> {
 #[test]
 fn ten_thousand_statements(rt: HostRuntime) -> Result<(), Fail> {
     let alloc = rt.alloc();
-    let whole = perform(alloc, &long_script(alloc, 0)?, &ObjectMap::new(alloc))?;
+    let whole = perform(alloc, &long_script(alloc, 989)?, &ObjectMap::new(alloc))?;
     assert!(rt; whole.ending == Ending::Finished);
-    let long = perform(alloc, &long_script(alloc, 1)?, &ObjectMap::new(alloc))?;
+    let long = perform(alloc, &long_script(alloc, 990)?, &ObjectMap::new(alloc))?;
     assert!(rt;
         long.ending
             == Ending::Failed {
-                line: 9,
+                line: 3,
                 kind: FailKind::Budget
             }
     );
