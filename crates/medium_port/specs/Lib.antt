@@ -1,6 +1,9 @@
 pub mod Disk
 pub mod Files
 pub mod Image
+pub mod MeetShelves
+pub mod MemoryMedia
+pub mod MemoryShelves
 pub mod Moment
 pub mod Names
 pub mod Pasts

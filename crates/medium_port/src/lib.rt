@@ -7,6 +7,8 @@ mod file_media;
 mod file_shelves;
 mod healths;
 mod media;
+mod meet_media;
+mod meet_shelves;
 mod memory_media;
 mod memory_shelves;
 mod pasts;
@@ -17,10 +19,14 @@ mod stops;
 pub use file_media::FileMedium;
 pub use file_shelves::{FileShelf, NEW_PAGES};
 pub use media::{Medium, MediumFault};
+pub use meet_media::MeetMedium;
+pub use meet_shelves::MeetShelf;
 pub use memory_media::MemoryMedium;
 pub use memory_shelves::MemoryShelf;
 pub use shelves::{MediumName, Shelf};
 pub use stops::{Stop, StopAt};
 
+#[cfg(test)]
+mod meeting_tests;
 #[cfg(test)]
 mod tests;

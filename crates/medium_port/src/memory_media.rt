@@ -3,8 +3,7 @@ ghost use Rattle.stream_port.specs.Causes.{HasCause, Rose, next_count};
 ghost use Rattle.medium_port.specs.Image.{IsImage, IsBlankImage, page_of, Written, Torn, Follows, Only, NoMore};
 ghost use Rattle.medium_port.specs.Moment.{LeavesOnly, EitherSide};
 ghost use Rattle.medium_port.specs.Stops.{first_met, without_met};
-ghost use Rattle.medium_port.specs.Disk.{after_stop, spans_of};
-ghost use Rattle.medium_port.specs.Pasts.{moment_of, left_now, left_then};
+ghost use Rattle.medium_port.specs.Disk.{after_stop};
 
 use crate::healths::Health;
 use crate::media::{Medium, MediumFault};
@@ -31,16 +30,19 @@ pub struct MemoryMedium {
 }
 
 impl MemoryMedium {
+    ghost use Rattle.medium_port.specs.MemoryMedia.{pages_of, reads_of, leaves, events_of, stops_of, calls_of, pending_of, failed_in, faults_in, last_of};
+
     /// A medium of so many pages that read 0 in every byte, which fails at these stops.
     pub fn new(alloc: Global, pages: u32, stops: Vec<Stop>) -> Result<MemoryMedium, AllocError>
         requires some { 1 ≤ pages }
         requires most { pages ≤ 1048576 }
-        ensures count { IfOk result (λ m. m.past.count ≡ pages) }
-        ensures blank { IfOk result (λ m. IsImage pages m.past.held.items × IsBlankImage m.past.held.items) }
-        ensures only { IfOk result (λ m. Only m.past.held.items (left_now m.past)) }
-        ensures fresh { IfOk result (λ m. m.past.events.items ≡ []) }
-        ensures stops { IfOk result (λ m. (m.stops.items ≡ stops.items) × (m.calls ≡ 0) × (m.met ≡ None)) }
-        ensures open { IfOk result (λ m. m.health ≡ record { failed = false; faults = 0 }) }
+        ensures count { IfOk result (λ m. pages_of m ≡ pages) }
+        ensures blank { IfOk result (λ m. IsImage pages (reads_of m) × IsBlankImage (reads_of m)) }
+        ensures only { IfOk result (λ m. Only (reads_of m) (leaves m)) }
+        ensures fresh { IfOk result (λ m. events_of m ≡ []) }
+        ensures stops { IfOk result (λ m. (stops_of m ≡ stops.items) × (calls_of m ≡ 0) × (pending_of m ≡ None)) }
+        ensures open { IfOk result (λ m. (failed_in m ≡ false) × (faults_in m ≡ 0)) }
+        ensures unread { IfOk result (λ m. last_of m ≡ None) }
         ensures starved { IfOk result (λ m. m.starved ≡ 0) }
     {
         let past = Past::new(alloc, pages)?;
@@ -58,28 +60,39 @@ impl MemoryMedium {
             last: None,
         })
     }
+
+    // Fails as at a stop that tears nothing.
+    pub(crate) fn refuse(&mut self) -> MediumFault
+        ensures pages { pages_of self.new ≡ pages_of self.old }
+        ensures last { last_of self.new ≡ last_of self.old }
+        ensures failed { failed_in self.new ≡ true }
+        ensures cause { (faults_in self.old ≤ faults_in self.new) × Rose (faults_in self.old) (faults_in self.new) }
+    {
+        self.health.fail()
+    }
 }
 
 impl Medium for MemoryMedium {
+    ghost use Rattle.medium_port.specs.MemoryMedia.{pages_of, reads_of, leaves, moment_in, left_since_in, unsynced_of, stops_of, calls_of, pending_of, failed_in, faults_in, last_of};
     ghost use Rattle.medium_port.specs.Disk.{replay, disk_of, only_last, counts_last, reads_left};
 
     ghost tells = { true };
 
-    ghost page_count = { λ m. m.past.count };
+    ghost page_count = { pages_of };
 
-    ghost is_failed = { λ m. m.health.failed };
+    ghost is_failed = { failed_in };
 
-    ghost last_page = { λ m. m.last };
+    ghost last_page = { last_of };
 
-    ghost faults = { λ m. m.health.faults };
+    ghost faults = { faults_in };
 
-    ghost reads = { λ m. m.past.held.items };
+    ghost reads = { reads_of };
 
-    ghost may_leave = { λ m. left_now m.past };
+    ghost may_leave = { leaves };
 
-    ghost moment = { λ m. moment_of m.past };
+    ghost moment = { moment_in };
 
-    ghost left_since = { λ m. left_then m.past };
+    ghost left_since = { left_since_in };
 
     ghost reads_now = { λ m told. reads_left m.past.count (replay (disk_of m.past.first.items) m.past.events.items) m.past.held.items m.past.sound m.past.replayed };
 
@@ -94,23 +107,24 @@ impl Medium for MemoryMedium {
     }
 
     fn read(&mut self, page: u32, into: &mut [u8; 4096]) -> Result<(), MediumFault>
-        requires page { page < self.old.past.count }
-        requires open { self.old.health.failed ≡ false }
-        ensures found { IsTrue true → OnOk result (into.new ≡ page_of (self.old.past.held.items) page) }
-        ensures reads { IsTrue true → self.new.past.held.items ≡ self.old.past.held.items }
-        ensures crash { IsTrue true → NoMore (left_now self.old.past) (left_now self.new.past) }
-        ensures time { IsTrue true → LeavesOnly (λ m. moment_of m.past) (λ m. left_then m.past) self.old self.new (EitherSide (left_now self.old.past) (left_now self.new.past)) }
-        ensures last { OnOk result (self.new.last ≡ Some (page, into.new)) }
-        ensures last_err { OnErr result (self.new.last ≡ self.old.last) }
-        ensures size { self.new.past.count ≡ self.old.past.count }
-        ensures state { self.new.health.failed ≡ is_err result }
-        ensures cause { HasCause (self.old.health.faults) (self.new.health.faults) result }
+        requires page { page < pages_of self.old }
+        requires open { failed_in self.old ≡ false }
+        ensures found { IsTrue true → OnOk result (into.new ≡ page_of (reads_of self.old) page) }
+        ensures reads { IsTrue true → reads_of self.new ≡ reads_of self.old }
+        ensures crash { IsTrue true → NoMore (leaves self.old) (leaves self.new) }
+        ensures time { IsTrue true → LeavesOnly moment_in left_since_in self.old self.new (EitherSide (leaves self.old) (leaves self.new)) }
+        ensures last { OnOk result (last_of self.new ≡ Some (page, into.new)) }
+        ensures last_err { OnErr result (last_of self.new ≡ last_of self.old) }
+        ensures size { pages_of self.new ≡ pages_of self.old }
+        ensures state { failed_in self.new ≡ is_err result }
+        ensures cause { HasCause (faults_in self.old) (faults_in self.new) result }
         // A call fails exactly where it meets a stop or memory is wanting, and each stop is used once.
-        ensures stopped { IsTrue (is_some (first_met (next_count self.old.calls) None self.old.stops.items)) → IsErr result }
-        ensures failed { IsErr result → IsTrue (is_some (first_met (next_count self.old.calls) None self.old.stops.items)) ⊎ Rose self.old.starved self.new.starved }
-        ensures used { self.new.stops.items ≡ without_met (next_count self.old.calls) None self.old.stops.items }
-        ensures waits { MatchOption (first_met (next_count self.old.calls) None self.old.stops.items) (self.new.met ≡ self.old.met) (λ stop. self.new.met ≡ Some stop) }
-        ensures counted { self.new.calls ≡ next_count self.old.calls }
+        ensures stopped { IsTrue (is_some (first_met (next_count (calls_of self.old)) None (stops_of self.old))) → IsErr result }
+        ensures failed { IsErr result → IsTrue (is_some (first_met (next_count (calls_of self.old)) None (stops_of self.old))) ⊎ Rose self.old.starved self.new.starved }
+        ensures fed { OnOk result (self.new.starved ≡ self.old.starved) }
+        ensures used { stops_of self.new ≡ without_met (next_count (calls_of self.old)) None (stops_of self.old) }
+        ensures waits { MatchOption (first_met (next_count (calls_of self.old)) None (stops_of self.old)) (pending_of self.new ≡ pending_of self.old) (λ stop. self.new.met ≡ Some stop) }
+        ensures counted { calls_of self.new ≡ next_count (calls_of self.old) }
     {
         self.calls = self.calls.saturating_add(1);
         if let Some(stop) = take_met(&mut self.stops, self.calls, None) {
@@ -123,22 +137,23 @@ impl Medium for MemoryMedium {
     }
 
     fn write(&mut self, page: u32, at: u16, bytes: &[u8]) -> Result<(), MediumFault>
-        requires page { page < self.old.past.count }
+        requires page { page < pages_of self.old }
         requires range { at + length bytes.now ≤ 4096 }
-        requires open { self.old.health.failed ≡ false }
-        ensures written { IsTrue true → OnOk result (Written page at bytes.now (self.old.past.held.items) (self.new.past.held.items)) }
-        ensures crash { IsTrue true → Follows (Torn page at (length bytes.now)) (left_now self.old.past) (left_now self.new.past) }
-        ensures time { IsTrue true → LeavesOnly (λ m. moment_of m.past) (λ m. left_then m.past) self.old self.new (EitherSide (left_now self.old.past) (left_now self.new.past)) }
-        ensures last { self.new.last ≡ self.old.last }
-        ensures size { self.new.past.count ≡ self.old.past.count }
-        ensures state { self.new.health.failed ≡ is_err result }
-        ensures cause { HasCause (self.old.health.faults) (self.new.health.faults) result }
+        requires open { failed_in self.old ≡ false }
+        ensures written { IsTrue true → OnOk result (Written page at bytes.now (reads_of self.old) (reads_of self.new)) }
+        ensures crash { IsTrue true → Follows (Torn page at (length bytes.now)) (leaves self.old) (leaves self.new) }
+        ensures time { IsTrue true → LeavesOnly moment_in left_since_in self.old self.new (EitherSide (leaves self.old) (leaves self.new)) }
+        ensures last { last_of self.new ≡ last_of self.old }
+        ensures size { pages_of self.new ≡ pages_of self.old }
+        ensures state { failed_in self.new ≡ is_err result }
+        ensures cause { HasCause (faults_in self.old) (faults_in self.new) result }
         // A call fails exactly where it meets a stop or memory is wanting, and each stop is used once.
-        ensures stopped { IsTrue (is_some (first_met (next_count self.old.calls) (Some (page, at)) self.old.stops.items)) → IsErr result }
-        ensures failed { IsErr result → IsTrue (is_some (first_met (next_count self.old.calls) (Some (page, at)) self.old.stops.items)) ⊎ Rose self.old.starved self.new.starved }
-        ensures used { self.new.stops.items ≡ without_met (next_count self.old.calls) (Some (page, at)) self.old.stops.items }
-        ensures waits { MatchOption (first_met (next_count self.old.calls) (Some (page, at)) self.old.stops.items) (self.new.met ≡ self.old.met) (λ stop. self.new.met ≡ Some stop) }
-        ensures counted { self.new.calls ≡ next_count self.old.calls }
+        ensures stopped { IsTrue (is_some (first_met (next_count (calls_of self.old)) (Some (page, at)) (stops_of self.old))) → IsErr result }
+        ensures failed { IsErr result → IsTrue (is_some (first_met (next_count (calls_of self.old)) (Some (page, at)) (stops_of self.old))) ⊎ Rose self.old.starved self.new.starved }
+        ensures fed { OnOk result (self.new.starved ≡ self.old.starved) }
+        ensures used { stops_of self.new ≡ without_met (next_count (calls_of self.old)) (Some (page, at)) (stops_of self.old) }
+        ensures waits { MatchOption (first_met (next_count (calls_of self.old)) (Some (page, at)) (stops_of self.old)) (pending_of self.new ≡ pending_of self.old) (λ stop. self.new.met ≡ Some stop) }
+        ensures counted { calls_of self.new ≡ next_count (calls_of self.old) }
     {
         self.calls = self.calls.saturating_add(1);
         let met = take_met(&mut self.stops, self.calls, Some((page, at)));
@@ -156,21 +171,22 @@ impl Medium for MemoryMedium {
     }
 
     fn sync(&mut self) -> Result<(), MediumFault>
-        requires open { self.old.health.failed ≡ false }
-        ensures durable { IsTrue true → OnOk result (Only (self.old.past.held.items) (left_now self.new.past)) }
-        ensures reads { IsTrue true → self.new.past.held.items ≡ self.old.past.held.items }
-        ensures crash { IsTrue true → NoMore (left_now self.old.past) (left_now self.new.past) }
-        ensures time { IsTrue true → LeavesOnly (λ m. moment_of m.past) (λ m. left_then m.past) self.old self.new (EitherSide (left_now self.old.past) (left_now self.new.past)) }
-        ensures last { self.new.last ≡ self.old.last }
-        ensures size { self.new.past.count ≡ self.old.past.count }
-        ensures state { self.new.health.failed ≡ is_err result }
-        ensures cause { HasCause (self.old.health.faults) (self.new.health.faults) result }
+        requires open { failed_in self.old ≡ false }
+        ensures durable { IsTrue true → OnOk result (Only (reads_of self.old) (leaves self.new)) }
+        ensures reads { IsTrue true → reads_of self.new ≡ reads_of self.old }
+        ensures crash { IsTrue true → NoMore (leaves self.old) (leaves self.new) }
+        ensures time { IsTrue true → LeavesOnly moment_in left_since_in self.old self.new (EitherSide (leaves self.old) (leaves self.new)) }
+        ensures last { last_of self.new ≡ last_of self.old }
+        ensures size { pages_of self.new ≡ pages_of self.old }
+        ensures state { failed_in self.new ≡ is_err result }
+        ensures cause { HasCause (faults_in self.old) (faults_in self.new) result }
         // A call fails exactly where it meets a stop or memory is wanting, and each stop is used once.
-        ensures stopped { IsTrue (is_some (first_met (next_count self.old.calls) None self.old.stops.items)) → IsErr result }
-        ensures failed { IsErr result → IsTrue (is_some (first_met (next_count self.old.calls) None self.old.stops.items)) ⊎ Rose self.old.starved self.new.starved }
-        ensures used { self.new.stops.items ≡ without_met (next_count self.old.calls) None self.old.stops.items }
-        ensures waits { MatchOption (first_met (next_count self.old.calls) None self.old.stops.items) (self.new.met ≡ self.old.met) (λ stop. self.new.met ≡ Some stop) }
-        ensures counted { self.new.calls ≡ next_count self.old.calls }
+        ensures stopped { IsTrue (is_some (first_met (next_count (calls_of self.old)) None (stops_of self.old))) → IsErr result }
+        ensures failed { IsErr result → IsTrue (is_some (first_met (next_count (calls_of self.old)) None (stops_of self.old))) ⊎ Rose self.old.starved self.new.starved }
+        ensures fed { OnOk result (self.new.starved ≡ self.old.starved) }
+        ensures used { stops_of self.new ≡ without_met (next_count (calls_of self.old)) None (stops_of self.old) }
+        ensures waits { MatchOption (first_met (next_count (calls_of self.old)) None (stops_of self.old)) (pending_of self.new ≡ pending_of self.old) (λ stop. self.new.met ≡ Some stop) }
+        ensures counted { calls_of self.new ≡ next_count (calls_of self.old) }
     {
         self.calls = self.calls.saturating_add(1);
         if let Some(stop) = take_met(&mut self.stops, self.calls, None) {
@@ -185,20 +201,23 @@ impl Medium for MemoryMedium {
     }
 
     fn reopen(&mut self) -> Result<(), MediumFault>
-        ensures one { IsTrue true → OnOk result (left_now self.old.past (self.new.past.held.items)) }
-        ensures crash { IsTrue true → NoMore (left_now self.old.past) (left_now self.new.past) }
-        ensures time { IsTrue true → LeavesOnly (λ m. moment_of m.past) (λ m. left_then m.past) self.old self.new (EitherSide (left_now self.old.past) (left_now self.new.past)) }
-        ensures last { self.new.last ≡ self.old.last }
-        ensures size { self.new.past.count ≡ self.old.past.count }
-        ensures state { self.new.health.failed ≡ is_err result }
-        ensures cause { HasCause (self.old.health.faults) (self.new.health.faults) result }
+        ensures one { IsTrue true → OnOk result (leaves self.old (reads_of self.new)) }
+        ensures crash { IsTrue true → NoMore (leaves self.old) (leaves self.new) }
+        ensures time { IsTrue true → LeavesOnly moment_in left_since_in self.old self.new (EitherSide (leaves self.old) (leaves self.new)) }
+        ensures last { last_of self.new ≡ last_of self.old }
+        ensures size { pages_of self.new ≡ pages_of self.old }
+        ensures state { failed_in self.new ≡ is_err result }
+        ensures cause { HasCause (faults_in self.old) (faults_in self.new) result }
         // A call fails exactly where it meets a stop or memory is wanting, and each stop is used once.
-        ensures stopped { IsTrue (is_some (first_met (next_count self.old.calls) None self.old.stops.items)) → IsErr result }
-        ensures failed { IsErr result → IsTrue (is_some (first_met (next_count self.old.calls) None self.old.stops.items)) ⊎ Rose self.old.starved self.new.starved }
-        ensures used { self.new.stops.items ≡ without_met (next_count self.old.calls) None self.old.stops.items }
+        ensures stopped { IsTrue (is_some (first_met (next_count (calls_of self.old)) None (stops_of self.old))) → IsErr result }
+        ensures failed { IsErr result → IsTrue (is_some (first_met (next_count (calls_of self.old)) None (stops_of self.old))) ⊎ Rose self.old.starved self.new.starved }
+        ensures fed { OnOk result (self.new.starved ≡ self.old.starved) }
+        ensures used { stops_of self.new ≡ without_met (next_count (calls_of self.old)) None (stops_of self.old) }
+        ensures waits { MatchOption (first_met (next_count (calls_of self.old)) None (stops_of self.old)) (OnErr result (pending_of self.new ≡ pending_of self.old)) (λ stop. pending_of self.new ≡ Some stop) }
+        ensures done { OnOk result (pending_of self.new ≡ None) }
         // The stop that was waiting has torn what was written and not synced.
-        ensures torn { OnOk result (self.new.past.held.items ≡ after_stop self.old.met (spans_of (drop self.old.past.synced self.old.past.events.items)) self.old.past.held.items) }
-        ensures counted { self.new.calls ≡ next_count self.old.calls }
+        ensures torn { OnOk result (reads_of self.new ≡ after_stop (pending_of self.old) (unsynced_of self.old) (reads_of self.old)) }
+        ensures counted { calls_of self.new ≡ next_count (calls_of self.old) }
     {
         self.calls = self.calls.saturating_add(1);
         if let Some(stop) = take_met(&mut self.stops, self.calls, None) {

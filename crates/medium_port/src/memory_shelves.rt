@@ -1,9 +1,8 @@
-ghost use Rattle.std.specs.Prelude.{◌≡◌, ◌≤◌, ◌<◌, Some, None, ℕ, List, length, replicate, slice_index, false, true, IsTrue, IfOk, IfErr, IsErr, OnOk, OnErr, IfSome, IfNone};
-ghost use Rattle.medium_port.specs.Image.{Only};
-ghost use Rattle.medium_port.specs.Pasts.{left_now};
+ghost use Rattle.std.specs.Prelude.{◌≡◌, ◌≢◌, ◌↔◌, ◌⊎◌, ◌≤◌, ◌++◌, [], ◌∷◌, Some, None, ℕ, length, slice_index, false, true, Contains, IsTrue, IfOk, IfErr, IsErr, OnOk, OnErr, IfSome, IfNone};
+ghost use Rattle.stream_port.specs.Causes.{HasCause, Rose};
 ghost use Rattle.medium_port.specs.declared.shelves.MediumName.{MediumName};
 ghost use Rattle.medium_port.specs.declared.memory_media.MemoryMedium.{MemoryMedium};
-ghost use Rattle.medium_port.specs.Slots.{slot_of, NowHas, IsTaken, IsBlankOf, image_there, left_there, faults_there};
+ghost use Rattle.medium_port.specs.Slots.{slot_of, NowHas, IsBlankOf};
 
 use crate::media::MediumFault;
 use crate::memory_media::MemoryMedium;
@@ -33,13 +32,17 @@ pub struct MemoryShelf {
 }
 
 impl MemoryShelf {
+    ghost use Rattle.medium_port.specs.MemoryMedia.{failed_in};
+    ghost use Rattle.medium_port.specs.MemoryShelves.{under, failing, new_pages, shelf_faults, NowUnder, SameUnder, SameCounts};
+
     /// A shelf whose blank media have so many pages.
     pub fn new(alloc: Global, pages: u32) -> MemoryShelf
         requires some { 1 ≤ pages }
         requires most { pages ≤ 1048576 }
-        ensures empty { (name : MediumName) → slot_of result.slots.items name ≡ None }
-        ensures pages { result.pages ≡ pages }
-        ensures faults { (result.faults ≡ 0) × (result.starved ≡ 0) }
+        ensures empty { (name : MediumName) → under result name ≡ None }
+        ensures all_well { failing result ≡ [] }
+        ensures pages { new_pages result ≡ pages }
+        ensures faults { (shelf_faults result ≡ 0) × (result.starved ≡ 0) }
     {
         MemoryShelf {
             alloc,
@@ -61,10 +64,12 @@ impl MemoryShelf {
         volume: u32,
         medium: MemoryMedium,
     ) -> Result<(), (MemoryMedium, AllocError)>
-        requires { medium.health.failed ≡ false }
-        ensures now { OnOk result (NowHas (record { kind = kind; number = number; volume = volume }) (Some medium) self.old.slots.items self.new.slots.items) }
+        requires { failed_in medium ≡ false }
+        ensures now { OnOk result (NowUnder (record { kind = kind; number = number; volume = volume }) (Some medium) self.old self.new) }
         ensures err { IfErr result (λ e. e.0 ≡ medium) }
-        ensures err_kept { OnErr result (self.new.slots.items ≡ self.old.slots.items) }
+        ensures err_kept { OnErr result (SameUnder self.old self.new) }
+        ensures fails { failing self.new ≡ failing self.old }
+        ensures counts { SameCounts self.old self.new }
     {
         let name = MediumName {
             kind,
@@ -85,7 +90,12 @@ impl MemoryShelf {
     }
 
     /// Lets each taking of a name fail. After a refusal the shelf is as before.
-    pub fn fail(&mut self, kind: NodeKind, number: u8, volume: u32) -> Result<(), AllocError> {
+    pub fn fail(&mut self, kind: NodeKind, number: u8, volume: u32) -> Result<(), AllocError>
+        ensures fails { OnOk result (failing self.new ≡ failing self.old ++ record { kind = kind; number = number; volume = volume } ∷ []) }
+        ensures err { OnErr result (failing self.new ≡ failing self.old) }
+        ensures others { SameUnder self.old self.new }
+        ensures counts { SameCounts self.old self.new }
+    {
         self.fails.push(MediumName {
             kind,
             number,
@@ -122,22 +132,40 @@ fn make_blank(
 impl Shelf for MemoryShelf {
     type Medium = MemoryMedium;
 
-    ghost is_taken = { λ s name. IsTaken (slot_of s.slots.items name) };
+    ghost use Rattle.medium_port.specs.Names.{IsJustSo};
+    ghost use Rattle.medium_port.specs.MemoryMedia.{reads_of, leaves, failed_in, faults_in};
+    ghost use Rattle.medium_port.specs.MemoryShelves.{TakenFrom, image_under, LeftUnder, faults_under, failing, new_pages, shelf_faults};
 
-    ghost holds = { λ s name. image_there (replicate s.pages s.zero) (slot_of s.slots.items name) };
+    ghost is_taken = { TakenFrom };
 
-    ghost may_hold = { λ s name. left_there (replicate s.pages s.zero) (slot_of s.slots.items name) };
+    ghost holds = { image_under };
 
-    ghost medium_faults = { λ s name. faults_there (slot_of s.slots.items name) };
+    ghost may_hold = { LeftUnder };
 
-    ghost faults = { λ s. s.faults };
+    ghost medium_faults = { faults_under };
 
-    fn take(
-        &mut self,
-        kind: NodeKind,
-        number: u8,
-        volume: u32,
-    ) -> Result<MemoryMedium, MediumFault> {
+    ghost faults = { shelf_faults };
+
+    fn take(&mut self, kind: NodeKind, number: u8, volume: u32) -> Result<MemoryMedium, MediumFault>
+        ensures content { IsTrue true → IfOk result (λ m. IsJustSo (image_under self.old (record { kind = kind; number = number; volume = volume })) (reads_of m) (LeftUnder self.old (record { kind = kind; number = number; volume = volume })) (leaves m)) }
+        ensures count { IfOk result (λ m. faults_in m ≡ faults_under self.old (record { kind = kind; number = number; volume = volume })) }
+        ensures open { IfOk result (λ m. failed_in m ≡ false) }
+        ensures once { TakenFrom self.old (record { kind = kind; number = number; volume = volume }) → IsErr result }
+        ensures taken { IfOk result (λ m. TakenFrom self.new (record { kind = kind; number = number; volume = volume })) }
+        ensures others { (name : MediumName) → name ≢ record { kind = kind; number = number; volume = volume } → TakenFrom self.new name ↔ TakenFrom self.old name }
+        ensures others_count { (name : MediumName) → name ≢ record { kind = kind; number = number; volume = volume } → faults_under self.new name ≡ faults_under self.old name }
+        ensures others_content { IsTrue true → (name : MediumName) → name ≢ record { kind = kind; number = number; volume = volume } → IsJustSo (image_under self.old name) (image_under self.new name) (LeftUnder self.old name) (LeftUnder self.new name) }
+        ensures err { OnErr result ((name : MediumName) → TakenFrom self.new name ↔ TakenFrom self.old name) }
+        ensures err_count { OnErr result ((name : MediumName) → faults_under self.new name ≡ faults_under self.old name) }
+        ensures err_content { IsTrue true → OnErr result ((name : MediumName) → IsJustSo (image_under self.old name) (image_under self.new name) (LeftUnder self.old name) (LeftUnder self.new name)) }
+        ensures cause { HasCause (shelf_faults self.old) (shelf_faults self.new) result }
+        // A taking fails exactly where the name is listed, was taken, or memory is wanting.
+        ensures listed { Contains (failing self.old) (record { kind = kind; number = number; volume = volume }) → IsErr result }
+        ensures failed { IsErr result → Contains (failing self.old) (record { kind = kind; number = number; volume = volume }) ⊎ (TakenFrom self.old (record { kind = kind; number = number; volume = volume }) ⊎ Rose self.old.starved self.new.starved) }
+        ensures fed { OnOk result (self.new.starved ≡ self.old.starved) }
+        ensures list { failing self.new ≡ failing self.old }
+        ensures pages { new_pages self.new ≡ new_pages self.old }
+    {
         let name = MediumName {
             kind,
             number,

@@ -69,10 +69,10 @@ fn tear_span(pages: &mut Vec<[u8; 4096]>, page: u32, at: u16, bytes: &[u8], stop
     requires range { at + length bytes.now ≤ 4096 }
     ensures { pages.new.items ≡ put_bytes page at (torn_bytes stop bytes.now) pages.old.items }
 {
-    let start = at as usize;
-    let end = start + bytes.len();
+    let from = at as usize;
+    let to = from + bytes.len();
     let place = &mut pages[page as usize];
-    tear(&mut place[start..end], bytes, stop);
+    tear(&mut place[from..to], bytes, stop);
 }
 
 // Tears what the event wrote.
