@@ -8,9 +8,7 @@ use value_form::{Bytes, ObjectId, Value};
 const TIME: [u8; 14] = [0, 0, 0, 0, 0, 0, 0, 1, 1, 1, 0, 0, 0, 1];
 
 /// The greatest pseudotime.
-const LAST: [u8; 14] = [
-    0, 0, 0, 255, 255, 255, 255, 255, 16, 16, 255, 255, 255, 255,
-];
+const LAST: [u8; 14] = [0, 0, 0, 255, 255, 255, 255, 255, 16, 16, 255, 255, 255, 255];
 
 /// A message, its bytes, and where its second and third field begin, or where it ends.
 type Row = (Message, Vec<u8>, usize, usize);
@@ -23,159 +21,110 @@ fn last() -> Option<PseudoTime> {
     PseudoTime::new(Stamp::new(1_099_511_627_775, 16, 16)?, u32::MAX)
 }
 
-fn bytes_of(alloc: Global, parts: &[&[u8]]) -> Result<Vec<u8>, Fail> {
+// A message with its tag, its stamp or pseudotime, and what follows these.
+fn row(
+    alloc: Global,
+    message: Message,
+    tag: u8,
+    front: &[u8],
+    field: &[u8],
+    third: usize,
+) -> Result<Row, AllocError> {
     let mut bytes = Vec::new(alloc);
-    for part in parts {
-        bytes.extend_from_slice(part)?;
-    }
-    Ok(bytes)
+    bytes.push(tag)?;
+    bytes.extend_from_slice(front)?;
+    bytes.extend_from_slice(field)?;
+    let second = front.len().saturating_add(1);
+    Ok((message, bytes, second, third))
 }
 
 // Messages with a stamp alone.
-fn stamps(alloc: Global, rows: &mut Vec<Row>, stamp: Stamp) -> Result<(), Fail> {
-    for (message, tag) in [
-        (Message::Begun { stamp }, 2u8),
-        (Message::Commit { stamp }, 10),
-        (Message::Withdraw { stamp }, 11),
-        (Message::Ask { stamp }, 13),
-    ] {
-        rows.push((
-            message,
-            bytes_of(alloc, [[tag].as_slice(), &TIME[..10]].as_slice())?,
-            11,
-            11,
-        ))?;
-    }
-    Ok(())
+fn stamps(alloc: Global, stamp: Stamp) -> Result<Vec<Row>, AllocError> {
+    let front = &TIME[..10];
+    let mut rows = Vec::new(alloc);
+    rows.push(row(alloc, Message::Begun { stamp }, 2, front, &[], 11)?)?;
+    rows.push(row(alloc, Message::Commit { stamp }, 10, front, &[], 11)?)?;
+    rows.push(row(alloc, Message::Withdraw { stamp }, 11, front, &[], 11)?)?;
+    rows.push(row(alloc, Message::Ask { stamp }, 13, front, &[], 11)?)?;
+    Ok(rows)
 }
 
 // Messages with a stamp and another field.
-fn stamped(alloc: Global, rows: &mut Vec<Row>, stamp: Stamp) -> Result<(), Fail> {
+fn stamped(alloc: Global, stamp: Stamp) -> Result<Vec<Row>, AllocError> {
+    let front = &TIME[..10];
     let expired = Decision::Expired {
         deadline: 1,
         moment: u64::MAX,
     };
-    for (message, tag, field) in [
-        (
-            Message::Begin { stamp, timeout: 1 },
-            1u8,
-            [0u8, 0, 0, 1].as_slice(),
-        ),
-        (
-            Message::Begin {
-                stamp,
-                timeout: 1_000_000,
-            },
-            1,
-            &[0, 15, 66, 64],
-        ),
-        (
-            Message::Decided {
-                stamp,
-                decision: Decision::Committed,
-            },
-            12,
-            &[1],
-        ),
-        (
-            Message::Decided {
-                stamp,
-                decision: expired,
-            },
-            12,
-            &[
-                3, 0, 0, 0, 0, 0, 0, 0, 1, 255, 255, 255, 255, 255, 255, 255, 255,
-            ],
-        ),
-        (
-            Message::Tell {
-                stamp,
-                committed: true,
-            },
-            14,
-            &[1],
-        ),
-        (
-            Message::Tell {
-                stamp,
-                committed: false,
-            },
-            14,
-            &[2],
-        ),
-    ] {
-        let bytes = bytes_of(alloc, [[tag].as_slice(), &TIME[..10], field].as_slice())?;
-        let end = bytes.len();
-        rows.push((message, bytes, 11, end))?;
+    let mut rows = Vec::new(alloc);
+    let least = Message::Begin { stamp, timeout: 1 };
+    rows.push(row(alloc, least, 1, front, &[0, 0, 0, 1], 15)?)?;
+    let most = Message::Begin {
+        stamp,
+        timeout: 1_000_000,
+    };
+    rows.push(row(alloc, most, 1, front, &[0, 15, 66, 64], 15)?)?;
+    for (decision, third) in [(Decision::Committed, 12), (Decision::Withdrawn, 12)] {
+        let byte = if decision == Decision::Committed {
+            1
+        } else {
+            2
+        };
+        let message = Message::Decided { stamp, decision };
+        rows.push(row(alloc, message, 12, front, &[byte], third)?)?;
     }
-    Ok(())
+    let late = Message::Decided {
+        stamp,
+        decision: expired,
+    };
+    let field = [
+        3, 0, 0, 0, 0, 0, 0, 0, 1, 255, 255, 255, 255, 255, 255, 255, 255,
+    ];
+    rows.push(row(alloc, late, 12, front, &field, 28)?)?;
+    for (committed, byte) in [(true, 1), (false, 2)] {
+        let message = Message::Tell { stamp, committed };
+        rows.push(row(alloc, message, 14, front, &[byte], 12)?)?;
+    }
+    Ok(rows)
 }
 
 // Messages with a pseudotime.
-fn timed(
-    alloc: Global,
-    rows: &mut Vec<Row>,
-    at: PseudoTime,
-    late: PseudoTime,
-) -> Result<(), Fail> {
+fn timed(alloc: Global, at: PseudoTime, late: PseudoTime) -> Result<Vec<Row>, AllocError> {
     let object = ObjectId {
         repository: 16,
         number: u32::MAX,
     };
-    let text = Bytes::of(b"x".as_slice().to_vec(alloc)?);
-    for (message, tag, field, third) in [
-        (Message::Stored { at }, 6u8, [].as_slice(), 15),
-        (Message::Ended { at }, 9, &[], 15),
-        (
-            Message::Read { at, object },
-            3,
-            &[16u8, 255, 255, 255, 255],
-            20,
-        ),
-        (
-            Message::Value {
-                at,
-                value: Value::Nothing,
-            },
-            4,
-            &[0],
-            16,
-        ),
-        (
-            Message::Value {
-                at,
-                value: Value::Number(-2),
-            },
-            4,
-            &[1, 255, 255, 255, 255, 255, 255, 255, 254],
-            24,
-        ),
-        (
-            Message::Write {
-                at,
-                object,
-                value: Value::Text(text),
-            },
-            5,
-            &[16, 255, 255, 255, 255, 2, 0, 1, b'x'],
-            20,
-        ),
-        (Message::LaterRead { at, end: late }, 7, &LAST, 29),
-        (Message::LaterVersion { at, start: late }, 8, &LAST, 29),
-    ] {
-        let bytes = bytes_of(alloc, [[tag].as_slice(), &TIME, field].as_slice())?;
-        rows.push((message, bytes, 15, third))?;
-    }
-    Ok(())
+    let mut rows = Vec::new(alloc);
+    rows.push(row(alloc, Message::Stored { at }, 6, &TIME, &[], 15)?)?;
+    rows.push(row(alloc, Message::Ended { at }, 9, &TIME, &[], 15)?)?;
+    let read = Message::Read { at, object };
+    rows.push(row(alloc, read, 3, &TIME, &[16, 255, 255, 255, 255], 20)?)?;
+    let value = Value::Nothing;
+    rows.push(row(alloc, Message::Value { at, value }, 4, &TIME, &[0], 16)?)?;
+    let value = Value::Number(-2);
+    let field = [1, 255, 255, 255, 255, 255, 255, 255, 254];
+    rows.push(row(alloc, Message::Value { at, value }, 4, &TIME, &field, 24)?)?;
+    let value = Value::Text(Bytes::of(b"x".as_slice().to_vec(alloc)?));
+    let write = Message::Write { at, object, value };
+    let field = [16, 255, 255, 255, 255, 2, 0, 1, b'x'];
+    rows.push(row(alloc, write, 5, &TIME, &field, 20)?)?;
+    let refusal = Message::LaterRead { at, end: late };
+    rows.push(row(alloc, refusal, 7, &TIME, &LAST, 29)?)?;
+    let refusal = Message::LaterVersion { at, start: late };
+    rows.push(row(alloc, refusal, 8, &TIME, &LAST, 29)?)?;
+    Ok(rows)
 }
 
 fn table(alloc: Global) -> Result<Vec<Row>, Fail> {
     let first = first().ok_or("in range")?;
     let last = last().ok_or("in range")?;
-    let mut rows = Vec::new(alloc);
-    stamps(alloc, &mut rows, first.stamp())?;
-    stamped(alloc, &mut rows, first.stamp())?;
-    timed(alloc, &mut rows, first, last)?;
+    let mut rows = timed(alloc, first, last)?;
+    for row in stamps(alloc, first.stamp())? {
+        rows.push(row)?;
+    }
+    for row in stamped(alloc, first.stamp())? {
+        rows.push(row)?;
+    }
     Ok(rows)
 }
 
@@ -228,18 +177,13 @@ fn places_of_faults(rt: HostRuntime) {
         ([6, 0, 0, 0, 0, 0, 0, 0, 1, 1, 1, 0, 0, 0, 0].as_slice(), 1),
         // No repository has the number 0.
         (
-            &[
-                3, 0, 0, 0, 0, 0, 0, 0, 1, 1, 1, 0, 0, 0, 1, 0, 0, 0, 0, 0,
-            ],
+            &[3, 0, 0, 0, 0, 0, 0, 0, 1, 1, 1, 0, 0, 0, 1, 0, 0, 0, 0, 0],
             15,
         ),
         // Learned is 1 or 2.
         ([14, 0, 0, 0, 0, 0, 0, 0, 1, 1, 1, 3].as_slice(), 11),
         // A kind of value that there isn't.
-        (
-            &[4, 0, 0, 0, 0, 0, 0, 0, 1, 1, 1, 0, 0, 0, 1, 3],
-            15,
-        ),
+        (&[4, 0, 0, 0, 0, 0, 0, 0, 1, 1, 1, 0, 0, 0, 1, 3], 15),
     ] {
         assert!(rt; read(alloc, bytes) == Err(MessageFault::Form { at }));
     }
