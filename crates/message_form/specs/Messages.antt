@@ -1,12 +1,11 @@
 -- The bytes of a message.
-use Rattle.std.specs.Prelude.{ℕ, ◌+◌, ◌-◌, ◌≤◌, ◌<◌, ◌^◌, ◌==◌, List, [], ◌∷◌, ◌++◌, length, Result, Ok, Err, if◌then◌else◌}
+use Rattle.std.specs.Prelude.{ℕ, ◌-◌, ◌≤◌, ◌<◌, ◌^◌, ◌==◌, List, [], ◌∷◌, ◌++◌, length, Result, Ok, Err, if◌then◌else◌}
 use Rattle.std.specs.Int.{w32, to_be_bytes}
 use Rattle.pseudo_time.specs.StampParts.{IsStamp, stamp_bytes}
 use Rattle.pseudo_time.specs.TimeParts.{IsTime, time_bytes}
 use Rattle.field_form.specs.Decisions.{IsDecision, decision_text, decision_at}
 use Rattle.field_form.specs.Numbers.{byte_at}
 use Rattle.field_form.specs.Times.{stamp_at, time_at}
-use Rattle.value_form.specs.declared.values.Value.{Value}
 use Rattle.value_form.specs.ObjectBytes.{IsObject, object_bytes, object_bytes_at}
 use Rattle.value_form.specs.ValueBytes.{IsValue, value_bytes, value_at, found, ◌>>=◌, field}
 use Rattle.effect_form.specs.Effects.{learned_byte, learned_at, timeout_at}
