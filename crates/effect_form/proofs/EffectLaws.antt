@@ -31,13 +31,13 @@ use Rattle.effect_form.proofs.SequenceLaws.{whole_one-takes, whole_one-again, wh
 abbrev IsLong : ℕ → Type 0
 IsLong n = n < 2 ^ 64
 
-abbrev AnyAnswer : Bool → Type 0
+abbrev pub AnyAnswer : Bool → Type 0
 AnyAnswer b = Unit {0}
 
-abbrev learned_bytes : Bool → List ℕ
+abbrev pub learned_bytes : Bool → List ℕ
 learned_bytes b = learned_byte b ∷ []
 
-abbrev value_found : List ℕ → Option (Value × List ℕ)
+abbrev pub value_found : List ℕ → Option (Value × List ℕ)
 value_found bytes = found (value_at bytes)
 
 index_form : IsForm (to_be_bytes w32) IsIndex index_at
@@ -61,7 +61,7 @@ learned_again : (b : Bool) (rest : List ℕ) → AnyAnswer b → learned_at (lea
 learned_again true rest h = refl
 learned_again false rest h = refl
 
-learned_form : IsForm learned_bytes AnyAnswer learned_at
+pub learned_form : IsForm learned_bytes AnyAnswer learned_at
 learned_form = record { takes = learned_takes; again = learned_again }
 
 -- ---- back places
@@ -157,7 +157,7 @@ one_byte b = b ∷ []
 home_form : IsForm one_byte (λ n. (n < 256) × (1 ≤ n) × (n ≤ 16)) home_at
 home_form = between_form 1 16 byte_form
 
-timeout_form : IsForm (to_be_bytes w32) (λ n. (n < 2 ^ 32) × (1 ≤ n) × (n ≤ 1000000)) timeout_at
+pub timeout_form : IsForm (to_be_bytes w32) (λ n. (n < 2 ^ 32) × (1 ≤ n) × (n ≤ 1000000)) timeout_at
 timeout_form = between_form 1 1000000 u32_form
 
 tries_form : IsForm one_byte (λ n. (n < 256) × (1 ≤ n) × (n ≤ 100)) tries_at

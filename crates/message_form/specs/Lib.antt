@@ -1,0 +1,2 @@
+pub mod MessageReads
+pub mod Messages
