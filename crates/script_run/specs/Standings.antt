@@ -1,5 +1,5 @@
 -- Where a run stands in its script, and what is still to be done.
-use Rattle.std.specs.Prelude.{ℕ, zero, suc, ◌+◌, ◌-◌, List, [], ◌∷◌, ◌++◌, drop, Option, Some, None, slice_get}
+use Rattle.std.specs.Prelude.{ℕ, zero, suc, ◌+◌, ◌-◌, List, [], ◌∷◌, ◌++◌, drop, length, Option, Some, None, slice_get}
 use Rattle.value_form.specs.declared.scripts.Stmt.{Stmt, out-Stmt}
 use Rattle.value_form.specs.declared.scripts.Stmt.TheOpen.{Stmt-F}
 use Rattle.value_form.specs.declared.transcripts.Line.{Line}
@@ -102,10 +102,12 @@ value_shown (line.Read o a) = a
 value_shown (line.Wrote o a) = a
 value_shown (line.Print a) = a
 
+abbrev pub shown_in : Option Line → Value
+shown_in None = v.Nothing
+shown_in (Some l) = value_shown l
+
 abbrev pub last_value : List Line → Value
-last_value [] = v.Nothing
-last_value (l ∷ []) = value_shown l
-last_value (l ∷ m ∷ ls) = last_value (m ∷ ls)
+last_value ls = shown_in (slice_get ls (length ls - 1))
 
 -- the name that waits gets the value of the last line
 abbrev pub named : Option (List ℕ) → Standing → Standing

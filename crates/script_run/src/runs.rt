@@ -6,7 +6,7 @@ ghost use Rattle.value_form.specs.Ranges.{IsScript};
 ghost use Rattle.script_run.specs.Told.{begun, answered, IsRead, IsWrite, Tells};
 ghost use Rattle.script_run.specs.Standings.{last_value, named};
 ghost use Rattle.script_run.specs.Machines.{stand_of};
-ghost use Rattle.script_run.specs.Runs.{end_of};
+ghost use Rattle.script_run.specs.Runs as spec;
 
 use crate::halts::Halt;
 use crate::machines::Machine;
@@ -77,26 +77,26 @@ impl Run {
         ensures again { self.old.said ≢ None → self.new ≡ self.old }
         ensures err { OnErr result (self.new.said ≡ self.old.said) }
     {
-        settle(alloc, &mut self.waiting, &mut self.machine)?;
-        if self.stop.is_none() {
-            let halt = go(alloc, self.script.lines.as_slice(), &mut self.machine)?;
-            self.stop = Some(halt);
+        match &self.stop {
+            Some(halt) => Ok(next_of(alloc, halt)?),
+            None => self.go_on(alloc),
         }
-        self.told(alloc)
     }
 
-    // What it told last.
-    fn told(&self, alloc: Global) -> Result<Next, AllocError>
-        requires { self.now.said ≢ None }
-        ensures said { IfOk result (λ n. self.now.said ≡ Some n) }
-        ensures tells { IfOk result (λ n. Tells self.now.script self.now.answers self.now.lines n) }
+    // Goes on to the next request or the end, from where it was answered.
+    fn go_on(&mut self, alloc: Global) -> Result<Next, AllocError>
+        requires { self.old.said ≡ None }
+        ensures tells { IfOk result (λ n. Tells self.old.script self.old.answers self.new.lines n) }
+        ensures said { IfOk result (λ n. self.new.said ≡ Some n) }
+        ensures script { self.new.script ≡ self.old.script }
+        ensures answers { self.new.answers ≡ self.old.answers }
+        ensures err { OnErr result (self.new.said ≡ None) }
     {
-        match &self.stop {
-            None => Ok(Next::Finished),
-            Some(Halt::Read(_, object)) => Ok(Next::Read(*object)),
-            Some(Halt::Write(object, value)) => Ok(Next::Write(*object, value.copy(alloc)?)),
-            Some(Halt::End(ending)) => Ok(next_at(*ending)),
-        }
+        settle(alloc, &mut self.waiting, &mut self.machine)?;
+        let halt = go(alloc, self.script.lines.as_slice(), &mut self.machine)?;
+        let next = next_of(alloc, &halt)?;
+        self.stop = Some(halt);
+        Ok(next)
     }
 
     /// The answer to a read: what the object holds. Takes no memory.
@@ -136,13 +136,18 @@ impl Run {
     }
 }
 
-fn next_at(ending: Ending) -> Next
-    ensures { result ≡ end_of ending }
+fn next_of(alloc: Global, halt: &Halt) -> Result<Next, AllocError>
+    ensures { IfOk result (λ n. n ≡ spec.next_of halt.now) }
 {
-    match ending {
-        Ending::Finished => Next::Finished,
-        Ending::Withdrawn { line } => Next::Withdrawn { line },
-        Ending::Failed { line, kind } => Next::Failed { line, kind },
+    match halt {
+        Halt::Read(_, object) => Ok(Next::Read(*object)),
+        Halt::Write(object, value) => Ok(Next::Write(*object, value.copy(alloc)?)),
+        Halt::End(Ending::Finished) => Ok(Next::Finished),
+        Halt::End(Ending::Withdrawn { line }) => Ok(Next::Withdrawn { line: *line }),
+        Halt::End(Ending::Failed { line, kind }) => Ok(Next::Failed {
+            line: *line,
+            kind: *kind,
+        }),
     }
 }
 

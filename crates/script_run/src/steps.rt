@@ -1,11 +1,13 @@
-ghost use Rattle.std.specs.Prelude.{◌≡◌, ◌<◌, ◌+◌, ◌-◌, ◌^◌, IfOk, None};
+ghost use Rattle.std.specs.Prelude.{◌≡◌, ◌<◌, ◌+◌, ◌^◌, IfOk, IfSome, None, option_copied, slice_get};
 ghost use Rattle.value_form.specs.declared.scripts.Stmt.{out-Stmt};
 ghost use Rattle.value_form.specs.declared.scripts.Stmt.TheOpen.{Stmt-F};
 ghost use Rattle.value_form.specs.Mirror.{term, spot, plain};
+ghost use Rattle.value_form.specs.MirrorLaws.{shape};
 ghost use Rattle.value_form.specs.Ranges.{IsTerm, IsSpot, IsStep, IsScript};
 ghost use Rattle.value_form.specs.Meaning as meaning;
+ghost use Rattle.script_run.specs.Standings.{inner};
 ghost use Rattle.script_run.specs.Steps as spec;
-ghost use Rattle.script_run.specs.Machines.{stand_of, counted, MayPass, Arrives, GoesOn};
+ghost use Rattle.script_run.specs.Machines.{stand_of, counted, MayPass, ArrivesAt, Arrives, GoesOn};
 
 use crate::frames::{Frame, Part};
 use crate::halts::Halt;
@@ -17,7 +19,7 @@ use value_form::{
 };
 
 fn line_of(stmt: &Stmt) -> u16
-    ensures { result ≡ meaning.line_of (plain stmt.now) }
+    ensures { result ≡ meaning.line_of (shape (out-Stmt stmt.now)) }
 {
     match stmt {
         Stmt::Let(line, _, _) => *line,
@@ -209,6 +211,14 @@ fn begin(
     }
 }
 
+// The statement at which the machine stands. None at the end of a part.
+fn statement_at<'a>(script: &'a [Stmt], machine: &Machine) -> Option<&'a Stmt>
+    ensures found { option_copied result ≡ slice_get (inner script.now machine.now.path).statements machine.now.at }
+    ensures place { IfSome result (λ _. machine.now.at + 1 < 2 ^ 64) }
+{
+    machine.path.statements(script).get(machine.at)
+}
+
 // One step: a statement, or the end of a part.
 fn advance(
     alloc: Global,
@@ -218,22 +228,25 @@ fn advance(
     requires { IsScript script.now }
     ensures { Arrives (spec.step script.now (stand_of machine.old)) result machine.old machine.new }
 {
-    match machine.path.statements(script).get(machine.at) {
-        None => match machine.path.leave() {
-            None => Ok(Some(Halt::End(Ending::Finished))),
-            Some(at) => {
-                machine.at = at;
-                Ok(None)
-            }
-        },
-        Some(stmt) => {
-            if machine.left == 0 {
-                return Ok(Some(Halt::End(Ending::Failed {
-                    line: line_of(stmt),
-                    kind: FailKind::Budget,
-                })));
-            }
-            Ok(begin(alloc, stmt, machine)?)
+    match statement_at(script, machine) {
+        None => Ok(end_part(machine)),
+        Some(stmt) if machine.left == 0 => Ok(Some(Halt::End(Ending::Failed {
+            line: line_of(stmt),
+            kind: FailKind::Budget,
+        }))),
+        Some(stmt) => Ok(begin(alloc, stmt, machine)?),
+    }
+}
+
+// The end of a part: its next turn, or past its statement, or the end of the script.
+fn end_part(machine: &mut Machine) -> Option<Halt>
+    ensures { ArrivesAt (spec.at_end (stand_of machine.old) (spec.left_from machine.old.path)) result machine.old machine.new }
+{
+    match machine.path.leave() {
+        None => Some(Halt::End(Ending::Finished)),
+        Some(at) => {
+            machine.at = at;
+            None
         }
     }
 }
