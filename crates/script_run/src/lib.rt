@@ -11,3 +11,6 @@ mod steps;
 
 pub use nexts::Next;
 pub use runs::Run;
+
+#[cfg(test)]
+mod tests;
