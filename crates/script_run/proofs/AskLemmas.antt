@@ -1,5 +1,5 @@
 -- The answer to a request goes on with the script; without one it stops there.
-use Rattle.std.proofs.Common.{◌≡◌, ℕ, zero, suc, ◌+◌, ◌-◌, Bool, true, false, List, [], ◌∷◌, ◌++◌, Option, Some, None, Result, Ok, Err, refl, sym, ap, ◌∙◌, subst, arith}
+use Rattle.std.proofs.Common.{◌≡◌, ℕ, zero, suc, ◌+◌, ◌-◌, Bool, true, false, List, [], ◌∷◌, ◌++◌, Option, Some, None, Result, Ok, Err, refl, ap, ◌∙◌, arith}
 use Rattle.std.specs.Prelude.{slice_get, if◌then◌else◌}
 use Rattle.value_form.specs.declared.fail_kinds.FailKind.{FailKind}
 use Rattle.value_form.specs.declared.objects.ObjectId.{ObjectId}
@@ -10,11 +10,11 @@ use Rattle.value_form.specs.declared.values.Value.{Value}
 use Rattle.value_form.specs.Names.{with_name}
 use Rattle.value_form.specs.Mirror.{term, spot}
 use Rattle.value_form.specs.MirrorLaws.{shape}
-use Rattle.value_form.specs.Meaning.{Request, ToRead, ToWrite, Stop, Asks, Over, Came, Answer, Got, Stored, by_answers, got_from, stored_from, valued, read_of, write_of, done, begun, value, object_at, condition, count}
+use Rattle.value_form.specs.Meaning.{Request, ToRead, ToWrite, Asks, Came, Answer, Got, Stored, by_answers, got_from, stored_from, valued, read_of, write_of, done, begun, value, object_at, condition, count}
 use Rattle.script_run.specs.declared.frames.Part.TheVariants as part
 use Rattle.script_run.specs.declared.frames.Frame.{Frame}
 use Rattle.script_run.specs.Standings.{Standing, state_of, then_come, resume, inner, ahead, goes_to}
-use Rattle.script_run.specs.Steps.{Arrival, Onward, AtRead, AtWrite, AtEnd, on_value, past, into_part, repeating, chosen_part, chosen, repeated, begun_at, counted_at, left_from, at_end, step_at, step}
+use Rattle.script_run.specs.Steps.{Arrival, Onward, AtRead, AtWrite, AtEnd, on_value, repeating, chosen_part, begun_at, counted_at, left_from, at_end, step_at, step}
 use Rattle.script_run.proofs.KeepLemmas.{ahead_some}
 
 -- once a read or a write was answered
@@ -42,18 +42,18 @@ module _ (script : List Stmt) where
       → ((w : List Answer) → goes_to script (record s { left = suc n }) w ≡ then_come (valued by_answers r l (state_of (record s { left = n }) w) (λ o. read_of by_answers (got_from w o) name o (state_of (record s { left = n }) w))) (resume (ahead script (record s { at = s.at + 1 }))))
       → IsAnswered script (record s { left = suc n }) (on_value r l (λ o. AtRead name o))
   read_answered s n l name (Ok o) there = (
-      (λ a w. there (Got a ∷ w) ∙ ap (λ k. resume (ahead script (record s { at = s.at + 1 })) (record { names = with_name s.names name a; left = k; lines = s.lines ++ line.Read o a ∷ []; world = w })) (one_less n)),
-      there []
-    )
+    (λ a w. there (Got a ∷ w) ∙ ap (λ k. resume (ahead script (record s { at = s.at + 1 })) (record { names = with_name s.names name a; left = k; lines = s.lines ++ line.Read o a ∷ []; world = w })) (one_less n)),
+    there [],
+  )
   read_answered s n l name (Err k) there = tt
 
   write_answered : (s : Standing) (n l : ℕ) (r : Result ObjectId FailKind) (t : Result Value FailKind)
       → ((w : List Answer) → goes_to script (record s { left = suc n }) w ≡ then_come (valued by_answers r l (state_of (record s { left = n }) w) (λ o. valued by_answers t l (state_of (record s { left = n }) w) (λ a. write_of by_answers (stored_from w o a) o a (state_of (record s { left = n }) w)))) (resume (ahead script (record s { at = s.at + 1 }))))
       → IsAnswered script (record s { left = suc n }) (on_value r l (λ o. on_value t l (λ a. AtWrite o a)))
   write_answered s n l (Ok o) (Ok a) there = (
-      (λ w. there (Stored ∷ w) ∙ ap (λ k. resume (ahead script (record s { at = s.at + 1 })) (record { names = s.names; left = k; lines = s.lines ++ line.Wrote o a ∷ []; world = w })) (one_less n)),
-      there []
-    )
+    (λ w. there (Stored ∷ w) ∙ ap (λ k. resume (ahead script (record s { at = s.at + 1 })) (record { names = s.names; left = k; lines = s.lines ++ line.Wrote o a ∷ []; world = w })) (one_less n)),
+    there [],
+  )
   write_answered s n l (Ok o) (Err k) there = tt
   write_answered s n l (Err k) t there = tt
 

@@ -1,6 +1,6 @@
 -- A step that goes on leaves less to do.
-use Rattle.std.proofs.Common.{◌≡◌, ℕ, zero, suc, ◌+◌, ◌*◌, ◌<◌, ◌≤◌, Bool, true, false, List, [], ◌∷◌, Option, Some, None, Result, Ok, Err, refl, sym, ap, ◌∙◌, subst, arith}
-use Rattle.std.specs.Prelude.{slice_get, nat_le, ℤ, pos, negsuc, if◌then◌else◌}
+use Rattle.std.proofs.Common.{◌≡◌, ℕ, zero, suc, ◌<◌, ◌≤◌, Bool, true, false, List, [], ◌∷◌, Option, Some, None, Result, Ok, Err, refl, subst, arith}
+use Rattle.std.specs.Prelude.{slice_get, nat_le, pos, negsuc, if◌then◌else◌}
 use Rattle.std.proofs.lemmas.Bool.{leb-true}
 use Rattle.value_form.specs.declared.fail_kinds.FailKind.{FailKind}
 use Rattle.value_form.specs.declared.fail_kinds.FailKind.TheVariants as fails
@@ -16,7 +16,7 @@ use Rattle.script_run.specs.declared.frames.Part.{Part}
 use Rattle.script_run.specs.declared.frames.Part.TheVariants as part
 use Rattle.script_run.specs.declared.frames.Frame.{Frame}
 use Rattle.script_run.specs.Standings.{Standing, inner}
-use Rattle.script_run.specs.Steps.{Arrival, Onward, AtRead, AtWrite, AtEnd, on_value, past, into_part, repeating, chosen_part, chosen, repeated, begun_at, counted_at, left_by, left_from, at_end, step_at, step, turns_in, turns_on, weight}
+use Rattle.script_run.specs.Steps.{Arrival, Onward, AtRead, AtWrite, AtEnd, on_value, past, into_part, chosen, repeated, begun_at, counted_at, left_by, left_from, at_end, step_at, step, turns_in, weight}
 
 -- a part is repeated 1,000 times at most
 most_if : (n m : ℕ) (b : Bool) → nat_le m 1000 ≡ b → (if b then Ok m else Err fails.Count) ≡ Ok n → n ≤ 1000

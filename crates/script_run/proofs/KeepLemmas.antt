@@ -1,24 +1,23 @@
 -- A step of a run keeps where the script comes to.
-use Rattle.std.proofs.Common.{◌≡◌, ◌≢◌, ℕ, zero, suc, ◌+◌, ◌-◌, Bool, true, false, List, [], ◌∷◌, ◌++◌, drop, Option, Some, None, Result, Ok, Err, ⊎_elim, refl, sym, ap, ◌∙◌, subst, arith, append-nil}
+use Rattle.std.proofs.Common.{◌≡◌, ◌≢◌, ℕ, zero, suc, ◌+◌, ◌-◌, Bool, true, false, List, [], ◌∷◌, drop, Option, Some, None, Result, Ok, Err, ⊎_elim, refl, sym, ap, ◌∙◌, subst, arith, append-nil}
 use Rattle.std.specs.Prelude.{slice_get, if◌then◌else◌}
 use Rattle.std.proofs.lemmas.List.{drop_more, drop_all}
 use Rattle.std.proofs.lemmas.Option.{slice_get_within, get_or_from_slice_get, slice_get_cases}
-use Rattle.value_form.specs.declared.endings.Ending.TheVariants as ending
 use Rattle.value_form.specs.declared.fail_kinds.FailKind.{FailKind}
 use Rattle.value_form.specs.declared.objects.ObjectId.{ObjectId}
 use Rattle.value_form.specs.declared.scripts.Stmt.{Stmt, out-Stmt}
 use Rattle.value_form.specs.declared.scripts.Stmt.TheOpen.{Stmt-F}
 use Rattle.value_form.specs.declared.transcripts.Line.TheVariants as line
 use Rattle.value_form.specs.declared.values.Value.{Value}
-use Rattle.value_form.specs.Mirror.{Step, plain, block, term, spot}
+use Rattle.value_form.specs.Mirror.{plain, block, term, spot}
 use Rattle.value_form.specs.MirrorLaws.{shape, plain-out}
-use Rattle.value_form.specs.Meaning.{State, Came, Outcome, Goes, Stops, Over, Answer, by_answers, then_do, valued, write_of, read_of, turns, begun, done, all_done, finished, value, object_at, condition, count}
+use Rattle.value_form.specs.Meaning.{State, Came, Outcome, Goes, Stops, Over, Answer, by_answers, then_do, valued, turns, begun, done, all_done, value, object_at, condition, count}
 use Rattle.script_run.specs.declared.frames.Part.{Part}
 use Rattle.script_run.specs.declared.frames.Part.TheVariants as part
 use Rattle.script_run.specs.declared.frames.Frame.{Frame}
 use Rattle.script_run.specs.Told.{answers_of}
-use Rattle.script_run.specs.Standings.{Standing, state_of, Rest, Ends, More, Again, then_come, resume, either_part, part_of, entered_in, further, inner, ahead, goes_to}
-use Rattle.script_run.specs.Steps.{Arrival, Onward, AtRead, AtWrite, AtEnd, on_value, past, into_part, repeating, chosen_part, chosen, repeated, begun_at, counted_at, left_by, left_from, at_end, step_at, step}
+use Rattle.script_run.specs.Standings.{Standing, state_of, More, Again, then_come, resume, part_of, entered_in, further, inner, ahead, goes_to}
+use Rattle.script_run.specs.Steps.{Arrival, Onward, AtRead, AtWrite, AtEnd, on_value, into_part, repeating, chosen_part, begun_at, counted_at, left_by, left_from, at_end, step_at, step}
 use Rattle.script_run.specs.Machines.{counted, SameAhead}
 use Rattle.script_run.proofs.LineLemmas.{answers_of-append}
 

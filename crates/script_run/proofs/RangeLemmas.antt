@@ -4,9 +4,9 @@ use Rattle.std.specs.Prelude.{slice_get, option_copied}
 use Rattle.std.specs.Borrow.{Bor}
 use Rattle.value_form.specs.declared.scripts.Stmt.{Stmt, out-Stmt}
 use Rattle.value_form.specs.declared.scripts.Stmt.TheOpen.{Stmt-F}
-use Rattle.value_form.specs.Mirror.{plain, block}
+use Rattle.value_form.specs.Mirror.{plain}
 use Rattle.value_form.specs.MirrorLaws.{shape, plain-out}
-use Rattle.value_form.specs.Ranges.{IsStep, IsBlock, IsScript}
+use Rattle.value_form.specs.Ranges.{IsStep, IsScript}
 use Rattle.script_run.specs.declared.frames.Part.{Part}
 use Rattle.script_run.specs.declared.frames.Part.TheVariants as part
 use Rattle.script_run.specs.declared.frames.Frame.{Frame}

@@ -9,7 +9,7 @@ use Rattle.value_form.specs.declared.transcripts.Line.TheVariants as line
 use Rattle.value_form.specs.declared.values.Value.{Value}
 use Rattle.value_form.specs.Names.{with_name}
 use Rattle.value_form.specs.Mirror.{block}
-use Rattle.value_form.specs.Meaning.{Stop, Over, Came, Answer, Got, Stored, talk}
+use Rattle.value_form.specs.Meaning.{Over, Answer, Got, Stored, talk}
 use Rattle.script_run.specs.declared.halts.Halt.{Halt}
 use Rattle.script_run.specs.declared.halts.Halt.TheVariants as halt
 use Rattle.std.specs.Global.{Vec}
@@ -17,13 +17,13 @@ use Rattle.script_run.specs.declared.nexts.Next.{Next}
 use Rattle.script_run.specs.declared.nexts.Next.TheVariants as next
 use Rattle.script_run.specs.declared.machines.Machine.{Machine}
 use Rattle.script_run.specs.Told.{Told, answers_of, answered, stop_of, Tells}
-use Rattle.script_run.specs.Standings.{Standing, last_value, named, goes_to}
+use Rattle.script_run.specs.Standings.{Standing, named, goes_to}
 use Rattle.script_run.specs.Steps.{step}
 use Rattle.script_run.specs.Machines.{stand_of, arrival_of, SameAhead, HasStopped}
 use Rattle.script_run.specs.Runs.{end_of, next_of, said_at, told_by, IsRun}
 use Rattle.script_run.proofs.LineLemmas.{answers_of-append, last_value-append}
 use Rattle.script_run.proofs.KeepLemmas.{meant, step_keeps}
-use Rattle.script_run.proofs.AskLemmas.{IsAnswered, step_answered, after_read, after_write}
+use Rattle.script_run.proofs.AskLemmas.{IsAnswered, step_answered}
 
 -- the line of an answer is one more answer
 one_more : (ls : List Line) (l : Line) (a : Answer) (w : List Answer) → answers_of (l ∷ []) ≡ a ∷ [] → answers_of (ls ++ l ∷ []) ++ w ≡ answers_of ls ++ a ∷ w

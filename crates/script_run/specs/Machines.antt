@@ -2,7 +2,6 @@
 use Rattle.std.specs.Prelude.{◌≡◌, ◌+◌, ◌-◌, ◌<◌, ◌^◌, List, Option, Some, None, Result, Ok, Err}
 use Rattle.std.specs.Vec.{vec_len, vec_capacity}
 use Rattle.value_form.specs.declared.scripts.Stmt.{Stmt}
-use Rattle.value_form.specs.declared.transcripts.Line.{Line}
 use Rattle.value_form.specs.Meaning.{Answer}
 use Rattle.script_run.specs.declared.halts.Halt.{Halt}
 use Rattle.script_run.specs.declared.halts.Halt.TheVariants as halt

@@ -1,5 +1,5 @@
 -- Where a run stands in its script, and what is still to be done.
-use Rattle.std.specs.Prelude.{ℕ, zero, suc, ◌+◌, ◌-◌, List, [], ◌∷◌, ◌++◌, drop, length, Option, Some, None, slice_get}
+use Rattle.std.specs.Prelude.{ℕ, ◌-◌, List, [], ◌∷◌, drop, length, Option, Some, None, slice_get}
 use Rattle.value_form.specs.declared.scripts.Stmt.{Stmt, out-Stmt}
 use Rattle.value_form.specs.declared.scripts.Stmt.TheOpen.{Stmt-F}
 use Rattle.value_form.specs.declared.transcripts.Line.{Line}

@@ -10,7 +10,7 @@ use Rattle.value_form.specs.declared.transcripts.Line.{Line}
 use Rattle.value_form.specs.declared.transcripts.Line.TheVariants as line
 use Rattle.value_form.specs.declared.values.Value.{Value}
 use Rattle.value_form.specs.Mirror.{block}
-use Rattle.value_form.specs.Meaning.{ToRead, ToWrite, Stop, Asks, Over, Came, Answer, Got, Stored, talk}
+use Rattle.value_form.specs.Meaning.{ToRead, ToWrite, Stop, Asks, Over, Answer, Got, Stored, talk}
 use Rattle.script_run.specs.contracts.nexts.Next as said
 use Rattle.script_run.specs.declared.nexts.Next.{Next}
 use Rattle.script_run.specs.declared.nexts.Next.TheVariants as next

@@ -181,11 +181,7 @@ fn repeat(
 }
 
 // A statement for which the budget has room.
-fn begin(
-    alloc: Global,
-    stmt: &Stmt,
-    machine: &mut Machine,
-) -> Result<Option<Halt>, AllocError>
+fn begin(alloc: Global, stmt: &Stmt, machine: &mut Machine) -> Result<Option<Halt>, AllocError>
     requires range { IsStep (plain stmt.now) }
     requires passes { MayPass machine.old }
     ensures { Arrives (spec.begun_at (counted (stand_of machine.old)) (out-Stmt stmt.now)) result machine.old machine.new }

@@ -53,7 +53,11 @@ fn a_sum_too_great(alloc: Global) -> Result<Script, Fail>
     let sum = infix(alloc, Infix::Add, variable(alloc, b"x")?, Expr::Number(1))?;
     let mut lines = Vec::new(alloc);
     lines.push(Stmt::Write(1, Place::Fixed(object(1)), Expr::Number(1)))?;
-    lines.push(Stmt::Let(2, named(alloc, b"x")?, Expr::Number(9_223_372_036_854_775_807)))?;
+    lines.push(Stmt::Let(
+        2,
+        named(alloc, b"x")?,
+        Expr::Number(9_223_372_036_854_775_807),
+    ))?;
     lines.push(Stmt::Write(3, Place::Fixed(object(2)), variable(alloc, b"x")?))?;
     lines.push(Stmt::Let(4, named(alloc, b"y")?, sum))?;
     Ok(Script {

@@ -1,4 +1,4 @@
-use Rattle.std.proofs.Common.{◌≡◌, Some, None, sym, ap, ◌∙◌, subst}
+use Rattle.std.proofs.Common.{sym, ap, ◌∙◌, subst}
 use Rattle.std.specs.Prelude.{option_copied}
 use Rattle.value_form.specs.declared.scripts.Stmt.{out-Stmt}
 use Rattle.script_run.specs.Steps.{Arrival, step_at}

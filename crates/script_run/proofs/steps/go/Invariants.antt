@@ -1,4 +1,3 @@
-use Rattle.std.proofs.Common.{◌≡◌}
 use Rattle.script_run.specs.Steps as spec
 use Rattle.script_run.specs.Machines.{stand_of, SameAhead}
 use Rattle.script_run.proofs.steps.go.Given as goal

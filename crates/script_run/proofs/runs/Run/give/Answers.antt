@@ -1,4 +1,4 @@
-use Rattle.std.proofs.Common.{◌≡◌, Some, None, sym, ap, ◌∙◌, subst}
+use Rattle.std.proofs.Common.{Some, sym, ap, ◌∙◌}
 use Rattle.script_run.proofs.RunLemmas.{gives_next, given_view}
 use Rattle.script_run.proofs.runs.Run.give.Goals as goal
 

@@ -1,4 +1,4 @@
-use Rattle.std.proofs.Common.{◌≡◌, ap, ◌∙◌}
+use Rattle.std.proofs.Common.{ap, ◌∙◌}
 use Rattle.script_run.specs.Told.{answers_of}
 use Rattle.script_run.proofs.RunLemmas.{nothing_said, went_on_as, stopped_as, stopped_tells}
 use Rattle.script_run.proofs.runs.Run.go_on.Goals as goal

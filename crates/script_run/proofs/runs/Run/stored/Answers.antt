@@ -1,4 +1,4 @@
-use Rattle.std.proofs.Common.{◌≡◌, Some, None, sym, ap, ◌∙◌, subst}
+use Rattle.std.proofs.Common.{Some, sym, ap, ◌∙◌}
 use Rattle.script_run.proofs.RunLemmas.{stores_next, stored_view}
 use Rattle.script_run.proofs.runs.Run.stored.Goals as goal
 
