@@ -1,5 +1,5 @@
 -- A map of records by the entries of its two ordered maps.
-use Rattle.std.proofs.Common.{◌≡◌, ◌≢◌, ℕ, Bool, true, false, List, [], ◌∷◌, cond, refl, sym, ap, ◌∙◌, subst}
+use Rattle.std.proofs.Common.{◌≡◌, ◌≢◌, ℕ, Bool, true, false, List, [], ◌∷◌, cond, refl, sym, ap, ◌∙◌}
 use Rattle.std.specs.Prelude.{Option, Some, None, Result, Ok, Err, OnOk, OnErr}
 use Rattle.std.specs.Ordering.{nat_cmp, is_eq}
 use Rattle.std.specs.declared.cmp.Ordering.{Ordering}
@@ -11,9 +11,7 @@ use Rattle.std.specs.FinMap.{find, get, insert, from_entries, get-from_entries, 
 use Rattle.std.proofs.lemmas.Cmp.{nat_cmp_total, on_total, then_total, eq_by_cmp_equiv}
 use Rattle.std.proofs.lemmas.Map.Lookups.{CmpEqualImpliesEq, exact_pairs, exact_unsigned}
 use Rattle.pseudo_time.specs.StampParts.{StampParts, stamp_cmp}
-use Rattle.pseudo_time.specs.declared.decisions.Decision.{Decision}
 use Rattle.commit_record.specs.declared.states.RecordState.{RecordState}
-use Rattle.commit_record.specs.declared.states.RecordState.TheVariants as state
 use Rattle.commit_record.specs.States.{States, deadline_of, AreDeadlines}
 
 -- what an ordered map with these entries has

@@ -84,10 +84,7 @@ impl Records {
         ensures err { OnErr result (self.new ≡ self.old) }
     {
         self.deadlines.insert(stamp, deadline)?;
-        if let Err(failed) = self
-            .states
-            .insert(stamp, RecordState::Unknown { deadline })
-        {
+        if let Err(failed) = self.states.insert(stamp, RecordState::Unknown { deadline }) {
             self.deadlines.remove(&stamp);
             return Err(failed.into());
         }
@@ -135,11 +132,7 @@ impl Records {
 
     /// Every unknown record whose deadline is at most the moment expires. They are listed in the
     /// order of their stamps. Where memory is wanting, the records are as before.
-    pub fn hear(
-        &mut self,
-        alloc: Global,
-        moment: u64,
-    ) -> Result<Vec<(Stamp, Decision)>, AllocError>
+    pub fn hear(&mut self, alloc: Global, moment: u64) -> Result<Vec<(Stamp, Decision)>, AllocError>
         ensures heard { OnOk result ((q : StampParts) → finite.get self.new q ≡ heard moment (finite.get self.old q)) }
         ensures listed { IfOk result (λ l. (q : StampParts) → listed_at l.items q ≡ expiry moment (finite.get self.old q)) }
         ensures order { IfOk result (λ l. IsStrictlySortedBy stamp_cmp (map (λ e. e.0) l.items)) }

@@ -1,4 +1,4 @@
-use Rattle.std.proofs.Common.{None, Some, refl, sym, ap, ◌∙◌}
+use Rattle.std.proofs.Common.{Some, refl, sym, ap, ◌∙◌}
 use Rattle.std.specs.FinMap as finite
 use Rattle.commit_record.specs.declared.states.RecordState.TheVariants as state
 use Rattle.commit_record.proofs.RecordLemmas.{get-entries_of, puts_both, puts_back, insert-entries_of}

@@ -1,4 +1,4 @@
-use Rattle.std.proofs.Common.{◌≡◌, ap, ◌∙◌}
+use Rattle.std.proofs.Common.{ap, ◌∙◌}
 use Rattle.std.specs.FinMap as finite
 use Rattle.commit_record.proofs.DueLemmas.{all_listed, all_settled, all_heard, due_rises}
 use Rattle.commit_record.proofs.records.Records.hear.Goals as goal
