@@ -1,0 +1,5 @@
+pub mod Machines
+pub mod Runs
+pub mod Standings
+pub mod Steps
+pub mod Told
