@@ -1,0 +1,6 @@
+//! The tokens of script lines.
+#![tactic(auto)]
+
+mod tokens;
+
+pub use tokens::{Sign, Token, Word};
