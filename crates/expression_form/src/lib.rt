@@ -1,0 +1,12 @@
+//! Expressions of scripts: read from tokens, and printed.
+#![tactic(auto)]
+
+mod expression_faults;
+mod frames;
+mod operands;
+mod operators;
+mod reader;
+mod stacks;
+
+pub use expression_faults::ExpressionFault;
+pub use reader::read_expression;
