@@ -1,0 +1,5 @@
+pub mod LevelLemmas
+pub mod SpelledIsRead
+pub mod ReadIsSpelled
+pub mod DepthLemmas
+pub mod Readings
