@@ -5,3 +5,4 @@ pub mod Canonical
 pub mod Operands
 pub mod Machine
 pub mod Steps
+pub mod Texts

@@ -5,8 +5,10 @@ mod expression_faults;
 mod frames;
 mod operands;
 mod operators;
+mod printer;
 mod reader;
 mod stacks;
 
 pub use expression_faults::ExpressionFault;
+pub use printer::print_expression;
 pub use reader::read_expression;
