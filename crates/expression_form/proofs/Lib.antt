@@ -3,3 +3,5 @@ pub mod SpelledIsRead
 pub mod ReadIsSpelled
 pub mod DepthLemmas
 pub mod Readings
+pub mod CanonicalLemmas
+pub mod TextLemmas

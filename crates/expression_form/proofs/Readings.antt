@@ -44,3 +44,16 @@ deep-spells ts is = let (y, is_x, spells) = written ts Deep is in (y, spells, de
 
 pub none-spells : (ts : List Token) → operand_read ts ≡ None → (x : Term) → Spells x ts → ⊥
 none-spells ts is x spells = let e : None ≡ Some (operand_of x) = sym is ∙ spelled_is_read x ts spells in let no : ⊥ = cc in no
+
+-- an expression no deeper than 16 is the only one that its tokens spell
+pub one_expression : (x y : Term) (ts : List Token) → Spells x ts → Spells y ts → IsShallow x → x ≡ y
+one_expression x y ts spells_x spells_y le = at (operand_keeps x)
+  where
+    same : Some (operand_of x) ≡ Some (operand_of y)
+    same = sym (spelled_is_read x ts spells_x) ∙ spelled_is_read y ts spells_y
+    at : Keeps (operand_of x) (made x) (depth x) → x ≡ y
+    at (inl (_, built)) =
+        let e : Some (operand_of y) ≡ Some (Built (made x) (depth x)) = sym same ∙ ap Some built in
+        let is : made y ≡ made x = (built_is y (made x) (depth x) cc).0 in
+        sym (term-made x) ∙ ap term (sym is) ∙ term-made y
+    at (inr (lt, _)) = absurd (let no : ⊥ = omega arith in no)

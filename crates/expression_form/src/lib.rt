@@ -3,6 +3,7 @@
 
 mod expression_faults;
 mod frames;
+mod laws;
 mod operands;
 mod operators;
 mod printer;
@@ -10,5 +11,6 @@ mod reader;
 mod stacks;
 
 pub use expression_faults::ExpressionFault;
+pub use laws::law_of_expressions;
 pub use printer::print_expression;
 pub use reader::read_expression;
