@@ -6,3 +6,4 @@ pub mod Operands
 pub mod Machine
 pub mod Steps
 pub mod Texts
+pub mod Reads

@@ -1,7 +1,7 @@
 //! Expressions of scripts: read from tokens, and printed.
 #![tactic(auto)]
 
-mod expression_faults;
+mod read_faults;
 mod frames;
 mod laws;
 mod operands;
@@ -10,7 +10,7 @@ mod printer;
 mod reader;
 mod stacks;
 
-pub use expression_faults::ExpressionFault;
+pub use read_faults::ReadFault;
 pub use laws::law_of_expressions;
 pub use printer::print_expression;
 pub use reader::read_expression;

@@ -1,12 +1,13 @@
-ghost use Rattle.std.specs.Prelude.{◌≡◌, ◌<◌, Option, Some, Result, Ok, IfOk, IsErrOf};
-ghost use Rattle.value_form.specs.Mirror.{Term, term};
-ghost use Rattle.expression_form.specs.Depth.{depth, IsShallow};
+ghost use Rattle.std.specs.Prelude.{◌≡◌, Some, Ok, IfOk};
+ghost use Rattle.value_form.specs.Mirror.{term};
+ghost use Rattle.expression_form.specs.Depth.{depth};
 ghost use Rattle.expression_form.specs.Grammar.{Spells};
 ghost use Rattle.expression_form.specs.Machine as spec;
 ghost use Rattle.expression_form.specs.Operands.{single};
+ghost use Rattle.expression_form.specs.Reads.{Reads};
 ghost use Rattle.expression_form.specs.Steps.{Steps};
 
-use crate::expression_faults::ExpressionFault;
+use crate::read_faults::ReadFault;
 use crate::frames::{Frame, Head, Mode};
 use crate::operands::Operand;
 use crate::operators::{infix_of, left_of, level_before, level_of};
@@ -243,16 +244,14 @@ fn operand_read(alloc: Global, tokens: &[Token]) -> Result<Option<Operand>, Allo
 
 /// The expression that the tokens spell. Takes time and memory in proportion to the tokens, however
 /// many parentheses are among them.
-pub fn read_expression(alloc: Global, tokens: &[Token]) -> Result<Expr, ExpressionFault>
-    ensures spelled { IfOk result (λ x. Spells (term x) tokens.now × IsShallow (term x)) }
-    ensures syntax { IsErrOf result ExpressionFault.Syntax → (x : Term) → Spells x tokens.now → ⊥ }
-    ensures too_deep { IsErrOf result ExpressionFault.Depth → (x : Term) × Spells x tokens.now × (16 < depth x) }
+pub fn read_expression(alloc: Global, tokens: &[Token]) -> Result<Expr, ReadFault>
+    ensures { Reads term Spells depth tokens.now result }
 {
     match operand_read(alloc, tokens)? {
-        None => Err(ExpressionFault::Syntax),
+        None => Err(ReadFault::Syntax),
         Some(operand) => match operand {
             Operand::Built(expression, _) => Ok(expression),
-            Operand::Deep => Err(ExpressionFault::Depth),
+            Operand::Deep => Err(ReadFault::Depth),
         },
     }
 }
