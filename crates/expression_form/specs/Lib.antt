@@ -3,6 +3,7 @@ pub mod Grammar
 pub mod Depth
 pub mod Canonical
 pub mod Operands
+pub mod Stacks
 pub mod Machine
 pub mod Steps
 pub mod Texts

@@ -45,10 +45,6 @@ hole (f.Prefix o ∷ st) = prefix_level o
 hole (f.Infix o x ∷ st) = infix_level o + 1
 hole (_ ∷ st) = 0
 
-abbrev pub first : List Frame → Option Frame
-first [] = None
-first (x ∷ st) = Some x
-
 -- an operator that binds at least at this level
 abbrev pub is_tighter : ℕ → Option Frame → Bool
 is_tighter k (Some (f.Prefix o)) = nat_le k (prefix_level o)

@@ -14,3 +14,4 @@ pub use read_faults::ReadFault;
 pub use laws::law_of_expressions;
 pub use printer::print_expression;
 pub use reader::read_expression;
+pub use stacks::Stack;

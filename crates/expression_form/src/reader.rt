@@ -5,6 +5,7 @@ ghost use Rattle.expression_form.specs.Grammar.{Spells};
 ghost use Rattle.expression_form.specs.Machine as spec;
 ghost use Rattle.expression_form.specs.Operands.{single};
 ghost use Rattle.expression_form.specs.Reads.{Reads};
+ghost use Rattle.expression_form.specs.Stacks.{first};
 ghost use Rattle.expression_form.specs.Steps.{Steps};
 
 use crate::read_faults::ReadFault;
@@ -17,7 +18,7 @@ use token_form::{Sign, Token, Word};
 use value_form::{Call, Expr, Infix, Prefix};
 
 // The level that an operand on top of the stack needs.
-fn hole(stack: &Stack) -> u8
+fn hole(stack: &Stack<Frame>) -> u8
     ensures { result ≡ spec.hole stack.now }
 {
     match stack.top() {
@@ -27,8 +28,8 @@ fn hole(stack: &Stack) -> u8
     }
 }
 
-fn is_tighter(stack: &Stack, least: u8) -> bool
-    ensures { result ≡ spec.is_tighter least (spec.first stack.now) }
+fn is_tighter(stack: &Stack<Frame>, least: u8) -> bool
+    ensures { result ≡ spec.is_tighter least (first stack.now) }
 {
     match stack.top() {
         Some(Frame::Prefix(operator)) => least <= level_before(*operator),
@@ -40,7 +41,7 @@ fn is_tighter(stack: &Stack, least: u8) -> bool
 // Takes the operand into what binds at least at this level, and gives the new one with its level.
 fn close(
     alloc: Global,
-    stack: &mut Stack,
+    stack: &mut Stack<Frame>,
     least: u8,
     mut operand: Operand,
     mut level: u8,
@@ -63,7 +64,7 @@ fn close(
     Ok((operand, level))
 }
 
-fn prefix(stack: &mut Stack, operator: Prefix) -> Result<Option<Mode>, AllocError>
+fn prefix(stack: &mut Stack<Frame>, operator: Prefix) -> Result<Option<Mode>, AllocError>
     ensures { Steps (spec.prefixed operator stack.old) result stack.new }
 {
     if hole(stack) <= level_before(operator) {
@@ -82,7 +83,7 @@ fn leaf(expression: Expr) -> Result<Option<Mode>, AllocError>
 }
 
 // A token where an operand is wanted.
-fn want(alloc: Global, stack: &mut Stack, token: &Token) -> Result<Option<Mode>, AllocError>
+fn want(alloc: Global, stack: &mut Stack<Frame>, token: &Token) -> Result<Option<Mode>, AllocError>
     ensures { Steps (spec.wanting stack.old token.now) result stack.new }
 {
     match token {
@@ -104,7 +105,7 @@ fn want(alloc: Global, stack: &mut Stack, token: &Token) -> Result<Option<Mode>,
 }
 
 // A token where the parenthesis of a function is wanted.
-fn open(stack: &mut Stack, head: Head, token: &Token) -> Result<Option<Mode>, AllocError>
+fn open(stack: &mut Stack<Frame>, head: Head, token: &Token) -> Result<Option<Mode>, AllocError>
     ensures { Steps (spec.opening stack.old head token.now) result stack.new }
 {
     match token {
@@ -122,7 +123,7 @@ fn open(stack: &mut Stack, head: Head, token: &Token) -> Result<Option<Mode>, Al
 // An operator between operands, after its left one.
 fn infix(
     alloc: Global,
-    stack: &mut Stack,
+    stack: &mut Stack<Frame>,
     operand: Operand,
     level: u8,
     operator: Infix,
@@ -141,7 +142,7 @@ fn infix(
 // A closing parenthesis.
 fn shut(
     alloc: Global,
-    stack: &mut Stack,
+    stack: &mut Stack<Frame>,
     operand: Operand,
     level: u8,
 ) -> Result<Option<Mode>, AllocError>
@@ -161,7 +162,7 @@ fn shut(
 // A comma.
 fn comma(
     alloc: Global,
-    stack: &mut Stack,
+    stack: &mut Stack<Frame>,
     operand: Operand,
     level: u8,
 ) -> Result<Option<Mode>, AllocError>
@@ -180,7 +181,7 @@ fn comma(
 // A token after an operand.
 fn have(
     alloc: Global,
-    stack: &mut Stack,
+    stack: &mut Stack<Frame>,
     operand: Operand,
     level: u8,
     token: &Token,
@@ -199,7 +200,7 @@ fn have(
 
 fn step(
     alloc: Global,
-    stack: &mut Stack,
+    stack: &mut Stack<Frame>,
     mode: Mode,
     token: &Token,
 ) -> Result<Option<Mode>, AllocError>
@@ -212,7 +213,7 @@ fn step(
     }
 }
 
-fn finish(alloc: Global, mut stack: Stack, mode: Mode) -> Result<Option<Operand>, AllocError>
+fn finish(alloc: Global, mut stack: Stack<Frame>, mode: Mode) -> Result<Option<Operand>, AllocError>
     ensures { IfOk result (λ found. found ≡ spec.finish (spec.state stack mode)) }
 {
     match mode {

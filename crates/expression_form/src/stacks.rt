@@ -1,55 +1,65 @@
-ghost use Rattle.std.specs.Prelude.{◌≡◌, [], ◌∷◌, OnOk, MatchOption};
+ghost use Rattle.std.specs.Prelude.{◌≡◌, [], ◌∷◌, OnOk, MatchOption, length};
 ghost use Rattle.std.specs.Option.{option_copied};
-ghost use Rattle.expression_form.specs.Machine.{first};
+ghost use Rattle.expression_form.specs.Stacks.{first};
 
-use crate::frames::Frame;
 use std::alloc::{AllocError, Global};
 use std::marker::Model;
 
-/// What is open, which contracts see from its top.
+/// What is open, which contracts see as a list from its top.
 #[derive(Drop)]
-pub struct Stack {
-    frames: Vec<Frame>,
+pub struct Stack<T> {
+    items: Vec<T>,
 }
 
-impl Model for Stack {
+impl<T> Model for Stack<T> {
     ghost use Rattle.std.specs.Prelude.{List, reverse};
     ghost use Rattle.std.specs.Coded.{coded_list};
-    ghost use Rattle.expression_form.specs.declared.frames.Frame.{Frame};
-    ghost use Rattle.expression_form.specs.contracts.frames.Frame as frame;
 
-    ghost Value = { List Frame };
+    ghost Value = { List T };
 
-    ghost coded = { coded_list frame.the_row.coded };
+    ghost coded = { coded_list T.code };
 
-    ghost view = { λ s. reverse s.frames.items };
+    ghost view = { λ s. reverse s.items.items };
 }
 
-impl Stack {
-    pub fn new(alloc: Global) -> Stack
+impl<T> Stack<T> {
+    /// A stack of nothing, which takes no memory.
+    pub fn new(alloc: Global) -> Stack<T>
         ensures { result ≡ [] }
     {
         Stack {
-            frames: Vec::new(alloc),
+            items: Vec::new(alloc),
         }
     }
 
-    pub fn push(&mut self, frame: Frame) -> Result<(), AllocError>
-        ensures { OnOk result (self.new ≡ frame ∷ self.old) }
+    /// How many there are.
+    pub fn len(&self) -> usize
+        ensures { result ≡ length self.now }
     {
-        self.frames.push(frame)?;
-        Ok(())
+        self.items.len()
     }
 
-    pub fn pop(&mut self) -> Option<Frame>
+    /// Takes the top away.
+    pub fn pop(&mut self) -> Option<T>
         ensures { MatchOption result ((self.old ≡ []) × (self.new ≡ [])) (λ top. self.old ≡ top ∷ self.new) }
     {
-        self.frames.pop()
+        self.items.pop()
     }
 
-    pub fn top(&self) -> Option<&Frame>
+    /// The top, which stays.
+    pub fn top(&self) -> Option<&T>
         ensures { option_copied result ≡ first self.now }
     {
-        self.frames.last()
+        self.items.last()
+    }
+}
+
+impl<T: Drop> Stack<T> {
+    /// Puts one on top. Where memory is wanting, it is let go.
+    pub fn push(&mut self, item: T) -> Result<(), AllocError>
+        ensures { OnOk result (self.new ≡ item ∷ self.old) }
+    {
+        self.items.push(item)?;
+        Ok(())
     }
 }
