@@ -1,0 +1,36 @@
+ghost use Rattle.std.specs.Prelude.{◌≡◌, IfOk, IsErrOf, List, true, false};
+ghost use Rattle.token_form.specs.Tokens.{IsTokens, in_range};
+
+use crate::byte_runs::{split_run, Run};
+use crate::fronts::read_token;
+use crate::line_faults::LineFault;
+use crate::objects::objects_fit;
+use crate::tokens::Token;
+use std::alloc::Global;
+
+/// The tokens of one line, without the line's end. Objects have the repositories from 1 to
+/// `greatest`.
+pub fn tokens_of(alloc: Global, line: &[u8], greatest: u8) -> Result<Vec<Token>, LineFault>
+    ensures ok { IfOk result (λ tokens. IsTokens line.now tokens.items × (in_range greatest tokens.items ≡ true)) }
+    ensures token { IsErrOf result LineFault.Token → (tokens : List Token) → IsTokens line.now tokens → ⊥ }
+    ensures range { IsErrOf result LineFault.Range → (tokens : List Token) × IsTokens line.now tokens × (in_range greatest tokens ≡ false) }
+{
+    let mut tokens = Vec::new(alloc);
+    let mut in_limits = true;
+    let (_, mut rest) = split_run(Run::Spaces, line);
+    while !rest.is_empty() {
+        let Some((token, after)) = read_token(alloc, rest)? else {
+            return Err(LineFault::Token);
+        };
+        match token {
+            Some(token) => tokens.push(token)?,
+            None => in_limits = false,
+        }
+        rest = split_run(Run::Spaces, after).1;
+    }
+    if in_limits && objects_fit(greatest, &tokens) {
+        Ok(tokens)
+    } else {
+        Err(LineFault::Range)
+    }
+}
