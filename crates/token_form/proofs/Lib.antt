@@ -1,2 +1,6 @@
+pub mod NameLaws
+pub mod NumberLaws
+pub mod QuoteLaws
 pub mod Runs
 pub mod Seams
+pub mod SignLaws
