@@ -4,3 +4,5 @@ pub mod QuoteLaws
 pub mod Runs
 pub mod Seams
 pub mod SignLaws
+pub mod LineLaws
+pub mod Spellings

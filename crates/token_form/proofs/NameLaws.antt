@@ -1,16 +1,15 @@
 -- Names and reserved names are read as they are spelled.
-use Rattle.std.proofs.Common.{◌≡◌, ◌≢◌, ℕ, Bool, true, false, cond, List, [], ◌∷◌, ◌++◌, Option, Some, None, refl, sym, ap, ◌∙◌, subst}
+use Rattle.std.proofs.Common.{◌≡◌, ℕ, Bool, true, false, cond, List, [], ◌∷◌, ◌++◌, Option, Some, None, refl, ap, ◌∙◌}
 use Rattle.std.specs.Prelude.{◌&&◌, codes}
 use Rattle.std.specs.List.{list_all}
 use Rattle.std.specs.Str.{bytes_eq}
 use Rattle.std.proofs.lemmas.Slice.Eq.{bytes_eq-Decides}
 use Rattle.token_form.specs.declared.tokens.Word.{Word}
 use Rattle.token_form.specs.declared.tokens.Word.TheVariants as w
-use Rattle.token_form.specs.declared.tokens.Token.{Token}
 use Rattle.token_form.specs.declared.tokens.Token.TheVariants as t
 use Rattle.token_form.specs.Tokens.{word_spelling, is_letter, is_name_byte, AllPass, IsName, IsReserved, Spells, Ends}
 use Rattle.token_form.specs.Reading.{front_of, rest_of, words, word_in, word_or_name, name_token, first_token}
-use Rattle.token_form.proofs.Runs.{by_test, if_true, both, AllPass-from, Stops, front_of-run, rest_of-run, front_of-passes, rest_of-stops, front-rest}
+use Rattle.token_form.proofs.Runs.{by_test, if_true, both, AllPass-from, Stops, front_of-run, rest_of-run, front_of-passes, rest_of-stops}
 
 is_name : List ℕ → Bool
 is_name [] = false
@@ -69,9 +68,9 @@ found_is_spelled : (table : List Word) (name : List ℕ) (word : Word) → word_
 found_is_spelled [] name word e = absurd (cc)
 found_is_spelled (first ∷ more) name word e =
     by_test (bytes_eq name (word_spelling first)) (λ p. cond p (Some first) (word_in more name) ≡ Some word → name ≡ word_spelling word)
-      (λ same is. bytes_equal name (word_spelling first) same ∙ ap word_spelling (let k : first ≡ word = cc in k))
-      (λ other is. found_is_spelled more name word is)
-      e
+    (λ same is. bytes_equal name (word_spelling first) same ∙ ap word_spelling (let k : first ≡ word = cc in k))
+    (λ other is. found_is_spelled more name word is)
+    e
 
 -- ---- what is spelled is read
 
@@ -93,8 +92,8 @@ name_is_read [] rest is stops = absurd is
 name_is_read (b ∷ bs) rest is stops =
     let pass : AllPass is_name_byte (b ∷ bs) = (letter_is_name_byte b is.0, is.1) in
     letter_first b (bs ++ rest) is.0
-      ∙ ap (λ z. Some (name_token z, rest_of is_name_byte (b ∷ (bs ++ rest)))) (front_of-run is_name_byte (b ∷ bs) rest pass stops)
-      ∙ ap (λ z. Some (name_token (b ∷ bs), z)) (rest_of-run is_name_byte (b ∷ bs) rest pass stops)
+    ∙ ap (λ z. Some (name_token z, rest_of is_name_byte (b ∷ (bs ++ rest)))) (front_of-run is_name_byte (b ∷ bs) rest pass stops)
+    ∙ ap (λ z. Some (name_token (b ∷ bs), z)) (rest_of-run is_name_byte (b ∷ bs) rest pass stops)
 
 pub spelled_name_is_read : (name rest : List ℕ) → IsName name → (IsReserved name → ⊥) → Stops is_name_byte rest → first_token (name ++ rest) ≡ Some (t.Name name, rest)
 spelled_name_is_read name rest is free stops = name_is_read name rest is stops ∙ ap (λ z. Some (z, rest)) (name_is_token name free)
@@ -109,6 +108,7 @@ name_spells name is = at (word_in words name) refl
   where
     free : word_in words name ≡ None → IsReserved name → ⊥
     free e (word, spelled) = let k : word_in words name ≡ Some word = ap (word_in words) spelled ∙ word_is_found word in cc
+
     at : (o : Option Word) → word_in words name ≡ o → Spells (word_or_name name o) name
     at None e = (refl, is, free e)
     at (Some word) e = found_is_spelled words name word e
@@ -124,7 +124,7 @@ front_is_name b bs e = rw (letter_is_name_byte b e) (e, front_of-passes is_name_
 
 -- what a name at the front is
 pub read_name_is_spelled : (b : ℕ) (bs : List ℕ) → is_letter b ≡ true
-  → Spells (name_token (front_of is_name_byte (b ∷ bs))) (front_of is_name_byte (b ∷ bs)) × Ends (name_token (front_of is_name_byte (b ∷ bs))) (rest_of is_name_byte (b ∷ bs))
+    → Spells (name_token (front_of is_name_byte (b ∷ bs))) (front_of is_name_byte (b ∷ bs)) × Ends (name_token (front_of is_name_byte (b ∷ bs))) (rest_of is_name_byte (b ∷ bs))
 read_name_is_spelled b bs e =
     let name = front_of is_name_byte (b ∷ bs) in
     (name_spells name (front_is_name b bs e), name_ends (word_in words name) name (rest_of is_name_byte (b ∷ bs)) (rest_of-stops is_name_byte (b ∷ bs)))

@@ -1,17 +1,13 @@
 -- Numbers are read as they are spelled.
-use Rattle.std.proofs.Common.{◌≡◌, ℕ, zero, suc, ◌+◌, ◌-◌, ◌*◌, ◌<◌, ◌≤◌, Bool, true, false, cond, List, [], ◌∷◌, ◌++◌, Option, Some, None, refl, sym, ap, ◌∙◌, subst, arith, ◌⊎◌, inl, inr}
+use Rattle.std.proofs.Common.{◌≡◌, ℕ, zero, suc, ◌+◌, ◌-◌, ◌*◌, ◌<◌, ◌≤◌, true, false, List, [], ◌∷◌, ◌++◌, Some, refl, sym, ap, ◌∙◌, subst, arith}
 use Rattle.std.specs.Prelude.{◌==◌}
 use Rattle.std.specs.Char.{is_ascii_digit}
 use Rattle.std.specs.Int.{is_in_range}
 use Rattle.std.proofs.lemmas.Bool.Decides.{nat_tests}
-use Rattle.token_form.specs.declared.tokens.Token.{Token}
 use Rattle.token_form.specs.declared.tokens.Token.TheVariants as t
 use Rattle.token_form.specs.Tokens.{is_letter, AllPass, number_from, IsNumeral, Spells, Ends}
 use Rattle.token_form.specs.Reading.{front_of, rest_of, first_token}
 use Rattle.token_form.proofs.Runs.{by_test, if_true, if_false, Stops, front_of-run, rest_of-run, front_of-passes, rest_of-stops, number_from-le}
-
-
-
 
 digit_is_no_letter : (d : ℕ) → is_ascii_digit d ≡ true → is_letter d ≡ false
 digit_is_no_letter d e = grind (arith, nat_tests)
@@ -26,7 +22,7 @@ start_is_digit : (d : ℕ) → is_in_range 49 57 d ≡ true → is_ascii_digit d
 start_is_digit d e = grind (arith, nat_tests)
 
 digit_first : (d : ℕ) (ds : List ℕ) → is_letter d ≡ false → (d == 48) ≡ false → is_in_range 49 57 d ≡ true
-  → first_token (d ∷ ds) ≡ Some (t.Number (number_from 0 (front_of is_ascii_digit (d ∷ ds))), rest_of is_ascii_digit (d ∷ ds))
+    → first_token (d ∷ ds) ≡ Some (t.Number (number_from 0 (front_of is_ascii_digit (d ∷ ds))), rest_of is_ascii_digit (d ∷ ds))
 digit_first d ds letter other start = if_false _ _ _ letter ∙ if_false _ _ _ other ∙ if_true _ _ _ start
 
 number_is_above : (d : ℕ) (ds : List ℕ) → 49 ≤ d → 0 < number_from 0 (d ∷ ds)
@@ -58,19 +54,19 @@ pub spelled_number_is_read : (n : ℕ) (front rest : List ℕ) → IsNumeral fro
 spelled_number_is_read n [] rest is value ends = absurd is
 spelled_number_is_read n (d ∷ ds) rest is value ends =
     by_test (d == 48) (λ p. first_token ((d ∷ ds) ++ rest) ≡ Some (t.Number n, rest))
-      (λ same. let k : d ≡ 48 = grind (arith, nat_tests) in zero_is_read n d ds rest k (is.2 k) value)
-      (λ other. let pass : AllPass is_ascii_digit (d ∷ ds) = (is.0, is.1) in
-        let start = start_of_number d is.0 other in
-        let stops = number_stops n rest (subst (λ z. 0 < z) value (number_is_above d ds (above_zero d start))) ends in
-        digit_first d (ds ++ rest) (digit_is_no_letter d is.0) other start
-          ∙ ap (λ z. Some (t.Number (number_from 0 z), rest_of is_ascii_digit (d ∷ (ds ++ rest)))) (front_of-run is_ascii_digit (d ∷ ds) rest pass stops)
-          ∙ ap (λ z. Some (t.Number (number_from 0 (d ∷ ds)), z)) (rest_of-run is_ascii_digit (d ∷ ds) rest pass stops)
-          ∙ ap (λ z. Some (t.Number z, rest)) value)
+    (λ same. let k : d ≡ 48 = grind (arith, nat_tests) in zero_is_read n d ds rest k (is.2 k) value)
+    (λ other. let pass : AllPass is_ascii_digit (d ∷ ds) = (is.0, is.1) in
+    let start = start_of_number d is.0 other in
+    let stops = number_stops n rest (subst (λ z. 0 < z) value (number_is_above d ds (above_zero d start))) ends in
+    digit_first d (ds ++ rest) (digit_is_no_letter d is.0) other start
+    ∙ ap (λ z. Some (t.Number (number_from 0 z), rest_of is_ascii_digit (d ∷ (ds ++ rest)))) (front_of-run is_ascii_digit (d ∷ ds) rest pass stops)
+    ∙ ap (λ z. Some (t.Number (number_from 0 (d ∷ ds)), z)) (rest_of-run is_ascii_digit (d ∷ ds) rest pass stops)
+    ∙ ap (λ z. Some (t.Number z, rest)) value)
 
 -- ---- what is read is spelled so
 
 pub read_number_is_spelled : (b : ℕ) (bs : List ℕ) → is_in_range 49 57 b ≡ true
-  → Spells (t.Number (number_from 0 (front_of is_ascii_digit (b ∷ bs)))) (front_of is_ascii_digit (b ∷ bs))
+    → Spells (t.Number (number_from 0 (front_of is_ascii_digit (b ∷ bs)))) (front_of is_ascii_digit (b ∷ bs))
     × Ends (t.Number (number_from 0 (front_of is_ascii_digit (b ∷ bs)))) (rest_of is_ascii_digit (b ∷ bs))
 read_number_is_spelled b bs start =
     let digits = front_of is_ascii_digit (b ∷ bs) in

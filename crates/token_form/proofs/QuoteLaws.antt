@@ -1,6 +1,6 @@
 -- Texts are read as they are spelled.
-use Rattle.std.proofs.Common.{◌≡◌, ℕ, suc, ◌+◌, ◌-◌, ◌*◌, ◌<◌, ◌≤◌, Bool, true, false, cond, List, [], ◌∷◌, ◌++◌, Option, Some, None, refl, sym, ap, ◌∙◌, subst, arith, ◌⊎◌, inl, inr, append_assoc, append-nil}
-use Rattle.std.specs.Prelude.{◌==◌, ◌&&◌, not, nat_lt, if◌then◌else◌}
+use Rattle.std.proofs.Common.{◌≡◌, ℕ, ◌+◌, ◌-◌, ◌*◌, ◌<◌, ◌≤◌, true, false, cond, List, [], ◌∷◌, ◌++◌, Some, None, refl, sym, ap, ◌∙◌, subst, arith, append_assoc, append-nil}
+use Rattle.std.specs.Prelude.{◌==◌, ◌&&◌, not, nat_lt}
 use Rattle.std.specs.Int.{is_in_range}
 use Rattle.std.proofs.lemmas.Bool.Decides.{nat_tests}
 use Rattle.value_form.specs.TextForm.{hex_digit_of}
@@ -12,7 +12,7 @@ use Rattle.token_form.specs.declared.tokens.Token.{Token}
 use Rattle.token_form.specs.declared.tokens.Token.TheVariants as t
 use Rattle.token_form.specs.Tokens.{is_plain, Writes, itself, quote, backslash, line_end, by_digits, WritesAll, Spells, Ends}
 use Rattle.token_form.specs.Reading.{hex_value, plain_piece, escape_piece, high_piece, low_piece, piece_at, is_spot, taken, inside, text_then, text_at, first_token}
-use Rattle.token_form.proofs.Runs.{by_test, if_true, if_false, split_if, both, not_true, some_is, by_option, Fronted}
+use Rattle.token_form.proofs.Runs.{by_test, if_true, if_false, both, not_true, some_is, by_option, Fronted}
 
 -- ---- digits
 
@@ -46,11 +46,11 @@ high_is_digit b d e is =
 hex_is_digit : (b d : ℕ) → hex_value b ≡ Some d → (d < 16) × (b ≡ hex_digit_of d)
 hex_is_digit b d e =
     by_test (is_in_range 48 57 b) (λ p. cond p (Some (b - 48)) (cond (is_in_range 97 102 b) (Some (b - 97 + 10)) None) ≡ Some d → (d < 16) × (b ≡ hex_digit_of d))
-      (λ low is. low_is_digit b d low (some_is _ _ is))
-      (λ other. by_test (is_in_range 97 102 b) (λ p. cond p (Some (b - 97 + 10)) None ≡ Some d → (d < 16) × (b ≡ hex_digit_of d))
-        (λ high is. high_is_digit b d high (some_is _ _ is))
-        (λ no_digit is. absurd (cc)))
-      e
+    (λ low is. low_is_digit b d low (some_is _ _ is))
+    (λ other. by_test (is_in_range 97 102 b) (λ p. cond p (Some (b - 97 + 10)) None ≡ Some d → (d < 16) × (b ≡ hex_digit_of d))
+    (λ high is. high_is_digit b d high (some_is _ _ is))
+    (λ no_digit is. absurd (cc)))
+    e
 
 -- ---- what is written is read
 
@@ -67,22 +67,22 @@ written_is_read b front backslash so_far rest = refl
 written_is_read b front line_end so_far rest = refl
 written_is_read b front (by_digits high low h l) so_far rest =
     ap (λ p. taken (high_piece p) so_far (hex_digit_of low ∷ rest) (λ next more. inside next more (hex_digit_of low ∷ rest))) (hex_is_read high h)
-      ∙ ap (λ p. taken (low_piece high p) so_far rest (λ next more. inside next more rest)) (hex_is_read low l)
+    ∙ ap (λ p. taken (low_piece high p) so_far rest (λ next more. inside next more rest)) (hex_is_read low l)
 
 content_is_read : (content written rest so_far : List ℕ) → WritesAll content written → inside at.Plain so_far (written ++ 34 ∷ rest) ≡ Some (so_far ++ content, rest)
 content_is_read [] written rest so_far none =
     subst (λ z. inside at.Plain so_far (z ++ 34 ∷ rest) ≡ Some (so_far ++ [], rest)) (sym none) (ap (λ z. Some (z, rest)) (sym (append-nil so_far)))
 content_is_read (b ∷ bs) written rest so_far (front, more, parts, writes, all) =
     subst (λ z. inside at.Plain so_far (z ++ 34 ∷ rest) ≡ Some (so_far ++ b ∷ bs, rest)) (sym parts)
-      (ap (inside at.Plain so_far) (append_assoc front more (34 ∷ rest))
-        ∙ written_is_read b front writes so_far (more ++ 34 ∷ rest)
-        ∙ content_is_read bs more rest (so_far ++ b ∷ []) all
-        ∙ ap (λ z. Some (z, rest)) (append_assoc so_far (b ∷ []) bs))
+    (ap (inside at.Plain so_far) (append_assoc front more (34 ∷ rest))
+    ∙ written_is_read b front writes so_far (more ++ 34 ∷ rest)
+    ∙ content_is_read bs more rest (so_far ++ b ∷ []) all
+    ∙ ap (λ z. Some (z, rest)) (append_assoc so_far (b ∷ []) bs))
 
 pub spelled_text_is_read : (content front rest : List ℕ) → Spells (t.Text content) front → first_token (front ++ rest) ≡ Some (t.Text content, rest)
 spelled_text_is_read content front rest (written, parts, all) =
     subst (λ z. first_token (z ++ rest) ≡ Some (t.Text content, rest)) (sym parts)
-      (ap (λ z. text_at z) (append_assoc written (34 ∷ []) rest) ∙ ap text_then (content_is_read content written rest [] all))
+    (ap (λ z. text_at z) (append_assoc written (34 ∷ []) rest) ∙ ap text_then (content_is_read content written rest [] all))
 
 -- ---- what is read is written so
 
@@ -103,25 +103,25 @@ plain_means : (b : ℕ) → Means at.Plain b (plain_piece b)
 unfolding begun
 plain_means b =
     by_test (b == 34) (λ p. Means at.Plain b (cond p piece.Closes (cond (b == 92) (piece.Goes at.Escape) (cond (is_in_range 32 126 b) (piece.Gives b) piece.Refused))))
-      (λ e. (refl, let k : b ≡ 34 = grind (arith, nat_tests) in k))
-      (λ e. by_test (b == 92) (λ p. Means at.Plain b (cond p (piece.Goes at.Escape) (cond (is_in_range 32 126 b) (piece.Gives b) piece.Refused)))
-        (λ f. (ap (λ z. z ∷ []) (let k : 92 ≡ b = grind (arith, nat_tests) in k), refl))
-        (λ f. by_test (is_in_range 32 126 b) (λ p. Means at.Plain b (cond p (piece.Gives b) piece.Refused))
-          (λ h. itself (rw (h, e, f) refl))
-          (λ h. tt)))
+    (λ e. (refl, let k : b ≡ 34 = grind (arith, nat_tests) in k))
+    (λ e. by_test (b == 92) (λ p. Means at.Plain b (cond p (piece.Goes at.Escape) (cond (is_in_range 32 126 b) (piece.Gives b) piece.Refused)))
+    (λ f. (ap (λ z. z ∷ []) (let k : 92 ≡ b = grind (arith, nat_tests) in k), refl))
+    (λ f. by_test (is_in_range 32 126 b) (λ p. Means at.Plain b (cond p (piece.Gives b) piece.Refused))
+    (λ h. itself (rw (h, e, f) refl))
+    (λ h. tt)))
 
 escape_means : (b : ℕ) → Means at.Escape b (escape_piece b)
 unfolding begun
 escape_means b =
     by_test (b == 34) (λ p. Means at.Escape b (cond p (piece.Gives 34) (cond (b == 92) (piece.Gives 92) (cond (b == 110) (piece.Gives 10) (cond (b == 120) (piece.Goes at.HighDigit) piece.Refused)))))
-      (λ e. subst (λ z. Writes 34 (92 ∷ z ∷ [])) (let k : 34 ≡ b = grind (arith, nat_tests) in k) quote)
-      (λ e. by_test (b == 92) (λ p. Means at.Escape b (cond p (piece.Gives 92) (cond (b == 110) (piece.Gives 10) (cond (b == 120) (piece.Goes at.HighDigit) piece.Refused))))
-        (λ f. subst (λ z. Writes 92 (92 ∷ z ∷ [])) (let k : 92 ≡ b = grind (arith, nat_tests) in k) backslash)
-        (λ f. by_test (b == 110) (λ p. Means at.Escape b (cond p (piece.Gives 10) (cond (b == 120) (piece.Goes at.HighDigit) piece.Refused)))
-          (λ h. subst (λ z. Writes 10 (92 ∷ z ∷ [])) (let k : 110 ≡ b = grind (arith, nat_tests) in k) line_end)
-          (λ h. by_test (b == 120) (λ p. Means at.Escape b (cond p (piece.Goes at.HighDigit) piece.Refused))
-            (λ i. (ap (λ z. 92 ∷ z ∷ []) (let k : 120 ≡ b = grind (arith, nat_tests) in k), refl))
-            (λ i. tt))))
+    (λ e. subst (λ z. Writes 34 (92 ∷ z ∷ [])) (let k : 34 ≡ b = grind (arith, nat_tests) in k) quote)
+    (λ e. by_test (b == 92) (λ p. Means at.Escape b (cond p (piece.Gives 92) (cond (b == 110) (piece.Gives 10) (cond (b == 120) (piece.Goes at.HighDigit) piece.Refused))))
+    (λ f. subst (λ z. Writes 92 (92 ∷ z ∷ [])) (let k : 92 ≡ b = grind (arith, nat_tests) in k) backslash)
+    (λ f. by_test (b == 110) (λ p. Means at.Escape b (cond p (piece.Gives 10) (cond (b == 120) (piece.Goes at.HighDigit) piece.Refused)))
+    (λ h. subst (λ z. Writes 10 (92 ∷ z ∷ [])) (let k : 110 ≡ b = grind (arith, nat_tests) in k) line_end)
+    (λ h. by_test (b == 120) (λ p. Means at.Escape b (cond p (piece.Goes at.HighDigit) piece.Refused))
+    (λ i. (ap (λ z. 92 ∷ z ∷ []) (let k : 120 ≡ b = grind (arith, nat_tests) in k), refl))
+    (λ i. tt))))
 
 high_means : (b : ℕ) → Means at.HighDigit b (high_piece (hex_value b))
 unfolding begun
@@ -154,9 +154,9 @@ module _ (b : ℕ) (bs content rest : List ℕ) (spot : Spot) (so_far : List ℕ
       (more, written, c, sym (append_assoc (begun spot) (b ∷ []) bs) ∙ ap (λ z. z ++ bs) (sym begins) ∙ parts, all)
   after_piece (piece.Gives given) writes e =
       let (more, written, c, parts, all) = later at.Plain (so_far ++ given ∷ []) refl e in
-      let front = begun spot ++ b ∷ [] in
-      (
-        given ∷ more, front ++ written,
+      let front = begun spot ++ b ∷ [] in (
+        given ∷ more,
+        front ++ written,
         c ∙ append_assoc so_far (given ∷ []) more,
         sym (append_assoc (begun spot) (b ∷ []) bs) ∙ ap (λ z. front ++ z) parts ∙ sym (append_assoc front written (34 ∷ rest)),
         (front, written, refl, writes, all),
@@ -176,5 +176,5 @@ pub read_text_is_spelled : (bs : List ℕ) (token : Token) (rest : List ℕ) →
 unfolding begun
 read_text_is_spelled bs token rest = by_option (inside at.Plain [] bs) (λ o. text_then o ≡ Some (token, rest) → Fronted (34 ∷ bs) token rest) (λ e. absurd (cc))
     (λ found is e. subst (λ p. Fronted (34 ∷ bs) p.0 p.1) (some_is _ _ e)
-      (let (more, written, c, parts, all) = content_is_written bs found.0 found.1 at.Plain [] refl is in
-        (34 ∷ (written ++ 34 ∷ []), ap (λ z. 34 ∷ z) (parts ∙ sym (append_assoc written (34 ∷ []) found.1)), (written, refl, subst (λ z. WritesAll z written) (sym c) all), text_ends found.0 found.1)))
+    (let (more, written, c, parts, all) = content_is_written bs found.0 found.1 at.Plain [] refl is in
+    (34 ∷ (written ++ 34 ∷ []), ap (λ z. 34 ∷ z) (parts ∙ sym (append_assoc written (34 ∷ []) found.1)), (written, refl, subst (λ z. WritesAll z written) (sym c) all), text_ends found.0 found.1)))

@@ -4,7 +4,7 @@ ghost use Rattle.token_form.specs.Tokens.{AllPass, is_name_byte, number_from};
 ghost use Rattle.token_form.specs.Reading as reading;
 ghost use Rattle.token_form.specs.Reading.{Starts};
 
-use crate::byte_runs::{is_letter, split_run, Run};
+use crate::byte_runs::{Run, is_letter, split_run};
 use crate::numbers::number_of;
 use crate::quotes::text_at;
 use crate::signs::sign_at;
@@ -14,6 +14,7 @@ use std::alloc::{AllocError, Global};
 use value_form::Bytes;
 
 const MOST_NAME_BYTES: usize = 16;
+
 const MOST_TEXT_BYTES: usize = 1_000;
 
 fn name_token(alloc: Global, name: &[u8]) -> Result<Option<Token>, AllocError>

@@ -1,7 +1,7 @@
-ghost use Rattle.std.specs.Prelude.{◌≡◌, IfOk, IsErrOf, List, true, false};
-ghost use Rattle.token_form.specs.Tokens.{IsTokens, in_range};
+ghost use Rattle.std.specs.Prelude.{◌≡◌, IfOk, IsErrOf, List, ℕ, true, false};
+ghost use Rattle.token_form.specs.Tokens.{IsToken, IsTokens, Spells, in_range, spelling};
 
-use crate::byte_runs::{split_run, Run};
+use crate::byte_runs::{Run, split_run};
 use crate::fronts::read_token;
 use crate::line_faults::LineFault;
 use crate::objects::objects_fit;
@@ -34,3 +34,14 @@ pub fn tokens_of(alloc: Global, line: &[u8], greatest: u8) -> Result<Vec<Token>,
         Err(LineFault::Range)
     }
 }
+
+/// A line is one list of tokens at most, so the tokens that `tokens_of` gives are the only ones.
+pub fn one_list()
+    ensures { (line : List ℕ) (ts us : List Token) → IsTokens line ts → IsTokens line us → ts ≡ us }
+{}
+
+/// What `Token::print` appends for a token of scripts is read as that token, so long as no longer
+/// one could be taken.
+pub fn printed_is_spelled()
+    ensures { (token : Token) → IsToken token → Spells token (spelling token) }
+{}

@@ -13,7 +13,10 @@ fn is_dot(token: &Token) -> bool
 fn opens_object(token: &Token) -> bool
     ensures { result ≡ spec.opens_object token.now }
 {
-    matches!(token, Token::Sign(Sign::Dot) | Token::Sign(Sign::OpenBracket))
+    matches!(
+        token,
+        Token::Sign(Sign::Dot) | Token::Sign(Sign::OpenBracket)
+    )
 }
 
 fn is_repository(greatest: u8, token: &Token) -> bool

@@ -1,5 +1,4 @@
-use Rattle.std.proofs.Common.{◌≡◌, suc, ◌<◌, ◌≤◌, ◌+◌, ◌-◌, ◌*◌, ◌^◌, drop, get_or, arith}
-use Rattle.token_form.specs.Tokens.{number_from}
+use Rattle.std.proofs.Common.{suc, ◌+◌, ◌-◌, ◌*◌, drop, get_or, arith}
 use Rattle.token_form.proofs.Runs.{number_from-le, number_from-drop}
 use Rattle.token_form.proofs.numbers.number_of.Goals as goal
 
