@@ -1,9 +1,6 @@
 -- Lists of tokens one behind another.
-use Rattle.std.proofs.Common.{◌≡◌, ℕ, zero, suc, ◌+◌, Bool, true, false, List, [], ◌∷◌, ◌++◌, refl, sym, ap, ◌∙◌, subst, arith, append_assoc, append-nil}
-use Rattle.token_form.specs.declared.tokens.Sign.{Sign}
+use Rattle.std.proofs.Common.{◌≡◌, ℕ, zero, suc, ◌+◌, false, List, [], ◌∷◌, ◌++◌, refl, sym, ap, ◌∙◌, subst, arith, append_assoc, append-nil}
 use Rattle.token_form.specs.declared.tokens.Sign.TheVariants as g
-use Rattle.token_form.specs.declared.tokens.Word.{Word}
-use Rattle.token_form.specs.declared.tokens.Word.TheVariants as w
 use Rattle.token_form.specs.declared.tokens.Token.{Token}
 use Rattle.token_form.specs.declared.tokens.Token.TheVariants as t
 use Rattle.token_form.specs.Tokens.{Spells, goes_on, Ends, spaces, IsTokens}
@@ -61,10 +58,14 @@ spaces-append (suc j) k = ap (λ z. 32 ∷ z) (spaces-append j k) ∙ ap spaces 
 pub after_spaces : (k : ℕ) (bytes : List ℕ) (tokens : List Token) → IsTokens bytes tokens → IsTokens (spaces k ++ bytes) tokens
 after_spaces k bytes [] (j, e) = (k + j, ap (λ z. spaces k ++ z) e ∙ spaces-append k j)
 after_spaces k bytes (token ∷ more) (j, front, rest, e, spells, ends, next) = (
-    k + j, front, rest,
-    ap (λ z. spaces k ++ z) e ∙ sym (append_assoc (spaces k) (spaces j) (front ++ rest)) ∙ ap (λ z. z ++ (front ++ rest)) (spaces-append k j),
-    spells, ends, next,
-  )
+  k + j,
+  front,
+  rest,
+  ap (λ z. spaces k ++ z) e ∙ sym (append_assoc (spaces k) (spaces j) (front ++ rest)) ∙ ap (λ z. z ++ (front ++ rest)) (spaces-append k j),
+  spells,
+  ends,
+  next,
+)
 
 pub after_space : (bytes : List ℕ) (tokens : List Token) → IsTokens bytes tokens → IsTokens (32 ∷ bytes) tokens
 after_space bytes tokens h = after_spaces 1 bytes tokens h
@@ -73,10 +74,14 @@ after_space bytes tokens h = after_spaces 1 bytes tokens h
 pub seam : (a b : List ℕ) (ts us : List Token) → IsTokens a ts → Quiet b → IsTokens b us → IsTokens (a ++ b) (ts ++ us)
 seam a b [] us (k, e) q h = subst (λ z. IsTokens (z ++ b) us) (sym e) (after_spaces k b us h)
 seam a b (token ∷ ts) us (k, front, rest, e, spells, ends, more) q h = (
-    k, front, rest ++ b,
-    ap (λ z. z ++ b) e ∙ append_assoc (spaces k) (front ++ rest) b ∙ ap (λ z. spaces k ++ z) (append_assoc front rest b),
-    spells, ends_more token rest b ends q, seam rest b ts us more q h,
-  )
+  k,
+  front,
+  rest ++ b,
+  ap (λ z. z ++ b) e ∙ append_assoc (spaces k) (front ++ rest) b ∙ ap (λ z. spaces k ++ z) (append_assoc front rest b),
+  spells,
+  ends_more token rest b ends q,
+  seam rest b ts us more q h,
+)
 
 -- a token before others
 pub first : (token : Token) (front rest : List ℕ) (more : List Token) → Spells token front → Ends token rest → IsTokens rest more → IsTokens (front ++ rest) (token ∷ more)

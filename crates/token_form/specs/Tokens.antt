@@ -1,5 +1,5 @@
 -- Which bytes are a list of tokens.
-use Rattle.std.specs.Prelude.{◌≡◌, ◌≢◌, ℕ, zero, suc, ◌+◌, ◌-◌, ◌*◌, ◌^◌, ◌<◌, Bool, true, false, not, ◌&&◌, ◌||◌, ◌==◌, nat_le, nat_lt, List, [], ◌∷◌, ◌++◌, codes, length}
+use Rattle.std.specs.Prelude.{◌≡◌, ℕ, zero, suc, ◌+◌, ◌-◌, ◌*◌, ◌^◌, ◌<◌, Bool, true, false, not, ◌&&◌, ◌||◌, ◌==◌, nat_le, nat_lt, List, [], ◌∷◌, ◌++◌, codes, length}
 use Rattle.std.specs.Char.{is_ascii_digit}
 use Rattle.std.specs.Fmt.{decimal}
 use Rattle.std.specs.Int.{is_in_range}
@@ -204,6 +204,10 @@ HasForm (t.Sign sign) = Unit {0}
 -- a token of scripts: it has a form and is in its limits
 abbrev pub IsToken : Token → Type 0
 IsToken token = HasForm token × (in_limits token ≡ true)
+
+abbrev pub AreTokens : List Token → Type 0
+AreTokens [] = Unit {0}
+AreTokens (token ∷ more) = IsToken token × AreTokens more
 
 -- how a token is printed
 abbrev pub spelling : Token → List ℕ
