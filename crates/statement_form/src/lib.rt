@@ -16,3 +16,4 @@ pub use builders::Builder;
 pub use flats::Flat;
 pub use reader::read_row;
 pub use row_printer::print_row;
+pub use script_printer::print_script;
