@@ -67,7 +67,7 @@ withdraw_is r.Withdraw ts k = refl
 withdraw_is _ ts k = absurd k
 
 abbrev IsLet : Row → List Token → Type 0
-IsLet c ts = (name : List ℕ) (x : Term) (us : List Token) × (c ≡ r.Let name x) × (ts ≡ t.Name name ∷ t.Sign g.Equal ∷ us) × Spells x us
+IsLet c ts = (name : List ℕ) × (x : Term) × (us : List Token) × (c ≡ r.Let name x) × (ts ≡ t.Name name ∷ t.Sign g.Equal ∷ us) × Spells x us
 
 let_is : (c : Row) (ts : List Token) → Follows w.Let c ts → IsLet c ts
 let_is (r.Let name x) ts (us, is, k) = (name, x, us, refl, is, k)
@@ -82,7 +82,7 @@ one_let c d ts (name, x, us, is, at, k) (other, y, vs, is', at', k') le =
     is ∙ ap (λ z. r.Let z x) names ∙ ap (r.Let other) (one_expression x y vs (subst (Spells x) rests k) k' low) ∙ sym is'
 
 abbrev IsRead : Row → List Token → Type 0
-IsRead c ts = (name : List ℕ) (place : Spot) (us : List Token) × (c ≡ r.Read name place) × (ts ≡ t.Name name ∷ us) × SpellsSpot place us
+IsRead c ts = (name : List ℕ) × (place : Spot) × (us : List Token) × (c ≡ r.Read name place) × (ts ≡ t.Name name ∷ us) × SpellsSpot place us
 
 read_is : (c : Row) (ts : List Token) → Follows w.Read c ts → IsRead c ts
 read_is (r.Read name place) ts (us, is, k) = (name, place, us, refl, is, k)
@@ -98,7 +98,7 @@ one_read c d ts (name, a, us, is, at, k) (other, b, vs, is', at', k') le =
     is ∙ ap (λ z. r.Read z a) names ∙ ap (r.Read other) same ∙ sym is'
 
 abbrev IsWrite : Row → List Token → Type 0
-IsWrite c ts = (place : Spot) (x : Term) (rest : List Token) × (c ≡ r.Write place x) × Found place ts rest × Spells x rest
+IsWrite c ts = (place : Spot) × (x : Term) × (rest : List Token) × (c ≡ r.Write place x) × Found place ts rest × Spells x rest
 
 write_is : (c : Row) (ts : List Token) → Follows w.Write c ts → IsWrite c ts
 write_is (r.Write place x) ts (us, vs, is, at, k) = (place, x, vs, refl, subst (λ z. Found place z vs) (sym is) (spot_found place us vs at), k)

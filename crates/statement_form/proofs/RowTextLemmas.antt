@@ -117,12 +117,12 @@ limits_of [] a = refl
 limits_of (token ∷ ts) (is, more) = ap (λ z. z && all_in_limits ts) is.1 ∙ limits_of ts more
 
 spot_tokens-are : (place : Spot) → SpotInLimits place → AreTokens (spot_tokens place)
-spot_tokens-are (Fixed object) ((low, high), number) = (number_is object.repository (omega arith), (tt, refl), number_is object.number (omega arith), tt)
-spot_tokens-are (At n x) ((low, high), limits) = (number_is n (omega arith), (tt, refl), AreTokens-append (canonical x) (t.Sign g.CloseBracket ∷ []) (AreTokens-fit (canonical x) (AllFit-canonical x limits)) ((tt, refl), tt))
+spot_tokens-are (Fixed object) ((low, high), number) = (number_is object.repository (omega arith), ((tt, refl), (number_is object.number (omega arith), tt)))
+spot_tokens-are (At n x) ((low, high), limits) = (number_is n (omega arith), ((tt, refl), AreTokens-append (canonical x) (t.Sign g.CloseBracket ∷ []) (AreTokens-fit (canonical x) (AllFit-canonical x limits)) ((tt, refl), tt)))
 
 row_tokens-are : (row : Row) → RowInLimits row → AreTokens (row_tokens row)
-row_tokens-are (r.Let name x) h = ((tt, refl), h.0, (tt, refl), AreTokens-fit (canonical x) (AllFit-canonical x h.1))
-row_tokens-are (r.Read name place) h = ((tt, refl), h.0, spot_tokens-are place h.1)
+row_tokens-are (r.Let name x) h = ((tt, refl), (h.0, ((tt, refl), AreTokens-fit (canonical x) (AllFit-canonical x h.1))))
+row_tokens-are (r.Read name place) h = ((tt, refl), (h.0, spot_tokens-are place h.1))
 row_tokens-are (r.Write place x) h = ((tt, refl), AreTokens-append (spot_tokens place) (canonical x) (spot_tokens-are place h.0) (AreTokens-fit (canonical x) (AllFit-canonical x h.1)))
 row_tokens-are (r.Print x) h = ((tt, refl), AreTokens-fit (canonical x) (AllFit-canonical x h))
 row_tokens-are (r.If x) h = ((tt, refl), AreTokens-fit (canonical x) (AllFit-canonical x h))
@@ -146,11 +146,11 @@ spot_fits (At n x) ts ((low, high), limits) more =
 
 -- a word or a name before an object
 before_spot : (token : Token) (place : Spot) (ts : List Token) → is_dot token ≡ false → objects_fit 16 (spot_tokens place ++ ts) ≡ true → objects_fit 16 (token ∷ (spot_tokens place ++ ts)) ≡ true
-before_spot token (Fixed object) ts h k = ap (λ z. (true && (not z || true)) && objects_fit 16 (spot_tokens (Fixed object) ++ ts)) h ∙ k
-before_spot token (At n x) ts h k = ap (λ z. (true && (not z || true)) && objects_fit 16 (spot_tokens (At n x) ++ ts)) h ∙ k
+before_spot token (Fixed object) ts h k = ap (λ z. (true && (not z || is_object_number (t.Number object.repository))) && objects_fit 16 (spot_tokens (Fixed object) ++ ts)) h ∙ k
+before_spot token (At n x) ts h k = ap (λ z. (true && (not z || is_object_number (t.Number n))) && objects_fit 16 (spot_tokens (At n x) ++ ts)) h ∙ k
 
 row_fits : (row : Row) → RowInLimits row → objects_fit 16 (row_tokens row) ≡ true
-row_fits (r.Let name x) h = fit-all 16 (row_tokens (r.Let name x)) ((tt, refl), refl, h.0, refl, (tt, refl), refl, AllFit-canonical x h.1)
+row_fits (r.Let name x) h = fit-all 16 (row_tokens (r.Let name x)) ((tt, refl), refl, (h.0, refl, ((tt, refl), refl, AllFit-canonical x h.1)))
 row_fits (r.Read name place) h =
     subst (λ z. objects_fit 16 (t.Word w.Read ∷ t.Name name ∷ z) ≡ true) (append-nil (spot_tokens place)) (before_spot (t.Name name) place [] refl (spot_fits place [] h.1 tt))
 row_fits (r.Write place x) h = before_spot (t.Word w.Write) place (canonical x) refl (spot_fits place (canonical x) h.0 (AllFit-canonical x h.1))
