@@ -1,27 +1,26 @@
 -- Rows that can be fed begin a script, and only these.
-use Rattle.std.proofs.Common.{◌≡◌, ℕ, zero, suc, ◌+◌, ◌<◌, ◌≤◌, max, Bool, true, false, List, [], ◌∷◌, ◌++◌, length, Option, Some, None, Result, Ok, Err, refl, sym, ap, ◌∙◌, subst, arith, append_assoc, append-nil}
-use Rattle.std.specs.Prelude.{option_and_then, unwrap_or}
+use Rattle.std.proofs.Common.{◌≡◌, ℕ, zero, suc, ◌<◌, ◌≤◌, max, Bool, true, false, List, [], ◌∷◌, ◌++◌, length, Some, None, Result, Ok, Err, refl, sym, ap, ◌∙◌, subst, arith, append_assoc, append-nil}
+use Rattle.std.specs.Prelude.{option_and_then}
 use Rattle.value_form.specs.declared.scripts.Stmt.{Stmt}
-use Rattle.value_form.specs.Mirror.{Block, term, block}
+use Rattle.value_form.specs.Mirror.{Block, block}
 use Rattle.value_form.specs.MirrorLaws.{made_all}
 use Rattle.statement_form.specs.declared.flats.Flat.{Flat}
 use Rattle.statement_form.specs.declared.flats.Flat.TheVariants as f
-use Rattle.statement_form.specs.declared.levels.Opening.TheVariants as o
 use Rattle.statement_form.specs.declared.levels.Level.{Level}
 use Rattle.statement_form.specs.declared.buildings.Building.{Building}
 use Rattle.statement_form.specs.Row as r
 use Rattle.statement_form.specs.Rows.{Numbered, on, rows, block_depth}
 use Rattle.statement_form.specs.Flats.{row_of}
 use Rattle.statement_form.specs.Begins.{Begins, BeginsShallow}
-use Rattle.statement_form.specs.Building.{at, rows_so_far, whole, opened, opens, feed, Feeds}
+use Rattle.statement_form.specs.Building.{at, rows_so_far, whole, opens, feed, Feeds}
 use Rattle.statement_form.specs.Fed.{Fed}
 use Rattle.statement_form.specs.declared.block_faults.BlockFault.{BlockFault}
 use Rattle.statement_form.specs.declared.block_faults.BlockFault.TheVariants as fault
 use Rattle.std.specs.Result.{IsErr, IsErrAnd}
-use Rattle.statement_form.specs.Feeds.{made_flat, row_feed, feeds, open_by, open_after, peak}
+use Rattle.statement_form.specs.Feeds.{row_feed, feeds, open_by, open_after, peak}
 use Rattle.statement_form.specs.Sound.{IsSound}
 use Rattle.statement_form.proofs.BlockLemmas.{made_flat-row, feeds-rows, feeds-so_far, fed_rows}
-use Rattle.statement_form.proofs.PeakLemmas.{peak_ge, open_le-peak, open_after-append, peak-append, open_after-rows, block_depth-peak, open_after-so_far}
+use Rattle.statement_form.proofs.PeakLemmas.{open_le-peak, open_after-append, peak-append, open_after-rows, block_depth-peak, open_after-so_far}
 
 -- ---- an `end` for each open block
 
@@ -51,7 +50,7 @@ so_far_shallow b sound =
     let height : peak (open_after 0 (rows_so_far b)) (ends b.stack) ≡ length b.stack = ap (λ n. peak n (ends b.stack)) (open_after-so_far b) ∙ peak-ends b.stack in
     let height_now : length b.stack ≤ peak 0 (rows_so_far b) = subst (λ n. n ≤ peak 0 (rows_so_far b)) (open_after-so_far b) (open_le-peak 0 (rows_so_far b)) in
     let deep : block_depth (block all.0) ≡ max (peak 0 (rows_so_far b)) (length b.stack) =
-      block_depth-peak (block all.0) ∙ ap (peak 0) (sym all.1) ∙ peak-append 0 (rows_so_far b) (ends b.stack) ∙ ap (max (peak 0 (rows_so_far b))) height in
+    block_depth-peak (block all.0) ∙ ap (peak 0) (sym all.1) ∙ peak-append 0 (rows_so_far b) (ends b.stack) ∙ ap (max (peak 0 (rows_so_far b))) height in
     let low : peak 0 (rows_so_far b) ≤ 16 = sound in
     record { more = ends b.stack; script = block all.0; is = all.1; shallow = omega arith }
 
@@ -85,12 +84,16 @@ fed_sound b new n flat sound is fits = at' (opens flat) refl
   where
     low : peak 0 (rows_so_far b) ≤ 16
     low = sound
+
     opened_now : length b.stack ≤ peak 0 (rows_so_far b)
     opened_now = subst (λ n. n ≤ peak 0 (rows_so_far b)) (open_after-so_far b) (open_le-peak 0 (rows_so_far b))
+
     height : peak 0 (rows_so_far new) ≡ max (peak 0 (rows_so_far b)) (max (length b.stack) (length new.stack))
     height = ap (peak 0) (sym (fed_rows b new n flat is)) ∙ peak-append 0 (rows_so_far b) (on n (row_of flat) ∷ []) ∙ ap (λ k. max (peak 0 (rows_so_far b)) (max k (open_by k (row_of flat)))) (open_after-so_far b) ∙ ap (λ k. max (peak 0 (rows_so_far b)) (max (length b.stack) k)) (sym (open_new b new n flat is))
+
     short : length new.stack ≤ 16 → IsSound new
     short h = omega (arith, height, low, opened_now)
+
     at' : (v : Bool) → opens flat ≡ v → IsSound new
     at' true h = short (fits h)
     at' false h = let k = open_by-else (length b.stack) flat h in let e = open_new b new n flat is in short (omega (arith, low, opened_now))
@@ -123,7 +126,7 @@ pub too_deep : (b : Building) (n : ℕ) (flat : Flat) → opens flat ≡ true �
 too_deep b n flat opening full h =
     let xs : List Numbered = rows_so_far b ++ on n (row_of flat) ∷ [] in
     let height_now : open_after 0 xs ≡ suc (length b.stack) =
-      open_after-append 0 (rows_so_far b) (on n (row_of flat) ∷ []) ∙ ap (λ k. open_by k (row_of flat)) (open_after-so_far b) ∙ open_by-opens (length b.stack) flat opening in
+    open_after-append 0 (rows_so_far b) (on n (row_of flat) ∷ []) ∙ ap (λ k. open_by k (row_of flat)) (open_after-so_far b) ∙ open_by-opens (length b.stack) flat opening in
     let deep : block_depth h.script ≡ max (peak 0 xs) (peak (open_after 0 xs) h.more) = block_depth-peak h.script ∙ ap (peak 0) (sym h.is) ∙ peak-append 0 xs h.more in
     let least : open_after 0 xs ≤ peak 0 xs = open_le-peak 0 xs in
     let shallow : block_depth h.script ≤ 16 = h.shallow in

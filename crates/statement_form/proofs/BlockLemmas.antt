@@ -1,13 +1,13 @@
 -- A script is built from its rows, and from no others.
 use Rattle.std.proofs.Common.{◌≡◌, ℕ, List, [], ◌∷◌, ◌++◌, Option, Some, None, refl, sym, ap, ◌∙◌, subst, append_assoc, append-nil}
-use Rattle.std.specs.Prelude.{option_and_then, unwrap_or}
+use Rattle.std.specs.Prelude.{unwrap_or}
 use Rattle.value_form.specs.declared.scripts.Place.{Place}
 use Rattle.value_form.specs.declared.scripts.Place.TheVariants as p
 use Rattle.value_form.specs.declared.scripts.Stmt.{Stmt}
 use Rattle.value_form.specs.declared.scripts.Stmt.TheVariants as s
 use Rattle.value_form.specs.declared.scripts.Stmt.TheOpen.{Stmt-F}
 use Rattle.value_form.specs.declared.scripts.Stmt.TheFolds.{fold-roll-Stmt}
-use Rattle.value_form.specs.Mirror.{Term, Spot, Fixed, At, Step, Let, Read, Write, Print, If, IfElse, Repeat, Withdraw, Block, End, Then, term, spot, plain, block, step_layer}
+use Rattle.value_form.specs.Mirror.{Spot, Fixed, At, Step, Let, Read, Write, Print, If, IfElse, Repeat, Withdraw, Block, End, Then, term, spot, plain, block, step_layer}
 use Rattle.value_form.specs.MirrorLaws.{made, made_place, made_step, made_all, made-term, term-made, made-block, block-made, plain-if, plain-if_else, plain-repeat}
 use Rattle.statement_form.specs.declared.flats.Flat.{Flat}
 use Rattle.statement_form.specs.declared.flats.Flat.TheVariants as f
@@ -20,7 +20,7 @@ use Rattle.statement_form.specs.Row as r
 use Rattle.statement_form.specs.Rows.{Numbered, on, step_rows, rows}
 use Rattle.statement_form.specs.Flats.{row_of}
 use Rattle.statement_form.specs.Building.{at, opening_rows, stack_rows, rows_so_far, added, opened, other_in, other_at, whole, shut_at, feed}
-use Rattle.statement_form.specs.Feeds.{made_flat, row_feed, feeds}
+use Rattle.statement_form.specs.Feeds.{made_flat, feeds}
 
 -- ---- a row and its parsed line are the same
 

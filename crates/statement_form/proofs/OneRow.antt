@@ -1,5 +1,5 @@
 -- Tokens spell at most one row, where its expressions are no deeper than 16.
-use Rattle.std.proofs.Common.{◌≡◌, ℕ, ◌+◌, ◌≤◌, max, List, [], ◌∷◌, ◌++◌, Option, Some, None, refl, sym, ap, ◌∙◌, subst, arith}
+use Rattle.std.proofs.Common.{◌≡◌, ℕ, ◌≤◌, max, List, [], ◌∷◌, Some, refl, sym, ap, ◌∙◌, subst, arith}
 use Rattle.std.specs.Prelude.{unwrap_or}
 use Rattle.token_form.specs.declared.tokens.Token.{Token}
 use Rattle.token_form.specs.declared.tokens.Token.TheVariants as t
@@ -14,7 +14,6 @@ use Rattle.statement_form.specs.Row.{Row}
 use Rattle.statement_form.specs.Row as r
 use Rattle.statement_form.specs.Rows.{row_depth, spot_depth}
 use Rattle.statement_form.specs.Lines.{SpellsSpot, Follows, SpellsRow}
-use Rattle.statement_form.specs.Targets.{fixed_of, indexed_of}
 use Rattle.statement_form.proofs.TargetLemmas.{Found, spot_found, spot_alone}
 use Rattle.statement_form.proofs.ReadLemmas.{none_some}
 

@@ -1,5 +1,5 @@
 -- The depth of blocks is the most that are open at a time.
-use Rattle.std.proofs.Common.{◌≡◌, ℕ, zero, suc, ◌+◌, ◌<◌, ◌≤◌, max, List, [], ◌∷◌, ◌++◌, length, refl, sym, ap, ◌∙◌, subst, arith, append_assoc, append-nil}
+use Rattle.std.proofs.Common.{◌≡◌, ℕ, suc, ◌+◌, ◌≤◌, max, List, [], ◌∷◌, ◌++◌, length, refl, sym, ap, ◌∙◌, arith, append_assoc, append-nil}
 use Rattle.value_form.specs.Mirror.{Step, Let, Read, Write, Print, If, IfElse, Repeat, Withdraw, Block, End, Then, block}
 use Rattle.statement_form.specs.declared.levels.Opening.{Opening}
 use Rattle.statement_form.specs.declared.levels.Opening.TheVariants as o
@@ -74,7 +74,7 @@ mutual
   peak-step (Repeat l x part e) n rest = part_peak part n e rest (peak-block part (suc n) (on e r.End ∷ rest))
   peak-step (IfElse l x part m other e) n rest =
       let all : peak (suc n) ((rows part ++ on m r.Else ∷ (rows other ++ on e r.End ∷ [])) ++ rest) ≡ peak (suc n) (rows part ++ on m r.Else ∷ (rows other ++ on e r.End ∷ rest)) =
-        ap (peak (suc n)) (append_assoc (rows part) (on m r.Else ∷ (rows other ++ on e r.End ∷ [])) rest ∙ ap (λ z. rows part ++ on m r.Else ∷ z) (append_assoc (rows other) (on e r.End ∷ []) rest)) in
+      ap (peak (suc n)) (append_assoc (rows part) (on m r.Else ∷ (rows other ++ on e r.End ∷ [])) rest ∙ ap (λ z. rows part ++ on m r.Else ∷ z) (append_assoc (rows other) (on e r.End ∷ []) rest)) in
       let first = peak-block part (suc n) (on m r.Else ∷ (rows other ++ on e r.End ∷ rest)) in
       let second = peak-block other (suc n) (on e r.End ∷ rest) in
       ap (max n) (all ∙ first ∙ ap (λ z. max (suc n + block_depth part) (max (suc n) z)) second) ∙ two_parts n (block_depth part) (block_depth other) (peak n rest) (peak_ge n rest)

@@ -1,5 +1,5 @@
 -- What reading the parts of a row says of the row.
-use Rattle.std.proofs.Common.{◌≡◌, ◌≢◌, ℕ, ◌+◌, ◌<◌, ◌≤◌, max, Bool, true, false, List, [], ◌∷◌, ◌++◌, Option, Some, None, Result, Ok, Err, refl, sym, ap, ◌∙◌, subst, arith, append-nil, length}
+use Rattle.std.proofs.Common.{◌≡◌, ◌≢◌, ℕ, ◌<◌, true, false, List, [], ◌∷◌, ◌++◌, Some, None, Result, Ok, Err, refl, sym, ap, ◌∙◌, subst, arith, append-nil, length}
 use Rattle.std.specs.Prelude.{unwrap_or, ◌==◌}
 use Rattle.std.specs.Result.{IsErr, IsErrAnd}
 use Rattle.token_form.specs.declared.tokens.Token.{Token}
@@ -20,8 +20,8 @@ use Rattle.statement_form.specs.Flats.{row_of}
 use Rattle.statement_form.specs.Row.{Row}
 use Rattle.statement_form.specs.Row as r
 use Rattle.statement_form.specs.Rows.{row_depth, spot_depth}
-use Rattle.statement_form.specs.Lines.{IsRepository, SpellsSpot, Follows}
-use Rattle.statement_form.specs.Pairs.{ReadsBoth, both, first_of}
+use Rattle.statement_form.specs.Lines.{SpellsSpot, Follows}
+use Rattle.statement_form.specs.Pairs.{ReadsBoth, both}
 use Rattle.statement_form.specs.Targets.{fixed_of, indexed_of}
 use Rattle.statement_form.proofs.TargetLemmas.{Found, spot_found, spot_alone, fixed_spells, indexed_spells}
 
@@ -31,7 +31,7 @@ HandsOn result fault = IsErr result × IsErrAnd result (λ other. other ≡ faul
 
 -- A fault of a part is that of the whole, where the whole is spelled exactly with the part, and is as deep.
 module _ {A A' B B' : Type 0} (view : A → B) (view' : A' → B') (spells : B → List Token → Type 0) (spells' : B' → List Token → Type 0) (depth : B → ℕ) (depth' : B' → ℕ)
-  (ts ts' : List Token) (f : B → B') (to : (b : B) → spells b ts → spells' (f b) ts') (from : (c : B') → spells' c ts' → (b : B) × spells b ts) (same : (b : B) → depth' (f b) ≡ depth b) where
+    (ts ts' : List Token) (f : B → B') (to : (b : B) → spells b ts → spells' (f b) ts') (from : (c : B') → spells' c ts' → (b : B) × spells b ts) (same : (b : B) → depth' (f b) ≡ depth b) where
   fault_of : (fault : ReadFault) → Reads view spells depth ts (Err fault) → Reads view' spells' depth' ts' (Err fault)
   fault_of Syntax h = λ c k. let b = from c k in h b.0 b.1
   fault_of Depth h = (f h.0, to h.0 h.1, subst (λ n. 16 < n) (sym (same h.0)) h.2)

@@ -1,5 +1,5 @@
 -- The canonical text of a row is its canonical tokens, which spell it and are in their limits.
-use Rattle.std.proofs.Common.{◌≡◌, ℕ, ◌+◌, ◌<◌, ◌≤◌, ◌^◌, Bool, true, false, List, [], ◌∷◌, ◌++◌, refl, sym, ap, ◌∙◌, subst, arith, append_assoc, append-nil}
+use Rattle.std.proofs.Common.{◌≡◌, ℕ, ◌<◌, ◌^◌, true, false, List, [], ◌∷◌, ◌++◌, refl, ap, ◌∙◌, subst, arith, append-nil}
 use Rattle.std.specs.Prelude.{codes, not, ◌&&◌, ◌||◌, nat_lt, nat_le}
 use Rattle.std.specs.Fmt.{decimal}
 use Rattle.std.proofs.lemmas.Bool.{le-leb, lt-ltb}
@@ -11,13 +11,12 @@ use Rattle.token_form.specs.Tokens.{Ends, IsTokens, IsToken, AreTokens, in_limit
 use Rattle.token_form.specs.Tokens as tokens
 use Rattle.token_form.proofs.Seams.{quiet_ends, quiet_space, quiet_dot, quiet_open_bracket, quiet_close_bracket, after_space, seam, first, alone}
 use Rattle.token_form.proofs.Spellings.{spells}
-use Rattle.value_form.specs.Mirror.{Term, Spot, Fixed, At}
+use Rattle.value_form.specs.Mirror.{Spot, Fixed, At}
 use Rattle.expression_form.specs.Canonical.{canonical}
-use Rattle.expression_form.specs.Grammar.{Spells}
-use Rattle.expression_form.specs.Texts.{text, InLimits}
+use Rattle.expression_form.specs.Texts.{text}
 use Rattle.expression_form.proofs.CanonicalLemmas.{canonical-spells, AllFit, AllFit-append, AllFit-canonical}
 use Rattle.expression_form.proofs.TextLemmas.{text-tokens}
-use Rattle.statement_form.specs.Lines.{IsRepository, SpellsSpot, SpellsRow}
+use Rattle.statement_form.specs.Lines.{SpellsSpot, SpellsRow}
 use Rattle.statement_form.specs.Row.{Row}
 use Rattle.statement_form.specs.Row as r
 use Rattle.statement_form.specs.RowTexts.{spot_tokens, row_tokens, spot_text, row_text, SpotInLimits, RowInLimits}

@@ -1,5 +1,5 @@
 -- The object at the front of tokens is the one that is spelled there.
-use Rattle.std.proofs.Common.{◌≡◌, ℕ, zero, suc, ◌+◌, ◌<◌, ◌≤◌, ◌^◌, Bool, true, false, List, [], ◌∷◌, ◌++◌, length, take, drop, Option, Some, None, refl, sym, ap, ◌∙◌, subst, arith, append_assoc, append-nil}
+use Rattle.std.proofs.Common.{◌≡◌, ℕ, suc, ◌<◌, ◌^◌, Bool, true, false, List, [], ◌∷◌, ◌++◌, length, take, drop, Option, Some, None, refl, sym, ap, ◌∙◌, subst, arith, append_assoc, append-nil}
 use Rattle.std.specs.Prelude.{nat_le, nat_lt, ◌&&◌, if◌then◌else◌}
 use Rattle.std.proofs.lemmas.Bool.{le-leb, lt-ltb, leb-true, ltb-true}
 use Rattle.token_form.specs.declared.tokens.Token.{Token}
@@ -80,7 +80,7 @@ pub spot_found : (place : Spot) (us rest : List Token) → SpellsSpot place us �
 spot_found (Fixed object) us rest spells = fixed_found object us rest spells
 spot_found (At n x) us rest (es, is, repository, spells) =
     let all : us ++ rest ≡ t.Number n ∷ t.Sign g.OpenBracket ∷ (es ++ t.Sign g.CloseBracket ∷ rest) =
-      ap (λ z. z ++ rest) is ∙ ap (λ z. t.Number n ∷ t.Sign g.OpenBracket ∷ z) (append_assoc es (t.Sign g.CloseBracket ∷ []) rest) in
+    ap (λ z. z ++ rest) is ∙ ap (λ z. t.Number n ∷ t.Sign g.OpenBracket ∷ z) (append_assoc es (t.Sign g.CloseBracket ∷ []) rest) in
     (ap fixed_of all, (es, ap indexed_of all ∙ indexed_found n es rest repository (spelled_no_bracket x es spells), spells))
 
 -- an object that is all the tokens

@@ -1,5 +1,5 @@
 -- Which rows begin a script.
-use Rattle.std.specs.Prelude.{◌≡◌, ℕ, ◌≤◌, List, ◌++◌}
+use Rattle.std.specs.Prelude.{◌≡◌, ◌≤◌, List, ◌++◌}
 use Rattle.value_form.specs.Mirror.{Block}
 use Rattle.statement_form.specs.Rows.{Numbered, rows, block_depth}
 

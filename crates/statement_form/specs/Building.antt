@@ -1,5 +1,5 @@
 -- Statements from rows, with a stack of the blocks that are open.
-use Rattle.std.specs.Prelude.{◌≡◌, ℕ, ◌+◌, ◌≤◌, Bool, true, false, List, [], ◌∷◌, ◌++◌, length, Option, Some, None, option_and_then, Result, Ok, Err}
+use Rattle.std.specs.Prelude.{◌≡◌, ℕ, ◌≤◌, Bool, true, false, List, [], ◌∷◌, ◌++◌, length, Option, Some, None, Result, Ok, Err}
 use Rattle.value_form.specs.declared.scripts.Stmt.{Stmt}
 use Rattle.value_form.specs.declared.scripts.Stmt.TheVariants as s
 use Rattle.value_form.specs.Mirror.{block, term}

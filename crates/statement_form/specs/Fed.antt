@@ -1,5 +1,5 @@
 -- What feeding a row gives.
-use Rattle.std.specs.Prelude.{◌≡◌, List, [], ◌∷◌, ◌++◌, Result, Ok, Err}
+use Rattle.std.specs.Prelude.{◌≡◌, [], ◌∷◌, ◌++◌, Result, Ok, Err}
 use Rattle.statement_form.specs.declared.buildings.Building.{Building}
 use Rattle.statement_form.specs.declared.block_faults.BlockFault.{BlockFault}
 use Rattle.statement_form.specs.declared.block_faults.BlockFault.TheVariants.{Block, Depth, NoMemory}

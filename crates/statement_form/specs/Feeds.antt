@@ -1,5 +1,5 @@
 -- Rows fed one after another.
-use Rattle.std.specs.Prelude.{ℕ, suc, zero, max, List, [], ◌∷◌, Option, Some, None, option_and_then}
+use Rattle.std.specs.Prelude.{ℕ, suc, zero, max, List, [], ◌∷◌, Option, Some, option_and_then}
 use Rattle.value_form.specs.MirrorLaws.{made, made_place}
 use Rattle.statement_form.specs.declared.flats.Flat.{Flat}
 use Rattle.statement_form.specs.declared.flats.Flat.TheVariants as f

@@ -5,7 +5,7 @@ use Rattle.token_form.specs.declared.tokens.Token.TheVariants as t
 use Rattle.token_form.specs.declared.tokens.Word.{Word}
 use Rattle.token_form.specs.declared.tokens.Word.TheVariants as w
 use Rattle.token_form.specs.declared.tokens.Sign.TheVariants as g
-use Rattle.value_form.specs.Mirror.{Term, Spot, Fixed, At}
+use Rattle.value_form.specs.Mirror.{Spot, Fixed, At}
 use Rattle.expression_form.specs.Grammar as expression
 use Rattle.statement_form.specs.Row.{Row}
 use Rattle.statement_form.specs.Row as r

@@ -1,5 +1,5 @@
 -- What reading two lists of tokens as expressions gives.
-use Rattle.std.specs.Prelude.{ℕ, ◌<◌, ◌≤◌, max, List, Result, Ok, Err}
+use Rattle.std.specs.Prelude.{◌<◌, ◌≤◌, max, List, Result, Ok, Err}
 use Rattle.token_form.specs.declared.tokens.Token.{Token}
 use Rattle.value_form.specs.declared.expressions.Expr.{Expr}
 use Rattle.value_form.specs.Mirror.{Term, term}

@@ -6,7 +6,7 @@ use Rattle.token_form.specs.declared.tokens.Token.TheVariants as t
 use Rattle.token_form.specs.declared.tokens.Word.TheVariants as w
 use Rattle.token_form.specs.declared.tokens.Sign.TheVariants as g
 use Rattle.token_form.specs.Tokens.{IsToken}
-use Rattle.value_form.specs.Mirror.{Term, Spot, Fixed, At, Block}
+use Rattle.value_form.specs.Mirror.{Spot, Fixed, At, Block}
 use Rattle.expression_form.specs.Canonical.{canonical}
 use Rattle.expression_form.specs.Texts.{text, InLimits}
 use Rattle.statement_form.specs.Lines.{IsRepository}

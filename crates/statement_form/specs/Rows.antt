@@ -1,6 +1,6 @@
 -- The rows of a script: what stands on a line of its own, a statement or a part of one.
 use Rattle.std.specs.Prelude.{ℕ, ◌+◌, max, List, [], ◌∷◌, ◌++◌}
-use Rattle.value_form.specs.Mirror.{Term, Spot, Fixed, At, Step, Let, Read, Write, Print, If, IfElse, Repeat, Withdraw, Block, End, Then}
+use Rattle.value_form.specs.Mirror.{Spot, Fixed, At, Step, Let, Read, Write, Print, If, IfElse, Repeat, Withdraw, Block, End, Then}
 use Rattle.expression_form.specs.Depth.{depth}
 use Rattle.statement_form.specs.Row.{Row}
 use Rattle.statement_form.specs.Row as r

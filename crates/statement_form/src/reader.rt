@@ -9,7 +9,7 @@ ghost use Rattle.statement_form.specs.Rows.{row_depth, spot_depth};
 
 use crate::flats::Flat;
 use crate::targets::{behind_equal, fixed_of, indexed_of, name_of};
-use expression_form::{read_expression, ReadFault};
+use expression_form::{ReadFault, read_expression};
 use std::alloc::Global;
 use token_form::{Token, Word};
 use value_form::{Expr, Place};
@@ -71,11 +71,7 @@ fn both_of(
 
 // Two expressions.
 #[tactic(auto, using(crate::proofs::ReadLemmas::both_reads))]
-fn read_both(
-    alloc: Global,
-    first: &[Token],
-    second: &[Token],
-) -> Result<(Expr, Expr), ReadFault>
+fn read_both(alloc: Global, first: &[Token], second: &[Token]) -> Result<(Expr, Expr), ReadFault>
     ensures { ReadsBoth first.now second.now result }
 {
     both_of(

@@ -34,12 +34,7 @@ fn put_place(alloc: Global, out: &mut Vec<u8>, place: &Place) -> Result<(), Allo
 }
 
 // A word with its space, and an expression.
-fn put_worded(
-    alloc: Global,
-    out: &mut Vec<u8>,
-    word: &[u8],
-    value: &Expr,
-) -> Result<(), AllocError>
+fn put_worded(alloc: Global, out: &mut Vec<u8>, word: &[u8], value: &Expr) -> Result<(), AllocError>
     ensures { OnOk result (out.new.items ≡ out.old.items ++ (word.now ++ text (term value.now))) }
 {
     out.extend_from_slice(word)?;

@@ -20,12 +20,7 @@ fn end_lines(out: &mut Vec<u8>, next: u32, line: u32) -> Result<(), AllocError>
 }
 
 // A row on its line. Gives the line that comes next.
-fn put_line(
-    out: &mut Vec<u8>,
-    next: u32,
-    line: u16,
-    row: &[u8],
-) -> Result<u32, AllocError>
+fn put_line(out: &mut Vec<u8>, next: u32, line: u16, row: &[u8]) -> Result<u32, AllocError>
     ensures text { OnOk result (out.new.items ≡ out.old.items ++ line_text next line row.now) }
     ensures next { IfOk result (λ n. n ≡ line + 1) }
 {
@@ -37,12 +32,7 @@ fn put_line(
 
 // The rows of a part. Gives the line that comes next.
 #[cycle(printing)]
-fn put_all(
-    alloc: Global,
-    out: &mut Vec<u8>,
-    next: u32,
-    part: &[Stmt],
-) -> Result<u32, AllocError>
+fn put_all(alloc: Global, out: &mut Vec<u8>, next: u32, part: &[Stmt]) -> Result<u32, AllocError>
     ensures { IfOk result (λ after. Prints (rows (block part.now)) next out.old.items after out.new.items) }
 {
     let mut after = next;
@@ -54,12 +44,7 @@ fn put_all(
 
 // The rows of a statement. Gives the line that comes next.
 #[cycle(printing)]
-fn put_one(
-    alloc: Global,
-    out: &mut Vec<u8>,
-    next: u32,
-    stmt: &Stmt,
-) -> Result<u32, AllocError>
+fn put_one(alloc: Global, out: &mut Vec<u8>, next: u32, stmt: &Stmt) -> Result<u32, AllocError>
     ensures { IfOk result (λ after. Prints (step_rows (plain stmt.now)) next out.old.items after out.new.items) }
 {
     let mut row = Vec::new(alloc);

@@ -38,7 +38,12 @@ pub fn fixed_of(tokens: &[Token]) -> Option<(ObjectId, &[Token])>
     ensures { option_map (λ p. (p.0, p.1.now)) result ≡ spec.fixed_of tokens.now }
 {
     match tokens {
-        [Token::Number(repository), Token::Sign(Sign::Dot), Token::Number(number), ..] => {
+        [
+            Token::Number(repository),
+            Token::Sign(Sign::Dot),
+            Token::Number(number),
+            ..
+        ] => {
             if is_repository(*repository) && *number < 4_294_967_296 {
                 let object = ObjectId {
                     repository: *repository as u8,
@@ -73,7 +78,11 @@ pub fn indexed_of(tokens: &[Token]) -> Option<(u8, &[Token], &[Token])>
     ensures { option_map (λ p. (p.0, p.1.now, p.2.now)) result ≡ spec.indexed_of tokens.now }
 {
     match tokens {
-        [Token::Number(repository), Token::Sign(Sign::OpenBracket), ..] => {
+        [
+            Token::Number(repository),
+            Token::Sign(Sign::OpenBracket),
+            ..
+        ] => {
             let rest = &tokens[2..];
             let at = bracket_at(rest);
             if is_repository(*repository) && at < rest.len() {

@@ -1,7 +1,7 @@
 use super::*;
+use expression_form::ReadFault;
 use std::alloc::Global;
 use std::test::*;
-use expression_form::ReadFault;
 use token_form::tokens_of;
 
 // The canonical text of what stands on a line, or `syntax` or `depth`.
@@ -52,8 +52,14 @@ fn rows_with_their_text(rt: HostRuntime) -> Result<(), Fail> {
     for (line, text) in [
         (b"let a=(1)".as_slice(), b"let a = 1".as_slice()),
         (b"read a 1 . 7".as_slice(), b"read a 1.7".as_slice()),
-        (b"read a 16 [ b+1 ]".as_slice(), b"read a 16[b + 1]".as_slice()),
-        (b"write 2.4294967295 a".as_slice(), b"write 2.4294967295 a".as_slice()),
+        (
+            b"read a 16 [ b+1 ]".as_slice(),
+            b"read a 16[b + 1]".as_slice(),
+        ),
+        (
+            b"write 2.4294967295 a".as_slice(),
+            b"write 2.4294967295 a".as_slice(),
+        ),
         (b"write 2[a]-1".as_slice(), b"write 2[a] -1".as_slice()),
         (b"write 1.0 7".as_slice(), b"write 1.0 7".as_slice()),
         (b"print\"x\"".as_slice(), b"print \"x\"".as_slice()),
@@ -105,11 +111,26 @@ fn depth_comes_after_syntax(rt: HostRuntime) -> Result<(), Fail> {
     let alloc = rt.alloc();
     for (line, text) in [
         (b"print ----------------1".as_slice(), b"depth".as_slice()),
-        (b"print ----------------1 2".as_slice(), b"syntax".as_slice()),
-        (b"write 1[----------------1] 2".as_slice(), b"depth".as_slice()),
-        (b"write 1[2] ----------------1".as_slice(), b"depth".as_slice()),
-        (b"write 1[----------------1] ) 2".as_slice(), b"syntax".as_slice()),
-        (b"write 1[)] ----------------1".as_slice(), b"syntax".as_slice()),
+        (
+            b"print ----------------1 2".as_slice(),
+            b"syntax".as_slice(),
+        ),
+        (
+            b"write 1[----------------1] 2".as_slice(),
+            b"depth".as_slice(),
+        ),
+        (
+            b"write 1[2] ----------------1".as_slice(),
+            b"depth".as_slice(),
+        ),
+        (
+            b"write 1[----------------1] ) 2".as_slice(),
+            b"syntax".as_slice(),
+        ),
+        (
+            b"write 1[)] ----------------1".as_slice(),
+            b"syntax".as_slice(),
+        ),
     ] {
         assert_eq!(rt; answer(alloc, line)?.as_slice(), text);
     }
@@ -129,10 +150,17 @@ fn scripts_with_their_text(rt: HostRuntime) -> Result<(), Fail> {
         b"end",
         b"withdraw",
     ];
-    let text = b"\n\nif a\n\nrepeat 2\n\nread b 1[a]\n\nend\n\nelse\n\nprint b\n\nend\n\nwithdraw\n";
-    assert_eq!(rt; script(alloc, lines.as_slice(), 3)?.as_slice(), text.as_slice());
+    let text =
+        b"\n\nif a\n\nrepeat 2\n\nread b 1[a]\n\nend\n\nelse\n\nprint b\n\nend\n\nwithdraw\n";
+    assert_eq!(rt;
+        script(alloc, lines.as_slice(), 3)?.as_slice(),
+        text.as_slice()
+    );
     let none: [&[u8]; 0] = [];
-    assert_eq!(rt; script(alloc, none.as_slice(), 1)?.as_slice(), b"".as_slice());
+    assert_eq!(rt;
+        script(alloc, none.as_slice(), 1)?.as_slice(),
+        b"".as_slice()
+    );
     Ok(())
 }
 
@@ -140,15 +168,30 @@ fn scripts_with_their_text(rt: HostRuntime) -> Result<(), Fail> {
 fn rows_that_begin_no_script(rt: HostRuntime) -> Result<(), Fail> {
     let alloc = rt.alloc();
     let one = [b"else".as_slice()];
-    assert_eq!(rt; script(alloc, one.as_slice(), 1)?.as_slice(), b"block".as_slice());
+    assert_eq!(rt;
+        script(alloc, one.as_slice(), 1)?.as_slice(),
+        b"block".as_slice()
+    );
     let one = [b"end".as_slice()];
-    assert_eq!(rt; script(alloc, one.as_slice(), 1)?.as_slice(), b"block".as_slice());
+    assert_eq!(rt;
+        script(alloc, one.as_slice(), 1)?.as_slice(),
+        b"block".as_slice()
+    );
     let one = [b"if 1".as_slice()];
-    assert_eq!(rt; script(alloc, one.as_slice(), 1)?.as_slice(), b"open".as_slice());
+    assert_eq!(rt;
+        script(alloc, one.as_slice(), 1)?.as_slice(),
+        b"open".as_slice()
+    );
     let two = [b"repeat 1".as_slice(), b"else"];
-    assert_eq!(rt; script(alloc, two.as_slice(), 1)?.as_slice(), b"block".as_slice());
+    assert_eq!(rt;
+        script(alloc, two.as_slice(), 1)?.as_slice(),
+        b"block".as_slice()
+    );
     let three = [b"if 1".as_slice(), b"else", b"else"];
-    assert_eq!(rt; script(alloc, three.as_slice(), 1)?.as_slice(), b"block".as_slice());
+    assert_eq!(rt;
+        script(alloc, three.as_slice(), 1)?.as_slice(),
+        b"block".as_slice()
+    );
     Ok(())
 }
 

@@ -1,4 +1,4 @@
-use Rattle.std.proofs.Common.{sym, ◌∙◌, ap, ◌++◌}
+use Rattle.std.proofs.Common.{◌∙◌, ap, ◌++◌}
 use Rattle.value_form.specs.Mirror.{term}
 use Rattle.statement_form.specs.Row as r
 use Rattle.statement_form.specs.RowTexts.{row_text}

@@ -1,4 +1,4 @@
-use Rattle.std.proofs.Common.{◌≡◌, ◌+◌, ◌≤◌, length, drop}
+use Rattle.std.proofs.Common.{◌≡◌, ◌+◌, drop}
 use Rattle.statement_form.specs.Targets as spec
 use Rattle.statement_form.proofs.targets.bracket_at.Given as goal
 
