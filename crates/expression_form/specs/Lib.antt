@@ -1,0 +1,10 @@
+pub mod Levels
+pub mod Grammar
+pub mod Depth
+pub mod Canonical
+pub mod Operands
+pub mod Stacks
+pub mod Machine
+pub mod Steps
+pub mod Texts
+pub mod Reads

@@ -1,0 +1,7 @@
+use Rattle.std.proofs.Common.{◌≡◌, drop}
+use Rattle.script_form.specs.Lines.{is_blank}
+use Rattle.script_form.proofs.line_splits.is_blank.Given as goal
+
+-- the bytes so far are spaces
+abbrev pub invariant-loop-byte : goal.invariant-loop-byte
+invariant-loop-byte l = is_blank l.line ≡ is_blank (drop l.byte-index l.line)

@@ -1,0 +1,4 @@
+//! Scripts: their lines, their faults and their text.
+#![tactic(auto)]
+
+mod line_splits;

@@ -1,0 +1,12 @@
+pub mod Row
+pub mod Rows
+pub mod Flats
+pub mod Lines
+pub mod Begins
+pub mod Building
+pub mod RowTexts
+pub mod Targets
+pub mod Pairs
+pub mod Feeds
+pub mod Sound
+pub mod Fed
