@@ -2,3 +2,6 @@
 #![tactic(auto)]
 
 mod line_splits;
+mod parse_faults;
+
+pub use parse_faults::{ParseFault, ParseKind};
