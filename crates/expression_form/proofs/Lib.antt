@@ -5,3 +5,4 @@ pub mod DepthLemmas
 pub mod Readings
 pub mod CanonicalLemmas
 pub mod TextLemmas
+pub mod BracketLemmas

@@ -5,3 +5,5 @@ pub mod Lines
 pub mod Begins
 pub mod Building
 pub mod RowTexts
+pub mod Targets
+pub mod Pairs

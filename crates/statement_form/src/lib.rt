@@ -5,6 +5,9 @@ mod block_faults;
 mod buildings;
 mod flats;
 mod levels;
+mod reader;
+mod targets;
 
 pub use block_faults::BlockFault;
 pub use flats::Flat;
+pub use reader::read_row;
