@@ -1,0 +1,3 @@
+pub mod LineReadLemmas
+pub mod ProgressLemmas
+pub mod RowLemmas

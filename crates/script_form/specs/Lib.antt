@@ -1,2 +1,4 @@
+pub mod LineReads
 pub mod Lines
+pub mod Progress
 pub mod Scripts

@@ -3,5 +3,7 @@
 
 mod line_splits;
 mod parse_faults;
+mod row_faults;
+mod rows;
 
 pub use parse_faults::{ParseFault, ParseKind};
