@@ -6,7 +6,7 @@ use Rattle.token_form.specs.declared.tokens.Token.{Token}
 use Rattle.token_form.specs.declared.tokens.Token.TheVariants as t
 use Rattle.token_form.specs.declared.tokens.Word.TheVariants as w
 use Rattle.token_form.specs.declared.tokens.Sign.TheVariants as g
-use Rattle.token_form.specs.Tokens.{IsToken, opens_object, spelling}
+use Rattle.token_form.specs.Tokens.{IsToken, AreTokens, opens_object, spelling}
 use Rattle.token_form.specs.Tokens as tokens
 use Rattle.value_form.specs.declared.expressions.Prefix.{Prefix}
 use Rattle.value_form.specs.declared.expressions.Prefix.TheVariants as p
@@ -18,7 +18,7 @@ use Rattle.value_form.specs.Mirror.{Term, Number, Text, Nothing, Name, Before, B
 use Rattle.expression_form.specs.Levels.{infix_level, left_level, prefix_level, infix_token, prefix_token, call_token}
 use Rattle.expression_form.specs.Grammar.{enclosed, wrapped, level_of, Bare, SpellsAt, Spells}
 use Rattle.expression_form.specs.Canonical.{is_looser, enclosed_if, canonical}
-use Rattle.expression_form.specs.Texts.{AreTokens, InLimits}
+use Rattle.expression_form.specs.Texts.{InLimits}
 use Rattle.expression_form.proofs.LevelLemmas.{infix_le, left_le, prefix_le}
 
 -- ---- they spell it

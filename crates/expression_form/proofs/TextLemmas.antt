@@ -6,6 +6,7 @@ use Rattle.token_form.specs.declared.tokens.Token.TheVariants as t
 use Rattle.token_form.specs.declared.tokens.Word.TheVariants as w
 use Rattle.token_form.specs.declared.tokens.Sign.TheVariants as g
 use Rattle.token_form.specs.Tokens.{Spells, Ends, IsTokens, IsToken, spelling}
+use Rattle.token_form.proofs.Spellings.{spells}
 use Rattle.token_form.proofs.Seams.{Quiet, quiet_ends, quiet_space, quiet_open, quiet_close, quiet_comma, after_space, seam, first, alone}
 use Rattle.value_form.specs.declared.expressions.Prefix.{Prefix}
 use Rattle.value_form.specs.declared.expressions.Prefix.TheVariants as p
@@ -59,15 +60,15 @@ given_tokens bs cs ts us h k =
     first (t.Word w.Given) (codes "given") (40 ∷ (bs ++ (44 ∷ 32 ∷ (cs ++ 41 ∷ [])))) (enclosed (ts ++ t.Sign g.Comma ∷ us)) refl refl
     (first (t.Sign g.Open) (40 ∷ []) (bs ++ (44 ∷ 32 ∷ (cs ++ 41 ∷ []))) ((ts ++ t.Sign g.Comma ∷ us) ++ t.Sign g.Close ∷ []) refl (open_ends (bs ++ (44 ∷ 32 ∷ (cs ++ 41 ∷ [])))) inside)
 
-pub text-tokens : ((token : Token) → IsToken token → Spells token (spelling token)) → (x : Term) → InLimits x → IsTokens (text x) (canonical x)
-text-tokens spells (Number n) h = alone (t.Number n) (spelling (t.Number n)) (spells (t.Number n) h)
-text-tokens spells (Text b) h = alone (t.Text b) (spelling (t.Text b)) (spells (t.Text b) h)
-text-tokens spells Nothing h = alone (t.Word w.Nothing) (codes "nothing") refl
-text-tokens spells (Name n) h = alone (t.Name n) n (spells (t.Name n) h)
-text-tokens spells (Before o x) h =
-    prefix_tokens o (parenthesized_if (is_looser x (prefix_level o)) (text x)) (enclosed_if (is_looser x (prefix_level o)) (canonical x)) (in_parentheses_if (is_looser x (prefix_level o)) (text x) (canonical x) (text-tokens spells x h))
-text-tokens spells (Between o x y) h =
+pub text-tokens : (x : Term) → InLimits x → IsTokens (text x) (canonical x)
+text-tokens (Number n) h = alone (t.Number n) (spelling (t.Number n)) (spells (t.Number n) h)
+text-tokens (Text b) h = alone (t.Text b) (spelling (t.Text b)) (spells (t.Text b) h)
+text-tokens Nothing h = alone (t.Word w.Nothing) (codes "nothing") refl
+text-tokens (Name n) h = alone (t.Name n) n (spells (t.Name n) h)
+text-tokens (Before o x) h =
+    prefix_tokens o (parenthesized_if (is_looser x (prefix_level o)) (text x)) (enclosed_if (is_looser x (prefix_level o)) (canonical x)) (in_parentheses_if (is_looser x (prefix_level o)) (text x) (canonical x) (text-tokens x h))
+text-tokens (Between o x y) h =
     infix_tokens o (parenthesized_if (is_looser x (left_level o)) (text x)) (parenthesized_if (is_looser y (infix_level o + 1)) (text y)) (enclosed_if (is_looser x (left_level o)) (canonical x)) (enclosed_if (is_looser y (infix_level o + 1)) (canonical y))
-    (in_parentheses_if (is_looser x (left_level o)) (text x) (canonical x) (text-tokens spells x h.0)) (in_parentheses_if (is_looser y (infix_level o + 1)) (text y) (canonical y) (text-tokens spells y h.1))
-text-tokens spells (Applied f x) h = call_tokens f (text x) (canonical x) (text-tokens spells x h)
-text-tokens spells (Given x y) h = given_tokens (text x) (text y) (canonical x) (canonical y) (text-tokens spells x h.0) (text-tokens spells y h.1)
+    (in_parentheses_if (is_looser x (left_level o)) (text x) (canonical x) (text-tokens x h.0)) (in_parentheses_if (is_looser y (infix_level o + 1)) (text y) (canonical y) (text-tokens y h.1))
+text-tokens (Applied f x) h = call_tokens f (text x) (canonical x) (text-tokens x h)
+text-tokens (Given x y) h = given_tokens (text x) (text y) (canonical x) (canonical y) (text-tokens x h.0) (text-tokens y h.1)

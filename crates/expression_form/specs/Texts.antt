@@ -2,7 +2,6 @@
 use Rattle.std.specs.Prelude.{ℕ, ◌+◌, List, [], ◌∷◌, ◌++◌, Bool, codes, if◌then◌else◌}
 use Rattle.std.specs.Fmt.{decimal}
 use Rattle.value_form.specs.TextForm.{quoted_text}
-use Rattle.token_form.specs.declared.tokens.Token.{Token}
 use Rattle.token_form.specs.declared.tokens.Token.TheVariants as t
 use Rattle.token_form.specs.Tokens.{IsToken, spelling}
 use Rattle.value_form.specs.declared.expressions.Prefix.{Prefix}
@@ -41,8 +40,3 @@ InLimits (Before o x) = InLimits x
 InLimits (Between o x y) = InLimits x × InLimits y
 InLimits (Applied f x) = InLimits x
 InLimits (Given x y) = InLimits x × InLimits y
-
--- each is a token of scripts
-abbrev pub AreTokens : List Token → Type 0
-AreTokens [] = Unit {0}
-AreTokens (token ∷ more) = IsToken token × AreTokens more

@@ -1,2 +1,5 @@
 pub mod TargetLemmas
 pub mod ReadLemmas
+pub mod BlockLemmas
+pub mod PeakLemmas
+pub mod BeginLemmas

@@ -7,3 +7,6 @@ pub mod Building
 pub mod RowTexts
 pub mod Targets
 pub mod Pairs
+pub mod Feeds
+pub mod Sound
+pub mod Fed

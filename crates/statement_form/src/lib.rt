@@ -2,6 +2,7 @@
 #![tactic(auto)]
 
 mod block_faults;
+mod builders;
 mod buildings;
 mod flats;
 mod levels;
@@ -9,5 +10,6 @@ mod reader;
 mod targets;
 
 pub use block_faults::BlockFault;
+pub use builders::Builder;
 pub use flats::Flat;
 pub use reader::read_row;
