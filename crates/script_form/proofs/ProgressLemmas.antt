@@ -20,7 +20,7 @@ holds_nothing greatest = record {
 }
 
 pub holds_begin : (greatest : ℕ) (lines : List (List ℕ)) (xs : List Numbered) (count next size : ℕ) → Holds greatest lines xs count next size → BeginScript greatest lines
-holds_begin greatest lines xs count next size h = (xs, h.rows, h.shallow, h.begins, subst (λ z. z ≤ 200) h.count_is h.few, subst (λ z. z ≤ 3900) h.size_is h.small)
+holds_begin greatest lines xs count next size h = (xs, h.rows, h.shallow, h.begins, (subst (λ z. z ≤ 200) h.count_is h.few, subst (λ z. z ≤ 3900) h.size_is h.small))
 
 one_more : (lines : List (List ℕ)) (line : List ℕ) → length lines + 1 ≡ length (lines ++ line ∷ [])
 one_more lines line = simp length-append refl
@@ -71,10 +71,10 @@ module _ (greatest : ℕ) (lines : List (List ℕ)) (xs : List Numbered) (count 
       )
 
     pub row_of_no_block : (Begins (xs ++ on (count + 1) row ∷ []) → ⊥) → LineFault greatest lines line kind.Block
-    row_of_no_block none = (xs, row, h.rows, is, λ begins. none (subst (λ z. Begins (xs ++ z ∷ [])) (sym here_too) begins))
+    row_of_no_block none = (xs, row, (h.rows, is), λ begins. none (subst (λ z. Begins (xs ++ z ∷ [])) (sym here_too) begins))
 
     pub row_too_deep : Begins (xs ++ on (count + 1) row ∷ []) → ((row_depth row ≤ 16) × BeginsShallow (xs ++ on (count + 1) row ∷ []) → ⊥) → LineFault greatest lines line kind.Depth
     row_too_deep begins deep = (
-        xs, row, h.rows, is, subst (λ z. Begins (xs ++ z ∷ [])) here_too begins,
+        xs, row, (h.rows, is), subst (λ z. Begins (xs ++ z ∷ [])) here_too begins,
         λ shallow. deep (shallow.0, subst (λ z. BeginsShallow (xs ++ z ∷ [])) (sym here_too) shallow.1),
       )

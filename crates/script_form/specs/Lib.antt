@@ -1,3 +1,4 @@
+pub mod Feeds
 pub mod LineReads
 pub mod Lines
 pub mod Progress

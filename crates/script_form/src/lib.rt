@@ -3,7 +3,10 @@
 
 mod line_splits;
 mod parse_faults;
+mod readers;
 mod row_faults;
+mod row_texts;
 mod rows;
 
 pub use parse_faults::{ParseFault, ParseKind};
+pub use readers::ScriptReader;
