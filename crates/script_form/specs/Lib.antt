@@ -1,5 +1,6 @@
 pub mod Feeds
 pub mod LineReads
 pub mod Lines
+pub mod Parses
 pub mod Progress
 pub mod Scripts

@@ -3,10 +3,12 @@
 
 mod line_splits;
 mod parse_faults;
+mod parsing;
 mod readers;
 mod row_faults;
 mod row_texts;
 mod rows;
 
 pub use parse_faults::{ParseFault, ParseKind};
+pub use parsing::parse;
 pub use readers::ScriptReader;
