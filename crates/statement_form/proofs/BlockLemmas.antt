@@ -129,7 +129,7 @@ rows-append [] ys = refl
 rows-append (x ∷ xs) ys = ap (λ z. step_rows (plain x) ++ z) (rows-append xs ys) ∙ sym (append_assoc (step_rows (plain x)) (rows (block xs)) (rows (block ys)))
 
 -- one more statement at the end
-push_rows : (here : List Stmt) (x : Stmt) → rows (block (here ++ x ∷ [])) ≡ rows (block here) ++ step_rows (plain x)
+pub push_rows : (here : List Stmt) (x : Stmt) → rows (block (here ++ x ∷ [])) ≡ rows (block here) ++ step_rows (plain x)
 push_rows here x = rows-append here (x ∷ []) ∙ ap (λ z. rows (block here) ++ z) (append-nil (step_rows (plain x)))
 
 whole_rows : (x : Opening) (here : List Stmt) (n : ℕ) → step_rows (plain (whole x here n)) ≡ opening_rows x ++ (rows (block here) ++ on n r.End ∷ [])

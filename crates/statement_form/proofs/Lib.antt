@@ -3,3 +3,4 @@ pub mod ReadLemmas
 pub mod BlockLemmas
 pub mod PeakLemmas
 pub mod BeginLemmas
+pub mod ScriptTextLemmas

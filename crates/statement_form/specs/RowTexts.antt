@@ -1,5 +1,5 @@
 -- The canonical tokens and text of a row, and the text of a script.
-use Rattle.std.specs.Prelude.{ℕ, ◌+◌, ◌-◌, ◌<◌, ◌^◌, List, [], ◌∷◌, ◌++◌, replicate, codes}
+use Rattle.std.specs.Prelude.{◌≡◌, ℕ, ◌+◌, ◌-◌, ◌<◌, ◌^◌, List, [], ◌∷◌, ◌++◌, replicate, codes}
 use Rattle.std.specs.Fmt.{decimal}
 use Rattle.token_form.specs.declared.tokens.Token.{Token}
 use Rattle.token_form.specs.declared.tokens.Token.TheVariants as t
@@ -49,10 +49,14 @@ row_text r.End = codes "end"
 row_text (r.Repeat x) = codes "repeat " ++ text x
 row_text r.Withdraw = codes "withdraw"
 
--- each row on its line, and empty lines before it where the line before holds no row; next is the line that comes next
+-- bytes on this line, behind the ends of those before it that hold nothing; next is the line that comes next
+abbrev pub line_text : (next line : ℕ) → List ℕ → List ℕ
+line_text next line bytes = replicate (line - next) 10 ++ (bytes ++ 10 ∷ [])
+
+-- each row on its line, and empty lines between
 abbrev pub rows_text : (next : ℕ) → List Numbered → List ℕ
 rows_text next [] = []
-rows_text next (x ∷ xs) = replicate (x.line - next) 10 ++ (row_text x.row ++ (10 ∷ rows_text (x.line + 1) xs))
+rows_text next (x ∷ xs) = line_text next x.line (row_text x.row) ++ rows_text (x.line + 1) xs
 
 -- the line after the last row
 abbrev pub next_line : (next : ℕ) → List Numbered → ℕ
@@ -62,6 +66,10 @@ next_line next (x ∷ xs) = next_line (x.line + 1) xs
 -- the canonical text of a script
 abbrev pub script_text : Block → List ℕ
 script_text script = rows_text 1 (rows script)
+
+-- what printing rows does: from old and the next line to new and the line after them
+abbrev pub Prints : List Numbered → (next : ℕ) (old : List ℕ) (after : ℕ) (new : List ℕ) → Type 0
+Prints xs next old after new = (new ≡ old ++ rows_text next xs) × (after ≡ next_line next xs)
 
 -- ---- limits
 

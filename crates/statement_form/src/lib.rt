@@ -7,9 +7,13 @@ mod buildings;
 mod flats;
 mod levels;
 mod reader;
+mod row_printer;
+mod script_printer;
 mod targets;
 
 pub use block_faults::BlockFault;
 pub use builders::Builder;
 pub use flats::Flat;
 pub use reader::read_row;
+pub use row_printer::print_row;
+pub use script_printer::print_script;
