@@ -14,7 +14,7 @@ use Rattle.statement_form.specs.Feeds.{made_flat}
 use Rattle.statement_form.proofs.BeginLemmas.{fed_begins}
 use Rattle.statement_form.proofs.BlockLemmas.{row-made_flat}
 use Rattle.script_form.specs.Lines.{is_blank}
-use Rattle.script_form.specs.LineReads.{ReadsLine}
+use Rattle.script_form.specs.LineReads.{ReadsLine, fault_of}
 use Rattle.script_form.specs.Scripts.{LineRow, LineFault}
 use Rattle.script_form.specs.Feeds.{HoldsLines, FeedsLine, Passes, Places}
 use Rattle.script_form.specs.declared.readers.ScriptReader.{ScriptReader}
@@ -23,6 +23,7 @@ use Rattle.script_form.specs.declared.parse_faults.ParseFault.TheVariants.{Fault
 use Rattle.script_form.specs.Progress.{Holds}
 use Rattle.script_form.specs.declared.parse_faults.ParseKind.{ParseKind}
 use Rattle.script_form.specs.declared.parse_faults.ParseKind.TheVariants as kind
+use Rattle.script_form.specs.declared.row_faults.RowFault.{RowFault}
 use Rattle.script_form.specs.declared.row_faults.RowFault.TheVariants.{Kind, NoMemory}
 use Rattle.script_form.proofs.ProgressLemmas.{holds_blank, blank_over, holds_row, row_over, row_of_no_block, row_too_deep}
 
@@ -103,6 +104,7 @@ module _ (before : List (List ℕ)) (line : List ℕ) (old : ScriptReader) (h : 
   block_feeds none = (ap (λ z. z + 1) h.count_is, row_of_no_block old.greatest before (rows_so_far old.builder) old.lines old.next old.size h line row is none)
 
 -- a line that is no row, as a fault of the reader
-pub no_row_feeds : (before : List (List ℕ)) (line : List ℕ) (old : ScriptReader) (what : ParseKind) → HoldsLines before old → is_blank line ≡ false → ReadsLine old.greatest line (Err (Kind what))
-  → FeedsLine old.greatest before line (Err (Fault (old.lines + 1) what))
-no_row_feeds before line old what h some e = (ap (λ z. z + 1) h.count_is, line_is_no_row old.greatest before line old.builder old.lines old.next old.size what h some e)
+pub no_row_feeds : (before : List (List ℕ)) (line : List ℕ) (old : ScriptReader) (wrong : RowFault) → HoldsLines before old → is_blank line ≡ false → ReadsLine old.greatest line (Err wrong)
+  → FeedsLine old.greatest before line (Err (fault_of (old.lines + 1) wrong))
+no_row_feeds before line old (Kind what) h some e = (ap (λ z. z + 1) h.count_is, line_is_no_row old.greatest before line old.builder old.lines old.next old.size what h some e)
+no_row_feeds before line old NoMemory h some e = tt

@@ -41,6 +41,6 @@ pub read_all : (greatest : ℕ) (all : List (List ℕ)) (reader : ScriptReader) 
   → EndsLines reader.greatest r.done result → Parses greatest all result
 read_all greatest all reader (Ok script) r h =
     subst (λ z. IsScriptLines greatest z (block script.lines)) (sym (r.parts ∙ append-nil r.done)) (subst (λ z. IsScriptLines z r.done (block script.lines)) r.same h)
-read_all greatest all reader (Err (Fault at what)) r (is, kind, open) =
-    inr (subst (λ z. FaultBehind greatest z at what) (sym (r.parts ∙ append-nil r.done)) (is, kind, begun greatest all [] reader r, subst (λ z. LeftOpen z r.done) r.same open))
+read_all greatest all reader (Err (Fault at what)) r (is, kind, left) =
+    inr (subst (λ z. FaultBehind greatest z at what) (sym (r.parts ∙ append-nil r.done)) (is, kind, begun greatest all [] reader r, subst (λ z. LeftOpen z r.done) r.same left))
 read_all greatest all reader (Err NoMemory) r h = absurd h

@@ -1,10 +1,10 @@
 -- Rows of lines, and their text, with one line more.
-use Rattle.std.proofs.Common.{◌≡◌, ℕ, suc, ◌+◌, ◌-◌, ◌≤◌, ◌⊎◌, inl, inr, true, false, List, [], ◌∷◌, ◌++◌, length, refl, sym, ap, ◌∙◌, subst, arith, append_assoc}
+use Rattle.std.proofs.Common.{◌≡◌, ℕ, suc, ◌+◌, ◌-◌, ◌≤◌, ◌⊎◌, inl, inr, true, false, List, [], ◌∷◌, ◌++◌, length, refl, sym, ap, ◌∙◌, subst, arith, append_assoc, append-nil}
 use Rattle.std.proofs.lemmas.List.{length-append, length-replicate}
 use Rattle.std.specs.Prelude.{replicate}
 use Rattle.statement_form.specs.Row.{Row}
 use Rattle.statement_form.specs.Rows.{Numbered, on, row_depth}
-use Rattle.statement_form.specs.RowTexts.{row_text, rows_text, next_line}
+use Rattle.statement_form.specs.RowTexts.{line_text, row_text, rows_text, next_line}
 use Rattle.script_form.specs.Lines.{is_blank}
 use Rattle.script_form.specs.Scripts.{LineRow, LinesRows, ShallowRows}
 
@@ -40,13 +40,21 @@ pub next_line-with : (next : ℕ) (xs : List Numbered) (x : Numbered) → next_l
 next_line-with next [] x = refl
 next_line-with next (y ∷ xs) x = next_line-with (y.line + 1) xs x
 
+line_size : (next line : ℕ) (text : List ℕ) → length (line_text next line text) ≡ (line - next) + length text + 1
+line_size next line text =
+    let e : length (replicate (line - next) 10 ++ (text ++ 10 ∷ [])) ≡ (line - next) + length text + 1 = simp (length-append, length-replicate) (omega arith) in e
+
 -- the bytes that a row adds to the text of those before
 pub text_with : (next : ℕ) (xs : List Numbered) (x : Numbered)
   → length (rows_text next (xs ++ x ∷ [])) ≡ length (rows_text next xs) + (x.line - next_line next xs) + length (row_text x.row) + 1
 text_with next [] x =
-    let e : length (replicate (x.line - next) 10 ++ (row_text x.row ++ 10 ∷ [])) ≡ 0 + (x.line - next) + length (row_text x.row) + 1 = simp (length-append, length-replicate) (omega arith) in e
+    let here = line_text next x.line (row_text x.row) in
+    let size = ap length (append-nil here) ∙ line_size next x.line (row_text x.row) in
+    let e : length (here ++ []) ≡ 0 + (x.line - next) + length (row_text x.row) + 1 = omega (arith, size) in e
 text_with next (y ∷ xs) x =
     let later = text_with (y.line + 1) xs x in
-    let e : length (replicate (y.line - next) 10 ++ (row_text y.row ++ 10 ∷ rows_text (y.line + 1) (xs ++ x ∷ [])))
-        ≡ length (replicate (y.line - next) 10 ++ (row_text y.row ++ 10 ∷ rows_text (y.line + 1) xs)) + (x.line - next_line (y.line + 1) xs) + length (row_text x.row) + 1
-      = simp (length-append, length-replicate) (omega (arith, later)) in e
+    let here = line_text next y.line (row_text y.row) in
+    let new = length-append here (rows_text (y.line + 1) (xs ++ x ∷ [])) in
+    let old = length-append here (rows_text (y.line + 1) xs) in
+    let e : length (here ++ rows_text (y.line + 1) (xs ++ x ∷ [])) ≡ length (here ++ rows_text (y.line + 1) xs) + (x.line - next_line (y.line + 1) xs) + length (row_text x.row) + 1
+      = omega (arith, later, new, old) in e

@@ -11,6 +11,8 @@ use Rattle.statement_form.specs.Rows.{row_depth}
 use Rattle.statement_form.specs.Lines.{SpellsRow}
 use Rattle.script_form.specs.Scripts.{LineTokens, LineRow}
 use Rattle.script_form.specs.declared.parse_faults.ParseKind.TheVariants as kind
+use Rattle.script_form.specs.declared.parse_faults.ParseFault.{ParseFault}
+use Rattle.script_form.specs.declared.parse_faults.ParseFault.TheVariants as fault
 use Rattle.script_form.specs.declared.row_faults.RowFault.{RowFault}
 use Rattle.script_form.specs.declared.row_faults.RowFault.TheVariants.{Kind, NoMemory}
 
@@ -37,3 +39,8 @@ ReadsLine greatest line (Err (Kind kind.Syntax)) = (tokens : List Token) × Line
 ReadsLine greatest line (Err (Kind kind.Depth)) = (row : Row) × LineRow greatest line row × (16 < row_depth row)
 ReadsLine greatest line (Err (Kind other)) = ⊥
 ReadsLine greatest line (Err NoMemory) = Unit {0}
+
+-- what is wrong with a line, as a fault of that line
+abbrev pub fault_of : ℕ → RowFault → ParseFault
+fault_of line (Kind what) = fault.Fault line what
+fault_of line NoMemory = fault.NoMemory

@@ -16,7 +16,10 @@ pub fn parse(alloc: Global, bytes: &[u8]) -> Result<Script, ParseFault>
     let mut rest = bytes;
     while !rest.is_empty() {
         let (line, after) = first_line(rest);
-        reader = reader.feed(alloc, line)?;
+        reader = match reader.feed(alloc, line) {
+            Ok(next) => next,
+            Err(fault) => return Err(fault),
+        };
         rest = after;
     }
     reader.end()

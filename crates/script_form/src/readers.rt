@@ -1,3 +1,4 @@
+ghost use Rattle.script_form.specs.LineReads.{fault_of};
 ghost use Rattle.std.specs.Prelude.{◌≡◌, ◌+◌, ◌≤◌, ℕ, List, SomeIff, []};
 
 use crate::line_splits::is_blank;
@@ -33,6 +34,16 @@ fn fault(line: u16, kind: ParseKind) -> ParseFault
     ParseFault::Fault {
         line: line as u32,
         kind,
+    }
+}
+
+// What is wrong with a line, as a fault of that line.
+fn row_fault(line: u16, wrong: RowFault) -> ParseFault
+    ensures { result ≡ fault_of line wrong }
+{
+    match wrong {
+        RowFault::Kind(kind) => fault(line, kind),
+        RowFault::NoMemory => ParseFault::NoMemory,
     }
 }
 
@@ -136,8 +147,7 @@ impl ScriptReader {
         }
         match line_row(alloc, line, self.greatest) {
             Ok(row) => self.with_row(alloc, row),
-            Err(RowFault::Kind(kind)) => Err(fault(self.lines as u16 + 1, kind)),
-            Err(RowFault::NoMemory) => Err(ParseFault::NoMemory),
+            Err(wrong) => Err(row_fault(self.lines as u16 + 1, wrong)),
         }
     }
 

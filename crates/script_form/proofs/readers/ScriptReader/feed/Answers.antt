@@ -1,7 +1,6 @@
 use Rattle.std.proofs.Common.{sym, subst, ◌∙◌}
 use Rattle.std.specs.Prelude.{Err}
 use Rattle.script_form.specs.Feeds.{FeedsLine}
-use Rattle.script_form.specs.LineReads.{ReadsLine}
 use Rattle.script_form.proofs.FeedLemmas.{passed_feeds, no_row_feeds}
 use Rattle.script_form.proofs.readers.ScriptReader.feed.Goals as goal
 
@@ -11,7 +10,7 @@ returns-then-is_blank c before h = passed_feeds before c.args.line.now c.args.se
 pub returns-in-Ok : goal.returns-in-Ok
 returns-in-Ok c before h = c.with_row.ensures before c.args.line.now h c.in-Ok.ensures.0 c.in-Ok.ensures.1
 
-pub returns-in-Err-Kind : goal.returns-in-Err-Kind
-returns-in-Err-Kind c before h =
-    subst (λ z. FeedsLine c.args.self.greatest before c.args.line.now (Err z)) (sym c.fault.ensures)
-      (no_row_feeds before c.args.line.now c.args.self c.in-Err-Kind.kind h (sym c.is_blank.ensures ∙ c.if-is_blank.false) (subst (λ z. ReadsLine c.args.self.greatest c.args.line.now (Err z)) c.in-Err-Kind.field-0-is c.in-Err-Kind.ensures))
+pub returns-in-Err : goal.returns-in-Err
+returns-in-Err c before h =
+    subst (λ z. FeedsLine c.args.self.greatest before c.args.line.now (Err z)) (sym c.row_fault.ensures)
+      (no_row_feeds before c.args.line.now c.args.self c.in-Err.wrong h (sym c.is_blank.ensures ∙ c.if-is_blank.false) c.in-Err.ensures)
