@@ -9,7 +9,6 @@ use Rattle.statement_form.specs.Rows.{Numbered, on, row_depth}
 use Rattle.statement_form.specs.Begins.{Begins, BeginsShallow}
 use Rattle.statement_form.specs.RowTexts.{row_text}
 use Rattle.statement_form.specs.Building.{rows_so_far}
-use Rattle.statement_form.specs.Flats.{row_of}
 use Rattle.statement_form.specs.Feeds.{made_flat}
 use Rattle.statement_form.proofs.BeginLemmas.{fed_begins}
 use Rattle.statement_form.proofs.BlockLemmas.{row-made_flat}
@@ -41,7 +40,7 @@ deep_begins b n r.Withdraw deep = absurd (omega arith)
 
 -- a line that is no row
 pub line_is_no_row : (greatest : ℕ) (before : List (List ℕ)) (line : List ℕ) (b : Building) (count next size : ℕ) (what : ParseKind)
-  → Holds greatest before (rows_so_far b) count next size → is_blank line ≡ false → ReadsLine greatest line (Err (Kind what)) → LineFault greatest before line what
+    → Holds greatest before (rows_so_far b) count next size → is_blank line ≡ false → ReadsLine greatest line (Err (Kind what)) → LineFault greatest before line what
 line_is_no_row greatest before line b count next size kind.Token h some e = (some, e)
 line_is_no_row greatest before line b count next size kind.Range h some e = e
 line_is_no_row greatest before line b count next size kind.Syntax h some e = e
@@ -52,10 +51,10 @@ line_is_no_row greatest before line b count next size kind.Size h some e = absur
 
 -- the same knowledge, of equal numbers
 holds_moved : (greatest g : ℕ) (lines : List (List ℕ)) (xs ys : List Numbered) (count c next n size s : ℕ) → g ≡ greatest → ys ≡ xs → c ≡ count → n ≡ next → s ≡ size
-  → Holds greatest lines xs count next size → Holds g lines ys c n s
+    → Holds greatest lines xs count next size → Holds g lines ys c n s
 holds_moved greatest g lines xs ys count c next n size s e f i j k h =
     subst (λ z. Holds z lines ys c n s) (sym e) (subst (λ z. Holds greatest lines z c n s) (sym f) (subst (λ z. Holds greatest lines xs z n s) (sym i)
-      (subst (λ z. Holds greatest lines xs count z s) (sym j) (subst (λ z. Holds greatest lines xs count next z) (sym k) h))))
+    (subst (λ z. Holds greatest lines xs count z s) (sym j) (subst (λ z. Holds greatest lines xs count next z) (sym k) h))))
 
 some_size : (o : Option ℕ) (P : Type 0) (value x : ℕ) → SomeIff o P value → o ≡ Some x → P × (x ≡ value)
 some_size (Some y) P value x h e = let k : y ≡ x = cc in (h.0, sym k ∙ h.1)
@@ -70,13 +69,13 @@ above a b h = elim (cases_lt b a) [ inl lt ↦ lt | inr le ↦ absurd (h le) ]
 
 -- a line that is no statement
 pub passed_feeds : (before : List (List ℕ)) (line : List ℕ) (old : ScriptReader) (result : Result ScriptReader ParseFault) → HoldsLines before old → is_blank line ≡ true → Passes old result
-  → FeedsLine old.greatest before line result
+    → FeedsLine old.greatest before line result
 passed_feeds before line old (Ok new) h blank (few, is) =
     subst (λ z. HoldsLines (before ++ line ∷ []) z × (z.greatest ≡ old.greatest)) (sym is)
-      (holds_blank old.greatest before (rows_so_far old.builder) old.lines old.next old.size h line blank few, refl)
+    (holds_blank old.greatest before (rows_so_far old.builder) old.lines old.next old.size h line blank few, refl)
 passed_feeds before line old (Err fault) h blank (over, is) =
     subst (λ z. FeedsLine old.greatest before line (Err z)) (sym is)
-      (ap (λ z. z + 1) h.count_is, blank_over old.greatest before (rows_so_far old.builder) old.lines old.next old.size h line blank over)
+    (ap (λ z. z + 1) h.count_is, blank_over old.greatest before (rows_so_far old.builder) old.lines old.next old.size h line blank over)
 
 -- the bytes of the canonical text with this row
 abbrev pub size_with_row : ScriptReader → Row → ℕ
@@ -85,19 +84,21 @@ size_with_row old row = old.size + (old.lines + 1 - old.next) + length (row_text
 module _ (before : List (List ℕ)) (line : List ℕ) (old : ScriptReader) (h : HoldsLines before old) (row : Row) (is : LineRow old.greatest line row) where
   -- a row that the builder has taken
   pub placed_feeds : (builder : Building) (size : Option ℕ) (result : Result ScriptReader ParseFault) → row_depth row ≤ 16
-    → (rows_so_far old.builder ++ on (old.lines + 1) row ∷ [] ≡ rows_so_far builder) × BeginsShallow (rows_so_far builder)
-    → SomeIff size (size_with_row old row ≤ 3900) (size_with_row old row) → Places builder old.greatest (old.lines + 1) size result → FeedsLine old.greatest before line result
+      → (rows_so_far old.builder ++ on (old.lines + 1) row ∷ [] ≡ rows_so_far builder) × BeginsShallow (rows_so_far builder)
+      → SomeIff size (size_with_row old row ≤ 3900) (size_with_row old row) → Places builder old.greatest (old.lines + 1) size result → FeedsLine old.greatest before line result
   placed_feeds builder size (Ok new) deep (more, begins) sized (few, some, b, g, l, n) =
-      let (small, same) = some_size size (size_with_row old row ≤ 3900) (size_with_row old row) new.size sized some in
-      (holds_moved old.greatest new.greatest (before ++ line ∷ []) (rows_so_far old.builder ++ on (old.lines + 1) row ∷ []) (rows_so_far new.builder) (old.lines + 1) new.lines (old.lines + 2) new.next
-          (size_with_row old row) new.size g (ap rows_so_far b ∙ sym more) l (n ∙ (let e : old.lines + 1 + 1 ≡ old.lines + 2 = omega arith in e)) same
-          (holds_row old.greatest before (rows_so_far old.builder) old.lines old.next old.size h line row is deep (subst BeginsShallow (sym more) begins) few small),
-        g)
+      let (small, same) = some_size size (size_with_row old row ≤ 3900) (size_with_row old row) new.size sized some in (
+        holds_moved old.greatest new.greatest (before ++ line ∷ []) (rows_so_far old.builder ++ on (old.lines + 1) row ∷ []) (rows_so_far new.builder) (old.lines + 1) new.lines (old.lines + 2) new.next
+            (size_with_row old row) new.size g (ap rows_so_far b ∙ sym more) l (n ∙ (let e : old.lines + 1 + 1 ≡ old.lines + 2 = omega arith in e)) same
+            (holds_row old.greatest before (rows_so_far old.builder) old.lines old.next old.size h line row is deep (subst BeginsShallow (sym more) begins) few small),
+        g,
+      )
   placed_feeds builder size (Err fault) deep (more, begins) sized (over, f) =
-      subst (λ z. FeedsLine old.greatest before line (Err z)) (sym f)
-        (ap (λ z. z + 1) h.count_is,
-          row_over old.greatest before (rows_so_far old.builder) old.lines old.next old.size h line row is deep (subst BeginsShallow (sym more) begins)
-            (elim over [ inl many ↦ inl many | inr none ↦ inr (above (size_with_row old row) 3900 (none_size size (size_with_row old row ≤ 3900) (size_with_row old row) sized none)) ]))
+      subst (λ z. FeedsLine old.greatest before line (Err z)) (sym f) (
+        ap (λ z. z + 1) h.count_is,
+        row_over old.greatest before (rows_so_far old.builder) old.lines old.next old.size h line row is deep (subst BeginsShallow (sym more) begins)
+            (elim over [ inl many ↦ inl many | inr none ↦ inr (above (size_with_row old row) 3900 (none_size size (size_with_row old row ≤ 3900) (size_with_row old row) sized none)) ]),
+      )
 
   -- a row that goes on no block
   pub block_feeds : (Begins (rows_so_far old.builder ++ on (old.lines + 1) row ∷ []) → ⊥) → FeedsLine old.greatest before line (Err (Fault (old.lines + 1) kind.Block))
@@ -105,6 +106,6 @@ module _ (before : List (List ℕ)) (line : List ℕ) (old : ScriptReader) (h : 
 
 -- a line that is no row, as a fault of the reader
 pub no_row_feeds : (before : List (List ℕ)) (line : List ℕ) (old : ScriptReader) (wrong : RowFault) → HoldsLines before old → is_blank line ≡ false → ReadsLine old.greatest line (Err wrong)
-  → FeedsLine old.greatest before line (Err (fault_of (old.lines + 1) wrong))
+    → FeedsLine old.greatest before line (Err (fault_of (old.lines + 1) wrong))
 no_row_feeds before line old (Kind what) h some e = (ap (λ z. z + 1) h.count_is, line_is_no_row old.greatest before line old.builder old.lines old.next old.size what h some e)
 no_row_feeds before line old NoMemory h some e = tt

@@ -1,13 +1,13 @@
 -- One line more: the lines still begin a script, or this is what is wrong with it.
-use Rattle.std.proofs.Common.{◌≡◌, ℕ, suc, ◌+◌, ◌-◌, ◌<◌, ◌≤◌, ◌⊎◌, inl, inr, true, false, List, [], ◌∷◌, ◌++◌, length, refl, sym, ap, ◌∙◌, subst, arith}
+use Rattle.std.proofs.Common.{◌≡◌, ℕ, ◌+◌, ◌-◌, ◌<◌, ◌≤◌, ◌⊎◌, inl, inr, true, List, [], ◌∷◌, ◌++◌, length, refl, sym, ap, ◌∙◌, subst, arith}
 use Rattle.std.proofs.lemmas.List.{length-append}
-use Rattle.value_form.specs.Mirror.{Block, End}
+use Rattle.value_form.specs.Mirror.{End}
 use Rattle.statement_form.specs.Row.{Row}
-use Rattle.statement_form.specs.Rows.{Numbered, on, rows, row_depth}
+use Rattle.statement_form.specs.Rows.{Numbered, on, row_depth}
 use Rattle.statement_form.specs.Begins.{Begins, BeginsShallow}
-use Rattle.statement_form.specs.RowTexts.{row_text, rows_text, next_line}
+use Rattle.statement_form.specs.RowTexts.{row_text, rows_text}
 use Rattle.script_form.specs.Lines.{is_blank}
-use Rattle.script_form.specs.Scripts.{LineRow, LinesRows, ShallowRows, IsSmall, BeginScript, LineFault, with_row}
+use Rattle.script_form.specs.Scripts.{LineRow, LinesRows, BeginScript, LineFault}
 use Rattle.script_form.specs.declared.parse_faults.ParseKind.TheVariants as kind
 use Rattle.script_form.specs.Progress.{Holds}
 use Rattle.script_form.proofs.RowLemmas.{lines_with_row, lines_with_blank, shallow_with, next_line-with, text_with}
@@ -15,8 +15,14 @@ use Rattle.script_form.proofs.RowLemmas.{lines_with_row, lines_with_blank, shall
 -- no line at all
 pub holds_nothing : (greatest : ℕ) → Holds greatest [] [] 0 1 0
 holds_nothing greatest = record {
-  rows = refl; shallow = tt; begins = record { more = []; script = End; is = refl; shallow = omega arith };
-  count_is = refl; next_is = refl; size_is = refl; few = omega arith; small = omega arith;
+  rows = refl;
+  shallow = tt;
+  begins = record { more = []; script = End; is = refl; shallow = omega arith };
+  count_is = refl;
+  next_is = refl;
+  size_is = refl;
+  few = omega arith;
+  small = omega arith;
 }
 
 pub holds_begin : (greatest : ℕ) (lines : List (List ℕ)) (xs : List Numbered) (count next size : ℕ) → Holds greatest lines xs count next size → BeginScript greatest lines
@@ -32,8 +38,14 @@ module _ (greatest : ℕ) (lines : List (List ℕ)) (xs : List Numbered) (count 
   -- a line that is no statement
   pub holds_blank : is_blank line ≡ true → count + 1 ≤ 200 → Holds greatest (lines ++ line ∷ []) xs (count + 1) next size
   holds_blank blank few = record {
-    rows = lines_with_blank greatest 1 lines line xs h.rows blank; shallow = h.shallow; begins = h.begins;
-    count_is = count_with; next_is = h.next_is; size_is = h.size_is; few = few; small = h.small;
+    rows = lines_with_blank greatest 1 lines line xs h.rows blank;
+    shallow = h.shallow;
+    begins = h.begins;
+    count_is = count_with;
+    next_is = h.next_is;
+    size_is = h.size_is;
+    few = few;
+    small = h.small;
   }
 
   pub blank_over : is_blank line ≡ true → 200 < count + 1 → LineFault greatest lines line kind.Size
@@ -52,29 +64,39 @@ module _ (greatest : ℕ) (lines : List (List ℕ)) (xs : List Numbered) (count 
 
     pub size_with : size + (count + 1 - next) + length (row_text row) + 1 ≡ length (rows_text 1 (xs ++ on (count + 1) row ∷ []))
     size_with = sym (text_with 1 xs (on (count + 1) row) ∙ ap (λ z. length (rows_text 1 xs) + (count + 1 - z) + length (row_text row) + 1) (sym h.next_is)
-      ∙ ap (λ z. z + (count + 1 - next) + length (row_text row) + 1) (sym h.size_is))
+        ∙ ap (λ z. z + (count + 1 - next) + length (row_text row) + 1) (sym h.size_is))
 
     pub holds_row : row_depth row ≤ 16 → BeginsShallow (xs ++ on (count + 1) row ∷ []) → count + 1 ≤ 200 → size + (count + 1 - next) + length (row_text row) + 1 ≤ 3900
-      → Holds greatest (lines ++ line ∷ []) (xs ++ on (count + 1) row ∷ []) (count + 1) (count + 2) (size + (count + 1 - next) + length (row_text row) + 1)
+        → Holds greatest (lines ++ line ∷ []) (xs ++ on (count + 1) row ∷ []) (count + 1) (count + 2) (size + (count + 1 - next) + length (row_text row) + 1)
     holds_row deep begins few small = record {
-      rows = rows_are; shallow = shallow_with xs (on (count + 1) row) h.shallow deep; begins = begins;
+      rows = rows_are;
+      shallow = shallow_with xs (on (count + 1) row) h.shallow deep;
+      begins = begins;
       count_is = count_with;
       next_is = (let e : count + 2 ≡ count + 1 + 1 = omega arith in e) ∙ sym (next_line-with 1 xs (on (count + 1) row));
-      size_is = size_with; few = few; small = small;
+      size_is = size_with;
+      few = few;
+      small = small;
     }
 
     pub row_over : row_depth row ≤ 16 → BeginsShallow (xs ++ on (count + 1) row ∷ []) → (200 < count + 1) ⊎ (3900 < size + (count + 1 - next) + length (row_text row) + 1)
-      → LineFault greatest lines line kind.Size
+        → LineFault greatest lines line kind.Size
     row_over deep begins over = (
-        xs ++ on (count + 1) row ∷ [], rows_are, shallow_with xs (on (count + 1) row) h.shallow deep, begins,
-        λ small. elim over [ inl many ↦ (let k = small.0 in let e = count_with in omega arith) | inr long ↦ (let k = small.1 in let e = size_with in omega arith) ],
-      )
+      xs ++ on (count + 1) row ∷ [],
+      rows_are,
+      shallow_with xs (on (count + 1) row) h.shallow deep,
+      begins,
+      λ small. elim over [ inl many ↦ (let k = small.0 in let e = count_with in omega arith) | inr long ↦ (let k = small.1 in let e = size_with in omega arith) ],
+    )
 
     pub row_of_no_block : (Begins (xs ++ on (count + 1) row ∷ []) → ⊥) → LineFault greatest lines line kind.Block
     row_of_no_block none = (xs, row, (h.rows, is), λ begins. none (subst (λ z. Begins (xs ++ z ∷ [])) (sym here_too) begins))
 
     pub row_too_deep : Begins (xs ++ on (count + 1) row ∷ []) → ((row_depth row ≤ 16) × BeginsShallow (xs ++ on (count + 1) row ∷ []) → ⊥) → LineFault greatest lines line kind.Depth
     row_too_deep begins deep = (
-        xs, row, (h.rows, is), subst (λ z. Begins (xs ++ z ∷ [])) here_too begins,
-        λ shallow. deep (shallow.0, subst (λ z. BeginsShallow (xs ++ z ∷ [])) (sym here_too) shallow.1),
-      )
+      xs,
+      row,
+      (h.rows, is),
+      subst (λ z. Begins (xs ++ z ∷ [])) here_too begins,
+      λ shallow. deep (shallow.0, subst (λ z. BeginsShallow (xs ++ z ∷ [])) (sym here_too) shallow.1),
+    )

@@ -1,5 +1,5 @@
 -- Rows of lines, and their text, with one line more.
-use Rattle.std.proofs.Common.{◌≡◌, ℕ, suc, ◌+◌, ◌-◌, ◌≤◌, ◌⊎◌, inl, inr, true, false, List, [], ◌∷◌, ◌++◌, length, refl, sym, ap, ◌∙◌, subst, arith, append_assoc, append-nil}
+use Rattle.std.proofs.Common.{◌≡◌, ℕ, suc, ◌+◌, ◌-◌, ◌≤◌, inl, inr, true, List, [], ◌∷◌, ◌++◌, length, refl, ap, ◌∙◌, subst, arith, append-nil}
 use Rattle.std.proofs.lemmas.List.{length-append, length-replicate}
 use Rattle.std.specs.Prelude.{replicate}
 use Rattle.statement_form.specs.Row.{Row}
@@ -13,21 +13,23 @@ same_line n ls l = let e : n + 1 + length ls ≡ n + suc (length ls) = omega ari
 
 -- a line that is a row
 pub lines_with_row : (greatest n : ℕ) (ls : List (List ℕ)) (line : List ℕ) (xs : List Numbered) (row : Row) → LinesRows greatest n ls xs → LineRow greatest line row
-  → LinesRows greatest n (ls ++ line ∷ []) (xs ++ on (n + length ls) row ∷ [])
+    → LinesRows greatest n (ls ++ line ∷ []) (xs ++ on (n + length ls) row ∷ [])
 lines_with_row greatest n [] line xs row none is =
     inr (row, [], is, ap (λ z. z ++ on (n + 0) row ∷ []) none ∙ ap (λ z. on z row ∷ []) (let e : n + 0 ≡ n = omega arith in e), refl)
 lines_with_row greatest n (l ∷ ls) line xs row (inl (blank, more)) is =
     inl (blank, subst (λ z. LinesRows greatest (n + 1) (ls ++ line ∷ []) (xs ++ on z row ∷ [])) (same_line n ls l) (lines_with_row greatest (n + 1) ls line xs row more is))
 lines_with_row greatest n (l ∷ ls) line xs row (inr (first, ys, has, parts, more)) is =
     inr (
-      first, ys ++ on (n + length (l ∷ ls)) row ∷ [], has,
+      first,
+      ys ++ on (n + length (l ∷ ls)) row ∷ [],
+      has,
       ap (λ z. z ++ on (n + length (l ∷ ls)) row ∷ []) parts,
       subst (λ z. LinesRows greatest (n + 1) (ls ++ line ∷ []) (ys ++ on z row ∷ [])) (same_line n ls l) (lines_with_row greatest (n + 1) ls line ys row more is),
     )
 
 -- a line that is none
 pub lines_with_blank : (greatest n : ℕ) (ls : List (List ℕ)) (line : List ℕ) (xs : List Numbered) → LinesRows greatest n ls xs → is_blank line ≡ true
-  → LinesRows greatest n (ls ++ line ∷ []) xs
+    → LinesRows greatest n (ls ++ line ∷ []) xs
 lines_with_blank greatest n [] line xs none blank = inl (blank, none)
 lines_with_blank greatest n (l ∷ ls) line xs (inl (first, more)) blank = inl (first, lines_with_blank greatest (n + 1) ls line xs more blank)
 lines_with_blank greatest n (l ∷ ls) line xs (inr (first, ys, has, parts, more)) blank = inr (first, ys, has, parts, lines_with_blank greatest (n + 1) ls line ys more blank)
@@ -46,7 +48,7 @@ line_size next line text =
 
 -- the bytes that a row adds to the text of those before
 pub text_with : (next : ℕ) (xs : List Numbered) (x : Numbered)
-  → length (rows_text next (xs ++ x ∷ [])) ≡ length (rows_text next xs) + (x.line - next_line next xs) + length (row_text x.row) + 1
+    → length (rows_text next (xs ++ x ∷ [])) ≡ length (rows_text next xs) + (x.line - next_line next xs) + length (row_text x.row) + 1
 text_with next [] x =
     let here = line_text next x.line (row_text x.row) in
     let size = ap length (append-nil here) ∙ line_size next x.line (row_text x.row) in
@@ -57,4 +59,4 @@ text_with next (y ∷ xs) x =
     let new = length-append here (rows_text (y.line + 1) (xs ++ x ∷ [])) in
     let old = length-append here (rows_text (y.line + 1) xs) in
     let e : length (here ++ rows_text (y.line + 1) (xs ++ x ∷ [])) ≡ length (here ++ rows_text (y.line + 1) xs) + (x.line - next_line (y.line + 1) xs) + length (row_text x.row) + 1
-      = omega (arith, later, new, old) in e
+    = omega (arith, later, new, old) in e

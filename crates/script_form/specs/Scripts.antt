@@ -1,5 +1,5 @@
 -- Which lines are a script, and what is wrong with a line that isn't.
-use Rattle.std.specs.Prelude.{◌≡◌, ℕ, ◌+◌, ◌<◌, ◌≤◌, ◌⊎◌, Bool, true, false, List, [], ◌∷◌, ◌++◌, length, take, get_or}
+use Rattle.std.specs.Prelude.{◌≡◌, ℕ, ◌+◌, ◌≤◌, ◌⊎◌, true, false, List, [], ◌∷◌, ◌++◌, length}
 use Rattle.token_form.specs.declared.tokens.Token.{Token}
 use Rattle.token_form.specs.Tokens.{IsTokens, in_range}
 use Rattle.value_form.specs.Mirror.{Block}
@@ -27,7 +27,7 @@ abbrev pub LinesRows : ℕ → ℕ → List (List ℕ) → List Numbered → Typ
 LinesRows greatest n [] xs = xs ≡ []
 LinesRows greatest n (line ∷ more) xs =
     ((is_blank line ≡ true) × LinesRows greatest (n + 1) more xs)
-  ⊎ ((row : Row) × (ys : List Numbered) × LineRow greatest line row × (xs ≡ on n row ∷ ys) × LinesRows greatest (n + 1) more ys)
+    ⊎ ((row : Row) × (ys : List Numbered) × LineRow greatest line row × (xs ≡ on n row ∷ ys) × LinesRows greatest (n + 1) more ys)
 
 -- no expression in the rows is deeper than 16
 abbrev pub ShallowRows : List Numbered → Type 0

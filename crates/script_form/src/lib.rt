@@ -4,6 +4,7 @@
 mod line_splits;
 mod parse_faults;
 mod parsing;
+mod printing;
 mod readers;
 mod row_faults;
 mod row_texts;
@@ -11,4 +12,8 @@ mod rows;
 
 pub use parse_faults::{ParseFault, ParseKind};
 pub use parsing::parse;
+pub use printing::print;
 pub use readers::ScriptReader;
+
+#[cfg(test)]
+mod tests;

@@ -11,6 +11,7 @@ use std::alloc::Global;
 use value_form::Script;
 
 const MOST_LINES: u16 = 200;
+
 const MOST_BYTES: usize = 3_900;
 
 /// A reader of the lines of a script, one after another. Where a line doesn't go on the script the
@@ -90,7 +91,13 @@ impl ScriptReader {
         if at > MOST_LINES {
             return Err(fault(at, ParseKind::Size));
         }
-        let ScriptReader { builder, greatest, lines: _, next, size } = self;
+        let ScriptReader {
+            builder,
+            greatest,
+            lines: _,
+            next,
+            size,
+        } = self;
         let lines = at as u8;
         Ok(ScriptReader {
             builder,
@@ -102,7 +109,12 @@ impl ScriptReader {
     }
 
     // With a line whose row the builder has taken.
-    fn placed(builder: Builder, greatest: u8, at: u16, size: Option<u16>) -> Result<ScriptReader, ParseFault>
+    fn placed(
+        builder: Builder,
+        greatest: u8,
+        at: u16,
+        size: Option<u16>,
+    ) -> Result<ScriptReader, ParseFault>
         requires { at ≤ 256 }
         ensures { Places builder greatest at size result }
     {
@@ -127,7 +139,13 @@ impl ScriptReader {
     {
         let at = self.lines as u16 + 1;
         let bytes = row_size(alloc, &row)?;
-        let ScriptReader { builder, greatest, lines: _, next, size } = self;
+        let ScriptReader {
+            builder,
+            greatest,
+            lines: _,
+            next,
+            size,
+        } = self;
         let size = grown(size, at.saturating_sub(next), bytes);
         match builder.feed(alloc, at, row) {
             Ok(builder) => ScriptReader::placed(builder, greatest, at, size),
@@ -155,7 +173,13 @@ impl ScriptReader {
     pub fn end(self) -> Result<Script, ParseFault>
         ensures { (lines : List (List ℕ)) → HoldsLines lines self → EndsLines self.greatest lines result }
     {
-        let ScriptReader { builder, greatest: _, lines, next: _, size: _ } = self;
+        let ScriptReader {
+            builder,
+            greatest: _,
+            lines,
+            next: _,
+            size: _,
+        } = self;
         match builder.end() {
             Some(script) => Ok(script),
             None => Err(fault(lines as u16 + 1, ParseKind::Block)),

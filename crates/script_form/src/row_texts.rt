@@ -2,7 +2,7 @@ ghost use Rattle.std.specs.Prelude.{◌≡◌, IfOk, length};
 ghost use Rattle.statement_form.specs.Flats.{row_of};
 ghost use Rattle.statement_form.specs.RowTexts.{row_text};
 
-use statement_form::{print_row, Flat};
+use statement_form::{Flat, print_row};
 use std::alloc::{AllocError, Global};
 
 // The bytes of a row's canonical text.

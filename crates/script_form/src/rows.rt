@@ -5,9 +5,9 @@ ghost use Rattle.script_form.specs.LineReads.{ReadsLine, ReadsTokens, ReadsRow};
 use crate::parse_faults::ParseKind;
 use crate::row_faults::RowFault;
 use expression_form::ReadFault;
-use statement_form::{read_row, Flat};
+use statement_form::{Flat, read_row};
 use std::alloc::Global;
-use token_form::{tokens_of, LineFault, Token};
+use token_form::{LineFault, Token, tokens_of};
 
 fn line_tokens(alloc: Global, line: &[u8], greatest: u8) -> Result<Vec<Token>, RowFault>
     ensures { ReadsTokens greatest line.now result }

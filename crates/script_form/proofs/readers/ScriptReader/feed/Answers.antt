@@ -13,4 +13,4 @@ returns-in-Ok c before h = c.with_row.ensures before c.args.line.now h c.in-Ok.e
 pub returns-in-Err : goal.returns-in-Err
 returns-in-Err c before h =
     subst (λ z. FeedsLine c.args.self.greatest before c.args.line.now (Err z)) (sym c.row_fault.ensures)
-      (no_row_feeds before c.args.line.now c.args.self c.in-Err.wrong h (sym c.is_blank.ensures ∙ c.if-is_blank.false) c.in-Err.ensures)
+    (no_row_feeds before c.args.line.now c.args.self c.in-Err.wrong h (sym c.is_blank.ensures ∙ c.if-is_blank.false) c.in-Err.ensures)

@@ -1,9 +1,8 @@
-use Rattle.std.proofs.Common.{◌≡◌, ◌+◌, ◌-◌, ◌≤◌, length, ap, ◌∙◌, sym, subst}
+use Rattle.std.proofs.Common.{◌≡◌, ◌+◌, ◌-◌, ◌≤◌, ap, ◌∙◌, sym, subst}
 use Rattle.std.specs.Prelude.{SomeIff, Err}
 use Rattle.statement_form.specs.Fed.{Fed}
 use Rattle.statement_form.specs.Rows.{on}
 use Rattle.statement_form.specs.Flats.{row_of}
-use Rattle.statement_form.specs.RowTexts.{row_text}
 use Rattle.script_form.specs.Feeds.{FeedsLine}
 use Rattle.script_form.proofs.FeedLemmas.{placed_feeds, block_feeds, size_with_row}
 use Rattle.script_form.proofs.readers.ScriptReader.with_row.Goals as goal
@@ -12,9 +11,9 @@ pub returns-in-Ok : goal.returns-in-Ok
 returns-in-Ok c before line h is deep =
     let old = c.args.self in
     let e : old.size + c.saturating_sub.result + c.in_ok-bytes.bytes + 1 ≡ size_with_row old (row_of c.args.row)
-      = ap (λ z. old.size + z + c.in_ok-bytes.bytes + 1) c.saturating_sub.ensures ∙ ap (λ z. old.size + (old.lines + 1 - old.next) + z + 1) c.in_ok-bytes.ensures in
+    = ap (λ z. old.size + z + c.in_ok-bytes.bytes + 1) c.saturating_sub.ensures ∙ ap (λ z. old.size + (old.lines + 1 - old.next) + z + 1) c.in_ok-bytes.ensures in
     placed_feeds before line old h (row_of c.args.row) is c.in-Ok.builder c.grown-size.result c.placed.result deep c.in-Ok.ensures
-      (subst (λ z. SomeIff c.grown-size.result (z ≤ 3900) z) e c.grown-size.ensures) c.placed.ensures
+    (subst (λ z. SomeIff c.grown-size.result (z ≤ 3900) z) e c.grown-size.ensures) c.placed.ensures
 
 pub returns-in-Err-Block : goal.returns-in-Err-Block
 returns-in-Err-Block c before line h is deep =
