@@ -1,6 +1,6 @@
 -- An expression is kept, exactly while it is no deeper than 16.
-use Rattle.std.proofs.Common.{◌≡◌, ℕ, ◌+◌, ◌<◌, ◌≤◌, ◌⊎◌, inl, inr, max, List, refl, sym, ap, ◌∙◌, subst, arith}
-use Rattle.std.specs.Prelude.{nat_lt, if◌then◌else◌}
+use Rattle.std.proofs.Common.{◌≡◌, ℕ, ◌+◌, ◌<◌, ◌≤◌, ◌⊎◌, inl, inr, max, refl, sym, ap, ◌∙◌, subst, arith}
+use Rattle.std.specs.Prelude.{if◌then◌else◌}
 use Rattle.std.proofs.lemmas.Bool.{le-ltb, lt-ltb, cases_lt}
 use Rattle.value_form.specs.declared.expressions.Expr.{Expr}
 use Rattle.value_form.specs.declared.expressions.Expr.TheVariants as e
@@ -27,8 +27,8 @@ one_keeps f g h x n keeps deep (inl c) = subst (λ z. Keeps z (g x) (n + 1)) (sy
 one_keeps f g h x n keeps deep (inr c) = inr (omega arith, ap f c.1 ∙ deep)
 
 two_keeps : (f : Operand → Operand → Operand) (g : Expr → Expr → Expr) (h k : Operand) (x y : Expr) (n m : ℕ)
-  → ((x y : Expr) (n m : ℕ) → f (Built x n) (Built y m) ≡ kept (g x y) (max n m)) → ((x : Expr) (n : ℕ) → f (Built x n) Deep ≡ Deep) → ((k : Operand) → f Deep k ≡ Deep)
-  → Keeps h x n → Keeps k y m → Keeps (f h k) (g x y) (max n m + 1)
+    → ((x y : Expr) (n m : ℕ) → f (Built x n) (Built y m) ≡ kept (g x y) (max n m)) → ((x : Expr) (n : ℕ) → f (Built x n) Deep ≡ Deep) → ((k : Operand) → f Deep k ≡ Deep)
+    → Keeps h x n → Keeps k y m → Keeps (f h k) (g x y) (max n m + 1)
 two_keeps f g h k x y n m keeps right left (inl c) (inl d) = subst (λ z. Keeps z (g x y) (max n m + 1)) (sym (ap (λ z. f z k) c.1 ∙ ap (f (Built x n)) d.1 ∙ keeps x y n m)) (kept_keeps (g x y) (max n m))
 two_keeps f g h k x y n m keeps right left (inl c) (inr d) = inr (omega arith, ap (λ z. f z k) c.1 ∙ ap (f (Built x n)) d.1 ∙ right x n)
 two_keeps f g h k x y n m keeps right left (inr c) d = inr (omega arith, ap (λ z. f z k) c.1 ∙ left k)

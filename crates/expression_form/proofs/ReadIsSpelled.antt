@@ -1,5 +1,5 @@
 -- What is read is spelled.
-use Rattle.std.proofs.Common.{◌≡◌, ℕ, suc, ◌+◌, ◌<◌, ◌≤◌, List, [], ◌∷◌, ◌++◌, Option, Some, None, refl, sym, ap, ◌∙◌, subst, arith, append_assoc, append-nil}
+use Rattle.std.proofs.Common.{◌≡◌, ℕ, suc, ◌+◌, ◌≤◌, List, [], ◌∷◌, ◌++◌, Option, Some, None, refl, sym, ap, ◌∙◌, subst, arith, append_assoc, append-nil}
 use Rattle.std.specs.Prelude.{option_and_then}
 use Rattle.token_form.specs.declared.tokens.Token.{Token}
 use Rattle.token_form.specs.declared.tokens.Token.TheVariants as t
@@ -8,7 +8,6 @@ use Rattle.token_form.specs.declared.tokens.Sign.TheVariants as g
 use Rattle.value_form.specs.declared.expressions.Prefix.{Prefix}
 use Rattle.value_form.specs.declared.expressions.Prefix.TheVariants as p
 use Rattle.value_form.specs.declared.expressions.Infix.{Infix}
-use Rattle.value_form.specs.declared.expressions.Call.TheVariants as c
 use Rattle.value_form.specs.Mirror.{Term, Number, Text, Nothing, Name, Before, Between, Applied, Given}
 use Rattle.expression_form.specs.declared.operands.Operand.{Operand}
 use Rattle.expression_form.specs.declared.frames.Frame.{Frame}
@@ -18,9 +17,9 @@ use Rattle.expression_form.specs.declared.frames.Head.TheVariants as h
 use Rattle.expression_form.specs.declared.frames.Mode.{Mode}
 use Rattle.expression_form.specs.declared.frames.Mode.TheVariants as m
 use Rattle.expression_form.specs.Levels.{infix_level, left_level, prefix_level, infix_token, prefix_token, call_token}
-use Rattle.expression_form.specs.Grammar.{enclosed, wrapped, level_of, level_in, At, Bare, SpellsAt, Spells}
+use Rattle.expression_form.specs.Grammar.{enclosed, level_of, Bare, SpellsAt}
 use Rattle.expression_form.specs.Operands.{before, between, applied, given, operand_of}
-use Rattle.expression_form.specs.Machine.{infix_of, hole, Held, held, close, State, state, shift, shut, shut_at, parted, parted_at, prefixed, joined, frame_of, wanting, opening, closing, having_as, having, step_at, step, run, finish, finish_at, ended, operand_read}
+use Rattle.expression_form.specs.Machine.{infix_of, hole, Held, close, State, state, shift, shut_at, parted_at, prefixed, joined, wanting, opening, closing, having_as, step_at, step, run, finish, finish_at, ended, operand_read}
 use Rattle.expression_form.proofs.LevelLemmas.{infix_le, prefix_le, chosen, IsInfix, infix_of-is}
 
 -- the tokens spell, at this level, an expression of which this is the operand

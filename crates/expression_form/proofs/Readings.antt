@@ -1,5 +1,5 @@
 -- What the operand that was read says of the tokens.
-use Rattle.std.proofs.Common.{◌≡◌, ℕ, ◌<◌, ◌≤◌, ◌⊎◌, inl, inr, List, Option, Some, None, sym, ap, ◌∙◌, subst, arith}
+use Rattle.std.proofs.Common.{◌≡◌, ℕ, ◌<◌, inl, inr, List, Some, None, sym, ap, ◌∙◌, subst, arith}
 use Rattle.token_form.specs.declared.tokens.Token.{Token}
 use Rattle.value_form.specs.declared.expressions.Expr.{Expr}
 use Rattle.value_form.specs.Mirror.{Term, term}
@@ -51,6 +51,7 @@ one_expression x y ts spells_x spells_y le = at (operand_keeps x)
   where
     same : Some (operand_of x) ≡ Some (operand_of y)
     same = sym (spelled_is_read x ts spells_x) ∙ spelled_is_read y ts spells_y
+
     at : Keeps (operand_of x) (made x) (depth x) → x ≡ y
     at (inl (_, built)) =
         let e : Some (operand_of y) ≡ Some (Built (made x) (depth x)) = sym same ∙ ap Some built in

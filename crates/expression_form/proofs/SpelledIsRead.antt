@@ -1,5 +1,5 @@
 -- What is spelled is read.
-use Rattle.std.proofs.Common.{◌≡◌, ℕ, zero, suc, ◌+◌, ◌<◌, ◌≤◌, List, [], ◌∷◌, ◌++◌, Option, Some, None, refl, sym, ap, ◌∙◌, subst, arith, append_assoc}
+use Rattle.std.proofs.Common.{◌≡◌, ℕ, zero, suc, ◌+◌, ◌≤◌, List, [], ◌∷◌, ◌++◌, Option, Some, None, refl, sym, ap, ◌∙◌, subst, arith, append_assoc}
 use Rattle.std.specs.Prelude.{option_and_then}
 use Rattle.token_form.specs.declared.tokens.Token.{Token}
 use Rattle.token_form.specs.declared.tokens.Token.TheVariants as t
@@ -113,8 +113,8 @@ given_comes : (x y : Term) (us vs : List Token) (st : List Frame) → (k : ℕ) 
 given_comes x y us vs st (k, le, c) (k', le', d) =
     token_comes st (t.Word w.Given ∷ enclosed (us ++ t.Sign g.Comma ∷ vs)) (operand_of (Given x y))
     (ap (run (state (f.GivenFirst ∷ st) m.Want)) (append_assoc us (t.Sign g.Comma ∷ vs) (t.Sign g.Close ∷ []))
-        ∙ then_comma (f.GivenFirst ∷ st) us (vs ++ t.Sign g.Close ∷ []) (operand_of x) k c refl
-        ∙ then_shut (f.GivenSecond (operand_of x) ∷ st) vs [] (operand_of y) k' d refl)
+    ∙ then_comma (f.GivenFirst ∷ st) us (vs ++ t.Sign g.Close ∷ []) (operand_of x) k c refl
+    ∙ then_shut (f.GivenSecond (operand_of x) ∷ st) vs [] (operand_of y) k' d refl)
 
 bare_comes : (x : Term) (ts : List Token) → Bare x ts → BareComes x ts
 bare_comes (Number n) ts is st h = subst (λ z. Comes st z (operand_of (Number n)) 7) (sym is) (token_comes st _ _ refl)

@@ -1,13 +1,13 @@
 -- The canonical text is the canonical tokens.
-use Rattle.std.proofs.Common.{◌≡◌, ℕ, ◌+◌, Bool, true, false, List, [], ◌∷◌, ◌++◌, refl, sym, subst, append_assoc}
+use Rattle.std.proofs.Common.{ℕ, ◌+◌, Bool, true, false, List, [], ◌∷◌, ◌++◌, refl, sym, subst, append_assoc}
 use Rattle.std.specs.Prelude.{codes}
 use Rattle.token_form.specs.declared.tokens.Token.{Token}
 use Rattle.token_form.specs.declared.tokens.Token.TheVariants as t
 use Rattle.token_form.specs.declared.tokens.Word.TheVariants as w
 use Rattle.token_form.specs.declared.tokens.Sign.TheVariants as g
-use Rattle.token_form.specs.Tokens.{Spells, Ends, IsTokens, IsToken, spelling}
+use Rattle.token_form.specs.Tokens.{Ends, IsTokens, spelling}
 use Rattle.token_form.proofs.Spellings.{spells}
-use Rattle.token_form.proofs.Seams.{Quiet, quiet_ends, quiet_space, quiet_open, quiet_close, quiet_comma, after_space, seam, first, alone}
+use Rattle.token_form.proofs.Seams.{quiet_ends, quiet_space, quiet_open, quiet_close, quiet_comma, after_space, seam, first, alone}
 use Rattle.value_form.specs.declared.expressions.Prefix.{Prefix}
 use Rattle.value_form.specs.declared.expressions.Prefix.TheVariants as p
 use Rattle.value_form.specs.declared.expressions.Infix.{Infix}
@@ -45,7 +45,7 @@ infix_tokens : (o : Infix) (bs cs : List ℕ) (ts us : List Token) → IsTokens 
 infix_tokens o bs cs ts us h k =
     seam bs (32 ∷ (spelling (infix_token o) ++ (32 ∷ cs))) ts (infix_token o ∷ us) h (quiet_space (spelling (infix_token o) ++ (32 ∷ cs)))
     (after_space (spelling (infix_token o) ++ (32 ∷ cs)) (infix_token o ∷ us)
-        (first (infix_token o) (spelling (infix_token o)) (32 ∷ cs) us (infix_token-plain o).0 (quiet_ends (infix_token o) (32 ∷ cs) (quiet_space cs)) (after_space cs us k)))
+    (first (infix_token o) (spelling (infix_token o)) (32 ∷ cs) us (infix_token-plain o).0 (quiet_ends (infix_token o) (32 ∷ cs) (quiet_space cs)) (after_space cs us k)))
 
 call_tokens : (f : Call) (bs : List ℕ) (ts : List Token) → IsTokens bs ts → IsTokens (spelling (call_token f) ++ (40 ∷ (bs ++ 41 ∷ []))) (call_token f ∷ enclosed ts)
 call_tokens f bs ts h =

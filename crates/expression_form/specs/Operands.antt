@@ -1,5 +1,5 @@
 -- Operands: expressions that are kept while they are no deeper than 16.
-use Rattle.std.specs.Prelude.{ℕ, ◌+◌, max, List, nat_lt, if◌then◌else◌}
+use Rattle.std.specs.Prelude.{ℕ, ◌+◌, max, nat_lt, if◌then◌else◌}
 use Rattle.value_form.specs.declared.expressions.Prefix.{Prefix}
 use Rattle.value_form.specs.declared.expressions.Infix.{Infix}
 use Rattle.value_form.specs.declared.expressions.Call.{Call}

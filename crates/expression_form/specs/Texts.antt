@@ -7,7 +7,7 @@ use Rattle.token_form.specs.Tokens.{IsToken, spelling}
 use Rattle.value_form.specs.declared.expressions.Prefix.{Prefix}
 use Rattle.value_form.specs.declared.expressions.Prefix.TheVariants as p
 use Rattle.value_form.specs.Mirror.{Term, Number, Text, Nothing, Name, Before, Between, Applied, Given}
-use Rattle.expression_form.specs.Levels.{infix_level, left_level, prefix_level, infix_token, prefix_token, call_token}
+use Rattle.expression_form.specs.Levels.{infix_level, left_level, prefix_level, infix_token, call_token}
 use Rattle.expression_form.specs.Canonical.{is_looser}
 
 abbrev pub parenthesized_if : Bool → List ℕ → List ℕ

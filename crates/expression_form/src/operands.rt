@@ -46,7 +46,12 @@ impl Operand {
     }
 
     /// The operand and the one to its right, with an operator between.
-    pub fn between(self, alloc: Global, operator: Infix, right: Operand) -> Result<Operand, AllocError>
+    pub fn between(
+        self,
+        alloc: Global,
+        operator: Infix,
+        right: Operand,
+    ) -> Result<Operand, AllocError>
         ensures { IfOk result (λ x. x ≡ spec.between operator self right) }
     {
         match self {

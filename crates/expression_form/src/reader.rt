@@ -8,10 +8,10 @@ ghost use Rattle.expression_form.specs.Reads.{Reads};
 ghost use Rattle.expression_form.specs.Stacks.{first};
 ghost use Rattle.expression_form.specs.Steps.{Steps};
 
-use crate::read_faults::ReadFault;
 use crate::frames::{Frame, Head, Mode};
 use crate::operands::Operand;
 use crate::operators::{infix_of, left_of, level_before, level_of};
+use crate::read_faults::ReadFault;
 use crate::stacks::Stack;
 use std::alloc::{AllocError, Global};
 use token_form::{Sign, Token, Word};

@@ -4,3 +4,5 @@ pub mod BlockLemmas
 pub mod PeakLemmas
 pub mod BeginLemmas
 pub mod ScriptTextLemmas
+pub mod RowTextLemmas
+pub mod OneRow

@@ -88,7 +88,7 @@ read_fault name ts rest is = handed spot row_of SpellsSpot (Follows w.Read) spot
 
 -- ---- objects
 
-none_some : {A : Type 0} (x : A) → None ≡ Some x → ⊥
+pub none_some : {A : Type 0} (x : A) → None ≡ Some x → ⊥
 none_some x e = let no : ⊥ = cc in no
 
 empty_is : (ts : List Token) → (length ts == 0) ≡ true → ts ≡ []

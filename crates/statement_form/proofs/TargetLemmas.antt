@@ -5,6 +5,7 @@ use Rattle.std.proofs.lemmas.Bool.{le-leb, lt-ltb, leb-true, ltb-true}
 use Rattle.token_form.specs.declared.tokens.Token.{Token}
 use Rattle.token_form.specs.declared.tokens.Token.TheVariants as t
 use Rattle.token_form.specs.declared.tokens.Sign.TheVariants as g
+use Rattle.token_form.proofs.Runs.{both}
 use Rattle.value_form.specs.declared.objects.ObjectId.{ObjectId}
 use Rattle.value_form.specs.Mirror.{Term, Spot, Fixed, At}
 use Rattle.expression_form.specs.Grammar.{Spells}
@@ -12,24 +13,16 @@ use Rattle.expression_form.proofs.BracketLemmas.{is_bracket, NoBracket, spelled_
 use Rattle.statement_form.specs.Lines.{IsRepository, SpellsSpot}
 use Rattle.statement_form.specs.Targets.{is_repository, object_at, fixed_of, bracket_at, indexed_of}
 
--- ---- truth of two tests
+-- ---- the number of a repository
 
 both_true : (a b : Bool) → a ≡ true → b ≡ true → (a && b) ≡ true
 both_true a b h k = ap (λ z. z && b) h ∙ k
-
-pub left_true : (a b : Bool) → (a && b) ≡ true → a ≡ true
-left_true true b h = refl
-left_true false b h = h
-
-pub right_true : (a b : Bool) → (a && b) ≡ true → b ≡ true
-right_true true b h = h
-right_true false b h = absurd (let no : ⊥ = cc in no)
 
 repository_true : (n : ℕ) → IsRepository n → is_repository n ≡ true
 repository_true n (low, high) = both_true (nat_le 1 n) (nat_le n 16) (le-leb 1 n low) (le-leb n 16 high)
 
 repository_is : (n : ℕ) → is_repository n ≡ true → IsRepository n
-repository_is n h = (leb-true 1 n (left_true (nat_le 1 n) (nat_le n 16) h), leb-true n 16 (right_true (nat_le 1 n) (nat_le n 16) h))
+repository_is n h = let k = both (nat_le 1 n) (nat_le n 16) h in (leb-true 1 n k.0, leb-true n 16 k.1)
 
 -- ---- the first `]`
 
@@ -107,7 +100,7 @@ fixed_if false n m rest go = tt
 fixed_is : (ts : List Token) → IsFixed (fixed_of ts) ts
 fixed_is (t.Number n ∷ t.Sign g.Dot ∷ t.Number m ∷ rest) =
     fixed_if (is_repository n && nat_lt m (2 ^ 32)) n m rest
-    (λ h. (repository_is n (left_true (is_repository n) (nat_lt m (2 ^ 32)) h), ltb-true m (2 ^ 32) (right_true (is_repository n) (nat_lt m (2 ^ 32)) h)))
+    (λ h. let k = both (is_repository n) (nat_lt m (2 ^ 32)) h in (repository_is n k.0, ltb-true m (2 ^ 32) k.1))
 fixed_is _ = tt
 
 pub fixed_spells : (ts rest : List Token) (object : ObjectId) → fixed_of ts ≡ Some (object, rest) → (us : List Token) × (ts ≡ us ++ rest) × SpellsSpot (Fixed object) us
@@ -124,7 +117,7 @@ indexed_if false n ts us vs go = tt
 indexed_is : (ts : List Token) → IsIndexed (indexed_of ts) ts
 indexed_is (t.Number n ∷ t.Sign g.OpenBracket ∷ ts) =
     indexed_if (is_repository n && nat_lt (bracket_at ts) (length ts)) n ts (take (bracket_at ts) ts) (drop (suc (bracket_at ts)) ts)
-    (λ h. (repository_is n (left_true (is_repository n) (nat_lt (bracket_at ts) (length ts)) h), bracket_splits ts (ltb-true (bracket_at ts) (length ts) (right_true (is_repository n) (nat_lt (bracket_at ts) (length ts)) h))))
+    (λ h. let k = both (is_repository n) (nat_lt (bracket_at ts) (length ts)) h in (repository_is n k.0, bracket_splits ts (ltb-true (bracket_at ts) (length ts) k.1)))
 indexed_is _ = tt
 
 pub indexed_spells : (n : ℕ) (ts es rest : List Token) (x : Term) → indexed_of ts ≡ Some (n, es, rest) → Spells x es → (us : List Token) × (ts ≡ us ++ rest) × SpellsSpot (At n x) us

@@ -5,6 +5,7 @@ mod block_faults;
 mod builders;
 mod buildings;
 mod flats;
+mod laws;
 mod levels;
 mod reader;
 mod row_printer;
@@ -14,6 +15,10 @@ mod targets;
 pub use block_faults::BlockFault;
 pub use builders::Builder;
 pub use flats::Flat;
+pub use laws::{law_of_rows, law_of_scripts};
 pub use reader::read_row;
 pub use row_printer::print_row;
 pub use script_printer::print_script;
+
+#[cfg(test)]
+mod tests;

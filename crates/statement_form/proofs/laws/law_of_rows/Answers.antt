@@ -1,0 +1,15 @@
+use Rattle.statement_form.proofs.OneRow.{one_row}
+use Rattle.statement_form.proofs.RowTextLemmas.{row_tokens-spell, row_text-tokens, row_tokens-in_range}
+use Rattle.statement_form.proofs.laws.law_of_rows.Goals as goal
+
+pub returns-clause-one : goal.returns-clause-one
+returns-clause-one c = one_row
+
+pub returns-clause-spelled : goal.returns-clause-spelled
+returns-clause-spelled c = row_tokens-spell
+
+pub returns-clause-text : goal.returns-clause-text
+returns-clause-text c = row_text-tokens
+
+pub returns-clause-in_range : goal.returns-clause-in_range
+returns-clause-in_range c = row_tokens-in_range
