@@ -1,5 +1,6 @@
 pub mod FeedLemmas
 pub mod LineReadLemmas
 pub mod ParseLemmas
+pub mod PrintLemmas
 pub mod ProgressLemmas
 pub mod RowLemmas

@@ -1,6 +1,7 @@
 //! Scripts: their lines, their faults and their text.
 #![tactic(auto)]
 
+mod laws;
 mod line_splits;
 mod parse_faults;
 mod parsing;
@@ -10,6 +11,7 @@ mod row_faults;
 mod row_texts;
 mod rows;
 
+pub use laws::law_of_lines;
 pub use parse_faults::{ParseFault, ParseKind};
 pub use parsing::parse;
 pub use printing::print;
