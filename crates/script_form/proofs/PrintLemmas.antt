@@ -1,6 +1,6 @@
 -- The canonical text of a script is that script.
-use Rattle.std.proofs.Common.{◌≡◌, ◌≢◌, ℕ, zero, suc, ◌+◌, ◌-◌, ◌*◌, ◌<◌, ◌≤◌, ◌⊎◌, inl, inr, Bool, true, false, cond, List, [], ◌∷◌, ◌++◌, length, get_or, take, refl, sym, ap, ◌∙◌, subst, arith, append_assoc, append-nil}
-use Rattle.std.specs.Prelude.{replicate, ◌==◌, ◌&&◌, nat_lt, slice_index}
+use Rattle.std.proofs.Common.{◌≡◌, ℕ, zero, suc, ◌+◌, ◌-◌, ◌<◌, ◌≤◌, inl, inr, true, false, cond, List, [], ◌∷◌, ◌++◌, length, get_or, take, refl, sym, ap, ◌∙◌, subst, arith, append_assoc, append-nil}
+use Rattle.std.specs.Prelude.{replicate, ◌==◌, nat_lt}
 use Rattle.std.specs.Char.{is_ascii_digit}
 use Rattle.std.specs.Int.{is_in_range}
 use Rattle.std.specs.Str.Lines.{strip_carriage_return}
@@ -10,10 +10,9 @@ use Rattle.value_form.specs.Mirror.{Block}
 use Rattle.value_form.specs.TextForm.{hex_digit_of}
 use Rattle.token_form.specs.declared.tokens.Token.{Token}
 use Rattle.token_form.specs.declared.tokens.Token.TheVariants as t
-use Rattle.token_form.specs.declared.tokens.Word.{Word}
 use Rattle.token_form.specs.declared.tokens.Sign.{Sign}
 use Rattle.token_form.specs.declared.tokens.Sign.TheVariants as g
-use Rattle.token_form.specs.Tokens.{word_spelling, sign_spelling, is_letter, is_name_byte, is_plain, AllPass, IsName, IsNumeral, Writes, itself, quote, backslash, line_end, by_digits, WritesAll, Spells, Ends, spaces, IsTokens}
+use Rattle.token_form.specs.Tokens.{word_spelling, sign_spelling, is_name_byte, AllPass, IsName, IsNumeral, Writes, itself, quote, backslash, line_end, by_digits, WritesAll, Spells, spaces, IsTokens}
 use Rattle.token_form.proofs.Runs.{by_test}
 use Rattle.token_form.proofs.NameLaws.{word_is_name}
 use Rattle.token_form.proofs.LineLaws.{one_list}
@@ -24,8 +23,8 @@ use Rattle.statement_form.specs.Lines.{SpellsRow}
 use Rattle.statement_form.specs.Row.{Row}
 use Rattle.statement_form.specs.Row as r
 use Rattle.statement_form.specs.Rows.{Numbered, on, rows, row_depth}
-use Rattle.statement_form.specs.RowTexts.{RowInLimits, row_text, row_tokens, line_text, rows_text, next_line, script_text}
-use Rattle.script_form.specs.Lines.{last_line, lines_from, lines, is_blank}
+use Rattle.statement_form.specs.RowTexts.{row_text, row_tokens, line_text, rows_text, next_line, script_text}
+use Rattle.script_form.specs.Lines.{lines_from, lines, is_blank}
 use Rattle.script_form.specs.Scripts.{LineRow, LinesRows, ShallowRows, IsScriptLines}
 use Rattle.script_form.specs.Printable.{Rising, RowsInLimits, IsPrintable}
 
