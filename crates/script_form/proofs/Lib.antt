@@ -1,3 +1,4 @@
+pub mod FaultLemmas
 pub mod FeedLemmas
 pub mod LineReadLemmas
 pub mod ParseLemmas

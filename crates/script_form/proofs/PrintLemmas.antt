@@ -167,11 +167,11 @@ printed_is_script script p = (
 
 -- ---- the lines are one script at most
 
-same_row : (greatest : ℕ) (line : List ℕ) (a b : Row) → row_depth a ≤ 16 → LineRow greatest line a → LineRow greatest line b → a ≡ b
+pub same_row : (greatest : ℕ) (line : List ℕ) (a b : Row) → row_depth a ≤ 16 → LineRow greatest line a → LineRow greatest line b → a ≡ b
 same_row greatest line a b deep (ts, p, range, spells) (us, q, range2, spells2) =
     one_row a b us (subst (SpellsRow a) (one_list line ts us p.1 q.1) spells) spells2 deep
 
-same_rows : (greatest n : ℕ) (ls : List (List ℕ)) (xs ys : List Numbered) → ShallowRows xs → LinesRows greatest n ls xs → LinesRows greatest n ls ys → xs ≡ ys
+pub same_rows : (greatest n : ℕ) (ls : List (List ℕ)) (xs ys : List Numbered) → ShallowRows xs → LinesRows greatest n ls xs → LinesRows greatest n ls ys → xs ≡ ys
 same_rows greatest n [] xs ys s p q = p ∙ sym q
 same_rows greatest n (l ∷ ls) xs ys s (inl (blank, p)) (inl (blank2, q)) = same_rows greatest (n + 1) ls xs ys s p q
 same_rows greatest n (l ∷ ls) xs ys s (inl (blank, p)) (inr (row, zs, has, parts, q)) = absurd (let e : true ≡ false = sym blank ∙ has.1.0 in cc)

@@ -8,7 +8,7 @@ use Rattle.statement_form.specs.RowTexts.{line_text, row_text, rows_text, next_l
 use Rattle.script_form.specs.Lines.{is_blank}
 use Rattle.script_form.specs.Scripts.{LineRow, LinesRows, ShallowRows}
 
-same_line : (n : ℕ) (ls : List (List ℕ)) (l : List ℕ) → n + 1 + length ls ≡ n + length (l ∷ ls)
+pub same_line : (n : ℕ) (ls : List (List ℕ)) (l : List ℕ) → n + 1 + length ls ≡ n + length (l ∷ ls)
 same_line n ls l = let e : n + 1 + length ls ≡ n + suc (length ls) = omega arith in e
 
 -- a line that is a row
