@@ -1,0 +1,7 @@
+pub mod FaultLemmas
+pub mod FeedLemmas
+pub mod LineReadLemmas
+pub mod ParseLemmas
+pub mod PrintLemmas
+pub mod ProgressLemmas
+pub mod RowLemmas

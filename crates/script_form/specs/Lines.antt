@@ -1,6 +1,6 @@
 -- The lines of a text.
 use Rattle.std.specs.Str.Lines.{strip_carriage_return}
-use Rattle.std.specs.Prelude.{ℕ, Bool, true, ◌==◌, List, [], ◌∷◌, ◌++◌, length, if◌then◌else◌, take, drop}
+use Rattle.std.specs.Prelude.{ℕ, Bool, true, ◌==◌, List, [], ◌∷◌, ◌++◌, if◌then◌else◌}
 
 -- the last line may lack its end
 abbrev pub last_line : List ℕ → List (List ℕ)

@@ -1,4 +1,21 @@
 //! Scripts: their lines, their faults and their text.
 #![tactic(auto)]
 
+mod laws;
 mod line_splits;
+mod parse_faults;
+mod parsing;
+mod printing;
+mod readers;
+mod row_faults;
+mod row_texts;
+mod rows;
+
+pub use laws::{law_of_faults, law_of_lines};
+pub use parse_faults::{ParseFault, ParseKind};
+pub use parsing::parse;
+pub use printing::print;
+pub use readers::ScriptReader;
+
+#[cfg(test)]
+mod tests;

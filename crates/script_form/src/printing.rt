@@ -1,0 +1,17 @@
+ghost use Rattle.std.specs.Prelude.{◌≡◌, IfOk};
+ghost use Rattle.value_form.specs.Mirror.{block};
+ghost use Rattle.statement_form.specs.RowTexts.{script_text};
+
+use statement_form::print_script;
+use std::alloc::{AllocError, Global};
+use value_form::{Bytes, Script};
+
+/// The canonical text: each statement on its line, with no more spaces and parentheses than its
+/// tokens need.
+pub fn print(alloc: Global, script: &Script) -> Result<Bytes, AllocError>
+    ensures { IfOk result (λ text. text ≡ script_text (block script.now.lines)) }
+{
+    let mut text = Vec::new(alloc);
+    print_script(alloc, &mut text, script)?;
+    Ok(Bytes::of(text))
+}
