@@ -1,7 +1,11 @@
-//! Carries out a script of 100, 1,000 or 10,000 statements, as the second word says, so often that
-//! a million statements are carried out in all. The first word says what is timed: `statements`.
-//! Prints how many statements there were.
+//! Times scripts. The first word says what is timed, the second how much of it.
+//!
+//! `statements` carries out a script of 100, 1,000 or 10,000 statements so often that a million are
+//! carried out in all, and prints how many there were. `parentheses`, `digits`, `spaces` and
+//! `comment` parse one line of so many bytes, and print `script` or the kind of its fault.
 #![tactic(auto)]
+
+mod texts;
 
 ghost use Rattle.std.specs.Prelude.{◌≤◌, IfOk, IfSome};
 ghost use Rattle.value_form.specs.Mirror.{plain};
@@ -83,6 +87,40 @@ fn hundreds_of(size: &str) -> Option<u32>
     }
 }
 
+// How many statements were carried out, by scripts of this size.
+fn statements(alloc: Global, size: &str) -> Result<Option<u64>, AllocError> {
+    let Some(hundreds) = hundreds_of(size) else {
+        return Ok(None);
+    };
+    let times = STATEMENTS / (hundreds * 100);
+    let finished = carry_out(alloc, hundreds as u64, times)?;
+    Ok(Some(finished as u64 * hundreds as u64 * 100))
+}
+
+/// What was found.
+enum Told {
+    Count(u64),
+    Word(&'static str),
+    /// The words name nothing.
+    Nothing,
+}
+
+fn timed(alloc: Global, what: &str, size: &str) -> Result<Told, AllocError> {
+    if what == "statements" {
+        return match statements(alloc, size)? {
+            Some(count) => Ok(Told::Count(count)),
+            None => Ok(Told::Nothing),
+        };
+    }
+    let Ok(size) = size.parse() else {
+        return Ok(Told::Nothing);
+    };
+    match texts::answer(alloc, what, size)? {
+        Some(word) => Ok(Told::Word(word)),
+        None => Ok(Told::Nothing),
+    }
+}
+
 fn main(rt: HostRuntime) -> ExitCode {
     let alloc = rt.alloc();
     let Ok(mut words) = env::args(&rt) else {
@@ -92,17 +130,15 @@ fn main(rt: HostRuntime) -> ExitCode {
     let (Some(what), Some(size)) = (words.next(), words.next()) else {
         return ExitCode::from(1);
     };
-    if what.as_str() != "statements" {
-        return ExitCode::from(1);
-    }
-    let Some(hundreds) = hundreds_of(size.as_str()) else {
-        return ExitCode::from(1);
-    };
-    let times = STATEMENTS / (hundreds * 100);
-    let Ok(finished) = carry_out(alloc, hundreds as u64, times) else {
+    let Ok(told) = timed(alloc, what.as_str(), size.as_str()) else {
         return ExitCode::from(7);
     };
-    if println!(rt; "{}", finished as u64 * hundreds as u64 * 100).is_err() {
+    let printed = match told {
+        Told::Count(count) => println!(rt; "{}", count),
+        Told::Word(word) => println!(rt; "{}", word),
+        Told::Nothing => return ExitCode::from(1),
+    };
+    if printed.is_err() {
         return ExitCode::from(1);
     }
     ExitCode::from(0)
