@@ -7,10 +7,10 @@ use Rattle.value_form.specs.declared.scripts.Stmt.{Stmt, out-Stmt}
 use Rattle.value_form.specs.declared.scripts.Stmt.TheOpen.{Stmt-F}
 use Rattle.value_form.specs.declared.transcripts.Line.TheVariants as line
 use Rattle.value_form.specs.declared.values.Value.{Value}
-use Rattle.value_form.specs.Names.{with_name}
+use Rattle.script_meaning.specs.Names.{with_name}
 use Rattle.value_form.specs.Mirror.{term, spot}
 use Rattle.value_form.specs.MirrorLaws.{shape}
-use Rattle.value_form.specs.Meaning.{Request, ToRead, ToWrite, Asks, Came, Answer, Got, Stored, by_answers, got_from, stored_from, valued, read_of, write_of, done, begun, value, object_at, condition, count}
+use Rattle.script_meaning.specs.Meaning.{Request, ToRead, ToWrite, Asks, Came, Answer, Got, Stored, by_answers, got_from, stored_from, valued, read_of, write_of, done, begun, value, object_at, condition, count}
 use Rattle.script_run.specs.declared.frames.Part.TheVariants as part
 use Rattle.script_run.specs.declared.frames.Frame.{Frame}
 use Rattle.script_run.specs.Standings.{Standing, state_of, then_come, resume, inner, ahead, goes_to}

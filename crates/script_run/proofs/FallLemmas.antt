@@ -8,10 +8,10 @@ use Rattle.value_form.specs.declared.scripts.Stmt.{Stmt, out-Stmt}
 use Rattle.value_form.specs.declared.scripts.Stmt.TheOpen.{Stmt-F}
 use Rattle.value_form.specs.declared.values.Value.{Value}
 use Rattle.value_form.specs.declared.values.Value.TheVariants as v
-use Rattle.value_form.specs.Names.{Names}
+use Rattle.script_meaning.specs.Names.{Names}
 use Rattle.value_form.specs.Mirror.{Term, term, spot}
-use Rattle.value_form.specs.Operations.{◌>>=◌, count_in}
-use Rattle.value_form.specs.Meaning.{value, object_at, condition, count}
+use Rattle.script_meaning.specs.Operations.{◌>>=◌, count_in}
+use Rattle.script_meaning.specs.Meaning.{value, object_at, condition, count}
 use Rattle.script_run.specs.declared.frames.Part.{Part}
 use Rattle.script_run.specs.declared.frames.Part.TheVariants as part
 use Rattle.script_run.specs.declared.frames.Frame.{Frame}

@@ -11,11 +11,10 @@ use Rattle.value_form.specs.declared.transcripts.Line.TheVariants as line
 use Rattle.value_form.specs.declared.values.Value.{Value}
 use Rattle.value_form.specs.Mirror.{plain, block, term, spot}
 use Rattle.value_form.specs.MirrorLaws.{shape, plain-out}
-use Rattle.value_form.specs.Meaning.{State, Came, Outcome, Goes, Stops, Over, Answer, by_answers, then_do, valued, turns, begun, done, all_done, value, object_at, condition, count}
+use Rattle.script_meaning.specs.Meaning.{State, Came, Outcome, Goes, Stops, Over, Answer, by_answers, then_do, valued, turns, begun, done, all_done, value, object_at, condition, count, answers_of}
 use Rattle.script_run.specs.declared.frames.Part.{Part}
 use Rattle.script_run.specs.declared.frames.Part.TheVariants as part
 use Rattle.script_run.specs.declared.frames.Frame.{Frame}
-use Rattle.script_run.specs.Told.{answers_of}
 use Rattle.script_run.specs.Standings.{Standing, state_of, More, Again, then_come, resume, part_of, entered_in, further, inner, ahead, goes_to}
 use Rattle.script_run.specs.Steps.{Arrival, Onward, AtRead, AtWrite, AtEnd, on_value, into_part, repeating, chosen_part, begun_at, counted_at, left_by, left_from, at_end, step_at, step}
 use Rattle.script_run.specs.Machines.{counted, SameAhead}

@@ -3,8 +3,7 @@ use Rattle.std.proofs.Common.{◌≡◌, List, [], ◌∷◌, ◌++◌, ◌-◌,
 use Rattle.std.specs.Prelude.{slice_get}
 use Rattle.value_form.specs.declared.transcripts.Line.{Line}
 use Rattle.value_form.specs.declared.transcripts.Line.TheVariants as line
-use Rattle.value_form.specs.Meaning.{Got, Stored}
-use Rattle.script_run.specs.Told.{answers_of}
+use Rattle.script_meaning.specs.Meaning.{Got, Stored, answers_of}
 use Rattle.script_run.specs.Standings.{value_shown, shown_in, last_value}
 
 pub answers_of-append : (a b : List Line) → answers_of (a ++ b) ≡ answers_of a ++ answers_of b

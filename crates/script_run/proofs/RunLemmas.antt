@@ -7,16 +7,16 @@ use Rattle.value_form.specs.declared.scripts.Stmt.{Stmt}
 use Rattle.value_form.specs.declared.transcripts.Line.{Line}
 use Rattle.value_form.specs.declared.transcripts.Line.TheVariants as line
 use Rattle.value_form.specs.declared.values.Value.{Value}
-use Rattle.value_form.specs.Names.{with_name}
+use Rattle.script_meaning.specs.Names.{with_name}
 use Rattle.value_form.specs.Mirror.{block}
-use Rattle.value_form.specs.Meaning.{Over, Answer, Got, Stored, talk}
+use Rattle.script_meaning.specs.Meaning.{Over, Answer, Got, Stored, talk, answers_of}
 use Rattle.script_run.specs.declared.halts.Halt.{Halt}
 use Rattle.script_run.specs.declared.halts.Halt.TheVariants as halt
 use Rattle.std.specs.Global.{Vec}
 use Rattle.script_run.specs.declared.nexts.Next.{Next}
 use Rattle.script_run.specs.declared.nexts.Next.TheVariants as next
 use Rattle.script_run.specs.declared.machines.Machine.{Machine}
-use Rattle.script_run.specs.Told.{Told, answers_of, answered, stop_of, Tells}
+use Rattle.script_run.specs.Told.{Told, answered, stop_of, Tells}
 use Rattle.script_run.specs.Standings.{Standing, named, goes_to}
 use Rattle.script_run.specs.Steps.{step}
 use Rattle.script_run.specs.Machines.{stand_of, arrival_of, SameAhead, HasStopped}

@@ -2,11 +2,10 @@
 use Rattle.std.specs.Prelude.{◌≡◌, ◌+◌, ◌-◌, ◌<◌, ◌^◌, List, Option, Some, None, Result, Ok, Err}
 use Rattle.std.specs.Vec.{vec_len, vec_capacity}
 use Rattle.value_form.specs.declared.scripts.Stmt.{Stmt}
-use Rattle.value_form.specs.Meaning.{Answer}
+use Rattle.script_meaning.specs.Meaning.{Answer, answers_of}
 use Rattle.script_run.specs.declared.halts.Halt.{Halt}
 use Rattle.script_run.specs.declared.halts.Halt.TheVariants as halt
 use Rattle.script_run.specs.declared.machines.Machine.{Machine}
-use Rattle.script_run.specs.Told.{answers_of}
 use Rattle.script_run.specs.Standings.{Standing, goes_to}
 use Rattle.script_run.specs.Steps.{Arrival, Onward, AtRead, AtWrite, AtEnd, step}
 

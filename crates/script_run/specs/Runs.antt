@@ -4,14 +4,14 @@ use Rattle.value_form.specs.declared.endings.Ending.{Ending}
 use Rattle.value_form.specs.declared.endings.Ending.TheVariants as ending
 use Rattle.value_form.specs.declared.scripts.Stmt.{Stmt}
 use Rattle.value_form.specs.Mirror.{block}
-use Rattle.value_form.specs.Meaning.{Answer, talk}
+use Rattle.script_meaning.specs.Meaning.{Answer, talk, answers_of}
 use Rattle.value_form.specs.Ranges.{IsScript}
 use Rattle.script_run.specs.declared.halts.Halt.{Halt}
 use Rattle.script_run.specs.declared.halts.Halt.TheVariants as halt
 use Rattle.script_run.specs.declared.machines.Machine.{Machine}
 use Rattle.script_run.specs.declared.nexts.Next.{Next}
 use Rattle.script_run.specs.declared.nexts.Next.TheVariants as next
-use Rattle.script_run.specs.Told.{Told, answers_of}
+use Rattle.script_run.specs.Told.{Told}
 use Rattle.script_run.specs.Standings.{named, goes_to}
 use Rattle.script_run.specs.Machines.{stand_of, HasStopped}
 

@@ -6,9 +6,9 @@ use Rattle.value_form.specs.declared.transcripts.Line.{Line}
 use Rattle.value_form.specs.declared.transcripts.Line.TheVariants as line
 use Rattle.value_form.specs.declared.values.Value.{Value}
 use Rattle.value_form.specs.declared.values.Value.TheVariants as v
-use Rattle.value_form.specs.Names.{Names, with_name}
+use Rattle.script_meaning.specs.Names.{Names, with_name}
 use Rattle.value_form.specs.Mirror.{Block, block}
-use Rattle.value_form.specs.Meaning.{State, Came, Outcome, Goes, Stops, Answer, finished, all_done, turns, by_answers}
+use Rattle.script_meaning.specs.Meaning.{State, Came, Outcome, Goes, Stops, Answer, finished, all_done, turns, by_answers}
 use Rattle.script_run.specs.declared.frames.Part.{Part}
 use Rattle.script_run.specs.declared.frames.Part.TheVariants as part
 use Rattle.script_run.specs.declared.frames.Frame.{Frame}

@@ -9,10 +9,10 @@ use Rattle.value_form.specs.declared.scripts.Stmt.{Stmt, out-Stmt}
 use Rattle.value_form.specs.declared.scripts.Stmt.TheOpen.{Stmt-F}
 use Rattle.value_form.specs.declared.transcripts.Line.TheVariants as line
 use Rattle.value_form.specs.declared.values.Value.{Value}
-use Rattle.value_form.specs.Names.{with_name}
+use Rattle.script_meaning.specs.Names.{with_name}
 use Rattle.value_form.specs.Mirror.{term, spot}
 use Rattle.value_form.specs.MirrorLaws.{shape}
-use Rattle.value_form.specs.Meaning.{value, object_at, condition, count, line_of}
+use Rattle.script_meaning.specs.Meaning.{value, object_at, condition, count, line_of}
 use Rattle.script_run.specs.declared.frames.Part.{Part}
 use Rattle.script_run.specs.declared.frames.Part.TheVariants as part
 use Rattle.script_run.specs.declared.frames.Frame.{Frame}

@@ -7,20 +7,12 @@ use Rattle.value_form.specs.contracts.values.Value as value
 use Rattle.value_form.specs.declared.endings.Ending.TheVariants as ending
 use Rattle.value_form.specs.declared.scripts.Stmt.{Stmt}
 use Rattle.value_form.specs.declared.transcripts.Line.{Line}
-use Rattle.value_form.specs.declared.transcripts.Line.TheVariants as line
 use Rattle.value_form.specs.declared.values.Value.{Value}
 use Rattle.value_form.specs.Mirror.{block}
-use Rattle.value_form.specs.Meaning.{ToRead, ToWrite, Stop, Asks, Over, Answer, Got, Stored, talk}
+use Rattle.script_meaning.specs.Meaning.{ToRead, ToWrite, Stop, Asks, Over, Answer, Got, Stored, talk}
 use Rattle.script_run.specs.contracts.nexts.Next as said
 use Rattle.script_run.specs.declared.nexts.Next.{Next}
 use Rattle.script_run.specs.declared.nexts.Next.TheVariants as next
-
--- the answers that a transcript shows
-abbrev pub answers_of : List Line → List Answer
-answers_of [] = []
-answers_of (line.Read o a ∷ ls) = Got a ∷ answers_of ls
-answers_of (line.Wrote o a ∷ ls) = Stored ∷ answers_of ls
-answers_of (line.Print a ∷ ls) = answers_of ls
 
 -- a run, as its callers see it
 pub record Told : Type 0 where

@@ -2,8 +2,9 @@ ghost use Rattle.std.specs.Prelude.{◌≡◌, ◌<◌, ◌+◌, ◌-◌, ◌∷
 
 use crate::frames::{Frame, Part};
 use crate::paths::Path;
+use script_meaning::Names;
 use std::alloc::AllocError;
-use value_form::{Line, Names};
+use value_form::Line;
 
 /// A script at work: where it stands, its names, how many more statements may begin, and its
 /// transcript.

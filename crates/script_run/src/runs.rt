@@ -1,7 +1,7 @@
 ghost use Rattle.std.specs.Prelude.{◌≡◌, ◌≢◌, Some, None, IfOk, OnOk, OnErr};
 ghost use Rattle.value_form.specs.declared.objects.ObjectId.{ObjectId};
 ghost use Rattle.value_form.specs.declared.values.Value.{Value};
-ghost use Rattle.value_form.specs.Meaning.{Got, Stored};
+ghost use Rattle.script_meaning.specs.Meaning.{Got, Stored};
 ghost use Rattle.value_form.specs.Ranges.{IsScript};
 ghost use Rattle.script_run.specs.Told.{begun, answered, IsRead, IsWrite, Tells};
 ghost use Rattle.script_run.specs.Standings.{last_value, named};
@@ -13,10 +13,11 @@ use crate::machines::Machine;
 use crate::nexts::Next;
 use crate::paths::Path;
 use crate::steps::go;
+use script_meaning::Names;
 use std::alloc::{AllocError, Global};
 use std::marker::Model;
 use std::mem;
-use value_form::{Bytes, Ending, Line, Names, Script, Value};
+use value_form::{Bytes, Ending, Line, Script, Value};
 
 /// How many statements a script may begin.
 const BUDGET: u32 = 10_000;

@@ -4,7 +4,7 @@ ghost use Rattle.value_form.specs.declared.scripts.Stmt.TheOpen.{Stmt-F};
 ghost use Rattle.value_form.specs.Mirror.{term, spot, plain};
 ghost use Rattle.value_form.specs.MirrorLaws.{shape};
 ghost use Rattle.value_form.specs.Ranges.{IsTerm, IsSpot, IsStep, IsScript};
-ghost use Rattle.value_form.specs.Meaning as meaning;
+ghost use Rattle.script_meaning.specs.Meaning as meaning;
 ghost use Rattle.script_run.specs.Standings.{inner};
 ghost use Rattle.script_run.specs.Steps as spec;
 ghost use Rattle.script_run.specs.Machines.{stand_of, counted, MayPass, ArrivesAt, Arrives, GoesOn};
@@ -12,56 +12,9 @@ ghost use Rattle.script_run.specs.Machines.{stand_of, counted, MayPass, ArrivesA
 use crate::frames::{Frame, Part};
 use crate::halts::Halt;
 use crate::machines::Machine;
+use script_meaning::{condition, count, evaluate, line_of, object_at};
 use std::alloc::{AllocError, Global};
-use value_form::{
-    Bytes, Ending, Expr, FailKind, Line, Names, Place, Stmt, condition_of, count_of, evaluate,
-    object_at,
-};
-
-fn line_of(stmt: &Stmt) -> u16
-    ensures { result ≡ meaning.line_of (shape (out-Stmt stmt.now)) }
-{
-    match stmt {
-        Stmt::Let(line, _, _) => *line,
-        Stmt::Read(line, _, _) => *line,
-        Stmt::Write(line, _, _) => *line,
-        Stmt::Print(line, _) => *line,
-        Stmt::If(line, _, _, _) => *line,
-        Stmt::IfElse(line, _, _, _, _, _) => *line,
-        Stmt::Repeat(line, _, _, _) => *line,
-        Stmt::Withdraw(line) => *line,
-    }
-}
-
-// Whether a condition holds.
-fn condition(
-    alloc: Global,
-    names: &Names,
-    expression: &Expr,
-) -> Result<Result<bool, FailKind>, AllocError>
-    requires { IsTerm (term expression.now) }
-    ensures { IfOk result (λ r. r ≡ meaning.condition names.now (term expression.now)) }
-{
-    match evaluate(alloc, names, expression)? {
-        Ok(value) => Ok(condition_of(&value)),
-        Err(kind) => Ok(Err(kind)),
-    }
-}
-
-// How often a part is repeated.
-fn count(
-    alloc: Global,
-    names: &Names,
-    expression: &Expr,
-) -> Result<Result<u32, FailKind>, AllocError>
-    requires { IsTerm (term expression.now) }
-    ensures { IfOk result (λ r. r ≡ meaning.count names.now (term expression.now)) }
-{
-    match evaluate(alloc, names, expression)? {
-        Ok(value) => Ok(count_of(&value)),
-        Err(kind) => Ok(Err(kind)),
-    }
-}
+use value_form::{Bytes, Ending, Expr, FailKind, Line, Place, Stmt};
 
 fn set_name(
     alloc: Global,

@@ -1,15 +1,11 @@
 -- What answers make of a tree of questions.
-use Rattle.std.proofs.Common.{◌≡◌, List, [], ◌∷◌, ◌++◌, Some, None, refl, sym, ap, ◌∙◌, subst}
-use Rattle.std.specs.Prelude.{Option}
+use Rattle.std.proofs.Common.{◌≡◌, List, [], ◌∷◌, ◌++◌, Some, None, refl, ap, ◌∙◌, subst}
 use Rattle.std.specs.FinMap as finite
-use Rattle.value_form.specs.declared.objects.ObjectId.{ObjectId}
-use Rattle.value_form.specs.declared.values.Value.{Value}
-use Rattle.value_form.specs.declared.endings.Ending.{Ending}
 use Rattle.value_form.specs.declared.transcripts.Line.{Line}
 use Rattle.value_form.specs.declared.transcripts.Line.TheVariants as line
 use Rattle.value_form.specs.Objects.{Objects, value_at}
-use Rattle.value_form.specs.Meaning.{Request, ToRead, ToWrite, Stop, Asks, Over, Answer, Got, Stored}
-use Rattle.serial_model.specs.Questions.{Tree, Ends, Says, Reads, Writes, Talked, line_before, waits, talked, told, after, stop, answers_of, request_of, Agrees, IsFrontOf}
+use Rattle.script_meaning.specs.Meaning.{Request, ToRead, ToWrite, Asks, Answer, Got, Stored, answers_of}
+use Rattle.serial_model.specs.Questions.{Tree, Ends, Says, Reads, Writes, Talked, line_before, waits, talked, told, stop, request_of, IsFrontOf}
 
 -- where a talk stops
 pub talked-stop : (t : Tree) (ans : List Answer) → (talked t ans).stop ≡ stop t ans

@@ -8,11 +8,11 @@ use Rattle.value_form.specs.declared.fail_kinds.FailKind.{FailKind}
 use Rattle.value_form.specs.declared.endings.Ending.TheVariants as ending
 use Rattle.value_form.specs.declared.transcripts.Line.{Line}
 use Rattle.value_form.specs.declared.transcripts.Line.TheVariants as line
-use Rattle.value_form.specs.Names.{Names, with_name}
+use Rattle.script_meaning.specs.Names.{Names, with_name}
 use Rattle.value_form.specs.Objects.{Objects, value_at}
-use Rattle.value_form.specs.Mirror.{Term, Step, Let, Read, Write, Print, If, IfElse, Repeat, Withdraw, Block, End, Then}
-use Rattle.value_form.specs.Meaning.{value, object_at, condition, count, line_of, Request, ToRead, ToWrite, Stop, Asks, Over, Answers, State, Came, Outcome, Goes, Stops, stopped, then_do, counted, valued, read_of, write_of, turns, begun, all_done, finished, carried_out, over_objects, by_answers, Answer, Got, Stored}
-use Rattle.serial_model.specs.Questions.{Tree, Ends, Says, Reads, Writes, Onward, asked_if_room, asked_with, asked_turns, asked, all_asked, denote, read_on, write_on, walk, Talked, line_before, waits, talked, told, left_by}
+use Rattle.value_form.specs.Mirror.{Step, Let, Read, Write, Print, If, IfElse, Repeat, Withdraw, Block, End, Then}
+use Rattle.script_meaning.specs.Meaning.{value, object_at, condition, count, line_of, ToRead, ToWrite, Stop, Asks, Over, Answers, State, Came, Outcome, Goes, Stops, then_do, counted, valued, read_of, write_of, turns, begun, all_done, finished, carried_out, over_objects, by_answers, Answer, Got, Stored}
+use Rattle.serial_model.specs.Questions.{Tree, Ends, Says, Reads, Writes, Onward, asked_if_room, asked_with, asked_turns, asked, all_asked, denote, read_on, write_on, walk, Talked, line_before, talked, told, left_by}
 
 module _ {W : Type 0} (A : Answers W) where
   -- what comes after an outcome

@@ -2,7 +2,7 @@
 use Rattle.std.specs.Prelude.{Option, Some, None}
 use Rattle.value_form.specs.declared.endings.Ending.{Ending}
 use Rattle.value_form.specs.Objects.{Objects}
-use Rattle.value_form.specs.Meaning.{State, Came, Outcome, Goes, Stops, Over}
+use Rattle.script_meaning.specs.Meaning.{State, Came, Outcome, Goes, Stops, Over}
 use Rattle.serial_model.specs.declared.works.Work.{Work}
 use Rattle.serial_model.specs.declared.works.Performed.{Performed}
 

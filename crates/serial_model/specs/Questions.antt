@@ -9,10 +9,10 @@ use Rattle.value_form.specs.declared.endings.Ending.{Ending}
 use Rattle.value_form.specs.declared.endings.Ending.TheVariants as ending
 use Rattle.value_form.specs.declared.transcripts.Line.{Line}
 use Rattle.value_form.specs.declared.transcripts.Line.TheVariants as line
-use Rattle.value_form.specs.Names.{Names, with_name}
+use Rattle.script_meaning.specs.Names.{Names, with_name}
 use Rattle.value_form.specs.Objects.{Objects, value_at}
-use Rattle.value_form.specs.Mirror.{Term, Step, Let, Read, Write, Print, If, IfElse, Repeat, Withdraw, Block, End, Then}
-use Rattle.value_form.specs.Meaning.{value, object_at, condition, count, line_of, Request, ToRead, ToWrite, Stop, Asks, Over, Answers, Came, Answer, Got, Stored}
+use Rattle.value_form.specs.Mirror.{Step, Let, Read, Write, Print, If, IfElse, Repeat, Withdraw, Block, End, Then}
+use Rattle.script_meaning.specs.Meaning.{value, object_at, condition, count, line_of, Request, ToRead, ToWrite, Stop, Asks, Over, Answers, Came, Answer, Got, Stored}
 
 -- it ends, prints, reads and goes on with the answer, or writes and goes on
 pub data Tree : Type 0 where
@@ -134,13 +134,6 @@ abbrev pub stop : Tree → List Answer → Stop
 stop t ans = first_stop (after t ans)
 
 -- ---- lines and answers
-
--- the answers that a transcript shows
-abbrev pub answers_of : List Line → List Answer
-answers_of [] = []
-answers_of (line.Print a ∷ lines) = answers_of lines
-answers_of (line.Read o a ∷ lines) = Got a ∷ answers_of lines
-answers_of (line.Wrote o a ∷ lines) = Stored ∷ answers_of lines
 
 -- the request that a line answers
 abbrev pub request_of : Line → Option Request

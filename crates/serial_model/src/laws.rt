@@ -2,9 +2,9 @@ ghost use Rattle.std.specs.Prelude.{◌≡◌, [], ◌∷◌, ◌++◌, List, So
 ghost use Rattle.value_form.specs.declared.transcripts.Line.{Line};
 ghost use Rattle.value_form.specs.Objects.{Objects};
 ghost use Rattle.value_form.specs.Mirror.{Block};
-ghost use Rattle.value_form.specs.Meaning as meaning;
-ghost use Rattle.value_form.specs.Meaning.{Request, Asks, Answer, Answers};
-ghost use Rattle.serial_model.specs.Questions.{Tree, denote, walk, told, talked, left_by, stop, answers_of, request_of, IsFrontOf, IsTalkOf};
+ghost use Rattle.script_meaning.specs.Meaning as meaning;
+ghost use Rattle.script_meaning.specs.Meaning.{Request, Asks, Answer, Answers, answers_of};
+ghost use Rattle.serial_model.specs.Questions.{Tree, denote, walk, told, talked, left_by, stop, request_of, IsFrontOf, IsTalkOf};
 
 /// A script alone, and a script with a list of answers, are what its tree of questions says.
 pub fn law_of_questions()

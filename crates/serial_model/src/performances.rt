@@ -1,64 +1,17 @@
 ghost use Rattle.std.specs.Prelude.{◌≡◌, IfOk};
-ghost use Rattle.value_form.specs.Meaning as meaning;
+ghost use Rattle.script_meaning.specs.Meaning as meaning;
 ghost use Rattle.value_form.specs.Mirror.{term, spot, plain, block, Let, Read, Write, Print, If, IfElse, Repeat};
 ghost use Rattle.value_form.specs.Ranges.{IsTerm, IsSpot, IsStep, IsBlock, IsScript};
 ghost use Rattle.serial_model.specs.Alone.{state_of, came_to, came_of};
 
 use crate::object_maps::ObjectMap;
 use crate::works::{Performed, Work};
+use script_meaning::{Names, condition, count, evaluate, line_of, object_at};
 use std::alloc::{AllocError, Global};
-use value_form::{
-    Bytes, Ending, Expr, FailKind, Items, Line, Names, Place, Script, Stmt, condition_of, count_of,
-    evaluate, object_at,
-};
+use value_form::{Bytes, Ending, Expr, FailKind, Items, Line, Place, Script, Stmt};
 
 /// How many statements a script may begin.
 const BUDGET: u32 = 10_000;
-
-fn line_of(stmt: &Stmt) -> u16
-    ensures { result ≡ meaning.line_of (plain stmt.now) }
-{
-    match stmt {
-        Stmt::Let(line, _, _) => *line,
-        Stmt::Read(line, _, _) => *line,
-        Stmt::Write(line, _, _) => *line,
-        Stmt::Print(line, _) => *line,
-        Stmt::If(line, _, _, _) => *line,
-        Stmt::IfElse(line, _, _, _, _, _) => *line,
-        Stmt::Repeat(line, _, _, _) => *line,
-        Stmt::Withdraw(line) => *line,
-    }
-}
-
-// Whether a condition holds.
-fn condition(
-    alloc: Global,
-    names: &Names,
-    expression: &Expr,
-) -> Result<Result<bool, FailKind>, AllocError>
-    requires { IsTerm (term expression.now) }
-    ensures { IfOk result (λ r. r ≡ meaning.condition names.now (term expression.now)) }
-{
-    match evaluate(alloc, names, expression)? {
-        Ok(value) => Ok(condition_of(&value)),
-        Err(kind) => Ok(Err(kind)),
-    }
-}
-
-// How often a part is repeated.
-fn count(
-    alloc: Global,
-    names: &Names,
-    expression: &Expr,
-) -> Result<Result<u32, FailKind>, AllocError>
-    requires { IsTerm (term expression.now) }
-    ensures { IfOk result (λ r. r ≡ meaning.count names.now (term expression.now)) }
-{
-    match evaluate(alloc, names, expression)? {
-        Ok(value) => Ok(count_of(&value)),
-        Err(kind) => Ok(Err(kind)),
-    }
-}
 
 fn set_name(
     alloc: Global,

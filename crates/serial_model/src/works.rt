@@ -1,5 +1,6 @@
 use crate::object_maps::ObjectMap;
-use value_form::{Ending, Items, Line, Names};
+use script_meaning::Names;
+use value_form::{Ending, Items, Line};
 
 /// A script at work: its names, how many more statements may begin, its transcript so far and the
 /// objects.

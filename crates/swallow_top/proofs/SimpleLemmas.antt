@@ -6,7 +6,7 @@ use Rattle.value_form.specs.declared.scripts.Stmt.{Stmt}
 use Rattle.value_form.specs.Mirror.{Term, Number, Text, Nothing, Name, Before, Between, Applied, Given, Spot, Fixed, At, Step, Let, Read, Write, Print, If, IfElse, Repeat, Withdraw, Block, End, Then, plain, block}
 use Rattle.value_form.specs.Objects.{Objects}
 use Rattle.value_form.specs.Ranges.{IsTerm, IsSpot, IsStep, IsBlock}
-use Rattle.value_form.specs.Meaning.{State, Outcome, Goes, Stops, Over, then_do, counted, line_of, begun, all_done, finished, over_objects, perform}
+use Rattle.script_meaning.specs.Meaning.{State, Outcome, Goes, Stops, Over, then_do, counted, line_of, begun, all_done, finished, over_objects, perform}
 use Rattle.swallow_top.specs.Simple.{IsSimpleTerm, IsSimpleSpot, IsSimpleStep, IsSimpleBlock, IsSimpleStmt, IsSimpleScript}
 
 term_in_range : (x : Term) → IsSimpleTerm x → IsTerm x

@@ -8,7 +8,7 @@ use Rattle.value_form.specs.declared.values.Value.{Value}
 use Rattle.value_form.specs.declared.values.Value.TheVariants.{Nothing, Number, Text}
 use Rattle.value_form.specs.declared.transcripts.Line.{Line}
 use Rattle.value_form.specs.declared.transcripts.Line.TheVariants as line
-use Rattle.value_form.specs.Meaning.{perform}
+use Rattle.script_meaning.specs.Meaning.{perform}
 use Rattle.value_form.specs.Mirror.{block}
 use Rattle.value_form.specs.Objects.{Objects}
 use Rattle.value_form.specs.ValueText.{value_text}

@@ -4,7 +4,7 @@ use Rattle.std.specs.Borrow.{Bor}
 use Rattle.std.specs.FinMap as finite
 use Rattle.value_form.specs.declared.endings.Ending.TheVariants.{Finished}
 use Rattle.value_form.specs.Mirror.{block}
-use Rattle.value_form.specs.Meaning.{Over, perform}
+use Rattle.script_meaning.specs.Meaning.{Over, perform}
 use Rattle.swallow_top.specs.declared.plans.Plan.{Plan}
 use Rattle.swallow_top.specs.Plans.{plan_at}
 use Rattle.swallow_top.specs.Reports.{report_text}

@@ -1,10 +1,7 @@
-pub mod Meaning
 pub mod Mirror
 pub mod MirrorLaws
-pub mod Names
 pub mod ObjectBytes
 pub mod Objects
-pub mod Operations
 pub mod Ranges
 pub mod TextForm
 pub mod ValueBytes

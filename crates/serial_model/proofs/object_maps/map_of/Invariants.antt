@@ -1,6 +1,5 @@
 use Rattle.std.proofs.Common.{◌≡◌, length}
 use Rattle.std.specs.FinMap as finite
-use Rattle.value_form.specs.Objects.{object_cmp}
 use Rattle.serial_model.proofs.MapLemmas.{onto}
 use Rattle.serial_model.proofs.object_maps.map_of.Given as goal
 

@@ -1,7 +1,7 @@
 use Rattle.std.proofs.Common.{◌≡◌, ◌-◌, ◌+◌, ◌*◌, drop}
 use Rattle.value_form.specs.Mirror.{block, plain}
 use Rattle.value_form.specs.Ranges.{IsBlock}
-use Rattle.value_form.specs.Meaning.{all_done, turns, over_objects}
+use Rattle.script_meaning.specs.Meaning.{all_done, turns, over_objects}
 use Rattle.serial_model.proofs.StatementLemmas.{size, size_step}
 use Rattle.serial_model.specs.Alone.{state_of}
 use Rattle.serial_model.proofs.performances.+statements.Given as goal

@@ -2,7 +2,7 @@ use Rattle.std.proofs.Common.{rules, ◌≡◌, Some, ap, ◌∙◌, subst, leng
 use Rattle.std.specs.Prelude.{IfSome}
 use Rattle.std.specs.FinMap as finite
 use Rattle.value_form.specs.Mirror.{block}
-use Rattle.value_form.specs.Meaning.{perform}
+use Rattle.script_meaning.specs.Meaning.{perform}
 use Rattle.swallow_top.specs.Plans.{plan_at}
 use Rattle.swallow_top.specs.Reports.{text_of}
 use Rattle.swallow_top.specs.Simple.{IsSimpleBlock, IsSimpleScript}

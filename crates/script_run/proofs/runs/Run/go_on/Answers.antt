@@ -1,5 +1,5 @@
+use Rattle.script_meaning.specs.Meaning.{answers_of}
 use Rattle.std.proofs.Common.{ap, ◌∙◌}
-use Rattle.script_run.specs.Told.{answers_of}
 use Rattle.script_run.proofs.RunLemmas.{nothing_said, went_on_as, stopped_as, stopped_tells}
 use Rattle.script_run.proofs.runs.Run.go_on.Goals as goal
 

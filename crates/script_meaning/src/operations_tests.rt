@@ -1,7 +1,7 @@
-use super::*;
 use crate::operations::{call_of, infix_of, prefix_of};
 use std::alloc::Global;
 use std::test::*;
+use value_form::{Bytes, Call, FailKind, Infix, Prefix, Value};
 
 fn text(alloc: Global, bytes: &[u8]) -> Result<Value, Fail> {
     Ok(Value::Text(Bytes::of(bytes.to_vec(alloc)?)))

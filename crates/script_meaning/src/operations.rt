@@ -1,16 +1,12 @@
 ghost use Rattle.std.specs.Prelude.{◌≡◌, IfOk};
-ghost use Rattle.value_form.specs.Operations as spec;
+ghost use Rattle.script_meaning.specs.Operations as spec;
 
-use crate::expressions::{Call, Infix, Prefix};
-use crate::fail_kinds::FailKind;
 use crate::numbers::{
     both, difference, either, negative, opposite, product, quotient, remainder, sum, truth,
 };
-use crate::objects::ObjectId;
-use crate::texts::Bytes;
-use crate::values::Value;
 use std::alloc::{AllocError, Global};
 use std::cmp::Ordering;
+use value_form::{Bytes, Call, FailKind, Infix, ObjectId, Prefix, Value};
 
 /// The most bytes of a text.
 const TEXT_BYTES: usize = 1_000;

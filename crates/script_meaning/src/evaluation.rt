@@ -1,16 +1,12 @@
 ghost use Rattle.std.specs.Prelude.{◌≡◌, IfOk};
-ghost use Rattle.value_form.specs.Meaning as meaning;
+ghost use Rattle.script_meaning.specs.Meaning as meaning;
 ghost use Rattle.value_form.specs.Mirror.{term, spot};
 ghost use Rattle.value_form.specs.Ranges.{IsTerm, IsSpot};
 
-use crate::expressions::Expr;
-use crate::fail_kinds::FailKind;
 use crate::names::Names;
-use crate::objects::ObjectId;
 use crate::operations::{call_of, given_of, infix_of, object_of, prefix_of};
-use crate::scripts::Place;
-use crate::values::Value;
 use std::alloc::{AllocError, Global};
+use value_form::{Expr, FailKind, ObjectId, Place, Value};
 
 /// What an expression gives, from left to right, or the first failure.
 pub fn evaluate(

@@ -1,7 +1,7 @@
 use Rattle.std.proofs.Common.{sym, ap, ◌∙◌, arith}
-use Rattle.value_form.specs.Names.{with_name}
-use Rattle.value_form.proofs.NameLemmas.{within_at, set_at, new_at}
-use Rattle.value_form.proofs.names.Names.set.Goals as goal
+use Rattle.script_meaning.specs.Names.{with_name}
+use Rattle.script_meaning.proofs.NameLemmas.{within_at, set_at, new_at}
+use Rattle.script_meaning.proofs.names.Names.set.Goals as goal
 
 pub index_mut-requires : goal.index_mut-requires
 index_mut-requires c =

@@ -4,7 +4,7 @@ use Rattle.std.specs.Prelude.{Option, slice_set}
 use Rattle.std.specs.Cmp.Lexicographic.{pointwise}
 use Rattle.std.specs.List.{position_from}
 use Rattle.value_form.specs.declared.values.Value.{Value}
-use Rattle.value_form.specs.Names.{Names, with_name}
+use Rattle.script_meaning.specs.Names.{Names, with_name}
 
 abbrev pub place : Names → List ℕ → ℕ → Option ℕ
 place names name from = position_from (λ e. pointwise ◌==◌ e.0 name) from names

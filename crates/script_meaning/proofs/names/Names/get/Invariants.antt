@@ -1,6 +1,6 @@
 use Rattle.std.proofs.Common.{◌≡◌, drop}
-use Rattle.value_form.specs.Names.{name_value}
-use Rattle.value_form.proofs.names.Names.get.Given as goal
+use Rattle.script_meaning.specs.Names.{name_value}
+use Rattle.script_meaning.proofs.names.Names.get.Given as goal
 
 -- the name's value among what is left is its value
 abbrev pub invariant-loop-known : goal.invariant-loop-known

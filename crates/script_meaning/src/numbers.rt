@@ -1,9 +1,7 @@
 ghost use Rattle.std.specs.Prelude.{◌≡◌};
-ghost use Rattle.value_form.specs.Operations as spec;
+ghost use Rattle.script_meaning.specs.Operations as spec;
 
-use crate::expressions::Prefix;
-use crate::fail_kinds::FailKind;
-use crate::values::Value;
+use value_form::{FailKind, Prefix, Value};
 
 // The number that an operator takes.
 fn number_of(value: &Value) -> Result<i64, FailKind>

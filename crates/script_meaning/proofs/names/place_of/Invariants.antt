@@ -1,7 +1,7 @@
 use Rattle.std.proofs.Common.{◌≡◌, ◌==◌, drop}
 use Rattle.std.specs.Cmp.Lexicographic.{pointwise}
 use Rattle.std.specs.List.{position_from}
-use Rattle.value_form.proofs.names.place_of.Given as goal
+use Rattle.script_meaning.proofs.names.place_of.Given as goal
 
 -- the place in what is left is the place in the whole
 abbrev pub invariant-loop-known : goal.invariant-loop-known

@@ -1,13 +1,12 @@
 ghost use Rattle.std.specs.Prelude.{◌≡◌, ◌==◌, [], OnOk, OnErr, IfOk, MatchOption};
 ghost use Rattle.std.specs.Cmp.Lexicographic.{pointwise};
 ghost use Rattle.std.specs.List.{position_from};
-ghost use Rattle.value_form.specs.Names.{name_value, with_name};
+ghost use Rattle.script_meaning.specs.Names.{name_value, with_name};
 ghost use Rattle.value_form.specs.declared.values.Value.TheVariants.{Nothing};
 
-use crate::texts::Bytes;
-use crate::values::Value;
 use std::alloc::{AllocError, Global};
 use std::marker::Model;
+use value_form::{Bytes, Value};
 
 /// The names of a script that were set. Contracts see each with its value, in the order in which
 /// they were first set.
@@ -17,7 +16,7 @@ pub struct Names {
 }
 
 impl Model for Names {
-    ghost use Rattle.value_form.specs.Names.{Names as SetNames};
+    ghost use Rattle.script_meaning.specs.Names.{Names as SetNames};
 
     ghost Value = { SetNames };
 

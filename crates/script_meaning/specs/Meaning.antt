@@ -10,10 +10,10 @@ use Rattle.value_form.specs.declared.endings.Ending.{Ending}
 use Rattle.value_form.specs.declared.endings.Ending.TheVariants as ending
 use Rattle.value_form.specs.declared.transcripts.Line.{Line}
 use Rattle.value_form.specs.declared.transcripts.Line.TheVariants as line
-use Rattle.value_form.specs.Names.{Names, name_value, with_name}
+use Rattle.script_meaning.specs.Names.{Names, name_value, with_name}
 use Rattle.value_form.specs.Objects.{Objects, value_at}
 use Rattle.value_form.specs.Mirror.{Term, Number, Text, Nothing, Name, Before, Between, Applied, Given, Spot, Fixed, At, Step, Let, Read, Write, Print, If, IfElse, Repeat, Withdraw, Block, End, Then}
-use Rattle.value_form.specs.Operations.{◌>>=◌, infix_value, prefix_value, call_value, given_value, object_in, count_in, condition_in}
+use Rattle.script_meaning.specs.Operations.{◌>>=◌, infix_value, prefix_value, call_value, given_value, object_in, count_in, condition_in}
 
 -- ---- expressions, from left to right
 
@@ -176,3 +176,10 @@ by_answers = record { read = got_from; write = stored_from }
 -- what a script does with these answers
 abbrev pub talk : Block → List Answer → Came (List Answer)
 talk = carried_out by_answers
+
+-- the answers that a transcript shows
+abbrev pub answers_of : List Line → List Answer
+answers_of [] = []
+answers_of (line.Read o a ∷ ls) = Got a ∷ answers_of ls
+answers_of (line.Wrote o a ∷ ls) = Stored ∷ answers_of ls
+answers_of (line.Print a ∷ ls) = answers_of ls
