@@ -107,7 +107,7 @@ AllFit-canonical (Given x y) h =
 
 -- ---- and an expression that tokens of scripts spell is in its limits
 
-AreTokens-append : (ts us : List Token) → AreTokens (ts ++ us) → AreTokens ts × AreTokens us
+pub AreTokens-append : (ts us : List Token) → AreTokens (ts ++ us) → AreTokens ts × AreTokens us
 AreTokens-append [] us a = (tt, a)
 AreTokens-append (token ∷ ts) us (is, more) = let k = AreTokens-append ts us more in ((is, k.0), k.1)
 

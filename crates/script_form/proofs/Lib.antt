@@ -4,4 +4,5 @@ pub mod LineReadLemmas
 pub mod ParseLemmas
 pub mod PrintLemmas
 pub mod ProgressLemmas
+pub mod ReadLimitLemmas
 pub mod RowLemmas

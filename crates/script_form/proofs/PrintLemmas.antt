@@ -132,37 +132,37 @@ blanks_then : (k greatest n : ℕ) (ls : List (List ℕ)) (xs : List Numbered) �
 blanks_then zero greatest n ls xs h = subst (λ z. LinesRows greatest z ls xs) (let e : n + 0 ≡ n = omega arith in e) h
 blanks_then (suc k) greatest n ls xs h = inl (refl, blanks_then k greatest (n + 1) ls xs (subst (λ z. LinesRows greatest z ls xs) (let e : n + suc k ≡ n + 1 + k = omega arith in e) h))
 
-rows_are_read : (next : ℕ) (xs : List Numbered) → Rising next xs → RowsInLimits xs → LinesRows 16 next (lines (rows_text next xs)) xs
-rows_are_read next [] rising limits = refl
-rows_are_read next (x ∷ xs) rising limits =
-    let tokens = row_text-tokens x.row limits.0 in
+rows_are_read : (greatest next : ℕ) (xs : List Numbered) → Rising next xs → RowsInLimits greatest xs → LinesRows greatest next (lines (rows_text next xs)) xs
+rows_are_read greatest next [] rising limits = refl
+rows_are_read greatest next (x ∷ xs) rising (limits, up_to, others) =
+    let tokens = row_text-tokens x.row limits in
     let here : next + (x.line - next) ≡ x.line = (let k = rising.0 in omega arith) in
-    let more = rows_are_read (x.line + 1) xs rising.1 limits.1 in
-    subst (λ z. LinesRows 16 next z (x ∷ xs)) (sym (text_lines next x.line (row_text x.row) (rows_text (x.line + 1) xs) (shown_tokens (row_text x.row) (row_tokens x.row) tokens)))
-    (blanks_then (x.line - next) 16 next (row_text x.row ∷ lines (rows_text (x.line + 1) xs)) (x ∷ xs)
-    (subst (λ z. LinesRows 16 z (row_text x.row ∷ lines (rows_text (x.line + 1) xs)) (x ∷ xs)) (sym here)
-    (inr (x.row, xs, (row_tokens x.row, (row_is_no_blank x.row, tokens), row_tokens-in_range x.row limits.0, row_tokens-spell x.row limits.0), refl, more))))
+    let more = rows_are_read greatest (x.line + 1) xs rising.1 others in
+    subst (λ z. LinesRows greatest next z (x ∷ xs)) (sym (text_lines next x.line (row_text x.row) (rows_text (x.line + 1) xs) (shown_tokens (row_text x.row) (row_tokens x.row) tokens)))
+    (blanks_then (x.line - next) greatest next (row_text x.row ∷ lines (rows_text (x.line + 1) xs)) (x ∷ xs)
+    (subst (λ z. LinesRows greatest z (row_text x.row ∷ lines (rows_text (x.line + 1) xs)) (x ∷ xs)) (sym here)
+    (inr (x.row, xs, (row_tokens x.row, (row_is_no_blank x.row, tokens), row_tokens-in_range greatest x.row limits up_to, row_tokens-spell x.row limits), refl, more))))
 
-lines_counted : (next : ℕ) (xs : List Numbered) → Rising next xs → RowsInLimits xs → length (lines (rows_text next xs)) + next ≡ next_line next xs
-lines_counted next [] rising limits = let e : 0 + next ≡ next = omega arith in e
-lines_counted next (x ∷ xs) rising limits =
-    let tokens = row_text-tokens x.row limits.0 in
+lines_counted : (greatest next : ℕ) (xs : List Numbered) → Rising next xs → RowsInLimits greatest xs → length (lines (rows_text next xs)) + next ≡ next_line next xs
+lines_counted greatest next [] rising limits = let e : 0 + next ≡ next = omega arith in e
+lines_counted greatest next (x ∷ xs) rising (limits, up_to, others) =
+    let tokens = row_text-tokens x.row limits in
     let rest = lines (rows_text (x.line + 1) xs) in
     let parts = ap length (text_lines next x.line (row_text x.row) (rows_text (x.line + 1) xs) (shown_tokens (row_text x.row) (row_tokens x.row) tokens)) in
     let size = simp (length-append, length-replicate) at parts in
-    let later = lines_counted (x.line + 1) xs rising.1 limits.1 in
+    let later = lines_counted greatest (x.line + 1) xs rising.1 others in
     let k = rising.0 in
     omega (arith, size, later)
 
 -- the lines of the canonical text are the script
-pub printed_is_script : (script : Block) → IsPrintable script → IsScriptLines 16 (lines (script_text script)) script
-printed_is_script script p = (
+pub printed_is_script : (greatest : ℕ) (script : Block) → IsPrintable greatest script → IsScriptLines greatest (lines (script_text script)) script
+printed_is_script greatest script p = (
   rows script,
-  rows_are_read 1 (rows script) p.rising p.limits,
+  rows_are_read greatest 1 (rows script) p.rising p.limits,
   refl,
   p.shallow,
   p.depth,
-  ((let count = lines_counted 1 (rows script) p.rising p.limits in let k = p.lines in omega arith), p.bytes),
+  ((let count = lines_counted greatest 1 (rows script) p.rising p.limits in let k = p.lines in omega arith), p.bytes),
 )
 
 -- ---- the lines are one script at most

@@ -1,8 +1,9 @@
-pub mod TargetLemmas
-pub mod ReadLemmas
-pub mod BlockLemmas
-pub mod PeakLemmas
 pub mod BeginLemmas
-pub mod ScriptTextLemmas
-pub mod RowTextLemmas
+pub mod BlockLemmas
 pub mod OneRow
+pub mod PeakLemmas
+pub mod ReadLemmas
+pub mod RowLimitLemmas
+pub mod RowTextLemmas
+pub mod ScriptTextLemmas
+pub mod TargetLemmas

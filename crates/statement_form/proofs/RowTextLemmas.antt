@@ -19,7 +19,7 @@ use Rattle.expression_form.proofs.TextLemmas.{text-tokens}
 use Rattle.statement_form.specs.Lines.{SpellsSpot, SpellsRow}
 use Rattle.statement_form.specs.Row.{Row}
 use Rattle.statement_form.specs.Row as r
-use Rattle.statement_form.specs.RowTexts.{spot_tokens, row_tokens, spot_text, row_text, SpotInLimits, RowInLimits}
+use Rattle.statement_form.specs.RowTexts.{spot_tokens, row_tokens, spot_text, row_text, SpotInLimits, RowInLimits, SpotUpTo, RowUpTo}
 
 -- ---- they spell it
 
@@ -131,34 +131,34 @@ row_tokens-are (r.Repeat x) h = ((tt, refl), AreTokens-fit (canonical x) (AllFit
 row_tokens-are r.Withdraw h = ((tt, refl), tt)
 
 -- an object, and what is behind it
-spot_fits : (place : Spot) (ts : List Token) → SpotInLimits place → AllFit ts → objects_fit 16 (spot_tokens place ++ ts) ≡ true
-spot_fits (Fixed object) ts ((low, high), number) more =
-    ap (λ z. ((z && nat_le object.repository 16) && true) && (nat_lt object.number (2 ^ 32) && objects_fit 16 (t.Number object.number ∷ ts))) (le-leb 1 object.repository low)
-    ∙ ap (λ z. (z && true) && (nat_lt object.number (2 ^ 32) && objects_fit 16 (t.Number object.number ∷ ts))) (le-leb object.repository 16 high)
-    ∙ ap (λ z. z && objects_fit 16 (t.Number object.number ∷ ts)) (lt-ltb object.number (2 ^ 32) number)
-    ∙ fit-cons 16 (t.Number object.number) ts refl more
-spot_fits (At n x) ts ((low, high), limits) more =
+spot_fits : (k : ℕ) (place : Spot) (ts : List Token) → SpotInLimits place → SpotUpTo k place → AllFit ts → objects_fit k (spot_tokens place ++ ts) ≡ true
+spot_fits k (Fixed object) ts ((low, high), number) up_to more =
+    ap (λ z. ((z && nat_le object.repository k) && true) && (nat_lt object.number (2 ^ 32) && objects_fit k (t.Number object.number ∷ ts))) (le-leb 1 object.repository low)
+    ∙ ap (λ z. (z && true) && (nat_lt object.number (2 ^ 32) && objects_fit k (t.Number object.number ∷ ts))) (le-leb object.repository k up_to)
+    ∙ ap (λ z. z && objects_fit k (t.Number object.number ∷ ts)) (lt-ltb object.number (2 ^ 32) number)
+    ∙ fit-cons k (t.Number object.number) ts refl more
+spot_fits k (At n x) ts ((low, high), limits) up_to more =
     let behind : AllFit ((canonical x ++ t.Sign g.CloseBracket ∷ []) ++ ts) = AllFit-append (canonical x ++ t.Sign g.CloseBracket ∷ []) ts (AllFit-append (canonical x) (t.Sign g.CloseBracket ∷ []) (AllFit-canonical x limits) ((tt, refl), refl, tt)) more in
-    ap (λ z. ((z && nat_le n 16) && true) && objects_fit 16 (t.Sign g.OpenBracket ∷ ((canonical x ++ t.Sign g.CloseBracket ∷ []) ++ ts))) (le-leb 1 n low)
-    ∙ ap (λ z. (z && true) && objects_fit 16 (t.Sign g.OpenBracket ∷ ((canonical x ++ t.Sign g.CloseBracket ∷ []) ++ ts))) (le-leb n 16 high)
-    ∙ fit-cons 16 (t.Sign g.OpenBracket) ((canonical x ++ t.Sign g.CloseBracket ∷ []) ++ ts) refl behind
+    ap (λ z. ((z && nat_le n k) && true) && objects_fit k (t.Sign g.OpenBracket ∷ ((canonical x ++ t.Sign g.CloseBracket ∷ []) ++ ts))) (le-leb 1 n low)
+    ∙ ap (λ z. (z && true) && objects_fit k (t.Sign g.OpenBracket ∷ ((canonical x ++ t.Sign g.CloseBracket ∷ []) ++ ts))) (le-leb n k up_to)
+    ∙ fit-cons k (t.Sign g.OpenBracket) ((canonical x ++ t.Sign g.CloseBracket ∷ []) ++ ts) refl behind
 
 -- a word or a name before an object
-before_spot : (token : Token) (place : Spot) (ts : List Token) → is_dot token ≡ false → objects_fit 16 (spot_tokens place ++ ts) ≡ true → objects_fit 16 (token ∷ (spot_tokens place ++ ts)) ≡ true
-before_spot token (Fixed object) ts h k = ap (λ z. (true && (not z || is_object_number (t.Number object.repository))) && objects_fit 16 (spot_tokens (Fixed object) ++ ts)) h ∙ k
-before_spot token (At n x) ts h k = ap (λ z. (true && (not z || is_object_number (t.Number n))) && objects_fit 16 (spot_tokens (At n x) ++ ts)) h ∙ k
+before_spot : (k : ℕ) (token : Token) (place : Spot) (ts : List Token) → is_dot token ≡ false → objects_fit k (spot_tokens place ++ ts) ≡ true → objects_fit k (token ∷ (spot_tokens place ++ ts)) ≡ true
+before_spot k token (Fixed object) ts h fits = ap (λ z. (true && (not z || is_object_number (t.Number object.repository))) && objects_fit k (spot_tokens (Fixed object) ++ ts)) h ∙ fits
+before_spot k token (At n x) ts h fits = ap (λ z. (true && (not z || is_object_number (t.Number n))) && objects_fit k (spot_tokens (At n x) ++ ts)) h ∙ fits
 
-row_fits : (row : Row) → RowInLimits row → objects_fit 16 (row_tokens row) ≡ true
-row_fits (r.Let name x) h = fit-all 16 (row_tokens (r.Let name x)) ((tt, refl), refl, (h.0, refl, ((tt, refl), refl, AllFit-canonical x h.1)))
-row_fits (r.Read name place) h =
-    subst (λ z. objects_fit 16 (t.Word w.Read ∷ t.Name name ∷ z) ≡ true) (append-nil (spot_tokens place)) (before_spot (t.Name name) place [] refl (spot_fits place [] h.1 tt))
-row_fits (r.Write place x) h = before_spot (t.Word w.Write) place (canonical x) refl (spot_fits place (canonical x) h.0 (AllFit-canonical x h.1))
-row_fits (r.Print x) h = fit-cons 16 (t.Word w.Print) (canonical x) refl (AllFit-canonical x h)
-row_fits (r.If x) h = fit-cons 16 (t.Word w.If) (canonical x) refl (AllFit-canonical x h)
-row_fits r.Else h = refl
-row_fits r.End h = refl
-row_fits (r.Repeat x) h = fit-cons 16 (t.Word w.Repeat) (canonical x) refl (AllFit-canonical x h)
-row_fits r.Withdraw h = refl
+row_fits : (k : ℕ) (row : Row) → RowInLimits row → RowUpTo k row → objects_fit k (row_tokens row) ≡ true
+row_fits k (r.Let name x) h up_to = fit-all k (row_tokens (r.Let name x)) ((tt, refl), refl, (h.0, refl, ((tt, refl), refl, AllFit-canonical x h.1)))
+row_fits k (r.Read name place) h up_to =
+    subst (λ z. objects_fit k (t.Word w.Read ∷ t.Name name ∷ z) ≡ true) (append-nil (spot_tokens place)) (before_spot k (t.Name name) place [] refl (spot_fits k place [] h.1 up_to tt))
+row_fits k (r.Write place x) h up_to = before_spot k (t.Word w.Write) place (canonical x) refl (spot_fits k place (canonical x) h.0 up_to (AllFit-canonical x h.1))
+row_fits k (r.Print x) h up_to = fit-cons k (t.Word w.Print) (canonical x) refl (AllFit-canonical x h)
+row_fits k (r.If x) h up_to = fit-cons k (t.Word w.If) (canonical x) refl (AllFit-canonical x h)
+row_fits k r.Else h up_to = refl
+row_fits k r.End h up_to = refl
+row_fits k (r.Repeat x) h up_to = fit-cons k (t.Word w.Repeat) (canonical x) refl (AllFit-canonical x h)
+row_fits k r.Withdraw h up_to = refl
 
-pub row_tokens-in_range : (row : Row) → RowInLimits row → in_range 16 (row_tokens row) ≡ true
-row_tokens-in_range row h = ap (λ z. z && objects_fit 16 (row_tokens row)) (limits_of (row_tokens row) (row_tokens-are row h)) ∙ row_fits row h
+pub row_tokens-in_range : (greatest : ℕ) (row : Row) → RowInLimits row → RowUpTo greatest row → in_range greatest (row_tokens row) ≡ true
+row_tokens-in_range greatest row h up_to = ap (λ z. z && objects_fit greatest (row_tokens row)) (limits_of (row_tokens row) (row_tokens-are row h)) ∙ row_fits greatest row h up_to

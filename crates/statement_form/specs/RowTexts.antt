@@ -1,5 +1,5 @@
 -- The canonical tokens and text of a row, and the text of a script.
-use Rattle.std.specs.Prelude.{◌≡◌, ℕ, ◌+◌, ◌-◌, ◌<◌, ◌^◌, List, [], ◌∷◌, ◌++◌, replicate, codes}
+use Rattle.std.specs.Prelude.{◌≡◌, ℕ, ◌+◌, ◌-◌, ◌<◌, ◌≤◌, ◌^◌, List, [], ◌∷◌, ◌++◌, replicate, codes}
 use Rattle.std.specs.Fmt.{decimal}
 use Rattle.token_form.specs.declared.tokens.Token.{Token}
 use Rattle.token_form.specs.declared.tokens.Token.TheVariants as t
@@ -86,3 +86,13 @@ RowInLimits (r.Print x) = InLimits x
 RowInLimits (r.If x) = InLimits x
 RowInLimits (r.Repeat x) = InLimits x
 RowInLimits _ = Unit {0}
+
+-- the repository of a statement's object is at most the greatest
+abbrev pub SpotUpTo : ℕ → Spot → Type 0
+SpotUpTo greatest (Fixed object) = object.repository ≤ greatest
+SpotUpTo greatest (At n x) = n ≤ greatest
+
+abbrev pub RowUpTo : ℕ → Row → Type 0
+RowUpTo greatest (r.Read name place) = SpotUpTo greatest place
+RowUpTo greatest (r.Write place x) = SpotUpTo greatest place
+RowUpTo greatest _ = Unit {0}

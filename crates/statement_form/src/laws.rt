@@ -1,20 +1,23 @@
-ghost use Rattle.std.specs.Prelude.{◌≡◌, ◌≤◌, List, true};
+ghost use Rattle.std.specs.Prelude.{◌≡◌, ◌≤◌, ℕ, List, true};
 ghost use Rattle.token_form.specs.declared.tokens.Token.{Token};
-ghost use Rattle.token_form.specs.Tokens.{IsTokens, in_range};
+ghost use Rattle.token_form.specs.Tokens.{AreTokens, IsTokens, in_range, objects_fit};
 ghost use Rattle.value_form.specs.Mirror.{Block};
 ghost use Rattle.statement_form.specs.Lines.{SpellsRow};
 ghost use Rattle.statement_form.specs.Row.{Row};
 ghost use Rattle.statement_form.specs.Rows.{row_depth, rows};
-ghost use Rattle.statement_form.specs.RowTexts.{RowInLimits, row_text, row_tokens};
+ghost use Rattle.statement_form.specs.RowTexts.{RowInLimits, RowUpTo, row_text, row_tokens};
 
 /// Tokens spell at most one row: beside one whose expressions are no deeper than 16 they spell no
-/// other. The canonical text of a row in its limits has its canonical tokens, which are in range and
-/// spell it.
+/// other. The canonical text of a row in its limits has its canonical tokens, which spell it, and are
+/// in range for each greatest repository that its object keeps to. A row that tokens of scripts spell is
+/// in its limits, and its object keeps to the greatest repository for which they are in range.
 pub fn law_of_rows()
     ensures one { (a b : Row) (tokens : List Token) → SpellsRow a tokens → SpellsRow b tokens → row_depth a ≤ 16 → a ≡ b }
     ensures spelled { (a : Row) → RowInLimits a → SpellsRow a (row_tokens a) }
     ensures text { (a : Row) → RowInLimits a → IsTokens (row_text a) (row_tokens a) }
-    ensures in_range { (a : Row) → RowInLimits a → in_range 16 (row_tokens a) ≡ true }
+    ensures in_range { (greatest : ℕ) (a : Row) → RowInLimits a → RowUpTo greatest a → in_range greatest (row_tokens a) ≡ true }
+    ensures limits { (a : Row) (tokens : List Token) → SpellsRow a tokens → AreTokens tokens → RowInLimits a }
+    ensures objects { (greatest : ℕ) (a : Row) (tokens : List Token) → SpellsRow a tokens → objects_fit greatest tokens ≡ true → RowUpTo greatest a }
 {}
 
 /// Scripts with the same rows are the same.

@@ -1,3 +1,4 @@
+use Rattle.script_form.proofs.ReadLimitLemmas.{script_is_printable}
 use Rattle.script_form.proofs.PrintLemmas.{one_script_of_lines, printed_is_script}
 use Rattle.script_form.proofs.laws.law_of_lines.Goals as goal
 
@@ -6,3 +7,6 @@ returns-clause-one c = one_script_of_lines
 
 pub returns-clause-printed : goal.returns-clause-printed
 returns-clause-printed c = printed_is_script
+
+pub returns-clause-limits : goal.returns-clause-limits
+returns-clause-limits c = script_is_printable

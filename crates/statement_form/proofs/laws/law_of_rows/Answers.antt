@@ -1,3 +1,4 @@
+use Rattle.statement_form.proofs.RowLimitLemmas.{spelled_row-in_limits, spelled_row-up_to}
 use Rattle.statement_form.proofs.OneRow.{one_row}
 use Rattle.statement_form.proofs.RowTextLemmas.{row_tokens-spell, row_text-tokens, row_tokens-in_range}
 use Rattle.statement_form.proofs.laws.law_of_rows.Goals as goal
@@ -13,3 +14,9 @@ returns-clause-text c = row_text-tokens
 
 pub returns-clause-in_range : goal.returns-clause-in_range
 returns-clause-in_range c = row_tokens-in_range
+
+pub returns-clause-limits : goal.returns-clause-limits
+returns-clause-limits c = spelled_row-in_limits
+
+pub returns-clause-objects : goal.returns-clause-objects
+returns-clause-objects c = spelled_row-up_to
