@@ -1,5 +1,7 @@
+pub mod AgreeLemmas
 pub mod AnswerLemmas
 pub mod MapLemmas
+pub mod OverlayLemmas
 pub mod QuestionLemmas
 pub mod ScriptLemmas
 pub mod StatementLemmas

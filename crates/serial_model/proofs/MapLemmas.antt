@@ -1,13 +1,10 @@
 -- A map of objects by the entries of a `BTreeMap`.
 use Rattle.std.proofs.Common.{◌≡◌, ℕ, List, [], ◌∷◌, ◌++◌, cond, sym, refl, ap, ◌∙◌, Some, T, Bool, true, false, ◌&&◌, map, subst}
 use Rattle.std.specs.Prelude.{Option}
-use Rattle.std.specs.Ordering.{nat_cmp}
-use Rattle.std.specs.Cmp.{IsTotalOrder}
 use Rattle.std.specs.BTreeMap.{is_at}
 use Rattle.std.specs.Map.{lookup}
 use Rattle.std.specs.FinMap.{empty, find, get, insert, entries, from_entries, from_sorted, is_sorted, get-from_entries, get-from_sorted, get-insert, entries-from_sorted, same_map}
-use Rattle.std.proofs.lemmas.Cmp.{nat_cmp_total, on_total, then_total, eq_by_cmp_equiv}
-use Rattle.std.proofs.lemmas.Map.Lookups.{CmpEqualImpliesEq, exact_pairs, exact_unsigned}
+use Rattle.std.proofs.lemmas.Cmp.{eq_by_cmp_equiv}
 use Rattle.value_form.specs.declared.objects.ObjectId.{ObjectId}
 use Rattle.value_form.specs.declared.values.Value.{Value}
 use Rattle.std.specs.Ordering.{is_lt}
@@ -16,16 +13,12 @@ use Rattle.std.specs.FinMap.Entries.{below_all}
 use Rattle.std.specs.List.{AllByRecursion}
 use Rattle.std.specs.List.Sorted.{IsStrictlySortedBy}
 use Rattle.value_form.specs.Objects.{object_cmp, Objects}
+use Rattle.value_form.proofs.ObjectLemmas.{object_cmp-total, object_cmp-exact}
+use Rattle.serial_model.specs.Overlays.{onto}
 
 -- what a `BTreeMap` with these entries has
 abbrev pub found_at : List (ObjectId × Value) → ObjectId → Option Value
 found_at entries object = lookup (is_at (object_cmp object)) entries
-
-object_cmp-exact : CmpEqualImpliesEq object_cmp
-object_cmp-exact a b h = ap (λ (p : ℕ × ℕ). record { repository = p.0; number = p.1 }) (exact_pairs nat_cmp nat_cmp exact_unsigned exact_unsigned (a.repository, a.number) (b.repository, b.number) h)
-
-pub object_cmp-total : IsTotalOrder object_cmp
-object_cmp-total = then_total (on_total (λ s. s.repository) nat_cmp_total) (on_total (λ s. s.number) nat_cmp_total)
 
 find-found_at : (es : List (ObjectId × Value)) (q : ObjectId) → find object_cmp q es ≡ found_at es q
 find-found_at [] q = refl
@@ -60,11 +53,6 @@ is_sorted-rising (e ∷ es) h = both _ _ (below_all-rising e.0 es h.0) (is_sorte
 
 pub rising_entries : (es listed : List (ObjectId × Value)) (m : Objects) → listed ≡ es → IsStrictlySortedBy object_cmp (map (λ e. e.0) es) → from_entries es ≡ m → listed ≡ entries m
 rising_entries es listed m same rising is = same ∙ sym (entries-entries_of es (is_sorted-rising es rising)) ∙ ap entries is
-
--- the entries put into a map from the last to the first
-abbrev pub onto : Objects → List (ObjectId × Value) → Objects
-onto m [] = m
-onto m (e ∷ es) = insert (onto m es) e.0 e.1
 
 pub onto-last : (m : Objects) (es : List (ObjectId × Value)) (e : ObjectId × Value) → onto m (es ++ e ∷ []) ≡ onto (insert m e.0 e.1) es
 onto-last m [] e = refl

@@ -153,6 +153,17 @@ Agrees (Writes o a t) [] m = Unit {0}
 Agrees (Writes o a t) (Stored ∷ ans) m = Agrees t ans (finite.insert m o a)
 Agrees (Writes o a t) (Got b ∷ ans) m = ⊥
 
+-- the map with the writes that were answered
+abbrev pub left_after : Tree → List Answer → Objects → Objects
+left_after (Ends e) ans m = m
+left_after (Says a t) ans m = left_after t ans m
+left_after (Reads o k) [] m = m
+left_after (Reads o k) (Got a ∷ ans) m = left_after (k a) ans m
+left_after (Reads o k) (Stored ∷ ans) m = m
+left_after (Writes o a t) [] m = m
+left_after (Writes o a t) (Stored ∷ ans) m = left_after t ans (finite.insert m o a)
+left_after (Writes o a t) (Got b ∷ ans) m = m
+
 -- the one is a front of the other
 abbrev pub IsFrontOf : List Line → List Line → Type 0
 IsFrontOf front all = (rest : List Line) × (front ++ rest ≡ all)

@@ -1,10 +1,14 @@
-ghost use Rattle.std.specs.Prelude.{◌≡◌, [], ◌∷◌, ◌++◌, List, Some};
+ghost use Rattle.std.specs.Prelude.{◌≡◌, ◌≤◌, [], ◌∷◌, ◌++◌, List, Some, length};
+ghost use Rattle.std.specs.FinMap as finite;
+ghost use Rattle.value_form.specs.declared.endings.Ending.{Ending};
+ghost use Rattle.value_form.specs.declared.objects.ObjectId.{ObjectId};
+ghost use Rattle.value_form.specs.declared.values.Value.{Value};
 ghost use Rattle.value_form.specs.declared.transcripts.Line.{Line};
-ghost use Rattle.value_form.specs.Objects.{Objects};
+ghost use Rattle.value_form.specs.Objects.{Objects, value_at};
 ghost use Rattle.value_form.specs.Mirror.{Block};
 ghost use Rattle.script_meaning.specs.Meaning as meaning;
-ghost use Rattle.script_meaning.specs.Meaning.{Request, Asks, Answer, Answers, answers_of};
-ghost use Rattle.serial_model.specs.Questions.{Tree, denote, walk, told, talked, left_by, stop, request_of, IsFrontOf, IsTalkOf};
+ghost use Rattle.script_meaning.specs.Meaning.{Request, ToRead, ToWrite, Asks, Over, Answer, Got, Stored, Answers, answers_of};
+ghost use Rattle.serial_model.specs.Questions.{Tree, denote, walk, told, talked, left_by, left_after, stop, request_of, Agrees, IsFrontOf, IsTalkOf};
 
 /// A script alone, and a script with a list of answers, are what its tree of questions says.
 pub fn law_of_questions()
@@ -21,6 +25,18 @@ pub fn law_of_answers()
     ensures front { (script : Block) (m : Objects) (before rest : List Line) (l : Line) (q : Request) → (meaning.perform script m).lines ≡ before ++ (l ∷ rest) → request_of l ≡ Some q → IsTalkOf (record { lines = before; stop = Asks q }) (meaning.talk script (answers_of before)) }
     ensures fronts { (lines : List Line) (pre post : List Answer) (a : Answer) → answers_of lines ≡ pre ++ (a ∷ post) → (before : List Line) × (l : Line) × (rest : List Line) × (q : Request) × (lines ≡ before ++ (l ∷ rest)) × (request_of l ≡ Some q) × (answers_of before ≡ pre) }
     ensures more { (script : Block) (ans more : List Answer) → IsFrontOf (meaning.talk script ans).lines (meaning.talk script (ans ++ more)).lines }
+{}
+
+/// Answers that agree with a map: each was what the map held then, with the script's own writes in it.
+/// No answers agree; an answer to a read with what the map holds, and to a write, agrees with those
+/// before; there are at most 10,000; and once the script has ended, its transcript, ending and map are
+/// those that it has alone over the map.
+pub fn law_of_agreement()
+    ensures begins { (t : Tree) (m : Objects) → Agrees t [] m × (left_after t [] m ≡ m) }
+    ensures read { (t : Tree) (ans : List Answer) (m : Objects) (o : ObjectId) → Agrees t ans m → stop t ans ≡ Asks (ToRead o) → Agrees t (ans ++ Got (value_at (left_after t ans m) o) ∷ []) m × (left_after t (ans ++ Got (value_at (left_after t ans m) o) ∷ []) m ≡ left_after t ans m) }
+    ensures write { (t : Tree) (ans : List Answer) (m : Objects) (o : ObjectId) (a : Value) → Agrees t ans m → stop t ans ≡ Asks (ToWrite o a) → Agrees t (ans ++ Stored ∷ []) m × (left_after t (ans ++ Stored ∷ []) m ≡ finite.insert (left_after t ans m) o a) }
+    ensures few { (script : Block) (ans : List Answer) (m : Objects) → Agrees (denote script) ans m → length ans ≤ 10000 }
+    ensures whole { (t : Tree) (ans : List Answer) (m : Objects) (e : Ending) → Agrees t ans m → stop t ans ≡ Over e → (told t m ≡ talked t ans) × (left_by t m ≡ left_after t ans m) }
 {}
 
 /// In every world that answers requests, a script does what the walk of that world through its tree

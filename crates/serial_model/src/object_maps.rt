@@ -3,6 +3,7 @@ ghost use Rattle.std.specs.Option.{option_copied};
 ghost use Rattle.std.specs.FinMap as finite;
 ghost use Rattle.std.specs.BTreeMap.{IsOrdered};
 ghost use Rattle.value_form.specs.Objects.{object_cmp, value_at};
+ghost use Rattle.serial_model.specs.Overlays.{onto, overlaid};
 
 use std::alloc::{AllocError, Global};
 use std::collections::BTreeMap;
@@ -35,15 +36,23 @@ fn copied(
     Ok(all)
 }
 
-// The map with these entries.
-fn map_of(alloc: Global, entries: Vec<(ObjectId, Value)>) -> Result<ObjectMap, AllocError>
-    ensures { IfOk result (λ m. m ≡ finite.from_entries {R = object_cmp} entries.items) }
+// The map with these entries over it.
+fn with_entries(map: ObjectMap, entries: Vec<(ObjectId, Value)>) -> Result<ObjectMap, AllocError>
+    ensures { IfOk result (λ m. m ≡ onto map entries.items) }
 {
-    let mut map = ObjectMap::new(alloc);
+    let mut map = map;
     let mut left = entries;
     'entries: while let Some((object, value)) = left.pop() {
         map.set(object, value)?;
     }
+    Ok(map)
+}
+
+// The map with these entries.
+fn map_of(alloc: Global, entries: Vec<(ObjectId, Value)>) -> Result<ObjectMap, AllocError>
+    ensures { IfOk result (λ m. m ≡ finite.from_entries {R = object_cmp} entries.items) }
+{
+    let map = with_entries(ObjectMap::new(alloc), entries)?;
     Ok(map)
 }
 
@@ -108,6 +117,15 @@ impl ObjectMap {
     {
         self.entries.insert(object, value)?;
         Ok(())
+    }
+
+    /// The map with the writes over it: an object of the writes has its value there, each other one its
+    /// value here.
+    pub fn overlaid(self, alloc: Global, writes: ObjectMap) -> Result<ObjectMap, AllocError>
+        ensures { IfOk result (λ m. m ≡ overlaid writes self) }
+    {
+        let entries = writes.into_list(alloc)?;
+        with_entries(self, entries)
     }
 
     /// The objects of the map with their values, in rising order.

@@ -1,13 +1,7 @@
-use Rattle.std.proofs.Common.{rules, ◌≡◌, ◌∷◌, [], ◌++◌, sym, ap, ◌∙◌}
-use Rattle.serial_model.proofs.MapLemmas.{onto, onto-more, onto-empty}
+use Rattle.std.proofs.Common.{ap, ◌∙◌}
+use Rattle.serial_model.specs.Overlays.{onto}
+use Rattle.serial_model.proofs.MapLemmas.{onto-empty}
 use Rattle.serial_model.proofs.object_maps.map_of.Goals as goal
 
-pub entries-preserved : goal.entries-preserved
-entries-preserved c =
-    let last : c.entries.left.items ≡ c.pop.new.self.items ++ (c.in-Some.object, c.in-Some.value) ∷ [] = search rules in
-    onto-more c.entries.map c.set.new.self c.entries.left.items c.pop.new.self.items c.in-Some.object c.in-Some.value _ last c.in_ok-set.ensures.ok c.entries.invariant
-
 pub returns : goal.returns
-returns c =
-    let none : c.entries.left.items ≡ [] = search rules in
-    ap (onto c.entries.map) (sym none) ∙ c.entries.invariant ∙ onto-empty c.args.entries.items
+returns c = c.in_ok-map.ensures ∙ ap (λ z. onto z c.args.entries.items) c.new.ensures ∙ onto-empty c.args.entries.items

@@ -1,0 +1,7 @@
+use Rattle.std.proofs.Common.{◌≡◌, ◌++◌, take}
+use Rattle.std.specs.List.{flat_map}
+use Rattle.report_writer.specs.Reports.{final_text}
+use Rattle.report_writer.proofs.writing.push_finals.Given as goal
+
+abbrev pub invariant-loop-last : goal.invariant-loop-last
+invariant-loop-last l = l.out.items ≡ l.initial.out.items ++ flat_map final_text (take l.last-index l.finals)

@@ -1,0 +1,11 @@
+//! What a run did, and the text of its report.
+#![tactic(auto)]
+
+mod pieces;
+mod records;
+mod totals;
+mod writing;
+
+pub use records::{ActReport, Down, DownCause, Final, Report, Standing, TryOutcome, TryReport, Wire};
+pub use writing::write_report;
+

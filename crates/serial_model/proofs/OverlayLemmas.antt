@@ -1,0 +1,46 @@
+-- What a map over another has.
+use Rattle.std.proofs.Common.{◌≡◌, List, [], ◌∷◌, Some, None, Bool, true, false, cond, refl, sym, ap, ◌∙◌}
+use Rattle.std.specs.Prelude.{Option, unwrap_or}
+use Rattle.std.specs.Ordering.{eq_by_cmp}
+use Rattle.std.specs.FinMap.{find, get, insert, entries, get-entries, get-insert, same_map, empty, get-empty}
+use Rattle.value_form.specs.declared.objects.ObjectId.{ObjectId}
+use Rattle.value_form.specs.declared.values.Value.{Value}
+use Rattle.value_form.specs.declared.values.Value.TheVariants.{Nothing}
+use Rattle.value_form.specs.Objects.{object_cmp, Objects, value_at}
+use Rattle.value_form.proofs.ObjectLemmas.{object_cmp-total, object_cmp-exact}
+use Rattle.serial_model.specs.Overlays.{onto, overlaid}
+
+-- the first, or the second where that is none
+abbrev pub or_below : Option Value → Option Value → Option Value
+or_below None r = r
+or_below (Some v) r = Some v
+
+or_below-cond : (b : Bool) (v : Value) (x r : Option Value) → cond b (Some v) (or_below x r) ≡ or_below (cond b (Some v) x) r
+or_below-cond true v x r = refl
+or_below-cond false v x r = refl
+
+get-onto : (m : Objects) (es : List (ObjectId × Value)) (q : ObjectId) → get (onto m es) q ≡ or_below (find object_cmp q es) (get m q)
+get-onto m [] q = refl
+get-onto m (e ∷ es) q =
+    get-insert object_cmp-total (onto m es) e.0 e.1 q ∙ ap (cond (eq_by_cmp object_cmp q e.0) (Some e.1)) (get-onto m es q)
+    ∙ or_below-cond (eq_by_cmp object_cmp q e.0) e.1 (find object_cmp q es) (get m q)
+
+pub get-overlaid : (w m : Objects) (q : ObjectId) → get (overlaid w m) q ≡ or_below (get w q) (get m q)
+get-overlaid w m q = get-onto m (entries w) q ∙ ap (λ z. or_below z (get m q)) (sym (get-entries w q))
+
+-- what the writes have, or else the map
+pub found_above : (w m : Objects) (q : ObjectId) (v : Value) → get w q ≡ Some v → value_at (overlaid w m) q ≡ v
+found_above w m q v is = ap (λ z. unwrap_or z Nothing) (get-overlaid w m q ∙ ap (λ z. or_below z (get m q)) is)
+
+pub found_below : (w m : Objects) (q : ObjectId) → get w q ≡ None → value_at (overlaid w m) q ≡ value_at m q
+found_below w m q is = ap (λ z. unwrap_or z Nothing) (get-overlaid w m q ∙ ap (λ z. or_below z (get m q)) is)
+
+-- a write more
+pub overlaid-insert : (w m : Objects) (o : ObjectId) (v : Value) → overlaid (insert w o v) m ≡ insert (overlaid w m) o v
+overlaid-insert w m o v = same_map object_cmp-total object_cmp-exact _ _ (λ q.
+    get-overlaid (insert w o v) m q ∙ ap (λ z. or_below z (get m q)) (get-insert object_cmp-total w o v q)
+    ∙ sym (get-insert object_cmp-total (overlaid w m) o v q ∙ ap (cond (eq_by_cmp object_cmp q o) (Some v)) (get-overlaid w m q) ∙ or_below-cond (eq_by_cmp object_cmp q o) v (get w q) (get m q)))
+
+-- no writes
+pub overlaid-none : (m : Objects) → overlaid empty m ≡ m
+overlaid-none m = same_map object_cmp-total object_cmp-exact _ _ (λ q. get-overlaid empty m q ∙ ap (λ z. or_below z (get m q)) (get-empty object_cmp q))

@@ -1,0 +1,14 @@
+-- Where a run and its writes stand: what always holds between two requests.
+use Rattle.std.specs.Prelude.{◌≡◌, List}
+use Rattle.value_form.specs.declared.scripts.Stmt.{Stmt}
+use Rattle.value_form.specs.Mirror.{block}
+use Rattle.value_form.specs.Objects.{Objects}
+use Rattle.script_meaning.specs.Meaning.{Answer}
+use Rattle.serial_model.specs.Questions.{denote, Agrees, left_after}
+use Rattle.serial_model.specs.Overlays.{overlaid}
+use Rattle.script_run.specs.Told.{Told}
+
+-- its answers are what the map, with the writes so far over it, held then
+pub record Stands (run : Told) (writes m : Objects) : Type 0 where
+  pub agrees : Agrees (denote (block run.script)) run.answers m
+  pub has : left_after (denote (block run.script)) run.answers m ≡ overlaid writes m
