@@ -14,7 +14,8 @@ use Rattle.pseudo_time.specs.declared.decisions.Decision.TheVariants as decision
 use Rattle.commit_record.specs.declared.states.RecordState.{RecordState}
 use Rattle.commit_record.specs.declared.states.RecordState.TheVariants as state
 use Rattle.commit_record.specs.States.{States, settled, settled_at, heard, expiry, expiring, listed_at, deadline_of, AreDeadlines}
-use Rattle.commit_record.proofs.RecordLemmas.{found_at, get-entries_of, stamp_cmp-total, same_stamp}
+use Rattle.commit_record.proofs.RecordLemmas.{found_at, get-entries_of, same_stamp}
+use Rattle.pseudo_time.proofs.OrderLemmas.{stamp_cmp-total}
 
 -- ---- the list
 

@@ -1,16 +1,12 @@
 -- A map of records by the entries of its two ordered maps.
 use Rattle.std.proofs.Common.{◌≡◌, ◌≢◌, ℕ, Bool, true, false, List, [], ◌∷◌, cond, refl, sym, ap, ◌∙◌}
 use Rattle.std.specs.Prelude.{Option, Some, None, Result, Ok, Err, OnOk, OnErr}
-use Rattle.std.specs.Ordering.{nat_cmp, is_eq}
-use Rattle.std.specs.declared.cmp.Ordering.{Ordering}
-use Rattle.std.specs.declared.cmp.Ordering.TheVariants.{Less, Equal, Greater}
-use Rattle.std.specs.Cmp.{IsTotalOrder}
 use Rattle.std.specs.BTreeMap.{is_at}
 use Rattle.std.specs.Map.{lookup}
 use Rattle.std.specs.FinMap.{find, get, insert, from_entries, get-from_entries, get-insert, same_map}
-use Rattle.std.proofs.lemmas.Cmp.{nat_cmp_total, on_total, then_total, eq_by_cmp_equiv}
-use Rattle.std.proofs.lemmas.Map.Lookups.{CmpEqualImpliesEq, exact_pairs, exact_unsigned}
+use Rattle.std.proofs.lemmas.Cmp.{eq_by_cmp_equiv}
 use Rattle.pseudo_time.specs.StampParts.{StampParts, stamp_cmp}
+use Rattle.pseudo_time.proofs.OrderLemmas.{stamp_cmp-total, stamp_cmp-exact, is_equal}
 use Rattle.commit_record.specs.declared.states.RecordState.{RecordState}
 use Rattle.commit_record.specs.States.{States, deadline_of, AreDeadlines}
 
@@ -18,20 +14,8 @@ use Rattle.commit_record.specs.States.{States, deadline_of, AreDeadlines}
 abbrev pub found_at : {X : Type 0} → List (StampParts × X) → StampParts → Option X
 found_at entries q = lookup (is_at (stamp_cmp q)) entries
 
-pub stamp_cmp-total : IsTotalOrder stamp_cmp
-stamp_cmp-total = then_total (on_total (λ s. s.clock) nat_cmp_total) (then_total (on_total (λ s. s.broker) nat_cmp_total) (on_total (λ s. s.home) nat_cmp_total))
-
-stamp_cmp-exact : CmpEqualImpliesEq stamp_cmp
-stamp_cmp-exact a b h = ap (λ (p : ℕ × (ℕ × ℕ)). record { clock = p.0; broker = p.1.0; home = p.1.1 })
-    (exact_pairs nat_cmp _ exact_unsigned (exact_pairs nat_cmp nat_cmp exact_unsigned exact_unsigned) (a.clock, (a.broker, a.home)) (b.clock, (b.broker, b.home)) h)
-
-equal_is : (o : Ordering) → is_eq o ≡ true → o ≡ Equal
-equal_is Equal is = refl
-equal_is Less is = absurd (let never : ⊥ = cc is in never)
-equal_is Greater is = absurd (let never : ⊥ = cc is in never)
-
 pub same_stamp : (k q : StampParts) → is_at (stamp_cmp k) q ≡ true → k ≡ q
-same_stamp k q is = stamp_cmp-exact k q (equal_is (stamp_cmp k q) is)
+same_stamp k q is = stamp_cmp-exact k q (is_equal (stamp_cmp k q) is)
 
 find-found_at : (es : List (StampParts × RecordState)) (q : StampParts) → find stamp_cmp q es ≡ found_at es q
 find-found_at [] q = refl

@@ -1,1 +1,3 @@
 pub mod ByteOrder
+pub mod ListLemmas
+pub mod OrderLemmas

@@ -1,7 +1,9 @@
-ghost use Rattle.std.specs.Prelude.{◌≡◌, ◌≤◌, IfSome, IfNone, SomeIff};
+ghost use Rattle.std.specs.Prelude.{◌≡◌, ◌≤◌, ℕ, true, false, nat_lt, IfSome, IfNone, SomeIff};
 ghost use Rattle.std.specs.Cmp.Lexicographic.{slice_cmp};
-ghost use Rattle.std.specs.Ordering.{is_lt, nat_cmp};
+ghost use Rattle.std.specs.Ordering.{nat_cmp};
+ghost use Rattle.pseudo_time.specs.StampParts.{StampParts};
 ghost use Rattle.pseudo_time.specs.TimeParts.{TimeParts, IsTime, time_bytes, time_cmp};
+ghost use Rattle.pseudo_time.specs.Order.{lt, stamp_lt};
 
 use crate::stamps::Stamp;
 use std::marker::Model;
@@ -30,6 +32,7 @@ impl Model for PseudoTime {
 
 impl PseudoTime {
     ghost use Rattle.pseudo_time.specs.TimeParts.{TimeParts, IsTime, time_bytes, time_cmp};
+    ghost use Rattle.pseudo_time.specs.Order.{lt};
 
     /// The pseudotime of a step, which is at least 1.
     pub fn new(stamp: Stamp, step: u32) -> Option<PseudoTime>
@@ -58,8 +61,9 @@ impl PseudoTime {
     }
 
     /// Whether this comes before another pseudotime: the meaning of `<`.
+    #[tactic(auto, unfolding(crate::specs::Order::lt))]
     pub fn is_before(&self, other: PseudoTime) -> bool
-        ensures { result ≡ is_lt (time_cmp self.now other) }
+        ensures { result ≡ lt self.now other }
     {
         *self < other
     }
@@ -93,4 +97,15 @@ impl PseudoTime {
 pub fn order_of_bytes()
     ensures order { (a b : TimeParts) → IsTime a → IsTime b → slice_cmp nat_cmp (time_bytes a) (time_bytes b) ≡ time_cmp a b }
     ensures one_text { (a b : TimeParts) → IsTime a → IsTime b → time_bytes a ≡ time_bytes b → a ≡ b }
+{}
+
+/// A law: pseudotimes are in a total order, in which each attempt has a range of its own.
+pub fn order_of_times()
+    ensures irreflexive { (a : TimeParts) → lt a a ≡ false }
+    ensures transitive { (a b c : TimeParts) → lt a b ≡ true → lt b c ≡ true → lt a c ≡ true }
+    ensures total { (a b : TimeParts) → lt a b ≡ false → lt b a ≡ false → a ≡ b }
+    ensures stamps { (a b : TimeParts) → stamp_lt a.stamp b.stamp ≡ true → lt a b ≡ true }
+    ensures own { (x t : TimeParts) → lt x t ≡ true → stamp_lt x.stamp t.stamp ≡ false → x.stamp ≡ t.stamp }
+    ensures steps { (s : StampParts) (n m : ℕ) → lt (record { stamp = s; step = n }) (record { stamp = s; step = m }) ≡ nat_lt n m }
+    ensures between { (q x t : TimeParts) → q.stamp ≡ t.stamp → lt x q ≡ false → lt x t ≡ true → x.stamp ≡ q.stamp }
 {}

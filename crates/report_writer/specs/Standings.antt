@@ -1,5 +1,5 @@
 -- How an act stands at the end of a run, and how many acts stand so.
-use Rattle.std.specs.Prelude.{ℕ, ◌-◌, Bool, true, false, List, [], ◌∷◌, length, filter, Option, Some, None, nat_lt, slice_get, if◌then◌else◌}
+use Rattle.std.specs.Prelude.{ℕ, ◌-◌, Bool, true, false, List, length, filter, Option, Some, None, nat_lt, slice_get, if◌then◌else◌}
 use Rattle.report_writer.specs.declared.records.TryOutcome.{TryOutcome}
 use Rattle.report_writer.specs.declared.records.TryOutcome.TheVariants as outcome
 use Rattle.report_writer.specs.declared.records.TryReport.{TryReport}

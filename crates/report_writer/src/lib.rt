@@ -6,6 +6,7 @@ mod records;
 mod totals;
 mod writing;
 
-pub use records::{ActReport, Down, DownCause, Final, Report, Standing, TryOutcome, TryReport, Wire};
+pub use records::{
+    ActReport, Down, DownCause, Final, Report, Standing, TryOutcome, TryReport, Wire,
+};
 pub use writing::write_report;
-

@@ -4,7 +4,8 @@ ghost use Rattle.report_writer.specs.Parts.{line_text};
 ghost use Rattle.report_writer.specs.Reports.{outcome_text, try_text, spent_text, act_line, act_text, final_text, cause_text, down_text, count_text, ended_text, kept_text, totals_text, wire_line, wire_text, head_text, rest_text, report_text};
 
 use crate::pieces::{
-    push_access, push_kind, push_line, push_named, push_numbered, push_refusal, push_stamp, push_two,
+    push_access, push_kind, push_line, push_named, push_numbered, push_refusal, push_stamp,
+    push_two,
 };
 use crate::records::{
     ActReport, Down, DownCause, Final, Report, Standing, TryOutcome, TryReport, Wire,
@@ -15,11 +16,7 @@ use std::alloc::{AllocError, Global};
 use value_form::{Bytes, Line, Value};
 
 // Appends how an attempt ended.
-fn push_outcome(
-    alloc: Global,
-    out: &mut Vec<u8>,
-    outcome: TryOutcome,
-) -> Result<(), AllocError>
+fn push_outcome(alloc: Global, out: &mut Vec<u8>, outcome: TryOutcome) -> Result<(), AllocError>
     ensures { OnOk result (out.new.items ≡ out.old.items ++ outcome_text outcome) }
 {
     match outcome {
@@ -38,7 +35,14 @@ fn push_outcome(
             push_refusal(alloc, out, b"refused later-version ", object, start)
         }
         TryOutcome::Expired { deadline, moment } => {
-            push_two(alloc, out, b"expired deadline ", deadline, b" moment ", moment)
+            push_two(
+                alloc,
+                out,
+                b"expired deadline ",
+                deadline,
+                b" moment ",
+                moment,
+            )
         }
     }
 }

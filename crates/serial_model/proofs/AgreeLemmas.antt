@@ -1,5 +1,5 @@
 -- Answers that agree with a map: what they lead to, and that there are at most 10,000.
-use Rattle.std.proofs.Common.{◌≡◌, ℕ, zero, suc, ◌≤◌, Bool, true, false, List, [], ◌∷◌, ◌++◌, length, Option, Some, None, Result, Ok, Err, refl, sym, ap, ◌∙◌, subst, arith}
+use Rattle.std.proofs.Common.{◌≡◌, ℕ, zero, suc, ◌≤◌, Bool, true, false, List, [], ◌∷◌, ◌++◌, length, Result, Ok, Err, refl, sym, ap, ◌∙◌, arith}
 use Rattle.std.specs.Prelude.{if◌then◌else◌}
 use Rattle.std.specs.FinMap as finite
 use Rattle.value_form.specs.declared.endings.Ending.{Ending}
@@ -11,8 +11,8 @@ use Rattle.value_form.specs.declared.values.Value.{Value}
 use Rattle.value_form.specs.Mirror.{Step, Let, Read, Write, Print, If, IfElse, Repeat, Withdraw, Block, End, Then}
 use Rattle.value_form.specs.Objects.{Objects, value_at}
 use Rattle.script_meaning.specs.Names.{Names, with_name}
-use Rattle.script_meaning.specs.Meaning.{value, object_at, condition, count, line_of, Request, ToRead, ToWrite, Stop, Asks, Over, Answer, Got, Stored}
-use Rattle.serial_model.specs.Questions.{Tree, Ends, Says, Reads, Writes, Onward, asked_if_room, asked_with, asked_turns, asked, all_asked, denote, line_before, talked, told, left_by, stop, Agrees, left_after}
+use Rattle.script_meaning.specs.Meaning.{value, object_at, condition, count, ToRead, ToWrite, Asks, Over, Answer, Got, Stored}
+use Rattle.serial_model.specs.Questions.{Tree, Ends, Says, Reads, Writes, Onward, asked_with, asked_turns, asked, all_asked, denote, line_before, talked, told, left_by, stop, Agrees, left_after}
 
 -- ---- one answer more
 

@@ -1,5 +1,5 @@
 -- A map of objects by the entries of a `BTreeMap`.
-use Rattle.std.proofs.Common.{◌≡◌, ℕ, List, [], ◌∷◌, ◌++◌, cond, sym, refl, ap, ◌∙◌, Some, T, Bool, true, false, ◌&&◌, map, subst}
+use Rattle.std.proofs.Common.{◌≡◌, List, [], ◌∷◌, ◌++◌, cond, sym, refl, ap, ◌∙◌, Some, T, Bool, true, false, ◌&&◌, map, subst}
 use Rattle.std.specs.Prelude.{Option}
 use Rattle.std.specs.BTreeMap.{is_at}
 use Rattle.std.specs.Map.{lookup}

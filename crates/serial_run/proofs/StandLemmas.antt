@@ -1,5 +1,5 @@
 -- A request that is answered keeps what always holds, and at the end a run is what its script does alone.
-use Rattle.std.proofs.Common.{◌≡◌, ℕ, ◌+◌, ◌≤◌, List, [], ◌∷◌, ◌++◌, length, refl, sym, ap, ◌∙◌, subst, arith}
+use Rattle.std.proofs.Common.{◌≡◌, ◌+◌, ◌≤◌, List, [], ◌∷◌, ◌++◌, length, sym, ap, ◌∙◌, subst, arith}
 use Rattle.std.proofs.lemmas.List.{length-append}
 use Rattle.std.specs.FinMap as finite
 use Rattle.value_form.specs.declared.endings.Ending.{Ending}
@@ -10,11 +10,11 @@ use Rattle.value_form.specs.declared.transcripts.Line.TheVariants as line
 use Rattle.value_form.specs.declared.values.Value.{Value}
 use Rattle.value_form.specs.Mirror.{block}
 use Rattle.value_form.specs.Objects.{Objects, value_at}
-use Rattle.script_meaning.specs.Meaning.{ToRead, ToWrite, Stop, Asks, Over, Came, Answer, Got, Stored, talk, perform}
+use Rattle.script_meaning.specs.Meaning.{ToRead, ToWrite, Asks, Over, Came, Answer, Got, Stored, talk, perform}
 use Rattle.script_run.specs.declared.nexts.Next.{Next}
 use Rattle.script_run.specs.declared.nexts.Next.TheVariants as next
 use Rattle.script_run.specs.Told.{Told, answered, stop_of, Tells}
-use Rattle.serial_model.specs.Questions.{Tree, denote, talked, told, left_by, stop, Agrees, left_after}
+use Rattle.serial_model.specs.Questions.{denote, told, left_by, stop, Agrees, left_after}
 use Rattle.serial_model.specs.Overlays.{overlaid}
 use Rattle.serial_model.proofs.AgreeLemmas.{ReadOn, WrittenOn, agrees-none, agrees-read, agrees-write, agrees-few, agrees-whole}
 use Rattle.serial_model.proofs.AnswerLemmas.{talked-stop}

@@ -1,6 +1,5 @@
 -- What attempts leave of a map of objects.
-use Rattle.std.specs.Prelude.{ℕ, List, [], ◌∷◌}
-use Rattle.std.specs.FinMap as finite
+use Rattle.std.specs.Prelude.{List, [], ◌∷◌}
 use Rattle.value_form.specs.declared.endings.Ending.TheVariants.{Finished, Withdrawn, Failed}
 use Rattle.value_form.specs.Mirror.{Block}
 use Rattle.value_form.specs.Objects.{Objects}

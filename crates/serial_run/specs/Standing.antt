@@ -1,9 +1,7 @@
 -- Where a run and its writes stand: what always holds between two requests.
-use Rattle.std.specs.Prelude.{◌≡◌, List}
-use Rattle.value_form.specs.declared.scripts.Stmt.{Stmt}
+use Rattle.std.specs.Prelude.{◌≡◌}
 use Rattle.value_form.specs.Mirror.{block}
 use Rattle.value_form.specs.Objects.{Objects}
-use Rattle.script_meaning.specs.Meaning.{Answer}
 use Rattle.serial_model.specs.Questions.{denote, Agrees, left_after}
 use Rattle.serial_model.specs.Overlays.{overlaid}
 use Rattle.script_run.specs.Told.{Told}

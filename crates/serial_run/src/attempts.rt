@@ -37,11 +37,7 @@ fn copied(alloc: Global, lines: &[Line]) -> Result<Vec<Line>, AllocError>
 
 /// Carries a script out over a map of objects, each request answered by what the map and the script's
 /// own writes hold. The map stays as it is: the writes are in the attempt.
-pub fn carry_out(
-    alloc: Global,
-    script: &Script,
-    objects: &ObjectMap,
-) -> Result<Attempt, AllocError>
+pub fn carry_out(alloc: Global, script: &Script, objects: &ObjectMap) -> Result<Attempt, AllocError>
     requires { IsScript script.now.lines }
     ensures { IfOk result (λ a. perform (block script.now.lines) objects.now ≡ came_of a objects.now) }
 {

@@ -5,4 +5,3 @@ mod attempts;
 mod requests;
 
 pub use attempts::{Attempt, carry_out};
-

@@ -1,2 +1,5 @@
 pub mod Causes
+pub mod Clocks
+pub mod Counts
+pub mod Fates
 pub mod Streams

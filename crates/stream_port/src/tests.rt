@@ -1,6 +1,7 @@
 use super::*;
-use std::io::Cursor;
+use std::io::{self, Cursor};
 use std::test::*;
+use std::time::{self, Duration};
 
 #[test]
 fn memory_source(rt: HostRuntime) -> Result<(), Fail> {
@@ -49,5 +50,100 @@ fn adapters(rt: HostRuntime) -> Result<(), Fail> {
     let mut sink = WriteSink::new(Cursor::new(Vec::new(alloc)));
     assert_eq!(rt; sink.write(b"ten"), Ok(3));
     assert_eq!(rt; sink.write(b""), Ok(0));
+    Ok(())
+}
+
+// The second message with tag 3 is repeated and held, whatever comes between; all others are plain.
+#[test]
+fn memory_fates(rt: HostRuntime) -> Result<(), Fail> {
+    let alloc = rt.alloc();
+    let held = Fate {
+        copies: 2,
+        overtake: 1,
+        hold: 4,
+    };
+    let lost = Fate {
+        copies: 0,
+        overtake: 0,
+        hold: 0,
+    };
+    let plain = Fate {
+        copies: 1,
+        overtake: 0,
+        hold: 0,
+    };
+    let mut rules = Vec::new(alloc);
+    rules.push(FateRule {
+        tag: 3,
+        nth: 2,
+        fate: held,
+    })?;
+    rules.push(FateRule {
+        tag: 5,
+        nth: 1,
+        fate: lost,
+    })?;
+    rules.push(FateRule {
+        tag: 3,
+        nth: 2,
+        fate: lost,
+    })?;
+    let mut fates = MemoryFates::new(alloc, rules);
+    for (number, tag, fate) in [
+        (1, 3, plain),
+        (2, 5, lost),
+        (3, 3, held),
+        (4, 3, plain),
+        (5, 5, plain),
+    ] {
+        assert_eq!(rt; fates.fate(number, tag)?, fate);
+    }
+    assert_eq!(rt; fates.asked().len(), 5);
+    assert_eq!(rt;
+        fates.asked()[2],
+        Asked {
+            number: 3,
+            tag: 3,
+            fate: held
+        }
+    );
+    Ok(())
+}
+
+#[test]
+fn fixed_clock(rt: HostRuntime) -> Result<(), Fail> {
+    let mut clock = FixedClock::new(7);
+    assert_eq!(rt; clock.moment(), 7);
+    assert_eq!(rt; clock.moment(), 7);
+    assert_eq!(rt; clock.calls(), 2);
+    Ok(())
+}
+
+// A clock that stands 90 seconds and a half behind the beginning of 1970, or can't be read.
+#[derive(Drop)]
+struct Wall {
+    stands: bool,
+}
+
+impl time::Clock for Wall {
+    fn monotonic(&self) -> io::Result<Duration> {
+        self.since_1970()
+    }
+
+    fn since_1970(&self) -> io::Result<Duration> {
+        if self.stands {
+            Ok(Duration::from_millis(90_500))
+        } else {
+            Err(io::ErrorKind::Other.into())
+        }
+    }
+}
+
+#[test]
+fn seconds_clock(rt: HostRuntime) -> Result<(), Fail> {
+    assert_eq!(rt; SecondsClock::new(Wall { stands: true }).moment(), 90);
+    assert_eq!(rt; SecondsClock::new(Wall { stands: false }).moment(), 0);
+    // The system's own clock stands behind the year 2020.
+    assert!(rt; SecondsClock::new(rt.clone()?).moment() > 1_577_836_800);
     Ok(())
 }
