@@ -14,7 +14,7 @@ fn without_return(line: &[u8]) -> &[u8]
     }
 }
 
-// The first line, and what follows its end.
+/// The first line without its end, and what follows its end.
 pub fn first_line(bytes: &[u8]) -> (&[u8], &[u8])
     requires { bytes.now ≢ [] }
     ensures first { spec.lines bytes.now ≡ result.0.now ∷ spec.lines result.1.now }
@@ -28,7 +28,7 @@ pub fn first_line(bytes: &[u8]) -> (&[u8], &[u8])
     (bytes, &bytes[bytes.len()..])
 }
 
-// Whether the line is no statement: spaces alone, or spaces and then `#`.
+/// Whether the line is no statement: spaces alone, or spaces and then `#`.
 pub fn is_blank(line: &[u8]) -> bool
     ensures { result ≡ spec.is_blank line.now }
 {

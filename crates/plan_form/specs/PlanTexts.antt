@@ -1,0 +1,72 @@
+-- The canonical text of a plan.
+use Rattle.std.specs.Prelude.{◌≡◌, ℕ, ◌+◌, ◌-◌, ◌^◌, ◌≤◌, ◌==◌, List, [], ◌∷◌, ◌++◌, length, codes, if◌then◌else◌}
+use Rattle.std.specs.Fmt.{decimal}
+use Rattle.value_form.specs.declared.acts.ActSpec.{ActSpec}
+use Rattle.value_form.specs.Mirror.{Spot, Fixed, At, Block, block}
+use Rattle.statement_form.specs.Row.{Row}
+use Rattle.statement_form.specs.Row as r
+use Rattle.statement_form.specs.Rows.{Numbered, rows}
+use Rattle.statement_form.specs.RowTexts.{script_text}
+use Rattle.script_form.specs.Printable.{IsPrintable}
+use Rattle.plan_form.specs.declared.act_lines.Terms.{Terms}
+use Rattle.plan_form.specs.declared.plans.Plan.{Plan}
+use Rattle.plan_form.specs.Plans.{InRange, title, run_line, repositories_line, brokers_line, act_front, terms}
+
+-- an act line, which says a clock only where that isn't 1
+abbrev pub act_line : Terms → List ℕ
+act_line t = if t.clock == 1 then act_front t else act_front t ++ (codes " clock " ++ decimal t.clock)
+
+-- the act line, the script and `done`
+abbrev pub act_text : ActSpec → List ℕ
+act_text act = act_line (terms act) ++ (10 ∷ (script_text (block act.script.lines) ++ codes "done\n"))
+
+abbrev pub acts_text : List ActSpec → List ℕ
+acts_text [] = []
+acts_text (act ∷ more) = act_text act ++ acts_text more
+
+-- the four lines of the head
+abbrev pub head_text : (run repositories brokers : ℕ) → List ℕ
+head_text run repositories brokers =
+    title ++ (10 ∷ (run_line run ++ (10 ∷ (repositories_line repositories ++ (10 ∷ (brokers_line brokers ++ 10 ∷ []))))))
+
+abbrev pub plan_text : Plan → List ℕ
+plan_text plan = head_text plan.run plan.repositories plan.brokers ++ acts_text plan.acts
+
+-- ---- plans that have a text
+
+-- the object is of a repository from 1 to the greatest
+abbrev pub SpotWithin : ℕ → Spot → Type 0
+SpotWithin greatest (Fixed object) = InRange greatest object.repository
+SpotWithin greatest (At n x) = InRange greatest n
+
+abbrev pub RowWithin : ℕ → Row → Type 0
+RowWithin greatest (r.Read name place) = SpotWithin greatest place
+RowWithin greatest (r.Write place x) = SpotWithin greatest place
+RowWithin greatest _ = Unit {0}
+
+abbrev pub RowsWithin : ℕ → List Numbered → Type 0
+RowsWithin greatest [] = Unit {0}
+RowsWithin greatest (x ∷ xs) = RowWithin greatest x.row × RowsWithin greatest xs
+
+-- the act with the number n is in the ranges of a plan, and its script is one of the language
+pub record IsAct (repositories brokers n : ℕ) (act : ActSpec) : Type 0 where
+  pub index : act.index ≡ n
+  pub broker : InRange brokers act.broker
+  pub home : InRange repositories act.home
+  pub timeout : InRange 1000000 act.timeout
+  pub tries : InRange 100 act.tries
+  pub clock : InRange (2 ^ 40 - 1) act.clock
+  pub script : IsPrintable (block act.script.lines)
+  pub within : RowsWithin repositories (rows (block act.script.lines))
+
+abbrev pub EachAct : (repositories brokers n : ℕ) → List ActSpec → Type 0
+EachAct repositories brokers n [] = Unit {0}
+EachAct repositories brokers n (act ∷ more) = IsAct repositories brokers n act × EachAct repositories brokers (n + 1) more
+
+-- a plan of the language: its numbers are in their ranges, its acts are numbered from 1, and their scripts are of the language
+pub record IsWhole (plan : Plan) : Type 0 where
+  pub run : InRange (2 ^ 32 - 1) plan.run
+  pub repositories : InRange 16 plan.repositories
+  pub brokers : InRange 16 plan.brokers
+  pub acts : EachAct plan.repositories plan.brokers 1 plan.acts
+  pub few : length plan.acts ≤ 10000
