@@ -3,7 +3,7 @@ use Rattle.std.specs.Prelude.{ℕ, zero, suc, ◌+◌, ◌*◌, ◌/◌, ◌%◌
 use Rattle.value_form.specs.declared.acts.ActSpec.{ActSpec}
 use Rattle.value_form.specs.declared.objects.ObjectId.{ObjectId}
 use Rattle.value_form.specs.declared.expressions.Infix.TheVariants as o
-use Rattle.value_form.specs.Mirror.{Term, Number, Name, Between, Given, Fixed, At, Let, Read, Write, Print, If, Repeat, Block, End, Then}
+use Rattle.value_form.specs.Mirror.{Term, Number, Name, Between, Given, Fixed, At, Step, Let, Read, Write, Print, If, Repeat, Block, End, Then}
 use Rattle.value_form.specs.MirrorLaws.{made_all}
 use Rattle.plan_form.specs.declared.plans.Plan.{Plan}
 
@@ -40,16 +40,25 @@ transfer source target amount =
     (Then (Read 2 (codes "b") (Fixed target))
     (Then (If 3 (Between o.GreaterEqual (balance (codes "a")) (Number amount)) (moves source target amount) 6) End))
 
+-- v is what account k of the repository holds
+abbrev pub account_read : (repository line : ℕ) → Step
+account_read repository line = Read line (codes "v") (At repository (Name (codes "k")))
+
+-- s grows by it
+abbrev pub account_sum : (line : ℕ) → Step
+account_sum line = Let line (codes "s") (Between o.Add (Name (codes "s")) (balance (codes "v")))
+
 -- s grows by what account k of each repository holds that is left; the next is this repository, and the next line this line
 abbrev pub sums : (left repository line : ℕ) → Block → Block
 sums zero repository line behind = behind
-sums (suc left) repository line behind =
-    Then (Read line (codes "v") (At repository (Name (codes "k"))))
-    (Then (Let (line + 1) (codes "s") (Between o.Add (Name (codes "s")) (balance (codes "v")))) (sums left (repository + 1) (line + 2) behind))
+sums (suc left) repository line behind = Then (account_read repository line) (Then (account_sum (line + 1)) (sums left (repository + 1) (line + 2) behind))
+
+abbrev pub last_step : Block
+last_step = Then (Let 20 (codes "k") (Between o.Add (Name (codes "k")) (Number 1))) End
 
 -- s grows by what account k of each repository holds, and k by one
 abbrev pub round : Block
-round = sums 8 1 4 (Then (Let 20 (codes "k") (Between o.Add (Name (codes "k")) (Number 1))) End)
+round = sums 8 1 4 last_step
 
 -- the sum of all accounts is printed
 abbrev pub audit : Block

@@ -1,5 +1,5 @@
 -- Which lines are a plan.
-use Rattle.std.specs.Prelude.{◌≡◌, ℕ, ◌+◌, ◌-◌, ◌^◌, ◌≤◌, ◌==◌, ◌⊎◌, ◌&&◌, ◌||◌, Bool, true, false, List, [], ◌∷◌, ◌++◌, length, take, drop, codes, if◌then◌else◌}
+use Rattle.std.specs.Prelude.{◌≡◌, ℕ, ◌+◌, ◌-◌, ◌^◌, ◌≤◌, ◌==◌, ◌⊎◌, ◌&&◌, Bool, true, false, List, [], ◌∷◌, ◌++◌, length, take, drop, codes, if◌then◌else◌}
 use Rattle.std.specs.Fmt.{decimal}
 use Rattle.std.specs.Cmp.Lexicographic.{pointwise}
 use Rattle.std.specs.List.{list_all}
@@ -71,7 +71,7 @@ is_done (b ∷ bs) = if is_space b then is_done bs else is_done_word (b ∷ bs)
 -- whether a line is `done`
 abbrev pub has_done : List (List ℕ) → Bool
 has_done [] = false
-has_done (l ∷ ls) = is_done l || has_done ls
+has_done (l ∷ ls) = if is_done l then true else has_done ls
 
 -- the lines before the first `done`
 abbrev pub before_done : List (List ℕ) → List (List ℕ)

@@ -40,15 +40,19 @@ number_behind word greatest bytes = do
   digits ← after_front word bytes
   number_first greatest digits
 
+-- the number behind a word, and nothing behind the number
+abbrev pub number_alone : List ℕ → ℕ → List ℕ → Option ℕ
+number_alone word greatest bytes = do
+  number ← number_behind word greatest bytes
+  if length number.1 == 0 then Some number.0 else None
+
 -- a clock, or nothing
-unfoldable pub clock_at : List ℕ → Option ℕ
+abbrev pub clock_at : List ℕ → Option ℕ
 clock_at [] = Some 1
-clock_at (b ∷ bs) = do
-  clock ← number_behind (codes " clock ") (2 ^ 40 - 1) (b ∷ bs)
-  if length clock.1 == 0 then Some clock.0 else None
+clock_at (b ∷ bs) = number_alone (codes " clock ") (2 ^ 40 - 1) (b ∷ bs)
 
 -- the terms that an act line says
-unfoldable pub terms_at : (repositories brokers : ℕ) → List ℕ → Option Terms
+abbrev pub terms_at : (repositories brokers : ℕ) → List ℕ → Option Terms
 terms_at repositories brokers line = do
   broker ← number_behind (codes "act broker ") brokers line
   home ← number_behind (codes " home ") repositories broker.1

@@ -32,11 +32,18 @@ ReadsHead bytes (Ok (head, body)) = HasHead (lines bytes) head.run head.reposito
 ReadsHead bytes (Err (Fault line what)) = LinesFault (lines bytes) line what
 ReadsHead bytes (Err NoMemory) = ⊥
 
--- The script of an act behind this line, what follows its `done`, and the line of that; or the fault.
+-- The lines behind the line before are the script of an act and its `done`, which is the line at; this is the rest.
+pub record IsScriptRead (repositories before : ℕ) (bytes : List ℕ) (script : Script) (rest : List ℕ) (at : ℕ) : Type 0 where
+  pub has : has_done (lines bytes) ≡ true
+  pub is : IsScriptLines repositories (before_done (lines bytes)) (block script.lines)
+  pub behind : lines rest ≡ behind_done (lines bytes)
+  pub count : at + length (lines rest) ≡ before + length (lines bytes)
+  pub fits : at + length rest ≤ before + length bytes
+  pub shorter : length rest < length bytes
+
+-- the script of an act behind this line; or the fault
 abbrev pub ReadsScript : (repositories before : ℕ) → List ℕ → Result ActScript PlanFault → Type 0
-ReadsScript repositories before bytes (Ok s) =
-    (has_done (lines bytes) ≡ true) × IsScriptLines repositories (before_done (lines bytes)) (block s.script.lines)
-    × (lines s.rest.now ≡ behind_done (lines bytes)) × (s.at + length (lines s.rest.now) ≡ before + length (lines bytes)) × (s.at + length s.rest.now ≤ before + length bytes)
+ReadsScript repositories before bytes (Ok s) = IsScriptRead repositories before bytes s.script s.rest.now s.at
 ReadsScript repositories before bytes (Err (Fault line what)) = (inside : ℕ) × (line ≡ before + inside) × ScriptFault repositories (lines bytes) inside what
 ReadsScript repositories before bytes (Err NoMemory) = Unit {0}
 
@@ -47,12 +54,16 @@ ActFault repositories brokers index at first ls line kind.Acts = (line ≡ at) �
 ActFault repositories brokers index at first ls line what =
     (index ≤ 10000) × (t : Terms) × IsActLine repositories brokers t first × (inside : ℕ) × (line ≡ at + inside) × ScriptFault repositories ls inside what
 
--- the act of this number, what follows its `done`, and the line of that; or the fault
+-- The first line says the terms of this act, and behind it stand its script and `done`.
+pub record IsActRead (repositories brokers index at : ℕ) (first bytes : List ℕ) (act : ActSpec) (rest : List ℕ) (last : ℕ) : Type 0 where
+  pub few : index ≤ 10000
+  pub index_is : act.index ≡ index
+  pub says : IsActLine repositories brokers (terms act) first
+  pub script : IsScriptRead repositories at bytes act.script rest last
+
+-- the act of this number; or the fault
 abbrev pub ReadsAct : (repositories brokers index at : ℕ) → List ℕ → List ℕ → Result ReadAct PlanFault → Type 0
-ReadsAct repositories brokers index at first bytes (Ok a) =
-    (index ≤ 10000) × (a.act.index ≡ index) × IsActLine repositories brokers (terms a.act) first
-    × (has_done (lines bytes) ≡ true) × IsScriptLines repositories (before_done (lines bytes)) (block a.act.script.lines)
-    × (lines a.rest.now ≡ behind_done (lines bytes)) × (a.at + length (lines a.rest.now) ≡ at + length (lines bytes)) × (a.at + length a.rest.now ≤ at + length bytes)
+ReadsAct repositories brokers index at first bytes (Ok a) = IsActRead repositories brokers index at first bytes a.act a.rest.now a.at
 ReadsAct repositories brokers index at first bytes (Err (Fault line what)) = ActFault repositories brokers index at first (lines bytes) line what
 ReadsAct repositories brokers index at first bytes (Err NoMemory) = Unit {0}
 

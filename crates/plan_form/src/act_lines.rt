@@ -2,7 +2,7 @@ ghost use Rattle.std.specs.Prelude.{◌≡◌, ◌≤◌, ◌-◌, ◌^◌, IfSo
 ghost use Rattle.plan_form.specs.Plans.{IsActLine, InRange};
 ghost use Rattle.plan_form.specs.Reading.{clock_at, terms_at};
 
-use crate::digits::number_behind;
+use crate::digits::{number_alone, number_behind};
 
 const MOST_TIMEOUT: u64 = 1_000_000;
 
@@ -22,23 +22,15 @@ pub struct Terms {
 }
 
 // The clock at the end of an act line, which may lack it.
-#[tactic(auto, unfolding(crate::specs::Reading::clock_at))]
 fn clock_of(bytes: &[u8]) -> Option<u64>
     ensures { result ≡ clock_at bytes.now }
 {
     if bytes.is_empty() {
         return Some(1);
     }
-    let Some((clock, rest)) = number_behind(bytes, b" clock ", MOST_CLOCK) else {
-        return None;
-    };
-    if !rest.is_empty() {
-        return None;
-    }
-    Some(clock)
+    number_alone(bytes, b" clock ", MOST_CLOCK)
 }
 
-#[tactic(auto, unfolding(crate::specs::Reading::terms_at))]
 fn read_terms(line: &[u8], repositories: u8, brokers: u8) -> Option<Terms>
     ensures { result ≡ terms_at repositories brokers line.now }
 {

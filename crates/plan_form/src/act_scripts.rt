@@ -1,4 +1,5 @@
-ghost use Rattle.std.specs.Prelude.{◌≡◌, ◌≤◌, length};
+ghost use Rattle.std.specs.Prelude.{◌≡◌, ◌+◌, ◌≤◌, length};
+ghost use Rattle.std.specs.List.{list_all};
 ghost use Rattle.plan_form.specs.Plans as spec;
 ghost use Rattle.plan_form.specs.Reads as reads;
 
@@ -16,12 +17,18 @@ pub struct ActScript<'a> {
     pub at: u32,
 }
 
+fn are_spaces(bytes: &[u8]) -> bool
+    ensures { result ≡ list_all spec.is_space bytes.now }
+{
+    bytes.iter().all(|b| *b == b' ')
+}
+
 // The word `done` and nothing but spaces behind it.
 fn is_done_word(bytes: &[u8]) -> bool
     ensures { result ≡ spec.is_done_word bytes.now }
 {
     match bytes.strip_prefix(b"done") {
-        Some(rest) => rest.iter().all(|b| *b == b' '),
+        Some(rest) => are_spaces(rest),
         None => false,
     }
 }

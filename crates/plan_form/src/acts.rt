@@ -37,15 +37,15 @@ fn act_with(index: u32, said: Terms, script: Script) -> ActSpec
 }
 
 // What an act gives, whose act line is the line `at` of the plan.
-fn act_of(
+fn act_of<'a>(
     alloc: Global,
     index: u32,
     at: u32,
     line: &[u8],
-    after: &[u8],
+    after: &'a [u8],
     repositories: u8,
     brokers: u8,
-) -> Result<ReadAct, PlanFault>
+) -> Result<ReadAct<'a>, PlanFault>
     requires { at + length after.now ≤ 4194308 }
     ensures { ReadsAct repositories brokers index at line.now after.now result }
 {
@@ -82,22 +82,18 @@ pub fn acts_of(
     while !rest.is_empty() {
         let (line, after) = first_line(rest);
         at += 1;
-        rest = after;
-        if !is_blank(line) {
-            let index = acts.len() as u32 + 1;
-            match act_of(alloc, index, at, line, after, repositories, brokers) {
-                Ok(read) => {
-                    let ReadAct {
-                        act,
-                        rest: behind,
-                        at: last,
-                    } = read;
-                    acts.push(act)?;
-                    rest = behind;
-                    at = last;
-                }
-                Err(wrong) => return Err(wrong),
+        if is_blank(line) {
+            rest = after;
+            continue;
+        }
+        let index = acts.len() as u32 + 1;
+        match act_of(alloc, index, at, line, after, repositories, brokers) {
+            Ok(read) => {
+                acts.push(read.act)?;
+                rest = read.rest;
+                at = read.at;
             }
+            Err(wrong) => return Err(wrong),
         }
     }
     Ok(acts)

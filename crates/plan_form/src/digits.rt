@@ -9,7 +9,6 @@ ghost use Rattle.plan_form.specs.Reading as spec;
 fn split_digits(bytes: &[u8]) -> (&[u8], &[u8])
     ensures front { result.0.now ≡ spec.digits_of bytes.now }
     ensures rest { result.1.now ≡ spec.behind_digits bytes.now }
-    ensures digits { AllPass is_ascii_digit result.0.now }
 {
     for (at, byte) in bytes.iter().enumerate() {
         if !byte.is_ascii_digit() {
@@ -62,6 +61,21 @@ fn number_first(bytes: &[u8], greatest: u64) -> Option<(u64, &[u8])>
         return None;
     }
     Some((number, rest))
+}
+
+/// The number from 1 to the greatest that follows a word, with nothing behind it.
+pub fn number_alone(bytes: &[u8], word: &[u8], greatest: u64) -> Option<u64>
+    requires { greatest < 2 ^ 63 }
+    ensures value { result ≡ spec.number_alone word.now greatest bytes.now }
+    ensures range { IfSome result (λ n. InRange greatest n) }
+{
+    let Some((number, rest)) = number_behind(bytes, word, greatest) else {
+        return None;
+    };
+    if !rest.is_empty() {
+        return None;
+    }
+    Some(number)
 }
 
 /// The number from 1 to the greatest that follows a word, and what follows it.

@@ -1,4 +1,7 @@
-ghost use Rattle.std.specs.Prelude.{◌≡◌};
+ghost use Rattle.std.specs.Prelude.{◌≡◌, ◌<◌, ◌∷◌, length, MatchOption};
+ghost use Rattle.script_form.specs.Lines.{lines};
+ghost use Rattle.plan_form.specs.Plans.{title};
+ghost use Rattle.plan_form.specs.PlanFaults.{Lacks};
 ghost use Rattle.plan_form.specs.Reads.{ReadsHead};
 
 use crate::numbered::{next_line, next_number};
@@ -18,16 +21,26 @@ pub fn fault(line: u32, kind: PlanKind) -> PlanFault
     PlanFault::Fault { line, kind }
 }
 
+fn after_title(bytes: &[u8]) -> Option<&[u8]>
+    ensures { MatchOption result (Lacks (λ l. l ≡ title) (lines bytes.now)) (λ rest. (lines bytes.now ≡ title ∷ lines rest.now) × (length rest.now < length bytes.now)) }
+{
+    let Some((line, rest)) = next_line(bytes) else {
+        return None;
+    };
+    if line == b"swallow plan 1".as_slice() {
+        Some(rest)
+    } else {
+        None
+    }
+}
+
 // The head of a plan, and what follows it.
 pub fn head_of(bytes: &[u8]) -> Result<(Head, &[u8]), PlanFault>
     ensures { ReadsHead bytes.now result }
 {
-    let Some((title, rest)) = next_line(bytes) else {
+    let Some(rest) = after_title(bytes) else {
         return Err(fault(1, PlanKind::Header));
     };
-    if title != b"swallow plan 1".as_slice() {
-        return Err(fault(1, PlanKind::Header));
-    }
     let Some((run, rest)) = next_number(rest, b"run ", 4_294_967_295) else {
         return Err(fault(2, PlanKind::Run));
     };

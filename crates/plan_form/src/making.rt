@@ -110,7 +110,7 @@ fn transfers(alloc: Global, seed: u64, count: u32) -> Result<Vec<ActSpec>, Alloc
 /// The plan of this seed: `count` transfers between 64 accounts, whose brokers, homes, accounts and
 /// amounts are drawn, and an act that prints the sum of all accounts.
 pub fn make(alloc: Global, seed: u64, count: u32) -> Result<Plan, AllocError>
-    requires { 1 ≤ count }
+    requires least { 1 ≤ count }
     requires most { count ≤ 9999 }
     ensures { IfOk result (λ plan. plan ≡ spec.made_plan seed count) }
 {

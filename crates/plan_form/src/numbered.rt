@@ -4,7 +4,7 @@ ghost use Rattle.script_form.specs.Lines.{lines};
 ghost use Rattle.plan_form.specs.Plans.{InRange};
 ghost use Rattle.plan_form.specs.PlanFaults.{IsNumbered, Lacks};
 
-use crate::digits::number_behind;
+use crate::digits::number_alone;
 use script_form::first_line;
 
 /// The next line, and what follows it.
@@ -22,13 +22,7 @@ fn number_line(line: &[u8], word: &[u8], greatest: u64) -> Option<u64>
     requires { greatest < 2 ^ 63 }
     ensures { MatchOption result (IsNumbered (λ n. word.now ++ decimal n) greatest line.now → ⊥) (λ n. InRange greatest n × (line.now ≡ word.now ++ decimal n)) }
 {
-    let Some((number, rest)) = number_behind(line, word, greatest) else {
-        return None;
-    };
-    if !rest.is_empty() {
-        return None;
-    }
-    Some(number)
+    number_alone(line, word, greatest)
 }
 
 /// The number of the next line, which is a word and a number from 1 to the greatest, and what follows

@@ -33,13 +33,20 @@ fn print_head(alloc: Global, out: &mut Vec<u8>, plan: &Plan) -> Result<(), Alloc
     out.extend_from_slice(b"\n")
 }
 
-fn print_act_line(alloc: Global, out: &mut Vec<u8>, act: &ActSpec) -> Result<(), AllocError>
-    ensures { OnOk result (out.new.items ≡ out.old.items ++ texts.act_line (terms act.now)) }
+// Appends an act line up to its number of tries.
+fn print_act_front(alloc: Global, out: &mut Vec<u8>, act: &ActSpec) -> Result<(), AllocError>
+    ensures { OnOk result (out.new.items ≡ out.old.items ++ spec.act_front (terms act.now)) }
 {
     print_number(alloc, out, b"act broker ", act.broker as u64)?;
     print_number(alloc, out, b" home ", act.home as u64)?;
     print_number(alloc, out, b" timeout ", act.timeout as u64)?;
-    print_number(alloc, out, b" tries ", act.tries as u64)?;
+    print_number(alloc, out, b" tries ", act.tries as u64)
+}
+
+fn print_act_line(alloc: Global, out: &mut Vec<u8>, act: &ActSpec) -> Result<(), AllocError>
+    ensures { OnOk result (out.new.items ≡ out.old.items ++ texts.act_line (terms act.now)) }
+{
+    print_act_front(alloc, out, act)?;
     if act.clock == 1 {
         return Ok(());
     }

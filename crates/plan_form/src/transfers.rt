@@ -2,7 +2,7 @@ ghost use Rattle.std.specs.Prelude.{◌≡◌, ◌++◌, IfOk};
 ghost use Rattle.value_form.specs.declared.expressions.Expr.TheVariants as e;
 ghost use Rattle.value_form.specs.declared.expressions.Infix.TheVariants as o;
 ghost use Rattle.value_form.specs.declared.scripts.Stmt.TheVariants as stmt;
-ghost use Rattle.value_form.specs.MirrorLaws.{made, made_all};
+ghost use Rattle.value_form.specs.MirrorLaws.{made, made_all, made_step};
 ghost use Rattle.plan_form.specs.Making as spec;
 
 use std::alloc::{AllocError, Global};
@@ -104,6 +104,20 @@ fn grows(
     Ok(Stmt::Let(line, name(alloc, bytes)?, sum))
 }
 
+fn account_read(alloc: Global, repository: u8, line: u16) -> Result<Stmt, AllocError>
+    ensures { IfOk result (λ s. s ≡ made_step (spec.account_read repository line)) }
+{
+    let number = variable(alloc, b"k")?;
+    let value = name(alloc, b"v")?;
+    Ok(Stmt::Read(line, value, Place::At(repository, number)))
+}
+
+fn account_sum(alloc: Global, line: u16) -> Result<Stmt, AllocError>
+    ensures { IfOk result (λ s. s ≡ made_step (spec.account_sum line)) }
+{
+    grows(alloc, line, b"s", balance(alloc, b"v")?)
+}
+
 // The statements that take the sum over the repositories.
 fn sums(alloc: Global) -> Result<Items<Stmt>, AllocError>
     ensures { IfOk result (λ part. part ≡ made_all spec.round) }
@@ -111,10 +125,8 @@ fn sums(alloc: Global) -> Result<Items<Stmt>, AllocError>
     let mut part = Vec::new(alloc);
     for repository in 1..9u8 {
         let line = 2 * repository as u16 + 2;
-        let number = variable(alloc, b"k")?;
-        let v = name(alloc, b"v")?;
-        part.push(Stmt::Read(line, v, Place::At(repository, number)))?;
-        part.push(grows(alloc, line + 1, b"s", balance(alloc, b"v")?)?)?;
+        part.push(account_read(alloc, repository, line)?)?;
+        part.push(account_sum(alloc, line + 1)?)?;
     }
     part.push(grows(alloc, 20, b"k", Expr::Number(1))?)?;
     Ok(Items::of(part))

@@ -30,10 +30,10 @@ use Rattle.script_form.specs.Printable.{Rising, RowsInLimits, IsPrintable}
 
 -- ---- the bytes of tokens
 
-abbrev Shown : List ℕ → Type 0
+abbrev pub Shown : List ℕ → Type 0
 Shown bytes = AllPass (is_in_range 32 126) bytes
 
-shown-append : (a b : List ℕ) → Shown a → Shown b → Shown (a ++ b)
+pub shown-append : (a b : List ℕ) → Shown a → Shown b → Shown (a ++ b)
 shown-append [] b p q = q
 shown-append (x ∷ a) b p q = (p.0, shown-append a b p.1 q)
 
@@ -49,7 +49,7 @@ shown_digits : (bytes : List ℕ) → AllPass is_ascii_digit bytes → Shown byt
 shown_digits [] p = tt
 shown_digits (b ∷ bs) p = ((let k = p.0 in grind (arith, nat_tests)), shown_digits bs p.1)
 
-shown_number : (bytes : List ℕ) → IsNumeral bytes → Shown bytes
+pub shown_number : (bytes : List ℕ) → IsNumeral bytes → Shown bytes
 shown_number [] p = absurd p
 shown_number (b ∷ bs) p = ((let k = p.0 in grind (arith, nat_tests)), shown_digits bs p.1)
 
@@ -96,10 +96,10 @@ shown_at [] i p = refl
 shown_at (b ∷ bs) zero p = let k = p.0 in grind (arith, nat_tests)
 shown_at (b ∷ bs) (suc i) p = shown_at bs i p.1
 
-shown_stays : (bytes : List ℕ) → Shown bytes → strip_carriage_return bytes ≡ bytes
+pub shown_stays : (bytes : List ℕ) → Shown bytes → strip_carriage_return bytes ≡ bytes
 shown_stays bytes p = ap (λ z. cond z (take (length bytes - 1) bytes) bytes) (shown_at bytes (length bytes - 1) p)
 
-line_ends : (before bytes rest : List ℕ) → Shown bytes → lines_from before (bytes ++ 10 ∷ rest) ≡ strip_carriage_return (before ++ bytes) ∷ lines_from [] rest
+pub line_ends : (before bytes rest : List ℕ) → Shown bytes → lines_from before (bytes ++ 10 ∷ rest) ≡ strip_carriage_return (before ++ bytes) ∷ lines_from [] rest
 line_ends before [] rest p = ap (λ z. strip_carriage_return z ∷ lines_from [] rest) (sym (append-nil before))
 line_ends before (b ∷ bs) rest p =
     ap (λ z. cond z (strip_carriage_return before ∷ lines_from [] (bs ++ 10 ∷ rest)) (lines_from (before ++ b ∷ []) (bs ++ 10 ∷ rest))) (let k = p.0 in let e : (b == 10) ≡ false = grind (arith, nat_tests) in e)
