@@ -30,7 +30,7 @@ acts_then r b n (act ∷ acts) more before piece (line, rest, parts, index, is, 
   has_done-more rest piece has,
   subst (λ z. IsScriptLines r z (block act.script.lines)) (sym (before_done-more rest piece has)) script,
   subst (AreActs r b (n + 1) (acts ++ more)) (sym (behind_done-more rest piece has))
-    (acts_then r b (n + 1) acts more (behind_done rest) piece next (subst (λ z. AreActs r b z more piece) (let e : n + suc (length acts) ≡ n + 1 + length acts = omega arith in e) k)),
+      (acts_then r b (n + 1) acts more (behind_done rest) piece next (subst (λ z. AreActs r b z more piece) (let e : n + suc (length acts) ≡ n + 1 + length acts = omega arith in e) k)),
 )
 
 -- ---- lines are one list of acts

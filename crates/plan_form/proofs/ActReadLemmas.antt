@@ -75,7 +75,7 @@ reading_one r b before bytes rest at acts line after act behind last g n is a =
       done = g.done ++ line ∷ front;
       parts = g.parts ∙ ap (λ z. g.done ++ z) (n.first ∙ ap (λ z. line ∷ z) tail) ∙ sym (append_assoc g.done (line ∷ front) (lines behind));
       whole = acts_then r b 1 acts (act ∷ []) g.done (line ∷ front) g.whole
-        (one_act r b (1 + length acts) act line (lines after) front index a.says is s.2 s.3 (subst (λ z. IsScriptLines r z (block act.script.lines)) s.4 a.script.is));
+          (one_act r b (1 + length acts) act line (lines after) front index a.says is s.2 s.3 (subst (λ z. IsScriptLines r z (block act.script.lines)) s.4 a.script.is));
       few = omega (arith, few, size);
       count = omega (arith, count, size2, size3, last_count);
       fits = omega (arith, fits, shorter, last_fits);
@@ -96,13 +96,17 @@ reading_fault r b before bytes rest at acts line after (Fault number kind.Acts) 
     let few = g.few in
     (length g.done + 1, (let e : number ≡ before + (length g.done + 1) = omega (arith, number_is, count) in e), (acts, g.done, lines after, line, reaches r b before bytes rest at acts line after g n, refl, (let e : length acts ≡ 10000 = omega (arith, many, few) in e), t, says))
 reading_fault r b before bytes rest at acts line after (Fault number (kind.Script what)) g n is (few, t, says, inside, number_is, fault) =
-    let count = g.count in
-    (length g.done + 1 + inside, (let e : number ≡ before + (length g.done + 1 + inside) = omega (arith, number_is, count) in e),
-    (acts, g.done, lines after, line, reaches r b before bytes rest at acts line after g n, (let e : length acts < 10000 = omega (arith, few) in e), t, says, inside, refl, fault))
+    let count = g.count in (
+      length g.done + 1 + inside,
+      (let e : number ≡ before + (length g.done + 1 + inside) = omega (arith, number_is, count) in e),
+      (acts, g.done, lines after, line, reaches r b before bytes rest at acts line after g n, (let e : length acts < 10000 = omega (arith, few) in e), t, says, inside, refl, fault),
+    )
 reading_fault r b before bytes rest at acts line after (Fault number kind.End) g n is (few, t, says, inside, number_is, fault) =
-    let count = g.count in
-    (length g.done + 1 + inside, (let e : number ≡ before + (length g.done + 1 + inside) = omega (arith, number_is, count) in e),
-    (acts, g.done, lines after, line, reaches r b before bytes rest at acts line after g n, (let e : length acts < 10000 = omega (arith, few) in e), t, says, inside, refl, fault))
+    let count = g.count in (
+      length g.done + 1 + inside,
+      (let e : number ≡ before + (length g.done + 1 + inside) = omega (arith, number_is, count) in e),
+      (acts, g.done, lines after, line, reaches r b before bytes rest at acts line after g n, (let e : length acts < 10000 = omega (arith, few) in e), t, says, inside, refl, fault),
+    )
 reading_fault r b before bytes rest at acts line after (Fault number kind.Size) g n is (few, t, says, inside, number_is, fault) = absurd fault
 reading_fault r b before bytes rest at acts line after (Fault number kind.Header) g n is (few, t, says, inside, number_is, fault) = absurd fault
 reading_fault r b before bytes rest at acts line after (Fault number kind.Run) g n is (few, t, says, inside, number_is, fault) = absurd fault

@@ -1,8 +1,11 @@
 pub mod ActLemmas
 pub mod ActReadLemmas
+pub mod DoneLemmas
 pub mod LineListLemmas
+pub mod MadeLemmas
 pub mod MakingLemmas
 pub mod NoPlanLemmas
 pub mod NumberLemmas
+pub mod PlanTextLemmas
 pub mod ScriptReadLemmas
 pub mod TermLemmas

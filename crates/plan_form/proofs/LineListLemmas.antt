@@ -82,7 +82,7 @@ split_at_done [] e = absurd (cc)
 split_at_done (l ∷ ls) e =
     by_test (is_done l)
     (λ p. is_done l ≡ p → cond p true (has_done ls) ≡ true
-      → (front : List (List ℕ)) × (l ∷ ls ≡ front ++ cond p ls (behind_done ls)) × (has_done front ≡ true) × (behind_done front ≡ []) × (cond p [] (l ∷ before_done ls) ≡ before_done front))
+    → (front : List (List ℕ)) × (l ∷ ls ≡ front ++ cond p ls (behind_done ls)) × (has_done front ≡ true) × (behind_done front ≡ []) × (cond p [] (l ∷ before_done ls) ≡ before_done front))
     (λ is k h. (l ∷ [], refl, ap (λ p. cond p true false) is, ap (λ p. cond p [] []) is, sym (ap (λ p. cond p [] (l ∷ [])) is)))
     (λ is k h. let s = split_at_done ls h in (
       l ∷ s.0,

@@ -46,5 +46,5 @@ pub sums_step : (part part1 part2 all : List Stmt) (first second : Stmt) (reposi
     → part2 ++ made_all (sums (9 - (repository + 1)) (repository + 1) (2 * (repository + 1) + 2) last_step) ≡ all
 sums_step part part1 part2 all first second repository h items items2 is is2 e =
     ap (λ z. z ++ made_all (sums (9 - (repository + 1)) (repository + 1) (2 * (repository + 1) + 2) last_step))
-      (items2 ∙ ap (λ z. z ++ second ∷ []) (items ∙ ap (λ z. part ++ z ∷ []) is) ∙ ap (λ z. (part ++ made_step (account_read repository (2 * repository + 2)) ∷ []) ++ z ∷ []) is2)
+    (items2 ∙ ap (λ z. z ++ second ∷ []) (items ∙ ap (λ z. part ++ z ∷ []) is) ∙ ap (λ z. (part ++ made_step (account_read repository (2 * repository + 2)) ∷ []) ++ z ∷ []) is2)
     ∙ sums_more part repository all h e

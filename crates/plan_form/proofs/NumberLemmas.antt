@@ -43,7 +43,7 @@ all_digits = record {
 own : IsNumeralModel (AllPass is_ascii_digit) (number_from 0)
 own = numerals_by_fold _ all_digits number_from (record { empty = λ n. refl; more = λ n c cs d. refl })
 
-decimal_spells : (n : ℕ) → n < 2 ^ 63 → IsNumeral (decimal n) × (number_from 0 (decimal n) ≡ n)
+pub decimal_spells : (n : ℕ) → n < 2 ^ 63 → IsNumeral (decimal n) × (number_from 0 (decimal n) ≡ n)
 decimal_spells n small = spells (t.Number n) (tt, lt-ltb n (2 ^ 63) small)
 
 numeral_passes : (ds : List ℕ) → IsNumeral ds → AllPass is_ascii_digit ds
@@ -91,19 +91,22 @@ number_first-is greatest n bytes rest small e =
   where
     ds : List ℕ
     ds = digits_of bytes
+
     test : Bool
     test = is_numeral ds && nat_le 1 (number_from 0 ds) && nat_le (number_from 0 ds) greatest
+
     chosen : ((test ≡ true) × (◌≡◌ {A = Option (ℕ × List ℕ)} (Some (number_from 0 ds, behind_digits bytes)) (Some (n, rest)))) ⊎ ((test ≡ false) × (◌≡◌ {A = Option (ℕ × List ℕ)} None (Some (n, rest)))) → InRange greatest n × (bytes ≡ decimal n ++ rest)
     chosen (inl (is, same)) =
         let p = pairs_are (number_from 0 ds) n (behind_digits bytes) rest same in
         let k = both (is_numeral ds && nat_le 1 (number_from 0 ds)) (nat_le (number_from 0 ds) greatest) is in
         let j = both (is_numeral ds) (nat_le 1 (number_from 0 ds)) k.0 in
         let low : 1 ≤ number_from 0 ds = (let h = j.1 in grind (arith, nat_tests)) in
-        let high : number_from 0 ds ≤ greatest = (let h = k.1 in grind (arith, nat_tests)) in
-        (subst (InRange greatest) p.0 (low, high),
-        front-rest is_ascii_digit bytes
-        ∙ ap (λ z. z ++ behind_digits bytes) (digits_are_decimal ds (front_of-passes is_ascii_digit bytes) j.0 (omega (arith, low, high)))
-        ∙ ap (λ m. decimal m ++ behind_digits bytes) p.0 ∙ ap (λ r. decimal n ++ r) p.1)
+        let high : number_from 0 ds ≤ greatest = (let h = k.1 in grind (arith, nat_tests)) in (
+          subst (InRange greatest) p.0 (low, high),
+          front-rest is_ascii_digit bytes
+              ∙ ap (λ z. z ++ behind_digits bytes) (digits_are_decimal ds (front_of-passes is_ascii_digit bytes) j.0 (omega (arith, low, high)))
+              ∙ ap (λ m. decimal m ++ behind_digits bytes) p.0 ∙ ap (λ r. decimal n ++ r) p.1,
+        )
     chosen (inr (is, same)) = absurd (cc)
 
 -- ---- behind a word
@@ -118,9 +121,9 @@ after_front-is : (word bytes rest : List ℕ) → after_front word bytes ≡ Som
 after_front-is word bytes rest e =
     by_test (pointwise ◌==◌ (take (length word) bytes) word) (λ p. pointwise ◌==◌ (take (length word) bytes) word ≡ p → cond p (Some (drop (length word) bytes)) None ≡ Some rest → bytes ≡ word ++ rest)
     (λ is k h.
-        let same = (slice_eq-Decides Decides-eqb (take (length word) bytes) word (pointwise ◌==◌ (take (length word) bytes) word) refl).0 is in
-        let behind : drop (length word) bytes ≡ rest = cc in
-        sym (take-append-drop (length word) bytes) ∙ ap (λ z. z ++ drop (length word) bytes) same ∙ ap (λ z. word ++ z) behind)
+    let same = (slice_eq-Decides Decides-eqb (take (length word) bytes) word (pointwise ◌==◌ (take (length word) bytes) word) refl).0 is in
+    let behind : drop (length word) bytes ≡ rest = cc in
+    sym (take-append-drop (length word) bytes) ∙ ap (λ z. z ++ drop (length word) bytes) same ∙ ap (λ z. word ++ z) behind)
     (λ is k h. absurd (cc)) refl e
 
 pub number_behind-written : (word rest : List ℕ) (greatest n : ℕ) → greatest < 2 ^ 63 → InRange greatest n → Stops is_ascii_digit rest

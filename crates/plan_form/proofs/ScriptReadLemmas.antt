@@ -85,8 +85,7 @@ behind_this bytes rest line after done parts without e is =
 pub feeding_fault : (greatest before : ℕ) (bytes rest : List ℕ) (at : ℕ) (old : ScriptReader) (wrong : ParseFault) (line after : List ℕ) (f : Feeding greatest before bytes rest at old) → Next rest line after
     → is_done line ≡ false → FeedsLine old.greatest f.done line (Err wrong) → ReadsScript greatest before bytes (Err (script_fault (at + 1) wrong))
 feeding_fault greatest before bytes rest at old (parse.Fault inside what) line after f n is (number, fault) =
-    let count = f.count in
-    (
+    let count = f.count in (
       length f.done + 1,
       (let e : at + 1 ≡ before + (length f.done + 1) = omega (arith, count) in e),
       inl (f.done, before_done (lines after), line, before_other bytes rest line after f.done f.parts f.without n.first is, refl, begun greatest before bytes rest at old f, subst (λ z. LineFault z f.done line what) f.same fault),
@@ -114,8 +113,7 @@ pub ended_fault : (greatest before : ℕ) (bytes rest : List ℕ) (at : ℕ) (re
     → is_done line ≡ true → EndsLines reader.greatest f.done (Err wrong) → ReadsScript greatest before bytes (Err (script_fault (at + 1) wrong))
 ended_fault greatest before bytes rest at reader (parse.Fault inside what) line after f n is (number, block_is, left) =
     let count = f.count in
-    let same = sym (before_this bytes rest line after f.done f.parts f.without n.first is) in
-    (
+    let same = sym (before_this bytes rest line after f.done f.parts f.without n.first is) in (
       length f.done + 1,
       (let e : at + 1 ≡ before + (length f.done + 1) = omega (arith, count) in e),
       inr (has_this bytes rest line after f.done f.parts f.without n.first is, subst (λ z. FaultBehind greatest z (length f.done + 1) what) same (refl, block_is, begun greatest before bytes rest at reader f, subst (λ z. LeftOpen z f.done) f.same left)),
@@ -125,8 +123,7 @@ ended_fault greatest before bytes rest at reader parse.NoMemory line after f n i
 pub unended : (greatest before : ℕ) (bytes : List ℕ) (at : ℕ) (reader : ScriptReader) → Feeding greatest before bytes [] at reader → ReadsScript greatest before bytes (Err (Fault (at + 1) kind.End))
 unended greatest before bytes at reader f =
     let count = f.count in
-    let same : f.done ≡ lines bytes = sym (f.parts ∙ append-nil f.done) in
-    (
+    let same : f.done ≡ lines bytes = sym (f.parts ∙ append-nil f.done) in (
       length f.done + 1,
       (let e : at + 1 ≡ before + (length f.done + 1) = omega (arith, count) in e),
       (subst (λ z. has_done z ≡ false) same f.without, subst (BeginScript greatest) same (begun greatest before bytes [] at reader f), ap (λ z. length z + 1) same),

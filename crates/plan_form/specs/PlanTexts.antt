@@ -2,10 +2,7 @@
 use Rattle.std.specs.Prelude.{◌≡◌, ℕ, ◌+◌, ◌-◌, ◌^◌, ◌≤◌, ◌==◌, List, [], ◌∷◌, ◌++◌, length, codes, if◌then◌else◌}
 use Rattle.std.specs.Fmt.{decimal}
 use Rattle.value_form.specs.declared.acts.ActSpec.{ActSpec}
-use Rattle.value_form.specs.Mirror.{Spot, Fixed, At, Block, block}
-use Rattle.statement_form.specs.Row.{Row}
-use Rattle.statement_form.specs.Row as r
-use Rattle.statement_form.specs.Rows.{Numbered, rows}
+use Rattle.value_form.specs.Mirror.{block}
 use Rattle.statement_form.specs.RowTexts.{script_text}
 use Rattle.script_form.specs.Printable.{IsPrintable}
 use Rattle.plan_form.specs.declared.act_lines.Terms.{Terms}
@@ -34,20 +31,6 @@ plan_text plan = head_text plan.run plan.repositories plan.brokers ++ acts_text 
 
 -- ---- plans that have a text
 
--- the object is of a repository from 1 to the greatest
-abbrev pub SpotWithin : ℕ → Spot → Type 0
-SpotWithin greatest (Fixed object) = InRange greatest object.repository
-SpotWithin greatest (At n x) = InRange greatest n
-
-abbrev pub RowWithin : ℕ → Row → Type 0
-RowWithin greatest (r.Read name place) = SpotWithin greatest place
-RowWithin greatest (r.Write place x) = SpotWithin greatest place
-RowWithin greatest _ = Unit {0}
-
-abbrev pub RowsWithin : ℕ → List Numbered → Type 0
-RowsWithin greatest [] = Unit {0}
-RowsWithin greatest (x ∷ xs) = RowWithin greatest x.row × RowsWithin greatest xs
-
 -- the act with the number n is in the ranges of a plan, and its script is one of the language
 pub record IsAct (repositories brokers n : ℕ) (act : ActSpec) : Type 0 where
   pub index : act.index ≡ n
@@ -56,8 +39,7 @@ pub record IsAct (repositories brokers n : ℕ) (act : ActSpec) : Type 0 where
   pub timeout : InRange 1000000 act.timeout
   pub tries : InRange 100 act.tries
   pub clock : InRange (2 ^ 40 - 1) act.clock
-  pub script : IsPrintable (block act.script.lines)
-  pub within : RowsWithin repositories (rows (block act.script.lines))
+  pub script : IsPrintable repositories (block act.script.lines)
 
 abbrev pub EachAct : (repositories brokers n : ℕ) → List ActSpec → Type 0
 EachAct repositories brokers n [] = Unit {0}

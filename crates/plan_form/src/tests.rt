@@ -49,52 +49,36 @@ fn plans_and_faults(rt: HostRuntime) -> Result<(), Fail> {
         // Heads.
         ([one(b""), one(b""), one(b"")].as_slice(), "line 1 header"),
         (
-            &[one(
-                b"swallow plan 2\nrun 1\nrepositories 1\nbrokers 1\n",
-            )],
+            &[one(b"swallow plan 2\nrun 1\nrepositories 1\nbrokers 1\n")],
             "line 1 header",
         ),
         (&[one(b"swallow plan 1")], "line 2 run"),
         (
-            &[one(
-                b"swallow plan 1\nrun 0\nrepositories 1\nbrokers 1\n",
-            )],
+            &[one(b"swallow plan 1\nrun 0\nrepositories 1\nbrokers 1\n")],
             "line 2 run",
         ),
         (
-            &[one(
-                b"swallow plan 1\nrun 4294967296\nrepositories 1\nbrokers 1\n",
-            )],
+            &[one(b"swallow plan 1\nrun 4294967296\nrepositories 1\nbrokers 1\n")],
             "line 2 run",
         ),
         (
-            &[one(
-                b"swallow plan 1\nrun 01\nrepositories 1\nbrokers 1\n",
-            )],
+            &[one(b"swallow plan 1\nrun 01\nrepositories 1\nbrokers 1\n")],
             "line 2 run",
         ),
         (
-            &[one(
-                b"swallow plan 1\nrun 1\nrepositories 17\nbrokers 1\n",
-            )],
+            &[one(b"swallow plan 1\nrun 1\nrepositories 17\nbrokers 1\n")],
             "line 3 repositories",
         ),
         (
-            &[one(
-                b"swallow plan 1\nrun 1\nrepositories 1\nbrokers 0\n",
-            )],
+            &[one(b"swallow plan 1\nrun 1\nrepositories 1\nbrokers 0\n")],
             "line 4 brokers",
         ),
         (
-            &[one(
-                b"swallow plan 1\nrun 1\nrepositories 1\nbrokers 1 \n",
-            )],
+            &[one(b"swallow plan 1\nrun 1\nrepositories 1\nbrokers 1 \n")],
             "line 4 brokers",
         ),
         (
-            &[one(
-                b"swallow plan 1\r\nrun 4294967295\nrepositories 16\nbrokers 16",
-            )],
+            &[one(b"swallow plan 1\r\nrun 4294967295\nrepositories 16\nbrokers 16")],
             "0 acts",
         ),
         // Act lines.
@@ -162,10 +146,7 @@ fn plans_and_faults(rt: HostRuntime) -> Result<(), Fail> {
             ],
             "2 acts",
         ),
-        (
-            &[one(HEAD), one(ACT), one(b"done\n\ndone\n")],
-            "line 8 act",
-        ),
+        (&[one(HEAD), one(ACT), one(b"done\n\ndone\n")], "line 8 act"),
         // Scripts.
         (
             &[one(HEAD), one(ACT), one(b"let x = ~\ndone\n")],
@@ -214,7 +195,12 @@ fn plans_and_faults(rt: HostRuntime) -> Result<(), Fail> {
             "line 6 script depth",
         ),
         (
-            &[one(HEAD), one(ACT), times(b"print 1\n", 201), one(b"done\n")],
+            &[
+                one(HEAD),
+                one(ACT),
+                times(b"print 1\n", 201),
+                one(b"done\n"),
+            ],
             "line 206 script size",
         ),
         (
@@ -310,7 +296,10 @@ fn made_plans(rt: HostRuntime) -> Result<(), Fail> {
     let alloc = rt.alloc();
     let plan = make(alloc, 7, 3)?;
     let text = print(alloc, &plan)?;
-    assert_eq!(rt; text.as_slice(), b"swallow plan 1\nrun 1\nrepositories 8\nbrokers 8\nact broker 2 home 7 timeout 100000 tries 100\nread a 8.8\nread b 7.2\nif given(a, 1000) >= 14\nwrite 8.8 given(a, 1000) - 14\nwrite 7.2 given(b, 1000) + 14\nend\ndone\nact broker 3 home 2 timeout 100000 tries 100\nread a 1.4\nread b 6.1\nif given(a, 1000) >= 5\nwrite 1.4 given(a, 1000) - 5\nwrite 6.1 given(b, 1000) + 5\nend\ndone\nact broker 4 home 4 timeout 100000 tries 100\nread a 7.7\nread b 1.4\nif given(a, 1000) >= 16\nwrite 7.7 given(a, 1000) - 16\nwrite 1.4 given(b, 1000) + 16\nend\ndone\nact broker 1 home 1 timeout 100000 tries 100\nlet k = 1\nlet s = 0\nrepeat 8\nread v 1[k]\nlet s = s + given(v, 1000)\nread v 2[k]\nlet s = s + given(v, 1000)\nread v 3[k]\nlet s = s + given(v, 1000)\nread v 4[k]\nlet s = s + given(v, 1000)\nread v 5[k]\nlet s = s + given(v, 1000)\nread v 6[k]\nlet s = s + given(v, 1000)\nread v 7[k]\nlet s = s + given(v, 1000)\nread v 8[k]\nlet s = s + given(v, 1000)\nlet k = k + 1\nend\nprint s\ndone\n".as_slice());
+    assert_eq!(rt;
+        text.as_slice(),
+        b"swallow plan 1\nrun 1\nrepositories 8\nbrokers 8\nact broker 2 home 7 timeout 100000 tries 100\nread a 8.8\nread b 7.2\nif given(a, 1000) >= 14\nwrite 8.8 given(a, 1000) - 14\nwrite 7.2 given(b, 1000) + 14\nend\ndone\nact broker 3 home 2 timeout 100000 tries 100\nread a 1.4\nread b 6.1\nif given(a, 1000) >= 5\nwrite 1.4 given(a, 1000) - 5\nwrite 6.1 given(b, 1000) + 5\nend\ndone\nact broker 4 home 4 timeout 100000 tries 100\nread a 7.7\nread b 1.4\nif given(a, 1000) >= 16\nwrite 7.7 given(a, 1000) - 16\nwrite 1.4 given(b, 1000) + 16\nend\ndone\nact broker 1 home 1 timeout 100000 tries 100\nlet k = 1\nlet s = 0\nrepeat 8\nread v 1[k]\nlet s = s + given(v, 1000)\nread v 2[k]\nlet s = s + given(v, 1000)\nread v 3[k]\nlet s = s + given(v, 1000)\nread v 4[k]\nlet s = s + given(v, 1000)\nread v 5[k]\nlet s = s + given(v, 1000)\nread v 6[k]\nlet s = s + given(v, 1000)\nread v 7[k]\nlet s = s + given(v, 1000)\nread v 8[k]\nlet s = s + given(v, 1000)\nlet k = k + 1\nend\nprint s\ndone\n".as_slice()
+    );
     assert_eq!(rt; canonical(alloc, text.as_slice()), Ok(text.into_vec()));
     Ok(())
 }

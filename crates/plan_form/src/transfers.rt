@@ -92,12 +92,7 @@ pub fn transfer(
 }
 
 // The name gets the value more.
-fn grows(
-    alloc: Global,
-    line: u16,
-    bytes: &[u8],
-    by: Expr,
-) -> Result<Stmt, AllocError>
+fn grows(alloc: Global, line: u16, bytes: &[u8], by: Expr) -> Result<Stmt, AllocError>
     ensures { IfOk result (λ s. s ≡ stmt.Let line bytes.now (e.Infix o.Add (e.Name bytes.now) by)) }
 {
     let sum = infix(alloc, variable(alloc, bytes)?, Infix::Add, by)?;

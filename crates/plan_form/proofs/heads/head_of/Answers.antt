@@ -20,8 +20,7 @@ pub returns-in_default-next_number-3 : goal.returns-in_default-next_number-3
 returns-in_default-next_number-3 c =
     let run = c.in-Some-next_number.ensures in
     let repositories = c.in-Some-next_number-2.ensures in
-    subst (λ z. ReadsHead c.args.bytes.now (Err z)) (sym c.fault-in_default-next_number-3.ensures)
-    (
+    subst (λ z. ReadsHead c.args.bytes.now (Err z)) (sym c.fault-in_default-next_number-3.ensures) (
       refl,
       c.in-Some-next_number.run',
       c.in-Some-next_number-2.repositories,
