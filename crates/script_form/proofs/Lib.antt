@@ -4,5 +4,6 @@ pub mod LineReadLemmas
 pub mod ParseLemmas
 pub mod PrintLemmas
 pub mod ProgressLemmas
+pub mod RangeLemmas
 pub mod ReadLimitLemmas
 pub mod RowLemmas

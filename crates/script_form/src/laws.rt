@@ -1,6 +1,7 @@
 ghost use Rattle.std.specs.Prelude.{◌≡◌, ◌<◌, ◌++◌, ℕ, List, Ok, Result, take};
 ghost use Rattle.value_form.specs.declared.scripts.Script.{Script};
 ghost use Rattle.value_form.specs.Mirror.{Block, block};
+ghost use Rattle.value_form.specs.Ranges.{IsBlock};
 ghost use Rattle.statement_form.specs.RowTexts.{script_text};
 ghost use Rattle.script_form.specs.Lines.{lines};
 ghost use Rattle.script_form.specs.Printable.{IsPrintable};
@@ -10,10 +11,12 @@ ghost use Rattle.script_form.specs.declared.parse_faults.ParseFault.{ParseFault}
 ghost use Rattle.script_form.specs.declared.parse_faults.ParseKind.{ParseKind};
 
 /// Lines are one script at most. Each script that lines are is one of the language, and the lines of
-/// the canonical text of a script of the language are that script, for each greatest repository.
+/// the canonical text of a script of the language are that script, for each greatest repository. The
+/// numbers of a script of the language are in the range that a run of it wants.
 pub fn law_of_lines()
     ensures one { (greatest : ℕ) (ls : List (List ℕ)) (a b : Block) → IsScriptLines greatest ls a → IsScriptLines greatest ls b → a ≡ b }
     ensures limits { (greatest : ℕ) (ls : List (List ℕ)) (script : Block) → IsScriptLines greatest ls script → IsPrintable greatest script }
+    ensures ranges { (greatest : ℕ) (script : Block) → IsPrintable greatest script → IsBlock script }
     ensures printed { (greatest : ℕ) (script : Block) → IsPrintable greatest script → IsScriptLines greatest (lines (script_text script)) script }
 {}
 
