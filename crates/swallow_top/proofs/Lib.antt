@@ -1,7 +1,4 @@
-pub mod BodyLemmas
-pub mod LineLemmas
-pub mod NumberLemmas
-pub mod ReportLemmas
-pub mod SimpleLemmas
+pub mod ActLemmas
+pub mod InputLemmas
 pub mod StreamLemmas
 pub mod TopLemmas

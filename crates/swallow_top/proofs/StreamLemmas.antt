@@ -1,11 +1,13 @@
 -- Bytes that are written one piece after another.
-use Rattle.std.proofs.Common.{ℕ, ◌+◌, ◌-◌, ◌≤◌, List, ◌++◌, length, take, drop, sym, ap, ◌∙◌, arith, None, Some, append_assoc, length-drop}
+use Rattle.std.proofs.Common.{◌≡◌, ℕ, ◌+◌, ◌-◌, ◌≤◌, List, ◌++◌, length, take, drop, sym, ap, ◌∙◌, arith, None, Some, append_assoc, length-drop}
 use Rattle.std.specs.Prelude.{Option}
 use Rattle.std.specs.Io.KnownBytes.{Appends, Keeps}
-use Rattle.std.proofs.Math.Seq.{take-add}
+use Rattle.std.proofs.Math.Seq.{take-add, take-length}
 use Rattle.std.proofs.lemmas.List.{take-append-drop}
 use Rattle.swallow_top.specs.Written.{AppendsFront}
-use Rattle.swallow_top.proofs.LineLemmas.{take-drop_rest}
+
+pub take-drop_rest : (bytes : List ℕ) (n : ℕ) → take (length bytes - n) (drop n bytes) ≡ drop n bytes
+take-drop_rest bytes n = rw (← length-drop n bytes) (take-length (drop n bytes))
 
 Appends-append : (a b c : Option (List ℕ)) (xs ys : List ℕ) → Appends a b xs → Appends b c ys → Appends a c (xs ++ ys)
 Appends-append None b c xs ys p q = tt

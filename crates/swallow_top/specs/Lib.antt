@@ -1,6 +1,6 @@
-pub mod Plans
-pub mod Reading
-pub mod Reports
-pub mod Simple
+pub mod Inputs
+pub mod PlanReads
+pub mod Ready
+pub mod Runs
 pub mod Top
 pub mod Written

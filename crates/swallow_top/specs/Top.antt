@@ -1,31 +1,47 @@
 -- What the top call promises of its input and output.
-use Rattle.std.specs.Prelude.{◌≡◌, ℕ, List, [], ◌∷◌, ◌++◌, codes, Some, map}
+use Rattle.std.specs.Prelude.{◌≡◌, ℕ, ◌⊎◌, List, [], ◌∷◌, ◌++◌, codes, map}
 use Rattle.std.specs.Borrow.{Bor}
-use Rattle.std.specs.FinMap as finite
-use Rattle.value_form.specs.declared.endings.Ending.TheVariants.{Finished}
-use Rattle.value_form.specs.Mirror.{block}
-use Rattle.script_meaning.specs.Meaning.{Over, perform}
-use Rattle.swallow_top.specs.declared.plans.Plan.{Plan}
-use Rattle.swallow_top.specs.Plans.{plan_at}
-use Rattle.swallow_top.specs.Reports.{report_text}
+use Rattle.std.specs.Fmt.{decimal}
+use Rattle.plan_form.specs.declared.plans.Plan.{Plan}
+use Rattle.plan_form.specs.declared.plan_faults.PlanKind.{PlanKind}
+use Rattle.plan_form.specs.PlanFaults.{IsPlanFault, kind_text}
+use Rattle.plan_form.specs.Plans.{IsPlan}
+use Rattle.report_writer.specs.Reports.{report_text}
+use Rattle.swallow_top.specs.Runs.{IsServed, report_of}
 
 -- the one word `run`
 abbrev pub AreWords : List (Bor (List ℕ)) → Type 0
 AreWords words = map (λ w. w.now) words ≡ codes "run" ∷ []
 
--- the input is a plan whose script is finished, and the text is its report
+-- the text is the report of the plan that the input is
 pub record IsReport (input text : List ℕ) : Type 0 where
   pub plan : Plan
-  pub is_plan : plan_at input ≡ Some plan
-  pub is_finished : (perform (block plan.act.script.lines) finite.empty).stop ≡ Over Finished
-  pub is_text : text ≡ report_text plan
+  pub is_plan : IsPlan input plan
+  pub is_served : IsServed plan
+  pub is_text : text ≡ report_text (report_of plan)
 
 -- the lines of the refusals
 abbrev pub words_line : List ℕ
 words_line = codes "swallow: words" ++ 10 ∷ []
 
+abbrev pub source_line : List ℕ
+source_line = codes "swallow: source" ++ 10 ∷ []
+
 abbrev pub plan_line : List ℕ
 plan_line = codes "swallow: plan" ++ 10 ∷ []
 
-abbrev pub source_line : List ℕ
-source_line = codes "swallow: source" ++ 10 ∷ []
+-- the line and the kind of a plan's fault
+abbrev pub fault_line : ℕ → PlanKind → List ℕ
+fault_line line kind = codes "swallow: plan line " ++ (decimal line ++ 32 ∷ (kind_text kind ++ 10 ∷ []))
+
+-- the input is no plan, for this fault
+abbrev pub IsFaulty : List ℕ → List ℕ → Type 0
+IsFaulty input text = (line : ℕ) × (kind : PlanKind) × IsPlanFault input line kind × (text ≡ fault_line line kind)
+
+-- the input is a plan that isn't served
+abbrev pub IsUnserved : List ℕ → Type 0
+IsUnserved input = (plan : Plan) × IsPlan input plan × (IsServed plan → ⊥)
+
+-- the text refuses what the input is
+abbrev pub IsRefusal : List ℕ → List ℕ → Type 0
+IsRefusal input text = IsFaulty input text ⊎ (IsUnserved input × (text ≡ plan_line))

@@ -1,16 +1,17 @@
 //! The top call: from words to a report.
 #![tactic(auto)]
 
-mod bodies;
+mod acts;
+mod laws;
 mod lines;
-mod plans;
-mod reports;
+mod served;
 mod stops;
 mod streams;
-mod tokens;
 mod top;
 
+pub use laws::law_of_acts;
 pub use top::swallow;
+
 
 #[cfg(test)]
 mod tests;

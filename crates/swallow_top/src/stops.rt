@@ -1,3 +1,4 @@
+use plan_form::PlanKind;
 use std::alloc::{AllocError, AllocFailed};
 
 /// Why there is no report.
@@ -5,10 +6,10 @@ use std::alloc::{AllocError, AllocFailed};
 pub enum Stop {
     /// Memory is wanting.
     NoMemory,
-    /// The words aren't `run`.
-    Words,
-    /// The input isn't a plan.
-    Plan,
+    /// The input isn't a plan: the line of its fault, and what is wrong with it.
+    Fault { line: u32, kind: PlanKind },
+    /// The plan isn't served.
+    Unserved,
     /// The source failed.
     Source,
     /// The sink failed.

@@ -3,11 +3,17 @@ use std::alloc::Global;
 use std::test::*;
 use stream_port::{MemorySink, MemorySource};
 
+const HEAD: &[u8] = b"swallow plan 1\nrun 1\nrepositories 1\nbrokers 1\n";
+
+const ACT: &[u8] = b"act broker 1 home 1 timeout 5 tries 3\n";
+
 const FIRST: &[u8] =
     b"swallow plan 1\nrun 1\nrepositories 1\nbrokers 1\nact broker 1 home 1 timeout 5 tries 3\nwrite 1.7 10\nread x 1.7\nprint x\ndone\n";
 
 const FIRST_REPORT: &[u8] =
     b"swallow report 1\nrun 1\nact 1 broker 1 home 1\ntry 1.1.1 committed\nwrote 1.7 10\nread 1.7 10\nprint 10\nfinal 1.7 10\ntotals acts 1 committed 1 withdrawn 0 failed 0 refused 0 expired 0 spent 0 open 0\n";
+
+const RUN: &[&str] = &["run"];
 
 /// What a run of a plan is to end with.
 #[derive(Clone, Copy)]
@@ -33,8 +39,6 @@ fn run_of(alloc: Global, row: &Row<'_>) -> Result<(u8, MemorySink), Fail> {
     Ok((status, sink))
 }
 
-const RUN: &[&str] = &["run"];
-
 // A plan that no stream fails on.
 fn plan<'a>(plan: &'a [u8], status: u8, written: &'a [u8]) -> Row<'a> {
     Row {
@@ -47,35 +51,28 @@ fn plan<'a>(plan: &'a [u8], status: u8, written: &'a [u8]) -> Row<'a> {
     }
 }
 
+fn refused<'a>(words: &'a [&'a str]) -> Row<'a> {
+    Row {
+        words,
+        plan: FIRST,
+        source_fails: 0,
+        sink_fails: 0,
+        status: 1,
+        written: b"swallow: words\n",
+    }
+}
+
 #[test]
-fn reports_and_refusals(rt: HostRuntime) -> Result<(), Fail> {
+fn statuses_and_their_lines(rt: HostRuntime) -> Result<(), Fail> {
     for row in [
         plan(FIRST, 0, FIRST_REPORT),
-        plan(
-            b"swallow plan 1\r\nrun 4294967295\nrepositories 1\nbrokers 1\nact broker 1 home 1 timeout 1000000 tries 100\nread a 1.9\nprint a\ndone",
-            0,
-            b"swallow report 1\nrun 4294967295\nact 1 broker 1 home 1\ntry 1.1.1 committed\nread 1.9 nothing\nprint nothing\ntotals acts 1 committed 1 withdrawn 0 failed 0 refused 0 expired 0 spent 0 open 0\n",
-        ),
-        plan(
-            b"swallow plan 1\nrun 1\nrepositories 1\nbrokers 1\nact broker 1 home 1 timeout 5 tries 3\nwrite 1.10 9223372036854775807\nwrite 1.2 x\nread x 1.10\nwrite 1.9 x\nwrite 1.9 3\nread x 1.9\nprint x\ndone\n",
-            0,
-            b"swallow report 1\nrun 1\nact 1 broker 1 home 1\ntry 1.1.1 committed\nwrote 1.10 9223372036854775807\nwrote 1.2 nothing\nread 1.10 9223372036854775807\nwrote 1.9 9223372036854775807\nwrote 1.9 3\nread 1.9 3\nprint 3\nfinal 1.9 3\nfinal 1.10 9223372036854775807\ntotals acts 1 committed 1 withdrawn 0 failed 0 refused 0 expired 0 spent 0 open 0\n",
-        ),
-        plan(b"", 2, b"swallow: plan\n"),
-        plan(b"swallow plan 2\n", 2, b"swallow: plan\n"),
-        plan(
-            b"swallow plan 1\nrun 1\nrepositories 1\nbrokers 1\n",
-            2,
-            b"swallow: plan\n",
-        ),
-        Row {
-            words: &[],
-            plan: FIRST,
-            source_fails: 0,
-            sink_fails: 0,
-            status: 1,
-            written: b"swallow: words\n",
-        },
+        refused(&[]),
+        refused(&["run", "x"]),
+        refused(&["run", "--workers", "0"]),
+        refused(&["run", "--workers=2"]),
+        refused(&["load", "7"]),
+        plan(b"", 2, b"swallow: plan line 1 header\n"),
+        plan(b"swallow plan 2\n", 2, b"swallow: plan line 1 header\n"),
         Row {
             words: &["run", "x"],
             plan: FIRST,
@@ -87,7 +84,7 @@ fn reports_and_refusals(rt: HostRuntime) -> Result<(), Fail> {
         Row {
             words: RUN,
             plan: FIRST,
-            source_fails: 3,
+            source_fails: 1,
             sink_fails: 0,
             status: 3,
             written: b"swallow: source\n",
@@ -99,6 +96,14 @@ fn reports_and_refusals(rt: HostRuntime) -> Result<(), Fail> {
             sink_fails: 1,
             status: 3,
             written: b"",
+        },
+        Row {
+            words: RUN,
+            plan: b"",
+            source_fails: 0,
+            sink_fails: 2,
+            status: 2,
+            written: b"swallow: p",
         },
         Row {
             words: RUN,
@@ -116,63 +121,146 @@ fn reports_and_refusals(rt: HostRuntime) -> Result<(), Fail> {
     Ok(())
 }
 
+// What is written for a plan of one repository and one broker with these lines behind its head.
+fn written(alloc: Global, body: &[u8]) -> Result<(u8, Vec<u8>), Fail> {
+    let mut text = HEAD.to_vec(alloc)?;
+    text.extend_from_slice(body)?;
+    let (status, sink) = run_of(alloc, &plan(text.as_slice(), 0, b""))?;
+    Ok((status, sink.taken().to_vec(alloc)?))
+}
+
 #[test]
-fn lines_that_are_no_plan(rt: HostRuntime) -> Result<(), Fail> {
+fn reports_of_acts(rt: HostRuntime) -> Result<(), Fail> {
     let alloc = rt.alloc();
-    for line in [
-        b"".as_slice(),
-        b"# a comment".as_slice(),
-        b"print 01".as_slice(),
-        b"print 9223372036854775808".as_slice(),
-        b"print +1".as_slice(),
-        b"print  1".as_slice(),
-        b"print 1 ".as_slice(),
-        b"print".as_slice(),
-        b"print \xff".as_slice(),
-        b"read let 1.7".as_slice(),
-        b"read given 1.7".as_slice(),
-        b"read abcdefghijklmnopq 1.7".as_slice(),
-        b"read 7x 1.7".as_slice(),
-        b"read x 2.7".as_slice(),
-        b"read x 1.4294967296".as_slice(),
-        b"write 1.7".as_slice(),
-        b"write 1.07 1".as_slice(),
-        b"done".as_slice(),
+    for (body, report) in [
+        (b"".as_slice(), b"swallow report 1\nrun 1\ntotals acts 0 committed 0 withdrawn 0 failed 0 refused 0 expired 0 spent 0 open 0\n".as_slice()),
+        (
+            b"act broker 1 home 1 timeout 5 tries 3\nread a 1.9\nprint a\ndone\n".as_slice(),
+            b"swallow report 1\nrun 1\nact 1 broker 1 home 1\ntry 1.1.1 committed\nread 1.9 nothing\nprint nothing\ntotals acts 1 committed 1 withdrawn 0 failed 0 refused 0 expired 0 spent 0 open 0\n".as_slice(),
+        ),
+        (
+            b"act broker 1 home 1 timeout 5 tries 3\nwrite 1.1 1\nlet x = 9223372036854775807\nwrite 1.2 x\nlet y = x + 1\ndone\n".as_slice(),
+            b"swallow report 1\nrun 1\nact 1 broker 1 home 1\ntry 1.1.1 failed line 4 overflow\nwrote 1.1 1\nwrote 1.2 9223372036854775807\ntotals acts 1 committed 0 withdrawn 0 failed 1 refused 0 expired 0 spent 0 open 0\n".as_slice(),
+        ),
+        (
+            b"act broker 1 home 1 timeout 5 tries 3\nlet s = 0\nrepeat 3\nread v 1[s]\nlet s = s + given(v, 1)\nend\nprint s\nprint \"a\\\"b\" & text(s)\ndone\n".as_slice(),
+            b"swallow report 1\nrun 1\nact 1 broker 1 home 1\ntry 1.1.1 committed\nread 1.0 nothing\nread 1.1 nothing\nread 1.2 nothing\nprint 3\nprint \"a\\\"b3\"\ntotals acts 1 committed 1 withdrawn 0 failed 0 refused 0 expired 0 spent 0 open 0\n".as_slice(),
+        ),
+        (
+            b"act broker 1 home 1 timeout 5 tries 3\nwrite 1.1 1\nwithdraw\ndone\n".as_slice(),
+            b"swallow report 1\nrun 1\nact 1 broker 1 home 1\ntry 1.1.1 withdrawn line 2\nwrote 1.1 1\ntotals acts 1 committed 0 withdrawn 1 failed 0 refused 0 expired 0 spent 0 open 0\n".as_slice(),
+        ),
+        (
+            b"act broker 1 home 1 timeout 5 tries 3\nlet x = 7 / -2\nprint x\nprint -7 mod 2\ndone\n".as_slice(),
+            b"swallow report 1\nrun 1\nact 1 broker 1 home 1\ntry 1.1.1 committed\nprint -3\nprint -1\ntotals acts 1 committed 1 withdrawn 0 failed 0 refused 0 expired 0 spent 0 open 0\n".as_slice(),
+        ),
+        (
+            b"act broker 1 home 1 timeout 5 tries 3\nwrite 1.10 1\nwrite 1.2 \"b\"\ndone\n# between\nact broker 1 home 1 timeout 5 tries 1 clock 1\nwrite 1.10 5\nread a 1.10\nwithdraw\ndone\nact broker 1 home 1 timeout 5 tries 3\nread a 1.10\nwrite 1.9 a\nwrite 1.2 nothing\ndone\n".as_slice(),
+            b"swallow report 1\nrun 1\nact 1 broker 1 home 1\ntry 1.1.1 committed\nwrote 1.10 1\nwrote 1.2 \"b\"\nact 2 broker 1 home 1\ntry 2.1.1 withdrawn line 3\nwrote 1.10 5\nread 1.10 5\nact 3 broker 1 home 1\ntry 3.1.1 committed\nread 1.10 1\nwrote 1.9 1\nwrote 1.2 nothing\nfinal 1.9 1\nfinal 1.10 1\ntotals acts 3 committed 2 withdrawn 1 failed 0 refused 0 expired 0 spent 0 open 0\n".as_slice(),
+        ),
     ] {
-        let mut text =
-            b"swallow plan 1\nrun 1\nrepositories 1\nbrokers 1\nact broker 1 home 1 timeout 5 tries 3\n"
-                .as_slice()
-                .to_vec(alloc)?;
-        text.extend_from_slice(line)?;
-        text.extend_from_slice(b"\ndone\n")?;
-        let row = plan(text.as_slice(), 2, b"swallow: plan\n");
-        let (status, sink) = run_of(alloc, &row)?;
-        assert_eq!(rt; status, row.status);
-        assert_eq!(rt; sink.taken(), row.written);
+        let (status, text) = written(alloc, body)?;
+        assert_eq!(rt; status, 0);
+        assert_eq!(rt; text.as_slice(), report);
     }
     Ok(())
 }
 
-// A plan whose script is so many lines `print 1`.
-fn long_plan(alloc: Global, lines: u32) -> Result<Vec<u8>, Fail> {
-    let mut text =
-        b"swallow plan 1\nrun 1\nrepositories 1\nbrokers 1\nact broker 1 home 1 timeout 5 tries 3\n"
-            .as_slice()
-            .to_vec(alloc)?;
-    for _ in 0..lines {
-        text.extend_from_slice(b"print 1\n")?;
+#[test]
+fn plans_that_are_refused(rt: HostRuntime) -> Result<(), Fail> {
+    let alloc = rt.alloc();
+    for (body, line) in [
+        (b"act broker 2 home 1 timeout 5 tries 3\n".as_slice(), b"swallow: plan line 5 act\n".as_slice()),
+        (
+            b"act broker 1 home 1 timeout 5 tries 3\nwrite 1.7 10\nread x 1.7\nprint x\n".as_slice(),
+            b"swallow: plan line 9 end\n".as_slice(),
+        ),
+        (
+            b"act broker 1 home 1 timeout 5 tries 3\nprint 2.1\ndone\n".as_slice(),
+            b"swallow: plan line 6 script range\n".as_slice(),
+        ),
+        (
+            b"act broker 1 home 1 timeout 5 tries 3 clock 2\nprint 1\ndone\n".as_slice(),
+            b"swallow: plan\n".as_slice(),
+        ),
+    ] {
+        let (status, text) = written(alloc, body)?;
+        assert_eq!(rt; status, 2);
+        assert_eq!(rt; text.as_slice(), line);
     }
-    text.extend_from_slice(b"done\n")?;
-    Ok(text)
+    for (whole, line) in [
+        (b"swallow plan 1\nrun 1\nrepositories 1\nbrokers 2\n".as_slice(), b"swallow: plan\n".as_slice()),
+        (b"swallow plan 1\nrun 1\nrepositories 2\nbrokers 1\n".as_slice(), b"swallow: plan\n".as_slice()),
+        (b"swallow plan 1\nrun 0\nrepositories 1\nbrokers 1\n".as_slice(), b"swallow: plan line 2 run\n".as_slice()),
+    ] {
+        let (status, sink) = run_of(alloc, &plan(whole, 2, line))?;
+        assert_eq!(rt; status, 2);
+        assert_eq!(rt; sink.taken(), line);
+    }
+    Ok(())
+}
+
+// So many bytes of a text, or all of it.
+fn front(text: &[u8], size: usize) -> &[u8]
+{
+    if size < text.len() {
+        &text[..size]
+    } else {
+        text
+    }
+}
+
+#[test]
+fn streams_that_fail_at_each_call(rt: HostRuntime) -> Result<(), Fail> {
+    let alloc = rt.alloc();
+    let mut call = 1;
+    let mut from = 0;
+    // The source gives 7 bytes a call, and a call more tells that it has ended.
+    while from <= FIRST.len() {
+        let row = Row {
+            words: RUN,
+            plan: FIRST,
+            source_fails: call,
+            sink_fails: 0,
+            status: 3,
+            written: b"swallow: source\n",
+        };
+        let (status, sink) = run_of(alloc, &row)?;
+        assert_eq!(rt; status, row.status);
+        assert_eq!(rt; sink.taken(), row.written);
+        call += 1;
+        from += 7;
+    }
+    call = 1;
+    from = 0;
+    while from < FIRST_REPORT.len() {
+        let row = Row {
+            words: RUN,
+            plan: FIRST,
+            source_fails: 0,
+            sink_fails: call,
+            status: 4,
+            written: front(FIRST_REPORT, from),
+        };
+        let (status, sink) = run_of(alloc, &row)?;
+        assert_eq!(rt; status, row.status);
+        assert_eq!(rt; sink.taken(), row.written);
+        call += 1;
+        from += 10;
+    }
+    Ok(())
 }
 
 #[test]
 fn limits_of_a_script(rt: HostRuntime) -> Result<(), Fail> {
     let alloc = rt.alloc();
-    for (lines, status) in [(200, 0), (201, 2)] {
-        let text = long_plan(alloc, lines)?;
-        let row = plan(text.as_slice(), status, b"");
-        let (ended, _) = run_of(alloc, &row)?;
+    for (lines, status) in [(200u32, 0), (201, 2)] {
+        let mut body = ACT.to_vec(alloc)?;
+        for _ in 0..lines {
+            body.extend_from_slice(b"print 1\n")?;
+        }
+        body.extend_from_slice(b"done\n")?;
+        let (ended, _) = written(alloc, body.as_slice())?;
         assert_eq!(rt; ended, status);
     }
     Ok(())

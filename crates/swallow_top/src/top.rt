@@ -1,15 +1,18 @@
-ghost use Rattle.std.specs.Prelude.{◌≡◌, ◌≤◌, ◌↔◌, ◌⊎◌, Some, None, IsTrue, IfOk, IfSome, IsErrOf, ℕ, List};
+ghost use Rattle.std.specs.Prelude.{◌≡◌, ◌≢◌, ◌≤◌, ◌↔◌, ◌⊎◌, ℕ, List, Err, IsTrue, IfOk, IsErrOf};
 ghost use Rattle.std.specs.Io.KnownBytes.{Appends, IsAtEnd};
 ghost use Rattle.stream_port.specs.Causes.{Rose};
-ghost use Rattle.swallow_top.specs.Plans.{plan_at};
-ghost use Rattle.swallow_top.specs.Top.{AreWords, IsReport, words_line, plan_line, source_line};
+ghost use Rattle.plan_form.specs.declared.plan_faults.PlanKind.{PlanKind};
+ghost use Rattle.plan_form.specs.PlanFaults.{IsPlanFault};
+ghost use Rattle.swallow_top.specs.Inputs.{OfInput};
+ghost use Rattle.swallow_top.specs.Top.{AreWords, IsReport, IsRefusal, IsUnserved, words_line, source_line};
 ghost use Rattle.swallow_top.specs.Written.{AppendsFront, Writes};
 
-use crate::plans::plan_of;
-use crate::reports::report;
+use crate::acts::run;
+use crate::lines::fault_line;
+use crate::served::plan_of;
 use crate::stops::Stop;
 use crate::streams::{read_all, write_all};
-use serial_model::{ObjectMap, perform};
+use report_writer::write_report;
 use std::alloc::Global;
 use stream_port::{Sink, Source};
 
@@ -22,28 +25,30 @@ fn are_words(words: &[&str]) -> bool
 
 // Reads the plan, carries it out, and gives the report.
 fn work<I: Source>(alloc: Global, source: &mut I) -> Result<Vec<u8>, Stop>
-    ensures report { IfOk result (λ v. IfSome (I.left source.old) (λ input. IsReport input v.items)) }
+    ensures report { IfOk result (λ v. OfInput (I.left source.old) (λ input. IsReport input v.items)) }
     ensures ended { IfOk result (λ v. IsAtEnd (I.left source.new)) }
-    ensures plan { IsErrOf result Stop.Plan → IfSome (I.left source.old) (λ input. plan_at input ≡ None) }
+    ensures fault { (line : ℕ) (kind : PlanKind) → result ≡ Err (Stop.Fault line kind) → OfInput (I.left source.old) (λ input. IsPlanFault input line kind) }
+    ensures unserved { IsErrOf result Stop.Unserved → OfInput (I.left source.old) IsUnserved }
     ensures source { IsErrOf result Stop.Source → Rose (I.faults source.old) (I.faults source.new) }
-    ensures words { IsErrOf result Stop.Words → ⊥ }
     ensures sink { IsErrOf result Stop.Sink → ⊥ }
 {
     let bytes = read_all(alloc, source)?;
-    let Some(plan) = plan_of(alloc, bytes.as_slice())? else {
-        return Err(Stop::Plan);
+    let plan = match plan_of(alloc, bytes.as_slice()) {
+        Ok(plan) => plan,
+        Err(stop) => return Err(stop),
     };
-    let empty = ObjectMap::new(alloc);
-    let act = perform(alloc, &plan.act.script, &empty)?;
-    Ok(report(alloc, plan.run, act)?)
+    let report = run(alloc, &plan)?;
+    let text = write_report(alloc, &report)?;
+    Ok(text.into_vec())
 }
 
-/// Reads a plan from the source, carries it out, and writes its report to the sink. The answer is
-/// the status with which a program ends:
+/// Reads a plan from the source, carries its acts out one after another, and writes its report to the
+/// sink. The answer is the status with which a program ends:
 ///
 /// - 0: the report was written;
 /// - 1: the words aren't `run`, and `swallow: words` was written;
-/// - 2: the input isn't a plan of one act, and `swallow: plan` was written;
+/// - 2: the input isn't a plan, and `swallow: plan line L KIND` was written; or the plan has more than
+///   one repository or broker or an act with a clock, and `swallow: plan` was written;
 /// - 3: the source failed, and `swallow: source` was written;
 /// - 4: the sink failed while the report was written;
 /// - 7: memory is wanting.
@@ -53,22 +58,22 @@ pub fn swallow<I: Source, O: Sink>(
     source: &mut I,
     sink: &mut O,
 ) -> u8
-    // The input was read to its end, and the sink got the report of what its plan's script does
-    // alone over the empty map.
-    ensures done { result ≡ 0 → IfSome (I.left source.old) (λ input. (text : List ℕ) × IsReport input text × Appends (O.taken sink.old) (O.taken sink.new) text) }
+    // The input was read to its end, and the sink got the report of its plan: each act with what its
+    // script does alone over the map that the committed acts before it left, and that map at the end.
+    ensures done { result ≡ 0 → OfInput (I.left source.old) (λ input. (text : List ℕ) × IsReport input text × Appends (O.taken sink.old) (O.taken sink.new) text) }
     ensures ended { result ≡ 0 → IsAtEnd (I.left source.new) }
 
     // Each refusal has its cause and its line.
     ensures words { result ≡ 1 → AreWords words.now → ⊥ }
+    ensures words_are { result ≢ 1 → AreWords words.now }
     ensures words_said { result ≡ 1 → Writes (O.taken sink.old) (O.taken sink.new) (O.faults sink.old) (O.faults sink.new) words_line }
-    ensures plan { result ≡ 2 → IfSome (I.left source.old) (λ input. plan_at input ≡ None) }
-    ensures plan_said { result ≡ 2 → Writes (O.taken sink.old) (O.taken sink.new) (O.faults sink.old) (O.faults sink.new) plan_line }
+    ensures plan { result ≡ 2 → OfInput (I.left source.old) (λ input. (text : List ℕ) × IsRefusal input text × Writes (O.taken sink.old) (O.taken sink.new) (O.faults sink.old) (O.faults sink.new) text) }
     ensures source { result ≡ 3 → Rose (I.faults source.old) (I.faults source.new) }
     ensures source_said { result ≡ 3 → Writes (O.taken sink.old) (O.taken sink.new) (O.faults sink.old) (O.faults sink.new) source_line }
 
     // A front of the report stands where the sink failed.
     ensures sink { result ≡ 4 → Rose (O.faults sink.old) (O.faults sink.new) }
-    ensures front { result ≡ 4 → IfSome (I.left source.old) (λ input. (text : List ℕ) × IsReport input text × AppendsFront (O.taken sink.old) (O.taken sink.new) text) }
+    ensures front { result ≡ 4 → OfInput (I.left source.old) (λ input. (text : List ℕ) × IsReport input text × AppendsFront (O.taken sink.old) (O.taken sink.new) text) }
     ensures others { (result ≤ 4) ⊎ (result ≡ 7) }
 {
     if !are_words(words) {
@@ -80,7 +85,14 @@ pub fn swallow<I: Source, O: Sink>(
             Ok(()) => 0,
             Err(_) => 4,
         },
-        Err(Stop::Plan) => {
+        Err(Stop::Fault { line, kind }) => match fault_line(alloc, line, kind) {
+            Ok(text) => {
+                let _ = write_all(sink, text.as_slice());
+                2
+            }
+            Err(_) => 7,
+        },
+        Err(Stop::Unserved) => {
             let _ = write_all(sink, b"swallow: plan\n");
             2
         }

@@ -1,26 +1,24 @@
-use Rattle.std.proofs.Common.{rules, ◌≡◌, Some, ap, ◌∙◌, subst, length, ◌≤◌}
-use Rattle.std.specs.Prelude.{IfSome}
-use Rattle.std.specs.FinMap as finite
-use Rattle.value_form.specs.Mirror.{block}
-use Rattle.script_meaning.specs.Meaning.{perform}
-use Rattle.swallow_top.specs.Plans.{plan_at}
-use Rattle.swallow_top.specs.Reports.{text_of}
-use Rattle.swallow_top.specs.Simple.{IsSimpleBlock, IsSimpleScript}
-use Rattle.swallow_top.proofs.SimpleLemmas.{script_in_range, simple_ends}
-use Rattle.swallow_top.proofs.TopLemmas.{is_report}
+use Rattle.std.proofs.Common.{◌≡◌, Err, ap, ◌∙◌, subst}
+use Rattle.plan_form.specs.Plans.{IsPlan}
+use Rattle.report_writer.specs.Reports.{report_text}
+use Rattle.swallow_top.specs.PlanReads.{ReadsPlan}
+use Rattle.swallow_top.specs.Top.{IsReport}
+use Rattle.swallow_top.specs.declared.stops.Stop.TheVariants as stop
+use Rattle.swallow_top.proofs.ActLemmas.{plan_is_ready}
+use Rattle.swallow_top.proofs.InputLemmas.{of_whole, of_fault}
 use Rattle.swallow_top.proofs.top.work.Goals as goal
 
-pub perform-requires : goal.perform-requires
-perform-requires g c =
-    let simple : IsSimpleBlock (block c.in-Some.plan.act.script.lines) = subst (λ o. IfSome o (λ p. IsSimpleBlock (block p.act.script.lines))) c.in-Some.is c.in_ok-plan.ensures.simple in
-    let few : length c.in-Some.plan.act.script.lines ≤ 200 = subst (λ o. IfSome o (λ p. length p.act.script.lines ≤ 200)) c.in-Some.is c.in_ok-plan.ensures.few in
-    script_in_range c.in-Some.plan.act.script.lines (record { simple = simple; few = few })
+pub returns-in-Err-clause-fault : goal.returns-in-Err-clause-fault
+returns-in-Err-clause-fault g c = λ line kind e.
+    let same : c.in-Err.stop ≡ stop.Fault line kind = cc in
+    of_fault (g.I.Source.left c.args.source.now) (g.I.Source.left c.read_all.new.source) c.in_ok-bytes.bytes.items line kind c.in_ok-bytes.ensures.bytes c.in_ok-bytes.ensures.ended
+    (subst (λ z. ReadsPlan z (Err (stop.Fault line kind))) c.as_slice.ensures.value (subst (λ s. ReadsPlan c.as_slice.result.now (Err s)) same c.in-Err.ensures))
+
+pub run-requires : goal.run-requires
+run-requires g c = plan_is_ready c.as_slice.result.now c.in-Ok.plan c.in-Ok.ensures.0
 
 pub returns-clause-report : goal.returns-clause-report
 returns-clause-report g c =
-    let simple : IsSimpleBlock (block c.in-Some.plan.act.script.lines) = subst (λ o. IfSome o (λ p. IsSimpleBlock (block p.act.script.lines))) c.in-Some.is c.in_ok-plan.ensures.simple in
-    let few : length c.in-Some.plan.act.script.lines ≤ 200 = subst (λ o. IfSome o (λ p. length p.act.script.lines ≤ 200)) c.in-Some.is c.in_ok-plan.ensures.few in
-    let read : IfSome (g.I.Source.left c.args.source.now) (λ input. plan_at input ≡ Some c.in-Some.plan) = search rules in
-    is_report (g.I.Source.left c.args.source.now) c.in-Some.plan c.in_ok-report.field-0.items read
-    (simple_ends c.in-Some.plan.act.script.lines finite.empty (record { simple = simple; few = few }))
-    (c.in_ok-report.ensures ∙ ap (λ came. text_of c.in-Some.plan.run came.lines came.world) (c.in_ok-act.ensures ∙ ap (perform (block c.in-Some.plan.act.script.lines)) c.new-empty.ensures))
+    let is_plan : IsPlan c.in_ok-bytes.bytes.items c.in-Ok.plan = subst (λ z. IsPlan z c.in-Ok.plan) c.as_slice.ensures.value c.in-Ok.ensures.0 in
+    of_whole (g.I.Source.left c.args.source.now) (g.I.Source.left c.read_all.new.source) c.in_ok-bytes.bytes.items (λ input. IsReport input c.into_vec.result.items) c.in_ok-bytes.ensures.bytes (c.in_ok-bytes.ensures.ended is_plan.0)
+    (record { plan = c.in-Ok.plan; is_plan = is_plan; is_served = c.in-Ok.ensures.1; is_text = c.into_vec.ensures ∙ c.in_ok-text.ensures ∙ ap report_text c.in_ok-report.ensures })

@@ -1,0 +1,38 @@
+-- What was read of an input says what the input is.
+use Rattle.std.proofs.Common.{◌≡◌, ℕ, ◌+◌, ◌≤◌, ◌<◌, List, [], ◌∷◌, ◌++◌, length, None, Some, sym, ap, ◌∙◌, subst, arith, append-nil}
+use Rattle.std.specs.Prelude.{Option}
+use Rattle.std.specs.Io.KnownBytes.{Consumes, IsAtEnd}
+use Rattle.std.proofs.lemmas.List.{length-append}
+use Rattle.plan_form.specs.declared.plan_faults.PlanKind.{PlanKind}
+use Rattle.plan_form.specs.declared.plan_faults.PlanKind.TheVariants as kind
+use Rattle.plan_form.specs.PlanFaults.{IsPlanFault}
+use Rattle.swallow_top.specs.Inputs.{OfInput}
+
+-- all of the input was read
+pub of_whole : (left new : Option (List ℕ)) (bytes : List ℕ) (P : List ℕ → Type 0) → Consumes left new bytes → IsAtEnd new → P bytes → OfInput left P
+of_whole None new bytes P read ended h = (bytes, h)
+of_whole (Some input) None bytes P read ended h = absurd read
+of_whole (Some input) (Some rest) bytes P read ended h = subst P (sym (read ∙ ap (λ z. bytes ++ z) ended ∙ append-nil bytes)) h
+
+too_long : (left new : Option (List ℕ)) (bytes : List ℕ) (line : ℕ) → Consumes left new bytes → IsPlanFault bytes line kind.Size → OfInput left (λ input. IsPlanFault input line kind.Size)
+too_long None new bytes line read h = (bytes, h)
+too_long (Some input) None bytes line read h = absurd read
+too_long (Some input) (Some rest) bytes line read h =
+    (h.0, let size = ap length read ∙ length-append bytes rest in let long = h.1 in omega arith)
+
+-- where the bytes aren't too long they are the whole input
+pub of_fault : (left new : Option (List ℕ)) (bytes : List ℕ) (line : ℕ) (what : PlanKind) → Consumes left new bytes → (length bytes ≤ 4194304 → IsAtEnd new) → IsPlanFault bytes line what → OfInput left (λ input. IsPlanFault input line what)
+of_fault left new bytes line kind.Size read ended h = too_long left new bytes line read h
+of_fault left new bytes line kind.Header read ended h = of_whole left new bytes (λ input. IsPlanFault input line kind.Header) read (ended h.0) h
+of_fault left new bytes line kind.Run read ended h = of_whole left new bytes (λ input. IsPlanFault input line kind.Run) read (ended h.0) h
+of_fault left new bytes line kind.Repositories read ended h = of_whole left new bytes (λ input. IsPlanFault input line kind.Repositories) read (ended h.0) h
+of_fault left new bytes line kind.Brokers read ended h = of_whole left new bytes (λ input. IsPlanFault input line kind.Brokers) read (ended h.0) h
+of_fault left new bytes line kind.Act read ended h = of_whole left new bytes (λ input. IsPlanFault input line kind.Act) read (ended h.0) h
+of_fault left new bytes line kind.Acts read ended h = of_whole left new bytes (λ input. IsPlanFault input line kind.Acts) read (ended h.0) h
+of_fault left new bytes line (kind.Script s) read ended h = of_whole left new bytes (λ input. IsPlanFault input line (kind.Script s)) read (ended h.0) h
+of_fault left new bytes line kind.End read ended h = of_whole left new bytes (λ input. IsPlanFault input line kind.End) read (ended h.0) h
+
+-- what holds of the input with something more
+pub of_input-with : (left : Option (List ℕ)) (P Q : List ℕ → Type 0) → ((input : List ℕ) → P input → Q input) → OfInput left P → OfInput left Q
+of_input-with None P Q f h = (h.0, f h.0 h.1)
+of_input-with (Some input) P Q f h = f input h

@@ -1,0 +1,7 @@
+-- What is said of an input that may not be told.
+use Rattle.std.specs.Prelude.{ℕ, List, Option, Some, None}
+
+-- P holds of the input, or of some bytes where it isn't told
+abbrev pub OfInput : Option (List ℕ) → (List ℕ → Type 0) → Type 0
+OfInput None P = (bytes : List ℕ) × P bytes
+OfInput (Some input) P = P input
