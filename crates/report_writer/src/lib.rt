@@ -10,3 +10,6 @@ pub use records::{
     ActReport, Down, DownCause, Final, Report, Standing, TryOutcome, TryReport, Wire,
 };
 pub use writing::write_report;
+
+#[cfg(test)]
+mod tests;

@@ -5,3 +5,6 @@ mod attempts;
 mod requests;
 
 pub use attempts::{Attempt, carry_out};
+
+#[cfg(test)]
+mod tests;

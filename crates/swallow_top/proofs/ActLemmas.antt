@@ -26,18 +26,20 @@ acts_of-split (a ∷ before) more act m = ap (λ z. act_of a (perform (script_of
 
 each_ready : (repositories brokers n : ℕ) (acts : List ActSpec) → repositories ≤ 16 → brokers ≤ 16 → 1 ≤ n → n + length acts ≤ 10001 → EachAct repositories brokers n acts → AreReady acts
 each_ready repositories brokers n [] few_r few_b low high h = tt
-each_ready repositories brokers n (act ∷ more) few_r few_b low high (is, others) =
-    (record {
-      script = printable-range repositories (block act.script.lines) is.script;
-      stamp = record {
-        clock_low = (let k = is.index in omega arith);
-        clock_high = (let k = is.index in omega arith);
-        broker_low = is.broker.0;
-        broker_high = (let k = is.broker.1 in omega arith);
-        home_low = is.home.0;
-        home_high = (let k = is.home.1 in omega arith);
-      };
-    }, each_ready repositories brokers (n + 1) more few_r few_b (omega arith) (omega arith) others)
+each_ready repositories brokers n (act ∷ more) few_r few_b low high (is, others) = (
+  record {
+    script = printable-range repositories (block act.script.lines) is.script;
+    stamp = record {
+      clock_low = (let k = is.index in omega arith);
+      clock_high = (let k = is.index in omega arith);
+      broker_low = is.broker.0;
+      broker_high = (let k = is.broker.1 in omega arith);
+      home_low = is.home.0;
+      home_high = (let k = is.home.1 in omega arith);
+    };
+  },
+  each_ready repositories brokers (n + 1) more few_r few_b (omega arith) (omega arith) others,
+)
 
 pub plan_is_ready : (bytes : List ℕ) (plan : Plan) → IsPlan bytes plan → AreReady plan.acts
 plan_is_ready bytes plan is =

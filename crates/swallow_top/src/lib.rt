@@ -12,6 +12,5 @@ mod top;
 pub use laws::law_of_acts;
 pub use top::swallow;
 
-
 #[cfg(test)]
 mod tests;

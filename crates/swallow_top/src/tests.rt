@@ -133,7 +133,10 @@ fn written(alloc: Global, body: &[u8]) -> Result<(u8, Vec<u8>), Fail> {
 fn reports_of_acts(rt: HostRuntime) -> Result<(), Fail> {
     let alloc = rt.alloc();
     for (body, report) in [
-        (b"".as_slice(), b"swallow report 1\nrun 1\ntotals acts 0 committed 0 withdrawn 0 failed 0 refused 0 expired 0 spent 0 open 0\n".as_slice()),
+        (
+            b"".as_slice(),
+            b"swallow report 1\nrun 1\ntotals acts 0 committed 0 withdrawn 0 failed 0 refused 0 expired 0 spent 0 open 0\n".as_slice(),
+        ),
         (
             b"act broker 1 home 1 timeout 5 tries 3\nread a 1.9\nprint a\ndone\n".as_slice(),
             b"swallow report 1\nrun 1\nact 1 broker 1 home 1\ntry 1.1.1 committed\nread 1.9 nothing\nprint nothing\ntotals acts 1 committed 1 withdrawn 0 failed 0 refused 0 expired 0 spent 0 open 0\n".as_slice(),
@@ -170,7 +173,10 @@ fn reports_of_acts(rt: HostRuntime) -> Result<(), Fail> {
 fn plans_that_are_refused(rt: HostRuntime) -> Result<(), Fail> {
     let alloc = rt.alloc();
     for (body, line) in [
-        (b"act broker 2 home 1 timeout 5 tries 3\n".as_slice(), b"swallow: plan line 5 act\n".as_slice()),
+        (
+            b"act broker 2 home 1 timeout 5 tries 3\n".as_slice(),
+            b"swallow: plan line 5 act\n".as_slice(),
+        ),
         (
             b"act broker 1 home 1 timeout 5 tries 3\nwrite 1.7 10\nread x 1.7\nprint x\n".as_slice(),
             b"swallow: plan line 9 end\n".as_slice(),
@@ -189,9 +195,18 @@ fn plans_that_are_refused(rt: HostRuntime) -> Result<(), Fail> {
         assert_eq!(rt; text.as_slice(), line);
     }
     for (whole, line) in [
-        (b"swallow plan 1\nrun 1\nrepositories 1\nbrokers 2\n".as_slice(), b"swallow: plan\n".as_slice()),
-        (b"swallow plan 1\nrun 1\nrepositories 2\nbrokers 1\n".as_slice(), b"swallow: plan\n".as_slice()),
-        (b"swallow plan 1\nrun 0\nrepositories 1\nbrokers 1\n".as_slice(), b"swallow: plan line 2 run\n".as_slice()),
+        (
+            b"swallow plan 1\nrun 1\nrepositories 1\nbrokers 2\n".as_slice(),
+            b"swallow: plan\n".as_slice(),
+        ),
+        (
+            b"swallow plan 1\nrun 1\nrepositories 2\nbrokers 1\n".as_slice(),
+            b"swallow: plan\n".as_slice(),
+        ),
+        (
+            b"swallow plan 1\nrun 0\nrepositories 1\nbrokers 1\n".as_slice(),
+            b"swallow: plan line 2 run\n".as_slice(),
+        ),
     ] {
         let (status, sink) = run_of(alloc, &plan(whole, 2, line))?;
         assert_eq!(rt; status, 2);
@@ -201,8 +216,7 @@ fn plans_that_are_refused(rt: HostRuntime) -> Result<(), Fail> {
 }
 
 // So many bytes of a text, or all of it.
-fn front(text: &[u8], size: usize) -> &[u8]
-{
+fn front(text: &[u8], size: usize) -> &[u8] {
     if size < text.len() {
         &text[..size]
     } else {

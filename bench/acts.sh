@@ -1,0 +1,50 @@
+#!/usr/bin/env bash
+# Runs plans of 100, 1,000 and 10,000 acts of ten statements each, and prints acts per second and the
+# memory of the run beside the size of its plan. The proved program is built first.
+top="$(cd "$(dirname "${BASH_SOURCE[0]}")/.." && pwd)" || exit 1
+"$top/swallow" run < "$top/examples/first.plan" > /dev/null || exit 1
+program="$top/crates/swallow_main/out/swallow_main"
+work=$(mktemp -d) || exit 1
+trap 'rm -rf "$work"' EXIT
+
+plan() {
+  printf 'swallow plan 1\nrun 1\nrepositories 1\nbrokers 1\n'
+  awk -v acts="$1" 'BEGIN {
+    for (i = 1; i <= acts; i++) {
+      print "act broker 1 home 1 timeout 5 tries 3"
+      print "read a 1." i % 64
+      print "read b 1." (i + 7) % 64
+      print "let s = given(a, 0) + given(b, 0)"
+      print "let s = s mod 1000 + 1"
+      print "write 1." i % 64 " s"
+      print "if s > 500"
+      print "write 1." (i + 7) % 64 " s - 500"
+      print "end"
+      print "let t = text(s)"
+      print "print t"
+      print "write 1." (i + 13) % 64 " t & \"!\""
+      print "write 1." (i + 13) % 64 " len(t)"
+      print "done"
+    }
+  }'
+}
+
+echo "acts    milliseconds  acts per second  plan bytes  memory bytes  ratio"
+for acts in 100 1000 10000; do
+  plan "$acts" > "$work/plan"
+  for turn in 1 2 3; do
+    begin=$(date +%s%N)
+    "$program" run < "$work/plan" > "$work/report" || exit 1
+    end=$(date +%s%N)
+    kilobytes=$(python3 - "$program" "$work/plan" <<'PY'
+import resource, subprocess, sys
+with open(sys.argv[2], "rb") as plan:
+    subprocess.run([sys.argv[1], "run"], stdin=plan, stdout=subprocess.DEVNULL, check=True)
+print(resource.getrusage(resource.RUSAGE_CHILDREN).ru_maxrss)
+PY
+)
+    size=$(wc -c < "$work/plan")
+    awk "BEGIN { t = ($end - $begin) / 1000000; printf \"%-6d  %12.1f  %15.0f  %10d  %12d  %5.1f\\n\", $acts, t, $acts * 1000 / t, $size, $kilobytes * 1024, $kilobytes * 1024 / $size }"
+  done
+done
+uptime >&2
