@@ -1,5 +1,5 @@
 -- A generated plan is one of the language, and its text isn't too long.
-use Rattle.std.proofs.Common.{◌≡◌, ℕ, zero, suc, ◌+◌, ◌-◌, ◌*◌, ◌/◌, ◌%◌, ◌<◌, ◌≤◌, ◌^◌, true, Bool, cond, List, [], ◌∷◌, ◌++◌, length, refl, sym, ap, ◌∙◌, subst, arith, length-append}
+use Rattle.std.proofs.Common.{◌≡◌, ℕ, zero, suc, ◌+◌, ◌-◌, ◌*◌, ◌/◌, ◌%◌, ◌<◌, ◌≤◌, ◌^◌, true, cond, List, [], ◌∷◌, ◌++◌, length, refl, sym, ap, subst, arith, length-append}
 use Rattle.std.specs.Prelude.{◌==◌, decimal, codes, replicate}
 use Rattle.std.proofs.lemmas.Bool.{lt-ltb}
 use Rattle.std.proofs.lemmas.Fmt.{length-decimal-le}
@@ -13,14 +13,13 @@ use Rattle.token_form.proofs.Runs.{by_test}
 use Rattle.value_form.specs.declared.acts.ActSpec.{ActSpec}
 use Rattle.value_form.specs.declared.objects.ObjectId.{ObjectId}
 use Rattle.value_form.specs.declared.expressions.Infix.TheVariants as o
-use Rattle.value_form.specs.Mirror.{Term, Number, Name, Between, Given, Spot, Fixed, At, Block, block}
+use Rattle.value_form.specs.Mirror.{Number, Name, Between, Fixed, At, Block, block}
 use Rattle.value_form.specs.MirrorLaws.{block-made}
-use Rattle.expression_form.specs.Texts.{text, InLimits}
+use Rattle.expression_form.specs.Texts.{text}
 use Rattle.statement_form.specs.Row as r
 use Rattle.statement_form.specs.Rows.{Numbered, rows}
 use Rattle.statement_form.specs.RowTexts.{spot_text, row_text, line_text, rows_text, script_text}
 use Rattle.script_form.specs.Printable.{IsPrintable}
-use Rattle.plan_form.specs.declared.plans.Plan.{Plan}
 use Rattle.plan_form.specs.Plans.{InRange, act_front, terms, IsPlan}
 use Rattle.plan_form.specs.PlanTexts.{act_text, acts_text, head_text, plan_text, IsAct, EachAct, IsWhole}
 use Rattle.plan_form.specs.Making.{step, drawn, account, balance, transfer, audit, act_of, target_of, transfer_act, drawn_act, after_act, transfers, made_plan}

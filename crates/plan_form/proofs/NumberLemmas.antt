@@ -1,5 +1,5 @@
 -- Numbers behind words are read as they are written.
-use Rattle.std.proofs.Common.{◌≡◌, ℕ, zero, suc, ◌+◌, ◌*◌, ◌-◌, ◌<◌, ◌≤◌, ◌^◌, ◌⊎◌, inl, inr, true, false, Bool, cond, List, [], ◌∷◌, ◌++◌, length, get_or, take, drop, Option, Some, None, refl, sym, ap, ◌∙◌, subst, arith, append-nil}
+use Rattle.std.proofs.Common.{◌≡◌, ℕ, ◌<◌, ◌≤◌, ◌^◌, ◌⊎◌, inl, inr, true, false, Bool, cond, List, [], ◌∷◌, ◌++◌, length, get_or, take, drop, Option, Some, None, refl, sym, ap, ◌∙◌, subst, arith, append-nil}
 use Rattle.std.specs.Prelude.{MatchOption, ◌==◌, ◌&&◌, not, nat_le, decimal}
 use Rattle.std.specs.Char.{is_ascii_digit}
 use Rattle.std.specs.Cmp.Lexicographic.{pointwise}
@@ -12,8 +12,7 @@ use Rattle.std.proofs.lemmas.Slice.Eq.{slice_eq-Decides}
 use Rattle.std.proofs.lemmas.Str.Parse.{IsNumeralModel, IsDigitsTest, numerals_by_fold}
 use Rattle.token_form.specs.declared.tokens.Token.TheVariants as t
 use Rattle.token_form.specs.Tokens.{AllPass, number_from, IsNumeral}
-use Rattle.token_form.specs.Reading.{front_of, rest_of}
-use Rattle.token_form.proofs.Runs.{by_test, split_if, both, if_true, Stops, front_of-run, rest_of-run, front_of-passes, front-rest}
+use Rattle.token_form.proofs.Runs.{by_test, split_if, both, Stops, front_of-run, rest_of-run, front_of-passes, front-rest}
 use Rattle.token_form.proofs.Spellings.{spells}
 use Rattle.plan_form.specs.Plans.{InRange}
 use Rattle.plan_form.specs.PlanFaults.{IsNumbered}

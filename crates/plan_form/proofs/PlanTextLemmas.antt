@@ -1,12 +1,12 @@
 -- The canonical text of a plan is that plan.
-use Rattle.std.proofs.Common.{◌≡◌, ℕ, zero, suc, ◌+◌, ◌-◌, ◌<◌, ◌≤◌, ◌^◌, ◌⊎◌, inl, inr, true, false, Bool, cond, List, [], ◌∷◌, ◌++◌, length, refl, sym, ap, ◌∙◌, subst, arith, append_assoc, append-nil}
+use Rattle.std.proofs.Common.{◌≡◌, ℕ, ◌+◌, ◌-◌, ◌<◌, ◌≤◌, ◌^◌, ◌⊎◌, inl, inr, cond, List, [], ◌∷◌, ◌++◌, length, refl, sym, ap, ◌∙◌, subst, arith, append_assoc, append-nil}
 use Rattle.std.specs.Prelude.{◌==◌, decimal, codes, replicate}
 use Rattle.std.specs.Int.{is_in_range}
 use Rattle.std.specs.Str.Lines.{strip_carriage_return}
 use Rattle.std.proofs.lemmas.Bool.Decides.{Decides-eqb}
 use Rattle.token_form.proofs.Runs.{by_test, AllPass-from}
 use Rattle.value_form.specs.declared.acts.ActSpec.{ActSpec}
-use Rattle.value_form.specs.Mirror.{Block, block}
+use Rattle.value_form.specs.Mirror.{block}
 use Rattle.statement_form.specs.Rows.{Numbered, rows}
 use Rattle.statement_form.specs.RowTexts.{row_text, line_text, rows_text, script_text}
 use Rattle.script_form.specs.Lines.{lines_from, lines}
@@ -15,7 +15,7 @@ use Rattle.script_form.proofs.PrintLemmas.{Shown, shown-append, shown_number, li
 use Rattle.script_form.proofs.ReadLimitLemmas.{script_is_printable}
 use Rattle.plan_form.specs.declared.act_lines.Terms.{Terms}
 use Rattle.plan_form.specs.declared.plans.Plan.{Plan}
-use Rattle.plan_form.specs.Plans.{InRange, title, run_line, repositories_line, brokers_line, HasHead, act_front, IsActLine, terms, is_done, has_done, before_done, behind_done, past_blanks, AreActs, IsPlanLines, IsPlan}
+use Rattle.plan_form.specs.Plans.{InRange, title, run_line, repositories_line, brokers_line, act_front, IsActLine, terms, before_done, behind_done, AreActs, IsPlan}
 use Rattle.plan_form.specs.PlanTexts.{act_line, act_text, acts_text, head_text, plan_text, IsAct, EachAct, IsWhole}
 use Rattle.plan_form.proofs.DoneLemmas.{script_without_done}
 use Rattle.plan_form.proofs.LineListLemmas.{past_blanks-line, has_done-behind, before_done-behind, behind_done-behind}

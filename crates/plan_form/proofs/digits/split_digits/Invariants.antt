@@ -1,6 +1,4 @@
 use Rattle.std.proofs.Common.{◌≡◌, ◌++◌, take, drop}
-use Rattle.std.specs.Char.{is_ascii_digit}
-use Rattle.token_form.specs.Tokens.{AllPass}
 use Rattle.plan_form.specs.Reading.{digits_of, behind_digits}
 use Rattle.plan_form.proofs.digits.split_digits.Given as goal
 

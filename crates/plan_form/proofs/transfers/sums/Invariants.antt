@@ -1,5 +1,4 @@
-use Rattle.std.proofs.Common.{◌≡◌, ◌++◌, ◌+◌, ◌*◌, ◌-◌, [], ◌∷◌}
-use Rattle.std.specs.Prelude.{codes}
+use Rattle.std.proofs.Common.{◌≡◌, ◌++◌, ◌+◌, ◌*◌, ◌-◌}
 use Rattle.value_form.specs.MirrorLaws.{made_all}
 use Rattle.plan_form.specs.Making.{sums, round, last_step}
 use Rattle.plan_form.proofs.transfers.sums.Given as goal
