@@ -1,0 +1,9 @@
+pub mod AnswerLemmas
+pub mod BoolLemmas
+pub mod ObjectLemmas
+pub mod ScanLemmas
+pub mod SettledLemmas
+pub mod StableLemmas
+pub mod TestLemmas
+pub mod ViewLemmas
+pub mod Words
