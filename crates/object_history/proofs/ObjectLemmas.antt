@@ -1,18 +1,23 @@
 -- The tests of equality of objects and values tell what they say.
 use Rattle.std.proofs.Common.{◌≡◌, ℕ, ℤ, pos, negsuc, Bool, true, false, List, [], ◌∷◌, refl, sym, ◌∙◌, ap, subst, ◌==◌, ◌&&◌, arith}
-use Rattle.std.specs.Ordering.{nat_cmp, is_eq}
-use Rattle.std.specs.Cmp.{IsTotalOrder, tied_itself}
+use Rattle.std.specs.Ordering.{nat_cmp, ordering_then, is_eq}
+use Rattle.std.specs.declared.cmp.Ordering.{Ordering}
+use Rattle.std.specs.declared.cmp.Ordering.TheVariants.{Less, Equal, Greater}
+use Rattle.std.specs.Cmp.{IsTotalOrder, tied_itself, signed_Decides}
+use Rattle.std.specs.Cmp.Lexicographic.{bytes_decides}
 use Rattle.std.proofs.lemmas.Grind.{common_steps}
 use Rattle.std.proofs.lemmas.Bool.{false≢true}
 use Rattle.std.proofs.lemmas.Cmp.{nat_cmp_total, on_total, then_total}
 use Rattle.std.proofs.lemmas.Map.Lookups.{CmpEqualImpliesEq, exact_pairs, exact_unsigned}
+use Rattle.pseudo_time.specs.StampParts.{StampParts, stamp_cmp}
+use Rattle.pseudo_time.specs.TimeParts.{TimeParts}
+use Rattle.pseudo_time.specs.Order.{same_stamp, same_time}
 use Rattle.pseudo_time.proofs.OrderLemmas.{is_equal}
 use Rattle.value_form.specs.declared.objects.ObjectId.{ObjectId}
 use Rattle.value_form.specs.declared.values.Value.{Value}
 use Rattle.value_form.specs.declared.values.Value.TheVariants.{Nothing, Number, Text}
 use Rattle.value_form.specs.Objects.{object_cmp}
-use Rattle.object_history.specs.Objects.{same_object, same_number, same_text, same_value}
-use Rattle.object_history.proofs.BoolLemmas.{and-left, and-right}
+use Rattle.object_history.specs.Objects.{same_object, same_value}
 
 pub object_cmp-total : IsTotalOrder object_cmp
 object_cmp-total = then_total (on_total (λ o. o.repository) nat_cmp_total) (on_total (λ o. o.number) nat_cmp_total)
@@ -35,29 +40,37 @@ eqb-yes a b e = grind (arith, common_steps)
 pub eq-from : (a b : ℕ) → (a == b) ≡ true → a ≡ b
 eq-from a b e = grind (arith, common_steps)
 
-number-is : (a b : ℤ) → same_number a b ≡ true → a ≡ b
-number-is (pos a) (pos b) h = ap (λ z. pos z) (eq-from a b h)
-number-is (negsuc a) (negsuc b) h = ap (λ z. negsuc z) (eq-from a b h)
-number-is (pos a) (negsuc b) h = absurd (false≢true h)
-number-is (negsuc a) (pos b) h = absurd (false≢true h)
-
-text-is : (a b : List ℕ) → same_text a b ≡ true → a ≡ b
-text-is [] [] h = refl
-text-is (a ∷ x) (b ∷ y) h =
-    let p : a ≡ b = eq-from a b (and-left (a == b) _ h) in
-    let q : x ≡ y = text-is x y (and-right (a == b) _ h) in
-    cc
-text-is [] (b ∷ y) h = absurd (false≢true h)
-text-is (a ∷ x) [] h = absurd (false≢true h)
-
 pub same_value-is : (a b : Value) → same_value a b ≡ true → a ≡ b
 unfolding same_value
 same_value-is Nothing Nothing h = refl
-same_value-is (Number a) (Number b) h = ap (λ z. Number z) (number-is a b h)
-same_value-is (Text a) (Text b) h = ap (λ z. Text z) (text-is a b h)
+same_value-is (Number a) (Number b) h = ap (λ z. Number z) ((signed_Decides a b).0 h)
+same_value-is (Text a) (Text b) h = ap (λ z. Text z) ((bytes_decides a b).0 h)
 same_value-is Nothing (Number b) h = absurd (false≢true h)
 same_value-is Nothing (Text b) h = absurd (false≢true h)
 same_value-is (Number a) Nothing h = absurd (false≢true h)
 same_value-is (Number a) (Text b) h = absurd (false≢true h)
 same_value-is (Text a) Nothing h = absurd (false≢true h)
 same_value-is (Text a) (Number b) h = absurd (false≢true h)
+
+-- ---- the comparisons that are derived
+
+level : (a b : ℕ) → is_eq (nat_cmp a b) ≡ (a == b)
+level a b = grind (arith, common_steps)
+
+both-levels : (o p : Ordering) → is_eq (ordering_then o p) ≡ (is_eq o && is_eq p)
+both-levels Less p = refl
+both-levels Equal p = refl
+both-levels Greater p = refl
+
+joined-levels : (o p : Ordering) (a b : Bool) → is_eq o ≡ a → is_eq p ≡ b → (a && b) ≡ is_eq (ordering_then o p)
+joined-levels o p a b h k = sym (both-levels o p ∙ ap (λ z. z && is_eq p) h ∙ ap (λ z. a && z) k)
+
+pub same_stamp-parts : (a b : StampParts) → (a.clock == b.clock && (a.broker == b.broker && a.home == b.home)) ≡ same_stamp a b
+unfolding same_stamp
+same_stamp-parts a b =
+    joined-levels (nat_cmp a.clock b.clock) (ordering_then (nat_cmp a.broker b.broker) (nat_cmp a.home b.home)) (a.clock == b.clock) (a.broker == b.broker && a.home == b.home) (level a.clock b.clock)
+    (sym (joined-levels (nat_cmp a.broker b.broker) (nat_cmp a.home b.home) (a.broker == b.broker) (a.home == b.home) (level a.broker b.broker) (level a.home b.home)))
+
+pub same_time-parts : (a b : TimeParts) → ((a.stamp.clock == b.stamp.clock && (a.stamp.broker == b.stamp.broker && a.stamp.home == b.stamp.home)) && a.step == b.step) ≡ same_time a b
+unfolding same_time same_stamp
+same_time-parts a b = joined-levels (stamp_cmp a.stamp b.stamp) (nat_cmp a.step b.step) _ (a.step == b.step) (sym (same_stamp-parts a.stamp b.stamp)) (level a.step b.step)

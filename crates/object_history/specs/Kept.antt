@@ -11,7 +11,8 @@ use Rattle.value_form.specs.Objects.{object_cmp}
 use Rattle.object_history.specs.declared.marks.Mark.{Mark}
 use Rattle.object_history.specs.declared.marks.Mark.TheVariants.{Put, Stretch, Settle}
 use Rattle.object_history.specs.declared.versions.Version.{Version}
-use Rattle.object_history.specs.declared.versions.Found.{Found}
+use Rattle.object_history.specs.declared.steps.ReadStep.{ReadStep}
+use Rattle.object_history.specs.declared.steps.ReadStep.TheVariants.{Answer, Wait}
 use Rattle.object_history.specs.Objects.{same_object}
 use Rattle.object_history.specs.Ranges.{AreMarks}
 use Rattle.object_history.specs.History.{Seen, settle_of, is_alive, is_settled, is_committed, version_count, top, stretched}
@@ -30,17 +31,17 @@ pub record TrackParts : Type 0 where
 abbrev pub empty_track : TrackParts
 empty_track = record { origin = None; versions = [] }
 
--- with one version more, of which it is the newest
-abbrev pub with_version : Version → TrackParts → TrackParts
-with_version v t = record { origin = t.origin; versions = v ∷ t.versions }
+-- with one version more, the newest
+abbrev pub with_version : ℕ → TimeParts → TrackParts → TrackParts
+with_version mark x t = record { origin = t.origin; versions = record { place = length t.versions; mark = mark; start = x; end = None } ∷ t.versions }
 
 abbrev pub read_up_to : TimeParts → Version → Version
-read_up_to x v = record { mark = v.mark; start = v.start; end = top x v.end }
+read_up_to x v = record { place = v.place; mark = v.mark; start = v.start; end = top x v.end }
 
 -- the version at this place is read up to x
 unfoldable pub ended_at : ℕ → TimeParts → List Version → List Version
 ended_at p x [] = []
-ended_at p x (v ∷ vs) = if p == length vs then read_up_to x v ∷ vs else v ∷ ended_at p x vs
+ended_at p x (v ∷ vs) = (if p == length vs then read_up_to x v else v) ∷ ended_at p x vs
 
 -- the version at this place, or the origin, is read up to x
 abbrev pub with_end : Option ℕ → TimeParts → TrackParts → TrackParts
@@ -54,11 +55,11 @@ Tracked = finite.FinMap object_cmp TrackParts
 abbrev pub track_at : Tracked → ObjectId → TrackParts
 track_at tracks o = unwrap_or (finite.get tracks o) empty_track
 
--- the versions of an object among the marks m, with the place of each one's mark and the last Stretch of all marks on it
+-- the versions of an object among the marks m, each with the number of marks under its own, and the last Stretch of all marks on it
 unfoldable pub versions_in : List Mark → ObjectId → List Mark → List Version
 versions_in all o [] = []
 versions_in all o (Put a x v ∷ m) =
-    if same_object a o then record { mark = length m; start = x; end = stretched all o (Some (version_count o m)) } ∷ versions_in all o m
+    if same_object a o then record { place = version_count o m; mark = length m; start = x; end = stretched all o (Some (version_count o m)) } ∷ versions_in all o m
         else versions_in all o m
 versions_in all o (Stretch a x ∷ m) = versions_in all o m
 versions_in all o (Settle s c ∷ m) = versions_in all o m
@@ -90,27 +91,24 @@ value_under [] k = Nothing
 value_under (f ∷ m) k = if k == length m then value_put f else value_under m k
 
 -- what is seen, where that version is found
-abbrev pub seen_in : List Mark → Found → Seen
-seen_in m f = record { place = f.place; start = f.version.start; value = value_under m f.version.mark }
-
-abbrev pub found_above : Option Found → TimeParts → Bool
-found_above None x = false
-found_above (Some f) x = lt x f.version.start
+abbrev pub seen_in : List Mark → Version → Seen
+seen_in m v = record { place = v.place; start = v.start; value = value_under m v.mark }
 
 -- nothing was found, or what starts below
-abbrev pub takes_over : Option Found → TimeParts → Bool
+abbrev pub takes_over : Option Version → TimeParts → Bool
 takes_over None x = true
-takes_over (Some f) x = lt f.version.start x
+takes_over (Some v) x = lt v.start x
 
 -- the first, unless the second starts above it
-abbrev pub joined : Option Found → Option Found → Option Found
+abbrev pub joined : Option Version → Option Version → Option Version
 joined None r = r
-joined (Some f) r = if found_above r f.version.start then r else Some f
+joined (Some v) None = Some v
+joined (Some v) (Some w) = if lt v.start w.start then Some w else Some v
 
 -- of the versions whose start passes, that with the greatest start; of equal starts the newest
-unfoldable pub last_of : (TimeParts → Bool) → List Version → Option Found
+unfoldable pub last_of : (TimeParts → Bool) → List Version → Option Version
 last_of ok [] = None
-last_of ok (v ∷ vs) = joined (if ok v.start then Some (record { place = length vs; version = v }) else None) (last_of ok vs)
+last_of ok (v ∷ vs) = joined (if ok v.start then Some v else None) (last_of ok vs)
 
 abbrev pub is_below : Option TimeParts → TimeParts → Bool
 is_below None x = true
@@ -134,11 +132,16 @@ some_version ok [] = false
 some_version ok (v ∷ vs) = ok v || some_version ok vs
 
 -- the end of what is found is the last Stretch on it
-abbrev pub HasEnd : List Mark → ObjectId → Option Found → Type 0
+abbrev pub HasEnd : List Mark → ObjectId → Option Version → Type 0
 HasEnd m o None = Unit {0}
-HasEnd m o (Some f) = f.version.end ≡ stretched m o (Some f.place)
+HasEnd m o (Some v) = v.end ≡ stretched m o (Some v.place)
 
 -- the undecided attempt of another stamp whose version is found
-abbrev pub waits_for : List Mark → StampParts → Option Found → Option StampParts
+abbrev pub waits_for : List Mark → StampParts → Option Version → Option StampParts
 waits_for m s None = None
-waits_for m s (Some f) = if same_stamp f.version.start.stamp s || is_settled (settle_of m f.version.start.stamp) then None else Some f.version.start.stamp
+waits_for m s (Some v) = if same_stamp v.start.stamp s || is_settled (settle_of m v.start.stamp) then None else Some v.start.stamp
+
+-- the answer says that the read stretched what it saw
+abbrev pub has_stretched : ReadStep → Bool
+has_stretched (Answer v stretch) = stretch
+has_stretched (Wait s) = false

@@ -5,7 +5,7 @@ ghost use Rattle.value_form.specs.declared.objects.ObjectId.{ObjectId};
 ghost use Rattle.object_history.specs.Objects.{same_object};
 ghost use Rattle.object_history.specs.Kept.{track_at, with_version, with_end};
 
-use crate::versions::{Track, Version};
+use crate::versions::Track;
 use pseudo_time::{PseudoTime, Stamp};
 use std::alloc::{AllocError, Global};
 use std::collections::BTreeMap;
@@ -96,31 +96,22 @@ impl Tracks {
         self.entries.get(&object)
     }
 
-    /// Makes room for the marks of the object.
-    pub fn make(&mut self, alloc: Global, object: ObjectId) -> Result<(), AllocError>
-        ensures { (o : ObjectId) → track_at self.new o ≡ track_at self.old o }
-    {
-        if self.entries.get(&object).is_none() {
-            self.entries.insert(object, Track::new(alloc))?;
-        }
-        Ok(())
-    }
-
-    /// Adds a version of the object. Where memory is wanting, every track is as before.
+    /// Adds a version of the object, by the number of marks before its own. Where memory is wanting, every track is as before.
     pub fn add(
         &mut self,
         alloc: Global,
         object: ObjectId,
-        version: Version,
+        mark: usize,
+        start: PseudoTime,
     ) -> Result<(), AllocError>
-        ensures ok { OnOk result ((o : ObjectId) → track_at self.new o ≡ (if same_object object o then with_version version (track_at self.old o) else track_at self.old o)) }
+        ensures ok { OnOk result ((o : ObjectId) → track_at self.new o ≡ (if same_object object o then with_version mark start (track_at self.old o) else track_at self.old o)) }
         ensures err { OnErr result ((o : ObjectId) → track_at self.new o ≡ track_at self.old o) }
     {
         match self.entries.get_mut(&object) {
-            Some(track) => track.add(version),
+            Some(track) => track.add(mark, start),
             None => {
                 let mut track = Track::new(alloc);
-                track.add(version)?;
+                track.add(mark, start)?;
                 self.entries.insert(object, track)?;
                 Ok(())
             }

@@ -1,6 +1,7 @@
 ghost use Rattle.std.specs.Prelude.{◌≡◌, OnOk, OnErr, Some};
-ghost use Rattle.object_history.specs.Kept as kept;
+ghost use Rattle.std.specs.Option.{option_copied};
 ghost use Rattle.object_history.specs.History.{top};
+ghost use Rattle.object_history.specs.Kept as kept;
 
 use crate::maps::Settles;
 use pseudo_time::PseudoTime;
@@ -8,67 +9,61 @@ use std::alloc::{AllocError, Global};
 use std::marker::Model;
 
 /// A version of an object. Its value stands in its mark.
-#[derive(Clone, Copy)]
+#[derive(Drop)]
 pub struct Version {
-    /// The place of its Put among all marks.
+    /// How many versions of the object were put before it.
+    pub place: usize,
+    /// How many marks were added before its Put.
     pub mark: usize,
     pub start: PseudoTime,
     /// The last Stretch that fell on it.
     pub end: Option<PseudoTime>,
 }
 
-/// A version, and how many versions of its object were put before it.
-#[derive(Clone, Copy)]
-pub struct Found {
-    pub place: usize,
-    pub version: Version,
-}
-
 /// The later of a time and of an end.
-pub fn later(time: PseudoTime, end: Option<PseudoTime>) -> PseudoTime
-    ensures { Some result ≡ top time end }
+pub fn later(time: PseudoTime, end: &Option<PseudoTime>) -> PseudoTime
+    ensures { Some result ≡ top time end.now }
 {
     match end {
-        Some(end) if time.is_before(end) => end,
+        Some(end) if time.is_before(*end) => *end,
         _ => time,
     }
 }
 
-// Whether a version with this start is to be taken in the place of what was found above it.
-fn is_later(found: Option<Found>, start: PseudoTime) -> bool
-    ensures { result ≡ kept.takes_over found start }
+// Whether a version with this start is taken in the place of one that was found above it.
+fn takes_over(found: Option<&Version>, start: PseudoTime) -> bool
+    ensures { result ≡ kept.takes_over (option_copied found.entry) start }
 {
     match found {
-        Some(found) => found.version.start.is_before(start),
+        Some(found) => found.start.is_before(start),
         None => true,
     }
 }
 
 // Whether a version with this start is below the end, if there is one, and isn't dead.
-fn is_living(settles: &Settles, end: Option<PseudoTime>, start: PseudoTime) -> bool
-    ensures { result ≡ kept.is_living settles.now end start }
+fn is_living(settles: &Settles, end: &Option<PseudoTime>, start: PseudoTime) -> bool
+    ensures { result ≡ kept.is_living settles.now end.now start }
 {
-    if let Some(end) = end {
-        if !start.is_before(end) {
-            return false;
-        }
-    }
-    settles.get(start.stamp()).unwrap_or(true)
+    let is_below = match end {
+        Some(end) => start.is_before(*end),
+        None => true,
+    };
+    is_below && settles.get(start.stamp()).unwrap_or(true)
 }
 
 // Whether a version with this start is above the other start, if there is one, and committed.
-fn is_firm(settles: &Settles, other: Option<PseudoTime>, start: PseudoTime) -> bool
-    ensures { result ≡ kept.is_firm settles.now other start }
+fn is_firm(settles: &Settles, other: &Option<PseudoTime>, start: PseudoTime) -> bool
+    ensures { result ≡ kept.is_firm settles.now other.now start }
 {
-    if let Some(other) = other {
-        if !other.is_before(start) {
-            return false;
-        }
-    }
-    settles.get(start.stamp()).unwrap_or(false)
+    let is_past = match other {
+        Some(other) => other.is_before(start),
+        None => true,
+    };
+    is_past && settles.get(start.stamp()).unwrap_or(false)
 }
 
-/// The versions of one object, oldest first. Contracts see them newest first.
+/// The versions of one object, oldest first, and how far its origin was read. Contracts see the
+/// versions newest first.
 #[derive(Drop)]
 pub struct Track {
     origin: Option<PseudoTime>,
@@ -98,11 +93,18 @@ impl Track {
         }
     }
 
-    /// Adds a version above the others. Where memory is wanting, the track is as before.
-    pub fn add(&mut self, version: Version) -> Result<(), AllocError>
-        ensures ok { OnOk result (self.new ≡ with_version version self.old) }
+    /// Adds a version, by the number of marks before its own. Where memory is wanting, the track is
+    /// as before.
+    pub fn add(&mut self, mark: usize, start: PseudoTime) -> Result<(), AllocError>
+        ensures ok { OnOk result (self.new ≡ with_version mark start self.old) }
         ensures err { OnErr result (self.new ≡ self.old) }
     {
+        let version = Version {
+            place: self.versions.len(),
+            mark,
+            start,
+            end: None,
+        };
         self.versions.push(version)?;
         Ok(())
     }
@@ -121,28 +123,25 @@ impl Track {
         self.versions.as_slice()
     }
 
-    /// The last version that isn't dead, or that starts below an end and isn't dead.
-    pub fn last(&self, settles: &Settles, end: Option<PseudoTime>) -> Option<Found>
-        ensures { result ≡ last_of (kept.is_living settles.now end) self.now.versions }
+    /// The last version that isn't dead, of those that start below the end, if there is one.
+    pub fn last(&self, settles: &Settles, end: &Option<PseudoTime>) -> Option<&Version>
+        ensures { option_copied result ≡ last_of (kept.is_living settles.now end.now) self.now.versions }
     {
-        let mut last = None;
-        let mut place = self.versions.len();
-        while place > 0 {
-            place -= 1;
-            let version = self.versions[place];
-            if is_later(last, version.start) && is_living(settles, end, version.start) {
-                last = Some(Found { place, version });
+        let mut last: Option<&Version> = None;
+        for version in self.versions.iter().rev() {
+            if takes_over(last, version.start) && is_living(settles, end, version.start) {
+                last = Some(version);
             }
         }
         last
     }
 
-    /// Whether a committed version starts above this start, or there is one at all.
-    pub fn has_firm(&self, settles: &Settles, start: Option<PseudoTime>) -> bool
-        ensures { result ≡ some_version (λ v. kept.is_firm settles.now start v.start) self.now.versions }
+    /// Whether a committed version starts above the other start, or there is one at all.
+    pub fn has_firm(&self, settles: &Settles, other: &Option<PseudoTime>) -> bool
+        ensures { result ≡ some_version (λ v. kept.is_firm settles.now other.now v.start) self.now.versions }
     {
-        for version in &self.versions {
-            if is_firm(settles, start, version.start) {
+        for version in self.versions.iter().rev() {
+            if is_firm(settles, other, version.start) {
                 return true;
             }
         }
@@ -154,11 +153,14 @@ impl Track {
         ensures { self.new ≡ with_end place time self.old }
     {
         match place {
-            None => self.origin = Some(later(time, self.origin)),
+            None => {
+                let end = later(time, &self.origin);
+                self.origin = Some(end);
+            }
             Some(place) => {
                 if place < self.versions.len() {
-                    let end = self.versions[place].end;
-                    self.versions[place].end = Some(later(time, end));
+                    let end = later(time, &self.versions[place].end);
+                    self.versions[place].end = Some(end);
                 }
             }
         }

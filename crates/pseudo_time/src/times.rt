@@ -1,6 +1,6 @@
 ghost use Rattle.std.specs.Prelude.{◌≡◌, ◌≤◌, ℕ, true, false, nat_lt, IfSome, IfNone, SomeIff};
 ghost use Rattle.std.specs.Cmp.Lexicographic.{slice_cmp};
-ghost use Rattle.std.specs.Ordering.{is_lt, nat_cmp};
+ghost use Rattle.std.specs.Ordering.{nat_cmp};
 ghost use Rattle.pseudo_time.specs.StampParts.{StampParts};
 ghost use Rattle.pseudo_time.specs.TimeParts.{TimeParts, IsTime, time_bytes, time_cmp};
 ghost use Rattle.pseudo_time.specs.Order.{lt, stamp_lt};
