@@ -4,6 +4,7 @@ pub mod KeptLemmas
 pub mod LookLemmas
 pub mod MapLemmas
 pub mod ObjectLemmas
+pub mod ReachLemmas
 pub mod ScanLemmas
 pub mod SettledLemmas
 pub mod StableLemmas

@@ -89,7 +89,7 @@ pub settled-stays : (m : List Mark) (s y : StampParts) (c d : Bool) → settle_o
 unfolding settle_of
 settled-stays m s y c d h = stays (same_stamp s y) c d (settle_of m y) h
 
-alive-fewer : (m : List Mark) (s : StampParts) (c : Bool) (x : TimeParts) → settle_of m s ≡ None →
+pub alive-fewer : (m : List Mark) (s : StampParts) (c : Bool) (x : TimeParts) → settle_of m s ≡ None →
     alive (Settle s c ∷ m) x ≡ true → alive m x ≡ true
 unfolding settle_of
 alive-fewer m s c x h k =

@@ -78,3 +78,8 @@ abbrev pub Fits : List Mark → Mark → Type 0
 Fits m (Put o x v) = (settle_of m x.stamp ≡ None) × (write_step m o x v ≡ write.Put)
 Fits m (Stretch o x) = Unit {0}
 Fits m (Settle s c) = settle_of m s ≡ None
+
+-- each mark fits those below it
+abbrev pub Grown : List Mark → Type 0
+Grown [] = Unit {0}
+Grown (f ∷ m) = Fits m f × Grown m

@@ -1,5 +1,5 @@
 // Each law holds for every list of marks, newest first.
-ghost use Rattle.std.specs.Prelude.{◌≡◌, ◌≢◌, Bool, true, false, List, ◌∷◌, ◌++◌, Option, Some};
+ghost use Rattle.std.specs.Prelude.{◌≡◌, ◌≢◌, Bool, true, false, List, ◌∷◌, ◌++◌, Option, Some, None};
 ghost use Rattle.pseudo_time.specs.StampParts.{StampParts};
 ghost use Rattle.pseudo_time.specs.TimeParts.{TimeParts};
 ghost use Rattle.pseudo_time.specs.Lists.{Has};
@@ -12,7 +12,7 @@ ghost use Rattle.object_history.specs.declared.steps.ReadStep.TheVariants as rea
 ghost use Rattle.object_history.specs.declared.steps.WriteStep.TheVariants as write;
 ghost use Rattle.object_history.specs.History.{Seen, settle_of, alive, sees, newest, reach};
 ghost use Rattle.object_history.specs.Answers.{read_step, after_read, write_step};
-ghost use Rattle.object_history.specs.Views.{views, Starts, Stands, Distinct, Covers, Viewed, Fits};
+ghost use Rattle.object_history.specs.Views.{views, Starts, Stands, Distinct, Covers, Viewed, Fits, Grown};
 ghost use Rattle.object_history.specs.Settled.{settled_versions, Adds};
 
 /// What is settled stays settled, and as it was.
@@ -33,10 +33,13 @@ pub fn starts_stay_distinct()
 {}
 
 /// An accepted write lies above every version that isn't dead, and not below the reach of the last
-/// one.
+/// one. Where every mark fitted those before it, it isn't below the reach of any version that isn't
+/// dead, nor of the origin.
 pub fn writes_go_on_top()
     ensures versions { (m : List Mark) (o : ObjectId) (x : TimeParts) (v : Value) → write_step m o x v ≡ write.Put → Starts (λ y. alive m y ≡ true → lt y x ≡ true) o m }
     ensures reach { (m : List Mark) (o : ObjectId) (x : TimeParts) (v : Value) (e : TimeParts) → write_step m o x v ≡ write.Put → reach m o (newest m o) ≡ Some e → lt x e ≡ false }
+    ensures every_reach { (m : List Mark) (o : ObjectId) (x : TimeParts) (v : Value) (q : Seen) (e : TimeParts) → Grown m → write_step m o x v ≡ write.Put → Stands o m q → alive m q.start ≡ true → reach m o (Some q) ≡ Some e → lt x e ≡ false }
+    ensures origin { (m : List Mark) (o : ObjectId) (x : TimeParts) (v : Value) (e : TimeParts) → Grown m → write_step m o x v ≡ write.Put → reach m o None ≡ Some e → lt x e ≡ false }
 {}
 
 /// What an answered read viewed, no fitting mark changes.

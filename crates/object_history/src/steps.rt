@@ -46,3 +46,14 @@ impl From<AllocError> for HistoryFault {
         HistoryFault::NoMemory
     }
 }
+
+impl<T: Drop> From<AllocFailed<T>> for HistoryFault {
+    ghost use Rattle.std.specs.Prelude.{◌≡◌};
+    ghost use Rattle.object_history.specs.declared.steps.HistoryFault.TheVariants.{NoMemory};
+
+    ghost from_gives = { λ _ e. e ≡ NoMemory };
+
+    fn from(_e: AllocFailed<T>) -> HistoryFault {
+        HistoryFault::NoMemory
+    }
+}
