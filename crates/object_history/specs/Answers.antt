@@ -52,8 +52,7 @@ read_step m o t = read_seen m o t (sees m o t)
 
 -- the marks after a read that is answered so
 abbrev pub after_read : List Mark → ObjectId → TimeParts → ReadStep → List Mark
-after_read m o t (read.Answer v true) = mark.Stretch o t ∷ m
-after_read m o t (read.Answer v false) = m
+after_read m o t (read.Answer v stretch) = if stretch then mark.Stretch o t ∷ m else m
 after_read m o t (read.Wait s) = m
 
 -- ---- writes

@@ -1,4 +1,9 @@
-ghost use Rattle.std.specs.Prelude.{◌≡◌, ◌⊎◌, false, OnOk, OnErr};
+ghost use Rattle.std.specs.Prelude.{◌≡◌, List, OnErr};
+ghost use Rattle.pseudo_time.specs.TimeParts.{TimeParts};
+ghost use Rattle.value_form.specs.declared.objects.ObjectId.{ObjectId};
+ghost use Rattle.object_history.specs.declared.marks.Mark.{Mark};
+ghost use Rattle.object_history.specs.Answers.{after_read};
+ghost use Rattle.object_history.specs.Ranges.{IsReadStep};
 
 use super::*;
 use pseudo_time::{PseudoTime, Stamp};
@@ -54,17 +59,17 @@ fn parts(time: PseudoTime) -> Time {
     (stamp.clock(), stamp.broker(), time.step())
 }
 
-fn said_of_read(step: ReadStep) -> Said {
+fn said_of_value(value: &Value, stretch: bool) -> Said {
+    match value {
+        Value::Nothing => Said::Nothing(stretch),
+        Value::Number(number) => Said::Value(*number, stretch),
+        Value::Text(_) => Said::Fault,
+    }
+}
+
+fn said_of_read(step: &ReadStep) -> Said {
     match step {
-        ReadStep::Answer {
-            value: Value::Nothing,
-            stretch,
-        } => Said::Nothing(stretch),
-        ReadStep::Answer {
-            value: Value::Number(number),
-            stretch,
-        } => Said::Value(number, stretch),
-        ReadStep::Answer { .. } => Said::Fault,
+        ReadStep::Answer { value, stretch } => said_of_value(value, *stretch),
         ReadStep::Wait { stamp } => Said::Wait(stamp.clock(), stamp.broker()),
     }
 }
@@ -100,7 +105,7 @@ fn asked<H: Histories>(alloc: Global, histories: &mut H, call: Call) -> Result<S
         Call::New => Ok(Said::Done),
         Call::Read(at) => {
             let step = histories.read(alloc, OBJECT, time(at)?)?;
-            Ok(said_of_read(step))
+            Ok(said_of_read(&step))
         }
         Call::Write(at, number) => {
             let step = histories.write(alloc, OBJECT, time(at)?, &Value::Number(number))?;
@@ -271,7 +276,7 @@ impl Histories for Silent {
         at: PseudoTime,
     ) -> Result<ReadStep, HistoryFault> {
         let step = self.marks.read(alloc, object, at)?;
-        Ok(other_value(step))
+        Ok(other_value(&step))
     }
 
     fn write(
@@ -309,13 +314,17 @@ impl Histories for Silent {
     }
 }
 
-fn other_value(step: ReadStep) -> ReadStep {
+// The same answer with the value 13.
+fn other_value(step: &ReadStep) -> ReadStep
+    ensures marks { (m : List Mark) (o : ObjectId) (t : TimeParts) → after_read m o t result ≡ after_read m o t step.now }
+    ensures in_range { IsReadStep result }
+{
     match step {
         ReadStep::Answer { stretch, .. } => ReadStep::Answer {
             value: Value::Number(13),
-            stretch,
+            stretch: *stretch,
         },
-        ReadStep::Wait { stamp } => ReadStep::Wait { stamp },
+        ReadStep::Wait { stamp } => ReadStep::Wait { stamp: *stamp },
     }
 }
 
