@@ -57,7 +57,12 @@ fn marks(alloc: Global, attempts: u32, objects: u32) -> Result<Vec<Mark>, AllocE
 }
 
 // What the object holds at a time.
-fn held(alloc: Global, histories: &mut PlainHistories, number: u32, at: PseudoTime) -> Result<i64, HistoryFault> {
+fn held(
+    alloc: Global,
+    histories: &mut PlainHistories,
+    number: u32,
+    at: PseudoTime,
+) -> Result<i64, HistoryFault> {
     match histories.read(alloc, object(number), at)? {
         ReadStep::Answer {
             value: Value::Number(number),

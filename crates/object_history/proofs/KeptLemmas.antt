@@ -11,7 +11,7 @@ use Rattle.std.proofs.lemmas.Cmp.{eq_by_cmp_equiv}
 use Rattle.std.proofs.lemmas.Grind.{common_steps}
 use Rattle.pseudo_time.specs.StampParts.{StampParts, stamp_cmp}
 use Rattle.pseudo_time.specs.TimeParts.{TimeParts}
-use Rattle.pseudo_time.specs.Order.{same_stamp, lt}
+use Rattle.pseudo_time.specs.Order.{same_stamp}
 use Rattle.pseudo_time.proofs.OrderLemmas.{stamp_cmp-total, same_stamp-is}
 use Rattle.value_form.specs.declared.objects.ObjectId.{ObjectId}
 use Rattle.value_form.specs.declared.values.Value.{Value}
@@ -24,7 +24,7 @@ use Rattle.object_history.specs.declared.versions.Version.{Version}
 use Rattle.object_history.specs.Objects.{same_object}
 use Rattle.object_history.specs.History.{or_else, settle_of, version_count, Seen, starts_above, pick, scan, sees, place_of, same_place, top, stretched}
 use Rattle.object_history.specs.Kept.{Settled, TrackParts, Tracked, empty_track, track_at, IsKept, with_version, read_up_to, ended_at, with_end, versions_in, track_of, Keeps}
-use Rattle.object_history.proofs.ObjectLemmas.{same_object-is, eqb-yes}
+use Rattle.object_history.proofs.ObjectLemmas.{same_object-is}
 
 -- ---- places
 

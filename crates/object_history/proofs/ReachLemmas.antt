@@ -11,12 +11,12 @@ use Rattle.object_history.specs.declared.marks.Mark.{Mark}
 use Rattle.object_history.specs.declared.marks.Mark.TheVariants.{Put, Stretch, Settle}
 use Rattle.object_history.specs.declared.steps.WriteStep.TheVariants as write
 use Rattle.object_history.specs.Objects.{same_object}
-use Rattle.object_history.specs.History.{Seen, settle_of, alive, version_count, scan, sees, newest, place_of, same_place, top, stretched, reach}
+use Rattle.object_history.specs.History.{Seen, settle_of, alive, version_count, sees, newest, place_of, same_place, top, stretched, reach}
 use Rattle.object_history.specs.Answers.{write_step}
 use Rattle.object_history.specs.Views.{Starts, Stands, Distinct, Fits, Grown}
 use Rattle.object_history.proofs.Words.{Passes, Ends, Low, AtMost}
-use Rattle.object_history.proofs.BoolLemmas.{and-both, and-left, and-right, not-false}
-use Rattle.object_history.proofs.ObjectLemmas.{same_object-is, same_object-of, eq-from}
+use Rattle.object_history.proofs.BoolLemmas.{and-both, and-right, not-false}
+use Rattle.object_history.proofs.ObjectLemmas.{same_object-of, eq-from}
 use Rattle.object_history.proofs.StableLemmas.{put-says, alive-fewer, scan-passes}
 use Rattle.object_history.proofs.ViewLemmas.{top-all}
 use Rattle.object_history.proofs.ScanLemmas.{Standing, standing, stands-starts, one-version, distinct-kept, puts-below}
@@ -124,11 +124,14 @@ ordered-put o m a x v ordered d put = record { origin = origin; versions = versi
   where
     here : a ≡ o → Ends (reach m o None) x × ((q : Seen) → Living o m q → Ends (reach m o (Some q)) x)
     here e = above-all o m x v ordered d (subst (λ z. write_step m z x v ≡ write.Put) e put)
+
     below : a ≡ o → (q : Seen) → Living o m q → lt q.start x ≡ true
     below e q l = stands-starts (λ y. alive m y ≡ true → lt y x ≡ true) o m q (subst (λ z. Starts (λ y. alive m y ≡ true → lt y x ≡ true) z m) e (puts-below m a x v put)) l.0 l.1
+
     origin : (r : Seen) → Living o (Put a x v ∷ m) r → Ends (reach (Put a x v ∷ m) o None) r.start
     origin r (inl s, live) = subst (λ z. Ends (reach m o None) z.start) s.1 (here s.0).0
     origin r (inr s, live) = ordered.origin r (s, live)
+
     versions : (q r : Seen) → Living o (Put a x v ∷ m) q → Living o (Put a x v ∷ m) r → lt q.start r.start ≡ true → Ends (reach (Put a x v ∷ m) o (Some q)) r.start
     versions q r (inl s, l) (inl t, k) h = absurd (true≢false (sym h ∙ ap (λ z. lt z r.start) (sym (ap (λ z. z.start) s.1)) ∙ ap (lt x) (sym (ap (λ z. z.start) t.1)) ∙ lt-irreflexive x))
     versions q r (inl s, l) (inr t, k) h = absurd (true≢false (sym h ∙ ap (λ z. lt z r.start) (sym (ap (λ z. z.start) s.1)) ∙ lt-asymmetric r.start x (below s.0 r (t, k))))
@@ -161,13 +164,17 @@ ordered-stretch o m a x ordered = record { origin = origin; versions = versions 
   where
     ok : TimeParts → Bool
     ok y = lt y x && alive m y
+
     at : Standing o m (sees m o x)
     at = standing (λ y. lt y x && alive m y) o m
+
     most : Starts (λ y. (lt y x && alive m y) ≡ true → AtMost (sees m o x) y) o m
     most = top-all (λ y. lt y x && alive m y) o m
+
     origin : (r : Seen) → Living o m r → Ends (if same_object a o && same_place (place_of (sees m o x)) None then top x (stretched m o None) else stretched m o None) r.start
     origin r l = ends-if (same_object a o && same_place (place_of (sees m o x)) None) x r.start (stretched m o None)
         (λ e. not-below-origin o m x (sees m o x) most r l (and-right (same_object a o) _ e)) (ordered.origin r l)
+
     versions : (q r : Seen) → Living o m q → Living o m r → lt q.start r.start ≡ true →
         Ends (top q.start (if same_object a o && same_place (place_of (sees m o x)) (Some q.place) then top x (stretched m o (Some q.place)) else stretched m o (Some q.place))) r.start
     versions q r k l b = ends-top q.start r.start _ (lt-asymmetric q.start r.start b)

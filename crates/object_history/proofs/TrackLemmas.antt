@@ -1,5 +1,5 @@
 -- A track, and the map of all tracks, after a change.
-use Rattle.std.proofs.Common.{◌≡◌, ℕ, zero, suc, ◌+◌, ◌≤◌, ◌<◌, Bool, true, false, List, [], ◌∷◌, ◌++◌, length, reverse, refl, sym, ◌∙◌, ap, subst, Option, Some, None, ◌==◌, if◌then◌else◌, cond, slice_set, slice_index_or, arith}
+use Rattle.std.proofs.Common.{◌≡◌, ℕ, zero, suc, ◌+◌, ◌≤◌, ◌<◌, Bool, true, false, List, [], ◌∷◌, ◌++◌, length, reverse, refl, sym, ◌∙◌, ap, subst, Option, Some, ◌==◌, if◌then◌else◌, cond, slice_set, slice_index_or, arith}
 use Rattle.std.specs.Prelude.{Result, Ok, Err, OnOk, OnErr, unwrap_or}
 use Rattle.std.specs.Ordering.{is_eq}
 use Rattle.std.specs.FinMap as finite
@@ -58,6 +58,7 @@ ended-first x (w ∷ vs) v = ap (λ b. (if b then read_up_to x w else w) ∷ end
   where
     differ : (n : ℕ) → 0 < n → (0 == n) ≡ false
     differ n h = grind (arith, common_steps)
+
     longer : (us : List Version) → 0 < length (us ++ v ∷ [])
     longer [] = omega arith
     longer (u ∷ us) = omega arith
@@ -72,8 +73,10 @@ ended-next p x (w ∷ vs) v = ap (λ b. (if b then read_up_to x w else w) ∷ en
   where
     shift : (n k : ℕ) → n ≡ k + 1 → (suc p == n) ≡ (p == k)
     shift n k h = grind (arith, common_steps)
+
     grow : (n k : ℕ) → n ≡ k + 1 → suc n ≡ suc k + 1
     grow n k h = omega arith
+
     more : (us : List Version) → length (us ++ v ∷ []) ≡ length us + 1
     more [] = refl
     more (u ∷ us) = grow (length (us ++ v ∷ [])) (length us) (more us)

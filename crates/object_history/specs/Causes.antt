@@ -1,5 +1,5 @@
 -- When a call on histories may fail: only where a count rose in that call.
-use Rattle.std.specs.Prelude.{ℕ, ◌≤◌, Result, IsErrOf, IfErr}
+use Rattle.std.specs.Prelude.{ℕ, ◌≤◌, Result, IsErrOf}
 use Rattle.stream_port.specs.Causes.{Rose}
 use Rattle.object_history.specs.declared.steps.HistoryFault.{HistoryFault}
 use Rattle.object_history.specs.declared.steps.HistoryFault.TheVariants as fault

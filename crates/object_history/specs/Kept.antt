@@ -60,7 +60,7 @@ unfoldable pub versions_in : List Mark → ObjectId → List Mark → List Versi
 versions_in all o [] = []
 versions_in all o (Put a x v ∷ m) =
     if same_object a o then record { place = version_count o m; mark = length m; start = x; end = stretched all o (Some (version_count o m)) } ∷ versions_in all o m
-        else versions_in all o m
+    else versions_in all o m
 versions_in all o (Stretch a x ∷ m) = versions_in all o m
 versions_in all o (Settle s c ∷ m) = versions_in all o m
 

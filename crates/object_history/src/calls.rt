@@ -84,12 +84,7 @@ pub trait Histories: Drop {
         ensures below { below self.new ≡ below self.old };
 
     /// Settles an attempt as committed, or else as aborted. The content grows by the Settle.
-    fn settle(
-        &mut self,
-        alloc: Global,
-        stamp: Stamp,
-        committed: bool,
-    ) -> Result<(), HistoryFault>
+    fn settle(&mut self, alloc: Global, stamp: Stamp, committed: bool) -> Result<(), HistoryFault>
         requires unsettled { settle_of (content self.old) stamp ≡ None }
         ensures sound { IsTrue tells → IfErr result IsNotDamage }
         ensures grown { OnOk result (content self.new ≡ mark.Settle stamp committed ∷ content self.old) }

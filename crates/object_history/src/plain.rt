@@ -267,7 +267,12 @@ impl PlainHistories {
     }
 
     // What a read answers.
-    fn answer(&self, alloc: Global, object: ObjectId, at: PseudoTime) -> Result<ReadStep, AllocError>
+    fn answer(
+        &self,
+        alloc: Global,
+        object: ObjectId,
+        at: PseudoTime,
+    ) -> Result<ReadStep, AllocError>
         ensures step { IfOk result (λ s. s ≡ answers.read_step self.now object at) }
         ensures in_range { IfOk result IsReadStep }
     {

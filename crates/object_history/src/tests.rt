@@ -116,7 +116,12 @@ fn asked<H: Histories>(alloc: Global, histories: &mut H, call: Call) -> Result<S
             Ok(Said::Stands(stands))
         }
         Call::Settle(clock, broker, committed) => {
-            settle_first(alloc, histories, time((clock, broker, 1))?.stamp(), committed)?;
+            settle_first(
+                alloc,
+                histories,
+                time((clock, broker, 1))?.stamp(),
+                committed,
+            )?;
             Ok(Said::Done)
         }
         Call::Settled(clock, broker) => {
@@ -300,12 +305,7 @@ impl Histories for Silent {
         Ok(true)
     }
 
-    fn settle(
-        &mut self,
-        alloc: Global,
-        stamp: Stamp,
-        committed: bool,
-    ) -> Result<(), HistoryFault> {
+    fn settle(&mut self, alloc: Global, stamp: Stamp, committed: bool) -> Result<(), HistoryFault> {
         self.marks.settle(alloc, stamp, committed)
     }
 

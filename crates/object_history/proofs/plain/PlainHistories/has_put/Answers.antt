@@ -1,6 +1,5 @@
-use Rattle.std.proofs.Common.{rules, ◌≡◌, reverse, true, false, refl, sym, ap, ◌∙◌, ◌&&◌}
+use Rattle.std.proofs.Common.{rules, ◌≡◌, reverse, sym, ap, ◌∙◌, ◌&&◌}
 use Rattle.std.specs.Option.{option_copied}
-use Rattle.pseudo_time.specs.Order.{same_time}
 use Rattle.object_history.specs.Objects.{same_value}
 use Rattle.object_history.specs.Kept.{some_version, value_under}
 use Rattle.object_history.proofs.LookLemmas.{is_written, some-step, some-found, some-done, put-some, put-none}

@@ -1,6 +1,5 @@
-use Rattle.std.proofs.Common.{sym, ap, ◌∙◌, subst, None, Some}
-use Rattle.std.specs.Option.{option_copied, option_map}
-use Rattle.object_history.specs.Kept.{HasEnd, IsKept, seen_in}
+use Rattle.std.proofs.Common.{sym, ap, ◌∙◌}
+use Rattle.std.specs.Option.{option_copied}
 use Rattle.object_history.proofs.LookLemmas.{seen-none, seen-by, end-by}
 use Rattle.object_history.proofs.plain.PlainHistories.last.Goals as goal
 

@@ -1,4 +1,4 @@
-use Rattle.std.proofs.Common.{arith, sym, ap, ◌∙◌, reverse, ◌≡◌}
+use Rattle.std.proofs.Common.{arith, sym, ap, ◌∙◌, ◌≡◌}
 use Rattle.std.specs.Option.{option_copied}
 use Rattle.std.specs.Prelude.{unwrap_or}
 use Rattle.std.proofs.Common.{slice_index_or}

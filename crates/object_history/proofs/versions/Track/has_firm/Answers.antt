@@ -1,4 +1,4 @@
-use Rattle.std.proofs.Common.{rules, ◌≡◌, reverse, true, false, refl, sym, ap, ◌∙◌}
+use Rattle.std.proofs.Common.{rules, ◌≡◌, reverse, sym, ap, ◌∙◌}
 use Rattle.object_history.specs.Kept.{is_firm, some_version}
 use Rattle.object_history.specs.declared.versions.Version.{Version}
 use Rattle.object_history.proofs.LookLemmas.{some-step, some-found, some-done}

@@ -1,4 +1,4 @@
-use Rattle.std.proofs.Common.{rules, sym, ap, ◌∙◌, subst, arith, length, ◌<◌, ◌≤◌}
+use Rattle.std.proofs.Common.{◌∙◌, subst, length, ◌<◌, ◌≤◌}
 use Rattle.object_history.proofs.TrackLemmas.{track-ended, track-kept}
 use Rattle.object_history.proofs.versions.Track.stretch.Goals as goal
 
