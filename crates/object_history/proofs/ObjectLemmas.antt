@@ -3,12 +3,10 @@ use Rattle.std.proofs.Common.{◌≡◌, ℕ, Bool, true, refl, sym, ◌∙◌, 
 use Rattle.std.specs.Ordering.{nat_cmp, ordering_then, is_eq}
 use Rattle.std.specs.declared.cmp.Ordering.{Ordering}
 use Rattle.std.specs.declared.cmp.Ordering.TheVariants.{Less, Equal, Greater}
-use Rattle.std.specs.Cmp.{IsTotalOrder, tied_itself, signed_Decides}
+use Rattle.std.specs.Cmp.{tied_itself, signed_Decides}
 use Rattle.std.specs.Cmp.Lexicographic.{bytes_decides}
 use Rattle.std.proofs.lemmas.Grind.{common_steps}
 use Rattle.std.proofs.lemmas.Bool.{false≢true}
-use Rattle.std.proofs.lemmas.Cmp.{nat_cmp_total, on_total, then_total}
-use Rattle.std.proofs.lemmas.Map.Lookups.{CmpEqualImpliesEq, exact_pairs, exact_unsigned}
 use Rattle.pseudo_time.specs.StampParts.{StampParts, stamp_cmp}
 use Rattle.pseudo_time.specs.TimeParts.{TimeParts}
 use Rattle.pseudo_time.specs.Order.{same_stamp, same_time}
@@ -17,14 +15,8 @@ use Rattle.value_form.specs.declared.objects.ObjectId.{ObjectId}
 use Rattle.value_form.specs.declared.values.Value.{Value}
 use Rattle.value_form.specs.declared.values.Value.TheVariants.{Nothing, Number, Text}
 use Rattle.value_form.specs.Objects.{object_cmp}
+use Rattle.value_form.proofs.ObjectLemmas.{object_cmp-total, object_cmp-exact}
 use Rattle.object_history.specs.Objects.{same_object, same_value}
-
-pub object_cmp-total : IsTotalOrder object_cmp
-object_cmp-total = then_total (on_total (λ o. o.repository) nat_cmp_total) (on_total (λ o. o.number) nat_cmp_total)
-
-pub object_cmp-exact : CmpEqualImpliesEq object_cmp
-object_cmp-exact a b h = ap (λ (p : ℕ × ℕ). record { repository = p.0; number = p.1 })
-    (exact_pairs nat_cmp nat_cmp exact_unsigned exact_unsigned (a.repository, a.number) (b.repository, b.number) h)
 
 pub same_object-is : (a b : ObjectId) → same_object a b ≡ true → a ≡ b
 unfolding same_object

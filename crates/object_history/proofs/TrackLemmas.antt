@@ -12,7 +12,8 @@ use Rattle.object_history.specs.declared.versions.Version.{Version}
 use Rattle.object_history.specs.History.{top}
 use Rattle.object_history.specs.Objects.{same_object}
 use Rattle.object_history.specs.Kept.{TrackParts, Tracked, track_at, empty_track, read_up_to, ended_at, with_end}
-use Rattle.object_history.proofs.ObjectLemmas.{object_cmp-total, object_cmp-exact, same_object-is}
+use Rattle.value_form.proofs.ObjectLemmas.{object_cmp-total, object_cmp-exact}
+use Rattle.object_history.proofs.ObjectLemmas.{same_object-is}
 use Rattle.object_history.proofs.MapLemmas.{found_at, Puts, get-entries_of}
 
 pub on_ok : {T E P Q : Type 0} (r : Result T E) → (P → Q) → OnOk r P → OnOk r Q

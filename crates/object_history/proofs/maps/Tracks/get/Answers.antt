@@ -1,6 +1,6 @@
 use Rattle.std.proofs.Common.{sym, ap, ◌∙◌}
 use Rattle.std.specs.FinMap as finite
-use Rattle.object_history.proofs.ObjectLemmas.{object_cmp-total, object_cmp-exact}
+use Rattle.value_form.proofs.ObjectLemmas.{object_cmp-total, object_cmp-exact}
 use Rattle.object_history.proofs.MapLemmas.{get-entries_of}
 use Rattle.object_history.proofs.maps.Tracks.get.Goals as goal
 
