@@ -1,0 +1,14 @@
+pub mod AnswerLemmas
+pub mod BoolLemmas
+pub mod KeptLemmas
+pub mod LookLemmas
+pub mod MapLemmas
+pub mod ObjectLemmas
+pub mod ReachLemmas
+pub mod ScanLemmas
+pub mod SettledLemmas
+pub mod StableLemmas
+pub mod TestLemmas
+pub mod TrackLemmas
+pub mod ViewLemmas
+pub mod Words

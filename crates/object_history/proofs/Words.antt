@@ -1,0 +1,25 @@
+-- Facts on what is seen, which the lemmas on histories share.
+use Rattle.std.specs.Prelude.{◌≡◌, Bool, true, false, Option, Some, None}
+use Rattle.pseudo_time.specs.TimeParts.{TimeParts}
+use Rattle.pseudo_time.specs.Order.{lt}
+use Rattle.object_history.specs.History.{Seen}
+
+-- what is seen passes the test
+abbrev pub Passes : (TimeParts → Bool) → Option Seen → Type 0
+Passes g None = Unit {0}
+Passes g (Some r) = g r.start ≡ true
+
+-- the end isn't above x
+abbrev pub Ends : Option TimeParts → TimeParts → Type 0
+Ends None x = Unit {0}
+Ends (Some e) x = lt x e ≡ false
+
+-- what is seen starts below x
+abbrev pub Low : Option Seen → TimeParts → Type 0
+Low None x = Unit {0}
+Low (Some q) x = lt q.start x ≡ true
+
+-- y isn't above what is seen
+abbrev pub AtMost : Option Seen → TimeParts → Type 0
+AtMost None y = ⊥
+AtMost (Some q) y = lt q.start y ≡ false
