@@ -1,0 +1,13 @@
+//! The flight of messages: the copies of each, on their way between nodes, which are lost, repeated,
+//! reordered and held as their fates say.
+#![tactic(auto)]
+
+mod flights;
+mod holds;
+mod letters;
+mod queues;
+
+pub use flights::{Arrival, Flight};
+
+#[cfg(test)]
+mod tests;
