@@ -2,7 +2,7 @@
 use Rattle.std.specs.Prelude.{◌≡◌, ℕ, ◌-◌, ◌≤◌, List, [], Option, Some, None, slice_get}
 use Rattle.pseudo_time.specs.declared.nodes.NodeId.{NodeId}
 use Rattle.message_form.specs.Messages.{IsMessage, message_bytes}
-use Rattle.message_core.specs.declared.flights.Arrival.{Arrival}
+use Rattle.message_core.specs.declared.letters.Arrival.{Arrival}
 use Rattle.message_core.specs.Flights.{State, waiting}
 
 -- the front copy of the node's queue, with the message of its number among the messages sent

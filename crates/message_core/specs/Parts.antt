@@ -7,7 +7,7 @@ use Rattle.std.specs.BTreeMap.{is_at}
 use Rattle.pseudo_time.specs.declared.nodes.NodeId.{NodeId}
 use Rattle.message_core.specs.declared.letters.Letter.{Letter}
 use Rattle.message_core.specs.declared.letters.Held.{Held}
-use Rattle.message_core.specs.Nodes.{node_cmp}
+use Rattle.message_core.specs.Nodes.{same_node}
 use Rattle.message_core.specs.Flights.{State}
 use Rattle.message_core.specs.Queues.{queues_seen, held_seen}
 use Rattle.std.specs.Global.{Vec}
@@ -22,7 +22,7 @@ pub record FlightParts : Type 0 where
   pub held : List (ℕ × List Held)
 
 abbrev pub queue_at : List (NodeId × List ℕ) → NodeId → Option (List ℕ)
-queue_at queues n = lookup (is_at (node_cmp n)) queues
+queue_at queues n = lookup (same_node n) queues
 
 abbrev pub held_at : List (ℕ × List Held) → ℕ → List Held
 held_at held d = unwrap_or (lookup (is_at (nat_cmp d)) held) []

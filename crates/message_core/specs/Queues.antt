@@ -8,11 +8,11 @@ use Rattle.std.specs.Global.{Vec}
 use Rattle.std.specs.declared.collections.VecDeque.{VecDeque}
 use Rattle.pseudo_time.specs.declared.nodes.NodeId.{NodeId}
 use Rattle.message_core.specs.declared.letters.Held.{Held}
-use Rattle.message_core.specs.Nodes.{node_cmp}
+use Rattle.message_core.specs.Nodes.{same_node}
 use Rattle.message_core.specs.Flights.{going_to}
 
 abbrev pub queue_in : {A : Type 0} → List (NodeId × VecDeque ℕ A) → NodeId → Option (List ℕ)
-queue_in entries n = option_map (λ queue. queue.items) (lookup (is_at (node_cmp n)) entries)
+queue_in entries n = option_map (λ queue. queue.items) (lookup (same_node n) entries)
 
 abbrev pub held_in : List (ℕ × Vec Held) → ℕ → List Held
 held_in entries d = unwrap_or (option_map (λ copies. copies.items) (lookup (is_at (nat_cmp d)) entries)) []

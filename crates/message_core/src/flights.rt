@@ -1,28 +1,25 @@
-ghost use Rattle.std.specs.Prelude.{◌≡◌, ◌↔◌, ℕ, List, [], Some, IfOk, OnOk, OnErr, IsTrue};
+ghost use Rattle.std.specs.Prelude.{◌≡◌, ◌↔◌, ◌+◌, ◌++◌, ◌==◌, ◌&&◌, not, ℕ, List, [], Some, replicate, IfOk, OnOk, OnErr, IsTrue, if◌then◌else◌};
+ghost use Rattle.std.specs.Option.{option_map};
+ghost use Rattle.stream_port.specs.Fates.{copies_of};
+ghost use Rattle.message_core.specs.Nodes.{same_node};
+ghost use Rattle.message_core.specs.Queues.{queue_in, held_in};
 ghost use Rattle.pseudo_time.specs.declared.nodes.NodeId.{NodeId};
 ghost use Rattle.message_form.specs.Messages.{IsMessage, message_bytes};
-ghost use Rattle.message_core.specs.Flights.{start, next_number, sent, taken, passed, was_shut, AllEmpty};
+ghost use Rattle.message_core.specs.Flights.{start, puts, next_number, sent, taken, passed, was_shut, AllEmpty};
 ghost use Rattle.message_core.specs.Arrivals.{Arrives};
 ghost use Rattle.message_core.specs.Parts.{state_of};
 
-use crate::holds::{Holds, hold_until};
-use crate::letters::{Held, Letter};
-use crate::queues::{Queues, empty_queues, put_in, spread};
-use message_form::{Message, MessageFault, read, write};
+use crate::holds::{Holds, hold_until, release};
+use crate::letters::{Arrival, Held, Letter, arrival_of, forget_last, letter_for};
+use crate::queues::{
+    Queues, are_empty, arrive, close_queue, drop_front, empty_queues, front_of, put_in,
+};
+use message_form::Message;
 use pseudo_time::NodeId;
 use std::alloc::{AllocError, Global};
 use std::collections::BTreeMap;
 use std::marker::Model;
 use stream_port::Fate;
-use value_form::Bytes;
-
-/// A copy of a message that arrived: the message's number, its sender and the message.
-#[derive(Debug, Drop)]
-pub struct Arrival {
-    pub number: u32,
-    pub from: NodeId,
-    pub message: Message,
-}
 
 /// The copies of messages on their way: a queue of due copies for each node that is up, and the
 /// copies that are held until a tick. Messages are kept as their texts.
@@ -58,7 +55,12 @@ fn place(
     ticks: u64,
     copy: Held,
     fate: Fate,
-) -> Result<(), AllocError> {
+) -> Result<(), AllocError>
+    ensures queued { OnOk result ((n : NodeId) → queue_in queues.new.entries n ≡ (if (fate.hold == 0) && same_node copy.to n then option_map (puts (copies_of fate) copy.number fate.overtake) (queue_in queues.old.entries n) else queue_in queues.old.entries n)) }
+    ensures waiting { OnOk result ((d : ℕ) → held_in held.new.entries d ≡ (if not (fate.hold == 0) && (ticks + fate.hold == d) then held_in held.old.entries d ++ replicate (copies_of fate) copy else held_in held.old.entries d)) }
+    ensures err { OnErr result ((n : NodeId) → queue_in queues.new.entries n ≡ queue_in queues.old.entries n) }
+    ensures err_held { OnErr result ((d : ℕ) → held_in held.new.entries d ≡ held_in held.old.entries d) }
+{
     let copies = fate.copies.min(3);
     if fate.hold == 0 {
         return put_in(queues, copy.to, copy.number, copies, fate.overtake);
@@ -111,15 +113,18 @@ impl Flight {
         ensures err { OnErr result (state_of self.new ≡ state_of self.old) }
     {
         let number = self.next_number()?;
-        let mut text = Vec::new(self.alloc);
-        write(self.alloc, message, &mut text)?;
-        let text = Bytes::of(text);
-        self.letters.push(Letter { from, to, text })?;
+        self.letters.push(letter_for(self.alloc, from, to, message)?)?;
         let copy = Held { number, to };
-        let placed = place(self.alloc, &mut self.queues, &mut self.held, self.ticks, copy, fate);
-        if placed.is_err() {
-            self.letters.pop();
-            return Err(AllocError);
+        if let Err(failed) = place(
+            self.alloc,
+            &mut self.queues,
+            &mut self.held,
+            self.ticks,
+            copy,
+            fate,
+        ) {
+            forget_last(&mut self.letters);
+            return Err(failed);
         }
         Ok(number)
     }
@@ -130,24 +135,12 @@ impl Flight {
         ensures taken { OnOk result (state_of self.new ≡ taken (state_of self.old) node) }
         ensures err { OnErr result (state_of self.new ≡ state_of self.old) }
     {
-        let Some(queue) = self.queues.get_mut(&node) else {
+        let Some(number) = front_of(&self.queues, node) else {
             return Ok(None);
         };
-        let Some(number) = queue.front().copied() else {
-            return Ok(None);
-        };
-        let letter = &self.letters[number as usize - 1];
-        let message = match read(self.alloc, letter.text.as_slice()) {
-            Ok(message) => message,
-            Err(MessageFault::NoMemory) => return Err(AllocError),
-            Err(MessageFault::Form { .. }) => unreachable!(),
-        };
-        queue.pop_front();
-        Ok(Some(Arrival {
-            number,
-            from: letter.from,
-            message,
-        }))
+        let arrival = arrival_of(self.alloc, &self.letters, number)?;
+        drop_front(&mut self.queues, node);
+        Ok(Some(arrival))
     }
 
     /// One tick passes. The copies held until now go to the ends of their queues, in order of number.
@@ -158,10 +151,8 @@ impl Flight {
         let Some(tick) = self.ticks.checked_add(1) else {
             return Err(AllocError);
         };
-        if let Some(copies) = self.held.get(&tick) {
-            spread(&mut self.queues, copies.as_slice())?;
-        }
-        self.held.remove(&tick);
+        arrive(&mut self.queues, &self.held, tick)?;
+        release(&mut self.held, tick);
         self.ticks = tick;
         Ok(())
     }
@@ -170,18 +161,13 @@ impl Flight {
     pub fn shut(&mut self, node: NodeId)
         ensures { state_of self.new ≡ was_shut (state_of self.old) node }
     {
-        self.queues.remove(&node);
+        close_queue(&mut self.queues, node);
     }
 
     /// Whether no copy is due at any node.
     pub fn empty(&self) -> bool
         ensures { IsTrue result ↔ AllEmpty (state_of self.now) }
     {
-        for queue in self.queues.values() {
-            if !queue.is_empty() {
-                return false;
-            }
-        }
-        true
+        are_empty(&self.queues)
     }
 }

@@ -1,4 +1,4 @@
-ghost use Rattle.std.specs.Prelude.{◌≡◌, ◌==◌, ◌++◌, ℕ, OnOk, OnErr, replicate, if◌then◌else◌};
+ghost use Rattle.std.specs.Prelude.{◌≡◌, ◌==◌, ◌++◌, [], ℕ, OnOk, OnErr, replicate, if◌then◌else◌};
 ghost use Rattle.message_core.specs.Queues.{held_in};
 
 use crate::letters::Held;
@@ -25,4 +25,11 @@ pub fn hold_until(
     let waiting = vec![in alloc; copy; usize::from(copies)]?;
     held.insert(due, waiting)?;
     Ok(())
+}
+
+// The copies that waited for a tick wait no longer.
+pub fn release(held: &mut Holds, tick: u64)
+    ensures { (d : ℕ) → held_in held.new.entries d ≡ (if tick == d then [] else held_in held.old.entries d) }
+{
+    held.remove(&tick);
 }

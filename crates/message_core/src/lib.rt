@@ -7,7 +7,8 @@ mod holds;
 mod letters;
 mod queues;
 
-pub use flights::{Arrival, Flight};
+pub use flights::Flight;
+pub use letters::Arrival;
 
 #[cfg(test)]
 mod tests;

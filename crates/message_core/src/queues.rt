@@ -1,13 +1,14 @@
-ghost use Rattle.std.specs.Prelude.{◌≡◌, ◌+◌, ◌≤◌, ◌<◌, ◌++◌, ◌∷◌, [], ℕ, List, Option, IfOk, OnOk, OnErr, Some, None, if◌then◌else◌};
-ghost use Rattle.std.specs.Option.{option_map};
+ghost use Rattle.std.specs.Prelude.{◌≡◌, ◌↔◌, ◌+◌, ◌-◌, ◌≤◌, ◌<◌, ◌++◌, ◌∷◌, [], ℕ, List, Option, length, take, drop, slice_get, IsTrue, IfOk, OnOk, OnErr, Some, None, if◌then◌else◌};
+ghost use Rattle.std.specs.Option.{option_map, unwrap_or};
 ghost use Rattle.std.specs.List.{list_any};
-ghost use Rattle.std.specs.Vec.Deque.{deque_len, deque_capacity};
+ghost use Rattle.std.specs.VecDeque.{deque_len, deque_capacity};
 ghost use Rattle.pseudo_time.specs.declared.nodes.NodeId.{NodeId};
 ghost use Rattle.message_core.specs.declared.letters.Held.{Held};
 ghost use Rattle.message_core.specs.Nodes.{same_node};
 ghost use Rattle.message_core.specs.Flights.{put, puts};
-ghost use Rattle.message_core.specs.Queues.{queue_in, Grew};
+ghost use Rattle.message_core.specs.Queues.{queue_in, held_in, Grew};
 
+use crate::holds::Holds;
 use crate::letters::Held;
 use pseudo_time::NodeId;
 use std::alloc::{AllocError, Global};
@@ -83,17 +84,24 @@ fn add(queues: &mut Queues, copy: Held) -> Result<(), AllocError>
     Ok(())
 }
 
+// The copy at the end of a queue leaves it.
+fn drop_last(queue: &mut VecDeque<u32>)
+    ensures { queue.new.items ≡ take (length queue.old.items - 1) queue.old.items }
+{
+    queue.pop_back();
+}
+
 // Takes the copy at the end of its queue away again.
 fn take_back(queues: &mut Queues, copy: Held)
     ensures { (before : NodeId → Option (List ℕ)) (earlier : List Held) → Grew (earlier ++ copy ∷ []) before (queue_in queues.old.entries) → Grew earlier before (queue_in queues.new.entries) }
 {
     if let Some(queue) = queues.get_mut(&copy.to) {
-        queue.pop_back();
+        drop_last(queue);
     }
 }
 
 // These copies go to the ends of their queues, in order, each whose node is up.
-pub fn spread(queues: &mut Queues, copies: &[Held]) -> Result<(), AllocError>
+fn spread(queues: &mut Queues, copies: &[Held]) -> Result<(), AllocError>
     ensures ok { OnOk result (Grew copies.now (queue_in queues.old.entries) (queue_in queues.new.entries)) }
     ensures err { OnErr result ((n : NodeId) → queue_in queues.new.entries n ≡ queue_in queues.old.entries n) }
 {
@@ -106,6 +114,17 @@ pub fn spread(queues: &mut Queues, copies: &[Held]) -> Result<(), AllocError>
     Ok(())
 }
 
+// The copies that are held until this tick go to the ends of their queues.
+pub fn arrive(queues: &mut Queues, held: &Holds, tick: u64) -> Result<(), AllocError>
+    ensures ok { OnOk result (Grew (held_in held.now.entries tick) (queue_in queues.old.entries) (queue_in queues.new.entries)) }
+    ensures err { OnErr result ((n : NodeId) → queue_in queues.new.entries n ≡ queue_in queues.old.entries n) }
+{
+    match held.get(&tick) {
+        Some(copies) => spread(queues, copies.as_slice()),
+        None => Ok(()),
+    }
+}
+
 // Takes these copies away from the ends of their queues again, the last one first.
 fn gather(queues: &mut Queues, copies: &[Held])
     ensures { (before : NodeId → Option (List ℕ)) → Grew copies.now before (queue_in queues.old.entries) → Grew [] before (queue_in queues.new.entries) }
@@ -113,4 +132,48 @@ fn gather(queues: &mut Queues, copies: &[Held])
     for back in 0..copies.len() {
         take_back(queues, copies[copies.len() - 1 - back]);
     }
+}
+
+fn front_number(queue: &VecDeque<u32>) -> Option<u32>
+    ensures { result ≡ slice_get queue.now.items 0 }
+{
+    queue.front().copied()
+}
+
+// The number of the front copy of a node.
+pub fn front_of(queues: &Queues, node: NodeId) -> Option<u32>
+    ensures { result ≡ slice_get (unwrap_or (queue_in queues.now.entries node) []) 0 }
+{
+    match queues.get(&node) {
+        Some(queue) => front_number(queue),
+        None => None,
+    }
+}
+
+// The front copy of a node leaves its queue.
+pub fn drop_front(queues: &mut Queues, node: NodeId)
+    ensures { (n : NodeId) → queue_in queues.new.entries n ≡ (if same_node node n then option_map (drop 1) (queue_in queues.old.entries n) else queue_in queues.old.entries n) }
+{
+    if let Some(queue) = queues.get_mut(&node) {
+        queue.pop_front();
+    }
+}
+
+// The queue of a node is given up.
+pub fn close_queue(queues: &mut Queues, node: NodeId)
+    ensures { (n : NodeId) → queue_in queues.new.entries n ≡ (if same_node node n then None else queue_in queues.old.entries n) }
+{
+    queues.remove(&node);
+}
+
+// Whether each queue is empty.
+pub fn are_empty(queues: &Queues) -> bool
+    ensures { IsTrue result ↔ ((n : NodeId) → unwrap_or (queue_in queues.now.entries n) [] ≡ []) }
+{
+    for node in queues.keys() {
+        if front_of(queues, *node).is_some() {
+            return false;
+        }
+    }
+    true
 }

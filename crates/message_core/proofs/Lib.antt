@@ -1,0 +1,5 @@
+pub mod NodeLemmas
+pub mod QueueLemmas
+pub mod SoundLemmas
+pub mod StateLemmas
+pub mod TakeLemmas
