@@ -1,3 +1,4 @@
+pub mod EmptyLemmas
 pub mod NodeLemmas
 pub mod QueueLemmas
 pub mod SoundLemmas

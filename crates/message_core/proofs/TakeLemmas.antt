@@ -4,7 +4,7 @@ use Rattle.std.specs.Prelude.{◌↔◌, Option, Some, None, slice_get}
 use Rattle.std.specs.Option.{unwrap_or}
 use Rattle.std.specs.Global.{Vec}
 use Rattle.std.specs.declared.collections.VecDeque.{VecDeque}
-use Rattle.std.proofs.lemmas.Option.{slice_get_within}
+use Rattle.std.proofs.lemmas.Option.{slice_get_within, slice_get-get_or}
 use Rattle.pseudo_time.specs.declared.nodes.NodeId.{NodeId}
 use Rattle.message_form.specs.Messages.{IsMessage, message_bytes}
 use Rattle.message_core.specs.declared.letters.Letter.{Letter}
@@ -22,11 +22,6 @@ text_at [] i d within all = absurd (let never : ⊥ = omega (arith, within) in n
 text_at (l ∷ ls) zero d within all = all.0
 text_at (l ∷ ls) (suc i) d within all = text_at ls i d (omega (arith, within)) all.1
 
-pub got_at : (ls : List Letter) (i : ℕ) (d : Letter) → i < length ls → slice_get ls i ≡ Some (get_or ls i d)
-got_at [] i d within = absurd (let never : ⊥ = omega (arith, within) in never)
-got_at (l ∷ ls) zero d within = refl
-got_at (l ∷ ls) (suc i) d within = got_at ls i d (omega (arith, within))
-
 letter_is : (x y d : Letter) → Some x ≡ Some y → x ≡ y
 letter_is x y d is = ap (λ (o : Option Letter). unwrap_or o d) is
 
@@ -34,7 +29,7 @@ letter_is x y d is = ap (λ (o : Option Letter). unwrap_or o d) is
 pub letter_at : (ls : List Letter) (node : NodeId) (k : ℕ) (d : Letter) (text : List ℕ) → WentTo ls node k → d ≡ get_or ls (k - 1) d → d.text ≡ text → slice_get ls (k - 1) ≡ Some (record { from = d.from; to = node; text = text })
 letter_at ls node k d text went is same =
     let within = slice_get_within ls (k - 1) went.letter went.there in
-    let got : slice_get ls (k - 1) ≡ Some d = got_at ls (k - 1) d within ∙ ap Some (sym is) in
+    let got : slice_get ls (k - 1) ≡ Some d = slice_get-get_or ls (k - 1) d within ∙ ap Some (sym is) in
     let one : d ≡ went.letter = letter_is d went.letter d (sym got ∙ went.there) in
     let to : d.to ≡ node = ap (λ (l : Letter). l.to) one ∙ went.to in
     got ∙ (λ i. Some (record { from = d.from; to = to i; text = same i }))

@@ -170,7 +170,7 @@ pub fn close_queue(queues: &mut Queues, node: NodeId)
 pub fn are_empty(queues: &Queues) -> bool
     ensures { IsTrue result ↔ ((n : NodeId) → unwrap_or (queue_in queues.now.entries n) [] ≡ []) }
 {
-    for node in queues.keys() {
+    for (node, _queue) in queues {
         if front_of(queues, *node).is_some() {
             return false;
         }
