@@ -1,9 +1,8 @@
 -- Maps of empty queues.
-use Rattle.std.proofs.Common.{◌≡◌, ℕ, suc, ◌+◌, ◌<◌, ◌||◌, ◌⊎◌, inl, inr, Bool, true, false, cond, List, [], ◌∷◌, ◌++◌, length, take, get_or, refl, sym, ap, ◌∙◌, subst, arith}
+use Rattle.std.proofs.Common.{◌≡◌, ℕ, suc, ◌+◌, ◌<◌, ◌||◌, ◌⊎◌, inl, inr, Bool, true, false, cond, List, [], ◌∷◌, ◌++◌, length, take, get_or, refl, sym, ap, ◌∙◌, arith}
 use Rattle.std.specs.Prelude.{Option, Some, None, is_some, slice_get, if◌then◌else◌}
 use Rattle.std.specs.Option.{option_map, unwrap_or}
 use Rattle.std.specs.List.{list_any}
-use Rattle.std.specs.Map.{lookup}
 use Rattle.std.specs.declared.collections.VecDeque.{VecDeque}
 use Rattle.std.proofs.Math.Seq.{take-suc}
 use Rattle.std.proofs.lemmas.List.Folds.{list_any-append}
@@ -67,8 +66,3 @@ module _ {A : Type 0} where
 pub empty_so : (queue : List ℕ) (o : Option ℕ) (b : Bool) → o ≡ slice_get queue 0 → b ≡ is_some o → b ≡ false → queue ≡ []
 empty_so queue None b front is same = no_front queue front
 empty_so queue (Some k) b front is same = absurd (let never : ⊥ = cc (sym is ∙ same) in never)
-
--- a node with a front copy
-pub full_so : (queue : List ℕ) (o : Option ℕ) (b : Bool) → o ≡ slice_get queue 0 → b ≡ is_some o → b ≡ true → queue ≡ [] → ⊥
-full_so queue None b front is same empty = cc (sym is ∙ same)
-full_so queue (Some k) b front is same empty = cc (front ∙ ap (λ xs. slice_get xs 0) empty)

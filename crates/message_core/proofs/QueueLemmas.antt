@@ -1,7 +1,7 @@
 -- One queue of a map changes.
-use Rattle.std.proofs.Common.{◌≡◌, ℕ, suc, ◌+◌, ◌≤◌, ◌<◌, get_or, subst, ◌-◌, ◌++◌, arith, List, [], ◌∷◌, Bool, true, false, cond, length, take, drop, map, refl, sym, ap, ◌∙◌}
-use Rattle.std.specs.Prelude.{Option, Some, None, Result, Ok, Err, OnOk, OnErr, slice_get, if◌then◌else◌}
-use Rattle.std.specs.Option.{option_map, unwrap_or}
+use Rattle.std.proofs.Common.{◌≡◌, ℕ, suc, ◌+◌, ◌≤◌, ◌<◌, get_or, subst, ◌-◌, ◌++◌, arith, List, [], ◌∷◌, Bool, true, false, cond, length, take, map, refl, sym, ap, ◌∙◌}
+use Rattle.std.specs.Prelude.{Option, Some, None, Result, Ok, Err, OnOk, OnErr, if◌then◌else◌}
+use Rattle.std.specs.Option.{option_map}
 use Rattle.std.specs.List.{filter}
 use Rattle.std.specs.Map.{lookup}
 use Rattle.std.specs.BTreeMap.{is_at}
@@ -155,7 +155,7 @@ gathered copies k d before now below grew =
     let up : length copies - k ≡ suc (length copies - (k + 1)) = omega (arith, below) in
     let within : length copies - (k + 1) < length copies = omega (arith, below) in
     let cut : take (length copies - k) copies ≡ take (length copies - (k + 1)) copies ++ get_or copies (length copies - 1 - k) d ∷ [] =
-        ap (λ n. take n copies) up ∙ take-suc copies (length copies - (k + 1)) d within ∙ ap (λ n. take (length copies - (k + 1)) copies ++ get_or copies n d ∷ []) (sym at) in
+    ap (λ n. take n copies) up ∙ take-suc copies (length copies - (k + 1)) d within ∙ ap (λ n. take (length copies - (k + 1)) copies ++ get_or copies n d ∷ []) (sym at) in
     subst (λ (cs : List Held). Grew cs before now) cut grew
 
 pub gathered_all : (copies : List Held) (k : ℕ) (before now : NodeId → Option (List ℕ)) → length copies ≤ k → Grew (take (length copies - k) copies) before now → Grew [] before now

@@ -1,5 +1,5 @@
 -- The copies of a flight stay copies of messages that were sent to their nodes.
-use Rattle.std.proofs.Common.{◌≡◌, ℕ, zero, suc, ◌+◌, ◌-◌, ◌≤◌, ◌<◌, ◌==◌, Bool, true, false, cond, List, [], ◌∷◌, ◌++◌, length, take, drop, map, replicate, refl, sym, ap, ◌∙◌, subst, arith}
+use Rattle.std.proofs.Common.{◌≡◌, ℕ, zero, suc, ◌+◌, ◌-◌, ◌==◌, Bool, true, false, cond, List, [], ◌∷◌, ◌++◌, length, take, drop, map, replicate, refl, ap, ◌∙◌, subst, arith}
 use Rattle.std.specs.Prelude.{Option, Some, None, slice_get, if◌then◌else◌}
 use Rattle.std.specs.Option.{option_map, unwrap_or}
 use Rattle.std.specs.List.{filter, list_any}
@@ -93,22 +93,22 @@ texts_more (l ∷ ls) letter all new = (all.0, texts_more ls letter all.1 new)
 -- ---- a queue after a call, by the queue before
 
 -- what holds of a queue, where there is one
-abbrev Of : (List ℕ → Type 0) → Option (List ℕ) → Type 0
+abbrev pub Of : (List ℕ → Type 0) → Option (List ℕ) → Type 0
 Of P None = Unit {0}
 Of P (Some queue) = P queue
 
-of_all : (P : List ℕ → Type 0) (o : Option (List ℕ)) → ((queue : List ℕ) → o ≡ Some queue → P queue) → Of P o
+pub of_all : (P : List ℕ → Type 0) (o : Option (List ℕ)) → ((queue : List ℕ) → o ≡ Some queue → P queue) → Of P o
 of_all P None all = tt {0}
 of_all P (Some queue) all = all queue refl
 
-all_of : (P : List ℕ → Type 0) (o : Option (List ℕ)) (queue : List ℕ) → Of P o → o ≡ Some queue → P queue
+pub all_of : (P : List ℕ → Type 0) (o : Option (List ℕ)) (queue : List ℕ) → Of P o → o ≡ Some queue → P queue
 all_of P o queue of is = subst (λ (x : Option (List ℕ)). Of P x) is of
 
-of_map : (P Q : List ℕ → Type 0) (F : List ℕ → List ℕ) (o : Option (List ℕ)) → ((queue : List ℕ) → P queue → Q (F queue)) → Of P o → Of Q (option_map F o)
+pub of_map : (P Q : List ℕ → Type 0) (F : List ℕ → List ℕ) (o : Option (List ℕ)) → ((queue : List ℕ) → P queue → Q (F queue)) → Of P o → Of Q (option_map F o)
 of_map P Q F None step of = tt {0}
 of_map P Q F (Some queue) step of = step queue of
 
-of_weaker : (P Q : List ℕ → Type 0) (o : Option (List ℕ)) → ((queue : List ℕ) → P queue → Q queue) → Of P o → Of Q o
+pub of_weaker : (P Q : List ℕ → Type 0) (o : Option (List ℕ)) → ((queue : List ℕ) → P queue → Q queue) → Of P o → Of Q o
 of_weaker P Q None step of = tt {0}
 of_weaker P Q (Some queue) step of = step queue of
 
@@ -128,8 +128,8 @@ module _ (s : State) (sound : IsSound s) where
       record {
         queued = λ node queue is. all_of (AllWentTo ls node) _ queue (of_either (AllWentTo ls node) (same_node letter.to node) _ _
             (λ same. of_map (AllWentTo s.letters node) (AllWentTo ls node) (puts (copies_of fate) (next_number s) fate.overtake) (s.queues node)
-                (λ q went. all_puts ls node (copies_of fate) (next_number s) fate.overtake q (subst (λ (n : NodeId). WentTo ls n (next_number s)) (same_is letter.to node same) (just_went s.letters letter)) (all_still s.letters (letter ∷ []) node q went))
-                (queued_of node))
+            (λ q went. all_puts ls node (copies_of fate) (next_number s) fate.overtake q (subst (λ (n : NodeId). WentTo ls n (next_number s)) (same_is letter.to node same) (just_went s.letters letter)) (all_still s.letters (letter ∷ []) node q went))
+            (queued_of node))
             (of_weaker (AllWentTo s.letters node) (AllWentTo ls node) (s.queues node) (all_still s.letters (letter ∷ []) node) (queued_of node))) is;
         held = λ d. held_still s.letters (letter ∷ []) (s.held d) (sound.held d);
         texts = texts_more s.letters letter sound.texts text;

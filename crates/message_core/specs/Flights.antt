@@ -1,5 +1,5 @@
 -- What a flight of copies holds, as a fold over what was done with it.
-use Rattle.std.specs.Prelude.{◌≡◌, ℕ, zero, suc, ◌+◌, ◌-◌, ◌≤◌, Bool, ◌==◌, List, [], ◌∷◌, ◌++◌, length, drop, map, replicate, slice_get, Option, Some, None, if◌then◌else◌}
+use Rattle.std.specs.Prelude.{◌≡◌, ℕ, zero, suc, ◌+◌, ◌-◌, ◌==◌, List, [], ◌∷◌, ◌++◌, length, drop, map, replicate, Option, Some, None, if◌then◌else◌}
 use Rattle.std.specs.Option.{option_map, unwrap_or}
 use Rattle.std.specs.List.{insert, filter, list_any}
 use Rattle.pseudo_time.specs.declared.nodes.NodeId.{NodeId}

@@ -1,5 +1,5 @@
 -- Each copy of a flight is one of a message that was sent to its node.
-use Rattle.std.specs.Prelude.{◌≡◌, ℕ, ◌-◌, ◌≤◌, List, [], ◌∷◌, Option, Some, slice_get}
+use Rattle.std.specs.Prelude.{◌≡◌, ℕ, ◌-◌, ◌≤◌, List, [], ◌∷◌, Some, slice_get}
 use Rattle.pseudo_time.specs.declared.nodes.NodeId.{NodeId}
 use Rattle.message_form.specs.declared.messages.Message.{Message}
 use Rattle.message_form.specs.Messages.{IsMessage, message_bytes}

@@ -113,7 +113,8 @@ impl Flight {
         ensures err { OnErr result (state_of self.new ≡ state_of self.old) }
     {
         let number = self.next_number()?;
-        self.letters.push(letter_for(self.alloc, from, to, message)?)?;
+        self.letters
+            .push(letter_for(self.alloc, from, to, message)?)?;
         let copy = Held { number, to };
         if let Err(failed) = place(
             self.alloc,

@@ -4,10 +4,12 @@
 
 mod flights;
 mod holds;
+mod laws;
 mod letters;
 mod queues;
 
 pub use flights::Flight;
+pub use laws::{copies_counted, copies_were_sent};
 pub use letters::Arrival;
 
 #[cfg(test)]

@@ -1,4 +1,4 @@
-use Rattle.std.proofs.Common.{◌≡◌, ◌-◌, ◌≤◌, ◌<◌, length, sym, subst, arith}
+use Rattle.std.proofs.Common.{◌-◌, sym, subst, arith}
 use Rattle.message_form.specs.Messages.{message_bytes}
 use Rattle.message_core.specs.Sound.{HasText}
 use Rattle.message_core.proofs.TakeLemmas.{text_at, letter_at}

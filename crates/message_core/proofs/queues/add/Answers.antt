@@ -1,10 +1,8 @@
-use Rattle.std.proofs.Common.{rules, ◌≡◌, ◌-◌, ◌++◌, ◌∷◌, [], length, take, drop, refl, sym, ap, ◌∙◌}
-use Rattle.std.specs.Prelude.{Option, Some, None, Result, Ok, Err, OnOk, OnErr, slice_get}
-use Rattle.std.specs.Option.{option_map, unwrap_or}
-use Rattle.message_core.specs.Flights.{puts}
+use Rattle.std.proofs.Common.{rules, ◌++◌, ◌∷◌, [], sym, ◌∙◌}
+use Rattle.std.specs.Prelude.{Some}
 use Rattle.message_core.specs.Queues.{queue_in}
 use Rattle.message_core.proofs.NodeLemmas.{found_same}
-use Rattle.message_core.proofs.QueueLemmas.{puts_of, queue_changed, queue_kept, queue_closed, one_more, last_undone, err_so}
+use Rattle.message_core.proofs.QueueLemmas.{puts_of, queue_changed, queue_kept, one_more, err_so}
 use Rattle.message_core.proofs.queues.add.Goals as goal
 
 pub returns-in_err-push_back-clause-err : goal.returns-in_err-push_back-clause-err

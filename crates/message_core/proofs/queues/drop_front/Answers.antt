@@ -1,10 +1,7 @@
-use Rattle.std.proofs.Common.{rules, ◌≡◌, ◌-◌, ◌++◌, ◌∷◌, [], length, take, drop, refl, sym, ap, ◌∙◌}
-use Rattle.std.specs.Prelude.{Option, Some, None, Result, Ok, Err, OnOk, OnErr, slice_get}
-use Rattle.std.specs.Option.{option_map, unwrap_or}
-use Rattle.message_core.specs.Flights.{puts}
-use Rattle.message_core.specs.Queues.{queue_in}
+use Rattle.std.proofs.Common.{rules, drop, sym, ◌∙◌}
+use Rattle.std.specs.Prelude.{Some}
 use Rattle.message_core.proofs.NodeLemmas.{found_same}
-use Rattle.message_core.proofs.QueueLemmas.{puts_of, queue_changed, queue_kept, queue_closed, one_more, last_undone}
+use Rattle.message_core.proofs.QueueLemmas.{puts_of, queue_changed}
 use Rattle.message_core.proofs.queues.drop_front.Goals as goal
 
 pub returns-in-Some : goal.returns-in-Some

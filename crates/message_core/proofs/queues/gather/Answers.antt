@@ -1,7 +1,6 @@
-use Rattle.std.proofs.Common.{rules, ◌≡◌, ◌+◌, ◌-◌, ◌≤◌, ◌<◌, ◌++◌, ◌∷◌, [], length, take, drop, refl, sym, ap, ◌∙◌, arith}
-use Rattle.std.proofs.lemmas.Bool.Decides.{nat_tests}
+use Rattle.std.proofs.Common.{rules, ◌+◌, ◌-◌, length, take}
 use Rattle.message_core.specs.Queues.{queue_in}
-use Rattle.message_core.proofs.QueueLemmas.{gathered, gathered_all, grew_nothing}
+use Rattle.message_core.proofs.QueueLemmas.{gathered, gathered_all}
 use Rattle.message_core.proofs.queues.gather.Goals as goal
 
 pub loop-back-preserved : goal.loop-back-preserved

@@ -1,4 +1,4 @@
-use Rattle.std.proofs.Common.{◌≡◌, ◌+◌, ◌-◌, ◌≤◌, ◌∙◌, arith}
+use Rattle.std.proofs.Common.{◌∙◌, arith}
 use Rattle.message_core.proofs.QueueLemmas.{puts_step}
 use Rattle.message_core.proofs.queues.put_copies.Goals as goal
 

@@ -1,7 +1,6 @@
-use Rattle.std.proofs.Common.{rules, ◌≡◌, ◌+◌, ◌-◌, ◌≤◌, ◌<◌, ◌++◌, ◌∷◌, [], length, take, drop, refl, sym, ap, ◌∙◌, arith}
-use Rattle.std.proofs.lemmas.Bool.Decides.{nat_tests}
+use Rattle.std.proofs.Common.{◌∙◌}
 use Rattle.message_core.specs.Queues.{queue_in}
-use Rattle.message_core.proofs.QueueLemmas.{gathered, gathered_all, grew_nothing}
+use Rattle.message_core.proofs.QueueLemmas.{grew_nothing}
 use Rattle.message_core.proofs.queues.spread.Goals as goal
 
 pub returns-in-Err-clause-err : goal.returns-in-Err-clause-err

@@ -1,10 +1,8 @@
-use Rattle.std.proofs.Common.{rules, ◌≡◌, ◌-◌, ◌++◌, ◌∷◌, [], length, take, drop, refl, sym, ap, ◌∙◌}
-use Rattle.std.specs.Prelude.{Option, Some, None, Result, Ok, Err, OnOk, OnErr, slice_get}
-use Rattle.std.specs.Option.{option_map, unwrap_or}
-use Rattle.message_core.specs.Flights.{puts}
+use Rattle.std.proofs.Common.{rules, ◌-◌, length, take, sym, ◌∙◌}
+use Rattle.std.specs.Prelude.{Some}
 use Rattle.message_core.specs.Queues.{queue_in}
 use Rattle.message_core.proofs.NodeLemmas.{found_same}
-use Rattle.message_core.proofs.QueueLemmas.{puts_of, queue_changed, queue_kept, queue_closed, one_more, last_undone, on_ok, on_err}
+use Rattle.message_core.proofs.QueueLemmas.{puts_of, queue_changed, last_undone}
 use Rattle.message_core.proofs.queues.take_back.Goals as goal
 
 pub returns-in-Some : goal.returns-in-Some

@@ -1,4 +1,4 @@
-use Rattle.std.proofs.Common.{◌≡◌, refl, sym, ap, subst}
+use Rattle.std.proofs.Common.{refl, sym, ap, subst}
 use Rattle.message_core.specs.Flights.{start}
 use Rattle.message_core.specs.Queues.{held_in}
 use Rattle.message_core.specs.Sound.{IsSound}

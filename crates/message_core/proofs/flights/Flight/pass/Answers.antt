@@ -1,4 +1,4 @@
-use Rattle.std.proofs.Common.{rules, ◌≡◌, ◌+◌, refl, sym, ap, ◌∙◌, subst}
+use Rattle.std.proofs.Common.{rules, refl, sym, ap, ◌∙◌, subst}
 use Rattle.message_core.specs.Flights.{passed}
 use Rattle.message_core.specs.Parts.{state_of}
 use Rattle.message_core.specs.Sound.{IsSound}
@@ -21,7 +21,7 @@ pub invariant_of-self-2 : goal.invariant_of-self-2
 invariant_of-self-2 c =
     let i = c.self.inside in
     subst IsSound (sym (passed_fields i.letters.items i.ticks i.queues.entries i.held.entries c.in-Some.tick c.arrive.new.queues.entries c.release.new.held.entries (search rules) c.in_ok-arrive.ensures.ok c.release.ensures))
-        (sound_passed (now i.letters.items i.ticks i.queues.entries i.held.entries) c.self.invariant)
+    (sound_passed (now i.letters.items i.ticks i.queues.entries i.held.entries) c.self.invariant)
 
 pub returns-clause-ok : goal.returns-clause-ok
 returns-clause-ok c =

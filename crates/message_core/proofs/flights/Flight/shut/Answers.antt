@@ -1,4 +1,4 @@
-use Rattle.std.proofs.Common.{◌≡◌, sym, ap, ◌∙◌, subst}
+use Rattle.std.proofs.Common.{sym, ap, ◌∙◌, subst}
 use Rattle.message_core.specs.Flights.{was_shut}
 use Rattle.message_core.specs.Parts.{state_of}
 use Rattle.message_core.specs.Sound.{IsSound}

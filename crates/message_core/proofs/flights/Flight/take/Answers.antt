@@ -19,7 +19,7 @@ pub returns-in_default-clause-taken : goal.returns-in_default-clause-taken
 returns-in_default-clause-taken c =
     let i = c.self.inside in
     subst (λ (p : FlightParts). state_of p ≡ taken (state_of p) c.args.node) c.self.view_is
-        (none_fields i.letters.items i.ticks i.queues.entries i.held.entries c.args.node (no_front (unwrap_or (queue_in i.queues.entries c.args.node) []) c.in_default.ensures))
+    (none_fields i.letters.items i.ticks i.queues.entries i.held.entries c.args.node (no_front (unwrap_or (queue_in i.queues.entries c.args.node) []) c.in_default.ensures))
 
 pub arrival_of-requires-clause-from_one : goal.arrival_of-requires-clause-from_one
 arrival_of-requires-clause-from_one c =
@@ -30,7 +30,7 @@ pub arrival_of-requires-clause-there : goal.arrival_of-requires-clause-there
 arrival_of-requires-clause-there c =
     let i = c.self.inside in
     subst (λ ls. c.in-Some.number ≤ length ls) (sym c.deref.ensures.value)
-        (within i.letters.items c.args.node c.in-Some.number (took_went i.letters.items i.ticks i.queues.entries i.held.entries c.args.node c.in-Some.number c.self.invariant c.in-Some.ensures))
+    (within i.letters.items c.args.node c.in-Some.number (took_went i.letters.items i.ticks i.queues.entries i.held.entries c.args.node c.in-Some.number c.self.invariant c.in-Some.ensures))
 
 pub invariant_of-self : goal.invariant_of-self
 invariant_of-self c =
@@ -41,8 +41,8 @@ pub returns-clause-arrived : goal.returns-clause-arrived
 returns-clause-arrived c =
     let i = c.self.inside in
     subst (λ (p : FlightParts). IsFront (state_of p) c.args.node c.in_ok-arrival.arrival) c.self.view_is
-        (is_front i.letters.items i.ticks i.queues.entries i.held.entries c.args.node c.in-Some.number c.in_ok-arrival.arrival c.deref.result.now c.self.invariant c.in-Some.ensures c.deref.ensures.value
-            c.in_ok-arrival.ensures.number c.in_ok-arrival.ensures.letter c.in_ok-arrival.ensures.in_range)
+    (is_front i.letters.items i.ticks i.queues.entries i.held.entries c.args.node c.in-Some.number c.in_ok-arrival.arrival c.deref.result.now c.self.invariant c.in-Some.ensures c.deref.ensures.value
+    c.in_ok-arrival.ensures.number c.in_ok-arrival.ensures.letter c.in_ok-arrival.ensures.in_range)
 
 pub returns-clause-taken : goal.returns-clause-taken
 returns-clause-taken c =
