@@ -10,7 +10,8 @@ use Rattle.message_core.specs.declared.letters.Letter.{Letter}
 use Rattle.message_core.specs.declared.letters.Held.{Held}
 use Rattle.message_core.specs.Nodes.{same_node}
 use Rattle.message_core.specs.Flights.{State, put, puts, next_number, sent_at_once, sent_later, sent, taken, going_to, passed, was_shut, start}
-use Rattle.message_core.specs.Sound.{WentTo, AllWentTo, AllWent, HasText, AllHaveText, IsSound}
+use Rattle.message_core.specs.Sound.{WentTo, AllWentTo, AllWent, HasText, IsSound}
+use Rattle.pseudo_time.proofs.ListLemmas.{every-map, every-append}
 use Rattle.message_core.proofs.NodeLemmas.{same_is}
 
 -- ---- the messages sent
@@ -28,12 +29,10 @@ went_still : (ls more : List Letter) (node : NodeId) (k : ℕ) → WentTo ls nod
 went_still ls more node k went = record { letter = went.letter; from_one = went.from_one; there = got_still ls more (k - 1) went.letter went.there; to = went.to }
 
 all_still : (ls more : List Letter) (node : NodeId) (queue : List ℕ) → AllWentTo ls node queue → AllWentTo (ls ++ more) node queue
-all_still ls more node [] went = tt {0}
-all_still ls more node (k ∷ queue) went = (went_still ls more node k went.0, all_still ls more node queue went.1)
+all_still ls more node = every-map (WentTo ls node) (WentTo (ls ++ more) node) (went_still ls more node)
 
 held_still : (ls more : List Letter) (held : List Held) → AllWent ls held → AllWent (ls ++ more) held
-held_still ls more [] went = tt {0}
-held_still ls more (h ∷ held) went = (went_still ls more h.to h.number went.0, held_still ls more held went.1)
+held_still ls more = every-map (λ (h : Held). WentTo ls h.to h.number) (λ (h : Held). WentTo (ls ++ more) h.to h.number) (λ h. went_still ls more h.to h.number)
 
 less_one : (n : ℕ) → n + 1 - 1 ≡ n
 less_one n = omega arith
@@ -54,24 +53,16 @@ all_dropped ls node zero queue went = went
 all_dropped ls node (suc n) [] went = tt {0}
 all_dropped ls node (suc n) (k ∷ queue) went = all_dropped ls node n queue went.1
 
-all_joined : (ls : List Letter) (node : NodeId) (xs ys : List ℕ) → AllWentTo ls node xs → AllWentTo ls node ys → AllWentTo ls node (xs ++ ys)
-all_joined ls node [] ys one two = two
-all_joined ls node (k ∷ xs) ys one two = (one.0, all_joined ls node xs ys one.1 two)
-
 all_put : (ls : List Letter) (node : NodeId) (number overtake : ℕ) (queue : List ℕ) → WentTo ls node number → AllWentTo ls node queue → AllWentTo ls node (put number overtake queue)
 all_put ls node number overtake queue new went =
     let at = length queue - overtake in
-    all_joined ls node (take at queue) (number ∷ drop at queue) (all_taken ls node at queue went) (new, all_dropped ls node at queue went)
+    every-append (WentTo ls node) (take at queue) (number ∷ drop at queue) (all_taken ls node at queue went) (new, all_dropped ls node at queue went)
 
 all_puts : (ls : List Letter) (node : NodeId) (n number overtake : ℕ) (queue : List ℕ) → WentTo ls node number → AllWentTo ls node queue → AllWentTo ls node (puts n number overtake queue)
 all_puts ls node zero number overtake queue new went = went
 all_puts ls node (suc n) number overtake queue new went = all_puts ls node n number overtake (put number overtake queue) new (all_put ls node number overtake queue new went)
 
 -- ---- held copies
-
-held_joined : (ls : List Letter) (xs ys : List Held) → AllWent ls xs → AllWent ls ys → AllWent ls (xs ++ ys)
-held_joined ls [] ys one two = two
-held_joined ls (h ∷ xs) ys one two = (one.0, held_joined ls xs ys one.1 two)
 
 held_repeated : (ls : List Letter) (n : ℕ) (h : Held) → WentTo ls h.to h.number → AllWent ls (replicate n h)
 held_repeated ls zero h went = tt {0}
@@ -85,10 +76,6 @@ going_on ls node h false rest same went all = all
 all_going : (ls : List Letter) (node : NodeId) (held : List Held) → AllWent ls held → AllWentTo ls node (going_to node held)
 all_going ls node [] went = tt {0}
 all_going ls node (h ∷ held) went = going_on ls node h (same_node h.to node) (filter (λ (k : Held). same_node k.to node) held) refl went.0 (all_going ls node held went.1)
-
-texts_more : (ls : List Letter) (letter : Letter) → AllHaveText ls → HasText letter → AllHaveText (ls ++ letter ∷ [])
-texts_more [] letter all new = (new, tt {0})
-texts_more (l ∷ ls) letter all new = (all.0, texts_more ls letter all.1 new)
 
 -- ---- a queue after a call, by the queue before
 
@@ -132,7 +119,7 @@ module _ (s : State) (sound : IsSound s) where
             (queued_of node))
             (of_weaker (AllWentTo s.letters node) (AllWentTo ls node) (s.queues node) (all_still s.letters (letter ∷ []) node) (queued_of node))) is;
         held = λ d. held_still s.letters (letter ∷ []) (s.held d) (sound.held d);
-        texts = texts_more s.letters letter sound.texts text;
+        texts = every-append HasText s.letters (letter ∷ []) sound.texts (text, tt {0});
       }
 
   held_either : (ls : List Letter) (b : Bool) (x y : List Held) → AllWent ls x → AllWent ls y → AllWent ls (if b then x else y)
@@ -146,8 +133,8 @@ module _ (s : State) (sound : IsSound s) where
         queued = λ node queue is. all_still s.letters (letter ∷ []) node queue (sound.queued node queue is);
         held = λ d.
             let old = held_still s.letters (letter ∷ []) (s.held d) (sound.held d) in
-            held_either ls (s.ticks + fate.hold == d) _ _ (held_joined ls (s.held d) _ old (held_repeated ls (copies_of fate) (record { number = next_number s; to = letter.to }) (just_went s.letters letter))) old;
-        texts = texts_more s.letters letter sound.texts text;
+            held_either ls (s.ticks + fate.hold == d) _ _ (every-append (λ (h : Held). WentTo ls h.to h.number) (s.held d) _ old (held_repeated ls (copies_of fate) (record { number = next_number s; to = letter.to }) (just_went s.letters letter))) old;
+        texts = every-append HasText s.letters (letter ∷ []) sound.texts (text, tt {0});
       }
 
   sound_either : (b : Bool) (x y : State) → IsSound x → IsSound y → IsSound (if b then x else y)
@@ -167,7 +154,7 @@ module _ (s : State) (sound : IsSound s) where
   pub sound_passed : IsSound (passed s)
   sound_passed = record {
     queued = λ n queue is. all_of (AllWentTo s.letters n) _ queue (of_map (AllWentTo s.letters n) (AllWentTo s.letters n) (λ q. q ++ going_to n (s.held (s.ticks + 1))) (s.queues n)
-        (λ q went. all_joined s.letters n q (going_to n (s.held (s.ticks + 1))) went (all_going s.letters n (s.held (s.ticks + 1)) (sound.held (s.ticks + 1)))) (queued_of n)) is;
+        (λ q went. every-append (WentTo s.letters n) q (going_to n (s.held (s.ticks + 1))) went (all_going s.letters n (s.held (s.ticks + 1)) (sound.held (s.ticks + 1)))) (queued_of n)) is;
     held = λ d. held_either s.letters (s.ticks + 1 == d) [] (s.held d) (tt {0}) (sound.held d);
     texts = sound.texts;
   }

@@ -1,6 +1,7 @@
 -- Each copy of a flight is one of a message that was sent to its node.
-use Rattle.std.specs.Prelude.{◌≡◌, ℕ, ◌-◌, ◌≤◌, List, [], ◌∷◌, Some, slice_get}
+use Rattle.std.specs.Prelude.{◌≡◌, ℕ, ◌-◌, ◌≤◌, List, Some, slice_get}
 use Rattle.pseudo_time.specs.declared.nodes.NodeId.{NodeId}
+use Rattle.pseudo_time.specs.Lists.{Every}
 use Rattle.message_form.specs.declared.messages.Message.{Message}
 use Rattle.message_form.specs.Messages.{IsMessage, message_bytes}
 use Rattle.message_core.specs.declared.letters.Letter.{Letter}
@@ -15,12 +16,10 @@ pub record WentTo (letters : List Letter) (node : NodeId) (number : ℕ) : Type 
   pub to : letter.to ≡ node
 
 abbrev pub AllWentTo : List Letter → NodeId → List ℕ → Type 0
-AllWentTo letters node [] = Unit {0}
-AllWentTo letters node (number ∷ numbers) = WentTo letters node number × AllWentTo letters node numbers
+AllWentTo letters node = Every (WentTo letters node)
 
 abbrev pub AllWent : List Letter → List Held → Type 0
-AllWent letters [] = Unit {0}
-AllWent letters (h ∷ held) = WentTo letters h.to h.number × AllWent letters held
+AllWent letters = Every (λ (h : Held). WentTo letters h.to h.number)
 
 -- the text is that of a message
 pub record HasText (letter : Letter) : Type 0 where
@@ -29,8 +28,7 @@ pub record HasText (letter : Letter) : Type 0 where
   pub text : letter.text ≡ message_bytes message
 
 abbrev pub AllHaveText : List Letter → Type 0
-AllHaveText [] = Unit {0}
-AllHaveText (letter ∷ letters) = HasText letter × AllHaveText letters
+AllHaveText = Every HasText
 
 pub record IsSound (s : State) : Type 0 where
   pub queued : (node : NodeId) (queue : List ℕ) → s.queues node ≡ Some queue → AllWentTo s.letters node queue
