@@ -1,0 +1,9 @@
+pub mod Counting
+pub mod EmptyLemmas
+pub mod NodeLemmas
+pub mod QueueLemmas
+pub mod SenderLemmas
+pub mod SoundLemmas
+pub mod StateLemmas
+pub mod TakeLemmas
+pub mod TallyLemmas

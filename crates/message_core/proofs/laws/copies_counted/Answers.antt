@@ -1,0 +1,13 @@
+use Rattle.message_core.specs.Flights.{start}
+use Rattle.message_core.specs.Tallies.{blank_ledger}
+use Rattle.message_core.proofs.TallyLemmas.{tallied_start, tallied_step, tallied_flown}
+use Rattle.message_core.proofs.laws.copies_counted.Goals as goal
+
+pub returns-clause-start : goal.returns-clause-start
+returns-clause-start c = tallied_start
+
+pub returns-clause-step : goal.returns-clause-step
+returns-clause-step c = tallied_step
+
+pub returns-clause-whole : goal.returns-clause-whole
+returns-clause-whole c = λ nodes calls. tallied_flown (start nodes) blank_ledger calls (tallied_start nodes)
