@@ -54,25 +54,26 @@ fn own_writes_over_a_map(rt: HostRuntime) -> Result<(), Fail> {
     Ok(())
 }
 
-// A thousand turns of ten writes, and the `repeat` that begins them: the last write would be the 10,001st statement.
+// Turns of turns of a write, up to the budget: the `repeat` outside, nine whole turns of 1,001 statements,
+// and a turn whose `repeat` leaves room for 989 writes.
 #[test]
-fn as_many_requests_as_there_can_be(rt: HostRuntime) -> Result<(), Fail> {
+fn as_many_requests_as_the_budget_lets(rt: HostRuntime) -> Result<(), Fail> {
     let alloc = rt.alloc();
-    let mut part = Vec::new(alloc);
-    for line in 2..12 {
-        part.push(Stmt::Write(line, Place::Fixed(FIRST), Expr::Number(1)))?;
-    }
+    let mut inner = Vec::new(alloc);
+    inner.push(Stmt::Write(3, Place::Fixed(FIRST), Expr::Number(1)))?;
+    let mut outer = Vec::new(alloc);
+    outer.push(Stmt::Repeat(2, Expr::Number(1_000), Items::of(inner), 4))?;
     let mut lines = Vec::new(alloc);
-    lines.push(Stmt::Repeat(1, Expr::Number(1_000), Items::of(part), 12))?;
+    lines.push(Stmt::Repeat(1, Expr::Number(1_000), Items::of(outer), 5))?;
     let script = Script {
         lines: Items::of(lines),
     };
     let attempt = carry_out(alloc, &script, &ObjectMap::new(alloc))?;
     let ended = Ending::Failed {
-        line: 11,
+        line: 3,
         kind: FailKind::Budget,
     };
     assert!(rt; attempt.ending == ended);
-    assert_eq!(rt; attempt.lines.as_slice().len(), 9_999);
+    assert_eq!(rt; attempt.lines.as_slice().len(), 9_989);
     Ok(())
 }

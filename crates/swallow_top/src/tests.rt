@@ -13,6 +13,74 @@ const FIRST: &[u8] =
 const FIRST_REPORT: &[u8] =
     b"swallow report 1\nrun 1\nact 1 broker 1 home 1\ntry 1.1.1 committed\nwrote 1.7 10\nread 1.7 10\nprint 10\nfinal 1.7 10\ntotals acts 1 committed 1 withdrawn 0 failed 0 refused 0 expired 0 spent 0 open 0\n";
 
+/// Lines behind the head of a plan of one repository and one broker, and the report.
+const REPORTS: &[(&[u8], &[u8])] = &[
+    (
+        b"",
+        b"swallow report 1\nrun 1\ntotals acts 0 committed 0 withdrawn 0 failed 0 refused 0 expired 0 spent 0 open 0\n",
+    ),
+    (
+        b"act broker 1 home 1 timeout 5 tries 3\nread a 1.9\nprint a\ndone\n",
+        b"swallow report 1\nrun 1\nact 1 broker 1 home 1\ntry 1.1.1 committed\nread 1.9 nothing\nprint nothing\ntotals acts 1 committed 1 withdrawn 0 failed 0 refused 0 expired 0 spent 0 open 0\n",
+    ),
+    (
+        b"act broker 1 home 1 timeout 5 tries 3\nwrite 1.1 1\nlet x = 9223372036854775807\nwrite 1.2 x\nlet y = x + 1\ndone\n",
+        b"swallow report 1\nrun 1\nact 1 broker 1 home 1\ntry 1.1.1 failed line 4 overflow\nwrote 1.1 1\nwrote 1.2 9223372036854775807\ntotals acts 1 committed 0 withdrawn 0 failed 1 refused 0 expired 0 spent 0 open 0\n",
+    ),
+    (
+        b"act broker 1 home 1 timeout 5 tries 3\nlet s = 0\nrepeat 3\nread v 1[s]\nlet s = s + given(v, 1)\nend\nprint s\nprint \"a\\\"b\" & text(s)\ndone\n",
+        b"swallow report 1\nrun 1\nact 1 broker 1 home 1\ntry 1.1.1 committed\nread 1.0 nothing\nread 1.1 nothing\nread 1.2 nothing\nprint 3\nprint \"a\\\"b3\"\ntotals acts 1 committed 1 withdrawn 0 failed 0 refused 0 expired 0 spent 0 open 0\n",
+    ),
+    (
+        b"act broker 1 home 1 timeout 5 tries 3\nwrite 1.1 1\nwithdraw\ndone\n",
+        b"swallow report 1\nrun 1\nact 1 broker 1 home 1\ntry 1.1.1 withdrawn line 2\nwrote 1.1 1\ntotals acts 1 committed 0 withdrawn 1 failed 0 refused 0 expired 0 spent 0 open 0\n",
+    ),
+    (
+        b"act broker 1 home 1 timeout 5 tries 3\nlet x = 7 / -2\nprint x\nprint -7 mod 2\ndone\n",
+        b"swallow report 1\nrun 1\nact 1 broker 1 home 1\ntry 1.1.1 committed\nprint -3\nprint -1\ntotals acts 1 committed 1 withdrawn 0 failed 0 refused 0 expired 0 spent 0 open 0\n",
+    ),
+    (
+        b"act broker 1 home 1 timeout 5 tries 3\nwrite 1.10 1\nwrite 1.2 \"b\"\ndone\n# between\nact broker 1 home 1 timeout 5 tries 1 clock 1\nwrite 1.10 5\nread a 1.10\nwithdraw\ndone\nact broker 1 home 1 timeout 5 tries 3\nread a 1.10\nwrite 1.9 a\nwrite 1.2 nothing\ndone\n",
+        b"swallow report 1\nrun 1\nact 1 broker 1 home 1\ntry 1.1.1 committed\nwrote 1.10 1\nwrote 1.2 \"b\"\nact 2 broker 1 home 1\ntry 2.1.1 withdrawn line 3\nwrote 1.10 5\nread 1.10 5\nact 3 broker 1 home 1\ntry 3.1.1 committed\nread 1.10 1\nwrote 1.9 1\nwrote 1.2 nothing\nfinal 1.9 1\nfinal 1.10 1\ntotals acts 3 committed 2 withdrawn 1 failed 0 refused 0 expired 0 spent 0 open 0\n",
+    ),
+];
+
+/// Lines behind the head, and the line that refuses them.
+const REFUSED: &[(&[u8], &[u8])] = &[
+    (
+        b"act broker 2 home 1 timeout 5 tries 3\n",
+        b"swallow: plan line 5 act\n",
+    ),
+    (
+        b"act broker 1 home 1 timeout 5 tries 3\nwrite 1.7 10\nread x 1.7\nprint x\n",
+        b"swallow: plan line 9 end\n",
+    ),
+    (
+        b"act broker 1 home 1 timeout 5 tries 3\nprint 2.1\ndone\n",
+        b"swallow: plan line 6 script range\n",
+    ),
+    (
+        b"act broker 1 home 1 timeout 5 tries 3 clock 2\nprint 1\ndone\n",
+        b"swallow: plan\n",
+    ),
+];
+
+/// Whole plans, and the lines that refuse them.
+const WHOLE: &[(&[u8], &[u8])] = &[
+    (
+        b"swallow plan 1\nrun 1\nrepositories 1\nbrokers 2\n",
+        b"swallow: plan\n",
+    ),
+    (
+        b"swallow plan 1\nrun 1\nrepositories 2\nbrokers 1\n",
+        b"swallow: plan\n",
+    ),
+    (
+        b"swallow plan 1\nrun 0\nrepositories 1\nbrokers 1\n",
+        b"swallow: plan line 2 run\n",
+    ),
+];
+
 const RUN: &[&str] = &["run"];
 
 /// What a run of a plan is to end with.
@@ -132,39 +200,10 @@ fn written(alloc: Global, body: &[u8]) -> Result<(u8, Vec<u8>), Fail> {
 #[test]
 fn reports_of_acts(rt: HostRuntime) -> Result<(), Fail> {
     let alloc = rt.alloc();
-    for (body, report) in [
-        (
-            b"".as_slice(),
-            b"swallow report 1\nrun 1\ntotals acts 0 committed 0 withdrawn 0 failed 0 refused 0 expired 0 spent 0 open 0\n".as_slice(),
-        ),
-        (
-            b"act broker 1 home 1 timeout 5 tries 3\nread a 1.9\nprint a\ndone\n".as_slice(),
-            b"swallow report 1\nrun 1\nact 1 broker 1 home 1\ntry 1.1.1 committed\nread 1.9 nothing\nprint nothing\ntotals acts 1 committed 1 withdrawn 0 failed 0 refused 0 expired 0 spent 0 open 0\n".as_slice(),
-        ),
-        (
-            b"act broker 1 home 1 timeout 5 tries 3\nwrite 1.1 1\nlet x = 9223372036854775807\nwrite 1.2 x\nlet y = x + 1\ndone\n".as_slice(),
-            b"swallow report 1\nrun 1\nact 1 broker 1 home 1\ntry 1.1.1 failed line 4 overflow\nwrote 1.1 1\nwrote 1.2 9223372036854775807\ntotals acts 1 committed 0 withdrawn 0 failed 1 refused 0 expired 0 spent 0 open 0\n".as_slice(),
-        ),
-        (
-            b"act broker 1 home 1 timeout 5 tries 3\nlet s = 0\nrepeat 3\nread v 1[s]\nlet s = s + given(v, 1)\nend\nprint s\nprint \"a\\\"b\" & text(s)\ndone\n".as_slice(),
-            b"swallow report 1\nrun 1\nact 1 broker 1 home 1\ntry 1.1.1 committed\nread 1.0 nothing\nread 1.1 nothing\nread 1.2 nothing\nprint 3\nprint \"a\\\"b3\"\ntotals acts 1 committed 1 withdrawn 0 failed 0 refused 0 expired 0 spent 0 open 0\n".as_slice(),
-        ),
-        (
-            b"act broker 1 home 1 timeout 5 tries 3\nwrite 1.1 1\nwithdraw\ndone\n".as_slice(),
-            b"swallow report 1\nrun 1\nact 1 broker 1 home 1\ntry 1.1.1 withdrawn line 2\nwrote 1.1 1\ntotals acts 1 committed 0 withdrawn 1 failed 0 refused 0 expired 0 spent 0 open 0\n".as_slice(),
-        ),
-        (
-            b"act broker 1 home 1 timeout 5 tries 3\nlet x = 7 / -2\nprint x\nprint -7 mod 2\ndone\n".as_slice(),
-            b"swallow report 1\nrun 1\nact 1 broker 1 home 1\ntry 1.1.1 committed\nprint -3\nprint -1\ntotals acts 1 committed 1 withdrawn 0 failed 0 refused 0 expired 0 spent 0 open 0\n".as_slice(),
-        ),
-        (
-            b"act broker 1 home 1 timeout 5 tries 3\nwrite 1.10 1\nwrite 1.2 \"b\"\ndone\n# between\nact broker 1 home 1 timeout 5 tries 1 clock 1\nwrite 1.10 5\nread a 1.10\nwithdraw\ndone\nact broker 1 home 1 timeout 5 tries 3\nread a 1.10\nwrite 1.9 a\nwrite 1.2 nothing\ndone\n".as_slice(),
-            b"swallow report 1\nrun 1\nact 1 broker 1 home 1\ntry 1.1.1 committed\nwrote 1.10 1\nwrote 1.2 \"b\"\nact 2 broker 1 home 1\ntry 2.1.1 withdrawn line 3\nwrote 1.10 5\nread 1.10 5\nact 3 broker 1 home 1\ntry 3.1.1 committed\nread 1.10 1\nwrote 1.9 1\nwrote 1.2 nothing\nfinal 1.9 1\nfinal 1.10 1\ntotals acts 3 committed 2 withdrawn 1 failed 0 refused 0 expired 0 spent 0 open 0\n".as_slice(),
-        ),
-    ] {
+    for (body, report) in REPORTS {
         let (status, text) = written(alloc, body)?;
         assert_eq!(rt; status, 0);
-        assert_eq!(rt; text.as_slice(), report);
+        assert_eq!(rt; text.as_slice(), *report);
     }
     Ok(())
 }
@@ -172,45 +211,15 @@ fn reports_of_acts(rt: HostRuntime) -> Result<(), Fail> {
 #[test]
 fn plans_that_are_refused(rt: HostRuntime) -> Result<(), Fail> {
     let alloc = rt.alloc();
-    for (body, line) in [
-        (
-            b"act broker 2 home 1 timeout 5 tries 3\n".as_slice(),
-            b"swallow: plan line 5 act\n".as_slice(),
-        ),
-        (
-            b"act broker 1 home 1 timeout 5 tries 3\nwrite 1.7 10\nread x 1.7\nprint x\n".as_slice(),
-            b"swallow: plan line 9 end\n".as_slice(),
-        ),
-        (
-            b"act broker 1 home 1 timeout 5 tries 3\nprint 2.1\ndone\n".as_slice(),
-            b"swallow: plan line 6 script range\n".as_slice(),
-        ),
-        (
-            b"act broker 1 home 1 timeout 5 tries 3 clock 2\nprint 1\ndone\n".as_slice(),
-            b"swallow: plan\n".as_slice(),
-        ),
-    ] {
+    for (body, line) in REFUSED {
         let (status, text) = written(alloc, body)?;
         assert_eq!(rt; status, 2);
-        assert_eq!(rt; text.as_slice(), line);
+        assert_eq!(rt; text.as_slice(), *line);
     }
-    for (whole, line) in [
-        (
-            b"swallow plan 1\nrun 1\nrepositories 1\nbrokers 2\n".as_slice(),
-            b"swallow: plan\n".as_slice(),
-        ),
-        (
-            b"swallow plan 1\nrun 1\nrepositories 2\nbrokers 1\n".as_slice(),
-            b"swallow: plan\n".as_slice(),
-        ),
-        (
-            b"swallow plan 1\nrun 0\nrepositories 1\nbrokers 1\n".as_slice(),
-            b"swallow: plan line 2 run\n".as_slice(),
-        ),
-    ] {
+    for (whole, line) in WHOLE {
         let (status, sink) = run_of(alloc, &plan(whole, 2, line))?;
         assert_eq!(rt; status, 2);
-        assert_eq!(rt; sink.taken(), line);
+        assert_eq!(rt; sink.taken(), *line);
     }
     Ok(())
 }
