@@ -1,19 +1,16 @@
 -- Acts carried out one after another, and which of them can be.
-use Rattle.std.proofs.Common.{◌≡◌, ℕ, ◌+◌, ◌<◌, ◌≤◌, ◌^◌, List, [], ◌∷◌, ◌++◌, length, refl, sym, ap, ◌∙◌, arith, map}
-use Rattle.std.specs.FinMap as finite
-use Rattle.pseudo_time.specs.Lists.{Every}
+use Rattle.std.proofs.Common.{◌≡◌, ℕ, ◌+◌, ◌≤◌, List, [], ◌∷◌, ◌++◌, length, refl, ap, arith}
 use Rattle.value_form.specs.declared.acts.ActSpec.{ActSpec}
 use Rattle.value_form.specs.Mirror.{block}
 use Rattle.value_form.specs.Objects.{Objects}
 use Rattle.script_meaning.specs.Meaning.{perform}
-use Rattle.serial_run.specs.Attempts.{deed, deeds}
+use Rattle.serial_run.specs.Attempts.{deed}
 use Rattle.script_form.proofs.RangeLemmas.{printable-range}
 use Rattle.plan_form.specs.declared.plans.Plan.{Plan}
-use Rattle.plan_form.specs.Plans.{InRange, IsPlan}
-use Rattle.plan_form.specs.PlanTexts.{IsAct, EachAct, IsWhole}
+use Rattle.plan_form.specs.Plans.{IsPlan}
+use Rattle.plan_form.specs.PlanTexts.{EachAct}
 use Rattle.plan_form.proofs.PlanTextLemmas.{plan_is_whole}
-use Rattle.report_writer.specs.declared.records.ActReport.{ActReport}
-use Rattle.swallow_top.specs.Ready.{IsReady, AreReady}
+use Rattle.swallow_top.specs.Ready.{AreReady}
 use Rattle.swallow_top.specs.Runs.{script_of, act_of, acts_of, left_by}
 
 -- ---- one after another

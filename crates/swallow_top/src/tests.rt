@@ -233,13 +233,12 @@ fn front(text: &[u8], size: usize) -> &[u8] {
     }
 }
 
+// The source gives the 121 bytes of the plan by 7 a call, and a call more tells that it has ended. The
+// sink takes the 194 bytes of the report by 10 a call.
 #[test]
 fn streams_that_fail_at_each_call(rt: HostRuntime) -> Result<(), Fail> {
     let alloc = rt.alloc();
-    let mut call = 1;
-    let mut from = 0;
-    // The source gives 7 bytes a call, and a call more tells that it has ended.
-    while from <= FIRST.len() {
+    for call in 1..20 {
         let row = Row {
             words: RUN,
             plan: FIRST,
@@ -251,25 +250,19 @@ fn streams_that_fail_at_each_call(rt: HostRuntime) -> Result<(), Fail> {
         let (status, sink) = run_of(alloc, &row)?;
         assert_eq!(rt; status, row.status);
         assert_eq!(rt; sink.taken(), row.written);
-        call += 1;
-        from += 7;
     }
-    call = 1;
-    from = 0;
-    while from < FIRST_REPORT.len() {
+    for call in 0..20 {
         let row = Row {
             words: RUN,
             plan: FIRST,
             source_fails: 0,
-            sink_fails: call,
+            sink_fails: call + 1,
             status: 4,
-            written: front(FIRST_REPORT, from),
+            written: front(FIRST_REPORT, 10 * call as usize),
         };
         let (status, sink) = run_of(alloc, &row)?;
         assert_eq!(rt; status, row.status);
         assert_eq!(rt; sink.taken(), row.written);
-        call += 1;
-        from += 10;
     }
     Ok(())
 }

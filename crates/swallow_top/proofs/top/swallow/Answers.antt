@@ -1,5 +1,4 @@
 use Rattle.std.proofs.Common.{ap, inl, inr, subst, refl, Err}
-use Rattle.stream_port.specs.Causes.{Rose}
 use Rattle.swallow_top.specs.Top.{plan_line}
 use Rattle.swallow_top.specs.Written.{Writes}
 use Rattle.swallow_top.proofs.InputLemmas.{of_input-with}
