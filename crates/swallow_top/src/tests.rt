@@ -90,7 +90,7 @@ struct Row<'a> {
     plan: &'a [u8],
     /// The call of the source that fails, or 0.
     source_fails: u64,
-    /// The call of the sink, which takes 10 bytes a call, that fails, or 0.
+    /// The call of the sink, which takes 7 bytes a call, that fails, or 0.
     sink_fails: u64,
     status: u8,
     written: &'a [u8],
@@ -102,7 +102,7 @@ fn run_of(alloc: Global, row: &Row<'_>) -> Result<(u8, MemorySink), Fail> {
         7,
         vec![in alloc; row.source_fails]?,
     );
-    let mut sink = MemorySink::new(alloc, 10, vec![in alloc; row.sink_fails]?);
+    let mut sink = MemorySink::new(alloc, 7, vec![in alloc; row.sink_fails]?);
     let status = swallow(alloc, row.words, &mut source, &mut sink);
     Ok((status, sink))
 }
@@ -145,9 +145,9 @@ fn statuses_and_their_lines(rt: HostRuntime) -> Result<(), Fail> {
             words: &["run", "x"],
             plan: FIRST,
             source_fails: 1,
-            sink_fails: 2,
+            sink_fails: 3,
             status: 1,
-            written: b"swallow: w",
+            written: b"swallow: words",
         },
         Row {
             words: RUN,
@@ -169,17 +169,17 @@ fn statuses_and_their_lines(rt: HostRuntime) -> Result<(), Fail> {
             words: RUN,
             plan: b"",
             source_fails: 0,
-            sink_fails: 2,
+            sink_fails: 3,
             status: 2,
-            written: b"swallow: p",
+            written: b"swallow: plan ",
         },
         Row {
             words: RUN,
             plan: FIRST,
             source_fails: 0,
-            sink_fails: 2,
+            sink_fails: 3,
             status: 4,
-            written: b"swallow re",
+            written: b"swallow report",
         },
     ] {
         let (status, sink) = run_of(rt.alloc(), &row)?;
@@ -234,7 +234,7 @@ fn front(text: &[u8], size: usize) -> &[u8] {
 }
 
 // The source gives the 121 bytes of the plan by 7 a call, and a call more tells that it has ended. The
-// sink takes the 194 bytes of the report by 10 a call.
+// sink takes the 194 bytes of the report by 7 a call.
 #[test]
 fn streams_that_fail_at_each_call(rt: HostRuntime) -> Result<(), Fail> {
     let alloc = rt.alloc();
@@ -251,14 +251,14 @@ fn streams_that_fail_at_each_call(rt: HostRuntime) -> Result<(), Fail> {
         assert_eq!(rt; status, row.status);
         assert_eq!(rt; sink.taken(), row.written);
     }
-    for call in 0..20 {
+    for call in 0..28 {
         let row = Row {
             words: RUN,
             plan: FIRST,
             source_fails: 0,
             sink_fails: call + 1,
             status: 4,
-            written: front(FIRST_REPORT, 10 * call as usize),
+            written: front(FIRST_REPORT, 7 * call as usize),
         };
         let (status, sink) = run_of(alloc, &row)?;
         assert_eq!(rt; status, row.status);
