@@ -45,8 +45,8 @@ is_object (Some put) object = is_eq (object_cmp put object)
 
 -- the place of the object's last Put in a log, or this one where it has none
 abbrev pub last_from : Option Place → Log → ObjectId → Option Place
-last_from none [] object = none
-last_from none (e ∷ log) object = last_from (if is_object (put_object e.effect) object then Some e.place else none) log object
+last_from before [] object = before
+last_from before (e ∷ log) object = last_from (if is_object (put_object e.effect) object then Some e.place else before) log object
 
 abbrev pub last_put : Log → ObjectId → Option Place
 last_put log object = last_from None log object

@@ -25,6 +25,26 @@ fn body(alloc: Global, texts: &[u8]) -> Result<Vec<u8>, AllocError>
     Ok(bytes)
 }
 
+// Closes the page that is being filled, and begins one.
+fn close(
+    alloc: Global,
+    bodies: &mut Vec<Vec<u8>>,
+    texts: &mut Vec<u8>,
+) -> Result<(), AllocError>
+    requires some { 1 ≤ length texts.old.items }
+    requires most { length texts.old.items ≤ 4092 }
+    requires bodies { All IsBody bodies.old.items }
+    ensures bytes { OnOk result (bytes_of bodies.new.items ≡ bytes_of bodies.old.items ++ body_with texts.old.items ∷ []) }
+    ensures count { OnOk result (length bodies.new.items ≡ length bodies.old.items + 1) }
+    ensures bodies { OnOk result (All IsBody bodies.new.items) }
+    ensures texts { OnOk result (texts.new.items ≡ []) }
+{
+    let closed = body(alloc, texts)?;
+    bodies.push(closed)?;
+    texts.clear();
+    Ok(())
+}
+
 // Adds an effect to those of the page.
 fn add(
     alloc: Global,
@@ -72,14 +92,13 @@ pub fn lay_out(
     let mut page = first;
     for effect in effects {
         if texts.len() + effect_size(effect) > PAGE_TEXTS {
-            bodies.push(body(alloc, &texts)?)?;
-            texts.clear();
+            close(alloc, &mut bodies, &mut texts)?;
             page += 1;
         }
         add(alloc, heads, page, &mut texts, effect)?;
     }
     if !texts.is_empty() {
-        bodies.push(body(alloc, &texts)?)?;
+        close(alloc, &mut bodies, &mut texts)?;
     }
     Ok(bodies)
 }

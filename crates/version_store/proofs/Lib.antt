@@ -1,0 +1,4 @@
+pub mod FillingLemmas
+pub mod LogLemmas
+pub mod ReadBackLemmas
+pub mod LaidLemmas
