@@ -2,3 +2,5 @@ pub mod FillingLemmas
 pub mod LogLemmas
 pub mod ReadBackLemmas
 pub mod LaidLemmas
+pub mod GrownLemmas
+pub mod ScanLemmas

@@ -87,3 +87,8 @@ pub record HasPages (log : Log) (pages : List Log) (image : Image) : Type 0 wher
   pub count : ℕ
   pub most : count ≤ length pages
   pub is : entries image ≡ Ok (log ++ all_of (take count pages))
+
+-- what a crash while pages are written may leave: that, and pages that weren't blank as they were
+pub record Grows (base : Image) (log : Log) (pages : List Log) (image : Image) : Type 0 where
+  pub has : HasPages log pages image
+  pub keeps : KeepsPages base image
