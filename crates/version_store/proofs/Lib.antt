@@ -4,3 +4,4 @@ pub mod ReadBackLemmas
 pub mod LaidLemmas
 pub mod GrownLemmas
 pub mod ScanLemmas
+pub mod ReadLemmas
