@@ -5,3 +5,4 @@ pub mod LaidLemmas
 pub mod GrownLemmas
 pub mod ScanLemmas
 pub mod ReadLemmas
+pub mod OpenLemmas

@@ -2,6 +2,7 @@ pub mod Entries
 pub mod Faults
 pub mod Fetch
 pub mod Filling
+pub mod Found
 pub mod Heads
 pub mod Laying
 pub mod Settled

@@ -4,6 +4,7 @@
 mod faults;
 mod last_puts;
 mod layouts;
+mod openings;
 mod page_reads;
 mod sizes;
 mod stores;

@@ -1,4 +1,4 @@
-ghost use Rattle.std.specs.Prelude.{◌≡◌, ◌+◌, ◌<◌, ◌≤◌, List, ℕ, length, Some, None, IfOk, OnOk, MatchOption, MatchBool};
+ghost use Rattle.std.specs.Prelude.{◌≡◌, ◌+◌, ◌<◌, ◌≤◌, List, ℕ, length, Some, None, IfOk, IfSome, OnOk, MatchOption, MatchBool};
 ghost use Rattle.std.specs.Option.{option_map};
 ghost use Rattle.effect_form.specs.Effects.{IsPlace, effect_at};
 ghost use Rattle.page_gate.specs.States.{is_blank};
@@ -22,7 +22,8 @@ fn all_zero(bytes: &[u8]) -> bool
 /// The bytes that a page's body has for effects. None where it isn't in the form of a page.
 #[tactic(auto, unfolding(crate::specs::Storage::texts_of))]
 pub fn texts_in(body: &[u8]) -> Option<&[u8]>
-    ensures { option_map (λ t. t.now) result ≡ texts_of body.now }
+    ensures texts { option_map (λ t. t.now) result ≡ texts_of body.now }
+    ensures most { IfSome result (λ t. length t.now ≤ 4092) }
 {
     let Some((_, rest)) = byte_in(1, 1, body) else {
         return None;
