@@ -6,3 +6,4 @@ pub mod GrownLemmas
 pub mod ScanLemmas
 pub mod ReadLemmas
 pub mod OpenLemmas
+pub mod StoreLemmas

@@ -2,6 +2,7 @@
 #![tactic(auto)]
 
 mod faults;
+mod fetches;
 mod last_puts;
 mod layouts;
 mod openings;

@@ -13,8 +13,14 @@ ghost use Rattle.version_store.specs.Laying.{IsAtRest};
 ghost use Rattle.version_store.specs.Settled.{IsSettled};
 
 use crate::faults::{FetchFault, OpenFault, StoreFault};
+use crate::fetches::effect_on;
+use crate::layouts::lay_out;
+use crate::openings::{Found, read_pages};
+use crate::sizes::pages_filled;
+use crate::writes::write_pages;
 use effect_form::{Effect, Place};
 use medium_port::Medium;
+use page_gate::look;
 use std::alloc::Global;
 use std::collections::BTreeMap;
 use value_form::ObjectId;
@@ -51,7 +57,7 @@ impl<M: Medium> Store<M> {
     /// `Damaged` comes exactly where a page is gated and isn't a page of whole effects, or has a Put
     /// whose back place isn't that of its object's Put before it, or isn't blank and stands behind a
     /// blank one. It is the first such page, and the last that was read.
-    pub fn open(alloc: Global, medium: M) -> Result<(Store<M>, Vec<Effect>), (M, OpenFault)>
+    pub fn open(alloc: Global, mut medium: M) -> Result<(Store<M>, Vec<Effect>), (M, OpenFault)>
         requires open { M.is_failed medium ≡ false }
 
         // Ok comes only where what reads give has a log, whose effects these are.
@@ -78,7 +84,32 @@ impl<M: Medium> Store<M> {
         ensures later { M.faults medium ≤ M.faults (opened result) }
         ensures failed { IfErr result (λ e. e.1 ≡ OpenFault.Medium → Rose (M.faults medium) (M.faults e.0)) }
     {
-        Err((medium, OpenFault::NoMemory))
+        match medium.sync() {
+            Err(_) => Err((medium, OpenFault::Medium)),
+            Ok(()) => {
+                let pages = medium.pages();
+                match read_pages(alloc, &mut medium, pages) {
+                    Err(fault) => Err((medium, fault)),
+                    Ok(found) => {
+                        let Found {
+                            heads,
+                            effects,
+                            next,
+                            ended: _,
+                        } = found;
+                        let store = Store {
+                            alloc,
+                            medium,
+                            pages,
+                            next,
+                            heads,
+                            damage: 0,
+                        };
+                        Ok((store, effects))
+                    }
+                }
+            }
+        }
     }
 
     /// Adds the effects in order. A page takes as many of them as fit whole, and none of a call before.
@@ -118,8 +149,35 @@ impl<M: Medium> Store<M> {
         ensures later { M.faults (medium_of self) ≤ M.faults (handed result) }
         ensures failed { IfErr result (λ e. e.1 ≡ StoreFault.Medium → Rose (M.faults (medium_of self)) (M.faults e.0)) }
     {
-        let medium = self.release();
-        Err((medium, StoreFault::NoMemory))
+        if effects.is_empty() {
+            return Ok(self);
+        }
+        let needed = pages_filled(effects);
+        let Store {
+            alloc,
+            mut medium,
+            pages,
+            next,
+            mut heads,
+            damage,
+        } = self;
+        if needed > (pages - next) as usize {
+            return Err((medium, StoreFault::Full { pages }));
+        }
+        match lay_out(alloc, &mut heads, next, effects) {
+            Err(_) => Err((medium, StoreFault::NoMemory)),
+            Ok(bodies) => match write_pages(&mut medium, next, &bodies) {
+                Err(_) => Err((medium, StoreFault::Medium)),
+                Ok(()) => Ok(Store {
+                    alloc,
+                    medium,
+                    pages,
+                    next: next + needed as u32,
+                    heads,
+                    damage,
+                }),
+            },
+        }
     }
 
     /// The effect at a place, and the back place of a Put. After `Medium` the store is only released.
@@ -151,7 +209,17 @@ impl<M: Medium> Store<M> {
         ensures later { M.faults (medium_of self.old) ≤ M.faults (medium_of self.new) }
         ensures failed { IfErr result (λ f. f ≡ FetchFault.Medium → Rose (M.faults (medium_of self.old)) (M.faults (medium_of self.new))) }
     {
-        Err(FetchFault::NoMemory)
+        match look(&mut self.medium, place.page) {
+            Err(_) => Err(FetchFault::Medium),
+            Ok(state) => match effect_on(self.alloc, &state, place) {
+                Err(_) => Err(FetchFault::NoMemory),
+                Ok(Some(found)) => Ok(found),
+                Ok(None) => {
+                    self.damage = self.damage.saturating_add(1);
+                    Err(FetchFault::Damaged { page: place.page })
+                }
+            },
+        }
     }
 
     /// The place of the object's last Put in the log. None where it has none.
