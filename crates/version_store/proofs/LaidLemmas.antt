@@ -69,7 +69,7 @@ effects-laid_from log page es (e ∷ rest) = elim (cases_Bool (nat_le (sizes (ef
       ∙ sym (cond-false (nat_le (sizes (effects_of es) + size_of e) 4092) _ _ over)
 ]
 
-effects-all_of : (pages : List Log) → effects_of (all_of pages) ≡ joined (map effects_of pages)
+pub effects-all_of : (pages : List Log) → effects_of (all_of pages) ≡ joined (map effects_of pages)
 effects-all_of [] = refl
 effects-all_of (es ∷ pages) = effects_of-append es (all_of pages) ∙ ap (λ (l : List Effect). effects_of es ++ l) (effects-all_of pages)
 

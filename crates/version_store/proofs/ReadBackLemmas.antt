@@ -106,8 +106,8 @@ zeros (suc n) = zeros n
 pub texts_of-padded : (bytes : List ℕ) → 1 ≤ length bytes → length bytes ≤ 4092 → texts_of (padded (body_with bytes)) ≡ Some bytes
 unfolding texts_of
 texts_of-padded bytes some most =
-    let tail = replicate (4095 - length (body_with bytes)) 0 in
     let small : length bytes < 2 ^ 16 = omega (arith, most) in
+    let tail = replicate (4095 - length (body_with bytes)) 0 in
     let size : (between 1 4092 (number_at w16 (to_be_bytes w16 (length bytes) ++ (bytes ++ tail)))) ≡ Some (length bytes, bytes ++ tail) = (between_form 1 4092 u16_form).again (length bytes) (bytes ++ tail) (small, some, most) in
     ap (λ (o : Option (ℕ × List ℕ)). o >>= λ size. front_at size.0 size.1 >>= λ texts. cond (is_blank texts.1) (Some texts.0) None) size
     ∙ ap (λ (o : Option (List ℕ × List ℕ)). o >>= λ texts. cond (is_blank texts.1) (Some texts.0) None) (front_again bytes tail)
