@@ -7,3 +7,5 @@ pub mod ScanLemmas
 pub mod ReadLemmas
 pub mod OpenLemmas
 pub mod StoreLemmas
+pub mod BlankLemmas
+pub mod PlaceLemmas

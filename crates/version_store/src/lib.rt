@@ -4,6 +4,7 @@
 mod faults;
 mod fetches;
 mod last_puts;
+mod laws;
 mod layouts;
 mod openings;
 mod page_reads;
@@ -12,4 +13,5 @@ mod stores;
 mod writes;
 
 pub use faults::{FetchFault, OpenFault, StoreFault};
+pub use laws::{back_places_come_before, pages_keep_the_order, prefix_is_found};
 pub use stores::Store;
