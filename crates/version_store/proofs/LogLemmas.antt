@@ -30,9 +30,11 @@ heads_push heads heads' log e put is fits updates object =
     ∙ ap (λ (o : Option Place). cond (is_eq (object_cmp put object)) (Some e.place) o) (fits object)
     ∙ sym (last_from-push None log e object ∙ ap (λ (o : Option ObjectId). cond (is_object o object) (Some e.place) (last_from None log object)) is)
 
-pub places_push : (heads heads' : Heads) (put : ObjectId) (at : Place) → IsPlace at → ArePlaces heads → Updates object_cmp heads heads' put (Some at) → ArePlaces heads'
-places_push heads heads' put at good places updates object place is = elim (cases_Bool (is_eq (object_cmp put object))) [
-  | inl here ↦ subst (λ (p : Place). IsPlace p) (some_is at place (sym (cond-true (is_eq (object_cmp put object)) (Some at) (get object_cmp heads object) here) ∙ sym (updates.0 object) ∙ is)) good
+-- what holds of each place that is kept
+pub kept_push : (P : Place → Type 0) (heads heads' : Heads) (put : ObjectId) (at : Place) → P at → ((object : ObjectId) (place : Place) → get object_cmp heads object ≡ Some place → P place) → Updates object_cmp heads heads' put (Some at)
+    → (object : ObjectId) (place : Place) → get object_cmp heads' object ≡ Some place → P place
+kept_push P heads heads' put at good places updates object place is = elim (cases_Bool (is_eq (object_cmp put object))) [
+  | inl here ↦ subst (λ (p : Place). P p) (some_is at place (sym (cond-true (is_eq (object_cmp put object)) (Some at) (get object_cmp heads object) here) ∙ sym (updates.0 object) ∙ is)) good
   | inr other ↦ places object place (sym (cond-false (is_eq (object_cmp put object)) (Some at) (get object_cmp heads object) other) ∙ sym (updates.0 object) ∙ is)
 ]
 

@@ -1,5 +1,5 @@
 -- What a store keeps in memory of its log: the places of the objects' last Puts.
-use Rattle.std.specs.Prelude.{◌≡◌, ◌≤◌, List, Option, Some, None}
+use Rattle.std.specs.Prelude.{◌≡◌, ℕ, ◌<◌, List, Option, Some, None}
 use Rattle.std.specs.BTreeMap.{BTreeMap, get}
 use Rattle.value_form.specs.declared.objects.ObjectId.{ObjectId}
 use Rattle.value_form.specs.Objects.{object_cmp}
@@ -17,6 +17,10 @@ HeadsFit heads log = (object : ObjectId) → get object_cmp heads object ≡ las
 -- each is a place of a page
 abbrev pub ArePlaces : Heads → Type 0
 ArePlaces heads = (object : ObjectId) (place : Place) → get object_cmp heads object ≡ Some place → IsPlace place
+
+-- each is on a page below this one
+abbrev pub AreBelow : ℕ → Heads → Type 0
+AreBelow limit heads = (object : ObjectId) (place : Place) → get object_cmp heads object ≡ Some place → place.page < limit
 
 -- what an opening has found is a log
 pub record Stands (heads : Heads) (effects : List Effect) (log : Log) : Type 0 where

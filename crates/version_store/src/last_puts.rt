@@ -1,8 +1,8 @@
-ghost use Rattle.std.specs.Prelude.{◌≡◌, ◌++◌, [], ◌∷◌, Option, OnOk, IfOk};
+ghost use Rattle.std.specs.Prelude.{◌≡◌, ◌++◌, [], ◌∷◌, ◌<◌, ℕ, Option, OnOk, IfOk};
 ghost use Rattle.effect_form.specs.Effects.{IsPlace, IsWritten};
 ghost use Rattle.version_store.specs.Entries.{Log, put_object, back_in, same_back};
 ghost use Rattle.version_store.specs.Filling.{HasBytes};
-ghost use Rattle.version_store.specs.Heads.{HeadsFit, ArePlaces};
+ghost use Rattle.version_store.specs.Heads.{AreBelow, ArePlaces, HeadsFit};
 ghost use Rattle.version_store.specs.Laying.{entry_at};
 
 use effect_form::{Effect, Place};
@@ -32,6 +32,7 @@ pub fn note(
     ensures written { HasBytes effect.now → IfOk result (λ b. IsWritten (effect.now, b)) }
     ensures heads { (log : Log) → HeadsFit heads.old log → OnOk result (HeadsFit heads.new (log ++ entry_at log place effect.now ∷ [])) }
     ensures places { OnOk result (ArePlaces heads.new) }
+    ensures below { (limit : ℕ) → place.page < limit → AreBelow limit heads.old → OnOk result (AreBelow limit heads.new) }
 {
     match object_put(effect) {
         None => Ok(None),

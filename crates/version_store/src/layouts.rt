@@ -1,8 +1,8 @@
-ghost use Rattle.std.specs.Prelude.{◌≡◌, ◌++◌, ◌+◌, ◌<◌, ◌≤◌, [], ◌∷◌, length, map, All, OnOk, IfOk, None};
+ghost use Rattle.std.specs.Prelude.{◌≡◌, ◌++◌, ◌+◌, ◌<◌, ◌≤◌, ℕ, [], ◌∷◌, length, map, All, OnOk, IfOk, None};
 ghost use Rattle.effect_form.specs.Effects.{effect_bytes};
 ghost use Rattle.version_store.specs.Entries.{Log, back_in};
 ghost use Rattle.version_store.specs.Filling.{HasBytes, size_of, filling};
-ghost use Rattle.version_store.specs.Heads.{HeadsFit, ArePlaces};
+ghost use Rattle.version_store.specs.Heads.{AreBelow, ArePlaces, HeadsFit};
 ghost use Rattle.version_store.specs.Laying.{IsBody, PagesFit, all_of, body_of, body_with, bytes_of, entry_at, laid, place_after};
 
 use crate::last_puts::note;
@@ -61,6 +61,7 @@ fn add(
     ensures size { OnOk result (length texts.new.items ≡ length texts.old.items + size_of effect.now) }
     ensures heads { (log : Log) → HeadsFit heads.old log → OnOk result (HeadsFit heads.new (log ++ entry_at log (place_after page (length texts.old.items)) effect.now ∷ [])) }
     ensures places { OnOk result (ArePlaces heads.new) }
+    ensures below { (limit : ℕ) → page < limit → AreBelow limit heads.old → OnOk result (AreBelow limit heads.new) }
 {
     let place = Place {
         page,
@@ -86,6 +87,7 @@ pub fn lay_out(
     ensures pages { (log : Log) → HeadsFit heads.old log → IfOk result (λ bodies. bytes_of bodies.items ≡ map body_of (laid log first effects.now)) }
     ensures heads { (log : Log) → HeadsFit heads.old log → OnOk result (HeadsFit heads.new (log ++ all_of (laid log first effects.now))) }
     ensures places { OnOk result (ArePlaces heads.new) }
+    ensures below { (limit : ℕ) → first + length (filling effects.now) ≤ limit → AreBelow limit heads.old → OnOk result (AreBelow limit heads.new) }
 {
     let mut bodies = Vec::new(alloc);
     let mut texts = Vec::new(alloc);

@@ -7,7 +7,7 @@ ghost use Rattle.page_gate.specs.declared.pages.PageState.TheVariants.{Blank};
 ghost use Rattle.version_store.specs.Entries.{Log};
 ghost use Rattle.version_store.specs.Faults.{fails_reading};
 ghost use Rattle.version_store.specs.Found.{Reached, reading_of};
-ghost use Rattle.version_store.specs.Heads.{ArePlaces, Stands};
+ghost use Rattle.version_store.specs.Heads.{AreBelow, ArePlaces, Stands};
 ghost use Rattle.version_store.specs.Storage.{Damaged, begun, next, scan};
 
 use crate::faults::OpenFault;
@@ -43,6 +43,7 @@ fn add_state(
     ensures next { IfOk result (λ b. b ≡ true → found.new.next ≡ (if found.new.ended then found.old.next else page + 1)) }
     ensures marked { IfOk result (λ b. b ≡ false → state.now ≢ Blank) }
     ensures places { OnOk result (ArePlaces found.new.heads) }
+    ensures below { (limit : ℕ) → page < limit → AreBelow limit found.old.heads → OnOk result (AreBelow limit found.new.heads) }
 {
     match state {
         PageState::Blank => {
@@ -77,6 +78,7 @@ pub fn read_pages<M: Medium>(alloc: Global, medium: &mut M, pages: u32) -> Resul
     ensures shown { IfErr result (λ e. (page : ℕ) → e ≡ OpenFault.Damaged page → (bytes : List ℕ) × (M.last_page medium.new ≡ Some (page, bytes)) × (is_blank bytes ≡ false)) }
     ensures within { IfOk result (λ f. f.next ≤ pages) }
     ensures places { IfOk result (λ f. ArePlaces f.heads) }
+    ensures below { IfOk result (λ f. AreBelow pages f.heads) }
     ensures reads { IsTrue M.tells → M.reads medium.new ≡ M.reads medium.old }
     ensures crash { IsTrue M.tells → NoMore (M.may_leave medium.old) (M.may_leave medium.new) }
     ensures any_moment { IsTrue M.tells → LeavesOnly M.moment M.left_since medium.old medium.new (M.may_leave medium.old) }

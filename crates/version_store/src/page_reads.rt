@@ -3,7 +3,7 @@ ghost use Rattle.std.specs.Option.{option_map};
 ghost use Rattle.effect_form.specs.Effects.{IsPlace, effect_at};
 ghost use Rattle.page_gate.specs.States.{is_blank};
 ghost use Rattle.version_store.specs.Entries.{Log};
-ghost use Rattle.version_store.specs.Heads.{ArePlaces, Stands};
+ghost use Rattle.version_store.specs.Heads.{AreBelow, ArePlaces, Stands};
 ghost use Rattle.version_store.specs.Storage.{admitted, log_at, log_with, place_before, texts_of};
 
 use crate::last_puts::{is_same, note};
@@ -51,6 +51,7 @@ fn add_effect<'a>(
     ensures found { (log : Log) → Stands heads.old effects.old.items log → IfOk result (λ o. MatchOption o (admitted log place (effect_at bytes.now) ≡ None) (λ rest. (more : Log) × (admitted log place (effect_at bytes.now) ≡ Some (more, rest.now)) × Stands heads.new effects.new.items more)) }
     ensures less { IfOk result (λ o. MatchOption o (Unit {0}) (λ rest. length rest.now ≤ length bytes.now)) }
     ensures places { OnOk result (ArePlaces heads.new) }
+    ensures below { (limit : ℕ) → place.page < limit → AreBelow limit heads.old → OnOk result (AreBelow limit heads.new) }
 {
     match read(alloc, bytes) {
         Err(EffectFault::Form { .. }) => Ok(None),
@@ -79,6 +80,7 @@ fn add_effects(
     requires places { ArePlaces heads.old }
     ensures found { (log : Log) → Stands heads.old effects.old.items log → IfOk result (λ b. MatchBool b ((more : Log) × (log_at (length texts.now) log page (4 + length texts.now) texts.now ≡ Some more) × Stands heads.new effects.new.items more) (log_at (length texts.now) log page (4 + length texts.now) texts.now ≡ None)) }
     ensures places { OnOk result (ArePlaces heads.new) }
+    ensures below { (limit : ℕ) → page < limit → AreBelow limit heads.old → OnOk result (AreBelow limit heads.new) }
 {
     let end = 4 + texts.len();
     let mut rest = texts;
@@ -110,6 +112,7 @@ pub fn add_page(
     requires places { ArePlaces heads.old }
     ensures found { (log : Log) → Stands heads.old effects.old.items log → IfOk result (λ b. MatchBool b ((more : Log) × (log_with log page (texts_of body.now) ≡ Some more) × Stands heads.new effects.new.items more) (log_with log page (texts_of body.now) ≡ None)) }
     ensures places { OnOk result (ArePlaces heads.new) }
+    ensures below { (limit : ℕ) → page < limit → AreBelow limit heads.old → OnOk result (AreBelow limit heads.new) }
 {
     match texts_in(body) {
         None => Ok(false),

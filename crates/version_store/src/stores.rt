@@ -1,14 +1,14 @@
-ghost use Rattle.std.specs.Prelude.{◌≡◌, ◌≢◌, [], ◌+◌, ℕ, ◌<◌, ◌≤◌, ◌++◌, IsTrue, List, Ok, Err, Some, None, count_by, length, All, false, IfOk, IfErr, OnOk, OnErr};
+ghost use Rattle.std.specs.Prelude.{◌≡◌, ◌≢◌, [], ◌+◌, ℕ, ◌<◌, ◌≤◌, ◌++◌, IsTrue, List, Ok, Err, Some, None, count_by, length, All, false, IfOk, IfErr, IfSome, OnOk, OnErr};
 ghost use Rattle.stream_port.specs.Causes.{Rose};
 ghost use Rattle.medium_port.specs.Image.{Image, Only, NoMore};
 ghost use Rattle.medium_port.specs.Moment.{LeavesOnly};
 ghost use Rattle.page_gate.specs.States.{is_blank};
-ghost use Rattle.version_store.specs.Entries.{Entry, Log, IsIn, effects_of, last_put};
+ghost use Rattle.version_store.specs.Entries.{Entry, IsBefore, IsIn, Log, last_put};
 ghost use Rattle.version_store.specs.Storage.{entries, storage, log_of};
 ghost use Rattle.version_store.specs.Filling.{HasBytes, HasPrefix, KeepsPages, StaysClean, filling};
 ghost use Rattle.version_store.specs.Faults.{fails_opening, fails_adding, fails_fetching};
 ghost use Rattle.version_store.specs.Fetch.{StandsAt, LastShows, damage_after};
-ghost use Rattle.version_store.specs.Heads.{HeadsFit, ArePlaces};
+ghost use Rattle.version_store.specs.Heads.{AreBelow, ArePlaces, HeadsFit};
 ghost use Rattle.version_store.specs.Laying.{IsAtRest};
 ghost use Rattle.version_store.specs.Settled.{IsSettled};
 
@@ -43,6 +43,7 @@ pub struct Store<M: Medium> {
     ghost most: { pages ≤ 1048576 },
     ghost in_range: { next ≤ pages },
     ghost places: { ArePlaces heads },
+    ghost below: { AreBelow pages heads },
     pub ghost settled: { IsTrue M.tells → IsSettled (M.reads medium) (M.may_leave medium) },
     ghost at_rest: { IsTrue M.tells → IsAtRest (log_of (M.reads medium)) next (M.reads medium) (M.may_leave medium) },
     ghost heads_fit: { IsTrue M.tells → HeadsFit heads (log_of (M.reads medium)) },
@@ -197,6 +198,7 @@ impl<M: Medium> Store<M> {
         // Over every medium it is what the page shows that was read, and Damaged says that this is none.
         ensures shown { IfOk result (λ r. LastShows (M.last_page (medium_of self.new)) place (Some (r.0, r.1))) }
         ensures damaged { IfErr result (λ f. (page : ℕ) → f ≡ FetchFault.Damaged page → (page ≡ place.page) × LastShows (M.last_page (medium_of self.new)) place None) }
+        ensures before { IfOk result (λ r. IfSome r.1 (λ b. IsBefore b place × (b.page < M.page_count (medium_of self.new)))) }
         ensures damage { damage_in self.new ≡ damage_after (damage_in self.old) result }
 
         // The log, the medium's content and the pages left stay.
@@ -224,7 +226,8 @@ impl<M: Medium> Store<M> {
 
     /// The place of the object's last Put in the log. None where it has none.
     pub fn last(&self, object: ObjectId) -> Option<Place>
-        ensures { IsTrue M.tells → result ≡ last_put (log_in M.reads self.now) object }
+        ensures within { IfSome result (λ p. p.page < M.page_count (medium_of self.now)) }
+        ensures log { IsTrue M.tells → result ≡ last_put (log_in M.reads self.now) object }
     {
         self.heads.get(&object).copied()
     }

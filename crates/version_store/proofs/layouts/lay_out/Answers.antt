@@ -25,10 +25,23 @@ loop-effect-init c =
       most = omega (arith, ap length texts);
       bodies = λ k d within. absurd (omega (arith, within, ap length bodies));
       places = c.requires.places;
+      below = λ limit room below. below;
       content = λ log fits.
           subst (λ (l : List (List ℕ)). LaidOut log c.args.first c.args.effects.now l c.new-texts.result.items c.args.heads.now c.args.first c.args.effects.now) (sym (ap bytes_of bodies))
           (subst (λ (l : List ℕ). LaidOut log c.args.first c.args.effects.now [] l c.args.heads.now c.args.first c.args.effects.now) (sym texts) (laid_none log c.args.first c.args.effects.now c.args.heads.now fits));
     }
+
+-- the page of the effect at hand is one of those that the effects fill
+page_low : (effects : List Effect) (i full size : ℕ) (d : Effect) (first page : ℕ) → Filled effects i full size → i < length effects → page ≡ first + full → page < first + length (filling effects)
+page_low effects i full size d first page was low is = omega (arith, filled_left effects i full size was d low, is)
+
+-- and so is the one behind it, where it is full
+page_next : (effects : List Effect) (i full size more : ℕ) (d : Effect) (first page : ℕ) → Filled effects i full size → i < length effects → more ≡ size_of (get_or effects i d) → 4092 < size + more → page ≡ first + full → page + 1 < first + length (filling effects)
+page_next effects i full size more d first page was low more_is over is =
+    let next : Filled effects (i + 1) (full + 1) more = filled_closes effects i full size was d low (full + 1) more more more_is refl refl over in
+    let some = size_some (get_or effects i d) in
+    let room = filled_room effects (i + 1) (full + 1) more next (omega (arith, some, more_is)) in
+    omega (arith, room, is)
 
 module _ (c : In_ok-add) where
   at_hand : drop c.loop-effect.effect-index c.args.effects.now ≡ c.effect-item.result ∷ drop (c.loop-effect.effect-index + 1) c.args.effects.now
@@ -59,6 +72,9 @@ loop-effect-preserved c =
             most = omega (arith, length_is, ap (λ (l : List ℕ). length l) mid_is, size, c.effect_size.ensures.most);
             bodies = subst (λ (l : List (Vec ℕ Global)). All IsBody l) (sym bodies_is) closed.bodies;
             places = c.in_ok-add.ensures.places;
+            below = λ limit room below.
+                let there = page_next all c.loop-effect.effect-index _ _ c.effect_size.result c.effect-item.result c.args.first c.loop-effect.page was.filled low (size_here c) (omega (arith, over, c.len.ensures)) was.at in
+                c.in_ok-add.ensures.below limit (omega (arith, there, w.page-is, room)) (was.below limit room below);
             content = λ log fits. laid_closes_so log c.args.first all (bytes_of c.loop-effect.bodies.items) c.loop-effect.texts.items c.loop-effect.heads c.add.new.heads c.loop-effect.page c.effect-item.result (drop (c.loop-effect.effect-index + 1) all) (laid_so_far c log fits)
                 _ _ _ _ (ap bytes_of bodies_is ∙ closed.bytes) mid_is w.page-is (omega (arith, over, c.len.ensures, size)) c.in_ok-add.ensures.texts c.in_ok-add.ensures.heads;
           }
@@ -72,22 +88,13 @@ loop-effect-preserved c =
             most = omega (arith, length_is, ap (λ (l : List ℕ). length l) mid_is, size, under, c.len.ensures);
             bodies = subst (λ (l : List (Vec ℕ Global)). All IsBody l) (sym bodies_is) was.bodies;
             places = c.in_ok-add.ensures.places;
+            below = λ limit room below.
+                let there = page_low all c.loop-effect.effect-index _ _ c.effect-item.result c.args.first c.loop-effect.page was.filled low was.at in
+                c.in_ok-add.ensures.below limit (omega (arith, there, w.page-is, room)) (was.below limit room below);
             content = λ log fits. laid_takes_so log c.args.first all (bytes_of c.loop-effect.bodies.items) c.loop-effect.texts.items c.loop-effect.heads c.add.new.heads c.loop-effect.page c.effect-item.result (drop (c.loop-effect.effect-index + 1) all) (laid_so_far c log fits)
                 _ _ _ _ (ap bytes_of bodies_is) mid_is w.page-is (omega (arith, under, c.len.ensures, size)) c.in_ok-add.ensures.texts c.in_ok-add.ensures.heads;
           }
     ]
-
--- the page of the effect at hand is one of those that the effects fill
-page_low : (effects : List Effect) (i full size : ℕ) (d : Effect) (first page : ℕ) → Filled effects i full size → i < length effects → first + length (filling effects) ≤ 1048576 → page ≡ first + full → page < 1048576
-page_low effects i full size d first page was low room is = omega (arith, filled_left effects i full size was d low, room, is)
-
--- and so is the one behind it, where it is full
-page_next : (effects : List Effect) (i full size more : ℕ) (d : Effect) (first page : ℕ) → Filled effects i full size → i < length effects → more ≡ size_of (get_or effects i d) → 4092 < size + more → first + length (filling effects) ≤ 1048576 → page ≡ first + full → page + 1 < 1048576
-page_next effects i full size more d first page was low more_is over room is =
-    let next : Filled effects (i + 1) (full + 1) more = filled_closes effects i full size was d low (full + 1) more more more_is refl refl over in
-    let some = size_some (get_or effects i d) in
-    let room' = filled_room effects (i + 1) (full + 1) more next (omega (arith, some, more_is)) in
-    omega (arith, room', room, is)
 
 pub add-requires-clause-page : goal.add-requires-clause-page
 add-requires-clause-page c =
@@ -98,11 +105,11 @@ add-requires-clause-page c =
     let more : c.effect_size.result ≡ size_of (get_or all i d) = c.effect_size.ensures.is ∙ ap size_of c.effect-item.is in
     elim c.if-len-effect_size-gt-PAGE_TEXTS.branch [
       | then-len-effect_size-gt-PAGE_TEXTS+in_ok-close w ↦
-          let low = page_next all i _ _ c.effect_size.result d c.args.first c.loop-effect.page was.filled c.loop-effect-test.true more (omega (arith, w.if-len-effect_size-gt-PAGE_TEXTS.true, c.len.ensures)) c.requires.room was.at in
-          omega (arith, low, w.page-is)
+          let low = page_next all i _ _ c.effect_size.result d c.args.first c.loop-effect.page was.filled c.loop-effect-test.true more (omega (arith, w.if-len-effect_size-gt-PAGE_TEXTS.true, c.len.ensures)) was.at in
+          omega (arith, low, w.page-is, c.requires.room)
       | else-len-effect_size-gt-PAGE_TEXTS w ↦
-          let low = page_low all i _ _ d c.args.first c.loop-effect.page was.filled c.loop-effect-test.true c.requires.room was.at in
-          omega (arith, low, w.page-is)
+          let low = page_low all i _ _ d c.args.first c.loop-effect.page was.filled c.loop-effect-test.true was.at in
+          omega (arith, low, w.page-is, c.requires.room)
     ]
 
 pub returns-clause-bodies : goal.returns-clause-bodies

@@ -1,7 +1,8 @@
-use Rattle.std.proofs.Common.{◌≡◌, ◌+◌, ◌≤◌, List, length, map, drop}
+use Rattle.std.proofs.Common.{◌≡◌, ◌+◌, ◌≤◌, ℕ, List, length, map, drop}
 use Rattle.std.specs.Prelude.{All}
 use Rattle.version_store.specs.Entries.{Log}
-use Rattle.version_store.specs.Heads.{HeadsFit, ArePlaces}
+use Rattle.version_store.specs.Filling.{filling}
+use Rattle.version_store.specs.Heads.{HeadsFit, AreBelow, ArePlaces}
 use Rattle.version_store.specs.Laying.{IsBody, bytes_of}
 use Rattle.version_store.proofs.FillingLemmas.{Filled}
 use Rattle.version_store.proofs.LaidLemmas.{LaidOut}
@@ -14,5 +15,6 @@ invariant-loop-effect l = record {
   most : length l.texts.items ≤ 4092;
   bodies : All IsBody l.bodies.items;
   places : ArePlaces l.heads;
+  below : (limit : ℕ) → l.first + length (filling l.effects) ≤ limit → AreBelow limit l.fn.heads → AreBelow limit l.heads;
   content : (log : Log) → HeadsFit l.fn.heads log → LaidOut log l.first l.effects (bytes_of l.bodies.items) l.texts.items l.heads l.page (drop l.effect-index l.effects);
 }

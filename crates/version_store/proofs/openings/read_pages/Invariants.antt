@@ -2,7 +2,7 @@ use Rattle.std.proofs.Common.{◌≡◌, ◌≤◌, IsTrue, false, length}
 use Rattle.medium_port.specs.Image.{NoMore}
 use Rattle.medium_port.specs.Moment.{LeavesOnly}
 use Rattle.version_store.specs.Found.{Reached}
-use Rattle.version_store.specs.Heads.{ArePlaces}
+use Rattle.version_store.specs.Heads.{AreBelow, ArePlaces}
 use Rattle.version_store.proofs.openings.read_pages.Given as goal
 
 abbrev pub invariant-loop-page : goal.invariant-loop-page
@@ -10,6 +10,7 @@ invariant-loop-page g l = record {
   size : g.M.Medium.page_count l.medium ≡ g.M.Medium.page_count l.fn.medium;
   low : l.found.next ≤ l.page;
   places : ArePlaces l.found.heads;
+  below : AreBelow l.pages l.found.heads;
   open_now : g.M.Medium.is_failed l.medium ≡ false;
   later : g.M.Medium.faults l.fn.medium ≤ g.M.Medium.faults l.medium;
   reads : IsTrue g.M.Medium.tells → g.M.Medium.reads l.medium ≡ g.M.Medium.reads l.fn.medium;

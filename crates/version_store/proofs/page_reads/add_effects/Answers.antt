@@ -34,9 +34,13 @@ pub loop-preserved : goal.loop-preserved
 loop-preserved c = record {
   less = (let fewer = less_at c.in_ok-add_effect.field-0 c.in-Some.after _ c.in-Some.is c.in_ok-add_effect.ensures.less in omega (arith, fewer, c.loop.invariant.less));
   places = c.in_ok-add_effect.ensures.places;
+  below = λ limit low below. c.in_ok-add_effect.ensures.below limit low (c.loop.invariant.below limit low below);
   content = λ log was.
       let r = c.loop.rest.now in
       let so_far = c.loop.invariant.content log was in
       let met = c.in_ok-add_effect.ensures.found so_far.now so_far.stands in
       page_goes log c.args.page c.args.texts.now c.loop.counter r c.loop.heads c.loop.effects.items so_far c.loop-test.true (some_left (length r) c.is_empty.result c.is_empty.ensures c.if-is_empty.false) c.in-Some.after.now c.add_effect.new.heads c.add_effect.new.effects.items (at_some c.in_ok-add_effect.field-0 _ _ _ c.in-Some.after c.in-Some.is met);
 }
+
+pub returns-in-None-clause-below : goal.returns-in-None-clause-below
+returns-in-None-clause-below c limit low below = c.in_ok-add_effect.ensures.below limit low (c.loop.invariant.below limit low below)

@@ -127,3 +127,6 @@ returns-in-Ok-write_pages-clause-log g c told =
     let room : s.next + length (filling c.args.effects.now) ≤ 1048576 = omega (arith, c.pages_filled-needed.ensures, c.if-needed-pages.false, s.in_range, s.most) in
     let rest = written_rest g.M.Medium.moment g.M.Medium.left_since g.M.Medium.reads g.M.Medium.may_leave m c.write_pages.new.medium c.in-Ok.bodies.items c.deref.result.now s.heads log s.next c.pages_filled-needed.result c.args.effects.now (s.at_rest told) (s.heads_fit told) s.places c.requires.ranges room c.in-Ok.ensures.pages c.deref.ensures.value c.in-Ok.ensures.count c.pages_filled-needed.ensures (c.in-Ok-write_pages.ensures.all told) in
     (_, log_here _ _ _ _ rest)
+
+pub invariant_of-result-clause-below : goal.invariant_of-result-clause-below
+invariant_of-result-clause-below g c = c.in-Ok.ensures.below c.args.self.pages (omega (arith, c.pages_filled-needed.ensures, c.if-needed-pages.false, c.args.self.in_range)) c.args.self.below
