@@ -235,6 +235,7 @@ impl<M: Medium> Store<M> {
     /// How many pages are blank.
     pub fn pages_left(&self) -> u32
         ensures left { result ≡ left_in self.now }
+        ensures most { result ≤ M.page_count (medium_of self.now) }
         ensures blank { IsTrue M.tells → result ≡ count_by is_blank (M.reads (medium_of self.now)) }
     {
         self.pages - self.next

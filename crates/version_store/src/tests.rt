@@ -1,11 +1,12 @@
 ghost use Rattle.std.specs.Prelude.{◌≡◌, ◌<◌, ◌≤◌, false, All, IfOk, IfSome};
 ghost use Rattle.medium_port.specs.MemoryMedia.{failed_in, pages_of};
 ghost use Rattle.version_store.specs.Filling.{HasBytes};
+ghost use Rattle.version_store.specs.StoreWords.{medium_of};
 
 use super::*;
 use effect_form::{Effect, EffectFault, Place, read};
-use medium_port::{Medium, MediumFault, MemoryMedium, Stop, StopAt};
-use pseudo_time::{PseudoTime, Stamp};
+use medium_port::{Medium, MediumFault, MeetShelf, MemoryMedium, Shelf, Stop, StopAt};
+use pseudo_time::{NodeKind, PseudoTime, Stamp};
 use std::alloc::{AllocError, Global};
 use std::test::*;
 use value_form::{ObjectId, Value};
@@ -194,4 +195,235 @@ fn found_on(
         Ok((_, found)) => Ok(found.len()),
         Err((_, fault)) => Err(fault),
     }
+}
+
+/// The same effect with the back place of page 0, offset 4.
+const PUT_ON: [u8; 35] = [
+    1, 1, 0, 0, 0, 7, 0, 0, 0, 0, 0, 0, 0, 1, 1, 1, 0, 0, 0, 1, 1, 0, 0, 0, 0, 0, 0, 0, 10, 0, 0, 0,
+    0, 0, 4,
+];
+
+/// One byte that isn't 0, the page's fifth.
+const SPOT: [u8; 35] = [
+    0, 1, 0, 0, 0, 0, 0, 0, 0, 0, 0, 0, 0, 0, 0, 0, 0, 0, 0, 0, 0, 0, 0, 0, 0, 0, 0, 0, 0, 0, 0, 0,
+    0, 0, 0,
+];
+
+/// What stands on a page, and what an opening finds.
+const PAGES: [(u32, [u8; 4], [u8; 35], u8, Result<usize, OpenFault>); 10] = [
+    (0, [0xA5, 1, 0, 35], PUT, 0, Ok(1)),
+    (0, [0xA5, 2, 0, 35], PUT, 0, Err(OpenFault::Damaged { page: 0 })),
+    (0, [0xA5, 1, 0, 34], PUT, 0, Err(OpenFault::Damaged { page: 0 })),
+    (0, [0xA5, 1, 0, 0], PUT, 0, Err(OpenFault::Damaged { page: 0 })),
+    (0, [0xA5, 1, 0, 36], PUT, 0, Err(OpenFault::Damaged { page: 0 })),
+    (0, [0xA5, 1, 0, 35], PUT, 7, Err(OpenFault::Damaged { page: 0 })),
+    (0, [0xA5, 1, 0, 35], PUT_ON, 0, Err(OpenFault::Damaged { page: 0 })),
+    (1, [0xA5, 1, 0, 35], PUT, 0, Err(OpenFault::Damaged { page: 1 })),
+    (2, [0, 0, 0, 0], SPOT, 0, Err(OpenFault::Damaged { page: 2 })),
+    (0, [0, 0, 0, 0], SPOT, 0, Ok(0)),
+];
+
+#[test]
+fn damaged_pages(rt: HostRuntime) -> Result<(), Fail> {
+    let alloc = rt.alloc();
+    for (page, head, text, tail, expected) in PAGES {
+        assert_eq!(rt; found_on(alloc, page, &head, &text, tail), expected);
+    }
+    Ok(())
+}
+
+// The first page of a medium to which one effect was added.
+fn first_page(alloc: Global) -> Result<[u8; 4096], MediumFault> {
+    let (Some(effect), Ok(medium)) = (put(7, 1, 10), medium(alloc, 1, None)) else {
+        return Err(MediumFault);
+    };
+    let (Ok(effects), Ok((store, _))) = (vec![in alloc; effect], Store::open(alloc, medium)) else {
+        return Err(MediumFault);
+    };
+    let Ok(store) = store.append(&effects) else {
+        return Err(MediumFault);
+    };
+    let mut bytes = [0; 4096];
+    store.release().read(0, &mut bytes)?;
+    Ok(bytes)
+}
+
+#[test]
+fn bytes_of_a_page(rt: HostRuntime) -> Result<(), Fail> {
+    let alloc = rt.alloc();
+    let Ok(page) = first_page(alloc) else {
+        return Err("no page")?;
+    };
+    assert_eq!(rt; &page[..4], [0xA5u8, 1, 0, 35].as_slice());
+    assert_eq!(rt; &page[4..39], PUT.as_slice());
+    assert!(rt; page[39..].iter().all(|b| *b == 0));
+    assert!(rt; matches!(read(alloc, &[0xFF]), Err(EffectFault::Form { at: 0 })));
+    assert!(rt; matches!(read(alloc, &PUT[..20]), Err(EffectFault::Form { at: 20 })));
+    Ok(())
+}
+
+/// A page, an offset, and what is put there.
+type Step = (u32, u16, i64);
+
+// The newest puts of an object, by back places, and the back place of the last of them.
+fn walk<M: Medium>(
+    store: &mut Store<M>,
+    object: ObjectId,
+) -> Result<([Step; 3], Option<Place>), FetchFault>
+    requires untold { M.tells ≡ false }
+    requires open { M.is_failed (medium_of store.old) ≡ false }
+{
+    let mut steps = [(0, 0, 0); 3];
+    let mut at = store.last(object);
+    for index in 0..3 {
+        let Some(place) = at else {
+            return Ok((steps, None));
+        };
+        let (effect, back) = store.fetch(place)?;
+        if let Effect::Put {
+            value: Value::Number(value),
+            ..
+        } = effect
+        {
+            steps[index] = (place.page, place.offset, value);
+        }
+        at = back;
+    }
+    Ok((steps, at))
+}
+
+const SEVEN: ObjectId = ObjectId {
+    repository: 1,
+    number: 7,
+};
+
+/// Never put.
+const NINE: ObjectId = ObjectId {
+    repository: 1,
+    number: 9,
+};
+
+// A store with puts of 10, 20 and 30 on object 1.7, the last two by one call.
+fn three_puts<M: Medium>(alloc: Global, medium: M) -> Result<Store<M>, FetchFault>
+    requires open { M.is_failed medium ≡ false }
+    ensures open { IfOk result (λ s. M.is_failed (medium_of s) ≡ false) }
+    ensures size { IfOk result (λ s. M.page_count (medium_of s) ≡ M.page_count medium) }
+{
+    let Ok((store, _)) = Store::open(alloc, medium) else {
+        return Err(FetchFault::Medium);
+    };
+    let Some(first) = two(alloc, put(7, 1, 10), put(8, 2, 1)) else {
+        return Err(FetchFault::NoMemory);
+    };
+    let Some(second) = two(alloc, put(7, 3, 20), put(7, 4, 30)) else {
+        return Err(FetchFault::NoMemory);
+    };
+    let Ok(store) = store.append(&first) else {
+        return Err(FetchFault::Medium);
+    };
+    let Ok(store) = store.append(&second) else {
+        return Err(FetchFault::Medium);
+    };
+    Ok(store)
+}
+
+fn two(alloc: Global, one: Option<Effect>, other: Option<Effect>) -> Option<Vec<Effect>>
+    requires one { IfSome one (λ e. HasBytes e) }
+    requires other { IfSome other (λ e. HasBytes e) }
+    ensures { IfSome result (λ v. All HasBytes v.items) }
+{
+    let mut effects = Vec::new(alloc);
+    let Ok(()) = effects.push(one?) else {
+        return None;
+    };
+    let Ok(()) = effects.push(other?) else {
+        return None;
+    };
+    Some(effects)
+}
+
+// The newest puts of an object in such a store.
+fn walked<M: Medium>(
+    alloc: Global,
+    medium: M,
+    object: ObjectId,
+) -> Result<([Step; 3], Option<Place>), FetchFault>
+    requires untold { M.tells ≡ false }
+    requires open { M.is_failed medium ≡ false }
+{
+    let mut store = three_puts(alloc, medium)?;
+    walk(&mut store, object)
+}
+
+// Whether such a store has a first put of object 1.7 at a place.
+fn first_at<M: Medium>(alloc: Global, medium: M, place: Place) -> Result<bool, FetchFault>
+    requires untold { M.tells ≡ false }
+    requires open { M.is_failed medium ≡ false }
+{
+    if place.page >= medium.pages() {
+        return Ok(false);
+    }
+    let mut store = three_puts(alloc, medium)?;
+    let (effect, back) = store.fetch(place)?;
+    Ok(back.is_none() && put_object(effect) == Some(SEVEN))
+}
+
+fn put_object(effect: Effect) -> Option<ObjectId> {
+    match effect {
+        Effect::Put { object, .. } => Some(object),
+        _ => None,
+    }
+}
+
+// The same over a medium that tells no content.
+fn walked_there(
+    alloc: Global,
+    object: ObjectId,
+) -> Result<([Step; 3], Option<Place>), FetchFault> {
+    let Ok(mut shelf) = MeetShelf::new(alloc, 4, 0) else {
+        return Err(FetchFault::NoMemory);
+    };
+    let Ok(medium) = shelf.take(NodeKind::Broker, 1, 0) else {
+        return Err(FetchFault::Medium);
+    };
+    walked(alloc, medium, object)
+}
+
+fn first_there(alloc: Global, page: u32, offset: u16) -> Result<bool, FetchFault> {
+    let Ok(mut shelf) = MeetShelf::new(alloc, 4, 0) else {
+        return Err(FetchFault::NoMemory);
+    };
+    let Ok(medium) = shelf.take(NodeKind::Broker, 1, 0) else {
+        return Err(FetchFault::Medium);
+    };
+    first_at(alloc, medium, Place { page, offset })
+}
+
+#[test]
+fn puts_by_back_places(rt: HostRuntime) -> Result<(), Fail> {
+    let alloc = rt.alloc();
+    let steps = [(1, 39, 30), (1, 4, 20), (0, 4, 10)];
+    assert_eq!(rt; walked_there(alloc, SEVEN), Ok((steps, None)));
+    assert_eq!(rt; walked_there(alloc, NINE), Ok(([(0, 0, 0); 3], None)));
+    Ok(())
+}
+
+/// Where an effect is fetched, and whether it is the first put of object 1.7.
+const FETCHES: [(u32, u16, Result<bool, FetchFault>); 7] = [
+    (0, 4, Ok(true)),
+    (0, 39, Ok(false)),
+    (1, 4, Ok(false)),
+    (0, 3, Err(FetchFault::Damaged { page: 0 })),
+    (0, 5, Err(FetchFault::Damaged { page: 0 })),
+    (0, 74, Err(FetchFault::Damaged { page: 0 })),
+    (3, 4, Err(FetchFault::Damaged { page: 3 })),
+];
+
+#[test]
+fn places_without_an_effect(rt: HostRuntime) -> Result<(), Fail> {
+    let alloc = rt.alloc();
+    for (page, offset, expected) in FETCHES {
+        assert_eq!(rt; first_there(alloc, page, offset), expected);
+    }
+    Ok(())
 }
