@@ -180,11 +180,13 @@ fn found_on(
     text: &[u8; 35],
     tail: u8,
 ) -> Result<usize, OpenFault>
-    requires { page < 3 }
 {
     let Ok(mut medium) = medium(alloc, 3, None) else {
         return Err(OpenFault::NoMemory);
     };
+    if page >= 3 {
+        return Err(OpenFault::Medium);
+    }
     let written = medium.write(page, 0, head).is_ok()
         && medium.write(page, 4, text).is_ok()
         && medium.write(page, 39, &[tail]).is_ok();
