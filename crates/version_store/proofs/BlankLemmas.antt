@@ -1,5 +1,5 @@
 -- The pages that are left are those that are blank.
-use Rattle.std.proofs.Common.{◌≡◌, inl, inr, ℕ, ◌+◌, ◌-◌, ◌≤◌, List, [], ◌∷◌, ◌++◌, length, take, drop, true, false, Bool, cond, refl, sym, ◌∙◌, ap, subst, arith, length-drop, zero-add, count_by}
+use Rattle.std.proofs.Common.{◌≡◌, inl, inr, ℕ, ◌+◌, ◌-◌, List, [], ◌∷◌, length, take, drop, true, false, Bool, cond, refl, sym, ◌∙◌, ap, subst, arith, length-drop, zero-add, count_by}
 use Rattle.std.specs.List.{list_all}
 use Rattle.std.proofs.lemmas.Bool.{cases_Bool, cond-true, and_parts}
 use Rattle.std.proofs.lemmas.List.{take-append-drop}
@@ -8,7 +8,7 @@ use Rattle.medium_port.specs.Image.{Image}
 use Rattle.page_gate.specs.States.{is_blank, state_of}
 use Rattle.page_gate.specs.declared.pages.PageState.TheVariants.{Blank}
 use Rattle.version_store.specs.Entries.{Log}
-use Rattle.version_store.specs.Storage.{content_of, Reading, Going, Ended, Damaged, begun, next, scan, going_or_damaged}
+use Rattle.version_store.specs.Storage.{content_of, Reading, Going, Ended, Damaged, begun, next, scan}
 use Rattle.version_store.specs.Laying.{IsAtRest}
 use Rattle.page_gate.specs.declared.pages.PageState.{PageState}
 use Rattle.page_gate.specs.declared.pages.PageState.TheVariants.{Spoiled, Gated}

@@ -1,5 +1,5 @@
 -- How far the pages of an append have come.
-use Rattle.std.proofs.Common.{◌≡◌, ◌≢◌, ◌⊎◌, inl, inr, ⊎_elim, ℕ, suc, ◌+◌, ◌-◌, ◌≤◌, ◌<◌, List, [], ◌∷◌, ◌++◌, length, map, take, drop, get_or, true, Some, Ok, IsTrue, refl, sym, ◌∙◌, ap, subst, arith, add-one, add-zero, length-drop, slice_set, append_assoc}
+use Rattle.std.proofs.Common.{◌≡◌, ◌≢◌, ◌⊎◌, inl, inr, ⊎_elim, ℕ, ◌+◌, ◌<◌, List, [], ◌∷◌, ◌++◌, length, take, drop, get_or, true, Some, Ok, refl, sym, ◌∙◌, ap, subst, arith, add-zero, slice_set}
 use Rattle.std.specs.List.{list_all}
 use Rattle.std.proofs.lemmas.Bool.{and_parts, cond-true, cases_eq}
 use Rattle.std.proofs.lemmas.List.{append-nil, drop_more, take_more, flat_map_more, drop-set-lt, get_or-set_same, get_or-set_other}
@@ -9,7 +9,7 @@ use Rattle.page_gate.specs.States.{is_blank, state_of, gated_page}
 use Rattle.page_gate.specs.Steps.{MayPut}
 use Rattle.page_gate.specs.declared.pages.PageState.TheVariants.{Spoiled, Gated}
 use Rattle.version_store.specs.Entries.{Log}
-use Rattle.version_store.specs.Storage.{Content, content_of, Going, begun, scan, entries, log_with, texts_of, log_of, log_or_none}
+use Rattle.version_store.specs.Storage.{begun, scan, entries, log_with, texts_of, log_of, log_or_none}
 use Rattle.version_store.specs.Filling.{KeepsPages}
 use Rattle.version_store.specs.Laying.{PagesFit, HasPages, Grows, IsAtRest, all_of, body_of, padded}
 use Rattle.version_store.proofs.ScanLemmas.{stays_blank, stays_spoiled, steps, front_steps, log_at_rest}

@@ -1,20 +1,16 @@
 -- The pages of a call, as they are laid out.
-use Rattle.std.proofs.Common.{◌≡◌, ℕ, zero, suc, ◌+◌, ◌≤◌, ◌<◌, List, [], ◌∷◌, ◌++◌, length, map, get_or, take, drop, true, false, Bool, cond, Option, Some, None, refl, sym, ◌∙◌, ap, subst, arith, inl, inr, append_assoc, length-append, zero-add}
+use Rattle.std.proofs.Common.{◌≡◌, ℕ, suc, ◌+◌, ◌≤◌, ◌<◌, List, [], ◌∷◌, ◌++◌, length, map, Option, Some, None, refl, sym, ◌∙◌, ap, subst, arith, inl, inr, append_assoc, zero-add}
 use Rattle.std.specs.Prelude.{nat_le, All}
-use Rattle.std.specs.BTreeMap.{get}
 use Rattle.std.proofs.lemmas.Bool.{cases_Bool, cond-true, cond-false, le-leb, lt-leb, leb-true, leb-false}
-use Rattle.std.proofs.lemmas.List.{append-nil, map-append, drop_more, drop_all}
+use Rattle.std.proofs.lemmas.List.{append-nil}
 use Rattle.value_form.specs.declared.objects.ObjectId.{ObjectId}
-use Rattle.value_form.specs.Objects.{object_cmp}
 use Rattle.effect_form.specs.declared.effects.Effect.{Effect}
-use Rattle.effect_form.specs.declared.effects.Effect.TheVariants.{Put, Stretch, Begin, Decide, Learn, Run, Act, Try, Got, Acked, End}
 use Rattle.effect_form.specs.declared.effects.Place.{Place}
 use Rattle.effect_form.specs.Effects.{IsPlace, IsBack, IsWritten, effect_bytes}
-use Rattle.version_store.specs.Entries.{Entry, Log, effects_of, put_object, is_object, last_from, last_put, back_of, back_in}
+use Rattle.version_store.specs.Entries.{Entry, Log, effects_of, put_object, is_object, last_put, back_of, back_in}
 use Rattle.version_store.specs.Filling.{HasBytes, size_of, sizes, closed, filling_from, filling, joined}
 use Rattle.version_store.specs.Heads.{Heads, HeadsFit, ArePlaces}
-use Rattle.version_store.specs.Storage.{log_with, texts_of}
-use Rattle.version_store.specs.Laying.{texts, body_with, body_of, padded, place_after, entry_at, entry_on, closed_page, laid_from, laid, all_of, PagesFit}
+use Rattle.version_store.specs.Laying.{texts, body_with, body_of, place_after, entry_at, entry_on, closed_page, laid_from, laid, all_of, PagesFit}
 use Rattle.version_store.proofs.LogLemmas.{last_from-push, has_back, effects_of-append}
 use Rattle.version_store.proofs.FillingLemmas.{size_some, size_most, sizes-push, filling-takes, filling-closes, filling-some, filling-push-some, joined-filling}
 use Rattle.version_store.proofs.ReadBackLemmas.{IsLaid, laid-push, length-texts, texts-push, few_effects, page_reads}
@@ -142,12 +138,13 @@ fits_from log page es (e ∷ rest) was good room = elim (cases_Bool (nat_le (siz
       let goes : filling_from (effects_of es) (e ∷ rest) ≡ effects_of es ∷ filling_from (e ∷ []) rest = filling-closes (effects_of es) e rest large in
       let room' : page + length (effects_of es ∷ filling_from (e ∷ []) rest) ≤ 1048576 = subst (λ (l : List (List Effect)). page + length l ≤ 1048576) goes room in
       let some = filling-some e [] rest in
-      subst (λ (l : List Log). PagesFit log page l) (sym (cond-false (nat_le (sizes (effects_of es) + size_of e) 4092) _ _ over))
-      (page_reads log page es was.laid_so (some_entries es (omega (arith, large, most))) was.most,
-      fits_from (log ++ es) (page + 1) (entry_on (log ++ es) (page + 1) [] e ∷ []) rest
-      (begun_new (log ++ es) (page + 1) e was.lasts (All-head e rest good) (omega (arith, room', some)))
-      (All-tail e rest good)
-      (omega (arith, room')))
+      subst (λ (l : List Log). PagesFit log page l) (sym (cond-false (nat_le (sizes (effects_of es) + size_of e) 4092) _ _ over)) (
+        page_reads log page es was.laid_so (some_entries es (omega (arith, large, most))) was.most,
+        fits_from (log ++ es) (page + 1) (entry_on (log ++ es) (page + 1) [] e ∷ []) rest
+            (begun_new (log ++ es) (page + 1) e was.lasts (All-head e rest good) (omega (arith, room', some)))
+            (All-tail e rest good)
+            (omega (arith, room')),
+      )
 ]
 
 pub laid_fits : (log : Log) (first : ℕ) (effects : List Effect) → LastsArePlaces log → All HasBytes effects → first + length (filling effects) ≤ 1048576 → PagesFit log first (laid log first effects)

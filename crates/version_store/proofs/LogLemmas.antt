@@ -1,17 +1,17 @@
 -- A log that has one entry more, and the last places of its objects.
-use Rattle.std.proofs.Common.{◌≡◌, ℕ, ◌+◌, ◌<◌, List, [], ◌∷◌, ◌++◌, length, map, true, false, Bool, cond, Option, Some, None, refl, sym, ◌∙◌, ap, subst, arith, inl, inr, ⊎_elim}
+use Rattle.std.proofs.Common.{◌≡◌, [], ◌∷◌, ◌++◌, cond, Option, Some, None, refl, sym, ◌∙◌, ap, subst, inl, inr}
 use Rattle.std.specs.Ordering.{is_eq}
-use Rattle.std.specs.BTreeMap.{BTreeMap, get, Updates}
+use Rattle.std.specs.BTreeMap.{get, Updates}
 use Rattle.std.proofs.lemmas.Bool.{cases_Bool, cond-true, cond-false}
-use Rattle.std.proofs.lemmas.List.{append-nil, map-append}
+use Rattle.std.proofs.lemmas.List.{map-append}
 use Rattle.field_form.proofs.FormLaws.{some_is}
 use Rattle.value_form.specs.declared.objects.ObjectId.{ObjectId}
 use Rattle.value_form.specs.Objects.{object_cmp}
 use Rattle.effect_form.specs.declared.effects.Effect.{Effect}
 use Rattle.effect_form.specs.declared.effects.Effect.TheVariants.{Put, Stretch, Begin, Decide, Learn, Run, Act, Try, Got, Acked, End}
 use Rattle.effect_form.specs.declared.effects.Place.{Place}
-use Rattle.effect_form.specs.Effects.{IsPlace, IsBack, IsWritten}
-use Rattle.version_store.specs.Entries.{Entry, Log, effects_of, put_object, is_object, last_from, last_put, back_of, back_in, same_back}
+use Rattle.effect_form.specs.Effects.{IsBack, IsWritten}
+use Rattle.version_store.specs.Entries.{Entry, Log, effects_of, put_object, is_object, last_from}
 use Rattle.version_store.specs.Filling.{HasBytes}
 use Rattle.version_store.specs.Heads.{Heads, HeadsFit, ArePlaces}
 

@@ -1,6 +1,6 @@
 -- How an opening goes on from page to page.
-use Rattle.std.specs.Prelude.{◌==◌, MatchBool}
-use Rattle.std.proofs.Common.{◌≡◌, ◌≢◌, ℕ, ◌+◌, ◌≤◌, ◌<◌, List, [], ◌∷◌, ◌++◌, length, get_or, map, take, drop, Bool, true, false, cond, Option, Some, None, refl, sym, ◌∙◌, ap, subst, arith, inl, inr, length-take}
+use Rattle.std.specs.Prelude.{◌==◌}
+use Rattle.std.proofs.Common.{◌≡◌, ◌≢◌, ℕ, ◌+◌, ◌<◌, List, [], ◌∷◌, length, get_or, take, drop, Bool, true, false, cond, Option, Some, None, refl, sym, ◌∙◌, ap, arith, inl, inr, length-take}
 use Rattle.std.specs.List.{list_all}
 use Rattle.std.proofs.lemmas.Bool.{cases_Bool, and_from, cond-true, cond-false}
 use Rattle.std.proofs.lemmas.List.{take_more, take_all, drop_all, drop-append-le}
@@ -13,7 +13,7 @@ use Rattle.effect_form.specs.declared.effects.Effect.{Effect}
 use Rattle.version_store.specs.Entries.{Log}
 use Rattle.version_store.specs.Storage.{content_of, Reading, Going, Ended, Damaged, begun, next, scan, going_or_damaged, log_with, texts_of}
 use Rattle.version_store.specs.Laying.{IsAtRest}
-use Rattle.version_store.specs.Heads.{Heads, HeadsFit, Stands}
+use Rattle.version_store.specs.Heads.{Heads, Stands}
 use Rattle.version_store.specs.Found.{Reached, reading_of}
 use Rattle.version_store.proofs.ScanLemmas.{scan_more}
 

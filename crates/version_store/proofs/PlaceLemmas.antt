@@ -1,6 +1,6 @@
 -- An entry of the log of an image stands at its place, and its back place is before it.
-use Rattle.std.proofs.Common.{◌≡◌, ◌⊎◌, inl, inr, ⊎_elim, ℕ, zero, suc, ◌+◌, ◌-◌, ◌*◌, ◌≤◌, ◌<◌, List, [], ◌∷◌, ◌++◌, length, get_or, take, drop, true, false, Bool, cond, Option, Some, None, Result, Ok, Err, refl, sym, ◌∙◌, ap, subst, arith, length-append, length-drop, zero-add, add-zero}
-use Rattle.std.specs.Prelude.{IfSome, nat_le, nat_lt, ◌==◌}
+use Rattle.std.proofs.Common.{◌≡◌, inl, inr, ⊎_elim, ℕ, zero, suc, ◌+◌, ◌-◌, ◌*◌, ◌≤◌, ◌<◌, List, [], ◌∷◌, ◌++◌, length, get_or, take, drop, true, Option, Some, None, Result, Ok, Err, refl, sym, ◌∙◌, ap, subst, arith, length-append, length-drop}
+use Rattle.std.specs.Prelude.{IfSome, nat_le, ◌==◌}
 use Rattle.std.specs.Int.{w16}
 use Rattle.std.proofs.lemmas.Bool.{cases_Bool, cases_lt, cond-true, cond-false, le-leb, lt-ltb}
 use Rattle.std.proofs.lemmas.List.{drop-drop, drop_at, take_at, take_all, take-append-le, get_or_append_left, get_or-append_right}
@@ -18,7 +18,7 @@ use Rattle.effect_form.specs.Effects.{Written, effect_bytes, effect_at}
 use Rattle.effect_form.proofs.EffectLaws.{effect_takes}
 use Rattle.version_store.specs.Entries.{Entry, Log, IsIn, IsBefore, number_of, put_object, is_object, last_put, back_of, back_in, same_back}
 use Rattle.version_store.specs.Fetch.{is_back_before, shown, shown_in, shown_on}
-use Rattle.version_store.specs.Storage.{texts_of, place_before, admitted, log_at, log_with, content_of, Reading, Going, Ended, Damaged, begun, next, scan, finish, going_or_damaged, log_or_none, log_of}
+use Rattle.version_store.specs.Storage.{texts_of, place_before, admitted, log_at, log_with, Reading, Going, Ended, Damaged, begun, next, scan, finish, going_or_damaged, log_or_none, log_of}
 use Rattle.version_store.proofs.LogLemmas.{last_from-push}
 use Rattle.version_store.proofs.FillingLemmas.{effect_cons}
 use Rattle.version_store.proofs.ReadLemmas.{same_back-is}

@@ -1,15 +1,13 @@
 -- A page that was laid out reads back.
-use Rattle.std.proofs.Common.{◌≡◌, ℕ, zero, suc, ◌+◌, ◌-◌, ◌^◌, ◌≤◌, ◌<◌, List, [], ◌∷◌, ◌++◌, length, map, take, drop, true, false, Bool, cond, Option, Some, None, Result, Ok, Err, refl, sym, ◌∙◌, ap, subst, arith, inl, inr, append_assoc, length-append, add-zero}
-use Rattle.std.specs.Prelude.{◌==◌, ◌&&◌, replicate}
-use Rattle.std.specs.List.{list_all}
+use Rattle.std.proofs.Common.{◌≡◌, ℕ, zero, suc, ◌+◌, ◌-◌, ◌^◌, ◌≤◌, ◌<◌, List, [], ◌∷◌, ◌++◌, length, true, cond, Option, Some, None, Result, refl, sym, ◌∙◌, ap, arith, append_assoc, length-append, add-zero}
+use Rattle.std.specs.Prelude.{◌==◌, replicate}
 use Rattle.std.specs.Int.{w16, to_be_bytes}
 use Rattle.std.proofs.lemmas.Bool.{cond-true, eq-eqb, and_from}
 use Rattle.std.proofs.lemmas.List.{append-nil}
 use Rattle.field_form.specs.Forms.{◌>>=◌}
-use Rattle.field_form.specs.Numbers.{byte_at, number_at, between, front_at}
-use Rattle.field_form.proofs.NumberLaws.{byte_form, u16_form, between_form, front_again}
+use Rattle.field_form.specs.Numbers.{number_at, between, front_at}
+use Rattle.field_form.proofs.NumberLaws.{u16_form, between_form, front_again}
 use Rattle.page_gate.specs.States.{is_blank}
-use Rattle.effect_form.specs.declared.effects.Effect.{Effect}
 use Rattle.effect_form.specs.declared.effects.Place.{Place}
 use Rattle.effect_form.specs.Effects.{Written, IsWritten, effect_bytes, effect_at}
 use Rattle.effect_form.proofs.EffectLaws.{effect_again}
@@ -18,7 +16,7 @@ use Rattle.version_store.specs.Entries.{Entry, Log, effects_of, back_in, same_ba
 use Rattle.version_store.specs.Filling.{size_of, sizes}
 use Rattle.version_store.specs.Storage.{texts_of, place_before, admitted, log_at, log_with}
 use Rattle.version_store.specs.Laying.{texts, body_with, body_of, padded, place_after}
-use Rattle.version_store.proofs.FillingLemmas.{effect_cons, size_some, sizes-push}
+use Rattle.version_store.proofs.FillingLemmas.{effect_cons, size_some}
 
 same_back-self : (b : Option Place) → same_back b b ≡ true
 same_back-self None = refl
@@ -41,8 +39,8 @@ laid-push log page size (x ∷ es) e laid good place back = (
   laid.1,
   laid.2,
   laid-push (log ++ x ∷ []) page (size + size_of x.effect) es e laid.3 good
-  (place ∙ ap (λ (n : ℕ). place_after page n) (behind (size_of x.effect) (sizes (effects_of es))))
-  (back ∙ ap (λ (l : Log). back_in l e.effect) (sym (append_assoc log (x ∷ []) es))),
+      (place ∙ ap (λ (n : ℕ). place_after page n) (behind (size_of x.effect) (sizes (effects_of es))))
+      (back ∙ ap (λ (l : Log). back_in l e.effect) (sym (append_assoc log (x ∷ []) es))),
 )
   where
     behind : (a b : ℕ) → size + (a + b) ≡ size + a + b

@@ -1,16 +1,16 @@
 -- The effects of a page, as an opening reads them.
-use Rattle.std.proofs.Common.{◌≡◌, ℕ, zero, suc, ◌+◌, ◌-◌, ◌≤◌, ◌<◌, List, [], ◌∷◌, ◌++◌, length, map, get_or, take, drop, true, false, Bool, cond, Option, Some, None, Result, Ok, Err, refl, sym, ◌∙◌, ap, subst, arith, inl, inr, length-append, length-drop}
-use Rattle.std.specs.Prelude.{◌==◌, ◌&&◌}
+use Rattle.std.proofs.Common.{◌≡◌, ℕ, zero, suc, ◌+◌, ◌-◌, ◌≤◌, ◌<◌, List, [], ◌∷◌, ◌++◌, length, take, drop, true, false, cond, Option, Some, None, Result, Ok, refl, sym, ◌∙◌, ap, subst, arith, length-append, length-drop}
+use Rattle.std.specs.Prelude.{◌==◌}
 use Rattle.std.proofs.lemmas.Bool.{cond-true, cond-false, and_parts, eqb-true}
-use Rattle.std.proofs.lemmas.List.{drop_at, take_all, append-nil}
+use Rattle.std.proofs.lemmas.List.{drop_at, take_all}
 use Rattle.field_form.specs.Forms.{IsBytes, ◌>>=◌}
 use Rattle.effect_form.specs.declared.effects.Effect.{Effect}
 use Rattle.effect_form.specs.declared.effects.Place.{Place}
-use Rattle.effect_form.specs.Effects.{Written, IsWritten, effect_bytes, effect_at}
+use Rattle.effect_form.specs.Effects.{Written, effect_bytes, effect_at}
 use Rattle.effect_form.proofs.EffectLaws.{effect_takes}
-use Rattle.version_store.specs.Entries.{Entry, Log, effects_of, back_in, same_back}
-use Rattle.version_store.specs.Heads.{Heads, HeadsFit, ArePlaces, Stands}
-use Rattle.version_store.specs.Storage.{place_before, admitted, log_at, log_with}
+use Rattle.version_store.specs.Entries.{Log, back_in, same_back}
+use Rattle.version_store.specs.Heads.{Heads, HeadsFit, Stands}
+use Rattle.version_store.specs.Storage.{place_before, admitted, log_at}
 use Rattle.version_store.specs.Laying.{entry_at}
 use Rattle.version_store.proofs.LogLemmas.{effects_of-append}
 

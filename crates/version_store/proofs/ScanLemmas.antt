@@ -1,13 +1,13 @@
 -- How the log of an image goes on from page to page.
-use Rattle.std.proofs.Common.{◌≡◌, ◌⊎◌, inl, inr, ⊎_elim, ℕ, suc, ◌+◌, ◌-◌, ◌≤◌, ◌<◌, List, [], ◌∷◌, ◌++◌, length, get_or, take, drop, true, false, Option, Some, None, Result, Ok, Err, refl, sym, ◌∙◌, ap, arith, add-zero, add-one, length-take, slice_set}
+use Rattle.std.proofs.Common.{◌≡◌, ℕ, suc, ◌+◌, ◌<◌, List, [], ◌∷◌, ◌++◌, length, get_or, take, drop, true, Some, Ok, refl, sym, ◌∙◌, ap, arith, add-zero, add-one, length-take, slice_set}
 use Rattle.std.specs.List.{list_all}
 use Rattle.std.proofs.lemmas.Bool.{cond-true, and_parts}
 use Rattle.std.proofs.lemmas.List.{set_split, take_more, take_more_set, take-append-drop}
 use Rattle.medium_port.specs.Image.{Image}
-use Rattle.page_gate.specs.States.{is_blank, state_of, gated_page}
+use Rattle.page_gate.specs.States.{is_blank, state_of}
 use Rattle.page_gate.specs.declared.pages.PageState.TheVariants.{Blank, Spoiled, Gated}
 use Rattle.version_store.specs.Entries.{Log}
-use Rattle.version_store.specs.Storage.{Content, content_of, Reading, Going, Ended, Damaged, begun, next, scan, finish, entries, log_with, texts_of, going_or_damaged}
+use Rattle.version_store.specs.Storage.{content_of, Reading, Going, Ended, Damaged, begun, next, scan, finish, entries, log_with, texts_of, going_or_damaged}
 
 pub scan-append : (front rest : Image) (reading : Reading) (n : ℕ) → scan reading n (front ++ rest) ≡ scan (scan reading n front) (n + length front) rest
 scan-append [] rest reading n = ap (λ (k : ℕ). scan reading k rest) (sym (add-zero n))

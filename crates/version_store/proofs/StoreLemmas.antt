@@ -1,19 +1,17 @@
 -- What stands of a medium between two calls, and what an append leaves.
-use Rattle.std.proofs.Common.{◌≡◌, ℕ, zero, suc, ◌+◌, ◌-◌, ◌≤◌, ◌<◌, List, [], ◌∷◌, ◌++◌, length, map, take, drop, true, Bool, Some, Result, Ok, refl, sym, ◌∙◌, ap, subst, arith, length-append, length-take, append_assoc, Vec}
+use Rattle.std.proofs.Common.{◌≡◌, ℕ, zero, suc, ◌+◌, ◌≤◌, List, [], ◌∷◌, ◌++◌, length, map, take, drop, Ok, refl, sym, ◌∙◌, ap, subst, arith, length-take, append_assoc, Vec}
 use Rattle.std.specs.Prelude.{All}
 use Rattle.std.specs.declared.alloc.Global.{Global}
-use Rattle.std.specs.List.{list_all}
-use Rattle.std.proofs.lemmas.List.{append-nil, take-append-drop, take_at, map-append}
-use Rattle.medium_port.specs.Image.{Image, IsImage, Only}
+use Rattle.std.proofs.lemmas.List.{take-append-drop, take_at}
+use Rattle.medium_port.specs.Image.{Image}
 use Rattle.medium_port.specs.Moment.{LeavesOnly, widens}
 use Rattle.effect_form.specs.declared.effects.Effect.{Effect}
-use Rattle.version_store.specs.Entries.{Entry, Log, effects_of}
+use Rattle.version_store.specs.Entries.{Log, effects_of}
 use Rattle.version_store.specs.Filling.{HasBytes, filling, joined, HasPrefix, KeepsPages}
-use Rattle.version_store.specs.Heads.{Heads, HeadsFit, ArePlaces, Stands}
-use Rattle.version_store.specs.Found.{Reached}
+use Rattle.version_store.specs.Heads.{Heads, HeadsFit, ArePlaces}
 use Rattle.version_store.specs.Laying.{IsAtRest, HasPages, Grows, PagesFit, laid, all_of, body_of, bytes_of}
 use Rattle.version_store.specs.Settled.{IsSettled}
-use Rattle.version_store.specs.Storage.{content_of, Going, begun, scan, entries, storage, effects_found, log_of, log_or_none}
+use Rattle.version_store.specs.Storage.{entries, effects_found, log_of, log_or_none}
 use Rattle.version_store.proofs.ScanLemmas.{log_at_rest}
 use Rattle.version_store.proofs.LogLemmas.{effects_of-append}
 use Rattle.version_store.proofs.FillingLemmas.{joined-filling}
@@ -74,7 +72,6 @@ has_prefix log first effects image has =
 -- all of them
 pub all_added : (log : Log) (first : ℕ) (effects : List Effect) (now : Log) → now ≡ log ++ all_of (laid log first effects) → effects_of now ≡ effects_of log ++ effects
 all_added log first effects now is = ap effects_of is ∙ effects_of-append log (all_of (laid log first effects)) ∙ ap (λ (l : List Effect). effects_of log ++ l) (effects-laid log first effects)
-
 
 module _ {M : Type 0} (moment : M → ℕ) (left_since : M → ℕ → Image → Type 0) (reads : M → Image) (may_leave : M → Image → Type 0) (old new : M) where
   -- an image that is left now

@@ -1,6 +1,5 @@
 -- What a page shows at a place.
-use Rattle.std.specs.Prelude.{◌≡◌, ℕ, ◌+◌, ◌-◌, ◌*◌, List, drop, Bool, true, false, ◌&&◌, nat_lt, nat_le, if◌then◌else◌, Option, Some, None, Result, Ok, Err}
-use Rattle.field_form.specs.Forms.{◌>>=◌}
+use Rattle.std.specs.Prelude.{◌≡◌, ℕ, ◌-◌, List, drop, Bool, true, nat_lt, nat_le, if◌then◌else◌, Option, Some, None, Result, Ok, Err}
 use Rattle.stream_port.specs.Causes.{next_count}
 use Rattle.page_gate.specs.States.{state_of}
 use Rattle.page_gate.specs.declared.pages.PageState.{PageState}

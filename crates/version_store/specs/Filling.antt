@@ -1,5 +1,5 @@
 -- How the effects of a call fill pages, and what a crash leaves of them.
-use Rattle.std.specs.Prelude.{◌≡◌, ◌≢◌, ℕ, ◌+◌, ◌≤◌, List, [], ◌∷◌, ◌++◌, length, take, nat_le, if◌then◌else◌, true, false, Option, None, Result, Ok}
+use Rattle.std.specs.Prelude.{◌≡◌, ◌≢◌, ℕ, ◌+◌, ◌≤◌, List, [], ◌∷◌, ◌++◌, length, take, nat_le, if◌then◌else◌, true, false, None, Ok}
 use Rattle.std.specs.List.{flat_map}
 use Rattle.medium_port.specs.Image.{Image, page_of}
 use Rattle.page_gate.specs.States.{is_blank, state_of}

@@ -1,5 +1,5 @@
 -- How far an opening has read.
-use Rattle.std.specs.Prelude.{◌≡◌, ℕ, ◌≤◌, List, take, drop, Bool, true, false, Result, Ok, Err}
+use Rattle.std.specs.Prelude.{◌≡◌, ℕ, ◌≤◌, List, take, drop, Bool, true, false}
 use Rattle.std.specs.List.{list_all}
 use Rattle.medium_port.specs.Image.{Image}
 use Rattle.page_gate.specs.States.{is_blank}

@@ -1,5 +1,5 @@
 -- What a store keeps in memory of its log: the places of the objects' last Puts.
-use Rattle.std.specs.Prelude.{◌≡◌, ℕ, ◌<◌, List, Option, Some, None}
+use Rattle.std.specs.Prelude.{◌≡◌, ℕ, ◌<◌, List, Some}
 use Rattle.std.specs.BTreeMap.{BTreeMap, get}
 use Rattle.value_form.specs.declared.objects.ObjectId.{ObjectId}
 use Rattle.value_form.specs.Objects.{object_cmp}

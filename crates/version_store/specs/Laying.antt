@@ -1,5 +1,5 @@
 -- The pages that an append writes, and how a medium stands between two calls.
-use Rattle.std.specs.Prelude.{◌≡◌, ℕ, ◌+◌, ◌-◌, ◌≤◌, List, [], ◌∷◌, ◌++◌, length, take, drop, map, replicate, nat_le, if◌then◌else◌, true, false, Option, None, Some, Result, Ok, Vec}
+use Rattle.std.specs.Prelude.{◌≡◌, ℕ, ◌+◌, ◌-◌, ◌≤◌, List, [], ◌∷◌, ◌++◌, length, take, drop, map, replicate, nat_le, if◌then◌else◌, true, false, Some, Ok, Vec}
 use Rattle.std.specs.declared.alloc.Global.{Global}
 use Rattle.std.specs.List.{flat_map, list_all}
 use Rattle.std.specs.Int.{w16, to_be_bytes}
@@ -9,8 +9,8 @@ use Rattle.effect_form.specs.declared.effects.Effect.{Effect}
 use Rattle.effect_form.specs.declared.effects.Place.{Place}
 use Rattle.effect_form.specs.Effects.{effect_bytes}
 use Rattle.version_store.specs.Entries.{Entry, Log, effects_of, back_in}
-use Rattle.version_store.specs.Filling.{size_of, sizes, HasPrefix, KeepsPages}
-use Rattle.version_store.specs.Storage.{Content, content_of, Reading, Going, begun, log_with, texts_of, scan, entries}
+use Rattle.version_store.specs.Filling.{size_of, sizes, KeepsPages}
+use Rattle.version_store.specs.Storage.{content_of, Going, begun, log_with, texts_of, scan, entries}
 
 -- ---- one page
 

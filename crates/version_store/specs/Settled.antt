@@ -1,5 +1,5 @@
 -- A medium between two calls.
-use Rattle.std.specs.Prelude.{◌≡◌, Result, Ok}
+use Rattle.std.specs.Prelude.{◌≡◌, Ok}
 use Rattle.medium_port.specs.Image.{Image, Only}
 use Rattle.version_store.specs.Storage.{entries, log_of}
 

@@ -2,7 +2,6 @@
 use Rattle.std.specs.Prelude.{ℕ, ◌+◌, ◌-◌, List, [], ◌∷◌, ◌++◌, length, if◌then◌else◌, Option, Some, None, Result, Ok, Err}
 use Prim.Native.Nat.{zero, suc}
 use Rattle.std.specs.Int.{w16}
-use Rattle.std.specs.Option.{option_map}
 use Rattle.field_form.specs.Forms.{◌>>=◌}
 use Rattle.field_form.specs.Numbers.{byte_at, number_at, between, front_at}
 use Rattle.medium_port.specs.Image.{Image}
@@ -12,7 +11,7 @@ use Rattle.page_gate.specs.declared.pages.PageState.TheVariants.{Blank, Spoiled,
 use Rattle.effect_form.specs.declared.effects.Effect.{Effect}
 use Rattle.effect_form.specs.declared.effects.Place.{Place}
 use Rattle.effect_form.specs.Effects.{Written, effect_at}
-use Rattle.version_store.specs.Entries.{Entry, Log, effects_of, back_in, same_back}
+use Rattle.version_store.specs.Entries.{Log, effects_of, back_in, same_back}
 
 -- ---- one page
 

@@ -26,11 +26,7 @@ fn body(alloc: Global, texts: &[u8]) -> Result<Vec<u8>, AllocError>
 }
 
 // Closes the page that is being filled, and begins one.
-fn close(
-    alloc: Global,
-    bodies: &mut Vec<Vec<u8>>,
-    texts: &mut Vec<u8>,
-) -> Result<(), AllocError>
+fn close(alloc: Global, bodies: &mut Vec<Vec<u8>>, texts: &mut Vec<u8>) -> Result<(), AllocError>
     requires some { 1 ≤ length texts.old.items }
     requires most { length texts.old.items ≤ 4092 }
     requires bodies { All IsBody bodies.old.items }

@@ -179,8 +179,7 @@ fn found_on(
     head: &[u8; 4],
     text: &[u8; 35],
     tail: u8,
-) -> Result<usize, OpenFault>
-{
+) -> Result<usize, OpenFault> {
     let Ok(mut medium) = medium(alloc, 3, None) else {
         return Err(OpenFault::NoMemory);
     };
@@ -201,8 +200,8 @@ fn found_on(
 
 /// The same effect with the back place of page 0, offset 4.
 const PUT_ON: [u8; 35] = [
-    1, 1, 0, 0, 0, 7, 0, 0, 0, 0, 0, 0, 0, 1, 1, 1, 0, 0, 0, 1, 1, 0, 0, 0, 0, 0, 0, 0, 10, 0, 0, 0,
-    0, 0, 4,
+    1, 1, 0, 0, 0, 7, 0, 0, 0, 0, 0, 0, 0, 1, 1, 1, 0, 0, 0, 1, 1, 0, 0, 0, 0, 0, 0, 0, 10, 0, 0,
+    0, 0, 0, 4,
 ];
 
 /// One byte that isn't 0, the page's fifth.
@@ -214,14 +213,62 @@ const SPOT: [u8; 35] = [
 /// What stands on a page, and what an opening finds.
 const PAGES: [(u32, [u8; 4], [u8; 35], u8, Result<usize, OpenFault>); 10] = [
     (0, [0xA5, 1, 0, 35], PUT, 0, Ok(1)),
-    (0, [0xA5, 2, 0, 35], PUT, 0, Err(OpenFault::Damaged { page: 0 })),
-    (0, [0xA5, 1, 0, 34], PUT, 0, Err(OpenFault::Damaged { page: 0 })),
-    (0, [0xA5, 1, 0, 0], PUT, 0, Err(OpenFault::Damaged { page: 0 })),
-    (0, [0xA5, 1, 0, 36], PUT, 0, Err(OpenFault::Damaged { page: 0 })),
-    (0, [0xA5, 1, 0, 35], PUT, 7, Err(OpenFault::Damaged { page: 0 })),
-    (0, [0xA5, 1, 0, 35], PUT_ON, 0, Err(OpenFault::Damaged { page: 0 })),
-    (1, [0xA5, 1, 0, 35], PUT, 0, Err(OpenFault::Damaged { page: 1 })),
-    (2, [0, 0, 0, 0], SPOT, 0, Err(OpenFault::Damaged { page: 2 })),
+    (
+        0,
+        [0xA5, 2, 0, 35],
+        PUT,
+        0,
+        Err(OpenFault::Damaged { page: 0 }),
+    ),
+    (
+        0,
+        [0xA5, 1, 0, 34],
+        PUT,
+        0,
+        Err(OpenFault::Damaged { page: 0 }),
+    ),
+    (
+        0,
+        [0xA5, 1, 0, 0],
+        PUT,
+        0,
+        Err(OpenFault::Damaged { page: 0 }),
+    ),
+    (
+        0,
+        [0xA5, 1, 0, 36],
+        PUT,
+        0,
+        Err(OpenFault::Damaged { page: 0 }),
+    ),
+    (
+        0,
+        [0xA5, 1, 0, 35],
+        PUT,
+        7,
+        Err(OpenFault::Damaged { page: 0 }),
+    ),
+    (
+        0,
+        [0xA5, 1, 0, 35],
+        PUT_ON,
+        0,
+        Err(OpenFault::Damaged { page: 0 }),
+    ),
+    (
+        1,
+        [0xA5, 1, 0, 35],
+        PUT,
+        0,
+        Err(OpenFault::Damaged { page: 1 }),
+    ),
+    (
+        2,
+        [0, 0, 0, 0],
+        SPOT,
+        0,
+        Err(OpenFault::Damaged { page: 2 }),
+    ),
     (0, [0, 0, 0, 0], SPOT, 0, Ok(0)),
 ];
 
@@ -378,10 +425,7 @@ fn put_object(effect: Effect) -> Option<ObjectId> {
 }
 
 // The same over a medium that tells no content.
-fn walked_there(
-    alloc: Global,
-    object: ObjectId,
-) -> Result<([Step; 3], Option<Place>), FetchFault> {
+fn walked_there(alloc: Global, object: ObjectId) -> Result<([Step; 3], Option<Place>), FetchFault> {
     let Ok(mut shelf) = MeetShelf::new(alloc, 4, 0) else {
         return Err(FetchFault::NoMemory);
     };

@@ -1,4 +1,4 @@
-use Rattle.std.proofs.Common.{◌≡◌, ◌<◌, arith}
+use Rattle.std.proofs.Common.{arith}
 use Rattle.version_store.proofs.PlaceLemmas.{log_sound}
 use Rattle.version_store.proofs.laws.back_places_come_before.Goals as goal
 

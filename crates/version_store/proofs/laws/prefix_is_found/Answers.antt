@@ -1,4 +1,4 @@
-use Rattle.std.proofs.Common.{◌≡◌, ◌+◌, ◌++◌, List, length, take, Result, Ok, sym, ◌∙◌, ap, arith, length-append, length-take, ℕ}
+use Rattle.std.proofs.Common.{◌≡◌, ◌++◌, List, length, take, Result, Ok, sym, ◌∙◌, ap, arith, length-append, length-take, ℕ}
 use Rattle.effect_form.specs.declared.effects.Effect.{Effect}
 use Rattle.medium_port.specs.Image.{Image}
 use Rattle.version_store.specs.Filling.{HasPrefix}

@@ -1,16 +1,15 @@
-use Rattle.std.proofs.Common.{◌≡◌, ◌+◌, ◌<◌, ◌≤◌, ◌++◌, [], ◌∷◌, ℕ, List, length, map, drop, get_or, refl, sym, ◌∙◌, ap, subst, arith, Vec, Bool, true, false, inl, inr, ◌==◌}
+use Rattle.std.proofs.Common.{◌≡◌, ◌+◌, ◌<◌, ◌≤◌, [], ◌∷◌, ℕ, List, length, drop, get_or, refl, sym, ◌∙◌, ap, subst, arith, Vec, Bool, true, false, inl, inr, ◌==◌}
 use Rattle.std.specs.declared.alloc.Global.{Global}
 use Rattle.std.specs.Prelude.{All}
 use Rattle.std.specs.Vec.{vec_len}
 use Rattle.std.proofs.lemmas.List.{drop_all, drop_more}
 use Rattle.std.proofs.lemmas.Bool.{cases_eq, eq-eqb, ne_eqb}
 use Rattle.effect_form.specs.declared.effects.Effect.{Effect}
-use Rattle.effect_form.specs.Effects.{effect_bytes}
-use Rattle.version_store.specs.Entries.{Log, back_in}
-use Rattle.version_store.specs.Filling.{filling, filling_from, size_of}
-use Rattle.version_store.specs.Heads.{Heads, HeadsFit}
-use Rattle.version_store.specs.Laying.{IsBody, body_with, bytes_of, entry_at, place_after}
-use Rattle.version_store.proofs.FillingLemmas.{Filled, filled_none, filled_takes, filled_closes, filled_begun, filled_empty, filled_room, filled_left, size_some}
+use Rattle.version_store.specs.Entries.{Log}
+use Rattle.version_store.specs.Filling.{filling, size_of}
+use Rattle.version_store.specs.Heads.{HeadsFit}
+use Rattle.version_store.specs.Laying.{IsBody, bytes_of}
+use Rattle.version_store.proofs.FillingLemmas.{Filled, filled_none, filled_takes, filled_closes, filled_room, filled_left, size_some}
 use Rattle.version_store.proofs.LaidLemmas.{LaidOut, laid_none, laid_takes_so, laid_closes_so, laid_begun, laid_empty, laid_heads}
 use Rattle.version_store.proofs.layouts.lay_out.Goals as goal
 use Rattle.version_store.proofs.layouts.lay_out.Goals.{In_ok-add, then-len-effect_size-gt-PAGE_TEXTS+in_ok-close, else-len-effect_size-gt-PAGE_TEXTS, then-not-is_empty+in_ok-close-2, else-not-is_empty}

@@ -1,4 +1,4 @@
-use Rattle.std.proofs.Common.{◌≡◌, ◌+◌, ◌≤◌, ℕ, List, length, map, drop}
+use Rattle.std.proofs.Common.{◌≡◌, ◌+◌, ◌≤◌, ℕ, length, drop}
 use Rattle.std.specs.Prelude.{All}
 use Rattle.version_store.specs.Entries.{Log}
 use Rattle.version_store.specs.Filling.{filling}

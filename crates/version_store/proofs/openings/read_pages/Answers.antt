@@ -1,4 +1,4 @@
-use Rattle.std.proofs.Common.{◌≡◌, ◌+◌, ◌<◌, ◌≤◌, Bool, true, false, cond, ℕ, List, [], IsTrue, length, take, get_or, sym, ◌∙◌, ap, subst, arith}
+use Rattle.std.proofs.Common.{◌≡◌, ◌+◌, ◌<◌, ◌≤◌, Bool, true, false, cond, ℕ, List, [], length, get_or, sym, ◌∙◌, ap, subst, arith}
 use Rattle.std.specs.Prelude.{MatchBool}
 use Rattle.medium_port.specs.Image.{Image}
 use Rattle.medium_port.specs.Moment.{joins}
@@ -9,7 +9,7 @@ use Rattle.version_store.specs.declared.faults.OpenFault.TheVariants as faults
 use Rattle.version_store.specs.Entries.{Log}
 use Rattle.version_store.specs.Found.{reading_of}
 use Rattle.version_store.specs.Heads.{Heads, Stands}
-use Rattle.version_store.specs.Storage.{Reading, Damaged, begun, next, scan}
+use Rattle.version_store.specs.Storage.{Reading, Damaged, next}
 use Rattle.version_store.proofs.ScanLemmas.{scan_more, scan_damaged}
 use Rattle.version_store.proofs.OpenLemmas.{reached_more}
 use Rattle.version_store.proofs.openings.read_pages.Goals as goal

@@ -1,5 +1,5 @@
 use Rattle.std.proofs.Common.{◌≡◌, ◌-◌, ℕ, List, length, take, drop, Ok, sym, ◌∙◌, ap, arith}
-use Rattle.effect_form.specs.Effects.{Written, effect_at}
+use Rattle.effect_form.specs.Effects.{effect_at}
 use Rattle.version_store.proofs.ReadLemmas.{rest_is, admits}
 use Rattle.version_store.proofs.page_reads.add_effect.Goals as goal
 

@@ -1,13 +1,11 @@
-use Rattle.std.proofs.Common.{◌≡◌, ◌+◌, ◌-◌, ◌<◌, ◌≤◌, ℕ, List, length, Some, None, Option, ◌==◌, false, Bool, subst, arith, sym, ◌∙◌}
+use Rattle.std.proofs.Common.{◌≡◌, ◌≤◌, ℕ, List, length, Some, None, Option, ◌==◌, false, Bool, subst, arith}
 use Rattle.std.specs.Prelude.{MatchOption}
 use Rattle.std.specs.Borrow.{Bor}
 use Rattle.std.proofs.lemmas.Bool.Decides.{nat_tests}
 use Rattle.effect_form.specs.declared.effects.Effect.{Effect}
-use Rattle.effect_form.specs.Effects.{effect_at}
 use Rattle.version_store.specs.Entries.{Log}
 use Rattle.version_store.specs.Heads.{Heads, Stands}
-use Rattle.version_store.specs.Storage.{admitted, place_before}
-use Rattle.version_store.proofs.ReadLemmas.{SoFar, page_stops, page_goes}
+use Rattle.version_store.proofs.ReadLemmas.{page_stops, page_goes}
 use Rattle.version_store.proofs.page_reads.add_effects.Goals as goal
 
 some_left : (n : ℕ) (b : Bool) → b ≡ (n == 0) → b ≡ false → 1 ≤ n

@@ -1,4 +1,4 @@
-use Rattle.std.proofs.Common.{◌≤◌, ◌<◌, ℕ, List, length}
+use Rattle.std.proofs.Common.{◌≤◌, ◌<◌, ℕ, length}
 use Rattle.version_store.specs.Entries.{Log}
 use Rattle.version_store.specs.Heads.{AreBelow, ArePlaces, Stands}
 use Rattle.version_store.proofs.ReadLemmas.{SoFar}

@@ -1,8 +1,8 @@
-use Rattle.std.proofs.Common.{◌≡◌, ◌+◌, ◌<◌, List, [], ◌∷◌, ℕ, IsTrue, length, map, drop, get_or, true, zero, suc, sym, ◌∙◌, ap, arith, slice_set}
+use Rattle.std.proofs.Common.{◌≡◌, ◌+◌, ◌<◌, List, [], ◌∷◌, ℕ, IsTrue, length, map, drop, get_or, zero, suc, ◌∙◌, ap, arith}
 use Rattle.std.proofs.Common.{Vec, refl}
 use Rattle.std.specs.declared.alloc.Global.{Global}
 use Rattle.std.specs.List.{list_all}
-use Rattle.std.proofs.lemmas.List.{drop-set-lt, get_or_read}
+use Rattle.std.proofs.lemmas.List.{drop-set-lt}
 use Rattle.medium_port.specs.Image.{Image, IsImage}
 use Rattle.page_gate.specs.States.{is_blank, gated_page}
 use Rattle.version_store.specs.Entries.{Log}

@@ -1,4 +1,4 @@
-use Rattle.std.proofs.Common.{◌≡◌, ◌+◌, ◌≤◌, ◌++◌, List, ℕ, IsTrue, false, length, map, drop, true}
+use Rattle.std.proofs.Common.{◌≡◌, ◌+◌, ◌≤◌, List, IsTrue, false, map, drop, true}
 use Rattle.std.specs.List.{list_all}
 use Rattle.page_gate.specs.States.{is_blank}
 use Rattle.version_store.specs.Entries.{Log}

@@ -1,10 +1,8 @@
-use Rattle.std.proofs.Common.{◌≡◌, ◌+◌, ◌++◌, ◌≤◌, ℕ, List, IsTrue, length, map, sym, ◌∙◌, ap, subst, arith}
-use Rattle.medium_port.specs.Image.{Image}
-use Rattle.medium_port.specs.Moment.{LeavesOnly}
-use Rattle.version_store.specs.Entries.{Log, effects_of}
-use Rattle.version_store.specs.Filling.{HasPrefix, KeepsPages, filling}
+use Rattle.std.proofs.Common.{◌≡◌, ◌+◌, ◌++◌, ◌≤◌, IsTrue, length, sym, subst, arith}
+use Rattle.version_store.specs.Entries.{Log}
+use Rattle.version_store.specs.Filling.{filling}
 use Rattle.version_store.specs.Heads.{HeadsFit}
-use Rattle.version_store.specs.Laying.{IsAtRest, Grows, PagesFit, all_of, body_of, bytes_of, laid}
+use Rattle.version_store.specs.Laying.{IsAtRest, all_of, laid}
 use Rattle.version_store.specs.Storage.{log_of}
 use Rattle.version_store.proofs.GrownLemmas.{untouched}
 use Rattle.version_store.proofs.StoreLemmas.{log_here, settled_here, rest_here, images_left, prefix_left, pages_kept, all_added, written_run, written_rest}
