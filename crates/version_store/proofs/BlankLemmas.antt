@@ -1,0 +1,75 @@
+-- The pages that are left are those that are blank.
+use Rattle.std.proofs.Common.{◌≡◌, inl, inr, ℕ, ◌+◌, ◌-◌, List, [], ◌∷◌, length, take, drop, true, false, Bool, cond, refl, sym, ◌∙◌, ap, subst, arith, length-drop, zero-add, count_by}
+use Rattle.std.specs.List.{list_all}
+use Rattle.std.proofs.lemmas.Bool.{cases_Bool, cond-true, and_parts}
+use Rattle.std.proofs.lemmas.List.{take-append-drop}
+use Rattle.std.proofs.lemmas.List.Sums.{sum_by-append}
+use Rattle.medium_port.specs.Image.{Image}
+use Rattle.page_gate.specs.States.{is_blank, state_of}
+use Rattle.page_gate.specs.declared.pages.PageState.TheVariants.{Blank}
+use Rattle.version_store.specs.Entries.{Log}
+use Rattle.version_store.specs.Storage.{content_of, Reading, Going, Ended, Damaged, begun, next, scan}
+use Rattle.version_store.specs.Laying.{IsAtRest}
+use Rattle.page_gate.specs.declared.pages.PageState.{PageState}
+use Rattle.page_gate.specs.declared.pages.PageState.TheVariants.{Spoiled, Gated}
+
+-- once ended or damaged, the reading goes on no more
+abbrev Stopped : Reading → Type 0
+Stopped (Going log) = ⊥
+Stopped (Ended log) = Unit {0}
+Stopped (Damaged page) = Unit {0}
+
+stopped_next : (reading : Reading) (n : ℕ) (s : PageState) → Stopped reading → Stopped (next reading n s)
+stopped_next (Going log) n s h = absurd h
+stopped_next (Ended log) n Blank h = tt
+stopped_next (Ended log) n Spoiled h = tt
+stopped_next (Ended log) n (Gated body) h = tt
+stopped_next (Damaged first) n s h = tt
+
+blank_stops : (reading : Reading) (n : ℕ) → Stopped (next reading n Blank)
+blank_stops (Going log) n = tt
+blank_stops (Ended log) n = tt
+blank_stops (Damaged first) n = tt
+
+stopped_scan : (reading : Reading) (n : ℕ) (log : Log) (pages : Image) → Stopped reading → scan reading n pages ≡ Going (content_of log) → ⊥
+stopped_scan reading n log [] h is = subst (λ r. Stopped r) is h
+stopped_scan reading n log (page ∷ pages) h is = stopped_scan (next reading n (state_of page)) (n + 1) log pages (stopped_next reading n (state_of page) h) is
+
+one_if : Bool → ℕ
+one_if b = cond b 1 0
+
+zero_if : one_if false ≡ 0
+unfolding one_if
+zero_if = refl
+
+once_if : one_if true ≡ 1
+unfolding one_if
+once_if = refl
+
+count_first : (page : List ℕ) (pages : Image) → count_by is_blank (page ∷ pages) ≡ one_if (is_blank page) + count_by is_blank pages
+unfolding one_if
+count_first page pages = sum_by-append (λ (p : List ℕ). cond (is_blank p) 1 0) (page ∷ []) pages ∙ ap (λ (k : ℕ). k + count_by is_blank pages) (zero-add (cond (is_blank page) 1 0))
+
+none_blank : (reading : Reading) (n : ℕ) (log : Log) (pages : Image) → scan reading n pages ≡ Going (content_of log) → count_by is_blank pages ≡ 0
+none_blank reading n log [] is = refl
+none_blank reading n log (page ∷ pages) is = elim (cases_Bool (is_blank page)) [
+  | inl blank ↦ absurd (stopped_scan (next reading n (state_of page)) (n + 1) log pages (subst (λ s. Stopped (next reading n s)) (sym (cond-true (is_blank page) _ _ blank)) (blank_stops reading n)) is)
+  | inr other ↦
+      let rest : count_by is_blank pages ≡ 0 = none_blank (next reading n (state_of page)) (n + 1) log pages is in
+      let first : one_if (is_blank page) ≡ 0 = ap one_if other ∙ zero_if in
+      count_first page pages ∙ omega (arith, first, rest)
+]
+
+all_blank : (pages : Image) → list_all is_blank pages ≡ true → count_by is_blank pages ≡ length pages
+all_blank [] blank = refl
+all_blank (page ∷ pages) blank =
+    let parts = and_parts _ _ blank in
+    let rest : count_by is_blank pages ≡ length pages = all_blank pages parts.1 in
+    let first : one_if (is_blank page) ≡ 1 = ap one_if parts.0 ∙ once_if in
+    count_first page pages ∙ omega (arith, first, rest)
+
+pub blank_count : (log : Log) (n : ℕ) (reads : Image) (may_leave : Image → Type 0) → IsAtRest log n reads may_leave → count_by is_blank reads ≡ length reads - n
+blank_count log n reads may_leave rest =
+    ap (λ (l : Image). count_by is_blank l) (sym (take-append-drop n reads))
+    ∙ sum_by-append (λ (p : List ℕ). cond (is_blank p) 1 0) (take n reads) (drop n reads)
+    ∙ omega (arith, none_blank begun 0 log (take n reads) rest.front, all_blank (drop n reads) rest.blank, length-drop n reads)

@@ -1,0 +1,91 @@
+-- How an opening goes on from page to page.
+use Rattle.std.specs.Prelude.{◌==◌}
+use Rattle.std.proofs.Common.{◌≡◌, ◌≢◌, ℕ, ◌+◌, ◌<◌, List, [], ◌∷◌, length, get_or, take, drop, Bool, true, false, cond, Option, Some, None, refl, sym, ◌∙◌, ap, arith, inl, inr, length-take}
+use Rattle.std.specs.List.{list_all}
+use Rattle.std.proofs.lemmas.Bool.{cases_Bool, and_from, cond-true, cond-false}
+use Rattle.std.proofs.lemmas.List.{take_more, take_all, drop_all, drop-append-le}
+use Rattle.std.proofs.lemmas.List.Folds.{list_all-append}
+use Rattle.medium_port.specs.Image.{Image, Only}
+use Rattle.page_gate.specs.States.{is_blank, state_of}
+use Rattle.page_gate.specs.declared.pages.PageState.{PageState}
+use Rattle.page_gate.specs.declared.pages.PageState.TheVariants.{Blank, Spoiled, Gated}
+use Rattle.effect_form.specs.declared.effects.Effect.{Effect}
+use Rattle.version_store.specs.Entries.{Log}
+use Rattle.version_store.specs.Storage.{content_of, Reading, Going, Ended, Damaged, begun, next, scan, going_or_damaged, log_with, texts_of}
+use Rattle.version_store.specs.Laying.{IsAtRest}
+use Rattle.version_store.specs.Heads.{Heads, Stands}
+use Rattle.version_store.specs.Found.{Reached, reading_of}
+use Rattle.version_store.proofs.ScanLemmas.{scan_more}
+
+-- a page that is in another state isn't blank
+pub marked_bytes : (bytes : List ℕ) → state_of bytes ≢ Blank → is_blank bytes ≡ false
+marked_bytes bytes marked = elim (cases_Bool (is_blank bytes)) [
+  | inl all_zero ↦ absurd (marked (cond-true (is_blank bytes) _ _ all_zero))
+  | inr some_set ↦ some_set
+]
+
+blank_from_state : (p : List ℕ) → state_of p ≡ Blank → is_blank p ≡ true
+blank_from_state p is = elim (cases_Bool (is_blank p)) [
+  | inl all_zero ↦ all_zero
+  | inr some_set ↦ elim (cases_Bool (get_or p 0 0 == 165)) [
+    | inl gate ↦ absurd (cc (sym is ∙ cond-false (is_blank p) _ _ some_set ∙ cond-true (get_or p 0 0 == 165) _ _ gate))
+    | inr other ↦ absurd (cc (sym is ∙ cond-false (is_blank p) _ _ some_set ∙ cond-false (get_or p 0 0 == 165) _ _ other))
+  ]
+]
+
+not_ended : (page : ℕ) (o : Option Log) (log : Log) → going_or_damaged page o ≡ Ended (content_of log) → ⊥
+not_ended page None log is = cc is
+not_ended page (Some l) log is = cc is
+
+-- the log that a reading has
+abbrev pub log_in : Reading → Log
+log_in (Going c) = c.log
+log_in (Ended c) = c.log
+log_in (Damaged page) = []
+
+-- only a blank page leaves the reading ended
+ended_blank : (ended : Bool) (log log' : Log) (page : ℕ) (s : PageState) → next (reading_of ended log) page s ≡ Ended (content_of log') → (s ≡ Blank) × (log ≡ log')
+ended_blank false log log' page Blank is = (refl, ap log_in is)
+ended_blank true log log' page Blank is = (refl, ap log_in is)
+ended_blank false log log' page Spoiled is = absurd (cc is)
+ended_blank true log log' page Spoiled is = absurd (cc is)
+ended_blank false log log' page (Gated body) is = absurd (not_ended page (log_with log page (texts_of body)) log' is)
+ended_blank true log log' page (Gated body) is = absurd (cc is)
+
+pub reached_more : (reads : Image) (page : ℕ) (heads heads' : Heads) (effects effects' : List Effect) (n n' : ℕ) (ended ended' : Bool) → page < length reads → (was : Reached reads page heads effects n ended)
+    → (more : Log) × (next (reading_of ended was.log) page (state_of (get_or reads page [])) ≡ reading_of ended' more) × Stands heads' effects' more → n' ≡ cond ended' n (page + 1) → Reached reads (page + 1) heads' effects' n' ended'
+reached_more reads page heads heads' effects effects' n n' ended false within was more is =
+    let reading = scan_more reads page within ∙ ap (λ r. next r page (state_of (get_or reads page []))) was.reading ∙ more.1 in
+    record {
+      log = more.0;
+      stands = more.2;
+      front = ap (λ (k : ℕ). scan begun 0 (take k reads)) is ∙ reading;
+      reading = reading;
+      blank = ap (λ (k : ℕ). list_all is_blank (drop k (take (page + 1) reads))) is ∙ ap (λ (l : Image). list_all is_blank l) (drop_all (page + 1) (take (page + 1) reads) (omega (arith, length-take (page + 1) reads)));
+      within = omega (arith, is);
+    }
+reached_more reads page heads heads' effects effects' n n' ended true within was more is =
+    let p = get_or reads page [] in
+    let blank_page = ended_blank ended was.log more.0 page (state_of p) more.1 in
+    let long : length (take page reads) ≡ page = omega (arith, length-take page reads, within) in
+    record {
+      log = more.0;
+      stands = more.2;
+      front = ap (λ (k : ℕ). scan begun 0 (take k reads)) is ∙ was.front ∙ ap (λ (l : Log). Going (content_of l)) blank_page.1;
+      reading = scan_more reads page within ∙ ap (λ r. next r page (state_of p)) was.reading ∙ more.1;
+      blank =
+          ap (λ (k : ℕ). list_all is_blank (drop k (take (page + 1) reads))) is
+          ∙ ap (λ (l : Image). list_all is_blank (drop n l)) (take_more reads page [] within)
+          ∙ ap (λ (l : Image). list_all is_blank l) (drop-append-le n (take page reads) (p ∷ []) (omega (arith, long, was.within)))
+          ∙ list_all-append is_blank (drop n (take page reads)) (p ∷ [])
+          ∙ and_from _ _ was.blank (and_from _ _ (blank_from_state p blank_page.0) refl);
+      within = omega (arith, is, was.within);
+    }
+
+-- all pages were read
+pub rest_of : (reads : Image) (pages : ℕ) (heads : Heads) (effects : List Effect) (n : ℕ) (ended : Bool) (may_leave : Image → Type 0) → length reads ≡ pages → (r : Reached reads pages heads effects n ended) → Only reads may_leave → IsAtRest r.log n reads may_leave
+rest_of reads pages heads effects n ended may_leave size r only = record {
+  front = r.front;
+  blank = ap (λ (l : Image). list_all is_blank (drop n l)) (sym (take_all pages reads (omega (arith, size)))) ∙ r.blank;
+  durable = only;
+}

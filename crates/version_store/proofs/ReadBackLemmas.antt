@@ -1,0 +1,120 @@
+-- A page that was laid out reads back.
+use Rattle.std.proofs.Common.{◌≡◌, ℕ, zero, suc, ◌+◌, ◌-◌, ◌^◌, ◌≤◌, ◌<◌, List, [], ◌∷◌, ◌++◌, length, true, cond, Option, Some, None, Result, refl, sym, ◌∙◌, ap, arith, append_assoc, length-append, add-zero}
+use Rattle.std.specs.Prelude.{◌==◌, replicate}
+use Rattle.std.specs.Int.{w16, to_be_bytes}
+use Rattle.std.proofs.lemmas.Bool.{cond-true, eq-eqb, and_from}
+use Rattle.std.proofs.lemmas.List.{append-nil}
+use Rattle.field_form.specs.Forms.{◌>>=◌}
+use Rattle.field_form.specs.Numbers.{number_at, between, front_at}
+use Rattle.field_form.proofs.NumberLaws.{u16_form, between_form, front_again}
+use Rattle.page_gate.specs.States.{is_blank}
+use Rattle.effect_form.specs.declared.effects.Place.{Place}
+use Rattle.effect_form.specs.Effects.{Written, IsWritten, effect_bytes, effect_at}
+use Rattle.effect_form.proofs.EffectLaws.{effect_again}
+use Rattle.effect_form.proofs.ReadLaws.{length-effect_bytes}
+use Rattle.version_store.specs.Entries.{Entry, Log, effects_of, back_in, same_back}
+use Rattle.version_store.specs.Filling.{size_of, sizes}
+use Rattle.version_store.specs.Storage.{texts_of, place_before, admitted, log_at, log_with}
+use Rattle.version_store.specs.Laying.{texts, body_with, body_of, padded, place_after}
+use Rattle.version_store.proofs.FillingLemmas.{effect_cons, size_some}
+
+same_back-self : (b : Option Place) → same_back b b ≡ true
+same_back-self None = refl
+same_back-self (Some p) = and_from (p.page == p.page) (p.offset == p.offset) (eq-eqb p.page p.page refl) (eq-eqb p.offset p.offset refl)
+
+-- the entries stand one behind another on the page, from behind so many bytes on, and each has its back place
+abbrev pub IsLaid : Log → ℕ → ℕ → Log → Type 0
+IsLaid log page size [] = Unit {0}
+IsLaid log page size (e ∷ es) = IsWritten (e.effect, e.back) × (e.place ≡ place_after page size) × (e.back ≡ back_in log e.effect) × IsLaid (log ++ e ∷ []) page (size + size_of e.effect) es
+
+pub laid-push : (log : Log) (page size : ℕ) (es : Log) (e : Entry) → IsLaid log page size es → IsWritten (e.effect, e.back) → e.place ≡ place_after page (size + sizes (effects_of es)) → e.back ≡ back_in (log ++ es) e.effect → IsLaid log page size (es ++ e ∷ [])
+laid-push log page size [] e laid good place back = (
+  good,
+  place ∙ ap (λ (n : ℕ). place_after page n) (add-zero size),
+  back ∙ ap (λ (l : Log). back_in l e.effect) (append-nil log),
+  tt,
+)
+laid-push log page size (x ∷ es) e laid good place back = (
+  laid.0,
+  laid.1,
+  laid.2,
+  laid-push (log ++ x ∷ []) page (size + size_of x.effect) es e laid.3 good
+      (place ∙ ap (λ (n : ℕ). place_after page n) (behind (size_of x.effect) (sizes (effects_of es))))
+      (back ∙ ap (λ (l : Log). back_in l e.effect) (sym (append_assoc log (x ∷ []) es))),
+)
+  where
+    behind : (a b : ℕ) → size + (a + b) ≡ size + a + b
+    behind a b = omega arith
+
+pub length-texts : (es : Log) → length (texts es) ≡ sizes (effects_of es)
+length-texts [] = refl
+length-texts (e ∷ es) = length-append (effect_bytes (e.effect, e.back)) (texts es) ∙ (let here = length-effect_bytes e.effect e.back None in let rest = length-texts es in omega (arith, here, rest))
+
+pub texts-push : (es : Log) (e : Entry) → texts (es ++ e ∷ []) ≡ texts es ++ effect_bytes (e.effect, e.back)
+texts-push [] e = append-nil (effect_bytes (e.effect, e.back))
+texts-push (x ∷ es) e = ap (λ (l : List ℕ). effect_bytes (x.effect, x.back) ++ l) (texts-push es e) ∙ sym (append_assoc (effect_bytes (x.effect, x.back)) (texts es) (effect_bytes (e.effect, e.back)))
+
+-- one step of the reading, where an effect's text stands at the front
+log_at-step : (n : ℕ) (log : Log) (page end : ℕ) (w : Written) (rest : List ℕ) → IsWritten w → w.1 ≡ back_in log w.0
+    → log_at (suc n) log page end (effect_bytes w ++ rest) ≡ log_at n (log ++ record { effect = w.0; place = place_before page end (length (effect_bytes w ++ rest)); back = w.1 } ∷ []) page end rest
+log_at-step n log page end w rest good back =
+    let first = effect_cons w in
+    let cons : effect_bytes w ++ rest ≡ first.0 ∷ (first.1 ++ rest) = ap (λ (l : List ℕ). l ++ rest) first.2 in
+    let at = place_before page end (length (effect_bytes w ++ rest)) in
+    ap (λ (l : List ℕ). log_at (suc n) log page end l) cons
+    ∙ ap (λ (l : List ℕ). admitted log (place_before page end (length l)) (effect_at l) >>= λ more. log_at n more.0 page end more.1) (sym cons)
+    ∙ ap (λ (r : Result (Written × List ℕ) ℕ). admitted log at r >>= λ more. log_at n more.0 page end more.1) (effect_again w rest good)
+    ∙ ap (λ (o : Option (Log × List ℕ)). o >>= λ more. log_at n more.0 page end more.1)
+    (cond-true (same_back w.1 (back_in log w.0)) _ _ (ap (λ (b : Option Place). same_back w.1 b) (sym back) ∙ same_back-self w.1))
+
+pub reads_back : (n : ℕ) (log : Log) (page size end : ℕ) (es : Log) → IsLaid log page size es → length es ≤ n → end ≡ 4 + size + length (texts es) → log_at n log page end (texts es) ≡ Some (log ++ es)
+reads_back n log page size end [] laid few is = nothing n
+  where
+    nothing : (k : ℕ) → log_at k log page end [] ≡ Some (log ++ [])
+    nothing zero = ap (λ (l : Log). Some l) (sym (append-nil log))
+    nothing (suc k) = ap (λ (l : Log). Some l) (sym (append-nil log))
+reads_back zero log page size end (e ∷ es) laid few is = absurd (omega (arith, few))
+reads_back (suc n) log page size end (e ∷ es) laid few is =
+    log_at-step n log page end (e.effect, e.back) (texts es) laid.0 laid.2
+    ∙ ap (λ (p : Place). log_at n (log ++ record { effect = e.effect; place = p; back = e.back } ∷ []) page end (texts es)) (here ∙ sym laid.1)
+    ∙ reads_back n (log ++ e ∷ []) page (size + size_of e.effect) end es laid.3 (omega (arith, few)) (is ∙ behind)
+    ∙ ap (λ (l : Log). Some l) (append_assoc log (e ∷ []) es)
+  where
+    long : length (texts (e ∷ es)) ≡ size_of e.effect + length (texts es)
+    long = length-append (effect_bytes (e.effect, e.back)) (texts es) ∙ ap (λ (n : ℕ). n + length (texts es)) (length-effect_bytes e.effect e.back None)
+
+    behind : 4 + size + length (texts (e ∷ es)) ≡ 4 + (size + size_of e.effect) + length (texts es)
+    behind = omega (arith, long)
+
+    here : place_before page end (length (texts (e ∷ es))) ≡ place_after page size
+    here = ap (λ (o : ℕ). record { page = page; offset = o }) (offset (length (texts (e ∷ es))) is)
+      where
+        offset : (k : ℕ) → end ≡ 4 + size + k → end - k ≡ 4 + size
+        offset k at = omega (arith, at)
+
+pub few_effects : (es : Log) → length es ≤ length (texts es)
+few_effects [] = omega arith
+few_effects (e ∷ es) = let rest = few_effects es in let some = size_some e.effect in let long = length-texts (e ∷ es) in let all = length-texts es in omega (arith, rest, some, long, all)
+
+zeros : (n : ℕ) → is_blank (replicate n 0) ≡ true
+zeros zero = refl
+zeros (suc n) = zeros n
+
+-- the outer form of a page
+pub texts_of-padded : (bytes : List ℕ) → 1 ≤ length bytes → length bytes ≤ 4092 → texts_of (padded (body_with bytes)) ≡ Some bytes
+unfolding texts_of
+texts_of-padded bytes some most =
+    let small : length bytes < 2 ^ 16 = omega (arith, most) in
+    let tail = replicate (4095 - length (body_with bytes)) 0 in
+    let size : (between 1 4092 (number_at w16 (to_be_bytes w16 (length bytes) ++ (bytes ++ tail)))) ≡ Some (length bytes, bytes ++ tail) = (between_form 1 4092 u16_form).again (length bytes) (bytes ++ tail) (small, some, most) in
+    ap (λ (o : Option (ℕ × List ℕ)). o >>= λ size. front_at size.0 size.1 >>= λ texts. cond (is_blank texts.1) (Some texts.0) None) size
+    ∙ ap (λ (o : Option (List ℕ × List ℕ)). o >>= λ texts. cond (is_blank texts.1) (Some texts.0) None) (front_again bytes tail)
+    ∙ cond-true (is_blank tail) _ _ (zeros (4095 - length (body_with bytes)))
+
+-- a page with these entries
+pub page_reads : (log : Log) (page : ℕ) (es : Log) → IsLaid log page 0 es → 1 ≤ length es → sizes (effects_of es) ≤ 4092 → log_with log page (texts_of (padded (body_of es))) ≡ Some (log ++ es)
+page_reads log page es laid some most =
+    let all = length-texts es in
+    let few = few_effects es in
+    ap (λ o. log_with log page o) (texts_of-padded (texts es) (omega (arith, some, few)) (omega (arith, all, most)))
+    ∙ reads_back (length (texts es)) log page 0 (4 + length (texts es)) es laid few (omega arith)

@@ -1,0 +1,90 @@
+-- How the log of an image goes on from page to page.
+use Rattle.std.proofs.Common.{◌≡◌, ℕ, suc, ◌+◌, ◌<◌, List, [], ◌∷◌, ◌++◌, length, get_or, take, drop, true, Some, Ok, refl, sym, ◌∙◌, ap, arith, add-zero, add-one, length-take, slice_set}
+use Rattle.std.specs.List.{list_all}
+use Rattle.std.proofs.lemmas.Bool.{cond-true, and_parts}
+use Rattle.std.proofs.lemmas.List.{set_split, take_more, take_more_set, take-append-drop}
+use Rattle.medium_port.specs.Image.{Image}
+use Rattle.page_gate.specs.States.{is_blank, state_of}
+use Rattle.page_gate.specs.declared.pages.PageState.TheVariants.{Blank, Spoiled, Gated}
+use Rattle.version_store.specs.Entries.{Log}
+use Rattle.version_store.specs.Storage.{content_of, Reading, Going, Ended, Damaged, begun, next, scan, finish, entries, log_with, texts_of, going_or_damaged}
+
+pub scan-append : (front rest : Image) (reading : Reading) (n : ℕ) → scan reading n (front ++ rest) ≡ scan (scan reading n front) (n + length front) rest
+scan-append [] rest reading n = ap (λ (k : ℕ). scan reading k rest) (sym (add-zero n))
+scan-append (page ∷ front) rest reading n =
+    let moved : n + 1 + length front ≡ n + suc (length front) = omega arith in
+    scan-append front rest (next reading n (state_of page)) (n + 1) ∙ ap (λ (k : ℕ). scan (scan (next reading n (state_of page)) (n + 1) front) k rest) moved
+
+ended_blanks : (log : Log) (n : ℕ) (pages : Image) → list_all is_blank pages ≡ true → scan (Ended (content_of log)) n pages ≡ Ended (content_of log)
+ended_blanks log n [] blank = refl
+ended_blanks log n (page ∷ pages) blank =
+    let parts = and_parts _ _ blank in
+    ap (λ s. scan (next (Ended (content_of log)) n s) (n + 1) pages) (cond-true (is_blank page) _ _ parts.0) ∙ ended_blanks log (n + 1) pages parts.1
+
+-- the blank pages at the end leave the log
+pub finish_blanks : (log : Log) (n : ℕ) (pages : Image) → list_all is_blank pages ≡ true → finish (scan (Going (content_of log)) n pages) ≡ Ok log
+finish_blanks log n [] blank = refl
+finish_blanks log n (page ∷ pages) blank =
+    let parts = and_parts _ _ blank in
+    ap (λ s. finish (scan (next (Going (content_of log)) n s) (n + 1) pages)) (cond-true (is_blank page) _ _ parts.0) ∙ ap finish (ended_blanks log (n + 1) pages parts.1)
+
+module _ (image : Image) (n : ℕ) (log : Log) (within : n < length image) (front : scan begun 0 (take n image) ≡ Going (content_of log)) (blank : list_all is_blank (drop (n + 1) image) ≡ true) where
+  at_page : (page : List ℕ) → entries (slice_set image n page) ≡ finish (scan (next (Going (content_of log)) n (state_of page)) (n + 1) (drop (n + 1) image))
+  at_page page =
+      ap entries (set_split image n page within ∙ ap (λ (k : ℕ). take n image ++ page ∷ drop k image) (sym (add-one n)))
+      ∙ ap finish (scan-append (take n image) (page ∷ drop (n + 1) image) begun 0
+      ∙ ap (λ r. scan r (0 + length (take n image)) (page ∷ drop (n + 1) image)) front
+      ∙ ap (λ (k : ℕ). scan (Going (content_of log)) k (page ∷ drop (n + 1) image)) at_n)
+    where
+      at_n : 0 + length (take n image) ≡ n
+      at_n = omega (arith, length-take n image, within)
+
+  pub stays_blank : (page : List ℕ) → state_of page ≡ Blank → entries (slice_set image n page) ≡ Ok log
+  stays_blank page is = at_page page ∙ ap (λ s. finish (scan (next (Going (content_of log)) n s) (n + 1) (drop (n + 1) image))) is ∙ ap finish (ended_blanks log (n + 1) (drop (n + 1) image) blank)
+
+  pub stays_spoiled : (page : List ℕ) → state_of page ≡ Spoiled → entries (slice_set image n page) ≡ Ok log
+  stays_spoiled page is = at_page page ∙ ap (λ s. finish (scan (next (Going (content_of log)) n s) (n + 1) (drop (n + 1) image))) is ∙ finish_blanks log (n + 1) (drop (n + 1) image) blank
+
+  pub steps : (page body : List ℕ) (end : Log) → state_of page ≡ Gated body → log_with log n (texts_of body) ≡ Some end → entries (slice_set image n page) ≡ Ok end
+  steps page body end is step =
+      at_page page ∙ ap (λ s. finish (scan (next (Going (content_of log)) n s) (n + 1) (drop (n + 1) image))) is
+      ∙ ap (λ o. finish (scan (going_or_damaged n o) (n + 1) (drop (n + 1) image))) step ∙ finish_blanks end (n + 1) (drop (n + 1) image) blank
+
+  -- the front is one page longer then
+  pub front_steps : (page body : List ℕ) (end : Log) → state_of page ≡ Gated body → log_with log n (texts_of body) ≡ Some end → scan begun 0 (take (n + 1) (slice_set image n page)) ≡ Going (content_of end)
+  front_steps page body end is step =
+      ap (λ (l : Image). scan begun 0 l) (take_more_set image n page within)
+      ∙ scan-append (take n image) (page ∷ []) begun 0
+      ∙ ap (λ r. scan r (0 + length (take n image)) (page ∷ [])) front
+      ∙ ap (λ (k : ℕ). scan (Going (content_of log)) k (page ∷ [])) at_n
+      ∙ ap (λ s. next (Going (content_of log)) n s) is
+      ∙ ap (λ o. going_or_damaged n o) step
+    where
+      at_n : 0 + length (take n image) ≡ n
+      at_n = omega (arith, length-take n image, within)
+
+-- a store's image stands for its log
+pub log_at_rest : (image : Image) (n : ℕ) (log : Log) → scan begun 0 (take n image) ≡ Going (content_of log) → list_all is_blank (drop n image) ≡ true → entries image ≡ Ok log
+log_at_rest image n log front blank =
+    ap entries (sym (take-append-drop n image))
+    ∙ ap finish (scan-append (take n image) (drop n image) begun 0 ∙ ap (λ r. scan r (0 + length (take n image)) (drop n image)) front)
+    ∙ finish_blanks log (0 + length (take n image)) (drop n image) blank
+
+-- one page more is read
+pub scan_more : (image : Image) (i : ℕ) → i < length image → scan begun 0 (take (i + 1) image) ≡ next (scan begun 0 (take i image)) i (state_of (get_or image i []))
+scan_more image i within =
+    ap (λ (l : Image). scan begun 0 l) (take_more image i [] within) ∙ scan-append (take i image) (get_or image i [] ∷ []) begun 0
+    ∙ ap (λ (k : ℕ). next (scan begun 0 (take i image)) k (state_of (get_or image i []))) at_i
+  where
+    at_i : 0 + length (take i image) ≡ i
+    at_i = omega (arith, length-take i image, within)
+
+damaged_stays : (first n : ℕ) (pages : Image) → scan (Damaged first) n pages ≡ Damaged first
+damaged_stays first n [] = refl
+damaged_stays first n (page ∷ pages) = damaged_stays first (n + 1) pages
+
+-- the first damaged page is told whatever stands behind it
+pub scan_damaged : (image : Image) (i first : ℕ) → scan begun 0 (take i image) ≡ Damaged first → scan begun 0 image ≡ Damaged first
+scan_damaged image i first is =
+    ap (λ (l : Image). scan begun 0 l) (sym (take-append-drop i image)) ∙ scan-append (take i image) (drop i image) begun 0
+    ∙ ap (λ r. scan r (0 + length (take i image)) (drop i image)) is ∙ damaged_stays first (0 + length (take i image)) (drop i image)

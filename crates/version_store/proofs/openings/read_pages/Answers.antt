@@ -1,0 +1,63 @@
+use Rattle.std.proofs.Common.{◌≡◌, ◌+◌, ◌<◌, ◌≤◌, Bool, true, false, cond, ℕ, List, [], length, get_or, sym, ◌∙◌, ap, subst, arith}
+use Rattle.std.specs.Prelude.{MatchBool}
+use Rattle.medium_port.specs.Image.{Image}
+use Rattle.medium_port.specs.Moment.{joins}
+use Rattle.page_gate.specs.States.{state_of}
+use Rattle.page_gate.specs.declared.pages.PageState.{PageState}
+use Rattle.effect_form.specs.declared.effects.Effect.{Effect}
+use Rattle.version_store.specs.declared.faults.OpenFault.TheVariants as faults
+use Rattle.version_store.specs.Entries.{Log}
+use Rattle.version_store.specs.Found.{reading_of}
+use Rattle.version_store.specs.Heads.{Heads, Stands}
+use Rattle.version_store.specs.Storage.{Reading, Damaged, next}
+use Rattle.version_store.proofs.ScanLemmas.{scan_more, scan_damaged}
+use Rattle.version_store.proofs.OpenLemmas.{reached_more}
+use Rattle.version_store.proofs.openings.read_pages.Goals as goal
+
+same_page : (i page : ℕ) → faults.Damaged i ≡ faults.Damaged page → i ≡ page
+same_page i page is = cc is
+
+cond_low : (b : Bool) (m n : ℕ) → m ≤ n → cond b m n ≤ n
+cond_low true m n le = le
+cond_low false m n le = omega arith
+
+module _ (b : Bool) (reading : Reading) (ended : Bool) (heads : Heads) (effects : List Effect) (page : ℕ) where
+  when_good : b ≡ true → MatchBool b ((more : Log) × (reading ≡ reading_of ended more) × Stands heads effects more) (reading ≡ Damaged page) → (more : Log) × (reading ≡ reading_of ended more) × Stands heads effects more
+  when_good is met = subst (λ (q : Bool). MatchBool q ((more : Log) × (reading ≡ reading_of ended more) × Stands heads effects more) (reading ≡ Damaged page)) is met
+
+  when_bad : b ≡ false → MatchBool b ((more : Log) × (reading ≡ reading_of ended more) × Stands heads effects more) (reading ≡ Damaged page) → reading ≡ Damaged page
+  when_bad is met = subst (λ (q : Bool). MatchBool q ((more : Log) × (reading ≡ reading_of ended more) × Stands heads effects more) (reading ≡ Damaged page)) is met
+
+pub returns-then-not-good-clause-damaged : goal.returns-then-not-good-clause-damaged
+returns-then-not-good-clause-damaged g c told size page is =
+    let i = c.loop-page.page in
+    let r = g.M.Medium.reads c.args.medium.now in
+    let was = c.loop-page.invariant.found told size in
+    let within : i < length r = omega (arith, size, c.loop-page-test.true) in
+    let read : c.in-Ok.state ≡ state_of (get_or r i []) = c.in-Ok.ensures.found told ∙ ap (λ (l : Image). state_of (get_or l i [])) (c.loop-page.invariant.reads told) in
+    let bad = when_bad c.in-Ok-add_state.good _ _ _ _ _ c.if-not-good.true (c.in-Ok-add_state.ensures.found was.log was.stands) in
+    scan_damaged r (i + 1) page (scan_more r i within ∙ ap (λ z. next z i (state_of (get_or r i []))) was.reading ∙ ap (λ (s : PageState). next (reading_of c.loop-page.found.ended was.log) i s) (sym read) ∙ bad ∙ ap (λ (k : ℕ). Damaged k) (same_page i page is))
+
+pub loop-page-preserved : goal.loop-page-preserved
+loop-page-preserved g c = record {
+  size = c.look.ensures.size ∙ c.loop-page.invariant.size;
+  low = subst (λ (k : ℕ). k ≤ c.loop-page.page + 1) (sym (c.in-Ok-add_state.ensures.next c.if-not-good.false)) (cond_low c.add_state.new.found.ended c.loop-page.found.next (c.loop-page.page + 1) (omega (arith, c.loop-page.invariant.low)));
+  places = c.in-Ok-add_state.ensures.places;
+  below = c.in-Ok-add_state.ensures.below c.args.pages (omega (arith, c.loop-page-test.true)) c.loop-page.invariant.below;
+  open_now = c.in-Ok.ensures.failed;
+  later = omega (arith, c.loop-page.invariant.later, c.look.ensures.cause.later);
+  reads = λ told. c.look.ensures.reads told ∙ c.loop-page.invariant.reads told;
+  crash = λ told i left. c.loop-page.invariant.crash told i (c.look.ensures.crash told i left);
+  any_moment = λ told. joins g.M.Medium.moment g.M.Medium.left_since c.args.medium.now c.loop-page.medium c.look.new.medium _ _ _ (c.loop-page.invariant.any_moment told) (c.look.ensures.any_moment told) (λ i p. p) (λ i p. c.loop-page.invariant.crash told i p);
+  found = λ told size.
+      let i = c.loop-page.page in
+      let r = g.M.Medium.reads c.args.medium.now in
+      let f = c.loop-page.found in
+      let was = c.loop-page.invariant.found told size in
+      let within : i < length r = omega (arith, size, c.loop-page-test.true) in
+      let read : c.in-Ok.state ≡ state_of (get_or r i []) = c.in-Ok.ensures.found told ∙ ap (λ (l : Image). state_of (get_or l i [])) (c.loop-page.invariant.reads told) in
+      let now = c.add_state.new.found in
+      let good = when_good c.in-Ok-add_state.good (next (reading_of f.ended was.log) i c.in-Ok.state) now.ended now.heads now.effects.items i c.if-not-good.false (c.in-Ok-add_state.ensures.found was.log was.stands) in
+      reached_more r i f.heads now.heads f.effects.items now.effects.items f.next now.next f.ended now.ended within was
+      (subst (λ (s : PageState). (more : Log) × (next (reading_of f.ended was.log) i s ≡ reading_of now.ended more) × Stands now.heads now.effects.items more) read good) (c.in-Ok-add_state.ensures.next c.if-not-good.false);
+}

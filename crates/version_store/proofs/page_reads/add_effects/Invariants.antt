@@ -1,0 +1,13 @@
+use Rattle.std.proofs.Common.{◌≤◌, ◌<◌, ℕ, length}
+use Rattle.version_store.specs.Entries.{Log}
+use Rattle.version_store.specs.Heads.{AreBelow, ArePlaces, Stands}
+use Rattle.version_store.proofs.ReadLemmas.{SoFar}
+use Rattle.version_store.proofs.page_reads.add_effects.Given as goal
+
+abbrev pub invariant-loop : goal.invariant-loop
+invariant-loop l = record {
+  less : length l.rest ≤ length l.texts;
+  places : ArePlaces l.heads;
+  below : (limit : ℕ) → l.page < limit → AreBelow limit l.fn.heads → AreBelow limit l.heads;
+  content : (log : Log) → Stands l.fn.heads l.fn.effects.items log → SoFar log l.page l.texts l.counter l.rest l.heads l.effects.items;
+}

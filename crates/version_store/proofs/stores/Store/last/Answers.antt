@@ -1,0 +1,15 @@
+use Rattle.std.proofs.Common.{◌≡◌, ℕ, ◌<◌, Option, Some, None, sym, ◌∙◌, subst}
+use Rattle.std.specs.Prelude.{IfSome}
+use Rattle.std.specs.BTreeMap.{get}
+use Rattle.value_form.specs.declared.objects.ObjectId.{ObjectId}
+use Rattle.value_form.specs.Objects.{object_cmp}
+use Rattle.effect_form.specs.declared.effects.Place.{Place}
+use Rattle.version_store.specs.Heads.{Heads, AreBelow}
+use Rattle.version_store.proofs.stores.Store.last.Goals as goal
+
+found_below : (limit pages : ℕ) (heads : Heads) (object : ObjectId) (found : Option Place) → limit ≡ pages → found ≡ get object_cmp heads object → AreBelow limit heads → IfSome found (λ (p : Place). p.page < pages)
+found_below limit pages heads object None same is below = tt
+found_below limit pages heads object (Some place) same is below = subst (λ (n : ℕ). place.page < n) same (below object place (sym is))
+
+pub returns-clause-within : goal.returns-clause-within
+returns-clause-within g c = found_below c.args.self.now.pages _ c.args.self.now.heads c.args.object c.copied.result c.args.self.now.count (c.copied.ensures ∙ c.get.ensures.value) c.args.self.now.below

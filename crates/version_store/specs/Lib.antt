@@ -1,0 +1,10 @@
+pub mod Entries
+pub mod Faults
+pub mod Fetch
+pub mod Filling
+pub mod Found
+pub mod Heads
+pub mod Laying
+pub mod Settled
+pub mod Storage
+pub mod StoreWords

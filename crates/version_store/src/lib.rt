@@ -1,0 +1,20 @@
+//! Version storage: a log of effects on a medium, which only grows.
+#![tactic(auto)]
+
+mod faults;
+mod fetches;
+mod last_puts;
+mod laws;
+mod layouts;
+mod openings;
+mod page_reads;
+mod sizes;
+mod stores;
+mod writes;
+
+pub use faults::{FetchFault, OpenFault, StoreFault};
+pub use laws::{back_places_come_before, pages_keep_the_order, prefix_is_found};
+pub use stores::Store;
+
+#[cfg(test)]
+mod tests;

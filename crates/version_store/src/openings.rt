@@ -1,0 +1,110 @@
+ghost use Rattle.std.specs.Prelude.{◌≡◌, ◌≢◌, ◌+◌, ◌<◌, ◌≤◌, List, ℕ, IsTrue, true, false, length, Some, Err, IfOk, IfErr, OnOk, MatchBool, if◌then◌else◌};
+ghost use Rattle.stream_port.specs.Causes.{Rose};
+ghost use Rattle.medium_port.specs.Image.{Image, NoMore};
+ghost use Rattle.medium_port.specs.Moment.{LeavesOnly};
+ghost use Rattle.page_gate.specs.States.{is_blank};
+ghost use Rattle.page_gate.specs.declared.pages.PageState.TheVariants.{Blank};
+ghost use Rattle.version_store.specs.Entries.{Log};
+ghost use Rattle.version_store.specs.Faults.{fails_reading};
+ghost use Rattle.version_store.specs.Found.{Reached, reading_of};
+ghost use Rattle.version_store.specs.Heads.{AreBelow, ArePlaces, Stands};
+ghost use Rattle.version_store.specs.Storage.{Damaged, begun, next, scan};
+
+use crate::faults::OpenFault;
+use crate::page_reads::add_page;
+use effect_form::{Effect, Place};
+use medium_port::Medium;
+use page_gate::{PageState, look};
+use std::alloc::{AllocError, Global};
+use std::collections::BTreeMap;
+use value_form::ObjectId;
+
+/// What an opening has found so far.
+#[derive(Drop)]
+pub struct Found {
+    pub heads: BTreeMap<ObjectId, Place>,
+    pub effects: Vec<Effect>,
+    /// The page behind the last that isn't blank.
+    pub next: u32,
+    /// Whether a blank page was read.
+    pub ended: bool,
+}
+
+// Adds a page to what was found before it. False where no log has such a page here.
+fn add_state(
+    alloc: Global,
+    found: &mut Found,
+    page: u32,
+    state: &PageState,
+) -> Result<bool, AllocError>
+    requires page { page < 1048576 }
+    requires places { ArePlaces found.old.heads }
+    ensures found { (log : Log) → Stands found.old.heads found.old.effects.items log → IfOk result (λ b. MatchBool b ((more : Log) × (next (reading_of found.old.ended log) page state.now ≡ reading_of found.new.ended more) × Stands found.new.heads found.new.effects.items more) (next (reading_of found.old.ended log) page state.now ≡ Damaged page)) }
+    ensures next { IfOk result (λ b. b ≡ true → found.new.next ≡ (if found.new.ended then found.old.next else page + 1)) }
+    ensures marked { IfOk result (λ b. b ≡ false → state.now ≢ Blank) }
+    ensures places { OnOk result (ArePlaces found.new.heads) }
+    ensures below { (limit : ℕ) → page < limit → AreBelow limit found.old.heads → OnOk result (AreBelow limit found.new.heads) }
+{
+    match state {
+        PageState::Blank => {
+            found.ended = true;
+            Ok(true)
+        }
+        PageState::Spoiled => {
+            if found.ended {
+                return Ok(false);
+            }
+            found.next = page + 1;
+            Ok(true)
+        }
+        PageState::Gated(body) => {
+            if found.ended {
+                return Ok(false);
+            }
+            found.next = page + 1;
+            let good = add_page(alloc, &mut found.heads, &mut found.effects, page, body)?;
+            Ok(good)
+        }
+    }
+}
+
+/// What the pages of a medium hold, each read once. It stops at the first that no log has there.
+pub fn read_pages<M: Medium>(alloc: Global, medium: &mut M, pages: u32) -> Result<Found, OpenFault>
+    requires pages { pages ≡ M.page_count medium.old }
+    requires most { pages ≤ 1048576 }
+    requires open { M.is_failed medium.old ≡ false }
+    ensures found { IsTrue M.tells → length (M.reads medium.old) ≡ pages → IfOk result (λ f. Reached (M.reads medium.old) pages f.heads f.effects.items f.next f.ended) }
+    ensures damaged { IsTrue M.tells → length (M.reads medium.old) ≡ pages → IfErr result (λ e. (page : ℕ) → e ≡ OpenFault.Damaged page → scan begun 0 (M.reads medium.old) ≡ Damaged page) }
+    ensures shown { IfErr result (λ e. (page : ℕ) → e ≡ OpenFault.Damaged page → (bytes : List ℕ) × (M.last_page medium.new ≡ Some (page, bytes)) × (is_blank bytes ≡ false)) }
+    ensures within { IfOk result (λ f. f.next ≤ pages) }
+    ensures places { IfOk result (λ f. ArePlaces f.heads) }
+    ensures below { IfOk result (λ f. AreBelow pages f.heads) }
+    ensures reads { IsTrue M.tells → M.reads medium.new ≡ M.reads medium.old }
+    ensures crash { IsTrue M.tells → NoMore (M.may_leave medium.old) (M.may_leave medium.new) }
+    ensures any_moment { IsTrue M.tells → LeavesOnly M.moment M.left_since medium.old medium.new (M.may_leave medium.old) }
+    ensures size { M.page_count medium.new ≡ M.page_count medium.old }
+    ensures state { M.is_failed medium.new ≡ fails_reading result }
+    ensures later { M.faults medium.old ≤ M.faults medium.new }
+    ensures failed { IfErr result (λ e. e ≡ OpenFault.Medium → Rose (M.faults medium.old) (M.faults medium.new)) }
+{
+    let mut found = Found {
+        heads: BTreeMap::new(alloc),
+        effects: Vec::new(alloc),
+        next: 0,
+        ended: false,
+    };
+    for page in 0..pages {
+        match look(medium, page) {
+            Err(_) => return Err(OpenFault::Medium),
+            Ok(state) => match add_state(alloc, &mut found, page, &state) {
+                Err(_) => return Err(OpenFault::NoMemory),
+                Ok(good) => {
+                    if !good {
+                        return Err(OpenFault::Damaged { page });
+                    }
+                }
+            },
+        }
+    }
+    Ok(found)
+}

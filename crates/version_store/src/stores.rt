@@ -1,0 +1,258 @@
+ghost use Rattle.std.specs.Prelude.{◌≡◌, ◌≢◌, [], ◌+◌, ℕ, ◌<◌, ◌≤◌, ◌++◌, IsTrue, List, Ok, Err, Some, None, count_by, length, All, false, IfOk, IfErr, IfSome, OnOk, OnErr};
+ghost use Rattle.stream_port.specs.Causes.{Rose};
+ghost use Rattle.medium_port.specs.Image.{Image, Only, NoMore};
+ghost use Rattle.medium_port.specs.Moment.{LeavesOnly};
+ghost use Rattle.page_gate.specs.States.{is_blank};
+ghost use Rattle.version_store.specs.Entries.{Entry, IsBefore, IsIn, Log, last_put};
+ghost use Rattle.version_store.specs.Storage.{entries, storage, log_of};
+ghost use Rattle.version_store.specs.Filling.{HasBytes, HasPrefix, KeepsPages, StaysClean, filling};
+ghost use Rattle.version_store.specs.Faults.{fails_opening, fails_adding, fails_fetching};
+ghost use Rattle.version_store.specs.Fetch.{StandsAt, LastShows, damage_after};
+ghost use Rattle.version_store.specs.Heads.{AreBelow, ArePlaces, HeadsFit};
+ghost use Rattle.version_store.specs.Laying.{IsAtRest};
+ghost use Rattle.version_store.specs.Settled.{IsSettled};
+
+use crate::faults::{FetchFault, OpenFault, StoreFault};
+use crate::fetches::effect_on;
+use crate::layouts::lay_out;
+use crate::openings::{Found, read_pages};
+use crate::sizes::pages_filled;
+use crate::writes::write_pages;
+use effect_form::{Effect, Place};
+use medium_port::Medium;
+use page_gate::look;
+use std::alloc::Global;
+use std::collections::BTreeMap;
+use value_form::ObjectId;
+
+/// A log of effects on a medium (Svobodova 1981: version storage is only appended to). Where the
+/// medium tells its content, the log is the one that its pages stand for, and a crash leaves it.
+///
+/// In memory it keeps the place of each object's last Put, and nothing that grows with the log
+/// beside this.
+#[derive(Drop)]
+pub struct Store<M: Medium> {
+    alloc: Global,
+    medium: M,
+    pages: u32,
+    // The page that the next effects go to.
+    next: u32,
+    heads: BTreeMap<ObjectId, Place>,
+    damage: u64,
+    ghost count: { pages ≡ M.page_count medium },
+    ghost most: { pages ≤ 1048576 },
+    ghost in_range: { next ≤ pages },
+    ghost places: { ArePlaces heads },
+    ghost below: { AreBelow pages heads },
+    pub ghost settled: { IsTrue M.tells → IsSettled (M.reads medium) (M.may_leave medium) },
+    ghost at_rest: { IsTrue M.tells → IsAtRest (log_of (M.reads medium)) next (M.reads medium) (M.may_leave medium) },
+    ghost heads_fit: { IsTrue M.tells → HeadsFit heads (log_of (M.reads medium)) },
+}
+
+impl<M: Medium> Store<M> {
+    ghost use Rattle.version_store.specs.StoreWords.{medium_of, left_in, damage_in, log_in, effects_in, handed, opened};
+
+    /// Opens a medium: syncs it, reads every page once, and gives its effects. It writes nothing, and
+    /// a refusal hands the medium back.
+    ///
+    /// `Damaged` comes exactly where a page is gated and isn't a page of whole effects, or has a Put
+    /// whose back place isn't that of its object's Put before it, or isn't blank and stands behind a
+    /// blank one. It is the first such page, and the last that was read.
+    pub fn open(alloc: Global, mut medium: M) -> Result<(Store<M>, Vec<Effect>), (M, OpenFault)>
+        requires open { M.is_failed medium ≡ false }
+
+        // Ok comes only where what reads give has a log, whose effects these are.
+        ensures storage { IsTrue M.tells → IfOk result (λ r. storage (M.reads medium) ≡ Ok r.1.items) }
+        ensures effects { IsTrue M.tells → IfOk result (λ r. effects_in M.reads r.0 ≡ r.1.items) }
+        ensures log { IsTrue M.tells → IfOk result (λ r. entries (M.reads medium) ≡ Ok (log_in M.reads r.0)) }
+
+        // What reads give is as before, could be left before, and alone is left after Ok.
+        ensures reads { IsTrue M.tells → M.reads (opened result) ≡ M.reads medium }
+        ensures was { IsTrue M.tells → IfOk result (λ r. M.may_leave medium (M.reads (medium_of r.0))) }
+        ensures only { IsTrue M.tells → IfOk result (λ r. Only (M.reads medium) (M.may_leave (medium_of r.0))) }
+
+        // The first damaged page is told; over every medium it was read last and isn't blank.
+        ensures damaged { IsTrue M.tells → IfErr result (λ e. (page : ℕ) → e.1 ≡ OpenFault.Damaged page → storage (M.reads medium) ≡ Err page) }
+        ensures shown { IfErr result (λ e. (page : ℕ) → e.1 ≡ OpenFault.Damaged page → (bytes : List ℕ) × (M.last_page e.0 ≡ Some (page, bytes)) × (is_blank bytes ≡ false)) }
+
+        // No image is new at any moment.
+        ensures images { IsTrue M.tells → NoMore (M.may_leave medium) (M.may_leave (opened result)) }
+        ensures any_moment { IsTrue M.tells → LeavesOnly M.moment M.left_since medium (opened result) (M.may_leave medium) }
+
+        ensures undamaged { IfOk result (λ r. damage_in r.0 ≡ 0) }
+        ensures size { M.page_count (opened result) ≡ M.page_count medium }
+        ensures state { M.is_failed (opened result) ≡ fails_opening result }
+        ensures later { M.faults medium ≤ M.faults (opened result) }
+        ensures failed { IfErr result (λ e. e.1 ≡ OpenFault.Medium → Rose (M.faults medium) (M.faults e.0)) }
+    {
+        match medium.sync() {
+            Err(_) => Err((medium, OpenFault::Medium)),
+            Ok(()) => {
+                let pages = medium.pages();
+                match read_pages(alloc, &mut medium, pages) {
+                    Err(fault) => Err((medium, fault)),
+                    Ok(found) => {
+                        let Found {
+                            heads,
+                            effects,
+                            next,
+                            ended: _,
+                        } = found;
+                        let store = Store {
+                            alloc,
+                            medium,
+                            pages,
+                            next,
+                            heads,
+                            damage: 0,
+                        };
+                        Ok((store, effects))
+                    }
+                }
+            }
+        }
+    }
+
+    /// Adds the effects in order. A page takes as many of them as fit whole, and none of a call before.
+    /// A refusal hands the medium back. No effects touch no medium.
+    ///
+    /// A crash at any moment leaves the log with the effects of the first of the call's pages. `Full`
+    /// comes exactly where the effects need more pages than are blank; it and `NoMemory` come before
+    /// anything is written.
+    pub fn append(self, effects: &[Effect]) -> Result<Store<M>, (M, StoreFault)>
+        requires open { M.is_failed (medium_of self) ≡ false }
+        requires ranges { All HasBytes effects.now }
+
+        // Ok adds them all, on as many pages as they fill, and that is on the medium.
+        ensures added { IsTrue M.tells → IfOk result (λ s. effects_in M.reads s ≡ effects_in M.reads self ++ effects.now) }
+        ensures log { IsTrue M.tells → IfOk result (λ s. (more : Log) × (log_in M.reads s ≡ log_in M.reads self ++ more)) }
+        ensures left { IfOk result (λ s. left_in s + length (filling effects.now) ≡ left_in self) }
+        ensures only { IsTrue M.tells → IfOk result (λ s. Only (M.reads (medium_of s)) (M.may_leave (medium_of s))) }
+
+        // Each image that is left has a prefix, at every moment.
+        ensures images { IsTrue M.tells → (c : Image) → M.may_leave (handed result) c → HasPrefix (effects_in M.reads self) effects.now c }
+        ensures any_moment { IsTrue M.tells → LeavesOnly M.moment M.left_since (medium_of self) (handed result) (HasPrefix (effects_in M.reads self) effects.now) }
+
+        // Only pages that read blank are written, at every moment, and after Ok none of these reads spoiled.
+        ensures kept { IsTrue M.tells → LeavesOnly M.moment M.left_since (medium_of self) (handed result) (KeepsPages (M.reads (medium_of self))) }
+        ensures clean { IsTrue M.tells → IfOk result (λ s. StaysClean (M.reads (medium_of self)) (M.reads (medium_of s))) }
+
+        // Full comes exactly where the pages aren't there, and any fault but Medium before all writing.
+        ensures full { IfErr result (λ e. (pages : ℕ) → e.1 ≡ StoreFault.Full pages → (pages ≡ M.page_count (medium_of self)) × (left_in self < length (filling effects.now))) }
+        ensures fits { left_in self < length (filling effects.now) → result ≡ Err (medium_of self, StoreFault.Full (M.page_count (medium_of self))) }
+        ensures nothing { IfErr result (λ e. e.1 ≢ StoreFault.Medium → e.0 ≡ medium_of self) }
+        ensures idle { effects.now ≡ [] → result ≡ Ok self }
+
+        ensures damage { IfOk result (λ s. damage_in s ≡ damage_in self) }
+        ensures last { M.last_page (handed result) ≡ M.last_page (medium_of self) }
+        ensures size { M.page_count (handed result) ≡ M.page_count (medium_of self) }
+        ensures state { M.is_failed (handed result) ≡ fails_adding result }
+        ensures later { M.faults (medium_of self) ≤ M.faults (handed result) }
+        ensures failed { IfErr result (λ e. e.1 ≡ StoreFault.Medium → Rose (M.faults (medium_of self)) (M.faults e.0)) }
+    {
+        if effects.is_empty() {
+            return Ok(self);
+        }
+        let needed = pages_filled(effects);
+        let Store {
+            alloc,
+            mut medium,
+            pages,
+            next,
+            mut heads,
+            damage,
+        } = self;
+        if needed > (pages - next) as usize {
+            return Err((medium, StoreFault::Full { pages }));
+        }
+        match lay_out(alloc, &mut heads, next, effects) {
+            Err(_) => Err((medium, StoreFault::NoMemory)),
+            Ok(bodies) => match write_pages(&mut medium, next, &bodies) {
+                Err(_) => Err((medium, StoreFault::Medium)),
+                Ok(()) => Ok(Store {
+                    alloc,
+                    medium,
+                    pages,
+                    next: next + needed as u32,
+                    heads,
+                    damage,
+                }),
+            },
+        }
+    }
+
+    /// The effect at a place, and the back place of a Put. After `Medium` the store is only released.
+    ///
+    /// `Damaged` comes exactly where the page was read and doesn't have an effect there, or one whose
+    /// back place isn't before the place. The count of damage rises there and in no other call. It
+    /// never comes where the medium tells its content.
+    pub fn fetch(&mut self, place: Place) -> Result<(Effect, Option<Place>), FetchFault>
+        requires page { place.page < M.page_count (medium_of self.old) }
+        requires open { M.is_failed (medium_of self.old) ≡ false }
+        requires here { IsTrue M.tells → StandsAt (log_in M.reads self.old) place }
+
+        // It is the log's.
+        ensures found { IsTrue M.tells → (e : Entry) (i : ℕ) → IsIn (log_in M.reads self.old) e i → e.place ≡ place → IfOk result (λ r. (r.0 ≡ e.effect) × (r.1 ≡ e.back)) }
+        ensures sound { IsTrue M.tells → IfErr result (λ f. (page : ℕ) → f ≢ FetchFault.Damaged page) }
+
+        // Over every medium it is what the page shows that was read, and Damaged says that this is none.
+        ensures shown { IfOk result (λ r. LastShows (M.last_page (medium_of self.new)) place (Some (r.0, r.1))) }
+        ensures damaged { IfErr result (λ f. (page : ℕ) → f ≡ FetchFault.Damaged page → (page ≡ place.page) × LastShows (M.last_page (medium_of self.new)) place None) }
+        ensures before { IfOk result (λ r. IfSome r.1 (λ b. IsBefore b place × (b.page < M.page_count (medium_of self.new)))) }
+        ensures damage { damage_in self.new ≡ damage_after (damage_in self.old) result }
+
+        // The log, the medium's content and the pages left stay.
+        ensures reads { IsTrue M.tells → M.reads (medium_of self.new) ≡ M.reads (medium_of self.old) }
+        ensures left { left_in self.new ≡ left_in self.old }
+        ensures images { IsTrue M.tells → NoMore (M.may_leave (medium_of self.old)) (M.may_leave (medium_of self.new)) }
+        ensures any_moment { IsTrue M.tells → LeavesOnly M.moment M.left_since (medium_of self.old) (medium_of self.new) (M.may_leave (medium_of self.old)) }
+        ensures size { M.page_count (medium_of self.new) ≡ M.page_count (medium_of self.old) }
+        ensures state { M.is_failed (medium_of self.new) ≡ fails_fetching result }
+        ensures later { M.faults (medium_of self.old) ≤ M.faults (medium_of self.new) }
+        ensures failed { IfErr result (λ f. f ≡ FetchFault.Medium → Rose (M.faults (medium_of self.old)) (M.faults (medium_of self.new))) }
+    {
+        match look(&mut self.medium, place.page) {
+            Err(_) => Err(FetchFault::Medium),
+            Ok(state) => match effect_on(self.alloc, &state, place) {
+                Err(_) => Err(FetchFault::NoMemory),
+                Ok(Some(found)) => Ok(found),
+                Ok(None) => {
+                    self.damage = self.damage.saturating_add(1);
+                    Err(FetchFault::Damaged { page: place.page })
+                }
+            },
+        }
+    }
+
+    /// The place of the object's last Put in the log. None where it has none.
+    pub fn last(&self, object: ObjectId) -> Option<Place>
+        ensures within { IfSome result (λ p. p.page < M.page_count (medium_of self.now)) }
+        ensures log { IsTrue M.tells → result ≡ last_put (log_in M.reads self.now) object }
+    {
+        self.heads.get(&object).copied()
+    }
+
+    /// How many pages are blank.
+    pub fn pages_left(&self) -> u32
+        ensures left { result ≡ left_in self.now }
+        ensures most { result ≤ M.page_count (medium_of self.now) }
+        ensures blank { IsTrue M.tells → result ≡ count_by is_blank (M.reads (medium_of self.now)) }
+    {
+        self.pages - self.next
+    }
+
+    /// The medium.
+    pub fn release(self) -> M
+        ensures { result ≡ medium_of self }
+    {
+        let Store {
+            alloc: _,
+            medium,
+            pages: _,
+            next: _,
+            heads: _,
+            damage: _,
+        } = self;
+        medium
+    }
+}
