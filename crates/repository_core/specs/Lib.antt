@@ -1,0 +1,12 @@
+pub mod Books
+pub mod Hands
+pub mod Hearing
+pub mod Logs
+pub mod Ranges
+pub mod Rows
+pub mod Turns
+pub mod Works
+pub use Rattle.turn_form.specs.Posts
+pub use Rattle.object_history.specs.History
+pub use Rattle.object_history.specs.Answers
+pub use Rattle.object_history.specs.Causes

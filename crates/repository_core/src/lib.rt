@@ -1,0 +1,9 @@
+//! The rules of a repository: what it adds to its log and sends, for each message, decision and
+//! moment (Svobodova 1981).
+#![tactic(auto)]
+
+mod drafts;
+mod waits;
+mod works;
+
+pub use waits::{Asker, Held};
