@@ -1,11 +1,11 @@
-pub mod Books
+pub mod Accounts
 pub mod Hands
 pub mod Hearing
 pub mod Logs
+pub mod Lookups
 pub mod Ranges
 pub mod Rows
 pub mod Turns
-pub mod Works
 pub use Rattle.turn_form.specs.Posts
 pub use Rattle.object_history.specs.History
 pub use Rattle.object_history.specs.Answers

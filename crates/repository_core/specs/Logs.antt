@@ -11,6 +11,13 @@ use Rattle.commit_record.specs.declared.states.RecordState.{RecordState}
 use Rattle.commit_record.specs.declared.states.RecordState.TheVariants as state
 use Rattle.object_history.specs.declared.marks.Mark.{Mark}
 use Rattle.object_history.specs.declared.marks.Mark.TheVariants as mark
+use Rattle.pseudo_time.specs.TimeParts.{TimeParts}
+use Rattle.value_form.specs.declared.objects.ObjectId.{ObjectId}
+use Rattle.value_form.specs.declared.values.Value.{Value}
+use Rattle.object_history.specs.declared.steps.ReadStep.{ReadStep}
+use Rattle.object_history.specs.declared.steps.ReadStep.TheVariants as read
+use Rattle.object_history.specs.declared.steps.WriteStep.{WriteStep}
+use Rattle.object_history.specs.declared.steps.WriteStep.TheVariants as write
 use Rattle.object_history.specs.History.{or_else, settle_of}
 
 -- every decision but Committed is an abort
@@ -35,6 +42,19 @@ marks (Try i s ∷ l) = marks l
 marks (Got k v ∷ l) = marks l
 marks (Acked k ∷ l) = marks l
 marks (End i e ∷ l) = marks l
+
+-- the log after a read that is answered so
+abbrev pub read_by : List Effect → ObjectId → TimeParts → ReadStep → List Effect
+read_by l o t (read.Answer v true) = Stretch o t ∷ l
+read_by l o t (read.Answer v false) = l
+read_by l o t (read.Wait s) = l
+
+-- the log after a write that is answered so
+abbrev pub wrote : List Effect → ObjectId → TimeParts → Value → WriteStep → List Effect
+wrote l o t v write.Put = Put o t v ∷ l
+wrote l o t v write.Again = l
+wrote l o t v (write.LaterVersion x) = l
+wrote l o t v (write.LaterRead e) = l
 
 -- how the attempt was settled, if it is known: the first Decide or Learn counts
 abbrev pub known : List Effect → StampParts → Option Bool

@@ -1,30 +1,24 @@
 ghost use Rattle.std.specs.Prelude.{◌≡◌, ◌+◌, ◌≤◌, ◌^◌, not, List, [], ◌∷◌, ◌++◌, map, reverse, IfOk, OnOk};
 ghost use Rattle.std.specs.List.{filter};
 ghost use Rattle.std.specs.BTreeSet.{insert_key};
-ghost use Rattle.pseudo_time.specs.TimeParts.{TimeParts};
-ghost use Rattle.message_form.specs.declared.messages.Message.TheVariants as message;
-ghost use Rattle.object_history.specs.declared.steps.ReadStep.{ReadStep};
-ghost use Rattle.object_history.specs.declared.steps.ReadStep.TheVariants as read_step;
-ghost use Rattle.repository_core.specs.Ranges.{AreHeld};
-ghost use Rattle.repository_core.specs.declared.waits.Held.{Held};
 ghost use Rattle.pseudo_time.specs.Order.{same_stamp};
-ghost use Rattle.pseudo_time.specs.Lists.{Every};
 ghost use Rattle.value_form.specs.ObjectBytes.{IsObject};
+ghost use Rattle.message_form.specs.Messages.{IsMessage};
 ghost use Rattle.repository_core.specs.Hands as hands;
 ghost use Rattle.repository_core.specs.Rows as rows;
 ghost use Rattle.repository_core.specs.Hearing as hearing;
+ghost use Rattle.repository_core.specs.Ranges.{AreHeld, IsEffect, AreEffects, AreOuts};
 
 use crate::waits::{Asker, Held};
 use effect_form::Effect;
 use message_form::Message;
-use pseudo_time::{NodeId, NodeKind, PseudoTime, Stamp};
+use pseudo_time::{NodeId, PseudoTime, Stamp};
 use std::alloc::{AllocError, Global};
 use std::collections::{BTreeMap, BTreeSet};
 use std::marker::Model;
 use std::mem::replace;
 use std::snapshot::Snapshot;
 use turn_form::{Out, Turn};
-use value_form::{ObjectId, Value};
 
 /// A turn while it is in hand, with what the repository remembers beside its log. Contracts see a
 /// hand. A call that answers an error found no memory; the draft is then of no use.
@@ -44,7 +38,7 @@ pub struct Draft {
 impl Model for Draft {
     ghost use Rattle.std.specs.Prelude.{◌≤◌, ◌^◌, reverse, map};
     ghost use Rattle.repository_core.specs.Hands.{Hand};
-    ghost use Rattle.repository_core.specs.Ranges.{AreHeld};
+    ghost use Rattle.repository_core.specs.Ranges.{AreHeld, AreEffects, AreOuts};
 
     ghost Value = { Hand };
 
@@ -58,7 +52,7 @@ impl Model for Draft {
         moment = d.moment;
     } };
 
-    ghost invariant = { λ d. (d.moment ≤ 2 ^ 63) × AreHeld d.held.entries };
+    ghost invariant = { λ d. (d.moment ≤ 2 ^ 63) × AreHeld d.held.entries × AreEffects d.effects.items × AreOuts d.outs.items };
 }
 
 impl Draft {
@@ -89,6 +83,7 @@ impl Draft {
 
     /// Adds an effect.
     pub fn note(&mut self, effect: Effect) -> Result<(), AllocError>
+        requires { IsEffect effect }
         ensures { OnOk result (self.new ≡ hands.note effect self.old) }
     {
         self.effects.push(effect)?;
@@ -97,6 +92,7 @@ impl Draft {
 
     /// Owes a message.
     pub fn send(&mut self, to: NodeId, message: Message) -> Result<(), AllocError>
+        requires { IsMessage message }
         ensures { OnOk result (self.new ≡ hands.send to message self.old) }
     {
         self.outs.push(Out { to, message })?;
@@ -110,6 +106,13 @@ impl Draft {
         self.moment + u64::from(timeout)
     }
 
+    /// The repository's number.
+    pub fn number(&self) -> u8
+        ensures { result ≡ self.now.number }
+    {
+        self.number
+    }
+
     /// A moment is heard.
     pub fn hear(&mut self, moment: u64)
         requires { moment ≤ 2 ^ 63 }
@@ -118,15 +121,15 @@ impl Draft {
         self.moment = moment;
     }
 
-    // A read is no longer held.
-    fn unhold(&mut self, at: PseudoTime)
+    /// A read is no longer held.
+    pub fn unhold(&mut self, at: PseudoTime)
         ensures { self.new ≡ rows.unhold at self.old }
     {
         self.held.remove(&at);
     }
 
-    // A read is held.
-    fn keep(&mut self, at: PseudoTime, held: Held) -> Result<(), AllocError>
+    /// A read is held.
+    pub fn keep(&mut self, at: PseudoTime, held: Held) -> Result<(), AllocError>
         requires { IsObject held.object }
         ensures { OnOk result (self.new ≡ rows.hold at held self.old) }
     {
@@ -134,34 +137,8 @@ impl Draft {
         Ok(())
     }
 
-    /// A read is answered. Where `stretch` holds, that is an effect.
-    pub fn answer(
-        &mut self,
-        from: NodeId,
-        at: PseudoTime,
-        object: ObjectId,
-        value: Value,
-        stretch: bool,
-    ) -> Result<(), AllocError>
-        ensures { (before : List (TimeParts × Held)) → OnOk result (self.new ≡ rows.read_as before (rows.unhold at self.old) from at object (read_step.Answer value stretch)) }
-    {
-        self.unhold(at);
-        if stretch {
-            self.note(Effect::Stretch { object, at })?;
-        }
-        self.send(from, Message::Value { at, value })
-    }
-
-    /// A read of an attempt that is known aborted has ended.
-    pub fn end_read(&mut self, from: NodeId, at: PseudoTime) -> Result<(), AllocError>
-        ensures { OnOk result (self.new ≡ hands.send from (message.Ended at) (rows.unhold at self.old)) }
-    {
-        self.unhold(at);
-        self.send(from, Message::Ended { at })
-    }
-
-    // Whether a read is held for the attempt.
-    fn waits_for(&self, stamp: Stamp) -> bool
+    /// Whether a read is held for the attempt.
+    pub fn waits_for(&self, stamp: Stamp) -> bool
         ensures { result ≡ rows.waits_for stamp self.now.held }
     {
         for (_, held) in &self.held {
@@ -170,28 +147,6 @@ impl Draft {
             }
         }
         false
-    }
-
-    /// A read is held, and the home of the attempt is asked, unless that is here or was asked for a
-    /// read that was held just before.
-    pub fn hold(
-        &mut self,
-        from: NodeId,
-        at: PseudoTime,
-        object: ObjectId,
-        waits: Stamp,
-    ) -> Result<(), AllocError>
-        requires { IsObject object }
-        ensures { OnOk result (self.new ≡ rows.read_as self.old.held (rows.unhold at self.old) from at object (read_step.Wait waits)) }
-    {
-        let home = waits.home();
-        let is_asked = home == self.number || self.waits_for(waits);
-        self.unhold(at);
-        self.keep(at, Held { from, object, waits })?;
-        if is_asked {
-            return Ok(());
-        }
-        self.send(repository(home), Message::Ask { stamp: waits })
     }
 
     // The held reads that wait for the attempt.
@@ -227,8 +182,8 @@ impl Draft {
         Ok(released)
     }
 
-    // Those who ask for the attempt.
-    fn asking(&self, stamp: Stamp) -> Result<Vec<Asker>, AllocError>
+    /// Those who ask for the attempt.
+    pub fn asking(&self, stamp: Stamp) -> Result<Vec<Asker>, AllocError>
         ensures { IfOk result (λ v. v.items ≡ filter (λ a. same_stamp a.stamp stamp) self.now.askers) }
     {
         let mut asking = Vec::new(self.alloc);
@@ -240,25 +195,12 @@ impl Draft {
         Ok(asking)
     }
 
-    // None asks for the attempt any more.
-    fn forget_asking(&mut self, stamp: Stamp)
+    /// None asks for the attempt any more.
+    pub fn forget_asking(&mut self, stamp: Stamp)
         ensures { self.new ≡ record self.old { askers = filter (λ a. not (same_stamp a.stamp stamp)) self.old.askers } }
     {
         self.askers
             .retain(|asker| !is_same_stamp(asker.stamp, stamp));
-    }
-
-    /// Tells each asker of the attempt how it was decided.
-    #[tactic(auto, unfolding(crate::specs::Rows::tell_askers))]
-    pub fn tell_askers(&mut self, stamp: Stamp, committed: bool) -> Result<(), AllocError>
-        ensures { OnOk result (self.new ≡ rows.tell_askers stamp committed self.old) }
-    {
-        let askers = self.asking(stamp)?;
-        self.forget_asking(stamp);
-        for asker in &askers {
-            self.send(repository(asker.repository), Message::Tell { stamp, committed })?;
-        }
-        Ok(())
     }
 
     /// Keeps an asker, once.
@@ -269,8 +211,8 @@ impl Draft {
         Ok(())
     }
 
-    // The attempts with another home for which reads are held.
-    fn waited(&self) -> Result<BTreeSet<Stamp>, AllocError>
+    /// The attempts with another home for which reads are held.
+    pub fn waited(&self) -> Result<BTreeSet<Stamp>, AllocError>
         ensures { IfOk result (λ w. w.keys ≡ hearing.waited self.now.number self.now.held []) }
     {
         let mut waited = BTreeSet::new(self.alloc);
@@ -280,18 +222,6 @@ impl Draft {
             }
         }
         Ok(waited)
-    }
-
-    /// Asks the home of each attempt for which a read is held again.
-    #[tactic(auto, unfolding(crate::specs::Hearing::ask_again))]
-    pub fn ask_again(&mut self) -> Result<(), AllocError>
-        ensures { OnOk result (self.new ≡ hearing.ask_again self.old) }
-    {
-        let waited = self.waited()?;
-        for stamp in &waited {
-            self.send(repository(stamp.home()), Message::Ask { stamp: *stamp })?;
-        }
-        Ok(())
     }
 
     // The effects of the turn stand in the log.
@@ -306,6 +236,7 @@ impl Draft {
         ensures effects { result.effects ≡ reverse self.old.fresh }
         ensures outs { result.outs ≡ self.old.outs }
         ensures closed { self.new ≡ record self.old { fresh = []; outs = [] } }
+        ensures in_range { AreEffects result.effects × AreOuts result.outs }
     {
         let effects = replace(&mut self.effects, Vec::new(self.alloc));
         let outs = replace(&mut self.outs, Vec::new(self.alloc));
@@ -317,6 +248,7 @@ impl Draft {
         ensures effects { IfOk result (λ t. t.effects ≡ reverse self.old.fresh) }
         ensures outs { IfOk result (λ t. t.outs ≡ self.old.outs) }
         ensures closed { OnOk result (self.new ≡ record self.old { base = hands.now self.old; fresh = []; outs = [] }) }
+        ensures in_range { IfOk result (λ t. AreEffects t.effects × AreOuts t.outs) }
     {
         self.log_effects()?;
         let turn = self.take();
@@ -332,15 +264,6 @@ fn log_all(log: &mut Vec<Snapshot<Effect>>, effects: &[Effect]) -> Result<(), Al
         log.push(Snapshot::of(effect))?;
     }
     Ok(())
-}
-
-fn repository(number: u8) -> NodeId
-    ensures { result ≡ hands.repository number }
-{
-    NodeId {
-        kind: NodeKind::Repository,
-        number,
-    }
 }
 
 fn is_same_stamp(a: Stamp, b: Stamp) -> bool

@@ -2,8 +2,9 @@
 //! moment (Svobodova 1981).
 #![tactic(auto)]
 
+mod books;
 mod drafts;
+mod replies;
 mod waits;
-mod works;
 
 pub use waits::{Asker, Held};

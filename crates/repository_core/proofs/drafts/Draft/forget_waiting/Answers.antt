@@ -15,6 +15,8 @@ invariant_of-self c =
       c.self.invariant.0,
       subst AreHeld (sym (filter_same_pairs _ (λ e. not (same_stamp e.1.waits c.args.stamp)) _ (λ k v b w f' t. search rules) _ _ c.retain.ensures.filtered))
       (every-filter (λ e. IsObject e.1.object) (λ e. not (same_stamp e.1.waits c.args.stamp)) c.self.inside.held.entries c.self.invariant.1),
+      c.self.invariant.2,
+      c.self.invariant.3,
     )
 
 pub returns : goal.returns
