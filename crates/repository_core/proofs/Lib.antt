@@ -1,2 +1,6 @@
 pub mod BookLemmas
+pub mod ExpiryLemmas
 pub mod HeldLemmas
+pub mod LogLemmas
+pub mod RowLemmas
+pub mod SettleLemmas

@@ -1,5 +1,5 @@
 -- A repository's turn while it is in hand: what it was given, and what it has added and owes so far.
-use Rattle.std.specs.Prelude.{ℕ, List, [], ◌∷◌, ◌++◌}
+use Rattle.std.specs.Prelude.{◌≡◌, ℕ, List, [], ◌∷◌, ◌++◌}
 use Rattle.std.specs.Ordering.{nat_cmp, ordering_then}
 use Rattle.std.specs.declared.cmp.Ordering.{Ordering}
 use Rattle.pseudo_time.specs.StampParts.{stamp_cmp}
@@ -52,3 +52,7 @@ broker n = record { kind = kind.Broker; number = n }
 -- by the repository's number, then the stamp
 abbrev pub asker_cmp : Asker → Asker → Ordering
 asker_cmp a b = ordering_then (nat_cmp a.repository b.repository) (stamp_cmp a.stamp b.stamp)
+
+-- the repository is the same, and so is its log as the turn began
+abbrev pub HasSameLog : Hand → Hand → Type 0
+HasSameLog old new = (new.number ≡ old.number) × (new.base ≡ old.base)

@@ -1,9 +1,10 @@
 -- What a repository does when it hears a moment: records expire, and it asks again for what its reads wait for.
-use Rattle.std.specs.Prelude.{ℕ, nat_le, Bool, true, false, List, [], ◌∷◌, Option, Some, None, ◌==◌, if◌then◌else◌}
+use Rattle.std.specs.Prelude.{ℕ, nat_le, Bool, true, false, List, [], ◌∷◌, Option, Some, None, map, ◌==◌, if◌then◌else◌}
 use Rattle.std.specs.List.{filter}
 use Rattle.std.specs.BTreeSet.{insert_key}
 use Rattle.pseudo_time.specs.StampParts.{StampParts, stamp_cmp}
 use Rattle.pseudo_time.specs.TimeParts.{TimeParts}
+use Rattle.pseudo_time.specs.declared.decisions.Decision.{Decision}
 use Rattle.pseudo_time.specs.declared.decisions.Decision.TheVariants as decision
 use Rattle.effect_form.specs.declared.effects.Effect.{Effect}
 use Rattle.effect_form.specs.declared.effects.Effect.TheVariants as effect
@@ -24,6 +25,21 @@ is_due m (Some (state.Decided d)) = false
 -- the attempts whose records expire at this moment, in the order of their stamps
 abbrev pub due : ℕ → List Effect → List StampParts
 due m l = filter (λ s. is_due m (record_of l s)) (begun l)
+
+-- by what decision a record expires at this moment
+abbrev pub expiry_of : ℕ → Option RecordState → Decision
+expiry_of m None = decision.Withdrawn
+expiry_of m (Some (state.Unknown t)) = decision.Expired t m
+expiry_of m (Some (state.Decided d)) = d
+
+-- those attempts, each with the decision by which it expires
+abbrev pub expiries : ℕ → List Effect → List (StampParts × Decision)
+expiries m l = map (λ s. (s, expiry_of m (record_of l s))) (due m l)
+
+-- one after the other expires, without being asked again
+abbrev pub expired : List (StampParts × Decision) → Hand → Hand
+expired [] h = h
+expired (e ∷ more) h = expired more (release e.0 (tell_askers e.0 false (note (effect.Decide e.0 e.1) h)))
 
 abbrev pub expire_as : ℕ → StampParts → Hand → Option RecordState → Hand
 expire_as m s h None = h

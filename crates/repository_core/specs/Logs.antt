@@ -1,5 +1,5 @@
 -- What a repository's log says of attempts and objects. Logs stand newest first.
-use Rattle.std.specs.Prelude.{ℕ, Bool, true, false, List, [], ◌∷◌, Option, Some, None, ◌||◌, if◌then◌else◌}
+use Rattle.std.specs.Prelude.{◌≡◌, ℕ, Bool, true, false, List, [], ◌∷◌, Option, Some, None, ◌||◌, if◌then◌else◌}
 use Rattle.std.specs.BTreeSet.{insert_key}
 use Rattle.pseudo_time.specs.StampParts.{StampParts, stamp_cmp}
 use Rattle.pseudo_time.specs.Order.{same_stamp}
@@ -121,6 +121,14 @@ record_from (Some t) (Some d) = Some (state.Decided d)
 abbrev pub record_of : List Effect → StampParts → Option RecordState
 record_of l s = record_from (first_begin l s) (decision_of l s)
 
+-- the log after a Begin: it is added where there is no record
+abbrev pub began_by : Option RecordState → List Effect → StampParts → ℕ → List Effect
+began_by None l s d = Begin s d ∷ l
+began_by (Some r) l s d = l
+
+abbrev pub began : List Effect → StampParts → ℕ → List Effect
+began l s d = began_by (record_of l s) l s d
+
 -- the attempts that have begun, in the order of their stamps
 abbrev pub begun : List Effect → List StampParts
 begun [] = []
@@ -135,3 +143,11 @@ begun (Try i s ∷ l) = begun l
 begun (Got k v ∷ l) = begun l
 begun (Acked k ∷ l) = begun l
 begun (End i e ∷ l) = begun l
+
+-- every commit record stays as it was
+abbrev pub HasSameRecords : List Effect → List Effect → Type 0
+HasSameRecords old new = (s : StampParts) → record_of new s ≡ record_of old s
+
+-- the attempt's record is unknown
+abbrev pub IsUnknown : List Effect → StampParts → Type 0
+IsUnknown l s = (t : ℕ) × (record_of l s ≡ Some (state.Unknown t))

@@ -6,5 +6,6 @@ mod books;
 mod drafts;
 mod replies;
 mod waits;
+mod works;
 
 pub use waits::{Asker, Held};
