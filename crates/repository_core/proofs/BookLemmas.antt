@@ -74,6 +74,10 @@ module _ {H B : Type 0} (content : H → List Mark) (below : H → B) (faults da
   since_settle first old new f since grown same k d =
       since_step first old new (subst (Begins (content first)) (sym grown) (begins-with (content first) (content old) f since.begins)) since same k d
 
+  -- the same histories
+  pub since_same : (first old then new : H) → then ≡ first → new ≡ old → Since content below faults damage first old → Since content below faults damage then new
+  since_same first old then new e f since = subst (λ x. Since content below faults damage x new) (sym e) (subst (λ x. Since content below faults damage first x) (sym f) since)
+
 -- ---- a log with one effect more
 
 agree-stretch : (p : List (StampParts × Decision)) (l : List Effect) (m : List Mark) (r : States) (e : List (StampParts × Decision)) (o : ObjectId) (t : TimeParts) → Agrees p l m r e → Agrees p (Stretch o t ∷ l) (mark.Stretch o t ∷ m) r e

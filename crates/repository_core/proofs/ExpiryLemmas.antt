@@ -193,9 +193,12 @@ find-expiries m l q =
     ∙ ap (λ z. is_due m (record_of l q) && z) (any-begun q l))
     ∙ by-record m (first_begin l q) (decision_of l q)
 
+pub sorted-expiries : (m : ℕ) (l : List Effect) → T (is_sorted stamp_cmp (expiries m l))
+sorted-expiries m l = sorted-filter (λ s. expiry_of m (record_of l s)) (λ s. is_due m (record_of l s)) (begun l) (sorted-begun (λ s. expiry_of m (record_of l s)) l)
+
 -- a rising list that has each expiry is the list of them
 pub expiries-are : (m : ℕ) (l : List Effect) (es : Entries) → IsStrictlySortedBy stamp_cmp (map (λ e. e.0) es) → ((q : StampParts) → listed_at es q ≡ expiry m (record_of l q)) → es ≡ expiries m l
 expiries-are m l es order listed =
     same_entries stamp_cmp stamp_cmp-total stamp_cmp-exact es (expiries m l) (sorted-from es order)
-    (sorted-filter (λ s. expiry_of m (record_of l s)) (λ s. is_due m (record_of l s)) (begun l) (sorted-begun (λ s. expiry_of m (record_of l s)) l))
+    (sorted-expiries m l)
     (λ q. find-listed es q ∙ listed q ∙ sym (find-expiries m l q))

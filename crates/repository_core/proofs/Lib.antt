@@ -1,5 +1,6 @@
 pub mod BookLemmas
 pub mod ExpiryLemmas
+pub mod HearLemmas
 pub mod HeldLemmas
 pub mod LogLemmas
 pub mod RowLemmas

@@ -13,6 +13,7 @@ use Rattle.object_history.specs.declared.steps.ReadStep.TheVariants as read
 use Rattle.object_history.specs.declared.steps.WriteStep.{WriteStep}
 use Rattle.object_history.specs.declared.steps.WriteStep.TheVariants as write
 use Rattle.repository_core.specs.declared.waits.Held.{Held}
+use Rattle.repository_core.specs.declared.waits.Asker.{Asker}
 use Rattle.std.specs.Prelude.{not}
 use Rattle.std.proofs.lemmas.List.{drop_all, drop_more}
 use Rattle.std.specs.List.{filter}
@@ -22,7 +23,7 @@ use Rattle.object_history.specs.Answers.{read_step}
 use Rattle.repository_core.specs.Ranges.{AreHeld}
 use Rattle.repository_core.specs.Logs.{first_begin, decision_of, marks, known, read_by, wrote, HasSameRecords}
 use Rattle.repository_core.specs.Hands.{Hand, now, note, send, repository, HasSameLog}
-use Rattle.repository_core.specs.Rows.{unhold, hold, waits_for, ask_for, read_as, read_known, on_read, write_as, reread, release, learn_as, on_learn}
+use Rattle.repository_core.specs.Rows.{unhold, hold, waits_for, ask_for, read_as, read_known, on_read, write_as, reread, release, learn_as, on_learn, tells, tell_askers}
 
 now-if : (b : Bool) (x y : Hand) (l : List Effect) → now x ≡ l → now y ≡ l → now (if b then x else y) ≡ l
 now-if true x y l h k = h
@@ -85,3 +86,21 @@ held-next xs i x h e held = let k : AreHeld (x ∷ drop (i + 1) xs) = subst AreH
 pub reread-next : (xs : List (TimeParts × Held)) (i : ℕ) (x : TimeParts × Held) (g g' : Hand) → i < length xs → x ≡ get_or xs i x → g' ≡ on_read g x.1.from x.0 x.1.object
     → reread (drop (i + 1) xs) g' ≡ reread (drop i xs) g
 reread-next xs i x g g' h e is = ap (λ z. reread (drop (i + 1) xs) z) is ∙ ap (λ z. reread z g) (sym (next xs i x h e))
+
+-- ---- Tells
+
+tells-now : (askers : List Asker) (s : StampParts) (c : Bool) (h : Hand) → now (tells askers s c h) ≡ now h
+tells-now [] s c h = refl
+tells-now (a ∷ more) s c h = tells-now more s c (send (repository a.repository) (message.Tell s c) h)
+
+tells-log : (askers : List Asker) (s : StampParts) (c : Bool) (h : Hand) → HasSameLog h (tells askers s c h)
+tells-log [] s c h = (refl, refl)
+tells-log (a ∷ more) s c h = tells-log more s c (send (repository a.repository) (message.Tell s c) h)
+
+pub tell-now : (s : StampParts) (c : Bool) (h : Hand) → now (tell_askers s c h) ≡ now h
+unfolding tell_askers
+tell-now s c h = tells-now (filter (λ a. same_stamp a.stamp s) h.askers) s c (record h { askers = filter (λ a. not (same_stamp a.stamp s)) h.askers })
+
+pub tell-log : (s : StampParts) (c : Bool) (h : Hand) → HasSameLog h (tell_askers s c h)
+unfolding tell_askers
+tell-log s c h = tells-log (filter (λ a. same_stamp a.stamp s) h.askers) s c (record h { askers = filter (λ a. not (same_stamp a.stamp s)) h.askers })

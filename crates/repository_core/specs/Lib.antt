@@ -1,4 +1,5 @@
 pub mod Accounts
+pub mod Cores
 pub mod Hands
 pub mod Hearing
 pub mod Logs

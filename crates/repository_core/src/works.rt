@@ -1,4 +1,4 @@
-ghost use Rattle.std.specs.Prelude.{◌≡◌, ◌≤◌, ◌^◌, ℕ, Some, None, IsTrue, OnOk, IfErr, List, true, false};
+ghost use Rattle.std.specs.Prelude.{◌≡◌, ◌≤◌, ◌^◌, ℕ, Some, None, IsTrue, OnOk, IfErr, List, ◌∷◌, true, false};
 ghost use Rattle.pseudo_time.specs.StampParts.{StampParts};
 ghost use Rattle.pseudo_time.specs.declared.decisions.Decision.{Decision};
 ghost use Rattle.value_form.specs.ObjectBytes.{IsObject};
@@ -7,6 +7,7 @@ ghost use Rattle.effect_form.specs.declared.effects.Effect.TheVariants as effect
 ghost use Rattle.message_form.specs.declared.messages.Message.TheVariants as message;
 ghost use Rattle.message_form.specs.Messages.{IsMessage};
 ghost use Rattle.commit_record.specs.declared.states.RecordState.TheVariants as record_state;
+ghost use Rattle.commit_record.specs.States.{listed_at};
 ghost use Rattle.object_history.specs.History.{settle_of};
 ghost use Rattle.object_history.specs.Answers.{read_step, write_step, stands_written};
 ghost use Rattle.object_history.specs.declared.steps.WriteStep.{WriteStep};
@@ -18,8 +19,9 @@ ghost use Rattle.repository_core.specs.Hearing as hearing;
 use crate::books::{Books, is_commit};
 use crate::drafts::Draft;
 use commit_record::{BeginStep, RecordState};
+use message_form::Message;
 use object_history::{Histories, HistoryFault};
-use pseudo_time::{Decision, NodeId, PseudoTime, Stamp};
+use pseudo_time::{Decision, NodeId, NodeKind, PseudoTime, Stamp};
 use std::alloc::Global;
 use value_form::{ObjectId, Value};
 
@@ -206,6 +208,7 @@ impl<H: Histories> Work<H> {
     // Decides an unknown record, in the books and in the log.
     fn decide(&mut self, stamp: Stamp, decision: Decision) -> Result<(), HistoryFault>
         requires unsettled { settle_of (H.content self.old.books.histories) stamp ≡ None }
+        requires unknown { IsUnknown (now self.old.draft) stamp }
         requires agreed { AgreeWith H.content (now self.old.draft) self.old.books }
         requires since { AreSince H.content H.below H.faults H.damage self.old.books }
         ensures agreed { OnOk result (AgreeWith H.content (now self.new.draft) self.new.books) }
@@ -330,4 +333,131 @@ impl<H: Histories> Work<H> {
         }
         Ok(())
     }
+
+    // Carries a message out that isn't ignored.
+    fn on_row(&mut self, from: NodeId, message: &Message) -> Result<(), HistoryFault>
+        requires message { IsMessage message.now }
+        requires agreed { AgreeWith H.content (now self.old.draft) self.old.books }
+        requires since { AreSince H.content H.below H.faults H.damage self.old.books }
+        ensures agreed { OnOk result (AgreeWith H.content (now self.new.draft) self.new.books) }
+        ensures since { AreSince H.content H.below H.faults H.damage self.new.books }
+        ensures fault { IfErr result (HaveFault H.tells H.faults H.damage self.new.books) }
+        ensures call { AreOfOneCall self.old.books self.new.books }
+        ensures log { OnOk result (HasSameLog self.old.draft self.new.draft) }
+        ensures gives { IsTrue H.tells → OnOk result (self.new.draft ≡ rows.row self.old.draft from message.now) }
+    {
+        match message {
+            Message::Begin { stamp, timeout } => self.on_begin(from, *stamp, *timeout),
+            Message::Commit { stamp } => self.on_close(from, *stamp, Decision::Committed),
+            Message::Withdraw { stamp } => self.on_close(from, *stamp, Decision::Withdrawn),
+            Message::Read { at, object } => self.on_read(from, *at, *object),
+            Message::Write { at, object, value } => self.on_write(from, *at, *object, value),
+            Message::Ask { stamp } => self.on_ask(from, *stamp),
+            Message::Tell { stamp, committed } => self.on_learn(*stamp, *committed),
+            _ => Ok(()),
+        }
+    }
+
+    /// Takes a message.
+    #[tactic(auto, unfolding(crate::specs::Rows::on_message))]
+    pub fn on_message(&mut self, from: NodeId, message: &Message) -> Result<(), HistoryFault>
+        requires message { IsMessage message.now }
+        requires agreed { AgreeWith H.content (now self.old.draft) self.old.books }
+        requires since { AreSince H.content H.below H.faults H.damage self.old.books }
+        ensures agreed { OnOk result (AgreeWith H.content (now self.new.draft) self.new.books) }
+        ensures since { AreSince H.content H.below H.faults H.damage self.new.books }
+        ensures fault { IfErr result (HaveFault H.tells H.faults H.damage self.new.books) }
+        ensures call { AreOfOneCall self.old.books self.new.books }
+        ensures log { OnOk result (HasSameLog self.old.draft self.new.draft) }
+        ensures gives { IsTrue H.tells → OnOk result (self.new.draft ≡ rows.on_message self.old.draft from message.now) }
+    {
+        if accepts(self.draft.number(), from, message) {
+            self.on_row(from, message)?;
+        }
+        Ok(())
+    }
+
+    // A record expires, which is decided in the books already.
+    fn expire(&mut self, stamp: Stamp, decision: Decision) -> Result<(), HistoryFault>
+        requires unsettled { settle_of (H.content self.old.books.histories) stamp ≡ None }
+        requires since { AreSince H.content H.below H.faults H.damage self.old.books }
+        ensures agreed { (rest : List (StampParts × Decision)) → IsUnknown (now self.old.draft) stamp → listed_at rest stamp ≡ None → AgreeBut H.content ((stamp, decision) ∷ rest) (now self.old.draft) self.old.books → OnOk result (AgreeBut H.content rest (now self.new.draft) self.new.books) }
+        ensures records { OnOk result ((s : StampParts) → record_of (now self.new.draft) s ≡ record_of (effect.Decide stamp decision ∷ now self.old.draft) s) }
+        ensures since { AreSince H.content H.below H.faults H.damage self.new.books }
+        ensures fault { IfErr result (HaveFault H.tells H.faults H.damage self.new.books) }
+        ensures call { AreOfOneCall self.old.books self.new.books }
+        ensures log { OnOk result (HasSameLog self.old.draft self.new.draft) }
+        ensures gives { (rest : List (StampParts × Decision)) → IsTrue H.tells → IsUnknown (now self.old.draft) stamp → listed_at rest stamp ≡ None → AgreeBut H.content ((stamp, decision) ∷ rest) (now self.old.draft) self.old.books → OnOk result (self.new.draft ≡ rows.release stamp (rows.tell_askers stamp false (note (effect.Decide stamp decision) self.old.draft))) }
+    {
+        self.books.expire(stamp, decision)?;
+        self.draft.decide(stamp, decision)?;
+        self.draft.tell_askers(stamp, false)?;
+        self.release(stamp)?;
+        Ok(())
+    }
+
+    // Each of these records expires, in order.
+    fn expire_all(&mut self, moment: u64) -> Result<(), HistoryFault>
+        requires agreed { AgreeWith H.content (now self.old.draft) self.old.books }
+        requires since { AreSince H.content H.below H.faults H.damage self.old.books }
+        ensures agreed { OnOk result (AgreeWith H.content (now self.new.draft) self.new.books) }
+        ensures since { AreSince H.content H.below H.faults H.damage self.new.books }
+        ensures fault { IfErr result (HaveFault H.tells H.faults H.damage self.new.books) }
+        ensures call { AreOfOneCall self.old.books self.new.books }
+        ensures log { OnOk result (HasSameLog self.old.draft self.new.draft) }
+        ensures gives { IsTrue H.tells → OnOk result (self.new.draft ≡ hearing.expired (hearing.expiries moment (now self.old.draft)) self.old.draft) }
+    {
+        let due = self.books.hear(moment)?;
+        for (stamp, decision) in &due {
+            self.expire(*stamp, *decision)?;
+        }
+        Ok(())
+    }
+
+    /// Hears a moment.
+    pub fn on_moment(&mut self, moment: u64) -> Result<(), HistoryFault>
+        requires moment { moment ≤ 2 ^ 63 }
+        requires agreed { AgreeWith H.content (now self.old.draft) self.old.books }
+        requires since { AreSince H.content H.below H.faults H.damage self.old.books }
+        ensures agreed { OnOk result (AgreeWith H.content (now self.new.draft) self.new.books) }
+        ensures since { AreSince H.content H.below H.faults H.damage self.new.books }
+        ensures fault { IfErr result (HaveFault H.tells H.faults H.damage self.new.books) }
+        ensures call { AreOfOneCall self.old.books self.new.books }
+        ensures log { OnOk result (HasSameLog self.old.draft self.new.draft) }
+        ensures gives { IsTrue H.tells → OnOk result (self.new.draft ≡ hearing.on_moment self.old.draft moment) }
+    {
+        self.draft.hear(moment);
+        self.expire_all(moment)?;
+        self.draft.ask_again()?;
+        Ok(())
+    }
+}
+
+// Whether a message to this repository isn't ignored.
+fn accepts(number: u8, from: NodeId, message: &Message) -> bool
+    ensures { result ≡ rows.accepts number from message.now }
+{
+    match message {
+        Message::Begin { stamp, .. } => is_broker(from, stamp.broker()) && stamp.home() == number,
+        Message::Commit { stamp } => is_broker(from, stamp.broker()) && stamp.home() == number,
+        Message::Withdraw { stamp } => is_broker(from, stamp.broker()) && stamp.home() == number,
+        Message::Read { at, object } => {
+            is_broker(from, at.stamp().broker()) && object.repository == number
+        }
+        Message::Write { at, object, .. } => {
+            is_broker(from, at.stamp().broker()) && object.repository == number
+        }
+        Message::Ask { stamp } => from.kind == NodeKind::Repository && stamp.home() == number,
+        Message::Tell { stamp, .. } => {
+            from.kind == NodeKind::Repository && from.number == stamp.home()
+        }
+        _ => false,
+    }
+}
+
+// Whether the node is the broker with this number.
+fn is_broker(node: NodeId, number: u8) -> bool
+    ensures { result ≡ rows.is_broker_of number node }
+{
+    node.kind == NodeKind::Broker && node.number == number
 }
