@@ -75,8 +75,8 @@ module _ {H B : Type 0} (content : H → List Mark) (below : H → B) (faults da
       since_step first old new (subst (Begins (content first)) (sym grown) (begins-with (content first) (content old) f since.begins)) since same k d
 
   -- the same histories
-  pub since_same : (first old then new : H) → then ≡ first → new ≡ old → Since content below faults damage first old → Since content below faults damage then new
-  since_same first old then new e f since = subst (λ x. Since content below faults damage x new) (sym e) (subst (λ x. Since content below faults damage first x) (sym f) since)
+  pub since_same : (first old again new : H) → again ≡ first → new ≡ old → Since content below faults damage first old → Since content below faults damage again new
+  since_same first old again new e f since = subst (λ x. Since content below faults damage x new) (sym e) (subst (λ x. Since content below faults damage first x) (sym f) since)
 
 -- ---- a log with one effect more
 

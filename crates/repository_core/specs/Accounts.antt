@@ -6,6 +6,7 @@ use Rattle.effect_form.specs.declared.effects.Effect.{Effect}
 use Rattle.object_history.specs.declared.marks.Mark.{Mark}
 use Rattle.object_history.specs.declared.steps.HistoryFault.{HistoryFault}
 use Rattle.repository_core.specs.declared.books.Books.{Books}
+use Rattle.repository_core.specs.Hands.{Hand}
 use Rattle.repository_core.specs.Lookups.{Agrees, Since, IsCaused}
 
 -- what they look up agrees with the log, but for the records whose expiry isn't noted yet
@@ -25,3 +26,7 @@ HaveFault tells faults damage b f = IsCaused tells faults damage b.first.value b
 
 abbrev pub AreOfOneCall : {H : Type 0} {g : _} → Books H g → Books H g → Type 0
 AreOfOneCall old new = new.first.value ≡ old.first.value
+
+-- between two calls: nothing is added and nothing owed, and what the books look up agrees with the log
+abbrev pub IsOpen : {H : Type 0} {g : _} → (H → List Mark) → Hand → Books H g → Type 0
+IsOpen content h b = (h.fresh ≡ []) × (h.outs ≡ []) × AgreeWith content h.base b

@@ -5,7 +5,9 @@
 mod books;
 mod drafts;
 mod replies;
+mod repositories;
 mod waits;
 mod works;
 
+pub use repositories::{CoreFault, Repository};
 pub use waits::{Asker, Held};

@@ -3,6 +3,7 @@ ghost use Rattle.pseudo_time.specs.StampParts.{StampParts};
 ghost use Rattle.pseudo_time.specs.declared.decisions.Decision.{Decision};
 ghost use Rattle.value_form.specs.ObjectBytes.{IsObject};
 ghost use Rattle.value_form.specs.ValueBytes.{IsValue};
+ghost use Rattle.effect_form.specs.declared.effects.Effect.{Effect};
 ghost use Rattle.effect_form.specs.declared.effects.Effect.TheVariants as effect;
 ghost use Rattle.message_form.specs.declared.messages.Message.TheVariants as message;
 ghost use Rattle.message_form.specs.Messages.{IsMessage};
@@ -23,6 +24,7 @@ use message_form::Message;
 use object_history::{Histories, HistoryFault};
 use pseudo_time::{Decision, NodeId, NodeKind, PseudoTime, Stamp};
 use std::alloc::Global;
+use std::snapshot::Snapshot;
 use value_form::{ObjectId, Value};
 
 /// A repository at work in a call: the turn in hand, and what it looks up.
@@ -35,6 +37,17 @@ pub struct Work<H: Histories> {
 
 impl<H: Histories> Work<H> {
     ghost use Rattle.repository_core.specs.Accounts.{AgreeBut, AgreeWith, AreSince, HaveFault, AreOfOneCall};
+
+    /// A call begins.
+    pub fn start(&mut self)
+        ensures draft { self.new.draft ≡ self.old.draft }
+        ensures histories { self.new.books.histories ≡ self.old.books.histories }
+        ensures since { AreSince H.content H.below H.faults H.damage self.new.books }
+        ensures first { self.new.books.first.value ≡ self.old.books.histories }
+        ensures agreed { (pending : List (StampParts × Decision)) (log : List Effect) → AgreeBut H.content pending log self.old.books → AgreeBut H.content pending log self.new.books }
+    {
+        self.books.first = Snapshot::of(&self.books.histories);
+    }
 
     // Carries out a read of an attempt that isn't known aborted.
     fn read(
