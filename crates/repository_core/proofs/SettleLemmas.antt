@@ -22,7 +22,7 @@ use Rattle.repository_core.proofs.LogLemmas.{undecided, from-unknown, from-begin
 
 -- ---- the map of records
 
-get-put : (r : States) (s q : StampParts) (v : RecordState) → finite.get (finite.insert r s v) q ≡ (if same_stamp s q then Some v else finite.get r q)
+pub get-put : (r : States) (s q : StampParts) (v : RecordState) → finite.get (finite.insert r s v) q ≡ (if same_stamp s q then Some v else finite.get r q)
 unfolding same_stamp
 get-put r s q v = finite.get-insert stamp_cmp-total r s v q ∙ ap (λ b. cond b (Some v) (finite.get r q)) ((eq_by_cmp_equiv stamp_cmp-total).symm q s)
 

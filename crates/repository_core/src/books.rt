@@ -222,8 +222,8 @@ pub fn is_commit(decision: Decision) -> bool
     }
 }
 
-// What was learned, as a decision.
-fn learned(committed: bool) -> Decision
+/// What was learned, as a decision.
+pub fn learned(committed: bool) -> Decision
     ensures { result ≡ told committed }
 {
     if committed {

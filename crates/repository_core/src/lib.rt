@@ -4,10 +4,11 @@
 
 mod books;
 mod drafts;
+mod openings;
 mod replies;
 mod repositories;
 mod waits;
 mod works;
 
-pub use repositories::{CoreFault, Repository};
+pub use repositories::{CoreFault, Repository, RepositoryRest};
 pub use waits::{Asker, Held};

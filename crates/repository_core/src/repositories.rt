@@ -9,6 +9,7 @@ ghost use Rattle.repository_core.specs.Turns.{gives, opened_mind, Taking, Learni
 
 use crate::books::Books;
 use crate::drafts::Draft;
+use crate::openings::open_books;
 use crate::works::Work;
 use commit_record::Records;
 use effect_form::Effect;
@@ -123,11 +124,133 @@ impl<H: Histories> Repository<H> {
         Ok(turn)
     }
 
+    /// Opens the core of a repository over its log, oldest first. It remembers nothing beside it but
+    /// the moment, of at most 2^63. Where memory is wanting, the histories come back as they were.
+    pub fn open(
+        alloc: Global,
+        number: u8,
+        moment: u64,
+        effects: &[Effect],
+        histories: H,
+    ) -> Result<Repository<H>, (H, AllocError)>
+        requires marks { HasMarks (H.content histories) effects.now }
+        requires moment { moment ≤ 2 ^ 63 }
+        ensures number { IfOk result (λ r. r.number ≡ number) }
+        ensures log { IfOk result (λ r. r.log ≡ effects.now) }
+        ensures mind { IfOk result (λ r. r.mind ≡ opened_mind moment) }
+        ensures whole { IfOk result (λ r. r.whole ≡ true) }
+        ensures histories { IfOk result (λ r. r.histories ≡ histories) }
+        ensures back { IfErr result (λ e. e.0 ≡ histories) }
+    {
+        match open_books(alloc, number, moment, effects) {
+            Err(wanting) => Err((histories, wanting)),
+            Ok((draft, records, early)) => {
+                let first = Snapshot::of(&histories);
+                let books = Books {
+                    alloc,
+                    records,
+                    early,
+                    histories,
+                    first,
+                };
+                let work = Work {
+                    alloc,
+                    draft,
+                    books,
+                };
+                Ok(Repository { work, whole: true })
+            }
+        }
+    }
+
+    /// Parts the core and its histories.
+    pub fn part(self) -> (RepositoryRest, H)
+        ensures state { result.0 ≡ record { number = self.number; log = self.log; mind = self.mind; whole = self.whole } }
+        ensures histories { result.1 ≡ self.histories }
+    {
+        let Repository { work, whole } = self;
+        let Work { alloc, draft, books } = work;
+        let Books {
+            alloc: _,
+            records,
+            early,
+            histories,
+            first: _,
+        } = books;
+        let rest = RepositoryRest {
+            alloc,
+            draft,
+            records,
+            early,
+            whole,
+        };
+        (rest, histories)
+    }
+
     /// How the attempt was settled. None where no Decide or Learn of it is in the log.
     pub fn known(&self, stamp: Stamp) -> Option<bool>
         requires whole { self.now.whole ≡ true }
         ensures { result ≡ known (reverse self.now.log) stamp }
     {
         self.work.books.known(stamp)
+    }
+}
+
+/// A core that was parted from its histories.
+#[derive(Drop)]
+pub struct RepositoryRest {
+    alloc: Global,
+    draft: Draft,
+    records: Records,
+    early: BTreeMap<Stamp, Decision>,
+    whole: bool,
+}
+
+impl Model for RepositoryRest {
+    ghost use Rattle.std.specs.Prelude.{◌≡◌, true, reverse, []};
+    ghost use Rattle.repository_core.specs.Turns.{mind_of};
+    ghost use Rattle.repository_core.specs.Cores.{CoreState};
+    ghost use Rattle.repository_core.specs.Logs.{marks};
+    ghost use Rattle.repository_core.specs.Lookups.{Agrees};
+
+    ghost Value = { CoreState };
+
+    ghost view = { λ r. record {
+        number = r.draft.number;
+        log = reverse r.draft.base;
+        mind = mind_of r.draft;
+        whole = r.whole;
+    } };
+
+    ghost invariant = { λ r. r.whole ≡ true → (r.draft.fresh ≡ []) × (r.draft.outs ≡ []) × Agrees [] r.draft.base (marks r.draft.base) r.records r.early.entries };
+}
+
+impl RepositoryRest {
+    /// The core with its histories, which are as they were when it was parted.
+    pub fn join<H: Histories>(self, histories: H) -> Repository<H>
+        requires marks { self.whole ≡ true → HasMarks (H.content histories) self.log }
+        ensures { result ≡ record { number = self.number; log = self.log; mind = self.mind; whole = self.whole; histories = histories } }
+    {
+        let RepositoryRest {
+            alloc,
+            draft,
+            records,
+            early,
+            whole,
+        } = self;
+        let first = Snapshot::of(&histories);
+        let books = Books {
+            alloc,
+            records,
+            early,
+            histories,
+            first,
+        };
+        let work = Work {
+            alloc,
+            draft,
+            books,
+        };
+        Repository { work, whole }
     }
 }
