@@ -43,13 +43,13 @@ impl Model for Draft {
     ghost Value = { Hand };
 
     ghost view = { λ d. record {
-        number = d.number;
-        base = reverse (map (λ s. s.value) d.log.items);
-        fresh = reverse d.effects.items;
-        outs = d.outs.items;
-        held = d.held.entries;
-        askers = d.askers.keys;
-        moment = d.moment;
+      number = d.number;
+      base = reverse (map (λ s. s.value) d.log.items);
+      fresh = reverse d.effects.items;
+      outs = d.outs.items;
+      held = d.held.entries;
+      askers = d.askers.keys;
+      moment = d.moment;
     } };
 
     ghost invariant = { λ d. (d.moment ≤ 2 ^ 63) × AreHeld d.held.entries × AreEffects d.effects.items × AreOuts d.outs.items };

@@ -12,3 +12,6 @@ mod works;
 
 pub use repositories::{CoreFault, Repository, RepositoryRest};
 pub use waits::{Asker, Held};
+
+#[cfg(test)]
+mod tests;

@@ -90,7 +90,14 @@ impl Draft {
         let home = waits.home();
         let is_asked = home == self.number() || self.waits_for(waits);
         self.unhold(at);
-        self.keep(at, Held { from, object, waits })?;
+        self.keep(
+            at,
+            Held {
+                from,
+                object,
+                waits,
+            },
+        )?;
         if is_asked {
             return Ok(());
         }

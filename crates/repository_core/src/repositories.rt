@@ -44,11 +44,11 @@ impl<H: Histories> Model for Repository<H> {
     ghost Value = { Core H };
 
     ghost view = { λ r. record {
-        number = r.work.draft.number;
-        log = reverse r.work.draft.base;
-        mind = mind_of r.work.draft;
-        whole = r.whole;
-        histories = r.work.books.histories;
+      number = r.work.draft.number;
+      log = reverse r.work.draft.base;
+      mind = mind_of r.work.draft;
+      whole = r.whole;
+      histories = r.work.books.histories;
     } };
 
     ghost invariant = { λ r. r.whole ≡ true → IsOpen H.content r.work.draft r.work.books };
@@ -169,7 +169,11 @@ impl<H: Histories> Repository<H> {
         ensures histories { result.1 ≡ self.histories }
     {
         let Repository { work, whole } = self;
-        let Work { alloc, draft, books } = work;
+        let Work {
+            alloc,
+            draft,
+            books,
+        } = work;
         let Books {
             alloc: _,
             records,
@@ -216,10 +220,10 @@ impl Model for RepositoryRest {
     ghost Value = { CoreState };
 
     ghost view = { λ r. record {
-        number = r.draft.number;
-        log = reverse r.draft.base;
-        mind = mind_of r.draft;
-        whole = r.whole;
+      number = r.draft.number;
+      log = reverse r.draft.base;
+      mind = mind_of r.draft;
+      whole = r.whole;
     } };
 
     ghost invariant = { λ r. r.whole ≡ true → (r.draft.fresh ≡ []) × (r.draft.outs ≡ []) × Agrees [] r.draft.base (marks r.draft.base) r.records r.early.entries };

@@ -50,12 +50,7 @@ impl<H: Histories> Work<H> {
     }
 
     // Carries out a read of an attempt that isn't known aborted.
-    fn read(
-        &mut self,
-        from: NodeId,
-        at: PseudoTime,
-        object: ObjectId,
-    ) -> Result<(), HistoryFault>
+    fn read(&mut self, from: NodeId, at: PseudoTime, object: ObjectId) -> Result<(), HistoryFault>
         requires object { IsObject object }
         requires since { AreSince H.content H.below H.faults H.damage self.old.books }
         ensures agreed { (pending : List (StampParts × Decision)) → AgreeBut H.content pending (now self.old.draft) self.old.books → OnOk result (AgreeBut H.content pending (now self.new.draft) self.new.books) }
@@ -194,12 +189,7 @@ impl<H: Histories> Work<H> {
 
     /// Begins a record, or tells how it stands.
     #[tactic(auto, unfolding(crate::specs::Rows::on_begin))]
-    pub fn on_begin(
-        &mut self,
-        from: NodeId,
-        stamp: Stamp,
-        timeout: u32,
-    ) -> Result<(), HistoryFault>
+    pub fn on_begin(&mut self, from: NodeId, stamp: Stamp, timeout: u32) -> Result<(), HistoryFault>
         requires agreed { AgreeWith H.content (now self.old.draft) self.old.books }
         requires since { AreSince H.content H.below H.faults H.damage self.old.books }
         ensures agreed { OnOk result (AgreeWith H.content (now self.new.draft) self.new.books) }
@@ -237,12 +227,7 @@ impl<H: Histories> Work<H> {
     }
 
     // Decides an unknown record, and tells and releases those who wait for it.
-    fn close(
-        &mut self,
-        from: NodeId,
-        stamp: Stamp,
-        decision: Decision,
-    ) -> Result<(), HistoryFault>
+    fn close(&mut self, from: NodeId, stamp: Stamp, decision: Decision) -> Result<(), HistoryFault>
         requires unsettled { settle_of (H.content self.old.books.histories) stamp ≡ None }
         requires unknown { IsUnknown (now self.old.draft) stamp }
         requires agreed { AgreeWith H.content (now self.old.draft) self.old.books }

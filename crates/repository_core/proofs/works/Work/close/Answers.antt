@@ -19,8 +19,7 @@ returns-clause-agreed g c = c.in_ok-release.ensures.agreed [] (agreed g c)
 
 pub returns-clause-log : goal.returns-clause-log
 returns-clause-log g c =
-    let t = tell-log c.args.stamp c.is_commit.result c.decided.new.self in
-    (
+    let t = tell-log c.args.stamp c.is_commit.result c.decided.new.self in (
       c.in_ok-release.ensures.log.0 ∙ ap (λ (h : Hand). h.number) c.in_ok-tell_askers.ensures ∙ t.0 ∙ ap (λ (h : Hand). h.number) c.in_ok-decided.ensures ∙ c.in_ok-decide.ensures.log.0,
       c.in_ok-release.ensures.log.1 ∙ ap (λ (h : Hand). h.base) c.in_ok-tell_askers.ensures ∙ t.1 ∙ ap (λ (h : Hand). h.base) c.in_ok-decided.ensures ∙ c.in_ok-decide.ensures.log.1,
     )

@@ -29,8 +29,7 @@ returns-clause-records g c = λ s. c.in_ok-release.ensures.records s ∙ ap (λ 
 
 pub returns-clause-log : goal.returns-clause-log
 returns-clause-log g c =
-    let t = tell-log c.args.stamp false c.decide.new.self in
-    (
+    let t = tell-log c.args.stamp false c.decide.new.self in (
       c.in_ok-release.ensures.log.0 ∙ ap (λ (h : Hand). h.number) c.in_ok-tell_askers.ensures ∙ t.0 ∙ ap (λ (h : Hand). h.number) c.in_ok-decide.ensures,
       c.in_ok-release.ensures.log.1 ∙ ap (λ (h : Hand). h.base) c.in_ok-tell_askers.ensures ∙ t.1 ∙ ap (λ (h : Hand). h.base) c.in_ok-decide.ensures,
     )
