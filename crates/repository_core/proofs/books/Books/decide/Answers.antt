@@ -1,0 +1,16 @@
+use Rattle.std.proofs.Common.{◌≡◌, List, [], ◌∷◌, sym, ap, ◌∙◌}
+use Rattle.object_history.specs.declared.marks.Mark.{Mark}
+use Rattle.object_history.specs.declared.marks.Mark.TheVariants.{Settle}
+use Rattle.effect_form.specs.declared.effects.Effect.TheVariants as effect
+use Rattle.commit_record.specs.States.{settled}
+use Rattle.repository_core.specs.Logs.{is_commit, told}
+use Rattle.repository_core.proofs.BookLemmas.{agree-same}
+use Rattle.repository_core.proofs.SettleLemmas.{agree-decide}
+use Rattle.repository_core.proofs.books.Books.decide.Goals as goal
+
+pub returns-clause-agree : goal.returns-clause-agree
+returns-clause-agree g c = λ log t a unknown.
+    let b = c.args.self.now in let m = g.H.Histories.content b.histories in let s = c.args.stamp in let e = c.in_ok-settle.ensures in
+    agree-same [] (effect.Decide s c.args.decision ∷ log) _ (Settle s (is_commit c.args.decision) ∷ m) _ (settled b.records s c.args.decision) _ b.early.entries
+    (e.grown ∙ ap (λ z. Settle s z ∷ m) c.is_commit.ensures) (c.restore.ensures.settled ∙ ap (λ z. settled z s c.args.decision) e.rest.0) e.rest.1
+    (agree-decide log m b.records b.early.entries s t c.args.decision a unknown)

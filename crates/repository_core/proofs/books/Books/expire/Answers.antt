@@ -1,0 +1,16 @@
+use Rattle.std.proofs.Common.{◌≡◌, List, [], ◌∷◌, sym, ap, ◌∙◌}
+use Rattle.object_history.specs.declared.marks.Mark.{Mark}
+use Rattle.object_history.specs.declared.marks.Mark.TheVariants.{Settle}
+use Rattle.effect_form.specs.declared.effects.Effect.TheVariants as effect
+use Rattle.commit_record.specs.States.{settled}
+use Rattle.repository_core.specs.Logs.{is_commit, told}
+use Rattle.repository_core.proofs.BookLemmas.{agree-same}
+use Rattle.repository_core.proofs.SettleLemmas.{agree-expire}
+use Rattle.repository_core.proofs.books.Books.expire.Goals as goal
+
+pub returns-clause-agree : goal.returns-clause-agree
+returns-clause-agree g c = λ rest log t a unknown once.
+    let b = c.args.self.now in let m = g.H.Histories.content b.histories in let s = c.args.stamp in let e = c.in_ok-settle.ensures in
+    agree-same rest (effect.Decide s c.args.decision ∷ log) _ (Settle s (is_commit c.args.decision) ∷ m) _ b.records _ b.early.entries
+    (e.grown ∙ ap (λ z. Settle s z ∷ m) c.is_commit.ensures) e.rest.0 e.rest.1
+    (agree-expire log m b.records b.early.entries s t c.args.decision rest a unknown once)

@@ -1,0 +1,8 @@
+use Rattle.std.proofs.Common.{◌≡◌, ap, ◌∙◌}
+use Rattle.commit_record.specs.States.{expiry}
+use Rattle.repository_core.proofs.ExpiryLemmas.{expiries-are}
+use Rattle.repository_core.proofs.books.Books.hear.Goals as goal
+
+pub returns-clause-due : goal.returns-clause-due
+returns-clause-due g c = λ log a.
+    expiries-are c.args.moment log c.in_ok-due.due.items c.in_ok-due.ensures.order (λ q. c.in_ok-due.ensures.listed q ∙ ap (λ z. expiry c.args.moment z) (a.recorded q))

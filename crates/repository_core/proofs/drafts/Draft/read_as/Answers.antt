@@ -1,0 +1,10 @@
+use Rattle.std.proofs.Common.{◌≡◌, subst, sym}
+use Rattle.std.specs.Prelude.{OnOk}
+use Rattle.object_history.specs.declared.steps.ReadStep.{ReadStep}
+use Rattle.repository_core.specs.Rows.{unhold, read_as}
+use Rattle.repository_core.proofs.drafts.Draft.read_as.Goals as goal
+
+pub returns-in-Answer : goal.returns-in-Answer
+returns-in-Answer c =
+    subst (λ (step : ReadStep). OnOk c.answer.result (c.answer.new.self ≡ read_as c.args.self.now.held (unhold c.args.at c.args.self.now) c.args.from c.args.at c.args.object step))
+    (sym c.in-Answer.is) (c.answer.ensures c.args.self.now.held)

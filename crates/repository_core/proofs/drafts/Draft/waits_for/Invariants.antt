@@ -1,0 +1,7 @@
+use Rattle.std.proofs.Common.{◌≡◌}
+use Rattle.repository_core.specs.Rows.{waits_for}
+use Rattle.repository_core.proofs.drafts.Draft.waits_for.Given as goal
+
+-- none so far waits for it
+abbrev pub invariant-loop-held : goal.invariant-loop-held
+invariant-loop-held l = waits_for l.stamp l.held-iterator ≡ waits_for l.stamp l.initial.held-iterator

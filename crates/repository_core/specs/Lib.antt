@@ -1,0 +1,14 @@
+pub mod Accounts
+pub mod Cores
+pub mod Hands
+pub mod Hearing
+pub mod Logs
+pub mod Lookups
+pub mod Opening
+pub mod Ranges
+pub mod Rows
+pub mod Turns
+pub use Rattle.turn_form.specs.Posts
+pub use Rattle.object_history.specs.History
+pub use Rattle.object_history.specs.Answers
+pub use Rattle.object_history.specs.Causes

@@ -1,0 +1,44 @@
+-- A repository's turn: what it gives for what it is told.
+use Rattle.std.specs.Prelude.{ℕ, Bool, List, [], reverse}
+use Rattle.pseudo_time.specs.StampParts.{StampParts}
+use Rattle.pseudo_time.specs.declared.nodes.NodeId.{NodeId}
+use Rattle.effect_form.specs.declared.effects.Effect.{Effect}
+use Rattle.message_form.specs.declared.messages.Message.{Message}
+use Rattle.turn_form.specs.declared.turns.Out.{Out}
+use Rattle.repository_core.specs.Hands.{Mind, Hand}
+use Rattle.repository_core.specs.Rows.{on_message, on_learn}
+use Rattle.repository_core.specs.Hearing.{on_moment}
+
+-- what a repository is told: a message with its sender, a decision that it learns otherwise, or a moment
+pub data Input : Type 0 where
+  Taking : NodeId → Message → Input
+  Learning : StampParts → Bool → Input
+  Hearing : ℕ → Input
+
+-- what a repository remembers when it is opened, also after a crash
+abbrev pub opened_mind : ℕ → Mind
+opened_mind start = record { held = []; askers = []; moment = start }
+
+-- a turn begins with nothing added and nothing owed; here the log stands newest first
+abbrev pub hand_at : ℕ → List Effect → Mind → Hand
+hand_at n log mind = record { number = n; base = log; fresh = []; outs = []; held = mind.held; askers = mind.askers; moment = mind.moment }
+
+abbrev pub told : Hand → Input → Hand
+told h (Taking from m) = on_message h from m
+told h (Learning s c) = on_learn h s c
+told h (Hearing m) = on_moment h m
+
+-- what a turn gives: its effects and the messages that it owes, in order, and what the repository then remembers
+pub record Given : Type 0 where
+  pub effects : List Effect
+  pub outs : List Out
+  pub mind : Mind
+
+abbrev pub mind_of : Hand → Mind
+mind_of h = record { held = h.held; askers = h.askers; moment = h.moment }
+
+-- THE RULES OF REPOSITORIES: what repository n gives by its whole log, oldest first, by what it remembers, and for what it is told
+unfoldable pub gives : ℕ → List Effect → Mind → Input → Given
+gives n log mind input =
+    let h : Hand = told (hand_at n (reverse log) mind) input in
+    record { effects = reverse h.fresh; outs = h.outs; mind = mind_of h }

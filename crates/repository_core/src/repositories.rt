@@ -1,0 +1,260 @@
+ghost use Rattle.std.specs.Prelude.{◌≡◌, ◌≤◌, ◌^◌, ◌++◌, true, IsTrue, IfOk, OnOk, IfErr, is_ok, reverse};
+ghost use Rattle.message_form.specs.Messages.{IsMessage};
+ghost use Rattle.object_history.specs.Causes.{HasHistoryCause, IsNotDamage};
+ghost use Rattle.repository_core.specs.Cores.{HasMarks, given};
+ghost use Rattle.repository_core.specs.Lookups.{Begins};
+ghost use Rattle.repository_core.specs.Logs.{known};
+ghost use Rattle.repository_core.specs.Ranges.{AreEffects, AreOuts};
+ghost use Rattle.repository_core.specs.Turns.{gives, opened_mind, Taking, Learning, Hearing};
+
+use crate::books::Books;
+use crate::drafts::Draft;
+use crate::openings::open_books;
+use crate::works::Work;
+use commit_record::Records;
+use effect_form::Effect;
+use message_form::Message;
+use object_history::{Histories, HistoryFault};
+use pseudo_time::{Decision, NodeId, Stamp};
+use std::alloc::{AllocError, Global};
+use std::collections::BTreeMap;
+use std::marker::Model;
+use std::snapshot::Snapshot;
+use turn_form::Turn;
+
+/// Why a core gave no turn. After any of the three it can only be parted.
+pub type CoreFault = HistoryFault;
+
+/// The core of a repository: its rules, carried out over its histories. Contracts see its number,
+/// its log, what it remembers beside it, and its histories.
+#[derive(Drop)]
+pub struct Repository<H: Histories> {
+    work: Work<H>,
+    /// No call has failed.
+    whole: bool,
+}
+
+impl<H: Histories> Model for Repository<H> {
+    ghost use Rattle.std.specs.Prelude.{◌≡◌, true, reverse, [], length};
+    ghost use Rattle.repository_core.specs.Hands.{now};
+    ghost use Rattle.repository_core.specs.Turns.{mind_of};
+    ghost use Rattle.repository_core.specs.Cores.{Core};
+    ghost use Rattle.repository_core.specs.Accounts.{IsOpen};
+
+    ghost Value = { Core H };
+
+    ghost view = { λ r. record {
+      number = r.work.draft.number;
+      log = reverse r.work.draft.base;
+      mind = mind_of r.work.draft;
+      whole = r.whole;
+      histories = r.work.books.histories;
+    } };
+
+    ghost invariant = { λ r. r.whole ≡ true → IsOpen H.content r.work.draft r.work.books };
+}
+
+impl<H: Histories> Repository<H> {
+    /// Takes a message from a node. Where the histories tell their content, the turn and what the
+    /// repository then remembers are those of the rules.
+    pub fn take(&mut self, from: NodeId, message: &Message) -> Result<Turn, CoreFault>
+        requires whole { self.old.whole ≡ true }
+        requires message { IsMessage message.now }
+        ensures gives { IsTrue H.tells → IfOk result (λ t. given t self.new.mind ≡ gives self.old.number self.old.log self.old.mind (Taking from message.now)) }
+        ensures log { IfOk result (λ t. self.new.log ≡ self.old.log ++ t.effects) }
+        ensures in_range { IfOk result (λ t. AreEffects t.effects × AreOuts t.outs) }
+        ensures number { OnOk result (self.new.number ≡ self.old.number) }
+        ensures marks { OnOk result (HasMarks (H.content self.new.histories) self.new.log) }
+        ensures whole { self.new.whole ≡ is_ok result }
+        ensures begins { Begins (H.content self.old.histories) (H.content self.new.histories) }
+        ensures below { H.below self.new.histories ≡ H.below self.old.histories }
+        ensures cause { HasHistoryCause (H.faults self.old.histories) (H.faults self.new.histories) (H.damage self.old.histories) (H.damage self.new.histories) result }
+        ensures sound { IsTrue H.tells → IfErr result IsNotDamage }
+    {
+        self.whole = false;
+        self.work.start();
+        self.work.on_message(from, message)?;
+        let turn = self.work.draft.close()?;
+        self.whole = true;
+        Ok(turn)
+    }
+
+    /// Learns the decision of an attempt, which stands at its home.
+    pub fn learn(&mut self, stamp: Stamp, committed: bool) -> Result<Turn, CoreFault>
+        requires whole { self.old.whole ≡ true }
+        ensures gives { IsTrue H.tells → IfOk result (λ t. given t self.new.mind ≡ gives self.old.number self.old.log self.old.mind (Learning stamp committed)) }
+        ensures log { IfOk result (λ t. self.new.log ≡ self.old.log ++ t.effects) }
+        ensures in_range { IfOk result (λ t. AreEffects t.effects × AreOuts t.outs) }
+        ensures number { OnOk result (self.new.number ≡ self.old.number) }
+        ensures marks { OnOk result (HasMarks (H.content self.new.histories) self.new.log) }
+        ensures whole { self.new.whole ≡ is_ok result }
+        ensures begins { Begins (H.content self.old.histories) (H.content self.new.histories) }
+        ensures below { H.below self.new.histories ≡ H.below self.old.histories }
+        ensures cause { HasHistoryCause (H.faults self.old.histories) (H.faults self.new.histories) (H.damage self.old.histories) (H.damage self.new.histories) result }
+        ensures sound { IsTrue H.tells → IfErr result IsNotDamage }
+    {
+        self.whole = false;
+        self.work.start();
+        self.work.on_learn(stamp, committed)?;
+        let turn = self.work.draft.close()?;
+        self.whole = true;
+        Ok(turn)
+    }
+
+    /// Hears a moment of at most 2^63.
+    pub fn hear(&mut self, moment: u64) -> Result<Turn, CoreFault>
+        requires whole { self.old.whole ≡ true }
+        requires moment { moment ≤ 2 ^ 63 }
+        ensures gives { IsTrue H.tells → IfOk result (λ t. given t self.new.mind ≡ gives self.old.number self.old.log self.old.mind (Hearing moment)) }
+        ensures log { IfOk result (λ t. self.new.log ≡ self.old.log ++ t.effects) }
+        ensures in_range { IfOk result (λ t. AreEffects t.effects × AreOuts t.outs) }
+        ensures number { OnOk result (self.new.number ≡ self.old.number) }
+        ensures marks { OnOk result (HasMarks (H.content self.new.histories) self.new.log) }
+        ensures whole { self.new.whole ≡ is_ok result }
+        ensures begins { Begins (H.content self.old.histories) (H.content self.new.histories) }
+        ensures below { H.below self.new.histories ≡ H.below self.old.histories }
+        ensures cause { HasHistoryCause (H.faults self.old.histories) (H.faults self.new.histories) (H.damage self.old.histories) (H.damage self.new.histories) result }
+        ensures sound { IsTrue H.tells → IfErr result IsNotDamage }
+    {
+        self.whole = false;
+        self.work.start();
+        self.work.on_moment(moment)?;
+        let turn = self.work.draft.close()?;
+        self.whole = true;
+        Ok(turn)
+    }
+
+    /// Opens the core of a repository over its log, oldest first. It remembers nothing beside it but
+    /// the moment, of at most 2^63. Where memory is wanting, the histories come back as they were.
+    pub fn open(
+        alloc: Global,
+        number: u8,
+        moment: u64,
+        effects: &[Effect],
+        histories: H,
+    ) -> Result<Repository<H>, (H, AllocError)>
+        requires marks { HasMarks (H.content histories) effects.now }
+        requires moment { moment ≤ 2 ^ 63 }
+        ensures number { IfOk result (λ r. r.number ≡ number) }
+        ensures log { IfOk result (λ r. r.log ≡ effects.now) }
+        ensures mind { IfOk result (λ r. r.mind ≡ opened_mind moment) }
+        ensures whole { IfOk result (λ r. r.whole ≡ true) }
+        ensures histories { IfOk result (λ r. r.histories ≡ histories) }
+        ensures back { IfErr result (λ e. e.0 ≡ histories) }
+    {
+        match open_books(alloc, number, moment, effects) {
+            Err(wanting) => Err((histories, wanting)),
+            Ok((draft, records, early)) => {
+                let first = Snapshot::of(&histories);
+                let books = Books {
+                    alloc,
+                    records,
+                    early,
+                    histories,
+                    first,
+                };
+                let work = Work {
+                    alloc,
+                    draft,
+                    books,
+                };
+                Ok(Repository { work, whole: true })
+            }
+        }
+    }
+
+    /// Parts the core and its histories.
+    pub fn part(self) -> (RepositoryRest, H)
+        ensures state { result.0 ≡ record { number = self.number; log = self.log; mind = self.mind; whole = self.whole } }
+        ensures histories { result.1 ≡ self.histories }
+    {
+        let Repository { work, whole } = self;
+        let Work {
+            alloc,
+            draft,
+            books,
+        } = work;
+        let Books {
+            alloc: _,
+            records,
+            early,
+            histories,
+            first: _,
+        } = books;
+        let rest = RepositoryRest {
+            alloc,
+            draft,
+            records,
+            early,
+            whole,
+        };
+        (rest, histories)
+    }
+
+    /// How the attempt was settled. None where no Decide or Learn of it is in the log.
+    pub fn known(&self, stamp: Stamp) -> Option<bool>
+        requires whole { self.now.whole ≡ true }
+        ensures { result ≡ known (reverse self.now.log) stamp }
+    {
+        self.work.books.known(stamp)
+    }
+}
+
+/// A core that was parted from its histories.
+#[derive(Drop)]
+pub struct RepositoryRest {
+    alloc: Global,
+    draft: Draft,
+    records: Records,
+    early: BTreeMap<Stamp, Decision>,
+    whole: bool,
+}
+
+impl Model for RepositoryRest {
+    ghost use Rattle.std.specs.Prelude.{◌≡◌, true, reverse, []};
+    ghost use Rattle.repository_core.specs.Turns.{mind_of};
+    ghost use Rattle.repository_core.specs.Cores.{CoreState};
+    ghost use Rattle.repository_core.specs.Logs.{marks};
+    ghost use Rattle.repository_core.specs.Lookups.{Agrees};
+
+    ghost Value = { CoreState };
+
+    ghost view = { λ r. record {
+      number = r.draft.number;
+      log = reverse r.draft.base;
+      mind = mind_of r.draft;
+      whole = r.whole;
+    } };
+
+    ghost invariant = { λ r. r.whole ≡ true → (r.draft.fresh ≡ []) × (r.draft.outs ≡ []) × Agrees [] r.draft.base (marks r.draft.base) r.records r.early.entries };
+}
+
+impl RepositoryRest {
+    /// The core with its histories, which are as they were when it was parted.
+    pub fn join<H: Histories>(self, histories: H) -> Repository<H>
+        requires marks { self.whole ≡ true → HasMarks (H.content histories) self.log }
+        ensures { result ≡ record { number = self.number; log = self.log; mind = self.mind; whole = self.whole; histories = histories } }
+    {
+        let RepositoryRest {
+            alloc,
+            draft,
+            records,
+            early,
+            whole,
+        } = self;
+        let first = Snapshot::of(&histories);
+        let books = Books {
+            alloc,
+            records,
+            early,
+            histories,
+            first,
+        };
+        let work = Work {
+            alloc,
+            draft,
+            books,
+        };
+        Repository { work, whole }
+    }
+}
