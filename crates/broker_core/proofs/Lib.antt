@@ -1,0 +1,4 @@
+pub mod EqualLemmas
+pub mod GivenLemmas
+pub mod SettleLemmas
+pub mod StopLemmas
