@@ -52,7 +52,7 @@ impl Model for Broker {
 
 // What an input led to: the new effects, the messages and the stage.
 #[derive(Drop)]
-struct Work {
+struct Yielded {
     effects: Vec<Effect>,
     outs: Vec<Out>,
     phase: Phase,
@@ -79,7 +79,7 @@ fn add_first(
     ensures ok { OnOk result (ledger.new ≡ inputs.begun ledger.old first) }
     ensures effects { OnOk result (effects.new.items ≡ inputs.firsts first) }
     ensures notes { OnErr result (ledger.new.notes ≡ ledger.old.notes) }
-    ensures kept { OnErr result (ledgers.kept ledger.old.notes ledger.new.answers ≡ ledgers.kept ledger.old.notes ledger.old.answers) }
+    ensures kept { ledgers.kept ledger.old.notes ledger.new.answers ≡ ledgers.kept ledger.old.notes ledger.old.answers }
     ensures number { ledger.new.number ≡ ledger.old.number }
     ensures run { ledger.new.run ≡ ledger.old.run }
     ensures acts { ledger.new.acts ≡ ledger.old.acts }
@@ -97,13 +97,13 @@ fn work(
     ledger: &mut Ledger,
     first: Option<Effect>,
     heard: &Heard,
-) -> Result<Work, AllocError>
+) -> Result<Yielded, AllocError>
     requires { length ledger.old.acts ≤ 10000 }
     ensures effects { IfOk result (λ w. reverse w.effects.items ≡ inputs.effects_from ledger.old first heard.now) }
     ensures ledger { OnOk result (ledger.new ≡ inputs.ledger_from ledger.old first heard.now) }
     ensures phase { IfOk result (λ w. w.phase ≡ inputs.phase_in ledger.new heard.now) }
     ensures outs { IfOk result (λ w. w.outs.items ≡ inputs.listed (phases.standing_at ledger.new.acts ledger.new.notes w.phase)) }
-    ensures kept { OnErr result (ledgers.kept ledger.old.notes ledger.new.answers ≡ ledgers.kept ledger.old.notes ledger.old.answers) }
+    ensures kept { ledgers.kept ledger.old.notes ledger.new.answers ≡ ledgers.kept ledger.old.notes ledger.old.answers }
     ensures number { ledger.new.number ≡ ledger.old.number }
     ensures run { ledger.new.run ≡ ledger.old.run }
     ensures acts { ledger.new.acts ≡ ledger.old.acts }
@@ -114,7 +114,7 @@ fn work(
     let phase = settle(ledger, heard, &mut effects)?;
     let out = standing(ledger, &phase)?;
     let outs = listed(alloc, out)?;
-    Ok(Work {
+    Ok(Yielded {
         effects,
         outs,
         phase,

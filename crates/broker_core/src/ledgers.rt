@@ -179,7 +179,7 @@ impl Ledger {
     fn add_answer(&mut self, given: Given) -> Result<(), AllocError>
         ensures ok { OnOk result (self.new ≡ record self.old { notes = notes.answer_noted self.old.notes; answers = spec.kept self.old.notes self.old.answers ++ given ∷ [] }) }
         ensures notes { OnErr result (self.new.notes ≡ self.old.notes) }
-        ensures kept { OnErr result (spec.kept self.old.notes self.new.answers ≡ spec.kept self.old.notes self.old.answers) }
+        ensures kept { spec.kept self.old.notes self.new.answers ≡ spec.kept self.old.notes self.old.answers }
         ensures number { self.new.number ≡ self.old.number }
         ensures run { self.new.run ≡ self.old.run }
         ensures acts { self.new.acts ≡ self.old.acts }
@@ -229,7 +229,7 @@ impl Ledger {
     pub fn note(&mut self, effect: &Effect) -> Result<(), AllocError>
         ensures ok { OnOk result (self.new ≡ record self.old { notes = notes.noted self.old.acts effect.now self.old.notes; answers = spec.answers_noted effect.now self.old.notes self.old.answers }) }
         ensures notes { OnErr result (self.new.notes ≡ self.old.notes) }
-        ensures kept { OnErr result (spec.kept self.old.notes self.new.answers ≡ spec.kept self.old.notes self.old.answers) }
+        ensures kept { spec.kept self.old.notes self.new.answers ≡ spec.kept self.old.notes self.old.answers }
         ensures number { self.new.number ≡ self.old.number }
         ensures run { self.new.run ≡ self.old.run }
         ensures acts { self.new.acts ≡ self.old.acts }
