@@ -1,4 +1,12 @@
+pub mod DueLemmas
 pub mod EqualLemmas
+pub mod FitLemmas
 pub mod GivenLemmas
+pub mod MeetLemmas
+pub mod NotedLemmas
+pub mod PhaseLemmas
+pub mod ReplyLemmas
 pub mod SettleLemmas
+pub mod ShapeLemmas
+pub mod SoundLemmas
 pub mod StopLemmas

@@ -9,6 +9,7 @@ pub mod Parts
 pub mod Phases
 pub mod Replays
 pub mod Rows
+pub mod Sound
 pub mod Stages
 pub mod Tasks
 pub mod Tests
