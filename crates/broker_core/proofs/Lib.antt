@@ -1,7 +1,9 @@
+pub mod AnyLemmas
 pub mod DueLemmas
 pub mod EqualLemmas
 pub mod FitLemmas
 pub mod GivenLemmas
+pub mod GoodLemmas
 pub mod MeetLemmas
 pub mod NotedLemmas
 pub mod PhaseLemmas

@@ -139,7 +139,7 @@ module _ (script : List ℕ → Tree) (run : ℕ) (acts : List ActSpec) where
   standing-last : (b : Book) (answers : List Given) (t : Try) (p : Phase) → last_try b ≡ Some t → standing_at acts (notes_of b) p ≡ standing_for (timeout_of (act_at acts (notes_of b))) (last_of t) p
   standing-last b answers t p e = ap (λ (o : Option Try). standing_by (timeout_of (act_at acts (notes_of b))) p (option_map last_of o)) e
 
-  none-stands : (o : Option Last) (k : ℕ) → standing_by k phase.Idle o ≡ None
+  pub none-stands : (o : Option Last) (k : ℕ) → standing_by k phase.Idle o ≡ None
   none-stands None k = refl
   none-stands (Some l) k = refl
 

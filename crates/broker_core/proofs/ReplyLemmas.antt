@@ -63,7 +63,7 @@ closed-if true t h d = refl
 closed-if false t h d = refl
 
 module _ (script : List ℕ → Tree) where
-  idle-is : (i : ℕ) (s : Stop) (o : Option Last) (h : Heard) (m : Message) → reply_by i s o phase.Idle h m ≡ row script Idle h (news m)
+  pub idle-is : (i : ℕ) (s : Stop) (o : Option Last) (h : Heard) (m : Message) → reply_by i s o phase.Idle h m ≡ row script Idle h (news m)
   idle-is i s None h m = refl
   idle-is i s (Some l) h m = not-deciding i l h (decided_of l.stamp m)
 
