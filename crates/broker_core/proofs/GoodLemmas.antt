@@ -33,6 +33,7 @@ use Rattle.broker_core.specs.Stages.{Stage, Idle, Refused, Opening, Asking, Fini
 use Rattle.broker_core.specs.Rows.{row, news, when, ends, decided_commit, decided_early}
 use Rattle.broker_core.specs.Rows as rows
 use Rattle.broker_core.specs.Owed.{start, by_clock, try_or_spent, after_tries, after_act, due, by_stage, owed}
+use Rattle.broker_core.specs.Brokers.{NoRun}
 use Rattle.broker_core.proofs.SoundLemmas.{and-left, and-right, and-both}
 use Rattle.broker_core.proofs.PhaseLemmas.{StageOf, stage-of-is}
 
@@ -46,7 +47,7 @@ IsPlain (effect.Got k v) = ⊥
 IsPlain (effect.Acked k) = ⊥
 IsPlain _ = Unit {0}
 
-counted : (c f : Bool) → f ≡ true → (if c then f else true) ≡ true
+pub counted : (c f : Bool) → f ≡ true → (if c then f else true) ≡ true
 counted true f h = h
 counted false f h = refl
 
@@ -62,23 +63,27 @@ after-greatest last shown c e = clock-of (nat_lt (max last shown) 1099511627775)
     clock-of false e = cc
 
 module _ (script : List ℕ → Tree) (me run : ℕ) (plan : List Task) where
-  -- the effect counts, and is no answer
+  -- the effect counts, is no answer, and begins no other run
+  abbrev pub RunIs : Effect → Type 0
+  RunIs (effect.Run n) = n ≡ run
+  RunIs _ = Unit {0}
+
   abbrev pub Good : Book → Option Effect → Type 0
   Good b None = Unit {0}
-  Good b (Some f) = (counts script me run plan b f ≡ true) × IsPlain f
+  Good b (Some f) = (counts script me run plan b f ≡ true) × IsPlain f × RunIs f
 
   start-of : (b : Book) (o : Option Task) → slice_get plan (length b.acts) ≡ o → rests b.acts ≡ true → Good b (start o)
   start-of b None e r = tt
   start-of b (Some a) e r =
-      (counted (b.run == run) _ (and-both (subst (λ (x : Option Task). is_task x (task_with a.index a.home a.timeout a.tries a.clock a.script) ≡ true) (sym e) (same_task-self a)) r), tt)
+      (counted (b.run == run) _ (and-both (subst (λ (x : Option Task). is_task x (task_with a.index a.home a.timeout a.tries a.clock a.script) ≡ true) (sym e) (same_task-self a)) r), tt, tt)
 
   try-good : (b : Book) (a : Act) (done : List Act) (o : Option ℕ) → b.acts ≡ a ∷ done → next_clock b.clock (shown_to b a) ≡ o → is_none a.spent ≡ true → may_follow a.tries ≡ true → Good b (Some (by_clock me b a o))
   try-good b a done None e n s m =
-      (counted (b.run == run) _ (subst (λ (xs : List Act). fits_spent a.task.index xs ≡ true) (sym e) (and-both (eq-eqb a.task.index a.task.index refl) (and-both s m))), tt)
+      (counted (b.run == run) _ (subst (λ (xs : List Act). fits_spent a.task.index xs ≡ true) (sym e) (and-both (eq-eqb a.task.index a.task.index refl) (and-both s m))), tt, tt)
   try-good b a done (Some c) e n s m =
       (counted (b.run == run) _ (subst (λ (xs : List Act). fits_try me a.task.index (record { clock = c; broker = me; home = a.task.home }) b.clock xs ≡ true) (sym e)
       (and-both (eq-eqb a.task.index a.task.index refl) (and-both (eq-eqb me me refl) (and-both (eq-eqb a.task.home a.task.home refl)
-      (and-both (lt-true b.clock c (after-greatest b.clock (shown_to b a) c n)) (and-both s m)))))), tt)
+      (and-both (lt-true b.clock c (after-greatest b.clock (shown_to b a) c n)) (and-both s m)))))), tt, tt)
     where
       lt-true : (x y : ℕ) → x < y → nat_lt x y ≡ true
       lt-true x y h = grind (arith, common_steps)
@@ -164,14 +169,14 @@ module _ (script : List ℕ → Tree) (me run : ℕ) (plan : List Task) where
   stage-good b h (Opening t) k = due-good h b b.acts refl
   stage-good b h (Asking t q) k = due-good h b b.acts refl
   stage-good b h (Finishing t) k = due-good h b b.acts refl
-  stage-good b h (Stopping t o) k = (counted (b.run == run) _ k, tt)
+  stage-good b h (Stopping t o) k = (counted (b.run == run) _ k, tt, tt)
   stage-good b h (Closing t) k = due-good h b b.acts refl
 
   pub owed-good : (b : Book) (h : Heard) → Good b (owed script me run plan b h)
   owed-good b h = run-first (nat_lt b.run run) refl
     where
       run-first : (c : Bool) → nat_lt b.run run ≡ c → Good b (if c then Some (effect.Run run) else by_stage me plan h b (stage script run b h))
-      run-first true e = (e, tt)
+      run-first true e = (e, tt, refl)
       run-first false e = stage-good b h (stage script run b h) (here-good b (b.run == run) _ (open-good b h (open_try b) refl))
 
   -- ---- what a message adds
@@ -179,21 +184,21 @@ module _ (script : List ℕ → Tree) (me run : ℕ) (plan : List Task) where
   abbrev pub ReplyGood : Book → Reply → Type 0
   ReplyGood b Ignored = Unit {0}
   ReplyGood b (Hears h) = Unit {0}
-  ReplyGood b (Adds f) = fits script me plan b f ≡ true
+  ReplyGood b (Adds f) = (fits script me plan b f ≡ true) × NoRun f
 
   when-good : (b : Book) (c : Bool) (r : Reply) → (c ≡ true → ReplyGood b r) → ReplyGood b (when c r)
   when-good b true r k = k refl
   when-good b false r k = tt
 
   commit-good : (b : Book) (t : Try) (d : Decision) → open_try b ≡ Some t → ReplyGood b (decided_commit t d)
-  commit-good b t decision.Committed e = end-here b t e
+  commit-good b t decision.Committed e = (end-here b t e, tt)
   commit-good b t decision.Withdrawn e = tt
-  commit-good b t (decision.Expired n m) e = end-here b t e
+  commit-good b t (decision.Expired n m) e = (end-here b t e, tt)
 
   early-good : (b : Book) (c : Bool) (t : Try) (d : Decision) → open_try b ≡ Some t → ReplyGood b (decided_early c t d)
-  early-good b c t decision.Committed e = when-good b c (ends t outcome.Committed) (λ k. end-here b t e)
+  early-good b c t decision.Committed e = when-good b c (ends t outcome.Committed) (λ k. (end-here b t e, tt))
   early-good b c t decision.Withdrawn e = tt
-  early-good b c t (decision.Expired n m) e = end-here b t e
+  early-good b c t (decision.Expired n m) e = (end-here b t e, tt)
 
   step-of : (t : Try) (x : TimeParts) → same_time (time_of t) x ≡ true → (x.step == length t.answers + 1) ≡ true
   step-of t x e = eq-eqb x.step (length t.answers + 1) (sym (ap (λ (y : TimeParts). y.step) (same_time-is (time_of t) x e)))
@@ -240,7 +245,7 @@ module _ (script : List ℕ → Tree) (me run : ℕ) (plan : List Task) where
   reading-row b t o h e q (message.Begin s n) = tt
   reading-row b t o h e q (message.Begun s) = tt
   reading-row b t o h e q (message.Read x o') = tt
-  reading-row b t o h e q (message.Value x v') = when-good b (same_time (time_of t) x) _ (λ k. got-good b t o x v' e q k)
+  reading-row b t o h e q (message.Value x v') = when-good b (same_time (time_of t) x) _ (λ k. (got-good b t o x v' e q k, tt))
   reading-row b t o h e q (message.Write x o' v') = tt
   reading-row b t o h e q (message.Stored x) = tt
   reading-row b t o h e q (message.LaterRead x e') = tt
@@ -258,9 +263,9 @@ module _ (script : List ℕ → Tree) (me run : ℕ) (plan : List Task) where
   writing-row b t o v h e q (message.Read x o') = tt
   writing-row b t o v h e q (message.Value x v') = tt
   writing-row b t o v h e q (message.Write x o' v') = tt
-  writing-row b t o v h e q (message.Stored x) = when-good b (same_time (time_of t) x) _ (λ k. acked-good b t o v x e q k)
-  writing-row b t o v h e q (message.LaterRead x e') = when-good b (same_time (time_of t) x) _ (λ k. end-here b t e)
-  writing-row b t o v h e q (message.LaterVersion x y) = when-good b (same_time (time_of t) x) _ (λ k. end-here b t e)
+  writing-row b t o v h e q (message.Stored x) = when-good b (same_time (time_of t) x) _ (λ k. (acked-good b t o v x e q k, tt))
+  writing-row b t o v h e q (message.LaterRead x e') = when-good b (same_time (time_of t) x) _ (λ k. (end-here b t e, tt))
+  writing-row b t o v h e q (message.LaterVersion x y) = when-good b (same_time (time_of t) x) _ (λ k. (end-here b t e, tt))
   writing-row b t o v h e q (message.Ended x) = when-good b (same_time (time_of t) x) _ (λ k. tt)
   writing-row b t o v h e q (message.Commit s) = tt
   writing-row b t o v h e q (message.Withdraw s) = tt

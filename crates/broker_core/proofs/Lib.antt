@@ -1,9 +1,12 @@
+pub mod AdvanceLemmas
 pub mod AnyLemmas
+pub mod DoneLemmas
 pub mod DueLemmas
 pub mod EqualLemmas
 pub mod FitLemmas
 pub mod GivenLemmas
 pub mod GoodLemmas
+pub mod LogLemmas
 pub mod MeetLemmas
 pub mod NotedLemmas
 pub mod PhaseLemmas
@@ -12,3 +15,4 @@ pub mod SettleLemmas
 pub mod ShapeLemmas
 pub mod SoundLemmas
 pub mod StopLemmas
+pub mod TurnLemmas

@@ -36,7 +36,7 @@ one-more n = omega arith
 
 -- ---- an act begins
 
-most-of-last : (acts : List ActSpec) (as' : List Act) → Started (tasks acts) as' → most_of (if length as' == 0 then None else slice_get acts (length as' - 1)) ≡ most_in as'
+pub most-of-last : (acts : List ActSpec) (as' : List Act) → Started (tasks acts) as' → most_of (if length as' == 0 then None else slice_get acts (length as' - 1)) ≡ most_in as'
 most-of-last acts [] k = refl
 most-of-last acts (a ∷ done) k = let g = last-act acts (a ∷ done) a done refl k in ap most_of g.1 ∙ ap (λ (x : Task). x.tries) g.2
 

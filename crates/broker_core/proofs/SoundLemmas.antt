@@ -86,7 +86,7 @@ module _ (plan : List Task) where
   closed-both (outcome.Expired d m) b h = on-tries (finish (outcome.Expired d m)) (λ t. (refl, refl)) b.acts h
   closed-both (outcome.Spent c) b h = spent-on c b.acts h
 
-closed-run : (o : Outcome) (b : Book) → (close o b).run ≡ b.run
+pub closed-run : (o : Outcome) (b : Book) → (close o b).run ≡ b.run
 closed-run outcome.Committed b = refl
 closed-run (outcome.Withdrawn l) b = refl
 closed-run (outcome.Failed l k) b = refl

@@ -1,5 +1,5 @@
 -- A broker, as its callers see it.
-use Rattle.std.specs.Prelude.{◌≡◌, ℕ, ◌≤◌, List}
+use Rattle.std.specs.Prelude.{◌≡◌, ℕ, List}
 use Rattle.value_form.specs.declared.acts.ActSpec.{ActSpec}
 use Rattle.broker_core.specs.declared.givens.Given.{Given}
 use Rattle.broker_core.specs.declared.heards.Heard.{Heard}
@@ -20,7 +20,6 @@ pub record BrokerParts : Type 0 where
 abbrev pub parts_of : LedgerParts → Heard → BrokerParts
 parts_of l h = record { number = l.number; run = l.run; acts = l.acts; notes = l.notes; answers = kept l.notes l.answers; heard = h }
 
--- no later run stands in the log, and the stage is that of the last try
+-- the stage is that of the last try
 pub record IsBroker (l : LedgerParts) (h : Heard) (p : Phase) : Type 0 where
-  pub not_old : l.notes.run ≤ l.run
   pub phase_is : p ≡ phase_at l.acts l.run l.notes (kept l.notes l.answers) h

@@ -85,6 +85,12 @@ standing_by timeout p (Some l) = standing_for timeout l p
 abbrev pub standing_at : List ActSpec → Notes → Phase → Option Out
 standing_at acts n p = standing_by (timeout_of (act_at acts n)) p n.last
 
+-- no request stands
+abbrev pub is_quiet : Phase → Bool
+is_quiet phase.Idle = true
+is_quiet (phase.Stopping o) = true
+is_quiet _ = false
+
 -- ---- what is heard
 
 abbrev pub ends_at : ℕ → Outcome → Reply

@@ -9,6 +9,8 @@ ghost use Rattle.broker_core.specs.Turns.{Go, Hear, Take};
 ghost use Rattle.broker_core.specs.Phases as phases;
 ghost use Rattle.broker_core.specs.Ledgers as ledgers;
 ghost use Rattle.broker_core.specs.Inputs as inputs;
+ghost use Rattle.broker_core.specs.Replays as replays;
+ghost use Rattle.broker_core.specs.Brokers as spec;
 
 use crate::heards::Heard;
 use crate::ledgers::Ledger;
@@ -52,7 +54,7 @@ impl Model for Broker {
 
 // What an input led to: the new effects, the messages and the stage.
 #[derive(Drop)]
-struct Yielded {
+struct Gain {
     effects: Vec<Effect>,
     outs: Vec<Out>,
     phase: Phase,
@@ -93,12 +95,11 @@ fn add_first(
 }
 
 // Adds the effect, and those that are owed after it, and says what is to be sent.
-fn work(
+fn yielded(
     ledger: &mut Ledger,
     first: Option<Effect>,
     heard: &Heard,
-) -> Result<Yielded, AllocError>
-    requires { length ledger.old.acts ≤ 10000 }
+) -> Result<Gain, AllocError>
     ensures effects { IfOk result (λ w. reverse w.effects.items ≡ inputs.effects_from ledger.old first heard.now) }
     ensures ledger { OnOk result (ledger.new ≡ inputs.ledger_from ledger.old first heard.now) }
     ensures phase { IfOk result (λ w. w.phase ≡ inputs.phase_in ledger.new heard.now) }
@@ -114,9 +115,10 @@ fn work(
     let phase = settle(ledger, heard, &mut effects)?;
     let out = standing(ledger, &phase)?;
     let outs = listed(alloc, out)?;
-    Ok(Yielded {
+    Ok(Gain {
         effects,
         outs,
         phase,
     })
 }
+

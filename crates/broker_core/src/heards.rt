@@ -1,3 +1,6 @@
+ghost use Rattle.std.specs.Prelude.{◌≡◌};
+ghost use Rattle.broker_core.specs.Stages.{nothing_heard};
+
 use pseudo_time::{PseudoTime, Stamp};
 
 /// What a broker heard since it was opened.
@@ -11,4 +14,18 @@ pub struct Heard {
     pub ended: Option<PseudoTime>,
     /// The stamp of the last Decided that it heard after an End.
     pub closed: Option<Stamp>,
+}
+
+impl Heard {
+    /// Nothing was heard yet.
+    pub fn nothing() -> Heard
+        ensures { result ≡ nothing_heard }
+    {
+        Heard {
+            gone: false,
+            begun: None,
+            ended: None,
+            closed: None,
+        }
+    }
 }

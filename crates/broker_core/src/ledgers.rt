@@ -95,7 +95,8 @@ impl Ledger {
     }
 
     pub fn notes(&self) -> Notes
-        ensures { result ≡ self.now.notes }
+        ensures notes { result ≡ self.now.notes }
+        ensures answered { notes.answered_in self.now.notes.last ≤ length self.now.answers }
     {
         self.notes
     }
@@ -109,7 +110,8 @@ impl Ledger {
 
     /// How many acts the plan gives the broker.
     pub fn act_count(&self) -> usize
-        ensures { result ≡ length self.now.acts }
+        ensures count { result ≡ length self.now.acts }
+        ensures few { length self.now.acts ≤ 10000 }
     {
         self.acts.len()
     }

@@ -13,5 +13,6 @@ mod phases;
 mod replies;
 mod resume_faults;
 
+pub use brokers::Broker;
 pub use heards::Heard;
 pub use resume_faults::ResumeFault;

@@ -38,6 +38,15 @@ pub enum Phase {
     Closing,
 }
 
+impl Phase {
+    /// Whether no request stands.
+    pub fn is_quiet(&self) -> bool
+        ensures { result ≡ spec.is_quiet self.now }
+    {
+        matches!(self, Phase::Idle | Phase::Stopping(_))
+    }
+}
+
 pub fn is_same_stamp(a: Stamp, b: Stamp) -> bool
     ensures { result ≡ same_stamp a b }
 {

@@ -10,9 +10,9 @@ loop-step-preserved c =
 pub returns-in_default-clause-settled : goal.returns-in_default-clause-settled
 returns-in_default-clause-settled c =
     at-rest c.args.ledger.now c.loop-step.ledger c.phase_now.new.ledger c.args.heard.now _ c.act_count.result c.args.effects.now.items c.loop-step.effects.items c.in_ok-phase.phase
-    c.loop-step.invariant c.phase_now.ensures.same c.in_ok-phase.ensures.phase (sym c.in_ok-effect.ensures ∙ c.in_default.is) c.act_count.ensures
+    c.loop-step.invariant c.phase_now.ensures.same c.in_ok-phase.ensures.phase (sym c.in_ok-effect.ensures ∙ c.in_default.is) c.act_count.ensures.count
 
 pub returns-clause-settled : goal.returns-clause-settled
 returns-clause-settled c =
     at-last c.args.ledger.now c.loop-step.ledger c.phase_now-2.new.ledger c.args.heard.now _ c.act_count.result c.args.effects.now.items c.loop-step.effects.items
-    c.loop-step.invariant c.phase_now-2.ensures.same (omega arith) c.act_count.ensures
+    c.loop-step.invariant c.phase_now-2.ensures.same (omega arith) c.act_count.ensures.count
