@@ -1,7 +1,8 @@
 -- A call's turn is that of the rules.
-use Rattle.std.proofs.Common.{◌≡◌, ℕ, zero, suc, ◌+◌, ◌*◌, ◌≤◌, ◌==◌, nat_lt, Bool, true, false, ◌&&◌, length, reverse, List, [], ◌∷◌, ◌++◌, refl, sym, ◌∙◌, ap, subst, Option, Some, None, if◌then◌else◌, arith}
+use Rattle.std.proofs.Common.{◌≡◌, ℕ, zero, suc, min, ◌+◌, ◌*◌, ◌≤◌, ◌==◌, nat_lt, Bool, true, false, ◌&&◌, length, reverse, List, [], ◌∷◌, ◌++◌, refl, sym, ◌∙◌, ap, subst, Option, Some, None, if◌then◌else◌, arith}
 use Rattle.std.proofs.lemmas.Bool.{false≢true, eq-eqb}
-use Rattle.std.proofs.lemmas.List.{length-map, reverse-reverse}
+use Rattle.std.proofs.lemmas.List.{length-map, length-take, length-take-le, reverse-reverse}
+use Rattle.std.proofs.lemmas.Grind.{common_steps}
 use Rattle.value_form.specs.declared.acts.ActSpec.{ActSpec}
 use Rattle.effect_form.specs.declared.effects.Effect.{Effect}
 use Rattle.effect_form.specs.declared.effects.Effect.TheVariants as effect
@@ -17,7 +18,7 @@ use Rattle.broker_core.specs.Book.{Book, book, enter}
 use Rattle.broker_core.specs.Fits.{fits, counts, keep}
 use Rattle.broker_core.specs.Stages.{stage, standing}
 use Rattle.broker_core.specs.Turns.{Desk, desk_at, whole, note, hears, send, fuel, state, settle_up, say}
-use Rattle.broker_core.specs.Notes.{Shows, noted}
+use Rattle.broker_core.specs.Notes.{Shows, noted, answered_in}
 use Rattle.broker_core.specs.Phases.{phase_at, standing_at}
 use Rattle.broker_core.specs.Ledgers.{LedgerParts, Settled, kept, answers_noted, settled, most_steps}
 use Rattle.broker_core.specs.Inputs.{listed, begun, firsts, settled_from, with_notes, phase_in, effects_from, ledger_from}
@@ -132,3 +133,21 @@ advance-gives script l0 l h0 h log (Some f) p effects outs turn m st ff l-is e-i
     finished script l0.number l0.run l0.acts m log (f ∷ []) (note f (hears h (desk_at log h0))) h (noted l0.acts f l0.notes) (answers_noted f l0.notes l0.answers) refl refl refl refl
     (first-at script l0.number l0.run l0.acts m log h0 h l0.notes l0.answers f st ff)
     l p effects outs turn l-is e-is p-is o-is te to
+
+-- of a broker as its callers see it
+pub advance-viewed : (script : List ℕ → Tree) (q : BrokerParts) (l0 l : LedgerParts) (h0 h : Heard) (log : List Effect) (first : Option Effect) (p : Phase) (effects : List Effect) (outs : List Out) (turn : Turn) →
+    parts_of l0 h0 ≡ q → l ≡ ledger_from l0 first h → reverse effects ≡ effects_from l0 first h → p ≡ phase_in l h → outs ≡ listed (standing_at l.acts l.notes p) → turn.effects ≡ effects → turn.outs ≡ outs →
+    Scripted script q.acts → Stands script log q → FirstFits script q log first → Gives script log (follows script q log first h) turn (parts_of l h)
+advance-viewed script q l0 l h0 h log first p effects outs turn view l-is e-is p-is o-is te to =
+    subst (λ (x : BrokerParts). Scripted script x.acts → Stands script log x → FirstFits script x log first → Gives script log (follows script x log first h) turn (parts_of l h)) view
+    (λ m st ff. advance-gives script l0 l h0 h log first p effects outs turn m st ff l-is e-is p-is o-is te to)
+
+-- where the answers that the notes count still stand, there are as many
+pub few-kept : (n n0 : Notes) (old new : List Given) → n ≡ n0 → answered_in n0.last ≤ length old → kept n0 new ≡ kept n0 old → answered_in n.last ≤ length new
+few-kept n n0 old new e few same =
+    let l : length (kept n0 old) ≡ answered_in n0.last = length-take-le (answered_in n0.last) old few in
+    let q : length (kept n0 new) ≡ min (answered_in n0.last) (length new) = length-take (answered_in n0.last) new in
+    subst (λ (x : Notes). answered_in x.last ≤ length new) (sym e) (least (answered_in n0.last) (length new) (sym q ∙ (ap length same ∙ l)))
+  where
+    least : (a b : ℕ) → min a b ≡ a → a ≤ b
+    least a b e = grind (arith, common_steps)

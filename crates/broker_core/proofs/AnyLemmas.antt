@@ -45,7 +45,7 @@ module _ (script : List ℕ → Tree) (run : ℕ) (acts : List ActSpec) where
   idle-away : (n : Notes) (answers : List Given) (b : Book) (h : Heard) → Knows n answers b → (b.run == run) ≡ false → phase_at acts run n answers h ≡ phase.Idle
   idle-away n answers b h k e = ap (λ (c : Bool). if c then phase_by_open acts n answers h (open_last n) else phase.Idle) (away n answers b false k e)
 
-  stage-away : (b : Book) (h : Heard) → (b.run == run) ≡ false → stage script run b h ≡ Idle
+  pub stage-away : (b : Book) (h : Heard) → (b.run == run) ≡ false → stage script run b h ≡ Idle
   stage-away b h e = ap (λ (c : Bool). if c then stage_of script h (open_try b) (last_try b) else Idle) e
 
   phase-by : (n : Notes) (answers : List Given) (b : Book) (h : Heard) (c : Bool) → Knows n answers b → (b.run == run) ≡ c → phase_at acts run n answers h ≡ shown (stage script run b h)

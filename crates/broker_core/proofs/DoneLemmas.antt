@@ -110,3 +110,26 @@ ignored-gives script p log d turn st e none nothing = record {
   heard = sym (ap (λ (x : Desk). x.heard) e);
   stands = subst (λ (xs : List Effect). Stands script (reverse xs ++ log) p) (sym none) st;
 }
+
+pub hear-viewed : (script : List ℕ → Tree) (q : BrokerParts) (l : LedgerParts) (h : Heard) (p : Phase) (log : List Effect) (moment : ℕ) (out : Option Out) (effects : List Effect) (outs : List Out) (turn : Turn) →
+    parts_of l h ≡ q → p ≡ phase_at l.acts l.run l.notes (kept l.notes l.answers) h → out ≡ standing_at l.acts l.notes p → turn.effects ≡ effects → effects ≡ [] → turn.outs ≡ outs → outs ≡ listed out →
+    Scripted script q.acts → Stands script log q → Gives script log (turn_of script q log (Hear moment)) turn q
+hear-viewed script q l h p log moment out effects outs turn view p-is o-is te none to os =
+    subst (λ (x : BrokerParts). Scripted script x.acts → Stands script log x → Gives script log (turn_of script x log (Hear moment)) turn x) view
+    (λ m st. hear-gives script (parts_of l h) log moment turn m st (te ∙ none) (to ∙ (os ∙ ap listed (o-is ∙ ap (standing_at l.acts l.notes) p-is))))
+
+done-viewed : (script : List ℕ → Tree) (q : BrokerParts) (l : LedgerParts) (h : Heard) (p : Phase) (log : List Effect) → parts_of l h ≡ q → p ≡ phase_at l.acts l.run l.notes (kept l.notes l.answers) h →
+    Scripted script q.acts → Stands script log q → (over_by q.run q.acts q.notes && is_quiet p) ≡ is_done script q log
+done-viewed script q l h p log view p-is =
+    subst (λ (x : BrokerParts). Scripted script x.acts → Stands script log x → (over_by x.run x.acts x.notes && is_quiet p) ≡ is_done script x log) view
+    (λ m st. ap (λ (y : Phase). over_by l.run l.acts l.notes && is_quiet y) p-is ∙ done-is script (parts_of l h) log m st)
+
+pub done-then : (script : List ℕ → Tree) (q : BrokerParts) (l : LedgerParts) (h : Heard) (p : Phase) (log : List Effect) (over quiet : Bool) → parts_of l h ≡ q → p ≡ phase_at l.acts l.run l.notes (kept l.notes l.answers) h →
+    over ≡ over_by q.run q.acts q.notes → over ≡ true → quiet ≡ is_quiet p → Scripted script q.acts → Stands script log q → quiet ≡ is_done script q log
+done-then script q l h p log over quiet view p-is o t e m st =
+    e ∙ (ap (λ (c : Bool). c && is_quiet p) (sym t ∙ o) ∙ done-viewed script q l h p log view p-is m st)
+
+pub done-else : (script : List ℕ → Tree) (q : BrokerParts) (l : LedgerParts) (h : Heard) (p : Phase) (log : List Effect) (over : Bool) → parts_of l h ≡ q → p ≡ phase_at l.acts l.run l.notes (kept l.notes l.answers) h →
+    over ≡ over_by q.run q.acts q.notes → over ≡ false → Scripted script q.acts → Stands script log q → over ≡ is_done script q log
+done-else script q l h p log over view p-is o t m st =
+    t ∙ (ap (λ (c : Bool). c && is_quiet p) (sym t ∙ o) ∙ done-viewed script q l h p log view p-is m st)

@@ -9,10 +9,12 @@ pub mod GoodLemmas
 pub mod LogLemmas
 pub mod MeetLemmas
 pub mod NotedLemmas
+pub mod OpenLemmas
 pub mod PhaseLemmas
 pub mod ReplyLemmas
 pub mod SettleLemmas
 pub mod ShapeLemmas
 pub mod SoundLemmas
 pub mod StopLemmas
+pub mod TakeLemmas
 pub mod TurnLemmas
