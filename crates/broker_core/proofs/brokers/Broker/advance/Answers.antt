@@ -1,0 +1,13 @@
+use Rattle.broker_core.proofs.AdvanceLemmas.{advance-viewed, few-kept}
+use Rattle.broker_core.proofs.brokers.Broker.advance.Goals as goal
+
+pub invariant_of-self : goal.invariant_of-self
+invariant_of-self c = record { phase_is = c.in-Ok.ensures.phase }
+
+pub restore-requires : goal.restore-requires
+restore-requires c = few-kept c.notes-before.result c.self.inside.ledger.notes c.self.inside.ledger.answers c.yielded.new.ledger.answers c.notes-before.ensures.notes c.notes-before.ensures.answered c.yielded.ensures.kept
+
+pub returns-in-Ok-clause-gives : goal.returns-in-Ok-clause-gives
+returns-in-Ok-clause-gives c = λ script log.
+    advance-viewed script c.args.self.now c.self.inside.ledger c.yielded.new.ledger c.self.inside.heard c.args.heard log c.args.first c.in-Ok.field-0.phase c.in-Ok.field-0.effects.items c.in-Ok.field-0.outs.items c.of.result
+    c.self.view_is c.in-Ok.ensures.ledger c.in-Ok.ensures.effects c.in-Ok.ensures.phase c.in-Ok.ensures.outs c.of.ensures.0 c.of.ensures.1

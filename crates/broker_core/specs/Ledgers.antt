@@ -1,0 +1,89 @@
+-- What a broker holds in memory, as its callers see it, and what always holds of it.
+use Rattle.std.specs.Prelude.{◌≡◌, ℕ, ◌≤◌, ◌+◌, ◌*◌, zero, suc, length, List, [], ◌∷◌, ◌++◌, Option, Some, None, take}
+use Rattle.value_form.specs.declared.acts.ActSpec.{ActSpec}
+use Rattle.value_form.specs.declared.scripts.Stmt.{Stmt}
+use Rattle.value_form.specs.Ranges.{IsScript}
+use Rattle.pseudo_time.specs.Lists.{Every}
+use Rattle.effect_form.specs.declared.effects.Effect.{Effect}
+use Rattle.effect_form.specs.declared.effects.Effect.TheVariants as effect
+use Rattle.script_run.specs.Told.{Told}
+use Rattle.broker_core.specs.declared.givens.Given.{Given}
+use Rattle.broker_core.specs.declared.givens.Given.TheVariants as given
+use Rattle.broker_core.specs.declared.heards.Heard.{Heard}
+use Rattle.broker_core.specs.declared.notes.Notes.{Notes}
+use Rattle.broker_core.specs.declared.phases.Phase.{Phase}
+use Rattle.broker_core.specs.Notes.{act_at, answered_in, answers_of, changed}
+use Rattle.broker_core.specs.Phases.{phase_at, owed_at}
+
+-- an act that a plan can have
+pub record IsAct (a : ActSpec) : Type 0 where
+  pub home_low : 1 ≤ a.home
+  pub home_high : a.home ≤ 16
+  pub script : IsScript a.script.lines
+
+pub record AreActs (acts : List ActSpec) : Type 0 where
+  pub each : Every IsAct acts
+  pub few : length acts ≤ 10000
+
+-- what a log comes to, with the acts that the plan gives the broker
+pub record LedgerParts : Type 0 where
+  pub number : ℕ
+  pub run : ℕ
+  pub acts : List ActSpec
+  pub notes : Notes
+  pub answers : List Given
+
+-- the answers of the last try
+abbrev pub kept : Notes → List Given → List Given
+kept n answers = take (answered_in n.last) answers
+
+abbrev pub lines_of : Option ActSpec → List Stmt
+lines_of None = []
+lines_of (Some a) = a.script.lines
+
+-- a run of the script at hand, with the answers so far
+abbrev pub StepperFits : List ActSpec → Notes → List Given → Option Told → Type 0
+StepperFits acts n answers None = Unit {0}
+StepperFits acts n answers (Some r) = (r.script ≡ lines_of (act_at acts n)) × (r.answers ≡ answers_of (kept n answers))
+
+pub record IsLedger (number : ℕ) (acts : List ActSpec) (n : Notes) (answers : List Given) (stepper : Option Told) : Type 0 where
+  pub number_low : 1 ≤ number
+  pub number_high : number ≤ 16
+  pub are_acts : AreActs acts
+  pub answered : answered_in n.last ≤ length answers
+  pub stepper_fits : StepperFits acts n answers stepper
+
+-- ---- the effects that are owed
+
+abbrev pub answers_noted : Effect → Notes → List Given → List Given
+answers_noted (effect.Run m) n answers = answers
+answers_noted (effect.Act i h t k c x) n answers = answers
+answers_noted (effect.Try i s) n answers = answers
+answers_noted (effect.Got k v) n answers = kept n answers ++ given.Got v ∷ []
+answers_noted (effect.Acked k) n answers = kept n answers ++ given.Stored ∷ []
+answers_noted (effect.End i o) n answers = answers
+answers_noted (effect.Put o x v) n answers = answers
+answers_noted (effect.Stretch o x) n answers = answers
+answers_noted (effect.Begin s d) n answers = answers
+answers_noted (effect.Decide s d) n answers = answers
+answers_noted (effect.Learn s c) n answers = answers
+
+abbrev pub most_steps : List ActSpec → ℕ
+most_steps acts = 3 * length acts + 3
+
+-- notes, and the effects that led to them, newest first
+abbrev pub Settled : Type 0
+Settled = List Effect × Notes
+
+module _ (me run : ℕ) (acts : List ActSpec) (answers : List Given) (h : Heard) where
+  abbrev pub owed_now : Notes → Option Effect
+  owed_now n = owed_at me acts run n h (phase_at acts run n (kept n answers) h)
+
+  abbrev pub settle_on : (List Effect → Notes → Settled) → Option Effect → List Effect → Notes → Settled
+  settle_on next None fresh n = (fresh, n)
+  settle_on next (Some f) fresh n = next (f ∷ fresh) (changed acts f n)
+
+  -- the effects that are owed, one after another, at most so many
+  unfoldable pub settled : ℕ → List Effect → Notes → Settled
+  settled zero fresh n = (fresh, n)
+  settled (suc k) fresh n = settle_on (settled k) (owed_now n) fresh n

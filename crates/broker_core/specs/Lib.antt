@@ -1,0 +1,16 @@
+pub mod Book
+pub mod Brokers
+pub mod Fits
+pub mod Inputs
+pub mod Ledgers
+pub mod Notes
+pub mod Owed
+pub mod Parts
+pub mod Phases
+pub mod Replays
+pub mod Rows
+pub mod Sound
+pub mod Stages
+pub mod Tasks
+pub mod Tests
+pub mod Turns

@@ -1,0 +1,269 @@
+ghost use Rattle.std.specs.Prelude.{◌≡◌, ◌≤◌, ◌++◌, [], ◌∷◌, ℕ, List, Some, None, reverse, length, IfOk, OnOk, OnErr};
+ghost use Rattle.std.specs.Option.{option_copied};
+ghost use Rattle.effect_form.specs.declared.effects.Effect.{Effect};
+ghost use Rattle.turn_form.specs.declared.turns.Out.{Out};
+ghost use Rattle.serial_model.specs.Questions.{Tree};
+ghost use Rattle.broker_core.specs.Tasks.{Scripted};
+ghost use Rattle.broker_core.specs.Stages.{nothing_heard};
+ghost use Rattle.broker_core.specs.Turns.{Go, Hear, Take};
+ghost use Rattle.broker_core.specs.Phases as phases;
+ghost use Rattle.broker_core.specs.Ledgers as ledgers;
+ghost use Rattle.broker_core.specs.Inputs as inputs;
+ghost use Rattle.broker_core.specs.Replays as replays;
+ghost use Rattle.broker_core.specs.Brokers as spec;
+
+use crate::heards::Heard;
+use crate::ledgers::Ledger;
+use crate::logs::take_up_all;
+use crate::owed::settle;
+use crate::phases::{Phase, phase_now, standing};
+use crate::replies::{Reply, reply_to};
+use crate::resume_faults::ResumeFault;
+use effect_form::Effect;
+use message_form::Message;
+use pseudo_time::NodeId;
+use std::alloc::{AllocError, Global};
+use std::marker::Model;
+use turn_form::{Out, Turn};
+use value_form::ActSpec;
+
+/// A broker in a run of a plan. It keeps notes on its log, and not the log.
+///
+/// A call that answers an error found no memory, and the broker is as before.
+#[derive(Drop)]
+pub struct Broker {
+    ledger: Ledger,
+    heard: Heard,
+    /// The stage of the last try.
+    phase: Phase,
+}
+
+impl Model for Broker {
+    ghost use Rattle.std.specs.Coded.{codes};
+    ghost use Rattle.value_form.specs.contracts.scripts.Stmt as stmt;
+    ghost use Rattle.broker_core.specs.Parts.{BrokerParts, parts_of, IsBroker};
+
+    ghost Value = { BrokerParts };
+
+    ghost coded = { Prim.hlevel (codes, stmt.the_row.coded) };
+
+    ghost view = { λ b. parts_of b.ledger b.heard };
+
+    ghost invariant = { λ b. IsBroker b.ledger b.heard b.phase };
+}
+
+// What an input led to: the new effects, the messages and the stage.
+#[derive(Drop)]
+struct Gain {
+    effects: Vec<Effect>,
+    outs: Vec<Out>,
+    phase: Phase,
+}
+
+// A list of what there is.
+fn listed(alloc: Global, out: Option<Out>) -> Result<Vec<Out>, AllocError>
+    ensures { IfOk result (λ v. v.items ≡ inputs.listed out) }
+{
+    let mut outs = Vec::new(alloc);
+    if let Some(out) = out {
+        outs.push(out)?;
+    }
+    Ok(outs)
+}
+
+// Adds the effect to the ledger, if there is one, and to the list.
+fn add_first(
+    ledger: &mut Ledger,
+    effects: &mut Vec<Effect>,
+    first: Option<Effect>,
+) -> Result<(), AllocError>
+    requires { effects.old.items ≡ [] }
+    ensures ok { OnOk result (ledger.new ≡ inputs.begun ledger.old first) }
+    ensures effects { OnOk result (effects.new.items ≡ inputs.firsts first) }
+    ensures notes { OnErr result (ledger.new.notes ≡ ledger.old.notes) }
+    ensures kept { ledgers.kept ledger.old.notes ledger.new.answers ≡ ledgers.kept ledger.old.notes ledger.old.answers }
+    ensures number { ledger.new.number ≡ ledger.old.number }
+    ensures run { ledger.new.run ≡ ledger.old.run }
+    ensures acts { ledger.new.acts ≡ ledger.old.acts }
+{
+    if let Some(effect) = first {
+        effects.reserve(1)?;
+        ledger.note(&effect)?;
+        effects.push_reserved(effect);
+    }
+    Ok(())
+}
+
+// Adds the effect, and those that are owed after it, and says what is to be sent.
+fn yielded(
+    ledger: &mut Ledger,
+    first: Option<Effect>,
+    heard: &Heard,
+) -> Result<Gain, AllocError>
+    ensures effects { IfOk result (λ w. reverse w.effects.items ≡ inputs.effects_from ledger.old first heard.now) }
+    ensures ledger { OnOk result (ledger.new ≡ inputs.ledger_from ledger.old first heard.now) }
+    ensures phase { IfOk result (λ w. w.phase ≡ inputs.phase_in ledger.new heard.now) }
+    ensures outs { IfOk result (λ w. w.outs.items ≡ inputs.listed (phases.standing_at ledger.new.acts ledger.new.notes w.phase)) }
+    ensures kept { ledgers.kept ledger.old.notes ledger.new.answers ≡ ledgers.kept ledger.old.notes ledger.old.answers }
+    ensures number { ledger.new.number ≡ ledger.old.number }
+    ensures run { ledger.new.run ≡ ledger.old.run }
+    ensures acts { ledger.new.acts ≡ ledger.old.acts }
+{
+    let alloc = ledger.alloc();
+    let mut effects = Vec::new(alloc);
+    add_first(ledger, &mut effects, first)?;
+    let phase = settle(ledger, heard, &mut effects)?;
+    let out = standing(ledger, &phase)?;
+    let outs = listed(alloc, out)?;
+    Ok(Gain {
+        effects,
+        outs,
+        phase,
+    })
+}
+
+// Why the broker can't go on from a log that led to these notes: `other` is the index of the first act
+// that isn't the plan's.
+fn resume_fault(ledger: &Ledger, other: Option<u32>) -> Option<ResumeFault>
+    ensures { result ≡ inputs.fault_of ledger.now other }
+{
+    let latest = ledger.notes().run;
+    if ledger.run() < latest {
+        return Some(ResumeFault::OldRun { latest });
+    }
+    match other {
+        Some(index) if ledger.is_here() => Some(ResumeFault::OtherPlan { index }),
+        _ => None,
+    }
+}
+
+impl Broker {
+    ghost use Rattle.broker_core.specs.Parts.{BrokerParts};
+
+    /// The broker of this number goes on from its log, in a run with these acts.
+    ///
+    /// Numbers of brokers are 1 to 16, and the acts are those of a plan. OldRun exactly where the log's
+    /// last run is later than this one; OtherPlan exactly where it is this one and the log has an act
+    /// of it that isn't the plan's in its place, or doesn't fit.
+    pub fn open(
+        alloc: Global,
+        number: u8,
+        run: u32,
+        acts: &[ActSpec],
+        effects: &[Effect],
+    ) -> Result<Broker, ResumeFault>
+        requires low { 1 ≤ number }
+        requires high { number ≤ 16 }
+        requires acts { ledgers.AreActs acts.now }
+        ensures opens { (script : List ℕ → Tree) → Scripted script acts.now → spec.Opens script number run acts.now (reverse effects.now) result }
+        ensures fresh { IfOk result (λ b. spec.is_fresh number run acts.now b) }
+    {
+        let mut ledger = Ledger::new(alloc, number, run, acts)?;
+        let other = take_up_all(&mut ledger, effects)?;
+        if let Some(fault) = resume_fault(&ledger, other) {
+            return Err(fault);
+        }
+        let heard = Heard::nothing();
+        let phase = phase_now(&mut ledger, &heard)?;
+        Ok(Broker {
+            ledger,
+            heard,
+            phase,
+        })
+    }
+
+    // Adds the effect, hears what is heard now, and what follows.
+    fn advance(&mut self, first: Option<Effect>, heard: Heard) -> Result<Turn, AllocError>
+        ensures gives { (script : List ℕ → Tree) (log : List Effect) → Scripted script self.old.acts → spec.Stands script log self.old → spec.FirstFits script self.old log first → IfOk result (λ t. spec.Gives script log (spec.follows script self.old log first heard) t self.new) }
+        ensures number { self.new.number ≡ self.old.number }
+        ensures run { self.new.run ≡ self.old.run }
+        ensures acts { self.new.acts ≡ self.old.acts }
+        ensures err { OnErr result (self.new ≡ self.old) }
+    {
+        let before = self.ledger.notes();
+        match yielded(&mut self.ledger, first, &heard) {
+            Ok(Gain {
+                effects,
+                outs,
+                phase,
+            }) => {
+                self.heard = heard;
+                self.phase = phase;
+                Ok(Turn::of(effects, outs))
+            }
+            Err(wanting) => {
+                self.ledger.restore(before);
+                Err(wanting)
+            }
+        }
+    }
+
+    /// The broker goes: what is owed is done, and the outstanding request is sent.
+    pub fn go(&mut self) -> Result<Turn, AllocError>
+        ensures gives { (script : List ℕ → Tree) (log : List Effect) → Scripted script self.old.acts → spec.Stands script log self.old → IfOk result (λ t. spec.Gives script log (spec.turn_of script self.old log Go) t self.new) }
+        ensures number { self.new.number ≡ self.old.number }
+        ensures run { self.new.run ≡ self.old.run }
+        ensures acts { self.new.acts ≡ self.old.acts }
+        ensures err { OnErr result (self.new ≡ self.old) }
+    {
+        let heard = Heard {
+            gone: true,
+            ..self.heard
+        };
+        let turn = self.advance(None, heard)?;
+        Ok(turn)
+    }
+
+    /// A message is heard where it answers the outstanding request. Then what is owed is done, and the
+    /// next request is sent. Every other message is ignored.
+    pub fn take(&mut self, _from: NodeId, message: &Message) -> Result<Turn, AllocError>
+        ensures gives { (script : List ℕ → Tree) (log : List Effect) → Scripted script self.old.acts → spec.Stands script log self.old → IfOk result (λ t. spec.Gives script log (spec.turn_of script self.old log (Take _from message.now)) t self.new) }
+        ensures number { self.new.number ≡ self.old.number }
+        ensures run { self.new.run ≡ self.old.run }
+        ensures acts { self.new.acts ≡ self.old.acts }
+        ensures err { OnErr result (self.new ≡ self.old) }
+    {
+        match reply_to(&mut self.ledger, &self.phase, &self.heard, message)? {
+            Reply::Ignored => Ok(Turn::quiet(self.ledger.alloc())),
+            Reply::Hears(heard) => {
+                let turn = self.advance(None, heard)?;
+                Ok(turn)
+            }
+            Reply::Adds(effect) => {
+                let heard = self.heard;
+                let turn = self.advance(Some(effect), heard)?;
+                Ok(turn)
+            }
+        }
+    }
+
+    /// A moment is heard, and the outstanding request is sent again.
+    pub fn hear(&mut self, _moment: u64) -> Result<Turn, AllocError>
+        ensures gives { (script : List ℕ → Tree) (log : List Effect) → Scripted script self.old.acts → spec.Stands script log self.old → IfOk result (λ t. spec.Gives script log (spec.turn_of script self.old log (Hear _moment)) t self.new) }
+        ensures same { self.new ≡ self.old }
+    {
+        let alloc = self.ledger.alloc();
+        let out = standing(&self.ledger, &self.phase)?;
+        let outs = listed(alloc, out)?;
+        Ok(Turn::of(Vec::new(alloc), outs))
+    }
+
+    // Whether each act of the plan has its outcome.
+    fn is_over(&self) -> bool
+        ensures { result ≡ inputs.over_by self.now.run self.now.acts self.now.notes }
+    {
+        if !self.ledger.is_here() {
+            return self.ledger.act_count() == 0;
+        }
+        let notes = self.ledger.notes();
+        let most = self.ledger.last_act().map_or(0, |act| act.tries);
+        notes.started == self.ledger.act_count() && notes.is_over(most)
+    }
+
+    /// Whether each act has its outcome and no request is outstanding. Takes no memory.
+    pub fn done(&self) -> bool
+        ensures { (script : List ℕ → Tree) (log : List Effect) → Scripted script self.now.acts → spec.Stands script log self.now → result ≡ spec.is_done script self.now log }
+    {
+        self.is_over() && self.phase.is_quiet()
+    }
+}

@@ -1,0 +1,18 @@
+//! A broker: it carries out the acts of a plan, one attempt after another, and goes on from its log
+//! where a crash left it (Reed 1978, Svobodova 1981).
+#![tactic(auto)]
+
+mod brokers;
+mod givens;
+mod heards;
+mod ledgers;
+mod logs;
+mod notes;
+mod owed;
+mod phases;
+mod replies;
+mod resume_faults;
+
+pub use brokers::Broker;
+pub use heards::Heard;
+pub use resume_faults::ResumeFault;
