@@ -1,0 +1,15 @@
+pub mod AnyLog
+pub mod Desks
+pub mod Done
+pub mod Found
+pub mod Fuel
+pub mod Kept
+pub mod LastTry
+pub mod Limits
+pub mod Moves
+pub mod NewRequest
+pub mod Parts
+pub mod ReadyLemmas
+pub mod TestLemmas
+pub mod Tries
+pub mod TurnLemmas

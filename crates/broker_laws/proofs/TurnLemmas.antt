@@ -1,0 +1,232 @@
+-- gates, crashes, more messages, and turns over any log
+use Rattle.std.proofs.Common.{inl, ◌≡◌, ℕ, zero, suc, ◌-◌, ◌≤◌, nat_lt, true, false, length, take, drop, List, [], ◌∷◌, ◌++◌, refl, sym, ◌∙◌, ap, subst, Option, Some, None, arith, append_assoc}
+use Rattle.std.proofs.lemmas.List.{take-append-drop}
+use Rattle.std.proofs.lemmas.Grind.{common_steps}
+use Rattle.std.specs.List.{slice_get}
+use Rattle.broker_core.specs.Tasks.{Task}
+use Rattle.effect_form.specs.declared.effects.Effect.{Effect}
+use Rattle.effect_form.specs.declared.effects.Effect.TheVariants as effect
+use Rattle.effect_form.specs.declared.outcomes.Outcome.{Outcome}
+use Rattle.effect_form.specs.declared.outcomes.Outcome.TheVariants as outcome
+use Rattle.message_form.specs.declared.messages.Message.{Message}
+use Rattle.pseudo_time.specs.declared.nodes.NodeId.{NodeId}
+use Rattle.turn_form.specs.declared.turns.Out.{Out}
+use Rattle.turn_form.specs.Posts.{Post}
+use Rattle.broker_core.specs.Book.{Book, Try, book, close, enter, open_try}
+use Rattle.broker_core.specs.Fits.{keep, other_plan, unfit_act}
+use Rattle.broker_core.specs.Rows.{news}
+use Rattle.broker_core.specs.Stages.{broker, nothing_heard, stage}
+use Rattle.broker_core.specs.Turns.{Desk, Go, Hear, Input, Take, desk_turn, fuel, hears, note, note_if, reply, say, send, settle_up, state, whole}
+use Rattle.broker_core.specs.declared.heards.Heard.{Heard}
+use Rattle.broker_core.specs.declared.replies.Reply.{Reply}
+use Rattle.broker_core.specs.declared.replies.Reply.TheVariants.{Adds, Hears, Ignored}
+use Rattle.broker_laws.proofs.Desks.{OwedOk, ReplyOk, news-came, note-state, owed-ok, row-ok, stage-ok}
+use Rattle.broker_laws.proofs.Fuel.{all-settled}
+use Rattle.broker_laws.proofs.Kept.{first-none, kept}
+use Rattle.broker_laws.proofs.Moves.{cut, grown}
+use Rattle.broker_laws.specs.Fits.{FitsBook, FitsLog, IsReady, IsTidy}
+use Rattle.broker_laws.specs.Posts.{AnswerCame, EndCame, HasCause, HasCome, HaveCauses, OfOpen}
+use Rattle.broker_laws.specs.Works.{Added, IsRested, TurnHolds, crash, gate}
+use Rattle.script_meaning.specs.Meaning.{Answer, Got, Stored}
+use Rattle.serial_model.specs.Questions.{Tree}
+use Rattle.turn_form.specs.Growth.{Grew}
+use Rattle.pseudo_time.proofs.ListLemmas.{has-left}
+
+module _ (script : List ℕ → Tree) (me : ℕ) where
+  -- a ready log was ready before
+  run-close : (o : Outcome) (b : Book) → b.run ≤ (close o b).run
+  run-close outcome.Committed b = omega arith
+  run-close (outcome.Withdrawn l) b = omega arith
+  run-close (outcome.Failed l k) b = omega arith
+  run-close (outcome.LaterRead o e) b = omega arith
+  run-close (outcome.LaterVersion o x) b = omega arith
+  run-close (outcome.Expired d m) b = omega arith
+  run-close (outcome.Spent c) b = omega arith
+
+  runs-rise : (b : Book) (f : Effect) → FitsBook script me b f → b.run ≤ (enter f b).run
+  runs-rise b (effect.Run n) h = omega arith
+  runs-rise b (effect.Act i x t k c y) h = omega arith
+  runs-rise b (effect.Try i s) h = omega arith
+  runs-rise b (effect.Got k v) h = omega arith
+  runs-rise b (effect.Acked k) h = omega arith
+  runs-rise b (effect.End i o) h = run-close o b
+  runs-rise b (effect.Put o x v) h = omega arith
+  runs-rise b (effect.Stretch o x) h = omega arith
+  runs-rise b (effect.Begin s d) h = omega arith
+  runs-rise b (effect.Decide s d) h = omega arith
+  runs-rise b (effect.Learn s d) h = omega arith
+
+  not-over : (run m n : ℕ) → m ≤ n → nat_lt run n ≡ false → nat_lt run m ≡ false
+  not-over run m n h k = grind (arith, common_steps)
+
+  module _ (run : ℕ) (acts : List Task) where
+    ready-before : (log : List Effect) (f : Effect) → IsTidy script me (f ∷ log) → IsReady script me run acts (f ∷ log) → IsReady script me run acts log
+    unfolding book other_plan
+    ready-before log f t r =
+        let n = first-none script me run acts (other_plan script me run acts log) (unfit_act script me run acts (book (keep script me run acts log)) f) r.same_plan in
+        let k : keep script me run acts log ≡ log = kept script me run acts log t.0 n.0 in
+        let k' : keep script me run acts (f ∷ log) ≡ f ∷ log = kept script me run acts (f ∷ log) t r.same_plan in
+        let e : nat_lt run (enter f (book log)).run ≡ false = subst (λ l. nat_lt run (book l).run ≡ false) k' r.not_old in
+        record {
+          not_old = subst (λ l. nat_lt run (book l).run ≡ false) (sym k) (not-over run (book log).run (enter f (book log)).run (runs-rise (book log) f t.1) e);
+          same_plan = n.0;
+        }
+
+    pub ready-cut : (late log : List Effect) → IsTidy script me (late ++ log) → IsReady script me run acts (late ++ log) → IsReady script me run acts log
+    ready-cut [] log t r = r
+    ready-cut (f ∷ late) log t r = ready-cut late log t.0 (ready-before (late ++ log) f t r)
+
+    effs-cut : (ever : List Post) (late log : List Effect) → HaveCauses me ever (late ++ log) → HaveCauses me ever log
+    effs-cut ever [] log h = h
+    effs-cut ever (f ∷ late) log h = effs-cut ever late log h.0
+
+    pub opened-ok : (ever : List Post) (log : List Effect) → IsTidy script me log → HaveCauses me ever log → IsReady script me run acts log →
+        TurnHolds script me run acts ever (record { base = log; fresh = []; outs = []; heard = nothing_heard })
+    opened-ok ever log t v r = record { desk = record { tidy = t; grew = tt; causes = v; outs = tt }; ready = r }
+
+    none-below : (n : ℕ) → nat_lt n 0 ≡ false
+    none-below n = grind (arith, common_steps)
+
+    pub blank-ok : (ever : List Post) → TurnHolds script me run acts ever (record { base = []; fresh = []; outs = []; heard = nothing_heard })
+    unfolding other_plan keep book
+    blank-ok ever = opened-ok ever [] tt tt (record { not_old = none-below run; same_plan = refl })
+
+    -- gate and crash
+    pub gate-ok : (ever : List Post) (d : Desk) → TurnHolds script me run acts ever d → TurnHolds script me run acts ever (gate d)
+    gate-ok ever d k = record {
+      desk = record { tidy = grown script me d.base d.fresh k.desk.tidy k.desk.grew; grew = tt; causes = k.desk.causes; outs = tt };
+      ready = k.ready;
+    }
+
+    pub crash-ok : (ever : List Post) (kept : ℕ) (d : Desk) → TurnHolds script me run acts ever d → TurnHolds script me run acts ever (crash kept d)
+    crash-ok ever kept d k =
+        let n : ℕ = length d.fresh - kept in
+        let split : take n d.fresh ++ drop n d.fresh ≡ d.fresh = take-append-drop n d.fresh in
+        let g : Grew (FitsLog script me) d.base (drop n d.fresh) =
+        cut script me d.base (take n d.fresh) (drop n d.fresh) (subst (λ xs. Grew (FitsLog script me) d.base xs) (sym split) k.desk.grew) in
+        let all : d.fresh ++ d.base ≡ take n d.fresh ++ (drop n d.fresh ++ d.base) =
+        ap (λ xs. xs ++ d.base) (sym split) ∙ append_assoc (take n d.fresh) (drop n d.fresh) d.base in
+        record {
+          desk = record {
+            tidy = grown script me d.base (drop n d.fresh) k.desk.tidy g;
+            grew = tt;
+            causes = effs-cut ever (take n d.fresh) _ (subst (λ xs. HaveCauses me ever xs) all k.desk.causes);
+            outs = tt;
+          };
+          ready = ready-cut (take n d.fresh) _
+              (subst (λ xs. IsTidy script me xs) all (grown script me d.base d.fresh k.desk.tidy k.desk.grew))
+              (subst (λ xs. IsReady script me run acts xs) all k.ready);
+        }
+
+    -- a turn over any log: what it adds counts
+    added-refl : (d : Desk) → Added script me run acts d d
+    added-refl d = record { base = refl; more = []; fresh = refl; count = refl }
+
+    added-one : (d x : Desk) (f : Effect) → keep script me run acts (whole (note f d)) ≡ f ∷ keep script me run acts (whole d) →
+        Added script me run acts (note f d) x → Added script me run acts d x
+    added-one d x f e h = record {
+      base = h.base;
+      more = h.more ++ (f ∷ []);
+      fresh = h.fresh ∙ sym (append_assoc h.more (f ∷ []) d.fresh);
+      count = h.count ∙ ap (λ l. h.more ++ l) e ∙ sym (append_assoc h.more (f ∷ []) (keep script me run acts (whole d)));
+    }
+
+    added-if : (next : Desk → Desk) → ((d : Desk) → Added script me run acts d (next d)) → (d : Desk) (o : Option Effect) →
+        OwedOk script me run acts [] (state script me run acts d) o → Added script me run acts d (note_if next o d)
+    added-if next step d None g = added-refl d
+    added-if next step d (Some f) g = added-one d (next (note f d)) f (note-state script me run acts [] d f g) (step (note f d))
+
+    settle-added : (n : ℕ) (d : Desk) → Added script me run acts d (settle_up script me run acts n d)
+    unfolding settle_up
+    settle-added zero d = added-refl d
+    settle-added (suc n) d =
+        added-if (settle_up script me run acts n) (λ x. settle-added n x) d _ (owed-ok script me run acts [] (state script me run acts d) d.heard)
+
+    send-added : (d x : Desk) (o : Option Out) → Added script me run acts d x → Added script me run acts d (send o x)
+    send-added d x None h = h
+    send-added d x (Some o) h = record { base = h.base; more = h.more; fresh = h.fresh; count = h.count }
+
+    hears-added : (d x : Desk) (h : Heard) → Added script me run acts (hears h d) x → Added script me run acts d x
+    hears-added d x h k = record { base = k.base; more = k.more; fresh = k.fresh; count = k.count }
+
+    say-added : (d : Desk) → Added script me run acts d (say script me run acts (settle_up script me run acts (fuel acts) d))
+    say-added d = send-added d _ _ (settle-added (fuel acts) d)
+
+    reply-added : (ever : List Post) (d : Desk) (r : Reply) → ReplyOk script me run acts ever (state script me run acts d) r → Added script me run acts d (reply script me run acts d r)
+    reply-added ever d Ignored g = added-refl d
+    reply-added ever d (Hears h) g = hears-added d _ h (say-added (hears h d))
+    reply-added ever d (Adds f) g = added-one d _ f (note-state script me run acts ever d f g) (say-added (note f d))
+
+    -- as if the message was sent
+    alone : NodeId → Message → List Post
+    alone from m = record { from = from; to = broker me; message = m } ∷ []
+
+    pub turn-added : (d : Desk) (i : Input) → Added script me run acts d (desk_turn script me run acts d i)
+    unfolding alone
+    turn-added d Go = hears-added d _ (record d.heard { gone = true }) (say-added _)
+    turn-added d (Hear m) = send-added d d _ (added-refl d)
+    turn-added d (Take from m) =
+        let b : Book = state script me run acts d in
+        reply-added (alone from m) d _ (row-ok script me run acts (alone from m) b (stage script run b d.heard) d.heard (news m)
+        (stage-ok script me run acts b d.heard) (news-came script me run acts (alone from m) m (from, inl refl)))
+
+    -- after it nothing is owed
+    send-rested : (d : Desk) (o : Option Out) → IsRested script me run acts d → IsRested script me run acts (send o d)
+    send-rested d None h = h
+    send-rested d (Some o) h = h
+
+    pub say-rested : (d : Desk) → IsRested script me run acts (say script me run acts (settle_up script me run acts (fuel acts) d))
+    say-rested d = send-rested (settle_up script me run acts (fuel acts) d) _ (all-settled script me run acts d)
+
+    pub go-rests : (d : Desk) → IsRested script me run acts (desk_turn script me run acts d Go)
+    go-rests d = say-rested _
+
+    reply-rests : (d : Desk) (r : Reply) → IsRested script me run acts d → IsRested script me run acts (reply script me run acts d r)
+    reply-rests d Ignored h = h
+    reply-rests d (Hears x) h = say-rested _
+    reply-rests d (Adds f) h = say-rested _
+
+    -- once rested, every turn leaves it rested
+    pub turn-rests : (d : Desk) (i : Input) → IsRested script me run acts d → IsRested script me run acts (desk_turn script me run acts d i)
+    turn-rests d Go h = say-rested _
+    turn-rests d (Hear m) h = send-rested d _ h
+    turn-rests d (Take from m) h = reply-rests d _ h
+
+  -- more messages
+  module _ (ever more : List Post) where
+    came-more : (m : Message) → HasCome me ever m → HasCome me (ever ++ more) m
+    came-more m h = (h.0, has-left ever more _ h.1)
+
+    answer-more : (a : Answer) (x : _) → AnswerCame me ever x a → AnswerCame me (ever ++ more) x a
+    answer-more (Got v) x h = came-more _ h
+    answer-more Stored x h = came-more _ h
+
+    end-more : (t : Try) (o : Outcome) → EndCame me ever t o → EndCame me (ever ++ more) t o
+    end-more t outcome.Committed h = came-more _ h
+    end-more t (outcome.Withdrawn l) h = h
+    end-more t (outcome.Failed l k) h = h
+    end-more t (outcome.LaterRead o x) h = came-more _ h
+    end-more t (outcome.LaterVersion o x) h = came-more _ h
+    end-more t (outcome.Expired d m) h = came-more _ h
+    end-more t (outcome.Spent c) h = h
+
+    open-more : (P Q : Try → Type 0) → ((t : Try) → P t → Q t) → (o : Option Try) → OfOpen o P → OfOpen o Q
+    open-more P Q k None h = h
+    open-more P Q k (Some t) h = k t h
+
+    pub cause-more : (b : Book) (f : Effect) → HasCause me ever b f → HasCause me (ever ++ more) b f
+    cause-more b (effect.Got k v) h = open-more _ _ (λ t p. answer-more (Got v) _ p) (open_try b) h
+    cause-more b (effect.Acked k) h = open-more _ _ (λ t p. answer-more Stored _ p) (open_try b) h
+    cause-more b (effect.End i o) h = open-more _ _ (λ t p. end-more t o p) (open_try b) h
+    cause-more b (effect.Run n) h = h
+    cause-more b (effect.Act i x t k c y) h = h
+    cause-more b (effect.Try i s) h = h
+    cause-more b (effect.Put o x v) h = h
+    cause-more b (effect.Stretch o x) h = h
+    cause-more b (effect.Begin s d) h = h
+    cause-more b (effect.Decide s d) h = h
+    cause-more b (effect.Learn s d) h = h
+
+    pub effs-more : (log : List Effect) → HaveCauses me ever log → HaveCauses me (ever ++ more) log
+    effs-more [] h = h
+    effs-more (f ∷ log) h = (effs-more log h.0, cause-more (book log) f h.1)

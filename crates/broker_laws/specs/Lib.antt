@@ -1,0 +1,3 @@
+pub mod Fits
+pub mod Posts
+pub mod Works

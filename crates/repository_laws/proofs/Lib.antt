@@ -1,0 +1,4 @@
+pub mod Logs
+pub mod Posts
+pub mod Turns
+pub mod Whole

@@ -1,0 +1,99 @@
+-- A turn over the whole log, of which the durable one is a beginning.
+use Rattle.std.proofs.Common.{◌≡◌, ◌≢◌, ℕ, ◌==◌, Bool, true, false, List, [], ◌∷◌, ◌++◌, refl, sym, ◌∙◌, ap, subst, if◌then◌else◌}
+use Rattle.pseudo_time.specs.Lists.{Every, Has}
+use Rattle.pseudo_time.specs.StampParts.{StampParts}
+use Rattle.pseudo_time.specs.declared.nodes.NodeId.{NodeId}
+use Rattle.pseudo_time.specs.declared.nodes.NodeKind.{NodeKind}
+use Rattle.pseudo_time.specs.declared.nodes.NodeKind.TheVariants.{Repository, Broker}
+use Rattle.pseudo_time.proofs.ListLemmas.{has-right}
+use Rattle.effect_form.specs.declared.effects.Effect.{Effect}
+use Rattle.effect_form.specs.declared.effects.Effect.TheVariants as effect
+use Rattle.message_form.specs.declared.messages.Message.{Message}
+use Rattle.turn_form.specs.Growth.{Grew}
+use Rattle.turn_form.specs.Posts.{Post}
+use Rattle.object_history.proofs.ObjectLemmas.{eq-from, eqb-yes}
+use Rattle.repository_core.specs.Hands.{Hand, Mind, now, repository}
+use Rattle.repository_core.specs.Rows.{on_message, on_learn}
+use Rattle.repository_core.specs.Hearing.{on_moment}
+use Rattle.repository_core.specs.Turns.{hand_at, told}
+use Rattle.repository_core.specs.Turns.Input.{Taking, Learning, Hearing}
+use Rattle.repository_laws.specs.Facts.{WasSent, FitsLog, IsTidy, PostHolds, IsDecidedAt, HasCause, HeldHolds, HandHolds, IsBacked, HasCome}
+use Rattle.repository_laws.specs.Givens.{IsGiven, Gives}
+use Rattle.repository_laws.proofs.Posts.{post-stays-through}
+use Rattle.repository_laws.proofs.Turns.{take-ok, on-learn-ok, hear-ok}
+
+module _ (ever : List Post) (homes : ℕ → List Effect) (ticks : List ℕ) (r : ℕ) (log : List Effect) where
+  -- as if the whole log were durable
+  there : ℕ → List Effect
+  there i = if i == r then log else homes i
+
+  there-own : there r ≡ log
+  unfolding there
+  there-own = ap (λ b. if b then log else homes r) (eqb-yes r r refl)
+
+  -- a Learn names another home's own log
+  cause-back : (below : List Effect) (f : Effect) → FitsLog r below f → HasCause ever there ticks r f → HasCause ever homes ticks r f
+  unfolding there
+  cause-back below (effect.Learn s c) fits p = (p.0, go (s.home == r) refl p.1, p.2)
+    where
+      go : (b : Bool) → (s.home == r) ≡ b → Has (effect.Decide s p.0) (if b then log else homes s.home) → Has (effect.Decide s p.0) (homes s.home)
+      go true e h = absurd (fits.0 (eq-from s.home r e))
+      go false e h = h
+  cause-back below (effect.Put o x v) fits p = p
+  cause-back below (effect.Stretch o x) fits p = p
+  cause-back below (effect.Begin s d) fits p = p
+  cause-back below (effect.Decide s d) fits p = p
+  cause-back below (effect.Run n) fits p = p
+  cause-back below (effect.Act i h t n c b) fits p = p
+  cause-back below (effect.Try i s) fits p = p
+  cause-back below (effect.Got k v) fits p = p
+  cause-back below (effect.Acked k) fits p = p
+  cause-back below (effect.End i e) fits p = p
+
+  causes-back : (fresh : List Effect) → Grew (FitsLog r) log fresh → Every (HasCause ever there ticks r) fresh → Grew (λ l f. HasCause ever homes ticks r f) log fresh
+  causes-back [] g p = tt
+  causes-back (f ∷ fresh) g p = (causes-back fresh g.0 p.1, cause-back (fresh ++ log) f g.1 p.0)
+
+  gives : (h : Hand) → HandHolds ever there ticks r log h → Gives ever homes ticks r log h
+  gives h ok =
+      let grew : Grew (FitsLog r) log h.fresh = subst (λ l. Grew (FitsLog r) l h.fresh) ok.base ok.grew in
+      record {
+        grew = grew;
+        causes = causes-back h.fresh grew ok.causes;
+        held = ok.held;
+        outs = subst (λ l. Every (λ p. PostHolds ever r (h.fresh ++ l) p.to p.message) h.outs) ok.base ok.outs;
+      }
+
+  module _ (mind : Mind) (g : IsGiven ever homes r log mind) where
+    given-ok : HandHolds ever there ticks r log (hand_at r log mind)
+    given-ok = record { number = refl; base = refl; tidy = g.tidy; grew = tt; causes = tt; held = g.held; outs = tt }
+
+    -- what stands at home stands in the whole log
+    decided-there : (s : StampParts) (c : Bool) → IsDecidedAt homes s c → IsDecidedAt there s c
+    unfolding there
+    decided-there s c h = (h.0, go (s.home == r) refl, h.2)
+      where
+        go : (b : Bool) → (s.home == r) ≡ b → Has (effect.Decide s h.0) (if b then log else homes s.home)
+        go true e = subst (Has (effect.Decide s h.0)) (sym g.own) (has-right g.fresh (homes r) (effect.Decide s h.0) (subst (λ i. Has (effect.Decide s h.0) (homes i)) (eq-from s.home r e) h.1))
+        go false e = h.1
+
+    backed-there : (k : NodeKind) (i : ℕ) (m : Message) → IsBacked ever homes k i (repository r) m → IsBacked ever there k i (repository r) m
+    unfolding there
+    backed-there Repository i m p = go (i == r) refl
+      where
+        go : (b : Bool) → (i == r) ≡ b → PostHolds ever i (if b then log else homes i) (repository r) m
+        go true e = subst (λ l. PostHolds ever i l (repository r) m) (sym g.own)
+            (post-stays-through ever i (homes r) g.fresh (repository r) m
+              (subst (λ j. Grew (FitsLog j) (homes r) g.fresh) (sym (eq-from i r e)) g.grew)
+              (subst (λ j. PostHolds ever i (homes j) (repository r) m) (eq-from i r e) p))
+        go false e = p
+    backed-there Broker i m p = tt
+
+    pub gives-taking : (from : NodeId) (m : Message) → HasCome ever homes r from m → Gives ever homes ticks r log (told (hand_at r log mind) (Taking from m))
+    gives-taking from m came = gives (on_message (hand_at r log mind) from m) (take-ok ever there ticks r log (hand_at r log mind) from m (came.0, backed-there from.kind from.number m came.1) there-own given-ok)
+
+    pub gives-learning : (s : StampParts) (c : Bool) → IsDecidedAt homes s c → Gives ever homes ticks r log (told (hand_at r log mind) (Learning s c))
+    gives-learning s c at = gives (on_learn (hand_at r log mind) s c) (on-learn-ok ever there ticks r log (hand_at r log mind) s c there-own (decided-there s c at) given-ok)
+
+    pub gives-hearing : (m : ℕ) → Has m ticks → Gives ever homes ticks r log (told (hand_at r log mind) (Hearing m))
+    gives-hearing m tick = gives (on_moment (hand_at r log mind) m) (hear-ok ever there ticks r log (hand_at r log mind) m tick given-ok)

@@ -1,0 +1,65 @@
+// Logs stand newest first.
+ghost use Rattle.std.specs.Prelude.{◌≡◌, ℕ, Bool, List, [], ◌∷◌, ◌++◌};
+ghost use Rattle.pseudo_time.specs.Lists.{Has};
+ghost use Rattle.pseudo_time.specs.StampParts.{StampParts};
+ghost use Rattle.pseudo_time.specs.TimeParts.{TimeParts};
+ghost use Rattle.pseudo_time.specs.declared.decisions.Decision.{Decision};
+ghost use Rattle.pseudo_time.specs.declared.nodes.NodeId.{NodeId};
+ghost use Rattle.effect_form.specs.declared.effects.Effect.{Effect};
+ghost use Rattle.effect_form.specs.declared.effects.Effect.TheVariants as effect;
+ghost use Rattle.message_form.specs.declared.messages.Message.{Message};
+ghost use Rattle.turn_form.specs.Posts.{Post};
+ghost use Rattle.turn_form.specs.Growth.{Grew};
+ghost use Rattle.object_history.specs.Views.{Distinct};
+ghost use Rattle.repository_core.specs.declared.waits.Held.{Held};
+ghost use Rattle.repository_core.specs.Logs.{marks};
+ghost use Rattle.repository_core.specs.Hands.{Mind};
+ghost use Rattle.repository_core.specs.Turns.{hand_at, told};
+ghost use Rattle.repository_core.specs.Turns.Input.{Taking, Learning, Hearing};
+ghost use Rattle.repository_laws.specs.Facts.{IsTimely, FitsLog, IsTidy, PostHolds, IsDecidedAt, HasCause, HeldHolds, HasCome};
+ghost use Rattle.repository_laws.specs.Givens.{IsGiven, Gives};
+
+/// Effects that fit leave a tidy log tidy, and no two versions of an object in it have one start.
+pub fn tidy_stays()
+    ensures empty { (r : ℕ) → IsTidy r [] }
+    ensures kept { (r : ℕ) (log : List Effect) (f : Effect) → FitsLog r log f → IsTidy r log → IsTidy r (f ∷ log) }
+    ensures through { (r : ℕ) (log fresh : List Effect) → Grew (FitsLog r) log fresh → IsTidy r log → IsTidy r (fresh ++ log) }
+    ensures distinct { (r : ℕ) (log : List Effect) → IsTidy r log → Distinct (marks log) }
+{}
+
+/// An attempt is decided at its home, once, after its Begin, not before its deadline where it expired,
+/// and it is learned elsewhere alone.
+pub fn decided_once()
+    ensures home { (r : ℕ) (log : List Effect) (s : StampParts) (d : Decision) → IsTidy r log → Has (effect.Decide s d) log → s.home ≡ r }
+    ensures cause { (r : ℕ) (log : List Effect) (s : StampParts) (d : Decision) → IsTidy r log → Has (effect.Decide s d) log → (t : ℕ) × Has (effect.Begin s t) log × IsTimely t d }
+    ensures once { (r : ℕ) (log : List Effect) (s : StampParts) (d e : Decision) → IsTidy r log → Has (effect.Decide s d) log → Has (effect.Decide s e) log → d ≡ e }
+    ensures elsewhere { (r : ℕ) (log : List Effect) (s : StampParts) (d : Decision) (c : Bool) → IsTidy r log → Has (effect.Decide s d) log → Has (effect.Learn s c) log → ⊥ }
+{}
+
+/// What a message said of its sender's log stays true: under each effect that fits, under a whole turn
+/// or the part of it that a crash keeps, and as more messages are sent.
+pub fn messages_stay_true()
+    ensures step { (ever : List Post) (r : ℕ) (log : List Effect) (f : Effect) (to : NodeId) (m : Message) → FitsLog r log f → PostHolds ever r log to m → PostHolds ever r (f ∷ log) to m }
+    ensures through { (ever : List Post) (r : ℕ) (log fresh : List Effect) (to : NodeId) (m : Message) → Grew (FitsLog r) log fresh → PostHolds ever r log to m → PostHolds ever r (fresh ++ log) to m }
+    ensures more { (ever more : List Post) (r : ℕ) (log : List Effect) (to : NodeId) (m : Message) → PostHolds ever r log to m → PostHolds (ever ++ more) r log to m }
+{}
+
+/// The causes of effects and of held reads stay, as more is sent, more ticks pass and the logs grow.
+pub fn causes_stay()
+    ensures effects { (ever more : List Post) (homes longer : ℕ → List Effect) (ticks late : List ℕ) (r : ℕ) (f : Effect) →
+        ((n : ℕ) (g : Effect) → Has g (homes n) → Has g (longer n)) → HasCause ever homes ticks r f → HasCause (ever ++ more) longer (ticks ++ late) r f }
+    ensures held { (ever more : List Post) (r : ℕ) (e : TimeParts × Held) → HeldHolds ever r e → HeldHolds (ever ++ more) r e }
+{}
+
+/// Each turn adds effects that fit, one by one, each with its cause; what its messages say holds of the
+/// log with them, and its held reads were sent. The input is a message that was sent, and holds of its
+/// sender's durable log where that is a repository; or a decision that stands in the durable log of its
+/// stamp's home; or a moment that was ticked.
+pub fn turns_keep_facts()
+    ensures taking { (ever : List Post) (homes : ℕ → List Effect) (ticks : List ℕ) (r : ℕ) (log : List Effect) (mind : Mind) (from : NodeId) (m : Message) →
+        IsGiven ever homes r log mind → HasCome ever homes r from m → Gives ever homes ticks r log (told (hand_at r log mind) (Taking from m)) }
+    ensures learning { (ever : List Post) (homes : ℕ → List Effect) (ticks : List ℕ) (r : ℕ) (log : List Effect) (mind : Mind) (s : StampParts) (c : Bool) →
+        IsGiven ever homes r log mind → IsDecidedAt homes s c → Gives ever homes ticks r log (told (hand_at r log mind) (Learning s c)) }
+    ensures hearing { (ever : List Post) (homes : ℕ → List Effect) (ticks : List ℕ) (r : ℕ) (log : List Effect) (mind : Mind) (m : ℕ) →
+        IsGiven ever homes r log mind → Has m ticks → Gives ever homes ticks r log (told (hand_at r log mind) (Hearing m)) }
+{}

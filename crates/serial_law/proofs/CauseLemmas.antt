@@ -1,0 +1,46 @@
+-- What a repository once answered to a write, and the marks that it answered by, in its log.
+use Rattle.std.proofs.Common.{◌≡◌, Bool, true, false, List, [], ◌∷◌, refl, ◌⊎◌, inl, inr, ap}
+use Rattle.pseudo_time.specs.Lists.{Has}
+use Rattle.pseudo_time.specs.TimeParts.{TimeParts}
+use Rattle.value_form.specs.declared.objects.ObjectId.{ObjectId}
+use Rattle.value_form.specs.declared.values.Value.{Value}
+use Rattle.effect_form.specs.declared.effects.Effect.{Effect}
+use Rattle.effect_form.specs.declared.effects.Effect.TheVariants as effect
+use Rattle.object_history.specs.declared.marks.Mark.TheVariants as mark
+use Rattle.object_history.specs.declared.steps.WriteStep.TheVariants as write
+use Rattle.object_history.specs.Answers.{write_step}
+use Rattle.object_history.proofs.AnswerLemmas.{later-read, later-version}
+use Rattle.repository_core.specs.Logs.{marks}
+use Rattle.repository_laws.specs.Facts.{Once}
+use Rattle.repository_laws.proofs.Logs.{put-logged}
+
+stretch-path : (o p : ObjectId) (x y : TimeParts) → mark.Stretch p y ≡ mark.Stretch o x → effect.Stretch p y ≡ effect.Stretch o x
+stretch-path o p x y e = cc e
+
+stretch-logged : (l : List Effect) (o : ObjectId) (x : TimeParts) → Has (mark.Stretch o x) (marks l) → Has (effect.Stretch o x) l
+stretch-logged [] o x h = absurd h
+stretch-logged (effect.Stretch p y ∷ l) o x (inl e) = inl (stretch-path o p x y e)
+stretch-logged (effect.Stretch p y ∷ l) o x (inr h) = inr (stretch-logged l o x h)
+stretch-logged (effect.Put p y w ∷ l) o x (inl e) = absurd (cc e)
+stretch-logged (effect.Put p y w ∷ l) o x (inr h) = inr (stretch-logged l o x h)
+stretch-logged (effect.Decide s d ∷ l) o x (inl e) = absurd (cc e)
+stretch-logged (effect.Decide s d ∷ l) o x (inr h) = inr (stretch-logged l o x h)
+stretch-logged (effect.Learn s c ∷ l) o x (inl e) = absurd (cc e)
+stretch-logged (effect.Learn s c ∷ l) o x (inr h) = inr (stretch-logged l o x h)
+stretch-logged (effect.Begin s d ∷ l) o x h = inr (stretch-logged l o x h)
+stretch-logged (effect.Run n ∷ l) o x h = inr (stretch-logged l o x h)
+stretch-logged (effect.Act i j t n c z ∷ l) o x h = inr (stretch-logged l o x h)
+stretch-logged (effect.Try i s ∷ l) o x h = inr (stretch-logged l o x h)
+stretch-logged (effect.Got i w ∷ l) o x h = inr (stretch-logged l o x h)
+stretch-logged (effect.Acked i ∷ l) o x h = inr (stretch-logged l o x h)
+stretch-logged (effect.End i w ∷ l) o x h = inr (stretch-logged l o x h)
+
+pub once-read : (l : List Effect) (o : ObjectId) (t e : TimeParts) (v : Value) → Once (λ k. write_step (marks k) o t v ≡ write.LaterRead e) l → Has (effect.Stretch o e) l
+once-read [] o t e v h = stretch-logged [] o e (later-read (marks []) o t v e h).1
+once-read (f ∷ l) o t e v (inl h) = stretch-logged (f ∷ l) o e (later-read (marks (f ∷ l)) o t v e h).1
+once-read (f ∷ l) o t e v (inr h) = inr (once-read l o t e v h)
+
+pub once-version : (l : List Effect) (o : ObjectId) (t x : TimeParts) (v : Value) → Once (λ k. write_step (marks k) o t v ≡ write.LaterVersion x) l → (w : Value) × Has (effect.Put o x w) l
+once-version [] o t x v h = let r = (later-version (marks []) o t v x h).1 in (r.0, put-logged [] o x r.0 r.1)
+once-version (f ∷ l) o t x v (inl h) = let r = (later-version (marks (f ∷ l)) o t v x h).1 in (r.0, put-logged (f ∷ l) o x r.0 r.1)
+once-version (f ∷ l) o t x v (inr h) = let r = once-version l o t x v h in (r.0, inr r.1)

@@ -1,0 +1,59 @@
+-- Puts among marks, and those that a scan finds.
+use Rattle.std.proofs.Common.{◌≡◌, Bool, true, false, List, [], ◌∷◌, refl, sym, ap, subst, Option, Some, None, inl, inr, ◌⊎◌}
+use Rattle.pseudo_time.specs.StampParts.{StampParts}
+use Rattle.pseudo_time.specs.TimeParts.{TimeParts}
+use Rattle.value_form.specs.declared.objects.ObjectId.{ObjectId}
+use Rattle.value_form.specs.declared.values.Value.{Value}
+use Rattle.object_history.specs.declared.marks.Mark.{Mark}
+use Rattle.object_history.specs.declared.marks.Mark.TheVariants.{Put, Stretch, Settle}
+use Rattle.object_history.specs.History.{Seen, scan}
+use Rattle.object_history.specs.Views.{Starts, Stands}
+use Rattle.object_history.proofs.Words.{AtMost}
+use Rattle.object_history.proofs.ScanLemmas.{Standing, standing}
+
+-- the object's put with this start and value stands among the marks
+abbrev pub PutAt : ObjectId → TimeParts → Value → List Mark → Type 0
+PutAt o x w [] = ⊥
+PutAt o x w (Put a y v ∷ m) = ((a ≡ o) × (y ≡ x) × (v ≡ w)) ⊎ PutAt o x w m
+PutAt o x w (Stretch a y ∷ m) = PutAt o x w m
+PutAt o x w (Settle s c ∷ m) = PutAt o x w m
+
+-- a fact of each put, as a fact of each start
+pub starts-of : (P : TimeParts → Type 0) (o : ObjectId) (m : List Mark) → ((x : TimeParts) (v : Value) → PutAt o x v m → P x) → Starts P o m
+starts-of P o [] h = tt
+starts-of P o (Put a x v ∷ m) h = (λ e. h x v (inl (e, refl, refl)), starts-of P o m (λ y w k. h y w (inr k)))
+starts-of P o (Stretch a x ∷ m) h = starts-of P o m h
+starts-of P o (Settle s c ∷ m) h = starts-of P o m h
+
+-- and back
+pub starts-at : (P : TimeParts → Type 0) (o : ObjectId) (x : TimeParts) (w : Value) (m : List Mark) → Starts P o m → PutAt o x w m → P x
+starts-at P o x w [] h j = absurd j
+starts-at P o x w (Put a y v ∷ m) h (inl j) = subst P j.1 (h.0 j.0)
+starts-at P o x w (Put a y v ∷ m) h (inr j) = starts-at P o x w m h.1 j
+starts-at P o x w (Stretch a y ∷ m) h j = starts-at P o x w m h j
+starts-at P o x w (Settle s c ∷ m) h j = starts-at P o x w m h j
+
+put-of : (o : ObjectId) (m : List Mark) (q : Seen) → Stands o m q → PutAt o q.start q.value m
+put-of o [] q s = absurd s
+put-of o (Put a x v ∷ m) q (inl s) = inl (s.0, ap (λ (z : Seen). z.start) s.1, ap (λ (z : Seen). z.value) s.1)
+put-of o (Put a x v ∷ m) q (inr s) = inr (put-of o m q s)
+put-of o (Stretch a x ∷ m) q s = put-of o m q s
+put-of o (Settle t c ∷ m) q s = put-of o m q s
+
+-- what is picked is a put
+unfoldable pub Picked : ObjectId → List Mark → Option Seen → Type 0
+Picked o m None = Unit {0}
+Picked o m (Some q) = PutAt o q.start q.value m
+
+picked-of : (o : ObjectId) (m : List Mark) (r : Option Seen) → Standing o m r → Picked o m r
+unfolding Picked
+picked-of o m None s = tt
+picked-of o m (Some q) s = put-of o m q s
+
+pub picked : (ok : TimeParts → Bool) (o : ObjectId) (m : List Mark) → Picked o m (scan ok o m)
+picked ok o m = picked-of o m (scan ok o m) (standing ok o m)
+
+-- a put that passes is at most the pick
+pub at-most : (ok : TimeParts → Bool) (o : ObjectId) (x : TimeParts) (w : Value) (m : List Mark) (r : Option Seen) →
+    Starts (λ y. ok y ≡ true → AtMost r y) o m → PutAt o x w m → ok x ≡ true → AtMost r x
+at-most ok o x w m r h j k = starts-at (λ y. ok y ≡ true → AtMost r y) o x w m h j k

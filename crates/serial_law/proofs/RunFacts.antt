@@ -1,0 +1,363 @@
+-- What holds of all logs and messages of a legal run gives the facts that keep it serial.
+use Rattle.std.proofs.Common.{◌≡◌, ℕ, zero, suc, ◌+◌, ◌≤◌, Bool, true, false, List, [], ◌∷◌, ◌++◌, map, length, reverse, refl, sym, ◌∙◌, ap, subst, Option, Some, None, is_some, slice_get, ◌⊎◌, inl, inr, arith, if◌then◌else◌, ◌==◌}
+use Rattle.std.proofs.lemmas.Grind.{common_steps}
+use Rattle.std.proofs.lemmas.List.{append-nil}
+use Rattle.std.specs.List.{filter}
+use Rattle.pseudo_time.specs.Lists.{Every, Has}
+use Rattle.pseudo_time.specs.Order.{lt}
+use Rattle.pseudo_time.specs.StampParts.{StampParts}
+use Rattle.pseudo_time.specs.TimeParts.{TimeParts}
+use Rattle.pseudo_time.specs.declared.decisions.Decision.{Decision}
+use Rattle.pseudo_time.specs.declared.decisions.Decision.TheVariants as decision
+use Rattle.pseudo_time.specs.declared.nodes.NodeId.{NodeId}
+use Rattle.pseudo_time.specs.declared.nodes.NodeKind.{NodeKind}
+use Rattle.pseudo_time.specs.declared.nodes.NodeKind.TheVariants.{Repository, Broker}
+use Rattle.pseudo_time.proofs.ListLemmas.{every-has}
+use Rattle.value_form.specs.declared.acts.ActSpec.{ActSpec}
+use Rattle.value_form.specs.declared.endings.Ending.TheVariants as ending
+use Rattle.value_form.specs.declared.fail_kinds.FailKind.{FailKind}
+use Rattle.value_form.specs.declared.objects.ObjectId.{ObjectId}
+use Rattle.value_form.specs.declared.values.Value.{Value}
+use Rattle.value_form.specs.Mirror.{block}
+use Rattle.effect_form.specs.declared.effects.Effect.{Effect}
+use Rattle.effect_form.specs.declared.effects.Effect.TheVariants as effect
+use Rattle.effect_form.specs.declared.outcomes.Outcome.{Outcome}
+use Rattle.effect_form.specs.declared.outcomes.Outcome.TheVariants as outcome
+use Rattle.message_form.specs.declared.messages.Message.{Message}
+use Rattle.message_form.specs.declared.messages.Message.TheVariants as message
+use Rattle.turn_form.specs.Growth.{Each}
+use Rattle.turn_form.specs.Posts.{Post}
+use Rattle.object_history.specs.declared.steps.WriteStep.TheVariants as write
+use Rattle.object_history.specs.Answers.{write_step}
+use Rattle.object_history.specs.Views.{Viewed, Distinct}
+use Rattle.script_meaning.specs.Meaning.{Answer, Got, Stored, Request, ToRead, ToWrite, Stop, Asks, Over}
+use Rattle.statement_form.specs.RowTexts.{script_text}
+use Rattle.serial_model.specs.Questions.{Tree, after, first_stop, stop, talked, denote}
+use Rattle.serial_model.proofs.AnswerLemmas.{talked-stop}
+use Rattle.plan_form.specs.declared.plans.Plan.{Plan}
+use Rattle.plan_form.specs.Plans.{InRange}
+use Rattle.plan_form.specs.PlanTexts.{IsAct, EachAct, IsWhole}
+use Rattle.repository_core.specs.Logs.{is_commit, marks}
+use Rattle.repository_laws.specs.Facts as repositories
+use Rattle.repository_laws.proofs.Logs.{tidy-distinct, decide-home, decided-once, decide-cause}
+use Rattle.broker_core.specs.Book as books
+use Rattle.broker_core.specs.Book.{book, tries, tries_of, find}
+use Rattle.broker_core.specs.Stages.{broker, repository}
+use Rattle.broker_core.specs.Tasks.{Task, task_of, tasks, Scripted}
+use Rattle.broker_laws.specs.Fits as brokers
+use Rattle.broker_laws.specs.Posts.{IsAskOf, IsCommitOf, IsBelow, IsPlayed, IsProven, IsPlanned}
+use Rattle.broker_laws.specs.Posts as posts
+use Rattle.broker_laws.proofs.Found.{planned}
+use Rattle.broker_laws.proofs.Moves.{clocks, distinct}
+use Rattle.broker_laws.proofs.Tries.{played, proven}
+use Rattle.world_core.specs.Nodes.{acts_of}
+use Rattle.world_core.specs.Walks.{Base, opened_log}
+use Rattle.world_facts.specs.NodeRules.{kind_post, node_facts}
+use Rattle.world_facts.specs.Refines as refines
+use Rattle.serial_law.specs.Causes.{HasCause, Causes}
+use Rattle.serial_law.specs.Deeds.{Try, RunLogs, log_of, in_run}
+use Rattle.serial_law.specs.Facts.{Said, at, asks, request_at, asked_of, Asked, MayCommit, Facts}
+use Rattle.serial_law.specs.Runs.{attempt, run_of, run_tries}
+use Rattle.serial_law.proofs.Attempts.{IsTryOf, try-of, try-home, of-book, found-try}
+use Rattle.serial_law.proofs.CauseLemmas.{once-read, once-version}
+use Rattle.serial_law.proofs.Inside.{Inside, inside-after, inside-asks, inside-script}
+use Rattle.serial_law.proofs.LogLemmas.{in-low, in-high, in-both}
+use Rattle.serial_law.proofs.Premises.{asked-here}
+
+-- ---- lists
+
+-- an effect of a log, with the log below it
+each-has : (P : List Effect → Effect → Type 0) (log : List Effect) (f : Effect) → Each P log → Has f log → (below : List Effect) × P below f
+each-has P [] f h k = absurd k
+each-has P (g ∷ log) f h (inl e) = (log, subst (P log) e h.1)
+each-has P (g ∷ log) f h (inr k) = each-has P log f h.0 k
+
+pub said-of : (ever : List Post) (p : Post) → Has p ever → Said ever p.message
+said-of [] p h = absurd h
+said-of (q ∷ ever) p (inl e) = inl (ap (λ (x : Post). x.message) e)
+said-of (q ∷ ever) p (inr h) = inr (said-of ever p h)
+
+pub of-said : (ever : List Post) (m : Message) → Said ever m → (p : Post) × Has p ever × (p.message ≡ m)
+of-said [] m h = absurd h
+of-said (q ∷ ever) m (inl e) = (q, inl refl, e)
+of-said (q ∷ ever) m (inr h) = let r = of-said ever m h in (r.0, inr r.1, r.2)
+
+kept-every : {A : Type 0} → (P : A → Type 0) (test : A → Bool) (xs : List A) → Every P xs → Every P (filter test xs)
+kept-every P test [] h = tt
+kept-every P test (x ∷ xs) h = go (test x) (kept-every P test xs h.1)
+  where
+    go : (c : Bool) → Every P (filter test xs) → Every P (if c then x ∷ filter test xs else filter test xs)
+    go true k = (h.0, k)
+    go false k = k
+
+at-place : {A : Type 0} → (P : A → Type 0) (xs : List A) (n : ℕ) (x : A) → Every P xs → slice_get xs n ≡ Some x → P x
+at-place P [] n x h e = absurd (cc e)
+at-place P (y ∷ xs) zero x h e = let same : y ≡ x = cc e in subst P same h.0
+at-place P (y ∷ xs) (suc n) x h e = at-place P xs n x h.1 e
+
+-- ---- what the acts of a plan keep to
+
+-- its home is a repository of the run, and so are those of the objects that its script asks for
+abbrev IsKept : (List ℕ → Tree) → ℕ → Task → Type 0
+IsKept script n task = InRange n task.home × Inside n (script task.script)
+
+kept-acts : (script : List ℕ → Tree) (n k first : ℕ) (acts : List ActSpec) → EachAct n k first acts → Scripted script acts → Every (λ a. IsKept script n (task_of a)) acts
+kept-acts script n k first [] h s = tt
+kept-acts script n k first (a ∷ acts) h s =
+    ((h.0.home, subst (Inside n) (sym s.0) (inside-script n (block a.script.lines) h.0.script.limits)), kept-acts script n k (first + 1) acts h.1 s.1)
+
+kept-tasks : (script : List ℕ → Tree) (n : ℕ) (acts : List ActSpec) → Every (λ a. IsKept script n (task_of a)) acts → Every (IsKept script n) (tasks acts)
+kept-tasks script n [] h = tt
+kept-tasks script n (a ∷ acts) h = (h.0, kept-tasks script n acts h.1)
+
+-- ---- one question, two words
+
+asks-some : (s : Stop) (q : Request) → s ≡ Asks q → request_at s ≡ Some q
+asks-some s q e = ap request_at e
+
+may-commit : (o : Option Outcome) → posts.MayCommit o → MayCommit o
+may-commit None h = tt
+may-commit (Some outcome.Committed) h = tt
+may-commit (Some (outcome.Expired d m)) h = tt
+may-commit (Some (outcome.Withdrawn l)) h = absurd h
+may-commit (Some (outcome.Failed l k)) h = absurd h
+may-commit (Some (outcome.LaterRead o e)) h = absurd h
+may-commit (Some (outcome.LaterVersion o x)) h = absurd h
+may-commit (Some (outcome.Spent c)) h = absurd h
+
+module _ (script : List ℕ → Tree) (b : Base) (plan : Plan) (logs : NodeId → List Effect) (sent : List Post)
+    (same_run : b.run ≡ plan.run) (same_acts : b.acts ≡ plan.acts) (whole : IsWhole plan) (scripted : Scripted script plan.acts)
+    (opened : (k : ℕ) → 1 ≤ k → k ≤ plan.brokers → is_some (opened_log b.opened (broker k)) ≡ true)
+    (f : refines.Facts (node_facts script) b logs sent) where
+  abbrev ever : List Post
+  ever = f.past ++ sent
+
+  abbrev log : NodeId → List Effect
+  log n = reverse (logs n)
+
+  abbrev run : RunLogs
+  run = run_of script plan log
+
+  -- ---- messages
+
+  abbrev Posted : Message → Type 0
+  Posted m = (k : NodeKind) × (i : ℕ) × (to : NodeId) × kind_post script ever k i (log (record { kind = k; number = i })) (record { to = to; message = m })
+
+  posted : (m : Message) → Said ever m → Posted m
+  posted m h =
+      let r = of-said ever m h in
+      (r.0.from.kind, r.0.from.number, r.0.to,
+        subst (λ x. kind_post script ever r.0.from.kind r.0.from.number (log r.0.from) (record { to = r.0.to; message = x })) r.2 (every-has _ ever r.0 f.sent_ok r.1))
+
+  was-said : (from to : NodeId) (m : Message) → repositories.WasSent ever from to m → Said ever m
+  was-said from to m h = said-of ever (record { from = from; to = to; message = m }) h
+
+  came : (me : ℕ) (m : Message) → posts.HasCome me ever m → Said ever m
+  came me m h = was-said h.0 (broker me) m h.1
+
+  value-said : (t : TimeParts) (v : Value) → Posted (message.Value t v) → (o : ObjectId) × Said ever (message.Read t o) × Viewed (marks (log (repository o.repository))) o t v
+  value-said t v (Broker, i, to, h) = absurd h
+  value-said t v (Repository, i, to, h) = (h.0, was-said _ _ _ h.1.0, subst (λ r. Viewed (marks (log (repository r))) h.0 t v) (sym h.1.1) h.3)
+
+  stored-said : (t : TimeParts) → Posted (message.Stored t) → (o : ObjectId) × (v : Value) × Said ever (message.Write t o v) × Has (effect.Put o t v) (log (repository o.repository))
+  stored-said t (Broker, i, to, h) = absurd h
+  stored-said t (Repository, i, to, h) = (h.0, h.1, was-said _ _ _ h.2.0, subst (λ r. Has (effect.Put h.0 t h.1) (log (repository r))) (sym h.2.1) h.3)
+
+  decided-said : (s : StampParts) (d : Decision) → Posted (message.Decided s d) → Has (effect.Decide s d) (log (repository s.home))
+  decided-said s d (Broker, i, to, h) = absurd h
+  decided-said s d (Repository, i, to, h) = subst (λ r. Has (effect.Decide s d) (log (repository r))) (sym (decide-home i (log (repository i)) s d (f.tidy (repository i)) h)) h
+
+  -- ---- attempts
+
+  abbrev Mine : Try → Type 0
+  Mine a = IsTryOf script plan.run log plan.brokers a
+
+  mine : (a : Try) → Has a run.tries → Mine a
+  mine a h = try-of script plan.run log plan.brokers a h
+
+  module _ (a : Try) (m : Mine a) where
+    abbrev me : ℕ
+    me = m.number
+
+    abbrev own : List Effect
+    own = log (broker m.number)
+
+    its-play : IsPlayed script m.try
+    its-play = every-has (IsPlayed script) (tries (book own)) m.try (played script me own (f.tidy (broker me))) (of-book (book own) m.try m.has)
+
+    its-proof : IsProven me ever m.try
+    its-proof = every-has (IsProven me ever) (tries (book own)) m.try (proven script me ever own (f.tidy (broker me)) (f.proofs (broker me))) (of-book (book own) m.try m.has)
+
+    its-broker : m.try.stamp.broker ≡ me
+    its-broker = (every-has (IsBelow me (book own).clock) (tries (book own)) m.try (clocks script me own (f.tidy (broker me))) (of-book (book own) m.try m.has)).1
+
+    its-place : find m.try.stamp (tries (book own)) ≡ Some m.try
+    its-place = found-try (tries (book own)) m.try (distinct script me own (f.tidy (broker me))) (of-book (book own) m.try m.has)
+
+    its-plan : IsPlanned plan.run (tasks (acts_of me plan.acts)) m.try
+    its-plan =
+        every-has (IsPlanned plan.run (tasks (acts_of me plan.acts))) (tries_of (book own).acts) m.try
+        (planned script me plan.run (tasks (acts_of me plan.acts)) own (f.tidy (broker me))
+          (subst (λ r. brokers.IsReady script me r (tasks (acts_of me plan.acts)) own) same_run
+            (subst (λ x. brokers.IsReady script me b.run (tasks (acts_of me x)) own) same_acts (f.ready (broker me) (opened me m.low m.high)))) m.same_run) m.has
+
+    its-task : IsKept script plan.repositories m.try.task
+    its-task =
+        at-place (IsKept script plan.repositories) (tasks (acts_of me plan.acts)) its-plan.1.0 m.try.task
+        (kept-tasks script plan.repositories (acts_of me plan.acts)
+          (kept-every (λ a. IsKept script plan.repositories (task_of a)) (λ (a : ActSpec). a.broker == me) plan.acts (kept-acts script plan.repositories plan.brokers 1 plan.acts whole.acts scripted)))
+        its-plan.1.1
+
+    its-home : InRange plan.repositories m.try.stamp.home
+    its-home = subst (InRange plan.repositories) (sym (try-home script me own m.try (f.tidy (broker me)) m.has)) its-task.0
+
+    -- what the book of its broker finds by its stamp is this try
+    same-try : (x : StampParts) (i : ℕ) (u : books.Try) → x ≡ m.try.stamp → x.broker ≡ i → find x (tries (book (log (broker i)))) ≡ Some u → u ≡ m.try
+    same-try x i u e k h =
+        let here : i ≡ me = sym k ∙ ap (λ (y : StampParts). y.broker) e ∙ its-broker in
+        let found : find m.try.stamp (tries (book own)) ≡ Some u = subst (λ y. find y (tries (book own)) ≡ Some u) e (subst (λ j. find x (tries (book (log (broker j)))) ≡ Some u) here h) in
+        let both : Some m.try ≡ Some u = sym its-place ∙ found in cc both
+
+    its-request : (x : TimeParts) (q : Request) (i : ℕ) → x.stamp ≡ m.try.stamp → x.stamp.broker ≡ i → IsAskOf script (tries (book (log (broker i)))) x q → Asked (attempt script m.try) x q
+    its-request x q i e k h =
+        let same : h.0 ≡ m.try = same-try x.stamp i h.0 e k h.1 in
+        (h.2.0, h.2.1, ap (λ (y : books.Try). y.answers) (sym same) ∙ h.2.2, h.2.3,
+          asks-some _ q (subst (λ (y : books.Try). stop (script y.task.script) h.2.0 ≡ Asks q) same h.2.4))
+
+    its-commit : (i : ℕ) → m.try.stamp.broker ≡ i → IsCommitOf script (tries (book (log (broker i)))) m.try.stamp →
+        ((talked (script m.try.task.script) m.try.answers).stop ≡ Over ending.Finished) × MayCommit m.try.end
+    its-commit i k h =
+        let same : h.0 ≡ m.try = same-try m.try.stamp i h.0 refl k h.1 in
+        (talked-stop (script m.try.task.script) m.try.answers ∙ subst (λ (y : books.Try). stop (script y.task.script) y.answers ≡ Over ending.Finished) same h.3,
+          may-commit m.try.end (subst (λ (y : books.Try). posts.MayCommit y.end) same h.2))
+
+  -- ---- what was asked
+
+  read-said : (a : Try) (m : Mine a) (t : TimeParts) (o : ObjectId) → Posted (message.Read t o) → t.stamp ≡ m.try.stamp → Asked (attempt script m.try) t (ToRead o)
+  read-said a m t o (Repository, i, to, h) e = absurd h
+  read-said a m t o (Broker, i, to, h) e = its-request a m t (ToRead o) i e h.0 h.2
+
+  write-said : (a : Try) (m : Mine a) (t : TimeParts) (o : ObjectId) (v : Value) → Posted (message.Write t o v) → t.stamp ≡ m.try.stamp → Asked (attempt script m.try) t (ToWrite o v)
+  write-said a m t o v (Repository, i, to, h) e = absurd h
+  write-said a m t o v (Broker, i, to, h) e = its-request a m t (ToWrite o v) i e h.0 h.2
+
+  commit-said : (a : Try) (m : Mine a) → Posted (message.Commit m.try.stamp) → ((talked (script m.try.task.script) m.try.answers).stop ≡ Over ending.Finished) × MayCommit m.try.end
+  commit-said a m (Repository, i, to, h) = absurd h
+  commit-said a m (Broker, i, to, h) = its-commit a m i h.0 h.2
+
+  -- ---- repositories
+
+  caused : (r : ℕ) (e : Effect) → Has e (log (repository r)) → repositories.HasCause ever (λ k. log (repository k)) f.ticks r e
+  caused r e h = (each-has _ (log (repository r)) e (f.proofs (repository r)) h).1
+
+  own-put : (r : ℕ) (l : List Effect) (o : ObjectId) (x : TimeParts) (v : Value) → repositories.IsTidy r l → Has (effect.Put o x v) l → o.repository ≡ r
+  own-put r [] o x v h k = absurd k
+  own-put r (effect.Put p y w ∷ l) o x v h (inl e) = let same : p ≡ o = cc e in ap (λ (q : ObjectId). q.repository) (sym same) ∙ h.0
+  own-put r (effect.Put p y w ∷ l) o x v h (inr k) = own-put r l o x v h.2 k
+  own-put r (effect.Stretch p y ∷ l) o x v h (inl e) = absurd (cc e)
+  own-put r (effect.Stretch p y ∷ l) o x v h (inr k) = own-put r l o x v h.1 k
+  own-put r (effect.Begin s d ∷ l) o x v h (inl e) = absurd (cc e)
+  own-put r (effect.Begin s d ∷ l) o x v h (inr k) = own-put r l o x v h.1 k
+  own-put r (effect.Decide s d ∷ l) o x v h (inl e) = absurd (cc e)
+  own-put r (effect.Decide s d ∷ l) o x v h (inr k) = own-put r l o x v h.2 k
+  own-put r (effect.Learn s c ∷ l) o x v h (inl e) = absurd (cc e)
+  own-put r (effect.Learn s c ∷ l) o x v h (inr k) = own-put r l o x v h.2 k
+  own-put r (effect.Run n ∷ l) o x v h k = absurd h
+  own-put r (effect.Act i j t n c z ∷ l) o x v h k = absurd h
+  own-put r (effect.Try i s ∷ l) o x v h k = absurd h
+  own-put r (effect.Got i w ∷ l) o x v h k = absurd h
+  own-put r (effect.Acked i ∷ l) o x v h k = absurd h
+  own-put r (effect.End i w ∷ l) o x v h k = absurd h
+
+  -- ---- all together
+
+  moved : (P : Try → Type 0) (a : Try) (m : Mine a) → P (attempt script m.try) → P a
+  moved P a m h = subst P m.is h
+
+  pub run-facts : Facts run ever
+  run-facts = record {
+    decided_once = λ s d e h k. ap is_commit (decided-once s.home (log (repository s.home)) s d e (f.tidy (repository s.home)) h k);
+    decided_home = λ r s d i h. sym (decide-home r (log (repository r)) s d (f.tidy (repository r)) h);
+    learned = λ r s c i h. caused r (effect.Learn s c) h;
+    value = λ t v h. value-said t v (posted (message.Value t v) h);
+    stored = λ t h. stored-said t (posted (message.Stored t) h);
+    decided = λ s d h. decided-said s d (posted (message.Decided s d) h);
+    got = λ a pre post v has. moved (λ x. x.answers ≡ pre ++ (Got v ∷ post) → Said ever (message.Value (at x.stamp pre) v)) a (mine a has)
+        (λ e. came (mine a has).number _ ((its-proof a (mine a has)).answers pre post (Got v) e));
+    acked = λ a pre post has. moved (λ x. x.answers ≡ pre ++ (Stored ∷ post) → Said ever (message.Stored (at x.stamp pre))) a (mine a has)
+        (λ e. came (mine a has).number _ ((its-proof a (mine a has)).answers pre post Stored e));
+    end_committed = λ a has. moved (λ x. x.ended ≡ Some outcome.Committed → Said ever (message.Decided x.stamp decision.Committed)) a (mine a has)
+        (λ e. came (mine a has).number _ ((its-proof a (mine a has)).ends outcome.Committed e));
+    end_expired = λ a d n has. moved (λ x. x.ended ≡ Some (outcome.Expired d n) → Said ever (message.Decided x.stamp (decision.Expired d n))) a (mine a has)
+        (λ e. came (mine a has).number _ ((its-proof a (mine a has)).ends (outcome.Expired d n) e));
+    end_withdrawn = λ a l has. moved (λ x. x.ended ≡ Some (outcome.Withdrawn l) → (talked x.script x.answers).stop ≡ Over (ending.Withdrawn l)) a (mine a has)
+        (λ e. talked-stop (script (mine a has).try.task.script) (mine a has).try.answers ∙ (its-play a (mine a has)).ends (outcome.Withdrawn l) e);
+    end_failed = λ a l k has. moved (λ x. x.ended ≡ Some (outcome.Failed l k) → (talked x.script x.answers).stop ≡ Over (ending.Failed l k)) a (mine a has)
+        (λ e. talked-stop (script (mine a has).try.task.script) (mine a has).try.answers ∙ (its-play a (mine a has)).ends (outcome.Failed l k) e);
+    read_asked = λ a t o has h. moved (λ x. t.stamp ≡ x.stamp → Asked x t (ToRead o)) a (mine a has) (read-said a (mine a has) t o (posted (message.Read t o) h));
+    write_asked = λ a t o v has h. moved (λ x. t.stamp ≡ x.stamp → Asked x t (ToWrite o v)) a (mine a has) (write-said a (mine a has) t o v (posted (message.Write t o v) h));
+    commit_asked = λ a has. moved (λ x. Said ever (message.Commit x.stamp) → ((talked x.script x.answers).stop ≡ Over ending.Finished) × MayCommit x.ended) a (mine a has)
+        (λ h. commit-said a (mine a has) (posted (message.Commit (mine a has).try.stamp) h));
+    distinct = λ r i. tidy-distinct r (log (repository r)) (f.tidy (repository r));
+    put = λ r o x v i h. (own-put r (log (repository r)) o x v (f.tidy (repository r)) h, was-said _ _ _ (caused r (effect.Put o x v) h).0);
+    commit = λ s h. was-said _ _ _ (caused s.home (effect.Decide s decision.Committed) h);
+    home = λ a has. moved (λ x. in_run run x.stamp.home ≡ true) a (mine a has) (in-both run _ (its-home a (mine a has)).0 (its-home a (mine a has)).1);
+    within = λ a pre post c q has. moved (λ x. x.answers ≡ pre ++ (c ∷ post) → asks (after x.script pre) ≡ Some q → in_run run (asked_of q).repository ≡ true) a (mine a has)
+        (λ e k. let r = inside-asks plan.repositories (after (script (mine a has).try.task.script) pre) q
+            (inside-after plan.repositories (script (mine a has).try.task.script) pre (its-task a (mine a has)).1) k in in-both run _ r.0 r.1);
+  }
+
+  -- ---- causes
+
+  same-write : (p o : ObjectId) (v w : Value) → Asks (ToWrite p v) ≡ Asks (ToWrite o w) → p ≡ o
+  same-write p o v w e = cc e
+
+  some-asks : (s : Stop) (q : Request) → request_at s ≡ Some q → s ≡ Asks q
+  some-asks (Asks p) q e = cc e
+  some-asks (Over x) q e = absurd (cc e)
+
+  module _ (a : Try) (m : Mine a) where
+    abbrev mine-try : Try
+    mine-try = attempt script m.try
+
+    abbrev time : TimeParts
+    time = at m.try.stamp m.try.answers
+
+    -- what was asked of a repository at this pseudotime is what the script asks there
+    asked-now : (r : ℕ) (o p : ObjectId) (v w : Value) → repositories.WriteSent ever r time p w → stop (script m.try.task.script) m.try.answers ≡ Asks (ToWrite o v) →
+        (p ≡ o) × (asks (after (script m.try.task.script) m.try.answers) ≡ Some (ToWrite p w))
+    asked-now r o p v w sent e =
+        let said : Asked mine-try time (ToWrite p w) = write-said a m time p w (posted (message.Write time p w) (was-said _ _ _ sent.0)) refl in
+        let here : asks (after (script m.try.task.script) m.try.answers) ≡ Some (ToWrite p w) = asked-here mine-try m.try.answers [] (ToWrite p w) (sym (append-nil m.try.answers)) said in
+        (same-write p o w v (sym (some-asks _ (ToWrite p w) here) ∙ e), here)
+
+    refused-read : (o : ObjectId) (e : TimeParts) → ((v : Value) × (stop (script m.try.task.script) m.try.answers ≡ Asks (ToWrite o v))) → Posted (message.LaterRead time e) → HasCause run mine-try (outcome.LaterRead o e)
+    refused-read o e asks-it (Broker, i, to, h) = absurd h
+    refused-read o e asks-it (Repository, i, to, h) =
+        let r = asked-now i o h.0 asks-it.0 h.1 h.2 asks-it.1 in
+        subst (λ x. HasCause run mine-try (outcome.LaterRead x e)) r.0
+        (subst (λ j. (v : Value) × (asks (after (script m.try.task.script) m.try.answers) ≡ Some (ToWrite h.0 v)) × (lt time e ≡ true) × Has (effect.Stretch h.0 e) (log (repository j)) × repositories.Once (λ l. write_step (marks l) h.0 time v ≡ write.LaterRead e) (log (repository j))) (sym h.2.1)
+          (h.1, r.1, h.3, once-read (log (repository i)) h.0 time e h.1 h.4, h.4))
+
+    refused-version : (o : ObjectId) (x : TimeParts) → ((v : Value) × (stop (script m.try.task.script) m.try.answers ≡ Asks (ToWrite o v))) → Posted (message.LaterVersion time x) → HasCause run mine-try (outcome.LaterVersion o x)
+    refused-version o x asks-it (Broker, i, to, h) = absurd h
+    refused-version o x asks-it (Repository, i, to, h) =
+        let r = asked-now i o h.0 asks-it.0 h.1 h.2 asks-it.1 in
+        subst (λ y. HasCause run mine-try (outcome.LaterVersion y x)) r.0
+        (subst (λ j. (v : Value) × (asks (after (script m.try.task.script) m.try.answers) ≡ Some (ToWrite h.0 v)) × (lt x time ≡ false) × ((w : Value) × Has (effect.Put h.0 x w) (log (repository j))) × repositories.Once (λ l. write_step (marks l) h.0 time v ≡ write.LaterVersion x) (log (repository j))) (sym h.2.1)
+          (h.1, r.1, h.3, once-version (log (repository i)) h.0 time x h.1 h.4, h.4))
+
+    try-cause : (o : Outcome) → m.try.end ≡ Some o → HasCause run mine-try o
+    try-cause outcome.Committed e = decided-said m.try.stamp decision.Committed (posted _ (came m.number _ ((its-proof a m).ends outcome.Committed e)))
+    try-cause (outcome.Withdrawn l) e = talked-stop (script m.try.task.script) m.try.answers ∙ (its-play a m).ends (outcome.Withdrawn l) e
+    try-cause (outcome.Failed l k) e = talked-stop (script m.try.task.script) m.try.answers ∙ (its-play a m).ends (outcome.Failed l k) e
+    try-cause (outcome.Expired d n) e =
+        let decided = decided-said m.try.stamp (decision.Expired d n) (posted _ (came m.number _ ((its-proof a m).ends (outcome.Expired d n) e))) in
+        let c = decide-cause m.try.stamp.home (log (repository m.try.stamp.home)) m.try.stamp (decision.Expired d n) (f.tidy (repository m.try.stamp.home)) decided in
+        (decided, subst (λ x. Has (effect.Begin m.try.stamp x) (log (repository m.try.stamp.home))) (sym c.2.0) c.1, subst (λ x. x ≤ n) (sym c.2.0) c.2.1)
+    try-cause (outcome.LaterRead o x) e = refused-read o x ((its-play a m).ends (outcome.LaterRead o x) e) (posted _ (came m.number _ ((its-proof a m).ends (outcome.LaterRead o x) e)))
+    try-cause (outcome.LaterVersion o x) e = refused-version o x ((its-play a m).ends (outcome.LaterVersion o x) e) (posted _ (came m.number _ ((its-proof a m).ends (outcome.LaterVersion o x) e)))
+    try-cause (outcome.Spent c) e = absurd ((its-play a m).ends (outcome.Spent c) e)
+
+  pub run-causes : Causes run
+  run-causes a o has = moved (λ x. x.ended ≡ Some o → HasCause run x o) a (mine a has) (try-cause a (mine a has) o)

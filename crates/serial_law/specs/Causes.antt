@@ -1,0 +1,52 @@
+-- Why an attempt ended as it did: what stands in the logs of a run, newest effect first.
+use Rattle.std.specs.Prelude.{◌≡◌, ℕ, ◌+◌, ◌≤◌, length, true, false, List, Some}
+use Rattle.pseudo_time.specs.Lists.{Has}
+use Rattle.pseudo_time.specs.TimeParts.{TimeParts}
+use Rattle.pseudo_time.specs.Order.{lt}
+use Rattle.pseudo_time.specs.declared.decisions.Decision.TheVariants as decision
+use Rattle.value_form.specs.declared.endings.Ending.TheVariants as ending
+use Rattle.value_form.specs.declared.objects.ObjectId.{ObjectId}
+use Rattle.value_form.specs.declared.values.Value.{Value}
+use Rattle.effect_form.specs.declared.effects.Effect.TheVariants as effect
+use Rattle.effect_form.specs.declared.outcomes.Outcome.{Outcome}
+use Rattle.effect_form.specs.declared.outcomes.Outcome.TheVariants as outcome
+use Rattle.object_history.specs.declared.steps.WriteStep.{WriteStep}
+use Rattle.object_history.specs.declared.steps.WriteStep.TheVariants as write
+use Rattle.object_history.specs.Answers.{write_step}
+use Rattle.repository_core.specs.Logs.{marks}
+use Rattle.repository_laws.specs.Facts.{Once}
+use Rattle.script_meaning.specs.Meaning.{ToWrite, Over}
+use Rattle.serial_model.specs.Questions.{after, talked}
+use Rattle.serial_law.specs.Deeds.{Try, RunLogs, log_of}
+use Rattle.serial_law.specs.Facts.{asks, at}
+
+-- the pseudotime of the request that the attempt stands at
+abbrev pub now : Try → TimeParts
+now try = at try.stamp try.answers
+
+-- its script wants to write this there
+abbrev pub Writes : Try → ObjectId → Value → Type 0
+Writes try o v = asks (after try.script try.answers) ≡ Some (ToWrite o v)
+
+-- the repository of the object answered so to that write, over its log as it once was
+abbrev pub Answered : RunLogs → Try → ObjectId → Value → WriteStep → Type 0
+Answered k try o v step = Once (λ log. write_step (marks log) o (now try) v ≡ step) (log_of k o.repository)
+
+-- A committed attempt was decided so at its home. One that was withdrawn or failed came to that end by its script. One that
+-- expired was decided so at its home, with the deadline that it began with, and not before. A write was refused where the object was
+-- read above it, up to the time that is shown, or has a version that isn't below it.
+abbrev pub HasCause : RunLogs → Try → Outcome → Type 0
+HasCause k try outcome.Committed = Has (effect.Decide try.stamp decision.Committed) (log_of k try.stamp.home)
+HasCause k try (outcome.Withdrawn l) = (talked try.script try.answers).stop ≡ Over (ending.Withdrawn l)
+HasCause k try (outcome.Failed l kind) = (talked try.script try.answers).stop ≡ Over (ending.Failed l kind)
+HasCause k try (outcome.Expired d m) =
+    Has (effect.Decide try.stamp (decision.Expired d m)) (log_of k try.stamp.home) × Has (effect.Begin try.stamp d) (log_of k try.stamp.home) × (d ≤ m)
+HasCause k try (outcome.LaterRead o e) =
+    (v : Value) × Writes try o v × (lt (now try) e ≡ true) × Has (effect.Stretch o e) (log_of k o.repository) × Answered k try o v (write.LaterRead e)
+HasCause k try (outcome.LaterVersion o x) =
+    (v : Value) × Writes try o v × (lt x (now try) ≡ false) × ((w : Value) × Has (effect.Put o x w) (log_of k o.repository)) × Answered k try o v (write.LaterVersion x)
+HasCause k try (outcome.Spent c) = ⊥
+
+-- each End of the run has its cause
+abbrev pub Causes : RunLogs → Type 0
+Causes k = (try : Try) (o : Outcome) → Has try k.tries → try.ended ≡ Some o → HasCause k try o

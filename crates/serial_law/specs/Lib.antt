@@ -1,0 +1,5 @@
+pub mod Causes
+pub mod Deeds
+pub mod Facts
+pub mod Runs
+pub mod Serial

@@ -1,0 +1,83 @@
+-- A run of a plan over the logs of its nodes, which stand newest first.
+use Rattle.std.specs.Prelude.{◌≡◌, ℕ, zero, suc, ◌==◌, Bool, List, [], ◌++◌, map, reverse, if◌then◌else◌}
+use Rattle.pseudo_time.specs.Lists.{Has}
+use Rattle.pseudo_time.specs.declared.decisions.Decision.{Decision}
+use Rattle.pseudo_time.specs.declared.nodes.NodeId.{NodeId}
+use Rattle.value_form.specs.declared.objects.ObjectId.{ObjectId}
+use Rattle.value_form.specs.declared.values.Value.{Value}
+use Rattle.effect_form.specs.declared.effects.Effect.{Effect}
+use Rattle.effect_form.specs.declared.effects.Effect.TheVariants as effect
+use Rattle.message_form.specs.declared.messages.Message.{Message}
+use Rattle.message_form.specs.declared.messages.Message.TheVariants as message
+use Rattle.turn_form.specs.Posts.{Post}
+use Rattle.stream_port.specs.declared.fates.Asked.{Asked}
+use Rattle.object_history.specs.Views.{Viewed}
+use Rattle.serial_model.specs.Questions.{Tree}
+use Rattle.plan_form.specs.declared.plans.Plan.{Plan}
+use Rattle.plan_form.specs.PlanTexts.{IsWhole}
+use Rattle.repository_core.specs.Logs.{is_commit, marks}
+use Rattle.broker_core.specs.Book as books
+use Rattle.broker_core.specs.Book.{Book, book, tries_of}
+use Rattle.broker_core.specs.Stages.{broker}
+use Rattle.world_core.specs.declared.entries.Entry.{Entry}
+use Rattle.world_core.specs.declared.traces.Trace.{Trace}
+use Rattle.world_core.specs.Walks.{World, walk, sent_by}
+use Rattle.world_core.specs.Legal.{Legal, base_of}
+use Rattle.world_core.specs.Pasts.{HasPast, Agrees}
+use Rattle.world_facts.specs.Refines.{logs_at}
+use Rattle.serial_law.specs.Deeds.{Try, RunLogs}
+
+-- an attempt of a broker's book; `script` reads the texts of scripts
+abbrev pub attempt : (List ℕ → Tree) → books.Try → Try
+attempt script t = record { stamp = t.stamp; script = script t.task.script; answers = t.answers; ended = t.end }
+
+-- the attempts of this run in a broker's book
+abbrev pub book_tries : (List ℕ → Tree) → ℕ → Book → List Try
+book_tries script run b = if b.run == run then map (attempt script) (tries_of b.acts) else []
+
+-- of brokers 1 to this number
+unfoldable pub run_tries : (List ℕ → Tree) → ℕ → (NodeId → List Effect) → ℕ → List Try
+run_tries script run logs zero = []
+run_tries script run logs (suc b) = run_tries script run logs b ++ book_tries script run (book (logs (broker (suc b))))
+
+-- a run of this plan
+abbrev pub run_of : (List ℕ → Tree) → Plan → (NodeId → List Effect) → RunLogs
+run_of script plan logs = record { repositories = plan.repositories; logs = logs; tries = run_tries script plan.run logs plan.brokers }
+
+-- ---- legal traces
+
+-- a legal trace of a plan of the language, over logs with a past; `logs` are those so far, oldest effect first, and these are
+-- its entries up to a place
+pub record IsPlace (script : List ℕ → Tree) (plan : Plan) (asked : List Asked) (t : Trace) (logs : NodeId → List Effect) (front : List Entry) : Type 0 where
+  pub whole : IsWhole plan
+  pub past : HasPast script logs
+  pub agrees : Agrees t.opened logs
+  pub legal : Legal script plan asked t
+  pub rest : List Entry
+  pub here : t.entries ≡ front ++ rest
+
+abbrev pub world_at : (List ℕ → Tree) → Plan → Trace → List Entry → World
+world_at script plan t front = walk (base_of script plan t) front
+
+-- the durable logs at that place, newest effect first
+abbrev pub log_at : (List ℕ → Tree) → Plan → Trace → (NodeId → List Effect) → List Entry → NodeId → List Effect
+log_at script plan t logs front n = reverse (logs_at logs (world_at script plan t front) n)
+
+abbrev pub run_at : (List ℕ → Tree) → Plan → Trace → (NodeId → List Effect) → List Entry → RunLogs
+run_at script plan t logs front = run_of script plan (log_at script plan t logs front)
+
+-- what was sent in the trace up to that place
+abbrev pub sent_at : (List ℕ → Tree) → Plan → Trace → List Entry → List Post
+sent_at script plan t front = sent_by (world_at script plan t front)
+
+-- ---- acknowledgements
+
+-- What a sender's log has after it sent the message; `ever` are all messages that were sent. After Stored the put with that start
+-- stands in it. After Value a read of that object there sees that value, of the origin, or of a version that is settled or the
+-- reader's own, unless the log knows the reader as aborted. After Decided and Tell the Decide stands in it.
+abbrev pub Acknowledges : List Post → NodeId → List Effect → Message → Type 0
+Acknowledges ever from log (message.Stored t) = (o : ObjectId) × (v : Value) × Has (record { from = broker t.stamp.broker; to = from; message = message.Write t o v }) ever × Has (effect.Put o t v) log
+Acknowledges ever from log (message.Value t v) = (o : ObjectId) × Has (record { from = broker t.stamp.broker; to = from; message = message.Read t o }) ever × Viewed (marks log) o t v
+Acknowledges ever from log (message.Decided s d) = Has (effect.Decide s d) log
+Acknowledges ever from log (message.Tell s c) = (d : Decision) × Has (effect.Decide s d) log × (c ≡ is_commit d)
+Acknowledges ever from log _ = Unit {0}

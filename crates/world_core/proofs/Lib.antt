@@ -1,0 +1,4 @@
+pub mod Legality
+pub mod Lists
+pub mod Lives
+pub mod Rules

@@ -1,0 +1,4 @@
+pub mod Legal
+pub mod Nodes
+pub mod Pasts
+pub mod Walks

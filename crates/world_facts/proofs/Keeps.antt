@@ -1,0 +1,166 @@
+-- Each event keeps what always holds.
+use Rattle.std.proofs.Common.{◌≡◌, ℕ, ◌-◌, Bool, List, [], ◌∷◌, ◌++◌, length, refl, sym, ◌∙◌, ap, subst, append_assoc, inl, inr}
+use Rattle.std.specs.List.{filter}
+use Rattle.std.proofs.lemmas.List.{append-nil}
+use Rattle.pseudo_time.specs.Lists.{Every, Has}
+use Rattle.pseudo_time.specs.declared.nodes.NodeId.{NodeId}
+use Rattle.pseudo_time.proofs.ListLemmas.{every-map, every-append, every-has, has-right}
+use Rattle.value_form.specs.declared.acts.ActSpec.{ActSpec}
+use Rattle.effect_form.specs.declared.effects.Effect.{Effect}
+use Rattle.effect_form.specs.declared.effects.Effect.TheVariants as effect
+use Rattle.turn_form.specs.declared.turns.Out.{Out}
+use Rattle.turn_form.specs.Growth.{Grew, Each}
+use Rattle.turn_form.specs.Posts.{Post, post, posts}
+use Rattle.turn_form.proofs.GrowthLemmas.{grew_keeps, grew_on, grew_drop, each_grew}
+use Rattle.serial_model.specs.Questions.{Tree}
+use Rattle.world_core.specs.Nodes.{Mind, Input, Given, repository}
+use Rattle.world_core.specs.Nodes.Input.{Going, Taking, Learning, Hearing}
+use Rattle.world_facts.specs.Rules.{Around, Later, NodeFacts, Turns, MayInput, SenderOk, TurnGiven, TurnGives, NodeLaws}
+use Rattle.world_facts.specs.Soft.{Seat, whole, keep, gate, crash, Soft, put, around, Event, react, happens, nothing, happened, May, Mays, NodeOk, SentOk, Inv}
+use Rattle.world_facts.specs.Soft.Event.{React, Gate, Crash, Tick}
+use Rattle.world_facts.proofs.Growths.{each-map, each-drop, every-filter, every-of-map, put-all, put-here}
+
+module _ (script : List ℕ → Tree) (turns : Turns) (F : NodeFacts) (laws : NodeLaws script turns F) where
+  -- ---- facts of a node along its own growth
+
+  pub tidy-grown : (n : NodeId) (log fresh : List Effect) → Grew (F.Fits n) log fresh → F.Tidy n log → F.Tidy n (fresh ++ log)
+  tidy-grown n log fresh g t = grew_keeps (F.Fits n) (F.Tidy n) (λ l f. laws.tidied n l f) log fresh g t
+
+  pub post-grown : (ever : List Post) (n : NodeId) (out : Out) (log fresh : List Effect) → Grew (F.Fits n) log fresh → F.Tidy n log → F.PostOk ever n log out → F.PostOk ever n (fresh ++ log) out
+  post-grown ever n out log fresh g t p =
+      let both : F.Tidy n (fresh ++ log) × F.PostOk ever n (fresh ++ log) out =
+      grew_keeps (F.Fits n) (λ l. F.Tidy n l × F.PostOk ever n l out) (λ l f h fits. (laws.tidied n l f h.0 fits, laws.stays ever n l f out h.0 fits h.1)) log fresh g (t, p) in
+      both.1
+
+  -- more around a node
+  pub node-later : (w v : Around) → Later w v → (n : NodeId) (x : Seat) → NodeOk F w n x → NodeOk F v n x
+  node-later w v l n x h = record {
+    tidy = h.tidy;
+    grew = h.grew;
+    proofs = each-map (F.Proof w n) (F.Proof v n) (λ log f. laws.later w v n log f l) (x.fresh ++ x.gated) h.proofs;
+    mind_ok = subst (λ e. F.MindOk e n x.mind) (sym l.ever) (laws.more_mind w.ever l.more n x.mind h.mind_ok);
+    outs = subst (λ e. Every (F.PostOk e n (x.fresh ++ x.gated)) x.outs) (sym l.ever)
+        (every-map (F.PostOk w.ever n (x.fresh ++ x.gated)) (F.PostOk (w.ever ++ l.more) n (x.fresh ++ x.gated)) (λ out p. laws.more_posts w.ever l.more n (x.fresh ++ x.gated) out p) x.outs h.outs);
+  }
+
+  -- ---- an input
+
+  pub turn-given : (s : Soft) (run : ℕ) (acts : List ActSpec) (n : NodeId) → Inv F s → F.Ready run acts n (whole (s.seat n)) →
+      TurnGiven F (around s) run acts n (whole (s.seat n)) (s.seat n).mind
+  turn-given s run acts n inv ready =
+      let x : Seat = s.seat n in
+      let h : NodeOk F (around s) n (s.seat n) = inv.nodes n in
+      record { tidy = tidy-grown n x.gated x.fresh h.grew h.tidy; proofs = h.proofs; mind_ok = h.mind_ok; ready = ready; fresh = x.fresh; own = refl; grew = h.grew }
+
+  sender-ok : (s : Soft) (n : NodeId) (input : Input) → Inv F s → MayInput (around s) n input → SenderOk F (around s) n input
+  sender-ok s n Going inv may = tt
+  sender-ok s n (Taking from m) inv may = every-has (SentOk F s.ever (λ k. (s.seat k).gated)) s.ever (post from (record { to = n; message = m })) inv.sent may
+  sender-ok s n (Learning stamp committed) inv may = tt
+  sender-ok s n (Hearing t) inv may = tt
+
+  pub turn-gives : (s : Soft) (run : ℕ) (acts : List ActSpec) (n : NodeId) (input : Input) → Inv F s → MayInput (around s) n input → F.Ready run acts n (whole (s.seat n)) →
+      TurnGives F (around s) run acts n (whole (s.seat n)) (turns run acts n (whole (s.seat n)) (s.seat n).mind input)
+  turn-gives s run acts n input inv may ready =
+      laws.turn (around s) run acts n (whole (s.seat n)) (s.seat n).mind input (turn-given s run acts n inv ready) may (sender-ok s n input inv may)
+
+  turned : (w : Around) (run : ℕ) (acts : List ActSpec) (n : NodeId) (x : Seat) (g : Given) → NodeOk F w n x → TurnGives F w run acts n (whole x) g →
+      NodeOk F w n (record { gated = x.gated; fresh = g.effects ++ x.fresh; outs = x.outs ++ g.outs; mind = g.mind })
+  turned w run acts n x g h gives =
+      let e : g.effects ++ (x.fresh ++ x.gated) ≡ (g.effects ++ x.fresh) ++ x.gated = sym (append_assoc g.effects x.fresh x.gated) in
+      let tidy : F.Tidy n (whole x) = tidy-grown n x.gated x.fresh h.grew h.tidy in
+      record {
+        tidy = h.tidy;
+        grew = grew_on (F.Fits n) x.gated x.fresh g.effects h.grew gives.grew;
+        proofs = subst (λ l. Each (F.Proof w n) l) e (each_grew (F.Proof w n) (whole x) g.effects h.proofs gives.proofs);
+        mind_ok = gives.mind_ok;
+        outs = subst (λ l. Every (F.PostOk w.ever n l) (x.outs ++ g.outs)) e
+            (every-append (F.PostOk w.ever n (g.effects ++ whole x)) x.outs g.outs
+              (every-map (F.PostOk w.ever n (whole x)) (F.PostOk w.ever n (g.effects ++ whole x)) (λ out p. post-grown w.ever n out (whole x) g.effects gives.grew tidy p) x.outs h.outs)
+              gives.outs);
+      }
+
+  pub react-ok : (s : Soft) (run : ℕ) (acts : List ActSpec) (n : NodeId) (input : Input) → Inv F s → MayInput (around s) n input → F.Ready run acts n (whole (s.seat n)) →
+      NodeOk F (around s) n (react turns run acts n (s.seat n) input)
+  react-ok s run acts n input inv may ready =
+      turned (around s) run acts n (s.seat n) (turns run acts n (whole (s.seat n)) (s.seat n).mind input) (inv.nodes n) (turn-gives s run acts n input inv may ready)
+
+  -- ---- one node changed: its durable log grew by `late`, and `new` messages left it
+
+  changed : (s : Soft) (n : NodeId) (y : Seat) (late : List Effect) (ever new : List Post) → Inv F s → NodeOk F (around s) n y →
+      Grew (F.Fits n) (s.seat n).gated late → y.gated ≡ late ++ (s.seat n).gated → ever ≡ s.ever ++ new →
+      Every (SentOk F s.ever (λ k. (put n y s.seat k).gated)) new → Inv F (record { seat = put n y s.seat; ever = ever; ticks = s.ticks })
+  changed s n y late ever new inv ok grew own sent news =
+      let v : Soft = record { seat = put n y s.seat; ever = ever; ticks = s.ticks } in
+      let l : Later (around s) (around v) = record {
+        more = new;
+        ever = sent;
+        homes = λ t d. put-all (λ k z. Has (effect.Decide t d) (s.seat k).gated → Has (effect.Decide t d) z.gated) n y s.seat
+            (λ c. subst (Has (effect.Decide t d)) (sym own) (has-right late (s.seat n).gated (effect.Decide t d) c))
+            (λ k c. c) (repository t.home);
+        ticks = λ t c. c;
+      } in
+      let old : (p : Post) → SentOk F s.ever (λ k. (s.seat k).gated) p → SentOk F s.ever (λ k. (put n y s.seat k).gated) p =
+      λ p. put-all (λ k z. F.PostOk s.ever k (s.seat k).gated (record { to = p.to; message = p.message }) → F.PostOk s.ever k z.gated (record { to = p.to; message = p.message })) n y s.seat
+      (λ q. subst (λ g. F.PostOk s.ever n g (record { to = p.to; message = p.message })) (sym own)
+      (post-grown s.ever n (record { to = p.to; message = p.message }) (s.seat n).gated late grew (inv.nodes n).tidy q))
+      (λ k q. q) p.from in
+      record {
+        nodes = put-all (λ k z. NodeOk F (around v) k z) n y s.seat (node-later (around s) (around v) l n y ok) (λ k. node-later (around s) (around v) l k (s.seat k) (inv.nodes k));
+        sent = subst (λ e. Every (SentOk F e (λ k. (put n y s.seat k).gated)) e) (sym sent)
+            (every-map (SentOk F s.ever (λ k. (put n y s.seat k).gated)) (SentOk F (s.ever ++ new) (λ k. (put n y s.seat k).gated))
+              (λ p q. laws.more_posts s.ever new p.from (put n y s.seat p.from).gated (record { to = p.to; message = p.message }) q)
+              (s.ever ++ new)
+              (every-append (SentOk F s.ever (λ k. (put n y s.seat k).gated)) s.ever new
+                (every-map (SentOk F s.ever (λ k. (s.seat k).gated)) (SentOk F s.ever (λ k. (put n y s.seat k).gated)) old s.ever inv.sent)
+                news));
+      }
+
+  gate-ok : (w : Around) (n : NodeId) (x : Seat) → NodeOk F w n x → NodeOk F w n (gate x)
+  gate-ok w n x h = record { tidy = tidy-grown n x.gated x.fresh h.grew h.tidy; grew = tt; proofs = h.proofs; mind_ok = h.mind_ok; outs = tt }
+
+  crash-ok : (w : Around) (n : NodeId) (kept start : ℕ) (x : Seat) → NodeOk F w n x → NodeOk F w n (crash kept start x)
+  crash-ok w n kept start x h = record {
+    tidy = tidy-grown n x.gated (keep kept x.fresh) (grew_drop (F.Fits n) x.gated (length x.fresh - kept) x.fresh h.grew) h.tidy;
+    grew = tt;
+    proofs = each-drop (F.Proof w n) x.gated (length x.fresh - kept) x.fresh h.proofs;
+    mind_ok = laws.opened w.ever n start;
+    outs = tt;
+  }
+
+  -- what leaves at a gate has its fact at the new durable log
+  gate-news : (s : Soft) (n : NodeId) (which : Out → Bool) → Inv F s → Every (SentOk F s.ever (λ k. (put n (gate (s.seat n)) s.seat k).gated)) (posts n (filter which (s.seat n).outs))
+  gate-news s n which inv =
+      let y : Seat = gate (s.seat n) in
+      let At : Post → Type 0 = SentOk F s.ever (λ k. (put n y s.seat k).gated) in
+      every-of-map At (post n) (filter which (s.seat n).outs)
+        (every-map (F.PostOk s.ever n (whole (s.seat n))) (λ out. At (post n out))
+          (λ out p. subst (λ (z : Seat). F.PostOk s.ever n z.gated (record { to = out.to; message = out.message })) (sym (put-here n y s.seat)) p)
+          (filter which (s.seat n).outs)
+          (every-filter (F.PostOk s.ever n (whole (s.seat n))) which (s.seat n).outs (inv.nodes n).outs))
+
+  inv-tick : (s : Soft) (t : ℕ) → Inv F s → Inv F (record { seat = s.seat; ever = s.ever; ticks = t ∷ s.ticks })
+  inv-tick s t inv =
+      let v : Soft = record { seat = s.seat; ever = s.ever; ticks = t ∷ s.ticks } in
+      let l : Later (around s) (around v) = record { more = []; ever = sym (append-nil s.ever); homes = λ x d c. c; ticks = λ x c. inr c } in
+      record { nodes = λ k. node-later (around s) (around v) l k (s.seat k) (inv.nodes k); sent = inv.sent }
+
+  -- ---- one event, and all
+
+  pub inv-happens : (s : Soft) (e : Event) → Inv F s → May F s e → Inv F (happens turns s e)
+  inv-happens s (React n run acts input) inv may =
+      changed s n (react turns run acts n (s.seat n) input) [] s.ever [] inv (react-ok s run acts n input inv may.0 may.1) tt refl (sym (append-nil s.ever)) tt
+  inv-happens s (Gate n which) inv may =
+      changed s n (gate (s.seat n)) (s.seat n).fresh (s.ever ++ posts n (filter which (s.seat n).outs)) (posts n (filter which (s.seat n).outs)) inv
+      (gate-ok (around s) n (s.seat n) (inv.nodes n)) (inv.nodes n).grew refl refl (gate-news s n which inv)
+  inv-happens s (Crash n kept start) inv may =
+      changed s n (crash kept start (s.seat n)) (keep kept (s.seat n).fresh) s.ever [] inv (crash-ok (around s) n kept start (s.seat n) (inv.nodes n))
+      (grew_drop (F.Fits n) (s.seat n).gated (length (s.seat n).fresh - kept) (s.seat n).fresh (inv.nodes n).grew) refl (sym (append-nil s.ever)) tt
+  inv-happens s (Tick t) inv may = inv-tick s t inv
+
+  inv-nothing : Inv F nothing
+  inv-nothing = record { nodes = λ n. record { tidy = laws.empty n; grew = tt; proofs = tt; mind_ok = laws.opened [] n 0; outs = tt }; sent = tt }
+
+  -- what always holds, holds in every world that events reach
+  pub inv-reached : (es : List Event) → Mays F turns es → Inv F (happened turns es)
+  inv-reached [] may = inv-nothing
+  inv-reached (e ∷ es) may = inv-happens (happened turns es) e (inv-reached es may.0) may.1

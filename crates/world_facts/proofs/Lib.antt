@@ -1,0 +1,6 @@
+pub mod Growths
+pub mod Keeps
+pub mod NodeLaws
+pub mod Openings
+pub mod Refinements
+pub mod Steps

@@ -1,0 +1,211 @@
+-- Runs begin and end, one after another; and the facts of a legal trace over logs with a past.
+use Rattle.std.proofs.Common.{◌≡◌, ℕ, zero, suc, ◌-◌, Bool, true, false, List, [], ◌∷◌, ◌++◌, drop, take, length, reverse, if◌then◌else◌, refl, sym, ◌∙◌, ap, subst, Option, Some, None, is_some}
+use Rattle.std.specs.Option.{unwrap_or}
+use Rattle.std.proofs.lemmas.List.{append-nil, reverse-append}
+use Rattle.pseudo_time.specs.Lists.{Every, Has}
+use Rattle.pseudo_time.specs.StampParts.{StampParts}
+use Rattle.pseudo_time.specs.declared.nodes.NodeId.{NodeId}
+use Rattle.pseudo_time.proofs.ListLemmas.{every-map}
+use Rattle.effect_form.specs.declared.effects.Effect.{Effect}
+use Rattle.effect_form.specs.declared.effects.Effect.TheVariants as effect
+use Rattle.turn_form.specs.Growth.{Grew, Each}
+use Rattle.turn_form.specs.Posts.{Post}
+use Rattle.turn_form.proofs.GrowthLemmas.{each_below}
+use Rattle.stream_port.specs.declared.fates.Asked.{Asked}
+use Rattle.stream_port.specs.declared.fates.Fate.{Fate}
+use Rattle.message_core.specs.Nodes.{same_node}
+use Rattle.message_core.proofs.NodeLemmas.{same_is}
+use Rattle.serial_model.specs.Questions.{Tree}
+use Rattle.plan_form.specs.declared.plans.Plan.{Plan}
+use Rattle.world_core.specs.declared.entries.Entry.{Entry}
+use Rattle.world_core.specs.declared.traces.Opened.{Opened}
+use Rattle.world_core.specs.declared.traces.Trace.{Trace}
+use Rattle.world_core.specs.Nodes.{repository, is_ready}
+use Rattle.world_core.specs.Walks.{Base, Life, World, opened_log, opened_life, sent_by, start_world, walk}
+use Rattle.world_core.specs.Legal.{Meets, AllReady, Legal, base_of, fates_of, in_plan}
+use Rattle.world_core.specs.Pasts.{Call, last_life, log_left, logs_after, Agrees, IsCall, AreCalls, HasPast}
+use Rattle.world_core.proofs.Rules.{meets-front}
+use Rattle.world_facts.specs.Rules.{Around, Later, NodeFacts, Turns, NodeLaws}
+use Rattle.world_facts.specs.Soft.{Seat, whole, put, crash, keep, kept_log, opened_seat, Soft, around, Event, happened, Mays, SentOk, Inv}
+use Rattle.world_facts.specs.Soft.Event.{Crash}
+use Rattle.world_facts.specs.Refines.{seat_of, Models, Refines, Left, logs_at, Facts}
+use Rattle.world_facts.proofs.Growths.{each-map, drop-none, none-has, length-reverse, take-back}
+use Rattle.world_facts.proofs.Keeps.{inv-reached}
+use Rattle.world_facts.proofs.Refinements.{ready-gated, walk-refines}
+
+-- ---- each node of a list crashes
+
+kept-again : (kept start : ℕ) (log : List Effect) → kept_log kept (opened_seat log start) ≡ log
+kept-again kept start log = ap (λ l. l ++ log) (drop-none (0 - kept) [] refl)
+
+-- where nothing is open, all of the log is kept
+kept-all : (kept : ℕ) (x : Seat) → x.fresh ≡ [] → kept_log kept x ≡ x.gated
+kept-all kept x e = ap (λ l. l ++ x.gated) (drop-none (length x.fresh - kept) x.fresh e)
+
+-- what is left of a life, turned round
+kept-left : (kept : ℕ) (l : Life) → kept_log kept (seat_of l) ≡ reverse (l.gated ++ take kept l.fresh)
+kept-left kept l = ap (λ n. drop (n - kept) (reverse l.fresh) ++ reverse l.gated) (length-reverse l.fresh) ∙ ap (λ x. x ++ reverse l.gated) (sym (take-back kept l.fresh)) ∙ sym (reverse-append l.gated (take kept l.fresh))
+
+module _ (kept : NodeId → ℕ) (start : ℕ) where
+  pub record Crashed (os : List Opened) (old new : NodeId → Seat) : Type 0 where
+    pub inside : (n : NodeId) → is_some (opened_log os n) ≡ true → new n ≡ opened_seat (kept_log (kept n) (old n)) start
+    pub outside : (n : NodeId) → is_some (opened_log os n) ≡ false → new n ≡ old n
+
+  crash-here : (o : Opened) (os : List Opened) (old new : NodeId → Seat) → Crashed os old new → kept_log (kept o.node) (new o.node) ≡ kept_log (kept o.node) (old o.node)
+  crash-here o os old new h = go (is_some (opened_log os o.node)) refl
+    where
+      go : (t : Bool) → is_some (opened_log os o.node) ≡ t → kept_log (kept o.node) (new o.node) ≡ kept_log (kept o.node) (old o.node)
+      go true e = ap (kept_log (kept o.node)) (h.inside o.node e) ∙ kept-again (kept o.node) start (kept_log (kept o.node) (old o.node))
+      go false e = ap (kept_log (kept o.node)) (h.outside o.node e)
+
+  crash-one : (o : Opened) (os : List Opened) (old new : NodeId → Seat) → Crashed os old new → Crashed (o ∷ os) old (put o.node (crash (kept o.node) start (new o.node)) new)
+  crash-one o os old new h = record { inside = λ n. within n (same_node o.node n) refl; outside = λ n. without n (same_node o.node n) refl }
+    where
+      within : (n : NodeId) (t : Bool) → same_node o.node n ≡ t → is_some (if t then Some o.effects else opened_log os n) ≡ true →
+          (if t then crash (kept o.node) start (new o.node) else new n) ≡ opened_seat (kept_log (kept n) (old n)) start
+      within n true q e = subst (λ z. crash (kept o.node) start (new o.node) ≡ opened_seat (kept_log (kept z) (old z)) start) (same_is o.node n q) (ap (λ l. opened_seat l start) (crash-here o os old new h))
+      within n false q e = h.inside n e
+
+      without : (n : NodeId) (t : Bool) → same_node o.node n ≡ t → is_some (if t then Some o.effects else opened_log os n) ≡ false →
+          (if t then crash (kept o.node) start (new o.node) else new n) ≡ old n
+      without n true q e = absurd (cc e)
+      without n false q e = h.outside n e
+
+  module _ (turns : Turns) (F : NodeFacts) where
+    pub record AllCrashed (os : List Opened) (es : List Event) : Type 0 where
+      pub events : List Event
+      pub may : Mays F turns events
+      pub crashed : Crashed os (happened turns es).seat (happened turns events).seat
+      pub ever : (happened turns events).ever ≡ (happened turns es).ever
+
+    pub crash-all : (os : List Opened) (es : List Event) → Mays F turns es → AllCrashed os es
+    crash-all [] es may = record { events = es; may = may; crashed = record { inside = λ n e. absurd (cc e); outside = λ n e. refl }; ever = refl }
+    crash-all (o ∷ os) es may =
+        let r : AllCrashed os es = crash-all os es may in
+        record {
+          events = Crash o.node (kept o.node) start ∷ r.events;
+          may = (r.may, tt);
+          crashed = crash-one o os (happened turns es).seat (happened turns r.events).seat r.crashed;
+          ever = r.ever;
+        }
+
+found-log : (logs : NodeId → List Effect) (n : NodeId) (found : Option (List Effect)) → ((log : List Effect) → found ≡ Some log → log ≡ logs n) → is_some found ≡ true → unwrap_or found [] ≡ logs n
+found-log logs n None h e = absurd (cc e)
+found-log logs n (Some log) h e = h log refl
+
+no-log : (found : Option (List Effect)) → is_some found ≡ false → unwrap_or found [] ≡ []
+no-log None e = refl
+no-log (Some log) e = absurd (cc e)
+
+module _ (script : List ℕ → Tree) (turns : Turns) (F : NodeFacts) (laws : NodeLaws script turns F) where
+  ready-start : (b : Base) → b.script ≡ script → AllReady b → (n : NodeId) → is_some (opened_log b.opened n) ≡ true → F.Ready b.run b.acts n (reverse (unwrap_or (opened_log b.opened n) []))
+  ready-start b same ready n e = go (opened_log b.opened n) refl e
+    where
+      go : (found : Option (List Effect)) → opened_log b.opened n ≡ found → is_some found ≡ true → F.Ready b.run b.acts n (reverse (unwrap_or found []))
+      go None q e = absurd (cc e)
+      go (Some log) q e = laws.ready_is b.run b.acts n log (subst (λ z. is_ready z b.run b.acts n log ≡ true) same (ready n log q))
+
+  -- a run begins
+  opens : (b : Base) (logs : NodeId → List Effect) → b.script ≡ script → Left turns F logs → Agrees b.opened logs → AllReady b → Refines turns F b logs (start_world b)
+  opens b logs same left agrees ready =
+      let c : AllCrashed (λ n. 0) b.start turns F b.opened left.events = crash-all (λ n. 0) b.start turns F b.opened left.events left.may in
+      let old : NodeId → Seat = (happened turns left.events).seat in
+      let is : (n : NodeId) → kept_log 0 ((happened turns left.events).seat n) ≡ reverse (logs n) = λ n. kept-all 0 ((happened turns left.events).seat n) (left.fresh n) ∙ left.gated n in
+      record {
+        events = c.events;
+        may = c.may;
+        models = record {
+          known = λ n. refl;
+          ups = λ n up. up;
+          lives = λ n e. c.crashed.inside n e ∙ ap (λ l. opened_seat l b.start) (is n ∙ ap reverse (sym (found-log logs n (opened_log b.opened n) (agrees n) e)));
+          outside = λ n e. (ap (λ (x : Seat). x.gated) (c.crashed.outside n e) ∙ left.gated n, ap (λ (x : Seat). x.fresh) (c.crashed.outside n e) ∙ left.fresh n);
+          unknown = λ n e. no-log (opened_log b.opened n) e;
+          past = (happened turns c.events).ever;
+          ever = sym (append-nil (happened turns c.events).ever);
+          ticks = λ t e. absurd (cc e);
+          ready = λ n e. ready-start b same ready n e;
+        };
+      }
+
+  -- a run ends
+  ends : (b : Base) (logs : NodeId → List Effect) (w : World) (kept : NodeId → ℕ) (after : NodeId → List Effect) → Refines turns F b logs w →
+      ((n : NodeId) → is_some (opened_log b.opened n) ≡ true → after n ≡ (w.life n).gated ++ take (kept n) (w.life n).fresh) →
+      ((n : NodeId) → is_some (opened_log b.opened n) ≡ false → after n ≡ logs n) → Left turns F after
+  ends b logs w kept after r inside outside =
+      let c : AllCrashed kept 0 turns F b.opened r.events = crash-all kept 0 turns F b.opened r.events r.may in
+      record { events = c.events; may = c.may; gated = λ n. (go c n (is_some (opened_log b.opened n)) refl).0; fresh = λ n. (go c n (is_some (opened_log b.opened n)) refl).1 }
+    where
+      go : (c : AllCrashed kept 0 turns F b.opened r.events) (n : NodeId) (t : Bool) → is_some (opened_log b.opened n) ≡ t →
+          (((happened turns c.events).seat n).gated ≡ reverse (after n)) × (((happened turns c.events).seat n).fresh ≡ [])
+      go c n true e =
+          (ap (λ (x : Seat). x.gated) (c.crashed.inside n e) ∙ ap (kept_log (kept n)) (r.models.lives n (r.models.known n ∙ e)) ∙ kept-left (kept n) (w.life n) ∙ ap reverse (sym (inside n e)),
+           ap (λ (x : Seat). x.fresh) (c.crashed.inside n e))
+      go c n false e =
+          (ap (λ (x : Seat). x.gated) (c.crashed.outside n e) ∙ (r.models.outside n (r.models.known n ∙ e)).0 ∙ ap reverse (sym (outside n e)),
+           ap (λ (x : Seat). x.fresh) (c.crashed.outside n e) ∙ (r.models.outside n (r.models.known n ∙ e)).1)
+
+  left-nothing : Left turns F (λ n. [])
+  left-nothing = record { events = []; may = tt; gated = λ n. refl; fresh = λ n. refl }
+
+  past-left : (cs : List Call) → AreCalls script cs → Left turns F (logs_after script cs)
+  past-left [] h = left-nothing
+  past-left (c ∷ cs) h =
+      let b : Base = base_of script c.plan c.trace in
+      let w : World = walk (base_of script c.plan c.trace) c.trace.entries in
+      let r : Refines turns F (base_of script c.plan c.trace) (logs_after script cs) (walk (base_of script c.plan c.trace) c.trace.entries) =
+      walk-refines script turns F laws (base_of script c.plan c.trace) (logs_after script cs) refl (fates_of c.trace.sent) (start_world (base_of script c.plan c.trace)) c.trace.entries
+        (opens (base_of script c.plan c.trace) (logs_after script cs) refl (past-left cs h.0) h.1.agrees h.1.legal.ready) h.1.legal.meets in
+      ends (base_of script c.plan c.trace) (logs_after script cs) (walk (base_of script c.plan c.trace) c.trace.entries) c.kept (logs_after script (c ∷ cs)) r
+        (λ n e. ap (λ t. if t then log_left script c n else logs_after script cs n) (sym (h.1.legal.nodes.just n) ∙ e))
+        (λ n e. ap (λ t. if t then log_left script c n else logs_after script cs n) (sym (h.1.legal.nodes.just n) ∙ e))
+
+  -- a trace over logs with a past
+  refined : (b : Base) (fates : List Fate) (logs : NodeId → List Effect) (es : List Entry) → b.script ≡ script → HasPast script logs → Agrees b.opened logs → AllReady b →
+      Meets b fates (start_world b) es → Refines turns F b logs (walk b es)
+  refined b fates logs es same past agrees ready rules =
+      let l : Left turns F (logs_after script past.0) = past-left past.0 past.1 in
+      let left : Left turns F logs = record { events = l.events; may = l.may; gated = λ n. l.gated n ∙ ap reverse (sym (past.2 n)); fresh = l.fresh } in
+      walk-refines script turns F laws b logs same fates (start_world b) es (opens b logs same left agrees ready) rules
+
+  -- ---- the facts
+
+  facts-of : (b : Base) (logs : NodeId → List Effect) (w : World) → Refines turns F b logs w → Facts F b (logs_at logs w) (sent_by w)
+  facts-of b logs w r =
+      let s : Soft = happened turns r.events in
+      let inv : Inv F s = inv-reached script turns F laws r.events r.may in
+      let same : (n : NodeId) → (s.seat n).gated ≡ reverse (logs_at logs w n) = λ n. go n (w.flags n).known refl in
+      let v : Around = record { ever = r.models.past ++ sent_by w; logs = λ k. reverse (logs_at logs w k); ticks = s.ticks } in
+      let later : Later (around s) (record { ever = r.models.past ++ sent_by w; logs = λ k. reverse (logs_at logs w k); ticks = s.ticks }) = record {
+        more = [];
+        ever = sym r.models.ever ∙ sym (append-nil s.ever);
+        homes = λ t d c. subst (Has (effect.Decide t d)) (same (repository t.home)) c;
+        ticks = λ t c. c;
+      } in
+      record {
+        past = r.models.past;
+        ticks = s.ticks;
+        tidy = λ n. subst (F.Tidy n) (same n) (inv.nodes n).tidy;
+        proofs = λ n. each-map (F.Proof (around s) n) (F.Proof v n) (λ log f. laws.later (around s) v n log f later) (reverse (logs_at logs w n))
+            (subst (Each (F.Proof (around s) n)) (same n) (each_below (F.Proof (around s) n) (s.seat n).gated (s.seat n).fresh (inv.nodes n).proofs));
+        sent_ok = subst (λ e. Every (SentOk F e (λ k. reverse (logs_at logs w k))) e) r.models.ever
+            (every-map (SentOk F s.ever (λ n. (s.seat n).gated)) (SentOk F s.ever (λ k. reverse (logs_at logs w k)))
+              (λ p q. subst (λ g. F.PostOk s.ever p.from g (record { to = p.to; message = p.message })) (same p.from) q) s.ever inv.sent);
+        ready = λ n e.
+            let known : (w.flags n).known ≡ true = r.models.known n ∙ e in
+            subst (F.Ready b.run b.acts n) (same n)
+            (ready-gated script turns F laws b.run b.acts n (s.seat n).gated (s.seat n).fresh (inv.nodes n).tidy (inv.nodes n).grew
+              (subst (λ x. F.Ready b.run b.acts n (whole x)) (sym (r.models.lives n known)) (r.models.ready n known)));
+      }
+    where
+      go : (n : NodeId) (t : Bool) → (w.flags n).known ≡ t → ((happened turns r.events).seat n).gated ≡ reverse (logs_at logs w n)
+      go n true e = ap (λ (x : Seat). x.gated) (r.models.lives n e) ∙ ap reverse (sym (ap (λ t. if t then (w.life n).gated else logs n) e))
+      go n false e = (r.models.outside n e).0 ∙ ap reverse (sym (ap (λ t. if t then (w.life n).gated else logs n) e))
+
+  -- the facts of a legal trace over logs with a past, at its end and after each of its entries
+  pub legal-facts : (plan : Plan) (asked : List Asked) (t : Trace) (logs : NodeId → List Effect) (front rest : List Entry) → HasPast script logs → Agrees t.opened logs →
+      Legal script plan asked t → t.entries ≡ front ++ rest → Facts F (base_of script plan t) (logs_at logs (walk (base_of script plan t) front)) (sent_by (walk (base_of script plan t) front))
+  legal-facts plan asked t logs front rest past agrees legal here =
+      facts-of (base_of script plan t) logs (walk (base_of script plan t) front)
+        (refined (base_of script plan t) (fates_of t.sent) logs front refl past agrees legal.ready
+          (meets-front (base_of script plan t) (fates_of t.sent) (start_world (base_of script plan t)) front rest
+            (subst (Meets (base_of script plan t) (fates_of t.sent) (start_world (base_of script plan t))) here legal.meets)))

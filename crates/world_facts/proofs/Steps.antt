@@ -1,0 +1,114 @@
+-- One entry of a trace, node by node.
+use Rattle.std.proofs.Common.{◌≡◌, ℕ, Bool, true, false, ◌&&◌, List, [], ◌∷◌, ◌++◌, map, take, drop, length, reverse, if◌then◌else◌, refl, sym, ap, subst, ◌∙◌, Option, Some, None, append_assoc, ◌-◌}
+use Rattle.std.specs.List.{filter}
+use Rattle.std.proofs.lemmas.List.{append-nil, map-append, reverse-append, reverse-reverse}
+use Rattle.pseudo_time.specs.declared.nodes.NodeId.{NodeId}
+use Rattle.pseudo_time.specs.declared.nodes.NodeKind.{NodeKind}
+use Rattle.pseudo_time.specs.declared.nodes.NodeKind.TheVariants.{Repository, Broker}
+use Rattle.turn_form.specs.Posts.{Post, posts}
+use Rattle.message_core.specs.Nodes.{same_node}
+use Rattle.message_core.proofs.NodeLemmas.{same_is}
+use Rattle.serial_model.specs.Questions.{Tree}
+use Rattle.world_core.specs.declared.entries.Entry.{Entry}
+use Rattle.world_core.specs.declared.entries.Entry.TheVariants.{Take, Go, Learn, Hear, Gate, Crash, Down, Tick}
+use Rattle.world_core.specs.Nodes.{Input, Given, gives, leaves}
+use Rattle.world_core.specs.Walks as walks
+use Rattle.world_core.specs.Walks.{Base, Life, Flags, Sending, World, names, step, told, lives_on, gated_life, crashed_life, flagged, went, learned, has_heard, leaving, sent_by, sendings_after, with_given}
+use Rattle.world_facts.specs.Rules.{NodeFacts, Turns, forward, NodeLaws}
+use Rattle.world_facts.specs.Soft.{Seat, whole, put, gate, crash, keep, react, with_turn, opened_seat}
+use Rattle.world_facts.specs.Refines.{seat_of}
+use Rattle.world_facts.proofs.Growths.{take-back, length-reverse}
+
+-- ---- flags
+
+went-known : (k : NodeKind) (f : Flags) → ((went k f).known ≡ f.known) × ((went k f).up ≡ f.up)
+went-known Repository f = (refl, refl)
+went-known Broker f = (refl, refl)
+
+learned-known : (k : NodeKind) (f : Flags) → ((learned k f).known ≡ f.known) × ((learned k f).up ≡ f.up)
+learned-known Repository f = (refl, refl)
+learned-known Broker f = (refl, refl)
+
+heard-known : (last : Option ℕ) (f : Flags) → ((has_heard last f).known ≡ f.known) × ((has_heard last f).up ≡ f.up)
+heard-known None f = (refl, refl)
+heard-known (Some moment) f = (refl, refl)
+
+flagged-known : (last : Option ℕ) (k : NodeKind) (f : Flags) (e : Entry) → ((flagged last k f e).known ≡ f.known) × ((flagged last k f e).up ≡ true → f.up ≡ true)
+flagged-known last k f (Take n number) = (refl, λ u. u)
+flagged-known last k f (Go n) = let w = went-known k f in (w.0, λ u. sym w.1 ∙ u)
+flagged-known last k f (Learn n stamp committed) = let w = learned-known k f in (w.0, λ u. sym w.1 ∙ u)
+flagged-known last k f (Hear n) = let w = heard-known last f in (w.0, λ u. sym w.1 ∙ u)
+flagged-known last k f (Gate n) = (refl, λ u. u)
+flagged-known last k f (Crash n kept) = (refl, λ u. u)
+flagged-known last k f (Down n cause) = (refl, λ u. absurd (cc u))
+flagged-known last k f (Tick moment) = (refl, λ u. u)
+
+pub step-known : (b : Base) (w : World) (e : Entry) (n : NodeId) → (((step b w e).flags n).known ≡ (w.flags n).known) × (((step b w e).flags n).up ≡ true → (w.flags n).up ≡ true)
+step-known b w e n = go (names n e && (w.flags n).known)
+  where
+    go : (t : Bool) → ((if t then flagged w.last n.kind (w.flags n) e else w.flags n).known ≡ (w.flags n).known) × ((if t then flagged w.last n.kind (w.flags n) e else w.flags n).up ≡ true → (w.flags n).up ≡ true)
+    go true = flagged-known w.last n.kind (w.flags n) e
+    go false = (refl, λ u. u)
+
+-- ---- lives
+
+-- a known node's own entry changes it, and the other nodes stay
+pub both-changed : (b : Base) (w : World) (e : Entry) (n : NodeId) (y : Seat) (s : NodeId → Seat) (P : NodeId → Seat → Life → Type 0) →
+    ((k : NodeId) → names k e ≡ same_node n k) → (w.flags n).known ≡ true → P n y (lives_on b w n (w.life n) e) → ((k : NodeId) → P k (s k) (w.life k)) →
+    (k : NodeId) → P k (put n y s k) ((step b w e).life k)
+both-changed b w e n y s P own known here there k =
+    subst (λ t. P k (put n y s k) (if t && (w.flags k).known then lives_on b w k (w.life k) e else w.life k)) (sym (own k)) (go (same_node n k) refl)
+  where
+    go : (t : Bool) → same_node n k ≡ t → P k (if t then y else s k) (if t && (w.flags k).known then lives_on b w k (w.life k) e else w.life k)
+    go true q = subst (λ z. P z y (if (w.flags z).known then lives_on b w z (w.life z) e else w.life z)) (same_is n k q)
+        (subst (λ t. P n y (if t then lives_on b w n (w.life n) e else w.life n)) (sym known) here)
+    go false q = there k
+
+-- an entry that leaves its own node's life leaves all
+pub all-stay : (b : Base) (w : World) (e : Entry) → ((k : NodeId) → lives_on b w k (w.life k) e ≡ w.life k) → (k : NodeId) → (step b w e).life k ≡ w.life k
+all-stay b w e same k = go (names k e && (w.flags k).known)
+  where
+    go : (t : Bool) → (if t then lives_on b w k (w.life k) e else w.life k) ≡ w.life k
+    go true = same k
+    go false = refl
+
+-- an unknown node stays as it was
+pub unknown-stays : (b : Base) (w : World) (e : Entry) (k : NodeId) → (w.flags k).known ≡ false → (step b w e).life k ≡ w.life k
+unknown-stays b w e k h = ap (λ t. if names k e && t then lives_on b w k (w.life k) e else w.life k) h ∙ go (names k e)
+  where
+    go : (t : Bool) → (if t && false then lives_on b w k (w.life k) e else w.life k) ≡ w.life k
+    go true = refl
+    go false = refl
+
+-- ---- a seat is a life turned round
+
+pub gated-seat : (l : Life) → gate (seat_of l) ≡ seat_of (gated_life l)
+gated-seat l = ap (λ g. let x : Seat = record { gated = g; fresh = []; outs = []; mind = l.mind } in x) (sym (reverse-append l.gated l.fresh))
+
+pub crashed-seat : (start kept : ℕ) (l : Life) → crash kept start (seat_of l) ≡ seat_of (crashed_life start kept l)
+crashed-seat start kept l = ap (λ g. opened_seat g start)
+    (ap (λ n. drop (n - kept) (reverse l.fresh) ++ reverse l.gated) (length-reverse l.fresh)
+    ∙ ap (λ x. x ++ reverse l.gated) (sym (take-back kept l.fresh))
+    ∙ sym (reverse-append l.gated (take kept l.fresh)))
+
+module _ (script : List ℕ → Tree) (turns : Turns) (F : NodeFacts) (laws : NodeLaws script turns F) where
+  pub told-seat : (b : Base) (n : NodeId) (l : Life) (input : Input) → b.script ≡ script → react turns b.run b.acts n (seat_of l) input ≡ seat_of (told b n l input)
+  told-seat b n l input same =
+      let g : Given = turns b.run b.acts n (whole (seat_of l)) l.mind input in
+      let all : reverse (walks.whole l) ≡ whole (seat_of l) = reverse-append l.gated l.fresh in
+      let is : gives b.script b.run b.acts n (walks.whole l) l.mind input ≡ forward (turns b.run b.acts n (whole (seat_of l)) l.mind input) =
+      ap (λ z. gives z b.run b.acts n (walks.whole l) l.mind input) same ∙ laws.turns_are b.run b.acts n (walks.whole l) l.mind input ∙ ap (λ z. forward (turns b.run b.acts n z l.mind input)) all in
+      with-seat l g ∙ ap (λ z. seat_of (with_given l z)) (sym is)
+    where
+      with-seat : (l : Life) (g : Given) → with_turn (seat_of l) g ≡ seat_of (with_given l (forward g))
+      with-seat l g = ap (λ f. let x : Seat = record { gated = reverse l.gated; fresh = f; outs = l.outs ++ g.outs; mind = g.mind } in x)
+          (ap (λ z. z ++ reverse l.fresh) (sym (reverse-reverse g.effects)) ∙ sym (reverse-append l.fresh (reverse g.effects)))
+
+-- ---- messages
+
+posts-of-sendings : (ticks : ℕ) (ps : List Post) → map (λ (s : Sending). s.post) (map (λ (p : Post). record { post = p; ticks = ticks }) ps) ≡ ps
+posts-of-sendings ticks [] = refl
+posts-of-sendings ticks (p ∷ ps) = ap (λ z. p ∷ z) (posts-of-sendings ticks ps)
+
+pub sent-gate : (b : Base) (w : World) (n : NodeId) → sent_by (step b w (Gate n)) ≡ sent_by w ++ leaving w n
+sent-gate b w n = map-append (λ (s : Sending). s.post) w.sendings (map (λ (p : Post). record { post = p; ticks = w.ticks }) (leaving w n)) ∙ ap (λ z. sent_by w ++ z) (posts-of-sendings w.ticks (leaving w n))

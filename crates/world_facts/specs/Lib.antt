@@ -1,0 +1,4 @@
+pub mod NodeRules
+pub mod Refines
+pub mod Rules
+pub mod Soft

@@ -1,0 +1,53 @@
+-- How a walk over a trace and a world without rules of turns agree.
+use Rattle.std.specs.Prelude.{◌≡◌, ℕ, Bool, true, false, List, [], ◌∷◌, ◌++◌, reverse, Option, Some, is_some, if◌then◌else◌}
+use Rattle.pseudo_time.specs.Lists.{Every, Has}
+use Rattle.pseudo_time.specs.declared.nodes.NodeId.{NodeId}
+use Rattle.effect_form.specs.declared.effects.Effect.{Effect}
+use Rattle.turn_form.specs.Growth.{Each}
+use Rattle.turn_form.specs.Posts.{Post}
+use Rattle.world_core.specs.Walks.{Base, Life, World, opened_log, sent_by}
+use Rattle.world_facts.specs.Rules.{Around, NodeFacts, Turns}
+use Rattle.world_facts.specs.Soft.{Seat, whole, Soft, Event, happened, Mays, SentOk}
+
+-- a life, newest first
+abbrev pub seat_of : Life → Seat
+seat_of l = record { gated = reverse l.gated; fresh = reverse l.fresh; outs = l.outs; mind = l.mind }
+
+module _ (turns : Turns) (F : NodeFacts) (b : Base) (others : NodeId → List Effect) where
+  -- `others` are the logs, oldest effect first, of the nodes that aren't of the trace
+  pub record Models (s : Soft) (w : World) : Type 0 where
+    pub known : (n : NodeId) → (w.flags n).known ≡ is_some (opened_log b.opened n)
+    pub ups : (n : NodeId) → (w.flags n).up ≡ true → (w.flags n).known ≡ true
+    pub lives : (n : NodeId) → (w.flags n).known ≡ true → s.seat n ≡ seat_of (w.life n)
+    pub outside : (n : NodeId) → (w.flags n).known ≡ false → ((s.seat n).gated ≡ reverse (others n)) × ((s.seat n).fresh ≡ [])
+    pub unknown : (n : NodeId) → (w.flags n).known ≡ false → (w.life n).gated ≡ []
+    -- the messages of earlier runs
+    pub past : List Post
+    pub ever : s.ever ≡ past ++ sent_by w
+    pub ticks : (t : ℕ) → w.last ≡ Some t → Has t s.ticks
+    pub ready : (n : NodeId) → (w.flags n).known ≡ true → F.Ready b.run b.acts n (whole (seat_of (w.life n)))
+
+  pub record Refines (w : World) : Type 0 where
+    pub events : List Event
+    pub may : Mays F turns events
+    pub models : Models (happened turns events) w
+
+-- between runs: nothing is open, and these are the logs, oldest effect first
+pub record Left (turns : Turns) (F : NodeFacts) (logs : NodeId → List Effect) : Type 0 where
+  pub events : List Event
+  pub may : Mays F turns events
+  pub gated : (n : NodeId) → ((happened turns events).seat n).gated ≡ reverse (logs n)
+  pub fresh : (n : NodeId) → ((happened turns events).seat n).fresh ≡ []
+
+-- the durable logs at a place of a trace, oldest effect first: of its nodes by the walk, of the others as they were
+abbrev pub logs_at : (NodeId → List Effect) → World → NodeId → List Effect
+logs_at others w n = if (w.flags n).known then (w.life n).gated else others n
+
+-- what holds of all durable logs and of all messages sent, in the past and in the trace
+pub record Facts (F : NodeFacts) (b : Base) (logs : NodeId → List Effect) (sent : List Post) : Type 0 where
+  pub past : List Post
+  pub ticks : List ℕ
+  pub tidy : (n : NodeId) → F.Tidy n (reverse (logs n))
+  pub proofs : (n : NodeId) → Each (F.Proof (record { ever = past ++ sent; logs = λ k. reverse (logs k); ticks = ticks }) n) (reverse (logs n))
+  pub sent_ok : Every (SentOk F (past ++ sent) (λ k. reverse (logs k))) (past ++ sent)
+  pub ready : (n : NodeId) → is_some (opened_log b.opened n) ≡ true → F.Ready b.run b.acts n (reverse (logs n))

@@ -1,0 +1,107 @@
+-- A world without fates, holds and rules of turns: nodes that take any input that may come, and all messages ever sent.
+-- Logs stand newest first here.
+use Rattle.std.specs.Prelude.{◌≡◌, ℕ, ◌-◌, Bool, List, [], ◌∷◌, ◌++◌, length, drop, if◌then◌else◌}
+use Rattle.std.specs.List.{filter}
+use Rattle.pseudo_time.specs.Lists.{Every, Has}
+use Rattle.pseudo_time.specs.declared.nodes.NodeId.{NodeId}
+use Rattle.value_form.specs.declared.acts.ActSpec.{ActSpec}
+use Rattle.effect_form.specs.declared.effects.Effect.{Effect}
+use Rattle.turn_form.specs.declared.turns.Out.{Out}
+use Rattle.turn_form.specs.Growth.{Grew, Each}
+use Rattle.turn_form.specs.Posts.{Post, posts}
+use Rattle.message_core.specs.Nodes.{same_node}
+use Rattle.world_core.specs.Nodes.{Mind, opened_mind, Input, Given}
+use Rattle.world_facts.specs.Rules.{Around, NodeFacts, Turns, MayInput}
+
+pub record Seat : Type 0 where
+  pub gated : List Effect
+  pub fresh : List Effect
+  pub outs : List Out
+  pub mind : Mind
+
+abbrev pub whole : Seat → List Effect
+whole x = x.fresh ++ x.gated
+
+abbrev pub opened_seat : List Effect → ℕ → Seat
+opened_seat log start = record { gated = log; fresh = []; outs = []; mind = opened_mind start }
+
+abbrev pub with_turn : Seat → Given → Seat
+with_turn x g = record { gated = x.gated; fresh = g.effects ++ x.fresh; outs = x.outs ++ g.outs; mind = g.mind }
+
+abbrev pub gate : Seat → Seat
+gate x = record { gated = whole x; fresh = []; outs = []; mind = x.mind }
+
+-- the first `kept` new effects, which stand last
+abbrev pub keep : ℕ → List Effect → List Effect
+keep kept fresh = drop (length fresh - kept) fresh
+
+abbrev pub kept_log : ℕ → Seat → List Effect
+kept_log kept x = keep kept x.fresh ++ x.gated
+
+abbrev pub crash : ℕ → ℕ → Seat → Seat
+crash kept start x = opened_seat (kept_log kept x) start
+
+pub record Soft : Type 0 where
+  pub seat : NodeId → Seat
+  pub ever : List Post
+  pub ticks : List ℕ
+
+-- a function changed at one node
+abbrev pub put : {X : Type 0} → NodeId → X → (NodeId → X) → NodeId → X
+put n x s k = if same_node n k then x else s k
+
+abbrev pub around : Soft → Around
+around w = record { ever = w.ever; logs = λ n. (w.seat n).gated; ticks = w.ticks }
+
+pub data Event : Type 0 where
+  React : NodeId → ℕ → List ActSpec → Input → Event
+  Gate : NodeId → (Out → Bool) → Event
+  Crash : NodeId → ℕ → ℕ → Event
+  Tick : ℕ → Event
+
+module _ (turns : Turns) where
+  abbrev pub react : ℕ → List ActSpec → NodeId → Seat → Input → Seat
+  react run acts n x input = with_turn x (turns run acts n (whole x) x.mind input)
+
+  abbrev pub happens : Soft → Event → Soft
+  happens w (React n run acts input) = record { seat = put n (react run acts n (w.seat n) input) w.seat; ever = w.ever; ticks = w.ticks }
+  happens w (Gate n which) = record { seat = put n (gate (w.seat n)) w.seat; ever = w.ever ++ posts n (filter which (w.seat n).outs); ticks = w.ticks }
+  happens w (Crash n kept start) = record { seat = put n (crash kept start (w.seat n)) w.seat; ever = w.ever; ticks = w.ticks }
+  happens w (Tick t) = record { seat = w.seat; ever = w.ever; ticks = t ∷ w.ticks }
+
+abbrev pub nothing : Soft
+nothing = record { seat = λ n. opened_seat [] 0; ever = []; ticks = [] }
+
+-- events stand newest first
+abbrev pub happened : Turns → List Event → Soft
+happened turns [] = nothing
+happened turns (e ∷ es) = happens turns (happened turns es) e
+
+module _ (F : NodeFacts) where
+  -- a node reacts to an input that may come, where its log is ready
+  abbrev pub May : Soft → Event → Type 0
+  May w (React n run acts input) = MayInput (around w) n input × F.Ready run acts n (whole (w.seat n))
+  May w (Gate n which) = Unit {0}
+  May w (Crash n kept start) = Unit {0}
+  May w (Tick t) = Unit {0}
+
+  abbrev pub Mays : Turns → List Event → Type 0
+  Mays turns [] = Unit {0}
+  Mays turns (e ∷ es) = Mays turns es × May (happened turns es) e
+
+  -- ---- what always holds
+
+  pub record NodeOk (w : Around) (n : NodeId) (x : Seat) : Type 0 where
+    pub tidy : F.Tidy n x.gated
+    pub grew : Grew (F.Fits n) x.gated x.fresh
+    pub proofs : Each (F.Proof w n) (x.fresh ++ x.gated)
+    pub mind_ok : F.MindOk w.ever n x.mind
+    pub outs : Every (F.PostOk w.ever n (x.fresh ++ x.gated)) x.outs
+
+  -- the fact of a message that was sent holds of its sender's durable log
+  abbrev pub SentOk : List Post → (NodeId → List Effect) → Post → Type 0
+  SentOk ever logs p = F.PostOk ever p.from (logs p.from) (record { to = p.to; message = p.message })
+
+  pub record Inv (w : Soft) : Type 0 where
+    pub nodes : (n : NodeId) → NodeOk (around w) n (w.seat n)
+    pub sent : Every (SentOk w.ever (λ n. (w.seat n).gated)) w.ever

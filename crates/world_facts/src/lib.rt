@@ -1,0 +1,7 @@
+//! What holds of all logs and of all messages of a legal trace, in it and in the past, since each turn
+//! of a node keeps it.
+#![tactic(auto)]
+
+mod laws;
+
+pub use laws::facts_of_legal_traces;
