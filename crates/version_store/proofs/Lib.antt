@@ -9,3 +9,4 @@ pub mod OpenLemmas
 pub mod StoreLemmas
 pub mod BlankLemmas
 pub mod PlaceLemmas
+pub mod StandLemmas
