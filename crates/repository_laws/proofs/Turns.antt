@@ -1,5 +1,5 @@
 -- each function of the hand keeps what holds of a hand
-use Rattle.std.proofs.Common.{◌≡◌, ◌≢◌, ℕ, ◌+◌, ◌≤◌, Bool, true, false, List, [], ◌∷◌, ◌++◌, refl, sym, ◌∙◌, ap, subst, Option, Some, None, ◌==◌, ◌&&◌, ◌||◌, not, nat_lt, nat_le, if◌then◌else◌, inl, arith}
+use Rattle.std.proofs.Common.{◌≡◌, ◌≢◌, ℕ, ◌+◌, ◌≤◌, Bool, true, false, List, [], ◌∷◌, ◌++◌, refl, sym, ◌∙◌, ap, subst, Option, Some, None, ◌==◌, ◌&&◌, ◌||◌, not, nat_le, if◌then◌else◌, inl, arith}
 use Rattle.std.proofs.lemmas.Grind.{common_steps}
 use Rattle.std.proofs.lemmas.Bool.{false≢true}
 use Rattle.pseudo_time.specs.StampParts.{StampParts}
@@ -33,7 +33,7 @@ use Rattle.object_history.specs.Answers.{read_step, stands_written, write_step}
 use Rattle.object_history.specs.History.{alive, is_alive, is_settled, settle_of}
 use Rattle.pseudo_time.proofs.ListLemmas.{every-append, every-map, has-right}
 use Rattle.pseudo_time.specs.Lists.{Every, Has}
-use Rattle.pseudo_time.specs.Order.{lt, same_stamp, same_time, stamp_lt}
+use Rattle.pseudo_time.specs.Order.{same_stamp}
 use Rattle.repository_core.specs.Hands.{Hand, asker_cmp, broker, note, now, repository, send}
 use Rattle.repository_core.specs.Hearing.{ask_again, asks, due, expire, expire_all, expire_as, on_moment, waited}
 use Rattle.repository_core.specs.Logs.{is_commit, known, marks, record_of}

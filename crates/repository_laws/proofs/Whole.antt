@@ -1,5 +1,5 @@
 -- A turn over the whole log, of which the durable one is a beginning.
-use Rattle.std.proofs.Common.{◌≡◌, ◌≢◌, ℕ, ◌==◌, Bool, true, false, List, [], ◌∷◌, ◌++◌, refl, sym, ◌∙◌, ap, subst, if◌then◌else◌}
+use Rattle.std.proofs.Common.{◌≡◌, ℕ, ◌==◌, Bool, true, false, List, [], ◌∷◌, ◌++◌, refl, sym, ap, subst, if◌then◌else◌}
 use Rattle.pseudo_time.specs.Lists.{Every, Has}
 use Rattle.pseudo_time.specs.StampParts.{StampParts}
 use Rattle.pseudo_time.specs.declared.nodes.NodeId.{NodeId}
@@ -12,12 +12,12 @@ use Rattle.message_form.specs.declared.messages.Message.{Message}
 use Rattle.turn_form.specs.Growth.{Grew}
 use Rattle.turn_form.specs.Posts.{Post}
 use Rattle.object_history.proofs.ObjectLemmas.{eq-from, eqb-yes}
-use Rattle.repository_core.specs.Hands.{Hand, Mind, now, repository}
+use Rattle.repository_core.specs.Hands.{Hand, Mind, repository}
 use Rattle.repository_core.specs.Rows.{on_message, on_learn}
 use Rattle.repository_core.specs.Hearing.{on_moment}
 use Rattle.repository_core.specs.Turns.{hand_at, told}
 use Rattle.repository_core.specs.Turns.Input.{Taking, Learning, Hearing}
-use Rattle.repository_laws.specs.Facts.{WasSent, FitsLog, IsTidy, PostHolds, IsDecidedAt, HasCause, HeldHolds, HandHolds, IsBacked, HasCome}
+use Rattle.repository_laws.specs.Facts.{FitsLog, PostHolds, IsDecidedAt, HasCause, HandHolds, IsBacked, HasCome}
 use Rattle.repository_laws.specs.Givens.{IsGiven, Gives}
 use Rattle.repository_laws.proofs.Posts.{post-stays-through}
 use Rattle.repository_laws.proofs.Turns.{take-ok, on-learn-ok, hear-ok}
