@@ -84,8 +84,8 @@ module _ (ever : List Post) (homes : ℕ → List Effect) (ticks : List ℕ) (r 
         go : (b : Bool) → (i == r) ≡ b → PostHolds ever i (if b then log else homes i) (repository r) m
         go true e = subst (λ l. PostHolds ever i l (repository r) m) (sym g.own)
             (post-stays-through ever i (homes r) g.fresh (repository r) m
-              (subst (λ j. Grew (FitsLog j) (homes r) g.fresh) (sym (eq-from i r e)) g.grew)
-              (subst (λ j. PostHolds ever i (homes j) (repository r) m) (eq-from i r e) p))
+            (subst (λ j. Grew (FitsLog j) (homes r) g.fresh) (sym (eq-from i r e)) g.grew)
+            (subst (λ j. PostHolds ever i (homes j) (repository r) m) (eq-from i r e) p))
         go false e = p
     backed-there Broker i m p = tt
 
