@@ -1,19 +1,12 @@
 -- What is looked up goes on to agree with the log.
-use Rattle.std.proofs.Common.{◌≡◌, ◌≢◌, ℕ, ◌+◌, ◌≤◌, ◌<◌, Bool, true, false, List, [], ◌∷◌, ◌++◌, refl, sym, ◌∙◌, ap, subst, arith, cond}
-use Rattle.std.specs.Prelude.{Option, Some, None, IsTrue, Result, Ok, Err, IfErr, IsErrOf, if◌then◌else◌}
-use Rattle.std.proofs.lemmas.Bool.{false≢true}
-use Rattle.std.proofs.lemmas.List.{append_assoc}
-use Rattle.std.specs.FinMap as finite
-use Rattle.stream_port.specs.Causes.{Rose}
-use Rattle.pseudo_time.specs.StampParts.{StampParts, stamp_cmp}
+use Rattle.std.proofs.Common.{◌≡◌, ℕ, ◌≤◌, true, false, List, ◌∷◌, sym, ◌∙◌, ap, subst, arith}
+use Rattle.pseudo_time.specs.StampParts.{StampParts}
 use Rattle.pseudo_time.specs.TimeParts.{TimeParts}
-use Rattle.pseudo_time.specs.Order.{same_stamp}
-use Rattle.pseudo_time.proofs.OrderLemmas.{stamp_cmp-total, same_stamp-is}
 use Rattle.pseudo_time.specs.declared.decisions.Decision.{Decision}
 use Rattle.value_form.specs.declared.objects.ObjectId.{ObjectId}
 use Rattle.value_form.specs.declared.values.Value.{Value}
 use Rattle.effect_form.specs.declared.effects.Effect.{Effect}
-use Rattle.effect_form.specs.declared.effects.Effect.TheVariants.{Put, Stretch, Begin, Decide, Learn}
+use Rattle.effect_form.specs.declared.effects.Effect.TheVariants.{Put, Stretch}
 use Rattle.commit_record.specs.States.{States}
 use Rattle.object_history.specs.declared.marks.Mark.{Mark}
 use Rattle.object_history.specs.declared.marks.Mark.TheVariants as mark
@@ -21,13 +14,10 @@ use Rattle.object_history.specs.declared.steps.ReadStep.{ReadStep}
 use Rattle.object_history.specs.declared.steps.ReadStep.TheVariants as read
 use Rattle.object_history.specs.declared.steps.WriteStep.{WriteStep}
 use Rattle.object_history.specs.declared.steps.WriteStep.TheVariants as write
-use Rattle.object_history.specs.declared.steps.HistoryFault.{HistoryFault}
-use Rattle.object_history.specs.declared.steps.HistoryFault.TheVariants as fault
-use Rattle.object_history.specs.Causes.{HasHistoryCause, IsNotDamage}
 use Rattle.object_history.specs.History.{settle_of}
 use Rattle.object_history.specs.Answers.{after_read, after_write}
-use Rattle.repository_core.specs.Logs.{marks, known, first_begin, decision_of, record_of, read_by, wrote}
-use Rattle.repository_core.specs.Lookups.{Agrees, Begins, Since, IsCaused}
+use Rattle.repository_core.specs.Logs.{first_begin, decision_of, read_by, wrote}
+use Rattle.repository_core.specs.Lookups.{Agrees, Begins, Since}
 
 -- ---- the histories in a call
 

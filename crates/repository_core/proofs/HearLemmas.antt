@@ -1,6 +1,6 @@
 -- The records that expire in a hearing are still unknown, each in its turn.
 use Rattle.std.proofs.Common.{◌≡◌, ℕ, ◌<◌, ◌+◌, Bool, true, false, List, [], ◌∷◌, map, length, drop, get_or, cond, refl, sym, ◌∙◌, ap, subst}
-use Rattle.std.specs.Prelude.{Option, Some, None, T, nat_le, not, ◌==◌, ◌||◌, ◌&&◌, if◌then◌else◌}
+use Rattle.std.specs.Prelude.{Option, Some, None, T, nat_le, not, ◌&&◌, if◌then◌else◌}
 use Rattle.std.specs.List.{filter}
 use Rattle.std.specs.Ordering.{is_lt, is_eq}
 use Rattle.std.specs.declared.cmp.Ordering.{Ordering}
@@ -22,7 +22,6 @@ use Rattle.message_form.specs.declared.messages.Message.TheVariants as message
 use Rattle.commit_record.specs.declared.states.RecordState.{RecordState}
 use Rattle.commit_record.specs.declared.states.RecordState.TheVariants.{Unknown, Decided}
 use Rattle.commit_record.specs.States.{listed_at}
-use Rattle.object_history.specs.History.{settle_of}
 use Rattle.object_history.specs.Answers.{read_step}
 use Rattle.repository_core.specs.declared.waits.Held.{Held}
 use Rattle.repository_core.specs.Logs.{first_begin, decision_of, record_of, marks, known, begun, IsUnknown, HasSameRecords}

@@ -1,6 +1,6 @@
 -- What a row of the rules makes of the log.
 use Rattle.std.proofs.Common.{◌≡◌, ◌≤◌, ◌<◌, ◌+◌, subst, get_or, length, drop, ℕ, Bool, true, false, List, [], ◌∷◌, refl, sym, ◌∙◌, ap}
-use Rattle.std.specs.Prelude.{Option, Some, None, ◌==◌, ◌||◌, if◌then◌else◌}
+use Rattle.std.specs.Prelude.{Some, None, ◌==◌, ◌||◌, if◌then◌else◌}
 use Rattle.pseudo_time.specs.StampParts.{StampParts}
 use Rattle.pseudo_time.specs.TimeParts.{TimeParts}
 use Rattle.pseudo_time.specs.declared.nodes.NodeId.{NodeId}
@@ -23,7 +23,7 @@ use Rattle.object_history.specs.Answers.{read_step}
 use Rattle.repository_core.specs.Ranges.{AreHeld}
 use Rattle.repository_core.specs.Logs.{first_begin, decision_of, marks, known, read_by, wrote, HasSameRecords}
 use Rattle.repository_core.specs.Hands.{Hand, now, note, send, repository, HasSameLog}
-use Rattle.repository_core.specs.Rows.{unhold, hold, waits_for, ask_for, read_as, read_known, on_read, write_as, reread, release, learn_as, on_learn, tells, tell_askers}
+use Rattle.repository_core.specs.Rows.{unhold, hold, waits_for, read_as, read_known, on_read, write_as, reread, release, learn_as, on_learn, tells, tell_askers}
 
 now-if : (b : Bool) (x y : Hand) (l : List Effect) → now x ≡ l → now y ≡ l → now (if b then x else y) ≡ l
 now-if true x y l h k = h

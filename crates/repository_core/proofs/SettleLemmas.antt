@@ -3,12 +3,12 @@ use Rattle.std.proofs.Common.{◌≡◌, ◌≢◌, ℕ, Bool, true, false, List
 use Rattle.std.specs.Prelude.{Option, Some, None, if◌then◌else◌}
 use Rattle.std.specs.FinMap as finite
 use Rattle.std.proofs.lemmas.Cmp.{eq_by_cmp_equiv}
-use Rattle.pseudo_time.specs.StampParts.{StampParts, stamp_cmp}
+use Rattle.pseudo_time.specs.StampParts.{StampParts}
 use Rattle.pseudo_time.specs.Order.{same_stamp}
 use Rattle.pseudo_time.proofs.OrderLemmas.{stamp_cmp-total, same_stamp-is, same_stamp-self}
 use Rattle.pseudo_time.specs.declared.decisions.Decision.{Decision}
 use Rattle.effect_form.specs.declared.effects.Effect.{Effect}
-use Rattle.effect_form.specs.declared.effects.Effect.TheVariants.{Begin, Decide, Learn}
+use Rattle.effect_form.specs.declared.effects.Effect.TheVariants.{Decide, Learn}
 use Rattle.commit_record.specs.declared.states.RecordState.{RecordState}
 use Rattle.commit_record.specs.declared.states.RecordState.TheVariants.{Unknown, Decided}
 use Rattle.commit_record.specs.declared.states.BeginStep.TheVariants as begins
@@ -16,9 +16,9 @@ use Rattle.commit_record.specs.States.{States, begin_step, begun, begun_at, sett
 use Rattle.object_history.specs.declared.marks.Mark.{Mark}
 use Rattle.object_history.specs.declared.marks.Mark.TheVariants.{Settle}
 use Rattle.object_history.specs.History.{or_else, settle_of}
-use Rattle.repository_core.specs.Logs.{is_commit, told, marks, known, first_begin, decision_of, record_from, record_of, began, began_by}
+use Rattle.repository_core.specs.Logs.{is_commit, told, known, first_begin, decision_of, record_from, record_of, began, began_by}
 use Rattle.repository_core.specs.Lookups.{Agrees, early_or, pending_or, restored}
-use Rattle.repository_core.proofs.LogLemmas.{undecided, from-unknown, from-begin, from-none, unknown-unsettled, record-begin, record-decide, record-learn}
+use Rattle.repository_core.proofs.LogLemmas.{undecided, from-unknown, from-begin, from-none, record-begin, record-decide, record-learn}
 
 -- ---- the map of records
 

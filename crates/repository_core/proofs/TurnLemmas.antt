@@ -1,5 +1,5 @@
 -- A whole turn, from its beginning to its end, is what the rules give.
-use Rattle.std.proofs.Common.{◌≡◌, List, [], ◌++◌, reverse, refl, sym, ◌∙◌, ap, subst}
+use Rattle.std.proofs.Common.{◌≡◌, List, [], ◌++◌, reverse, sym, ◌∙◌, ap}
 use Rattle.std.proofs.lemmas.List.{reverse-reverse}
 use Rattle.effect_form.specs.declared.effects.Effect.{Effect}
 use Rattle.turn_form.specs.declared.turns.Out.{Out}

@@ -28,7 +28,7 @@ use Rattle.object_history.specs.Answers.{read_step, write_step, stands_written}
 use Rattle.repository_core.specs.declared.waits.Held.{Held}
 use Rattle.repository_core.specs.declared.waits.Asker.{Asker}
 use Rattle.repository_core.specs.Logs.{is_commit, marks, known, record_of}
-use Rattle.repository_core.specs.Hands.{Hand, now, note, send, repository, broker, asker_cmp}
+use Rattle.repository_core.specs.Hands.{Hand, now, note, send, repository, asker_cmp}
 
 -- ---- Read
 

@@ -1,4 +1,4 @@
-use Rattle.std.proofs.Common.{◌∷◌, ap, ◌∙◌, sym, subst}
+use Rattle.std.proofs.Common.{◌∷◌, ◌∙◌, sym, subst}
 use Rattle.commit_record.specs.States.{States}
 use Rattle.repository_core.specs.Opening.{AreBegun}
 use Rattle.repository_core.proofs.OpenLemmas.{begun-step, begun-same}

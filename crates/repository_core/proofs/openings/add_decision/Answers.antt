@@ -1,4 +1,4 @@
-use Rattle.std.proofs.Common.{◌∷◌, ap, ◌∙◌, sym, subst}
+use Rattle.std.proofs.Common.{◌∷◌, ◌∙◌, sym, subst}
 use Rattle.commit_record.specs.States.{States}
 use Rattle.repository_core.specs.Opening.{AreDecided}
 use Rattle.repository_core.proofs.OpenLemmas.{decided-step, decided-same, kept-step, kept-same}

@@ -1,4 +1,4 @@
-use Rattle.std.proofs.Common.{◌≡◌, ap, ◌∙◌, sym}
+use Rattle.std.proofs.Common.{ap, ◌∙◌, sym}
 use Rattle.std.specs.Prelude.{is_some, not}
 use Rattle.repository_core.proofs.OpenLemmas.{kept-new, kept-old, copied-none, copied-some}
 use Rattle.repository_core.proofs.openings.keep_first.Goals as goal

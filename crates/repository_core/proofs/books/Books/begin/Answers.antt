@@ -1,4 +1,4 @@
-use Rattle.std.proofs.Common.{◌≡◌, List, [], sym, ap, ◌∙◌}
+use Rattle.std.proofs.Common.{[], sym, ap, ◌∙◌}
 use Rattle.commit_record.specs.States.{begun}
 use Rattle.repository_core.specs.Logs.{began}
 use Rattle.repository_core.specs.Lookups.{restored}

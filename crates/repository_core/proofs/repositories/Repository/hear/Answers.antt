@@ -1,4 +1,4 @@
-use Rattle.std.proofs.Common.{◌≡◌, List, [], true, subst, sym, ap, ◌∙◌}
+use Rattle.std.proofs.Common.{List, [], subst, sym, ap, ◌∙◌}
 use Rattle.effect_form.specs.declared.effects.Effect.{Effect}
 use Rattle.repository_core.specs.Accounts.{AgreeBut}
 use Rattle.repository_core.specs.Hands.{Hand, now}

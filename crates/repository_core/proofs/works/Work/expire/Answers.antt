@@ -1,4 +1,4 @@
-use Rattle.std.proofs.Common.{◌≡◌, ◌∷◌, false, List, [], subst, sym, ap, ◌∙◌}
+use Rattle.std.proofs.Common.{◌≡◌, ◌∷◌, false, List, subst, sym, ap, ◌∙◌}
 use Rattle.std.specs.Prelude.{None}
 use Rattle.pseudo_time.specs.StampParts.{StampParts}
 use Rattle.pseudo_time.specs.declared.decisions.Decision.{Decision}
@@ -6,7 +6,7 @@ use Rattle.effect_form.specs.declared.effects.Effect.{Effect}
 use Rattle.effect_form.specs.declared.effects.Effect.TheVariants as effect
 use Rattle.commit_record.specs.States.{listed_at}
 use Rattle.repository_core.specs.Accounts.{AgreeBut}
-use Rattle.repository_core.specs.Hands.{Hand, now, note}
+use Rattle.repository_core.specs.Hands.{Hand, now}
 use Rattle.repository_core.specs.Logs.{record_of, IsUnknown}
 use Rattle.repository_core.specs.Rows.{release, tell_askers}
 use Rattle.repository_core.proofs.RowLemmas.{tell-now, tell-log}

@@ -1,4 +1,4 @@
-use Rattle.std.proofs.Common.{◌≡◌, List, drop}
+use Rattle.std.proofs.Common.{◌≡◌, drop}
 use Rattle.std.specs.Prelude.{IsTrue}
 use Rattle.pseudo_time.specs.Lists.{Every}
 use Rattle.repository_core.specs.Accounts.{AgreeBut, AreSince, AreOfOneCall}

@@ -1,4 +1,4 @@
-use Rattle.std.proofs.Common.{◌≡◌, [], subst, sym, ap, ◌∙◌}
+use Rattle.std.proofs.Common.{[], sym, ap, ◌∙◌}
 use Rattle.repository_core.specs.Hands.{now}
 use Rattle.repository_core.specs.Rows.{release}
 use Rattle.repository_core.proofs.RowLemmas.{on-learn-none}

@@ -1,5 +1,5 @@
-use Rattle.std.proofs.Common.{◌≡◌, true, subst, sym, ap, ◌∙◌}
-use Rattle.std.specs.Prelude.{Some, None}
+use Rattle.std.proofs.Common.{sym, ap, ◌∙◌}
+use Rattle.std.specs.Prelude.{Some}
 use Rattle.repository_core.specs.Hands.{now}
 use Rattle.repository_core.specs.Logs.{known}
 use Rattle.repository_core.proofs.RowLemmas.{on-read-known, on-read-none}

@@ -1,6 +1,4 @@
-use Rattle.std.proofs.Common.{rules, ◌≡◌, List, drop, subst, sym, ap, ◌∙◌}
-use Rattle.repository_core.specs.Hands.{now}
-use Rattle.repository_core.specs.Rows.{reread, on_read}
+use Rattle.std.proofs.Common.{sym, ◌∙◌}
 use Rattle.repository_core.proofs.RowLemmas.{release-is, none-left, held-next, reread-next}
 use Rattle.repository_core.proofs.works.Work.release.Goals as goal
 
