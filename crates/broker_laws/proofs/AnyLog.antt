@@ -1,5 +1,5 @@
 -- A node that is reopened after a crash never finds another plan: over any log that is ready, it is ready with any beginning of what a turn adds.
-use Rattle.std.proofs.Common.{true, inl, ◌≡◌, ℕ, zero, suc, nat_lt, false, drop, List, [], ◌∷◌, ◌++◌, refl, sym, subst, Option, Some, None}
+use Rattle.std.proofs.Common.{true, inl, ◌≡◌, ℕ, zero, suc, nat_lt, false, List, [], ◌∷◌, refl, sym, subst, Option, Some, None}
 use Rattle.effect_form.specs.declared.effects.Effect.{Effect}
 use Rattle.message_form.specs.declared.messages.Message.{Message}
 use Rattle.pseudo_time.specs.declared.nodes.NodeId.{NodeId}
@@ -7,8 +7,8 @@ use Rattle.turn_form.specs.declared.turns.Out.{Out}
 use Rattle.turn_form.specs.Posts.{Post}
 use Rattle.serial_model.specs.Questions.{Tree}
 use Rattle.broker_core.specs.Tasks.{Task}
-use Rattle.broker_core.specs.Book.{Book, book, enter}
-use Rattle.broker_core.specs.Fits.{keep, other_plan, unfit_act, first_some}
+use Rattle.broker_core.specs.Book.{Book, book}
+use Rattle.broker_core.specs.Fits.{other_plan, unfit_act, first_some}
 use Rattle.broker_core.specs.Rows.{news, row}
 use Rattle.broker_core.specs.Stages.{broker, stage, standing}
 use Rattle.broker_core.specs.Turns.{Desk, Go, Hear, Input, Take, desk_turn, fuel, hears, note, note_if, reply, say, send, settle_up, state, whole}

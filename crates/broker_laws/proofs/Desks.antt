@@ -16,7 +16,6 @@ use Rattle.message_form.specs.declared.messages.Message.{Message}
 use Rattle.message_form.specs.declared.messages.Message.TheVariants as message
 use Rattle.turn_form.specs.declared.turns.Out.{Out}
 use Rattle.turn_form.specs.Posts.{Post}
-use Rattle.value_form.specs.declared.endings.Ending.{Ending}
 use Rattle.value_form.specs.declared.endings.Ending.TheVariants as ending
 use Rattle.broker_core.specs.Book.{Act, Book, Try, book, enter, find, front, last_try, open_try, time_of, tries, tries_of}
 use Rattle.broker_core.specs.Fits.{act_effect, add_if, another, first_some, fits, has_ended, is_none, keep, next_clock, other_plan, outcome_by, rests, shown_to, stop_of, unfit_act}
@@ -32,14 +31,13 @@ use Rattle.broker_laws.proofs.Kept.{fit-counts, fit-planned, kept}
 use Rattle.broker_laws.proofs.Moves.{at-open, clocks, grown, post-kept}
 use Rattle.broker_laws.proofs.TestLemmas.{and-both, is_task-of}
 use Rattle.broker_laws.specs.Fits.{EndsBy, FitsBook, IsTidy, may_start}
-use Rattle.broker_laws.specs.Posts.{AnswerCame, Clocks, EndCame, HasCause, HasCome, HaveCauses, IsAskOf, IsBelow, IsKnown, MayCommit, OfOpen, PostHolds, at}
+use Rattle.broker_laws.specs.Posts.{AnswerCame, Clocks, EndCame, HasCause, HasCome, IsAskOf, IsBelow, IsKnown, MayCommit, OfOpen, PostHolds, at}
 use Rattle.broker_laws.specs.Works.{MayInput, TurnHolds}
 use Rattle.pseudo_time.proofs.OrderLemmas.{same_stamp-is, same_stamp-self, same_time-is}
 use Rattle.pseudo_time.specs.Lists.{Every}
 use Rattle.pseudo_time.specs.Order.{same_stamp, same_time}
 use Rattle.script_meaning.specs.Meaning.{Answer, Asks, Got, Over, Request, Stop, Stored, ToRead, ToWrite}
 use Rattle.serial_model.specs.Questions.{Tree}
-use Rattle.turn_form.specs.Growth.{Grew}
 
 -- what a stage says of the book
 module _ (script : List ℕ → Tree) (me run : ℕ) (acts : List Task) where

@@ -10,7 +10,6 @@ use Rattle.effect_form.specs.declared.effects.Effect.TheVariants as effect
 use Rattle.effect_form.specs.declared.outcomes.Outcome.{Outcome}
 use Rattle.effect_form.specs.declared.outcomes.Outcome.TheVariants as outcome
 use Rattle.turn_form.specs.Posts.{Post}
-use Rattle.value_form.specs.declared.endings.Ending.{Ending}
 use Rattle.value_form.specs.declared.endings.Ending.TheVariants as ending
 use Rattle.broker_core.specs.Book.{Act, Book, Try, book, close, enter, front, last_try, on_act, on_front, on_try, open_of, open_try, time_of, tries_of}
 use Rattle.broker_core.specs.Fits.{another, has_outcome, is_none, next_clock, outcome_by, shown_to, stop_of}
@@ -22,7 +21,7 @@ use Rattle.broker_core.specs.declared.heards.Heard.{Heard}
 use Rattle.broker_laws.proofs.Kept.{kept, started}
 use Rattle.broker_laws.proofs.Moves.{grown}
 use Rattle.broker_laws.proofs.TestLemmas.{and-both}
-use Rattle.broker_laws.specs.Fits.{FitsBook, IsReady, IsTidy, Started, may_start}
+use Rattle.broker_laws.specs.Fits.{FitsBook, IsTidy, Started, may_start}
 use Rattle.broker_laws.specs.Works.{IsRested, TurnHolds}
 use Rattle.script_meaning.specs.Meaning.{Asks, Over, Stop, ToRead, ToWrite}
 use Rattle.serial_model.specs.Questions.{Tree}

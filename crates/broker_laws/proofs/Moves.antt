@@ -9,7 +9,6 @@ use Rattle.effect_form.specs.declared.outcomes.Outcome.TheVariants as outcome
 use Rattle.message_form.specs.declared.messages.Message.{Message}
 use Rattle.message_form.specs.declared.messages.Message.TheVariants as message
 use Rattle.pseudo_time.specs.declared.nodes.NodeId.{NodeId}
-use Rattle.value_form.specs.declared.endings.Ending.{Ending}
 use Rattle.value_form.specs.declared.endings.Ending.TheVariants as ending
 use Rattle.broker_core.specs.Book.{Act, Book, Try, book, close, enter, find, finish, gain, if_open, new_try, on_front, on_try, open_front, open_of, tries, tries_of}
 use Rattle.broker_core.specs.Fits.{stop_of}

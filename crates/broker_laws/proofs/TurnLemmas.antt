@@ -2,7 +2,6 @@
 use Rattle.std.proofs.Common.{inl, ◌≡◌, ℕ, zero, suc, ◌-◌, ◌≤◌, nat_lt, true, false, length, take, drop, List, [], ◌∷◌, ◌++◌, refl, sym, ◌∙◌, ap, subst, Option, Some, None, arith, append_assoc}
 use Rattle.std.proofs.lemmas.List.{take-append-drop}
 use Rattle.std.proofs.lemmas.Grind.{common_steps}
-use Rattle.std.specs.List.{slice_get}
 use Rattle.broker_core.specs.Tasks.{Task}
 use Rattle.effect_form.specs.declared.effects.Effect.{Effect}
 use Rattle.effect_form.specs.declared.effects.Effect.TheVariants as effect

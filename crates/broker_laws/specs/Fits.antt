@@ -1,5 +1,5 @@
 -- Which effects fit a broker's log in every run, whatever its plan was. Logs stand newest first.
-use Rattle.std.specs.Prelude.{◌≡◌, ℕ, max, ◌+◌, ◌<◌, nat_lt, Bool, true, false, length, List, [], ◌∷◌, Option, Some, None, slice_get}
+use Rattle.std.specs.Prelude.{◌≡◌, ℕ, max, ◌+◌, ◌<◌, nat_lt, Bool, true, false, length, List, [], ◌∷◌, Some, None, slice_get}
 use Rattle.value_form.specs.declared.endings.Ending.TheVariants.{Finished, Withdrawn, Failed}
 use Rattle.value_form.specs.declared.objects.ObjectId.{ObjectId}
 use Rattle.value_form.specs.declared.values.Value.{Value}

@@ -1,5 +1,5 @@
 -- What holds of a broker at work, and what a turn keeps.
-use Rattle.std.specs.Prelude.{◌≡◌, ℕ, ◌-◌, drop, length, List, [], ◌++◌, Option, None}
+use Rattle.std.specs.Prelude.{◌≡◌, ℕ, ◌-◌, drop, length, List, [], ◌++◌, None}
 use Rattle.pseudo_time.specs.Lists.{Every}
 use Rattle.effect_form.specs.declared.effects.Effect.{Effect}
 use Rattle.turn_form.specs.Growth.{Grew}
