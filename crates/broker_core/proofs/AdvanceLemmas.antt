@@ -90,12 +90,12 @@ module _ (script : List ℕ → Tree) (me run : ℕ) (acts : List ActSpec) where
       let k : Knows script run acts s.1 (kept s.1 raw) (state script me run (tasks acts) d2) = knows script me run acts m s.1 raw d2 led.at in
       let p1 : p ≡ phase_in l1 h = subst (λ (x : LedgerParts). p ≡ phase_in x h) l-is p-is in
       let stands1 : standing_at l.acts l.notes p ≡ o =
-          ap (λ (x : LedgerParts). standing_at x.acts x.notes p) l-is
-          ∙ (ap (standing_at acts s.1) p1
-          ∙ (standing-any script run acts s.1 (kept s.1 raw) (state script me run (tasks acts) d2) h k
-          ∙ ap (λ (x : Heard). standing (stage script run (state script me run (tasks acts) d2) x)) (sym heard2))) in
+      ap (λ (x : LedgerParts). standing_at x.acts x.notes p) l-is
+      ∙ (ap (standing_at acts s.1) p1
+      ∙ (standing-any script run acts s.1 (kept s.1 raw) (state script me run (tasks acts) d2) h k
+      ∙ ap (λ (x : Heard). standing (stage script run (state script me run (tasks acts) d2) x)) (sym heard2))) in
       let log-is : whole d2 ≡ reverse turn.effects ++ log =
-          ap (λ (xs : List Effect). xs ++ d2.base) (sym back) ∙ ap (λ (xs : List Effect). reverse turn.effects ++ xs) (led.base ∙ base) in
+      ap (λ (xs : List Effect). xs ++ d2.base) (sym back) ∙ ap (λ (xs : List Effect). reverse turn.effects ++ xs) (led.base ∙ base) in
       record {
         effects = sym (reverse-reverse turn.effects) ∙ ap reverse (back ∙ sym (send-fresh o d2));
         outs = turn-outs ∙ (outs-are ∙ (ap listed stands1 ∙ sym (send-outs o d2 (led.outs ∙ outs-none))));

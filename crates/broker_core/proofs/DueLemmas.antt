@@ -39,8 +39,15 @@ module _ (me : ℕ) (acts : List ActSpec) where
   -- the notes on a book, with its acts apart
   abbrev notes_at : Book → List Act → Notes
   notes_at b as' = record {
-    run = b.run; clock = b.clock; shown = b.shown; started = length as'; over_before = over_behind as';
-    spent = spent_in as'; tries = tries_in as'; last = option_map last_of (front (tries_of as')) }
+    run = b.run;
+    clock = b.clock;
+    shown = b.shown;
+    started = length as';
+    over_before = over_behind as';
+    spent = spent_in as';
+    tries = tries_in as';
+    last = option_map last_of (front (tries_of as'));
+  }
 
   tries-due : (h : Heard) (b : Book) (a : Act) (ts rest : List Try) (k : ℕ) (e : Effect) (most : ℕ) → e ≡ try_or_spent me b a → most ≡ a.task.tries →
       (if length ts == 0 then Some e else (if closed_in h (option_map last_of (front (ts ++ rest)))

@@ -32,8 +32,15 @@ module _ (me : ℕ) (acts : List ActSpec) where
   -- the notes on a book, with its acts apart
   abbrev notes_at : Book → List Act → Notes
   notes_at b as' = record {
-    run = b.run; clock = b.clock; shown = b.shown; started = length as'; over_before = over_behind as';
-    spent = spent_in as'; tries = tries_in as'; last = option_map last_of (front (tries_of as')) }
+    run = b.run;
+    clock = b.clock;
+    shown = b.shown;
+    started = length as';
+    over_before = over_behind as';
+    spent = spent_in as';
+    tries = tries_in as';
+    last = option_map last_of (front (tries_of as'));
+  }
 
   try-fits : (i : ℕ) (s : StampParts) (b : Book) (as' : List Act) → Started (tasks acts) as' → fits_try_at me (act_at acts (notes_at b as')) i s (notes_at b as') ≡ fits_try me i s b.clock as'
   try-fits i s b [] k = refl

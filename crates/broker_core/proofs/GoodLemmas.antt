@@ -80,10 +80,13 @@ module _ (script : List ℕ → Tree) (me run : ℕ) (plan : List Task) where
   try-good : (b : Book) (a : Act) (done : List Act) (o : Option ℕ) → b.acts ≡ a ∷ done → next_clock b.clock (shown_to b a) ≡ o → is_none a.spent ≡ true → may_follow a.tries ≡ true → Good b (Some (by_clock me b a o))
   try-good b a done None e n s m =
       (counted (b.run == run) _ (subst (λ (xs : List Act). fits_spent a.task.index xs ≡ true) (sym e) (and-both (eq-eqb a.task.index a.task.index refl) (and-both s m))), tt, tt)
-  try-good b a done (Some c) e n s m =
-      (counted (b.run == run) _ (subst (λ (xs : List Act). fits_try me a.task.index (record { clock = c; broker = me; home = a.task.home }) b.clock xs ≡ true) (sym e)
-      (and-both (eq-eqb a.task.index a.task.index refl) (and-both (eq-eqb me me refl) (and-both (eq-eqb a.task.home a.task.home refl)
-      (and-both (lt-true b.clock c (after-greatest b.clock (shown_to b a) c n)) (and-both s m)))))), tt, tt)
+  try-good b a done (Some c) e n s m = (
+    counted (b.run == run) _ (subst (λ (xs : List Act). fits_try me a.task.index (record { clock = c; broker = me; home = a.task.home }) b.clock xs ≡ true) (sym e)
+        (and-both (eq-eqb a.task.index a.task.index refl) (and-both (eq-eqb me me refl) (and-both (eq-eqb a.task.home a.task.home refl)
+        (and-both (lt-true b.clock c (after-greatest b.clock (shown_to b a) c n)) (and-both s m)))))),
+    tt,
+    tt,
+  )
     where
       lt-true : (x y : ℕ) → x < y → nat_lt x y ≡ true
       lt-true x y h = grind (arith, common_steps)

@@ -76,10 +76,12 @@ module _ (script : List ℕ → Tree) (me run : ℕ) (acts : List ActSpec) where
       let r : b.run ≡ run = eqb-true b.run run e in
       let fit : fits script me (tasks acts) b f ≡ true = sym (fits-same m l log f t r) ∙ k in
       let s : Shows run (noted acts f l.notes) (kept (noted acts f l.notes) (answers_noted f l.notes l.answers)) (enter f b) =
-          noted-shows script me run acts l.notes l.answers b f (meets script run acts l.notes (kept l.notes l.answers) b (know m l log t) r) fit in
+      noted-shows script me run acts l.notes l.answers b f (meets script run acts l.notes (kept l.notes l.answers) b (know m l log t) r) fit in
       let s' = subst (λ (xs : List ActSpec). Shows run (noted xs f l.notes) (kept (noted xs f l.notes) (answers_noted f l.notes l.answers)) (enter f b)) (sym t.of_acts) s in
       record {
-        number = t.number; of_run = t.of_run; of_acts = t.of_acts;
+        number = t.number;
+        of_run = t.of_run;
+        of_acts = t.of_acts;
         shows = kept-shows _ _ log f (counts script me run (tasks acts) b f) (λ _. s') (λ q. absurd (false≢true (sym q ∙ (counts-here b f e ∙ fit))));
       }
   here-took m l log f false t e k =
@@ -87,14 +89,17 @@ module _ (script : List ℕ → Tree) (me run : ℕ) (acts : List ActSpec) where
       let r : b.run ≡ run = eqb-true b.run run e in
       let fit : fits script me (tasks acts) b f ≡ false = sym (fits-same m l log f t r) ∙ k in
       record {
-        number = t.number; of_run = t.of_run; of_acts = t.of_acts;
+        number = t.number;
+        of_run = t.of_run;
+        of_acts = t.of_acts;
         shows = kept-shows _ _ log f (counts script me run (tasks acts) b f) (λ q. absurd (false≢true (sym fit ∙ (sym (counts-here b f e) ∙ q)))) (λ _. t.shows);
       }
 
   -- an effect of another run
   other-shows : (n n' : Notes) (answers answers' : List Given) (b b' : Book) → Shows run n answers b → (b.run == run) ≡ false → b'.run ≡ b.run → n'.run ≡ n.run → n'.clock ≡ b'.clock → Shows run n' answers' b'
   other-shows n n' answers answers' b b' s e r q c = record {
-    run_is = q ∙ (s.run_is ∙ sym r); clock_is = c;
+    run_is = q ∙ (s.run_is ∙ sym r);
+    clock_is = c;
     notes_are = λ x. absurd (false≢true (sym e ∙ eq-eqb b.run run (sym r ∙ x)));
     answers_are = λ x. absurd (false≢true (sym e ∙ eq-eqb b.run run (sym r ∙ x)));
   }
@@ -110,7 +115,8 @@ module _ (script : List ℕ → Tree) (me run : ℕ) (acts : List ActSpec) where
 
   begun-run : (n : Notes) (raw : List Given) (b : Book) (m : ℕ) → Shows run n (kept n raw) b → Shows run (run_begun m n) (kept (run_begun m n) raw) (enter (effect.Run m) b)
   begun-run n raw b m s = record {
-    run_is = refl; clock_is = s.clock_is;
+    run_is = refl;
+    clock_is = s.clock_is;
     notes_are = λ r. ap (λ (c : ℕ). record { run = m; clock = c; shown = 0; started = 0; over_before = true; spent = false; tries = 0; last = None }) s.clock_is;
     answers_are = λ r. refl;
   }

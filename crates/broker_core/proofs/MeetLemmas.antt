@@ -64,6 +64,6 @@ module _ (acts : List ActSpec) where
         let g = act-is b t h r o in
         let place : slice_get acts (length b.acts - 1) ≡ Some g.0 = placed (length b.acts) g.0 g.1 in
         let tree : tree_of (act_at acts (notes_of b)) ≡ script t.task.script =
-            ap tree_of g.1 ∙ (sym (every-get _ acts (length b.acts - 1) g.0 m place) ∙ ap (λ (x : Task). script x.script) g.2) in
+        ap tree_of g.1 ∙ (sym (every-get _ acts (length b.acts - 1) g.0 m place) ∙ ap (λ (x : Task). script x.script) g.2) in
         let ans : answers_of answers ≡ t.answers = e ∙ ap answers_of_last (open-is-last b t o) in
         ap (λ (x : Tree). stop x (answers_of answers)) tree ∙ ap (stop (script t.task.script)) ans

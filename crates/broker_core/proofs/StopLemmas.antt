@@ -42,6 +42,6 @@ pub renewed : (l v : LedgerParts) (o : Option Told) (r : Told) (ls : List Line) 
     Tells r.script r.answers ls n → stop_of n ≡ stop_at l.acts l.notes (kept l.notes l.answers)
 renewed l v o r ls n view fits is t =
     let f : (r.script ≡ lines_of (act_at v.acts v.notes)) × (r.answers ≡ answers_of (kept v.notes v.answers)) =
-        subst (λ (x : Option Told). MatchOption x (act_at v.acts v.notes ≡ None) (λ (y : Told). (y.script ≡ lines_of (act_at v.acts v.notes)) × (y.answers ≡ answers_of (kept v.notes v.answers)))) is fits in
+    subst (λ (x : Option Told). MatchOption x (act_at v.acts v.notes ≡ None) (λ (y : Told). (y.script ≡ lines_of (act_at v.acts v.notes)) × (y.answers ≡ answers_of (kept v.notes v.answers)))) is fits in
     subst (λ (x : LedgerParts). stop_of n ≡ stop_at x.acts x.notes (kept x.notes x.answers)) view
     (run-stops (act_at v.acts v.notes) (kept v.notes v.answers) r.script r.answers ls n f.0 f.1 t)

@@ -61,7 +61,7 @@ module _ (script : List ℕ → Tree) (q : BrokerParts) (log : List Effect) (m :
       let b : Book = book_for script q log in
       let r : row_for ≡ Adds f = row-is (Adds f) sc st e in
       let good : ReplyGood script q.number q.run (tasks q.acts) b (Adds f) =
-          subst (ReplyGood script q.number q.run (tasks q.acts) b) r (row-good script q.number q.run (tasks q.acts) q.acts b (stage script q.run b q.heard) q.heard m (stage-of-is script q.run q.acts b q.heard)) in
+      subst (ReplyGood script q.number q.run (tasks q.acts) b) r (row-good script q.number q.run (tasks q.acts) q.acts b (stage script q.run b q.heard) q.heard m (stage-of-is script q.run q.acts b q.heard)) in
       subst (λ (d : Desk). Gives script log d turn new) (sym (turn-is from (Adds f) r)) (g (good.1, run-here f (b.run == q.run) refl r, good.0))
 
 -- the reply, from what the broker holds

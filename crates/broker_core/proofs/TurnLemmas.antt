@@ -93,7 +93,8 @@ module _ (script : List ℕ → Tree) (me run : ℕ) (acts : List ActSpec) where
 
   begun-shows : (n : Notes) (raw : List Given) (b : Book) → Shows run n (kept n raw) b → Shows run (run_begun run n) (kept (run_begun run n) raw) (enter (effect.Run run) b)
   begun-shows n raw b s = record {
-    run_is = refl; clock_is = s.clock_is;
+    run_is = refl;
+    clock_is = s.clock_is;
     notes_are = λ r. ap (λ (c : ℕ). record { run = run; clock = c; shown = 0; started = 0; over_before = true; spent = false; tries = 0; last = None }) s.clock_is;
     answers_are = λ r. refl;
   }

@@ -43,8 +43,15 @@ tries_in (a ∷ acts) = length a.tries
 -- the notes on a book
 abbrev pub notes_of : Book → Notes
 notes_of b = record {
-  run = b.run; clock = b.clock; shown = b.shown; started = length b.acts; over_before = over_behind b.acts;
-  spent = spent_in b.acts; tries = tries_in b.acts; last = option_map last_of (last_try b) }
+  run = b.run;
+  clock = b.clock;
+  shown = b.shown;
+  started = length b.acts;
+  over_before = over_behind b.acts;
+  spent = spent_in b.acts;
+  tries = tries_in b.acts;
+  last = option_map last_of (last_try b);
+}
 
 abbrev pub answers_of_last : Option Try → List Answer
 answers_of_last None = []

@@ -238,4 +238,3 @@ unfolding finals
 finals-hold k ever facts =
     let ok : StampParts → Bool = λ x. committed k x in
     fold-all k ever facts ok (λ x. false) (deed_stamps k ok) (start k ok (λ x h. h) (λ x y c below h. c)) finite.empty (empty-holds k)
-

@@ -133,4 +133,3 @@ own-deed t ans s marks sure f whole kinds m o =
     deed-one t ans s marks sure f whole (value_at m o) (value_at (left_after t ans m) o) o (own-map t ans m o kinds)
     (scan (on (λ x. same_stamp x s)) o (marks o)) (picked (on (λ x. same_stamp x s)) o (marks o)) (scan-passes (on (λ x. same_stamp x s)) o (marks o))
     (top-all (on (λ x. same_stamp x s)) o (marks o))
-

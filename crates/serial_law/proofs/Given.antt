@@ -278,4 +278,3 @@ pub given-deed : (k : RunLogs) (ever : List Post) → Facts k ever → (s : Stam
 given-deed k ever f s m o =
     given-one k ever f s m o (scan (on (λ x. same_stamp x s)) o (marks_at k o)) (picked (on (λ x. same_stamp x s)) o (marks_at k o))
     (scan-passes (on (λ x. same_stamp x s)) o (marks_at k o)) (top-all (on (λ x. same_stamp x s)) o (marks_at k o))
-

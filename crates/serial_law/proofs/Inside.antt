@@ -110,15 +110,15 @@ mutual
   inside-step n (Print l x) names left go h b = inside-with n (value names x) l _ (λ a e. b names left)
   inside-step n (If l x part m) names left go h b =
       inside-with n (condition names x) l _ (λ holds e. inside-if n holds _ _
-        (inside-part n part names left go (left-limits n (rows part) (on m r.End ∷ []) h.2) b) (b names left))
+      (inside-part n part names left go (left-limits n (rows part) (on m r.End ∷ []) h.2) b) (b names left))
   inside-step n (IfElse l x first m second k) names left go h b =
       let rest : RowsInLimits n (on m r.Else ∷ (rows second ++ on k r.End ∷ [])) = right-limits n (rows first) (on m r.Else ∷ (rows second ++ on k r.End ∷ [])) h.2 in
       inside-with n (condition names x) l _ (λ holds e. inside-if n holds _ _
-        (inside-part n first names left go (left-limits n (rows first) (on m r.Else ∷ (rows second ++ on k r.End ∷ [])) h.2) b)
-        (inside-part n second names left go (left-limits n (rows second) (on k r.End ∷ []) rest.2) b))
+      (inside-part n first names left go (left-limits n (rows first) (on m r.Else ∷ (rows second ++ on k r.End ∷ [])) h.2) b)
+      (inside-part n second names left go (left-limits n (rows second) (on k r.End ∷ []) rest.2) b))
   inside-step n (Repeat l x part m) names left go h b =
       inside-with n (count names x) l _ (λ k e. inside-turns n k (all_asked part)
-        (λ names' left' go' b'. inside-part n part names' left' go' (left-limits n (rows part) (on m r.End ∷ []) h.2) b') names left go b)
+      (λ names' left' go' b'. inside-part n part names' left' go' (left-limits n (rows part) (on m r.End ∷ []) h.2) b') names left go b)
   inside-step n (Withdraw l) names left go h b = tt
 
   inside-part : (n : ℕ) (part : Block) (names : Names) (left : ℕ) (go : Onward) → RowsInLimits n (rows part) → InsideOn n go → Inside n (all_asked part names left go)
@@ -126,7 +126,7 @@ mutual
   inside-part n (Then x part) names zero go h b = tt
   inside-part n (Then x part) names (suc left) go h b =
       inside-step n x names left (λ names' left'. all_asked part names' left' go) (left-limits n (step_rows x) (rows part) h)
-        (λ names' left'. inside-part n part names' left' go (right-limits n (step_rows x) (rows part) h) b)
+      (λ names' left'. inside-part n part names' left' go (right-limits n (step_rows x) (rows part) h) b)
 
 pub inside-script : (n : ℕ) (b : Block) → RowsInLimits n (rows b) → Inside n (denote b)
 inside-script n b h = inside-part n b [] 10000 (λ names left. Ends _) h (λ names left. tt)

@@ -246,4 +246,3 @@ puts-are-lines k ever f T a c =
         (let b : Version = record { object = v.object; start = at T.stamp pre; value = v.value } in b ≡ v)
     forth v pre e n = version-path v.object v.object (at T.stamp pre) v.start v.value v.value refl
         (time-path T.stamp v.start.stamp (length pre + 1) v.start.step (sym e) (omega (arith, n))) refl
-

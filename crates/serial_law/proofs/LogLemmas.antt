@@ -188,4 +188,3 @@ marks-cases k o P h j = cases (in_run k o.repository) refl
     cases : (b : Bool) → in_run k o.repository ≡ b → P (if b then marks (log_of k o.repository) else [])
     cases true e = h e
     cases false e = j
-

@@ -139,4 +139,3 @@ value t ans s marks sure f m before pre post v o kinds e asked =
           (not-own t ans s marks sure f pre (Got v ∷ post) o e r.0 (views (marks o) o (at s pre)) (picked ok o (marks o)) (scan-passes ok o (marks o)))) in
           both-values (views (marks o) o (at s pre)) v (value_at m o) (sym w.0) (subst (λ z. HasValue z (value_at m o)) same (before o)) ∙ sym r.1
     ]
-

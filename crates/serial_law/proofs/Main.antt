@@ -54,4 +54,3 @@ serial-try k ever f T a =
 -- the second part
 pub serial : (k : RunLogs) (ever : List Post) → Facts k ever → Serial k
 serial k ever f T a = serial-try k ever f T a
-

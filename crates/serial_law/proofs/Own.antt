@@ -203,4 +203,3 @@ widen t ans pre y o p w e k =
 pub front-short : (pre y ans : List Answer) → ans ≡ pre ++ y → length pre ≤ length ans
 front-short [] y ans e = omega arith
 front-short (b ∷ pre) y ans e = rw e (let h = front-short pre y (pre ++ y) refl in omega (arith, h))
-

@@ -110,4 +110,3 @@ lone k ever f T a = record {
   stored = λ o w pre h. write-stored k ever f T a o w pre h;
   puts = λ o x w h e l. put-written k ever f T a o x w h e l;
 }
-

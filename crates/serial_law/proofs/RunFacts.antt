@@ -145,9 +145,12 @@ module _ (script : List ℕ → Tree) (b : Base) (plan : Plan) (logs : NodeId �
 
   posted : (m : Message) → Said ever m → Posted m
   posted m h =
-      let r = of-said ever m h in
-      (r.0.from.kind, r.0.from.number, r.0.to,
-        subst (λ x. kind_post script ever r.0.from.kind r.0.from.number (log r.0.from) (record { to = r.0.to; message = x })) r.2 (every-has _ ever r.0 f.sent_ok r.1))
+      let r = of-said ever m h in (
+        r.0.from.kind,
+        r.0.from.number,
+        r.0.to,
+        subst (λ x. kind_post script ever r.0.from.kind r.0.from.number (log r.0.from) (record { to = r.0.to; message = x })) r.2 (every-has _ ever r.0 f.sent_ok r.1),
+      )
 
   was-said : (from to : NodeId) (m : Message) → repositories.WasSent ever from to m → Said ever m
   was-said from to m h = said-of ever (record { from = from; to = to; message = m }) h
@@ -198,14 +201,14 @@ module _ (script : List ℕ → Tree) (b : Base) (plan : Plan) (logs : NodeId �
     its-plan =
         every-has (IsPlanned plan.run (tasks (acts_of me plan.acts))) (tries_of (book own).acts) m.try
         (planned script me plan.run (tasks (acts_of me plan.acts)) own (f.tidy (broker me))
-          (subst (λ r. brokers.IsReady script me r (tasks (acts_of me plan.acts)) own) same_run
-            (subst (λ x. brokers.IsReady script me b.run (tasks (acts_of me x)) own) same_acts (f.ready (broker me) (opened me m.low m.high)))) m.same_run) m.has
+        (subst (λ r. brokers.IsReady script me r (tasks (acts_of me plan.acts)) own) same_run
+        (subst (λ x. brokers.IsReady script me b.run (tasks (acts_of me x)) own) same_acts (f.ready (broker me) (opened me m.low m.high)))) m.same_run) m.has
 
     its-task : IsKept script plan.repositories m.try.task
     its-task =
         at-place (IsKept script plan.repositories) (tasks (acts_of me plan.acts)) its-plan.1.0 m.try.task
         (kept-tasks script plan.repositories (acts_of me plan.acts)
-          (kept-every (λ a. IsKept script plan.repositories (task_of a)) (λ (a : ActSpec). a.broker == me) plan.acts (kept-acts script plan.repositories plan.brokers 1 plan.acts whole.acts scripted)))
+        (kept-every (λ a. IsKept script plan.repositories (task_of a)) (λ (a : ActSpec). a.broker == me) plan.acts (kept-acts script plan.repositories plan.brokers 1 plan.acts whole.acts scripted)))
         its-plan.1.1
 
     its-home : InRange plan.repositories m.try.stamp.home
@@ -220,16 +223,21 @@ module _ (script : List ℕ → Tree) (b : Base) (plan : Plan) (logs : NodeId �
 
     its-request : (x : TimeParts) (q : Request) (i : ℕ) → x.stamp ≡ m.try.stamp → x.stamp.broker ≡ i → IsAskOf script (tries (book (log (broker i)))) x q → Asked (attempt script m.try) x q
     its-request x q i e k h =
-        let same : h.0 ≡ m.try = same-try x.stamp i h.0 e k h.1 in
-        (h.2.0, h.2.1, ap (λ (y : books.Try). y.answers) (sym same) ∙ h.2.2, h.2.3,
-          asks-some _ q (subst (λ (y : books.Try). stop (script y.task.script) h.2.0 ≡ Asks q) same h.2.4))
+        let same : h.0 ≡ m.try = same-try x.stamp i h.0 e k h.1 in (
+          h.2.0,
+          h.2.1,
+          ap (λ (y : books.Try). y.answers) (sym same) ∙ h.2.2,
+          h.2.3,
+          asks-some _ q (subst (λ (y : books.Try). stop (script y.task.script) h.2.0 ≡ Asks q) same h.2.4),
+        )
 
     its-commit : (i : ℕ) → m.try.stamp.broker ≡ i → IsCommitOf script (tries (book (log (broker i)))) m.try.stamp →
         ((talked (script m.try.task.script) m.try.answers).stop ≡ Over ending.Finished) × MayCommit m.try.end
     its-commit i k h =
-        let same : h.0 ≡ m.try = same-try m.try.stamp i h.0 refl k h.1 in
-        (talked-stop (script m.try.task.script) m.try.answers ∙ subst (λ (y : books.Try). stop (script y.task.script) y.answers ≡ Over ending.Finished) same h.3,
-          may-commit m.try.end (subst (λ (y : books.Try). posts.MayCommit y.end) same h.2))
+        let same : h.0 ≡ m.try = same-try m.try.stamp i h.0 refl k h.1 in (
+          talked-stop (script m.try.task.script) m.try.answers ∙ subst (λ (y : books.Try). stop (script y.task.script) y.answers ≡ Over ending.Finished) same h.3,
+          may-commit m.try.end (subst (λ (y : books.Try). posts.MayCommit y.end) same h.2),
+        )
 
   -- ---- what was asked
 
@@ -304,7 +312,7 @@ module _ (script : List ℕ → Tree) (b : Base) (plan : Plan) (logs : NodeId �
     home = λ a has. moved (λ x. in_run run x.stamp.home ≡ true) a (mine a has) (in-both run _ (its-home a (mine a has)).0 (its-home a (mine a has)).1);
     within = λ a pre post c q has. moved (λ x. x.answers ≡ pre ++ (c ∷ post) → asks (after x.script pre) ≡ Some q → in_run run (asked_of q).repository ≡ true) a (mine a has)
         (λ e k. let r = inside-asks plan.repositories (after (script (mine a has).try.task.script) pre) q
-            (inside-after plan.repositories (script (mine a has).try.task.script) pre (its-task a (mine a has)).1) k in in-both run _ r.0 r.1);
+        (inside-after plan.repositories (script (mine a has).try.task.script) pre (its-task a (mine a has)).1) k in in-both run _ r.0 r.1);
   }
 
   -- ---- causes
@@ -337,7 +345,7 @@ module _ (script : List ℕ → Tree) (b : Base) (plan : Plan) (logs : NodeId �
         let r = asked-now i o h.0 asks-it.0 h.1 h.2 asks-it.1 in
         subst (λ x. HasCause run mine-try (outcome.LaterRead x e)) r.0
         (subst (λ j. (v : Value) × (asks (after (script m.try.task.script) m.try.answers) ≡ Some (ToWrite h.0 v)) × (lt time e ≡ true) × Has (effect.Stretch h.0 e) (log (repository j)) × repositories.Once (λ l. write_step (marks l) h.0 time v ≡ write.LaterRead e) (log (repository j))) (sym h.2.1)
-          (h.1, r.1, h.3, once-read (log (repository i)) h.0 time e h.1 h.4, h.4))
+        (h.1, r.1, h.3, once-read (log (repository i)) h.0 time e h.1 h.4, h.4))
 
     refused-version : (o : ObjectId) (x : TimeParts) → ((v : Value) × (stop (script m.try.task.script) m.try.answers ≡ Asks (ToWrite o v))) → Posted (message.LaterVersion time x) → HasCause run mine-try (outcome.LaterVersion o x)
     refused-version o x asks-it (Broker, i, to, h) = absurd h
@@ -345,7 +353,7 @@ module _ (script : List ℕ → Tree) (b : Base) (plan : Plan) (logs : NodeId �
         let r = asked-now i o h.0 asks-it.0 h.1 h.2 asks-it.1 in
         subst (λ y. HasCause run mine-try (outcome.LaterVersion y x)) r.0
         (subst (λ j. (v : Value) × (asks (after (script m.try.task.script) m.try.answers) ≡ Some (ToWrite h.0 v)) × (lt x time ≡ false) × ((w : Value) × Has (effect.Put h.0 x w) (log (repository j))) × repositories.Once (λ l. write_step (marks l) h.0 time v ≡ write.LaterVersion x) (log (repository j))) (sym h.2.1)
-          (h.1, r.1, h.3, once-version (log (repository i)) h.0 time x h.1 h.4, h.4))
+        (h.1, r.1, h.3, once-version (log (repository i)) h.0 time x h.1 h.4, h.4))
 
     try-cause : (o : Outcome) → m.try.end ≡ Some o → HasCause run mine-try o
     try-cause outcome.Committed e = decided-said m.try.stamp decision.Committed (posted _ (came m.number _ ((its-proof a m).ends outcome.Committed e)))

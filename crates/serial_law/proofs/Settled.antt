@@ -93,4 +93,3 @@ sure-no k ever f r s i h = cases (committed k s) refl
     cases true e =
         let d = home-says k ever f r s false i (settle-marks (log_of k r) s false h) in
         absurd (false≢true (d.2 ∙ f.decided_once s d.0 decision.Committed d.1 (at-home k ever f s e)))
-

@@ -175,4 +175,3 @@ put-listed k ok o x v h e =
     let w = put-at k o x v h in
     here-logs k ok k.repositories o.repository (try_stamps ok k.tries) o x v (in-low k o.repository w.0) (in-high k o.repository w.0)
     (put-marks (log_of k o.repository) o x v w.1) e
-

@@ -107,4 +107,3 @@ right-at t ans s marks sure f m before pre post Stored e =
 pub alone : (t : Tree) (ans : List Answer) (s : StampParts) (marks : ObjectId → List Mark) (sure : StampParts → Bool) → Lone t ans s marks sure →
     (m : Objects) → Holds_below marks sure s m → Alike t ans m
 alone t ans s marks sure f m before = alike t ans m (agrees t ans m (right-at t ans s marks sure f m before))
-

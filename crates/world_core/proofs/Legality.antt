@@ -38,24 +38,28 @@ before-legal script plan asked t front rest legal here =
     let w : World = walk (base_of script plan t) front in
     let grown : (late : List Post) × (sent_by (walk_from (base_of script plan t) (walk (base_of script plan t) front) rest) ≡ sent_by (walk (base_of script plan t) front) ++ late) = sent-walk (base_of script plan t) (walk (base_of script plan t) front) rest in
     let all : map post_of t.sent ≡ sent_by (walk (base_of script plan t) front) ++ grown.0 =
-        legal.sent ∙ ap (λ es. sent_by (walk (base_of script plan t) es)) here ∙ ap sent_by (walk-append (base_of script plan t) (start_world (base_of script plan t)) front rest) ∙ grown.1 in
+    legal.sent ∙ ap (λ es. sent_by (walk (base_of script plan t) es)) here ∙ ap sent_by (walk-append (base_of script plan t) (start_world (base_of script plan t)) front rest) ∙ grown.1 in
     let cut : (us vs : List Sent) × (t.sent ≡ us ++ vs) × (map post_of us ≡ sent_by (walk (base_of script plan t) front)) = map-front post_of t.sent (sent_by (walk (base_of script plan t) front)) grown.0 all in
     let meets : Meets (base_of script plan t) (fates_of cut.0 ++ fates_of cut.1) (start_world (base_of script plan t)) (front ++ rest) =
-        subst (λ fates. Meets (base_of script plan t) fates (start_world (base_of script plan t)) (front ++ rest)) (ap fates_of cut.2 ∙ map-append (λ (s : Sent). s.fate) cut.0 cut.1)
-          (subst (λ es. Meets (base_of script plan t) (fates_of t.sent) (start_world (base_of script plan t)) es) here legal.meets) in
-    (cut.0, cut.1, legal.before ++ map asked_of cut.0, cut.2,
-     legal.fated ∙ ap (λ l. legal.before ++ map asked_of l) cut.2 ∙ ap (λ l. legal.before ++ l) (map-append asked_of cut.0 cut.1) ∙ sym (append_assoc legal.before (map asked_of cut.0) (map asked_of cut.1)),
-     record {
-       scripted = legal.scripted;
-       nodes = legal.nodes;
-       ready = legal.ready;
-       meets = meets-asks (base_of script plan t) (fates_of cut.0) (fates_of cut.1) (start_world (base_of script plan t)) front (fates-size w cut.0 cut.3)
-           (meets-front (base_of script plan t) (fates_of cut.0 ++ fates_of cut.1) (start_world (base_of script plan t)) front rest meets);
-       sent = cut.3;
-       numbers = numbered-left 1 cut.0 cut.1 (subst (Numbered 1) cut.2 legal.numbers);
-       before = legal.before;
-       fated = refl;
-     })
+    subst (λ fates. Meets (base_of script plan t) fates (start_world (base_of script plan t)) (front ++ rest)) (ap fates_of cut.2 ∙ map-append (λ (s : Sent). s.fate) cut.0 cut.1)
+    (subst (λ es. Meets (base_of script plan t) (fates_of t.sent) (start_world (base_of script plan t)) es) here legal.meets) in (
+      cut.0,
+      cut.1,
+      legal.before ++ map asked_of cut.0,
+      cut.2,
+      legal.fated ∙ ap (λ l. legal.before ++ map asked_of l) cut.2 ∙ ap (λ l. legal.before ++ l) (map-append asked_of cut.0 cut.1) ∙ sym (append_assoc legal.before (map asked_of cut.0) (map asked_of cut.1)),
+      record {
+        scripted = legal.scripted;
+        nodes = legal.nodes;
+        ready = legal.ready;
+        meets = meets-asks (base_of script plan t) (fates_of cut.0) (fates_of cut.1) (start_world (base_of script plan t)) front (fates-size w cut.0 cut.3)
+            (meets-front (base_of script plan t) (fates_of cut.0 ++ fates_of cut.1) (start_world (base_of script plan t)) front rest meets);
+        sent = cut.3;
+        numbers = numbered-left 1 cut.0 cut.1 (subst (Numbered 1) cut.2 legal.numbers);
+        before = legal.before;
+        fated = refl;
+      },
+    )
 
 pub goes-on : (script : List ℕ → Tree) (plan : Plan) (asked : List Asked) (t : Trace) (e : Entry) (new : List Sent) → Legal script plan asked t
     → Rule (base_of script plan t) (fates_of t.sent) (walk (base_of script plan t) t.entries) e
@@ -68,9 +72,9 @@ goes-on script plan asked t e new legal rule sends numbers = record {
   ready = legal.ready;
   meets = meets-more (base_of script plan t) (fates_of (t.sent ++ new)) (start_world (base_of script plan t)) t.entries e
       (subst (λ fates. Meets (base_of script plan t) fates (start_world (base_of script plan t)) t.entries) (sym (map-append (λ (s : Sent). s.fate) t.sent new))
-        (meets-grown (base_of script plan t) (fates_of t.sent) (fates_of new) (start_world (base_of script plan t)) t.entries legal.meets))
+      (meets-grown (base_of script plan t) (fates_of t.sent) (fates_of new) (start_world (base_of script plan t)) t.entries legal.meets))
       (subst (λ fates. Rule (base_of script plan t) fates (walk (base_of script plan t) t.entries) e) (sym (map-append (λ (s : Sent). s.fate) t.sent new))
-        (rule-grown (base_of script plan t) (fates_of t.sent) (fates_of new) (walk (base_of script plan t) t.entries) e rule));
+      (rule-grown (base_of script plan t) (fates_of t.sent) (fates_of new) (walk (base_of script plan t) t.entries) e rule));
   sent = map-append post_of t.sent new ∙ ap (λ l. l ++ map post_of new) legal.sent ∙ sym sends ∙ ap sent_by (sym (walk-more (base_of script plan t) t.entries e));
   numbers = numbered-join 1 t.sent new legal.numbers numbers;
   before = legal.before;

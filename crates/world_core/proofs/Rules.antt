@@ -16,15 +16,24 @@ module _ (b : Base) where
 
   take-grown : (fates more : List Fate) (w : World) (n : NodeId) (number : ℕ) → MayTake fates w n number → MayTake (fates ++ more) w n number
   take-grown fates more w n number h = record {
-    up = h.up; heard = h.heard; gone = h.gone; sending = h.sending; sent = h.sent; to = h.to; fate = h.fate;
+    up = h.up;
+    heard = h.heard;
+    gone = h.gone;
+    sending = h.sending;
+    sent = h.sent;
+    to = h.to;
+    fate = h.fate;
     fated = numbered-append fates more number h.fate h.fated;
-    fewer = h.fewer; released = h.released;
+    fewer = h.fewer;
+    released = h.released;
   }
 
   idle-grown : (fates more : List Fate) (w : World) (n : NodeId) → IsIdle fates w n → IsIdle (fates ++ more) w n
   idle-grown fates more w n h = record {
     taken = λ number s sent to. ((h.taken number s sent to).0, numbered-append fates more number (h.taken number s sent to).0 (h.taken number s sent to).1, (h.taken number s sent to).2);
-    closed = h.closed; heard = h.heard; gone = h.gone;
+    closed = h.closed;
+    heard = h.heard;
+    gone = h.gone;
   }
 
   pub rule-grown : (fates more : List Fate) (w : World) (e : Entry) → Rule b fates w e → Rule b (fates ++ more) w e
@@ -46,16 +55,25 @@ module _ (b : Base) where
 
   take-asks : (fates more : List Fate) (w : World) (n : NodeId) (number : ℕ) → length w.sendings ≤ length fates → MayTake (fates ++ more) w n number → MayTake fates w n number
   take-asks fates more w n number most h = record {
-    up = h.up; heard = h.heard; gone = h.gone; sending = h.sending; sent = h.sent; to = h.to; fate = h.fate;
+    up = h.up;
+    heard = h.heard;
+    gone = h.gone;
+    sending = h.sending;
+    sent = h.sent;
+    to = h.to;
+    fate = h.fate;
     fated = numbered-front fates more w.sendings number h.fate h.sending most h.sent h.fated;
-    fewer = h.fewer; released = h.released;
+    fewer = h.fewer;
+    released = h.released;
   }
 
   idle-asks : (fates more : List Fate) (w : World) (n : NodeId) → length w.sendings ≤ length fates → IsIdle (fates ++ more) w n → IsIdle fates w n
   idle-asks fates more w n most h = record {
     taken = λ number s sent to.
         ((h.taken number s sent to).0, numbered-front fates more w.sendings number (h.taken number s sent to).0 s most sent (h.taken number s sent to).1, (h.taken number s sent to).2);
-    closed = h.closed; heard = h.heard; gone = h.gone;
+    closed = h.closed;
+    heard = h.heard;
+    gone = h.gone;
   }
 
   -- a rule asks for fates of messages that were sent before

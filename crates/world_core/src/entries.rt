@@ -15,9 +15,14 @@ pub enum DownCause {
 #[derive(Clone, Copy, Debug, PartialEq, Eq)]
 pub enum Entry {
     /// The node took a copy of the message with this number, counted from 1.
-    Take { node: NodeId, number: u32 },
+    Take {
+        node: NodeId,
+        number: u32,
+    },
     /// The broker set to work on its acts.
-    Go { node: NodeId },
+    Go {
+        node: NodeId,
+    },
     /// The repository learned how an attempt was decided.
     Learn {
         node: NodeId,
@@ -25,13 +30,25 @@ pub enum Entry {
         committed: bool,
     },
     /// The node heard the moment of the last Tick.
-    Hear { node: NodeId },
+    Hear {
+        node: NodeId,
+    },
     /// The node's new effects are durable, and the messages that it owes are sent.
-    Gate { node: NodeId },
+    Gate {
+        node: NodeId,
+    },
     /// The node stopped and was opened again. So many of its effects that weren't gated were found.
-    Crash { node: NodeId, kept: u32 },
+    Crash {
+        node: NodeId,
+        kept: u32,
+    },
     /// The node stopped for good.
-    Down { node: NodeId, cause: DownCause },
+    Down {
+        node: NodeId,
+        cause: DownCause,
+    },
     /// It is this moment now.
-    Tick { moment: u64 },
+    Tick {
+        moment: u64,
+    },
 }

@@ -75,8 +75,8 @@ module _ (script : List ℕ → Tree) (turns : Turns) (F : NodeFacts) (laws : No
         mind_ok = gives.mind_ok;
         outs = subst (λ l. Every (F.PostOk w.ever n l) (x.outs ++ g.outs)) e
             (every-append (F.PostOk w.ever n (g.effects ++ whole x)) x.outs g.outs
-              (every-map (F.PostOk w.ever n (whole x)) (F.PostOk w.ever n (g.effects ++ whole x)) (λ out p. post-grown w.ever n out (whole x) g.effects gives.grew tidy p) x.outs h.outs)
-              gives.outs);
+            (every-map (F.PostOk w.ever n (whole x)) (F.PostOk w.ever n (g.effects ++ whole x)) (λ out p. post-grown w.ever n out (whole x) g.effects gives.grew tidy p) x.outs h.outs)
+            gives.outs);
       }
 
   pub react-ok : (s : Soft) (run : ℕ) (acts : List ActSpec) (n : NodeId) (input : Input) → Inv F s → MayInput (around s) n input → F.Ready run acts n (whole (s.seat n)) →
@@ -108,11 +108,11 @@ module _ (script : List ℕ → Tree) (turns : Turns) (F : NodeFacts) (laws : No
         nodes = put-all (λ k z. NodeOk F (around v) k z) n y s.seat (node-later (around s) (around v) l n y ok) (λ k. node-later (around s) (around v) l k (s.seat k) (inv.nodes k));
         sent = subst (λ e. Every (SentOk F e (λ k. (put n y s.seat k).gated)) e) (sym sent)
             (every-map (SentOk F s.ever (λ k. (put n y s.seat k).gated)) (SentOk F (s.ever ++ new) (λ k. (put n y s.seat k).gated))
-              (λ p q. laws.more_posts s.ever new p.from (put n y s.seat p.from).gated (record { to = p.to; message = p.message }) q)
-              (s.ever ++ new)
-              (every-append (SentOk F s.ever (λ k. (put n y s.seat k).gated)) s.ever new
-                (every-map (SentOk F s.ever (λ k. (s.seat k).gated)) (SentOk F s.ever (λ k. (put n y s.seat k).gated)) old s.ever inv.sent)
-                news));
+            (λ p q. laws.more_posts s.ever new p.from (put n y s.seat p.from).gated (record { to = p.to; message = p.message }) q)
+            (s.ever ++ new)
+            (every-append (SentOk F s.ever (λ k. (put n y s.seat k).gated)) s.ever new
+            (every-map (SentOk F s.ever (λ k. (s.seat k).gated)) (SentOk F s.ever (λ k. (put n y s.seat k).gated)) old s.ever inv.sent)
+            news));
       }
 
   gate-ok : (w : Around) (n : NodeId) (x : Seat) → NodeOk F w n x → NodeOk F w n (gate x)
@@ -133,10 +133,10 @@ module _ (script : List ℕ → Tree) (turns : Turns) (F : NodeFacts) (laws : No
       let y : Seat = gate (s.seat n) in
       let At : Post → Type 0 = SentOk F s.ever (λ k. (put n y s.seat k).gated) in
       every-of-map At (post n) (filter which (s.seat n).outs)
-        (every-map (F.PostOk s.ever n (whole (s.seat n))) (λ out. At (post n out))
-          (λ out p. subst (λ (z : Seat). F.PostOk s.ever n z.gated (record { to = out.to; message = out.message })) (sym (put-here n y s.seat)) p)
-          (filter which (s.seat n).outs)
-          (every-filter (F.PostOk s.ever n (whole (s.seat n))) which (s.seat n).outs (inv.nodes n).outs))
+      (every-map (F.PostOk s.ever n (whole (s.seat n))) (λ out. At (post n out))
+      (λ out p. subst (λ (z : Seat). F.PostOk s.ever n z.gated (record { to = out.to; message = out.message })) (sym (put-here n y s.seat)) p)
+      (filter which (s.seat n).outs)
+      (every-filter (F.PostOk s.ever n (whole (s.seat n))) which (s.seat n).outs (inv.nodes n).outs))
 
   inv-tick : (s : Soft) (t : ℕ) → Inv F s → Inv F (record { seat = s.seat; ever = s.ever; ticks = t ∷ s.ticks })
   inv-tick s t inv =

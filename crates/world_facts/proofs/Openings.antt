@@ -137,12 +137,14 @@ module _ (script : List ℕ → Tree) (turns : Turns) (F : NodeFacts) (laws : No
     where
       go : (c : AllCrashed kept 0 turns F b.opened r.events) (n : NodeId) (t : Bool) → is_some (opened_log b.opened n) ≡ t →
           (((happened turns c.events).seat n).gated ≡ reverse (after n)) × (((happened turns c.events).seat n).fresh ≡ [])
-      go c n true e =
-          (ap (λ (x : Seat). x.gated) (c.crashed.inside n e) ∙ ap (kept_log (kept n)) (r.models.lives n (r.models.known n ∙ e)) ∙ kept-left (kept n) (w.life n) ∙ ap reverse (sym (inside n e)),
-           ap (λ (x : Seat). x.fresh) (c.crashed.inside n e))
-      go c n false e =
-          (ap (λ (x : Seat). x.gated) (c.crashed.outside n e) ∙ (r.models.outside n (r.models.known n ∙ e)).0 ∙ ap reverse (sym (outside n e)),
-           ap (λ (x : Seat). x.fresh) (c.crashed.outside n e) ∙ (r.models.outside n (r.models.known n ∙ e)).1)
+      go c n true e = (
+        ap (λ (x : Seat). x.gated) (c.crashed.inside n e) ∙ ap (kept_log (kept n)) (r.models.lives n (r.models.known n ∙ e)) ∙ kept-left (kept n) (w.life n) ∙ ap reverse (sym (inside n e)),
+        ap (λ (x : Seat). x.fresh) (c.crashed.inside n e),
+      )
+      go c n false e = (
+        ap (λ (x : Seat). x.gated) (c.crashed.outside n e) ∙ (r.models.outside n (r.models.known n ∙ e)).0 ∙ ap reverse (sym (outside n e)),
+        ap (λ (x : Seat). x.fresh) (c.crashed.outside n e) ∙ (r.models.outside n (r.models.known n ∙ e)).1,
+      )
 
   left-nothing : Left turns F (λ n. [])
   left-nothing = record { events = []; may = tt; gated = λ n. refl; fresh = λ n. refl }
@@ -154,10 +156,10 @@ module _ (script : List ℕ → Tree) (turns : Turns) (F : NodeFacts) (laws : No
       let w : World = walk (base_of script c.plan c.trace) c.trace.entries in
       let r : Refines turns F (base_of script c.plan c.trace) (logs_after script cs) (walk (base_of script c.plan c.trace) c.trace.entries) =
       walk-refines script turns F laws (base_of script c.plan c.trace) (logs_after script cs) refl (fates_of c.trace.sent) (start_world (base_of script c.plan c.trace)) c.trace.entries
-        (opens (base_of script c.plan c.trace) (logs_after script cs) refl (past-left cs h.0) h.1.agrees h.1.legal.ready) h.1.legal.meets in
+      (opens (base_of script c.plan c.trace) (logs_after script cs) refl (past-left cs h.0) h.1.agrees h.1.legal.ready) h.1.legal.meets in
       ends (base_of script c.plan c.trace) (logs_after script cs) (walk (base_of script c.plan c.trace) c.trace.entries) c.kept (logs_after script (c ∷ cs)) r
-        (λ n e. ap (λ t. if t then log_left script c n else logs_after script cs n) (sym (h.1.legal.nodes.just n) ∙ e))
-        (λ n e. ap (λ t. if t then log_left script c n else logs_after script cs n) (sym (h.1.legal.nodes.just n) ∙ e))
+      (λ n e. ap (λ t. if t then log_left script c n else logs_after script cs n) (sym (h.1.legal.nodes.just n) ∙ e))
+      (λ n e. ap (λ t. if t then log_left script c n else logs_after script cs n) (sym (h.1.legal.nodes.just n) ∙ e))
 
   -- a trace over logs with a past
   refined : (b : Base) (fates : List Fate) (logs : NodeId → List Effect) (es : List Entry) → b.script ≡ script → HasPast script logs → Agrees b.opened logs → AllReady b →
@@ -189,12 +191,12 @@ module _ (script : List ℕ → Tree) (turns : Turns) (F : NodeFacts) (laws : No
             (subst (Each (F.Proof (around s) n)) (same n) (each_below (F.Proof (around s) n) (s.seat n).gated (s.seat n).fresh (inv.nodes n).proofs));
         sent_ok = subst (λ e. Every (SentOk F e (λ k. reverse (logs_at logs w k))) e) r.models.ever
             (every-map (SentOk F s.ever (λ n. (s.seat n).gated)) (SentOk F s.ever (λ k. reverse (logs_at logs w k)))
-              (λ p q. subst (λ g. F.PostOk s.ever p.from g (record { to = p.to; message = p.message })) (same p.from) q) s.ever inv.sent);
+            (λ p q. subst (λ g. F.PostOk s.ever p.from g (record { to = p.to; message = p.message })) (same p.from) q) s.ever inv.sent);
         ready = λ n e.
             let known : (w.flags n).known ≡ true = r.models.known n ∙ e in
             subst (F.Ready b.run b.acts n) (same n)
             (ready-gated script turns F laws b.run b.acts n (s.seat n).gated (s.seat n).fresh (inv.nodes n).tidy (inv.nodes n).grew
-              (subst (λ x. F.Ready b.run b.acts n (whole x)) (sym (r.models.lives n known)) (r.models.ready n known)));
+            (subst (λ x. F.Ready b.run b.acts n (whole x)) (sym (r.models.lives n known)) (r.models.ready n known)));
       }
     where
       go : (n : NodeId) (t : Bool) → (w.flags n).known ≡ t → ((happened turns r.events).seat n).gated ≡ reverse (logs_at logs w n)
@@ -206,6 +208,6 @@ module _ (script : List ℕ → Tree) (turns : Turns) (F : NodeFacts) (laws : No
       Legal script plan asked t → t.entries ≡ front ++ rest → Facts F (base_of script plan t) (logs_at logs (walk (base_of script plan t) front)) (sent_by (walk (base_of script plan t) front))
   legal-facts plan asked t logs front rest past agrees legal here =
       facts-of (base_of script plan t) logs (walk (base_of script plan t) front)
-        (refined (base_of script plan t) (fates_of t.sent) logs front refl past agrees legal.ready
-          (meets-front (base_of script plan t) (fates_of t.sent) (start_world (base_of script plan t)) front rest
-            (subst (Meets (base_of script plan t) (fates_of t.sent) (start_world (base_of script plan t))) here legal.meets)))
+      (refined (base_of script plan t) (fates_of t.sent) logs front refl past agrees legal.ready
+      (meets-front (base_of script plan t) (fates_of t.sent) (start_world (base_of script plan t)) front rest
+      (subst (Meets (base_of script plan t) (fates_of t.sent) (start_world (base_of script plan t))) here legal.meets)))

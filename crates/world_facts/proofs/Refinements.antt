@@ -154,7 +154,7 @@ module _ (script : List ℕ → Tree) (turns : Turns) (F : NodeFacts) (laws : No
           models = one-changed s w (entry.Crash n kept) n (crash kept b.start (s.seat n)) s.ever [] r.models (λ k. refl) known
               (ap (crash kept b.start) at ∙ crashed-seat b.start kept (w.life n))
               (ready-cut b.run b.acts n (s.seat n).gated (length (s.seat n).fresh - kept) (s.seat n).fresh (inv.nodes n).tidy (inv.nodes n).grew
-                (subst (λ x. F.Ready b.run b.acts n (whole x)) (sym at) (r.models.ready n known)))
+              (subst (λ x. F.Ready b.run b.acts n (whole x)) (sym at) (r.models.ready n known)))
               (sym (append-nil s.ever)) (sym (append-nil (sent_by w))) refl;
         }
 
