@@ -16,3 +16,6 @@ mod resume_faults;
 pub use brokers::Broker;
 pub use heards::Heard;
 pub use resume_faults::ResumeFault;
+
+#[cfg(test)]
+mod tests;
