@@ -11,9 +11,11 @@ pub mod Main
 pub mod Own
 pub mod Premises
 pub mod Puts
+pub mod RefusedRuns
 pub mod RunFacts
 pub mod Settled
 pub mod Stamps
 pub mod Talking
 pub mod Times
 pub mod Traces
+pub mod WorkedRuns
