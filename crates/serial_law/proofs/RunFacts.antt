@@ -125,12 +125,12 @@ may-commit (Some (outcome.LaterRead o e)) h = absurd h
 may-commit (Some (outcome.LaterVersion o x)) h = absurd h
 may-commit (Some (outcome.Spent c)) h = absurd h
 
-module _ (script : List ℕ → Tree) (b : Base) (plan : Plan) (logs : NodeId → List Effect) (sent : List Post)
+module _ (script : List ℕ → Tree) (b : Base) (plan : Plan) (logs : NodeId → List Effect) (past sent : List Post) (May : ℕ → Type 0)
     (same_run : b.run ≡ plan.run) (same_acts : b.acts ≡ plan.acts) (whole : IsWhole plan) (scripted : Scripted script plan.acts)
     (opened : (k : ℕ) → 1 ≤ k → k ≤ plan.brokers → is_some (opened_log b.opened (broker k)) ≡ true)
-    (f : refines.Facts (node_facts script) b logs sent) where
+    (f : refines.Facts (node_facts script) b logs past sent May) where
   abbrev ever : List Post
-  ever = f.past ++ sent
+  ever = past ++ sent
 
   abbrev log : NodeId → List Effect
   log n = reverse (logs n)
@@ -339,33 +339,33 @@ module _ (script : List ℕ → Tree) (b : Base) (plan : Plan) (logs : NodeId �
         let here : asks (after (script m.try.task.script) m.try.answers) ≡ Some (ToWrite p w) = asked-here mine-try m.try.answers [] (ToWrite p w) (sym (append-nil m.try.answers)) said in
         (same-write p o w v (sym (some-asks _ (ToWrite p w) here) ∙ e), here)
 
-    refused-read : (o : ObjectId) (e : TimeParts) → ((v : Value) × (stop (script m.try.task.script) m.try.answers ≡ Asks (ToWrite o v))) → Posted (message.LaterRead time e) → HasCause run mine-try (outcome.LaterRead o e)
+    refused-read : (o : ObjectId) (e : TimeParts) → ((v : Value) × (stop (script m.try.task.script) m.try.answers ≡ Asks (ToWrite o v))) → Posted (message.LaterRead time e) → HasCause run May mine-try (outcome.LaterRead o e)
     refused-read o e asks-it (Broker, i, to, h) = absurd h
     refused-read o e asks-it (Repository, i, to, h) =
         let r = asked-now i o h.0 asks-it.0 h.1 h.2 asks-it.1 in
-        subst (λ x. HasCause run mine-try (outcome.LaterRead x e)) r.0
+        subst (λ x. HasCause run May mine-try (outcome.LaterRead x e)) r.0
         (subst (λ j. (v : Value) × (asks (after (script m.try.task.script) m.try.answers) ≡ Some (ToWrite h.0 v)) × (lt time e ≡ true) × Has (effect.Stretch h.0 e) (log (repository j)) × repositories.Once (λ l. write_step (marks l) h.0 time v ≡ write.LaterRead e) (log (repository j))) (sym h.2.1)
         (h.1, r.1, h.3, once-read (log (repository i)) h.0 time e h.1 h.4, h.4))
 
-    refused-version : (o : ObjectId) (x : TimeParts) → ((v : Value) × (stop (script m.try.task.script) m.try.answers ≡ Asks (ToWrite o v))) → Posted (message.LaterVersion time x) → HasCause run mine-try (outcome.LaterVersion o x)
+    refused-version : (o : ObjectId) (x : TimeParts) → ((v : Value) × (stop (script m.try.task.script) m.try.answers ≡ Asks (ToWrite o v))) → Posted (message.LaterVersion time x) → HasCause run May mine-try (outcome.LaterVersion o x)
     refused-version o x asks-it (Broker, i, to, h) = absurd h
     refused-version o x asks-it (Repository, i, to, h) =
         let r = asked-now i o h.0 asks-it.0 h.1 h.2 asks-it.1 in
-        subst (λ y. HasCause run mine-try (outcome.LaterVersion y x)) r.0
+        subst (λ y. HasCause run May mine-try (outcome.LaterVersion y x)) r.0
         (subst (λ j. (v : Value) × (asks (after (script m.try.task.script) m.try.answers) ≡ Some (ToWrite h.0 v)) × (lt x time ≡ false) × ((w : Value) × Has (effect.Put h.0 x w) (log (repository j))) × repositories.Once (λ l. write_step (marks l) h.0 time v ≡ write.LaterVersion x) (log (repository j))) (sym h.2.1)
         (h.1, r.1, h.3, once-version (log (repository i)) h.0 time x h.1 h.4, h.4))
 
-    try-cause : (o : Outcome) → m.try.end ≡ Some o → HasCause run mine-try o
+    try-cause : (o : Outcome) → m.try.end ≡ Some o → HasCause run May mine-try o
     try-cause outcome.Committed e = decided-said m.try.stamp decision.Committed (posted _ (came m.number _ ((its-proof a m).ends outcome.Committed e)))
     try-cause (outcome.Withdrawn l) e = talked-stop (script m.try.task.script) m.try.answers ∙ (its-play a m).ends (outcome.Withdrawn l) e
     try-cause (outcome.Failed l k) e = talked-stop (script m.try.task.script) m.try.answers ∙ (its-play a m).ends (outcome.Failed l k) e
     try-cause (outcome.Expired d n) e =
         let decided = decided-said m.try.stamp (decision.Expired d n) (posted _ (came m.number _ ((its-proof a m).ends (outcome.Expired d n) e))) in
         let c = decide-cause m.try.stamp.home (log (repository m.try.stamp.home)) m.try.stamp (decision.Expired d n) (f.tidy (repository m.try.stamp.home)) decided in
-        (decided, subst (λ x. Has (effect.Begin m.try.stamp x) (log (repository m.try.stamp.home))) (sym c.2.0) c.1, subst (λ x. x ≤ n) (sym c.2.0) c.2.1)
+        (decided, subst (λ x. Has (effect.Begin m.try.stamp x) (log (repository m.try.stamp.home))) (sym c.2.0) c.1, subst (λ x. x ≤ n) (sym c.2.0) c.2.1, f.ticked n (caused m.try.stamp.home (effect.Decide m.try.stamp (decision.Expired d n)) decided))
     try-cause (outcome.LaterRead o x) e = refused-read o x ((its-play a m).ends (outcome.LaterRead o x) e) (posted _ (came m.number _ ((its-proof a m).ends (outcome.LaterRead o x) e)))
     try-cause (outcome.LaterVersion o x) e = refused-version o x ((its-play a m).ends (outcome.LaterVersion o x) e) (posted _ (came m.number _ ((its-proof a m).ends (outcome.LaterVersion o x) e)))
     try-cause (outcome.Spent c) e = absurd ((its-play a m).ends (outcome.Spent c) e)
 
-  pub run-causes : Causes run
-  run-causes a o has = moved (λ x. x.ended ≡ Some o → HasCause run x o) a (mine a has) (try-cause a (mine a has) o)
+  pub run-causes : Causes run May
+  run-causes a o has = moved (λ x. x.ended ≡ Some o → HasCause run May x o) a (mine a has) (try-cause a (mine a has) o)

@@ -21,22 +21,22 @@ use Rattle.world_core.specs.Walks.{opened_log}
 use Rattle.world_core.specs.Legal.{base_of}
 use Rattle.world_facts.specs.NodeRules.{kind_post, node_facts}
 use Rattle.world_facts.specs.Refines as refines
-use Rattle.world_facts.specs.Refines.{logs_at}
+use Rattle.world_facts.specs.Refines.{logs_at, past_sent, Ticked}
 use Rattle.world_facts.proofs.NodeLaws.{node-laws}
 use Rattle.world_facts.proofs.Openings.{legal-facts}
 use Rattle.world_facts.specs.NodeRules.{node_turns}
 use Rattle.serial_law.specs.Facts.{Facts}
-use Rattle.serial_law.specs.Runs.{IsPlace, world_at, log_at, run_at, sent_at, Acknowledges}
+use Rattle.serial_law.specs.Runs.{IsPlace, world_at, log_at, run_at, sent_at, all_sent, Acknowledges}
 use Rattle.serial_law.proofs.RunFacts.{run-facts, run-causes}
 use Rattle.serial_law.specs.Causes.{Causes}
 
 module _ (script : List ℕ → Tree) (plan : Plan) (asked : List Asked) (t : Trace) (logs : NodeId → List Effect) (front : List Entry) (p : IsPlace script plan asked t logs front) where
   -- all that holds of logs and messages there
-  pub place-facts : refines.Facts (node_facts script) (base_of script plan t) (logs_at logs (world_at script plan t front)) (sent_at script plan t front)
+  pub place-facts : refines.Facts (node_facts script) (base_of script plan t) (logs_at logs (world_at script plan t front)) (past_sent script p.past.0) (sent_at script plan t front) (Ticked p.past.0 front)
   place-facts = legal-facts script (node_turns script) (node_facts script) (node-laws script) plan asked t logs front p.rest p.past p.agrees p.legal p.here
 
   abbrev ever : List Post
-  ever = place-facts.past ++ sent_at script plan t front
+  ever = all_sent script p.past.0 plan t front
 
   brokers-opened : (k : ℕ) → 1 ≤ k → k ≤ plan.brokers → is_some (opened_log t.opened (broker k)) ≡ true
   brokers-opened k low high = p.legal.nodes.just (broker k) ∙ and-both (nat_le 1 k) (nat_le k plan.brokers) (le 1 k low) (le k plan.brokers high)
@@ -46,7 +46,7 @@ module _ (script : List ℕ → Tree) (plan : Plan) (asked : List Asked) (t : Tr
 
   pub place-serial-facts : Facts (run_at script plan t logs front) ever
   place-serial-facts =
-      run-facts script (base_of script plan t) plan (logs_at logs (world_at script plan t front)) (sent_at script plan t front) refl refl p.whole p.legal.scripted brokers-opened place-facts
+      run-facts script (base_of script plan t) plan (logs_at logs (world_at script plan t front)) (past_sent script p.past.0) (sent_at script plan t front) (Ticked p.past.0 front) refl refl p.whole p.legal.scripted brokers-opened place-facts
 
   -- what a repository, or a broker, sent
   acknowledges : (k : NodeKind) (i : ℕ) (log : List Effect) (to : NodeId) (m : Message) → kind_post script ever k i log (record { to = to; message = m }) →
@@ -80,10 +80,9 @@ module _ (script : List ℕ → Tree) (plan : Plan) (asked : List Asked) (t : Tr
   acknowledges Broker i log to (message.Ended x) h = absurd h
   acknowledges Broker i log to (message.Ask s) h = absurd h
 
-  pub place-acknowledges : (past : List Post) × ((q : Post) → Has q (past ++ sent_at script plan t front) → Acknowledges (past ++ sent_at script plan t front) q.from (log_at script plan t logs front q.from) q.message)
-  place-acknowledges =
-      (place-facts.past, λ q h. acknowledges q.from.kind q.from.number (log_at script plan t logs front q.from) q.to q.message (every-has _ ever q place-facts.sent_ok h))
+  pub place-acknowledges : (q : Post) → Has q ever → Acknowledges ever q.from (log_at script plan t logs front q.from) q.message
+  place-acknowledges q h = acknowledges q.from.kind q.from.number (log_at script plan t logs front q.from) q.to q.message (every-has _ ever q place-facts.sent_ok h)
 
-  pub place-causes : Causes (run_at script plan t logs front)
+  pub place-causes : Causes (run_at script plan t logs front) (Ticked p.past.0 front)
   place-causes =
-      run-causes script (base_of script plan t) plan (logs_at logs (world_at script plan t front)) (sent_at script plan t front) refl refl p.whole p.legal.scripted brokers-opened place-facts
+      run-causes script (base_of script plan t) plan (logs_at logs (world_at script plan t front)) (past_sent script p.past.0) (sent_at script plan t front) (Ticked p.past.0 front) refl refl p.whole p.legal.scripted brokers-opened place-facts

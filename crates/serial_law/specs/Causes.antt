@@ -33,20 +33,20 @@ abbrev pub Answered : RunLogs → Try → ObjectId → Value → WriteStep → T
 Answered k try o v step = Once (λ log. write_step (marks log) o (now try) v ≡ step) (log_of k o.repository)
 
 -- A committed attempt was decided so at its home. One that was withdrawn or failed came to that end by its script. One that
--- expired was decided so at its home, with the deadline that it began with, and not before. A write was refused where the object was
+-- expired was decided so at its home, with the deadline that it began with, and not before, at a moment of which `May` holds. A write was refused where the object was
 -- read above it, up to the time that is shown, or has a version that isn't below it.
-abbrev pub HasCause : RunLogs → Try → Outcome → Type 0
-HasCause k try outcome.Committed = Has (effect.Decide try.stamp decision.Committed) (log_of k try.stamp.home)
-HasCause k try (outcome.Withdrawn l) = (talked try.script try.answers).stop ≡ Over (ending.Withdrawn l)
-HasCause k try (outcome.Failed l kind) = (talked try.script try.answers).stop ≡ Over (ending.Failed l kind)
-HasCause k try (outcome.Expired d m) =
-    Has (effect.Decide try.stamp (decision.Expired d m)) (log_of k try.stamp.home) × Has (effect.Begin try.stamp d) (log_of k try.stamp.home) × (d ≤ m)
-HasCause k try (outcome.LaterRead o e) =
+abbrev pub HasCause : RunLogs → (ℕ → Type 0) → Try → Outcome → Type 0
+HasCause k May try outcome.Committed = Has (effect.Decide try.stamp decision.Committed) (log_of k try.stamp.home)
+HasCause k May try (outcome.Withdrawn l) = (talked try.script try.answers).stop ≡ Over (ending.Withdrawn l)
+HasCause k May try (outcome.Failed l kind) = (talked try.script try.answers).stop ≡ Over (ending.Failed l kind)
+HasCause k May try (outcome.Expired d m) =
+    Has (effect.Decide try.stamp (decision.Expired d m)) (log_of k try.stamp.home) × Has (effect.Begin try.stamp d) (log_of k try.stamp.home) × (d ≤ m) × May m
+HasCause k May try (outcome.LaterRead o e) =
     (v : Value) × Writes try o v × (lt (now try) e ≡ true) × Has (effect.Stretch o e) (log_of k o.repository) × Answered k try o v (write.LaterRead e)
-HasCause k try (outcome.LaterVersion o x) =
+HasCause k May try (outcome.LaterVersion o x) =
     (v : Value) × Writes try o v × (lt x (now try) ≡ false) × ((w : Value) × Has (effect.Put o x w) (log_of k o.repository)) × Answered k try o v (write.LaterVersion x)
-HasCause k try (outcome.Spent c) = ⊥
+HasCause k May try (outcome.Spent c) = ⊥
 
 -- each End of the run has its cause
-abbrev pub Causes : RunLogs → Type 0
-Causes k = (try : Try) (o : Outcome) → Has try k.tries → try.ended ≡ Some o → HasCause k try o
+abbrev pub Causes : RunLogs → (ℕ → Type 0) → Type 0
+Causes k May = (try : Try) (o : Outcome) → Has try k.tries → try.ended ≡ Some o → HasCause k May try o

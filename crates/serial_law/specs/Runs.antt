@@ -23,8 +23,8 @@ use Rattle.world_core.specs.declared.entries.Entry.{Entry}
 use Rattle.world_core.specs.declared.traces.Trace.{Trace}
 use Rattle.world_core.specs.Walks.{World, walk, sent_by}
 use Rattle.world_core.specs.Legal.{Legal, base_of}
-use Rattle.world_core.specs.Pasts.{HasPast, Agrees}
-use Rattle.world_facts.specs.Refines.{logs_at}
+use Rattle.world_core.specs.Pasts.{Call, HasPast, Agrees}
+use Rattle.world_facts.specs.Refines.{logs_at, past_sent}
 use Rattle.serial_law.specs.Deeds.{Try, RunLogs}
 
 -- an attempt of a broker's book; `script` reads the texts of scripts
@@ -69,6 +69,10 @@ run_at script plan t logs front = run_of script plan (log_at script plan t logs 
 -- what was sent in the trace up to that place
 abbrev pub sent_at : (List ℕ → Tree) → Plan → Trace → List Entry → List Post
 sent_at script plan t front = sent_by (world_at script plan t front)
+
+-- all that was sent before that place, in the runs of the past and in the trace
+abbrev pub all_sent : (List ℕ → Tree) → List Call → Plan → Trace → List Entry → List Post
+all_sent script past plan t front = past_sent script past ++ sent_at script plan t front
 
 -- ---- acknowledgements
 

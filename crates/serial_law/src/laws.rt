@@ -10,10 +10,11 @@ ghost use Rattle.serial_model.specs.Questions.{Tree};
 ghost use Rattle.plan_form.specs.declared.plans.Plan.{Plan};
 ghost use Rattle.world_core.specs.declared.entries.Entry.{Entry};
 ghost use Rattle.world_core.specs.declared.traces.Trace.{Trace};
+ghost use Rattle.world_facts.specs.Refines.{Ticked};
 ghost use Rattle.serial_law.specs.Causes.{Causes};
 ghost use Rattle.serial_law.specs.Deeds.{RunLogs, before, finals};
 ghost use Rattle.serial_law.specs.Facts.{Facts};
-ghost use Rattle.serial_law.specs.Runs.{IsPlace, log_at, run_at, sent_at, Acknowledges};
+ghost use Rattle.serial_law.specs.Runs.{IsPlace, log_at, run_at, all_sent, Acknowledges};
 ghost use Rattle.serial_law.specs.Serial.{Serial, HoldsAll, HoldsBefore};
 
 /// Every attempt of a run reads, writes and ends as its script does alone, over the map after the
@@ -43,8 +44,8 @@ pub fn law_before()
 /// Whatever was sent before a place, in the trace or in the past, the log of its sender agrees with there.
 pub fn law_acknowledged()
     ensures { (script : List ℕ → Tree) (plan : Plan) (asked : List Asked) (t : Trace) (logs : NodeId → List Effect) (front : List Entry) →
-        IsPlace script plan asked t logs front →
-        (past : List Post) × ((p : Post) → Has p (past ++ sent_at script plan t front) → Acknowledges (past ++ sent_at script plan t front) p.from (log_at script plan t logs front p.from) p.message) }
+        (p : IsPlace script plan asked t logs front) → (q : Post) → Has q (all_sent script p.past.0 plan t front) →
+        Acknowledges (all_sent script p.past.0 plan t front) q.from (log_at script plan t logs front q.from) q.message }
 {}
 
 /// The facts of logs and messages that keep a run serial: stamps are decided once, at their homes, and
@@ -53,12 +54,13 @@ pub fn law_acknowledged()
 /// were asked for, and so were commits; homes and objects lie within the run.
 pub fn law_facts()
     ensures { (script : List ℕ → Tree) (plan : Plan) (asked : List Asked) (t : Trace) (logs : NodeId → List Effect) (front : List Entry) →
-        IsPlace script plan asked t logs front → (past : List Post) × Facts (run_at script plan t logs front) (past ++ sent_at script plan t front) }
+        (p : IsPlace script plan asked t logs front) → Facts (run_at script plan t logs front) (all_sent script p.past.0 plan t front) }
 {}
 
 /// Each End of an attempt of the run has its cause in the logs: a decision at its home, the end that its
-/// script came to, or a read or version above the write that was refused.
+/// script came to, or a read or version above the write that was refused. The moment of an expiry was
+/// ticked, in the trace before that place or in the past.
 pub fn law_causes()
     ensures { (script : List ℕ → Tree) (plan : Plan) (asked : List Asked) (t : Trace) (logs : NodeId → List Effect) (front : List Entry) →
-        IsPlace script plan asked t logs front → Causes (run_at script plan t logs front) }
+        (p : IsPlace script plan asked t logs front) → Causes (run_at script plan t logs front) (Ticked p.past.0 front) }
 {}

@@ -1,5 +1,5 @@
 -- Runs begin and end, one after another; and the facts of a legal trace over logs with a past.
-use Rattle.std.proofs.Common.{◌≡◌, ℕ, zero, suc, ◌-◌, Bool, true, false, List, [], ◌∷◌, ◌++◌, drop, take, length, reverse, if◌then◌else◌, refl, sym, ◌∙◌, ap, subst, Option, Some, None, is_some}
+use Rattle.std.proofs.Common.{◌≡◌, ℕ, zero, suc, ◌-◌, Bool, true, false, List, [], ◌∷◌, ◌++◌, drop, take, length, reverse, if◌then◌else◌, refl, sym, ◌∙◌, ap, subst, inl, inr, Option, Some, None, is_some}
 use Rattle.std.specs.Option.{unwrap_or}
 use Rattle.std.proofs.lemmas.List.{append-nil, reverse-append}
 use Rattle.pseudo_time.specs.Lists.{Every, Has}
@@ -28,7 +28,7 @@ use Rattle.world_core.proofs.Rules.{meets-front}
 use Rattle.world_facts.specs.Rules.{Around, Later, NodeFacts, Turns, NodeLaws}
 use Rattle.world_facts.specs.Soft.{Seat, whole, put, crash, keep, kept_log, opened_seat, Soft, around, Event, happened, Mays, SentOk, Inv}
 use Rattle.world_facts.specs.Soft.Event.{Crash}
-use Rattle.world_facts.specs.Refines.{seat_of, Models, Refines, Left, logs_at, Facts}
+use Rattle.world_facts.specs.Refines.{seat_of, past_sent, PastTick, Ticked, Models, Refines, Left, logs_at, Facts}
 use Rattle.world_facts.proofs.Growths.{each-map, drop-none, none-has, length-reverse, take-back}
 use Rattle.world_facts.proofs.Keeps.{inv-reached}
 use Rattle.world_facts.proofs.Refinements.{ready-gated, walk-refines}
@@ -77,9 +77,10 @@ module _ (kept : NodeId → ℕ) (start : ℕ) where
       pub may : Mays F turns events
       pub crashed : Crashed os (happened turns es).seat (happened turns events).seat
       pub ever : (happened turns events).ever ≡ (happened turns es).ever
+      pub ticks : (happened turns events).ticks ≡ (happened turns es).ticks
 
     pub crash-all : (os : List Opened) (es : List Event) → Mays F turns es → AllCrashed os es
-    crash-all [] es may = record { events = es; may = may; crashed = record { inside = λ n e. absurd (cc e); outside = λ n e. refl }; ever = refl }
+    crash-all [] es may = record { events = es; may = may; crashed = record { inside = λ n e. absurd (cc e); outside = λ n e. refl }; ever = refl; ticks = refl }
     crash-all (o ∷ os) es may =
         let r : AllCrashed os es = crash-all os es may in
         record {
@@ -87,6 +88,7 @@ module _ (kept : NodeId → ℕ) (start : ℕ) where
           may = (r.may, tt);
           crashed = crash-one o os (happened turns es).seat (happened turns r.events).seat r.crashed;
           ever = r.ever;
+          ticks = r.ticks;
         }
 
 found-log : (logs : NodeId → List Effect) (n : NodeId) (found : Option (List Effect)) → ((log : List Effect) → found ≡ Some log → log ≡ logs n) → is_some found ≡ true → unwrap_or found [] ≡ logs n
@@ -106,8 +108,9 @@ module _ (script : List ℕ → Tree) (turns : Turns) (F : NodeFacts) (laws : No
       go (Some log) q e = laws.ready_is b.run b.acts n log (subst (λ z. is_ready z b.run b.acts n log ≡ true) same (ready n log q))
 
   -- a run begins
-  opens : (b : Base) (logs : NodeId → List Effect) → b.script ≡ script → Left turns F logs → Agrees b.opened logs → AllReady b → Refines turns F b logs (start_world b)
-  opens b logs same left agrees ready =
+  opens : (b : Base) (logs : NodeId → List Effect) (old : List Post) (Before May : ℕ → Type 0) → ((t : ℕ) → Before t → May t) → b.script ≡ script → Left turns F logs old Before →
+      Agrees b.opened logs → AllReady b → Refines turns F b logs old May (start_world b)
+  opens b logs sent Before May wider same left agrees ready =
       let c : AllCrashed (λ n. 0) b.start turns F b.opened left.events = crash-all (λ n. 0) b.start turns F b.opened left.events left.may in
       let old : NodeId → Seat = (happened turns left.events).seat in
       let is : (n : NodeId) → kept_log 0 ((happened turns left.events).seat n) ≡ reverse (logs n) = λ n. kept-all 0 ((happened turns left.events).seat n) (left.fresh n) ∙ left.gated n in
@@ -120,20 +123,27 @@ module _ (script : List ℕ → Tree) (turns : Turns) (F : NodeFacts) (laws : No
           lives = λ n e. c.crashed.inside n e ∙ ap (λ l. opened_seat l b.start) (is n ∙ ap reverse (sym (found-log logs n (opened_log b.opened n) (agrees n) e)));
           outside = λ n e. (ap (λ (x : Seat). x.gated) (c.crashed.outside n e) ∙ left.gated n, ap (λ (x : Seat). x.fresh) (c.crashed.outside n e) ∙ left.fresh n);
           unknown = λ n e. no-log (opened_log b.opened n) e;
-          past = (happened turns c.events).ever;
-          ever = sym (append-nil (happened turns c.events).ever);
+          ever = c.ever ∙ left.ever ∙ sym (append-nil sent);
           ticks = λ t e. absurd (cc e);
+          ticked = λ t h. wider t (left.ticked t (subst (Has t) c.ticks h));
           ready = λ n e. ready-start b same ready n e;
         };
       }
 
   -- a run ends
-  ends : (b : Base) (logs : NodeId → List Effect) (w : World) (kept : NodeId → ℕ) (after : NodeId → List Effect) → Refines turns F b logs w →
+  ends : (b : Base) (logs : NodeId → List Effect) (old : List Post) (May : ℕ → Type 0) (w : World) (kept : NodeId → ℕ) (after : NodeId → List Effect) → Refines turns F b logs old May w →
       ((n : NodeId) → is_some (opened_log b.opened n) ≡ true → after n ≡ (w.life n).gated ++ take (kept n) (w.life n).fresh) →
-      ((n : NodeId) → is_some (opened_log b.opened n) ≡ false → after n ≡ logs n) → Left turns F after
-  ends b logs w kept after r inside outside =
+      ((n : NodeId) → is_some (opened_log b.opened n) ≡ false → after n ≡ logs n) → Left turns F after (old ++ sent_by w) May
+  ends b logs old May w kept after r inside outside =
       let c : AllCrashed kept 0 turns F b.opened r.events = crash-all kept 0 turns F b.opened r.events r.may in
-      record { events = c.events; may = c.may; gated = λ n. (go c n (is_some (opened_log b.opened n)) refl).0; fresh = λ n. (go c n (is_some (opened_log b.opened n)) refl).1 }
+      record {
+        events = c.events;
+        may = c.may;
+        gated = λ n. (go c n (is_some (opened_log b.opened n)) refl).0;
+        fresh = λ n. (go c n (is_some (opened_log b.opened n)) refl).1;
+        ever = c.ever ∙ r.models.ever;
+        ticked = λ t h. r.models.ticked t (subst (Has t) c.ticks h);
+      }
     where
       go : (c : AllCrashed kept 0 turns F b.opened r.events) (n : NodeId) (t : Bool) → is_some (opened_log b.opened n) ≡ t →
           (((happened turns c.events).seat n).gated ≡ reverse (after n)) × (((happened turns c.events).seat n).fresh ≡ [])
@@ -146,46 +156,48 @@ module _ (script : List ℕ → Tree) (turns : Turns) (F : NodeFacts) (laws : No
         ap (λ (x : Seat). x.fresh) (c.crashed.outside n e) ∙ (r.models.outside n (r.models.known n ∙ e)).1,
       )
 
-  left-nothing : Left turns F (λ n. [])
-  left-nothing = record { events = []; may = tt; gated = λ n. refl; fresh = λ n. refl }
+  left-nothing : Left turns F (λ n. []) [] (PastTick [])
+  left-nothing = record { events = []; may = tt; gated = λ n. refl; fresh = λ n. refl; ever = refl; ticked = λ t h. absurd h }
 
-  past-left : (cs : List Call) → AreCalls script cs → Left turns F (logs_after script cs)
+  past-left : (cs : List Call) → AreCalls script cs → Left turns F (logs_after script cs) (past_sent script cs) (PastTick cs)
   past-left [] h = left-nothing
   past-left (c ∷ cs) h =
       let b : Base = base_of script c.plan c.trace in
-      let w : World = walk (base_of script c.plan c.trace) c.trace.entries in
-      let r : Refines turns F (base_of script c.plan c.trace) (logs_after script cs) (walk (base_of script c.plan c.trace) c.trace.entries) =
-      walk-refines script turns F laws (base_of script c.plan c.trace) (logs_after script cs) refl (fates_of c.trace.sent) (start_world (base_of script c.plan c.trace)) c.trace.entries
-      (opens (base_of script c.plan c.trace) (logs_after script cs) refl (past-left cs h.0) h.1.agrees h.1.legal.ready) h.1.legal.meets in
-      ends (base_of script c.plan c.trace) (logs_after script cs) (walk (base_of script c.plan c.trace) c.trace.entries) c.kept (logs_after script (c ∷ cs)) r
+      let r : Refines turns F (base_of script c.plan c.trace) (logs_after script cs) (past_sent script cs) (PastTick (c ∷ cs)) (walk (base_of script c.plan c.trace) c.trace.entries) =
+      walk-refines script turns F laws (base_of script c.plan c.trace) (logs_after script cs) (past_sent script cs) (PastTick (c ∷ cs)) refl (fates_of c.trace.sent)
+      (start_world (base_of script c.plan c.trace)) c.trace.entries (λ t k. inl k)
+      (opens (base_of script c.plan c.trace) (logs_after script cs) (past_sent script cs) (PastTick cs) (PastTick (c ∷ cs)) (λ t k. inr k) refl (past-left cs h.0) h.1.agrees h.1.legal.ready) h.1.legal.meets in
+      ends (base_of script c.plan c.trace) (logs_after script cs) (past_sent script cs) (PastTick (c ∷ cs)) (walk (base_of script c.plan c.trace) c.trace.entries) c.kept (logs_after script (c ∷ cs)) r
       (λ n e. ap (λ t. if t then log_left script c n else logs_after script cs n) (sym (h.1.legal.nodes.just n) ∙ e))
       (λ n e. ap (λ t. if t then log_left script c n else logs_after script cs n) (sym (h.1.legal.nodes.just n) ∙ e))
 
   -- a trace over logs with a past
-  refined : (b : Base) (fates : List Fate) (logs : NodeId → List Effect) (es : List Entry) → b.script ≡ script → HasPast script logs → Agrees b.opened logs → AllReady b →
-      Meets b fates (start_world b) es → Refines turns F b logs (walk b es)
+  refined : (b : Base) (fates : List Fate) (logs : NodeId → List Effect) (es : List Entry) → b.script ≡ script → (past : HasPast script logs) → Agrees b.opened logs → AllReady b →
+      Meets b fates (start_world b) es → Refines turns F b logs (past_sent script past.0) (Ticked past.0 es) (walk b es)
   refined b fates logs es same past agrees ready rules =
-      let l : Left turns F (logs_after script past.0) = past-left past.0 past.1 in
-      let left : Left turns F logs = record { events = l.events; may = l.may; gated = λ n. l.gated n ∙ ap reverse (sym (past.2 n)); fresh = l.fresh } in
-      walk-refines script turns F laws b logs same fates (start_world b) es (opens b logs same left agrees ready) rules
+      let l : Left turns F (logs_after script past.0) (past_sent script past.0) (PastTick past.0) = past-left past.0 past.1 in
+      let left : Left turns F logs (past_sent script past.0) (PastTick past.0) =
+      record { events = l.events; may = l.may; gated = λ n. l.gated n ∙ ap reverse (sym (past.2 n)); fresh = l.fresh; ever = l.ever; ticked = l.ticked } in
+      walk-refines script turns F laws b logs (past_sent script past.0) (Ticked past.0 es) same fates (start_world b) es (λ t h. inl h)
+      (opens b logs (past_sent script past.0) (PastTick past.0) (Ticked past.0 es) (λ t h. inr h) same left agrees ready) rules
 
   -- ---- the facts
 
-  facts-of : (b : Base) (logs : NodeId → List Effect) (w : World) → Refines turns F b logs w → Facts F b (logs_at logs w) (sent_by w)
-  facts-of b logs w r =
+  facts-of : (b : Base) (logs : NodeId → List Effect) (old : List Post) (May : ℕ → Type 0) (w : World) → Refines turns F b logs old May w → Facts F b (logs_at logs w) old (sent_by w) May
+  facts-of b logs old May w r =
       let s : Soft = happened turns r.events in
       let inv : Inv F s = inv-reached script turns F laws r.events r.may in
       let same : (n : NodeId) → (s.seat n).gated ≡ reverse (logs_at logs w n) = λ n. go n (w.flags n).known refl in
-      let v : Around = record { ever = r.models.past ++ sent_by w; logs = λ k. reverse (logs_at logs w k); ticks = s.ticks } in
-      let later : Later (around s) (record { ever = r.models.past ++ sent_by w; logs = λ k. reverse (logs_at logs w k); ticks = s.ticks }) = record {
+      let v : Around = record { ever = old ++ sent_by w; logs = λ k. reverse (logs_at logs w k); ticks = s.ticks } in
+      let later : Later (around s) (record { ever = old ++ sent_by w; logs = λ k. reverse (logs_at logs w k); ticks = s.ticks }) = record {
         more = [];
         ever = sym r.models.ever ∙ sym (append-nil s.ever);
         homes = λ t d c. subst (Has (effect.Decide t d)) (same (repository t.home)) c;
         ticks = λ t c. c;
       } in
       record {
-        past = r.models.past;
         ticks = s.ticks;
+        ticked = r.models.ticked;
         tidy = λ n. subst (F.Tidy n) (same n) (inv.nodes n).tidy;
         proofs = λ n. each-map (F.Proof (around s) n) (F.Proof v n) (λ log f. laws.later (around s) v n log f later) (reverse (logs_at logs w n))
             (subst (Each (F.Proof (around s) n)) (same n) (each_below (F.Proof (around s) n) (s.seat n).gated (s.seat n).fresh (inv.nodes n).proofs));
@@ -204,10 +216,11 @@ module _ (script : List ℕ → Tree) (turns : Turns) (F : NodeFacts) (laws : No
       go n false e = (r.models.outside n e).0 ∙ ap reverse (sym (ap (λ t. if t then (w.life n).gated else logs n) e))
 
   -- the facts of a legal trace over logs with a past, at its end and after each of its entries
-  pub legal-facts : (plan : Plan) (asked : List Asked) (t : Trace) (logs : NodeId → List Effect) (front rest : List Entry) → HasPast script logs → Agrees t.opened logs →
-      Legal script plan asked t → t.entries ≡ front ++ rest → Facts F (base_of script plan t) (logs_at logs (walk (base_of script plan t) front)) (sent_by (walk (base_of script plan t) front))
+  pub legal-facts : (plan : Plan) (asked : List Asked) (t : Trace) (logs : NodeId → List Effect) (front rest : List Entry) → (past : HasPast script logs) → Agrees t.opened logs →
+      Legal script plan asked t → t.entries ≡ front ++ rest →
+      Facts F (base_of script plan t) (logs_at logs (walk (base_of script plan t) front)) (past_sent script past.0) (sent_by (walk (base_of script plan t) front)) (Ticked past.0 front)
   legal-facts plan asked t logs front rest past agrees legal here =
-      facts-of (base_of script plan t) logs (walk (base_of script plan t) front)
+      facts-of (base_of script plan t) logs (past_sent script past.0) (Ticked past.0 front) (walk (base_of script plan t) front)
       (refined (base_of script plan t) (fates_of t.sent) logs front refl past agrees legal.ready
       (meets-front (base_of script plan t) (fates_of t.sent) (start_world (base_of script plan t)) front rest
       (subst (Meets (base_of script plan t) (fates_of t.sent) (start_world (base_of script plan t))) here legal.meets)))

@@ -65,30 +65,30 @@ module _ (script : List ℕ → Tree) (turns : Turns) (F : NodeFacts) (laws : No
   ready-gated run acts n log (f ∷ fresh) tidy grew ready =
       ready-gated run acts n log fresh tidy grew.0 (laws.ready_below run acts n (fresh ++ log) f (tidy-grown script turns F laws n log fresh grew.0 tidy) grew.1 ready)
 
-  module _ (b : Base) (others : NodeId → List Effect) (same : b.script ≡ script) where
+  module _ (b : Base) (others : NodeId → List Effect) (old : List Post) (May : ℕ → Type 0) (same : b.script ≡ script) where
     -- ---- one entry
 
     -- one node changed on both sides
-    one-changed : (s : Soft) (w : World) (e : Entry) (n : NodeId) (y : Seat) (ever new : List Post) → Models turns F b others s w → ((k : NodeId) → names k e ≡ same_node n k) →
+    one-changed : (s : Soft) (w : World) (e : Entry) (n : NodeId) (y : Seat) (ever new : List Post) → Models turns F b others old May s w → ((k : NodeId) → names k e ≡ same_node n k) →
         (w.flags n).known ≡ true → y ≡ seat_of (lives_on b w n (w.life n) e) → F.Ready b.run b.acts n (whole y) → ever ≡ s.ever ++ new →
-        sent_by (step b w e) ≡ sent_by w ++ new → last_after w.last e ≡ w.last → Models turns F b others (record { seat = put n y s.seat; ever = ever; ticks = s.ticks }) (step b w e)
+        sent_by (step b w e) ≡ sent_by w ++ new → last_after w.last e ≡ w.last → Models turns F b others old May (record { seat = put n y s.seat; ever = ever; ticks = s.ticks }) (step b w e)
     one-changed s w e n y ever new h own known is ready grew sends last = record {
       known = λ k. (step-known b w e k).0 ∙ h.known k;
       ups = λ k up. (step-known b w e k).0 ∙ h.ups k ((step-known b w e k).1 up);
       lives = λ k kn. (both-changed b w e n y s.seat (λ k x l. ((w.flags k).known ≡ true) → x ≡ seat_of l) own known (λ u. is) h.lives k) (sym (step-known b w e k).0 ∙ kn);
       outside = λ k kn. (put-all (λ k x. ((w.flags k).known ≡ false) → (x.gated ≡ reverse (others k)) × (x.fresh ≡ [])) n y s.seat (λ u. absurd (not-both (w.flags n).known known u)) h.outside k) (sym (step-known b w e k).0 ∙ kn);
       unknown = λ k kn. let u : (w.flags k).known ≡ false = sym (step-known b w e k).0 ∙ kn in ap (λ (l : Life). l.gated) (unknown-stays b w e k u) ∙ h.unknown k u;
-      past = h.past;
-      ever = grew ∙ ap (λ z. z ++ new) h.ever ∙ append_assoc h.past (sent_by w) new ∙ ap (λ z. h.past ++ z) (sym sends);
+      ever = grew ∙ ap (λ z. z ++ new) h.ever ∙ append_assoc old (sent_by w) new ∙ ap (λ z. old ++ z) (sym sends);
       ticks = λ t at. h.ticks t (sym last ∙ at);
+      ticked = h.ticked;
       ready = λ k kn. (both-changed b w e n y s.seat (λ k x l. ((w.flags k).known ≡ true) → F.Ready b.run b.acts k (whole (seat_of l))) own known
           (λ u. subst (λ x. F.Ready b.run b.acts n (whole x)) is ready) h.ready k) (sym (step-known b w e k).0 ∙ kn);
     }
 
     -- an input of a node that was opened
-    input-refines : (w : World) (e : Entry) (n : NodeId) (input : Input) (r : Refines turns F b others w) → ((k : NodeId) → names k e ≡ same_node n k) → (w.flags n).known ≡ true →
+    input-refines : (w : World) (e : Entry) (n : NodeId) (input : Input) (r : Refines turns F b others old May w) → ((k : NodeId) → names k e ≡ same_node n k) → (w.flags n).known ≡ true →
         MayInput (around (happened turns r.events)) n input → lives_on b w n (w.life n) e ≡ told b n (w.life n) input → sent_by (step b w e) ≡ sent_by w → last_after w.last e ≡ w.last →
-        Refines turns F b others (step b w e)
+        Refines turns F b others old May (step b w e)
     input-refines w e n input r own known may is sends last =
         let s : Soft = happened turns r.events in
         let inv : Inv F s = inv-reached script turns F laws r.events r.may in
@@ -103,30 +103,30 @@ module _ (script : List ℕ → Tree) (turns : Turns) (F : NodeFacts) (laws : No
         }
 
     -- a decision that stands in the trace stands in the other world
-    decided-there : (s : Soft) (w : World) (t : StampParts) (committed : Bool) → Models turns F b others s w → Stands w t committed → IsDecided (around s) t committed
+    decided-there : (s : Soft) (w : World) (t : StampParts) (committed : Bool) → Models turns F b others old May s w → Stands w t committed → IsDecided (around s) t committed
     decided-there s w t committed h d = (d.0, go (w.flags (repository t.home)).known refl, d.2)
       where
         go : (k : Bool) → (w.flags (repository t.home)).known ≡ k → Has (effect.Decide t d.0) (s.seat (repository t.home)).gated
         go true e = subst (λ (x : Seat). Has (effect.Decide t d.0) x.gated) (sym (h.lives (repository t.home) e)) (has-reverse (w.life (repository t.home)).gated (effect.Decide t d.0) d.1)
         go false e = absurd (none-has (w.life (repository t.home)).gated (effect.Decide t d.0) (h.unknown (repository t.home) e) d.1)
 
-    take-refines : (fates : List Fate) (w : World) (n : NodeId) (number : ℕ) → Refines turns F b others w → MayTake fates w n number → Refines turns F b others (step b w (entry.Take n number))
+    take-refines : (fates : List Fate) (w : World) (n : NodeId) (number : ℕ) → Refines turns F b others old May w → MayTake fates w n number → Refines turns F b others old May (step b w (entry.Take n number))
     take-refines fates w n number r rule =
         let p : Post = rule.sending.post in
         let here : Has p (sent_by w) = numbered-has (λ (x : Sending). x.post) w.sendings number rule.sending rule.sent in
         let may : Has (record { from = p.from; to = n; message = p.message }) (happened turns r.events).ever =
-        subst (Has (record { from = p.from; to = n; message = p.message })) (sym r.models.ever) (has-right r.models.past (sent_by w) _
+        subst (Has (record { from = p.from; to = n; message = p.message })) (sym r.models.ever) (has-right old (sent_by w) _
         (subst (λ to. Has (record { from = p.from; to = to; message = p.message }) (sent_by w)) rule.to here)) in
         input-refines w (entry.Take n number) n (Taking p.from p.message) r (λ k. refl) (r.models.ups n rule.up) may (ap (took b n (w.life n)) rule.sent) refl refl
 
-    hear-refines : (w : World) (n : NodeId) → Refines turns F b others w → MayHear w n → Refines turns F b others (step b w (entry.Hear n))
+    hear-refines : (w : World) (n : NodeId) → Refines turns F b others old May w → MayHear w n → Refines turns F b others old May (step b w (entry.Hear n))
     hear-refines w n r rule = go w.last refl
       where
-        go : (last : Option ℕ) → w.last ≡ last → Refines turns F b others (step b w (entry.Hear n))
+        go : (last : Option ℕ) → w.last ≡ last → Refines turns F b others old May (step b w (entry.Hear n))
         go None e = absurd (let no : true ≡ false = sym rule.some ∙ ap is_some e in cc no)
         go (Some t) e = input-refines w (entry.Hear n) n (Hearing t) r (λ k. refl) (r.models.ups n rule.up) (r.models.ticks t e) (ap (hears b n (w.life n)) e) refl refl
 
-    gate-refines : (w : World) (n : NodeId) → Refines turns F b others w → MayGate w n → Refines turns F b others (step b w (entry.Gate n))
+    gate-refines : (w : World) (n : NodeId) → Refines turns F b others old May w → MayGate w n → Refines turns F b others old May (step b w (entry.Gate n))
     gate-refines w n r rule =
         let s : Soft = happened turns r.events in
         let known : (w.flags n).known ≡ true = r.models.ups n rule.up in
@@ -142,7 +142,7 @@ module _ (script : List ℕ → Tree) (turns : Turns) (F : NodeFacts) (laws : No
               (sent-gate b w n ∙ ap (λ z. sent_by w ++ z) left) refl;
         }
 
-    crash-refines : (w : World) (n : NodeId) (kept : ℕ) → Refines turns F b others w → MayCrash w n kept → Refines turns F b others (step b w (entry.Crash n kept))
+    crash-refines : (w : World) (n : NodeId) (kept : ℕ) → Refines turns F b others old May w → MayCrash w n kept → Refines turns F b others old May (step b w (entry.Crash n kept))
     crash-refines w n kept r rule =
         let s : Soft = happened turns r.events in
         let inv : Inv F s = inv-reached script turns F laws r.events r.may in
@@ -159,8 +159,8 @@ module _ (script : List ℕ → Tree) (turns : Turns) (F : NodeFacts) (laws : No
         }
 
     -- an entry that changes no life
-    still-refines : (w : World) (e : Entry) (events : List Event) → Mays F turns events → (m : Models turns F b others (happened turns events) w) → ((k : NodeId) → (step b w e).life k ≡ w.life k) →
-        sent_by (step b w e) ≡ sent_by w → ((t : ℕ) → last_after w.last e ≡ Some t → Has t (happened turns events).ticks) → Refines turns F b others (step b w e)
+    still-refines : (w : World) (e : Entry) (events : List Event) → Mays F turns events → (m : Models turns F b others old May (happened turns events) w) → ((k : NodeId) → (step b w e).life k ≡ w.life k) →
+        sent_by (step b w e) ≡ sent_by w → ((t : ℕ) → last_after w.last e ≡ Some t → Has t (happened turns events).ticks) → Refines turns F b others old May (step b w e)
     still-refines w e events may h stays sends ticks = record {
       events = events;
       may = may;
@@ -170,33 +170,37 @@ module _ (script : List ℕ → Tree) (turns : Turns) (F : NodeFacts) (laws : No
         lives = λ k kn. h.lives k (sym (step-known b w e k).0 ∙ kn) ∙ ap seat_of (sym (stays k));
         outside = λ k kn. h.outside k (sym (step-known b w e k).0 ∙ kn);
         unknown = λ k kn. ap (λ (l : Life). l.gated) (stays k) ∙ h.unknown k (sym (step-known b w e k).0 ∙ kn);
-        past = h.past;
-        ever = h.ever ∙ ap (λ z. h.past ++ z) (sym sends);
+        ever = h.ever ∙ ap (λ z. old ++ z) (sym sends);
         ticks = ticks;
+        ticked = h.ticked;
         ready = λ k kn. subst (λ l. F.Ready b.run b.acts k (whole (seat_of l))) (sym (stays k)) (h.ready k (sym (step-known b w e k).0 ∙ kn));
       };
     }
 
-    ticked : (w : World) (moment : ℕ) (s : Soft) → Models turns F b others s w → Models turns F b others (record { seat = s.seat; ever = s.ever; ticks = moment ∷ s.ticks }) w
-    ticked w moment s h = record { known = h.known; ups = h.ups; lives = h.lives; outside = h.outside; unknown = h.unknown; past = h.past; ever = h.ever; ticks = λ t at. inr (h.ticks t at); ready = h.ready }
+    ticked : (w : World) (moment : ℕ) (s : Soft) → May moment → Models turns F b others old May s w → Models turns F b others old May (record { seat = s.seat; ever = s.ever; ticks = moment ∷ s.ticks }) w
+    ticked w moment s may h = record { known = h.known; ups = h.ups; lives = h.lives; outside = h.outside; unknown = h.unknown; ever = h.ever; ticks = λ t at. inr (h.ticks t at); ticked = λ t. now t; ready = h.ready }
+      where
+        now : (t : ℕ) → Has t (moment ∷ s.ticks) → May t
+        now t (inl e) = subst May e may
+        now t (inr k) = h.ticked t k
 
     some-is : (a c : ℕ) → Some a ≡ Some c → a ≡ c
     some-is a c e = cc e
 
-    pub step-refines : (fates : List Fate) (w : World) (e : Entry) → Refines turns F b others w → Rule b fates w e → Refines turns F b others (step b w e)
-    step-refines fates w (entry.Take n number) r rule = take-refines fates w n number r rule
-    step-refines fates w (entry.Go n) r rule = input-refines w (entry.Go n) n Going r (λ k. refl) (r.models.ups n rule.up) tt refl refl refl
-    step-refines fates w (entry.Learn n stamp committed) r rule =
+    pub step-refines : (fates : List Fate) (w : World) (e : Entry) → ((t : ℕ) → e ≡ entry.Tick t → May t) → Refines turns F b others old May w → Rule b fates w e → Refines turns F b others old May (step b w e)
+    step-refines fates w (entry.Take n number) may r rule = take-refines fates w n number r rule
+    step-refines fates w (entry.Go n) may r rule = input-refines w (entry.Go n) n Going r (λ k. refl) (r.models.ups n rule.up) tt refl refl refl
+    step-refines fates w (entry.Learn n stamp committed) may r rule =
         input-refines w (entry.Learn n stamp committed) n (Learning stamp committed) r (λ k. refl) (r.models.ups n rule.up) (decided-there (happened turns r.events) w stamp committed r.models rule.stands) refl refl refl
-    step-refines fates w (entry.Hear n) r rule = hear-refines w n r rule
-    step-refines fates w (entry.Gate n) r rule = gate-refines w n r rule
-    step-refines fates w (entry.Crash n kept) r rule = crash-refines w n kept r rule
-    step-refines fates w (entry.Down n cause) r rule = still-refines w (entry.Down n cause) r.events r.may r.models (all-stay b w (entry.Down n cause) (λ k. refl)) refl r.models.ticks
-    step-refines fates w (entry.Tick moment) r rule =
-        still-refines w (entry.Tick moment) (Tick moment ∷ r.events) (r.may, tt) (ticked w moment (happened turns r.events) r.models) (all-stay b w (entry.Tick moment) (λ k. refl)) refl
+    step-refines fates w (entry.Hear n) may r rule = hear-refines w n r rule
+    step-refines fates w (entry.Gate n) may r rule = gate-refines w n r rule
+    step-refines fates w (entry.Crash n kept) may r rule = crash-refines w n kept r rule
+    step-refines fates w (entry.Down n cause) may r rule = still-refines w (entry.Down n cause) r.events r.may r.models (all-stay b w (entry.Down n cause) (λ k. refl)) refl r.models.ticks
+    step-refines fates w (entry.Tick moment) may r rule =
+        still-refines w (entry.Tick moment) (Tick moment ∷ r.events) (r.may, tt) (ticked w moment (happened turns r.events) (may moment refl) r.models) (all-stay b w (entry.Tick moment) (λ k. refl)) refl
         (λ t at. inl (some-is moment t at))
 
-    pub walk-refines : (fates : List Fate) (w : World) (es : List Entry) → Refines turns F b others w → Meets b fates w es → Refines turns F b others (walk_from b w es)
+    pub walk-refines : (fates : List Fate) (w : World) (es : List Entry) → ((t : ℕ) → Has (entry.Tick t) es → May t) → Refines turns F b others old May w → Meets b fates w es → Refines turns F b others old May (walk_from b w es)
     unfolding walk_from Meets
-    walk-refines fates w [] r rules = r
-    walk-refines fates w (e ∷ es) r rules = walk-refines fates (step b w e) es (step-refines fates w e r rules.0) rules.1
+    walk-refines fates w [] may r rules = r
+    walk-refines fates w (e ∷ es) may r rules = walk-refines fates (step b w e) es (λ t h. may t (inr h)) (step-refines fates w e (λ t h. may t (inl h)) r rules.0) rules.1

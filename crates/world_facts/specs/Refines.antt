@@ -1,11 +1,16 @@
 -- How a walk over a trace and a world without rules of turns agree.
-use Rattle.std.specs.Prelude.{◌≡◌, ℕ, Bool, true, false, List, [], ◌∷◌, ◌++◌, reverse, Option, Some, is_some, if◌then◌else◌}
+use Rattle.std.specs.Prelude.{◌≡◌, ◌⊎◌, ℕ, Bool, true, false, List, [], ◌∷◌, ◌++◌, reverse, Option, Some, is_some, if◌then◌else◌}
 use Rattle.pseudo_time.specs.Lists.{Every, Has}
 use Rattle.pseudo_time.specs.declared.nodes.NodeId.{NodeId}
 use Rattle.effect_form.specs.declared.effects.Effect.{Effect}
 use Rattle.turn_form.specs.Growth.{Each}
 use Rattle.turn_form.specs.Posts.{Post}
-use Rattle.world_core.specs.Walks.{Base, Life, World, opened_log, sent_by}
+use Rattle.serial_model.specs.Questions.{Tree}
+use Rattle.world_core.specs.declared.entries.Entry.{Entry}
+use Rattle.world_core.specs.declared.entries.Entry.TheVariants.{Tick}
+use Rattle.world_core.specs.Walks.{Base, Life, World, opened_log, sent_by, walk}
+use Rattle.world_core.specs.Legal.{base_of}
+use Rattle.world_core.specs.Pasts.{Call}
 use Rattle.world_facts.specs.Rules.{Around, NodeFacts, Turns}
 use Rattle.world_facts.specs.Soft.{Seat, whole, Soft, Event, happened, Mays, SentOk}
 
@@ -13,7 +18,26 @@ use Rattle.world_facts.specs.Soft.{Seat, whole, Soft, Event, happened, Mays, Sen
 abbrev pub seat_of : Life → Seat
 seat_of l = record { gated = reverse l.gated; fresh = reverse l.fresh; outs = l.outs; mind = l.mind }
 
-module _ (turns : Turns) (F : NodeFacts) (b : Base) (others : NodeId → List Effect) where
+-- ---- what earlier runs sent and ticked; the last run first
+
+-- all messages of these runs, the first one first
+abbrev pub past_sent : (List ℕ → Tree) → List Call → List Post
+past_sent script [] = []
+past_sent script (c ∷ cs) = past_sent script cs ++ sent_by (walk (base_of script c.plan c.trace) c.trace.entries)
+
+-- a Tick with this moment stands in one of them
+abbrev pub PastTick : List Call → ℕ → Type 0
+PastTick [] t = ⊥
+PastTick (c ∷ cs) t = Has (Tick t) c.trace.entries ⊎ PastTick cs t
+
+-- it stands in one of them, or in these entries
+abbrev pub Ticked : List Call → List Entry → ℕ → Type 0
+Ticked cs es t = Has (Tick t) es ⊎ PastTick cs t
+
+-- ---- worlds that agree
+
+-- `old` are the messages of earlier runs, and `May` holds of the moments that were ticked
+module _ (turns : Turns) (F : NodeFacts) (b : Base) (others : NodeId → List Effect) (old : List Post) (May : ℕ → Type 0) where
   -- `others` are the logs, oldest effect first, of the nodes that aren't of the trace
   pub record Models (s : Soft) (w : World) : Type 0 where
     pub known : (n : NodeId) → (w.flags n).known ≡ is_some (opened_log b.opened n)
@@ -21,10 +45,9 @@ module _ (turns : Turns) (F : NodeFacts) (b : Base) (others : NodeId → List Ef
     pub lives : (n : NodeId) → (w.flags n).known ≡ true → s.seat n ≡ seat_of (w.life n)
     pub outside : (n : NodeId) → (w.flags n).known ≡ false → ((s.seat n).gated ≡ reverse (others n)) × ((s.seat n).fresh ≡ [])
     pub unknown : (n : NodeId) → (w.flags n).known ≡ false → (w.life n).gated ≡ []
-    -- the messages of earlier runs
-    pub past : List Post
-    pub ever : s.ever ≡ past ++ sent_by w
+    pub ever : s.ever ≡ old ++ sent_by w
     pub ticks : (t : ℕ) → w.last ≡ Some t → Has t s.ticks
+    pub ticked : (t : ℕ) → Has t s.ticks → May t
     pub ready : (n : NodeId) → (w.flags n).known ≡ true → F.Ready b.run b.acts n (whole (seat_of (w.life n)))
 
   pub record Refines (w : World) : Type 0 where
@@ -33,20 +56,22 @@ module _ (turns : Turns) (F : NodeFacts) (b : Base) (others : NodeId → List Ef
     pub models : Models (happened turns events) w
 
 -- between runs: nothing is open, and these are the logs, oldest effect first
-pub record Left (turns : Turns) (F : NodeFacts) (logs : NodeId → List Effect) : Type 0 where
+pub record Left (turns : Turns) (F : NodeFacts) (logs : NodeId → List Effect) (old : List Post) (May : ℕ → Type 0) : Type 0 where
   pub events : List Event
   pub may : Mays F turns events
   pub gated : (n : NodeId) → ((happened turns events).seat n).gated ≡ reverse (logs n)
   pub fresh : (n : NodeId) → ((happened turns events).seat n).fresh ≡ []
+  pub ever : (happened turns events).ever ≡ old
+  pub ticked : (t : ℕ) → Has t (happened turns events).ticks → May t
 
 -- the durable logs at a place of a trace, oldest effect first: of its nodes by the walk, of the others as they were
 abbrev pub logs_at : (NodeId → List Effect) → World → NodeId → List Effect
 logs_at others w n = if (w.flags n).known then (w.life n).gated else others n
 
--- what holds of all durable logs and of all messages sent, in the past and in the trace
-pub record Facts (F : NodeFacts) (b : Base) (logs : NodeId → List Effect) (sent : List Post) : Type 0 where
-  pub past : List Post
+-- what holds of all durable logs and of all messages sent, in the past and in the trace; `May` holds of the moments that were ticked
+pub record Facts (F : NodeFacts) (b : Base) (logs : NodeId → List Effect) (past sent : List Post) (May : ℕ → Type 0) : Type 0 where
   pub ticks : List ℕ
+  pub ticked : (t : ℕ) → Has t ticks → May t
   pub tidy : (n : NodeId) → F.Tidy n (reverse (logs n))
   pub proofs : (n : NodeId) → Each (F.Proof (record { ever = past ++ sent; logs = λ k. reverse (logs k); ticks = ticks }) n) (reverse (logs n))
   pub sent_ok : Every (SentOk F (past ++ sent) (λ k. reverse (logs k))) (past ++ sent)

@@ -9,7 +9,7 @@ ghost use Rattle.world_core.specs.declared.traces.Trace.{Trace};
 ghost use Rattle.world_core.specs.Walks.{walk, sent_by};
 ghost use Rattle.world_core.specs.Legal.{Legal, base_of};
 ghost use Rattle.world_core.specs.Pasts.{HasPast, Agrees};
-ghost use Rattle.world_facts.specs.Refines.{Facts, logs_at};
+ghost use Rattle.world_facts.specs.Refines.{Facts, logs_at, past_sent, Ticked};
 ghost use Rattle.world_facts.specs.NodeRules.{node_facts};
 
 /// At each place of a legal trace over logs with a past: every durable log is one that its node's rules
@@ -17,6 +17,6 @@ ghost use Rattle.world_facts.specs.NodeRules.{node_facts};
 /// of its sender's durable log is true, and no log shows a later run or another plan.
 pub fn facts_of_legal_traces()
     ensures { (script : List ℕ → Tree) (plan : Plan) (asked : List Asked) (t : Trace) (logs : NodeId → List Effect) (front rest : List Entry) →
-        HasPast script logs → Agrees t.opened logs → Legal script plan asked t → t.entries ≡ front ++ rest →
-        Facts (node_facts script) (base_of script plan t) (logs_at logs (walk (base_of script plan t) front)) (sent_by (walk (base_of script plan t) front)) }
+        (past : HasPast script logs) → Agrees t.opened logs → Legal script plan asked t → t.entries ≡ front ++ rest →
+        Facts (node_facts script) (base_of script plan t) (logs_at logs (walk (base_of script plan t) front)) (past_sent script past.0) (sent_by (walk (base_of script plan t) front)) (Ticked past.0 front) }
 {}
