@@ -5,7 +5,7 @@ use Rattle.pseudo_time.specs.Lists.{Every, Has}
 use Rattle.pseudo_time.specs.declared.nodes.NodeId.{NodeId}
 use Rattle.pseudo_time.specs.declared.nodes.NodeKind.{NodeKind}
 use Rattle.pseudo_time.specs.declared.nodes.NodeKind.TheVariants.{Repository, Broker}
-use Rattle.pseudo_time.proofs.ListLemmas.{every-has}
+use Rattle.pseudo_time.proofs.ListLemmas.{every-has, every-left}
 use Rattle.object_history.proofs.BoolLemmas.{and-both}
 use Rattle.effect_form.specs.declared.effects.Effect.{Effect}
 use Rattle.message_form.specs.declared.messages.Message.{Message}
@@ -14,7 +14,10 @@ use Rattle.turn_form.specs.Posts.{Post}
 use Rattle.stream_port.specs.declared.fates.Asked.{Asked}
 use Rattle.serial_model.specs.Questions.{Tree}
 use Rattle.plan_form.specs.declared.plans.Plan.{Plan}
+use Rattle.broker_core.specs.Book.{book}
 use Rattle.broker_core.specs.Stages.{broker}
+use Rattle.broker_laws.specs.Posts.{IsWithinLimits}
+use Rattle.broker_laws.proofs.Limits.{within}
 use Rattle.world_core.specs.declared.entries.Entry.{Entry}
 use Rattle.world_core.specs.declared.traces.Trace.{Trace}
 use Rattle.world_core.specs.Walks.{opened_log}
@@ -86,3 +89,8 @@ module _ (script : List ℕ → Tree) (plan : Plan) (asked : List Asked) (t : Tr
   pub place-causes : Causes (run_at script plan t logs front) (Ticked p.past.0 front)
   place-causes =
       run-causes script (base_of script plan t) plan (logs_at logs (world_at script plan t front)) (past_sent script p.past.0) (sent_at script plan t front) (Ticked p.past.0 front) refl refl p.whole p.legal.scripted brokers-opened place-facts
+
+  pub place-limits : (b : ℕ) → Every IsWithinLimits (book (log_at script plan t logs front (broker b))).acts
+  place-limits b =
+      every-left IsWithinLimits (book (log_at script plan t logs front (broker b))).acts (book (log_at script plan t logs front (broker b))).past
+      (within script b (log_at script plan t logs front (broker b)) (place-facts.tidy (broker b)))

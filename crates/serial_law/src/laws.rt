@@ -1,6 +1,6 @@
 // A place of a trace is the entries before it. Each law holds at its end and after each entry.
 ghost use Rattle.std.specs.Prelude.{ℕ, List, ◌++◌};
-ghost use Rattle.pseudo_time.specs.Lists.{Has};
+ghost use Rattle.pseudo_time.specs.Lists.{Every, Has};
 ghost use Rattle.pseudo_time.specs.StampParts.{StampParts};
 ghost use Rattle.pseudo_time.specs.declared.nodes.NodeId.{NodeId};
 ghost use Rattle.effect_form.specs.declared.effects.Effect.{Effect};
@@ -8,6 +8,9 @@ ghost use Rattle.turn_form.specs.Posts.{Post};
 ghost use Rattle.stream_port.specs.declared.fates.Asked.{Asked};
 ghost use Rattle.serial_model.specs.Questions.{Tree};
 ghost use Rattle.plan_form.specs.declared.plans.Plan.{Plan};
+ghost use Rattle.broker_core.specs.Book.{book};
+ghost use Rattle.broker_core.specs.Stages.{broker};
+ghost use Rattle.broker_laws.specs.Posts.{IsWithinLimits};
 ghost use Rattle.world_core.specs.declared.entries.Entry.{Entry};
 ghost use Rattle.world_core.specs.declared.traces.Trace.{Trace};
 ghost use Rattle.world_facts.specs.Refines.{Ticked};
@@ -59,8 +62,11 @@ pub fn law_facts()
 
 /// Each End of an attempt of the run has its cause in the logs: a decision at its home, the end that its
 /// script came to, or a read or version above the write that was refused. The moment of an expiry was
-/// ticked, in the trace before that place or in the past.
+/// ticked, in the trace before that place or in the past. An act is spent only where no greater clock is
+/// left, and has at most its number of attempts.
 pub fn law_causes()
-    ensures { (script : List ℕ → Tree) (plan : Plan) (asked : List Asked) (t : Trace) (logs : NodeId → List Effect) (front : List Entry) →
+    ensures ends { (script : List ℕ → Tree) (plan : Plan) (asked : List Asked) (t : Trace) (logs : NodeId → List Effect) (front : List Entry) →
         (p : IsPlace script plan asked t logs front) → Causes (run_at script plan t logs front) (Ticked p.past.0 front) }
+    ensures spent { (script : List ℕ → Tree) (plan : Plan) (asked : List Asked) (t : Trace) (logs : NodeId → List Effect) (front : List Entry) →
+        IsPlace script plan asked t logs front → (b : ℕ) → Every IsWithinLimits (book (log_at script plan t logs front (broker b))).acts }
 {}
