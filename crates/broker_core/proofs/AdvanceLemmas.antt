@@ -1,6 +1,6 @@
 -- A call's turn is that of the rules.
-use Rattle.std.proofs.Common.{◌≡◌, ℕ, zero, suc, min, ◌+◌, ◌*◌, ◌≤◌, ◌==◌, nat_lt, Bool, true, false, ◌&&◌, length, reverse, List, [], ◌∷◌, ◌++◌, refl, sym, ◌∙◌, ap, subst, Option, Some, None, if◌then◌else◌, arith}
-use Rattle.std.proofs.lemmas.Bool.{false≢true, eq-eqb}
+use Rattle.std.proofs.Common.{◌≡◌, ℕ, min, ◌+◌, ◌*◌, ◌≤◌, ◌==◌, true, length, reverse, List, [], ◌∷◌, ◌++◌, refl, sym, ◌∙◌, ap, subst, Option, Some, None, arith}
+use Rattle.std.proofs.lemmas.Bool.{false≢true}
 use Rattle.std.proofs.lemmas.List.{length-map, length-take, length-take-le, reverse-reverse}
 use Rattle.std.proofs.lemmas.Grind.{common_steps}
 use Rattle.value_form.specs.declared.acts.ActSpec.{ActSpec}
@@ -13,17 +13,17 @@ use Rattle.broker_core.specs.declared.givens.Given.{Given}
 use Rattle.broker_core.specs.declared.heards.Heard.{Heard}
 use Rattle.broker_core.specs.declared.notes.Notes.{Notes}
 use Rattle.broker_core.specs.declared.phases.Phase.{Phase}
-use Rattle.broker_core.specs.Tasks.{Task, tasks, task_of, Scripted}
+use Rattle.broker_core.specs.Tasks.{tasks, task_of, Scripted}
 use Rattle.broker_core.specs.Book.{Book, book, enter}
 use Rattle.broker_core.specs.Fits.{fits, counts, keep}
 use Rattle.broker_core.specs.Stages.{stage, standing}
 use Rattle.broker_core.specs.Turns.{Desk, desk_at, whole, note, hears, send, fuel, state, settle_up, say}
 use Rattle.broker_core.specs.Notes.{Shows, noted, answered_in}
-use Rattle.broker_core.specs.Phases.{phase_at, standing_at}
+use Rattle.broker_core.specs.Phases.{standing_at}
 use Rattle.broker_core.specs.Ledgers.{LedgerParts, Settled, kept, answers_noted, settled, most_steps}
-use Rattle.broker_core.specs.Inputs.{listed, begun, firsts, settled_from, with_notes, phase_in, effects_from, ledger_from}
+use Rattle.broker_core.specs.Inputs.{listed, phase_in, effects_from, ledger_from}
 use Rattle.broker_core.specs.Parts.{BrokerParts, parts_of}
-use Rattle.broker_core.specs.Brokers.{NoRun, book_for, Stands, Gives, with_first, follows, FirstFits}
+use Rattle.broker_core.specs.Brokers.{NoRun, Stands, Gives, follows, FirstFits}
 use Rattle.broker_core.proofs.SoundLemmas.{sound-kept}
 use Rattle.broker_core.proofs.NotedLemmas.{noted-shows}
 use Rattle.broker_core.proofs.AnyLemmas.{Knows, meets, standing-any}
@@ -90,12 +90,12 @@ module _ (script : List ℕ → Tree) (me run : ℕ) (acts : List ActSpec) where
       let k : Knows script run acts s.1 (kept s.1 raw) (state script me run (tasks acts) d2) = knows script me run acts m s.1 raw d2 led.at in
       let p1 : p ≡ phase_in l1 h = subst (λ (x : LedgerParts). p ≡ phase_in x h) l-is p-is in
       let stands1 : standing_at l.acts l.notes p ≡ o =
-          ap (λ (x : LedgerParts). standing_at x.acts x.notes p) l-is
-          ∙ (ap (standing_at acts s.1) p1
-          ∙ (standing-any script run acts s.1 (kept s.1 raw) (state script me run (tasks acts) d2) h k
-          ∙ ap (λ (x : Heard). standing (stage script run (state script me run (tasks acts) d2) x)) (sym heard2))) in
+      ap (λ (x : LedgerParts). standing_at x.acts x.notes p) l-is
+      ∙ (ap (standing_at acts s.1) p1
+      ∙ (standing-any script run acts s.1 (kept s.1 raw) (state script me run (tasks acts) d2) h k
+      ∙ ap (λ (x : Heard). standing (stage script run (state script me run (tasks acts) d2) x)) (sym heard2))) in
       let log-is : whole d2 ≡ reverse turn.effects ++ log =
-          ap (λ (xs : List Effect). xs ++ d2.base) (sym back) ∙ ap (λ (xs : List Effect). reverse turn.effects ++ xs) (led.base ∙ base) in
+      ap (λ (xs : List Effect). xs ++ d2.base) (sym back) ∙ ap (λ (xs : List Effect). reverse turn.effects ++ xs) (led.base ∙ base) in
       record {
         effects = sym (reverse-reverse turn.effects) ∙ ap reverse (back ∙ sym (send-fresh o d2));
         outs = turn-outs ∙ (outs-are ∙ (ap listed stands1 ∙ sym (send-outs o d2 (led.outs ∙ outs-none))));

@@ -1,25 +1,23 @@
 -- A log that is taken up leads to the notes on its book.
 use Rattle.std.proofs.Common.{◌≡◌, ℕ, max, ◌≤◌, ◌==◌, nat_lt, Bool, true, false, ◌&&◌, List, [], ◌∷◌, refl, sym, ◌∙◌, ap, subst, Option, Some, None, if◌then◌else◌, arith}
 use Rattle.std.proofs.lemmas.Grind.{common_steps}
-use Rattle.std.proofs.lemmas.Bool.{eqb-true, eq-eqb, false≢true, true≢false}
+use Rattle.std.proofs.lemmas.Bool.{eqb-true, eq-eqb, false≢true}
 use Rattle.value_form.specs.declared.acts.ActSpec.{ActSpec}
 use Rattle.effect_form.specs.declared.effects.Effect.{Effect}
 use Rattle.effect_form.specs.declared.effects.Effect.TheVariants as effect
 use Rattle.effect_form.specs.declared.outcomes.Outcome.TheVariants as outcome
 use Rattle.serial_model.specs.Questions.{Tree}
 use Rattle.broker_core.specs.declared.givens.Given.{Given}
-use Rattle.broker_core.specs.declared.heards.Heard.{Heard}
 use Rattle.broker_core.specs.declared.notes.Notes.{Notes}
 use Rattle.broker_core.specs.declared.resume_faults.ResumeFault.{ResumeFault}
 use Rattle.broker_core.specs.declared.resume_faults.ResumeFault.TheVariants as fault
-use Rattle.broker_core.specs.Tasks.{Task, task_with, tasks, Scripted}
+use Rattle.broker_core.specs.Tasks.{tasks, Scripted}
 use Rattle.broker_core.specs.Book.{Book, book, enter}
 use Rattle.broker_core.specs.Fits.{fits, counts, add_if, keep, unfit_act, first_some, other_plan, plan_fault, resume_fault}
 use Rattle.broker_core.specs.Notes.{Shows, noted, passed, run_begun, fits_at}
 use Rattle.broker_core.specs.Ledgers.{LedgerParts, kept, answers_noted}
 use Rattle.broker_core.specs.Replays.{fresh_ledger, fits_now, added, logged, unfit_index, unfit_at, led, other_at}
 use Rattle.broker_core.specs.Inputs.{fault_of}
-use Rattle.broker_core.specs.Sound.{Sound}
 use Rattle.broker_core.proofs.SoundLemmas.{sound-kept, closed-run}
 use Rattle.broker_core.proofs.FitLemmas.{fits-is}
 use Rattle.broker_core.proofs.NotedLemmas.{noted-shows}
@@ -76,10 +74,12 @@ module _ (script : List ℕ → Tree) (me run : ℕ) (acts : List ActSpec) where
       let r : b.run ≡ run = eqb-true b.run run e in
       let fit : fits script me (tasks acts) b f ≡ true = sym (fits-same m l log f t r) ∙ k in
       let s : Shows run (noted acts f l.notes) (kept (noted acts f l.notes) (answers_noted f l.notes l.answers)) (enter f b) =
-          noted-shows script me run acts l.notes l.answers b f (meets script run acts l.notes (kept l.notes l.answers) b (know m l log t) r) fit in
+      noted-shows script me run acts l.notes l.answers b f (meets script run acts l.notes (kept l.notes l.answers) b (know m l log t) r) fit in
       let s' = subst (λ (xs : List ActSpec). Shows run (noted xs f l.notes) (kept (noted xs f l.notes) (answers_noted f l.notes l.answers)) (enter f b)) (sym t.of_acts) s in
       record {
-        number = t.number; of_run = t.of_run; of_acts = t.of_acts;
+        number = t.number;
+        of_run = t.of_run;
+        of_acts = t.of_acts;
         shows = kept-shows _ _ log f (counts script me run (tasks acts) b f) (λ _. s') (λ q. absurd (false≢true (sym q ∙ (counts-here b f e ∙ fit))));
       }
   here-took m l log f false t e k =
@@ -87,14 +87,17 @@ module _ (script : List ℕ → Tree) (me run : ℕ) (acts : List ActSpec) where
       let r : b.run ≡ run = eqb-true b.run run e in
       let fit : fits script me (tasks acts) b f ≡ false = sym (fits-same m l log f t r) ∙ k in
       record {
-        number = t.number; of_run = t.of_run; of_acts = t.of_acts;
+        number = t.number;
+        of_run = t.of_run;
+        of_acts = t.of_acts;
         shows = kept-shows _ _ log f (counts script me run (tasks acts) b f) (λ q. absurd (false≢true (sym fit ∙ (sym (counts-here b f e) ∙ q)))) (λ _. t.shows);
       }
 
   -- an effect of another run
   other-shows : (n n' : Notes) (answers answers' : List Given) (b b' : Book) → Shows run n answers b → (b.run == run) ≡ false → b'.run ≡ b.run → n'.run ≡ n.run → n'.clock ≡ b'.clock → Shows run n' answers' b'
   other-shows n n' answers answers' b b' s e r q c = record {
-    run_is = q ∙ (s.run_is ∙ sym r); clock_is = c;
+    run_is = q ∙ (s.run_is ∙ sym r);
+    clock_is = c;
     notes_are = λ x. absurd (false≢true (sym e ∙ eq-eqb b.run run (sym r ∙ x)));
     answers_are = λ x. absurd (false≢true (sym e ∙ eq-eqb b.run run (sym r ∙ x)));
   }
@@ -110,7 +113,8 @@ module _ (script : List ℕ → Tree) (me run : ℕ) (acts : List ActSpec) where
 
   begun-run : (n : Notes) (raw : List Given) (b : Book) (m : ℕ) → Shows run n (kept n raw) b → Shows run (run_begun m n) (kept (run_begun m n) raw) (enter (effect.Run m) b)
   begun-run n raw b m s = record {
-    run_is = refl; clock_is = s.clock_is;
+    run_is = refl;
+    clock_is = s.clock_is;
     notes_are = λ r. ap (λ (c : ℕ). record { run = m; clock = c; shown = 0; started = 0; over_before = true; spent = false; tries = 0; last = None }) s.clock_is;
     answers_are = λ r. refl;
   }

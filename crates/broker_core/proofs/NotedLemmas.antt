@@ -1,30 +1,26 @@
 -- An effect that counts changes the notes as it changes the book.
-use Rattle.std.proofs.Common.{◌≡◌, ℕ, zero, suc, max, ◌+◌, ◌-◌, ◌==◌, nat_lt, Bool, true, false, not, ◌&&◌, length, map, take, List, [], ◌∷◌, ◌++◌, refl, sym, ◌∙◌, ap, subst, Option, Some, None, if◌then◌else◌, arith}
-use Rattle.std.proofs.lemmas.Grind.{common_steps}
-use Rattle.std.proofs.lemmas.Bool.{eqb-true, eq-eqb, false≢true}
+use Rattle.std.proofs.Common.{◌≡◌, ℕ, suc, max, ◌+◌, ◌-◌, ◌==◌, Bool, true, false, length, take, List, [], ◌∷◌, ◌++◌, refl, sym, ◌∙◌, ap, subst, Option, Some, None, if◌then◌else◌, arith}
+use Rattle.std.proofs.lemmas.Bool.{false≢true}
 use Rattle.std.proofs.lemmas.List.{length-append, length-map, map-append}
 use Rattle.std.proofs.Math.Seq.{take-length}
 use Rattle.std.specs.List.{slice_get}
 use Rattle.std.specs.Option.{option_map}
 use Rattle.value_form.specs.declared.acts.ActSpec.{ActSpec}
-use Rattle.value_form.specs.declared.values.Value.{Value}
 use Rattle.pseudo_time.specs.StampParts.{StampParts}
 use Rattle.effect_form.specs.declared.effects.Effect.{Effect}
 use Rattle.effect_form.specs.declared.effects.Effect.TheVariants as effect
 use Rattle.effect_form.specs.declared.outcomes.Outcome.{Outcome}
 use Rattle.effect_form.specs.declared.outcomes.Outcome.TheVariants as outcome
-use Rattle.script_meaning.specs.Meaning as meaning
 use Rattle.script_meaning.specs.Meaning.{Answer}
 use Rattle.serial_model.specs.Questions.{Tree}
 use Rattle.broker_core.specs.declared.givens.Given.{Given}
 use Rattle.broker_core.specs.declared.givens.Given.TheVariants as given
 use Rattle.broker_core.specs.declared.notes.Last.{Last}
 use Rattle.broker_core.specs.declared.notes.Notes.{Notes}
-use Rattle.broker_core.specs.Tasks.{Task, task_of, task_with, tasks}
-use Rattle.broker_core.specs.Book.{Try, Act, Book, enter, close, front, tries_of, on_act, on_front, on_try, new_try, gain, finish, open_front, open_of, open_try, last_try, if_open}
+use Rattle.broker_core.specs.Tasks.{Task, task_with, tasks}
+use Rattle.broker_core.specs.Book.{Try, Act, Book, enter, front, tries_of, on_act, on_front, on_try, new_try, gain, finish, open_front, open_of, open_try, last_try, if_open}
 use Rattle.broker_core.specs.Fits.{fits, fits_try, fits_got, fits_acked, fits_end, fits_spent}
-use Rattle.broker_core.specs.Owed.{all_over}
-use Rattle.broker_core.specs.Notes.{last_of, over_behind, spent_in, tries_in, notes_of, answers_of, answer_of, answers_of_last, answered_in, act_at, most_of, over_at, act_begun, try_begun, answer_noted, shown_by, end_noted, noted, changed, Shows}
+use Rattle.broker_core.specs.Notes.{last_of, over_behind, spent_in, tries_in, notes_of, answers_of, answer_of, answers_of_last, answered_in, act_at, most_of, over_at, act_begun, try_begun, answer_noted, noted, Shows}
 use Rattle.broker_core.specs.Ledgers.{kept, answers_noted}
 use Rattle.broker_core.specs.Sound.{Started}
 use Rattle.broker_core.proofs.ShapeLemmas.{over-is, most_in, open-is-last}
@@ -51,8 +47,15 @@ act-notes acts b t run k =
 
 abbrev notes_at : Book → List Act → Notes
 notes_at b as' = record {
-  run = b.run; clock = b.clock; shown = b.shown; started = length as'; over_before = over_behind as';
-  spent = spent_in as'; tries = tries_in as'; last = option_map last_of (front (tries_of as')) }
+  run = b.run;
+  clock = b.clock;
+  shown = b.shown;
+  started = length as';
+  over_before = over_behind as';
+  spent = spent_in as';
+  tries = tries_in as';
+  last = option_map last_of (front (tries_of as'));
+}
 
 try-notes : (me i : ℕ) (s : StampParts) (b : Book) (as' : List Act) → fits_try me i s b.clock as' ≡ true →
     try_begun s (notes_at b as') ≡ notes_at (record b { clock = max b.clock s.clock }) (on_act (λ (a : Act). record a { tries = new_try a s ∷ a.tries }) as')
@@ -126,11 +129,12 @@ module _ (script : List ℕ → Tree) (me run : ℕ) (acts : List ActSpec) where
   answer-shows raw b t g k o =
       let last : last_try b ≡ Some t = open-is-last b t o in
       let noted-last : (answer_noted (notes_of b)).last ≡ Some (record { stamp = t.stamp; answered = length t.answers + 1; end = t.end }) =
-          ap (λ (x : Option Try). option_map (λ (l : Last). record l { answered = l.answered + 1 }) (option_map last_of x)) last in
+      ap (λ (x : Option Try). option_map (λ (l : Last). record l { answered = l.answered + 1 }) (option_map last_of x)) last in
       let are : answers_of (kept (notes_of b) raw) ≡ t.answers = k.answers_are ∙ ap answers_of_last last in
       let long : length (kept (notes_of b) raw) ≡ length t.answers = sym (length-map (kept (notes_of b) raw) answer_of) ∙ ap length are in
       record {
-        run_is = refl; clock_is = refl;
+        run_is = refl;
+        clock_is = refl;
         notes_are = λ r.
             ap (λ (x : Option Last). record (notes_of b) { last = x }) noted-last
             ∙ (ap (λ (x : ℕ). record (notes_of b) { last = Some (record { stamp = t.stamp; answered = x; end = t.end }) }) (sym (length-append t.answers (answer_of g ∷ [])))
@@ -149,9 +153,10 @@ module _ (script : List ℕ → Tree) (me run : ℕ) (acts : List ActSpec) where
   finish-shows raw b t o shown k e =
       let last : last_try b ≡ Some t = open-is-last b t e in
       let noted-last : option_map (λ (l : Last). record l { end = Some o }) (notes_of b).last ≡ Some (record { stamp = t.stamp; answered = length t.answers; end = Some o }) =
-          ap (λ (x : Option Try). option_map (λ (l : Last). record l { end = Some o }) (option_map last_of x)) last in
+      ap (λ (x : Option Try). option_map (λ (l : Last). record l { end = Some o }) (option_map last_of x)) last in
       record {
-        run_is = refl; clock_is = refl;
+        run_is = refl;
+        clock_is = refl;
         notes_are = λ r. ap (λ (x : Option Last). record (notes_of b) { shown = shown; last = x }) noted-last ∙ sym (changed-notes (finish o) (record b { shown = shown }) b.acts t e);
         answers_are = λ r.
             ap (λ (x : Option Last). answers_of (take (answered_in x) raw)) noted-last
@@ -167,7 +172,8 @@ module _ (script : List ℕ → Tree) (me run : ℕ) (acts : List ActSpec) where
   end-shows raw b i (outcome.LaterVersion o x) k h = let t = open-of-end i (open_try b) h in finish-shows raw b t.0 (outcome.LaterVersion o x) (max b.shown x.stamp.clock) k t.1
   end-shows raw b i (outcome.Expired d m) k h = let t = open-of-end i (open_try b) h in finish-shows raw b t.0 (outcome.Expired d m) b.shown k t.1
   end-shows raw b i (outcome.Spent c) k h = record {
-    run_is = refl; clock_is = refl;
+    run_is = refl;
+    clock_is = refl;
     notes_are = λ r. spent-notes i c b b.acts h;
     answers_are = λ r. k.answers_are ∙ ap answers_of_last (sym (spent-last c b.acts));
   }
@@ -175,12 +181,14 @@ module _ (script : List ℕ → Tree) (me run : ℕ) (acts : List ActSpec) where
   shows-after : (raw : List Given) (b : Book) (f : Effect) → Meets script run acts (notes_of b) (kept (notes_of b) raw) b → fits script me (tasks acts) b f ≡ true → ShowsAfter raw b f
   shows-after raw b (effect.Run n) k h = record { run_is = refl; clock_is = refl; notes_are = λ r. refl; answers_are = λ r. refl }
   shows-after raw b (effect.Act i x t k' c y) k h = record {
-    run_is = refl; clock_is = refl;
+    run_is = refl;
+    clock_is = refl;
     notes_are = λ r. act-notes acts b (task_with i x t k' c y) b.run (k.sound.started k.here);
     answers_are = λ r. k.answers_are;
   }
   shows-after raw b (effect.Try i s) k h = record {
-    run_is = refl; clock_is = refl;
+    run_is = refl;
+    clock_is = refl;
     notes_are = λ r. try-notes me i s b b.acts h;
     answers_are = λ r. sym (try-last me i s b.clock b.acts h);
   }

@@ -8,7 +8,7 @@ use Rattle.broker_core.specs.declared.notes.Notes.{Notes}
 use Rattle.broker_core.specs.declared.phases.Phase.{Phase}
 use Rattle.broker_core.specs.Notes.{changed}
 use Rattle.broker_core.specs.Phases.{phase_at, owed_at}
-use Rattle.broker_core.specs.Ledgers.{LedgerParts, Settled, kept, most_steps, owed_now, settle_on, settled}
+use Rattle.broker_core.specs.Ledgers.{LedgerParts, kept, most_steps, owed_now, settle_on, settled}
 use Rattle.std.proofs.lemmas.List.{reverse-append}
 
 module _ (me run : ℕ) (acts : List ActSpec) (answers : List Given) (h : Heard) where
@@ -60,12 +60,11 @@ pub on-the-way : (a b c d : LedgerParts) (h : Heard) (most i : ℕ) (first items
 on-the-way a b c d h most i first items more f p l k same is owes after more-is =
     let o = owed-there a b c h p (Some f) same is owes k.1 k.2 k.3 k.4 in
     let n : d.notes ≡ changed a.acts f b.notes =
-        ap (λ (x : LedgerParts). x.notes) after ∙ (ap (λ (x : LedgerParts). changed x.acts f x.notes) same ∙ ap (λ (xs : List ActSpec). changed xs f b.notes) k.4) in
+    ap (λ (x : LedgerParts). x.notes) after ∙ (ap (λ (x : LedgerParts). changed x.acts f x.notes) same ∙ ap (λ (xs : List ActSpec). changed xs f b.notes) k.4) in
     let r : reverse more ≡ f ∷ reverse items = ap reverse more-is ∙ reverse-append items (f ∷ []) in
-    let s = settled-some a.number a.run a.acts a.answers h most i (reverse items) b.notes f l o in
-    (
+    let s = settled-some a.number a.run a.acts a.answers h most i (reverse items) b.notes f l o in (
       ap (λ (xs : List Effect). settled a.number a.run a.acts a.answers h (most - (i + 1)) xs d.notes) r
-      ∙ (ap (λ (m : Notes). settled a.number a.run a.acts a.answers h (most - (i + 1)) (f ∷ reverse items) m) n ∙ (s ∙ k.0)),
+          ∙ (ap (λ (m : Notes). settled a.number a.run a.acts a.answers h (most - (i + 1)) (f ∷ reverse items) m) n ∙ (s ∙ k.0)),
       ap (λ (x : LedgerParts). x.answers) after ∙ (ap (λ (x : LedgerParts). x.answers) same ∙ k.1),
       ap (λ (x : LedgerParts). x.number) after ∙ (ap (λ (x : LedgerParts). x.number) same ∙ k.2),
       ap (λ (x : LedgerParts). x.run) after ∙ (ap (λ (x : LedgerParts). x.run) same ∙ k.3),

@@ -1,11 +1,11 @@
 -- What a run tells is where the tree of its script stops.
-use Rattle.std.proofs.Common.{◌≡◌, List, [], Option, Some, None, refl, ap, sym, ◌∙◌, subst, MatchOption}
+use Rattle.std.proofs.Common.{◌≡◌, List, Option, Some, None, refl, ap, sym, ◌∙◌, subst, MatchOption}
 use Rattle.value_form.specs.declared.acts.ActSpec.{ActSpec}
 use Rattle.value_form.specs.declared.scripts.Stmt.{Stmt}
 use Rattle.value_form.specs.declared.transcripts.Line.{Line}
 use Rattle.value_form.specs.Mirror.{block}
-use Rattle.script_meaning.specs.Meaning.{Answer, Came, Stop, talk}
-use Rattle.serial_model.specs.Questions.{denote, stop, talked}
+use Rattle.script_meaning.specs.Meaning.{Answer, Came}
+use Rattle.serial_model.specs.Questions.{denote, stop}
 use Rattle.serial_model.proofs.ScriptLemmas.{talk_of}
 use Rattle.serial_model.proofs.AnswerLemmas.{talked-stop}
 use Rattle.script_run.specs.declared.nexts.Next.{Next}
@@ -42,6 +42,6 @@ pub renewed : (l v : LedgerParts) (o : Option Told) (r : Told) (ls : List Line) 
     Tells r.script r.answers ls n → stop_of n ≡ stop_at l.acts l.notes (kept l.notes l.answers)
 renewed l v o r ls n view fits is t =
     let f : (r.script ≡ lines_of (act_at v.acts v.notes)) × (r.answers ≡ answers_of (kept v.notes v.answers)) =
-        subst (λ (x : Option Told). MatchOption x (act_at v.acts v.notes ≡ None) (λ (y : Told). (y.script ≡ lines_of (act_at v.acts v.notes)) × (y.answers ≡ answers_of (kept v.notes v.answers)))) is fits in
+    subst (λ (x : Option Told). MatchOption x (act_at v.acts v.notes ≡ None) (λ (y : Told). (y.script ≡ lines_of (act_at v.acts v.notes)) × (y.answers ≡ answers_of (kept v.notes v.answers)))) is fits in
     subst (λ (x : LedgerParts). stop_of n ≡ stop_at x.acts x.notes (kept x.notes x.answers)) view
     (run-stops (act_at v.acts v.notes) (kept v.notes v.answers) r.script r.answers ls n f.0 f.1 t)

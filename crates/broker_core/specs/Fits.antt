@@ -188,4 +188,3 @@ module _ (script : List ℕ → Tree) (me : ℕ) where
   resume_fault run acts log =
       if nat_lt run (book (keep run acts log)).run then Some (fault.OldRun (book (keep run acts log)).run)
       else (if (book (keep run acts log)).run == run then plan_fault (other_plan run acts log) else None)
-

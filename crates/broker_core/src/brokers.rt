@@ -95,11 +95,7 @@ fn add_first(
 }
 
 // Adds the effect, and those that are owed after it, and says what is to be sent.
-fn yielded(
-    ledger: &mut Ledger,
-    first: Option<Effect>,
-    heard: &Heard,
-) -> Result<Gain, AllocError>
+fn yielded(ledger: &mut Ledger, first: Option<Effect>, heard: &Heard) -> Result<Gain, AllocError>
     ensures effects { IfOk result (λ w. reverse w.effects.items ≡ inputs.effects_from ledger.old first heard.now) }
     ensures ledger { OnOk result (ledger.new ≡ inputs.ledger_from ledger.old first heard.now) }
     ensures phase { IfOk result (λ w. w.phase ≡ inputs.phase_in ledger.new heard.now) }
@@ -182,11 +178,13 @@ impl Broker {
     {
         let before = self.ledger.notes();
         match yielded(&mut self.ledger, first, &heard) {
-            Ok(Gain {
-                effects,
-                outs,
-                phase,
-            }) => {
+            Ok(
+                Gain {
+                    effects,
+                    outs,
+                    phase,
+                },
+            ) => {
                 self.heard = heard;
                 self.phase = phase;
                 Ok(Turn::of(effects, outs))

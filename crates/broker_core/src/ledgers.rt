@@ -55,12 +55,7 @@ fn copy_acts(alloc: Global, acts: &[ActSpec]) -> Result<Vec<ActSpec>, AllocError
 
 impl Ledger {
     /// Of an empty log.
-    pub fn new(
-        alloc: Global,
-        number: u8,
-        run: u32,
-        acts: &[ActSpec],
-    ) -> Result<Ledger, AllocError>
+    pub fn new(alloc: Global, number: u8, run: u32, acts: &[ActSpec]) -> Result<Ledger, AllocError>
         requires low { 1 ≤ number }
         requires high { number ≤ 16 }
         requires acts { spec.AreActs acts.now }

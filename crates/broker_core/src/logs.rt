@@ -42,12 +42,14 @@ fn is_act(
     };
     let text = print(alloc, &act.script)?;
     let is_same_text = text == *script;
-    Ok(act.index == terms.index
-        && act.home == terms.home
-        && act.timeout == terms.timeout
-        && act.tries == terms.tries
-        && act.clock == terms.clock
-        && is_same_text)
+    Ok(
+        act.index == terms.index
+            && act.home == terms.home
+            && act.timeout == terms.timeout
+            && act.tries == terms.tries
+            && act.clock == terms.clock
+            && is_same_text,
+    )
 }
 
 fn fits_try(ledger: &Ledger, index: u32, stamp: Stamp) -> bool

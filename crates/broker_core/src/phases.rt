@@ -81,7 +81,10 @@ fn is_time(heard: &Option<PseudoTime>, at: PseudoTime) -> bool
 fn is_settled(end: &Option<Outcome>) -> bool
     ensures { result ≡ stages.is_settled end.now }
 {
-    matches!(end, Some(Outcome::Committed) | Some(Outcome::Expired { .. }))
+    matches!(
+        end,
+        Some(Outcome::Committed) | Some(Outcome::Expired { .. })
+    )
 }
 
 impl Last {

@@ -67,13 +67,7 @@ fn early_answered(finished: bool, index: u32, decision: Decision) -> Reply
 }
 
 // While Begin stands; `finished` is whether the script is finished without a request.
-fn while_opening(
-    index: u32,
-    finished: bool,
-    last: &Last,
-    heard: &Heard,
-    message: &Message,
-) -> Reply
+fn while_opening(index: u32, finished: bool, last: &Last, heard: &Heard, message: &Message) -> Reply
     ensures { result ≡ spec.opening_row index finished last.now heard.now message.now }
 {
     let stamp = last.stamp;
@@ -185,13 +179,7 @@ fn decided(stamp: Stamp, message: &Message) -> Option<Decision>
     }
 }
 
-fn while_deciding(
-    index: u32,
-    last: &Last,
-    phase: &Phase,
-    heard: &Heard,
-    message: &Message,
-) -> Reply
+fn while_deciding(index: u32, last: &Last, phase: &Phase, heard: &Heard, message: &Message) -> Reply
     ensures { result ≡ spec.deciding_row index last.now phase.now heard.now message.now }
 {
     let Some(decision) = decided(last.stamp, message) else {

@@ -388,11 +388,8 @@ fn sent_of(out: &Out) -> Sent {
         Message::Read { at, object } if *object == OBJECT => {
             Sent::Read(at.stamp().clock(), at.step())
         }
-        Message::Write { at, object, value }
-            if *object == OBJECT && *value == Value::Number(10) =>
-        {
-            Sent::Write(at.stamp().clock(), at.step())
-        }
+        Message::Write { at, object, value } if *object == OBJECT && *value == Value::Number(10) =>
+            { Sent::Write(at.stamp().clock(), at.step()) }
         Message::Commit { stamp } => Sent::Commit(stamp.clock()),
         Message::Withdraw { stamp } => Sent::Withdraw(stamp.clock()),
         _ => Sent::Other,
@@ -476,9 +473,17 @@ const ROW: [Step; 9] = [
     (Told::Stored(1, 1), NONE, Sent::None),
     (Told::Begun(1), NONE, Sent::Write(1, 1)),
     (Told::Stored(1, 2), NONE, Sent::None),
-    (Told::Stored(1, 1), [Added::Acked(1), Added::None, Added::None], Sent::Read(1, 2)),
+    (
+        Told::Stored(1, 1),
+        [Added::Acked(1), Added::None, Added::None],
+        Sent::Read(1, 2),
+    ),
     (Told::Value(1, 1), NONE, Sent::None),
-    (Told::Value(1, 2), [Added::Got(2, 10), Added::None, Added::None], Sent::Commit(1)),
+    (
+        Told::Value(1, 2),
+        [Added::Got(2, 10), Added::None, Added::None],
+        Sent::Commit(1),
+    ),
     (Told::Committed(2), NONE, Sent::None),
     (
         Told::Committed(1),
@@ -522,7 +527,11 @@ const REFUSALS: [Step; 12] = [
         Sent::Withdraw(1),
     ),
     (Told::Committed(8), NONE, Sent::None),
-    (Told::Withdrawn(1), [Added::Try(1, 8), Added::None, Added::None], Sent::Begin(8)),
+    (
+        Told::Withdrawn(1),
+        [Added::Try(1, 8), Added::None, Added::None],
+        Sent::Begin(8),
+    ),
     (Told::Begun(8), NONE, Sent::Write(8, 1)),
     (Told::Ended(8, 1), NONE, Sent::Withdraw(8)),
     (
@@ -533,7 +542,11 @@ const REFUSALS: [Step; 12] = [
     (Told::Begun(9), NONE, Sent::Write(9, 1)),
     (
         Told::LaterVersion(9, 1),
-        [Added::End(1, How::LaterVersion(7)), Added::None, Added::None],
+        [
+            Added::End(1, How::LaterVersion(7)),
+            Added::None,
+            Added::None,
+        ],
         Sent::Withdraw(9),
     ),
     (Told::Withdrawn(9), NONE, Sent::None),
@@ -556,7 +569,11 @@ const DECISIONS: [Step; 11] = [
         Sent::Begin(2),
     ),
     (Told::Begun(2), NONE, Sent::Write(2, 1)),
-    (Told::Stored(2, 1), [Added::Acked(1), Added::None, Added::None], Sent::Read(2, 2)),
+    (
+        Told::Stored(2, 1),
+        [Added::Acked(1), Added::None, Added::None],
+        Sent::Read(2, 2),
+    ),
     (Told::Ended(2, 2), NONE, Sent::Withdraw(2)),
     (Told::Committed(2), NONE, Sent::None),
     (
@@ -565,8 +582,16 @@ const DECISIONS: [Step; 11] = [
         Sent::Begin(3),
     ),
     (Told::Begun(3), NONE, Sent::Write(3, 1)),
-    (Told::Stored(3, 1), [Added::Acked(1), Added::None, Added::None], Sent::Read(3, 2)),
-    (Told::Value(3, 2), [Added::Got(2, 10), Added::None, Added::None], Sent::Commit(3)),
+    (
+        Told::Stored(3, 1),
+        [Added::Acked(1), Added::None, Added::None],
+        Sent::Read(3, 2),
+    ),
+    (
+        Told::Value(3, 2),
+        [Added::Got(2, 10), Added::None, Added::None],
+        Sent::Commit(3),
+    ),
 ];
 
 const LAST_DECISIONS: [Step; 2] = [
@@ -641,9 +666,17 @@ const EARLIER_LOG: [Added; 2] = [Added::Act(9), Added::Try(9, 5)];
 
 const RESUMES: [Step; 1] = [(Told::Go, NONE, Sent::Commit(1))];
 
-const FIRST_TRY: [Step; 1] = [(Told::Go, [Added::Try(1, 1), Added::None, Added::None], Sent::Begin(1))];
+const FIRST_TRY: [Step; 1] = [(
+    Told::Go,
+    [Added::Try(1, 1), Added::None, Added::None],
+    Sent::Begin(1),
+)];
 
-const SECOND_TRY: [Step; 1] = [(Told::Go, [Added::Try(1, 2), Added::None, Added::None], Sent::Begin(2))];
+const SECOND_TRY: [Step; 1] = [(
+    Told::Go,
+    [Added::Try(1, 2), Added::None, Added::None],
+    Sent::Begin(2),
+)];
 
 const LATER_TRY: [Step; 2] = [
     (Told::Tick, NONE, Sent::None),
