@@ -36,19 +36,9 @@ fn script(alloc: Global, turns: u32, writes: u32) -> Result<Script, AllocError>
     let mut part = Vec::new(alloc);
     part.push(Stmt::Write(3, Place::Fixed(OBJECT), Expr::Number(1)))?;
     let mut whole = Vec::new(alloc);
-    whole.push(Stmt::Repeat(
-        2,
-        Expr::Number(u64::from(writes)),
-        Items::of(part),
-        4,
-    ))?;
+    whole.push(Stmt::Repeat(2, Expr::Number(u64::from(writes)), Items::of(part), 4))?;
     let mut lines = Vec::new(alloc);
-    lines.push(Stmt::Repeat(
-        1,
-        Expr::Number(u64::from(turns)),
-        Items::of(whole),
-        5,
-    ))?;
+    lines.push(Stmt::Repeat(1, Expr::Number(u64::from(turns)), Items::of(whole), 5))?;
     Ok(Script {
         lines: Items::of(lines),
     })
@@ -89,7 +79,10 @@ fn acts(alloc: Global, count: u32, turns: u32, writes: u32) -> Result<Vec<ActSpe
         if acts.len() >= MOST_ACTS {
             return Ok(acts);
         }
-        push_act(&mut acts, act(alloc, place.saturating_add(1), turns, writes)?)?;
+        push_act(
+            &mut acts,
+            act(alloc, place.saturating_add(1), turns, writes)?,
+        )?;
     }
     Ok(acts)
 }
@@ -121,11 +114,7 @@ fn close(log: &mut Vec<Effect>, turn: Turn) -> Result<Option<Message>, AllocErro
 }
 
 // The log of the broker once nothing is outstanding, after so many turns at most.
-fn carried_out(
-    alloc: Global,
-    broker: &mut Broker,
-    most: u64,
-) -> Result<Vec<Effect>, AllocError> {
+fn carried_out(alloc: Global, broker: &mut Broker, most: u64) -> Result<Vec<Effect>, AllocError> {
     let mut log = Vec::new(alloc);
     let turn = broker.go()?;
     let mut next = close(&mut log, turn)?;
