@@ -13,7 +13,9 @@ mod stores;
 mod writes;
 
 pub use faults::{FetchFault, OpenFault, StoreFault};
-pub use laws::{back_places_come_before, pages_keep_the_order, places_have_effects, prefix_is_found};
+pub use laws::{
+    back_places_come_before, pages_keep_the_order, places_have_effects, prefix_is_found,
+};
 pub use stores::Store;
 
 #[cfg(test)]
