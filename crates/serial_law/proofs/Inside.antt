@@ -1,5 +1,5 @@
 -- A script that keeps to the repositories of its plan asks for objects of these alone.
-use Rattle.std.proofs.Common.{◌≡◌, ℕ, zero, suc, ◌≤◌, ◌<◌, ◌^◌, nat_lt, Bool, true, false, List, [], ◌∷◌, ◌++◌, refl, sym, subst, ap, Some, Result, Ok, Err, if◌then◌else◌, pos, negsuc}
+use Rattle.std.proofs.Common.{◌≡◌, ℕ, zero, suc, ◌^◌, nat_lt, Bool, true, false, List, [], ◌∷◌, ◌++◌, refl, subst, ap, Some, Result, Ok, Err, if◌then◌else◌, pos, negsuc}
 use Rattle.value_form.specs.declared.fail_kinds.FailKind.{FailKind}
 use Rattle.value_form.specs.declared.fail_kinds.FailKind.TheVariants as fails
 use Rattle.value_form.specs.declared.objects.ObjectId.{ObjectId}
@@ -13,7 +13,7 @@ use Rattle.statement_form.specs.Row as r
 use Rattle.statement_form.specs.Rows.{Numbered, on, step_rows, rows}
 use Rattle.statement_form.specs.RowTexts.{SpotInLimits, SpotUpTo}
 use Rattle.script_form.specs.Printable.{RowsInLimits}
-use Rattle.serial_model.specs.Questions.{Tree, Ends, Says, Reads, Writes, Onward, asked_with, asked_turns, asked, all_asked, denote, after, first_stop}
+use Rattle.serial_model.specs.Questions.{Tree, Ends, Says, Reads, Writes, Onward, asked_with, asked_turns, asked, all_asked, denote, after}
 use Rattle.plan_form.specs.Plans.{InRange}
 use Rattle.serial_law.specs.Facts.{asks, asked_of}
 

@@ -1,6 +1,5 @@
 -- Puts among marks, and those that a scan finds.
-use Rattle.std.proofs.Common.{◌≡◌, Bool, true, false, List, [], ◌∷◌, refl, sym, ap, subst, Option, Some, None, inl, inr, ◌⊎◌}
-use Rattle.pseudo_time.specs.StampParts.{StampParts}
+use Rattle.std.proofs.Common.{◌≡◌, Bool, true, List, [], ◌∷◌, refl, ap, subst, Option, Some, None, inl, inr, ◌⊎◌}
 use Rattle.pseudo_time.specs.TimeParts.{TimeParts}
 use Rattle.value_form.specs.declared.objects.ObjectId.{ObjectId}
 use Rattle.value_form.specs.declared.values.Value.{Value}

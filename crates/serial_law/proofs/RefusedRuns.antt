@@ -1,5 +1,5 @@
 -- What Serial refuses: the run over two repositories with one thing wrong, and a plan without the object's repository.
-use Rattle.std.proofs.Common.{◌≡◌, ℕ, Bool, true, false, List, [], ◌∷◌, refl, sym, ◌∙◌, ap, Option, Some, None, inl, inr, if◌then◌else◌}
+use Rattle.std.proofs.Common.{◌≡◌, Bool, true, false, List, [], ◌∷◌, refl, sym, ◌∙◌, ap, Option, Some, None, inl, inr}
 use Rattle.std.proofs.lemmas.Bool.{false≢true, true≢false}
 use Rattle.pseudo_time.specs.Order.{same_stamp, stamp_lt, lt}
 use Rattle.value_form.specs.declared.transcripts.Line.{Line}
@@ -12,7 +12,6 @@ use Rattle.effect_form.specs.declared.effects.Effect.TheVariants as effect
 use Rattle.effect_form.specs.declared.outcomes.Outcome.{Outcome}
 use Rattle.effect_form.specs.declared.outcomes.Outcome.TheVariants as outcome
 use Rattle.script_meaning.specs.Meaning.{Answer, Got, Stored}
-use Rattle.serial_model.specs.Questions.{told}
 use Rattle.broker_core.specs.Book.{book}
 use Rattle.serial_law.specs.Deeds.{Try, RunLogs, Version, has_commit, committed, put_in, puts_of, puts_to, find, stamp_in, stamp_if, put_stamps, log_stamps, try_stamps, all_deeds, before, lines_written}
 use Rattle.serial_law.specs.Serial.{Serial}

@@ -1,6 +1,5 @@
 -- What holds of all logs and messages of a legal run gives the facts that keep it serial.
-use Rattle.std.proofs.Common.{◌≡◌, ℕ, zero, suc, ◌+◌, ◌≤◌, Bool, true, false, List, [], ◌∷◌, ◌++◌, map, length, reverse, refl, sym, ◌∙◌, ap, subst, Option, Some, None, is_some, slice_get, ◌⊎◌, inl, inr, arith, if◌then◌else◌, ◌==◌}
-use Rattle.std.proofs.lemmas.Grind.{common_steps}
+use Rattle.std.proofs.Common.{◌≡◌, ℕ, zero, suc, ◌+◌, ◌≤◌, Bool, true, false, List, [], ◌∷◌, ◌++◌, reverse, refl, sym, ◌∙◌, ap, subst, Option, Some, None, is_some, slice_get, inl, inr, if◌then◌else◌, ◌==◌}
 use Rattle.std.proofs.lemmas.List.{append-nil}
 use Rattle.std.specs.List.{filter}
 use Rattle.pseudo_time.specs.Lists.{Every, Has}
@@ -15,7 +14,6 @@ use Rattle.pseudo_time.specs.declared.nodes.NodeKind.TheVariants.{Repository, Br
 use Rattle.pseudo_time.proofs.ListLemmas.{every-has}
 use Rattle.value_form.specs.declared.acts.ActSpec.{ActSpec}
 use Rattle.value_form.specs.declared.endings.Ending.TheVariants as ending
-use Rattle.value_form.specs.declared.fail_kinds.FailKind.{FailKind}
 use Rattle.value_form.specs.declared.objects.ObjectId.{ObjectId}
 use Rattle.value_form.specs.declared.values.Value.{Value}
 use Rattle.value_form.specs.Mirror.{block}
@@ -29,14 +27,13 @@ use Rattle.turn_form.specs.Growth.{Each}
 use Rattle.turn_form.specs.Posts.{Post}
 use Rattle.object_history.specs.declared.steps.WriteStep.TheVariants as write
 use Rattle.object_history.specs.Answers.{write_step}
-use Rattle.object_history.specs.Views.{Viewed, Distinct}
-use Rattle.script_meaning.specs.Meaning.{Answer, Got, Stored, Request, ToRead, ToWrite, Stop, Asks, Over}
-use Rattle.statement_form.specs.RowTexts.{script_text}
-use Rattle.serial_model.specs.Questions.{Tree, after, first_stop, stop, talked, denote}
+use Rattle.object_history.specs.Views.{Viewed}
+use Rattle.script_meaning.specs.Meaning.{Got, Stored, Request, ToRead, ToWrite, Stop, Asks, Over}
+use Rattle.serial_model.specs.Questions.{Tree, after, stop, talked}
 use Rattle.serial_model.proofs.AnswerLemmas.{talked-stop}
 use Rattle.plan_form.specs.declared.plans.Plan.{Plan}
 use Rattle.plan_form.specs.Plans.{InRange}
-use Rattle.plan_form.specs.PlanTexts.{IsAct, EachAct, IsWhole}
+use Rattle.plan_form.specs.PlanTexts.{EachAct, IsWhole}
 use Rattle.repository_core.specs.Logs.{is_commit, marks}
 use Rattle.repository_laws.specs.Facts as repositories
 use Rattle.repository_laws.proofs.Logs.{tidy-distinct, decide-home, decided-once, decide-cause}
@@ -55,13 +52,13 @@ use Rattle.world_core.specs.Walks.{Base, opened_log}
 use Rattle.world_facts.specs.NodeRules.{kind_post, node_facts}
 use Rattle.world_facts.specs.Refines as refines
 use Rattle.serial_law.specs.Causes.{HasCause, Causes}
-use Rattle.serial_law.specs.Deeds.{Try, RunLogs, log_of, in_run}
+use Rattle.serial_law.specs.Deeds.{Try, RunLogs, in_run}
 use Rattle.serial_law.specs.Facts.{Said, at, asks, request_at, asked_of, Asked, MayCommit, Facts}
-use Rattle.serial_law.specs.Runs.{attempt, run_of, run_tries}
+use Rattle.serial_law.specs.Runs.{attempt, run_of}
 use Rattle.serial_law.proofs.Attempts.{IsTryOf, try-of, try-home, of-book, found-try}
 use Rattle.serial_law.proofs.CauseLemmas.{once-read, once-version}
 use Rattle.serial_law.proofs.Inside.{Inside, inside-after, inside-asks, inside-script}
-use Rattle.serial_law.proofs.LogLemmas.{in-low, in-high, in-both}
+use Rattle.serial_law.proofs.LogLemmas.{in-both}
 use Rattle.serial_law.proofs.Premises.{asked-here}
 
 -- ---- lists

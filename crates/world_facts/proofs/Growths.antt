@@ -1,16 +1,15 @@
 -- Logs that grow, lists, and functions that change at one node.
-use Rattle.std.proofs.Common.{◌≡◌, ℕ, zero, suc, ◌+◌, ◌-◌, ◌==◌, ◌&&◌, Bool, true, false, List, [], ◌∷◌, ◌++◌, length, drop, take, reverse, map, cond, if◌then◌else◌, refl, sym, ◌∙◌, ap, subst, Option, Some, None, arith, inl, inr}
-use Rattle.std.proofs.lemmas.Grind.{common_steps}
+use Rattle.std.proofs.Common.{◌≡◌, ℕ, zero, suc, ◌-◌, Bool, true, false, List, [], ◌∷◌, ◌++◌, length, drop, take, reverse, map, cond, if◌then◌else◌, refl, sym, ◌∙◌, ap, subst, Some, arith, inl, inr}
 use Rattle.std.specs.List.{filter}
 use Rattle.std.proofs.lemmas.List.{take-append-drop, reverse-append, length-append}
 use Rattle.pseudo_time.specs.Lists.{Every, Has}
 use Rattle.pseudo_time.specs.declared.nodes.NodeId.{NodeId}
 use Rattle.effect_form.specs.declared.effects.Effect.{Effect}
-use Rattle.turn_form.specs.Growth.{Grew, Each}
+use Rattle.turn_form.specs.Growth.{Each}
 use Rattle.message_core.specs.Nodes.{same_node}
 use Rattle.message_core.proofs.NodeLemmas.{same_is, same_node-refl}
 use Rattle.world_core.specs.Walks.{numbered}
-use Rattle.world_facts.specs.Soft.{put, keep}
+use Rattle.world_facts.specs.Soft.{put}
 
 -- ---- growth
 

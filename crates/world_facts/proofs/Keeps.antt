@@ -1,5 +1,5 @@
 -- Each event keeps what always holds.
-use Rattle.std.proofs.Common.{◌≡◌, ℕ, ◌-◌, Bool, List, [], ◌∷◌, ◌++◌, length, refl, sym, ◌∙◌, ap, subst, append_assoc, inl, inr}
+use Rattle.std.proofs.Common.{◌≡◌, ℕ, ◌-◌, Bool, List, [], ◌∷◌, ◌++◌, length, refl, sym, subst, append_assoc, inr}
 use Rattle.std.specs.List.{filter}
 use Rattle.std.proofs.lemmas.List.{append-nil}
 use Rattle.pseudo_time.specs.Lists.{Every, Has}
@@ -13,7 +13,7 @@ use Rattle.turn_form.specs.Growth.{Grew, Each}
 use Rattle.turn_form.specs.Posts.{Post, post, posts}
 use Rattle.turn_form.proofs.GrowthLemmas.{grew_keeps, grew_on, grew_drop, each_grew}
 use Rattle.serial_model.specs.Questions.{Tree}
-use Rattle.world_core.specs.Nodes.{Mind, Input, Given, repository}
+use Rattle.world_core.specs.Nodes.{Input, Given, repository}
 use Rattle.world_core.specs.Nodes.Input.{Going, Taking, Learning, Hearing}
 use Rattle.world_facts.specs.Rules.{Around, Later, NodeFacts, Turns, MayInput, SenderOk, TurnGiven, TurnGives, NodeLaws}
 use Rattle.world_facts.specs.Soft.{Seat, whole, keep, gate, crash, Soft, put, around, Event, react, happens, nothing, happened, May, Mays, NodeOk, SentOk, Inv}

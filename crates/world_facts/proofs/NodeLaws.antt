@@ -1,8 +1,6 @@
 -- The rules of repositories and of brokers keep what a run asks of them.
-use Rattle.std.proofs.Common.{◌≡◌, ℕ, Bool, true, false, List, [], ◌∷◌, ◌++◌, reverse, refl, sym, ◌∙◌, ap, subst, Option, Some, None, is_none}
-use Rattle.std.proofs.lemmas.List.{append-nil, reverse-reverse}
+use Rattle.std.proofs.Common.{◌≡◌, ℕ, true, List, [], ◌∷◌, ◌++◌, reverse, refl, sym, subst, Option, Some, None, is_none}
 use Rattle.pseudo_time.specs.Lists.{Every, Has}
-use Rattle.pseudo_time.specs.StampParts.{StampParts}
 use Rattle.pseudo_time.specs.declared.decisions.Decision.TheVariants as decision
 use Rattle.pseudo_time.specs.declared.nodes.NodeId.{NodeId}
 use Rattle.pseudo_time.specs.declared.nodes.NodeKind.{NodeKind}
@@ -12,7 +10,6 @@ use Rattle.value_form.specs.declared.acts.ActSpec.{ActSpec}
 use Rattle.effect_form.specs.declared.effects.Effect.{Effect}
 use Rattle.effect_form.specs.declared.effects.Effect.TheVariants as effect
 use Rattle.message_form.specs.declared.messages.Message.{Message}
-use Rattle.message_form.specs.declared.messages.Message.TheVariants as message
 use Rattle.turn_form.specs.declared.turns.Out.{Out}
 use Rattle.turn_form.specs.Growth.{Grew, Each}
 use Rattle.turn_form.specs.Posts.{Post}
@@ -24,8 +21,7 @@ use Rattle.repository_laws.specs.Givens.{IsGiven, Gives}
 use Rattle.repository_laws.proofs.Logs.{tidy-kept}
 use Rattle.repository_laws.proofs.Posts.{post-stays, post-more, held-more}
 use Rattle.repository_laws.proofs.Whole.{gives-taking, gives-learning, gives-hearing}
-use Rattle.broker_core.specs.declared.resume_faults.ResumeFault.{ResumeFault}
-use Rattle.broker_core.specs.Book.{Book, book, tries}
+use Rattle.broker_core.specs.Book.{book, tries}
 use Rattle.broker_core.specs.Fits.{resume_fault}
 use Rattle.broker_core.specs.Tasks.{tasks}
 use Rattle.broker_core.specs.Turns as desks
@@ -37,10 +33,10 @@ use Rattle.broker_laws.proofs.Desks.{desk-ok}
 use Rattle.broker_laws.proofs.Moves.{post-kept}
 use Rattle.broker_laws.proofs.ReadyLemmas.{no-fault}
 use Rattle.broker_laws.proofs.TurnLemmas.{turn-added, ready-cut, cause-more}
-use Rattle.world_core.specs.Nodes.{Mind, opened_mind, Input, Given, gives, kind_gives, is_ready, kind_ready, acts_of, repository}
+use Rattle.world_core.specs.Nodes.{Mind, opened_mind, Input, gives, kind_gives, is_ready, kind_ready, acts_of, repository}
 use Rattle.world_core.specs.Nodes.Input.{Going, Taking, Learning, Hearing}
-use Rattle.world_facts.specs.Rules.{Around, IsDecided, Later, NodeFacts, forward, MayInput, SenderOk, TurnGiven, TurnGives, NodeLaws}
-use Rattle.world_facts.specs.NodeRules.{of_hand, repository_turn, of_desk, broker_turn, kind_turn, node_turns, kind_fits, kind_tidy, kind_post, kind_cause, kind_mind, kind_is_ready, node_facts}
+use Rattle.world_facts.specs.Rules.{Around, Later, forward, MayInput, SenderOk, TurnGiven, TurnGives, NodeLaws}
+use Rattle.world_facts.specs.NodeRules.{of_hand, of_desk, kind_turn, node_turns, kind_fits, kind_tidy, kind_post, kind_cause, kind_mind, kind_is_ready, node_facts}
 
 none-is : {A : Type 0} (o : Option A) → is_none o ≡ true → o ≡ None
 none-is None h = refl

@@ -1,14 +1,13 @@
 -- Runs begin and end, one after another; and the facts of a legal trace over logs with a past.
-use Rattle.std.proofs.Common.{◌≡◌, ℕ, zero, suc, ◌-◌, Bool, true, false, List, [], ◌∷◌, ◌++◌, drop, take, length, reverse, if◌then◌else◌, refl, sym, ◌∙◌, ap, subst, inl, inr, Option, Some, None, is_some}
+use Rattle.std.proofs.Common.{◌≡◌, ℕ, ◌-◌, Bool, true, false, List, [], ◌∷◌, ◌++◌, drop, take, length, reverse, if◌then◌else◌, refl, sym, ◌∙◌, ap, subst, inl, inr, Option, Some, None, is_some}
 use Rattle.std.specs.Option.{unwrap_or}
 use Rattle.std.proofs.lemmas.List.{append-nil, reverse-append}
 use Rattle.pseudo_time.specs.Lists.{Every, Has}
-use Rattle.pseudo_time.specs.StampParts.{StampParts}
 use Rattle.pseudo_time.specs.declared.nodes.NodeId.{NodeId}
 use Rattle.pseudo_time.proofs.ListLemmas.{every-map}
 use Rattle.effect_form.specs.declared.effects.Effect.{Effect}
 use Rattle.effect_form.specs.declared.effects.Effect.TheVariants as effect
-use Rattle.turn_form.specs.Growth.{Grew, Each}
+use Rattle.turn_form.specs.Growth.{Each}
 use Rattle.turn_form.specs.Posts.{Post}
 use Rattle.turn_form.proofs.GrowthLemmas.{each_below}
 use Rattle.stream_port.specs.declared.fates.Asked.{Asked}
@@ -21,15 +20,15 @@ use Rattle.world_core.specs.declared.entries.Entry.{Entry}
 use Rattle.world_core.specs.declared.traces.Opened.{Opened}
 use Rattle.world_core.specs.declared.traces.Trace.{Trace}
 use Rattle.world_core.specs.Nodes.{repository, is_ready}
-use Rattle.world_core.specs.Walks.{Base, Life, World, opened_log, opened_life, sent_by, start_world, walk}
-use Rattle.world_core.specs.Legal.{Meets, AllReady, Legal, base_of, fates_of, in_plan}
-use Rattle.world_core.specs.Pasts.{Call, last_life, log_left, logs_after, Agrees, IsCall, AreCalls, HasPast}
+use Rattle.world_core.specs.Walks.{Base, Life, World, opened_log, sent_by, start_world, walk}
+use Rattle.world_core.specs.Legal.{Meets, AllReady, Legal, base_of, fates_of}
+use Rattle.world_core.specs.Pasts.{Call, log_left, logs_after, Agrees, AreCalls, HasPast}
 use Rattle.world_core.proofs.Rules.{meets-front}
 use Rattle.world_facts.specs.Rules.{Around, Later, NodeFacts, Turns, NodeLaws}
-use Rattle.world_facts.specs.Soft.{Seat, whole, put, crash, keep, kept_log, opened_seat, Soft, around, Event, happened, Mays, SentOk, Inv}
+use Rattle.world_facts.specs.Soft.{Seat, whole, put, crash, kept_log, opened_seat, Soft, around, Event, happened, Mays, SentOk, Inv}
 use Rattle.world_facts.specs.Soft.Event.{Crash}
-use Rattle.world_facts.specs.Refines.{seat_of, past_sent, PastTick, Ticked, Models, Refines, Left, logs_at, Facts}
-use Rattle.world_facts.proofs.Growths.{each-map, drop-none, none-has, length-reverse, take-back}
+use Rattle.world_facts.specs.Refines.{seat_of, past_sent, PastTick, Ticked, Refines, Left, logs_at, Facts}
+use Rattle.world_facts.proofs.Growths.{each-map, drop-none, length-reverse, take-back}
 use Rattle.world_facts.proofs.Keeps.{inv-reached}
 use Rattle.world_facts.proofs.Refinements.{ready-gated, walk-refines}
 

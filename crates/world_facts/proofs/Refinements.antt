@@ -1,43 +1,34 @@
 -- A legal trace over logs with a past is a run of a world without rules of turns.
-use Rattle.std.proofs.Common.{◌≡◌, ℕ, zero, suc, ◌+◌, ◌-◌, Bool, true, false, List, [], ◌∷◌, ◌++◌, map, drop, length, reverse, if◌then◌else◌, refl, sym, ◌∙◌, ap, subst, Option, Some, None, is_some, append_assoc, inl, inr}
+use Rattle.std.proofs.Common.{◌≡◌, ℕ, zero, suc, ◌-◌, Bool, true, false, List, [], ◌∷◌, ◌++◌, drop, length, reverse, if◌then◌else◌, refl, sym, ◌∙◌, ap, subst, Option, Some, None, is_some, append_assoc, inl, inr}
 use Rattle.std.specs.List.{filter}
-use Rattle.std.specs.Option.{unwrap_or}
-use Rattle.std.proofs.lemmas.List.{append-nil, reverse-append}
-use Rattle.pseudo_time.specs.Lists.{Every, Has}
+use Rattle.std.proofs.lemmas.List.{append-nil}
+use Rattle.pseudo_time.specs.Lists.{Has}
 use Rattle.pseudo_time.specs.StampParts.{StampParts}
 use Rattle.pseudo_time.specs.declared.nodes.NodeId.{NodeId}
-use Rattle.pseudo_time.proofs.ListLemmas.{every-map, has-right, has-reverse}
+use Rattle.pseudo_time.proofs.ListLemmas.{has-right, has-reverse}
 use Rattle.value_form.specs.declared.acts.ActSpec.{ActSpec}
 use Rattle.effect_form.specs.declared.effects.Effect.{Effect}
 use Rattle.effect_form.specs.declared.effects.Effect.TheVariants as effect
 use Rattle.turn_form.specs.declared.turns.Out.{Out}
-use Rattle.turn_form.specs.Growth.{Grew, Each}
+use Rattle.turn_form.specs.Growth.{Grew}
 use Rattle.turn_form.specs.Posts.{Post, posts}
-use Rattle.turn_form.proofs.GrowthLemmas.{each_below}
-use Rattle.stream_port.specs.declared.fates.Asked.{Asked}
 use Rattle.stream_port.specs.declared.fates.Fate.{Fate}
 use Rattle.message_core.specs.Nodes.{same_node}
 use Rattle.serial_model.specs.Questions.{Tree}
-use Rattle.plan_form.specs.declared.plans.Plan.{Plan}
 use Rattle.world_core.specs.declared.entries.Entry.{Entry}
 use Rattle.world_core.specs.declared.entries.Entry.TheVariants as entry
-use Rattle.world_core.specs.declared.traces.Opened.{Opened}
-use Rattle.world_core.specs.declared.traces.Trace.{Trace}
 use Rattle.world_core.specs.Nodes.{Input, leaves, repository}
 use Rattle.world_core.specs.Nodes.Input.{Going, Taking, Learning, Hearing}
 use Rattle.world_core.specs.Walks.{Base, Life, Sending, World, opened_log, numbered, names, step, told, took, hears, lives_on, gated_life, crashed_life, opened_life, leaving, sent_by, start_world, walk_from, walk, last_after}
 use Rattle.world_core.specs.Walks as walks
-use Rattle.world_core.specs.Legal.{MayTake, MayGo, MayHear, MayLearn, MayGate, MayCrash, Stands, Rule, Meets, AllReady, Legal, base_of, fates_of, in_plan}
-use Rattle.world_core.specs.Pasts.{Call, log_left, logs_after, Agrees, IsCall, AreCalls, HasPast}
-use Rattle.world_core.proofs.Rules.{meets-front}
-use Rattle.world_facts.specs.Rules.{Around, IsDecided, Later, NodeFacts, Turns, MayInput, TurnGives, NodeLaws}
-use Rattle.world_facts.specs.Soft.{Seat, whole, put, gate, crash, keep, kept_log, opened_seat, Soft, around, Event, react, happens, happened, Mays, SentOk, Inv}
+use Rattle.world_core.specs.Legal.{MayTake, MayHear, MayGate, MayCrash, Stands, Rule, Meets}
+use Rattle.world_facts.specs.Rules.{IsDecided, NodeFacts, Turns, MayInput, TurnGives, NodeLaws}
+use Rattle.world_facts.specs.Soft.{Seat, whole, put, gate, crash, Soft, around, Event, react, happened, Mays, Inv}
 use Rattle.world_facts.specs.Soft.Event.{React, Gate, Crash, Tick}
-use Rattle.world_facts.specs.Refines.{seat_of, Models, Refines, Left, logs_at, Facts}
-use Rattle.world_facts.proofs.Growths.{each-map, drop-none, none-has, numbered-has, put-all, length-reverse}
+use Rattle.world_facts.specs.Refines.{seat_of, Models, Refines}
+use Rattle.world_facts.proofs.Growths.{none-has, numbered-has, put-all}
 use Rattle.world_facts.proofs.Keeps.{tidy-grown, turn-gives, inv-reached}
 use Rattle.world_facts.proofs.Steps.{step-known, both-changed, all-stay, unknown-stays, gated-seat, crashed-seat, told-seat, sent-gate}
-use Rattle.message_core.proofs.NodeLemmas.{same_is}
 
 not-both : (t : Bool) → t ≡ true → t ≡ false → ⊥
 not-both t h k = let no : true ≡ false = sym h ∙ k in cc no

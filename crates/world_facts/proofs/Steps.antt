@@ -1,21 +1,20 @@
 -- One entry of a trace, node by node.
-use Rattle.std.proofs.Common.{◌≡◌, ℕ, Bool, true, false, ◌&&◌, List, [], ◌∷◌, ◌++◌, map, take, drop, length, reverse, if◌then◌else◌, refl, sym, ap, subst, ◌∙◌, Option, Some, None, append_assoc, ◌-◌}
-use Rattle.std.specs.List.{filter}
-use Rattle.std.proofs.lemmas.List.{append-nil, map-append, reverse-append, reverse-reverse}
+use Rattle.std.proofs.Common.{◌≡◌, ℕ, Bool, true, false, ◌&&◌, List, [], ◌∷◌, ◌++◌, map, take, drop, reverse, if◌then◌else◌, refl, sym, ap, subst, ◌∙◌, Option, Some, None, ◌-◌}
+use Rattle.std.proofs.lemmas.List.{map-append, reverse-append, reverse-reverse}
 use Rattle.pseudo_time.specs.declared.nodes.NodeId.{NodeId}
 use Rattle.pseudo_time.specs.declared.nodes.NodeKind.{NodeKind}
 use Rattle.pseudo_time.specs.declared.nodes.NodeKind.TheVariants.{Repository, Broker}
-use Rattle.turn_form.specs.Posts.{Post, posts}
+use Rattle.turn_form.specs.Posts.{Post}
 use Rattle.message_core.specs.Nodes.{same_node}
 use Rattle.message_core.proofs.NodeLemmas.{same_is}
 use Rattle.serial_model.specs.Questions.{Tree}
 use Rattle.world_core.specs.declared.entries.Entry.{Entry}
 use Rattle.world_core.specs.declared.entries.Entry.TheVariants.{Take, Go, Learn, Hear, Gate, Crash, Down, Tick}
-use Rattle.world_core.specs.Nodes.{Input, Given, gives, leaves}
+use Rattle.world_core.specs.Nodes.{Input, Given, gives}
 use Rattle.world_core.specs.Walks as walks
 use Rattle.world_core.specs.Walks.{Base, Life, Flags, Sending, World, names, step, told, lives_on, gated_life, crashed_life, flagged, went, learned, has_heard, leaving, sent_by, sendings_after, with_given}
 use Rattle.world_facts.specs.Rules.{NodeFacts, Turns, forward, NodeLaws}
-use Rattle.world_facts.specs.Soft.{Seat, whole, put, gate, crash, keep, react, with_turn, opened_seat}
+use Rattle.world_facts.specs.Soft.{Seat, whole, put, gate, crash, react, with_turn, opened_seat}
 use Rattle.world_facts.specs.Refines.{seat_of}
 use Rattle.world_facts.proofs.Growths.{take-back, length-reverse}
 

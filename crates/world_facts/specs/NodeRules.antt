@@ -1,7 +1,6 @@
 -- What the rules of repositories and of brokers keep, as one. Logs stand newest first.
-use Rattle.std.specs.Prelude.{ℕ, List, [], ◌++◌}
+use Rattle.std.specs.Prelude.{ℕ, List}
 use Rattle.pseudo_time.specs.Lists.{Every}
-use Rattle.pseudo_time.specs.declared.nodes.NodeId.{NodeId}
 use Rattle.pseudo_time.specs.declared.nodes.NodeKind.{NodeKind}
 use Rattle.pseudo_time.specs.declared.nodes.NodeKind.TheVariants.{Repository, Broker}
 use Rattle.value_form.specs.declared.acts.ActSpec.{ActSpec}

@@ -1,5 +1,5 @@
 -- How a walk over a trace and a world without rules of turns agree.
-use Rattle.std.specs.Prelude.{◌≡◌, ◌⊎◌, ℕ, Bool, true, false, List, [], ◌∷◌, ◌++◌, reverse, Option, Some, is_some, if◌then◌else◌}
+use Rattle.std.specs.Prelude.{◌≡◌, ◌⊎◌, ℕ, true, false, List, [], ◌∷◌, ◌++◌, reverse, Some, is_some, if◌then◌else◌}
 use Rattle.pseudo_time.specs.Lists.{Every, Has}
 use Rattle.pseudo_time.specs.declared.nodes.NodeId.{NodeId}
 use Rattle.effect_form.specs.declared.effects.Effect.{Effect}
@@ -11,7 +11,7 @@ use Rattle.world_core.specs.declared.entries.Entry.TheVariants.{Tick}
 use Rattle.world_core.specs.Walks.{Base, Life, World, opened_log, sent_by, walk}
 use Rattle.world_core.specs.Legal.{base_of}
 use Rattle.world_core.specs.Pasts.{Call}
-use Rattle.world_facts.specs.Rules.{Around, NodeFacts, Turns}
+use Rattle.world_facts.specs.Rules.{NodeFacts, Turns}
 use Rattle.world_facts.specs.Soft.{Seat, whole, Soft, Event, happened, Mays, SentOk}
 
 -- a life, newest first
