@@ -64,7 +64,7 @@ use Rattle.serial_law.proofs.Premises.{asked-here}
 -- ---- lists
 
 -- an effect of a log, with the log below it
-each-has : (P : List Effect → Effect → Type 0) (log : List Effect) (f : Effect) → Each P log → Has f log → (below : List Effect) × P below f
+pub each-has : (P : List Effect → Effect → Type 0) (log : List Effect) (f : Effect) → Each P log → Has f log → (below : List Effect) × P below f
 each-has P [] f h k = absurd k
 each-has P (g ∷ log) f h (inl e) = (log, subst (P log) e h.1)
 each-has P (g ∷ log) f h (inr k) = each-has P log f h.0 k

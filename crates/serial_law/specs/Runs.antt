@@ -23,8 +23,8 @@ use Rattle.world_core.specs.declared.entries.Entry.{Entry}
 use Rattle.world_core.specs.declared.traces.Trace.{Trace}
 use Rattle.world_core.specs.Walks.{World, walk, sent_by}
 use Rattle.world_core.specs.Legal.{Legal, base_of}
-use Rattle.world_core.specs.Pasts.{Call, HasPast, Agrees}
-use Rattle.world_facts.specs.Refines.{logs_at, past_sent}
+use Rattle.world_core.specs.Pasts.{HasPast, Agrees}
+use Rattle.world_facts.specs.Refines.{logs_at, past_sent, Ticked}
 use Rattle.serial_law.specs.Deeds.{Try, RunLogs}
 
 -- an attempt of a broker's book; `script` reads the texts of scripts
@@ -44,35 +44,42 @@ run_tries script run logs (suc b) = run_tries script run logs b ++ book_tries sc
 abbrev pub run_of : (List ℕ → Tree) → Plan → (NodeId → List Effect) → RunLogs
 run_of script plan logs = record { repositories = plan.repositories; logs = logs; tries = run_tries script plan.run logs plan.brokers }
 
--- ---- legal traces
+-- ---- places of legal traces
 
--- a legal trace of a plan of the language, over logs with a past; `logs` are those so far, oldest effect first, and these are
--- its entries up to a place
-pub record IsPlace (script : List ℕ → Tree) (plan : Plan) (asked : List Asked) (t : Trace) (logs : NodeId → List Effect) (front : List Entry) : Type 0 where
+-- A place of a legal trace of a plan of the language, over logs with a past. `logs` are those so far, oldest effect first, and
+-- `front` are the trace's entries up to the place. `script` reads the texts of scripts.
+pub record Place : Type 0 where
+  pub script : List ℕ → Tree
+  pub plan : Plan
+  pub asked : List Asked
+  pub trace : Trace
+  pub logs : NodeId → List Effect
+  pub front : List Entry
+  pub rest : List Entry
+  pub here : trace.entries ≡ front ++ rest
   pub whole : IsWhole plan
   pub past : HasPast script logs
-  pub agrees : Agrees t.opened logs
-  pub legal : Legal script plan asked t
-  pub rest : List Entry
-  pub here : t.entries ≡ front ++ rest
+  pub agrees : Agrees trace.opened logs
+  pub legal : Legal script plan asked trace
 
-abbrev pub world_at : (List ℕ → Tree) → Plan → Trace → List Entry → World
-world_at script plan t front = walk (base_of script plan t) front
+abbrev pub world_at : Place → World
+world_at p = walk (base_of p.script p.plan p.trace) p.front
 
--- the durable logs at that place, newest effect first
-abbrev pub log_at : (List ℕ → Tree) → Plan → Trace → (NodeId → List Effect) → List Entry → NodeId → List Effect
-log_at script plan t logs front n = reverse (logs_at logs (world_at script plan t front) n)
+-- a node's durable log there, newest effect first
+abbrev pub log_at : Place → NodeId → List Effect
+log_at p n = reverse (logs_at p.logs (world_at p) n)
 
-abbrev pub run_at : (List ℕ → Tree) → Plan → Trace → (NodeId → List Effect) → List Entry → RunLogs
-run_at script plan t logs front = run_of script plan (log_at script plan t logs front)
+-- the run as it stands there
+abbrev pub run_at : Place → RunLogs
+run_at p = run_of p.script p.plan (log_at p)
 
--- what was sent in the trace up to that place
-abbrev pub sent_at : (List ℕ → Tree) → Plan → Trace → List Entry → List Post
-sent_at script plan t front = sent_by (world_at script plan t front)
+-- all that was sent before, in the runs of the past and in the trace
+abbrev pub sent_before : Place → List Post
+sent_before p = past_sent p.script p.past.0 ++ sent_by (world_at p)
 
--- all that was sent before that place, in the runs of the past and in the trace
-abbrev pub all_sent : (List ℕ → Tree) → List Call → Plan → Trace → List Entry → List Post
-all_sent script past plan t front = past_sent script past ++ sent_at script plan t front
+-- the moment was ticked before, in a run of the past or in the trace
+abbrev pub TickedBefore : Place → ℕ → Type 0
+TickedBefore p = Ticked p.past.0 p.front
 
 -- ---- acknowledgements
 

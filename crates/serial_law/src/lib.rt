@@ -2,6 +2,10 @@
 //! before it, whatever messages are lost, repeated, held or reordered and wherever nodes crash.
 #![tactic(auto)]
 
+mod fact_laws;
 mod laws;
 
-pub use laws::{law_acknowledged, law_before, law_causes, law_facts, law_finals, law_serial};
+pub use fact_laws::{
+    answers_were_sent, decisions_agree, law_facts, logs_fit, requests_are_the_scripts,
+};
+pub use laws::{law_acknowledged, law_before, law_causes, law_finals, law_serial};

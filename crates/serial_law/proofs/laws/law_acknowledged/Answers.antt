@@ -2,4 +2,4 @@ use Rattle.serial_law.proofs.Traces.{place-acknowledges}
 use Rattle.serial_law.proofs.laws.law_acknowledged.Goals as goal
 
 pub returns : goal.returns
-returns c script plan asked t logs front p = place-acknowledges script plan asked t logs front p
+returns c = place-acknowledges

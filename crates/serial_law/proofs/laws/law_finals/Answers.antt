@@ -1,11 +1,10 @@
 use Rattle.serial_law.proofs.Before.{finals-hold}
 use Rattle.serial_law.proofs.Traces.{place-serial-facts}
-use Rattle.serial_law.specs.Runs.{run_at, all_sent}
+use Rattle.serial_law.specs.Runs.{run_at, sent_before}
 use Rattle.serial_law.proofs.laws.law_finals.Goals as goal
 
 pub returns-clause-places : goal.returns-clause-places
-returns-clause-places c script plan asked t logs front p =
-    finals-hold (run_at script plan t logs front) (all_sent script p.past.0 plan t front) (place-serial-facts script plan asked t logs front p)
+returns-clause-places c p = finals-hold (run_at p) (sent_before p) (place-serial-facts p)
 
 pub returns-clause-facts : goal.returns-clause-facts
 returns-clause-facts c = finals-hold

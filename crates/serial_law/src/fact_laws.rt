@@ -1,0 +1,60 @@
+// What holds of all logs and messages at each place of a legal trace, and keeps its run serial.
+ghost use Rattle.std.specs.Prelude.{◌≡◌, ℕ, Bool};
+ghost use Rattle.pseudo_time.specs.Lists.{Every, Has};
+ghost use Rattle.pseudo_time.specs.StampParts.{StampParts};
+ghost use Rattle.pseudo_time.specs.TimeParts.{TimeParts};
+ghost use Rattle.pseudo_time.specs.declared.decisions.Decision.{Decision};
+ghost use Rattle.pseudo_time.specs.declared.decisions.Decision.TheVariants as decision;
+ghost use Rattle.pseudo_time.specs.declared.nodes.NodeId.{NodeId};
+ghost use Rattle.value_form.specs.declared.objects.ObjectId.{ObjectId};
+ghost use Rattle.value_form.specs.declared.values.Value.{Value};
+ghost use Rattle.effect_form.specs.declared.effects.Effect.TheVariants as effect;
+ghost use Rattle.message_form.specs.declared.messages.Message.{Message};
+ghost use Rattle.message_form.specs.declared.messages.Message.TheVariants as message;
+ghost use Rattle.repository_laws.specs.Facts as repositories;
+ghost use Rattle.broker_core.specs.Book.{book, tries};
+ghost use Rattle.broker_core.specs.Stages.{broker, repository};
+ghost use Rattle.broker_laws.specs.Fits as brokers;
+ghost use Rattle.broker_laws.specs.Posts.{Distinct, IsPlayed, IsProven, PostHolds};
+ghost use Rattle.serial_law.specs.Facts.{Facts};
+ghost use Rattle.serial_law.specs.Runs.{Place, log_at, run_at, sent_before};
+
+/// An attempt is decided at its home alone, in one way, and nothing is learned of it there. What is
+/// learned of it elsewhere agrees with the decision in its home's durable log.
+pub fn decisions_agree()
+    ensures home { (p : Place) (r : ℕ) (s : StampParts) (d : Decision) → Has (effect.Decide s d) (log_at p (repository r)) → s.home ≡ r }
+    ensures once { (p : Place) (r : ℕ) (s : StampParts) (d e : Decision) → Has (effect.Decide s d) (log_at p (repository r)) → Has (effect.Decide s e) (log_at p (repository r)) → d ≡ e }
+    ensures apart { (p : Place) (r : ℕ) (s : StampParts) (d : Decision) (c : Bool) → Has (effect.Decide s d) (log_at p (repository r)) → Has (effect.Learn s c) (log_at p (repository r)) → ⊥ }
+    ensures learned { (p : Place) (r : ℕ) (s : StampParts) (c : Bool) → Has (effect.Learn s c) (log_at p (repository r)) → repositories.IsDecidedAt (λ k. log_at p (repository k)) s c }
+{}
+
+/// Each answer in a broker's log was asked for, and came in a message; each End is what the script allows,
+/// and came in a message where another node gave it. Of all runs of the log.
+pub fn answers_were_sent()
+    ensures asked { (p : Place) (b : ℕ) → Every (IsPlayed p.script) (tries (book (log_at p (broker b)))) }
+    ensures sent { (p : Place) (b : ℕ) → Every (IsProven b (sent_before p)) (tries (book (log_at p (broker b)))) }
+{}
+
+/// What a broker ever sent is right by its durable log: a Read or Write is what the script asks after the
+/// answers before it, Begin and Withdraw name an attempt and its home, and a Commit was sent only where
+/// the whole transcript stands and the script is finished.
+pub fn requests_are_the_scripts()
+    ensures { (p : Place) (b : ℕ) (to : NodeId) (m : Message) → Has (record { from = broker b; to = to; message = m }) (sent_before p) →
+        PostHolds p.script b (tries (book (log_at p (broker b)))) to m }
+{}
+
+/// Each effect of a log fits the log below it; no two attempts of a broker have one stamp; each version
+/// and each commit was asked for by its attempt's broker.
+pub fn logs_fit()
+    ensures repositories { (p : Place) (r : ℕ) → repositories.IsTidy r (log_at p (repository r)) }
+    ensures brokers { (p : Place) (b : ℕ) → brokers.IsTidy p.script b (log_at p (broker b)) }
+    ensures stamps { (p : Place) (b : ℕ) → Distinct (tries (book (log_at p (broker b)))) }
+    ensures puts { (p : Place) (r : ℕ) (o : ObjectId) (x : TimeParts) (v : Value) → Has (effect.Put o x v) (log_at p (repository r)) → repositories.WriteSent (sent_before p) r x o v }
+    ensures commits { (p : Place) (r : ℕ) (s : StampParts) → Has (effect.Decide s decision.Committed) (log_at p (repository r)) →
+        repositories.WasSent (sent_before p) (broker s.broker) (repository r) (message.Commit s) }
+{}
+
+/// All of these, as the central theorem uses them.
+pub fn law_facts()
+    ensures { (p : Place) → Facts (run_at p) (sent_before p) }
+{}
