@@ -1,6 +1,6 @@
 -- A call's turn is that of the rules.
-use Rattle.std.proofs.Common.{◌≡◌, ℕ, min, ◌+◌, ◌*◌, ◌≤◌, ◌==◌, true, length, reverse, List, [], ◌∷◌, ◌++◌, refl, sym, ◌∙◌, ap, subst, Option, Some, None, arith}
-use Rattle.std.proofs.lemmas.Bool.{false≢true}
+use Rattle.std.proofs.Common.{◌≡◌, ℕ, zero, suc, min, ◌+◌, ◌*◌, ◌≤◌, ◌==◌, nat_lt, Bool, true, false, ◌&&◌, length, reverse, List, [], ◌∷◌, ◌++◌, refl, sym, ◌∙◌, ap, subst, Option, Some, None, if◌then◌else◌, arith}
+use Rattle.std.proofs.lemmas.Bool.{false≢true, eq-eqb}
 use Rattle.std.proofs.lemmas.List.{length-map, length-take, length-take-le, reverse-reverse}
 use Rattle.std.proofs.lemmas.Grind.{common_steps}
 use Rattle.value_form.specs.declared.acts.ActSpec.{ActSpec}
@@ -13,17 +13,17 @@ use Rattle.broker_core.specs.declared.givens.Given.{Given}
 use Rattle.broker_core.specs.declared.heards.Heard.{Heard}
 use Rattle.broker_core.specs.declared.notes.Notes.{Notes}
 use Rattle.broker_core.specs.declared.phases.Phase.{Phase}
-use Rattle.broker_core.specs.Tasks.{tasks, task_of, Scripted}
+use Rattle.broker_core.specs.Tasks.{Task, tasks, task_of, Scripted}
 use Rattle.broker_core.specs.Book.{Book, book, enter}
 use Rattle.broker_core.specs.Fits.{fits, counts, keep}
 use Rattle.broker_core.specs.Stages.{stage, standing}
 use Rattle.broker_core.specs.Turns.{Desk, desk_at, whole, note, hears, send, fuel, state, settle_up, say}
 use Rattle.broker_core.specs.Notes.{Shows, noted, answered_in}
-use Rattle.broker_core.specs.Phases.{standing_at}
+use Rattle.broker_core.specs.Phases.{phase_at, standing_at}
 use Rattle.broker_core.specs.Ledgers.{LedgerParts, Settled, kept, answers_noted, settled, most_steps}
-use Rattle.broker_core.specs.Inputs.{listed, phase_in, effects_from, ledger_from}
+use Rattle.broker_core.specs.Inputs.{listed, begun, firsts, settled_from, with_notes, phase_in, effects_from, ledger_from}
 use Rattle.broker_core.specs.Parts.{BrokerParts, parts_of}
-use Rattle.broker_core.specs.Brokers.{NoRun, Stands, Gives, follows, FirstFits}
+use Rattle.broker_core.specs.Brokers.{NoRun, book_for, Stands, Gives, with_first, follows, FirstFits}
 use Rattle.broker_core.proofs.SoundLemmas.{sound-kept}
 use Rattle.broker_core.proofs.NotedLemmas.{noted-shows}
 use Rattle.broker_core.proofs.AnyLemmas.{Knows, meets, standing-any}

@@ -1,5 +1,5 @@
 -- A message that is taken.
-use Rattle.std.proofs.Common.{◌≡◌, ℕ, ◌==◌, Bool, true, false, List, [], refl, sym, ◌∙◌, ap, subst, Some, None}
+use Rattle.std.proofs.Common.{◌≡◌, ℕ, ◌==◌, Bool, true, false, List, [], refl, sym, ◌∙◌, ap, subst, Option, Some, None}
 use Rattle.std.proofs.lemmas.Bool.{eqb-true}
 use Rattle.pseudo_time.specs.declared.nodes.NodeId.{NodeId}
 use Rattle.effect_form.specs.declared.effects.Effect.{Effect}
@@ -12,16 +12,16 @@ use Rattle.broker_core.specs.declared.replies.Reply.{Reply}
 use Rattle.broker_core.specs.declared.replies.Reply.TheVariants.{Ignored, Hears, Adds}
 use Rattle.broker_core.specs.Tasks.{tasks, Scripted}
 use Rattle.broker_core.specs.Book.{Book}
-use Rattle.broker_core.specs.Stages.{Stage, stage}
+use Rattle.broker_core.specs.Stages.{Stage, Idle, stage}
 use Rattle.broker_core.specs.Rows.{row, news}
 use Rattle.broker_core.specs.Turns.{Desk, Take, desk_at, reply}
 use Rattle.broker_core.specs.Phases.{phase_at, reply_at}
 use Rattle.broker_core.specs.Ledgers.{LedgerParts, kept}
 use Rattle.broker_core.specs.Parts.{BrokerParts, parts_of}
-use Rattle.broker_core.specs.Brokers.{book_for, Stands, Gives, turn_of, follows, FirstFits}
+use Rattle.broker_core.specs.Brokers.{NoRun, book_for, Stands, Gives, turn_of, follows, FirstFits}
 use Rattle.broker_core.proofs.SoundLemmas.{sound-kept}
 use Rattle.broker_core.proofs.PhaseLemmas.{stage-of-is}
-use Rattle.broker_core.proofs.AnyLemmas.{reply-any, stage-away}
+use Rattle.broker_core.proofs.AnyLemmas.{Knows, reply-any, stage-away}
 use Rattle.broker_core.proofs.GoodLemmas.{ReplyGood, row-good}
 use Rattle.broker_core.proofs.DoneLemmas.{ignored-gives}
 

@@ -10,7 +10,7 @@ use Rattle.turn_form.specs.declared.turns.Out.{Out}
 use Rattle.broker_core.specs.declared.heards.Heard.{Heard}
 use Rattle.broker_core.specs.declared.notes.Notes.{Notes}
 use Rattle.broker_core.specs.declared.phases.Phase.{Phase}
-use Rattle.broker_core.specs.Phases.{phase_at}
+use Rattle.broker_core.specs.Phases.{phase_at, standing_at}
 use Rattle.broker_core.specs.Ledgers.{LedgerParts, Settled, kept, settled, most_steps}
 use Rattle.broker_core.specs.Replays.{added}
 

@@ -11,6 +11,7 @@ use Rattle.broker_core.specs.declared.givens.Given.{Given}
 use Rattle.broker_core.specs.declared.givens.Given.TheVariants as given
 use Rattle.broker_core.specs.declared.heards.Heard.{Heard}
 use Rattle.broker_core.specs.declared.notes.Notes.{Notes}
+use Rattle.broker_core.specs.declared.phases.Phase.{Phase}
 use Rattle.broker_core.specs.Notes.{act_at, answered_in, answers_of, changed}
 use Rattle.broker_core.specs.Phases.{phase_at, owed_at}
 

@@ -1,4 +1,4 @@
-use Rattle.std.proofs.Common.{Some, ap, sym, ◌∙◌}
+use Rattle.std.proofs.Common.{◌≡◌, Some, ap, sym, ◌∙◌}
 use Rattle.script_meaning.specs.Meaning as meaning
 use Rattle.broker_core.specs.Notes.{answer_of}
 use Rattle.broker_core.proofs.GivenLemmas.{gave_script, gave_answers}

@@ -1,4 +1,4 @@
-use Rattle.std.proofs.Common.{sym, ◌∙◌, arith}
+use Rattle.std.proofs.Common.{◌≡◌, ◌-◌, sym, ◌∙◌, arith}
 use Rattle.broker_core.proofs.SettleLemmas.{on-the-way, at-rest, at-last}
 use Rattle.broker_core.proofs.owed.settle.Goals as goal
 
