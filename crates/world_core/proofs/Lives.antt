@@ -11,9 +11,9 @@ use Rattle.effect_form.specs.declared.effects.Effect.TheVariants as effect
 use Rattle.turn_form.specs.Posts.{Post}
 use Rattle.world_core.specs.declared.entries.Entry.{Entry}
 use Rattle.world_core.specs.declared.entries.Entry.TheVariants.{Take, Go, Learn, Hear, Gate, Crash, Down, Tick}
-use Rattle.world_core.specs.Nodes.{repository}
+use Rattle.world_core.specs.Nodes.{Input, repository}
 use Rattle.world_core.specs.Nodes.Input.{Going, Taking, Learning, Hearing}
-use Rattle.world_core.specs.Walks.{Base, Life, Sending, World, numbered, sent_by, names, own, told, took, hears, lives_on, leaving, step, start_world, walk_from, walk}
+use Rattle.world_core.specs.Walks.{Base, Life, Sending, World, numbered, sent_by, names, own, told, took, hears, lives_on, gated_life, crashed_life, leaving, step, start_world, walk_from, walk}
 use Rattle.world_core.specs.Legal.{Stands}
 
 module _ (b : Base) where

@@ -1,5 +1,5 @@
 -- Which traces are legal: a rule for each entry, asked of the world before it.
-use Rattle.std.specs.Prelude.{◌≡◌, ◌⊎◌, ℕ, suc, ◌+◌, ◌^◌, ◌≤◌, ◌<◌, ◌==◌, ◌&&◌, max, nat_le, Bool, true, false, List, [], ◌∷◌, ◌++◌, map, length, Some, None, is_some, slice_get}
+use Rattle.std.specs.Prelude.{◌≡◌, ◌⊎◌, ℕ, zero, suc, ◌+◌, ◌^◌, ◌≤◌, ◌<◌, ◌==◌, ◌&&◌, max, nat_le, Bool, true, false, List, [], ◌∷◌, ◌++◌, map, length, Option, Some, None, is_some, slice_get, IsTrue, if◌then◌else◌}
 use Rattle.std.specs.Option.{unwrap_or}
 use Rattle.std.specs.List.{count_by}
 use Rattle.pseudo_time.specs.Lists.{Has}
@@ -25,8 +25,8 @@ use Rattle.world_core.specs.declared.traces.Trace.{Trace}
 use Rattle.message_form.specs.declared.messages.Message.{Message}
 use Rattle.message_form.specs.Messages.{message_bytes}
 use Rattle.broker_core.specs.Tasks.{Scripted}
-use Rattle.world_core.specs.Nodes.{repository, is_ready, is_commit}
-use Rattle.world_core.specs.Walks.{Base, opened_log, Sending, World, numbered, start_world, step, walk, sent_by}
+use Rattle.world_core.specs.Nodes.{repository, broker, is_ready, is_commit}
+use Rattle.world_core.specs.Walks.{Base, opened_log, Sending, World, Flags, numbered, start_world, step, walk, sent_by}
 
 -- ---- the rules
 

@@ -1,5 +1,5 @@
 -- What nodes keep and how they answer inputs: the rules of repositories and of brokers as one function.
-use Rattle.std.specs.Prelude.{ℕ, Bool, true, ◌==◌, not, is_none, List, [], reverse}
+use Rattle.std.specs.Prelude.{ℕ, Bool, true, false, ◌==◌, not, is_none, List, [], reverse}
 use Rattle.std.specs.List.{filter}
 use Rattle.pseudo_time.specs.declared.nodes.NodeId.{NodeId}
 use Rattle.pseudo_time.specs.declared.nodes.NodeKind.{NodeKind}
