@@ -104,7 +104,7 @@ module _ (script : List ℕ → Tree) (me run : ℕ) (acts : List Task) where
   known-first : (c : ℕ) (t : Try) (rest ts : List Try) → ts ≡ t ∷ rest → Every (IsBelow me c) ts → IsKnown me ts t.stamp (repository t.stamp.home)
   known-first c t rest ts e all = (mine c t rest ts e all, refl, (t, find-first t rest ts e))
 
-  abbrev PostOk : List Try → Option Out → Type 0
+  abbrev pub PostOk : List Try → Option Out → Type 0
   PostOk ts None = Unit {0}
   PostOk ts (Some o) = PostHolds script me ts o.to o.message
 

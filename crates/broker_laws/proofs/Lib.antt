@@ -1,3 +1,4 @@
+pub mod AnyDesks
 pub mod AnyLog
 pub mod Desks
 pub mod Done

@@ -42,7 +42,7 @@ module _ (script : List ℕ → Tree) (me : ℕ) where
   run-close (outcome.Expired d m) b = omega arith
   run-close (outcome.Spent c) b = omega arith
 
-  runs-rise : (b : Book) (f : Effect) → FitsBook script me b f → b.run ≤ (enter f b).run
+  pub runs-rise : (b : Book) (f : Effect) → FitsBook script me b f → b.run ≤ (enter f b).run
   runs-rise b (effect.Run n) h = omega arith
   runs-rise b (effect.Act i x t k c y) h = omega arith
   runs-rise b (effect.Try i s) h = omega arith

@@ -1,3 +1,4 @@
+pub mod AnyLogs
 pub mod Fits
 pub mod Posts
 pub mod Works

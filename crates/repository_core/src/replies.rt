@@ -181,6 +181,15 @@ impl Draft {
         self.note(Effect::Decide { stamp, decision })
     }
 
+    /// A record expires: it is decided, and each asker is told that the attempt was aborted. Its broker
+    /// isn't answered.
+    pub fn expire(&mut self, stamp: Stamp, decision: Decision) -> Result<(), AllocError>
+        ensures { OnOk result (self.new ≡ rows.tell_askers stamp false (hands.note (effect.Decide stamp decision) self.old)) }
+    {
+        self.decide(stamp, decision)?;
+        self.tell_askers(stamp, false)
+    }
+
     /// The decision of a record is told to its broker.
     pub fn decided(
         &mut self,

@@ -388,8 +388,7 @@ impl<H: Histories> Work<H> {
         ensures gives { (rest : List (StampParts × Decision)) → IsTrue H.tells → IsUnknown (now self.old.draft) stamp → listed_at rest stamp ≡ None → AgreeBut H.content ((stamp, decision) ∷ rest) (now self.old.draft) self.old.books → OnOk result (self.new.draft ≡ rows.release stamp (rows.tell_askers stamp false (note (effect.Decide stamp decision) self.old.draft))) }
     {
         self.books.expire(stamp, decision)?;
-        self.draft.decide(stamp, decision)?;
-        self.draft.tell_askers(stamp, false)?;
+        self.draft.expire(stamp, decision)?;
         self.release(stamp)?;
         Ok(())
     }

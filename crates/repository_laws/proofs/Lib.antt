@@ -1,3 +1,4 @@
+pub mod AnyTurns
 pub mod Logs
 pub mod Posts
 pub mod Turns

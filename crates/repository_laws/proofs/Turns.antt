@@ -49,7 +49,7 @@ use Rattle.std.specs.declared.cmp.Ordering.TheVariants.{Less, Equal, Greater}
 use Rattle.pseudo_time.proofs.OrderLemmas.{time_cmp-exact}
 use Rattle.repository_laws.specs.Facts.{Once, FitsLog, HandHolds, HasCause, HasCome, HeldHolds, IsBacked, IsDecidedAt, IsTidy, IsTimely, PostHolds, ReadSent, WasClosed, WasSent, WriteSent}
 
-broker-is : (n : ℕ) (from : NodeId) → is_broker_of n from ≡ true → from ≡ broker n
+pub broker-is : (n : ℕ) (from : NodeId) → is_broker_of n from ≡ true → from ≡ broker n
 broker-is n from h = go from.kind from.number (and-left (is_broker from.kind) _ h) (eq-from from.number n (and-right (is_broker from.kind) _ h))
   where
     go : (k : NodeKind) (i : ℕ) → is_broker k ≡ true → i ≡ n → (let x : NodeId = record { kind = k; number = i } in x ≡ broker n)
@@ -311,7 +311,7 @@ module _ (ever : List Post) (homes : ℕ → List Effect) (ticks : List ℕ) (r 
   here-is : (h : Hand) (n : ℕ) (a : Bool) → Fine h → (a && (n == h.number)) ≡ true → n ≡ r
   here-is h n a ok g = eq-from n h.number (and-right a (n == h.number) g) ∙ ok.number
 
-  sent-by : (from : NodeId) (n : ℕ) (m : Message) (b : Bool) → (is_broker_of n from && b) ≡ true → WasSent ever from (repository r) m → WasSent ever (broker n) (repository r) m
+  pub sent-by : (from : NodeId) (n : ℕ) (m : Message) (b : Bool) → (is_broker_of n from && b) ≡ true → WasSent ever from (repository r) m → WasSent ever (broker n) (repository r) m
   sent-by from n m b g sent = subst (λ z. WasSent ever z (repository r) m) (broker-is n from (and-left (is_broker_of n from) b g)) sent
 
   row-ok : (h : Hand) (from : NodeId) (m : Message) → accepts h.number from m ≡ true → HasCome ever homes r from m → homes r ≡ gated → Fine h → Fine (row h from m)

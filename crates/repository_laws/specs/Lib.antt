@@ -1,2 +1,3 @@
+pub mod AnyLogs
 pub mod Facts
 pub mod Givens

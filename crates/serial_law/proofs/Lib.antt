@@ -1,3 +1,4 @@
+pub mod AddedEnds
 pub mod Attempts
 pub mod Before
 pub mod CauseLemmas
@@ -9,6 +10,7 @@ pub mod LogLemmas
 pub mod Lone
 pub mod Main
 pub mod Own
+pub mod OwnAnswers
 pub mod Premises
 pub mod Puts
 pub mod RefusedRuns

@@ -51,7 +51,7 @@ or-left : (p q : Bool) → p ≡ true → (p || q) ≡ true
 or-left true q h = refl
 or-left false q h = absurd (false≢true h)
 
-or-right : (p q : Bool) → q ≡ true → (p || q) ≡ true
+pub or-right : (p q : Bool) → q ≡ true → (p || q) ≡ true
 or-right true q h = refl
 or-right false q h = h
 

@@ -33,7 +33,7 @@ use Rattle.world_core.specs.Legal.{base_of}
 use Rattle.world_facts.specs.NodeRules.{kind_post, node_facts}
 use Rattle.world_facts.specs.Refines as refines
 use Rattle.world_facts.specs.Refines.{logs_at, past_sent, Ticked}
-use Rattle.world_facts.proofs.NodeLaws.{node-laws}
+use Rattle.world_facts.proofs.NodeLaws.{node-laws, past-laws}
 use Rattle.world_facts.proofs.Openings.{legal-facts}
 use Rattle.world_facts.specs.NodeRules.{node_turns}
 use Rattle.serial_law.specs.Facts.{Facts}
@@ -44,7 +44,7 @@ use Rattle.serial_law.specs.Causes.{Causes}
 module _ (p : Place) where
   -- all that holds of logs and messages there
   pub place-facts : refines.Facts (node_facts p.script) (base_of p.script p.plan p.trace) (logs_at p.logs (world_at p)) (past_sent p.script p.past.0) (sent_by (world_at p)) (TickedBefore p)
-  place-facts = legal-facts p.script (node_turns p.script) (node_facts p.script) (node-laws p.script) p.plan p.asked p.trace p.logs p.front p.rest p.past p.agrees p.legal p.here
+  place-facts = legal-facts p.script (node_turns p.script) (node_facts p.script) (node-laws p.script) (past-laws p.script) p.plan p.asked p.trace p.logs p.front p.rest p.past p.agrees p.legal p.here
 
   abbrev ever : List Post
   ever = sent_before p

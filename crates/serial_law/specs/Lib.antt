@@ -1,3 +1,5 @@
+pub mod Added
+pub mod Answers
 pub mod Causes
 pub mod Deeds
 pub mod Facts

@@ -1,7 +1,8 @@
 // What holds of all logs and messages at each place of a legal trace, and keeps its run serial.
-ghost use Rattle.std.specs.Prelude.{◌≡◌, ℕ, Bool};
+ghost use Rattle.std.specs.Prelude.{◌≡◌, ℕ, Bool, false};
 ghost use Rattle.pseudo_time.specs.Lists.{Every, Has};
 ghost use Rattle.pseudo_time.specs.StampParts.{StampParts};
+ghost use Rattle.pseudo_time.specs.Order.{lt};
 ghost use Rattle.pseudo_time.specs.TimeParts.{TimeParts};
 ghost use Rattle.pseudo_time.specs.declared.decisions.Decision.{Decision};
 ghost use Rattle.pseudo_time.specs.declared.decisions.Decision.TheVariants as decision;
@@ -15,7 +16,8 @@ ghost use Rattle.repository_laws.specs.Facts as repositories;
 ghost use Rattle.broker_core.specs.Book.{book, tries};
 ghost use Rattle.broker_core.specs.Stages.{broker, repository};
 ghost use Rattle.broker_laws.specs.Fits as brokers;
-ghost use Rattle.broker_laws.specs.Posts.{Distinct, IsPlayed, IsProven, PostHolds};
+ghost use Rattle.broker_laws.specs.Posts.{Distinct, IsPlayed, IsProven, PostHolds, WasSent};
+ghost use Rattle.serial_law.specs.Answers.{IsAnsweredThere, StoredBefore};
 ghost use Rattle.serial_law.specs.Facts.{Facts};
 ghost use Rattle.serial_law.specs.Runs.{Place, log_at, run_at, sent_before};
 
@@ -33,6 +35,26 @@ pub fn decisions_agree()
 pub fn answers_were_sent()
     ensures asked { (p : Place) (b : ℕ) → Every (IsPlayed p.script) (tries (book (log_at p (broker b)))) }
     ensures sent { (p : Place) (b : ℕ) → Every (IsProven b (sent_before p)) (tries (book (log_at p (broker b)))) }
+{}
+
+/// Each answer that a try got, and each refusal, was sent by the repository of the object that was asked
+/// for. Of all runs of the log.
+pub fn answers_come_from_there()
+    ensures { (p : Place) (b : ℕ) → Every (IsAnsweredThere p.script b (sent_before p)) (tries (book (log_at p (broker b)))) }
+{}
+
+/// One pseudotime carries one request: all Reads and Writes that were ever sent with it are equal.
+pub fn one_request_each()
+    ensures reads { (p : Place) (b : ℕ) (to two : NodeId) (x : TimeParts) (o u : ObjectId) → WasSent (sent_before p) (broker b) to (message.Read x o) → WasSent (sent_before p) (broker b) two (message.Read x u) → o ≡ u }
+    ensures writes { (p : Place) (b : ℕ) (to two : NodeId) (x : TimeParts) (o u : ObjectId) (v w : Value) → WasSent (sent_before p) (broker b) to (message.Write x o v) → WasSent (sent_before p) (broker b) two (message.Write x u w) → (o ≡ u) × (v ≡ w) }
+    ensures apart { (p : Place) (b : ℕ) (to two : NodeId) (x : TimeParts) (o u : ObjectId) (w : Value) → WasSent (sent_before p) (broker b) to (message.Read x o) → WasSent (sent_before p) (broker b) two (message.Write x u w) → ⊥ }
+{}
+
+/// A read answers what its own attempt wrote last to the object before, where such a write was stored.
+pub fn reads_see_own_writes()
+    ensures { (p : Place) (x : TimeParts) (v : Value) (o : ObjectId) (y : TimeParts) (w : Value) → WasSent (sent_before p) (broker x.stamp.broker) (repository o.repository) (message.Read x o) →
+        WasSent (sent_before p) (repository o.repository) (broker x.stamp.broker) (message.Value x v) → StoredBefore (sent_before p) x o y w →
+        ((z : TimeParts) (u : Value) → StoredBefore (sent_before p) x o z u → lt y z ≡ false) → v ≡ w }
 {}
 
 /// What a broker ever sent is right by its durable log: a Read or Write is what the script asks after the

@@ -1,11 +1,16 @@
 // A place of a trace is the entries before it, so each law holds at the trace's end and after each entry.
 ghost use Rattle.pseudo_time.specs.Lists.{Every, Has};
-ghost use Rattle.std.specs.Prelude.{ℕ, List};
+ghost use Rattle.std.specs.Prelude.{◌≡◌, ℕ, List, ◌∷◌, ◌++◌};
 ghost use Rattle.pseudo_time.specs.StampParts.{StampParts};
+ghost use Rattle.effect_form.specs.declared.effects.Effect.{Effect};
+ghost use Rattle.effect_form.specs.declared.effects.Effect.TheVariants as effect;
+ghost use Rattle.effect_form.specs.declared.outcomes.Outcome.{Outcome};
 ghost use Rattle.turn_form.specs.Posts.{Post};
 ghost use Rattle.broker_core.specs.Book.{book};
 ghost use Rattle.broker_core.specs.Stages.{broker};
 ghost use Rattle.broker_laws.specs.Posts.{IsWithinLimits};
+ghost use Rattle.world_facts.specs.AnyRules.{log_before};
+ghost use Rattle.serial_law.specs.Added.{AnyPlace, any_log, EndCause};
 ghost use Rattle.serial_law.specs.Causes.{Causes};
 ghost use Rattle.serial_law.specs.Deeds.{RunLogs, before, finals};
 ghost use Rattle.serial_law.specs.Facts.{Facts};
@@ -42,7 +47,12 @@ pub fn law_acknowledged()
 /// script came to, or a read or version above the write that was refused. The moment of an expiry was
 /// ticked, in the trace before that place or in the past. An act is spent only where no greater clock is
 /// left, and has at most its number of attempts.
+///
+/// Over logs without a past, too, each End that the trace added has its cause: a refusal, the end of a
+/// script, or that no clock was left.
 pub fn law_causes()
     ensures ends { (p : Place) → Causes (run_at p) (TickedBefore p) }
     ensures spent { (p : Place) (b : ℕ) → Every IsWithinLimits (book (log_at p (broker b))).acts }
+    ensures added { (p : AnyPlace) (b i : ℕ) (o : Outcome) (late early : List Effect) → any_log p (broker b) ≡ late ++ (effect.End i o ∷ (early ++ log_before p.trace (broker b))) →
+        EndCause p b (early ++ log_before p.trace (broker b)) i o }
 {}

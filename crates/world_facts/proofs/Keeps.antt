@@ -17,7 +17,7 @@ use Rattle.world_core.specs.Nodes.{Input, Given, repository}
 use Rattle.world_core.specs.Nodes.Input.{Going, Taking, Learning, Hearing}
 use Rattle.world_facts.specs.Rules.{Around, Later, NodeFacts, Turns, MayInput, SenderOk, TurnGiven, TurnGives, NodeLaws}
 use Rattle.world_facts.specs.Soft.{Seat, whole, keep, gate, crash, Soft, put, around, Event, react, happens, nothing, happened, May, Mays, NodeOk, SentOk, Inv}
-use Rattle.world_facts.specs.Soft.Event.{React, Gate, Crash, Tick}
+use Rattle.world_facts.specs.Soft.Event.{Start, React, Gate, Crash, Tick}
 use Rattle.world_facts.proofs.Growths.{each-map, each-drop, every-filter, every-of-map, put-all, put-here}
 
 module _ (script : List ℕ → Tree) (turns : Turns) (F : NodeFacts) (laws : NodeLaws script turns F) where
@@ -146,21 +146,28 @@ module _ (script : List ℕ → Tree) (turns : Turns) (F : NodeFacts) (laws : No
 
   -- ---- one event, and all
 
-  pub inv-happens : (s : Soft) (e : Event) → Inv F s → May F s e → Inv F (happens turns s e)
-  inv-happens s (React n run acts input) inv may =
-      changed s n (react turns run acts n (s.seat n) input) [] s.ever [] inv (react-ok s run acts n input inv may.0 may.1) tt refl (sym (append-nil s.ever)) tt
-  inv-happens s (Gate n which) inv may =
-      changed s n (gate (s.seat n)) (s.seat n).fresh (s.ever ++ posts n (filter which (s.seat n).outs)) (posts n (filter which (s.seat n).outs)) inv
-      (gate-ok (around s) n (s.seat n) (inv.nodes n)) (inv.nodes n).grew refl refl (gate-news s n which inv)
-  inv-happens s (Crash n kept start) inv may =
-      changed s n (crash kept start (s.seat n)) (keep kept (s.seat n).fresh) s.ever [] inv (crash-ok (around s) n kept start (s.seat n) (inv.nodes n))
-      (grew_drop (F.Fits n) (s.seat n).gated (length (s.seat n).fresh - kept) (s.seat n).fresh (inv.nodes n).grew) refl (sym (append-nil s.ever)) tt
-  inv-happens s (Tick t) inv may = inv-tick s t inv
+  started : (logs : NodeId → List Effect) → May F nothing (Start logs) → Inv F (happens turns nothing (Start logs))
+  started logs may = record { nodes = λ n. record { tidy = (may n).0; grew = tt; proofs = (may n).1; mind_ok = laws.opened [] n 0; outs = tt }; sent = tt }
 
-  inv-nothing : Inv F nothing
-  inv-nothing = record { nodes = λ n. record { tidy = laws.empty n; grew = tt; proofs = tt; mind_ok = laws.opened [] n 0; outs = tt }; sent = tt }
+  inv-nothing : ((n : NodeId) → F.Tidy n []) → Inv F nothing
+  inv-nothing empty = record { nodes = λ n. record { tidy = empty n; grew = tt; proofs = tt; mind_ok = laws.opened [] n 0; outs = tt }; sent = tt }
 
   -- what always holds, holds in every world that events reach
   pub inv-reached : (es : List Event) → Mays F turns es → Inv F (happened turns es)
-  inv-reached [] may = inv-nothing
-  inv-reached (e ∷ es) may = inv-happens (happened turns es) e (inv-reached es may.0) may.1
+  inv-reached [] may = inv-nothing may
+  inv-reached (Start logs ∷ es) may = started logs may
+  inv-reached (React n run acts input ∷ es) may =
+      let s : Soft = happened turns es in
+      let inv : Inv F (happened turns es) = inv-reached es may.0 in
+      changed s n (react turns run acts n (s.seat n) input) [] s.ever [] inv (react-ok s run acts n input inv may.1.0 may.1.1) tt refl (sym (append-nil s.ever)) tt
+  inv-reached (Gate n which ∷ es) may =
+      let s : Soft = happened turns es in
+      let inv : Inv F (happened turns es) = inv-reached es may in
+      changed s n (gate (s.seat n)) (s.seat n).fresh (s.ever ++ posts n (filter which (s.seat n).outs)) (posts n (filter which (s.seat n).outs)) inv
+      (gate-ok (around s) n (s.seat n) (inv.nodes n)) (inv.nodes n).grew refl refl (gate-news s n which inv)
+  inv-reached (Crash n kept start ∷ es) may =
+      let s : Soft = happened turns es in
+      let inv : Inv F (happened turns es) = inv-reached es may in
+      changed s n (crash kept start (s.seat n)) (keep kept (s.seat n).fresh) s.ever [] inv (crash-ok (around s) n kept start (s.seat n) (inv.nodes n))
+      (grew_drop (F.Fits n) (s.seat n).gated (length (s.seat n).fresh - kept) (s.seat n).fresh (inv.nodes n).grew) refl (sym (append-nil s.ever)) tt
+  inv-reached (Tick t ∷ es) may = inv-tick (happened turns es) t (inv-reached es may)

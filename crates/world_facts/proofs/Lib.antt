@@ -1,3 +1,4 @@
+pub mod AnyNodes
 pub mod Growths
 pub mod Keeps
 pub mod NodeLaws

@@ -35,7 +35,7 @@ use Rattle.broker_laws.proofs.ReadyLemmas.{no-fault}
 use Rattle.broker_laws.proofs.TurnLemmas.{turn-added, ready-cut, cause-more}
 use Rattle.world_core.specs.Nodes.{Mind, opened_mind, Input, gives, kind_gives, is_ready, kind_ready, acts_of, repository}
 use Rattle.world_core.specs.Nodes.Input.{Going, Taking, Learning, Hearing}
-use Rattle.world_facts.specs.Rules.{Around, Later, forward, MayInput, SenderOk, TurnGiven, TurnGives, NodeLaws}
+use Rattle.world_facts.specs.Rules.{Around, Later, forward, MayInput, SenderOk, TurnGiven, TurnGives, NodeLaws, PastLaws}
 use Rattle.world_facts.specs.NodeRules.{of_hand, of_desk, kind_turn, node_turns, kind_fits, kind_tidy, kind_post, kind_cause, kind_mind, kind_is_ready, node_facts}
 
 none-is : {A : Type 0} (o : Option A) → is_none o ≡ true → o ≡ None
@@ -61,7 +61,7 @@ module _ (script : List ℕ → Tree) where
   turns-are run acts Broker i log mind (Learning s committed) = refl
   turns-are run acts Broker i log mind (Hearing t) = refl
 
-  gives-are : (run : ℕ) (acts : List ActSpec) (n : NodeId) (log : List Effect) (mind : Mind) (input : Input) → gives script run acts n log mind input ≡ forward (node_turns script run acts n (reverse log) mind input)
+  pub gives-are : (run : ℕ) (acts : List ActSpec) (n : NodeId) (log : List Effect) (mind : Mind) (input : Input) → gives script run acts n log mind input ≡ forward (node_turns script run acts n (reverse log) mind input)
   unfolding gives
   gives-are run acts n log mind input = turns-are run acts n.kind n.number log mind input
 
@@ -179,8 +179,6 @@ module _ (script : List ℕ → Tree) where
   pub node-laws : NodeLaws script (node_turns script) (node_facts script)
   node-laws = record {
     turns_are = gives-are;
-    ready_is = ready-are;
-    empty = λ n. empty-kind n.kind n.number;
     tidied = λ n log f tidy fits. tidied-kind n.kind n.number log f tidy fits;
     stays = λ ever n log f out tidy fits h. stays-kind ever n.kind n.number log f out tidy fits h;
     more_posts = λ ever more n log out h. more-kind ever more n.kind n.number log out h;
@@ -190,3 +188,6 @@ module _ (script : List ℕ → Tree) where
     turn = λ w run acts n log mind input g may sender. turn-kind w run acts n.kind n.number log mind input g may sender;
     ready_below = λ run acts n log f tidy fits ready. below-kind run acts n.kind n.number log f tidy fits ready;
   }
+
+  pub past-laws : PastLaws script (node_facts script)
+  past-laws = record { ready_is = ready-are; empty = λ n. empty-kind n.kind n.number }

@@ -24,7 +24,7 @@ use Rattle.world_core.specs.Walks.{Base, Life, World, opened_log, sent_by, start
 use Rattle.world_core.specs.Legal.{Meets, AllReady, Legal, base_of, fates_of}
 use Rattle.world_core.specs.Pasts.{Call, log_left, logs_after, Agrees, AreCalls, HasPast}
 use Rattle.world_core.proofs.Rules.{meets-front}
-use Rattle.world_facts.specs.Rules.{Around, Later, NodeFacts, Turns, NodeLaws}
+use Rattle.world_facts.specs.Rules.{Around, Later, NodeFacts, Turns, NodeLaws, PastLaws}
 use Rattle.world_facts.specs.Soft.{Seat, whole, put, crash, kept_log, opened_seat, Soft, around, Event, happened, Mays, SentOk, Inv}
 use Rattle.world_facts.specs.Soft.Event.{Crash}
 use Rattle.world_facts.specs.Refines.{seat_of, past_sent, PastTick, Ticked, Refines, Left, logs_at, Facts}
@@ -84,7 +84,7 @@ module _ (kept : NodeId → ℕ) (start : ℕ) where
         let r : AllCrashed os es = crash-all os es may in
         record {
           events = Crash o.node (kept o.node) start ∷ r.events;
-          may = (r.may, tt);
+          may = r.may;
           crashed = crash-one o os (happened turns es).seat (happened turns r.events).seat r.crashed;
           ever = r.ever;
           ticks = r.ticks;
@@ -99,17 +99,17 @@ no-log None e = refl
 no-log (Some log) e = absurd (cc e)
 
 module _ (script : List ℕ → Tree) (turns : Turns) (F : NodeFacts) (laws : NodeLaws script turns F) where
-  ready-start : (b : Base) → b.script ≡ script → AllReady b → (n : NodeId) → is_some (opened_log b.opened n) ≡ true → F.Ready b.run b.acts n (reverse (unwrap_or (opened_log b.opened n) []))
-  ready-start b same ready n e = go (opened_log b.opened n) refl e
+  ready-start : PastLaws script F → (b : Base) → b.script ≡ script → AllReady b → (n : NodeId) → is_some (opened_log b.opened n) ≡ true → F.Ready b.run b.acts n (reverse (unwrap_or (opened_log b.opened n) []))
+  ready-start past b same ready n e = go (opened_log b.opened n) refl e
     where
       go : (found : Option (List Effect)) → opened_log b.opened n ≡ found → is_some found ≡ true → F.Ready b.run b.acts n (reverse (unwrap_or found []))
       go None q e = absurd (cc e)
-      go (Some log) q e = laws.ready_is b.run b.acts n log (subst (λ z. is_ready z b.run b.acts n log ≡ true) same (ready n log q))
+      go (Some log) q e = past.ready_is b.run b.acts n log (subst (λ z. is_ready z b.run b.acts n log ≡ true) same (ready n log q))
 
   -- a run begins
-  opens : (b : Base) (logs : NodeId → List Effect) (old : List Post) (Before May : ℕ → Type 0) → ((t : ℕ) → Before t → May t) → b.script ≡ script → Left turns F logs old Before →
-      Agrees b.opened logs → AllReady b → Refines turns F b logs old May (start_world b)
-  opens b logs sent Before May wider same left agrees ready =
+  pub opens : (b : Base) (logs : NodeId → List Effect) (old : List Post) (Before May : ℕ → Type 0) → ((t : ℕ) → Before t → May t) → Left turns F logs old Before → Agrees b.opened logs →
+      ((n : NodeId) → is_some (opened_log b.opened n) ≡ true → F.Ready b.run b.acts n (reverse (unwrap_or (opened_log b.opened n) []))) → Refines turns F b logs old May (start_world b)
+  opens b logs sent Before May wider left agrees ready =
       let c : AllCrashed (λ n. 0) b.start turns F b.opened left.events = crash-all (λ n. 0) b.start turns F b.opened left.events left.may in
       let old : NodeId → Seat = (happened turns left.events).seat in
       let is : (n : NodeId) → kept_log 0 ((happened turns left.events).seat n) ≡ reverse (logs n) = λ n. kept-all 0 ((happened turns left.events).seat n) (left.fresh n) ∙ left.gated n in
@@ -125,7 +125,7 @@ module _ (script : List ℕ → Tree) (turns : Turns) (F : NodeFacts) (laws : No
           ever = c.ever ∙ left.ever ∙ sym (append-nil sent);
           ticks = λ t e. absurd (cc e);
           ticked = λ t h. wider t (left.ticked t (subst (Has t) c.ticks h));
-          ready = λ n e. ready-start b same ready n e;
+          ready = ready;
         };
       }
 
@@ -155,34 +155,35 @@ module _ (script : List ℕ → Tree) (turns : Turns) (F : NodeFacts) (laws : No
         ap (λ (x : Seat). x.fresh) (c.crashed.outside n e) ∙ (r.models.outside n (r.models.known n ∙ e)).1,
       )
 
-  left-nothing : Left turns F (λ n. []) [] (PastTick [])
-  left-nothing = record { events = []; may = tt; gated = λ n. refl; fresh = λ n. refl; ever = refl; ticked = λ t h. absurd h }
+  left-nothing : PastLaws script F → Left turns F (λ n. []) [] (PastTick [])
+  left-nothing past = record { events = []; may = past.empty; gated = λ n. refl; fresh = λ n. refl; ever = refl; ticked = λ t h. absurd h }
 
-  past-left : (cs : List Call) → AreCalls script cs → Left turns F (logs_after script cs) (past_sent script cs) (PastTick cs)
-  past-left [] h = left-nothing
-  past-left (c ∷ cs) h =
+  past-left : PastLaws script F → (cs : List Call) → AreCalls script cs → Left turns F (logs_after script cs) (past_sent script cs) (PastTick cs)
+  past-left past [] h = left-nothing past
+  past-left past (c ∷ cs) h =
       let b : Base = base_of script c.plan c.trace in
       let r : Refines turns F (base_of script c.plan c.trace) (logs_after script cs) (past_sent script cs) (PastTick (c ∷ cs)) (walk (base_of script c.plan c.trace) c.trace.entries) =
       walk-refines script turns F laws (base_of script c.plan c.trace) (logs_after script cs) (past_sent script cs) (PastTick (c ∷ cs)) refl (fates_of c.trace.sent)
       (start_world (base_of script c.plan c.trace)) c.trace.entries (λ t k. inl k)
-      (opens (base_of script c.plan c.trace) (logs_after script cs) (past_sent script cs) (PastTick cs) (PastTick (c ∷ cs)) (λ t k. inr k) refl (past-left cs h.0) h.1.agrees h.1.legal.ready) h.1.legal.meets in
+      (opens (base_of script c.plan c.trace) (logs_after script cs) (past_sent script cs) (PastTick cs) (PastTick (c ∷ cs)) (λ t k. inr k) (past-left past cs h.0) h.1.agrees
+      (ready-start past (base_of script c.plan c.trace) refl h.1.legal.ready)) h.1.legal.meets in
       ends (base_of script c.plan c.trace) (logs_after script cs) (past_sent script cs) (PastTick (c ∷ cs)) (walk (base_of script c.plan c.trace) c.trace.entries) c.kept (logs_after script (c ∷ cs)) r
       (λ n e. ap (λ t. if t then log_left script c n else logs_after script cs n) (sym (h.1.legal.nodes.just n) ∙ e))
       (λ n e. ap (λ t. if t then log_left script c n else logs_after script cs n) (sym (h.1.legal.nodes.just n) ∙ e))
 
   -- a trace over logs with a past
-  refined : (b : Base) (fates : List Fate) (logs : NodeId → List Effect) (es : List Entry) → b.script ≡ script → (past : HasPast script logs) → Agrees b.opened logs → AllReady b →
+  refined : PastLaws script F → (b : Base) (fates : List Fate) (logs : NodeId → List Effect) (es : List Entry) → b.script ≡ script → (past : HasPast script logs) → Agrees b.opened logs → AllReady b →
       Meets b fates (start_world b) es → Refines turns F b logs (past_sent script past.0) (Ticked past.0 es) (walk b es)
-  refined b fates logs es same past agrees ready rules =
-      let l : Left turns F (logs_after script past.0) (past_sent script past.0) (PastTick past.0) = past-left past.0 past.1 in
+  refined start b fates logs es same past agrees ready rules =
+      let l : Left turns F (logs_after script past.0) (past_sent script past.0) (PastTick past.0) = past-left start past.0 past.1 in
       let left : Left turns F logs (past_sent script past.0) (PastTick past.0) =
       record { events = l.events; may = l.may; gated = λ n. l.gated n ∙ ap reverse (sym (past.2 n)); fresh = l.fresh; ever = l.ever; ticked = l.ticked } in
       walk-refines script turns F laws b logs (past_sent script past.0) (Ticked past.0 es) same fates (start_world b) es (λ t h. inl h)
-      (opens b logs (past_sent script past.0) (PastTick past.0) (Ticked past.0 es) (λ t h. inr h) same left agrees ready) rules
+      (opens b logs (past_sent script past.0) (PastTick past.0) (Ticked past.0 es) (λ t h. inr h) left agrees (ready-start start b same ready)) rules
 
   -- ---- the facts
 
-  facts-of : (b : Base) (logs : NodeId → List Effect) (old : List Post) (May : ℕ → Type 0) (w : World) → Refines turns F b logs old May w → Facts F b (logs_at logs w) old (sent_by w) May
+  pub facts-of : (b : Base) (logs : NodeId → List Effect) (old : List Post) (May : ℕ → Type 0) (w : World) → Refines turns F b logs old May w → Facts F b (logs_at logs w) old (sent_by w) May
   facts-of b logs old May w r =
       let s : Soft = happened turns r.events in
       let inv : Inv F s = inv-reached script turns F laws r.events r.may in
@@ -215,11 +216,11 @@ module _ (script : List ℕ → Tree) (turns : Turns) (F : NodeFacts) (laws : No
       go n false e = (r.models.outside n e).0 ∙ ap reverse (sym (ap (λ t. if t then (w.life n).gated else logs n) e))
 
   -- the facts of a legal trace over logs with a past, at its end and after each of its entries
-  pub legal-facts : (plan : Plan) (asked : List Asked) (t : Trace) (logs : NodeId → List Effect) (front rest : List Entry) → (past : HasPast script logs) → Agrees t.opened logs →
+  pub legal-facts : PastLaws script F → (plan : Plan) (asked : List Asked) (t : Trace) (logs : NodeId → List Effect) (front rest : List Entry) → (past : HasPast script logs) → Agrees t.opened logs →
       Legal script plan asked t → t.entries ≡ front ++ rest →
       Facts F (base_of script plan t) (logs_at logs (walk (base_of script plan t) front)) (past_sent script past.0) (sent_by (walk (base_of script plan t) front)) (Ticked past.0 front)
-  legal-facts plan asked t logs front rest past agrees legal here =
+  legal-facts start plan asked t logs front rest past agrees legal here =
       facts-of (base_of script plan t) logs (past_sent script past.0) (Ticked past.0 front) (walk (base_of script plan t) front)
-      (refined (base_of script plan t) (fates_of t.sent) logs front refl past agrees legal.ready
+      (refined start (base_of script plan t) (fates_of t.sent) logs front refl past agrees legal.ready
       (meets-front (base_of script plan t) (fates_of t.sent) (start_world (base_of script plan t)) front rest
       (subst (Meets (base_of script plan t) (fates_of t.sent) (start_world (base_of script plan t))) here legal.meets)))

@@ -127,7 +127,7 @@ module _ (script : List ℕ → Tree) (turns : Turns) (F : NodeFacts) (laws : No
         ap (λ t. if t then posts n (filter which (w.life n).outs) else []) known ∙ ap (λ (x : Seat). posts n (filter which x.outs)) (sym at) in
         record {
           events = Gate n which ∷ r.events;
-          may = (r.may, tt);
+          may = r.may;
           models = one-changed s w (entry.Gate n) n (gate (s.seat n)) (s.ever ++ posts n (filter which (s.seat n).outs)) (posts n (filter which (s.seat n).outs)) r.models (λ k. refl) known
               (ap gate at ∙ gated-seat (w.life n)) (subst (λ x. F.Ready b.run b.acts n (whole x)) (sym at) (r.models.ready n known)) refl
               (sent-gate b w n ∙ ap (λ z. sent_by w ++ z) left) refl;
@@ -141,7 +141,7 @@ module _ (script : List ℕ → Tree) (turns : Turns) (F : NodeFacts) (laws : No
         let at : s.seat n ≡ seat_of (w.life n) = r.models.lives n known in
         record {
           events = Crash n kept b.start ∷ r.events;
-          may = (r.may, tt);
+          may = r.may;
           models = one-changed s w (entry.Crash n kept) n (crash kept b.start (s.seat n)) s.ever [] r.models (λ k. refl) known
               (ap (crash kept b.start) at ∙ crashed-seat b.start kept (w.life n))
               (ready-cut b.run b.acts n (s.seat n).gated (length (s.seat n).fresh - kept) (s.seat n).fresh (inv.nodes n).tidy (inv.nodes n).grew
@@ -188,7 +188,7 @@ module _ (script : List ℕ → Tree) (turns : Turns) (F : NodeFacts) (laws : No
     step-refines fates w (entry.Crash n kept) may r rule = crash-refines w n kept r rule
     step-refines fates w (entry.Down n cause) may r rule = still-refines w (entry.Down n cause) r.events r.may r.models (all-stay b w (entry.Down n cause) (λ k. refl)) refl r.models.ticks
     step-refines fates w (entry.Tick moment) may r rule =
-        still-refines w (entry.Tick moment) (Tick moment ∷ r.events) (r.may, tt) (ticked w moment (happened turns r.events) (may moment refl) r.models) (all-stay b w (entry.Tick moment) (λ k. refl)) refl
+        still-refines w (entry.Tick moment) (Tick moment ∷ r.events) r.may (ticked w moment (happened turns r.events) (may moment refl) r.models) (all-stay b w (entry.Tick moment) (λ k. refl)) refl
         (λ t at. inl (some-is moment t at))
 
     pub walk-refines : (fates : List Fate) (w : World) (es : List Entry) → ((t : ℕ) → Has (entry.Tick t) es → May t) → Refines turns F b others old May w → Meets b fates w es → Refines turns F b others old May (walk_from b w es)

@@ -1,3 +1,4 @@
+pub mod AnyRules
 pub mod NodeRules
 pub mod Refines
 pub mod Rules

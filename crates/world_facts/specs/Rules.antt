@@ -86,8 +86,6 @@ module _ (F : NodeFacts) where
 pub record NodeLaws (script : List ℕ → Tree) (turns : Turns) (F : NodeFacts) : Type 0 where
   pub turns_are : (run : ℕ) (acts : List ActSpec) (n : NodeId) (log : List Effect) (mind : Mind) (input : Input) →
       gives script run acts n log mind input ≡ forward (turns run acts n (reverse log) mind input)
-  pub ready_is : (run : ℕ) (acts : List ActSpec) (n : NodeId) (log : List Effect) → is_ready script run acts n log ≡ true → F.Ready run acts n (reverse log)
-  pub empty : (n : NodeId) → F.Tidy n []
   pub tidied : (n : NodeId) (log : List Effect) (f : Effect) → F.Tidy n log → F.Fits n log f → F.Tidy n (f ∷ log)
   pub stays : (ever : List Post) (n : NodeId) (log : List Effect) (f : Effect) (out : Out) → F.Tidy n log → F.Fits n log f → F.PostOk ever n log out → F.PostOk ever n (f ∷ log) out
   pub more_posts : (ever more : List Post) (n : NodeId) (log : List Effect) (out : Out) → F.PostOk ever n log out → F.PostOk (ever ++ more) n log out
@@ -98,3 +96,8 @@ pub record NodeLaws (script : List ℕ → Tree) (turns : Turns) (F : NodeFacts)
       TurnGiven F w run acts n log mind → MayInput w n input → SenderOk F w n input → TurnGives F w run acts n log (turns run acts n log mind input)
   -- an older log of a tidy one is ready where that is
   pub ready_below : (run : ℕ) (acts : List ActSpec) (n : NodeId) (log : List Effect) (f : Effect) → F.Tidy n log → F.Fits n log f → F.Ready run acts n (f ∷ log) → F.Ready run acts n log
+
+-- what the first run asks besides: an empty log is right, and a log that shows no fault is ready
+pub record PastLaws (script : List ℕ → Tree) (F : NodeFacts) : Type 0 where
+  pub ready_is : (run : ℕ) (acts : List ActSpec) (n : NodeId) (log : List Effect) → is_ready script run acts n log ≡ true → F.Ready run acts n (reverse log)
+  pub empty : (n : NodeId) → F.Tidy n []

@@ -1,3 +1,4 @@
+use Rattle.serial_law.proofs.AddedEnds.{caused}
 use Rattle.serial_law.proofs.Traces.{place-causes, place-limits}
 use Rattle.serial_law.proofs.laws.law_causes.Goals as goal
 
@@ -6,3 +7,6 @@ returns-clause-ends c = place-causes
 
 pub returns-clause-spent : goal.returns-clause-spent
 returns-clause-spent c = place-limits
+
+pub returns-clause-added : goal.returns-clause-added
+returns-clause-added c = caused

@@ -1,0 +1,71 @@
+-- Why an End that a trace added stands there: over any logs, also over logs that no calls could have left. Logs stand newest first.
+use Rattle.std.specs.Prelude.{◌≡◌, ℕ, true, false, reverse, List, [], ◌∷◌, ◌++◌, Some}
+use Rattle.pseudo_time.specs.Lists.{Has}
+use Rattle.pseudo_time.specs.Order.{lt}
+use Rattle.pseudo_time.specs.TimeParts.{TimeParts}
+use Rattle.pseudo_time.specs.declared.nodes.NodeId.{NodeId}
+use Rattle.value_form.specs.declared.objects.ObjectId.{ObjectId}
+use Rattle.value_form.specs.declared.values.Value.{Value}
+use Rattle.effect_form.specs.declared.effects.Effect.{Effect}
+use Rattle.effect_form.specs.declared.effects.Effect.TheVariants as effect
+use Rattle.effect_form.specs.declared.outcomes.Outcome.{Outcome}
+use Rattle.effect_form.specs.declared.outcomes.Outcome.TheVariants as outcome
+use Rattle.stream_port.specs.declared.fates.Asked.{Asked}
+use Rattle.object_history.specs.declared.steps.WriteStep.{WriteStep}
+use Rattle.object_history.specs.declared.steps.WriteStep.TheVariants as write
+use Rattle.object_history.specs.Answers.{write_step}
+use Rattle.serial_model.specs.Questions.{Tree}
+use Rattle.plan_form.specs.declared.plans.Plan.{Plan}
+use Rattle.repository_core.specs.Logs.{marks}
+use Rattle.repository_laws.specs.Facts.{Once}
+use Rattle.broker_core.specs.Book.{Book, Try, open_try, time_of}
+use Rattle.broker_core.specs.Stages.{broker, repository}
+use Rattle.broker_laws.specs.AnyLogs.{counted}
+use Rattle.broker_laws.specs.Fits.{FitsBook, IsWriting}
+use Rattle.world_core.specs.declared.entries.Entry.{Entry}
+use Rattle.world_core.specs.declared.traces.Trace.{Trace}
+use Rattle.world_core.specs.Walks.{World, walk}
+use Rattle.world_core.specs.Legal.{Legal, base_of}
+use Rattle.world_facts.specs.AnyRules.{tasks_of, log_before}
+use Rattle.world_facts.specs.Refines.{logs_at}
+
+-- A place of a legal trace over any logs; `front` are the trace's entries up to the place. `script` reads the texts of scripts.
+pub record AnyPlace : Type 0 where
+  pub script : List ℕ → Tree
+  pub plan : Plan
+  pub asked : List Asked
+  pub trace : Trace
+  pub front : List Entry
+  pub rest : List Entry
+  pub here : trace.entries ≡ front ++ rest
+  pub legal : Legal script plan asked trace
+
+-- a node's durable log there
+abbrev pub any_log : AnyPlace → NodeId → List Effect
+any_log p n = reverse (logs_at (λ k. reverse (log_before p.trace k)) (walk (base_of p.script p.plan p.trace) p.front) n)
+
+-- what counts of a log of broker b
+abbrev pub counted_by : AnyPlace → ℕ → List Effect → Book
+counted_by p b log = counted p.script b (base_of p.script p.plan p.trace).run (tasks_of p.script (base_of p.script p.plan p.trace).run (base_of p.script p.plan p.trace).acts b) log
+
+-- the repository of the object answered so to a write, over its log as it once was
+abbrev pub AnsweredThere : AnyPlace → TimeParts → ObjectId → Value → WriteStep → Type 0
+AnsweredThere p t o v step = Once (λ log. write_step (marks log) o t v ≡ step) (any_log p (repository o.repository))
+
+-- the open attempt of the log below stands at a write, and has P
+abbrev pub WroteThere : AnyPlace → Book → (Try → ObjectId → Value → Type 0) → ObjectId → Type 0
+WroteThere p b P o = (t : Try) × (open_try b ≡ Some t) × ((v : Value) × IsWriting p.script t o v × P t o v)
+
+-- An attempt withdraws or fails where its script, with the answers below, comes to that; an act is spent where no clock is left. A write was refused because of what stands in the log of the object's
+-- repository: a Stretch above it, or a version not below it; and so its history answered, once.
+abbrev pub EndCause : AnyPlace → ℕ → List Effect → ℕ → Outcome → Type 0
+EndCause p b below i (outcome.Withdrawn l) = FitsBook p.script b (counted_by p b below) (effect.End i (outcome.Withdrawn l))
+EndCause p b below i (outcome.Failed l k) = FitsBook p.script b (counted_by p b below) (effect.End i (outcome.Failed l k))
+EndCause p b below i (outcome.Spent c) = FitsBook p.script b (counted_by p b below) (effect.End i (outcome.Spent c))
+EndCause p b below i (outcome.LaterRead o e) =
+    WroteThere p (counted_by p b below) (λ t o v. (lt (time_of t) e ≡ true) × Has (effect.Stretch o e) (any_log p (repository o.repository)) × AnsweredThere p (time_of t) o v (write.LaterRead e)) o
+EndCause p b below i (outcome.LaterVersion o x) =
+    WroteThere p (counted_by p b below)
+    (λ t o v. (lt x (time_of t) ≡ false) × ((w : Value) × Has (effect.Put o x w) (any_log p (repository o.repository))) × AnsweredThere p (time_of t) o v (write.LaterVersion x)) o
+EndCause p b below i outcome.Committed = Unit {0}
+EndCause p b below i (outcome.Expired d m) = Unit {0}
