@@ -10,5 +10,5 @@ pub use laws::{
 };
 pub use turn_laws::{
     always_ready, causes_stay, new_request_differs, nothing_stays_owed, opened_brokers,
-    rested_is_done, turns_add_what_counts, turns_keep_facts, turns_look_at_the_log,
+    rested_is_done, turns_add_what_counts, turns_go_on, turns_keep_facts, turns_look_at_the_log,
 };

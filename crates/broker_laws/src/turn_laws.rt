@@ -12,6 +12,7 @@ ghost use Rattle.broker_core.specs.Rows.{row, news};
 ghost use Rattle.broker_core.specs.Stages.{nothing_heard, stage, standing};
 ghost use Rattle.broker_core.specs.Turns.{Desk, Input, Go, Take, state, desk_turn};
 ghost use Rattle.broker_core.specs.declared.replies.Reply.TheVariants.{Ignored};
+ghost use Rattle.broker_laws.specs.AnyLogs.{GoesOn};
 ghost use Rattle.broker_laws.specs.Fits.{IsTidy, IsReady};
 ghost use Rattle.broker_laws.specs.Posts.{HaveCauses};
 ghost use Rattle.broker_laws.specs.Works.{TurnHolds, MayInput, Added, IsRested, AlwaysReady, gate, crash, afresh, joined};
@@ -79,4 +80,11 @@ pub fn new_request_differs()
         (row script (stage script run (state script me run acts d) d.heard) d.heard (news m) ≡ Ignored → ⊥) →
         (o : Out) → standing (stage script run (state script me run acts d) d.heard) ≡ Some o →
         standing (stage script run (state script me run acts (desk_turn script me run acts d (Take from m))) (desk_turn script me run acts d (Take from m)).heard) ≡ Some o → ⊥ }
+{}
+
+/// Over every log, also over one that no calls could have left, what a turn adds counts and fits, each
+/// effect with its cause, and its messages say what holds of the tries of its run.
+pub fn turns_go_on()
+    ensures { (script : List ℕ → Tree) (me run : ℕ) (acts : List Task) (ever : List Post) (d : Desk) (i : Input) →
+        MayInput me ever i → GoesOn script me run acts ever d → GoesOn script me run acts ever (desk_turn script me run acts d i) }
 {}

@@ -13,10 +13,11 @@ ghost use Rattle.turn_form.specs.Growth.{Grew};
 ghost use Rattle.object_history.specs.Views.{Distinct};
 ghost use Rattle.repository_core.specs.declared.waits.Held.{Held};
 ghost use Rattle.repository_core.specs.Logs.{marks};
-ghost use Rattle.repository_core.specs.Hands.{Mind};
+ghost use Rattle.repository_core.specs.Hands.{Mind, repository};
 ghost use Rattle.repository_core.specs.Turns.{hand_at, told};
 ghost use Rattle.repository_core.specs.Turns.Input.{Taking, Learning, Hearing};
-ghost use Rattle.repository_laws.specs.Facts.{IsTimely, FitsLog, IsTidy, PostHolds, IsDecidedAt, HasCause, HeldHolds, HasCome};
+ghost use Rattle.repository_laws.specs.Facts.{IsTimely, FitsLog, IsTidy, PostHolds, IsDecidedAt, HasCause, HeldHolds, HasCome, WasSent};
+ghost use Rattle.repository_laws.specs.AnyLogs.{RefusesRightly};
 ghost use Rattle.repository_laws.specs.Givens.{IsGiven, Gives};
 
 /// Effects that fit leave a tidy log tidy, and no two versions of an object in it have one start.
@@ -62,4 +63,12 @@ pub fn turns_keep_facts()
         IsGiven ever homes r log mind → IsDecidedAt homes s c → Gives ever homes ticks r log (told (hand_at r log mind) (Learning s c)) }
     ensures hearing { (ever : List Post) (homes : ℕ → List Effect) (ticks : List ℕ) (r : ℕ) (log : List Effect) (mind : Mind) (m : ℕ) →
         IsGiven ever homes r log mind → Has m ticks → Gives ever homes ticks r log (told (hand_at r log mind) (Hearing m)) }
+{}
+
+/// Over every log, also over one that no calls could have left, a turn refuses a write only where the
+/// log says so.
+pub fn refusals_are_right()
+    ensures taking { (ever : List Post) (r : ℕ) (log : List Effect) (mind : Mind) (from : NodeId) (m : Message) → WasSent ever from (repository r) m → RefusesRightly ever r log (told (hand_at r log mind) (Taking from m)) }
+    ensures learning { (ever : List Post) (r : ℕ) (log : List Effect) (mind : Mind) (s : StampParts) (c : Bool) → RefusesRightly ever r log (told (hand_at r log mind) (Learning s c)) }
+    ensures hearing { (ever : List Post) (r : ℕ) (log : List Effect) (mind : Mind) (m : ℕ) → RefusesRightly ever r log (told (hand_at r log mind) (Hearing m)) }
 {}

@@ -3,4 +3,6 @@
 
 mod laws;
 
-pub use laws::{causes_stay, decided_once, messages_stay_true, tidy_stays, turns_keep_facts};
+pub use laws::{
+    causes_stay, decided_once, messages_stay_true, refusals_are_right, tidy_stays, turns_keep_facts,
+};

@@ -45,24 +45,16 @@ use Rattle.world_core.specs.declared.entries.Entry.TheVariants.{Tick}
 use Rattle.world_facts.specs.Refines as refines
 use Rattle.world_facts.specs.Refines.{logs_at}
 use Rattle.world_facts.specs.Soft.{SentOk}
-use Rattle.world_facts.specs.AnyRules.{GrownFrom, any_facts, any_fits, any_cause, any_post, tasks_of, log_before}
+use Rattle.world_facts.specs.AnyRules.{GrownFrom, any_facts, any_fits, any_cause, any_post, tasks_of, log_opened, log_before}
 use Rattle.world_facts.proofs.AnyNodes.{any-trace}
 use Rattle.serial_law.specs.Added.{AnyPlace, any_log, counted_by, WroteThere, AnsweredThere, EndCause}
 use Rattle.serial_law.proofs.CauseLemmas.{once-read, once-version}
+use Rattle.serial_law.proofs.Own.{fronts}
 
 -- the later part of what a log grew by
 grew-late : (P : List Effect → Effect → Type 0) (log first late : List Effect) → Grew P log (late ++ first) → Grew P (first ++ log) late
 grew-late P log first [] g = tt
 grew-late P log first (f ∷ late) g = (grew-late P log first late g.0, subst (λ l. P l f) (append_assoc late first log) g.1)
-
--- two fronts of one list with one length are equal
-same-front : (xs ys us vs : List Answer) → xs ++ us ≡ ys ++ vs → length xs ≡ length ys → xs ≡ ys
-same-front [] [] us vs e h = refl
-same-front [] (y ∷ ys) us vs e h = absurd (omega (arith, h))
-same-front (x ∷ xs) [] us vs e h = absurd (omega (arith, h))
-same-front (x ∷ xs) (y ∷ ys) us vs e h =
-    let head : x ≡ y = cc e in let tail : xs ++ us ≡ ys ++ vs = cc e in let n : length xs ≡ length ys = omega (arith, h) in
-    let rest : xs ≡ ys = same-front xs ys us vs tail n in cc head rest
 
 one-write : (o o' : ObjectId) (v v' : Value) → Asks (ToWrite o v) ≡ Asks (ToWrite o' v') → (o ≡ o') × (v ≡ v')
 one-write o o' v v' e = (cc e, cc e)
@@ -74,7 +66,7 @@ module _ (p : AnyPlace) where
   abbrev ever : List Post
   ever = sent_by (walk base p.front)
 
-  any-facts-there : refines.Facts (any_facts p.script base.run base.acts (log_before p.trace)) base (logs_at (λ k. reverse (log_before p.trace k)) (walk base p.front)) [] ever (λ moment. Has (Tick moment) p.front)
+  any-facts-there : refines.Facts (any_facts p.script base.run base.acts (log_before p.trace)) base (logs_at (log_opened p.trace) (walk base p.front)) [] ever (λ moment. Has (Tick moment) p.front)
   any-facts-there = any-trace p.script p.plan p.asked p.trace p.front p.rest p.legal p.here
 
   module _ (b : ℕ) where
@@ -131,20 +123,20 @@ module _ (p : AnyPlace) where
       at-most n m h = grind (h, arith, common_steps)
 
       -- a write at this pseudotime that broker b sent is what its open attempt asks for
-      that-write : (t : Try) (o : ObjectId) (v : Value) (to : NodeId) (w : ObjectId) (u : Value) → nat_lt (at below).run base.run ≡ false → open_try (at below) ≡ Some t → IsWriting p.script t o v →
-          Says p.script b base.run acts mine to (message.Write (time_of t) w u) → (o ≡ w) × (v ≡ u)
-      that-write t o v to w u low open writes says =
+      that-write : (t : Try) (g : ObjectId) (v : Value) (to : NodeId) (w : ObjectId) (u : Value) → nat_lt (at below).run base.run ≡ false → open_try (at below) ≡ Some t → IsWriting p.script t g v →
+          Says p.script b base.run acts mine to (message.Write (time_of t) w u) → (g ≡ w) × (v ≡ u)
+      that-write t g v to w u low stands writes says =
           let high : (at below).run ≤ base.run = (let r = rise below (late ++ (effect.End i o ∷ [])) since in let e = ap (λ l. (at l).run) whole in let s = says.run_is in omega (arith, r, e, s)) in
           let run : (at below).run ≡ base.run = (let l = at-most (at below).run base.run low in omega (arith, l, high)) in
-          let here : find t.stamp (own_tries p.script b base.run acts below) ≡ Some t = open-own p.script b base.run acts (at below) t open in
+          let here : find t.stamp (own_tries p.script b base.run acts below) ≡ Some t = open-own p.script b base.run acts (at below) t stands in
           let l = later-through p.script b base.run acts below (late ++ (effect.End i o ∷ [])) t.stamp t since run here in
           let found : find t.stamp (own_tries p.script b base.run acts mine) ≡ Some l.1.0 = subst (λ z. find t.stamp (own_tries p.script b base.run acts z) ≡ Some l.1.0) whole l.1.1 in
           let ask : IsAskOf p.script (own_tries p.script b base.run acts mine) (time_of t) (ToWrite w u) = says.holds.2 in
           let same : ask.0 ≡ l.1.0 = some-is ask.0 l.1.0 (sym ask.1 ∙ found) in
           let more = l.1.2.answers in
-          let front : ask.2.0 ≡ t.answers = same-front ask.2.0 t.answers ask.2.1 more.0 (sym ask.2.2 ∙ ap (λ (z : Try). z.answers) same ∙ more.1) (let n = ask.2.3 in omega (arith, n)) in
+          let front : ask.2.0 ≡ t.answers = fronts ask.2.0 t.answers ask.2.1 more.0 (sym ask.2.2 ∙ ap (λ (z : Try). z.answers) same ∙ more.1) (let n = ask.2.3 in omega (arith, n)) in
           let task : ask.0.task ≡ t.task = ap (λ (z : Try). z.task) same ∙ l.1.2.task in
-          one-write o w v u (sym writes ∙ ap (λ (z : Task). stop (p.script z.script) t.answers) (sym task) ∙ ap (λ z. stop (p.script ask.0.task.script) z) (sym front) ∙ ask.2.4)
+          one-write g w v u (sym writes ∙ ap (λ (z : Task). stop (p.script z.script) t.answers) (sym task) ∙ ap (λ z. stop (p.script ask.0.task.script) z) (sym front) ∙ ask.2.4)
         where
           some-is : (x y : Try) → Some x ≡ Some y → x ≡ y
           some-is x y e = cc e
@@ -154,12 +146,12 @@ module _ (p : AnyPlace) where
       sent-holds q h = every-has (SentOk (any_facts p.script base.run base.acts (log_before p.trace)) ever (any_log p)) ever q any-facts-there.sent_ok h
 
       -- a refusal that came, and the log of its sender
-      module _ (t : Try) (o' : ObjectId) (v : Value) (low : nat_lt (at below).run base.run ≡ false) (open : open_try (at below) ≡ Some t) (writes : IsWriting p.script t o' v) where
+      module _ (t : Try) (o' : ObjectId) (v : Value) (low : nat_lt (at below).run base.run ≡ false) (stands : open_try (at below) ≡ Some t) (writes : IsWriting p.script t o' v) where
         -- the write that was refused is the one that the attempt stands at, and its sender keeps the object
         the-same : (r : ℕ) (w : ObjectId) (u : Value) → repositories.WriteSent ever r (time_of t) w u → broker b ≡ broker t.stamp.broker → (o' ≡ w) × (v ≡ u) × (r ≡ o'.repository)
         the-same r w u sent own =
             let mine_sent : Has (record { from = broker b; to = repository r; message = message.Write (time_of t) w u }) ever = subst (λ z. Has (record { from = z; to = repository r; message = message.Write (time_of t) w u }) ever) (sym own) sent.0 in
-            let same = that-write t o' v (repository r) w u low open writes (sent-holds (record { from = broker b; to = repository r; message = message.Write (time_of t) w u }) mine_sent) in
+            let same = that-write t o' v (repository r) w u low stands writes (sent-holds (record { from = broker b; to = repository r; message = message.Write (time_of t) w u }) mine_sent) in
             (same.0, same.1, sym sent.1 ∙ ap (λ (z : ObjectId). z.repository) (sym same.0))
 
         moved : (step : WriteStep) (r : ℕ) (w : ObjectId) (u : Value) → (o' ≡ w) × (v ≡ u) × (r ≡ o'.repository) → Once (λ l. write_step (marks l) w (time_of t) u ≡ step) (any_log p (repository r)) → AnsweredThere p (time_of t) o' v step
@@ -173,7 +165,7 @@ module _ (p : AnyPlace) where
         read-cause e Repository r says =
             let same = the-same r says.0 says.1 says.2 says.3 in
             let once : AnsweredThere p (time_of t) o' v (write.LaterRead e) = moved (write.LaterRead e) r says.0 says.1 same says.5 in
-            (t, open, (v, writes, (says.4, once-read (any_log p (repository o'.repository)) o' (time_of t) e v once, once)))
+            (t, stands, (v, writes, (says.4, once-read (any_log p (repository o'.repository)) o' (time_of t) e v once, once)))
         read-cause e Broker n says = absurd says.holds
 
         version-cause : (x : TimeParts) (k : NodeKind) (n : ℕ) → any_post p.script base.run base.acts ever k n (any_log p (record { kind = k; number = n })) (record { to = broker b; message = message.LaterVersion (time_of t) x }) →
@@ -181,7 +173,7 @@ module _ (p : AnyPlace) where
         version-cause x Repository r says =
             let same = the-same r says.0 says.1 says.2 says.3 in
             let once : AnsweredThere p (time_of t) o' v (write.LaterVersion x) = moved (write.LaterVersion x) r says.0 says.1 same says.5 in
-            (t, open, (v, writes, (says.4, once-version (any_log p (repository o'.repository)) o' (time_of t) x v once, once)))
+            (t, stands, (v, writes, (says.4, once-version (any_log p (repository o'.repository)) o' (time_of t) x v once, once)))
         version-cause x Broker n says = absurd says.holds
 
       by-outcome : (u : Outcome) → Rests p.script b base.run acts ever below (effect.End i u) → EndCause p b below i u

@@ -171,11 +171,11 @@ module _ (p : Place) where
 
   found-has : (s : StampParts) (ts : List Try) (t : Try) → find s ts ≡ Some t → Has t ts
   found-has s [] t e = absurd (cc e)
-  found-has s (u ∷ ts) t e = go (same_stamp u.stamp s) e
+  found-has s (u ∷ ts) t e = go (λ k. found-has s ts t k) (same_stamp u.stamp s) e
     where
-      go : (c : Bool) → (if c then Some u else find s ts) ≡ Some t → Has t (u ∷ ts)
-      go true k = let same : u ≡ t = cc k in inl same
-      go false k = inr (found-has s ts t k)
+      go : (find s ts ≡ Some t → Has t ts) → (c : Bool) → (if c then Some u else find s ts) ≡ Some t → Has t (u ∷ ts)
+      go below true k = let same : u ≡ t = cc k in inl same
+      go below false k = inr (below k)
 
   -- a write that was asked for before a read of the same attempt was stored before it
   stored-first : (b : ℕ) (x y : TimeParts) (o u : ObjectId) (w : Value) → y.stamp ≡ x.stamp → y.step < x.step → IsAskOf p.script (tries_at b) x (ToRead u) → IsAskOf p.script (tries_at b) y (ToWrite o w) →
@@ -197,7 +197,7 @@ module _ (p : Place) where
       time-is t n e k = ap (λ z. at z n) e ∙ ap (λ z. at y.stamp z) (sym k)
       go : (t : Try) → Has t (tries_at b) → t.stamp ≡ y.stamp → (pre post : List Answer) → t.answers ≡ pre ++ post → y.step ≡ length pre + 1 → stop (p.script t.task.script) pre ≡ Asks (ToWrite o w) → length pre < length t.answers →
           WasSent ever (repository o.repository) (broker b) (message.Stored y)
-      go t has stamp pre [] e step asks more = absurd (let n = ap length e in let m = length-append pre ([] {A = Answer}) in omega (arith, n, m, more))
+      go t has stamp pre [] e step asks more = absurd (let none : List Answer = [] in let n = ap length e in let m = length-append pre none in omega (arith, n, m, more))
       go t has stamp pre (Got v ∷ rest) e step asks more =
           let k : IsFitting (stop (p.script t.task.script) pre) (Got v) = (every-has (IsPlayed p.script) (tries_at b) t (answers-asked p b) has).asked pre rest (Got v) e in
           absurd (subst (λ z. IsFitting z (Got v)) asks k)
@@ -207,6 +207,7 @@ module _ (p : Place) where
 
   pub own-write-read : (x : TimeParts) (v : Value) (o : ObjectId) (y : TimeParts) (w : Value) → WasSent ever (broker x.stamp.broker) (repository o.repository) (message.Read x o) →
       WasSent ever (repository o.repository) (broker x.stamp.broker) (message.Value x v) → StoredBefore ever x o y w → ((z : TimeParts) (u : Value) → StoredBefore ever x o z u → lt y z ≡ false) → v ≡ w
+  unfolding Picked
   own-write-read x v o y w asked came before last =
       let r : ℕ = o.repository in
       let l : List Mark = marks (log_at p (repository r)) in
@@ -221,9 +222,8 @@ module _ (p : Place) where
       sym viewed.0 ∙ ends (views l o x) most (scan-passes (λ z. shows l x z) o l) (picked (λ z. shows l x z) o l)
     where
       same-time : (a c : TimeParts) → a.stamp ≡ c.stamp → a.step ≡ c.step → a ≡ c
-      same-time a c e k = cc e k
+      same-time a c e k = ap (λ z. at z a.step) e ∙ ap (λ z. at c.stamp z) k
       ends : (found : Option Seen) → AtMost found y → Passes (λ z. shows (marks (log_at p (repository o.repository))) x z) found → Picked o (marks (log_at p (repository o.repository))) found → value_of found ≡ w
-      unfolding Picked
       ends None most pass put = absurd most
       ends (Some q) most pass put =
           let r : ℕ = o.repository in

@@ -26,7 +26,7 @@ use Rattle.world_core.specs.declared.entries.Entry.{Entry}
 use Rattle.world_core.specs.declared.traces.Trace.{Trace}
 use Rattle.world_core.specs.Walks.{World, walk}
 use Rattle.world_core.specs.Legal.{Legal, base_of}
-use Rattle.world_facts.specs.AnyRules.{tasks_of, log_before}
+use Rattle.world_facts.specs.AnyRules.{tasks_of, log_opened}
 use Rattle.world_facts.specs.Refines.{logs_at}
 
 -- A place of a legal trace over any logs; `front` are the trace's entries up to the place. `script` reads the texts of scripts.
@@ -42,7 +42,7 @@ pub record AnyPlace : Type 0 where
 
 -- a node's durable log there
 abbrev pub any_log : AnyPlace → NodeId → List Effect
-any_log p n = reverse (logs_at (λ k. reverse (log_before p.trace k)) (walk (base_of p.script p.plan p.trace) p.front) n)
+any_log p n = reverse (logs_at (log_opened p.trace) (walk (base_of p.script p.plan p.trace) p.front) n)
 
 -- what counts of a log of broker b
 abbrev pub counted_by : AnyPlace → ℕ → List Effect → Book

@@ -38,7 +38,7 @@ use Rattle.world_facts.specs.Rules.{Around, Later, NodeFacts, MayInput, SenderOk
 use Rattle.world_facts.specs.Soft.Event.{Start}
 use Rattle.world_facts.specs.Refines.{Left, Refines, Facts, logs_at}
 use Rattle.world_facts.specs.NodeRules.{of_hand, of_desk, kind_turn, node_turns}
-use Rattle.world_facts.specs.AnyRules.{GrownFrom, tasks_of, any_fits, any_post, any_cause, any_facts}
+use Rattle.world_facts.specs.AnyRules.{GrownFrom, tasks_of, any_fits, any_post, any_cause, any_facts, log_opened, log_before}
 use Rattle.world_facts.proofs.NodeLaws.{gives-are}
 use Rattle.world_facts.proofs.Openings.{opens, facts-of}
 use Rattle.world_facts.proofs.Refinements.{walk-refines}
@@ -145,10 +145,6 @@ module _ (script : List ℕ → Tree) (run : ℕ) (acts : List ActSpec) (logs : 
     ever = refl;
     ticked = λ t h. h;
   }
-
--- the log that a node was opened with
-abbrev pub log_opened : Trace → NodeId → List Effect
-log_opened t n = unwrap_or (opened_log t.opened n) []
 
 pub any-trace : (script : List ℕ → Tree) (plan : Plan) (asked : List Asked) (t : Trace) (front rest : List Entry) → Legal script plan asked t → t.entries ≡ front ++ rest →
     Facts (any_facts script (base_of script plan t).run (base_of script plan t).acts (log_before t)) (base_of script plan t) (logs_at (log_opened t) (walk (base_of script plan t) front)) [] (sent_by (walk (base_of script plan t) front))

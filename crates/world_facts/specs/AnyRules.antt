@@ -55,6 +55,10 @@ module _ (script : List ℕ → Tree) (run : ℕ) (acts : List ActSpec) where
     Ready = λ r a n log. (r ≡ run) × (a ≡ acts);
   }
 
--- the log that a node of a trace was opened with, newest effect first
+-- the log that a node of a trace was opened with, oldest effect first
+abbrev pub log_opened : Trace → NodeId → List Effect
+log_opened t n = unwrap_or (opened_log t.opened n) []
+
+-- and newest effect first
 abbrev pub log_before : Trace → NodeId → List Effect
-log_before t n = reverse (unwrap_or (opened_log t.opened n) [])
+log_before t n = reverse (log_opened t n)
