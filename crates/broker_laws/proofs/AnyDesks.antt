@@ -1,6 +1,6 @@
 -- A turn over any log adds what counts, each with its cause, and says what holds of the tries of its run.
-use Rattle.std.proofs.Common.{◌≡◌, ℕ, zero, suc, ◌≤◌, ◌<◌, max, nat_lt, ◌==◌, Bool, true, false, ◌&&◌, List, [], ◌∷◌, ◌++◌, refl, sym, ◌∙◌, ap, subst, Option, Some, None, if◌then◌else◌, arith, append-nil, append_assoc}
-use Rattle.std.proofs.lemmas.Bool.{eqb-true, ltb-true}
+use Rattle.std.proofs.Common.{◌≡◌, ℕ, zero, suc, ◌≤◌, ◌<◌, max, nat_lt, ◌==◌, Bool, true, false, List, [], ◌∷◌, ◌++◌, refl, sym, ◌∙◌, ap, subst, Option, Some, None, if◌then◌else◌, arith, append-nil, append_assoc}
+use Rattle.std.proofs.lemmas.Bool.{eqb-true}
 use Rattle.std.proofs.lemmas.Grind.{common_steps}
 use Rattle.pseudo_time.specs.Lists.{Every}
 use Rattle.pseudo_time.specs.StampParts.{StampParts}
@@ -22,13 +22,13 @@ use Rattle.broker_core.specs.Book.{Act, Book, Try, book, close, enter, find, fin
 use Rattle.broker_core.specs.Fits.{add_if, counts, fits_try, keep}
 use Rattle.broker_core.specs.Owed.{by_stage, owed}
 use Rattle.broker_core.specs.Rows.{News, news, row}
-use Rattle.broker_core.specs.Stages.{Idle, Stage, stage, stage_of, standing}
+use Rattle.broker_core.specs.Stages.{Idle, stage, stage_of, standing}
 use Rattle.broker_core.specs.Book.{open_try, last_try}
-use Rattle.broker_core.specs.Turns.{Desk, Go, Hear, Input, Take, desk_at, desk_turn, fuel, hears, note, note_if, reply, say, send, settle_up, state, whole}
+use Rattle.broker_core.specs.Turns.{Desk, Go, Hear, Input, Take, desk_turn, fuel, hears, note, note_if, reply, say, send, settle_up, state, whole}
 use Rattle.broker_core.specs.declared.heards.Heard.{Heard}
 use Rattle.broker_core.specs.declared.replies.Reply.{Reply}
 use Rattle.broker_core.specs.declared.replies.Reply.TheVariants.{Adds, Hears, Ignored}
-use Rattle.broker_laws.specs.AnyLogs.{counted, own_tries, InRun, Joins, Rests, Says, GoesOn}
+use Rattle.broker_laws.specs.AnyLogs.{counted, own_tries, InRun, Joins, Says, GoesOn}
 use Rattle.broker_laws.specs.Fits.{EndFits, FitsBook}
 use Rattle.broker_laws.specs.Posts.{IsBelow, IsLater, PostHolds}
 use Rattle.broker_laws.specs.Works.{MayInput}
@@ -142,6 +142,7 @@ module _ (script : List ℕ → Tree) (me run : ℕ) (acts : List Task) where
     where
       wide : Every (IsBelow me b.clock) (tries_of (b.acts ++ []))
       wide = subst (λ zs. Every (IsBelow me b.clock) (tries_of zs)) (sym (append-nil b.acts)) c
+
       go : (f : Effect) → FitsBook script me b f → (enter f b).run ≡ b.run → Moved script (tries_of b.acts) (tries_of (enter f b).acts)
       go (effect.Run n) h same = absurd (let k : b.run < n = h in let e : n ≡ b.run = same in omega (arith, k, e))
       go (effect.Act i x t k c y) h same = packed b.acts (enter (effect.Act i x t k c y) b).acts (moved script me (alone b) (effect.Act i x t k c y) wide h)
@@ -219,6 +220,7 @@ module _ (script : List ℕ → Tree) (me run : ℕ) (acts : List Task) where
           let p : PostOk script me run acts (tries_of (b.acts ++ [])) (standing (stage script run b h)) =
           standing-ok script me run acts (alone b) (subst (λ zs. Every (IsBelow me b.clock) (tries_of zs)) (sym (append-nil b.acts)) (own r)) (stage script run (alone b) h) (stage-ok script me run acts (alone b) h) in
           subst (λ zs. PostHolds script me (tries_of zs) o.to o.message) (append-nil b.acts) (subst (PostOk script me run acts (tries_of (b.acts ++ []))) e p)
+
       go : (c : Bool) → (b.run == run) ≡ c → standing (if c then stage_of script h (open_try b) (last_try b) else Idle) ≡ Some o → (b.run ≡ run) × PostHolds script me (tries_of b.acts) o.to o.message
       go true q k = (eqb-true b.run run q, right (eqb-true b.run run q))
       go false q k = absurd (cc k)
@@ -242,8 +244,10 @@ module _ (script : List ℕ → Tree) (me run : ℕ) (acts : List Task) where
     where
       run-alone : (g : Effect) → effect.Run run ≡ g → InRun script me run acts b g
       run-alone g e = subst (InRun script me run acts b) e tt
+
       some-is : (x y : Effect) → Some x ≡ Some y → x ≡ y
       some-is x y e = cc e
+
       go : (c : Bool) → nat_lt b.run run ≡ c → (if c then Some (effect.Run run) else by_stage me acts h b (stage script run b h)) ≡ Some f → InRun script me run acts b f
       go true q k = run-alone f (some-is (effect.Run run) f k)
       go false q k = in-run b f q

@@ -1,9 +1,7 @@
 -- A turn over any log refuses a write only where its log says so.
-use Rattle.std.proofs.Common.{◌≡◌, ℕ, ◌+◌, Bool, true, false, List, [], ◌∷◌, ◌++◌, refl, ◌∙◌, Option, Some, None, ◌==◌, ◌&&◌, ◌||◌, not, nat_le, if◌then◌else◌, inr}
+use Rattle.std.proofs.Common.{◌≡◌, ℕ, ◌+◌, Bool, true, false, List, [], ◌∷◌, ◌++◌, refl, ◌∙◌, Option, Some, None, ◌==◌, ◌||◌, not, nat_le, if◌then◌else◌, inr}
 use Rattle.std.proofs.lemmas.Bool.{false≢true}
 use Rattle.std.specs.List.{filter}
-use Rattle.std.specs.BTreeSet.{insert_key}
-use Rattle.pseudo_time.specs.Lists.{Every, Has}
 use Rattle.pseudo_time.specs.StampParts.{StampParts}
 use Rattle.pseudo_time.specs.TimeParts.{TimeParts}
 use Rattle.pseudo_time.specs.Order.{same_stamp}
@@ -25,7 +23,7 @@ use Rattle.object_history.specs.declared.steps.ReadStep.TheVariants.{Answer, Wai
 use Rattle.object_history.specs.declared.steps.WriteStep.{WriteStep}
 use Rattle.object_history.specs.declared.steps.WriteStep.TheVariants as write
 use Rattle.object_history.specs.Answers.{read_step, stands_written, write_step}
-use Rattle.object_history.specs.History.{is_settled, settle_of}
+use Rattle.object_history.specs.History.{is_settled}
 use Rattle.object_history.proofs.AnswerLemmas.{later-read, later-version}
 use Rattle.object_history.proofs.BoolLemmas.{and-left, and-right}
 use Rattle.object_history.proofs.ObjectLemmas.{eq-from}
@@ -35,10 +33,9 @@ use Rattle.repository_core.specs.Hands.{Hand, Mind, broker, note, now, repositor
 use Rattle.repository_core.specs.Hearing.{ask_again, asks, due, expire, expire_all, expire_as, on_moment, waited}
 use Rattle.repository_core.specs.Logs.{is_commit, known, marks, record_of}
 use Rattle.repository_core.specs.Rows.{accepts, ask_as, begin_as, close_as, hold, is_broker_of, learn_as, on_ask, on_begin, on_close, on_learn, on_message, on_read, on_write, read_as, read_known, release, reread, row, tell_askers, tells, unhold, waits_for, write_as}
-use Rattle.repository_core.specs.Turns.{hand_at, told}
-use Rattle.repository_core.specs.Turns.Input.{Taking, Learning, Hearing}
+use Rattle.repository_core.specs.Turns.{hand_at}
 use Rattle.repository_laws.specs.AnyLogs.{Refuses, RefusesRightly}
-use Rattle.repository_laws.specs.Facts.{Once, WasSent, WriteSent}
+use Rattle.repository_laws.specs.Facts.{WasSent, WriteSent}
 use Rattle.repository_laws.proofs.Turns.{broker-is, once-now, sent-by}
 
 -- ---- a refusal stays true

@@ -1,40 +1,36 @@
 -- Each End that a trace added has its cause, over any logs.
-use Rattle.std.proofs.Common.{◌≡◌, ℕ, ◌+◌, ◌≤◌, ◌<◌, nat_lt, true, false, List, [], ◌∷◌, ◌++◌, length, reverse, refl, sym, ◌∙◌, ap, subst, Option, Some, None, arith, append_assoc, append-nil}
+use Rattle.std.proofs.Common.{◌≡◌, ℕ, ◌≤◌, nat_lt, false, List, [], ◌∷◌, ◌++◌, length, sym, ◌∙◌, ap, subst, Some, arith, append_assoc}
 use Rattle.std.proofs.lemmas.Grind.{common_steps}
 use Rattle.std.proofs.lemmas.List.{append_cancel_right, length-append}
-use Rattle.pseudo_time.specs.Lists.{Every, Has}
-use Rattle.pseudo_time.specs.Order.{lt}
-use Rattle.pseudo_time.specs.StampParts.{StampParts}
+use Rattle.pseudo_time.specs.Lists.{Has}
 use Rattle.pseudo_time.specs.TimeParts.{TimeParts}
 use Rattle.pseudo_time.specs.declared.nodes.NodeId.{NodeId}
 use Rattle.pseudo_time.specs.declared.nodes.NodeKind.{NodeKind}
 use Rattle.pseudo_time.specs.declared.nodes.NodeKind.TheVariants.{Repository, Broker}
 use Rattle.pseudo_time.proofs.ListLemmas.{every-has}
-use Rattle.pseudo_time.proofs.OrderLemmas.{same_stamp-self}
 use Rattle.value_form.specs.declared.objects.ObjectId.{ObjectId}
 use Rattle.value_form.specs.declared.values.Value.{Value}
 use Rattle.effect_form.specs.declared.effects.Effect.{Effect}
 use Rattle.effect_form.specs.declared.effects.Effect.TheVariants as effect
 use Rattle.effect_form.specs.declared.outcomes.Outcome.{Outcome}
 use Rattle.effect_form.specs.declared.outcomes.Outcome.TheVariants as outcome
-use Rattle.message_form.specs.declared.messages.Message.{Message}
 use Rattle.message_form.specs.declared.messages.Message.TheVariants as message
 use Rattle.turn_form.specs.Growth.{Grew, Each}
 use Rattle.turn_form.specs.Posts.{Post}
-use Rattle.turn_form.proofs.GrowthLemmas.{each_below, grew_keeps}
+use Rattle.turn_form.proofs.GrowthLemmas.{each_below}
 use Rattle.object_history.specs.declared.steps.WriteStep.{WriteStep}
 use Rattle.object_history.specs.declared.steps.WriteStep.TheVariants as write
 use Rattle.object_history.specs.Answers.{write_step}
-use Rattle.script_meaning.specs.Meaning.{Answer, Asks, Request, ToWrite}
+use Rattle.script_meaning.specs.Meaning.{Asks, ToWrite}
 use Rattle.serial_model.specs.Questions.{stop}
 use Rattle.repository_core.specs.Logs.{marks}
 use Rattle.repository_laws.specs.Facts as repositories
 use Rattle.repository_laws.specs.Facts.{Once}
 use Rattle.broker_core.specs.Tasks.{Task}
-use Rattle.broker_core.specs.Book.{Book, Try, enter, find, open_try, time_of, tries_of}
+use Rattle.broker_core.specs.Book.{Book, Try, find, open_try, time_of}
 use Rattle.broker_core.specs.Stages.{broker, repository}
 use Rattle.broker_laws.specs.AnyLogs.{counted, own_tries, Joins, Rests, Says}
-use Rattle.broker_laws.specs.Fits.{FitsBook, IsWriting, OpenAt}
+use Rattle.broker_laws.specs.Fits.{IsWriting}
 use Rattle.broker_laws.specs.Posts as posts
 use Rattle.broker_laws.specs.Posts.{IsAskOf, IsLater, OfOpen}
 use Rattle.broker_laws.proofs.AnyDesks.{later-through, enters, open-own}
@@ -45,9 +41,9 @@ use Rattle.world_core.specs.declared.entries.Entry.TheVariants.{Tick}
 use Rattle.world_facts.specs.Refines as refines
 use Rattle.world_facts.specs.Refines.{logs_at}
 use Rattle.world_facts.specs.Soft.{SentOk}
-use Rattle.world_facts.specs.AnyRules.{GrownFrom, any_facts, any_fits, any_cause, any_post, tasks_of, log_opened, log_before}
+use Rattle.world_facts.specs.AnyRules.{GrownFrom, any_facts, any_post, tasks_of, log_opened, log_before}
 use Rattle.world_facts.proofs.AnyNodes.{any-trace}
-use Rattle.serial_law.specs.Added.{AnyPlace, any_log, counted_by, WroteThere, AnsweredThere, EndCause}
+use Rattle.serial_law.specs.Added.{AnyPlace, any_log, AnsweredThere, EndCause}
 use Rattle.serial_law.proofs.CauseLemmas.{once-read, once-version}
 use Rattle.serial_law.proofs.Own.{fronts}
 

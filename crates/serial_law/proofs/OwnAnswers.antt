@@ -1,5 +1,5 @@
 -- Each answer comes from the repository of the object that was asked for; one pseudotime carries one request; a read shows the reader's own last write.
-use Rattle.std.proofs.Common.{◌≡◌, ℕ, ◌+◌, ◌≤◌, ◌<◌, Bool, true, false, ◌&&◌, ◌||◌, List, [], ◌∷◌, ◌++◌, length, refl, sym, ◌∙◌, ap, subst, Option, Some, None, arith, inl, inr, if◌then◌else◌}
+use Rattle.std.proofs.Common.{◌≡◌, ℕ, ◌+◌, ◌≤◌, ◌<◌, Bool, true, false, ◌||◌, List, [], ◌∷◌, ◌++◌, length, refl, sym, ◌∙◌, ap, subst, Option, Some, None, arith, inl, inr, if◌then◌else◌}
 use Rattle.std.proofs.lemmas.List.{length-append}
 use Rattle.pseudo_time.specs.Lists.{Every, Has}
 use Rattle.pseudo_time.specs.Order.{lt, same_stamp}
@@ -12,9 +12,7 @@ use Rattle.pseudo_time.proofs.ListLemmas.{every-has}
 use Rattle.pseudo_time.proofs.OrderLemmas.{same_stamp-of}
 use Rattle.value_form.specs.declared.objects.ObjectId.{ObjectId}
 use Rattle.value_form.specs.declared.values.Value.{Value}
-use Rattle.effect_form.specs.declared.effects.Effect.{Effect}
 use Rattle.effect_form.specs.declared.effects.Effect.TheVariants as effect
-use Rattle.effect_form.specs.declared.outcomes.Outcome.{Outcome}
 use Rattle.effect_form.specs.declared.outcomes.Outcome.TheVariants as outcome
 use Rattle.message_form.specs.declared.messages.Message.{Message}
 use Rattle.message_form.specs.declared.messages.Message.TheVariants as message
@@ -26,13 +24,13 @@ use Rattle.object_history.proofs.BoolLemmas.{and-both, and-left}
 use Rattle.object_history.proofs.StableLemmas.{scan-passes}
 use Rattle.object_history.proofs.ViewLemmas.{top-all}
 use Rattle.object_history.proofs.Words.{AtMost, Passes}
-use Rattle.script_meaning.specs.Meaning.{Answer, Got, Stored, Request, ToRead, ToWrite, Stop, Asks}
+use Rattle.script_meaning.specs.Meaning.{Answer, Got, Stored, Request, ToRead, ToWrite, Asks}
 use Rattle.serial_model.specs.Questions.{stop}
 use Rattle.repository_core.specs.Logs.{marks}
 use Rattle.repository_laws.specs.Facts as repositories
-use Rattle.broker_core.specs.Book.{Try, book, find, time_of, tries}
+use Rattle.broker_core.specs.Book.{Try, book, find, tries}
 use Rattle.broker_core.specs.Stages.{broker, repository}
-use Rattle.broker_laws.specs.Posts.{AreKinds, IsAskOf, IsBelow, IsFitting, IsPlayed, IsProven, WasSent, HasCome, at}
+use Rattle.broker_laws.specs.Posts.{IsAskOf, IsBelow, IsFitting, IsPlayed, IsProven, WasSent, at}
 use Rattle.broker_laws.proofs.Found.{each-found, one-request}
 use Rattle.broker_laws.proofs.Moves.{clocks}
 use Rattle.world_facts.specs.NodeRules.{kind_post}
@@ -190,11 +188,14 @@ module _ (p : Place) where
     where
       some-is : (c d : Try) → Some c ≡ Some d → c ≡ d
       some-is c d e = cc e
+
       units : (ts : List Try) → Every (λ z. Unit {0}) ts
       units [] = tt
       units (t ∷ ts) = (tt, units ts)
+
       time-is : (t : Try) (n : ℕ) → t.stamp ≡ y.stamp → y.step ≡ n → at t.stamp n ≡ y
       time-is t n e k = ap (λ z. at z n) e ∙ ap (λ z. at y.stamp z) (sym k)
+
       go : (t : Try) → Has t (tries_at b) → t.stamp ≡ y.stamp → (pre post : List Answer) → t.answers ≡ pre ++ post → y.step ≡ length pre + 1 → stop (p.script t.task.script) pre ≡ Asks (ToWrite o w) → length pre < length t.answers →
           WasSent ever (repository o.repository) (broker b) (message.Stored y)
       go t has stamp pre [] e step asks more = absurd (let none : List Answer = [] in let n = ap length e in let m = length-append pre none in omega (arith, n, m, more))
@@ -223,6 +224,7 @@ module _ (p : Place) where
     where
       same-time : (a c : TimeParts) → a.stamp ≡ c.stamp → a.step ≡ c.step → a ≡ c
       same-time a c e k = ap (λ z. at z a.step) e ∙ ap (λ z. at c.stamp z) k
+
       ends : (found : Option Seen) → AtMost found y → Passes (λ z. shows (marks (log_at p (repository o.repository))) x z) found → Picked o (marks (log_at p (repository o.repository))) found → value_of found ≡ w
       ends None most pass put = absurd most
       ends (Some q) most pass put =

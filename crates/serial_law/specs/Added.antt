@@ -1,5 +1,5 @@
 -- Why an End that a trace added stands there: over any logs, also over logs that no calls could have left. Logs stand newest first.
-use Rattle.std.specs.Prelude.{◌≡◌, ℕ, true, false, reverse, List, [], ◌∷◌, ◌++◌, Some}
+use Rattle.std.specs.Prelude.{◌≡◌, ℕ, true, false, reverse, List, ◌++◌, Some}
 use Rattle.pseudo_time.specs.Lists.{Has}
 use Rattle.pseudo_time.specs.Order.{lt}
 use Rattle.pseudo_time.specs.TimeParts.{TimeParts}
@@ -19,12 +19,12 @@ use Rattle.plan_form.specs.declared.plans.Plan.{Plan}
 use Rattle.repository_core.specs.Logs.{marks}
 use Rattle.repository_laws.specs.Facts.{Once}
 use Rattle.broker_core.specs.Book.{Book, Try, open_try, time_of}
-use Rattle.broker_core.specs.Stages.{broker, repository}
+use Rattle.broker_core.specs.Stages.{repository}
 use Rattle.broker_laws.specs.AnyLogs.{counted}
 use Rattle.broker_laws.specs.Fits.{FitsBook, IsWriting}
 use Rattle.world_core.specs.declared.entries.Entry.{Entry}
 use Rattle.world_core.specs.declared.traces.Trace.{Trace}
-use Rattle.world_core.specs.Walks.{World, walk}
+use Rattle.world_core.specs.Walks.{walk}
 use Rattle.world_core.specs.Legal.{Legal, base_of}
 use Rattle.world_facts.specs.AnyRules.{tasks_of, log_opened}
 use Rattle.world_facts.specs.Refines.{logs_at}

@@ -1,5 +1,5 @@
 -- The rules of nodes keep over any logs what a run asks of them there; and so it is at each place of a legal trace over any logs.
-use Rattle.std.proofs.Common.{◌≡◌, ℕ, suc, ◌≤◌, length, List, [], ◌∷◌, ◌++◌, reverse, refl, sym, ap, subst, Option, Some, None, is_some, arith}
+use Rattle.std.proofs.Common.{◌≡◌, ℕ, ◌≤◌, length, List, [], ◌∷◌, ◌++◌, reverse, refl, sym, ap, subst, arith}
 use Rattle.std.specs.Option.{unwrap_or}
 use Rattle.pseudo_time.specs.Lists.{Every, Has}
 use Rattle.pseudo_time.specs.declared.nodes.NodeId.{NodeId}
@@ -12,7 +12,6 @@ use Rattle.turn_form.specs.Growth.{Grew, Each}
 use Rattle.turn_form.specs.Posts.{Post}
 use Rattle.turn_form.proofs.GrowthLemmas.{grew_map}
 use Rattle.stream_port.specs.declared.fates.Asked.{Asked}
-use Rattle.stream_port.specs.declared.fates.Fate.{Fate}
 use Rattle.serial_model.specs.Questions.{Tree}
 use Rattle.plan_form.specs.declared.plans.Plan.{Plan}
 use Rattle.repository_core.specs.Hands.{Hand}
@@ -30,15 +29,15 @@ use Rattle.world_core.specs.declared.entries.Entry.TheVariants.{Tick}
 use Rattle.world_core.specs.declared.traces.Trace.{Trace}
 use Rattle.world_core.specs.Nodes.{Mind, Input, repository}
 use Rattle.world_core.specs.Nodes.Input.{Going, Taking, Learning, Hearing}
-use Rattle.world_core.specs.Walks.{Base, opened_log, sent_by, start_world, walk}
+use Rattle.world_core.specs.Walks.{Base, sent_by, start_world, walk}
 use Rattle.world_core.specs.Legal.{Meets, Legal, base_of, fates_of}
 use Rattle.world_core.specs.Pasts.{Agrees}
 use Rattle.world_core.proofs.Rules.{meets-front}
-use Rattle.world_facts.specs.Rules.{Around, Later, NodeFacts, MayInput, SenderOk, TurnGiven, TurnGives, NodeLaws}
+use Rattle.world_facts.specs.Rules.{Around, Later, NodeFacts, MayInput, TurnGives, NodeLaws}
 use Rattle.world_facts.specs.Soft.Event.{Start}
-use Rattle.world_facts.specs.Refines.{Left, Refines, Facts, logs_at}
+use Rattle.world_facts.specs.Refines.{Left, Facts, logs_at}
 use Rattle.world_facts.specs.NodeRules.{of_hand, of_desk, kind_turn, node_turns}
-use Rattle.world_facts.specs.AnyRules.{GrownFrom, tasks_of, any_fits, any_post, any_cause, any_facts, log_opened, log_before}
+use Rattle.world_facts.specs.AnyRules.{tasks_of, any_fits, any_post, any_cause, any_facts, log_opened, log_before}
 use Rattle.world_facts.proofs.NodeLaws.{gives-are}
 use Rattle.world_facts.proofs.Openings.{opens, facts-of}
 use Rattle.world_facts.proofs.Refinements.{walk-refines}

@@ -14,9 +14,9 @@ use Rattle.repository_laws.specs.AnyLogs.{Refuses}
 use Rattle.broker_core.specs.Tasks.{Task, tasks}
 use Rattle.broker_laws.specs.AnyLogs.{Joins, Rests, Says}
 use Rattle.world_core.specs.declared.traces.Trace.{Trace}
-use Rattle.world_core.specs.Nodes.{Mind, acts_of}
+use Rattle.world_core.specs.Nodes.{acts_of}
 use Rattle.world_core.specs.Walks.{opened_log}
-use Rattle.world_facts.specs.Rules.{Around, NodeFacts}
+use Rattle.world_facts.specs.Rules.{NodeFacts}
 
 -- the log is this one, grown by effects that fit
 pub record GrownFrom (Fits : List Effect → Effect → Type 0) (old log : List Effect) : Type 0 where
