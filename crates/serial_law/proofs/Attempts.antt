@@ -16,7 +16,7 @@ use Rattle.broker_core.specs.Book.{Act, Book, Try, book, close, enter, find, fin
 use Rattle.broker_core.specs.Stages.{broker}
 use Rattle.broker_laws.specs.Fits.{FitsBook, IsTidy, MayTry}
 use Rattle.broker_laws.specs.Posts.{Distinct}
-use Rattle.serial_law.specs.Deeds as deeds
+use Rattle.world_core.specs.Deeds as deeds
 use Rattle.serial_law.specs.Runs.{attempt, book_tries, run_tries}
 
 -- ---- homes

@@ -18,7 +18,7 @@ use Rattle.serial_law.proofs.Stamps.{InS, Rising, rising, listed-pass, put-liste
 use Rattle.object_history.specs.History.{Seen, scan}
 use Rattle.pseudo_time.specs.Order.{same_stamp, stamp_lt}
 use Rattle.script_meaning.specs.Meaning.{Answer, Got, Over, Stored, ToWrite}
-use Rattle.serial_law.specs.Deeds.{RunLogs, Try, all_deeds, before, committed, deed, deed_of, deed_stamps, finals, find, marks_at, written}
+use Rattle.world_core.specs.Deeds.{RunLogs, Try, after_deed, all_deeds, before, committed, deed, deed_of, deed_stamps, finals, find, marks_at, written}
 use Rattle.serial_law.specs.Facts.{Facts, asks}
 use Rattle.serial_law.specs.Serial.{HasValue, HoldsAll, HoldsBefore}
 use Rattle.serial_model.specs.Questions.{Ends, Reads, Says, Tree, Writes, after, talked}
@@ -92,7 +92,7 @@ whole-puts k ever f T a c o x w h e =
 
 -- the deed of a committed stamp
 deed-of : (k : RunLogs) (ever : List Post) → Facts k ever → (s : StampParts) → committed k s ≡ true → (m : Objects) → HoldsBefore k s m →
-    (r : Option Try) → find s k.tries ≡ r → Deed (marks_at k) s m (deed_of r (written k s) m)
+    (r : Option Try) → find s k.tries ≡ r → Deed (marks_at k) s m (after_deed (deed_of r (written k s)) m)
 deed-of k ever f s c m h None e = given-deed k ever f s m
 deed-of k ever f s c m h (Some T) e =
     let w = find-is s k.tries T e in
@@ -199,10 +199,10 @@ fold-all k ever facts ok f [] far m holds =
     (λ o x v p h. elim (far.all o x v p h) [ inl e ↦ e | inr j ↦ absurd j ]) holds
 fold-all k ever facts ok f (s ∷ ss) far m holds =
     let c : committed k s ≡ true = far.sure s (far.pass s (inl refl)) in
-    let d : Deed (marks_at k) s m (deed k s m) =
+    let d : Deed (marks_at k) s m (after_deed (deed k s) m) =
     deed-of k ever facts s c m (next-holds k ok f s ss far m holds) (find s k.tries) refl in
-    fold-all k ever facts ok (allow f s) ss (farther k ok f s ss far) (deed k s m)
-    (fold-step (marks_at k) f (allow f s) s (grows k ok f s ss far) m (deed k s m) d holds)
+    fold-all k ever facts ok (allow f s) ss (farther k ok f s ss far) (after_deed (deed k s) m)
+    (fold-step (marks_at k) f (allow f s) s (grows k ok f s ss far) m (after_deed (deed k s) m) d holds)
 
 start : (k : RunLogs) (ok : StampParts → Bool) → ((x : StampParts) → ok x ≡ true → committed k x ≡ true) →
     ((x y : StampParts) → committed k x ≡ true → stamp_lt x y ≡ true → ok y ≡ true → ok x ≡ true) → Far k ok (λ x. false) (deed_stamps k ok)

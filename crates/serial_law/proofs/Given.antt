@@ -15,7 +15,7 @@ use Rattle.object_history.specs.History.{Seen, scan}
 use Rattle.object_history.specs.Objects.{same_object}
 use Rattle.object_history.specs.Views.{Distinct}
 use Rattle.pseudo_time.specs.Order.{lt, same_stamp}
-use Rattle.serial_law.specs.Deeds.{RunLogs, Version, in_run, log_of, marks_at, put_in, puts_of, puts_to, set_all, written}
+use Rattle.world_core.specs.Deeds.{RunLogs, Version, in_run, log_of, marks_at, put_in, puts_of, puts_to, set_all, written}
 use Rattle.serial_law.specs.Facts.{Facts}
 use Rattle.repository_core.specs.Logs.{marks}
 use Rattle.value_form.specs.Objects.{Objects, value_at}

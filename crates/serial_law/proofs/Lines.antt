@@ -17,7 +17,7 @@ use Rattle.serial_law.proofs.Before.{whole-puts}
 use Rattle.object_history.specs.Views.{Distinct}
 use Rattle.pseudo_time.specs.Order.{lt, same_stamp}
 use Rattle.script_meaning.specs.Meaning.{Answer, Got, Stored, ToWrite}
-use Rattle.serial_law.specs.Deeds.{RunLogs, Try, Version, committed, in_run, lines_written, log_of, marks_at, put_in, puts_of, puts_to, written}
+use Rattle.world_core.specs.Deeds.{RunLogs, Try, Version, committed, in_run, lines_written, log_of, marks_at, put_in, puts_of, puts_to, written}
 use Rattle.serial_law.specs.Facts.{Facts, asks, at}
 use Rattle.repository_core.specs.Logs.{marks}
 use Rattle.serial_model.specs.Questions.{Ends, Reads, Says, Tree, Writes, after, talked}

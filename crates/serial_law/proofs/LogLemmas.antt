@@ -14,7 +14,7 @@ use Rattle.object_history.specs.declared.marks.Mark.{Mark}
 use Rattle.object_history.specs.History.{or_else, settle_of}
 use Rattle.pseudo_time.specs.Lists.{Has}
 use Rattle.pseudo_time.specs.Order.{same_stamp}
-use Rattle.serial_law.specs.Deeds.{RunLogs, has_commit, has_learned, in_run, log_of, marks_at, some_of}
+use Rattle.world_core.specs.Deeds.{RunLogs, has_commit, has_learned, in_run, log_of, marks_at, some_of}
 use Rattle.repository_core.specs.Logs.{is_commit, marks}
 use Rattle.object_history.proofs.BoolLemmas.{and-both, and-left, and-right}
 use Rattle.pseudo_time.proofs.OrderLemmas.{same_stamp-is, same_stamp-of}

@@ -12,7 +12,7 @@ use Rattle.serial_law.proofs.Premises.{lone}
 use Rattle.serial_law.proofs.Before.{whole, before-holds}
 use Rattle.serial_law.proofs.Lines.{puts-are-lines}
 use Rattle.script_meaning.specs.Meaning.{Over}
-use Rattle.serial_law.specs.Deeds.{RunLogs, Try, before, committed, marks_at}
+use Rattle.world_core.specs.Deeds.{RunLogs, Try, before, committed, marks_at}
 use Rattle.serial_law.specs.Facts.{Facts, MayCommit}
 use Rattle.serial_law.specs.Serial.{IsSerial, Serial, Whole}
 use Rattle.serial_model.specs.Questions.{Tree, talked, told}

@@ -13,7 +13,7 @@ use Rattle.object_history.specs.History.{settle_of}
 use Rattle.object_history.specs.Views.{Viewed}
 use Rattle.pseudo_time.specs.Lists.{Has}
 use Rattle.script_meaning.specs.Meaning.{Answer, Got, Request, Stored, ToRead, ToWrite}
-use Rattle.serial_law.specs.Deeds.{RunLogs, Try, committed, in_run, log_of, marks_at}
+use Rattle.world_core.specs.Deeds.{RunLogs, Try, committed, in_run, log_of, marks_at}
 use Rattle.serial_law.specs.Facts.{Asked, Facts, asks, at}
 use Rattle.serial_model.specs.Questions.{after}
 use Rattle.serial_law.proofs.Puts.{PutAt}

@@ -13,7 +13,7 @@ use Rattle.effect_form.specs.declared.outcomes.Outcome.{Outcome}
 use Rattle.effect_form.specs.declared.outcomes.Outcome.TheVariants as outcome
 use Rattle.script_meaning.specs.Meaning.{Answer, Got, Stored}
 use Rattle.broker_core.specs.Book.{book}
-use Rattle.serial_law.specs.Deeds.{Try, RunLogs, Version, has_commit, committed, put_in, puts_of, puts_to, find, stamp_in, stamp_if, put_stamps, log_stamps, try_stamps, all_deeds, before, lines_written}
+use Rattle.world_core.specs.Deeds.{Try, RunLogs, Version, has_commit, committed, put_in, puts_of, puts_to, find, stamp_in, stamp_if, put_stamps, log_stamps, try_stamps, all_deeds, before, lines_written}
 use Rattle.serial_law.specs.Serial.{Serial}
 use Rattle.serial_law.specs.Runs.{run_of, run_tries}
 use Rattle.serial_law.proofs.WorkedRuns.{stamp, time, object, int, plan, one, elsewhere_script, elsewhere_home, elsewhere_other, elsewhere_broker, at_one, at_two, pick_log, value-one}

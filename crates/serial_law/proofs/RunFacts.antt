@@ -52,7 +52,7 @@ use Rattle.world_core.specs.Walks.{Base, opened_log}
 use Rattle.world_facts.specs.NodeRules.{kind_post, node_facts}
 use Rattle.world_facts.specs.Refines as refines
 use Rattle.serial_law.specs.Causes.{HasCause, Causes}
-use Rattle.serial_law.specs.Deeds.{Try, RunLogs, in_run}
+use Rattle.world_core.specs.Deeds.{Try, RunLogs, in_run}
 use Rattle.serial_law.specs.Facts.{Said, at, asks, request_at, asked_of, Asked, MayCommit, Facts}
 use Rattle.serial_law.specs.Runs.{attempt, run_of}
 use Rattle.serial_law.proofs.Attempts.{IsTryOf, try-of, try-home, of-book, found-try}

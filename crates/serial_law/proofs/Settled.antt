@@ -9,7 +9,7 @@ use Rattle.turn_form.specs.Posts.{Post}
 use Rattle.serial_law.proofs.LogLemmas.{SettledBy, settle-marks, has-commit, commit-has, has-learned, learned-has, in-low, in-high, in-both, some-yes, some-is}
 use Rattle.object_history.specs.History.{settle_of}
 use Rattle.pseudo_time.specs.Lists.{Has}
-use Rattle.serial_law.specs.Deeds.{RunLogs, committed, has_commit, has_learned, in_run, log_of, some_of}
+use Rattle.world_core.specs.Deeds.{RunLogs, committed, has_commit, has_learned, in_run, log_of, some_of}
 use Rattle.serial_law.specs.Facts.{Facts}
 use Rattle.repository_core.specs.Logs.{is_commit, marks}
 

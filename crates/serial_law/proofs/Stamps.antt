@@ -10,7 +10,7 @@ use Rattle.object_history.specs.declared.marks.Mark.TheVariants.{Put, Stretch, S
 use Rattle.serial_law.proofs.LogLemmas.{le-cases, in-low, in-high, put-marks}
 use Rattle.serial_law.proofs.Premises.{put-at}
 use Rattle.pseudo_time.specs.Order.{same_stamp, stamp_lt}
-use Rattle.serial_law.specs.Deeds.{RunLogs, Try, deed_stamps, log_of, log_stamps, marks_at, put_stamps, stamp_if, stamp_in, try_stamps}
+use Rattle.world_core.specs.Deeds.{RunLogs, Try, deed_stamps, log_of, log_stamps, marks_at, put_stamps, stamp_if, stamp_in, try_stamps}
 use Rattle.repository_core.specs.Logs.{marks}
 use Rattle.pseudo_time.proofs.OrderLemmas.{same_stamp-is}
 use Rattle.serial_law.proofs.Puts.{PutAt}

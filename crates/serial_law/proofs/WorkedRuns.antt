@@ -25,7 +25,7 @@ use Rattle.script_meaning.specs.Meaning.{Got, Stored, ToRead, Asks, Over}
 use Rattle.serial_model.specs.Questions.{Tree, Ends, Says, Reads, Writes, talked, told, left_by}
 use Rattle.plan_form.specs.declared.plans.Plan.{Plan}
 use Rattle.broker_core.specs.Book.{book}
-use Rattle.serial_law.specs.Deeds.{Try, RunLogs, some_of, has_commit, has_learned, committed, put_in, puts_of, puts_to, written, find, stamp_in, stamp_if, put_stamps, log_stamps, try_stamps, all_deeds, before, finals, lines_written}
+use Rattle.world_core.specs.Deeds.{Try, RunLogs, some_of, has_commit, has_learned, committed, put_in, puts_of, puts_to, written, find, stamp_in, stamp_if, put_stamps, log_stamps, try_stamps, all_deeds, before, finals, lines_written}
 use Rattle.serial_law.specs.Runs.{run_of, run_tries}
 
 abbrev pub plan : ℕ → ℕ → ℕ → Plan

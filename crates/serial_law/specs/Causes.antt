@@ -17,7 +17,7 @@ use Rattle.repository_core.specs.Logs.{marks}
 use Rattle.repository_laws.specs.Facts.{Once}
 use Rattle.script_meaning.specs.Meaning.{ToWrite, Over}
 use Rattle.serial_model.specs.Questions.{after, talked}
-use Rattle.serial_law.specs.Deeds.{Try, RunLogs, log_of}
+use Rattle.world_core.specs.Deeds.{Try, RunLogs, log_of}
 use Rattle.serial_law.specs.Facts.{asks, at}
 
 -- the pseudotime of the request that the attempt stands at

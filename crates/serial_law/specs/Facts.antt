@@ -19,7 +19,7 @@ use Rattle.object_history.specs.Views.{Viewed, Distinct}
 use Rattle.script_meaning.specs.Meaning.{Answer, Got, Stored, Request, ToRead, ToWrite, Stop, Asks, Over}
 use Rattle.serial_model.specs.Questions.{Tree, after, first_stop, talked}
 use Rattle.repository_core.specs.Logs.{marks, is_commit}
-use Rattle.serial_law.specs.Deeds.{Try, RunLogs, log_of, in_run}
+use Rattle.world_core.specs.Deeds.{Try, RunLogs, log_of, in_run}
 
 -- some node sent the message
 abbrev pub Said : List Post → Message → Type 0

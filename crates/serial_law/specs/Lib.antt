@@ -1,7 +1,6 @@
 pub mod Added
 pub mod Answers
 pub mod Causes
-pub mod Deeds
 pub mod Facts
 pub mod Runs
 pub mod Serial

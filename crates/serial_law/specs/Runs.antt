@@ -25,24 +25,7 @@ use Rattle.world_core.specs.Walks.{World, walk, sent_by}
 use Rattle.world_core.specs.Legal.{Legal, base_of}
 use Rattle.world_core.specs.Pasts.{HasPast, Agrees}
 use Rattle.world_facts.specs.Refines.{logs_at, past_sent, Ticked}
-use Rattle.serial_law.specs.Deeds.{Try, RunLogs}
-
--- an attempt of a broker's book; `script` reads the texts of scripts
-abbrev pub attempt : (List ℕ → Tree) → books.Try → Try
-attempt script t = record { stamp = t.stamp; script = script t.task.script; answers = t.answers; ended = t.end }
-
--- the attempts of this run in a broker's book
-abbrev pub book_tries : (List ℕ → Tree) → ℕ → Book → List Try
-book_tries script run b = if b.run == run then map (attempt script) (tries_of b.acts) else []
-
--- of brokers 1 to this number
-unfoldable pub run_tries : (List ℕ → Tree) → ℕ → (NodeId → List Effect) → ℕ → List Try
-run_tries script run logs zero = []
-run_tries script run logs (suc b) = run_tries script run logs b ++ book_tries script run (book (logs (broker (suc b))))
-
--- a run of this plan
-abbrev pub run_of : (List ℕ → Tree) → Plan → (NodeId → List Effect) → RunLogs
-run_of script plan logs = record { repositories = plan.repositories; logs = logs; tries = run_tries script plan.run logs plan.brokers }
+pub use Rattle.world_core.specs.Deeds.{Try, RunLogs, attempt, book_tries, run_tries, run_of}
 
 -- ---- places of legal traces
 

@@ -15,7 +15,7 @@ use Rattle.object_history.specs.History.{Seen, scan}
 use Rattle.object_history.specs.Views.{value_of}
 use Rattle.script_meaning.specs.Meaning.{Over}
 use Rattle.serial_model.specs.Questions.{Talked, talked, told, IsFrontOf}
-use Rattle.serial_law.specs.Deeds.{Try, RunLogs, committed, before, written, lines_written, marks_at}
+use Rattle.world_core.specs.Deeds.{Try, RunLogs, committed, before, written, lines_written, marks_at}
 
 -- the attempt's transcript is the whole one, and its script alone ends so
 pub record Whole (t alone : Talked) (e : Ending) : Type 0 where

@@ -12,7 +12,7 @@ ghost use Rattle.broker_laws.specs.Posts.{IsWithinLimits};
 ghost use Rattle.world_facts.specs.AnyRules.{log_before};
 ghost use Rattle.serial_law.specs.Added.{AnyPlace, any_log, EndCause};
 ghost use Rattle.serial_law.specs.Causes.{Causes};
-ghost use Rattle.serial_law.specs.Deeds.{RunLogs, before, finals};
+ghost use Rattle.world_core.specs.Deeds.{RunLogs, before, finals};
 ghost use Rattle.serial_law.specs.Facts.{Facts};
 ghost use Rattle.serial_law.specs.Runs.{Place, log_at, run_at, sent_before, TickedBefore, Acknowledges};
 ghost use Rattle.serial_law.specs.Serial.{Serial, HoldsAll, HoldsBefore};

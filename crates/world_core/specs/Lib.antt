@@ -1,3 +1,4 @@
+pub mod Deeds
 pub mod Legal
 pub mod Nodes
 pub mod Pasts

@@ -1,17 +1,13 @@
--- Which stamps are committed in the logs of a run's nodes, and the map of objects that their deeds leave, carried out one after
--- another in the order of stamps (serial execution in that order: Bernstein et al. 1987). Logs stand newest first.
-use Rattle.std.specs.Prelude.{ℕ, ◌+◌, zero, suc, Bool, true, false, List, [], ◌∷◌, Option, Some, None, ◌&&◌, ◌||◌, nat_le, if◌then◌else◌}
+-- Which deeds a run has: attempts and given writes, which stamps are committed in its logs, and the map of objects that their deeds leave.
+-- Logs stand newest first.
+use Rattle.std.specs.Prelude.{ℕ, zero, suc, Bool, true, false, List, [], ◌∷◌, ◌++◌, map, Option, Some, None, ◌&&◌, ◌||◌, ◌==◌, nat_le, if◌then◌else◌}
 use Rattle.std.specs.FinMap as finite
 use Rattle.pseudo_time.specs.StampParts.{StampParts}
-use Rattle.pseudo_time.specs.TimeParts.{TimeParts}
-use Rattle.pseudo_time.specs.Order.{lt, same_stamp, stamp_lt}
+use Rattle.pseudo_time.specs.Order.{same_stamp, stamp_lt}
 use Rattle.pseudo_time.specs.declared.decisions.Decision.TheVariants.{Committed}
 use Rattle.pseudo_time.specs.declared.nodes.NodeId.{NodeId}
 use Rattle.pseudo_time.specs.declared.nodes.NodeKind.TheVariants.{Repository}
 use Rattle.value_form.specs.declared.objects.ObjectId.{ObjectId}
-use Rattle.value_form.specs.declared.values.Value.{Value}
-use Rattle.value_form.specs.declared.transcripts.Line.{Line}
-use Rattle.value_form.specs.declared.transcripts.Line.TheVariants as line
 use Rattle.value_form.specs.Objects.{Objects}
 use Rattle.effect_form.specs.declared.effects.Effect.{Effect}
 use Rattle.effect_form.specs.declared.effects.Effect.TheVariants as effect
@@ -19,8 +15,14 @@ use Rattle.effect_form.specs.declared.outcomes.Outcome.{Outcome}
 use Rattle.object_history.specs.declared.marks.Mark.{Mark}
 use Rattle.object_history.specs.declared.marks.Mark.TheVariants.{Put, Stretch, Settle}
 use Rattle.script_meaning.specs.Meaning.{Answer}
-use Rattle.serial_model.specs.Questions.{Tree, left_by}
+use Rattle.serial_model.specs.Questions.{Tree}
+pub use Rattle.serial_model.specs.Deeds.{Version, Deed, after_deed, after_deeds, put_in, set_all, stamp_in, stamp_if, lines_written}
+use Rattle.serial_model.specs.Deeds.Deed.{Alone, Given}
+use Rattle.plan_form.specs.declared.plans.Plan.{Plan}
 use Rattle.repository_core.specs.Logs.{marks}
+use Rattle.broker_core.specs.Book as books
+use Rattle.broker_core.specs.Book.{Book, book, tries_of}
+use Rattle.broker_core.specs.Stages.{broker}
 
 -- an attempt at an act, as its broker's log tells it; the answers stand oldest first
 pub record Try : Type 0 where
@@ -71,16 +73,6 @@ marks_at k o = if in_run k o.repository then marks (log_of k o.repository) else 
 
 -- ---- the puts of a stamp
 
-pub record Version : Type 0 where
-  pub object : ObjectId
-  pub start : TimeParts
-  pub value : Value
-
--- a list of versions in the order of their starts
-unfoldable pub put_in : Version → List Version → List Version
-put_in w [] = w ∷ []
-put_in w (p ∷ ps) = if lt p.start w.start then p ∷ put_in w ps else w ∷ p ∷ ps
-
 unfoldable pub puts_of : StampParts → List Mark → List Version → List Version
 puts_of s [] ps = ps
 puts_of s (Put o x v ∷ m) ps = if same_stamp x.stamp s then put_in (record { object = o; start = x; value = v }) (puts_of s m ps) else puts_of s m ps
@@ -97,34 +89,21 @@ written k s = puts_to k s k.repositories
 
 -- ---- deeds
 
--- written one after another
-abbrev pub set_all : List Version → Objects → Objects
-set_all [] m = m
-set_all (w ∷ ws) m = set_all ws (finite.insert m w.object w.value)
-
 -- the attempt of the run with this stamp
 unfoldable pub find : StampParts → List Try → Option Try
 find s [] = None
 find s (t ∷ ts) = if same_stamp t.stamp s then Some t else find s ts
 
 -- An attempt of the run is carried out alone. Else the puts of the stamp are given writes.
-abbrev pub deed_of : Option Try → List Version → Objects → Objects
-deed_of (Some t) ws m = left_by t.script m
-deed_of None ws m = set_all ws m
+abbrev pub deed_of : Option Try → List Version → Deed
+deed_of (Some t) ws = Alone t.script
+deed_of None ws = Given ws
 
-abbrev pub deed : RunLogs → StampParts → Objects → Objects
-deed k s m = deed_of (find s k.tries) (written k s) m
+-- the deed of a stamp
+abbrev pub deed : RunLogs → StampParts → Deed
+deed k s = deed_of (find s k.tries) (written k s)
 
 -- ---- one deed after another
-
--- stamps in rising order, each once
-unfoldable pub stamp_in : StampParts → List StampParts → List StampParts
-stamp_in s [] = s ∷ []
-stamp_in s (t ∷ ts) = if same_stamp s t then t ∷ ts else (if stamp_lt s t then s ∷ t ∷ ts else t ∷ stamp_in s ts)
-
-unfoldable pub stamp_if : Bool → StampParts → List StampParts → List StampParts
-stamp_if true s ss = stamp_in s ss
-stamp_if false s ss = ss
 
 unfoldable pub put_stamps : (StampParts → Bool) → List Mark → List StampParts → List StampParts
 put_stamps ok [] ss = ss
@@ -144,9 +123,9 @@ try_stamps ok (t ∷ ts) = stamp_if (ok t.stamp) t.stamp (try_stamps ok ts)
 abbrev pub deed_stamps : RunLogs → (StampParts → Bool) → List StampParts
 deed_stamps k ok = log_stamps k ok k.repositories (try_stamps ok k.tries)
 
+-- the deeds of these stamps, one after another
 unfoldable pub all_deeds : RunLogs → List StampParts → Objects → Objects
-all_deeds k [] m = m
-all_deeds k (s ∷ ss) m = all_deeds k ss (deed k s m)
+all_deeds k ss m = after_deeds (map (deed k) ss) m
 
 -- the map after all committed deeds with stamps below s, in rising order
 unfoldable pub before : RunLogs → StampParts → Objects
@@ -156,11 +135,21 @@ before k s = all_deeds k (deed_stamps k (λ t. stamp_lt t s && committed k t)) f
 unfoldable pub finals : RunLogs → Objects
 finals k = all_deeds k (deed_stamps k (λ t. committed k t)) finite.empty
 
--- ---- transcripts
+-- ---- the attempts of a run
 
--- the Wrote lines of a transcript as versions: the n-th Read or Wrote line has step n
-unfoldable pub lines_written : StampParts → ℕ → List Line → List Version
-lines_written s n [] = []
-lines_written s n (line.Print v ∷ ls) = lines_written s n ls
-lines_written s n (line.Read o v ∷ ls) = lines_written s (n + 1) ls
-lines_written s n (line.Wrote o v ∷ ls) = record { object = o; start = record { stamp = s; step = n }; value = v } ∷ lines_written s (n + 1) ls
+-- an attempt of a broker's book; `script` reads the texts of scripts
+abbrev pub attempt : (List ℕ → Tree) → books.Try → Try
+attempt script t = record { stamp = t.stamp; script = script t.task.script; answers = t.answers; ended = t.end }
+
+-- the attempts of this run in a broker's book
+abbrev pub book_tries : (List ℕ → Tree) → ℕ → Book → List Try
+book_tries script run b = if b.run == run then map (attempt script) (tries_of b.acts) else []
+
+-- of brokers 1 to this number
+unfoldable pub run_tries : (List ℕ → Tree) → ℕ → (NodeId → List Effect) → ℕ → List Try
+run_tries script run logs zero = []
+run_tries script run logs (suc b) = run_tries script run logs b ++ book_tries script run (book (logs (broker (suc b))))
+
+-- a run of this plan
+abbrev pub run_of : (List ℕ → Tree) → Plan → (NodeId → List Effect) → RunLogs
+run_of script plan logs = record { repositories = plan.repositories; logs = logs; tries = run_tries script plan.run logs plan.brokers }
