@@ -25,7 +25,8 @@ use Rattle.world_core.specs.Walks.{World, walk, sent_by}
 use Rattle.world_core.specs.Legal.{Legal, base_of}
 use Rattle.world_core.specs.Pasts.{HasPast, Agrees}
 use Rattle.world_facts.specs.Refines.{logs_at, past_sent, Ticked}
-pub use Rattle.world_core.specs.Deeds.{Try, RunLogs, attempt, book_tries, run_tries, run_of}
+pub use Rattle.world_core.specs.Deeds.{Try, RunLogs, attempt, book_tries, run_of}
+unfoldable pub use Rattle.world_core.specs.Deeds.{run_tries}
 
 -- ---- places of legal traces
 

@@ -16,7 +16,8 @@ use Rattle.object_history.specs.declared.marks.Mark.{Mark}
 use Rattle.object_history.specs.declared.marks.Mark.TheVariants.{Put, Stretch, Settle}
 use Rattle.script_meaning.specs.Meaning.{Answer}
 use Rattle.serial_model.specs.Questions.{Tree}
-pub use Rattle.serial_model.specs.Deeds.{Version, Deed, after_deed, after_deeds, put_in, set_all, stamp_in, stamp_if, lines_written}
+pub use Rattle.serial_model.specs.Deeds.{Version, Deed, after_deed, after_deeds, set_all}
+unfoldable pub use Rattle.serial_model.specs.Deeds.{put_in, stamp_in, stamp_if, lines_written}
 use Rattle.serial_model.specs.Deeds.Deed.{Alone, Given}
 use Rattle.plan_form.specs.declared.plans.Plan.{Plan}
 use Rattle.repository_core.specs.Logs.{marks}
