@@ -1,5 +1,5 @@
 -- A run of a plan over the logs of its nodes, which stand newest first.
-use Rattle.std.specs.Prelude.{◌≡◌, ℕ, zero, suc, ◌==◌, List, [], ◌++◌, map, reverse, if◌then◌else◌}
+use Rattle.std.specs.Prelude.{◌≡◌, ℕ, List, ◌++◌, reverse}
 use Rattle.pseudo_time.specs.Lists.{Has}
 use Rattle.pseudo_time.specs.declared.decisions.Decision.{Decision}
 use Rattle.pseudo_time.specs.declared.nodes.NodeId.{NodeId}
@@ -16,8 +16,6 @@ use Rattle.serial_model.specs.Questions.{Tree}
 use Rattle.plan_form.specs.declared.plans.Plan.{Plan}
 use Rattle.plan_form.specs.PlanTexts.{IsWhole}
 use Rattle.repository_core.specs.Logs.{is_commit, marks}
-use Rattle.broker_core.specs.Book as books
-use Rattle.broker_core.specs.Book.{Book, book, tries_of}
 use Rattle.broker_core.specs.Stages.{broker}
 use Rattle.world_core.specs.declared.entries.Entry.{Entry}
 use Rattle.world_core.specs.declared.traces.Trace.{Trace}
