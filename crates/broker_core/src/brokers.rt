@@ -257,7 +257,7 @@ impl Broker {
             return self.ledger.act_count() == 0;
         }
         let notes = self.ledger.notes();
-        let most = self.ledger.last_act().map_or(0, |act| act.tries);
+        let most = self.ledger.last_tries();
         notes.started == self.ledger.act_count() && notes.is_over(most)
     }
 

@@ -11,7 +11,7 @@ use std::alloc::{AllocError, Global};
 use value_form::{Script, Value};
 
 /// An answer that a try got.
-#[derive(Debug, Drop)]
+#[derive(Drop)]
 pub enum Given {
     /// To a read: what the object holds.
     Got(Value),

@@ -131,6 +131,36 @@ impl Ledger {
         self.acts.get(self.notes.started - 1)
     }
 
+    /// The index of the act that was begun last, or 0.
+    pub fn last_index(&self) -> u32
+        ensures { result ≡ notes.index_of (notes.act_at self.now.acts self.now.notes) }
+    {
+        match self.last_act() {
+            Some(act) => act.index,
+            None => 0,
+        }
+    }
+
+    /// How many tries the act may have that was begun last, or 0.
+    pub fn last_tries(&self) -> u8
+        ensures { result ≡ notes.most_of (notes.act_at self.now.acts self.now.notes) }
+    {
+        match self.last_act() {
+            Some(act) => act.tries,
+            None => 0,
+        }
+    }
+
+    /// The timeout in ticks of the act that was begun last, or 0.
+    pub fn last_timeout(&self) -> u32
+        ensures { result ≡ notes.timeout_of (notes.act_at self.now.acts self.now.notes) }
+    {
+        match self.last_act() {
+            Some(act) => act.timeout,
+            None => 0,
+        }
+    }
+
     // The script of the last act, with the answers of its try. None where no act was begun.
     fn resumed(&self) -> Result<Option<Run>, AllocError>
         requires { self.now.notes.tries ≢ 0 }
@@ -193,7 +223,7 @@ impl Ledger {
                 self.notes.begin_run(*number);
             }
             Effect::Act { .. } => {
-                let most = self.last_act().map_or(0, |act| act.tries);
+                let most = self.last_tries();
                 self.stepper = None;
                 self.notes.begin_act(most);
             }

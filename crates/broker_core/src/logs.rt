@@ -19,7 +19,7 @@ use std::alloc::{AllocError, Global};
 use value_form::{ActSpec, Bytes};
 
 /// What an Act effect says, but for the script.
-#[derive(Clone, Copy, Debug, PartialEq, Eq)]
+#[derive(Clone, Copy)]
 pub struct Terms {
     pub index: u32,
     pub home: u8,

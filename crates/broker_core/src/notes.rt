@@ -6,7 +6,7 @@ use effect_form::Outcome;
 use pseudo_time::Stamp;
 
 /// What a broker keeps of a try: its stamp, how many answers it got, and its end.
-#[derive(Clone, Copy, Debug, PartialEq, Eq)]
+#[derive(Clone, Copy)]
 pub struct Last {
     pub stamp: Stamp,
     pub answered: usize,
@@ -14,7 +14,7 @@ pub struct Last {
 }
 
 /// What a broker keeps of its log. The last act and the last try are those of the run.
-#[derive(Clone, Copy, Debug, PartialEq, Eq)]
+#[derive(Clone, Copy)]
 pub struct Notes {
     /// The last run.
     pub run: u32,

@@ -67,7 +67,7 @@ fn after_tries(ledger: &Ledger, heard: &Heard) -> Result<Option<Effect>, AllocEr
     if notes.tries != 0 && !notes.is_closed(heard) {
         return Ok(None);
     }
-    let most = ledger.last_act().map_or(0, |act| act.tries);
+    let most = ledger.last_tries();
     if notes.another(most) {
         return Ok(Some(try_or_spent(ledger)));
     }
@@ -99,7 +99,7 @@ fn owed(ledger: &Ledger, heard: &Heard, phase: &Phase) -> Result<Option<Effect>,
     }
     match phase {
         Phase::Stopping(outcome) => Ok(Some(Effect::End {
-            index: ledger.last_act().map_or(0, |act| act.index),
+            index: ledger.last_index(),
             outcome: *outcome,
         })),
         _ => {

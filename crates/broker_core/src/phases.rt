@@ -20,7 +20,7 @@ use turn_form::Out;
 use value_form::{ObjectId, Value};
 
 /// The stage of the last try.
-#[derive(Debug, Drop)]
+#[derive(Drop)]
 pub enum Phase {
     /// There is none, or it is closed.
     Idle,
@@ -250,7 +250,7 @@ fn standing_for(
 pub fn standing(ledger: &Ledger, phase: &Phase) -> Result<Option<Out>, AllocError>
     ensures { IfOk result (λ o. o ≡ spec.standing_at ledger.now.acts ledger.now.notes phase.now) }
 {
-    let timeout = ledger.last_act().map_or(0, |act| act.timeout);
+    let timeout = ledger.last_timeout();
     match ledger.notes().last {
         Some(last) => {
             let out = standing_for(ledger.alloc(), timeout, &last, phase)?;

@@ -18,7 +18,7 @@ use std::alloc::{AllocError, Global};
 use value_form::ObjectId;
 
 /// What a message comes to.
-#[derive(Debug, Drop)]
+#[derive(Drop)]
 pub enum Reply {
     Ignored,
     /// This was heard.
@@ -222,7 +222,7 @@ pub fn reply_to(
     let Some(last) = ledger.notes().last else {
         return Ok(Reply::Ignored);
     };
-    let index = ledger.last_act().map_or(0, |act| act.index);
+    let index = ledger.last_index();
     match phase {
         Phase::Opening => {
             let finished = is_finished_for(ledger, message)?;
