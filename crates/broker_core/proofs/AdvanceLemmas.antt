@@ -1,6 +1,6 @@
 -- A call's turn is that of the rules.
-use Rattle.std.proofs.Common.{◌≡◌, ℕ, zero, suc, min, ◌+◌, ◌*◌, ◌≤◌, ◌==◌, nat_lt, Bool, true, false, ◌&&◌, length, reverse, List, [], ◌∷◌, ◌++◌, refl, sym, ◌∙◌, ap, subst, Option, Some, None, if◌then◌else◌, arith}
-use Rattle.std.proofs.lemmas.Bool.{false≢true, eq-eqb}
+use Rattle.std.proofs.Common.{◌≡◌, ℕ, min, ◌+◌, ◌*◌, ◌≤◌, ◌==◌, true, length, reverse, List, [], ◌∷◌, ◌++◌, refl, sym, ◌∙◌, ap, subst, Option, Some, None, arith}
+use Rattle.std.proofs.lemmas.Bool.{false≢true}
 use Rattle.std.proofs.lemmas.List.{length-map, length-take, length-take-le, reverse-reverse}
 use Rattle.std.proofs.lemmas.Grind.{common_steps}
 use Rattle.value_form.specs.declared.acts.ActSpec.{ActSpec}
@@ -13,17 +13,18 @@ use Rattle.broker_core.specs.declared.givens.Given.{Given}
 use Rattle.broker_core.specs.declared.heards.Heard.{Heard}
 use Rattle.broker_core.specs.declared.notes.Notes.{Notes}
 use Rattle.broker_core.specs.declared.phases.Phase.{Phase}
-use Rattle.broker_core.specs.Tasks.{Task, tasks, task_of, Scripted}
+use Rattle.broker_core.specs.Tasks.{tasks, task_of, Scripted}
 use Rattle.broker_core.specs.Book.{Book, book, enter}
 use Rattle.broker_core.specs.Fits.{fits, counts, keep}
 use Rattle.broker_core.specs.Stages.{stage, standing}
 use Rattle.broker_core.specs.Turns.{Desk, desk_at, whole, note, hears, send, fuel, state, settle_up, say}
 use Rattle.broker_core.specs.Notes.{Shows, noted, answered_in}
-use Rattle.broker_core.specs.Phases.{phase_at, standing_at}
-use Rattle.broker_core.specs.Ledgers.{LedgerParts, Settled, kept, answers_noted, settled, most_steps}
-use Rattle.broker_core.specs.Inputs.{listed, begun, firsts, settled_from, with_notes, phase_in, effects_from, ledger_from}
+use Rattle.broker_core.specs.Phases.{standing_at}
+use Rattle.broker_core.specs.Ledgers.{AreNotes, LedgerParts, Settled, kept, answers_noted, settled, most_steps}
+use Rattle.broker_core.specs.Inputs.{listed, phase_in, effects_from, ledger_from}
 use Rattle.broker_core.specs.Parts.{BrokerParts, parts_of}
-use Rattle.broker_core.specs.Brokers.{NoRun, book_for, Stands, Gives, with_first, follows, FirstFits}
+use Rattle.broker_core.specs.Brokers.{NoRun, Stands, Gives, follows, FirstFits}
+use Rattle.broker_core.proofs.CountLemmas.{are-same}
 use Rattle.broker_core.proofs.SoundLemmas.{sound-kept}
 use Rattle.broker_core.proofs.NotedLemmas.{noted-shows}
 use Rattle.broker_core.proofs.AnyLemmas.{Knows, meets, standing-any}
@@ -143,11 +144,16 @@ advance-viewed script q l0 l h0 h log first p effects outs turn view l-is e-is p
     (λ m st ff. advance-gives script l0 l h0 h log first p effects outs turn m st ff l-is e-is p-is o-is te to)
 
 -- where the answers that the notes count still stand, there are as many
-pub few-kept : (n n0 : Notes) (old new : List Given) → n ≡ n0 → answered_in n0.last ≤ length old → kept n0 new ≡ kept n0 old → answered_in n.last ≤ length new
-few-kept n n0 old new e few same =
-    let l : length (kept n0 old) ≡ answered_in n0.last = length-take-le (answered_in n0.last) old few in
-    let q : length (kept n0 new) ≡ min (answered_in n0.last) (length new) = length-take (answered_in n0.last) new in
-    subst (λ (x : Notes). answered_in x.last ≤ length new) (sym e) (least (answered_in n0.last) (length new) (sym q ∙ (ap length same ∙ l)))
+few-kept : (n : Notes) (old new : List Given) → answered_in n.last ≤ length old → kept n new ≡ kept n old → answered_in n.last ≤ length new
+few-kept n old new few same =
+    let l : length (kept n old) ≡ answered_in n.last = length-take-le (answered_in n.last) old few in
+    let q : length (kept n new) ≡ min (answered_in n.last) (length new) = length-take (answered_in n.last) new in
+    least (answered_in n.last) (length new) (sym q ∙ (ap length same ∙ l))
   where
     least : (a b : ℕ) → min a b ≡ a → a ≤ b
     least a b e = grind (arith, common_steps)
+
+-- notes to go back to
+pub restored : (acts acts0 : List ActSpec) (n n0 : Notes) (old new : List Given) → n ≡ n0 → AreNotes acts0 n0 old → acts ≡ acts0 → kept n0 new ≡ kept n0 old → AreNotes acts n new
+restored acts acts0 n n0 old new e k a same =
+    subst (λ (x : Notes). AreNotes acts x new) (sym e) (subst (λ (xs : List ActSpec). AreNotes xs n0 new) (sym a) (are-same acts0 n0 old new k same (few-kept n0 old new k.answered same)))

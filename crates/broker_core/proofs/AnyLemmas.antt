@@ -1,28 +1,24 @@
 -- What the notes show of any book, also of an earlier run.
-use Rattle.std.proofs.Common.{◌≡◌, ◌≢◌, ℕ, ◌==◌, ◌≤◌, ◌<◌, nat_lt, Bool, true, false, ◌&&◌, length, List, refl, sym, ◌∙◌, ap, subst, Option, Some, None, if◌then◌else◌, arith}
+use Rattle.std.proofs.Common.{◌≡◌, ℕ, ◌==◌, ◌≤◌, nat_lt, Bool, true, false, List, refl, sym, ◌∙◌, ap, subst, Option, Some, if◌then◌else◌, arith}
 use Rattle.std.proofs.lemmas.Grind.{common_steps}
-use Rattle.std.proofs.lemmas.Bool.{eqb-true, eq-eqb}
-use Rattle.std.specs.Option.{option_map}
+use Rattle.std.proofs.lemmas.Bool.{eqb-true}
 use Rattle.value_form.specs.declared.acts.ActSpec.{ActSpec}
 use Rattle.effect_form.specs.declared.effects.Effect.{Effect}
 use Rattle.effect_form.specs.declared.effects.Effect.TheVariants as effect
-use Rattle.turn_form.specs.declared.turns.Out.{Out}
 use Rattle.message_form.specs.declared.messages.Message.{Message}
 use Rattle.serial_model.specs.Questions.{Tree}
 use Rattle.broker_core.specs.declared.givens.Given.{Given}
 use Rattle.broker_core.specs.declared.heards.Heard.{Heard}
-use Rattle.broker_core.specs.declared.notes.Last.{Last}
 use Rattle.broker_core.specs.declared.notes.Notes.{Notes}
 use Rattle.broker_core.specs.declared.phases.Phase.{Phase}
 use Rattle.broker_core.specs.declared.phases.Phase.TheVariants as phase
-use Rattle.broker_core.specs.declared.replies.Reply.{Reply}
 use Rattle.broker_core.specs.Tasks.{tasks, Scripted}
 use Rattle.broker_core.specs.Book.{Book, open_try, last_try}
 use Rattle.broker_core.specs.Stages.{Stage, Idle, stage, stage_of, standing}
 use Rattle.broker_core.specs.Rows.{row, news}
 use Rattle.broker_core.specs.Owed.{owed}
 use Rattle.broker_core.specs.Notes.{Shows, open_last, act_at, stop_at, index_of, timeout_of}
-use Rattle.broker_core.specs.Phases.{phase_at, phase_by_open, standing_at, standing_by, reply_at, owed_at}
+use Rattle.broker_core.specs.Phases.{phase_at, phase_by_open, standing_at, reply_at, owed_at}
 use Rattle.broker_core.specs.Sound.{Sound}
 use Rattle.broker_core.proofs.PhaseLemmas.{Meets, shown, phase-is, standing-is, none-stands}
 use Rattle.broker_core.proofs.ReplyLemmas.{idle-is, reply-is}

@@ -1,5 +1,5 @@
 -- What `done` and `hear` answer.
-use Rattle.std.proofs.Common.{◌≡◌, ℕ, ◌==◌, Bool, true, false, ◌&&◌, length, List, [], ◌∷◌, ◌++◌, reverse, refl, sym, ◌∙◌, ap, subst, Option, Some, None, if◌then◌else◌}
+use Rattle.std.proofs.Common.{◌≡◌, ℕ, ◌==◌, Bool, true, false, ◌&&◌, length, List, [], ◌++◌, reverse, refl, sym, ◌∙◌, ap, subst, Option, Some, None, if◌then◌else◌}
 use Rattle.std.proofs.lemmas.Bool.{eqb-true}
 use Rattle.std.proofs.lemmas.List.{length-map}
 use Rattle.value_form.specs.declared.acts.ActSpec.{ActSpec}
@@ -13,22 +13,22 @@ use Rattle.broker_core.specs.declared.heards.Heard.{Heard}
 use Rattle.broker_core.specs.declared.notes.Notes.{Notes}
 use Rattle.broker_core.specs.declared.phases.Phase.{Phase}
 use Rattle.broker_core.specs.Tasks.{tasks, task_of, Scripted}
-use Rattle.broker_core.specs.Book.{Book, book}
-use Rattle.broker_core.specs.Fits.{is_none, keep}
+use Rattle.broker_core.specs.Book.{Book}
+use Rattle.broker_core.specs.Fits.{is_none}
 use Rattle.broker_core.specs.Stages.{Stage, Idle, Refused, Opening, Asking, Finishing, Stopping, Closing, stage, standing}
 use Rattle.broker_core.specs.Owed.{all_over, done}
-use Rattle.broker_core.specs.Turns.{Desk, Hear, desk_at, send, say}
-use Rattle.broker_core.specs.Notes.{Shows, notes_of, act_at, most_of, over_at}
+use Rattle.broker_core.specs.Turns.{Desk, Hear, desk_at, send}
+use Rattle.broker_core.specs.Notes.{notes_of, act_at, most_of, over_at}
 use Rattle.broker_core.specs.Phases.{phase_at, standing_at, is_quiet}
 use Rattle.broker_core.specs.Ledgers.{LedgerParts, kept}
 use Rattle.broker_core.specs.Inputs.{listed, over_by}
 use Rattle.broker_core.specs.Parts.{BrokerParts, parts_of}
 use Rattle.broker_core.specs.Brokers.{book_for, Stands, Gives, turn_of, is_done}
-use Rattle.broker_core.proofs.ShapeLemmas.{over-is, most_in}
+use Rattle.broker_core.proofs.ShapeLemmas.{over-is}
 use Rattle.broker_core.proofs.SoundLemmas.{sound-kept}
 use Rattle.broker_core.proofs.NotedLemmas.{most-of-last}
 use Rattle.broker_core.proofs.PhaseLemmas.{shown}
-use Rattle.broker_core.proofs.AnyLemmas.{Knows, meets, phase-any, standing-any}
+use Rattle.broker_core.proofs.AnyLemmas.{Knows, phase-any, standing-any}
 
 quiet-is : (s : Stage) → is_quiet (shown s) ≡ is_none (standing s)
 quiet-is Idle = refl

@@ -1,5 +1,5 @@
 -- Which effects fit, by the notes and by the book.
-use Rattle.std.proofs.Common.{◌≡◌, ℕ, zero, suc, ◌+◌, ◌-◌, ◌==◌, nat_lt, Bool, true, false, not, ◌&&◌, length, List, [], ◌∷◌, ◌++◌, refl, sym, ◌∙◌, ap, subst, Option, Some, None, if◌then◌else◌}
+use Rattle.std.proofs.Common.{◌≡◌, ℕ, ◌+◌, ◌==◌, nat_lt, Bool, true, false, not, ◌&&◌, length, List, [], ◌∷◌, ◌++◌, refl, sym, ◌∙◌, ap, Option, Some, None, if◌then◌else◌}
 use Rattle.std.proofs.lemmas.Option.{slice_get-map}
 use Rattle.std.specs.List.{slice_get}
 use Rattle.std.specs.Option.{option_map}
@@ -16,11 +16,11 @@ use Rattle.broker_core.specs.declared.notes.Last.{Last}
 use Rattle.broker_core.specs.declared.notes.Notes.{Notes}
 use Rattle.broker_core.specs.Tests.{is_task}
 use Rattle.broker_core.specs.Tasks.{Task, task_of, task_with, tasks}
-use Rattle.broker_core.specs.Book.{Try, Act, Book, front, tries_of, open_try, last_try}
-use Rattle.broker_core.specs.Fits.{is_none, may_follow, rests, reads_now, writes_now, fits_try, fits_spent, fits_end, fits_outcome, fits_got, fits_acked, fits, stop_of}
+use Rattle.broker_core.specs.Book.{Try, Act, Book, front, tries_of, open_try}
+use Rattle.broker_core.specs.Fits.{is_none, reads_now, writes_now, fits_try, fits_spent, fits_end, fits_outcome, fits_got, fits_acked, fits}
 use Rattle.broker_core.specs.Notes.{last_of, over_behind, spent_in, tries_in, notes_of, open_last, act_at, stop_at, calls_on, rests_at, fits_try_at, fits_spent_at, fits_end_at, fits_step_at, fits_at}
 use Rattle.broker_core.specs.Sound.{Started}
-use Rattle.broker_core.proofs.ShapeLemmas.{past-zero, open-is, rests-is, may_follow-is}
+use Rattle.broker_core.proofs.ShapeLemmas.{open-is, rests-is, may_follow-is}
 use Rattle.broker_core.proofs.MeetLemmas.{last-act, act-is, stop-is}
 use Rattle.broker_core.proofs.PhaseLemmas.{Meets}
 

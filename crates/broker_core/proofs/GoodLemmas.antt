@@ -1,14 +1,13 @@
 -- What is owed, and what a message adds, counts.
-use Rattle.std.proofs.Common.{◌≡◌, ℕ, zero, suc, max, ◌+◌, ◌-◌, ◌≤◌, ◌<◌, ◌==◌, nat_lt, Bool, true, false, ◌&&◌, ◌||◌, length, List, [], ◌∷◌, ◌++◌, refl, sym, ◌∙◌, ap, subst, Option, Some, None, if◌then◌else◌, arith}
+use Rattle.std.proofs.Common.{◌≡◌, ℕ, max, ◌+◌, ◌<◌, ◌==◌, nat_lt, Bool, true, false, ◌||◌, length, List, [], ◌∷◌, refl, sym, ap, subst, Option, Some, None, if◌then◌else◌, arith}
 use Rattle.std.proofs.lemmas.Grind.{common_steps}
-use Rattle.std.proofs.lemmas.Bool.{eqb-true, eq-eqb, false≢true}
+use Rattle.std.proofs.lemmas.Bool.{eq-eqb}
 use Rattle.std.specs.List.{slice_get}
 use Rattle.std.specs.Cmp.Lexicographic.{bytes_decides}
 use Rattle.value_form.specs.declared.acts.ActSpec.{ActSpec}
 use Rattle.value_form.specs.declared.objects.ObjectId.{ObjectId}
 use Rattle.value_form.specs.declared.values.Value.{Value}
 use Rattle.value_form.specs.declared.endings.Ending.TheVariants as ending
-use Rattle.pseudo_time.specs.StampParts.{StampParts}
 use Rattle.pseudo_time.specs.TimeParts.{TimeParts}
 use Rattle.pseudo_time.specs.Order.{same_stamp, same_time}
 use Rattle.pseudo_time.proofs.OrderLemmas.{same_time-is}
@@ -26,16 +25,15 @@ use Rattle.broker_core.specs.declared.heards.Heard.{Heard}
 use Rattle.broker_core.specs.declared.replies.Reply.{Reply}
 use Rattle.broker_core.specs.declared.replies.Reply.TheVariants.{Ignored, Hears, Adds}
 use Rattle.broker_core.specs.Tasks.{Task, task_with}
-use Rattle.broker_core.specs.Tests.{same_task, is_task, is_stamp, is_time}
+use Rattle.broker_core.specs.Tests.{same_task, is_task, is_stamp}
 use Rattle.broker_core.specs.Book.{Try, Act, Book, open_try, last_try, time_of}
-use Rattle.broker_core.specs.Fits.{is_none, calls_again, has_ended, may_follow, rests, another, act_effect, next_clock, shown_to, reads_now, writes_now, fits_end, fits_outcome, fits_try, fits_spent, fits_got, fits_acked, fits, counts, stop_of}
-use Rattle.broker_core.specs.Stages.{Stage, Idle, Refused, Opening, Asking, Finishing, Stopping, Closing, no_answer, by_stop, by_last, is_asking, is_finished, is_closed, is_settled, stage_of, stage}
+use Rattle.broker_core.specs.Fits.{is_none, calls_again, has_ended, may_follow, rests, another, next_clock, shown_to, reads_now, writes_now, fits_end, fits_outcome, fits_try, fits_spent, fits_got, fits_acked, fits, counts, stop_of}
+use Rattle.broker_core.specs.Stages.{Stage, Idle, Refused, Opening, Asking, Finishing, Stopping, Closing, by_stop, by_last, is_finished, is_closed, is_settled, stage_of, stage}
 use Rattle.broker_core.specs.Rows.{row, news, when, ends, decided_commit, decided_early}
-use Rattle.broker_core.specs.Rows as rows
 use Rattle.broker_core.specs.Owed.{start, by_clock, try_or_spent, after_tries, after_act, due, by_stage, owed}
 use Rattle.broker_core.specs.Brokers.{NoRun}
-use Rattle.broker_core.proofs.SoundLemmas.{and-left, and-right, and-both}
-use Rattle.broker_core.proofs.PhaseLemmas.{StageOf, stage-of-is}
+use Rattle.broker_core.proofs.SoundLemmas.{and-left, and-both}
+use Rattle.broker_core.proofs.PhaseLemmas.{StageOf}
 
 same_task-self : (a : Task) → same_task a a ≡ true
 same_task-self a = and-both (eq-eqb a.index a.index refl) (and-both (eq-eqb a.home a.home refl) (and-both (eq-eqb a.timeout a.timeout refl)

@@ -1,5 +1,7 @@
+pub mod AddLemmas
 pub mod AdvanceLemmas
 pub mod AnyLemmas
+pub mod CountLemmas
 pub mod DoneLemmas
 pub mod DueLemmas
 pub mod EqualLemmas

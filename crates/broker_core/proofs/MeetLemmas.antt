@@ -1,18 +1,12 @@
 -- The last act and the open try of a sound book are those that the notes on it show.
-use Rattle.std.proofs.Common.{◌≡◌, ℕ, zero, suc, ◌+◌, ◌-◌, ◌==◌, nat_lt, Bool, true, false, ◌&&◌, length, map, List, [], ◌∷◌, ◌++◌, refl, sym, ◌∙◌, ap, subst, Option, Some, None, if◌then◌else◌, arith}
-use Rattle.std.proofs.lemmas.Grind.{common_steps}
+use Rattle.std.proofs.Common.{◌≡◌, ℕ, zero, suc, ◌-◌, ◌==◌, length, List, [], ◌∷◌, refl, sym, ◌∙◌, ap, subst, Some, None, if◌then◌else◌, arith}
 use Rattle.std.specs.List.{slice_get}
-use Rattle.std.specs.Option.{option_map}
 use Rattle.value_form.specs.declared.acts.ActSpec.{ActSpec}
-use Rattle.value_form.specs.Mirror.{block}
-use Rattle.statement_form.specs.RowTexts.{script_text}
 use Rattle.pseudo_time.specs.Lists.{Every}
-use Rattle.script_meaning.specs.Meaning.{Answer}
-use Rattle.serial_model.specs.Questions.{Tree, denote, stop}
+use Rattle.serial_model.specs.Questions.{Tree, stop}
 use Rattle.broker_core.specs.declared.givens.Given.{Given}
-use Rattle.broker_core.specs.declared.notes.Notes.{Notes}
 use Rattle.broker_core.specs.Tasks.{Task, task_of, tasks, Scripted}
-use Rattle.broker_core.specs.Book.{Try, Act, Book, front, tries_of, open_front, open_of, open_try, last_try}
+use Rattle.broker_core.specs.Book.{Try, Act, Book, front, open_front, open_of, open_try, last_try}
 use Rattle.broker_core.specs.Fits.{stop_of}
 use Rattle.broker_core.specs.Notes.{notes_of, answers_of, answers_of_last, act_at, tree_of, stop_at}
 use Rattle.broker_core.specs.Sound.{Started, OfAct, Sound}

@@ -1,30 +1,26 @@
 -- An effect that counts changes the notes as it changes the book.
-use Rattle.std.proofs.Common.{◌≡◌, ℕ, zero, suc, max, ◌+◌, ◌-◌, ◌==◌, nat_lt, Bool, true, false, not, ◌&&◌, length, map, take, List, [], ◌∷◌, ◌++◌, refl, sym, ◌∙◌, ap, subst, Option, Some, None, if◌then◌else◌, arith}
-use Rattle.std.proofs.lemmas.Grind.{common_steps}
-use Rattle.std.proofs.lemmas.Bool.{eqb-true, eq-eqb, false≢true}
+use Rattle.std.proofs.Common.{◌≡◌, ℕ, suc, max, ◌+◌, ◌-◌, ◌==◌, Bool, true, false, length, take, List, [], ◌∷◌, ◌++◌, refl, sym, ◌∙◌, ap, subst, Option, Some, None, if◌then◌else◌, arith}
+use Rattle.std.proofs.lemmas.Bool.{false≢true}
 use Rattle.std.proofs.lemmas.List.{length-append, length-map, map-append}
 use Rattle.std.proofs.Math.Seq.{take-length}
 use Rattle.std.specs.List.{slice_get}
 use Rattle.std.specs.Option.{option_map}
 use Rattle.value_form.specs.declared.acts.ActSpec.{ActSpec}
-use Rattle.value_form.specs.declared.values.Value.{Value}
 use Rattle.pseudo_time.specs.StampParts.{StampParts}
 use Rattle.effect_form.specs.declared.effects.Effect.{Effect}
 use Rattle.effect_form.specs.declared.effects.Effect.TheVariants as effect
 use Rattle.effect_form.specs.declared.outcomes.Outcome.{Outcome}
 use Rattle.effect_form.specs.declared.outcomes.Outcome.TheVariants as outcome
-use Rattle.script_meaning.specs.Meaning as meaning
 use Rattle.script_meaning.specs.Meaning.{Answer}
 use Rattle.serial_model.specs.Questions.{Tree}
 use Rattle.broker_core.specs.declared.givens.Given.{Given}
 use Rattle.broker_core.specs.declared.givens.Given.TheVariants as given
 use Rattle.broker_core.specs.declared.notes.Last.{Last}
 use Rattle.broker_core.specs.declared.notes.Notes.{Notes}
-use Rattle.broker_core.specs.Tasks.{Task, task_of, task_with, tasks}
-use Rattle.broker_core.specs.Book.{Try, Act, Book, enter, close, front, tries_of, on_act, on_front, on_try, new_try, gain, finish, open_front, open_of, open_try, last_try, if_open}
+use Rattle.broker_core.specs.Tasks.{Task, task_with, tasks}
+use Rattle.broker_core.specs.Book.{Try, Act, Book, enter, front, tries_of, on_act, on_front, on_try, new_try, gain, finish, open_front, open_of, open_try, last_try, if_open}
 use Rattle.broker_core.specs.Fits.{fits, fits_try, fits_got, fits_acked, fits_end, fits_spent}
-use Rattle.broker_core.specs.Owed.{all_over}
-use Rattle.broker_core.specs.Notes.{last_of, over_behind, spent_in, tries_in, notes_of, answers_of, answer_of, answers_of_last, answered_in, act_at, most_of, over_at, act_begun, try_begun, answer_noted, shown_by, end_noted, noted, changed, Shows}
+use Rattle.broker_core.specs.Notes.{last_of, over_behind, spent_in, tries_in, notes_of, answers_of, answer_of, answers_of_last, answered_in, act_at, most_of, over_at, act_begun, try_begun, answer_noted, noted, Shows}
 use Rattle.broker_core.specs.Ledgers.{kept, answers_noted}
 use Rattle.broker_core.specs.Sound.{Started}
 use Rattle.broker_core.proofs.ShapeLemmas.{over-is, most_in, open-is-last}

@@ -1,5 +1,5 @@
 -- A log that is opened.
-use Rattle.std.proofs.Common.{◌≡◌, ℕ, ◌≤◌, ◌==◌, Bool, true, false, List, [], ◌∷◌, refl, sym, ◌∙◌, ap, subst, Option, Some, None, if◌then◌else◌, Result, Ok, Err}
+use Rattle.std.proofs.Common.{◌≡◌, ℕ, ◌≤◌, ◌==◌, Bool, true, false, List, [], ◌∷◌, refl, sym, ◌∙◌, ap, subst, Option, Some, None, if◌then◌else◌, Err}
 use Rattle.value_form.specs.declared.acts.ActSpec.{ActSpec}
 use Rattle.effect_form.specs.declared.effects.Effect.{Effect}
 use Rattle.serial_model.specs.Questions.{Tree}
@@ -12,9 +12,9 @@ use Rattle.broker_core.specs.Fits.{keep, resume_fault}
 use Rattle.broker_core.specs.Stages.{nothing_heard}
 use Rattle.broker_core.specs.Notes.{Shows, passed}
 use Rattle.broker_core.specs.Ledgers.{LedgerParts, kept}
-use Rattle.broker_core.specs.Replays.{fresh_ledger, fits_now, added, logged, led, other_at}
+use Rattle.broker_core.specs.Replays.{fresh_ledger, fits_now, added, led, other_at}
 use Rattle.broker_core.specs.Inputs.{fault_of}
-use Rattle.broker_core.specs.Parts.{BrokerParts, parts_of}
+use Rattle.broker_core.specs.Parts.{parts_of}
 use Rattle.broker_core.specs.Brokers.{Stands, Opens, is_fresh}
 use Rattle.broker_core.proofs.LogLemmas.{Took, led-took, other-is, fault-is, not-old}
 

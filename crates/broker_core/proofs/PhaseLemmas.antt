@@ -1,14 +1,9 @@
 -- The stage that the notes show, and the request that stands at it, are those of the book.
-use Rattle.std.proofs.Common.{◌≡◌, ℕ, ◌+◌, ◌==◌, Bool, true, false, ◌&&◌, ◌||◌, length, List, [], ◌∷◌, refl, sym, ◌∙◌, ap, subst, Option, Some, None, if◌then◌else◌}
+use Rattle.std.proofs.Common.{◌≡◌, ℕ, ◌==◌, Bool, true, false, ◌&&◌, ◌||◌, List, refl, ◌∙◌, ap, Option, Some, None, if◌then◌else◌}
 use Rattle.std.specs.Option.{option_map}
 use Rattle.value_form.specs.declared.acts.ActSpec.{ActSpec}
 use Rattle.value_form.specs.declared.endings.Ending.TheVariants as ending
-use Rattle.effect_form.specs.declared.outcomes.Outcome.{Outcome}
-use Rattle.effect_form.specs.declared.outcomes.Outcome.TheVariants as outcome
-use Rattle.turn_form.specs.declared.turns.Out.{Out}
-use Rattle.message_form.specs.declared.messages.Message.{Message}
-use Rattle.message_form.specs.declared.messages.Message.TheVariants as message
-use Rattle.script_meaning.specs.Meaning.{Request, ToRead, ToWrite, Stop, Asks, Over}
+use Rattle.script_meaning.specs.Meaning.{ToRead, ToWrite, Stop, Asks, Over}
 use Rattle.serial_model.specs.Questions.{Tree}
 use Rattle.broker_core.specs.declared.givens.Given.{Given}
 use Rattle.broker_core.specs.declared.heards.Heard.{Heard}
@@ -17,14 +12,14 @@ use Rattle.broker_core.specs.declared.notes.Notes.{Notes}
 use Rattle.broker_core.specs.declared.phases.Phase.{Phase}
 use Rattle.broker_core.specs.declared.phases.Phase.TheVariants as phase
 use Rattle.broker_core.specs.Tests.{is_stamp, is_time}
-use Rattle.broker_core.specs.Tasks.{Task, task_of, tasks, Scripted}
+use Rattle.broker_core.specs.Tasks.{Task, tasks, Scripted}
 use Rattle.broker_core.specs.Book.{Try, Book, open_try, last_try, time_of}
 use Rattle.broker_core.specs.Fits.{is_none, stop_of}
-use Rattle.broker_core.specs.Stages.{Stage, Idle, Refused, Opening, Asking, Finishing, Stopping, Closing, no_answer, by_stop, by_last, is_asking, is_closed, of_open, stage_of, stage, standing, repository}
-use Rattle.broker_core.specs.Notes.{last_of, notes_of, answers_of, answers_of_last, open_last, act_at, timeout_of, stop_at}
+use Rattle.broker_core.specs.Stages.{Stage, Idle, Refused, Opening, Asking, Finishing, Stopping, Closing, no_answer, by_stop, by_last, is_asking, is_closed, stage_of, stage, standing}
+use Rattle.broker_core.specs.Notes.{last_of, notes_of, answers_of, answers_of_last, act_at, timeout_of}
 use Rattle.broker_core.specs.Phases.{phase_of, phase_by_last, phase_by_stop, phase_by_open, phase_at, standing_for, standing_by, standing_at}
 use Rattle.broker_core.specs.Sound.{Sound}
-use Rattle.broker_core.proofs.ShapeLemmas.{open-is, open-is-last, if-true, if-false}
+use Rattle.broker_core.proofs.ShapeLemmas.{open-is, open-is-last}
 use Rattle.broker_core.proofs.MeetLemmas.{act-is, stop-is}
 
 -- a stage without its try

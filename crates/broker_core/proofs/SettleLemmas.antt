@@ -8,7 +8,7 @@ use Rattle.broker_core.specs.declared.notes.Notes.{Notes}
 use Rattle.broker_core.specs.declared.phases.Phase.{Phase}
 use Rattle.broker_core.specs.Notes.{changed}
 use Rattle.broker_core.specs.Phases.{phase_at, owed_at}
-use Rattle.broker_core.specs.Ledgers.{LedgerParts, Settled, kept, most_steps, owed_now, settle_on, settled}
+use Rattle.broker_core.specs.Ledgers.{LedgerParts, kept, most_steps, owed_now, settle_on, settled}
 use Rattle.std.proofs.lemmas.List.{reverse-append}
 
 module _ (me run : ℕ) (acts : List ActSpec) (answers : List Given) (h : Heard) where

@@ -1,5 +1,5 @@
 -- Notes on a book, by the shapes of its acts.
-use Rattle.std.proofs.Common.{◌≡◌, ℕ, zero, suc, ◌+◌, ◌-◌, ◌==◌, nat_lt, Bool, true, false, not, ◌&&◌, length, map, List, [], ◌∷◌, ◌++◌, refl, sym, ◌∙◌, ap, subst, Option, Some, None, if◌then◌else◌, arith}
+use Rattle.std.proofs.Common.{◌≡◌, ℕ, zero, suc, ◌==◌, nat_lt, Bool, true, false, not, ◌&&◌, length, List, [], ◌∷◌, ◌++◌, refl, sym, ◌∙◌, ap, subst, Option, Some, None, if◌then◌else◌, arith}
 use Rattle.std.proofs.lemmas.Grind.{common_steps}
 use Rattle.std.proofs.lemmas.Option.{slice_get-map}
 use Rattle.std.specs.List.{slice_get}
@@ -11,10 +11,10 @@ use Rattle.broker_core.specs.declared.notes.Last.{Last}
 use Rattle.broker_core.specs.declared.notes.Notes.{Notes}
 use Rattle.broker_core.specs.Tasks.{Task, task_of, tasks}
 use Rattle.broker_core.specs.Book.{Try, Act, Book, front, tries_of, open_front, open_of, open_try, last_try, if_open}
-use Rattle.broker_core.specs.Fits.{is_none, rests, has_ended, may_follow, another, calls_again, has_outcome, outcome_by}
+use Rattle.broker_core.specs.Fits.{is_none, rests, has_ended, may_follow, another, calls_again, outcome_by}
 use Rattle.broker_core.specs.Owed.{all_over, start}
 use Rattle.broker_core.specs.Phases.{start_at}
-use Rattle.broker_core.specs.Notes.{last_of, over_behind, spent_in, tries_in, notes_of, unended, open_last, has_end, calls_on, another_at, outcome_at, over_at, act_at, rests_at, may_follow_at}
+use Rattle.broker_core.specs.Notes.{last_of, over_behind, spent_in, tries_in, notes_of, unended, open_last, has_end, calls_on, another_at, outcome_at, over_at, rests_at}
 
 -- ---- tests of numbers
 

@@ -1,8 +1,8 @@
 -- The book of the part of a log that counts is the plan's.
-use Rattle.std.proofs.Common.{◌≡◌, ℕ, zero, suc, ◌==◌, nat_lt, Bool, true, false, ◌&&◌, length, List, [], ◌∷◌, refl, sym, ◌∙◌, ap, subst, Option, Some, None, if◌then◌else◌, arith}
+use Rattle.std.proofs.Common.{◌≡◌, ℕ, ◌==◌, Bool, true, false, ◌&&◌, length, List, [], ◌∷◌, refl, sym, ◌∙◌, ap, Option, Some, None, if◌then◌else◌}
 use Rattle.std.proofs.lemmas.Bool.{eqb-true, eq-eqb}
 use Rattle.std.specs.List.{slice_get}
-use Rattle.std.specs.Cmp.Lexicographic.{pointwise, same_text}
+use Rattle.std.specs.Cmp.Lexicographic.{same_text}
 use Rattle.pseudo_time.specs.StampParts.{StampParts}
 use Rattle.pseudo_time.specs.Lists.{Every}
 use Rattle.effect_form.specs.declared.effects.Effect.{Effect}
@@ -12,7 +12,7 @@ use Rattle.effect_form.specs.declared.outcomes.Outcome.TheVariants as outcome
 use Rattle.serial_model.specs.Questions.{Tree}
 use Rattle.broker_core.specs.Tasks.{Task, task_with}
 use Rattle.broker_core.specs.Tests.{same_task, is_task}
-use Rattle.broker_core.specs.Book.{Try, Act, Book, enter, close, book, on_act, on_front, on_try, gain, finish, new_try}
+use Rattle.broker_core.specs.Book.{Try, Act, Book, enter, close, book, on_act, on_front, on_try, finish, new_try}
 use Rattle.broker_core.specs.Fits.{fits, counts, add_if, keep, rests}
 use Rattle.broker_core.specs.Sound.{Started, OfAct, Sound}
 

@@ -1,11 +1,11 @@
 -- What a run tells is where the tree of its script stops.
-use Rattle.std.proofs.Common.{◌≡◌, List, [], Option, Some, None, refl, ap, sym, ◌∙◌, subst, MatchOption}
+use Rattle.std.proofs.Common.{◌≡◌, List, Option, Some, None, refl, ap, sym, ◌∙◌, subst, MatchOption}
 use Rattle.value_form.specs.declared.acts.ActSpec.{ActSpec}
 use Rattle.value_form.specs.declared.scripts.Stmt.{Stmt}
 use Rattle.value_form.specs.declared.transcripts.Line.{Line}
 use Rattle.value_form.specs.Mirror.{block}
-use Rattle.script_meaning.specs.Meaning.{Answer, Came, Stop, talk}
-use Rattle.serial_model.specs.Questions.{denote, stop, talked}
+use Rattle.script_meaning.specs.Meaning.{Answer, Came}
+use Rattle.serial_model.specs.Questions.{denote, stop}
 use Rattle.serial_model.proofs.ScriptLemmas.{talk_of}
 use Rattle.serial_model.proofs.AnswerLemmas.{talked-stop}
 use Rattle.script_run.specs.declared.nexts.Next.{Next}
@@ -18,7 +18,7 @@ tree-lines : (a : Option ActSpec) → denote (block (lines_of a)) ≡ tree_of a
 tree-lines None = refl
 tree-lines (Some a) = refl
 
-told-stop : (script : List Stmt) (ans : List Answer) (ls : List Line) (n : Next) → Tells script ans ls n → stop_of n ≡ stop (denote (block script)) ans
+pub told-stop : (script : List Stmt) (ans : List Answer) (ls : List Line) (n : Next) → Tells script ans ls n → stop_of n ≡ stop (denote (block script)) ans
 told-stop script ans ls n t =
     sym (ap (λ (x : Came (List Answer)). x.stop) t) ∙ ((talk_of (block script) ans).1 ∙ talked-stop (denote (block script)) ans)
 

@@ -1,5 +1,5 @@
 -- A message that is taken.
-use Rattle.std.proofs.Common.{◌≡◌, ℕ, ◌==◌, Bool, true, false, List, [], refl, sym, ◌∙◌, ap, subst, Option, Some, None}
+use Rattle.std.proofs.Common.{◌≡◌, ℕ, ◌==◌, Bool, true, false, List, [], refl, sym, ◌∙◌, ap, subst, Some, None}
 use Rattle.std.proofs.lemmas.Bool.{eqb-true}
 use Rattle.pseudo_time.specs.declared.nodes.NodeId.{NodeId}
 use Rattle.effect_form.specs.declared.effects.Effect.{Effect}
@@ -12,16 +12,17 @@ use Rattle.broker_core.specs.declared.replies.Reply.{Reply}
 use Rattle.broker_core.specs.declared.replies.Reply.TheVariants.{Ignored, Hears, Adds}
 use Rattle.broker_core.specs.Tasks.{tasks, Scripted}
 use Rattle.broker_core.specs.Book.{Book}
-use Rattle.broker_core.specs.Stages.{Stage, Idle, stage}
+use Rattle.broker_core.specs.Stages.{Stage, stage}
 use Rattle.broker_core.specs.Rows.{row, news}
 use Rattle.broker_core.specs.Turns.{Desk, Take, desk_at, reply}
 use Rattle.broker_core.specs.Phases.{phase_at, reply_at}
-use Rattle.broker_core.specs.Ledgers.{LedgerParts, kept}
+use Rattle.broker_core.specs.Ledgers.{LedgerParts, MayAdd, kept}
 use Rattle.broker_core.specs.Parts.{BrokerParts, parts_of}
-use Rattle.broker_core.specs.Brokers.{NoRun, book_for, Stands, Gives, turn_of, follows, FirstFits}
+use Rattle.broker_core.specs.Brokers.{book_for, Stands, Gives, turn_of, follows, FirstFits}
+use Rattle.broker_core.proofs.AddLemmas.{MayReply, reply-may}
 use Rattle.broker_core.proofs.SoundLemmas.{sound-kept}
 use Rattle.broker_core.proofs.PhaseLemmas.{stage-of-is}
-use Rattle.broker_core.proofs.AnyLemmas.{Knows, reply-any, stage-away}
+use Rattle.broker_core.proofs.AnyLemmas.{reply-any, stage-away}
 use Rattle.broker_core.proofs.GoodLemmas.{ReplyGood, row-good}
 use Rattle.broker_core.proofs.DoneLemmas.{ignored-gives}
 
@@ -96,3 +97,10 @@ pub adds-viewed : (script : List ℕ → Tree) (q v : BrokerParts) (log : List E
 adds-viewed script q v log m from f turn new view e g sc st =
     take-adds script q log m from f turn new sc st e
     (subst (λ (x : BrokerParts). Scripted script x.acts → Stands script log x → FirstFits script x log (Some f) → Gives script log (follows script x log (Some f) x.heard) turn new) view g sc st)
+
+-- what a message adds may be added
+pub adds-may : (l l' : LedgerParts) (h : Heard) (m : Message) (p : Phase) (r : Reply) (f : Effect) → l' ≡ l → p ≡ phase_at l.acts l.run l.notes (kept l.notes l.answers) h →
+    r ≡ reply_at l.acts l.notes (kept l.notes l.answers) p h m → r ≡ Adds f → MayAdd l'.acts l'.notes (kept l'.notes l'.answers) f
+adds-may l l' h m p r f same p-is r-is e =
+    subst (λ (x : LedgerParts). MayAdd x.acts x.notes (kept x.notes x.answers) f) (sym same)
+    (subst (MayReply l.acts l.notes (kept l.notes l.answers)) e (reply-may l.acts l.notes (kept l.notes l.answers) l.run h m p r p-is r-is))

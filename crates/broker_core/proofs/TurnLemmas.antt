@@ -1,35 +1,24 @@
 -- What a turn of the ledger gives is what the rules give over its log.
-use Rattle.std.proofs.Common.{◌≡◌, ℕ, zero, suc, ◌+◌, ◌*◌, ◌-◌, ◌≤◌, ◌==◌, nat_lt, Bool, true, false, ◌&&◌, length, map, reverse, List, [], ◌∷◌, ◌++◌, refl, sym, ◌∙◌, ap, subst, Option, Some, None, if◌then◌else◌, arith}
+use Rattle.std.proofs.Common.{◌≡◌, ℕ, zero, suc, ◌≤◌, ◌==◌, nat_lt, Bool, true, false, List, refl, sym, ap, subst, Option, Some, None, if◌then◌else◌, arith}
 use Rattle.std.proofs.lemmas.Grind.{common_steps}
 use Rattle.std.proofs.lemmas.Bool.{eqb-true, eq-eqb}
-use Rattle.std.proofs.lemmas.List.{length-map, reverse-reverse}
 use Rattle.value_form.specs.declared.acts.ActSpec.{ActSpec}
 use Rattle.effect_form.specs.declared.effects.Effect.{Effect}
 use Rattle.effect_form.specs.declared.effects.Effect.TheVariants as effect
-use Rattle.turn_form.specs.declared.turns.Out.{Out}
-use Rattle.turn_form.specs.declared.turns.Turn.{Turn}
 use Rattle.serial_model.specs.Questions.{Tree}
 use Rattle.broker_core.specs.declared.givens.Given.{Given}
 use Rattle.broker_core.specs.declared.heards.Heard.{Heard}
 use Rattle.broker_core.specs.declared.notes.Notes.{Notes}
-use Rattle.broker_core.specs.declared.phases.Phase.{Phase}
-use Rattle.broker_core.specs.Tasks.{Task, tasks, task_of, Scripted}
+use Rattle.broker_core.specs.Tasks.{tasks, Scripted}
 use Rattle.broker_core.specs.Book.{Book, book, enter}
 use Rattle.broker_core.specs.Fits.{fits, counts, add_if, keep}
-use Rattle.broker_core.specs.Stages.{stage, standing}
 use Rattle.broker_core.specs.Owed.{owed}
-use Rattle.broker_core.specs.Turns.{Desk, desk_at, whole, note, hears, send, note_if, fuel, state, settle_up, say}
-use Rattle.broker_core.specs.Notes.{Shows, notes_of, run_begun, noted, changed}
-use Rattle.broker_core.specs.Phases.{phase_at, standing_at}
-use Rattle.broker_core.specs.Ledgers.{LedgerParts, Settled, kept, answers_noted, owed_now, settle_on, settled, most_steps}
-use Rattle.broker_core.specs.Replays.{added}
-use Rattle.broker_core.specs.Inputs.{listed, begun, firsts, settled_from, with_notes, phase_in, effects_from, ledger_from}
-use Rattle.broker_core.specs.Parts.{BrokerParts, parts_of}
-use Rattle.broker_core.specs.Brokers.{book_for, Stands, Gives, with_first, follows, FirstFits}
-use Rattle.broker_core.specs.Sound.{Sound}
+use Rattle.broker_core.specs.Turns.{Desk, whole, note, note_if, state, settle_up}
+use Rattle.broker_core.specs.Notes.{Shows, run_begun, noted, changed}
+use Rattle.broker_core.specs.Ledgers.{Settled, kept, answers_noted, settle_on, settled}
 use Rattle.broker_core.proofs.SoundLemmas.{sound-kept, here, closed-run}
 use Rattle.broker_core.proofs.NotedLemmas.{noted-shows}
-use Rattle.broker_core.proofs.AnyLemmas.{Knows, meets, owed-any, standing-any, phase-any}
+use Rattle.broker_core.proofs.AnyLemmas.{Knows, meets, owed-any}
 use Rattle.broker_core.proofs.GoodLemmas.{IsPlain, RunIs, Good, owed-good}
 
 module _ (script : List ℕ → Tree) (me run : ℕ) (acts : List ActSpec) where

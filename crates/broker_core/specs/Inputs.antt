@@ -7,16 +7,22 @@ use Rattle.broker_core.specs.Fits.{plan_fault}
 use Rattle.broker_core.specs.Notes.{act_at, most_of, over_at}
 use Rattle.effect_form.specs.declared.effects.Effect.{Effect}
 use Rattle.turn_form.specs.declared.turns.Out.{Out}
+use Rattle.broker_core.specs.declared.givens.Given.{Given}
 use Rattle.broker_core.specs.declared.heards.Heard.{Heard}
 use Rattle.broker_core.specs.declared.notes.Notes.{Notes}
 use Rattle.broker_core.specs.declared.phases.Phase.{Phase}
-use Rattle.broker_core.specs.Phases.{phase_at, standing_at}
-use Rattle.broker_core.specs.Ledgers.{LedgerParts, Settled, kept, settled, most_steps}
+use Rattle.broker_core.specs.Phases.{phase_at}
+use Rattle.broker_core.specs.Ledgers.{LedgerParts, MayAdd, Settled, kept, settled, most_steps}
 use Rattle.broker_core.specs.Replays.{added}
 
 abbrev pub listed : Option Out → List Out
 listed None = []
 listed (Some o) = o ∷ []
+
+-- a message may add this effect
+abbrev pub MayBegin : List ActSpec → Notes → List Given → Option Effect → Type 0
+MayBegin acts n answers None = Unit {0}
+MayBegin acts n answers (Some f) = MayAdd acts n answers f
 
 -- with the effect that a message adds
 abbrev pub begun : LedgerParts → Option Effect → LedgerParts

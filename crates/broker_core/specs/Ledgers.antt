@@ -1,5 +1,5 @@
 -- What a broker holds in memory, as its callers see it, and what always holds of it.
-use Rattle.std.specs.Prelude.{◌≡◌, ℕ, ◌≤◌, ◌+◌, ◌*◌, zero, suc, length, List, [], ◌∷◌, ◌++◌, Option, Some, None, take}
+use Rattle.std.specs.Prelude.{◌≡◌, ◌≢◌, ℕ, ◌≤◌, ◌<◌, ◌+◌, ◌*◌, zero, suc, length, List, [], ◌∷◌, ◌++◌, Option, Some, None, take}
 use Rattle.value_form.specs.declared.acts.ActSpec.{ActSpec}
 use Rattle.value_form.specs.declared.scripts.Stmt.{Stmt}
 use Rattle.value_form.specs.Ranges.{IsScript}
@@ -7,12 +7,12 @@ use Rattle.pseudo_time.specs.Lists.{Every}
 use Rattle.effect_form.specs.declared.effects.Effect.{Effect}
 use Rattle.effect_form.specs.declared.effects.Effect.TheVariants as effect
 use Rattle.script_run.specs.Told.{Told}
+use Rattle.serial_model.specs.Asked.{IsAnswerTo, AreAsked}
 use Rattle.broker_core.specs.declared.givens.Given.{Given}
 use Rattle.broker_core.specs.declared.givens.Given.TheVariants as given
 use Rattle.broker_core.specs.declared.heards.Heard.{Heard}
 use Rattle.broker_core.specs.declared.notes.Notes.{Notes}
-use Rattle.broker_core.specs.declared.phases.Phase.{Phase}
-use Rattle.broker_core.specs.Notes.{act_at, answered_in, answers_of, changed}
+use Rattle.broker_core.specs.Notes.{act_at, answer_of, answered_in, answers_of, changed, stop_at, tree_of}
 use Rattle.broker_core.specs.Phases.{phase_at, owed_at}
 
 -- an act that a plan can have
@@ -46,14 +46,43 @@ abbrev pub StepperFits : List ActSpec → Notes → List Given → Option Told �
 StepperFits acts n answers None = Unit {0}
 StepperFits acts n answers (Some r) = (r.script ≡ lines_of (act_at acts n)) × (r.answers ≡ answers_of (kept n answers))
 
+-- what the notes count is in range, and each answer of the last try is to what its script asks
+pub record AreNotes (acts : List ActSpec) (n : Notes) (answers : List Given) : Type 0 where
+  pub started : n.started ≤ length acts
+  pub tries : n.tries ≤ n.clock
+  pub clock : n.clock ≤ 1099511627775
+  pub answered : answered_in n.last ≤ length answers
+  pub few : answered_in n.last ≤ 10000
+  pub asked : n.tries ≢ 0 → AreAsked (tree_of (act_at acts n)) (answers_of (kept n answers))
+
 pub record IsLedger (number : ℕ) (acts : List ActSpec) (n : Notes) (answers : List Given) (stepper : Option Told) : Type 0 where
   pub number_low : 1 ≤ number
   pub number_high : number ≤ 16
   pub are_acts : AreActs acts
-  pub answered : answered_in n.last ≤ length answers
+  pub are_notes : AreNotes acts n answers
   pub stepper_fits : StepperFits acts n answers stepper
 
--- ---- the effects that are owed
+-- ---- the effects that are added
+
+-- there is a try, and its script asks for this answer
+pub record IsAskedFor (acts : List ActSpec) (n : Notes) (answers : List Given) (g : Given) : Type 0 where
+  pub tried : n.tries ≢ 0
+  pub last : n.last ≢ None
+  pub asks : IsAnswerTo (stop_at acts n answers) (answer_of g)
+
+-- the effect is an act that the plan has, a try with a greater clock, an answer that is asked for, or another
+abbrev pub MayAdd : List ActSpec → Notes → List Given → Effect → Type 0
+MayAdd acts n answers (effect.Run m) = Unit {0}
+MayAdd acts n answers (effect.Act i h t k c x) = n.started < length acts
+MayAdd acts n answers (effect.Try i s) = n.clock < s.clock
+MayAdd acts n answers (effect.Got k v) = IsAskedFor acts n answers (given.Got v)
+MayAdd acts n answers (effect.Acked k) = IsAskedFor acts n answers given.Stored
+MayAdd acts n answers (effect.End i o) = Unit {0}
+MayAdd acts n answers (effect.Put o x v) = Unit {0}
+MayAdd acts n answers (effect.Stretch o x) = Unit {0}
+MayAdd acts n answers (effect.Begin s d) = Unit {0}
+MayAdd acts n answers (effect.Decide s d) = Unit {0}
+MayAdd acts n answers (effect.Learn s c) = Unit {0}
 
 abbrev pub answers_noted : Effect → Notes → List Given → List Given
 answers_noted (effect.Run m) n answers = answers

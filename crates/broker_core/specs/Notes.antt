@@ -1,5 +1,5 @@
 -- What a broker keeps of its log: notes, and the answers of the last try of its run.
-use Rattle.std.specs.Prelude.{◌≡◌, ℕ, max, ◌+◌, ◌-◌, nat_lt, ◌==◌, Bool, true, false, not, ◌&&◌, length, List, [], ◌∷◌, ◌++◌, Option, Some, None, if◌then◌else◌, map, take, slice_get}
+use Rattle.std.specs.Prelude.{◌≡◌, ℕ, max, ◌+◌, ◌-◌, nat_lt, ◌==◌, Bool, true, false, not, ◌&&◌, length, List, [], ◌∷◌, Option, Some, None, if◌then◌else◌, map, slice_get}
 use Rattle.std.specs.Option.{option_map}
 use Rattle.value_form.specs.declared.acts.ActSpec.{ActSpec}
 use Rattle.value_form.specs.Mirror.{block}
@@ -17,7 +17,7 @@ use Rattle.broker_core.specs.declared.givens.Given.{Given}
 use Rattle.broker_core.specs.declared.givens.Given.TheVariants as given
 use Rattle.broker_core.specs.declared.notes.Last.{Last}
 use Rattle.broker_core.specs.declared.notes.Notes.{Notes}
-use Rattle.broker_core.specs.Tasks.{Task, task_of, task_with}
+use Rattle.broker_core.specs.Tasks.{task_of, task_with}
 use Rattle.broker_core.specs.Tests.{is_task}
 use Rattle.broker_core.specs.Book.{Try, Act, Book, last_try}
 use Rattle.broker_core.specs.Fits.{calls_again, is_none, reads_now, writes_now}

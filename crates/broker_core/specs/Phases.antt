@@ -1,6 +1,5 @@
 -- The stage of the last try, the request that stands and what is heard, from the notes.
-use Rattle.std.specs.Prelude.{ℕ, max, ◌-◌, ◌==◌, Bool, true, false, not, ◌&&◌, ◌||◌, nat_lt, List, [], ◌∷◌, Option, Some, None, if◌then◌else◌, slice_get}
-use Rattle.std.specs.Option.{option_map}
+use Rattle.std.specs.Prelude.{ℕ, max, ◌-◌, ◌==◌, Bool, true, false, ◌&&◌, ◌||◌, nat_lt, List, Option, Some, None, if◌then◌else◌, slice_get}
 use Rattle.value_form.specs.declared.acts.ActSpec.{ActSpec}
 use Rattle.value_form.specs.declared.endings.Ending.TheVariants as ending
 use Rattle.pseudo_time.specs.StampParts.{StampParts}

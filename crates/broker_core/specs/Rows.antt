@@ -1,5 +1,5 @@
 -- What is heard of a message, at each stage of the last try.
-use Rattle.std.specs.Prelude.{ℕ, Bool, true, false, List, Some, None, if◌then◌else◌}
+use Rattle.std.specs.Prelude.{ℕ, Bool, true, false, List, Some, if◌then◌else◌}
 use Rattle.pseudo_time.specs.StampParts.{StampParts}
 use Rattle.pseudo_time.specs.TimeParts.{TimeParts}
 use Rattle.pseudo_time.specs.Order.{same_stamp, same_time}
@@ -18,7 +18,7 @@ use Rattle.broker_core.specs.declared.replies.Reply.{Reply}
 use Rattle.broker_core.specs.declared.replies.Reply.TheVariants.{Ignored, Hears, Adds}
 use Rattle.broker_core.specs.Book.{Try, time_of}
 use Rattle.broker_core.specs.Fits.{stop_of}
-use Rattle.broker_core.specs.Stages.{Stage, Idle, Refused, Opening, Asking, Finishing, Stopping, Closing, is_finished}
+use Rattle.broker_core.specs.Stages.{Stage, Refused, Opening, Asking, Finishing, Closing, is_finished}
 
 abbrev pub ends : Try → Outcome → Reply
 ends t o = Adds (effect.End t.task.index o)

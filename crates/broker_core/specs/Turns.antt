@@ -11,7 +11,7 @@ use Rattle.broker_core.specs.declared.replies.Reply.TheVariants.{Ignored, Hears,
 use Rattle.broker_core.specs.Tasks.{Task}
 use Rattle.broker_core.specs.Book.{Book, book}
 use Rattle.broker_core.specs.Fits.{keep}
-use Rattle.broker_core.specs.Stages.{stage, standing, nothing_heard}
+use Rattle.broker_core.specs.Stages.{stage, standing}
 use Rattle.broker_core.specs.Rows.{row, news}
 use Rattle.broker_core.specs.Owed.{owed}
 

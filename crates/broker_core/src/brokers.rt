@@ -77,7 +77,8 @@ fn add_first(
     effects: &mut Vec<Effect>,
     first: Option<Effect>,
 ) -> Result<(), AllocError>
-    requires { effects.old.items ≡ [] }
+    requires none { effects.old.items ≡ [] }
+    requires may { inputs.MayBegin ledger.old.acts ledger.old.notes (ledgers.kept ledger.old.notes ledger.old.answers) first }
     ensures ok { OnOk result (ledger.new ≡ inputs.begun ledger.old first) }
     ensures effects { OnOk result (effects.new.items ≡ inputs.firsts first) }
     ensures notes { OnErr result (ledger.new.notes ≡ ledger.old.notes) }
@@ -96,6 +97,7 @@ fn add_first(
 
 // Adds the effect, and those that are owed after it, and says what is to be sent.
 fn yielded(ledger: &mut Ledger, first: Option<Effect>, heard: &Heard) -> Result<Gain, AllocError>
+    requires { inputs.MayBegin ledger.old.acts ledger.old.notes (ledgers.kept ledger.old.notes ledger.old.answers) first }
     ensures effects { IfOk result (λ w. reverse w.effects.items ≡ inputs.effects_from ledger.old first heard.now) }
     ensures ledger { OnOk result (ledger.new ≡ inputs.ledger_from ledger.old first heard.now) }
     ensures phase { IfOk result (λ w. w.phase ≡ inputs.phase_in ledger.new heard.now) }
@@ -170,6 +172,7 @@ impl Broker {
 
     // Adds the effect, hears what is heard now, and what follows.
     fn advance(&mut self, first: Option<Effect>, heard: Heard) -> Result<Turn, AllocError>
+        requires { inputs.MayBegin self.old.acts self.old.notes self.old.answers first }
         ensures gives { (script : List ℕ → Tree) (log : List Effect) → Scripted script self.old.acts → spec.Stands script log self.old → spec.FirstFits script self.old log first → IfOk result (λ t. spec.Gives script log (spec.follows script self.old log first heard) t self.new) }
         ensures number { self.new.number ≡ self.old.number }
         ensures run { self.new.run ≡ self.old.run }
@@ -254,7 +257,7 @@ impl Broker {
             return self.ledger.act_count() == 0;
         }
         let notes = self.ledger.notes();
-        let most = self.ledger.last_act().map_or(0, |act| act.tries);
+        let most = self.ledger.last_tries();
         notes.started == self.ledger.act_count() && notes.is_over(most)
     }
 

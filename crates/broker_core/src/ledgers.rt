@@ -1,4 +1,4 @@
-ghost use Rattle.std.specs.Prelude.{◌≡◌, ◌≤◌, ◌==◌, [], ◌∷◌, ◌++◌, ◌+◌, Some, None, length, take, slice_get, IfOk, OnOk, OnErr, MatchOption};
+ghost use Rattle.std.specs.Prelude.{◌≡◌, ◌≢◌, ◌≤◌, ◌==◌, [], ◌∷◌, ◌++◌, ◌+◌, Some, None, length, take, slice_get, IfOk, IfSome, OnOk, OnErr, MatchOption};
 ghost use Rattle.std.specs.Option.{option_copied, option_map};
 ghost use Rattle.pseudo_time.specs.Lists.{Every};
 ghost use Rattle.script_run.specs.Told.{stop_of};
@@ -78,7 +78,9 @@ impl Ledger {
     }
 
     pub fn number(&self) -> u8
-        ensures { result ≡ self.now.number }
+        ensures number { result ≡ self.now.number }
+        ensures low { 1 ≤ result }
+        ensures high { result ≤ 16 }
     {
         self.number
     }
@@ -91,7 +93,7 @@ impl Ledger {
 
     pub fn notes(&self) -> Notes
         ensures notes { result ≡ self.now.notes }
-        ensures answered { notes.answered_in self.now.notes.last ≤ length self.now.answers }
+        ensures are_notes { spec.AreNotes self.now.acts self.now.notes self.now.answers }
     {
         self.notes
     }
@@ -120,7 +122,8 @@ impl Ledger {
 
     /// The act that was begun last.
     pub fn last_act(&self) -> Option<&ActSpec>
-        ensures { option_copied result ≡ notes.act_at self.now.acts self.now.notes }
+        ensures act { option_copied result ≡ notes.act_at self.now.acts self.now.notes }
+        ensures is_act { IfSome result (λ a. spec.IsAct a.now) }
     {
         if self.notes.started == 0 {
             return None;
@@ -128,8 +131,39 @@ impl Ledger {
         self.acts.get(self.notes.started - 1)
     }
 
+    /// The index of the act that was begun last, or 0.
+    pub fn last_index(&self) -> u32
+        ensures { result ≡ notes.index_of (notes.act_at self.now.acts self.now.notes) }
+    {
+        match self.last_act() {
+            Some(act) => act.index,
+            None => 0,
+        }
+    }
+
+    /// How many tries the act may have that was begun last, or 0.
+    pub fn last_tries(&self) -> u8
+        ensures { result ≡ notes.most_of (notes.act_at self.now.acts self.now.notes) }
+    {
+        match self.last_act() {
+            Some(act) => act.tries,
+            None => 0,
+        }
+    }
+
+    /// The timeout in ticks of the act that was begun last, or 0.
+    pub fn last_timeout(&self) -> u32
+        ensures { result ≡ notes.timeout_of (notes.act_at self.now.acts self.now.notes) }
+    {
+        match self.last_act() {
+            Some(act) => act.timeout,
+            None => 0,
+        }
+    }
+
     // The script of the last act, with the answers of its try. None where no act was begun.
     fn resumed(&self) -> Result<Option<Run>, AllocError>
+        requires { self.now.notes.tries ≢ 0 }
         ensures { IfOk result (λ o. MatchOption o (notes.act_at self.now.acts self.now.notes ≡ None) (λ r. (r.script ≡ spec.lines_of (notes.act_at self.now.acts self.now.notes)) × (r.answers ≡ notes.answers_of (spec.kept self.now.notes self.now.answers)))) }
     {
         let Some(act) = self.last_act() else {
@@ -142,6 +176,7 @@ impl Ledger {
 
     /// Where the script of the last act stops, after the answers of its try.
     pub fn stop(&mut self) -> Result<Next, AllocError>
+        requires { self.old.notes.tries ≢ 0 }
         ensures same { self.new ≡ self.old }
         ensures stop { IfOk result (λ n. stop_of n ≡ notes.stop_at self.old.acts self.old.notes (spec.kept self.old.notes self.old.answers)) }
     {
@@ -157,23 +192,9 @@ impl Ledger {
         Ok(next)
     }
 
-    // Where there is no last try, an answer stands alone.
-    fn add_lone_answer(&mut self, given: Given) -> Result<(), AllocError>
-        requires { self.old.notes.last ≡ None }
-        ensures ok { OnOk result (self.new ≡ record self.old { answers = given ∷ [] }) }
-        ensures notes { OnErr result (self.new.notes ≡ self.old.notes) }
-        ensures number { self.new.number ≡ self.old.number }
-        ensures run { self.new.run ≡ self.old.run }
-        ensures acts { self.new.acts ≡ self.old.acts }
-    {
-        self.stepper = None;
-        self.answers.clear();
-        self.answers.push(given)?;
-        Ok(())
-    }
-
     // The last try got an answer.
     fn add_answer(&mut self, given: Given) -> Result<(), AllocError>
+        requires { spec.IsAskedFor self.old.acts self.old.notes (spec.kept self.old.notes self.old.answers) given }
         ensures ok { OnOk result (self.new ≡ record self.old { notes = notes.answer_noted self.old.notes; answers = spec.kept self.old.notes self.old.answers ++ given ∷ [] }) }
         ensures notes { OnErr result (self.new.notes ≡ self.old.notes) }
         ensures kept { spec.kept self.old.notes self.new.answers ≡ spec.kept self.old.notes self.old.answers }
@@ -181,26 +202,20 @@ impl Ledger {
         ensures run { self.new.run ≡ self.old.run }
         ensures acts { self.new.acts ≡ self.old.acts }
     {
-        if self.notes.last.is_none() {
-            self.add_lone_answer(given)?;
-            return Ok(());
-        }
         self.answers.truncate(self.notes.answered());
-        let mut after = self.notes;
-        after.add_answer()?;
         self.answers.reserve(1)?;
         if let Some(run) = &mut self.stepper {
             give(self.alloc, run, &given)?;
         }
         self.answers.push_reserved(given);
-        self.notes = after;
+        self.notes.add_answer();
         Ok(())
     }
 
     /// Adds an effect of this run that counts and is no answer. An answer changes nothing.
-    pub fn change(&mut self, effect: &Effect) -> Result<(), AllocError>
-        ensures ok { OnOk result (self.new ≡ record self.old { notes = notes.changed self.old.acts effect.now self.old.notes }) }
-        ensures err { OnErr result (self.new ≡ self.old) }
+    pub fn change(&mut self, effect: &Effect)
+        requires { spec.MayAdd self.old.acts self.old.notes (spec.kept self.old.notes self.old.answers) effect.now }
+        ensures { self.new ≡ record self.old { notes = notes.changed self.old.acts effect.now self.old.notes } }
     {
         match effect {
             Effect::Run { number } => {
@@ -208,22 +223,22 @@ impl Ledger {
                 self.notes.begin_run(*number);
             }
             Effect::Act { .. } => {
-                let most = self.last_act().map_or(0, |act| act.tries);
+                let most = self.last_tries();
                 self.stepper = None;
-                self.notes.begin_act(most)?;
+                self.notes.begin_act(most);
             }
             Effect::Try { stamp, .. } => {
                 self.stepper = None;
-                self.notes.begin_try(*stamp)?;
+                self.notes.begin_try(*stamp);
             }
             Effect::End { outcome, .. } => self.notes.end(outcome),
             _ => {}
         }
-        Ok(())
     }
 
     /// Adds an effect of this run that counts.
     pub fn note(&mut self, effect: &Effect) -> Result<(), AllocError>
+        requires { spec.MayAdd self.old.acts self.old.notes (spec.kept self.old.notes self.old.answers) effect.now }
         ensures ok { OnOk result (self.new ≡ record self.old { notes = notes.noted self.old.acts effect.now self.old.notes; answers = spec.answers_noted effect.now self.old.notes self.old.answers }) }
         ensures notes { OnErr result (self.new.notes ≡ self.old.notes) }
         ensures kept { spec.kept self.old.notes self.new.answers ≡ spec.kept self.old.notes self.old.answers }
@@ -237,7 +252,7 @@ impl Ledger {
                 self.add_answer(Given::Got(value))?;
             }
             Effect::Acked { .. } => self.add_answer(Given::Stored)?,
-            _ => self.change(effect)?,
+            _ => self.change(effect),
         }
         Ok(())
     }
@@ -258,7 +273,7 @@ impl Ledger {
 
     /// Goes back to earlier notes, whose answers still stand.
     pub fn restore(&mut self, before: Notes)
-        requires { notes.answered_in before.last ≤ length self.old.answers }
+        requires { spec.AreNotes self.old.acts before self.old.answers }
         ensures { self.new ≡ record self.old { notes = before } }
     {
         self.stepper = None;

@@ -18,4 +18,8 @@ pub use heards::Heard;
 pub use resume_faults::ResumeFault;
 
 #[cfg(test)]
+mod log_tests;
+#[cfg(test)]
+mod stories;
+#[cfg(test)]
 mod tests;

@@ -1,4 +1,4 @@
-ghost use Rattle.std.specs.Prelude.{◌≡◌, ◌≤◌, ◌∷◌, ◌&&◌, [], Some, None, reverse, length, slice_get, IfOk, OnOk, OnErr};
+ghost use Rattle.std.specs.Prelude.{◌≡◌, ◌≢◌, ◌≤◌, true, ◌∷◌, ◌&&◌, [], Some, None, reverse, length, slice_get, IfOk, OnOk, OnErr};
 ghost use Rattle.std.specs.Option.{option_map, option_copied};
 ghost use Rattle.pseudo_time.specs.StampParts.{StampParts};
 ghost use Rattle.script_run.specs.Told.{stop_of};
@@ -19,7 +19,7 @@ use std::alloc::{AllocError, Global};
 use value_form::{ActSpec, Bytes};
 
 /// What an Act effect says, but for the script.
-#[derive(Clone, Copy, Debug, PartialEq, Eq)]
+#[derive(Clone, Copy)]
 pub struct Terms {
     pub index: u32,
     pub home: u8,
@@ -69,7 +69,8 @@ fn fits_try(ledger: &Ledger, index: u32, stamp: Stamp) -> bool
 
 // Whether this is the step of the open try's current request.
 fn fits_step(ledger: &Ledger, step: u32) -> bool
-    ensures { result ≡ notes.fits_step_at step (notes.open_last ledger.now.notes) }
+    ensures fits { result ≡ notes.fits_step_at step (notes.open_last ledger.now.notes) }
+    ensures tried { result ≡ true → ledger.now.notes.tries ≢ 0 }
 {
     match ledger.notes().open() {
         Some(last) => last.answered.checked_add(1) == Some(step as usize),
@@ -97,6 +98,7 @@ fn fits_end(ledger: &Ledger, index: u32, outcome: &Outcome) -> bool
 }
 
 fn reads(ledger: &mut Ledger) -> Result<bool, AllocError>
+    requires { ledger.old.notes.tries ≢ 0 }
     ensures same { ledger.new ≡ ledger.old }
     ensures reads { IfOk result (λ r. r ≡ fits.reads_now (notes.stop_at ledger.old.acts ledger.old.notes (ledgers.kept ledger.old.notes ledger.old.answers))) }
 {
@@ -105,6 +107,7 @@ fn reads(ledger: &mut Ledger) -> Result<bool, AllocError>
 }
 
 fn writes(ledger: &mut Ledger) -> Result<bool, AllocError>
+    requires { ledger.old.notes.tries ≢ 0 }
     ensures same { ledger.new ≡ ledger.old }
     ensures writes { IfOk result (λ r. r ≡ fits.writes_now (notes.stop_at ledger.old.acts ledger.old.notes (ledgers.kept ledger.old.notes ledger.old.answers))) }
 {

@@ -1,13 +1,12 @@
-ghost use Rattle.std.specs.Prelude.{◌≡◌, OnOk, OnErr};
+ghost use Rattle.std.specs.Prelude.{◌≡◌, ◌≢◌, ◌≤◌, IfSome};
 ghost use Rattle.broker_core.specs.Notes as spec;
 ghost use Rattle.broker_core.specs.Fits as fits;
 
 use effect_form::Outcome;
 use pseudo_time::Stamp;
-use std::alloc::AllocError;
 
 /// What a broker keeps of a try: its stamp, how many answers it got, and its end.
-#[derive(Clone, Copy, Debug, PartialEq, Eq)]
+#[derive(Clone, Copy)]
 pub struct Last {
     pub stamp: Stamp,
     pub answered: usize,
@@ -15,7 +14,7 @@ pub struct Last {
 }
 
 /// What a broker keeps of its log. The last act and the last try are those of the run.
-#[derive(Clone, Copy, Debug, PartialEq, Eq)]
+#[derive(Clone, Copy)]
 pub struct Notes {
     /// The last run.
     pub run: u32,
@@ -77,7 +76,9 @@ impl Notes {
 
     /// The last try of the last act, where it has no end.
     pub fn open(&self) -> Option<Last>
-        ensures { result ≡ spec.open_last self.now }
+        ensures open { result ≡ spec.open_last self.now }
+        ensures tried { IfSome result (λ l. self.now.tries ≢ 0) }
+        ensures answered { IfSome result (λ l. l.answered ≡ spec.answered_in self.now.last) }
     {
         if self.tries == 0 {
             return None;
@@ -160,52 +161,43 @@ impl Notes {
         self.clock = clock;
     }
 
-    /// An act begins, after one with so many tries. Answers an error where it would be the 2^64th.
-    pub fn begin_act(&mut self, most: u8) -> Result<(), AllocError>
-        ensures ok { OnOk result (self.new ≡ spec.act_begun most self.old) }
-        ensures err { OnErr result (self.new ≡ self.old) }
+    /// An act begins, after one with so many tries.
+    pub fn begin_act(&mut self, most: u8)
+        requires { self.old.started ≤ 10000 }
+        ensures { self.new ≡ spec.act_begun most self.old }
     {
-        let Some(started) = self.started.checked_add(1) else {
-            return Err(AllocError);
-        };
         self.over_before = self.is_over(most);
-        self.started = started;
+        self.started += 1;
         self.spent = false;
         self.tries = 0;
-        Ok(())
     }
 
-    /// A try begins. Answers an error where it would be the 2^64th.
-    pub fn begin_try(&mut self, stamp: Stamp) -> Result<(), AllocError>
-        ensures ok { OnOk result (self.new ≡ spec.try_begun stamp self.old) }
-        ensures err { OnErr result (self.new ≡ self.old) }
+    /// A try begins.
+    pub fn begin_try(&mut self, stamp: Stamp)
+        requires { self.old.tries ≤ 1099511627775 }
+        ensures begun { self.new ≡ spec.try_begun stamp self.old }
+        ensures clock { stamp.clock ≤ 1099511627775 }
     {
-        let Some(tries) = self.tries.checked_add(1) else {
-            return Err(AllocError);
-        };
         self.clock = self.clock.max(stamp.clock());
-        self.tries = tries;
+        self.tries += 1;
         self.last = Some(Last {
             stamp,
             answered: 0,
             end: None,
         });
-        Ok(())
     }
 
-    /// The last try got one more answer. Answers an error where it would be the 2^64th.
-    pub fn add_answer(&mut self) -> Result<(), AllocError>
-        ensures ok { OnOk result (self.new ≡ spec.answer_noted self.old) }
-        ensures err { OnErr result (self.new ≡ self.old) }
+    /// The last try got one more answer.
+    pub fn add_answer(&mut self)
+        requires { spec.answered_in self.old.last ≤ 10000 }
+        ensures { self.new ≡ spec.answer_noted self.old }
     {
-        let Some(last) = self.last else {
-            return Ok(());
-        };
-        let Some(answered) = last.answered.checked_add(1) else {
-            return Err(AllocError);
-        };
-        self.last = Some(Last { answered, ..last });
-        Ok(())
+        if let Some(last) = self.last {
+            self.last = Some(Last {
+                answered: last.answered + 1,
+                ..last
+            });
+        }
     }
 
     /// The last try, or the last act, ends.

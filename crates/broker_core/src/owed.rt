@@ -1,4 +1,4 @@
-ghost use Rattle.std.specs.Prelude.{◌≡◌, ◌≤◌, ◌∷◌, ◌==◌, Some, None, reverse, length, slice_get, IfOk, OnOk, OnErr};
+ghost use Rattle.std.specs.Prelude.{◌≡◌, ◌≢◌, ◌≤◌, ◌∷◌, ◌==◌, Some, None, reverse, length, slice_get, IfOk, OnOk, OnErr};
 ghost use Rattle.std.specs.Option.{option_map, option_copied};
 ghost use Rattle.broker_core.specs.Notes as notes;
 ghost use Rattle.broker_core.specs.Ledgers as ledgers;
@@ -32,41 +32,44 @@ fn start(alloc: Global, act: Option<&ActSpec>) -> Result<Option<Effect>, AllocEr
 }
 
 // A further try of the last act, or that it is spent.
-fn try_or_spent(ledger: &Ledger) -> Result<Effect, AllocError>
-    ensures { IfOk result (λ e. e ≡ spec.try_or_spent_at ledger.now.number (notes.act_at ledger.now.acts ledger.now.notes) ledger.now.notes) }
+fn try_or_spent(ledger: &Ledger) -> Effect
+    requires { ledger.now.notes.started ≢ 0 }
+    ensures { result ≡ spec.try_or_spent_at ledger.now.number (notes.act_at ledger.now.acts ledger.now.notes) ledger.now.notes }
 {
-    let Some(act) = ledger.last_act() else {
-        return Err(AllocError);
-    };
     let notes = ledger.notes();
+    let Some(act) = ledger.last_act() else {
+        unreachable!()
+    };
     let index = act.index;
     let shown = notes.shown.max(act.clock.saturating_sub(1));
     match next_clock(notes.clock, shown) {
         Some(clock) => {
-            let stamp = Stamp::new(clock, ledger.number(), act.home).ok_or(AllocError)?;
-            Ok(Effect::Try { index, stamp })
+            let Some(stamp) = Stamp::new(clock, ledger.number(), act.home) else {
+                unreachable!()
+            };
+            Effect::Try { index, stamp }
         }
-        None => Ok(Effect::End {
+        None => Effect::End {
             index,
             outcome: Outcome::Spent {
                 clock: notes.clock.max(shown),
             },
-        }),
+        },
     }
 }
 
 // What the last act owes, where it isn't spent.
 fn after_tries(ledger: &Ledger, heard: &Heard) -> Result<Option<Effect>, AllocError>
+    requires { ledger.now.notes.started ≢ 0 }
     ensures { IfOk result (λ e. e ≡ spec.after_tries_at ledger.now.number ledger.now.acts heard.now ledger.now.notes) }
 {
     let notes = ledger.notes();
     if notes.tries != 0 && !notes.is_closed(heard) {
         return Ok(None);
     }
-    let most = ledger.last_act().map_or(0, |act| act.tries);
+    let most = ledger.last_tries();
     if notes.another(most) {
-        let effect = try_or_spent(ledger)?;
-        return Ok(Some(effect));
+        return Ok(Some(try_or_spent(ledger)));
     }
     let effect = start(ledger.alloc(), ledger.act(notes.started))?;
     Ok(effect)
@@ -96,7 +99,7 @@ fn owed(ledger: &Ledger, heard: &Heard, phase: &Phase) -> Result<Option<Effect>,
     }
     match phase {
         Phase::Stopping(outcome) => Ok(Some(Effect::End {
-            index: ledger.last_act().map_or(0, |act| act.index),
+            index: ledger.last_index(),
             outcome: *outcome,
         })),
         _ => {
@@ -125,7 +128,7 @@ pub fn settle(
         let Some(effect) = owed(ledger, heard, &phase)? else {
             return Ok(phase);
         };
-        ledger.change(&effect)?;
+        ledger.change(&effect);
         effects.push(effect)?;
     }
     let phase = phase_now(ledger, heard)?;

@@ -1,4 +1,4 @@
-ghost use Rattle.std.specs.Prelude.{◌≡◌, IfOk};
+ghost use Rattle.std.specs.Prelude.{◌≡◌, ◌≢◌, ◌≤◌, IfOk};
 ghost use Rattle.std.specs.Option.{option_map};
 ghost use Rattle.script_run.specs.Told.{stop_of};
 ghost use Rattle.broker_core.specs.Tests as tests;
@@ -20,7 +20,7 @@ use turn_form::Out;
 use value_form::{ObjectId, Value};
 
 /// The stage of the last try.
-#[derive(Debug, Drop)]
+#[derive(Drop)]
 pub enum Phase {
     /// There is none, or it is closed.
     Idle,
@@ -88,15 +88,15 @@ fn is_settled(end: &Option<Outcome>) -> bool
 }
 
 impl Last {
-    /// The pseudotime of the current request. Answers an error where its step would be the 2^32nd.
-    pub fn time(&self) -> Result<PseudoTime, AllocError>
-        ensures { IfOk result (λ t. t ≡ notes.time_at self.now) }
+    /// The pseudotime of the current request. A script makes 10,000 requests at most.
+    pub fn time(&self) -> PseudoTime
+        requires { self.now.answered ≤ 10000 }
+        ensures { result ≡ notes.time_at self.now }
     {
-        if self.answered >= u32::MAX as usize {
-            return Err(AllocError);
-        }
-        let time = PseudoTime::new(self.stamp, self.answered as u32 + 1).ok_or(AllocError)?;
-        Ok(time)
+        let Some(time) = PseudoTime::new(self.stamp, self.answered as u32 + 1) else {
+            unreachable!()
+        };
+        time
     }
 
     /// Whether nothing more is to be heard of the try.
@@ -150,10 +150,12 @@ fn is_asking(next: &Next) -> bool
 
 // The stage of the open try.
 fn phase_by_open(ledger: &mut Ledger, heard: &Heard, last: Last) -> Result<Phase, AllocError>
+    requires tried { ledger.old.notes.tries ≢ 0 }
+    requires few { last.answered ≤ 10000 }
     ensures same { ledger.new ≡ ledger.old }
     ensures phase { IfOk result (λ p. p ≡ spec.phase_by_stop heard.now last (notes.stop_at ledger.old.acts ledger.old.notes (kept ledger.old.notes ledger.old.answers))) }
 {
-    let is_over_there = is_time(&heard.ended, last.time()?);
+    let is_over_there = is_time(&heard.ended, last.time());
     let is_opening = last.answered == 0 && !is_stamp(&heard.begun, last.stamp);
     if is_opening && !is_over_there {
         return Ok(Phase::Opening);
@@ -221,6 +223,7 @@ fn standing_for(
     last: &Last,
     phase: &Phase,
 ) -> Result<Option<Out>, AllocError>
+    requires { last.now.answered ≤ 10000 }
     ensures { IfOk result (λ o. o ≡ spec.standing_for timeout last.now phase.now) }
 {
     let stamp = last.stamp;
@@ -230,12 +233,12 @@ fn standing_for(
         Phase::Opening => Ok(to_home(last, Message::Begin { stamp, timeout })),
         Phase::Finishing => Ok(to_home(last, Message::Commit { stamp })),
         Phase::Reading(object) => {
-            let at = last.time()?;
+            let at = last.time();
             let object = *object;
             Ok(to_object(object, Message::Read { at, object }))
         }
         Phase::Writing(object, value) => {
-            let at = last.time()?;
+            let at = last.time();
             let object = *object;
             let value = value.copy(alloc)?;
             Ok(to_object(object, Message::Write { at, object, value }))
@@ -247,7 +250,7 @@ fn standing_for(
 pub fn standing(ledger: &Ledger, phase: &Phase) -> Result<Option<Out>, AllocError>
     ensures { IfOk result (λ o. o ≡ spec.standing_at ledger.now.acts ledger.now.notes phase.now) }
 {
-    let timeout = ledger.last_act().map_or(0, |act| act.timeout);
+    let timeout = ledger.last_timeout();
     match ledger.notes().last {
         Some(last) => {
             let out = standing_for(ledger.alloc(), timeout, &last, phase)?;

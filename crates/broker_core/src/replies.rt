@@ -1,4 +1,4 @@
-ghost use Rattle.std.specs.Prelude.{◌≡◌, IfOk};
+ghost use Rattle.std.specs.Prelude.{◌≡◌, ◌≢◌, ◌≤◌, IfOk};
 ghost use Rattle.broker_core.specs.Stages.{is_finished};
 ghost use Rattle.broker_core.specs.Rows.{when};
 ghost use Rattle.broker_core.specs.Notes as notes;
@@ -18,7 +18,7 @@ use std::alloc::{AllocError, Global};
 use value_form::ObjectId;
 
 /// What a message comes to.
-#[derive(Debug, Drop)]
+#[derive(Drop)]
 pub enum Reply {
     Ignored,
     /// This was heard.
@@ -91,17 +91,18 @@ fn while_opening(index: u32, finished: bool, last: &Last, heard: &Heard, message
 }
 
 // Ended was heard for the current request.
-fn over_there(last: &Last, heard: &Heard, at: PseudoTime) -> Result<Reply, AllocError>
-    ensures { IfOk result (λ r. r ≡ spec.ended_row last.now heard.now at) }
+fn over_there(last: &Last, heard: &Heard, at: PseudoTime) -> Reply
+    requires { last.now.answered ≤ 10000 }
+    ensures { result ≡ spec.ended_row last.now heard.now at }
 {
-    let time = last.time()?;
-    Ok(when(
+    let time = last.time();
+    when(
         is_same_time(time, at),
         Reply::Hears(Heard {
             ended: Some(time),
             ..*heard
         }),
-    ))
+    )
 }
 
 fn while_reading(
@@ -110,6 +111,7 @@ fn while_reading(
     heard: &Heard,
     message: &Message,
 ) -> Result<Reply, AllocError>
+    requires { last.now.answered ≤ 10000 }
     ensures { IfOk result (λ r. r ≡ spec.reading_row last.now heard.now message.now) }
 {
     match message {
@@ -117,14 +119,11 @@ fn while_reading(
             let value = value.copy(alloc)?;
             let step = at.step();
             Ok(when(
-                is_same_time(last.time()?, *at),
+                is_same_time(last.time(), *at),
                 Reply::Adds(Effect::Got { step, value }),
             ))
         }
-        Message::Ended { at } => {
-            let reply = over_there(last, heard, *at)?;
-            Ok(reply)
-        }
+        Message::Ended { at } => Ok(over_there(last, heard, *at)),
         _ => Ok(Reply::Ignored),
     }
 }
@@ -135,20 +134,21 @@ fn while_writing(
     last: &Last,
     heard: &Heard,
     message: &Message,
-) -> Result<Reply, AllocError>
-    ensures { IfOk result (λ r. r ≡ spec.writing_row index object last.now heard.now message.now) }
+) -> Reply
+    requires { last.now.answered ≤ 10000 }
+    ensures { result ≡ spec.writing_row index object last.now heard.now message.now }
 {
-    let time = last.time()?;
+    let time = last.time();
     match message {
-        Message::Stored { at } => Ok(when(
+        Message::Stored { at } => when(
             is_same_time(time, *at),
             Reply::Adds(Effect::Acked { step: at.step() }),
-        )),
-        Message::LaterRead { at, end } => Ok(when(
+        ),
+        Message::LaterRead { at, end } => when(
             is_same_time(time, *at),
             ends(index, Outcome::LaterRead { object, end: *end }),
-        )),
-        Message::LaterVersion { at, start } => Ok(when(
+        ),
+        Message::LaterVersion { at, start } => when(
             is_same_time(time, *at),
             ends(
                 index,
@@ -157,12 +157,9 @@ fn while_writing(
                     start: *start,
                 },
             ),
-        )),
-        Message::Ended { at } => {
-            let reply = over_there(last, heard, *at)?;
-            Ok(reply)
-        }
-        _ => Ok(Reply::Ignored),
+        ),
+        Message::Ended { at } => over_there(last, heard, *at),
+        _ => Reply::Ignored,
     }
 }
 
@@ -198,6 +195,7 @@ fn while_deciding(index: u32, last: &Last, phase: &Phase, heard: &Heard, message
 
 // Whether the script is finished, where the message is a decision that asks for it.
 fn is_finished_for(ledger: &mut Ledger, message: &Message) -> Result<bool, AllocError>
+    requires { ledger.old.notes.tries ≢ 0 }
     ensures same { ledger.new ≡ ledger.old }
     ensures finished { IfOk result (λ f. f ≡ spec.finished_for message.now (notes.stop_at ledger.old.acts ledger.old.notes (kept ledger.old.notes ledger.old.answers))) }
 {
@@ -210,20 +208,21 @@ fn is_finished_for(ledger: &mut Ledger, message: &Message) -> Result<bool, Alloc
     }
 }
 
-/// What a message comes to at this stage.
+/// What a message comes to at the stage of the last try.
 pub fn reply_to(
     ledger: &mut Ledger,
     phase: &Phase,
     heard: &Heard,
     message: &Message,
 ) -> Result<Reply, AllocError>
+    requires { phase.now ≡ spec.phase_at ledger.old.acts ledger.old.run ledger.old.notes (kept ledger.old.notes ledger.old.answers) heard.now }
     ensures same { ledger.new ≡ ledger.old }
     ensures reply { IfOk result (λ r. r ≡ spec.reply_at ledger.old.acts ledger.old.notes (kept ledger.old.notes ledger.old.answers) phase.now heard.now message.now) }
 {
     let Some(last) = ledger.notes().last else {
         return Ok(Reply::Ignored);
     };
-    let index = ledger.last_act().map_or(0, |act| act.index);
+    let index = ledger.last_index();
     match phase {
         Phase::Opening => {
             let finished = is_finished_for(ledger, message)?;
@@ -234,7 +233,7 @@ pub fn reply_to(
             Ok(reply)
         }
         Phase::Writing(object, _) => {
-            let reply = while_writing(index, *object, &last, heard, message)?;
+            let reply = while_writing(index, *object, &last, heard, message);
             Ok(reply)
         }
         _ => Ok(while_deciding(index, &last, phase, heard, message)),

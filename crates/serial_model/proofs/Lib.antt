@@ -1,5 +1,6 @@
 pub mod AgreeLemmas
 pub mod AnswerLemmas
+pub mod AskedLemmas
 pub mod MapLemmas
 pub mod OverlayLemmas
 pub mod QuestionLemmas

@@ -1,4 +1,5 @@
 pub mod Alone
+pub mod Asked
 pub mod Deeds
 pub mod Overlays
 pub mod Questions

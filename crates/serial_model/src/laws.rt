@@ -8,6 +8,7 @@ ghost use Rattle.value_form.specs.Objects.{Objects, value_at};
 ghost use Rattle.value_form.specs.Mirror.{Block};
 ghost use Rattle.script_meaning.specs.Meaning as meaning;
 ghost use Rattle.script_meaning.specs.Meaning.{Request, ToRead, ToWrite, Asks, Over, Answer, Got, Stored, Answers, answers_of};
+ghost use Rattle.serial_model.specs.Asked.{IsAnswerTo, AreAsked};
 ghost use Rattle.serial_model.specs.Questions.{Tree, denote, walk, told, talked, left_by, left_after, stop, request_of, Agrees, IsFrontOf, IsTalkOf};
 
 /// A script alone, and a script with a list of answers, are what its tree of questions says.
@@ -37,6 +38,15 @@ pub fn law_of_agreement()
     ensures write { (t : Tree) (ans : List Answer) (m : Objects) (o : ObjectId) (a : Value) → Agrees t ans m → stop t ans ≡ Asks (ToWrite o a) → Agrees t (ans ++ Stored ∷ []) m × (left_after t (ans ++ Stored ∷ []) m ≡ finite.insert (left_after t ans m) o a) }
     ensures few { (script : Block) (ans : List Answer) (m : Objects) → Agrees (denote script) ans m → length ans ≤ 10000 }
     ensures whole { (t : Tree) (ans : List Answer) (m : Objects) (e : Ending) → Agrees t ans m → stop t ans ≡ Over e → (told t m ≡ talked t ans) × (left_by t m ≡ left_after t ans m) }
+{}
+
+/// Answers of which each is to what the script asks after those before it: one more may follow where
+/// it is to what is asked then, those before one are such answers too, and there are at most 10,000.
+pub fn law_of_asking()
+    ensures begins { (t : Tree) → AreAsked t [] }
+    ensures next { (t : Tree) (ans : List Answer) (a : Answer) → AreAsked t ans → IsAnswerTo (stop t ans) a → AreAsked t (ans ++ a ∷ []) }
+    ensures front { (t : Tree) (pre post : List Answer) (a : Answer) → AreAsked t (pre ++ a ∷ post) → AreAsked t pre × IsAnswerTo (stop t pre) a }
+    ensures few { (script : Block) (ans : List Answer) → AreAsked (denote script) ans → length ans ≤ 10000 }
 {}
 
 /// In every world that answers requests, a script does what the walk of that world through its tree

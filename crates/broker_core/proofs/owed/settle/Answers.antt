@@ -1,11 +1,18 @@
-use Rattle.std.proofs.Common.{◌≡◌, ◌-◌, sym, ◌∙◌, arith}
+use Rattle.std.proofs.Common.{sym, ◌∙◌, arith}
+use Rattle.broker_core.specs.Ledgers.{kept}
+use Rattle.broker_core.proofs.AddLemmas.{owed-may}
 use Rattle.broker_core.proofs.SettleLemmas.{on-the-way, at-rest, at-last}
 use Rattle.broker_core.proofs.owed.settle.Goals as goal
+
+pub change-requires : goal.change-requires
+change-requires c =
+    owed-may c.phase_now.new.ledger.acts c.phase_now.new.ledger.notes (kept c.phase_now.new.ledger.notes c.phase_now.new.ledger.answers) c.phase_now.new.ledger.number c.phase_now.new.ledger.run c.args.heard.now c.in_ok-phase.phase c.in-Some.effect
+    (sym c.in_ok-effect.ensures ∙ c.in-Some.is)
 
 pub loop-step-preserved : goal.loop-step-preserved
 loop-step-preserved c =
     on-the-way c.args.ledger.now c.loop-step.ledger c.phase_now.new.ledger c.change.new.self c.args.heard.now _ c.loop-step.step c.args.effects.now.items c.loop-step.effects.items c.push.new.self.items c.in-Some.effect c.in_ok-phase.phase
-    c.loop-step-test.true c.loop-step.invariant c.phase_now.ensures.same c.in_ok-phase.ensures.phase (sym c.in_ok-effect.ensures ∙ c.in-Some.is) c.in_ok-change.ensures.ok c.in_ok-push.ensures.items
+    c.loop-step-test.true c.loop-step.invariant c.phase_now.ensures.same c.in_ok-phase.ensures.phase (sym c.in_ok-effect.ensures ∙ c.in-Some.is) c.change.ensures c.in_ok-push.ensures.items
 
 pub returns-in_default-clause-settled : goal.returns-in_default-clause-settled
 returns-in_default-clause-settled c =

@@ -1,11 +1,12 @@
-use Rattle.broker_core.proofs.AdvanceLemmas.{advance-viewed, few-kept}
+use Rattle.broker_core.proofs.AdvanceLemmas.{advance-viewed, restored}
 use Rattle.broker_core.proofs.brokers.Broker.advance.Goals as goal
 
 pub invariant_of-self : goal.invariant_of-self
 invariant_of-self c = record { phase_is = c.in-Ok.ensures.phase }
 
 pub restore-requires : goal.restore-requires
-restore-requires c = few-kept c.notes-before.result c.self.inside.ledger.notes c.self.inside.ledger.answers c.yielded.new.ledger.answers c.notes-before.ensures.notes c.notes-before.ensures.answered c.yielded.ensures.kept
+restore-requires c =
+    restored _ c.self.inside.ledger.acts c.notes-before.result c.self.inside.ledger.notes c.self.inside.ledger.answers c.yielded.new.ledger.answers c.notes-before.ensures.notes c.notes-before.ensures.are_notes c.yielded.ensures.acts c.yielded.ensures.kept
 
 pub returns-in-Ok-clause-gives : goal.returns-in-Ok-clause-gives
 returns-in-Ok-clause-gives c = λ script log.

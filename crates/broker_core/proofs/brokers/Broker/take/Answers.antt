@@ -1,4 +1,4 @@
-use Rattle.broker_core.proofs.TakeLemmas.{ignored-viewed, hears-viewed, adds-viewed, reply-viewed, same-view}
+use Rattle.broker_core.proofs.TakeLemmas.{ignored-viewed, hears-viewed, adds-viewed, adds-may, reply-viewed, same-view}
 use Rattle.broker_core.proofs.brokers.Broker.take.Goals as goal
 
 pub returns-in-Ignored-clause-gives : goal.returns-in-Ignored-clause-gives
@@ -20,3 +20,7 @@ returns-in_ok-turn-in-Adds-clause-gives c = λ script log.
     (same-view c.args.self.now c.self.inside.ledger c.reply_to.new.ledger c.self.inside.heard c.self.view_is c.reply_to.ensures.same)
     (reply-viewed c.args.self.now c.self.inside.ledger c.self.inside.heard c.self.inside.phase c.args.message.now c.in_ok-reply_to.field-0 _ c.self.view_is c.self.invariant.phase_is c.in_ok-reply_to.ensures.reply c.in-Adds.is)
     (c.in_ok-turn-in-Adds.ensures.gives script log)
+
+pub advance-requires-in-Adds : goal.advance-requires-in-Adds
+advance-requires-in-Adds c =
+    adds-may c.self.inside.ledger c.reply_to.new.ledger c.self.inside.heard c.args.message.now c.self.inside.phase c.in_ok-reply_to.field-0 c.in-Adds.effect c.reply_to.ensures.same c.self.invariant.phase_is c.in_ok-reply_to.ensures.reply c.in-Adds.is

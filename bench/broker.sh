@@ -1,0 +1,38 @@
+#!/usr/bin/env bash
+# Times a broker that carries out acts, each request answered at once, and then opens its log again:
+# 100, 1,000 and 10,000 acts of one write, and one act of 100, 1,000 and 9,980 writes. Each line is the
+# best of five runs, the start of the program included, and what that is for each message that the
+# broker takes. The proved program is built first.
+top="$(cd "$(dirname "${BASH_SOURCE[0]}")/.." && pwd)" || exit 1
+cd "$top/crates/broker_bench" || exit 1
+rt run -- 3 1 1 >&2 || exit 1
+
+# Microseconds of the best of five runs with so many acts, each of so many times so many writes.
+microseconds() {
+  local best=0 begin took
+  for _ in 1 2 3 4 5; do
+    begin=$(date +%s%N)
+    out/broker_bench "$1" "$2" "$3" > /dev/null || exit 1
+    took=$((($(date +%s%N) - begin) / 1000))
+    if [ "$best" -eq 0 ] || [ "$took" -lt "$best" ]; then
+      best=$took
+    fi
+  done
+  echo "$best"
+}
+
+# A broker takes a Begun and a Decided for each act, and a Stored for each write.
+line() {
+  local whole messages=$(($1 * ($2 * $3 + 2)))
+  whole=$(microseconds "$1" "$2" "$3")
+  echo "$1  $(($2 * $3))  $whole  $((whole * 1000 / messages))"
+}
+
+echo "acts  writes of each  microseconds  nanoseconds a message"
+for acts in 100 1000 10000; do
+  line "$acts" 1 1
+done
+for writes in 10 100 998; do
+  line 1 10 "$writes"
+done
+uptime >&2
