@@ -1,0 +1,65 @@
+-- Where a walk begins, and what is read off its end.
+use Rattle.std.proofs.Common.{◌≡◌, ◌<◌, ◌≤◌, ◌+◌, ℕ, ◌++◌, take, length, List, [], ◌∷◌, map, refl, sym, ap, subst, ◌∙◌, None}
+use Rattle.std.proofs.Math.ListN.{get_or}
+use Rattle.std.proofs.lemmas.List.{take_more, take_all}
+use Rattle.pseudo_time.specs.Lists.{Every}
+use Rattle.pseudo_time.proofs.ListLemmas.{every-append}
+use Rattle.pseudo_time.specs.declared.nodes.NodeId.{NodeId}
+use Rattle.world_core.specs.declared.entries.Entry.{Entry}
+use Rattle.world_core.specs.declared.traces.Opened.{Opened}
+use Rattle.world_core.proofs.Lives.{walk-more}
+use Rattle.world_core.specs.Walks.{Base, World, start_world, opened_life, walk, step}
+use Rattle.trace_logs.specs.declared.seats.Seat.{Seat}
+use Rattle.trace_logs.specs.declared.replays.Replay.{Replay}
+use Rattle.trace_logs.specs.Letters.{all_posted}
+use Rattle.trace_logs.specs.Seats.{Lives}
+use Rattle.trace_logs.specs.Replays.{IsOnce, AreAt, Apart, Shows, nodes_of, is_among, gated_logs, logs_in}
+use Rattle.trace_logs.proofs.PlaceLemmas.{once-apart, at-more, at-nodes, at-start, among-opened}
+
+-- one node more
+pub seats-more : (b : Base) (start : ℕ) (opened : List Opened) (i : ℕ) (o : Opened) (s : Seat) (old new : List Seat) → i < length opened → o ≡ get_or opened i o → AreAt b start (take i opened) old →
+    s.node ≡ o.node → Lives b s (opened_life start o.effects) → new ≡ old ++ s ∷ [] → AreAt b start (take (i + 1) opened) new
+seats-more b start opened i o s old new lt at h e l n =
+    subst (λ z. AreAt b start z new) (ap (λ x. take i opened ++ x ∷ []) at ∙ sym (take_more opened i o lt)) (subst (AreAt b start (take i opened ++ o ∷ [])) (sym n) (at-more b start (take i opened) old o s h e l))
+
+pub sound-more : (P : Seat → Type 0) (s : Seat) (old new : List Seat) → Every P old → P s → new ≡ old ++ s ∷ [] → Every P new
+sound-more P s old new h p n = subst (Every P) (sym n) (every-append P old (s ∷ []) h (p, tt))
+
+pub starts : (b : Base) (r : Replay) → IsOnce b.opened → b.run ≡ r.run → b.start ≡ r.start → AreAt b b.start b.opened r.seats.items → r.letters.items ≡ [] → r.last ≡ None → Shows b (start_world b) r
+starts b r once run start at letters last =
+    let nodes : nodes_of r.seats.items ≡ map (λ (o : Opened). o.node) b.opened = at-nodes b b.start b.opened r.seats.items at in
+    record {
+      run = run;
+      start = start;
+      nodes = nodes;
+      apart = subst Apart (sym nodes) (once-apart b.opened once);
+      seats = at-start b b.start b.opened r.seats.items (once-apart b.opened once) at;
+      known = λ n. among-opened b.opened n ∙ ap (λ ns. is_among ns n) (sym nodes);
+      sent = ap all_posted letters;
+      last = last;
+    }
+
+-- the node with its durable log in this world
+abbrev in_world : World → NodeId → Opened
+in_world w n = record { node = n; effects = (w.life n).gated }
+
+seats-logs : (b : Base) (w : World) (seats : List Seat) → Every (λ (s : Seat). Lives b s (w.life s.node)) seats → gated_logs seats ≡ map (in_world w) (nodes_of seats)
+seats-logs b w [] h = refl
+seats-logs b w (s ∷ ss) h = λ j. record { node = s.node; effects = h.0.gated j } ∷ seats-logs b w ss h.1 j
+
+opened-logs : (w : World) (opened : List Opened) → map (in_world w) (map (λ (o : Opened). o.node) opened) ≡ logs_in w opened
+opened-logs w [] = refl
+opened-logs w (o ∷ os) = ap (λ z. in_world w o.node ∷ z) (opened-logs w os)
+
+pub ends : (b : Base) (w : World) (r : Replay) → Shows b w r → gated_logs r.seats.items ≡ logs_in w b.opened
+ends b w r h = seats-logs b w r.seats.items h.seats ∙ ap (map (in_world w)) h.nodes ∙ opened-logs w b.opened
+
+-- ---- on the way
+
+-- one entry more
+pub walk-on : (b : Base) (es : List Entry) (i : ℕ) (e : Entry) (r : Replay) → i < length es → e ≡ get_or es i e → Shows b (step b (walk b (take i es)) e) r → Shows b (walk b (take (i + 1) es)) r
+walk-on b es i e r lt at h = subst (λ w. Shows b w r) (sym (ap (walk b) (take_more es i e lt ∙ ap (λ x. take i es ++ x ∷ []) (sym at)) ∙ walk-more b (take i es) e)) h
+
+-- all entries
+pub walk-end : (b : Base) (es : List Entry) (i : ℕ) (r : Replay) → length es ≤ i → Shows b (walk b (take i es)) r → gated_logs r.seats.items ≡ logs_in (walk b es) b.opened
+walk-end b es i r lt h = ends b (walk b es) r (subst (λ z. Shows b (walk b z) r) (take_all i es lt) h)

@@ -1,0 +1,169 @@
+-- What a log adds to histories, in either direction.
+use Rattle.std.proofs.Common.{◌≡◌, ◌≢◌, ◌⊎◌, ◌<◌, ◌+◌, ℕ, zero, suc, Bool, true, false, ◌||◌, List, [], ◌∷◌, ◌++◌, take, length, reverse, refl, sym, ap, subst, ◌∙◌, inl, inr, Option, Some, None, arith}
+use Rattle.std.specs.Prelude.{is_some, if◌then◌else◌}
+use Rattle.std.proofs.Math.ListN.{get_or}
+use Rattle.std.proofs.lemmas.List.{reverse-append, append_assoc, take_more}
+use Rattle.pseudo_time.specs.StampParts.{StampParts}
+use Rattle.pseudo_time.specs.Order.{same_stamp}
+use Rattle.pseudo_time.specs.declared.decisions.Decision.{Decision}
+use Rattle.effect_form.specs.declared.effects.Effect.{Effect}
+use Rattle.effect_form.specs.declared.effects.Effect.TheVariants.{Put, Stretch, Begin, Decide, Learn, Run, Act, Try, Got, Acked, End}
+use Rattle.object_history.specs.declared.marks.Mark.{Mark}
+use Rattle.object_history.specs.Ranges.{AreMarks}
+use Rattle.object_history.specs.History.{or_else, settle_of}
+use Rattle.repository_core.specs.Logs.{marks, known, knows}
+use Rattle.repository_core.specs.Ranges.{AreEffects}
+
+-- ---- marks
+
+pub marks-one : (f : Effect) (l : List Effect) → marks (f ∷ l) ≡ marks (f ∷ []) ++ marks l
+marks-one (Put o x v) l = refl
+marks-one (Stretch o x) l = refl
+marks-one (Decide s d) l = refl
+marks-one (Learn s c) l = refl
+marks-one (Begin s d) l = refl
+marks-one (Run n) l = refl
+marks-one (Act i h t n c b) l = refl
+marks-one (Try i s) l = refl
+marks-one (Got k v) l = refl
+marks-one (Acked k) l = refl
+marks-one (End i e) l = refl
+
+pub marks-append : (l m : List Effect) → marks (l ++ m) ≡ marks l ++ marks m
+marks-append [] m = refl
+marks-append (f ∷ l) m = marks-one f (l ++ m) ∙ ap (λ x. marks (f ∷ []) ++ x) (marks-append l m) ∙ sym (append_assoc (marks (f ∷ [])) (marks l) (marks m)) ∙ ap (λ x. x ++ marks m) (sym (marks-one f l))
+
+reverse-one : (f : Effect) → reverse (marks (f ∷ [])) ≡ marks (f ∷ [])
+reverse-one (Put o x v) = refl
+reverse-one (Stretch o x) = refl
+reverse-one (Decide s d) = refl
+reverse-one (Learn s c) = refl
+reverse-one (Begin s d) = refl
+reverse-one (Run n) = refl
+reverse-one (Act i h t n c b) = refl
+reverse-one (Try i s) = refl
+reverse-one (Got k v) = refl
+reverse-one (Acked k) = refl
+reverse-one (End i e) = refl
+
+pub reverse-marks : (l : List Effect) → reverse (marks l) ≡ marks (reverse l)
+reverse-marks [] = refl
+reverse-marks (f ∷ l) =
+    ap reverse (marks-one f l)
+    ∙ reverse-append (marks (f ∷ [])) (marks l)
+    ∙ (λ j. reverse-marks l j ++ reverse-one f j)
+    ∙ sym (marks-append (reverse l) (f ∷ []))
+    ∙ ap marks (sym (reverse-append (f ∷ []) l))
+
+pub marks-in-range : (l : List Effect) → AreEffects l → AreMarks (marks l)
+marks-in-range [] h = tt
+marks-in-range (Put o x v ∷ l) h = ((h.0.0, h.0.2), marks-in-range l h.1)
+marks-in-range (Stretch o x ∷ l) h = (h.0.0.0, marks-in-range l h.1)
+marks-in-range (Decide s d ∷ l) h = (tt, marks-in-range l h.1)
+marks-in-range (Learn s c ∷ l) h = (tt, marks-in-range l h.1)
+marks-in-range (Begin s d ∷ l) h = marks-in-range l h.1
+marks-in-range (Run n ∷ l) h = marks-in-range l h.1
+marks-in-range (Act i k t n c b ∷ l) h = marks-in-range l h.1
+marks-in-range (Try i s ∷ l) h = marks-in-range l h.1
+marks-in-range (Got k v ∷ l) h = marks-in-range l h.1
+marks-in-range (Acked k ∷ l) h = marks-in-range l h.1
+marks-in-range (End i e ∷ l) h = marks-in-range l h.1
+
+-- with those of one effect more
+pub marks-more : (l : List Effect) (i : ℕ) (f : Effect) (old new more : List Mark) → i < length l → f ≡ get_or l i f → old ≡ marks (take i l) → more ≡ marks (f ∷ []) → new ≡ old ++ more → new ≡ marks (take (i + 1) l)
+marks-more l i f old new more lt at h m n =
+    n ∙ (λ j. h j ++ m j) ∙ sym (marks-append (take i l) (f ∷ [])) ∙ ap (λ x. marks (take i l ++ x ∷ [])) at ∙ ap marks (sym (take_more l i f lt))
+
+-- ---- known stamps
+
+or-else-some : (b : Bool) (u : Option Bool) (c : Bool) → is_some (if b then or_else u c else u) ≡ (b || is_some u)
+or-else-some true None c = refl
+or-else-some true (Some d) c = refl
+or-else-some false u c = refl
+
+-- the log knows a stamp where histories with its marks settle it
+pub knows-known : (l : List Effect) (s : StampParts) → is_some (known l s) ≡ knows l s
+unfolding settle_of knows
+knows-known [] s = refl
+knows-known (Decide p d ∷ l) s = or-else-some (same_stamp p s) (known l s) _ ∙ ap (λ x. same_stamp p s || x) (knows-known l s)
+knows-known (Learn p c ∷ l) s = or-else-some (same_stamp p s) (known l s) c ∙ ap (λ x. same_stamp p s || x) (knows-known l s)
+knows-known (f ∷ l) s = knows-known l s
+
+with-false : (a b : Bool) → (a || b) ≡ ((a || false) || b)
+with-false true b = refl
+with-false false b = refl
+
+pub knows-one : (f : Effect) (l : List Effect) (s : StampParts) → knows (f ∷ l) s ≡ (knows (f ∷ []) s || knows l s)
+unfolding knows
+knows-one (Decide p d) l s = with-false (same_stamp p s) (knows l s)
+knows-one (Learn p c) l s = with-false (same_stamp p s) (knows l s)
+knows-one (Put o x v) l s = refl
+knows-one (Stretch o x) l s = refl
+knows-one (Begin p d) l s = refl
+knows-one (Run n) l s = refl
+knows-one (Act i h t n c b) l s = refl
+knows-one (Try i p) l s = refl
+knows-one (Got k v) l s = refl
+knows-one (Acked k) l s = refl
+knows-one (End i e) l s = refl
+
+pub knows-append : (l m : List Effect) (s : StampParts) → knows (l ++ m) s ≡ (knows l s || knows m s)
+unfolding knows
+knows-append [] m s = refl
+knows-append (f ∷ l) m s = knows-one f (l ++ m) s ∙ ap (λ x. knows (f ∷ []) s || x) (knows-append l m s) ∙ assoc (knows (f ∷ []) s) (knows l s) (knows m s) ∙ ap (λ x. x || knows m s) (sym (knows-one f l s))
+  where
+    assoc : (a b c : Bool) → (a || (b || c)) ≡ ((a || b) || c)
+    assoc true b c = refl
+    assoc false b c = refl
+
+-- in whatever order it stands
+pub knows-reverse : (l : List Effect) (s : StampParts) → knows (reverse l) s ≡ knows l s
+knows-reverse [] s = refl
+knows-reverse (f ∷ l) s = ap (λ x. knows x s) (reverse-append (f ∷ []) l) ∙ knows-append (reverse l) (f ∷ []) s ∙ ap (λ x. x || knows (f ∷ []) s) (knows-reverse l s) ∙ swapped (knows l s) (knows (f ∷ []) s) ∙ sym (knows-one f l s)
+  where
+    swapped : (a b : Bool) → (a || b) ≡ (b || a)
+    swapped true true = refl
+    swapped true false = refl
+    swapped false true = refl
+    swapped false false = refl
+
+-- ---- one effect
+
+pub knows-settle : (f : Effect) (of s : StampParts) → ((d : Decision) × (f ≡ Decide of d)) ⊎ ((c : Bool) × (f ≡ Learn of c)) → knows (f ∷ []) s ≡ same_stamp of s
+unfolding knows
+knows-settle f of s (inl h) = ap (λ g. knows (g ∷ []) s) h.1 ∙ or-false (same_stamp of s)
+  where
+    or-false : (a : Bool) → (a || false) ≡ a
+    or-false true = refl
+    or-false false = refl
+knows-settle f of s (inr h) = ap (λ g. knows (g ∷ []) s) h.1 ∙ or-false (same_stamp of s)
+  where
+    or-false : (a : Bool) → (a || false) ≡ a
+    or-false true = refl
+    or-false false = refl
+
+pub knows-other : (f : Effect) (s : StampParts) → ((p : StampParts) (d : Decision) → f ≢ Decide p d) → ((p : StampParts) (c : Bool) → f ≢ Learn p c) → false ≡ knows (f ∷ []) s
+unfolding knows
+knows-other (Decide p d) s h k = absurd (h p d refl)
+knows-other (Learn p c) s h k = absurd (k p c refl)
+knows-other (Put o x v) s h k = refl
+knows-other (Stretch o x) s h k = refl
+knows-other (Begin p d) s h k = refl
+knows-other (Run n) s h k = refl
+knows-other (Act i g t n c b) s h k = refl
+knows-other (Try i p) s h k = refl
+knows-other (Got m v) s h k = refl
+knows-other (Acked m) s h k = refl
+knows-other (End i e) s h k = refl
+
+or-right : (a b : Bool) → b ≡ true → (a || b) ≡ true
+or-right true b h = refl
+or-right false b h = h
+
+pub knows-at : (l : List Effect) (i : ℕ) (f : Effect) (s : StampParts) → i < length l → f ≡ get_or l i f → knows (f ∷ []) s ≡ true → true ≡ knows l s
+knows-at [] i f s lt at h = absurd (omega (arith, lt))
+knows-at (g ∷ l) zero f s lt at h = sym (knows-one g l s ∙ ap (λ z. z || knows l s) (ap (λ z. knows (z ∷ []) s) (sym at) ∙ h))
+knows-at (g ∷ l) (suc i) f s lt at h = sym (knows-one g l s ∙ or-right (knows (g ∷ []) s) (knows l s) (sym (knows-at l i f s (omega (arith, lt)) at h)))
+
+pub knows-more : (l : List Effect) (i : ℕ) (f : Effect) (s : StampParts) → i < length l → f ≡ get_or l i f → knows (take i l) s ≡ false → knows (f ∷ []) s ≡ false → knows (take (i + 1) l) s ≡ false
+knows-more l i f s lt at h k = ap (λ z. knows z s) (take_more l i f lt) ∙ knows-append (take i l) (get_or l i f ∷ []) s ∙ (λ j. h j || knows (sym at j ∷ []) s) ∙ k

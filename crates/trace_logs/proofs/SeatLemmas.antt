@@ -1,0 +1,161 @@
+-- How the life of a node goes on, and what the code keeps of it.
+use Rattle.std.proofs.Common.{◌≡◌, ◌≤◌, ℕ, Bool, true, false, cond, length, arith, ◌==◌, ◌++◌, List, [], ◌∷◌, take, drop, map, refl, sym, ap, subst, ◌∙◌, append_assoc}
+use Rattle.std.specs.List.{filter}
+use Rattle.std.proofs.lemmas.List.{append-nil, take-append-drop, map-append}
+use Rattle.std.proofs.lemmas.List.Elements.{filter-append}
+use Rattle.std.proofs.lemmas.List.Sums.{length-filter, count_by-le-length}
+use Rattle.pseudo_time.specs.Lists.{Every}
+use Rattle.pseudo_time.specs.declared.nodes.NodeId.{NodeId}
+use Rattle.pseudo_time.specs.declared.nodes.NodeKind.{NodeKind}
+use Rattle.pseudo_time.specs.declared.nodes.NodeKind.TheVariants.{Repository, Broker}
+use Rattle.pseudo_time.proofs.ListLemmas.{every-append, every-left}
+use Rattle.effect_form.specs.declared.effects.Effect.{Effect}
+use Rattle.turn_form.specs.declared.turns.Turn.{Turn}
+use Rattle.turn_form.specs.declared.turns.Out.{Out}
+use Rattle.turn_form.specs.Posts.{Post, post, posts}
+use Rattle.serial_model.specs.Questions.{Tree, denote}
+use Rattle.value_form.specs.Mirror.{block}
+use Rattle.statement_form.specs.RowTexts.{script_text}
+use Rattle.value_form.specs.declared.acts.ActSpec.{ActSpec}
+use Rattle.broker_core.specs.Ledgers.{IsAct}
+use Rattle.repository_core.specs.Ranges.{IsEffect, AreEffects}
+use Rattle.broker_core.specs.Ledgers.{AreActs}
+use Rattle.broker_core.specs.Tasks.{Scripted}
+use Rattle.world_core.specs.Nodes.{Input, Given, gives, opened_mind}
+use Rattle.world_core.specs.Walks.{Base, Life, told, whole, with_given, gated_life, crashed_life, opened_life}
+use Rattle.trace_logs.specs.declared.seats.Seat.{Seat}
+use Rattle.trace_logs.specs.Cores.{StandsFor, Gave, IsWhole, IsLogOf, kind_of, own_acts, acts_for}
+use Rattle.trace_logs.specs.Seats.{Lives, IsSound}
+
+-- ---- ranges
+
+pub log-grown : (k : NodeKind) (xs ys zs : List Effect) → IsLogOf k (xs ++ ys) → IsLogOf k zs → IsLogOf k (xs ++ (ys ++ zs))
+log-grown Repository xs ys zs h g = subst AreEffects (append_assoc xs ys zs) (every-append IsEffect (xs ++ ys) zs h g)
+log-grown Broker xs ys zs h g = tt
+
+pub log-kept : (k : NodeKind) (n : ℕ) (xs ys : List Effect) → IsLogOf k (xs ++ ys) → IsLogOf k (xs ++ take n ys)
+log-kept Repository n xs ys h = every-left IsEffect (xs ++ take n ys) (drop n ys) (subst AreEffects (ap (λ z. xs ++ z) (sym (take-append-drop n ys)) ∙ sym (append_assoc xs (take n ys) (drop n ys))) h)
+log-kept Broker n xs ys h = tt
+
+-- ---- turns
+
+-- a node is told something
+pub told-lives : (b : Base) (s t : Seat) (l : Life) (i : Input) (turn : Turn) → Lives b s l →
+    Gave b s.node (whole l) (gives b.script b.run b.acts s.node (whole l) l.mind i) turn t.core →
+    t.node ≡ s.node → t.acts ≡ s.acts → t.gated ≡ s.gated → t.fresh.items ≡ s.fresh.items ++ turn.effects → t.outs.items ≡ s.outs.items ++ turn.outs →
+    Lives b t (told b s.node l i)
+told-lives b s t l i turn h g node acts gated fresh outs = record {
+  gated = ap (λ v. v.items) gated ∙ h.gated;
+  fresh = fresh ∙ (λ j. h.fresh j ++ g.effects j);
+  outs = outs ∙ (λ j. h.outs j ++ g.outs j);
+  core = subst (λ n. StandsFor b n (l.gated ++ (l.fresh ++ gave.effects)) gave.mind t.core) (sym node) (subst (λ z. StandsFor b s.node z gave.mind t.core) (append_assoc l.gated l.fresh gave.effects) g.stands);
+  acts = ap (λ v. v.items) acts ∙ h.acts ∙ ap (λ n. own_acts n b.acts) (sym node);
+  scripted = subst (λ v. Scripted b.script v.items) (sym acts) h.scripted;
+}
+  where
+    gave : Given
+    gave = gives b.script b.run b.acts s.node (whole l) l.mind i
+
+pub told-sound : (s t : Seat) (turn : Turn) → IsSound s → kind_of t.core ≡ kind_of s.core → IsWhole t.core → IsLogOf (kind_of s.core) turn.effects →
+    t.node ≡ s.node → t.acts ≡ s.acts → t.gated ≡ s.gated → t.fresh.items ≡ s.fresh.items ++ turn.effects → IsSound t
+told-sound s t turn h kind good log node acts gated fresh = record {
+  low = subst (λ n. 1 ≤ n.number) (sym node) h.low;
+  high = subst (λ n. n.number ≤ 16) (sym node) h.high;
+  acts = subst (λ v. AreActs v.items) (sym acts) h.acts;
+  kind = kind ∙ h.kind ∙ ap (λ n. n.kind) (sym node);
+  whole = good;
+  log = subst (λ n. IsLogOf n.kind (t.gated.items ++ t.fresh.items)) (sym node)
+      (subst (λ v. IsLogOf s.node.kind (v.items ++ t.fresh.items)) (sym gated)
+      (subst (λ z. IsLogOf s.node.kind (s.gated.items ++ z)) (sym fresh)
+      (log-grown s.node.kind s.gated.items s.fresh.items turn.effects h.log (subst (λ k. IsLogOf k turn.effects) h.kind log))));
+}
+
+-- ---- gates and crashes
+
+-- all effects are durable, and nothing else is open
+pub gated-lives : (b : Base) (s t : Seat) (l : Life) → Lives b s l → t.node ≡ s.node → t.acts ≡ s.acts → t.core ≡ s.core →
+    t.gated.items ≡ s.gated.items ++ s.fresh.items → t.fresh.items ≡ [] → t.outs.items ≡ [] → Lives b t (gated_life l)
+gated-lives b s t l h node acts core gated fresh outs = record {
+  gated = gated ∙ (λ j. h.gated j ++ h.fresh j);
+  fresh = fresh;
+  outs = outs;
+  core = subst (λ z. StandsFor b t.node z l.mind t.core) (sym (append-nil (whole l)))
+      (subst (λ c. StandsFor b t.node (whole l) l.mind c) (sym core) (subst (λ n. StandsFor b n (whole l) l.mind s.core) (sym node) h.core));
+  acts = ap (λ v. v.items) acts ∙ h.acts ∙ ap (λ n. own_acts n b.acts) (sym node);
+  scripted = subst (λ v. Scripted b.script v.items) (sym acts) h.scripted;
+}
+
+pub gated-sound : (s t : Seat) → IsSound s → t.node ≡ s.node → t.acts ≡ s.acts → t.core ≡ s.core →
+    t.gated.items ≡ s.gated.items ++ s.fresh.items → t.fresh.items ≡ [] → IsSound t
+gated-sound s t h node acts core gated fresh = record {
+  low = subst (λ n. 1 ≤ n.number) (sym node) h.low;
+  high = subst (λ n. n.number ≤ 16) (sym node) h.high;
+  acts = subst (λ v. AreActs v.items) (sym acts) h.acts;
+  kind = ap kind_of core ∙ h.kind ∙ ap (λ n. n.kind) (sym node);
+  whole = subst IsWhole (sym core) h.whole;
+  log = subst (λ n. IsLogOf n.kind (t.gated.items ++ t.fresh.items)) (sym node)
+      (subst (IsLogOf s.node.kind) (sym ((λ j. gated j ++ fresh j) ∙ append-nil (s.gated.items ++ s.fresh.items))) h.log);
+}
+
+-- it was opened anew over the effects that were found
+pub crashed-lives : (b : Base) (s t : Seat) (l : Life) (kept : ℕ) → Lives b s l → t.node ≡ s.node → t.acts ≡ s.acts →
+    t.gated.items ≡ s.gated.items ++ take kept s.fresh.items → t.fresh.items ≡ [] → t.outs.items ≡ [] →
+    StandsFor b s.node t.gated.items (opened_mind b.start) t.core → Lives b t (crashed_life b.start kept l)
+crashed-lives b s t l kept h node acts gated fresh outs core =
+    let e : t.gated.items ≡ l.gated ++ take kept l.fresh = gated ∙ (λ j. h.gated j ++ take kept (h.fresh j)) in
+    record {
+      gated = e;
+      fresh = fresh;
+      outs = outs;
+      core = subst (λ n. StandsFor b n ((l.gated ++ take kept l.fresh) ++ []) (opened_mind b.start) t.core) (sym node)
+          (subst (λ z. StandsFor b s.node z (opened_mind b.start) t.core) (e ∙ sym (append-nil (l.gated ++ take kept l.fresh))) core);
+      acts = ap (λ v. v.items) acts ∙ h.acts ∙ ap (λ n. own_acts n b.acts) (sym node);
+      scripted = subst (λ v. Scripted b.script v.items) (sym acts) h.scripted;
+    }
+
+pub crashed-sound : (s t : Seat) (kept : ℕ) → IsSound s → t.node ≡ s.node → t.acts ≡ s.acts → kind_of t.core ≡ s.node.kind → IsWhole t.core →
+    t.gated.items ≡ s.gated.items ++ take kept s.fresh.items → t.fresh.items ≡ [] → IsSound t
+crashed-sound s t kept h node acts kind good gated fresh = record {
+  low = subst (λ n. 1 ≤ n.number) (sym node) h.low;
+  high = subst (λ n. n.number ≤ 16) (sym node) h.high;
+  acts = subst (λ v. AreActs v.items) (sym acts) h.acts;
+  kind = kind ∙ ap (λ n. n.kind) (sym node);
+  whole = good;
+  log = subst (λ n. IsLogOf n.kind (t.gated.items ++ t.fresh.items)) (sym node)
+      (subst (IsLogOf s.node.kind) (sym ((λ j. gated j ++ fresh j) ∙ append-nil (s.gated.items ++ take kept s.fresh.items))) (log-kept s.node.kind kept s.gated.items s.fresh.items h.log));
+}
+
+-- ---- messages
+
+-- what is sent of one message more
+pub sent-more : (n : NodeId) (test : Out → Bool) (ys : List Out) (out : Out) (first old new : List Post) → old ≡ first ++ posts n (filter test ys) → new ≡ old ++ posts n (filter test (out ∷ [])) → new ≡ first ++ posts n (filter test (ys ++ out ∷ []))
+sent-more n test ys out first old new h g =
+    g ∙ ap (λ z. z ++ posts n (filter test (out ∷ []))) h ∙ append_assoc first (posts n (filter test ys)) (posts n (filter test (out ∷ [])))
+    ∙ ap (λ z. first ++ z) (sym (map-append (post n) (filter test ys) (filter test (out ∷ []))) ∙ ap (posts n) (sym (filter-append test ys (out ∷ []))))
+
+pub one-stays : (n : NodeId) (test : Out → Bool) (out : Out) (old : List Post) → test out ≡ false → old ≡ old ++ posts n (filter test (out ∷ []))
+one-stays n test out old h = sym (ap (λ t. old ++ posts n (cond t (out ∷ []) [])) h ∙ append-nil old)
+
+pub one-leaves : (n : NodeId) (test : Out → Bool) (out : Out) (old : List Post) → test out ≡ true → old ++ post n out ∷ [] ≡ old ++ posts n (filter test (out ∷ []))
+one-leaves n test out old h = ap (λ t. old ++ posts n (cond t (out ∷ []) [])) (sym h)
+
+-- ---- a broker's own acts
+
+every-filter : {X : Type 0} (P : X → Type 0) (test : X → Bool) (xs : List X) → Every P xs → Every P (filter test xs)
+every-filter P test [] h = tt
+every-filter P test (x ∷ xs) h = go (test x) (every-filter P test xs h.1)
+  where
+    go : (t : Bool) → Every P (filter test xs) → Every P (cond t (x ∷ filter test xs) (filter test xs))
+    go true k = (h.0, k)
+    go false k = k
+
+pub own-acts : (k : NodeKind) (i : ℕ) (acts : List ActSpec) → AreActs acts → AreActs (acts_for k i acts)
+own-acts Repository i acts h = record { each = tt; few = omega arith }
+own-acts Broker i acts h = record {
+  each = every-filter IsAct (λ (a : ActSpec). a.broker == i) acts h.each;
+  few = let e = length-filter (λ (a : ActSpec). a.broker == i) acts in let l = count_by-le-length (λ (a : ActSpec). a.broker == i) acts in let f = h.few in omega (arith, e, l, f);
+}
+
+pub own-scripted : (script : List ℕ → Tree) (k : NodeKind) (i : ℕ) (acts : List ActSpec) → Scripted script acts → Scripted script (acts_for k i acts)
+own-scripted script Repository i acts h = tt
+own-scripted script Broker i acts h = every-filter (λ (a : ActSpec). script (script_text (block a.script.lines)) ≡ denote (block a.script.lines)) (λ (a : ActSpec). a.broker == i) acts h

@@ -1,0 +1,11 @@
+use Rattle.std.proofs.Common.{subst, ap, reverse, ◌∙◌}
+use Rattle.std.specs.Prelude.{is_some}
+use Rattle.repository_core.specs.Logs.{known}
+use Rattle.trace_logs.specs.Cores.{StandsFor}
+use Rattle.trace_logs.proofs.MarkLemmas.{knows-known, knows-reverse}
+use Rattle.trace_logs.proofs.cores.NodeCore.knows.Goals as goal
+
+pub returns-in-Repository : goal.returns-in-Repository
+returns-in-Repository c b n mind s =
+    let h = subst (StandsFor b n c.args.log.now mind) c.in-Repository.is s in
+    c.is_some.ensures ∙ ap is_some (c.known.ensures ∙ ap (λ l. known (reverse l) c.args.stamp) h.log) ∙ knows-known (reverse c.args.log.now) c.args.stamp ∙ knows-reverse c.args.log.now c.args.stamp

@@ -1,0 +1,22 @@
+use Rattle.std.proofs.Common.{refl, sym, ap, subst, ◌≡◌, ◌<◌, ◌∙◌, length, true, Some, None}
+use Rattle.std.specs.Vec.{with_item}
+use Rattle.std.proofs.Math.ListN.{get_or}
+use Rattle.message_core.specs.Nodes.{same_node}
+use Rattle.world_core.specs.declared.entries.Entry.TheVariants as entry
+use Rattle.world_core.specs.Walks.{Life, sent_by, step}
+use Rattle.trace_logs.specs.declared.seats.Seat.{Seat}
+use Rattle.trace_logs.specs.Letters.{all_posted}
+use Rattle.trace_logs.specs.Replays.{IsAbsent}
+use Rattle.trace_logs.proofs.WalkLemmas.{absent, still}
+use Rattle.trace_logs.proofs.EntryLemmas.{moved-ok, always, letter-in-range, took-sent, took-unsent, heard-last, heard-nothing, gate-absent, gate-ok}
+use Rattle.trace_logs.proofs.replays.Replay.learn.Goals as goal
+
+pub returns-in_default-clause-shows : goal.returns-in_default-clause-shows
+returns-in_default-clause-shows c b w h =
+    absent b w (entry.Learn c.args.node c.args.stamp c.args.committed) c.args.self.now c.args.node h (λ k. refl) (subst (IsAbsent c.args.node) c.as_slice.ensures.value c.in_default.ensures) refl refl
+
+pub returns-clause-shows : goal.returns-clause-shows
+returns-clause-shows c b w h =
+    moved-ok b w (entry.Learn c.args.node c.args.stamp c.args.committed) c.learn.result c.args.self.now (record c.args.self.now { seats = with_item c.args.self.now.seats c.in-Some.place c.learn.new.self }) c.in-Some.place c.index_mut.result.now c.learn.new.self c.args.node h (λ k. refl)
+    (subst (λ seats. (c.in-Some.place < length seats) × ((d : Seat) → same_node (get_or seats c.in-Some.place d).node c.args.node ≡ true)) c.as_slice.ensures.value c.in-Some.ensures)
+    c.index_mut.ensures.value c.learn.ensures.node (c.learn.ensures.lives b) refl refl refl (always c.learn.result (all_posted c.args.self.now.letters.items ≡ sent_by w) h.sent) h.last

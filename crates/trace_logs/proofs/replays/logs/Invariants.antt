@@ -1,0 +1,12 @@
+use Rattle.std.proofs.Common.{◌≡◌, ℕ, List, take}
+use Rattle.serial_model.specs.Questions.{Tree}
+use Rattle.broker_core.specs.Tasks.{Scripted}
+use Rattle.world_core.specs.Walks.{walk}
+use Rattle.trace_logs.specs.Replays.{Shows, IsFit, base_for}
+use Rattle.trace_logs.proofs.replays.logs.Given as goal
+
+-- the walk so far
+abbrev pub invariant-loop-entry : goal.invariant-loop-entry
+invariant-loop-entry l =
+    ((script : List ℕ → Tree) → Scripted script l.acts → Shows (base_for script l.run l.acts l.trace) (walk (base_for script l.run l.acts l.trace) (take l.entry-index l.trace.entries)) l.replay)
+    × IsFit l.replay

@@ -1,0 +1,15 @@
+use Rattle.std.proofs.Common.{refl, sym, ap, subst, ◌∙◌, ◌++◌, [], not}
+use Rattle.std.proofs.lemmas.List.{append-nil}
+use Rattle.effect_form.specs.declared.effects.Effect.{Effect}
+use Rattle.repository_core.specs.Logs.{knows}
+use Rattle.message_form.specs.declared.messages.Message.{Message}
+use Rattle.world_core.specs.Nodes.{leaves}
+use Rattle.trace_logs.specs.Cores.{StandsFor}
+use Rattle.trace_logs.proofs.seats.Seat.leaves.Goals as goal
+
+pub returns-in-Ask : goal.returns-in-Ask
+returns-in-Ask c b l h fresh =
+    let e = h.gated ∙ sym (append-nil l.gated) ∙ ap (λ z. l.gated ++ z) (sym fresh) in
+    ap not (c.knows.ensures b c.args.self.now.node l.mind (subst (λ z. StandsFor b c.args.self.now.node z l.mind c.args.self.now.core) (sym (c.as_slice.ensures.value ∙ e)) h.core)
+    ∙ ap (λ z. knows z c.in-Ask.stamp) (c.as_slice.ensures.value ∙ h.gated))
+    ∙ ap (λ m. leaves l.gated (record c.args.out.now { message = m })) (sym c.in-Ask.is)

@@ -1,0 +1,72 @@
+-- The core of a node at a place of a walk.
+use Rattle.std.specs.Prelude.{◌≡◌, ℕ, Bool, true, List, [], ◌++◌, reverse}
+use Rattle.pseudo_time.specs.declared.nodes.NodeId.{NodeId}
+use Rattle.pseudo_time.specs.declared.nodes.NodeKind.{NodeKind}
+use Rattle.pseudo_time.specs.declared.nodes.NodeKind.TheVariants.{Repository, Broker}
+use Rattle.value_form.specs.declared.acts.ActSpec.{ActSpec}
+use Rattle.effect_form.specs.declared.effects.Effect.{Effect}
+use Rattle.turn_form.specs.declared.turns.Turn.{Turn}
+use Rattle.object_history.specs.declared.marks.Mark.{Mark}
+use Rattle.object_history.specs.declared.steps.HistoryFault.{HistoryFault}
+use Rattle.object_history.specs.declared.steps.HistoryFault.TheVariants as fault
+use Rattle.repository_core.specs.Cores.{Core}
+use Rattle.repository_core.specs.Ranges.{AreEffects}
+use Rattle.broker_core.specs.Brokers.{Stands}
+use Rattle.broker_core.specs.Parts.{BrokerParts}
+use Rattle.broker_core.specs.Tasks.{Scripted}
+use Rattle.world_core.specs.Nodes.{Mind, Given, acts_of}
+use Rattle.world_core.specs.Walks.{Base}
+use Rattle.trace_logs.specs.declared.cores.NodeCore.{NodeCore}
+use Rattle.trace_logs.specs.declared.cores.NodeCore.TheVariants as core
+
+-- only memory was wanting
+abbrev pub IsWant : HistoryFault → Type 0
+IsWant f = f ≡ fault.NoMemory
+
+abbrev pub kind_of : NodeCore → NodeKind
+kind_of (core.Repository r) = Repository
+kind_of (core.Broker p) = Broker
+
+-- no call of the core has failed
+abbrev pub IsWhole : NodeCore → Type 0
+IsWhole (core.Repository r) = r.whole ≡ true
+IsWhole (core.Broker p) = Unit {0}
+
+-- the effects of a repository's log are in range
+abbrev pub IsLogOf : NodeKind → List Effect → Type 0
+IsLogOf Repository log = AreEffects log
+IsLogOf Broker log = Unit {0}
+
+-- a broker's own acts of the plan
+abbrev pub acts_for : NodeKind → ℕ → List ActSpec → List ActSpec
+acts_for Repository i acts = []
+acts_for Broker i acts = acts_of i acts
+
+abbrev pub own_acts : NodeId → List ActSpec → List ActSpec
+own_acts n acts = acts_for n.kind n.number acts
+
+pub record IsRepository (n : NodeId) (l : List Effect) (m : Mind) (r : Core (List Mark)) : Type 0 where
+  pub kind : n.kind ≡ Repository
+  pub number : r.number ≡ n.number
+  pub log : r.log ≡ l
+  pub mind : r.mind ≡ m.hands
+
+pub record IsBroker (b : Base) (n : NodeId) (l : List Effect) (m : Mind) (p : BrokerParts) : Type 0 where
+  pub kind : n.kind ≡ Broker
+  pub number : p.number ≡ n.number
+  pub run : p.run ≡ b.run
+  pub acts : p.acts ≡ acts_of n.number b.acts
+  pub heard : p.heard ≡ m.heard
+  pub scripted : Scripted b.script p.acts
+  pub stands : Stands b.script (reverse l) p
+
+-- the core is where this log, oldest effect first, and what the node remembers beside it have led it
+abbrev pub StandsFor : Base → NodeId → List Effect → Mind → NodeCore → Type 0
+StandsFor b n log mind (core.Repository r) = IsRepository n log mind r
+StandsFor b n log mind (core.Broker p) = IsBroker b n log mind p
+
+-- the turn is what the rules give, and the core goes on from there
+pub record Gave (b : Base) (n : NodeId) (log : List Effect) (g : Given) (t : Turn) (new : NodeCore) : Type 0 where
+  pub effects : t.effects ≡ g.effects
+  pub outs : t.outs ≡ g.outs
+  pub stands : StandsFor b n (log ++ g.effects) g.mind new

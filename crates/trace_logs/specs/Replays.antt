@@ -1,0 +1,92 @@
+-- A run at a place of its trace, as the code keeps it.
+use Rattle.std.specs.Prelude.{◌≡◌, ℕ, ◌≤◌, ◌^◌, Bool, true, false, List, [], ◌∷◌, map, is_some, IfSome, if◌then◌else◌}
+use Rattle.std.specs.List.{count_by}
+use Rattle.pseudo_time.specs.Lists.{Every}
+use Rattle.pseudo_time.specs.declared.nodes.NodeId.{NodeId}
+use Rattle.value_form.specs.declared.acts.ActSpec.{ActSpec}
+use Rattle.message_core.specs.Nodes.{same_node}
+use Rattle.serial_model.specs.Questions.{Tree}
+use Rattle.world_core.specs.declared.entries.Entry.{Entry}
+use Rattle.world_core.specs.declared.entries.Entry.TheVariants as entry
+use Rattle.world_core.specs.declared.traces.Opened.{Opened}
+use Rattle.world_core.specs.declared.traces.Trace.{Trace}
+use Rattle.world_core.specs.Walks.{Base, World, sent_by, opened_life, walk}
+use Rattle.trace_logs.specs.declared.seats.Seat.{Seat}
+use Rattle.trace_logs.specs.declared.replays.Replay.{Replay}
+use Rattle.trace_logs.specs.Cores.{IsLogOf}
+use Rattle.trace_logs.specs.Letters.{AreLetters, all_posted}
+use Rattle.trace_logs.specs.Seats.{Lives, IsSound}
+
+-- ---- what is asked of a trace
+
+-- a node's number, and the effects of a repository's log, are in range
+pub record IsOpened (o : Opened) : Type 0 where
+  pub low : 1 ≤ o.node.number
+  pub high : o.node.number ≤ 16
+  pub log : IsLogOf o.node.kind o.effects
+
+-- each node stands there once at most
+abbrev pub IsOnce : List Opened → Type 0
+IsOnce opened = (n : NodeId) → count_by (λ (o : Opened). same_node o.node n) opened ≤ 1
+
+-- the moment of a Tick is at most 2^63
+abbrev pub IsMoment : Entry → Type 0
+IsMoment (entry.Tick moment) = moment ≤ 2 ^ 63
+IsMoment _ = Unit {0}
+
+-- ---- what is given
+
+abbrev pub base_for : (List ℕ → Tree) → ℕ → List ActSpec → Trace → Base
+base_for script run acts t = record { script = script; run = run; acts = acts; start = t.start; opened = t.opened }
+
+-- each of these nodes with its durable log in this world
+abbrev pub logs_in : World → List Opened → List Opened
+logs_in w opened = map (λ (o : Opened). record { node = o.node; effects = (w.life o.node).gated }) opened
+
+-- ---- on the way
+
+abbrev pub nodes_of : List Seat → List NodeId
+nodes_of seats = map (λ (s : Seat). s.node) seats
+
+-- whether the node stands there
+abbrev pub is_among : List NodeId → NodeId → Bool
+is_among [] n = false
+is_among (m ∷ ms) n = if same_node m n then true else is_among ms n
+
+-- no node stands there twice
+abbrev pub Apart : List NodeId → Type 0
+Apart [] = Unit {0}
+Apart (m ∷ ms) = Every (λ n. same_node m n ≡ false) ms × Apart ms
+
+-- none of the seats is that of this node
+abbrev pub IsAbsent : NodeId → List Seat → Type 0
+IsAbsent n seats = Every (λ (s : Seat). same_node s.node n ≡ false) seats
+
+-- these are the nodes as they were opened
+abbrev pub AreAt : Base → ℕ → List Opened → List Seat → Type 0
+AreAt b start [] [] = Unit {0}
+AreAt b start [] (s ∷ seats) = ⊥
+AreAt b start (o ∷ opened) [] = ⊥
+AreAt b start (o ∷ opened) (s ∷ seats) = ((s.node ≡ o.node) × Lives b s (opened_life start o.effects)) × AreAt b start opened seats
+
+-- the nodes with their durable logs
+abbrev pub gated_logs : List Seat → List Opened
+gated_logs seats = map (λ (s : Seat). record { node = s.node; effects = s.gated.items }) seats
+
+-- where the walk from this base has come to
+pub record Shows (b : Base) (w : World) (r : Replay) : Type 0 where
+  pub run : b.run ≡ r.run
+  pub start : b.start ≡ r.start
+  pub nodes : nodes_of r.seats.items ≡ map (λ (o : Opened). o.node) b.opened
+  pub apart : Apart (nodes_of r.seats.items)
+  pub seats : Every (λ (s : Seat). Lives b s (w.life s.node)) r.seats.items
+  pub known : (n : NodeId) → (w.flags n).known ≡ is_among (nodes_of r.seats.items) n
+  pub sent : all_posted r.letters.items ≡ sent_by w
+  pub last : r.last ≡ w.last
+
+-- all that the cores are given is in range
+pub record IsFit (r : Replay) : Type 0 where
+  pub seats : Every IsSound r.seats.items
+  pub letters : AreLetters r.letters.items
+  pub start : r.start ≤ 2 ^ 63
+  pub last : IfSome r.last (λ moment. moment ≤ 2 ^ 63)

@@ -1,0 +1,12 @@
+//! The durable logs that a run left, read off its trace: the trace is carried out again with the cores
+//! of repositories, over histories in memory, and of brokers.
+#![tactic(auto)]
+
+mod cores;
+mod letters;
+mod marks;
+mod ranges;
+mod replays;
+mod seats;
+
+pub use replays::logs;
