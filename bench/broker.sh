@@ -1,24 +1,20 @@
 #!/usr/bin/env bash
 # Times a broker that carries out acts, each request answered at once, and then opens its log again:
 # 100, 1,000 and 10,000 acts of one write, and one act of 100, 1,000 and 9,980 writes. Each line is the
-# best of five runs, the start of the program included, and what that is for each message that the
-# broker takes. The proved program is built first.
+# processor time of a run, as the mean of twenty, the start of the program included, and what that is
+# for each message that the broker takes. The proved program is built first.
 top="$(cd "$(dirname "${BASH_SOURCE[0]}")/.." && pwd)" || exit 1
 cd "$top/crates/broker_bench" || exit 1
 rt run -- 3 1 1 >&2 || exit 1
 
-# Microseconds of the best of five runs with so many acts, each of so many times so many writes.
+# Microseconds of the processor for a run with so many acts, each of so many times so many writes.
 microseconds() {
-  local best=0 begin took
-  for _ in 1 2 3 4 5; do
-    begin=$(date +%s%N)
+  local TIMEFORMAT='%3U %3S' spent user system
+  spent=$({ time for _ in {1..20}; do
     out/broker_bench "$1" "$2" "$3" > /dev/null || exit 1
-    took=$((($(date +%s%N) - begin) / 1000))
-    if [ "$best" -eq 0 ] || [ "$took" -lt "$best" ]; then
-      best=$took
-    fi
-  done
-  echo "$best"
+  done; } 2>&1)
+  read -r user system <<< "$spent"
+  echo $(((10#${user/./} + 10#${system/./}) * 50))
 }
 
 # A broker takes a Begun and a Decided for each act, and a Stored for each write.
