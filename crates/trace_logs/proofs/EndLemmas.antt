@@ -22,8 +22,8 @@ pub seats-more : (b : Base) (start : ℕ) (opened : List Opened) (i : ℕ) (o : 
 seats-more b start opened i o s old new lt at h e l n =
     subst (λ z. AreAt b start z new) (ap (λ x. take i opened ++ x ∷ []) at ∙ sym (take_more opened i o lt)) (subst (AreAt b start (take i opened ++ o ∷ [])) (sym n) (at-more b start (take i opened) old o s h e l))
 
-pub sound-more : (P : Seat → Type 0) (s : Seat) (old new : List Seat) → Every P old → P s → new ≡ old ++ s ∷ [] → Every P new
-sound-more P s old new h p n = subst (Every P) (sym n) (every-append P old (s ∷ []) h (p, tt))
+pub every-more : {X : Type 0} (P : X → Type 0) (x : X) (old new : List X) → Every P old → P x → new ≡ old ++ x ∷ [] → Every P new
+every-more P x old new h p n = subst (Every P) (sym n) (every-append P old (x ∷ []) h (p, tt))
 
 pub starts : (b : Base) (r : Replay) → IsOnce b.opened → b.run ≡ r.run → b.start ≡ r.start → AreAt b b.start b.opened r.seats.items → r.letters.items ≡ [] → r.last ≡ None → Shows b (start_world b) r
 starts b r once run start at letters last =

@@ -6,3 +6,5 @@ pub mod OpenedLemmas
 pub mod PlaceLemmas
 pub mod SeatLemmas
 pub mod WalkLemmas
+pub mod RefusedTraces
+pub mod WorkedTraces

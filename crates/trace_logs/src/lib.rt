@@ -10,3 +10,6 @@ mod replays;
 mod seats;
 
 pub use replays::logs;
+
+#[cfg(test)]
+mod tests;
