@@ -1,5 +1,6 @@
 pub mod FillingLemmas
 pub mod LogLemmas
+pub mod RangeLemmas
 pub mod ReadBackLemmas
 pub mod LaidLemmas
 pub mod GrownLemmas

@@ -1,8 +1,9 @@
-ghost use Rattle.std.specs.Prelude.{◌≡◌, ◌+◌, ◌<◌, ◌≤◌, List, ℕ, length, Some, None, IfOk, IfSome, OnOk, MatchOption, MatchBool};
+ghost use Rattle.std.specs.Prelude.{◌≡◌, ◌+◌, ◌<◌, ◌≤◌, List, ℕ, length, All, Some, None, IfOk, IfSome, OnOk, MatchOption, MatchBool};
 ghost use Rattle.std.specs.Option.{option_map};
 ghost use Rattle.effect_form.specs.Effects.{IsPlace, effect_at};
 ghost use Rattle.page_gate.specs.States.{is_blank};
 ghost use Rattle.version_store.specs.Entries.{Log};
+ghost use Rattle.version_store.specs.Filling.{HasBytes};
 ghost use Rattle.version_store.specs.Heads.{AreBelow, ArePlaces, Stands};
 ghost use Rattle.version_store.specs.Storage.{admitted, log_at, log_with, place_before, texts_of};
 
@@ -52,6 +53,7 @@ fn add_effect<'a>(
     ensures less { IfOk result (λ o. MatchOption o (Unit {0}) (λ rest. length rest.now ≤ length bytes.now)) }
     ensures places { OnOk result (ArePlaces heads.new) }
     ensures below { (limit : ℕ) → place.page < limit → AreBelow limit heads.old → OnOk result (AreBelow limit heads.new) }
+    ensures ranges { All HasBytes effects.old.items → OnOk result (All HasBytes effects.new.items) }
 {
     match read(alloc, bytes) {
         Err(EffectFault::Form { .. }) => Ok(None),
@@ -81,6 +83,7 @@ fn add_effects(
     ensures found { (log : Log) → Stands heads.old effects.old.items log → IfOk result (λ b. MatchBool b ((more : Log) × (log_at (length texts.now) log page (4 + length texts.now) texts.now ≡ Some more) × Stands heads.new effects.new.items more) (log_at (length texts.now) log page (4 + length texts.now) texts.now ≡ None)) }
     ensures places { OnOk result (ArePlaces heads.new) }
     ensures below { (limit : ℕ) → page < limit → AreBelow limit heads.old → OnOk result (AreBelow limit heads.new) }
+    ensures ranges { All HasBytes effects.old.items → OnOk result (All HasBytes effects.new.items) }
 {
     let end = 4 + texts.len();
     let mut rest = texts;
@@ -113,6 +116,7 @@ pub fn add_page(
     ensures found { (log : Log) → Stands heads.old effects.old.items log → IfOk result (λ b. MatchBool b ((more : Log) × (log_with log page (texts_of body.now) ≡ Some more) × Stands heads.new effects.new.items more) (log_with log page (texts_of body.now) ≡ None)) }
     ensures places { OnOk result (ArePlaces heads.new) }
     ensures below { (limit : ℕ) → page < limit → AreBelow limit heads.old → OnOk result (AreBelow limit heads.new) }
+    ensures ranges { All HasBytes effects.old.items → OnOk result (All HasBytes effects.new.items) }
 {
     match texts_in(body) {
         None => Ok(false),

@@ -79,6 +79,9 @@ impl<M: Medium> Store<M> {
         ensures images { IsTrue M.tells → NoMore (M.may_leave medium) (M.may_leave (opened result)) }
         ensures any_moment { IsTrue M.tells → LeavesOnly M.moment M.left_since medium (opened result) (M.may_leave medium) }
 
+        // Over every medium each effect is in its range.
+        ensures ranges { IfOk result (λ r. All HasBytes r.1.items) }
+
         ensures undamaged { IfOk result (λ r. damage_in r.0 ≡ 0) }
         ensures size { M.page_count (opened result) ≡ M.page_count medium }
         ensures state { M.is_failed (opened result) ≡ fails_opening result }

@@ -44,6 +44,7 @@ loop-page-preserved g c = record {
   low = subst (λ (k : ℕ). k ≤ c.loop-page.page + 1) (sym (c.in-Ok-add_state.ensures.next c.if-not-good.false)) (cond_low c.add_state.new.found.ended c.loop-page.found.next (c.loop-page.page + 1) (omega (arith, c.loop-page.invariant.low)));
   places = c.in-Ok-add_state.ensures.places;
   below = c.in-Ok-add_state.ensures.below c.args.pages (omega (arith, c.loop-page-test.true)) c.loop-page.invariant.below;
+  ranges = c.in-Ok-add_state.ensures.ranges c.loop-page.invariant.ranges;
   open_now = c.in-Ok.ensures.failed;
   later = omega (arith, c.loop-page.invariant.later, c.look.ensures.cause.later);
   reads = λ told. c.look.ensures.reads told ∙ c.loop-page.invariant.reads told;

@@ -33,6 +33,7 @@ loop-preserved c = record {
   less = (let fewer = less_at c.in_ok-add_effect.field-0 c.in-Some.after _ c.in-Some.is c.in_ok-add_effect.ensures.less in omega (arith, fewer, c.loop.invariant.less));
   places = c.in_ok-add_effect.ensures.places;
   below = λ limit low below. c.in_ok-add_effect.ensures.below limit low (c.loop.invariant.below limit low below);
+  ranges = λ h. c.in_ok-add_effect.ensures.ranges (c.loop.invariant.ranges h);
   content = λ log was.
       let r = c.loop.rest.now in
       let so_far = c.loop.invariant.content log was in
@@ -42,3 +43,6 @@ loop-preserved c = record {
 
 pub returns-in-None-clause-below : goal.returns-in-None-clause-below
 returns-in-None-clause-below c limit low below = c.in_ok-add_effect.ensures.below limit low (c.loop.invariant.below limit low below)
+
+pub returns-in-None-clause-ranges : goal.returns-in-None-clause-ranges
+returns-in-None-clause-ranges c h = c.in_ok-add_effect.ensures.ranges (c.loop.invariant.ranges h)
