@@ -1,0 +1,52 @@
+-- What parts of a run do to a medium, one after another.
+use Rattle.std.proofs.Common.{◌≡◌, ℕ, ◌≤◌, ◌<◌, Bool, IsTrue, List, [], ◌∷◌, ◌++◌, length, take, drop, refl, sym, ◌∙◌, ap, subst, Ok, Result, Err, arith}
+use Rattle.std.specs.Prelude.{IfErr}
+use Rattle.std.proofs.lemmas.List.{append_assoc, take-append-drop}
+use Rattle.stream_port.specs.Causes.{Rose}
+use Rattle.medium_port.specs.Image.{Image}
+use Rattle.effect_form.specs.declared.effects.Effect.{Effect}
+use Rattle.version_store.specs.Filling.{HasPrefix}
+use Rattle.version_store.specs.Storage.{storage}
+use Rattle.version_store.specs.declared.faults.StoreFault.{StoreFault}
+use Rattle.stored_run.specs.Media.{HasFront, held, Adds, Stops}
+
+pub front-prefix : (log effects : List Effect) (c : Image) → HasPrefix log effects c → HasFront log effects c
+front-prefix log effects c has = record { front = take has.kept effects; rest = drop has.kept effects; whole = take-append-drop has.kept effects; is = has.is }
+
+pub front-more : (log effects more : List Effect) (c : Image) → HasFront log effects c → HasFront log (effects ++ more) c
+front-more log effects more c has = record { front = has.front; rest = has.rest ++ more; whole = sym (append_assoc has.front has.rest more) ∙ ap (λ z. z ++ more) has.whole; is = has.is }
+
+pub front-behind : (log done effects : List Effect) (c : Image) → HasFront (log ++ done) effects c → HasFront log (done ++ effects) c
+front-behind log done effects c has = record {
+  front = done ++ has.front;
+  rest = has.rest;
+  whole = append_assoc done has.front has.rest ∙ ap (λ z. done ++ z) has.whole;
+  is = has.is ∙ ap (λ z. Ok z) (append_assoc log done has.front);
+}
+
+module _ {M : Type 0} (tells : Bool) (reads : M → Image) (may_leave : M → Image → Type 0) (is_failed : M → Bool) (page_count faults : M → ℕ) where
+  pub adds-adds : (a b c : M) (done more : List Effect) → Adds tells reads is_failed page_count faults a b done → Adds tells reads is_failed page_count faults b c more → Adds tells reads is_failed page_count faults a c (done ++ more)
+  adds-adds a b c done more first second = record {
+    log = λ told. second.log told ∙ ap (λ z. z ++ more) (first.log told) ∙ append_assoc (held reads a) done more;
+    works = second.works;
+    size = second.size ∙ first.size;
+    later = omega (arith, first.later, second.later);
+  }
+
+  pub adds-stops : (a b c : M) (cause : StoreFault) (done more : List Effect) → Adds tells reads is_failed page_count faults a b done → Stops tells reads may_leave page_count faults b c cause more → Stops tells reads may_leave page_count faults a c cause (done ++ more)
+  adds-stops a b c cause done more first second = record {
+    images = λ told i left. front-behind (held reads a) done more i (subst (λ z. HasFront z more i) (first.log told) (second.images told i left));
+    size = second.size ∙ first.size;
+    later = omega (arith, first.later, second.later);
+    failed = λ is. let rose = second.failed is in omega (arith, first.later, rose);
+    full = λ pages is. second.full pages is ∙ first.size;
+  }
+
+  pub stops-more : (a b : M) (cause : StoreFault) (done more : List Effect) → Stops tells reads may_leave page_count faults a b cause done → Stops tells reads may_leave page_count faults a b cause (done ++ more)
+  stops-more a b cause done more first = record {
+    images = λ told i left. front-more (held reads a) done more i (first.images told i left);
+    size = first.size;
+    later = first.later;
+    failed = first.failed;
+    full = first.full;
+  }

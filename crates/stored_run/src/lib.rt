@@ -1,0 +1,5 @@
+//! Acts carried out one after another over a log on a medium.
+#![tactic(auto)]
+
+mod appends;
+mod requests;
