@@ -6,3 +6,8 @@ pub mod ResultLemmas
 pub mod MediaLemmas
 pub mod GrowthLemmas
 pub mod RequestLemmas
+pub mod AttemptLemmas
+pub mod EndLemmas
+pub mod ActLemmas
+pub mod KeepLemmas
+pub mod WithdrawLemmas

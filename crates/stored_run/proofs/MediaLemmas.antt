@@ -1,5 +1,5 @@
 -- What parts of a run do to a medium, one after another.
-use Rattle.std.proofs.Common.{◌≡◌, ℕ, ◌≤◌, ◌<◌, Bool, IsTrue, List, [], ◌∷◌, ◌++◌, length, take, drop, refl, sym, ◌∙◌, ap, subst, Ok, Result, Err, arith}
+use Rattle.std.proofs.Common.{◌≡◌, ℕ, ◌≤◌, ◌<◌, Bool, IsTrue, List, [], ◌∷◌, ◌++◌, length, take, drop, refl, sym, ◌∙◌, ap, subst, Ok, Result, Err, ◌⊎◌, inl, inr, arith}
 use Rattle.std.specs.Prelude.{IfErr}
 use Rattle.std.proofs.lemmas.List.{append_assoc, take-append-drop}
 use Rattle.stream_port.specs.Causes.{Rose}
@@ -8,6 +8,7 @@ use Rattle.effect_form.specs.declared.effects.Effect.{Effect}
 use Rattle.version_store.specs.Filling.{HasPrefix}
 use Rattle.version_store.specs.Storage.{storage}
 use Rattle.version_store.specs.declared.faults.StoreFault.{StoreFault}
+use Rattle.version_store.specs.declared.faults.StoreFault.TheVariants.{Medium, Full, NoMemory}
 use Rattle.stored_run.specs.Media.{HasFront, held, Adds, Stops}
 
 pub front-prefix : (log effects : List Effect) (c : Image) → HasPrefix log effects c → HasFront log effects c
@@ -50,3 +51,14 @@ module _ {M : Type 0} (tells : Bool) (reads : M → Image) (may_leave : M → Im
     failed = first.failed;
     full = first.full;
   }
+
+  -- want of memory may take the place of another cause
+  pub stops-for : (a b c : M) (cause other : StoreFault) (effects : List Effect) → Stops tells reads may_leave page_count faults a b cause effects → c ≡ b → (other ≡ cause) ⊎ (other ≡ NoMemory) → Stops tells reads may_leave page_count faults a c other effects
+  stops-for a b c cause other effects stops same (inl is) = subst (λ z. Stops tells reads may_leave page_count faults a z other effects) (sym same) (subst (λ z. Stops tells reads may_leave page_count faults a b z effects) (sym is) stops)
+  stops-for a b c cause other effects stops same (inr is) = subst (λ z. Stops tells reads may_leave page_count faults a z other effects) (sym same) (record {
+    images = stops.images;
+    size = stops.size;
+    later = stops.later;
+    failed = λ e. absurd (let k : Medium ≡ NoMemory = sym e ∙ is in cc);
+    full = λ pages e. absurd (let k : Full pages ≡ NoMemory = sym e ∙ is in cc);
+  })

@@ -1,5 +1,6 @@
 pub mod Logs
 pub mod Kept
+pub mod Keeping
 pub mod Standing
 pub mod Growth
 pub mod Runs

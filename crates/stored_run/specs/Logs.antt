@@ -1,5 +1,5 @@
 -- What a log tells the run that goes on from it. Logs stand newest first here.
-use Rattle.std.specs.Prelude.{ℕ, max, false, List, [], ◌∷◌, if◌then◌else◌}
+use Rattle.std.specs.Prelude.{ℕ, max, false, List, [], ◌∷◌, Option, Some, None, if◌then◌else◌}
 use Rattle.std.specs.BTreeSet.{insert_key}
 use Rattle.pseudo_time.specs.StampParts.{StampParts, stamp_cmp}
 use Rattle.pseudo_time.specs.declared.decisions.Decision.TheVariants.{Withdrawn}
@@ -28,20 +28,33 @@ abbrev pub last_clock : List Effect → ℕ
 last_clock [] = 0
 last_clock (e ∷ l) = max (last_clock l) (clock_of e)
 
+-- the attempt that an effect begins or writes for
+abbrev pub starter_of : Effect → Option StampParts
+starter_of (Begin s d) = Some s
+starter_of (Put o x v) = Some x.stamp
+starter_of (Stretch o x) = None
+starter_of (Decide s d) = None
+starter_of (Learn s c) = None
+starter_of (Run n) = None
+starter_of (Act i h t n c b) = None
+starter_of (Try i s) = None
+starter_of (Got k v) = None
+starter_of (Acked k) = None
+starter_of (End i e) = None
+
+abbrev pub with_starter : Option StampParts → List StampParts → List StampParts
+with_starter None ss = ss
+with_starter (Some s) ss = insert_key stamp_cmp ss s
+
 -- the attempts with a Begin or a Put in the log, in the order of their stamps
 abbrev pub starters : List Effect → List StampParts
 starters [] = []
-starters (Begin s d ∷ l) = insert_key stamp_cmp (starters l) s
-starters (Put o x v ∷ l) = insert_key stamp_cmp (starters l) x.stamp
-starters (Stretch o x ∷ l) = starters l
-starters (Decide s d ∷ l) = starters l
-starters (Learn s c ∷ l) = starters l
-starters (Run n ∷ l) = starters l
-starters (Act i h t n c b ∷ l) = starters l
-starters (Try i s ∷ l) = starters l
-starters (Got k v ∷ l) = starters l
-starters (Acked k ∷ l) = starters l
-starters (End i e ∷ l) = starters l
+starters (e ∷ l) = with_starter (starter_of e) (starters l)
+
+-- the log's marks with one more, if it is one
+abbrev pub with_mark : Option Mark → List Mark → List Mark
+with_mark None m = m
+with_mark (Some f) m = f ∷ m
 
 -- those of these attempts that the marks don't settle are withdrawn, in their order
 abbrev pub withdrawn : List Mark → List StampParts → List Effect

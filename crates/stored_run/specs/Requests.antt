@@ -56,3 +56,14 @@ pub record IsOver (s : StampParts) (n : ℕ) (run : Told) (marks : List Mark) (w
   pub is_alone : perform (block run.script) (kept_map marks) ≡ record { stop = Over ending; lines = lines; world = overlaid writes (kept_map marks) }
   pub comes : (from : Grown) (es : List Effect) → ComesTo s run from (grown_to n marks es) → with_lines s from lines ≡ grown_to n marks es
   pub shows : Shows run lines (kept_map marks)
+
+-- the requests were answered to the script's end, which added these effects
+pub record IsEnded (s : StampParts) (run : Told) (marks new_marks : List Mark) (writes : Objects) (ending : Ending) (lines : List Line) (effects : List Effect) : Type 0 where
+  pub steps : ℕ
+  pub lone : IsLone s steps new_marks writes (kept_map marks)
+  pub is_alone : perform (block run.script) (kept_map marks) ≡ record { stop = Over ending; lines = lines; world = overlaid writes (kept_map marks) }
+  pub comes : (from : Grown) (es : List Effect) → ComesTo s run from (grown_to 1 marks es) → with_lines s from lines ≡ grown_to steps new_marks (es ++ effects)
+
+-- some answers have led to this transcript
+abbrev pub ShowsSome : Told → List Line → Objects → Type 0
+ShowsSome run lines objects = (now : Told) × (now.script ≡ run.script) × Shows now lines objects

@@ -51,8 +51,8 @@ abbrev pub script_of : ActSpec → Block
 script_of act = block act.script.lines
 
 -- what its script does alone over the objects
-abbrev pub alone : ActSpec → Stand → Came Objects
-alone act st = perform (script_of act) st.objects
+abbrev pub alone : ActSpec → Objects → Came Objects
+alone act objects = perform (script_of act) objects
 
 -- the clock behind the greatest, if it is one
 abbrev pub next_of : ℕ → Option ℕ
@@ -61,13 +61,9 @@ next_of last = if nat_lt last 1099511627775 then Some (last + 1) else None
 abbrev pub stamp_of : ActSpec → ℕ → StampParts
 stamp_of act clock = record { clock = clock; broker = act.broker; home = act.home }
 
--- its attempt begins with the timeout as deadline
-abbrev pub begun : ActSpec → StampParts → Stand → Grown
-begun act s st = grown_to 1 st.marks (Begin s act.timeout ∷ [])
-
--- and comes so far with these lines
-abbrev pub grown : ActSpec → StampParts → Stand → List Line → Grown
-grown act s st lines = with_lines s (begun act s st) lines
+-- what a script that is tried alone makes of the log, with this effect for its beginning
+abbrev pub grown_with : StampParts → Block → Effect → List Mark → Objects → Grown
+grown_with s script first before objects = with_lines s (grown_to 1 before (first ∷ [])) (perform script objects).lines
 
 -- only a script that finishes is committed
 abbrev pub outcome_of : Stop → TryOutcome
@@ -86,14 +82,21 @@ abbrev pub decision_of : Bool → Decision
 decision_of true = decision.Committed
 decision_of false = decision.Withdrawn
 
--- the attempt's effects, in order
-abbrev pub attempted : ActSpec → StampParts → Stand → List Effect
-attempted act s st = (grown act s st (alone act st).lines).effects ++ Decide s (decision_of (is_finished (alone act st).stop)) ∷ []
+-- its effects, in order: at last it is decided
+abbrev pub effects_with : StampParts → Block → Effect → List Mark → Objects → List Effect
+effects_with s script first before objects = (grown_with s script first before objects).effects ++ Decide s (decision_of (is_finished (perform script objects).stop)) ∷ []
+
+-- an act's attempt begins with the timeout as deadline
+abbrev pub grown : ActSpec → StampParts → List Mark → Objects → Grown
+grown act s before objects = grown_with s (script_of act) (Begin s act.timeout) before objects
+
+abbrev pub attempted : ActSpec → StampParts → List Mark → Objects → List Effect
+attempted act s before objects = effects_with s (script_of act) (Begin s act.timeout) before objects
 
 -- how the run stands after it
 abbrev pub settled : ActSpec → StampParts → Stand → Stand
 settled act s st = record {
-  marks = mark.Settle s (is_finished (alone act st).stop) ∷ (grown act s st (alone act st).lines).marks;
+  marks = mark.Settle s (is_finished (alone act st.objects).stop) ∷ (grown act s st.marks st.objects).marks;
   clock = s.clock;
   objects = deed (script_of act) st.objects;
 }
@@ -105,7 +108,7 @@ abbrev pub try_of : StampParts → TryOutcome → List Line → TryReport
 try_of s ended lines = record { stamp = s; outcome = ended; lines = lines }
 
 abbrev pub tried : ActSpec → StampParts → Stand → ActReport
-tried act s st = report_with act (try_of s (outcome_of (alone act st).stop) (alone act st).lines ∷ []) None
+tried act s st = report_with act (try_of s (outcome_of (alone act st.objects).stop) (alone act st.objects).lines ∷ []) None
 
 -- where no clock is left the act is spent: it has no attempt, and nothing is added
 abbrev pub report_by : Option ℕ → ActSpec → Stand → ActReport
@@ -114,7 +117,7 @@ report_by (Some clock) act st = tried act (stamp_of act clock) st
 
 abbrev pub effects_by : Option ℕ → ActSpec → Stand → List Effect
 effects_by None act st = []
-effects_by (Some clock) act st = attempted act (stamp_of act clock) st
+effects_by (Some clock) act st = attempted act (stamp_of act clock) st.marks st.objects
 
 abbrev pub after_by : Option ℕ → ActSpec → Stand → Stand
 after_by None act st = st
@@ -156,10 +159,10 @@ abbrev pub open_try : ActSpec → StampParts → List Line → ActReport
 open_try act s lines = report_with act (try_of s outcome.Open lines ∷ []) None
 
 -- an attempt was at work: it shows a front of what its script does alone, up to a request that wasn't answered, or all of it where its decision is missing
-pub record IsAtWork (act : ActSpec) (s : StampParts) (st : Stand) (lines : List Line) : Type 0 where
+pub record IsAtWork (act : ActSpec) (objects : Objects) (lines : List Line) : Type 0 where
   pub answers : List Answer
   pub talked : (talk (script_of act) answers).lines ≡ lines
-  pub front : IsFrontOf lines (alone act st).lines
+  pub front : IsFrontOf lines (alone act objects).lines
 
 -- the acts before one were carried out, its attempt was at work, and those behind it have no try
 pub record IsStopped (acts : List ActSpec) (st : Stand) (reports : List ActReport) (objects : Objects) : Type 0 where
@@ -170,6 +173,6 @@ pub record IsStopped (acts : List ActSpec) (st : Stand) (reports : List ActRepor
   pub clock : ℕ
   pub is_next : next_of (left_by before st).clock ≡ Some clock
   pub lines : List Line
-  pub at_work : IsAtWork act (stamp_of act clock) (left_by before st) lines
+  pub at_work : IsAtWork act (left_by before st).objects lines
   pub shown : reports ≡ reports_of before st ++ open_try act (stamp_of act clock) lines ∷ map untried behind
   pub left : objects ≡ (left_by before st).objects

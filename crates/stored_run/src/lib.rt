@@ -2,4 +2,8 @@
 #![tactic(auto)]
 
 mod appends;
+mod attempts;
+mod keeping;
+mod logs;
+mod openings;
 mod requests;
