@@ -11,3 +11,5 @@ pub mod EndLemmas
 pub mod ActLemmas
 pub mod KeepLemmas
 pub mod WithdrawLemmas
+pub mod TriedLemmas
+pub mod RunLemmas

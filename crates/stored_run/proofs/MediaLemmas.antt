@@ -1,7 +1,7 @@
 -- What parts of a run do to a medium, one after another.
 use Rattle.std.proofs.Common.{◌≡◌, ℕ, ◌≤◌, ◌<◌, Bool, IsTrue, List, [], ◌∷◌, ◌++◌, length, take, drop, refl, sym, ◌∙◌, ap, subst, Ok, Result, Err, ◌⊎◌, inl, inr, arith}
 use Rattle.std.specs.Prelude.{IfErr}
-use Rattle.std.proofs.lemmas.List.{append_assoc, take-append-drop}
+use Rattle.std.proofs.lemmas.List.{append_assoc, append-nil, take-append-drop}
 use Rattle.stream_port.specs.Causes.{Rose}
 use Rattle.medium_port.specs.Image.{Image}
 use Rattle.effect_form.specs.declared.effects.Effect.{Effect}
@@ -62,3 +62,7 @@ module _ {M : Type 0} (tells : Bool) (reads : M → Image) (may_leave : M → Im
     failed = λ e. absurd (let k : Medium ≡ NoMemory = sym e ∙ is in cc);
     full = λ pages e. absurd (let k : Full pages ≡ NoMemory = sym e ∙ is in cc);
   })
+
+  -- it stops behind the last of them
+  pub adds-stop : (a b c : M) (cause : StoreFault) (done : List Effect) → Adds tells reads is_failed page_count faults a b done → Stops tells reads may_leave page_count faults b c cause [] → Stops tells reads may_leave page_count faults a c cause done
+  adds-stop a b c cause done first second = subst (λ z. Stops tells reads may_leave page_count faults a c cause z) (append-nil done) (adds-stops a b c cause done [] first second)

@@ -33,6 +33,9 @@ pub record Stand : Type 0 where
   pub clock : ℕ
   pub objects : Objects
 
+abbrev pub stand_of : List Mark → ℕ → Objects → Stand
+stand_of before clock objects = record { marks = before; clock = clock; objects = objects }
+
 -- over a log, oldest first: what isn't settled is withdrawn, and the objects have what its committed puts left
 abbrev pub opened : List Effect → Stand
 opened effects = record {
@@ -164,15 +167,19 @@ pub record IsAtWork (act : ActSpec) (objects : Objects) (lines : List Line) : Ty
   pub talked : (talk (script_of act) answers).lines ≡ lines
   pub front : IsFrontOf lines (alone act objects).lines
 
--- the acts before one were carried out, its attempt was at work, and those behind it have no try
-pub record IsStopped (acts : List ActSpec) (st : Stand) (reports : List ActReport) (objects : Objects) : Type 0 where
+-- it stopped with this attempt at work
+pub record IsHaltedIn (act : ActSpec) (st : Stand) (s : StampParts) (lines : List Line) (objects : Objects) : Type 0 where
+  pub clock : ℕ
+  pub is_next : next_of st.clock ≡ Some clock
+  pub stamp_is : s ≡ stamp_of act clock
+  pub at_work : IsAtWork act st.objects lines
+  pub left : objects ≡ st.objects
+
+-- the acts before one were carried out, and it stopped in that one
+pub record IsHalted (acts : List ActSpec) (st : Stand) (reports : List ActReport) (s : StampParts) (lines : List Line) (objects : Objects) : Type 0 where
   pub before : List ActSpec
   pub act : ActSpec
   pub behind : List ActSpec
   pub are : acts ≡ before ++ act ∷ behind
-  pub clock : ℕ
-  pub is_next : next_of (left_by before st).clock ≡ Some clock
-  pub lines : List Line
-  pub at_work : IsAtWork act (left_by before st).objects lines
-  pub shown : reports ≡ reports_of before st ++ open_try act (stamp_of act clock) lines ∷ map untried behind
-  pub left : objects ≡ (left_by before st).objects
+  pub shown : reports ≡ reports_of before st
+  pub halted : IsHaltedIn act (left_by before st) s lines objects
