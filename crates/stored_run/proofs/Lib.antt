@@ -13,3 +13,4 @@ pub mod KeepLemmas
 pub mod WithdrawLemmas
 pub mod TriedLemmas
 pub mod RunLemmas
+pub mod LogLemmas

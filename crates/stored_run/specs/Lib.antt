@@ -7,3 +7,4 @@ pub mod Runs
 pub mod Media
 pub mod Ready
 pub mod Requests
+pub mod Unready

@@ -168,15 +168,15 @@ pub record IsAtWork (act : ActSpec) (objects : Objects) (lines : List Line) : Ty
   pub front : IsFrontOf lines (alone act objects).lines
 
 -- it stopped with this attempt at work
-pub record IsHaltedIn (act : ActSpec) (st : Stand) (s : StampParts) (lines : List Line) (objects : Objects) : Type 0 where
+pub record IsHaltedIn (act : ActSpec) (st : Stand) (s : Option StampParts) (lines : List Line) (objects : Objects) : Type 0 where
   pub clock : ℕ
   pub is_next : next_of st.clock ≡ Some clock
-  pub stamp_is : s ≡ stamp_of act clock
+  pub stamp_is : s ≡ Some (stamp_of act clock)
   pub at_work : IsAtWork act st.objects lines
   pub left : objects ≡ st.objects
 
 -- the acts before one were carried out, and it stopped in that one
-pub record IsHalted (acts : List ActSpec) (st : Stand) (reports : List ActReport) (s : StampParts) (lines : List Line) (objects : Objects) : Type 0 where
+pub record IsHalted (acts : List ActSpec) (st : Stand) (reports : List ActReport) (s : Option StampParts) (lines : List Line) (objects : Objects) : Type 0 where
   pub before : List ActSpec
   pub act : ActSpec
   pub behind : List ActSpec

@@ -1,4 +1,4 @@
-ghost use Rattle.std.specs.Prelude.{◌≡◌, ◌≢◌, ◌++◌, ◌⊎◌, [], ◌∷◌, ◌<◌, List, ℕ, Some, None, false, IfOk, IfErr, IfSome, ◌≤◌, ◌^◌};
+ghost use Rattle.std.specs.Prelude.{◌≡◌, ◌≢◌, ◌++◌, ◌⊎◌, [], ◌∷◌, ◌<◌, List, ℕ, Some, None, false, OnOk, IfOk, IfErr, IfSome, ◌≤◌, ◌^◌};
 ghost use Rattle.pseudo_time.specs.Lists.{Every};
 ghost use Rattle.script_meaning.specs.Meaning.{Over};
 ghost use Rattle.value_form.specs.declared.acts.ActSpec.{ActSpec};
@@ -111,8 +111,8 @@ fn left_of(
 pub struct Halted<M: Medium> {
     pub medium: M,
     pub fault: StoreFault,
-    /// Its attempt, and what that shows, unless memory is wanting.
-    pub stamp: Stamp,
+    /// Its attempt, and what that shows; none where memory is wanting.
+    pub stamp: Option<Stamp>,
     pub lines: Items<Line>,
     /// What the committed acts before it left, unless memory is wanting.
     pub objects: ObjectMap,
@@ -155,7 +155,7 @@ fn tried<M: Medium>(
     ensures quiet { IfOk result (λ r. IsQuiet r.0.clock r.0.histories r.0.objects) }
     ensures adds { IfOk result (λ r. Adds M.tells M.reads M.is_failed M.page_count M.faults (medium_of repository.store) (medium_of r.0.store) (spec.attempted act.now stamp repository.histories repository.objects)) }
     ensures stops { IfErr result (λ h. Stops M.tells M.reads M.may_leave M.page_count M.faults (medium_of repository.store) h.medium h.fault (spec.attempted act.now stamp repository.histories repository.objects)) }
-    ensures at_work { IfErr result (λ h. h.fault ≢ StoreFault.NoMemory → spec.IsAtWork act.now repository.objects h.lines × (h.stamp ≡ stamp) × (h.objects ≡ repository.objects)) }
+    ensures at_work { IfErr result (λ h. h.fault ≢ StoreFault.NoMemory → spec.IsAtWork act.now repository.objects h.lines × (h.stamp ≡ Some stamp) × (h.objects ≡ repository.objects)) }
 {
     let LoneRepository {
         store,
@@ -171,7 +171,7 @@ fn tried<M: Medium>(
         }) => Err(Halted {
             medium,
             fault,
-            stamp,
+            stamp: Some(stamp),
             lines,
             objects,
         }),
@@ -181,7 +181,7 @@ fn tried<M: Medium>(
                 Err(Halted {
                     medium,
                     fault,
-                    stamp,
+                    stamp: None,
                     lines: Items::of(Vec::new(alloc)),
                     objects: ObjectMap::new(alloc),
                 })
@@ -227,4 +227,68 @@ pub fn carried_out<M: Medium>(
             tried(alloc, act, stamp, repository)
         }
     }
+}
+
+// Carries an act out, and adds its report.
+fn next_carried_out<M: Medium>(
+    alloc: Global,
+    act: &ActSpec,
+    repository: LoneRepository<M>,
+    reports: &mut Vec<ActReport>,
+) -> Result<LoneRepository<M>, Halted<M>>
+    requires works { M.is_failed (medium_of repository.store) ≡ false }
+    requires ready { IsReady act.now }
+    requires quiet { IsQuiet repository.clock repository.histories repository.objects }
+    ensures report { OnOk result (reports.new.items ≡ reports.old.items ++ spec.report_of act.now (spec.stand_of repository.histories repository.clock repository.objects) ∷ []) }
+    ensures stand { IfOk result (λ r. spec.stand_of r.histories r.clock r.objects ≡ spec.after act.now (spec.stand_of repository.histories repository.clock repository.objects)) }
+    ensures quiet { IfOk result (λ r. IsQuiet r.clock r.histories r.objects) }
+    ensures adds { IfOk result (λ r. Adds M.tells M.reads M.is_failed M.page_count M.faults (medium_of repository.store) (medium_of r.store) (spec.effects_of act.now (spec.stand_of repository.histories repository.clock repository.objects))) }
+    ensures stops { IfErr result (λ h. Stops M.tells M.reads M.may_leave M.page_count M.faults (medium_of repository.store) h.medium h.fault (spec.effects_of act.now (spec.stand_of repository.histories repository.clock repository.objects))) }
+    ensures halted { IfErr result (λ h. h.fault ≢ StoreFault.NoMemory → (reports.new.items ≡ reports.old.items) × spec.IsHaltedIn act.now (spec.stand_of repository.histories repository.clock repository.objects) h.stamp h.lines h.objects) }
+{
+    match carried_out(alloc, act, repository) {
+        Err(halted) => Err(halted),
+        Ok((after, report)) => match reports.push(report) {
+            Err(_) => {
+                let (medium, fault) = given_up(after.store);
+                Err(Halted {
+                    medium,
+                    fault,
+                    lines: Items::of(Vec::new(alloc)),
+                    stamp: None,
+                    objects: ObjectMap::new(alloc),
+                })
+            }
+            Ok(()) => Ok(after),
+        },
+    }
+}
+
+/// Carries the acts out, one after another, and adds their reports. It stops in the act in which the
+/// medium does.
+pub fn all_carried_out<M: Medium>(
+    alloc: Global,
+    acts: &[ActSpec],
+    repository: LoneRepository<M>,
+    reports: &mut Vec<ActReport>,
+) -> Result<LoneRepository<M>, Halted<M>>
+    requires works { M.is_failed (medium_of repository.store) ≡ false }
+    requires ready { AreReady acts.now }
+    requires quiet { IsQuiet repository.clock repository.histories repository.objects }
+    requires none { reports.old.items ≡ [] }
+    ensures reports { OnOk result (reports.new.items ≡ spec.reports_of acts.now (spec.stand_of repository.histories repository.clock repository.objects)) }
+    ensures stand { IfOk result (λ r. spec.stand_of r.histories r.clock r.objects ≡ spec.left_by acts.now (spec.stand_of repository.histories repository.clock repository.objects)) }
+    ensures quiet { IfOk result (λ r. IsQuiet r.clock r.histories r.objects) }
+    ensures adds { IfOk result (λ r. Adds M.tells M.reads M.is_failed M.page_count M.faults (medium_of repository.store) (medium_of r.store) (spec.added acts.now (spec.stand_of repository.histories repository.clock repository.objects))) }
+    ensures stops { IfErr result (λ h. Stops M.tells M.reads M.may_leave M.page_count M.faults (medium_of repository.store) h.medium h.fault (spec.added acts.now (spec.stand_of repository.histories repository.clock repository.objects))) }
+    ensures halted { IfErr result (λ h. h.fault ≢ StoreFault.NoMemory → spec.IsHalted acts.now (spec.stand_of repository.histories repository.clock repository.objects) reports.new.items h.stamp h.lines h.objects) }
+{
+    let mut repository = repository;
+    for act in acts {
+        match next_carried_out(alloc, act, repository, reports) {
+            Err(halted) => return Err(halted),
+            Ok(after) => repository = after,
+        }
+    }
+    Ok(repository)
 }
