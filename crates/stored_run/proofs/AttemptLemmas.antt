@@ -53,9 +53,11 @@ went-shows s i old mid h m w effects lines went shows = (mid, went.script, subst
 
 pub went-next : (s : StampParts) (i : ℕ) (old mid : Told) (h m : List Mark) (w : Objects) (effects more : List Effect) → Went s i old mid h m w effects → AreNext s (i + 1) mid m more → AreNext s 1 old h (effects ++ more)
 went-next s i old mid h m w effects more went next from es is =
-    let on = next from (es ++ effects) (went.comes from es is) in
-    (on.0, ap (λ z. (with_lines s from (perform (block z) (kept_map h)).lines).effects) (sym went.script)
-    ∙ ap (λ z. (with_lines s from (perform (block mid.script) z).lines).effects) (sym went.kept) ∙ on.1 ∙ ap (λ z. z ++ on.0) (append_assoc es effects more))
+    let on = next from (es ++ effects) (went.comes from es is) in (
+      on.0,
+      ap (λ z. (with_lines s from (perform (block z) (kept_map h)).lines).effects) (sym went.script)
+          ∙ ap (λ z. (with_lines s from (perform (block mid.script) z).lines).effects) (sym went.kept) ∙ on.1 ∙ ap (λ z. z ++ on.0) (append_assoc es effects more),
+    )
 
 pub went-few : (s : StampParts) (i : ℕ) (old mid : Told) (h m : List Mark) (w : Objects) (effects : List Effect) → Went s i old mid h m w effects → 10001 ≤ i → ⊥
 went-few s i old mid h m w effects went many = no_more_requests mid w (kept_map m) went.going.stands (let count = went.going.count in omega arith)

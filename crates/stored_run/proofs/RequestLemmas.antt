@@ -72,10 +72,11 @@ pub next_stretch : (s : StampParts) (n : ℕ) (run : Told) (h : List Mark) (w : 
 next_stretch s n run h w lines nx o t going tells is at from es comes =
     let front = next-read (denote (block run.script)) run.answers (kept_map h) o going.stands.agrees (asks_so run lines nx tells ∙ ap stop_of is) in
     let l = line.Read o (value_at (left_so run h) o) in
-    let more = lines-more s (with_line s (grown_to n h es) l) front.0 in
-    (more.0,
-    ap (λ z. z.effects) (behind s from n h es (lines_so_far run) _ (l ∷ front.0) comes (lines-alone (block run.script) (kept_map h) ∙ sym front.1)) ∙ more.1
-    ∙ ap (λ z. (es ++ stretch_if (stretches h o z) o z) ++ more.0) (sym at))
+    let more = lines-more s (with_line s (grown_to n h es) l) front.0 in (
+      more.0,
+      ap (λ z. z.effects) (behind s from n h es (lines_so_far run) _ (l ∷ front.0) comes (lines-alone (block run.script) (kept_map h) ∙ sym front.1)) ∙ more.1
+          ∙ ap (λ z. (es ++ stretch_if (stretches h o z) o z) ++ more.0) (sym at),
+    )
   where
     left_so : Told → List Mark → Objects
     left_so r m = Rattle.serial_model.specs.Questions.left_after (denote (block r.script)) r.answers (kept_map m)
@@ -84,10 +85,11 @@ pub next_put : (s : StampParts) (n : ℕ) (run : Told) (h : List Mark) (w : Obje
     → AreNext s n run h (effect.Put o t a ∷ [])
 next_put s n run h w lines nx o a t going tells is at from es comes =
     let front = next-write (denote (block run.script)) run.answers (kept_map h) o a going.stands.agrees (asks_so run lines nx tells ∙ ap stop_of is) in
-    let more = lines-more s (with_line s (grown_to n h es) (line.Wrote o a)) front.0 in
-    (more.0,
-    ap (λ z. z.effects) (behind s from n h es (lines_so_far run) _ (line.Wrote o a ∷ front.0) comes (lines-alone (block run.script) (kept_map h) ∙ sym front.1)) ∙ more.1
-    ∙ ap (λ z. (es ++ effect.Put o z a ∷ []) ++ more.0) (sym at))
+    let more = lines-more s (with_line s (grown_to n h es) (line.Wrote o a)) front.0 in (
+      more.0,
+      ap (λ z. z.effects) (behind s from n h es (lines_so_far run) _ (line.Wrote o a ∷ front.0) comes (lines-alone (block run.script) (kept_map h) ∙ sym front.1)) ∙ more.1
+          ∙ ap (λ z. (es ++ effect.Put o z a ∷ []) ++ more.0) (sym at),
+    )
 
 -- ---- what a request asks of the histories
 

@@ -39,9 +39,9 @@ pub withdrawn-all : (ss : List StampParts) (i : ℕ) (m now next : List Mark) (d
 withdrawn-all ss i m now next done s within is so_far to = record {
   marks_left = ap (λ z. withdrawn_marks z (drop (i + 1) ss)) to ∙ sym (marks-first now s (drop (i + 1) ss)) ∙ ap (withdrawn_marks now) (sym (rest_is ss i s within is)) ∙ so_far.marks_left;
   effects_left =
-    append_assoc done (withdrawn now (s ∷ [])) (withdrawn next (drop (i + 1) ss))
-    ∙ ap (λ z. done ++ (withdrawn now (s ∷ []) ++ withdrawn z (drop (i + 1) ss))) to
-    ∙ ap (λ z. done ++ z) (sym (withdrawn-first now s (drop (i + 1) ss)) ∙ ap (withdrawn now) (sym (rest_is ss i s within is))) ∙ so_far.effects_left;
+      append_assoc done (withdrawn now (s ∷ [])) (withdrawn next (drop (i + 1) ss))
+      ∙ ap (λ z. done ++ (withdrawn now (s ∷ []) ++ withdrawn z (drop (i + 1) ss))) to
+      ∙ ap (λ z. done ++ z) (sym (withdrawn-first now s (drop (i + 1) ss)) ∙ ap (withdrawn now) (sym (rest_is ss i s within is))) ∙ so_far.effects_left;
 }
 
 pub withdrawn-behind : (ss : List StampParts) (i : ℕ) (m now : List Mark) (done : List Effect) (s : StampParts) → i < length ss → s ≡ get_or ss i s → WithdrawnTo ss i m now done

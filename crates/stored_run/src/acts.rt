@@ -164,11 +164,13 @@ fn tried<M: Medium>(
         objects,
     } = repository;
     match attempt(alloc, act, stamp, store, &mut histories) {
-        Err(Broken {
-            medium,
-            fault,
-            lines,
-        }) => Err(Halted {
+        Err(
+            Broken {
+                medium,
+                fault,
+                lines,
+            },
+        ) => Err(Halted {
             medium,
             fault,
             stamp: Some(stamp),

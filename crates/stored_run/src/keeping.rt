@@ -13,11 +13,7 @@ use std::collections::BTreeMap;
 use value_form::{ObjectId, Value};
 
 // Whether nothing of the object starts above this time.
-fn is_above(
-    starts: &BTreeMap<ObjectId, PseudoTime>,
-    object: ObjectId,
-    start: PseudoTime,
-) -> bool
+fn is_above(starts: &BTreeMap<ObjectId, PseudoTime>, object: ObjectId, start: PseudoTime) -> bool
     ensures { result ≡ not_below (get object_cmp starts.now object) start }
 {
     match starts.get(&object) {

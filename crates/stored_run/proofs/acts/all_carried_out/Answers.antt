@@ -30,5 +30,5 @@ loop-act-preserved g c =
       reports = reports-in-act c.args.acts.now c.loop-act.act-index c.act-item.result st here c.loop-act.reports.items c.next_carried_out.new.reports.items c.loop-act-test.true c.act-item.is c.loop-act.invariant.stand c.loop-act.invariant.reports c.in-Ok.ensures.report;
       stand = stand-in-act c.args.acts.now c.loop-act.act-index c.act-item.result st here (stand_of next.histories next.clock next.objects) c.loop-act-test.true c.act-item.is c.loop-act.invariant.stand c.in-Ok.ensures.stand;
       adds = adds-in-act g.M.Medium.tells g.M.Medium.reads g.M.Medium.may_leave g.M.Medium.is_failed g.M.Medium.page_count g.M.Medium.faults (medium_of r.store) (medium_of now.store) (medium_of next.store) c.args.acts.now c.loop-act.act-index c.act-item.result st here
-      c.loop-act-test.true c.act-item.is c.loop-act.invariant.stand c.loop-act.invariant.adds c.in-Ok.ensures.adds;
+          c.loop-act-test.true c.act-item.is c.loop-act.invariant.stand c.loop-act.invariant.adds c.in-Ok.ensures.adds;
     }

@@ -32,11 +32,14 @@ returns-in-Some-clause-shows_all g c =
 pub requests-preserved : goal.requests-preserved
 requests-preserved g c =
     let so_far = c.requests.invariant.1 in
-    let one = c.in-Ok.ensures.goes c.in_default.is in (one.1.works, (
-      so_far.0 ++ one.0,
-      adds-adds g.M.Medium.tells g.M.Medium.reads g.M.Medium.may_leave g.M.Medium.is_failed g.M.Medium.page_count g.M.Medium.faults (medium_of c.args.store) (medium_of c.requests.store) (medium_of c.in-Ok.after) so_far.0 one.0 so_far.1 one.1,
-      went-on c.args.stamp c.requests.request c.args.run.now c.requests.run c.answered.new.run c.args.histories.now c.requests.histories c.answered.new.histories c.requests.writes c.answered.new.writes so_far.0 one.0 so_far.2 one.2,
-    ))
+    let one = c.in-Ok.ensures.goes c.in_default.is in (
+      one.1.works,
+      (
+        so_far.0 ++ one.0,
+        adds-adds g.M.Medium.tells g.M.Medium.reads g.M.Medium.may_leave g.M.Medium.is_failed g.M.Medium.page_count g.M.Medium.faults (medium_of c.args.store) (medium_of c.requests.store) (medium_of c.in-Ok.after) so_far.0 one.0 so_far.1 one.1,
+        went-on c.args.stamp c.requests.request c.args.run.now c.requests.run c.answered.new.run c.args.histories.now c.requests.histories c.answered.new.histories c.requests.writes c.answered.new.writes so_far.0 one.0 so_far.2 one.2,
+      ),
+    )
 
 pub unreachable-requires : goal.unreachable-requires
 unreachable-requires g c = went-few c.args.stamp c.requests.request c.args.run.now c.requests.run c.args.histories.now c.requests.histories c.requests.writes c.requests.invariant.1.0 c.requests.invariant.1.2 c.requests-test.false

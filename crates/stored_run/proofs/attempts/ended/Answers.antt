@@ -16,8 +16,8 @@ returns-in-Err-clause-stops g c first =
       stops.0 ++ all.0,
       all.1,
       stops-for g.M.Medium.tells g.M.Medium.reads g.M.Medium.may_leave g.M.Medium.is_failed g.M.Medium.page_count g.M.Medium.faults (medium_of c.args.store) c.in-Err.refused.0 c.broken_off.result.medium c.in-Err.refused.1 c.broken_off.result.fault (stops.0 ++ all.0)
-      (stops-more g.M.Medium.tells g.M.Medium.reads g.M.Medium.may_leave g.M.Medium.is_failed g.M.Medium.page_count g.M.Medium.faults (medium_of c.args.store) c.in-Err.refused.0 c.in-Err.refused.1 stops.0 all.0 stops.1)
-      c.broken_off.ensures.medium c.broken_off.ensures.fault,
+          (stops-more g.M.Medium.tells g.M.Medium.reads g.M.Medium.may_leave g.M.Medium.is_failed g.M.Medium.page_count g.M.Medium.faults (medium_of c.args.store) c.in-Err.refused.0 c.in-Err.refused.1 stops.0 all.0 stops.1)
+          c.broken_off.ensures.medium c.broken_off.ensures.fault,
     )
 
 pub returns-in-Err-copied-clause-stops : goal.returns-in-Err-copied-clause-stops
@@ -26,8 +26,8 @@ returns-in-Err-copied-clause-stops g c first =
       went.0 ++ decides c.args.stamp c.in-Ok.ending,
       ended-effects c.args.stamp c.args.run c.args.histories.now c.carried_on.new.histories c.carried_on.new.writes c.in-Ok.ending c.carried_on.new.run.lines went.0 first c.requires.begins went.2,
       stops-for g.M.Medium.tells g.M.Medium.reads g.M.Medium.may_leave g.M.Medium.is_failed g.M.Medium.page_count g.M.Medium.faults (medium_of c.args.store) c.given_up.result.0 c.broken_off-in-Err-copied.result.medium c.given_up.result.1 c.broken_off-in-Err-copied.result.fault _
-      (adds-stops g.M.Medium.tells g.M.Medium.reads g.M.Medium.may_leave g.M.Medium.is_failed g.M.Medium.page_count g.M.Medium.faults (medium_of c.args.store) (medium_of c.in-Ok.store) c.given_up.result.0 c.given_up.result.1 went.0 (decides c.args.stamp c.in-Ok.ending) went.1 (c.given_up.ensures.stops (decides c.args.stamp c.in-Ok.ending)))
-      c.broken_off-in-Err-copied.ensures.medium c.broken_off-in-Err-copied.ensures.fault,
+          (adds-stops g.M.Medium.tells g.M.Medium.reads g.M.Medium.may_leave g.M.Medium.is_failed g.M.Medium.page_count g.M.Medium.faults (medium_of c.args.store) (medium_of c.in-Ok.store) c.given_up.result.0 c.given_up.result.1 went.0 (decides c.args.stamp c.in-Ok.ending) went.1 (c.given_up.ensures.stops (decides c.args.stamp c.in-Ok.ending)))
+          c.broken_off-in-Err-copied.ensures.medium c.broken_off-in-Err-copied.ensures.fault,
     )
 
 pub returns-in-Err-decided-clause-stops : goal.returns-in-Err-decided-clause-stops

@@ -19,8 +19,11 @@ returns-in-Err-clause-stops g c =
 pub loop-stamp-preserved : goal.loop-stamp-preserved
 loop-stamp-preserved g c =
     let so_far = c.loop-stamp.invariant.1 in
-    let one = withdrawn c.loop-stamp.histories (c.stamp-item.result ∷ []) in (c.in-Ok.ensures.adds.works, (
-      so_far.0 ++ one,
-      adds-adds g.M.Medium.tells g.M.Medium.reads g.M.Medium.may_leave g.M.Medium.is_failed g.M.Medium.page_count g.M.Medium.faults (medium_of c.args.store) (medium_of c.loop-stamp.store) (medium_of c.in-Ok.after) so_far.0 one so_far.1 c.in-Ok.ensures.adds,
-      withdrawn-all c.args.stamps.now c.loop-stamp.stamp-index c.args.histories.now c.loop-stamp.histories c.withdraw.new.histories so_far.0 c.stamp-item.result c.loop-stamp-test.true c.stamp-item.is so_far.2 c.in-Ok.ensures.marks,
-    ))
+    let one = withdrawn c.loop-stamp.histories (c.stamp-item.result ∷ []) in (
+      c.in-Ok.ensures.adds.works,
+      (
+        so_far.0 ++ one,
+        adds-adds g.M.Medium.tells g.M.Medium.reads g.M.Medium.may_leave g.M.Medium.is_failed g.M.Medium.page_count g.M.Medium.faults (medium_of c.args.store) (medium_of c.loop-stamp.store) (medium_of c.in-Ok.after) so_far.0 one so_far.1 c.in-Ok.ensures.adds,
+        withdrawn-all c.args.stamps.now c.loop-stamp.stamp-index c.args.histories.now c.loop-stamp.histories c.withdraw.new.histories so_far.0 c.stamp-item.result c.loop-stamp-test.true c.stamp-item.is so_far.2 c.in-Ok.ensures.marks,
+      ),
+    )

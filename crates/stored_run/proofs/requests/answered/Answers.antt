@@ -43,8 +43,8 @@ returns-in-Ok-value_at-clause-goes g c = λ none. (
   stretch_if (stretches c.args.histories.now c.in-Read.object c.in-Some.at) c.in-Read.object c.in-Some.at,
   c.in-Ok-value_at.ensures.adds,
   read_goes c.args.stamp c.args.step c.args.run.now c.next.new.self c.give.new.self c.args.histories.now c.value_at.new.histories c.args.writes.now c.in-Read.object c.in-Ok-value_at.value c.in-Ok.next c.in-Some.at c.requires.going
-  c.next.ensures.script c.next.ensures.answers c.in-Ok.ensures.tells c.in-Read.is c.in-Some.ensures.1 c.in-Ok-value_at.ensures.value c.in-Ok-value_at.ensures.bytes c.in-Ok-value_at.ensures.marks
-  (c.give.ensures c.in-Read.object (c.in-Ok.ensures.said ∙ ap (λ z. Some z) c.in-Read.is)),
+      c.next.ensures.script c.next.ensures.answers c.in-Ok.ensures.tells c.in-Read.is c.in-Some.ensures.1 c.in-Ok-value_at.ensures.value c.in-Ok-value_at.ensures.bytes c.in-Ok-value_at.ensures.marks
+      (c.give.ensures c.in-Read.object (c.in-Ok.ensures.said ∙ ap (λ z. Some z) c.in-Read.is)),
 )
 
 pub returns-in-Err-put-clause-stops : goal.returns-in-Err-put-clause-stops
@@ -69,8 +69,8 @@ returns-in-Ok-set-clause-goes g c = λ none. (
   effect.Put c.in-Write.object c.in-Some.at c.in-Write.value ∷ [],
   c.in-Ok-put.ensures.adds,
   write_goes c.args.stamp c.args.step c.args.run.now c.next.new.self c.stored.new.self c.args.histories.now c.put.new.histories c.args.writes.now c.set.new.self c.in-Write.object c.in-Write.value c.in-Ok.next c.in-Some.at c.requires.going
-  c.next.ensures.script c.next.ensures.answers c.in-Ok.ensures.tells c.in-Write.is c.in-Some.ensures.1 c.in-Ok-set.ensures.ok c.in-Ok-put.ensures.marks
-  (c.stored.ensures c.in-Write.object c.in-Write.value (c.in-Ok.ensures.said ∙ ap (λ z. Some z) c.in-Write.is)),
+      c.next.ensures.script c.next.ensures.answers c.in-Ok.ensures.tells c.in-Write.is c.in-Some.ensures.1 c.in-Ok-set.ensures.ok c.in-Ok-put.ensures.marks
+      (c.stored.ensures c.in-Write.object c.in-Write.value (c.in-Ok.ensures.said ∙ ap (λ z. Some z) c.in-Write.is)),
 )
 
 some_over : (a e : Ending) → Some a ≡ Some e → Over a ≡ Over e
