@@ -1,0 +1,16 @@
+pub mod KeptLemmas
+pub mod MarkLemmas
+pub mod LoneLemmas
+pub mod QuietLemmas
+pub mod ResultLemmas
+pub mod MediaLemmas
+pub mod GrowthLemmas
+pub mod RequestLemmas
+pub mod AttemptLemmas
+pub mod EndLemmas
+pub mod ActLemmas
+pub mod KeepLemmas
+pub mod WithdrawLemmas
+pub mod TriedLemmas
+pub mod RunLemmas
+pub mod LogLemmas

@@ -1,0 +1,10 @@
+pub mod Logs
+pub mod Kept
+pub mod Keeping
+pub mod Standing
+pub mod Growth
+pub mod Runs
+pub mod Media
+pub mod Ready
+pub mod Requests
+pub mod Unready

@@ -1,0 +1,28 @@
+ghost use Rattle.std.specs.Prelude.{◌≡◌, [], ◌∷◌, List, false, IfOk, IfErr};
+ghost use Rattle.effect_form.specs.declared.effects.Effect.{Effect};
+ghost use Rattle.version_store.specs.Filling.{HasBytes};
+ghost use Rattle.version_store.specs.StoreWords.{medium_of};
+ghost use Rattle.stored_run.specs.Media.{Adds, Stops};
+
+use effect_form::Effect;
+use medium_port::Medium;
+use version_store::{Store, StoreFault};
+
+// Adds an effect by a call of its own, so on a page of its own.
+pub fn added<M: Medium>(store: Store<M>, effect: Effect) -> Result<Store<M>, (M, StoreFault)>
+    requires works { M.is_failed (medium_of store) ≡ false }
+    requires bytes { HasBytes effect }
+    ensures adds { IfOk result (λ s. Adds M.tells M.reads M.is_failed M.page_count M.faults (medium_of store) (medium_of s) (effect ∷ [])) }
+    ensures stops { IfErr result (λ e. Stops M.tells M.reads M.may_leave M.page_count M.faults (medium_of store) e.0 e.1 (effect ∷ [])) }
+{
+    store.append(&[effect])
+}
+
+// The medium of a store that is left for want of memory.
+pub fn given_up<M: Medium>(store: Store<M>) -> (M, StoreFault)
+    requires works { M.is_failed (medium_of store) ≡ false }
+    ensures stops { (effects : List Effect) → Stops M.tells M.reads M.may_leave M.page_count M.faults (medium_of store) result.0 result.1 effects }
+    ensures cause { result.1 ≡ StoreFault.NoMemory }
+{
+    (store.release(), StoreFault::NoMemory)
+}
