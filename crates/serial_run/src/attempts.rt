@@ -23,8 +23,8 @@ pub struct Attempt {
     pub ending: Ending,
 }
 
-// Equal lines.
-fn copied(alloc: Global, lines: &[Line]) -> Result<Vec<Line>, AllocError>
+/// Equal lines.
+pub fn copied_lines(alloc: Global, lines: &[Line]) -> Result<Vec<Line>, AllocError>
     ensures { IfOk result (λ v. v.items ≡ lines.now) }
 {
     let mut all = Vec::new(alloc);
@@ -47,7 +47,7 @@ pub fn carry_out(alloc: Global, script: &Script, objects: &ObjectMap) -> Result<
         match answered(alloc, &mut run, &mut writes, objects)? {
             None => {}
             Some(ending) => {
-                let lines = copied(alloc, run.transcript())?;
+                let lines = copied_lines(alloc, run.transcript())?;
                 return Ok(Attempt {
                     lines: Items::of(lines),
                     writes,

@@ -4,7 +4,7 @@
 mod attempts;
 mod requests;
 
-pub use attempts::{Attempt, carry_out};
+pub use attempts::{Attempt, carry_out, copied_lines};
 
 #[cfg(test)]
 mod tests;

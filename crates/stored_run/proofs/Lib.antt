@@ -14,3 +14,5 @@ pub mod WithdrawLemmas
 pub mod TriedLemmas
 pub mod RunLemmas
 pub mod LogLemmas
+pub mod AfterLemmas
+pub mod CourseLemmas

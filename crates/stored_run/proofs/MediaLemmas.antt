@@ -5,11 +5,16 @@ use Rattle.std.proofs.lemmas.List.{append_assoc, append-nil, take-append-drop}
 use Rattle.stream_port.specs.Causes.{Rose}
 use Rattle.medium_port.specs.Image.{Image}
 use Rattle.effect_form.specs.declared.effects.Effect.{Effect}
-use Rattle.version_store.specs.Filling.{HasPrefix}
+use Rattle.version_store.specs.Filling.{HasBytes, HasPrefix, filling}
 use Rattle.version_store.specs.Storage.{storage}
 use Rattle.version_store.specs.declared.faults.StoreFault.{StoreFault}
 use Rattle.version_store.specs.declared.faults.StoreFault.TheVariants.{Medium, Full, NoMemory}
+use Rattle.version_store.proofs.FillingLemmas.{size_most, filling-takes}
 use Rattle.stored_run.specs.Media.{HasFront, held, Adds, Stops}
+
+-- an effect fills a page
+pub filling-one : (e : Effect) → HasBytes e → length (filling (e ∷ [])) ≡ 1
+filling-one e bytes = let most = size_most e bytes in ap length (filling-takes [] e [] (omega (arith, most)))
 
 pub front-prefix : (log effects : List Effect) (c : Image) → HasPrefix log effects c → HasFront log effects c
 front-prefix log effects c has = record { front = take has.kept effects; rest = drop has.kept effects; whole = take-append-drop has.kept effects; is = has.is }
@@ -40,7 +45,7 @@ module _ {M : Type 0} (tells : Bool) (reads : M → Image) (may_leave : M → Im
     size = second.size ∙ first.size;
     later = omega (arith, first.later, second.later);
     failed = λ is. let rose = second.failed is in omega (arith, first.later, rose);
-    full = λ pages is. second.full pages is ∙ first.size;
+    full = λ pages is. ((second.full pages is).0 ∙ first.size, (second.full pages is).1);
   }
 
   pub stops-more : (a b : M) (cause : StoreFault) (done more : List Effect) → Stops tells reads may_leave page_count faults a b cause done → Stops tells reads may_leave page_count faults a b cause (done ++ more)

@@ -1,5 +1,5 @@
 -- Acts one after another.
-use Rattle.std.proofs.Common.{◌≡◌, ℕ, ◌+◌, ◌<◌, List, [], ◌∷◌, ◌++◌, length, take, drop, get_or, refl, sym, ◌∙◌, ap, subst, Bool, Option}
+use Rattle.std.proofs.Common.{IsTrue, ◌≡◌, ℕ, ◌+◌, ◌<◌, List, [], ◌∷◌, ◌++◌, length, take, drop, get_or, refl, sym, ◌∙◌, ap, subst, Bool, Option}
 use Rattle.std.proofs.lemmas.List.{append_assoc, append-nil, take_more, drop_more, take-append-drop}
 use Rattle.pseudo_time.specs.StampParts.{StampParts}
 use Rattle.medium_port.specs.Image.{Image}
@@ -9,7 +9,8 @@ use Rattle.value_form.specs.Objects.{Objects}
 use Rattle.version_store.specs.declared.faults.StoreFault.{StoreFault}
 use Rattle.effect_form.specs.declared.effects.Effect.{Effect}
 use Rattle.report_writer.specs.declared.records.ActReport.{ActReport}
-use Rattle.stored_run.specs.Media.{Adds, Stops}
+use Rattle.stored_run.specs.Ends.{IsHaltedOver}
+use Rattle.stored_run.specs.Media.{HasFront, held, Adds, Stops}
 use Rattle.stored_run.specs.Runs.{Stand, report_of, effects_of, after, reports_of, added, left_by, IsHaltedIn, IsHalted}
 use Rattle.stored_run.proofs.MediaLemmas.{adds-adds, adds-stops, stops-more}
 
@@ -83,3 +84,10 @@ module _ {M : Type 0} (tells : Bool) (reads : M → Image) (may_leave : M → Im
       subst (λ z. Stops tells reads may_leave page_count faults a c cause z) (ap (λ z. (added (take i acts) st ++ effects_of act z) ++ all.0) at ∙ all.1)
       (stops-more tells reads may_leave is_failed page_count faults a c cause (added (take i acts) st ++ effects_of act now) all.0
       (adds-stops tells reads may_leave is_failed page_count faults a b c cause (added (take i acts) st) (effects_of act now) first second))
+
+  -- where it stops in an act, the effects of those before it stand
+  pub stands-in-act : (a b c : M) (cause : StoreFault) (acts : List ActSpec) (i : ℕ) (act : ActSpec) (st now : Stand) (image : Image) → now ≡ left_by (take i acts) st → Adds tells reads is_failed page_count faults a b (added (take i acts) st)
+      → Stops tells reads may_leave page_count faults b c cause (effects_of act now) → IsTrue tells → may_leave c image → HasFront (held reads a ++ added (take i acts) st) (effects_of act (left_by (take i acts) st)) image
+  stands-in-act a b c cause acts i act st now image at first second told left =
+      subst (λ z. HasFront (held reads a ++ added (take i acts) st) (effects_of act z) image) at
+      (subst (λ z. HasFront z (effects_of act now) image) (first.log told) (second.images told image left))

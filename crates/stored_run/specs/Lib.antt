@@ -8,3 +8,6 @@ pub mod Media
 pub mod Ready
 pub mod Requests
 pub mod Unready
+pub mod Ends
+pub mod RanWords
+pub mod Attempts

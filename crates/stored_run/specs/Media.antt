@@ -1,7 +1,8 @@
 -- What a part of a run does to its medium.
-use Rattle.std.specs.Prelude.{◌≡◌, ℕ, ◌≤◌, Bool, false, IsTrue, List, ◌++◌, Ok}
+use Rattle.std.specs.Prelude.{◌≡◌, ℕ, ◌≤◌, Bool, false, IsTrue, List, ◌++◌, Ok, count_by}
 use Rattle.stream_port.specs.Causes.{Rose}
 use Rattle.medium_port.specs.Image.{Image}
+use Rattle.page_gate.specs.States.{is_blank}
 use Rattle.effect_form.specs.declared.effects.Effect.{Effect}
 use Rattle.version_store.specs.Entries.{effects_of}
 use Rattle.version_store.specs.Storage.{storage, log_of}
@@ -26,10 +27,10 @@ pub record Adds {M : Type 0} (tells : Bool) (reads : M → Image) (is_failed : M
   pub size : page_count new ≡ page_count old
   pub later : faults old ≤ faults new
 
--- it was to have these effects more, and stopped: a crash leaves a front of them
+-- it was to have these effects more, and stopped: a crash leaves a front of them; it is full only where no page is blank
 pub record Stops {M : Type 0} (tells : Bool) (reads : M → Image) (may_leave : M → Image → Type 0) (page_count faults : M → ℕ) (old new : M) (cause : StoreFault) (effects : List Effect) : Type 0 where
   pub images : IsTrue tells → (c : Image) → may_leave new c → HasFront (held reads old) effects c
   pub size : page_count new ≡ page_count old
   pub later : faults old ≤ faults new
   pub failed : cause ≡ fault.Medium → Rose (faults old) (faults new)
-  pub full : (pages : ℕ) → cause ≡ fault.Full pages → pages ≡ page_count old
+  pub full : (pages : ℕ) → cause ≡ fault.Full pages → (pages ≡ page_count old) × (IsTrue tells → count_by is_blank (reads new) ≡ 0)

@@ -7,7 +7,8 @@ ghost use Rattle.serial_model.specs.Overlays.{overlaid};
 ghost use Rattle.serial_run.specs.Attempts.{came_of};
 ghost use Rattle.serial_run.specs.Attempts as attempts;
 ghost use Rattle.object_history.specs.declared.marks.Mark.TheVariants as mark;
-ghost use Rattle.stored_run.specs.Media.{Adds, Stops};
+ghost use Rattle.stored_run.specs.Ends.{IsHaltedOver};
+ghost use Rattle.stored_run.specs.Media.{Adds, Stops, held};
 ghost use Rattle.stored_run.specs.Ready.{IsReady, AreReady};
 ghost use Rattle.stored_run.specs.Runs as spec;
 ghost use Rattle.stored_run.specs.Standing.{IsQuiet};
@@ -55,7 +56,7 @@ fn clock_after(last: u64) -> Option<u64>
 }
 
 // The report of an act with these attempts.
-fn reported(act: &ActSpec, tries: Vec<TryReport>, spent: Option<u64>) -> ActReport
+pub fn reported(act: &ActSpec, tries: Vec<TryReport>, spent: Option<u64>) -> ActReport
     ensures { result ≡ spec.report_with act.now tries.items spent }
 {
     ActReport {
@@ -283,7 +284,7 @@ pub fn all_carried_out<M: Medium>(
     ensures quiet { IfOk result (λ r. IsQuiet r.clock r.histories r.objects) }
     ensures adds { IfOk result (λ r. Adds M.tells M.reads M.is_failed M.page_count M.faults (medium_of repository.store) (medium_of r.store) (spec.added acts.now (spec.stand_of repository.histories repository.clock repository.objects))) }
     ensures stops { IfErr result (λ h. Stops M.tells M.reads M.may_leave M.page_count M.faults (medium_of repository.store) h.medium h.fault (spec.added acts.now (spec.stand_of repository.histories repository.clock repository.objects))) }
-    ensures halted { IfErr result (λ h. h.fault ≢ StoreFault.NoMemory → spec.IsHalted acts.now (spec.stand_of repository.histories repository.clock repository.objects) reports.new.items h.stamp h.lines h.objects) }
+    ensures halted { IfErr result (λ h. h.fault ≢ StoreFault.NoMemory → IsHaltedOver M.tells (M.may_leave h.medium) (held M.reads (medium_of repository.store)) acts.now (spec.stand_of repository.histories repository.clock repository.objects) reports.new.items h.stamp h.lines h.objects) }
 {
     let mut repository = repository;
     for act in acts {

@@ -28,7 +28,7 @@ use object_history::{Histories, PlainHistories};
 use pseudo_time::{Decision, Stamp};
 use script_run::Run;
 use serial_model::ObjectMap;
-use serial_run::Attempt;
+use serial_run::{Attempt, copied_lines};
 use std::alloc::{AllocError, Global};
 use value_form::{ActSpec, Ending, Items, Line};
 use version_store::{Store, StoreFault};
@@ -65,18 +65,6 @@ fn carried_on<M: Medium>(
         }
     }
     unreachable!()
-}
-
-// Equal lines.
-fn copied(alloc: Global, lines: &[Line]) -> Result<Vec<Line>, AllocError>
-    ensures { IfOk result (λ v. v.items ≡ lines.now) }
-{
-    let mut all = Vec::new(alloc);
-    for line in lines {
-        let line = line.copy(alloc)?;
-        all.push(line)?;
-    }
-    Ok(all)
 }
 
 // The decision that an ending leads to: only a script that finishes is committed.
@@ -131,7 +119,7 @@ fn broken_off<M: Medium>(alloc: Global, refused: (M, StoreFault), run: &Run) -> 
     ensures lines { result.fault ≢ StoreFault.NoMemory → result.lines ≡ run.now.lines }
 {
     let (medium, fault) = refused;
-    match copied(alloc, run.transcript()) {
+    match copied_lines(alloc, run.transcript()) {
         Ok(lines) => Broken {
             medium,
             fault,
@@ -167,7 +155,7 @@ fn ended<M: Medium>(
     let mut writes = ObjectMap::new(alloc);
     match carried_on(alloc, stamp, store, histories, &mut run, &mut writes) {
         Err(refused) => Err(broken_off(alloc, refused, &run)),
-        Ok((store, ending)) => match copied(alloc, run.transcript()) {
+        Ok((store, ending)) => match copied_lines(alloc, run.transcript()) {
             Err(_) => Err(broken_off(alloc, given_up(store), &run)),
             Ok(lines) => match decided(alloc, stamp, store, histories, ending) {
                 Err((medium, fault)) => Err(Broken {

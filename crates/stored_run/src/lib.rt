@@ -6,10 +6,11 @@ mod acts;
 mod appends;
 mod attempts;
 mod keeping;
+mod laws;
 mod logs;
 mod openings;
 mod requests;
+mod runs;
 
-pub use acts::{Halted, LoneRepository, all_carried_out, carried_out};
-pub use attempts::{Broken, attempt};
-pub use openings::{Unready, open};
+pub use laws::{law_of_acts, law_of_attempts, law_of_logs};
+pub use runs::{Ran, run, untried};

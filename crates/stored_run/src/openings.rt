@@ -1,4 +1,4 @@
-ghost use Rattle.std.specs.Prelude.{◌≡◌, ◌≤◌, ℕ, [], ◌∷◌, List, All, IsTrue, false, Ok, Err, IfOk, IfErr, OnOk, reverse};
+ghost use Rattle.std.specs.Prelude.{◌≡◌, ◌≢◌, ◌≤◌, ℕ, [], ◌∷◌, List, All, IsTrue, false, Ok, Err, IfOk, IfErr, OnOk, reverse};
 ghost use Rattle.stream_port.specs.Causes.{Rose};
 ghost use Rattle.medium_port.specs.Image.{NoMore};
 ghost use Rattle.effect_form.specs.declared.effects.Effect.{Effect};
@@ -113,8 +113,9 @@ fn told_by(alloc: Global, effects: &[Effect]) -> Result<Told, AllocError>
 pub enum Unready<M: Medium> {
     /// The medium wasn't opened.
     Unopened(M, OpenFault),
-    /// It stopped while attempts were withdrawn, or memory is wanting.
-    Stopped(M, StoreFault),
+    /// It stopped while attempts were withdrawn, or memory is wanting; with what the committed puts of
+    /// its log left, unless memory is wanting.
+    Stopped(M, StoreFault, ObjectMap),
 }
 
 // Opens a medium.
@@ -140,16 +141,18 @@ fn readied<M: Medium>(
     alloc: Global,
     store: Store<M>,
     effects: &[Effect],
-) -> Result<LoneRepository<M>, (M, StoreFault)>
+) -> Result<LoneRepository<M>, (M, StoreFault, ObjectMap)>
     requires works { M.is_failed (medium_of store) ≡ false }
     requires bytes { All HasBytes effects.now }
     ensures stand { IfOk result (λ r. spec.stand_of r.histories r.clock r.objects ≡ spec.opened effects.now) }
     ensures quiet { IfOk result (λ r. IsQuiet r.clock r.histories r.objects) }
     ensures adds { IfOk result (λ r. Adds M.tells M.reads M.is_failed M.page_count M.faults (medium_of store) (medium_of r.store) (spec.withdrawals effects.now)) }
     ensures stops { IfErr result (λ e. Stops M.tells M.reads M.may_leave M.page_count M.faults (medium_of store) e.0 e.1 (spec.withdrawals effects.now)) }
+    ensures objects { IfErr result (λ e. e.1 ≢ StoreFault.NoMemory → e.2 ≡ kept_map (marks (reverse effects.now))) }
 {
     let Ok(told) = told_by(alloc, effects) else {
-        return Err(given_up(store));
+        let (medium, fault) = given_up(store);
+        return Err((medium, fault, ObjectMap::new(alloc)));
     };
     let Told {
         mut histories,
@@ -158,7 +161,7 @@ fn readied<M: Medium>(
         stamps,
     } = told;
     match withdraw_all(alloc, store, &mut histories, stamps.as_slice()) {
-        Err(refused) => Err(refused),
+        Err((medium, fault)) => Err((medium, fault, objects)),
         Ok(store) => Ok(LoneRepository {
             store,
             histories,
@@ -179,7 +182,7 @@ pub fn open<M: Medium>(alloc: Global, medium: M) -> Result<LoneRepository<M>, Un
     match opened(alloc, medium) {
         Err((medium, fault)) => Err(Unready::Unopened(medium, fault)),
         Ok((store, effects)) => match readied(alloc, store, effects.as_slice()) {
-            Err((medium, fault)) => Err(Unready::Stopped(medium, fault)),
+            Err((medium, fault, objects)) => Err(Unready::Stopped(medium, fault, objects)),
             Ok(repository) => Ok(repository),
         },
     }

@@ -1,6 +1,6 @@
 pub mod Inputs
 pub mod PlanReads
-pub mod Ready
 pub mod Runs
+pub mod Shelves
 pub mod Top
 pub mod Written

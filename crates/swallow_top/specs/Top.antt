@@ -1,24 +1,27 @@
 -- What the top call promises of its input and output.
-use Rattle.std.specs.Prelude.{◌≡◌, ℕ, ◌⊎◌, List, [], ◌∷◌, ◌++◌, codes, map}
+use Rattle.medium_port.specs.Image.{Image}
+use Rattle.std.specs.Prelude.{◌≡◌, ℕ, ◌⊎◌, Bool, Option, List, [], ◌∷◌, ◌++◌, codes, map}
 use Rattle.std.specs.Borrow.{Bor}
 use Rattle.std.specs.Fmt.{decimal}
 use Rattle.plan_form.specs.declared.plans.Plan.{Plan}
 use Rattle.plan_form.specs.declared.plan_faults.PlanKind.{PlanKind}
 use Rattle.plan_form.specs.PlanFaults.{IsPlanFault, kind_text}
 use Rattle.plan_form.specs.Plans.{IsPlan}
-use Rattle.report_writer.specs.Reports.{report_text}
-use Rattle.swallow_top.specs.Runs.{IsServed, report_of}
+use Rattle.report_writer.specs.declared.records.DownCause.{DownCause}
+use Rattle.swallow_top.specs.Runs.{IsServed}
+use Rattle.swallow_top.specs.Shelves.{IsTextOf}
+use Rattle.swallow_top.specs.declared.media.Kept.{Kept}
 
 -- the one word `run`
 abbrev pub AreWords : List (Bor (List ℕ)) → Type 0
 AreWords words = map (λ w. w.now) words ≡ codes "run" ∷ []
 
--- the text is the report of the plan that the input is
-pub record IsReport (input text : List ℕ) : Type 0 where
+-- the text is the report of a run, over a shelf, of the plan that the input is
+pub record IsReport {M : Type 0} (tells : Bool) (reads : M → Image) (may_leave : M → Image → Type 0) (page_count faults : M → ℕ) (was : Image) (might : Image → Type 0) (medium_faults shelf_faults shelf_faults_now : ℕ) (input : List ℕ) (cause : Option DownCause) (text : List ℕ) (media : List (Kept M)) : Type 0 where
   pub plan : Plan
   pub is_plan : IsPlan input plan
   pub is_served : IsServed plan
-  pub is_text : text ≡ report_text (report_of plan)
+  pub is_text : IsTextOf tells reads may_leave page_count faults was might medium_faults shelf_faults shelf_faults_now plan cause text media
 
 -- the lines of the refusals
 abbrev pub words_line : List ℕ

@@ -1,16 +1,19 @@
 //! The top call: from words to a report.
 #![tactic(auto)]
 
-mod acts;
-mod laws;
+mod finals;
 mod lines;
+mod media;
 mod served;
+mod shelved;
 mod stops;
 mod streams;
 mod top;
 
-pub use laws::law_of_acts;
+pub use media::{Early, Kept};
 pub use top::swallow;
 
 #[cfg(test)]
 mod tests;
+#[cfg(test)]
+mod stored_tests;

@@ -1,4 +1,5 @@
 use super::*;
+use medium_port::MemoryShelf;
 use std::alloc::Global;
 use std::test::*;
 use stream_port::{MemorySink, MemorySource};
@@ -103,8 +104,9 @@ fn run_of(alloc: Global, row: &Row<'_>) -> Result<(u8, MemorySink), Fail> {
         vec![in alloc; row.source_fails]?,
     );
     let mut sink = MemorySink::new(alloc, 7, vec![in alloc; row.sink_fails]?);
-    let status = swallow(alloc, row.words, &mut source, &mut sink);
-    Ok((status, sink))
+    let mut shelf = MemoryShelf::new(alloc, 64);
+    let ended = swallow(alloc, row.words, &mut source, &mut sink, &mut shelf);
+    Ok((ended.status, sink))
 }
 
 // A plan that no stream fails on.

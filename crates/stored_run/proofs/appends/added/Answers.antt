@@ -1,10 +1,13 @@
-use Rattle.std.proofs.Common.{◌≡◌, ◌≤◌, [], ◌∷◌, Err, sym, ap, ◌∙◌, subst}
-use Rattle.version_store.specs.StoreWords.{medium_of, handed}
+use Rattle.std.proofs.Common.{◌≡◌, ◌≤◌, ◌<◌, length, [], ◌∷◌, Err, sym, ap, ◌∙◌, subst, arith}
+use Rattle.std.specs.Prelude.{count_by}
+use Rattle.page_gate.specs.States.{is_blank}
+use Rattle.version_store.specs.Filling.{filling}
+use Rattle.version_store.specs.StoreWords.{medium_of, handed, left_in}
 use Rattle.version_store.specs.declared.faults.StoreFault.{StoreFault}
 use Rattle.version_store.specs.declared.faults.StoreFault.TheVariants as fault
 use Rattle.stored_run.specs.Media.{Stops, held}
 use Rattle.stored_run.proofs.ResultLemmas.{at-err, by-err}
-use Rattle.stored_run.proofs.MediaLemmas.{front-prefix}
+use Rattle.stored_run.proofs.MediaLemmas.{front-prefix, filling-one}
 use Rattle.stored_run.proofs.appends.added.Goals as goal
 
 pub returns-clause-stops : goal.returns-clause-stops
@@ -15,5 +18,12 @@ returns-clause-stops g c = by-err c.append.result _ (λ e is.
       size = ap g.M.Medium.page_count (sym at) ∙ c.append.ensures.size;
       later = subst (λ z. g.M.Medium.faults (medium_of c.args.store) ≤ g.M.Medium.faults z) at c.append.ensures.later;
       failed = at-err c.append.result e _ is c.append.ensures.failed;
-      full = λ pages full. (at-err c.append.result e _ is c.append.ensures.full pages full).0;
+      full = λ pages full.
+          let refused = at-err c.append.result e _ is c.append.ensures.full pages full in
+          let one : length (filling (c.args.effect ∷ [])) ≡ 1 = filling-one c.args.effect c.requires.bytes in
+          let few : left_in c.args.store < length (filling (c.args.effect ∷ [])) = refused.1 in
+          let left = c.pages_left.ensures.left in
+          let none : c.pages_left.result ≡ 0 = omega (arith, few, one, left) in
+          let same : e.0 ≡ medium_of c.args.store = sym at ∙ ap handed (c.append.ensures.fits refused.1) in
+          (refused.0, λ told. ap (λ z. count_by is_blank (g.M.Medium.reads z)) same ∙ sym (c.pages_left.ensures.blank told) ∙ none);
     })

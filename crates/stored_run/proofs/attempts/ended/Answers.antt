@@ -20,14 +20,14 @@ returns-in-Err-clause-stops g c first =
           c.broken_off.ensures.medium c.broken_off.ensures.fault,
     )
 
-pub returns-in-Err-copied-clause-stops : goal.returns-in-Err-copied-clause-stops
-returns-in-Err-copied-clause-stops g c first =
+pub returns-in-Err-copied_lines-clause-stops : goal.returns-in-Err-copied_lines-clause-stops
+returns-in-Err-copied_lines-clause-stops g c first =
     let went = c.in-Ok.ensures.ended in (
       went.0 ++ decides c.args.stamp c.in-Ok.ending,
       ended-effects c.args.stamp c.args.run c.args.histories.now c.carried_on.new.histories c.carried_on.new.writes c.in-Ok.ending c.carried_on.new.run.lines went.0 first c.requires.begins went.2,
-      stops-for g.M.Medium.tells g.M.Medium.reads g.M.Medium.may_leave g.M.Medium.is_failed g.M.Medium.page_count g.M.Medium.faults (medium_of c.args.store) c.given_up.result.0 c.broken_off-in-Err-copied.result.medium c.given_up.result.1 c.broken_off-in-Err-copied.result.fault _
+      stops-for g.M.Medium.tells g.M.Medium.reads g.M.Medium.may_leave g.M.Medium.is_failed g.M.Medium.page_count g.M.Medium.faults (medium_of c.args.store) c.given_up.result.0 c.broken_off-in-Err-copied_lines.result.medium c.given_up.result.1 c.broken_off-in-Err-copied_lines.result.fault _
           (adds-stops g.M.Medium.tells g.M.Medium.reads g.M.Medium.may_leave g.M.Medium.is_failed g.M.Medium.page_count g.M.Medium.faults (medium_of c.args.store) (medium_of c.in-Ok.store) c.given_up.result.0 c.given_up.result.1 went.0 (decides c.args.stamp c.in-Ok.ending) went.1 (c.given_up.ensures.stops (decides c.args.stamp c.in-Ok.ending)))
-          c.broken_off-in-Err-copied.ensures.medium c.broken_off-in-Err-copied.ensures.fault,
+          c.broken_off-in-Err-copied_lines.ensures.medium c.broken_off-in-Err-copied_lines.ensures.fault,
     )
 
 pub returns-in-Err-decided-clause-stops : goal.returns-in-Err-decided-clause-stops

@@ -17,4 +17,5 @@ returns-in-Err-readied-clause-unready g c = (
   c.as_slice.result.now,
   λ told. c.in-Ok.ensures.log told ∙ ap (λ z. Ok z) (sym c.as_slice.ensures.value),
   adds-stops g.M.Medium.tells g.M.Medium.reads g.M.Medium.may_leave g.M.Medium.is_failed g.M.Medium.page_count g.M.Medium.faults c.args.medium (medium_of c.in-Ok.store) c.in-Err-readied.medium c.in-Err-readied.fault [] (withdrawals c.as_slice.result.now) c.in-Ok.ensures.adds c.in-Err-readied.ensures.stops,
+  c.in-Err-readied.ensures.objects,
 )

@@ -1,0 +1,111 @@
+-- How a run over a medium ends, and what it reports.
+use Rattle.std.specs.Prelude.{◌≡◌, ℕ, ◌⊎◌, ◌≤◌, Bool, IsTrue, List, ◌∷◌, ◌++◌, Option, Some, None, Ok, Err, count_by, map, reverse}
+use Rattle.std.specs.FinMap as finite
+use Rattle.stream_port.specs.Causes.{Rose}
+use Rattle.medium_port.specs.Image.{Image}
+use Rattle.page_gate.specs.States.{is_blank}
+use Rattle.pseudo_time.specs.StampParts.{StampParts}
+use Rattle.value_form.specs.declared.acts.ActSpec.{ActSpec}
+use Rattle.value_form.specs.declared.transcripts.Line.{Line}
+use Rattle.value_form.specs.Objects.{Objects}
+use Rattle.effect_form.specs.declared.effects.Effect.{Effect}
+use Rattle.repository_core.specs.Logs.{marks}
+use Rattle.report_writer.specs.declared.records.ActReport.{ActReport}
+use Rattle.report_writer.specs.declared.records.DownCause.{DownCause}
+use Rattle.report_writer.specs.declared.records.DownCause.TheVariants as down
+use Rattle.version_store.specs.Storage.{storage}
+use Rattle.version_store.specs.declared.faults.OpenFault.{OpenFault}
+use Rattle.version_store.specs.declared.faults.OpenFault.TheVariants as opening
+use Rattle.version_store.specs.declared.faults.StoreFault.{StoreFault}
+use Rattle.version_store.specs.declared.faults.StoreFault.TheVariants as fault
+use Rattle.stored_run.specs.Kept.{kept_map}
+use Rattle.stored_run.specs.Media.{HasFront, Adds}
+use Rattle.stored_run.specs.Runs.{Stand, opened, withdrawals, next_of, stamp_of, reports_of, effects_of, added, left_by, effects_over, untried, open_try, IsAtWork, IsHalted}
+
+-- ---- a run that begins, and one that stops in an act
+
+-- a medium was opened over this log, and what was to be withdrawn is withdrawn
+abbrev pub IsOpenedFrom : {M : Type 0} → (tells : Bool) (reads : M → Image) (is_failed : M → Bool) (page_count faults : M → ℕ) (was now : M) → Stand → Type 0
+IsOpenedFrom tells reads is_failed page_count faults was now st =
+    (log : List Effect) × (IsTrue tells → storage (reads was) ≡ Ok log) × (st ≡ opened log) × Adds tells reads is_failed page_count faults was now (withdrawals log)
+
+-- the acts before one were carried out, and in all that is left their effects stand behind the log, and a front of that act's
+pub record IsHaltedOver (tells : Bool) (left : Image → Type 0) (log : List Effect) (acts : List ActSpec) (st : Stand) (reports : List ActReport) (s : Option StampParts) (lines : List Line) (objects : Objects) : Type 0 where
+  pub halted : IsHalted acts st reports s lines objects
+  pub stands : IsTrue tells → (c : Image) → left c → HasFront (log ++ added halted.before st) (effects_of halted.act (left_by halted.before st)) c
+
+-- ---- why a repository is down
+
+-- what a fault of its store makes it
+abbrev pub down_of : StoreFault → Option DownCause
+down_of fault.Medium = Some down.Medium
+down_of (fault.Full pages) = Some (down.Full pages)
+down_of fault.NoMemory = None
+
+-- and one of its opening
+abbrev pub down_of_opening : OpenFault → Option DownCause
+down_of_opening opening.Medium = Some down.Medium
+down_of_opening (opening.Damaged page) = Some (down.Damaged page)
+down_of_opening opening.NoMemory = None
+
+-- its medium failed in the run; or a page is damaged, the first in what reads gave; or no page is blank
+pub record HasCause (tells : Bool) (was now : Image) (faults_before faults_after page_count : ℕ) (cause : DownCause) : Type 0 where
+  pub failed : cause ≡ down.Medium → Rose faults_before faults_after
+  pub damaged : (page : ℕ) → cause ≡ down.Damaged page → IsTrue tells → storage was ≡ Err page
+  pub full : (pages : ℕ) → cause ≡ down.Full pages → (pages ≡ page_count) × (IsTrue tells → count_by is_blank now ≡ 0)
+
+-- ---- what a run comes to; the medium read so, and left is what a crash leaves of it now
+
+-- all acts were carried out; what is left is the log with all their effects behind it, and this stands for the objects that are reported
+pub record WasCarriedOut (tells : Bool) (was : Image) (left : Image → Type 0) (acts : List ActSpec) (reports : List ActReport) (objects : Objects) : Type 0 where
+  pub log : List Effect
+  pub is_log : IsTrue tells → storage was ≡ Ok log
+  pub reports_are : reports ≡ reports_of acts (opened log)
+  pub objects_are : objects ≡ (left_by acts (opened log)).objects
+  pub restores : objects ≡ kept_map (marks (reverse (log ++ effects_over acts log)))
+  pub images : IsTrue tells → (c : Image) → left c → storage c ≡ Ok (log ++ effects_over acts log)
+
+-- it stopped before the first act: no act has a try, and the objects are those of the log
+pub record StoppedBefore (tells : Bool) (was : Image) (left : Image → Type 0) (acts : List ActSpec) (reports : List ActReport) (objects : Objects) : Type 0 where
+  pub log : List Effect
+  pub is_log : IsTrue tells → storage was ≡ Ok log
+  pub reports_are : reports ≡ map untried acts
+  pub objects_are : objects ≡ kept_map (marks (reverse log))
+  pub images : IsTrue tells → (c : Image) → left c → HasFront log (withdrawals log) c
+
+-- it stopped in an act, whose attempt is open: those before it were carried out and their effects stand, and those behind it have no try
+pub record StoppedIn (tells : Bool) (was : Image) (left : Image → Type 0) (acts : List ActSpec) (reports : List ActReport) (objects : Objects) : Type 0 where
+  pub log : List Effect
+  pub is_log : IsTrue tells → storage was ≡ Ok log
+  pub before : List ActSpec
+  pub act : ActSpec
+  pub behind : List ActSpec
+  pub are : acts ≡ before ++ act ∷ behind
+  pub clock : ℕ
+  pub is_next : next_of (left_by before (opened log)).clock ≡ Some clock
+  pub lines : List Line
+  pub at_work : IsAtWork act (left_by before (opened log)).objects lines
+  pub reports_are : reports ≡ reports_of before (opened log) ++ open_try act (stamp_of act clock) lines ∷ map untried behind
+  pub objects_are : objects ≡ (left_by before (opened log)).objects
+  pub images : IsTrue tells → (c : Image) → left c → HasFront ((log ++ withdrawals log) ++ added before (opened log)) (effects_of act (left_by before (opened log))) c
+
+-- it wasn't opened: no act has a try, no object is known, and nothing is left that wasn't before
+pub record NeverOpened (tells : Bool) (might : Image → Type 0) (left : Image → Type 0) (acts : List ActSpec) (reports : List ActReport) (objects : Objects) : Type 0 where
+  pub reports_are : reports ≡ map untried acts
+  pub objects_are : objects ≡ finite.empty
+  pub images : IsTrue tells → (c : Image) → left c → might c
+
+-- where nothing made the repository go down all acts were carried out
+abbrev pub CameTo : (tells : Bool) (was : Image) (might left : Image → Type 0) → Option DownCause → List ActSpec → List ActReport → Objects → Type 0
+CameTo tells was might left None acts reports objects = WasCarriedOut tells was left acts reports objects
+CameTo tells was might left (Some cause) acts reports objects = StoppedIn tells was left acts reports objects ⊎ (StoppedBefore tells was left acts reports objects ⊎ NeverOpened tells might left acts reports objects)
+
+abbrev pub HasCauseIfAny : (tells : Bool) (was now : Image) (faults_before faults_after page_count : ℕ) → Option DownCause → Type 0
+HasCauseIfAny tells was now faults_before faults_after page_count None = Unit {0}
+HasCauseIfAny tells was now faults_before faults_after page_count (Some cause) = HasCause tells was now faults_before faults_after page_count cause
+
+-- ---- in any case
+
+-- what is left was left before, or it is the log with a front of the run's effects
+abbrev pub IsKept : (tells : Bool) (was : Image) (might left : Image → Type 0) → List ActSpec → Type 0
+IsKept tells was might left acts = IsTrue tells → (c : Image) → left c → might c ⊎ ((log : List Effect) × (storage was ≡ Ok log) × HasFront log (effects_over acts log) c)
