@@ -7,8 +7,8 @@ use Rattle.value_form.specs.declared.objects.ObjectId.{ObjectId}
 use Rattle.value_form.specs.declared.values.Value.TheVariants as v
 use Rattle.value_form.specs.Mirror.{Number, Text, Name, Between, Fixed, At, Read, Write, Block, End, Then}
 use Rattle.value_form.specs.ObjectBytes.{IsObject}
-use Rattle.script_meaning.specs.Meaning.{ToRead, ToWrite, Stop, Asks, Got, talk}
-use Rattle.serial_model.specs.Questions.{Tree, Ends, Reads, Writes, denote}
+use Rattle.script_meaning.specs.Meaning.{ToRead, ToWrite, Asks, Got, talk}
+use Rattle.serial_model.specs.Questions.{Tree, Ends, Reads, Writes}
 use Rattle.request_ranges.specs.Ranges.{TermInRange, SpotInRange, BlockInRange, StopInRange}
 use Rattle.request_ranges.specs.Requests.{HasBytes, AnswerHasBytes}
 

@@ -1,6 +1,6 @@
 -- Where the values of a script's names have bytes, so have those of its expressions.
-use Rattle.std.proofs.Common.{ℕ, true, false, cond, List, [], ◌∷◌, arith}
-use Rattle.std.specs.Prelude.{IfOk, ◌==◌, pos}
+use Rattle.std.proofs.Common.{ℕ, cond, List, [], ◌∷◌}
+use Rattle.std.specs.Prelude.{IfOk, ◌==◌}
 use Rattle.std.specs.Cmp.Lexicographic.{pointwise}
 use Rattle.pseudo_time.specs.Lists.{Every}
 use Rattle.value_form.specs.declared.values.Value.{Value}
@@ -9,7 +9,6 @@ use Rattle.value_form.specs.ObjectBytes.{IsObject}
 use Rattle.value_form.specs.ValueBytes.{IsValue}
 use Rattle.script_meaning.specs.Names.{Names, name_value, with_name}
 use Rattle.script_meaning.specs.Meaning.{value, object_at}
-use Rattle.script_meaning.specs.Operations.{given_value}
 use Rattle.token_form.proofs.Runs.{by_test}
 use Rattle.request_ranges.specs.Ranges.{TermInRange, SpotInRange}
 use Rattle.request_ranges.proofs.OperationLemmas.{then-IfOk, infix_value-IsValue, prefix_value-IsValue, call_value-IsValue, given_value-IsValue, object_in-IsObject}

@@ -2,8 +2,6 @@
 use Rattle.std.proofs.Common.{◌≡◌, ℕ, zero, suc, ◌+◌, ◌<◌, ◌≤◌, ◌^◌, nat_le, nat_lt, Bool, true, false, not, cond, ◌&&◌, ◌||◌, List, [], ◌∷◌, ◌++◌, length, Result, Ok, Err, refl, arith}
 use Rattle.std.specs.Prelude.{ℤ, pos, negsuc, ◌+ℤ◌, ◌-ℤ◌, ◌*ℤ◌, FitsSigned, IfOk, neg_ℤ, int_div, int_rem, unsigned_abs, codes}
 use Rattle.std.specs.Int.{w64}
-use Rattle.std.specs.Fmt.{signed_decimal}
-use Rattle.std.specs.declared.cmp.Ordering.{Ordering}
 use Rattle.std.proofs.lemmas.Bool.Decides.{nat_tests}
 use Rattle.std.proofs.lemmas.Fmt.{IsAscii-signed, length_signed_le}
 use Rattle.std.proofs.lemmas.Int.{rem_below, fits_signed_from_abs}
@@ -19,7 +17,6 @@ use Rattle.value_form.specs.declared.expressions.Infix.{Infix}
 use Rattle.value_form.specs.declared.expressions.Infix.TheVariants as op
 use Rattle.value_form.specs.declared.expressions.Call.{Call}
 use Rattle.value_form.specs.declared.expressions.Call.TheVariants as call
-use Rattle.value_form.specs.declared.objects.ObjectId.{ObjectId}
 use Rattle.value_form.specs.ObjectBytes.{IsObject}
 use Rattle.value_form.specs.ValueBytes.{IsValue}
 use Rattle.script_meaning.specs.Operations.{◌>>=◌, number_in, text_in, fits, fitting, is_zero, truth, sum, difference, product, quotient, remainder, either, both, numbers, same, order, holds, compared, texts_joined, joined, printed, as_text, infix_value, prefix_value, call_value, given_value, object_in}
@@ -98,9 +95,9 @@ remainder-fits x y h =
     by_test (is_zero y) (λ p. IfOk (cond p (Err fails.Division) (Ok (int_rem x y))) (FitsSigned w64))
     (λ e. tt)
     (λ e.
-      let below = rem_below x y (not_zero-above y e) in
-      let high = signed-below y h in
-      fits_signed_from_abs w64 (int_rem x y) (omega arith))
+    let below = rem_below x y (not_zero-above y e) in
+    let high = signed-below y h in
+    fits_signed_from_abs w64 (int_rem x y) (omega arith))
 
 numbers-IsValue : (f : ℤ → ℤ → Result ℤ FailKind) (a b : Value) → IsValue a → IsValue b → ((x y : ℤ) → FitsSigned w64 y → IfOk (f x y) (FitsSigned w64)) → IfOk (numbers f a b) IsValue
 numbers-IsValue f a b h k fit =
