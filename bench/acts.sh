@@ -1,11 +1,11 @@
 #!/usr/bin/env bash
-# Runs plans of 100, 1,000 and 10,000 acts of ten statements each, and prints acts per second and the
-# memory of the run beside the size of its plan. The proved program is built first.
+# Runs plans of 30, 100 and 300 acts of ten statements each, every run on a fresh folder, and prints acts
+# per second and the memory of the run beside the size of its plan. The proved program is built first.
 top="$(cd "$(dirname "${BASH_SOURCE[0]}")/.." && pwd)" || exit 1
-"$top/swallow" run < "$top/examples/first.plan" > /dev/null || exit 1
-program="$top/crates/swallow_main/out/swallow_main"
 work=$(mktemp -d) || exit 1
 trap 'rm -rf "$work"' EXIT
+"$top/swallow" "$work/first" run < "$top/examples/first.plan" > /dev/null || exit 1
+program="$top/crates/swallow_main/out/swallow_main"
 
 plan() {
   printf 'swallow plan 1\nrun 1\nrepositories 1\nbrokers 1\n'
@@ -30,16 +30,18 @@ plan() {
 }
 
 echo "acts    milliseconds  acts per second  plan bytes  memory bytes  ratio"
-for acts in 100 1000 10000; do
+for acts in 30 100 300; do
   plan "$acts" > "$work/plan"
   for turn in 1 2 3; do
+    rm -rf "$work/data"
     begin=$(date +%s%N)
-    "$program" run < "$work/plan" > "$work/report" || exit 1
+    "$program" "$work/data" run < "$work/plan" > "$work/report" || exit 1
     end=$(date +%s%N)
-    kilobytes=$(python3 - "$program" "$work/plan" <<'PY'
+    rm -rf "$work/data"
+    kilobytes=$(python3 - "$program" "$work/plan" "$work/data" <<'PY'
 import resource, subprocess, sys
 with open(sys.argv[2], "rb") as plan:
-    subprocess.run([sys.argv[1], "run"], stdin=plan, stdout=subprocess.DEVNULL, check=True)
+    subprocess.run([sys.argv[1], sys.argv[3], "run"], stdin=plan, stdout=subprocess.DEVNULL, check=True)
 print(resource.getrusage(resource.RUSAGE_CHILDREN).ru_maxrss)
 PY
 )

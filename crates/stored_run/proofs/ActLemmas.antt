@@ -21,7 +21,8 @@ use Rattle.version_store.specs.declared.faults.StoreFault.{StoreFault}
 use Rattle.stored_run.specs.Growth.{grown_to}
 use Rattle.stored_run.specs.Kept.{kept_map}
 use Rattle.stored_run.specs.Media.{Adds, Stops}
-use Rattle.stored_run.specs.Ready.{IsReady, HasBytes, AnswerHasBytes}
+use Rattle.request_ranges.specs.Requests.{HasBytes, AnswerHasBytes}
+use Rattle.stored_run.specs.Ready.{IsReady}
 use Rattle.stored_run.specs.Requests.{IsGoing, Shows, ShowsSome}
 use Rattle.stored_run.specs.Runs.{decision_of, is_finished, effects_with, IsAtWork}
 use Rattle.stored_run.specs.Standing.{IsLone}

@@ -20,7 +20,7 @@ use Rattle.repository_core.specs.Logs.{marks, is_commit}
 use Rattle.stored_run.specs.Attempts.{begun, attempts_in}
 use Rattle.stored_run.specs.Growth.{Grown, with_line, with_lines, stretch_if, stretch_mark_if, stretches}
 use Rattle.stored_run.specs.Logs.{starters, withdrawn, withdrawn_marks}
-use Rattle.stored_run.specs.Runs.{Stand, opened, withdrawals, next_of, stamp_of, grown_with, effects_with, effects_by, after_by, report_by, effects_of, report_of, after, added, reports_of, left_by, effects_over, decision_of, is_finished}
+use Rattle.stored_run.specs.Runs.{Stand, opened, withdrawals, next_of, stamp_of, script_of, grown_with, effects_with, effects_by, after_by, report_by, effects_of, report_of, after, added, reports_of, left_by, effects_over, decision_of, is_finished}
 use Rattle.stored_run.specs.Standing.{time_of}
 
 -- ---- effects behind a log
@@ -36,13 +36,17 @@ all-behind a b l = ap (λ z. z ++ l) (reverse-append a b) ∙ append_assoc (reve
 
 -- ---- what is withdrawn
 
+withdrawn_by : (b : Bool) (s : StampParts) (more : List StampParts) (m : List Mark) (l : List Effect) → marks (reverse (withdrawn m more) ++ l) ≡ withdrawn_marks m more
+    → marks (reverse (withdrawn (mark.Settle s false ∷ m) more) ++ (Decide s Withdrawn ∷ l)) ≡ withdrawn_marks (mark.Settle s false ∷ m) more
+    → marks (reverse (if b then withdrawn m more else Decide s Withdrawn ∷ withdrawn (mark.Settle s false ∷ m) more) ++ l) ≡ (if b then withdrawn_marks m more else withdrawn_marks (mark.Settle s false ∷ m) more)
+withdrawn_by true s more m l kept settled = kept
+withdrawn_by false s more m l kept settled = ap marks (first-behind (Decide s Withdrawn) (withdrawn (mark.Settle s false ∷ m) more) l) ∙ settled
+
 marks_withdrawn : (ss : List StampParts) (m : List Mark) (l : List Effect) → m ≡ marks l → marks (reverse (withdrawn m ss) ++ l) ≡ withdrawn_marks m ss
 marks_withdrawn [] m l is = sym is
-marks_withdrawn (s ∷ more) m l is = by (is_settled (settle_of m s))
-  where
-    by : (b : Bool) → marks (reverse (if b then withdrawn m more else Decide s Withdrawn ∷ withdrawn (mark.Settle s false ∷ m) more) ++ l) ≡ (if b then withdrawn_marks m more else withdrawn_marks (mark.Settle s false ∷ m) more)
-    by true = marks_withdrawn more m l is
-    by false = ap marks (first-behind (Decide s Withdrawn) (withdrawn (mark.Settle s false ∷ m) more) l) ∙ marks_withdrawn more (mark.Settle s false ∷ m) (Decide s Withdrawn ∷ l) (ap (λ z. mark.Settle s false ∷ z) is)
+marks_withdrawn (s ∷ more) m l is =
+    withdrawn_by (is_settled (settle_of m s)) s more m l (marks_withdrawn more m l is)
+    (marks_withdrawn more (mark.Settle s false ∷ m) (Decide s Withdrawn ∷ l) (ap (λ z. mark.Settle s false ∷ z) is))
 
 -- ---- an attempt
 
@@ -79,7 +83,7 @@ marks_attempted s script d m objects l is =
 
 marks_by : (next : Option ℕ) (act : ActSpec) (st : Stand) (l : List Effect) → st.marks ≡ marks l → marks (reverse (effects_by next act st) ++ l) ≡ (after_by next act st).marks
 marks_by None act st l is = sym is
-marks_by (Some clock) act st l is = marks_attempted (stamp_of act clock) _ act.timeout st.marks st.objects l is
+marks_by (Some clock) act st l is = marks_attempted (stamp_of act clock) (script_of act) act.timeout st.marks st.objects l is
 
 marks_added : (acts : List ActSpec) (st : Stand) (l : List Effect) → st.marks ≡ marks l → marks (reverse (added acts st) ++ l) ≡ (left_by acts st).marks
 marks_added [] st l is = sym is
@@ -132,7 +136,7 @@ begun_attempted s script d m objects =
 
 begun_by : (next : Option ℕ) (act : ActSpec) (st : Stand) → begun (effects_by next act st) ≡ map (λ t. t.stamp) (report_by next act st).tries
 begun_by None act st = refl
-begun_by (Some clock) act st = begun_attempted (stamp_of act clock) _ act.timeout st.marks st.objects
+begun_by (Some clock) act st = begun_attempted (stamp_of act clock) (script_of act) act.timeout st.marks st.objects
 
 -- each attempt that begins in the log is reported, and no other
 pub begun-added : (acts : List ActSpec) (st : Stand) → begun (added acts st) ≡ attempts_in (reports_of acts st)
@@ -141,13 +145,13 @@ begun-added (act ∷ more) st =
     begun_append (effects_of act st) (added more (after act st)) ∙ ap (λ z. z ++ begun (added more (after act st))) (begun_by (next_of st.clock) act st)
     ∙ ap (λ z. map (λ t. t.stamp) (report_of act st).tries ++ z) (begun-added more (after act st))
 
+none_begun : (b : Bool) (s : StampParts) (more : List StampParts) (m : List Mark) → begun (withdrawn m more) ≡ [] → begun (withdrawn (mark.Settle s false ∷ m) more) ≡ [] → begun (if b then withdrawn m more else Decide s Withdrawn ∷ withdrawn (mark.Settle s false ∷ m) more) ≡ []
+none_begun true s more m kept settled = kept
+none_begun false s more m kept settled = settled
+
 begun_withdrawn : (ss : List StampParts) (m : List Mark) → begun (withdrawn m ss) ≡ []
 begun_withdrawn [] m = refl
-begun_withdrawn (s ∷ more) m = by (is_settled (settle_of m s))
-  where
-    by : (b : Bool) → begun (if b then withdrawn m more else Decide s Withdrawn ∷ withdrawn (mark.Settle s false ∷ m) more) ≡ []
-    by true = begun_withdrawn more m
-    by false = begun_withdrawn more (mark.Settle s false ∷ m)
+begun_withdrawn (s ∷ more) m = none_begun (is_settled (settle_of m s)) s more m (begun_withdrawn more m) (begun_withdrawn more (mark.Settle s false ∷ m))
 
 pub begun-over : (acts : List ActSpec) (log : List Effect) → begun (effects_over acts log) ≡ attempts_in (reports_of acts (opened log))
 begun-over acts log =

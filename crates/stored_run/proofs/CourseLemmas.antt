@@ -1,6 +1,7 @@
 -- What a run comes to, from what its parts did to the medium.
 use Rattle.std.proofs.Common.{◌≡◌, ℕ, ◌+◌, Bool, IsTrue, List, [], ◌∷◌, ◌++◌, length, map, reverse, refl, sym, ◌∙◌, ap, subst, Ok, Err, Result, Option, Some, None, ◌⊎◌, inl, inr, arith}
 use Rattle.std.specs.Prelude.{◌≢◌, IfOk}
+use Prim.Native.Nat.{suc}
 use Rattle.std.specs.FinMap as finite
 use Rattle.std.proofs.lemmas.List.{append_assoc, append-nil}
 use Rattle.stream_port.specs.Causes.{Rose}
@@ -15,7 +16,8 @@ use Rattle.repository_core.specs.Logs.{marks}
 use Rattle.report_writer.specs.declared.records.ActReport.{ActReport}
 use Rattle.report_writer.specs.declared.records.DownCause.{DownCause}
 use Rattle.report_writer.specs.declared.records.DownCause.TheVariants as down
-use Rattle.version_store.specs.Entries.{Log, effects_of}
+use Rattle.version_store.specs.Entries.{Log}
+use Rattle.version_store.specs.Entries as entry
 use Rattle.version_store.specs.Storage.{storage, entries, effects_found, log_or_none}
 use Rattle.version_store.specs.declared.faults.OpenFault.{OpenFault}
 use Rattle.version_store.specs.declared.faults.OpenFault.TheVariants as opening
@@ -31,14 +33,14 @@ use Rattle.stored_run.proofs.AfterLemmas.{marks-after}
 use Rattle.stored_run.proofs.MediaLemmas.{adds-stops, stops-more}
 
 -- the effects of a log that was found
-pub found-is : (r : Result Log ℕ) (log : List Effect) → effects_found r ≡ Ok log → effects_of (log_or_none r) ≡ log
-found-is (Ok found) log is = let k : Ok (effects_of found) ≡ Ok log = is in cc
+pub found-is : (r : Result Log ℕ) (log : List Effect) → effects_found r ≡ Ok log → entry.effects_of (log_or_none r) ≡ log
+found-is (Ok found) log is = let k : Ok (entry.effects_of found) ≡ Ok log = is in cc
 found-is (Err page) log is = absurd (let k : Err page ≡ Ok log = is in cc)
 
 -- as many acts are reported as there are
 pub length-reports : (acts : List ActSpec) (st : Stand) → length (reports_of acts st) ≡ length acts
 length-reports [] st = refl
-length-reports (act ∷ more) st = ap (λ n. n + 1) (length-reports more (after act st))
+length-reports (act ∷ more) st = ap suc (length-reports more (after act st))
 
 pub front-all : (log effects : List Effect) (c : Image) → storage c ≡ Ok (log ++ effects) → HasFront log effects c
 front-all log effects c is = record { front = effects; rest = []; whole = append-nil effects; is = is }
@@ -129,7 +131,7 @@ module _ {M : Type 0} (tells : Bool) (reads : M → Image) (may_leave : M → Im
     damaged = λ page e. absurd (let k : Some (down.Full n) ≡ Some cause = is in cc);
     full = λ pages e. let k : Some (down.Full n) ≡ Some cause = is in let same : n ≡ pages = cc in (sym same ∙ (stops.full n refl).0 ∙ sym stops.size, (stops.full n refl).1);
   }
-  cause_of_stop was new fault.NoMemory cause effects is stops = absurd (let k : None {A = DownCause} ≡ Some cause = is in cc)
+  cause_of_stop was new fault.NoMemory cause effects is stops = absurd (let k : None ≡ Some cause = is in cc)
 
   pub cause-of-stop : (was new m : M) (f : StoreFault) (cause : DownCause) (effects : List Effect) → down_of f ≡ Some cause → Stops tells reads may_leave page_count faults was new f effects → m ≡ new → HasCause tells (reads was) (reads m) (faults was) (faults m) (page_count m) cause
   cause-of-stop was new m f cause effects is stops same = subst (λ z. HasCause tells (reads was) (reads z) (faults was) (faults z) (page_count z) cause) (sym same) (cause_of_stop was new f cause effects is stops)
@@ -145,7 +147,7 @@ module _ {M : Type 0} (tells : Bool) (reads : M → Image) (may_leave : M → Im
     damaged = λ page e told. let k : Some (down.Damaged n) ≡ Some cause = is in let same : n ≡ page = cc in un.damaged told n refl ∙ ap (λ z. Err z) same;
     full = λ pages e. absurd (let k : Some (down.Damaged n) ≡ Some cause = is in cc);
   }
-  cause_of_opening was new opening.NoMemory cause is un = absurd (let k : None {A = DownCause} ≡ Some cause = is in cc)
+  cause_of_opening was new opening.NoMemory cause is un = absurd (let k : None ≡ Some cause = is in cc)
 
   pub cause-of-opening : (was new m : M) (f : OpenFault) (cause : DownCause) → down_of_opening f ≡ Some cause → IsUnopened tells reads may_leave faults was new f → m ≡ new → HasCause tells (reads was) (reads m) (faults was) (faults m) (page_count m) cause
   cause-of-opening was new m f cause is un same = subst (λ z. HasCause tells (reads was) (reads z) (faults was) (faults z) (page_count z) cause) (sym same) (cause_of_opening was new f cause is un)

@@ -19,7 +19,7 @@ use Rattle.serial_model.specs.Questions.{Tree, Ends, Says, Reads, Writes, IsFron
 use Rattle.serial_model.proofs.QuestionLemmas.{perform-told}
 use Rattle.serial_model.proofs.ScriptLemmas.{talk_of}
 use Rattle.stored_run.specs.Growth.{Grown, with_line, with_lines}
-use Rattle.stored_run.specs.Ready.{HasBytes, AnswerHasBytes}
+use Rattle.request_ranges.specs.Requests.{HasBytes, AnswerHasBytes}
 
 -- ---- lines
 

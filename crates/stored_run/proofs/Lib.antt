@@ -16,3 +16,4 @@ pub mod RunLemmas
 pub mod LogLemmas
 pub mod AfterLemmas
 pub mod CourseLemmas
+pub mod RanLemmas

@@ -34,7 +34,7 @@ use Rattle.object_history.specs.declared.steps.WriteStep.TheVariants as written
 use Rattle.object_history.specs.Answers.{read_step, write_step}
 use Rattle.stored_run.specs.Growth.{Grown, grown_to, stretch_if, stretch_mark_if, stretches, with_line, with_lines}
 use Rattle.stored_run.specs.Kept.{kept_map}
-use Rattle.stored_run.specs.Ready.{HasBytes, AnswerHasBytes}
+use Rattle.request_ranges.specs.Requests.{HasBytes, AnswerHasBytes}
 use Rattle.stored_run.specs.Requests.{IsGoing, lines_so_far, ComesTo, Goes, AreNext, Shows, IsOver}
 use Rattle.stored_run.specs.Standing.{time_of, IsLone}
 use Rattle.stored_run.proofs.GrowthLemmas.{lines-append, grown-read, grown-write, talked-front, next-read, next-write, lines-alone, lines-more, reads-bytes, writes-bytes}

@@ -91,3 +91,12 @@ module _ {M : Type 0} (tells : Bool) (reads : M → Image) (may_leave : M → Im
   stands-in-act a b c cause acts i act st now image at first second told left =
       subst (λ z. HasFront (held reads a ++ added (take i acts) st) (effects_of act z) image) at
       (subst (λ z. HasFront z (effects_of act now) image) (first.log told) (second.images told image left))
+
+  pub halts-in-act : (a b c : M) (cause : StoreFault) (acts : List ActSpec) (i : ℕ) (act : ActSpec) (st now : Stand) (old new : List ActReport) (s : Option StampParts) (lines : List Line) (objects : Objects) → i < length acts → act ≡ get_or acts i act → now ≡ left_by (take i acts) st
+      → old ≡ reports_of (take i acts) st → Adds tells reads is_failed page_count faults a b (added (take i acts) st) → Stops tells reads may_leave page_count faults b c cause (effects_of act now) → (new ≡ old) × IsHaltedIn act now s lines objects
+      → IsHaltedOver tells (may_leave c) (held reads a) acts st new s lines objects
+  unfolding halted-in-act
+  halts-in-act a b c cause acts i act st now old new s lines objects within is at so_far first second halted = record {
+    halted = halted-in-act acts i act st now old new s lines objects within is at so_far halted;
+    stands = λ told image left. stands-in-act a b c cause acts i act st now image at first second told left;
+  }

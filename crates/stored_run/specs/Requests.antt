@@ -15,7 +15,7 @@ use Rattle.serial_run.specs.Standing.{Stands}
 use Rattle.object_history.specs.declared.marks.Mark.{Mark}
 use Rattle.stored_run.specs.Growth.{Grown, grown_to, with_lines}
 use Rattle.stored_run.specs.Kept.{kept_map}
-use Rattle.stored_run.specs.Ready.{HasBytes, AnswerHasBytes}
+use Rattle.request_ranges.specs.Requests.{HasBytes, AnswerHasBytes}
 use Rattle.stored_run.specs.Standing.{IsLone}
 
 -- it is alone, its answers are those that it has over the kept map, and what it will ask for has bytes

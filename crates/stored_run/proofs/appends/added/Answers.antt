@@ -22,8 +22,8 @@ returns-clause-stops g c = by-err c.append.result _ (λ e is.
           let refused = at-err c.append.result e _ is c.append.ensures.full pages full in
           let one : length (filling (c.args.effect ∷ [])) ≡ 1 = filling-one c.args.effect c.requires.bytes in
           let few : left_in c.args.store < length (filling (c.args.effect ∷ [])) = refused.1 in
-          let left = c.pages_left.ensures.left in
-          let none : c.pages_left.result ≡ 0 = omega (arith, few, one, left) in
+          let left = c.pages_left-blank.ensures.left in
+          let none : c.pages_left-blank.result ≡ 0 = omega (arith, few, one, left) in
           let same : e.0 ≡ medium_of c.args.store = sym at ∙ ap handed (c.append.ensures.fits refused.1) in
-          (refused.0, λ told. ap (λ z. count_by is_blank (g.M.Medium.reads z)) same ∙ sym (c.pages_left.ensures.blank told) ∙ none);
+          (refused.0, λ told. ap (λ z. count_by is_blank (g.M.Medium.reads z)) same ∙ sym (c.pages_left-blank.ensures.blank told) ∙ none);
     })

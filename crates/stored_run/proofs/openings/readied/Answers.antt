@@ -6,7 +6,7 @@ use Rattle.stored_run.proofs.LogLemmas.{opened-quiet, quiet-so}
 use Rattle.stored_run.proofs.openings.readied.Goals as goal
 
 pub returns-in_default-clause-stops : goal.returns-in_default-clause-stops
-returns-in_default-clause-stops g c = c.given_up.ensures.stops _
+returns-in_default-clause-stops g c = c.given_up-medium.ensures.stops _
 
 pub returns-in-Ok-withdraw_all-clause-quiet : goal.returns-in-Ok-withdraw_all-clause-quiet
 returns-in-Ok-withdraw_all-clause-quiet g c =

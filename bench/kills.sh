@@ -1,0 +1,60 @@
+#!/usr/bin/env bash
+# Ends the program by its process id in the middle of runs, 200 times or as often as the first word says.
+# Each act of a run reads 1.1, adds 1 and writes the sum to 1.1 and to 1.2. After each kill the pages of the
+# file that have a gated decision to commit are counted, and then a run that reads both objects is begun:
+# both have to be that count. The reading run withdraws its act, so it adds no such page. A fresh folder is
+# taken once fewer than 1,000 pages are blank. The proved program is built first.
+top="$(cd "$(dirname "${BASH_SOURCE[0]}")/.." && pwd)" || exit 1
+work=$(mktemp -d) || exit 1
+trap 'rm -rf "$work"' EXIT
+"$top/swallow" "$work/first" run < "$top/examples/first.plan" > /dev/null || exit 1
+program="$top/crates/swallow_main/out/swallow_main"
+kills=${1:-200}
+folder="$work/data"
+medium="$folder/repository-1-0"
+
+head='swallow plan 1\nrun 1\nrepositories 1\nbrokers 1\n'
+act='act broker 1 home 1 timeout 5 tries 3\n'
+{
+  printf "$head"
+  for _ in $(seq 180); do
+    printf "${act}read a 1.1\nlet s = given(a, 0) + 1\nwrite 1.1 s\nwrite 1.2 s\ndone\n"
+  done
+} > "$work/adds"
+printf "$head${act}read a 1.1\nread b 1.2\nwithdraw\ndone\n" > "$work/reads"
+
+# Each page as a line of its bytes.
+pages() {
+  [ -f "$medium" ] && od -An -v -tx1 -w4096 "$medium"
+}
+
+before=0 between=0 after=0 fresh=0
+for kill in $(seq "$kills"); do
+  if [ -f "$medium" ] && [ "$(pages | grep -c '^\( 00\)*$')" -lt 1000 ]; then
+    rm -rf "$folder"
+    fresh=$((fresh + 1))
+  fi
+  "$program" "$folder" run < "$work/adds" > "$work/report" &
+  process=$!
+  sleep "$(printf '0.%03d' $((RANDOM % 600)))"
+  kill -9 "$process" 2> /dev/null
+  wait "$process" 2> /dev/null
+  # A page of a decision to commit: gate, format, length 12, Decide, a stamp, Committed.
+  committed=$(pages | grep -c '^ a5 01 00 0c 04\( ..\)\{10\} 01')
+  if [ "$(pages | grep -vc '^\( 00\)*$')" -eq 0 ]; then
+    before=$((before + 1))
+  elif [ -s "$work/report" ]; then
+    after=$((after + 1))
+  else
+    between=$((between + 1))
+  fi
+  "$program" "$folder" run < "$work/reads" > "$work/read" || { echo "kill $kill: status $?"; cat "$work/read"; exit 1; }
+  value=$committed
+  [ "$committed" -eq 0 ] && value=nothing
+  if ! grep -qx "read 1.1 $value" "$work/read" || ! grep -qx "read 1.2 $value" "$work/read"; then
+    echo "kill $kill: $committed decisions to commit, but:"
+    cat "$work/read"
+    exit 1
+  fi
+done
+echo "kills $kills: before the first page $before, in the run $between, behind its end $after; fresh folders $fresh"
