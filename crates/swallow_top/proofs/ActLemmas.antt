@@ -1,44 +1,27 @@
--- Acts carried out one after another, and which of them can be.
-use Rattle.std.proofs.Common.{◌≡◌, ℕ, ◌+◌, ◌≤◌, List, [], ◌∷◌, ◌++◌, length, refl, ap, arith}
+-- The acts of a plan can be carried out.
+use Rattle.std.proofs.Common.{ℕ, List, [], ◌∷◌}
+use Rattle.pseudo_time.specs.Lists.{Every}
+use Rattle.pseudo_time.specs.StampParts.{IsInRange}
 use Rattle.value_form.specs.declared.acts.ActSpec.{ActSpec}
 use Rattle.value_form.specs.Mirror.{block}
-use Rattle.value_form.specs.Objects.{Objects}
-use Rattle.script_meaning.specs.Meaning.{perform}
-use Rattle.serial_run.specs.Attempts.{deed}
-use Rattle.script_form.proofs.RangeLemmas.{printable-range}
+use Rattle.value_form.specs.Ranges.{IsScript}
 use Rattle.plan_form.specs.declared.plans.Plan.{Plan}
 use Rattle.plan_form.specs.Plans.{IsPlan}
-use Rattle.plan_form.specs.PlanTexts.{EachAct}
-use Rattle.plan_form.proofs.PlanTextLemmas.{plan_is_whole}
-use Rattle.swallow_top.specs.Ready.{AreReady}
-use Rattle.swallow_top.specs.Runs.{script_of, act_of, acts_of, left_by}
+use Rattle.request_ranges.specs.Ranges.{BlockInRange}
+use Rattle.request_ranges.proofs.RequestLemmas.{denote-HasBytes}
+use Rattle.request_ranges.proofs.PlanLemmas.{plan-scripts_in_range, plan-scripts, plan-names}
+use Rattle.stored_run.specs.Ready.{AreReady}
 
--- ---- one after another
-
-pub acts_of-split : (before more : List ActSpec) (act : ActSpec) (m : Objects) → acts_of (before ++ act ∷ more) m ≡ acts_of before m ++ act_of act (perform (script_of act) (left_by before m)) ∷ acts_of more (deed (script_of act) (left_by before m))
-acts_of-split [] more act m = refl
-acts_of-split (a ∷ before) more act m = ap (λ z. act_of a (perform (script_of a) m) ∷ z) (acts_of-split before more act (deed (script_of a) m))
-
--- ---- which can be carried out
-
-each_ready : (repositories brokers n : ℕ) (acts : List ActSpec) → repositories ≤ 16 → brokers ≤ 16 → 1 ≤ n → n + length acts ≤ 10001 → EachAct repositories brokers n acts → AreReady acts
-each_ready repositories brokers n [] few_r few_b low high h = tt
-each_ready repositories brokers n (act ∷ more) few_r few_b low high (is, others) = (
+each_ready : (acts : List ActSpec) → Every (λ act. IsScript act.script.lines) acts → Every (λ act. BlockInRange (block act.script.lines)) acts → Every (λ act. IsInRange 1 act.broker act.home) acts → AreReady acts
+each_ready [] scripts ranges names = tt
+each_ready (act ∷ more) scripts ranges names = (
   record {
-    script = printable-range repositories (block act.script.lines) is.script;
-    stamp = record {
-      clock_low = (let k = is.index in omega arith);
-      clock_high = (let k = is.index in omega arith);
-      broker_low = is.broker.0;
-      broker_high = (let k = is.broker.1 in omega arith);
-      home_low = is.home.0;
-      home_high = (let k = is.home.1 in omega arith);
-    };
+    script = scripts.0;
+    requests = denote-HasBytes (block act.script.lines) ranges.0;
+    names = names.0;
   },
-  each_ready repositories brokers (n + 1) more few_r few_b (omega arith) (omega arith) others,
+  each_ready more scripts.1 ranges.1 names.1,
 )
 
 pub plan_is_ready : (bytes : List ℕ) (plan : Plan) → IsPlan bytes plan → AreReady plan.acts
-plan_is_ready bytes plan is =
-    let whole = plan_is_whole bytes plan is in
-    each_ready plan.repositories plan.brokers 1 plan.acts whole.repositories.1 whole.brokers.1 (omega arith) (let k = whole.few in omega arith) whole.acts
+plan_is_ready bytes plan is = each_ready plan.acts (plan-scripts bytes plan is) (plan-scripts_in_range bytes plan is) (plan-names bytes plan is)

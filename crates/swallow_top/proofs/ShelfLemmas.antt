@@ -1,17 +1,24 @@
 -- What is said of a medium, said of its place on the shelf.
-use Rattle.std.proofs.Common.{◌≡◌, ℕ, Bool, IsTrue, List, ◌++◌, ap, ◌∙◌, sym, subst, Ok, Err, Option, Some, None, ◌⊎◌, inl, inr}
+use Rattle.std.proofs.Common.{◌≡◌, ℕ, Bool, IsTrue, List, [], ◌∷◌, ◌++◌, map, refl, ap, ◌∙◌, sym, subst, Ok, Err, Option, Some, None, ◌⊎◌, inl, inr}
+use Rattle.std.specs.FinMap as finite
+use Rattle.stream_port.specs.Causes.{Rose}
 use Rattle.medium_port.specs.Image.{Image}
 use Rattle.medium_port.specs.Names.{IsJustSo}
 use Rattle.value_form.specs.declared.acts.ActSpec.{ActSpec}
 use Rattle.value_form.specs.Objects.{Objects}
 use Rattle.effect_form.specs.declared.effects.Effect.{Effect}
 use Rattle.report_writer.specs.declared.records.ActReport.{ActReport}
+use Rattle.plan_form.specs.declared.plans.Plan.{Plan}
 use Rattle.report_writer.specs.declared.records.DownCause.{DownCause}
+use Rattle.report_writer.specs.declared.records.DownCause.TheVariants as down
+use Rattle.report_writer.specs.Reports.{report_text}
 use Rattle.version_store.specs.Storage.{storage}
 use Rattle.stored_run.specs.Ends.{CameTo, HasCauseIfAny, IsKept, WasCarriedOut, StoppedBefore, StoppedIn, NeverOpened}
 use Rattle.stored_run.specs.Media.{HasFront}
-use Rattle.stored_run.specs.Runs.{effects_over}
-use Rattle.swallow_top.specs.Shelves.{LosesNothing}
+use Rattle.stored_run.specs.Runs.{effects_over, untried}
+use Rattle.swallow_top.specs.Runs.{repository, report_with}
+use Rattle.swallow_top.specs.Shelves.{LosesNothing, AllLoseNothing, CameOver, IsTextOf}
+use Rattle.swallow_top.specs.declared.media.Kept.{Kept}
 
 -- on the shelf the medium was as it is read: it holds had, and may hold what is before
 module _ (tells : Bool) (had was : Image) (before now : Image → Type 0) (just : IsTrue tells → IsJustSo had was before now) where
@@ -78,3 +85,39 @@ module _ (tells : Bool) (had was : Image) (before now : Image → Type 0) (just 
       by : now i ⊎ ((log : List Effect) × (storage was ≡ Ok log) × HasFront log (effects_over acts log) i) → before i ⊎ ((log more : List Effect) × (storage had ≡ Ok log) × (storage i ≡ Ok (log ++ more)))
       by (inl might) = inl ((just told).no_more i might)
       by (inr some) = inr (some.0, some.2.front, ap storage (sym (just told).reads_same) ∙ some.1, some.2.is)
+
+-- ---- what is handed back
+
+-- a text that is the report of what was done over the medium that is handed back alone
+pub text-over : {M : Type 0} (tells : Bool) (reads : M → Image) (may_leave : M → Image → Type 0) (page_count faults : M → ℕ) (had : Image) (before : Image → Type 0) (m : M) (medium_faults shelf_faults shelf_faults_now : ℕ) → (IsTrue tells → IsJustSo had (reads m) before (may_leave m))
+    → faults m ≡ medium_faults → (plan : Plan) (acts : List ActSpec) (cause : Option DownCause) (reports : List ActReport) (objects : Objects) (text : List ℕ) (new : M) (k : Kept M) (old media : List (Kept M)) → acts ≡ plan.acts → CameTo tells (reads m) (may_leave m) (may_leave new) cause acts reports objects
+    → HasCauseIfAny tells (reads m) (reads new) (faults m) (faults new) (page_count new) cause → text ≡ report_text (report_with plan cause reports objects) → k ≡ record { node = repository; volume = 0; medium = new } → old ≡ [] → media ≡ old ++ k ∷ []
+    → IsTextOf tells reads may_leave page_count faults had before medium_faults shelf_faults shelf_faults_now plan cause text media
+text-over tells reads may_leave page_count faults had before m medium_faults shelf_faults shelf_faults_now just count plan acts cause reports objects text new k old media same came why is_text is none are = record {
+  reports = reports;
+  objects = objects;
+  came = subst (λ z. CameOver tells reads may_leave page_count faults had before medium_faults shelf_faults shelf_faults_now plan.acts cause reports objects z) (sym (are ∙ ap (λ z. z ++ k ∷ []) none ∙ ap (λ z. z ∷ []) is))
+      (
+        refl,
+        refl,
+        subst (λ z. CameTo tells had before (may_leave new) cause z reports objects) same (came-on-shelf tells had (reads m) before (may_leave m) just (may_leave new) cause acts reports objects came),
+        subst (λ z. HasCauseIfAny tells had (reads new) z (faults new) (page_count new) cause) count (cause-on-shelf tells had (reads m) before (may_leave m) just (reads new) (faults m) (faults new) (page_count new) cause why),
+      );
+  is_text = is_text;
+}
+
+-- a text that is the report of a run whose medium wasn't taken
+pub text-untaken : {M : Type 0} (tells : Bool) (reads : M → Image) (may_leave : M → Image → Type 0) (page_count faults : M → ℕ) (had : Image) (before : Image → Type 0) (medium_faults shelf_faults shelf_faults_now : ℕ) (plan : Plan) (text : List ℕ) (media : List (Kept M)) → media ≡ [] → Rose shelf_faults shelf_faults_now
+    → text ≡ report_text (report_with plan (Some down.Medium) (map untried plan.acts) finite.empty) → IsTextOf tells reads may_leave page_count faults had before medium_faults shelf_faults shelf_faults_now plan (Some down.Medium) text media
+text-untaken tells reads may_leave page_count faults had before medium_faults shelf_faults shelf_faults_now plan text media none rose is_text = record {
+  reports = map untried plan.acts;
+  objects = finite.empty;
+  came = subst (λ z. CameOver tells reads may_leave page_count faults had before medium_faults shelf_faults shelf_faults_now plan.acts (Some down.Medium) (map untried plan.acts) finite.empty z) (sym none) (refl, refl, refl, rose);
+  is_text = is_text;
+}
+
+-- nothing of the one medium that is handed back is lost
+pub one-loses-nothing : {M : Type 0} (tells : Bool) (may_leave : M → Image → Type 0) (had was : Image) (before now : Image → Type 0) → (IsTrue tells → IsJustSo had was before now) → (acts : List ActSpec) (new : M) (k : Kept M) (old media : List (Kept M)) → IsKept tells was now (may_leave new) acts
+    → k ≡ record { node = repository; volume = 0; medium = new } → old ≡ [] → media ≡ old ++ k ∷ [] → AllLoseNothing tells may_leave had before media
+one-loses-nothing tells may_leave had was before now just acts new k old media kept is none are =
+    subst (AllLoseNothing tells may_leave had before) (sym (are ∙ ap (λ z. z ++ k ∷ []) none ∙ ap (λ z. z ∷ []) is)) (loses-nothing tells had was before now just (may_leave new) acts kept, tt)

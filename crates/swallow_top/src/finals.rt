@@ -42,6 +42,27 @@ fn downs_of(alloc: Global, down: Option<DownCause>) -> Result<Vec<Down>, AllocEr
     Ok(downs)
 }
 
+// The report of a run.
+fn report_of(
+    alloc: Global,
+    plan: &Plan,
+    down: Option<DownCause>,
+    acts: Vec<ActReport>,
+    objects: ObjectMap,
+) -> Result<Report, AllocError>
+    ensures { IfOk result (λ r. r ≡ spec.report_with plan.now down acts.items objects) }
+{
+    let finals = finals_of(alloc, objects)?;
+    let downs = downs_of(alloc, down)?;
+    Ok(Report {
+        run: plan.run,
+        acts: Items::of(acts),
+        finals: Items::of(finals),
+        downs: Items::of(downs),
+        wire: None,
+    })
+}
+
 /// The text of the report of a run.
 pub fn text_of(
     alloc: Global,
@@ -52,15 +73,7 @@ pub fn text_of(
 ) -> Result<Vec<u8>, AllocError>
     ensures { IfOk result (λ v. v.items ≡ report_text (spec.report_with plan.now down acts.items objects)) }
 {
-    let finals = finals_of(alloc, objects)?;
-    let downs = downs_of(alloc, down)?;
-    let report = Report {
-        run: plan.run,
-        acts: Items::of(acts),
-        finals: Items::of(finals),
-        downs: Items::of(downs),
-        wire: None,
-    };
+    let report = report_of(alloc, plan, down, acts, objects)?;
     let text = write_report(alloc, &report)?;
     Ok(text.into_vec())
 }
