@@ -1,5 +1,8 @@
 -- The marks of the log that a run leaves, and the attempts that it begins.
 use Rattle.std.proofs.Common.{◌≡◌, ℕ, Bool, true, false, List, [], ◌∷◌, ◌++◌, reverse, refl, sym, ◌∙◌, ap, map, if◌then◌else◌, Option, Some, None}
+use Rattle.std.specs.Prelude.{◌+◌, ◌<◌, ◌≤◌, nat_lt, length}
+use Rattle.std.proofs.Common.{arith}
+use Rattle.std.proofs.lemmas.Bool.{cond-true, lt-ltb}
 use Rattle.std.proofs.lemmas.List.{append_assoc, append-nil, reverse-append}
 use Rattle.pseudo_time.specs.StampParts.{StampParts}
 use Rattle.pseudo_time.specs.TimeParts.{TimeParts}
@@ -13,6 +16,7 @@ use Rattle.value_form.specs.Objects.{Objects}
 use Rattle.effect_form.specs.declared.effects.Effect.{Effect}
 use Rattle.effect_form.specs.declared.effects.Effect.TheVariants.{Begin, Decide, Put, Stretch, Learn, Run, Act, Try, Got, Acked, End}
 use Rattle.script_meaning.specs.Meaning.{perform}
+use Rattle.serial_run.specs.Attempts.{deeds}
 use Rattle.object_history.specs.declared.marks.Mark.{Mark}
 use Rattle.object_history.specs.declared.marks.Mark.TheVariants as mark
 use Rattle.object_history.specs.History.{settle_of, is_settled}
@@ -20,7 +24,7 @@ use Rattle.repository_core.specs.Logs.{marks, is_commit}
 use Rattle.stored_run.specs.Attempts.{begun, attempts_in}
 use Rattle.stored_run.specs.Growth.{Grown, with_line, with_lines, stretch_if, stretch_mark_if, stretches}
 use Rattle.stored_run.specs.Logs.{starters, withdrawn, withdrawn_marks}
-use Rattle.stored_run.specs.Runs.{Stand, opened, withdrawals, next_of, stamp_of, script_of, grown_with, effects_with, effects_by, after_by, report_by, effects_of, report_of, after, added, reports_of, left_by, effects_over, decision_of, is_finished}
+use Rattle.stored_run.specs.Runs.{Stand, opened, withdrawals, next_of, stamp_of, script_of, grown_with, effects_with, effects_by, after_by, report_by, settled, effects_of, report_of, after, added, reports_of, left_by, effects_over, decision_of, is_finished}
 use Rattle.stored_run.specs.Standing.{time_of}
 
 -- ---- effects behind a log
@@ -157,3 +161,19 @@ pub begun-over : (acts : List ActSpec) (log : List Effect) → begun (effects_ov
 begun-over acts log =
     begun_append (withdrawals log) (added acts (opened log)) ∙ ap (λ z. z ++ begun (added acts (opened log))) (begun_withdrawn (starters (reverse log)) (marks (reverse log)))
     ∙ begun-added acts (opened log)
+
+pub begun-act : (act : ActSpec) (st : Stand) (clock : ℕ) → next_of st.clock ≡ Some clock → begun (effects_of act st) ≡ stamp_of act clock ∷ []
+begun-act act st clock is = ap (λ z. begun (effects_by z act st)) is ∙ begun_attempted (stamp_of act clock) (script_of act) act.timeout st.marks st.objects
+
+-- ---- the map
+
+-- while there is a clock, an act does its deed and takes it
+clock_left : (act : ActSpec) (st : Stand) → st.clock < 1099511627775 → after act st ≡ settled act (stamp_of act (st.clock + 1)) st
+clock_left act st left = ap (λ z. after_by z act st) (cond-true (nat_lt st.clock 1099511627775) (Some (st.clock + 1)) None (lt-ltb st.clock 1099511627775 left))
+
+pub map-after : (acts : List ActSpec) (st : Stand) → st.clock + length acts ≤ 1099511627775 → (left_by acts st).objects ≡ deeds (map script_of acts) st.objects
+map-after [] st left = refl
+map-after (act ∷ more) st left =
+    let is = clock_left act st (omega (arith, left)) in
+    let clock : (after act st).clock ≡ st.clock + 1 = ap (λ z. z.clock) is in
+    map-after more (after act st) (omega (arith, left, clock)) ∙ ap (deeds (map script_of more)) (ap (λ z. z.objects) is)

@@ -12,5 +12,5 @@ mod openings;
 mod requests;
 mod runs;
 
-pub use laws::{law_of_acts, law_of_attempts, law_of_logs};
+pub use laws::{law_of_acts, law_of_attempts, law_of_logs, law_of_maps};
 pub use runs::{Ran, run, untried};
