@@ -23,7 +23,7 @@ use Rattle.stored_run.specs.Kept.{kept_map}
 use Rattle.stored_run.specs.Media.{Adds, Stops}
 use Rattle.request_ranges.specs.Requests.{HasBytes, AnswerHasBytes}
 use Rattle.stored_run.specs.Ready.{IsReady}
-use Rattle.stored_run.specs.Requests.{IsGoing, Shows, ShowsSome}
+use Rattle.stored_run.specs.Requests.{IsGoing, ShowsSome}
 use Rattle.stored_run.specs.Runs.{decision_of, is_finished, effects_with, IsAtWork}
 use Rattle.stored_run.specs.Standing.{IsLone}
 use Rattle.stored_run.proofs.GrowthLemmas.{lines-more}

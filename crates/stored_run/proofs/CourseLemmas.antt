@@ -1,11 +1,9 @@
 -- What a run comes to, from what its parts did to the medium.
-use Rattle.std.proofs.Common.{◌≡◌, ℕ, ◌+◌, Bool, IsTrue, List, [], ◌∷◌, ◌++◌, length, map, reverse, refl, sym, ◌∙◌, ap, subst, Ok, Err, Result, Option, Some, None, ◌⊎◌, inl, inr, arith}
-use Rattle.std.specs.Prelude.{◌≢◌, IfOk}
+use Rattle.std.proofs.Common.{◌≡◌, ℕ, Bool, IsTrue, List, [], ◌∷◌, ◌++◌, length, map, reverse, refl, sym, ◌∙◌, ap, subst, Ok, Err, Result, Option, Some, None, inl, inr}
 use Prim.Native.Nat.{suc}
 use Rattle.std.specs.FinMap as finite
 use Rattle.std.proofs.lemmas.List.{append_assoc, append-nil}
-use Rattle.stream_port.specs.Causes.{Rose}
-use Rattle.medium_port.specs.Image.{Image, NoMore}
+use Rattle.medium_port.specs.Image.{Image}
 use Rattle.pseudo_time.specs.StampParts.{StampParts}
 use Rattle.value_form.specs.declared.acts.ActSpec.{ActSpec}
 use Rattle.value_form.specs.declared.transcripts.Line.{Line}

@@ -1,22 +1,22 @@
 -- How an attempt ends, and what it comes to in all.
-use Rattle.std.proofs.Common.{◌≡◌, ℕ, ◌+◌, List, [], ◌∷◌, ◌++◌, refl, sym, ◌∙◌, ap, subst}
+use Rattle.std.proofs.Common.{◌≡◌, ℕ, List, [], ◌∷◌, ◌++◌, sym, ◌∙◌, ap}
 use Rattle.std.proofs.lemmas.List.{append_assoc}
 use Rattle.pseudo_time.specs.StampParts.{StampParts}
 use Rattle.value_form.specs.declared.endings.Ending.{Ending}
 use Rattle.value_form.specs.declared.endings.Ending.TheVariants.{Finished, Withdrawn, Failed}
 use Rattle.value_form.specs.declared.transcripts.Line.{Line}
-use Rattle.value_form.specs.Mirror.{Block, block}
+use Rattle.value_form.specs.Mirror.{block}
 use Rattle.value_form.specs.Objects.{Objects}
 use Rattle.effect_form.specs.declared.effects.Effect.{Effect}
 use Rattle.effect_form.specs.declared.effects.Effect.TheVariants.{Decide}
-use Rattle.script_meaning.specs.Meaning.{Over, Came, perform}
+use Rattle.script_meaning.specs.Meaning.{Over, perform}
 use Rattle.script_run.specs.Told.{Told}
 use Rattle.serial_model.specs.Questions.{denote}
 use Rattle.serial_model.specs.Overlays.{overlaid}
 use Rattle.serial_run.specs.Attempts.{left_of}
 use Rattle.object_history.specs.declared.marks.Mark.{Mark}
 use Rattle.object_history.specs.declared.marks.Mark.TheVariants.{Settle}
-use Rattle.stored_run.specs.Growth.{Grown, grown_to, with_lines}
+use Rattle.stored_run.specs.Growth.{grown_to, with_lines}
 use Rattle.stored_run.specs.Kept.{kept_map}
 use Rattle.stored_run.specs.Requests.{lines_so_far, AreNext, IsEnded}
 use Rattle.stored_run.specs.Runs.{decision_of, is_finished, grown_with, effects_with}

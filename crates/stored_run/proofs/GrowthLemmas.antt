@@ -1,10 +1,9 @@
 -- How the log grows with the answers of an attempt.
-use Rattle.std.proofs.Common.{◌≡◌, ℕ, ◌+◌, List, [], ◌∷◌, ◌++◌, refl, sym, ◌∙◌, ap, subst, arith}
+use Rattle.std.proofs.Common.{◌≡◌, List, [], ◌∷◌, ◌++◌, refl, sym, ◌∙◌, ap, subst}
 use Rattle.std.proofs.lemmas.List.{append_assoc, append-nil}
 use Rattle.std.specs.FinMap as finite
 use Rattle.pseudo_time.specs.StampParts.{StampParts}
 use Rattle.pseudo_time.specs.Lists.{Every}
-use Rattle.value_form.specs.declared.endings.Ending.{Ending}
 use Rattle.value_form.specs.declared.objects.ObjectId.{ObjectId}
 use Rattle.value_form.specs.declared.transcripts.Line.{Line}
 use Rattle.value_form.specs.declared.transcripts.Line.TheVariants as line
@@ -14,10 +13,9 @@ use Rattle.value_form.specs.ValueBytes.{IsValue}
 use Rattle.value_form.specs.Mirror.{Block}
 use Rattle.value_form.specs.Objects.{Objects, value_at}
 use Rattle.effect_form.specs.declared.effects.Effect.{Effect}
-use Rattle.script_meaning.specs.Meaning.{Request, ToRead, ToWrite, Stop, Asks, Over, Answer, Got, Stored, perform, talk}
+use Rattle.script_meaning.specs.Meaning.{ToRead, ToWrite, Asks, Over, Answer, Got, Stored, perform}
 use Rattle.serial_model.specs.Questions.{Tree, Ends, Says, Reads, Writes, IsFrontOf, denote, talked, told, stop, Agrees, left_after}
 use Rattle.serial_model.proofs.QuestionLemmas.{perform-told}
-use Rattle.serial_model.proofs.ScriptLemmas.{talk_of}
 use Rattle.stored_run.specs.Growth.{Grown, with_line, with_lines}
 use Rattle.request_ranges.specs.Requests.{HasBytes, AnswerHasBytes}
 

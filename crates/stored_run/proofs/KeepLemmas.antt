@@ -1,5 +1,5 @@
 -- One mark more while a log is read.
-use Rattle.std.proofs.Common.{◌≡◌, Bool, true, false, List, [], ◌∷◌, refl, sym, ◌∙◌, ap, subst, Option, Some, None, ◌&&◌, not, if◌then◌else◌, cond}
+use Rattle.std.proofs.Common.{◌≡◌, Bool, true, false, List, [], ◌∷◌, refl, sym, ◌∙◌, ap, Option, Some, None, ◌&&◌, not, if◌then◌else◌, cond}
 use Rattle.std.proofs.lemmas.Bool.{false≢true, true≢false}
 use Rattle.std.specs.Option.{option_map}
 use Rattle.std.specs.BTreeMap.{BTreeMap, get, is_at, Updates}
@@ -7,15 +7,13 @@ use Rattle.std.specs.Map.{lookup}
 use Rattle.std.specs.FinMap as finite
 use Rattle.pseudo_time.specs.StampParts.{StampParts}
 use Rattle.pseudo_time.specs.TimeParts.{TimeParts}
-use Rattle.pseudo_time.specs.Order.{lt}
 use Rattle.value_form.specs.declared.objects.ObjectId.{ObjectId}
 use Rattle.value_form.specs.declared.values.Value.{Value}
 use Rattle.value_form.specs.Objects.{Objects, object_cmp}
 use Rattle.object_history.specs.declared.marks.Mark.{Mark}
 use Rattle.object_history.specs.declared.marks.Mark.TheVariants.{Put, Stretch, Settle}
 use Rattle.object_history.specs.Objects.{same_object}
-use Rattle.object_history.specs.History.{Seen, settle_of, is_committed, version_count, starts_above, pick, scan}
-use Rattle.object_history.proofs.BoolLemmas.{not-false}
+use Rattle.object_history.specs.History.{Seen, is_committed, version_count, starts_above, pick, scan}
 use Rattle.object_history.proofs.ObjectLemmas.{same_object-is}
 use Rattle.object_history.proofs.ScanLemmas.{scan-kept}
 use Rattle.stored_run.specs.Kept.{committed, kept_in}

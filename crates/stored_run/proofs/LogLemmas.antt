@@ -1,13 +1,11 @@
 -- What an opening needs to know of a log: every put's attempt is among those that may be withdrawn, and no clock is above the greatest.
-use Rattle.std.proofs.Common.{◌≡◌, ℕ, ◌≤◌, Bool, true, List, [], ◌∷◌, refl, sym, ap, subst, Option, Some, None, ◌⊎◌, inl, inr, arith}
+use Rattle.std.proofs.Common.{◌≡◌, ℕ, ◌≤◌, true, List, [], ◌∷◌, refl, sym, subst, ◌⊎◌, inl, inr, arith}
 use Rattle.std.specs.Prelude.{max}
-use Rattle.std.proofs.lemmas.Grind.{common_steps}
 use Rattle.std.specs.BTreeSet.{insert_key}
 use Rattle.std.specs.Ordering.{match_ordering}
 use Rattle.std.specs.declared.cmp.Ordering.{Ordering}
 use Rattle.std.specs.declared.cmp.Ordering.TheVariants.{Less, Equal, Greater}
 use Rattle.pseudo_time.specs.StampParts.{StampParts, stamp_cmp}
-use Rattle.pseudo_time.specs.TimeParts.{TimeParts}
 use Rattle.pseudo_time.specs.Lists.{Every, Has}
 use Rattle.pseudo_time.proofs.OrderLemmas.{stamp_cmp-exact}
 use Rattle.pseudo_time.proofs.ListLemmas.{every-map}
@@ -17,7 +15,7 @@ use Rattle.effect_form.specs.declared.effects.Effect.TheVariants.{Put, Stretch, 
 use Rattle.object_history.specs.declared.marks.Mark.{Mark}
 use Rattle.object_history.specs.History.{settle_of, is_settled}
 use Rattle.repository_core.specs.Logs.{marks}
-use Rattle.stored_run.specs.Logs.{clock_of, last_clock, starters, withdrawn_marks}
+use Rattle.stored_run.specs.Logs.{last_clock, starters, withdrawn_marks}
 use Rattle.stored_run.specs.Kept.{kept_map}
 use Rattle.stored_run.specs.Standing.{EachStart, ClocksTo, IsQuiet}
 use Rattle.stored_run.proofs.MarkLemmas.{each-start, clocks-more}

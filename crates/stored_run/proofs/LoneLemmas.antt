@@ -1,5 +1,5 @@
 -- No request of an attempt that is alone is refused or made to wait.
-use Rattle.std.proofs.Common.{◌≡◌, ℕ, ◌+◌, ◌≤◌, Bool, true, false, List, [], ◌∷◌, refl, sym, ◌∙◌, ap, subst, Option, Some, None, ◌⊎◌, inl, inr, ◌&&◌, ◌||◌, not, if◌then◌else◌, arith}
+use Rattle.std.proofs.Common.{◌≡◌, ℕ, ◌+◌, Bool, true, false, List, [], ◌∷◌, refl, sym, ◌∙◌, ap, Option, Some, None, ◌⊎◌, inl, inr, ◌&&◌, ◌||◌, not, if◌then◌else◌, arith}
 use Rattle.std.proofs.lemmas.Bool.{false≢true, true≢false}
 use Rattle.std.specs.Prelude.{unwrap_or}
 use Rattle.std.specs.Option.{option_map}
@@ -14,20 +14,19 @@ use Rattle.value_form.specs.declared.values.Value.TheVariants.{Nothing}
 use Rattle.value_form.specs.Objects.{Objects, value_at}
 use Rattle.object_history.specs.declared.marks.Mark.{Mark}
 use Rattle.object_history.specs.declared.marks.Mark.TheVariants.{Put, Stretch, Settle}
-use Rattle.object_history.specs.declared.steps.ReadStep.{ReadStep}
 use Rattle.object_history.specs.declared.steps.ReadStep.TheVariants as read
 use Rattle.object_history.specs.declared.steps.WriteStep.TheVariants as write
 use Rattle.object_history.specs.Objects.{same_object, same_value}
 use Rattle.object_history.specs.History.{Seen, settle_of, is_alive, is_settled, is_committed, alive, version_count, starts_above, pick, scan, sees, newest, place_of, same_place, top, stretched, reach}
-use Rattle.object_history.specs.Answers.{needs_stretch, read_seen, read_step, has_put, stands_written, write_reach, write_newest, write_step}
+use Rattle.object_history.specs.Answers.{needs_stretch, read_seen, read_step, has_put, write_reach, write_newest, write_step}
 use Rattle.object_history.proofs.Words.{Ends}
 use Rattle.object_history.proofs.BoolLemmas.{not-false}
 use Rattle.object_history.proofs.ObjectLemmas.{same_object-is}
 use Rattle.object_history.proofs.ScanLemmas.{Standing, standing, same-scan, scan-kept}
 use Rattle.serial_model.specs.Overlays.{overlaid}
 use Rattle.serial_model.proofs.OverlayLemmas.{overlaid-insert}
-use Rattle.stored_run.specs.Kept.{committed, kept_map}
-use Rattle.stored_run.specs.Standing.{time_of, EachStart, EachTime, ClocksTo, IsLone}
+use Rattle.stored_run.specs.Kept.{committed}
+use Rattle.stored_run.specs.Standing.{time_of, EachTime, IsLone}
 use Rattle.stored_run.proofs.KeptLemmas.{get-here, get-there, same-kept}
 use Rattle.stored_run.proofs.MarkLemmas.{each-start, time-starts, starts-of, stands-each, step-below, next-below}
 

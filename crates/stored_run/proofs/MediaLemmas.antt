@@ -1,12 +1,9 @@
 -- What parts of a run do to a medium, one after another.
-use Rattle.std.proofs.Common.{◌≡◌, ℕ, ◌≤◌, ◌<◌, Bool, IsTrue, List, [], ◌∷◌, ◌++◌, length, take, drop, refl, sym, ◌∙◌, ap, subst, Ok, Result, Err, ◌⊎◌, inl, inr, arith}
-use Rattle.std.specs.Prelude.{IfErr}
+use Rattle.std.proofs.Common.{◌≡◌, ℕ, Bool, List, [], ◌∷◌, ◌++◌, length, take, drop, sym, ◌∙◌, ap, subst, Ok, ◌⊎◌, inl, inr, arith}
 use Rattle.std.proofs.lemmas.List.{append_assoc, append-nil, take-append-drop}
-use Rattle.stream_port.specs.Causes.{Rose}
 use Rattle.medium_port.specs.Image.{Image}
 use Rattle.effect_form.specs.declared.effects.Effect.{Effect}
 use Rattle.version_store.specs.Filling.{HasBytes, HasPrefix, filling}
-use Rattle.version_store.specs.Storage.{storage}
 use Rattle.version_store.specs.declared.faults.StoreFault.{StoreFault}
 use Rattle.version_store.specs.declared.faults.StoreFault.TheVariants.{Medium, Full, NoMemory}
 use Rattle.version_store.proofs.FillingLemmas.{size_most, filling-takes}

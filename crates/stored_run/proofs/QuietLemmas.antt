@@ -1,5 +1,5 @@
 -- Between two acts each put is settled: an attempt begins alone, and ends so.
-use Rattle.std.proofs.Common.{◌≡◌, ℕ, ◌+◌, ◌≤◌, ◌<◌, Bool, true, false, List, [], ◌∷◌, refl, sym, ◌∙◌, ap, subst, Option, Some, None, ◌⊎◌, inl, inr, if◌then◌else◌, arith}
+use Rattle.std.proofs.Common.{◌≡◌, ℕ, ◌≤◌, ◌<◌, Bool, true, false, List, [], ◌∷◌, refl, sym, ◌∙◌, ap, Option, Some, None, ◌⊎◌, inl, inr, if◌then◌else◌, arith}
 use Rattle.std.proofs.lemmas.Bool.{false≢true}
 use Rattle.std.specs.Option.{option_map}
 use Rattle.std.specs.FinMap as finite
@@ -9,9 +9,8 @@ use Rattle.pseudo_time.specs.Lists.{Every, Has}
 use Rattle.value_form.specs.declared.objects.ObjectId.{ObjectId}
 use Rattle.value_form.specs.Objects.{Objects}
 use Rattle.object_history.specs.declared.marks.Mark.{Mark}
-use Rattle.object_history.specs.declared.marks.Mark.TheVariants.{Put, Stretch, Settle}
-use Rattle.object_history.specs.History.{Seen, settle_of, is_alive, is_settled, is_committed, alive, scan, newest}
-use Rattle.object_history.specs.Views.{Starts}
+use Rattle.object_history.specs.declared.marks.Mark.TheVariants.{Settle}
+use Rattle.object_history.specs.History.{settle_of, is_alive, is_settled, is_committed, alive, scan, newest}
 use Rattle.object_history.proofs.ScanLemmas.{same-scan}
 use Rattle.object_history.proofs.StableLemmas.{starts-all}
 use Rattle.serial_model.specs.Overlays.{overlaid}

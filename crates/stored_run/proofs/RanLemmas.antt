@@ -1,5 +1,5 @@
 -- What a run that stopped in an act comes to.
-use Rattle.std.proofs.Common.{◌≡◌, ℕ, Bool, List, ◌∷◌, ◌++◌, length, map, sym, ap, ◌∙◌, subst, Ok, Err, Result, Some, None, inl}
+use Rattle.std.proofs.Common.{◌≡◌, ℕ, Bool, List, ◌∷◌, ◌++◌, length, map, sym, ap, ◌∙◌, subst, Ok, Err, Result, Some, inl}
 use Rattle.std.specs.Prelude.{◌≢◌, IfOk, IfErr}
 use Rattle.medium_port.specs.Image.{Image}
 use Rattle.pseudo_time.specs.StampParts.{StampParts}
@@ -16,7 +16,7 @@ use Rattle.stored_run.specs.Unready.{IsUnready}
 use Rattle.stored_run.specs.Ends.{IsHaltedOver, down_of, IsOpenedFrom, CameTo, IsKept}
 use Rattle.stored_run.specs.Media.{held, Stops}
 use Rattle.stored_run.specs.RanWords.{left_in}
-use Rattle.stored_run.specs.Runs.{Stand, stamp_of, reports_of, added, untried, open_try}
+use Rattle.stored_run.specs.Runs.{Stand, stamp_of, added, untried, open_try}
 use Rattle.stored_run.proofs.CourseLemmas.{length-reports, stopped-in, kept-stop, stops-over, stops-first}
 
 -- what makes a repository go down is no want of memory

@@ -1,6 +1,6 @@
 -- Each exit of a request keeps what always holds of an attempt.
-use Rattle.std.proofs.Common.{◌≡◌, ℕ, ◌+◌, ◌≤◌, Bool, true, false, List, [], ◌∷◌, ◌++◌, length, refl, sym, ◌∙◌, ap, subst, arith}
-use Rattle.std.proofs.lemmas.List.{append_assoc, append-nil}
+use Rattle.std.proofs.Common.{◌≡◌, ℕ, ◌+◌, Bool, true, false, List, [], ◌∷◌, ◌++◌, sym, ◌∙◌, ap, subst, arith}
+use Rattle.std.proofs.lemmas.List.{append-nil}
 use Rattle.std.specs.FinMap as finite
 use Rattle.pseudo_time.specs.StampParts.{StampParts}
 use Rattle.pseudo_time.specs.TimeParts.{TimeParts}
@@ -16,13 +16,12 @@ use Rattle.value_form.specs.ValueBytes.{IsValue}
 use Rattle.value_form.specs.Objects.{Objects, value_at}
 use Rattle.effect_form.specs.declared.effects.Effect.{Effect}
 use Rattle.effect_form.specs.declared.effects.Effect.TheVariants as effect
-use Rattle.script_meaning.specs.Meaning.{ToRead, ToWrite, Stop, Asks, Over, Answer, Got, Stored, perform, talk}
+use Rattle.script_meaning.specs.Meaning.{Over, Answer, Got, Stored}
 use Rattle.script_run.specs.declared.nexts.Next.{Next}
 use Rattle.script_run.specs.declared.nexts.Next.TheVariants as next
 use Rattle.script_run.specs.Told.{Told, answered, stop_of, Tells}
 use Rattle.serial_model.specs.Questions.{IsFrontOf, denote, told, talked, stop}
 use Rattle.serial_model.specs.Overlays.{overlaid}
-use Rattle.serial_model.proofs.AgreeLemmas.{agrees-whole}
 use Rattle.serial_model.proofs.AnswerLemmas.{talked-stop}
 use Rattle.serial_model.proofs.ScriptLemmas.{talk_of}
 use Rattle.serial_run.specs.Standing.{Stands}
@@ -35,7 +34,7 @@ use Rattle.object_history.specs.Answers.{read_step, write_step}
 use Rattle.stored_run.specs.Growth.{Grown, grown_to, stretch_if, stretch_mark_if, stretches, with_line, with_lines}
 use Rattle.stored_run.specs.Kept.{kept_map}
 use Rattle.request_ranges.specs.Requests.{HasBytes, AnswerHasBytes}
-use Rattle.stored_run.specs.Requests.{IsGoing, lines_so_far, ComesTo, Goes, AreNext, Shows, IsOver}
+use Rattle.stored_run.specs.Requests.{IsGoing, lines_so_far, Goes, AreNext, Shows, IsOver}
 use Rattle.stored_run.specs.Standing.{time_of, IsLone}
 use Rattle.stored_run.proofs.GrowthLemmas.{lines-append, grown-read, grown-write, talked-front, next-read, next-write, lines-alone, lines-more, reads-bytes, writes-bytes}
 use Rattle.stored_run.proofs.LoneLemmas.{lone-read, lone-write, lone-passed, lone-stretched, lone-wrote}

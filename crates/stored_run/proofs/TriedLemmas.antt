@@ -1,20 +1,11 @@
 -- An act that was tried, in terms of the map that the acts before it left.
-use Rattle.std.proofs.Common.{◌≡◌, ℕ, List, [], ◌∷◌, refl, sym, ◌∙◌, ap, subst}
-use Rattle.std.specs.Prelude.{None, ◌<◌}
+use Rattle.std.proofs.Common.{ℕ, List, subst}
+use Rattle.std.specs.Prelude.{◌<◌}
 use Rattle.std.specs.FinMap as finite
 use Rattle.pseudo_time.specs.StampParts.{StampParts}
-use Rattle.value_form.specs.declared.acts.ActSpec.{ActSpec}
-use Rattle.value_form.specs.declared.endings.Ending.{Ending}
-use Rattle.value_form.specs.declared.transcripts.Line.{Line}
 use Rattle.value_form.specs.Objects.{Objects}
-use Rattle.script_meaning.specs.Meaning.{Over, Came}
-use Rattle.serial_model.specs.Overlays.{overlaid}
-use Rattle.serial_run.specs.Attempts.{left_of, deed}
 use Rattle.object_history.specs.declared.marks.Mark.{Mark}
-use Rattle.object_history.specs.declared.marks.Mark.TheVariants.{Settle}
-use Rattle.report_writer.specs.declared.records.ActReport.{ActReport}
 use Rattle.stored_run.specs.Kept.{kept_map}
-use Rattle.stored_run.specs.Runs.{Stand, stand_of, alone, grown, is_finished, outcome_of, report_with, try_of, tried, settled}
 use Rattle.stored_run.specs.Standing.{IsLone, IsQuiet}
 use Rattle.stored_run.proofs.QuietLemmas.{quiet-lone}
 

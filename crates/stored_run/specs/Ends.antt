@@ -1,5 +1,5 @@
 -- How a run over a medium ends, and what it reports.
-use Rattle.std.specs.Prelude.{◌≡◌, ℕ, ◌⊎◌, ◌≤◌, Bool, IsTrue, List, ◌∷◌, ◌++◌, Option, Some, None, Ok, Err, count_by, map, reverse}
+use Rattle.std.specs.Prelude.{◌≡◌, ℕ, ◌⊎◌, Bool, IsTrue, List, ◌∷◌, ◌++◌, Option, Some, None, Ok, Err, count_by, map, reverse}
 use Rattle.std.specs.FinMap as finite
 use Rattle.stream_port.specs.Causes.{Rose}
 use Rattle.medium_port.specs.Image.{Image}

@@ -7,7 +7,7 @@ use Rattle.value_form.specs.declared.transcripts.Line.{Line}
 use Rattle.value_form.specs.Mirror.{block}
 use Rattle.value_form.specs.Objects.{Objects}
 use Rattle.effect_form.specs.declared.effects.Effect.{Effect}
-use Rattle.script_meaning.specs.Meaning.{Answer, Over, perform, talk}
+use Rattle.script_meaning.specs.Meaning.{Over, perform, talk}
 use Rattle.script_run.specs.Told.{Told}
 use Rattle.serial_model.specs.Questions.{IsFrontOf, denote, talked}
 use Rattle.serial_model.specs.Overlays.{overlaid}

@@ -197,12 +197,14 @@ fn ready_run<M: Medium>(
     let mut reports = Vec::new(alloc);
     match all_carried_out(alloc, acts, repository, &mut reports) {
         Err(halted) => halted_run(alloc, acts, reports, halted),
-        Ok(LoneRepository {
-            store,
-            histories: _,
-            clock: _,
-            objects,
-        }) => Ok(Ran {
+        Ok(
+            LoneRepository {
+                store,
+                histories: _,
+                clock: _,
+                objects,
+            },
+        ) => Ok(Ran {
             medium: closed(store),
             down: None,
             acts: reports,

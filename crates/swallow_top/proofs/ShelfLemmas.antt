@@ -1,5 +1,5 @@
 -- What is said of a medium, said of its place on the shelf.
-use Rattle.std.proofs.Common.{◌≡◌, ℕ, Bool, IsTrue, List, [], ◌∷◌, ◌++◌, map, refl, ap, ◌∙◌, sym, subst, Ok, Err, Option, Some, None, ◌⊎◌, inl, inr}
+use Rattle.std.proofs.Common.{◌≡◌, ℕ, Bool, IsTrue, List, [], ◌∷◌, ◌++◌, map, refl, ap, ◌∙◌, sym, subst, Ok, Option, Some, None, ◌⊎◌, inl, inr}
 use Rattle.std.specs.FinMap as finite
 use Rattle.stream_port.specs.Causes.{Rose}
 use Rattle.medium_port.specs.Image.{Image}
@@ -96,13 +96,12 @@ pub text-over : {M : Type 0} (tells : Bool) (reads : M → Image) (may_leave : M
 text-over tells reads may_leave page_count faults had before m medium_faults shelf_faults shelf_faults_now just count plan acts cause reports objects text new k old media same came why is_text is none are = record {
   reports = reports;
   objects = objects;
-  came = subst (λ z. CameOver tells reads may_leave page_count faults had before medium_faults shelf_faults shelf_faults_now plan.acts cause reports objects z) (sym (are ∙ ap (λ z. z ++ k ∷ []) none ∙ ap (λ z. z ∷ []) is))
-      (
-        refl,
-        refl,
-        subst (λ z. CameTo tells had before (may_leave new) cause z reports objects) same (came-on-shelf tells had (reads m) before (may_leave m) just (may_leave new) cause acts reports objects came),
-        subst (λ z. HasCauseIfAny tells had (reads new) z (faults new) (page_count new) cause) count (cause-on-shelf tells had (reads m) before (may_leave m) just (reads new) (faults m) (faults new) (page_count new) cause why),
-      );
+  came = subst (λ z. CameOver tells reads may_leave page_count faults had before medium_faults shelf_faults shelf_faults_now plan.acts cause reports objects z) (sym (are ∙ ap (λ z. z ++ k ∷ []) none ∙ ap (λ z. z ∷ []) is)) (
+    refl,
+    refl,
+    subst (λ z. CameTo tells had before (may_leave new) cause z reports objects) same (came-on-shelf tells had (reads m) before (may_leave m) just (may_leave new) cause acts reports objects came),
+    subst (λ z. HasCauseIfAny tells had (reads new) z (faults new) (page_count new) cause) count (cause-on-shelf tells had (reads m) before (may_leave m) just (reads new) (faults m) (faults new) (page_count new) cause why),
+  );
   is_text = is_text;
 }
 

@@ -1,5 +1,5 @@
 -- Which plans are carried out, and the report of a run.
-use Rattle.std.specs.Prelude.{◌≡◌, ℕ, ◌==◌, true, List, [], ◌∷◌, Option, Some, None, map}
+use Rattle.std.specs.Prelude.{◌≡◌, ◌==◌, true, List, [], ◌∷◌, Option, Some, None, map}
 use Rattle.std.specs.FinMap as finite
 use Rattle.std.specs.List.{list_all}
 use Rattle.pseudo_time.specs.declared.nodes.NodeId.{NodeId}

@@ -14,6 +14,6 @@ pub use media::{Early, Kept};
 pub use top::swallow;
 
 #[cfg(test)]
-mod tests;
-#[cfg(test)]
 mod stored_tests;
+#[cfg(test)]
+mod tests;

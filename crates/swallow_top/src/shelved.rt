@@ -82,12 +82,14 @@ pub fn run_on_shelf<S: Shelf>(
             media.push_reserved(kept(medium));
             Err(media)
         }
-        Ok(Ran {
-            medium,
-            down,
-            acts,
-            objects,
-        }) => {
+        Ok(
+            Ran {
+                medium,
+                down,
+                acts,
+                objects,
+            },
+        ) => {
             media.push_reserved(kept(medium));
             match text_of(alloc, plan, down, acts, objects) {
                 Ok(text) => Ok(Shown { text, down, media }),

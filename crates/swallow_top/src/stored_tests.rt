@@ -73,7 +73,10 @@ fn blank(alloc: Global, pages: u32, stop: Option<Stop>) -> Result<MemoryMedium, 
 }
 
 // What a crash left of the medium: it, reopened, and its effects.
-fn crashed(alloc: Global, mut medium: MemoryMedium) -> Result<(MemoryMedium, Vec<Effect>), MediumFault>
+fn crashed(
+    alloc: Global,
+    mut medium: MemoryMedium,
+) -> Result<(MemoryMedium, Vec<Effect>), MediumFault>
     ensures open { IfOk result (λ r. failed_in r.0 ≡ false) }
 {
     medium.reopen()?;
@@ -164,12 +167,14 @@ fn goes_on(alloc: Global, call: u64, keep: u16, fill: u8) -> Result<bool, Medium
     let (_, effects) = crashed(alloc, medium)?;
     let withdrawn = if left == 0 || left == 4 { 0 } else { 1 };
     let report = if left == 0 { AT_1 } else { AT_2 };
-    Ok(left <= 4
-        && first.status == 6
-        && first.text.as_slice() == report_of_a_stop(call)
-        && second.status == 0
-        && second.text.as_slice() == report
-        && effects.len() == left + withdrawn + 4)
+    Ok(
+        left <= 4
+            && first.status == 6
+            && first.text.as_slice() == report_of_a_stop(call)
+            && second.status == 0
+            && second.text.as_slice() == report
+            && effects.len() == left + withdrawn + 4,
+    )
 }
 
 /// What a stop keeps of a write that wasn't synced, and what stands in the place of the rest.

@@ -1,4 +1,4 @@
-use Rattle.std.proofs.Common.{◌≡◌, [], sym, subst}
+use Rattle.std.proofs.Common.{[], sym, subst}
 use Rattle.version_store.specs.StoreWords.{medium_of}
 use Rattle.stored_run.specs.Kept.{kept_map}
 use Rattle.stored_run.specs.Media.{Stops}

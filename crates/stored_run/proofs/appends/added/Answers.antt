@@ -1,11 +1,8 @@
-use Rattle.std.proofs.Common.{◌≡◌, ◌≤◌, ◌<◌, length, [], ◌∷◌, Err, sym, ap, ◌∙◌, subst, arith}
+use Rattle.std.proofs.Common.{◌≡◌, ◌≤◌, ◌<◌, length, [], ◌∷◌, sym, ap, ◌∙◌, subst, arith}
 use Rattle.std.specs.Prelude.{count_by}
 use Rattle.page_gate.specs.States.{is_blank}
 use Rattle.version_store.specs.Filling.{filling}
 use Rattle.version_store.specs.StoreWords.{medium_of, handed, left_in}
-use Rattle.version_store.specs.declared.faults.StoreFault.{StoreFault}
-use Rattle.version_store.specs.declared.faults.StoreFault.TheVariants as fault
-use Rattle.stored_run.specs.Media.{Stops, held}
 use Rattle.stored_run.proofs.ResultLemmas.{at-err, by-err}
 use Rattle.stored_run.proofs.MediaLemmas.{front-prefix, filling-one}
 use Rattle.stored_run.proofs.appends.added.Goals as goal

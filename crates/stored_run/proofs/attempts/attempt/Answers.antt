@@ -1,6 +1,5 @@
-use Rattle.std.proofs.Common.{◌≡◌, [], ◌∷◌, refl, sym, ap}
+use Rattle.std.proofs.Common.{refl}
 use Rattle.std.specs.FinMap as finite
-use Rattle.value_form.specs.Mirror.{block}
 use Rattle.effect_form.specs.declared.effects.Effect.TheVariants.{Begin}
 use Rattle.version_store.specs.StoreWords.{medium_of}
 use Rattle.stored_run.specs.Kept.{kept_map}

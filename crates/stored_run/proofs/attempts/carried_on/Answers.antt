@@ -1,5 +1,4 @@
-use Rattle.std.proofs.Common.{◌≡◌, List, ◌++◌, sym, ap, subst}
-use Rattle.effect_form.specs.declared.effects.Effect.{Effect}
+use Rattle.std.proofs.Common.{◌++◌, sym, ap, subst}
 use Rattle.version_store.specs.StoreWords.{medium_of}
 use Rattle.stored_run.specs.Media.{Adds}
 use Rattle.stored_run.proofs.MediaLemmas.{adds-adds, adds-stops}

@@ -1,4 +1,4 @@
-use Rattle.std.proofs.Common.{◌≡◌, List, [], ◌∷◌, ◌++◌, sym, ◌∙◌, ap, subst, inr}
+use Rattle.std.proofs.Common.{◌++◌, sym, subst}
 use Rattle.script_meaning.specs.Meaning.{Over}
 use Rattle.serial_model.specs.Overlays.{overlaid}
 use Rattle.serial_run.specs.Attempts.{left_of}

@@ -1,5 +1,4 @@
-use Rattle.std.proofs.Common.{◌≡◌, ◌∷◌, sym, ◌∙◌, subst}
-use Rattle.std.specs.Prelude.{OnOk}
+use Rattle.std.proofs.Common.{◌∷◌, sym, ◌∙◌, subst}
 use Rattle.object_history.specs.declared.marks.Mark.{Mark}
 use Rattle.stored_run.specs.Keeping.{Keeps}
 use Rattle.stored_run.proofs.KeepLemmas.{keeps-uncommitted, keeps-other, keeps-settle}

@@ -1,4 +1,4 @@
-use Rattle.std.proofs.Common.{◌≡◌, ◌&&◌, Bool, true, false, not, sym, ◌∙◌, ap}
+use Rattle.std.proofs.Common.{sym, ◌∙◌, ap}
 use Rattle.std.specs.FinMap as finite
 use Rattle.stored_run.proofs.KeepLemmas.{keeps-less, keeps-more, lies-below}
 use Rattle.stored_run.proofs.keeping.keep_put.Goals as goal

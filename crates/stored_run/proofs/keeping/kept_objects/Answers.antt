@@ -1,4 +1,3 @@
-use Rattle.std.proofs.Common.{◌≡◌}
 use Rattle.stored_run.proofs.KeepLemmas.{keeps-none}
 use Rattle.stored_run.proofs.keeping.kept_objects.Goals as goal
 

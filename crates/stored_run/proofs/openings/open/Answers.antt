@@ -1,4 +1,4 @@
-use Rattle.std.proofs.Common.{◌≡◌, [], Ok, sym, ap, ◌∙◌}
+use Rattle.std.proofs.Common.{[], Ok, sym, ap, ◌∙◌}
 use Rattle.version_store.specs.StoreWords.{medium_of}
 use Rattle.stored_run.specs.Runs.{withdrawals}
 use Rattle.stored_run.proofs.MediaLemmas.{adds-adds, adds-stops}

@@ -1,4 +1,4 @@
-use Rattle.std.proofs.Common.{◌≡◌, reverse, ap, ◌∙◌}
+use Rattle.std.proofs.Common.{reverse, ap, ◌∙◌}
 use Rattle.repository_core.specs.Logs.{marks}
 use Rattle.stored_run.specs.Kept.{kept_map}
 use Rattle.stored_run.specs.Logs.{last_clock, starters, withdrawn_marks}

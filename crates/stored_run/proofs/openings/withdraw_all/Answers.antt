@@ -1,4 +1,4 @@
-use Rattle.std.proofs.Common.{◌≡◌, ◌+◌, List, [], ◌∷◌, ◌++◌, drop, subst}
+use Rattle.std.proofs.Common.{◌+◌, [], ◌∷◌, ◌++◌, drop, subst}
 use Rattle.version_store.specs.StoreWords.{medium_of}
 use Rattle.stored_run.specs.Logs.{withdrawn, withdrawn_marks}
 use Rattle.stored_run.specs.Media.{Stops}

@@ -1,11 +1,10 @@
-use Rattle.std.proofs.Common.{◌≡◌, [], ◌∷◌, Some, sym, ap, ◌∙◌}
+use Rattle.std.proofs.Common.{◌≡◌, [], ◌∷◌, Some, ap, ◌∙◌}
 use Rattle.effect_form.specs.declared.effects.Effect.TheVariants as effect
 use Rattle.value_form.specs.declared.endings.Ending.{Ending}
 use Rattle.script_meaning.specs.Meaning.{Over}
-use Rattle.script_run.specs.Told.{Tells, stop_of}
+use Rattle.script_run.specs.Told.{stop_of}
 use Rattle.version_store.specs.StoreWords.{medium_of}
 use Rattle.stored_run.specs.Growth.{stretch_if, stretches}
-use Rattle.stored_run.specs.Standing.{time_of}
 use Rattle.stored_run.proofs.MediaLemmas.{adds-stops}
 use Rattle.stored_run.proofs.RequestLemmas.{shows_so, next_none, next_stretch, next_put, is_answered, is_accepted, read_has_bytes, write_has_bytes, read_goes, write_goes, over_so}
 use Rattle.stored_run.proofs.requests.answered.Goals as goal

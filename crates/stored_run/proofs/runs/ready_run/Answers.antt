@@ -1,4 +1,4 @@
-use Rattle.std.proofs.Common.{◌≡◌, refl}
+use Rattle.std.proofs.Common.{refl}
 use Rattle.version_store.specs.StoreWords.{medium_of}
 use Rattle.stored_run.specs.Runs.{stand_of}
 use Rattle.stored_run.proofs.CourseLemmas.{carried-out, kept-all}

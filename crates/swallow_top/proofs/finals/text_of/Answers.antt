@@ -1,4 +1,4 @@
-use Rattle.std.proofs.Common.{◌≡◌, ap, ◌∙◌}
+use Rattle.std.proofs.Common.{ap, ◌∙◌}
 use Rattle.report_writer.specs.Reports.{report_text}
 use Rattle.swallow_top.proofs.finals.text_of.Goals as goal
 

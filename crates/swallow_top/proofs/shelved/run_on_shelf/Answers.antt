@@ -1,4 +1,3 @@
-use Rattle.std.proofs.Common.{◌≡◌}
 use Rattle.swallow_top.specs.Shelves.{repository_medium}
 use Rattle.swallow_top.proofs.ShelfLemmas.{text-over, text-untaken, one-loses-nothing}
 use Rattle.swallow_top.proofs.shelved.run_on_shelf.Goals as goal

@@ -1,6 +1,4 @@
-use Rattle.std.proofs.Common.{◌≡◌, refl, inl, subst, ap, ◌∙◌}
-use Rattle.swallow_top.specs.declared.stops.Stop.TheVariants as stop
-use Rattle.swallow_top.specs.Top.{fault_line}
+use Rattle.std.proofs.Common.{refl, inl, subst, ◌∙◌}
 use Rattle.swallow_top.specs.Written.{Writes}
 use Rattle.swallow_top.proofs.TopLemmas.{written, same-fault}
 use Rattle.swallow_top.proofs.top.refused.Goals as goal
