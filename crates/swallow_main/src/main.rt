@@ -19,10 +19,13 @@ fn main(rt: HostRuntime) -> ExitCode {
     let alloc = rt.alloc();
     let mut source = ReadSource::new(rt.reader());
     let mut sink = WriteSink::new(io::writer(&rt));
+    let mut folder = None;
     let mut words = Vec::new(alloc);
     match env::args(&rt) {
         Ok(args) => {
-            for word in args.skip(1) {
+            let mut args = args.skip(1);
+            folder = args.next();
+            for word in args {
                 if words.push(word).is_err() {
                     return ExitCode::from(NO_MEMORY);
                 }
@@ -38,13 +41,13 @@ fn main(rt: HostRuntime) -> ExitCode {
             return ExitCode::from(NO_MEMORY);
         }
     }
-    let (folder, rest) = match shown.split_first() {
-        Some((folder, rest)) => (*folder, rest),
-        None => (NO_FOLDER, shown.as_slice()),
+    let folder = match &folder {
+        Some(folder) => folder.as_str(),
+        None => NO_FOLDER,
     };
     let Ok(mut shelf) = FileShelf::new(alloc, &rt, folder) else {
         return ExitCode::from(NO_MEMORY);
     };
-    let ended = swallow(alloc, rest, &mut source, &mut sink, &mut shelf);
+    let ended = swallow(alloc, shown.as_slice(), &mut source, &mut sink, &mut shelf);
     ExitCode::from(ended.status)
 }
