@@ -8,6 +8,7 @@ use Rattle.pseudo_time.specs.declared.nodes.NodeKind.TheVariants.{Repository, Br
 use Rattle.pseudo_time.proofs.ListLemmas.{every-map, every-append}
 use Rattle.message_core.specs.Nodes.{same_node, kind_number}
 use Rattle.world_core.specs.declared.traces.Opened.{Opened}
+use Rattle.trace_logs.specs.Cores.{IsLogOf}
 use Rattle.trace_logs.specs.Replays.{IsOnce, IsOpened}
 use Rattle.trace_logs.proofs.OpenedLemmas.{IsNew, once-more}
 
@@ -38,3 +39,20 @@ below-pair i old new r b a p q e = subst (AreBelow (i + 1)) (sym e)
         (every-append (λ (o : Opened). o.node.number ≤ i + 1) old (r ∷ []) (every-map (λ (o : Opened). o.node.number ≤ i) (λ (o : Opened). o.node.number ≤ i + 1) (λ o h. omega (arith, h)) old a)
             (subst (λ n. n.number ≤ i + 1) (sym p) (omega arith), tt))
         (subst (λ n. n.number ≤ i + 1) (sym q) (omega arith), tt))
+
+-- a node without a log is in range
+empty-log : (k : NodeKind) → IsLogOf k []
+empty-log Repository = tt
+empty-log Broker = tt
+
+opened-blank : (k : NodeKind) (i : ℕ) (o : Opened) → i ≤ 8 → o.node ≡ record { kind = k; number = i + 1 } → o.effects ≡ [] → IsOpened o
+opened-blank k i o h p q = record {
+  low = subst (λ n. 1 ≤ n.number) (sym p) (omega arith);
+  high = subst (λ n. n.number ≤ 16) (sym p) (omega (arith, h));
+  log = subst (λ n. IsLogOf n.kind o.effects) (sym p) (subst (IsLogOf k) (sym q) (empty-log k));
+}
+
+pub opened-pair : (i : ℕ) (old new : List Opened) (r b : Opened) → Every IsOpened old → i ≤ 8 → r.node ≡ record { kind = Repository; number = i + 1 } → r.effects ≡ [] → b.node ≡ record { kind = Broker; number = i + 1 } → b.effects ≡ [] →
+    new ≡ (old ++ r ∷ []) ++ b ∷ [] → Every IsOpened new
+opened-pair i old new r b a h p p' q q' e = subst (Every IsOpened) (sym e)
+    (every-append IsOpened (old ++ r ∷ []) (b ∷ []) (every-append IsOpened old (r ∷ []) a (opened-blank Repository i r h p p', tt)) (opened-blank Broker i b h q q', tt))
