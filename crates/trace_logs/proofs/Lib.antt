@@ -1,10 +1,13 @@
 pub mod CoreLemmas
 pub mod EndLemmas
 pub mod EntryLemmas
+pub mod LegalTraces
 pub mod MarkLemmas
 pub mod OpenedLemmas
 pub mod PlaceLemmas
 pub mod SeatLemmas
 pub mod WalkLemmas
+pub mod RefusedDowns
+pub mod RefusedSends
 pub mod RefusedTraces
 pub mod WorkedTraces

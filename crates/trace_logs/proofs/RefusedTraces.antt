@@ -1,11 +1,18 @@
 -- Traces that aren't legal: for each rule, entries that break it.
-use Rattle.std.proofs.Common.{◌≡◌, ◌⊎◌, ◌≤◌, ◌<◌, ◌+◌, ◌^◌, ℕ, true, false, List, [], ◌∷◌, refl, inl, inr, Option, Some, None, arith}
+use Rattle.std.proofs.Common.{◌≡◌, ◌⊎◌, ◌≤◌, ◌<◌, ◌+◌, ◌^◌, ℕ, true, false, List, [], ◌∷◌, refl, ap, ◌∙◌, inl, inr, Option, Some, None, arith}
 use Rattle.pseudo_time.specs.Lists.{Every}
 use Rattle.world_core.specs.declared.entries.Entry.{Entry}
 use Rattle.world_core.specs.declared.entries.DownCause.TheVariants as cause
 use Rattle.world_core.specs.declared.entries.Entry.TheVariants.{Take, Go, Learn, Hear, Gate, Crash, Down, Tick}
 use Rattle.stream_port.specs.declared.fates.Fate.{Fate}
-use Rattle.world_core.specs.Walks.{start_world}
+use Rattle.pseudo_time.specs.Order.{same_stamp, same_time}
+use Rattle.pseudo_time.specs.declared.nodes.NodeId.{NodeId}
+use Rattle.stream_port.specs.Fates.{copies_of}
+use Rattle.broker_core.specs.Book.{book}
+use Rattle.broker_core.specs.Fits.{keep}
+use Rattle.broker_core.specs.Turns.{settle_up}
+use Rattle.world_core.specs.Nodes.{gives}
+use Rattle.world_core.specs.Walks.{Sending, start_world}
 use Rattle.world_core.specs.Legal.{Meets}
 use Rattle.trace_logs.proofs.WorkedTraces.{home, desk, stamp, base, prompt}
 
@@ -29,6 +36,50 @@ behind m = elim m.1.0.heard [
 resting : Breaks (Take desk 1 ∷ [])
 unfolding Meets
 resting m = let e = m.0.gone refl in absurd (cc e)
+
+-- a Take by a node that the message wasn't sent to, and a second Take of its one copy
+receiver : Option Sending → Option NodeId
+receiver None = None
+receiver (Some s) = Some s.post.to
+
+sent_at : Option Sending → ℕ
+sent_at None = 0
+sent_at (Some s) = s.ticks
+
+copies : Option Fate → ℕ
+copies None = 0
+copies (Some fate) = copies_of fate
+
+hold : Option Fate → ℕ
+hold None = 0
+hold (Some fate) = fate.hold
+
+elsewhere : Breaks (Go desk ∷ Gate desk ∷ Take desk 1 ∷ [])
+unfolding Meets gives settle_up book keep same_stamp receiver
+elsewhere m = let e : Some home ≡ Some desk = ap receiver m.1.1.0.sent ∙ ap Some m.1.1.0.to in absurd (cc e)
+
+again : Breaks (Go desk ∷ Gate desk ∷ Take home 1 ∷ Take home 1 ∷ [])
+unfolding Meets gives settle_up book keep same_stamp copies
+again m =
+    let e : 1 ≡ copies_of m.1.1.1.0.fate = ap copies m.1.1.1.0.fated in
+    let k : 1 < copies_of m.1.1.1.0.fate = m.1.1.1.0.fewer in absurd (omega (arith, e, k))
+
+-- a Take of a message that is lost, and of one that is held for a tick
+abbrev BreaksWith : Fate → List Entry → Type 0
+BreaksWith fate es = Meets base (fate ∷ []) (start_world base) es → ⊥
+
+lost : BreaksWith (record { copies = 0; overtake = 0; hold = 0 }) (Go desk ∷ Gate desk ∷ Take home 1 ∷ [])
+unfolding Meets gives settle_up book keep same_stamp copies
+lost m =
+    let e : 0 ≡ copies_of m.1.1.0.fate = ap copies m.1.1.0.fated in
+    let k : 0 < copies_of m.1.1.0.fate = m.1.1.0.fewer in absurd (omega (arith, e, k))
+
+held : BreaksWith (record { copies = 1; overtake = 0; hold = 1 }) (Go desk ∷ Gate desk ∷ Take home 1 ∷ [])
+unfolding Meets gives settle_up book keep same_stamp hold sent_at
+held m =
+    let e : 1 ≡ m.1.1.0.fate.hold = ap hold m.1.1.0.fated in
+    let f : 0 ≡ m.1.1.0.sending.ticks = ap sent_at m.1.1.0.sent in
+    let k : m.1.1.0.sending.ticks + m.1.1.0.fate.hold ≤ 0 = m.1.1.0.released in absurd (omega (arith, e, f, k))
 
 -- a Go of a repository, and a second Go
 home-goes : Breaks (Go home ∷ [])
@@ -88,6 +139,7 @@ late m = let k = m.0.most in absurd (omega (arith, k))
 -- as one table
 pub refused : Every Breaks
     ((Take home 1 ∷ []) ∷ (Tick 1 ∷ Take home 1 ∷ []) ∷ (Take desk 1 ∷ [])
+    ∷ (Go desk ∷ Gate desk ∷ Take desk 1 ∷ []) ∷ (Go desk ∷ Gate desk ∷ Take home 1 ∷ Take home 1 ∷ [])
     ∷ (Go home ∷ []) ∷ (Go desk ∷ Go desk ∷ [])
     ∷ (Hear home ∷ []) ∷ (Tick 1 ∷ Hear home ∷ Hear home ∷ [])
     ∷ (Learn desk stamp true ∷ []) ∷ (Learn home stamp true ∷ [])
@@ -96,4 +148,4 @@ pub refused : Every Breaks
     ∷ (Down home cause.Medium ∷ Down home cause.Medium ∷ [])
     ∷ (Tick 1 ∷ []) ∷ (Tick 0 ∷ []) ∷ (Tick (2 ^ 62 + 1) ∷ [])
     ∷ [])
-refused = (unsent, (behind, (resting, (home-goes, (goes-again, (nothing-to-hear, (hears-again, (desk-learns, (undecided, (closed, (keeps-more, (down-again, (early, (no-later, (late, tt)))))))))))))))
+refused = (unsent, (behind, (resting, (elsewhere, (again, (home-goes, (goes-again, (nothing-to-hear, (hears-again, (desk-learns, (undecided, (closed, (keeps-more, (down-again, (early, (no-later, (late, tt)))))))))))))))))
