@@ -31,14 +31,14 @@ new-number k i (o ∷ os) h = (and-false (kind_number o.node.kind == kind_number
 pub once-pair : (i : ℕ) (old new : List Opened) (r b : Opened) → IsOnce old → AreBelow i old → r.node ≡ record { kind = Repository; number = i + 1 } → b.node ≡ record { kind = Broker; number = i + 1 } → new ≡ (old ++ r ∷ []) ++ b ∷ [] → IsOnce new
 once-pair i old new r b h a p q e = subst IsOnce (sym e) (once-more (old ++ r ∷ []) b (once-more old r h (subst (λ n. IsNew n old) (sym p) (new-number Repository i old a)))
     (subst (λ n. IsNew n (old ++ r ∷ [])) (sym q) (every-append (λ (o : Opened). same_node o.node (record { kind = Broker; number = i + 1 }) ≡ false) old (r ∷ []) (new-number Broker i old a)
-        (ap (λ n. same_node n (record { kind = Broker; number = i + 1 })) p, tt))))
+    (ap (λ n. same_node n (record { kind = Broker; number = i + 1 })) p, tt))))
 
 pub below-pair : (i : ℕ) (old new : List Opened) (r b : Opened) → AreBelow i old → r.node ≡ record { kind = Repository; number = i + 1 } → b.node ≡ record { kind = Broker; number = i + 1 } → new ≡ (old ++ r ∷ []) ++ b ∷ [] → AreBelow (i + 1) new
 below-pair i old new r b a p q e = subst (AreBelow (i + 1)) (sym e)
     (every-append (λ (o : Opened). o.node.number ≤ i + 1) (old ++ r ∷ []) (b ∷ [])
-        (every-append (λ (o : Opened). o.node.number ≤ i + 1) old (r ∷ []) (every-map (λ (o : Opened). o.node.number ≤ i) (λ (o : Opened). o.node.number ≤ i + 1) (λ o h. omega (arith, h)) old a)
-            (subst (λ n. n.number ≤ i + 1) (sym p) (omega arith), tt))
-        (subst (λ n. n.number ≤ i + 1) (sym q) (omega arith), tt))
+    (every-append (λ (o : Opened). o.node.number ≤ i + 1) old (r ∷ []) (every-map (λ (o : Opened). o.node.number ≤ i) (λ (o : Opened). o.node.number ≤ i + 1) (λ o h. omega (arith, h)) old a)
+    (subst (λ n. n.number ≤ i + 1) (sym p) (omega arith), tt))
+    (subst (λ n. n.number ≤ i + 1) (sym q) (omega arith), tt))
 
 -- a node without a log is in range
 empty-log : (k : NodeKind) → IsLogOf k []
