@@ -1,8 +1,7 @@
 -- Nodes with rising numbers, a repository and a broker of each.
-use Rattle.std.proofs.Common.{rules, ◌≡◌, ◌≤◌, ◌+◌, ℕ, Bool, true, false, ◌==◌, ◌&&◌, List, [], ◌∷◌, ◌++◌, refl, sym, ap, subst, ◌∙◌, arith}
+use Rattle.std.proofs.Common.{◌≡◌, ◌≤◌, ◌+◌, ℕ, Bool, true, false, ◌==◌, ◌&&◌, List, [], ◌∷◌, ◌++◌, refl, sym, ap, subst, arith}
 use Rattle.std.proofs.lemmas.Bool.Decides.{nat_tests}
 use Rattle.pseudo_time.specs.Lists.{Every}
-use Rattle.pseudo_time.specs.declared.nodes.NodeId.{NodeId}
 use Rattle.pseudo_time.specs.declared.nodes.NodeKind.{NodeKind}
 use Rattle.pseudo_time.specs.declared.nodes.NodeKind.TheVariants.{Repository, Broker}
 use Rattle.pseudo_time.proofs.ListLemmas.{every-map, every-append}
@@ -31,14 +30,14 @@ new-number k i (o ∷ os) h = (and-false (kind_number o.node.kind == kind_number
 pub once-pair : (i : ℕ) (old new : List Opened) (r b : Opened) → IsOnce old → AreBelow i old → r.node ≡ record { kind = Repository; number = i + 1 } → b.node ≡ record { kind = Broker; number = i + 1 } → new ≡ (old ++ r ∷ []) ++ b ∷ [] → IsOnce new
 once-pair i old new r b h a p q e = subst IsOnce (sym e) (once-more (old ++ r ∷ []) b (once-more old r h (subst (λ n. IsNew n old) (sym p) (new-number Repository i old a)))
     (subst (λ n. IsNew n (old ++ r ∷ [])) (sym q) (every-append (λ (o : Opened). same_node o.node (record { kind = Broker; number = i + 1 }) ≡ false) old (r ∷ []) (new-number Broker i old a)
-        (ap (λ n. same_node n (record { kind = Broker; number = i + 1 })) p, tt))))
+    (ap (λ n. same_node n (record { kind = Broker; number = i + 1 })) p, tt))))
 
 pub below-pair : (i : ℕ) (old new : List Opened) (r b : Opened) → AreBelow i old → r.node ≡ record { kind = Repository; number = i + 1 } → b.node ≡ record { kind = Broker; number = i + 1 } → new ≡ (old ++ r ∷ []) ++ b ∷ [] → AreBelow (i + 1) new
 below-pair i old new r b a p q e = subst (AreBelow (i + 1)) (sym e)
     (every-append (λ (o : Opened). o.node.number ≤ i + 1) (old ++ r ∷ []) (b ∷ [])
-        (every-append (λ (o : Opened). o.node.number ≤ i + 1) old (r ∷ []) (every-map (λ (o : Opened). o.node.number ≤ i) (λ (o : Opened). o.node.number ≤ i + 1) (λ o h. omega (arith, h)) old a)
-            (subst (λ n. n.number ≤ i + 1) (sym p) (omega arith), tt))
-        (subst (λ n. n.number ≤ i + 1) (sym q) (omega arith), tt))
+    (every-append (λ (o : Opened). o.node.number ≤ i + 1) old (r ∷ []) (every-map (λ (o : Opened). o.node.number ≤ i) (λ (o : Opened). o.node.number ≤ i + 1) (λ o h. omega (arith, h)) old a)
+    (subst (λ n. n.number ≤ i + 1) (sym p) (omega arith), tt))
+    (subst (λ n. n.number ≤ i + 1) (sym q) (omega arith), tt))
 
 -- a node without a log is in range
 empty-log : (k : NodeKind) → IsLogOf k []

@@ -233,7 +233,10 @@ fn entries(alloc: Global, count: u32, each: u32) -> Result<Vec<Entry>, AllocErro
 }
 
 fn run(alloc: Global, count: u32, each: u32) -> Result<usize, AllocError> {
-    let acts = acts(alloc, each.saturating_add(1).saturating_mul(u32::from(PAIRS)))?;
+    let acts = acts(
+        alloc,
+        each.saturating_add(1).saturating_mul(u32::from(PAIRS)),
+    )?;
     let opened = opened(alloc)?;
     let entries = entries(alloc, count, each)?;
     let trace = Trace {
