@@ -1,12 +1,10 @@
 -- The turns of cores are those of the rules.
-use Rattle.std.proofs.Common.{◌≡◌, ℕ, ◌++◌, true, List, [], ◌∷◌, reverse, refl, sym, ap, subst, ◌∙◌, Result, Ok, Err, arith}
+use Rattle.std.proofs.Common.{◌≡◌, ℕ, ◌++◌, List, [], reverse, refl, sym, ap, subst, ◌∙◌, Result, Ok, Err, arith}
 use Rattle.std.specs.Prelude.{IfErr, IfOk, OnOk}
 use Rattle.std.specs.declared.alloc.AllocError.{AllocError}
 use Rattle.std.proofs.lemmas.List.{append-nil, reverse-append}
 use Rattle.pseudo_time.specs.declared.nodes.NodeId.{NodeId}
-use Rattle.pseudo_time.specs.declared.nodes.NodeKind.{NodeKind}
 use Rattle.pseudo_time.specs.declared.nodes.NodeKind.TheVariants.{Repository, Broker}
-use Rattle.pseudo_time.specs.Lists.{Every}
 use Rattle.value_form.specs.declared.acts.ActSpec.{ActSpec}
 use Rattle.effect_form.specs.declared.effects.Effect.{Effect}
 use Rattle.turn_form.specs.declared.turns.Turn.{Turn}
@@ -21,7 +19,7 @@ use Rattle.broker_core.specs.Brokers.{Stands, Gives, turn_of}
 use Rattle.broker_core.specs.Parts.{BrokerParts}
 use Rattle.broker_core.specs.Tasks.{Scripted, tasks}
 use Rattle.broker_core.specs.Turns as desks
-use Rattle.world_core.specs.Nodes.{Mind, Input, Given, gives, kind_gives, repository_gives, broker_gives, with_hands, with_desk, desk_after, acts_of, nothing_given}
+use Rattle.world_core.specs.Nodes.{Mind, Input, gives, kind_gives, repository_gives, broker_gives, with_hands, with_desk, desk_after, nothing_given}
 use Rattle.world_core.specs.Walks.{Base}
 use Rattle.trace_logs.specs.declared.cores.NodeCore.{NodeCore}
 use Rattle.trace_logs.specs.declared.cores.NodeCore.TheVariants as core

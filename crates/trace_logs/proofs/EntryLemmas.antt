@@ -1,5 +1,5 @@
 -- What the code makes of an entry is what the walk makes of it.
-use Rattle.std.proofs.Common.{◌≡◌, ◌<◌, ℕ, zero, suc, Bool, true, false, List, [], ◌∷◌, ◌++◌, length, refl, sym, ap, subst, ◌∙◌, Option, Some, None, Result, Ok, Err, slice_get}
+use Rattle.std.proofs.Common.{◌≡◌, ◌<◌, ℕ, zero, suc, true, List, [], ◌∷◌, ◌++◌, length, sym, ap, subst, ◌∙◌, Some, None, Result, Ok, Err, slice_get}
 use Rattle.std.specs.Prelude.{OnOk}
 use Rattle.std.specs.List.{filter}
 use Rattle.std.specs.Option.{option_map}
@@ -14,7 +14,7 @@ use Rattle.world_core.specs.declared.entries.Entry.{Entry}
 use Rattle.world_core.specs.declared.entries.Entry.TheVariants.{Gate}
 use Rattle.world_core.specs.Nodes.{leaves}
 use Rattle.world_core.specs.Nodes.Input.{Taking, Hearing}
-use Rattle.world_core.specs.Walks.{Base, Life, World, names, step, told, took, hears, lives_on, leaving, sent_by, whole, numbered, last_after}
+use Rattle.world_core.specs.Walks.{Base, Life, World, names, step, told, took, hears, lives_on, sent_by, whole, numbered, last_after}
 use Rattle.trace_logs.specs.declared.letters.Letter.{Letter}
 use Rattle.trace_logs.specs.declared.seats.Seat.{Seat}
 use Rattle.trace_logs.specs.declared.replays.Replay.{Replay}

@@ -1,6 +1,6 @@
 -- A trace worked by hand that is legal as a whole: an act writes 10 to object 1.7, reads it and prints it, and nothing is lost.
 use Rattle.std.proofs.lemmas.Bool.Decides.{nat_tests}
-use Rattle.std.proofs.Common.{◌≡◌, ◌⊎◌, ◌≤◌, ◌<◌, ◌+◌, ℕ, zero, suc, Bool, true, false, ◌==◌, ◌&&◌, List, [], ◌∷◌, ◌++◌, map, refl, sym, ap, subst, ◌∙◌, inl, inr, Option, Some, None, is_some, if◌then◌else◌, arith}
+use Rattle.std.proofs.Common.{◌≡◌, ◌<◌, ℕ, zero, suc, Bool, true, false, ◌==◌, ◌&&◌, List, [], ◌∷◌, ◌++◌, map, refl, sym, ap, subst, ◌∙◌, inl, Option, Some, None, is_some, if◌then◌else◌, arith}
 use Rattle.std.specs.Prelude.{pos, codes, nat_le, reverse}
 use Rattle.std.specs.Fmt.{digits}
 use Rattle.std.specs.List.{filter, count_by}
@@ -15,7 +15,7 @@ use Rattle.value_form.specs.declared.objects.ObjectId.{ObjectId}
 use Rattle.value_form.specs.declared.scripts.Stmt.{Stmt}
 use Rattle.value_form.specs.declared.values.Value.{Value}
 use Rattle.value_form.specs.declared.values.Value.TheVariants as value
-use Rattle.value_form.specs.Mirror.{Number, Name, Fixed, Write, Read, Print, Block, End, Then, block}
+use Rattle.value_form.specs.Mirror.{Number, Name, Fixed, Write, Read, Print, Block, End, Then}
 use Rattle.value_form.specs.MirrorLaws.{made_all, block-made}
 use Rattle.effect_form.specs.declared.effects.Effect.{Effect}
 use Rattle.effect_form.specs.declared.effects.Effect.TheVariants as effect
@@ -25,14 +25,13 @@ use Rattle.message_form.specs.declared.messages.Message.TheVariants as message
 use Rattle.turn_form.specs.declared.turns.Out.{Out}
 use Rattle.turn_form.specs.Posts.{Post, posts}
 use Rattle.stream_port.specs.declared.fates.Asked.{Asked}
-use Rattle.stream_port.specs.declared.fates.Fate.{Fate}
 use Rattle.statement_form.specs.RowTexts.{script_text}
 use Rattle.serial_model.specs.Questions.{Tree, denote}
 use Rattle.plan_form.specs.declared.plans.Plan.{Plan}
 use Rattle.object_history.specs.Answers.{some_put, has_put}
 use Rattle.object_history.specs.History.{settle_of, version_count, pick, scan, stretched}
 use Rattle.object_history.specs.Objects.{same_object, same_value}
-use Rattle.repository_core.specs.Logs.{knows, first_begin, decision_of}
+use Rattle.repository_core.specs.Logs.{first_begin, decision_of}
 use Rattle.repository_core.specs.Rows.{on_message, on_begin, on_close, on_read, on_write, release, tell_askers}
 use Rattle.repository_core.specs.Turns as turns
 use Rattle.broker_core.specs.declared.heards.Heard.{Heard}
@@ -43,14 +42,13 @@ use Rattle.broker_core.specs.Tasks.{Task, task_of, task_with}
 use Rattle.broker_core.specs.Turns as desks
 use Rattle.broker_core.specs.Turns.{settle_up}
 use Rattle.world_core.specs.declared.entries.Entry.{Entry}
-use Rattle.world_core.specs.declared.entries.Entry.TheVariants.{Take, Go, Learn, Hear, Gate, Crash, Down, Tick}
-use Rattle.world_core.specs.declared.traces.Opened.{Opened}
+use Rattle.world_core.specs.declared.entries.Entry.TheVariants.{Take, Go, Gate}
 use Rattle.world_core.specs.declared.traces.Sent.{Sent}
 use Rattle.world_core.specs.declared.traces.Trace.{Trace}
-use Rattle.world_core.specs.Nodes.{Input, Mind, gives, is_ready, leaves, with_desk}
+use Rattle.world_core.specs.Nodes.{gives, is_ready, leaves, with_desk}
 use Rattle.world_core.specs.Nodes.Input.{Going, Taking}
-use Rattle.world_core.specs.Walks.{Base, Flags, Life, World, Sending, gated_life, leaving, numbered, opened_log, sent_by, start_world, step, told, took, walk, walk_from, whole, with_due, with_given}
-use Rattle.world_core.specs.Legal.{AllReady, JustNodes, Legal, MayGate, MayGo, MayTake, Meets, Rule, asked_of, base_of, fates_of, in_plan, is_within, post_of}
+use Rattle.world_core.specs.Walks.{Base, Flags, Life, World, Sending, gated_life, numbered, opened_log, sent_by, start_world, step, told, took, walk, walk_from, whole, with_due, with_given}
+use Rattle.world_core.specs.Legal.{AllReady, JustNodes, Legal, Meets, Rule, fates_of, in_plan, is_within, post_of}
 use Rattle.trace_logs.proofs.OpenedLemmas.{once-two}
 use Rattle.trace_logs.proofs.WorkedTraces.{home, desk, stamp, blank, prompt}
 

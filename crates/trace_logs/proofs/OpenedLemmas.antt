@@ -1,6 +1,6 @@
 -- Lists of opened nodes that have each node once.
 use Rattle.std.proofs.Common.{◌≡◌, ◌≤◌, ◌+◌, ℕ, Bool, true, false, List, [], ◌∷◌, ◌++◌, refl, sym, ap, subst, ◌∙◌, cond, arith}
-use Rattle.std.specs.List.{count_by, sum_by}
+use Rattle.std.specs.List.{count_by}
 use Rattle.std.proofs.lemmas.List.Sums.{sum_by-append, sum_by-cons}
 use Rattle.pseudo_time.specs.Lists.{Every}
 use Rattle.pseudo_time.specs.declared.nodes.NodeId.{NodeId}

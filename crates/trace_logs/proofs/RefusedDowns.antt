@@ -1,9 +1,8 @@
 -- Nodes that are down: what they may no longer do, and which nodes may be down before anything else happens.
-use Rattle.std.proofs.Common.{◌≡◌, ℕ, Bool, true, false, List, [], ◌∷◌, refl, ap, sym, ◌∙◌, inl, inr, Option, Some, None, arith}
-use Rattle.std.specs.Prelude.{is_some}
-use Rattle.pseudo_time.specs.Lists.{Every, Has}
+use Rattle.std.proofs.Common.{◌≡◌, ℕ, true, false, List, [], ◌∷◌, refl, ap, inl, inr, arith}
+use Rattle.pseudo_time.specs.Lists.{Every}
 use Rattle.pseudo_time.specs.declared.nodes.NodeId.{NodeId}
-use Rattle.pseudo_time.specs.declared.nodes.NodeKind.TheVariants.{Repository, Broker}
+use Rattle.pseudo_time.specs.declared.nodes.NodeKind.TheVariants.{Repository}
 use Rattle.effect_form.specs.declared.effects.Effect.{Effect}
 use Rattle.effect_form.specs.declared.effects.Effect.TheVariants as effect
 use Rattle.stream_port.specs.declared.fates.Asked.{Asked}
@@ -13,9 +12,8 @@ use Rattle.world_core.specs.declared.entries.DownCause.TheVariants as cause
 use Rattle.world_core.specs.declared.entries.Entry.TheVariants.{Take, Go, Learn, Hear, Gate, Crash, Down, Tick}
 use Rattle.world_core.specs.declared.traces.Opened.{Opened}
 use Rattle.world_core.specs.declared.traces.Sent.{Sent}
-use Rattle.world_core.specs.declared.traces.Trace.{Trace}
 use Rattle.world_core.specs.Walks.{Base, names, start_world}
-use Rattle.world_core.specs.Legal.{JustNodes, Legal, Meets}
+use Rattle.world_core.specs.Legal.{JustNodes, Meets}
 use Rattle.world_core.specs.Pasts.{Call, IsCall, WasNotOpened}
 use Rattle.trace_logs.proofs.WorkedTraces.{home, desk, stamp, lone_act, script, blank, base, prompt}
 use Rattle.trace_logs.proofs.LegalTraces.{plan}

@@ -1,5 +1,5 @@
 -- How the life of a node goes on, and what the code keeps of it.
-use Rattle.std.proofs.Common.{◌≡◌, ◌≤◌, ℕ, Bool, true, false, cond, length, arith, ◌==◌, ◌++◌, List, [], ◌∷◌, take, drop, map, refl, sym, ap, subst, ◌∙◌, append_assoc}
+use Rattle.std.proofs.Common.{◌≡◌, ◌≤◌, ℕ, Bool, true, false, cond, arith, ◌==◌, ◌++◌, List, [], ◌∷◌, take, drop, sym, ap, subst, ◌∙◌, append_assoc}
 use Rattle.std.specs.List.{filter}
 use Rattle.std.proofs.lemmas.List.{append-nil, take-append-drop, map-append}
 use Rattle.std.proofs.lemmas.List.Elements.{filter-append}
@@ -22,7 +22,7 @@ use Rattle.repository_core.specs.Ranges.{IsEffect, AreEffects}
 use Rattle.broker_core.specs.Ledgers.{AreActs}
 use Rattle.broker_core.specs.Tasks.{Scripted}
 use Rattle.world_core.specs.Nodes.{Input, Given, gives, opened_mind}
-use Rattle.world_core.specs.Walks.{Base, Life, told, whole, with_given, gated_life, crashed_life, opened_life}
+use Rattle.world_core.specs.Walks.{Base, Life, told, whole, gated_life, crashed_life}
 use Rattle.trace_logs.specs.declared.seats.Seat.{Seat}
 use Rattle.trace_logs.specs.Cores.{StandsFor, Gave, IsWhole, IsLogOf, kind_of, own_acts, acts_for}
 use Rattle.trace_logs.specs.Seats.{Lives, IsSound}

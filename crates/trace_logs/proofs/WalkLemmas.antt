@@ -1,10 +1,9 @@
 -- One entry of a walk, over what the code keeps of the nodes.
-use Rattle.std.proofs.Common.{◌≡◌, ◌≤◌, ◌<◌, ℕ, zero, suc, Bool, true, false, ◌&&◌, List, [], ◌∷◌, ◌++◌, length, map, refl, sym, ap, subst, ◌∙◌, Option, Some, None, if◌then◌else◌, slice_get}
-use Rattle.std.specs.Prelude.{Result, Ok, Err, OnOk}
+use Rattle.std.proofs.Common.{◌≡◌, ◌<◌, ℕ, zero, suc, Bool, true, false, ◌&&◌, List, [], ◌∷◌, ◌++◌, length, map, refl, sym, ap, subst, ◌∙◌, Option, Some, None, if◌then◌else◌}
 use Rattle.std.proofs.Math.ListN.{get_or, set}
 use Rattle.std.specs.List.{filter}
-use Rattle.std.specs.Option.{option_map, option_copied}
-use Rattle.std.proofs.lemmas.List.{map-append, append-nil}
+use Rattle.std.specs.Option.{option_map}
+use Rattle.std.proofs.lemmas.List.{map-append}
 use Rattle.std.proofs.lemmas.Option.{slice_get-map}
 use Rattle.pseudo_time.specs.Lists.{Every}
 use Rattle.pseudo_time.specs.declared.nodes.NodeId.{NodeId}
@@ -16,8 +15,8 @@ use Rattle.message_core.proofs.NodeLemmas.{same_is, same_node-refl}
 use Rattle.world_core.specs.declared.entries.Entry.{Entry}
 use Rattle.world_core.specs.declared.entries.Entry.TheVariants.{Take, Go, Learn, Hear, Gate, Crash, Down, Tick}
 use Rattle.world_core.specs.Nodes.{leaves}
-use Rattle.world_core.specs.Nodes.Input.{Taking, Hearing}
-use Rattle.world_core.specs.Walks.{Base, Life, Flags, Sending, World, names, step, told, took, hears, lives_on, flagged, went, learned, has_heard, leaving, sent_by, whole, numbered, last_after}
+use Rattle.world_core.specs.Nodes.Input.{Taking}
+use Rattle.world_core.specs.Walks.{Base, Life, Flags, Sending, World, names, step, told, took, lives_on, flagged, went, learned, has_heard, leaving, sent_by, whole, numbered, last_after}
 use Rattle.world_core.proofs.Lives.{step-other}
 use Rattle.trace_logs.specs.declared.letters.Letter.{Letter}
 use Rattle.trace_logs.specs.declared.seats.Seat.{Seat}
@@ -25,7 +24,7 @@ use Rattle.trace_logs.specs.declared.replays.Replay.{Replay}
 use Rattle.trace_logs.specs.Letters.{posted, all_posted}
 use Rattle.trace_logs.specs.Seats.{Lives}
 use Rattle.trace_logs.specs.Replays.{IsAbsent, Apart, Shows, nodes_of, is_among}
-use Rattle.trace_logs.proofs.PlaceLemmas.{same-sym, set-every, nodes-set, among-at, among-not, all-change, absent-change, every-at}
+use Rattle.trace_logs.proofs.PlaceLemmas.{same-sym, set-every, nodes-set, among-at, all-change, absent-change, every-at}
 
 -- ---- flags
 

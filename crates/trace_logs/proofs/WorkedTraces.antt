@@ -1,17 +1,13 @@
 -- A trace worked by hand: an act without a statement is carried out, and nothing is lost.
-use Rattle.std.proofs.Common.{◌≡◌, ◌⊎◌, ◌≤◌, ◌<◌, ℕ, zero, suc, Bool, true, false, ◌==◌, ◌&&◌, List, [], ◌∷◌, refl, sym, ap, ◌∙◌, inl, inr, Option, Some, None, arith}
-use Rattle.pseudo_time.specs.StampParts.{StampParts, stamp_cmp}
+use Rattle.std.proofs.Common.{◌≡◌, ℕ, List, [], ◌∷◌, refl}
+use Rattle.pseudo_time.specs.StampParts.{StampParts}
 use Rattle.pseudo_time.specs.Order.{same_stamp, same_time}
 use Rattle.pseudo_time.specs.declared.decisions.Decision.TheVariants as decision
 use Rattle.pseudo_time.specs.declared.nodes.NodeId.{NodeId}
-use Rattle.pseudo_time.specs.declared.nodes.NodeKind.{NodeKind}
 use Rattle.pseudo_time.specs.declared.nodes.NodeKind.TheVariants.{Repository, Broker}
 use Rattle.value_form.specs.declared.acts.ActSpec.{ActSpec}
 use Rattle.value_form.specs.Mirror.{block}
-use Rattle.effect_form.specs.declared.effects.Effect.{Effect}
-use Rattle.message_form.specs.declared.messages.Message.{Message}
 use Rattle.message_form.specs.declared.messages.Message.TheVariants as message
-use Rattle.turn_form.specs.Posts.{Post}
 use Rattle.stream_port.specs.declared.fates.Fate.{Fate}
 use Rattle.serial_model.specs.Questions.{Tree, denote}
 use Rattle.broker_core.specs.Book.{book}
@@ -21,10 +17,10 @@ use Rattle.repository_core.specs.Logs.{knows, first_begin, decision_of}
 use Rattle.repository_core.specs.Rows.{on_message, on_begin, on_close, release, tell_askers}
 use Rattle.repository_core.specs.Turns as turns
 use Rattle.world_core.specs.declared.entries.Entry.{Entry}
-use Rattle.world_core.specs.declared.entries.Entry.TheVariants.{Take, Go, Learn, Hear, Gate, Crash, Down, Tick}
+use Rattle.world_core.specs.declared.entries.Entry.TheVariants.{Take, Go, Gate}
 use Rattle.world_core.specs.declared.traces.Opened.{Opened}
-use Rattle.world_core.specs.Nodes.{gives, is_ready}
-use Rattle.world_core.specs.Walks.{Base, World, Sending, start_world, step, walk, walk_from, sent_by}
+use Rattle.world_core.specs.Nodes.{gives}
+use Rattle.world_core.specs.Walks.{Base, walk, walk_from, sent_by}
 
 abbrev pub home : NodeId
 home = record { kind = Repository; number = 1 }

@@ -1,5 +1,5 @@
 -- A run at a place of its trace, as the code keeps it.
-use Rattle.std.specs.Prelude.{◌≡◌, ℕ, ◌≤◌, ◌^◌, Bool, true, false, List, [], ◌∷◌, map, is_some, IfSome, if◌then◌else◌}
+use Rattle.std.specs.Prelude.{◌≡◌, ℕ, ◌≤◌, ◌^◌, Bool, true, false, List, [], ◌∷◌, map, IfSome, if◌then◌else◌}
 use Rattle.std.specs.List.{count_by}
 use Rattle.pseudo_time.specs.Lists.{Every}
 use Rattle.pseudo_time.specs.declared.nodes.NodeId.{NodeId}
@@ -10,7 +10,7 @@ use Rattle.world_core.specs.declared.entries.Entry.{Entry}
 use Rattle.world_core.specs.declared.entries.Entry.TheVariants as entry
 use Rattle.world_core.specs.declared.traces.Opened.{Opened}
 use Rattle.world_core.specs.declared.traces.Trace.{Trace}
-use Rattle.world_core.specs.Walks.{Base, World, sent_by, opened_life, walk}
+use Rattle.world_core.specs.Walks.{Base, World, sent_by, opened_life}
 use Rattle.trace_logs.specs.declared.seats.Seat.{Seat}
 use Rattle.trace_logs.specs.declared.replays.Replay.{Replay}
 use Rattle.trace_logs.specs.Cores.{IsLogOf}

@@ -1,6 +1,5 @@
 -- A node at a place of a trace, as the code keeps it.
-use Rattle.std.specs.Prelude.{◌≡◌, ℕ, ◌≤◌, List, ◌++◌}
-use Rattle.effect_form.specs.declared.effects.Effect.{Effect}
+use Rattle.std.specs.Prelude.{◌≡◌, ◌≤◌, ◌++◌}
 use Rattle.broker_core.specs.Ledgers.{AreActs}
 use Rattle.broker_core.specs.Tasks.{Scripted}
 use Rattle.world_core.specs.Walks.{Base, Life, whole}

@@ -1,4 +1,4 @@
-use Rattle.std.proofs.Common.{◌≡◌, [], ◌∷◌, ◌++◌, ap, ◌∙◌}
+use Rattle.std.proofs.Common.{[], ◌∷◌, ◌++◌, ap, ◌∙◌}
 use Rattle.trace_bench.proofs.Nodes.{once-pair, below-pair, opened-pair}
 use Rattle.trace_bench.proofs.opened.Goals as goal
 

@@ -1,7 +1,6 @@
-use Rattle.std.proofs.Common.{refl, subst, ap}
-use Rattle.repository_core.specs.Turns as turns
+use Rattle.std.proofs.Common.{refl, subst}
 use Rattle.broker_core.specs.Turns as desks
-use Rattle.world_core.specs.Nodes.Input.{Going, Taking, Learning, Hearing}
+use Rattle.world_core.specs.Nodes.Input.{Going}
 use Rattle.trace_logs.specs.Cores.{StandsFor}
 use Rattle.trace_logs.proofs.CoreLemmas.{repository-still, broker-answers}
 use Rattle.trace_logs.proofs.cores.NodeCore.go.Goals as goal

@@ -1,7 +1,6 @@
-use Rattle.std.proofs.Common.{refl, subst, ap}
+use Rattle.std.proofs.Common.{refl, subst}
 use Rattle.repository_core.specs.Turns as turns
-use Rattle.broker_core.specs.Turns as desks
-use Rattle.world_core.specs.Nodes.Input.{Going, Taking, Learning, Hearing}
+use Rattle.world_core.specs.Nodes.Input.{Learning}
 use Rattle.trace_logs.specs.Cores.{StandsFor}
 use Rattle.trace_logs.proofs.CoreLemmas.{repository-answers, broker-still}
 use Rattle.trace_logs.proofs.cores.NodeCore.learn.Goals as goal

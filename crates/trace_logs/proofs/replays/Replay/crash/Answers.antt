@@ -1,14 +1,14 @@
-use Rattle.std.proofs.Common.{refl, sym, ap, subst, ◌≡◌, ◌<◌, ◌∙◌, length, true, Some, None}
+use Rattle.std.proofs.Common.{refl, subst, ◌≡◌, ◌<◌, length, true}
 use Rattle.std.specs.Vec.{with_item}
 use Rattle.std.proofs.Math.ListN.{get_or}
 use Rattle.message_core.specs.Nodes.{same_node}
 use Rattle.world_core.specs.declared.entries.Entry.TheVariants as entry
-use Rattle.world_core.specs.Walks.{Life, sent_by, step}
+use Rattle.world_core.specs.Walks.{sent_by}
 use Rattle.trace_logs.specs.declared.seats.Seat.{Seat}
 use Rattle.trace_logs.specs.Letters.{all_posted}
 use Rattle.trace_logs.specs.Replays.{IsAbsent}
-use Rattle.trace_logs.proofs.WalkLemmas.{absent, still}
-use Rattle.trace_logs.proofs.EntryLemmas.{moved-ok, always, letter-in-range, took-sent, took-unsent, heard-last, heard-nothing, gate-absent, gate-ok}
+use Rattle.trace_logs.proofs.WalkLemmas.{absent}
+use Rattle.trace_logs.proofs.EntryLemmas.{moved-ok, always}
 use Rattle.trace_logs.proofs.replays.Replay.crash.Goals as goal
 
 pub returns-in_default-clause-shows : goal.returns-in_default-clause-shows

@@ -1,8 +1,6 @@
-use Rattle.std.proofs.Common.{refl, sym, ap, subst, ◌∙◌, ◌++◌, [], not}
+use Rattle.std.proofs.Common.{sym, ap, subst, ◌∙◌, ◌++◌, not}
 use Rattle.std.proofs.lemmas.List.{append-nil}
-use Rattle.effect_form.specs.declared.effects.Effect.{Effect}
 use Rattle.repository_core.specs.Logs.{knows}
-use Rattle.message_form.specs.declared.messages.Message.{Message}
 use Rattle.world_core.specs.Nodes.{leaves}
 use Rattle.trace_logs.specs.Cores.{StandsFor}
 use Rattle.trace_logs.proofs.seats.Seat.leaves.Goals as goal
