@@ -23,25 +23,35 @@ act='act broker 1 home 1 timeout 5 tries 3\n'
 } > "$work/adds"
 printf "$head${act}read a 1.1\nread b 1.2\nwithdraw\ndone\n" > "$work/reads"
 
-# Each page as a line of its bytes.
+# Each page as a line of its bytes. The blank ones, which stand behind all others, are one line and a star.
 pages() {
-  [ -f "$medium" ] && od -An -v -tx1 -w4096 "$medium"
+  [ -f "$medium" ] && od -An -tx1 -w4096 "$medium"
+}
+
+# How many of these pages aren't blank.
+used() {
+  grep -vc '^\(\( 00\)*\|\*\)$' "$work/pages"
 }
 
 before=0 between=0 after=0 fresh=0
 for kill in $(seq "$kills"); do
-  if [ -f "$medium" ] && [ "$(pages | grep -c '^\( 00\)*$')" -lt 1000 ]; then
+  pages > "$work/pages"
+  if [ "$(used)" -gt 3096 ]; then
     rm -rf "$folder"
     fresh=$((fresh + 1))
   fi
+  # Of a fresh folder the run is ended early, at times before it has a page.
+  most=600
+  [ -f "$medium" ] || most=40
   "$program" "$folder" run < "$work/adds" > "$work/report" &
   process=$!
-  sleep "$(printf '0.%03d' $((RANDOM % 600)))"
+  sleep "$(printf '0.%03d' $((RANDOM % most)))"
   kill -9 "$process" 2> /dev/null
   wait "$process" 2> /dev/null
   # A page of a decision to commit: gate, format, length 12, Decide, a stamp, Committed.
-  committed=$(pages | grep -c '^ a5 01 00 0c 04\( ..\)\{10\} 01')
-  if [ "$(pages | grep -vc '^\( 00\)*$')" -eq 0 ]; then
+  pages > "$work/pages"
+  committed=$(grep -c '^ a5 01 00 0c 04\( ..\)\{10\} 01' "$work/pages")
+  if [ "$(used)" -eq 0 ]; then
     before=$((before + 1))
   elif [ -s "$work/report" ]; then
     after=$((after + 1))
