@@ -11,3 +11,4 @@ pub mod RefusedDowns
 pub mod RefusedSends
 pub mod RefusedTraces
 pub mod WorkedTraces
+pub mod WorkedTurns

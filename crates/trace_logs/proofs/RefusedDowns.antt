@@ -16,7 +16,7 @@ use Rattle.world_core.specs.Walks.{Base, names, start_world}
 use Rattle.world_core.specs.Legal.{JustNodes, Meets}
 use Rattle.world_core.specs.Pasts.{Call, IsCall, WasNotOpened}
 use Rattle.trace_logs.proofs.WorkedTraces.{home, desk, stamp, lone_act, script, blank, base, prompt}
-use Rattle.trace_logs.proofs.LegalTraces.{plan}
+use Rattle.trace_logs.proofs.WorkedTurns.{plan}
 
 abbrev Breaks : List Entry → Type 0
 Breaks es = Meets base (prompt ∷ prompt ∷ []) (start_world base) es → ⊥

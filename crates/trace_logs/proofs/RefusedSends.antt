@@ -12,7 +12,8 @@ use Rattle.world_core.specs.declared.traces.Trace.{Trace}
 use Rattle.message_core.specs.Nodes.{kind_number}
 use Rattle.world_core.specs.Legal.{Legal, asked_of, post_of, tag_of}
 use Rattle.trace_logs.proofs.WorkedTraces.{home, desk, stamp, blank, prompt}
-use Rattle.trace_logs.proofs.LegalTraces.{object, ten, plan, script, entries, at, request, answer, question, sent, asked, trace, legal, sent-by-gates}
+use Rattle.trace_logs.proofs.WorkedTurns.{object, ten, plan, script, entries, at, request, answer, question, sent, asked, trace}
+use Rattle.trace_logs.proofs.LegalTraces.{legal, sent-by-gates}
 
 abbrev with_sent : List Sent → Trace
 with_sent sent = record { start = 0; opened = blank; sent = sent; entries = entries }
