@@ -1,5 +1,5 @@
 -- An attempt that goes on request by request, to its end.
-use Rattle.std.proofs.Common.{◌≡◌, ℕ, ◌+◌, ◌≤◌, List, [], ◌++◌, refl, sym, ◌∙◌, ap, subst, arith}
+use Rattle.std.proofs.Common.{◌≡◌, ℕ, ◌+◌, ◌≤◌, List, [], ◌∷◌, ◌++◌, refl, sym, ◌∙◌, ap, subst, arith, inl}
 use Rattle.std.proofs.lemmas.List.{append_assoc, append-nil}
 use Rattle.pseudo_time.specs.StampParts.{StampParts}
 use Rattle.value_form.specs.declared.endings.Ending.{Ending}
@@ -10,12 +10,15 @@ use Rattle.effect_form.specs.declared.effects.Effect.{Effect}
 use Rattle.script_meaning.specs.Meaning.{Over, perform}
 use Rattle.script_run.specs.Told.{Told}
 use Rattle.serial_model.specs.Overlays.{overlaid}
+use Rattle.serial_model.specs.Questions.{denote}
+use Rattle.serial_model.proofs.ScriptLemmas.{talk_of}
 use Rattle.serial_run.proofs.StandLemmas.{no_more_requests}
 use Rattle.object_history.specs.declared.marks.Mark.{Mark}
-use Rattle.stored_run.specs.Growth.{Grown, grown_to, with_lines}
+use Rattle.stored_run.specs.Growth.{Grown, grown_to, with_line, with_lines}
 use Rattle.stored_run.specs.Kept.{kept_map}
-use Rattle.stored_run.specs.Requests.{IsGoing, ComesTo, Goes, AreNext, Shows, IsOver, IsEnded, ShowsSome}
+use Rattle.stored_run.specs.Requests.{IsGoing, ComesTo, lines_so_far, Goes, AreNext, Shows, IsOver, IsEnded, IsAsking, ShowsSome, HasComeTo}
 use Rattle.stored_run.specs.Standing.{IsLone}
+use Rattle.stored_run.proofs.GrowthLemmas.{begins-so, lines-append}
 
 -- i requests were answered, which added these effects
 pub record Went (s : StampParts) (i : ℕ) (old new : Told) (h h' : List Mark) (w' : Objects) (effects : List Effect) : Type 0 where
@@ -50,6 +53,26 @@ went-over s i old mid h m m' w w' effects ending lines went over same_marks same
 
 pub went-shows : (s : StampParts) (i : ℕ) (old mid : Told) (h m : List Mark) (w : Objects) (effects : List Effect) (lines : List Line) → Went s i old mid h m w effects → Shows mid lines (kept_map m) → ShowsSome old lines (kept_map h)
 went-shows s i old mid h m w effects lines went shows = (mid, went.script, subst (λ z. Shows mid lines z) went.kept shows)
+
+-- a run without answers has come nowhere
+pub at_first : (s : StampParts) (run : Told) (h : List Mark) (first : Effect) → run.answers ≡ [] → with_lines s (grown_to 1 h (first ∷ [])) (lines_so_far run) ≡ grown_to 1 h (first ∷ [])
+at_first s run h first none = begins-so s (grown_to 1 h (first ∷ [])) (denote (block run.script)) run.answers none
+
+-- what a run shows, which stopped at the effect of its next request
+pub went-asks : (s : StampParts) (i : ℕ) (old mid : Told) (h m : List Mark) (w : Objects) (effects : List Effect) (lines : List Line) (next : Effect) → Went s i old mid h m w effects → IsAsking s (i + 1) mid m lines next → HasComeTo s old h lines effects next
+went-asks s i old mid h m w effects lines next went asks = (went-shows s i old mid h m w effects lines went asks.shows, λ first none.
+    let from = grown_to 1 h (first ∷ []) in
+    let so_far : lines ≡ lines_so_far mid = sym asks.shows.talks ∙ (talk_of (block mid.script) mid.answers).0 in
+    let at : with_lines s from lines ≡ grown_to (i + 1) m (first ∷ effects) = ap (with_lines s from) so_far ∙ went.comes from (first ∷ []) (at_first s old h first none) in
+    let all : (perform (block mid.script) (kept_map m)).lines ≡ (perform (block old.script) (kept_map h)).lines = ap (λ z. (perform (block z) (kept_map m)).lines) went.script ∙ ap (λ z. (perform (block old.script) z).lines) went.kept in (
+      sym (ap (λ g. g.effects) at),
+      inl (
+        asks.line,
+        asks.more,
+        asks.are ∙ all,
+        ap (λ g. g.effects) (lines-append s from lines (asks.line ∷ []) ∙ ap (λ g. with_line s g asks.line) at) ∙ asks.adds (first ∷ effects) ∙ ap (λ g. g.effects ++ next ∷ []) (sym at),
+      ),
+    ))
 
 pub went-next : (s : StampParts) (i : ℕ) (old mid : Told) (h m : List Mark) (w : Objects) (effects more : List Effect) → Went s i old mid h m w effects → AreNext s (i + 1) mid m more → AreNext s 1 old h (effects ++ more)
 went-next s i old mid h m w effects more went next from es is =

@@ -1,5 +1,6 @@
 -- What a run comes to, from what its parts did to the medium.
 use Rattle.std.proofs.Common.{◌≡◌, ℕ, Bool, IsTrue, List, [], ◌∷◌, ◌++◌, length, map, reverse, refl, sym, ◌∙◌, ap, subst, Ok, Err, Result, Option, Some, None, inl, inr}
+use Rattle.std.specs.Prelude.{◌≢◌}
 use Prim.Native.Nat.{suc}
 use Rattle.std.specs.FinMap as finite
 use Rattle.std.proofs.lemmas.List.{append_assoc, append-nil}
@@ -21,14 +22,15 @@ use Rattle.version_store.specs.declared.faults.OpenFault.{OpenFault}
 use Rattle.version_store.specs.declared.faults.OpenFault.TheVariants as opening
 use Rattle.version_store.specs.declared.faults.StoreFault.{StoreFault}
 use Rattle.version_store.specs.declared.faults.StoreFault.TheVariants as fault
-use Rattle.stored_run.specs.Ends.{IsHaltedOver, down_of, down_of_opening, IsOpenedFrom, HasCause, WasCarriedOut, StoppedBefore, StoppedIn, NeverOpened, IsKept}
+use Rattle.stored_run.specs.Ends.{IsBrokenOff, IsHaltedOver, down_of, down_of_opening, IsOpenedFrom, HasCause, WasCarriedOut, StoppedBefore, StoppedIn, NeverOpened, IsKept}
 use Rattle.stored_run.specs.Kept.{kept_map}
-use Rattle.stored_run.specs.Media.{HasFront, held, Adds, Stops}
-use Rattle.stored_run.specs.Runs.{Stand, stand_of, opened, withdrawals, stamp_of, reports_of, effects_of, added, left_by, effects_over, after, next_of, untried, open_try, IsAtWork}
+use Rattle.stored_run.specs.Media.{HasFront, held, Adds, StopsAmong, Stops}
+use Rattle.stored_run.specs.Runs.{Stand, stand_of, opened, withdrawals, stamp_of, reports_of, effects_of, added, left_by, effects_over, after, next_of, untried, open_try}
 use Rattle.stored_run.specs.Standing.{IsQuiet}
 use Rattle.stored_run.specs.Unready.{IsUnopened}
 use Rattle.stored_run.proofs.AfterLemmas.{marks-after}
-use Rattle.stored_run.proofs.MediaLemmas.{adds-stops, stops-more}
+use Rattle.stored_run.proofs.ActLemmas.{broken-over}
+use Rattle.stored_run.proofs.MediaLemmas.{among-over, adds-stops, stops-more}
 
 -- the effects of a log that was found
 pub found-is : (r : Result Log ℕ) (log : List Effect) → effects_found r ≡ Ok log → entry.effects_of (log_or_none r) ≡ log
@@ -39,6 +41,10 @@ found-is (Err page) log is = absurd (let k : Err page ≡ Ok log = is in cc)
 pub length-reports : (acts : List ActSpec) (st : Stand) → length (reports_of acts st) ≡ length acts
 length-reports [] st = refl
 length-reports (act ∷ more) st = ap suc (length-reports more (after act st))
+
+-- what makes a repository go down is no want of memory
+pub no-want : (f : StoreFault) (cause : DownCause) → down_of f ≡ Some cause → f ≢ fault.NoMemory
+no-want f cause is same = absurd (let k : down_of fault.NoMemory ≡ Some cause = sym (ap down_of same) ∙ is in cc)
 
 pub front-all : (log effects : List Effect) (c : Image) → storage c ≡ Ok (log ++ effects) → HasFront log effects c
 front-all log effects c is = record { front = effects; rest = []; whole = append-nil effects; is = is }
@@ -70,47 +76,54 @@ module _ {M : Type 0} (tells : Bool) (reads : M → Image) (may_leave : M → Im
 
   -- ---- it stopped
 
-  pub stopped-before : (was new m : M) (cause : StoreFault) (acts : List ActSpec) (reports : List ActReport) (objects o : Objects) (log : List Effect) → (IsTrue tells → storage (reads was) ≡ Ok log) → Stops tells reads may_leave page_count faults was new cause (withdrawals log)
-      → m ≡ new → reports ≡ map untried acts → objects ≡ o → o ≡ kept_map (marks (reverse log)) → StoppedBefore tells (reads was) (may_leave m) acts reports objects
-  stopped-before was new m cause acts reports objects o log is stops same reports_are objects_are kept = record {
+  pub stopped-before : (was new m : M) (f : StoreFault) (cause : DownCause) (acts : List ActSpec) (reports : List ActReport) (objects o : Objects) (log : List Effect) → (IsTrue tells → storage (reads was) ≡ Ok log) → Stops tells reads may_leave page_count faults was new f (withdrawals log) → down_of f ≡ Some cause
+      → m ≡ new → reports ≡ map untried acts → objects ≡ o → o ≡ kept_map (marks (reverse log)) → StoppedBefore tells (reads was) (may_leave m) cause acts reports objects
+  stopped-before was new m f cause acts reports objects o log is stops why same reports_are objects_are kept = record {
+    fault = f;
+    is_cause = why;
     log = log;
     is_log = is;
     reports_are = reports_are;
     objects_are = objects_are ∙ kept;
-    images = λ told i left. subst (λ z. HasFront z (withdrawals log) i) (found-is (entries (reads was)) log (is told)) (stops.images told i (subst (λ z. may_leave z i) same left));
+    among = subst (λ z. StopsAmong tells (may_leave z) f log (withdrawals log)) (sym same)
+        (among-over tells (may_leave new) f (held reads was) log (withdrawals log) (λ told. found-is (entries (reads was)) log (is told)) (stops.among (no-want f cause why)));
   }
 
-  pub stopped-in : (was b new m : M) (acts : List ActSpec) (shown reports : List ActReport) (st : Stand) (s : Option StampParts) (lines : List Line) (objects o : Objects)
-      → IsOpenedFrom tells reads is_failed page_count faults was b st → (halts : IsHaltedOver tells (may_leave new) (held reads b) acts st shown s lines o) → m ≡ new
+  pub stopped-in : (was b new m : M) (f : StoreFault) (cause : DownCause) (acts : List ActSpec) (shown reports : List ActReport) (st : Stand) (s : Option StampParts) (lines : List Line) (objects o : Objects)
+      → IsOpenedFrom tells reads is_failed page_count faults was b st → (halts : IsHaltedOver tells (may_leave new) f (held reads b) acts st shown s lines o) → down_of f ≡ Some cause → m ≡ new
       → ((before behind : List ActSpec) (act : ActSpec) (x : StampParts) → acts ≡ before ++ act ∷ behind → length shown ≡ length before → s ≡ Some x → reports ≡ shown ++ open_try act x lines ∷ map untried behind)
-      → objects ≡ o → StoppedIn tells (reads was) (may_leave m) acts reports objects
-  stopped-in was b new m acts shown reports st s lines objects o from halts same reports_are objects_are =
+      → objects ≡ o → StoppedIn tells (reads was) (may_leave m) cause acts reports objects
+  stopped-in was b new m f cause acts shown reports st s lines objects o from halts why same reports_are objects_are =
       let log = from.0 in
       let halted = halts.halted in
-      let in_act = halted.halted in
-      let at : left_by halted.before st ≡ left_by halted.before (opened log) = ap (left_by halted.before) from.2 in
+      let at : left_by halts.before st ≡ left_by halts.before (opened log) = ap (left_by halts.before) from.2 in
+      let behind : IsTrue tells → held reads b ++ added halts.before st ≡ (log ++ withdrawals log) ++ added halts.before (opened log) =
+          λ told. ap (λ z. held reads b ++ added halts.before z) from.2 ∙ ap (λ z. z ++ added halts.before (opened log)) (opened_log was b log (withdrawals log) from.1 from.3 told) in
       record {
+        fault = f;
+        is_cause = why;
         log = log;
         is_log = from.1;
-        before = halted.before;
-        act = halted.act;
-        behind = halted.behind;
-        are = halted.are;
-        clock = in_act.clock;
-        is_next = ap (λ z. next_of z.clock) (sym at) ∙ in_act.is_next;
+        before = halts.before;
+        act = halts.act;
+        behind = halts.behind;
+        are = halts.are;
+        clock = halted.clock;
+        is_next = ap (λ z. next_of z.clock) (sym at) ∙ halted.is_next;
         lines = lines;
-        at_work = subst (λ z. IsAtWork halted.act z.objects lines) at in_act.at_work;
-        reports_are = reports_are halted.before halted.behind halted.act (stamp_of halted.act in_act.clock) halted.are (ap length halted.shown ∙ length-reports halted.before st) in_act.stamp_is
-            ∙ ap (λ z. z ++ open_try halted.act (stamp_of halted.act in_act.clock) lines ∷ map untried halted.behind) (halted.shown ∙ ap (reports_of halted.before) from.2);
-        objects_are = objects_are ∙ in_act.left ∙ ap (λ z. z.objects) at;
-        images = λ told i left.
-            subst (λ z. HasFront ((log ++ withdrawals log) ++ added halted.before z) (effects_of halted.act (left_by halted.before z)) i) from.2
-            (subst (λ z. HasFront (z ++ added halted.before st) (effects_of halted.act (left_by halted.before st)) i) (opened_log was b log (withdrawals log) from.1 from.3 told)
-            (halts.stands told i (subst (λ z. may_leave z i) same left)));
+        broken_off = subst (λ z. IsBrokenOff tells (may_leave z) f ((log ++ withdrawals log) ++ added halts.before (opened log)) halts.act (stamp_of halts.act halted.clock) (left_by halts.before (opened log)).marks (left_by halts.before (opened log)).objects lines) (sym same)
+            (subst (λ z. IsBrokenOff tells (may_leave new) f ((log ++ withdrawals log) ++ added halts.before (opened log)) halts.act (stamp_of halts.act halted.clock) z.marks z.objects lines) at
+            (broken-over tells (may_leave new) f (held reads b ++ added halts.before st) ((log ++ withdrawals log) ++ added halts.before (opened log)) halts.act (stamp_of halts.act halted.clock) (left_by halts.before st).marks (left_by halts.before st).objects lines behind halted.broken_off));
+        reports_are = reports_are halts.before halts.behind halts.act (stamp_of halts.act halted.clock) halts.are (ap length halts.shown ∙ length-reports halts.before st) halted.stamp_is
+            ∙ ap (λ z. z ++ open_try halts.act (stamp_of halts.act halted.clock) lines ∷ map untried halts.behind) (halts.shown ∙ ap (reports_of halts.before) from.2);
+        objects_are = objects_are ∙ halted.objects_are ∙ ap (λ z. z.objects) at;
       }
 
-  pub never-opened : (was new m : M) (cause : OpenFault) (acts : List ActSpec) (reports : List ActReport) (objects : Objects) → IsUnopened tells reads may_leave faults was new cause → m ≡ new → reports ≡ map untried acts → objects ≡ finite.empty → NeverOpened tells (may_leave was) (may_leave m) acts reports objects
-  never-opened was new m cause acts reports objects un same reports_are objects_are = record {
+  pub never-opened : (was new m : M) (f : OpenFault) (cause : DownCause) (acts : List ActSpec) (reports : List ActReport) (objects : Objects) → IsUnopened tells reads may_leave faults was new f → down_of_opening f ≡ Some cause → m ≡ new → reports ≡ map untried acts → objects ≡ finite.empty
+      → NeverOpened tells (may_leave was) (may_leave m) cause acts reports objects
+  never-opened was new m f cause acts reports objects un why same reports_are objects_are = record {
+    fault = f;
+    is_cause = why;
     reports_are = reports_are;
     objects_are = objects_are;
     images = λ told i left. un.images told i (subst (λ z. may_leave z i) same left);

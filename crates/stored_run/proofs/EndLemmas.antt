@@ -1,5 +1,5 @@
 -- How an attempt ends, and what it comes to in all.
-use Rattle.std.proofs.Common.{◌≡◌, ℕ, List, [], ◌∷◌, ◌++◌, sym, ◌∙◌, ap}
+use Rattle.std.proofs.Common.{◌≡◌, ℕ, List, [], ◌∷◌, ◌++◌, sym, ◌∙◌, ap, inr}
 use Rattle.std.proofs.lemmas.List.{append_assoc}
 use Rattle.pseudo_time.specs.StampParts.{StampParts}
 use Rattle.value_form.specs.declared.endings.Ending.{Ending}
@@ -11,17 +11,16 @@ use Rattle.effect_form.specs.declared.effects.Effect.{Effect}
 use Rattle.effect_form.specs.declared.effects.Effect.TheVariants.{Decide}
 use Rattle.script_meaning.specs.Meaning.{Over, perform}
 use Rattle.script_run.specs.Told.{Told}
-use Rattle.serial_model.specs.Questions.{denote}
 use Rattle.serial_model.specs.Overlays.{overlaid}
 use Rattle.serial_run.specs.Attempts.{left_of}
 use Rattle.object_history.specs.declared.marks.Mark.{Mark}
 use Rattle.object_history.specs.declared.marks.Mark.TheVariants.{Settle}
 use Rattle.stored_run.specs.Growth.{grown_to, with_lines}
 use Rattle.stored_run.specs.Kept.{kept_map}
-use Rattle.stored_run.specs.Requests.{lines_so_far, AreNext, IsEnded}
+use Rattle.stored_run.specs.Requests.{AreNext, IsEnded, ShowsSome, HasComeTo}
 use Rattle.stored_run.specs.Runs.{decision_of, is_finished, grown_with, effects_with}
 use Rattle.stored_run.specs.Standing.{IsLone, IsQuiet}
-use Rattle.stored_run.proofs.GrowthLemmas.{begins-so}
+use Rattle.stored_run.proofs.AttemptLemmas.{at_first}
 use Rattle.stored_run.proofs.QuietLemmas.{lone-committed, lone-withdrawn}
 
 pub ends-quiet : (e : Ending) (s : StampParts) (n : ℕ) (m : List Mark) (w objects : Objects) → IsLone s n m w objects → IsQuiet s.clock (Settle s (is_finished (Over e)) ∷ m) (left_of (Over e) (overlaid w objects) objects)
@@ -29,12 +28,21 @@ ends-quiet Finished s n m w objects lone = lone-committed s n m w objects lone
 ends-quiet (Withdrawn l) s n m w objects lone = lone-withdrawn s n m w objects lone
 ends-quiet (Failed l k) s n m w objects lone = lone-withdrawn s n m w objects lone
 
--- a run without answers has come nowhere
-at_first : (s : StampParts) (run : Told) (h : List Mark) (first : Effect) → run.answers ≡ [] → with_lines s (grown_to 1 h (first ∷ [])) (lines_so_far run) ≡ grown_to 1 h (first ∷ [])
-at_first s run h first none = begins-so s (grown_to 1 h (first ∷ [])) (denote (block run.script)) run.answers none
+abbrev pub decides_as : StampParts → Ending → Effect
+decides_as s e = Decide s (decision_of (is_finished (Over e)))
 
 abbrev pub decides : StampParts → Ending → List Effect
-decides s e = Decide s (decision_of (is_finished (Over e))) ∷ []
+decides s e = decides_as s e ∷ []
+
+-- what a run shows, which stopped at its decision
+pub ended-asks : (s : StampParts) (run : Told) (h h' : List Mark) (w' : Objects) (e : Ending) (lines : List Line) (effects : List Effect) → IsEnded s run h h' w' e lines effects → ShowsSome run lines (kept_map h) → HasComeTo s run h lines effects (decides_as s e)
+ended-asks s run h h' w' e lines effects ended shows = (
+  shows,
+  λ first none. (
+    sym (ap (λ g. g.effects) (ended.comes (grown_to 1 h (first ∷ [])) (first ∷ []) (at_first s run h first none))),
+    inr (sym (ap (λ c. c.lines) ended.is_alone), sym (ap (λ c. Decide s (decision_of (is_finished c.stop))) ended.is_alone)),
+  ),
+)
 
 pub ended-grown : (s : StampParts) (run : Told) (h h' : List Mark) (w' : Objects) (e : Ending) (lines : List Line) (effects : List Effect) (first : Effect) → run.answers ≡ [] → IsEnded s run h h' w' e lines effects
     → (n : ℕ) × (grown_with s (block run.script) first h (kept_map h) ≡ grown_to n h' (first ∷ effects))

@@ -1,5 +1,5 @@
 -- Each exit of a request keeps what always holds of an attempt.
-use Rattle.std.proofs.Common.{◌≡◌, ℕ, ◌+◌, Bool, true, false, List, [], ◌∷◌, ◌++◌, sym, ◌∙◌, ap, subst, arith}
+use Rattle.std.proofs.Common.{◌≡◌, ℕ, ◌+◌, Bool, true, false, List, [], ◌∷◌, ◌++◌, refl, sym, ◌∙◌, ap, subst, arith}
 use Rattle.std.proofs.lemmas.List.{append-nil}
 use Rattle.std.specs.FinMap as finite
 use Rattle.pseudo_time.specs.StampParts.{StampParts}
@@ -20,7 +20,7 @@ use Rattle.script_meaning.specs.Meaning.{Over, Answer, Got, Stored}
 use Rattle.script_run.specs.declared.nexts.Next.{Next}
 use Rattle.script_run.specs.declared.nexts.Next.TheVariants as next
 use Rattle.script_run.specs.Told.{Told, answered, stop_of, Tells}
-use Rattle.serial_model.specs.Questions.{IsFrontOf, denote, told, talked, stop}
+use Rattle.serial_model.specs.Questions.{IsFrontOf, denote, told, talked, stop, left_after}
 use Rattle.serial_model.specs.Overlays.{overlaid}
 use Rattle.serial_model.proofs.AnswerLemmas.{talked-stop}
 use Rattle.serial_model.proofs.ScriptLemmas.{talk_of}
@@ -34,9 +34,13 @@ use Rattle.object_history.specs.Answers.{read_step, write_step}
 use Rattle.stored_run.specs.Growth.{Grown, grown_to, stretch_if, stretch_mark_if, stretches, with_line, with_lines}
 use Rattle.stored_run.specs.Kept.{kept_map}
 use Rattle.request_ranges.specs.Requests.{HasBytes, AnswerHasBytes}
-use Rattle.stored_run.specs.Requests.{IsGoing, lines_so_far, Goes, AreNext, Shows, IsOver}
+use Rattle.medium_port.specs.Image.{Image}
+use Rattle.version_store.specs.declared.faults.StoreFault.{StoreFault}
+use Rattle.stored_run.specs.Media.{StandsBefore, StopsAmong}
+use Rattle.stored_run.specs.Requests.{IsGoing, lines_so_far, Goes, AreNext, Shows, IsAsking, IsOver}
 use Rattle.stored_run.specs.Standing.{time_of, IsLone}
 use Rattle.stored_run.proofs.GrowthLemmas.{lines-append, grown-read, grown-write, talked-front, next-read, next-write, lines-alone, lines-more, reads-bytes, writes-bytes}
+use Rattle.stored_run.proofs.MediaLemmas.{among-one, nothing-among}
 use Rattle.stored_run.proofs.LoneLemmas.{lone-read, lone-write, lone-passed, lone-stretched, lone-wrote}
 
 -- ---- where it stops
@@ -89,6 +93,37 @@ next_put s n run h w lines nx o a t going tells is at from es comes =
       ap (λ z. z.effects) (behind s from n h es (lines_so_far run) _ (line.Wrote o a ∷ front.0) comes (lines-alone (block run.script) (kept_map h) ∙ sym front.1)) ∙ more.1
           ∙ ap (λ z. (es ++ effect.Put o z a ∷ []) ++ more.0) (sym at),
     )
+
+-- the transcript goes up to it
+pub asks_stretch : (s : StampParts) (n : ℕ) (run : Told) (h : List Mark) (w : Objects) (lines : List Line) (nx : Next) (o : ObjectId) (t : TimeParts) → IsGoing s n run h w → Tells run.script run.answers lines nx → nx ≡ next.Read o → t ≡ time_of s n → stretches h o t ≡ true
+    → IsAsking s n run h lines (effect.Stretch o t)
+asks_stretch s n run h w lines nx o t going tells is at due =
+    let front = next-read (denote (block run.script)) run.answers (kept_map h) o going.stands.agrees (asks_so run lines nx tells ∙ ap stop_of is) in
+    let l = line.Read o (value_at (left_after (denote (block run.script)) run.answers (kept_map h)) o) in
+    record {
+      shows = shows_so s n run h w lines nx going tells;
+      line = l;
+      more = front.0;
+      are = ap (λ z. z ++ l ∷ front.0) (so_far run lines nx tells) ∙ front.1 ∙ sym (lines-alone (block run.script) (kept_map h));
+      adds = λ es. ap (λ z. es ++ stretch_if (stretches h o z) o z) (sym at) ∙ ap (λ b. es ++ stretch_if b o t) due;
+    }
+
+pub asks_put : (s : StampParts) (n : ℕ) (run : Told) (h : List Mark) (w : Objects) (lines : List Line) (nx : Next) (o : ObjectId) (a : Value) (t : TimeParts) → IsGoing s n run h w → Tells run.script run.answers lines nx → nx ≡ next.Write o a → t ≡ time_of s n
+    → IsAsking s n run h lines (effect.Put o t a)
+asks_put s n run h w lines nx o a t going tells is at =
+    let front = next-write (denote (block run.script)) run.answers (kept_map h) o a going.stands.agrees (asks_so run lines nx tells ∙ ap stop_of is) in
+    record {
+      shows = shows_so s n run h w lines nx going tells;
+      line = line.Wrote o a;
+      more = front.0;
+      are = ap (λ z. z ++ line.Wrote o a ∷ front.0) (so_far run lines nx tells) ∙ front.1 ∙ sym (lines-alone (block run.script) (kept_map h));
+      adds = λ es. ap (λ z. es ++ effect.Put o z a ∷ []) (sym at);
+    }
+
+-- a read can stop only where its Stretch is due
+pub stretch_due : (tells : Bool) (left : Image → Type 0) (cause : StoreFault) (log : List Effect) (b : Bool) (o : ObjectId) (t : TimeParts) → StopsAmong tells left cause log (stretch_if b o t) → (b ≡ true) × StandsBefore tells left cause log [] (effect.Stretch o t)
+stretch_due tells left cause log true o t among = (refl, among-one tells left cause log (effect.Stretch o t) among)
+stretch_due tells left cause log false o t among = absurd (nothing-among among.stood among.next among.rest among.are)
 
 -- ---- what a request asks of the histories
 

@@ -9,9 +9,10 @@ use Rattle.value_form.specs.Objects.{Objects}
 use Rattle.version_store.specs.declared.faults.StoreFault.{StoreFault}
 use Rattle.effect_form.specs.declared.effects.Effect.{Effect}
 use Rattle.report_writer.specs.declared.records.ActReport.{ActReport}
-use Rattle.stored_run.specs.Ends.{IsHaltedOver}
-use Rattle.stored_run.specs.Media.{HasFront, held, Adds, Stops}
-use Rattle.stored_run.specs.Runs.{Stand, report_of, effects_of, after, reports_of, added, left_by, IsHaltedIn, IsHalted}
+use Rattle.stored_run.specs.Ends.{IsHaltedIn, IsHaltedOver}
+use Rattle.stored_run.specs.Media.{held, Adds, Stops}
+use Rattle.stored_run.specs.Runs.{Stand, report_of, effects_of, after, reports_of, added, left_by, stamp_of}
+use Rattle.stored_run.proofs.ActLemmas.{broken-over}
 use Rattle.stored_run.proofs.MediaLemmas.{adds-adds, adds-stops, stops-more}
 
 pub left-append : (a b : List ActSpec) (st : Stand) → left_by (a ++ b) st ≡ left_by b (left_by a st)
@@ -59,15 +60,14 @@ pub reports-in-act : (acts : List ActSpec) (i : ℕ) (act : ActSpec) (st now : S
 reports-in-act acts i act st now old new within is at so_far to =
     to ∙ ap (λ z. z ++ report_of act now ∷ []) so_far ∙ ap (λ z. reports_of (take i acts) st ++ report_of act z ∷ []) at ∙ sym (reports-more acts i act st within is)
 
-pub halted-in-act : (acts : List ActSpec) (i : ℕ) (act : ActSpec) (st now : Stand) (old new : List ActReport) (s : Option StampParts) (lines : List Line) (objects : Objects) → i < length acts → act ≡ get_or acts i act → now ≡ left_by (take i acts) st → old ≡ reports_of (take i acts) st
-    → (new ≡ old) × IsHaltedIn act now s lines objects → IsHalted acts st new s lines objects
-halted-in-act acts i act st now old new s lines objects within is at so_far halted = record {
-  before = take i acts;
-  act = act;
-  behind = drop (i + 1) acts;
-  are = acts-split acts i act within is;
-  shown = halted.0 ∙ so_far;
-  halted = subst (λ z. IsHaltedIn act z s lines objects) at halted.1;
+-- behind the same log
+pub halted-over : (tells : Bool) (left : Image → Type 0) (cause : StoreFault) (a b : List Effect) (act : ActSpec) (st : Stand) (s : Option StampParts) (lines : List Line) (objects : Objects) → (IsTrue tells → a ≡ b) → IsHaltedIn tells left cause a act st s lines objects → IsHaltedIn tells left cause b act st s lines objects
+halted-over tells left cause a b act st s lines objects same halted = record {
+  clock = halted.clock;
+  is_next = halted.is_next;
+  stamp_is = halted.stamp_is;
+  broken_off = broken-over tells left cause a b act (stamp_of act halted.clock) st.marks st.objects lines same halted.broken_off;
+  objects_are = halted.objects_are;
 }
 
 module _ {M : Type 0} (tells : Bool) (reads : M → Image) (may_leave : M → Image → Type 0) (is_failed : M → Bool) (page_count faults : M → ℕ) where
@@ -86,17 +86,14 @@ module _ {M : Type 0} (tells : Bool) (reads : M → Image) (may_leave : M → Im
       (adds-stops tells reads may_leave is_failed page_count faults a b c cause (added (take i acts) st) (effects_of act now) first second))
 
   -- where it stops in an act, the effects of those before it stand
-  pub stands-in-act : (a b c : M) (cause : StoreFault) (acts : List ActSpec) (i : ℕ) (act : ActSpec) (st now : Stand) (image : Image) → now ≡ left_by (take i acts) st → Adds tells reads is_failed page_count faults a b (added (take i acts) st)
-      → Stops tells reads may_leave page_count faults b c cause (effects_of act now) → IsTrue tells → may_leave c image → HasFront (held reads a ++ added (take i acts) st) (effects_of act (left_by (take i acts) st)) image
-  stands-in-act a b c cause acts i act st now image at first second told left =
-      subst (λ z. HasFront (held reads a ++ added (take i acts) st) (effects_of act z) image) at
-      (subst (λ z. HasFront z (effects_of act now) image) (first.log told) (second.images told image left))
-
   pub halts-in-act : (a b c : M) (cause : StoreFault) (acts : List ActSpec) (i : ℕ) (act : ActSpec) (st now : Stand) (old new : List ActReport) (s : Option StampParts) (lines : List Line) (objects : Objects) → i < length acts → act ≡ get_or acts i act → now ≡ left_by (take i acts) st
-      → old ≡ reports_of (take i acts) st → Adds tells reads is_failed page_count faults a b (added (take i acts) st) → Stops tells reads may_leave page_count faults b c cause (effects_of act now) → (new ≡ old) × IsHaltedIn act now s lines objects
-      → IsHaltedOver tells (may_leave c) (held reads a) acts st new s lines objects
-  unfolding halted-in-act
-  halts-in-act a b c cause acts i act st now old new s lines objects within is at so_far first second halted = record {
-    halted = halted-in-act acts i act st now old new s lines objects within is at so_far halted;
-    stands = λ told image left. stands-in-act a b c cause acts i act st now image at first second told left;
+      → old ≡ reports_of (take i acts) st → Adds tells reads is_failed page_count faults a b (added (take i acts) st) → (new ≡ old) × IsHaltedIn tells (may_leave c) cause (held reads b) act now s lines objects → IsHaltedOver tells (may_leave c) cause (held reads a) acts st new s lines objects
+  halts-in-act a b c cause acts i act st now old new s lines objects within is at so_far first halted = record {
+    before = take i acts;
+    act = act;
+    behind = drop (i + 1) acts;
+    are = acts-split acts i act within is;
+    shown = halted.0 ∙ so_far;
+    halted = halted-over tells (may_leave c) cause (held reads b) (held reads a ++ added (take i acts) st) act (left_by (take i acts) st) s lines objects first.log
+        (subst (λ z. IsHaltedIn tells (may_leave c) cause (held reads b) act z s lines objects) at halted.1);
   }

@@ -1,5 +1,5 @@
 -- What a part of a run does to its medium.
-use Rattle.std.specs.Prelude.{◌≡◌, ℕ, ◌≤◌, Bool, false, IsTrue, List, ◌++◌, Ok, count_by}
+use Rattle.std.specs.Prelude.{◌≡◌, ◌≢◌, ℕ, ◌≤◌, Bool, false, IsTrue, List, [], ◌∷◌, ◌++◌, Ok, count_by}
 use Rattle.stream_port.specs.Causes.{Rose}
 use Rattle.medium_port.specs.Image.{Image}
 use Rattle.page_gate.specs.States.{is_blank}
@@ -27,9 +27,23 @@ pub record Adds {M : Type 0} (tells : Bool) (reads : M → Image) (is_failed : M
   pub size : page_count new ≡ page_count old
   pub later : faults old ≤ faults new
 
--- it was to have these effects more, and stopped: a crash leaves a front of them; it is full only where no page is blank
+-- in all that is left these effects stand behind the log, and the next one, at which it stopped, may; where no page was blank it doesn't
+pub record StandsBefore (tells : Bool) (left : Image → Type 0) (cause : StoreFault) (log stood : List Effect) (next : Effect) : Type 0 where
+  pub images : IsTrue tells → (c : Image) → left c → HasFront (log ++ stood) (next ∷ []) c
+  pub full : (pages : ℕ) → cause ≡ fault.Full pages → IsTrue tells → (c : Image) → left c → storage c ≡ Ok (log ++ stood)
+
+-- it stopped at one of these effects
+pub record StopsAmong (tells : Bool) (left : Image → Type 0) (cause : StoreFault) (log effects : List Effect) : Type 0 where
+  pub stood : List Effect
+  pub next : Effect
+  pub rest : List Effect
+  pub are : stood ++ next ∷ rest ≡ effects
+  pub stands : StandsBefore tells left cause log stood next
+
+-- it was to have these effects more, and stopped at one of them, or for want of memory anywhere: a crash leaves a front of them; it is full only where no page is blank
 pub record Stops {M : Type 0} (tells : Bool) (reads : M → Image) (may_leave : M → Image → Type 0) (page_count faults : M → ℕ) (old new : M) (cause : StoreFault) (effects : List Effect) : Type 0 where
   pub images : IsTrue tells → (c : Image) → may_leave new c → HasFront (held reads old) effects c
+  pub among : cause ≢ fault.NoMemory → StopsAmong tells (may_leave new) cause (held reads old) effects
   pub size : page_count new ≡ page_count old
   pub later : faults old ≤ faults new
   pub failed : cause ≡ fault.Medium → Rose (faults old) (faults new)

@@ -1,5 +1,5 @@
 -- How an attempt stands before each of its requests, and what one request changes.
-use Rattle.std.specs.Prelude.{◌≡◌, ℕ, ◌+◌, List, ◌++◌, length}
+use Rattle.std.specs.Prelude.{◌≡◌, ℕ, ◌+◌, List, [], ◌∷◌, ◌++◌, length}
 use Rattle.pseudo_time.specs.StampParts.{StampParts}
 use Rattle.pseudo_time.specs.Lists.{Every}
 use Rattle.value_form.specs.declared.endings.Ending.{Ending}
@@ -13,9 +13,10 @@ use Rattle.serial_model.specs.Questions.{IsFrontOf, denote, talked}
 use Rattle.serial_model.specs.Overlays.{overlaid}
 use Rattle.serial_run.specs.Standing.{Stands}
 use Rattle.object_history.specs.declared.marks.Mark.{Mark}
-use Rattle.stored_run.specs.Growth.{Grown, grown_to, with_lines}
+use Rattle.stored_run.specs.Growth.{Grown, grown_to, with_line, with_lines}
 use Rattle.stored_run.specs.Kept.{kept_map}
 use Rattle.request_ranges.specs.Requests.{HasBytes, AnswerHasBytes}
+use Rattle.stored_run.specs.Runs.{shown_with, IsNext}
 use Rattle.stored_run.specs.Standing.{IsLone}
 
 -- it is alone, its answers are those that it has over the kept map, and what it will ask for has bytes
@@ -64,6 +65,19 @@ pub record IsEnded (s : StampParts) (run : Told) (marks new_marks : List Mark) (
   pub is_alone : perform (block run.script) (kept_map marks) ≡ record { stop = Over ending; lines = lines; world = overlaid writes (kept_map marks) }
   pub comes : (from : Grown) (es : List Effect) → ComesTo s run from (grown_to 1 marks es) → with_lines s from lines ≡ grown_to steps new_marks (es ++ effects)
 
+-- the transcript goes up to the line of the request that comes next, which adds this effect
+pub record IsAsking (s : StampParts) (n : ℕ) (run : Told) (marks : List Mark) (lines : List Line) (next : Effect) : Type 0 where
+  pub shows : Shows run lines (kept_map marks)
+  pub line : Line
+  pub more : List Line
+  pub are : lines ++ line ∷ more ≡ (perform (block run.script) (kept_map marks)).lines
+  pub adds : (es : List Effect) → (with_line s (grown_to n marks es) line).effects ≡ es ++ next ∷ []
+
 -- some answers have led to this transcript
 abbrev pub ShowsSome : Told → List Line → Objects → Type 0
 ShowsSome run lines objects = (now : Told) × (now.script ≡ run.script) × Shows now lines objects
+
+-- a run that began with any effect has come to its next one by these lines, which added the others
+abbrev pub HasComeTo : StampParts → Told → List Mark → List Line → List Effect → Effect → Type 0
+HasComeTo s run marks lines effects next = ShowsSome run lines (kept_map marks)
+    × ((first : Effect) → run.answers ≡ [] → (first ∷ effects ≡ shown_with s first marks lines) × IsNext s (block run.script) first marks (kept_map marks) lines next)

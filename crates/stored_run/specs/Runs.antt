@@ -1,5 +1,5 @@
 -- What a run over a log comes to: each act is tried once, one after another.
-use Rattle.std.specs.Prelude.{◌≡◌, ℕ, ◌+◌, Bool, true, false, nat_lt, if◌then◌else◌, List, [], ◌∷◌, ◌++◌, Option, Some, None, reverse}
+use Rattle.std.specs.Prelude.{◌≡◌, ◌⊎◌, ℕ, ◌+◌, Bool, true, false, nat_lt, if◌then◌else◌, List, [], ◌∷◌, ◌++◌, Option, Some, None, reverse}
 use Rattle.pseudo_time.specs.StampParts.{StampParts}
 use Rattle.pseudo_time.specs.declared.decisions.Decision.{Decision}
 use Rattle.pseudo_time.specs.declared.decisions.Decision.TheVariants as decision
@@ -160,25 +160,24 @@ untried act = report_with act [] None
 abbrev pub open_try : ActSpec → StampParts → List Line → ActReport
 open_try act s lines = report_with act (try_of s outcome.Open lines ∷ []) None
 
--- an attempt was at work: it shows a front of what its script does alone, up to a request that wasn't answered, or all of it where its decision is missing
-pub record IsAtWork (act : ActSpec) (objects : Objects) (lines : List Line) : Type 0 where
+-- the effects of an attempt's beginning and of these lines of its transcript
+abbrev pub shown_with : StampParts → Effect → List Mark → List Line → List Effect
+shown_with s first before lines = (with_lines s (grown_to 1 before (first ∷ [])) lines).effects
+
+-- behind these lines an attempt has this effect: the next line adds it, or it is the decision behind all lines
+abbrev pub IsNext : StampParts → Block → Effect → List Mark → Objects → List Line → Effect → Type 0
+IsNext s script first before objects lines next =
+    ((l : Line) × (more : List Line) × (lines ++ l ∷ more ≡ (perform script objects).lines) × (shown_with s first before (lines ++ l ∷ []) ≡ shown_with s first before lines ++ next ∷ []))
+    ⊎ ((lines ≡ (perform script objects).lines) × (next ≡ Decide s (decision_of (is_finished (perform script objects).stop))))
+
+-- an attempt was at work, and came to its next effect when these stood: it shows all that was answered, a front of what its script does alone
+pub record IsAtWorkWith (s : StampParts) (script : Block) (first : Effect) (before : List Mark) (objects : Objects) (lines : List Line) (stood : List Effect) (next : Effect) : Type 0 where
   pub answers : List Answer
-  pub talked : (talk (script_of act) answers).lines ≡ lines
-  pub front : IsFrontOf lines (alone act objects).lines
+  pub talked : (talk script answers).lines ≡ lines
+  pub front : IsFrontOf lines (perform script objects).lines
+  pub came : ((stood ≡ []) × (next ≡ first) × (answers ≡ [])) ⊎ ((stood ≡ shown_with s first before lines) × IsNext s script first before objects lines next)
+  pub rest : List Effect
+  pub are : stood ++ next ∷ rest ≡ effects_with s script first before objects
 
--- it stopped with this attempt at work
-pub record IsHaltedIn (act : ActSpec) (st : Stand) (s : Option StampParts) (lines : List Line) (objects : Objects) : Type 0 where
-  pub clock : ℕ
-  pub is_next : next_of st.clock ≡ Some clock
-  pub stamp_is : s ≡ Some (stamp_of act clock)
-  pub at_work : IsAtWork act st.objects lines
-  pub left : objects ≡ st.objects
-
--- the acts before one were carried out, and it stopped in that one
-pub record IsHalted (acts : List ActSpec) (st : Stand) (reports : List ActReport) (s : Option StampParts) (lines : List Line) (objects : Objects) : Type 0 where
-  pub before : List ActSpec
-  pub act : ActSpec
-  pub behind : List ActSpec
-  pub are : acts ≡ before ++ act ∷ behind
-  pub shown : reports ≡ reports_of before st
-  pub halted : IsHaltedIn act (left_by before st) s lines objects
+abbrev pub IsAtWork : ActSpec → StampParts → List Mark → Objects → List Line → List Effect → Effect → Type 0
+IsAtWork act s before objects lines stood next = IsAtWorkWith s (script_of act) (Begin s act.timeout) before objects lines stood next

@@ -7,7 +7,7 @@ ghost use Rattle.serial_model.specs.Overlays.{overlaid};
 ghost use Rattle.serial_run.specs.Attempts.{came_of};
 ghost use Rattle.serial_run.specs.Attempts as attempts;
 ghost use Rattle.object_history.specs.declared.marks.Mark.TheVariants as mark;
-ghost use Rattle.stored_run.specs.Ends.{IsHaltedOver};
+ghost use Rattle.stored_run.specs.Ends.{IsBrokenOff, IsHaltedIn, IsHaltedOver};
 ghost use Rattle.stored_run.specs.Media.{Adds, Stops, held};
 ghost use Rattle.stored_run.specs.Ready.{IsReady, AreReady};
 ghost use Rattle.stored_run.specs.Runs as spec;
@@ -156,7 +156,7 @@ fn tried<M: Medium>(
     ensures quiet { IfOk result (λ r. IsQuiet r.0.clock r.0.histories r.0.objects) }
     ensures adds { IfOk result (λ r. Adds M.tells M.reads M.is_failed M.page_count M.faults (medium_of repository.store) (medium_of r.0.store) (spec.attempted act.now stamp repository.histories repository.objects)) }
     ensures stops { IfErr result (λ h. Stops M.tells M.reads M.may_leave M.page_count M.faults (medium_of repository.store) h.medium h.fault (spec.attempted act.now stamp repository.histories repository.objects)) }
-    ensures at_work { IfErr result (λ h. h.fault ≢ StoreFault.NoMemory → spec.IsAtWork act.now repository.objects h.lines × (h.stamp ≡ Some stamp) × (h.objects ≡ repository.objects)) }
+    ensures broken_off { IfErr result (λ h. h.fault ≢ StoreFault.NoMemory → IsBrokenOff M.tells (M.may_leave h.medium) h.fault (held M.reads (medium_of repository.store)) act.now stamp repository.histories repository.objects h.lines × (h.stamp ≡ Some stamp) × (h.objects ≡ repository.objects)) }
 {
     let LoneRepository {
         store,
@@ -216,7 +216,7 @@ pub fn carried_out<M: Medium>(
     ensures quiet { IfOk result (λ r. IsQuiet r.0.clock r.0.histories r.0.objects) }
     ensures adds { IfOk result (λ r. Adds M.tells M.reads M.is_failed M.page_count M.faults (medium_of repository.store) (medium_of r.0.store) (spec.effects_of act.now (spec.stand_of repository.histories repository.clock repository.objects))) }
     ensures stops { IfErr result (λ h. Stops M.tells M.reads M.may_leave M.page_count M.faults (medium_of repository.store) h.medium h.fault (spec.effects_of act.now (spec.stand_of repository.histories repository.clock repository.objects))) }
-    ensures at_work { IfErr result (λ h. h.fault ≢ StoreFault.NoMemory → spec.IsHaltedIn act.now (spec.stand_of repository.histories repository.clock repository.objects) h.stamp h.lines h.objects) }
+    ensures halted { IfErr result (λ h. h.fault ≢ StoreFault.NoMemory → IsHaltedIn M.tells (M.may_leave h.medium) h.fault (held M.reads (medium_of repository.store)) act.now (spec.stand_of repository.histories repository.clock repository.objects) h.stamp h.lines h.objects) }
 {
     match clock_after(repository.clock) {
         None => {
@@ -247,7 +247,7 @@ fn next_carried_out<M: Medium>(
     ensures quiet { IfOk result (λ r. IsQuiet r.clock r.histories r.objects) }
     ensures adds { IfOk result (λ r. Adds M.tells M.reads M.is_failed M.page_count M.faults (medium_of repository.store) (medium_of r.store) (spec.effects_of act.now (spec.stand_of repository.histories repository.clock repository.objects))) }
     ensures stops { IfErr result (λ h. Stops M.tells M.reads M.may_leave M.page_count M.faults (medium_of repository.store) h.medium h.fault (spec.effects_of act.now (spec.stand_of repository.histories repository.clock repository.objects))) }
-    ensures halted { IfErr result (λ h. h.fault ≢ StoreFault.NoMemory → (reports.new.items ≡ reports.old.items) × spec.IsHaltedIn act.now (spec.stand_of repository.histories repository.clock repository.objects) h.stamp h.lines h.objects) }
+    ensures halted { IfErr result (λ h. h.fault ≢ StoreFault.NoMemory → (reports.new.items ≡ reports.old.items) × IsHaltedIn M.tells (M.may_leave h.medium) h.fault (held M.reads (medium_of repository.store)) act.now (spec.stand_of repository.histories repository.clock repository.objects) h.stamp h.lines h.objects) }
 {
     match carried_out(alloc, act, repository) {
         Err(halted) => Err(halted),
@@ -284,7 +284,7 @@ pub fn all_carried_out<M: Medium>(
     ensures quiet { IfOk result (λ r. IsQuiet r.clock r.histories r.objects) }
     ensures adds { IfOk result (λ r. Adds M.tells M.reads M.is_failed M.page_count M.faults (medium_of repository.store) (medium_of r.store) (spec.added acts.now (spec.stand_of repository.histories repository.clock repository.objects))) }
     ensures stops { IfErr result (λ h. Stops M.tells M.reads M.may_leave M.page_count M.faults (medium_of repository.store) h.medium h.fault (spec.added acts.now (spec.stand_of repository.histories repository.clock repository.objects))) }
-    ensures halted { IfErr result (λ h. h.fault ≢ StoreFault.NoMemory → IsHaltedOver M.tells (M.may_leave h.medium) (held M.reads (medium_of repository.store)) acts.now (spec.stand_of repository.histories repository.clock repository.objects) reports.new.items h.stamp h.lines h.objects) }
+    ensures halted { IfErr result (λ h. h.fault ≢ StoreFault.NoMemory → IsHaltedOver M.tells (M.may_leave h.medium) h.fault (held M.reads (medium_of repository.store)) acts.now (spec.stand_of repository.histories repository.clock repository.objects) reports.new.items h.stamp h.lines h.objects) }
 {
     let mut repository = repository;
     for act in acts {

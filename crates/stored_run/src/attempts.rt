@@ -13,10 +13,11 @@ ghost use Rattle.serial_run.specs.Attempts.{came_of, left_of};
 ghost use Rattle.object_history.specs.declared.marks.Mark.TheVariants as mark;
 ghost use Rattle.object_history.specs.History.{settle_of};
 ghost use Rattle.version_store.specs.StoreWords.{medium_of};
+ghost use Rattle.stored_run.specs.Ends.{IsBrokenOff};
 ghost use Rattle.stored_run.specs.Kept.{kept_map};
-ghost use Rattle.stored_run.specs.Media.{Adds, Stops};
+ghost use Rattle.stored_run.specs.Media.{Adds, Stops, StandsBefore, held};
 ghost use Rattle.stored_run.specs.Ready.{IsReady};
-ghost use Rattle.stored_run.specs.Requests.{IsGoing, AreNext, IsEnded, Shows, ShowsSome};
+ghost use Rattle.stored_run.specs.Requests.{IsGoing, AreNext, IsEnded, Shows, ShowsSome, HasComeTo};
 ghost use Rattle.stored_run.specs.Runs as spec;
 ghost use Rattle.stored_run.specs.Standing.{IsLone, IsQuiet};
 
@@ -50,7 +51,7 @@ fn carried_on<M: Medium>(
     ensures ended { IfOk result (λ r. (effects : List Effect) × Adds M.tells M.reads M.is_failed M.page_count M.faults (medium_of store) (medium_of r.0) effects × IsEnded stamp run.old histories.old histories.new writes.new r.1 run.new.lines effects) }
     ensures shows_all { IfOk result (λ r. ShowsSome run.old run.new.lines (kept_map histories.old)) }
     ensures stops { IfErr result (λ e. (effects : List Effect) × Stops M.tells M.reads M.may_leave M.page_count M.faults (medium_of store) e.0 e.1 effects × AreNext stamp 1 run.old histories.old effects) }
-    ensures shows { IfErr result (λ e. e.1 ≢ StoreFault.NoMemory → ShowsSome run.old run.new.lines (kept_map histories.old)) }
+    ensures asks { IfErr result (λ e. e.1 ≢ StoreFault.NoMemory → (stood : List Effect) × (next : Effect) × StandsBefore M.tells (M.may_leave e.0) e.1 (held M.reads (medium_of store)) stood next × HasComeTo stamp run.old histories.old run.new.lines stood next) }
 {
     let mut store = store;
     'requests: for request in 0..REQUESTS {
@@ -149,7 +150,7 @@ fn ended<M: Medium>(
     ensures quiet { IfOk result (λ r. IsQuiet stamp.clock histories.new (left_of (Over r.1.ending) (overlaid r.1.writes (kept_map histories.old)) (kept_map histories.old))) }
     ensures adds { (first : Effect) → IfOk result (λ r. (rest : List Effect) × (spec.effects_with stamp (block run.script) first histories.old (kept_map histories.old) ≡ first ∷ rest) × Adds M.tells M.reads M.is_failed M.page_count M.faults (medium_of store) (medium_of r.0) rest) }
     ensures stops { (first : Effect) → IfErr result (λ b. (rest : List Effect) × (spec.effects_with stamp (block run.script) first histories.old (kept_map histories.old) ≡ first ∷ rest) × Stops M.tells M.reads M.may_leave M.page_count M.faults (medium_of store) b.medium b.fault rest) }
-    ensures shows { IfErr result (λ b. b.fault ≢ StoreFault.NoMemory → ShowsSome run b.lines (kept_map histories.old)) }
+    ensures asks { IfErr result (λ b. b.fault ≢ StoreFault.NoMemory → (stood : List Effect) × (next : Effect) × StandsBefore M.tells (M.may_leave b.medium) b.fault (held M.reads (medium_of store)) stood next × HasComeTo stamp run histories.old b.lines stood next) }
 {
     let mut run = run;
     let mut writes = ObjectMap::new(alloc);
@@ -205,7 +206,7 @@ pub fn attempt<M: Medium>(
     ensures quiet { IfOk result (λ r. IsQuiet stamp.clock histories.new (left_of (Over r.1.ending) (overlaid r.1.writes (kept_map histories.old)) (kept_map histories.old))) }
     ensures adds { IfOk result (λ r. Adds M.tells M.reads M.is_failed M.page_count M.faults (medium_of store) (medium_of r.0) (spec.attempted act.now stamp histories.old (kept_map histories.old))) }
     ensures stops { IfErr result (λ b. Stops M.tells M.reads M.may_leave M.page_count M.faults (medium_of store) b.medium b.fault (spec.attempted act.now stamp histories.old (kept_map histories.old))) }
-    ensures shows { IfErr result (λ b. b.fault ≢ StoreFault.NoMemory → spec.IsAtWork act.now (kept_map histories.old) b.lines) }
+    ensures broken_off { IfErr result (λ b. b.fault ≢ StoreFault.NoMemory → IsBrokenOff M.tells (M.may_leave b.medium) b.fault (held M.reads (medium_of store)) act.now stamp histories.old (kept_map histories.old) b.lines) }
 {
     let Ok(run) = started(alloc, act) else {
         let (medium, fault) = given_up(store);

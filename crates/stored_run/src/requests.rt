@@ -14,8 +14,8 @@ ghost use Rattle.object_history.specs.Answers.{read_step, write_step};
 ghost use Rattle.version_store.specs.StoreWords.{medium_of};
 ghost use Rattle.stored_run.specs.Growth.{stretch_if, stretch_mark_if, stretches};
 ghost use Rattle.stored_run.specs.Kept.{kept_map};
-ghost use Rattle.stored_run.specs.Media.{Adds, Stops};
-ghost use Rattle.stored_run.specs.Requests.{IsGoing, Goes, AreNext, IsOver, Shows};
+ghost use Rattle.stored_run.specs.Media.{Adds, Stops, StandsBefore, held};
+ghost use Rattle.stored_run.specs.Requests.{IsGoing, Goes, AreNext, IsOver, IsAsking};
 
 use crate::appends::{added, given_up};
 use effect_form::Effect;
@@ -130,7 +130,7 @@ pub fn answered<M: Medium>(
     ensures over { IfOk result (λ r. (e : Ending) → r.1 ≡ Some e → IsOver stamp step run.old histories.old writes.old e run.new.lines) }
     ensures same { IfOk result (λ r. (e : Ending) → r.1 ≡ Some e → (r.0 ≡ store) × (histories.new ≡ histories.old) × (writes.new ≡ writes.old)) }
     ensures stops { IfErr result (λ e. (effects : List Effect) × Stops M.tells M.reads M.may_leave M.page_count M.faults (medium_of store) e.0 e.1 effects × AreNext stamp step run.old histories.old effects) }
-    ensures shows { IfErr result (λ e. e.1 ≢ StoreFault.NoMemory → Shows run.old run.new.lines (kept_map histories.old)) }
+    ensures asks { IfErr result (λ e. e.1 ≢ StoreFault.NoMemory → (next : Effect) × StandsBefore M.tells (M.may_leave e.0) e.1 (held M.reads (medium_of store)) [] next × IsAsking stamp step run.old histories.old run.new.lines next) }
 {
     let Some(at) = PseudoTime::new(stamp, step) else {
         unreachable!()

@@ -32,17 +32,21 @@ module _ (tells : Bool) (had was : Image) (before now : Image → Type 0) (just 
     images = w.images;
   }
 
-  stopped_before : (left : Image → Type 0) (acts : List ActSpec) (reports : List ActReport) (objects : Objects) → StoppedBefore tells was left acts reports objects → StoppedBefore tells had left acts reports objects
-  stopped_before left acts reports objects w = record {
+  stopped_before : (left : Image → Type 0) (cause : DownCause) (acts : List ActSpec) (reports : List ActReport) (objects : Objects) → StoppedBefore tells was left cause acts reports objects → StoppedBefore tells had left cause acts reports objects
+  stopped_before left cause acts reports objects w = record {
+    fault = w.fault;
+    is_cause = w.is_cause;
     log = w.log;
     is_log = λ told. ap storage (sym (just told).reads_same) ∙ w.is_log told;
     reports_are = w.reports_are;
     objects_are = w.objects_are;
-    images = w.images;
+    among = w.among;
   }
 
-  stopped_in : (left : Image → Type 0) (acts : List ActSpec) (reports : List ActReport) (objects : Objects) → StoppedIn tells was left acts reports objects → StoppedIn tells had left acts reports objects
-  stopped_in left acts reports objects w = record {
+  stopped_in : (left : Image → Type 0) (cause : DownCause) (acts : List ActSpec) (reports : List ActReport) (objects : Objects) → StoppedIn tells was left cause acts reports objects → StoppedIn tells had left cause acts reports objects
+  stopped_in left cause acts reports objects w = record {
+    fault = w.fault;
+    is_cause = w.is_cause;
     log = w.log;
     is_log = λ told. ap storage (sym (just told).reads_same) ∙ w.is_log told;
     before = w.before;
@@ -52,14 +56,15 @@ module _ (tells : Bool) (had was : Image) (before now : Image → Type 0) (just 
     clock = w.clock;
     is_next = w.is_next;
     lines = w.lines;
-    at_work = w.at_work;
+    broken_off = w.broken_off;
     reports_are = w.reports_are;
     objects_are = w.objects_are;
-    images = w.images;
   }
 
-  never_opened : (left : Image → Type 0) (acts : List ActSpec) (reports : List ActReport) (objects : Objects) → NeverOpened tells now left acts reports objects → NeverOpened tells before left acts reports objects
-  never_opened left acts reports objects w = record {
+  never_opened : (left : Image → Type 0) (cause : DownCause) (acts : List ActSpec) (reports : List ActReport) (objects : Objects) → NeverOpened tells now left cause acts reports objects → NeverOpened tells before left cause acts reports objects
+  never_opened left cause acts reports objects w = record {
+    fault = w.fault;
+    is_cause = w.is_cause;
     reports_are = w.reports_are;
     objects_are = w.objects_are;
     images = λ told i there. (just told).no_more i (w.images told i there);
@@ -67,9 +72,9 @@ module _ (tells : Bool) (had was : Image) (before now : Image → Type 0) (just 
 
   pub came-on-shelf : (left : Image → Type 0) (cause : Option DownCause) (acts : List ActSpec) (reports : List ActReport) (objects : Objects) → CameTo tells was now left cause acts reports objects → CameTo tells had before left cause acts reports objects
   came-on-shelf left None acts reports objects w = carried_out left acts reports objects w
-  came-on-shelf left (Some cause) acts reports objects (inl w) = inl (stopped_in left acts reports objects w)
-  came-on-shelf left (Some cause) acts reports objects (inr (inl w)) = inr (inl (stopped_before left acts reports objects w))
-  came-on-shelf left (Some cause) acts reports objects (inr (inr w)) = inr (inr (never_opened left acts reports objects w))
+  came-on-shelf left (Some cause) acts reports objects (inl w) = inl (stopped_in left cause acts reports objects w)
+  came-on-shelf left (Some cause) acts reports objects (inr (inl w)) = inr (inl (stopped_before left cause acts reports objects w))
+  came-on-shelf left (Some cause) acts reports objects (inr (inr w)) = inr (inr (never_opened left cause acts reports objects w))
 
   pub cause-on-shelf : (then : Image) (faults_before faults_now pages : ℕ) (cause : Option DownCause) → HasCauseIfAny tells was then faults_before faults_now pages cause → HasCauseIfAny tells had then faults_before faults_now pages cause
   cause-on-shelf then faults_before faults_now pages None h = tt

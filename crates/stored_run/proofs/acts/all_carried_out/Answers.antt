@@ -15,7 +15,7 @@ returns-in-Err-clause-halted g c other =
     let r = c.args.repository in
     let now = c.loop-act.repository in
     halts-in-act g.M.Medium.tells g.M.Medium.reads g.M.Medium.may_leave g.M.Medium.is_failed g.M.Medium.page_count g.M.Medium.faults (medium_of r.store) (medium_of now.store) c.in-Err.halted.medium c.in-Err.halted.fault c.args.acts.now c.loop-act.act-index c.act-item.result (stand_of r.histories r.clock r.objects) (stand_of now.histories now.clock now.objects)
-    c.loop-act.reports.items c.next_carried_out.new.reports.items c.in-Err.halted.stamp c.in-Err.halted.lines c.in-Err.halted.objects c.loop-act-test.true c.act-item.is c.loop-act.invariant.stand c.loop-act.invariant.reports c.loop-act.invariant.adds c.in-Err.ensures.stops (c.in-Err.ensures.halted other)
+    c.loop-act.reports.items c.next_carried_out.new.reports.items c.in-Err.halted.stamp c.in-Err.halted.lines c.in-Err.halted.objects c.loop-act-test.true c.act-item.is c.loop-act.invariant.stand c.loop-act.invariant.reports c.loop-act.invariant.adds (c.in-Err.ensures.halted other)
 
 pub loop-act-preserved : goal.loop-act-preserved
 loop-act-preserved g c =

@@ -1,9 +1,12 @@
-use Rattle.std.proofs.Common.{◌≡◌, ◌≤◌, ◌<◌, length, [], ◌∷◌, sym, ap, ◌∙◌, subst, arith}
+use Rattle.std.proofs.Common.{◌≡◌, ◌≤◌, ◌<◌, length, [], ◌∷◌, Ok, refl, sym, ap, ◌∙◌, subst, arith}
+use Rattle.std.proofs.lemmas.List.{append-nil}
 use Rattle.std.specs.Prelude.{count_by}
 use Rattle.page_gate.specs.States.{is_blank}
 use Rattle.version_store.specs.Filling.{filling}
+use Rattle.version_store.specs.Storage.{storage, effects_found}
 use Rattle.version_store.specs.StoreWords.{medium_of, handed, left_in}
 use Rattle.stored_run.proofs.ResultLemmas.{at-err, by-err}
+use Rattle.stored_run.specs.Media.{HasFront, held}
 use Rattle.stored_run.proofs.MediaLemmas.{front-prefix, filling-one}
 use Rattle.stored_run.proofs.appends.added.Goals as goal
 
@@ -12,6 +15,21 @@ returns-clause-stops g c = by-err c.append.result _ (λ e is.
     let at = ap handed is in
     record {
       images = λ told i left. front-prefix _ _ i (c.append.ensures.images told i (subst (λ z. g.M.Medium.may_leave z i) (sym at) left));
+      among = λ other. record {
+        stood = [];
+        next = c.args.effect;
+        rest = [];
+        are = refl;
+        stands = record {
+          images = λ told i left. subst (λ z. HasFront z (c.args.effect ∷ []) i) (sym (append-nil (held g.M.Medium.reads (medium_of c.args.store))))
+              (front-prefix _ _ i (c.append.ensures.images told i (subst (λ z. g.M.Medium.may_leave z i) (sym at) left)));
+          full = λ pages full told i left.
+              let refused = at-err c.append.result e _ is c.append.ensures.full pages full in
+              let same : e.0 ≡ medium_of c.args.store = sym at ∙ ap handed (c.append.ensures.fits refused.1) in
+              let settled = c.args.store.settled told in
+              ap storage (settled.only i (subst (λ z. g.M.Medium.may_leave z i) same left)) ∙ ap effects_found settled.log ∙ ap (λ z. Ok z) (sym (append-nil (held g.M.Medium.reads (medium_of c.args.store))));
+        };
+      };
       size = ap g.M.Medium.page_count (sym at) ∙ c.append.ensures.size;
       later = subst (λ z. g.M.Medium.faults (medium_of c.args.store) ≤ g.M.Medium.faults z) at c.append.ensures.later;
       failed = at-err c.append.result e _ is c.append.ensures.failed;

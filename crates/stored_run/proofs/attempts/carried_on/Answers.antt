@@ -1,8 +1,8 @@
-use Rattle.std.proofs.Common.{◌++◌, sym, ap, subst}
+use Rattle.std.proofs.Common.{[], ◌++◌, sym, ap, subst}
 use Rattle.version_store.specs.StoreWords.{medium_of}
-use Rattle.stored_run.specs.Media.{Adds}
-use Rattle.stored_run.proofs.MediaLemmas.{adds-adds, adds-stops}
-use Rattle.stored_run.proofs.AttemptLemmas.{went-on, went-over, went-shows, went-next, went-few}
+use Rattle.stored_run.specs.Media.{Adds, held}
+use Rattle.stored_run.proofs.MediaLemmas.{stands-over, stands-after, adds-adds, adds-stops}
+use Rattle.stored_run.proofs.AttemptLemmas.{went-on, went-over, went-shows, went-asks, went-next, went-few}
 use Rattle.stored_run.proofs.attempts.carried_on.Goals as goal
 
 pub returns-in-Err-clause-stops : goal.returns-in-Err-clause-stops
@@ -12,6 +12,18 @@ returns-in-Err-clause-stops g c =
       so_far.0 ++ stops.0,
       adds-stops g.M.Medium.tells g.M.Medium.reads g.M.Medium.may_leave g.M.Medium.is_failed g.M.Medium.page_count g.M.Medium.faults (medium_of c.args.store) (medium_of c.requests.store) c.in-Err.refused.0 c.in-Err.refused.1 so_far.0 stops.0 so_far.1 stops.1,
       went-next c.args.stamp c.requests.request c.args.run.now c.requests.run c.args.histories.now c.requests.histories c.requests.writes so_far.0 stops.0 so_far.2 stops.2,
+    )
+
+pub returns-in-Err-clause-asks : goal.returns-in-Err-clause-asks
+returns-in-Err-clause-asks g c = λ other.
+    let so_far = c.requests.invariant.1 in
+    let asks = c.in-Err.ensures.asks other in
+    let log = held g.M.Medium.reads (medium_of c.args.store) in (
+      so_far.0,
+      asks.0,
+      stands-after g.M.Medium.tells (g.M.Medium.may_leave c.in-Err.refused.0) c.in-Err.refused.1 log so_far.0 asks.0
+          (stands-over g.M.Medium.tells (g.M.Medium.may_leave c.in-Err.refused.0) c.in-Err.refused.1 (held g.M.Medium.reads (medium_of c.requests.store)) (log ++ so_far.0) [] asks.0 so_far.1.log asks.1),
+      went-asks c.args.stamp c.requests.request c.args.run.now c.requests.run c.args.histories.now c.requests.histories c.requests.writes so_far.0 c.answered.new.run.lines asks.0 so_far.2 asks.2,
     )
 
 pub returns-in-Some-clause-ended : goal.returns-in-Some-clause-ended

@@ -5,8 +5,9 @@ use Rattle.script_meaning.specs.Meaning.{Over}
 use Rattle.script_run.specs.Told.{stop_of}
 use Rattle.version_store.specs.StoreWords.{medium_of}
 use Rattle.stored_run.specs.Growth.{stretch_if, stretches}
-use Rattle.stored_run.proofs.MediaLemmas.{adds-stops}
-use Rattle.stored_run.proofs.RequestLemmas.{shows_so, next_none, next_stretch, next_put, is_answered, is_accepted, read_has_bytes, write_has_bytes, read_goes, write_goes, over_so}
+use Rattle.stored_run.specs.Media.{held}
+use Rattle.stored_run.proofs.MediaLemmas.{adds-stops, among-one}
+use Rattle.stored_run.proofs.RequestLemmas.{asks_stretch, asks_put, stretch_due, next_none, next_stretch, next_put, is_answered, is_accepted, read_has_bytes, write_has_bytes, read_goes, write_goes, over_so}
 use Rattle.stored_run.proofs.requests.answered.Goals as goal
 
 pub returns-in_default-next-clause-stops : goal.returns-in_default-next-clause-stops
@@ -34,8 +35,13 @@ returns-in-Err-clause-stops g c = (
   next_stretch c.args.stamp c.args.step c.args.run.now c.args.histories.now c.args.writes.now c.next.new.self.lines c.in-Ok.next c.in-Read.object c.in-Some.at c.requires.going c.in-Ok.ensures.tells c.in-Read.is c.in-Some.ensures.1,
 )
 
-pub returns-in-Err-clause-shows : goal.returns-in-Err-clause-shows
-returns-in-Err-clause-shows g c = λ other. shows_so c.args.stamp c.args.step c.args.run.now c.args.histories.now c.args.writes.now c.next.new.self.lines c.in-Ok.next c.requires.going c.in-Ok.ensures.tells
+pub returns-in-Err-clause-asks : goal.returns-in-Err-clause-asks
+returns-in-Err-clause-asks g c = λ other.
+    let due = stretch_due g.M.Medium.tells (g.M.Medium.may_leave c.in-Err.refused.0) c.in-Err.refused.1 (held g.M.Medium.reads (medium_of c.args.store)) (stretches c.args.histories.now c.in-Read.object c.in-Some.at) c.in-Read.object c.in-Some.at (c.in-Err.ensures.stops.among other) in (
+      effect.Stretch c.in-Read.object c.in-Some.at,
+      due.1,
+      asks_stretch c.args.stamp c.args.step c.args.run.now c.args.histories.now c.args.writes.now c.next.new.self.lines c.in-Ok.next c.in-Read.object c.in-Some.at c.requires.going c.in-Ok.ensures.tells c.in-Read.is c.in-Some.ensures.1 due.0,
+    )
 
 pub returns-in-Ok-value_at-clause-goes : goal.returns-in-Ok-value_at-clause-goes
 returns-in-Ok-value_at-clause-goes g c = λ none. (
@@ -53,8 +59,12 @@ returns-in-Err-put-clause-stops g c = (
   next_put c.args.stamp c.args.step c.args.run.now c.args.histories.now c.args.writes.now c.next.new.self.lines c.in-Ok.next c.in-Write.object c.in-Write.value c.in-Some.at c.requires.going c.in-Ok.ensures.tells c.in-Write.is c.in-Some.ensures.1,
 )
 
-pub returns-in-Err-put-clause-shows : goal.returns-in-Err-put-clause-shows
-returns-in-Err-put-clause-shows g c = λ other. shows_so c.args.stamp c.args.step c.args.run.now c.args.histories.now c.args.writes.now c.next.new.self.lines c.in-Ok.next c.requires.going c.in-Ok.ensures.tells
+pub returns-in-Err-put-clause-asks : goal.returns-in-Err-put-clause-asks
+returns-in-Err-put-clause-asks g c = λ other. (
+  effect.Put c.in-Write.object c.in-Some.at c.in-Write.value,
+  among-one g.M.Medium.tells (g.M.Medium.may_leave c.in-Err-put.refused.0) c.in-Err-put.refused.1 (held g.M.Medium.reads (medium_of c.args.store)) (effect.Put c.in-Write.object c.in-Some.at c.in-Write.value) (c.in-Err-put.ensures.stops.among other),
+  asks_put c.args.stamp c.args.step c.args.run.now c.args.histories.now c.args.writes.now c.next.new.self.lines c.in-Ok.next c.in-Write.object c.in-Write.value c.in-Some.at c.requires.going c.in-Ok.ensures.tells c.in-Write.is c.in-Some.ensures.1,
+)
 
 pub returns-in-Err-set-clause-stops : goal.returns-in-Err-set-clause-stops
 returns-in-Err-set-clause-stops g c = (
