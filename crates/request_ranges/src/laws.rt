@@ -1,4 +1,4 @@
-ghost use Rattle.std.specs.Prelude.{◌≤◌, ℕ, List};
+ghost use Rattle.std.specs.Prelude.{ℕ, List};
 ghost use Rattle.pseudo_time.specs.Lists.{Every};
 ghost use Rattle.pseudo_time.specs.StampParts.{IsInRange};
 ghost use Rattle.value_form.specs.Mirror.{Block, block};
@@ -18,10 +18,10 @@ pub fn law_of_requests()
     ensures stops { (script : Block) (answers : List Answer) → BlockInRange script → Every AnswerHasBytes answers → StopInRange (talk script answers).stop }
 {}
 
-/// A script of the language is in range where its repositories are at most 16. So each script of a plan
-/// is in range and can be run, and the broker and home of each act are those of a stamp.
+/// A script of the language is in range, whatever its greatest repository. So each script of a plan is in
+/// range and can be run, and the broker and home of each act are those of a stamp.
 pub fn law_of_plans_in_range()
-    ensures printable { (greatest : ℕ) (script : Block) → greatest ≤ 16 → IsPrintable greatest script → BlockInRange script }
+    ensures printable { (greatest : ℕ) (script : Block) → IsPrintable greatest script → BlockInRange script }
     ensures plans { (bytes : List ℕ) (plan : Plan) → IsPlan bytes plan → Every (λ act. BlockInRange (block act.script.lines)) plan.acts }
     ensures scripts { (bytes : List ℕ) (plan : Plan) → IsPlan bytes plan → Every (λ act. IsScript act.script.lines) plan.acts }
     ensures names { (bytes : List ℕ) (plan : Plan) → IsPlan bytes plan → Every (λ act. IsInRange 1 act.broker act.home) plan.acts }

@@ -62,7 +62,7 @@ next-are s script first h objects lines stood next is (inl some) =
     let more = lines-more s (with_lines s from seen) some.1 in
     let all : (perform script objects).lines ≡ seen ++ some.1 = sym some.2 ∙ sym (append_assoc lines (some.0 ∷ []) some.1) in
     let so : shown_with s first h (perform script objects).lines ≡ (stood ++ next ∷ []) ++ more.0 =
-        ap (shown_with s first h) all ∙ ap (λ g. g.effects) (lines-append s from seen some.1) ∙ more.1 ∙ ap (λ z. z ++ more.0) (some.3 ∙ ap (λ z. z ++ next ∷ []) (sym is)) in (
+    ap (shown_with s first h) all ∙ ap (λ g. g.effects) (lines-append s from seen some.1) ∙ more.1 ∙ ap (λ z. z ++ more.0) (some.3 ∙ ap (λ z. z ++ next ∷ []) (sym is)) in (
       more.0 ++ last,
       sym (ap (λ z. z ++ last) so ∙ append_assoc (stood ++ next ∷ []) more.0 last ∙ append_assoc stood (next ∷ []) (more.0 ++ last)),
     )

@@ -60,19 +60,22 @@ at_first s run h first none = begins-so s (grown_to 1 h (first ∷ [])) (denote 
 
 -- what a run shows, which stopped at the effect of its next request
 pub went-asks : (s : StampParts) (i : ℕ) (old mid : Told) (h m : List Mark) (w : Objects) (effects : List Effect) (lines : List Line) (next : Effect) → Went s i old mid h m w effects → IsAsking s (i + 1) mid m lines next → HasComeTo s old h lines effects next
-went-asks s i old mid h m w effects lines next went asks = (went-shows s i old mid h m w effects lines went asks.shows, λ first none.
-    let from = grown_to 1 h (first ∷ []) in
-    let so_far : lines ≡ lines_so_far mid = sym asks.shows.talks ∙ (talk_of (block mid.script) mid.answers).0 in
-    let at : with_lines s from lines ≡ grown_to (i + 1) m (first ∷ effects) = ap (with_lines s from) so_far ∙ went.comes from (first ∷ []) (at_first s old h first none) in
-    let all : (perform (block mid.script) (kept_map m)).lines ≡ (perform (block old.script) (kept_map h)).lines = ap (λ z. (perform (block z) (kept_map m)).lines) went.script ∙ ap (λ z. (perform (block old.script) z).lines) went.kept in (
-      sym (ap (λ g. g.effects) at),
-      inl (
-        asks.line,
-        asks.more,
-        asks.are ∙ all,
-        ap (λ g. g.effects) (lines-append s from lines (asks.line ∷ []) ∙ ap (λ g. with_line s g asks.line) at) ∙ asks.adds (first ∷ effects) ∙ ap (λ g. g.effects ++ next ∷ []) (sym at),
+went-asks s i old mid h m w effects lines next went asks = (
+  went-shows s i old mid h m w effects lines went asks.shows,
+  λ first none.
+      let from = grown_to 1 h (first ∷ []) in
+      let so_far : lines ≡ lines_so_far mid = sym asks.shows.talks ∙ (talk_of (block mid.script) mid.answers).0 in
+      let at : with_lines s from lines ≡ grown_to (i + 1) m (first ∷ effects) = ap (with_lines s from) so_far ∙ went.comes from (first ∷ []) (at_first s old h first none) in
+      let all : (perform (block mid.script) (kept_map m)).lines ≡ (perform (block old.script) (kept_map h)).lines = ap (λ z. (perform (block z) (kept_map m)).lines) went.script ∙ ap (λ z. (perform (block old.script) z).lines) went.kept in (
+        sym (ap (λ g. g.effects) at),
+        inl (
+          asks.line,
+          asks.more,
+          asks.are ∙ all,
+          ap (λ g. g.effects) (lines-append s from lines (asks.line ∷ []) ∙ ap (λ g. with_line s g asks.line) at) ∙ asks.adds (first ∷ effects) ∙ ap (λ g. g.effects ++ next ∷ []) (sym at),
+        ),
       ),
-    ))
+)
 
 pub went-next : (s : StampParts) (i : ℕ) (old mid : Told) (h m : List Mark) (w : Objects) (effects more : List Effect) → Went s i old mid h m w effects → AreNext s (i + 1) mid m more → AreNext s 1 old h (effects ++ more)
 went-next s i old mid h m w effects more went next from es is =

@@ -25,7 +25,7 @@ use Rattle.version_store.specs.declared.faults.StoreFault.TheVariants as fault
 use Rattle.stored_run.specs.Ends.{IsBrokenOff, IsHaltedOver, down_of, down_of_opening, IsOpenedFrom, HasCause, WasCarriedOut, StoppedBefore, StoppedIn, NeverOpened, IsKept}
 use Rattle.stored_run.specs.Kept.{kept_map}
 use Rattle.stored_run.specs.Media.{HasFront, held, Adds, StopsAmong, Stops}
-use Rattle.stored_run.specs.Runs.{Stand, stand_of, opened, withdrawals, stamp_of, reports_of, effects_of, added, left_by, effects_over, after, next_of, untried, open_try}
+use Rattle.stored_run.specs.Runs.{Stand, stand_of, opened, withdrawals, stamp_of, reports_of, added, left_by, effects_over, after, next_of, untried, open_try}
 use Rattle.stored_run.specs.Standing.{IsQuiet}
 use Rattle.stored_run.specs.Unready.{IsUnopened}
 use Rattle.stored_run.proofs.AfterLemmas.{marks-after}
@@ -98,7 +98,7 @@ module _ {M : Type 0} (tells : Bool) (reads : M → Image) (may_leave : M → Im
       let halted = halts.halted in
       let at : left_by halts.before st ≡ left_by halts.before (opened log) = ap (left_by halts.before) from.2 in
       let behind : IsTrue tells → held reads b ++ added halts.before st ≡ (log ++ withdrawals log) ++ added halts.before (opened log) =
-          λ told. ap (λ z. held reads b ++ added halts.before z) from.2 ∙ ap (λ z. z ++ added halts.before (opened log)) (opened_log was b log (withdrawals log) from.1 from.3 told) in
+      λ told. ap (λ z. held reads b ++ added halts.before z) from.2 ∙ ap (λ z. z ++ added halts.before (opened log)) (opened_log was b log (withdrawals log) from.1 from.3 told) in
       record {
         fault = f;
         is_cause = why;

@@ -24,14 +24,14 @@ module _ {M : Type 0} (tells : Bool) (reads : M → Image) (may_leave : M → Im
   pub halted-where : (acts : List ActSpec) (shown : List ActReport) (st : Stand) (b : M) (h : Halted M) → IsHaltedOver tells (may_leave h.medium) h.fault (held reads b) acts st shown h.stamp h.lines h.objects
       → (before behind : List ActSpec) × (act : ActSpec) × (s : StampParts) × (acts ≡ before ++ act ∷ behind) × (length shown ≡ length before) × (h.stamp ≡ Some s)
   halted-where acts shown st b h over = (
-        over.before,
-        over.behind,
-        over.act,
-        stamp_of over.act over.halted.clock,
-        over.are,
-        ap length over.shown ∙ length-reports over.before st,
-        over.halted.stamp_is,
-      )
+    over.before,
+    over.behind,
+    over.act,
+    stamp_of over.act over.halted.clock,
+    over.are,
+    ap length over.shown ∙ length-reports over.before st,
+    over.halted.stamp_is,
+  )
 
   pub halted-course : (was b : M) (acts : List ActSpec) (shown : List ActReport) (st : Stand) (h : Halted M) (result : Result (Ran M) M) → IsOpenedFrom tells reads is_failed page_count faults was b st
       → (h.fault ≢ fault.NoMemory → IsHaltedOver tells (may_leave h.medium) h.fault (held reads b) acts st shown h.stamp h.lines h.objects)

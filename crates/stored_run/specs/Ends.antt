@@ -21,7 +21,7 @@ use Rattle.version_store.specs.declared.faults.StoreFault.TheVariants as fault
 use Rattle.stored_run.specs.Kept.{kept_map}
 use Rattle.object_history.specs.declared.marks.Mark.{Mark}
 use Rattle.stored_run.specs.Media.{HasFront, Adds, StandsBefore, StopsAmong}
-use Rattle.stored_run.specs.Runs.{Stand, opened, withdrawals, next_of, stamp_of, reports_of, effects_of, added, left_by, effects_over, untried, open_try, IsAtWork}
+use Rattle.stored_run.specs.Runs.{Stand, opened, withdrawals, next_of, stamp_of, reports_of, added, left_by, effects_over, untried, open_try, IsAtWork}
 
 -- ---- a run that begins, and one that stops in an act
 

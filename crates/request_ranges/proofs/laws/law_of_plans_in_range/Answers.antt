@@ -2,7 +2,7 @@ use Rattle.request_ranges.proofs.PlanLemmas.{printable-InRange, plan-scripts_in_
 use Rattle.request_ranges.proofs.laws.law_of_plans_in_range.Goals as goal
 
 pub returns-clause-printable : goal.returns-clause-printable
-returns-clause-printable c = λ greatest script few is. printable-InRange greatest script is
+returns-clause-printable c = λ greatest script is. printable-InRange greatest script is
 
 pub returns-clause-plans : goal.returns-clause-plans
 returns-clause-plans c = plan-scripts_in_range

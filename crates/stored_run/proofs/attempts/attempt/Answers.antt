@@ -27,13 +27,13 @@ returns-in-Err-clause-broken_off g c other =
     let begin = Begin c.args.stamp c.args.act.now.timeout in
     let log = held g.M.Medium.reads (medium_of c.args.store) in
     let off = came-off g.M.Medium.tells g.M.Medium.may_leave c.in-Err.refused.0 c.broken_off.result.medium c.in-Err.refused.1 c.broken_off.result.fault log c.in-Ok.run'.lines c.broken_off.result.lines (IsAtWork c.args.act.now c.args.stamp c.args.histories.now (kept_map c.args.histories.now))
-        c.broken_off.ensures.medium c.broken_off.ensures.fault c.broken_off.ensures.lines other (λ want. (
-          [],
-          begin,
-          among-one g.M.Medium.tells (g.M.Medium.may_leave c.in-Err.refused.0) c.in-Err.refused.1 log begin (c.in-Err.ensures.stops.among want),
-          at-work-first c.args.act.now c.args.stamp c.in-Ok.run' c.args.histories.now c.in-Ok.ensures.tells.0 c.in-Ok.ensures.script c.in-Ok.ensures.answers
-              (begins-going c.args.act.now c.args.stamp c.in-Ok.run' c.args.histories.now finite.empty c.requires.ready c.in-Ok.ensures.script c.in-Ok.ensures.answers refl c.requires.lone) c.in-Ok.ensures.tells.1,
-        )) in
+    c.broken_off.ensures.medium c.broken_off.ensures.fault c.broken_off.ensures.lines other (λ want. (
+      [],
+      begin,
+      among-one g.M.Medium.tells (g.M.Medium.may_leave c.in-Err.refused.0) c.in-Err.refused.1 log begin (c.in-Err.ensures.stops.among want),
+      at-work-first c.args.act.now c.args.stamp c.in-Ok.run' c.args.histories.now c.in-Ok.ensures.tells.0 c.in-Ok.ensures.script c.in-Ok.ensures.answers
+          (begins-going c.args.act.now c.args.stamp c.in-Ok.run' c.args.histories.now finite.empty c.requires.ready c.in-Ok.ensures.script c.in-Ok.ensures.answers refl c.requires.lone) c.in-Ok.ensures.tells.1,
+    )) in
     record { stood = off.0; next = off.1; at_work = off.3; stands = off.2 }
 
 pub returns-in-Ok-added-clause-adds : goal.returns-in-Ok-added-clause-adds
