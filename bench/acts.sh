@@ -6,6 +6,7 @@ work=$(mktemp -d) || exit 1
 trap 'rm -rf "$work"' EXIT
 "$top/swallow" "$work/first" run < "$top/examples/first.plan" > /dev/null || exit 1
 program="$top/crates/swallow_main/out/swallow_main"
+cc -O2 -o "$work/measure" "$top/bench/measure.c" || exit 1
 
 plan() {
   printf 'swallow plan 1\nrun 1\nrepositories 1\nbrokers 1\n'
@@ -38,13 +39,8 @@ for acts in 30 100 300; do
     "$program" "$work/data" run < "$work/plan" > "$work/report" || exit 1
     end=$(date +%s%N)
     rm -rf "$work/data"
-    kilobytes=$(python3 - "$program" "$work/plan" "$work/data" <<'PY'
-import resource, subprocess, sys
-with open(sys.argv[2], "rb") as plan:
-    subprocess.run([sys.argv[1], sys.argv[3], "run"], stdin=plan, stdout=subprocess.DEVNULL, check=True)
-print(resource.getrusage(resource.RUSAGE_CHILDREN).ru_maxrss)
-PY
-)
+    "$work/measure" "$work/used" "$program" "$work/data" run < "$work/plan" > /dev/null || exit 1
+    read -r _ kilobytes < "$work/used"
     size=$(wc -c < "$work/plan")
     awk "BEGIN { t = ($end - $begin) / 1000000; printf \"%-6d  %12.1f  %15.0f  %10d  %12d  %5.1f\\n\", $acts, t, $acts * 1000 / t, $size, $kilobytes * 1024, $kilobytes * 1024 / $size }"
   done

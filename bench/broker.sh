@@ -4,14 +4,14 @@
 # processor time of a run, as the mean of twenty, the start of the program included, and what that is
 # for each message that the broker takes. The proved program is built first.
 top="$(cd "$(dirname "${BASH_SOURCE[0]}")/.." && pwd)" || exit 1
-cd "$top/crates/broker_bench" || exit 1
-rt run -- 3 1 1 >&2 || exit 1
+cd "$top/crates/swallow_bench" || exit 1
+rt run -- all >&2 || exit 1
 
 # Microseconds of the processor for a run with so many acts, each of so many times so many writes.
 microseconds() {
   local TIMEFORMAT='%3U %3S' spent user system
   spent=$({ time for _ in {1..20}; do
-    out/broker_bench "$1" "$2" "$3" > /dev/null || exit 1
+    out/swallow_bench brokers "$1" "$2" "$3" > /dev/null || exit 1
   done; } 2>&1)
   read -r user system <<< "$spent"
   echo $(((10#${user/./} + 10#${system/./}) * 50))

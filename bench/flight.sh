@@ -2,14 +2,14 @@
 # Times the flight with 10,000, 100,000 and a million messages, each of which is sent and taken, with
 # ticks and holds between. The proved program is built first.
 top="$(cd "$(dirname "${BASH_SOURCE[0]}")/.." && pwd)" || exit 1
-cd "$top/crates/flight_bench" || exit 1
-rt run -- 10 >&2 || exit 1
+cd "$top/crates/swallow_bench" || exit 1
+rt run -- all >&2 || exit 1
 
 # Nanoseconds of one run with so many messages.
 nanoseconds() {
   local begin end
   begin=$(date +%s%N)
-  out/flight_bench "$1" > /dev/null || exit 1
+  out/swallow_bench flights "$1" > /dev/null || exit 1
   end=$(date +%s%N)
   echo $((end - begin))
 }

@@ -2,14 +2,14 @@
 # Times replaying marks of histories over 64 objects and over one: 3,000, 30,000 and 99,999 marks, of
 # which a third are versions, a third Settles and a third Stretches. The proved program is built first.
 top="$(cd "$(dirname "${BASH_SOURCE[0]}")/.." && pwd)" || exit 1
-cd "$top/crates/history_bench" || exit 1
-rt run -- 100 4 >&2 || exit 1
+cd "$top/crates/swallow_bench" || exit 1
+rt run -- all >&2 || exit 1
 
 # Milliseconds of one run with so many attempts and objects.
 milliseconds() {
   local begin end
   begin=$(date +%s%N)
-  out/history_bench "$1" "$2" > /dev/null || exit 1
+  out/swallow_bench histories "$1" "$2" > /dev/null || exit 1
   end=$(date +%s%N)
   echo $(((end - begin) / 1000000))
 }

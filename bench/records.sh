@@ -2,14 +2,14 @@
 # Times hearing 100,000 moments with 16 unknown commit records beside 10, 1,000 and 100,000 decided
 # ones. The proved program is built first. The time to make the records is taken off.
 top="$(cd "$(dirname "${BASH_SOURCE[0]}")/.." && pwd)" || exit 1
-cd "$top/crates/record_bench" || exit 1
-rt run -- 10 5 >&2 || exit 1
+cd "$top/crates/swallow_bench" || exit 1
+rt run -- all >&2 || exit 1
 
 # Nanoseconds of one run with so many decided records and moments.
 nanoseconds() {
   local begin end
   begin=$(date +%s%N)
-  out/record_bench "$1" "$2" > /dev/null || exit 1
+  out/swallow_bench records "$1" "$2" > /dev/null || exit 1
   end=$(date +%s%N)
   echo $((end - begin))
 }

@@ -5,36 +5,32 @@
 top="$(cd "$(dirname "${BASH_SOURCE[0]}")/.." && pwd)" || exit 1
 made="$(mktemp -d)" || exit 1
 trap 'rm -r "$made"' EXIT
-(cd "$top/crates/store_bench" && { rt run -- memory 3 16 || exit 1; }) >&2 || exit 1
+(cd "$top/crates/swallow_bench" && { rt run -- all || exit 1; }) >&2 || exit 1
 cc -O2 -o "$made/store" "$top/bench/store.c" || exit 1
-bench="$top/crates/store_bench/out/store_bench"
+bench="$top/crates/swallow_bench/out/swallow_bench"
+
+cc -O2 -o "$made/measure" "$top/bench/measure.c" || exit 1
 
 # Runs the words, and prints seconds and the most memory in MB.
 measured() {
-  /usr/bin/env python3 - "$@" <<'PY'
-import resource, subprocess, sys, time
-begin = time.time()
-subprocess.run(sys.argv[1:], check=True, stdout=subprocess.DEVNULL)
-seconds = time.time() - begin
-most = resource.getrusage(resource.RUSAGE_CHILDREN).ru_maxrss / 1024
-print(f"{seconds:.3f} s  {most:.0f} MB")
-PY
+  "$made/measure" "$made/used" "$@" > /dev/null || exit 1
+  awk '{ printf "%s s  %.1f MB\n", $1, $2 / 1024 }' "$made/used"
 }
 
 echo "adding 16 effects a call to a medium in memory"
 for calls in 1 1562 3125 6250; do
-  echo "  $calls calls   $(measured "$bench" memory "$calls" 16)"
+  echo "  $calls calls   $(measured "$bench" stores memory "$calls" 16)"
 done
 echo "adding 16 effects a call to a medium over a file"
 for calls in 0 1024 2048 4096; do
   mkdir "$made/$calls"
-  echo "  $calls calls   $(measured "$bench" "$made/$calls" "$calls" 16)"
+  echo "  $calls calls   $(measured "$bench" stores "$made/$calls" "$calls" 16)"
 done
 mkdir "$made/full"
-echo "filling 4,096 pages with 215 effects each   $(measured "$bench" "$made/full" 4096 215)"
+echo "filling 4,096 pages with 215 effects each   $(measured "$bench" stores "$made/full" 4096 215)"
 echo "opening them: 880,640 effects"
 for turn in 1 2 3; do
-  echo "  store   $(measured "$bench" "$made/full" 0 1)"
+  echo "  store   $(measured "$bench" stores "$made/full" 0 1)"
   echo "  C       $(measured "$made/store" "$made/full")"
 done
 uptime >&2

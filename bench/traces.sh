@@ -4,14 +4,14 @@
 # Each line is the processor time of a run, as the mean of ten, the making of the trace and the start of
 # the program included, and what that is for each entry. The proved program is built first.
 top="$(cd "$(dirname "${BASH_SOURCE[0]}")/.." && pwd)" || exit 1
-cd "$top/crates/trace_bench" || exit 1
-rt run -- 1000 2 >&2 || exit 1
+cd "$top/crates/swallow_bench" || exit 1
+rt run -- all >&2 || exit 1
 
 # Microseconds of the processor for a run with so many entries, and so many acts of each broker.
 microseconds() {
   local TIMEFORMAT='%3U %3S' spent user system
   spent=$({ time for _ in {1..10}; do
-    out/trace_bench "$1" "$2" > /dev/null || exit 1
+    out/swallow_bench traces "$1" "$2" > /dev/null || exit 1
   done; } 2>&1) || exit 1
   read -r user system <<< "$spent"
   echo $(((10#${user/./} + 10#${system/./}) * 100))

@@ -4,7 +4,6 @@ pub mod AnyLemmas
 pub mod CountLemmas
 pub mod DoneLemmas
 pub mod DueLemmas
-pub mod EqualLemmas
 pub mod FitLemmas
 pub mod GivenLemmas
 pub mod GoodLemmas
@@ -13,10 +12,15 @@ pub mod MeetLemmas
 pub mod NotedLemmas
 pub mod OpenLemmas
 pub mod PhaseLemmas
+pub mod RangeLemmas
+pub mod ReadingLemmas
 pub mod ReplyLemmas
+pub mod SameTurns
+pub mod ScriptRangeLemmas
 pub mod SettleLemmas
 pub mod ShapeLemmas
 pub mod SoundLemmas
 pub mod StopLemmas
 pub mod TakeLemmas
+pub mod TextByteLemmas
 pub mod TurnLemmas

@@ -2,7 +2,8 @@
 use Rattle.std.specs.Prelude.{◌≡◌, ◌≢◌, ℕ, ◌≤◌, ◌<◌, ◌+◌, ◌*◌, zero, suc, length, List, [], ◌∷◌, ◌++◌, Option, Some, None, take}
 use Rattle.value_form.specs.declared.acts.ActSpec.{ActSpec}
 use Rattle.value_form.specs.declared.scripts.Stmt.{Stmt}
-use Rattle.value_form.specs.Ranges.{IsScript}
+use Rattle.value_form.specs.Mirror.{block}
+use Rattle.script_form.specs.Printable.{IsPrintable}
 use Rattle.pseudo_time.specs.Lists.{Every}
 use Rattle.effect_form.specs.declared.effects.Effect.{Effect}
 use Rattle.effect_form.specs.declared.effects.Effect.TheVariants as effect
@@ -15,11 +16,19 @@ use Rattle.broker_core.specs.declared.notes.Notes.{Notes}
 use Rattle.broker_core.specs.Notes.{act_at, answer_of, answered_in, answers_of, changed, stop_at, tree_of}
 use Rattle.broker_core.specs.Phases.{phase_at, owed_at}
 
--- an act that a plan can have
+-- an act that a plan can have: an Act effect can say its numbers, and its script is one of the language
 pub record IsAct (a : ActSpec) : Type 0 where
+  pub index_low : 1 ≤ a.index
+  pub index_high : a.index ≤ 10000
   pub home_low : 1 ≤ a.home
   pub home_high : a.home ≤ 16
-  pub script : IsScript a.script.lines
+  pub timeout_low : 1 ≤ a.timeout
+  pub timeout_high : a.timeout ≤ 1000000
+  pub tries_low : 1 ≤ a.tries
+  pub tries_high : a.tries ≤ 100
+  pub clock_low : 1 ≤ a.clock
+  pub clock_high : a.clock ≤ 1099511627775
+  pub script : IsPrintable 16 (block a.script.lines)
 
 pub record AreActs (acts : List ActSpec) : Type 0 where
   pub each : Every IsAct acts

@@ -1,5 +1,6 @@
 pub mod Book
 pub mod Brokers
+pub mod Counted
 pub mod Fits
 pub mod Inputs
 pub mod Ledgers
@@ -7,6 +8,8 @@ pub mod Notes
 pub mod Owed
 pub mod Parts
 pub mod Phases
+pub mod Ranges
+pub mod Readings
 pub mod Replays
 pub mod Rows
 pub mod Sound

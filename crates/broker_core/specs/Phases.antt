@@ -27,7 +27,8 @@ use Rattle.broker_core.specs.declared.replies.Reply.TheVariants.{Ignored, Hears,
 use Rattle.broker_core.specs.Tasks.{task_of}
 use Rattle.broker_core.specs.Tests.{is_stamp, is_time}
 use Rattle.broker_core.specs.Fits.{is_none, act_effect, next_clock}
-use Rattle.broker_core.specs.Stages.{repository, is_asking, is_finished, is_settled}
+use Rattle.broker_core.specs.Stages.{is_asking, is_finished, is_settled}
+use Rattle.pseudo_time.specs.Nodes.{repository}
 use Rattle.broker_core.specs.Rows.{when}
 use Rattle.broker_core.specs.Notes.{open_last, time_at, stop_at, act_at, another_at, index_of, home_of, timeout_of, most_of, clock_of}
 

@@ -2,7 +2,7 @@
 use Rattle.std.specs.Prelude.{ℕ, ◌==◌, Bool, true, false, ◌&&◌, ◌||◌, length, List, Option, Some, None, if◌then◌else◌}
 use Rattle.value_form.specs.declared.endings.Ending.TheVariants as ending
 use Rattle.pseudo_time.specs.declared.nodes.NodeId.{NodeId}
-use Rattle.pseudo_time.specs.declared.nodes.NodeKind.TheVariants.{Repository, Broker}
+use Rattle.pseudo_time.specs.Nodes.{repository, broker}
 use Rattle.effect_form.specs.declared.outcomes.Outcome.{Outcome}
 use Rattle.effect_form.specs.declared.outcomes.Outcome.TheVariants as outcome
 use Rattle.message_form.specs.declared.messages.Message.{Message}
@@ -14,12 +14,6 @@ use Rattle.broker_core.specs.declared.heards.Heard.{Heard}
 use Rattle.broker_core.specs.Tests.{is_stamp, is_time}
 use Rattle.broker_core.specs.Book.{Try, Book, open_try, last_try, time_of}
 use Rattle.broker_core.specs.Fits.{is_none, stop_of}
-
-abbrev pub repository : ℕ → NodeId
-repository n = record { kind = Repository; number = n }
-
-abbrev pub broker : ℕ → NodeId
-broker n = record { kind = Broker; number = n }
 
 -- a broker that was opened just now
 abbrev pub nothing_heard : Heard

@@ -11,6 +11,9 @@ ghost use Rattle.broker_core.specs.Ledgers as ledgers;
 ghost use Rattle.broker_core.specs.Inputs as inputs;
 ghost use Rattle.broker_core.specs.Replays as replays;
 ghost use Rattle.broker_core.specs.Brokers as spec;
+ghost use Rattle.broker_core.specs.Ranges as ranges;
+ghost use Rattle.message_form.specs.Messages.{IsMessage};
+ghost use Rattle.turn_form.specs.Ranges.{AreEffects, AreOuts};
 
 use crate::heards::Heard;
 use crate::ledgers::Ledger;
@@ -102,6 +105,7 @@ fn yielded(ledger: &mut Ledger, first: Option<Effect>, heard: &Heard) -> Result<
     ensures ledger { OnOk result (ledger.new ≡ inputs.ledger_from ledger.old first heard.now) }
     ensures phase { IfOk result (λ w. w.phase ≡ inputs.phase_in ledger.new heard.now) }
     ensures outs { IfOk result (λ w. w.outs.items ≡ inputs.listed (phases.standing_at ledger.new.acts ledger.new.notes w.phase)) }
+    ensures are_notes { OnOk result (ledgers.AreNotes ledger.new.acts ledger.new.notes ledger.new.answers) }
     ensures kept { ledgers.kept ledger.old.notes ledger.new.answers ≡ ledgers.kept ledger.old.notes ledger.old.answers }
     ensures number { ledger.new.number ≡ ledger.old.number }
     ensures run { ledger.new.run ≡ ledger.old.run }
@@ -123,7 +127,8 @@ fn yielded(ledger: &mut Ledger, first: Option<Effect>, heard: &Heard) -> Result<
 // Why the broker can't go on from a log that led to these notes: `other` is the index of the first act
 // that isn't the plan's.
 fn resume_fault(ledger: &Ledger, other: Option<u32>) -> Option<ResumeFault>
-    ensures { result ≡ inputs.fault_of ledger.now other }
+    ensures fault { result ≡ inputs.fault_of ledger.now other }
+    ensures are_notes { ledgers.AreNotes ledger.now.acts ledger.now.notes ledger.now.answers }
 {
     let latest = ledger.notes().run;
     if ledger.run() < latest {
@@ -140,7 +145,8 @@ impl Broker {
 
     /// The broker of this number goes on from its log, in a run with these acts.
     ///
-    /// Numbers of brokers are 1 to 16, and the acts are those of a plan. OldRun exactly where the log's
+    /// Numbers of brokers are 1 to 16, runs count from 1, the acts are those of a plan, and what the log
+    /// says is in its ranges. OldRun exactly where the log's
     /// last run is later than this one; OtherPlan exactly where it is this one and the log has an act
     /// of it that isn't the plan's in its place, or doesn't fit.
     pub fn open(
@@ -152,7 +158,9 @@ impl Broker {
     ) -> Result<Broker, ResumeFault>
         requires low { 1 ≤ number }
         requires high { number ≤ 16 }
+        requires run { 1 ≤ run }
         requires acts { ledgers.AreActs acts.now }
+        requires log { AreEffects effects.now }
         ensures opens { (script : List ℕ → Tree) → Scripted script acts.now → spec.Opens script number run acts.now (reverse effects.now) result }
         ensures fresh { IfOk result (λ b. spec.is_fresh number run acts.now b) }
     {
@@ -172,8 +180,10 @@ impl Broker {
 
     // Adds the effect, hears what is heard now, and what follows.
     fn advance(&mut self, first: Option<Effect>, heard: Heard) -> Result<Turn, AllocError>
-        requires { inputs.MayBegin self.old.acts self.old.notes self.old.answers first }
+        requires may { inputs.MayBegin self.old.acts self.old.notes self.old.answers first }
+        requires fits { ranges.FirstInRange first }
         ensures gives { (script : List ℕ → Tree) (log : List Effect) → Scripted script self.old.acts → spec.Stands script log self.old → spec.FirstFits script self.old log first → IfOk result (λ t. spec.Gives script log (spec.follows script self.old log first heard) t self.new) }
+        ensures in_range { IfOk result (λ t. AreEffects t.effects × AreOuts t.outs) }
         ensures number { self.new.number ≡ self.old.number }
         ensures run { self.new.run ≡ self.old.run }
         ensures acts { self.new.acts ≡ self.old.acts }
@@ -202,6 +212,7 @@ impl Broker {
     /// The broker goes: what is owed is done, and the outstanding request is sent.
     pub fn go(&mut self) -> Result<Turn, AllocError>
         ensures gives { (script : List ℕ → Tree) (log : List Effect) → Scripted script self.old.acts → spec.Stands script log self.old → IfOk result (λ t. spec.Gives script log (spec.turn_of script self.old log Go) t self.new) }
+        ensures in_range { IfOk result (λ t. AreEffects t.effects × AreOuts t.outs) }
         ensures number { self.new.number ≡ self.old.number }
         ensures run { self.new.run ≡ self.old.run }
         ensures acts { self.new.acts ≡ self.old.acts }
@@ -216,9 +227,12 @@ impl Broker {
     }
 
     /// A message is heard where it answers the outstanding request. Then what is owed is done, and the
-    /// next request is sent. Every other message is ignored.
-    pub fn take(&mut self, _from: NodeId, message: &Message) -> Result<Turn, AllocError>
-        ensures gives { (script : List ℕ → Tree) (log : List Effect) → Scripted script self.old.acts → spec.Stands script log self.old → IfOk result (λ t. spec.Gives script log (spec.turn_of script self.old log (Take _from message.now)) t self.new) }
+    /// next request is sent. Every other message is ignored. Nobody's word is taken for another's: the
+    /// request has its stamp and step, so who sent the answer doesn't matter.
+    pub fn take(&mut self, from: NodeId, message: &Message) -> Result<Turn, AllocError>
+        requires message { IsMessage message.now }
+        ensures gives { (script : List ℕ → Tree) (log : List Effect) → Scripted script self.old.acts → spec.Stands script log self.old → IfOk result (λ t. spec.Gives script log (spec.turn_of script self.old log (Take from message.now)) t self.new) }
+        ensures in_range { IfOk result (λ t. AreEffects t.effects × AreOuts t.outs) }
         ensures number { self.new.number ≡ self.old.number }
         ensures run { self.new.run ≡ self.old.run }
         ensures acts { self.new.acts ≡ self.old.acts }
@@ -238,9 +252,10 @@ impl Broker {
         }
     }
 
-    /// A moment is heard, and the outstanding request is sent again.
-    pub fn hear(&mut self, _moment: u64) -> Result<Turn, AllocError>
-        ensures gives { (script : List ℕ → Tree) (log : List Effect) → Scripted script self.old.acts → spec.Stands script log self.old → IfOk result (λ t. spec.Gives script log (spec.turn_of script self.old log (Hear _moment)) t self.new) }
+    /// A moment is heard, whichever it is, and the outstanding request is sent again.
+    pub fn hear(&mut self, moment: u64) -> Result<Turn, AllocError>
+        ensures gives { (script : List ℕ → Tree) (log : List Effect) → Scripted script self.old.acts → spec.Stands script log self.old → IfOk result (λ t. spec.Gives script log (spec.turn_of script self.old log (Hear moment)) t self.new) }
+        ensures in_range { IfOk result (λ t. AreEffects t.effects × AreOuts t.outs) }
         ensures same { self.new ≡ self.old }
     {
         let alloc = self.ledger.alloc();

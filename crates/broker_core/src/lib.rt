@@ -5,6 +5,7 @@
 mod brokers;
 mod givens;
 mod heards;
+mod laws;
 mod ledgers;
 mod logs;
 mod notes;
@@ -15,11 +16,6 @@ mod resume_faults;
 
 pub use brokers::Broker;
 pub use heards::Heard;
+pub use laws::{law_of_readings, readings_agree};
 pub use resume_faults::ResumeFault;
-
-#[cfg(test)]
-mod log_tests;
-#[cfg(test)]
-mod stories;
-#[cfg(test)]
-mod tests;
+pub use turn_form::{Out, Turn};

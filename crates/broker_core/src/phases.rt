@@ -4,16 +4,16 @@ ghost use Rattle.script_run.specs.Told.{stop_of};
 ghost use Rattle.broker_core.specs.Tests as tests;
 ghost use Rattle.broker_core.specs.Stages as stages;
 ghost use Rattle.broker_core.specs.Notes as notes;
-ghost use Rattle.broker_core.specs.Ledgers.{kept};
+ghost use Rattle.broker_core.specs.Ledgers.{AreNotes, kept};
 ghost use Rattle.broker_core.specs.Phases as spec;
-ghost use Rattle.pseudo_time.specs.Order.{same_stamp, same_time};
+ghost use Rattle.pseudo_time.specs.Nodes as nodes;
 
 use crate::heards::Heard;
 use crate::ledgers::Ledger;
 use crate::notes::{Last, Notes};
 use effect_form::Outcome;
 use message_form::Message;
-use pseudo_time::{NodeId, NodeKind, PseudoTime, Stamp};
+use pseudo_time::{NodeId, PseudoTime, Stamp};
 use script_run::Next;
 use std::alloc::{AllocError, Global};
 use turn_form::Out;
@@ -47,23 +47,11 @@ impl Phase {
     }
 }
 
-pub fn is_same_stamp(a: Stamp, b: Stamp) -> bool
-    ensures { result ≡ same_stamp a b }
-{
-    a == b
-}
-
-pub fn is_same_time(a: PseudoTime, b: PseudoTime) -> bool
-    ensures { result ≡ same_time a b }
-{
-    a == b
-}
-
 fn is_stamp(heard: &Option<Stamp>, stamp: Stamp) -> bool
     ensures { result ≡ tests.is_stamp heard.now stamp }
 {
     match heard {
-        Some(known) => is_same_stamp(*known, stamp),
+        Some(known) => known.is_same(stamp),
         None => false,
     }
 }
@@ -72,7 +60,7 @@ fn is_time(heard: &Option<PseudoTime>, at: PseudoTime) -> bool
     ensures { result ≡ tests.is_time heard.now at }
 {
     match heard {
-        Some(known) => is_same_time(*known, at),
+        Some(known) => known.is_same(at),
         None => false,
     }
 }
@@ -188,31 +176,22 @@ pub fn phase_now(ledger: &mut Ledger, heard: &Heard) -> Result<Phase, AllocError
     }
 }
 
-fn repository(number: u8) -> NodeId
-    ensures { result ≡ stages.repository number }
-{
-    NodeId {
-        kind: NodeKind::Repository,
-        number,
-    }
-}
-
 // A message to the home of the try.
 fn to_home(last: &Last, message: Message) -> Option<Out>
     ensures { result ≡ spec.home_gets last.now message }
 {
     Some(Out {
-        to: repository(last.stamp.home()),
+        to: NodeId::repository(last.stamp.home()),
         message,
     })
 }
 
 // A message to the repository of the object.
 fn to_object(object: ObjectId, message: Message) -> Option<Out>
-    ensures { result ≡ Some (record { to = stages.repository object.repository; message = message }) }
+    ensures { result ≡ Some (record { to = nodes.repository object.repository; message = message }) }
 {
     Some(Out {
-        to: repository(object.repository),
+        to: NodeId::repository(object.repository),
         message,
     })
 }
@@ -248,7 +227,8 @@ fn standing_for(
 
 /// The outstanding request at this stage.
 pub fn standing(ledger: &Ledger, phase: &Phase) -> Result<Option<Out>, AllocError>
-    ensures { IfOk result (λ o. o ≡ spec.standing_at ledger.now.acts ledger.now.notes phase.now) }
+    ensures standing { IfOk result (λ o. o ≡ spec.standing_at ledger.now.acts ledger.now.notes phase.now) }
+    ensures are_notes { AreNotes ledger.now.acts ledger.now.notes ledger.now.answers }
 {
     let timeout = ledger.last_timeout();
     match ledger.notes().last {

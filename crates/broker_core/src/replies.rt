@@ -9,7 +9,7 @@ ghost use Rattle.script_run.specs.Told.{stop_of};
 use crate::heards::Heard;
 use crate::ledgers::Ledger;
 use crate::notes::Last;
-use crate::phases::{Phase, is_same_stamp, is_same_time};
+use crate::phases::Phase;
 use effect_form::{Effect, Outcome};
 use message_form::Message;
 use pseudo_time::{Decision, PseudoTime, Stamp};
@@ -73,7 +73,7 @@ fn while_opening(index: u32, finished: bool, last: &Last, heard: &Heard, message
     let stamp = last.stamp;
     match message {
         Message::Begun { stamp: other } => when(
-            is_same_stamp(stamp, *other),
+            stamp.is_same(*other),
             Reply::Hears(Heard {
                 begun: Some(stamp),
                 ..*heard
@@ -83,7 +83,7 @@ fn while_opening(index: u32, finished: bool, last: &Last, heard: &Heard, message
             stamp: other,
             decision,
         } => when(
-            is_same_stamp(stamp, *other),
+            stamp.is_same(*other),
             early_answered(finished, index, *decision),
         ),
         _ => Reply::Ignored,
@@ -97,7 +97,7 @@ fn over_there(last: &Last, heard: &Heard, at: PseudoTime) -> Reply
 {
     let time = last.time();
     when(
-        is_same_time(time, at),
+        time.is_same(at),
         Reply::Hears(Heard {
             ended: Some(time),
             ..*heard
@@ -119,7 +119,7 @@ fn while_reading(
             let value = value.copy(alloc)?;
             let step = at.step();
             Ok(when(
-                is_same_time(last.time(), *at),
+                last.time().is_same(*at),
                 Reply::Adds(Effect::Got { step, value }),
             ))
         }
@@ -141,15 +141,15 @@ fn while_writing(
     let time = last.time();
     match message {
         Message::Stored { at } => when(
-            is_same_time(time, *at),
+            time.is_same(*at),
             Reply::Adds(Effect::Acked { step: at.step() }),
         ),
         Message::LaterRead { at, end } => when(
-            is_same_time(time, *at),
+            time.is_same(*at),
             ends(index, Outcome::LaterRead { object, end: *end }),
         ),
         Message::LaterVersion { at, start } => when(
-            is_same_time(time, *at),
+            time.is_same(*at),
             ends(
                 index,
                 Outcome::LaterVersion {
@@ -171,7 +171,7 @@ fn decided(stamp: Stamp, message: &Message) -> Option<Decision>
         Message::Decided {
             stamp: other,
             decision,
-        } if is_same_stamp(stamp, *other) => Some(*decision),
+        } if stamp.is_same(*other) => Some(*decision),
         _ => None,
     }
 }

@@ -28,7 +28,8 @@ use Rattle.broker_core.specs.Turns.{Desk, Go, Hear, Input, Take, desk_turn, fuel
 use Rattle.broker_core.specs.declared.heards.Heard.{Heard}
 use Rattle.broker_core.specs.declared.replies.Reply.{Reply}
 use Rattle.broker_core.specs.declared.replies.Reply.TheVariants.{Adds, Hears, Ignored}
-use Rattle.broker_laws.specs.AnyLogs.{counted, own_tries, InRun, Joins, Says, GoesOn}
+use Rattle.broker_core.specs.Counted.{counted, own_tries}
+use Rattle.broker_laws.specs.AnyLogs.{InRun, Joins, Says, GoesOn}
 use Rattle.broker_laws.specs.Fits.{EndFits, FitsBook}
 use Rattle.broker_laws.specs.Posts.{IsBelow, IsLater, PostHolds}
 use Rattle.broker_laws.specs.Works.{MayInput}

@@ -10,7 +10,8 @@ use Rattle.broker_core.specs.Tasks.{Task}
 use Rattle.broker_core.specs.Book.{Book, book}
 use Rattle.broker_core.specs.Fits.{other_plan, unfit_act, first_some}
 use Rattle.broker_core.specs.Rows.{news, row}
-use Rattle.broker_core.specs.Stages.{broker, stage, standing}
+use Rattle.broker_core.specs.Stages.{stage, standing}
+use Rattle.pseudo_time.specs.Nodes.{broker}
 use Rattle.broker_core.specs.Turns.{Desk, Go, Hear, Input, Take, desk_turn, fuel, hears, note, note_if, reply, say, send, settle_up, state, whole}
 use Rattle.broker_core.specs.declared.heards.Heard.{Heard}
 use Rattle.broker_core.specs.declared.replies.Reply.{Reply}

@@ -21,7 +21,8 @@ use Rattle.broker_core.specs.Book.{Act, Book, Try, book, enter, find, front, las
 use Rattle.broker_core.specs.Fits.{act_effect, add_if, another, first_some, fits, has_ended, is_none, keep, next_clock, other_plan, outcome_by, rests, shown_to, stop_of, unfit_act}
 use Rattle.broker_core.specs.Owed.{after_act, after_tries, by_clock, by_stage, due, owed, start}
 use Rattle.broker_core.specs.Rows.{Answered, Begun, Decided, News, Nothing_new, Over_there, Refusal, decided_commit, decided_early, ends, news, row, when}
-use Rattle.broker_core.specs.Stages.{Asking, Closing, Finishing, Idle, Opening, Refused, Stage, Stopping, by_stop, is_asking, is_closed, is_finished, no_answer, repository, request, stage, stage_of, standing}
+use Rattle.broker_core.specs.Stages.{Asking, Closing, Finishing, Idle, Opening, Refused, Stage, Stopping, by_stop, is_asking, is_closed, is_finished, no_answer, request, stage, stage_of, standing}
+use Rattle.pseudo_time.specs.Nodes.{repository}
 use Rattle.broker_core.specs.Tests.{is_stamp, is_time}
 use Rattle.broker_core.specs.Turns.{Desk, Go, Hear, Input, Take, desk_turn, fuel, hears, note, note_if, reply, say, send, settle_up, state, whole}
 use Rattle.broker_core.specs.declared.heards.Heard.{Heard}
@@ -31,7 +32,7 @@ use Rattle.broker_laws.proofs.Kept.{fit-counts, fit-planned, kept}
 use Rattle.broker_laws.proofs.Moves.{at-open, clocks, grown, post-kept}
 use Rattle.broker_laws.proofs.TestLemmas.{and-both, is_task-of}
 use Rattle.broker_laws.specs.Fits.{EndsBy, FitsBook, IsTidy, may_start}
-use Rattle.broker_laws.specs.Posts.{AnswerCame, Clocks, EndCame, HasCause, HasCome, IsAskOf, IsBelow, IsKnown, MayCommit, OfOpen, PostHolds, at}
+use Rattle.broker_laws.specs.Posts.{AnswerCame, Clocks, EndCame, RestsOn, HasCome, IsAskOf, IsBelow, IsKnown, MayCommit, OfOpen, PostHolds, at}
 use Rattle.broker_laws.specs.Works.{MayInput, TurnHolds}
 use Rattle.pseudo_time.proofs.OrderLemmas.{same_stamp-is, same_stamp-self, same_time-is}
 use Rattle.pseudo_time.specs.Lists.{Every}
@@ -130,7 +131,7 @@ module _ (script : List ℕ → Tree) (me run : ℕ) (acts : List Task) where
   module _ (ever : List Post) where
     pub record Good (b : Book) (f : Effect) : Type 0 where
       pub fits : FitsBook script me b f
-      pub came : HasCause me ever b f
+      pub came : RestsOn me ever b f
       pub planned : unfit_act script me run acts b f ≡ None
       pub run_stays : nat_lt run b.run ≡ false → nat_lt run (enter f b).run ≡ false
 

@@ -21,7 +21,8 @@ use Rattle.broker_core.specs.declared.heards.Heard.{Heard}
 use Rattle.broker_laws.proofs.Kept.{kept, started}
 use Rattle.broker_laws.proofs.Moves.{grown}
 use Rattle.broker_laws.proofs.TestLemmas.{and-both}
-use Rattle.broker_laws.specs.Fits.{FitsBook, IsTidy, Started, may_start}
+use Rattle.broker_core.specs.Sound.{Started}
+use Rattle.broker_laws.specs.Fits.{FitsBook, IsTidy, may_start}
 use Rattle.broker_laws.specs.Works.{IsRested, TurnHolds}
 use Rattle.script_meaning.specs.Meaning.{Asks, Over, Stop, ToRead, ToWrite}
 use Rattle.serial_model.specs.Questions.{Tree}

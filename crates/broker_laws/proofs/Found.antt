@@ -10,8 +10,9 @@ use Rattle.effect_form.specs.declared.outcomes.Outcome.{Outcome}
 use Rattle.effect_form.specs.declared.outcomes.Outcome.TheVariants as outcome
 use Rattle.broker_core.specs.Book.{Act, Book, Try, book, close, enter, find, gain, on_act, on_front, on_try, tries_of}
 use Rattle.broker_laws.proofs.Kept.{started}
-use Rattle.broker_laws.specs.Fits.{IsReady, IsTidy, Started}
-use Rattle.broker_laws.specs.Posts.{Distinct, IsAskOf, IsPlanned, OfAct}
+use Rattle.broker_core.specs.Sound.{OfAct, Started}
+use Rattle.broker_laws.specs.Fits.{IsReady, IsTidy}
+use Rattle.broker_laws.specs.Posts.{Distinct, IsAskOf, IsPlanned}
 use Rattle.pseudo_time.proofs.OrderLemmas.{same_stamp-is, same_stamp-self}
 use Rattle.pseudo_time.specs.Lists.{Every}
 use Rattle.pseudo_time.specs.Order.{same_stamp}

@@ -13,7 +13,8 @@ use Rattle.broker_core.specs.Fits.{add_if, another, calls_again, counts, first_s
 use Rattle.broker_core.specs.Tasks.{task_with}
 use Rattle.broker_core.specs.Tests.{is_task}
 use Rattle.broker_laws.proofs.TestLemmas.{and-both, and-left, is_task-is}
-use Rattle.broker_laws.specs.Fits.{EndFits, FitsBook, IsTidy, MayTry, OpenAt, Started}
+use Rattle.broker_core.specs.Sound.{Started}
+use Rattle.broker_laws.specs.Fits.{EndFits, FitsBook, IsTidy, MayTry, OpenAt}
 use Rattle.serial_model.specs.Questions.{Tree}
 
 pub if-true : (e f : Bool) → f ≡ true → (if e then f else true) ≡ true

@@ -1,5 +1,7 @@
 pub mod AnyDesks
 pub mod AnyLog
+pub mod BookSteps
+pub mod BookTurns
 pub mod Desks
 pub mod Done
 pub mod Found
@@ -9,8 +11,10 @@ pub mod LastTry
 pub mod Limits
 pub mod Moves
 pub mod NewRequest
+pub mod Nobody
 pub mod Parts
 pub mod ReadyLemmas
 pub mod TestLemmas
 pub mod Tries
 pub mod TurnLemmas
+pub mod WaitLemmas

@@ -18,7 +18,8 @@ use Rattle.value_form.specs.declared.endings.Ending.TheVariants as ending
 use Rattle.broker_core.specs.Book.{Act, Book, Try, book, close, enter, finish, front, gain, if_open, last_try, new_try, on_act, on_front, on_try, open_front, open_of, open_try, time_of, tries_of}
 use Rattle.broker_core.specs.Fits.{is_none, keep, stop_of}
 use Rattle.broker_core.specs.Rows.{Answered, Begun, Decided, News, Over_there, Refusal, decided_commit, decided_early, news, row, when}
-use Rattle.broker_core.specs.Stages.{Asking, Closing, Finishing, Idle, Opening, Refused, Stage, Stopping, broker, by_stop, is_asking, is_closed, is_finished, is_settled, no_answer, stage, stage_of, standing}
+use Rattle.broker_core.specs.Stages.{Asking, Closing, Finishing, Idle, Opening, Refused, Stage, Stopping, by_stop, is_asking, is_closed, is_finished, is_settled, no_answer, stage, stage_of, standing}
+use Rattle.pseudo_time.specs.Nodes.{broker}
 use Rattle.broker_core.specs.Tests.{is_stamp, is_time}
 use Rattle.broker_core.specs.Turns.{Desk, Take, desk_turn, fuel, hears, note, note_if, reply, say, send, settle_up, state, whole}
 use Rattle.broker_core.specs.declared.heards.Heard.{Heard}

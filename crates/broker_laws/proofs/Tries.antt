@@ -10,7 +10,7 @@ use Rattle.broker_laws.proofs.Moves.Moved.{same, tried, gained, ended}
 use Rattle.broker_core.specs.Book.{Act, Book, Try, book, close, enter, finish, gain, new_try, on_try, open_of, open_try, tries, tries_of}
 use Rattle.broker_laws.proofs.Moves.{Moved, at-open, clocks, moved}
 use Rattle.broker_laws.specs.Fits.{EndFits, EndsBy, FitsBook, IsAsked, IsTidy, MayTry}
-use Rattle.broker_laws.specs.Posts.{AnswerCame, AreKinds, EndCame, HasCause, HaveCauses, IsFitting, IsPlayed, IsProven, OfOpen, at}
+use Rattle.broker_laws.specs.Posts.{AnswerCame, AreKinds, EndCame, RestsOn, HaveCauses, IsFitting, IsPlayed, IsProven, OfOpen, at}
 use Rattle.pseudo_time.specs.Lists.{Every}
 use Rattle.script_meaning.specs.Meaning.{Answer, Got, Stored}
 use Rattle.serial_model.specs.Questions.{Tree, stop}
@@ -172,7 +172,7 @@ module _ (script : List ℕ → Tree) (me : ℕ) where
         spent [] past all = all
         spent (a ∷ acts) past all = all
 
-    proven-kept : (b : Book) (f : Effect) → FitsBook script me b f → HasCause me ever b f →
+    proven-kept : (b : Book) (f : Effect) → FitsBook script me b f → RestsOn me ever b f →
         Every (IsProven me ever) (tries b) → Every (IsProven me ever) (tries (enter f b))
     proven-kept b (effect.Run n) h v all = all
     proven-kept b (effect.Act i x t k y z) h v all = all

@@ -14,7 +14,8 @@ use Rattle.turn_form.specs.Posts.{Post}
 use Rattle.broker_core.specs.Book.{Book, Try, book, close, enter, open_try}
 use Rattle.broker_core.specs.Fits.{keep, other_plan, unfit_act}
 use Rattle.broker_core.specs.Rows.{news}
-use Rattle.broker_core.specs.Stages.{broker, nothing_heard, stage}
+use Rattle.broker_core.specs.Stages.{nothing_heard, stage}
+use Rattle.pseudo_time.specs.Nodes.{broker}
 use Rattle.broker_core.specs.Turns.{Desk, Go, Hear, Input, Take, desk_turn, fuel, hears, note, note_if, reply, say, send, settle_up, state, whole}
 use Rattle.broker_core.specs.declared.heards.Heard.{Heard}
 use Rattle.broker_core.specs.declared.replies.Reply.{Reply}
@@ -24,7 +25,7 @@ use Rattle.broker_laws.proofs.Fuel.{all-settled}
 use Rattle.broker_laws.proofs.Kept.{first-none, kept}
 use Rattle.broker_laws.proofs.Moves.{cut, grown}
 use Rattle.broker_laws.specs.Fits.{FitsBook, FitsLog, IsReady, IsTidy}
-use Rattle.broker_laws.specs.Posts.{AnswerCame, EndCame, HasCause, HasCome, HaveCauses, OfOpen}
+use Rattle.broker_laws.specs.Posts.{AnswerCame, EndCame, RestsOn, HasCome, HaveCauses, OfOpen}
 use Rattle.broker_laws.specs.Works.{Added, IsRested, TurnHolds, crash, gate}
 use Rattle.script_meaning.specs.Meaning.{Answer, Got, Stored}
 use Rattle.serial_model.specs.Questions.{Tree}
@@ -213,7 +214,7 @@ module _ (script : List ℕ → Tree) (me : ℕ) where
     open-more P Q k None h = h
     open-more P Q k (Some t) h = k t h
 
-    pub cause-more : (b : Book) (f : Effect) → HasCause me ever b f → HasCause me (ever ++ more) b f
+    pub cause-more : (b : Book) (f : Effect) → RestsOn me ever b f → RestsOn me (ever ++ more) b f
     cause-more b (effect.Got k v) h = open-more _ _ (λ t p. answer-more (Got v) _ p) (open_try b) h
     cause-more b (effect.Acked k) h = open-more _ _ (λ t p. answer-more Stored _ p) (open_try b) h
     cause-more b (effect.End i o) h = open-more _ _ (λ t p. end-more t o p) (open_try b) h

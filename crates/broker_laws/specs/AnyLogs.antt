@@ -9,26 +9,19 @@ use Rattle.turn_form.specs.Growth.{Grew}
 use Rattle.turn_form.specs.Posts.{Post}
 use Rattle.serial_model.specs.Questions.{Tree}
 use Rattle.broker_core.specs.Tasks.{Task}
-use Rattle.broker_core.specs.Book.{Book, Try, book, enter, tries_of}
+use Rattle.broker_core.specs.Book.{Book, enter}
+use Rattle.broker_core.specs.Counted.{counted, own_tries}
 use Rattle.broker_core.specs.Fits.{keep}
 use Rattle.broker_core.specs.Turns.{Desk, whole}
 use Rattle.broker_laws.specs.Fits.{FitsBook}
-use Rattle.broker_laws.specs.Posts.{HasCause, PostHolds}
+use Rattle.broker_laws.specs.Posts.{RestsOn, PostHolds}
 
 module _ (script : List ℕ → Tree) (me run : ℕ) (acts : List Task) where
-  -- the book of what counts
-  abbrev pub counted : List Effect → Book
-  counted log = book (keep script me run acts log)
-
-  -- the tries of this run in it
-  abbrev pub own_tries : List Effect → List Try
-  own_tries log = tries_of (counted log).acts
-
   -- the effect counts, fits what counted before, and shows no later run
   pub record Joins (log : List Effect) (f : Effect) : Type 0 where
     pub counts : keep script me run acts (f ∷ log) ≡ f ∷ keep script me run acts log
-    pub fits : FitsBook script me (counted log) f
-    pub not_later : nat_lt run (counted log).run ≡ false → nat_lt run (enter f (counted log)).run ≡ false
+    pub fits : FitsBook script me (counted script me run acts log) f
+    pub not_later : nat_lt run (counted script me run acts log).run ≡ false → nat_lt run (enter f (counted script me run acts log)).run ≡ false
 
   -- only a Run is added where the log shows none of this run
   abbrev pub InRun : Book → Effect → Type 0
@@ -37,12 +30,12 @@ module _ (script : List ℕ → Tree) (me run : ℕ) (acts : List Task) where
 
   -- the effect fits what counted before, has its cause, and is of this run
   abbrev pub Rests : List Post → List Effect → Effect → Type 0
-  Rests ever log f = FitsBook script me (counted log) f × HasCause me ever (counted log) f × InRun (counted log) f
+  Rests ever log f = FitsBook script me (counted script me run acts log) f × RestsOn me ever (counted script me run acts log) f × InRun (counted script me run acts log) f
 
   -- what a message that was sent in this run says holds of the tries of this run
   pub record Says (log : List Effect) (to : NodeId) (m : Message) : Type 0 where
-    pub run_is : (counted log).run ≡ run
-    pub holds : PostHolds script me (own_tries log) to m
+    pub run_is : (counted script me run acts log).run ≡ run
+    pub holds : PostHolds script me (own_tries script me run acts log) to m
 
   -- each new effect counts and has its cause, and each message of the turn says what holds
   pub record GoesOn (ever : List Post) (d : Desk) : Type 0 where

@@ -1,5 +1,5 @@
 -- Which effects fit a broker's log in every run, whatever its plan was. Logs stand newest first.
-use Rattle.std.specs.Prelude.{◌≡◌, ℕ, max, ◌+◌, ◌<◌, nat_lt, Bool, true, false, length, List, [], ◌∷◌, Some, None, slice_get}
+use Rattle.std.specs.Prelude.{◌≡◌, ℕ, max, ◌+◌, ◌<◌, nat_lt, Bool, true, false, length, List, [], ◌∷◌, Some, None}
 use Rattle.value_form.specs.declared.endings.Ending.TheVariants.{Finished, Withdrawn, Failed}
 use Rattle.value_form.specs.declared.objects.ObjectId.{ObjectId}
 use Rattle.value_form.specs.declared.values.Value.{Value}
@@ -86,8 +86,3 @@ module _ (script : List ℕ → Tree) (me : ℕ) where
   -- each effect fits those below it
   abbrev pub IsTidy : List Effect → Type 0
   IsTidy log = Each FitsLog log
-
--- each act of the run is the plan's in its place
-abbrev pub Started : List Task → List Act → Type 0
-Started acts [] = Unit {0}
-Started acts (a ∷ done) = Started acts done × (slice_get acts (length done) ≡ Some a.task)

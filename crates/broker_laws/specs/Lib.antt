@@ -1,4 +1,5 @@
 pub mod AnyLogs
 pub mod Fits
 pub mod Posts
+pub mod Waits
 pub mod Works

@@ -13,18 +13,14 @@ use Rattle.effect_form.specs.declared.outcomes.Outcome.TheVariants as outcome
 use Rattle.message_form.specs.declared.messages.Message.{Message}
 use Rattle.message_form.specs.declared.messages.Message.TheVariants as message
 use Rattle.turn_form.specs.Growth.{Each}
-use Rattle.turn_form.specs.Posts.{Post}
+use Rattle.turn_form.specs.Posts.{Post, WasSent}
 use Rattle.script_meaning.specs.Meaning.{Answer, Got, Stored, Request, ToRead, ToWrite, Stop, Asks, Over}
 use Rattle.serial_model.specs.Questions.{Tree, stop}
 use Rattle.broker_core.specs.Tasks.{Task}
 use Rattle.broker_core.specs.Book.{Try, Act, Book, book, tries, open_try, find, time_of}
 use Rattle.broker_core.specs.Fits.{stop_of}
-use Rattle.broker_core.specs.Stages.{repository, broker}
+use Rattle.pseudo_time.specs.Nodes.{repository, broker}
 use Rattle.broker_laws.specs.Fits.{EndsBy}
-
--- the message was sent
-abbrev pub WasSent : List Post → NodeId → NodeId → Message → Type 0
-WasSent ever from to m = Has (record { from = from; to = to; message = m }) ever
 
 abbrev pub at : StampParts → ℕ → TimeParts
 at s k = record { stamp = s; step = k }
@@ -103,22 +99,22 @@ module _ (me : ℕ) where
   EndCame ever t (outcome.Spent c) = Unit {0}
 
   -- what must have come before the effect
-  abbrev pub HasCause : List Post → Book → Effect → Type 0
-  HasCause ever b (effect.Got k v) = OfOpen (open_try b) (λ t. AnswerCame ever (at t.stamp k) (Got v))
-  HasCause ever b (effect.Acked k) = OfOpen (open_try b) (λ t. AnswerCame ever (at t.stamp k) Stored)
-  HasCause ever b (effect.End i o) = OfOpen (open_try b) (λ t. EndCame ever t o)
-  HasCause ever b (effect.Run n) = Unit {0}
-  HasCause ever b (effect.Act i h t k c x) = Unit {0}
-  HasCause ever b (effect.Try i s) = Unit {0}
-  HasCause ever b (effect.Put o x v) = Unit {0}
-  HasCause ever b (effect.Stretch o x) = Unit {0}
-  HasCause ever b (effect.Begin s d) = Unit {0}
-  HasCause ever b (effect.Decide s d) = Unit {0}
-  HasCause ever b (effect.Learn s c) = Unit {0}
+  abbrev pub RestsOn : List Post → Book → Effect → Type 0
+  RestsOn ever b (effect.Got k v) = OfOpen (open_try b) (λ t. AnswerCame ever (at t.stamp k) (Got v))
+  RestsOn ever b (effect.Acked k) = OfOpen (open_try b) (λ t. AnswerCame ever (at t.stamp k) Stored)
+  RestsOn ever b (effect.End i o) = OfOpen (open_try b) (λ t. EndCame ever t o)
+  RestsOn ever b (effect.Run n) = Unit {0}
+  RestsOn ever b (effect.Act i h t k c x) = Unit {0}
+  RestsOn ever b (effect.Try i s) = Unit {0}
+  RestsOn ever b (effect.Put o x v) = Unit {0}
+  RestsOn ever b (effect.Stretch o x) = Unit {0}
+  RestsOn ever b (effect.Begin s d) = Unit {0}
+  RestsOn ever b (effect.Decide s d) = Unit {0}
+  RestsOn ever b (effect.Learn s c) = Unit {0}
 
   -- each effect has its cause
   abbrev pub HaveCauses : List Post → List Effect → Type 0
-  HaveCauses ever log = Each (λ below f. HasCause ever (book below) f) log
+  HaveCauses ever log = Each (λ below f. RestsOn ever (book below) f) log
 
 -- ---- tries
 
@@ -133,10 +129,6 @@ Clocks me b = Every (IsBelow me b.clock) (tries b)
 abbrev pub Distinct : List Try → Type 0
 Distinct [] = Unit {0}
 Distinct (t ∷ ts) = (find t.stamp ts ≡ None) × Distinct ts
-
--- the tries of an act are of its run and its task
-abbrev pub OfAct : Act → Type 0
-OfAct a = Every (λ (t : Try). (t.task ≡ a.task) × (t.run ≡ a.run)) a.tries
 
 -- a try of the run is of an act of the plan
 abbrev pub IsPlanned : ℕ → List Task → Try → Type 0

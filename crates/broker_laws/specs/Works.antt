@@ -2,17 +2,20 @@
 use Rattle.std.specs.Prelude.{◌≡◌, ℕ, ◌-◌, drop, length, List, [], ◌++◌, None}
 use Rattle.pseudo_time.specs.Lists.{Every}
 use Rattle.effect_form.specs.declared.effects.Effect.{Effect}
+use Rattle.message_form.specs.declared.messages.Message.{Message}
+use Rattle.message_form.specs.declared.messages.Message.TheVariants as message
 use Rattle.turn_form.specs.Growth.{Grew}
-use Rattle.turn_form.specs.Posts.{Post}
+use Rattle.turn_form.specs.Posts.{Post, WasSent}
 use Rattle.serial_model.specs.Questions.{Tree}
 use Rattle.broker_core.specs.Tasks.{Task}
 use Rattle.broker_core.specs.Book.{book, tries}
 use Rattle.broker_core.specs.Fits.{keep}
 use Rattle.broker_core.specs.Owed.{owed}
-use Rattle.broker_core.specs.Stages.{broker, nothing_heard}
+use Rattle.broker_core.specs.Stages.{nothing_heard}
+use Rattle.pseudo_time.specs.Nodes.{broker}
 use Rattle.broker_core.specs.Turns.{Desk, whole, state, Input, Go, Hear, Take}
 use Rattle.broker_laws.specs.Fits.{FitsLog, IsTidy, IsReady}
-use Rattle.broker_laws.specs.Posts.{WasSent, PostHolds, HaveCauses}
+use Rattle.broker_laws.specs.Posts.{PostHolds, HaveCauses}
 
 -- its log grows by effects that fit, each with its cause, and each open message says what holds
 pub record DeskHolds (script : List ℕ → Tree) (me : ℕ) (ever : List Post) (d : Desk) : Type 0 where
@@ -40,6 +43,11 @@ pub record Added (script : List ℕ → Tree) (me run : ℕ) (acts : List Task) 
 pub record TurnHolds (script : List ℕ → Tree) (me run : ℕ) (acts : List Task) (ever : List Post) (d : Desk) : Type 0 where
   pub desk : DeskHolds script me ever d
   pub ready : IsReady script me run acts (whole d)
+
+-- the message asks nobody for a decision
+abbrev pub AsksNobody : Message → Type 0
+AsksNobody (message.Ask stamp) = ⊥
+AsksNobody _ = Unit {0}
 
 -- nothing is owed
 abbrev pub IsRested : (List ℕ → Tree) → ℕ → ℕ → List Task → Desk → Type 0

@@ -13,7 +13,8 @@ ghost use Rattle.serial_model.specs.Questions.{Tree};
 ghost use Rattle.broker_core.specs.Tasks.{Task};
 ghost use Rattle.broker_core.specs.Book.{Try, book, tries, tries_of, find, open_try, last_try};
 ghost use Rattle.broker_core.specs.Fits.{keep, resume_fault};
-ghost use Rattle.broker_laws.specs.Fits.{FitsBook, FitsLog, IsTidy, IsReady, Started};
+ghost use Rattle.broker_laws.specs.Fits.{FitsBook, FitsLog, IsTidy, IsReady};
+ghost use Rattle.broker_core.specs.Sound.{Started};
 ghost use Rattle.broker_laws.specs.Posts.{Clocks, Distinct, IsLater, PostHolds, HaveCauses, IsAskOf, IsPlanned, IsPlayed, IsProven, IsWithinLimits};
 
 /// No stamp of a log is above its clock, each is the broker's own, and no two are equal: over all runs

@@ -9,6 +9,7 @@ pub use laws::{
     ready_is_no_fault, stamps_are_own, tries_are_found,
 };
 pub use turn_laws::{
-    always_ready, causes_stay, new_request_differs, nothing_stays_owed, opened_brokers,
-    rested_is_done, turns_add_what_counts, turns_go_on, turns_keep_facts, turns_look_at_the_log,
+    always_ready, brokers_ask_nobody, causes_stay, new_request_differs, nothing_stays_owed,
+    opened_brokers, requests_wait_for_answers, rested_is_done, turns_add_what_counts, turns_go_on,
+    turns_keep_facts, turns_look_at_the_log,
 };

@@ -1,5 +1,6 @@
 // What a broker's turns keep. Logs stand newest first. `script` reads the texts of scripts.
 ghost use Rattle.std.specs.Prelude.{◌≡◌, ◌++◌, ℕ, List, [], Option, Some, None, true};
+ghost use Rattle.pseudo_time.specs.Lists.{Every};
 ghost use Rattle.pseudo_time.specs.declared.nodes.NodeId.{NodeId};
 ghost use Rattle.effect_form.specs.declared.effects.Effect.{Effect};
 ghost use Rattle.message_form.specs.declared.messages.Message.{Message};
@@ -15,7 +16,8 @@ ghost use Rattle.broker_core.specs.declared.replies.Reply.TheVariants.{Ignored};
 ghost use Rattle.broker_laws.specs.AnyLogs.{GoesOn};
 ghost use Rattle.broker_laws.specs.Fits.{IsTidy, IsReady};
 ghost use Rattle.broker_laws.specs.Posts.{HaveCauses};
-ghost use Rattle.broker_laws.specs.Works.{TurnHolds, MayInput, Added, IsRested, AlwaysReady, gate, crash, afresh, joined};
+ghost use Rattle.broker_laws.specs.Waits.{Waits, IsCalm, OutSound, BegunCame, DecidedCame};
+ghost use Rattle.broker_laws.specs.Works.{TurnHolds, MayInput, Added, IsRested, AlwaysReady, AsksNobody, gate, crash, afresh, joined};
 
 /// Each turn, each gate and each crash keeps a broker right: its effects fit the log, one by one, each
 /// with its cause; what its messages say holds; and its log shows no later run and no other plan.
@@ -87,4 +89,21 @@ pub fn new_request_differs()
 pub fn turns_go_on()
     ensures { (script : List ℕ → Tree) (me run : ℕ) (acts : List Task) (ever : List Post) (d : Desk) (i : Input) →
         MayInput me ever i → GoesOn script me run acts ever d → GoesOn script me run acts ever (desk_turn script me run acts d i) }
+{}
+
+/// Over every log, a broker asks nobody for a decision: a turn adds no Ask to the messages that it owes.
+pub fn brokers_ask_nobody()
+    ensures { (script : List ℕ → Tree) (me run : ℕ) (acts : List Task) (d : Desk) (i : Input) → Every (λ (o : Out). AsksNobody o.message) d.outs
+        → Every (λ (o : Out). AsksNobody o.message) (desk_turn script me run acts d i).outs }
+{}
+
+/// In a broker's first run, where no Ended comes: a Try is added only after a Decided of each try before
+/// it has come, a request of a try stands only after a Begun or a Decided of its stamp has come, and a
+/// Withdraw only after the try has its End.
+pub fn requests_wait_for_answers()
+    ensures empty { (script : List ℕ → Tree) (me run : ℕ) (acts : List Task) (ever : List Post) → Waits script me run acts ever (record { base = []; fresh = []; outs = []; heard = nothing_heard }) }
+    ensures turn { (script : List ℕ → Tree) (me run : ℕ) (acts : List Task) (ever : List Post) (d : Desk) (i : Input) →
+        MayInput me ever i → IsCalm i → Waits script me run acts ever d → Waits script me run acts ever (desk_turn script me run acts d i) }
+    ensures standing { (script : List ℕ → Tree) (me run : ℕ) (acts : List Task) (ever : List Post) (d : Desk) (o : Out) → Waits script me run acts ever d →
+        standing (stage script run (state script me run acts d) d.heard) ≡ Some o → OutSound run (BegunCame me ever) (DecidedCame me ever) (state script me run acts d) o.message }
 {}

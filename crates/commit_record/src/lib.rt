@@ -7,6 +7,3 @@ mod states;
 
 pub use records::Records;
 pub use states::{BeginStep, DecideStep, RecordState};
-
-#[cfg(test)]
-mod tests;

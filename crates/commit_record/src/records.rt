@@ -19,6 +19,7 @@ pub struct Records {
     /// The deadlines of the unknown records alone: a moment is heard without a walk over the
     /// decided ones, which are kept for good.
     deadlines: BTreeMap<Stamp, u64>,
+    alloc: Global,
 }
 
 impl Model for Records {
@@ -45,6 +46,7 @@ impl Records {
         Records {
             states: BTreeMap::new(alloc),
             deadlines: BTreeMap::new(alloc),
+            alloc,
         }
     }
 
@@ -57,12 +59,7 @@ impl Records {
 
     /// Makes a record of an attempt, unknown until this deadline, unless there is one. Where memory
     /// is wanting, the records are as before.
-    pub fn begin(
-        &mut self,
-        alloc: Global,
-        stamp: Stamp,
-        deadline: u64,
-    ) -> Result<BeginStep, AllocError>
+    pub fn begin(&mut self, stamp: Stamp, deadline: u64) -> Result<BeginStep, AllocError>
         ensures step { IfOk result (λ s. s ≡ begin_step (finite.get self.old stamp)) }
         ensures begun { OnOk result (self.new ≡ begun self.old stamp deadline) }
         ensures err { OnErr result (self.new ≡ self.old) }
@@ -130,15 +127,25 @@ impl Records {
         self.deadlines.remove(&stamp);
     }
 
+    /// What a moment would expire, before anything is decided: the unknown records whose deadline
+    /// is at most the moment, with their decision, in the order of their stamps.
+    pub fn due(&self, moment: u64) -> Result<Vec<(Stamp, Decision)>, AllocError>
+        ensures listed { IfOk result (λ l. (q : StampParts) → listed_at l.items q ≡ expiry moment (finite.get self.now q)) }
+        ensures order { IfOk result (λ l. IsStrictlySortedBy stamp_cmp (map (λ e. e.0) l.items)) }
+    {
+        let due = due_at(self.alloc, &self.deadlines, moment)?;
+        Ok(due)
+    }
+
     /// Every unknown record whose deadline is at most the moment expires. They are listed in the
     /// order of their stamps. Where memory is wanting, the records are as before.
-    pub fn hear(&mut self, alloc: Global, moment: u64) -> Result<Vec<(Stamp, Decision)>, AllocError>
+    pub fn hear(&mut self, moment: u64) -> Result<Vec<(Stamp, Decision)>, AllocError>
         ensures heard { OnOk result ((q : StampParts) → finite.get self.new q ≡ heard moment (finite.get self.old q)) }
         ensures listed { IfOk result (λ l. (q : StampParts) → listed_at l.items q ≡ expiry moment (finite.get self.old q)) }
         ensures order { IfOk result (λ l. IsStrictlySortedBy stamp_cmp (map (λ e. e.0) l.items)) }
         ensures err { OnErr result (self.new ≡ self.old) }
     {
-        let due = due_at(alloc, &self.deadlines, moment)?;
+        let due = self.due(moment)?;
         for (stamp, decision) in &due {
             let _ = self.restore(*stamp, *decision);
         }

@@ -14,6 +14,3 @@ pub use effects::{Effect, Place};
 pub use faults::EffectFault;
 pub use outcome_bytes::{outcome_of, push_outcome};
 pub use outcomes::Outcome;
-
-#[cfg(test)]
-mod tests;

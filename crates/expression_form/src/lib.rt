@@ -15,6 +15,3 @@ pub use printer::print_expression;
 pub use read_faults::ReadFault;
 pub use reader::read_expression;
 pub use stacks::Stack;
-
-#[cfg(test)]
-mod tests;

@@ -14,6 +14,3 @@ pub use numbers::{
     byte_in, byte_of, front_of, i64_of, u16_in, u16_of, u32_in, u32_of, u64_in, u64_of,
 };
 pub use times::{push_stamp, push_time, stamp_of, time_of};
-
-#[cfg(test)]
-mod tests;

@@ -3,13 +3,13 @@ use Rattle.std.proofs.Common.{◌≡◌, ◌⊎◌, inl, inr, ⊎_elim, ℕ, ◌
 use Rattle.std.specs.Prelude.{Option, Some, None, IfSome}
 use Rattle.std.proofs.Math.ListN.{replicate}
 use Rattle.std.proofs.lemmas.Bool.{cases_eq, cases_lt}
-use Rattle.std.proofs.lemmas.List.{set-set, set-get_or, get_or-take, get_or-drop, length-replicate, take_all, take-append-le, drop-append-le}
+use Rattle.std.proofs.lemmas.List.{set-set, set-get_or, get_or-take, get_or-drop, length-replicate, take_all, take-append-le}
 use Rattle.medium_port.specs.Image.{Image, IsImage, page_of, byte_of, splice, put_bytes, Torn}
 use Rattle.medium_port.specs.declared.events.Event.{Event}
 use Rattle.medium_port.specs.declared.events.Event.TheVariants.{Wrote, Synced, Reopened}
 use Rattle.medium_port.specs.declared.stops.Stop.{Stop}
 use Rattle.medium_port.specs.Stops.{torn_bytes}
-use Rattle.medium_port.specs.Disk.{Span, OutsideSpan, Outside, Among, spans_of, damaged, Disk, after, replay, MayLeave, SpanFits, SpansFit, IsSound, reads_left, LeftSince, only_last}
+use Rattle.medium_port.specs.Disk.{Span, OutsideSpan, Outside, Among, spans_of, damaged, Disk, after, replay, MayLeave, SpanFits, SpansFit, IsSound, reads_left, LeftSince, since_more, only_last}
 use Rattle.medium_port.proofs.Pages.{small_append, small_take, small_drop, small_replicate, splice_front, splice_back, splice_size, page_put, image_put, byte_outside, byte_inside}
 use Rattle.medium_port.proofs.Blanks.{same_image}
 
@@ -179,6 +179,9 @@ module _ (n : ℕ) (first : Disk) (es es' : List Event) (e : Event) (pushed : es
   pub each_push : (c : Image) → LeftSince n first es' (length es) c → MayLeave n (replay first es) c ⊎ MayLeave n (replay first es') c
   each_push c left = ⊎_elim (λ was. inl (only_last n first es c was)) (λ now. now) (before_push (length es) c (omega arith) left)
 
+  pub kept_push : (t : ℕ) (c : Image) → t ≤ length es → LeftSince n first es t c → LeftSince n first es' t c
+  kept_push t c le left = subst (λ (l : List Event). LeftSince n first l t c) (sym pushed) (since_more n first es (e ∷ []) t c left)
+
   -- the state after it
   pub now_push : replay first es' ≡ after (replay first es) e
   now_push = ap (λ (l : List Event). replay first l) pushed ∙ replay-push first es e
@@ -188,9 +191,6 @@ module _ (n : ℕ) (first : Disk) (es es' : List Event) (e : Event) (pushed : es
 
   pub sound_push : IsSound n (after (replay first es) e) → IsSound n (replay first es')
   sound_push sound = subst (λ (d : Disk). IsSound n d) (sym now_push) sound
-
-  pub spans_after : (s : ℕ) → s ≤ length es → spans_of (drop s es') ≡ spans_of (drop s es) ++ spans_of (e ∷ [])
-  spans_after s low = ap (λ (l : List Event). spans_of (drop s l)) pushed ∙ ap (λ (l : List Event). spans_of l) (drop-append-le s es (e ∷ []) low) ∙ spans-push (drop s es) e
 
 -- the spans from one event on
 pub spans_step : (events : List Event) (i : ℕ) (d : Event) → i < length events → spans_of (drop i events) ≡ spans_of (get_or events i d ∷ []) ++ spans_of (drop (i + 1) events)

@@ -9,10 +9,11 @@ use Rattle.medium_port.specs.declared.memory_media.MemoryMedium.{MemoryMedium}
 use Rattle.medium_port.specs.declared.slots.Slot.{Slot}
 use Rattle.std.proofs.Math.ListN.{replicate}
 use Rattle.medium_port.specs.Names.{IsJustSo}
-use Rattle.medium_port.specs.Disk.{replay, disk_of, reads_left}
-use Rattle.medium_port.specs.Pasts.{left_now}
+use Rattle.medium_port.specs.Disk.{replay, reads_left}
+use Rattle.medium_port.specs.Pasts.{left_now, first_disk, events_in}
 use Rattle.medium_port.proofs.Blanks.{blank_is}
-use Rattle.medium_port.specs.Slots.{kind_number, is_same_name, slot_of, IsPlace, NowHas, IsBlankOf, image_there, left_there}
+use Rattle.medium_port.specs.Slots.{is_same_name, slot_of, IsPlace, NowHas, IsBlankOf, image_there, left_there}
+use Rattle.pseudo_time.specs.Nodes.{kind_number}
 
 same_kind : (a b : NodeKind) → kind_number a ≡ kind_number b → a ≡ b
 same_kind Repository Repository e = refl
@@ -93,5 +94,5 @@ just_blank n zeros None m free size blank is =
     record {
       reads_same = same;
       no_more = λ c left. is.only c left ∙ same;
-      no_fewer = λ c e. reads_left m.past.count (replay (disk_of m.past.first.items) m.past.events.items) c m.past.sound (e ∙ sym same ∙ m.past.replayed);
+      no_fewer = λ c e. reads_left m.past.count (replay (first_disk m.past) (events_in m.past)) c m.past.sound (e ∙ sym same ∙ m.past.replayed);
     }

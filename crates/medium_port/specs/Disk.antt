@@ -1,7 +1,8 @@
 -- What a list of writes, syncs and reopenings has made of a medium.
-use Rattle.std.specs.Prelude.{◌≡◌, ◌⊎◌, ⊤, ℕ, ◌+◌, ◌≤◌, ◌<◌, ◌++◌, List, [], ◌∷◌, Option, Some, None, length, take, slice_index_or}
-use Rattle.std.proofs.Common.{arith, sym, subst}
-use Rattle.std.proofs.lemmas.List.{take_all}
+use Rattle.std.specs.Prelude.{◌≡◌, ◌⊎◌, ⊤, ℕ, ◌+◌, ◌≤◌, ◌<◌, ◌++◌, List, [], ◌∷◌, Option, Some, None, length, map, take, slice_index_or}
+use Rattle.std.specs.declared.snapshot.Snapshot.{Snapshot}
+use Rattle.std.proofs.Common.{arith, sym, subst, length-append}
+use Rattle.std.proofs.lemmas.List.{take_all, take-append-le}
 use Rattle.medium_port.specs.Image.{Image, IsImage, byte_of, put_bytes}
 use Rattle.medium_port.specs.declared.events.Event.{Event}
 use Rattle.medium_port.specs.declared.events.Event.TheVariants.{Wrote, Synced, Reopened}
@@ -29,6 +30,10 @@ spans_of [] = []
 spans_of (Wrote page at bytes ∷ events) = record { page = page; at = at; bytes = bytes } ∷ spans_of events
 spans_of (Synced ∷ events) = spans_of events
 spans_of (Reopened stop ∷ events) = spans_of events
+
+-- the events that these remember
+abbrev pub happened : List (Snapshot Event) → List Event
+happened events = map (λ s. s.value) events
 
 -- the image after a stop has torn each of these writes, in their order
 abbrev pub damaged : Stop → List Span → Image → Image
@@ -72,6 +77,15 @@ pub record MayLeave (n : ℕ) (d : Disk) (c : Image) : Type 0 where
 -- what a crash may have left after some of the events, no fewer than t
 abbrev pub LeftSince : ℕ → Disk → List Event → ℕ → Image → Type 0
 LeftSince n first events t c = (k : ℕ) × (t ≤ k) × (k ≤ length events) × MayLeave n (replay first (take k events)) c
+
+-- none is forgotten where there are more events
+pub since_more : (n : ℕ) (first : Disk) (events more : List Event) (t : ℕ) (c : Image) → LeftSince n first events t c → LeftSince n first (events ++ more) t c
+since_more n first events more t c left = (
+  left.0,
+  left.1,
+  omega (arith, left.2, length-append events more),
+  subst (λ (es : List Event). MayLeave n (replay first es) c) (sym (take-append-le left.0 events more left.2)) left.3,
+)
 
 pub only_last : (n : ℕ) (first : Disk) (events : List Event) (c : Image) → LeftSince n first events (length events) c → MayLeave n (replay first events) c
 only_last n first events c left =

@@ -1,8 +1,11 @@
 -- What a medium in memory is.
-use Rattle.std.specs.Prelude.{ℕ, Bool, List, Option, drop}
+use Rattle.std.specs.Prelude.{◌≡◌, ◌⊎◌, ℕ, Bool, List, Option, Some, Result, is_some, IsTrue, IsErr, OnOk, OnErr, MatchOption}
+use Rattle.std.specs.Option.{option_map}
+use Rattle.stream_port.specs.Causes.{Rose, next_count}
 use Rattle.medium_port.specs.Image.{Image}
-use Rattle.medium_port.specs.Disk.{Span, spans_of}
-use Rattle.medium_port.specs.Pasts.{moment_of, left_now, left_then}
+use Rattle.medium_port.specs.Disk.{Span}
+use Rattle.medium_port.specs.Pasts.{events_in, unsynced_in, moment_of, left_now, left_then, IsWrittenTo, IsAsBefore}
+use Rattle.medium_port.specs.Stops.{first_met, without_met}
 use Rattle.medium_port.specs.declared.events.Event.{Event}
 use Rattle.medium_port.specs.declared.stops.Stop.{Stop}
 use Rattle.medium_port.specs.declared.memory_media.MemoryMedium.{MemoryMedium}
@@ -29,11 +32,11 @@ left_since_in m = left_then m.past
 
 -- its writes, syncs and reopenings
 abbrev pub events_of : MemoryMedium → List Event
-events_of m = m.past.events.items
+events_of m = events_in m.past
 
 -- what was written since the last sync
 abbrev pub unsynced_of : MemoryMedium → List Span
-unsynced_of m = spans_of (drop m.past.synced m.past.events.items)
+unsynced_of m = unsynced_in m.past
 
 -- the stops that are still to come
 abbrev pub stops_of : MemoryMedium → List Stop
@@ -55,4 +58,26 @@ faults_in m = m.health.faults
 
 -- the page that its last read with Ok gave
 abbrev pub last_of : MemoryMedium → Option (ℕ × List ℕ)
-last_of m = m.last
+last_of m = option_map (λ p. (p.0, p.1.value)) m.last
+
+-- how many calls failed for want of memory
+abbrev pub starved_of : MemoryMedium → ℕ
+starved_of m = m.starved
+
+-- the stop that its next call meets, which writes to this page and place, or doesn't write
+abbrev pub next_stop : Option (ℕ × ℕ) → MemoryMedium → Option Stop
+next_stop write m = first_met (next_count m.calls) write m.stops.items
+
+-- a call fails exactly where it meets a stop or memory is wanting, and each stop is used once
+pub record MeetsStops {T E : Type 0} (write : Option (ℕ × ℕ)) (old new : MemoryMedium) (result : Result T E) : Type 0 where
+  pub stopped : IsTrue (is_some (next_stop write old)) → IsErr result
+  pub failed : IsErr result → IsTrue (is_some (next_stop write old)) ⊎ Rose (starved_of old) (starved_of new)
+  pub fed : OnOk result (starved_of new ≡ starved_of old)
+  pub used : stops_of new ≡ without_met (next_count (calls_of old)) write (stops_of old)
+  -- the stop that it met is the one that the next reopening shows
+  pub waits : MatchOption (next_stop write old) (OnErr result (pending_of new ≡ pending_of old)) (λ stop. pending_of new ≡ Some stop)
+  pub counted : calls_of new ≡ next_count (calls_of old)
+
+-- the write was made, or the call failed for want of memory and all is as before
+abbrev pub Writes : {T E : Type 0} → ℕ → ℕ → List ℕ → MemoryMedium → MemoryMedium → Result T E → Type 0
+Writes page at bytes old new result = IsWrittenTo page at bytes old.past new.past ⊎ (IsErr result × Rose (starved_of old) (starved_of new) × IsAsBefore old.past new.past)

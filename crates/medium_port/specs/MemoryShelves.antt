@@ -38,6 +38,10 @@ new_pages s = s.pages
 abbrev pub shelf_faults : MemoryShelf → ℕ
 shelf_faults s = s.faults
 
+-- how many takings failed for want of memory
+abbrev pub shelf_starved : MemoryShelf → ℕ
+shelf_starved s = s.starved
+
 -- this name now has this, and all others are as they were
 abbrev pub NowUnder : MediumName → Option MemoryMedium → MemoryShelf → MemoryShelf → Type 0
 NowUnder name held old new = NowHas name held old.slots.items new.slots.items

@@ -1,16 +1,11 @@
 -- What a shelf over memory has under a name.
 use Rattle.std.specs.Prelude.{◌≡◌, ◌≢◌, ℕ, ◌<◌, Bool, true, false, ⊤, ◌==◌, ◌&&◌, if◌then◌else◌, List, [], ◌∷◌, length, slice_index_or, Option, Some, None}
-use Rattle.pseudo_time.specs.declared.nodes.NodeKind.{NodeKind}
-use Rattle.pseudo_time.specs.declared.nodes.NodeKind.TheVariants.{Repository, Broker}
+use Rattle.pseudo_time.specs.Nodes.{kind_number}
 use Rattle.medium_port.specs.Image.{Image, IsImage, IsBlankImage, Only}
 use Rattle.medium_port.specs.Pasts.{left_now}
 use Rattle.medium_port.specs.declared.shelves.MediumName.{MediumName}
 use Rattle.medium_port.specs.declared.memory_media.MemoryMedium.{MemoryMedium}
 use Rattle.medium_port.specs.declared.slots.Slot.{Slot}
-
-abbrev pub kind_number : NodeKind → ℕ
-kind_number Repository = 1
-kind_number Broker = 2
 
 abbrev pub is_same_name : MediumName → MediumName → Bool
 is_same_name a b = (kind_number a.kind == kind_number b.kind) && ((a.number == b.number) && (a.volume == b.volume))

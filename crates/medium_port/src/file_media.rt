@@ -1,11 +1,16 @@
-ghost use Rattle.std.specs.Prelude.{◌≡◌, ◌≤◌, None, false};
+ghost use Rattle.std.specs.Prelude.{◌≡◌, ◌≤◌, None, false, true};
+ghost use Rattle.stream_port.specs.Causes.{Rose};
 
+use crate::accounts::Account;
 use crate::healths::Health;
 use crate::media::{Medium, MediumFault};
 use std::fs::File;
+use std::io;
 use std::os::unix::fs::FileExt;
+use std::snapshot::Snapshot;
 
-/// A medium over a file. It tells no content.
+/// A medium over a file, which no other program can take while it lives. It tells no content. The
+/// first call that fails says on standard error why.
 ///
 /// What is assumed of the file is what the trait says of a medium: that reads give what was
 /// written, and that a crash after a sync leaves it.
@@ -14,7 +19,9 @@ pub struct FileMedium {
     file: File,
     count: u32,
     health: Health,
-    last: Option<(u32, [u8; 4096])>,
+    account: Account,
+    // For contracts alone: a snapshot has no bytes.
+    last: Option<(u32, Snapshot<[u8; 4096]>)>,
     ghost some: { 1 ≤ count },
     ghost most: { count ≤ 1048576 },
 }
@@ -26,7 +33,7 @@ fn offset(page: u32, at: u16) -> u64 {
 
 impl FileMedium {
     // A medium of the file's first pages.
-    pub fn new(file: File, count: u32) -> FileMedium
+    pub(crate) fn new(file: File, count: u32, account: Account) -> FileMedium
         requires some { 1 ≤ count }
         requires most { count ≤ 1048576 }
         ensures open { result.health ≡ record { failed = false; faults = 0 } }
@@ -40,13 +47,26 @@ impl FileMedium {
                 failed: false,
                 faults: 0,
             },
+            account,
             last: None,
         }
+    }
+
+    // Counts a fault, and says why.
+    fn fail(&mut self, reason: io::Error) -> MediumFault
+        ensures failed { self.new.health.failed ≡ true }
+        ensures rose { Rose self.old.health.faults self.new.health.faults }
+        ensures later { self.old.health.faults ≤ self.new.health.faults }
+        ensures stays { (self.new.count ≡ self.old.count) × (self.new.last ≡ self.old.last) }
+    {
+        self.account.say(reason);
+        self.health.fail()
     }
 }
 
 impl Medium for FileMedium {
     ghost use Rattle.std.specs.Prelude.{[], ⊤};
+    ghost use Rattle.std.specs.Option.{option_map};
     ghost use Rattle.std.proofs.lemmas.Bool.{false≢true};
 
     ghost tells = { false };
@@ -55,7 +75,7 @@ impl Medium for FileMedium {
 
     ghost is_failed = { λ m. m.health.failed };
 
-    ghost last_page = { λ m. m.last };
+    ghost last_page = { λ m. option_map (λ p. (p.0, p.1.value)) m.last };
 
     ghost faults = { λ m. m.health.faults };
 
@@ -82,24 +102,24 @@ impl Medium for FileMedium {
     fn read(&mut self, page: u32, into: &mut [u8; 4096]) -> Result<(), MediumFault> {
         match self.file.read_exact_at(into, offset(page, 0)) {
             Ok(()) => {
-                self.last = Some((page, *into));
+                self.last = Some((page, Snapshot::of(into)));
                 Ok(())
             }
-            Err(_) => Err(self.health.fail()),
+            Err(error) => Err(self.fail(error)),
         }
     }
 
     fn write(&mut self, page: u32, at: u16, bytes: &[u8]) -> Result<(), MediumFault> {
         match self.file.write_all_at(bytes, offset(page, at)) {
             Ok(()) => Ok(()),
-            Err(_) => Err(self.health.fail()),
+            Err(error) => Err(self.fail(error)),
         }
     }
 
     fn sync(&mut self) -> Result<(), MediumFault> {
         match self.file.sync_data() {
             Ok(()) => Ok(()),
-            Err(_) => Err(self.health.fail()),
+            Err(error) => Err(self.fail(error)),
         }
     }
 
@@ -109,7 +129,7 @@ impl Medium for FileMedium {
                 self.health.failed = false;
                 Ok(())
             }
-            Err(_) => Err(self.health.fail()),
+            Err(error) => Err(self.fail(error)),
         }
     }
 }

@@ -1,13 +1,16 @@
-ghost use Rattle.std.specs.Prelude.{◌≤◌, IfOk};
+ghost use Rattle.std.specs.Prelude.{◌≤◌, IfOk, IfSome};
 ghost use Rattle.medium_port.specs.Files.{IsNewMedium};
 
+use crate::accounts::Account;
 use crate::file_media::FileMedium;
 use crate::media::MediumFault;
 use crate::shelves::{MediumName, Shelf};
 use pseudo_time::NodeKind;
 use std::alloc::{AllocError, Global};
-use std::fs::{self, File};
-use std::io::{self, ErrorKind};
+use std::fmt::{self, Display, Formatter};
+use std::fs::{self, File, TryLockError};
+use std::io::{self, ErrorKind, Stderr};
+use std::os::unix::fs::FileExt;
 use std::rt::Files;
 
 /// The pages of a medium that a shelf over files makes.
@@ -16,19 +19,29 @@ pub const NEW_PAGES: u32 = 4096;
 const MOST_PAGES: u64 = 1_048_576;
 
 /// A shelf over the files of a folder. The medium of volume 0 of the first repository is the file
-/// `repository-1-0`. A file that isn't there, or is empty, is made with 4,096 pages.
+/// `repository-1-0`. A file that isn't there, or is empty, is made with 4,096 pages. A file that
+/// another program has for a medium can't be taken.
+///
+/// A taking that fails, and each medium at its first fault, says on standard error why: a line with
+/// the medium's file and the system's reason.
 #[derive(Drop)]
 pub struct FileShelf<R: Files<File = File>> {
     alloc: Global,
     files: R,
+    errors: Stderr,
     folder: String,
     taken: Vec<MediumName>,
     faults: u64,
 }
 
 impl<R: Files<File = File>> FileShelf<R> {
-    /// A shelf over this folder, which is made where it isn't there.
-    pub fn new(alloc: Global, files: R, folder: &str) -> Result<FileShelf<R>, AllocError>
+    /// A shelf over this folder, which is made with those that it lies in where they aren't there.
+    pub fn new(
+        alloc: Global,
+        files: R,
+        errors: Stderr,
+        folder: &str,
+    ) -> Result<FileShelf<R>, AllocError>
     where
         R: Drop,
     {
@@ -36,6 +49,7 @@ impl<R: Files<File = File>> FileShelf<R> {
         Ok(FileShelf {
             alloc,
             files,
+            errors,
             folder,
             taken: Vec::new(alloc),
             faults: 0,
@@ -50,55 +64,176 @@ fn kind_word(kind: NodeKind) -> &'static str {
     }
 }
 
-// Makes the folder where it isn't there.
-fn make_folder(files: &impl Files, folder: &str) -> io::Result<()> {
-    match fs::create_dir(files, folder) {
+// Why a file isn't taken for a medium.
+#[derive(Drop)]
+enum Refusal {
+    NoFolder,
+    NoFile,
+    Locked,
+    // How many bytes it has.
+    Length(u64),
+    System(io::Error),
+}
+
+impl From<io::Error> for Refusal {
+    fn from(error: io::Error) -> Refusal {
+        Refusal::System(error)
+    }
+}
+
+impl Display for Refusal {
+    fn fmt<W: fmt::Write>(&self, f: &mut Formatter<W>) -> fmt::Result {
+        match self {
+            Refusal::NoFolder => f.write_str("the folder has no name"),
+            Refusal::NoFile => f.write_str("no regular file"),
+            Refusal::Locked => f.write_str("locked by another program"),
+            Refusal::Length(bytes) => write!(
+                f,
+                "a file of {} bytes, and a medium has 1 to {} pages of 4096",
+                bytes, MOST_PAGES
+            ),
+            Refusal::System(error) => write!(f, "{}", error),
+        }
+    }
+}
+
+// Makes the folder, and those that it lies in, where they aren't there.
+fn make_folder(files: &impl Files, folder: &str) -> Result<(), Refusal> {
+    if folder.is_empty() {
+        return Err(Refusal::NoFolder);
+    }
+    match fs::create_dir_all(files, folder) {
         Ok(()) => Ok(()),
+        // What stands in its place is no folder: opening a file in it says so.
         Err(error) if error.kind() == ErrorKind::AlreadyExists => Ok(()),
+        Err(error) => Err(error.into()),
+    }
+}
+
+// Syncs a folder, so that a crash leaves the names in it. One that may not be read has no new ones.
+fn sync_folder(files: &impl Files<File = File>, folder: &str) -> io::Result<()> {
+    match fs::open(files, folder) {
+        Ok(opened) => opened.sync_all(),
+        Err(error) if error.kind() == ErrorKind::PermissionDenied => Ok(()),
         Err(error) => Err(error),
     }
 }
 
-// The length of a file in pages, after making it whole where it is empty.
-fn measure(files: &impl Files<File = File>, folder: &str, file: &File) -> io::Result<u64> {
-    let length = file.metadata()?.len();
-    if length > 0 {
-        return Ok(length / 4096);
+// Syncs the folder and each that it lies in, up to where its path begins.
+fn sync_folders(files: &impl Files<File = File>, folder: &str) -> io::Result<()> {
+    sync_folder(files, folder)?;
+    for end in 1..folder.len() {
+        if let Some((outer, rest)) = folder.split_at_checked(end) {
+            if rest.starts_with('/') {
+                sync_folder(files, outer)?;
+            }
+        }
     }
-    file.set_len(NEW_PAGES as u64 * 4096)?;
-    file.sync_all()?;
-    fs::open(files, folder)?.sync_all()?;
-    Ok(NEW_PAGES as u64)
+    sync_folder(files, if folder.starts_with('/') { "/" } else { "." })
 }
 
-fn open_medium(
-    alloc: Global,
+// Whether nothing was written to the first page yet, and so to none.
+fn is_untouched(file: &File) -> io::Result<bool> {
+    let mut page = [0u8; 4096];
+    file.read_exact_at(&mut page, 0)?;
+    Ok(page.iter().all(|byte| *byte == 0))
+}
+
+// The length of a file in pages, after making it whole where it is empty. Where no opening before
+// this one can be known to have come as far, the file and its folders are synced.
+fn measure(files: &impl Files<File = File>, folder: &str, file: &File) -> Result<u32, Refusal>
+    ensures { IfOk result (λ pages. (1 ≤ pages) × (pages ≤ 1048576)) }
+{
+    let mut length = file.metadata()?.len();
+    if length == 0 {
+        length = NEW_PAGES as u64 * 4096;
+        file.set_len(length)?;
+    }
+    let pages = length / 4096;
+    if pages == 0 || pages > MOST_PAGES {
+        return Err(Refusal::Length(length));
+    }
+    if is_untouched(file)? {
+        file.sync_all()?;
+        sync_folders(files, folder)?;
+    }
+    Ok(pages as u32)
+}
+
+// The file and its number of pages. The lock is the file's, and the system lifts it at its end.
+fn open_file(
     files: &impl Files<File = File>,
     folder: &str,
-    name: MediumName,
-) -> io::Result<FileMedium>
-    ensures { IfOk result (λ m. IsNewMedium m) }
+    path: &str,
+) -> Result<(File, u32), Refusal>
+    ensures { IfOk result (λ r. (1 ≤ r.1) × (r.1 ≤ 1048576)) }
 {
     make_folder(files, folder)?;
-    let Ok(path) = format!(in alloc;
+    let file = File::options()
+        .read(true)
+        .write(true)
+        .create(true)
+        .open(files, path)?;
+    if !file.metadata()?.is_file() {
+        return Err(Refusal::NoFile);
+    }
+    match file.try_lock() {
+        Ok(()) => {}
+        Err(TryLockError::WouldBlock) => return Err(Refusal::Locked),
+        Err(TryLockError::Error(error)) => return Err(error.into()),
+    }
+    let pages = measure(files, folder, &file)?;
+    Ok((file, pages))
+}
+
+// The account of the medium of this name.
+fn account_of(
+    alloc: Global,
+    errors: Stderr,
+    folder: &str,
+    name: MediumName,
+) -> Result<Account, AllocError> {
+    let path = format!(in alloc;
         "{}/{}-{}-{}",
         folder,
         kind_word(name.kind),
         name.number,
         name.volume
-    ) else {
-        return Err(ErrorKind::OutOfMemory.into());
-    };
-    let file = File::options()
-        .read(true)
-        .write(true)
-        .create(true)
-        .open(files, path.as_str())?;
-    let pages = measure(files, folder, &file)?;
-    if pages == 0 || pages > MOST_PAGES {
-        return Err(ErrorKind::InvalidData.into());
+    )?;
+    Account::new(alloc, errors, path.as_str())
+}
+
+// Says why where there is none.
+fn open_medium(
+    files: &impl Files<File = File>,
+    folder: &str,
+    mut account: Account,
+) -> Option<FileMedium>
+    ensures { IfSome result (λ m. IsNewMedium m) }
+{
+    match open_file(files, folder, account.path()) {
+        Ok((file, pages)) => Some(FileMedium::new(file, pages, account)),
+        Err(refusal) => {
+            account.say(refusal);
+            None
+        }
     }
-    Ok(FileMedium::new(file, pages as u32))
+}
+
+// The medium of this name.
+fn medium_of(
+    alloc: Global,
+    files: &impl Files<File = File>,
+    errors: Stderr,
+    folder: &str,
+    name: MediumName,
+) -> Option<FileMedium>
+    ensures { IfSome result (λ m. IsNewMedium m) }
+{
+    match account_of(alloc, errors, folder, name) {
+        Ok(account) => open_medium(files, folder, account),
+        Err(_) => None,
+    }
 }
 
 impl<R: Files<File = File> + Drop> Shelf for FileShelf<R> {
@@ -123,8 +258,9 @@ impl<R: Files<File = File> + Drop> Shelf for FileShelf<R> {
             volume,
         };
         if !self.taken.contains(&name) {
-            let opened = open_medium(self.alloc, &self.files, self.folder.as_str(), name);
-            if let Ok(medium) = opened {
+            let folder = self.folder.as_str();
+            let opened = medium_of(self.alloc, &self.files, self.errors, folder, name);
+            if let Some(medium) = opened {
                 if self.taken.push(name).is_ok() {
                     return Ok(medium);
                 }

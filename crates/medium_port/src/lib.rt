@@ -2,6 +2,7 @@
 //! memory and files.
 #![tactic(auto)]
 
+mod accounts;
 mod events;
 mod file_media;
 mod file_shelves;
@@ -25,8 +26,3 @@ pub use memory_media::MemoryMedium;
 pub use memory_shelves::MemoryShelf;
 pub use shelves::{MediumName, Shelf};
 pub use stops::{Stop, StopAt};
-
-#[cfg(test)]
-mod meeting_tests;
-#[cfg(test)]
-mod tests;

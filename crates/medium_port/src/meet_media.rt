@@ -21,7 +21,7 @@ pub struct MeetMedium {
 
 impl MeetMedium {
     // A medium that is to look so often, or not at all.
-    pub fn new(
+    pub(crate) fn new(
         inner: MemoryMedium,
         writers: Arc<AtomicU64, Global>,
         looks: u64,

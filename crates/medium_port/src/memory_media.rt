@@ -1,8 +1,7 @@
-ghost use Rattle.std.specs.Prelude.{◌≡◌, ◌+◌, ◌<◌, ◌≤◌, ◌⊎◌, [], None, Some, MatchOption, true, false, length, drop, is_err, is_some, IsTrue, IsErr, IfOk, OnOk, OnErr};
-ghost use Rattle.stream_port.specs.Causes.{HasCause, Rose, next_count};
+ghost use Rattle.std.specs.Prelude.{◌≡◌, ◌+◌, ◌<◌, ◌≤◌, [], None, Some, true, false, length, is_err, IsTrue, IfOk, OnOk, OnErr};
+ghost use Rattle.stream_port.specs.Causes.{HasCause, Rose};
 ghost use Rattle.medium_port.specs.Image.{IsImage, IsBlankImage, page_of, Written, Torn, Follows, Only, NoMore};
 ghost use Rattle.medium_port.specs.Moment.{LeavesOnly, EitherSide};
-ghost use Rattle.medium_port.specs.Stops.{first_met, without_met};
 ghost use Rattle.medium_port.specs.Disk.{after_stop};
 
 use crate::healths::Health;
@@ -10,9 +9,10 @@ use crate::media::{Medium, MediumFault};
 use crate::pasts::Past;
 use crate::stops::{Stop, take_met};
 use std::alloc::{AllocError, Global};
+use std::snapshot::Snapshot;
 
-/// A medium in memory. Its stops say which calls fail and what they tear, and it keeps all its
-/// writes, syncs and reopenings, from which its past moments are read.
+/// A medium in memory. Its stops say which calls fail and what they tear. It keeps its pages and what
+/// was written since the last sync; of its past moments contracts alone know.
 #[derive(Drop)]
 pub struct MemoryMedium {
     alloc: Global,
@@ -21,16 +21,16 @@ pub struct MemoryMedium {
     calls: u64,
     // The last stop that was met since the last reopening.
     met: Option<Stop>,
-    /// How many calls failed for want of memory. It stays at 2^64 - 1.
-    pub starved: u64,
+    starved: u64,
     health: Health,
-    last: Option<(u32, [u8; 4096])>,
+    // For contracts alone: a snapshot has no bytes.
+    last: Option<(u32, Snapshot<[u8; 4096]>)>,
     ghost some: { 1 ≤ past.count },
     ghost most: { past.count ≤ 1048576 },
 }
 
 impl MemoryMedium {
-    ghost use Rattle.medium_port.specs.MemoryMedia.{pages_of, reads_of, leaves, events_of, stops_of, calls_of, pending_of, failed_in, faults_in, last_of};
+    ghost use Rattle.medium_port.specs.MemoryMedia.{pages_of, reads_of, leaves, events_of, unsynced_of, stops_of, calls_of, pending_of, starved_of, failed_in, faults_in, last_of};
 
     /// A medium of so many pages that read 0 in every byte, which fails at these stops.
     pub fn new(alloc: Global, pages: u32, stops: Vec<Stop>) -> Result<MemoryMedium, AllocError>
@@ -39,11 +39,11 @@ impl MemoryMedium {
         ensures count { IfOk result (λ m. pages_of m ≡ pages) }
         ensures blank { IfOk result (λ m. IsImage pages (reads_of m) × IsBlankImage (reads_of m)) }
         ensures only { IfOk result (λ m. Only (reads_of m) (leaves m)) }
-        ensures fresh { IfOk result (λ m. events_of m ≡ []) }
+        ensures fresh { IfOk result (λ m. (events_of m ≡ []) × (unsynced_of m ≡ [])) }
         ensures stops { IfOk result (λ m. (stops_of m ≡ stops.items) × (calls_of m ≡ 0) × (pending_of m ≡ None)) }
         ensures open { IfOk result (λ m. (failed_in m ≡ false) × (faults_in m ≡ 0)) }
         ensures unread { IfOk result (λ m. last_of m ≡ None) }
-        ensures starved { IfOk result (λ m. m.starved ≡ 0) }
+        ensures starved { IfOk result (λ m. starved_of m ≡ 0) }
     {
         let past = Past::new(alloc, pages)?;
         Ok(MemoryMedium {
@@ -61,11 +61,19 @@ impl MemoryMedium {
         })
     }
 
+    /// How many calls failed for want of memory. It stays at 2^64 - 1.
+    pub fn starved(&self) -> u64
+        ensures { result ≡ starved_of self.now }
+    {
+        self.starved
+    }
+
     // Fails as at a stop that tears nothing.
     pub(crate) fn refuse(&mut self) -> MediumFault
         ensures pages { pages_of self.new ≡ pages_of self.old }
         ensures last { last_of self.new ≡ last_of self.old }
         ensures failed { failed_in self.new ≡ true }
+        ensures starved { starved_of self.new ≡ starved_of self.old }
         ensures cause { (faults_in self.old ≤ faults_in self.new) × Rose (faults_in self.old) (faults_in self.new) }
     {
         self.health.fail()
@@ -73,8 +81,9 @@ impl MemoryMedium {
 }
 
 impl Medium for MemoryMedium {
-    ghost use Rattle.medium_port.specs.MemoryMedia.{pages_of, reads_of, leaves, moment_in, left_since_in, unsynced_of, stops_of, calls_of, pending_of, failed_in, faults_in, last_of};
-    ghost use Rattle.medium_port.specs.Disk.{replay, disk_of, only_last, counts_last, reads_left};
+    ghost use Rattle.medium_port.specs.MemoryMedia.{pages_of, reads_of, leaves, moment_in, left_since_in, unsynced_of, pending_of, failed_in, faults_in, last_of, MeetsStops, Writes};
+    ghost use Rattle.medium_port.specs.Disk.{replay, only_last, counts_last, reads_left};
+    ghost use Rattle.medium_port.specs.Pasts.{first_disk, events_in};
 
     ghost tells = { true };
 
@@ -94,11 +103,11 @@ impl Medium for MemoryMedium {
 
     ghost left_since = { left_since_in };
 
-    ghost reads_now = { λ m told. reads_left m.past.count (replay (disk_of m.past.first.items) m.past.events.items) m.past.held.items m.past.sound m.past.replayed };
+    ghost reads_now = { λ m told. reads_left m.past.count (replay (first_disk m.past) (events_in m.past)) m.past.held.items m.past.sound m.past.replayed };
 
-    ghost counts_now = { λ m t c told le now. counts_last m.past.count (disk_of m.past.first.items) m.past.events.items t c le now };
+    ghost counts_now = { λ m t c told le now. counts_last m.past.count (first_disk m.past) (events_in m.past) t c le now };
 
-    ghost only_now = { λ m c told left. only_last m.past.count (disk_of m.past.first.items) m.past.events.items c left };
+    ghost only_now = { λ m c told left. only_last m.past.count (first_disk m.past) (events_in m.past) c left };
 
     ghost shape = { λ m c told left. left.shape };
 
@@ -118,13 +127,9 @@ impl Medium for MemoryMedium {
         ensures size { pages_of self.new ≡ pages_of self.old }
         ensures state { failed_in self.new ≡ is_err result }
         ensures cause { HasCause (faults_in self.old) (faults_in self.new) result }
-        // A call fails exactly where it meets a stop or memory is wanting, and each stop is used once.
-        ensures stopped { IsTrue (is_some (first_met (next_count (calls_of self.old)) None (stops_of self.old))) → IsErr result }
-        ensures failed { IsErr result → IsTrue (is_some (first_met (next_count (calls_of self.old)) None (stops_of self.old))) ⊎ Rose self.old.starved self.new.starved }
-        ensures fed { OnOk result (self.new.starved ≡ self.old.starved) }
-        ensures used { stops_of self.new ≡ without_met (next_count (calls_of self.old)) None (stops_of self.old) }
-        ensures waits { MatchOption (first_met (next_count (calls_of self.old)) None (stops_of self.old)) (pending_of self.new ≡ pending_of self.old) (λ stop. self.new.met ≡ Some stop) }
-        ensures counted { calls_of self.new ≡ next_count (calls_of self.old) }
+        ensures stops { MeetsStops None self.old self.new result }
+        ensures pending { OnOk result (pending_of self.new ≡ pending_of self.old) }
+        ensures unsynced { unsynced_of self.new ≡ unsynced_of self.old }
     {
         self.calls = self.calls.saturating_add(1);
         if let Some(stop) = take_met(&mut self.stops, self.calls, None) {
@@ -132,7 +137,7 @@ impl Medium for MemoryMedium {
             return Err(self.health.fail());
         }
         *into = self.past.held[page as usize];
-        self.last = Some((page, *into));
+        self.last = Some((page, Snapshot::of(into)));
         Ok(())
     }
 
@@ -147,13 +152,10 @@ impl Medium for MemoryMedium {
         ensures size { pages_of self.new ≡ pages_of self.old }
         ensures state { failed_in self.new ≡ is_err result }
         ensures cause { HasCause (faults_in self.old) (faults_in self.new) result }
-        // A call fails exactly where it meets a stop or memory is wanting, and each stop is used once.
-        ensures stopped { IsTrue (is_some (first_met (next_count (calls_of self.old)) (Some (page, at)) (stops_of self.old))) → IsErr result }
-        ensures failed { IsErr result → IsTrue (is_some (first_met (next_count (calls_of self.old)) (Some (page, at)) (stops_of self.old))) ⊎ Rose self.old.starved self.new.starved }
-        ensures fed { OnOk result (self.new.starved ≡ self.old.starved) }
-        ensures used { stops_of self.new ≡ without_met (next_count (calls_of self.old)) (Some (page, at)) (stops_of self.old) }
-        ensures waits { MatchOption (first_met (next_count (calls_of self.old)) (Some (page, at)) (stops_of self.old)) (pending_of self.new ≡ pending_of self.old) (λ stop. self.new.met ≡ Some stop) }
-        ensures counted { calls_of self.new ≡ next_count (calls_of self.old) }
+        ensures stops { MeetsStops (Some (page, at)) self.old self.new result }
+        ensures pending { OnOk result (pending_of self.new ≡ pending_of self.old) }
+        // A write that meets a stop is made, and the next reopening tears it.
+        ensures done { Writes page at bytes.now self.old self.new result }
     {
         self.calls = self.calls.saturating_add(1);
         let met = take_met(&mut self.stops, self.calls, Some((page, at)));
@@ -180,17 +182,14 @@ impl Medium for MemoryMedium {
         ensures size { pages_of self.new ≡ pages_of self.old }
         ensures state { failed_in self.new ≡ is_err result }
         ensures cause { HasCause (faults_in self.old) (faults_in self.new) result }
-        // A call fails exactly where it meets a stop or memory is wanting, and each stop is used once.
-        ensures stopped { IsTrue (is_some (first_met (next_count (calls_of self.old)) None (stops_of self.old))) → IsErr result }
-        ensures failed { IsErr result → IsTrue (is_some (first_met (next_count (calls_of self.old)) None (stops_of self.old))) ⊎ Rose self.old.starved self.new.starved }
-        ensures fed { OnOk result (self.new.starved ≡ self.old.starved) }
-        ensures used { stops_of self.new ≡ without_met (next_count (calls_of self.old)) None (stops_of self.old) }
-        ensures waits { MatchOption (first_met (next_count (calls_of self.old)) None (stops_of self.old)) (pending_of self.new ≡ pending_of self.old) (λ stop. self.new.met ≡ Some stop) }
-        ensures counted { calls_of self.new ≡ next_count (calls_of self.old) }
+        ensures stops { MeetsStops None self.old self.new result }
+        ensures pending { OnOk result (pending_of self.new ≡ pending_of self.old) }
+        ensures unsynced { OnOk result (unsynced_of self.new ≡ []) }
+        ensures unsynced_err { OnErr result (unsynced_of self.new ≡ unsynced_of self.old) }
     {
         self.calls = self.calls.saturating_add(1);
-        if let Some(stop) = take_met(&mut self.stops, self.calls, None) {
-            self.met = Some(stop);
+        if let Some(at_sync) = take_met(&mut self.stops, self.calls, None) {
+            self.met = Some(at_sync);
             return Err(self.health.fail());
         }
         if !self.past.sync() {
@@ -208,16 +207,11 @@ impl Medium for MemoryMedium {
         ensures size { pages_of self.new ≡ pages_of self.old }
         ensures state { failed_in self.new ≡ is_err result }
         ensures cause { HasCause (faults_in self.old) (faults_in self.new) result }
-        // A call fails exactly where it meets a stop or memory is wanting, and each stop is used once.
-        ensures stopped { IsTrue (is_some (first_met (next_count (calls_of self.old)) None (stops_of self.old))) → IsErr result }
-        ensures failed { IsErr result → IsTrue (is_some (first_met (next_count (calls_of self.old)) None (stops_of self.old))) ⊎ Rose self.old.starved self.new.starved }
-        ensures fed { OnOk result (self.new.starved ≡ self.old.starved) }
-        ensures used { stops_of self.new ≡ without_met (next_count (calls_of self.old)) None (stops_of self.old) }
-        ensures waits { MatchOption (first_met (next_count (calls_of self.old)) None (stops_of self.old)) (OnErr result (pending_of self.new ≡ pending_of self.old)) (λ stop. pending_of self.new ≡ Some stop) }
+        ensures stops { MeetsStops None self.old self.new result }
         ensures done { OnOk result (pending_of self.new ≡ None) }
         // The stop that was waiting has torn what was written and not synced.
         ensures torn { OnOk result (reads_of self.new ≡ after_stop (pending_of self.old) (unsynced_of self.old) (reads_of self.old)) }
-        ensures counted { calls_of self.new ≡ next_count (calls_of self.old) }
+        ensures unsynced { unsynced_of self.new ≡ unsynced_of self.old }
     {
         self.calls = self.calls.saturating_add(1);
         if let Some(stop) = take_met(&mut self.stops, self.calls, None) {

@@ -22,8 +22,7 @@ pub struct MemoryShelf {
     slots: Vec<Slot>,
     fails: Vec<MediumName>,
     faults: u64,
-    /// How many takings failed for want of memory. It stays at 2^64 - 1.
-    pub starved: u64,
+    starved: u64,
     ghost some: { 1 ≤ pages },
     ghost most: { pages ≤ 1048576 },
     ghost size: { length zero ≡ 4096 },
@@ -33,7 +32,7 @@ pub struct MemoryShelf {
 
 impl MemoryShelf {
     ghost use Rattle.medium_port.specs.MemoryMedia.{failed_in};
-    ghost use Rattle.medium_port.specs.MemoryShelves.{under, failing, new_pages, shelf_faults, NowUnder, SameUnder, SameCounts};
+    ghost use Rattle.medium_port.specs.MemoryShelves.{under, failing, new_pages, shelf_faults, shelf_starved, NowUnder, SameUnder, SameCounts};
 
     /// A shelf whose blank media have so many pages.
     pub fn new(alloc: Global, pages: u32) -> MemoryShelf
@@ -42,7 +41,7 @@ impl MemoryShelf {
         ensures empty { (name : MediumName) → under result name ≡ None }
         ensures all_well { failing result ≡ [] }
         ensures pages { new_pages result ≡ pages }
-        ensures faults { (shelf_faults result ≡ 0) × (result.starved ≡ 0) }
+        ensures faults { (shelf_faults result ≡ 0) × (shelf_starved result ≡ 0) }
     {
         MemoryShelf {
             alloc,
@@ -53,6 +52,13 @@ impl MemoryShelf {
             faults: 0,
             starved: 0,
         }
+    }
+
+    /// How many takings failed for want of memory. It stays at 2^64 - 1.
+    pub fn starved(&self) -> u64
+        ensures { result ≡ shelf_starved self.now }
+    {
+        self.starved
     }
 
     /// Puts a medium to be handed out under a name, also where that name was taken. After a refusal
@@ -134,7 +140,7 @@ impl Shelf for MemoryShelf {
 
     ghost use Rattle.medium_port.specs.Names.{IsJustSo};
     ghost use Rattle.medium_port.specs.MemoryMedia.{reads_of, leaves, failed_in, faults_in};
-    ghost use Rattle.medium_port.specs.MemoryShelves.{TakenFrom, image_under, LeftUnder, faults_under, failing, new_pages, shelf_faults};
+    ghost use Rattle.medium_port.specs.MemoryShelves.{TakenFrom, image_under, LeftUnder, faults_under, failing, new_pages, shelf_faults, shelf_starved};
 
     ghost is_taken = { TakenFrom };
 
@@ -161,8 +167,8 @@ impl Shelf for MemoryShelf {
         ensures cause { HasCause (shelf_faults self.old) (shelf_faults self.new) result }
         // A taking fails exactly where the name is listed, was taken, or memory is wanting.
         ensures listed { Contains (failing self.old) (record { kind = kind; number = number; volume = volume }) → IsErr result }
-        ensures failed { IsErr result → Contains (failing self.old) (record { kind = kind; number = number; volume = volume }) ⊎ (TakenFrom self.old (record { kind = kind; number = number; volume = volume }) ⊎ Rose self.old.starved self.new.starved) }
-        ensures fed { OnOk result (self.new.starved ≡ self.old.starved) }
+        ensures failed { IsErr result → Contains (failing self.old) (record { kind = kind; number = number; volume = volume }) ⊎ (TakenFrom self.old (record { kind = kind; number = number; volume = volume }) ⊎ Rose (shelf_starved self.old) (shelf_starved self.new)) }
+        ensures fed { OnOk result (shelf_starved self.new ≡ shelf_starved self.old) }
         ensures list { failing self.new ≡ failing self.old }
         ensures pages { new_pages self.new ≡ new_pages self.old }
     {

@@ -1,44 +1,65 @@
-ghost use Rattle.std.specs.Prelude.{◌≡◌, ◌+◌, ◌<◌, ◌≤◌, ◌++◌, [], ◌∷◌, ℕ, Option, length, drop, slice_index, true, MatchBool, IfOk, IfSome};
+ghost use Rattle.std.specs.Prelude.{◌≡◌, ◌+◌, ◌<◌, ◌≤◌, ◌++◌, [], ◌∷◌, ℕ, Option, length, slice_index, true, MatchBool, IfOk, IfSome};
 ghost use Rattle.medium_port.specs.Image.{IsImage, IsBlankImage, page_of, put_bytes, Torn, Follows, Only, NoMore};
 ghost use Rattle.medium_port.specs.Stops.{torn_bytes};
-ghost use Rattle.medium_port.specs.Disk.{replay, disk_of, spans_of, after_stop, damaged, SpansFit, IsSound};
-ghost use Rattle.medium_port.specs.declared.events.Event.TheVariants.{Wrote, Synced, Reopened};
+ghost use Rattle.medium_port.specs.Disk.{replay, disk_of, happened, spans_of, after_stop, damaged, SpansFit, IsSound};
+ghost use Rattle.medium_port.specs.declared.events.Event.TheVariants.{Wrote};
 
 use crate::events::{Event, WrittenBytes};
 use crate::stops::Stop;
 use std::alloc::{AllocError, Global};
+use std::snapshot::Snapshot;
 
-// The pages of a medium in memory, and all that was done to them.
+// The pages of a medium in memory, and what was written to them since the last sync. Of all that was
+// done to them contracts alone see the rest: a snapshot has no bytes.
 #[derive(Drop)]
 pub struct Past {
     pub count: u32,
-    pub first: Vec<[u8; 4096]>,
     pub held: Vec<[u8; 4096]>,
-    pub events: Vec<Event>,
-    // How many of the events there were at the last sync.
-    pub synced: usize,
-    ghost replayed: { held.items ≡ (replay (disk_of first.items) events.items).reads },
-    ghost sound: { IsSound count (replay (disk_of first.items) events.items) },
-    ghost within: { synced ≤ length events.items },
-    ghost unsynced: { spans_of (drop synced events.items) ≡ (replay (disk_of first.items) events.items).unsynced },
+    // The writes since the last sync, also those that a stop met.
+    pub unsynced: Vec<Event>,
+    pub first: Snapshot<Vec<[u8; 4096]>>,
+    pub events: Vec<Snapshot<Event>>,
+    ghost replayed: { held.items ≡ (replay (disk_of first.value.items) (happened events.items)).reads },
+    ghost sound: { IsSound count (replay (disk_of first.value.items) (happened events.items)) },
+    ghost tied: { spans_of unsynced.items ≡ (replay (disk_of first.value.items) (happened events.items)).unsynced },
 }
 
-// Whether there was memory to keep the write.
-fn keep_write(alloc: Global, events: &mut Vec<Event>, page: u32, at: u16, bytes: &[u8]) -> bool
-    ensures { MatchBool result (events.new.items ≡ events.old.items ++ Wrote page at bytes.now ∷ []) (events.new.items ≡ events.old.items) }
+// Whether there was memory to remember what was done.
+fn keep(events: &mut Vec<Snapshot<Event>>, event: &Event) -> bool
+    ensures { MatchBool result (happened events.new.items ≡ happened events.old.items ++ event.now ∷ []) (events.new.items ≡ events.old.items) }
+{
+    events.push(Snapshot::of(event)).is_ok()
+}
+
+// Whether there was memory to keep an event that wasn't synced yet.
+fn add(unsynced: &mut Vec<Event>, events: &mut Vec<Snapshot<Event>>, event: Event) -> bool
+    ensures events { MatchBool result (happened events.new.items ≡ happened events.old.items ++ event ∷ []) (events.new.items ≡ events.old.items) }
+    ensures unsynced { MatchBool result (unsynced.new.items ≡ unsynced.old.items ++ event ∷ []) (unsynced.new.items ≡ unsynced.old.items) }
+{
+    if events.push(Snapshot::of(&event)).is_err() {
+        return false;
+    }
+    if unsynced.push(event).is_err() {
+        events.pop();
+        return false;
+    }
+    true
+}
+
+// Whether there was memory to keep the bytes of a write.
+fn keep_write(
+    alloc: Global,
+    unsynced: &mut Vec<Event>,
+    events: &mut Vec<Snapshot<Event>>,
+    page: u32,
+    at: u16,
+    bytes: &[u8],
+) -> bool
+    ensures events { MatchBool result (happened events.new.items ≡ happened events.old.items ++ Wrote page at bytes.now ∷ []) (events.new.items ≡ events.old.items) }
+    ensures unsynced { MatchBool result (unsynced.new.items ≡ unsynced.old.items ++ Wrote page at bytes.now ∷ []) (unsynced.new.items ≡ unsynced.old.items) }
 {
     match WrittenBytes::copy_of(alloc, bytes) {
-        Ok(copy) => keep(events, Event::Wrote(page, at, copy)),
-        Err(_) => false,
-    }
-}
-
-// Whether there was memory to keep what was done.
-fn keep(events: &mut Vec<Event>, event: Event) -> bool
-    ensures { MatchBool result (events.new.items ≡ events.old.items ++ event ∷ []) (events.new.items ≡ events.old.items) }
-{
-    match events.push(event) {
-        Ok(()) => true,
+        Ok(copy) => add(unsynced, events, Event::Wrote(page, at, copy)),
         Err(_) => false,
     }
 }
@@ -107,13 +128,6 @@ fn tear_after(pages: &mut Vec<[u8; 4096]>, events: &[Event], stop: Option<Stop>)
     }
 }
 
-fn since(events: &[Event], synced: usize) -> &[Event]
-    requires { synced ≤ length events.now }
-    ensures { result.now ≡ drop synced events.now }
-{
-    &events[synced..]
-}
-
 pub fn zero_page() -> [u8; 4096]
     ensures size { length result ≡ 4096 }
     ensures zero { (k : ℕ) → slice_index result k ≡ 0 }
@@ -134,22 +148,23 @@ fn blank_pages(alloc: Global, count: u32) -> Result<Vec<[u8; 4096]>, AllocError>
 }
 
 impl Past {
-    ghost use Rattle.medium_port.specs.Pasts.{left_now, Grows};
+    ghost use Rattle.medium_port.specs.Pasts.{events_in, unsynced_in, left_now, Grows, IsWrittenTo, IsAsBefore};
 
     pub fn new(alloc: Global, count: u32) -> Result<Past, AllocError>
         ensures count { IfOk result (λ p. p.count ≡ count) }
+        ensures shape { IfOk result (λ p. IsImage count p.held.items) }
         ensures blank { IfOk result (λ p. IsBlankImage p.held.items) }
-        ensures fresh { IfOk result (λ p. p.events.items ≡ []) }
+        ensures fresh { IfOk result (λ p. (events_in p ≡ []) × (unsynced_in p ≡ [])) }
         ensures only { IfOk result (λ p. Only p.held.items (left_now p)) }
     {
-        let first = blank_pages(alloc, count)?;
         let held = blank_pages(alloc, count)?;
+        let first = Snapshot::of(&held);
         Ok(Past {
             count,
-            first,
             held,
+            unsynced: Vec::new(alloc),
+            first,
             events: Vec::new(alloc),
-            synced: 0,
         })
     }
 
@@ -157,13 +172,12 @@ impl Past {
     pub fn write(&mut self, alloc: Global, page: u32, at: u16, bytes: &[u8]) -> bool
         requires page { page < self.old.count }
         requires range { at + length bytes.now ≤ 4096 }
-        ensures reads { MatchBool result (self.new.held.items ≡ put_bytes page at bytes.now self.old.held.items) (self.new.held.items ≡ self.old.held.items) }
-        ensures events { MatchBool result (self.new.events.items ≡ self.old.events.items ++ Wrote page at bytes.now ∷ []) (self.new.events.items ≡ self.old.events.items) }
+        ensures done { MatchBool result (IsWrittenTo page at bytes.now self.old self.new) (IsAsBefore self.old self.new) }
         ensures crash { Follows (Torn page at (length bytes.now)) (left_now self.old) (left_now self.new) }
         ensures time { Grows self.old self.new }
         ensures count { self.new.count ≡ self.old.count }
     {
-        if !keep_write(alloc, &mut self.events, page, at, bytes) {
+        if !keep_write(alloc, &mut self.unsynced, &mut self.events, page, at, bytes) {
             return false;
         }
         write_bytes(&mut self.held, page, at, bytes);
@@ -173,36 +187,32 @@ impl Past {
     // Whether there was memory to sync.
     pub fn sync(&mut self) -> bool
         ensures reads { self.new.held.items ≡ self.old.held.items }
-        ensures events { MatchBool result (self.new.events.items ≡ self.old.events.items ++ Synced ∷ []) (self.new.events.items ≡ self.old.events.items) }
+        ensures unsynced { MatchBool result (unsynced_in self.new ≡ []) (unsynced_in self.new ≡ unsynced_in self.old) }
         ensures durable { result ≡ true → Only self.old.held.items (left_now self.new) }
         ensures crash { NoMore (left_now self.old) (left_now self.new) }
         ensures time { Grows self.old self.new }
         ensures count { self.new.count ≡ self.old.count }
     {
-        if !keep(&mut self.events, Event::Synced) {
+        if !keep(&mut self.events, &Event::Synced) {
             return false;
         }
-        self.synced = self.events.len();
+        self.unsynced.clear();
         true
     }
 
     // Whether there was memory to reopen, after this stop.
     pub fn reopen(&mut self, stop: Option<Stop>) -> bool
-        ensures reads { MatchBool result (self.new.held.items ≡ after_stop stop (spans_of (drop self.old.synced self.old.events.items)) self.old.held.items) (self.new.held.items ≡ self.old.held.items) }
-        ensures events { MatchBool result (self.new.events.items ≡ self.old.events.items ++ Reopened stop ∷ []) (self.new.events.items ≡ self.old.events.items) }
+        ensures reads { MatchBool result (self.new.held.items ≡ after_stop stop (unsynced_in self.old) self.old.held.items) (self.new.held.items ≡ self.old.held.items) }
+        ensures unsynced { unsynced_in self.new ≡ unsynced_in self.old }
         ensures one { result ≡ true → left_now self.old self.new.held.items }
         ensures crash { NoMore (left_now self.old) (left_now self.new) }
         ensures time { Grows self.old self.new }
         ensures count { self.new.count ≡ self.old.count }
     {
-        if !keep(&mut self.events, Event::Reopened(stop)) {
+        if !keep(&mut self.events, &Event::Reopened(stop)) {
             return false;
         }
-        tear_after(
-            &mut self.held,
-            since(self.events.as_slice(), self.synced),
-            stop,
-        );
+        tear_after(&mut self.held, self.unsynced.as_slice(), stop);
         true
     }
 }

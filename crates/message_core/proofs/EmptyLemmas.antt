@@ -7,7 +7,7 @@ use Rattle.std.specs.declared.collections.VecDeque.{VecDeque}
 use Rattle.std.proofs.Math.Seq.{take-suc}
 use Rattle.std.proofs.lemmas.List.Folds.{list_any-append}
 use Rattle.pseudo_time.specs.declared.nodes.NodeId.{NodeId}
-use Rattle.message_core.specs.Nodes.{same_node}
+use Rattle.pseudo_time.specs.Nodes.{same_node}
 use Rattle.message_core.specs.Queues.{queue_in}
 use Rattle.message_core.proofs.NodeLemmas.{same_is}
 use Rattle.message_core.proofs.QueueLemmas.{Puts, deque_at}

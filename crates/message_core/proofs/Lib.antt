@@ -7,3 +7,4 @@ pub mod SoundLemmas
 pub mod StateLemmas
 pub mod TakeLemmas
 pub mod TallyLemmas
+pub mod StayLemmas

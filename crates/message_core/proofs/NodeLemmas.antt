@@ -9,7 +9,7 @@ use Rattle.pseudo_time.specs.declared.nodes.NodeId.{NodeId}
 use Rattle.pseudo_time.specs.declared.nodes.NodeKind.{NodeKind}
 use Rattle.pseudo_time.specs.declared.nodes.NodeKind.TheVariants.{Repository, Broker}
 use Rattle.pseudo_time.specs.contracts.nodes.NodeIdOrd.TheImpl as order
-use Rattle.message_core.specs.Nodes.{kind_number, same_node}
+use Rattle.pseudo_time.specs.Nodes.{kind_number, same_node}
 
 same_number : (m n : ℕ) → is_eq (nat_cmp m n) ≡ (m == n)
 same_number m n = search rules

@@ -11,7 +11,7 @@ use Rattle.std.proofs.Math.Seq.{take-append_seam, take-suc}
 use Rattle.std.proofs.lemmas.List.Elements.{filter-append}
 use Rattle.pseudo_time.specs.declared.nodes.NodeId.{NodeId}
 use Rattle.message_core.specs.declared.letters.Held.{Held}
-use Rattle.message_core.specs.Nodes.{same_node}
+use Rattle.pseudo_time.specs.Nodes.{same_node}
 use Rattle.message_core.specs.Flights.{going_to, put, puts}
 use Rattle.message_core.specs.Queues.{queue_in, Grew}
 use Rattle.message_core.proofs.NodeLemmas.{same_is, finds_same, found_same}

@@ -8,7 +8,7 @@ use Rattle.stream_port.specs.declared.fates.Fate.{Fate}
 use Rattle.stream_port.specs.Fates.{copies_of}
 use Rattle.message_core.specs.declared.letters.Letter.{Letter}
 use Rattle.message_core.specs.declared.letters.Held.{Held}
-use Rattle.message_core.specs.Nodes.{same_node}
+use Rattle.pseudo_time.specs.Nodes.{same_node}
 use Rattle.message_core.specs.Flights.{State, put, puts, next_number, sent_at_once, sent_later, sent, taken, going_to, passed, was_shut, start}
 use Rattle.message_core.specs.Sound.{WentTo, AllWentTo, AllWent, HasText, IsSound}
 use Rattle.pseudo_time.proofs.ListLemmas.{every-map, every-append}

@@ -1,5 +1,5 @@
 -- The tally of a flight stays true at each call.
-use Rattle.std.proofs.Common.{◌≡◌, ℕ, zero, suc, ◌+◌, ◌≤◌, ◌==◌, ◌&&◌, nat_le, nat_lt, Bool, true, false, cond, List, [], ◌∷◌, ◌++◌, length, take, drop, map, replicate, refl, sym, ap, ◌∙◌, arith}
+use Rattle.std.proofs.Common.{subst, ◌<◌, ◌≡◌, ℕ, zero, suc, ◌+◌, ◌≤◌, ◌==◌, ◌&&◌, nat_le, nat_lt, Bool, true, false, cond, List, [], ◌∷◌, ◌++◌, length, take, drop, map, replicate, refl, sym, ap, ◌∙◌, arith}
 use Rattle.std.specs.Prelude.{Option, Some, None, slice_get, if◌then◌else◌}
 use Rattle.std.specs.Option.{option_map, unwrap_or}
 use Rattle.std.specs.List.{filter, list_any}
@@ -11,9 +11,10 @@ use Rattle.stream_port.specs.declared.fates.Fate.{Fate}
 use Rattle.stream_port.specs.Fates.{copies_of}
 use Rattle.message_core.specs.declared.letters.Letter.{Letter}
 use Rattle.message_core.specs.declared.letters.Held.{Held}
-use Rattle.message_core.specs.Nodes.{same_node}
-use Rattle.message_core.specs.Flights.{State, Call, Send, Take, Pass, Shut, puts, next_number, sent_at_once, sent_later, sent, taken, going_to, passed, was_shut, step, flown, start}
-use Rattle.message_core.specs.Tallies.{count, Sending, Ledger, noted, blank_ledger, all_noted, sending_of, came, waits_for, Tallied}
+use Rattle.pseudo_time.specs.Nodes.{same_node}
+use Rattle.message_core.specs.Flights.{State, Call, Send, Take, Pass, Shut, puts, next_number, sent_at_once, sent_later, sent, taken, going_to, passed, was_shut, step, flown, start, waiting}
+use Rattle.message_core.specs.Tallies.{count, Sending, Ledger, noted, blank_ledger, all_noted, numbered, came, waits_for, took, Tallied, IsDue}
+use Rattle.message_core.proofs.NodeLemmas.{same_is, same_node-refl}
 use Rattle.message_core.proofs.QueueLemmas.{going_to-append}
 use Rattle.message_core.proofs.SoundLemmas.{Of, of_all, all_of, of_map}
 use Rattle.message_core.proofs.Counting.{count-append, count-split, count-puts}
@@ -37,16 +38,16 @@ placed : (m number k : ℕ) (b : Bool) → number ≡ m + 1 → (number == suc k
 placed m number k true is at = grind (arith, nat_tests)
 placed m number k false is at = grind (arith, nat_tests)
 
-sending_at : (ss : List Sending) (x : Sending) (number k : ℕ) (b : Bool) → (number == k) ≡ b → number ≡ length ss + 1 → sending_of (ss ++ x ∷ []) k ≡ (if b then Some x else sending_of ss k)
+sending_at : (ss : List Sending) (x : Sending) (number k : ℕ) (b : Bool) → (number == k) ≡ b → number ≡ length ss + 1 → numbered (ss ++ x ∷ []) k ≡ (if b then Some x else numbered ss k)
 sending_at ss x number zero true at is = absurd (let never : ⊥ = grind (arith, nat_tests) in never)
 sending_at ss x number zero false at is = refl
 sending_at ss x number (suc k) b at is = got_at ss x k b (placed (length ss) number k b is at)
 
-pub sending_now : (ss : List Sending) (x : Sending) (number k : ℕ) → number ≡ length ss + 1 → sending_of (ss ++ x ∷ []) k ≡ (if number == k then Some x else sending_of ss k)
+pub sending_now : (ss : List Sending) (x : Sending) (number k : ℕ) → number ≡ length ss + 1 → numbered (ss ++ x ∷ []) k ≡ (if number == k then Some x else numbered ss k)
 sending_now ss x number zero is = sending_at ss x number zero (number == 0) refl is
 sending_now ss x number (suc k) is = sending_at ss x number (suc k) (number == suc k) refl is
 
-pub sending_before : (ss : List Sending) (number k : ℕ) → number ≡ length ss + 1 → (number == k) ≡ true → sending_of ss k ≡ None
+pub sending_before : (ss : List Sending) (number k : ℕ) → number ≡ length ss + 1 → (number == k) ≡ true → numbered ss k ≡ None
 sending_before ss number zero is at = refl
 sending_before ss number (suc k) is at = slice_get_past ss k (let same : number ≡ suc k = grind (arith, nat_tests) in omega (arith, is, same))
 
@@ -145,21 +146,21 @@ ends false old new mine held copies true n c is none own now = omega (arith, c, 
 ends false old new mine held copies false n c is none own now = omega (arith, c, is, now)
 
 module _ (s : State) (l : Ledger) (t : Tallied s l) where
-  due_of : (k : ℕ) (node : NodeId) → Of (λ queue. count k queue + count k (l.taken node) ≡ came node s.ticks (sending_of l.sendings k)) (s.queues node)
-  due_of k node = of_all (λ queue. count k queue + count k (l.taken node) ≡ came node s.ticks (sending_of l.sendings k)) (s.queues node) (t.due k node)
+  due_of : (k : ℕ) (node : NodeId) → Of (λ queue. count k queue + took node (count k l.taken) (numbered l.sendings k) ≡ came node s.ticks (numbered l.sendings k)) (s.queues node)
+  due_of k node = of_all (λ queue. count k queue + took node (count k l.taken) (numbered l.sendings k) ≡ came node s.ticks (numbered l.sendings k)) (s.queues node) (t.due k node)
 
   pub tallied_passed : Tallied (passed s) l
   tallied_passed = record {
-    numbered = t.numbered;
+    as_many = t.as_many;
     due = λ k node queue is.
-        let o = sending_of l.sendings k in
+        let o = numbered l.sendings k in
         let arriving = going_to node (s.held (s.ticks + 1)) in
-        all_of (λ q. count k q + count k (l.taken node) ≡ came node (s.ticks + 1) o) _ queue
-        (of_map (λ q. count k q + count k (l.taken node) ≡ came node s.ticks o) (λ q. count k q + count k (l.taken node) ≡ came node (s.ticks + 1) o) (λ q. q ++ arriving) (s.queues node)
+        all_of (λ q. count k q + took node (count k l.taken) (numbered l.sendings k) ≡ came node (s.ticks + 1) o) _ queue
+        (of_map (λ q. count k q + took node (count k l.taken) (numbered l.sendings k) ≡ came node s.ticks o) (λ q. count k q + took node (count k l.taken) (numbered l.sendings k) ≡ came node (s.ticks + 1) o) (λ q. q ++ arriving) (s.queues node)
         (λ q old. let a = count-append k q arriving in let h = t.held k node (s.ticks + 1) in let m = came_more node s.ticks o in omega (arith, a, h, m, old))
         (due_of k node)) is;
-    most = λ k node. let m = came_more node s.ticks (sending_of l.sendings k) in let old = t.most k node in omega (arith, m, old);
-    held = λ k node d. none_left k node (s.ticks + 1 == d) (s.held d) ∙ ap (cond (s.ticks + 1 == d) 0) (t.held k node d) ∙ sym (waits_on node s.ticks d (s.ticks + 1 == d) (sending_of l.sendings k) refl);
+    most = λ k node. let m = came_more node s.ticks (numbered l.sendings k) in let old = t.most k node in omega (arith, m, old);
+    held = λ k node d. none_left k node (s.ticks + 1 == d) (s.held d) ∙ ap (cond (s.ticks + 1 == d) 0) (t.held k node d) ∙ sym (waits_on node s.ticks d (s.ticks + 1 == d) (numbered l.sendings k) refl);
   }
 
   shut_at : (P : List ℕ → Type 0) (b : Bool) (o : Option (List ℕ)) → Of P o → Of P (if b then None else o)
@@ -168,29 +169,79 @@ module _ (s : State) (l : Ledger) (t : Tallied s l) where
 
   pub tallied_shut : (node : NodeId) → Tallied (was_shut s node) l
   tallied_shut node = record {
-    numbered = t.numbered;
-    due = λ k n queue is. all_of (λ q. count k q + count k (l.taken n) ≡ came n s.ticks (sending_of l.sendings k)) _ queue (shut_at _ (same_node node n) (s.queues n) (due_of k n)) is;
+    as_many = t.as_many;
+    due = λ k n queue is. all_of (λ q. count k q + took n (count k l.taken) (numbered l.sendings k) ≡ came n s.ticks (numbered l.sendings k)) _ queue (shut_at _ (same_node node n) (s.queues n) (due_of k n)) is;
     most = t.most;
     held = t.held;
   }
 
-  taken_at : (k e : ℕ) (b : Bool) (o : Option (List ℕ)) (took : List ℕ) → Of (λ q. count k q + count k took ≡ e) o → Of (λ q. count k q + count k (if b then took ++ take 1 (unwrap_or o []) else took) ≡ e) (if b then option_map (drop 1) o else o)
-  taken_at k e true None took of = tt {0}
-  taken_at k e true (Some q) took of = let a = count-append k took (take 1 q) in let c = count-split k 1 q in omega (arith, a, c, of)
-  taken_at k e false None took of = tt {0}
-  taken_at k e false (Some q) took of = of
+  abbrev T : (k : ℕ) (node : NodeId) → ℕ
+  T k node = took node (count k l.taken) (numbered l.sendings k)
 
-  most_at : (k e : ℕ) (b : Bool) (o : Option (List ℕ)) (took : List ℕ) → Of (λ q. count k q + count k took ≡ e) o → count k took ≤ e → count k (if b then took ++ take 1 (unwrap_or o []) else took) ≤ e
-  most_at k e true None took of most = let a = count-append k took [] in omega (arith, a, most)
-  most_at k e true (Some q) took of most = let a = count-append k took (take 1 q) in let c = count-split k 1 q in omega (arith, a, c, of)
-  most_at k e false o took of most = most
+  abbrev front-of : NodeId → List ℕ
+  front-of node = take 1 (waiting s node)
+
+  none_at : (k : ℕ) (o : Option (List ℕ)) (e c : ℕ) → Of (λ q. count k q + c ≡ e) o → e ≡ 0 → count k (take 1 (unwrap_or o [])) ≡ 0
+  none_at k None e c of is = refl
+  none_at k (Some q) e c of is = let a = count-split k 1 q in omega (arith, a, of, is)
+
+  -- at a node that the message didn't go to none is taken
+  none_taken : (k : ℕ) (node : NodeId) → came node s.ticks (numbered l.sendings k) ≡ 0 → count k (front-of node) ≡ 0
+  none_taken k node is = none_at k (s.queues node) (came node s.ticks (numbered l.sendings k)) (T k node) (due_of k node) is
+
+  more_taken : (k : ℕ) (node : NodeId) → count k (l.taken ++ front-of node) ≡ count k l.taken + count k (front-of node)
+  more_taken k node = count-append k l.taken (front-of node)
+
+  -- what the node itself took more
+  took_own : (node : NodeId) (c d : ℕ) (o : Option Sending) → (came node s.ticks o ≡ 0 → d ≡ 0) → took node (c + d) o ≡ took node c o + d
+  took_own node c d None none = refl
+  took_own node c d (Some x) none = go (same_node x.to node) refl
+    where
+      go : (b : Bool) → same_node x.to node ≡ b → cond b (c + d) 0 ≡ cond b c 0 + d
+      go true at = refl
+      go false at = let z = none (ap (λ b. cond (b && nat_le (x.ticks + x.fate.hold) s.ticks) (copies_of x.fate) 0) at) in omega (arith, z)
+
+  -- what another node took is nothing more
+  took_other : (node n : NodeId) (c d : ℕ) (o : Option Sending) → same_node node n ≡ false → (came node s.ticks o ≡ 0 → d ≡ 0) → took n (c + d) o ≡ took n c o
+  took_other node n c d None apart none = ap (λ z. c + z) (none refl) ∙ (let e : c + 0 ≡ c = omega arith in e)
+  took_other node n c d (Some x) apart none = go (same_node x.to node) refl
+    where
+      same : same_node x.to node ≡ true → same_node x.to n ≡ false
+      same at = ap (λ z. same_node z n) (same_is x.to node at) ∙ apart
+
+      go : (b : Bool) → same_node x.to node ≡ b → cond (same_node x.to n) (c + d) 0 ≡ cond (same_node x.to n) c 0
+      go true at = ap (λ b. cond b (c + d) 0) (same at) ∙ sym (ap (λ b. cond b c 0) (same at))
+      go false at = ap (λ z. cond (same_node x.to n) z 0)
+          (ap (λ z. c + z) (none (ap (λ b. cond (b && nat_le (x.ticks + x.fate.hold) s.ticks) (copies_of x.fate) 0) at)) ∙ (let e : c + 0 ≡ c = omega arith in e))
+
+  took_at : (k : ℕ) (node n : NodeId) → took n (count k (l.taken ++ front-of node)) (numbered l.sendings k) ≡ (if same_node node n then T k n + count k (front-of n) else T k n)
+  took_at k node n = go (same_node node n) refl
+    where
+      go : (b : Bool) → same_node node n ≡ b → took n (count k (l.taken ++ front-of node)) (numbered l.sendings k) ≡ (if b then T k n + count k (front-of n) else T k n)
+      go true at =
+          ap (λ z. took n z (numbered l.sendings k)) (more_taken k node ∙ ap (λ z. count k l.taken + count k (front-of z)) (same_is node n at))
+          ∙ took_own n (count k l.taken) (count k (front-of n)) (numbered l.sendings k) (none_taken k n)
+      go false at = ap (λ z. took n z (numbered l.sendings k)) (more_taken k node) ∙ took_other node n (count k l.taken) (count k (front-of node)) (numbered l.sendings k) at (none_taken k node)
+
+  taken_at : (k e t u : ℕ) (b : Bool) (o : Option (List ℕ)) → u ≡ (if b then t + count k (take 1 (unwrap_or o [])) else t) → Of (λ q. count k q + t ≡ e) o → Of (λ q. count k q + u ≡ e) (if b then option_map (drop 1) o else o)
+  taken_at k e t u true None is of = tt {0}
+  taken_at k e t u true (Some q) is of = let c = count-split k 1 q in omega (arith, c, of, is)
+  taken_at k e t u false None is of = tt {0}
+  taken_at k e t u false (Some q) is of = omega (arith, of, is)
+
+  most_at : (k e t u : ℕ) (b : Bool) (o : Option (List ℕ)) → u ≡ (if b then t + count k (take 1 (unwrap_or o [])) else t) → Of (λ q. count k q + t ≡ e) o → t ≤ e → u ≤ e
+  most_at k e t u true None is of most = omega (arith, is, most)
+  most_at k e t u true (Some q) is of most = let c = count-split k 1 q in omega (arith, c, of, is)
+  most_at k e t u false o is of most = omega (arith, is, most)
 
   pub tallied_taken : (node : NodeId) → Tallied (taken s node) (noted s l (Take node))
   tallied_taken node = record {
-    numbered = t.numbered;
-    due = λ k n queue is. all_of (λ q. count k q + count k ((noted s l (Take node)).taken n) ≡ came n s.ticks (sending_of l.sendings k)) _ queue
-        (taken_at k (came n s.ticks (sending_of l.sendings k)) (same_node node n) (s.queues n) (l.taken n) (due_of k n)) is;
-    most = λ k n. most_at k (came n s.ticks (sending_of l.sendings k)) (same_node node n) (s.queues n) (l.taken n) (due_of k n) (t.most k n);
+    as_many = t.as_many;
+    due = λ k n queue is.
+        let after = (noted s l (Take node)).taken in
+        all_of (λ q. count k q + took n (count k after) (numbered l.sendings k) ≡ came n s.ticks (numbered l.sendings k)) _ queue
+        (taken_at k (came n s.ticks (numbered l.sendings k)) (T k n) (took n (count k after) (numbered l.sendings k)) (same_node node n) (s.queues n) (took_at k node n) (due_of k n)) is;
+    most = λ k n. most_at k (came n s.ticks (numbered l.sendings k)) (T k n) (took n (count k (noted s l (Take node)).taken) (numbered l.sendings k)) (same_node node n) (s.queues n) (took_at k node n) (due_of k n) (t.most k n);
     held = t.held;
   }
 
@@ -204,29 +255,29 @@ module _ (s : State) (l : Ledger) (t : Tallied s l) where
     more = l.sendings ++ x ∷ []
 
     number_is : next_number s ≡ length l.sendings + 1
-    number_is = ap (λ n. n + 1) t.numbered
+    number_is = ap (λ n. n + 1) t.as_many
 
     numbered_more : length (s.letters ++ letter ∷ []) ≡ length more
-    numbered_more = length-append s.letters (letter ∷ []) ∙ ap (λ n. n + 1) t.numbered ∙ sym (length-append l.sendings (x ∷ []))
+    numbered_more = length-append s.letters (letter ∷ []) ∙ ap (λ n. n + 1) t.as_many ∙ sym (length-append l.sendings (x ∷ []))
 
     came_if : (b : Bool) (node : NodeId) (o : Option Sending) → came node s.ticks (if b then Some x else o) ≡ (if b then came node s.ticks (Some x) else came node s.ticks o)
     came_if true node o = refl
     came_if false node o = refl
 
-    came_now : (k : ℕ) (node : NodeId) → came node s.ticks (sending_of more k) ≡ (if next_number s == k then came node s.ticks (Some x) else came node s.ticks (sending_of l.sendings k))
-    came_now k node = ap (came node s.ticks) (sending_now l.sendings x (next_number s) k number_is) ∙ came_if (next_number s == k) node (sending_of l.sendings k)
+    came_now : (k : ℕ) (node : NodeId) → came node s.ticks (numbered more k) ≡ (if next_number s == k then came node s.ticks (Some x) else came node s.ticks (numbered l.sendings k))
+    came_now k node = ap (came node s.ticks) (sending_now l.sendings x (next_number s) k number_is) ∙ came_if (next_number s == k) node (numbered l.sendings k)
 
     waits_if : (b : Bool) (node : NodeId) (d : ℕ) (o : Option Sending) → waits_for node s.ticks d (if b then Some x else o) ≡ (if b then waits_for node s.ticks d (Some x) else waits_for node s.ticks d o)
     waits_if true node d o = refl
     waits_if false node d o = refl
 
-    waits_now : (k : ℕ) (node : NodeId) (d : ℕ) → waits_for node s.ticks d (sending_of more k) ≡ (if next_number s == k then waits_for node s.ticks d (Some x) else waits_for node s.ticks d (sending_of l.sendings k))
-    waits_now k node d = ap (waits_for node s.ticks d) (sending_now l.sendings x (next_number s) k number_is) ∙ waits_if (next_number s == k) node d (sending_of l.sendings k)
+    waits_now : (k : ℕ) (node : NodeId) (d : ℕ) → waits_for node s.ticks d (numbered more k) ≡ (if next_number s == k then waits_for node s.ticks d (Some x) else waits_for node s.ticks d (numbered l.sendings k))
+    waits_now k node d = ap (waits_for node s.ticks d) (sending_now l.sendings x (next_number s) k number_is) ∙ waits_if (next_number s == k) node d (numbered l.sendings k)
 
-    came_none : (k : ℕ) (node : NodeId) → (next_number s == k) ≡ true → came node s.ticks (sending_of l.sendings k) ≡ 0
+    came_none : (k : ℕ) (node : NodeId) → (next_number s == k) ≡ true → came node s.ticks (numbered l.sendings k) ≡ 0
     came_none k node at = ap (came node s.ticks) (sending_before l.sendings (next_number s) k number_is at)
 
-    waits_none : (k : ℕ) (node : NodeId) (d : ℕ) → (next_number s == k) ≡ true → waits_for node s.ticks d (sending_of l.sendings k) ≡ 0
+    waits_none : (k : ℕ) (node : NodeId) (d : ℕ) → (next_number s == k) ≡ true → waits_for node s.ticks d (numbered l.sendings k) ≡ 0
     waits_none k node d at = ap (waits_for node s.ticks d) (sending_before l.sendings (next_number s) k number_is at)
 
     due_puts : (k T old new mine : ℕ) (same b : Bool) (o : Option (List ℕ)) → (next_number s == k) ≡ b → new ≡ (if b then mine else old) → (b ≡ true → old ≡ 0) → mine ≡ cond same (copies_of fate) 0
@@ -256,6 +307,22 @@ module _ (s : State) (l : Ledger) (t : Tallied s l) where
     held_same n old new mine true is none own held = let z = none refl in omega (arith, z, is, own, held)
     held_same n old new mine false is none own held = omega (arith, is, held)
 
+    -- of a message that is sent just now no copy was taken
+    took_if : (b : Bool) (k : ℕ) (node : NodeId) (o : Option Sending) → (b ≡ true → o ≡ None) → took node (count k l.taken) o ≤ came node s.ticks o
+        → took node (count k l.taken) (if b then Some x else o) ≡ took node (count k l.taken) o
+    took_if false k node o none most = refl
+    took_if true k node None none most = go (same_node x.to node) (count k l.taken) (omega (arith, most))
+      where
+        go : (b : Bool) (c : ℕ) → c ≡ 0 → cond b c 0 ≡ c
+        go true c z = refl
+        go false c z = sym z
+    took_if true k node (Some y) none most = let e : Some y ≡ None = none refl in absurd (cc e)
+
+    took_same : (k : ℕ) (node : NodeId) → took node (count k l.taken) (numbered more k) ≡ T k node
+    took_same k node =
+        ap (took node (count k l.taken)) (sending_now l.sendings x (next_number s) k number_is)
+        ∙ took_if (next_number s == k) k node (numbered l.sendings k) (λ at. sending_before l.sendings (next_number s) k number_is at) (t.most k node)
+
     -- ---- due at once
 
     came_all : (same : Bool) (n hold now : ℕ) → (hold == 0) ≡ true → ◌≡◌ {A = ℕ} (cond (same && nat_le (now + hold) now) n 0) (cond same n 0)
@@ -268,12 +335,12 @@ module _ (s : State) (l : Ledger) (t : Tallied s l) where
 
     pub tallied_at_once : (fate.hold == 0) ≡ true → Tallied (sent_at_once s letter fate) (noted s l (Send letter fate))
     tallied_at_once at = record {
-      numbered = numbered_more;
-      due = λ k node queue is. all_of (λ q. count k q + count k (l.taken node) ≡ came node s.ticks (sending_of more k)) _ queue
-          (due_puts k (count k (l.taken node)) (came node s.ticks (sending_of l.sendings k)) (came node s.ticks (sending_of more k)) (came node s.ticks (Some x)) (same_node letter.to node) (next_number s == k) (s.queues node)
+      as_many = numbered_more;
+      due = λ k node queue is. ap (λ z. count k queue + z) (took_same k node) ∙ all_of (λ q. count k q + T k node ≡ came node s.ticks (numbered more k)) _ queue
+          (due_puts k (T k node) (came node s.ticks (numbered l.sendings k)) (came node s.ticks (numbered more k)) (came node s.ticks (Some x)) (same_node letter.to node) (next_number s == k) (s.queues node)
           refl (came_now k node) (came_none k node) (came_all (same_node letter.to node) (copies_of fate) fate.hold s.ticks at) (due_of k node)) is;
-      most = λ k node. most_more (count k (l.taken node)) (came node s.ticks (sending_of l.sendings k)) (came node s.ticks (sending_of more k)) (came node s.ticks (Some x)) (next_number s == k) (came_now k node) (came_none k node) (t.most k node);
-      held = λ k node d. held_same (count k (going_to node (s.held d))) (waits_for node s.ticks d (sending_of l.sendings k)) (waits_for node s.ticks d (sending_of more k)) (waits_for node s.ticks d (Some x)) (next_number s == k)
+      most = λ k node. subst (λ z. z ≤ came node s.ticks (numbered more k)) (sym (took_same k node)) (most_more (T k node) (came node s.ticks (numbered l.sendings k)) (came node s.ticks (numbered more k)) (came node s.ticks (Some x)) (next_number s == k) (came_now k node) (came_none k node) (t.most k node));
+      held = λ k node d. held_same (count k (going_to node (s.held d))) (waits_for node s.ticks d (numbered l.sendings k)) (waits_for node s.ticks d (numbered more k)) (waits_for node s.ticks d (Some x)) (next_number s == k)
           (waits_now k node d) (waits_none k node d) (waits_no (same_node letter.to node) (copies_of fate) fate.hold s.ticks d at) (t.held k node d);
     }
 
@@ -300,12 +367,12 @@ module _ (s : State) (l : Ledger) (t : Tallied s l) where
 
     pub tallied_later : (fate.hold == 0) ≡ false → Tallied (sent_later s letter fate) (noted s l (Send letter fate))
     tallied_later at = record {
-      numbered = numbered_more;
-      due = λ k node queue is. all_of (λ q. count k q + count k (l.taken node) ≡ came node s.ticks (sending_of more k)) _ queue
-          (due_same k (count k (l.taken node)) (came node s.ticks (sending_of l.sendings k)) (came node s.ticks (sending_of more k)) (came node s.ticks (Some x)) (next_number s == k) (s.queues node)
+      as_many = numbered_more;
+      due = λ k node queue is. ap (λ z. count k queue + z) (took_same k node) ∙ all_of (λ q. count k q + T k node ≡ came node s.ticks (numbered more k)) _ queue
+          (due_same k (T k node) (came node s.ticks (numbered l.sendings k)) (came node s.ticks (numbered more k)) (came node s.ticks (Some x)) (next_number s == k) (s.queues node)
           (came_now k node) (came_none k node) (came_no (same_node letter.to node) (copies_of fate) fate.hold s.ticks at) (due_of k node)) is;
-      most = λ k node. most_more (count k (l.taken node)) (came node s.ticks (sending_of l.sendings k)) (came node s.ticks (sending_of more k)) (came node s.ticks (Some x)) (next_number s == k) (came_now k node) (came_none k node) (t.most k node);
-      held = λ k node d. held_more k (waits_for node s.ticks d (sending_of l.sendings k)) (waits_for node s.ticks d (sending_of more k)) (waits_for node s.ticks d (Some x)) (next_number s == k) (s.ticks + fate.hold == d) node (s.held d)
+      most = λ k node. subst (λ z. z ≤ came node s.ticks (numbered more k)) (sym (took_same k node)) (most_more (T k node) (came node s.ticks (numbered l.sendings k)) (came node s.ticks (numbered more k)) (came node s.ticks (Some x)) (next_number s == k) (came_now k node) (came_none k node) (t.most k node));
+      held = λ k node d. held_more k (waits_for node s.ticks d (numbered l.sendings k)) (waits_for node s.ticks d (numbered more k)) (waits_for node s.ticks d (Some x)) (next_number s == k) (s.ticks + fate.hold == d) node (s.held d)
           refl (waits_now k node d) (waits_none k node d) (waits_all (same_node letter.to node) (copies_of fate) fate.hold s.ticks d at) (t.held k node d);
     }
 
@@ -329,22 +396,74 @@ unfolding flown all_noted
 tallied_flown s l [] t = t
 tallied_flown s l (call ∷ calls) t = tallied_flown (step s call) (noted s l call) calls (tallied_step s l call t)
 
-nothing_came : (node : NodeId) (now k : ℕ) → came node now (sending_of [] k) ≡ 0
+nothing_came : (node : NodeId) (now k : ℕ) → came node now (numbered [] k) ≡ 0
 nothing_came node now zero = refl
 nothing_came node now (suc k) = refl
 
-nothing_waits : (node : NodeId) (now d k : ℕ) → waits_for node now d (sending_of [] k) ≡ 0
+nothing_waits : (node : NodeId) (now d k : ℕ) → waits_for node now d (numbered [] k) ≡ 0
 nothing_waits node now d zero = refl
 nothing_waits node now d (suc k) = refl
 
-empty_at : (k : ℕ) (node : NodeId) (b : Bool) → Of (λ q. count k q + 0 ≡ came node 0 (sending_of [] k)) (if b then Some [] else None)
+nothing_took : (node : NodeId) (k : ℕ) → took node 0 (numbered [] k) ≡ 0
+nothing_took node zero = refl
+nothing_took node (suc k) = refl
+
+empty_at : (k : ℕ) (node : NodeId) (b : Bool) → Of (λ q. count k q + 0 ≡ came node 0 (numbered [] k)) (if b then Some [] else None)
 empty_at k node true = sym (nothing_came node 0 k)
 empty_at k node false = tt {0}
 
 pub tallied_start : (nodes : List NodeId) → Tallied (start nodes) blank_ledger
 tallied_start nodes = record {
-  numbered = refl;
-  due = λ k node queue is. all_of (λ q. count k q + 0 ≡ came node 0 (sending_of [] k)) _ queue (empty_at k node (list_any (λ m. same_node m node) nodes)) is;
-  most = λ k node. omega arith;
+  as_many = refl;
+  due = λ k node queue is. ap (λ z. count k queue + z) (nothing_took node k) ∙ all_of (λ q. count k q + 0 ≡ came node 0 (numbered [] k)) _ queue (empty_at k node (list_any (λ m. same_node m node) nodes)) is;
+  most = λ k node. let z = nothing_took node k in omega (arith, z);
   held = λ k node d. sym (nothing_waits node 0 d k);
 }
+
+-- ---- what a queue says of the counts
+
+ripe-parts : (a b : Bool) (n : ℕ) → 1 ≤ cond (a && b) n 0 → (a ≡ true) × (b ≡ true) × (cond (a && b) n 0 ≡ n)
+ripe-parts true true n h = (refl, refl, refl)
+ripe-parts true false n h = absurd (let never : ⊥ = omega (arith, h) in never)
+ripe-parts false b n h = absurd (let never : ⊥ = omega (arith, h) in never)
+
+le-true : (m n : ℕ) → nat_le m n ≡ true → m ≤ n
+le-true m n h = grind (arith, nat_tests)
+
+true-le : (m n : ℕ) → m ≤ n → nat_le m n ≡ true
+true-le m n h = grind (arith, nat_tests)
+
+module _ (s : State) (l : Ledger) (t : Tallied s l) (n : NodeId) where
+  -- what came to the node was sent to it, and its hold has passed
+  came-due : (k : ℕ) (o : Option Sending) → numbered l.sendings k ≡ o → 1 ≤ came n s.ticks o → (x : Sending) × IsDue s l n k x × (came n s.ticks o ≡ copies_of x.fate) × (took n (count k l.taken) o ≡ count k l.taken)
+  came-due k None is some = absurd (let never : ⊥ = omega (arith, some) in never)
+  came-due k (Some x) is some =
+      let p = ripe-parts (same_node x.to n) (nat_le (x.ticks + x.fate.hold) s.ticks) (copies_of x.fate) some in
+      (x, record { there = is; to = same_is x.to n p.0; ripe = le-true (x.ticks + x.fate.hold) s.ticks p.1 }, p.2, ap (λ b. cond b (count k l.taken) 0) p.0)
+
+  front-one : (k : ℕ) (rest : List ℕ) → count k (k ∷ rest) ≡ 1 + count k rest
+  front-one k rest = ap (λ b. cond b 1 0 + count k rest) (let e : (k == k) ≡ true = grind (arith, nat_tests) in e)
+
+  some-queue : (o : Option (List ℕ)) (k : ℕ) (rest : List ℕ) → unwrap_or o [] ≡ k ∷ rest → o ≡ Some (k ∷ rest)
+  some-queue None k rest h = absurd (let never : ⊥ = cc h in never)
+  some-queue (Some q) k rest h = ap Some h
+
+  -- a front copy is due, and was taken fewer times than its message has copies
+  pub front-due : (k : ℕ) (rest : List ℕ) → waiting s n ≡ k ∷ rest → (x : Sending) × IsDue s l n k x × (count k l.taken < copies_of x.fate)
+  front-due k rest front =
+      let d = t.due k n (k ∷ rest) (some-queue (s.queues n) k rest front) in
+      let one = front-one k rest in
+      let c = came-due k (numbered l.sendings k) refl (omega (arith, d, one)) in
+      let whole = c.2 in let own = c.3 in
+      (c.0, c.1, (omega (arith, d, one, whole, own)))
+
+  -- where the queue is empty, all copies that are due were taken
+  pub empty-taken : (k : ℕ) (x : Sending) → s.queues n ≡ Some [] → IsDue s l n k x → count k l.taken ≡ copies_of x.fate
+  empty-taken k x none is =
+      let d = t.due k n [] none in
+      let here : same_node x.to n ≡ true = ap (λ z. same_node z n) is.to ∙ same_node-refl n in
+      let both : came n s.ticks (numbered l.sendings k) ≡ copies_of x.fate =
+      ap (came n s.ticks) is.there ∙ ap (λ b. cond (b && nat_le (x.ticks + x.fate.hold) s.ticks) (copies_of x.fate) 0) here
+      ∙ ap (λ b. cond b (copies_of x.fate) 0) (true-le (x.ticks + x.fate.hold) s.ticks is.ripe) in
+      let own : took n (count k l.taken) (numbered l.sendings k) ≡ count k l.taken = ap (took n (count k l.taken)) is.there ∙ ap (λ b. cond b (count k l.taken) 0) here in
+      omega (arith, d, both, own)

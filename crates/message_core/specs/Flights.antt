@@ -7,7 +7,7 @@ use Rattle.stream_port.specs.declared.fates.Fate.{Fate}
 use Rattle.stream_port.specs.Fates.{copies_of}
 use Rattle.message_core.specs.declared.letters.Letter.{Letter}
 use Rattle.message_core.specs.declared.letters.Held.{Held}
-use Rattle.message_core.specs.Nodes.{same_node}
+use Rattle.pseudo_time.specs.Nodes.{same_node}
 
 pub record State : Type 0 where
   -- all messages that were sent, as texts: the one with number k stands at place k - 1

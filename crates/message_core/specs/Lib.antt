@@ -1,6 +1,5 @@
 pub mod Arrivals
 pub mod Flights
-pub mod Nodes
 pub mod Parts
 pub mod Senders
 pub mod Sound

@@ -1,7 +1,7 @@
-ghost use Rattle.std.specs.Prelude.{◌≡◌, ◌↔◌, ◌+◌, ◌++◌, ◌==◌, ◌&&◌, not, ℕ, List, [], Some, replicate, IfOk, OnOk, OnErr, IsTrue, if◌then◌else◌};
+ghost use Rattle.std.specs.Prelude.{◌≡◌, ◌↔◌, ◌+◌, ◌++◌, ◌==◌, ◌&&◌, not, ℕ, List, [], Some, replicate, IfOk, IfNone, OnOk, OnErr, IsTrue, if◌then◌else◌};
 ghost use Rattle.std.specs.Option.{option_map};
 ghost use Rattle.stream_port.specs.Fates.{copies_of};
-ghost use Rattle.message_core.specs.Nodes.{same_node};
+ghost use Rattle.pseudo_time.specs.Nodes.{same_node};
 ghost use Rattle.message_core.specs.Queues.{queue_in, held_in};
 ghost use Rattle.pseudo_time.specs.declared.nodes.NodeId.{NodeId};
 ghost use Rattle.message_form.specs.Messages.{IsMessage, message_bytes};
@@ -134,6 +134,7 @@ impl Flight {
     pub fn take(&mut self, node: NodeId) -> Result<Option<Arrival>, AllocError>
         ensures arrived { IfOk result (Arrives (state_of self.old) node) }
         ensures taken { OnOk result (state_of self.new ≡ taken (state_of self.old) node) }
+        ensures none { IfOk result (λ arrival. IfNone arrival (self.new ≡ self.old)) }
         ensures err { OnErr result (state_of self.new ≡ state_of self.old) }
     {
         let Some(number) = front_of(&self.queues, node) else {

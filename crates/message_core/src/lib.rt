@@ -11,6 +11,3 @@ mod queues;
 pub use flights::Flight;
 pub use laws::{copies_counted, copies_were_sent};
 pub use letters::Arrival;
-
-#[cfg(test)]
-mod tests;

@@ -4,7 +4,7 @@ ghost use Rattle.std.specs.List.{list_any};
 ghost use Rattle.std.specs.VecDeque.{deque_len, deque_capacity};
 ghost use Rattle.pseudo_time.specs.declared.nodes.NodeId.{NodeId};
 ghost use Rattle.message_core.specs.declared.letters.Held.{Held};
-ghost use Rattle.message_core.specs.Nodes.{same_node};
+ghost use Rattle.pseudo_time.specs.Nodes.{same_node};
 ghost use Rattle.message_core.specs.Flights.{put, puts};
 ghost use Rattle.message_core.specs.Queues.{queue_in, held_in, Grew};
 

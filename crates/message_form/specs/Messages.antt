@@ -1,5 +1,6 @@
 -- The bytes of a message.
-use Rattle.std.specs.Prelude.{ℕ, ◌-◌, ◌≤◌, ◌<◌, ◌^◌, ◌==◌, List, [], ◌∷◌, ◌++◌, length, Result, Ok, Err, if◌then◌else◌}
+use Rattle.std.specs.Prelude.{ℕ, ◌-◌, ◌≤◌, ◌<◌, ◌^◌, ◌==◌, List, [], ◌∷◌, ◌++◌, length, slice_get, Result, Ok, Err, if◌then◌else◌}
+use Rattle.std.specs.Option.{unwrap_or}
 use Rattle.std.specs.Int.{w32, to_be_bytes}
 use Rattle.pseudo_time.specs.StampParts.{IsStamp, stamp_bytes}
 use Rattle.pseudo_time.specs.TimeParts.{IsTime, time_bytes}
@@ -33,6 +34,10 @@ message_bytes (m.Withdraw stamp) = 11 ∷ stamp_bytes stamp
 message_bytes (m.Decided stamp decision) = 12 ∷ (stamp_bytes stamp ++ decision_text decision)
 message_bytes (m.Ask stamp) = 13 ∷ stamp_bytes stamp
 message_bytes (m.Tell stamp committed) = 14 ∷ (stamp_bytes stamp ++ learned_byte committed ∷ [])
+
+-- the byte that its text begins with
+abbrev pub tag_of : Message → ℕ
+tag_of m = unwrap_or (slice_get (message_bytes m) 0) 0
 
 -- which messages have bytes: their fields are in their ranges
 abbrev pub IsMessage : Message → Type 0

@@ -10,6 +10,3 @@ pub use faults::MessageFault;
 pub use message_bytes::{messages_apart, read};
 pub use message_writes::write;
 pub use messages::Message;
-
-#[cfg(test)]
-mod tests;

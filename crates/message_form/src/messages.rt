@@ -76,6 +76,30 @@ pub enum Message {
 }
 
 impl Message {
+    ghost use Rattle.message_form.specs.Messages.{tag_of};
+
+    /// The byte that its text begins with: which kind of message it is, from 1 to 14.
+    pub fn tag(&self) -> u8
+        ensures { result ≡ tag_of self.now }
+    {
+        match self {
+            Message::Begin { .. } => 1,
+            Message::Begun { .. } => 2,
+            Message::Read { .. } => 3,
+            Message::Value { .. } => 4,
+            Message::Write { .. } => 5,
+            Message::Stored { .. } => 6,
+            Message::LaterRead { .. } => 7,
+            Message::LaterVersion { .. } => 8,
+            Message::Ended { .. } => 9,
+            Message::Commit { .. } => 10,
+            Message::Withdraw { .. } => 11,
+            Message::Decided { .. } => 12,
+            Message::Ask { .. } => 13,
+            Message::Tell { .. } => 14,
+        }
+    }
+
     /// An equal message.
     pub fn copy(&self, alloc: Global) -> Result<Message, AllocError>
         ensures { IfOk result (λ m. m ≡ self.now) }

@@ -10,7 +10,6 @@ ghost use Rattle.object_history.specs.Ranges.{IsReadStep};
 
 use crate::steps::{HistoryFault, ReadStep, WriteStep};
 use pseudo_time::{PseudoTime, Stamp};
-use std::alloc::Global;
 use value_form::{ObjectId, Value};
 
 /// The histories of a repository's objects, however they are kept.
@@ -35,12 +34,7 @@ pub trait Histories: Drop {
     ghost below: { Self → Self.Below };
 
     /// Reads an object. Where the answer says so, the content grows by the Stretch of this read.
-    fn read(
-        &mut self,
-        alloc: Global,
-        object: ObjectId,
-        at: PseudoTime,
-    ) -> Result<ReadStep, HistoryFault>
+    fn read(&mut self, object: ObjectId, at: PseudoTime) -> Result<ReadStep, HistoryFault>
         requires object { IsObject object }
         ensures answer { IsTrue tells → IfOk result (λ s. s ≡ read_step (content self.old) object at) }
         ensures sound { IsTrue tells → IfErr result IsNotDamage }
@@ -53,7 +47,6 @@ pub trait Histories: Drop {
     /// Writes an object. Where the answer is Put, the content grows by it.
     fn write(
         &mut self,
-        alloc: Global,
         object: ObjectId,
         at: PseudoTime,
         value: &Value,
@@ -70,7 +63,6 @@ pub trait Histories: Drop {
     /// Whether a version that isn't dead has this start and value.
     fn stands(
         &mut self,
-        alloc: Global,
         object: ObjectId,
         start: PseudoTime,
         value: &Value,
@@ -84,7 +76,7 @@ pub trait Histories: Drop {
         ensures below { below self.new ≡ below self.old };
 
     /// Settles an attempt as committed, or else as aborted. The content grows by the Settle.
-    fn settle(&mut self, alloc: Global, stamp: Stamp, committed: bool) -> Result<(), HistoryFault>
+    fn settle(&mut self, stamp: Stamp, committed: bool) -> Result<(), HistoryFault>
         requires unsettled { settle_of (content self.old) stamp ≡ None }
         ensures sound { IsTrue tells → IfErr result IsNotDamage }
         ensures grown { OnOk result (content self.new ≡ mark.Settle stamp committed ∷ content self.old) }

@@ -18,6 +18,3 @@ pub use laws::{
 pub use marks::Mark;
 pub use plain::PlainHistories;
 pub use steps::{HistoryFault, ReadStep, WriteStep};
-
-#[cfg(test)]
-mod tests;

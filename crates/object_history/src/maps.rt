@@ -63,6 +63,7 @@ impl Settles {
 #[derive(Drop)]
 pub struct Tracks {
     entries: BTreeMap<ObjectId, Track>,
+    alloc: Global,
 }
 
 impl Model for Tracks {
@@ -86,6 +87,7 @@ impl Tracks {
     {
         Tracks {
             entries: BTreeMap::new(alloc),
+            alloc,
         }
     }
 
@@ -99,7 +101,6 @@ impl Tracks {
     /// Adds a version of the object, by the number of marks before its own. Where memory is wanting, every track is as before.
     pub fn add(
         &mut self,
-        alloc: Global,
         object: ObjectId,
         mark: usize,
         start: PseudoTime,
@@ -110,7 +111,7 @@ impl Tracks {
         match self.entries.get_mut(&object) {
             Some(track) => track.add(mark, start),
             None => {
-                let mut track = Track::new(alloc);
+                let mut track = Track::new(self.alloc);
                 track.add(mark, start)?;
                 self.entries.insert(object, track)?;
                 Ok(())
@@ -122,7 +123,6 @@ impl Tracks {
     /// is wanting, every track is as before.
     pub fn stretch(
         &mut self,
-        alloc: Global,
         object: ObjectId,
         place: Option<usize>,
         time: PseudoTime,
@@ -136,7 +136,7 @@ impl Tracks {
                 Ok(())
             }
             None => {
-                let mut track = Track::new(alloc);
+                let mut track = Track::new(self.alloc);
                 track.stretch(place, time);
                 self.entries.insert(object, track)?;
                 Ok(())

@@ -2,7 +2,6 @@ ghost use Rattle.std.specs.Prelude.{◌≡◌, [], ◌∷◌, Some, None, IfOk, 
 ghost use Rattle.std.specs.Option.{option_copied, option_map};
 ghost use Rattle.value_form.specs.declared.values.Value.TheVariants as value;
 ghost use Rattle.object_history.specs.declared.marks.Mark.TheVariants as mark;
-ghost use Rattle.pseudo_time.specs.Order.{same_stamp, same_time};
 ghost use Rattle.object_history.specs.Objects.{same_value};
 ghost use Rattle.object_history.specs.History as history;
 ghost use Rattle.object_history.specs.Answers as answers;
@@ -33,6 +32,7 @@ pub struct PlainHistories {
     marks: Vec<Mark>,
     settles: Settles,
     tracks: Tracks,
+    alloc: Global,
 }
 
 impl Model for PlainHistories {
@@ -60,6 +60,7 @@ impl PlainHistories {
             marks: Vec::new(alloc),
             settles: Settles::new(alloc),
             tracks: Tracks::new(alloc),
+            alloc,
         }
     }
 
@@ -70,22 +71,22 @@ impl PlainHistories {
     {
         let mut histories = PlainHistories::new(alloc);
         for mark in marks {
-            histories.add(alloc, mark)?;
+            histories.add(mark)?;
         }
         Ok(histories)
     }
 
     // Adds a copy of any mark.
-    fn add(&mut self, alloc: Global, mark: &Mark) -> Result<(), AllocError>
+    fn add(&mut self, mark: &Mark) -> Result<(), AllocError>
         requires { IsMark mark.now }
         ensures { OnOk result (self.new ≡ mark.now ∷ self.old) }
     {
         match mark {
             Mark::Put(object, start, value) => {
-                let value = value.copy(alloc)?;
-                self.add_put(alloc, *object, *start, value)
+                let value = value.copy(self.alloc)?;
+                self.add_put(*object, *start, value)
             }
-            Mark::Stretch(object, at) => self.add_stretch(alloc, *object, *at),
+            Mark::Stretch(object, at) => self.add_stretch(*object, *at),
             Mark::Settle(stamp, committed) => self.add_settle(*stamp, *committed),
         }
     }
@@ -93,7 +94,6 @@ impl PlainHistories {
     // Adds a version. Where memory is wanting, all is as before.
     fn add_put(
         &mut self,
-        alloc: Global,
         object: ObjectId,
         start: PseudoTime,
         value: Value,
@@ -105,7 +105,7 @@ impl PlainHistories {
     {
         let before = self.marks.len();
         self.marks.push(Mark::Put(object, start, value))?;
-        if let Err(full) = self.tracks.add(alloc, object, before, start) {
+        if let Err(full) = self.tracks.add(object, before, start) {
             self.marks.pop();
             return Err(full);
         }
@@ -114,19 +114,14 @@ impl PlainHistories {
 
     // Adds a Stretch, which falls on what a read at its time sees. Where memory is wanting, all is as
     // before.
-    fn add_stretch(
-        &mut self,
-        alloc: Global,
-        object: ObjectId,
-        at: PseudoTime,
-    ) -> Result<(), AllocError>
+    fn add_stretch(&mut self, object: ObjectId, at: PseudoTime) -> Result<(), AllocError>
         requires { IsObject object }
         ensures ok { OnOk result (self.new ≡ mark.Stretch object at ∷ self.old) }
         ensures err { OnErr result (self.new ≡ self.old) }
     {
         let place = self.place_seen(object, at);
         self.marks.push(Mark::Stretch(object, at))?;
-        if let Err(full) = self.tracks.stretch(alloc, object, place, at) {
+        if let Err(full) = self.tracks.stretch(object, place, at) {
             self.marks.pop();
             return Err(full);
         }
@@ -218,14 +213,14 @@ impl PlainHistories {
     }
 
     // The value of what is seen.
-    fn value_of(&self, alloc: Global, seen: Option<&Version>) -> Result<Value, AllocError>
+    fn value_of(&self, seen: Option<&Version>) -> Result<Value, AllocError>
         ensures { IfOk result (λ v. v ≡ views.value_of (option_map (seen_in self.now) (option_copied seen.entry))) }
     {
         let Some(version) = seen else {
             return Ok(Value::Nothing);
         };
         match self.value_at(version.mark) {
-            Some(value) => value.copy(alloc),
+            Some(value) => value.copy(self.alloc),
             None => Ok(Value::Nothing),
         }
     }
@@ -238,7 +233,7 @@ impl PlainHistories {
             return false;
         };
         for version in track.versions().iter().rev() {
-            if is_same_time(version.start, start) && self.has_value(version.mark, value) {
+            if version.start.is_same(start) && self.has_value(version.mark, value) {
                 return true;
             }
         }
@@ -257,7 +252,7 @@ impl PlainHistories {
         ensures { result ≡ kept.waits_for self.now stamp (option_copied seen.entry) }
     {
         let writer = seen?.start.stamp();
-        if is_same_stamp(writer, stamp) {
+        if writer.is_same(stamp) {
             return None;
         }
         match self.settles.get(writer) {
@@ -267,12 +262,7 @@ impl PlainHistories {
     }
 
     // What a read answers.
-    fn answer(
-        &self,
-        alloc: Global,
-        object: ObjectId,
-        at: PseudoTime,
-    ) -> Result<ReadStep, AllocError>
+    fn answer(&self, object: ObjectId, at: PseudoTime) -> Result<ReadStep, AllocError>
         ensures step { IfOk result (λ s. s ≡ answers.read_step self.now object at) }
         ensures in_range { IfOk result IsReadStep }
     {
@@ -281,7 +271,7 @@ impl PlainHistories {
         if let Some(stamp) = self.waits_for(at.stamp(), seen) {
             return Ok(ReadStep::Wait { stamp });
         }
-        let value = self.value_of(alloc, seen)?;
+        let value = self.value_of(seen)?;
         let stretch = self.needs_stretch(object, at, seen);
         Ok(ReadStep::Answer { value, stretch })
     }
@@ -303,18 +293,6 @@ impl PlainHistories {
             _ => WriteStep::Put,
         }
     }
-}
-
-fn is_same_stamp(a: Stamp, b: Stamp) -> bool
-    ensures { result ≡ same_stamp a b }
-{
-    a == b
-}
-
-fn is_same_time(a: PseudoTime, b: PseudoTime) -> bool
-    ensures { result ≡ same_time a b }
-{
-    a == b
 }
 
 #[tactic(auto, unfolding(crate::specs::Objects::same_value))]
@@ -374,22 +352,16 @@ impl Histories for PlainHistories {
 
     ghost below = { λ _. tt };
 
-    fn read(
-        &mut self,
-        alloc: Global,
-        object: ObjectId,
-        at: PseudoTime,
-    ) -> Result<ReadStep, HistoryFault> {
-        let step = self.answer(alloc, object, at)?;
+    fn read(&mut self, object: ObjectId, at: PseudoTime) -> Result<ReadStep, HistoryFault> {
+        let step = self.answer(object, at)?;
         if has_stretched(&step) {
-            self.add_stretch(alloc, object, at)?;
+            self.add_stretch(object, at)?;
         }
         Ok(step)
     }
 
     fn write(
         &mut self,
-        alloc: Global,
         object: ObjectId,
         at: PseudoTime,
         value: &Value,
@@ -399,15 +371,14 @@ impl Histories for PlainHistories {
         }
         let step = self.new_write(object, at);
         if step == WriteStep::Put {
-            let value = value.copy(alloc)?;
-            self.add_put(alloc, object, at, value)?;
+            let value = value.copy(self.alloc)?;
+            self.add_put(object, at, value)?;
         }
         Ok(step)
     }
 
     fn stands(
         &mut self,
-        _alloc: Global,
         object: ObjectId,
         start: PseudoTime,
         value: &Value,
@@ -415,12 +386,7 @@ impl Histories for PlainHistories {
         Ok(self.has_living(object, start, value))
     }
 
-    fn settle(
-        &mut self,
-        _alloc: Global,
-        stamp: Stamp,
-        committed: bool,
-    ) -> Result<(), HistoryFault> {
+    fn settle(&mut self, stamp: Stamp, committed: bool) -> Result<(), HistoryFault> {
         self.add_settle(stamp, committed)?;
         Ok(())
     }

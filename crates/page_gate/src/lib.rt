@@ -4,6 +4,3 @@
 mod pages;
 
 pub use pages::{PageState, look, put};
-
-#[cfg(test)]
-mod tests;

@@ -22,6 +22,3 @@ pub use parsing::parse;
 pub use plan_faults::{PlanFault, PlanKind};
 pub use plans::Plan;
 pub use printing::print;
-
-#[cfg(test)]
-mod tests;

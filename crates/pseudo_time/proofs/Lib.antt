@@ -1,3 +1,4 @@
 pub mod ByteOrder
+pub mod EqualLemmas
 pub mod ListLemmas
 pub mod OrderLemmas

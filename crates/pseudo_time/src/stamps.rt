@@ -34,6 +34,7 @@ impl Model for Stamp {
 
 impl Stamp {
     ghost use Rattle.pseudo_time.specs.StampParts.{IsInRange};
+    ghost use Rattle.pseudo_time.specs.Order.{same_stamp};
 
     /// A stamp of a clock from 1 to [`LAST_CLOCK`], a broker and a home from 1 to 16.
     pub fn new(clock: u64, broker: u8, home: u8) -> Option<Stamp>
@@ -72,6 +73,13 @@ impl Stamp {
         ensures { result ≡ self.now.home }
     {
         self.home
+    }
+
+    /// Whether this is the same attempt: the meaning of `==`.
+    pub fn is_same(&self, other: Stamp) -> bool
+        ensures { result ≡ same_stamp self.now other }
+    {
+        *self == other
     }
 }
 

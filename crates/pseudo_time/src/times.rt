@@ -32,7 +32,7 @@ impl Model for PseudoTime {
 
 impl PseudoTime {
     ghost use Rattle.pseudo_time.specs.TimeParts.{TimeParts, IsTime, time_bytes, time_cmp};
-    ghost use Rattle.pseudo_time.specs.Order.{lt};
+    ghost use Rattle.pseudo_time.specs.Order.{lt, same_time};
 
     /// The pseudotime of a step, which is at least 1.
     pub fn new(stamp: Stamp, step: u32) -> Option<PseudoTime>
@@ -66,6 +66,13 @@ impl PseudoTime {
         ensures { result ≡ lt self.now other }
     {
         *self < other
+    }
+
+    /// Whether this is the same point in pseudotime: the meaning of `==`.
+    pub fn is_same(&self, other: PseudoTime) -> bool
+        ensures { result ≡ same_time self.now other }
+    {
+        *self == other
     }
 
     /// The fourteen bytes, each part with its highest byte first. Their order is that of

@@ -16,8 +16,8 @@ use Rattle.report_writer.specs.declared.records.Standing.{Standing}
 use Rattle.report_writer.specs.declared.records.Standing.TheVariants as standing
 use Rattle.report_writer.specs.declared.records.Final.{Final}
 use Rattle.report_writer.specs.declared.records.Down.{Down}
-use Rattle.report_writer.specs.declared.records.DownCause.{DownCause}
-use Rattle.report_writer.specs.declared.records.DownCause.TheVariants as cause
+use Rattle.pseudo_time.specs.declared.down_causes.DownCause.{DownCause}
+use Rattle.pseudo_time.specs.declared.down_causes.DownCause.TheVariants as cause
 use Rattle.report_writer.specs.declared.records.Wire.{Wire}
 use Rattle.report_writer.specs.declared.records.Report.{Report}
 use Rattle.report_writer.specs.Parts.{object_text, stamp_text, time_text, access_text, line_text, kind_text}

@@ -6,10 +6,5 @@ mod records;
 mod totals;
 mod writing;
 
-pub use records::{
-    ActReport, Down, DownCause, Final, Report, Standing, TryOutcome, TryReport, Wire,
-};
+pub use records::{ActReport, Down, Final, Report, Standing, TryOutcome, TryReport, Wire};
 pub use writing::write_report;
-
-#[cfg(test)]
-mod tests;

@@ -1,4 +1,4 @@
-use pseudo_time::{NodeId, PseudoTime, Stamp};
+use pseudo_time::{DownCause, NodeId, PseudoTime, Stamp};
 use value_form::{FailKind, Items, Line, ObjectId, Value};
 
 /// How an attempt ended, as far as its broker knows.
@@ -62,17 +62,6 @@ pub enum Standing {
 pub struct Final {
     pub object: ObjectId,
     pub value: Value,
-}
-
-/// Why a node is down.
-#[derive(Clone, Copy, Debug, PartialEq, Eq)]
-pub enum DownCause {
-    /// Its medium failed.
-    Medium,
-    /// What stands on this page isn't a part of version storage.
-    Damaged { page: u32 },
-    /// Its medium of so many pages is full.
-    Full { pages: u32 },
 }
 
 /// A node that is down.

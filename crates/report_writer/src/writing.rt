@@ -7,11 +7,9 @@ use crate::pieces::{
     push_access, push_kind, push_line, push_named, push_numbered, push_refusal, push_stamp,
     push_two,
 };
-use crate::records::{
-    ActReport, Down, DownCause, Final, Report, Standing, TryOutcome, TryReport, Wire,
-};
+use crate::records::{ActReport, Down, Final, Report, Standing, TryOutcome, TryReport, Wire};
 use crate::totals::count_of;
-use pseudo_time::NodeKind;
+use pseudo_time::{DownCause, NodeKind};
 use std::alloc::{AllocError, Global};
 use value_form::{Bytes, Line, Value};
 

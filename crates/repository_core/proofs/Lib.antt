@@ -2,7 +2,6 @@ pub mod BookLemmas
 pub mod ExpiryLemmas
 pub mod HearLemmas
 pub mod HeldLemmas
-pub mod LogLemmas
 pub mod OpenLemmas
 pub mod RowLemmas
 pub mod SettleLemmas

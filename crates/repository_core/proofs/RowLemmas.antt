@@ -22,7 +22,8 @@ use Rattle.effect_form.specs.declared.effects.Effect.TheVariants as effect
 use Rattle.object_history.specs.Answers.{read_step}
 use Rattle.repository_core.specs.Ranges.{AreHeld}
 use Rattle.repository_core.specs.Logs.{first_begin, decision_of, marks, known, read_by, wrote, HasSameRecords}
-use Rattle.repository_core.specs.Hands.{Hand, now, note, send, repository, HasSameLog}
+use Rattle.repository_core.specs.Hands.{Hand, now, note, send, HasSameLog}
+use Rattle.pseudo_time.specs.Nodes.{repository}
 use Rattle.repository_core.specs.Rows.{unhold, hold, waits_for, read_as, read_known, on_read, write_as, reread, release, learn_as, on_learn, tells, tell_askers}
 
 now-if : (b : Bool) (x y : Hand) (l : List Effect) → now x ≡ l → now y ≡ l → now (if b then x else y) ≡ l

@@ -18,13 +18,10 @@ use Rattle.object_history.specs.declared.marks.Mark.TheVariants.{Settle}
 use Rattle.object_history.specs.History.{or_else, settle_of}
 use Rattle.repository_core.specs.Logs.{is_commit, told, known, first_begin, decision_of, record_from, record_of, began, began_by}
 use Rattle.repository_core.specs.Lookups.{Agrees, early_or, pending_or, restored}
-use Rattle.repository_core.proofs.LogLemmas.{undecided, from-unknown, from-begin, from-none, record-begin, record-decide, record-learn}
+use Rattle.repository_log.proofs.OpenLemmas.{get-put}
+use Rattle.repository_log.proofs.LogLemmas.{undecided, from-unknown, from-begin, from-none, record-begin, record-decide, record-learn}
 
 -- ---- the map of records
-
-pub get-put : (r : States) (s q : StampParts) (v : RecordState) → finite.get (finite.insert r s v) q ≡ (if same_stamp s q then Some v else finite.get r q)
-unfolding same_stamp
-get-put r s q v = finite.get-insert stamp_cmp-total r s v q ∙ ap (λ b. cond b (Some v) (finite.get r q)) ((eq_by_cmp_equiv stamp_cmp-total).symm q s)
 
 absent-if : (b : Bool) (r : States) (s q : StampParts) → (b ≡ true → s ≡ q) → finite.get r s ≡ None → finite.get r q ≡ (if b then None else finite.get r q)
 absent-if true r s q e none = ap (λ z. finite.get r z) (sym (e refl)) ∙ none

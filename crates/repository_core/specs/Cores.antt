@@ -1,10 +1,14 @@
 -- A repository's core, as callers see it.
-use Rattle.std.specs.Prelude.{◌≡◌, ℕ, Bool, List, reverse}
+use Rattle.std.specs.Prelude.{◌≡◌, ℕ, Bool, IsTrue, List, ◌++◌, Result, IfOk, OnOk, IfErr, is_ok}
 use Rattle.effect_form.specs.declared.effects.Effect.{Effect}
 use Rattle.object_history.specs.declared.marks.Mark.{Mark}
+use Rattle.object_history.specs.declared.steps.HistoryFault.{HistoryFault}
+use Rattle.object_history.specs.Causes.{HasHistoryCause, IsNotDamage}
 use Rattle.turn_form.specs.declared.turns.Turn.{Turn}
+use Rattle.turn_form.specs.Ranges.{AreEffects, AreOuts}
 use Rattle.repository_core.specs.Hands.{Mind}
-use Rattle.repository_core.specs.Logs.{marks}
+pub use Rattle.repository_log.specs.Logs.{HasMarks}
+use Rattle.repository_core.specs.Lookups.{Begins}
 use Rattle.repository_core.specs.Turns.{Given}
 
 -- What a core is without its histories: the repository's number, its log, oldest first, and what it remembers. It is whole
@@ -23,10 +27,20 @@ pub record Core (H : Type 0) : Type 0 where
   pub whole : Bool
   pub histories : H
 
--- the histories have the marks of the log
-abbrev pub HasMarks : List Mark → List Effect → Type 0
-HasMarks content log = content ≡ marks (reverse log)
-
 -- what a call gave, with what the core then remembers
 abbrev pub given : Turn → Mind → Given
 given t mind = record { effects = t.effects; outs = t.outs; mind = mind }
+
+-- What each call leaves. Where it gave a turn, the log grew by its effects, all of it is in range, and the histories have the
+-- marks of the log; else the core isn't whole any more. The histories went on from what they were, what lies below them stayed,
+-- and a fault has its cause in this call; histories that tell have no damage.
+pub record IsCalled {H B : Type 0} (tells : Bool) (content : H → List Mark) (below : H → B) (faults damage : H → ℕ) (old new : Core H) (result : Result Turn HistoryFault) : Type 0 where
+  pub log : IfOk result (λ t. new.log ≡ old.log ++ t.effects)
+  pub in_range : IfOk result (λ t. AreEffects t.effects × AreOuts t.outs)
+  pub number : OnOk result (new.number ≡ old.number)
+  pub marks : OnOk result (HasMarks (content new.histories) new.log)
+  pub whole : new.whole ≡ is_ok result
+  pub begins : Begins (content old.histories) (content new.histories)
+  pub stays : below new.histories ≡ below old.histories
+  pub cause : HasHistoryCause (faults old.histories) (faults new.histories) (damage old.histories) (damage new.histories) result
+  pub sound : IsTrue tells → IfErr result IsNotDamage

@@ -5,7 +5,6 @@ use Rattle.std.specs.declared.cmp.Ordering.{Ordering}
 use Rattle.pseudo_time.specs.StampParts.{stamp_cmp}
 use Rattle.pseudo_time.specs.TimeParts.{TimeParts}
 use Rattle.pseudo_time.specs.declared.nodes.NodeId.{NodeId}
-use Rattle.pseudo_time.specs.declared.nodes.NodeKind.TheVariants as kind
 use Rattle.effect_form.specs.declared.effects.Effect.{Effect}
 use Rattle.message_form.specs.declared.messages.Message.{Message}
 use Rattle.turn_form.specs.declared.turns.Out.{Out}
@@ -42,12 +41,6 @@ note f h = record h { fresh = f ∷ h.fresh }
 -- a message is owed
 abbrev pub send : NodeId → Message → Hand → Hand
 send to m h = record h { outs = h.outs ++ record { to = to; message = m } ∷ [] }
-
-abbrev pub repository : ℕ → NodeId
-repository n = record { kind = kind.Repository; number = n }
-
-abbrev pub broker : ℕ → NodeId
-broker n = record { kind = kind.Broker; number = n }
 
 -- by the repository's number, then the stamp
 abbrev pub asker_cmp : Asker → Asker → Ordering

@@ -13,7 +13,8 @@ use Rattle.commit_record.specs.declared.states.RecordState.{RecordState}
 use Rattle.commit_record.specs.declared.states.RecordState.TheVariants as state
 use Rattle.repository_core.specs.declared.waits.Held.{Held}
 use Rattle.repository_core.specs.Logs.{record_of, begun}
-use Rattle.repository_core.specs.Hands.{Hand, now, note, send, repository}
+use Rattle.repository_core.specs.Hands.{Hand, now, note, send}
+use Rattle.pseudo_time.specs.Nodes.{repository}
 use Rattle.repository_core.specs.Rows.{release, tell_askers}
 
 -- a record that is unknown expires at the first moment that isn't below its deadline

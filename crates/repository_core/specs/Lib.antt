@@ -4,7 +4,6 @@ pub mod Hands
 pub mod Hearing
 pub mod Logs
 pub mod Lookups
-pub mod Opening
 pub mod Ranges
 pub mod Rows
 pub mod Turns

@@ -10,8 +10,6 @@ use Rattle.pseudo_time.specs.Order.{same_stamp}
 use Rattle.pseudo_time.specs.declared.decisions.Decision.{Decision}
 use Rattle.pseudo_time.specs.declared.decisions.Decision.TheVariants as decision
 use Rattle.pseudo_time.specs.declared.nodes.NodeId.{NodeId}
-use Rattle.pseudo_time.specs.declared.nodes.NodeKind.{NodeKind}
-use Rattle.pseudo_time.specs.declared.nodes.NodeKind.TheVariants as kind
 use Rattle.value_form.specs.declared.objects.ObjectId.{ObjectId}
 use Rattle.value_form.specs.declared.values.Value.{Value}
 use Rattle.effect_form.specs.declared.effects.Effect.TheVariants as effect
@@ -28,7 +26,8 @@ use Rattle.object_history.specs.Answers.{read_step, write_step, stands_written}
 use Rattle.repository_core.specs.declared.waits.Held.{Held}
 use Rattle.repository_core.specs.declared.waits.Asker.{Asker}
 use Rattle.repository_core.specs.Logs.{is_commit, marks, known, record_of}
-use Rattle.repository_core.specs.Hands.{Hand, now, note, send, repository, asker_cmp}
+use Rattle.repository_core.specs.Hands.{Hand, now, note, send, asker_cmp}
+use Rattle.pseudo_time.specs.Nodes.{repository, is_repository, is_broker}
 
 -- ---- Read
 
@@ -135,14 +134,6 @@ unfoldable pub on_learn : Hand → StampParts → Bool → Hand
 on_learn h s c = learn_as h s c (known (now h) s)
 
 -- ---- which messages are ignored
-
-abbrev pub is_repository : NodeKind → Bool
-is_repository kind.Repository = true
-is_repository kind.Broker = false
-
-abbrev pub is_broker : NodeKind → Bool
-is_broker kind.Repository = false
-is_broker kind.Broker = true
 
 -- the node is the broker with this number
 abbrev pub is_broker_of : ℕ → NodeId → Bool

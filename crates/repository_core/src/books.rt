@@ -18,7 +18,8 @@ ghost use Rattle.repository_core.specs.Hearing.{expiries};
 use commit_record::{BeginStep, RecordState, Records};
 use object_history::{Histories, HistoryFault, ReadStep, WriteStep};
 use pseudo_time::{Decision, PseudoTime, Stamp};
-use std::alloc::{AllocError, Global};
+use repository_log::{is_commit, learned};
+use std::alloc::AllocError;
 use std::collections::BTreeMap;
 use std::snapshot::Snapshot;
 use value_form::{ObjectId, Value};
@@ -26,7 +27,6 @@ use value_form::{ObjectId, Value};
 /// What a repository looks up: its histories and commit records.
 #[derive(Drop)]
 pub struct Books<H: Histories> {
-    pub alloc: Global,
     pub records: Records,
     /// Decisions of the opened log whose attempt hasn't begun there.
     pub early: BTreeMap<Stamp, Decision>,
@@ -49,7 +49,7 @@ impl<H: Histories> Books<H> {
         ensures fault { IfErr result (HaveFault H.tells H.faults H.damage self.new) }
         ensures call { AreOfOneCall self.old self.new }
     {
-        let step = self.histories.read(self.alloc, object, at)?;
+        let step = self.histories.read(object, at)?;
         Ok(step)
     }
 
@@ -69,7 +69,7 @@ impl<H: Histories> Books<H> {
         ensures fault { IfErr result (HaveFault H.tells H.faults H.damage self.new) }
         ensures call { AreOfOneCall self.old self.new }
     {
-        let step = self.histories.write(self.alloc, object, at, value)?;
+        let step = self.histories.write(object, at, value)?;
         Ok(step)
     }
 
@@ -89,7 +89,7 @@ impl<H: Histories> Books<H> {
         ensures fault { IfErr result (HaveFault H.tells H.faults H.damage self.new) }
         ensures call { AreOfOneCall self.old self.new }
     {
-        let stands = self.histories.stands(self.alloc, object, at, value)?;
+        let stands = self.histories.stands(object, at, value)?;
         Ok(stands)
     }
 
@@ -103,7 +103,7 @@ impl<H: Histories> Books<H> {
         ensures fault { IfErr result (HaveFault H.tells H.faults H.damage self.new) }
         ensures call { AreOfOneCall self.old self.new }
     {
-        self.histories.settle(self.alloc, stamp, committed)?;
+        self.histories.settle(stamp, committed)?;
         Ok(())
     }
 
@@ -140,7 +140,7 @@ impl<H: Histories> Books<H> {
         ensures histories { (self.new.histories ≡ self.old.histories) × (self.new.first.value ≡ self.old.first.value) }
     {
         let early = self.decided_early(stamp);
-        let step = self.records.begin(self.alloc, stamp, deadline)?;
+        let step = self.records.begin(stamp, deadline)?;
         match step {
             BeginStep::New => self.restore(stamp, early),
             BeginStep::Unknown => (),
@@ -193,7 +193,7 @@ impl<H: Histories> Books<H> {
         ensures due { (log : List Effect) → AgreeWith H.content log self.old → IfOk result (λ due. due.items ≡ expiries moment log) }
         ensures histories { (self.new.histories ≡ self.old.histories) × (self.new.first.value ≡ self.old.first.value) }
     {
-        let due = self.records.hear(self.alloc, moment)?;
+        let due = self.records.hear(moment)?;
         Ok(due)
     }
 
@@ -208,27 +208,5 @@ impl<H: Histories> Books<H> {
     {
         self.settle(stamp, is_commit(decision))?;
         Ok(())
-    }
-}
-
-/// Whether a decision commits.
-pub fn is_commit(decision: Decision) -> bool
-    ensures { result ≡ is_commit decision }
-{
-    match decision {
-        Decision::Committed => true,
-        Decision::Withdrawn => false,
-        Decision::Expired { .. } => false,
-    }
-}
-
-/// What was learned, as a decision.
-pub fn learned(committed: bool) -> Decision
-    ensures { result ≡ told committed }
-{
-    if committed {
-        Decision::Committed
-    } else {
-        Decision::Withdrawn
     }
 }

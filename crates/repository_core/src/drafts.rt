@@ -7,7 +7,8 @@ ghost use Rattle.message_form.specs.Messages.{IsMessage};
 ghost use Rattle.repository_core.specs.Hands as hands;
 ghost use Rattle.repository_core.specs.Rows as rows;
 ghost use Rattle.repository_core.specs.Hearing as hearing;
-ghost use Rattle.repository_core.specs.Ranges.{AreHeld, IsEffect, AreEffects, AreOuts};
+ghost use Rattle.repository_core.specs.Ranges.{AreHeld};
+ghost use Rattle.turn_form.specs.Ranges.{IsEffect, AreEffects, AreOuts};
 
 use crate::waits::{Asker, Held};
 use effect_form::Effect;
@@ -38,7 +39,8 @@ pub struct Draft {
 impl Model for Draft {
     ghost use Rattle.std.specs.Prelude.{◌≤◌, ◌^◌, reverse, map};
     ghost use Rattle.repository_core.specs.Hands.{Hand};
-    ghost use Rattle.repository_core.specs.Ranges.{AreHeld, AreEffects, AreOuts};
+    ghost use Rattle.repository_core.specs.Ranges.{AreHeld};
+    ghost use Rattle.turn_form.specs.Ranges.{AreEffects, AreOuts};
 
     ghost Value = { Hand };
 
@@ -142,7 +144,7 @@ impl Draft {
         ensures { result ≡ rows.waits_for stamp self.now.held }
     {
         for (_, held) in &self.held {
-            if is_same_stamp(held.waits, stamp) {
+            if held.waits.is_same(stamp) {
                 return true;
             }
         }
@@ -156,7 +158,7 @@ impl Draft {
     {
         let mut waiting = Vec::new(self.alloc);
         for (at, held) in &self.held {
-            if is_same_stamp(held.waits, stamp) {
+            if held.waits.is_same(stamp) {
                 waiting.push((*at, *held))?;
             }
         }
@@ -167,8 +169,7 @@ impl Draft {
     fn forget_waiting(&mut self, stamp: Stamp)
         ensures { self.new ≡ record self.old { held = filter (λ e. not (same_stamp e.1.waits stamp)) self.old.held } }
     {
-        self.held
-            .retain(|_, held| !is_same_stamp(held.waits, stamp));
+        self.held.retain(|_, held| !held.waits.is_same(stamp));
     }
 
     /// Releases the held reads that wait for the attempt, in rising order of pseudotime.
@@ -188,7 +189,7 @@ impl Draft {
     {
         let mut asking = Vec::new(self.alloc);
         for asker in &self.askers {
-            if is_same_stamp(asker.stamp, stamp) {
+            if asker.stamp.is_same(stamp) {
                 asking.push(*asker)?;
             }
         }
@@ -199,8 +200,7 @@ impl Draft {
     pub fn forget_asking(&mut self, stamp: Stamp)
         ensures { self.new ≡ record self.old { askers = filter (λ a. not (same_stamp a.stamp stamp)) self.old.askers } }
     {
-        self.askers
-            .retain(|asker| !is_same_stamp(asker.stamp, stamp));
+        self.askers.retain(|asker| !asker.stamp.is_same(stamp));
     }
 
     /// Keeps an asker, once.
@@ -264,10 +264,4 @@ fn log_all(log: &mut Vec<Snapshot<Effect>>, effects: &[Effect]) -> Result<(), Al
         log.push(Snapshot::of(effect))?;
     }
     Ok(())
-}
-
-fn is_same_stamp(a: Stamp, b: Stamp) -> bool
-    ensures { result ≡ same_stamp a b }
-{
-    a == b
 }

@@ -11,7 +11,5 @@ mod waits;
 mod works;
 
 pub use repositories::{CoreFault, Repository, RepositoryRest};
+pub use turn_form::{Out, Turn};
 pub use waits::{Asker, Held};
-
-#[cfg(test)]
-mod tests;

@@ -11,6 +11,7 @@ ghost use Rattle.object_history.specs.declared.steps.ReadStep.TheVariants as rea
 ghost use Rattle.object_history.specs.declared.steps.WriteStep.{WriteStep};
 ghost use Rattle.object_history.specs.Ranges.{IsReadStep};
 ghost use Rattle.repository_core.specs.declared.waits.Held.{Held};
+ghost use Rattle.pseudo_time.specs.Nodes.{repository};
 ghost use Rattle.repository_core.specs.Hands as hands;
 ghost use Rattle.repository_core.specs.Rows as rows;
 ghost use Rattle.repository_core.specs.Hearing as hearing;
@@ -20,7 +21,7 @@ use crate::waits::Held;
 use effect_form::Effect;
 use message_form::Message;
 use object_history::{ReadStep, WriteStep};
-use pseudo_time::{Decision, NodeId, NodeKind, PseudoTime, Stamp};
+use pseudo_time::{Decision, NodeId, PseudoTime, Stamp};
 use std::alloc::AllocError;
 use value_form::{ObjectId, Value};
 
@@ -101,7 +102,7 @@ impl Draft {
         if is_asked {
             return Ok(());
         }
-        self.send(repository(home), Message::Ask { stamp: waits })
+        self.send(NodeId::repository(home), Message::Ask { stamp: waits })
     }
 
     /// A write of an attempt that is known: it stands, or it has ended.
@@ -227,17 +228,17 @@ impl Draft {
         let askers = self.asking(stamp)?;
         self.forget_asking(stamp);
         for asker in &askers {
-            self.tell(repository(asker.repository), stamp, committed)?;
+            self.tell(NodeId::repository(asker.repository), stamp, committed)?;
         }
         Ok(())
     }
 
     // The home of the attempt is asked how it was decided.
     fn ask(&mut self, stamp: Stamp) -> Result<(), AllocError>
-        ensures { OnOk result (self.new ≡ hands.send (hands.repository stamp.home) (message.Ask stamp) self.old) }
+        ensures { OnOk result (self.new ≡ hands.send (repository stamp.home) (message.Ask stamp) self.old) }
     {
         let _in_range = stamp.clock();
-        self.send(repository(stamp.home()), Message::Ask { stamp })
+        self.send(NodeId::repository(stamp.home()), Message::Ask { stamp })
     }
 
     /// Asks the home of each attempt for which a read is held again.
@@ -250,14 +251,5 @@ impl Draft {
             self.ask(*stamp)?;
         }
         Ok(())
-    }
-}
-
-fn repository(number: u8) -> NodeId
-    ensures { result ≡ hands.repository number }
-{
-    NodeId {
-        kind: NodeKind::Repository,
-        number,
     }
 }

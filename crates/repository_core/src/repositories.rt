@@ -1,10 +1,7 @@
-ghost use Rattle.std.specs.Prelude.{◌≡◌, ◌≤◌, ◌^◌, ◌++◌, true, IsTrue, IfOk, OnOk, IfErr, is_ok, reverse};
+ghost use Rattle.std.specs.Prelude.{◌≡◌, ◌≤◌, ◌^◌, true, IsTrue, IfOk, IfErr, reverse};
 ghost use Rattle.message_form.specs.Messages.{IsMessage};
-ghost use Rattle.object_history.specs.Causes.{HasHistoryCause, IsNotDamage};
-ghost use Rattle.repository_core.specs.Cores.{HasMarks, given};
-ghost use Rattle.repository_core.specs.Lookups.{Begins};
+ghost use Rattle.repository_core.specs.Cores.{HasMarks, IsCalled, given};
 ghost use Rattle.repository_core.specs.Logs.{known};
-ghost use Rattle.repository_core.specs.Ranges.{AreEffects, AreOuts};
 ghost use Rattle.repository_core.specs.Turns.{gives, opened_mind, Taking, Learning, Hearing};
 
 use crate::books::Books;
@@ -61,15 +58,7 @@ impl<H: Histories> Repository<H> {
         requires whole { self.old.whole ≡ true }
         requires message { IsMessage message.now }
         ensures gives { IsTrue H.tells → IfOk result (λ t. given t self.new.mind ≡ gives self.old.number self.old.log self.old.mind (Taking from message.now)) }
-        ensures log { IfOk result (λ t. self.new.log ≡ self.old.log ++ t.effects) }
-        ensures in_range { IfOk result (λ t. AreEffects t.effects × AreOuts t.outs) }
-        ensures number { OnOk result (self.new.number ≡ self.old.number) }
-        ensures marks { OnOk result (HasMarks (H.content self.new.histories) self.new.log) }
-        ensures whole { self.new.whole ≡ is_ok result }
-        ensures begins { Begins (H.content self.old.histories) (H.content self.new.histories) }
-        ensures below { H.below self.new.histories ≡ H.below self.old.histories }
-        ensures cause { HasHistoryCause (H.faults self.old.histories) (H.faults self.new.histories) (H.damage self.old.histories) (H.damage self.new.histories) result }
-        ensures sound { IsTrue H.tells → IfErr result IsNotDamage }
+        ensures called { IsCalled H.tells H.content H.below H.faults H.damage self.old self.new result }
     {
         self.whole = false;
         self.work.start();
@@ -83,15 +72,7 @@ impl<H: Histories> Repository<H> {
     pub fn learn(&mut self, stamp: Stamp, committed: bool) -> Result<Turn, CoreFault>
         requires whole { self.old.whole ≡ true }
         ensures gives { IsTrue H.tells → IfOk result (λ t. given t self.new.mind ≡ gives self.old.number self.old.log self.old.mind (Learning stamp committed)) }
-        ensures log { IfOk result (λ t. self.new.log ≡ self.old.log ++ t.effects) }
-        ensures in_range { IfOk result (λ t. AreEffects t.effects × AreOuts t.outs) }
-        ensures number { OnOk result (self.new.number ≡ self.old.number) }
-        ensures marks { OnOk result (HasMarks (H.content self.new.histories) self.new.log) }
-        ensures whole { self.new.whole ≡ is_ok result }
-        ensures begins { Begins (H.content self.old.histories) (H.content self.new.histories) }
-        ensures below { H.below self.new.histories ≡ H.below self.old.histories }
-        ensures cause { HasHistoryCause (H.faults self.old.histories) (H.faults self.new.histories) (H.damage self.old.histories) (H.damage self.new.histories) result }
-        ensures sound { IsTrue H.tells → IfErr result IsNotDamage }
+        ensures called { IsCalled H.tells H.content H.below H.faults H.damage self.old self.new result }
     {
         self.whole = false;
         self.work.start();
@@ -106,15 +87,7 @@ impl<H: Histories> Repository<H> {
         requires whole { self.old.whole ≡ true }
         requires moment { moment ≤ 2 ^ 63 }
         ensures gives { IsTrue H.tells → IfOk result (λ t. given t self.new.mind ≡ gives self.old.number self.old.log self.old.mind (Hearing moment)) }
-        ensures log { IfOk result (λ t. self.new.log ≡ self.old.log ++ t.effects) }
-        ensures in_range { IfOk result (λ t. AreEffects t.effects × AreOuts t.outs) }
-        ensures number { OnOk result (self.new.number ≡ self.old.number) }
-        ensures marks { OnOk result (HasMarks (H.content self.new.histories) self.new.log) }
-        ensures whole { self.new.whole ≡ is_ok result }
-        ensures begins { Begins (H.content self.old.histories) (H.content self.new.histories) }
-        ensures below { H.below self.new.histories ≡ H.below self.old.histories }
-        ensures cause { HasHistoryCause (H.faults self.old.histories) (H.faults self.new.histories) (H.damage self.old.histories) (H.damage self.new.histories) result }
-        ensures sound { IsTrue H.tells → IfErr result IsNotDamage }
+        ensures called { IsCalled H.tells H.content H.below H.faults H.damage self.old self.new result }
     {
         self.whole = false;
         self.work.start();
@@ -147,7 +120,6 @@ impl<H: Histories> Repository<H> {
             Ok((draft, records, early)) => {
                 let first = Snapshot::of(&histories);
                 let books = Books {
-                    alloc,
                     records,
                     early,
                     histories,
@@ -175,7 +147,6 @@ impl<H: Histories> Repository<H> {
             books,
         } = work;
         let Books {
-            alloc: _,
             records,
             early,
             histories,
@@ -244,7 +215,6 @@ impl RepositoryRest {
         } = self;
         let first = Snapshot::of(&histories);
         let books = Books {
-            alloc,
             records,
             early,
             histories,

@@ -17,12 +17,13 @@ ghost use Rattle.repository_core.specs.Hands.{now, note, send, HasSameLog};
 ghost use Rattle.repository_core.specs.Rows as rows;
 ghost use Rattle.repository_core.specs.Hearing as hearing;
 
-use crate::books::{Books, is_commit};
+use crate::books::Books;
 use crate::drafts::Draft;
 use commit_record::{BeginStep, RecordState};
 use message_form::Message;
 use object_history::{Histories, HistoryFault};
 use pseudo_time::{Decision, NodeId, NodeKind, PseudoTime, Stamp};
+use repository_log::is_commit;
 use std::alloc::Global;
 use std::snapshot::Snapshot;
 use value_form::{ObjectId, Value};

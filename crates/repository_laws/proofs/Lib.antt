@@ -3,3 +3,4 @@ pub mod Logs
 pub mod Posts
 pub mod Turns
 pub mod Whole
+pub mod ServedLemmas

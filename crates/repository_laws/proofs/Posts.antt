@@ -12,7 +12,7 @@ use Rattle.repository_core.specs.declared.waits.Held.{Held}
 use Rattle.repository_laws.proofs.Logs.{settled-log, viewed-log}
 use Rattle.pseudo_time.proofs.ListLemmas.{has-left}
 use Rattle.pseudo_time.specs.Lists.{Has}
-use Rattle.repository_laws.specs.Facts.{FitsLog, HasCause, HeldHolds, PostHolds}
+use Rattle.repository_laws.specs.Facts.{FitsLog, RestsOn, HeldHolds, PostHolds}
 use Rattle.turn_form.proofs.GrowthLemmas.{grew_keeps}
 use Rattle.turn_form.specs.Growth.{Grew}
 
@@ -52,7 +52,7 @@ held-more ever more r x p = ((has-left ever more _ p.0.0, p.0.1), p.1)
 
 -- more messages, more ticks, and longer logs at the homes
 pub evidence-more : (ever more : List Post) (homes longer : ℕ → List Effect) (ticks late : List ℕ) (r : ℕ) (f : Effect) →
-    ((n : ℕ) (g : Effect) → Has g (homes n) → Has g (longer n)) → HasCause ever homes ticks r f → HasCause (ever ++ more) longer (ticks ++ late) r f
+    ((n : ℕ) (g : Effect) → Has g (homes n) → Has g (longer n)) → RestsOn ever homes ticks r f → RestsOn (ever ++ more) longer (ticks ++ late) r f
 evidence-more ever more homes longer ticks late r (Put o x v) h p = (has-left ever more _ p.0, p.1)
 evidence-more ever more homes longer ticks late r (Decide s decision.Committed) h p = has-left ever more _ p
 evidence-more ever more homes longer ticks late r (Decide s decision.Withdrawn) h p = has-left ever more _ p

@@ -15,7 +15,7 @@ use Rattle.message_form.specs.declared.messages.Message.TheVariants as message
 use Rattle.pseudo_time.specs.declared.nodes.NodeId.{NodeId}
 use Rattle.pseudo_time.specs.declared.nodes.NodeKind.{NodeKind}
 use Rattle.pseudo_time.specs.declared.nodes.NodeKind.TheVariants as kind
-use Rattle.turn_form.specs.Posts.{Post}
+use Rattle.turn_form.specs.Posts.{Post, WasSent}
 use Rattle.commit_record.specs.declared.states.RecordState.{RecordState}
 use Rattle.commit_record.specs.declared.states.RecordState.TheVariants.{Unknown, Decided}
 use Rattle.object_history.specs.declared.steps.ReadStep.{ReadStep}
@@ -34,10 +34,11 @@ use Rattle.object_history.specs.History.{alive, is_alive, is_settled, settle_of}
 use Rattle.pseudo_time.proofs.ListLemmas.{every-append, every-map, has-right}
 use Rattle.pseudo_time.specs.Lists.{Every, Has}
 use Rattle.pseudo_time.specs.Order.{same_stamp}
-use Rattle.repository_core.specs.Hands.{Hand, asker_cmp, broker, note, now, repository, send}
+use Rattle.repository_core.specs.Hands.{Hand, asker_cmp, note, now, send}
+use Rattle.pseudo_time.specs.Nodes.{broker, repository, is_broker, is_repository}
 use Rattle.repository_core.specs.Hearing.{ask_again, asks, due, expire, expire_all, expire_as, on_moment, waited}
 use Rattle.repository_core.specs.Logs.{is_commit, known, marks, record_of}
-use Rattle.repository_core.specs.Rows.{accepts, ask_as, begin_as, close_as, hold, is_broker, is_broker_of, is_repository, learn_as, on_ask, on_begin, on_close, on_learn, on_message, on_read, on_write, read_as, read_known, release, reread, row, tell_askers, tells, unhold, waits_for, write_as}
+use Rattle.repository_core.specs.Rows.{accepts, ask_as, begin_as, close_as, hold, is_broker_of, learn_as, on_ask, on_begin, on_close, on_learn, on_message, on_read, on_write, read_as, read_known, release, reread, row, tell_askers, tells, unhold, waits_for, write_as}
 use Rattle.repository_core.proofs.HeldLemmas.{every-filter, every-remove}
 use Rattle.std.specs.List.{filter}
 use Rattle.std.specs.Map.{remove_entry}
@@ -47,7 +48,7 @@ use Rattle.std.specs.Ordering.{match_ordering}
 use Rattle.std.specs.declared.cmp.Ordering.{Ordering}
 use Rattle.std.specs.declared.cmp.Ordering.TheVariants.{Less, Equal, Greater}
 use Rattle.pseudo_time.proofs.OrderLemmas.{time_cmp-exact}
-use Rattle.repository_laws.specs.Facts.{Once, FitsLog, HandHolds, HasCause, HasCome, HeldHolds, IsBacked, IsDecidedAt, IsTidy, IsTimely, PostHolds, ReadSent, WasClosed, WasSent, WriteSent}
+use Rattle.repository_laws.specs.Facts.{Once, FitsLog, HandHolds, RestsOn, HasCome, HeldHolds, IsBacked, IsDecidedAt, IsTidy, IsTimely, PostHolds, ReadSent, WasClosed, WriteSent}
 
 pub broker-is : (n : ℕ) (from : NodeId) → is_broker_of n from ≡ true → from ≡ broker n
 broker-is n from h = go from.kind from.number (and-left (is_broker from.kind) _ h) (eq-from from.number n (and-right (is_broker from.kind) _ h))
@@ -90,7 +91,7 @@ module _ (ever : List Post) (homes : ℕ → List Effect) (ticks : List ℕ) (r 
   abbrev Fine : Hand → Type 0
   Fine h = HandHolds ever homes ticks r gated h
 
-  note-ok : (h : Hand) (f : Effect) → FitsLog r (now h) f → HasCause ever homes ticks r f → Fine h → Fine (note f h)
+  note-ok : (h : Hand) (f : Effect) → FitsLog r (now h) f → RestsOn ever homes ticks r f → Fine h → Fine (note f h)
   note-ok h f fits came ok = record {
     number = ok.number;
     base = ok.base;

@@ -12,12 +12,13 @@ use Rattle.message_form.specs.declared.messages.Message.{Message}
 use Rattle.turn_form.specs.Growth.{Grew}
 use Rattle.turn_form.specs.Posts.{Post}
 use Rattle.object_history.proofs.ObjectLemmas.{eq-from, eqb-yes}
-use Rattle.repository_core.specs.Hands.{Hand, Mind, repository}
+use Rattle.repository_core.specs.Hands.{Hand, Mind}
+use Rattle.pseudo_time.specs.Nodes.{repository}
 use Rattle.repository_core.specs.Rows.{on_message, on_learn}
 use Rattle.repository_core.specs.Hearing.{on_moment}
 use Rattle.repository_core.specs.Turns.{hand_at, told}
 use Rattle.repository_core.specs.Turns.Input.{Taking, Learning, Hearing}
-use Rattle.repository_laws.specs.Facts.{FitsLog, PostHolds, IsDecidedAt, HasCause, HandHolds, IsBacked, HasCome}
+use Rattle.repository_laws.specs.Facts.{FitsLog, PostHolds, IsDecidedAt, RestsOn, HandHolds, IsBacked, HasCome}
 use Rattle.repository_laws.specs.Givens.{IsGiven, Gives}
 use Rattle.repository_laws.proofs.Posts.{post-stays-through}
 use Rattle.repository_laws.proofs.Turns.{take-ok, on-learn-ok, hear-ok}
@@ -32,7 +33,7 @@ module _ (ever : List Post) (homes : ℕ → List Effect) (ticks : List ℕ) (r 
   there-own = ap (λ b. if b then log else homes r) (eqb-yes r r refl)
 
   -- a Learn names another home's own log
-  cause-back : (below : List Effect) (f : Effect) → FitsLog r below f → HasCause ever there ticks r f → HasCause ever homes ticks r f
+  cause-back : (below : List Effect) (f : Effect) → FitsLog r below f → RestsOn ever there ticks r f → RestsOn ever homes ticks r f
   unfolding there
   cause-back below (effect.Learn s c) fits p = (p.0, go (s.home == r) refl p.1, p.2)
     where
@@ -50,7 +51,7 @@ module _ (ever : List Post) (homes : ℕ → List Effect) (ticks : List ℕ) (r 
   cause-back below (effect.Acked k) fits p = p
   cause-back below (effect.End i e) fits p = p
 
-  causes-back : (fresh : List Effect) → Grew (FitsLog r) log fresh → Every (HasCause ever there ticks r) fresh → Grew (λ l f. HasCause ever homes ticks r f) log fresh
+  causes-back : (fresh : List Effect) → Grew (FitsLog r) log fresh → Every (RestsOn ever there ticks r) fresh → Grew (λ l f. RestsOn ever homes ticks r f) log fresh
   causes-back [] g p = tt
   causes-back (f ∷ fresh) g p = (causes-back fresh g.0 p.1, cause-back (fresh ++ log) f g.1 p.0)
 

@@ -12,7 +12,8 @@ use Rattle.turn_form.specs.Posts.{Post}
 use Rattle.object_history.specs.declared.steps.WriteStep.TheVariants as write
 use Rattle.object_history.specs.Answers.{write_step}
 use Rattle.repository_core.specs.Logs.{marks}
-use Rattle.repository_core.specs.Hands.{Hand, now, broker}
+use Rattle.repository_core.specs.Hands.{Hand, now}
+use Rattle.pseudo_time.specs.Nodes.{broker}
 use Rattle.repository_laws.specs.Facts.{Once, WriteSent}
 
 -- a write that repository r refuses was sent to it by the broker of its attempt, who is told; and over its log, as it once was, that is the answer

@@ -15,7 +15,7 @@ use Rattle.effect_form.specs.declared.effects.Effect.{Effect}
 use Rattle.effect_form.specs.declared.effects.Effect.TheVariants.{Put, Stretch, Begin, Decide, Learn, Run, Act, Try, Got, Acked, End}
 use Rattle.message_form.specs.declared.messages.Message.{Message}
 use Rattle.message_form.specs.declared.messages.Message.TheVariants as message
-use Rattle.turn_form.specs.Posts.{Post}
+use Rattle.turn_form.specs.Posts.{Post, WasSent}
 use Rattle.turn_form.specs.Growth.{Grew}
 use Rattle.commit_record.specs.declared.states.RecordState.TheVariants.{Unknown}
 use Rattle.object_history.specs.declared.marks.Mark.TheVariants as mark
@@ -24,11 +24,8 @@ use Rattle.object_history.specs.Answers.{write_step}
 use Rattle.object_history.specs.Views.{Starts, Viewed, Fits}
 use Rattle.repository_core.specs.declared.waits.Held.{Held}
 use Rattle.repository_core.specs.Logs.{is_commit, marks, known, record_of}
-use Rattle.repository_core.specs.Hands.{Hand, now, repository, broker}
-
--- the message was sent
-abbrev pub WasSent : List Post → NodeId → NodeId → Message → Type 0
-WasSent ever from to m = Has (record { from = from; to = to; message = m }) ever
+use Rattle.repository_core.specs.Hands.{Hand, now}
+use Rattle.pseudo_time.specs.Nodes.{repository, broker}
 
 abbrev pub HasBegun : StampParts → List Effect → Type 0
 HasBegun s l = (d : ℕ) × Has (Begin s d) l
@@ -118,18 +115,18 @@ WasClosed ever ticks r s Withdrawn = WasSent ever (broker s.broker) (repository 
 WasClosed ever ticks r s (Expired d m) = Has m ticks
 
 -- what must have come before the effect
-abbrev pub HasCause : List Post → (ℕ → List Effect) → List ℕ → ℕ → Effect → Type 0
-HasCause ever homes ticks r (Put o x v) = WriteSent ever r x o v
-HasCause ever homes ticks r (Stretch o x) = Unit {0}
-HasCause ever homes ticks r (Begin s d) = Unit {0}
-HasCause ever homes ticks r (Decide s d) = WasClosed ever ticks r s d
-HasCause ever homes ticks r (Learn s c) = IsDecidedAt homes s c
-HasCause ever homes ticks r (Run n) = Unit {0}
-HasCause ever homes ticks r (Act i h t n c b) = Unit {0}
-HasCause ever homes ticks r (Try i s) = Unit {0}
-HasCause ever homes ticks r (Got k v) = Unit {0}
-HasCause ever homes ticks r (Acked k) = Unit {0}
-HasCause ever homes ticks r (End i e) = Unit {0}
+abbrev pub RestsOn : List Post → (ℕ → List Effect) → List ℕ → ℕ → Effect → Type 0
+RestsOn ever homes ticks r (Put o x v) = WriteSent ever r x o v
+RestsOn ever homes ticks r (Stretch o x) = Unit {0}
+RestsOn ever homes ticks r (Begin s d) = Unit {0}
+RestsOn ever homes ticks r (Decide s d) = WasClosed ever ticks r s d
+RestsOn ever homes ticks r (Learn s c) = IsDecidedAt homes s c
+RestsOn ever homes ticks r (Run n) = Unit {0}
+RestsOn ever homes ticks r (Act i h t n c b) = Unit {0}
+RestsOn ever homes ticks r (Try i s) = Unit {0}
+RestsOn ever homes ticks r (Got k v) = Unit {0}
+RestsOn ever homes ticks r (Acked k) = Unit {0}
+RestsOn ever homes ticks r (End i e) = Unit {0}
 
 -- a held read was sent by the broker that is to be answered
 abbrev pub HeldHolds : List Post → ℕ → TimeParts × Held → Type 0
@@ -143,7 +140,7 @@ pub record HandHolds (ever : List Post) (homes : ℕ → List Effect) (ticks : L
   pub base : h.base ≡ gated
   pub tidy : IsTidy r h.base
   pub grew : Grew (FitsLog r) h.base h.fresh
-  pub causes : Every (HasCause ever homes ticks r) h.fresh
+  pub causes : Every (RestsOn ever homes ticks r) h.fresh
   pub held : Every (HeldHolds ever r) h.held
   pub outs : Every (λ p. PostHolds ever r (now h) p.to p.message) h.outs
 

@@ -5,7 +5,7 @@ use Rattle.effect_form.specs.declared.effects.Effect.{Effect}
 use Rattle.turn_form.specs.Growth.{Grew}
 use Rattle.turn_form.specs.Posts.{Post}
 use Rattle.repository_core.specs.Hands.{Hand, Mind}
-use Rattle.repository_laws.specs.Facts.{FitsLog, IsTidy, PostHolds, HasCause, HeldHolds}
+use Rattle.repository_laws.specs.Facts.{FitsLog, IsTidy, PostHolds, RestsOn, HeldHolds}
 
 -- the whole log, which grew from the durable one by effects that fit, and reads that are held
 pub record IsGiven (ever : List Post) (homes : ℕ → List Effect) (r : ℕ) (log : List Effect) (mind : Mind) : Type 0 where
@@ -18,6 +18,6 @@ pub record IsGiven (ever : List Post) (homes : ℕ → List Effect) (r : ℕ) (l
 -- after the turn: its effects fit, one by one, each with its cause, and what its messages say holds of the log with them
 pub record Gives (ever : List Post) (homes : ℕ → List Effect) (ticks : List ℕ) (r : ℕ) (log : List Effect) (h : Hand) : Type 0 where
   pub grew : Grew (FitsLog r) log h.fresh
-  pub causes : Grew (λ l f. HasCause ever homes ticks r f) log h.fresh
+  pub causes : Grew (λ l f. RestsOn ever homes ticks r f) log h.fresh
   pub held : Every (HeldHolds ever r) h.held
   pub outs : Every (λ p. PostHolds ever r (h.fresh ++ log) p.to p.message) h.outs

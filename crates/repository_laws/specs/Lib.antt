@@ -1,3 +1,4 @@
 pub mod AnyLogs
 pub mod Facts
 pub mod Givens
+pub mod Served

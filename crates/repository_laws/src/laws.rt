@@ -1,5 +1,5 @@
 // Logs stand newest first.
-ghost use Rattle.std.specs.Prelude.{◌≡◌, ℕ, Bool, List, [], ◌∷◌, ◌++◌};
+ghost use Rattle.std.specs.Prelude.{◌≡◌, ℕ, Bool, true, List, [], ◌∷◌, ◌++◌};
 ghost use Rattle.pseudo_time.specs.Lists.{Has};
 ghost use Rattle.pseudo_time.specs.StampParts.{StampParts};
 ghost use Rattle.pseudo_time.specs.TimeParts.{TimeParts};
@@ -8,16 +8,19 @@ ghost use Rattle.pseudo_time.specs.declared.nodes.NodeId.{NodeId};
 ghost use Rattle.effect_form.specs.declared.effects.Effect.{Effect};
 ghost use Rattle.effect_form.specs.declared.effects.Effect.TheVariants as effect;
 ghost use Rattle.message_form.specs.declared.messages.Message.{Message};
-ghost use Rattle.turn_form.specs.Posts.{Post};
+ghost use Rattle.turn_form.specs.Posts.{Post, WasSent};
 ghost use Rattle.turn_form.specs.Growth.{Grew};
 ghost use Rattle.object_history.specs.Views.{Distinct};
 ghost use Rattle.repository_core.specs.declared.waits.Held.{Held};
 ghost use Rattle.repository_core.specs.Logs.{marks};
-ghost use Rattle.repository_core.specs.Hands.{Mind, repository};
+ghost use Rattle.repository_core.specs.Hands.{Hand, Mind};
+ghost use Rattle.pseudo_time.specs.Nodes.{repository};
 ghost use Rattle.repository_core.specs.Turns.{hand_at, told};
 ghost use Rattle.repository_core.specs.Turns.Input.{Taking, Learning, Hearing};
-ghost use Rattle.repository_laws.specs.Facts.{IsTimely, FitsLog, IsTidy, PostHolds, IsDecidedAt, HasCause, HeldHolds, HasCome, WasSent};
+ghost use Rattle.repository_laws.specs.Facts.{IsTimely, FitsLog, IsTidy, PostHolds, IsDecidedAt, RestsOn, HeldHolds, HasCome};
 ghost use Rattle.repository_laws.specs.AnyLogs.{RefusesRightly};
+ghost use Rattle.repository_core.specs.Rows.{accepts, on_message};
+ghost use Rattle.repository_laws.specs.Served.{IsServed};
 ghost use Rattle.repository_laws.specs.Givens.{IsGiven, Gives};
 
 /// Effects that fit leave a tidy log tidy, and no two versions of an object in it have one start.
@@ -48,7 +51,7 @@ pub fn messages_stay_true()
 /// The causes of effects and of held reads stay, as more is sent, more ticks pass and the logs grow.
 pub fn causes_stay()
     ensures effects { (ever more : List Post) (homes longer : ℕ → List Effect) (ticks late : List ℕ) (r : ℕ) (f : Effect) →
-        ((n : ℕ) (g : Effect) → Has g (homes n) → Has g (longer n)) → HasCause ever homes ticks r f → HasCause (ever ++ more) longer (ticks ++ late) r f }
+        ((n : ℕ) (g : Effect) → Has g (homes n) → Has g (longer n)) → RestsOn ever homes ticks r f → RestsOn (ever ++ more) longer (ticks ++ late) r f }
     ensures held { (ever more : List Post) (r : ℕ) (e : TimeParts × Held) → HeldHolds ever r e → HeldHolds (ever ++ more) r e }
 {}
 
@@ -71,4 +74,10 @@ pub fn refusals_are_right()
     ensures taking { (ever : List Post) (r : ℕ) (log : List Effect) (mind : Mind) (from : NodeId) (m : Message) → WasSent ever from (repository r) m → RefusesRightly ever r log (told (hand_at r log mind) (Taking from m)) }
     ensures learning { (ever : List Post) (r : ℕ) (log : List Effect) (mind : Mind) (s : StampParts) (c : Bool) → RefusesRightly ever r log (told (hand_at r log mind) (Learning s c)) }
     ensures hearing { (ever : List Post) (r : ℕ) (log : List Effect) (mind : Mind) (m : ℕ) → RefusesRightly ever r log (told (hand_at r log mind) (Hearing m)) }
+{}
+
+/// A request that isn't ignored is answered in the turn that takes it, or, a read that waits for an
+/// undecided version, held.
+pub fn requests_are_served()
+    ensures { (h : Hand) (from : NodeId) (m : Message) → accepts h.number from m ≡ true → IsServed h (on_message h from m) from m }
 {}

@@ -4,5 +4,6 @@
 mod laws;
 
 pub use laws::{
-    causes_stay, decided_once, messages_stay_true, refusals_are_right, tidy_stays, turns_keep_facts,
+    causes_stay, decided_once, messages_stay_true, refusals_are_right, requests_are_served,
+    tidy_stays, turns_keep_facts,
 };

@@ -17,6 +17,3 @@ pub use parse_faults::{ParseFault, ParseKind};
 pub use parsing::parse;
 pub use printing::print;
 pub use readers::ScriptReader;
-
-#[cfg(test)]
-mod tests;

@@ -11,6 +11,3 @@ mod statements;
 pub use evaluation::{evaluate, object_at};
 pub use names::Names;
 pub use statements::{condition, count, line_of};
-
-#[cfg(test)]
-mod operations_tests;

@@ -11,6 +11,3 @@ mod steps;
 
 pub use nexts::Next;
 pub use runs::Run;
-
-#[cfg(test)]
-mod tests;

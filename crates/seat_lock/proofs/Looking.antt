@@ -79,6 +79,7 @@ module _ {T E : Type 0} (m : Meaning T E) (base : T) (owners : List ℕ) where
           allowed = r.allowed;
           few = r.few;
           differ = r.differ;
+          owned = r.owned;
           count = omega (arith, r.count, total-set has_ticket s.views id me.0 w at);
           tickets = λ t. let same_ticket : ticket_at t me.0.stage ≡ same t k = ap (ticket_at t) is in omega (arith, r.tickets t, total-set (at_ticket t) s.views id me.0 w at);
           dealt = λ h. omega (arith, r.dealt h, total-set (weight h) s.views id me.0 w at);

@@ -1,5 +1,5 @@
 -- Seats that are split and joined keep the rule.
-use Rattle.std.proofs.Common.{◌≡◌, ℕ, ◌+◌, ◌<◌, ◌≤◌, ◌≢◌, zero, suc, List, [], ◌∷◌, ◌++◌, length, set, sym, refl, ap, ◌∙◌, subst, inl, inr, ⊎_elim, arith, Some}
+use Rattle.std.proofs.Common.{◌≡◌, ℕ, ◌+◌, ◌<◌, ◌≤◌, ◌≢◌, zero, suc, List, [], ◌∷◌, ◌++◌, length, set, sym, refl, ap, ◌∙◌, subst, inl, inr, ⊎_elim, arith, Some, All}
 use Rattle.std.specs.declared.snapshot.Snapshot.{Snapshot}
 use mathlib.Core.Option.{Option, none, some, some-injective, some-ne-none}
 use lib.ListN.{get_elem?}
@@ -10,10 +10,11 @@ use Rattle.seat_lock.specs.declared.views.Stage.TheVariants.{Idle, Waiting, Hold
 use Rattle.seat_lock.specs.declared.views.Part.{Part}
 use Rattle.seat_lock.specs.declared.views.View.{View}
 use Rattle.seat_lock.specs.Story.{Meaning, Begins, HasOwn, longer}
-use Rattle.seat_lock.specs.Rule.{total, same, ticket_at, waits, holding, holds_slot, has_ticket, at_ticket, weight, AtStage, Fits, AtHome, IsOut, Kept}
+use Rattle.seat_lock.specs.Rule.{total, same, ticket_at, waits, holding, holds_slot, has_ticket, at_ticket, weight, AtStage, Fits, AtHome, IsOut, IsOneOf, Kept}
 use Rattle.seat_lock.specs.Steps.{Seated, founder, all_parts, nobody, dealing, dealt_out, note, informed, gathered, learned}
 use Rattle.seat_lock.proofs.Sums.{total-append, total-set, total-one, terms_le, some_term, some_is, each_set}
 use Rattle.seat_lock.proofs.Beginnings.{longer_is, squeeze, own_append, own_first, own_others, total-parts}
+use Rattle.std.proofs.lemmas.List.Elements.{All-nil}
 use Rattle.seat_lock.proofs.Looking.{unmoved}
 
 heard_is : {E : Type 0} (a l : List E) → (let some_a : Option (List E) = some a in some_a ≡ some l) → a ≡ l
@@ -63,6 +64,7 @@ module _ {T E : Type 0} (m : Meaning T E) (base : T) (owners : List ℕ) where
         allowed = r.allowed;
         few = r.few;
         differ = r.differ;
+        owned = r.owned;
         count = omega (arith, r.count, total-set has_ticket s.views id v left at, total-append has_ticket vs (right ∷ []));
         tickets = λ t. let ticket_is : ticket_at t left.stage ≡ ticket_at t v.stage = ap (ticket_at t) stage_is in let ticket_not : ticket_at t right.stage ≡ 0 = ap (ticket_at t) idle in
             omega (arith, r.tickets t, total-set (at_ticket t) s.views id v left at, total-append (at_ticket t) vs (right ∷ []));
@@ -107,6 +109,7 @@ module _ {T E : Type 0} (m : Meaning T E) (base : T) (owners : List ℕ) where
         allowed = r.allowed;
         few = r.few;
         differ = r.differ;
+        owned = r.owned;
         count = omega (arith, r.count, total-set has_ticket s.views id v both at, total-set has_ticket vs other w nobody there);
         tickets = λ t. let ticket_is : ticket_at t both.stage ≡ ticket_at t v.stage = ap (ticket_at t) stage_is in let ticket_not : ticket_at t w.stage ≡ 0 = ap (ticket_at t) idle in
             omega (arith, r.tickets t, total-set (at_ticket t) s.views id v both at, total-set (at_ticket t) vs other w nobody there);
@@ -191,6 +194,7 @@ module _ {T E : Type 0} (m : Meaning T E) (base : T) (owners : List ℕ) where
     allowed = λ k n e. subst (m.may_hold base [] k) (sym (zeros k n e)) (none_held base [] k);
     few = few;
     differ = differ;
+    owned = All-nil (λ e. IsOneOf owners (m.owner e));
     count = refl;
     tickets = λ t. omega arith;
     dealt = λ h. omega (arith, weight-all h owners);
@@ -202,6 +206,7 @@ module _ {T E : Type 0} (m : Meaning T E) (base : T) (owners : List ℕ) where
   -- the table at the end, where one seat has as many owners as there are
   pub closes : (ws : List ℕ) (xs : List T) (id : ℕ) (v : V) → v.stage ≡ Idle → length v.parts ≡ length owners → Final (Seen (Kept m base owners) id v) ws xs
       → (x : T) × (l : List E) × (get_elem? xs 0 ≡ some x) × (m.stands base x × (m.story x ≡ l)) × Begins v.story l × HasOwn m.owner v.parts l × ((k : ℕ) (h : List E) → get_elem? v.heard k ≡ some h → Begins h l)
+      × All (λ e. IsOneOf owners (m.owner e)) l
   closes ws xs id v idle all f =
       let s = f.0 in let r = f.1.0 in let at = f.1.1 in let old = r.each id v at in
       let home : AtHome m base s r.longest = ⊎_elim (λ (h : AtHome m base s r.longest). h) (λ (o : IsOut m base s).
@@ -209,4 +214,4 @@ module _ {T E : Type 0} (m : Meaning T E) (base : T) (owners : List ℕ) where
       let fits = r.each j u t.1.1.0 in let has : 1 ≤ waits u.stage = holding_waits u.stage t.1.1.1 in
       let apart : j ≢ id = (λ e. let is : get_elem? s.views id ≡ some u = subst (λ (n : ℕ). get_elem? s.views n ≡ some u) e t.1.1.0 in let eq : holding v.stage ≡ holding u.stage = ap (λ (z : V). holding z.stage) (some_is v u (sym at ∙ is)) in let free : holding v.stage ≡ 0 = ap holding idle in let pos = t.1.1.1 in omega arith) in
       let two = terms_le (weight (λ _. 1)) s.views id j v u apart at t.1.1.0 in absurd (omega (arith, r.dealt (λ _. 1), total-one owners, total-one v.parts, total-one u.parts, fits.seated, all))) r.shelf in
-      (home.0, r.longest, f.4 0 home.0 (ap (λ l. get_elem? l 0) home.1), home.2, old.begins, old.own_all, old.heard)
+      (home.0, r.longest, f.4 0 home.0 (ap (λ l. get_elem? l 0) home.1), home.2, old.begins, old.own_all, old.heard, r.owned)

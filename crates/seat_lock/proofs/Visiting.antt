@@ -11,10 +11,11 @@ use Rattle.seat_lock.specs.declared.views.Stage.TheVariants.{Idle, Waiting, Hold
 use Rattle.seat_lock.specs.declared.views.Part.{Part}
 use Rattle.seat_lock.specs.declared.views.View.{View}
 use Rattle.seat_lock.specs.Story.{Meaning, HasOwn, owned_in}
-use Rattle.seat_lock.specs.Rule.{total, same, ticket_at, waits, holding, holds_slot, has_ticket, at_ticket, weight, AtStage, Fits, AtHome, IsOut, Kept}
+use Rattle.seat_lock.specs.Rule.{total, same, ticket_at, waits, holding, holds_slot, has_ticket, at_ticket, weight, AtStage, Fits, AtHome, IsOut, IsOneOf, Kept}
 use Rattle.seat_lock.specs.Steps.{Seated, staged, noted, left, posted, tested}
 use Rattle.seat_lock.proofs.Sums.{total-set, term_le, terms_le, each_set, set_same_word, begins_self, set_board, get_board, on_board}
 use Rattle.seat_lock.proofs.Beginnings.{begins_more, own_other}
+use Rattle.seat_lock.proofs.Gathering.{all_after}
 
 module _ {E : Type 0} (owner : E → ℕ) where
   -- owners with their entries of a list have them
@@ -101,6 +102,7 @@ module _ {T E : Type 0} (m : Meaning T E) (base : T) (owners : List ℕ) where
           allowed = λ k n h. grows base r.longest d k n (r.allowed k n h);
           few = r.few;
           differ = r.differ;
+          owned = all_after (λ e. IsOneOf owners (m.owner e)) r.longest d r.owned (let le = term_le (weight (same (m.owner d))) s.views id me.0 at in omega (arith, r.dealt (same (m.owner d))));
           count = omega (arith, r.count, total-set has_ticket s.views id me.0 w at);
           tickets = λ t. omega (arith, r.tickets t, total-set (at_ticket t) s.views id me.0 w at);
           dealt = λ h. omega (arith, r.dealt h, total-set (weight h) s.views id me.0 w at, weight-owned_in m.owner h (m.story x) me.0.parts);
@@ -149,6 +151,7 @@ module _ {T E : Type 0} (m : Meaning T E) (base : T) (owners : List ℕ) where
           allowed = r.allowed;
           few = r.few;
           differ = r.differ;
+          owned = r.owned;
           count = omega (arith, r.count, total-set has_ticket s.views id me.0 w at);
           tickets = λ t. let mine : ticket_at t me.0.stage ≡ same t r.served = ap (ticket_at t) here.0 in
               let my_own = r.tickets r.served in let le = term_le (at_ticket r.served) s.views id me.0 at in let at_mine : ticket_at r.served me.0.stage ≡ 1 = ap (ticket_at r.served) here.0 ∙ omega arith in
@@ -178,6 +181,7 @@ module _ {T E : Type 0} (m : Meaning T E) (base : T) (owners : List ℕ) where
         allowed = allowed;
         few = r.few;
         differ = r.differ;
+        owned = r.owned;
         count = omega (arith, r.count, total-set has_ticket s.views id v w at);
         tickets = λ t. let ticket_is : ticket_at t w.stage ≡ ticket_at t v.stage = ap (ticket_at t) stage_is in omega (arith, r.tickets t, total-set (at_ticket t) s.views id v w at);
         dealt = λ h. let weight_is : weight h w ≡ weight h v = ap (λ (ps : List (Part E)). total (λ (q : Part E). h q.owner) ps) parts_is in omega (arith, r.dealt h, total-set (weight h) s.views id v w at);

@@ -1,5 +1,5 @@
 -- The rule of the table. Word 0 is the number of tickets drawn, word 1 the ticket served, word 2 the length of the story. The rest are the board.
-use Rattle.std.specs.Prelude.{◌≡◌, ◌⊎◌, ℕ, ◌+◌, ◌-◌, ◌%◌, ◌<◌, ◌≤◌, List, [], ◌∷◌, length, Some}
+use Rattle.std.specs.Prelude.{◌≡◌, ◌⊎◌, ℕ, ◌+◌, ◌-◌, ◌%◌, ◌<◌, ◌≤◌, List, [], ◌∷◌, length, All, Some}
 use mathlib.Core.Option.{some, none}
 use lib.ListN.{get_elem?}
 use Rattle.std.specs.declared.snapshot.Snapshot.{Snapshot}
@@ -17,6 +17,10 @@ total f (x ∷ xs) = f x + total f xs
 -- 1 where the numbers are the same, and else 0
 abbrev pub same : ℕ → ℕ → ℕ
 same a b = 1 - ((a - b) + (b - a))
+
+-- the owner is one of these
+abbrev pub IsOneOf : List ℕ → ℕ → Type 0
+IsOneOf owners o = 1 ≤ total (same o) owners
 
 -- 1 where a is below b, and else 0
 abbrev pub below : ℕ → ℕ → ℕ
@@ -89,6 +93,8 @@ module _ {T E : Type 0} (m : Meaning T E) (base : T) where
     pub allowed : (k n : ℕ) → get_elem? board k ≡ some n → m.may_hold base longest k n
     pub few : length owners < 18446744073709551616
     pub differ : (o : ℕ) → total (same o) owners ≤ 1
+    -- each entry is of one of the owners
+    pub owned : All (λ e. IsOneOf owners (m.owner e)) longest
     pub count : served + total has_ticket s.views ≡ drawn
     -- the tickets in views are those from the served one to the last drawn, each once
     pub tickets : (t : ℕ) → below t served + total (at_ticket t) s.views ≡ below t drawn

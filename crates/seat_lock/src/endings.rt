@@ -1,6 +1,7 @@
 //! The end of a lock.
 ghost use Rattle.std.specs.Prelude.{◌≡◌, ◌+◌, ◌<◌, length, All, vec_len};
 ghost use Rattle.seat_lock.specs.Passes.{Covers};
+ghost use Rattle.seat_lock.specs.Rule.{IsOneOf};
 ghost use Rattle.seat_lock.specs.Words.{IsPassOf, CarriesOn, knows, base_of, owners_of};
 ghost use Rattle.seat_lock.specs.declared.views.Stage.TheVariants.{Idle};
 
@@ -25,11 +26,13 @@ impl<T: Storied> SeatLock<T> {
     /// Ends the lock, and gives back its value. `passes` are all its passes, in any order.
     ///
     /// The value stands for a list that begins with the story of each pass, and in which the
-    /// owner of each pass has just that pass's own entries.
+    /// owner of each pass has just that pass's own entries. Each of its entries is of one of the owners
+    /// that the lock was made for.
     pub fn close(self, mut passes: Vec<Pass<T>>) -> T
         requires passes { All (IsPassOf self) passes.items }
         requires all { (vec_len passes ≡ length (owners_of self)) × (0 < vec_len passes) }
         ensures stands { T.stands (base_of self) result }
+        ensures owned { All (λ e. IsOneOf (owners_of self) (T.owner e)) (T.story result) }
         ensures carries { All (λ pass. CarriesOn T.owner (knows pass) (T.story result)) passes.items }
     {
         let Some(mut seat) = passes.pop() else {

@@ -1,40 +1,25 @@
 //! A list of pairs under the lock, with one clerk for each owner.
-ghost use Rattle.std.specs.Prelude.{Bool, ◌≡◌, ◌≤◌, ◌<◌, [], ◌∷◌, ◌++◌, ◌-◌, All, length, map, take, get_or, MatchBool, IfSome};
+ghost use Rattle.std.specs.Prelude.{◌≡◌, ◌≤◌, ◌<◌, [], ◌∷◌, ◌++◌, ◌-◌, All, length, map, take, get_or, MatchBool, IfSome};
 ghost use Rattle.seat_lock.specs.Words.{IsPassOf, knows, owners_of, board_size};
 
 use super::*;
 use std::alloc::Global;
-use std::marker::{Model, PhantomData};
+use std::marker::Model;
 use std::process::Abort;
 use std::sync::Wait;
 use std::test::*;
 use std::thread::{Threads, join};
 
-/// How a list may change.
-trait Manner {
-    // Lists only grow.
-    ghost grows: { Bool };
-}
-
-struct Growing;
-
-impl Manner for Growing {
-    ghost use Rattle.std.specs.Prelude.{true};
-
-    ghost grows = { true };
-}
-
 type Pair = (u32, u32);
 
 /// Pairs of a clerk and a number, with their count.
 #[derive(Drop)]
-struct Pairs<M: Manner> {
+struct Pairs {
     pairs: Vec<Pair>,
     count: u64,
-    of: PhantomData<M>,
 }
 
-impl<M: Manner> Model for Pairs<M> {
+impl Model for Pairs {
     ghost use Rattle.std.specs.Prelude.{◌≡◌, ℕ, List, length};
 
     ghost Value = { List (ℕ × ℕ) };
@@ -44,15 +29,15 @@ impl<M: Manner> Model for Pairs<M> {
     ghost invariant = { λ p. p.count ≡ length p.pairs.items };
 }
 
-impl<M: Manner> Storied for Pairs<M> {
-    ghost use Rattle.std.specs.Prelude.{◌≤◌, [], ◌∷◌, ◌++◌, length, IsTrue};
+impl Storied for Pairs {
+    ghost use Rattle.std.specs.Prelude.{◌≤◌, [], ◌∷◌, ◌++◌, length};
     ghost use Rattle.std.proofs.Common.{arith, length-append};
 
     type Entry = Pair;
 
     ghost story = { λ l. l };
 
-    ghost stands = { λ base l. IsTrue M.grows → length base ≤ length l };
+    ghost stands = { λ base l. length base ≤ length l };
 
     ghost owner = { λ e. e.0 };
 
@@ -64,14 +49,13 @@ impl<M: Manner> Storied for Pairs<M> {
     ghost stays_held = { λ base l e word number held. omega (arith, held, length-append l (e ∷ [])) };
 }
 
-impl<M: Manner> Pairs<M> {
-    fn new(alloc: Global) -> Pairs<M>
+impl Pairs {
+    fn new(alloc: Global) -> Pairs
         ensures { result ≡ [] }
     {
         Pairs {
             pairs: Vec::new(alloc),
             count: 0,
-            of: PhantomData,
         }
     }
 
@@ -89,19 +73,14 @@ impl<M: Manner> Pairs<M> {
 
 /// Who has a pass, and knows whose it is.
 #[derive(Drop)]
-struct Clerk<M: Manner> {
+struct Clerk {
     who: u32,
-    pass: Pass<Pairs<M>>,
+    pass: Pass<Pairs>,
     ghost own: { (knows pass).owner ≡ who },
 }
 
 // One visit: adds the clerk's pair.
-fn put<M: Manner>(
-    rt: &impl Wait,
-    lock: &SeatLock<Pairs<M>>,
-    clerk: Clerk<M>,
-    number: u32,
-) -> Clerk<M>
+fn put(rt: &impl Wait, lock: &SeatLock<Pairs>, clerk: Clerk, number: u32) -> Clerk
     requires pass { IsPassOf lock.now clerk.pass }
     ensures pass { IsPassOf lock.now result.pass }
 {
@@ -122,11 +101,11 @@ fn put<M: Manner>(
 }
 
 // The pass of the last owner, which is `who`.
-fn last_clerk<M: Manner>(
-    lock: &SeatLock<Pairs<M>>,
-    mut passes: Vec<Pass<Pairs<M>>>,
+fn last_clerk(
+    lock: &SeatLock<Pairs>,
+    mut passes: Vec<Pass<Pairs>>,
     who: u32,
-) -> Option<(Vec<Pass<Pairs<M>>>, Clerk<M>)>
+) -> Option<(Vec<Pass<Pairs>>, Clerk)>
     requires pass { All (IsPassOf lock.now) passes.items }
     requires last { get_or (map (λ p. (knows p).owner) passes.items) (length passes.items - 1) 0 ≡ who }
     ensures pass { IfSome result (λ r. All (IsPassOf lock.now) r.0.items × IsPassOf lock.now r.1.pass) }
@@ -137,7 +116,7 @@ fn last_clerk<M: Manner>(
 }
 
 // The clerks 1 and 2 of a new lock with the largest board that is used.
-fn two_clerks<M: Manner>(alloc: Global) -> Option<(SeatLock<Pairs<M>>, Clerk<M>, Clerk<M>)>
+fn two_clerks(alloc: Global) -> Option<(SeatLock<Pairs>, Clerk, Clerk)>
     ensures pass { IfSome result (λ r. IsPassOf r.0 r.1.pass × IsPassOf r.0 r.2.pass) }
     ensures lock { IfSome result (λ r. (owners_of r.0 ≡ 1 ∷ 2 ∷ []) × (board_size r.0 ≡ 4096)) }
 {
@@ -150,12 +129,7 @@ fn two_clerks<M: Manner>(alloc: Global) -> Option<(SeatLock<Pairs<M>>, Clerk<M>,
 }
 
 // Ends the lock.
-fn end_two<M: Manner>(
-    alloc: Global,
-    lock: SeatLock<Pairs<M>>,
-    one: Clerk<M>,
-    two: Clerk<M>,
-) -> Option<Pairs<M>>
+fn end_two(alloc: Global, lock: SeatLock<Pairs>, one: Clerk, two: Clerk) -> Option<Pairs>
     requires pass { IsPassOf lock one.pass × IsPassOf lock two.pass }
     requires all { owners_of lock ≡ 1 ∷ 2 ∷ [] }
 {
@@ -168,12 +142,7 @@ fn end_two<M: Manner>(
 }
 
 // Adds the numbers from 1 to `count`, one in each visit.
-fn put_all<M: Manner>(
-    rt: &impl Wait,
-    lock: &SeatLock<Pairs<M>>,
-    clerk: Clerk<M>,
-    count: u32,
-) -> Clerk<M>
+fn put_all(rt: &impl Wait, lock: &SeatLock<Pairs>, clerk: Clerk, count: u32) -> Clerk
     requires pass { IsPassOf lock.now clerk.pass }
     ensures pass { IsPassOf lock.now result.pass }
 {
@@ -185,48 +154,31 @@ fn put_all<M: Manner>(
 }
 
 // Two clerks add at the same time.
-fn put_by_two<M: Manner + Send + Sync, R: Threads + Wait + Sync>(
+fn put_by_two<R: Threads + Wait + Sync>(
     rt: &R,
-    lock: &SeatLock<Pairs<M>>,
-    one: Clerk<M>,
-    two: Clerk<M>,
+    lock: &SeatLock<Pairs>,
+    one: Clerk,
+    two: Clerk,
     count: u32,
-) -> (Clerk<M>, Clerk<M>)
+) -> (Clerk, Clerk)
     requires pass { IsPassOf lock.now one.pass × IsPassOf lock.now two.pass }
     ensures pass { IsPassOf lock.now result.0.pass × IsPassOf lock.now result.1.pass }
 {
     join(
         rt,
-        || -> Clerk<M>
+        || -> Clerk
             requires { IsPassOf lock.now one.pass }
             ensures { IsPassOf lock.entry.now result.pass }
         { put_all(rt, lock, one, count) },
-        || -> Clerk<M>
+        || -> Clerk
             requires { IsPassOf lock.now two.pass }
             ensures { IsPassOf lock.entry.now result.pass }
         { put_all(rt, lock, two, count) },
     )
 }
 
-// The clerks 1 to 4 of a new lock, with a board of no words.
-fn four_clerks<M: Manner>(
-    alloc: Global,
-) -> Option<(SeatLock<Pairs<M>>, Clerk<M>, Clerk<M>, Clerk<M>, Clerk<M>)>
-    ensures pass { IfSome result (λ r. IsPassOf r.0 r.1.pass × IsPassOf r.0 r.2.pass × IsPassOf r.0 r.3.pass × IsPassOf r.0 r.4.pass) }
-    ensures lock { IfSome result (λ r. owners_of r.0 ≡ 1 ∷ 2 ∷ 3 ∷ 4 ∷ []) }
-{
-    let Ok((lock, passes)) = SeatLock::new(alloc, Pairs::new(alloc), &[1, 2, 3, 4], 0) else {
-        return None;
-    };
-    let (passes, four) = last_clerk(&lock, passes, 4)?;
-    let (passes, three) = last_clerk(&lock, passes, 3)?;
-    let (passes, two) = last_clerk(&lock, passes, 2)?;
-    let (_, one) = last_clerk(&lock, passes, 1)?;
-    Some((lock, one, two, three, four))
-}
-
 // Whether the pairs of the clerk are the numbers from 1 to `count`, in order.
-fn has_numbers<M: Manner>(pairs: &Pairs<M>, who: u32, count: u32) -> bool {
+fn has_numbers(pairs: &Pairs, who: u32, count: u32) -> bool {
     let mut next = 1u32;
     for (by, number) in pairs.pairs.as_slice() {
         if *by == who {
@@ -239,55 +191,8 @@ fn has_numbers<M: Manner>(pairs: &Pairs<M>, who: u32, count: u32) -> bool {
     next == count.saturating_add(1)
 }
 
-// Four clerks add at the same time.
-fn put_by_four<M: Manner + Send + Sync, R: Threads + Wait + Sync>(
-    rt: &R,
-    lock: &SeatLock<Pairs<M>>,
-    ones: (Clerk<M>, Clerk<M>),
-    others: (Clerk<M>, Clerk<M>),
-    count: u32,
-) -> ((Clerk<M>, Clerk<M>), (Clerk<M>, Clerk<M>))
-    requires ones { IsPassOf lock.now ones.0.pass × IsPassOf lock.now ones.1.pass }
-    requires others { IsPassOf lock.now others.0.pass × IsPassOf lock.now others.1.pass }
-    ensures ones { IsPassOf lock.now result.0.0.pass × IsPassOf lock.now result.0.1.pass }
-    ensures others { IsPassOf lock.now result.1.0.pass × IsPassOf lock.now result.1.1.pass }
-{
-    join(
-        rt,
-        || -> (Clerk<M>, Clerk<M>)
-            requires { IsPassOf lock.now ones.0.pass × IsPassOf lock.now ones.1.pass }
-            ensures { IsPassOf lock.entry.now result.0.pass × IsPassOf lock.entry.now result.1.pass }
-        { put_by_two(rt, lock, ones.0, ones.1, count) },
-        || -> (Clerk<M>, Clerk<M>)
-            requires { IsPassOf lock.now others.0.pass × IsPassOf lock.now others.1.pass }
-            ensures { IsPassOf lock.entry.now result.0.pass × IsPassOf lock.entry.now result.1.pass }
-        { put_by_two(rt, lock, others.0, others.1, count) },
-    )
-}
-
-// Ends the lock of four.
-fn end_four<M: Manner>(
-    alloc: Global,
-    lock: SeatLock<Pairs<M>>,
-    ones: (Clerk<M>, Clerk<M>),
-    others: (Clerk<M>, Clerk<M>),
-) -> Option<Pairs<M>>
-    requires ones { IsPassOf lock ones.0.pass × IsPassOf lock ones.1.pass }
-    requires others { IsPassOf lock others.0.pass × IsPassOf lock others.1.pass }
-    requires all { owners_of lock ≡ 1 ∷ 2 ∷ 3 ∷ 4 ∷ [] }
-{
-    let Ok(mut passes) = Vec::with_capacity(alloc, 4) else {
-        return None;
-    };
-    passes.push_reserved(others.1.pass);
-    passes.push_reserved(ones.0.pass);
-    passes.push_reserved(others.0.pass);
-    passes.push_reserved(ones.1.pass);
-    Some(lock.close(passes))
-}
-
 // A visit that notes nothing, and answers how many pairs there are.
-fn look<M: Manner>(rt: &impl Wait, lock: &SeatLock<Pairs<M>>, clerk: Clerk<M>) -> (Clerk<M>, u64)
+fn look(rt: &impl Wait, lock: &SeatLock<Pairs>, clerk: Clerk) -> (Clerk, u64)
     requires pass { IsPassOf lock.now clerk.pass }
     ensures pass { IsPassOf lock.now result.0.pass }
 {
@@ -299,12 +204,7 @@ fn look<M: Manner>(rt: &impl Wait, lock: &SeatLock<Pairs<M>>, clerk: Clerk<M>) -
 }
 
 // A visit that posts how many pairs there were at least.
-fn post_one<M: Manner>(
-    rt: &impl Wait,
-    lock: &SeatLock<Pairs<M>>,
-    clerk: Clerk<M>,
-    word: u32,
-) -> Clerk<M>
+fn post_one(rt: &impl Wait, lock: &SeatLock<Pairs>, clerk: Clerk, word: u32) -> Clerk
     requires pass { IsPassOf lock.now clerk.pass }
     requires word { word < board_size lock.now }
     ensures pass { IsPassOf lock.now result.pass }
@@ -327,7 +227,7 @@ fn post_one<M: Manner>(
 }
 
 fn two_threads<R: Threads + Wait + Abort + Sync>(rt: &R, alloc: Global) -> Result<(), Fail> {
-    let (lock, one, two) = two_clerks::<Growing>(alloc).ok_or("a lock")?;
+    let (lock, one, two) = two_clerks(alloc).ok_or("a lock")?;
     let (one, two) = put_by_two(rt, &lock, one, two, 3);
     let pairs = end_two(alloc, lock, one, two).ok_or("the list")?;
     assert_eq!(rt; pairs.pairs.len(), 6);
@@ -336,19 +236,8 @@ fn two_threads<R: Threads + Wait + Abort + Sync>(rt: &R, alloc: Global) -> Resul
     Ok(())
 }
 
-fn four_threads<R: Threads + Wait + Abort + Sync>(rt: &R, alloc: Global) -> Result<(), Fail> {
-    let (lock, one, two, three, four) = four_clerks::<Growing>(alloc).ok_or("a lock")?;
-    let (ones, others) = put_by_four(rt, &lock, (one, two), (three, four), 1000);
-    let pairs = end_four(alloc, lock, ones, others).ok_or("the list")?;
-    assert_eq!(rt; pairs.pairs.len(), 4000);
-    for who in 1..5u32 {
-        assert!(rt; has_numbers(&pairs, who, 1000), "of {who}");
-    }
-    Ok(())
-}
-
 fn nothing_noted<R: Wait + Abort>(rt: &R, alloc: Global) -> Result<(), Fail> {
-    let (lock, one, two) = two_clerks::<Growing>(alloc).ok_or("a lock")?;
+    let (lock, one, two) = two_clerks(alloc).ok_or("a lock")?;
     let one = put(rt, &lock, one, 1);
     let (two, before) = look(rt, &lock, two);
     let (two, after) = look(rt, &lock, two);
@@ -360,7 +249,7 @@ fn nothing_noted<R: Wait + Abort>(rt: &R, alloc: Global) -> Result<(), Fail> {
 }
 
 fn board<R: Wait + Abort>(rt: &R, alloc: Global) -> Result<(), Fail> {
-    let (lock, one, two) = two_clerks::<Growing>(alloc).ok_or("a lock")?;
+    let (lock, one, two) = two_clerks(alloc).ok_or("a lock")?;
     let one = post_one(rt, &lock, one, 4095);
     let Clerk { who, mut pass } = two;
     assert_eq!(rt; lock.test(&mut pass, 4094), 0);
@@ -383,11 +272,6 @@ fn board<R: Wait + Abort>(rt: &R, alloc: Global) -> Result<(), Fail> {
 #[test]
 fn two_threads_add_three_each(rt: HostRuntime) -> Result<(), Fail> {
     two_threads(&rt, rt.alloc())
-}
-
-#[test]
-fn four_threads_add_a_thousand_each(rt: HostRuntime) -> Result<(), Fail> {
-    four_threads(&rt, rt.alloc())
 }
 
 #[test]

@@ -1,5 +1,5 @@
 -- Each End that a trace added has its cause, over any logs.
-use Rattle.std.proofs.Common.{◌≡◌, ℕ, ◌≤◌, nat_lt, false, List, [], ◌∷◌, ◌++◌, length, sym, ◌∙◌, ap, subst, Some, arith, append_assoc}
+use Rattle.std.proofs.Common.{refl, ◌≡◌, ℕ, ◌≤◌, nat_lt, false, List, [], ◌∷◌, ◌++◌, length, sym, ◌∙◌, ap, subst, Some, arith, append_assoc}
 use Rattle.std.proofs.lemmas.Grind.{common_steps}
 use Rattle.std.proofs.lemmas.List.{append_cancel_right, length-append}
 use Rattle.pseudo_time.specs.Lists.{Has}
@@ -28,15 +28,18 @@ use Rattle.repository_laws.specs.Facts as repositories
 use Rattle.repository_laws.specs.Facts.{Once}
 use Rattle.broker_core.specs.Tasks.{Task}
 use Rattle.broker_core.specs.Book.{Book, Try, find, open_try, time_of}
-use Rattle.broker_core.specs.Stages.{broker, repository}
-use Rattle.broker_laws.specs.AnyLogs.{counted, own_tries, Joins, Rests, Says}
+use Rattle.pseudo_time.specs.Nodes.{broker, repository}
+use Rattle.broker_core.specs.Counted.{counted, own_tries}
+use Rattle.broker_laws.specs.AnyLogs.{Joins, Rests, Says}
 use Rattle.broker_laws.specs.Fits.{IsWriting}
 use Rattle.broker_laws.specs.Posts as posts
 use Rattle.broker_laws.specs.Posts.{IsAskOf, IsLater, OfOpen}
 use Rattle.broker_laws.proofs.AnyDesks.{later-through, enters, open-own}
 use Rattle.broker_laws.proofs.TurnLemmas.{runs-rise}
-use Rattle.world_core.specs.Walks.{Base, sent_by, walk}
-use Rattle.world_core.specs.Legal.{base_of}
+use Rattle.world_core.specs.Answered.{WasAnswered}
+use Rattle.world_core.specs.Walks.{Base, sent_by, walk, start_world}
+use Rattle.world_core.specs.Legal.{Meets, base_of, fates_of}
+use Rattle.world_core.proofs.Answered.{Reason, meets-front, post-answered, write-sent}
 use Rattle.world_core.specs.declared.entries.Entry.TheVariants.{Tick}
 use Rattle.world_facts.specs.Refines as refines
 use Rattle.world_facts.specs.Refines.{logs_at}
@@ -64,6 +67,9 @@ module _ (p : AnyPlace) where
 
   any-facts-there : refines.Facts (any_facts p.script base.run base.acts (log_before p.trace)) base (logs_at (log_opened p.trace) (walk base p.front)) [] ever (λ moment. Has (Tick moment) p.front)
   any-facts-there = any-trace p.script p.plan p.asked p.trace p.front p.rest p.legal p.here
+
+  meets : Meets base (fates_of p.trace.sent) (start_world base) p.front
+  meets = meets-front base (fates_of p.trace.sent) (start_world base) p.front p.rest (subst (Meets base (fates_of p.trace.sent) (start_world base)) p.here p.legal.meets)
 
   module _ (b : ℕ) where
     abbrev acts : List Task
@@ -150,27 +156,40 @@ module _ (p : AnyPlace) where
             let same = that-write t o' v (repository r) w u low stands writes (sent-holds (record { from = broker b; to = repository r; message = message.Write (time_of t) w u }) mine_sent) in
             (same.0, same.1, sym sent.1 ∙ ap (λ (z : ObjectId). z.repository) (sym same.0))
 
-        moved : (step : WriteStep) (r : ℕ) (w : ObjectId) (u : Value) → (o' ≡ w) × (v ≡ u) × (r ≡ o'.repository) → Once (λ l. write_step (marks l) w (time_of t) u ≡ step) (any_log p (repository r)) → AnsweredThere p (time_of t) o' v step
+        -- over its log as it once was
+        abbrev OnceThere : WriteStep → Type 0
+        OnceThere step = Once (λ l. write_step (marks l) o' (time_of t) v ≡ step) (any_log p (repository o'.repository))
+
+        -- it took the write, and answered so
+        taken : (step : WriteStep) (r : ℕ) → broker b ≡ broker t.stamp.broker → Reason base p.front r (time_of t) step → AnsweredThere p (time_of t) o' v step
+        taken step r own (w, u, rep, a) =
+            let sent : repositories.WriteSent ever r (time_of t) w u = (subst (λ k. Has (record { from = broker t.stamp.broker; to = repository k; message = message.Write (time_of t) w u }) ever) rep (write-sent base p.front (time_of t) w u step a), rep) in
+            let same = the-same r w u sent own in
+            subst (λ z. WasAnswered base p.front (time_of t) z v step) (sym same.0) (subst (λ z. WasAnswered base p.front (time_of t) w z step) (sym same.1) a)
+
+        moved : (step : WriteStep) (r : ℕ) (w : ObjectId) (u : Value) → (o' ≡ w) × (v ≡ u) × (r ≡ o'.repository) → Once (λ l. write_step (marks l) w (time_of t) u ≡ step) (any_log p (repository r)) → OnceThere step
         moved step r w u same once =
             subst (λ z. Once (λ l. write_step (marks l) o' (time_of t) v ≡ step) (any_log p (repository z))) same.2
             (subst (λ z. Once (λ l. write_step (marks l) o' (time_of t) z ≡ step) (any_log p (repository r))) (sym same.1)
             (subst (λ z. Once (λ l. write_step (marks l) z (time_of t) u ≡ step) (any_log p (repository r))) (sym same.0) once))
 
         read-cause : (e : TimeParts) (k : NodeKind) (n : ℕ) → any_post p.script base.run base.acts ever k n (any_log p (record { kind = k; number = n })) (record { to = broker b; message = message.LaterRead (time_of t) e }) →
-            EndCause p b below i (outcome.LaterRead o' e)
-        read-cause e Repository r says =
+            Has (record { from = record { kind = k; number = n }; to = broker b; message = message.LaterRead (time_of t) e }) ever → EndCause p b below i (outcome.LaterRead o' e)
+        read-cause e Repository r says h =
             let same = the-same r says.0 says.1 says.2 says.3 in
-            let once : AnsweredThere p (time_of t) o' v (write.LaterRead e) = moved (write.LaterRead e) r says.0 says.1 same says.5 in
-            (t, stands, (v, writes, (says.4, once-read (any_log p (repository o'.repository)) o' (time_of t) e v once, once)))
-        read-cause e Broker n says = absurd says.holds
+            let told : AnsweredThere p (time_of t) o' v (write.LaterRead e) = taken (write.LaterRead e) r says.3 (post-answered base (fates_of p.trace.sent) p.front meets (record { from = repository r; to = broker b; message = message.LaterRead (time_of t) e }) h r refl) in
+            let once : OnceThere (write.LaterRead e) = moved (write.LaterRead e) r says.0 says.1 same says.5 in
+            (t, stands, (v, writes, (says.4, once-read (any_log p (repository o'.repository)) o' (time_of t) e v once, told)))
+        read-cause e Broker n says h = absurd says.holds
 
         version-cause : (x : TimeParts) (k : NodeKind) (n : ℕ) → any_post p.script base.run base.acts ever k n (any_log p (record { kind = k; number = n })) (record { to = broker b; message = message.LaterVersion (time_of t) x }) →
-            EndCause p b below i (outcome.LaterVersion o' x)
-        version-cause x Repository r says =
+            Has (record { from = record { kind = k; number = n }; to = broker b; message = message.LaterVersion (time_of t) x }) ever → EndCause p b below i (outcome.LaterVersion o' x)
+        version-cause x Repository r says h =
             let same = the-same r says.0 says.1 says.2 says.3 in
-            let once : AnsweredThere p (time_of t) o' v (write.LaterVersion x) = moved (write.LaterVersion x) r says.0 says.1 same says.5 in
-            (t, stands, (v, writes, (says.4, once-version (any_log p (repository o'.repository)) o' (time_of t) x v once, once)))
-        version-cause x Broker n says = absurd says.holds
+            let told : AnsweredThere p (time_of t) o' v (write.LaterVersion x) = taken (write.LaterVersion x) r says.3 (post-answered base (fates_of p.trace.sent) p.front meets (record { from = repository r; to = broker b; message = message.LaterVersion (time_of t) x }) h r refl) in
+            let once : OnceThere (write.LaterVersion x) = moved (write.LaterVersion x) r says.0 says.1 same says.5 in
+            (t, stands, (v, writes, (says.4, once-version (any_log p (repository o'.repository)) o' (time_of t) x v once, told)))
+        version-cause x Broker n says h = absurd says.holds
 
       by-outcome : (u : Outcome) → Rests p.script b base.run acts ever below (effect.End i u) → EndCause p b below i u
       by-outcome outcome.Committed r = tt
@@ -181,11 +200,11 @@ module _ (p : AnyPlace) where
       by-outcome (outcome.LaterRead w e) r =
           let t : Try = r.0.0 in
           let came : posts.HasCome b ever (message.LaterRead (time_of t) e) = subst (λ z. OfOpen z (λ x. posts.EndCame b ever x (outcome.LaterRead w e))) r.0.1 r.1 in
-          read-cause t w r.0.2.1.0 r.2 r.0.1 r.0.2.1.1 e came.0.kind came.0.number (sent-holds (record { from = came.0; to = broker b; message = message.LaterRead (time_of t) e }) came.1)
+          read-cause t w r.0.2.1.0 r.2 r.0.1 r.0.2.1.1 e came.0.kind came.0.number (sent-holds (record { from = came.0; to = broker b; message = message.LaterRead (time_of t) e }) came.1) came.1
       by-outcome (outcome.LaterVersion w x) r =
           let t : Try = r.0.0 in
           let came : posts.HasCome b ever (message.LaterVersion (time_of t) x) = subst (λ z. OfOpen z (λ y. posts.EndCame b ever y (outcome.LaterVersion w x))) r.0.1 r.1 in
-          version-cause t w r.0.2.1.0 r.2 r.0.1 r.0.2.1.1 x came.0.kind came.0.number (sent-holds (record { from = came.0; to = broker b; message = message.LaterVersion (time_of t) x }) came.1)
+          version-cause t w r.0.2.1.0 r.2 r.0.1 r.0.2.1.1 x came.0.kind came.0.number (sent-holds (record { from = came.0; to = broker b; message = message.LaterVersion (time_of t) x }) came.1) came.1
 
       pub caused : EndCause p b below i o
       caused = by-outcome o rests

@@ -13,7 +13,12 @@ use Rattle.effect_form.specs.declared.outcomes.Outcome.{Outcome}
 use Rattle.effect_form.specs.declared.outcomes.Outcome.TheVariants as outcome
 use Rattle.serial_model.specs.Questions.{Tree}
 use Rattle.broker_core.specs.Book.{Act, Book, Try, book, close, enter, find, finish, gain, on_act, on_front, on_try, tries, tries_of, new_try}
-use Rattle.broker_core.specs.Stages.{broker}
+use Rattle.value_form.specs.declared.acts.ActSpec.{ActSpec}
+use Rattle.broker_core.specs.Fits.{keep}
+use Rattle.broker_core.specs.Counted.{counted}
+use Rattle.broker_core.specs.Tasks.{tasks}
+use Rattle.world_core.specs.Nodes.{acts_of}
+use Rattle.pseudo_time.specs.Nodes.{broker}
 use Rattle.broker_laws.specs.Fits.{FitsBook, IsTidy, MayTry}
 use Rattle.broker_laws.specs.Posts.{Distinct}
 use Rattle.world_core.specs.Deeds as deeds
@@ -136,11 +141,24 @@ of-run script run b a h = go (b.run == run) refl h
     go true e h = (same-number b.run run e, mapped script (tries_of b.acts) a h)
     go false e h = absurd h
 
-pub try-of : (script : List ℕ → Tree) (run : ℕ) (logs : NodeId → List Effect) (n : ℕ) (a : deeds.Try) → Has a (run_tries script run logs n) → IsTryOf script run logs n a
-unfolding run_tries
+-- the attempts in whole logs
+unfoldable pub booked_tries : (List ℕ → Tree) → ℕ → (NodeId → List Effect) → ℕ → List deeds.Try
+booked_tries script run logs zero = []
+booked_tries script run logs (suc b) = booked_tries script run logs b ++ book_tries script run (book (logs (broker (suc b))))
+
+-- where all of each log counts, they are the run's
+pub tries-kept : (script : List ℕ → Tree) (run : ℕ) (acts : List ActSpec) (logs : NodeId → List Effect) (n : ℕ) →
+    ((b : ℕ) → 1 ≤ b → b ≤ n → keep script b run (tasks (acts_of b acts)) (logs (broker b)) ≡ logs (broker b)) → run_tries script run acts logs n ≡ booked_tries script run logs n
+unfolding run_tries booked_tries
+tries-kept script run acts logs zero h = refl
+tries-kept script run acts logs (suc b) h =
+    λ i. tries-kept script run acts logs b (λ c low high. h c low (omega (arith, high))) i ++ book_tries script run (book (h (suc b) (omega arith) (omega arith) i))
+
+pub try-of : (script : List ℕ → Tree) (run : ℕ) (logs : NodeId → List Effect) (n : ℕ) (a : deeds.Try) → Has a (booked_tries script run logs n) → IsTryOf script run logs n a
+unfolding booked_tries
 try-of script run logs zero a h = absurd h
 try-of script run logs (suc n) a h =
-    elim (has-either (run_tries script run logs n) (book_tries script run (book (logs (broker (suc n))))) a h) [
+    elim (has-either (booked_tries script run logs n) (book_tries script run (book (logs (broker (suc n))))) a h) [
       | inl e ↦ (let r = try-of script run logs n a e in let m = r.high in record { number = r.number; low = r.low; high = omega (arith, m); same_run = r.same_run; try = r.try; has = r.has; is = r.is })
       | inr e ↦ (let r = of-run script run (book (logs (broker (suc n)))) a e in
           record { number = suc n; low = omega arith; high = omega arith; same_run = r.0; try = r.1.0; has = r.1.1; is = r.1.2 })

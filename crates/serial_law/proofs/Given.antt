@@ -45,37 +45,37 @@ Sorted [] = Unit {0}
 Sorted (p ∷ ps) = AllFrom p.start ps × Sorted ps
 
 -- an insertion has the put and the rest
-in-choose : (b : Bool) (w p : Version) (ps qs : List Version) (v : Version) → In (if b then p ∷ qs else w ∷ p ∷ ps) v → (In qs v → (v ≡ w) ⊎ In ps v) →
+in-choose : (b : Bool) (w p : Version) (ps qs : List Version) (v : Version) → In (if b then w ∷ p ∷ ps else p ∷ qs) v → (In qs v → (v ≡ w) ⊎ In ps v) →
     (v ≡ w) ⊎ In (p ∷ ps) v
-in-choose true w p ps qs v (inl e) h = inr (inl e)
-in-choose true w p ps qs v (inr j) h = elim (h j) [ inl e ↦ inl e | inr i ↦ inr (inr i) ]
-in-choose false w p ps qs v (inl e) h = inl e
-in-choose false w p ps qs v (inr j) h = inr j
+in-choose false w p ps qs v (inl e) h = inr (inl e)
+in-choose false w p ps qs v (inr j) h = elim (h j) [ inl e ↦ inl e | inr i ↦ inr (inr i) ]
+in-choose true w p ps qs v (inl e) h = inl e
+in-choose true w p ps qs v (inr j) h = inr j
 
 pub in-put : (w : Version) (ps : List Version) (v : Version) → In (put_in w ps) v → (v ≡ w) ⊎ In ps v
 unfolding put_in
 in-put w [] v (inl e) = inl e
 in-put w [] v (inr j) = absurd j
-in-put w (p ∷ ps) v j = in-choose (lt p.start w.start) w p ps (put_in w ps) v j (in-put w ps v)
+in-put w (p ∷ ps) v j = in-choose (lt w.start p.start) w p ps (put_in w ps) v j (in-put w ps v)
 
-put-first : (b : Bool) (w p : Version) (ps qs : List Version) → In qs w → In (if b then p ∷ qs else w ∷ p ∷ ps) w
-put-first true w p ps qs h = inr h
-put-first false w p ps qs h = inl refl
+put-first : (b : Bool) (w p : Version) (ps qs : List Version) → In qs w → In (if b then w ∷ p ∷ ps else p ∷ qs) w
+put-first true w p ps qs h = inl refl
+put-first false w p ps qs h = inr h
 
 pub put-in : (w : Version) (ps : List Version) → In (put_in w ps) w
 unfolding put_in
 put-in w [] = inl refl
-put-in w (p ∷ ps) = put-first (lt p.start w.start) w p ps (put_in w ps) (put-in w ps)
+put-in w (p ∷ ps) = put-first (lt w.start p.start) w p ps (put_in w ps) (put-in w ps)
 
-put-rest : (b : Bool) (w p : Version) (ps qs : List Version) (v : Version) → In (p ∷ ps) v → (In ps v → In qs v) → In (if b then p ∷ qs else w ∷ p ∷ ps) v
-put-rest true w p ps qs v (inl e) h = inl e
-put-rest true w p ps qs v (inr j) h = inr (h j)
-put-rest false w p ps qs v j h = inr j
+put-rest : (b : Bool) (w p : Version) (ps qs : List Version) (v : Version) → In (p ∷ ps) v → (In ps v → In qs v) → In (if b then w ∷ p ∷ ps else p ∷ qs) v
+put-rest false w p ps qs v (inl e) h = inl e
+put-rest false w p ps qs v (inr j) h = inr (h j)
+put-rest true w p ps qs v j h = inr j
 
 pub put-old : (w : Version) (ps : List Version) (v : Version) → In ps v → In (put_in w ps) v
 unfolding put_in
 put-old w [] v j = absurd j
-put-old w (p ∷ ps) v j = put-rest (lt p.start w.start) w p ps (put_in w ps) v j (put-old w ps v)
+put-old w (p ∷ ps) v j = put-rest (lt w.start p.start) w p ps (put_in w ps) v j (put-old w ps v)
 
 -- an insertion keeps the order
 from-of : (x : TimeParts) (ps : List Version) → ((v : Version) → In ps v → lt v.start x ≡ false) → AllFrom x ps
@@ -91,16 +91,17 @@ from-put : (x : TimeParts) (w : Version) (ps : List Version) → AllFrom x ps �
 from-put x w ps h k =
     from-of x (put_in w ps) (λ v j. elim (in-put w ps v j) [ inl e ↦ ap (λ z. lt z.start x) e ∙ k | inr i ↦ from-is x ps v h i ])
 
-sorted-one : (b : Bool) (w p : Version) (ps : List Version) → lt p.start w.start ≡ b → Sorted (p ∷ ps) → Sorted (put_in w ps) →
-    Sorted (if b then p ∷ put_in w ps else w ∷ p ∷ ps)
-sorted-one true w p ps e h k = (from-put p.start w ps h.0 (lt-asymmetric p.start w.start e), k)
-sorted-one false w p ps e h k =
-    ((e, from-of w.start ps (λ v j. not-lt-trans v.start p.start w.start (from-is p.start ps v h.0 j) e)), h)
+sorted-one : (b : Bool) (w p : Version) (ps : List Version) → lt w.start p.start ≡ b → Sorted (p ∷ ps) → Sorted (put_in w ps) →
+    Sorted (if b then w ∷ p ∷ ps else p ∷ put_in w ps)
+sorted-one false w p ps e h k = (from-put p.start w ps h.0 e, k)
+sorted-one true w p ps e h k =
+    let not : lt p.start w.start ≡ false = lt-asymmetric w.start p.start e in
+    ((not, from-of w.start ps (λ v j. not-lt-trans v.start p.start w.start (from-is p.start ps v h.0 j) not)), h)
 
 pub sorted-put : (w : Version) (ps : List Version) → Sorted ps → Sorted (put_in w ps)
 unfolding put_in
 sorted-put w [] h = (tt, tt)
-sorted-put w (p ∷ ps) h = sorted-one (lt p.start w.start) w p ps refl h (sorted-put w ps h.1)
+sorted-put w (p ∷ ps) h = sorted-one (lt w.start p.start) w p ps refl h (sorted-put w ps h.1)
 
 sorted-if : (b : Bool) (w : Version) (ps : List Version) → Sorted ps → Sorted (if b then put_in w ps else ps)
 sorted-if true w ps h = sorted-put w ps h

@@ -139,26 +139,25 @@ strict-lines s n (line.Wrote o w ∷ ls) =
     ((λ u j. let r = line-after s (n + 1) ls u j in later-than s n u.start r.0 (let le = r.1 in omega (arith, le))), strict-lines s (n + 1) ls)
 
 -- the puts of a try have rising starts
-strict-one : (b : Bool) (w p : Version) (ps : List Version) → lt p.start w.start ≡ b → Strict (p ∷ ps) → ((u : Version) → In (p ∷ ps) u → u.start ≡ w.start → ⊥) →
-    Strict (put_in w ps) → Strict (if b then p ∷ put_in w ps else w ∷ p ∷ ps)
-strict-one true w p ps e h k j =
-    ((λ u i. elim (in-put w ps u i) [ inl q ↦ ap (λ z. lt p.start z.start) q ∙ e | inr q ↦ h.0 u q ]), j)
-strict-one false w p ps e h k j =
-    let wp : lt w.start p.start ≡ true = cases (lt w.start p.start) refl in
-    ((λ u i. below wp u i), h)
+strict-one : (b : Bool) (w p : Version) (ps : List Version) → lt w.start p.start ≡ b → Strict (p ∷ ps) → ((u : Version) → In (p ∷ ps) u → u.start ≡ w.start → ⊥) →
+    Strict (put_in w ps) → Strict (if b then w ∷ p ∷ ps else p ∷ put_in w ps)
+strict-one true w p ps e h k j = ((λ u i. below u i), h)
   where
-    cases : (b : Bool) → lt w.start p.start ≡ b → lt w.start p.start ≡ true
+    below : (u : Version) → In (p ∷ ps) u → lt w.start u.start ≡ true
+    below u (inl q) = ap (λ z. lt w.start z.start) q ∙ e
+    below u (inr i) = lt-trans w.start p.start u.start e (h.0 u i)
+strict-one false w p ps e h k j =
+    let pw : lt p.start w.start ≡ true = cases (lt p.start w.start) refl in
+    ((λ u i. elim (in-put w ps u i) [ inl q ↦ ap (λ z. lt p.start z.start) q ∙ pw | inr q ↦ h.0 u q ]), j)
+  where
+    cases : (b : Bool) → lt p.start w.start ≡ b → lt p.start w.start ≡ true
     cases true q = q
-    cases false q = absurd (k p (inl refl) (lt-total p.start w.start e q))
-
-    below : lt w.start p.start ≡ true → (u : Version) → In (p ∷ ps) u → lt w.start u.start ≡ true
-    below wp u (inl q) = ap (λ z. lt w.start z.start) q ∙ wp
-    below wp u (inr i) = lt-trans w.start p.start u.start wp (h.0 u i)
+    cases false q = absurd (k p (inl refl) (lt-total p.start w.start q e))
 
 strict-put : (w : Version) (ps : List Version) → Strict ps → ((u : Version) → In ps u → u.start ≡ w.start → ⊥) → Strict (put_in w ps)
 unfolding put_in
 strict-put w [] h k = ((λ u j. absurd j), tt)
-strict-put w (p ∷ ps) h k = strict-one (lt p.start w.start) w p ps refl h k (strict-put w ps h.1 (λ u i. k u (inr i)))
+strict-put w (p ∷ ps) h k = strict-one (lt w.start p.start) w p ps refl h k (strict-put w ps h.1 (λ u i. k u (inr i)))
 
 strict-if : (b : Bool) (w : Version) (ps : List Version) → Strict ps → (b ≡ true → (u : Version) → In ps u → u.start ≡ w.start → ⊥) → Strict (if b then put_in w ps else ps)
 strict-if true w ps h k = strict-put w ps h (k refl)

@@ -1,5 +1,5 @@
 -- logs, their marks, and tests on them
-use Rattle.std.proofs.Common.{◌≡◌, ℕ, ◌≤◌, zero, suc, Bool, true, false, List, [], ◌∷◌, refl, sym, ◌∙◌, ap, Option, Some, None, ◌⊎◌, inl, inr, ◌||◌, nat_le, arith, if◌then◌else◌}
+use Rattle.std.proofs.Common.{◌≡◌, ℕ, ◌≤◌, zero, suc, Bool, true, false, List, [], ◌∷◌, refl, sym, ◌∙◌, ap, Option, Some, None, ◌⊎◌, inl, inr, ◌||◌, ◌&&◌, not, subst, nat_le, arith, if◌then◌else◌}
 use Rattle.std.proofs.lemmas.Grind.{common_steps}
 use Rattle.std.proofs.lemmas.Bool.{false≢true}
 use Rattle.pseudo_time.specs.TimeParts.{TimeParts}
@@ -15,7 +15,7 @@ use Rattle.object_history.specs.History.{or_else, settle_of}
 use Rattle.pseudo_time.specs.Lists.{Has}
 use Rattle.pseudo_time.specs.Order.{same_stamp}
 use Rattle.world_core.specs.Deeds.{RunLogs, has_commit, has_learned, in_run, log_of, marks_at, some_of}
-use Rattle.repository_core.specs.Logs.{is_commit, marks}
+use Rattle.repository_core.specs.Logs.{is_commit, marks, knows}
 use Rattle.object_history.proofs.BoolLemmas.{and-both, and-left, and-right}
 use Rattle.pseudo_time.proofs.OrderLemmas.{same_stamp-is, same_stamp-of}
 use Rattle.serial_law.proofs.Puts.{PutAt}
@@ -87,8 +87,8 @@ pub has-commit : (s : StampParts) (log : List Effect) → has_commit s log ≡ t
 unfolding has_commit
 has-commit s [] h = absurd (false≢true h)
 has-commit s (effect.Decide t decision.Committed ∷ log) h =
-    elim (or-cases (same_stamp t s) (has_commit s log) h) [
-      | inl e ↦ inl (decide-path s t decision.Committed (same_stamp-is t s e))
+    elim (or-cases (same_stamp t s && not (knows log s)) (has_commit s log) h) [
+      | inl e ↦ inl (decide-path s t decision.Committed (same_stamp-is t s (and-left (same_stamp t s) _ e)))
       | inr e ↦ inr (has-commit s log e)
     ]
 has-commit s (f ∷ log) h = inr (has-commit s log h)
@@ -96,21 +96,67 @@ has-commit s (f ∷ log) h = inr (has-commit s log h)
 same-decide : (s t : StampParts) (d e : Decision) → effect.Decide t e ≡ effect.Decide s d → t ≡ s
 same-decide s t d e h = cc h
 
-pub commit-has : (s : StampParts) (log : List Effect) → Has (effect.Decide s decision.Committed) log → has_commit s log ≡ true
+-- a Decide or Learn of the stamp stands in the log
+abbrev pub Known : List Effect → StampParts → Type 0
+Known log s = ((d : Decision) × Has (effect.Decide s d) log) ⊎ ((c : Bool) × Has (effect.Learn s c) log)
+
+-- what a log knows stands in it
+skip : (f : Effect) (log : List Effect) (s : StampParts) → Known log s → Known (f ∷ log) s
+skip f log s (inl h) = inl (h.0, inr h.1)
+skip f log s (inr h) = inr (h.0, inr h.1)
+
+pub knows-has : (log : List Effect) (s : StampParts) → knows log s ≡ true → Known log s
+unfolding knows
+knows-has [] s h = absurd (false≢true h)
+knows-has (effect.Decide t d ∷ log) s h =
+    elim (or-cases (same_stamp t s) (knows log s) h) [ inl e ↦ inl (d, inl (decide-path s t d (same_stamp-is t s e))) | inr e ↦ skip (effect.Decide t d) log s (knows-has log s e) ]
+knows-has (effect.Learn t c ∷ log) s h =
+    elim (or-cases (same_stamp t s) (knows log s) h) [ inl e ↦ inr (c, inl (learn-path s t c c (same_stamp-is t s e) refl)) | inr e ↦ skip (effect.Learn t c) log s (knows-has log s e) ]
+knows-has (effect.Put o x v ∷ log) s h = skip (effect.Put o x v) log s (knows-has log s h)
+knows-has (effect.Stretch o x ∷ log) s h = skip (effect.Stretch o x) log s (knows-has log s h)
+knows-has (effect.Begin t d ∷ log) s h = skip (effect.Begin t d) log s (knows-has log s h)
+knows-has (effect.Run n ∷ log) s h = skip (effect.Run n) log s (knows-has log s h)
+knows-has (effect.Act i x t k c y ∷ log) s h = skip (effect.Act i x t k c y) log s (knows-has log s h)
+knows-has (effect.Try i t ∷ log) s h = skip (effect.Try i t) log s (knows-has log s h)
+knows-has (effect.Got k v ∷ log) s h = skip (effect.Got k v) log s (knows-has log s h)
+knows-has (effect.Acked k ∷ log) s h = skip (effect.Acked k) log s (knows-has log s h)
+knows-has (effect.End i o ∷ log) s h = skip (effect.End i o) log s (knows-has log s h)
+
+commits-only : (d : Decision) → is_commit d ≡ true → d ≡ decision.Committed
+commits-only decision.Committed h = refl
+commits-only decision.Withdrawn h = absurd (false≢true h)
+commits-only (decision.Expired a b) h = absurd (false≢true h)
+
+-- the log decides the stamp as committed alone, and learns nothing of it
+pub record OnlyCommits (s : StampParts) (log : List Effect) : Type 0 where
+  pub decides : (d : Decision) → Has (effect.Decide s d) log → is_commit d ≡ true
+  pub learns : (c : Bool) → Has (effect.Learn s c) log → ⊥
+
+less-commits : (s : StampParts) (f : Effect) (log : List Effect) → OnlyCommits s (f ∷ log) → OnlyCommits s log
+less-commits s f log o = record { decides = λ d h. o.decides d (inr h); learns = λ c h. o.learns c (inr h) }
+
+pub commit-has : (s : StampParts) (log : List Effect) → OnlyCommits s log → Has (effect.Decide s decision.Committed) log → has_commit s log ≡ true
 unfolding has_commit
-commit-has s [] h = absurd h
-commit-has s (effect.Decide t decision.Committed ∷ log) (inl e) =
-    or-left (same_stamp t s) (has_commit s log) (same_stamp-of t s (same-decide s t decision.Committed decision.Committed e))
-commit-has s (effect.Decide t decision.Committed ∷ log) (inr h) = or-right (same_stamp t s) (has_commit s log) (commit-has s log h)
-commit-has s (f ∷ log) (inl e) = absurd (cc e)
-commit-has s (f ∷ log) (inr h) = commit-has s log h
+commit-has s [] o h = absurd h
+commit-has s (effect.Decide t decision.Committed ∷ log) o (inl e) = first (knows log s) refl (commit-has s log (less-commits s (effect.Decide t decision.Committed) log o))
+  where
+    first : (b : Bool) → knows log s ≡ b → (Has (effect.Decide s decision.Committed) log → has_commit s log ≡ true) → ((same_stamp t s && not (knows log s)) || has_commit s log) ≡ true
+    first true k rest =
+        elim (knows-has log s k) [
+          | inl d ↦ or-right (same_stamp t s && not (knows log s)) (has_commit s log) (rest (subst (λ z. Has (effect.Decide s z) log) (commits-only d.0 (o.decides d.0 (inr d.1))) d.1))
+          | inr c ↦ absurd (o.learns c.0 (inr c.1))
+        ]
+    first false k rest = or-left (same_stamp t s && not (knows log s)) (has_commit s log) (and-both (same_stamp t s) (not (knows log s)) (same_stamp-of t s (same-decide s t decision.Committed decision.Committed e)) (ap not k))
+commit-has s (effect.Decide t decision.Committed ∷ log) o (inr h) = or-right (same_stamp t s && not (knows log s)) (has_commit s log) (commit-has s log (less-commits s (effect.Decide t decision.Committed) log o) h)
+commit-has s (f ∷ log) o (inl e) = absurd (cc e)
+commit-has s (f ∷ log) o (inr h) = commit-has s log (less-commits s f log o) h
 
 pub has-learned : (s : StampParts) (log : List Effect) → has_learned s log ≡ true → Has (effect.Learn s true) log
 unfolding has_learned
 has-learned s [] h = absurd (false≢true h)
 has-learned s (effect.Learn t true ∷ log) h =
-    elim (or-cases (same_stamp t s) (has_learned s log) h) [
-      | inl e ↦ inl (learn-path s t true true (same_stamp-is t s e) refl)
+    elim (or-cases (same_stamp t s && not (knows log s)) (has_learned s log) h) [
+      | inl e ↦ inl (learn-path s t true true (same_stamp-is t s (and-left (same_stamp t s) _ e)) refl)
       | inr e ↦ inr (has-learned s log e)
     ]
 has-learned s (f ∷ log) h = inr (has-learned s log h)
@@ -118,14 +164,29 @@ has-learned s (f ∷ log) h = inr (has-learned s log h)
 same-learn : (s t : StampParts) (c d : Bool) → effect.Learn t d ≡ effect.Learn s c → t ≡ s
 same-learn s t c d h = cc h
 
-pub learned-has : (s : StampParts) (log : List Effect) → Has (effect.Learn s true) log → has_learned s log ≡ true
+-- the log learns of the stamp that it is committed, and doesn't decide it
+pub record OnlyLearns (s : StampParts) (log : List Effect) : Type 0 where
+  pub decides : (d : Decision) → Has (effect.Decide s d) log → ⊥
+  pub learns : (c : Bool) → Has (effect.Learn s c) log → c ≡ true
+
+less-learns : (s : StampParts) (f : Effect) (log : List Effect) → OnlyLearns s (f ∷ log) → OnlyLearns s log
+less-learns s f log o = record { decides = λ d h. o.decides d (inr h); learns = λ c h. o.learns c (inr h) }
+
+pub learned-has : (s : StampParts) (log : List Effect) → OnlyLearns s log → Has (effect.Learn s true) log → has_learned s log ≡ true
 unfolding has_learned
-learned-has s [] h = absurd h
-learned-has s (effect.Learn t true ∷ log) (inl e) =
-    or-left (same_stamp t s) (has_learned s log) (same_stamp-of t s (same-learn s t true true e))
-learned-has s (effect.Learn t true ∷ log) (inr h) = or-right (same_stamp t s) (has_learned s log) (learned-has s log h)
-learned-has s (f ∷ log) (inl e) = absurd (cc e)
-learned-has s (f ∷ log) (inr h) = learned-has s log h
+learned-has s [] o h = absurd h
+learned-has s (effect.Learn t true ∷ log) o (inl e) = first (knows log s) refl (learned-has s log (less-learns s (effect.Learn t true) log o))
+  where
+    first : (b : Bool) → knows log s ≡ b → (Has (effect.Learn s true) log → has_learned s log ≡ true) → ((same_stamp t s && not (knows log s)) || has_learned s log) ≡ true
+    first true k rest =
+        elim (knows-has log s k) [
+          | inl d ↦ absurd (o.decides d.0 (inr d.1))
+          | inr c ↦ or-right (same_stamp t s && not (knows log s)) (has_learned s log) (rest (subst (λ z. Has (effect.Learn s z) log) (o.learns c.0 (inr c.1)) c.1))
+        ]
+    first false k rest = or-left (same_stamp t s && not (knows log s)) (has_learned s log) (and-both (same_stamp t s) (not (knows log s)) (same_stamp-of t s (same-learn s t true true e)) (ap not k))
+learned-has s (effect.Learn t true ∷ log) o (inr h) = or-right (same_stamp t s && not (knows log s)) (has_learned s log) (learned-has s log (less-learns s (effect.Learn t true) log o) h)
+learned-has s (f ∷ log) o (inl e) = absurd (cc e)
+learned-has s (f ∷ log) o (inr h) = learned-has s log (less-learns s f log o) h
 
 -- repositories of the run
 pub in-low : (k : RunLogs) (r : ℕ) → in_run k r ≡ true → 1 ≤ r

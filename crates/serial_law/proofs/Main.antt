@@ -41,7 +41,7 @@ serial-try k ever f T a =
       finished = λ c. whole-of T.script T.answers (before k T.stamp) ending.Finished al (whole k ever f T a c);
       withdrawn = λ l e. whole-of T.script T.answers (before k T.stamp) (ending.Withdrawn l) al (f.end_withdrawn T l a e);
       failed = λ l x e. whole-of T.script T.answers (before k T.stamp) (ending.Failed l x) al (f.end_failed T l x a e);
-      sure = λ e. committed-home k T.stamp (f.home T a) (f.decided T.stamp decision.Committed (f.end_committed T a e));
+      sure = λ e. committed-home k ever f T.stamp (f.home T a) (f.decided T.stamp decision.Committed (f.end_committed T a e));
       other = λ e h n. other e h n (committed k T.stamp) refl;
       puts = λ c. puts-are-lines k ever f T a c;
     }

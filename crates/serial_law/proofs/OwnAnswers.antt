@@ -16,7 +16,7 @@ use Rattle.effect_form.specs.declared.effects.Effect.TheVariants as effect
 use Rattle.effect_form.specs.declared.outcomes.Outcome.TheVariants as outcome
 use Rattle.message_form.specs.declared.messages.Message.{Message}
 use Rattle.message_form.specs.declared.messages.Message.TheVariants as message
-use Rattle.turn_form.specs.Posts.{Post}
+use Rattle.turn_form.specs.Posts.{Post, WasSent}
 use Rattle.object_history.specs.declared.marks.Mark.{Mark}
 use Rattle.object_history.specs.History.{Seen, alive}
 use Rattle.object_history.specs.Views.{shows, views, value_of, Viewed}
@@ -29,8 +29,8 @@ use Rattle.serial_model.specs.Questions.{stop}
 use Rattle.repository_core.specs.Logs.{marks}
 use Rattle.repository_laws.specs.Facts as repositories
 use Rattle.broker_core.specs.Book.{Try, book, find, tries}
-use Rattle.broker_core.specs.Stages.{broker, repository}
-use Rattle.broker_laws.specs.Posts.{IsAskOf, IsBelow, IsFitting, IsPlayed, IsProven, WasSent, at}
+use Rattle.pseudo_time.specs.Nodes.{broker, repository}
+use Rattle.broker_laws.specs.Posts.{IsAskOf, IsBelow, IsFitting, IsPlayed, IsProven, at}
 use Rattle.broker_laws.proofs.Found.{each-found, one-request}
 use Rattle.broker_laws.proofs.Moves.{clocks}
 use Rattle.world_facts.specs.NodeRules.{kind_post}

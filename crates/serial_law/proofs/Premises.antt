@@ -41,7 +41,7 @@ got-viewed k ever f T a pre post v e =
       w.0,
       asked,
       subst (λ m. Viewed m w.0 (at T.stamp pre) v)
-          (marks-in k w.0 (f.within T pre post (Got v) (ToRead w.0) a e asked)) w.2,
+          (marks-in k w.0 (f.within T pre (Got v ∷ post) (ToRead w.0) a e asked)) w.2,
     )
 
 -- an acknowledged write: what was asked, and its put
@@ -56,7 +56,7 @@ acked-put k ever f T a pre post e =
       s.1,
       asked,
       subst (λ m. PutAt s.0 (at T.stamp pre) s.1 m)
-          (marks-in k s.0 (f.within T pre post Stored (ToWrite s.0 s.1) a e asked))
+          (marks-in k s.0 (f.within T pre (Stored ∷ post) (ToWrite s.0 s.1) a e asked))
           (put-marks (log_of k s.0.repository) s.0 (at T.stamp pre) s.1 s.3),
     )
 

@@ -3,7 +3,6 @@ use Rattle.std.proofs.Common.{◌≡◌, ℕ, zero, suc, ◌+◌, ◌≤◌, Boo
 use Rattle.std.proofs.lemmas.List.{append-nil}
 use Rattle.std.specs.List.{filter}
 use Rattle.pseudo_time.specs.Lists.{Every, Has}
-use Rattle.pseudo_time.specs.Order.{lt}
 use Rattle.pseudo_time.specs.StampParts.{StampParts}
 use Rattle.pseudo_time.specs.TimeParts.{TimeParts}
 use Rattle.pseudo_time.specs.declared.decisions.Decision.{Decision}
@@ -24,9 +23,7 @@ use Rattle.effect_form.specs.declared.outcomes.Outcome.TheVariants as outcome
 use Rattle.message_form.specs.declared.messages.Message.{Message}
 use Rattle.message_form.specs.declared.messages.Message.TheVariants as message
 use Rattle.turn_form.specs.Growth.{Each}
-use Rattle.turn_form.specs.Posts.{Post}
-use Rattle.object_history.specs.declared.steps.WriteStep.TheVariants as write
-use Rattle.object_history.specs.Answers.{write_step}
+use Rattle.turn_form.specs.Posts.{Post, WasSent}
 use Rattle.object_history.specs.Views.{Viewed}
 use Rattle.script_meaning.specs.Meaning.{Got, Stored, Request, ToRead, ToWrite, Stop, Asks, Over}
 use Rattle.serial_model.specs.Questions.{Tree, after, stop, talked}
@@ -36,10 +33,10 @@ use Rattle.plan_form.specs.Plans.{InRange}
 use Rattle.plan_form.specs.PlanTexts.{EachAct, IsWhole}
 use Rattle.repository_core.specs.Logs.{is_commit, marks}
 use Rattle.repository_laws.specs.Facts as repositories
-use Rattle.repository_laws.proofs.Logs.{tidy-distinct, decide-home, decided-once, decide-cause}
+use Rattle.repository_laws.proofs.Logs.{tidy-distinct, learn-home, decide-home, decided-once, decide-cause}
 use Rattle.broker_core.specs.Book as books
 use Rattle.broker_core.specs.Book.{book, tries, tries_of, find}
-use Rattle.broker_core.specs.Stages.{broker, repository}
+use Rattle.pseudo_time.specs.Nodes.{broker, repository}
 use Rattle.broker_core.specs.Tasks.{Task, task_of, tasks, Scripted}
 use Rattle.broker_laws.specs.Fits as brokers
 use Rattle.broker_laws.specs.Posts.{IsAskOf, IsCommitOf, IsBelow, IsPlayed, IsProven, IsPlanned}
@@ -51,11 +48,15 @@ use Rattle.world_core.specs.Nodes.{acts_of}
 use Rattle.world_core.specs.Walks.{Base, opened_log}
 use Rattle.world_facts.specs.NodeRules.{kind_post, node_facts}
 use Rattle.world_facts.specs.Refines as refines
-use Rattle.serial_law.specs.Causes.{HasCause, Causes}
+use Rattle.serial_law.specs.Causes.{HasReason, Causes}
 use Rattle.world_core.specs.Deeds.{Try, RunLogs, in_run}
 use Rattle.serial_law.specs.Facts.{Said, at, asks, request_at, asked_of, Asked, MayCommit, Facts}
 use Rattle.serial_law.specs.Runs.{attempt, run_of}
-use Rattle.serial_law.proofs.Attempts.{IsTryOf, try-of, try-home, of-book, found-try}
+use Rattle.broker_core.specs.Fits.{keep}
+use Rattle.broker_laws.proofs.Kept.{kept}
+use Rattle.serial_law.proofs.Attempts.{IsTryOf, try-of, tries-kept, try-home, of-book, found-try}
+use Rattle.object_history.specs.declared.steps.WriteStep.{WriteStep}
+use Rattle.world_core.proofs.Refusals.{Says}
 use Rattle.serial_law.proofs.CauseLemmas.{once-read, once-version}
 use Rattle.serial_law.proofs.Inside.{Inside, inside-after, inside-asks, inside-script}
 use Rattle.serial_law.proofs.LogLemmas.{in-both}
@@ -149,7 +150,7 @@ module _ (script : List ℕ → Tree) (b : Base) (plan : Plan) (logs : NodeId �
         subst (λ x. kind_post script ever r.0.from.kind r.0.from.number (log r.0.from) (record { to = r.0.to; message = x })) r.2 (every-has _ ever r.0 f.sent_ok r.1),
       )
 
-  was-said : (from to : NodeId) (m : Message) → repositories.WasSent ever from to m → Said ever m
+  was-said : (from to : NodeId) (m : Message) → WasSent ever from to m → Said ever m
   was-said from to m h = said-of ever (record { from = from; to = to; message = m }) h
 
   came : (me : ℕ) (m : Message) → posts.HasCome me ever m → Said ever m
@@ -169,11 +170,19 @@ module _ (script : List ℕ → Tree) (b : Base) (plan : Plan) (logs : NodeId �
 
   -- ---- attempts
 
+  ready : (k : ℕ) → 1 ≤ k → k ≤ plan.brokers → brokers.IsReady script k plan.run (tasks (acts_of k plan.acts)) (log (broker k))
+  ready k low high =
+      subst (λ r. brokers.IsReady script k r (tasks (acts_of k plan.acts)) (log (broker k))) same_run
+      (subst (λ x. brokers.IsReady script k b.run (tasks (acts_of k x)) (log (broker k))) same_acts (f.ready (broker k) (opened k low high)))
+
+  all-kept : (k : ℕ) → 1 ≤ k → k ≤ plan.brokers → keep script k plan.run (tasks (acts_of k plan.acts)) (log (broker k)) ≡ log (broker k)
+  all-kept k low high = kept script k plan.run (tasks (acts_of k plan.acts)) (log (broker k)) (f.tidy (broker k)) (ready k low high).same_plan
+
   abbrev Mine : Try → Type 0
   Mine a = IsTryOf script plan.run log plan.brokers a
 
   mine : (a : Try) → Has a run.tries → Mine a
-  mine a h = try-of script plan.run log plan.brokers a h
+  mine a h = try-of script plan.run log plan.brokers a (subst (Has a) (tries-kept script plan.run plan.acts log plan.brokers all-kept) h)
 
   module _ (a : Try) (m : Mine a) where
     abbrev me : ℕ
@@ -198,8 +207,7 @@ module _ (script : List ℕ → Tree) (b : Base) (plan : Plan) (logs : NodeId �
     its-plan =
         every-has (IsPlanned plan.run (tasks (acts_of me plan.acts))) (tries_of (book own).acts) m.try
         (planned script me plan.run (tasks (acts_of me plan.acts)) own (f.tidy (broker me))
-        (subst (λ r. brokers.IsReady script me r (tasks (acts_of me plan.acts)) own) same_run
-        (subst (λ x. brokers.IsReady script me b.run (tasks (acts_of me x)) own) same_acts (f.ready (broker me) (opened me m.low m.high)))) m.same_run) m.has
+        (ready me m.low m.high) m.same_run) m.has
 
     its-task : IsKept script plan.repositories m.try.task
     its-task =
@@ -252,7 +260,7 @@ module _ (script : List ℕ → Tree) (b : Base) (plan : Plan) (logs : NodeId �
 
   -- ---- repositories
 
-  caused : (r : ℕ) (e : Effect) → Has e (log (repository r)) → repositories.HasCause ever (λ k. log (repository k)) f.ticks r e
+  caused : (r : ℕ) (e : Effect) → Has e (log (repository r)) → repositories.RestsOn ever (λ k. log (repository k)) f.ticks r e
   caused r e h = (each-has _ (log (repository r)) e (f.proofs (repository r)) h).1
 
   own-put : (r : ℕ) (l : List Effect) (o : ObjectId) (x : TimeParts) (v : Value) → repositories.IsTidy r l → Has (effect.Put o x v) l → o.repository ≡ r
@@ -284,6 +292,7 @@ module _ (script : List ℕ → Tree) (b : Base) (plan : Plan) (logs : NodeId �
     decided_once = λ s d e h k. ap is_commit (decided-once s.home (log (repository s.home)) s d e (f.tidy (repository s.home)) h k);
     decided_home = λ r s d i h. sym (decide-home r (log (repository r)) s d (f.tidy (repository r)) h);
     learned = λ r s c i h. caused r (effect.Learn s c) h;
+    learned_away = λ r s c i h e. learn-home r (log (repository r)) s c (f.tidy (repository r)) h e;
     value = λ t v h. value-said t v (posted (message.Value t v) h);
     stored = λ t h. stored-said t (posted (message.Stored t) h);
     decided = λ s d h. decided-said s d (posted (message.Decided s d) h);
@@ -307,7 +316,7 @@ module _ (script : List ℕ → Tree) (b : Base) (plan : Plan) (logs : NodeId �
     put = λ r o x v i h. (own-put r (log (repository r)) o x v (f.tidy (repository r)) h, was-said _ _ _ (caused r (effect.Put o x v) h).0);
     commit = λ s h. was-said _ _ _ (caused s.home (effect.Decide s decision.Committed) h);
     home = λ a has. moved (λ x. in_run run x.stamp.home ≡ true) a (mine a has) (in-both run _ (its-home a (mine a has)).0 (its-home a (mine a has)).1);
-    within = λ a pre post c q has. moved (λ x. x.answers ≡ pre ++ (c ∷ post) → asks (after x.script pre) ≡ Some q → in_run run (asked_of q).repository ≡ true) a (mine a has)
+    within = λ a pre post q has. moved (λ x. x.answers ≡ pre ++ post → asks (after x.script pre) ≡ Some q → in_run run (asked_of q).repository ≡ true) a (mine a has)
         (λ e k. let r = inside-asks plan.repositories (after (script (mine a has).try.task.script) pre) q
         (inside-after plan.repositories (script (mine a has).try.task.script) pre (its-task a (mine a has)).1) k in in-both run _ r.0 r.1);
   }
@@ -321,7 +330,24 @@ module _ (script : List ℕ → Tree) (b : Base) (plan : Plan) (logs : NodeId �
   some-asks (Asks p) q e = cc e
   some-asks (Over x) q e = absurd (cc e)
 
-  module _ (a : Try) (m : Mine a) where
+  abbrev PostedFrom : Message → Type 0
+  PostedFrom m = (k : NodeKind) × (i : ℕ) × (to : NodeId) × kind_post script ever k i (log (record { kind = k; number = i })) (record { to = to; message = m }) × Has (record { from = record { kind = k; number = i }; to = to; message = m }) ever
+
+  posted-from : (m : Message) → Said ever m → PostedFrom m
+  posted-from m h =
+      let r = of-said ever m h in (
+        r.0.from.kind,
+        r.0.from.number,
+        r.0.to,
+        subst (λ x. kind_post script ever r.0.from.kind r.0.from.number (log r.0.from) (record { to = r.0.to; message = x })) r.2 (every-has _ ever r.0 f.sent_ok r.1),
+        subst (λ x. Has (record { from = r.0.from; to = r.0.to; message = x }) ever) r.2 r.1,
+      )
+
+  -- `Told` holds of what a repository answered to a write that it took
+  abbrev TellsOf : (TimeParts → ObjectId → Value → WriteStep → Type 0) → Type 0
+  TellsOf Told = (r : ℕ) (q : Post) → Has q ever → q.from ≡ repository r → Says (λ x step. (o : ObjectId) × (v : Value) × repositories.WriteSent ever r x o v × Told x o v step) q.message
+
+  module _ (Told : TimeParts → ObjectId → Value → WriteStep → Type 0) (tells : TellsOf Told) (a : Try) (m : Mine a) where
     abbrev mine-try : Try
     mine-try = attempt script m.try
 
@@ -336,23 +362,27 @@ module _ (script : List ℕ → Tree) (b : Base) (plan : Plan) (logs : NodeId �
         let here : asks (after (script m.try.task.script) m.try.answers) ≡ Some (ToWrite p w) = asked-here mine-try m.try.answers [] (ToWrite p w) (sym (append-nil m.try.answers)) said in
         (same-write p o w v (sym (some-asks _ (ToWrite p w) here) ∙ e), here)
 
-    refused-read : (o : ObjectId) (e : TimeParts) → ((v : Value) × (stop (script m.try.task.script) m.try.answers ≡ Asks (ToWrite o v))) → Posted (message.LaterRead time e) → HasCause run May mine-try (outcome.LaterRead o e)
-    refused-read o e asks-it (Broker, i, to, h) = absurd h
-    refused-read o e asks-it (Repository, i, to, h) =
+    refused-read : (o : ObjectId) (e : TimeParts) → ((v : Value) × (stop (script m.try.task.script) m.try.answers ≡ Asks (ToWrite o v))) → PostedFrom (message.LaterRead time e) → HasReason run May Told mine-try (outcome.LaterRead o e)
+    refused-read o e asks-it (Broker, i, to, h, s) = absurd h
+    refused-read o e asks-it (Repository, i, to, h, s) =
+        let a = tells i (record { from = repository i; to = to; message = message.LaterRead time e }) s refl in
         let r = asked-now i o h.0 asks-it.0 h.1 h.2 asks-it.1 in
-        subst (λ x. HasCause run May mine-try (outcome.LaterRead x e)) r.0
-        (subst (λ j. (v : Value) × (asks (after (script m.try.task.script) m.try.answers) ≡ Some (ToWrite h.0 v)) × (lt time e ≡ true) × Has (effect.Stretch h.0 e) (log (repository j)) × repositories.Once (λ l. write_step (marks l) h.0 time v ≡ write.LaterRead e) (log (repository j))) (sym h.2.1)
-        (h.1, r.1, h.3, once-read (log (repository i)) h.0 time e h.1 h.4, h.4))
+        let q = asked-now i o a.0 asks-it.0 a.1 a.2 asks-it.1 in
+        let there = once-read (log (repository i)) h.0 time e h.1 h.4 in
+        subst (λ y. HasReason run May Told mine-try (outcome.LaterRead y e)) q.0
+        (a.1, q.1, h.3, subst (λ y. Has (effect.Stretch y e) (log (repository y.repository))) (r.0 ∙ sym q.0) (subst (λ j. Has (effect.Stretch h.0 e) (log (repository j))) (sym h.2.1) there), a.3)
 
-    refused-version : (o : ObjectId) (x : TimeParts) → ((v : Value) × (stop (script m.try.task.script) m.try.answers ≡ Asks (ToWrite o v))) → Posted (message.LaterVersion time x) → HasCause run May mine-try (outcome.LaterVersion o x)
-    refused-version o x asks-it (Broker, i, to, h) = absurd h
-    refused-version o x asks-it (Repository, i, to, h) =
+    refused-version : (o : ObjectId) (x : TimeParts) → ((v : Value) × (stop (script m.try.task.script) m.try.answers ≡ Asks (ToWrite o v))) → PostedFrom (message.LaterVersion time x) → HasReason run May Told mine-try (outcome.LaterVersion o x)
+    refused-version o x asks-it (Broker, i, to, h, s) = absurd h
+    refused-version o x asks-it (Repository, i, to, h, s) =
+        let a = tells i (record { from = repository i; to = to; message = message.LaterVersion time x }) s refl in
         let r = asked-now i o h.0 asks-it.0 h.1 h.2 asks-it.1 in
-        subst (λ y. HasCause run May mine-try (outcome.LaterVersion y x)) r.0
-        (subst (λ j. (v : Value) × (asks (after (script m.try.task.script) m.try.answers) ≡ Some (ToWrite h.0 v)) × (lt x time ≡ false) × ((w : Value) × Has (effect.Put h.0 x w) (log (repository j))) × repositories.Once (λ l. write_step (marks l) h.0 time v ≡ write.LaterVersion x) (log (repository j))) (sym h.2.1)
-        (h.1, r.1, h.3, once-version (log (repository i)) h.0 time x h.1 h.4, h.4))
+        let q = asked-now i o a.0 asks-it.0 a.1 a.2 asks-it.1 in
+        let there = once-version (log (repository i)) h.0 time x h.1 h.4 in
+        subst (λ y. HasReason run May Told mine-try (outcome.LaterVersion y x)) q.0
+        (a.1, q.1, h.3, subst (λ y. (w : Value) × Has (effect.Put y x w) (log (repository y.repository))) (r.0 ∙ sym q.0) (subst (λ j. (w : Value) × Has (effect.Put h.0 x w) (log (repository j))) (sym h.2.1) there), a.3)
 
-    try-cause : (o : Outcome) → m.try.end ≡ Some o → HasCause run May mine-try o
+    try-cause : (o : Outcome) → m.try.end ≡ Some o → HasReason run May Told mine-try o
     try-cause outcome.Committed e = decided-said m.try.stamp decision.Committed (posted _ (came m.number _ ((its-proof a m).ends outcome.Committed e)))
     try-cause (outcome.Withdrawn l) e = talked-stop (script m.try.task.script) m.try.answers ∙ (its-play a m).ends (outcome.Withdrawn l) e
     try-cause (outcome.Failed l k) e = talked-stop (script m.try.task.script) m.try.answers ∙ (its-play a m).ends (outcome.Failed l k) e
@@ -360,9 +390,9 @@ module _ (script : List ℕ → Tree) (b : Base) (plan : Plan) (logs : NodeId �
         let decided = decided-said m.try.stamp (decision.Expired d n) (posted _ (came m.number _ ((its-proof a m).ends (outcome.Expired d n) e))) in
         let c = decide-cause m.try.stamp.home (log (repository m.try.stamp.home)) m.try.stamp (decision.Expired d n) (f.tidy (repository m.try.stamp.home)) decided in
         (decided, subst (λ x. Has (effect.Begin m.try.stamp x) (log (repository m.try.stamp.home))) (sym c.2.0) c.1, subst (λ x. x ≤ n) (sym c.2.0) c.2.1, f.ticked n (caused m.try.stamp.home (effect.Decide m.try.stamp (decision.Expired d n)) decided))
-    try-cause (outcome.LaterRead o x) e = refused-read o x ((its-play a m).ends (outcome.LaterRead o x) e) (posted _ (came m.number _ ((its-proof a m).ends (outcome.LaterRead o x) e)))
-    try-cause (outcome.LaterVersion o x) e = refused-version o x ((its-play a m).ends (outcome.LaterVersion o x) e) (posted _ (came m.number _ ((its-proof a m).ends (outcome.LaterVersion o x) e)))
+    try-cause (outcome.LaterRead o x) e = refused-read o x ((its-play a m).ends (outcome.LaterRead o x) e) (posted-from _ (came m.number _ ((its-proof a m).ends (outcome.LaterRead o x) e)))
+    try-cause (outcome.LaterVersion o x) e = refused-version o x ((its-play a m).ends (outcome.LaterVersion o x) e) (posted-from _ (came m.number _ ((its-proof a m).ends (outcome.LaterVersion o x) e)))
     try-cause (outcome.Spent c) e = absurd ((its-play a m).ends (outcome.Spent c) e)
 
-  pub run-causes : Causes run May
-  run-causes a o has = moved (λ x. x.ended ≡ Some o → HasCause run May x o) a (mine a has) (try-cause a (mine a has) o)
+  pub run-causes : (Told : TimeParts → ObjectId → Value → WriteStep → Type 0) → TellsOf Told → Causes run May Told
+  run-causes Told tells a o has = moved (λ x. x.ended ≡ Some o → HasReason run May Told x o) a (mine a has) (try-cause Told tells a (mine a has) o)

@@ -6,7 +6,7 @@ use Rattle.effect_form.specs.declared.effects.Effect.TheVariants as effect
 use Rattle.pseudo_time.specs.declared.decisions.Decision.{Decision}
 use Rattle.pseudo_time.specs.declared.decisions.Decision.TheVariants as decision
 use Rattle.turn_form.specs.Posts.{Post}
-use Rattle.serial_law.proofs.LogLemmas.{SettledBy, settle-marks, has-commit, commit-has, has-learned, learned-has, in-low, in-high, in-both, some-yes, some-is}
+use Rattle.serial_law.proofs.LogLemmas.{SettledBy, OnlyLearns, settle-marks, has-commit, commit-has, has-learned, learned-has, in-low, in-high, in-both, some-yes, some-is}
 use Rattle.object_history.specs.History.{settle_of}
 use Rattle.pseudo_time.specs.Lists.{Has}
 use Rattle.world_core.specs.Deeds.{RunLogs, committed, has_commit, has_learned, in_run, log_of, some_of}
@@ -25,16 +25,23 @@ if-cases : (b x y : Bool) → (if b then x else y) ≡ true → ((b ≡ true) ×
 if-cases true x y h = inl (refl, h)
 if-cases false x y h = inr h
 
-pub committed-home : (k : RunLogs) (s : StampParts) → in_run k s.home ≡ true → Has (effect.Decide s decision.Committed) (log_of k s.home) → committed k s ≡ true
+pub committed-home : (k : RunLogs) (ever : List Post) → Facts k ever → (s : StampParts) → in_run k s.home ≡ true → Has (effect.Decide s decision.Committed) (log_of k s.home) → committed k s ≡ true
 unfolding committed
-committed-home k s h j = if-true (in_run k s.home) (has_commit s (log_of k s.home)) _ h (commit-has s (log_of k s.home) j)
+committed-home k ever f s h j =
+    if-true (in_run k s.home) (has_commit s (log_of k s.home)) _ h
+    (commit-has s (log_of k s.home) (record { decides = λ d i. f.decided_once s d decision.Committed i j; learns = λ c i. f.learned_away s.home s c h i refl }) j)
 
-committed-learned : (k : RunLogs) (s : StampParts) (r : ℕ) → in_run k s.home ≡ false → in_run k r ≡ true → Has (effect.Learn s true) (log_of k r) →
+committed-learned : (k : RunLogs) (ever : List Post) → Facts k ever → (s : StampParts) (r : ℕ) → in_run k s.home ≡ false → in_run k r ≡ true → Has (effect.Learn s true) (log_of k r) →
     committed k s ≡ true
 unfolding committed
-committed-learned k s r h i j =
+committed-learned k ever f s r h i j =
+    let d = f.learned r s true i j in
+    let only : OnlyLearns s (log_of k r) = record {
+      decides = λ e g. absurd (true≢false (sym (ap (λ x. in_run k x) (sym (f.decided_home r s e i g)) ∙ i) ∙ h));
+      learns = λ c g. let w = f.learned r s c i g in w.2 ∙ f.decided_once s w.0 d.0 w.1 d.1 ∙ sym d.2;
+    } in
     if-false (in_run k s.home) _ (some_of k.repositories (λ r. has_learned s (log_of k r))) h
-    (some-yes k.repositories (λ r. has_learned s (log_of k r)) r (in-low k r i) (in-high k r i) (learned-has s (log_of k r) j))
+    (some-yes k.repositories (λ r. has_learned s (log_of k r)) r (in-low k r i) (in-high k r i) (learned-has s (log_of k r) only j))
 
 committed-is : (k : RunLogs) (s : StampParts) → committed k s ≡ true →
     ((in_run k s.home ≡ true) × Has (effect.Decide s decision.Committed) (log_of k s.home)) ⊎ ((r : ℕ) × (in_run k r ≡ true) × Has (effect.Learn s true) (log_of k r))
@@ -79,8 +86,8 @@ sure-yes k ever f r s i h =
     cases (in_run k s.home) refl here by
   where
     cases : (b : Bool) → in_run k s.home ≡ b → Has (effect.Decide s decision.Committed) (log_of k s.home) → SettledBy (log_of k r) s true → committed k s ≡ true
-    cases true e here by = committed-home k s e here
-    cases false e here (inr j) = committed-learned k s r e i j
+    cases true e here by = committed-home k ever f s e here
+    cases false e here (inr j) = committed-learned k ever f s r e i j
     cases false e here (inl j) =
         absurd (true≢false (sym (ap (λ x. in_run k x) (sym (f.decided_home r s j.0 i j.1)) ∙ i) ∙ e))
 

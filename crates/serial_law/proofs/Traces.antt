@@ -1,5 +1,5 @@
 -- The laws of legal traces, from the facts of their logs and messages.
-use Rattle.std.proofs.Common.{◌≡◌, ℕ, Bool, ◌≤◌, true, List, refl, ◌∙◌, is_some, nat_le, arith}
+use Rattle.std.proofs.Common.{◌≡◌, inl, inr, ℕ, Bool, ◌≤◌, true, List, [], ◌∷◌, ◌++◌, refl, sym, ap, ◌∙◌, subst, is_some, nat_le, arith}
 use Rattle.std.proofs.lemmas.Grind.{common_steps}
 use Rattle.pseudo_time.specs.Lists.{Every, Has}
 use Rattle.pseudo_time.specs.StampParts.{StampParts}
@@ -9,7 +9,7 @@ use Rattle.pseudo_time.specs.declared.decisions.Decision.TheVariants as decision
 use Rattle.pseudo_time.specs.declared.nodes.NodeId.{NodeId}
 use Rattle.pseudo_time.specs.declared.nodes.NodeKind.{NodeKind}
 use Rattle.pseudo_time.specs.declared.nodes.NodeKind.TheVariants.{Repository, Broker}
-use Rattle.pseudo_time.proofs.ListLemmas.{every-has, every-left}
+use Rattle.pseudo_time.proofs.ListLemmas.{every-has, every-left, has-either, has-left, has-right}
 use Rattle.object_history.proofs.BoolLemmas.{and-both}
 use Rattle.value_form.specs.declared.objects.ObjectId.{ObjectId}
 use Rattle.value_form.specs.declared.values.Value.{Value}
@@ -17,19 +17,33 @@ use Rattle.effect_form.specs.declared.effects.Effect.{Effect}
 use Rattle.effect_form.specs.declared.effects.Effect.TheVariants as effect
 use Rattle.message_form.specs.declared.messages.Message.{Message}
 use Rattle.message_form.specs.declared.messages.Message.TheVariants as message
-use Rattle.turn_form.specs.Posts.{Post}
+use Rattle.effect_form.specs.declared.outcomes.Outcome.TheVariants as outcome
+use Rattle.turn_form.specs.Posts.{Post, WasSent}
+use Rattle.turn_form.proofs.GrowthLemmas.{each_below}
+use Rattle.object_history.specs.declared.marks.Mark.{Mark}
+use Rattle.object_history.specs.Views.{Firm, Viewed, value_of}
+use Rattle.object_history.proofs.ViewLemmas.{sees-views}
+use Rattle.repository_core.specs.Logs.{marks}
 use Rattle.broker_core.specs.Book.{book, tries}
-use Rattle.broker_core.specs.Stages.{broker, repository}
+use Rattle.pseudo_time.specs.Nodes.{broker, repository}
 use Rattle.repository_laws.specs.Facts as repositories
-use Rattle.repository_laws.specs.Facts.{IsDecidedAt, WasSent, WriteSent}
+use Rattle.repository_laws.specs.Facts.{IsDecidedAt, WriteSent}
 use Rattle.repository_laws.proofs.Logs.{decide-home, decided-once, learned-elsewhere}
 use Rattle.broker_laws.specs.Fits as brokers
+use Rattle.broker_laws.specs.Fits.{MayTry}
 use Rattle.broker_laws.specs.Posts.{Distinct, IsPlayed, IsProven, IsWithinLimits, PostHolds}
 use Rattle.broker_laws.proofs.Moves.{distinct}
 use Rattle.broker_laws.proofs.Tries.{played, proven}
 use Rattle.broker_laws.proofs.Limits.{within}
-use Rattle.world_core.specs.Walks.{opened_log, sent_by}
-use Rattle.world_core.specs.Legal.{base_of}
+use Rattle.object_history.specs.declared.steps.WriteStep.{WriteStep}
+use Rattle.stream_port.specs.declared.fates.Fate.{Fate}
+use Rattle.world_core.specs.declared.entries.Entry.{Entry}
+use Rattle.world_core.specs.Answered.{WasAnswered}
+use Rattle.world_core.specs.Walks.{Base, opened_log, sent_by, start_world, walk}
+use Rattle.world_core.specs.Legal.{Meets, base_of, fates_of}
+use Rattle.world_core.specs.Pasts.{Call, AreCalls}
+use Rattle.world_core.proofs.Refusals.{Says, says-map}
+use Rattle.world_core.proofs.Answered.{Reason, meets-front, post-answered, write-sent}
 use Rattle.world_facts.specs.NodeRules.{kind_post, node_facts}
 use Rattle.world_facts.specs.Refines as refines
 use Rattle.world_facts.specs.Refines.{logs_at, past_sent, Ticked}
@@ -37,9 +51,9 @@ use Rattle.world_facts.proofs.NodeLaws.{node-laws, past-laws}
 use Rattle.world_facts.proofs.Openings.{legal-facts}
 use Rattle.world_facts.specs.NodeRules.{node_turns}
 use Rattle.serial_law.specs.Facts.{Facts}
-use Rattle.serial_law.specs.Runs.{Place, world_at, log_at, run_at, sent_before, TickedBefore, Acknowledges}
+use Rattle.serial_law.specs.Runs.{Place, world_at, log_at, run_at, sent_before, TickedBefore, AnsweredIn, AnsweredBefore, Acknowledges, SeesStill}
 use Rattle.serial_law.proofs.RunFacts.{each-has, run-facts, run-causes}
-use Rattle.serial_law.specs.Causes.{Causes}
+use Rattle.serial_law.specs.Causes.{Causes, IsSpent}
 
 module _ (p : Place) where
   -- all that holds of logs and messages there
@@ -95,17 +109,67 @@ module _ (p : Place) where
   pub place-acknowledges : (q : Post) → Has q ever → Acknowledges ever q.from (log_at p q.from) q.message
   place-acknowledges q h = acknowledges q.from.kind q.from.number (log_at p q.from) q.to q.message (every-has _ ever q place-facts.sent_ok h)
 
-  pub place-causes : Causes (run_at p) (TickedBefore p)
+  -- what a read was answered is seen there still
+  sees-still : (m : List Mark) (o : ObjectId) (t : TimeParts) (v : Value) → Viewed m o t v → SeesStill m o t v
+  sees-still m o t v h = λ living. let same = sees-views m o t living in (ap value_of same ∙ h.0, subst (Firm m t) (sym same) h.1)
+
+  pub place-sees : (r : ℕ) (to : NodeId) (t : TimeParts) (v : Value) → Has (record { from = repository r; to = to; message = message.Value t v }) ever
+      → (o : ObjectId) × SeesStill (marks (log_at p (repository r))) o t v
+  place-sees r to t v h = let a = place-acknowledges (record { from = repository r; to = to; message = message.Value t v }) h in (a.0, sees-still (marks (log_at p (repository r))) a.0 t v a.2)
+
+  -- a write to repository r that was sent, of which `Told` holds
+  abbrev ToldWrite : List Post → ℕ → (TimeParts → ObjectId → Value → WriteStep → Type 0) → TimeParts → WriteStep → Type 0
+  ToldWrite sent r Told x step = (o : ObjectId) × (v : Value) × repositories.WriteSent sent r x o v × Told x o v step
+
+  -- of a message that was sent later too
+  left-told : (xs ys : List Post) (r : ℕ) (Told More : TimeParts → ObjectId → Value → WriteStep → Type 0) → ((x : TimeParts) (o : ObjectId) (v : Value) (s : WriteStep) → Told x o v s → More x o v s) →
+      (m : Message) → Says (ToldWrite xs r Told) m → Says (ToldWrite (xs ++ ys) r More) m
+  left-told xs ys r Told More f m h = says-map (ToldWrite xs r Told) (ToldWrite (xs ++ ys) r More) (λ x s z. (z.0, z.1, (has-left xs ys _ z.2.0, z.2.1), f x z.0 z.1 s z.3)) m h
+
+  right-told : (xs ys : List Post) (r : ℕ) (Told More : TimeParts → ObjectId → Value → WriteStep → Type 0) → ((x : TimeParts) (o : ObjectId) (v : Value) (s : WriteStep) → Told x o v s → More x o v s) →
+      (m : Message) → Says (ToldWrite ys r Told) m → Says (ToldWrite (xs ++ ys) r More) m
+  right-told xs ys r Told More f m h = says-map (ToldWrite ys r Told) (ToldWrite (xs ++ ys) r More) (λ x s z. (z.0, z.1, (has-right xs ys _ z.2.0, z.2.1), f x z.0 z.1 s z.3)) m h
+
+  -- what a repository refused in a run
+  here-told : (b : Base) (fates : List Fate) (es : List Entry) → Meets b fates (start_world b) es → (r : ℕ) (q : Post) → Has q (sent_by (walk b es)) → q.from ≡ repository r →
+      Says (ToldWrite (sent_by (walk b es)) r (WasAnswered b es)) q.message
+  here-told b fates es meets r q h e =
+      says-map (Reason b es r) (ToldWrite (sent_by (walk b es)) r (WasAnswered b es))
+      (λ x s z. (z.0, z.1, (subst (λ j. Has (record { from = broker x.stamp.broker; to = repository j; message = message.Write x z.0 z.1 }) (sent_by (walk b es))) z.2 (write-sent b es x z.0 z.1 s z.3), z.2), z.3))
+      q.message (post-answered b fates es meets q h r e)
+
+  -- in a run of the past
+  past-told : (cs : List Call) → AreCalls p.script cs → (r : ℕ) (q : Post) → Has q (past_sent p.script cs) → q.from ≡ repository r → Says (ToldWrite (past_sent p.script cs) r (AnsweredIn p.script cs)) q.message
+  past-told [] c r q h e = absurd h
+  past-told (c ∷ cs) calls r q h e =
+      let b : Base = base_of p.script c.plan c.trace in
+      elim (has-either (past_sent p.script cs) (sent_by (walk b c.trace.entries)) q h) [
+        | inl k ↦ left-told (past_sent p.script cs) (sent_by (walk b c.trace.entries)) r (AnsweredIn p.script cs) (AnsweredIn p.script (c ∷ cs)) (λ x o v s a. inr a) q.message (past-told cs calls.0 r q k e)
+        | inr k ↦ right-told (past_sent p.script cs) (sent_by (walk b c.trace.entries)) r (WasAnswered b c.trace.entries) (AnsweredIn p.script (c ∷ cs)) (λ x o v s a. inl a) q.message
+            (here-told b (fates_of c.trace.sent) c.trace.entries calls.1.legal.meets r q k e)
+      ]
+
+  tells : (r : ℕ) (q : Post) → Has q ever → q.from ≡ repository r → Says (ToldWrite ever r (AnsweredBefore p)) q.message
+  tells r q h e =
+      let b : Base = base_of p.script p.plan p.trace in
+      let meets = meets-front b (fates_of p.trace.sent) (start_world b) p.front p.rest (subst (Meets b (fates_of p.trace.sent) (start_world b)) p.here p.legal.meets) in
+      elim (has-either (past_sent p.script p.past.0) (sent_by (world_at p)) q h) [
+        | inl k ↦ left-told (past_sent p.script p.past.0) (sent_by (world_at p)) r (AnsweredIn p.script p.past.0) (AnsweredBefore p) (λ x o v s a. inr a) q.message (past-told p.past.0 p.past.1 r q k e)
+        | inr k ↦ right-told (past_sent p.script p.past.0) (sent_by (world_at p)) r (WasAnswered b p.front) (AnsweredBefore p) (λ x o v s a. inl a) q.message (here-told b (fates_of p.trace.sent) p.front meets r q k e)
+      ]
+
+  pub place-causes : Causes (run_at p) (TickedBefore p) (AnsweredBefore p)
   place-causes =
       run-causes p.script (base_of p.script p.plan p.trace) p.plan (logs_at p.logs (world_at p)) (past_sent p.script p.past.0) (sent_by (world_at p)) (TickedBefore p) refl refl p.whole p.legal.scripted
       brokers-opened place-facts
+      (AnsweredBefore p) tells
 
   -- ---- logs of repositories
 
   pub repository-tidy : (r : ℕ) → repositories.IsTidy r (log_at p (repository r))
   repository-tidy r = place-facts.tidy (repository r)
 
-  caused : (r : ℕ) (e : Effect) → Has e (log_at p (repository r)) → repositories.HasCause ever (λ k. log_at p (repository k)) place-facts.ticks r e
+  caused : (r : ℕ) (e : Effect) → Has e (log_at p (repository r)) → repositories.RestsOn ever (λ k. log_at p (repository k)) place-facts.ticks r e
   caused r e h = (each-has _ (log_at p (repository r)) e (place-facts.proofs (repository r)) h).1
 
   pub put-asked : (r : ℕ) (o : ObjectId) (x : TimeParts) (v : Value) → Has (effect.Put o x v) (log_at p (repository r)) → WriteSent ever r x o v
@@ -145,3 +209,8 @@ module _ (p : Place) where
 
   pub place-limits : (b : ℕ) → Every IsWithinLimits (book (log_at p (broker b))).acts
   place-limits b = every-left IsWithinLimits (book (log_at p (broker b))).acts (book (log_at p (broker b))).past (within p.script b (log_at p (broker b)) (broker-tidy b))
+
+  pub place-spent : (b i c : ℕ) (late early : List Effect) → log_at p (broker b) ≡ late ++ (effect.End i (outcome.Spent c) ∷ early) → MayTry i (book early).acts (IsSpent (book early) c)
+  place-spent b i c late early e =
+      let tidy : brokers.IsTidy p.script b (late ++ (effect.End i (outcome.Spent c) ∷ early)) = subst (brokers.IsTidy p.script b) e (broker-tidy b) in
+      (each_below (brokers.FitsLog p.script b) (effect.End i (outcome.Spent c) ∷ early) late tidy).1

@@ -23,10 +23,12 @@ use Rattle.effect_form.specs.declared.effects.Effect.TheVariants as effect
 use Rattle.effect_form.specs.declared.outcomes.Outcome.TheVariants as outcome
 use Rattle.script_meaning.specs.Meaning.{Got, Stored, ToRead, Asks, Over}
 use Rattle.serial_model.specs.Questions.{Tree, Ends, Says, Reads, Writes, talked, told, left_by}
+use Rattle.pseudo_time.specs.declared.nodes.NodeId.{NodeId}
 use Rattle.plan_form.specs.declared.plans.Plan.{Plan}
 use Rattle.broker_core.specs.Book.{book}
+use Rattle.repository_core.specs.Logs.{knows}
 use Rattle.world_core.specs.Deeds.{Try, RunLogs, some_of, has_commit, has_learned, committed, put_in, puts_of, puts_to, written, find, stamp_in, stamp_if, put_stamps, log_stamps, try_stamps, all_deeds, before, finals, lines_written}
-use Rattle.serial_law.specs.Runs.{run_of, run_tries}
+use Rattle.serial_law.proofs.Attempts.{booked_tries}
 
 abbrev pub plan : ℕ → ℕ → ℕ → Plan
 plan run repositories brokers = record { run = run; repositories = repositories; brokers = brokers; acts = [] }
@@ -67,6 +69,10 @@ at_two a b n = if n == 1 then a else (if n == 2 then b else [])
 abbrev pub act : ℕ → ℕ → Effect
 act i text = effect.Act i 1 5 3 0 (text ∷ [])
 
+-- the run of these logs, of which all counts
+abbrev pub booked_of : (List ℕ → Tree) → Plan → (NodeId → List Effect) → RunLogs
+booked_of script p logs = record { repositories = p.repositories; logs = logs; tries = booked_tries script p.run logs p.brokers }
+
 -- one attempt writes and reads
 abbrev pub alone_script : Tree
 alone_script = Writes (object 1 7) (int 10) (Reads (object 1 7) (λ x. Says x (Ends ending.Finished)))
@@ -80,7 +86,7 @@ abbrev pub alone_broker : List Effect
 alone_broker = effect.End 1 outcome.Committed ∷ effect.Got 2 (int 10) ∷ effect.Acked 1 ∷ effect.Try 1 (stamp 1 1 1) ∷ act 1 1 ∷ effect.Run 1 ∷ []
 
 abbrev pub alone_run : RunLogs
-alone_run = run_of (λ text. alone_script) (plan 1 1 1) (λ n. pick_log n.kind n.number (at_one alone_repository) (at_one alone_broker))
+alone_run = booked_of (λ text. alone_script) (plan 1 1 1) (λ n. pick_log n.kind n.number (at_one alone_repository) (at_one alone_broker))
 
 abbrev pub alone_try : Try
 alone_try = record { stamp = stamp 1 1 1; script = alone_script; answers = Stored ∷ Got (int 10) ∷ []; ended = Some outcome.Committed }
@@ -88,8 +94,8 @@ alone_try = record { stamp = stamp 1 1 1; script = alone_script; answers = Store
 abbrev pub alone_lines : List Line
 alone_lines = line.Wrote (object 1 7) (int 10) ∷ line.Read (object 1 7) (int 10) ∷ line.Print (int 10) ∷ []
 
-alone-tries : run_tries (λ text. alone_script) 1 (λ n. pick_log n.kind n.number (at_one alone_repository) (at_one alone_broker)) 1 ≡ alone_try ∷ []
-unfolding run_tries book
+alone-tries : booked_tries (λ text. alone_script) 1 (λ n. pick_log n.kind n.number (at_one alone_repository) (at_one alone_broker)) 1 ≡ alone_try ∷ []
+unfolding booked_tries book
 alone-tries = refl
 
 alone-talked : talked alone_script (Stored ∷ Got (int 10) ∷ []) ≡ record { lines = alone_lines; stop = Over ending.Finished }
@@ -106,15 +112,15 @@ alone-left : left_by alone_script finite.empty ≡ one (object 1 7) (int 10)
 alone-left = refl
 
 alone-committed : committed alone_run (stamp 1 1 1) ≡ true
-unfolding committed has_commit same_stamp
+unfolding committed has_commit knows same_stamp
 alone-committed = refl
 
 alone-before : before alone_run (stamp 1 1 1) ≡ finite.empty
-unfolding before all_deeds log_stamps put_stamps try_stamps stamp_if stamp_in committed has_commit run_tries find puts_to puts_of put_in book same_stamp stamp_lt lt
+unfolding before all_deeds log_stamps put_stamps try_stamps stamp_if stamp_in committed has_commit knows booked_tries find puts_to puts_of put_in book same_stamp stamp_lt lt
 alone-before = refl
 
 alone-finals : finals alone_run ≡ one (object 1 7) (int 10)
-unfolding finals all_deeds log_stamps put_stamps try_stamps stamp_if stamp_in committed has_commit run_tries find puts_to puts_of put_in book same_stamp stamp_lt lt
+unfolding finals all_deeds log_stamps put_stamps try_stamps stamp_if stamp_in committed has_commit knows booked_tries find puts_to puts_of put_in book same_stamp stamp_lt lt
 alone-finals = refl
 
 alone-puts : written alone_run (stamp 1 1 1) ≡ lines_written (stamp 1 1 1) 1 alone_lines
@@ -123,10 +129,10 @@ alone-puts = refl
 
 -- these media under a plan with no acts: the put is a given write
 abbrev pub given_run : RunLogs
-given_run = run_of (λ text. alone_script) (plan 2 1 1) (λ n. pick_log n.kind n.number (at_one alone_repository) (at_one alone_broker))
+given_run = booked_of (λ text. alone_script) (plan 2 1 1) (λ n. pick_log n.kind n.number (at_one alone_repository) (at_one alone_broker))
 
 alone-given : finals given_run ≡ one (object 1 7) (int 10)
-unfolding finals all_deeds log_stamps put_stamps try_stamps stamp_if stamp_in committed has_commit run_tries find puts_to puts_of put_in book same_stamp stamp_lt lt
+unfolding finals all_deeds log_stamps put_stamps try_stamps stamp_if stamp_in committed has_commit knows booked_tries find puts_to puts_of put_in book same_stamp stamp_lt lt
 alone-given = refl
 
 -- a refused write, tried again after the reader
@@ -149,29 +155,29 @@ abbrev pub retried_reader : List Effect
 retried_reader = effect.End 2 outcome.Committed ∷ effect.Got 1 Nothing ∷ effect.Try 2 (stamp 1 2 1) ∷ act 2 2 ∷ effect.Run 1 ∷ []
 
 abbrev pub retried_run : RunLogs
-retried_run = run_of retried_script (plan 1 1 2) (λ n. pick_log n.kind n.number (at_one retried_repository) (at_two retried_writer retried_reader))
+retried_run = booked_of retried_script (plan 1 1 2) (λ n. pick_log n.kind n.number (at_one retried_repository) (at_two retried_writer retried_reader))
 
 retried-tries : retried_run.tries ≡
     record { stamp = stamp 2 1 1; script = retried_script (1 ∷ []); answers = Stored ∷ []; ended = Some outcome.Committed } ∷
     record { stamp = stamp 1 1 1; script = retried_script (1 ∷ []); answers = []; ended = Some (outcome.LaterRead (object 1 1) (time (stamp 1 2 1) 1)) } ∷
     record { stamp = stamp 1 2 1; script = retried_script (2 ∷ []); answers = Got Nothing ∷ []; ended = Some outcome.Committed } ∷ []
-unfolding run_tries book
+unfolding booked_tries book
 retried-tries = refl
 
 retried-refused : committed retried_run (stamp 1 1 1) ≡ false
-unfolding committed has_commit same_stamp
+unfolding committed has_commit knows same_stamp
 retried-refused = refl
 
 -- the reader's map is empty, though the object has a committed put later
 retried-before : before retried_run (stamp 1 2 1) ≡ finite.empty
-unfolding before all_deeds log_stamps put_stamps try_stamps stamp_if stamp_in committed has_commit run_tries find puts_to puts_of put_in book same_stamp stamp_lt lt
+unfolding before all_deeds log_stamps put_stamps try_stamps stamp_if stamp_in committed has_commit knows booked_tries find puts_to puts_of put_in book same_stamp stamp_lt lt
 retried-before = refl
 
 retried-reader : told (retried_script (2 ∷ [])) finite.empty ≡ record { lines = line.Read (object 1 1) Nothing ∷ []; stop = Over ending.Finished }
 retried-reader = ap (λ x. record { lines = line.Read (object 1 1) x ∷ []; stop = Over ending.Finished }) (value-none (object 1 1))
 
 retried-finals : finals retried_run ≡ one (object 1 1) (int 5)
-unfolding finals all_deeds log_stamps put_stamps try_stamps stamp_if stamp_in committed has_commit run_tries find puts_to puts_of put_in book same_stamp stamp_lt lt
+unfolding finals all_deeds log_stamps put_stamps try_stamps stamp_if stamp_in committed has_commit knows booked_tries find puts_to puts_of put_in book same_stamp stamp_lt lt
 retried-finals = refl
 
 -- a write at another repository than the home; the second try reads it
@@ -194,17 +200,17 @@ elsewhere_broker =
     effect.End 1 outcome.Committed ∷ effect.Acked 1 ∷ effect.Try 1 (stamp 1 1 1) ∷ act 1 1 ∷ effect.Run 1 ∷ []
 
 abbrev pub elsewhere_run : RunLogs
-elsewhere_run = run_of elsewhere_script (plan 1 2 1) (λ n. pick_log n.kind n.number (at_two elsewhere_home elsewhere_other) (at_one elsewhere_broker))
+elsewhere_run = booked_of elsewhere_script (plan 1 2 1) (λ n. pick_log n.kind n.number (at_two elsewhere_home elsewhere_other) (at_one elsewhere_broker))
 
 elsewhere-before : before elsewhere_run (stamp 2 1 1) ≡ one (object 2 1) (int 4)
-unfolding before all_deeds log_stamps put_stamps try_stamps stamp_if stamp_in committed has_commit run_tries find puts_to puts_of put_in book same_stamp stamp_lt lt
+unfolding before all_deeds log_stamps put_stamps try_stamps stamp_if stamp_in committed has_commit knows booked_tries find puts_to puts_of put_in book same_stamp stamp_lt lt
 elsewhere-before = refl
 
 elsewhere-reader : (told (elsewhere_script (2 ∷ [])) (one (object 2 1) (int 4))).lines ≡ (talked (elsewhere_script (2 ∷ [])) (Got (int 4) ∷ [])).lines
 elsewhere-reader = ap (λ x. line.Read (object 2 1) x ∷ []) (value-one (object 2 1) (int 4))
 
 elsewhere-finals : finals elsewhere_run ≡ one (object 2 1) (int 4)
-unfolding finals all_deeds log_stamps put_stamps try_stamps stamp_if stamp_in committed has_commit run_tries find puts_to puts_of put_in book same_stamp stamp_lt lt
+unfolding finals all_deeds log_stamps put_stamps try_stamps stamp_if stamp_in committed has_commit knows booked_tries find puts_to puts_of put_in book same_stamp stamp_lt lt
 elsewhere-finals = refl
 
 -- repository 2 alone, its stamps' home outside the run: committed as learned there
@@ -212,7 +218,7 @@ abbrev pub part_run : RunLogs
 part_run = record { repositories = 1; logs = λ n. pick_log n.kind n.number (at_one (effect.Learn (stamp 1 1 2) true ∷ effect.Put (object 1 1) (time (stamp 1 1 2) 1) (int 4) ∷ [])) (at_one []); tries = [] }
 
 elsewhere-part : finals part_run ≡ one (object 1 1) (int 4)
-unfolding finals all_deeds log_stamps put_stamps try_stamps stamp_if stamp_in committed has_commit some_of has_learned find puts_to puts_of put_in same_stamp stamp_lt lt
+unfolding finals all_deeds log_stamps put_stamps try_stamps stamp_if stamp_in committed has_commit knows some_of has_learned find puts_to puts_of put_in same_stamp stamp_lt lt
 elsewhere-part = refl
 
 -- a withdrawn try leaves nothing
@@ -235,7 +241,7 @@ withdrawn_broker =
     effect.End 1 (outcome.Withdrawn 2) ∷ effect.Acked 1 ∷ effect.Try 1 (stamp 1 1 1) ∷ act 1 1 ∷ effect.Run 1 ∷ []
 
 abbrev pub withdrawn_run : RunLogs
-withdrawn_run = run_of withdrawn_script (plan 1 2 1) (λ n. pick_log n.kind n.number (at_two withdrawn_home withdrawn_other) (at_one withdrawn_broker))
+withdrawn_run = booked_of withdrawn_script (plan 1 2 1) (λ n. pick_log n.kind n.number (at_two withdrawn_home withdrawn_other) (at_one withdrawn_broker))
 
 withdrawn-talked : talked (withdrawn_script (1 ∷ [])) (Stored ∷ []) ≡ record { lines = line.Wrote (object 2 1) (int 7) ∷ []; stop = Over (ending.Withdrawn 2) }
 withdrawn-talked = refl
@@ -244,9 +250,9 @@ withdrawn-alone : (told (withdrawn_script (1 ∷ [])) finite.empty).stop ≡ Ove
 withdrawn-alone = refl
 
 withdrawn-before : before withdrawn_run (stamp 2 1 1) ≡ finite.empty
-unfolding before all_deeds log_stamps put_stamps try_stamps stamp_if stamp_in committed has_commit run_tries find puts_to puts_of put_in book same_stamp stamp_lt lt
+unfolding before all_deeds log_stamps put_stamps try_stamps stamp_if stamp_in committed has_commit knows booked_tries find puts_to puts_of put_in book same_stamp stamp_lt lt
 withdrawn-before = refl
 
 withdrawn-finals : finals withdrawn_run ≡ finite.empty
-unfolding finals all_deeds log_stamps put_stamps try_stamps stamp_if stamp_in committed has_commit run_tries find puts_to puts_of put_in book same_stamp stamp_lt lt
+unfolding finals all_deeds log_stamps put_stamps try_stamps stamp_if stamp_in committed has_commit knows booked_tries find puts_to puts_of put_in book same_stamp stamp_lt lt
 withdrawn-finals = refl

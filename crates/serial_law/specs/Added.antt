@@ -13,17 +13,15 @@ use Rattle.effect_form.specs.declared.outcomes.Outcome.TheVariants as outcome
 use Rattle.stream_port.specs.declared.fates.Asked.{Asked}
 use Rattle.object_history.specs.declared.steps.WriteStep.{WriteStep}
 use Rattle.object_history.specs.declared.steps.WriteStep.TheVariants as write
-use Rattle.object_history.specs.Answers.{write_step}
 use Rattle.serial_model.specs.Questions.{Tree}
 use Rattle.plan_form.specs.declared.plans.Plan.{Plan}
-use Rattle.repository_core.specs.Logs.{marks}
-use Rattle.repository_laws.specs.Facts.{Once}
 use Rattle.broker_core.specs.Book.{Book, Try, open_try, time_of}
-use Rattle.broker_core.specs.Stages.{repository}
-use Rattle.broker_laws.specs.AnyLogs.{counted}
+use Rattle.pseudo_time.specs.Nodes.{repository}
+use Rattle.broker_core.specs.Counted.{counted}
 use Rattle.broker_laws.specs.Fits.{FitsBook, IsWriting}
 use Rattle.world_core.specs.declared.entries.Entry.{Entry}
 use Rattle.world_core.specs.declared.traces.Trace.{Trace}
+use Rattle.world_core.specs.Answered.{WasAnswered}
 use Rattle.world_core.specs.Walks.{walk}
 use Rattle.world_core.specs.Legal.{Legal, base_of}
 use Rattle.world_facts.specs.AnyRules.{tasks_of, log_opened}
@@ -48,9 +46,9 @@ any_log p n = reverse (logs_at (log_opened p.trace) (walk (base_of p.script p.pl
 abbrev pub counted_by : AnyPlace → ℕ → List Effect → Book
 counted_by p b log = counted p.script b (base_of p.script p.plan p.trace).run (tasks_of p.script (base_of p.script p.plan p.trace).run (base_of p.script p.plan p.trace).acts b) log
 
--- the repository of the object answered so to a write, over its log as it once was
+-- the repository of the object took this write in the trace, and answered so
 abbrev pub AnsweredThere : AnyPlace → TimeParts → ObjectId → Value → WriteStep → Type 0
-AnsweredThere p t o v step = Once (λ log. write_step (marks log) o t v ≡ step) (any_log p (repository o.repository))
+AnsweredThere p = WasAnswered (base_of p.script p.plan p.trace) p.front
 
 -- the open attempt of the log below stands at a write, and has P
 abbrev pub WroteThere : AnyPlace → Book → (Try → ObjectId → Value → Type 0) → ObjectId → Type 0

@@ -7,12 +7,12 @@ use Rattle.value_form.specs.declared.values.Value.{Value}
 use Rattle.effect_form.specs.declared.outcomes.Outcome.TheVariants as outcome
 use Rattle.message_form.specs.declared.messages.Message.{Message}
 use Rattle.message_form.specs.declared.messages.Message.TheVariants as message
-use Rattle.turn_form.specs.Posts.{Post}
+use Rattle.turn_form.specs.Posts.{Post, WasSent}
 use Rattle.script_meaning.specs.Meaning.{Answer, Got, Stored, Request, Asks}
 use Rattle.serial_model.specs.Questions.{Tree, stop}
 use Rattle.broker_core.specs.Book.{Try, time_of}
-use Rattle.broker_core.specs.Stages.{broker, repository}
-use Rattle.broker_laws.specs.Posts.{WasSent, at}
+use Rattle.pseudo_time.specs.Nodes.{broker, repository}
+use Rattle.broker_laws.specs.Posts.{at}
 use Rattle.serial_law.specs.Facts.{asked_of}
 
 -- the message that brings an answer

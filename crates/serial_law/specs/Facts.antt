@@ -58,6 +58,7 @@ pub record Facts (k : RunLogs) (ever : List Post) : Type 0 where
   pub decided_once : (s : StampParts) (d e : Decision) → Has (effect.Decide s d) (log_of k s.home) → Has (effect.Decide s e) (log_of k s.home) → is_commit d ≡ is_commit e
   pub decided_home : (r : ℕ) (s : StampParts) (d : Decision) → in_run k r ≡ true → Has (effect.Decide s d) (log_of k r) → r ≡ s.home
   pub learned : (r : ℕ) (s : StampParts) (c : Bool) → in_run k r ≡ true → Has (effect.Learn s c) (log_of k r) → (d : Decision) × Has (effect.Decide s d) (log_of k s.home) × (c ≡ is_commit d)
+  pub learned_away : (r : ℕ) (s : StampParts) (c : Bool) → in_run k r ≡ true → Has (effect.Learn s c) (log_of k r) → s.home ≡ r → ⊥
   -- What was answered stands in the log of the object's repository, or of the stamp's home.
   pub value : (t : TimeParts) (v : Value) → Said ever (message.Value t v) → (o : ObjectId) × Said ever (message.Read t o) × Viewed (marks (log_of k o.repository)) o t v
   pub stored : (t : TimeParts) → Said ever (message.Stored t) → (o : ObjectId) × (v : Value) × Said ever (message.Write t o v) × Has (effect.Put o t v) (log_of k o.repository)
@@ -77,6 +78,6 @@ pub record Facts (k : RunLogs) (ever : List Post) : Type 0 where
   pub distinct : (r : ℕ) → in_run k r ≡ true → Distinct (marks (log_of k r))
   pub put : (r : ℕ) (o : ObjectId) (x : TimeParts) (v : Value) → in_run k r ≡ true → Has (effect.Put o x v) (log_of k r) → (o.repository ≡ r) × Said ever (message.Write x o v)
   pub commit : (s : StampParts) → Has (effect.Decide s decision.Committed) (log_of k s.home) → Said ever (message.Commit s)
-  -- Homes, and the objects that were read or written, lie within the run.
+  -- Homes, the objects that were read or written, and that of the request that stands lie within the run.
   pub home : (try : Try) → Has try k.tries → in_run k try.stamp.home ≡ true
-  pub within : (try : Try) (pre post : List Answer) (a : Answer) (q : Request) → Has try k.tries → try.answers ≡ pre ++ (a ∷ post) → asks (after try.script pre) ≡ Some q → in_run k (asked_of q).repository ≡ true
+  pub within : (try : Try) (pre post : List Answer) (q : Request) → Has try k.tries → try.answers ≡ pre ++ post → asks (after try.script pre) ≡ Some q → in_run k (asked_of q).repository ≡ true

@@ -1,5 +1,5 @@
 -- A run of a plan over the logs of its nodes, which stand newest first.
-use Rattle.std.specs.Prelude.{◌≡◌, ℕ, List, ◌++◌, reverse}
+use Rattle.std.specs.Prelude.{◌≡◌, ◌⊎◌, ℕ, true, List, [], ◌∷◌, ◌++◌, reverse}
 use Rattle.pseudo_time.specs.Lists.{Has}
 use Rattle.pseudo_time.specs.declared.decisions.Decision.{Decision}
 use Rattle.pseudo_time.specs.declared.nodes.NodeId.{NodeId}
@@ -11,17 +11,22 @@ use Rattle.message_form.specs.declared.messages.Message.{Message}
 use Rattle.message_form.specs.declared.messages.Message.TheVariants as message
 use Rattle.turn_form.specs.Posts.{Post}
 use Rattle.stream_port.specs.declared.fates.Asked.{Asked}
-use Rattle.object_history.specs.Views.{Viewed}
+use Rattle.pseudo_time.specs.TimeParts.{TimeParts}
+use Rattle.object_history.specs.declared.steps.WriteStep.{WriteStep}
+use Rattle.object_history.specs.declared.marks.Mark.{Mark}
+use Rattle.object_history.specs.History.{alive, sees}
+use Rattle.object_history.specs.Views.{Firm, Viewed, value_of}
 use Rattle.serial_model.specs.Questions.{Tree}
 use Rattle.plan_form.specs.declared.plans.Plan.{Plan}
 use Rattle.plan_form.specs.PlanTexts.{IsWhole}
 use Rattle.repository_core.specs.Logs.{is_commit, marks}
-use Rattle.broker_core.specs.Stages.{broker}
+use Rattle.pseudo_time.specs.Nodes.{broker}
 use Rattle.world_core.specs.declared.entries.Entry.{Entry}
 use Rattle.world_core.specs.declared.traces.Trace.{Trace}
 use Rattle.world_core.specs.Walks.{World, walk, sent_by}
 use Rattle.world_core.specs.Legal.{Legal, base_of}
-use Rattle.world_core.specs.Pasts.{HasPast, Agrees}
+use Rattle.world_core.specs.Answered.{WasAnswered}
+use Rattle.world_core.specs.Pasts.{Call, HasPast, Agrees}
 use Rattle.world_facts.specs.Refines.{logs_at, past_sent, Ticked}
 pub use Rattle.world_core.specs.Deeds.{Try, RunLogs, attempt, book_tries, run_of}
 unfoldable pub use Rattle.world_core.specs.Deeds.{run_tries}
@@ -63,7 +68,21 @@ sent_before p = past_sent p.script p.past.0 ++ sent_by (world_at p)
 abbrev pub TickedBefore : Place → ℕ → Type 0
 TickedBefore p = Ticked p.past.0 p.front
 
+-- in one of these runs the repository of the object took this write, and answered so
+abbrev pub AnsweredIn : (List ℕ → Tree) → List Call → TimeParts → ObjectId → Value → WriteStep → Type 0
+AnsweredIn script [] x o v step = ⊥
+AnsweredIn script (c ∷ cs) x o v step = WasAnswered (base_of script c.plan c.trace) c.trace.entries x o v step ⊎ AnsweredIn script cs x o v step
+
+-- before, in the trace or in a run of the past
+abbrev pub AnsweredBefore : Place → TimeParts → ObjectId → Value → WriteStep → Type 0
+AnsweredBefore p x o v step = WasAnswered (base_of p.script p.plan p.trace) p.front x o v step ⊎ AnsweredIn p.script p.past.0 x o v step
+
 -- ---- acknowledgements
+
+-- What a read of the object at t sees there has this value, and is the origin, or a version that is settled or the reader's own,
+-- unless the log knows the reader as aborted.
+abbrev pub SeesStill : List Mark → ObjectId → TimeParts → Value → Type 0
+SeesStill m o t v = alive m t ≡ true → (value_of (sees m o t) ≡ v) × Firm m t (sees m o t)
 
 -- What a sender's log has after it sent the message; `ever` are all messages that were sent. After Stored the put with that start
 -- stands in it. After Value a read of that object there sees that value, of the origin, or of a version that is settled or the

@@ -14,9 +14,10 @@ ghost use Rattle.message_form.specs.declared.messages.Message.{Message};
 ghost use Rattle.message_form.specs.declared.messages.Message.TheVariants as message;
 ghost use Rattle.repository_laws.specs.Facts as repositories;
 ghost use Rattle.broker_core.specs.Book.{book, tries};
-ghost use Rattle.broker_core.specs.Stages.{broker, repository};
+ghost use Rattle.pseudo_time.specs.Nodes.{broker, repository};
 ghost use Rattle.broker_laws.specs.Fits as brokers;
-ghost use Rattle.broker_laws.specs.Posts.{Distinct, IsPlayed, IsProven, PostHolds, WasSent};
+ghost use Rattle.broker_laws.specs.Posts.{Distinct, IsPlayed, IsProven, PostHolds};
+ghost use Rattle.turn_form.specs.Posts.{WasSent};
 ghost use Rattle.serial_law.specs.Answers.{IsAnsweredThere, StoredBefore};
 ghost use Rattle.serial_law.specs.Facts.{Facts};
 ghost use Rattle.serial_law.specs.Runs.{Place, log_at, run_at, sent_before};
@@ -73,7 +74,7 @@ pub fn logs_fit()
     ensures stamps { (p : Place) (b : ℕ) → Distinct (tries (book (log_at p (broker b)))) }
     ensures puts { (p : Place) (r : ℕ) (o : ObjectId) (x : TimeParts) (v : Value) → Has (effect.Put o x v) (log_at p (repository r)) → repositories.WriteSent (sent_before p) r x o v }
     ensures commits { (p : Place) (r : ℕ) (s : StampParts) → Has (effect.Decide s decision.Committed) (log_at p (repository r)) →
-        repositories.WasSent (sent_before p) (broker s.broker) (repository r) (message.Commit s) }
+        WasSent (sent_before p) (broker s.broker) (repository r) (message.Commit s) }
 {}
 
 /// All of these, as the central theorem uses them.

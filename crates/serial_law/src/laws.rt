@@ -7,14 +7,22 @@ ghost use Rattle.effect_form.specs.declared.effects.Effect.TheVariants as effect
 ghost use Rattle.effect_form.specs.declared.outcomes.Outcome.{Outcome};
 ghost use Rattle.turn_form.specs.Posts.{Post};
 ghost use Rattle.broker_core.specs.Book.{book};
-ghost use Rattle.broker_core.specs.Stages.{broker};
+ghost use Rattle.pseudo_time.specs.Nodes.{broker, repository};
+ghost use Rattle.pseudo_time.specs.TimeParts.{TimeParts};
+ghost use Rattle.pseudo_time.specs.declared.nodes.NodeId.{NodeId};
+ghost use Rattle.value_form.specs.declared.objects.ObjectId.{ObjectId};
+ghost use Rattle.value_form.specs.declared.values.Value.{Value};
+ghost use Rattle.effect_form.specs.declared.outcomes.Outcome.TheVariants as outcome;
+ghost use Rattle.message_form.specs.declared.messages.Message.TheVariants as message;
+ghost use Rattle.repository_core.specs.Logs.{marks};
+ghost use Rattle.broker_laws.specs.Fits.{MayTry};
 ghost use Rattle.broker_laws.specs.Posts.{IsWithinLimits};
 ghost use Rattle.world_facts.specs.AnyRules.{log_before};
 ghost use Rattle.serial_law.specs.Added.{AnyPlace, any_log, EndCause};
-ghost use Rattle.serial_law.specs.Causes.{Causes};
+ghost use Rattle.serial_law.specs.Causes.{Causes, IsSpent};
 ghost use Rattle.world_core.specs.Deeds.{RunLogs, before, finals};
 ghost use Rattle.serial_law.specs.Facts.{Facts};
-ghost use Rattle.serial_law.specs.Runs.{Place, log_at, run_at, sent_before, TickedBefore, Acknowledges};
+ghost use Rattle.serial_law.specs.Runs.{Place, log_at, run_at, sent_before, TickedBefore, AnsweredBefore, Acknowledges, SeesStill};
 ghost use Rattle.serial_law.specs.Serial.{Serial, HoldsAll, HoldsBefore};
 
 /// Every attempt of a run reads, writes and ends as its script does alone, over the map after the
@@ -39,20 +47,25 @@ pub fn law_before()
 {}
 
 /// Whatever was sent before a place, in the trace or in the past, the log of its sender agrees with there.
+/// What a read was answered, a read at that time would see there still, unless its attempt was aborted.
 pub fn law_acknowledged()
-    ensures { (p : Place) (q : Post) → Has q (sent_before p) → Acknowledges (sent_before p) q.from (log_at p q.from) q.message }
+    ensures sight { (p : Place) (r : ℕ) (to : NodeId) (t : TimeParts) (v : Value) → Has (record { from = repository r; to = to; message = message.Value t v }) (sent_before p)
+        → (o : ObjectId) × SeesStill (marks (log_at p (repository r))) o t v }
+    ensures logs { (p : Place) (q : Post) → Has q (sent_before p) → Acknowledges (sent_before p) q.from (log_at p q.from) q.message }
 {}
 
 /// Each End of an attempt of the run has its cause in the logs: a decision at its home, the end that its
-/// script came to, or a read or version above the write that was refused. The moment of an expiry was
-/// ticked, in the trace before that place or in the past. An act is spent only where no greater clock is
-/// left, and has at most its number of attempts.
+/// script came to, or a read or version above the write that was refused. Its repository took that write,
+/// and answered so, in the trace before that place or in the past, where the moment of an expiry was
+/// ticked too. An act is spent only where a new attempt may begin and no clock is left above those of the
+/// log and the one that its refusals showed; it has at most its number of attempts.
 ///
 /// Over logs without a past, too, each End that the trace added has its cause: a refusal, the end of a
 /// script, or that no clock was left.
 pub fn law_causes()
-    ensures ends { (p : Place) → Causes (run_at p) (TickedBefore p) }
-    ensures spent { (p : Place) (b : ℕ) → Every IsWithinLimits (book (log_at p (broker b))).acts }
+    ensures ends { (p : Place) → Causes (run_at p) (TickedBefore p) (AnsweredBefore p) }
+    ensures spent { (p : Place) (b i c : ℕ) (late early : List Effect) → log_at p (broker b) ≡ late ++ (effect.End i (outcome.Spent c) ∷ early) → MayTry i (book early).acts (IsSpent (book early) c) }
+    ensures limits { (p : Place) (b : ℕ) → Every IsWithinLimits (book (log_at p (broker b))).acts }
     ensures added { (p : AnyPlace) (b i : ℕ) (o : Outcome) (late early : List Effect) → any_log p (broker b) ≡ late ++ (effect.End i o ∷ (early ++ log_before p.trace (broker b))) →
         EndCause p b (early ++ log_before p.trace (broker b)) i o }
 {}

@@ -2,7 +2,12 @@ pub mod AgreeLemmas
 pub mod AnswerLemmas
 pub mod AskedLemmas
 pub mod MapLemmas
+pub mod NameLemmas
+pub mod OperationLemmas
 pub mod OverlayLemmas
 pub mod QuestionLemmas
+pub mod RangeExamples
+pub mod RequestLemmas
 pub mod ScriptLemmas
 pub mod StatementLemmas
+pub mod TestLemmas

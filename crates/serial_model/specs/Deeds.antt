@@ -21,7 +21,7 @@ pub record Version : Type 0 where
 -- a list of versions in the order of their starts
 unfoldable pub put_in : Version → List Version → List Version
 put_in w [] = w ∷ []
-put_in w (p ∷ ps) = if lt p.start w.start then p ∷ put_in w ps else w ∷ p ∷ ps
+put_in w (p ∷ ps) = if lt w.start p.start then w ∷ p ∷ ps else p ∷ put_in w ps
 
 -- written one after another
 abbrev pub set_all : List Version → Objects → Objects

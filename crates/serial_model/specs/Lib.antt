@@ -3,3 +3,5 @@ pub mod Asked
 pub mod Deeds
 pub mod Overlays
 pub mod Questions
+pub mod Ranges
+pub mod Requests

@@ -8,7 +8,10 @@ ghost use Rattle.value_form.specs.Objects.{Objects, value_at};
 ghost use Rattle.value_form.specs.Mirror.{Block};
 ghost use Rattle.script_meaning.specs.Meaning as meaning;
 ghost use Rattle.script_meaning.specs.Meaning.{Request, ToRead, ToWrite, Asks, Over, Answer, Got, Stored, Answers, answers_of};
+ghost use Rattle.pseudo_time.specs.Lists.{Every};
 ghost use Rattle.serial_model.specs.Asked.{IsAnswerTo, AreAsked};
+ghost use Rattle.serial_model.specs.Ranges.{BlockInRange, StopInRange};
+ghost use Rattle.serial_model.specs.Requests.{HasBytes, AnswerHasBytes};
 ghost use Rattle.serial_model.specs.Questions.{Tree, denote, walk, told, talked, left_by, left_after, stop, request_of, Agrees, IsFrontOf, IsTalkOf};
 
 /// A script alone, and a script with a list of answers, are what its tree of questions says.
@@ -47,6 +50,15 @@ pub fn law_of_asking()
     ensures next { (t : Tree) (ans : List Answer) (a : Answer) → AreAsked t ans → IsAnswerTo (stop t ans) a → AreAsked t (ans ++ a ∷ []) }
     ensures front { (t : Tree) (pre post : List Answer) (a : Answer) → AreAsked t (pre ++ a ∷ post) → AreAsked t pre × IsAnswerTo (stop t pre) a }
     ensures few { (script : Block) (ans : List Answer) → AreAsked (denote script) ans → length ans ≤ 10000 }
+{}
+
+/// Where the numbers, texts, objects and lines of a script are in their ranges, and so is what it
+/// reads, what it asks for can be stored and sent: its objects and values have bytes, and it ends at
+/// a line that an outcome can say.
+pub fn law_of_requests()
+    ensures requests { (script : Block) → BlockInRange script → HasBytes (denote script) }
+    ensures stops { (script : Block) (answers : List Answer) → BlockInRange script → Every AnswerHasBytes answers → StopInRange (meaning.talk script answers).stop }
+    ensures after { (t : Tree) (answers : List Answer) → HasBytes t → Every AnswerHasBytes answers → StopInRange (stop t answers) }
 {}
 
 /// In every world that answers requests, a script does what the walk of that world through its tree

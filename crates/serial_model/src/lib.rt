@@ -6,11 +6,11 @@ mod object_maps;
 mod performances;
 mod works;
 
-pub use laws::{law_of_agreement, law_of_answers, law_of_asking, law_of_questions, law_of_worlds};
+pub use laws::{
+    law_of_agreement, law_of_answers, law_of_asking, law_of_questions, law_of_requests,
+    law_of_worlds,
+};
 pub use object_maps::ObjectMap;
 pub use performances::perform;
 pub use value_form::Ending;
 pub use works::Performed;
-
-#[cfg(test)]
-mod tests;

@@ -19,6 +19,3 @@ pub use laws::{law_of_rows, law_of_scripts};
 pub use reader::read_row;
 pub use row_printer::print_row;
 pub use script_printer::print_script;
-
-#[cfg(test)]
-mod tests;

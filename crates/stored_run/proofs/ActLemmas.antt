@@ -23,7 +23,7 @@ use Rattle.stored_run.specs.Ends.{IsBrokenOff}
 use Rattle.stored_run.specs.Growth.{grown_to, with_lines}
 use Rattle.stored_run.specs.Kept.{kept_map}
 use Rattle.stored_run.specs.Media.{Adds, Stops}
-use Rattle.request_ranges.specs.Requests.{HasBytes, AnswerHasBytes}
+use Rattle.serial_model.specs.Requests.{HasBytes, AnswerHasBytes}
 use Rattle.stored_run.specs.Ready.{IsReady}
 use Rattle.stored_run.specs.Requests.{IsGoing, HasComeTo}
 use Rattle.stored_run.specs.Runs.{decision_of, is_finished, effects_with, shown_with, IsNext, IsAtWork}

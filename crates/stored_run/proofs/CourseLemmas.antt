@@ -13,8 +13,8 @@ use Rattle.effect_form.specs.declared.effects.Effect.{Effect}
 use Rattle.object_history.specs.declared.marks.Mark.{Mark}
 use Rattle.repository_core.specs.Logs.{marks}
 use Rattle.report_writer.specs.declared.records.ActReport.{ActReport}
-use Rattle.report_writer.specs.declared.records.DownCause.{DownCause}
-use Rattle.report_writer.specs.declared.records.DownCause.TheVariants as down
+use Rattle.pseudo_time.specs.declared.down_causes.DownCause.{DownCause}
+use Rattle.pseudo_time.specs.declared.down_causes.DownCause.TheVariants as down
 use Rattle.version_store.specs.Entries.{Log}
 use Rattle.version_store.specs.Entries as entry
 use Rattle.version_store.specs.Storage.{storage, entries, effects_found, log_or_none}

@@ -17,7 +17,7 @@ use Rattle.script_meaning.specs.Meaning.{ToRead, ToWrite, Asks, Over, Answer, Go
 use Rattle.serial_model.specs.Questions.{Tree, Ends, Says, Reads, Writes, IsFrontOf, denote, talked, told, stop, Agrees, left_after}
 use Rattle.serial_model.proofs.QuestionLemmas.{perform-told}
 use Rattle.stored_run.specs.Growth.{Grown, with_line, with_lines}
-use Rattle.request_ranges.specs.Requests.{HasBytes, AnswerHasBytes}
+use Rattle.serial_model.specs.Requests.{HasBytes, AnswerHasBytes}
 
 -- ---- lines
 

@@ -1,20 +1,15 @@
 -- What parts of a run do to a medium, one after another.
-use Rattle.std.proofs.Common.{◌≡◌, ℕ, Bool, IsTrue, List, [], ◌∷◌, ◌++◌, length, take, drop, sym, ◌∙◌, ap, subst, Ok, ◌⊎◌, inl, inr, arith}
+use Rattle.std.proofs.Common.{◌≡◌, ℕ, Bool, IsTrue, List, [], ◌∷◌, ◌++◌, take, drop, sym, ◌∙◌, ap, subst, Ok, ◌⊎◌, inl, inr, arith}
 use Rattle.std.proofs.lemmas.List.{append_assoc, append-nil, take-append-drop}
 use Rattle.std.specs.Prelude.{◌≢◌}
 use Rattle.medium_port.specs.Image.{Image}
 use Rattle.value_form.specs.declared.transcripts.Line.{Line}
 use Rattle.effect_form.specs.declared.effects.Effect.{Effect}
-use Rattle.version_store.specs.Filling.{HasBytes, HasPrefix, filling}
+use Rattle.version_store.specs.Filling.{HasPrefix}
 use Rattle.version_store.specs.declared.faults.StoreFault.{StoreFault}
 use Rattle.version_store.specs.declared.faults.StoreFault.TheVariants.{Medium, Full, NoMemory}
-use Rattle.version_store.proofs.FillingLemmas.{size_most, filling-takes}
 use Rattle.version_store.specs.Storage.{storage}
 use Rattle.stored_run.specs.Media.{HasFront, held, Adds, StandsBefore, StopsAmong, Stops}
-
--- an effect fills a page
-pub filling-one : (e : Effect) → HasBytes e → length (filling (e ∷ [])) ≡ 1
-filling-one e bytes = let most = size_most e bytes in ap length (filling-takes [] e [] (omega (arith, most)))
 
 pub front-prefix : (log effects : List Effect) (c : Image) → HasPrefix log effects c → HasFront log effects c
 front-prefix log effects c has = record { front = take has.kept effects; rest = drop has.kept effects; whole = take-append-drop has.kept effects; is = has.is }

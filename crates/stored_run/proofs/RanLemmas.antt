@@ -5,7 +5,7 @@ use Rattle.medium_port.specs.Image.{Image}
 use Rattle.pseudo_time.specs.StampParts.{StampParts}
 use Rattle.value_form.specs.declared.acts.ActSpec.{ActSpec}
 use Rattle.report_writer.specs.declared.records.ActReport.{ActReport}
-use Rattle.report_writer.specs.declared.records.DownCause.{DownCause}
+use Rattle.pseudo_time.specs.declared.down_causes.DownCause.{DownCause}
 use Rattle.version_store.specs.declared.faults.StoreFault.{StoreFault}
 use Rattle.version_store.specs.declared.faults.StoreFault.TheVariants as fault
 use Rattle.stored_run.specs.declared.acts.Halted.{Halted}

@@ -33,7 +33,7 @@ use Rattle.object_history.specs.declared.steps.WriteStep.TheVariants as written
 use Rattle.object_history.specs.Answers.{read_step, write_step}
 use Rattle.stored_run.specs.Growth.{Grown, grown_to, stretch_if, stretch_mark_if, stretches, with_line, with_lines}
 use Rattle.stored_run.specs.Kept.{kept_map}
-use Rattle.request_ranges.specs.Requests.{HasBytes, AnswerHasBytes}
+use Rattle.serial_model.specs.Requests.{HasBytes, AnswerHasBytes}
 use Rattle.medium_port.specs.Image.{Image}
 use Rattle.version_store.specs.declared.faults.StoreFault.{StoreFault}
 use Rattle.stored_run.specs.Media.{StandsBefore, StopsAmong}

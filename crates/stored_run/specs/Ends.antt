@@ -11,8 +11,9 @@ use Rattle.value_form.specs.Objects.{Objects}
 use Rattle.effect_form.specs.declared.effects.Effect.{Effect}
 use Rattle.repository_core.specs.Logs.{marks}
 use Rattle.report_writer.specs.declared.records.ActReport.{ActReport}
-use Rattle.report_writer.specs.declared.records.DownCause.{DownCause}
-use Rattle.report_writer.specs.declared.records.DownCause.TheVariants as down
+use Rattle.pseudo_time.specs.declared.down_causes.DownCause.{DownCause}
+use Rattle.pseudo_time.specs.declared.down_causes.DownCause.TheVariants as down
+pub use Rattle.version_store.specs.Causes.{down_of, down_of_opening}
 use Rattle.version_store.specs.Storage.{storage}
 use Rattle.version_store.specs.declared.faults.OpenFault.{OpenFault}
 use Rattle.version_store.specs.declared.faults.OpenFault.TheVariants as opening
@@ -55,18 +56,6 @@ pub record IsHaltedOver (tells : Bool) (left : Image → Type 0) (cause : StoreF
   pub halted : IsHaltedIn tells left cause (log ++ added before st) act (left_by before st) s lines objects
 
 -- ---- why a repository is down
-
--- what a fault of its store makes it
-abbrev pub down_of : StoreFault → Option DownCause
-down_of fault.Medium = Some down.Medium
-down_of (fault.Full pages) = Some (down.Full pages)
-down_of fault.NoMemory = None
-
--- and one of its opening
-abbrev pub down_of_opening : OpenFault → Option DownCause
-down_of_opening opening.Medium = Some down.Medium
-down_of_opening (opening.Damaged page) = Some (down.Damaged page)
-down_of_opening opening.NoMemory = None
 
 -- its medium failed in the run; or a page is damaged, the first in what reads gave; or no page is blank
 pub record HasCause (tells : Bool) (was now : Image) (faults_before faults_after page_count : ℕ) (cause : DownCause) : Type 0 where

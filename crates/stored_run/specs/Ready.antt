@@ -6,7 +6,7 @@ use Rattle.value_form.specs.declared.acts.ActSpec.{ActSpec}
 use Rattle.value_form.specs.Mirror.{block}
 use Rattle.value_form.specs.Ranges.{IsScript}
 use Rattle.serial_model.specs.Questions.{denote}
-use Rattle.request_ranges.specs.Requests.{HasBytes}
+use Rattle.serial_model.specs.Requests.{HasBytes}
 
 -- its script can be carried out, what this asks for has bytes, and its broker and home are those of stamps
 pub record IsReady (act : ActSpec) : Type 0 where

@@ -15,7 +15,7 @@ use Rattle.serial_run.specs.Standing.{Stands}
 use Rattle.object_history.specs.declared.marks.Mark.{Mark}
 use Rattle.stored_run.specs.Growth.{Grown, grown_to, with_line, with_lines}
 use Rattle.stored_run.specs.Kept.{kept_map}
-use Rattle.request_ranges.specs.Requests.{HasBytes, AnswerHasBytes}
+use Rattle.serial_model.specs.Requests.{HasBytes, AnswerHasBytes}
 use Rattle.stored_run.specs.Runs.{shown_with, IsNext}
 use Rattle.stored_run.specs.Standing.{IsLone}
 

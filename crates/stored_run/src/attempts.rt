@@ -80,7 +80,6 @@ fn decision_of(ending: Ending) -> Decision
 
 // Decides an attempt, which settles it.
 fn decided<M: Medium>(
-    alloc: Global,
     stamp: Stamp,
     store: Store<M>,
     histories: &mut PlainHistories,
@@ -94,7 +93,7 @@ fn decided<M: Medium>(
 {
     let decision = decision_of(ending);
     let is_committed = decision == Decision::Committed;
-    match histories.settle(alloc, stamp, is_committed) {
+    match histories.settle(stamp, is_committed) {
         // Histories in memory fail for want of memory alone.
         Err(_) => Err(given_up(store)),
         Ok(()) => {
@@ -158,7 +157,7 @@ fn ended<M: Medium>(
         Err(refused) => Err(broken_off(alloc, refused, &run)),
         Ok((store, ending)) => match copied_lines(alloc, run.transcript()) {
             Err(_) => Err(broken_off(alloc, given_up(store), &run)),
-            Ok(lines) => match decided(alloc, stamp, store, histories, ending) {
+            Ok(lines) => match decided(stamp, store, histories, ending) {
                 Err((medium, fault)) => Err(Broken {
                     medium,
                     fault,

@@ -28,7 +28,6 @@ use version_store::{OpenFault, Store, StoreFault};
 
 // Withdraws an attempt, unless it is settled.
 fn withdraw<M: Medium>(
-    alloc: Global,
     store: Store<M>,
     histories: &mut PlainHistories,
     stamp: Stamp,
@@ -41,7 +40,7 @@ fn withdraw<M: Medium>(
     if histories.settled(stamp).is_some() {
         return Ok(store);
     }
-    match histories.settle(alloc, stamp, false) {
+    match histories.settle(stamp, false) {
         // Histories in memory fail for want of memory alone.
         Err(_) => Err(given_up(store)),
         Ok(()) => {
@@ -71,7 +70,7 @@ fn withdraw_all<M: Medium>(
 {
     let mut store = store;
     for stamp in stamps {
-        match withdraw(alloc, store, histories, *stamp) {
+        match withdraw(store, histories, *stamp) {
             Err(refused) => return Err(refused),
             Ok(after) => store = after,
         }

@@ -50,7 +50,6 @@ fn stretched<M: Medium>(
 
 // What an object holds for a read. Its Stretch is added first, where one is due.
 fn value_at<M: Medium>(
-    alloc: Global,
     store: Store<M>,
     histories: &mut PlainHistories,
     object: ObjectId,
@@ -65,7 +64,7 @@ fn value_at<M: Medium>(
     ensures adds { IfOk result (λ r. Adds M.tells M.reads M.is_failed M.page_count M.faults (medium_of store) (medium_of r.0) (stretch_if (stretches histories.old object at) object at)) }
     ensures stops { IfErr result (λ e. Stops M.tells M.reads M.may_leave M.page_count M.faults (medium_of store) e.0 e.1 (stretch_if (stretches histories.old object at) object at)) }
 {
-    match histories.read(alloc, object, at) {
+    match histories.read(object, at) {
         // Histories in memory fail for want of memory alone.
         Err(_) => Err(given_up(store)),
         Ok(ReadStep::Wait { .. }) => unreachable!(),
@@ -96,7 +95,7 @@ fn put<M: Medium>(
     let Ok(copy) = value.copy(alloc) else {
         return Err(given_up(store));
     };
-    match histories.write(alloc, object, at, value) {
+    match histories.write(object, at, value) {
         // Histories in memory fail for want of memory alone.
         Err(_) => Err(given_up(store)),
         Ok(WriteStep::Put) => {
@@ -139,7 +138,7 @@ pub fn answered<M: Medium>(
         return Err(given_up(store));
     };
     match next {
-        Next::Read(object) => match value_at(alloc, store, histories, object, at) {
+        Next::Read(object) => match value_at(store, histories, object, at) {
             Err(refused) => Err(refused),
             Ok((store, value)) => {
                 run.give(value);

@@ -1,7 +1,7 @@
 ghost use Rattle.std.specs.Prelude.{◌≡◌, ◌≢◌, ◌≤◌, [], ◌∷◌, ◌++◌, List, Some, None, false, IfOk, IfErr, OnOk, length, map};
 ghost use Rattle.pseudo_time.specs.StampParts.{StampParts};
 ghost use Rattle.value_form.specs.declared.acts.ActSpec.{ActSpec};
-ghost use Rattle.report_writer.specs.declared.records.DownCause.{DownCause};
+ghost use Rattle.pseudo_time.specs.declared.down_causes.DownCause.{DownCause};
 ghost use Rattle.version_store.specs.StoreWords.{medium_of};
 ghost use Rattle.stored_run.specs.Ends.{CameTo, HasCauseIfAny, IsKept, IsOpenedFrom, down_of, down_of_opening};
 ghost use Rattle.stored_run.specs.RanWords.{left_in};
@@ -13,8 +13,8 @@ use crate::acts::{Halted, LoneRepository, all_carried_out, reported};
 use crate::appends::closed;
 use crate::openings::{Unready, open};
 use medium_port::Medium;
-use pseudo_time::Stamp;
-use report_writer::{ActReport, DownCause, TryOutcome, TryReport};
+use pseudo_time::{DownCause, Stamp};
+use report_writer::{ActReport, TryOutcome, TryReport};
 use serial_model::ObjectMap;
 use std::alloc::{AllocError, Global};
 use value_form::{ActSpec, Items, Line};
@@ -30,28 +30,6 @@ pub struct Ran<M: Medium> {
     pub acts: Vec<ActReport>,
     /// What the committed acts left, of earlier runs too.
     pub objects: ObjectMap,
-}
-
-// What a fault of the store makes the repository; want of memory leaves it as it is.
-fn cause_of(fault: StoreFault) -> Option<DownCause>
-    ensures { result ≡ down_of fault }
-{
-    match fault {
-        StoreFault::Medium => Some(DownCause::Medium),
-        StoreFault::Full { pages } => Some(DownCause::Full { pages }),
-        StoreFault::NoMemory => None,
-    }
-}
-
-// The same for a fault of the opening.
-fn cause_of_opening(fault: OpenFault) -> Option<DownCause>
-    ensures { result ≡ down_of_opening fault }
-{
-    match fault {
-        OpenFault::Medium => Some(DownCause::Medium),
-        OpenFault::Damaged { page } => Some(DownCause::Damaged { page }),
-        OpenFault::NoMemory => None,
-    }
 }
 
 // Adds the reports of acts that weren't tried.
@@ -164,7 +142,7 @@ fn halted_run<M: Medium>(
         lines,
         objects,
     } = halted;
-    let Some(cause) = cause_of(fault) else {
+    let Some(cause) = fault.down_cause() else {
         return Err(medium);
     };
     let mut reports = reports;
@@ -237,11 +215,11 @@ pub fn run<M: Medium>(alloc: Global, acts: &[ActSpec], medium: M) -> Result<Ran<
             alloc,
             acts,
             medium,
-            cause_of_opening(fault),
+            fault.down_cause(),
             ObjectMap::new(alloc),
         ),
         Err(Unready::Stopped(medium, fault, objects)) => {
-            without_tries(alloc, acts, medium, cause_of(fault), objects)
+            without_tries(alloc, acts, medium, fault.down_cause(), objects)
         }
         Ok(repository) => ready_run(alloc, acts, repository),
     }

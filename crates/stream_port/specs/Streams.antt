@@ -5,6 +5,8 @@ use Rattle.std.specs.Prelude.{ℕ, ◌≤◌, ◌<◌, List, length, Result, IfO
 pub record SourceParts : Type 0 where
   -- the bytes left
   pub left : List ℕ
+  -- the most bytes that a call gives
+  pub most : ℕ
   -- the numbers of the calls that are to fail
   pub fails : List ℕ
   -- how many calls there were
@@ -16,6 +18,8 @@ pub record SourceParts : Type 0 where
 pub record SinkParts : Type 0 where
   -- the bytes taken so far
   pub taken : List ℕ
+  -- the most bytes that a call takes
+  pub most : ℕ
   pub fails : List ℕ
   pub calls : ℕ
   pub faults : ℕ

@@ -21,6 +21,3 @@ pub use memory_sinks::MemorySink;
 pub use memory_sources::MemorySource;
 pub use ports::{Sink, SinkFault, Source, SourceFault};
 pub use seconds_clocks::SecondsClock;
-
-#[cfg(test)]
-mod tests;

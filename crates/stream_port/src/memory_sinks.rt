@@ -1,4 +1,4 @@
-ghost use Rattle.std.specs.Prelude.{◌≡◌, ◌≤◌, ◌<◌, ◌⊎◌, [], Some, IsErr, Contains};
+ghost use Rattle.std.specs.Prelude.{◌≡◌, ◌≤◌, ◌<◌, ◌⊎◌, [], Some, IsErr, IfOk, Contains};
 ghost use Rattle.std.specs.Io.KnownBytes.{WriteAppends};
 ghost use Rattle.stream_port.specs.Causes.{HasCause, Rose, next_count};
 ghost use Rattle.stream_port.specs.Streams.{TakesSome};
@@ -25,7 +25,7 @@ impl Model for MemorySink {
 
     ghost Value = { SinkParts };
 
-    ghost view = { λ s. record { taken = s.taken.items; fails = s.fails.items; calls = s.calls; faults = s.faults; starved = s.starved } };
+    ghost view = { λ s. record { taken = s.taken.items; most = s.most; fails = s.fails.items; calls = s.calls; faults = s.faults; starved = s.starved } };
 
     ghost invariant = { λ s. 1 ≤ s.most };
 }
@@ -36,7 +36,7 @@ impl MemorySink {
     /// A sink that has taken nothing yet and takes at most `most` bytes a call.
     pub fn new(alloc: Global, most: usize, fails: Vec<u64>) -> MemorySink
         requires { 1 ≤ most }
-        ensures { result ≡ record { taken = []; fails = fails.items; calls = 0; faults = 0; starved = 0 } }
+        ensures { result ≡ record { taken = []; most = most; fails = fails.items; calls = 0; faults = 0; starved = 0 } }
     {
         MemorySink {
             taken: Vec::new(alloc),
@@ -75,8 +75,9 @@ impl Sink for MemorySink {
         // A call fails exactly where the list has its number or memory is wanting.
         ensures listed { Contains self.old.fails (next_count self.old.calls) → IsErr result }
         ensures failed { IsErr result → Contains self.old.fails (next_count self.old.calls) ⊎ Rose self.old.starved self.new.starved }
+        ensures most { IfOk result (λ n. n ≤ self.old.most) }
         ensures counted { self.new.calls ≡ next_count self.old.calls }
-        ensures fails { self.new.fails ≡ self.old.fails }
+        ensures fails { (self.new.fails ≡ self.old.fails) × (self.new.most ≡ self.old.most) }
     {
         self.calls = self.calls.saturating_add(1);
         if self.fails.contains(&self.calls) {

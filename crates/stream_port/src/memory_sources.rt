@@ -1,4 +1,4 @@
-ghost use Rattle.std.specs.Prelude.{◌≡◌, ◌≤◌, ◌<◌, ◌↔◌, [], Some, length, take, IsErr, Contains};
+ghost use Rattle.std.specs.Prelude.{◌≡◌, ◌≤◌, ◌<◌, ◌↔◌, [], Some, length, take, IsErr, IfOk, Contains};
 ghost use Rattle.std.specs.Io.{ReadsAtMost};
 ghost use Rattle.std.specs.Io.KnownBytes.{ReadConsumes};
 ghost use Rattle.stream_port.specs.Causes.{HasCause, next_count};
@@ -11,6 +11,7 @@ fn fill(into: &mut [u8], rest: &[u8], most: usize) -> usize
     requires { 1 ≤ most }
     ensures bound { result ≤ length into.new }
     ensures within { result ≤ length rest.now }
+    ensures most { result ≤ most }
     ensures bytes { take result into.new ≡ take result rest.now }
     ensures end { result ≡ 0 → 0 < length into.new → rest.now ≡ [] }
 {
@@ -37,7 +38,7 @@ impl Model for MemorySource {
 
     ghost Value = { SourceParts };
 
-    ghost view = { λ s. record { left = drop s.at s.bytes.items; fails = s.fails.items; calls = s.calls; faults = s.faults } };
+    ghost view = { λ s. record { left = drop s.at s.bytes.items; most = s.most; fails = s.fails.items; calls = s.calls; faults = s.faults } };
 
     ghost invariant = { λ s. (s.at ≤ length s.bytes.items) × (1 ≤ s.most) };
 }
@@ -48,7 +49,7 @@ impl MemorySource {
     /// A source of these bytes, at most `most` of them a call.
     pub fn new(bytes: Vec<u8>, most: usize, fails: Vec<u64>) -> MemorySource
         requires { 1 ≤ most }
-        ensures { result ≡ record { left = bytes.items; fails = fails.items; calls = 0; faults = 0 } }
+        ensures { result ≡ record { left = bytes.items; most = most; fails = fails.items; calls = 0; faults = 0 } }
     {
         MemorySource {
             bytes,
@@ -72,8 +73,9 @@ impl Source for MemorySource {
         ensures cause { HasCause self.old.faults self.new.faults result }
         // A call fails exactly where the list has its number.
         ensures listed { IsErr result ↔ Contains self.old.fails (next_count self.old.calls) }
+        ensures most { IfOk result (λ n. n ≤ self.old.most) }
         ensures counted { self.new.calls ≡ next_count self.old.calls }
-        ensures fails { self.new.fails ≡ self.old.fails }
+        ensures fails { (self.new.fails ≡ self.old.fails) × (self.new.most ≡ self.old.most) }
     {
         self.calls = self.calls.saturating_add(1);
         if self.fails.contains(&self.calls) {

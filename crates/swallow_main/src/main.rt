@@ -3,11 +3,15 @@
 #![tactic(auto)]
 
 use medium_port::FileShelf;
+use std::fs::{self, File};
 use std::io::ErrorKind;
 use std::process::ExitCode;
 use std::{env, io};
 use stream_port::{ReadSource, WriteSink};
 use swallow_top::swallow;
+
+/// The status where the report can't be written.
+const NO_OUTPUT: u8 = 4;
 
 /// The status where memory is wanting.
 const NO_MEMORY: u8 = 7;
@@ -15,8 +19,31 @@ const NO_MEMORY: u8 = 7;
 /// The folder of a command line that names none: no word follows, so nothing there is touched.
 const NO_FOLDER: &str = ".";
 
+// Opens a file for each standard stream that may be closed. The system gives a file the lowest number
+// that is free, so that else a medium could be standard output, and the report be written over its log.
+// These can't be written to, so a closed output fails; a closed input is empty.
+fn hold_streams(rt: &HostRuntime) -> io::Result<(File, File, File)> {
+    let first = fs::open(rt, "/dev/null")?;
+    let second = fs::open(rt, "/dev/null")?;
+    let third = fs::open(rt, "/dev/null")?;
+    Ok((first, second, third))
+}
+
+// Ends a run that hasn't begun.
+fn without_memory(rt: HostRuntime) -> ExitCode {
+    let _said = eprintln!(rt; "swallow: out of memory, and nothing was run");
+    ExitCode::from(NO_MEMORY)
+}
+
 fn main(rt: HostRuntime) -> ExitCode {
     let alloc = rt.alloc();
+    let _streams = match hold_streams(&rt) {
+        Ok(streams) => streams,
+        Err(error) => {
+            let _said = eprintln!(rt; "swallow: /dev/null: {}", error);
+            return ExitCode::from(NO_OUTPUT);
+        }
+    };
     let mut source = ReadSource::new(rt.reader());
     let mut sink = WriteSink::new(io::writer(&rt));
     let mut folder = None;
@@ -27,27 +54,32 @@ fn main(rt: HostRuntime) -> ExitCode {
             folder = args.next();
             for word in args {
                 if words.push(word).is_err() {
-                    return ExitCode::from(NO_MEMORY);
+                    return without_memory(rt);
                 }
             }
         }
-        Err(error) if error.kind() == ErrorKind::OutOfMemory => return ExitCode::from(NO_MEMORY),
+        Err(error) if error.kind() == ErrorKind::OutOfMemory => return without_memory(rt),
         // A word that isn't UTF-8 is a faulty command line, as no word is.
         Err(_) => {}
     }
     let mut shown = Vec::new(alloc);
     for word in &words {
         if shown.push(word.as_str()).is_err() {
-            return ExitCode::from(NO_MEMORY);
+            return without_memory(rt);
         }
     }
     let folder = match &folder {
         Some(folder) => folder.as_str(),
         None => NO_FOLDER,
     };
-    let Ok(mut shelf) = FileShelf::new(alloc, &rt, folder) else {
-        return ExitCode::from(NO_MEMORY);
+    let Ok(mut shelf) = FileShelf::new(alloc, &rt, rt.stderr(), folder) else {
+        return without_memory(rt);
     };
     let ended = swallow(alloc, shown.as_slice(), &mut source, &mut sink, &mut shelf);
+    if ended.status == NO_MEMORY {
+        let _said = eprintln!(rt;
+            "swallow: out of memory, so the report is missing; acts that were committed stand"
+        );
+    }
     ExitCode::from(ended.status)
 }

@@ -7,9 +7,9 @@ use Rattle.value_form.specs.Mirror.{block}
 use Rattle.value_form.specs.Ranges.{IsScript}
 use Rattle.plan_form.specs.declared.plans.Plan.{Plan}
 use Rattle.plan_form.specs.Plans.{IsPlan}
-use Rattle.request_ranges.specs.Ranges.{BlockInRange}
-use Rattle.request_ranges.proofs.RequestLemmas.{denote-HasBytes}
-use Rattle.request_ranges.proofs.PlanLemmas.{plan-scripts_in_range, plan-scripts, plan-names}
+use Rattle.serial_model.specs.Ranges.{BlockInRange}
+use Rattle.serial_model.proofs.RequestLemmas.{denote-HasBytes}
+use Rattle.world_core.proofs.PlanRangeLemmas.{plan-scripts_in_range, plan-scripts, plan-names}
 use Rattle.stored_run.specs.Ready.{AreReady}
 
 each_ready : (acts : List ActSpec) → Every (λ act. IsScript act.script.lines) acts → Every (λ act. BlockInRange (block act.script.lines)) acts → Every (λ act. IsInRange 1 act.broker act.home) acts → AreReady acts

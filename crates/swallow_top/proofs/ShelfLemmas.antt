@@ -9,8 +9,8 @@ use Rattle.value_form.specs.Objects.{Objects}
 use Rattle.effect_form.specs.declared.effects.Effect.{Effect}
 use Rattle.report_writer.specs.declared.records.ActReport.{ActReport}
 use Rattle.plan_form.specs.declared.plans.Plan.{Plan}
-use Rattle.report_writer.specs.declared.records.DownCause.{DownCause}
-use Rattle.report_writer.specs.declared.records.DownCause.TheVariants as down
+use Rattle.pseudo_time.specs.declared.down_causes.DownCause.{DownCause}
+use Rattle.pseudo_time.specs.declared.down_causes.DownCause.TheVariants as down
 use Rattle.report_writer.specs.Reports.{report_text}
 use Rattle.version_store.specs.Storage.{storage}
 use Rattle.stored_run.specs.Ends.{CameTo, HasCauseIfAny, IsKept, WasCarriedOut, StoppedBefore, StoppedIn, NeverOpened}

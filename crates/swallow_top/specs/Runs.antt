@@ -10,7 +10,7 @@ use Rattle.value_form.specs.Objects.{Objects}
 use Rattle.plan_form.specs.declared.plans.Plan.{Plan}
 use Rattle.report_writer.specs.declared.records.ActReport.{ActReport}
 use Rattle.report_writer.specs.declared.records.Down.{Down}
-use Rattle.report_writer.specs.declared.records.DownCause.{DownCause}
+use Rattle.pseudo_time.specs.declared.down_causes.DownCause.{DownCause}
 use Rattle.report_writer.specs.declared.records.Final.{Final}
 use Rattle.report_writer.specs.declared.records.Report.{Report}
 

@@ -7,7 +7,7 @@ use Rattle.plan_form.specs.declared.plans.Plan.{Plan}
 use Rattle.plan_form.specs.declared.plan_faults.PlanKind.{PlanKind}
 use Rattle.plan_form.specs.PlanFaults.{IsPlanFault, kind_text}
 use Rattle.plan_form.specs.Plans.{IsPlan}
-use Rattle.report_writer.specs.declared.records.DownCause.{DownCause}
+use Rattle.pseudo_time.specs.declared.down_causes.DownCause.{DownCause}
 use Rattle.swallow_top.specs.Runs.{IsServed}
 use Rattle.swallow_top.specs.Shelves.{IsTextOf}
 use Rattle.swallow_top.specs.declared.media.Kept.{Kept}

@@ -4,8 +4,8 @@ ghost use Rattle.report_writer.specs.Reports.{report_text};
 ghost use Rattle.swallow_top.specs.Runs as spec;
 
 use plan_form::Plan;
-use pseudo_time::{NodeId, NodeKind};
-use report_writer::{ActReport, Down, DownCause, Final, Report, write_report};
+use pseudo_time::{DownCause, NodeId, NodeKind};
+use report_writer::{ActReport, Down, Final, Report, write_report};
 use serial_model::ObjectMap;
 use std::alloc::{AllocError, Global};
 use value_form::{Items, ObjectId, Value};

@@ -12,8 +12,3 @@ mod top;
 
 pub use media::{Early, Kept};
 pub use top::swallow;
-
-#[cfg(test)]
-mod stored_tests;
-#[cfg(test)]
-mod tests;

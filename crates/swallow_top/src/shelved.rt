@@ -1,7 +1,7 @@
 ghost use Rattle.std.specs.Prelude.{◌≡◌, ◌≤◌, ℕ, [], List, Some, false, IfOk, IfErr, map};
 ghost use Rattle.std.specs.FinMap as finite;
 ghost use Rattle.medium_port.specs.Image.{Image};
-ghost use Rattle.report_writer.specs.declared.records.DownCause.TheVariants.{Medium as MediumCause};
+ghost use Rattle.pseudo_time.specs.declared.down_causes.DownCause.TheVariants.{Medium as MediumCause};
 ghost use Rattle.report_writer.specs.Reports.{report_text};
 ghost use Rattle.stored_run.specs.Ready.{AreReady};
 ghost use Rattle.stored_run.specs.Runs.{untried};
@@ -12,8 +12,7 @@ use crate::finals::{REPOSITORY, text_of};
 use crate::media::Kept;
 use medium_port::{Medium, Shelf};
 use plan_form::Plan;
-use pseudo_time::NodeKind;
-use report_writer::DownCause;
+use pseudo_time::{DownCause, NodeKind};
 use serial_model::ObjectMap;
 use std::alloc::{AllocError, Global};
 use stored_run::{Ran, run, untried};

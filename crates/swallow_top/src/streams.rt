@@ -1,4 +1,4 @@
-ghost use Rattle.std.specs.Prelude.{◌≡◌, ◌≤◌, length, IfOk, OnOk, OnErr, IsErrOf, ◌⊎◌};
+ghost use Rattle.std.specs.Prelude.{◌≡◌, ◌≤◌, ◌+◌, length, IfOk, OnOk, OnErr, IsErrOf, ◌⊎◌};
 ghost use Rattle.std.specs.Io.KnownBytes.{Consumes, Appends, IsAtEnd};
 ghost use Rattle.stream_port.specs.Causes.{Rose};
 ghost use Rattle.swallow_top.specs.Written.{AppendsFront};
@@ -13,6 +13,7 @@ pub const PLAN_BYTES: usize = 4_194_304;
 /// Reads the input to its end, or to one byte more than a plan has.
 pub fn read_all<I: Source>(alloc: Global, source: &mut I) -> Result<Vec<u8>, Stop>
     ensures bytes { IfOk result (λ v. Consumes (I.left source.old) (I.left source.new) v.items) }
+    ensures most { IfOk result (λ v. length v.items ≤ PLAN_BYTES + 1) }
     ensures ended { IfOk result (λ v. length v.items ≤ PLAN_BYTES → IsAtEnd (I.left source.new)) }
     ensures error { OnErr result (IsErrOf result Stop.Source ⊎ IsErrOf result Stop.NoMemory) }
     ensures cause { IsErrOf result Stop.Source → Rose (I.faults source.old) (I.faults source.new) }

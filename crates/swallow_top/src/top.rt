@@ -4,7 +4,7 @@ ghost use Rattle.stream_port.specs.Causes.{Rose};
 ghost use Rattle.plan_form.specs.declared.plan_faults.PlanKind.{PlanKind};
 ghost use Rattle.plan_form.specs.PlanFaults.{IsPlanFault};
 ghost use Rattle.plan_form.specs.Plans.{IsPlan};
-ghost use Rattle.report_writer.specs.declared.records.DownCause.{DownCause};
+ghost use Rattle.pseudo_time.specs.declared.down_causes.DownCause.{DownCause};
 ghost use Rattle.swallow_top.specs.Inputs.{OfInput};
 ghost use Rattle.swallow_top.specs.Runs.{IsServed};
 ghost use Rattle.swallow_top.specs.Shelves.{AllLoseNothing, repository_medium};

@@ -15,6 +15,3 @@ mod words;
 pub use line_faults::LineFault;
 pub use lines::{one_list, printed_is_spelled, tokens_of};
 pub use tokens::{Sign, Token, Word};
-
-#[cfg(test)]
-mod tests;

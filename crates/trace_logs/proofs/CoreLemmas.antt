@@ -19,11 +19,13 @@ use Rattle.broker_core.specs.Brokers.{Stands, Gives, turn_of}
 use Rattle.broker_core.specs.Parts.{BrokerParts}
 use Rattle.broker_core.specs.Tasks.{Scripted, tasks}
 use Rattle.broker_core.specs.Turns as desks
-use Rattle.world_core.specs.Nodes.{Mind, Input, gives, kind_gives, repository_gives, broker_gives, with_hands, with_desk, desk_after, nothing_given}
+use Rattle.world_core.specs.Nodes.{Mind, Given, Input, gives, kind_gives, repository_gives, broker_gives, with_hands, with_desk, desk_after, nothing_given}
 use Rattle.world_core.specs.Walks.{Base}
 use Rattle.trace_logs.specs.declared.cores.NodeCore.{NodeCore}
 use Rattle.trace_logs.specs.declared.cores.NodeCore.TheVariants as core
-use Rattle.trace_logs.specs.Cores.{IsWant, IsRepository, IsBroker, StandsFor, Gave}
+use Rattle.world_core.specs.Cores.{IsRepository, IsBroker, RepositoryGave, BrokerGave}
+use Rattle.world_core.proofs.CoreTurns.{repository-still as still-repository, broker-still as still-broker, repository-answers as answers-of-repository, broker-answers as answers-of-broker}
+use Rattle.trace_logs.specs.Cores.{IsWant, Gave}
 
 -- histories in memory fail for want of memory alone
 pub only-wants : {T : Type 0} (result : Result T HistoryFault) → IfErr result IsNotDamage → HasHistoryCause 0 0 0 0 result → IfErr result IsWant
@@ -32,85 +34,39 @@ only-wants (Err fault.NoMemory) h c = refl
 only-wants (Err (fault.Damaged page)) h c = absurd h
 only-wants (Err fault.Medium) h c = let never = c.medium refl in absurd (omega (arith, never))
 
--- ---- which rules are a node's
-
-pub gives-repository : (script : List ℕ → Tree) (run : ℕ) (acts : List ActSpec) (n : NodeId) (log : List Effect) (mind : Mind) (i : Input) → n.kind ≡ Repository →
-    gives script run acts n log mind i ≡ repository_gives n.number log mind i
-unfolding gives
-gives-repository script run acts n log mind i h = ap (λ k. kind_gives script run acts k n.number log mind i) h
-
-pub gives-broker : (script : List ℕ → Tree) (run : ℕ) (acts : List ActSpec) (n : NodeId) (log : List Effect) (mind : Mind) (i : Input) → n.kind ≡ Broker →
-    gives script run acts n log mind i ≡ broker_gives script run acts n.number log mind i
-unfolding gives
-gives-broker script run acts n log mind i h = ap (λ k. kind_gives script run acts k n.number log mind i) h
+-- ---- turns of the cores of nodes
 
 module _ (b : Base) (n : NodeId) (log : List Effect) (mind : Mind) where
-  -- ---- a turn that gives nothing
+  of-repository : (g : Given) (t : Turn) (q : Core (List Mark)) → RepositoryGave n log g t q → Gave b n log g t (core.Repository q)
+  of-repository g t q h = record { effects = h.effects; outs = h.outs; stands = h.stands }
 
-  pub nothing-gave : (t : Turn) (x : NodeCore) → t.effects ≡ [] → t.outs ≡ [] → StandsFor b n log mind x → Gave b n log (nothing_given mind) t x
-  nothing-gave t x e o s = record { effects = e; outs = o; stands = subst (λ l. StandsFor b n l mind x) (sym (append-nil log)) s }
+  of-broker : (g : Given) (t : Turn) (q : BrokerParts) → BrokerGave b n log g t q → Gave b n log g t (core.Broker q)
+  of-broker g t q h = record { effects = h.effects; outs = h.outs; stands = h.stands }
 
-  -- ---- repositories
+  repositories-of : (g : Given) (q : Core (List Mark)) (y : Result Turn AllocError) → IfOk y (λ t. RepositoryGave n log g t q) → IfOk y (λ t. Gave b n log g t (core.Repository q))
+  repositories-of g q (Err e) h = tt
+  repositories-of g q (Ok t) h = of-repository g t q h
 
-  pub repository-gave : (r q : Core (List Mark)) (t : Turn) (i : turns.Input) → IsRepository n log mind r → given t q.mind ≡ turns.gives r.number r.log r.mind i → q.log ≡ r.log ++ t.effects → q.number ≡ r.number →
-      Gave b n log (with_hands mind (turns.gives n.number log mind.hands i)) t (core.Repository q)
-  repository-gave r q t i s g l m =
-      let e : given t q.mind ≡ turns.gives n.number log mind.hands i = g ∙ (λ j. turns.gives (s.number j) (s.log j) (s.mind j) i) in
-      record {
-        effects = ap (λ x. x.effects) e;
-        outs = ap (λ x. x.outs) e;
-        stands = record {
-          kind = s.kind;
-          number = m ∙ s.number;
-          log = l ∙ (λ j. s.log j ++ (e j).effects);
-          mind = ap (λ x. x.mind) e;
-        };
-      }
-
-  -- ---- brokers
-
-  pub broker-gave : (p q : BrokerParts) (t : Turn) (i : desks.Input) → IsBroker b n log mind p → Gives b.script (reverse log) (turn_of b.script p (reverse log) i) t q → q.number ≡ p.number → q.run ≡ p.run → q.acts ≡ p.acts →
-      Gave b n log (with_desk mind (desk_after b.script b.run b.acts n.number log mind i)) t (core.Broker q)
-  broker-gave p q t i s g number run acts =
-      let e : turn_of b.script p (reverse log) i ≡ desk_after b.script b.run b.acts n.number log mind i =
-      λ j. desks.desk_turn b.script (s.number j) (s.run j) (tasks (s.acts j)) (desks.desk_at (reverse log) (s.heard j)) i in
-      let f : t.effects ≡ reverse (desk_after b.script b.run b.acts n.number log mind i).fresh = g.effects ∙ ap (λ d. reverse d.fresh) e in
-      record {
-        effects = f;
-        outs = g.outs ∙ ap (λ d. d.outs) e;
-        stands = record {
-          kind = s.kind;
-          number = number ∙ s.number;
-          run = run ∙ s.run;
-          acts = acts ∙ s.acts;
-          heard = g.heard ∙ ap (λ d. d.heard) e;
-          scripted = subst (Scripted b.script) (sym acts) s.scripted;
-          stands = subst (λ l. Stands b.script l q) (sym (reverse-append log t.effects) ∙ ap (λ x. reverse (log ++ x)) f) g.stands;
-        };
-      }
-
-  -- ---- what calls answer
+  brokers-of : (g : Given) (q : BrokerParts) (y : Result Turn AllocError) → IfOk y (λ t. BrokerGave b n log g t q) → IfOk y (λ t. Gave b n log g t (core.Broker q))
+  brokers-of g q (Err e) h = tt
+  brokers-of g q (Ok t) h = of-broker g t q h
 
   pub repository-still : (r : Core (List Mark)) (t : Turn) (i : Input) → repository_gives n.number log mind i ≡ nothing_given mind → IsRepository n log mind r → (t.effects ≡ []) × (t.outs ≡ []) →
       Gave b n log (gives b.script b.run b.acts n log mind i) t (core.Repository r)
-  repository-still r t i e s q = subst (λ g. Gave b n log g t (core.Repository r)) (sym (gives-repository b.script b.run b.acts n log mind i s.kind ∙ e)) (nothing-gave t (core.Repository r) q.0 q.1 s)
+  repository-still r t i e s q = of-repository (gives b.script b.run b.acts n log mind i) t r (still-repository b n log mind r t i e s q)
 
   pub broker-still : (p : BrokerParts) (t : Turn) (i : Input) → broker_gives b.script b.run b.acts n.number log mind i ≡ nothing_given mind → IsBroker b n log mind p → (t.effects ≡ []) × (t.outs ≡ []) →
       Gave b n log (gives b.script b.run b.acts n log mind i) t (core.Broker p)
-  broker-still p t i e s q = subst (λ g. Gave b n log g t (core.Broker p)) (sym (gives-broker b.script b.run b.acts n log mind i s.kind ∙ e)) (nothing-gave t (core.Broker p) q.0 q.1 s)
+  broker-still p t i e s q = of-broker (gives b.script b.run b.acts n log mind i) t p (still-broker b n log mind p t i e s q)
 
   pub repository-answers : (r q : Core (List Mark)) (x : Result Turn HistoryFault) (y : Result Turn AllocError) (i : turns.Input) (j : Input) → repository_gives n.number log mind j ≡ with_hands mind (turns.gives n.number log mind.hands i) →
       IsRepository n log mind r → IfOk x (λ t. given t q.mind ≡ turns.gives r.number r.log r.mind i) → IfOk x (λ t. q.log ≡ r.log ++ t.effects) → OnOk x (q.number ≡ r.number) → IfOk y (λ t. x ≡ Ok t) →
       IfOk y (λ t. Gave b n log (gives b.script b.run b.acts n log mind j) t (core.Repository q))
-  repository-answers r q x (Err e) i j same s g l m k = tt
-  repository-answers r q x (Ok t) i j same s g l m k =
-      subst (λ z. Gave b n log z t (core.Repository q)) (sym (gives-repository b.script b.run b.acts n log mind j s.kind ∙ same))
-      (repository-gave r q t i s (subst (λ x. IfOk x (λ t. given t q.mind ≡ turns.gives r.number r.log r.mind i)) k g) (subst (λ x. IfOk x (λ t. q.log ≡ r.log ++ t.effects)) k l) (subst (λ x. OnOk x (q.number ≡ r.number)) k m))
+  repository-answers r q x y i j same s g l m k =
+      repositories-of (gives b.script b.run b.acts n log mind j) q y (answers-of-repository b n log mind r q x y i j same s g l m k)
 
   pub broker-answers : (p q : BrokerParts) (x : Result Turn AllocError) (i : desks.Input) (j : Input) → broker_gives b.script b.run b.acts n.number log mind j ≡ with_desk mind (desk_after b.script b.run b.acts n.number log mind i) →
       IsBroker b n log mind p → ((script : List ℕ → Tree) (l : List Effect) → Scripted script p.acts → Stands script l p → IfOk x (λ t. Gives script l (turn_of script p l i) t q)) → q.number ≡ p.number → q.run ≡ p.run → q.acts ≡ p.acts →
       IfOk x (λ t. Gave b n log (gives b.script b.run b.acts n log mind j) t (core.Broker q))
-  broker-answers p q (Err e) i j same s g number run acts = tt
-  broker-answers p q (Ok t) i j same s g number run acts =
-      subst (λ z. Gave b n log z t (core.Broker q)) (sym (gives-broker b.script b.run b.acts n log mind j s.kind ∙ same))
-      (broker-gave p q t i s (g b.script (reverse log) s.scripted s.stands) number run acts)
+  broker-answers p q x i j same s g number run acts =
+      brokers-of (gives b.script b.run b.acts n log mind j) q x (answers-of-broker b n log mind p q x i j same s g number run acts)

@@ -8,7 +8,7 @@ use Rattle.effect_form.specs.declared.effects.Effect.TheVariants as effect
 use Rattle.stream_port.specs.declared.fates.Asked.{Asked}
 use Rattle.serial_model.specs.Questions.{Tree}
 use Rattle.world_core.specs.declared.entries.Entry.{Entry}
-use Rattle.world_core.specs.declared.entries.DownCause.TheVariants as cause
+use Rattle.pseudo_time.specs.declared.down_causes.DownCause.TheVariants as cause
 use Rattle.world_core.specs.declared.entries.Entry.TheVariants.{Take, Go, Learn, Hear, Gate, Crash, Down, Tick}
 use Rattle.world_core.specs.declared.traces.Opened.{Opened}
 use Rattle.world_core.specs.declared.traces.Sent.{Sent}

@@ -9,8 +9,9 @@ use Rattle.turn_form.specs.Posts.{Post}
 use Rattle.stream_port.specs.declared.fates.Asked.{Asked}
 use Rattle.world_core.specs.declared.traces.Sent.{Sent}
 use Rattle.world_core.specs.declared.traces.Trace.{Trace}
-use Rattle.message_core.specs.Nodes.{kind_number}
-use Rattle.world_core.specs.Legal.{Legal, asked_of, post_of, tag_of}
+use Rattle.pseudo_time.specs.Nodes.{kind_number}
+use Rattle.world_core.specs.Legal.{Legal, asked_of, post_of}
+use Rattle.message_form.specs.Messages.{tag_of}
 use Rattle.trace_logs.proofs.WorkedTraces.{home, desk, stamp, blank, prompt}
 use Rattle.trace_logs.proofs.WorkedTurns.{object, ten, plan, script, entries, at, request, answer, question, sent, asked, trace}
 use Rattle.trace_logs.proofs.LegalTraces.{legal, sent-by-gates}

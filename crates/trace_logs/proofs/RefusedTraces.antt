@@ -2,7 +2,7 @@
 use Rattle.std.proofs.Common.{◌≡◌, ◌≤◌, ◌<◌, ◌+◌, ◌^◌, ℕ, true, List, [], ◌∷◌, refl, ap, ◌∙◌, inl, inr, Option, Some, None, arith}
 use Rattle.pseudo_time.specs.Lists.{Every}
 use Rattle.world_core.specs.declared.entries.Entry.{Entry}
-use Rattle.world_core.specs.declared.entries.DownCause.TheVariants as cause
+use Rattle.pseudo_time.specs.declared.down_causes.DownCause.TheVariants as cause
 use Rattle.world_core.specs.declared.entries.Entry.TheVariants.{Take, Go, Learn, Hear, Gate, Crash, Down, Tick}
 use Rattle.stream_port.specs.declared.fates.Fate.{Fate}
 use Rattle.pseudo_time.specs.Order.{same_stamp}

@@ -12,30 +12,29 @@ use Rattle.pseudo_time.proofs.ListLemmas.{every-append, every-left}
 use Rattle.effect_form.specs.declared.effects.Effect.{Effect}
 use Rattle.turn_form.specs.declared.turns.Turn.{Turn}
 use Rattle.turn_form.specs.declared.turns.Out.{Out}
+use Rattle.message_form.specs.Messages.{IsMessage}
 use Rattle.turn_form.specs.Posts.{Post, post, posts}
 use Rattle.serial_model.specs.Questions.{Tree, denote}
 use Rattle.value_form.specs.Mirror.{block}
 use Rattle.statement_form.specs.RowTexts.{script_text}
 use Rattle.value_form.specs.declared.acts.ActSpec.{ActSpec}
 use Rattle.broker_core.specs.Ledgers.{IsAct}
-use Rattle.repository_core.specs.Ranges.{IsEffect, AreEffects}
+use Rattle.turn_form.specs.Ranges.{IsEffect, AreEffects, AreOuts}
 use Rattle.broker_core.specs.Ledgers.{AreActs}
 use Rattle.broker_core.specs.Tasks.{Scripted}
 use Rattle.world_core.specs.Nodes.{Input, Given, gives, opened_mind}
 use Rattle.world_core.specs.Walks.{Base, Life, told, whole, gated_life, crashed_life}
 use Rattle.trace_logs.specs.declared.seats.Seat.{Seat}
-use Rattle.trace_logs.specs.Cores.{StandsFor, Gave, IsWhole, IsLogOf, kind_of, own_acts, acts_for}
+use Rattle.trace_logs.specs.Cores.{StandsFor, Gave, IsWhole, kind_of, own_acts, acts_for}
 use Rattle.trace_logs.specs.Seats.{Lives, IsSound}
 
 -- ---- ranges
 
-pub log-grown : (k : NodeKind) (xs ys zs : List Effect) → IsLogOf k (xs ++ ys) → IsLogOf k zs → IsLogOf k (xs ++ (ys ++ zs))
-log-grown Repository xs ys zs h g = subst AreEffects (append_assoc xs ys zs) (every-append IsEffect (xs ++ ys) zs h g)
-log-grown Broker xs ys zs h g = tt
+pub log-grown : (xs ys zs : List Effect) → AreEffects (xs ++ ys) → AreEffects zs → AreEffects (xs ++ (ys ++ zs))
+log-grown xs ys zs h g = subst AreEffects (append_assoc xs ys zs) (every-append IsEffect (xs ++ ys) zs h g)
 
-pub log-kept : (k : NodeKind) (n : ℕ) (xs ys : List Effect) → IsLogOf k (xs ++ ys) → IsLogOf k (xs ++ take n ys)
-log-kept Repository n xs ys h = every-left IsEffect (xs ++ take n ys) (drop n ys) (subst AreEffects (ap (λ z. xs ++ z) (sym (take-append-drop n ys)) ∙ sym (append_assoc xs (take n ys) (drop n ys))) h)
-log-kept Broker n xs ys h = tt
+pub log-kept : (n : ℕ) (xs ys : List Effect) → AreEffects (xs ++ ys) → AreEffects (xs ++ take n ys)
+log-kept n xs ys h = every-left IsEffect (xs ++ take n ys) (drop n ys) (subst AreEffects (ap (λ z. xs ++ z) (sym (take-append-drop n ys)) ∙ sym (append_assoc xs (take n ys) (drop n ys))) h)
 
 -- ---- turns
 
@@ -56,18 +55,17 @@ told-lives b s t l i turn h g node acts gated fresh outs = record {
     gave : Given
     gave = gives b.script b.run b.acts s.node (whole l) l.mind i
 
-pub told-sound : (s t : Seat) (turn : Turn) → IsSound s → kind_of t.core ≡ kind_of s.core → IsWhole t.core → IsLogOf (kind_of s.core) turn.effects →
-    t.node ≡ s.node → t.acts ≡ s.acts → t.gated ≡ s.gated → t.fresh.items ≡ s.fresh.items ++ turn.effects → IsSound t
-told-sound s t turn h kind good log node acts gated fresh = record {
+pub told-sound : (s t : Seat) (turn : Turn) → IsSound s → kind_of t.core ≡ kind_of s.core → IsWhole t.core → AreEffects turn.effects × AreOuts turn.outs →
+    t.node ≡ s.node → t.acts ≡ s.acts → t.gated ≡ s.gated → t.fresh.items ≡ s.fresh.items ++ turn.effects → t.outs.items ≡ s.outs.items ++ turn.outs → IsSound t
+told-sound s t turn h kind good fits node acts gated fresh outs = record {
   low = subst (λ n. 1 ≤ n.number) (sym node) h.low;
   high = subst (λ n. n.number ≤ 16) (sym node) h.high;
   acts = subst (λ v. AreActs v.items) (sym acts) h.acts;
   kind = kind ∙ h.kind ∙ ap (λ n. n.kind) (sym node);
   whole = good;
-  log = subst (λ n. IsLogOf n.kind (t.gated.items ++ t.fresh.items)) (sym node)
-      (subst (λ v. IsLogOf s.node.kind (v.items ++ t.fresh.items)) (sym gated)
-      (subst (λ z. IsLogOf s.node.kind (s.gated.items ++ z)) (sym fresh)
-      (log-grown s.node.kind s.gated.items s.fresh.items turn.effects h.log (subst (λ k. IsLogOf k turn.effects) h.kind log))));
+  log = subst (λ v. AreEffects (v.items ++ t.fresh.items)) (sym gated)
+      (subst (λ z. AreEffects (s.gated.items ++ z)) (sym fresh) (log-grown s.gated.items s.fresh.items turn.effects h.log fits.0));
+  outs = subst AreOuts (sym outs) (every-append (λ (o : Out). IsMessage o.message) s.outs.items turn.outs h.outs fits.1);
 }
 
 -- ---- gates and crashes
@@ -86,15 +84,15 @@ gated-lives b s t l h node acts core gated fresh outs = record {
 }
 
 pub gated-sound : (s t : Seat) → IsSound s → t.node ≡ s.node → t.acts ≡ s.acts → t.core ≡ s.core →
-    t.gated.items ≡ s.gated.items ++ s.fresh.items → t.fresh.items ≡ [] → IsSound t
-gated-sound s t h node acts core gated fresh = record {
+    t.gated.items ≡ s.gated.items ++ s.fresh.items → t.fresh.items ≡ [] → t.outs.items ≡ [] → IsSound t
+gated-sound s t h node acts core gated fresh outs = record {
   low = subst (λ n. 1 ≤ n.number) (sym node) h.low;
   high = subst (λ n. n.number ≤ 16) (sym node) h.high;
   acts = subst (λ v. AreActs v.items) (sym acts) h.acts;
   kind = ap kind_of core ∙ h.kind ∙ ap (λ n. n.kind) (sym node);
   whole = subst IsWhole (sym core) h.whole;
-  log = subst (λ n. IsLogOf n.kind (t.gated.items ++ t.fresh.items)) (sym node)
-      (subst (IsLogOf s.node.kind) (sym ((λ j. gated j ++ fresh j) ∙ append-nil (s.gated.items ++ s.fresh.items))) h.log);
+  log = subst AreEffects (sym ((λ j. gated j ++ fresh j) ∙ append-nil (s.gated.items ++ s.fresh.items))) h.log;
+  outs = subst AreOuts (sym outs) tt;
 }
 
 -- it was opened anew over the effects that were found
@@ -114,15 +112,15 @@ crashed-lives b s t l kept h node acts gated fresh outs core =
     }
 
 pub crashed-sound : (s t : Seat) (kept : ℕ) → IsSound s → t.node ≡ s.node → t.acts ≡ s.acts → kind_of t.core ≡ s.node.kind → IsWhole t.core →
-    t.gated.items ≡ s.gated.items ++ take kept s.fresh.items → t.fresh.items ≡ [] → IsSound t
-crashed-sound s t kept h node acts kind good gated fresh = record {
+    t.gated.items ≡ s.gated.items ++ take kept s.fresh.items → t.fresh.items ≡ [] → t.outs.items ≡ [] → IsSound t
+crashed-sound s t kept h node acts kind good gated fresh outs = record {
   low = subst (λ n. 1 ≤ n.number) (sym node) h.low;
   high = subst (λ n. n.number ≤ 16) (sym node) h.high;
   acts = subst (λ v. AreActs v.items) (sym acts) h.acts;
   kind = kind ∙ ap (λ n. n.kind) (sym node);
   whole = good;
-  log = subst (λ n. IsLogOf n.kind (t.gated.items ++ t.fresh.items)) (sym node)
-      (subst (IsLogOf s.node.kind) (sym ((λ j. gated j ++ fresh j) ∙ append-nil (s.gated.items ++ take kept s.fresh.items))) (log-kept s.node.kind kept s.gated.items s.fresh.items h.log));
+  log = subst AreEffects (sym ((λ j. gated j ++ fresh j) ∙ append-nil (s.gated.items ++ take kept s.fresh.items))) (log-kept kept s.gated.items s.fresh.items h.log);
+  outs = subst AreOuts (sym outs) tt;
 }
 
 -- ---- messages

@@ -10,12 +10,13 @@ use Rattle.object_history.specs.declared.marks.Mark.{Mark}
 use Rattle.object_history.specs.declared.steps.HistoryFault.{HistoryFault}
 use Rattle.object_history.specs.declared.steps.HistoryFault.TheVariants as fault
 use Rattle.repository_core.specs.Cores.{Core}
-use Rattle.repository_core.specs.Ranges.{AreEffects}
+use Rattle.turn_form.specs.Ranges.{AreEffects}
 use Rattle.broker_core.specs.Brokers.{Stands}
 use Rattle.broker_core.specs.Parts.{BrokerParts}
 use Rattle.broker_core.specs.Tasks.{Scripted}
 use Rattle.world_core.specs.Nodes.{Mind, Given, acts_of}
 use Rattle.world_core.specs.Walks.{Base}
+pub use Rattle.world_core.specs.Cores.{IsRepository, IsBroker, own_acts, acts_for}
 use Rattle.trace_logs.specs.declared.cores.NodeCore.{NodeCore}
 use Rattle.trace_logs.specs.declared.cores.NodeCore.TheVariants as core
 
@@ -31,34 +32,6 @@ kind_of (core.Broker p) = Broker
 abbrev pub IsWhole : NodeCore → Type 0
 IsWhole (core.Repository r) = r.whole ≡ true
 IsWhole (core.Broker p) = Unit {0}
-
--- the effects of a repository's log are in range
-abbrev pub IsLogOf : NodeKind → List Effect → Type 0
-IsLogOf Repository log = AreEffects log
-IsLogOf Broker log = Unit {0}
-
--- a broker's own acts of the plan
-abbrev pub acts_for : NodeKind → ℕ → List ActSpec → List ActSpec
-acts_for Repository i acts = []
-acts_for Broker i acts = acts_of i acts
-
-abbrev pub own_acts : NodeId → List ActSpec → List ActSpec
-own_acts n acts = acts_for n.kind n.number acts
-
-pub record IsRepository (n : NodeId) (l : List Effect) (m : Mind) (r : Core (List Mark)) : Type 0 where
-  pub kind : n.kind ≡ Repository
-  pub number : r.number ≡ n.number
-  pub log : r.log ≡ l
-  pub mind : r.mind ≡ m.hands
-
-pub record IsBroker (b : Base) (n : NodeId) (l : List Effect) (m : Mind) (p : BrokerParts) : Type 0 where
-  pub kind : n.kind ≡ Broker
-  pub number : p.number ≡ n.number
-  pub run : p.run ≡ b.run
-  pub acts : p.acts ≡ acts_of n.number b.acts
-  pub heard : p.heard ≡ m.heard
-  pub scripted : Scripted b.script p.acts
-  pub stands : Stands b.script (reverse l) p
 
 -- the core is where this log, oldest effect first, and what the node remembers beside it have led it
 abbrev pub StandsFor : Base → NodeId → List Effect → Mind → NodeCore → Type 0

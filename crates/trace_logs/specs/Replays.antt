@@ -4,7 +4,8 @@ use Rattle.std.specs.List.{count_by}
 use Rattle.pseudo_time.specs.Lists.{Every}
 use Rattle.pseudo_time.specs.declared.nodes.NodeId.{NodeId}
 use Rattle.value_form.specs.declared.acts.ActSpec.{ActSpec}
-use Rattle.message_core.specs.Nodes.{same_node}
+use Rattle.pseudo_time.specs.Nodes.{same_node}
+use Rattle.turn_form.specs.Ranges.{AreEffects}
 use Rattle.serial_model.specs.Questions.{Tree}
 use Rattle.world_core.specs.declared.entries.Entry.{Entry}
 use Rattle.world_core.specs.declared.entries.Entry.TheVariants as entry
@@ -13,17 +14,16 @@ use Rattle.world_core.specs.declared.traces.Trace.{Trace}
 use Rattle.world_core.specs.Walks.{Base, World, sent_by, opened_life}
 use Rattle.trace_logs.specs.declared.seats.Seat.{Seat}
 use Rattle.trace_logs.specs.declared.replays.Replay.{Replay}
-use Rattle.trace_logs.specs.Cores.{IsLogOf}
 use Rattle.trace_logs.specs.Letters.{AreLetters, all_posted}
 use Rattle.trace_logs.specs.Seats.{Lives, IsSound}
 
 -- ---- what is asked of a trace
 
--- a node's number, and the effects of a repository's log, are in range
+-- a node's number and the effects of its log are in range
 pub record IsOpened (o : Opened) : Type 0 where
   pub low : 1 ≤ o.node.number
   pub high : o.node.number ≤ 16
-  pub log : IsLogOf o.node.kind o.effects
+  pub log : AreEffects o.effects
 
 -- each node stands there once at most
 abbrev pub IsOnce : List Opened → Type 0
@@ -88,5 +88,6 @@ pub record Shows (b : Base) (w : World) (r : Replay) : Type 0 where
 pub record IsFit (r : Replay) : Type 0 where
   pub seats : Every IsSound r.seats.items
   pub letters : AreLetters r.letters.items
+  pub run : 1 ≤ r.run
   pub start : r.start ≤ 2 ^ 63
   pub last : IfSome r.last (λ moment. moment ≤ 2 ^ 63)

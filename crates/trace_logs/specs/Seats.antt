@@ -1,10 +1,11 @@
 -- A node at a place of a trace, as the code keeps it.
 use Rattle.std.specs.Prelude.{◌≡◌, ◌≤◌, ◌++◌}
+use Rattle.turn_form.specs.Ranges.{AreEffects, AreOuts}
 use Rattle.broker_core.specs.Ledgers.{AreActs}
 use Rattle.broker_core.specs.Tasks.{Scripted}
 use Rattle.world_core.specs.Walks.{Base, Life, whole}
 use Rattle.trace_logs.specs.declared.seats.Seat.{Seat}
-use Rattle.trace_logs.specs.Cores.{StandsFor, IsWhole, IsLogOf, kind_of, own_acts}
+use Rattle.trace_logs.specs.Cores.{StandsFor, IsWhole, kind_of, own_acts}
 
 -- the node has this life
 pub record Lives (b : Base) (s : Seat) (l : Life) : Type 0 where
@@ -15,11 +16,12 @@ pub record Lives (b : Base) (s : Seat) (l : Life) : Type 0 where
   pub acts : s.acts.items ≡ own_acts s.node b.acts
   pub scripted : Scripted b.script s.acts.items
 
--- its number, its acts and a repository's effects are in range, its core is one of its kind, and no call of that has failed
+-- its number, its acts, its effects and the messages that it owes are in range, its core is one of its kind, and no call of that has failed
 pub record IsSound (s : Seat) : Type 0 where
   pub low : 1 ≤ s.node.number
   pub high : s.node.number ≤ 16
   pub acts : AreActs s.acts.items
   pub kind : kind_of s.core ≡ s.node.kind
   pub whole : IsWhole s.core
-  pub log : IsLogOf s.node.kind (s.gated.items ++ s.fresh.items)
+  pub log : AreEffects (s.gated.items ++ s.fresh.items)
+  pub outs : AreOuts s.outs.items

@@ -5,20 +5,20 @@ ghost use Rattle.pseudo_time.specs.declared.nodes.NodeId.{NodeId};
 ghost use Rattle.value_form.specs.declared.acts.ActSpec.{ActSpec};
 ghost use Rattle.broker_core.specs.Ledgers.{AreActs};
 ghost use Rattle.broker_core.specs.Tasks.{Scripted};
-ghost use Rattle.repository_core.specs.Ranges.{AreEffects};
-ghost use Rattle.repository_core.specs.Logs.{knows};
+ghost use Rattle.turn_form.specs.Ranges.{AreEffects, AreOuts};
+ghost use Rattle.repository_log.specs.Logs.{knows};
 ghost use Rattle.world_core.specs.Nodes.{Mind, opened_mind, gives};
 ghost use Rattle.world_core.specs.Nodes.Input.{Going, Taking, Learning, Hearing};
 ghost use Rattle.world_core.specs.Walks.{Base};
-ghost use Rattle.trace_logs.specs.Cores.{StandsFor, Gave, IsWhole, IsLogOf, IsWant, kind_of, own_acts};
+ghost use Rattle.trace_logs.specs.Cores.{StandsFor, Gave, IsWhole, IsWant, kind_of, own_acts};
 
-use crate::marks::histories_of;
 use broker_core::Broker;
 use effect_form::Effect;
 use message_form::Message;
 use object_history::PlainHistories;
 use pseudo_time::{NodeId, NodeKind, Stamp};
 use repository_core::{CoreFault, Repository};
+use repository_log::histories_of;
 use std::alloc::{AllocError, Global};
 use turn_form::Turn;
 use value_form::ActSpec;
@@ -81,8 +81,9 @@ pub fn open_core(
 ) -> Result<NodeCore, AllocError>
     requires low { 1 ≤ node.number }
     requires high { node.number ≤ 16 }
+    requires run { 1 ≤ run }
     requires acts { AreActs acts.now }
-    requires log { IsLogOf node.kind log.now }
+    requires log { AreEffects log.now }
     requires start { start ≤ 2 ^ 63 }
     ensures stands { (b : Base) → b.run ≡ run → acts.now ≡ own_acts node b.acts → Scripted b.script acts.now → IfOk result (λ core. StandsFor b node log.now (opened_mind start) core) }
     ensures kind { IfOk result (λ core. kind_of core ≡ node.kind) }
@@ -111,7 +112,7 @@ impl NodeCore {
         ensures gives { (b : Base) (n : NodeId) (log : List Effect) (mind : Mind) → StandsFor b n log mind self.old → IfOk result (λ turn. Gave b n log (gives b.script b.run b.acts n log mind (Taking from message.now)) turn self.new) }
         ensures kind { kind_of self.new ≡ kind_of self.old }
         ensures whole { OnOk result (IsWhole self.new) }
-        ensures in_range { IfOk result (λ turn. IsLogOf (kind_of self.old) turn.effects) }
+        ensures in_range { IfOk result (λ turn. AreEffects turn.effects × AreOuts turn.outs) }
     {
         match self {
             NodeCore::Repository(core) => wanted(core.take(from, message)),
@@ -125,7 +126,7 @@ impl NodeCore {
         ensures gives { (b : Base) (n : NodeId) (log : List Effect) (mind : Mind) → StandsFor b n log mind self.old → IfOk result (λ turn. Gave b n log (gives b.script b.run b.acts n log mind (Going)) turn self.new) }
         ensures kind { kind_of self.new ≡ kind_of self.old }
         ensures whole { OnOk result (IsWhole self.new) }
-        ensures in_range { IfOk result (λ turn. IsLogOf (kind_of self.old) turn.effects) }
+        ensures in_range { IfOk result (λ turn. AreEffects turn.effects × AreOuts turn.outs) }
     {
         match self {
             NodeCore::Repository(core) => Ok(Turn::quiet(alloc)),
@@ -144,7 +145,7 @@ impl NodeCore {
         ensures gives { (b : Base) (n : NodeId) (log : List Effect) (mind : Mind) → StandsFor b n log mind self.old → IfOk result (λ turn. Gave b n log (gives b.script b.run b.acts n log mind (Learning stamp committed)) turn self.new) }
         ensures kind { kind_of self.new ≡ kind_of self.old }
         ensures whole { OnOk result (IsWhole self.new) }
-        ensures in_range { IfOk result (λ turn. IsLogOf (kind_of self.old) turn.effects) }
+        ensures in_range { IfOk result (λ turn. AreEffects turn.effects × AreOuts turn.outs) }
     {
         match self {
             NodeCore::Repository(core) => wanted(core.learn(stamp, committed)),
@@ -159,7 +160,7 @@ impl NodeCore {
         ensures gives { (b : Base) (n : NodeId) (log : List Effect) (mind : Mind) → StandsFor b n log mind self.old → IfOk result (λ turn. Gave b n log (gives b.script b.run b.acts n log mind (Hearing moment)) turn self.new) }
         ensures kind { kind_of self.new ≡ kind_of self.old }
         ensures whole { OnOk result (IsWhole self.new) }
-        ensures in_range { IfOk result (λ turn. IsLogOf (kind_of self.old) turn.effects) }
+        ensures in_range { IfOk result (λ turn. AreEffects turn.effects × AreOuts turn.outs) }
     {
         match self {
             NodeCore::Repository(core) => wanted(core.hear(moment)),

@@ -4,12 +4,7 @@
 
 mod cores;
 mod letters;
-mod marks;
-mod ranges;
 mod replays;
 mod seats;
 
 pub use replays::logs;
-
-#[cfg(test)]
-mod tests;

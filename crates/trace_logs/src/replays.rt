@@ -4,7 +4,7 @@ ghost use Rattle.pseudo_time.specs.Lists.{Every};
 ghost use Rattle.pseudo_time.specs.declared.nodes.NodeId.{NodeId};
 ghost use Rattle.broker_core.specs.Ledgers.{AreActs};
 ghost use Rattle.broker_core.specs.Tasks.{Scripted};
-ghost use Rattle.message_core.specs.Nodes.{same_node};
+ghost use Rattle.pseudo_time.specs.Nodes.{same_node};
 ghost use Rattle.serial_model.specs.Questions.{Tree};
 ghost use Rattle.world_core.specs.declared.traces.Opened.{Opened};
 ghost use Rattle.world_core.specs.declared.entries.Entry.TheVariants as entry;
@@ -82,6 +82,7 @@ fn seat_of(
     acts: &[ActSpec],
     opened: &Opened,
 ) -> Result<Seat, AllocError>
+    requires run { 1 ≤ run }
     requires acts { AreActs acts.now }
     requires opened { IsOpened opened.now }
     requires start { start ≤ 2 ^ 63 }
@@ -102,6 +103,7 @@ fn seats_of(
     acts: &[ActSpec],
     opened: &[Opened],
 ) -> Result<Vec<Seat>, AllocError>
+    requires run { 1 ≤ run }
     requires acts { AreActs acts.now }
     requires opened { Every IsOpened opened.now }
     requires start { start ≤ 2 ^ 63 }
@@ -241,14 +243,15 @@ impl Replay {
 ///
 /// The cost is what the cores take for the entries, and one reading of a node's log at each Crash.
 ///
-/// `acts` are those of the plan. Numbers of nodes are 1 to 16, no node is opened twice, the effects in
-/// the logs of repositories are in range, and no moment is above 2^63.
+/// `acts` are those of the plan, and runs count from 1. Numbers of nodes are 1 to 16, no node is opened
+/// twice, the effects in the logs are in range, and no moment is above 2^63.
 pub fn logs(
     alloc: Global,
     run: u32,
     acts: &[ActSpec],
     trace: &Trace,
 ) -> Result<Vec<Opened>, AllocError>
+    requires run { 1 ≤ run }
     requires acts { AreActs acts.now }
     requires opened { Every IsOpened trace.now.opened }
     requires once { IsOnce trace.now.opened }

@@ -5,18 +5,18 @@ ghost use Rattle.pseudo_time.specs.declared.nodes.NodeId.{NodeId};
 ghost use Rattle.message_form.specs.Messages.{IsMessage};
 ghost use Rattle.turn_form.specs.declared.turns.Out.{Out};
 ghost use Rattle.turn_form.specs.Posts.{posts};
+ghost use Rattle.turn_form.specs.Ranges.{AreEffects, AreOuts};
 ghost use Rattle.broker_core.specs.Ledgers.{AreActs};
 ghost use Rattle.broker_core.specs.Tasks.{Scripted};
 ghost use Rattle.world_core.specs.Nodes.{leaves};
 ghost use Rattle.world_core.specs.Nodes.Input.{Going, Taking, Learning, Hearing};
 ghost use Rattle.world_core.specs.Walks.{Base, Life, told, whole, gated_life, crashed_life, opened_life};
-ghost use Rattle.trace_logs.specs.Cores.{StandsFor, IsLogOf, own_acts};
+ghost use Rattle.trace_logs.specs.Cores.{StandsFor, own_acts};
 ghost use Rattle.trace_logs.specs.Letters.{all_posted, AreLetters};
 ghost use Rattle.trace_logs.specs.Seats.{Lives, IsSound};
 
 use crate::cores::{NodeCore, open_core};
 use crate::letters::Letter;
-use crate::ranges::is_in_range;
 use effect_form::Effect;
 use message_form::Message;
 use pseudo_time::{NodeId, Stamp};
@@ -52,7 +52,8 @@ impl Seat {
         requires low { 1 ≤ node.number }
         requires high { node.number ≤ 16 }
         requires acts { AreActs acts.items }
-        requires log { IsLogOf node.kind log.items }
+        requires run { 1 ≤ run }
+        requires log { AreEffects log.items }
         requires start { start ≤ 2 ^ 63 }
         ensures lives { (b : Base) → b.run ≡ run → acts.items ≡ own_acts node b.acts → Scripted b.script acts.items → IfOk result (λ seat. Lives b seat (opened_life start log.items)) }
         ensures node { IfOk result (λ seat. seat.node ≡ node) }
@@ -144,18 +145,15 @@ impl Seat {
         }
     }
 
-    // Sends a message, if it leaves. Each is in range; one that isn't would end the call as a want of
-    // memory does.
+    // Sends a message, if it leaves.
     fn send(&self, out: Out, letters: &mut Vec<Letter>) -> Result<(), AllocError>
         requires sound { IsSound self.now }
+        requires message { IsMessage out.message }
         ensures sent { (b : Base) (l : Life) → Lives b self.now l → l.fresh ≡ [] → OnOk result (all_posted letters.new.items ≡ all_posted letters.old.items ++ posts self.now.node (filter (leaves l.gated) (out ∷ []))) }
         ensures in_range { AreLetters letters.old.items → OnOk result (AreLetters letters.new.items) }
     {
         if !self.leaves(&out) {
             return Ok(());
-        }
-        if !is_in_range(&out.message) {
-            return Err(AllocError);
         }
         let from = self.node;
         letters.push(Letter { from, out })?;
@@ -165,6 +163,7 @@ impl Seat {
     // Sends the messages that leave, in order.
     fn send_all(&self, outs: Vec<Out>, letters: &mut Vec<Letter>) -> Result<(), AllocError>
         requires sound { IsSound self.now }
+        requires messages { AreOuts outs.items }
         ensures sent { (b : Base) (l : Life) → Lives b self.now l → l.fresh ≡ [] → OnOk result (all_posted letters.new.items ≡ all_posted letters.old.items ++ posts self.now.node (filter (leaves l.gated) outs.items)) }
         ensures in_range { AreLetters letters.old.items → OnOk result (AreLetters letters.new.items) }
     {
@@ -198,6 +197,7 @@ impl Seat {
         kept: u32,
     ) -> Result<(), AllocError>
         requires sound { IsSound self.old }
+        requires run { 1 ≤ run }
         requires start { start ≤ 2 ^ 63 }
         ensures lives { (b : Base) (l : Life) → b.run ≡ run → b.start ≡ start → Lives b self.old l → OnOk result (Lives b self.new (crashed_life b.start kept l)) }
         ensures node { OnOk result (self.new.node ≡ self.old.node) }

@@ -1,2 +1,3 @@
 pub mod Growth
 pub mod Posts
+pub mod Ranges

@@ -1,5 +1,6 @@
 -- Messages that were sent.
 use Rattle.std.specs.Prelude.{List, map}
+use Rattle.pseudo_time.specs.Lists.{Has}
 use Rattle.pseudo_time.specs.declared.nodes.NodeId.{NodeId}
 use Rattle.message_form.specs.declared.messages.Message.{Message}
 use Rattle.turn_form.specs.declared.turns.Out.{Out}
@@ -16,3 +17,7 @@ post from out = record { from = from; to = out.to; message = out.message }
 -- the messages that a node sent, in order
 abbrev pub posts : NodeId → List Out → List Post
 posts from outs = map (post from) outs
+
+-- the message was sent
+abbrev pub WasSent : List Post → NodeId → NodeId → Message → Type 0
+WasSent ever from to m = Has (record { from = from; to = to; message = m }) ever

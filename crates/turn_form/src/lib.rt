@@ -4,6 +4,3 @@
 mod turns;
 
 pub use turns::{Out, Turn};
-
-#[cfg(test)]
-mod tests;

@@ -30,6 +30,3 @@ pub use transcripts::Line;
 pub use value_bytes::values_apart;
 pub use value_faults::ValueFault;
 pub use values::Value;
-
-#[cfg(test)]
-mod tests;

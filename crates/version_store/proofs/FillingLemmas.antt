@@ -1,6 +1,7 @@
 -- How effects fill pages.
 use Rattle.std.proofs.Common.{◌≡◌, ℕ, ◌+◌, ◌≤◌, ◌<◌, List, [], ◌∷◌, ◌++◌, length, get_or, drop, None, refl, sym, ◌∙◌, ap, subst, arith, inl, inr, append_assoc, length-append, zero-add}
 use Rattle.std.specs.Prelude.{nat_le}
+use Rattle.pseudo_time.specs.Lists.{Every}
 use Rattle.std.proofs.lemmas.Bool.{cases_Bool, cond-true, cond-false, le-leb, lt-leb}
 use Rattle.std.proofs.lemmas.List.{append-nil, drop_more, drop_all}
 use Rattle.value_form.specs.declared.values.Value.{Value}
@@ -185,3 +186,33 @@ filled_left effects i full size was d within = left (ap (λ (l : List Effect). f
 
     left : full + length (filling_from was.page (get_or effects i d ∷ drop (i + 1) effects)) ≡ length (filling effects) → full < length (filling effects)
     left count = let more = some was.page (get_or effects i d) (drop (i + 1) effects) in omega (arith, more, count)
+
+-- an effect fills a page
+pub filling-one : (e : Effect) → HasBytes e → length (filling (e ∷ [])) ≡ 1
+filling-one e bytes = let most = size_most e bytes in ap length (filling-takes [] e [] (omega (arith, most)))
+
+closed-most : (page : List Effect) → length (closed page) ≤ 1
+closed-most [] = omega arith
+closed-most (e ∷ page) = omega arith
+
+-- pages that are begun, and one more for each effect at most
+filling_from-most : (page rest : List Effect) → length (filling_from page rest) ≤ 1 + length rest
+filling_from-most page [] = closed-most page
+filling_from-most page (e ∷ rest) = elim (cases_Bool (nat_le (sizes page + size_of e) 4092)) [
+  | inl fits ↦
+      let same = ap (λ (l : List (List Effect)). length l) (cond-true (nat_le (sizes page + size_of e) 4092) (filling_from (page ++ e ∷ []) rest) (page ∷ filling_from (e ∷ []) rest) fits) in
+      let more = filling_from-most (page ++ e ∷ []) rest in
+      omega (arith, same, more)
+  | inr over ↦
+      let same = ap (λ (l : List (List Effect)). length l) (cond-false (nat_le (sizes page + size_of e) 4092) (filling_from (page ++ e ∷ []) rest) (page ∷ filling_from (e ∷ []) rest) over) in
+      let more = filling_from-most (e ∷ []) rest in
+      omega (arith, same, more)
+]
+
+pub filling-most : (effects : List Effect) → Every HasBytes effects → length (filling effects) ≤ length effects
+filling-most [] h = omega arith
+filling-most (e ∷ rest) h =
+    let most = size_most e h.0 in
+    let same = ap (λ (l : List (List Effect)). length l) (filling-takes [] e rest (omega (arith, most))) in
+    let more = filling_from-most (e ∷ []) rest in
+    omega (arith, same, more)

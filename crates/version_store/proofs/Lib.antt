@@ -11,3 +11,4 @@ pub mod StoreLemmas
 pub mod BlankLemmas
 pub mod PlaceLemmas
 pub mod StandLemmas
+mod CleanLemmas

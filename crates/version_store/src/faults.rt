@@ -1,3 +1,7 @@
+ghost use Rattle.std.specs.Prelude.{◌≡◌};
+
+use pseudo_time::DownCause;
+
 /// Why a medium wasn't opened.
 #[derive(Clone, Copy, Debug, PartialEq, Eq)]
 pub enum OpenFault {
@@ -18,6 +22,36 @@ pub enum StoreFault {
     Full { pages: u32 },
     /// Memory is wanting.
     NoMemory,
+}
+
+impl StoreFault {
+    ghost use Rattle.version_store.specs.Causes.{down_of};
+
+    /// Why the store's node is down. None where memory is wanting: it isn't.
+    pub fn down_cause(self) -> Option<DownCause>
+        ensures { result ≡ down_of self }
+    {
+        match self {
+            StoreFault::Medium => Some(DownCause::Medium),
+            StoreFault::Full { pages } => Some(DownCause::Full { pages }),
+            StoreFault::NoMemory => None,
+        }
+    }
+}
+
+impl OpenFault {
+    ghost use Rattle.version_store.specs.Causes.{down_of_opening};
+
+    /// Why the store's node is down. None where memory is wanting: it isn't.
+    pub fn down_cause(self) -> Option<DownCause>
+        ensures { result ≡ down_of_opening self }
+    {
+        match self {
+            OpenFault::Medium => Some(DownCause::Medium),
+            OpenFault::Damaged { page } => Some(DownCause::Damaged { page }),
+            OpenFault::NoMemory => None,
+        }
+    }
 }
 
 /// Why an effect wasn't fetched.

@@ -1,5 +1,5 @@
-ghost use Rattle.std.specs.Prelude.{◌≡◌, IfOk};
-ghost use Rattle.effect_form.specs.Effects.{effect_at};
+ghost use Rattle.std.specs.Prelude.{◌≡◌, IfOk, IfSome};
+ghost use Rattle.effect_form.specs.Effects.{IsWritten, effect_at};
 ghost use Rattle.version_store.specs.Entries.{number_of};
 ghost use Rattle.version_store.specs.Fetch.{is_back_before, shown, shown_on};
 
@@ -31,7 +31,8 @@ fn effect_here(
     bytes: &[u8],
     place: Place,
 ) -> Result<Option<(Effect, Option<Place>)>, AllocError>
-    ensures { IfOk result (λ o. o ≡ shown place (effect_at bytes.now)) }
+    ensures shown { IfOk result (λ o. o ≡ shown place (effect_at bytes.now)) }
+    ensures in_range { IfOk result (λ o. IfSome o (λ w. IsWritten w)) }
 {
     match read(alloc, bytes) {
         Err(EffectFault::Form { .. }) => Ok(None),
@@ -52,7 +53,8 @@ pub fn effect_on(
     state: &PageState,
     place: Place,
 ) -> Result<Option<(Effect, Option<Place>)>, AllocError>
-    ensures { IfOk result (λ o. o ≡ shown_on state.now place) }
+    ensures shown { IfOk result (λ o. o ≡ shown_on state.now place) }
+    ensures in_range { IfOk result (λ o. IfSome o (λ w. IsWritten w)) }
 {
     let PageState::Gated(body) = state else {
         return Ok(None);

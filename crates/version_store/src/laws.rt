@@ -1,11 +1,12 @@
-ghost use Rattle.std.specs.Prelude.{◌≡◌, ◌+◌, ◌++◌, ℕ, ◌<◌, List, IfSome, Ok, Some, length, take};
+ghost use Rattle.std.specs.Prelude.{◌≡◌, ◌+◌, ◌++◌, [], ◌∷◌, ℕ, ◌<◌, ◌≤◌, List, IfSome, Ok, Some, length, take};
+ghost use Rattle.pseudo_time.specs.Lists.{Every};
 ghost use Rattle.medium_port.specs.Image.{Image, IsImage};
 ghost use Rattle.value_form.specs.declared.objects.ObjectId.{ObjectId};
 ghost use Rattle.effect_form.specs.declared.effects.Effect.{Effect};
 ghost use Rattle.effect_form.specs.declared.effects.Place.{Place};
 ghost use Rattle.version_store.specs.Entries.{Entry, IsBefore, IsIn, Log, back_in, last_put};
-ghost use Rattle.version_store.specs.Fetch.{StandsAt};
-ghost use Rattle.version_store.specs.Filling.{HasPrefix, filling, joined};
+ghost use Rattle.version_store.specs.Fetch.{BackStands, IsLastPut};
+ghost use Rattle.version_store.specs.Filling.{HasBytes, HasPrefix, KeepsPages, StaysClean, filling, joined};
 ghost use Rattle.version_store.specs.Storage.{log_of, storage};
 
 /// A law: what is read of an image that a crash of an append left is the log with a prefix of the
@@ -28,9 +29,22 @@ pub fn pages_keep_the_order()
     ensures { (effects : List Effect) → joined (filling effects) ≡ effects }
 {}
 
-/// A law: the last place of an object is that of an effect of the log, a Put of the object. So is
-/// the back place of an effect in the log of an image: an effect stands there.
+/// A law: at the last place of an object stands its last Put. At the back place of an effect in the
+/// log of an image stands a Put of its object, too.
 pub fn places_have_effects()
-    ensures last { (log : Log) (object : ObjectId) (place : Place) → last_put log object ≡ Some place → StandsAt log place }
-    ensures back { (n : ℕ) (image : Image) (e : Entry) (i : ℕ) (place : Place) → IsImage n image → IsIn (log_of image) e i → e.back ≡ Some place → StandsAt (log_of image) place }
+    ensures last { (log : Log) (object : ObjectId) (place : Place) → last_put log object ≡ Some place → IsLastPut log object place }
+    ensures back { (n : ℕ) (image : Image) (e : Entry) (i : ℕ) → IsImage n image → IsIn (log_of image) e i → BackStands (log_of image) (e.effect, e.back) }
+{}
+
+/// A law: effects fill no more pages than they are, and one fills one.
+pub fn effects_fill_few_pages()
+    ensures most { (effects : List Effect) → Every HasBytes effects → length (filling effects) ≤ length effects }
+    ensures one { (effect : Effect) → HasBytes effect → length (filling (effect ∷ [])) ≡ 1 }
+{}
+
+/// A law: where pages that weren't blank are kept and no blank one is spoiled, by one run of pages and
+/// then by another, so it is by both. So it goes on over the appends of a run.
+pub fn pages_stay_clean()
+    ensures clean { (a b c : Image) → StaysClean a b → KeepsPages b c → StaysClean b c → StaysClean a c }
+    ensures kept { (a b c : Image) → KeepsPages a b → KeepsPages b c → KeepsPages a c }
 {}

@@ -17,6 +17,3 @@ pub use laws::{
     back_places_come_before, pages_keep_the_order, places_have_effects, prefix_is_found,
 };
 pub use stores::Store;
-
-#[cfg(test)]
-mod tests;

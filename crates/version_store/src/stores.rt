@@ -1,13 +1,15 @@
-ghost use Rattle.std.specs.Prelude.{◌≡◌, ◌≢◌, [], ◌+◌, ℕ, ◌<◌, ◌≤◌, ◌++◌, IsTrue, List, Ok, Err, Some, None, count_by, length, All, false, IfOk, IfErr, IfSome, OnOk, OnErr};
+ghost use Rattle.std.specs.Prelude.{◌≡◌, ◌≢◌, [], ◌+◌, ℕ, ◌<◌, ◌≤◌, ◌++◌, IsTrue, List, Ok, Err, Some, None, count_by, length, false, IfOk, IfErr, IfSome, OnOk, OnErr};
+ghost use Rattle.pseudo_time.specs.Lists.{Every};
 ghost use Rattle.stream_port.specs.Causes.{Rose};
 ghost use Rattle.medium_port.specs.Image.{Image, Only, NoMore};
 ghost use Rattle.medium_port.specs.Moment.{LeavesOnly};
 ghost use Rattle.page_gate.specs.States.{is_blank};
+ghost use Rattle.effect_form.specs.Effects.{IsWritten};
 ghost use Rattle.version_store.specs.Entries.{Entry, IsBefore, IsIn, Log, last_put};
 ghost use Rattle.version_store.specs.Storage.{entries, storage, log_of};
 ghost use Rattle.version_store.specs.Filling.{HasBytes, HasPrefix, KeepsPages, StaysClean, filling};
 ghost use Rattle.version_store.specs.Faults.{fails_opening, fails_adding, fails_fetching};
-ghost use Rattle.version_store.specs.Fetch.{StandsAt, LastShows, damage_after};
+ghost use Rattle.version_store.specs.Fetch.{BackStands, IsLastPut, LastShows, StandsAt, damage_after};
 ghost use Rattle.version_store.specs.Heads.{AreBelow, ArePlaces, HeadsFit};
 ghost use Rattle.version_store.specs.Laying.{IsAtRest};
 ghost use Rattle.version_store.specs.Settled.{IsSettled};
@@ -80,7 +82,7 @@ impl<M: Medium> Store<M> {
         ensures any_moment { IsTrue M.tells → LeavesOnly M.moment M.left_since medium (opened result) (M.may_leave medium) }
 
         // Over every medium each effect is in its range.
-        ensures ranges { IfOk result (λ r. All HasBytes r.1.items) }
+        ensures ranges { IfOk result (λ r. Every HasBytes r.1.items) }
 
         ensures undamaged { IfOk result (λ r. damage_in r.0 ≡ 0) }
         ensures size { M.page_count (opened result) ≡ M.page_count medium }
@@ -124,7 +126,7 @@ impl<M: Medium> Store<M> {
     /// anything is written.
     pub fn append(self, effects: &[Effect]) -> Result<Store<M>, (M, StoreFault)>
         requires open { M.is_failed (medium_of self) ≡ false }
-        requires ranges { All HasBytes effects.now }
+        requires ranges { Every HasBytes effects.now }
 
         // Ok adds them all, on as many pages as they fill, and that is on the medium.
         ensures added { IsTrue M.tells → IfOk result (λ s. effects_in M.reads s ≡ effects_in M.reads self ++ effects.now) }
@@ -137,11 +139,13 @@ impl<M: Medium> Store<M> {
         ensures any_moment { IsTrue M.tells → LeavesOnly M.moment M.left_since (medium_of self) (handed result) (HasPrefix (effects_in M.reads self) effects.now) }
 
         // Only pages that read blank are written, at every moment, and after Ok none of these reads spoiled.
-        ensures kept { IsTrue M.tells → LeavesOnly M.moment M.left_since (medium_of self) (handed result) (KeepsPages (M.reads (medium_of self))) }
+        ensures kept { IsTrue M.tells → (c : Image) → M.may_leave (handed result) c → KeepsPages (M.reads (medium_of self)) c }
+        ensures kept_then { IsTrue M.tells → LeavesOnly M.moment M.left_since (medium_of self) (handed result) (KeepsPages (M.reads (medium_of self))) }
         ensures clean { IsTrue M.tells → IfOk result (λ s. StaysClean (M.reads (medium_of self)) (M.reads (medium_of s))) }
 
         // Full comes exactly where the pages aren't there, and any fault but Medium before all writing.
         ensures full { IfErr result (λ e. (pages : ℕ) → e.1 ≡ StoreFault.Full pages → (pages ≡ M.page_count (medium_of self)) × (left_in self < length (filling effects.now))) }
+        ensures full_blank { IsTrue M.tells → IfErr result (λ e. (pages : ℕ) → e.1 ≡ StoreFault.Full pages → count_by is_blank (M.reads (medium_of self)) < length (filling effects.now)) }
         ensures fits { left_in self < length (filling effects.now) → result ≡ Err (medium_of self, StoreFault.Full (M.page_count (medium_of self))) }
         ensures nothing { IfErr result (λ e. e.1 ≢ StoreFault.Medium → e.0 ≡ medium_of self) }
         ensures idle { effects.now ≡ [] → result ≡ Ok self }
@@ -196,13 +200,17 @@ impl<M: Medium> Store<M> {
 
         // It is the log's.
         ensures found { IsTrue M.tells → (e : Entry) (i : ℕ) → IsIn (log_in M.reads self.old) e i → e.place ≡ place → IfOk result (λ r. (r.0 ≡ e.effect) × (r.1 ≡ e.back)) }
+        ensures back { IsTrue M.tells → IfOk result (λ r. BackStands (log_in M.reads self.new) (r.0, r.1)) }
         ensures sound { IsTrue M.tells → IfErr result (λ f. (page : ℕ) → f ≢ FetchFault.Damaged page) }
 
         // Over every medium it is what the page shows that was read, and Damaged says that this is none.
         ensures shown { IfOk result (λ r. LastShows (M.last_page (medium_of self.new)) place (Some (r.0, r.1))) }
         ensures damaged { IfErr result (λ f. (page : ℕ) → f ≡ FetchFault.Damaged page → (page ≡ place.page) × LastShows (M.last_page (medium_of self.new)) place None) }
         ensures before { IfOk result (λ r. IfSome r.1 (λ b. IsBefore b place × (b.page < M.page_count (medium_of self.new)))) }
+        // It can be stored again.
+        ensures in_range { IfOk result (λ r. IsWritten r) }
         ensures damage { damage_in self.new ≡ damage_after (damage_in self.old) result }
+        ensures damage_stays { damage_in self.old ≤ damage_in self.new }
 
         // The log, the medium's content and the pages left stay.
         ensures reads { IsTrue M.tells → M.reads (medium_of self.new) ≡ M.reads (medium_of self.old) }
@@ -231,6 +239,7 @@ impl<M: Medium> Store<M> {
     pub fn last(&self, object: ObjectId) -> Option<Place>
         ensures within { IfSome result (λ p. p.page < M.page_count (medium_of self.now)) }
         ensures log { IsTrue M.tells → result ≡ last_put (log_in M.reads self.now) object }
+        ensures put { IsTrue M.tells → IfSome result (λ p. IsLastPut (log_in M.reads self.now) object p) }
     {
         self.heads.get(&object).copied()
     }

@@ -12,7 +12,8 @@ use Rattle.world_core.specs.declared.entries.Entry.{Entry}
 use Rattle.world_core.specs.declared.traces.Sent.{Sent}
 use Rattle.world_core.specs.declared.traces.Trace.{Trace}
 use Rattle.world_core.specs.Walks.{Base, Sending, World, sent_by, start_world, step, walk_from, walk}
-use Rattle.world_core.specs.Legal.{Rule, Meets, Legal, Numbered, base_of, post_of, fates_of, asked_of, in_plan}
+use Rattle.broker_core.specs.Tasks.{Scripted}
+use Rattle.world_core.specs.Legal.{AllReady, JustNodes, Rule, Meets, Legal, Numbered, base_of, post_of, fates_of, asked_of, in_plan}
 use Rattle.world_core.specs.Pasts.{Call, IsCall, AreCalls, HasPast, log_left, logs_after}
 use Rattle.world_core.proofs.Lists.{map-front}
 use Rattle.world_core.proofs.Lives.{walk-append, walk-more, sent-walk}
@@ -22,13 +23,28 @@ numbered-left : (k : ℕ) (xs ys : List Sent) → Numbered k (xs ++ ys) → Numb
 numbered-left k [] ys h = tt
 numbered-left k (x ∷ xs) ys h = (h.0, numbered-left (suc k) xs ys h.1)
 
-numbered-join : (k : ℕ) (xs ys : List Sent) → Numbered k xs → Numbered (length xs + k) ys → Numbered k (xs ++ ys)
+pub numbered-join : (k : ℕ) (xs ys : List Sent) → Numbered k xs → Numbered (length xs + k) ys → Numbered k (xs ++ ys)
 numbered-join k [] ys h g = subst (λ n. Numbered n ys) (omega arith) g
 numbered-join k (x ∷ xs) ys h g = (h.0, numbered-join (suc k) xs ys h.1 (subst (λ n. Numbered n ys) (omega arith) g))
 
 -- as many fates as messages
 fates-size : (w : World) (sent : List Sent) → map post_of sent ≡ sent_by w → length w.sendings ≤ length (fates_of sent)
 fates-size w sent h = omega (arith, length-map sent (λ (s : Sent). s.fate), length-map sent post_of, length-map w.sendings (λ (s : Sending). s.post), ap length h)
+
+-- without entries
+pub begins-legal : (script : List ℕ → Tree) (plan : Plan) (asked : List Asked) (t : Trace) → Scripted script plan.acts → JustNodes plan t.opened → AllReady (base_of script plan t)
+    → t.sent ≡ [] → t.entries ≡ [] → Legal script plan asked t
+unfolding Meets walk_from
+begins-legal script plan asked t scripted nodes ready none still = record {
+  scripted = scripted;
+  nodes = nodes;
+  ready = ready;
+  meets = subst (λ es. Meets (base_of script plan t) (fates_of t.sent) (start_world (base_of script plan t)) es) (sym still) tt;
+  sent = ap (map post_of) none ∙ sym (ap (λ es. sent_by (walk (base_of script plan t) es)) still);
+  numbers = subst (Numbered 1) (sym none) tt;
+  before = asked;
+  fated = sym (append-nil asked) ∙ ap (λ l. asked ++ map asked_of l) (sym none);
+}
 
 pub before-legal : (script : List ℕ → Tree) (plan : Plan) (asked : List Asked) (t : Trace) (front rest : List Entry) → Legal script plan asked t → t.entries ≡ front ++ rest
     → (sent later : List Sent) × (older : List Asked) × (t.sent ≡ sent ++ later) × (asked ≡ older ++ map asked_of later)

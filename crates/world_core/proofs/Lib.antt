@@ -1,4 +1,13 @@
+pub mod Alikes
+pub mod Answered
+pub mod Closed
+pub mod CoreTurns
 pub mod Legality
 pub mod Lists
 pub mod Lives
+pub mod OneReading
+pub mod Others
+pub mod PlanRangeLemmas
+pub mod Refusals
 pub mod Rules
+pub mod SameWorlds

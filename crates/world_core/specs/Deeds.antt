@@ -1,12 +1,12 @@
 -- Which deeds a run has: attempts and given writes, which stamps are committed in its logs, and the map of objects that their deeds leave.
 -- Logs stand newest first.
-use Rattle.std.specs.Prelude.{ℕ, zero, suc, Bool, true, false, List, [], ◌∷◌, ◌++◌, map, Option, Some, None, ◌&&◌, ◌||◌, ◌==◌, nat_le, if◌then◌else◌}
+use Rattle.std.specs.Prelude.{ℕ, zero, suc, Bool, true, false, List, [], ◌∷◌, ◌++◌, map, Option, Some, None, ◌&&◌, ◌||◌, ◌==◌, not, nat_le, if◌then◌else◌}
 use Rattle.std.specs.FinMap as finite
 use Rattle.pseudo_time.specs.StampParts.{StampParts}
 use Rattle.pseudo_time.specs.Order.{same_stamp, stamp_lt}
 use Rattle.pseudo_time.specs.declared.decisions.Decision.TheVariants.{Committed}
 use Rattle.pseudo_time.specs.declared.nodes.NodeId.{NodeId}
-use Rattle.pseudo_time.specs.declared.nodes.NodeKind.TheVariants.{Repository}
+use Rattle.pseudo_time.specs.Nodes.{repository, broker}
 use Rattle.value_form.specs.declared.objects.ObjectId.{ObjectId}
 use Rattle.value_form.specs.Objects.{Objects}
 use Rattle.effect_form.specs.declared.effects.Effect.{Effect}
@@ -20,10 +20,13 @@ pub use Rattle.serial_model.specs.Deeds.{Version, Deed, after_deed, after_deeds,
 unfoldable pub use Rattle.serial_model.specs.Deeds.{put_in, stamp_in, stamp_if, lines_written}
 use Rattle.serial_model.specs.Deeds.Deed.{Alone, Given}
 use Rattle.plan_form.specs.declared.plans.Plan.{Plan}
-use Rattle.repository_core.specs.Logs.{marks}
+use Rattle.repository_core.specs.Logs.{marks, knows}
 use Rattle.broker_core.specs.Book as books
 use Rattle.broker_core.specs.Book.{Book, book, tries_of}
-use Rattle.broker_core.specs.Stages.{broker}
+use Rattle.broker_core.specs.Counted.{counted}
+use Rattle.broker_core.specs.Tasks.{tasks}
+use Rattle.value_form.specs.declared.acts.ActSpec.{ActSpec}
+use Rattle.world_core.specs.Nodes.{acts_of}
 
 -- an attempt at an act, as its broker's log tells it; the answers stand oldest first
 pub record Try : Type 0 where
@@ -38,9 +41,6 @@ pub record RunLogs : Type 0 where
   pub logs : NodeId → List Effect
   pub tries : List Try
 
-abbrev pub repository : ℕ → NodeId
-repository r = record { kind = Repository; number = r }
-
 abbrev pub log_of : RunLogs → ℕ → List Effect
 log_of k r = k.logs (repository r)
 
@@ -54,14 +54,16 @@ unfoldable pub some_of : ℕ → (ℕ → Bool) → Bool
 some_of zero f = false
 some_of (suc n) f = f (suc n) || some_of n f
 
+-- the first that the log says of the stamp is its Decide Committed
 unfoldable pub has_commit : StampParts → List Effect → Bool
 has_commit s [] = false
-has_commit s (effect.Decide t Committed ∷ log) = same_stamp t s || has_commit s log
+has_commit s (effect.Decide t Committed ∷ log) = (same_stamp t s && not (knows log s)) || has_commit s log
 has_commit s (f ∷ log) = has_commit s log
 
+-- and that it was learned as committed
 unfoldable pub has_learned : StampParts → List Effect → Bool
 has_learned s [] = false
-has_learned s (effect.Learn t true ∷ log) = same_stamp t s || has_learned s log
+has_learned s (effect.Learn t true ∷ log) = (same_stamp t s && not (knows log s)) || has_learned s log
 has_learned s (f ∷ log) = has_learned s log
 
 -- Its home's log has its Decide Committed. Where its home isn't of this run, a log of the run has its Learn as committed.
@@ -147,10 +149,10 @@ abbrev pub book_tries : (List ℕ → Tree) → ℕ → Book → List Try
 book_tries script run b = if b.run == run then map (attempt script) (tries_of b.acts) else []
 
 -- of brokers 1 to this number
-unfoldable pub run_tries : (List ℕ → Tree) → ℕ → (NodeId → List Effect) → ℕ → List Try
-run_tries script run logs zero = []
-run_tries script run logs (suc b) = run_tries script run logs b ++ book_tries script run (book (logs (broker (suc b))))
+unfoldable pub run_tries : (List ℕ → Tree) → ℕ → List ActSpec → (NodeId → List Effect) → ℕ → List Try
+run_tries script run acts logs zero = []
+run_tries script run acts logs (suc b) = run_tries script run acts logs b ++ book_tries script run (counted script (suc b) run (tasks (acts_of (suc b) acts)) (logs (broker (suc b))))
 
 -- a run of this plan
 abbrev pub run_of : (List ℕ → Tree) → Plan → (NodeId → List Effect) → RunLogs
-run_of script plan logs = record { repositories = plan.repositories; logs = logs; tries = run_tries script plan.run logs plan.brokers }
+run_of script plan logs = record { repositories = plan.repositories; logs = logs; tries = run_tries script plan.run plan.acts logs plan.brokers }

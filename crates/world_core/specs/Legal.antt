@@ -1,5 +1,5 @@
 -- Which traces are legal: a rule for each entry, asked of the world before it.
-use Rattle.std.specs.Prelude.{◌≡◌, ◌⊎◌, ℕ, zero, suc, ◌+◌, ◌^◌, ◌≤◌, ◌<◌, ◌==◌, ◌&&◌, max, nat_le, Bool, true, false, List, [], ◌∷◌, ◌++◌, map, length, Option, Some, None, is_some, slice_get, IsTrue, if◌then◌else◌}
+use Rattle.std.specs.Prelude.{◌≡◌, ◌⊎◌, ℕ, zero, suc, ◌+◌, ◌^◌, ◌≤◌, ◌<◌, ◌==◌, ◌&&◌, max, not, nat_le, Bool, true, false, List, [], ◌∷◌, ◌++◌, map, length, Option, Some, None, is_some, slice_get, IsTrue, if◌then◌else◌}
 use Rattle.std.specs.Option.{unwrap_or}
 use Rattle.std.specs.List.{count_by}
 use Rattle.pseudo_time.specs.Lists.{Has}
@@ -14,7 +14,7 @@ use Rattle.turn_form.specs.Posts.{Post}
 use Rattle.stream_port.specs.declared.fates.Asked.{Asked}
 use Rattle.stream_port.specs.declared.fates.Fate.{Fate}
 use Rattle.stream_port.specs.Fates.{copies_of}
-use Rattle.message_core.specs.Nodes.{same_node}
+use Rattle.pseudo_time.specs.Nodes.{same_node, is_broker}
 use Rattle.serial_model.specs.Questions.{Tree}
 use Rattle.plan_form.specs.declared.plans.Plan.{Plan}
 use Rattle.world_core.specs.declared.entries.Entry.{Entry}
@@ -23,7 +23,7 @@ use Rattle.world_core.specs.declared.traces.Opened.{Opened}
 use Rattle.world_core.specs.declared.traces.Sent.{Sent}
 use Rattle.world_core.specs.declared.traces.Trace.{Trace}
 use Rattle.message_form.specs.declared.messages.Message.{Message}
-use Rattle.message_form.specs.Messages.{message_bytes}
+use Rattle.message_form.specs.Messages.{tag_of}
 use Rattle.broker_core.specs.Tasks.{Scripted}
 use Rattle.world_core.specs.Nodes.{repository, broker, is_ready, is_commit}
 use Rattle.world_core.specs.Walks.{Base, opened_log, Sending, World, Flags, numbered, start_world, step, walk, sent_by}
@@ -34,9 +34,9 @@ use Rattle.world_core.specs.Walks.{Base, opened_log, Sending, World, Flags, numb
 abbrev pub HasHeard : World → NodeId → Type 0
 HasHeard w n = (w.last ≡ None) ⊎ (w.heard n ≡ true)
 
-abbrev pub is_broker : NodeKind → Bool
-is_broker Repository = false
-is_broker Broker = true
+-- a Tick stands that it hasn't heard
+abbrev pub is_behind : World → NodeId → Bool
+is_behind w n = is_some w.last && not (w.heard n)
 
 -- A broker has gone since it was opened.
 abbrev pub HasGone : World → NodeId → Type 0
@@ -162,10 +162,6 @@ post_of s = record { from = s.from; to = s.to; message = s.message }
 
 abbrev pub fates_of : List Sent → List Fate
 fates_of sent = map (λ (s : Sent). s.fate) sent
-
--- the byte that its text begins with
-abbrev pub tag_of : Message → ℕ
-tag_of m = unwrap_or (slice_get (message_bytes m) 0) 0
 
 -- the question for its fate, and the answer
 abbrev pub asked_of : Sent → Asked

@@ -1,5 +1,9 @@
+pub mod Alike
+pub mod Answered
+pub mod Cores
 pub mod Deeds
 pub mod Legal
 pub mod Nodes
 pub mod Pasts
+pub mod Readings
 pub mod Walks

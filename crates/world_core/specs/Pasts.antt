@@ -8,7 +8,7 @@ use Rattle.serial_model.specs.Questions.{Tree}
 use Rattle.plan_form.specs.declared.plans.Plan.{Plan}
 use Rattle.world_core.specs.declared.entries.Entry.{Entry}
 use Rattle.world_core.specs.declared.entries.Entry.TheVariants.{Down}
-use Rattle.world_core.specs.declared.entries.DownCause.{DownCause}
+use Rattle.pseudo_time.specs.declared.down_causes.DownCause.{DownCause}
 use Rattle.world_core.specs.declared.traces.Opened.{Opened}
 use Rattle.world_core.specs.declared.traces.Trace.{Trace}
 use Rattle.world_core.specs.Walks.{opened_log, Life, is_down, walk}

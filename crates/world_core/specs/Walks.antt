@@ -1,5 +1,5 @@
 -- What has become of each node by a place of a trace, as a walk over the entries, the first one first.
-use Rattle.std.specs.Prelude.{ℕ, zero, suc, ◌+◌, Bool, true, false, ◌&&◌, List, [], ◌∷◌, ◌++◌, map, take, Option, Some, None, is_some, slice_get, if◌then◌else◌}
+use Rattle.std.specs.Prelude.{ℕ, ◌+◌, Bool, true, false, ◌&&◌, List, [], ◌∷◌, ◌++◌, map, take, Option, Some, None, is_some, if◌then◌else◌}
 use Rattle.std.specs.List.{filter}
 use Rattle.std.specs.Option.{unwrap_or}
 use Rattle.pseudo_time.specs.declared.nodes.NodeId.{NodeId}
@@ -9,7 +9,8 @@ use Rattle.value_form.specs.declared.acts.ActSpec.{ActSpec}
 use Rattle.effect_form.specs.declared.effects.Effect.{Effect}
 use Rattle.turn_form.specs.declared.turns.Out.{Out}
 use Rattle.turn_form.specs.Posts.{Post, posts}
-use Rattle.message_core.specs.Nodes.{same_node}
+pub use Rattle.message_core.specs.Tallies.{numbered}
+use Rattle.pseudo_time.specs.Nodes.{same_node}
 use Rattle.serial_model.specs.Questions.{Tree}
 use Rattle.world_core.specs.declared.entries.Entry.{Entry}
 use Rattle.world_core.specs.declared.entries.Entry.TheVariants.{Take, Go, Learn, Hear, Gate, Crash, Down, Tick}
@@ -77,11 +78,6 @@ opened_flags known = record { known = known; up = known; gone = false; due = fal
 pub record Sending : Type 0 where
   pub post : Post
   pub ticks : ℕ
-
--- what stands at this number, counted from 1
-abbrev pub numbered : {X : Type 0} → List X → ℕ → Option X
-numbered xs zero = None
-numbered xs (suc k) = slice_get xs k
 
 -- ---- the world at a place of a trace
 

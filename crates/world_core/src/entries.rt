@@ -1,15 +1,4 @@
-use pseudo_time::{NodeId, Stamp};
-
-/// Why a node is down.
-#[derive(Clone, Copy, Debug, PartialEq, Eq)]
-pub enum DownCause {
-    /// Its medium, or the shelf that should have given it, failed.
-    Medium,
-    /// Its medium has a page that version storage doesn't leave.
-    Damaged { page: u32 },
-    /// Its effects want more pages than are blank. The number is that of its medium's pages.
-    Full { pages: u32 },
-}
+use pseudo_time::{DownCause, NodeId, Stamp};
 
 /// One thing that happened in a run. All but a Tick name the node that it happened to.
 #[derive(Clone, Copy, Debug, PartialEq, Eq)]

@@ -19,7 +19,8 @@ use Rattle.repository_core.specs.Turns as hands
 use Rattle.repository_laws.specs.AnyLogs.{Refuses, RefusesRightly}
 use Rattle.repository_laws.proofs.AnyTurns.{refuses-on, refuses-more, take-fine, on-learn-fine, hear-fine, begun-fine}
 use Rattle.broker_core.specs.Turns as desks
-use Rattle.broker_laws.specs.AnyLogs.{counted, Joins, Rests, Says, GoesOn}
+use Rattle.broker_core.specs.Counted.{counted}
+use Rattle.broker_laws.specs.AnyLogs.{Joins, Rests, Says, GoesOn}
 use Rattle.broker_laws.specs.Posts as broker_posts
 use Rattle.broker_laws.specs.Works as works
 use Rattle.broker_laws.proofs.AnyDesks.{says-on, turn-on}
@@ -69,7 +70,7 @@ module _ (script : List ℕ → Tree) (run : ℕ) (acts : List ActSpec) (own : N
   cause-later : (w v : Around) (k : NodeKind) (i : ℕ) (log : List Effect) (f : Effect) → Later w v → any_cause script run acts w.ever k i log f → any_cause script run acts v.ever k i log f
   cause-later w v Repository i log f l h = h
   cause-later w v Broker i log f l h =
-      (h.0, subst (λ e. broker_posts.HasCause i e (counted script i run (tasks_of script run acts i) log) f) (sym l.ever) (cause-more script i w.ever l.more (counted script i run (tasks_of script run acts i) log) f h.1), h.2)
+      (h.0, subst (λ e. broker_posts.RestsOn i e (counted script i run (tasks_of script run acts i) log) f) (sym l.ever) (cause-more script i w.ever l.more (counted script i run (tasks_of script run acts i) log) f h.1), h.2)
 
   -- ---- turns
 

@@ -16,7 +16,7 @@ use Rattle.serial_model.specs.Questions.{Tree}
 use Rattle.world_core.specs.Nodes.{Input, Given, repository}
 use Rattle.world_core.specs.Nodes.Input.{Going, Taking, Learning, Hearing}
 use Rattle.world_facts.specs.Rules.{Around, Later, NodeFacts, Turns, MayInput, SenderOk, TurnGiven, TurnGives, NodeLaws}
-use Rattle.world_facts.specs.Soft.{Seat, whole, keep, gate, crash, Soft, put, around, Event, react, happens, nothing, happened, May, Mays, NodeOk, SentOk, Inv}
+use Rattle.world_facts.specs.Soft.{SoftNode, whole, keep, gate, crash, Soft, put, around, Event, react, happens, nothing, happened, May, Mays, NodeOk, SentOk, Inv}
 use Rattle.world_facts.specs.Soft.Event.{Start, React, Gate, Crash, Tick}
 use Rattle.world_facts.proofs.Growths.{each-map, each-drop, every-filter, every-of-map, put-all, put-here}
 
@@ -33,7 +33,7 @@ module _ (script : List ℕ → Tree) (turns : Turns) (F : NodeFacts) (laws : No
       both.1
 
   -- more around a node
-  pub node-later : (w v : Around) → Later w v → (n : NodeId) (x : Seat) → NodeOk F w n x → NodeOk F v n x
+  pub node-later : (w v : Around) → Later w v → (n : NodeId) (x : SoftNode) → NodeOk F w n x → NodeOk F v n x
   node-later w v l n x h = record {
     tidy = h.tidy;
     grew = h.grew;
@@ -48,7 +48,7 @@ module _ (script : List ℕ → Tree) (turns : Turns) (F : NodeFacts) (laws : No
   pub turn-given : (s : Soft) (run : ℕ) (acts : List ActSpec) (n : NodeId) → Inv F s → F.Ready run acts n (whole (s.seat n)) →
       TurnGiven F (around s) run acts n (whole (s.seat n)) (s.seat n).mind
   turn-given s run acts n inv ready =
-      let x : Seat = s.seat n in
+      let x : SoftNode = s.seat n in
       let h : NodeOk F (around s) n (s.seat n) = inv.nodes n in
       record { tidy = tidy-grown n x.gated x.fresh h.grew h.tidy; proofs = h.proofs; mind_ok = h.mind_ok; ready = ready; fresh = x.fresh; own = refl; grew = h.grew }
 
@@ -63,7 +63,7 @@ module _ (script : List ℕ → Tree) (turns : Turns) (F : NodeFacts) (laws : No
   turn-gives s run acts n input inv may ready =
       laws.turn (around s) run acts n (whole (s.seat n)) (s.seat n).mind input (turn-given s run acts n inv ready) may (sender-ok s n input inv may)
 
-  turned : (w : Around) (run : ℕ) (acts : List ActSpec) (n : NodeId) (x : Seat) (g : Given) → NodeOk F w n x → TurnGives F w run acts n (whole x) g →
+  turned : (w : Around) (run : ℕ) (acts : List ActSpec) (n : NodeId) (x : SoftNode) (g : Given) → NodeOk F w n x → TurnGives F w run acts n (whole x) g →
       NodeOk F w n (record { gated = x.gated; fresh = g.effects ++ x.fresh; outs = x.outs ++ g.outs; mind = g.mind })
   turned w run acts n x g h gives =
       let e : g.effects ++ (x.fresh ++ x.gated) ≡ (g.effects ++ x.fresh) ++ x.gated = sym (append_assoc g.effects x.fresh x.gated) in
@@ -86,7 +86,7 @@ module _ (script : List ℕ → Tree) (turns : Turns) (F : NodeFacts) (laws : No
 
   -- ---- one node changed: its durable log grew by `late`, and `new` messages left it
 
-  changed : (s : Soft) (n : NodeId) (y : Seat) (late : List Effect) (ever new : List Post) → Inv F s → NodeOk F (around s) n y →
+  changed : (s : Soft) (n : NodeId) (y : SoftNode) (late : List Effect) (ever new : List Post) → Inv F s → NodeOk F (around s) n y →
       Grew (F.Fits n) (s.seat n).gated late → y.gated ≡ late ++ (s.seat n).gated → ever ≡ s.ever ++ new →
       Every (SentOk F s.ever (λ k. (put n y s.seat k).gated)) new → Inv F (record { seat = put n y s.seat; ever = ever; ticks = s.ticks })
   changed s n y late ever new inv ok grew own sent news =
@@ -115,10 +115,10 @@ module _ (script : List ℕ → Tree) (turns : Turns) (F : NodeFacts) (laws : No
             news));
       }
 
-  gate-ok : (w : Around) (n : NodeId) (x : Seat) → NodeOk F w n x → NodeOk F w n (gate x)
+  gate-ok : (w : Around) (n : NodeId) (x : SoftNode) → NodeOk F w n x → NodeOk F w n (gate x)
   gate-ok w n x h = record { tidy = tidy-grown n x.gated x.fresh h.grew h.tidy; grew = tt; proofs = h.proofs; mind_ok = h.mind_ok; outs = tt }
 
-  crash-ok : (w : Around) (n : NodeId) (kept start : ℕ) (x : Seat) → NodeOk F w n x → NodeOk F w n (crash kept start x)
+  crash-ok : (w : Around) (n : NodeId) (kept start : ℕ) (x : SoftNode) → NodeOk F w n x → NodeOk F w n (crash kept start x)
   crash-ok w n kept start x h = record {
     tidy = tidy-grown n x.gated (keep kept x.fresh) (grew_drop (F.Fits n) x.gated (length x.fresh - kept) x.fresh h.grew) h.tidy;
     grew = tt;
@@ -130,11 +130,11 @@ module _ (script : List ℕ → Tree) (turns : Turns) (F : NodeFacts) (laws : No
   -- what leaves at a gate has its fact at the new durable log
   gate-news : (s : Soft) (n : NodeId) (which : Out → Bool) → Inv F s → Every (SentOk F s.ever (λ k. (put n (gate (s.seat n)) s.seat k).gated)) (posts n (filter which (s.seat n).outs))
   gate-news s n which inv =
-      let y : Seat = gate (s.seat n) in
+      let y : SoftNode = gate (s.seat n) in
       let At : Post → Type 0 = SentOk F s.ever (λ k. (put n y s.seat k).gated) in
       every-of-map At (post n) (filter which (s.seat n).outs)
       (every-map (F.PostOk s.ever n (whole (s.seat n))) (λ out. At (post n out))
-      (λ out p. subst (λ (z : Seat). F.PostOk s.ever n z.gated (record { to = out.to; message = out.message })) (sym (put-here n y s.seat)) p)
+      (λ out p. subst (λ (z : SoftNode). F.PostOk s.ever n z.gated (record { to = out.to; message = out.message })) (sym (put-here n y s.seat)) p)
       (filter which (s.seat n).outs)
       (every-filter (F.PostOk s.ever n (whole (s.seat n))) which (s.seat n).outs (inv.nodes n).outs))
 

@@ -91,7 +91,7 @@ module _ (script : List ℕ → Tree) where
   mind-kind ever more Repository i mind h = every-map (repositories.HeldHolds ever i) (repositories.HeldHolds (ever ++ more) i) (λ e p. held-more ever more i e p) mind.hands.held h
   mind-kind ever more Broker i mind h = h
 
-  repository-later : (w v : Around) (r : ℕ) (f : Effect) → Later w v → repositories.HasCause w.ever (λ k. w.logs (repository k)) w.ticks r f → repositories.HasCause v.ever (λ k. v.logs (repository k)) v.ticks r f
+  repository-later : (w v : Around) (r : ℕ) (f : Effect) → Later w v → repositories.RestsOn w.ever (λ k. w.logs (repository k)) w.ticks r f → repositories.RestsOn v.ever (λ k. v.logs (repository k)) v.ticks r f
   repository-later w v r (effect.Put o x y) l p = (subst (Has _) (sym l.ever) (has-left w.ever l.more _ p.0), p.1)
   repository-later w v r (effect.Decide s decision.Committed) l p = subst (Has _) (sym l.ever) (has-left w.ever l.more _ p)
   repository-later w v r (effect.Decide s decision.Withdrawn) l p = subst (Has _) (sym l.ever) (has-left w.ever l.more _ p)
@@ -108,7 +108,7 @@ module _ (script : List ℕ → Tree) where
 
   later-kind : (w v : Around) (k : NodeKind) (i : ℕ) (log : List Effect) (f : Effect) → Later w v → kind_cause script w k i log f → kind_cause script v k i log f
   later-kind w v Repository i log f l p = repository-later w v i f l p
-  later-kind w v Broker i log f l p = subst (λ e. broker_posts.HasCause i e (book log) f) (sym l.ever) (cause-more script i w.ever l.more (book log) f p)
+  later-kind w v Broker i log f l p = subst (λ e. broker_posts.RestsOn i e (book log) f) (sym l.ever) (cause-more script i w.ever l.more (book log) f p)
 
   opened-kind : (ever : List Post) (k : NodeKind) (i : ℕ) (start : ℕ) → kind_mind script ever k i (opened_mind start)
   opened-kind ever Repository i start = tt
@@ -155,7 +155,7 @@ module _ (script : List ℕ → Tree) where
         let base : d.base ≡ log = (turn-added script b run (tasks (acts_of b acts)) (desks.desk_at log mind.heard) i).base in
         record {
           grew = subst (λ l. Grew (brokers.FitsLog script b) l d.fresh) base k.desk.grew;
-          proofs = new-have (λ l f. broker_posts.HasCause b w.ever (book l) f) log d.fresh (subst (λ l. broker_posts.HaveCauses b w.ever (d.fresh ++ l)) base k.desk.causes);
+          proofs = new-have (λ l f. broker_posts.RestsOn b w.ever (book l) f) log d.fresh (subst (λ l. broker_posts.HaveCauses b w.ever (d.fresh ++ l)) base k.desk.causes);
           mind_ok = tt;
           outs = subst (λ l. Every (λ o. broker_posts.PostHolds script b (tries (book (d.fresh ++ l))) o.to o.message) d.outs) base k.desk.outs;
           ready = subst (λ l. brokers.IsReady script b run (tasks (acts_of b acts)) (d.fresh ++ l)) base k.ready;

@@ -12,7 +12,7 @@ use Rattle.turn_form.specs.Posts.{Post}
 use Rattle.turn_form.proofs.GrowthLemmas.{each_below}
 use Rattle.stream_port.specs.declared.fates.Asked.{Asked}
 use Rattle.stream_port.specs.declared.fates.Fate.{Fate}
-use Rattle.message_core.specs.Nodes.{same_node}
+use Rattle.pseudo_time.specs.Nodes.{same_node}
 use Rattle.message_core.proofs.NodeLemmas.{same_is}
 use Rattle.serial_model.specs.Questions.{Tree}
 use Rattle.plan_form.specs.declared.plans.Plan.{Plan}
@@ -25,9 +25,9 @@ use Rattle.world_core.specs.Legal.{Meets, AllReady, Legal, base_of, fates_of}
 use Rattle.world_core.specs.Pasts.{Call, log_left, logs_after, Agrees, AreCalls, HasPast}
 use Rattle.world_core.proofs.Rules.{meets-front}
 use Rattle.world_facts.specs.Rules.{Around, Later, NodeFacts, Turns, NodeLaws, PastLaws}
-use Rattle.world_facts.specs.Soft.{Seat, whole, put, crash, kept_log, opened_seat, Soft, around, Event, happened, Mays, SentOk, Inv}
+use Rattle.world_facts.specs.Soft.{SoftNode, whole, put, crash, kept_log, opened_seat, Soft, around, Event, happened, Mays, NodeOk, SentOk, Inv}
 use Rattle.world_facts.specs.Soft.Event.{Crash}
-use Rattle.world_facts.specs.Refines.{seat_of, past_sent, PastTick, Ticked, Refines, Left, logs_at, Facts}
+use Rattle.world_facts.specs.Refines.{seat_of, past_sent, PastTick, Ticked, Refines, Left, LivesOk, logs_at, Facts}
 use Rattle.world_facts.proofs.Growths.{each-map, drop-none, length-reverse, take-back}
 use Rattle.world_facts.proofs.Keeps.{inv-reached}
 use Rattle.world_facts.proofs.Refinements.{ready-gated, walk-refines}
@@ -38,7 +38,7 @@ kept-again : (kept start : ℕ) (log : List Effect) → kept_log kept (opened_se
 kept-again kept start log = ap (λ l. l ++ log) (drop-none (0 - kept) [] refl)
 
 -- where nothing is open, all of the log is kept
-kept-all : (kept : ℕ) (x : Seat) → x.fresh ≡ [] → kept_log kept x ≡ x.gated
+kept-all : (kept : ℕ) (x : SoftNode) → x.fresh ≡ [] → kept_log kept x ≡ x.gated
 kept-all kept x e = ap (λ l. l ++ x.gated) (drop-none (length x.fresh - kept) x.fresh e)
 
 -- what is left of a life, turned round
@@ -46,18 +46,18 @@ kept-left : (kept : ℕ) (l : Life) → kept_log kept (seat_of l) ≡ reverse (l
 kept-left kept l = ap (λ n. drop (n - kept) (reverse l.fresh) ++ reverse l.gated) (length-reverse l.fresh) ∙ ap (λ x. x ++ reverse l.gated) (sym (take-back kept l.fresh)) ∙ sym (reverse-append l.gated (take kept l.fresh))
 
 module _ (kept : NodeId → ℕ) (start : ℕ) where
-  pub record Crashed (os : List Opened) (old new : NodeId → Seat) : Type 0 where
+  pub record Crashed (os : List Opened) (old new : NodeId → SoftNode) : Type 0 where
     pub inside : (n : NodeId) → is_some (opened_log os n) ≡ true → new n ≡ opened_seat (kept_log (kept n) (old n)) start
     pub outside : (n : NodeId) → is_some (opened_log os n) ≡ false → new n ≡ old n
 
-  crash-here : (o : Opened) (os : List Opened) (old new : NodeId → Seat) → Crashed os old new → kept_log (kept o.node) (new o.node) ≡ kept_log (kept o.node) (old o.node)
+  crash-here : (o : Opened) (os : List Opened) (old new : NodeId → SoftNode) → Crashed os old new → kept_log (kept o.node) (new o.node) ≡ kept_log (kept o.node) (old o.node)
   crash-here o os old new h = go (is_some (opened_log os o.node)) refl
     where
       go : (t : Bool) → is_some (opened_log os o.node) ≡ t → kept_log (kept o.node) (new o.node) ≡ kept_log (kept o.node) (old o.node)
       go true e = ap (kept_log (kept o.node)) (h.inside o.node e) ∙ kept-again (kept o.node) start (kept_log (kept o.node) (old o.node))
       go false e = ap (kept_log (kept o.node)) (h.outside o.node e)
 
-  crash-one : (o : Opened) (os : List Opened) (old new : NodeId → Seat) → Crashed os old new → Crashed (o ∷ os) old (put o.node (crash (kept o.node) start (new o.node)) new)
+  crash-one : (o : Opened) (os : List Opened) (old new : NodeId → SoftNode) → Crashed os old new → Crashed (o ∷ os) old (put o.node (crash (kept o.node) start (new o.node)) new)
   crash-one o os old new h = record { inside = λ n. within n (same_node o.node n) refl; outside = λ n. without n (same_node o.node n) refl }
     where
       within : (n : NodeId) (t : Bool) → same_node o.node n ≡ t → is_some (if t then Some o.effects else opened_log os n) ≡ true →
@@ -111,7 +111,7 @@ module _ (script : List ℕ → Tree) (turns : Turns) (F : NodeFacts) (laws : No
       ((n : NodeId) → is_some (opened_log b.opened n) ≡ true → F.Ready b.run b.acts n (reverse (unwrap_or (opened_log b.opened n) []))) → Refines turns F b logs old May (start_world b)
   opens b logs sent Before May wider left agrees ready =
       let c : AllCrashed (λ n. 0) b.start turns F b.opened left.events = crash-all (λ n. 0) b.start turns F b.opened left.events left.may in
-      let old : NodeId → Seat = (happened turns left.events).seat in
+      let old : NodeId → SoftNode = (happened turns left.events).seat in
       let is : (n : NodeId) → kept_log 0 ((happened turns left.events).seat n) ≡ reverse (logs n) = λ n. kept-all 0 ((happened turns left.events).seat n) (left.fresh n) ∙ left.gated n in
       record {
         events = c.events;
@@ -120,7 +120,7 @@ module _ (script : List ℕ → Tree) (turns : Turns) (F : NodeFacts) (laws : No
           known = λ n. refl;
           ups = λ n up. up;
           lives = λ n e. c.crashed.inside n e ∙ ap (λ l. opened_seat l b.start) (is n ∙ ap reverse (sym (found-log logs n (opened_log b.opened n) (agrees n) e)));
-          outside = λ n e. (ap (λ (x : Seat). x.gated) (c.crashed.outside n e) ∙ left.gated n, ap (λ (x : Seat). x.fresh) (c.crashed.outside n e) ∙ left.fresh n);
+          outside = λ n e. (ap (λ (x : SoftNode). x.gated) (c.crashed.outside n e) ∙ left.gated n, ap (λ (x : SoftNode). x.fresh) (c.crashed.outside n e) ∙ left.fresh n);
           unknown = λ n e. no-log (opened_log b.opened n) e;
           ever = c.ever ∙ left.ever ∙ sym (append-nil sent);
           ticks = λ t e. absurd (cc e);
@@ -147,12 +147,12 @@ module _ (script : List ℕ → Tree) (turns : Turns) (F : NodeFacts) (laws : No
       go : (c : AllCrashed kept 0 turns F b.opened r.events) (n : NodeId) (t : Bool) → is_some (opened_log b.opened n) ≡ t →
           (((happened turns c.events).seat n).gated ≡ reverse (after n)) × (((happened turns c.events).seat n).fresh ≡ [])
       go c n true e = (
-        ap (λ (x : Seat). x.gated) (c.crashed.inside n e) ∙ ap (kept_log (kept n)) (r.models.lives n (r.models.known n ∙ e)) ∙ kept-left (kept n) (w.life n) ∙ ap reverse (sym (inside n e)),
-        ap (λ (x : Seat). x.fresh) (c.crashed.inside n e),
+        ap (λ (x : SoftNode). x.gated) (c.crashed.inside n e) ∙ ap (kept_log (kept n)) (r.models.lives n (r.models.known n ∙ e)) ∙ kept-left (kept n) (w.life n) ∙ ap reverse (sym (inside n e)),
+        ap (λ (x : SoftNode). x.fresh) (c.crashed.inside n e),
       )
       go c n false e = (
-        ap (λ (x : Seat). x.gated) (c.crashed.outside n e) ∙ (r.models.outside n (r.models.known n ∙ e)).0 ∙ ap reverse (sym (outside n e)),
-        ap (λ (x : Seat). x.fresh) (c.crashed.outside n e) ∙ (r.models.outside n (r.models.known n ∙ e)).1,
+        ap (λ (x : SoftNode). x.gated) (c.crashed.outside n e) ∙ (r.models.outside n (r.models.known n ∙ e)).0 ∙ ap reverse (sym (outside n e)),
+        ap (λ (x : SoftNode). x.fresh) (c.crashed.outside n e) ∙ (r.models.outside n (r.models.known n ∙ e)).1,
       )
 
   left-nothing : PastLaws script F → Left turns F (λ n. []) [] (PastTick [])
@@ -183,23 +183,38 @@ module _ (script : List ℕ → Tree) (turns : Turns) (F : NodeFacts) (laws : No
 
   -- ---- the facts
 
+  -- the durable logs of both worlds are one
+  gated-same : (b : Base) (logs : NodeId → List Effect) (old : List Post) (May : ℕ → Type 0) (w : World) (r : Refines turns F b logs old May w) (n : NodeId)
+      → ((happened turns r.events).seat n).gated ≡ reverse (logs_at logs w n)
+  gated-same b logs old May w r n = go (w.flags n).known refl
+    where
+      go : (t : Bool) → (w.flags n).known ≡ t → ((happened turns r.events).seat n).gated ≡ reverse (logs_at logs w n)
+      go true e = ap (λ (x : SoftNode). x.gated) (r.models.lives n e) ∙ ap reverse (sym (ap (λ t. if t then (w.life n).gated else logs n) e))
+      go false e = (r.models.outside n e).0 ∙ ap reverse (sym (ap (λ t. if t then (w.life n).gated else logs n) e))
+
+  abbrev around_at : (logs : NodeId → List Effect) (old : List Post) (w : World) (ticks : List ℕ) → Around
+  around_at logs old w ticks = record { ever = old ++ sent_by w; logs = λ k. reverse (logs_at logs w k); ticks = ticks }
+
+  later-same : (b : Base) (logs : NodeId → List Effect) (old : List Post) (May : ℕ → Type 0) (w : World) (r : Refines turns F b logs old May w)
+      → Later (around (happened turns r.events)) (around_at logs old w (happened turns r.events).ticks)
+  later-same b logs old May w r = record {
+    more = [];
+    ever = sym r.models.ever ∙ sym (append-nil (happened turns r.events).ever);
+    homes = λ t d c. subst (Has (effect.Decide t d)) (gated-same b logs old May w r (repository t.home)) c;
+    ticks = λ t c. c;
+  }
+
   pub facts-of : (b : Base) (logs : NodeId → List Effect) (old : List Post) (May : ℕ → Type 0) (w : World) → Refines turns F b logs old May w → Facts F b (logs_at logs w) old (sent_by w) May
   facts-of b logs old May w r =
       let s : Soft = happened turns r.events in
       let inv : Inv F s = inv-reached script turns F laws r.events r.may in
-      let same : (n : NodeId) → (s.seat n).gated ≡ reverse (logs_at logs w n) = λ n. go n (w.flags n).known refl in
-      let v : Around = record { ever = old ++ sent_by w; logs = λ k. reverse (logs_at logs w k); ticks = s.ticks } in
-      let later : Later (around s) (record { ever = old ++ sent_by w; logs = λ k. reverse (logs_at logs w k); ticks = s.ticks }) = record {
-        more = [];
-        ever = sym r.models.ever ∙ sym (append-nil s.ever);
-        homes = λ t d c. subst (Has (effect.Decide t d)) (same (repository t.home)) c;
-        ticks = λ t c. c;
-      } in
+      let same : (n : NodeId) → (s.seat n).gated ≡ reverse (logs_at logs w n) = gated-same b logs old May w r in
       record {
         ticks = s.ticks;
         ticked = r.models.ticked;
         tidy = λ n. subst (F.Tidy n) (same n) (inv.nodes n).tidy;
-        proofs = λ n. each-map (F.Proof (around s) n) (F.Proof v n) (λ log f. laws.later (around s) v n log f later) (reverse (logs_at logs w n))
+        proofs = λ n. each-map (F.Proof (around s) n) (F.Proof (around_at logs old w s.ticks) n)
+            (λ log f. laws.later (around s) (around_at logs old w s.ticks) n log f (later-same b logs old May w r)) (reverse (logs_at logs w n))
             (subst (Each (F.Proof (around s) n)) (same n) (each_below (F.Proof (around s) n) (s.seat n).gated (s.seat n).fresh (inv.nodes n).proofs));
         sent_ok = subst (λ e. Every (SentOk F e (λ k. reverse (logs_at logs w k))) e) r.models.ever
             (every-map (SentOk F s.ever (λ n. (s.seat n).gated)) (SentOk F s.ever (λ k. reverse (logs_at logs w k)))
@@ -210,10 +225,27 @@ module _ (script : List ℕ → Tree) (turns : Turns) (F : NodeFacts) (laws : No
             (ready-gated script turns F laws b.run b.acts n (s.seat n).gated (s.seat n).fresh (inv.nodes n).tidy (inv.nodes n).grew
             (subst (λ x. F.Ready b.run b.acts n (whole x)) (sym (r.models.lives n known)) (r.models.ready n known)));
       }
-    where
-      go : (n : NodeId) (t : Bool) → (w.flags n).known ≡ t → ((happened turns r.events).seat n).gated ≡ reverse (logs_at logs w n)
-      go n true e = ap (λ (x : Seat). x.gated) (r.models.lives n e) ∙ ap reverse (sym (ap (λ t. if t then (w.life n).gated else logs n) e))
-      go n false e = (r.models.outside n e).0 ∙ ap reverse (sym (ap (λ t. if t then (w.life n).gated else logs n) e))
+
+  -- what holds of a node holds of its life in the walk
+  life-ok : (b : Base) (logs : NodeId → List Effect) (old : List Post) (May : ℕ → Type 0) (w : World) (r : Refines turns F b logs old May w) (n : NodeId) (x : SoftNode)
+      → NodeOk F (around (happened turns r.events)) n x → NodeOk F (around_at logs old w (happened turns r.events).ticks) n x
+  life-ok b logs old May w r n x h = record {
+    tidy = h.tidy;
+    grew = h.grew;
+    proofs = each-map (F.Proof (around (happened turns r.events)) n) (F.Proof (around_at logs old w (happened turns r.events).ticks) n)
+        (λ log f. laws.later (around (happened turns r.events)) (around_at logs old w (happened turns r.events).ticks) n log f (later-same b logs old May w r)) (whole x) h.proofs;
+    mind_ok = subst (λ e. F.MindOk e n x.mind) r.models.ever h.mind_ok;
+    outs = subst (λ e. Every (F.PostOk e n (whole x)) x.outs) r.models.ever h.outs;
+  }
+
+  pub lives-of : (b : Base) (logs : NodeId → List Effect) (old : List Post) (May : ℕ → Type 0) (w : World) → Refines turns F b logs old May w → LivesOk F b (logs_at logs w) old May w
+  lives-of b logs old May w r = record {
+    ticks = (happened turns r.events).ticks;
+    ticked = r.models.ticked;
+    nodes = λ n known. life-ok b logs old May w r n (seat_of (w.life n))
+        (subst (λ x. NodeOk F (around (happened turns r.events)) n x) (r.models.lives n known) ((inv-reached script turns F laws r.events r.may).nodes n));
+    ready = r.models.ready;
+  }
 
   -- the facts of a legal trace over logs with a past, at its end and after each of its entries
   pub legal-facts : PastLaws script F → (plan : Plan) (asked : List Asked) (t : Trace) (logs : NodeId → List Effect) (front rest : List Entry) → (past : HasPast script logs) → Agrees t.opened logs →
@@ -221,6 +253,15 @@ module _ (script : List ℕ → Tree) (turns : Turns) (F : NodeFacts) (laws : No
       Facts F (base_of script plan t) (logs_at logs (walk (base_of script plan t) front)) (past_sent script past.0) (sent_by (walk (base_of script plan t) front)) (Ticked past.0 front)
   legal-facts start plan asked t logs front rest past agrees legal here =
       facts-of (base_of script plan t) logs (past_sent script past.0) (Ticked past.0 front) (walk (base_of script plan t) front)
+      (refined start (base_of script plan t) (fates_of t.sent) logs front refl past agrees legal.ready
+      (meets-front (base_of script plan t) (fates_of t.sent) (start_world (base_of script plan t)) front rest
+      (subst (Meets (base_of script plan t) (fates_of t.sent) (start_world (base_of script plan t))) here legal.meets)))
+
+  pub legal-lives : PastLaws script F → (plan : Plan) (asked : List Asked) (t : Trace) (logs : NodeId → List Effect) (front rest : List Entry) → (past : HasPast script logs) → Agrees t.opened logs →
+      Legal script plan asked t → t.entries ≡ front ++ rest →
+      LivesOk F (base_of script plan t) (logs_at logs (walk (base_of script plan t) front)) (past_sent script past.0) (Ticked past.0 front) (walk (base_of script plan t) front)
+  legal-lives start plan asked t logs front rest past agrees legal here =
+      lives-of (base_of script plan t) logs (past_sent script past.0) (Ticked past.0 front) (walk (base_of script plan t) front)
       (refined start (base_of script plan t) (fates_of t.sent) logs front refl past agrees legal.ready
       (meets-front (base_of script plan t) (fates_of t.sent) (start_world (base_of script plan t)) front rest
       (subst (Meets (base_of script plan t) (fates_of t.sent) (start_world (base_of script plan t))) here legal.meets)))

@@ -13,7 +13,7 @@ use Rattle.turn_form.specs.declared.turns.Out.{Out}
 use Rattle.turn_form.specs.Growth.{Grew}
 use Rattle.turn_form.specs.Posts.{Post, posts}
 use Rattle.stream_port.specs.declared.fates.Fate.{Fate}
-use Rattle.message_core.specs.Nodes.{same_node}
+use Rattle.pseudo_time.specs.Nodes.{same_node}
 use Rattle.serial_model.specs.Questions.{Tree}
 use Rattle.world_core.specs.declared.entries.Entry.{Entry}
 use Rattle.world_core.specs.declared.entries.Entry.TheVariants as entry
@@ -23,7 +23,7 @@ use Rattle.world_core.specs.Walks.{Base, Life, Sending, World, opened_log, numbe
 use Rattle.world_core.specs.Walks as walks
 use Rattle.world_core.specs.Legal.{MayTake, MayHear, MayGate, MayCrash, Stands, Rule, Meets}
 use Rattle.world_facts.specs.Rules.{IsDecided, NodeFacts, Turns, MayInput, TurnGives, NodeLaws}
-use Rattle.world_facts.specs.Soft.{Seat, whole, put, gate, crash, Soft, around, Event, react, happened, Mays, Inv}
+use Rattle.world_facts.specs.Soft.{SoftNode, whole, put, gate, crash, Soft, around, Event, react, happened, Mays, Inv}
 use Rattle.world_facts.specs.Soft.Event.{React, Gate, Crash, Tick}
 use Rattle.world_facts.specs.Refines.{seat_of, Models, Refines}
 use Rattle.world_facts.proofs.Growths.{none-has, numbered-has, put-all}
@@ -60,7 +60,7 @@ module _ (script : List ℕ → Tree) (turns : Turns) (F : NodeFacts) (laws : No
     -- ---- one entry
 
     -- one node changed on both sides
-    one-changed : (s : Soft) (w : World) (e : Entry) (n : NodeId) (y : Seat) (ever new : List Post) → Models turns F b others old May s w → ((k : NodeId) → names k e ≡ same_node n k) →
+    one-changed : (s : Soft) (w : World) (e : Entry) (n : NodeId) (y : SoftNode) (ever new : List Post) → Models turns F b others old May s w → ((k : NodeId) → names k e ≡ same_node n k) →
         (w.flags n).known ≡ true → y ≡ seat_of (lives_on b w n (w.life n) e) → F.Ready b.run b.acts n (whole y) → ever ≡ s.ever ++ new →
         sent_by (step b w e) ≡ sent_by w ++ new → last_after w.last e ≡ w.last → Models turns F b others old May (record { seat = put n y s.seat; ever = ever; ticks = s.ticks }) (step b w e)
     one-changed s w e n y ever new h own known is ready grew sends last = record {
@@ -98,7 +98,7 @@ module _ (script : List ℕ → Tree) (turns : Turns) (F : NodeFacts) (laws : No
     decided-there s w t committed h d = (d.0, go (w.flags (repository t.home)).known refl, d.2)
       where
         go : (k : Bool) → (w.flags (repository t.home)).known ≡ k → Has (effect.Decide t d.0) (s.seat (repository t.home)).gated
-        go true e = subst (λ (x : Seat). Has (effect.Decide t d.0) x.gated) (sym (h.lives (repository t.home) e)) (has-reverse (w.life (repository t.home)).gated (effect.Decide t d.0) d.1)
+        go true e = subst (λ (x : SoftNode). Has (effect.Decide t d.0) x.gated) (sym (h.lives (repository t.home) e)) (has-reverse (w.life (repository t.home)).gated (effect.Decide t d.0) d.1)
         go false e = absurd (none-has (w.life (repository t.home)).gated (effect.Decide t d.0) (h.unknown (repository t.home) e) d.1)
 
     take-refines : (fates : List Fate) (w : World) (n : NodeId) (number : ℕ) → Refines turns F b others old May w → MayTake fates w n number → Refines turns F b others old May (step b w (entry.Take n number))
@@ -124,7 +124,7 @@ module _ (script : List ℕ → Tree) (turns : Turns) (F : NodeFacts) (laws : No
         let at : s.seat n ≡ seat_of (w.life n) = r.models.lives n known in
         let which : Out → Bool = leaves (walks.whole (w.life n)) in
         let left : leaving w n ≡ posts n (filter which (s.seat n).outs) =
-        ap (λ t. if t then posts n (filter which (w.life n).outs) else []) known ∙ ap (λ (x : Seat). posts n (filter which x.outs)) (sym at) in
+        ap (λ t. if t then posts n (filter which (w.life n).outs) else []) known ∙ ap (λ (x : SoftNode). posts n (filter which x.outs)) (sym at) in
         record {
           events = Gate n which ∷ r.events;
           may = r.may;

@@ -5,7 +5,7 @@ use Rattle.pseudo_time.specs.declared.nodes.NodeId.{NodeId}
 use Rattle.pseudo_time.specs.declared.nodes.NodeKind.{NodeKind}
 use Rattle.pseudo_time.specs.declared.nodes.NodeKind.TheVariants.{Repository, Broker}
 use Rattle.turn_form.specs.Posts.{Post}
-use Rattle.message_core.specs.Nodes.{same_node}
+use Rattle.pseudo_time.specs.Nodes.{same_node}
 use Rattle.message_core.proofs.NodeLemmas.{same_is}
 use Rattle.serial_model.specs.Questions.{Tree}
 use Rattle.world_core.specs.declared.entries.Entry.{Entry}
@@ -14,7 +14,7 @@ use Rattle.world_core.specs.Nodes.{Input, Given, gives}
 use Rattle.world_core.specs.Walks as walks
 use Rattle.world_core.specs.Walks.{Base, Life, Flags, Sending, World, names, step, told, lives_on, gated_life, crashed_life, flagged, went, learned, has_heard, leaving, sent_by, sendings_after, with_given}
 use Rattle.world_facts.specs.Rules.{NodeFacts, Turns, forward, NodeLaws}
-use Rattle.world_facts.specs.Soft.{Seat, whole, put, gate, crash, react, with_turn, opened_seat}
+use Rattle.world_facts.specs.Soft.{SoftNode, whole, put, gate, crash, react, with_turn, opened_seat}
 use Rattle.world_facts.specs.Refines.{seat_of}
 use Rattle.world_facts.proofs.Growths.{take-back, length-reverse}
 
@@ -52,7 +52,7 @@ step-known b w e n = go (names n e && (w.flags n).known)
 -- ---- lives
 
 -- a known node's own entry changes it, and the other nodes stay
-pub both-changed : (b : Base) (w : World) (e : Entry) (n : NodeId) (y : Seat) (s : NodeId → Seat) (P : NodeId → Seat → Life → Type 0) →
+pub both-changed : (b : Base) (w : World) (e : Entry) (n : NodeId) (y : SoftNode) (s : NodeId → SoftNode) (P : NodeId → SoftNode → Life → Type 0) →
     ((k : NodeId) → names k e ≡ same_node n k) → (w.flags n).known ≡ true → P n y (lives_on b w n (w.life n) e) → ((k : NodeId) → P k (s k) (w.life k)) →
     (k : NodeId) → P k (put n y s k) ((step b w e).life k)
 both-changed b w e n y s P own known here there k =
@@ -82,7 +82,7 @@ unknown-stays b w e k h = ap (λ t. if names k e && t then lives_on b w k (w.lif
 -- ---- a seat is a life turned round
 
 pub gated-seat : (l : Life) → gate (seat_of l) ≡ seat_of (gated_life l)
-gated-seat l = ap (λ g. let x : Seat = record { gated = g; fresh = []; outs = []; mind = l.mind } in x) (sym (reverse-append l.gated l.fresh))
+gated-seat l = ap (λ g. let x : SoftNode = record { gated = g; fresh = []; outs = []; mind = l.mind } in x) (sym (reverse-append l.gated l.fresh))
 
 pub crashed-seat : (start kept : ℕ) (l : Life) → crash kept start (seat_of l) ≡ seat_of (crashed_life start kept l)
 crashed-seat start kept l = ap (λ g. opened_seat g start)
@@ -100,7 +100,7 @@ module _ (script : List ℕ → Tree) (turns : Turns) (F : NodeFacts) (laws : No
       with-seat l g ∙ ap (λ z. seat_of (with_given l z)) (sym is)
     where
       with-seat : (l : Life) (g : Given) → with_turn (seat_of l) g ≡ seat_of (with_given l (forward g))
-      with-seat l g = ap (λ f. let x : Seat = record { gated = reverse l.gated; fresh = f; outs = l.outs ++ g.outs; mind = g.mind } in x)
+      with-seat l g = ap (λ f. let x : SoftNode = record { gated = reverse l.gated; fresh = f; outs = l.outs ++ g.outs; mind = g.mind } in x)
           (ap (λ z. z ++ reverse l.fresh) (sym (reverse-reverse g.effects)) ∙ sym (reverse-append l.fresh (reverse g.effects)))
 
 -- ---- messages

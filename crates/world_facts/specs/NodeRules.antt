@@ -63,8 +63,8 @@ module _ (script : List ℕ → Tree) where
   kind_post ever Broker i log out = broker_posts.PostHolds script i (tries (book log)) out.to out.message
 
   abbrev pub kind_cause : Around → NodeKind → ℕ → List Effect → Effect → Type 0
-  kind_cause w Repository i log f = repositories.HasCause w.ever (λ k. w.logs (repository k)) w.ticks i f
-  kind_cause w Broker i log f = broker_posts.HasCause i w.ever (book log) f
+  kind_cause w Repository i log f = repositories.RestsOn w.ever (λ k. w.logs (repository k)) w.ticks i f
+  kind_cause w Broker i log f = broker_posts.RestsOn i w.ever (book log) f
 
   abbrev pub kind_mind : List Post → NodeKind → ℕ → Mind → Type 0
   kind_mind ever Repository i mind = Every (repositories.HeldHolds ever i) mind.hands.held

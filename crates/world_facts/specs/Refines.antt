@@ -12,10 +12,10 @@ use Rattle.world_core.specs.Walks.{Base, Life, World, opened_log, sent_by, walk}
 use Rattle.world_core.specs.Legal.{base_of}
 use Rattle.world_core.specs.Pasts.{Call}
 use Rattle.world_facts.specs.Rules.{NodeFacts, Turns}
-use Rattle.world_facts.specs.Soft.{Seat, whole, Soft, Event, happened, Mays, SentOk}
+use Rattle.world_facts.specs.Soft.{NodeOk, SoftNode, whole, Soft, Event, happened, Mays, SentOk}
 
 -- a life, newest first
-abbrev pub seat_of : Life → Seat
+abbrev pub seat_of : Life → SoftNode
 seat_of l = record { gated = reverse l.gated; fresh = reverse l.fresh; outs = l.outs; mind = l.mind }
 
 -- ---- what earlier runs sent and ticked; the last run first
@@ -76,3 +76,11 @@ pub record Facts (F : NodeFacts) (b : Base) (logs : NodeId → List Effect) (pas
   pub proofs : (n : NodeId) → Each (F.Proof (record { ever = past ++ sent; logs = λ k. reverse (logs k); ticks = ticks }) n) (reverse (logs n))
   pub sent_ok : Every (SentOk F (past ++ sent) (λ k. reverse (logs k))) (past ++ sent)
   pub ready : (n : NodeId) → is_some (opened_log b.opened n) ≡ true → F.Ready b.run b.acts n (reverse (logs n))
+
+-- What holds of the whole lives of the nodes of a trace, with what no gate has closed yet: the effects that fit, what each rests on,
+-- the messages that are open, what is remembered; and no log shows a later run or another plan.
+pub record LivesOk (F : NodeFacts) (b : Base) (logs : NodeId → List Effect) (past : List Post) (May : ℕ → Type 0) (w : World) : Type 0 where
+  pub ticks : List ℕ
+  pub ticked : (t : ℕ) → Has t ticks → May t
+  pub nodes : (n : NodeId) → (w.flags n).known ≡ true → NodeOk F (record { ever = past ++ sent_by w; logs = λ k. reverse (logs k); ticks = ticks }) n (seat_of (w.life n))
+  pub ready : (n : NodeId) → (w.flags n).known ≡ true → F.Ready b.run b.acts n (whole (seat_of (w.life n)))

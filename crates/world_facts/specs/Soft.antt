@@ -9,40 +9,40 @@ use Rattle.effect_form.specs.declared.effects.Effect.{Effect}
 use Rattle.turn_form.specs.declared.turns.Out.{Out}
 use Rattle.turn_form.specs.Growth.{Grew, Each}
 use Rattle.turn_form.specs.Posts.{Post, posts}
-use Rattle.message_core.specs.Nodes.{same_node}
+use Rattle.pseudo_time.specs.Nodes.{same_node}
 use Rattle.world_core.specs.Nodes.{Mind, opened_mind, Input, Given}
 use Rattle.world_facts.specs.Rules.{Around, NodeFacts, Turns, MayInput}
 
-pub record Seat : Type 0 where
+pub record SoftNode : Type 0 where
   pub gated : List Effect
   pub fresh : List Effect
   pub outs : List Out
   pub mind : Mind
 
-abbrev pub whole : Seat → List Effect
+abbrev pub whole : SoftNode → List Effect
 whole x = x.fresh ++ x.gated
 
-abbrev pub opened_seat : List Effect → ℕ → Seat
+abbrev pub opened_seat : List Effect → ℕ → SoftNode
 opened_seat log start = record { gated = log; fresh = []; outs = []; mind = opened_mind start }
 
-abbrev pub with_turn : Seat → Given → Seat
+abbrev pub with_turn : SoftNode → Given → SoftNode
 with_turn x g = record { gated = x.gated; fresh = g.effects ++ x.fresh; outs = x.outs ++ g.outs; mind = g.mind }
 
-abbrev pub gate : Seat → Seat
+abbrev pub gate : SoftNode → SoftNode
 gate x = record { gated = whole x; fresh = []; outs = []; mind = x.mind }
 
 -- the first `kept` new effects, which stand last
 abbrev pub keep : ℕ → List Effect → List Effect
 keep kept fresh = drop (length fresh - kept) fresh
 
-abbrev pub kept_log : ℕ → Seat → List Effect
+abbrev pub kept_log : ℕ → SoftNode → List Effect
 kept_log kept x = keep kept x.fresh ++ x.gated
 
-abbrev pub crash : ℕ → ℕ → Seat → Seat
+abbrev pub crash : ℕ → ℕ → SoftNode → SoftNode
 crash kept start x = opened_seat (kept_log kept x) start
 
 pub record Soft : Type 0 where
-  pub seat : NodeId → Seat
+  pub seat : NodeId → SoftNode
   pub ever : List Post
   pub ticks : List ℕ
 
@@ -62,7 +62,7 @@ pub data Event : Type 0 where
   Tick : ℕ → Event
 
 module _ (turns : Turns) where
-  abbrev pub react : ℕ → List ActSpec → NodeId → Seat → Input → Seat
+  abbrev pub react : ℕ → List ActSpec → NodeId → SoftNode → Input → SoftNode
   react run acts n x input = with_turn x (turns run acts n (whole x) x.mind input)
 
   abbrev pub happens : Soft → Event → Soft
@@ -99,7 +99,7 @@ module _ (F : NodeFacts) where
 
   -- ---- what always holds
 
-  pub record NodeOk (w : Around) (n : NodeId) (x : Seat) : Type 0 where
+  pub record NodeOk (w : Around) (n : NodeId) (x : SoftNode) : Type 0 where
     pub tidy : F.Tidy n x.gated
     pub grew : Grew (F.Fits n) x.gated x.fresh
     pub proofs : Each (F.Proof w n) (x.fresh ++ x.gated)

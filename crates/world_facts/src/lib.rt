@@ -4,4 +4,4 @@
 
 mod laws;
 
-pub use laws::{facts_of_any_trace, facts_of_legal_traces};
+pub use laws::{facts_of_any_trace, facts_of_legal_traces, facts_of_whole_lives};

@@ -3,5 +3,4 @@ use Rattle.repository_core.proofs.OpenLemmas.{opened-agrees}
 use Rattle.repository_core.proofs.openings.open_books.Goals as goal
 
 pub returns-clause-agreed : goal.returns-clause-agreed
-returns-clause-agreed c =
-    opened-agrees (reverse c.args.effects.now) c.decide_records.new.records c.decide_records.new.early.entries c.in_ok-decide_records.ensures.records c.in_ok-decide_records.ensures.early
+returns-clause-agreed c = opened-agrees (reverse c.args.effects.now) _ _ c.in_ok-records.ensures.records c.in_ok-records.ensures.early

@@ -3,11 +3,12 @@ use Rattle.std.proofs.lemmas.List.{append-nil}
 use Rattle.std.specs.Prelude.{count_by}
 use Rattle.page_gate.specs.States.{is_blank}
 use Rattle.version_store.specs.Filling.{filling}
+use Rattle.version_store.proofs.FillingLemmas.{filling-one}
 use Rattle.version_store.specs.Storage.{storage, effects_found}
 use Rattle.version_store.specs.StoreWords.{medium_of, handed, left_in}
 use Rattle.stored_run.proofs.ResultLemmas.{at-err, by-err}
 use Rattle.stored_run.specs.Media.{HasFront, held}
-use Rattle.stored_run.proofs.MediaLemmas.{front-prefix, filling-one}
+use Rattle.stored_run.proofs.MediaLemmas.{front-prefix}
 use Rattle.stored_run.proofs.appends.added.Goals as goal
 
 pub returns-clause-stops : goal.returns-clause-stops

@@ -7,8 +7,8 @@ pub returns-in-Err-Stopped-clause-course : goal.returns-in-Err-Stopped-clause-co
 returns-in-Err-Stopped-clause-course g c =
     let stopped = c.in-Err-Stopped in
     let tried = c.without_tries-in-Err-Stopped in
-    stopped-course g.M.Medium.tells g.M.Medium.reads g.M.Medium.may_leave g.M.Medium.is_failed g.M.Medium.page_count g.M.Medium.faults c.args.medium stopped.medium c.args.acts.now stopped.fault stopped.objects c.cause_of.result tried.result
-    (subst (IsUnready g.M.Medium.tells g.M.Medium.reads g.M.Medium.may_leave g.M.Medium.page_count g.M.Medium.faults c.args.medium) stopped.field-0-is stopped.ensures.unready) c.cause_of.ensures tried.ensures.medium tried.ensures.down tried.ensures.reports tried.ensures.objects
+    stopped-course g.M.Medium.tells g.M.Medium.reads g.M.Medium.may_leave g.M.Medium.is_failed g.M.Medium.page_count g.M.Medium.faults c.args.medium stopped.medium c.args.acts.now stopped.fault stopped.objects c.down_cause-in-Err-Stopped.result tried.result
+    (subst (IsUnready g.M.Medium.tells g.M.Medium.reads g.M.Medium.may_leave g.M.Medium.page_count g.M.Medium.faults c.args.medium) stopped.field-0-is stopped.ensures.unready) c.down_cause-in-Err-Stopped.ensures tried.ensures.medium tried.ensures.down tried.ensures.reports tried.ensures.objects
 
 pub returns-in-Err-Stopped-clause-kept : goal.returns-in-Err-Stopped-clause-kept
 returns-in-Err-Stopped-clause-kept g c =

@@ -1,7 +1,7 @@
 use Rattle.std.proofs.Common.{◌≡◌, map, ap, ◌∙◌, subst, Some}
 use Rattle.std.specs.Prelude.{IfOk}
 use Rattle.std.specs.FinMap as finite
-use Rattle.report_writer.specs.declared.records.DownCause.TheVariants as down
+use Rattle.pseudo_time.specs.declared.down_causes.DownCause.TheVariants as down
 use Rattle.report_writer.specs.Reports.{report_text}
 use Rattle.stored_run.specs.Runs.{untried}
 use Rattle.swallow_top.specs.Runs.{report_with}

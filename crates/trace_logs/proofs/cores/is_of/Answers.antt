@@ -1,5 +1,5 @@
 use Rattle.std.proofs.Common.{sym, ◌∙◌}
-use Rattle.broker_core.proofs.EqualLemmas.{same_stamp-parts}
+use Rattle.pseudo_time.proofs.EqualLemmas.{same_stamp-parts}
 use Rattle.trace_logs.proofs.MarkLemmas.{knows-other, knows-settle}
 use Rattle.trace_logs.proofs.cores.is_of.Goals as goal
 

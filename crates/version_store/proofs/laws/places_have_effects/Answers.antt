@@ -1,5 +1,3 @@
-use Rattle.std.proofs.Common.{◌≡◌, sym, ◌∙◌}
-use Rattle.version_store.specs.Entries.{put_object}
 use Rattle.version_store.specs.Storage.{log_of}
 use Rattle.version_store.proofs.PlaceLemmas.{log_sound}
 use Rattle.version_store.proofs.StandLemmas.{last_put-stands, back-stands}
@@ -9,4 +7,4 @@ pub returns-clause-last : goal.returns-clause-last
 returns-clause-last c = last_put-stands
 
 pub returns-clause-back : goal.returns-clause-back
-returns-clause-back c n image e i place shape there is = back-stands (log_of image) i (put_object e.effect) place (sym ((log_sound image n shape).each e i there).back ∙ is)
+returns-clause-back c n image e i shape there = back-stands (log_of image) i e.effect e.back ((log_sound image n shape).each e i there).back

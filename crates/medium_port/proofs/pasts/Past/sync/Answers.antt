@@ -1,56 +1,61 @@
-use Rattle.std.proofs.Common.{List, length, sym, ◌∙◌, ap, arith, rules, ◌≤◌}
+use Rattle.std.proofs.Common.{List, sym, ◌∙◌, ap}
 use Rattle.std.proofs.lemmas.Bool.Decides.{when_true}
-use Rattle.std.proofs.lemmas.List.{drop_all}
 use Rattle.medium_port.specs.declared.events.Event.{Event}
 use Rattle.medium_port.specs.declared.events.Event.TheVariants.{Synced}
-use Rattle.medium_port.specs.Disk.{Disk, replay, disk_of, spans_of}
-use Rattle.medium_port.proofs.Disks.{sync_only, sync_crash, sound_sync, now_push, left_push, sound_push, later_push, each_push, before_push}
+use Rattle.medium_port.specs.Disk.{Disk, replay, spans_of}
+use Rattle.medium_port.specs.Pasts.{first_disk, events_in}
+use Rattle.medium_port.proofs.Disks.{sync_only, sync_crash, sound_sync, now_push, left_push, sound_push, later_push, each_push, before_push, kept_push}
 use Rattle.medium_port.proofs.pasts.Past.sync.Goals as goal
 
 pub returns-clause-durable : goal.returns-clause-durable
 returns-clause-durable c done i left =
     let m = c.args.self.now in
-    let first = disk_of m.first.items in
+    let first = first_disk m in
+    let es = events_in m in
     let kept = when_true _ _ c.if-not-keep.false c.keep.ensures in
-    sync_only m.count (replay first m.events.items) i m.sound (left_push m.count first m.events.items _ Synced kept i left) ∙ sym m.replayed
+    sync_only m.count (replay first es) i m.sound (left_push m.count first es _ Synced kept i left) ∙ sym m.replayed
 
 pub returns-clause-crash : goal.returns-clause-crash
 returns-clause-crash c i left =
     let m = c.args.self.now in
-    let first = disk_of m.first.items in
+    let first = first_disk m in
+    let es = events_in m in
     let kept = when_true _ _ c.if-not-keep.false c.keep.ensures in
-    sync_crash m.count (replay first m.events.items) i m.sound (left_push m.count first m.events.items _ Synced kept i left)
+    sync_crash m.count (replay first es) i m.sound (left_push m.count first es _ Synced kept i left)
 
 pub returns-clause-time : goal.returns-clause-time
 returns-clause-time c =
     let m = c.args.self.now in
-    let first = disk_of m.first.items in
+    let first = first_disk m in
+    let es = events_in m in
     let kept = when_true _ _ c.if-not-keep.false c.keep.ensures in
     record {
-      later = later_push m.count first m.events.items _ Synced kept;
-      each = each_push m.count first m.events.items _ Synced kept;
-      before = before_push m.count first m.events.items _ Synced kept;
+      later = later_push m.count first es _ (Synced) kept;
+      each = each_push m.count first es _ (Synced) kept;
+      before = before_push m.count first es _ (Synced) kept;
+      kept = kept_push m.count first es _ (Synced) kept;
     }
 
 pub invariant_of-self-2-clause-replayed : goal.invariant_of-self-2-clause-replayed
 invariant_of-self-2-clause-replayed c =
     let m = c.args.self.now in
-    let first = disk_of m.first.items in
+    let first = first_disk m in
+    let es = events_in m in
     let kept = when_true _ _ c.if-not-keep.false c.keep.ensures in
-    m.replayed ∙ sym (ap (λ (d : Disk). d.reads) (now_push m.count first m.events.items _ Synced kept))
+    m.replayed ∙ sym (ap (λ (d : Disk). d.reads) (now_push m.count first es _ Synced kept))
 
 pub invariant_of-self-2-clause-sound : goal.invariant_of-self-2-clause-sound
 invariant_of-self-2-clause-sound c =
     let m = c.args.self.now in
-    let first = disk_of m.first.items in
+    let first = first_disk m in
+    let es = events_in m in
     let kept = when_true _ _ c.if-not-keep.false c.keep.ensures in
-    sound_push m.count first m.events.items _ Synced kept (sound_sync m.count (replay first m.events.items) m.sound)
+    sound_push m.count first es _ Synced kept (sound_sync m.count (replay first es) m.sound)
 
-pub invariant_of-self-2-clause-unsynced : goal.invariant_of-self-2-clause-unsynced
-invariant_of-self-2-clause-unsynced c =
+pub invariant_of-self-2-clause-tied : goal.invariant_of-self-2-clause-tied
+invariant_of-self-2-clause-tied c =
     let m = c.args.self.now in
-    let first = disk_of m.first.items in
+    let first = first_disk m in
+    let es = events_in m in
     let kept = when_true _ _ c.if-not-keep.false c.keep.ensures in
-    let events = c.keep.new.events.items in
-    let whole : length events ≤ c.len-self.result = search (arith, rules) in
-    ap (λ (l : List Event). spans_of l) (drop_all c.len-self.result events whole) ∙ sym (ap (λ (d : Disk). d.unsynced) (now_push m.count first m.events.items events Synced kept))
+    ap (λ (l : List Event). spans_of l) c.clear.ensures.items ∙ sym (ap (λ (d : Disk). d.unsynced) (now_push m.count first es _ Synced kept))

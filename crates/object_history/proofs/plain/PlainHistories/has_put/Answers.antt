@@ -4,7 +4,7 @@ use Rattle.object_history.specs.Objects.{same_value}
 use Rattle.object_history.specs.Kept.{some_version, value_under}
 use Rattle.object_history.proofs.LookLemmas.{is_written, some-step, some-found, some-done, put-some, put-none}
 use Rattle.object_history.proofs.plain.PlainHistories.has_put.Goals as goal
-use Rattle.object_history.proofs.plain.PlainHistories.has_put.Goals.{else-is_same_time-via-then-is_same_time+else-has_value, else-is_same_time-via-else-is_same_time}
+use Rattle.object_history.proofs.plain.PlainHistories.has_put.Goals.{else-is_same-via-then-is_same+else-has_value, else-is_same-via-else-is_same}
 
 pub returns-in_default : goal.returns-in_default
 returns-in_default c =
@@ -18,7 +18,7 @@ returns-then-has_value c =
     let v = c.in-Some-version.version.now in
     let same : c.into_iter-version-iterator.result.iter.rest.now ≡ c.versions.result.now = search rules in
     some-found ok v c.loop-version.version-iterator.iter.rest.now c.next.new.self.iter.rest.now _ c.in-Some-version.ensures.steps
-    (ap (λ b. b && same_value (value_under c.args.self.now v.mark) c.args.value.now) (sym c.if-is_same_time.ensures) ∙ sym c.if-has_value.ensures) c.loop-version.invariant
+    (ap (λ b. b && same_value (value_under c.args.self.now v.mark) c.args.value.now) (sym c.if-is_same.ensures) ∙ sym c.if-has_value.ensures) c.loop-version.invariant
     ∙ ap (λ vs. some_version ok (reverse vs)) same ∙ ap (some_version ok) c.versions.ensures
     ∙ put-some i.marks.items c.args.self.now i.settles i.tracks c.args.object c.args.start c.args.value.now c.in-Some.track.now c.self.invariant c.self.view_is (sym (ap option_copied c.in-Some.is) ∙ c.get.ensures)
 
@@ -26,11 +26,11 @@ pub loop-version-preserved : goal.loop-version-preserved
 loop-version-preserved c =
     let ok = is_written c.args.self.now c.args.start c.args.value.now in
     let v = c.in-Some-version.version.now in
-    elim c.else-is_same_time.branch [
-      | else-is_same_time-via-then-is_same_time+else-has_value w ↦ some-step ok v c.loop-version.version-iterator.iter.rest.now c.next.new.self.iter.rest.now _ c.in-Some-version.ensures.steps
-          (ap (λ b. b && same_value (value_under c.args.self.now v.mark) c.args.value.now) (sym w.if-is_same_time.ensures) ∙ sym w.if-has_value.ensures) c.loop-version.invariant
-      | else-is_same_time-via-else-is_same_time w ↦ some-step ok v c.loop-version.version-iterator.iter.rest.now c.next.new.self.iter.rest.now _ c.in-Some-version.ensures.steps
-          (ap (λ b. b && same_value (value_under c.args.self.now v.mark) c.args.value.now) (sym w.if-is_same_time.ensures)) c.loop-version.invariant
+    elim c.else-is_same.branch [
+      | else-is_same-via-then-is_same+else-has_value w ↦ some-step ok v c.loop-version.version-iterator.iter.rest.now c.next.new.self.iter.rest.now _ c.in-Some-version.ensures.steps
+          (ap (λ b. b && same_value (value_under c.args.self.now v.mark) c.args.value.now) (sym w.if-is_same.ensures) ∙ sym w.if-has_value.ensures) c.loop-version.invariant
+      | else-is_same-via-else-is_same w ↦ some-step ok v c.loop-version.version-iterator.iter.rest.now c.next.new.self.iter.rest.now _ c.in-Some-version.ensures.steps
+          (ap (λ b. b && same_value (value_under c.args.self.now v.mark) c.args.value.now) (sym w.if-is_same.ensures)) c.loop-version.invariant
     ]
 
 pub returns : goal.returns

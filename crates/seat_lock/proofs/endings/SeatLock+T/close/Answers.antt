@@ -1,6 +1,7 @@
 use Rattle.std.proofs.Common.{arith, ◌≡◌, [], ◌∷◌, ◌++◌, All, get_or, ap, sym, ◌∙◌, subst, append-nil}
 use mathlib.Core.Option.{some-injective}
 use Rattle.seat_lock.specs.Story.{Begins, HasOwn}
+use Rattle.seat_lock.specs.Rule.{IsOneOf}
 use Rattle.seat_lock.specs.Passes.{Belongs}
 use Rattle.seat_lock.specs.Words.{CarriesOn, knows}
 use Rattle.seat_lock.proofs.SplitJoin.{closes}
@@ -26,5 +27,6 @@ returns g c =
     let known = subst (λ ps. All (λ p. Begins p.me.0.story l × HasOwn owner p.me.0.parts l) ps) (sym c.in-Some.ensures.items) before in
     let list : l ≡ g.T.Storied.story c.take-value.result = sym t.3.1 ∙ ap g.T.Storied.story is in record {
       stands = subst (λ x. g.T.Storied.stands c.args.self.table.shared.key.state.value x) is t.3.0;
+      owned = subst (λ z. All (λ e. IsOneOf c.args.self.table.shared.key.owners.items (owner e)) z) list t.7;
       carries = subst (λ z. All (λ p. CarriesOn owner (knows p) z) c.args.passes.items) list (λ k d lt. let p = get_or c.args.passes.items k d in let h = known k d lt in carries_on owner p.me.0 l (c.requires.passes k d lt).owned h.0 h.1);
     }

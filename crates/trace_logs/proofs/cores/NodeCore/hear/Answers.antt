@@ -9,7 +9,7 @@ use Rattle.trace_logs.proofs.cores.NodeCore.hear.Goals as goal
 pub returns-in-Repository-clause-gives : goal.returns-in-Repository-clause-gives
 returns-in-Repository-clause-gives c b n log mind s =
     repository-answers b n log mind c.in-Repository.core c.hear.new.self c.hear.result c.wanted.result (turns.Hearing c.args.moment) (Hearing c.args.moment) refl (subst (StandsFor b n log mind) c.in-Repository.is s)
-    (c.hear.ensures.gives refl) c.hear.ensures.log c.hear.ensures.number c.wanted.ensures.ok
+    (c.hear.ensures.gives refl) c.hear.ensures.called.log c.hear.ensures.called.number c.wanted.ensures.ok
 
 pub returns-in-Broker-clause-gives : goal.returns-in-Broker-clause-gives
 returns-in-Broker-clause-gives c b n log mind s =

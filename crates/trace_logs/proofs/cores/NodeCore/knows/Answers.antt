@@ -1,8 +1,9 @@
 use Rattle.std.proofs.Common.{subst, ap, reverse, ◌∙◌}
 use Rattle.std.specs.Prelude.{is_some}
-use Rattle.repository_core.specs.Logs.{known}
+use Rattle.repository_log.specs.Logs.{known}
 use Rattle.trace_logs.specs.Cores.{StandsFor}
-use Rattle.trace_logs.proofs.MarkLemmas.{knows-known, knows-reverse}
+use Rattle.repository_log.proofs.MarkLemmas.{knows-known}
+use Rattle.trace_logs.proofs.MarkLemmas.{knows-reverse}
 use Rattle.trace_logs.proofs.cores.NodeCore.knows.Goals as goal
 
 pub returns-in-Repository : goal.returns-in-Repository

@@ -8,7 +8,7 @@ use Rattle.trace_logs.proofs.cores.NodeCore.learn.Goals as goal
 pub returns-in-Repository-clause-gives : goal.returns-in-Repository-clause-gives
 returns-in-Repository-clause-gives c b n log mind s =
     repository-answers b n log mind c.in-Repository.core c.learn.new.self c.learn.result c.wanted.result (turns.Learning c.args.stamp c.args.committed) (Learning c.args.stamp c.args.committed) refl (subst (StandsFor b n log mind) c.in-Repository.is s)
-    (c.learn.ensures.gives refl) c.learn.ensures.log c.learn.ensures.number c.wanted.ensures.ok
+    (c.learn.ensures.gives refl) c.learn.ensures.called.log c.learn.ensures.called.number c.wanted.ensures.ok
 
 pub returns-in-Broker-clause-gives : goal.returns-in-Broker-clause-gives
 returns-in-Broker-clause-gives c b n log mind s =

@@ -9,7 +9,7 @@ use Rattle.trace_logs.proofs.cores.NodeCore.take.Goals as goal
 pub returns-in-Repository-clause-gives : goal.returns-in-Repository-clause-gives
 returns-in-Repository-clause-gives c b n log mind s =
     repository-answers b n log mind c.in-Repository.core c.take.new.self c.take.result c.wanted.result (turns.Taking c.args.from c.args.message.now) (Taking c.args.from c.args.message.now) refl (subst (StandsFor b n log mind) c.in-Repository.is s)
-    (c.take.ensures.gives refl) c.take.ensures.log c.take.ensures.number c.wanted.ensures.ok
+    (c.take.ensures.gives refl) c.take.ensures.called.log c.take.ensures.called.number c.wanted.ensures.ok
 
 pub returns-in-Broker-clause-gives : goal.returns-in-Broker-clause-gives
 returns-in-Broker-clause-gives c b n log mind s =

@@ -1,7 +1,7 @@
 use Rattle.std.proofs.Common.{refl, ap, subst, ◌≡◌, ◌<◌, ◌∙◌, length, true}
 use Rattle.std.specs.Vec.{with_item}
 use Rattle.std.proofs.Math.ListN.{get_or}
-use Rattle.message_core.specs.Nodes.{same_node}
+use Rattle.pseudo_time.specs.Nodes.{same_node}
 use Rattle.world_core.specs.declared.entries.Entry.TheVariants as entry
 use Rattle.world_core.specs.Walks.{sent_by, numbered}
 use Rattle.trace_logs.specs.declared.seats.Seat.{Seat}

@@ -1,14 +1,15 @@
 use Rattle.std.proofs.Common.{refl, sym, ap, subst, ◌∙◌, ◌++◌, take}
 use Rattle.broker_core.specs.Tasks.{Scripted}
 use Rattle.world_core.specs.Nodes.{opened_mind}
-use Rattle.trace_logs.specs.Cores.{StandsFor, IsLogOf}
+use Rattle.turn_form.specs.Ranges.{AreEffects}
+use Rattle.trace_logs.specs.Cores.{StandsFor}
 use Rattle.trace_logs.proofs.SeatLemmas.{crashed-lives, crashed-sound, log-kept}
 use Rattle.trace_logs.proofs.seats.Seat.crash.Goals as goal
 
 pub open_core-requires-clause-log : goal.open_core-requires-clause-log
 open_core-requires-clause-log c =
-    subst (IsLogOf c.args.self.now.node.kind) (sym (c.as_slice-2.ensures.value ∙ (c.in_ok-append.ensures.items ∙ ap (λ z. c.args.self.now.gated.items ++ z) (c.truncate.ensures.items ∙ ap (λ v. take c.args.kept v.items) c.replace-found.ensures.value))))
-    (log-kept c.args.self.now.node.kind c.args.kept c.args.self.now.gated.items c.args.self.now.fresh.items c.requires.sound.log)
+    subst AreEffects (sym (c.as_slice-2.ensures.value ∙ (c.in_ok-append.ensures.items ∙ ap (λ z. c.args.self.now.gated.items ++ z) (c.truncate.ensures.items ∙ ap (λ v. take c.args.kept v.items) c.replace-found.ensures.value))))
+    (log-kept c.args.kept c.args.self.now.gated.items c.args.self.now.fresh.items c.requires.sound.log)
 
 pub returns-clause-lives : goal.returns-clause-lives
 returns-clause-lives c b l run start h =
@@ -21,4 +22,4 @@ returns-clause-lives c b l run start h =
 pub returns-clause-sound : goal.returns-clause-sound
 returns-clause-sound c =
     crashed-sound c.args.self.now (record c.args.self.now { gated = c.append.new.self; fresh = c.replace-found.new.dest; outs = c.clear.new.self; core = c.in_ok-self.field-0 }) c.args.kept c.requires.sound refl refl c.in_ok-self.ensures.kind c.in_ok-self.ensures.whole
-    (c.in_ok-append.ensures.items ∙ ap (λ z. c.args.self.now.gated.items ++ z) (c.truncate.ensures.items ∙ ap (λ v. take c.args.kept v.items) c.replace-found.ensures.value)) (ap (λ v. v.items) c.replace-found.ensures.after ∙ c.new.ensures.items)
+    (c.in_ok-append.ensures.items ∙ ap (λ z. c.args.self.now.gated.items ++ z) (c.truncate.ensures.items ∙ ap (λ v. take c.args.kept v.items) c.replace-found.ensures.value)) (ap (λ v. v.items) c.replace-found.ensures.after ∙ c.new.ensures.items) c.clear.ensures.items

@@ -4,7 +4,10 @@ use Rattle.std.specs.BTreeMap.{get}
 use Rattle.value_form.specs.declared.objects.ObjectId.{ObjectId}
 use Rattle.value_form.specs.Objects.{object_cmp}
 use Rattle.effect_form.specs.declared.effects.Place.{Place}
+use Rattle.version_store.specs.Entries.{Log, last_put}
+use Rattle.version_store.specs.Fetch.{IsLastPut}
 use Rattle.version_store.specs.Heads.{Heads, AreBelow}
+use Rattle.version_store.proofs.StandLemmas.{last_put-stands}
 use Rattle.version_store.proofs.stores.Store.last.Goals as goal
 
 found_below : (limit pages : ℕ) (heads : Heads) (object : ObjectId) (found : Option Place) → limit ≡ pages → found ≡ get object_cmp heads object → AreBelow limit heads → IfSome found (λ (p : Place). p.page < pages)
@@ -13,3 +16,10 @@ found_below limit pages heads object (Some place) same is below = subst (λ (n :
 
 pub returns-clause-within : goal.returns-clause-within
 returns-clause-within g c = found_below c.args.self.now.pages _ c.args.self.now.heads c.args.object c.copied.result c.args.self.now.count (c.copied.ensures ∙ c.get.ensures.value) c.args.self.now.below
+
+put_found : (log : Log) (object : ObjectId) (found : Option Place) → found ≡ last_put log object → IfSome found (λ (p : Place). IsLastPut log object p)
+put_found log object None is = tt
+put_found log object (Some place) is = last_put-stands log object place (sym is)
+
+pub returns-clause-put : goal.returns-clause-put
+returns-clause-put g c told = put_found _ c.args.object c.copied.result (c.copied.ensures ∙ c.get.ensures.value ∙ c.args.self.now.heads_fit told c.args.object)

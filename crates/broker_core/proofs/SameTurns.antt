@@ -1,0 +1,232 @@
+-- Two readings of the scripts of a broker's acts give the same turns.
+use Rattle.std.proofs.Common.{◌≡◌, ℕ, zero, suc, ◌+◌, ◌==◌, Bool, true, false, ◌&&◌, length, List, [], ◌∷◌, refl, sym, ◌∙◌, ap, subst, Option, Some, None, if◌then◌else◌}
+use Rattle.std.proofs.lemmas.Bool.{eqb-true}
+use Rattle.std.specs.List.{slice_get}
+use Rattle.pseudo_time.specs.Lists.{Every}
+use Rattle.pseudo_time.specs.Order.{same_stamp}
+use Rattle.effect_form.specs.declared.effects.Effect.{Effect}
+use Rattle.effect_form.specs.declared.effects.Effect.TheVariants as effect
+use Rattle.effect_form.specs.declared.outcomes.Outcome.{Outcome}
+use Rattle.value_form.specs.declared.endings.Ending.TheVariants as ending
+use Rattle.script_meaning.specs.Meaning.{Stop, Asks, Over}
+use Rattle.serial_model.specs.Questions.{Tree, stop}
+use Rattle.broker_core.specs.declared.heards.Heard.{Heard}
+use Rattle.broker_core.specs.declared.replies.Reply.{Reply}
+use Rattle.broker_core.specs.declared.replies.Reply.TheVariants.{Ignored, Hears, Adds}
+use Rattle.broker_core.specs.declared.resume_faults.ResumeFault.{ResumeFault}
+use Rattle.broker_core.specs.declared.resume_faults.ResumeFault.TheVariants as fault
+use Rattle.std.specs.Prelude.{nat_lt, ◌||◌}
+use Rattle.broker_core.specs.Tests.{is_time, is_stamp}
+use Rattle.broker_core.specs.Tasks.{Task}
+use Rattle.broker_core.specs.Book.{Try, Act, Book, book, open_try, open_of, open_front, if_open, last_try, time_of}
+use Rattle.broker_core.specs.Fits.{stop_of, reads_now, writes_now, fits_got, fits_acked, counts, add_if, keep, unfit_act, other_plan, first_some, resume_fault, plan_fault, is_none}
+use Rattle.broker_core.specs.Stages.{Stage, Idle, Refused, Opening, Asking, Finishing, Stopping, Closing, stage, stage_of, by_last, by_stop, is_finished, standing, is_asking, no_answer, is_closed}
+use Rattle.broker_core.specs.Owed.{owed, by_stage}
+use Rattle.broker_core.specs.Rows.{News, Begun, Answered, Refusal, Over_there, Decided, Nothing_new, row, when, decided_early, news}
+use Rattle.broker_core.specs.Turns.{Desk, whole, note, hears, send, note_if, fuel, state, settle_up, say, reply, desk_turn, Input, Go, Hear, Take}
+use Rattle.broker_core.specs.Sound.{Started, OfAct, Sound}
+use Rattle.broker_core.proofs.SoundLemmas.{sound-kept}
+
+if-same : {A : Type 0} (c : Bool) (x y z : A) → (c ≡ true → x ≡ y) → (if c then x else z) ≡ (if c then y else z)
+if-same true x y z h = h refl
+if-same false x y z h = refl
+
+open-is : (u : Try) (o : Option Outcome) (t : Try) → if_open u o ≡ Some t → u ≡ t
+open-is u None t h = cc
+open-is u (Some o) t h = cc
+
+module _ (s s' : List ℕ → Tree) (me run : ℕ) (plan : List Task) (agree : (i : ℕ) (t : Task) → slice_get plan i ≡ Some t → s t.script ≡ s' t.script) where
+  -- ---- where scripts stop
+
+  front-same : (task : Task) (r : ℕ) (ts : List Try) → Every (λ (t : Try). (t.task ≡ task) × (t.run ≡ r)) ts → s task.script ≡ s' task.script → (t : Try) → open_front ts ≡ Some t → stop_of s t ≡ stop_of s' t
+  front-same task r [] h e t k = cc
+  front-same task r (u ∷ ts) h e t k =
+      let i : u ≡ t = open-is u u.end t k in
+      let j : s t.task.script ≡ s' t.task.script = subst (λ (v : Try). s v.task.script ≡ s' v.task.script) i (subst (λ (x : Task). s x.script ≡ s' x.script) (sym h.0.0) e) in
+      ap (λ k. stop k t.answers) j
+
+  acts-same : (acts : List Act) → Started plan acts → Every OfAct acts → (t : Try) → open_of acts ≡ Some t → stop_of s t ≡ stop_of s' t
+  acts-same [] h k t e = cc
+  acts-same (a ∷ done) h k t e = front-same a.task a.run a.tries k.0 (agree (length done) a.task h.1) t e
+
+  open-same : (b : Book) → Sound run plan b → b.run ≡ run → (t : Try) → open_try b ≡ Some t → stop_of s t ≡ stop_of s' t
+  open-same b h r t e = acts-same b.acts (h.started r) (h.of_acts r) t e
+
+  -- ---- what counts
+
+  got-same : (k : ℕ) (o : Option Try) → ((t : Try) → o ≡ Some t → stop_of s t ≡ stop_of s' t) → fits_got s k o ≡ fits_got s' k o
+  got-same k None h = refl
+  got-same k (Some t) h = ap (λ st. (k == length t.answers + 1) && reads_now st) (h t refl)
+
+  acked-same : (k : ℕ) (o : Option Try) → ((t : Try) → o ≡ Some t → stop_of s t ≡ stop_of s' t) → fits_acked s k o ≡ fits_acked s' k o
+  acked-same k None h = refl
+  acked-same k (Some t) h = ap (λ st. (k == length t.answers + 1) && writes_now st) (h t refl)
+
+  counts-same : (b : Book) (f : Effect) → Sound run plan b → counts s me run plan b f ≡ counts s' me run plan b f
+  counts-same b (effect.Run n) h = refl
+  counts-same b (effect.Act i x t k c y) h = refl
+  counts-same b (effect.Try i x) h = refl
+  counts-same b (effect.Got k v) h = if-same (b.run == run) _ _ true (λ r. got-same k (open_try b) (open-same b h (eqb-true _ _ r)))
+  counts-same b (effect.Acked k) h = if-same (b.run == run) _ _ true (λ r. acked-same k (open_try b) (open-same b h (eqb-true _ _ r)))
+  counts-same b (effect.End i o) h = refl
+  counts-same b (effect.Put o x v) h = refl
+  counts-same b (effect.Stretch o x) h = refl
+  counts-same b (effect.Begin x d) h = refl
+  counts-same b (effect.Decide x d) h = refl
+  counts-same b (effect.Learn x d) h = refl
+
+  pub keep-same : (log : List Effect) → keep s me run plan log ≡ keep s' me run plan log
+  unfolding keep
+  keep-same [] = refl
+  keep-same (f ∷ log) =
+      let kept : List Effect = keep s me run plan log in
+      ap (λ c. add_if c f kept) (counts-same (book kept) f (sound-kept s me run plan log))
+      ∙ ap (λ k. add_if (counts s' me run plan (book k) f) f k) (keep-same log)
+
+  pub book-same : (log : List Effect) → book (keep s me run plan log) ≡ book (keep s' me run plan log)
+  book-same log = ap book (keep-same log)
+
+  -- ---- stages
+
+  of-open-same : (h : Heard) (o : Option Try) (last : Option Try) → ((t : Try) → o ≡ Some t → stop_of s t ≡ stop_of s' t) → stage_of s h o last ≡ stage_of s' h o last
+  of-open-same h None last k = refl
+  of-open-same h (Some t) last k =
+      ap (λ st. if is_asking st && is_time h.ended (time_of t) then Refused t
+      else (if no_answer t && (if is_stamp h.begun t.stamp then false else true) then Opening t else by_stop t st)) (k t refl)
+
+  pub stage-same : (b : Book) (h : Heard) → Sound run plan b → stage s run b h ≡ stage s' run b h
+  stage-same b h k = if-same (b.run == run) _ _ Idle (λ r. of-open-same h (open_try b) (last_try b) (open-same b k (eqb-true _ _ r)))
+
+  -- ---- what is owed and heard
+
+  owed-same : (b : Book) (h : Heard) → Sound run plan b → owed s me run plan b h ≡ owed s' me run plan b h
+  owed-same b h k = ap (λ st. if nat_lt b.run run then Some (effect.Run run) else by_stage me plan h b st) (stage-same b h k)
+
+  state-same : (d : Desk) → state s me run plan d ≡ state s' me run plan d
+  state-same d = book-same (whole d)
+
+  sound-state : (d : Desk) → Sound run plan (state s me run plan d)
+  sound-state d = sound-kept s me run plan (whole d)
+
+  next-same : (d : Desk) → owed s me run plan (state s me run plan d) d.heard ≡ owed s' me run plan (state s' me run plan d) d.heard
+  next-same d = owed-same (state s me run plan d) d.heard (sound-state d) ∙ ap (λ b. owed s' me run plan b d.heard) (state-same d)
+
+  note-same : (f g : Desk → Desk) → ((d : Desk) → f d ≡ g d) → (o : Option Effect) (d : Desk) → note_if f o d ≡ note_if g o d
+  note-same f g h None d = refl
+  note-same f g h (Some e) d = h (note e d)
+
+  settle-same : (n : ℕ) (d : Desk) → settle_up s me run plan n d ≡ settle_up s' me run plan n d
+  unfolding settle_up
+  settle-same zero d = refl
+  settle-same (suc n) d =
+      note-same (settle_up s me run plan n) (settle_up s' me run plan n) (settle-same n) (owed s me run plan (state s me run plan d) d.heard) d
+      ∙ ap (λ o. note_if (settle_up s' me run plan n) o d) (next-same d)
+
+  standing-same : (d : Desk) → stage s run (state s me run plan d) d.heard ≡ stage s' run (state s' me run plan d) d.heard
+  standing-same d = stage-same (state s me run plan d) d.heard (sound-state d) ∙ ap (λ b. stage s' run b d.heard) (state-same d)
+
+  say-same : (d : Desk) → say s me run plan d ≡ say s' me run plan d
+  say-same d = ap (λ st. send (standing st) d) (standing-same d)
+
+  both-same : (d : Desk) → say s me run plan (settle_up s me run plan (fuel plan) d) ≡ say s' me run plan (settle_up s' me run plan (fuel plan) d)
+  both-same d = say-same (settle_up s me run plan (fuel plan) d) ∙ ap (say s' me run plan) (settle-same (fuel plan) d)
+
+  reply-same : (d : Desk) (r : Reply) → reply s me run plan d r ≡ reply s' me run plan d r
+  reply-same d Ignored = refl
+  reply-same d (Hears h) = both-same (hears h d)
+  reply-same d (Adds f) = both-same (note f d)
+
+  -- ---- rows
+
+  abbrev AtOpening : Stage → Type 0
+  AtOpening st = (t : Try) → st ≡ Opening t → stop_of s t ≡ stop_of s' t
+
+  row-same : (st : Stage) (h : Heard) (n : News) → AtOpening st → row s st h n ≡ row s' st h n
+  row-same (Opening t) h (Begun x) k = refl
+  row-same (Opening t) h (Answered x a) k = refl
+  row-same (Opening t) h (Refusal x e c) k = refl
+  row-same (Opening t) h (Over_there x) k = refl
+  row-same (Opening t) h (Decided x d) k = ap (λ st. when (same_stamp t.stamp x) (decided_early (is_finished st) t d)) (k t refl)
+  row-same (Opening t) h Nothing_new k = refl
+  row-same Idle h n k = refl
+  row-same (Refused t) h n k = refl
+  row-same (Asking t q) h n k = refl
+  row-same (Finishing t) h n k = refl
+  row-same (Stopping t o) h n k = refl
+  row-same (Closing t) h n k = refl
+
+  -- an attempt that opens is the open one
+  by-stop-not : (u : Try) (st : Stop) (t : Try) → by_stop u st ≡ Opening t → u ≡ t
+  by-stop-not u (Asks q) t h = cc
+  by-stop-not u (Over ending.Finished) t h = cc
+  by-stop-not u (Over (ending.Withdrawn l)) t h = cc
+  by-stop-not u (Over (ending.Failed l k)) t h = cc
+
+  of-open-is : (u : Try) (a c : Bool) (st : Stop) (t : Try) → (if a then Refused u else (if c then Opening u else by_stop u st)) ≡ Opening t → u ≡ t
+  of-open-is u true c st t h = cc
+  of-open-is u false true st t h = cc
+  of-open-is u false false st t h = by-stop-not u st t h
+
+  if-not : (c : Bool) (u t : Try) → (if c then Idle else Closing u) ≡ Opening t → ⊥
+  if-not true u t e = absurd (cc e)
+  if-not false u t e = absurd (cc e)
+
+  last-not : (h : Heard) (last : Option Try) (t : Try) → by_last h last ≡ Opening t → ⊥
+  last-not h None t e = absurd (cc e)
+  last-not h (Some u) t e = if-not (is_none u.end || is_closed h u) u t e
+
+  opens-open : (h : Heard) (o last : Option Try) (t : Try) → stage_of s' h o last ≡ Opening t → o ≡ Some t
+  opens-open h None last t e = absurd (last-not h last t e)
+  opens-open h (Some u) last t e = ap (λ (v : Try). Some v) (of-open-is u _ _ (stop_of s' u) t e)
+
+  opening-by : (c : Bool) (st : Stage) (t : Try) → (if c then st else Idle) ≡ Opening t → (c ≡ true) × (st ≡ Opening t)
+  opening-by true st t e = (refl, e)
+  opening-by false st t e = absurd (cc e)
+
+  at-opening : (b : Book) (h : Heard) → Sound run plan b → AtOpening (stage s' run b h)
+  at-opening b h k t e =
+      let p = opening-by (b.run == run) _ t e in
+      open-same b k (eqb-true _ _ p.0) t (opens-open h (open_try b) (last_try b) t p.1)
+
+  heard-same : (d : Desk) (n : News) → row s (stage s run (state s me run plan d) d.heard) d.heard n ≡ row s' (stage s' run (state s' me run plan d) d.heard) d.heard n
+  heard-same d n =
+      ap (λ st. row s st d.heard n) (stage-same (state s me run plan d) d.heard (sound-state d))
+      ∙ row-same (stage s' run (state s me run plan d) d.heard) d.heard n (at-opening (state s me run plan d) d.heard (sound-state d))
+      ∙ ap (λ b. row s' (stage s' run b d.heard) d.heard n) (state-same d)
+
+  pub desk-same : (d : Desk) (i : Input) → desk_turn s me run plan d i ≡ desk_turn s' me run plan d i
+  desk-same d Go = both-same (hears (record d.heard { gone = true }) d)
+  desk-same d (Hear m) = say-same d
+  desk-same d (Take from m) =
+      reply-same d (row s (stage s run (state s me run plan d) d.heard) d.heard (news m))
+      ∙ ap (reply s' me run plan d) (heard-same d (news m))
+
+  -- ---- opening
+
+  unfit-same : (b : Book) (f : Effect) → unfit_act s me run plan b f ≡ unfit_act s' me run plan b f
+  unfit-same b (effect.Run n) = refl
+  unfit-same b (effect.Act i x t k c y) = refl
+  unfit-same b (effect.Try i x) = refl
+  unfit-same b (effect.Got k v) = refl
+  unfit-same b (effect.Acked k) = refl
+  unfit-same b (effect.End i o) = refl
+  unfit-same b (effect.Put o x v) = refl
+  unfit-same b (effect.Stretch o x) = refl
+  unfit-same b (effect.Begin x d) = refl
+  unfit-same b (effect.Decide x d) = refl
+  unfit-same b (effect.Learn x d) = refl
+
+  other-same : (log : List Effect) → other_plan s me run plan log ≡ other_plan s' me run plan log
+  unfolding other_plan
+  other-same [] = refl
+  other-same (f ∷ log) =
+      ap (λ x. first_some x (unfit_act s me run plan (book (keep s me run plan log)) f)) (other-same log)
+      ∙ ap (first_some (other_plan s' me run plan log)) (unfit-same (book (keep s me run plan log)) f)
+      ∙ ap (λ b. first_some (other_plan s' me run plan log) (unfit_act s' me run plan b f)) (book-same log)
+
+  abbrev fault-by : Book → Option ℕ → Option ResumeFault
+  fault-by b o = if nat_lt run b.run then Some (fault.OldRun b.run) else (if b.run == run then plan_fault o else None)
+
+  pub fault-same : (log : List Effect) → resume_fault s me run plan log ≡ resume_fault s' me run plan log
+  fault-same log =
+      ap (λ x. fault-by (book (keep s me run plan log)) x) (other-same log) ∙ ap (λ b. fault-by b (other_plan s' me run plan log)) (book-same log)

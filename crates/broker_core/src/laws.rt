@@ -1,0 +1,35 @@
+// Each law holds for every list of acts.
+ghost use Rattle.std.specs.Prelude.{◌≡◌, ◌≤◌, ℕ, List, Some, slice_get};
+ghost use Rattle.pseudo_time.specs.Lists.{Every, Has};
+ghost use Rattle.value_form.specs.declared.acts.ActSpec.{ActSpec};
+ghost use Rattle.value_form.specs.Mirror.{Block};
+ghost use Rattle.effect_form.specs.declared.effects.Effect.{Effect};
+ghost use Rattle.statement_form.specs.RowTexts.{script_text};
+ghost use Rattle.script_form.specs.Printable.{IsPrintable};
+ghost use Rattle.serial_model.specs.Questions.{Tree};
+ghost use Rattle.serial_model.specs.Ranges.{BlockInRange};
+ghost use Rattle.broker_core.specs.Fits.{keep, resume_fault};
+ghost use Rattle.broker_core.specs.Ledgers.{IsAct};
+ghost use Rattle.broker_core.specs.Readings.{reading};
+ghost use Rattle.broker_core.specs.Tasks.{Task, Scripted};
+ghost use Rattle.broker_core.specs.Turns.{Desk, Input, desk_turn};
+
+/// Two scripts of the language with one text are one. So the reading of some acts reads each of them,
+/// and one reading reads the acts of many plans: that of all their acts.
+pub fn law_of_readings()
+    ensures apart { (n m : ℕ) (a b : Block) → IsPrintable n a → IsPrintable m b → script_text a ≡ script_text b → a ≡ b }
+    ensures own { (acts : List ActSpec) → Every IsAct acts → Scripted (reading acts) acts }
+    ensures among { (all acts : List ActSpec) → Every IsAct all → Every IsAct acts → ((a : ActSpec) → Has a acts → Has a all) → Scripted (reading all) acts }
+    ensures range { (n : ℕ) (script : Block) → IsPrintable n script → BlockInRange script }
+{}
+
+/// Two readings that agree on the texts of a broker's acts give the same turns, count the same of a
+/// log, and refuse the same logs.
+pub fn readings_agree()
+    ensures turns { (s s' : List ℕ → Tree) (me run : ℕ) (acts : List Task) → ((i : ℕ) (t : Task) → slice_get acts i ≡ Some t → s t.script ≡ s' t.script)
+        → (d : Desk) (i : Input) → desk_turn s me run acts d i ≡ desk_turn s' me run acts d i }
+    ensures counts { (s s' : List ℕ → Tree) (me run : ℕ) (acts : List Task) → ((i : ℕ) (t : Task) → slice_get acts i ≡ Some t → s t.script ≡ s' t.script)
+        → (log : List Effect) → keep s me run acts log ≡ keep s' me run acts log }
+    ensures faults { (s s' : List ℕ → Tree) (me run : ℕ) (acts : List Task) → ((i : ℕ) (t : Task) → slice_get acts i ≡ Some t → s t.script ≡ s' t.script)
+        → (log : List Effect) → resume_fault s me run acts log ≡ resume_fault s' me run acts log }
+{}

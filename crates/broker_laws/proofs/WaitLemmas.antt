@@ -1,0 +1,50 @@
+-- A new try and a request come only after what they wait for came.
+use Rattle.std.proofs.Common.{◌≡◌, ℕ, List, [], Some, None, inl, inr, refl}
+use Rattle.pseudo_time.specs.StampParts.{StampParts}
+use Rattle.pseudo_time.specs.declared.nodes.NodeId.{NodeId}
+use Rattle.message_form.specs.declared.messages.Message.{Message}
+use Rattle.message_form.specs.declared.messages.Message.TheVariants as message
+use Rattle.turn_form.specs.Posts.{Post}
+use Rattle.turn_form.specs.declared.turns.Out.{Out}
+use Rattle.serial_model.specs.Questions.{Tree}
+use Rattle.broker_core.specs.Tasks.{Task}
+use Rattle.broker_core.specs.Book.{Book, book}
+use Rattle.broker_core.specs.Fits.{keep}
+use Rattle.broker_core.specs.Rows.{news}
+use Rattle.broker_core.specs.Stages.{nothing_heard, stage, standing}
+use Rattle.broker_core.specs.Turns.{Desk, Input, Go, Hear, Take, state, desk_turn}
+use Rattle.broker_laws.specs.Posts.{HasCome}
+use Rattle.broker_laws.specs.Works.{MayInput}
+use Rattle.broker_laws.specs.Waits.{BegunCame, DecidedCame, Waits, OutSound, IsNoEnded, IsCalm}
+use Rattle.broker_laws.proofs.BookTurns.{Tells, take-sound, go-sound, hear-sound, standing-sound}
+
+module _ (script : List ℕ → Tree) (me run : ℕ) (acts : List Task) (ever : List Post) where
+  tells : (b : Book) (m : Message) → HasCome me ever m → IsNoEnded m → Tells script me run acts (BegunCame me ever) (DecidedCame me ever) b (news m)
+  tells b (message.Begun s) h k = inl h
+  tells b (message.Decided s d) h k = ((d, h), inr (d, h))
+  tells b (message.Ended x) h k = absurd k
+  tells b (message.Begin s t) h k = tt
+  tells b (message.Read x o) h k = tt
+  tells b (message.Value x v) h k = tt
+  tells b (message.Write x o v) h k = tt
+  tells b (message.Stored x) h k = tt
+  tells b (message.LaterRead x e) h k = tt
+  tells b (message.LaterVersion x e) h k = tt
+  tells b (message.Commit s) h k = tt
+  tells b (message.Withdraw s) h k = tt
+  tells b (message.Ask s) h k = tt
+  tells b (message.Tell s c) h k = tt
+
+  pub turn-waits : (d : Desk) (i : Input) → MayInput me ever i → IsCalm i → Waits script me run acts ever d → Waits script me run acts ever (desk_turn script me run acts d i)
+  turn-waits d Go may calm w = go-sound script me run acts (BegunCame me ever) (DecidedCame me ever) d w
+  turn-waits d (Hear m) may calm w = hear-sound script me run acts (BegunCame me ever) (DecidedCame me ever) d m w
+  turn-waits d (Take from m) may calm w =
+      take-sound script me run acts (BegunCame me ever) (DecidedCame me ever) ever d from m (from, may) (tells (state script me run acts d) m (from, may) calm) w
+
+  pub standing-waits : (d : Desk) (o : Out) → Waits script me run acts ever d → standing (stage script run (state script me run acts d) d.heard) ≡ Some o →
+      OutSound run (BegunCame me ever) (DecidedCame me ever) (state script me run acts d) o.message
+  standing-waits d o w e = standing-sound script me run acts (BegunCame me ever) (DecidedCame me ever) d o w e
+
+  pub empty-waits : Waits script me run acts ever (record { base = []; fresh = []; outs = []; heard = nothing_heard })
+  unfolding keep book
+  empty-waits = record { past = refl; early = λ e. refl; trail = tt; settled = tt; started = tt; ended = refl; begun = λ s e. absurd (cc e); closed = λ s e. absurd (cc e) }

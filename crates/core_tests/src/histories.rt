@@ -1,0 +1,340 @@
+ghost use Rattle.std.specs.Prelude.{◌≡◌, List, OnErr};
+ghost use Rattle.pseudo_time.specs.TimeParts.{TimeParts};
+ghost use Rattle.value_form.specs.declared.objects.ObjectId.{ObjectId};
+ghost use Rattle.object_history.specs.declared.marks.Mark.{Mark};
+ghost use Rattle.object_history.specs.Answers.{after_read};
+ghost use Rattle.object_history.specs.Ranges.{IsReadStep};
+
+use object_history::{Histories, HistoryFault, Mark, PlainHistories, ReadStep, WriteStep};
+use pseudo_time::{PseudoTime, Stamp};
+use std::alloc::{AllocError, Global};
+use std::test::*;
+use value_form::{ObjectId, Value};
+
+/// The object of every row.
+const OBJECT: ObjectId = ObjectId {
+    repository: 1,
+    number: 1,
+};
+
+/// A pseudotime of home 1: its clock, its broker and its step.
+type Time = (u64, u8, u32);
+
+/// A call with its arguments; `New` begins with no marks.
+#[derive(Clone, Copy)]
+enum Call {
+    New,
+    Read(Time),
+    Write(Time, i64),
+    Stands(Time, i64),
+    Settle(u64, u8, bool),
+    Settled(u64, u8),
+}
+
+/// What a call says.
+#[derive(Clone, Copy, Debug, PartialEq, Eq)]
+enum Said {
+    Done,
+    Nothing(bool),
+    Value(i64, bool),
+    Wait(u64, u8),
+    Put,
+    Again,
+    LaterVersion(Time),
+    LaterRead(Time),
+    Stands(bool),
+    Settled(Option<bool>),
+    Fault,
+}
+
+fn time((clock, broker, step): Time) -> Result<PseudoTime, HistoryFault> {
+    let Some(stamp) = Stamp::new(clock, broker, 1) else {
+        return Err(HistoryFault::Medium);
+    };
+    PseudoTime::new(stamp, step).ok_or(HistoryFault::Medium)
+}
+
+fn parts(time: PseudoTime) -> Time {
+    let stamp = time.stamp();
+    (stamp.clock(), stamp.broker(), time.step())
+}
+
+fn said_of_value(value: &Value, stretch: bool) -> Said {
+    match value {
+        Value::Nothing => Said::Nothing(stretch),
+        Value::Number(number) => Said::Value(*number, stretch),
+        Value::Text(_) => Said::Fault,
+    }
+}
+
+fn said_of_read(step: &ReadStep) -> Said {
+    match step {
+        ReadStep::Answer { value, stretch } => said_of_value(value, *stretch),
+        ReadStep::Wait { stamp } => Said::Wait(stamp.clock(), stamp.broker()),
+    }
+}
+
+fn said_of_write(step: WriteStep) -> Said {
+    match step {
+        WriteStep::Put => Said::Put,
+        WriteStep::Again => Said::Again,
+        WriteStep::LaterVersion { start } => Said::LaterVersion(parts(start)),
+        WriteStep::LaterRead { end } => Said::LaterRead(parts(end)),
+    }
+}
+
+// Settles a stamp that isn't settled yet, whatever the histories tell.
+fn settle_first<H: Histories>(
+    histories: &mut H,
+    stamp: Stamp,
+    committed: bool,
+) -> Result<(), HistoryFault>
+    ensures err { OnErr result (H.content histories.new ≡ H.content histories.old) }
+    ensures below { H.below histories.new ≡ H.below histories.old }
+{
+    match histories.settled(stamp) {
+        Some(_) => Ok(()),
+        None => histories.settle(stamp, committed),
+    }
+}
+
+// What histories say to a call.
+fn asked<H: Histories>(histories: &mut H, call: Call) -> Result<Said, HistoryFault> {
+    match call {
+        Call::New => Ok(Said::Done),
+        Call::Read(at) => {
+            let step = histories.read(OBJECT, time(at)?)?;
+            Ok(said_of_read(&step))
+        }
+        Call::Write(at, number) => {
+            let step = histories.write(OBJECT, time(at)?, &Value::Number(number))?;
+            Ok(said_of_write(step))
+        }
+        Call::Stands(start, number) => {
+            let stands = histories.stands(OBJECT, time(start)?, &Value::Number(number))?;
+            Ok(Said::Stands(stands))
+        }
+        Call::Settle(clock, broker, committed) => {
+            settle_first(histories, time((clock, broker, 1))?.stamp(), committed)?;
+            Ok(Said::Done)
+        }
+        Call::Settled(clock, broker) => {
+            Ok(Said::Settled(histories.settled(time((clock, broker, 1))?.stamp())))
+        }
+    }
+}
+
+// What each call answers by the rules of histories, worked out by hand.
+#[test]
+fn answers(rt: HostRuntime) -> Result<(), Fail> {
+    let alloc = rt.alloc();
+    let mut histories = PlainHistories::new(alloc);
+    for (call, want) in [
+        // An undecided version is waited for. Once it is aborted the origin is seen, and stretched.
+        (Call::New, Said::Done),
+        (Call::Write((1, 1, 1), 7), Said::Put),
+        (Call::Read((2, 1, 1)), Said::Wait(1, 1)),
+        (Call::Settle(1, 1, false), Said::Done),
+        (Call::Read((2, 1, 1)), Said::Nothing(true)),
+        (Call::Write((1, 2, 1), 8), Said::LaterRead((2, 1, 1))),
+        // Three committed versions: what is seen at the second's start is the first, with a
+        // committed one above.
+        (Call::New, Said::Done),
+        (Call::Write((1, 1, 1), 1), Said::Put),
+        (Call::Settle(1, 1, true), Said::Done),
+        (Call::Write((2, 1, 1), 2), Said::Put),
+        (Call::Settle(2, 1, true), Said::Done),
+        (Call::Write((3, 1, 1), 3), Said::Put),
+        (Call::Settle(3, 1, true), Said::Done),
+        (Call::Read((2, 1, 1)), Said::Value(1, false)),
+        (Call::Read((9, 1, 1)), Said::Value(3, true)),
+        (Call::Read((8, 1, 1)), Said::Value(3, false)),
+        (Call::Write((8, 1, 1), 4), Said::LaterRead((9, 1, 1))),
+        (Call::Write((2, 2, 1), 4), Said::LaterVersion((3, 1, 1))),
+        // An aborted version is under no later one: starts need not rise.
+        (Call::New, Said::Done),
+        (Call::Write((5, 1, 1), 5), Said::Put),
+        (Call::Settle(5, 1, false), Said::Done),
+        (Call::Write((3, 1, 1), 3), Said::Put),
+        (Call::Read((6, 1, 1)), Said::Wait(3, 1)),
+        (Call::Settle(3, 1, true), Said::Done),
+        (Call::Read((6, 1, 1)), Said::Value(3, true)),
+        // A write that comes again, with its value and with another.
+        (Call::New, Said::Done),
+        (Call::Stands((1, 1, 1), 7), Said::Stands(false)),
+        (Call::Write((1, 1, 1), 7), Said::Put),
+        (Call::Write((1, 1, 1), 7), Said::Again),
+        (Call::Write((1, 1, 1), 8), Said::LaterVersion((1, 1, 1))),
+        (Call::Stands((1, 1, 1), 7), Said::Stands(true)),
+        (Call::Stands((1, 1, 1), 8), Said::Stands(false)),
+        (Call::Settled(1, 1), Said::Settled(None)),
+        (Call::Settle(1, 1, false), Said::Done),
+        (Call::Settled(1, 1), Said::Settled(Some(false))),
+        (Call::Stands((1, 1, 1), 7), Said::Stands(false)),
+        // An attempt reads its own version, and stretches it. Aborted, its reach blocks nothing.
+        (Call::New, Said::Done),
+        (Call::Write((1, 1, 1), 1), Said::Put),
+        (Call::Settle(1, 1, true), Said::Done),
+        (Call::Write((3, 1, 1), 3), Said::Put),
+        (Call::Read((3, 1, 5)), Said::Value(3, true)),
+        (Call::Write((3, 1, 4), 4), Said::LaterRead((3, 1, 5))),
+        (Call::Settle(3, 1, false), Said::Done),
+        (Call::Write((2, 1, 1), 2), Said::Put),
+        // An undecided version above what is seen may still go away: the read stretches what it saw.
+        (Call::New, Said::Done),
+        (Call::Write((1, 1, 1), 1), Said::Put),
+        (Call::Settle(1, 1, true), Said::Done),
+        (Call::Write((4, 1, 1), 4), Said::Put),
+        (Call::Read((3, 1, 1)), Said::Value(1, true)),
+        (Call::Settle(4, 1, false), Said::Done),
+        (Call::Write((2, 1, 1), 2), Said::LaterRead((3, 1, 1))),
+        (Call::Write((3, 1, 1), 3), Said::Put),
+        // The origin was read up to 5, and then up to 6.
+        (Call::New, Said::Done),
+        (Call::Read((5, 1, 1)), Said::Nothing(true)),
+        (Call::Read((4, 1, 1)), Said::Nothing(false)),
+        (Call::Write((4, 1, 1), 4), Said::LaterRead((5, 1, 1))),
+        (Call::Read((6, 1, 1)), Said::Nothing(true)),
+        (Call::Write((5, 2, 1), 4), Said::LaterRead((6, 1, 1))),
+        (Call::Write((7, 1, 1), 7), Said::Put),
+        // The reach of an origin with a version above it no longer matters to a write.
+        (Call::Write((6, 2, 1), 6), Said::LaterVersion((7, 1, 1))),
+    ] {
+        if let Call::New = call {
+            histories = PlainHistories::new(alloc);
+        }
+        let got = asked(&mut histories, call).unwrap_or(Said::Fault);
+        assert_eq!(rt; got, want);
+    }
+    Ok(())
+}
+
+// A list of marks that no calls can have added: two versions with one start, and a stamp that is
+// settled twice.
+fn unruly(alloc: Global) -> Result<PlainHistories, HistoryFault> {
+    let start = time((1, 1, 1))?;
+    let mut marks = Vec::new(alloc);
+    marks.push(Mark::Put(OBJECT, start, Value::Number(7)))?;
+    marks.push(Mark::Stretch(OBJECT, time((2, 1, 1))?))?;
+    marks.push(Mark::Put(OBJECT, start, Value::Number(8)))?;
+    marks.push(Mark::Settle(start.stamp(), true))?;
+    marks.push(Mark::Settle(start.stamp(), false))?;
+    Ok(PlainHistories::of(alloc, marks.as_slice())?)
+}
+
+// The first Settle counts, and of versions with one start the newest is seen. The Stretch fell on
+// the other one.
+#[test]
+fn marks_without_a_past(rt: HostRuntime) -> Result<(), Fail> {
+    let alloc = rt.alloc();
+    let Ok(mut histories) = unruly(alloc) else {
+        return Err("in range and in memory".into());
+    };
+    for (call, want) in [
+        (Call::Settled(1, 1), Said::Settled(Some(true))),
+        (Call::Stands((1, 1, 1), 7), Said::Stands(true)),
+        (Call::Stands((1, 1, 1), 8), Said::Stands(true)),
+        (Call::Write((1, 2, 1), 9), Said::Put),
+        (Call::Settle(1, 2, false), Said::Done),
+        (Call::Read((2, 1, 1)), Said::Value(8, true)),
+    ] {
+        let got = asked(&mut histories, call).unwrap_or(Said::Fault);
+        assert_eq!(rt; got, want);
+    }
+    Ok(())
+}
+
+/// Histories that tell nothing: they answer another value than was written, take no write, and
+/// stand on something.
+#[derive(Drop)]
+struct Silent {
+    marks: PlainHistories,
+    writes: u64,
+    pages: u32,
+}
+
+impl Histories for Silent {
+    type Below = u32;
+
+    ghost use Rattle.std.specs.Prelude.{false};
+
+    ghost tells = { false };
+
+    ghost content = { λ s. s.marks };
+
+    ghost faults = { λ _. 0 };
+
+    ghost damage = { λ s. s.writes };
+
+    ghost below = { λ s. s.pages };
+
+    fn read(&mut self, object: ObjectId, at: PseudoTime) -> Result<ReadStep, HistoryFault> {
+        let step = self.marks.read(object, at)?;
+        Ok(other_value(&step))
+    }
+
+    fn write(
+        &mut self,
+        _object: ObjectId,
+        _at: PseudoTime,
+        _value: &Value,
+    ) -> Result<WriteStep, HistoryFault> {
+        self.writes = self.writes.saturating_add(1);
+        Err(HistoryFault::Damaged { page: 1 })
+    }
+
+    fn stands(
+        &mut self,
+        _object: ObjectId,
+        _start: PseudoTime,
+        _value: &Value,
+    ) -> Result<bool, HistoryFault> {
+        Ok(true)
+    }
+
+    fn settle(&mut self, stamp: Stamp, committed: bool) -> Result<(), HistoryFault> {
+        self.marks.settle(stamp, committed)
+    }
+
+    fn settled(&self, stamp: Stamp) -> Option<bool> {
+        self.marks.settled(stamp)
+    }
+}
+
+// The same answer with the value 13.
+fn other_value(step: &ReadStep) -> ReadStep
+    ensures marks { (m : List Mark) (o : ObjectId) (t : TimeParts) → after_read m o t result ≡ after_read m o t step.now }
+    ensures in_range { IsReadStep result }
+{
+    match step {
+        ReadStep::Answer { stretch, .. } => ReadStep::Answer {
+            value: Value::Number(13),
+            stretch: *stretch,
+        },
+        ReadStep::Wait { stamp } => ReadStep::Wait { stamp: *stamp },
+    }
+}
+
+#[test]
+fn histories_that_tell_nothing(rt: HostRuntime) -> Result<(), Fail> {
+    let alloc = rt.alloc();
+    let mut histories = Silent {
+        marks: PlainHistories::new(alloc),
+        writes: 0,
+        pages: 4,
+    };
+    for (call, want) in [
+        (Call::Read((2, 1, 1)), Said::Value(13, true)),
+        (Call::Read((1, 1, 1)), Said::Value(13, false)),
+        (Call::Write((1, 1, 1), 7), Said::Fault),
+        (Call::Stands((1, 1, 1), 7), Said::Stands(true)),
+        (Call::Settle(1, 1, true), Said::Done),
+        (Call::Settled(1, 1), Said::Settled(Some(true))),
+    ] {
+        let got = asked(&mut histories, call).unwrap_or(Said::Fault);
+        assert_eq!(rt; got, want);
+    }
+    assert_eq!(rt; histories.writes, 1);
+    assert_eq!(rt; histories.pages, 4);
+    Ok(())
+}

@@ -1,0 +1,117 @@
+use script_form::{ParseFault, ParseKind, parse, print};
+use std::alloc::Global;
+use std::test::*;
+
+// The canonical text of what the bytes are parsed as.
+fn canonical(alloc: Global, bytes: &[u8]) -> Result<Vec<u8>, ParseFault> {
+    let script = parse(alloc, bytes)?;
+    let text = print(alloc, &script)?;
+    Ok(text.into_vec())
+}
+
+fn repeated(alloc: Global, line: &[u8], count: usize) -> Result<Vec<u8>, Fail> {
+    let mut bytes = Vec::new(alloc);
+    for _ in 0..count {
+        bytes.extend_from_slice(line)?;
+    }
+    Ok(bytes)
+}
+
+fn fault_of(alloc: Global, bytes: &[u8]) -> Option<ParseFault> {
+    match parse(alloc, bytes) {
+        Ok(_) => None,
+        Err(fault) => Some(fault),
+    }
+}
+
+#[test]
+fn scripts_with_their_text(rt: HostRuntime) -> Result<(), Fail> {
+    let alloc = rt.alloc();
+    for (bytes, text) in [
+        (b"".as_slice(), b"".as_slice()),
+        (b"\n  \n# all comment".as_slice(), b"".as_slice()),
+        (
+            b"  let   a=1\r\n\n#\nprint (a+1)*2".as_slice(),
+            b"let a = 1\n\n\nprint (a + 1) * 2\n".as_slice(),
+        ),
+        (
+            b"read a 1.7\nif a>=(1)\nwrite 2[a] \"\\x41\\x0a\"\nelse\nwithdraw\nend\n".as_slice(),
+            b"read a 1.7\nif a >= 1\nwrite 2[a] \"A\\n\"\nelse\nwithdraw\nend\n".as_slice(),
+        ),
+        (b"write 1.07".as_slice(), b"write 1.0 7\n".as_slice()),
+        (
+            b"repeat 8\nlet s=s+given(v,1000)\nend".as_slice(),
+            b"repeat 8\nlet s = s + given(v, 1000)\nend\n".as_slice(),
+        ),
+        (
+            b"print - - 1 - ( 2 - 3 )\nprint not not ((1)=2)".as_slice(),
+            b"print --1 - (2 - 3)\nprint not not 1 = 2\n".as_slice(),
+        ),
+    ] {
+        let once = canonical(alloc, bytes);
+        assert!(rt; matches!(once, Ok(_)));
+        if let Ok(once) = once {
+            assert_eq!(rt; once.as_slice(), text);
+        }
+        let twice = canonical(alloc, text);
+        assert!(rt; matches!(twice, Ok(_)));
+        if let Ok(twice) = twice {
+            assert_eq!(rt; twice.as_slice(), text);
+        }
+    }
+    Ok(())
+}
+
+#[test]
+fn faults_of_scripts(rt: HostRuntime) -> Result<(), Fail> {
+    let alloc = rt.alloc();
+    for (bytes, line, kind) in [
+        (b"print 1\nprint \xff".as_slice(), 2, ParseKind::Token),
+        (b"print 1\rprint 2\n".as_slice(), 1, ParseKind::Token),
+        (b"print 17.1".as_slice(), 1, ParseKind::Range),
+        (b"\nprint1".as_slice(), 2, ParseKind::Syntax),
+        (b"print 1 = 2 = 3".as_slice(), 1, ParseKind::Syntax),
+        (b"else".as_slice(), 1, ParseKind::Block),
+        (b"if 1\nelse\nelse\nend".as_slice(), 3, ParseKind::Block),
+        (b"repeat 2\nelse\nend".as_slice(), 2, ParseKind::Block),
+        (b"print 1\nend".as_slice(), 2, ParseKind::Block),
+        (b"if 1\nprint 1\n".as_slice(), 3, ParseKind::Block),
+        (b"print ----------------1".as_slice(), 1, ParseKind::Depth),
+    ] {
+        assert!(rt; fault_of(alloc, bytes) == Some(ParseFault::Fault { line, kind }));
+    }
+    Ok(())
+}
+
+#[test]
+fn large_scripts(rt: HostRuntime) -> Result<(), Fail> {
+    let alloc = rt.alloc();
+    let empty = repeated(alloc, b"\n", 200)?;
+    assert!(rt; fault_of(alloc, empty.as_slice()) == None);
+    let size = |line| Some(ParseFault::Fault {
+        line,
+        kind: ParseKind::Size,
+    });
+    for line in [b"\n".as_slice(), b"#\n", b"print 1\n"] {
+        let more = repeated(alloc, line, 201)?;
+        assert!(rt; fault_of(alloc, more.as_slice()) == size(201));
+    }
+    // 100 lines of 39 bytes are 3,900 bytes.
+    let most = repeated(alloc, b"print 10000000000000000 + 200000000000\n", 100)?;
+    assert!(rt; fault_of(alloc, most.as_slice()) == None);
+    let long = repeated(alloc, b"print 10000000000000000 + 2000000000000\n", 100)?;
+    assert!(rt; fault_of(alloc, long.as_slice()) == size(98));
+    let deep = repeated(alloc, b"if 1\n", 17)?;
+    let depth = Some(ParseFault::Fault {
+        line: 17,
+        kind: ParseKind::Depth,
+    });
+    assert!(rt; fault_of(alloc, deep.as_slice()) == depth);
+    let groups = repeated(alloc, b"(", 100_000)?;
+    let syntax = Some(ParseFault::Fault {
+        line: 1,
+        kind: ParseKind::Syntax,
+    });
+    assert!(rt; fault_of(alloc, groups.as_slice()) == syntax);
+    Ok(())
+}

@@ -1,0 +1,180 @@
+-- A ledger after a change.
+use Rattle.std.proofs.Common.{◌≡◌, ℕ, Bool, true, false, List, [], ◌∷◌, ◌++◌, length, reverse, map, take, ◌+◌, ◌-◌, length-append, refl, sym, ◌∙◌, ap, subst, Option, Some, None, ◌==◌, ◌&&◌, if◌then◌else◌, arith}
+use Rattle.std.specs.List.{push}
+use Rattle.std.specs.Option.{is_some}
+use Rattle.std.specs.Ordering.{nat_cmp, ordering_then, is_eq}
+use Rattle.std.specs.declared.cmp.Ordering.{Ordering}
+use Rattle.std.specs.declared.cmp.Ordering.TheVariants.{Less, Equal, Greater}
+use Rattle.std.proofs.lemmas.Grind.{common_steps}
+use Rattle.std.proofs.lemmas.List.{reverse-append, take_at, map-append}
+use Rattle.std.proofs.lemmas.Bool.{false≢true, true≢false}
+use Rattle.pseudo_time.specs.TimeParts.{TimeParts}
+use Rattle.value_form.specs.declared.objects.ObjectId.{ObjectId}
+use Rattle.value_form.specs.declared.values.Value.{Value}
+use Rattle.value_form.specs.Objects.{object_cmp}
+use Rattle.effect_form.specs.declared.effects.Effect.{Effect}
+use Rattle.object_history.specs.declared.marks.Mark.{Mark}
+use Rattle.object_history.specs.declared.marks.Mark.TheVariants.{Put, Stretch, Settle}
+use Rattle.object_history.specs.Objects.{same_object}
+use Rattle.object_history.specs.Kept.{Settled}
+use Rattle.object_history.specs.Ranges.{AreMarks, IsMark}
+use Rattle.object_header.specs.Odd.{kept_of}
+use Rattle.object_header.specs.Heads.{Headed, head_at, first_put}
+use Rattle.object_header.specs.Ledgers.{LedgerParts, content, odd_in, IsIndexed, IsLedger}
+use Rattle.repository_log.specs.Logs.{marks, mark_of}
+use Rattle.repository_log.proofs.MarkLemmas.{marks-append}
+use Rattle.object_header.specs.Marks.{added, is_here, mark_put}
+
+-- ---- objects
+
+level : (a b : ℕ) → is_eq (nat_cmp a b) ≡ (a == b)
+level a b = grind (arith, common_steps)
+
+both-levels : (o p : Ordering) → is_eq (ordering_then o p) ≡ (is_eq o && is_eq p)
+both-levels Less p = refl
+both-levels Equal p = refl
+both-levels Greater p = refl
+
+pub same_object-parts : (a b : ObjectId) → (a.repository == b.repository && a.number == b.number) ≡ same_object a b
+unfolding same_object
+same_object-parts a b =
+    sym (both-levels (nat_cmp a.repository b.repository) (nat_cmp a.number b.number) ∙ ap (λ z. z && is_eq (nat_cmp a.number b.number)) (level a.repository b.repository) ∙ ap (λ z. (a.repository == b.repository) && z) (level a.number b.number))
+
+-- ---- the parts
+
+abbrev pub parts : List Effect → List Mark → Settled → Headed → Bool → List Mark → LedgerParts
+parts log late settles heads whole kept = record { log = log; late = late; settles = settles; heads = heads; whole = whole; kept = kept }
+
+-- no object became odd
+abbrev pub SameOdd : Headed → Headed → Type 0
+SameOdd new old = (o : ObjectId) → (head_at new o).odd ≡ (head_at old o).odd
+
+pub kept-pointwise : (f g : ObjectId → Bool) (m : List Mark) → ((o : ObjectId) → f o ≡ g o) → kept_of f m ≡ kept_of g m
+unfolding kept_of
+kept-pointwise f g [] h = refl
+kept-pointwise f g (Put a x v ∷ m) h = ap (λ b. if b then Put a x v ∷ kept_of f m else kept_of f m) (h a) ∙ ap (λ k. if g a then Put a x v ∷ k else k) (kept-pointwise f g m h)
+kept-pointwise f g (Stretch a x ∷ m) h = ap (λ b. if b then Stretch a x ∷ kept_of f m else kept_of f m) (h a) ∙ ap (λ k. if g a then Stretch a x ∷ k else k) (kept-pointwise f g m h)
+kept-pointwise f g (Settle s c ∷ m) h = ap (λ k. Settle s c ∷ k) (kept-pointwise f g m h)
+
+append_if : (b : Bool) (f : Mark) (k n : List Mark) → (if b then f ∷ (k ++ n) else k ++ n) ≡ (if b then f ∷ k else k) ++ n
+append_if true f k n = refl
+append_if false f k n = refl
+
+pub kept-append : (odd : ObjectId → Bool) (a b : List Mark) → kept_of odd (a ++ b) ≡ kept_of odd a ++ kept_of odd b
+unfolding kept_of
+kept-append odd [] b = refl
+kept-append odd (Put c x v ∷ a) b = ap (λ k. if odd c then Put c x v ∷ k else k) (kept-append odd a b) ∙ append_if (odd c) (Put c x v) (kept_of odd a) (kept_of odd b)
+kept-append odd (Stretch c x ∷ a) b = ap (λ k. if odd c then Stretch c x ∷ k else k) (kept-append odd a b) ∙ append_if (odd c) (Stretch c x) (kept_of odd a) (kept_of odd b)
+kept-append odd (Settle s c ∷ a) b = ap (λ k. Settle s c ∷ k) (kept-append odd a b)
+
+twice_put : (b : Bool) (odd : ObjectId → Bool) (f : Mark) (k : List Mark) → (b ≡ true → kept_of odd (f ∷ k) ≡ f ∷ kept_of odd k) → kept_of odd k ≡ k → kept_of odd (if b then f ∷ k else k) ≡ (if b then f ∷ k else k)
+twice_put true odd f k at is = at refl ∙ ap (λ z. f ∷ z) is
+twice_put false odd f k at is = is
+
+-- what is kept is kept again
+pub kept-twice : (odd : ObjectId → Bool) (m : List Mark) → kept_of odd (kept_of odd m) ≡ kept_of odd m
+unfolding kept_of
+kept-twice odd [] = refl
+kept-twice odd (Put a x v ∷ m) = twice_put (odd a) odd (Put a x v) (kept_of odd m) (λ e. ap (λ b. if b then Put a x v ∷ kept_of odd (kept_of odd m) else kept_of odd (kept_of odd m)) e) (kept-twice odd m)
+kept-twice odd (Stretch a x ∷ m) = twice_put (odd a) odd (Stretch a x) (kept_of odd m) (λ e. ap (λ b. if b then Stretch a x ∷ kept_of odd (kept_of odd m) else kept_of odd (kept_of odd m)) e) (kept-twice odd m)
+kept-twice odd (Settle s c ∷ m) = ap (λ k. Settle s c ∷ k) (kept-twice odd m)
+
+reverse-snoc : (xs ys : List Mark) (f : Mark) → ys ≡ xs ++ f ∷ [] → reverse ys ≡ f ∷ reverse xs
+reverse-snoc xs ys f is = ap reverse is ∙ reverse-append xs (f ∷ [])
+
+-- one late mark more
+pub late-more : (log : List Effect) (xs ys : List Mark) (settled new : Settled) (heads next : Headed) (whole : Bool) (kept : List Mark) (f : Mark) → IsLedger (parts log (reverse xs) settled heads whole kept) → ys ≡ xs ++ f ∷ [] → IsMark f → SameOdd next heads →
+    (IsIndexed (content (parts log (reverse xs) settled heads whole kept)) settled heads → IsIndexed (f ∷ content (parts log (reverse xs) settled heads whole kept)) new next) → IsLedger (parts log (reverse ys) new next whole kept)
+late-more log xs ys settled new heads next whole kept f is pushed fine same more =
+    subst (λ z. IsLedger (parts log z new next whole kept)) (sym (reverse-snoc xs ys f pushed)) (record {
+      indexed = more is.indexed;
+      in_range = (fine, is.in_range);
+      kept = λ w. is.kept w ∙ kept-pointwise (odd_in heads) (odd_in next) (marks (reverse log)) (λ o. sym (same o));
+      kept_in_range = is.kept_in_range;
+    })
+
+-- what was pushed is popped
+pub pop-rest : (xs ys zs : List Mark) (f : Mark) (n : ℕ) → ys ≡ xs ++ f ∷ [] → n ≡ length ys → zs ≡ take (n - 1) ys → zs ≡ xs
+pop-rest xs ys zs f n pushed long rest = rest ∙ ap (λ k. take k ys) (less (length xs) (length ys) (ap (λ (l : List Mark). length l) pushed ∙ length-append xs (f ∷ [])) long) ∙ ap (take (length xs)) pushed ∙ take_at xs (f ∷ []) (length xs) refl
+  where
+    less : (a b : ℕ) → b ≡ a + 1 → n ≡ b → n - 1 ≡ a
+    less a b is at = omega (arith, at, is)
+
+-- none, as before
+pub late-same : (log : List Effect) (xs ys : List Mark) (settled new : Settled) (heads next : Headed) (whole : Bool) (kept : List Mark) → IsLedger (parts log (reverse xs) settled heads whole kept) → ys ≡ xs → SameOdd next heads →
+    ((m : List Mark) → IsIndexed m settled heads → IsIndexed m new next) → IsLedger (parts log (reverse ys) new next whole kept)
+late-same log xs ys settled new heads next whole kept is same odd more =
+    subst (λ z. IsLedger (parts log (reverse z) new next whole kept)) (sym same) (record {
+      indexed = more (content (parts log (reverse xs) settled heads whole kept)) is.indexed;
+      in_range = is.in_range;
+      kept = λ w. is.kept w ∙ kept-pointwise (odd_in heads) (odd_in next) (marks (reverse log)) (λ o. sym (odd o));
+      kept_in_range = is.kept_in_range;
+    })
+
+pub late-none : {T : Type 0} (value : T → Effect) (xs : List T) (ys zs : List Mark) (settled : Settled) (heads : Headed) → xs ≡ [] → ys ≡ [] → zs ≡ [] → IsIndexed [] settled heads → IsLedger (parts (map value xs) (reverse ys) settled heads false (reverse zs))
+late-none value xs ys zs settled heads none empty bare is =
+    subst (λ z. IsLedger (parts (map value z) (reverse ys) settled heads false (reverse zs))) (sym none)
+    (subst (λ z. IsLedger (parts [] (reverse z) settled heads false (reverse zs))) (sym empty)
+    (subst (λ z. IsLedger (parts [] [] settled heads false (reverse z))) (sym bare) (record { indexed = is; in_range = tt; kept = λ w. absurd (false≢true w); kept_in_range = tt })))
+
+-- the log with these effects has their marks
+pub marks-more : (log effects : List Effect) → marks (reverse (log ++ effects)) ≡ marks (reverse effects) ++ marks (reverse log)
+marks-more log effects = ap marks (reverse-append log effects) ∙ marks-append (reverse effects) (reverse log)
+
+pub late-flushed : (log more effects : List Effect) (xs ys : List Mark) (settled : Settled) (heads : Headed) (whole : Bool) (kept next : List Mark) → IsLedger (parts log (reverse xs) settled heads whole kept) → more ≡ log ++ effects → ys ≡ [] → marks (reverse effects) ≡ reverse xs →
+    (whole ≡ true → next ≡ kept_of (odd_in heads) (reverse xs) ++ kept) → AreMarks next → IsLedger (parts more (reverse ys) settled heads whole next)
+late-flushed log more effects xs ys settled heads whole kept next is longer empty same keeps fine =
+    let all : marks (reverse more) ≡ reverse xs ++ marks (reverse log) = ap (λ l. marks (reverse l)) longer ∙ marks-more log effects ∙ ap (λ z. z ++ marks (reverse log)) same in
+    subst (λ z. IsLedger (parts more (reverse z) settled heads whole next)) (sym empty) (record {
+      indexed = subst (λ m. IsIndexed m settled heads) (sym all) is.indexed;
+      in_range = tt;
+      kept = λ w. keeps w ∙ ap (λ k. kept_of (odd_in heads) (reverse xs) ++ k) (is.kept w) ∙ sym (ap (kept_of (odd_in heads)) all ∙ kept-append (odd_in heads) (reverse xs) (marks (reverse log)));
+      kept_in_range = fine;
+    })
+
+pub late-logged : (log more : List Effect) (e : Effect) (xs ys zs : List Mark) (settled new : Settled) (heads next : Headed) (whole : Bool) (kept : List Mark) → IsLedger (parts log (reverse xs) settled heads whole kept) → more ≡ log ++ e ∷ [] → ys ≡ xs → reverse xs ≡ [] → zs ≡ [] →
+    ((m : List Mark) → IsIndexed m settled heads → IsIndexed (added (mark_of e) m) new next) → IsLedger (parts more (reverse ys) new next false (reverse zs))
+late-logged log more e xs ys zs settled new heads next whole kept is longer same empty bare added_is =
+    subst (λ z. IsLedger (parts more z new next false (reverse zs))) (sym (ap reverse same ∙ empty))
+    (subst (λ z. IsLedger (parts more [] new next false (reverse z))) (sym bare) (record {
+      indexed = subst (λ m. IsIndexed m new next) (sym (ap (λ l. marks (reverse l)) longer ∙ ap marks (reverse-append log (e ∷ [])))) (added_is (marks (reverse log)) (subst (λ z. IsIndexed (z ++ marks (reverse log)) settled heads) empty is.indexed));
+      in_range = tt;
+      kept = λ w. absurd (false≢true w);
+      kept_in_range = tt;
+    }))
+
+-- from now on odd objects can be answered
+pub late-whole : (log : List Effect) (xs : List Mark) (settled : Settled) (heads : Headed) (whole : Bool) (kept next : List Mark) → IsLedger (parts log (reverse xs) settled heads whole kept) → next ≡ kept_of (odd_in heads) (marks (reverse log)) → AreMarks next → IsLedger (parts log (reverse xs) settled heads true next)
+late-whole log xs settled heads whole kept next is keeps fine = record { indexed = is.indexed; in_range = is.in_range; kept = λ w. keeps; kept_in_range = fine }
+
+-- ---- looking through the late marks
+
+first_cons : (ok : TimeParts → Bool) (o : ObjectId) (f : Mark) (m : List Mark) → first_put ok o (f ∷ m) ≡ (if is_here ok o f then mark_put f else first_put ok o m)
+unfolding first_put
+first_cons ok o (Put a x v) m = refl
+first_cons ok o (Stretch a x) m = refl
+first_cons ok o (Settle s c) m = refl
+
+reverse-push : (ms : List Mark) (f : Mark) → reverse (push ms f) ≡ f ∷ reverse ms
+reverse-push ms f = reverse-append ms (f ∷ [])
+
+pub late-step : (ok : TimeParts → Bool) (o : ObjectId) (b : Bool) (f : Mark) (rest left : List Mark) (all : Option (TimeParts × Value)) → rest ≡ push left f → is_here ok o f ≡ b → first_put ok o (reverse rest) ≡ all →
+    (if b then mark_put f else first_put ok o (reverse left)) ≡ all
+late-step ok o b f rest left all is here all_is =
+    ap (λ z. if z then mark_put f else first_put ok o (reverse left)) (sym here) ∙ sym (first_cons ok o f (reverse left)) ∙ ap (first_put ok o) (sym (ap reverse is ∙ reverse-push left f)) ∙ all_is
+
+pub late-done : (ok : TimeParts → Bool) (o : ObjectId) (rest : List Mark) (all : Option (TimeParts × Value)) → length rest ≡ 0 → first_put ok o (reverse rest) ≡ all → None ≡ all
+unfolding first_put
+late-done ok o [] all none is = is
+late-done ok o (f ∷ rest) all none is = absurd (omega (arith, none))
+
+pub late-range : (f : Mark) (rest left : List Mark) → rest ≡ push left f → AreMarks (reverse rest) → IsMark f × AreMarks (reverse left)
+late-range f rest left is fine = subst (λ z. AreMarks z) (ap reverse is ∙ reverse-push left f) fine
+
+pub map-pushed : {S T : Type 0} (value : S → T) (xs ys : List S) (s : S) (t : T) → ys ≡ xs ++ s ∷ [] → value s ≡ t → map value ys ≡ map value xs ++ t ∷ []
+map-pushed value xs ys s t pushed is = ap (map value) pushed ∙ map-append value xs (s ∷ []) ∙ ap (λ z. map value xs ++ z ∷ []) is
+
+-- what is flushed stays in the histories
+pub content-flushed : (old new : LedgerParts) (effects : List Effect) → marks (reverse effects) ≡ old.late → new.log ≡ old.log ++ effects → new.late ≡ [] → content new ≡ content old
+content-flushed old new effects late longer empty =
+    ap (λ z. z ++ marks (reverse new.log)) empty ∙ ap (λ l. marks (reverse l)) longer ∙ marks-more old.log effects ∙ ap (λ z. z ++ marks (reverse old.log)) late

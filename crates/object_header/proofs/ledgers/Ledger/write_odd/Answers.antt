@@ -1,0 +1,10 @@
+use Rattle.std.proofs.Common.{rules, arith, ◌≡◌, ◌++◌, ◌∷◌, [], reverse, true, false, refl, sym, ap, ◌∙◌, subst}
+use Rattle.object_history.specs.Answers.{read_step, write_step, stands_written}
+use Rattle.object_header.specs.Odd.{kept_of}
+use Rattle.object_header.specs.Ledgers.{is_odd, content}
+use Rattle.object_header.proofs.KeepLemmas.{some_of}
+use Rattle.object_header.proofs.OddLemmas.{kept-read, kept-write, kept-stands}
+use Rattle.object_header.proofs.ledgers.Ledger.write_odd.Goals as goal
+
+pub returns-in-Ok : goal.returns-in-Ok
+returns-in-Ok c = record { answer = c.in-Ok.ensures.answer refl ∙ ap (λ m. write_step m c.args.object c.args.at c.args.value.now) (some_of (λ h. h ≡ kept_of (is_odd c.args.self.now) (content c.args.self.now)) c.in_ok-whole.field-0 c.in-Some.whole c.in_ok-whole.ensures c.in-Some.is) ∙ kept-write (is_odd c.args.self.now) c.args.object c.requires.odd (content c.args.self.now) c.args.at c.args.value.now }

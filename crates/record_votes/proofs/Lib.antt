@@ -1,0 +1,5 @@
+pub mod BookLemmas
+pub mod LogLemmas
+pub mod MemberLemmas
+pub mod PollLemmas
+pub mod WorldLemmas

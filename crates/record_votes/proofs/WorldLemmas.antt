@@ -1,0 +1,443 @@
+-- What holds at each place of a vote world.
+use Rattle.std.proofs.Common.{◌≡◌, ℕ, zero, suc, Bool, true, false, List, [], ◌∷◌, ◌++◌, take, drop, inl, inr, refl, sym, ◌∙◌, ap, subst}
+use Rattle.std.specs.Prelude.{Option, Some, None, ◌==◌, if◌then◌else◌}
+use Rattle.std.proofs.lemmas.List.{append-nil, append_assoc, take-append-drop}
+use Rattle.std.proofs.lemmas.Bool.{eqb-true}
+use Rattle.pseudo_time.specs.Lists.{Has}
+use Rattle.pseudo_time.proofs.ListLemmas.{has-either, has-left}
+use Rattle.pseudo_time.specs.StampParts.{StampParts}
+use Rattle.pseudo_time.specs.declared.decisions.Decision.{Decision}
+use Rattle.pseudo_time.specs.declared.nodes.NodeId.{NodeId}
+use Rattle.pseudo_time.specs.declared.nodes.NodeKind.{NodeKind}
+use Rattle.pseudo_time.specs.declared.nodes.NodeKind.TheVariants as kind
+use Rattle.effect_form.specs.declared.effects.Effect.{Effect}
+use Rattle.effect_form.specs.declared.effects.Effect.TheVariants as effect
+use Rattle.message_form.specs.declared.messages.Message.{Message}
+use Rattle.message_form.specs.declared.messages.Message.TheVariants as message
+use Rattle.turn_form.specs.declared.turns.Out.{Out}
+use Rattle.turn_form.specs.Posts.{Post, post, posts}
+use Rattle.repository_log.specs.Logs.{is_commit}
+use Rattle.pseudo_time.specs.Nodes.{broker}
+use Rattle.record_votes.specs.declared.seats.Seat.{Seat}
+use Rattle.record_votes.specs.declared.seats.Seat.TheVariants.{First, Second, Third}
+use Rattle.record_votes.specs.Members.{Given, on_message, on_moment}
+use Rattle.record_votes.specs.Polls.{member, seat_at, PollState, ballot, held, poll_goes, poll_hears, poll_takes, PollGiven}
+use Rattle.record_votes.specs.Voting.{Member, World, whole, opened, turned, took, heard, shut, crashed, Event, Goes, Delivered, Gates, Crashes, Hears, Polled, is_seat, with_member, with_poll, with_sent, post_at, to_poll, to_seat, delivered_to, delivered, after, run, Line, new_poll, founded, reached, gated, IsDecided, TwoDecided, Logs, entered, no_logs, Call, ended, left, logs_after}
+use Rattle.record_votes.proofs.LogLemmas.{voted, voted-more, voted-has, Once, Single, Tidy, tidy-front, tidy-more, tidy-none, tidy-apart, single-front, some-same}
+use Rattle.record_votes.proofs.MemberLemmas.{said, Says, message-says, moment-says}
+use Rattle.record_votes.proofs.PollLemmas.{Two, votes_of, held-two, takes-hears, held-stays, shared}
+use Rattle.record_votes.proofs.PollLemmas as polls
+
+-- ---- a member
+
+pub record MemberFacts (m : Member) : Type 0 where
+  pub once : Tidy (whole m)
+  pub answers : (to : NodeId) (x : StampParts) (d : Decision) → Has (said to x d) m.owed → voted (whole m) x ≡ Some d
+
+-- its durable log goes on
+pub record Grows (old new : Member) : Type 0 where
+  pub more : List Effect
+  pub grown : new.gated ≡ old.gated ++ more
+
+whole-turned : (m : Member) (moment : ℕ) (g : Given) → whole (turned m moment g) ≡ whole m ++ g.effects
+whole-turned m moment g = sym (append_assoc m.gated m.fresh g.effects)
+
+turned-facts : (m : Member) (moment : ℕ) (g : Given) → Says (whole m) g → MemberFacts m → MemberFacts (turned m moment g)
+turned-facts m moment g says facts = record {
+  once = subst Tidy (sym (whole-turned m moment g)) (tidy-more (whole m) g.effects facts.once says.fits);
+  answers = λ to x d h. subst (λ l. voted l x ≡ Some d) (sym (whole-turned m moment g)) (elim (has-either m.owed g.outs (said to x d) h) [
+    | inl k ↦ voted-more (whole m) g.effects x d (facts.answers to x d k)
+    | inr k ↦ says.answers to x d k
+  ]);
+}
+
+opened-facts : (moment : ℕ) (log : List Effect) → Tidy log → MemberFacts (opened moment log)
+opened-facts moment log once = record { once = subst Tidy (sym (append-nil log)) once; answers = λ to x d h. absurd h }
+
+kept-once : (m : Member) (kept : ℕ) → Tidy (whole m) → Tidy (m.gated ++ take kept m.fresh)
+kept-once m kept once = tidy-front (m.gated ++ take kept m.fresh) (drop kept m.fresh)
+    (subst Tidy (sym (append_assoc m.gated (take kept m.fresh) (drop kept m.fresh) ∙ ap (λ z. m.gated ++ z) (take-append-drop kept m.fresh))) once)
+
+-- ---- the world
+
+pub record Facts (lines : ℕ → Line) (w : World) : Type 0 where
+  pub members : (s : Seat) → MemberFacts (w.members s)
+  pub sent : (s : Seat) (to : NodeId) (x : StampParts) (d : Decision) → Has (post (member s) (said to x d)) w.sent → voted (gated w s) x ≡ Some d
+  pub stamps : (i : ℕ) → (w.polls i).stamp ≡ (lines i).stamp
+  pub ballots : (i : ℕ) (s : Seat) (c : Bool) → (ballot (w.polls i) s).vote ≡ Some c → (d : Decision) × (is_commit d ≡ c) × (voted (gated w s) (lines i).stamp ≡ Some d)
+
+-- what never ends: durable logs go on, and votes stay
+pub record Onward (old new : World) : Type 0 where
+  pub logs : (s : Seat) → Grows (old.members s) (new.members s)
+  pub votes : (i : ℕ) (s : Seat) (c : Bool) → (ballot (old.polls i) s).vote ≡ Some c → (ballot (new.polls i) s).vote ≡ Some c
+
+same-log : (m : Member) → Grows m m
+same-log m = record { more = []; grown = sym (append-nil m.gated) }
+
+turned-grows : (m : Member) (moment : ℕ) (g : Given) → Grows m (turned m moment g)
+turned-grows m moment g = record { more = []; grown = sym (append-nil m.gated) }
+
+pub onward-same : (w : World) → Onward w w
+onward-same w = record { logs = λ s. same-log (w.members s); votes = λ i s c h. h }
+
+pub onward-on : (a b c : World) → Onward a b → Onward b c → Onward a c
+onward-on a b c f g = record {
+  logs = λ s. record { more = (f.logs s).more ++ (g.logs s).more; grown = (g.logs s).grown ∙ ap (λ z. z ++ (g.logs s).more) (f.logs s).grown ∙ append_assoc (gated a s) (f.logs s).more (g.logs s).more };
+  votes = λ i s v h. g.votes i s v (f.votes i s v h);
+}
+
+grows-voted : (old new : Member) → Grows old new → (x : StampParts) (d : Decision) → voted old.gated x ≡ Some d → voted new.gated x ≡ Some d
+grows-voted old new g x d h = subst (λ l. voted l x ≡ Some d) (sym g.grown) (voted-more old.gated g.more x d h)
+
+at-seat : (P : Seat → Member → Type 0) (f : Seat → Member) (s : Seat) (m : Member) → P s m → ((k : Seat) → P k (f k)) → (k : Seat) → P k (if is_seat s k then m else f k)
+at-seat P f First m h g First = h
+at-seat P f First m h g Second = g Second
+at-seat P f First m h g Third = g Third
+at-seat P f Second m h g First = g First
+at-seat P f Second m h g Second = h
+at-seat P f Second m h g Third = g Third
+at-seat P f Third m h g First = g First
+at-seat P f Third m h g Second = g Second
+at-seat P f Third m h g Third = h
+
+at-own : (f : Seat → Member) (s : Seat) (m : Member) → (if is_seat s s then m else f s) ≡ m
+at-own f First m = refl
+at-own f Second m = refl
+at-own f Third m = refl
+
+module _ (lines : ℕ → Line) where
+  -- one member changes
+  member-facts : (w : World) (s : Seat) (m : Member) → MemberFacts m → Grows (w.members s) m → Facts lines w → Facts lines (with_member w s m)
+  member-facts w s m h g facts = record {
+    members = at-seat (λ k z. MemberFacts z) w.members s m h facts.members;
+    sent = at-seat (λ k z. (to : NodeId) (x : StampParts) (d : Decision) → Has (post (member k) (said to x d)) w.sent → voted z.gated x ≡ Some d) w.members s m
+        (λ to x d k. grows-voted (w.members s) m g x d (facts.sent s to x d k)) facts.sent;
+    stamps = facts.stamps;
+    ballots = λ i. at-seat (λ k z. (c : Bool) → (ballot (w.polls i) k).vote ≡ Some c → (d : Decision) × (is_commit d ≡ c) × (voted z.gated (lines i).stamp ≡ Some d)) w.members s m
+        (λ c k. let b : (d : Decision) × (is_commit d ≡ c) × (voted (gated w s) (lines i).stamp ≡ Some d) = facts.ballots i s c k in (b.0, b.1, grows-voted (w.members s) m g (lines i).stamp b.0 b.2)) (facts.ballots i);
+  }
+
+  -- messages are sent
+  sent-facts : (w : World) (more : List Post) → ((s : Seat) (to : NodeId) (x : StampParts) (d : Decision) → Has (post (member s) (said to x d)) more → voted (gated w s) x ≡ Some d)
+      → Facts lines w → Facts lines (with_sent w more)
+  sent-facts w more f facts = record {
+    members = facts.members;
+    sent = λ s to x d h. elim (has-either w.sent more (post (member s) (said to x d)) h) [
+      | inl k ↦ facts.sent s to x d k
+      | inr k ↦ f s to x d k
+    ];
+    stamps = facts.stamps;
+    ballots = facts.ballots;
+  }
+
+member-onward : (w : World) (s : Seat) (m : Member) → Grows (w.members s) m → Onward w (with_member w s m)
+member-onward w s m g = record { logs = at-seat (λ k z. Grows (w.members k) z) w.members s m g (λ k. same-log (w.members k)); votes = λ i k c h. h }
+
+-- ---- posts
+
+has-post : (from : NodeId) (outs : List Out) (p : Post) → Has p (posts from outs) → (p.from ≡ from) × Has (record { to = p.to; message = p.message }) outs
+has-post from [] p h = absurd h
+has-post from (o ∷ outs) p (inl e) = (sym (ap (λ z. z.from) e), inl (ap (λ (z : Post). let r : Out = record { to = z.to; message = z.message } in r) e))
+has-post from (o ∷ outs) p (inr k) = let h : (p.from ≡ from) × Has (record { to = p.to; message = p.message }) outs = has-post from outs p k in (h.0, inr h.1)
+
+member≢broker : (s : Seat) (i : ℕ) → member s ≡ broker i → ⊥
+member≢broker s i e = let k : kind.Repository ≡ kind.Broker = ap (λ z. z.kind) e in cc k
+
+same-seat : (a b : Seat) → member a ≡ member b → a ≡ b
+same-seat First First e = refl
+same-seat Second Second e = refl
+same-seat Third Third e = refl
+same-seat First Second e = let k : 1 ≡ 2 = ap (λ z. z.number) e in absurd (cc k)
+same-seat First Third e = let k : 1 ≡ 3 = ap (λ z. z.number) e in absurd (cc k)
+same-seat Second First e = let k : 2 ≡ 1 = ap (λ z. z.number) e in absurd (cc k)
+same-seat Second Third e = let k : 2 ≡ 3 = ap (λ z. z.number) e in absurd (cc k)
+same-seat Third First e = let k : 3 ≡ 1 = ap (λ z. z.number) e in absurd (cc k)
+same-seat Third Second e = let k : 3 ≡ 2 = ap (λ z. z.number) e in absurd (cc k)
+
+broker-post : (w : World) (i : ℕ) (outs : List Out) (s : Seat) (to : NodeId) (x : StampParts) (d : Decision) → Has (post (member s) (said to x d)) (posts (broker i) outs) → voted (gated w s) x ≡ Some d
+broker-post w i outs s to x d h = absurd (member≢broker s i (has-post (broker i) outs (post (member s) (said to x d)) h).0)
+
+at-post : (ps : List Post) (k : ℕ) (p : Post) → post_at ps k ≡ Some p → Has p ps
+at-post [] k p h = absurd (cc h)
+at-post (q ∷ ps) zero p h = let e : q ≡ p = cc h in inl e
+at-post (q ∷ ps) (suc k) p h = inr (at-post ps k p h)
+
+-- ---- a poll changes
+
+at-if : (P : ℕ → PollState → Type 0) (i k : ℕ) (p q : PollState) (b : Bool) → (b ≡ true → i ≡ k) → P i p → P k q → P k (if b then p else q)
+at-if P i k p q true e h g = subst (λ z. P z p) (e refl) h
+at-if P i k p q false e h g = g
+
+at-poll : (P : ℕ → PollState → Type 0) (f : ℕ → PollState) (i : ℕ) (p : PollState) → P i p → ((k : ℕ) → P k (f k)) → (k : ℕ) → P k (if i == k then p else f k)
+at-poll P f i p h g k = at-if P i k p (f k) (i == k) (eqb-true i k) h (g k)
+
+module _ (lines : ℕ → Line) where
+  abbrev IsBacked : World → ℕ → Seat → Bool → Type 0
+  IsBacked w i s c = (d : Decision) × (is_commit d ≡ c) × (voted (gated w s) (lines i).stamp ≡ Some d)
+
+  poll-facts : (w : World) (i : ℕ) (p : PollState) → p.stamp ≡ (lines i).stamp → ((s : Seat) (c : Bool) → (ballot p s).vote ≡ Some c → IsBacked w i s c) → Facts lines w → Facts lines (with_poll w i p)
+  poll-facts w i p e f facts = record {
+    members = facts.members;
+    sent = facts.sent;
+    stamps = at-poll (λ k q. q.stamp ≡ (lines k).stamp) w.polls i p e facts.stamps;
+    ballots = at-poll (λ k q. (s : Seat) (c : Bool) → (ballot q s).vote ≡ Some c → IsBacked w k s c) w.polls i p f facts.ballots;
+  }
+
+  to-poll-facts : (w : World) (i : ℕ) (p : Post) → Has p w.sent → Facts lines w → Facts lines (to_poll w i (poll_takes (w.polls i) p.from p.message))
+  to-poll-facts w i p come facts =
+      let g : PollGiven = poll_takes (w.polls i) p.from p.message in
+      let h : polls.Hears p.from p.message (w.polls i) g.poll = takes-hears p.from p.message (w.polls i) in
+      sent-facts lines (with_poll w i g.poll) (posts (broker i) g.outs) (broker-post (with_poll w i g.poll) i g.outs)
+      (poll-facts w i g.poll (h.stamp ∙ facts.stamps i)
+      (λ s c k. elim (h.cause s c k) [
+        | inl old ↦ facts.ballots i s c old
+        | inr new ↦ (let d : Decision = new.0 in
+            let from_there : p.from ≡ member s = new.2 in
+            let decided : p.message ≡ message.Decided (lines i).stamp d = new.3 ∙ ap (λ z. message.Decided z d) (facts.stamps i) in
+            let there : p ≡ post (member s) (said p.to (lines i).stamp d) =
+            ap (λ z. let r : Post = record { from = z; to = p.to; message = p.message } in r) from_there
+            ∙ ap (λ z. let r : Post = record { from = member s; to = p.to; message = z } in r) decided in
+            (d, new.1, facts.sent s p.to (lines i).stamp d (subst (λ z. Has z w.sent) there come)))
+      ]) facts)
+
+  to-seat-facts : (w : World) (from : NodeId) (m : Message) (s : Option Seat) → Facts lines w → Facts lines (to_seat w from m s)
+  to-seat-facts w from m None facts = facts
+  to-seat-facts w from m (Some s) facts =
+      let x : Member = w.members s in
+      member-facts lines w s (took x from m) (turned-facts x x.moment (on_message (whole x) x.moment from m) (message-says (whole x) x.moment from m) (facts.members s)) (turned-grows x x.moment (on_message (whole x) x.moment from m)) facts
+
+  to-kind-facts : (w : World) (p : Post) (k : NodeKind) → Has p w.sent → Facts lines w → Facts lines (delivered_to w p k)
+  to-kind-facts w p kind.Broker come facts = to-poll-facts w p.to.number p come facts
+  to-kind-facts w p kind.Repository come facts = to-seat-facts w p.from p.message (seat_at p.to.number) facts
+
+  delivered-facts : (w : World) (p : Option Post) → ((q : Post) → p ≡ Some q → Has q w.sent) → Facts lines w → Facts lines (delivered w p)
+  delivered-facts w None come facts = facts
+  delivered-facts w (Some p) come facts = to-kind-facts w p p.to.kind (come p refl) facts
+
+  shut-sent : (w : World) (s : Seat) → Facts lines w → (k : Seat) (to : NodeId) (x : StampParts) (d : Decision)
+      → Has (post (member k) (said to x d)) (posts (member s) (w.members s).owed) → voted (gated (with_member w s (shut (w.members s))) k) x ≡ Some d
+  shut-sent w s facts k to x d h =
+      let p : (member k ≡ member s) × Has (said to x d) (w.members s).owed = has-post (member s) (w.members s).owed (post (member k) (said to x d)) h in
+      subst (λ z. voted (gated (with_member w s (shut (w.members s))) z) x ≡ Some d) (sym (same-seat k s p.0))
+      (subst (λ z. voted z.gated x ≡ Some d) (sym (at-own w.members s (shut (w.members s)))) ((facts.members s).answers to x d p.1))
+
+  step-facts : (w : World) (e : Event) → Facts lines w → Facts lines (after w e)
+  step-facts w (Goes i) facts = sent-facts lines w (posts (broker i) (poll_goes (w.polls i))) (broker-post w i (poll_goes (w.polls i))) facts
+  step-facts w (Delivered k) facts = delivered-facts w (post_at w.sent k) (λ q h. at-post w.sent k q h) facts
+  step-facts w (Gates s) facts =
+      let x : Member = w.members s in
+      sent-facts lines (with_member w s (shut x)) (posts (member s) x.owed) (shut-sent w s facts)
+      (member-facts lines w s (shut x) (opened-facts x.moment (whole x) (facts.members s).once) (record { more = x.fresh; grown = refl }) facts)
+  step-facts w (Crashes s kept moment) facts =
+      let x : Member = w.members s in
+      member-facts lines w s (crashed x kept moment) (opened-facts moment (x.gated ++ take kept x.fresh) (kept-once x kept (facts.members s).once)) (record { more = take kept x.fresh; grown = refl }) facts
+  step-facts w (Hears s moment) facts =
+      let x : Member = w.members s in
+      member-facts lines w s (heard x moment) (turned-facts x moment (on_moment (whole x) moment) (moment-says (whole x) moment) (facts.members s)) (turned-grows x moment (on_moment (whole x) moment)) facts
+  step-facts w (Polled i moment) facts = sent-facts lines w (posts (broker i) (poll_hears (w.polls i))) (broker-post w i (poll_hears (w.polls i))) facts
+
+  pub run-facts : (w : World) (es : List Event) → Facts lines w → Facts lines (run w es)
+  run-facts w [] facts = facts
+  run-facts w (e ∷ es) facts = run-facts (after w e) es (step-facts w e facts)
+
+  pub founded-facts : (start : Seat → ℕ) → Facts lines (founded start lines)
+  founded-facts start = record {
+    members = λ s. opened-facts (start s) [] tidy-none;
+    sent = λ s to x d h. absurd h;
+    stamps = λ i. refl;
+    ballots = λ i s c. elim s as (λ s. (ballot (new_poll i (lines i)) s).vote ≡ Some c → IsBacked (founded start lines) i s c) [ First ↦ λ h. absurd (cc h) | Second ↦ λ h. absurd (cc h) | Third ↦ λ h. absurd (cc h) ];
+  }
+
+  pub reached-facts : (start : Seat → ℕ) (es : List Event) → Facts lines (reached start lines es)
+  reached-facts start es = run-facts (founded start lines) es (founded-facts start)
+
+-- ---- what never ends
+
+poll-onward : (w : World) (i : ℕ) (p : PollState) → ((s : Seat) (c : Bool) → (ballot (w.polls i) s).vote ≡ Some c → (ballot p s).vote ≡ Some c) → Onward w (with_poll w i p)
+poll-onward w i p f = record {
+  logs = λ s. same-log (w.members s);
+  votes = at-poll (λ k q. (s : Seat) (c : Bool) → (ballot (w.polls k) s).vote ≡ Some c → (ballot q s).vote ≡ Some c) w.polls i p f (λ k s c h. h);
+}
+
+sent-onward : (old w : World) (more : List Post) → Onward old w → Onward old (with_sent w more)
+sent-onward old w more h = record { logs = h.logs; votes = h.votes }
+
+seat-onward : (w : World) (from : NodeId) (m : Message) (s : Option Seat) → Onward w (to_seat w from m s)
+seat-onward w from m None = onward-same w
+seat-onward w from m (Some s) =
+    let x : Member = w.members s in
+    member-onward w s (took x from m) (turned-grows x x.moment (on_message (whole x) x.moment from m))
+
+kind-onward : (w : World) (p : Post) (k : NodeKind) → Onward w (delivered_to w p k)
+kind-onward w p kind.Broker =
+    let i : ℕ = p.to.number in
+    let g : PollGiven = poll_takes (w.polls i) p.from p.message in
+    sent-onward w (with_poll w i g.poll) (posts (broker i) g.outs) (poll-onward w i g.poll (takes-hears p.from p.message (w.polls i)).stays)
+kind-onward w p kind.Repository = seat-onward w p.from p.message (seat_at p.to.number)
+
+delivered-onward : (w : World) (p : Option Post) → Onward w (delivered w p)
+delivered-onward w None = onward-same w
+delivered-onward w (Some p) = kind-onward w p p.to.kind
+
+step-onward : (w : World) (e : Event) → Onward w (after w e)
+step-onward w (Goes i) = sent-onward w w (posts (broker i) (poll_goes (w.polls i))) (onward-same w)
+step-onward w (Delivered k) = delivered-onward w (post_at w.sent k)
+step-onward w (Gates s) =
+    let x : Member = w.members s in
+    sent-onward w (with_member w s (shut x)) (posts (member s) x.owed) (member-onward w s (shut x) (record { more = x.fresh; grown = refl }))
+step-onward w (Crashes s kept moment) =
+    let x : Member = w.members s in
+    member-onward w s (crashed x kept moment) (record { more = take kept x.fresh; grown = refl })
+step-onward w (Hears s moment) =
+    let x : Member = w.members s in
+    member-onward w s (heard x moment) (turned-grows x moment (on_moment (whole x) moment))
+step-onward w (Polled i moment) = sent-onward w w (posts (broker i) (poll_hears (w.polls i))) (onward-same w)
+
+pub run-onward : (w : World) (es : List Event) → Onward w (run w es)
+run-onward w [] = onward-same w
+run-onward w (e ∷ es) = onward-on w (after w e) (run (after w e) es) (step-onward w e) (run-onward (after w e) es)
+
+run-append : (w : World) (es more : List Event) → run w (es ++ more) ≡ run (run w es) more
+run-append w [] more = refl
+run-append w (e ∷ es) more = run-append (after w e) es more
+
+-- ---- the law
+
+module _ (start : Seat → ℕ) (lines : ℕ → Line) where
+  abbrev at : List Event → World
+  at es = reached start lines es
+
+  -- a vote that a poll holds stands in that member's durable log
+  backed : (es : List Event) (i : ℕ) (s : Seat) (c : Bool) → (ballot ((at es).polls i) s).vote ≡ Some c → IsDecided (gated (at es) s) (lines i).stamp c
+  backed es i s c h =
+      let b : IsBacked lines (at es) i s c = (reached-facts lines start es).ballots i s c h in
+      (b.0, b.1, voted-has (gated (at es) s) (lines i).stamp b.0 b.2)
+
+  pub later-held : (es more : List Event) (i : ℕ) (c : Bool) → held ((at es).polls i) ≡ Some c → held ((at (es ++ more)).polls i) ≡ Some c
+  later-held es more i c h = subst (λ z. held (z.polls i) ≡ Some c) (sym (run-append (founded start lines) es more))
+      (held-stays ((at es).polls i) ((run (at es) more).polls i) c ((run-onward (at es) more).votes i) h)
+
+  two-now : (es : List Event) (i : ℕ) (c : Bool) → held ((at es).polls i) ≡ Some c → TwoDecided (at es) (lines i).stamp c
+  two-now es i c h =
+      let t : Two (votes_of ((at es).polls i)) c = held-two ((at es).polls i) c h in
+      record { one = t.one; other = t.other; apart = t.apart; one_decided = backed es i t.one c t.one_vote; other_decided = backed es i t.other c t.other_vote }
+
+  pub two-decided : (es more : List Event) (i : ℕ) (c : Bool) → held ((at es).polls i) ≡ Some c → TwoDecided (at (es ++ more)) (lines i).stamp c
+  two-decided es more i c h = two-now (es ++ more) i c (later-held es more i c h)
+
+  pub decided-once : (es : List Event) (m : Seat) (s : StampParts) (d e : Decision) → Has (effect.Decide s d) (gated (at es) m) → Has (effect.Decide s e) (gated (at es) m) → d ≡ e
+  decided-once es m s d e h k =
+      let x : Member = (at es).members m in
+      let o : Once (whole x) = ((reached-facts lines start es).members m).once.once in
+      some-same (voted (whole x) s) d e (o s d (has-left x.gated x.fresh (effect.Decide s d) h)) (o s e (has-left x.gated x.fresh (effect.Decide s e) k))
+
+  pub decided-single : (es : List Event) (m : Seat) (a b : List Effect) (s : StampParts) (d e : Decision) → gated (at es) m ≡ a ++ effect.Decide s d ∷ b → Has (effect.Decide s e) b → ⊥
+  decided-single es m a b s d e is h =
+      let x : Member = (at es).members m in
+      tidy-apart a b s d e (subst Single is (single-front x.gated x.fresh ((reached-facts lines start es).members m).once.single)) h
+
+  one-way : (es : List Event) (m : Seat) (s : StampParts) (c d : Bool) → IsDecided (gated (at es) m) s c → IsDecided (gated (at es) m) s d → c ≡ d
+  one-way es m s c d h k = sym h.1 ∙ ap is_commit (decided-once es m s h.0 k.0 h.2 k.2) ∙ k.1
+
+  two-agree : (es : List Event) (s : StampParts) (c d : Bool) → TwoDecided (at es) s c → TwoDecided (at es) s d → c ≡ d
+  two-agree es s c d a b = elim (shared a.one a.other b.one b.other a.apart b.apart) [
+    | inl h ↦ elim h [
+      | inl e ↦ one-way es b.one s c d (subst (λ z. IsDecided (gated (at es) z) s c) e a.one_decided) b.one_decided
+      | inr e ↦ one-way es b.other s c d (subst (λ z. IsDecided (gated (at es) z) s c) e a.one_decided) b.other_decided
+    ]
+    | inr h ↦ elim h [
+      | inl e ↦ one-way es b.one s c d (subst (λ z. IsDecided (gated (at es) z) s c) e a.other_decided) b.one_decided
+      | inr e ↦ one-way es b.other s c d (subst (λ z. IsDecided (gated (at es) z) s c) e a.other_decided) b.other_decided
+    ]
+  ]
+
+  pub no-two : (es more : List Event) (i j : ℕ) (c d : Bool) → (lines i).stamp ≡ (lines j).stamp
+      → held ((at es).polls i) ≡ Some c → held ((at (es ++ more)).polls j) ≡ Some d → c ≡ d
+  no-two es more i j c d e h k =
+      two-agree (es ++ more) (lines j).stamp c d (subst (λ z. TwoDecided (at (es ++ more)) z c) e (two-decided es more i c h)) (two-now (es ++ more) j d k)
+
+-- ---- one call after the other
+
+pub facts-two : (lines : ℕ → Line) (w : World) → Facts lines w → (i : ℕ) (c : Bool) → held (w.polls i) ≡ Some c → TwoDecided w (lines i).stamp c
+facts-two lines w facts i c h =
+    let t : Two (votes_of (w.polls i)) c = held-two (w.polls i) c h in
+    record { one = t.one; other = t.other; apart = t.apart; one_decided = stands t.one t.one_vote; other_decided = stands t.other t.other_vote }
+  where
+    stands : (s : Seat) → (ballot (w.polls i) s).vote ≡ Some c → IsDecided (gated w s) (lines i).stamp c
+    stands s v = let b : IsBacked lines w i s c = facts.ballots i s c v in (b.0, b.1, voted-has (gated w s) (lines i).stamp b.0 b.2)
+
+facts-one : (lines : ℕ → Line) (w : World) → Facts lines w → (m : Seat) (s : StampParts) (c d : Bool) → IsDecided (gated w m) s c → IsDecided (gated w m) s d → c ≡ d
+facts-one lines w facts m s c d h k =
+    let x : Member = w.members m in
+    let o : Once (whole x) = (facts.members m).once.once in
+    let e : h.0 ≡ k.0 = some-same (voted (whole x) s) h.0 k.0 (o s h.0 (has-left x.gated x.fresh (effect.Decide s h.0) h.2)) (o s k.0 (has-left x.gated x.fresh (effect.Decide s k.0) k.2)) in
+    sym h.1 ∙ ap is_commit e ∙ k.1
+
+facts-agree : (lines : ℕ → Line) (w : World) → Facts lines w → (s : StampParts) (c d : Bool) → TwoDecided w s c → TwoDecided w s d → c ≡ d
+facts-agree lines w facts s c d a b = elim (shared a.one a.other b.one b.other a.apart b.apart) [
+  | inl h ↦ elim h [
+    | inl e ↦ facts-one lines w facts b.one s c d (subst (λ z. IsDecided (gated w z) s c) e a.one_decided) b.one_decided
+    | inr e ↦ facts-one lines w facts b.other s c d (subst (λ z. IsDecided (gated w z) s c) e a.one_decided) b.other_decided
+  ]
+  | inr h ↦ elim h [
+    | inl e ↦ facts-one lines w facts b.one s c d (subst (λ z. IsDecided (gated w z) s c) e a.other_decided) b.one_decided
+    | inr e ↦ facts-one lines w facts b.other s c d (subst (λ z. IsDecided (gated w z) s c) e a.other_decided) b.other_decided
+  ]
+]
+
+abbrev Onces : Logs → Type 0
+Onces logs = (s : Seat) → Tidy (logs s)
+
+entered-facts : (start : Seat → ℕ) (logs : Logs) (lines : ℕ → Line) → Onces logs → Facts lines (entered start logs lines)
+entered-facts start logs lines once = record {
+  members = λ s. opened-facts (start s) (logs s) (once s);
+  sent = λ s to x d h. absurd h;
+  stamps = λ i. refl;
+  ballots = λ i s c. elim s as (λ s. (ballot (new_poll i (lines i)) s).vote ≡ Some c → IsBacked lines (entered start logs lines) i s c) [ First ↦ λ h. absurd (cc h) | Second ↦ λ h. absurd (cc h) | Third ↦ λ h. absurd (cc h) ];
+}
+
+ended-facts : (logs : Logs) (c : Call) → Onces logs → Facts c.lines (ended logs c)
+ended-facts logs c once = run-facts c.lines (entered c.start logs c.lines) c.events (entered-facts c.start logs c.lines once)
+
+left-onces : (logs : Logs) (c : Call) → Onces logs → Onces (left logs c)
+left-onces logs c once s = kept-once ((ended logs c).members s) (c.kept s) ((ended-facts logs c once).members s).once
+
+after-onces : (logs : Logs) (cs : List Call) → Onces logs → Onces (logs_after logs cs)
+after-onces logs [] once = once
+after-onces logs (c ∷ cs) once = after-onces (left logs c) cs (left-onces logs c once)
+
+-- what stands when a call begins stands in its durable logs
+entered-has : (logs : Logs) (c : Call) (s : Seat) (f : Effect) → Has f (logs s) → Has f (gated (ended logs c) s)
+entered-has logs c s f h =
+    let g : Grows (opened (c.start s) (logs s)) ((ended logs c).members s) = (run-onward (entered c.start logs c.lines) c.events).logs s in
+    subst (Has f) (sym g.grown) (has-left (logs s) g.more f h)
+
+left-has : (logs : Logs) (c : Call) (s : Seat) (f : Effect) → Has f (gated (ended logs c) s) → Has f (left logs c s)
+left-has logs c s f h = has-left (gated (ended logs c) s) (take (c.kept s) ((ended logs c).members s).fresh) f h
+
+after-has : (logs : Logs) (cs : List Call) (s : Seat) (f : Effect) → Has f (logs s) → Has f (logs_after logs cs s)
+after-has logs [] s f h = h
+after-has logs (c ∷ cs) s f h = after-has (left logs c) cs s f (left-has logs c s f (entered-has logs c s f h))
+
+after-append : (logs : Logs) (a b : List Call) → logs_after logs (a ++ b) ≡ logs_after (logs_after logs a) b
+after-append logs [] b = refl
+after-append logs (c ∷ a) b = after-append (left logs c) a b
+
+later-two : (logs : Logs) (c d : Call) (between : List Call) (s : StampParts) (v : Bool) → TwoDecided (ended logs c) s v → TwoDecided (ended (logs_after logs (c ∷ between)) d) s v
+later-two logs c d between s v t = record { one = t.one; other = t.other; apart = t.apart; one_decided = later t.one t.one_decided; other_decided = later t.other t.other_decided }
+  where
+    later : (m : Seat) → IsDecided (gated (ended logs c) m) s v → IsDecided (gated (ended (logs_after logs (c ∷ between)) d) m) s v
+    later m h = (h.0, h.1, entered-has (logs_after logs (c ∷ between)) d m (effect.Decide s h.0) (after-has (left logs c) between m (effect.Decide s h.0) (left-has logs c m (effect.Decide s h.0) h.2)))
+
+-- two polls of one stamp, in whatever calls
+pub no-two-calls : (before between : List Call) (c d : Call) (i j : ℕ) (x y : Bool) → (c.lines i).stamp ≡ (d.lines j).stamp
+    → held ((ended (logs_after no_logs before) c).polls i) ≡ Some x → held ((ended (logs_after no_logs (before ++ c ∷ between)) d).polls j) ≡ Some y → x ≡ y
+no-two-calls before between c d i j x y e h k =
+    let logs : Logs = logs_after no_logs before in
+    let next : Logs = logs_after logs (c ∷ between) in
+    let once : Onces logs = after-onces no_logs before (λ s. tidy-none) in
+    let later : Onces next = after-onces logs (c ∷ between) once in
+    let a : TwoDecided (ended next d) (d.lines j).stamp x = subst (λ z. TwoDecided (ended next d) z x) e (later-two logs c d between (c.lines i).stamp x (facts-two c.lines (ended logs c) (ended-facts logs c once) i x h)) in
+    let b : TwoDecided (ended next d) (d.lines j).stamp y = facts-two d.lines (ended next d) (ended-facts next d later) j y
+    (subst (λ z. held ((ended z d).polls j) ≡ Some y) (after-append no_logs before (c ∷ between)) k) in
+    facts-agree d.lines (ended next d) (ended-facts next d later) (d.lines j).stamp x y a b

@@ -1,0 +1,6 @@
+use Rattle.std.proofs.Common.{◌≡◌, take}
+use Rattle.record_votes.specs.Members.{own}
+use Rattle.record_votes.proofs.owned.own_of.Given as goal
+
+abbrev pub invariant-loop-effect : goal.invariant-loop-effect
+invariant-loop-effect l = l.owned.items ≡ own (take l.effect-index l.effects)

@@ -1,7 +1,0 @@
-use Rattle.std.proofs.Common.{reverse, take}
-use Rattle.repository_core.specs.Opening.{AreBegun}
-use Rattle.repository_core.proofs.openings.open_records.Given as goal
-
--- those of the log so far
-abbrev pub invariant-loop-effect : goal.invariant-loop-effect
-invariant-loop-effect l = AreBegun (reverse (take l.effect-index l.effects)) l.records

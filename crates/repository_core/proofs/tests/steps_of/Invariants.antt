@@ -1,6 +1,0 @@
-use Rattle.std.proofs.Common.{◌≡◌, true}
-use Rattle.repository_core.proofs.tests.steps_of.Given as goal
-
--- no call has failed
-abbrev pub invariant-loop-place : goal.invariant-loop-place
-invariant-loop-place l = l.core.whole ≡ true

@@ -1,0 +1,7 @@
+use Rattle.std.proofs.Common.{reverse, take}
+use Rattle.repository_log.specs.Opening.{AreBegun}
+use Rattle.repository_log.proofs.records.open_records.Given as goal
+
+-- those of the log so far
+abbrev pub invariant-loop-effect : goal.invariant-loop-effect
+invariant-loop-effect l = AreBegun (reverse (take l.effect-index l.effects)) l.records

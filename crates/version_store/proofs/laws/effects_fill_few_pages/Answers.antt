@@ -1,0 +1,8 @@
+use Rattle.version_store.proofs.FillingLemmas.{filling-most, filling-one}
+use Rattle.version_store.proofs.laws.effects_fill_few_pages.Goals as goal
+
+pub returns-clause-most : goal.returns-clause-most
+returns-clause-most c = filling-most
+
+pub returns-clause-one : goal.returns-clause-one
+returns-clause-one c = filling-one

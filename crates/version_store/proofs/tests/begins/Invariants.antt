@@ -1,6 +1,0 @@
-use Rattle.std.specs.Prelude.{All}
-use Rattle.version_store.specs.Filling.{HasBytes}
-use Rattle.version_store.proofs.tests.begins.Given as goal
-
-abbrev pub invariant-loop-deadline : goal.invariant-loop-deadline
-invariant-loop-deadline l = record { good : All HasBytes l.effects.items }

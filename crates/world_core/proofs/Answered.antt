@@ -1,0 +1,331 @@
+-- In a legal trace each refusal of a write that was sent answers a Take of that write.
+use Rattle.std.proofs.Common.{slice_get, suc, zero, inr, inl, ◌≡◌, ℕ, ◌==◌, Bool, true, false, ◌&&◌, List, [], ◌∷◌, ◌++◌, append-nil, append_assoc, map, refl, sym, ◌∙◌, ap, subst, Option, Some, None, if◌then◌else◌}
+use Rattle.std.proofs.lemmas.Bool.{eqb-true}
+use Rattle.std.specs.Prelude.{reverse}
+use Rattle.std.specs.List.{filter}
+use Rattle.pseudo_time.specs.Lists.{Every, Has}
+use Rattle.pseudo_time.proofs.ListLemmas.{every-append, every-map, every-has, has-left}
+use Rattle.pseudo_time.specs.TimeParts.{TimeParts}
+use Rattle.pseudo_time.specs.declared.nodes.NodeId.{NodeId}
+use Rattle.pseudo_time.specs.declared.nodes.NodeKind.{NodeKind}
+use Rattle.pseudo_time.specs.declared.nodes.NodeKind.TheVariants.{Repository, Broker}
+use Rattle.value_form.specs.declared.objects.ObjectId.{ObjectId}
+use Rattle.value_form.specs.declared.values.Value.{Value}
+use Rattle.value_form.specs.declared.acts.ActSpec.{ActSpec}
+use Rattle.effect_form.specs.declared.effects.Effect.{Effect}
+use Rattle.message_form.specs.declared.messages.Message.{Message}
+use Rattle.message_form.specs.declared.messages.Message.TheVariants as message
+use Rattle.turn_form.specs.declared.turns.Out.{Out}
+use Rattle.turn_form.specs.Posts.{Post, posts}
+use Rattle.stream_port.specs.declared.fates.Fate.{Fate}
+use Rattle.pseudo_time.specs.Nodes.{same_node, kind_number, is_broker}
+use Rattle.object_history.specs.declared.steps.WriteStep.{WriteStep}
+use Rattle.object_history.specs.declared.steps.WriteStep.TheVariants as write
+use Rattle.object_history.specs.Answers.{write_step}
+use Rattle.serial_model.specs.Questions.{Tree}
+use Rattle.repository_core.specs.Logs.{marks}
+use Rattle.repository_core.specs.Rows.{accepts, is_broker_of}
+use Rattle.repository_core.specs.Turns as turns
+use Rattle.world_core.specs.declared.entries.Entry.{Entry}
+use Rattle.world_core.specs.declared.entries.Entry.TheVariants.{Take, Go, Learn, Hear, Gate, Crash, Down, Tick}
+use Rattle.world_core.specs.Nodes.{Mind, Input, gives, repository, broker, leaves}
+use Rattle.world_core.specs.Nodes.Input.{Going, Taking, Learning, Hearing}
+use Rattle.world_core.specs.Walks.{Base, Life, World, Sending, numbered, whole, told, took, hears, lives_on, life_after, names, leaving, sendings_after, step, start_world, walk_from, walk, sent_by}
+use Rattle.world_core.specs.Legal.{Rule, Meets}
+use Rattle.world_core.specs.Answered.{WasAnswered}
+use Rattle.world_core.proofs.Lives.{sent-grows}
+use Rattle.world_core.proofs.Refusals.{Says, Fine, OfWrite, on-message, on-learn, on-moment}
+
+-- ---- nodes
+
+and-left : (a b : Bool) → (a && b) ≡ true → a ≡ true
+and-left true b h = refl
+and-left false b h = cc
+
+and-right : (a b : Bool) → (a && b) ≡ true → b ≡ true
+and-right true b h = h
+and-right false b h = cc
+
+same-kind : (a b : NodeKind) → (kind_number a == kind_number b) ≡ true → a ≡ b
+same-kind Repository Repository h = refl
+same-kind Repository Broker h = cc
+same-kind Broker Repository h = cc
+same-kind Broker Broker h = refl
+
+node-is : (a b : NodeId) → same_node a b ≡ true → a ≡ b
+node-is a b h =
+    let k = same-kind a.kind b.kind (and-left (kind_number a.kind == kind_number b.kind) (a.number == b.number) h) in
+    let n = eqb-true a.number b.number (and-right (kind_number a.kind == kind_number b.kind) (a.number == b.number) h) in
+    λ i. record { kind = k i; number = n i }
+
+broker-of : (n : ℕ) (k : NodeKind) (i : ℕ) → (is_broker k && (i == n)) ≡ true → ◌≡◌ {A = NodeId} (record { kind = k; number = i }) (broker n)
+broker-of n Repository i h = cc
+broker-of n Broker i h = ap broker (eqb-true i n h)
+
+-- ---- what a repository gives
+
+module _ (P : TimeParts → WriteStep → Type 0) (script : List ℕ → Tree) (run : ℕ) (acts : List ActSpec) (r : ℕ) where
+  -- of a write that is taken the answer has P
+  abbrev MayTell : List Effect → Input → Type 0
+  MayTell log Going = Unit {0}
+  MayTell log (Taking from m) = accepts r from m ≡ true → OfWrite P (reverse log) m
+  MayTell log (Learning s c) = Unit {0}
+  MayTell log (Hearing t) = Unit {0}
+
+  gives-fine : (log : List Effect) (mind : Mind) (input : Input) → MayTell log input → Fine P (gives script run acts (repository r) log mind input).outs
+  unfolding gives turns.gives
+  gives-fine log mind Going k = tt
+  gives-fine log mind (Taking from m) k = on-message P (turns.hand_at r (reverse log) mind.hands) from m tt k
+  gives-fine log mind (Learning s c) k = on-learn P (turns.hand_at r (reverse log) mind.hands) s c tt
+  gives-fine log mind (Hearing t) k = on-moment P (turns.hand_at r (reverse log) mind.hands) t tt
+
+module _ (b : Base) where
+  -- the repository answered so to a write that it took
+  abbrev pub Reason : List Entry → ℕ → TimeParts → WriteStep → Type 0
+  Reason es r x step = (o : ObjectId) × (v : Value) × (o.repository ≡ r) × WasAnswered b es x o v step
+
+  reason-more : (es : List Entry) (e : Entry) (r : ℕ) (x : TimeParts) (s : WriteStep) → Reason es r x s → Reason (es ++ e ∷ []) r x s
+  reason-more es e r x s (o, v, q, a) = (
+    o,
+    v,
+    q,
+    record {
+      before = a.before;
+      number = a.number;
+      after = a.after ++ e ∷ [];
+      sending = a.sending;
+      here = ap (λ l. l ++ e ∷ []) a.here ∙ append_assoc a.before (Take (repository o.repository) a.number ∷ a.after) (e ∷ []);
+      sent = a.sent;
+      is_write = a.is_write;
+      answer = a.answer;
+    },
+  )
+
+  says-more : (es : List Entry) (e : Entry) (r : ℕ) (m : Message) → Says (Reason es r) m → Says (Reason (es ++ e ∷ []) r) m
+  says-more es e r (message.LaterRead t x) h = reason-more es e r t (write.LaterRead x) h
+  says-more es e r (message.LaterVersion t x) h = reason-more es e r t (write.LaterVersion x) h
+  says-more es e r (message.Begin s t) h = tt
+  says-more es e r (message.Begun s) h = tt
+  says-more es e r (message.Read t o) h = tt
+  says-more es e r (message.Value t v) h = tt
+  says-more es e r (message.Write t o v) h = tt
+  says-more es e r (message.Stored t) h = tt
+  says-more es e r (message.Ended t) h = tt
+  says-more es e r (message.Commit s) h = tt
+  says-more es e r (message.Withdraw s) h = tt
+  says-more es e r (message.Decided s d) h = tt
+  says-more es e r (message.Ask s) h = tt
+  says-more es e r (message.Tell s c) h = tt
+
+  fine-more : (es : List Entry) (e : Entry) (r : ℕ) (outs : List Out) → Fine (Reason es r) outs → Fine (Reason (es ++ e ∷ []) r) outs
+  fine-more es e r outs h = every-map (λ (o : Out). Says (Reason es r) o.message) (λ (o : Out). Says (Reason (es ++ e ∷ []) r) o.message) (λ o k. says-more es e r o.message k) outs h
+
+  -- of a message that a repository sent
+  abbrev pub FineSent : List Entry → Sending → Type 0
+  FineSent es s = (r : ℕ) → s.post.from ≡ repository r → Says (Reason es r) s.post.message
+
+  pub record Inv (es : List Entry) (w : World) : Type 0 where
+    pub outs : (r : ℕ) → Fine (Reason es r) (w.life (repository r)).outs
+    pub sent : Every (FineSent es) w.sendings
+
+  -- ---- one entry
+
+  module _ (fates : List Fate) (es : List Entry) (w : World) (at : w ≡ walk b es) (inv : Inv es w) where
+    -- a write that the repository takes now
+    of-write : (r number : ℕ) (s : Sending) (from : NodeId) (m : Message) → numbered w.sendings number ≡ Some s → s.post.from ≡ from → s.post.to ≡ repository r → s.post.message ≡ m →
+        accepts r from m ≡ true → OfWrite (Reason (es ++ Take (repository r) number ∷ []) r) (reverse (whole (w.life (repository r)))) m
+    of-write r number s from (message.Write t o v) n f to is a =
+        let rep : o.repository ≡ r = eqb-true o.repository r (and-right (is_broker_of t.stamp.broker from) (o.repository == r) a) in
+        let fr : from ≡ broker t.stamp.broker = broker-of t.stamp.broker from.kind from.number (and-left (is_broker_of t.stamp.broker from) (o.repository == r) a) in
+        let to' : s.post.to ≡ repository o.repository = to ∙ ap repository (sym rep) in
+        let here' : es ++ Take (repository r) number ∷ [] ≡ es ++ Take (repository o.repository) number ∷ [] = ap (λ k. es ++ Take (repository k) number ∷ []) (sym rep) in (
+          o,
+          v,
+          rep,
+          record {
+            before = es;
+            number = number;
+            after = [];
+            sending = s;
+            here = here';
+            sent = ap (λ (u : World). numbered u.sendings number) (sym at) ∙ n;
+            is_write = λ i. record { from = (f ∙ fr) i; to = to' i; message = is i };
+            answer = ap (λ (u : World). write_step (marks (reverse (whole (u.life (repository o.repository))))) o t v) (sym at) ∙ ap (λ k. write_step (marks (reverse (whole (w.life (repository k))))) o t v) rep;
+          },
+        )
+    of-write r number s from (message.Begin x t) n f to is a = tt
+    of-write r number s from (message.Begun x) n f to is a = tt
+    of-write r number s from (message.Read t o) n f to is a = tt
+    of-write r number s from (message.Value t v) n f to is a = tt
+    of-write r number s from (message.Stored t) n f to is a = tt
+    of-write r number s from (message.LaterRead t x) n f to is a = tt
+    of-write r number s from (message.LaterVersion t x) n f to is a = tt
+    of-write r number s from (message.Ended t) n f to is a = tt
+    of-write r number s from (message.Commit x) n f to is a = tt
+    of-write r number s from (message.Withdraw x) n f to is a = tt
+    of-write r number s from (message.Decided x d) n f to is a = tt
+    of-write r number s from (message.Ask x) n f to is a = tt
+    of-write r number s from (message.Tell x c) n f to is a = tt
+
+    -- ---- lives
+
+    abbrev Then : Entry → ℕ → TimeParts → WriteStep → Type 0
+    Then e r = Reason (es ++ e ∷ []) r
+
+    told-fine : (e : Entry) (r : ℕ) (l : Life) (input : Input) → Fine (Then e r) l.outs → MayTell (Then e r) b.script b.run b.acts r (whole l) input → Fine (Then e r) (told b (repository r) l input).outs
+    told-fine e r l input k m =
+        every-append (λ (o : Out). Says (Then e r) o.message) l.outs (gives b.script b.run b.acts (repository r) (whole l) l.mind input).outs k
+        (gives-fine (Then e r) b.script b.run b.acts r (whole l) l.mind input m)
+
+    hears-fine : (e : Entry) (r : ℕ) (l : Life) (o : Option ℕ) → Fine (Then e r) l.outs → Fine (Then e r) (hears b (repository r) l o).outs
+    hears-fine e r l None k = k
+    hears-fine e r l (Some m) k = told-fine e r l (Hearing m) k tt
+
+    took-fine : (r number : ℕ) (s : Sending) → numbered w.sendings number ≡ Some s → s.post.to ≡ repository r →
+        Fine (Then (Take (repository r) number) r) (w.life (repository r)).outs → Fine (Then (Take (repository r) number) r) (took b (repository r) (w.life (repository r)) (Some s)).outs
+    took-fine r number s n to k =
+        told-fine (Take (repository r) number) r (w.life (repository r)) (Taking s.post.from s.post.message) k (of-write r number s s.post.from s.post.message n refl to refl)
+
+    lives-fine : (r : ℕ) (e : Entry) → names (repository r) e ≡ true → Rule b fates w e → Fine (Then e r) (w.life (repository r)).outs → Fine (Then e r) (lives_on b w (repository r) (w.life (repository r)) e).outs
+    lives-fine r (Take node number) h rule k =
+        let is : node ≡ repository r = node-is node (repository r) h in
+        subst (λ (n : NodeId). Fine (Then (Take n number) r) (took b (repository r) (w.life (repository r)) (numbered w.sendings number)).outs) (sym is)
+        (subst (λ (o : Option Sending). Fine (Then (Take (repository r) number) r) (took b (repository r) (w.life (repository r)) o).outs) (sym rule.sent)
+        (took-fine r number rule.sending rule.sent (rule.to ∙ is) (subst (λ (n : NodeId). Fine (Then (Take n number) r) (w.life (repository r)).outs) is k)))
+    lives-fine r (Go node) h rule k = told-fine (Go node) r (w.life (repository r)) Going k tt
+    lives-fine r (Learn node x c) h rule k = told-fine (Learn node x c) r (w.life (repository r)) (Learning x c) k tt
+    lives-fine r (Hear node) h rule k = hears-fine (Hear node) r (w.life (repository r)) w.last k
+    lives-fine r (Gate node) h rule k = tt
+    lives-fine r (Crash node kept) h rule k = tt
+    lives-fine r (Down node cause) h rule k = k
+    lives-fine r (Tick m) h rule k = k
+
+    old-fine : (e : Entry) (r : ℕ) → Fine (Then e r) (w.life (repository r)).outs
+    old-fine e r = fine-more es e r (w.life (repository r)).outs (inv.outs r)
+
+    life-fine : (e : Entry) → Rule b fates w e → (r : ℕ) → Fine (Then e r) (life_after b w e (repository r)).outs
+    life-fine e rule r = by (names (repository r) e) (w.flags (repository r)).known (λ h. lives-fine r e h rule (old-fine e r))
+      where
+        by : (c d : Bool) → (c ≡ true → Fine (Then e r) (lives_on b w (repository r) (w.life (repository r)) e).outs) →
+            Fine (Then e r) (if c && d then lives_on b w (repository r) (w.life (repository r)) e else w.life (repository r)).outs
+        by true true h = h refl
+        by true false h = old-fine e r
+        by false d h = old-fine e r
+
+    -- ---- messages
+
+    old-sent : (e : Entry) → Every (FineSent (es ++ e ∷ [])) w.sendings
+    old-sent e = every-map (FineSent es) (FineSent (es ++ e ∷ [])) (λ s k r f. says-more es e r s.post.message (k r f)) w.sendings inv.sent
+
+    abbrev sent_at : Post → Sending
+    sent_at p = record { post = p; ticks = w.ticks }
+
+    filtered : (P : Out → Type 0) (f : Out → Bool) (outs : List Out) → Every P outs → Every P (filter f outs)
+    filtered P f [] k = tt
+    filtered P f (o ∷ outs) k = by (f o) (filtered P f outs k.1)
+      where
+        by : (c : Bool) → Every P (filter f outs) → Every P (if c then o ∷ filter f outs else filter f outs)
+        by true h = (k.0, h)
+        by false h = h
+
+    posted : (e : Entry) (n : NodeId) (outs : List Out) → ((r : ℕ) → n ≡ repository r → Fine (Then e r) outs) → Every (FineSent (es ++ e ∷ [])) (map sent_at (posts n outs))
+    posted e n [] k = tt
+    posted e n (o ∷ outs) k = ((λ r f. (k r f).0), posted e n outs (λ r f. (k r f).1))
+
+    leaves-fine : (e : Entry) (n : NodeId) → Every (FineSent (es ++ e ∷ [])) (map sent_at (leaving w n))
+    leaves-fine e n = by (w.flags n).known
+      where
+        by : (c : Bool) → Every (FineSent (es ++ e ∷ [])) (map sent_at (if c then posts n (filter (leaves (whole (w.life n))) (w.life n).outs) else []))
+        by true = posted e n (filter (leaves (whole (w.life n))) (w.life n).outs) (λ r f. filtered (λ (o : Out). Says (Then e r) o.message) (leaves (whole (w.life n))) (w.life n).outs
+            (subst (λ (m : NodeId). Fine (Then e r) (w.life m).outs) (sym f) (old-fine e r)))
+        by false = tt
+
+    sent-fine : (e : Entry) → Every (FineSent (es ++ e ∷ [])) (sendings_after w e)
+    sent-fine (Take node number) = old-sent (Take node number)
+    sent-fine (Go node) = old-sent (Go node)
+    sent-fine (Learn node x c) = old-sent (Learn node x c)
+    sent-fine (Hear node) = old-sent (Hear node)
+    sent-fine (Gate node) = every-append (FineSent (es ++ Gate node ∷ [])) w.sendings (map sent_at (leaving w node)) (old-sent (Gate node)) (leaves-fine (Gate node) node)
+    sent-fine (Crash node kept) = old-sent (Crash node kept)
+    sent-fine (Down node cause) = old-sent (Down node cause)
+    sent-fine (Tick m) = old-sent (Tick m)
+
+    step-inv : (e : Entry) → Rule b fates w e → Inv (es ++ e ∷ []) (step b w e)
+    step-inv e rule = record { outs = life-fine e rule; sent = sent-fine e }
+
+  -- ---- a whole walk
+
+  walk-app : (w : World) (es more : List Entry) → walk_from b w (es ++ more) ≡ walk_from b (walk_from b w es) more
+  unfolding walk_from
+  walk-app w [] more = refl
+  walk-app w (e ∷ es) more = walk-app (step b w e) es more
+
+  one-more : (w : World) (e : Entry) → walk_from b w (e ∷ []) ≡ step b w e
+  unfolding walk_from
+  one-more w e = refl
+
+  inv-from : (fates : List Fate) (front : List Entry) (w : World) (es : List Entry) → w ≡ walk b front → Inv front w → Meets b fates w es → Inv (front ++ es) (walk_from b w es)
+  unfolding walk_from Meets
+  inv-from fates front w [] at inv m = subst (λ l. Inv l w) (sym (append-nil front)) inv
+  inv-from fates front w (e ∷ es) at inv m =
+      let next : step b w e ≡ walk b (front ++ e ∷ []) = ap (λ u. step b u e) at ∙ sym (one-more (walk b front) e) ∙ sym (walk-app (start_world b) front (e ∷ [])) in
+      subst (λ l. Inv l (walk_from b (step b w e) es)) (append_assoc front (e ∷ []) es)
+      (inv-from fates (front ++ e ∷ []) (step b w e) es next (step-inv fates front w at inv e m.0) m.1)
+
+  start-inv : Inv [] (start_world b)
+  start-inv = record { outs = λ r. tt; sent = tt }
+
+  here-at : start_world b ≡ walk b []
+  unfolding walk_from
+  here-at = refl
+
+  pub walked : (fates : List Fate) (es : List Entry) → Meets b fates (start_world b) es → Inv es (walk b es)
+  walked fates es m = inv-from fates [] (start_world b) es here-at start-inv m
+
+-- ---- of what was sent
+
+has-map : {X Y : Type 0} (f : X → Y) (xs : List X) (y : Y) → Has y (map f xs) → (x : X) × Has x xs × (f x ≡ y)
+has-map f [] y h = absurd h
+has-map f (x ∷ xs) y (inl e) = (x, inl refl, e)
+has-map f (x ∷ xs) y (inr h) = let r = has-map f xs y h in (r.0, inr r.1, r.2)
+
+map-has : {X Y : Type 0} (f : X → Y) (xs : List X) (x : X) → Has x xs → Has (f x) (map f xs)
+map-has f [] x h = absurd h
+map-has f (y ∷ xs) x (inl e) = inl (ap f e)
+map-has f (y ∷ xs) x (inr h) = inr (map-has f xs x h)
+
+slice-has : {X : Type 0} (xs : List X) (i : ℕ) (x : X) → slice_get xs i ≡ Some x → Has x xs
+slice-has [] i x h = absurd (none i h)
+  where
+    none : (i : ℕ) → slice_get [] i ≡ Some x → ⊥
+    none zero h = absurd (cc h)
+    none (suc i) h = absurd (cc h)
+slice-has (y ∷ xs) zero x h = inl (cc h)
+slice-has (y ∷ xs) (suc i) x h = inr (slice-has xs i x h)
+
+numbered-has : {X : Type 0} (xs : List X) (k : ℕ) (x : X) → numbered xs k ≡ Some x → Has x xs
+numbered-has xs zero x h = absurd (cc h)
+numbered-has xs (suc k) x h = slice-has xs k x h
+
+pub meets-front : (b : Base) (fates : List Fate) (w : World) (es more : List Entry) → Meets b fates w (es ++ more) → Meets b fates w es
+unfolding Meets
+meets-front b fates w [] more m = tt
+meets-front b fates w (e ∷ es) more m = (m.0, meets-front b fates (step b w e) es more m.1)
+
+-- what a repository refused, it took and answered so
+pub post-answered : (b : Base) (fates : List Fate) (es : List Entry) → Meets b fates (start_world b) es → (q : Post) → Has q (sent_by (walk b es)) → (r : ℕ) → q.from ≡ repository r →
+    Says (Reason b es r) q.message
+post-answered b fates es m q h r f =
+    let s = has-map (λ (s : Sending). s.post) (walk b es).sendings q h in
+    subst (λ (z : Post). Says (Reason b es r) z.message) s.2
+    (every-has (FineSent b es) (walk b es).sendings s.0 (walked b fates es m).sent s.1 r (ap (λ (z : Post). z.from) s.2 ∙ f))
+
+-- and that write was sent
+pub write-sent : (b : Base) (es : List Entry) (x : TimeParts) (o : ObjectId) (v : Value) (step : WriteStep) → WasAnswered b es x o v step →
+    Has (record { from = broker x.stamp.broker; to = repository o.repository; message = message.Write x o v }) (sent_by (walk b es))
+write-sent b es x o v step a =
+    let rest = Take (repository o.repository) a.number ∷ a.after in
+    let g = sent-grows b a.before rest in
+    let here : Has a.sending.post (sent_by (walk b a.before)) = map-has (λ (s : Sending). s.post) (walk b a.before).sendings a.sending (numbered-has (walk b a.before).sendings a.number a.sending a.sent) in
+    subst (λ (z : Post). Has z (sent_by (walk b es))) a.is_write
+    (subst (λ l. Has a.sending.post (sent_by (walk b l))) (sym a.here) (subst (Has a.sending.post) (sym g.1) (has-left (sent_by (walk b a.before)) g.0 a.sending.post here)))

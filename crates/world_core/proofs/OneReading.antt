@@ -1,0 +1,85 @@
+-- One reading for a plan and all plans of the past.
+use Rattle.std.proofs.Common.{◌≡◌, ℕ, Bool, true, false, List, [], ◌∷◌, ◌++◌, refl, ◌∙◌, ap, if◌then◌else◌, take}
+use Rattle.pseudo_time.specs.Lists.{Every, Has}
+use Rattle.pseudo_time.proofs.ListLemmas.{every-append, has-left, has-right}
+use Rattle.pseudo_time.specs.declared.nodes.NodeId.{NodeId}
+use Rattle.value_form.specs.declared.acts.ActSpec.{ActSpec}
+use Rattle.effect_form.specs.declared.effects.Effect.{Effect}
+use Rattle.stream_port.specs.declared.fates.Asked.{Asked}
+use Rattle.serial_model.specs.Questions.{Tree}
+use Rattle.plan_form.specs.declared.plans.Plan.{Plan}
+use Rattle.plan_form.specs.PlanTexts.{IsWhole}
+use Rattle.broker_core.specs.Tasks.{Scripted}
+use Rattle.world_core.specs.declared.traces.Trace.{Trace}
+use Rattle.world_core.specs.Walks.{World}
+use Rattle.world_core.specs.Legal.{Legal, in_plan}
+use Rattle.world_core.specs.Pasts.{Call, AreCalls, HasPast, logs_after, log_left}
+use Rattle.broker_core.specs.Readings.{reading}
+use Rattle.broker_core.specs.Ledgers.{IsAct}
+use Rattle.broker_core.proofs.ReadingLemmas.{reads-all, reads-own}
+use Rattle.world_core.proofs.PlanRangeLemmas.{plan-acts}
+use Rattle.world_core.specs.Readings.{IsLegal, WereRuns, WereLeft, all_left}
+use Rattle.world_core.proofs.SameWorlds.{walk-same, legal-same}
+
+-- ---- the past
+
+acts_in : List Call → List ActSpec
+acts_in [] = []
+acts_in (c ∷ cs) = c.plan.acts ++ acts_in cs
+
+-- the reading of a plan's acts reads them
+pub own-reading : (plan : Plan) → IsWhole plan → Scripted (reading plan.acts) plan.acts
+own-reading plan w = reads-own plan.acts (plan-acts plan w)
+
+all-acts : (cs : List Call) → WereRuns cs → Every IsAct (acts_in cs)
+unfolding acts_in
+all-acts [] h = tt
+all-acts (c ∷ cs) h = every-append IsAct c.plan.acts (acts_in cs) (plan-acts c.plan h.1.whole) (all-acts cs h.0)
+
+-- of these acts, among which are those of all the calls
+module _ (all : List ActSpec) (ps : Every IsAct all) where
+  abbrev common : List ℕ → Tree
+  common = reading all
+
+  left-same : (c : Call) → Scripted (reading c.plan.acts) c.plan.acts → Scripted common c.plan.acts → (n : NodeId) → log_left (reading c.plan.acts) c n ≡ log_left common c n
+  left-same c h k n = ap (λ (w : World). (w.life n).gated ++ take (c.kept n) (w.life n).fresh) (walk-same (reading c.plan.acts) common c.plan h k c.trace c.trace.entries)
+
+  by-plan : (d : Bool) (x x' y y' : List Effect) → x ≡ x' → y ≡ y' → (if d then x else y) ≡ (if d then x' else y')
+  by-plan true x x' y y' e f = e
+  by-plan false x x' y y' e f = f
+
+  read-all : (c : Call) (cs : List Call) → IsWhole c.plan → ((a : ActSpec) → Has a (acts_in (c ∷ cs)) → Has a all) → Scripted common c.plan.acts
+  unfolding acts_in
+  read-all c cs w h = reads-all all c.plan.acts ps (plan-acts c.plan w) (λ a k. h a (has-left c.plan.acts (acts_in cs) a k))
+
+  in-rest : (c : Call) (cs : List Call) → ((a : ActSpec) → Has a (acts_in (c ∷ cs)) → Has a all) → (a : ActSpec) → Has a (acts_in cs) → Has a all
+  unfolding acts_in
+  in-rest c cs h a k = h a (has-right c.plan.acts (acts_in cs) a k)
+
+  logs-same : (cs : List Call) → WereRuns cs → ((a : ActSpec) → Has a (acts_in cs) → Has a all) → (n : NodeId) → all_left cs n ≡ logs_after common cs n
+  unfolding all_left
+  logs-same [] w h n = refl
+  logs-same (c ∷ cs) w h n = by-plan (in_plan c.plan n) _ _ _ _ (left-same c (own-reading c.plan w.1.whole) (read-all c cs w.1.whole h) n) (logs-same cs w.0 (in-rest c cs h) n)
+
+  are-calls : (cs : List Call) → WereRuns cs → ((a : ActSpec) → Has a (acts_in cs) → Has a all) → AreCalls common cs
+  are-calls [] w h = tt
+  are-calls (c ∷ cs) w h = (
+    are-calls cs w.0 (in-rest c cs h),
+    record {
+      agrees = λ n log e. w.1.agrees n log e ∙ logs-same cs w.0 (in-rest c cs h) n;
+      legal = legal-same (reading c.plan.acts) common c.plan (own-reading c.plan w.1.whole) (read-all c cs w.1.whole h) c.asked c.trace w.1.legal;
+      opened = w.1.opened;
+    },
+  )
+
+-- Logs that earlier runs left, each legal by its own plan, have a past by one reading, by which the trace is legal too.
+pub one-reading : (plan : Plan) (asked : List Asked) (t : Trace) (logs : NodeId → List Effect) → IsWhole plan → IsLegal plan asked t → WereLeft logs →
+    (script : List ℕ → Tree) × HasPast script logs × Legal script plan asked t
+one-reading plan asked t logs w l left =
+    let all = plan.acts ++ acts_in left.0 in
+    let ps = every-append IsAct plan.acts (acts_in left.0) (plan-acts plan w) (all-acts left.0 left.1) in
+    let within : (a : ActSpec) → Has a (acts_in left.0) → Has a all = λ a k. has-right plan.acts (acts_in left.0) a k in (
+      reading all,
+      (left.0, are-calls all ps left.0 left.1 within, λ n. left.2 n ∙ logs-same all ps left.0 left.1 within n),
+      legal-same (reading plan.acts) (reading all) plan (own-reading plan w) (reads-all all plan.acts ps (plan-acts plan w) (λ a k. has-left plan.acts (acts_in left.0) a k)) asked t l,
+    )

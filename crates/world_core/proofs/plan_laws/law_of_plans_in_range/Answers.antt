@@ -1,0 +1,18 @@
+use Rattle.world_core.proofs.OneReading.{own-reading}
+use Rattle.world_core.proofs.PlanRangeLemmas.{plan-AreActs, plan-own_acts, whole-names, whole-scripts}
+use Rattle.world_core.proofs.plan_laws.law_of_plans_in_range.Goals as goal
+
+pub returns-clause-acts : goal.returns-clause-acts
+returns-clause-acts c = plan-AreActs
+
+pub returns-clause-own : goal.returns-clause-own
+returns-clause-own c = plan-own_acts
+
+pub returns-clause-names : goal.returns-clause-names
+returns-clause-names c = whole-names
+
+pub returns-clause-scripts : goal.returns-clause-scripts
+returns-clause-scripts c = whole-scripts
+
+pub returns-clause-read : goal.returns-clause-read
+returns-clause-read c = own-reading
