@@ -12,17 +12,17 @@ use std::test::*;
 use value_form::{ObjectId, Value};
 
 /// The object of every row.
-const OBJECT: ObjectId = ObjectId {
+pub const OBJECT: ObjectId = ObjectId {
     repository: 1,
     number: 1,
 };
 
 /// A pseudotime of home 1: its clock, its broker and its step.
-type Time = (u64, u8, u32);
+pub type Time = (u64, u8, u32);
 
 /// A call with its arguments; `New` begins with no marks.
 #[derive(Clone, Copy)]
-enum Call {
+pub enum Call {
     New,
     Read(Time),
     Write(Time, i64),
@@ -33,7 +33,7 @@ enum Call {
 
 /// What a call says.
 #[derive(Clone, Copy, Debug, PartialEq, Eq)]
-enum Said {
+pub enum Said {
     Done,
     Nothing(bool),
     Value(i64, bool),
@@ -47,7 +47,7 @@ enum Said {
     Fault,
 }
 
-fn time((clock, broker, step): Time) -> Result<PseudoTime, HistoryFault> {
+pub fn time((clock, broker, step): Time) -> Result<PseudoTime, HistoryFault> {
     let Some(stamp) = Stamp::new(clock, broker, 1) else {
         return Err(HistoryFault::Medium);
     };
@@ -99,7 +99,7 @@ fn settle_first<H: Histories>(
 }
 
 // What histories say to a call.
-fn asked<H: Histories>(histories: &mut H, call: Call) -> Result<Said, HistoryFault> {
+pub fn asked<H: Histories>(histories: &mut H, call: Call) -> Result<Said, HistoryFault> {
     match call {
         Call::New => Ok(Said::Done),
         Call::Read(at) => {
@@ -125,81 +125,83 @@ fn asked<H: Histories>(histories: &mut H, call: Call) -> Result<Said, HistoryFau
 }
 
 // What each call answers by the rules of histories, worked out by hand.
+pub const ANSWERS: [(Call, Said); 60] = [
+    // An undecided version is waited for. Once it is aborted the origin is seen, and stretched.
+    (Call::New, Said::Done),
+    (Call::Write((1, 1, 1), 7), Said::Put),
+    (Call::Read((2, 1, 1)), Said::Wait(1, 1)),
+    (Call::Settle(1, 1, false), Said::Done),
+    (Call::Read((2, 1, 1)), Said::Nothing(true)),
+    (Call::Write((1, 2, 1), 8), Said::LaterRead((2, 1, 1))),
+    // Three committed versions: what is seen at the second's start is the first, with a
+    // committed one above.
+    (Call::New, Said::Done),
+    (Call::Write((1, 1, 1), 1), Said::Put),
+    (Call::Settle(1, 1, true), Said::Done),
+    (Call::Write((2, 1, 1), 2), Said::Put),
+    (Call::Settle(2, 1, true), Said::Done),
+    (Call::Write((3, 1, 1), 3), Said::Put),
+    (Call::Settle(3, 1, true), Said::Done),
+    (Call::Read((2, 1, 1)), Said::Value(1, false)),
+    (Call::Read((9, 1, 1)), Said::Value(3, true)),
+    (Call::Read((8, 1, 1)), Said::Value(3, false)),
+    (Call::Write((8, 1, 1), 4), Said::LaterRead((9, 1, 1))),
+    (Call::Write((2, 2, 1), 4), Said::LaterVersion((3, 1, 1))),
+    // An aborted version is under no later one: starts need not rise.
+    (Call::New, Said::Done),
+    (Call::Write((5, 1, 1), 5), Said::Put),
+    (Call::Settle(5, 1, false), Said::Done),
+    (Call::Write((3, 1, 1), 3), Said::Put),
+    (Call::Read((6, 1, 1)), Said::Wait(3, 1)),
+    (Call::Settle(3, 1, true), Said::Done),
+    (Call::Read((6, 1, 1)), Said::Value(3, true)),
+    // A write that comes again, with its value and with another.
+    (Call::New, Said::Done),
+    (Call::Stands((1, 1, 1), 7), Said::Stands(false)),
+    (Call::Write((1, 1, 1), 7), Said::Put),
+    (Call::Write((1, 1, 1), 7), Said::Again),
+    (Call::Write((1, 1, 1), 8), Said::LaterVersion((1, 1, 1))),
+    (Call::Stands((1, 1, 1), 7), Said::Stands(true)),
+    (Call::Stands((1, 1, 1), 8), Said::Stands(false)),
+    (Call::Settled(1, 1), Said::Settled(None)),
+    (Call::Settle(1, 1, false), Said::Done),
+    (Call::Settled(1, 1), Said::Settled(Some(false))),
+    (Call::Stands((1, 1, 1), 7), Said::Stands(false)),
+    // An attempt reads its own version, and stretches it. Aborted, its reach blocks nothing.
+    (Call::New, Said::Done),
+    (Call::Write((1, 1, 1), 1), Said::Put),
+    (Call::Settle(1, 1, true), Said::Done),
+    (Call::Write((3, 1, 1), 3), Said::Put),
+    (Call::Read((3, 1, 5)), Said::Value(3, true)),
+    (Call::Write((3, 1, 4), 4), Said::LaterRead((3, 1, 5))),
+    (Call::Settle(3, 1, false), Said::Done),
+    (Call::Write((2, 1, 1), 2), Said::Put),
+    // An undecided version above what is seen may still go away: the read stretches what it saw.
+    (Call::New, Said::Done),
+    (Call::Write((1, 1, 1), 1), Said::Put),
+    (Call::Settle(1, 1, true), Said::Done),
+    (Call::Write((4, 1, 1), 4), Said::Put),
+    (Call::Read((3, 1, 1)), Said::Value(1, true)),
+    (Call::Settle(4, 1, false), Said::Done),
+    (Call::Write((2, 1, 1), 2), Said::LaterRead((3, 1, 1))),
+    (Call::Write((3, 1, 1), 3), Said::Put),
+    // The origin was read up to 5, and then up to 6.
+    (Call::New, Said::Done),
+    (Call::Read((5, 1, 1)), Said::Nothing(true)),
+    (Call::Read((4, 1, 1)), Said::Nothing(false)),
+    (Call::Write((4, 1, 1), 4), Said::LaterRead((5, 1, 1))),
+    (Call::Read((6, 1, 1)), Said::Nothing(true)),
+    (Call::Write((5, 2, 1), 4), Said::LaterRead((6, 1, 1))),
+    (Call::Write((7, 1, 1), 7), Said::Put),
+    // The reach of an origin with a version above it no longer matters to a write.
+    (Call::Write((6, 2, 1), 6), Said::LaterVersion((7, 1, 1))),
+];
+
 #[test]
 fn answers(rt: HostRuntime) -> Result<(), Fail> {
     let alloc = rt.alloc();
     let mut histories = PlainHistories::new(alloc);
-    for (call, want) in [
-        // An undecided version is waited for. Once it is aborted the origin is seen, and stretched.
-        (Call::New, Said::Done),
-        (Call::Write((1, 1, 1), 7), Said::Put),
-        (Call::Read((2, 1, 1)), Said::Wait(1, 1)),
-        (Call::Settle(1, 1, false), Said::Done),
-        (Call::Read((2, 1, 1)), Said::Nothing(true)),
-        (Call::Write((1, 2, 1), 8), Said::LaterRead((2, 1, 1))),
-        // Three committed versions: what is seen at the second's start is the first, with a
-        // committed one above.
-        (Call::New, Said::Done),
-        (Call::Write((1, 1, 1), 1), Said::Put),
-        (Call::Settle(1, 1, true), Said::Done),
-        (Call::Write((2, 1, 1), 2), Said::Put),
-        (Call::Settle(2, 1, true), Said::Done),
-        (Call::Write((3, 1, 1), 3), Said::Put),
-        (Call::Settle(3, 1, true), Said::Done),
-        (Call::Read((2, 1, 1)), Said::Value(1, false)),
-        (Call::Read((9, 1, 1)), Said::Value(3, true)),
-        (Call::Read((8, 1, 1)), Said::Value(3, false)),
-        (Call::Write((8, 1, 1), 4), Said::LaterRead((9, 1, 1))),
-        (Call::Write((2, 2, 1), 4), Said::LaterVersion((3, 1, 1))),
-        // An aborted version is under no later one: starts need not rise.
-        (Call::New, Said::Done),
-        (Call::Write((5, 1, 1), 5), Said::Put),
-        (Call::Settle(5, 1, false), Said::Done),
-        (Call::Write((3, 1, 1), 3), Said::Put),
-        (Call::Read((6, 1, 1)), Said::Wait(3, 1)),
-        (Call::Settle(3, 1, true), Said::Done),
-        (Call::Read((6, 1, 1)), Said::Value(3, true)),
-        // A write that comes again, with its value and with another.
-        (Call::New, Said::Done),
-        (Call::Stands((1, 1, 1), 7), Said::Stands(false)),
-        (Call::Write((1, 1, 1), 7), Said::Put),
-        (Call::Write((1, 1, 1), 7), Said::Again),
-        (Call::Write((1, 1, 1), 8), Said::LaterVersion((1, 1, 1))),
-        (Call::Stands((1, 1, 1), 7), Said::Stands(true)),
-        (Call::Stands((1, 1, 1), 8), Said::Stands(false)),
-        (Call::Settled(1, 1), Said::Settled(None)),
-        (Call::Settle(1, 1, false), Said::Done),
-        (Call::Settled(1, 1), Said::Settled(Some(false))),
-        (Call::Stands((1, 1, 1), 7), Said::Stands(false)),
-        // An attempt reads its own version, and stretches it. Aborted, its reach blocks nothing.
-        (Call::New, Said::Done),
-        (Call::Write((1, 1, 1), 1), Said::Put),
-        (Call::Settle(1, 1, true), Said::Done),
-        (Call::Write((3, 1, 1), 3), Said::Put),
-        (Call::Read((3, 1, 5)), Said::Value(3, true)),
-        (Call::Write((3, 1, 4), 4), Said::LaterRead((3, 1, 5))),
-        (Call::Settle(3, 1, false), Said::Done),
-        (Call::Write((2, 1, 1), 2), Said::Put),
-        // An undecided version above what is seen may still go away: the read stretches what it saw.
-        (Call::New, Said::Done),
-        (Call::Write((1, 1, 1), 1), Said::Put),
-        (Call::Settle(1, 1, true), Said::Done),
-        (Call::Write((4, 1, 1), 4), Said::Put),
-        (Call::Read((3, 1, 1)), Said::Value(1, true)),
-        (Call::Settle(4, 1, false), Said::Done),
-        (Call::Write((2, 1, 1), 2), Said::LaterRead((3, 1, 1))),
-        (Call::Write((3, 1, 1), 3), Said::Put),
-        // The origin was read up to 5, and then up to 6.
-        (Call::New, Said::Done),
-        (Call::Read((5, 1, 1)), Said::Nothing(true)),
-        (Call::Read((4, 1, 1)), Said::Nothing(false)),
-        (Call::Write((4, 1, 1), 4), Said::LaterRead((5, 1, 1))),
-        (Call::Read((6, 1, 1)), Said::Nothing(true)),
-        (Call::Write((5, 2, 1), 4), Said::LaterRead((6, 1, 1))),
-        (Call::Write((7, 1, 1), 7), Said::Put),
-        // The reach of an origin with a version above it no longer matters to a write.
-        (Call::Write((6, 2, 1), 6), Said::LaterVersion((7, 1, 1))),
-    ] {
+    for (call, want) in ANSWERS {
         if let Call::New = call {
             histories = PlainHistories::new(alloc);
         }

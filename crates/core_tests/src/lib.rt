@@ -8,6 +8,8 @@ mod brokers;
 #[cfg(test)]
 mod flights;
 #[cfg(test)]
+mod headers;
+#[cfg(test)]
 mod histories;
 #[cfg(test)]
 mod models;
@@ -25,3 +27,5 @@ mod runs;
 mod stories;
 #[cfg(test)]
 mod traces;
+#[cfg(test)]
+mod votes;

@@ -13,7 +13,7 @@ use turn_form::{Out, Turn};
 use value_form::{ObjectId, Value};
 
 /// A stamp: its clock, its broker and its home.
-type Name = (u64, u8, u8);
+pub type Name = (u64, u8, u8);
 
 /// A pseudotime: its stamp and its step.
 type Time = (Name, u32);
@@ -22,7 +22,7 @@ type Time = (Name, u32);
 type Thing = (u8, u32);
 
 #[derive(Clone, Copy)]
-enum Node {
+pub enum Node {
     R(u8),
     B(u8),
 }
@@ -63,7 +63,7 @@ enum Step {
     OwesTell(Node, Name, bool),
 }
 
-fn named(peer: Node) -> NodeId {
+pub fn named(peer: Node) -> NodeId {
     match peer {
         Node::R(number) => NodeId {
             kind: NodeKind::Repository,
@@ -76,7 +76,7 @@ fn named(peer: Node) -> NodeId {
     }
 }
 
-fn stamp((clock, broker, home): Name) -> Option<Stamp> {
+pub fn stamp((clock, broker, home): Name) -> Option<Stamp> {
     Stamp::new(clock, broker, home)
 }
 
@@ -95,7 +95,7 @@ fn thing(name: Thing) -> Option<ObjectId>
     Some(ObjectId { repository, number })
 }
 
-fn begin(name: Name, timeout: u32) -> Option<Message>
+pub fn begin(name: Name, timeout: u32) -> Option<Message>
     ensures { IfSome result IsMessage }
 {
     if timeout < 1 || timeout > 1_000_000 {
@@ -127,7 +127,7 @@ fn write(at: Time, object: Thing, number: i64) -> Option<Message>
 
 /// A message that names an attempt.
 #[derive(Clone, Copy)]
-enum Kind {
+pub enum Kind {
     Commit,
     Withdraw,
     Ask,
@@ -135,7 +135,7 @@ enum Kind {
     Tell(bool),
 }
 
-fn about(kind: Kind, name: Name) -> Option<Message>
+pub fn about(kind: Kind, name: Name) -> Option<Message>
     ensures { IfSome result IsMessage }
 {
     let stamp = stamp(name)?;
@@ -331,13 +331,13 @@ fn call(core: &mut Repository<PlainHistories>, step: Step) -> Result<Turn, CoreF
 
 /// What a call gave that no step has expected yet, the first last.
 #[derive(Drop)]
-struct Given {
+pub struct Given {
     effects: Vec<Effect>,
     outs: Vec<Out>,
 }
 
 impl Given {
-    fn of(turn: Turn) -> Given {
+    pub fn of(turn: Turn) -> Given {
         let Turn { effects, outs } = turn;
         let mut effects = effects.into_vec();
         let mut outs = outs.into_vec();
@@ -346,12 +346,12 @@ impl Given {
         Given { effects, outs }
     }
 
-    fn is_empty(&self) -> bool {
+    pub fn is_empty(&self) -> bool {
         self.effects.is_empty() && self.outs.is_empty()
     }
 
     /// Whether the next effect is this.
-    fn adds(&mut self, effect: &Effect) -> bool {
+    pub fn adds(&mut self, effect: &Effect) -> bool {
         match self.effects.pop() {
             Some(found) => found == *effect,
             None => false,
@@ -359,7 +359,7 @@ impl Given {
     }
 
     /// Whether the next message is this.
-    fn owes(&mut self, out: &Out) -> bool {
+    pub fn owes(&mut self, out: &Out) -> bool {
         match self.outs.pop() {
             Some(found) => found == *out,
             None => false,

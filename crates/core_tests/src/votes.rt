@@ -1,0 +1,514 @@
+ghost use Rattle.std.specs.Prelude.{IfSome};
+ghost use Rattle.message_form.specs.Messages.{IsMessage};
+
+use crate::repositories::{about, begin, named, stamp, Given, Kind, Name, Node};
+use effect_form::Effect;
+use message_form::Message;
+use pseudo_time::{Decision, NodeId, NodeKind, Stamp};
+use record_votes::{Member, Poll, Wish};
+use std::alloc::{AllocError, Global};
+use std::test::*;
+use turn_form::{Out, Turn};
+
+/// What a message says, beside its stamp.
+#[derive(Clone, Copy)]
+enum Word {
+    Begin(u32),
+    Commit,
+    Withdraw,
+    Begun,
+    Decided(Decision),
+}
+
+/// A step of a script: a call, or an effect or a message that the last call gave, in order. The next
+/// call comes when there are no more.
+#[derive(Clone, Copy)]
+enum Step {
+    /// A poll goes.
+    Goes(u8),
+    /// A node hears a moment.
+    Hears(Node, u64),
+    /// A node takes a message from another.
+    Takes(Node, Node, Name, Word),
+    /// What a poll holds.
+    Holds(u8, Option<bool>),
+    /// The last call gave a Begin with this deadline.
+    Begins(Name, u64),
+    /// The last call gave a Decide.
+    Decides(Name, Decision),
+    /// The last call gave a message to a node.
+    Sends(Node, Name, Word),
+}
+
+/// A message to a member.
+fn asked(name: Name, word: Word) -> Option<Message>
+    ensures { IfSome result IsMessage }
+{
+    match word {
+        Word::Begin(timeout) => begin(name, timeout),
+        Word::Commit => about(Kind::Commit, name),
+        Word::Withdraw => about(Kind::Withdraw, name),
+        Word::Begun => about(Kind::Begun, name),
+        Word::Decided(_) => None,
+    }
+}
+
+/// Any message.
+fn said(name: Name, word: Word) -> Option<Message> {
+    match word {
+        Word::Decided(decision) => {
+            let stamp = stamp(name)?;
+            Some(Message::Decided { stamp, decision })
+        }
+        _ => asked(name, word),
+    }
+}
+
+/// The effect that a step expects.
+fn effect_of(step: Step) -> Option<Effect> {
+    match step {
+        Step::Begins(name, deadline) => {
+            let stamp = stamp(name)?;
+            Some(Effect::Begin { stamp, deadline })
+        }
+        Step::Decides(name, decision) => {
+            let stamp = stamp(name)?;
+            Some(Effect::Decide { stamp, decision })
+        }
+        _ => None,
+    }
+}
+
+/// The message that a step expects.
+fn out_of(step: Step) -> Option<Out> {
+    match step {
+        Step::Sends(node, name, word) => {
+            let message = said(name, word)?;
+            let to = named(node);
+            Some(Out { to, message })
+        }
+        _ => None,
+    }
+}
+
+/// Three members and two polls.
+#[derive(Drop)]
+struct Room {
+    first: Member,
+    second: Member,
+    third: Member,
+    one: Poll,
+    two: Poll,
+}
+
+impl Room {
+    /// Nothing has happened; both polls are for the same stamp, with a timeout of 5.
+    fn new(alloc: Global, stamp: Stamp) -> Result<Room, AllocError> {
+        Room::over(alloc, stamp, &[])
+    }
+
+    /// The first member opens over this log.
+    fn over(alloc: Global, stamp: Stamp, log: &[Effect]) -> Result<Room, AllocError> {
+        Ok(Room {
+            first: Member::open(alloc, 1, 0, log)?,
+            second: Member::open(alloc, 2, 0, &[])?,
+            third: Member::open(alloc, 3, 0, &[])?,
+            one: Poll::new(alloc, 1, stamp, 5, Wish::Commit),
+            two: Poll::new(alloc, 2, stamp, 5, Wish::Withdraw),
+        })
+    }
+
+    fn go(&mut self, poll: u8) -> Result<Turn, AllocError> {
+        if poll == 1 {
+            self.one.go()
+        } else {
+            self.two.go()
+        }
+    }
+
+    fn held(&self, poll: u8) -> Option<bool> {
+        if poll == 1 {
+            self.one.held()
+        } else {
+            self.two.held()
+        }
+    }
+
+    fn hear(&mut self, node: NodeId, moment: u64) -> Result<Turn, AllocError> {
+        let moment = moment.min(1_000_000);
+        match (node.kind, node.number) {
+            (NodeKind::Broker, 1) => self.one.hear(moment),
+            (NodeKind::Broker, _) => self.two.hear(moment),
+            (NodeKind::Repository, 1) => self.first.hear(moment),
+            (NodeKind::Repository, 2) => self.second.hear(moment),
+            (NodeKind::Repository, _) => self.third.hear(moment),
+        }
+    }
+
+    fn vote(&mut self, member: u8, from: NodeId, message: &Message) -> Result<Turn, AllocError>
+        requires { IsMessage message.now }
+    {
+        match member {
+            1 => self.first.take(from, message),
+            2 => self.second.take(from, message),
+            _ => self.third.take(from, message),
+        }
+    }
+
+    fn count(&mut self, poll: u8, from: NodeId, message: &Message) -> Result<Turn, AllocError> {
+        if poll == 1 {
+            self.one.take(from, message)
+        } else {
+            self.two.take(from, message)
+        }
+    }
+
+    /// A call. None where the step is none.
+    fn call(&mut self, step: Step) -> Result<Option<Turn>, AllocError> {
+        match step {
+            Step::Goes(poll) => Ok(Some(self.go(poll)?)),
+            Step::Hears(node, moment) => Ok(Some(self.hear(named(node), moment)?)),
+            Step::Takes(Node::R(member), from, name, word) => match asked(name, word) {
+                Some(message) => Ok(Some(self.vote(member, named(from), &message)?)),
+                None => Ok(None),
+            },
+            Step::Takes(Node::B(poll), from, name, word) => match said(name, word) {
+                Some(message) => Ok(Some(self.count(poll, named(from), &message)?)),
+                None => Ok(None),
+            },
+            _ => Ok(None),
+        }
+    }
+}
+
+/// The first step that goes otherwise; the number of steps where none does.
+fn steps_of(room: &mut Room, given: Given, steps: &[Step]) -> Result<usize, AllocError> {
+    let mut given = given;
+    for (place, step) in steps.iter().enumerate() {
+        let right = if let Some(effect) = effect_of(*step) {
+            given.adds(&effect)
+        } else if let Some(out) = out_of(*step) {
+            given.owes(&out)
+        } else if let Step::Holds(poll, held) = *step {
+            given.is_empty() && room.held(poll) == held
+        } else if !given.is_empty() {
+            false
+        } else if let Some(turn) = room.call(*step)? {
+            given = Given::of(turn);
+            true
+        } else {
+            false
+        };
+        if !right {
+            return Ok(place);
+        }
+    }
+    if given.is_empty() {
+        Ok(steps.len())
+    } else {
+        Ok(usize::MAX)
+    }
+}
+
+/// The steps of a script in a room where nothing has happened.
+fn run(alloc: Global, steps: &[Step]) -> Result<usize, Fail> {
+    let stamp = Stamp::new(1, 1, 1).ok_or("in range")?;
+    let mut room = Room::new(alloc, stamp)?;
+    let given = Given::of(Turn::quiet(alloc));
+    Ok(steps_of(&mut room, given, steps)?)
+}
+
+/// How many messages a script sends.
+fn messages(steps: &[Step]) -> usize {
+    let mut count = 0usize;
+    for step in steps {
+        if let Step::Sends(_, _, _) = step {
+            count = count.saturating_add(1);
+        }
+    }
+    count
+}
+
+const FIRST: Name = (1, 1, 1);
+
+const SECOND: Name = (2, 1, 1);
+
+const R1: Node = Node::R(1);
+
+const R2: Node = Node::R(2);
+
+const R3: Node = Node::R(3);
+
+const B1: Node = Node::B(1);
+
+const B2: Node = Node::B(2);
+
+const YES: Word = Word::Decided(Decision::Committed);
+
+const NO: Word = Word::Decided(Decision::Withdrawn);
+
+const BEGIN: Word = Word::Begin(5);
+
+// A poll that commits: twelve messages. It holds the decision as soon as two members have voted so.
+const ONE_POLL: [Step; 33] = [
+    Step::Goes(1),
+    Step::Sends(R1, FIRST, BEGIN),
+    Step::Sends(R2, FIRST, BEGIN),
+    Step::Sends(R3, FIRST, BEGIN),
+    Step::Takes(R1, B1, FIRST, BEGIN),
+    Step::Begins(FIRST, 5),
+    Step::Sends(B1, FIRST, Word::Begun),
+    Step::Takes(R2, B1, FIRST, BEGIN),
+    Step::Begins(FIRST, 5),
+    Step::Sends(B1, FIRST, Word::Begun),
+    Step::Takes(R3, B1, FIRST, BEGIN),
+    Step::Begins(FIRST, 5),
+    Step::Sends(B1, FIRST, Word::Begun),
+    Step::Takes(B1, R1, FIRST, Word::Begun),
+    Step::Sends(R1, FIRST, Word::Commit),
+    Step::Takes(B1, R2, FIRST, Word::Begun),
+    Step::Sends(R2, FIRST, Word::Commit),
+    Step::Takes(B1, R3, FIRST, Word::Begun),
+    Step::Sends(R3, FIRST, Word::Commit),
+    Step::Takes(R1, B1, FIRST, Word::Commit),
+    Step::Decides(FIRST, Decision::Committed),
+    Step::Sends(B1, FIRST, YES),
+    Step::Takes(R2, B1, FIRST, Word::Commit),
+    Step::Decides(FIRST, Decision::Committed),
+    Step::Sends(B1, FIRST, YES),
+    Step::Takes(R3, B1, FIRST, Word::Commit),
+    Step::Decides(FIRST, Decision::Committed),
+    Step::Sends(B1, FIRST, YES),
+    Step::Takes(B1, R1, FIRST, YES),
+    Step::Holds(1, None),
+    Step::Takes(B1, R2, FIRST, YES),
+    Step::Holds(1, Some(true)),
+    Step::Takes(B1, R3, FIRST, YES),
+];
+
+#[test]
+fn one_poll(rt: HostRuntime) -> Result<(), Fail> {
+    assert_eq!(rt; run(rt.alloc(), &ONE_POLL)?, ONE_POLL.len());
+    assert_eq!(rt; messages(&ONE_POLL), 12);
+    Ok(())
+}
+
+// The third Begin is lost: nine messages, and the poll holds the decision all the same. It asks nobody
+// then, at a moment neither.
+const A_LOST_BEGIN: [Step; 24] = [
+    Step::Goes(1),
+    Step::Sends(R1, FIRST, BEGIN),
+    Step::Sends(R2, FIRST, BEGIN),
+    Step::Sends(R3, FIRST, BEGIN),
+    Step::Takes(R1, B1, FIRST, BEGIN),
+    Step::Begins(FIRST, 5),
+    Step::Sends(B1, FIRST, Word::Begun),
+    Step::Takes(R2, B1, FIRST, BEGIN),
+    Step::Begins(FIRST, 5),
+    Step::Sends(B1, FIRST, Word::Begun),
+    Step::Takes(B1, R1, FIRST, Word::Begun),
+    Step::Sends(R1, FIRST, Word::Commit),
+    Step::Takes(B1, R2, FIRST, Word::Begun),
+    Step::Sends(R2, FIRST, Word::Commit),
+    Step::Takes(R1, B1, FIRST, Word::Commit),
+    Step::Decides(FIRST, Decision::Committed),
+    Step::Sends(B1, FIRST, YES),
+    Step::Takes(R2, B1, FIRST, Word::Commit),
+    Step::Decides(FIRST, Decision::Committed),
+    Step::Sends(B1, FIRST, YES),
+    Step::Takes(B1, R1, FIRST, YES),
+    Step::Takes(B1, R2, FIRST, YES),
+    Step::Hears(B1, 1),
+    Step::Holds(1, Some(true)),
+];
+
+#[test]
+fn a_lost_begin(rt: HostRuntime) -> Result<(), Fail> {
+    assert_eq!(rt; run(rt.alloc(), &A_LOST_BEGIN)?, A_LOST_BEGIN.len());
+    assert_eq!(rt; messages(&A_LOST_BEGIN), 9);
+    Ok(())
+}
+
+// Before a poll holds a decision, what is outstanding is sent again at a moment: Begin to who hasn't
+// answered, the wish to who has begun, nothing to who has voted. What is no answer of a member of this
+// stamp is ignored, and so is a second Begun, and a second vote.
+const WHAT_IS_OUTSTANDING: [Step; 19] = [
+    Step::Takes(B1, R1, FIRST, Word::Begun),
+    Step::Sends(R1, FIRST, Word::Commit),
+    Step::Takes(B1, R1, FIRST, Word::Begun),
+    Step::Takes(B1, R2, FIRST, NO),
+    Step::Takes(B1, R2, FIRST, YES),
+    Step::Takes(B1, R3, SECOND, YES),
+    Step::Takes(B1, Node::R(4), FIRST, YES),
+    Step::Takes(B1, B2, FIRST, YES),
+    Step::Takes(B1, R3, FIRST, Word::Commit),
+    Step::Hears(B1, 1),
+    Step::Sends(R1, FIRST, Word::Commit),
+    Step::Sends(R3, FIRST, BEGIN),
+    Step::Takes(B1, R1, FIRST, YES),
+    Step::Holds(1, None),
+    Step::Hears(B1, 2),
+    Step::Sends(R3, FIRST, BEGIN),
+    Step::Takes(B1, R3, FIRST, NO),
+    Step::Holds(1, Some(false)),
+    Step::Goes(1),
+];
+
+#[test]
+fn what_is_outstanding(rt: HostRuntime) -> Result<(), Fail> {
+    assert_eq!(rt; run(rt.alloc(), &WHAT_IS_OUTSTANDING)?, WHAT_IS_OUTSTANDING.len());
+    Ok(())
+}
+
+// Two polls of one stamp, one that commits and one that withdraws: each member votes once, as the first
+// says, and both polls hold that it is committed. Twenty-four messages.
+const TWO_POLLS: [Step; 65] = [
+    Step::Goes(1),
+    Step::Sends(R1, FIRST, BEGIN),
+    Step::Sends(R2, FIRST, BEGIN),
+    Step::Sends(R3, FIRST, BEGIN),
+    Step::Goes(2),
+    Step::Sends(R1, FIRST, BEGIN),
+    Step::Sends(R2, FIRST, BEGIN),
+    Step::Sends(R3, FIRST, BEGIN),
+    Step::Takes(R1, B1, FIRST, BEGIN),
+    Step::Begins(FIRST, 5),
+    Step::Sends(B1, FIRST, Word::Begun),
+    Step::Takes(R2, B1, FIRST, BEGIN),
+    Step::Begins(FIRST, 5),
+    Step::Sends(B1, FIRST, Word::Begun),
+    Step::Takes(R3, B1, FIRST, BEGIN),
+    Step::Begins(FIRST, 5),
+    Step::Sends(B1, FIRST, Word::Begun),
+    Step::Takes(B1, R1, FIRST, Word::Begun),
+    Step::Sends(R1, FIRST, Word::Commit),
+    Step::Takes(R1, B2, FIRST, BEGIN),
+    Step::Sends(B2, FIRST, Word::Begun),
+    Step::Takes(R2, B2, FIRST, BEGIN),
+    Step::Sends(B2, FIRST, Word::Begun),
+    Step::Takes(R3, B2, FIRST, BEGIN),
+    Step::Sends(B2, FIRST, Word::Begun),
+    Step::Takes(B1, R2, FIRST, Word::Begun),
+    Step::Sends(R2, FIRST, Word::Commit),
+    Step::Takes(B2, R1, FIRST, Word::Begun),
+    Step::Sends(R1, FIRST, Word::Withdraw),
+    Step::Takes(R1, B1, FIRST, Word::Commit),
+    Step::Decides(FIRST, Decision::Committed),
+    Step::Sends(B1, FIRST, YES),
+    Step::Takes(R2, B1, FIRST, Word::Commit),
+    Step::Decides(FIRST, Decision::Committed),
+    Step::Sends(B1, FIRST, YES),
+    Step::Takes(B1, R3, FIRST, Word::Begun),
+    Step::Sends(R3, FIRST, Word::Commit),
+    Step::Takes(B2, R2, FIRST, Word::Begun),
+    Step::Sends(R2, FIRST, Word::Withdraw),
+    Step::Takes(R1, B2, FIRST, Word::Withdraw),
+    Step::Sends(B2, FIRST, YES),
+    Step::Takes(R3, B1, FIRST, Word::Commit),
+    Step::Decides(FIRST, Decision::Committed),
+    Step::Sends(B1, FIRST, YES),
+    Step::Takes(B1, R1, FIRST, YES),
+    Step::Takes(B2, R3, FIRST, Word::Begun),
+    Step::Sends(R3, FIRST, Word::Withdraw),
+    Step::Takes(R2, B2, FIRST, Word::Withdraw),
+    Step::Sends(B2, FIRST, YES),
+    Step::Takes(R3, B2, FIRST, Word::Withdraw),
+    Step::Sends(B2, FIRST, YES),
+    Step::Takes(B1, R2, FIRST, YES),
+    Step::Takes(B2, R1, FIRST, YES),
+    Step::Holds(1, Some(true)),
+    Step::Holds(2, None),
+    Step::Takes(B1, R3, FIRST, YES),
+    Step::Takes(B2, R2, FIRST, YES),
+    Step::Holds(2, Some(true)),
+    Step::Takes(B2, R3, FIRST, YES),
+    Step::Holds(1, Some(true)),
+    Step::Holds(2, Some(true)),
+    Step::Goes(1),
+    Step::Goes(2),
+    Step::Hears(B1, 1),
+    Step::Hears(B2, 1),
+];
+
+#[test]
+fn two_polls(rt: HostRuntime) -> Result<(), Fail> {
+    assert_eq!(rt; run(rt.alloc(), &TWO_POLLS)?, TWO_POLLS.len());
+    assert_eq!(rt; messages(&TWO_POLLS), 24);
+    Ok(())
+}
+
+// A moment expires two records, in the order of their stamps, and nobody is told who doesn't ask. A
+// member hears brokers alone.
+const EXPIRED_FIRST: Decision = Decision::Expired {
+    deadline: 5,
+    moment: 6,
+};
+
+const EXPIRED_SECOND: Decision = Decision::Expired {
+    deadline: 3,
+    moment: 6,
+};
+
+const TWO_EXPIRE: [Step; 15] = [
+    Step::Takes(R1, R2, SECOND, BEGIN),
+    Step::Takes(R1, B2, SECOND, Word::Begin(3)),
+    Step::Begins(SECOND, 3),
+    Step::Sends(B2, SECOND, Word::Begun),
+    Step::Takes(R1, B1, FIRST, BEGIN),
+    Step::Begins(FIRST, 5),
+    Step::Sends(B1, FIRST, Word::Begun),
+    Step::Hears(R1, 2),
+    Step::Hears(R1, 6),
+    Step::Decides(FIRST, EXPIRED_FIRST),
+    Step::Decides(SECOND, EXPIRED_SECOND),
+    Step::Takes(R1, B1, FIRST, Word::Commit),
+    Step::Sends(B1, FIRST, Word::Decided(EXPIRED_FIRST)),
+    Step::Takes(R1, B1, (3, 1, 1), Word::Commit),
+    Step::Hears(R1, 7),
+];
+
+#[test]
+fn two_expire(rt: HostRuntime) -> Result<(), Fail> {
+    assert_eq!(rt; run(rt.alloc(), &TWO_EXPIRE)?, TWO_EXPIRE.len());
+    Ok(())
+}
+
+// A member whose medium was a repository's of a run: its Begins and Decides count, a Learn doesn't. The
+// deadlines of what begins now are counted from the moment at which it opened.
+const ANOTHERS_LOG: [Step; 10] = [
+    Step::Takes(R1, B1, FIRST, BEGIN),
+    Step::Sends(B1, FIRST, YES),
+    Step::Takes(R1, B2, FIRST, Word::Withdraw),
+    Step::Sends(B2, FIRST, YES),
+    Step::Takes(R1, B1, SECOND, BEGIN),
+    Step::Begins(SECOND, 5),
+    Step::Sends(B1, SECOND, Word::Begun),
+    Step::Takes(R1, B1, SECOND, Word::Withdraw),
+    Step::Decides(SECOND, Decision::Withdrawn),
+    Step::Sends(B1, SECOND, NO),
+];
+
+#[test]
+fn anothers_log(rt: HostRuntime) -> Result<(), Fail> {
+    let one = Stamp::new(1, 1, 1).ok_or("in range")?;
+    let two = Stamp::new(2, 1, 1).ok_or("in range")?;
+    let log = [
+        Effect::Begin {
+            stamp: one,
+            deadline: 5,
+        },
+        Effect::Learn {
+            stamp: two,
+            committed: true,
+        },
+        Effect::Decide {
+            stamp: one,
+            decision: Decision::Committed,
+        },
+    ];
+    let mut room = Room::over(rt.alloc(), one, &log)?;
+    let given = Given::of(Turn::quiet(rt.alloc()));
+    let place = steps_of(&mut room, given, &ANOTHERS_LOG)?;
+    assert_eq!(rt; place, ANOTHERS_LOG.len());
+    Ok(())
+}
