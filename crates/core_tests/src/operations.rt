@@ -1,9 +1,12 @@
 //! What operations give at the edges of numbers, texts and kinds, by scripts that print it.
+ghost use Rattle.std.specs.Prelude.{IfOk};
+ghost use Rattle.value_form.specs.Ranges.{IsScript};
+
 use script_form::{law_of_lines, parse};
 use serial_model::{Ending, ObjectMap, perform};
 use std::alloc::Global;
 use std::test::*;
-use value_form::{FailKind, Line};
+use value_form::{FailKind, Line, Script};
 
 /// A script of one line, and what it prints.
 const PRINTED: [(&[u8], &[u8]); 24] = [
@@ -79,9 +82,18 @@ enum Came {
     Nothing,
 }
 
-fn carried_out(alloc: Global, text: &[u8]) -> Result<Came, Fail> {
+fn script_of(alloc: Global, text: &[u8]) -> Result<Script, Fail>
+    ensures { IfOk result (λ s. IsScript s.lines) }
+{
     law_of_lines();
-    let script = parse(alloc, text).map_err(|_| "a script")?;
+    match parse(alloc, text) {
+        Ok(script) => Ok(script),
+        Err(_) => Err("a script".into()),
+    }
+}
+
+fn carried_out(alloc: Global, text: &[u8]) -> Result<Came, Fail> {
+    let script = script_of(alloc, text)?;
     let done = perform(alloc, &script, &ObjectMap::new(alloc))?;
     if let Ending::Failed { line: _, kind } = done.ending {
         return Ok(Came::Failed(kind));

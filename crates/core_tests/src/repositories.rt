@@ -739,6 +739,15 @@ fn a_held_read_comes_again(rt: HostRuntime) -> Result<(), Fail> {
     Ok(())
 }
 
+// A core is parted and joined again.
+fn joined(core: Repository<PlainHistories>) -> Repository<PlainHistories>
+    requires { core.whole ≡ true }
+    ensures { result.whole ≡ true }
+{
+    let (rest, histories) = core.part();
+    rest.join(histories)
+}
+
 // A core that opens over a log knows its decisions, and goes on from it; parted and joined, it is the same.
 #[test]
 fn an_opened_log(rt: HostRuntime) -> Result<(), Fail> {
@@ -760,11 +769,11 @@ fn an_opened_log(rt: HostRuntime) -> Result<(), Fail> {
         },
     ];
     let histories = PlainHistories::of(alloc, &[Mark::Settle(one, true)])?;
-    let core = Repository::open(alloc, 1, 3, &effects, histories);
-    let core = core.ok().ok_or("memory")?;
+    let Ok(core) = Repository::open(alloc, 1, 3, &effects, histories) else {
+        return Err("memory".into());
+    };
     assert!(rt; core.known(one) == Some(true) && core.known(two).is_none());
-    let (rest, histories) = core.part();
-    let mut core = rest.join(histories);
+    let mut core = joined(core);
     let given = Given::of(Turn::quiet(alloc));
     let place = steps_of(&mut core, given, &OPENED).ok().ok_or("no fault")?;
     assert_eq!(rt; place, OPENED.len());
