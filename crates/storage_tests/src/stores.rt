@@ -46,7 +46,6 @@ fn put(number: u32, clock: u64, value: i64) -> Option<Effect>
 }
 
 // So many effects, with deadlines from 0 on.
-#[tactic(auto, using(version_store::proofs::RangeLemmas::all_every))]
 fn begins(alloc: Global, count: u64) -> Result<Vec<Effect>, AllocError>
     ensures { IfOk result (λ v. AreEffects v.items) }
 {

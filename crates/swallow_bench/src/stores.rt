@@ -22,7 +22,6 @@ fn begin(deadline: u64) -> Option<Effect>
     Some(Effect::Begin { stamp, deadline })
 }
 
-#[tactic(auto, using(version_store::proofs::RangeLemmas::all_every))]
 fn begins(alloc: Global, count: u32) -> Result<Vec<Effect>, AllocError>
     ensures { IfOk result (λ v. AreEffects v.items) }
 {

@@ -3,7 +3,8 @@ ghost use Rattle.std.specs.Option.{option_map};
 ghost use Rattle.effect_form.specs.Effects.{IsPlace, effect_at, AreEffects};
 ghost use Rattle.version_store.specs.Entries.{Log};
 ghost use Rattle.version_store.specs.Heads.{AreBelow, ArePlaces, Stands};
-ghost use Rattle.version_store.specs.Storage.{admitted, log_at, log_with, place_before, texts_of};
+ghost use Rattle.version_store.specs.Storage.{Content, Damaged, Going, admitted, log_at, next, place_before, texts_of};
+ghost use Rattle.page_gate.specs.declared.pages.PageState.TheVariants.{Gated};
 
 use crate::last_puts::{is_same, note};
 use effect_form::{Effect, EffectFault, Place, read};
@@ -106,7 +107,7 @@ pub fn add_page(
 ) -> Result<bool, AllocError>
     requires page { page < 1048576 }
     requires places { ArePlaces heads.old }
-    ensures found { (log : Log) → Stands heads.old effects.old.items log → IfOk result (λ b. MatchBool b ((more : Log) × (log_with log page (texts_of body.now) ≡ Some more) × Stands heads.new effects.new.items more) (log_with log page (texts_of body.now) ≡ None)) }
+    ensures found { (c : Content) → Stands heads.old effects.old.items c.log → IfOk result (λ b. MatchBool b ((more : Content) × (next (Going c) page (Gated body.now) ≡ Going more) × Stands heads.new effects.new.items more.log) (next (Going c) page (Gated body.now) ≡ Damaged page)) }
     ensures places { OnOk result (ArePlaces heads.new) }
     ensures below { (limit : ℕ) → page < limit → AreBelow limit heads.old → OnOk result (AreBelow limit heads.new) }
     ensures ranges { AreEffects effects.old.items → OnOk result (AreEffects effects.new.items) }
