@@ -3,3 +3,4 @@ pub mod OutcomeLaws
 pub mod Pieces
 pub mod ReadLaws
 pub mod SequenceLaws
+pub mod SizeLaws

@@ -1,6 +1,7 @@
 -- The bytes of an effect, with the back place of a Put.
 use Rattle.std.specs.Prelude.{ℕ, ◌+◌, ◌-◌, ◌≤◌, ◌<◌, ◌^◌, ◌==◌, ◌&&◌, ◌≡◌, Bool, true, false, List, [], ◌∷◌, ◌++◌, length, nat_lt, nat_le, Option, Some, None, Result, Ok, Err, if◌then◌else◌}
 use Rattle.std.specs.Int.{w16, w32, w64, to_be_bytes}
+use Rattle.pseudo_time.specs.Lists.{Every}
 use Rattle.pseudo_time.specs.StampParts.{IsStamp, stamp_bytes}
 use Rattle.pseudo_time.specs.TimeParts.{IsTime, time_bytes}
 use Rattle.field_form.specs.Decisions.{IsDecision, decision_text, decision_at}
@@ -122,6 +123,17 @@ IsWritten (Try index stamp, back) = (IsIndex index × IsStamp stamp) × (back �
 IsWritten (Got step v, back) = (IsPositive step × IsValue v) × (back ≡ None)
 IsWritten (Acked step, back) = IsPositive step × (back ≡ None)
 IsWritten (End index outcome, back) = (IsIndex index × IsOutcome outcome) × (back ≡ None)
+
+-- an effect that has bytes: its fields are in their ranges
+abbrev pub IsEffect : Effect → Type 0
+IsEffect e = IsWritten (e, None)
+
+abbrev pub AreEffects : List Effect → Type 0
+AreEffects effects = Every IsEffect effects
+
+-- how many bytes an effect takes, whatever its back place is
+abbrev pub size_of : Effect → ℕ
+size_of e = length (effect_bytes (e, None))
 
 -- ---- reading: each field in turn, and else the place of the first that is missing, cut short or out of range
 

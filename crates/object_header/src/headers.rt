@@ -1,9 +1,9 @@
 ghost use Rattle.std.specs.Prelude.{◌≡◌, ◌≢◌, ◌≤◌, ◌<◌, ◌+◌, [], ◌++◌, ℕ, length, IsTrue, IfOk, IfErr, IfSome, false, reverse};
-ghost use Rattle.pseudo_time.specs.Lists.{Every};
 ghost use Rattle.stream_port.specs.Causes.{Rose};
 ghost use Rattle.medium_port.specs.Image.{Image, Only};
 ghost use Rattle.medium_port.specs.Moment.{LeavesOnly};
-ghost use Rattle.version_store.specs.Filling.{HasBytes, HasPrefix, KeepsPages, StaysClean, filling};
+ghost use Rattle.version_store.specs.Filling.{HasPrefix, KeepsPages, StaysClean, filling};
+ghost use Rattle.effect_form.specs.Effects.{AreEffects};
 ghost use Rattle.repository_log.specs.Logs.{marks};
 ghost use Rattle.value_form.specs.ObjectBytes.{IsObject};
 ghost use Rattle.value_form.specs.ValueBytes.{IsValue};
@@ -53,7 +53,7 @@ impl<M: Medium> HeaderTable<M> {
     ) -> Result<HeaderTable<M>, (M, AllocError)>
         requires open { M.is_failed (medium_of store) ≡ false }
         requires log { IsTrue M.tells → effects_in M.reads store ≡ effects.now }
-        requires ranges { Every HasBytes effects.now }
+        requires ranges { AreEffects effects.now }
         ensures content { IfOk result (λ t. content (ledger_of t) ≡ marks (reverse effects.now)) }
         ensures late { IfOk result (λ t. (ledger_of t).late ≡ []) }
         ensures log { IfOk result (λ t. (ledger_of t).log ≡ effects.now) }
@@ -74,7 +74,7 @@ impl<M: Medium> HeaderTable<M> {
     /// Adds effects to the store whose marks are those that aren't there yet. A refusal hands the
     /// medium back.
     pub fn flush(self, effects: &[Effect]) -> Result<HeaderTable<M>, (M, StoreFault)>
-        requires ranges { Every HasBytes effects.now }
+        requires ranges { AreEffects effects.now }
         requires late { marks (reverse effects.now) ≡ (ledger_of self).late }
 
         // The histories stay, and nothing is late any more.
@@ -231,7 +231,7 @@ fn read_ledger(alloc: Global, effects: &[Effect]) -> Result<Ledger, AllocError>
 
 // With the marks of odd objects.
 fn read_whole(alloc: Global, effects: &[Effect]) -> Result<Ledger, AllocError>
-    requires { Every HasBytes effects.now }
+    requires { AreEffects effects.now }
     ensures log { IfOk result (λ l. l.log ≡ effects.now) }
     ensures late { IfOk result (λ l. l.late ≡ []) }
 {

@@ -1,8 +1,7 @@
 ghost use Rattle.std.specs.Prelude.{◌≡◌, ◌++◌, [], ◌∷◌, OnOk, IfOk, reverse};
-ghost use Rattle.version_store.specs.Filling.{HasBytes};
+ghost use Rattle.effect_form.specs.Effects.{IsEffect, AreEffects};
 ghost use Rattle.object_header.specs.Marks.{added};
 ghost use Rattle.repository_log.specs.Logs as logs;
-ghost use Rattle.pseudo_time.specs.Lists.{Every};
 ghost use Rattle.object_history.specs.Ranges.{AreMarks, IsMark};
 ghost use Rattle.object_header.specs.Ledgers.{odd_in};
 ghost use Rattle.object_header.specs.Odd as odd;
@@ -81,7 +80,7 @@ fn keep_effect(
     kept: &mut Vec<Mark>,
     effect: &Effect,
 ) -> Result<(), AllocError>
-    requires { HasBytes effect.now }
+    requires { IsEffect effect.now }
     ensures kept { OnOk result (reverse kept.new.items ≡ kept_of (odd_in heads.now) (added (logs.mark_of effect.now) []) ++ reverse kept.old.items) }
     ensures range { AreMarks (reverse kept.old.items) → OnOk result (AreMarks (reverse kept.new.items)) }
 {
@@ -97,7 +96,7 @@ pub fn keep_effects(
     heads: &Heads,
     effects: &[Effect],
 ) -> Result<Vec<Mark>, AllocError>
-    requires { Every HasBytes effects.now }
+    requires { AreEffects effects.now }
     ensures kept { IfOk result (λ k. reverse k.items ≡ kept_of (odd_in heads.now) (logs.marks (reverse effects.now))) }
     ensures range { IfOk result (λ k. AreMarks (reverse k.items)) }
 {

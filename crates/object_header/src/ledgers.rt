@@ -12,10 +12,9 @@ ghost use Rattle.object_history.specs.Ranges.{IsReadStep};
 ghost use Rattle.object_header.specs.Spans.{is_living, passes};
 ghost use Rattle.object_header.specs.Heads.{first_put};
 ghost use Rattle.object_header.specs.Ledgers.{content, is_odd};
-ghost use Rattle.version_store.specs.Filling.{HasBytes};
+ghost use Rattle.effect_form.specs.Effects.{AreEffects};
 ghost use Rattle.object_header.specs.Odd.{kept_of};
 ghost use Rattle.repository_log.specs.Logs as logs;
-ghost use Rattle.pseudo_time.specs.Lists.{Every};
 ghost use Rattle.object_header.specs.Plans.{answer_first, is_written, PlansRead, IsReadPlan};
 ghost use Rattle.object_header.specs.declared.limits.Limit.TheVariants as limit;
 
@@ -303,7 +302,7 @@ impl Ledger {
     /// With the marks of odd objects kept, if there are any.
     pub fn with_whole(self, effects: &[Effect]) -> Result<Ledger, AllocError>
         requires log { self.log ≡ effects.now }
-        requires ranges { Every HasBytes effects.now }
+        requires ranges { AreEffects effects.now }
         ensures log { IfOk result (λ l. l.log ≡ self.log) }
         ensures late { IfOk result (λ l. l.late ≡ self.late) }
     {

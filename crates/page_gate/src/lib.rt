@@ -3,4 +3,4 @@
 
 mod pages;
 
-pub use pages::{PageState, look, put};
+pub use pages::{PageState, all_zero, look, put};

@@ -55,7 +55,8 @@ fn state(bytes: &[u8; 4096]) -> PageState
     }
 }
 
-fn all_zero(bytes: &[u8]) -> bool
+/// Whether all bytes are 0.
+pub fn all_zero(bytes: &[u8]) -> bool
     ensures { result ≡ is_blank bytes.now }
 {
     bytes.iter().all(|b| *b == 0)

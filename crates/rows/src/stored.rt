@@ -1,6 +1,6 @@
-ghost use Rattle.std.specs.Prelude.{◌≡◌, ◌≤◌, false, All, IfOk, IfSome};
+ghost use Rattle.std.specs.Prelude.{◌≡◌, ◌≤◌, false, IfOk, IfSome};
 ghost use Rattle.medium_port.specs.MemoryMedia.{failed_in};
-ghost use Rattle.version_store.specs.Filling.{HasBytes};
+ghost use Rattle.effect_form.specs.Effects.{AreEffects};
 
 use effect_form::Effect;
 use medium_port::{Medium, MediumFault, MemoryMedium, MemoryShelf, Stop, StopAt};
@@ -88,7 +88,7 @@ fn crashed(
 
 // A medium with these effects.
 fn with_effects(alloc: Global, effects: &[Effect]) -> Result<MemoryMedium, MediumFault>
-    requires { All HasBytes effects.now }
+    requires { AreEffects effects.now }
     ensures open { IfOk result (λ m. failed_in m ≡ false) }
 {
     let Ok(medium) = blank(alloc, 64, None) else {

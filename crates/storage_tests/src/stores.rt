@@ -1,7 +1,6 @@
 ghost use Rattle.std.specs.Prelude.{◌≡◌, ◌<◌, ◌≤◌, false, IfOk, IfSome};
-ghost use Rattle.pseudo_time.specs.Lists.{Every};
 ghost use Rattle.medium_port.specs.MemoryMedia.{failed_in, pages_of};
-ghost use Rattle.version_store.specs.Filling.{HasBytes};
+ghost use Rattle.effect_form.specs.Effects.{IsEffect, AreEffects};
 ghost use Rattle.version_store.specs.StoreWords.{medium_of};
 
 use effect_form::{Effect, EffectFault, Place, read};
@@ -23,7 +22,7 @@ const BEGINS: usize = 215;
 
 // An effect of 19 bytes.
 fn begin(deadline: u64) -> Option<Effect>
-    ensures { IfSome result (λ e. HasBytes e) }
+    ensures { IfSome result (λ e. IsEffect e) }
 {
     let stamp = Stamp::new(1, 1, 1)?;
     Some(Effect::Begin { stamp, deadline })
@@ -31,7 +30,7 @@ fn begin(deadline: u64) -> Option<Effect>
 
 // An effect of 35 bytes.
 fn put(number: u32, clock: u64, value: i64) -> Option<Effect>
-    ensures { IfSome result (λ e. HasBytes e) }
+    ensures { IfSome result (λ e. IsEffect e) }
 {
     let stamp = Stamp::new(clock, 1, 1)?;
     let start = PseudoTime::new(stamp, 1)?;
@@ -47,9 +46,8 @@ fn put(number: u32, clock: u64, value: i64) -> Option<Effect>
 }
 
 // So many effects, with deadlines from 0 on.
-#[tactic(auto, using(version_store::proofs::RangeLemmas::all_every))]
 fn begins(alloc: Global, count: u64) -> Result<Vec<Effect>, AllocError>
-    ensures { IfOk result (λ v. Every HasBytes v.items) }
+    ensures { IfOk result (λ v. AreEffects v.items) }
 {
     let mut effects = Vec::new(alloc);
     for deadline in 0..count {
@@ -379,9 +377,9 @@ fn three_puts<M: Medium>(alloc: Global, medium: M) -> Result<Store<M>, FetchFaul
 }
 
 fn two(alloc: Global, one: Option<Effect>, other: Option<Effect>) -> Option<Vec<Effect>>
-    requires one { IfSome one (λ e. HasBytes e) }
-    requires other { IfSome other (λ e. HasBytes e) }
-    ensures { IfSome result (λ v. Every HasBytes v.items) }
+    requires one { IfSome one (λ e. IsEffect e) }
+    requires other { IfSome other (λ e. IsEffect e) }
+    ensures { IfSome result (λ v. AreEffects v.items) }
 {
     let mut effects = Vec::new(alloc);
     let Ok(()) = effects.push(one?) else {

@@ -1,7 +1,7 @@
 ghost use Rattle.std.specs.Prelude.{◌≡◌, [], ◌∷◌, List, IsTrue, false, Ok, IfOk, IfErr};
 ghost use Rattle.medium_port.specs.Image.{Image};
 ghost use Rattle.effect_form.specs.declared.effects.Effect.{Effect};
-ghost use Rattle.version_store.specs.Filling.{HasBytes};
+ghost use Rattle.effect_form.specs.Effects.{IsEffect};
 ghost use Rattle.version_store.specs.Storage.{storage};
 ghost use Rattle.version_store.specs.StoreWords.{medium_of};
 ghost use Rattle.stored_run.specs.Media.{Adds, Stops, held};
@@ -13,7 +13,7 @@ use version_store::{Store, StoreFault};
 // Adds an effect by a call of its own, so on a page of its own.
 pub fn added<M: Medium>(store: Store<M>, effect: Effect) -> Result<Store<M>, (M, StoreFault)>
     requires works { M.is_failed (medium_of store) ≡ false }
-    requires bytes { HasBytes effect }
+    requires bytes { IsEffect effect }
     ensures adds { IfOk result (λ s. Adds M.tells M.reads M.is_failed M.page_count M.faults (medium_of store) (medium_of s) (effect ∷ [])) }
     ensures stops { IfErr result (λ e. Stops M.tells M.reads M.may_leave M.page_count M.faults (medium_of store) e.0 e.1 (effect ∷ [])) }
 {

@@ -1,9 +1,9 @@
 // What is read from a log when it is opened. In contracts logs stand newest first.
-ghost use Rattle.std.specs.Prelude.{◌≡◌, ◌≤◌, ◌^◌, ◌<◌, [], ◌∷◌, List, All, Some, IfOk, IfSome, OnOk, max, reverse};
+ghost use Rattle.std.specs.Prelude.{◌≡◌, ◌≤◌, ◌^◌, ◌<◌, [], ◌∷◌, List, Some, IfOk, IfSome, OnOk, max, reverse};
 ghost use Rattle.effect_form.specs.declared.effects.Effect.{Effect};
 ghost use Rattle.object_history.specs.Ranges.{AreMarks, IsMark};
 ghost use Rattle.repository_core.specs.Logs.{marks};
-ghost use Rattle.version_store.specs.Filling.{HasBytes};
+ghost use Rattle.effect_form.specs.Effects.{IsEffect, AreEffects};
 ghost use Rattle.stored_run.specs.Logs as spec;
 
 use effect_form::Effect;
@@ -14,7 +14,7 @@ use std::collections::BTreeSet;
 
 // The mark of an effect, if it has one.
 fn mark_of(alloc: Global, effect: &Effect) -> Result<Option<Mark>, AllocError>
-    requires { HasBytes effect.now }
+    requires { IsEffect effect.now }
     ensures mark { (l : List Effect) → IfOk result (λ o. marks (effect.now ∷ l) ≡ spec.with_mark o (marks l)) }
     ensures in_range { IfOk result (λ o. IfSome o IsMark) }
 {
@@ -39,7 +39,7 @@ fn mark_of(alloc: Global, effect: &Effect) -> Result<Option<Mark>, AllocError>
 
 /// The marks of a log, oldest first.
 pub fn marks_of(alloc: Global, effects: &[Effect]) -> Result<Vec<Mark>, AllocError>
-    requires { All HasBytes effects.now }
+    requires { AreEffects effects.now }
     ensures marks { IfOk result (λ v. reverse v.items ≡ marks (reverse effects.now)) }
     ensures in_range { IfOk result (λ v. AreMarks v.items) }
 {

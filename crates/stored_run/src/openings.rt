@@ -1,9 +1,9 @@
-ghost use Rattle.std.specs.Prelude.{◌≡◌, ◌≢◌, ◌≤◌, ℕ, [], ◌∷◌, List, All, IsTrue, false, Ok, Err, IfOk, IfErr, OnOk, reverse};
+ghost use Rattle.std.specs.Prelude.{◌≡◌, ◌≢◌, ◌≤◌, ℕ, [], ◌∷◌, List, IsTrue, false, Ok, Err, IfOk, IfErr, OnOk, reverse};
 ghost use Rattle.stream_port.specs.Causes.{Rose};
 ghost use Rattle.medium_port.specs.Image.{NoMore};
 ghost use Rattle.effect_form.specs.declared.effects.Effect.{Effect};
 ghost use Rattle.repository_core.specs.Logs.{marks};
-ghost use Rattle.version_store.specs.Filling.{HasBytes};
+ghost use Rattle.effect_form.specs.Effects.{AreEffects};
 ghost use Rattle.version_store.specs.Storage.{storage};
 ghost use Rattle.version_store.specs.StoreWords.{medium_of};
 ghost use Rattle.stored_run.specs.Kept.{kept_map};
@@ -89,7 +89,7 @@ struct Told {
 
 // Reads what a log tells.
 fn told_by(alloc: Global, effects: &[Effect]) -> Result<Told, AllocError>
-    requires { All HasBytes effects.now }
+    requires { AreEffects effects.now }
     ensures histories { IfOk result (λ t. t.histories ≡ marks (reverse effects.now)) }
     ensures objects { IfOk result (λ t. t.objects ≡ kept_map (marks (reverse effects.now))) }
     ensures clock { IfOk result (λ t. t.clock ≡ log.last_clock (reverse effects.now)) }
@@ -123,7 +123,7 @@ fn opened<M: Medium>(alloc: Global, medium: M) -> Result<(Store<M>, Vec<Effect>)
     ensures adds { IfOk result (λ r. Adds M.tells M.reads M.is_failed M.page_count M.faults medium (medium_of r.0) []) }
     ensures log { IsTrue M.tells → IfOk result (λ r. storage (M.reads medium) ≡ Ok r.1.items) }
     ensures held { IsTrue M.tells → IfOk result (λ r. held M.reads medium ≡ r.1.items) }
-    ensures bytes { IfOk result (λ r. All HasBytes r.1.items) }
+    ensures bytes { IfOk result (λ r. AreEffects r.1.items) }
     ensures damaged { IsTrue M.tells → IfErr result (λ e. (page : ℕ) → e.1 ≡ OpenFault.Damaged page → storage (M.reads medium) ≡ Err page) }
     ensures images { IsTrue M.tells → IfErr result (λ e. NoMore (M.may_leave medium) (M.may_leave e.0)) }
     ensures failed { IfErr result (λ e. e.1 ≡ OpenFault.Medium → Rose (M.faults medium) (M.faults e.0)) }
@@ -142,7 +142,7 @@ fn readied<M: Medium>(
     effects: &[Effect],
 ) -> Result<LoneRepository<M>, (M, StoreFault, ObjectMap)>
     requires works { M.is_failed (medium_of store) ≡ false }
-    requires bytes { All HasBytes effects.now }
+    requires bytes { AreEffects effects.now }
     ensures stand { IfOk result (λ r. spec.stand_of r.histories r.clock r.objects ≡ spec.opened effects.now) }
     ensures quiet { IfOk result (λ r. IsQuiet r.clock r.histories r.objects) }
     ensures adds { IfOk result (λ r. Adds M.tells M.reads M.is_failed M.page_count M.faults (medium_of store) (medium_of r.store) (spec.withdrawals effects.now)) }

@@ -2,8 +2,7 @@
 // medium in memory, how many calls there are, and how many effects each adds. Prints how many
 // effects the opening found, and how many pages are left in the end.
 ghost use Rattle.std.specs.Prelude.{◌≡◌, false, IfOk, IfSome};
-ghost use Rattle.pseudo_time.specs.Lists.{Every};
-ghost use Rattle.version_store.specs.Filling.{HasBytes};
+ghost use Rattle.effect_form.specs.Effects.{IsEffect, AreEffects};
 ghost use Rattle.version_store.specs.StoreWords.{medium_of};
 
 use crate::faults::{Fault, number, word};
@@ -17,15 +16,14 @@ use version_store::Store;
 const MEMORY_PAGES: u32 = 8_192;
 
 fn begin(deadline: u64) -> Option<Effect>
-    ensures { IfSome result (λ e. HasBytes e) }
+    ensures { IfSome result (λ e. IsEffect e) }
 {
     let stamp = Stamp::new(1, 1, 1)?;
     Some(Effect::Begin { stamp, deadline })
 }
 
-#[tactic(auto, using(version_store::proofs::RangeLemmas::all_every))]
 fn begins(alloc: Global, count: u32) -> Result<Vec<Effect>, AllocError>
-    ensures { IfOk result (λ v. Every HasBytes v.items) }
+    ensures { IfOk result (λ v. AreEffects v.items) }
 {
     let mut effects = Vec::new(alloc);
     for deadline in 0..count {
@@ -39,7 +37,7 @@ fn begins(alloc: Global, count: u32) -> Result<Vec<Effect>, AllocError>
 // Adds the effects so often, and says how many pages are left.
 fn add<M: Medium>(store: Store<M>, calls: u32, effects: &[Effect]) -> Option<u32>
     requires open { M.is_failed (medium_of store) ≡ false }
-    requires ranges { Every HasBytes effects.now }
+    requires ranges { AreEffects effects.now }
 {
     let mut store = store;
     for _ in 0..calls {

@@ -8,32 +8,33 @@ use Rattle.medium_port.specs.Image.{Image}
 use Rattle.page_gate.specs.States.{is_blank, state_of}
 use Rattle.page_gate.specs.declared.pages.PageState.TheVariants.{Blank}
 use Rattle.version_store.specs.Entries.{Log}
-use Rattle.version_store.specs.Storage.{content_of, Reading, Going, Ended, Damaged, begun, next, scan}
+use Rattle.version_store.specs.Storage.{Content, Reading, Going, Ended, Damaged, begun, next, scan}
 use Rattle.version_store.specs.Laying.{IsAtRest}
+use Rattle.version_store.proofs.ScanLemmas.{going}
 use Rattle.page_gate.specs.declared.pages.PageState.{PageState}
 use Rattle.page_gate.specs.declared.pages.PageState.TheVariants.{Spoiled, Gated}
 
 -- once ended or damaged, the reading goes on no more
 abbrev Stopped : Reading → Type 0
-Stopped (Going log) = ⊥
-Stopped (Ended log) = Unit {0}
+Stopped (Going c) = ⊥
+Stopped (Ended c) = Unit {0}
 Stopped (Damaged page) = Unit {0}
 
 stopped_next : (reading : Reading) (n : ℕ) (s : PageState) → Stopped reading → Stopped (next reading n s)
-stopped_next (Going log) n s h = absurd h
-stopped_next (Ended log) n Blank h = tt
-stopped_next (Ended log) n Spoiled h = tt
-stopped_next (Ended log) n (Gated body) h = tt
+stopped_next (Going c) n s h = absurd h
+stopped_next (Ended c) n Blank h = tt
+stopped_next (Ended c) n Spoiled h = tt
+stopped_next (Ended c) n (Gated body) h = tt
 stopped_next (Damaged first) n s h = tt
 
 blank_stops : (reading : Reading) (n : ℕ) → Stopped (next reading n Blank)
-blank_stops (Going log) n = tt
-blank_stops (Ended log) n = tt
+blank_stops (Going c) n = tt
+blank_stops (Ended c) n = tt
 blank_stops (Damaged first) n = tt
 
-stopped_scan : (reading : Reading) (n : ℕ) (log : Log) (pages : Image) → Stopped reading → scan reading n pages ≡ Going (content_of log) → ⊥
-stopped_scan reading n log [] h is = subst (λ r. Stopped r) is h
-stopped_scan reading n log (page ∷ pages) h is = stopped_scan (next reading n (state_of page)) (n + 1) log pages (stopped_next reading n (state_of page) h) is
+stopped_scan : (reading : Reading) (n : ℕ) (c : Content) (pages : Image) → Stopped reading → scan reading n pages ≡ Going c → ⊥
+stopped_scan reading n c [] h is = subst (λ r. Stopped r) is h
+stopped_scan reading n c (page ∷ pages) h is = stopped_scan (next reading n (state_of page)) (n + 1) c pages (stopped_next reading n (state_of page) h) is
 
 one_if : Bool → ℕ
 one_if b = cond b 1 0
@@ -50,12 +51,12 @@ count_first : (page : List ℕ) (pages : Image) → count_by is_blank (page ∷ 
 unfolding one_if
 count_first page pages = sum_by-append (λ (p : List ℕ). cond (is_blank p) 1 0) (page ∷ []) pages ∙ ap (λ (k : ℕ). k + count_by is_blank pages) (zero-add (cond (is_blank page) 1 0))
 
-none_blank : (reading : Reading) (n : ℕ) (log : Log) (pages : Image) → scan reading n pages ≡ Going (content_of log) → count_by is_blank pages ≡ 0
-none_blank reading n log [] is = refl
-none_blank reading n log (page ∷ pages) is = elim (cases_Bool (is_blank page)) [
-  | inl blank ↦ absurd (stopped_scan (next reading n (state_of page)) (n + 1) log pages (subst (λ s. Stopped (next reading n s)) (sym (cond-true (is_blank page) _ _ blank)) (blank_stops reading n)) is)
+none_blank : (reading : Reading) (n : ℕ) (c : Content) (pages : Image) → scan reading n pages ≡ Going c → count_by is_blank pages ≡ 0
+none_blank reading n c [] is = refl
+none_blank reading n c (page ∷ pages) is = elim (cases_Bool (is_blank page)) [
+  | inl blank ↦ absurd (stopped_scan (next reading n (state_of page)) (n + 1) c pages (subst (λ s. Stopped (next reading n s)) (sym (cond-true (is_blank page) _ _ blank)) (blank_stops reading n)) is)
   | inr other ↦
-      let rest : count_by is_blank pages ≡ 0 = none_blank (next reading n (state_of page)) (n + 1) log pages is in
+      let rest : count_by is_blank pages ≡ 0 = none_blank (next reading n (state_of page)) (n + 1) c pages is in
       let first : one_if (is_blank page) ≡ 0 = ap one_if other ∙ zero_if in
       count_first page pages ∙ omega (arith, first, rest)
 ]
@@ -70,6 +71,7 @@ all_blank (page ∷ pages) blank =
 
 pub blank_count : (log : Log) (n : ℕ) (reads : Image) (may_leave : Image → Type 0) → IsAtRest log n reads may_leave → count_by is_blank reads ≡ length reads - n
 blank_count log n reads may_leave rest =
+    let on = going (scan begun 0 (take n reads)) log rest.front in
     ap (λ (l : Image). count_by is_blank l) (sym (take-append-drop n reads))
     ∙ sum_by-append (λ (p : List ℕ). cond (is_blank p) 1 0) (take n reads) (drop n reads)
-    ∙ omega (arith, none_blank begun 0 log (take n reads) rest.front, all_blank (drop n reads) rest.blank, length-drop n reads)
+    ∙ omega (arith, none_blank begun 0 on.0 (take n reads) on.1, all_blank (drop n reads) rest.blank, length-drop n reads)

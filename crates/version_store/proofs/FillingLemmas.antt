@@ -1,40 +1,14 @@
 -- How effects fill pages.
-use Rattle.std.proofs.Common.{◌≡◌, ℕ, ◌+◌, ◌≤◌, ◌<◌, List, [], ◌∷◌, ◌++◌, length, get_or, drop, None, refl, sym, ◌∙◌, ap, subst, arith, inl, inr, append_assoc, length-append, zero-add}
+use Rattle.std.proofs.Common.{◌≡◌, ℕ, ◌+◌, ◌≤◌, ◌<◌, List, [], ◌∷◌, ◌++◌, length, get_or, drop, refl, sym, ◌∙◌, ap, subst, arith, inl, inr, append_assoc, zero-add}
 use Rattle.std.specs.Prelude.{nat_le}
-use Rattle.pseudo_time.specs.Lists.{Every}
-use Rattle.std.proofs.lemmas.Bool.{cases_Bool, cond-true, cond-false, le-leb, lt-leb}
+use Rattle.std.proofs.lemmas.Bool.{cases_Bool, cond-true, cond-false, le-leb, lt-leb, leb-true, leb-false}
 use Rattle.std.proofs.lemmas.List.{append-nil, drop_more, drop_all}
-use Rattle.value_form.specs.declared.values.Value.{Value}
-use Rattle.value_form.specs.declared.values.Value.TheVariants.{Nothing, Number, Text}
-use Rattle.value_form.specs.ValueBytes.{IsValue, value_bytes}
+use Rattle.pseudo_time.specs.Lists.{Every}
+use Rattle.pseudo_time.proofs.ListLemmas.{every-append}
 use Rattle.effect_form.specs.declared.effects.Effect.{Effect}
-use Rattle.effect_form.specs.declared.effects.Effect.TheVariants.{Put, Stretch, Begin, Decide, Learn, Run, Act, Try, Got, Acked, End}
-use Rattle.effect_form.specs.Effects.{Written, effect_bytes}
-use Rattle.effect_form.specs.Effects.{back_bytes}
-use Rattle.effect_form.specs.declared.outcomes.Outcome.{Outcome}
-use Rattle.effect_form.specs.declared.outcomes.Outcome.TheVariants.{Committed, Withdrawn, Failed, LaterRead, LaterVersion, Expired, Spent}
-use Rattle.effect_form.specs.Outcomes.{outcome_bytes}
-use Rattle.pseudo_time.specs.declared.decisions.Decision.{Decision}
-use Rattle.pseudo_time.specs.declared.decisions.Decision.TheVariants as decision
-use Rattle.field_form.specs.Decisions.{decision_text}
-use Rattle.version_store.specs.Filling.{HasBytes, size_of, sizes, closed, filling_from, filling, joined}
-
--- an effect's first byte is its tag
-pub effect_cons : (w : Written) → (tag : ℕ) × (fields : List ℕ) × (effect_bytes w ≡ tag ∷ fields)
-effect_cons (Put object start v, back) = (_, _, refl)
-effect_cons (Stretch object at, back) = (_, _, refl)
-effect_cons (Begin stamp deadline, back) = (_, _, refl)
-effect_cons (Decide stamp decision, back) = (_, _, refl)
-effect_cons (Learn stamp committed, back) = (_, _, refl)
-effect_cons (Run number, back) = (_, _, refl)
-effect_cons (Act index home timeout tries clock script, back) = (_, _, refl)
-effect_cons (Try index stamp, back) = (_, _, refl)
-effect_cons (Got step v, back) = (_, _, refl)
-effect_cons (Acked step, back) = (_, _, refl)
-effect_cons (End index outcome, back) = (_, _, refl)
-
-pub size_some : (e : Effect) → 1 ≤ size_of e
-size_some e = let first = effect_cons (e, None) in omega (arith, ap length first.2)
+use Rattle.effect_form.specs.Effects.{IsEffect, AreEffects, size_of}
+use Rattle.effect_form.proofs.SizeLaws.{size_some, size_most}
+use Rattle.version_store.specs.Filling.{sizes, closed, filling_from, filling, joined}
 
 pub sizes-append : (a b : List Effect) → sizes (a ++ b) ≡ sizes a + sizes b
 sizes-append [] b = sym (zero-add (sizes b))
@@ -83,39 +57,6 @@ filling-some e page (x ∷ rest) = elim (cases_Bool (nat_le (sizes (e ∷ page) 
 pub filling-push-some : (page : List Effect) (e : Effect) (rest : List Effect) → 1 ≤ length (filling_from (page ++ e ∷ []) rest)
 filling-push-some [] e rest = filling-some e [] rest
 filling-push-some (x ∷ page) e rest = filling-some x (page ++ e ∷ []) rest
-
-value_most : (v : Value) → IsValue v → length (value_bytes v) ≤ 1003
-value_most Nothing h = omega arith
-value_most (Number z) h = omega arith
-value_most (Text bytes) h = omega (arith, h.0)
-
-outcome_most : (outcome : Outcome) → length (outcome_bytes outcome) ≤ 20
-outcome_most Committed = omega arith
-outcome_most (Withdrawn line) = omega arith
-outcome_most (Failed line why) = omega arith
-outcome_most (LaterRead object end) = omega arith
-outcome_most (LaterVersion object start) = omega arith
-outcome_most (Expired deadline moment) = omega arith
-outcome_most (Spent clock) = omega arith
-
-decision_most : (decision : Decision) → length (decision_text decision) ≤ 17
-decision_most decision.Committed = omega arith
-decision_most decision.Withdrawn = omega arith
-decision_most (decision.Expired deadline moment) = omega arith
-
--- each effect fits on a page
-pub size_most : (e : Effect) → HasBytes e → size_of e ≤ 4092
-size_most (Put object start v) h = let most = value_most v h.2 in omega (arith, most, length-append (value_bytes v) (back_bytes None))
-size_most (Stretch object at) h = omega arith
-size_most (Begin stamp deadline) h = omega arith
-size_most (Decide stamp decision) h = let most = decision_most decision in omega (arith, most)
-size_most (Learn stamp committed) h = omega arith
-size_most (Run number) h = omega arith
-size_most (Act index home timeout tries clock script) h = let most = h.0.size in omega (arith, most)
-size_most (Try index stamp) h = omega arith
-size_most (Got step v) h = let most = value_most v h.0.1 in omega (arith, most)
-size_most (Acked step) h = omega arith
-size_most (End index outcome) h = let most = outcome_most outcome in omega (arith, most)
 
 -- after the first i effects so many pages are full, and one with so many bytes is being filled
 pub record Filled (effects : List Effect) (i full size : ℕ) : Type 0 where
@@ -188,7 +129,7 @@ filled_left effects i full size was d within = left (ap (λ (l : List Effect). f
     left count = let more = some was.page (get_or effects i d) (drop (i + 1) effects) in omega (arith, more, count)
 
 -- an effect fills a page
-pub filling-one : (e : Effect) → HasBytes e → length (filling (e ∷ [])) ≡ 1
+pub filling-one : (e : Effect) → IsEffect e → length (filling (e ∷ [])) ≡ 1
 filling-one e bytes = let most = size_most e bytes in ap length (filling-takes [] e [] (omega (arith, most)))
 
 closed-most : (page : List Effect) → length (closed page) ≤ 1
@@ -209,10 +150,45 @@ filling_from-most page (e ∷ rest) = elim (cases_Bool (nat_le (sizes page + siz
       omega (arith, same, more)
 ]
 
-pub filling-most : (effects : List Effect) → Every HasBytes effects → length (filling effects) ≤ length effects
+pub filling-most : (effects : List Effect) → AreEffects effects → length (filling effects) ≤ length effects
 filling-most [] h = omega arith
 filling-most (e ∷ rest) h =
     let most = size_most e h.0 in
     let same = ap (λ (l : List (List Effect)). length l) (filling-takes [] e rest (omega (arith, most))) in
     let more = filling_from-most (e ∷ []) rest in
     omega (arith, same, more)
+
+-- ---- each page has some effects, and they fit
+
+pub record FitsPage (es : List Effect) : Type 0 where
+  pub some : 1 ≤ length es
+  pub most : sizes es ≤ 4092
+  pub ranges : AreEffects es
+
+closed-fits : (page : List Effect) → sizes page ≤ 4092 → AreEffects page → Every FitsPage (closed page)
+closed-fits [] most ranges = tt
+closed-fits (e ∷ page) most ranges = (record { some = omega arith; most = most; ranges = ranges }, tt)
+
+some_effects : (page : List Effect) → 1 ≤ sizes page → 1 ≤ length page
+some_effects [] some = absurd (omega (arith, some))
+some_effects (e ∷ page) some = omega arith
+
+filling_from-fits : (page rest : List Effect) → sizes page ≤ 4092 → AreEffects page → AreEffects rest → Every FitsPage (filling_from page rest)
+filling_from-fits page [] most ranges good = closed-fits page most ranges
+filling_from-fits page (e ∷ rest) most ranges good = elim (cases_Bool (nat_le (sizes page + size_of e) 4092)) [
+  | inl fits ↦
+      let small : sizes page + size_of e ≤ 4092 = leb-true (sizes page + size_of e) 4092 fits in
+      let both = sizes-push page e in
+      subst (λ (l : List (List Effect)). Every FitsPage l) (sym (filling-takes page e rest small))
+      (filling_from-fits (page ++ e ∷ []) rest (omega (arith, small, both)) (every-append IsEffect page (e ∷ []) ranges (good.0, tt)) good.1)
+  | inr over ↦
+      let large : 4092 < sizes page + size_of e = leb-false (sizes page + size_of e) 4092 over in
+      let low = size_most e good.0 in
+      subst (λ (l : List (List Effect)). Every FitsPage l) (sym (filling-closes page e rest large)) (
+        record { some = some_effects page (omega (arith, large, low)); most = most; ranges = ranges },
+        filling_from-fits (e ∷ []) rest (omega (arith, low)) (good.0, tt) good.1,
+      )
+]
+
+pub filling-fits : (effects : List Effect) → AreEffects effects → Every FitsPage (filling effects)
+filling-fits effects good = filling_from-fits [] effects (omega arith) tt good

@@ -1,19 +1,23 @@
 -- The pages of a call, as they are laid out.
-use Rattle.std.proofs.Common.{◌≡◌, ℕ, suc, ◌+◌, ◌≤◌, ◌<◌, List, [], ◌∷◌, ◌++◌, length, map, Option, Some, None, refl, sym, ◌∙◌, ap, subst, arith, inl, inr, append_assoc, zero-add}
-use Rattle.std.specs.Prelude.{nat_le, All}
-use Rattle.std.proofs.lemmas.Bool.{cases_Bool, cond-true, cond-false, le-leb, lt-leb, leb-true, leb-false}
+use Rattle.std.proofs.Common.{◌≡◌, ℕ, suc, ◌+◌, ◌≤◌, ◌<◌, List, [], ◌∷◌, ◌++◌, length, map, Option, Some, None, refl, sym, ◌∙◌, ap, subst, arith, inl, inr, append_assoc, zero-add, add-zero}
+use Rattle.std.proofs.lemmas.Bool.{cases_Bool, cond-true, cond-false}
 use Rattle.std.proofs.lemmas.List.{append-nil}
+use Rattle.pseudo_time.specs.Lists.{Every}
+use Rattle.page_gate.specs.declared.pages.PageState.TheVariants.{Gated}
 use Rattle.value_form.specs.declared.objects.ObjectId.{ObjectId}
 use Rattle.effect_form.specs.declared.effects.Effect.{Effect}
 use Rattle.effect_form.specs.declared.effects.Place.{Place}
-use Rattle.effect_form.specs.Effects.{IsPlace, IsBack, IsWritten, effect_bytes}
+use Rattle.effect_form.specs.Effects.{IsPlace, IsBack, IsWritten, IsEffect, AreEffects, effect_bytes, size_of}
+use Rattle.effect_form.proofs.SizeLaws.{size_some}
 use Rattle.version_store.specs.Entries.{Entry, Log, effects_of, put_object, is_object, last_put, back_of, back_in}
-use Rattle.version_store.specs.Filling.{HasBytes, size_of, sizes, closed, filling_from, filling, joined}
+use Rattle.version_store.specs.Filling.{sizes, closed, filling_from, filling, joined}
 use Rattle.version_store.specs.Heads.{Heads, HeadsFit, ArePlaces}
-use Rattle.version_store.specs.Laying.{texts, body_with, body_of, place_after, entry_at, entry_on, closed_page, laid_from, laid, all_of, PagesFit}
+use Rattle.version_store.specs.Storage.{Content, content_of, Reading, Going, log_going, next, going_or_damaged}
+use Rattle.version_store.specs.Laying.{texts, body_with, body_of, padded, place_after, entry_at, entry_on, laid_on, laid_pages, laid, all_of, PagesFit}
 use Rattle.version_store.proofs.LogLemmas.{last_from-push, has_back, effects_of-append}
-use Rattle.version_store.proofs.FillingLemmas.{size_some, size_most, sizes-push, filling-takes, filling-closes, filling-some, filling-push-some, joined-filling}
-use Rattle.version_store.proofs.ReadBackLemmas.{IsLaid, laid-push, length-texts, texts-push, few_effects, page_reads}
+use Rattle.version_store.proofs.FillingLemmas.{FitsPage, filling-takes, filling-closes, filling-fits, joined-filling}
+use Rattle.version_store.proofs.ScanLemmas.{going}
+use Rattle.version_store.proofs.ReadBackLemmas.{IsLaid, length-texts, texts-push, few_effects, page_reads}
 
 -- the last places of a log are places of pages
 abbrev pub LastsArePlaces : Log → Type 0
@@ -40,30 +44,53 @@ back_none : (log : Log) (e : Effect) → put_object e ≡ None → back_in log e
 back_none log e is = ap (back_of log) is
 
 -- an entry that is made has bytes
-pub entry_written : (log : Log) (place : Place) (e : Effect) → LastsArePlaces log → HasBytes e → IsWritten (e, (entry_at log place e).back)
+pub entry_written : (log : Log) (place : Place) (e : Effect) → LastsArePlaces log → IsEffect e → IsWritten (e, (entry_at log place e).back)
 entry_written log place e lasts good = has_back e (back_in log e) good (back_good log (put_object e) lasts) (back_none log e)
 
--- effects of the pages
-effects-push : (es : Log) (e : Entry) → effects_of (es ++ e ∷ []) ≡ effects_of es ++ e.effect ∷ []
-effects-push es e = effects_of-append es (e ∷ [])
+-- ---- the entries of a page
 
-effects-closed : (es : Log) → map effects_of (closed_page es) ≡ closed (effects_of es)
-effects-closed [] = refl
-effects-closed (e ∷ es) = refl
+-- one effect more
+pub laid_on-push : (log : Log) (page size : ℕ) (es : List Effect) (e : Effect) → laid_on log page size (es ++ e ∷ []) ≡ laid_on log page size es ++ entry_on (log ++ laid_on log page size es) page (size + sizes es) e ∷ []
+laid_on-push log page size [] e = ap (λ (l : Log). entry_on l page size e ∷ []) (sym (append-nil log)) ∙ ap (λ (n : ℕ). entry_on (log ++ []) page n e ∷ []) (sym (add-zero size))
+laid_on-push log page size (x ∷ es) e =
+    let first = entry_on log page size x in
+    let rest = laid_on (log ++ first ∷ []) page (size + size_of x) es in
+    ap (λ (l : Log). first ∷ l) (
+    laid_on-push (log ++ first ∷ []) page (size + size_of x) es e
+    ∙ ap (λ (l : Log). rest ++ entry_on l page (size + size_of x + sizes es) e ∷ []) (append_assoc log (first ∷ []) rest)
+    ∙ ap (λ (n : ℕ). rest ++ entry_on (log ++ first ∷ rest) page n e ∷ []) (behind (size_of x) (sizes es))
+    )
+  where
+    behind : (a b : ℕ) → size + a + b ≡ size + (a + b)
+    behind a b = omega arith
 
-pub effects-laid_from : (log : Log) (page : ℕ) (es : Log) (rest : List Effect) → map effects_of (laid_from log page es rest) ≡ filling_from (effects_of es) rest
-effects-laid_from log page es [] = effects-closed es
-effects-laid_from log page es (e ∷ rest) = elim (cases_Bool (nat_le (sizes (effects_of es) + size_of e) 4092)) [
-  | inl fits ↦
-      ap (map effects_of) (cond-true (nat_le (sizes (effects_of es) + size_of e) 4092) _ _ fits)
-      ∙ effects-laid_from log page (es ++ entry_on log page es e ∷ []) rest
-      ∙ ap (λ (l : List Effect). filling_from l rest) (effects-push es (entry_on log page es e))
-      ∙ sym (cond-true (nat_le (sizes (effects_of es) + size_of e) 4092) _ _ fits)
-  | inr over ↦
-      ap (map effects_of) (cond-false (nat_le (sizes (effects_of es) + size_of e) 4092) _ _ over)
-      ∙ ap (λ (l : List (List Effect)). effects_of es ∷ l) (effects-laid_from (log ++ es) (page + 1) (entry_on (log ++ es) (page + 1) [] e ∷ []) rest)
-      ∙ sym (cond-false (nat_le (sizes (effects_of es) + size_of e) 4092) _ _ over)
-]
+pub effects-laid_on : (log : Log) (page size : ℕ) (es : List Effect) → effects_of (laid_on log page size es) ≡ es
+effects-laid_on log page size [] = refl
+effects-laid_on log page size (e ∷ es) = ap (λ (l : List Effect). e ∷ l) (effects-laid_on (log ++ entry_on log page size e ∷ []) page (size + size_of e) es)
+
+length-laid_on : (log : Log) (page size : ℕ) (es : List Effect) → length (laid_on log page size es) ≡ length es
+length-laid_on log page size [] = refl
+length-laid_on log page size (e ∷ es) = ap suc (length-laid_on (log ++ entry_on log page size e ∷ []) page (size + size_of e) es)
+
+-- each stands behind the one before it
+laid_on-laid : (log : Log) (page size : ℕ) (es : List Effect) → LastsArePlaces log → AreEffects es → page < 1048576 → size + sizes es ≤ 4092 → IsLaid log page size (laid_on log page size es) × LastsArePlaces (log ++ laid_on log page size es)
+laid_on-laid log page size [] lasts good low fits = (tt, subst LastsArePlaces (sym (append-nil log)) lasts)
+laid_on-laid log page size (e ∷ es) lasts good low fits =
+    let entry = entry_on log page size e in
+    let some = size_some e in
+    let place : IsPlace (place_after page size) = record { page = low; offset_low = omega arith; offset_high = omega (arith, some, fits) } in
+    let rest = laid_on-laid (log ++ entry ∷ []) page (size + size_of e) es (lasts-push log entry place lasts) good.1 low (omega (arith, fits)) in (
+      (entry_written log (place_after page size) e lasts good.0, refl, refl, rest.0),
+      subst LastsArePlaces (append_assoc log (entry ∷ []) (laid_on (log ++ entry ∷ []) page (size + size_of e) es)) rest.1,
+    )
+
+-- ---- the effects of the pages
+
+pub effects-laid_pages : (log : Log) (page : ℕ) (pages : List (List Effect)) → map effects_of (laid_pages log page pages) ≡ pages
+effects-laid_pages log page [] = refl
+effects-laid_pages log page (es ∷ pages) =
+    ap (λ (l : List Effect). l ∷ map effects_of (laid_pages (log ++ laid_on log page 0 es) (page + 1) pages)) (effects-laid_on log page 0 es)
+    ∙ ap (λ (l : List (List Effect)). es ∷ l) (effects-laid_pages (log ++ laid_on log page 0 es) (page + 1) pages)
 
 pub effects-all_of : (pages : List Log) → effects_of (all_of pages) ≡ joined (map effects_of pages)
 effects-all_of [] = refl
@@ -71,102 +98,63 @@ effects-all_of (es ∷ pages) = effects_of-append es (all_of pages) ∙ ap (λ (
 
 -- the pages have the effects in order
 pub effects-laid : (log : Log) (first : ℕ) (effects : List Effect) → effects_of (all_of (laid log first effects)) ≡ effects
-effects-laid log first effects = effects-all_of (laid log first effects) ∙ ap joined (effects-laid_from log first [] effects) ∙ joined-filling effects
+effects-laid log first effects = effects-all_of (laid log first effects) ∙ ap joined (effects-laid_pages log first (filling effects)) ∙ joined-filling effects
 
-length-map' : {A B : Type 0} (f : A → B) (xs : List A) → length (map f xs) ≡ length xs
-length-map' f [] = refl
-length-map' f (x ∷ xs) = ap suc (length-map' f xs)
+length-laid_pages : (log : Log) (page : ℕ) (pages : List (List Effect)) → length (laid_pages log page pages) ≡ length pages
+length-laid_pages log page [] = refl
+length-laid_pages log page (es ∷ pages) = ap suc (length-laid_pages (log ++ laid_on log page 0 es) (page + 1) pages)
 
 pub length-laid : (log : Log) (first : ℕ) (effects : List Effect) → length (laid log first effects) ≡ length (filling effects)
-length-laid log first effects = sym (length-map' effects_of (laid log first effects)) ∙ ap (λ (l : List (List Effect)). length l) (effects-laid_from log first [] effects)
+length-laid log first effects = length-laid_pages log first (filling effects)
 
--- ---- each page goes on from the log before it
+-- ---- the reading goes on over each page
 
--- a page that is being filled
-pub record IsBegun (log : Log) (page : ℕ) (es : Log) : Type 0 where
-  pub laid_so : IsLaid log page 0 es
-  pub most : sizes (effects_of es) ≤ 4092
-  pub lasts : LastsArePlaces (log ++ es)
+page_goes : (c : Content) (page : ℕ) (es : List Effect) → LastsArePlaces c.log → FitsPage es → page < 1048576 → next (Going c) page (Gated (padded (body_of (laid_on c.log page 0 es)))) ≡ Going (content_of (c.log ++ laid_on c.log page 0 es))
+page_goes c page es lasts fits low =
+    let on = laid_on c.log page 0 es in
+    let some = fits.some in
+    let long = length-laid_on c.log page 0 es in
+    ap (going_or_damaged page) (page_reads c.log page on (laid_on-laid c.log page 0 es lasts fits.ranges low (omega (arith, fits.most))).0 (omega (arith, some, long)) (subst (λ (l : List Effect). sizes l ≤ 4092) (sym (effects-laid_on c.log page 0 es)) fits.most))
 
-pub begun_none : (log : Log) (page : ℕ) → LastsArePlaces log → IsBegun log page []
-begun_none log page lasts = record { laid_so = tt; most = omega arith; lasts = subst LastsArePlaces (sym (append-nil log)) lasts }
+pages_fit : (c : Content) (page : ℕ) (pages : List (List Effect)) → LastsArePlaces c.log → Every FitsPage pages → page + length pages ≤ 1048576 → PagesFit (Going c) c.log page (laid_pages c.log page pages)
+pages_fit c page [] lasts fit room = tt
+pages_fit c page (es ∷ pages) lasts fit room =
+    let low : page < 1048576 = omega (arith, room) in
+    let more = content_of (c.log ++ laid_on c.log page 0 es) in
+    let most = fit.0.most in
+    let goes = page_goes c page es lasts fit.0 low in (
+      ap log_going goes,
+      subst (λ r. PagesFit r more.log (page + 1) (laid_pages more.log (page + 1) pages)) (sym goes)
+          (pages_fit more (page + 1) pages (laid_on-laid c.log page 0 es lasts fit.0.ranges low (omega (arith, most))).1 fit.1 (omega (arith, room))),
+    )
 
-pub begun_more : (log : Log) (page : ℕ) (es : Log) (e : Effect) → IsBegun log page es → HasBytes e → page < 1048576 → sizes (effects_of es) + size_of e ≤ 4092 → IsBegun log page (es ++ entry_on log page es e ∷ [])
-begun_more log page es e was good low fits =
-    let entry = entry_on log page es e in
-    let some = size_some e in
-    record {
-      laid_so = laid-push log page 0 es entry was.laid_so (entry_written (log ++ es) (place_after page (sizes (effects_of es))) e was.lasts good) (ap (λ (n : ℕ). place_after page n) (sym (zero-add (sizes (effects_of es))))) refl;
-      most = subst (λ (n : ℕ). n ≤ 4092) (sym (ap sizes (effects-push es entry) ∙ sizes-push (effects_of es) e)) fits;
-      lasts = subst LastsArePlaces (append_assoc log es (entry ∷ [])) (lasts-push (log ++ es) entry (record { page = low; offset_low = omega arith; offset_high = omega (arith, some, fits) }) was.lasts);
-    }
-
-pub begun_new : (log : Log) (page : ℕ) (e : Effect) → LastsArePlaces log → HasBytes e → page < 1048576 → IsBegun log page (entry_on log page [] e ∷ [])
-begun_new log page e lasts good low = begun_more log page [] e (begun_none log page lasts) good low (let most = size_most e good in omega (arith, most))
-
-some_entries : (es : Log) → 1 ≤ sizes (effects_of es) → 1 ≤ length es
-some_entries [] some = absurd (omega (arith, some))
-some_entries (e ∷ es) some = omega arith
-
-All-head : (e : Effect) (es : List Effect) → All HasBytes (e ∷ es) → HasBytes e
-All-head e es h = h 0 e (omega arith)
-
-All-tail : (e : Effect) (es : List Effect) → All HasBytes (e ∷ es) → All HasBytes es
-All-tail e es h i d low = h (suc i) d (omega (arith, low))
-
-fits_closed : (log : Log) (page : ℕ) (es : Log) → IsBegun log page es → PagesFit log page (closed_page es)
-fits_closed log page [] was = tt
-fits_closed log page (e ∷ es) was = (page_reads log page (e ∷ es) was.laid_so (omega arith) was.most, tt)
-
-fits_from : (log : Log) (page : ℕ) (es : Log) (rest : List Effect) → IsBegun log page es → All HasBytes rest → page + length (filling_from (effects_of es) rest) ≤ 1048576 → PagesFit log page (laid_from log page es rest)
-fits_from log page es [] was good room = fits_closed log page es was
-fits_from log page es (e ∷ rest) was good room = elim (cases_Bool (nat_le (sizes (effects_of es) + size_of e) 4092)) [
-  | inl fits ↦
-      let entry = entry_on log page es e in
-      let small : sizes (effects_of es) + size_of e ≤ 4092 = leb-true (sizes (effects_of es) + size_of e) 4092 fits in
-      let goes : filling_from (effects_of es) (e ∷ rest) ≡ filling_from (effects_of es ++ e ∷ []) rest = filling-takes (effects_of es) e rest small in
-      let room' : page + length (filling_from (effects_of es ++ e ∷ []) rest) ≤ 1048576 = subst (λ (l : List (List Effect)). page + length l ≤ 1048576) goes room in
-      let some = filling-push-some (effects_of es) e rest in
-      subst (λ (l : List Log). PagesFit log page l) (sym (cond-true (nat_le (sizes (effects_of es) + size_of e) 4092) _ _ fits))
-      (fits_from log page (es ++ entry ∷ []) rest
-      (begun_more log page es e was (All-head e rest good) (omega (arith, room', some)) small)
-      (All-tail e rest good)
-      (subst (λ (l : List Effect). page + length (filling_from l rest) ≤ 1048576) (sym (effects-push es entry)) room'))
-  | inr over ↦
-      let large : 4092 < sizes (effects_of es) + size_of e = leb-false (sizes (effects_of es) + size_of e) 4092 over in
-      let most = size_most e (All-head e rest good) in
-      let goes : filling_from (effects_of es) (e ∷ rest) ≡ effects_of es ∷ filling_from (e ∷ []) rest = filling-closes (effects_of es) e rest large in
-      let room' : page + length (effects_of es ∷ filling_from (e ∷ []) rest) ≤ 1048576 = subst (λ (l : List (List Effect)). page + length l ≤ 1048576) goes room in
-      let some = filling-some e [] rest in
-      subst (λ (l : List Log). PagesFit log page l) (sym (cond-false (nat_le (sizes (effects_of es) + size_of e) 4092) _ _ over)) (
-        page_reads log page es was.laid_so (some_entries es (omega (arith, large, most))) was.most,
-        fits_from (log ++ es) (page + 1) (entry_on (log ++ es) (page + 1) [] e ∷ []) rest
-            (begun_new (log ++ es) (page + 1) e was.lasts (All-head e rest good) (omega (arith, room', some)))
-            (All-tail e rest good)
-            (omega (arith, room')),
-      )
-]
-
-pub laid_fits : (log : Log) (first : ℕ) (effects : List Effect) → LastsArePlaces log → All HasBytes effects → first + length (filling effects) ≤ 1048576 → PagesFit log first (laid log first effects)
-laid_fits log first effects lasts good room = fits_from log first [] effects (begun_none log first lasts) good room
+pub laid_fits : (reading : Reading) (log : Log) (first : ℕ) (effects : List Effect) → log_going reading ≡ Some log → LastsArePlaces log → AreEffects effects → first + length (filling effects) ≤ 1048576 → PagesFit reading log first (laid log first effects)
+laid_fits reading log first effects goes lasts good room =
+    let on = going reading log goes in
+    subst (λ r. PagesFit r log first (laid log first effects)) (sym on.1)
+    (subst (λ (l : Log). PagesFit (Going on.0) l first (laid l first effects)) on.2
+    (pages_fit on.0 first (filling effects) (subst LastsArePlaces (sym on.2) lasts) (filling-fits effects good) room))
 
 -- ---- what an append has laid out so far
 
 -- what is left of the effects leads from the pages so far to all
 pub record LaidOut (log : Log) (first : ℕ) (effects : List Effect) (bodies : List (List ℕ)) (bytes : List ℕ) (heads : Heads) (page : ℕ) (rest : List Effect) : Type 0 where
   pub before : Log
-  pub es : Log
-  pub heads_fit : HeadsFit heads (before ++ es)
-  pub bytes_are : bytes ≡ texts es
-  pub goes : bodies ++ map body_of (laid_from before page es rest) ≡ map body_of (laid log first effects)
-  pub leads : before ++ all_of (laid_from before page es rest) ≡ log ++ all_of (laid log first effects)
+  pub begun : List Effect
+  pub heads_fit : HeadsFit heads (before ++ laid_on before page 0 begun)
+  pub bytes_are : bytes ≡ texts (laid_on before page 0 begun)
+  pub goes : bodies ++ map body_of (laid_pages before page (filling_from begun rest)) ≡ map body_of (laid log first effects)
+  pub leads : before ++ all_of (laid_pages before page (filling_from begun rest)) ≡ log ++ all_of (laid log first effects)
 
 pub laid_none : (log : Log) (first : ℕ) (effects : List Effect) (heads : Heads) → HeadsFit heads log → LaidOut log first effects [] [] heads first effects
-laid_none log first effects heads fits = record { before = log; es = []; heads_fit = subst (λ (l : Log). HeadsFit heads l) (sym (append-nil log)) fits; bytes_are = refl; goes = refl; leads = refl }
+laid_none log first effects heads fits = record { before = log; begun = []; heads_fit = subst (λ (l : Log). HeadsFit heads l) (sym (append-nil log)) fits; bytes_are = refl; goes = refl; leads = refl }
 
 module _ (log : Log) (first : ℕ) (effects : List Effect) (bodies : List (List ℕ)) (bytes : List ℕ) (heads heads' : Heads) (page : ℕ) (e : Effect) (rest : List Effect) (was : LaidOut log first effects bodies bytes heads page (e ∷ rest)) where
-  size_is : length bytes ≡ sizes (effects_of was.es)
-  size_is = ap length was.bytes_are ∙ length-texts was.es
+  abbrev on : Log
+  on = laid_on was.before page 0 was.begun
+
+  size_is : length bytes ≡ sizes was.begun
+  size_is = ap (λ (l : List ℕ). length l) was.bytes_are ∙ length-texts on ∙ ap sizes (effects-laid_on was.before page 0 was.begun)
 
   -- the page takes one effect more
   pub laid_takes : (bytes' : List ℕ) → length bytes + size_of e ≤ 4092
@@ -174,17 +162,20 @@ module _ (log : Log) (first : ℕ) (effects : List Effect) (bodies : List (List 
       → ((l : Log) → HeadsFit heads l → HeadsFit heads' (l ++ entry_at l (place_after page (length bytes)) e ∷ []))
       → LaidOut log first effects bodies bytes' heads' page rest
   laid_takes bytes' fits bytes_is heads_are =
-      let entry = entry_on was.before page was.es e in
-      let step : laid_from was.before page was.es (e ∷ rest) ≡ laid_from was.before page (was.es ++ entry ∷ []) rest = cond-true (nat_le (sizes (effects_of was.es) + size_of e) 4092) _ _ (le-leb (sizes (effects_of was.es) + size_of e) 4092 (omega (arith, fits, size_is))) in
+      let now = was.before ++ on in
+      let entry = entry_at now (place_after page (length bytes)) e in
+      let step = filling-takes was.begun e rest (omega (arith, fits, size_is)) in
       record {
         before = was.before;
-        es = was.es ++ entry ∷ [];
-        heads_fit = subst (λ (l : Log). HeadsFit heads' l) (append_assoc was.before was.es (entry ∷ []))
-            (subst (λ (n : ℕ). HeadsFit heads' ((was.before ++ was.es) ++ entry_at (was.before ++ was.es) (place_after page n) e ∷ [])) size_is (heads_are (was.before ++ was.es) was.heads_fit));
-        bytes_are = bytes_is (was.before ++ was.es) was.heads_fit ∙ ap (λ (l : List ℕ). l ++ effect_bytes (e, back_in (was.before ++ was.es) e)) was.bytes_are ∙ sym (texts-push was.es entry);
-        goes = ap (λ (l : List Log). bodies ++ map body_of l) (sym step) ∙ was.goes;
-        leads = ap (λ (l : List Log). was.before ++ all_of l) (sym step) ∙ was.leads;
+        begun = was.begun ++ e ∷ [];
+        heads_fit = subst (λ (l : Log). HeadsFit heads' l) (append_assoc was.before on (entry ∷ []) ∙ ap (λ (l : Log). was.before ++ l) (sym grown)) (heads_are now was.heads_fit);
+        bytes_are = bytes_is now was.heads_fit ∙ ap (λ (l : List ℕ). l ++ effect_bytes (e, back_in now e)) was.bytes_are ∙ sym (texts-push on entry) ∙ ap texts (sym grown);
+        goes = ap (λ (l : List (List Effect)). bodies ++ map body_of (laid_pages was.before page l)) (sym step) ∙ was.goes;
+        leads = ap (λ (l : List (List Effect)). was.before ++ all_of (laid_pages was.before page l)) (sym step) ∙ was.leads;
       }
+    where
+      grown : laid_on was.before page 0 (was.begun ++ e ∷ []) ≡ on ++ entry_at (was.before ++ on) (place_after page (length bytes)) e ∷ []
+      grown = laid_on-push was.before page 0 was.begun e ∙ ap (λ (n : ℕ). on ++ entry_at (was.before ++ on) (place_after page n) e ∷ []) (zero-add (sizes was.begun) ∙ sym size_is)
 
   -- it is full, and the next one begins with the effect
   pub laid_closes : (bytes' : List ℕ) → 4092 < length bytes + size_of e
@@ -192,22 +183,17 @@ module _ (log : Log) (first : ℕ) (effects : List Effect) (bodies : List (List 
       → ((l : Log) → HeadsFit heads l → HeadsFit heads' (l ++ entry_at l (place_after (page + 1) 0) e ∷ []))
       → LaidOut log first effects (bodies ++ body_with bytes ∷ []) bytes' heads' (page + 1) rest
   laid_closes bytes' over bytes_is heads_are =
-      let now = was.before ++ was.es in
-      let entry = entry_on now (page + 1) [] e in
-      let pages = laid_from now (page + 1) (entry ∷ []) rest in
-      let same : entry_at now (place_after (page + 1) 0) e ≡ entry = ap (λ (l : Log). entry_at l (place_after (page + 1) 0) e) (sym (append-nil now)) ∙ other in
-      let step : laid_from was.before page was.es (e ∷ rest) ≡ was.es ∷ pages = cond-false (nat_le (sizes (effects_of was.es) + size_of e) 4092) _ _ (lt-leb (sizes (effects_of was.es) + size_of e) 4092 (omega (arith, over, size_is))) in
+      let now = was.before ++ on in
+      let pages = laid_pages now (page + 1) (filling_from (e ∷ []) rest) in
+      let step = filling-closes was.begun e rest (omega (arith, over, size_is)) in
       record {
         before = now;
-        es = entry ∷ [];
-        heads_fit = subst (λ (x : Entry). HeadsFit heads' (now ++ x ∷ [])) same (heads_are now was.heads_fit);
-        bytes_are = bytes_is now was.heads_fit ∙ ap (λ (l : Log). effect_bytes (e, back_in l e)) (sym (append-nil now)) ∙ sym (append-nil (effect_bytes (e, entry.back)));
-        goes = ap (λ (l : List ℕ). (bodies ++ body_with l ∷ []) ++ map body_of pages) was.bytes_are ∙ append_assoc bodies (body_of was.es ∷ []) (map body_of pages) ∙ ap (λ (l : List Log). bodies ++ map body_of l) (sym step) ∙ was.goes;
-        leads = append_assoc was.before was.es (all_of pages) ∙ ap (λ (l : List Log). was.before ++ all_of l) (sym step) ∙ was.leads;
+        begun = e ∷ [];
+        heads_fit = heads_are now was.heads_fit;
+        bytes_are = bytes_is now was.heads_fit ∙ sym (append-nil (effect_bytes (e, back_in now e)));
+        goes = ap (λ (l : List ℕ). (bodies ++ body_with l ∷ []) ++ map body_of pages) was.bytes_are ∙ append_assoc bodies (body_of on ∷ []) (map body_of pages) ∙ ap (λ (l : List (List Effect)). bodies ++ map body_of (laid_pages was.before page l)) (sym step) ∙ was.goes;
+        leads = append_assoc was.before on (all_of pages) ∙ ap (λ (l : List (List Effect)). was.before ++ all_of (laid_pages was.before page l)) (sym step) ∙ was.leads;
       }
-    where
-      other : entry_at ((was.before ++ was.es) ++ []) (place_after (page + 1) 0) e ≡ entry_on (was.before ++ was.es) (page + 1) [] e
-      other = refl
 
   -- the same, where the new page, its bytes and the bodies have names of their own
   pub laid_takes_so : (bodies' : List (List ℕ)) (mid bytes' : List ℕ) (page' : ℕ) → bodies' ≡ bodies → mid ≡ bytes → page' ≡ page → length bytes + size_of e ≤ 4092
@@ -232,17 +218,21 @@ module _ (log : Log) (first : ℕ) (effects : List Effect) (bodies : List (List 
       (λ l h. bytes_is l h ∙ ap (λ (m : List ℕ). m ++ effect_bytes (e, back_in l e)) mid_is)
       (λ l h. subst (λ (p : ℕ). HeadsFit heads' (l ++ entry_at l (place_after p 0) e ∷ [])) page_is (subst (λ (m : List ℕ). HeadsFit heads' (l ++ entry_at l (place_after page' (length m)) e ∷ [])) mid_is (heads_are l h)))))
 
-all_of-closed : (es : Log) → all_of (closed_page es) ≡ es
-all_of-closed [] = refl
-all_of-closed (e ∷ es) = append-nil (e ∷ es)
+-- the page that was begun is the last, or there is none
+all_of-closed : (before : Log) (page : ℕ) (begun : List Effect) → all_of (laid_pages before page (closed begun)) ≡ laid_on before page 0 begun
+all_of-closed before page [] = refl
+all_of-closed before page (e ∷ begun) = append-nil (laid_on before page 0 (e ∷ begun))
 
-body-closed : (es : Log) → 1 ≤ length (texts es) → map body_of (closed_page es) ≡ body_of es ∷ []
-body-closed [] some = absurd (omega (arith, some))
-body-closed (e ∷ es) some = refl
+body-closed : (before : Log) (page : ℕ) (begun : List Effect) → 1 ≤ length (texts (laid_on before page 0 begun)) → map body_of (laid_pages before page (closed begun)) ≡ body_of (laid_on before page 0 begun) ∷ []
+body-closed before page [] some = absurd (omega (arith, some))
+body-closed before page (e ∷ begun) some = refl
 
-none-closed : (es : Log) → length (texts es) ≡ 0 → closed_page es ≡ []
-none-closed [] none_left = refl
-none-closed (e ∷ es) none_left = absurd (let few = few_effects (e ∷ es) in omega (arith, few, none_left))
+none-closed : (before : Log) (page : ℕ) (begun : List Effect) → length (texts (laid_on before page 0 begun)) ≡ 0 → laid_pages before page (closed begun) ≡ []
+none-closed before page [] none_left = refl
+none-closed before page (e ∷ begun) none_left =
+    let few = few_effects (laid_on before page 0 (e ∷ begun)) in
+    let long = length-laid_on before page 0 (e ∷ begun) in
+    absurd (omega (arith, few, long, none_left))
 
 module _ (log : Log) (first : ℕ) (effects : List Effect) (bodies : List (List ℕ)) (bytes : List ℕ) (heads : Heads) (page : ℕ) (rest : List Effect) (done : rest ≡ []) (was : LaidOut log first effects bodies bytes heads page rest) where
   at_end : LaidOut log first effects bodies bytes heads page []
@@ -252,15 +242,15 @@ module _ (log : Log) (first : ℕ) (effects : List Effect) (bodies : List (List 
   pub laid_begun : 1 ≤ length bytes → bodies ++ body_with bytes ∷ [] ≡ map body_of (laid log first effects)
   laid_begun some =
       ap (λ (l : List ℕ). bodies ++ body_with l ∷ []) at_end.bytes_are
-      ∙ ap (λ (l : List (List ℕ)). bodies ++ l) (sym (body-closed at_end.es (subst (λ (l : List ℕ). 1 ≤ length l) at_end.bytes_are some)))
+      ∙ ap (λ (l : List (List ℕ)). bodies ++ l) (sym (body-closed at_end.before page at_end.begun (subst (λ (l : List ℕ). 1 ≤ length l) at_end.bytes_are some)))
       ∙ at_end.goes
 
   -- or there is none
   pub laid_empty : length bytes ≡ 0 → bodies ≡ map body_of (laid log first effects)
   laid_empty none_left =
       sym (append-nil bodies)
-      ∙ ap (λ (l : List Log). bodies ++ map body_of l) (sym (none-closed at_end.es (ap (λ (l : List ℕ). length l) (sym at_end.bytes_are) ∙ none_left)))
+      ∙ ap (λ (l : List Log). bodies ++ map body_of l) (sym (none-closed at_end.before page at_end.begun (ap (λ (l : List ℕ). length l) (sym at_end.bytes_are) ∙ none_left)))
       ∙ at_end.goes
 
   pub laid_heads : HeadsFit heads (log ++ all_of (laid log first effects))
-  laid_heads = subst (λ (l : Log). HeadsFit heads l) (ap (λ (l : Log). at_end.before ++ l) (sym (all_of-closed at_end.es)) ∙ at_end.leads) at_end.heads_fit
+  laid_heads = subst (λ (l : Log). HeadsFit heads l) (ap (λ (l : Log). at_end.before ++ l) (sym (all_of-closed at_end.before page at_end.begun)) ∙ at_end.leads) at_end.heads_fit

@@ -1,6 +1,5 @@
 pub mod FillingLemmas
 pub mod LogLemmas
-pub mod RangeLemmas
 pub mod ReadBackLemmas
 pub mod LaidLemmas
 pub mod GrownLemmas

@@ -10,9 +10,8 @@ use Rattle.value_form.specs.Objects.{object_cmp}
 use Rattle.effect_form.specs.declared.effects.Effect.{Effect}
 use Rattle.effect_form.specs.declared.effects.Effect.TheVariants.{Put, Stretch, Begin, Decide, Learn, Run, Act, Try, Got, Acked, End}
 use Rattle.effect_form.specs.declared.effects.Place.{Place}
-use Rattle.effect_form.specs.Effects.{IsBack, IsWritten}
+use Rattle.effect_form.specs.Effects.{IsBack, IsWritten, IsEffect}
 use Rattle.version_store.specs.Entries.{Entry, Log, effects_of, put_object, is_object, last_from}
-use Rattle.version_store.specs.Filling.{HasBytes}
 use Rattle.version_store.specs.Heads.{Heads, HeadsFit, ArePlaces}
 
 pub last_from-push : (before : Option Place) (log : Log) (e : Entry) (object : ObjectId) → last_from before (log ++ e ∷ []) object ≡ cond (is_object (put_object e.effect) object) (Some e.place) (last_from before log object)
@@ -39,7 +38,7 @@ kept_push P heads heads' put at good places updates object place is = elim (case
 ]
 
 -- an effect in its ranges has bytes with any back place that it may have
-pub has_back : (e : Effect) (back : Option Place) → HasBytes e → IsBack back → (put_object e ≡ None → back ≡ None) → IsWritten (e, back)
+pub has_back : (e : Effect) (back : Option Place) → IsEffect e → IsBack back → (put_object e ≡ None → back ≡ None) → IsWritten (e, back)
 has_back (Put object start v) back h good other = (h.0, h.1, h.2, good)
 has_back (Stretch object at) back h good other = (h.0, other refl)
 has_back (Begin stamp deadline) back h good other = (h.0, other refl)
@@ -56,7 +55,7 @@ pub effects_of-append : (a b : Log) → effects_of (a ++ b) ≡ effects_of a ++ 
 effects_of-append a b = map-append (λ (e : Entry). e.effect) a b
 
 -- the back place that the heads give
-pub written_push : (heads : Heads) (e : Effect) (put : ObjectId) (back : Option Place) → back ≡ get object_cmp heads put → put_object e ≡ Some put → ArePlaces heads → HasBytes e → IsWritten (e, back)
+pub written_push : (heads : Heads) (e : Effect) (put : ObjectId) (back : Option Place) → back ≡ get object_cmp heads put → put_object e ≡ Some put → ArePlaces heads → IsEffect e → IsWritten (e, back)
 written_push heads e put back is put_is places h = has_back e back h (good back is) (λ no_put. absurd (cc (sym no_put ∙ put_is)))
   where
     good : (b : Option Place) → b ≡ get object_cmp heads put → IsBack b

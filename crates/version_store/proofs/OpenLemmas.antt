@@ -11,7 +11,7 @@ use Rattle.page_gate.specs.declared.pages.PageState.{PageState}
 use Rattle.page_gate.specs.declared.pages.PageState.TheVariants.{Blank, Spoiled, Gated}
 use Rattle.effect_form.specs.declared.effects.Effect.{Effect}
 use Rattle.version_store.specs.Entries.{Log}
-use Rattle.version_store.specs.Storage.{content_of, Reading, Going, Ended, Damaged, begun, next, scan, going_or_damaged, log_with, texts_of}
+use Rattle.version_store.specs.Storage.{Content, content_of, Reading, log_going, Going, Ended, Damaged, begun, next, scan, going_or_damaged, log_with, texts_of}
 use Rattle.version_store.specs.Laying.{IsAtRest}
 use Rattle.version_store.specs.Heads.{Heads, Stands}
 use Rattle.version_store.specs.Found.{Reached, reading_of}
@@ -33,31 +33,31 @@ blank_from_state p is = elim (cases_Bool (is_blank p)) [
   ]
 ]
 
-not_ended : (page : ℕ) (o : Option Log) (log : Log) → going_or_damaged page o ≡ Ended (content_of log) → ⊥
-not_ended page None log is = cc is
-not_ended page (Some l) log is = cc is
+not_ended : (page : ℕ) (o : Option Log) (c : Content) → going_or_damaged page o ≡ Ended c → ⊥
+not_ended page None c is = cc is
+not_ended page (Some l) c is = cc is
 
--- the log that a reading has
-abbrev pub log_in : Reading → Log
-log_in (Going c) = c.log
-log_in (Ended c) = c.log
-log_in (Damaged page) = []
+-- the content that a reading has
+abbrev pub content_in : Reading → Content
+content_in (Going c) = c
+content_in (Ended c) = c
+content_in (Damaged page) = content_of []
 
 -- only a blank page leaves the reading ended
-ended_blank : (ended : Bool) (log log' : Log) (page : ℕ) (s : PageState) → next (reading_of ended log) page s ≡ Ended (content_of log') → (s ≡ Blank) × (log ≡ log')
-ended_blank false log log' page Blank is = (refl, ap log_in is)
-ended_blank true log log' page Blank is = (refl, ap log_in is)
-ended_blank false log log' page Spoiled is = absurd (cc is)
-ended_blank true log log' page Spoiled is = absurd (cc is)
-ended_blank false log log' page (Gated body) is = absurd (not_ended page (log_with log page (texts_of body)) log' is)
-ended_blank true log log' page (Gated body) is = absurd (cc is)
+ended_blank : (ended : Bool) (c c' : Content) (page : ℕ) (s : PageState) → next (reading_of ended c) page s ≡ Ended c' → (s ≡ Blank) × (c ≡ c')
+ended_blank false c c' page Blank is = (refl, ap content_in is)
+ended_blank true c c' page Blank is = (refl, ap content_in is)
+ended_blank false c c' page Spoiled is = absurd (cc is)
+ended_blank true c c' page Spoiled is = absurd (cc is)
+ended_blank false c c' page (Gated body) is = absurd (not_ended page (log_with c.log page (texts_of body)) c' is)
+ended_blank true c c' page (Gated body) is = absurd (cc is)
 
 pub reached_more : (reads : Image) (page : ℕ) (heads heads' : Heads) (effects effects' : List Effect) (n n' : ℕ) (ended ended' : Bool) → page < length reads → (was : Reached reads page heads effects n ended)
-    → (more : Log) × (next (reading_of ended was.log) page (state_of (get_or reads page [])) ≡ reading_of ended' more) × Stands heads' effects' more → n' ≡ cond ended' n (page + 1) → Reached reads (page + 1) heads' effects' n' ended'
+    → (more : Content) × (next (reading_of ended was.content) page (state_of (get_or reads page [])) ≡ reading_of ended' more) × Stands heads' effects' more.log → n' ≡ cond ended' n (page + 1) → Reached reads (page + 1) heads' effects' n' ended'
 reached_more reads page heads heads' effects effects' n n' ended false within was more is =
     let reading = scan_more reads page within ∙ ap (λ r. next r page (state_of (get_or reads page []))) was.reading ∙ more.1 in
     record {
-      log = more.0;
+      content = more.0;
       stands = more.2;
       front = ap (λ (k : ℕ). scan begun 0 (take k reads)) is ∙ reading;
       reading = reading;
@@ -66,12 +66,12 @@ reached_more reads page heads heads' effects effects' n n' ended false within wa
     }
 reached_more reads page heads heads' effects effects' n n' ended true within was more is =
     let p = get_or reads page [] in
-    let blank_page = ended_blank ended was.log more.0 page (state_of p) more.1 in
+    let blank_page = ended_blank ended was.content more.0 page (state_of p) more.1 in
     let long : length (take page reads) ≡ page = omega (arith, length-take page reads, within) in
     record {
-      log = more.0;
+      content = more.0;
       stands = more.2;
-      front = ap (λ (k : ℕ). scan begun 0 (take k reads)) is ∙ was.front ∙ ap (λ (l : Log). Going (content_of l)) blank_page.1;
+      front = ap (λ (k : ℕ). scan begun 0 (take k reads)) is ∙ was.front ∙ ap (λ (c : Content). Going c) blank_page.1;
       reading = scan_more reads page within ∙ ap (λ r. next r page (state_of p)) was.reading ∙ more.1;
       blank =
           ap (λ (k : ℕ). list_all is_blank (drop k (take (page + 1) reads))) is
@@ -83,9 +83,9 @@ reached_more reads page heads heads' effects effects' n n' ended true within was
     }
 
 -- all pages were read
-pub rest_of : (reads : Image) (pages : ℕ) (heads : Heads) (effects : List Effect) (n : ℕ) (ended : Bool) (may_leave : Image → Type 0) → length reads ≡ pages → (r : Reached reads pages heads effects n ended) → Only reads may_leave → IsAtRest r.log n reads may_leave
+pub rest_of : (reads : Image) (pages : ℕ) (heads : Heads) (effects : List Effect) (n : ℕ) (ended : Bool) (may_leave : Image → Type 0) → length reads ≡ pages → (r : Reached reads pages heads effects n ended) → Only reads may_leave → IsAtRest r.content.log n reads may_leave
 rest_of reads pages heads effects n ended may_leave size r only = record {
-  front = r.front;
+  front = ap log_going r.front;
   blank = ap (λ (l : Image). list_all is_blank (drop n l)) (sym (take_all pages reads (omega (arith, size)))) ∙ r.blank;
   durable = only;
 }

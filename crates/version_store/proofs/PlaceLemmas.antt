@@ -20,7 +20,7 @@ use Rattle.version_store.specs.Entries.{Entry, Log, IsIn, IsBefore, number_of, p
 use Rattle.version_store.specs.Fetch.{is_back_before, shown, shown_in, shown_on}
 use Rattle.version_store.specs.Storage.{texts_of, place_before, admitted, log_at, log_with, Reading, Going, Ended, Damaged, begun, next, scan, finish, going_or_damaged, log_or_none, log_of}
 use Rattle.version_store.proofs.LogLemmas.{last_from-push}
-use Rattle.version_store.proofs.FillingLemmas.{effect_cons}
+use Rattle.effect_form.proofs.SizeLaws.{effect_cons}
 use Rattle.version_store.proofs.ReadLemmas.{same_back-is}
 use Rattle.version_store.proofs.ScanLemmas.{scan_more}
 

@@ -1,5 +1,5 @@
 -- A page that was laid out reads back.
-use Rattle.std.proofs.Common.{◌≡◌, ℕ, zero, suc, ◌+◌, ◌-◌, ◌^◌, ◌≤◌, ◌<◌, List, [], ◌∷◌, ◌++◌, length, true, cond, Option, Some, None, Result, refl, sym, ◌∙◌, ap, arith, append_assoc, length-append, add-zero}
+use Rattle.std.proofs.Common.{◌≡◌, ℕ, zero, suc, ◌+◌, ◌-◌, ◌^◌, ◌≤◌, ◌<◌, List, [], ◌∷◌, ◌++◌, length, true, cond, Option, Some, None, Result, refl, sym, ◌∙◌, ap, arith, append_assoc, length-append}
 use Rattle.std.specs.Prelude.{◌==◌, replicate}
 use Rattle.std.specs.Int.{w16, to_be_bytes}
 use Rattle.std.proofs.lemmas.Bool.{cond-true, eq-eqb, and_from}
@@ -9,14 +9,14 @@ use Rattle.field_form.specs.Numbers.{number_at, between, front_at}
 use Rattle.field_form.proofs.NumberLaws.{u16_form, between_form, front_again}
 use Rattle.page_gate.specs.States.{is_blank}
 use Rattle.effect_form.specs.declared.effects.Place.{Place}
-use Rattle.effect_form.specs.Effects.{Written, IsWritten, effect_bytes, effect_at}
+use Rattle.effect_form.specs.Effects.{Written, IsWritten, effect_bytes, effect_at, size_of}
 use Rattle.effect_form.proofs.EffectLaws.{effect_again}
 use Rattle.effect_form.proofs.ReadLaws.{length-effect_bytes}
+use Rattle.effect_form.proofs.SizeLaws.{effect_cons, size_some}
 use Rattle.version_store.specs.Entries.{Entry, Log, effects_of, back_in, same_back}
-use Rattle.version_store.specs.Filling.{size_of, sizes}
+use Rattle.version_store.specs.Filling.{sizes}
 use Rattle.version_store.specs.Storage.{texts_of, place_before, admitted, log_at, log_with}
 use Rattle.version_store.specs.Laying.{texts, body_with, body_of, padded, place_after}
-use Rattle.version_store.proofs.FillingLemmas.{effect_cons, size_some}
 
 same_back-self : (b : Option Place) → same_back b b ≡ true
 same_back-self None = refl
@@ -26,25 +26,6 @@ same_back-self (Some p) = and_from (p.page == p.page) (p.offset == p.offset) (eq
 abbrev pub IsLaid : Log → ℕ → ℕ → Log → Type 0
 IsLaid log page size [] = Unit {0}
 IsLaid log page size (e ∷ es) = IsWritten (e.effect, e.back) × (e.place ≡ place_after page size) × (e.back ≡ back_in log e.effect) × IsLaid (log ++ e ∷ []) page (size + size_of e.effect) es
-
-pub laid-push : (log : Log) (page size : ℕ) (es : Log) (e : Entry) → IsLaid log page size es → IsWritten (e.effect, e.back) → e.place ≡ place_after page (size + sizes (effects_of es)) → e.back ≡ back_in (log ++ es) e.effect → IsLaid log page size (es ++ e ∷ [])
-laid-push log page size [] e laid good place back = (
-  good,
-  place ∙ ap (λ (n : ℕ). place_after page n) (add-zero size),
-  back ∙ ap (λ (l : Log). back_in l e.effect) (append-nil log),
-  tt,
-)
-laid-push log page size (x ∷ es) e laid good place back = (
-  laid.0,
-  laid.1,
-  laid.2,
-  laid-push (log ++ x ∷ []) page (size + size_of x.effect) es e laid.3 good
-      (place ∙ ap (λ (n : ℕ). place_after page n) (behind (size_of x.effect) (sizes (effects_of es))))
-      (back ∙ ap (λ (l : Log). back_in l e.effect) (sym (append_assoc log (x ∷ []) es))),
-)
-  where
-    behind : (a b : ℕ) → size + (a + b) ≡ size + a + b
-    behind a b = omega arith
 
 pub length-texts : (es : Log) → length (texts es) ≡ sizes (effects_of es)
 length-texts [] = refl

@@ -3,11 +3,12 @@ use Rattle.std.proofs.Common.{◌≡◌, ℕ, suc, ◌+◌, ◌<◌, List, [], �
 use Rattle.std.specs.List.{list_all}
 use Rattle.std.proofs.lemmas.Bool.{cond-true, and_parts}
 use Rattle.std.proofs.lemmas.List.{set_split, take_more, take_more_set, take-append-drop}
+use Rattle.field_form.proofs.FormLaws.{some_is}
 use Rattle.medium_port.specs.Image.{Image}
 use Rattle.page_gate.specs.States.{is_blank, state_of}
 use Rattle.page_gate.specs.declared.pages.PageState.TheVariants.{Blank, Spoiled, Gated}
 use Rattle.version_store.specs.Entries.{Log}
-use Rattle.version_store.specs.Storage.{content_of, Reading, Going, Ended, Damaged, begun, next, scan, finish, entries, log_with, texts_of, going_or_damaged}
+use Rattle.version_store.specs.Storage.{Content, Reading, Going, Ended, Damaged, log_going, begun, next, scan, finish, entries}
 
 pub scan-append : (front rest : Image) (reading : Reading) (n : ℕ) → scan reading n (front ++ rest) ≡ scan (scan reading n front) (n + length front) rest
 scan-append [] rest reading n = ap (λ (k : ℕ). scan reading k rest) (sym (add-zero n))
@@ -15,60 +16,64 @@ scan-append (page ∷ front) rest reading n =
     let moved : n + 1 + length front ≡ n + suc (length front) = omega arith in
     scan-append front rest (next reading n (state_of page)) (n + 1) ∙ ap (λ (k : ℕ). scan (scan (next reading n (state_of page)) (n + 1) front) k rest) moved
 
-ended_blanks : (log : Log) (n : ℕ) (pages : Image) → list_all is_blank pages ≡ true → scan (Ended (content_of log)) n pages ≡ Ended (content_of log)
-ended_blanks log n [] blank = refl
-ended_blanks log n (page ∷ pages) blank =
+ended_blanks : (c : Content) (n : ℕ) (pages : Image) → list_all is_blank pages ≡ true → scan (Ended c) n pages ≡ Ended c
+ended_blanks c n [] blank = refl
+ended_blanks c n (page ∷ pages) blank =
     let parts = and_parts _ _ blank in
-    ap (λ s. scan (next (Ended (content_of log)) n s) (n + 1) pages) (cond-true (is_blank page) _ _ parts.0) ∙ ended_blanks log (n + 1) pages parts.1
+    ap (λ s. scan (next (Ended c) n s) (n + 1) pages) (cond-true (is_blank page) _ _ parts.0) ∙ ended_blanks c (n + 1) pages parts.1
 
 -- the blank pages at the end leave the log
-pub finish_blanks : (log : Log) (n : ℕ) (pages : Image) → list_all is_blank pages ≡ true → finish (scan (Going (content_of log)) n pages) ≡ Ok log
-finish_blanks log n [] blank = refl
-finish_blanks log n (page ∷ pages) blank =
+pub finish_blanks : (c : Content) (n : ℕ) (pages : Image) → list_all is_blank pages ≡ true → finish (scan (Going c) n pages) ≡ Ok c.log
+finish_blanks c n [] blank = refl
+finish_blanks c n (page ∷ pages) blank =
     let parts = and_parts _ _ blank in
-    ap (λ s. finish (scan (next (Going (content_of log)) n s) (n + 1) pages)) (cond-true (is_blank page) _ _ parts.0) ∙ ap finish (ended_blanks log (n + 1) pages parts.1)
+    ap (λ s. finish (scan (next (Going c) n s) (n + 1) pages)) (cond-true (is_blank page) _ _ parts.0) ∙ ap finish (ended_blanks c (n + 1) pages parts.1)
 
-module _ (image : Image) (n : ℕ) (log : Log) (within : n < length image) (front : scan begun 0 (take n image) ≡ Going (content_of log)) (blank : list_all is_blank (drop (n + 1) image) ≡ true) where
-  at_page : (page : List ℕ) → entries (slice_set image n page) ≡ finish (scan (next (Going (content_of log)) n (state_of page)) (n + 1) (drop (n + 1) image))
+-- a reading that goes on has a content with its log
+pub going : (reading : Reading) (log : Log) → log_going reading ≡ Some log → (c : Content) × (reading ≡ Going c) × (c.log ≡ log)
+going (Going c) log is = (c, refl, some_is c.log log is)
+going (Ended c) log is = absurd (cc is)
+going (Damaged page) log is = absurd (cc is)
+
+module _ (image : Image) (n : ℕ) (c : Content) (within : n < length image) (front : scan begun 0 (take n image) ≡ Going c) (blank : list_all is_blank (drop (n + 1) image) ≡ true) where
+  at_page : (page : List ℕ) → entries (slice_set image n page) ≡ finish (scan (next (Going c) n (state_of page)) (n + 1) (drop (n + 1) image))
   at_page page =
       ap entries (set_split image n page within ∙ ap (λ (k : ℕ). take n image ++ page ∷ drop k image) (sym (add-one n)))
       ∙ ap finish (scan-append (take n image) (page ∷ drop (n + 1) image) begun 0
       ∙ ap (λ r. scan r (0 + length (take n image)) (page ∷ drop (n + 1) image)) front
-      ∙ ap (λ (k : ℕ). scan (Going (content_of log)) k (page ∷ drop (n + 1) image)) at_n)
+      ∙ ap (λ (k : ℕ). scan (Going c) k (page ∷ drop (n + 1) image)) at_n)
     where
       at_n : 0 + length (take n image) ≡ n
       at_n = omega (arith, length-take n image, within)
 
-  pub stays_blank : (page : List ℕ) → state_of page ≡ Blank → entries (slice_set image n page) ≡ Ok log
-  stays_blank page is = at_page page ∙ ap (λ s. finish (scan (next (Going (content_of log)) n s) (n + 1) (drop (n + 1) image))) is ∙ ap finish (ended_blanks log (n + 1) (drop (n + 1) image) blank)
+  pub stays_blank : (page : List ℕ) → state_of page ≡ Blank → entries (slice_set image n page) ≡ Ok c.log
+  stays_blank page is = at_page page ∙ ap (λ s. finish (scan (next (Going c) n s) (n + 1) (drop (n + 1) image))) is ∙ ap finish (ended_blanks c (n + 1) (drop (n + 1) image) blank)
 
-  pub stays_spoiled : (page : List ℕ) → state_of page ≡ Spoiled → entries (slice_set image n page) ≡ Ok log
-  stays_spoiled page is = at_page page ∙ ap (λ s. finish (scan (next (Going (content_of log)) n s) (n + 1) (drop (n + 1) image))) is ∙ finish_blanks log (n + 1) (drop (n + 1) image) blank
+  pub stays_spoiled : (page : List ℕ) → state_of page ≡ Spoiled → entries (slice_set image n page) ≡ Ok c.log
+  stays_spoiled page is = at_page page ∙ ap (λ s. finish (scan (next (Going c) n s) (n + 1) (drop (n + 1) image))) is ∙ finish_blanks c (n + 1) (drop (n + 1) image) blank
 
-  pub steps : (page body : List ℕ) (end : Log) → state_of page ≡ Gated body → log_with log n (texts_of body) ≡ Some end → entries (slice_set image n page) ≡ Ok end
+  pub steps : (page body : List ℕ) (end : Content) → state_of page ≡ Gated body → next (Going c) n (Gated body) ≡ Going end → entries (slice_set image n page) ≡ Ok end.log
   steps page body end is step =
-      at_page page ∙ ap (λ s. finish (scan (next (Going (content_of log)) n s) (n + 1) (drop (n + 1) image))) is
-      ∙ ap (λ o. finish (scan (going_or_damaged n o) (n + 1) (drop (n + 1) image))) step ∙ finish_blanks end (n + 1) (drop (n + 1) image) blank
+      at_page page ∙ ap (λ s. finish (scan (next (Going c) n s) (n + 1) (drop (n + 1) image))) is
+      ∙ ap (λ r. finish (scan r (n + 1) (drop (n + 1) image))) step ∙ finish_blanks end (n + 1) (drop (n + 1) image) blank
 
-  -- the front is one page longer then
-  pub front_steps : (page body : List ℕ) (end : Log) → state_of page ≡ Gated body → log_with log n (texts_of body) ≡ Some end → scan begun 0 (take (n + 1) (slice_set image n page)) ≡ Going (content_of end)
-  front_steps page body end is step =
-      ap (λ (l : Image). scan begun 0 l) (take_more_set image n page within)
-      ∙ scan-append (take n image) (page ∷ []) begun 0
-      ∙ ap (λ r. scan r (0 + length (take n image)) (page ∷ [])) front
-      ∙ ap (λ (k : ℕ). scan (Going (content_of log)) k (page ∷ [])) at_n
-      ∙ ap (λ s. next (Going (content_of log)) n s) is
-      ∙ ap (λ o. going_or_damaged n o) step
-    where
-      at_n : 0 + length (take n image) ≡ n
-      at_n = omega (arith, length-take n image, within)
+-- the front is one page longer
+pub front_steps : (image : Image) (n : ℕ) (page : List ℕ) → n < length image → scan begun 0 (take (n + 1) (slice_set image n page)) ≡ next (scan begun 0 (take n image)) n (state_of page)
+front_steps image n page within =
+    ap (λ (l : Image). scan begun 0 l) (take_more_set image n page within)
+    ∙ scan-append (take n image) (page ∷ []) begun 0
+    ∙ ap (λ (k : ℕ). scan (scan begun 0 (take n image)) k (page ∷ [])) at_n
+  where
+    at_n : 0 + length (take n image) ≡ n
+    at_n = omega (arith, length-take n image, within)
 
 -- a store's image stands for its log
-pub log_at_rest : (image : Image) (n : ℕ) (log : Log) → scan begun 0 (take n image) ≡ Going (content_of log) → list_all is_blank (drop n image) ≡ true → entries image ≡ Ok log
+pub log_at_rest : (image : Image) (n : ℕ) (log : Log) → log_going (scan begun 0 (take n image)) ≡ Some log → list_all is_blank (drop n image) ≡ true → entries image ≡ Ok log
 log_at_rest image n log front blank =
+    let on = going (scan begun 0 (take n image)) log front in
     ap entries (sym (take-append-drop n image))
-    ∙ ap finish (scan-append (take n image) (drop n image) begun 0 ∙ ap (λ r. scan r (0 + length (take n image)) (drop n image)) front)
-    ∙ finish_blanks log (0 + length (take n image)) (drop n image) blank
+    ∙ ap finish (scan-append (take n image) (drop n image) begun 0 ∙ ap (λ r. scan r (0 + length (take n image)) (drop n image)) on.1)
+    ∙ finish_blanks on.0 (0 + length (take n image)) (drop n image) blank ∙ ap (λ (l : Log). Ok l) on.2
 
 -- one page more is read
 pub scan_more : (image : Image) (i : ℕ) → i < length image → scan begun 0 (take (i + 1) image) ≡ next (scan begun 0 (take i image)) i (state_of (get_or image i []))

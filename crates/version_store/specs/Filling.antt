@@ -1,21 +1,14 @@
 -- How the effects of a call fill pages, and what a crash leaves of them.
-use Rattle.std.specs.Prelude.{◌≡◌, ◌≢◌, ℕ, ◌+◌, ◌≤◌, List, [], ◌∷◌, ◌++◌, length, take, nat_le, if◌then◌else◌, true, false, None, Ok}
+use Rattle.std.specs.Prelude.{◌≡◌, ◌≢◌, ℕ, ◌+◌, ◌≤◌, List, [], ◌∷◌, ◌++◌, length, take, nat_le, if◌then◌else◌, true, false, Ok}
 use Rattle.std.specs.List.{flat_map}
 use Rattle.medium_port.specs.Image.{Image, page_of}
 use Rattle.page_gate.specs.States.{is_blank, state_of}
 use Rattle.page_gate.specs.declared.pages.PageState.TheVariants.{Spoiled}
 use Rattle.effect_form.specs.declared.effects.Effect.{Effect}
-use Rattle.effect_form.specs.Effects.{IsWritten, effect_bytes}
+use Rattle.effect_form.specs.Effects.{size_of}
 use Rattle.version_store.specs.Storage.{storage}
 
--- an effect whose fields are in their ranges
-abbrev pub HasBytes : Effect → Type 0
-HasBytes e = IsWritten (e, None)
-
--- how many bytes an effect takes, whatever its back place is
-abbrev pub size_of : Effect → ℕ
-size_of e = length (effect_bytes (e, None))
-
+-- how many bytes effects take
 abbrev pub sizes : List Effect → ℕ
 sizes [] = 0
 sizes (e ∷ es) = size_of e + sizes es

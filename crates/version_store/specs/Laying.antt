@@ -1,16 +1,17 @@
 -- The pages that an append writes, and how a medium stands between two calls.
-use Rattle.std.specs.Prelude.{◌≡◌, ℕ, ◌+◌, ◌-◌, ◌≤◌, List, [], ◌∷◌, ◌++◌, length, take, drop, map, replicate, nat_le, if◌then◌else◌, true, false, Some, Ok, Vec}
+use Rattle.std.specs.Prelude.{◌≡◌, ℕ, ◌+◌, ◌-◌, ◌≤◌, List, [], ◌∷◌, ◌++◌, length, take, drop, map, replicate, true, false, Some, Ok, Vec}
 use Rattle.std.specs.declared.alloc.Global.{Global}
 use Rattle.std.specs.List.{flat_map, list_all}
 use Rattle.std.specs.Int.{w16, to_be_bytes}
 use Rattle.medium_port.specs.Image.{Image, Only}
 use Rattle.page_gate.specs.States.{is_blank}
+use Rattle.page_gate.specs.declared.pages.PageState.TheVariants.{Gated}
 use Rattle.effect_form.specs.declared.effects.Effect.{Effect}
 use Rattle.effect_form.specs.declared.effects.Place.{Place}
-use Rattle.effect_form.specs.Effects.{effect_bytes}
-use Rattle.version_store.specs.Entries.{Entry, Log, effects_of, back_in}
-use Rattle.version_store.specs.Filling.{size_of, sizes, KeepsPages}
-use Rattle.version_store.specs.Storage.{content_of, Going, begun, log_with, texts_of, scan, entries}
+use Rattle.effect_form.specs.Effects.{effect_bytes, size_of}
+use Rattle.version_store.specs.Entries.{Entry, Log, back_in}
+use Rattle.version_store.specs.Filling.{filling, KeepsPages}
+use Rattle.version_store.specs.Storage.{Reading, log_going, begun, next, scan, entries}
 
 -- ---- one page
 
@@ -37,33 +38,34 @@ entry_at log place effect = record { effect = effect; place = place; back = back
 abbrev pub place_after : ℕ → ℕ → Place
 place_after page size = record { page = page; offset = 4 + size }
 
--- the entry of an effect on a page that has these
-abbrev pub entry_on : Log → ℕ → Log → Effect → Entry
-entry_on log page es effect = entry_at (log ++ es) (place_after page (sizes (effects_of es))) effect
+-- the entry of an effect on a page, behind effects of so many bytes
+abbrev pub entry_on : Log → ℕ → ℕ → Effect → Entry
+entry_on log page size effect = entry_at log (place_after page size) effect
+
+-- the entries of effects on a page, behind effects of so many bytes
+abbrev pub laid_on : Log → ℕ → ℕ → List Effect → Log
+laid_on log page size [] = []
+laid_on log page size (e ∷ es) = entry_on log page size e ∷ laid_on (log ++ entry_on log page size e ∷ []) page (size + size_of e) es
 
 -- ---- the pages of a call
 
-abbrev pub closed_page : Log → List Log
-closed_page [] = []
-closed_page (e ∷ es) = (e ∷ es) ∷ []
+-- the entries of each of these pages, the first of which is this page
+abbrev pub laid_pages : Log → ℕ → List (List Effect) → List Log
+laid_pages log page [] = []
+laid_pages log page (es ∷ pages) = laid_on log page 0 es ∷ laid_pages (log ++ laid_on log page 0 es) (page + 1) pages
 
--- the entries of each page, where the first is this page and has these already
-abbrev pub laid_from : Log → ℕ → Log → List Effect → List Log
-laid_from log page es [] = closed_page es
-laid_from log page es (e ∷ rest) =
-    if nat_le (sizes (effects_of es) + size_of e) 4092 then laid_from log page (es ++ entry_on log page es e ∷ []) rest
-    else es ∷ laid_from (log ++ es) (page + 1) (entry_on (log ++ es) (page + 1) [] e ∷ []) rest
-
+-- and of those that effects fill
 abbrev pub laid : Log → ℕ → List Effect → List Log
-laid log page effects = laid_from log page [] effects
+laid log page effects = laid_pages log page (filling effects)
 
 abbrev pub all_of : List Log → Log
 all_of pages = flat_map (λ es. es) pages
 
--- each page goes on from the log before it
-abbrev pub PagesFit : Log → ℕ → List Log → Type 0
-PagesFit log page [] = Unit {0}
-PagesFit log page (es ∷ pages) = (log_with log page (texts_of (padded (body_of es))) ≡ Some (log ++ es)) × PagesFit (log ++ es) (page + 1) pages
+-- the reading goes on over each page, and has the page's entries more then
+abbrev pub PagesFit : Reading → Log → ℕ → List Log → Type 0
+PagesFit reading log page [] = Unit {0}
+PagesFit reading log page (es ∷ pages) =
+    (log_going (next reading page (Gated (padded (body_of es)))) ≡ Some (log ++ es)) × PagesFit (next reading page (Gated (padded (body_of es)))) (log ++ es) (page + 1) pages
 
 -- what may be put on a page
 pub record IsBody (body : Vec ℕ Global) : Type 0 where
@@ -76,9 +78,9 @@ bytes_of bodies = map (λ (body : Vec ℕ Global). body.items) bodies
 
 -- ---- media
 
--- the pages before the n-th stand for the log, the others are blank, and all is on the medium
+-- the reading goes on behind the pages before the n-th, and has this log; the others are blank, and all is on the medium
 pub record IsAtRest (log : Log) (n : ℕ) (reads : Image) (may_leave : Image → Type 0) : Type 0 where
-  pub front : scan begun 0 (take n reads) ≡ Going (content_of log)
+  pub front : log_going (scan begun 0 (take n reads)) ≡ Some log
   pub blank : list_all is_blank (drop n reads) ≡ true
   pub durable : Only reads may_leave
 

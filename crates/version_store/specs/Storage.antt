@@ -49,6 +49,7 @@ log_with log page (Some texts) = log_at (length texts) log page (4 + length text
 pub record Content : Type 0 where
   pub log : Log
 
+-- a log, and nothing else
 abbrev pub content_of : Log → Content
 content_of log = record { log = log }
 
@@ -57,6 +58,12 @@ pub data Reading : Type 0 where
   Going : Content → Reading
   Ended : Content → Reading
   Damaged : ℕ → Reading
+
+-- the log of a reading that goes on
+abbrev pub log_going : Reading → Option Log
+log_going (Going c) = Some c.log
+log_going (Ended c) = None
+log_going (Damaged page) = None
 
 abbrev pub going_or_damaged : ℕ → Option Log → Reading
 going_or_damaged page None = Damaged page

@@ -1,7 +1,6 @@
 ghost use Rattle.std.specs.Prelude.{◌≡◌, ◌++◌, [], ◌∷◌, ◌<◌, ℕ, Option, OnOk, IfOk};
-ghost use Rattle.effect_form.specs.Effects.{IsPlace, IsWritten};
+ghost use Rattle.effect_form.specs.Effects.{IsPlace, IsWritten, IsEffect};
 ghost use Rattle.version_store.specs.Entries.{Log, put_object, back_in, same_back};
-ghost use Rattle.version_store.specs.Filling.{HasBytes};
 ghost use Rattle.version_store.specs.Heads.{AreBelow, ArePlaces, HeadsFit};
 ghost use Rattle.version_store.specs.Laying.{entry_at};
 
@@ -29,7 +28,7 @@ pub fn note(
     requires place { IsPlace place }
     requires places { ArePlaces heads.old }
     ensures back { (log : Log) → HeadsFit heads.old log → IfOk result (λ b. b ≡ back_in log effect.now) }
-    ensures written { HasBytes effect.now → IfOk result (λ b. IsWritten (effect.now, b)) }
+    ensures written { IsEffect effect.now → IfOk result (λ b. IsWritten (effect.now, b)) }
     ensures heads { (log : Log) → HeadsFit heads.old log → OnOk result (HeadsFit heads.new (log ++ entry_at log place effect.now ∷ [])) }
     ensures places { OnOk result (ArePlaces heads.new) }
     ensures below { (limit : ℕ) → place.page < limit → AreBelow limit heads.old → OnOk result (AreBelow limit heads.new) }

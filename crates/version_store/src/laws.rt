@@ -1,12 +1,12 @@
 ghost use Rattle.std.specs.Prelude.{◌≡◌, ◌+◌, ◌++◌, [], ◌∷◌, ℕ, ◌<◌, ◌≤◌, List, IfSome, Ok, Some, length, take};
-ghost use Rattle.pseudo_time.specs.Lists.{Every};
 ghost use Rattle.medium_port.specs.Image.{Image, IsImage};
 ghost use Rattle.value_form.specs.declared.objects.ObjectId.{ObjectId};
 ghost use Rattle.effect_form.specs.declared.effects.Effect.{Effect};
 ghost use Rattle.effect_form.specs.declared.effects.Place.{Place};
 ghost use Rattle.version_store.specs.Entries.{Entry, IsBefore, IsIn, Log, back_in, last_put};
 ghost use Rattle.version_store.specs.Fetch.{BackStands, IsLastPut};
-ghost use Rattle.version_store.specs.Filling.{HasBytes, HasPrefix, KeepsPages, StaysClean, filling, joined};
+ghost use Rattle.version_store.specs.Filling.{HasPrefix, KeepsPages, StaysClean, filling, joined};
+ghost use Rattle.effect_form.specs.Effects.{IsEffect, AreEffects};
 ghost use Rattle.version_store.specs.Storage.{log_of, storage};
 
 /// A law: what is read of an image that a crash of an append left is the log with a prefix of the
@@ -38,8 +38,8 @@ pub fn places_have_effects()
 
 /// A law: effects fill no more pages than they are, and one fills one.
 pub fn effects_fill_few_pages()
-    ensures most { (effects : List Effect) → Every HasBytes effects → length (filling effects) ≤ length effects }
-    ensures one { (effect : Effect) → HasBytes effect → length (filling (effect ∷ [])) ≡ 1 }
+    ensures most { (effects : List Effect) → AreEffects effects → length (filling effects) ≤ length effects }
+    ensures one { (effect : Effect) → IsEffect effect → length (filling (effect ∷ [])) ≡ 1 }
 {}
 
 /// A law: where pages that weren't blank are kept and no blank one is spoiled, by one run of pages and

@@ -1,13 +1,13 @@
 ghost use Rattle.std.specs.Prelude.{◌≡◌, ◌++◌, ◌+◌, ◌<◌, ◌≤◌, ℕ, [], ◌∷◌, length, map, All, OnOk, IfOk, None};
-ghost use Rattle.effect_form.specs.Effects.{effect_bytes};
+ghost use Rattle.effect_form.specs.Effects.{effect_bytes, IsEffect, size_of, AreEffects};
 ghost use Rattle.version_store.specs.Entries.{Log, back_in};
-ghost use Rattle.version_store.specs.Filling.{HasBytes, size_of, filling};
+ghost use Rattle.version_store.specs.Filling.{filling};
 ghost use Rattle.version_store.specs.Heads.{AreBelow, ArePlaces, HeadsFit};
 ghost use Rattle.version_store.specs.Laying.{IsBody, PagesFit, all_of, body_of, body_with, bytes_of, entry_at, laid, place_after};
 
 use crate::last_puts::note;
-use crate::sizes::{PAGE_TEXTS, effect_size};
-use effect_form::{Effect, Place, write};
+use crate::sizes::PAGE_TEXTS;
+use effect_form::{Effect, Place, effect_size, write};
 use std::alloc::{AllocError, Global};
 use std::collections::BTreeMap;
 use value_form::ObjectId;
@@ -50,7 +50,7 @@ fn add(
     effect: &Effect,
 ) -> Result<(), AllocError>
     requires page { page < 1048576 }
-    requires bytes { HasBytes effect.now }
+    requires bytes { IsEffect effect.now }
     requires room { length texts.old.items + size_of effect.now ≤ 4092 }
     requires places { ArePlaces heads.old }
     ensures texts { (log : Log) → HeadsFit heads.old log → OnOk result (texts.new.items ≡ texts.old.items ++ effect_bytes (effect.now, back_in log effect.now)) }
@@ -76,7 +76,7 @@ pub fn lay_out(
     effects: &[Effect],
 ) -> Result<Vec<Vec<u8>>, AllocError>
     requires room { first + length (filling effects.now) ≤ 1048576 }
-    requires ranges { All HasBytes effects.now }
+    requires ranges { AreEffects effects.now }
     requires places { ArePlaces heads.old }
     ensures count { IfOk result (λ bodies. length bodies.items ≡ length (filling effects.now)) }
     ensures bodies { IfOk result (λ bodies. All IsBody bodies.items) }

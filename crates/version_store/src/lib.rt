@@ -14,6 +14,7 @@ mod writes;
 
 pub use faults::{FetchFault, OpenFault, StoreFault};
 pub use laws::{
-    back_places_come_before, pages_keep_the_order, places_have_effects, prefix_is_found,
+    back_places_come_before, effects_fill_few_pages, pages_keep_the_order, pages_stay_clean,
+    places_have_effects, prefix_is_found,
 };
 pub use stores::Store;

@@ -1,15 +1,14 @@
-ghost use Rattle.std.specs.Prelude.{◌≡◌, ◌≢◌, ◌+◌, ◌<◌, ◌≤◌, List, ℕ, IsTrue, true, false, length, All, Some, Err, IfOk, IfErr, OnOk, MatchBool, if◌then◌else◌};
+ghost use Rattle.std.specs.Prelude.{◌≡◌, ◌≢◌, ◌+◌, ◌<◌, ◌≤◌, List, ℕ, IsTrue, true, false, length, Some, Err, IfOk, IfErr, OnOk, MatchBool, if◌then◌else◌};
 ghost use Rattle.stream_port.specs.Causes.{Rose};
 ghost use Rattle.medium_port.specs.Image.{Image, NoMore};
 ghost use Rattle.medium_port.specs.Moment.{LeavesOnly};
 ghost use Rattle.page_gate.specs.States.{is_blank};
 ghost use Rattle.page_gate.specs.declared.pages.PageState.TheVariants.{Blank};
-ghost use Rattle.version_store.specs.Entries.{Log};
 ghost use Rattle.version_store.specs.Faults.{fails_reading};
-ghost use Rattle.version_store.specs.Filling.{HasBytes};
+ghost use Rattle.effect_form.specs.Effects.{AreEffects};
 ghost use Rattle.version_store.specs.Found.{Reached, reading_of};
 ghost use Rattle.version_store.specs.Heads.{AreBelow, ArePlaces, Stands};
-ghost use Rattle.version_store.specs.Storage.{Damaged, begun, next, scan};
+ghost use Rattle.version_store.specs.Storage.{Content, Damaged, begun, next, scan};
 
 use crate::faults::OpenFault;
 use crate::page_reads::add_page;
@@ -40,12 +39,12 @@ fn add_state(
 ) -> Result<bool, AllocError>
     requires page { page < 1048576 }
     requires places { ArePlaces found.old.heads }
-    ensures found { (log : Log) → Stands found.old.heads found.old.effects.items log → IfOk result (λ b. MatchBool b ((more : Log) × (next (reading_of found.old.ended log) page state.now ≡ reading_of found.new.ended more) × Stands found.new.heads found.new.effects.items more) (next (reading_of found.old.ended log) page state.now ≡ Damaged page)) }
+    ensures found { (c : Content) → Stands found.old.heads found.old.effects.items c.log → IfOk result (λ b. MatchBool b ((more : Content) × (next (reading_of found.old.ended c) page state.now ≡ reading_of found.new.ended more) × Stands found.new.heads found.new.effects.items more.log) (next (reading_of found.old.ended c) page state.now ≡ Damaged page)) }
     ensures next { IfOk result (λ b. b ≡ true → found.new.next ≡ (if found.new.ended then found.old.next else page + 1)) }
     ensures marked { IfOk result (λ b. b ≡ false → state.now ≢ Blank) }
     ensures places { OnOk result (ArePlaces found.new.heads) }
     ensures below { (limit : ℕ) → page < limit → AreBelow limit found.old.heads → OnOk result (AreBelow limit found.new.heads) }
-    ensures ranges { All HasBytes found.old.effects.items → OnOk result (All HasBytes found.new.effects.items) }
+    ensures ranges { AreEffects found.old.effects.items → OnOk result (AreEffects found.new.effects.items) }
 {
     match state {
         PageState::Blank => {
@@ -81,7 +80,7 @@ pub fn read_pages<M: Medium>(alloc: Global, medium: &mut M, pages: u32) -> Resul
     ensures within { IfOk result (λ f. f.next ≤ pages) }
     ensures places { IfOk result (λ f. ArePlaces f.heads) }
     ensures below { IfOk result (λ f. AreBelow pages f.heads) }
-    ensures ranges { IfOk result (λ f. All HasBytes f.effects.items) }
+    ensures ranges { IfOk result (λ f. AreEffects f.effects.items) }
     ensures reads { IsTrue M.tells → M.reads medium.new ≡ M.reads medium.old }
     ensures crash { IsTrue M.tells → NoMore (M.may_leave medium.old) (M.may_leave medium.new) }
     ensures any_moment { IsTrue M.tells → LeavesOnly M.moment M.left_since medium.old medium.new (M.may_leave medium.old) }

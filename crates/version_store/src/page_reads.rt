@@ -1,24 +1,18 @@
-ghost use Rattle.std.specs.Prelude.{◌≡◌, ◌+◌, ◌<◌, ◌≤◌, List, ℕ, length, All, Some, None, IfOk, IfSome, OnOk, MatchOption, MatchBool};
+ghost use Rattle.std.specs.Prelude.{◌≡◌, ◌+◌, ◌<◌, ◌≤◌, List, ℕ, length, Some, None, IfOk, IfSome, OnOk, MatchOption, MatchBool};
 ghost use Rattle.std.specs.Option.{option_map};
-ghost use Rattle.effect_form.specs.Effects.{IsPlace, effect_at};
-ghost use Rattle.page_gate.specs.States.{is_blank};
+ghost use Rattle.effect_form.specs.Effects.{IsPlace, effect_at, AreEffects};
 ghost use Rattle.version_store.specs.Entries.{Log};
-ghost use Rattle.version_store.specs.Filling.{HasBytes};
 ghost use Rattle.version_store.specs.Heads.{AreBelow, ArePlaces, Stands};
-ghost use Rattle.version_store.specs.Storage.{admitted, log_at, log_with, place_before, texts_of};
+ghost use Rattle.version_store.specs.Storage.{Content, Damaged, Going, admitted, log_at, next, place_before, texts_of};
+ghost use Rattle.page_gate.specs.declared.pages.PageState.TheVariants.{Gated};
 
 use crate::last_puts::{is_same, note};
 use effect_form::{Effect, EffectFault, Place, read};
 use field_form::{byte_in, front_of, u16_in};
+use page_gate::all_zero;
 use std::alloc::{AllocError, Global};
 use std::collections::BTreeMap;
 use value_form::ObjectId;
-
-fn all_zero(bytes: &[u8]) -> bool
-    ensures { result ≡ is_blank bytes.now }
-{
-    bytes.iter().all(|b| *b == 0)
-}
 
 /// The bytes that a page's body has for effects. None where it isn't in the form of a page.
 #[tactic(auto, unfolding(crate::specs::Storage::texts_of))]
@@ -53,7 +47,7 @@ fn add_effect<'a>(
     ensures less { IfOk result (λ o. MatchOption o (Unit {0}) (λ rest. length rest.now ≤ length bytes.now)) }
     ensures places { OnOk result (ArePlaces heads.new) }
     ensures below { (limit : ℕ) → place.page < limit → AreBelow limit heads.old → OnOk result (AreBelow limit heads.new) }
-    ensures ranges { All HasBytes effects.old.items → OnOk result (All HasBytes effects.new.items) }
+    ensures ranges { AreEffects effects.old.items → OnOk result (AreEffects effects.new.items) }
 {
     match read(alloc, bytes) {
         Err(EffectFault::Form { .. }) => Ok(None),
@@ -83,7 +77,7 @@ fn add_effects(
     ensures found { (log : Log) → Stands heads.old effects.old.items log → IfOk result (λ b. MatchBool b ((more : Log) × (log_at (length texts.now) log page (4 + length texts.now) texts.now ≡ Some more) × Stands heads.new effects.new.items more) (log_at (length texts.now) log page (4 + length texts.now) texts.now ≡ None)) }
     ensures places { OnOk result (ArePlaces heads.new) }
     ensures below { (limit : ℕ) → page < limit → AreBelow limit heads.old → OnOk result (AreBelow limit heads.new) }
-    ensures ranges { All HasBytes effects.old.items → OnOk result (All HasBytes effects.new.items) }
+    ensures ranges { AreEffects effects.old.items → OnOk result (AreEffects effects.new.items) }
 {
     let end = 4 + texts.len();
     let mut rest = texts;
@@ -113,10 +107,10 @@ pub fn add_page(
 ) -> Result<bool, AllocError>
     requires page { page < 1048576 }
     requires places { ArePlaces heads.old }
-    ensures found { (log : Log) → Stands heads.old effects.old.items log → IfOk result (λ b. MatchBool b ((more : Log) × (log_with log page (texts_of body.now) ≡ Some more) × Stands heads.new effects.new.items more) (log_with log page (texts_of body.now) ≡ None)) }
+    ensures found { (c : Content) → Stands heads.old effects.old.items c.log → IfOk result (λ b. MatchBool b ((more : Content) × (next (Going c) page (Gated body.now) ≡ Going more) × Stands heads.new effects.new.items more.log) (next (Going c) page (Gated body.now) ≡ Damaged page)) }
     ensures places { OnOk result (ArePlaces heads.new) }
     ensures below { (limit : ℕ) → page < limit → AreBelow limit heads.old → OnOk result (AreBelow limit heads.new) }
-    ensures ranges { All HasBytes effects.old.items → OnOk result (All HasBytes effects.new.items) }
+    ensures ranges { AreEffects effects.old.items → OnOk result (AreEffects effects.new.items) }
 {
     match texts_in(body) {
         None => Ok(false),

@@ -1,13 +1,12 @@
 ghost use Rattle.std.specs.Prelude.{◌≡◌, ◌≢◌, [], ◌+◌, ℕ, ◌<◌, ◌≤◌, ◌++◌, IsTrue, List, Ok, Err, Some, None, count_by, length, false, IfOk, IfErr, IfSome, OnOk, OnErr};
-ghost use Rattle.pseudo_time.specs.Lists.{Every};
 ghost use Rattle.stream_port.specs.Causes.{Rose};
 ghost use Rattle.medium_port.specs.Image.{Image, Only, NoMore};
 ghost use Rattle.medium_port.specs.Moment.{LeavesOnly};
 ghost use Rattle.page_gate.specs.States.{is_blank};
-ghost use Rattle.effect_form.specs.Effects.{IsWritten};
+ghost use Rattle.effect_form.specs.Effects.{IsWritten, AreEffects};
 ghost use Rattle.version_store.specs.Entries.{Entry, IsBefore, IsIn, Log, last_put};
 ghost use Rattle.version_store.specs.Storage.{entries, storage, log_of};
-ghost use Rattle.version_store.specs.Filling.{HasBytes, HasPrefix, KeepsPages, StaysClean, filling};
+ghost use Rattle.version_store.specs.Filling.{HasPrefix, KeepsPages, StaysClean, filling};
 ghost use Rattle.version_store.specs.Faults.{fails_opening, fails_adding, fails_fetching};
 ghost use Rattle.version_store.specs.Fetch.{BackStands, IsLastPut, LastShows, StandsAt, damage_after};
 ghost use Rattle.version_store.specs.Heads.{AreBelow, ArePlaces, HeadsFit};
@@ -82,7 +81,7 @@ impl<M: Medium> Store<M> {
         ensures any_moment { IsTrue M.tells → LeavesOnly M.moment M.left_since medium (opened result) (M.may_leave medium) }
 
         // Over every medium each effect is in its range.
-        ensures ranges { IfOk result (λ r. Every HasBytes r.1.items) }
+        ensures ranges { IfOk result (λ r. AreEffects r.1.items) }
 
         ensures undamaged { IfOk result (λ r. damage_in r.0 ≡ 0) }
         ensures size { M.page_count (opened result) ≡ M.page_count medium }
@@ -126,7 +125,7 @@ impl<M: Medium> Store<M> {
     /// anything is written.
     pub fn append(self, effects: &[Effect]) -> Result<Store<M>, (M, StoreFault)>
         requires open { M.is_failed (medium_of self) ≡ false }
-        requires ranges { Every HasBytes effects.now }
+        requires ranges { AreEffects effects.now }
 
         // Ok adds them all, on as many pages as they fill, and that is on the medium.
         ensures added { IsTrue M.tells → IfOk result (λ s. effects_in M.reads s ≡ effects_in M.reads self ++ effects.now) }

@@ -1,4 +1,4 @@
-ghost use Rattle.std.specs.Prelude.{◌≡◌, ◌+◌, ◌≤◌, ◌<◌, ◌^◌, ◌++◌, List, IsTrue, is_err, false, true, length, map, drop, OnOk, All};
+ghost use Rattle.std.specs.Prelude.{◌≡◌, ◌+◌, ◌≤◌, ◌<◌, ◌^◌, ◌++◌, List, IsTrue, is_err, false, true, length, map, drop, take, OnOk, All};
 ghost use Rattle.std.specs.List.{list_all};
 ghost use Rattle.stream_port.specs.Causes.{HasCause};
 ghost use Rattle.medium_port.specs.Moment.{LeavesOnly};
@@ -6,6 +6,7 @@ ghost use Rattle.page_gate.specs.States.{is_blank};
 ghost use Rattle.version_store.specs.Entries.{Log};
 ghost use Rattle.version_store.specs.Filling.{StaysClean};
 ghost use Rattle.version_store.specs.Laying.{Grows, IsAtRest, IsBody, PagesFit, all_of, body_of, bytes_of};
+ghost use Rattle.version_store.specs.Storage.{begun, scan};
 
 use medium_port::{Medium, MediumFault};
 use page_gate::put;
@@ -21,9 +22,9 @@ pub fn write_pages<M: Medium>(
     requires open { M.is_failed medium.old ≡ false }
     requires bodies { All IsBody bodies.now }
     requires blank { IsTrue M.tells → list_all is_blank (drop first (M.reads medium.old)) ≡ true }
-    ensures any_moment { IsTrue M.tells → (log : Log) (pages : List Log) → IsAtRest log first (M.reads medium.old) (M.may_leave medium.old) → PagesFit log first pages → bytes_of bodies.now ≡ map body_of pages
+    ensures any_moment { IsTrue M.tells → (log : Log) (pages : List Log) → IsAtRest log first (M.reads medium.old) (M.may_leave medium.old) → PagesFit (scan begun 0 (take first (M.reads medium.old))) log first pages → bytes_of bodies.now ≡ map body_of pages
         → LeavesOnly M.moment M.left_since medium.old medium.new (Grows (M.reads medium.old) log pages) }
-    ensures all { IsTrue M.tells → (log : Log) (pages : List Log) → IsAtRest log first (M.reads medium.old) (M.may_leave medium.old) → PagesFit log first pages → bytes_of bodies.now ≡ map body_of pages
+    ensures all { IsTrue M.tells → (log : Log) (pages : List Log) → IsAtRest log first (M.reads medium.old) (M.may_leave medium.old) → PagesFit (scan begun 0 (take first (M.reads medium.old))) log first pages → bytes_of bodies.now ≡ map body_of pages
         → OnOk result (IsAtRest (log ++ all_of pages) (first + length bodies.now) (M.reads medium.new) (M.may_leave medium.new)) }
     ensures clean { IsTrue M.tells → OnOk result (StaysClean (M.reads medium.old) (M.reads medium.new)) }
     ensures last { M.last_page medium.new ≡ M.last_page medium.old }

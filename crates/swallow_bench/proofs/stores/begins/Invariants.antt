@@ -1,6 +1,5 @@
-use Rattle.std.specs.Prelude.{All}
-use Rattle.version_store.specs.Filling.{HasBytes}
+use Rattle.effect_form.specs.Effects.{AreEffects}
 use Rattle.swallow_bench.proofs.stores.begins.Given as goal
 
 abbrev pub invariant-loop-deadline : goal.invariant-loop-deadline
-invariant-loop-deadline l = record { good : All HasBytes l.effects.items }
+invariant-loop-deadline l = record { good : AreEffects l.effects.items }

@@ -6,10 +6,12 @@ use Rattle.std.proofs.lemmas.List.{drop_all, drop_more}
 use Rattle.std.proofs.lemmas.Bool.{cases_eq, eq-eqb, ne_eqb}
 use Rattle.effect_form.specs.declared.effects.Effect.{Effect}
 use Rattle.version_store.specs.Entries.{Log}
-use Rattle.version_store.specs.Filling.{filling, size_of}
+use Rattle.version_store.specs.Filling.{filling}
+use Rattle.effect_form.specs.Effects.{size_of}
 use Rattle.version_store.specs.Heads.{HeadsFit}
 use Rattle.version_store.specs.Laying.{IsBody, bytes_of}
-use Rattle.version_store.proofs.FillingLemmas.{Filled, filled_none, filled_takes, filled_closes, filled_room, filled_left, size_some}
+use Rattle.effect_form.proofs.SizeLaws.{size_some}
+use Rattle.version_store.proofs.FillingLemmas.{Filled, filled_none, filled_takes, filled_closes, filled_room, filled_left}
 use Rattle.version_store.proofs.LaidLemmas.{LaidOut, laid_none, laid_takes_so, laid_closes_so, laid_begun, laid_empty, laid_heads}
 use Rattle.version_store.proofs.layouts.lay_out.Goals as goal
 use Rattle.version_store.proofs.layouts.lay_out.Goals.{In_ok-add, then-len-effect_size-gt-PAGE_TEXTS+in_ok-close, else-len-effect_size-gt-PAGE_TEXTS, then-not-is_empty+in_ok-close-2, else-not-is_empty}

@@ -1,8 +1,7 @@
 use Rattle.std.proofs.Common.{◌≡◌, ◌≤◌, IsTrue, false, length}
-use Rattle.std.specs.Prelude.{All}
 use Rattle.medium_port.specs.Image.{NoMore}
 use Rattle.medium_port.specs.Moment.{LeavesOnly}
-use Rattle.version_store.specs.Filling.{HasBytes}
+use Rattle.effect_form.specs.Effects.{AreEffects}
 use Rattle.version_store.specs.Found.{Reached}
 use Rattle.version_store.specs.Heads.{AreBelow, ArePlaces}
 use Rattle.version_store.proofs.openings.read_pages.Given as goal
@@ -13,7 +12,7 @@ invariant-loop-page g l = record {
   low : l.found.next ≤ l.page;
   places : ArePlaces l.found.heads;
   below : AreBelow l.pages l.found.heads;
-  ranges : All HasBytes l.found.effects.items;
+  ranges : AreEffects l.found.effects.items;
   open_now : g.M.Medium.is_failed l.medium ≡ false;
   later : g.M.Medium.faults l.fn.medium ≤ g.M.Medium.faults l.medium;
   reads : IsTrue g.M.Medium.tells → g.M.Medium.reads l.medium ≡ g.M.Medium.reads l.fn.medium;

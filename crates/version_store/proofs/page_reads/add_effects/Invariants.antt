@@ -1,7 +1,6 @@
 use Rattle.std.proofs.Common.{◌≤◌, ◌<◌, ℕ, length}
-use Rattle.std.specs.Prelude.{All}
 use Rattle.version_store.specs.Entries.{Log}
-use Rattle.version_store.specs.Filling.{HasBytes}
+use Rattle.effect_form.specs.Effects.{AreEffects}
 use Rattle.version_store.specs.Heads.{AreBelow, ArePlaces, Stands}
 use Rattle.version_store.proofs.ReadLemmas.{SoFar}
 use Rattle.version_store.proofs.page_reads.add_effects.Given as goal
@@ -11,6 +10,6 @@ invariant-loop l = record {
   less : length l.rest ≤ length l.texts;
   places : ArePlaces l.heads;
   below : (limit : ℕ) → l.page < limit → AreBelow limit l.fn.heads → AreBelow limit l.heads;
-  ranges : All HasBytes l.fn.effects.items → All HasBytes l.effects.items;
+  ranges : AreEffects l.fn.effects.items → AreEffects l.effects.items;
   content : (log : Log) → Stands l.fn.heads l.fn.effects.items log → SoFar log l.page l.texts l.counter l.rest l.heads l.effects.items;
 }

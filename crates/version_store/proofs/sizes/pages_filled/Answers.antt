@@ -1,5 +1,5 @@
 use Rattle.std.proofs.Common.{◌≡◌, arith, get_or, ap, ◌∙◌}
-use Rattle.version_store.specs.Filling.{size_of}
+use Rattle.effect_form.specs.Effects.{size_of}
 use Rattle.version_store.proofs.FillingLemmas.{filled_none, filled_takes, filled_closes}
 use Rattle.version_store.proofs.sizes.pages_filled.Goals as goal
 use Rattle.version_store.proofs.sizes.pages_filled.Goals.{then-size-more-le-PAGE_TEXTS, else-size-more-le-PAGE_TEXTS}

@@ -1,11 +1,10 @@
 use Rattle.std.proofs.Common.{◌≡◌, ◌+◌, ◌++◌, ◌≤◌, IsTrue, length, sym, subst, arith}
 use Rattle.medium_port.specs.Image.{IsImage}
 use Rattle.version_store.specs.Entries.{Log}
-use Rattle.version_store.specs.Filling.{HasBytes, filling}
+use Rattle.version_store.specs.Filling.{filling}
 use Rattle.version_store.specs.Heads.{HeadsFit}
 use Rattle.version_store.specs.Laying.{IsAtRest, all_of, laid}
 use Rattle.version_store.specs.Storage.{log_of}
-use Rattle.version_store.proofs.RangeLemmas.{every_all}
 use Rattle.version_store.proofs.BlankLemmas.{blank_count}
 use Rattle.version_store.proofs.GrownLemmas.{untouched}
 use Rattle.version_store.proofs.StoreLemmas.{log_here, settled_here, rest_here, images_left, prefix_left, pages_kept, all_added, written_run, written_rest}
@@ -45,7 +44,7 @@ returns-in-Err-write_pages-clause-any_moment g c told =
     let log = log_of (g.M.Medium.reads m) in
     let room : s.next + length (filling c.args.effects.now) ≤ 1048576 = omega (arith, c.pages_filled-needed.ensures, c.if-needed-pages.false, s.in_range, s.most) in
     prefix_left g.M.Medium.moment g.M.Medium.left_since g.M.Medium.reads g.M.Medium.may_leave m now log s.next c.args.effects.now
-    (written_run g.M.Medium.moment g.M.Medium.left_since g.M.Medium.reads g.M.Medium.may_leave m now c.in-Ok.bodies.items c.deref.result.now s.heads log s.next c.args.effects.now (s.at_rest told) (s.heads_fit told) s.places (every_all HasBytes c.args.effects.now c.requires.ranges) room c.in-Ok.ensures.pages c.deref.ensures.value (c.write_pages.ensures.any_moment told))
+    (written_run g.M.Medium.moment g.M.Medium.left_since g.M.Medium.reads g.M.Medium.may_leave m now c.in-Ok.bodies.items c.deref.result.now s.heads log s.next c.args.effects.now (s.at_rest told) (s.heads_fit told) s.places c.requires.ranges room c.in-Ok.ensures.pages c.deref.ensures.value (c.write_pages.ensures.any_moment told))
 
 pub returns-in-Err-write_pages-clause-kept_then : goal.returns-in-Err-write_pages-clause-kept_then
 returns-in-Err-write_pages-clause-kept_then g c told =
@@ -55,7 +54,7 @@ returns-in-Err-write_pages-clause-kept_then g c told =
     let log = log_of (g.M.Medium.reads m) in
     let room : s.next + length (filling c.args.effects.now) ≤ 1048576 = omega (arith, c.pages_filled-needed.ensures, c.if-needed-pages.false, s.in_range, s.most) in
     pages_kept g.M.Medium.moment g.M.Medium.left_since g.M.Medium.reads g.M.Medium.may_leave m now log s.next c.args.effects.now
-    (written_run g.M.Medium.moment g.M.Medium.left_since g.M.Medium.reads g.M.Medium.may_leave m now c.in-Ok.bodies.items c.deref.result.now s.heads log s.next c.args.effects.now (s.at_rest told) (s.heads_fit told) s.places (every_all HasBytes c.args.effects.now c.requires.ranges) room c.in-Ok.ensures.pages c.deref.ensures.value (c.write_pages.ensures.any_moment told))
+    (written_run g.M.Medium.moment g.M.Medium.left_since g.M.Medium.reads g.M.Medium.may_leave m now c.in-Ok.bodies.items c.deref.result.now s.heads log s.next c.args.effects.now (s.at_rest told) (s.heads_fit told) s.places c.requires.ranges room c.in-Ok.ensures.pages c.deref.ensures.value (c.write_pages.ensures.any_moment told))
 
 pub returns-in-Err-write_pages-clause-images : goal.returns-in-Err-write_pages-clause-images
 returns-in-Err-write_pages-clause-images g c told i left =
@@ -71,7 +70,7 @@ returns-in-Ok-write_pages-clause-any_moment g c told =
     let log = log_of (g.M.Medium.reads m) in
     let room : s.next + length (filling c.args.effects.now) ≤ 1048576 = omega (arith, c.pages_filled-needed.ensures, c.if-needed-pages.false, s.in_range, s.most) in
     prefix_left g.M.Medium.moment g.M.Medium.left_since g.M.Medium.reads g.M.Medium.may_leave m now log s.next c.args.effects.now
-    (written_run g.M.Medium.moment g.M.Medium.left_since g.M.Medium.reads g.M.Medium.may_leave m now c.in-Ok.bodies.items c.deref.result.now s.heads log s.next c.args.effects.now (s.at_rest told) (s.heads_fit told) s.places (every_all HasBytes c.args.effects.now c.requires.ranges) room c.in-Ok.ensures.pages c.deref.ensures.value (c.write_pages.ensures.any_moment told))
+    (written_run g.M.Medium.moment g.M.Medium.left_since g.M.Medium.reads g.M.Medium.may_leave m now c.in-Ok.bodies.items c.deref.result.now s.heads log s.next c.args.effects.now (s.at_rest told) (s.heads_fit told) s.places c.requires.ranges room c.in-Ok.ensures.pages c.deref.ensures.value (c.write_pages.ensures.any_moment told))
 
 pub returns-in-Ok-write_pages-clause-kept_then : goal.returns-in-Ok-write_pages-clause-kept_then
 returns-in-Ok-write_pages-clause-kept_then g c told =
@@ -81,7 +80,7 @@ returns-in-Ok-write_pages-clause-kept_then g c told =
     let log = log_of (g.M.Medium.reads m) in
     let room : s.next + length (filling c.args.effects.now) ≤ 1048576 = omega (arith, c.pages_filled-needed.ensures, c.if-needed-pages.false, s.in_range, s.most) in
     pages_kept g.M.Medium.moment g.M.Medium.left_since g.M.Medium.reads g.M.Medium.may_leave m now log s.next c.args.effects.now
-    (written_run g.M.Medium.moment g.M.Medium.left_since g.M.Medium.reads g.M.Medium.may_leave m now c.in-Ok.bodies.items c.deref.result.now s.heads log s.next c.args.effects.now (s.at_rest told) (s.heads_fit told) s.places (every_all HasBytes c.args.effects.now c.requires.ranges) room c.in-Ok.ensures.pages c.deref.ensures.value (c.write_pages.ensures.any_moment told))
+    (written_run g.M.Medium.moment g.M.Medium.left_since g.M.Medium.reads g.M.Medium.may_leave m now c.in-Ok.bodies.items c.deref.result.now s.heads log s.next c.args.effects.now (s.at_rest told) (s.heads_fit told) s.places c.requires.ranges room c.in-Ok.ensures.pages c.deref.ensures.value (c.write_pages.ensures.any_moment told))
 
 pub returns-in-Ok-write_pages-clause-images : goal.returns-in-Ok-write_pages-clause-images
 returns-in-Ok-write_pages-clause-images g c told i left =
@@ -117,7 +116,7 @@ module _ (g : Over) (c : In-Ok-write_pages g) (told : IsTrue g.M.Medium.tells) w
       let m = s.medium in
       let log = log_of (g.M.Medium.reads m) in
       let room : s.next + length (filling c.args.effects.now) ≤ 1048576 = omega (arith, c.pages_filled-needed.ensures, c.if-needed-pages.false, s.in_range, s.most) in
-      written_rest g.M.Medium.moment g.M.Medium.left_since g.M.Medium.reads g.M.Medium.may_leave m c.write_pages.new.medium c.in-Ok.bodies.items c.deref.result.now s.heads log s.next c.pages_filled-needed.result c.args.effects.now (s.at_rest told) (s.heads_fit told) s.places (every_all HasBytes c.args.effects.now c.requires.ranges) room c.in-Ok.ensures.pages c.deref.ensures.value c.in-Ok.ensures.count c.pages_filled-needed.ensures (c.in-Ok-write_pages.ensures.all told)
+      written_rest g.M.Medium.moment g.M.Medium.left_since g.M.Medium.reads g.M.Medium.may_leave m c.write_pages.new.medium c.in-Ok.bodies.items c.deref.result.now s.heads log s.next c.pages_filled-needed.result c.args.effects.now (s.at_rest told) (s.heads_fit told) s.places c.requires.ranges room c.in-Ok.ensures.pages c.deref.ensures.value c.in-Ok.ensures.count c.pages_filled-needed.ensures (c.in-Ok-write_pages.ensures.all told)
 
   log_is : log_of (g.M.Medium.reads c.write_pages.new.medium) ≡ log_of (g.M.Medium.reads c.args.self.medium) ++ all_of (laid (log_of (g.M.Medium.reads c.args.self.medium)) c.args.self.next c.args.effects.now)
   log_is = log_here _ _ _ _ rest
@@ -137,7 +136,7 @@ returns-in-Ok-write_pages-clause-added g c told =
     let m = s.medium in
     let log = log_of (g.M.Medium.reads m) in
     let room : s.next + length (filling c.args.effects.now) ≤ 1048576 = omega (arith, c.pages_filled-needed.ensures, c.if-needed-pages.false, s.in_range, s.most) in
-    let rest = written_rest g.M.Medium.moment g.M.Medium.left_since g.M.Medium.reads g.M.Medium.may_leave m c.write_pages.new.medium c.in-Ok.bodies.items c.deref.result.now s.heads log s.next c.pages_filled-needed.result c.args.effects.now (s.at_rest told) (s.heads_fit told) s.places (every_all HasBytes c.args.effects.now c.requires.ranges) room c.in-Ok.ensures.pages c.deref.ensures.value c.in-Ok.ensures.count c.pages_filled-needed.ensures (c.in-Ok-write_pages.ensures.all told) in
+    let rest = written_rest g.M.Medium.moment g.M.Medium.left_since g.M.Medium.reads g.M.Medium.may_leave m c.write_pages.new.medium c.in-Ok.bodies.items c.deref.result.now s.heads log s.next c.pages_filled-needed.result c.args.effects.now (s.at_rest told) (s.heads_fit told) s.places c.requires.ranges room c.in-Ok.ensures.pages c.deref.ensures.value c.in-Ok.ensures.count c.pages_filled-needed.ensures (c.in-Ok-write_pages.ensures.all told) in
     all_added log s.next c.args.effects.now _ (log_here _ _ _ _ rest)
 
 pub returns-in-Ok-write_pages-clause-log : goal.returns-in-Ok-write_pages-clause-log
@@ -146,7 +145,7 @@ returns-in-Ok-write_pages-clause-log g c told =
     let m = s.medium in
     let log = log_of (g.M.Medium.reads m) in
     let room : s.next + length (filling c.args.effects.now) ≤ 1048576 = omega (arith, c.pages_filled-needed.ensures, c.if-needed-pages.false, s.in_range, s.most) in
-    let rest = written_rest g.M.Medium.moment g.M.Medium.left_since g.M.Medium.reads g.M.Medium.may_leave m c.write_pages.new.medium c.in-Ok.bodies.items c.deref.result.now s.heads log s.next c.pages_filled-needed.result c.args.effects.now (s.at_rest told) (s.heads_fit told) s.places (every_all HasBytes c.args.effects.now c.requires.ranges) room c.in-Ok.ensures.pages c.deref.ensures.value c.in-Ok.ensures.count c.pages_filled-needed.ensures (c.in-Ok-write_pages.ensures.all told) in
+    let rest = written_rest g.M.Medium.moment g.M.Medium.left_since g.M.Medium.reads g.M.Medium.may_leave m c.write_pages.new.medium c.in-Ok.bodies.items c.deref.result.now s.heads log s.next c.pages_filled-needed.result c.args.effects.now (s.at_rest told) (s.heads_fit told) s.places c.requires.ranges room c.in-Ok.ensures.pages c.deref.ensures.value c.in-Ok.ensures.count c.pages_filled-needed.ensures (c.in-Ok-write_pages.ensures.all told) in
     (_, log_here _ _ _ _ rest)
 
 pub invariant_of-result-clause-below : goal.invariant_of-result-clause-below

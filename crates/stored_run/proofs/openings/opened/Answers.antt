@@ -1,6 +1,0 @@
-use Rattle.version_store.specs.Filling.{HasBytes}
-use Rattle.version_store.proofs.RangeLemmas.{every_all}
-use Rattle.stored_run.proofs.openings.opened.Goals as goal
-
-pub returns-in-Ok-clause-bytes : goal.returns-in-Ok-clause-bytes
-returns-in-Ok-clause-bytes g c = every_all HasBytes _ c.in-Ok.ensures.ranges
