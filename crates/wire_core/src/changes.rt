@@ -9,7 +9,6 @@ ghost use Rattle.world_core.specs.Legal.{HasGone, Stands, Idle, is_behind, post_
 ghost use Rattle.wire_core.specs.Wires.{world_of};
 ghost use Rattle.wire_core.specs.Changes.{HasMore, IsBroken, Takes, IfArrived, IfNothing, IsCopyOf, TookAll, owed, Ticks, JustWhere};
 
-use crate::ends::is_quiet;
 use crate::sendings::send_all;
 use crate::takens::Taken;
 use crate::wires::Wire;
@@ -191,8 +190,7 @@ impl<F: Fates, C: Clock, M: Medium> Wire<F, C, M> {
         if self.broken {
             return Err(AllocError);
         }
-        let quiet = is_quiet(&self.flight, &self.story);
-        if !quiet {
+        if !self.idle() {
             return Ok(None);
         }
         self.broken = true;

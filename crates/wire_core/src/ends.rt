@@ -1,14 +1,10 @@
 //! Where a wire has nothing to do, what holds of it, and its end.
-ghost use Rattle.std.specs.Prelude.{◌≡◌, ◌↔◌, ◌<◌, ◌^◌, ◌++◌, true, false, map, IsTrue};
+ghost use Rattle.std.specs.Prelude.{◌≡◌, ◌↔◌, ◌<◌, ◌^◌, ◌++◌, false, map, IsTrue};
 ghost use Rattle.pseudo_time.specs.Lists.{Every};
-ghost use Rattle.pseudo_time.specs.declared.nodes.NodeId.{NodeId};
-ghost use Rattle.message_core.specs.Flights.{AllEmpty};
-ghost use Rattle.message_core.specs.Parts.{state_of};
 ghost use Rattle.plan_form.specs.declared.plans.Plan.{Plan};
 ghost use Rattle.world_core.specs.Walks.{sent_by};
 ghost use Rattle.world_core.specs.Legal.{Idle, Numbered, post_of, fates_of, asked_of};
 ghost use Rattle.world_core.specs.Readings.{IsLegal};
-ghost use Rattle.wire_core.specs.Flagged.{flags_at, is_idle_at};
 ghost use Rattle.wire_core.specs.Wires.{world_of, IsRunOf, trace_of};
 ghost use Rattle.wire_core.specs.Changes.{IsQuiet};
 ghost use Rattle.wire_core.specs.Clocked.{IsClocked, tick_moments};
@@ -17,17 +13,9 @@ ghost use Rattle.wire_core.specs.Sound.{IsFlown};
 use crate::stories::Story;
 use crate::wires::Wire;
 use medium_port::Medium;
-use message_core::Flight;
 use stream_port::{Clock, Fates};
 use value_form::Items;
 use world_core::Trace;
-
-// Whether no copy is due, and no node that is up has anything to do.
-pub fn is_quiet(flight: &Flight, story: &Story) -> bool
-    ensures { IsTrue result ↔ (AllEmpty (state_of flight.now) × ((n : NodeId) → is_idle_at story.now.last story.now.ticks n (flags_at story.now.nodes.entries n) ≡ true)) }
-{
-    flight.empty() && story.is_idle()
-}
 
 impl<F: Fates, C: Clock, M: Medium> Wire<F, C, M> {
     /// Whether no node that is up has anything to do. After a want of memory it is false.
@@ -35,7 +23,7 @@ impl<F: Fates, C: Clock, M: Medium> Wire<F, C, M> {
         ensures quiet { IsTrue result ↔ ((self.now.broken ≡ false) × IsQuiet self.now) }
         ensures idle { IsTrue M.tells → (IsTrue result ↔ ((self.now.broken ≡ false) × Idle (fates_of self.now.sent) (world_of self.now))) }
     {
-        !self.broken && is_quiet(&self.flight, &self.story)
+        !self.broken && self.flight.empty() && self.story.is_idle()
     }
 
     /// A law: what holds of each wire at each moment. Where media tell their content its trace is
