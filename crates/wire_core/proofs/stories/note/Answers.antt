@@ -4,8 +4,8 @@ use Rattle.message_core.proofs.NodeLemmas.{found_same}
 use Rattle.wire_core.proofs.NodeMaps.{puts_of, noted-one, noted-unknown, noted-none}
 use Rattle.wire_core.proofs.stories.note.Goals as goal
 
-pub returns-in-Some : goal.returns-in-Some
-returns-in-Some c =
+pub returns : goal.returns
+returns c =
     let es = c.args.nodes.now.entries in
     let w = c.after_own.result in
     let fs = (c.get_mut.follows.lender w).entries in

@@ -4,7 +4,7 @@ use Rattle.world_core.specs.Legal.{asked_of}
 use Rattle.world_core.specs.Readings.{IsLegal}
 use Rattle.wire_core.specs.Wires.{WireParts, IsRunOf, trace_of}
 use Rattle.wire_core.proofs.SoundLemmas.{is-legal}
-use Rattle.wire_core.proofs.ends.Wire.stands.Goals as goal
+use Rattle.wire_core.proofs.wires.Wire.stands.Goals as goal
 
 pub returns-clause-legal : goal.returns-clause-legal
 returns-clause-legal g c =

@@ -1,5 +1,5 @@
 use Rattle.wire_core.proofs.ChangeLemmas.{hear-more}
-use Rattle.wire_core.proofs.changes.Wire.hear.Goals as goal
+use Rattle.wire_core.proofs.wires.Wire.hear.Goals as goal
 
 pub invariant_of-self-2 : goal.invariant_of-self-2
 invariant_of-self-2 g c =

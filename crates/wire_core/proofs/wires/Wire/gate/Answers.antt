@@ -1,6 +1,6 @@
 use Rattle.std.proofs.Common.{◌≡◌, length, arith}
 use Rattle.wire_core.proofs.GateLemmas.{gate-more, room-for, numbered-for}
-use Rattle.wire_core.proofs.changes.Wire.gate.Goals as goal
+use Rattle.wire_core.proofs.wires.Wire.gate.Goals as goal
 
 pub invariant_of-self-in-Ok : goal.invariant_of-self-in-Ok
 invariant_of-self-in-Ok g c =

@@ -1,6 +1,6 @@
 use Rattle.std.proofs.Common.{◌+◌, max, min, sym, ap, ◌∙◌}
 use Rattle.wire_core.proofs.ChangeLemmas.{tick-more}
-use Rattle.wire_core.proofs.changes.Wire.tick.Goals as goal
+use Rattle.wire_core.proofs.wires.Wire.tick.Goals as goal
 
 pub invariant_of-self-2 : goal.invariant_of-self-2
 invariant_of-self-2 g c =

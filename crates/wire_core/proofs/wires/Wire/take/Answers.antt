@@ -7,7 +7,7 @@ use Rattle.wire_core.specs.Wires.{WireParts, world_of}
 use Rattle.wire_core.proofs.ChangeLemmas.{take-more, all-taken}
 use Rattle.wire_core.proofs.DueLemmas.{is-copy}
 use Rattle.wire_core.proofs.FitLemmas.{behind-is}
-use Rattle.wire_core.proofs.changes.Wire.take.Goals as goal
+use Rattle.wire_core.proofs.wires.Wire.take.Goals as goal
 
 pub invariant_of-self-2 : goal.invariant_of-self-2
 invariant_of-self-2 g c =

@@ -1,5 +1,5 @@
 use Rattle.wire_core.proofs.ChangeLemmas.{down-more}
-use Rattle.wire_core.proofs.changes.Wire.down.Goals as goal
+use Rattle.wire_core.proofs.wires.Wire.down.Goals as goal
 
 pub invariant_of-self-2 : goal.invariant_of-self-2
 invariant_of-self-2 g c =

@@ -4,7 +4,7 @@ use Rattle.world_core.specs.Legal.{fates_of, Idle}
 use Rattle.wire_core.specs.Changes.{IsQuiet}
 use Rattle.wire_core.specs.Wires.{WireParts, world_of}
 use Rattle.wire_core.proofs.QuietLemmas.{idle-quiet, quiet-idle, quiet-empty, quiet-rests, rests-quiet}
-use Rattle.wire_core.proofs.ends.Wire.idle.Goals as goal
+use Rattle.wire_core.proofs.wires.Wire.idle.Goals as goal
 
 pub returns-then-not-self-clause-quiet : goal.returns-then-not-self-clause-quiet
 returns-then-not-self-clause-quiet g c =
