@@ -134,7 +134,8 @@ module _ (b : Base) (w : World) (msgs : List Sent) (marks : List Marked) (s : St
     opened = λ n. gone (same_node node n) (s.queues n) ∙ ap (λ u. u && not (same_node node n)) (t.opened n) ∙ down-up (same_node node n) (w.flags n).known (w.flags n) (w.flags n).up refl (known n) refl;
   }
 
-  -- a message is sent
+-- a message is sent
+module _ (w : World) (msgs : List Sent) (marks : List Marked) (s : State) where
   sent-ways : (letter : Letter) (fate : Fate) (t : Bool) → ((if t then sent_at_once s letter fate else sent_later s letter fate).letters ≡ s.letters ++ letter ∷ []) × ((if t then sent_at_once s letter fate else sent_later s letter fate).ticks ≡ s.ticks)
   sent-ways letter fate true = (refl, refl)
   sent-ways letter fate false = (refl, refl)

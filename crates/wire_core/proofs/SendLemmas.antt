@@ -22,9 +22,12 @@ posted-more n outs i d all now s within e1 e2 e3 =
     ap (map post_of) e2 ∙ map-append post_of all (s ∷ []) ∙ ap (λ l. l ++ post_of s ∷ []) e1 ∙ ap (λ p. posts n (take i outs) ++ p ∷ []) e3
     ∙ sym (map-append (post n) (take i outs) (slice_index_or outs i d ∷ [])) ∙ ap (posts n) (sym (take_more outs i d within))
 
-pub numbered-more : (k : ℕ) (xs : List Sent) (s : Sent) → Numbered k xs → s.number ≡ k + length xs → Numbered k (xs ++ s ∷ [])
-numbered-more k [] s all is = (is ∙ add-zero k, tt)
-numbered-more k (x ∷ xs) s all is = (all.0, numbered-more (suc k) xs s all.1 (omega (arith, is)))
+numbered-last : (k : ℕ) (xs : List Sent) (s : Sent) → Numbered k xs → s.number ≡ k + length xs → Numbered k (xs ++ s ∷ [])
+numbered-last k [] s all is = (is ∙ add-zero k, tt)
+numbered-last k (x ∷ xs) s all is = (all.0, numbered-last (suc k) xs s all.1 (omega (arith, is)))
+
+pub numbered-more : (k number : ℕ) (all now : List Sent) (s : Sent) → now ≡ all ++ s ∷ [] → Numbered k all → s.number ≡ number → number ≡ k + length all → Numbered k now
+numbered-more k number all now s is numbers named at = subst (Numbered k) (sym is) (numbered-last k all s numbers (named ∙ at))
 
 pub tied-more : (w : World) (sent : List Sent) (marks : List Marked) (old new : State) (all now : List Sent) (s : Sent) → now ≡ all ++ s ∷ [] → IsTied old w (sent ++ all) (marks ++ all_marked w.ticks all)
     → ((w : World) (sent : List Sent) (marks : List Marked) → IsTied old w sent marks → IsTied new w (sent ++ s ∷ []) (marks ++ all_marked w.ticks (s ∷ [])))

@@ -16,6 +16,6 @@ loop-out-preserved g c =
           ∙ ap (λ (a : Asked). g.F.Fates.asked c.loop-out.fates ++ a ∷ []) (ap (λ (t : ℕ). record { number = c.loop-out.number; tag = t; fate = c.in_ok-fate.fate }) c.tag.ensures ∙ sym (ap asked_of c.in_ok-sent.ensures.sent))) items;
       posted = posted-more c.args.from c.args.outs.now c.loop-out.out-index c.out-item.result c.loop-out.news.items _ _ c.loop-out-test.true h.posted items (ap post_of c.in_ok-sent.ensures.sent ∙ ap (post c.args.from) c.out-item.is);
       count = omega (arith, h.count, c.in_ok-push.ensures.len);
-      numbered = subst (Numbered c.args.first) (sym items) (numbered-more c.args.first c.loop-out.news.items _ h.numbered (ap (λ (x : Sent). x.number) c.in_ok-sent.ensures.sent ∙ omega (arith, h.number, h.count)));
+      numbered = numbered-more c.args.first c.loop-out.number c.loop-out.news.items _ _ items h.numbered (ap (λ (x : Sent). x.number) c.in_ok-sent.ensures.sent) (omega (arith, h.number, h.count));
       tied = λ w sent marks t. tied-more w sent marks _ _ c.loop-out.news.items _ _ items (h.tied w sent marks t) c.in_ok-sent.ensures.tied;
     }
