@@ -95,11 +95,6 @@ module _ (told : Bool) (o : Origin) (s s' : Story) (sent : List Sent) (asked : L
       (λ t. take-rule t n number cut.0 up gone behind cut.1)
       (λ marks tied. subst (λ (x : State). IsTied x (step b w (Take n number)) sent marks) (sym flew) (tied-take b w sent marks (state_of flight) n number cut.0 cut.1 tied))
 
-  pub all-taken : IsTrue told → (n : NodeId) → (w.flags n).up ≡ true → waiting (state_of flight) n ≡ [] → TookAll (fates_of sent) w n
-  all-taken t n up none =
-      let f : IsFlown told (parts_with o s sent asked answers flight broken) = h.flown whole in
-      took-all (state_of flight) w sent f.marks f.tied (f.walked t) n none (f.tied.opened n ∙ up)
-
   -- TIME PASSES
   last-is : unwrap_or w.last o.start ≡ unwrap_or s.last o.start
   last-is = ap (λ x. unwrap_or x o.start) h.fits.last

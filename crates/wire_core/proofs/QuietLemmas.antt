@@ -10,7 +10,7 @@ use Rattle.message_core.specs.Parts.{state_of}
 use Rattle.world_core.specs.Walks.{World, Flags}
 use Rattle.world_core.specs.Legal.{HasHeard, Idle, is_behind, fates_of}
 use Rattle.wire_core.specs.declared.flags.NodeFlags.{NodeFlags}
-use Rattle.wire_core.specs.Changes.{IsQuiet}
+use Rattle.wire_core.specs.Changes.{IsQuiet, TookAll}
 use Rattle.wire_core.specs.Flagged.{flags_at, flags_of, shown, is_late, is_idle, is_idle_at}
 use Rattle.wire_core.specs.Sound.{IsSound}
 use Rattle.wire_core.specs.Wires.{WireParts, world_of}
@@ -72,6 +72,10 @@ both-behind None h e = absurd (cc e)
 pub behind-parts : (w : World) (n : NodeId) → is_behind w n ≡ true → (is_some w.last ≡ true) × (w.heard n ≡ false)
 behind-parts w n h = both-behind w.last (w.heard n) h
 
+no-from : (r : Bool) → r ≡ false → IsTrue r → ⊥
+no-from true h = λ yes. cc h
+no-from false h = λ yes. cc yes
+
 module _ (told : Bool) (w : WireParts) (nodes : List (NodeId × NodeFlags)) (ticks : ℕ) (last : Option ℕ) (h : IsSound told w nodes ticks last) (whole : w.broken ≡ false) where
   -- WHAT THE CODE ASKS is that nothing is to be done
   pub idle-quiet : AllEmpty (state_of w.flight) → ((n : NodeId) → is_idle_at last ticks n (flags_at nodes n) ≡ true) → IsQuiet w
@@ -131,6 +135,18 @@ module _ (told : Bool) (w : WireParts) (nodes : List (NodeId × NodeFlags)) (tic
         gone = i.gone;
       }
 
-pub no-from : (r : Bool) → r ≡ false → IsTrue r → ⊥
-no-from true h = λ yes. cc h
-no-from false h = λ yes. cc yes
+  -- A TEST of the flight and of the nodes tells it
+  pub quiet-by : (i : Bool) → AllEmpty (state_of w.flight) → (IsTrue i ↔ ((n : NodeId) → is_idle_at last ticks n (flags_at nodes n) ≡ true)) → IsTrue i ↔ ((w.broken ≡ false) × IsQuiet w)
+  quiet-by i empty idle = (λ yes. (whole, idle-quiet empty (idle.0 yes)), λ quiet. idle.1 (quiet-idle quiet.1))
+
+  pub quiet-not : (e : Bool) → e ≡ false → (IsTrue e ↔ AllEmpty (state_of w.flight)) → IsTrue e ↔ ((w.broken ≡ false) × IsQuiet w)
+  quiet-not e some empty = (λ yes. absurd (no-from e some yes), λ quiet. empty.1 (quiet-empty quiet.1))
+
+  pub rests-by : (i : Bool) → (IsTrue i ↔ ((w.broken ≡ false) × IsQuiet w)) → IsTrue told → IsTrue i ↔ ((w.broken ≡ false) × Idle (fates_of w.sent) (world_of w))
+  rests-by i quiet t = (λ yes. (whole, quiet-rests t (quiet.0 yes).1), λ idle. quiet.1 (whole, rests-quiet t idle.1))
+
+  -- WHERE NOTHING IS DUE for a node, it took all
+  pub all-taken : IsTrue told → (n : NodeId) → ((world_of w).flags n).up ≡ true → waiting (state_of w.flight) n ≡ [] → TookAll (fates_of w.sent) (world_of w) n
+  all-taken t n up none =
+      let f = h.flown whole in
+      took-all (state_of w.flight) (world_of w) w.sent f.marks f.tied (f.walked t) n none (f.tied.opened n ∙ up)

@@ -3,6 +3,7 @@ use Rattle.std.proofs.Common.{◌≡◌, ℕ, ◌+◌, ◌≤◌, ◌<◌, ◌^�
 use Rattle.std.specs.Option.{unwrap_or}
 use Rattle.pseudo_time.specs.Lists.{Every}
 use Rattle.pseudo_time.proofs.ListLemmas.{every-append}
+use Rattle.pseudo_time.specs.declared.nodes.NodeId.{NodeId}
 use Rattle.plan_form.specs.declared.plans.Plan.{Plan}
 use Rattle.broker_core.specs.Readings.{reading}
 use Rattle.broker_core.specs.Tasks.{Scripted}
@@ -17,6 +18,7 @@ use Rattle.world_core.specs.Legal.{Rule, Meets, Legal, AllReady, Numbered, base_
 use Rattle.world_core.specs.Readings.{IsLegal}
 use Rattle.world_core.proofs.Lives.{walk-more}
 use Rattle.world_core.proofs.Rules.{meets-more}
+use Rattle.wire_core.specs.declared.flags.NodeFlags.{NodeFlags}
 use Rattle.wire_core.specs.declared.stories.Story.{Story}
 use Rattle.wire_core.specs.Clocked.{IsClocked, tick_moments}
 use Rattle.wire_core.specs.Copies.{Marked, posted, IsTied}
@@ -107,7 +109,7 @@ module _ (told : Bool) (o : Origin) (s s' : Story) (e : Entry) (sent : List Sent
 base-is : (plan : Plan) (w : WireParts) → IsRunOf plan w.origin → base_from w.origin ≡ base_of (reading plan.acts) plan (trace_of w)
 base-is plan w is = λ i. record { script = reading (sym is.acts i); run = sym is.run i; acts = sym is.acts i; start = w.origin.start; opened = w.origin.opened }
 
-pub is-legal : (plan : Plan) (w : WireParts) → IsRunOf plan w.origin → Meets (base_from w.origin) (fates_of w.sent) (start_world (base_from w.origin)) w.entries → map post_of w.sent ≡ sent_by (world_of w) → Numbered 1 w.sent
+is-legal : (plan : Plan) (w : WireParts) → IsRunOf plan w.origin → Meets (base_from w.origin) (fates_of w.sent) (start_world (base_from w.origin)) w.entries → map post_of w.sent ≡ sent_by (world_of w) → Numbered 1 w.sent
     → IsLegal plan (w.origin.asked ++ map asked_of w.sent) (trace_of w)
 is-legal plan w is meets posts numbers = record {
   scripted = subst (λ acts. Scripted (reading acts) acts) (sym is.acts) is.scripted;
@@ -119,3 +121,7 @@ is-legal plan w is meets posts numbers = record {
   before = w.origin.asked;
   fated = refl;
 }
+
+pub sound-legal : (told : Bool) (w : WireParts) (nodes : List (NodeId × NodeFlags)) (ticks : ℕ) (last : Option ℕ) → IsSound told w nodes ticks last → IsTrue told → (plan : Plan) → IsRunOf plan w.origin
+    → IsLegal plan (w.origin.asked ++ map asked_of w.sent) (trace_of w)
+sound-legal told w nodes ticks last h t plan is = is-legal plan w is (h.meets t) (h.sent t) h.numbers

@@ -23,7 +23,10 @@ impl<F: Fates, C: Clock, M: Medium> Wire<F, C, M> {
         ensures quiet { IsTrue result ↔ ((self.now.broken ≡ false) × IsQuiet self.now) }
         ensures idle { IsTrue M.tells → (IsTrue result ↔ ((self.now.broken ≡ false) × Idle (fates_of self.now.sent) (world_of self.now))) }
     {
-        !self.broken && self.flight.empty() && self.story.is_idle()
+        if self.broken {
+            return false;
+        }
+        self.flight.empty() && self.story.is_idle()
     }
 
     /// A law: what holds of each wire at each moment. Where media tell their content its trace is

@@ -4,9 +4,10 @@ use Rattle.world_core.specs.Legal.{fates_of, post_of}
 use Rattle.world_core.specs.Walks.{sent_by}
 use Rattle.wire_core.specs.Changes.{IsCopyOf, TookAll}
 use Rattle.wire_core.specs.Wires.{WireParts, world_of}
-use Rattle.wire_core.proofs.ChangeLemmas.{take-more, all-taken}
+use Rattle.wire_core.proofs.ChangeLemmas.{take-more}
 use Rattle.wire_core.proofs.DueLemmas.{is-copy}
 use Rattle.wire_core.proofs.FitLemmas.{behind-is}
+use Rattle.wire_core.proofs.QuietLemmas.{all-taken}
 use Rattle.wire_core.proofs.wires.Wire.take.Goals as goal
 
 pub invariant_of-self-2 : goal.invariant_of-self-2
@@ -18,7 +19,7 @@ invariant_of-self-2 g c =
 pub returns-in_default-clause-all : goal.returns-in_default-clause-all
 returns-in_default-clause-all g c =
     subst (λ (v : WireParts). IsTrue g.M.Medium.tells → TookAll (fates_of v.sent) (world_of v) c.args.node) c.self.view_is
-    (λ t. all-taken _ _ _ _ _ _ _ _ _ c.self.invariant c.if-self.false t c.args.node (rw (← c.self.view_is) at c.requires.up) (rw c.in_default.is at c.in_ok-arrival.ensures.arrived))
+    (λ t. all-taken _ _ _ _ _ c.self.invariant c.if-self.false t c.args.node (rw (← c.self.view_is) at c.requires.up) (rw c.in_default.is at c.in_ok-arrival.ensures.arrived))
 
 pub returns-clause-message : goal.returns-clause-message
 returns-clause-message g c =
