@@ -1,5 +1,6 @@
 pub mod ChangeLemmas
 pub mod CopyLemmas
+pub mod Crosses
 pub mod DueLemmas
 pub mod FitLemmas
 pub mod GateLemmas
@@ -7,5 +8,6 @@ pub mod MomentLemmas
 pub mod NewLemmas
 pub mod NodeMaps
 pub mod QuietLemmas
+pub mod ScriptCrosses
 pub mod SendLemmas
 pub mod SoundLemmas
