@@ -1,7 +1,6 @@
 -- The copies in flight, entry by entry.
 use Rattle.std.proofs.Common.{◌≡◌, ℕ, zero, suc, ◌+◌, ◌==◌, Bool, true, false, ◌&&◌, cond, not, List, [], ◌∷◌, ◌++◌, map, length, take, if◌then◌else◌, refl, sym, ap, subst, ◌∙◌, Option, Some, None, is_some, arith}
 use Rattle.std.proofs.lemmas.List.{map-append}
-use Rattle.std.proofs.lemmas.List.Recursion.{is_count_by}
 use Rattle.pseudo_time.specs.declared.down_causes.DownCause.{DownCause}
 use Rattle.pseudo_time.specs.declared.nodes.NodeId.{NodeId}
 use Rattle.pseudo_time.specs.declared.nodes.NodeKind.{NodeKind}
@@ -47,13 +46,6 @@ stays-up w e n h = up-if (names n e && (w.flags n).known) (w.flags n) (flagged w
 
 -- ---- how often a number was taken
 
-count-steps : (k x n : ℕ) (t : Bool) → (x == k) ≡ t → cond t 1 0 + n ≡ cond t (1 + n) n
-count-steps k x n true h = refl
-count-steps k x n false h = omega arith
-
-times-count : (w : World) (k : ℕ) → times_taken w k ≡ count k w.taken
-times-count w k = sym (is_count_by (count k) (λ j. j == k) refl (λ x xs. count-steps k x (count k xs) (x == k) refl) w.taken)
-
 -- an entry that leaves the flight
 pub record LeavesCopies (e : Entry) : Type 0 where
   pub taken : (l : List ℕ) → taken_after l e ≡ l
@@ -61,11 +53,8 @@ pub record LeavesCopies (e : Entry) : Type 0 where
   pub up : is_down e ≡ false
 
 module _ (b : Base) (w : World) (msgs : List Sent) (marks : List Marked) (s : State) where
-  once-more : (node : NodeId) (number k : ℕ) → times_taken (step b w (Take node number)) k ≡ cond (number == k) 1 0 + times_taken w k
-  once-more node number k = times-count (step b w (Take node number)) k ∙ ap (λ c. cond (number == k) 1 0 + c) (sym (times-count w k))
-
   still-taken : (e : Entry) (k : ℕ) → ((l : List ℕ) → taken_after l e ≡ l) → times_taken w k ≡ times_taken (step b w e) k
-  still-taken e k same = ap (λ (l : List ℕ). times_taken (record w { taken = l }) k) (sym (same w.taken))
+  still-taken e k same = ap (count k) (sym (same w.taken))
 
   pub tied-left : (e : Entry) → LeavesCopies e → IsTied s w msgs marks → IsTied s (step b w e) msgs marks
   tied-left e leaves t = record {
@@ -87,7 +76,7 @@ module _ (b : Base) (w : World) (msgs : List Sent) (marks : List Marked) (s : St
   tied-take node number rest front t = record {
     ledger = noted s t.ledger (flights.Take node);
     tally = tallied_step s t.ledger (flights.Take node) t.tally;
-    taken = λ k. ap (λ (q : List ℕ). count k (t.ledger.taken ++ take 1 q)) front ∙ one-last k number t.ledger.taken ∙ ap (λ c. cond (number == k) 1 0 + c) (t.taken k) ∙ sym (once-more node number k);
+    taken = λ k. ap (λ (q : List ℕ). count k (t.ledger.taken ++ take 1 q)) front ∙ one-last k number t.ledger.taken ∙ ap (λ c. cond (number == k) 1 0 + c) (t.taken k);
     sendings = t.sendings;
     sent_are = t.sent_are;
     letters = t.letters;
