@@ -1,5 +1,5 @@
 -- What happens to a node, and time that passes.
-use Rattle.std.proofs.Common.{◌≡◌, ℕ, ◌+◌, ◌≤◌, ◌<◌, ◌^◌, max, min, Bool, true, false, List, [], ◌∷◌, ◌++◌, map, length, refl, sym, ap, subst, ◌∙◌, Option, Some, IsTrue, arith}
+use Rattle.std.proofs.Common.{◌≡◌, ℕ, ◌≤◌, Bool, true, false, List, [], ◌∷◌, length, refl, sym, ap, subst, ◌∙◌, Option, Some, IsTrue, arith}
 use Rattle.std.specs.Option.{unwrap_or}
 use Rattle.pseudo_time.specs.declared.down_causes.DownCause.{DownCause}
 use Rattle.pseudo_time.specs.declared.nodes.NodeId.{NodeId}
@@ -11,21 +11,21 @@ use Rattle.message_core.specs.declared.letters.Arrival.{Arrival}
 use Rattle.message_core.specs.Arrivals.{IsFront}
 use Rattle.message_core.specs.Flights.{State, waiting, taken, passed, was_shut}
 use Rattle.message_core.specs.Parts.{FlightParts, state_of}
-use Rattle.world_core.specs.declared.entries.Entry.TheVariants.{Take, Go, Learn, Hear, Gate, Crash, Down, Tick}
+use Rattle.world_core.specs.declared.entries.Entry.TheVariants.{Take, Go, Learn, Hear, Crash, Down, Tick}
 use Rattle.world_core.specs.declared.traces.Sent.{Sent}
-use Rattle.world_core.specs.Walks.{Base, World, Sending, numbered, opened_log, step, start_world, walk}
+use Rattle.world_core.specs.Walks.{Base, World, numbered, opened_log, step, start_world, walk}
 use Rattle.world_core.specs.Legal.{HasGone, MayTake, MayTick, Stands, is_behind, fates_of}
 use Rattle.wire_core.specs.declared.stories.Story.{Story}
-use Rattle.wire_core.specs.Changes.{IsQuiet, TookAll}
-use Rattle.wire_core.specs.Clocked.{IsClocked, next_moment}
-use Rattle.wire_core.specs.Copies.{Marked, posted, IsTied}
+use Rattle.wire_core.specs.Changes.{IsQuiet}
+use Rattle.wire_core.specs.Clocked.{next_moment}
+use Rattle.wire_core.specs.Copies.{posted, IsTied}
 use Rattle.wire_core.specs.Sound.{IsFlown, IsSound, parts_with}
 use Rattle.wire_core.specs.Stories.{HasOneMore}
 use Rattle.wire_core.specs.Wires.{Origin, base_from}
 use Rattle.wire_core.proofs.CopyLemmas.{tied-take, tied-tick, tied-down}
-use Rattle.wire_core.proofs.DueLemmas.{due-front, fate-of, front-cons, numbered-to, took-all}
+use Rattle.wire_core.proofs.DueLemmas.{due-front, fate-of, front-cons, numbered-to}
 use Rattle.wire_core.proofs.FitLemmas.{up-known}
-use Rattle.wire_core.proofs.MomentLemmas.{last-from, clocked-tick, latest}
+use Rattle.wire_core.proofs.MomentLemmas.{last-from, clocked-tick}
 use Rattle.wire_core.proofs.QuietLemmas.{not-behind, behind-parts, quiet-rests}
 use Rattle.wire_core.proofs.SoundLemmas.{sound-step, sound-still, sound-left}
 

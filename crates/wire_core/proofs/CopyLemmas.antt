@@ -1,5 +1,5 @@
 -- The copies in flight, entry by entry.
-use Rattle.std.proofs.Common.{◌≡◌, ℕ, zero, suc, ◌+◌, ◌==◌, Bool, true, false, ◌&&◌, cond, not, List, [], ◌∷◌, ◌++◌, map, length, take, if◌then◌else◌, refl, sym, ap, subst, ◌∙◌, Option, Some, None, is_some, arith}
+use Rattle.std.proofs.Common.{◌≡◌, ℕ, ◌+◌, ◌==◌, Bool, true, false, ◌&&◌, cond, not, List, [], ◌∷◌, ◌++◌, map, take, if◌then◌else◌, refl, sym, ap, ◌∙◌, Option, Some, None, arith}
 use Rattle.std.proofs.lemmas.List.{map-append}
 use Rattle.pseudo_time.specs.declared.down_causes.DownCause.{DownCause}
 use Rattle.pseudo_time.specs.declared.nodes.NodeId.{NodeId}
@@ -11,7 +11,7 @@ use Rattle.message_core.specs.declared.letters.Letter.{Letter}
 use Rattle.message_core.specs.Flights.{State, waiting, sent_at_once, sent_later, sent, taken, going_to, passed, was_shut}
 use Rattle.message_core.specs.Flights as flights
 use Rattle.message_core.specs.Senders.{letter_of}
-use Rattle.message_core.specs.Tallies.{Ledger, Tallied, noted, count}
+use Rattle.message_core.specs.Tallies.{noted, count}
 use Rattle.message_core.proofs.Counting.{count-append}
 use Rattle.message_core.proofs.StayLemmas.{kept-if, kept-map, kept-sent, gone}
 use Rattle.message_core.proofs.TallyLemmas.{tallied_step}

@@ -29,9 +29,31 @@ use Rattle.wire_core.proofs.ScriptCrosses.{n32, n64, act_send}
 
 module _ (F C M : RattleType) (f : fates.Ghosts F.Denot) (c : clock.Ghosts C.Denot) (m : medium.Ghosts M.Denot) (sf : IsSend F) (sc : IsSend C) where
   pub inside_send : IsSend (Inside.the_row F C M f c m)
-  inside_send = declared_send (Inside.the_type F C M f c m)
-      (search sendable depth 20, (n32, (Vec-send _ act_send, (n64, (Vec-send _ opened.the_send, (Vec-send _ sent.the_send, (story.the_send, (flight.the_send,
-      (search (sf, sendable), (search (sc, sendable), (search sendable depth 20, (search sendable depth 20, (search sendable, (search sendable depth 20, tt))))))))))))))
+  inside_send = declared_send (Inside.the_type F C M f c m) (
+    search sendable depth 20,
+    (
+      n32,
+      (
+        Vec-send _ act_send,
+        (
+          n64,
+          (
+            Vec-send _ opened.the_send,
+            (
+              Vec-send _ sent.the_send,
+              (
+                story.the_send,
+                (
+                  flight.the_send,
+                  (search (sf, sendable), (search (sc, sendable), (search sendable depth 20, (search sendable depth 20, (search sendable, (search sendable depth 20, tt)))))),
+                ),
+              ),
+            ),
+          ),
+        ),
+      ),
+    ),
+  )
 
   pub wire_send : IsSend (Wire.the_row F C M f c m)
   wire_send = view_send _ _ _ _ _ inside_send

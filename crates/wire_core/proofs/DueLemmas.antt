@@ -1,10 +1,9 @@
 -- Which copies are due, by the messages that were sent.
-use Rattle.std.proofs.Common.{◌≡◌, ℕ, zero, suc, ◌+◌, ◌-◌, ◌≤◌, ◌<◌, Bool, true, false, List, [], ◌∷◌, map, refl, sym, ap, ◌∙◌, Option, Some, None, is_some, slice_get, arith}
+use Rattle.std.proofs.Common.{◌≡◌, ℕ, zero, suc, ◌+◌, ◌-◌, ◌≤◌, ◌<◌, true, List, [], ◌∷◌, map, refl, sym, ap, ◌∙◌, Option, Some, None, is_some, slice_get, arith}
 use Rattle.std.specs.Option.{option_map, unwrap_or}
 use Rattle.std.proofs.lemmas.Option.{slice_get-map}
 use Rattle.pseudo_time.specs.declared.nodes.NodeId.{NodeId}
 use Rattle.message_form.proofs.ReadLaws.{message_bytes-apart}
-use Rattle.turn_form.specs.Posts.{Post}
 use Rattle.stream_port.specs.declared.fates.Fate.{Fate}
 use Rattle.stream_port.specs.Fates.{copies_of}
 use Rattle.message_core.specs.declared.letters.Arrival.{Arrival}
@@ -96,7 +95,7 @@ module _ (s : State) (w : World) (sent : List Sent) (marks : List Marked) (t : I
         go (k ∷ rest) at = absurd
             (let d = due-front n k rest at in
             let h : (fate : Fate) × (numbered (fates_of sent) k ≡ Some fate) × (IsReleased w (posted d.0) fate → times_taken w k ≡ copies_of fate)
-                = all k (posted d.0) (ap (λ l. numbered l k) walked ∙ numbered-to posted marks k d.0 d.1) d.2 in
+            = all k (posted d.0) (ap (λ l. numbered l k) walked ∙ numbered-to posted marks k d.0 d.1) d.2 in
             let same : h.0 ≡ d.0.sent.fate = (let e : Some h.0 ≡ Some d.0.sent.fate = sym h.1 ∙ fate-of k d.0 d.1 in cc e) in
             let hold : h.0.hold ≡ d.0.sent.fate.hold = ap (λ (f : Fate). f.hold) same in
             let copies : copies_of h.0 ≡ copies_of d.0.sent.fate = ap copies_of same in

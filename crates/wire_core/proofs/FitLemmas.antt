@@ -1,18 +1,17 @@
 -- What the code keeps of the nodes goes on as the walk does.
-use Rattle.std.proofs.Common.{◌≡◌, ℕ, ◌+◌, ◌≤◌, ◌<◌, ◌==◌, Bool, true, false, ◌&&◌, ◌||◌, not, List, [], ◌∷◌, if◌then◌else◌, refl, sym, ap, subst, ◌∙◌, Option, Some, None, is_some, arith}
+use Rattle.std.proofs.Common.{◌≡◌, ℕ, ◌+◌, ◌≤◌, ◌==◌, Bool, true, false, ◌&&◌, not, List, if◌then◌else◌, refl, sym, ap, subst, ◌∙◌, Option, Some, None, is_some, arith}
 use Rattle.std.specs.Option.{option_map}
 use Rattle.std.proofs.lemmas.Bool.Decides.{nat_tests}
 use Rattle.pseudo_time.specs.declared.nodes.NodeId.{NodeId}
 use Rattle.pseudo_time.specs.declared.nodes.NodeKind.{NodeKind}
 use Rattle.pseudo_time.specs.declared.nodes.NodeKind.TheVariants.{Repository, Broker}
-use Rattle.pseudo_time.specs.Nodes.{same_node}
 use Rattle.world_core.specs.declared.entries.Entry.{Entry}
 use Rattle.world_core.specs.declared.entries.Entry.TheVariants.{Take, Go, Learn, Hear, Gate, Crash, Down, Tick}
-use Rattle.world_core.specs.Walks.{Base, World, Flags, opened_flags, names, flagged, flags_after, heard_after, last_after, ticks_after, step}
+use Rattle.world_core.specs.Walks.{Base, World, Flags, names, flagged, flags_after, heard_after, last_after, ticks_after, step}
 use Rattle.world_core.specs.Legal.{is_behind}
 use Rattle.wire_core.specs.declared.flags.NodeFlags.{NodeFlags}
 use Rattle.wire_core.specs.declared.stories.Story.{Story}
-use Rattle.wire_core.specs.Flagged.{flags_at, flags_of, shown, heard_then, after_own, has_heard, is_late, after_entry, is_behind_at}
+use Rattle.wire_core.specs.Flagged.{flags_at, flags_of, shown, heard_then, after_own, has_heard, is_late, is_behind_at}
 use Rattle.wire_core.specs.Stories.{Fits, HasOneMore}
 
 -- ---- flags

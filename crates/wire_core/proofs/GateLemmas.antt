@@ -1,6 +1,5 @@
 -- A gate sends messages.
-use Rattle.std.proofs.Common.{◌≡◌, ℕ, ◌+◌, ◌<◌, ◌≤◌, ◌^◌, Bool, true, false, List, [], ◌∷◌, ◌++◌, map, length, if◌then◌else◌, refl, sym, ap, subst, ◌∙◌, Option, IsTrue, length-append, append_assoc, arith}
-use Rattle.std.specs.Option.{unwrap_or}
+use Rattle.std.proofs.Common.{◌≡◌, ℕ, ◌+◌, ◌<◌, ◌^◌, Bool, true, false, List, [], ◌∷◌, ◌++◌, map, length, if◌then◌else◌, refl, sym, ap, subst, ◌∙◌, Option, IsTrue, length-append, append_assoc, arith}
 use Rattle.std.specs.List.{filter}
 use Rattle.std.proofs.lemmas.List.{map-append, length-map}
 use Rattle.pseudo_time.specs.declared.nodes.NodeId.{NodeId}
@@ -16,7 +15,7 @@ use Rattle.message_core.specs.Senders.{AllInRange}
 use Rattle.world_core.specs.declared.entries.Entry.TheVariants.{Gate}
 use Rattle.world_core.specs.declared.traces.Sent.{Sent}
 use Rattle.world_core.specs.Nodes.{leaves}
-use Rattle.world_core.specs.Walks.{Base, World, Sending, sendings_after, leaving, sent_by, whole, step, start_world, walk}
+use Rattle.world_core.specs.Walks.{Base, World, Sending, sendings_after, leaving, sent_by, whole, start_world, walk}
 use Rattle.world_core.specs.Legal.{Meets, Numbered, post_of, fates_of, asked_of}
 use Rattle.world_core.proofs.Legality.{numbered-join}
 use Rattle.world_core.proofs.Rules.{meets-grown}
@@ -80,21 +79,21 @@ module _ (told : Bool) (o : Origin) (s s' : Story) (sent : List Sent) (asked : L
   gate-more node outs news all later after more up due ranges owes posted_as all_is room numbers later_is tie =
       let f : IsFlown told (parts_with o s sent asked answers flight broken) = h.flown whole_yet in
       let left : IsTrue told → leaving w node ≡ map post_of news
-          = λ t. leaving-is w node (up-known w s.nodes.entries s.ticks s.last h.fits node up) ∙ ap (posts node) (sym (owes t)) ∙ sym posted_as in
+      = λ t. leaving-is w node (up-known w s.nodes.entries s.ticks s.last h.fits node up) ∙ ap (posts node) (sym (owes t)) ∙ sym posted_as in
       subst (λ (l : List Sent). IsSound told (parts_with o s' l later answers after false) s'.nodes.entries s'.ticks s'.last) (sym all_is)
       (sound-step told o s s' (Gate node) sent asked answers flight broken h more (sent ++ news) later answers after (f.marks ++ all_marked w.ticks news)
-        (let m = h.moment in omega (arith, m))
-        tt
-        (numbered-join 1 sent news h.numbers (subst (λ k. Numbered k news) (omega arith) numbers))
-        (let l = length-append sent news in omega (arith, room, l))
-        (subst AllInRange (sym (map-append post_of sent news)) (every-append (λ (p : Post). IsMessage p.message) (map post_of sent) (map post_of news) h.in_range (subst AllInRange (sym posted_as) (outs-in-range node outs ranges))))
-        (λ t. gate-posts w sent news node (left t) (h.sent t))
-        (λ t. subst (λ (fs : List Fate). Meets b fs (start_world b) s.entries.items) (sym (map-append (λ (x : Sent). x.fate) sent news)) (meets-grown b (fates_of sent) (fates_of news) (start_world b) s.entries.items (h.meets t)))
-        (λ t. record { up = up; due = due })
-        (later_is ∙ ap (λ l. l ++ map asked_of news) (h.asked whole_yet) ∙ append_assoc o.asked (map asked_of sent) (map asked_of news) ∙ ap (λ l. o.asked ++ l) (sym (map-append asked_of sent news)))
-        (clocked-still o.answers answers o.start s.entries.items (Gate node) refl (h.clocked whole_yet))
-        (tied-left b w (sent ++ news) (f.marks ++ all_marked w.ticks news) (state_of after) (Gate node) (record { taken = λ l. refl; ticks = λ k. refl; up = refl }) (tie w sent f.marks f.tied))
-        (λ t. gate-walked w sent news node (left t) f.marks (f.walked t)))
+      (let m = h.moment in omega (arith, m))
+      tt
+      (numbered-join 1 sent news h.numbers (subst (λ k. Numbered k news) (omega arith) numbers))
+      (let l = length-append sent news in omega (arith, room, l))
+      (subst AllInRange (sym (map-append post_of sent news)) (every-append (λ (p : Post). IsMessage p.message) (map post_of sent) (map post_of news) h.in_range (subst AllInRange (sym posted_as) (outs-in-range node outs ranges))))
+      (λ t. gate-posts w sent news node (left t) (h.sent t))
+      (λ t. subst (λ (fs : List Fate). Meets b fs (start_world b) s.entries.items) (sym (map-append (λ (x : Sent). x.fate) sent news)) (meets-grown b (fates_of sent) (fates_of news) (start_world b) s.entries.items (h.meets t)))
+      (λ t. record { up = up; due = due })
+      (later_is ∙ ap (λ l. l ++ map asked_of news) (h.asked whole_yet) ∙ append_assoc o.asked (map asked_of sent) (map asked_of news) ∙ ap (λ l. o.asked ++ l) (sym (map-append asked_of sent news)))
+      (clocked-still o.answers answers o.start s.entries.items (Gate node) refl (h.clocked whole_yet))
+      (tied-left b w (sent ++ news) (f.marks ++ all_marked w.ticks news) (state_of after) (Gate node) (record { taken = λ l. refl; ticks = λ k. refl; up = refl }) (tie w sent f.marks f.tied))
+      (λ t. gate-walked w sent news node (left t) f.marks (f.walked t)))
 
 news-length : (n : NodeId) (outs : List Out) (news : List Sent) → map post_of news ≡ posts n outs → length news ≡ length outs
 news-length n outs news h = sym (length-map news post_of) ∙ ap length h ∙ length-map outs (post n)

@@ -36,9 +36,28 @@ at : (R : RattleType) → IsSend R → IsSend (as_row (row_field R))
 at R s = as_row_send (row_field R) s
 
 expr_hole : IsSend Expr.the_hole
-expr_hole = fix_send Expr.the_ring (Expr.by_members (Sends Expr.the_ring) record { send = λ h s. let m = h Expr.the_member in let e = s Expr.the_member in
-    variants_send (type-Expr m m m m m m) ((at _ n64, tt), ((at _ bytes.the_send, tt), (tt, ((at _ bytes.the_send, tt), ((at _ before.the_send, (at _ (boxed.the_send _ e), tt)), ((at _ between.the_send, (at _ (boxed.the_send _ e), (at _ (boxed.the_send _ e), tt))),
-      ((at _ call.the_send, (at _ (boxed.the_send _ e), tt)), ((at _ (boxed.the_send _ e), (at _ (boxed.the_send _ e), tt)), tt)))))))) }) Expr.the_member
+expr_hole = fix_send Expr.the_ring (Expr.by_members (Sends Expr.the_ring) record {
+  send = λ h s. let m = h Expr.the_member in let e = s Expr.the_member in
+      variants_send (type-Expr m m m m m m) (
+        (at _ n64, tt),
+        (
+          (at _ bytes.the_send, tt),
+          (
+            tt,
+            (
+              (at _ bytes.the_send, tt),
+              (
+                (at _ before.the_send, (at _ (boxed.the_send _ e), tt)),
+                (
+                  (at _ between.the_send, (at _ (boxed.the_send _ e), (at _ (boxed.the_send _ e), tt))),
+                  ((at _ call.the_send, (at _ (boxed.the_send _ e), tt)), ((at _ (boxed.the_send _ e), (at _ (boxed.the_send _ e), tt)), tt)),
+                ),
+              ),
+            ),
+          ),
+        ),
+      );
+}) Expr.the_member
 
 pub expr_send : IsSend Expr.the_row
 expr_send = let b = at _ (boxed.the_send _ expr_hole) in
@@ -48,8 +67,10 @@ pub place_send : IsSend Place.the_row
 place_send = variants_send Place.enum ((object.the_send, tt), ((n8, (expr_send, tt)), tt))
 
 stmt_hole : IsSend Stmt.the_hole
-stmt_hole = fix_send Stmt.the_ring (Stmt.by_members (Sends Stmt.the_ring) record { send = λ h s. let m = h Stmt.the_member in let i = at _ (items.the_send _ (s Stmt.the_member)) in let n = at _ n16 in let e = at _ expr_send in let p = at _ place_send in let b = at _ bytes.the_send in
-    variants_send (type-Stmt m m m m) ((n, (b, (e, tt))), ((n, (b, (p, tt))), ((n, (p, (e, tt))), ((n, (e, tt)), ((n, (e, (i, (n, tt)))), ((n, (e, (i, (n, (i, (n, tt)))))), ((n, (e, (i, (n, tt)))), ((n, tt), tt)))))))) }) Stmt.the_member
+stmt_hole = fix_send Stmt.the_ring (Stmt.by_members (Sends Stmt.the_ring) record {
+  send = λ h s. let m = h Stmt.the_member in let i = at _ (items.the_send _ (s Stmt.the_member)) in let n = at _ n16 in let e = at _ expr_send in let p = at _ place_send in let b = at _ bytes.the_send in
+      variants_send (type-Stmt m m m m) ((n, (b, (e, tt))), ((n, (b, (p, tt))), ((n, (p, (e, tt))), ((n, (e, tt)), ((n, (e, (i, (n, tt)))), ((n, (e, (i, (n, (i, (n, tt)))))), ((n, (e, (i, (n, tt)))), ((n, tt), tt))))))));
+}) Stmt.the_member
 
 pub stmt_send : IsSend Stmt.the_row
 stmt_send = let i = at _ (items.the_send _ stmt_hole) in let n = n16 in let e = expr_send in let p = place_send in let b = bytes.the_send in

@@ -1,5 +1,5 @@
 -- Messages of a gate, one after another.
-use Rattle.std.proofs.Common.{◌≡◌, ℕ, suc, ◌+◌, ◌<◌, List, [], ◌∷◌, ◌++◌, map, length, take, slice_index_or, refl, sym, ap, subst, ◌∙◌, append_assoc, add-zero, arith}
+use Rattle.std.proofs.Common.{◌≡◌, ℕ, suc, ◌+◌, ◌<◌, List, [], ◌∷◌, ◌++◌, map, length, take, slice_index_or, sym, ap, subst, ◌∙◌, append_assoc, add-zero, arith}
 use Rattle.std.proofs.lemmas.List.{map-append, take_more}
 use Rattle.pseudo_time.specs.declared.nodes.NodeId.{NodeId}
 use Rattle.stream_port.specs.declared.fates.Asked.{Asked}
@@ -35,6 +35,6 @@ pub tied-more : (w : World) (sent : List Sent) (marks : List Marked) (old new : 
 tied-more w sent marks old new all now s is tied next =
     subst (λ l. IsTied new w (sent ++ l) (marks ++ all_marked w.ticks l)) (sym is)
     (subst (λ l. IsTied new w (sent ++ (all ++ s ∷ [])) (marks ++ l)) (sym (map-append (λ (x : Sent). record { sent = x; ticks = w.ticks }) all (s ∷ [])))
-      (subst (λ l. IsTied new w (sent ++ (all ++ s ∷ [])) l) (append_assoc marks (all_marked w.ticks all) (all_marked w.ticks (s ∷ [])))
-        (subst (λ l. IsTied new w l ((marks ++ all_marked w.ticks all) ++ all_marked w.ticks (s ∷ []))) (append_assoc sent all (s ∷ []))
-          (next w (sent ++ all) (marks ++ all_marked w.ticks all) tied))))
+    (subst (λ l. IsTied new w (sent ++ (all ++ s ∷ [])) l) (append_assoc marks (all_marked w.ticks all) (all_marked w.ticks (s ∷ [])))
+    (subst (λ l. IsTied new w l ((marks ++ all_marked w.ticks all) ++ all_marked w.ticks (s ∷ []))) (append_assoc sent all (s ∷ []))
+    (next w (sent ++ all) (marks ++ all_marked w.ticks all) tied))))

@@ -8,13 +8,12 @@ use Rattle.plan_form.specs.declared.plans.Plan.{Plan}
 use Rattle.broker_core.specs.Readings.{reading}
 use Rattle.broker_core.specs.Tasks.{Scripted}
 use Rattle.stream_port.specs.declared.fates.Asked.{Asked}
-use Rattle.message_core.specs.Flights.{State}
 use Rattle.message_core.specs.Parts.{FlightParts, state_of}
 use Rattle.message_core.specs.Senders.{AllInRange}
 use Rattle.world_core.specs.declared.entries.Entry.{Entry}
 use Rattle.world_core.specs.declared.traces.Sent.{Sent}
 use Rattle.world_core.specs.Walks.{Base, World, Sending, sent_by, sendings_after, last_after, step, start_world, walk}
-use Rattle.world_core.specs.Legal.{Rule, Meets, Legal, AllReady, Numbered, base_of, post_of, fates_of, asked_of}
+use Rattle.world_core.specs.Legal.{Rule, Meets, AllReady, Numbered, base_of, post_of, fates_of, asked_of}
 use Rattle.world_core.specs.Readings.{IsLegal}
 use Rattle.world_core.proofs.Lives.{walk-more}
 use Rattle.world_core.proofs.Rules.{meets-more}
@@ -67,8 +66,8 @@ module _ (told : Bool) (o : Origin) (s s' : Story) (e : Entry) (sent : List Sent
     size = more.size;
     start = h.start;
     moment = (let l : unwrap_or s'.last o.start ≡ unwrap_or (last_after s.last e) o.start = ap (λ x. unwrap_or x o.start) more.last in
-      let n : length s'.entries.items ≡ length es + 1 = ap length more.entries ∙ length-append es (e ∷ []) in
-      omega (arith, l, n, moment));
+        let n : length s'.entries.items ≡ length es + 1 = ap length more.entries ∙ length-append es (e ∷ []) in
+        omega (arith, l, n, moment));
     moments = subst (Every (λ moment. moment < 2 ^ 63)) (sym (moments-append es (e ∷ [])) ∙ sym (ap tick_moments more.entries)) (every-append (λ moment. moment < 2 ^ 63) (tick_moments es) (tick_moments (e ∷ [])) h.moments moments);
     sent = λ t. posts t ∙ ap sent_by (sym step-is);
     meets = λ t. subst (Meets b (fates_of all) (start_world b)) (sym more.entries) (meets-more b (fates_of all) (start_world b) es e (meets t) (rule t));

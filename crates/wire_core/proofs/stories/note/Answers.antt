@@ -1,7 +1,7 @@
 use Rattle.std.proofs.Common.{rules, sym, ◌∙◌}
 use Rattle.std.specs.Prelude.{Some}
 use Rattle.message_core.proofs.NodeLemmas.{found_same}
-use Rattle.wire_core.proofs.NodeMaps.{puts_of, noted-one, noted-unknown, noted-none}
+use Rattle.wire_core.proofs.NodeMaps.{puts_of, noted-one}
 use Rattle.wire_core.proofs.stories.note.Goals as goal
 
 pub returns : goal.returns

@@ -1,4 +1,4 @@
-use Rattle.std.proofs.Common.{◌+◌, max, min, sym, ap, ◌∙◌}
+use Rattle.std.proofs.Common.{◌+◌, max, min, ap, ◌∙◌}
 use Rattle.wire_core.proofs.ChangeLemmas.{tick-more}
 use Rattle.wire_core.proofs.wires.Wire.tick.Goals as goal
 
