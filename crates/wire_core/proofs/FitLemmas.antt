@@ -11,7 +11,7 @@ use Rattle.world_core.specs.Walks.{Base, World, Flags, names, flagged, flags_aft
 use Rattle.world_core.specs.Legal.{is_behind}
 use Rattle.wire_core.specs.declared.flags.NodeFlags.{NodeFlags}
 use Rattle.wire_core.specs.declared.stories.Story.{Story}
-use Rattle.wire_core.specs.Flagged.{flags_at, flags_of, shown, heard_then, after_own, has_heard, is_late, is_behind_at}
+use Rattle.wire_core.specs.Flagged.{flags_at, flags_of, shown, heard_then, after_own, has_heard, is_late, standing_at}
 use Rattle.wire_core.specs.Stories.{Fits, HasOneMore}
 
 -- ---- flags
@@ -194,5 +194,18 @@ module _ (w : World) (nodes : List (NodeId × NodeFlags)) (ticks : ℕ) (last : 
       sym (late-is last (f.heard == ticks)) ∙ ap (λ h. is_some last && not h) (sym (fit.heard n f at)) ∙ ap (λ l. is_some l && not (w.heard n)) (sym fit.last)
 
   -- whether a node that is up is behind
-  pub behind-is : (w.flags n).up ≡ true → is_behind_at last ticks (flags_at nodes n) ≡ is_behind w n
-  behind-is up = let f = up-found up in ap (is_behind_at last ticks) f.1 ∙ found-behind f.0 f.1
+  pub behind-is : (w.flags n).up ≡ true → (standing_at last ticks (flags_at nodes n)).behind ≡ is_behind w n
+  behind-is up = let f = up-found up in ap (λ o. (standing_at last ticks o).behind) f.1 ∙ found-behind f.0 f.1
+
+  same-standing : (o : Option NodeFlags) → ((standing_at last ticks o).up ≡ (shown o).up) × ((standing_at last ticks o).gone ≡ (shown o).gone) × ((standing_at last ticks o).due ≡ (shown o).due)
+  same-standing None = (refl, refl, refl)
+  same-standing (Some f) = (refl, refl, refl)
+
+  pub up-is : (standing_at last ticks (flags_at nodes n)).up ≡ (w.flags n).up
+  up-is = (same-standing (flags_at nodes n)).0 ∙ ap (λ (f : Flags). f.up) (sym (fit.flags n))
+
+  pub gone-is : (standing_at last ticks (flags_at nodes n)).gone ≡ (w.flags n).gone
+  gone-is = (same-standing (flags_at nodes n)).1 ∙ ap (λ (f : Flags). f.gone) (sym (fit.flags n))
+
+  pub due-is : (standing_at last ticks (flags_at nodes n)).due ≡ (w.flags n).due
+  due-is = (same-standing (flags_at nodes n)).2 ∙ ap (λ (f : Flags). f.due) (sym (fit.flags n))

@@ -10,6 +10,7 @@ use Rattle.world_core.specs.declared.entries.Entry.TheVariants.{Take, Go, Learn,
 use Rattle.world_core.specs.declared.traces.Opened.{Opened}
 use Rattle.world_core.specs.Walks.{Flags, opened_flags, flagged, names}
 use Rattle.wire_core.specs.declared.flags.NodeFlags.{NodeFlags}
+use Rattle.wire_core.specs.declared.flags.Standing.{Standing}
 
 -- a node as it is opened
 abbrev pub new_flags : NodeFlags
@@ -45,6 +46,10 @@ has_heard last ticks f = is_some last && (f.heard == ticks)
 abbrev pub is_late : Option ℕ → ℕ → NodeFlags → Bool
 is_late last ticks f = is_some last && not (f.heard == ticks)
 
+-- how it stands
+abbrev pub standing : Option ℕ → ℕ → NodeFlags → Standing
+standing last ticks f = record { up = f.up; gone = f.gone; due = f.due; behind = is_late last ticks f }
+
 -- it is down, or has nothing to do beside taking copies
 abbrev pub is_idle : Option ℕ → ℕ → NodeKind → NodeFlags → Bool
 is_idle last ticks kind f = if f.up then (not f.due && not (is_late last ticks f)) && (not (is_broker kind) || f.gone) else true
@@ -63,9 +68,9 @@ shown (Some f) = flags_of f
 abbrev pub after_entry : Option ℕ → ℕ → Entry → NodeId → Option NodeFlags → Option NodeFlags
 after_entry last ticks e n o = if names n e then option_map (after_own last ticks n.kind e) o else o
 
-abbrev pub is_behind_at : Option ℕ → ℕ → Option NodeFlags → Bool
-is_behind_at last ticks None = false
-is_behind_at last ticks (Some f) = is_late last ticks f
+abbrev pub standing_at : Option ℕ → ℕ → Option NodeFlags → Standing
+standing_at last ticks None = record { up = false; gone = false; due = false; behind = false }
+standing_at last ticks (Some f) = standing last ticks f
 
 abbrev pub is_idle_at : Option ℕ → ℕ → NodeId → Option NodeFlags → Bool
 is_idle_at last ticks n None = true

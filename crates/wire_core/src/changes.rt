@@ -33,7 +33,7 @@ impl<F: Fates, C: Clock, M: Medium> Wire<F, C, M> {
         if self.broken {
             return Err(AllocError);
         }
-        if self.story.is_behind(node) {
+        if self.story.standing(node).behind {
             return Ok(Taken::Behind);
         }
         self.broken = true;

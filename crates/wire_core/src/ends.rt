@@ -1,23 +1,35 @@
 //! Where a wire has nothing to do, what holds of it, and its end.
-ghost use Rattle.std.specs.Prelude.{◌≡◌, ◌↔◌, ◌<◌, ◌^◌, ◌++◌, false, map, IsTrue};
+ghost use Rattle.std.specs.Prelude.{◌≡◌, ◌↔◌, ◌<◌, ◌^◌, ◌++◌, true, false, map, IsTrue};
 ghost use Rattle.pseudo_time.specs.Lists.{Every};
 ghost use Rattle.plan_form.specs.declared.plans.Plan.{Plan};
 ghost use Rattle.world_core.specs.Walks.{sent_by};
-ghost use Rattle.world_core.specs.Legal.{Idle, Numbered, post_of, fates_of, asked_of};
+ghost use Rattle.world_core.specs.Legal.{Idle, is_behind, Numbered, post_of, fates_of, asked_of};
 ghost use Rattle.world_core.specs.Readings.{IsLegal};
 ghost use Rattle.wire_core.specs.Wires.{world_of, IsRunOf, trace_of};
 ghost use Rattle.wire_core.specs.Changes.{IsQuiet};
 ghost use Rattle.wire_core.specs.Clocked.{IsClocked, tick_moments};
 ghost use Rattle.wire_core.specs.Sound.{IsFlown};
 
+use crate::flags::Standing;
 use crate::stories::Story;
 use crate::wires::Wire;
 use medium_port::Medium;
+use pseudo_time::NodeId;
 use stream_port::{Clock, Fates};
 use value_form::Items;
 use world_core::Trace;
 
 impl<F: Fates, C: Clock, M: Medium> Wire<F, C, M> {
+    /// How a node stands, which the conditions of the changes ask.
+    pub fn standing(&self, node: NodeId) -> Standing
+        ensures up { result.up ≡ ((world_of self.now).flags node).up }
+        ensures gone { result.gone ≡ ((world_of self.now).flags node).gone }
+        ensures due { result.due ≡ ((world_of self.now).flags node).due }
+        ensures behind { ((world_of self.now).flags node).up ≡ true → result.behind ≡ is_behind (world_of self.now) node }
+    {
+        self.story.standing(node)
+    }
+
     /// Whether no node that is up has anything to do. After a want of memory it is false.
     pub fn idle(&self) -> bool
         ensures quiet { IsTrue result ↔ ((self.now.broken ≡ false) × IsQuiet self.now) }

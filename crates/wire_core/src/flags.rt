@@ -1,5 +1,5 @@
 ghost use Rattle.std.specs.Prelude.{◌≡◌};
-ghost use Rattle.wire_core.specs.Flagged.{new_flags, after_own, is_late, is_idle};
+ghost use Rattle.wire_core.specs.Flagged.{new_flags, after_own, standing, is_late, is_idle};
 
 use pseudo_time::NodeKind;
 use world_core::Entry;
@@ -14,6 +14,19 @@ pub struct NodeFlags {
     pub due: bool,
     /// How many ticks there were when it last heard one. 0 where it heard none since it was opened.
     pub heard: u64,
+}
+
+/// How a node stands, and what it has to do beside taking copies. Of one that isn't of the run all is
+/// false.
+#[derive(Clone, Copy, Debug, PartialEq, Eq)]
+pub struct Standing {
+    pub up: bool,
+    /// A broker went since it was opened.
+    pub gone: bool,
+    /// An entry stands that a gate has to close.
+    pub due: bool,
+    /// It hasn't heard the last tick.
+    pub behind: bool,
 }
 
 /// A node as it is opened.
@@ -76,8 +89,20 @@ impl NodeFlags {
         flags
     }
 
-    /// Whether it hasn't heard the last tick.
-    pub fn is_late(&self, last: Option<u64>, ticks: u64) -> bool
+    /// How it stands.
+    pub fn standing(&self, last: Option<u64>, ticks: u64) -> Standing
+        ensures { result ≡ standing last ticks self.now }
+    {
+        Standing {
+            up: self.up,
+            gone: self.gone,
+            due: self.due,
+            behind: self.is_late(last, ticks),
+        }
+    }
+
+    // Whether it hasn't heard the last tick.
+    fn is_late(&self, last: Option<u64>, ticks: u64) -> bool
         ensures { result ≡ is_late last ticks self.now }
     {
         last.is_some() && self.heard != ticks

@@ -11,5 +11,6 @@ mod stories;
 mod takens;
 mod wires;
 
+pub use flags::Standing;
 pub use takens::Taken;
 pub use wires::Wire;

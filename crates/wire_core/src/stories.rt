@@ -3,10 +3,10 @@ ghost use Rattle.std.specs.List.{list_any};
 ghost use Rattle.pseudo_time.specs.declared.nodes.NodeId.{NodeId};
 ghost use Rattle.pseudo_time.specs.Nodes.{same_node};
 ghost use Rattle.world_core.specs.Walks.{names, ticks_after};
-ghost use Rattle.wire_core.specs.Flagged.{flags_at, new_flags, after_entry, is_behind_at, is_idle_at, names_of};
+ghost use Rattle.wire_core.specs.Flagged.{flags_at, new_flags, after_entry, standing_at, is_idle_at, names_of};
 ghost use Rattle.wire_core.specs.Stories.{HasOneMore, IsSameStory, IsOpened};
 
-use crate::flags::{NodeFlags, as_opened};
+use crate::flags::{NodeFlags, Standing, as_opened};
 use pseudo_time::NodeId;
 use std::alloc::{AllocError, Global};
 use std::collections::BTreeMap;
@@ -127,13 +127,18 @@ impl Story {
         Ok(())
     }
 
-    /// Whether a node of the run hasn't heard the last tick.
-    pub fn is_behind(&self, node: NodeId) -> bool
-        ensures { result ≡ is_behind_at self.now.last self.now.ticks (flags_at self.now.nodes.entries node) }
+    /// How a node stands.
+    pub fn standing(&self, node: NodeId) -> Standing
+        ensures { result ≡ standing_at self.now.last self.now.ticks (flags_at self.now.nodes.entries node) }
     {
         match self.nodes.get(&node) {
-            Some(flags) => flags.is_late(self.last, self.ticks),
-            None => false,
+            Some(flags) => flags.standing(self.last, self.ticks),
+            None => Standing {
+                up: false,
+                gone: false,
+                due: false,
+                behind: false,
+            },
         }
     }
 
