@@ -1,0 +1,13 @@
+pub mod ChangeLemmas
+pub mod CopyLemmas
+pub mod Crosses
+pub mod DueLemmas
+pub mod FitLemmas
+pub mod GateLemmas
+pub mod MomentLemmas
+pub mod NewLemmas
+pub mod NodeMaps
+pub mod QuietLemmas
+pub mod ScriptCrosses
+pub mod SendLemmas
+pub mod SoundLemmas

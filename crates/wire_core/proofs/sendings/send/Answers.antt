@@ -1,0 +1,16 @@
+use Rattle.std.proofs.Common.{subst, sym, ap, ◌∙◌, ◌∷◌, [], ◌++◌}
+use Rattle.message_form.specs.declared.messages.Message.{Message}
+use Rattle.message_form.specs.Messages.{message_bytes}
+use Rattle.message_core.specs.Flights.{State, sent}
+use Rattle.message_core.specs.Parts.{state_of}
+use Rattle.world_core.specs.declared.traces.Sent.{Sent}
+use Rattle.wire_core.specs.Copies.{IsTied, all_marked}
+use Rattle.wire_core.proofs.CopyLemmas.{tied-send}
+use Rattle.wire_core.proofs.sendings.send.Goals as goal
+
+pub returns-clause-tied : goal.returns-clause-tied
+returns-clause-tied c = λ w msgs marks t.
+    let x : Sent = record { number = c.args.number; from = c.args.from; to = c.args.out.now.to; message = c.in_ok-message.message; fate = c.args.fate } in
+    subst (λ (s : State). IsTied s w (msgs ++ x ∷ []) (marks ++ all_marked w.ticks (x ∷ [])))
+    (sym (c.in_ok-send.ensures.sent ∙ ap (λ (m : Message). sent (state_of c.args.flight.now) (record { from = c.args.from; to = c.args.out.now.to; text = message_bytes m }) c.args.fate) (sym c.in_ok-message.ensures)))
+    (tied-send w msgs marks (state_of c.args.flight.now) x t)

@@ -1,0 +1,18 @@
+use Rattle.std.proofs.Common.{◌≡◌, ◌+◌, ◌++◌, List, map, length, take}
+use Rattle.turn_form.specs.Posts.{posts}
+use Rattle.message_core.specs.Parts.{state_of}
+use Rattle.world_core.specs.declared.traces.Sent.{Sent}
+use Rattle.world_core.specs.Walks.{World}
+use Rattle.world_core.specs.Legal.{Numbered, post_of, asked_of}
+use Rattle.wire_core.specs.Copies.{Marked, IsTied, all_marked}
+use Rattle.wire_core.proofs.sendings.send_all.Given as goal
+
+abbrev pub invariant-loop-out : goal.invariant-loop-out
+invariant-loop-out g l = record {
+  number : l.number ≡ l.first + l.out-index;
+  asked : g.F.Fates.asked l.fates ≡ g.F.Fates.asked l.fn.fates ++ map asked_of l.news.items;
+  posted : map post_of l.news.items ≡ posts l.from (take l.out-index l.outs);
+  count : length l.news.items ≡ l.out-index;
+  numbered : Numbered l.first l.news.items;
+  tied : (w : World) (sent : List Sent) (marks : List Marked) → IsTied (state_of l.fn.flight) w sent marks → IsTied (state_of l.flight) w (sent ++ l.news.items) (marks ++ all_marked w.ticks l.news.items);
+}

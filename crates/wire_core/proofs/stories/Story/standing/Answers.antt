@@ -1,0 +1,9 @@
+use Rattle.std.proofs.Common.{ap, ◌∙◌}
+use Rattle.message_core.proofs.NodeLemmas.{found_same}
+use Rattle.wire_core.specs.Flagged.{standing_at}
+use Rattle.wire_core.proofs.stories.Story.standing.Goals as goal
+
+pub returns-in-Some : goal.returns-in-Some
+returns-in-Some c =
+    let s = c.args.self.now in
+    c.standing.ensures ∙ ap (standing_at s.last s.ticks) (c.in-Some.ensures.value ∙ found_same s.nodes.entries c.args.node)

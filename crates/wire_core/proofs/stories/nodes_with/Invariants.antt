@@ -1,0 +1,10 @@
+use Rattle.std.proofs.Common.{◌≡◌, take}
+use Rattle.std.specs.Prelude.{Some, None, if◌then◌else◌}
+use Rattle.std.specs.List.{list_any}
+use Rattle.pseudo_time.specs.declared.nodes.NodeId.{NodeId}
+use Rattle.pseudo_time.specs.Nodes.{same_node}
+use Rattle.wire_core.specs.Flagged.{flags_at, new_flags}
+use Rattle.wire_core.proofs.stories.nodes_with.Given as goal
+
+abbrev pub invariant-loop-name : goal.invariant-loop-name
+invariant-loop-name l = (n : NodeId) → flags_at l.nodes.entries n ≡ (if list_any (λ m. same_node m n) (take l.name-index l.names) then Some new_flags else None)

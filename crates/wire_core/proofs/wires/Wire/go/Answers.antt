@@ -1,0 +1,6 @@
+use Rattle.wire_core.proofs.ChangeLemmas.{go-more}
+use Rattle.wire_core.proofs.wires.Wire.go.Goals as goal
+
+pub invariant_of-self-2 : goal.invariant_of-self-2
+invariant_of-self-2 g c =
+    go-more _ _ _ _ _ _ _ _ _ c.self.invariant c.if-self.false c.args.node c.in_ok-add.ensures.ok (rw (← c.self.view_is) at c.requires.up) c.requires.broker (rw (← c.self.view_is) at c.requires.fresh)

@@ -1,0 +1,12 @@
+use Rattle.std.proofs.Common.{◌++◌, map, IsTrue, subst}
+use Rattle.plan_form.specs.declared.plans.Plan.{Plan}
+use Rattle.world_core.specs.Legal.{asked_of}
+use Rattle.world_core.specs.Readings.{IsLegal}
+use Rattle.wire_core.specs.Wires.{WireParts, IsRunOf, trace_of}
+use Rattle.wire_core.proofs.SoundLemmas.{sound-legal}
+use Rattle.wire_core.proofs.wires.Wire.stands.Goals as goal
+
+pub returns-clause-legal : goal.returns-clause-legal
+returns-clause-legal g c =
+    subst (λ (v : WireParts). IsTrue g.M.Medium.tells → (plan : Plan) → IsRunOf plan v.origin → IsLegal plan (v.origin.asked ++ map asked_of v.sent) (trace_of v)) c.self.view_is
+    (sound-legal _ _ _ _ _ c.self.invariant)

@@ -1,0 +1,68 @@
+ghost use Rattle.std.specs.Prelude.{◌≡◌, ◌++◌, ◌∷◌, [], ◌+◌, ◌<◌, ◌^◌, List, map, length, IfOk};
+ghost use Rattle.message_form.specs.Messages.{IsMessage};
+ghost use Rattle.turn_form.specs.Posts.{posts};
+ghost use Rattle.turn_form.specs.Ranges.{AreOuts};
+ghost use Rattle.message_core.specs.Parts.{state_of};
+ghost use Rattle.world_core.specs.declared.traces.Sent.{Sent};
+ghost use Rattle.world_core.specs.Walks.{World};
+ghost use Rattle.world_core.specs.Legal.{Numbered, post_of, asked_of};
+ghost use Rattle.wire_core.specs.Copies.{Marked, IsTied, all_marked};
+
+use message_core::Flight;
+use pseudo_time::NodeId;
+use std::alloc::{AllocError, Global};
+use stream_port::{Fate, Fates};
+use turn_form::Out;
+use world_core::Sent;
+
+// Puts a message with its fate on its way.
+fn send(
+    alloc: Global,
+    flight: &mut Flight,
+    number: u32,
+    from: NodeId,
+    out: &Out,
+    fate: Fate,
+) -> Result<Sent, AllocError>
+    requires { IsMessage out.now.message }
+    ensures sent { IfOk result (λ s. s ≡ record { number = number; from = from; to = out.now.to; message = out.now.message; fate = fate }) }
+    ensures tied { IfOk result (λ s. (w : World) (sent : List Sent) (marks : List Marked) → IsTied (state_of flight.old) w sent marks → IsTied (state_of flight.new) w (sent ++ s ∷ []) (marks ++ all_marked w.ticks (s ∷ []))) }
+{
+    let message = out.message.copy(alloc)?;
+    flight.send(from, out.to, &out.message, fate)?;
+    Ok(Sent {
+        number,
+        from,
+        to: out.to,
+        message,
+        fate,
+    })
+}
+
+/// Asks for the fate of each message, in order, and puts it on its way. The messages are numbered
+/// from `first`.
+pub fn send_all<F: Fates>(
+    alloc: Global,
+    fates: &mut F,
+    flight: &mut Flight,
+    first: u32,
+    from: NodeId,
+    outs: &[Out],
+) -> Result<Vec<Sent>, AllocError>
+    requires numbers { first + length outs.now < 2 ^ 32 }
+    requires outs { AreOuts outs.now }
+    ensures asked { IfOk result (λ news. F.asked fates.new ≡ F.asked fates.old ++ map asked_of news.items) }
+    ensures posted { IfOk result (λ news. map post_of news.items ≡ posts from outs.now) }
+    ensures numbered { IfOk result (λ news. Numbered first news.items) }
+    ensures tied { IfOk result (λ news. (w : World) (sent : List Sent) (marks : List Marked) → IsTied (state_of flight.old) w sent marks → IsTied (state_of flight.new) w (sent ++ news.items) (marks ++ all_marked w.ticks news.items)) }
+{
+    let mut news = Vec::new(alloc);
+    let mut number = first;
+    for out in outs {
+        let fate = fates.fate(number, out.message.tag())?;
+        let sent = send(alloc, flight, number, from, out, fate)?;
+        news.push(sent)?;
+        number += 1;
+    }
+    Ok(news)
+}
