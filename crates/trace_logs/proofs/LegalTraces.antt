@@ -2,7 +2,7 @@
 use Rattle.std.proofs.lemmas.Bool.Decides.{nat_tests}
 use Rattle.std.proofs.Common.{◌≡◌, ◌<◌, ℕ, zero, suc, Bool, true, false, ◌==◌, ◌&&◌, List, [], ◌∷◌, ◌++◌, map, refl, sym, ap, subst, ◌∙◌, inl, Option, Some, None, is_some, if◌then◌else◌, arith}
 use Rattle.std.specs.Prelude.{nat_le}
-use Rattle.std.specs.List.{filter, count_by}
+use Rattle.std.specs.List.{filter}
 use Rattle.pseudo_time.specs.declared.decisions.Decision.TheVariants as decision
 use Rattle.pseudo_time.specs.declared.nodes.NodeId.{NodeId}
 use Rattle.pseudo_time.specs.declared.nodes.NodeKind.{NodeKind}
@@ -14,6 +14,7 @@ use Rattle.effect_form.specs.declared.outcomes.Outcome.TheVariants as outcome
 use Rattle.message_form.specs.declared.messages.Message.{Message}
 use Rattle.message_form.specs.declared.messages.Message.TheVariants as message
 use Rattle.turn_form.specs.Posts.{Post, posts}
+use Rattle.message_core.specs.Tallies.{count}
 use Rattle.serial_model.specs.Questions.{denote}
 use Rattle.broker_core.specs.Book.{book}
 use Rattle.broker_core.specs.Fits.{keep, other_plan}
@@ -85,7 +86,7 @@ module _ {es : List Entry} {r b : Life} {s : List Sending} {t : List ℕ} where
         }));
   }
 
-  home-takes : {g x y : Bool} (k : ℕ) (m : Message) (c : Life) → numbered s k ≡ Some (home_sending m) → numbered (fates_of sent) k ≡ Some prompt → count_by (λ n. n == k) t ≡ 0
+  home-takes : {g x y : Bool} (k : ℕ) (m : Message) (c : Life) → numbered s k ≡ Some (home_sending m) → numbered (fates_of sent) k ≡ Some prompt → count k t ≡ 0
       → told base home r (Taking desk m) ≡ c → Onward es c b g true y s (k ∷ t) → Onward (Take home k ∷ es) r b g x y s t
   home-takes k m c found fated first given next = record {
     from = λ w p. more w (Take home k) es
@@ -98,7 +99,7 @@ module _ {es : List Entry} {r b : Life} {s : List Sending} {t : List ℕ} where
           to = refl;
           fate = prompt;
           fated = fated;
-          fewer = subst (λ n. n < 1) (sym (ap (λ l. count_by (λ n. n == k) l) p.takes ∙ first)) (omega arith);
+          fewer = subst (λ n. n < 1) (sym (ap (λ l. count k l) p.takes ∙ first)) (omega arith);
           released = omega arith;
         })
         (next.from (step base w (Take home k)) (record {
@@ -114,7 +115,7 @@ module _ {es : List Entry} {r b : Life} {s : List Sending} {t : List ℕ} where
         }));
   }
 
-  desk-takes : {x y : Bool} (k : ℕ) (m : Message) (c : Life) → numbered s k ≡ Some (desk_sending m) → numbered (fates_of sent) k ≡ Some prompt → count_by (λ n. n == k) t ≡ 0
+  desk-takes : {x y : Bool} (k : ℕ) (m : Message) (c : Life) → numbered s k ≡ Some (desk_sending m) → numbered (fates_of sent) k ≡ Some prompt → count k t ≡ 0
       → told base desk b (Taking home m) ≡ c → Onward es r c true x true s (k ∷ t) → Onward (Take desk k ∷ es) r b true x y s t
   desk-takes k m c found fated first given next = record {
     from = λ w p. more w (Take desk k) es
@@ -127,7 +128,7 @@ module _ {es : List Entry} {r b : Life} {s : List Sending} {t : List ℕ} where
           to = refl;
           fate = prompt;
           fated = fated;
-          fewer = subst (λ n. n < 1) (sym (ap (λ l. count_by (λ n. n == k) l) p.takes ∙ first)) (omega arith);
+          fewer = subst (λ n. n < 1) (sym (ap (λ l. count k l) p.takes ∙ first)) (omega arith);
           released = omega arith;
         })
         (next.from (step base w (Take desk k)) (record {

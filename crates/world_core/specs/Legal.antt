@@ -1,5 +1,5 @@
 -- Which traces are legal: a rule for each entry, asked of the world before it.
-use Rattle.std.specs.Prelude.{◌≡◌, ◌⊎◌, ℕ, zero, suc, ◌+◌, ◌^◌, ◌≤◌, ◌<◌, ◌==◌, ◌&&◌, max, not, nat_le, Bool, true, false, List, [], ◌∷◌, ◌++◌, map, length, Option, Some, None, is_some, slice_get, IsTrue, if◌then◌else◌}
+use Rattle.std.specs.Prelude.{◌≡◌, ◌⊎◌, ℕ, zero, suc, ◌+◌, ◌^◌, ◌≤◌, ◌<◌, ◌&&◌, max, not, nat_le, Bool, true, false, List, [], ◌∷◌, ◌++◌, map, length, Option, Some, None, is_some, slice_get, IsTrue, if◌then◌else◌}
 use Rattle.std.specs.Option.{unwrap_or}
 use Rattle.std.specs.List.{count_by}
 use Rattle.pseudo_time.specs.Lists.{Has}
@@ -24,6 +24,7 @@ use Rattle.world_core.specs.declared.traces.Sent.{Sent}
 use Rattle.world_core.specs.declared.traces.Trace.{Trace}
 use Rattle.message_form.specs.declared.messages.Message.{Message}
 use Rattle.message_form.specs.Messages.{tag_of}
+use Rattle.message_core.specs.Tallies.{count}
 use Rattle.broker_core.specs.Tasks.{Scripted}
 use Rattle.world_core.specs.Nodes.{repository, broker, is_ready, is_commit}
 use Rattle.world_core.specs.Walks.{Base, opened_log, Sending, World, Flags, numbered, start_world, step, walk, sent_by}
@@ -44,7 +45,7 @@ HasGone w n = is_broker n.kind ≡ true → (w.flags n).gone ≡ true
 
 -- how often copies of this message were taken
 abbrev pub times_taken : World → ℕ → ℕ
-times_taken w number = count_by (λ k. k == number) w.taken
+times_taken w number = count number w.taken
 
 -- its copies are held no more
 abbrev pub IsReleased : World → Sending → Fate → Type 0
