@@ -19,14 +19,14 @@ struct Entry {
 
 impl Model for Entry {
     ghost use Rattle.std.specs.Prelude.{◌≡◌};
-    ghost use Rattle.script_meaning.specs.Keys.{key};
+    ghost use Rattle.script_meaning.specs.Keys as keys;
     ghost use Rattle.script_meaning.specs.Names.{SetName};
 
     ghost Value = { SetName };
 
     ghost view = { λ e. (e.name, e.value) };
 
-    ghost invariant = { λ e. e.key ≡ key e.name };
+    ghost invariant = { λ e. e.key ≡ keys.key e.name };
 }
 
 // The key of a name. Names with different keys differ.
