@@ -108,20 +108,20 @@ written-done m t w v rest left all is rises low h =
 
 -- ---- a version more, and a version that is read further
 
-pub tops-last : (vs rest : List Version) (v : Version) (x : TimeParts) → vs ≡ rest ++ v ∷ [] → lt v.start x ≡ tops (reverse vs) x
-tops-last vs rest v x is = ap (λ z. tops z x) (sym (ap reverse is ∙ reverse-append rest (v ∷ [])))
+and-true : (a b : Bool) → b ≡ true → a ≡ (a && b)
+and-true true b h = sym h
+and-true false b h = refl
 
--- both hold
-either-way : (rises on_top : Bool) → (if rises then on_top else false) ≡ (on_top && rises)
-either-way true true = refl
-either-way true false = refl
-either-way false true = refl
-either-way false false = refl
+more : (vs ws : List Version) (v : Version) → ws ≡ vs ++ v ∷ [] → reverse ws ≡ v ∷ reverse vs
+more vs ws v is = ap reverse is ∙ reverse-append vs (v ∷ [])
 
-pub rising-more : (rises on_top : Bool) (vs ws : List Version) (v : Version) → rises ≡ rising (reverse vs) → on_top ≡ tops (reverse vs) v.start → ws ≡ push vs v → (if rises then on_top else false) ≡ rising (reverse ws)
+pub rising-on : (vs ws : List Version) (v : Version) (on_top : Bool) → rising (reverse vs) ≡ true → on_top ≡ tops (reverse vs) v.start → ws ≡ vs ++ v ∷ [] → on_top ≡ rising (reverse ws)
 unfolding rising
-rising-more rises on_top vs ws v h k is =
-    either-way rises on_top ∙ ap (λ z. z && rises) k ∙ ap (λ z. tops (reverse vs) v.start && z) h ∙ ap rising (sym (turned ws vs v is))
+rising-on vs ws v on_top h k is = k ∙ and-true (tops (reverse vs) v.start) (rising (reverse vs)) h ∙ ap rising (sym (more vs ws v is))
+
+pub rising-off : (vs ws : List Version) (v : Version) → rising (reverse vs) ≡ false → ws ≡ vs ++ v ∷ [] → false ≡ rising (reverse ws)
+unfolding rising
+rising-off vs ws v h is = sym (ap rising (more vs ws v is) ∙ and-false (tops (reverse vs) v.start) (rising (reverse vs)) h)
 
 tops-ended : (p : ℕ) (x : TimeParts) (vs : List Version) (y : TimeParts) → tops (ended_at p x vs) y ≡ tops vs y
 unfolding ended_at
@@ -132,17 +132,15 @@ tops-ended p x (v ∷ vs) y = either (p == length vs)
     either true = refl
     either false = refl
 
+rising-either : (b : Bool) (p : ℕ) (x : TimeParts) (v : Version) (vs : List Version) → rising (ended_at p x vs) ≡ rising vs → rising ((if b then read_up_to x v else v) ∷ ended_at p x vs) ≡ (tops vs v.start && rising vs)
+unfolding rising
+rising-either true p x v vs h = ap (λ z. z && rising (ended_at p x vs)) (tops-ended p x vs v.start) ∙ ap (λ z. tops vs v.start && z) h
+rising-either false p x v vs h = ap (λ z. z && rising (ended_at p x vs)) (tops-ended p x vs v.start) ∙ ap (λ z. tops vs v.start && z) h
+
 rising-ended : (p : ℕ) (x : TimeParts) (vs : List Version) → rising (ended_at p x vs) ≡ rising vs
 unfolding rising ended_at
 rising-ended p x [] = refl
-rising-ended p x (v ∷ vs) = either (p == length vs)
-  where
-    same : (tops (ended_at p x vs) v.start && rising (ended_at p x vs)) ≡ (tops vs v.start && rising vs)
-    same = ap (λ z. z && rising (ended_at p x vs)) (tops-ended p x vs v.start) ∙ ap (λ z. tops vs v.start && z) (rising-ended p x vs)
-
-    either : (b : Bool) → rising ((if b then read_up_to x v else v) ∷ ended_at p x vs) ≡ (tops vs v.start && rising vs)
-    either true = same
-    either false = same
+rising-ended p x (v ∷ vs) = rising-either (p == length vs) p x v vs (rising-ended p x vs)
 
 pub rising-end : (place : Option ℕ) (x : TimeParts) (t : TrackParts) → rising (with_end place x t).versions ≡ rising t.versions
 rising-end None x t = refl
