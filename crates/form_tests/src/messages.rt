@@ -19,7 +19,9 @@ const MESSAGES: &[(&[u8], usize, usize, &str)] = &[
         "Ended { at: PseudoTime { stamp: Stamp { clock: 1, broker: 1, home: 1 }, step: 1 } }",
     ),
     (
-        &[3, 0, 0, 0, 0, 0, 0, 0, 1, 1, 1, 0, 0, 0, 1, 16, 255, 255, 255, 255],
+        &[
+            3, 0, 0, 0, 0, 0, 0, 0, 1, 1, 1, 0, 0, 0, 1, 16, 255, 255, 255, 255,
+        ],
         15,
         20,
         "Read { at: PseudoTime { stamp: Stamp { clock: 1, broker: 1, home: 1 }, step: 1 }, \
@@ -33,14 +35,18 @@ const MESSAGES: &[(&[u8], usize, usize, &str)] = &[
          value: Nothing }",
     ),
     (
-        &[4, 0, 0, 0, 0, 0, 0, 0, 1, 1, 1, 0, 0, 0, 1, 1, 255, 255, 255, 255, 255, 255, 255, 254],
+        &[
+            4, 0, 0, 0, 0, 0, 0, 0, 1, 1, 1, 0, 0, 0, 1, 1, 255, 255, 255, 255, 255, 255, 255, 254,
+        ],
         15,
         24,
         "Value { at: PseudoTime { stamp: Stamp { clock: 1, broker: 1, home: 1 }, step: 1 }, \
          value: Number(-2) }",
     ),
     (
-        &[5, 0, 0, 0, 0, 0, 0, 0, 1, 1, 1, 0, 0, 0, 1, 16, 255, 255, 255, 255, 2, 0, 1, b'x'],
+        &[
+            5, 0, 0, 0, 0, 0, 0, 0, 1, 1, 1, 0, 0, 0, 1, 16, 255, 255, 255, 255, 2, 0, 1, b'x',
+        ],
         15,
         20,
         "Write { at: PseudoTime { stamp: Stamp { clock: 1, broker: 1, home: 1 }, step: 1 }, \
@@ -48,7 +54,10 @@ const MESSAGES: &[(&[u8], usize, usize, &str)] = &[
          [120] }) }",
     ),
     (
-        &[7, 0, 0, 0, 0, 0, 0, 0, 1, 1, 1, 0, 0, 0, 1, 0, 0, 0, 255, 255, 255, 255, 255, 16, 16, 255, 255, 255, 255],
+        &[
+            7, 0, 0, 0, 0, 0, 0, 0, 1, 1, 1, 0, 0, 0, 1, 0, 0, 0, 255, 255, 255, 255, 255, 16, 16,
+            255, 255, 255, 255,
+        ],
         15,
         29,
         "LaterRead { at: PseudoTime { stamp: Stamp { clock: 1, broker: 1, home: 1 }, step: 1 \
@@ -56,7 +65,10 @@ const MESSAGES: &[(&[u8], usize, usize, &str)] = &[
          step: 4294967295 } }",
     ),
     (
-        &[8, 0, 0, 0, 0, 0, 0, 0, 1, 1, 1, 0, 0, 0, 1, 0, 0, 0, 255, 255, 255, 255, 255, 16, 16, 255, 255, 255, 255],
+        &[
+            8, 0, 0, 0, 0, 0, 0, 0, 1, 1, 1, 0, 0, 0, 1, 0, 0, 0, 255, 255, 255, 255, 255, 16, 16,
+            255, 255, 255, 255,
+        ],
         15,
         29,
         "LaterVersion { at: PseudoTime { stamp: Stamp { clock: 1, broker: 1, home: 1 }, step: \
@@ -112,7 +124,10 @@ const MESSAGES: &[(&[u8], usize, usize, &str)] = &[
         "Decided { stamp: Stamp { clock: 1, broker: 1, home: 1 }, decision: Withdrawn }",
     ),
     (
-        &[12, 0, 0, 0, 0, 0, 0, 0, 1, 1, 1, 3, 0, 0, 0, 0, 0, 0, 0, 1, 255, 255, 255, 255, 255, 255, 255, 255],
+        &[
+            12, 0, 0, 0, 0, 0, 0, 0, 1, 1, 1, 3, 0, 0, 0, 0, 0, 0, 0, 1, 255, 255, 255, 255, 255,
+            255, 255, 255,
+        ],
         11,
         28,
         "Decided { stamp: Stamp { clock: 1, broker: 1, home: 1 }, decision: Expired { \
@@ -173,7 +188,10 @@ fn messages_with_their_bytes(rt: HostRuntime) -> Result<(), Fail> {
     let alloc = rt.alloc();
     for (bytes, second, third, text) in MESSAGES {
         assert!(rt; faults_when_cut(alloc, bytes, *second, *third));
-        let found = told(alloc, bytes).ok().ok_or("a message")?.ok_or("the same bytes")?;
+        let found = told(alloc, bytes)
+            .ok()
+            .ok_or("a message")?
+            .ok_or("the same bytes")?;
         assert_eq!(rt; found.as_str(), *text);
         let mut longer = bytes.to_vec(alloc)?;
         longer.push(0)?;

@@ -48,25 +48,19 @@ fn script(alloc: Global, lines: &[&[u8]], first: u16) -> Result<Vec<u8>, Fail> {
 
 /// Lines, and the canonical text of what stands on each.
 const ROWS: &[(&[u8], &[u8])] = &[
-        (b"let a=(1)", b"let a = 1"),
-        (b"read a 1 . 7", b"read a 1.7"),
-        (
-            b"read a 16 [ b+1 ]",
-            b"read a 16[b + 1]",
-        ),
-        (
-            b"write 2.4294967295 a",
-            b"write 2.4294967295 a",
-        ),
-        (b"write 2[a]-1", b"write 2[a] -1"),
-        (b"write 1.0 7", b"write 1.0 7"),
-        (b"print\"x\"", b"print \"x\""),
-        (b"if a<1", b"if a < 1"),
-        (b" else ", b"else"),
-        (b"end", b"end"),
-        (b"repeat 3", b"repeat 3"),
-        (b"withdraw", b"withdraw"),
-    ];
+    (b"let a=(1)", b"let a = 1"),
+    (b"read a 1 . 7", b"read a 1.7"),
+    (b"read a 16 [ b+1 ]", b"read a 16[b + 1]"),
+    (b"write 2.4294967295 a", b"write 2.4294967295 a"),
+    (b"write 2[a]-1", b"write 2[a] -1"),
+    (b"write 1.0 7", b"write 1.0 7"),
+    (b"print\"x\"", b"print \"x\""),
+    (b"if a<1", b"if a < 1"),
+    (b" else ", b"else"),
+    (b"end", b"end"),
+    (b"repeat 3", b"repeat 3"),
+    (b"withdraw", b"withdraw"),
+];
 
 #[test]
 fn rows_with_their_text(rt: HostRuntime) -> Result<(), Fail> {
@@ -79,29 +73,29 @@ fn rows_with_their_text(rt: HostRuntime) -> Result<(), Fail> {
 
 /// Lines on which no row of a script stands.
 const NO_ROWS: &[&[u8]] = &[
-        b"",
-        b"a = 1",
-        b"done",
-        b"let a 1",
-        b"let 1 = 1",
-        b"let let = 1",
-        b"let a =",
-        b"read a",
-        b"read a 1",
-        b"read a 1.7 8",
-        b"read a 1[7] 8",
-        b"read 1.7",
-        b"write 1.7",
-        b"write 1[2",
-        b"write 1[] 2",
-        b"write 1[2]] 3",
-        b"write 1.2]",
-        b"write 1.0 7 8",
-        b"print",
-        b"else 1",
-        b"end end",
-        b"withdraw 1",
-    ];
+    b"",
+    b"a = 1",
+    b"done",
+    b"let a 1",
+    b"let 1 = 1",
+    b"let let = 1",
+    b"let a =",
+    b"read a",
+    b"read a 1",
+    b"read a 1.7 8",
+    b"read a 1[7] 8",
+    b"read 1.7",
+    b"write 1.7",
+    b"write 1[2",
+    b"write 1[] 2",
+    b"write 1[2]] 3",
+    b"write 1.2]",
+    b"write 1.0 7 8",
+    b"print",
+    b"else 1",
+    b"end end",
+    b"withdraw 1",
+];
 
 #[test]
 fn lines_that_are_no_row(rt: HostRuntime) -> Result<(), Fail> {
@@ -114,28 +108,13 @@ fn lines_that_are_no_row(rt: HostRuntime) -> Result<(), Fail> {
 
 /// Lines with an expression that is too deep, and what is answered.
 const DEEP_ROWS: &[(&[u8], &[u8])] = &[
-        (b"print ----------------1", b"depth"),
-        (
-            b"print ----------------1 2",
-            b"syntax",
-        ),
-        (
-            b"write 1[----------------1] 2",
-            b"depth",
-        ),
-        (
-            b"write 1[2] ----------------1",
-            b"depth",
-        ),
-        (
-            b"write 1[----------------1] ) 2",
-            b"syntax",
-        ),
-        (
-            b"write 1[)] ----------------1",
-            b"syntax",
-        ),
-    ];
+    (b"print ----------------1", b"depth"),
+    (b"print ----------------1 2", b"syntax"),
+    (b"write 1[----------------1] 2", b"depth"),
+    (b"write 1[2] ----------------1", b"depth"),
+    (b"write 1[----------------1] ) 2", b"syntax"),
+    (b"write 1[)] ----------------1", b"syntax"),
+];
 
 #[test]
 fn depth_comes_after_syntax(rt: HostRuntime) -> Result<(), Fail> {

@@ -43,40 +43,34 @@ fn count_of(alloc: Global, line: &[u8]) -> Result<usize, LineFault> {
 
 /// Lines, and their tokens as they are printed, each with a space behind it.
 const LINES: &[(&[u8], &[u8])] = &[
-        (b"", b""),
-        (b"   ", b""),
-        (b"007", b"0 0 7 "),
-        (b"write 1.07", b"write 1 . 0 7 "),
-        (b"print1", b"print1 "),
-        (b" let a=1 ", b"let a = 1 "),
-        (b"<=><>=<<=", b"<= > <> = < <= "),
-        (b"a>=b>c", b"a >= b > c "),
-        (b"12ab_9", b"12 ab_9 "),
-        (
-            b"+-*/&()[].,",
-            b"+ - * / & ( ) [ ] . , ",
-        ),
-        (
-            b"let read write print if else end repeat withdraw done nothing and or not mod len text given",
-            b"let read write print if else end repeat withdraw done nothing and or not mod len text given ",
-        ),
-        (
-            b"lets given_ mod1",
-            b"lets given_ mod1 ",
-        ),
-        (
-            b"\"\\x41\\\\\\\"\\n~ \"\"\\x00\\xff\\x0a\"",
-            b"\"A\\\\\\\"\\n~ \" \"\\x00\\xff\\n\" ",
-        ),
-        (
-            b"9223372036854775807 abcdefghijklmno_",
-            b"9223372036854775807 abcdefghijklmno_ ",
-        ),
-        (
-            b"1.4294967295 16.0 1[x] 17 0",
-            b"1 . 4294967295 16 . 0 1 [ x ] 17 0 ",
-        ),
-    ];
+    (b"", b""),
+    (b"   ", b""),
+    (b"007", b"0 0 7 "),
+    (b"write 1.07", b"write 1 . 0 7 "),
+    (b"print1", b"print1 "),
+    (b" let a=1 ", b"let a = 1 "),
+    (b"<=><>=<<=", b"<= > <> = < <= "),
+    (b"a>=b>c", b"a >= b > c "),
+    (b"12ab_9", b"12 ab_9 "),
+    (b"+-*/&()[].,", b"+ - * / & ( ) [ ] . , "),
+    (
+        b"let read write print if else end repeat withdraw done nothing and or not mod len text given",
+        b"let read write print if else end repeat withdraw done nothing and or not mod len text given ",
+    ),
+    (b"lets given_ mod1", b"lets given_ mod1 "),
+    (
+        b"\"\\x41\\\\\\\"\\n~ \"\"\\x00\\xff\\x0a\"",
+        b"\"A\\\\\\\"\\n~ \" \"\\x00\\xff\\n\" ",
+    ),
+    (
+        b"9223372036854775807 abcdefghijklmno_",
+        b"9223372036854775807 abcdefghijklmno_ ",
+    ),
+    (
+        b"1.4294967295 16.0 1[x] 17 0",
+        b"1 . 4294967295 16 . 0 1 [ x ] 17 0 ",
+    ),
+];
 
 #[test]
 fn lines_with_their_tokens(rt: HostRuntime) -> Result<(), Fail> {
@@ -93,28 +87,28 @@ fn lines_with_their_tokens(rt: HostRuntime) -> Result<(), Fail> {
 
 /// Lines with a fault.
 const FAULTS: &[(&[u8], LineFault)] = &[
-        (b"A", LineFault::Token),
-        (b"_a", LineFault::Token),
-        (b"a\tb", LineFault::Token),
-        (b"a\r", LineFault::Token),
-        (b"\x00", LineFault::Token),
-        (b"print \xff", LineFault::Token),
-        (b"# not in a line of tokens", LineFault::Token),
-        (b"\"open", LineFault::Token),
-        (b"\"\\x4A\"", LineFault::Token),
-        (b"\"\\x4\"", LineFault::Token),
-        (b"\"\\t\"", LineFault::Token),
-        (b"\"\\", LineFault::Token),
-        (b"\"\x7f\"", LineFault::Token),
-        (b"9223372036854775808", LineFault::Range),
-        (b"18446744073709551617", LineFault::Range),
-        (b"9223372036854775808 A", LineFault::Token),
-        (b"abcdefghijklmnop_", LineFault::Range),
-        (b"print 17.1", LineFault::Range),
-        (b"read x 0.1", LineFault::Range),
-        (b"read x 1.4294967296", LineFault::Range),
-        (b"read x 17[y]", LineFault::Range),
-    ];
+    (b"A", LineFault::Token),
+    (b"_a", LineFault::Token),
+    (b"a\tb", LineFault::Token),
+    (b"a\r", LineFault::Token),
+    (b"\x00", LineFault::Token),
+    (b"print \xff", LineFault::Token),
+    (b"# not in a line of tokens", LineFault::Token),
+    (b"\"open", LineFault::Token),
+    (b"\"\\x4A\"", LineFault::Token),
+    (b"\"\\x4\"", LineFault::Token),
+    (b"\"\\t\"", LineFault::Token),
+    (b"\"\\", LineFault::Token),
+    (b"\"\x7f\"", LineFault::Token),
+    (b"9223372036854775808", LineFault::Range),
+    (b"18446744073709551617", LineFault::Range),
+    (b"9223372036854775808 A", LineFault::Token),
+    (b"abcdefghijklmnop_", LineFault::Range),
+    (b"print 17.1", LineFault::Range),
+    (b"read x 0.1", LineFault::Range),
+    (b"read x 1.4294967296", LineFault::Range),
+    (b"read x 17[y]", LineFault::Range),
+];
 
 #[test]
 fn faults_of_lines(rt: HostRuntime) {
