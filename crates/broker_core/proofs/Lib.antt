@@ -16,11 +16,9 @@ pub mod RangeLemmas
 pub mod ReadingLemmas
 pub mod ReplyLemmas
 pub mod SameTurns
-pub mod ScriptRangeLemmas
 pub mod SettleLemmas
 pub mod ShapeLemmas
 pub mod SoundLemmas
 pub mod StopLemmas
 pub mod TakeLemmas
-pub mod TextByteLemmas
 pub mod TurnLemmas

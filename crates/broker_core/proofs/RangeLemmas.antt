@@ -58,8 +58,8 @@ use Rattle.broker_core.specs.Ledgers.{IsAct, AreActs, AreNotes, LedgerParts, Set
 use Rattle.broker_core.specs.Replays.{fits_now, added, logged, led, fresh_ledger}
 use Rattle.broker_core.specs.Inputs.{listed, begun, firsts, phase_in, effects_from, ledger_from}
 use Rattle.broker_core.specs.Ranges.{GivenInRange, HasStamp, IsHeard, FirstInRange, AreInRange, Ranged}
-use Rattle.broker_core.proofs.ScriptRangeLemmas.{printable-InRange}
-use Rattle.broker_core.proofs.TextByteLemmas.{script-IsBytes}
+use Rattle.script_ranges.proofs.ScriptRangeLemmas.{printable-InRange}
+use Rattle.script_ranges.proofs.TextByteLemmas.{script-IsBytes}
 
 -- ---- lists
 

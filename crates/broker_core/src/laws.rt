@@ -7,7 +7,6 @@ ghost use Rattle.effect_form.specs.declared.effects.Effect.{Effect};
 ghost use Rattle.statement_form.specs.RowTexts.{script_text};
 ghost use Rattle.script_form.specs.Printable.{IsPrintable};
 ghost use Rattle.serial_model.specs.Questions.{Tree};
-ghost use Rattle.serial_model.specs.Ranges.{BlockInRange};
 ghost use Rattle.broker_core.specs.Fits.{keep, resume_fault};
 ghost use Rattle.broker_core.specs.Ledgers.{IsAct};
 ghost use Rattle.broker_core.specs.Readings.{reading};
@@ -20,7 +19,6 @@ pub fn law_of_readings()
     ensures apart { (n m : ℕ) (a b : Block) → IsPrintable n a → IsPrintable m b → script_text a ≡ script_text b → a ≡ b }
     ensures own { (acts : List ActSpec) → Every IsAct acts → Scripted (reading acts) acts }
     ensures among { (all acts : List ActSpec) → Every IsAct all → Every IsAct acts → ((a : ActSpec) → Has a acts → Has a all) → Scripted (reading all) acts }
-    ensures range { (n : ℕ) (script : Block) → IsPrintable n script → BlockInRange script }
 {}
 
 /// Two readings that agree on the texts of a broker's acts give the same turns, count the same of a

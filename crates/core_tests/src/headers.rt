@@ -1,6 +1,5 @@
 ghost use Rattle.std.specs.Prelude.{◌≡◌, false, IfOk, IfSome};
-ghost use Rattle.pseudo_time.specs.Lists.{Every};
-ghost use Rattle.version_store.specs.Filling.{HasBytes};
+ghost use Rattle.effect_form.specs.Effects.{IsEffect, AreEffects};
 
 use crate::histories::{asked, time, Call, Said, Time, ANSWERS, OBJECT};
 use effect_form::Effect;
@@ -25,7 +24,7 @@ enum Row {
 }
 
 fn effect_of(row: Row) -> Result<Effect, HistoryFault>
-    ensures { IfOk result HasBytes }
+    ensures { IfOk result IsEffect }
 {
     match row {
         Row::Begin(clock) => {
@@ -67,7 +66,7 @@ fn effect_of(row: Row) -> Result<Effect, HistoryFault>
 }
 
 fn effects_of(alloc: Global, rows: &[Row]) -> Result<Vec<Effect>, HistoryFault>
-    ensures { IfOk result (λ v. Every HasBytes v.items) }
+    ensures { IfOk result (λ v. AreEffects v.items) }
 {
     let mut effects = Vec::new(alloc);
     for row in rows {

@@ -29,91 +29,92 @@ fn round(alloc: Global, before: u8, behind: u8, count: usize) -> Result<Vec<u8>,
     Ok(line)
 }
 
+/// Lines, and the canonical text of the expression that each spells.
+const EXPRESSIONS: &[(&[u8], &[u8])] = &[
+    (b"1+2*3", b"1 + 2 * 3"),
+    (b"(1+2)*3", b"(1 + 2) * 3"),
+    (b"(1-2)-3", b"1 - 2 - 3"),
+    (b"1-(2-3)", b"1 - (2 - 3)"),
+    (b"((((1))))", b"1"),
+    (b"(a=b)=c", b"(a = b) = c"),
+    (b"a<>(b<=c)", b"a <> (b <= c)"),
+    (b"a<b and not c>=d or e>f", b"a < b and not c >= d or e > f"),
+    (b"(1 or 2)and 3", b"(1 or 2) and 3"),
+    (b"not not a", b"not not a"),
+    (b"not(a or b)", b"not (a or b)"),
+    (b"(not a)=b", b"(not a) = b"),
+    (b"- - 1", b"--1"),
+    (b"-a*b", b"-a * b"),
+    (b"-(a*b)/2", b"-(a * b) / 2"),
+    (b"2*-a", b"2 * -a"),
+    (b"a mod(7/2)", b"a mod (7 / 2)"),
+    (b"a&\"\\x41\"&text(1)", b"a & \"A\" & text(1)"),
+    (b"len ( \"ab\" )", b"len(\"ab\")"),
+    (b"given( a ,1000 ) - 5", b"given(a, 1000) - 5"),
+    (
+        b"nothing = 9223372036854775807",
+        b"nothing = 9223372036854775807",
+    ),
+];
+
 #[test]
 fn expressions_with_their_text(rt: HostRuntime) -> Result<(), Fail> {
     let alloc = rt.alloc();
-    for (line, text) in [
-        (b"1+2*3".as_slice(), b"1 + 2 * 3".as_slice()),
-        (b"(1+2)*3".as_slice(), b"(1 + 2) * 3".as_slice()),
-        (b"(1-2)-3".as_slice(), b"1 - 2 - 3".as_slice()),
-        (b"1-(2-3)".as_slice(), b"1 - (2 - 3)".as_slice()),
-        (b"((((1))))".as_slice(), b"1".as_slice()),
-        (b"(a=b)=c".as_slice(), b"(a = b) = c".as_slice()),
-        (b"a<>(b<=c)".as_slice(), b"a <> (b <= c)".as_slice()),
-        (
-            b"a<b and not c>=d or e>f".as_slice(),
-            b"a < b and not c >= d or e > f".as_slice(),
-        ),
-        (b"(1 or 2)and 3".as_slice(), b"(1 or 2) and 3".as_slice()),
-        (b"not not a".as_slice(), b"not not a".as_slice()),
-        (b"not(a or b)".as_slice(), b"not (a or b)".as_slice()),
-        (b"(not a)=b".as_slice(), b"(not a) = b".as_slice()),
-        (b"- - 1".as_slice(), b"--1".as_slice()),
-        (b"-a*b".as_slice(), b"-a * b".as_slice()),
-        (b"-(a*b)/2".as_slice(), b"-(a * b) / 2".as_slice()),
-        (b"2*-a".as_slice(), b"2 * -a".as_slice()),
-        (b"a mod(7/2)".as_slice(), b"a mod (7 / 2)".as_slice()),
-        (
-            b"a&\"\\x41\"&text(1)".as_slice(),
-            b"a & \"A\" & text(1)".as_slice(),
-        ),
-        (b"len ( \"ab\" )".as_slice(), b"len(\"ab\")".as_slice()),
-        (
-            b"given( a ,1000 ) - 5".as_slice(),
-            b"given(a, 1000) - 5".as_slice(),
-        ),
-        (
-            b"nothing = 9223372036854775807".as_slice(),
-            b"nothing = 9223372036854775807".as_slice(),
-        ),
-    ] {
-        assert_eq!(rt; answer(alloc, line)?.as_slice(), text);
-        assert_eq!(rt; answer(alloc, text)?.as_slice(), text);
+    for (line, text) in EXPRESSIONS {
+        assert_eq!(rt; answer(alloc, line)?.as_slice(), *text);
+        assert_eq!(rt; answer(alloc, text)?.as_slice(), *text);
     }
     Ok(())
 }
 
+/// Lines that spell no expression.
+const NO_EXPRESSIONS: &[&[u8]] = &[
+    b"",
+    b"(",
+    b")",
+    b"(1",
+    b"1)",
+    b"1 2",
+    b"1 +",
+    b"+1",
+    b"a = b = c",
+    b"a < b >= c",
+    b"1 + not 2",
+    b"-not 1",
+    b"len 1",
+    b"len(1, 2)",
+    b"given(1)",
+    b"given(1, 2, 3)",
+    b"(1, 2)",
+    b"1[2]",
+    b"1.2",
+    b"let",
+    b"text",
+];
+
 #[test]
 fn lines_that_are_no_expression(rt: HostRuntime) -> Result<(), Fail> {
     let alloc = rt.alloc();
-    for line in [
-        b"".as_slice(),
-        b"(".as_slice(),
-        b")".as_slice(),
-        b"(1".as_slice(),
-        b"1)".as_slice(),
-        b"1 2".as_slice(),
-        b"1 +".as_slice(),
-        b"+1".as_slice(),
-        b"a = b = c".as_slice(),
-        b"a < b >= c".as_slice(),
-        b"1 + not 2".as_slice(),
-        b"-not 1".as_slice(),
-        b"len 1".as_slice(),
-        b"len(1, 2)".as_slice(),
-        b"given(1)".as_slice(),
-        b"given(1, 2, 3)".as_slice(),
-        b"(1, 2)".as_slice(),
-        b"1[2]".as_slice(),
-        b"1.2".as_slice(),
-        b"let".as_slice(),
-        b"text".as_slice(),
-    ] {
+    for line in NO_EXPRESSIONS {
         assert_eq!(rt; answer(alloc, line)?.as_slice(), b"syntax".as_slice());
     }
     Ok(())
 }
 
+/// How many minuses stand before a number, the byte that stands as often behind it, and what is
+/// answered.
+const MINUSES: &[(usize, u8, &[u8])] = &[
+    (15, b' ', b"---------------1"),
+    (16, b' ', b"depth"),
+    (16, b')', b"syntax"),
+];
+
 #[test]
 fn sixteen_deep(rt: HostRuntime) -> Result<(), Fail> {
     let alloc = rt.alloc();
-    for (count, behind, text) in [
-        (15usize, b' ', b"---------------1".as_slice()),
-        (16, b' ', b"depth".as_slice()),
-        (16, b')', b"syntax".as_slice()),
-    ] {
-        let line = round(alloc, b'-', behind, count)?;
-        assert_eq!(rt; answer(alloc, line.as_slice())?.as_slice(), text);
+    for (count, behind, text) in MINUSES {
+        let line = round(alloc, b'-', *behind, *count)?;
+        assert_eq!(rt; answer(alloc, line.as_slice())?.as_slice(), *text);
     }
     Ok(())
 }

@@ -24,61 +24,73 @@ fn fault_of(alloc: Global, bytes: &[u8]) -> Option<ParseFault> {
     }
 }
 
+/// Scripts, and their canonical text.
+const SCRIPTS: &[(&[u8], &[u8])] = &[
+    (b"", b""),
+    (b"\n  \n# all comment", b""),
+    (
+        b"  let   a=1\r\n\n#\nprint (a+1)*2",
+        b"let a = 1\n\n\nprint (a + 1) * 2\n",
+    ),
+    (
+        b"read a 1.7\nif a>=(1)\nwrite 2[a] \"\\x41\\x0a\"\nelse\nwithdraw\nend\n",
+        b"read a 1.7\nif a >= 1\nwrite 2[a] \"A\\n\"\nelse\nwithdraw\nend\n",
+    ),
+    (b"write 1.07", b"write 1.0 7\n"),
+    (
+        b"repeat 8\nlet s=s+given(v,1000)\nend",
+        b"repeat 8\nlet s = s + given(v, 1000)\nend\n",
+    ),
+    (
+        b"print - - 1 - ( 2 - 3 )\nprint not not ((1)=2)",
+        b"print --1 - (2 - 3)\nprint not not 1 = 2\n",
+    ),
+];
+
 #[test]
 fn scripts_with_their_text(rt: HostRuntime) -> Result<(), Fail> {
     let alloc = rt.alloc();
-    for (bytes, text) in [
-        (b"".as_slice(), b"".as_slice()),
-        (b"\n  \n# all comment".as_slice(), b"".as_slice()),
-        (
-            b"  let   a=1\r\n\n#\nprint (a+1)*2".as_slice(),
-            b"let a = 1\n\n\nprint (a + 1) * 2\n".as_slice(),
-        ),
-        (
-            b"read a 1.7\nif a>=(1)\nwrite 2[a] \"\\x41\\x0a\"\nelse\nwithdraw\nend\n".as_slice(),
-            b"read a 1.7\nif a >= 1\nwrite 2[a] \"A\\n\"\nelse\nwithdraw\nend\n".as_slice(),
-        ),
-        (b"write 1.07".as_slice(), b"write 1.0 7\n".as_slice()),
-        (
-            b"repeat 8\nlet s=s+given(v,1000)\nend".as_slice(),
-            b"repeat 8\nlet s = s + given(v, 1000)\nend\n".as_slice(),
-        ),
-        (
-            b"print - - 1 - ( 2 - 3 )\nprint not not ((1)=2)".as_slice(),
-            b"print --1 - (2 - 3)\nprint not not 1 = 2\n".as_slice(),
-        ),
-    ] {
+    for (bytes, text) in SCRIPTS {
         let once = canonical(alloc, bytes);
         assert!(rt; matches!(once, Ok(_)));
         if let Ok(once) = once {
-            assert_eq!(rt; once.as_slice(), text);
+            assert_eq!(rt; once.as_slice(), *text);
         }
         let twice = canonical(alloc, text);
         assert!(rt; matches!(twice, Ok(_)));
         if let Ok(twice) = twice {
-            assert_eq!(rt; twice.as_slice(), text);
+            assert_eq!(rt; twice.as_slice(), *text);
         }
     }
     Ok(())
 }
 
+/// Bytes that are no script, and the first faulty line.
+const FAULTS: &[(&[u8], u32, ParseKind)] = &[
+    (b"print 1\nprint \xff", 2, ParseKind::Token),
+    (b"print 1\rprint 2\n", 1, ParseKind::Token),
+    (b"print 17.1", 1, ParseKind::Range),
+    (b"\nprint1", 2, ParseKind::Syntax),
+    (b"print 1 = 2 = 3", 1, ParseKind::Syntax),
+    (b"else", 1, ParseKind::Block),
+    (b"if 1\nelse\nelse\nend", 3, ParseKind::Block),
+    (b"repeat 2\nelse\nend", 2, ParseKind::Block),
+    (b"print 1\nend", 2, ParseKind::Block),
+    (b"if 1\nprint 1\n", 3, ParseKind::Block),
+    (b"print ----------------1", 1, ParseKind::Depth),
+];
+
 #[test]
 fn faults_of_scripts(rt: HostRuntime) -> Result<(), Fail> {
     let alloc = rt.alloc();
-    for (bytes, line, kind) in [
-        (b"print 1\nprint \xff".as_slice(), 2, ParseKind::Token),
-        (b"print 1\rprint 2\n".as_slice(), 1, ParseKind::Token),
-        (b"print 17.1".as_slice(), 1, ParseKind::Range),
-        (b"\nprint1".as_slice(), 2, ParseKind::Syntax),
-        (b"print 1 = 2 = 3".as_slice(), 1, ParseKind::Syntax),
-        (b"else".as_slice(), 1, ParseKind::Block),
-        (b"if 1\nelse\nelse\nend".as_slice(), 3, ParseKind::Block),
-        (b"repeat 2\nelse\nend".as_slice(), 2, ParseKind::Block),
-        (b"print 1\nend".as_slice(), 2, ParseKind::Block),
-        (b"if 1\nprint 1\n".as_slice(), 3, ParseKind::Block),
-        (b"print ----------------1".as_slice(), 1, ParseKind::Depth),
-    ] {
-        assert!(rt; fault_of(alloc, bytes) == Some(ParseFault::Fault { line, kind }));
+    for (bytes, line, kind) in FAULTS {
+        assert!(rt;
+            fault_of(alloc, bytes)
+                == Some(ParseFault::Fault {
+                    line: *line,
+                    kind: *kind
+                })
+        );
     }
     Ok(())
 }

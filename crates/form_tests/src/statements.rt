@@ -46,152 +46,115 @@ fn script(alloc: Global, lines: &[&[u8]], first: u16) -> Result<Vec<u8>, Fail> {
     Ok(out)
 }
 
+/// Lines, and the canonical text of what stands on each.
+const ROWS: &[(&[u8], &[u8])] = &[
+    (b"let a=(1)", b"let a = 1"),
+    (b"read a 1 . 7", b"read a 1.7"),
+    (b"read a 16 [ b+1 ]", b"read a 16[b + 1]"),
+    (b"write 2.4294967295 a", b"write 2.4294967295 a"),
+    (b"write 2[a]-1", b"write 2[a] -1"),
+    (b"write 1.0 7", b"write 1.0 7"),
+    (b"print\"x\"", b"print \"x\""),
+    (b"if a<1", b"if a < 1"),
+    (b" else ", b"else"),
+    (b"end", b"end"),
+    (b"repeat 3", b"repeat 3"),
+    (b"withdraw", b"withdraw"),
+];
+
 #[test]
 fn rows_with_their_text(rt: HostRuntime) -> Result<(), Fail> {
     let alloc = rt.alloc();
-    for (line, text) in [
-        (b"let a=(1)".as_slice(), b"let a = 1".as_slice()),
-        (b"read a 1 . 7".as_slice(), b"read a 1.7".as_slice()),
-        (
-            b"read a 16 [ b+1 ]".as_slice(),
-            b"read a 16[b + 1]".as_slice(),
-        ),
-        (
-            b"write 2.4294967295 a".as_slice(),
-            b"write 2.4294967295 a".as_slice(),
-        ),
-        (b"write 2[a]-1".as_slice(), b"write 2[a] -1".as_slice()),
-        (b"write 1.0 7".as_slice(), b"write 1.0 7".as_slice()),
-        (b"print\"x\"".as_slice(), b"print \"x\"".as_slice()),
-        (b"if a<1".as_slice(), b"if a < 1".as_slice()),
-        (b" else ".as_slice(), b"else".as_slice()),
-        (b"end".as_slice(), b"end".as_slice()),
-        (b"repeat 3".as_slice(), b"repeat 3".as_slice()),
-        (b"withdraw".as_slice(), b"withdraw".as_slice()),
-    ] {
-        assert_eq!(rt; answer(alloc, line)?.as_slice(), text);
+    for (line, text) in ROWS {
+        assert_eq!(rt; answer(alloc, line)?.as_slice(), *text);
     }
     Ok(())
 }
 
+/// Lines on which no row of a script stands.
+const NO_ROWS: &[&[u8]] = &[
+    b"",
+    b"a = 1",
+    b"done",
+    b"let a 1",
+    b"let 1 = 1",
+    b"let let = 1",
+    b"let a =",
+    b"read a",
+    b"read a 1",
+    b"read a 1.7 8",
+    b"read a 1[7] 8",
+    b"read 1.7",
+    b"write 1.7",
+    b"write 1[2",
+    b"write 1[] 2",
+    b"write 1[2]] 3",
+    b"write 1.2]",
+    b"write 1.0 7 8",
+    b"print",
+    b"else 1",
+    b"end end",
+    b"withdraw 1",
+];
+
 #[test]
 fn lines_that_are_no_row(rt: HostRuntime) -> Result<(), Fail> {
     let alloc = rt.alloc();
-    for line in [
-        b"".as_slice(),
-        b"a = 1".as_slice(),
-        b"done".as_slice(),
-        b"let a 1".as_slice(),
-        b"let 1 = 1".as_slice(),
-        b"let let = 1".as_slice(),
-        b"let a =".as_slice(),
-        b"read a".as_slice(),
-        b"read a 1".as_slice(),
-        b"read a 1.7 8".as_slice(),
-        b"read a 1[7] 8".as_slice(),
-        b"read 1.7".as_slice(),
-        b"write 1.7".as_slice(),
-        b"write 1[2".as_slice(),
-        b"write 1[] 2".as_slice(),
-        b"write 1[2]] 3".as_slice(),
-        b"write 1.2]".as_slice(),
-        b"write 1.0 7 8".as_slice(),
-        b"print".as_slice(),
-        b"else 1".as_slice(),
-        b"end end".as_slice(),
-        b"withdraw 1".as_slice(),
-    ] {
+    for line in NO_ROWS {
         assert_eq!(rt; answer(alloc, line)?.as_slice(), b"syntax".as_slice());
     }
     Ok(())
 }
 
+/// Lines with an expression that is too deep, and what is answered.
+const DEEP_ROWS: &[(&[u8], &[u8])] = &[
+    (b"print ----------------1", b"depth"),
+    (b"print ----------------1 2", b"syntax"),
+    (b"write 1[----------------1] 2", b"depth"),
+    (b"write 1[2] ----------------1", b"depth"),
+    (b"write 1[----------------1] ) 2", b"syntax"),
+    (b"write 1[)] ----------------1", b"syntax"),
+];
+
 #[test]
 fn depth_comes_after_syntax(rt: HostRuntime) -> Result<(), Fail> {
     let alloc = rt.alloc();
-    for (line, text) in [
-        (b"print ----------------1".as_slice(), b"depth".as_slice()),
-        (
-            b"print ----------------1 2".as_slice(),
-            b"syntax".as_slice(),
-        ),
-        (
-            b"write 1[----------------1] 2".as_slice(),
-            b"depth".as_slice(),
-        ),
-        (
-            b"write 1[2] ----------------1".as_slice(),
-            b"depth".as_slice(),
-        ),
-        (
-            b"write 1[----------------1] ) 2".as_slice(),
-            b"syntax".as_slice(),
-        ),
-        (
-            b"write 1[)] ----------------1".as_slice(),
-            b"syntax".as_slice(),
-        ),
-    ] {
-        assert_eq!(rt; answer(alloc, line)?.as_slice(), text);
+    for (line, text) in DEEP_ROWS {
+        assert_eq!(rt; answer(alloc, line)?.as_slice(), *text);
     }
     Ok(())
 }
 
+/// Lines, on which line the first stands, and the text of the script that they are, or what is answered.
+const SCRIPTS: &[(&[&[u8]], u16, &[u8])] = &[
+    (
+        &[
+            b"if a",
+            b"repeat 2",
+            b"read b 1[a]",
+            b"end",
+            b"else",
+            b"print (b)",
+            b"end",
+            b"withdraw",
+        ],
+        3,
+        b"\n\nif a\n\nrepeat 2\n\nread b 1[a]\n\nend\n\nelse\n\nprint b\n\nend\n\nwithdraw\n",
+    ),
+    (&[], 1, b""),
+    (&[b"else"], 1, b"block"),
+    (&[b"end"], 1, b"block"),
+    (&[b"if 1"], 1, b"open"),
+    (&[b"repeat 1", b"else"], 1, b"block"),
+    (&[b"if 1", b"else", b"else"], 1, b"block"),
+];
+
 #[test]
 fn scripts_with_their_text(rt: HostRuntime) -> Result<(), Fail> {
     let alloc = rt.alloc();
-    let lines = [
-        b"if a".as_slice(),
-        b"repeat 2",
-        b"read b 1[a]",
-        b"end",
-        b"else",
-        b"print (b)",
-        b"end",
-        b"withdraw",
-    ];
-    let text =
-        b"\n\nif a\n\nrepeat 2\n\nread b 1[a]\n\nend\n\nelse\n\nprint b\n\nend\n\nwithdraw\n";
-    assert_eq!(rt;
-        script(alloc, lines.as_slice(), 3)?.as_slice(),
-        text.as_slice()
-    );
-    let none: [&[u8]; 0] = [];
-    assert_eq!(rt;
-        script(alloc, none.as_slice(), 1)?.as_slice(),
-        b"".as_slice()
-    );
-    Ok(())
-}
-
-#[test]
-fn rows_that_begin_no_script(rt: HostRuntime) -> Result<(), Fail> {
-    let alloc = rt.alloc();
-    let one = [b"else".as_slice()];
-    assert_eq!(rt;
-        script(alloc, one.as_slice(), 1)?.as_slice(),
-        b"block".as_slice()
-    );
-    let one = [b"end".as_slice()];
-    assert_eq!(rt;
-        script(alloc, one.as_slice(), 1)?.as_slice(),
-        b"block".as_slice()
-    );
-    let one = [b"if 1".as_slice()];
-    assert_eq!(rt;
-        script(alloc, one.as_slice(), 1)?.as_slice(),
-        b"open".as_slice()
-    );
-    let two = [b"repeat 1".as_slice(), b"else"];
-    assert_eq!(rt;
-        script(alloc, two.as_slice(), 1)?.as_slice(),
-        b"block".as_slice()
-    );
-    let three = [b"if 1".as_slice(), b"else", b"else"];
-    assert_eq!(rt;
-        script(alloc, three.as_slice(), 1)?.as_slice(),
-        b"block".as_slice()
-    );
+    for (lines, first, text) in SCRIPTS {
+        assert_eq!(rt; script(alloc, lines, *first)?.as_slice(), *text);
+    }
     Ok(())
 }
 

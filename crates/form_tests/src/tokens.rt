@@ -41,80 +41,80 @@ fn count_of(alloc: Global, line: &[u8]) -> Result<usize, LineFault> {
     Ok(tokens.len())
 }
 
+/// Lines, and their tokens as they are printed, each with a space behind it.
+const LINES: &[(&[u8], &[u8])] = &[
+    (b"", b""),
+    (b"   ", b""),
+    (b"007", b"0 0 7 "),
+    (b"write 1.07", b"write 1 . 0 7 "),
+    (b"print1", b"print1 "),
+    (b" let a=1 ", b"let a = 1 "),
+    (b"<=><>=<<=", b"<= > <> = < <= "),
+    (b"a>=b>c", b"a >= b > c "),
+    (b"12ab_9", b"12 ab_9 "),
+    (b"+-*/&()[].,", b"+ - * / & ( ) [ ] . , "),
+    (
+        b"let read write print if else end repeat withdraw done nothing and or not mod len text given",
+        b"let read write print if else end repeat withdraw done nothing and or not mod len text given ",
+    ),
+    (b"lets given_ mod1", b"lets given_ mod1 "),
+    (
+        b"\"\\x41\\\\\\\"\\n~ \"\"\\x00\\xff\\x0a\"",
+        b"\"A\\\\\\\"\\n~ \" \"\\x00\\xff\\n\" ",
+    ),
+    (
+        b"9223372036854775807 abcdefghijklmno_",
+        b"9223372036854775807 abcdefghijklmno_ ",
+    ),
+    (
+        b"1.4294967295 16.0 1[x] 17 0",
+        b"1 . 4294967295 16 . 0 1 [ x ] 17 0 ",
+    ),
+];
+
 #[test]
 fn lines_with_their_tokens(rt: HostRuntime) -> Result<(), Fail> {
     let alloc = rt.alloc();
-    for (line, tokens) in [
-        (b"".as_slice(), b"".as_slice()),
-        (b"   ".as_slice(), b"".as_slice()),
-        (b"007".as_slice(), b"0 0 7 ".as_slice()),
-        (b"write 1.07".as_slice(), b"write 1 . 0 7 ".as_slice()),
-        (b"print1".as_slice(), b"print1 ".as_slice()),
-        (b" let a=1 ".as_slice(), b"let a = 1 ".as_slice()),
-        (b"<=><>=<<=".as_slice(), b"<= > <> = < <= ".as_slice()),
-        (b"a>=b>c".as_slice(), b"a >= b > c ".as_slice()),
-        (b"12ab_9".as_slice(), b"12 ab_9 ".as_slice()),
-        (
-            b"+-*/&()[].,".as_slice(),
-            b"+ - * / & ( ) [ ] . , ".as_slice(),
-        ),
-        (
-            b"let read write print if else end repeat withdraw done nothing and or not mod len text given".as_slice(),
-            b"let read write print if else end repeat withdraw done nothing and or not mod len text given ".as_slice(),
-        ),
-        (
-            b"lets given_ mod1".as_slice(),
-            b"lets given_ mod1 ".as_slice(),
-        ),
-        (
-            b"\"\\x41\\\\\\\"\\n~ \"\"\\x00\\xff\\x0a\"".as_slice(),
-            b"\"A\\\\\\\"\\n~ \" \"\\x00\\xff\\n\" ".as_slice(),
-        ),
-        (
-            b"9223372036854775807 abcdefghijklmno_".as_slice(),
-            b"9223372036854775807 abcdefghijklmno_ ".as_slice(),
-        ),
-        (
-            b"1.4294967295 16.0 1[x] 17 0".as_slice(),
-            b"1 . 4294967295 16 . 0 1 [ x ] 17 0 ".as_slice(),
-        ),
-    ] {
+    for (line, tokens) in LINES {
         let read = tokens_of(alloc, line, 16)?;
         let out = printed(alloc, read.as_slice())?;
-        assert_eq!(rt; out.as_slice(), tokens);
+        assert_eq!(rt; out.as_slice(), *tokens);
         let copies = copied(alloc, read.as_slice())?;
         assert!(rt; copies.as_slice() == read.as_slice());
     }
     Ok(())
 }
 
+/// Lines with a fault.
+const FAULTS: &[(&[u8], LineFault)] = &[
+    (b"A", LineFault::Token),
+    (b"_a", LineFault::Token),
+    (b"a\tb", LineFault::Token),
+    (b"a\r", LineFault::Token),
+    (b"\x00", LineFault::Token),
+    (b"print \xff", LineFault::Token),
+    (b"# not in a line of tokens", LineFault::Token),
+    (b"\"open", LineFault::Token),
+    (b"\"\\x4A\"", LineFault::Token),
+    (b"\"\\x4\"", LineFault::Token),
+    (b"\"\\t\"", LineFault::Token),
+    (b"\"\\", LineFault::Token),
+    (b"\"\x7f\"", LineFault::Token),
+    (b"9223372036854775808", LineFault::Range),
+    (b"18446744073709551617", LineFault::Range),
+    (b"9223372036854775808 A", LineFault::Token),
+    (b"abcdefghijklmnop_", LineFault::Range),
+    (b"print 17.1", LineFault::Range),
+    (b"read x 0.1", LineFault::Range),
+    (b"read x 1.4294967296", LineFault::Range),
+    (b"read x 17[y]", LineFault::Range),
+];
+
 #[test]
 fn faults_of_lines(rt: HostRuntime) {
     let alloc = rt.alloc();
-    for (line, fault) in [
-        (b"A".as_slice(), LineFault::Token),
-        (b"_a".as_slice(), LineFault::Token),
-        (b"a\tb".as_slice(), LineFault::Token),
-        (b"a\r".as_slice(), LineFault::Token),
-        (b"\x00".as_slice(), LineFault::Token),
-        (b"print \xff".as_slice(), LineFault::Token),
-        (b"# not in a line of tokens".as_slice(), LineFault::Token),
-        (b"\"open".as_slice(), LineFault::Token),
-        (b"\"\\x4A\"".as_slice(), LineFault::Token),
-        (b"\"\\x4\"".as_slice(), LineFault::Token),
-        (b"\"\\t\"".as_slice(), LineFault::Token),
-        (b"\"\\".as_slice(), LineFault::Token),
-        (b"\"\x7f\"".as_slice(), LineFault::Token),
-        (b"9223372036854775808".as_slice(), LineFault::Range),
-        (b"18446744073709551617".as_slice(), LineFault::Range),
-        (b"9223372036854775808 A".as_slice(), LineFault::Token),
-        (b"abcdefghijklmnop_".as_slice(), LineFault::Range),
-        (b"print 17.1".as_slice(), LineFault::Range),
-        (b"read x 0.1".as_slice(), LineFault::Range),
-        (b"read x 1.4294967296".as_slice(), LineFault::Range),
-        (b"read x 17[y]".as_slice(), LineFault::Range),
-    ] {
-        assert!(rt; tokens_of(alloc, line, 16) == Err(fault));
+    for (line, fault) in FAULTS {
+        assert!(rt; tokens_of(alloc, line, 16) == Err(*fault));
     }
     assert!(rt; tokens_of(alloc, b"read x 5.1", 4) == Err(LineFault::Range));
     assert!(rt; count_of(alloc, b"read x 5.1") == Ok(5));

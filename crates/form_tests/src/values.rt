@@ -2,25 +2,50 @@ use std::alloc::{AllocError, Global};
 use std::test::*;
 use value_form::{Bytes, Items, Line, ObjectId, Value, ValueFault};
 
+/// The bytes of values, and the values as they are printed.
+const VALUES: &[(&[u8], &[u8])] = &[
+    (&[0], b"nothing"),
+    (&[1, 0, 0, 0, 0, 0, 0, 0, 0], b"0"),
+    (&[1, 0, 0, 0, 0, 0, 0, 0, 10], b"10"),
+    (&[1, 255, 255, 255, 255, 255, 255, 255, 254], b"-2"),
+    (
+        &[1, 127, 255, 255, 255, 255, 255, 255, 255],
+        b"9223372036854775807",
+    ),
+    (&[1, 128, 0, 0, 0, 0, 0, 0, 0], b"-9223372036854775808"),
+    (&[2, 0, 2, b'h', b'i'], b"\"hi\""),
+    (
+        &[
+            2, 0, 10, b'a', b'"', b'b', b'\\', b'\n', 0, b' ', b'~', 127, 255,
+        ],
+        b"\"a\\\"b\\\\\\n\\x00 ~\\x7f\\xff\"",
+    ),
+    (&[2, 0, 0], b"\"\""),
+];
+
+// The value that the bytes before the last are is written as them, and its copy is equal. The value as it
+// is printed.
+fn printed(alloc: Global, bytes: &[u8]) -> Result<Option<Vec<u8>>, ValueFault> {
+    let (value, size) = Value::read(alloc, bytes)?;
+    let mut out = Vec::new(alloc);
+    value.write(alloc, &mut out)?;
+    let copy = value.copy(alloc)?;
+    if out.as_slice() != &bytes[..size] || size.saturating_add(1) != bytes.len() || copy != value {
+        return Ok(None);
+    }
+    let mut text = Vec::new(alloc);
+    copy.print(alloc, &mut text)?;
+    Ok(Some(text))
+}
+
 #[test]
-fn printed_values(rt: HostRuntime) -> Result<(), Fail> {
+fn values_with_their_bytes(rt: HostRuntime) -> Result<(), Fail> {
     let alloc = rt.alloc();
-    let text = Bytes::of(b"a\"b\\\n\x00 ~\x7f\xff".as_slice().to_vec(alloc)?);
-    for (value, printed) in [
-        (Value::Nothing, b"nothing".as_slice()),
-        (Value::Number(0), b"0".as_slice()),
-        (Value::Number(i64::MAX), b"9223372036854775807".as_slice()),
-        (Value::Number(i64::MIN), b"-9223372036854775808".as_slice()),
-        (
-            Value::Text(text),
-            b"\"a\\\"b\\\\\\n\\x00 ~\\x7f\\xff\"".as_slice(),
-        ),
-        (Value::Text(Bytes::of(Vec::new(alloc))), b"\"\"".as_slice()),
-    ] {
-        let mut out = Vec::new(alloc);
-        value.copy(alloc)?.print(alloc, &mut out)?;
-        assert_eq!(rt; out.as_slice(), printed);
-        assert!(rt; value.copy(alloc)? == value);
+    for (bytes, text) in VALUES {
+        let mut longer = bytes.to_vec(alloc)?;
+        longer.push(7)?;
+        let found = printed(alloc, longer.as_slice()).ok().ok_or("a value")?;
+        assert_eq!(rt; found.ok_or("the same bytes")?.as_slice(), *text);
     }
     Ok(())
 }
@@ -46,52 +71,25 @@ fn lists_and_texts(rt: HostRuntime) -> Result<(), Fail> {
     Ok(())
 }
 
-#[test]
-fn bytes_of_values(rt: HostRuntime) -> Result<(), Fail> {
-    let alloc = rt.alloc();
-    for (value, bytes) in [
-        (Value::Nothing, [0u8].as_slice()),
-        (Value::Number(10), [1, 0, 0, 0, 0, 0, 0, 0, 10].as_slice()),
-        (
-            Value::Number(-2),
-            [1, 255, 255, 255, 255, 255, 255, 255, 254].as_slice(),
-        ),
-        (
-            Value::Number(i64::MIN),
-            [1, 128, 0, 0, 0, 0, 0, 0, 0].as_slice(),
-        ),
-        (
-            Value::Text(Bytes::of(b"hi".as_slice().to_vec(alloc)?)),
-            [2, 0, 2, b'h', b'i'].as_slice(),
-        ),
-        (
-            Value::Text(Bytes::of(Vec::new(alloc))),
-            [2, 0, 0].as_slice(),
-        ),
-    ] {
-        let mut longer = bytes.to_vec(alloc)?;
-        longer.push(7)?;
-        assert!(rt; Value::read(alloc, longer.as_slice()) == Ok((value, bytes.len())));
-    }
-    Ok(())
-}
+/// Bytes that are no value, and where they are at fault.
+const FAULTS: &[(&[u8], usize)] = &[
+    (&[], 0),
+    (&[3], 0),
+    (&[255], 0),
+    (&[1], 1),
+    (&[1, 0, 0, 0, 0, 0, 0, 0], 1),
+    (&[2], 1),
+    (&[2, 0], 1),
+    (&[2, 3, 233], 1),
+    (&[2, 3, 232], 3),
+    (&[2, 0, 2, 1], 3),
+];
 
 #[test]
 fn places_of_value_faults(rt: HostRuntime) {
     let alloc = rt.alloc();
-    for (bytes, at) in [
-        ([].as_slice(), 0),
-        ([3u8].as_slice(), 0),
-        ([255].as_slice(), 0),
-        ([1].as_slice(), 1),
-        ([1, 0, 0, 0, 0, 0, 0, 0].as_slice(), 1),
-        ([2].as_slice(), 1),
-        ([2, 0].as_slice(), 1),
-        ([2, 3, 233].as_slice(), 1),
-        ([2, 3, 232].as_slice(), 3),
-        ([2, 0, 2, 1].as_slice(), 3),
-    ] {
-        assert!(rt; Value::read(alloc, bytes) == Err(ValueFault::Form(at)));
+    for (bytes, at) in FAULTS {
+        assert!(rt; Value::read(alloc, bytes) == Err(ValueFault::Form(*at)));
     }
 }
 

@@ -5,6 +5,7 @@ pub mod LookLemmas
 pub mod MapLemmas
 pub mod ObjectLemmas
 pub mod ReachLemmas
+pub mod RisingLemmas
 pub mod ScanLemmas
 pub mod SettledLemmas
 pub mod StableLemmas

@@ -77,6 +77,18 @@ pub record IsKept (m : List Mark) (settled : Settled) (tracks : Tracked) : Type 
   pub keeps : Keeps m settled tracks
   pub in_range : AreMarks m
 
+-- ---- versions that rise
+
+-- the time is above the start of the newest of these versions, if there is one
+abbrev pub tops : List Version → TimeParts → Bool
+tops [] x = true
+tops (v ∷ vs) x = lt v.start x
+
+-- each version starts above the one before it
+unfoldable pub rising : List Version → Bool
+rising [] = true
+rising (v ∷ vs) = tops vs v.start && rising vs
+
 -- ---- looking up
 
 -- the value of a Put

@@ -24,8 +24,9 @@ use value_form::{ObjectId, Value};
 
 /// Histories that are kept in memory whole. Contracts see the marks, newest first.
 ///
-/// A call costs at most the versions of its object, and adding a mark what it takes to find its
-/// object or its stamp.
+/// A call goes from the newest version of its object to the first that answers. Where the object's
+/// starts rise, it meets none below that; else it may meet them all. Adding a mark costs what it takes
+/// to find its object or its stamp.
 #[derive(Drop)]
 pub struct PlainHistories {
     /// Oldest first.
@@ -235,6 +236,9 @@ impl PlainHistories {
         for version in track.versions().iter().rev() {
             if version.start.is_same(start) && self.has_value(version.mark, value) {
                 return true;
+            }
+            if track.rises() && version.start.is_before(start) {
+                return false;
             }
         }
         false

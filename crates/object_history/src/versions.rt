@@ -1,4 +1,4 @@
-ghost use Rattle.std.specs.Prelude.{◌≡◌, OnOk, OnErr, Some};
+ghost use Rattle.std.specs.Prelude.{◌≡◌, OnOk, OnErr, Some, true, reverse};
 ghost use Rattle.std.specs.Option.{option_copied};
 ghost use Rattle.object_history.specs.History.{top};
 ghost use Rattle.object_history.specs.Kept as kept;
@@ -51,15 +51,66 @@ fn is_living(settles: &Settles, end: &Option<PseudoTime>, start: PseudoTime) -> 
     is_below && settles.get(start.stamp()).unwrap_or(true)
 }
 
+// Whether the start is above the other start, if there is one.
+fn is_past(other: &Option<PseudoTime>, start: PseudoTime) -> bool
+    ensures { result ≡ kept.is_past other.now start }
+{
+    match other {
+        Some(other) => other.is_before(start),
+        None => true,
+    }
+}
+
 // Whether a version with this start is above the other start, if there is one, and committed.
 fn is_firm(settles: &Settles, other: &Option<PseudoTime>, start: PseudoTime) -> bool
     ensures { result ≡ kept.is_firm settles.now other.now start }
 {
-    let is_past = match other {
-        Some(other) => other.is_before(start),
+    is_past(other, start) && settles.get(start.stamp()).unwrap_or(false)
+}
+
+// Whether the time is above the start of the last of these versions, if there is one.
+fn is_on_top(versions: &[Version], time: PseudoTime) -> bool
+    ensures { result ≡ kept.tops (reverse versions.now) time }
+{
+    match versions.split_last() {
+        Some((newest, _)) => newest.start.is_before(time),
         None => true,
-    };
-    is_past && settles.get(start.stamp()).unwrap_or(false)
+    }
+}
+
+// The last version that isn't dead, of those that start below the end, if there is one: where starts
+// rise, the first that is met from the newest on.
+fn newest_living<'a>(
+    versions: &'a [Version],
+    settles: &Settles,
+    end: &Option<PseudoTime>,
+) -> Option<&'a Version>
+    requires { kept.rising (reverse versions.now) ≡ true }
+    ensures { option_copied result ≡ kept.last_of (kept.is_living settles.now end.now) (reverse versions.now) }
+{
+    for version in versions.iter().rev() {
+        if is_living(settles, end, version.start) {
+            return Some(version);
+        }
+    }
+    None
+}
+
+// The same, whatever the order of starts: all versions are looked at.
+fn greatest_living<'a>(
+    versions: &'a [Version],
+    settles: &Settles,
+    end: &Option<PseudoTime>,
+) -> Option<&'a Version>
+    ensures { option_copied result ≡ kept.last_of (kept.is_living settles.now end.now) (reverse versions.now) }
+{
+    let mut last: Option<&Version> = None;
+    for version in versions.iter().rev() {
+        if takes_over(last, version.start) && is_living(settles, end, version.start) {
+            last = Some(version);
+        }
+    }
+    last
 }
 
 /// The versions of one object, oldest first, and how far its origin was read. Contracts see the
@@ -68,20 +119,23 @@ fn is_firm(settles: &Settles, other: &Option<PseudoTime>, start: PseudoTime) -> 
 pub struct Track {
     origin: Option<PseudoTime>,
     versions: Vec<Version>,
+    /// Each version starts above the one before it.
+    rises: bool,
 }
 
 impl Model for Track {
-    ghost use Rattle.std.specs.Prelude.{reverse};
-    ghost use Rattle.object_history.specs.Kept.{TrackParts};
+    ghost use Rattle.std.specs.Prelude.{◌≡◌, reverse};
+    ghost use Rattle.object_history.specs.Kept.{TrackParts, rising};
 
     ghost Value = { TrackParts };
 
     ghost view = { λ t. record { origin = t.origin; versions = reverse t.versions.items } };
+
+    ghost invariant = { λ t. t.rises ≡ rising (reverse t.versions.items) };
 }
 
 impl Track {
-    ghost use Rattle.std.specs.Prelude.{reverse};
-    ghost use Rattle.object_history.specs.Kept.{empty_track, with_version, with_end, last_of, some_version};
+    ghost use Rattle.object_history.specs.Kept.{empty_track, with_version, with_end, last_of, some_version, rising};
 
     /// No versions, and an origin that was never read.
     pub fn new(alloc: Global) -> Track
@@ -90,6 +144,7 @@ impl Track {
         Track {
             origin: None,
             versions: Vec::new(alloc),
+            rises: true,
         }
     }
 
@@ -105,7 +160,9 @@ impl Track {
             start,
             end: None,
         };
+        let rises = self.rises && is_on_top(self.versions.as_slice(), start);
         self.versions.push(version)?;
+        self.rises = rises;
         Ok(())
     }
 
@@ -123,17 +180,23 @@ impl Track {
         self.versions.as_slice()
     }
 
+    /// Whether each version starts above the one before it.
+    pub fn rises(&self) -> bool
+        ensures { result ≡ rising self.now.versions }
+    {
+        self.rises
+    }
+
     /// The last version that isn't dead, of those that start below the end, if there is one.
     pub fn last(&self, settles: &Settles, end: &Option<PseudoTime>) -> Option<&Version>
         ensures { option_copied result ≡ last_of (kept.is_living settles.now end.now) self.now.versions }
     {
-        let mut last: Option<&Version> = None;
-        for version in self.versions.iter().rev() {
-            if takes_over(last, version.start) && is_living(settles, end, version.start) {
-                last = Some(version);
-            }
+        let versions = self.versions.as_slice();
+        if self.rises {
+            newest_living(versions, settles, end)
+        } else {
+            greatest_living(versions, settles, end)
         }
-        last
     }
 
     /// Whether a committed version starts above the other start, or there is one at all.
@@ -143,6 +206,9 @@ impl Track {
         for version in self.versions.iter().rev() {
             if is_firm(settles, other, version.start) {
                 return true;
+            }
+            if self.rises && !is_past(other, version.start) {
+                return false;
             }
         }
         false

@@ -6,6 +6,7 @@ pub mod MadeLemmas
 pub mod MakingLemmas
 pub mod NoPlanLemmas
 pub mod NumberLemmas
+pub mod PlanRangeLemmas
 pub mod PlanTextLemmas
 pub mod ScriptReadLemmas
 pub mod TermLemmas

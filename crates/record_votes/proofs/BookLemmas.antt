@@ -8,8 +8,8 @@ use Rattle.std.specs.declared.cmp.Ordering.{Ordering}
 use Rattle.std.specs.declared.cmp.Ordering.TheVariants.{Less, Equal, Greater}
 use Rattle.std.proofs.lemmas.Bool.{true≢false, false≢true}
 use Rattle.pseudo_time.specs.Lists.{Every}
-use Rattle.repository_core.specs.Hearing.{is_due, expiry_of, expiries}
-use Rattle.repository_core.proofs.ExpiryLemmas.{sorted-expiries}
+use Rattle.repository_log.specs.Expiries.{is_due, expiry_of, expiries}
+use Rattle.repository_log.proofs.ExpiryLemmas.{sorted-expiries}
 use Rattle.std.specs.Borrow.{Bor}
 use Rattle.std.specs.Option.{option_copied}
 use Rattle.std.specs.declared.snapshot.Snapshot.{Snapshot}
@@ -24,12 +24,10 @@ use Rattle.commit_record.specs.declared.states.RecordState.{RecordState}
 use Rattle.commit_record.specs.declared.states.RecordState.TheVariants.{Unknown, Decided}
 use Rattle.commit_record.specs.States.{States, begun, settled, listed_at, begin_step}
 use Rattle.object_history.specs.History.{or_else}
-use Rattle.repository_log.specs.Logs.{marks, first_begin, decision_of, record_from, record_of, known, begun as begun_stamps}
-use Rattle.repository_core.specs.Logs.{began, began_by, IsUnknown}
-use Rattle.repository_core.specs.Lookups.{Agrees, restored, early_or}
+use Rattle.repository_log.specs.Logs.{marks, first_begin, decision_of, record_from, record_of, known, begun as begun_stamps, began, began_by, IsUnknown}
+use Rattle.repository_log.specs.Lookups.{Agrees, restored, early_or}
 use Rattle.repository_log.proofs.LogLemmas.{from-begin, from-none, from-unknown, record-decide}
-use Rattle.repository_core.proofs.OpenLemmas.{opened-agrees}
-use Rattle.repository_core.proofs.SettleLemmas.{agree-begin, agree-decide}
+use Rattle.repository_log.proofs.AgreeLemmas.{opened-agrees, agree-begin, agree-decide}
 use Rattle.record_votes.specs.Members.{own, book, decides}
 use Rattle.repository_log.specs.Opening.{AreRecords, AreEarly}
 use Rattle.record_votes.specs.Books.{IsBook, settled_all}

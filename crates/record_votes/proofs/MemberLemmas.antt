@@ -18,12 +18,12 @@ use Rattle.commit_record.specs.declared.states.RecordState.{RecordState}
 use Rattle.commit_record.specs.declared.states.RecordState.TheVariants.{Unknown, Decided}
 use Rattle.repository_log.specs.Logs.{record_of, record_from, first_begin, decision_of, begun}
 use Rattle.pseudo_time.specs.Nodes.{is_broker}
-use Rattle.repository_core.specs.Hearing.{is_due, expiry_of, expiries}
+use Rattle.repository_log.specs.Expiries.{is_due, expiry_of, expiries}
 use Rattle.repository_log.proofs.LogLemmas.{from-unknown, from-decided}
 use Rattle.record_votes.specs.Members.{book, Given, quiet, owed, begin_by, close_by, row, on_message, on_moment, decides}
 use Rattle.record_votes.proofs.LogLemmas.{voted, book-voted, IsNew, new-voted, Single}
 use Rattle.record_votes.proofs.BookLemmas.{first-of, second-of, apart-stamps}
-use Rattle.repository_core.proofs.ExpiryLemmas.{sorted-expiries}
+use Rattle.repository_log.proofs.ExpiryLemmas.{sorted-expiries}
 use Rattle.pseudo_time.specs.Order.{same_stamp}
 use Rattle.pseudo_time.proofs.OrderLemmas.{same_stamp-is, same_stamp-self}
 use Rattle.std.specs.FinMap.Entries.{is_sorted, below_all}

@@ -13,7 +13,7 @@ use Rattle.commit_record.specs.declared.states.RecordState.{RecordState}
 use Rattle.commit_record.specs.declared.states.RecordState.TheVariants as state
 use Rattle.repository_log.specs.Logs.{record_of}
 use Rattle.pseudo_time.specs.Nodes.{is_broker}
-use Rattle.repository_core.specs.Hearing.{expiries}
+use Rattle.repository_log.specs.Expiries.{expiries}
 
 -- the Begins and Decides of a log; a member goes by nothing else
 abbrev pub own : List Effect → List Effect

@@ -2,7 +2,7 @@ ghost use Rattle.std.specs.Prelude.{◌≡◌, ◌+◌, ◌++◌, ◌≤◌, ◌
 ghost use Rattle.message_form.specs.Messages.{IsMessage, IsTimeout};
 ghost use Rattle.turn_form.specs.Ranges.{IsEffect, AreEffects, AreOuts};
 ghost use Rattle.repository_log.specs.Logs.{record_of};
-ghost use Rattle.repository_core.specs.Hearing.{expiries};
+ghost use Rattle.repository_log.specs.Expiries.{expiries};
 ghost use Rattle.record_votes.specs.Members as rules;
 ghost use Rattle.record_votes.specs.Books.{given};
 

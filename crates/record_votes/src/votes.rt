@@ -3,8 +3,8 @@ ghost use Rattle.effect_form.specs.declared.effects.Effect.TheVariants as effect
 ghost use Rattle.commit_record.specs.declared.states.RecordState.TheVariants as record_state;
 ghost use Rattle.commit_record.specs.States.{listed_at, begun};
 ghost use Rattle.repository_log.specs.Logs.{record_of};
-ghost use Rattle.repository_core.specs.Lookups.{restored};
-ghost use Rattle.repository_core.specs.Hearing.{expiries};
+ghost use Rattle.repository_log.specs.Lookups.{restored};
+ghost use Rattle.repository_log.specs.Expiries.{expiries};
 ghost use Rattle.record_votes.specs.Members.{book, decides};
 ghost use Rattle.turn_form.specs.Ranges.{AreEffects};
 ghost use Rattle.record_votes.specs.Books.{settled_all};

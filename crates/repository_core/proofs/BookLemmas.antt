@@ -16,8 +16,10 @@ use Rattle.object_history.specs.declared.steps.WriteStep.{WriteStep}
 use Rattle.object_history.specs.declared.steps.WriteStep.TheVariants as write
 use Rattle.object_history.specs.History.{settle_of}
 use Rattle.object_history.specs.Answers.{after_read, after_write}
-use Rattle.repository_core.specs.Logs.{first_begin, decision_of, read_by, wrote}
-use Rattle.repository_core.specs.Lookups.{Agrees, Begins, Since}
+use Rattle.repository_core.specs.Logs.{read_by, wrote}
+use Rattle.repository_log.specs.Logs.{first_begin, decision_of}
+use Rattle.repository_core.specs.Calls.{Begins, Since}
+use Rattle.repository_log.specs.Lookups.{Agrees}
 
 -- ---- the histories in a call
 

@@ -24,14 +24,15 @@ use Rattle.commit_record.specs.declared.states.RecordState.TheVariants.{Unknown,
 use Rattle.commit_record.specs.States.{listed_at}
 use Rattle.object_history.specs.Answers.{read_step}
 use Rattle.repository_core.specs.declared.waits.Held.{Held}
-use Rattle.repository_core.specs.Logs.{first_begin, decision_of, record_of, marks, known, begun, IsUnknown, HasSameRecords}
+use Rattle.repository_log.specs.Logs.{first_begin, decision_of, record_of, marks, known, begun, IsUnknown, HasSameRecords}
 use Rattle.repository_core.specs.Hands.{Hand, now, note, send, HasSameLog}
 use Rattle.pseudo_time.specs.Nodes.{repository}
 use Rattle.repository_core.specs.Rows.{unhold, read_as, read_known, on_read, reread, release, tell_askers}
-use Rattle.repository_core.specs.Hearing.{is_due, due, expiry_of, expiries, expired, expire_as, expire, expire_all, waited, asks, ask_again, on_moment}
+use Rattle.repository_core.specs.Hearing.{expired, expire_as, expire, expire_all, waited, asks, ask_again, on_moment}
+use Rattle.repository_log.specs.Expiries.{is_due, due, expiry_of, expiries}
 use Rattle.repository_log.proofs.LogLemmas.{unknown-unsettled}
 use Rattle.repository_core.proofs.RowLemmas.{now-read, record-by, tell-now}
-use Rattle.repository_core.proofs.ExpiryLemmas.{sorted-expiries}
+use Rattle.repository_log.proofs.ExpiryLemmas.{sorted-expiries}
 
 -- ---- a read, and all that is set free, changes no record
 

@@ -1,6 +1,6 @@
 -- What a row of the rules makes of the log.
 use Rattle.std.proofs.Common.{◌≡◌, ◌≤◌, ◌<◌, ◌+◌, subst, get_or, length, drop, ℕ, Bool, true, false, List, [], ◌∷◌, refl, sym, ◌∙◌, ap}
-use Rattle.std.specs.Prelude.{Some, None, ◌==◌, ◌||◌, if◌then◌else◌}
+use Rattle.std.specs.Prelude.{Some, None, ◌==◌, ◌||◌, if◌then◌else◌, not}
 use Rattle.pseudo_time.specs.StampParts.{StampParts}
 use Rattle.pseudo_time.specs.TimeParts.{TimeParts}
 use Rattle.pseudo_time.specs.declared.nodes.NodeId.{NodeId}
@@ -14,14 +14,14 @@ use Rattle.object_history.specs.declared.steps.WriteStep.{WriteStep}
 use Rattle.object_history.specs.declared.steps.WriteStep.TheVariants as write
 use Rattle.repository_core.specs.declared.waits.Held.{Held}
 use Rattle.repository_core.specs.declared.waits.Asker.{Asker}
-use Rattle.std.specs.Prelude.{not}
 use Rattle.std.proofs.lemmas.List.{drop_all, drop_more}
 use Rattle.std.specs.List.{filter}
 use Rattle.pseudo_time.specs.Order.{same_stamp}
 use Rattle.effect_form.specs.declared.effects.Effect.TheVariants as effect
 use Rattle.object_history.specs.Answers.{read_step}
 use Rattle.repository_core.specs.Ranges.{AreHeld}
-use Rattle.repository_core.specs.Logs.{first_begin, decision_of, marks, known, read_by, wrote, HasSameRecords}
+use Rattle.repository_core.specs.Logs.{read_by, wrote}
+use Rattle.repository_log.specs.Logs.{first_begin, decision_of, marks, known, HasSameRecords}
 use Rattle.repository_core.specs.Hands.{Hand, now, note, send, HasSameLog}
 use Rattle.pseudo_time.specs.Nodes.{repository}
 use Rattle.repository_core.specs.Rows.{unhold, hold, waits_for, read_as, read_known, on_read, write_as, reread, release, learn_as, on_learn, tells, tell_askers}

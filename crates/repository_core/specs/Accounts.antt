@@ -7,7 +7,8 @@ use Rattle.object_history.specs.declared.marks.Mark.{Mark}
 use Rattle.object_history.specs.declared.steps.HistoryFault.{HistoryFault}
 use Rattle.repository_core.specs.declared.books.Books.{Books}
 use Rattle.repository_core.specs.Hands.{Hand}
-use Rattle.repository_core.specs.Lookups.{Agrees, Since, IsCaused}
+use Rattle.repository_core.specs.Calls.{Since, IsCaused}
+use Rattle.repository_log.specs.Lookups.{Agrees}
 
 -- what they look up agrees with the log, but for the records whose expiry isn't noted yet
 abbrev pub AgreeBut : {H : Type 0} {g : _} → (H → List Mark) → List (StampParts × Decision) → List Effect → Books H g → Type 0

@@ -8,7 +8,7 @@ use Rattle.turn_form.specs.declared.turns.Turn.{Turn}
 use Rattle.turn_form.specs.Ranges.{AreEffects, AreOuts}
 use Rattle.repository_core.specs.Hands.{Mind}
 pub use Rattle.repository_log.specs.Logs.{HasMarks}
-use Rattle.repository_core.specs.Lookups.{Begins}
+use Rattle.repository_core.specs.Calls.{Begins}
 use Rattle.repository_core.specs.Turns.{Given}
 
 -- What a core is without its histories: the repository's number, its log, oldest first, and what it remembers. It is whole

@@ -1,41 +1,20 @@
 -- What a repository does when it hears a moment: records expire, and it asks again for what its reads wait for.
-use Rattle.std.specs.Prelude.{ℕ, nat_le, Bool, false, List, [], ◌∷◌, Option, Some, None, map, ◌==◌, if◌then◌else◌}
-use Rattle.std.specs.List.{filter}
+use Rattle.std.specs.Prelude.{ℕ, nat_le, false, List, [], ◌∷◌, Option, Some, None, ◌==◌, if◌then◌else◌}
 use Rattle.std.specs.BTreeSet.{insert_key}
 use Rattle.pseudo_time.specs.StampParts.{StampParts, stamp_cmp}
 use Rattle.pseudo_time.specs.TimeParts.{TimeParts}
 use Rattle.pseudo_time.specs.declared.decisions.Decision.{Decision}
 use Rattle.pseudo_time.specs.declared.decisions.Decision.TheVariants as decision
-use Rattle.effect_form.specs.declared.effects.Effect.{Effect}
 use Rattle.effect_form.specs.declared.effects.Effect.TheVariants as effect
 use Rattle.message_form.specs.declared.messages.Message.TheVariants as message
 use Rattle.commit_record.specs.declared.states.RecordState.{RecordState}
 use Rattle.commit_record.specs.declared.states.RecordState.TheVariants as state
 use Rattle.repository_core.specs.declared.waits.Held.{Held}
-use Rattle.repository_core.specs.Logs.{record_of, begun}
+use Rattle.repository_log.specs.Logs.{record_of}
+use Rattle.repository_log.specs.Expiries.{due}
 use Rattle.repository_core.specs.Hands.{Hand, now, note, send}
 use Rattle.pseudo_time.specs.Nodes.{repository}
 use Rattle.repository_core.specs.Rows.{release, tell_askers}
-
--- a record that is unknown expires at the first moment that isn't below its deadline
-abbrev pub is_due : ℕ → Option RecordState → Bool
-is_due m None = false
-is_due m (Some (state.Unknown t)) = nat_le t m
-is_due m (Some (state.Decided d)) = false
-
--- the attempts whose records expire at this moment, in the order of their stamps
-abbrev pub due : ℕ → List Effect → List StampParts
-due m l = filter (λ s. is_due m (record_of l s)) (begun l)
-
--- by what decision a record expires at this moment
-abbrev pub expiry_of : ℕ → Option RecordState → Decision
-expiry_of m None = decision.Withdrawn
-expiry_of m (Some (state.Unknown t)) = decision.Expired t m
-expiry_of m (Some (state.Decided d)) = d
-
--- those attempts, each with the decision by which it expires
-abbrev pub expiries : ℕ → List Effect → List (StampParts × Decision)
-expiries m l = map (λ s. (s, expiry_of m (record_of l s))) (due m l)
 
 -- one after the other expires, without being asked again
 abbrev pub expired : List (StampParts × Decision) → Hand → Hand

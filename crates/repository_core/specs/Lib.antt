@@ -1,9 +1,9 @@
 pub mod Accounts
+pub mod Calls
 pub mod Cores
 pub mod Hands
 pub mod Hearing
 pub mod Logs
-pub mod Lookups
 pub mod Ranges
 pub mod Rows
 pub mod Turns

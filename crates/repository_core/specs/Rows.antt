@@ -25,7 +25,7 @@ use Rattle.object_history.specs.History.{is_settled}
 use Rattle.object_history.specs.Answers.{read_step, write_step, stands_written}
 use Rattle.repository_core.specs.declared.waits.Held.{Held}
 use Rattle.repository_core.specs.declared.waits.Asker.{Asker}
-use Rattle.repository_core.specs.Logs.{is_commit, marks, known, record_of}
+use Rattle.repository_log.specs.Logs.{is_commit, marks, known, record_of}
 use Rattle.repository_core.specs.Hands.{Hand, now, note, send, asker_cmp}
 use Rattle.pseudo_time.specs.Nodes.{repository, is_repository, is_broker}
 

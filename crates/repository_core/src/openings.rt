@@ -1,6 +1,6 @@
 ghost use Rattle.std.specs.Prelude.{◌≡◌, ◌≤◌, ◌^◌, [], IfOk, reverse};
-ghost use Rattle.repository_core.specs.Logs.{marks};
-ghost use Rattle.repository_core.specs.Lookups.{Agrees};
+ghost use Rattle.repository_log.specs.Logs.{marks};
+ghost use Rattle.repository_log.specs.Lookups.{Agrees};
 
 use crate::drafts::Draft;
 use commit_record::Records;

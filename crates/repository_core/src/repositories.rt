@@ -1,7 +1,7 @@
 ghost use Rattle.std.specs.Prelude.{◌≡◌, ◌≤◌, ◌^◌, true, IsTrue, IfOk, IfErr, reverse};
 ghost use Rattle.message_form.specs.Messages.{IsMessage};
 ghost use Rattle.repository_core.specs.Cores.{HasMarks, IsCalled, given};
-ghost use Rattle.repository_core.specs.Logs.{known};
+ghost use Rattle.repository_log.specs.Logs.{known};
 ghost use Rattle.repository_core.specs.Turns.{gives, opened_mind, Taking, Learning, Hearing};
 
 use crate::books::Books;
@@ -185,8 +185,8 @@ impl Model for RepositoryRest {
     ghost use Rattle.std.specs.Prelude.{◌≡◌, true, reverse, []};
     ghost use Rattle.repository_core.specs.Turns.{mind_of};
     ghost use Rattle.repository_core.specs.Cores.{CoreState};
-    ghost use Rattle.repository_core.specs.Logs.{marks};
-    ghost use Rattle.repository_core.specs.Lookups.{Agrees};
+    ghost use Rattle.repository_log.specs.Logs.{marks};
+    ghost use Rattle.repository_log.specs.Lookups.{Agrees};
 
     ghost Value = { CoreState };
 

@@ -12,9 +12,10 @@ ghost use Rattle.commit_record.specs.States.{listed_at};
 ghost use Rattle.object_history.specs.History.{settle_of};
 ghost use Rattle.object_history.specs.Answers.{read_step, write_step, stands_written};
 ghost use Rattle.object_history.specs.declared.steps.WriteStep.{WriteStep};
-ghost use Rattle.repository_core.specs.Logs.{is_commit, marks, record_of, HasSameRecords, IsUnknown};
+ghost use Rattle.repository_log.specs.Logs.{is_commit, marks, record_of, HasSameRecords, IsUnknown};
 ghost use Rattle.repository_core.specs.Hands.{now, note, send, HasSameLog};
 ghost use Rattle.repository_core.specs.Rows as rows;
+ghost use Rattle.repository_log.specs.Expiries.{expiries};
 ghost use Rattle.repository_core.specs.Hearing as hearing;
 
 use crate::books::Books;
@@ -403,7 +404,7 @@ impl<H: Histories> Work<H> {
         ensures fault { IfErr result (HaveFault H.tells H.faults H.damage self.new.books) }
         ensures call { AreOfOneCall self.old.books self.new.books }
         ensures log { OnOk result (HasSameLog self.old.draft self.new.draft) }
-        ensures gives { IsTrue H.tells → OnOk result (self.new.draft ≡ hearing.expired (hearing.expiries moment (now self.old.draft)) self.old.draft) }
+        ensures gives { IsTrue H.tells → OnOk result (self.new.draft ≡ hearing.expired (expiries moment (now self.old.draft)) self.old.draft) }
     {
         let due = self.books.hear(moment)?;
         for (stamp, decision) in &due {

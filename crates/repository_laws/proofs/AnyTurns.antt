@@ -31,7 +31,8 @@ use Rattle.repository_core.specs.declared.waits.Held.{Held}
 use Rattle.repository_core.specs.declared.waits.Asker.{Asker}
 use Rattle.repository_core.specs.Hands.{Hand, Mind, note, now, send}
 use Rattle.pseudo_time.specs.Nodes.{broker, repository}
-use Rattle.repository_core.specs.Hearing.{ask_again, asks, due, expire, expire_all, expire_as, on_moment, waited}
+use Rattle.repository_core.specs.Hearing.{ask_again, asks, expire, expire_all, expire_as, on_moment, waited}
+use Rattle.repository_log.specs.Expiries.{due}
 use Rattle.repository_core.specs.Logs.{is_commit, known, marks, record_of}
 use Rattle.repository_core.specs.Rows.{accepts, ask_as, begin_as, close_as, hold, is_broker_of, learn_as, on_ask, on_begin, on_close, on_learn, on_message, on_read, on_write, read_as, read_known, release, reread, row, tell_askers, tells, unhold, waits_for, write_as}
 use Rattle.repository_core.specs.Turns.{hand_at}

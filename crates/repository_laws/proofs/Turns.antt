@@ -36,7 +36,8 @@ use Rattle.pseudo_time.specs.Lists.{Every, Has}
 use Rattle.pseudo_time.specs.Order.{same_stamp}
 use Rattle.repository_core.specs.Hands.{Hand, asker_cmp, note, now, send}
 use Rattle.pseudo_time.specs.Nodes.{broker, repository, is_broker, is_repository}
-use Rattle.repository_core.specs.Hearing.{ask_again, asks, due, expire, expire_all, expire_as, on_moment, waited}
+use Rattle.repository_core.specs.Hearing.{ask_again, asks, expire, expire_all, expire_as, on_moment, waited}
+use Rattle.repository_log.specs.Expiries.{due}
 use Rattle.repository_core.specs.Logs.{is_commit, known, marks, record_of}
 use Rattle.repository_core.specs.Rows.{accepts, ask_as, begin_as, close_as, hold, is_broker_of, learn_as, on_ask, on_begin, on_close, on_learn, on_message, on_read, on_write, read_as, read_known, release, reread, row, tell_askers, tells, unhold, waits_for, write_as}
 use Rattle.repository_core.proofs.HeldLemmas.{every-filter, every-remove}

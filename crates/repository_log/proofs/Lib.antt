@@ -1,3 +1,5 @@
+pub mod AgreeLemmas
+pub mod ExpiryLemmas
 pub mod LogLemmas
 pub mod MarkLemmas
 pub mod OpenLemmas

@@ -1,2 +1,4 @@
+pub mod Expiries
 pub mod Logs
+pub mod Lookups
 pub mod Opening

@@ -128,3 +128,19 @@ with_begun (Some e) all = insert_key stamp_cmp all e.0
 abbrev pub begun : List Effect → List StampParts
 begun [] = []
 begun (f ∷ l) = with_begun (begun_by f) (begun l)
+
+-- every commit record stays as it was
+abbrev pub HasSameRecords : List Effect → List Effect → Type 0
+HasSameRecords old new = (s : StampParts) → record_of new s ≡ record_of old s
+
+-- the attempt's record is unknown
+abbrev pub IsUnknown : List Effect → StampParts → Type 0
+IsUnknown l s = (t : ℕ) × (record_of l s ≡ Some (state.Unknown t))
+
+-- the log after a Begin: it is added where there is no record
+abbrev pub began_by : Option RecordState → List Effect → StampParts → ℕ → List Effect
+began_by None l s d = Begin s d ∷ l
+began_by (Some r) l s d = l
+
+abbrev pub began : List Effect → StampParts → ℕ → List Effect
+began l s d = began_by (record_of l s) l s d

@@ -1,3 +1,4 @@
+pub mod Keys
 pub mod Meaning
 pub mod Names
 pub mod Operations

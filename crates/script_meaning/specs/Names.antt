@@ -4,9 +4,13 @@ use Rattle.std.specs.Cmp.Lexicographic.{pointwise}
 use Rattle.value_form.specs.declared.values.Value.{Value}
 use Rattle.value_form.specs.declared.values.Value.TheVariants.{Nothing}
 
--- each name that was set, with its value, in the order in which they were first set
+-- a name that was set, with its value
+abbrev pub SetName : Type 0
+SetName = List ℕ × Value
+
+-- each name that was set, in the order in which they were first set
 abbrev pub Names : Type 0
-Names = List (List ℕ × Value)
+Names = List SetName
 
 -- a name never set is Nothing
 abbrev pub name_value : Names → List ℕ → Value

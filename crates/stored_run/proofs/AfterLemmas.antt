@@ -1,7 +1,6 @@
 -- The marks of the log that a run leaves, and the attempts that it begins.
-use Rattle.std.proofs.Common.{◌≡◌, ℕ, Bool, true, false, List, [], ◌∷◌, ◌++◌, reverse, refl, sym, ◌∙◌, ap, map, if◌then◌else◌, Option, Some, None}
+use Rattle.std.proofs.Common.{◌≡◌, ℕ, Bool, true, false, List, [], ◌∷◌, ◌++◌, reverse, refl, sym, ◌∙◌, ap, map, if◌then◌else◌, Option, Some, None, arith}
 use Rattle.std.specs.Prelude.{◌+◌, ◌<◌, ◌≤◌, nat_lt, length}
-use Rattle.std.proofs.Common.{arith}
 use Rattle.std.proofs.lemmas.Bool.{cond-true, lt-ltb}
 use Rattle.std.proofs.lemmas.List.{append_assoc, append-nil, reverse-append}
 use Rattle.pseudo_time.specs.StampParts.{StampParts}
@@ -20,7 +19,7 @@ use Rattle.serial_run.specs.Attempts.{deeds}
 use Rattle.object_history.specs.declared.marks.Mark.{Mark}
 use Rattle.object_history.specs.declared.marks.Mark.TheVariants as mark
 use Rattle.object_history.specs.History.{settle_of, is_settled}
-use Rattle.repository_core.specs.Logs.{marks, is_commit}
+use Rattle.repository_log.specs.Logs.{marks, is_commit}
 use Rattle.stored_run.specs.Attempts.{begun, attempts_in}
 use Rattle.stored_run.specs.Growth.{Grown, with_line, with_lines, stretch_if, stretch_mark_if, stretches}
 use Rattle.stored_run.specs.Logs.{starters, withdrawn, withdrawn_marks}

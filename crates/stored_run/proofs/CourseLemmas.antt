@@ -11,7 +11,7 @@ use Rattle.value_form.specs.declared.transcripts.Line.{Line}
 use Rattle.value_form.specs.Objects.{Objects}
 use Rattle.effect_form.specs.declared.effects.Effect.{Effect}
 use Rattle.object_history.specs.declared.marks.Mark.{Mark}
-use Rattle.repository_core.specs.Logs.{marks}
+use Rattle.repository_log.specs.Logs.{marks}
 use Rattle.report_writer.specs.declared.records.ActReport.{ActReport}
 use Rattle.pseudo_time.specs.declared.down_causes.DownCause.{DownCause}
 use Rattle.pseudo_time.specs.declared.down_causes.DownCause.TheVariants as down

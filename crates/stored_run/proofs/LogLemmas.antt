@@ -14,7 +14,7 @@ use Rattle.effect_form.specs.declared.effects.Effect.{Effect}
 use Rattle.effect_form.specs.declared.effects.Effect.TheVariants.{Put, Stretch, Begin, Decide, Learn, Run, Act, Try, Got, Acked, End}
 use Rattle.object_history.specs.declared.marks.Mark.{Mark}
 use Rattle.object_history.specs.History.{settle_of, is_settled}
-use Rattle.repository_core.specs.Logs.{marks}
+use Rattle.repository_log.specs.Logs.{marks}
 use Rattle.stored_run.specs.Logs.{last_clock, starters, withdrawn_marks}
 use Rattle.stored_run.specs.Kept.{kept_map}
 use Rattle.stored_run.specs.Standing.{EachStart, ClocksTo, IsQuiet}

@@ -15,7 +15,7 @@ use Rattle.serial_model.specs.Questions.{IsFrontOf}
 use Rattle.serial_run.specs.Attempts.{deed}
 use Rattle.object_history.specs.declared.marks.Mark.{Mark}
 use Rattle.object_history.specs.declared.marks.Mark.TheVariants as mark
-use Rattle.repository_core.specs.Logs.{marks}
+use Rattle.repository_log.specs.Logs.{marks}
 use Rattle.report_writer.specs.declared.records.TryOutcome.{TryOutcome}
 use Rattle.report_writer.specs.declared.records.TryOutcome.TheVariants as outcome
 use Rattle.report_writer.specs.declared.records.TryReport.{TryReport}

@@ -7,7 +7,7 @@ use Rattle.version_store.specs.Storage.{storage}
 use Rattle.version_store.specs.declared.faults.OpenFault.{OpenFault}
 use Rattle.version_store.specs.declared.faults.OpenFault.TheVariants as opening
 use Rattle.version_store.specs.declared.faults.StoreFault.TheVariants as store
-use Rattle.repository_core.specs.Logs.{marks}
+use Rattle.repository_log.specs.Logs.{marks}
 use Rattle.stored_run.specs.Kept.{kept_map}
 use Rattle.stored_run.specs.Media.{Stops}
 use Rattle.stored_run.specs.Runs.{withdrawals}

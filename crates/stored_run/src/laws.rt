@@ -1,7 +1,7 @@
 ghost use Rattle.std.specs.Prelude.{◌≡◌, ◌+◌, ◌≤◌, ℕ, [], ◌∷◌, ◌++◌, List, Some, length, map, reverse};
 ghost use Rattle.value_form.specs.declared.acts.ActSpec.{ActSpec};
 ghost use Rattle.effect_form.specs.declared.effects.Effect.{Effect};
-ghost use Rattle.repository_core.specs.Logs.{marks};
+ghost use Rattle.repository_log.specs.Logs.{marks};
 ghost use Rattle.serial_run.specs.Attempts.{deeds};
 ghost use Rattle.stored_run.specs.Attempts.{begun, attempts_in};
 ghost use Rattle.stored_run.specs.Runs.{Stand, script_of, next_of, stamp_of, report_of, effects_of, after, reports_of, left_by, opened, effects_over};

@@ -2,7 +2,7 @@
 ghost use Rattle.std.specs.Prelude.{◌≡◌, ◌≤◌, ◌^◌, ◌<◌, [], ◌∷◌, List, Some, IfOk, IfSome, OnOk, max, reverse};
 ghost use Rattle.effect_form.specs.declared.effects.Effect.{Effect};
 ghost use Rattle.object_history.specs.Ranges.{AreMarks, IsMark};
-ghost use Rattle.repository_core.specs.Logs.{marks};
+ghost use Rattle.repository_log.specs.Logs.{marks};
 ghost use Rattle.effect_form.specs.Effects.{IsEffect, AreEffects};
 ghost use Rattle.stored_run.specs.Logs as spec;
 

@@ -29,7 +29,8 @@ use Rattle.repository_core.specs.Logs.{is_commit, marks, known, record_of}
 use Rattle.repository_core.specs.Hands.{Hand, now, note, send}
 use Rattle.pseudo_time.specs.Nodes.{repository}
 use Rattle.repository_core.specs.Rows.{unhold, hold, waits_for, ask_for, read_as, read_known, on_read, reread, release, tells, tell_askers, begin_as, on_begin, close_as, on_close, write_as, on_write, ask_as, on_ask, learn_as, on_learn, accepts, row, on_message}
-use Rattle.repository_core.specs.Hearing.{expire_as, expire, expire_all, due, waited, asks, ask_again, on_moment}
+use Rattle.repository_core.specs.Hearing.{expire_as, expire, expire_all, waited, asks, ask_again, on_moment}
+use Rattle.repository_log.specs.Expiries.{due}
 
 module _ (P : TimeParts → WriteStep → Type 0) where
   -- of a refusal P holds

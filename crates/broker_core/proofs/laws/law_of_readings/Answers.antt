@@ -1,5 +1,4 @@
 use Rattle.broker_core.proofs.ReadingLemmas.{printable-apart, reads-own, reads-all}
-use Rattle.broker_core.proofs.ScriptRangeLemmas.{printable-InRange}
 use Rattle.broker_core.proofs.laws.law_of_readings.Goals as goal
 
 pub returns-clause-apart : goal.returns-clause-apart
@@ -10,6 +9,3 @@ returns-clause-own c = reads-own
 
 pub returns-clause-among : goal.returns-clause-among
 returns-clause-among c = reads-all
-
-pub returns-clause-range : goal.returns-clause-range
-returns-clause-range c = printable-InRange

@@ -1,5 +1,5 @@
 use Rattle.std.proofs.Common.{reverse}
-use Rattle.repository_core.proofs.OpenLemmas.{opened-agrees}
+use Rattle.repository_log.proofs.AgreeLemmas.{opened-agrees}
 use Rattle.repository_core.proofs.openings.open_books.Goals as goal
 
 pub returns-clause-agreed : goal.returns-clause-agreed

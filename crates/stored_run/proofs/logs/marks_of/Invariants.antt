@@ -1,6 +1,6 @@
 use Rattle.std.proofs.Common.{◌≡◌, reverse, take}
 use Rattle.object_history.specs.Ranges.{AreMarks}
-use Rattle.repository_core.specs.Logs.{marks}
+use Rattle.repository_log.specs.Logs.{marks}
 use Rattle.stored_run.proofs.logs.marks_of.Given as goal
 
 -- those of the log so far

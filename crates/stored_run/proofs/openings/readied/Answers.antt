@@ -1,5 +1,5 @@
 use Rattle.std.proofs.Common.{reverse, ap, ◌∙◌}
-use Rattle.repository_core.specs.Logs.{marks}
+use Rattle.repository_log.specs.Logs.{marks}
 use Rattle.stored_run.specs.Kept.{kept_map}
 use Rattle.stored_run.specs.Logs.{last_clock, starters, withdrawn_marks}
 use Rattle.stored_run.proofs.LogLemmas.{opened-quiet, quiet-so}

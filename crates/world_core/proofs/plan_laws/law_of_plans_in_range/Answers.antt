@@ -1,5 +1,6 @@
+use Rattle.plan_form.proofs.PlanRangeLemmas.{whole-names}
 use Rattle.world_core.proofs.OneReading.{own-reading}
-use Rattle.world_core.proofs.PlanRangeLemmas.{plan-AreActs, plan-own_acts, whole-names, whole-scripts}
+use Rattle.world_core.proofs.PlanRangeLemmas.{plan-AreActs, plan-own_acts, whole-scripts}
 use Rattle.world_core.proofs.plan_laws.law_of_plans_in_range.Goals as goal
 
 pub returns-clause-acts : goal.returns-clause-acts

@@ -1,7 +1,7 @@
 use Rattle.std.proofs.Common.{ap, ◌∙◌}
 use Rattle.commit_record.specs.States.{expiry}
 use Rattle.repository_log.specs.Logs.{record_of}
-use Rattle.repository_core.proofs.ExpiryLemmas.{expiries-are}
+use Rattle.repository_log.proofs.ExpiryLemmas.{expiries-are}
 use Rattle.record_votes.specs.Members.{book}
 use Rattle.record_votes.proofs.votes.Votes.due.Goals as goal
 

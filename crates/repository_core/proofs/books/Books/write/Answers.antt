@@ -1,7 +1,7 @@
 use Rattle.std.proofs.Common.{List, subst, sym}
 use Rattle.object_history.specs.declared.marks.Mark.{Mark}
 use Rattle.repository_core.specs.Logs.{wrote}
-use Rattle.repository_core.specs.Lookups.{Agrees}
+use Rattle.repository_log.specs.Lookups.{Agrees}
 use Rattle.repository_core.proofs.BookLemmas.{since_write, agree-write}
 use Rattle.repository_core.proofs.books.Books.write.Goals as goal
 

@@ -3,7 +3,7 @@ use Rattle.effect_form.specs.declared.effects.Effect.{Effect}
 use Rattle.message_form.specs.declared.messages.Message.TheVariants as message
 use Rattle.repository_core.specs.Accounts.{AgreeBut}
 use Rattle.repository_core.specs.Hands.{Hand, now, send}
-use Rattle.repository_core.specs.Logs.{is_commit}
+use Rattle.repository_log.specs.Logs.{is_commit}
 use Rattle.repository_core.specs.Rows.{release, tell_askers}
 use Rattle.repository_core.proofs.RowLemmas.{tell-now, tell-log}
 use Rattle.repository_core.proofs.works.Work.close.Goals as goal

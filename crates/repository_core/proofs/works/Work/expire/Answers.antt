@@ -7,7 +7,7 @@ use Rattle.effect_form.specs.declared.effects.Effect.TheVariants as effect
 use Rattle.commit_record.specs.States.{listed_at}
 use Rattle.repository_core.specs.Accounts.{AgreeBut}
 use Rattle.repository_core.specs.Hands.{Hand, now, note}
-use Rattle.repository_core.specs.Logs.{record_of, IsUnknown}
+use Rattle.repository_log.specs.Logs.{record_of, IsUnknown}
 use Rattle.repository_core.specs.Rows.{release}
 use Rattle.repository_core.proofs.RowLemmas.{tell-now, tell-log}
 use Rattle.repository_core.proofs.works.Work.expire.Goals as goal

@@ -5,7 +5,8 @@ use Rattle.pseudo_time.specs.Lists.{Every}
 use Rattle.object_history.specs.History.{settle_of}
 use Rattle.repository_core.specs.Accounts.{AgreeBut}
 use Rattle.repository_core.specs.Hands.{now}
-use Rattle.repository_core.specs.Hearing.{expiries, expired}
+use Rattle.repository_core.specs.Hearing.{expired}
+use Rattle.repository_log.specs.Expiries.{expiries}
 use Rattle.repository_core.proofs.BookLemmas.{since_same}
 use Rattle.repository_core.proofs.HearLemmas.{IsPending, Apart, expiries-pending, expiries-apart, still-pending, next-is, listed-apart, pending-unknown, pending-unsettled}
 use Rattle.repository_core.proofs.works.Work.expire_all.Goals as goal

@@ -2,7 +2,8 @@ use Rattle.std.proofs.Common.{List, [], subst, sym, ap, ◌∙◌}
 use Rattle.effect_form.specs.declared.effects.Effect.{Effect}
 use Rattle.repository_core.specs.Accounts.{AgreeBut}
 use Rattle.repository_core.specs.Hands.{Hand, now}
-use Rattle.repository_core.specs.Hearing.{expired, expiries, ask_again}
+use Rattle.repository_core.specs.Hearing.{expired, ask_again}
+use Rattle.repository_log.specs.Expiries.{expiries}
 use Rattle.repository_core.proofs.HearLemmas.{again-now, again-log, hearing-listed}
 use Rattle.repository_core.proofs.works.Work.on_moment.Goals as goal
 

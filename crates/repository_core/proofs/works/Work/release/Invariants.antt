@@ -3,7 +3,7 @@ use Rattle.std.specs.Prelude.{IsTrue}
 use Rattle.pseudo_time.specs.StampParts.{StampParts}
 use Rattle.pseudo_time.specs.declared.decisions.Decision.{Decision}
 use Rattle.repository_core.specs.Accounts.{AgreeBut, AreSince, AreOfOneCall}
-use Rattle.repository_core.specs.Logs.{HasSameRecords}
+use Rattle.repository_log.specs.Logs.{HasSameRecords}
 use Rattle.repository_core.specs.Hands.{now, HasSameLog}
 use Rattle.repository_core.specs.Ranges.{AreHeld}
 use Rattle.repository_core.specs.Rows.{reread}

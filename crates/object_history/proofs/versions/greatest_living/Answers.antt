@@ -2,8 +2,8 @@ use Rattle.std.proofs.Common.{rules, ◌≡◌, reverse, true, false, refl, sym,
 use Rattle.std.specs.Option.{option_copied}
 use Rattle.object_history.specs.Kept.{is_living, last_of}
 use Rattle.object_history.proofs.LookLemmas.{last-step, last-done}
-use Rattle.object_history.proofs.versions.Track.last.Goals as goal
-use Rattle.object_history.proofs.versions.Track.last.Goals.{else-takes_over-via-then-takes_over+else-is_living, else-takes_over-via-else-takes_over}
+use Rattle.object_history.proofs.versions.greatest_living.Goals as goal
+use Rattle.object_history.proofs.versions.greatest_living.Goals.{else-takes_over-via-then-takes_over+else-is_living, else-takes_over-via-else-takes_over}
 
 pub loop-version-preserved-then-is_living : goal.loop-version-preserved-then-is_living
 loop-version-preserved-then-is_living c =
@@ -25,6 +25,6 @@ loop-version-preserved c =
 pub returns : goal.returns
 returns c =
     let ok = is_living c.args.settles.now c.args.end.now in
-    let same : c.into_iter-version-iterator.result.iter.rest.now ≡ c.self.inside.versions.items = search rules in
+    let same : c.into_iter-version-iterator.result.iter.rest.now ≡ c.args.versions.now = search rules in
     last-done ok (option_copied c.loop-version.last) c.loop-version.version-iterator.iter.rest.now _ c.in-None.ensures.steps.0 c.loop-version.invariant
-    ∙ ap (λ vs. last_of ok (reverse vs)) same ∙ ap (λ t. last_of ok t.versions) c.self.view_is
+    ∙ ap (λ vs. last_of ok (reverse vs)) same

@@ -1,7 +1,7 @@
 use Rattle.std.proofs.Common.{◌≡◌, reverse}
 use Rattle.std.specs.Option.{option_copied}
 use Rattle.object_history.specs.Kept.{is_living, joined, last_of}
-use Rattle.object_history.proofs.versions.Track.last.Given as goal
+use Rattle.object_history.proofs.versions.greatest_living.Given as goal
 
 -- what was found above the versions that are left, or else among them
 abbrev pub invariant-loop-version : goal.invariant-loop-version

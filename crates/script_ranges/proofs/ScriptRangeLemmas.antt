@@ -9,7 +9,7 @@ use Rattle.statement_form.specs.Rows.{Numbered, on, step_rows, rows}
 use Rattle.statement_form.specs.RowTexts.{SpotInLimits, RowInLimits, next_line}
 use Rattle.script_form.specs.Printable.{Rising, RowsInLimits, IsPrintable}
 use Rattle.serial_model.specs.Ranges.{IsLine, TermInRange, SpotInRange, StepInRange, BlockInRange}
-use Rattle.broker_core.proofs.TextByteLemmas.{passing-IsBytes}
+use Rattle.script_ranges.proofs.TextByteLemmas.{passing-IsBytes}
 
 -- a row on a line of a script, with what is in its limits
 abbrev RowFits : Numbered → Type 0

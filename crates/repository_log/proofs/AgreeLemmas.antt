@@ -1,4 +1,4 @@
--- What is looked up agrees with the log also after a Begin, a Decide, a Learn and an expiry.
+-- What is looked up agrees with the log as that was read, and after a Begin, a Decide, a Learn and an expiry.
 use Rattle.std.proofs.Common.{◌≡◌, ◌≢◌, ℕ, Bool, true, false, List, [], ◌∷◌, refl, sym, ◌∙◌, ap, subst, cond}
 use Rattle.std.specs.Prelude.{Option, Some, None, if◌then◌else◌}
 use Rattle.std.specs.FinMap as finite
@@ -16,10 +16,25 @@ use Rattle.commit_record.specs.States.{States, begin_step, begun, begun_at, sett
 use Rattle.object_history.specs.declared.marks.Mark.{Mark}
 use Rattle.object_history.specs.declared.marks.Mark.TheVariants.{Settle}
 use Rattle.object_history.specs.History.{or_else, settle_of}
-use Rattle.repository_core.specs.Logs.{is_commit, told, known, first_begin, decision_of, record_from, record_of, began, began_by}
-use Rattle.repository_core.specs.Lookups.{Agrees, early_or, pending_or, restored}
+use Rattle.repository_log.specs.Logs.{is_commit, told, known, first_begin, decision_of, record_from, record_of, marks, began, began_by}
+use Rattle.repository_log.specs.Lookups.{Agrees, early_or, pending_or, restored}
+use Rattle.repository_log.specs.Opening.{AreRecords, AreEarly}
 use Rattle.repository_log.proofs.OpenLemmas.{get-put}
-use Rattle.repository_log.proofs.LogLemmas.{undecided, from-unknown, from-begin, from-none, record-begin, record-decide, record-learn}
+use Rattle.repository_log.proofs.LogLemmas.{known-decision, commits, undecided, from-unknown, from-begin, from-none, record-begin, record-decide, record-learn}
+
+-- ---- a log that was read
+
+early-is : (v : Option Decision) → v ≡ early_or v (commits v)
+early-is None = refl
+early-is (Some d) = refl
+
+-- at the end of the log
+pub opened-agrees : (l : List Effect) (r : States) (e : List (StampParts × Decision)) → AreRecords l r → AreEarly l e → Agrees [] l (marks l) r e
+opened-agrees l r e h k = record {
+  marked = refl;
+  recorded = h;
+  remembered = λ s none. early-is (decision_of l s) ∙ ap (λ z. early_or z (commits (decision_of l s))) (sym (k s none)) ∙ ap (λ z. early_or (listed_at e s) z) (sym (known-decision l s));
+}
 
 -- ---- the map of records
 

@@ -1,8 +1,7 @@
--- What a repository looks up, beside its log; and its histories in a call.
-use Rattle.std.specs.Prelude.{◌≡◌, ℕ, ◌≤◌, Bool, IsTrue, List, ◌++◌, Option, Some, None}
+-- What is looked up beside a log, in place of reading it. Logs stand newest first.
+use Rattle.std.specs.Prelude.{◌≡◌, Bool, List, Option, Some, None}
 use Rattle.std.specs.FinMap as finite
 use Rattle.std.specs.Option.{option_map}
-use Rattle.stream_port.specs.Causes.{Rose}
 use Rattle.pseudo_time.specs.StampParts.{StampParts}
 use Rattle.pseudo_time.specs.declared.decisions.Decision.{Decision}
 use Rattle.effect_form.specs.declared.effects.Effect.{Effect}
@@ -10,11 +9,7 @@ use Rattle.commit_record.specs.declared.states.RecordState.{RecordState}
 use Rattle.commit_record.specs.declared.states.RecordState.TheVariants as state
 use Rattle.commit_record.specs.States.{States, listed_at, settled}
 use Rattle.object_history.specs.declared.marks.Mark.{Mark}
-use Rattle.object_history.specs.declared.steps.HistoryFault.{HistoryFault}
-use Rattle.object_history.specs.declared.steps.HistoryFault.TheVariants as fault
-use Rattle.repository_core.specs.Logs.{marks, known, first_begin, decision_of, told, record_of}
-
--- ---- what is looked up
+use Rattle.repository_log.specs.Logs.{marks, known, first_begin, decision_of, told, record_of}
 
 abbrev pub early_or : Option Decision → Option Bool → Option Decision
 early_or (Some d) c = Some d
@@ -37,23 +32,3 @@ pub record Agrees (pending : List (StampParts × Decision)) (log : List Effect) 
 abbrev pub restored : Option Decision → States → StampParts → States
 restored None records s = records
 restored (Some d) records s = settled records s d
-
--- ---- histories in a call
-
--- the content goes on from the old one
-pub record Begins (old new : List Mark) : Type 0 where
-  pub more : List Mark
-  pub grown : new ≡ more ++ old
-
--- since the call began, the content went on, what lies below stayed, and the counts didn't fall
-pub record Since {H B : Type 0} (content : H → List Mark) (below : H → B) (faults damage : H → ℕ) (first now : H) : Type 0 where
-  pub begins : Begins (content first) (content now)
-  pub stays : below now ≡ below first
-  pub faults_stay : faults first ≤ faults now
-  pub damage_stays : damage first ≤ damage now
-
--- a fault of the histories has its cause in this call, and histories that tell have no damage
-abbrev pub IsCaused : {H : Type 0} → Bool → (H → ℕ) → (H → ℕ) → H → H → HistoryFault → Type 0
-IsCaused tells faults damage first now fault.Medium = Rose (faults first) (faults now)
-IsCaused tells faults damage first now (fault.Damaged page) = Rose (damage first) (damage now) × (IsTrue tells → ⊥)
-IsCaused tells faults damage first now fault.NoMemory = Unit {0}

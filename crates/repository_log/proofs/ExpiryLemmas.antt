@@ -21,8 +21,8 @@ use Rattle.effect_form.specs.declared.effects.Effect.{Effect}
 use Rattle.effect_form.specs.declared.effects.Effect.TheVariants.{Begin}
 use Rattle.commit_record.specs.States.{listed_at, expiry}
 use Rattle.object_history.specs.History.{or_else}
-use Rattle.repository_core.specs.Logs.{first_begin, decision_of, record_from, record_of, begun}
-use Rattle.repository_core.specs.Hearing.{is_due, due, expiry_of, expiries}
+use Rattle.repository_log.specs.Logs.{first_begin, decision_of, record_from, record_of, begun}
+use Rattle.repository_log.specs.Expiries.{is_due, due, expiry_of, expiries}
 
 both : (a b : Bool) → T a → T b → T (a && b)
 both true b p q = q
