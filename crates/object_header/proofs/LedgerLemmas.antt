@@ -6,7 +6,7 @@ use Rattle.std.specs.Ordering.{nat_cmp, ordering_then, is_eq}
 use Rattle.std.specs.declared.cmp.Ordering.{Ordering}
 use Rattle.std.specs.declared.cmp.Ordering.TheVariants.{Less, Equal, Greater}
 use Rattle.std.proofs.lemmas.Grind.{common_steps}
-use Rattle.std.proofs.lemmas.List.{reverse-append, take_at, map-append}
+use Rattle.std.proofs.lemmas.List.{reverse-append, take_at, map-append, append_cancel_right}
 use Rattle.std.proofs.lemmas.Bool.{false≢true, true≢false}
 use Rattle.pseudo_time.specs.TimeParts.{TimeParts}
 use Rattle.value_form.specs.declared.objects.ObjectId.{ObjectId}
@@ -21,7 +21,7 @@ use Rattle.object_history.specs.Ranges.{AreMarks, IsMark}
 use Rattle.object_header.specs.Odd.{kept_of}
 use Rattle.object_header.specs.Heads.{Headed, head_at, first_put}
 use Rattle.object_header.specs.Ledgers.{LedgerParts, content, odd_in, IsIndexed, IsLedger}
-use Rattle.repository_log.specs.Logs.{marks, mark_of}
+use Rattle.repository_log.specs.Logs.{HasMarks, marks, mark_of}
 use Rattle.repository_log.proofs.MarkLemmas.{marks-append}
 use Rattle.object_header.specs.Marks.{added, is_here, mark_put}
 
@@ -178,3 +178,13 @@ map-pushed value xs ys s t pushed is = ap (map value) pushed ∙ map-append valu
 pub content-flushed : (old new : LedgerParts) (effects : List Effect) → marks (reverse effects) ≡ old.late → new.log ≡ old.log ++ effects → new.late ≡ [] → content new ≡ content old
 content-flushed old new effects late longer empty =
     ap (λ z. z ++ marks (reverse new.log)) empty ∙ ap (λ l. marks (reverse l)) longer ∙ marks-more old.log effects ∙ ap (λ z. z ++ marks (reverse old.log)) late
+
+-- what the histories grew by since nothing was late is late
+pub late-grown : (old new : LedgerParts) (effects : List Effect) → old.late ≡ [] → new.log ≡ old.log → content new ≡ marks (reverse effects) ++ content old → marks (reverse effects) ≡ new.late
+late-grown old new effects none same grown =
+    append_cancel_right (marks (reverse effects)) new.late (marks (reverse new.log))
+    (ap (λ l. marks (reverse effects) ++ marks (reverse l)) same ∙ ap (λ z. marks (reverse effects) ++ (z ++ marks (reverse old.log))) (sym none) ∙ sym grown)
+
+-- what the log goes on by is late
+pub late-of_log : (l : LedgerParts) (effects : List Effect) → HasMarks (content l) (l.log ++ effects) → marks (reverse effects) ≡ l.late
+late-of_log l effects has = append_cancel_right (marks (reverse effects)) l.late (marks (reverse l.log)) (sym (marks-more l.log effects) ∙ sym has)

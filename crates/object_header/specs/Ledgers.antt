@@ -51,3 +51,7 @@ pub record IsLedger (l : LedgerParts) : Type 0 where
 pub record BeneathParts : Type 0 where
   pub log : List Effect
   pub left : ℕ
+
+-- that of a ledger with so many pages left
+abbrev pub beneath : LedgerParts → ℕ → BeneathParts
+beneath l left = record { log = l.log; left = left }

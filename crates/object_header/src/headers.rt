@@ -32,11 +32,11 @@ use version_store::{FetchFault, Store, StoreFault};
 /// has. No values are kept in memory but those that aren't in the store yet.
 #[derive(Drop)]
 pub struct HeaderTable<M: Medium> {
-    pub alloc: Global,
-    pub ledger: Ledger,
-    pub store: Store<M>,
+    pub(crate) alloc: Global,
+    pub(crate) ledger: Ledger,
+    pub(crate) store: Store<M>,
     /// A call of the medium has failed, so that nothing is fetched any more.
-    pub failed: bool,
+    pub(crate) failed: bool,
     pub ghost sound: { failed ≡ M.is_failed (medium_of store) },
     pub ghost stored: { IsTrue M.tells → effects_in M.reads store ≡ ledger.log },
 }
@@ -137,7 +137,7 @@ impl<M: Medium> HeaderTable<M> {
     }
 
     // The start and the value of the newest version that passes, late or stored.
-    pub fn first(
+    fn first(
         &mut self,
         object: ObjectId,
         limit: &Limit,
@@ -167,7 +167,7 @@ impl<M: Medium> HeaderTable<M> {
     }
 
     // What a read answers.
-    pub fn answer(&mut self, object: ObjectId, at: PseudoTime) -> Result<ReadStep, HistoryFault>
+    pub(crate) fn answer(&mut self, object: ObjectId, at: PseudoTime) -> Result<ReadStep, HistoryFault>
         requires object { IsObject object }
         ensures answer { IsTrue M.tells → IfOk result (λ s. s ≡ read_step (content (ledger_of self.old)) object at) }
         ensures in_range { IfOk result IsReadStep }
@@ -190,7 +190,7 @@ impl<M: Medium> HeaderTable<M> {
     }
 
     // Whether a version that isn't dead has this start and value.
-    pub fn stands_there(
+    pub(crate) fn stands_there(
         &mut self,
         object: ObjectId,
         start: PseudoTime,

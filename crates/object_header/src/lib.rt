@@ -7,6 +7,7 @@ mod headers;
 mod heads;
 mod indexes;
 mod keeping;
+mod laws;
 mod ledgers;
 mod limits;
 mod maps;
@@ -17,3 +18,4 @@ mod walks;
 
 pub use beneath::Beneath;
 pub use headers::HeaderTable;
+pub use laws::late_marks;

@@ -1,7 +1,7 @@
 ghost use Rattle.std.specs.Prelude.{◌≡◌};
 ghost use Rattle.version_store.specs.StoreWords.{medium_of, left_in, damage_in};
 ghost use Rattle.object_history.specs.Kept as kept;
-ghost use Rattle.object_header.specs.Ledgers.{content};
+ghost use Rattle.object_header.specs.Ledgers.{beneath, content};
 
 use crate::beneath::Beneath;
 use crate::headers::HeaderTable;
@@ -23,7 +23,7 @@ impl<M: Medium> Histories for HeaderTable<M> {
 
     ghost damage = { λ t. damage_in (store_of t) };
 
-    ghost below = { λ t. record { log = (ledger_of t).log; left = left_in (store_of t) } };
+    ghost below = { λ t. beneath (ledger_of t) (left_in (store_of t)) };
 
     fn read(&mut self, object: ObjectId, at: PseudoTime) -> Result<ReadStep, HistoryFault> {
         let step = self.answer(object, at)?;

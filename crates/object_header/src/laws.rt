@@ -1,0 +1,13 @@
+ghost use Rattle.std.specs.Prelude.{◌≡◌, [], ◌++◌, ℕ, List, reverse};
+ghost use Rattle.effect_form.specs.declared.effects.Effect.{Effect};
+ghost use Rattle.repository_log.specs.Logs.{HasMarks, marks};
+ghost use Rattle.object_header.specs.Ledgers.{LedgerParts, beneath, content};
+
+/// A law: where histories grew by the marks of these effects since their table was made or flushed,
+/// and what lies below them stayed, the marks that aren't stored yet are just those. So what each
+/// call of histories says is enough for `flush`. The same holds where the histories have the marks
+/// of the store's log with these effects.
+pub fn late_marks()
+    ensures grown { (old new : LedgerParts) (before left : ℕ) (effects : List Effect) → old.late ≡ [] → beneath new left ≡ beneath old before → content new ≡ marks (reverse effects) ++ content old → marks (reverse effects) ≡ new.late }
+    ensures logged { (l : LedgerParts) (effects : List Effect) → HasMarks (content l) (l.log ++ effects) → marks (reverse effects) ≡ l.late }
+{}
