@@ -11,7 +11,8 @@ use pseudo_time::{PseudoTime, Stamp};
 use std::alloc::{AllocError, Global};
 use value_form::{ObjectId, Value};
 
-fn object(number: u32) -> ObjectId
+/// An object of repository 1.
+pub fn object(number: u32) -> ObjectId
     ensures { IsObject result }
 {
     ObjectId {
@@ -39,8 +40,8 @@ fn push_attempt(
     Ok(())
 }
 
-// The marks of so many attempts over so many objects.
-fn marks(alloc: Global, attempts: u32, objects: u32) -> Result<Vec<Mark>, AllocError>
+/// The marks of so many attempts over so many objects.
+pub fn marks(alloc: Global, attempts: u32, objects: u32) -> Result<Vec<Mark>, AllocError>
     ensures { IfOk result (λ v. AreMarks v.items) }
 {
     let mut marks = Vec::new(alloc);
@@ -53,8 +54,12 @@ fn marks(alloc: Global, attempts: u32, objects: u32) -> Result<Vec<Mark>, AllocE
     Ok(marks)
 }
 
-// What the object holds at a time.
-fn held(histories: &mut PlainHistories, number: u32, at: PseudoTime) -> Result<i64, HistoryFault> {
+/// What the object holds at a time.
+pub fn held<H: Histories>(
+    histories: &mut H,
+    number: u32,
+    at: PseudoTime,
+) -> Result<i64, HistoryFault> {
     match histories.read(object(number), at)? {
         ReadStep::Answer {
             value: Value::Number(number),

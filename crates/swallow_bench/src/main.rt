@@ -5,6 +5,7 @@
 mod brokers;
 mod faults;
 mod flights;
+mod headers;
 mod histories;
 mod media;
 mod records;
@@ -20,11 +21,13 @@ use std::io::ErrorKind;
 use std::process::ExitCode;
 
 /// Each bench with small numbers, as words behind one another.
-const SMALL: [&str; 8] = [
+const SMALL: [&str; 10] = [
     "media . 8",
     "stores memory 3 16",
     "records 10 5",
     "histories 100 4",
+    "headers memory 12 4 8 1",
+    "headers plain 12 4 8 1",
     "flights 1000",
     "scripts statements 100",
     "brokers 3 2 2",
@@ -38,6 +41,7 @@ fn timed(alloc: Global, rt: &HostRuntime, name: &str, words: &[String]) -> Resul
         "stores" => stores::timed(alloc, rt, words),
         "records" => records::timed(alloc, words),
         "histories" => histories::timed(alloc, words),
+        "headers" => headers::timed(alloc, rt, words),
         "flights" => flights::timed(alloc, words),
         "scripts" => scripts::timed(alloc, words),
         "brokers" => brokers::timed(alloc, words),
