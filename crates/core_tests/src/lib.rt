@@ -25,3 +25,5 @@ mod runs;
 mod stories;
 #[cfg(test)]
 mod traces;
+#[cfg(test)]
+mod wires;
