@@ -12,6 +12,7 @@ mod scripts;
 mod stores;
 mod texts;
 mod traces;
+mod wires;
 
 use faults::Fault;
 use std::alloc::{AllocError, Global};
@@ -20,7 +21,7 @@ use std::io::ErrorKind;
 use std::process::ExitCode;
 
 /// Each bench with small numbers, as words behind one another.
-const SMALL: [&str; 8] = [
+const SMALL: [&str; 9] = [
     "media . 8",
     "stores memory 3 16",
     "records 10 5",
@@ -29,6 +30,7 @@ const SMALL: [&str; 8] = [
     "scripts statements 100",
     "brokers 3 2 2",
     "traces 1000 2",
+    "wires 1000",
 ];
 
 // What the bench of this name finds.
@@ -42,6 +44,7 @@ fn timed(alloc: Global, rt: &HostRuntime, name: &str, words: &[String]) -> Resul
         "scripts" => scripts::timed(alloc, words),
         "brokers" => brokers::timed(alloc, words),
         "traces" => traces::timed(alloc, words),
+        "wires" => wires::timed(alloc, words),
         _ => Err(Fault::Words),
     }
 }
