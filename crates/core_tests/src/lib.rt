@@ -1,10 +1,6 @@
-//! Tests of histories, records, copies on their way, scripts, cores and what is read off traces.
+//! Tests of what nodes are made of: histories, records, copies on their way, scripts and reports.
 #![tactic(auto)]
 
-#[cfg(test)]
-mod broker_logs;
-#[cfg(test)]
-mod brokers;
 #[cfg(test)]
 mod flights;
 #[cfg(test)]
@@ -20,12 +16,4 @@ mod records;
 #[cfg(test)]
 mod reports;
 #[cfg(test)]
-mod repositories;
-#[cfg(test)]
 mod runs;
-#[cfg(test)]
-mod stories;
-#[cfg(test)]
-mod traces;
-#[cfg(test)]
-mod votes;

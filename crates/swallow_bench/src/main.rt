@@ -13,6 +13,7 @@ mod scripts;
 mod stores;
 mod texts;
 mod traces;
+mod wires;
 
 use faults::Fault;
 use std::alloc::{AllocError, Global};
@@ -21,7 +22,7 @@ use std::io::ErrorKind;
 use std::process::ExitCode;
 
 /// Each bench with small numbers, as words behind one another.
-const SMALL: [&str; 10] = [
+const SMALL: [&str; 11] = [
     "media . 8",
     "stores memory 3 16",
     "records 10 5",
@@ -32,6 +33,7 @@ const SMALL: [&str; 10] = [
     "scripts statements 100",
     "brokers 3 2 2",
     "traces 1000 2",
+    "wires 1000",
 ];
 
 // What the bench of this name finds.
@@ -46,6 +48,7 @@ fn timed(alloc: Global, rt: &HostRuntime, name: &str, words: &[String]) -> Resul
         "scripts" => scripts::timed(alloc, words),
         "brokers" => brokers::timed(alloc, words),
         "traces" => traces::timed(alloc, words),
+        "wires" => wires::timed(alloc, words),
         _ => Err(Fault::Words),
     }
 }

@@ -37,38 +37,38 @@ module _ (told : Bool) (o : Origin) (s s' : Story) (sent : List Sent) (asked : L
   abbrev w : World
   w = walk (base_from o) s.entries.items
 
-  -- THE BROKER GOES
+  -- the broker goes
   pub go-more : (n : NodeId) → HasOneMore s s' (Go n) → (w.flags n).up ≡ true → is_broker n.kind ≡ true → (w.flags n).gone ≡ false
       → IsSound told (parts_with o s' sent asked answers flight false) s'.nodes.entries s'.ticks s'.last
   go-more n more up broker fresh = sound-left told o s s' (Go n) sent asked answers flight broken h more whole (record { sends = λ v. refl; last = λ l. refl; moments = refl }) (record { taken = λ l. refl; ticks = λ k. refl; up = refl })
       (λ t. record { up = up; broker = broker; fresh = fresh })
 
-  -- A NODE HEARS
+  -- a node hears
   pub hear-more : (n : NodeId) → HasOneMore s s' (Hear n) → (w.flags n).up ≡ true → is_behind w n ≡ true
       → IsSound told (parts_with o s' sent asked answers flight false) s'.nodes.entries s'.ticks s'.last
   hear-more n more up behind = sound-left told o s s' (Hear n) sent asked answers flight broken h more whole (record { sends = λ v. refl; last = λ l. refl; moments = refl }) (record { taken = λ l. refl; ticks = λ k. refl; up = refl })
       (λ t. record { up = up; some = (behind-parts w n behind).0; behind = (behind-parts w n behind).1 })
 
-  -- A REPOSITORY LEARNS
+  -- a repository learns
   pub learn-more : (n : NodeId) (stamp : StampParts) (committed : Bool) → HasOneMore s s' (Learn n stamp committed) → (w.flags n).up ≡ true → is_broker n.kind ≡ false → (IsTrue told → Stands w stamp committed)
       → IsSound told (parts_with o s' sent asked answers flight false) s'.nodes.entries s'.ticks s'.last
   learn-more n stamp committed more up repository stands = sound-left told o s s' (Learn n stamp committed) sent asked answers flight broken h more whole (record { sends = λ v. refl; last = λ l. refl; moments = refl }) (record { taken = λ l. refl; ticks = λ k. refl; up = refl })
       (λ t. record { up = up; repository = repository; stands = stands t })
 
-  -- A NODE STOPS AND IS OPENED AGAIN
+  -- a node stops and is opened again
   pub crash-more : (n : NodeId) (kept : ℕ) → HasOneMore s s' (Crash n kept) → (w.flags n).up ≡ true → (IsTrue told → kept ≤ length (w.life n).fresh)
       → IsSound told (parts_with o s' sent asked answers flight false) s'.nodes.entries s'.ticks s'.last
   crash-more n kept more up most = sound-left told o s s' (Crash n kept) sent asked answers flight broken h more whole (record { sends = λ v. refl; last = λ l. refl; moments = refl }) (record { taken = λ l. refl; ticks = λ k. refl; up = refl })
       (λ t. record { up = up; most = most t })
 
-  -- A NODE STOPS FOR GOOD
+  -- a node stops for good
   pub down-more : (n : NodeId) (cause : DownCause) (after : FlightParts) → HasOneMore s s' (Down n cause) → (w.flags n).up ≡ true → (w.moved ≡ false → unwrap_or (opened_log o.opened n) [] ≡ []) → state_of after ≡ was_shut (state_of flight) n
       → IsSound told (parts_with o s' sent asked answers after false) s'.nodes.entries s'.ticks s'.last
   down-more n cause after more up none flew = sound-still told o s s' (Down n cause) sent asked answers flight broken h more after whole (record { sends = λ v. refl; last = λ l. refl; moments = refl })
       (λ t. record { up = up; none = none })
       (λ marks tied. subst (λ (x : State). IsTied x (step b w (Down n cause)) sent marks) (sym flew) (tied-down b w sent marks (state_of flight) n cause (λ m. up-known w s.nodes.entries s.ticks s.last h.fits m) tied))
 
-  -- A COPY IS TAKEN
+  -- a copy is taken
   take-rule : IsTrue told → (n : NodeId) (number : ℕ) (rest : List ℕ) → (w.flags n).up ≡ true → HasGone w n → is_behind w n ≡ false → waiting (state_of flight) n ≡ number ∷ rest → MayTake (fates_of sent) w n number
   take-rule t n number rest up gone behind front =
       let f : IsFlown told (parts_with o s sent asked answers flight broken) = h.flown whole in
@@ -95,7 +95,7 @@ module _ (told : Bool) (o : Origin) (s s' : Story) (sent : List Sent) (asked : L
       (λ t. take-rule t n number cut.0 up gone behind cut.1)
       (λ marks tied. subst (λ (x : State). IsTied x (step b w (Take n number)) sent marks) (sym flew) (tied-take b w sent marks (state_of flight) n number cut.0 cut.1 tied))
 
-  -- TIME PASSES
+  -- time passes
   last-is : unwrap_or w.last o.start ≡ unwrap_or s.last o.start
   last-is = ap (λ x. unwrap_or x o.start) h.fits.last
 

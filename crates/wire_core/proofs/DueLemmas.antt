@@ -78,7 +78,7 @@ module _ (s : State) (w : World) (sent : List Sent) (marks : List Marked) (t : I
   fate-of k m at = numbered-to (λ (x : Sent). x.fate) sent k m.sent (ap (λ l. numbered l k) t.sent_are ∙ numbered-to sent_of marks k m at)
 
   module _ (walked : w.sendings ≡ map posted marks) where
-    -- AN EMPTY QUEUE: all due copies were taken
+    -- an empty queue: all due copies were taken
     pub took-all : (n : NodeId) → waiting s n ≡ [] → is_some (s.queues n) ≡ true → TookAll (fates_of sent) w n
     took-all n none some k x here to =
         let m : (m : Marked) × (numbered marks k ≡ Some m) × (posted m ≡ x) = numbered-from posted marks k x (ap (λ l. numbered l k) (sym walked) ∙ here) in
@@ -104,7 +104,7 @@ module _ (s : State) (w : World) (sent : List Sent) (marks : List Marked) (t : I
             let took : times_taken w k ≡ copies_of h.0 = h.2 (omega (arith, ripe, hold)) in
             omega (arith, copies, less, took))
 
-  -- WHAT ARRIVES was sent
+  -- what arrives was sent
   pub is-copy : AllInRange (map post_of sent) → (n : NodeId) (a : Arrival) → IsFront s n a → IsCopyOf (map post_of sent) n a
   is-copy ranges n a front =
       numbered-before (map post_of sent) a.number front.from_one

@@ -11,7 +11,7 @@ use Rattle.world_core.specs.Walks.{Base, World, Flags, names, flagged, flags_aft
 use Rattle.world_core.specs.Legal.{is_behind}
 use Rattle.wire_core.specs.declared.flags.NodeFlags.{NodeFlags}
 use Rattle.wire_core.specs.declared.stories.Story.{Story}
-use Rattle.wire_core.specs.Flagged.{flags_at, flags_of, shown, heard_then, after_own, has_heard, is_late, standing_at}
+use Rattle.wire_core.specs.Flagged.{flags_at, flags_of, shown, heard_then, after_own, heard_last, is_late, standing_at}
 use Rattle.wire_core.specs.Stories.{Fits, HasOneMore}
 
 -- ---- flags
@@ -62,9 +62,9 @@ now-heard : (last : Option ℕ) (ticks : ℕ) → is_some last ≡ (is_some last
 now-heard None ticks = refl
 now-heard (Some m) ticks = sym (itself ticks)
 
-module _ (w : World) (n : NodeId) (f : NodeFlags) (last : Option ℕ) (ticks : ℕ) (last_is : w.last ≡ last) (was : w.heard n ≡ has_heard last ticks f) (past : f.heard ≤ ticks) (ticked : is_some last ≡ true → 1 ≤ ticks) where
+module _ (w : World) (n : NodeId) (f : NodeFlags) (last : Option ℕ) (ticks : ℕ) (last_is : w.last ≡ last) (was : w.heard n ≡ heard_last last ticks f) (past : f.heard ≤ ticks) (ticked : is_some last ≡ true → 1 ≤ ticks) where
   -- after an entry of its own
-  heard-own : (e : Entry) → names n e ≡ true → heard_after w e n ≡ has_heard (last_after last e) (ticks_after ticks e) (after_own last ticks n.kind e f)
+  heard-own : (e : Entry) → names n e ≡ true → heard_after w e n ≡ heard_last (last_after last e) (ticks_after ticks e) (after_own last ticks n.kind e f)
   heard-own (Take node number) own = was
   heard-own (Go node) own = was
   heard-own (Learn node stamp committed) own = was
@@ -75,7 +75,7 @@ module _ (w : World) (n : NodeId) (f : NodeFlags) (last : Option ℕ) (ticks : �
   heard-own (Tick moment) own = absurd (cc own)
 
   -- after another's
-  heard-other : (e : Entry) → names n e ≡ false → heard_after w e n ≡ has_heard (last_after last e) (ticks_after ticks e) f
+  heard-other : (e : Entry) → names n e ≡ false → heard_after w e n ≡ heard_last (last_after last e) (ticks_after ticks e) f
   heard-other (Take node number) own = was
   heard-other (Go node) own = was
   heard-other (Learn node stamp committed) own = was
@@ -135,17 +135,17 @@ module _ (b : Base) (w : World) (e : Entry) (s s' : Story) (more : HasOneMore s 
       ∙ shown-after s.last s.ticks n e (flags_at s.nodes.entries n) (names n e) ∙ ap shown (sym (more.nodes n))
 
   heard-at : (n : NodeId) (f : NodeFlags) → flags_at s.nodes.entries n ≡ Some f → (t : Bool) → names n e ≡ t
-      → heard_after w e n ≡ has_heard (last_after s.last e) (ticks_after s.ticks e) (if t then after_own s.last s.ticks n.kind e f else f)
+      → heard_after w e n ≡ heard_last (last_after s.last e) (ticks_after s.ticks e) (if t then after_own s.last s.ticks n.kind e f else f)
   heard-at n f there true own = heard-own w n f s.last s.ticks fit.last (fit.heard n f there) (fit.past n f there) fit.ticked e own
   heard-at n f there false own = heard-other w n f s.last s.ticks fit.last (fit.heard n f there) (fit.past n f there) fit.ticked e own
 
-  heard-fit : (n : NodeId) (f' : NodeFlags) → flags_at s'.nodes.entries n ≡ Some f' → heard_after w e n ≡ has_heard s'.last s'.ticks f'
+  heard-fit : (n : NodeId) (f' : NodeFlags) → flags_at s'.nodes.entries n ≡ Some f' → heard_after w e n ≡ heard_last s'.last s'.ticks f'
   heard-fit n f' at =
       let o = found-before n f' at in
       heard-at n o.0 o.1 (names n e) refl
-      ∙ ap (λ l. has_heard l (ticks_after s.ticks e) (if names n e then after_own s.last s.ticks n.kind e o.0 else o.0)) (sym more.last)
-      ∙ ap (λ k. has_heard s'.last k (if names n e then after_own s.last s.ticks n.kind e o.0 else o.0)) (sym more.ticks)
-      ∙ ap (has_heard s'.last s'.ticks) (sym o.2)
+      ∙ ap (λ l. heard_last l (ticks_after s.ticks e) (if names n e then after_own s.last s.ticks n.kind e o.0 else o.0)) (sym more.last)
+      ∙ ap (λ k. heard_last s'.last k (if names n e then after_own s.last s.ticks n.kind e o.0 else o.0)) (sym more.ticks)
+      ∙ ap (heard_last s'.last s'.ticks) (sym o.2)
 
   past-at : (f : NodeFlags) (k : NodeKind) (t : Bool) → f.heard ≤ s.ticks → (if t then after_own s.last s.ticks k e f else f).heard ≤ s.ticks
   past-at f k true past = past-own s.ticks f.heard e past
@@ -160,7 +160,7 @@ module _ (b : Base) (w : World) (e : Entry) (s s' : Story) (more : HasOneMore s 
       let ticks = more.ticks in
       omega (arith, is, past, more_ticks, ticks)
 
-  -- ONE ENTRY
+  -- one entry
   pub fits-on : Fits (step b w e) s'.nodes.entries s'.ticks s'.last
   fits-on = record {
     flags = flags-fit;

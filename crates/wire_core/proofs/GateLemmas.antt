@@ -71,7 +71,7 @@ module _ (told : Bool) (o : Origin) (s s' : Story) (sent : List Sent) (asked : L
   abbrev w : World
   w = walk (base_from o) s.entries.items
 
-  -- A GATE
+  -- a gate
   pub gate-more : (node : NodeId) (outs : List Out) (news all : List Sent) (later : List Asked) (after : FlightParts) → HasOneMore s s' (Gate node) → (w.flags node).up ≡ true → (w.flags node).due ≡ true → AreOuts outs
       → (IsTrue told → outs ≡ owed w node) → map post_of news ≡ posts node outs → all ≡ sent ++ news → length sent + length news < 2 ^ 32 → Numbered (length sent + 1) news → later ≡ asked ++ map asked_of news
       → ((w : World) (sent : List Sent) (marks : List Marked) → IsTied (state_of flight) w sent marks → IsTied (state_of after) w (sent ++ news) (marks ++ all_marked w.ticks news))

@@ -77,7 +77,7 @@ no-from true h = λ yes. cc h
 no-from false h = λ yes. cc yes
 
 module _ (told : Bool) (w : WireParts) (nodes : List (NodeId × NodeFlags)) (ticks : ℕ) (last : Option ℕ) (h : IsSound told w nodes ticks last) (whole : w.broken ≡ false) where
-  -- WHAT THE CODE ASKS is that nothing is to be done
+  -- what the code asks is that nothing is to be done
   pub idle-quiet : AllEmpty (state_of w.flight) → ((n : NodeId) → is_idle_at last ticks n (flags_at nodes n) ≡ true) → IsQuiet w
   idle-quiet empty idle n up =
       let f = up-found (world_of w) nodes ticks last h.fits n up in
@@ -112,7 +112,7 @@ module _ (told : Bool) (w : WireParts) (nodes : List (NodeId × NodeFlags)) (tic
       go true up = (quiet n up).empty
       go false up = none-waits ((state_of w.flight).queues n) ((h.flown whole).tied.opened n ∙ up)
 
-  -- AN IDLE PLACE is one with nothing to do
+  -- an idle place is one with nothing to do
   pub quiet-rests : IsTrue told → IsQuiet w → Idle (fates_of w.sent) (world_of w)
   quiet-rests t quiet n up =
       let f = h.flown whole in
@@ -135,7 +135,7 @@ module _ (told : Bool) (w : WireParts) (nodes : List (NodeId × NodeFlags)) (tic
         gone = i.gone;
       }
 
-  -- A TEST of the flight and of the nodes tells it
+  -- a test of the flight and of the nodes tells it
   pub quiet-by : (i : Bool) → AllEmpty (state_of w.flight) → (IsTrue i ↔ ((n : NodeId) → is_idle_at last ticks n (flags_at nodes n) ≡ true)) → IsTrue i ↔ ((w.broken ≡ false) × IsQuiet w)
   quiet-by i empty idle = (λ yes. (whole, idle-quiet empty (idle.0 yes)), λ quiet. idle.1 (quiet-idle quiet.1))
 
@@ -145,7 +145,7 @@ module _ (told : Bool) (w : WireParts) (nodes : List (NodeId × NodeFlags)) (tic
   pub rests-by : (i : Bool) → (IsTrue i ↔ ((w.broken ≡ false) × IsQuiet w)) → IsTrue told → IsTrue i ↔ ((w.broken ≡ false) × Idle (fates_of w.sent) (world_of w))
   rests-by i quiet t = (λ yes. (whole, quiet-rests t (quiet.0 yes).1), λ idle. quiet.1 (whole, rests-quiet t idle.1))
 
-  -- WHERE NOTHING IS DUE for a node, it took all
+  -- where nothing is due for a node, it took all
   pub all-taken : IsTrue told → (n : NodeId) → ((world_of w).flags n).up ≡ true → waiting (state_of w.flight) n ≡ [] → TookAll (fates_of w.sent) (world_of w) n
   all-taken t n up none =
       let f = h.flown whole in

@@ -1,9 +1,9 @@
 -- What the calls of a wire do to it, and when they answer what.
-use Rattle.std.specs.Prelude.{◌≡◌, ℕ, true, false, List, [], ◌∷◌, ◌++◌, Option, Some, None}
+use Rattle.std.specs.Prelude.{◌≡◌, ℕ, true, false, List, [], ◌∷◌, ◌++◌, map, Option, Some, None}
 use Rattle.std.specs.List.{filter}
 use Rattle.pseudo_time.specs.declared.nodes.NodeId.{NodeId}
 use Rattle.turn_form.specs.declared.turns.Out.{Out}
-use Rattle.turn_form.specs.Posts.{Post}
+use Rattle.turn_form.specs.Posts.{Post, posts}
 use Rattle.stream_port.specs.declared.fates.Fate.{Fate}
 use Rattle.stream_port.specs.Fates.{copies_of}
 use Rattle.message_core.specs.declared.letters.Arrival.{Arrival}
@@ -11,19 +11,28 @@ use Rattle.message_core.specs.Arrivals.{IsFront}
 use Rattle.message_core.specs.Flights.{waiting}
 use Rattle.message_core.specs.Parts.{state_of}
 use Rattle.world_core.specs.declared.entries.Entry.{Entry}
-use Rattle.world_core.specs.declared.entries.Entry.TheVariants.{Take, Tick}
+use Rattle.world_core.specs.declared.entries.Entry.TheVariants.{Take, Gate, Tick}
 use Rattle.world_core.specs.Nodes.{leaves}
 use Rattle.world_core.specs.Walks.{World, Sending, numbered, whole}
-use Rattle.world_core.specs.Legal.{HasGone, IsReleased, times_taken, is_behind}
+use Rattle.world_core.specs.Legal.{HasGone, IsReleased, times_taken, is_behind, post_of}
 use Rattle.wire_core.specs.Wires.{WireParts, world_of}
 use Rattle.wire_core.specs.declared.takens.Taken.{Taken}
 use Rattle.wire_core.specs.declared.takens.Taken.TheVariants.{Behind, Nothing, Arrived}
 
--- one entry was added
+-- one entry was added, and no message was sent
 pub record HasMore (old new : WireParts) (e : Entry) : Type 0 where
   pub whole : old.broken ≡ false
   pub origin : new.origin ≡ old.origin
   pub entries : new.entries ≡ old.entries ++ e ∷ []
+  pub sent : new.sent ≡ old.sent
+  pub still : new.broken ≡ false
+
+-- the node's gate was added, and these messages were sent, in order
+pub record HasGated (old new : WireParts) (n : NodeId) (outs : List Out) : Type 0 where
+  pub whole : old.broken ≡ false
+  pub origin : new.origin ≡ old.origin
+  pub entries : new.entries ≡ old.entries ++ Gate n ∷ []
+  pub sent : map post_of new.sent ≡ map post_of old.sent ++ posts n outs
   pub still : new.broken ≡ false
 
 -- nothing happened

@@ -39,8 +39,8 @@ abbrev pub after_own : Option ℕ → ℕ → NodeKind → Entry → NodeFlags �
 after_own last ticks kind e f = with_flags (flagged last kind (flags_of f) e) (heard_then ticks f.heard e)
 
 -- it heard the last Tick
-abbrev pub has_heard : Option ℕ → ℕ → NodeFlags → Bool
-has_heard last ticks f = is_some last && (f.heard == ticks)
+abbrev pub heard_last : Option ℕ → ℕ → NodeFlags → Bool
+heard_last last ticks f = is_some last && (f.heard == ticks)
 
 -- a Tick stands that it hasn't heard
 abbrev pub is_late : Option ℕ → ℕ → NodeFlags → Bool

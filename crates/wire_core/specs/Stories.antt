@@ -7,7 +7,7 @@ use Rattle.world_core.specs.declared.entries.Entry.{Entry}
 use Rattle.world_core.specs.Walks.{World, ticks_after, last_after}
 use Rattle.wire_core.specs.declared.flags.NodeFlags.{NodeFlags}
 use Rattle.wire_core.specs.declared.stories.Story.{Story}
-use Rattle.wire_core.specs.Flagged.{flags_at, new_flags, shown, has_heard, after_entry}
+use Rattle.wire_core.specs.Flagged.{flags_at, new_flags, shown, heard_last, after_entry}
 
 -- without entries, of nodes with these names
 pub record IsOpened (names : List NodeId) (s : Story) : Type 0 where
@@ -34,7 +34,7 @@ pub record IsSameStory (old new : Story) : Type 0 where
 -- Each node stands as this world shows it, where so many Ticks stand and this is the last one's moment.
 pub record Fits (w : World) (nodes : List (NodeId × NodeFlags)) (count : ℕ) (moment : Option ℕ) : Type 0 where
   pub flags : (n : NodeId) → w.flags n ≡ shown (flags_at nodes n)
-  pub heard : (n : NodeId) (f : NodeFlags) → flags_at nodes n ≡ Some f → w.heard n ≡ has_heard moment count f
+  pub heard : (n : NodeId) (f : NodeFlags) → flags_at nodes n ≡ Some f → w.heard n ≡ heard_last moment count f
   pub past : (n : NodeId) (f : NodeFlags) → flags_at nodes n ≡ Some f → f.heard ≤ count
   pub ticks : w.ticks ≡ count
   pub last : w.last ≡ moment

@@ -7,7 +7,7 @@ ghost use Rattle.world_core.specs.declared.entries.Entry.TheVariants as entry;
 ghost use Rattle.world_core.specs.Walks.{opened_log, sent_by};
 ghost use Rattle.world_core.specs.Legal.{HasGone, Stands, Idle, is_behind, post_of, fates_of};
 ghost use Rattle.wire_core.specs.Wires.{world_of};
-ghost use Rattle.wire_core.specs.Changes.{HasMore, IsBroken, Takes, IfArrived, IfNothing, IsCopyOf, TookAll, owed, Ticks, JustWhere};
+ghost use Rattle.wire_core.specs.Changes.{HasMore, HasGated, IsBroken, Takes, IfArrived, IfNothing, IsCopyOf, TookAll, owed, Ticks, JustWhere};
 
 use crate::sendings::send_all;
 use crate::takens::Taken;
@@ -146,7 +146,7 @@ impl<F: Fates, C: Clock, M: Medium> Wire<F, C, M> {
         requires due { ((world_of self.old).flags node).due ≡ true }
         requires in_range { AreOuts outs.now }
         requires owed { IsTrue M.tells → outs.now ≡ owed (world_of self.old) node }
-        ensures ok { OnOk result (HasMore self.old self.new (entry.Gate node)) }
+        ensures ok { OnOk result (HasGated self.old self.new node outs.now) }
         ensures err { OnErr result (IsBroken self.old self.new) }
     {
         if self.broken {

@@ -1,5 +1,5 @@
 use Rattle.std.proofs.Common.{◌≡◌, true}
-use Rattle.core_tests.proofs.repositories.steps_of.Given as goal
+use Rattle.node_tests.proofs.repositories.steps_of.Given as goal
 
 -- no call has failed
 abbrev pub invariant-loop-place : goal.invariant-loop-place

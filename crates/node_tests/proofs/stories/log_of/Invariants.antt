@@ -1,5 +1,5 @@
 use Rattle.turn_form.specs.Ranges.{AreEffects}
-use Rattle.core_tests.proofs.stories.log_of.Given as goal
+use Rattle.node_tests.proofs.stories.log_of.Given as goal
 
 -- those so far
 abbrev pub invariant-loop-added : goal.invariant-loop-added

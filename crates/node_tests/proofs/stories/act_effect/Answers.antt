@@ -2,7 +2,7 @@ use Rattle.std.proofs.Common.{◌≤◌, length, refl, sym, subst, arith}
 use Rattle.field_form.specs.Forms.{IsBytes}
 use Rattle.value_form.specs.Mirror.{block}
 use Rattle.script_ranges.proofs.TextByteLemmas.{script-IsBytes}
-use Rattle.core_tests.proofs.stories.act_effect.Goals as goal
+use Rattle.node_tests.proofs.stories.act_effect.Goals as goal
 
 -- the text of a script of the language is short enough, and of bytes
 pub returns : goal.returns
