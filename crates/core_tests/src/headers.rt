@@ -1,7 +1,7 @@
 ghost use Rattle.std.specs.Prelude.{◌≡◌, false, IfOk, IfSome};
 ghost use Rattle.effect_form.specs.Effects.{IsEffect, AreEffects};
 
-use crate::histories::{asked, time, Call, Said, Time, ANSWERS, OBJECT};
+use crate::histories::{ANSWERS, Call, OBJECT, Said, Time, asked, time};
 use effect_form::Effect;
 use medium_port::{FileShelf, Medium, MemoryMedium, Shelf, Stop, StopAt};
 use object_header::HeaderTable;
