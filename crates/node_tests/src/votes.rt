@@ -1,7 +1,7 @@
 ghost use Rattle.std.specs.Prelude.{IfSome};
 ghost use Rattle.message_form.specs.Messages.{IsMessage};
 
-use crate::repositories::{about, begin, named, stamp, Given, Kind, Name, Node};
+use crate::repositories::{Given, Kind, Name, Node, about, begin, named, stamp};
 use effect_form::Effect;
 use message_form::Message;
 use pseudo_time::{Decision, NodeId, NodeKind, Stamp};
@@ -356,7 +356,10 @@ const WHAT_IS_OUTSTANDING: [Step; 19] = [
 
 #[test]
 fn what_is_outstanding(rt: HostRuntime) -> Result<(), Fail> {
-    assert_eq!(rt; run(rt.alloc(), &WHAT_IS_OUTSTANDING)?, WHAT_IS_OUTSTANDING.len());
+    assert_eq!(rt;
+        run(rt.alloc(), &WHAT_IS_OUTSTANDING)?,
+        WHAT_IS_OUTSTANDING.len()
+    );
     Ok(())
 }
 
