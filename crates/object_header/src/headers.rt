@@ -167,7 +167,11 @@ impl<M: Medium> HeaderTable<M> {
     }
 
     // What a read answers.
-    pub(crate) fn answer(&mut self, object: ObjectId, at: PseudoTime) -> Result<ReadStep, HistoryFault>
+    pub(crate) fn answer(
+        &mut self,
+        object: ObjectId,
+        at: PseudoTime,
+    ) -> Result<ReadStep, HistoryFault>
         requires object { IsObject object }
         ensures answer { IsTrue M.tells → IfOk result (λ s. s ≡ read_step (content (ledger_of self.old)) object at) }
         ensures in_range { IfOk result IsReadStep }
