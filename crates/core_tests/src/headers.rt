@@ -1,13 +1,12 @@
-ghost use Rattle.std.specs.Prelude.{◌≡◌, [], false, IfOk, IfSome};
+ghost use Rattle.std.specs.Prelude.{◌≡◌, [], false, IfOk};
 ghost use Rattle.effect_form.specs.Effects.{IsEffect, AreEffects};
-ghost use Rattle.version_store.specs.StoreWords.{medium_of};
-ghost use Rattle.object_header.specs.Tables.{ledger_of, store_of};
+ghost use Rattle.object_header.specs.Tables.{ledger_of};
 
 use crate::histories::{ANSWERS, Call, OBJECT, Said, Time, asked, time};
 use effect_form::Effect;
 use medium_port::{FileShelf, Medium, MemoryMedium, Shelf, Stop, StopAt};
-use object_header::{HeaderTable, late_marks};
-use object_history::{Histories, HistoryFault, PlainHistories, WriteStep};
+use object_header::HeaderTable;
+use object_history::{HistoryFault, PlainHistories};
 use pseudo_time::{Decision, NodeKind};
 use std::alloc::{AllocError, Global};
 use std::test::*;
@@ -216,9 +215,20 @@ const OF_UNRULY: [(Call, Said); 6] = [
     (Call::Read((2, 1, 1)), Said::Value(8, true)),
 ];
 
+// A table whose marks all stand in the store has nothing to add to it.
+fn flushed(table: HeaderTable<MemoryMedium>) -> Result<HeaderTable<MemoryMedium>, HistoryFault>
+    requires { (ledger_of table).late ≡ [] }
+{
+    match table.flush(&[]) {
+        Ok(table) => Ok(table),
+        Err(_) => Err(HistoryFault::Medium),
+    }
+}
+
 // Whether a table of these rows answers so.
 fn says(alloc: Global, rows: &[Row], answers: &[(Call, Said)]) -> Result<bool, HistoryFault> {
-    let mut table = in_memory(alloc, NEVER, rows, &[])?;
+    let table = in_memory(alloc, NEVER, rows, &[])?;
+    let mut table = flushed(table)?;
     for (call, want) in answers {
         if asked(&mut table, *call)? != *want {
             return Ok(false);
@@ -234,71 +244,6 @@ fn stored_versions(rt: HostRuntime) -> Result<(), Fail> {
     assert_eq!(rt; says(alloc, &DEAD, &OF_DEAD), Ok(true));
     assert_eq!(rt; says(alloc, &AGAINST, &OF_AGAINST), Ok(true));
     assert_eq!(rt; says(alloc, &UNRULY, &OF_UNRULY), Ok(true));
-    Ok(())
-}
-
-// A version that is put on the object of the rows, and is stored at once: what each call of histories
-// says is enough for that.
-fn put_and_stored<M: Medium>(
-    table: HeaderTable<M>,
-    at: Time,
-    number: i64,
-) -> Result<HeaderTable<M>, HistoryFault>
-    requires { (ledger_of table).late ≡ [] }
-    ensures late { IfOk result (λ t. (ledger_of t).late ≡ []) }
-    ensures open { IfOk result (λ t. M.is_failed (medium_of (store_of t)) ≡ false) }
-{
-    let mut table = table;
-    let start = time(at)?;
-    let _in_range = start.stamp();
-    let value = Value::Number(number);
-    let step = table.write(OBJECT, start, &value)?;
-    if step != WriteStep::Put {
-        return Err(HistoryFault::Medium);
-    }
-    let object = OBJECT;
-    let effects = [Effect::Put {
-        object,
-        start,
-        value,
-    }];
-    late_marks();
-    match table.flush(&effects) {
-        Ok(table) => Ok(table),
-        Err(_) => Err(HistoryFault::Medium),
-    }
-}
-
-// Two versions above the three.
-const OF_TWO_MORE: [(Call, Said); 4] = [
-    (Call::Read((4, 1, 1)), Said::Value(3, true)),
-    (Call::Stands((7, 1, 1), 4), Said::Stands(true)),
-    (Call::Stands((7, 1, 1), 5), Said::Stands(false)),
-    (Call::Read((9, 1, 1)), Said::Wait(8, 1)),
-];
-
-// Whether two versions that are put above three stored ones, and stored, stand there; or in the table
-// that their medium then gives.
-fn says_two_more(alloc: Global, opened: bool) -> Result<bool, HistoryFault> {
-    let table = in_memory(alloc, NEVER, &THREE, &[])?;
-    let table = put_and_stored(table, (7, 1, 1), 4)?;
-    let mut table = put_and_stored(table, (8, 1, 1), 5)?;
-    if opened {
-        table = stored(alloc, table.release(), &[], &[])?;
-    }
-    for (call, want) in OF_TWO_MORE {
-        if asked(&mut table, call)? != want {
-            return Ok(false);
-        }
-    }
-    Ok(true)
-}
-
-#[test]
-fn versions_are_stored(rt: HostRuntime) -> Result<(), Fail> {
-    let alloc = rt.alloc();
-    assert_eq!(rt; says_two_more(alloc, false), Ok(true));
-    assert_eq!(rt; says_two_more(alloc, true), Ok(true));
     Ok(())
 }
 
