@@ -4,8 +4,6 @@
 #[cfg(test)]
 mod flights;
 #[cfg(test)]
-mod headers;
-#[cfg(test)]
 mod histories;
 #[cfg(test)]
 mod models;
