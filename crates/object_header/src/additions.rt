@@ -2,7 +2,7 @@ ghost use Rattle.std.specs.Prelude.{◌≡◌, ◌++◌, List, OnOk, IfOk, IfSom
 ghost use Rattle.value_form.specs.ValueBytes.{IsValue};
 ghost use Rattle.object_history.specs.Ranges.{IsMark};
 ghost use Rattle.object_header.specs.Spans.{passes};
-ghost use Rattle.object_history.specs.Objects.{same_object, same_value};
+ghost use Rattle.object_history.specs.Objects.{same_object};
 ghost use Rattle.object_history.specs.declared.marks.Mark.{Mark};
 ghost use Rattle.object_header.specs.Ledgers.{IsIndexed};
 ghost use Rattle.object_header.specs.Marks as marks;
@@ -11,10 +11,9 @@ ghost use Rattle.repository_log.specs.Logs as logs;
 
 use crate::indexes::Index;
 use crate::limits::Limit;
-use crate::settles::Settles;
 use crate::walks::is_passing;
 use effect_form::Effect;
-use object_history::Mark;
+use object_history::{Mark, Settles, is_same_value};
 use pseudo_time::PseudoTime;
 use repository_log::is_commit;
 use std::alloc::{AllocError, Global};
@@ -25,19 +24,6 @@ pub fn is_same_object(a: ObjectId, b: ObjectId) -> bool
     ensures { result ≡ same_object a b }
 {
     a == b
-}
-
-/// Whether two values are the same.
-#[tactic(auto, unfolding(object_history::specs::Objects::same_value))]
-pub fn is_same_value(a: &Value, b: &Value) -> bool
-    ensures { result ≡ same_value a.now b.now }
-{
-    match (a, b) {
-        (Value::Nothing, Value::Nothing) => true,
-        (Value::Number(a), Value::Number(b)) => a == b,
-        (Value::Text(a), Value::Text(b)) => a.as_slice() == b.as_slice(),
-        _ => false,
-    }
 }
 
 /// Whether this version has this start and value.

@@ -13,12 +13,11 @@ ghost use Rattle.object_header.specs.Heads.{head_at};
 ghost use Rattle.object_header.specs.Ledgers.{IsIndexed};
 ghost use Rattle.object_header.specs.Plans.{waits, plan_span, PlansRead, IsReadPlan};
 
-use crate::heads::{Look, Span, later};
+use crate::heads::{Look, Span};
 use crate::limits::Limit;
 use crate::maps::Heads;
 use crate::plans::ReadPlan;
-use crate::settles::Settles;
-use object_history::{ReadStep, WriteStep};
+use object_history::{ReadStep, Settles, WriteStep, later};
 use pseudo_time::{PseudoTime, Stamp};
 use std::alloc::{AllocError, Global};
 use value_form::{ObjectId, Value};

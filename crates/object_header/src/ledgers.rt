@@ -23,9 +23,8 @@ use crate::indexes::Index;
 use crate::keeping::{keep_effects, keep_marks};
 use crate::limits::Limit;
 use crate::plans::ReadPlan;
-use crate::settles::Settles;
 use effect_form::Effect;
-use object_history::{Histories, Mark, PlainHistories, ReadStep, WriteStep};
+use object_history::{Histories, Mark, PlainHistories, ReadStep, Settles, WriteStep};
 use pseudo_time::{PseudoTime, Stamp};
 use std::alloc::{AllocError, Global};
 use std::marker::Model;
@@ -50,7 +49,7 @@ pub struct Ledger {
 impl Model for Ledger {
     ghost use Rattle.std.specs.Prelude.{reverse, map};
     ghost use Rattle.std.specs.Coded.{codes};
-    ghost use Rattle.object_header.specs.contracts.settles.Settles as settles;
+    ghost use Rattle.object_history.specs.contracts.maps.Settles as settles;
     ghost use Rattle.object_header.specs.contracts.maps.Heads as heads;
     ghost use Rattle.object_header.specs.Ledgers.{LedgerParts, IsLedger};
 

@@ -12,7 +12,6 @@ mod ledgers;
 mod limits;
 mod maps;
 mod plans;
-mod settles;
 mod tables;
 mod walks;
 

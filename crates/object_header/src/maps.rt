@@ -8,7 +8,7 @@ ghost use Rattle.object_header.specs.Heads.{head_at};
 
 use crate::heads::{Head, Look};
 use crate::limits::Limit;
-use crate::settles::Settles;
+use object_history::Settles;
 use pseudo_time::PseudoTime;
 use std::alloc::{AllocError, Global};
 use std::collections::BTreeMap;

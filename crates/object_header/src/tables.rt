@@ -1,12 +1,10 @@
-ghost use Rattle.std.specs.Prelude.{◌≡◌};
 ghost use Rattle.version_store.specs.StoreWords.{medium_of, left_in, damage_in};
-ghost use Rattle.object_history.specs.Kept as kept;
 ghost use Rattle.object_header.specs.Ledgers.{beneath, content};
 
 use crate::beneath::Beneath;
 use crate::headers::HeaderTable;
 use medium_port::Medium;
-use object_history::{Histories, HistoryFault, ReadStep, WriteStep};
+use object_history::{Histories, HistoryFault, ReadStep, WriteStep, has_stretched};
 use pseudo_time::{PseudoTime, Stamp};
 use value_form::{ObjectId, Value};
 
@@ -75,15 +73,5 @@ impl<M: Medium> Histories for HeaderTable<M> {
 
     fn settled(&self, stamp: Stamp) -> Option<bool> {
         self.ledger.settled(stamp)
-    }
-}
-
-// Whether an answer stretches what was seen.
-fn has_stretched(step: &ReadStep) -> bool
-    ensures { result ≡ kept.has_stretched step.now }
-{
-    match step {
-        ReadStep::Answer { stretch, .. } => *stretch,
-        ReadStep::Wait { .. } => false,
     }
 }

@@ -15,6 +15,8 @@ pub use laws::{
     answer_is_viewed, answer_stays, reach_rises, settled_stays, settled_versions_only_grow,
     starts_stay_distinct, view_is_sight, write_answers, writes_go_on_top,
 };
+pub use maps::Settles;
 pub use marks::Mark;
-pub use plain::PlainHistories;
+pub use plain::{PlainHistories, has_stretched, is_same_value};
 pub use steps::{HistoryFault, ReadStep, WriteStep};
+pub use versions::later;

@@ -299,8 +299,9 @@ impl PlainHistories {
     }
 }
 
+/// Whether two values are the same.
 #[tactic(auto, unfolding(crate::specs::Objects::same_value))]
-fn is_same_value(a: &Value, b: &Value) -> bool
+pub fn is_same_value(a: &Value, b: &Value) -> bool
     ensures { result ≡ same_value a.now b.now }
 {
     match (a, b) {
@@ -331,8 +332,8 @@ fn value_put(mark: &Mark) -> Option<&Value>
     }
 }
 
-// Whether the answer says that the read stretched what it saw.
-fn has_stretched(step: &ReadStep) -> bool
+/// Whether an answer says that the read stretched what it saw.
+pub fn has_stretched(step: &ReadStep) -> bool
     ensures { result ≡ kept.has_stretched step.now }
 {
     match step {

@@ -80,7 +80,7 @@ of-said [] m h = absurd h
 of-said (q ∷ ever) m (inl e) = (q, inl refl, e)
 of-said (q ∷ ever) m (inr h) = let r = of-said ever m h in (r.0, inr r.1, r.2)
 
-kept-every : {A : Type 0} → (P : A → Type 0) (test : A → Bool) (xs : List A) → Every P xs → Every P (filter test xs)
+pub kept-every : {A : Type 0} → (P : A → Type 0) (test : A → Bool) (xs : List A) → Every P xs → Every P (filter test xs)
 kept-every P test [] h = tt
 kept-every P test (x ∷ xs) h = go (test x) (kept-every P test xs h.1)
   where
@@ -88,7 +88,7 @@ kept-every P test (x ∷ xs) h = go (test x) (kept-every P test xs h.1)
     go true k = (h.0, k)
     go false k = k
 
-at-place : {A : Type 0} → (P : A → Type 0) (xs : List A) (n : ℕ) (x : A) → Every P xs → slice_get xs n ≡ Some x → P x
+pub at-place : {A : Type 0} → (P : A → Type 0) (xs : List A) (n : ℕ) (x : A) → Every P xs → slice_get xs n ≡ Some x → P x
 at-place P [] n x h e = absurd (cc e)
 at-place P (y ∷ xs) zero x h e = let same : y ≡ x = cc e in subst P same h.0
 at-place P (y ∷ xs) (suc n) x h e = at-place P xs n x h.1 e
@@ -99,12 +99,12 @@ at-place P (y ∷ xs) (suc n) x h e = at-place P xs n x h.1 e
 abbrev IsKept : (List ℕ → Tree) → ℕ → Task → Type 0
 IsKept script n task = InRange n task.home × Inside n (script task.script)
 
-kept-acts : (script : List ℕ → Tree) (n k first : ℕ) (acts : List ActSpec) → EachAct n k first acts → Scripted script acts → Every (λ a. IsKept script n (task_of a)) acts
+pub kept-acts : (script : List ℕ → Tree) (n k first : ℕ) (acts : List ActSpec) → EachAct n k first acts → Scripted script acts → Every (λ a. IsKept script n (task_of a)) acts
 kept-acts script n k first [] h s = tt
 kept-acts script n k first (a ∷ acts) h s =
     ((h.0.home, subst (Inside n) (sym s.0) (inside-script n (block a.script.lines) h.0.script.limits)), kept-acts script n k (first + 1) acts h.1 s.1)
 
-kept-tasks : (script : List ℕ → Tree) (n : ℕ) (acts : List ActSpec) → Every (λ a. IsKept script n (task_of a)) acts → Every (IsKept script n) (tasks acts)
+pub kept-tasks : (script : List ℕ → Tree) (n : ℕ) (acts : List ActSpec) → Every (λ a. IsKept script n (task_of a)) acts → Every (IsKept script n) (tasks acts)
 kept-tasks script n [] h = tt
 kept-tasks script n (a ∷ acts) h = (h.0, kept-tasks script n acts h.1)
 

@@ -1,7 +1,7 @@
 -- Whose each entry is, and what the words of the commit board may hold.
 use Rattle.std.specs.Prelude.{◌≡◌, ◌⊎◌, ℕ, ◌+◌, ◌*◌, ◌^◌, ◌%◌, Bool, List, [], ◌∷◌, ◌++◌, IsTrue, if◌then◌else◌}
 use Rattle.std.proofs.Common.{inl, inr}
-use Rattle.pseudo_time.specs.StampParts.{StampParts}
+use Rattle.pseudo_time.specs.StampParts.{StampParts, IsStamp}
 use Rattle.pseudo_time.specs.declared.nodes.NodeId.{NodeId}
 use Rattle.pseudo_time.specs.declared.nodes.NodeKind.{NodeKind}
 use Rattle.pseudo_time.specs.declared.nodes.NodeKind.TheVariants.{Repository, Broker}
@@ -47,6 +47,7 @@ number_of s committed = s.clock * 2 ^ 18 + s.broker * 2 ^ 10 + s.home * 4 + (if 
 pub record IsDecided (o : Origin) (es : List Entry) (word number : ℕ) : Type 0 where
   pub stamp : StampParts
   pub committed : Bool
+  pub in_range : IsStamp stamp
   pub place : word ≡ place_of stamp
   pub coded : number ≡ number_of stamp committed
   pub stands : Stands (walk (base_from o) es) stamp committed
@@ -61,4 +62,4 @@ held-stays told o es e word number h t = go (h t)
   where
     go : (number ≡ 0) ⊎ IsDecided o es word number → (number ≡ 0) ⊎ IsDecided o (es ++ e ∷ []) word number
     go (inl none) = inl none
-    go (inr d) = inr (record { stamp = d.stamp; committed = d.committed; place = d.place; coded = d.coded; stands = stands-stays (base_from o) es (e ∷ []) d.stamp d.committed d.stands })
+    go (inr d) = inr (record { stamp = d.stamp; committed = d.committed; in_range = d.in_range; place = d.place; coded = d.coded; stands = stands-stays (base_from o) es (e ∷ []) d.stamp d.committed d.stands })

@@ -108,6 +108,13 @@ impl<F: Fates, C: Clock, M: Medium> Wire<F, C, M> {
         self.start
     }
 
+    /// The nodes of the run, each with the effects that it was opened with.
+    pub fn opened(&self) -> &[Opened]
+        ensures { result.now ≡ self.now.origin.opened }
+    {
+        self.opened.as_slice()
+    }
+
     /// The number of messages sent.
     pub fn sent(&self) -> u32
         ensures count { result ≡ length self.now.sent }

@@ -99,7 +99,7 @@ no-log None e = refl
 no-log (Some log) e = absurd (cc e)
 
 module _ (script : List ℕ → Tree) (turns : Turns) (F : NodeFacts) (laws : NodeLaws script turns F) where
-  ready-start : PastLaws script F → (b : Base) → b.script ≡ script → AllReady b → (n : NodeId) → is_some (opened_log b.opened n) ≡ true → F.Ready b.run b.acts n (reverse (unwrap_or (opened_log b.opened n) []))
+  pub ready-start : PastLaws script F → (b : Base) → b.script ≡ script → AllReady b → (n : NodeId) → is_some (opened_log b.opened n) ≡ true → F.Ready b.run b.acts n (reverse (unwrap_or (opened_log b.opened n) []))
   ready-start past b same ready n e = go (opened_log b.opened n) refl e
     where
       go : (found : Option (List Effect)) → opened_log b.opened n ≡ found → is_some found ≡ true → F.Ready b.run b.acts n (reverse (unwrap_or found []))
@@ -155,7 +155,7 @@ module _ (script : List ℕ → Tree) (turns : Turns) (F : NodeFacts) (laws : No
         ap (λ (x : SoftNode). x.fresh) (c.crashed.outside n e) ∙ (r.models.outside n (r.models.known n ∙ e)).1,
       )
 
-  left-nothing : PastLaws script F → Left turns F (λ n. []) [] (PastTick [])
+  pub left-nothing : PastLaws script F → Left turns F (λ n. []) [] (PastTick [])
   left-nothing past = record { events = []; may = past.empty; gated = λ n. refl; fresh = λ n. refl; ever = refl; ticked = λ t h. absurd h }
 
   past-left : PastLaws script F → (cs : List Call) → AreCalls script cs → Left turns F (logs_after script cs) (past_sent script cs) (PastTick cs)
@@ -172,7 +172,7 @@ module _ (script : List ℕ → Tree) (turns : Turns) (F : NodeFacts) (laws : No
       (λ n e. ap (λ t. if t then log_left script c n else logs_after script cs n) (sym (h.1.legal.nodes.just n) ∙ e))
 
   -- a trace over logs with a past
-  refined : PastLaws script F → (b : Base) (fates : List Fate) (logs : NodeId → List Effect) (es : List Entry) → b.script ≡ script → (past : HasPast script logs) → Agrees b.opened logs → AllReady b →
+  pub refined : PastLaws script F → (b : Base) (fates : List Fate) (logs : NodeId → List Effect) (es : List Entry) → b.script ≡ script → (past : HasPast script logs) → Agrees b.opened logs → AllReady b →
       Meets b fates (start_world b) es → Refines turns F b logs (past_sent script past.0) (Ticked past.0 es) (walk b es)
   refined start b fates logs es same past agrees ready rules =
       let l : Left turns F (logs_after script past.0) (past_sent script past.0) (PastTick past.0) = past-left start past.0 past.1 in

@@ -1,0 +1,3 @@
+pub mod SightLemmas
+pub mod DecisionLemmas
+pub mod StoryLemmas

@@ -1,0 +1,12 @@
+use Rattle.std.proofs.Common.{ap, sym, subst, get_or}
+use Rattle.seat_lock.specs.Words.{CarriesOn, knows}
+use Rattle.world_core.specs.declared.traces.Trace.{Trace}
+use Rattle.wire_core.specs.Boards.{owner_of}
+use Rattle.wire_lock.proofs.shared.SharedWire.close.Goals as goal
+
+pub close-wire-requires-clause-passes : goal.close-wire-requires-clause-passes
+close-wire-requires-clause-passes g c = λ k d lt. (c.requires.passes k d lt).of_lock
+
+pub returns-clause-carries : goal.returns-clause-carries
+returns-clause-carries g c =
+    λ k d lt. subst (CarriesOn owner_of (knows (get_or c.args.passes.items k d))) (sym (ap (λ (t : Trace). t.entries) c.finish-trace.ensures.trace)) (c.close-wire.ensures.carries k d lt)

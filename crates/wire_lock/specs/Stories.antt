@@ -1,0 +1,28 @@
+-- Closed traces, and what is known of a whole story.
+use Rattle.std.specs.Prelude.{◌≡◌, ℕ, Bool, List, [], map, Option, IsTrue}
+use Rattle.pseudo_time.specs.Lists.{Every}
+use Rattle.stream_port.specs.declared.fates.Asked.{Asked}
+use Rattle.plan_form.specs.declared.plans.Plan.{Plan}
+use Rattle.world_core.specs.declared.traces.Trace.{Trace}
+use Rattle.world_core.specs.Walks.{sent_by, walk}
+use Rattle.world_core.specs.Legal.{Numbered, post_of, asked_of}
+use Rattle.world_core.specs.Readings.{IsLegal}
+use Rattle.wire_core.specs.Wires.{Origin, IsRunOf, base_from}
+use Rattle.wire_core.specs.Clocked.{IsClocked, tick_moments}
+use Rattle.std.specs.Prelude.{◌++◌, ◌<◌, ◌^◌}
+
+-- the trace of no run
+abbrev pub no_trace : Trace
+no_trace = record { start = 0; opened = []; sent = []; entries = [] }
+
+-- The trace is one of a wire with this origin that closed whole, with the fates that were ever asked for and the clock's answers.
+pub record IsWhole (told : Bool) (o : Origin) (t : Trace) (asked : List Asked) (answers : Option (List ℕ)) : Type 0 where
+  pub start : t.start ≡ o.start
+  pub opened : t.opened ≡ o.opened
+  pub numbers : Numbered 1 t.sent
+  pub moments : Every (λ moment. moment < 2 ^ 63) (tick_moments t.entries)
+  pub fates : asked ≡ o.asked ++ map asked_of t.sent
+  pub clock : IsClocked o.answers answers o.start t.entries
+  -- where media tell their content
+  pub sent : IsTrue told → map post_of t.sent ≡ sent_by (walk (base_from o) t.entries)
+  pub legal : IsTrue told → (plan : Plan) → IsRunOf plan o → IsLegal plan asked t

@@ -1,0 +1,79 @@
+//! What passes do beside the visits of nodes: ticks, looks and meetings.
+ghost use Rattle.std.specs.Prelude.{◌≡◌, length, IsTrue, IfOk, OnErr};
+ghost use Rattle.seat_lock.specs.Story.{longer};
+ghost use Rattle.seat_lock.specs.Words.{knows};
+ghost use Rattle.world_core.specs.Walks.{sent_by};
+ghost use Rattle.wire_lock.specs.Sights.{IsWirePass, Looked, TicksOn, AtRest, IsIdlePlace, world_at};
+
+use crate::shared::{SharedWire, WirePass};
+use medium_port::Medium;
+use std::alloc::AllocError;
+use std::sync::Wait;
+use stream_port::{Clock, Fates};
+use world_core::Entry;
+
+/// What a look tells.
+#[derive(Clone, Copy, Debug, PartialEq, Eq)]
+pub struct Seen {
+    /// How many messages were sent.
+    pub sent: u32,
+    /// No node that is up has anything to do.
+    pub idle: bool,
+}
+
+impl<F: Fates, C: Clock, M: Medium> SharedWire<F, C, M> {
+    /// Lets time pass, where the wire is idle. The pass is the conductor's.
+    pub fn tick<R: Wait>(
+        &self,
+        rt: &R,
+        pass: WirePass<F, C, M>,
+    ) -> (WirePass<F, C, M>, Result<Option<u64>, AllocError>)
+        requires pass { IsWirePass self.now.lock pass }
+        requires conductor { (knows pass).owner ≡ 0 }
+        ensures pass { IsWirePass self.now.lock result.0 }
+        ensures ok { IfOk result.1 (TicksOn (knows pass) (knows result.0)) }
+        ensures err { OnErr result.1 (Looked (knows pass) (knows result.0)) }
+    {
+        let mut visit = self.lock.enter(rt, pass);
+        match visit.value().tick() {
+            Err(_) => (visit.leave(), Err(AllocError)),
+            Ok(None) => (visit.leave(), Ok(None)),
+            Ok(Some(moment)) => {
+                visit.note(&Entry::Tick { moment });
+                (visit.leave(), Ok(Some(moment)))
+            }
+        }
+    }
+
+    /// How many messages the wire has sent, and whether it is idle. After a want of memory in an
+    /// earlier visit it isn't idle.
+    pub fn look<R: Wait>(&self, rt: &R, pass: WirePass<F, C, M>) -> (WirePass<F, C, M>, Seen)
+        requires pass { IsWirePass self.now.lock pass }
+        ensures pass { IsWirePass self.now.lock result.0 }
+        ensures looked { Looked (knows pass) (knows result.0) }
+        ensures sent { IsTrue M.tells → result.1.sent ≡ length (sent_by (world_at (knows result.0))) }
+        ensures rest { IsTrue result.1.idle → AtRest (world_at (knows result.0)) }
+        ensures idle { IsTrue M.tells → IsTrue result.1.idle → IsIdlePlace (world_at (knows result.0)) }
+    {
+        let mut visit = self.lock.enter(rt, pass);
+        let wire = visit.value();
+        let seen = Seen {
+            sent: wire.sent(),
+            idle: wire.idle(),
+        };
+        (visit.leave(), seen)
+    }
+
+    /// Each pass learns what the other has seen, and neither waits. Both have then seen the longer
+    /// of the two stories.
+    pub fn meet(&self, one: &mut WirePass<F, C, M>, other: &mut WirePass<F, C, M>)
+        requires pass { IsWirePass self.now.lock one.old × IsWirePass self.now.lock other.old }
+        ensures pass { IsWirePass self.now.lock one.new × IsWirePass self.now.lock other.new }
+        ensures one { Looked (knows one.old) (knows one.new) }
+        ensures other { Looked (knows other.old) (knows other.new) }
+        ensures story { (knows one.new).story ≡ longer (knows one.old).story (knows other.old).story }
+        ensures same { (knows other.new).story ≡ (knows one.new).story }
+    {
+        self.lock.meet(one, other);
+    }
+}
