@@ -118,10 +118,7 @@ impl<F: Fates, C: Clock, M: Medium> SharedWire<F, C, M> {
     ///
     /// The entries begin with the story of each pass, and of the owner of each pass they have just
     /// that pass's own.
-    pub fn close(
-        self,
-        passes: Vec<WirePass<F, C, M>>,
-    ) -> Result<Closed<F, C>, (F, C, AllocError)>
+    pub fn close(self, passes: Vec<WirePass<F, C, M>>) -> Result<Closed<F, C>, (F, C, AllocError)>
         requires passes { All (IsWirePass self.lock) passes.items }
         requires all { vec_len passes ≡ length (base_of self.lock).origin.opened + 1 }
         ensures whole { IfOk result (λ r. IsWhole M.tells (base_of self.lock).origin r.told (F.asked r.fates) (C.answers r.clock)) }

@@ -1,4 +1,4 @@
-use Rattle.std.proofs.Common.{ap, sym, subst, get_or}
+use Rattle.std.proofs.Common.{ap, sym, subst, get_or, ◌∙◌}
 use Rattle.seat_lock.specs.Words.{CarriesOn, knows}
 use Rattle.world_core.specs.declared.traces.Trace.{Trace}
 use Rattle.wire_core.specs.Boards.{owner_of}
@@ -14,8 +14,8 @@ returns-clause-carries g c =
 
 pub returns-clause-idle : goal.returns-clause-idle
 returns-clause-idle g c =
-    λ t. idle-closed _ _ _ c.idle.result c.finish-trace.ensures.trace c.close-wire.ensures.stands c.if-broken.false (c.idle.ensures.idle t)
+    λ t. idle-closed c.close-wire.result _ _ c.idle-idle.result c.finish-trace.ensures.trace c.close-wire.ensures.stands (sym c.is_broken-broken.ensures ∙ c.if-broken.false) (c.idle-idle.ensures.idle t)
 
 pub returns-clause-rest : goal.returns-clause-rest
 returns-clause-rest g c =
-    λ i. rest-closed _ _ _ c.finish-trace.ensures.trace c.close-wire.ensures.stands (c.idle.ensures.quiet.0 i).1
+    λ i. rest-closed c.close-wire.result _ _ c.finish-trace.ensures.trace c.close-wire.ensures.stands (c.idle-idle.ensures.quiet.0 i).1
