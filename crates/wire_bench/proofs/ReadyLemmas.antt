@@ -21,8 +21,8 @@ use Rattle.wire_bench.specs.Ready.{IsReady, four_brokers, new_flags}
 abbrev Pass : Type 0
 Pass = Seat WireParts (View WireParts Entry)
 
-unfolding walk_from
 flags-new : (b : Base) (n : NodeId) → (walk b []).flags n ≡ opened_flags (is_some (opened_log b.opened n))
+unfolding walk_from
 flags-new b n = refl
 
 module _ {Q A : Type 0} (lock : LockTable WireParts (View WireParts Entry) (Founding WireParts) Q A) where

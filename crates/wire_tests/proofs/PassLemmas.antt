@@ -24,8 +24,8 @@ Pass = Seat WireParts (View WireParts Entry)
 
 -- ---- the start
 
-unfolding walk_from
 flags-new : (b : Base) (n : NodeId) → (walk b []).flags n ≡ opened_flags (is_some (opened_log b.opened n))
+unfolding walk_from
 flags-new b n = refl
 
 module _ {Q A : Type 0} (lock : LockTable WireParts (View WireParts Entry) (Founding WireParts) Q A) (w : WireParts) (pass : Pass) (is : IsWirePass lock pass) where

@@ -1,5 +1,5 @@
--- What the two threads of a test own may go to them, and what they share they may share.
-use denote.Param.Send.{IsSend, IsSync}
+use denote.Exit.{no}
+use denote.Param.Send.{IsSend, IsSync, param_send, param_sync, arg_send, arg_sync}
 use denote.Param.SendFields.{declared_send}
 use Rattle.std.proofs.option.Option.TheSendSync as option
 use Rattle.medium_port.specs.contracts.file_media.FileMedium as FileMedium
@@ -15,9 +15,16 @@ use Rattle.wire_core.proofs.Crosses.{pass_send}
 use Rattle.wire_lock.proofs.Crosses.{shared_sync}
 use Rattle.wire_lock.specs.contracts.shared.SharedWire as SharedWire
 use Rattle.wire_tests.specs.contracts.threads.Hand as Hand
+use Rattle.wire_tests.proofs.threads.two_nodes.Goals as goal
 
-pub hand_send : IsSend Hand.the_row
+hand_send : IsSend Hand.the_row
 hand_send = declared_send Hand.the_type (node.the_send, (option.the_send _ (pass_send MemoryFates.the_row FixedClock.the_row FileMedium.the_row fates.ghosts clocks.ghosts media.ghosts memory_fates.the_send fixed_clock.the_send), tt))
 
-pub test_sync : IsSync (SharedWire.the_row MemoryFates.the_row FixedClock.the_row FileMedium.the_row fates.ghosts clocks.ghosts media.ghosts)
+test_sync : IsSync (SharedWire.the_row MemoryFates.the_row FixedClock.the_row FileMedium.the_row fates.ghosts clocks.ghosts media.ghosts)
 test_sync = shared_sync MemoryFates.the_row FixedClock.the_row FileMedium.the_row fates.ghosts clocks.ghosts media.ghosts memory_fates.the_send fixed_clock.the_send
+
+pub by_two-requires-send-S : goal.by_two-requires-send-S
+by_two-requires-send-S g c κs within = param_send 1 _ (arg_send _ no _ hand_send)
+
+pub by_two-requires-sync-L : goal.by_two-requires-sync-L
+by_two-requires-sync-L g c κs within = param_sync 0 _ (arg_sync _ no _ test_sync)
