@@ -1,4 +1,4 @@
-//! Tests of nodes: the cores, members and polls that vote, the wire, and what is read off traces.
+//! Tests of nodes: the cores, members and polls that vote, and what is read off traces.
 #![tactic(auto)]
 
 #[cfg(test)]
@@ -13,5 +13,3 @@ mod stories;
 mod traces;
 #[cfg(test)]
 mod votes;
-#[cfg(test)]
-mod wires;

@@ -1,3 +1,4 @@
 pub mod SightLemmas
 pub mod DecisionLemmas
 pub mod StoryLemmas
+pub mod Crosses

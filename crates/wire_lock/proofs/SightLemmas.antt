@@ -1,5 +1,5 @@
 -- What a pass has seen of its node is so in what a visit finds, and what a visit leaves.
-use Rattle.std.specs.Prelude.{◌≡◌, ℕ, ◌+◌, ◌==◌, Bool, true, false, ◌&&◌, List, [], ◌∷◌, ◌++◌, map, take, length, ◌<◌, Option, Some, None, IsTrue, if◌then◌else◌}
+use Rattle.std.specs.Prelude.{◌≡◌, ◌↔◌, ℕ, ◌+◌, ◌==◌, Bool, true, false, ◌&&◌, List, [], ◌∷◌, ◌++◌, map, take, length, ◌<◌, Option, Some, None, IsTrue, if◌then◌else◌}
 use Rattle.std.proofs.Common.{refl, ap, sym, ◌∙◌, subst, cond, eq-eqb, get_or, append_assoc}
 use Rattle.std.proofs.lemmas.List.{map-append, get_or-map, length-map, take_more}
 use Rattle.std.proofs.lemmas.List.Elements.{filter-append}
@@ -26,12 +26,15 @@ use Rattle.world_core.specs.Walks.{Base, Life, Flags, Sending, World, numbered, 
 use Rattle.world_core.specs.Legal.{Stands, Idle, is_behind, fates_of}
 use Rattle.world_core.proofs.Lives.{walk-append, walk-more, same-life, stands-stays}
 use Rattle.world_core.proofs.Others.{same-flags, same-behind}
-use Rattle.wire_core.specs.Wires.{Origin, WireParts, base_from, world_of}
-use Rattle.wire_core.specs.Changes.{IsQuiet}
+use Rattle.message_core.specs.declared.letters.Arrival.{Arrival}
+use Rattle.world_core.specs.declared.traces.Trace.{Trace}
+use Rattle.wire_core.specs.Wires.{Origin, WireParts, base_from, trace_of, world_of}
+use Rattle.wire_core.specs.Changes.{IsCopyOf, IsQuiet}
 use Rattle.wire_core.specs.Boards.{owner_for, owner_of, place_of, number_of}
 use Rattle.wire_core.proofs.DueLemmas.{numbered-from}
 use Rattle.wire_lock.specs.Decisions.{Decided, posted, answer_of}
-use Rattle.wire_lock.specs.Sights.{Sight, origin_in, origin_at, base_at, world_at, life_at, flags_at, IsOf, Owns, IsWirePass, IsAsBefore, Looked, Added, Visited, Gated, Tested, TicksOn, AtRest, IsIdlePlace, closed}
+use Rattle.wire_lock.specs.Stories.{end_of}
+use Rattle.wire_lock.specs.Sights.{Sight, origin_in, origin_at, base_at, world_at, life_at, flags_at, IsOf, Owns, IsWirePass, IsAsBefore, Looked, Added, Visited, Gated, Tested, TicksOn, AtRest, closed}
 
 -- ---- a node's entries are among those of its owner
 
@@ -231,6 +234,13 @@ took-copy b n l sendings number p h =
     let f : (x : Sending) × (numbered sendings number ≡ Some x) × (x.post ≡ p) = numbered-from (λ (s : Sending). s.post) sendings number p h in
     ap (took b n l) f.1 ∙ ap (λ (q : Post). told b n l (Taking q.from q.message)) f.2
 
+-- it is so too after the taking
+pub copy-left : (k k' : Sight) (l : List Entry) (own : List Entry) (w : World) (n : NodeId) (a : Arrival) → k' ≡ record k { story = l ++ Take n a.number ∷ []; own = own } → w ≡ walk (base_at k) l
+    → IsCopyOf (sent_by w) n a → IsCopyOf (sent_by (world_at k')) n a
+copy-left k k' l own w n a is here h =
+    subst (λ (z : Sight). IsCopyOf (sent_by (world_at z)) n a) (sym is)
+    (subst (λ (ps : List Post). IsCopyOf ps n a) (ap sent_by here ∙ sym (ap sent_by (walk-more (base_at k) l (Take n a.number)))) h)
+
 pub behind-is : (k k' : Sight) (l : List Entry) (w : World) (n : NodeId) (t : Bool) → k' ≡ record k { story = l } → w ≡ walk (base_at k) l → is_behind w n ≡ t → is_behind (world_at k') n ≡ t
 behind-is k k' l w n t is here h = ap (λ (z : Sight). is_behind (world_at z) n) is ∙ sym (ap (λ (x : World). is_behind x n) here) ∙ h
 
@@ -251,11 +261,14 @@ ticked-of k k' l moment owns is car rest = (record { found = l; before = as-befo
 pub sent-left : (k k' : Sight) (l : List Entry) (w : World) (n : ℕ) → k' ≡ record k { story = l } → w ≡ walk (base_at k) l → n ≡ length (sent_by w) → n ≡ length (sent_by (world_at k'))
 sent-left k k' l w n is here h = subst (λ (z : Sight). n ≡ length (sent_by (world_at z))) (sym is) (h ∙ ap (λ (x : World). length (sent_by x)) here)
 
--- there are as many fates as messages
-pub idle-left : (k k' : Sight) (l : List Entry) (w : WireParts) (n : ℕ) → k' ≡ record k { story = l } → world_of w ≡ walk (base_at k) l → n ≡ length w.sent → n ≡ length (sent_by (world_of w)) → Idle (fates_of w.sent) (world_of w) → IsIdlePlace (world_at k')
-idle-left k k' l w n is here count sent idle =
-    subst (λ (z : Sight). IsIdlePlace (world_at z)) (sym is) (subst IsIdlePlace here
-    (fates_of w.sent, length-map w.sent (λ (s : Sent). s.fate) ∙ sym count ∙ sent ∙ length-map (world_of w).sendings (λ (s : Sending). s.post), idle))
+-- The closed wire is idle just where its trace is.
+pub idle-closed : (w : WireParts) (o : Origin) (t : Trace) (idle : Bool) → t ≡ trace_of w → w.origin ≡ o → w.broken ≡ false → (IsTrue idle ↔ ((w.broken ≡ false) × Idle (fates_of w.sent) (world_of w)))
+    → IsTrue idle ↔ Idle (fates_of t.sent) (end_of o t)
+idle-closed w o t idle is origin whole h = subst (λ (x : Trace). IsTrue idle ↔ Idle (fates_of x.sent) (end_of o x)) (sym is)
+    (subst (λ (q : Origin). IsTrue idle ↔ Idle (fates_of w.sent) (walk (base_from q) w.entries)) origin (λ i. (h.0 i).1, λ d. h.1 (whole, d)))
+
+pub rest-closed : (w : WireParts) (o : Origin) (t : Trace) → t ≡ trace_of w → w.origin ≡ o → IsQuiet w → AtRest (end_of o t)
+rest-closed w o t is origin q = rest-found w (end_of o t) (ap (λ (x : Origin). walk (base_from x) w.entries) origin ∙ ap (end_of o) (sym is)) q
 
 -- ---- the start
 

@@ -1,10 +1,9 @@
 -- What a pass of the wire has seen, and what a visit changes.
-use Rattle.std.specs.Prelude.{◌≡◌, ℕ, Bool, true, false, List, [], ◌∷◌, ◌++◌, map, length, Option, Some, None, IsTrue}
+use Rattle.std.specs.Prelude.{◌≡◌, ℕ, Bool, true, false, List, [], ◌∷◌, ◌++◌, map, Option, Some, None, IsTrue}
 use Rattle.pseudo_time.specs.StampParts.{StampParts}
 use Rattle.std.specs.Option.{unwrap_or}
 use Rattle.pseudo_time.specs.declared.nodes.NodeId.{NodeId}
 use Rattle.pseudo_time.specs.declared.down_causes.DownCause.{DownCause}
-use Rattle.stream_port.specs.declared.fates.Fate.{Fate}
 use Rattle.atomic_table.specs.declared.shared.Seat.{Seat}
 use Rattle.seat_lock.specs.declared.views.View.{View}
 use Rattle.seat_lock.specs.declared.views.Founding.{Founding}
@@ -17,7 +16,7 @@ use Rattle.world_core.specs.declared.traces.Opened.{Opened}
 use Rattle.world_core.specs.Nodes.{Input}
 use Rattle.world_core.specs.Nodes.Input.{Going, Taking, Learning, Hearing}
 use Rattle.world_core.specs.Walks.{Base, Life, Flags, World, walk, opened_log, told, gated_life, crashed_life, went, learned, with_due}
-use Rattle.world_core.specs.Legal.{HasGone, Idle, is_behind}
+use Rattle.world_core.specs.Legal.{HasGone, is_behind}
 use Rattle.wire_core.specs.Wires.{Origin, WireParts, base_from}
 use Rattle.wire_core.specs.Boards.{owner_for, owner_of, place_of}
 use Rattle.wire_core.specs.declared.takens.Taken.{Taken}
@@ -171,10 +170,6 @@ HadNothing n k = (world_at k).moved ≡ false → unwrap_or (opened_log (origin_
 -- no node that is up has anything to do, beside taking copies
 abbrev pub AtRest : World → Type 0
 AtRest w = (n : NodeId) → (w.flags n).up ≡ true → ((w.flags n).due ≡ false) × (is_behind w n ≡ false) × HasGone w n
-
--- The place is idle, by the fates of all messages that were sent.
-abbrev pub IsIdlePlace : World → Type 0
-IsIdlePlace w = (fates : List Fate) × (length fates ≡ length w.sendings) × Idle fates w
 
 -- what ticking answers: a Tick is added at rest alone
 abbrev pub TicksOn : Sight → Sight → Option ℕ → Type 0

@@ -1,19 +1,22 @@
 -- Closed traces, and what is known of a whole story.
-use Rattle.std.specs.Prelude.{◌≡◌, ℕ, Bool, List, [], map, Option, IsTrue}
+use Rattle.std.specs.Prelude.{◌≡◌, ◌<◌, ℕ, ◌^◌, Bool, List, [], ◌++◌, map, Option, IsTrue}
 use Rattle.pseudo_time.specs.Lists.{Every}
 use Rattle.stream_port.specs.declared.fates.Asked.{Asked}
 use Rattle.plan_form.specs.declared.plans.Plan.{Plan}
 use Rattle.world_core.specs.declared.traces.Trace.{Trace}
-use Rattle.world_core.specs.Walks.{sent_by, walk}
+use Rattle.world_core.specs.Walks.{World, sent_by, walk}
 use Rattle.world_core.specs.Legal.{Numbered, post_of, asked_of}
 use Rattle.world_core.specs.Readings.{IsLegal}
 use Rattle.wire_core.specs.Wires.{Origin, IsRunOf, base_from}
 use Rattle.wire_core.specs.Clocked.{IsClocked, tick_moments}
-use Rattle.std.specs.Prelude.{◌++◌, ◌<◌, ◌^◌}
 
 -- the trace of no run
 abbrev pub no_trace : Trace
 no_trace = record { start = 0; opened = []; sent = []; entries = [] }
+
+-- where the entries of a trace lead to, in a run with this origin
+abbrev pub end_of : Origin → Trace → World
+end_of o t = walk (base_from o) t.entries
 
 -- The trace is one of a wire with this origin that closed whole, with the fates that were ever asked for and the clock's answers.
 pub record IsWhole (told : Bool) (o : Origin) (t : Trace) (asked : List Asked) (answers : Option (List ℕ)) : Type 0 where
@@ -24,5 +27,5 @@ pub record IsWhole (told : Bool) (o : Origin) (t : Trace) (asked : List Asked) (
   pub fates : asked ≡ o.asked ++ map asked_of t.sent
   pub clock : IsClocked o.answers answers o.start t.entries
   -- where media tell their content
-  pub sent : IsTrue told → map post_of t.sent ≡ sent_by (walk (base_from o) t.entries)
+  pub sent : IsTrue told → map post_of t.sent ≡ sent_by (end_of o t)
   pub legal : IsTrue told → (plan : Plan) → IsRunOf plan o → IsLegal plan asked t

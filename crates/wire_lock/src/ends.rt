@@ -1,10 +1,11 @@
 //! The start and the end of a shared wire.
-ghost use Rattle.std.specs.Prelude.{◌≡◌, ◌≢◌, ◌+◌, [], length, map, vec_len, IfOk, IfErr, All, AllPairs};
+ghost use Rattle.std.specs.Prelude.{◌≡◌, ◌≢◌, ◌+◌, ◌↔◌, [], length, map, vec_len, IsTrue, IfOk, IfErr, All, AllPairs};
 ghost use Rattle.seat_lock.specs.Rule.{IsOneOf};
 ghost use Rattle.seat_lock.specs.Words.{CarriesOn, base_of, fresh, knows};
+ghost use Rattle.world_core.specs.Legal.{Idle, fates_of};
 ghost use Rattle.wire_core.specs.Boards.{owner_for, owner_of};
-ghost use Rattle.wire_lock.specs.Sights.{IsWirePass, owners_for};
-ghost use Rattle.wire_lock.specs.Stories.{IsWhole, no_trace};
+ghost use Rattle.wire_lock.specs.Sights.{AtRest, IsWirePass, owners_for};
+ghost use Rattle.wire_lock.specs.Stories.{IsWhole, end_of, no_trace};
 
 use crate::shared::{SharedWire, WirePass};
 use medium_port::Medium;
@@ -53,6 +54,19 @@ impl Told {
     }
 }
 
+/// A run that has ended.
+#[derive(Drop)]
+pub struct Closed<F, C> {
+    /// Its trace.
+    pub told: Told,
+    /// At the end no node that is up had anything to do.
+    pub idle: bool,
+    /// The run's fates.
+    pub fates: F,
+    /// The run's clock.
+    pub clock: C,
+}
+
 // The number of the owner of a node's entries.
 fn owner_for(node: NodeId) -> u32
     ensures { result ≡ owner_for node }
@@ -99,24 +113,33 @@ impl<F: Fates, C: Clock, M: Medium> SharedWire<F, C, M> {
     }
 
     /// Ends the run: tells its trace, and hands the fates and the clock back. `passes` are all its
-    /// passes, in any order. An error comes where memory was wanting in a visit.
+    /// passes, in any order. An error comes just where memory was wanting in a visit, which only the
+    /// wire knows: a pass doesn't.
     ///
     /// The entries begin with the story of each pass, and of the owner of each pass they have just
     /// that pass's own.
-    pub fn close(self, passes: Vec<WirePass<F, C, M>>) -> Result<(Told, F, C), (F, C, AllocError)>
+    pub fn close(self, passes: Vec<WirePass<F, C, M>>) -> Result<Closed<F, C>, (F, C, AllocError)>
         requires passes { All (IsWirePass self.lock) passes.items }
         requires all { vec_len passes ≡ length (base_of self.lock).origin.opened + 1 }
-        ensures whole { IfOk result (λ r. IsWhole M.tells (base_of self.lock).origin r.0 (F.asked r.1) (C.answers r.2)) }
-        ensures carries { IfOk result (λ r. All (λ pass. CarriesOn owner_of (knows pass) r.0.entries) passes.items) }
-        ensures owned { IfOk result (λ r. All (λ e. IsOneOf (owners_for (base_of self.lock).origin.opened) (owner_of e)) r.0.entries) }
+        ensures whole { IfOk result (λ r. IsWhole M.tells (base_of self.lock).origin r.told (F.asked r.fates) (C.answers r.clock)) }
+        ensures idle { IsTrue M.tells → IfOk result (λ r. IsTrue r.idle ↔ Idle (fates_of r.told.sent) (end_of (base_of self.lock).origin r.told)) }
+        ensures rest { IfOk result (λ r. IsTrue r.idle → AtRest (end_of (base_of self.lock).origin r.told)) }
+        ensures carries { IfOk result (λ r. All (λ pass. CarriesOn owner_of (knows pass) r.told.entries) passes.items) }
+        ensures owned { IfOk result (λ r. All (λ e. IsOneOf (owners_for (base_of self.lock).origin.opened) (owner_of e)) r.told.entries) }
     {
         let SharedWire { lock } = self;
         let wire = lock.close(passes);
         let broken = wire.is_broken();
+        let idle = wire.idle();
         let (trace, fates, clock) = wire.finish();
         if broken {
             return Err((fates, clock, AllocError));
         }
-        Ok((Told { trace }, fates, clock))
+        Ok(Closed {
+            told: Told { trace },
+            idle,
+            fates,
+            clock,
+        })
     }
 }

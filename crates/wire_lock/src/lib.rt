@@ -10,7 +10,7 @@ mod shared;
 mod visits;
 
 pub use boards::{number_of, place_of};
-pub use ends::Told;
+pub use ends::{Closed, Told};
 pub use laws::{law_of_numbers, law_of_whole_stories};
 pub use looks::Seen;
 pub use shared::{SharedWire, WirePass};

@@ -3,7 +3,7 @@ ghost use Rattle.std.specs.Prelude.{◌≡◌, length, IsTrue, IfOk, OnErr};
 ghost use Rattle.seat_lock.specs.Story.{longer};
 ghost use Rattle.seat_lock.specs.Words.{knows};
 ghost use Rattle.world_core.specs.Walks.{sent_by};
-ghost use Rattle.wire_lock.specs.Sights.{IsWirePass, Looked, TicksOn, AtRest, IsIdlePlace, world_at};
+ghost use Rattle.wire_lock.specs.Sights.{IsWirePass, Looked, TicksOn, AtRest, world_at};
 
 use crate::shared::{SharedWire, WirePass};
 use medium_port::Medium;
@@ -47,13 +47,14 @@ impl<F: Fates, C: Clock, M: Medium> SharedWire<F, C, M> {
 
     /// How many messages the wire has sent, and whether it is idle. After a want of memory in an
     /// earlier visit it isn't idle.
+    ///
+    /// Which copies are due only the wire knows: the run's end tells whether it closed idle.
     pub fn look<R: Wait>(&self, rt: &R, pass: WirePass<F, C, M>) -> (WirePass<F, C, M>, Seen)
         requires pass { IsWirePass self.now.lock pass }
         ensures pass { IsWirePass self.now.lock result.0 }
         ensures looked { Looked (knows pass) (knows result.0) }
         ensures sent { IsTrue M.tells → result.1.sent ≡ length (sent_by (world_at (knows result.0))) }
         ensures rest { IsTrue result.1.idle → AtRest (world_at (knows result.0)) }
-        ensures idle { IsTrue M.tells → IsTrue result.1.idle → IsIdlePlace (world_at (knows result.0)) }
     {
         let mut visit = self.lock.enter(rt, pass);
         let wire = visit.value();

@@ -1,8 +1,11 @@
 //! The visits of nodes.
 ghost use Rattle.std.specs.Prelude.{◌≡◌, ◌≤◌, ◌<◌, ◌^◌, Some, true, false, length, IsTrue, IfOk, OnOk, OnErr};
 ghost use Rattle.pseudo_time.specs.Nodes.{is_broker};
+ghost use Rattle.message_form.specs.Messages.{IsMessage};
 ghost use Rattle.seat_lock.specs.Words.{knows};
+ghost use Rattle.world_core.specs.Walks.{sent_by};
 ghost use Rattle.world_core.specs.Legal.{HasGone, Stands, is_behind};
+ghost use Rattle.wire_core.specs.Changes.{IfArrived, IsCopyOf};
 ghost use Rattle.wire_lock.specs.Sights.{IsWirePass, IsOf, HadNothing, world_at, life_at, flags_at};
 ghost use Rattle.wire_lock.specs.Sights.{Looked, TakesOne, Goes, Hears, Learns, Crashes, Falls};
 
@@ -29,6 +32,8 @@ impl<F: Fates, C: Clock, M: Medium> SharedWire<F, C, M> {
         requires gone { HasGone (world_at (knows pass)) node }
         ensures pass { IsWirePass self.now.lock result.0 }
         ensures ok { IfOk result.1 (TakesOne M.tells node (knows pass) (knows result.0)) }
+        ensures copy { IsTrue M.tells → IfOk result.1 (IfArrived (IsCopyOf (sent_by (world_at (knows result.0))) node)) }
+        ensures in_range { IfOk result.1 (IfArrived (λ a. IsMessage a.message)) }
         ensures err { OnErr result.1 (Looked (knows pass) (knows result.0)) }
     {
         let mut visit = self.lock.enter(rt, pass);

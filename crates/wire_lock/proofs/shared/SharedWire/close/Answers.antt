@@ -1,7 +1,8 @@
-use Rattle.std.proofs.Common.{ap, sym, subst, get_or}
+use Rattle.std.proofs.Common.{ap, sym, subst, get_or, ◌∙◌}
 use Rattle.seat_lock.specs.Words.{CarriesOn, knows}
 use Rattle.world_core.specs.declared.traces.Trace.{Trace}
 use Rattle.wire_core.specs.Boards.{owner_of}
+use Rattle.wire_lock.proofs.SightLemmas.{idle-closed, rest-closed}
 use Rattle.wire_lock.proofs.shared.SharedWire.close.Goals as goal
 
 pub close-wire-requires-clause-passes : goal.close-wire-requires-clause-passes
@@ -10,3 +11,11 @@ close-wire-requires-clause-passes g c = λ k d lt. (c.requires.passes k d lt).of
 pub returns-clause-carries : goal.returns-clause-carries
 returns-clause-carries g c =
     λ k d lt. subst (CarriesOn owner_of (knows (get_or c.args.passes.items k d))) (sym (ap (λ (t : Trace). t.entries) c.finish-trace.ensures.trace)) (c.close-wire.ensures.carries k d lt)
+
+pub returns-clause-idle : goal.returns-clause-idle
+returns-clause-idle g c =
+    λ t. idle-closed c.close-wire.result _ _ c.idle-idle.result c.finish-trace.ensures.trace c.close-wire.ensures.stands (sym c.is_broken-broken.ensures ∙ c.if-broken.false) (c.idle-idle.ensures.idle t)
+
+pub returns-clause-rest : goal.returns-clause-rest
+returns-clause-rest g c =
+    λ i. rest-closed c.close-wire.result _ _ c.finish-trace.ensures.trace c.close-wire.ensures.stands (c.idle-idle.ensures.quiet.0 i).1

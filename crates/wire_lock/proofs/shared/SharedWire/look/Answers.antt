@@ -1,7 +1,7 @@
 use Rattle.std.proofs.Common.{sym, ◌∙◌}
 use Rattle.seat_lock.specs.Words.{knows}
 use Rattle.wire_lock.proofs.SightLemmas.{finds, origin-of, entries-in, lock-origin, looked-of}
-use Rattle.wire_lock.proofs.SightLemmas.{sent-left, rest-left, idle-left}
+use Rattle.wire_lock.proofs.SightLemmas.{sent-left, rest-left}
 use Rattle.wire_lock.proofs.shared.SharedWire.look.Goals as goal
 
 pub leave-requires : goal.leave-requires
@@ -25,9 +25,3 @@ returns-clause-rest g c =
     let x = c.enter-visit.ensures.value in
     let s = finds c.args.self.now.lock c.args.pass x.0 c.value-wire.result.now _ c.requires.pass x.2 x.3 c.enter-visit.ensures.carries (c.value-wire.ensures.value x.0 x.1) in
     λ i. rest-left (knows c.args.pass) (knows c.leave.result) _ c.value-wire.result.now (c.leave.ensures.kept ∙ c.enter-visit.ensures.kept) s.world (c.idle.ensures.quiet.0 i).1
-
-pub returns-clause-idle : goal.returns-clause-idle
-returns-clause-idle g c =
-    let x = c.enter-visit.ensures.value in
-    let s = finds c.args.self.now.lock c.args.pass x.0 c.value-wire.result.now _ c.requires.pass x.2 x.3 c.enter-visit.ensures.carries (c.value-wire.ensures.value x.0 x.1) in
-    λ t i. idle-left (knows c.args.pass) (knows c.leave.result) _ c.value-wire.result.now c.sent.result (c.leave.ensures.kept ∙ c.enter-visit.ensures.kept) s.world c.sent.ensures.count (c.sent.ensures.told t) ((c.idle.ensures.idle t).0 i).1

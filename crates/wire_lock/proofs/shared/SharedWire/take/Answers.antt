@@ -7,7 +7,7 @@ use Rattle.world_core.specs.Walks.{World, Flags, walk}
 use Rattle.wire_lock.specs.Sights.{base_at}
 use Rattle.wire_lock.proofs.SightLemmas.{finds, origin-of, entries-in, story-of, lock-origin, noted-kept, looked-of, visited-of}
 use Rattle.world_core.specs.Walks.{numbered, sent_by}
-use Rattle.wire_lock.proofs.SightLemmas.{took-copy, behind-is}
+use Rattle.wire_lock.proofs.SightLemmas.{took-copy, copy-left, behind-is}
 use Rattle.wire_lock.proofs.shared.SharedWire.take.Goals as goal
 
 pub take-requires-clause-up : goal.take-requires-clause-up
@@ -87,3 +87,16 @@ returns-in-Ok-Arrived-clause-ok g c =
     (λ t. let q = rw c.in-Ok-Arrived.field-0-is at c.in-Ok-Arrived.ensures.told t in
     took-copy (base_at (knows c.args.pass)) c.args.node _ (walk (base_at (knows c.args.pass)) (sees c.enter-visit.result).story).sendings c.in-Ok-Arrived.arrival.number _
     (ap (λ (w : World). numbered (sent_by w) c.in-Ok-Arrived.arrival.number) (sym s.world) ∙ q)) refl
+
+pub returns-in-Ok-Arrived-clause-copy : goal.returns-in-Ok-Arrived-clause-copy
+returns-in-Ok-Arrived-clause-copy g c =
+    let x = c.enter-visit.ensures.value in
+    let s = finds c.args.self.now.lock c.args.pass x.0 c.value.result.now _ c.requires.pass x.2 x.3 c.enter-visit.ensures.carries (c.value.ensures.value x.0 x.1) in
+    λ t. copy-left (knows c.args.pass) _ _ _ _ c.args.node c.in-Ok-Arrived.arrival
+    (c.leave-in-Ok-Arrived.ensures.kept ∙ c.note.ensures.sees ∙ noted-kept (sees c.enter-visit.result) (knows c.args.pass) (Take c.args.node c.in-Ok-Arrived.arrival.number) c.enter-visit.ensures.kept)
+    s.world (rw c.in-Ok-Arrived.field-0-is at c.in-Ok-Arrived.ensures.told t)
+
+pub returns-in-Ok-Arrived-clause-in_range : goal.returns-in-Ok-Arrived-clause-in_range
+returns-in-Ok-Arrived-clause-in_range g c =
+    let q = rw c.in-Ok-Arrived.field-0-is at c.in-Ok-Arrived.ensures.takes in
+    q.1.in_range

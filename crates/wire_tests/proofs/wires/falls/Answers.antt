@@ -3,7 +3,7 @@ use Rattle.world_core.specs.declared.entries.Entry.{Entry}
 use Rattle.world_core.specs.Walks.{World, is_down, walk}
 use Rattle.world_core.proofs.Lives.{walk-more}
 use Rattle.wire_core.specs.Wires.{Origin, base_from}
-use Rattle.node_tests.proofs.wires.falls.Goals as goal
+use Rattle.wire_tests.proofs.wires.falls.Goals as goal
 
 -- an entry that is no Down stands
 moved-now : (o : Origin) (es now : List Entry) (e : Entry) → is_down e ≡ false → now ≡ es ++ e ∷ [] → (walk (base_from o) now).moved ≡ true

@@ -1,8 +1,10 @@
+//! The wire alone, over media that tell nothing.
 ghost use Rattle.std.specs.Prelude.{◌≡◌, true, IsTrue, IfOk};
 ghost use Rattle.message_form.specs.Messages.{IsMessage};
 ghost use Rattle.turn_form.specs.Ranges.{AreOuts};
 ghost use Rattle.world_core.specs.Legal.{HasGone, is_behind};
 ghost use Rattle.wire_core.specs.Wires.{world_of, IsNew};
+ghost use Rattle.wire_tests.specs.Passes.{blank_two};
 
 use medium_port::{FileMedium, Medium};
 use message_form::Message;
@@ -17,14 +19,14 @@ use wire_core::{Taken, Wire};
 use world_core::{Entry, Opened, Sent, Trace};
 
 /// Its media tell nothing, so that a test may send what it likes.
-type TestWire = Wire<MemoryFates, FixedClock, FileMedium>;
+pub type TestWire = Wire<MemoryFates, FixedClock, FileMedium>;
 
-const HOME: NodeId = NodeId {
+pub const HOME: NodeId = NodeId {
     kind: NodeKind::Repository,
     number: 1,
 };
 
-const BROKER: NodeId = NodeId {
+pub const BROKER: NodeId = NodeId {
     kind: NodeKind::Broker,
     number: 1,
 };
@@ -55,7 +57,7 @@ enum Deed {
     Busy,
 }
 
-fn stamp_of() -> Result<Stamp, AllocError> {
+pub fn stamp_of() -> Result<Stamp, AllocError> {
     Stamp::new(1, 1, 1).ok_or(AllocError)
 }
 
@@ -63,8 +65,8 @@ fn time_of(step: u32) -> Result<PseudoTime, AllocError> {
     PseudoTime::new(stamp_of()?, step).ok_or(AllocError)
 }
 
-// The message with this number: those of an act that writes an object and reads it.
-fn message_of(number: u32) -> Result<Message, AllocError>
+/// The message with this number: those of an act that writes an object and reads it.
+pub fn message_of(number: u32) -> Result<Message, AllocError>
     ensures { IfOk result IsMessage }
 {
     match number {
@@ -102,8 +104,8 @@ fn other(node: NodeId) -> NodeId {
     }
 }
 
-// So many messages from this number on, to this node.
-fn outs_of(alloc: Global, to: NodeId, first: u32, count: u32) -> Result<Vec<Out>, AllocError>
+/// So many messages from this number on, to this node.
+pub fn outs_of(alloc: Global, to: NodeId, first: u32, count: u32) -> Result<Vec<Out>, AllocError>
     ensures { IfOk result (λ outs. AreOuts outs.items) }
 {
     let mut outs = Vec::new(alloc);
@@ -258,20 +260,25 @@ fn plays(alloc: Global, wire: &mut TestWire, deeds: &[Deed]) -> Result<bool, All
 }
 
 // One repository and one broker, with empty logs.
-fn blank(alloc: Global) -> Result<Vec<Opened>, AllocError> {
+fn blank(alloc: Global) -> Result<Vec<Opened>, AllocError>
+    ensures { IfOk result (λ opened. opened.items ≡ blank_two) }
+{
     let mut opened = Vec::new(alloc);
-    for node in [HOME, BROKER] {
-        opened.push(Opened {
-            node,
-            effects: Items::of(Vec::new(alloc)),
-        })?;
-    }
+    opened.push(Opened {
+        node: HOME,
+        effects: Items::of(Vec::new(alloc)),
+    })?;
+    opened.push(Opened {
+        node: BROKER,
+        effects: Items::of(Vec::new(alloc)),
+    })?;
     Ok(opened)
 }
 
-// A wire of a run of them that begins at moment 0, with these rules for fates.
-fn wire_of(alloc: Global, rules: Vec<FateRule>) -> Result<TestWire, AllocError>
-    ensures { IfOk result IsNew }
+/// A wire of a run of them that begins at moment 0, with these rules for fates.
+pub fn wire_of(alloc: Global, rules: Vec<FateRule>) -> Result<TestWire, AllocError>
+    ensures empty { IfOk result IsNew }
+    ensures opened { IfOk result (λ w. w.origin.opened ≡ blank_two) }
 {
     let fates = MemoryFates::new(alloc, rules);
     match Wire::new(

@@ -1,0 +1,107 @@
+//! Decisions on the board of a shared wire.
+ghost use Rattle.std.specs.Prelude.{◌≡◌, IfOk};
+
+use crate::passes::{end, gates, goes, start};
+use crate::wires::BROKER;
+use pseudo_time::Stamp;
+use std::alloc::{AllocError, Global};
+use std::sync::Wait;
+use std::test::*;
+use wire_lock::{number_of, place_of};
+use world_core::Entry;
+
+fn stamp_at(clock: u64) -> Result<Stamp, AllocError> {
+    Stamp::new(clock, 1, 1).ok_or(AllocError)
+}
+
+/// The clock of a stamp, its word, whether it is committed, and its number.
+const NUMBERS: [(u64, u32, bool, u64); 4] = [
+    (1, 49, true, 0x0000_0000_0004_0405),
+    (1, 49, false, 0x0000_0000_0004_0406),
+    (4096, 48, true, 0x0000_0000_4000_0405),
+    (4097, 49, true, 0x0000_0000_4004_0405),
+];
+
+// Whether each decision has its word and its number.
+fn are_numbers(numbers: &[(u64, u32, bool, u64)]) -> Result<bool, AllocError> {
+    for (clock, place, committed, number) in numbers {
+        let stamp = stamp_at(*clock)?;
+        if place_of(stamp) != *place {
+            return Ok(false);
+        }
+        if number_of(stamp, *committed) != *number {
+            return Ok(false);
+        }
+    }
+    Ok(true)
+}
+
+#[test]
+fn numbers_of_decisions(rt: HostRuntime) -> Result<(), Fail> {
+    assert!(rt; are_numbers(&NUMBERS)?);
+    Ok(())
+}
+
+/// Decisions of two stamps that share a word.
+#[derive(Clone, Copy, Debug, PartialEq, Eq)]
+struct Pair {
+    first: Option<bool>,
+    later: Option<bool>,
+}
+
+const fn pair(first: Option<bool>, later: Option<bool>) -> Pair {
+    Pair { first, later }
+}
+
+/// What is posted, the first one first, and what the board tells then.
+const POSTED: [(Pair, Pair); 5] = [
+    (pair(None, None), pair(None, None)),
+    (pair(Some(true), None), pair(Some(true), None)),
+    (pair(Some(false), None), pair(Some(false), None)),
+    (pair(None, Some(true)), pair(None, Some(true))),
+    (pair(Some(true), Some(false)), pair(None, Some(false))),
+];
+
+// The decisions of the stamps 1.1.1 and 4097.1.1.
+fn decides_of(alloc: Global, pair: Pair) -> Result<Vec<(Stamp, bool)>, AllocError> {
+    let mut decides = Vec::new(alloc);
+    if let Some(committed) = pair.first {
+        decides.push((stamp_at(1)?, committed))?;
+    }
+    if let Some(committed) = pair.later {
+        decides.push((stamp_at(4097)?, committed))?;
+    }
+    Ok(decides)
+}
+
+// Whether the board tells this, to the node that posted and to the other, after a gate of these.
+fn tells(rt: &impl Wait, alloc: Global, posted: Pair, told: Pair) -> Result<bool, AllocError> {
+    let begun = start(alloc, Vec::new(alloc))?;
+    let wire = begun.wire;
+    let mut home = begun.home;
+    let before = wire.decided(&mut home, stamp_at(1)?);
+    let pass = goes(rt, &wire, begun.broker)?;
+    let decides = decides_of(alloc, posted)?;
+    let mut pass = gates(rt, &wire, BROKER, pass, &[], decides.as_slice())?;
+    let here = Pair {
+        first: wire.decided(&mut pass, stamp_at(1)?),
+        later: wire.decided(&mut pass, stamp_at(4097)?),
+    };
+    let there = Pair {
+        first: wire.decided(&mut home, stamp_at(1)?),
+        later: wire.decided(&mut home, stamp_at(4097)?),
+    };
+    let closed = end(alloc, wire, home, pass, begun.conductor)?;
+    let entries = closed.told.trace().entries.as_slice();
+    let gone = entries == [Entry::Go { node: BROKER }, Entry::Gate { node: BROKER }].as_slice();
+    Ok(gone && closed.idle && before.is_none() && here == told && there == told)
+}
+
+#[test]
+fn decisions_that_share_a_word(rt: HostRuntime) -> Result<(), Fail> {
+    let alloc = rt.alloc();
+    for (posted, told) in &POSTED {
+        assert!(rt; tells(&rt, alloc, *posted, *told)?);
+    }
+    Ok(())
+}
