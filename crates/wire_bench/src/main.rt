@@ -144,6 +144,7 @@ fn wire_of(alloc: Global) -> Result<Wire<MemoryFates, FixedClock, FileMedium>, A
 }
 
 /// A shared wire, the passes of its brokers and the conductor's.
+#[derive(Drop)]
 struct Begun {
     wire: TimedShared,
     one: TimedPass,
@@ -220,19 +221,25 @@ fn end(
 fn timed<R: Threads + Wait + Sync>(rt: &R, alloc: Global, threads: u32) -> Result<usize, AllocError>
     requires { (1 ≤ threads) × (threads ≤ 4) }
 {
-    let begun = begin(alloc)?;
-    let wire = begun.wire;
+    let Begun {
+        wire,
+        one,
+        two,
+        three,
+        four,
+        conductor,
+    } = begin(alloc)?;
     let each = ROUNDS / threads;
-    let one = hand(1, each, begun.one);
-    let two = hand(2, if threads < 2 { 0 } else { each }, begun.two);
-    let three = hand(3, if threads < 4 { 0 } else { each }, begun.three);
-    let four = hand(4, if threads < 4 { 0 } else { each }, begun.four);
+    let one = hand(1, each, one);
+    let two = hand(2, if threads < 2 { 0 } else { each }, two);
+    let three = hand(3, if threads < 4 { 0 } else { each }, three);
+    let four = hand(4, if threads < 4 { 0 } else { each }, four);
     let (ones, others) = by_four(rt, &wire, (one, two), (three, four));
     let one = ones.0.pass.ok_or(AllocError)?;
     let two = ones.1.pass.ok_or(AllocError)?;
     let three = others.0.pass.ok_or(AllocError)?;
     let four = others.1.pass.ok_or(AllocError)?;
-    end(alloc, wire, (one, two), (three, four), begun.conductor)
+    end(alloc, wire, (one, two), (three, four), conductor)
 }
 
 fn main(rt: HostRuntime) -> ExitCode {

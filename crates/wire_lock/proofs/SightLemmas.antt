@@ -1,7 +1,7 @@
 -- What a pass has seen of its node is so in what a visit finds, and what a visit leaves.
 use Rattle.std.specs.Prelude.{◌≡◌, ◌↔◌, ℕ, ◌+◌, ◌==◌, Bool, true, false, ◌&&◌, List, [], ◌∷◌, ◌++◌, map, take, length, ◌<◌, Option, Some, None, IsTrue, if◌then◌else◌}
 use Rattle.std.proofs.Common.{refl, ap, sym, ◌∙◌, subst, cond, eq-eqb, get_or, append_assoc}
-use Rattle.std.proofs.lemmas.List.{map-append, get_or-map, length-map, take_more}
+use Rattle.std.proofs.lemmas.List.{map-append, get_or-map, take_more}
 use Rattle.std.proofs.lemmas.List.Elements.{filter-append}
 use Rattle.std.proofs.Math.ListN.{get_or-map as get_or-f}
 use Rattle.std.specs.declared.snapshot.Snapshot.{Snapshot}
@@ -20,7 +20,6 @@ use Rattle.seat_lock.specs.Story.{Begins, entries_of}
 use Rattle.world_core.specs.declared.entries.Entry.{Entry}
 use Rattle.world_core.specs.declared.entries.Entry.TheVariants.{Take, Go, Learn, Hear, Gate, Crash, Down, Tick}
 use Rattle.turn_form.specs.Posts.{Post}
-use Rattle.world_core.specs.declared.traces.Sent.{Sent}
 use Rattle.world_core.specs.Nodes.Input.{Taking}
 use Rattle.world_core.specs.Walks.{Base, Life, Flags, Sending, World, numbered, took, told, gated_life, sent_by, names, own, lives_on, flagged, is_down, step, start_world, walk_from, walk}
 use Rattle.world_core.specs.Legal.{Stands, Idle, is_behind, fates_of}

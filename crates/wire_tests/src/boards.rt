@@ -1,7 +1,7 @@
 //! Decisions on the board of a shared wire.
 ghost use Rattle.std.specs.Prelude.{◌≡◌, IfOk};
 
-use crate::passes::{end, gates, goes, start};
+use crate::passes::{Started, end, gates, goes, start};
 use crate::wires::BROKER;
 use pseudo_time::Stamp;
 use std::alloc::{AllocError, Global};
@@ -49,17 +49,13 @@ struct Pair {
     later: Option<bool>,
 }
 
-const fn pair(first: Option<bool>, later: Option<bool>) -> Pair {
-    Pair { first, later }
-}
-
 /// What is posted, the first one first, and what the board tells then.
-const POSTED: [(Pair, Pair); 5] = [
-    (pair(None, None), pair(None, None)),
-    (pair(Some(true), None), pair(Some(true), None)),
-    (pair(Some(false), None), pair(Some(false), None)),
-    (pair(None, Some(true)), pair(None, Some(true))),
-    (pair(Some(true), Some(false)), pair(None, Some(false))),
+const POSTED: [(Option<bool>, Option<bool>, Option<bool>, Option<bool>); 5] = [
+    (None, None, None, None),
+    (Some(true), None, Some(true), None),
+    (Some(false), None, Some(false), None),
+    (None, Some(true), None, Some(true)),
+    (Some(true), Some(false), None, Some(false)),
 ];
 
 // The decisions of the stamps 1.1.1 and 4097.1.1.
@@ -76,11 +72,14 @@ fn decides_of(alloc: Global, pair: Pair) -> Result<Vec<(Stamp, bool)>, AllocErro
 
 // Whether the board tells this, to the node that posted and to the other, after a gate of these.
 fn tells(rt: &impl Wait, alloc: Global, posted: Pair, told: Pair) -> Result<bool, AllocError> {
-    let begun = start(alloc, Vec::new(alloc))?;
-    let wire = begun.wire;
-    let mut home = begun.home;
+    let Started {
+        wire,
+        mut home,
+        broker,
+        conductor,
+    } = start(alloc, Vec::new(alloc))?;
     let before = wire.decided(&mut home, stamp_at(1)?);
-    let pass = goes(rt, &wire, begun.broker)?;
+    let pass = goes(rt, &wire, broker)?;
     let decides = decides_of(alloc, posted)?;
     let mut pass = gates(rt, &wire, BROKER, pass, &[], decides.as_slice())?;
     let here = Pair {
@@ -91,7 +90,7 @@ fn tells(rt: &impl Wait, alloc: Global, posted: Pair, told: Pair) -> Result<bool
         first: wire.decided(&mut home, stamp_at(1)?),
         later: wire.decided(&mut home, stamp_at(4097)?),
     };
-    let closed = end(alloc, wire, home, pass, begun.conductor)?;
+    let closed = end(alloc, wire, home, pass, conductor)?;
     let entries = closed.told.trace().entries.as_slice();
     let gone = entries == [Entry::Go { node: BROKER }, Entry::Gate { node: BROKER }].as_slice();
     Ok(gone && closed.idle && before.is_none() && here == told && there == told)
@@ -100,8 +99,16 @@ fn tells(rt: &impl Wait, alloc: Global, posted: Pair, told: Pair) -> Result<bool
 #[test]
 fn decisions_that_share_a_word(rt: HostRuntime) -> Result<(), Fail> {
     let alloc = rt.alloc();
-    for (posted, told) in &POSTED {
-        assert!(rt; tells(&rt, alloc, *posted, *told)?);
+    for (first, later, first_told, later_told) in &POSTED {
+        let posted = Pair {
+            first: *first,
+            later: *later,
+        };
+        let told = Pair {
+            first: *first_told,
+            later: *later_told,
+        };
+        assert!(rt; tells(&rt, alloc, posted, told)?);
     }
     Ok(())
 }

@@ -24,6 +24,7 @@ pub type TestPass = WirePass<MemoryFates, FixedClock, FileMedium>;
 pub type TestClosed = Closed<MemoryFates, FixedClock>;
 
 /// A run that begins.
+#[derive(Drop)]
 pub struct Started {
     pub wire: TestShared,
     pub home: TestPass,

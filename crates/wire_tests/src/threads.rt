@@ -4,7 +4,7 @@ ghost use Rattle.pseudo_time.specs.Nodes.{repository, broker};
 ghost use Rattle.wire_lock.specs.Sights.{IsWirePass};
 ghost use Rattle.wire_tests.specs.Passes.{IsAt};
 
-use crate::passes::{TestClosed, TestPass, TestShared, end, gates, goes, start, takes};
+use crate::passes::{Started, TestClosed, TestPass, TestShared, end, gates, goes, start, takes};
 use crate::wires::{BROKER, HOME, message_of, outs_of, stamp_of};
 use pseudo_time::{NodeId, NodeKind, Stamp};
 use std::alloc::{AllocError, Global};
@@ -156,20 +156,24 @@ fn asks(
 }
 
 fn two_nodes<R: Threads + Wait + Sync>(rt: &R, alloc: Global) -> Result<TestClosed, Fail> {
-    let begun = start(alloc, Vec::new(alloc))?;
-    let wire = begun.wire;
+    let Started {
+        wire,
+        home,
+        broker,
+        conductor,
+    } = start(alloc, Vec::new(alloc))?;
     let home = Hand {
         node: HOME,
-        pass: Some(begun.home),
+        pass: Some(home),
     };
     let broker = Hand {
         node: BROKER,
-        pass: Some(begun.broker),
+        pass: Some(broker),
     };
     let (home, broker) = by_two(rt, alloc, &wire, home, broker);
     let home = home.pass.ok_or("the repository's pass")?;
     let broker = broker.pass.ok_or("the broker's pass")?;
-    Ok(end(alloc, wire, home, broker, begun.conductor)?)
+    Ok(end(alloc, wire, home, broker, conductor)?)
 }
 
 /// However the threads take turns, this is what happens.

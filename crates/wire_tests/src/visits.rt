@@ -4,7 +4,7 @@ ghost use Rattle.pseudo_time.specs.Nodes.{repository, broker, is_broker};
 ghost use Rattle.wire_tests.specs.Passes.{IsAt, IsConductors};
 
 use crate::passes::{
-    TestClosed, TestPass, TestShared, end, falls, gates, goes, hears, learns, start, takes,
+    Started, TestClosed, TestPass, TestShared, end, falls, gates, goes, hears, learns, start, takes,
 };
 use crate::wires::{BROKER, HOME, message_of, outs_of, stamp_of};
 use pseudo_time::{DownCause, NodeId};
@@ -119,11 +119,15 @@ fn rests(
 
 // A run in which each visit comes.
 fn whole(rt: &impl Wait, alloc: Global) -> Result<TestClosed, Fail> {
-    let begun = start(alloc, Vec::new(alloc))?;
-    let wire = begun.wire;
-    let conductor = sees(rt, &wire, begun.conductor, 0, false)?;
+    let Started {
+        wire,
+        home,
+        broker,
+        conductor,
+    } = start(alloc, Vec::new(alloc))?;
+    let conductor = sees(rt, &wire, conductor, 0, false)?;
     let conductor = ticks(rt, &wire, conductor, None)?;
-    let (home, broker) = exchange(rt, alloc, &wire, begun.home, begun.broker)?;
+    let (home, broker) = exchange(rt, alloc, &wire, home, broker)?;
     let home = rests(rt, &wire, HOME, home)?;
     let broker = rests(rt, &wire, BROKER, broker)?;
     let conductor = sees(rt, &wire, conductor, 1, true)?;
