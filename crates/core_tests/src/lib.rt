@@ -1,12 +1,8 @@
-//! Tests of what nodes are made of: histories, records, copies on their way, scripts and reports.
+//! Tests of what nodes are made of: records, copies on their way, scripts and reports.
 #![tactic(auto)]
 
 #[cfg(test)]
 mod flights;
-#[cfg(test)]
-mod histories;
-#[cfg(test)]
-mod models;
 #[cfg(test)]
 mod operations;
 #[cfg(test)]
@@ -14,4 +10,4 @@ mod records;
 #[cfg(test)]
 mod reports;
 #[cfg(test)]
-mod runs;
+mod scripts;

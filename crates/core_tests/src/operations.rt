@@ -1,12 +1,9 @@
 //! What operations give at the edges of numbers, texts and kinds, by scripts that print it.
-ghost use Rattle.std.specs.Prelude.{IfOk};
-ghost use Rattle.value_form.specs.Ranges.{IsScript};
-
-use script_form::{law_of_lines, parse};
+use crate::scripts::script_of;
 use serial_model::{Ending, ObjectMap, perform};
 use std::alloc::Global;
 use std::test::*;
-use value_form::{FailKind, Line, Script};
+use value_form::{FailKind, Line};
 
 /// A script of one line, and what it prints.
 const PRINTED: [(&[u8], &[u8]); 24] = [
@@ -80,16 +77,6 @@ enum Came {
     Printed(Vec<u8>),
     Failed(FailKind),
     Nothing,
-}
-
-fn script_of(alloc: Global, text: &[u8]) -> Result<Script, Fail>
-    ensures { IfOk result (λ s. IsScript s.lines) }
-{
-    law_of_lines();
-    match parse(alloc, text) {
-        Ok(script) => Ok(script),
-        Err(_) => Err("a script".into()),
-    }
 }
 
 fn carried_out(alloc: Global, text: &[u8]) -> Result<Came, Fail> {

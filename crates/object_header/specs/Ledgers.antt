@@ -3,6 +3,7 @@ use Rattle.std.specs.Prelude.{◌≡◌, ℕ, Bool, true, false, List, [], ◌�
 use Rattle.std.specs.FinMap as finite
 use Rattle.pseudo_time.specs.StampParts.{StampParts}
 use Rattle.value_form.specs.declared.objects.ObjectId.{ObjectId}
+use Rattle.medium_port.specs.Image.{Image}
 use Rattle.effect_form.specs.declared.effects.Effect.{Effect}
 use Rattle.object_history.specs.declared.marks.Mark.{Mark}
 use Rattle.object_history.specs.Kept.{Settled}
@@ -47,11 +48,17 @@ pub record IsLedger (l : LedgerParts) : Type 0 where
   pub kept : l.whole ≡ true → l.kept ≡ kept_of (is_odd l) (stored l)
   pub kept_in_range : AreMarks l.kept
 
--- what lies below: the store's log, oldest first, and the number of pages left
+-- what lies below: the store's log, oldest first, the number of pages left, and what its medium reads, where that is told
 pub record BeneathParts : Type 0 where
   pub log : List Effect
   pub left : ℕ
+  pub image : Option Image
 
--- that of a ledger with so many pages left
-abbrev pub beneath : LedgerParts → ℕ → BeneathParts
-beneath l left = record { log = l.log; left = left }
+-- what a medium reads, where it tells its content
+abbrev pub told_image : Bool → Image → Option Image
+told_image true image = Some image
+told_image false image = None
+
+-- that of a ledger over a medium with so many pages left
+abbrev pub beneath : LedgerParts → ℕ → Option Image → BeneathParts
+beneath l left image = record { log = l.log; left = left; image = image }

@@ -1,8 +1,9 @@
-ghost use Rattle.std.specs.Prelude.{◌≡◌, ◌≢◌, ◌≤◌, ◌<◌, ◌+◌, [], ◌++◌, ℕ, length, IsTrue, IfOk, IfErr, IfSome, false, reverse};
+ghost use Rattle.std.specs.Prelude.{◌≡◌, ◌≢◌, ◌≤◌, ◌<◌, ◌+◌, [], ◌++◌, ℕ, count_by, length, IsTrue, IfOk, IfErr, IfSome, false, reverse};
 ghost use Rattle.stream_port.specs.Causes.{Rose};
 ghost use Rattle.medium_port.specs.Image.{Image, Only};
 ghost use Rattle.medium_port.specs.Moment.{LeavesOnly};
 ghost use Rattle.version_store.specs.Filling.{HasPrefix, KeepsPages, StaysClean, filling};
+ghost use Rattle.page_gate.specs.States.{is_blank};
 ghost use Rattle.effect_form.specs.Effects.{AreEffects};
 ghost use Rattle.repository_log.specs.Logs.{marks};
 ghost use Rattle.value_form.specs.ObjectBytes.{IsObject};
@@ -13,7 +14,7 @@ ghost use Rattle.object_history.specs.Ranges.{IsReadStep};
 ghost use Rattle.version_store.specs.StoreWords.{medium_of, left_in, damage_in, effects_in};
 ghost use Rattle.object_header.specs.Spans.{passes};
 ghost use Rattle.object_header.specs.Heads.{first_put};
-ghost use Rattle.object_header.specs.Ledgers.{content};
+ghost use Rattle.object_header.specs.Ledgers.{content, told_image};
 
 use crate::additions::is_written;
 use crate::ledgers::Ledger;
@@ -92,6 +93,7 @@ impl<M: Medium> HeaderTable<M> {
 
         // Full comes only where the pages aren't there, and any fault but Medium before all writing.
         ensures full { IfErr result (λ e. (pages : ℕ) → e.1 ≡ StoreFault.Full pages → (pages ≡ M.page_count (medium_of (store_of self))) × (left_in (store_of self) < length (filling effects.now))) }
+        ensures full_blank { IsTrue M.tells → IfErr result (λ e. (pages : ℕ) → e.1 ≡ StoreFault.Full pages → count_by is_blank (M.reads (medium_of (store_of self))) < length (filling effects.now)) }
         ensures nothing { IfErr result (λ e. e.1 ≢ StoreFault.Medium → e.0 ≡ medium_of (store_of self)) }
 
         ensures damage { IfOk result (λ t. damage_in (store_of t) ≡ damage_in (store_of self)) }
@@ -147,6 +149,7 @@ impl<M: Medium> HeaderTable<M> {
         ensures sound { IsTrue M.tells → IfErr result IsNotDamage }
         ensures ledger { ledger_of self.new ≡ ledger_of self.old }
         ensures left { left_in (store_of self.new) ≡ left_in (store_of self.old) }
+        ensures image { told_image M.tells (M.reads (medium_of (store_of self.new))) ≡ told_image M.tells (M.reads (medium_of (store_of self.old))) }
         ensures cause { HasHistoryCause (M.faults (medium_of (store_of self.old))) (M.faults (medium_of (store_of self.new))) (damage_in (store_of self.old)) (damage_in (store_of self.new)) result }
     {
         if let Some(found) = self.ledger.first_late(object, limit)? {
@@ -178,6 +181,7 @@ impl<M: Medium> HeaderTable<M> {
         ensures sound { IsTrue M.tells → IfErr result IsNotDamage }
         ensures ledger { ledger_of self.new ≡ ledger_of self.old }
         ensures left { left_in (store_of self.new) ≡ left_in (store_of self.old) }
+        ensures image { told_image M.tells (M.reads (medium_of (store_of self.new))) ≡ told_image M.tells (M.reads (medium_of (store_of self.old))) }
         ensures cause { HasHistoryCause (M.faults (medium_of (store_of self.old))) (M.faults (medium_of (store_of self.new))) (damage_in (store_of self.old)) (damage_in (store_of self.new)) result }
     {
         if self.ledger.is_odd(object) {
@@ -206,6 +210,7 @@ impl<M: Medium> HeaderTable<M> {
         ensures sound { IsTrue M.tells → IfErr result IsNotDamage }
         ensures ledger { ledger_of self.new ≡ ledger_of self.old }
         ensures left { left_in (store_of self.new) ≡ left_in (store_of self.old) }
+        ensures image { told_image M.tells (M.reads (medium_of (store_of self.new))) ≡ told_image M.tells (M.reads (medium_of (store_of self.old))) }
         ensures cause { HasHistoryCause (M.faults (medium_of (store_of self.old))) (M.faults (medium_of (store_of self.new))) (damage_in (store_of self.old)) (damage_in (store_of self.new)) result }
     {
         if self.ledger.is_odd(object) {

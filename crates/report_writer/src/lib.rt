@@ -6,5 +6,6 @@ mod records;
 mod totals;
 mod writing;
 
+pub use pieces::{push_object, push_time};
 pub use records::{ActReport, Down, Final, Report, Standing, TryOutcome, TryReport, Wire};
 pub use writing::write_report;

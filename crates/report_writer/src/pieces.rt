@@ -50,8 +50,8 @@ pub fn push_two(
     push_named(alloc, out, second, other)
 }
 
-// Appends an object.
-fn push_object(alloc: Global, out: &mut Vec<u8>, object: ObjectId) -> Result<(), AllocError>
+/// Appends an object.
+pub fn push_object(alloc: Global, out: &mut Vec<u8>, object: ObjectId) -> Result<(), AllocError>
     ensures { OnOk result (out.new.items ≡ out.old.items ++ object_text object) }
 {
     push_named(alloc, out, b"", object.repository as u64)?;
@@ -67,8 +67,8 @@ pub fn push_stamp(alloc: Global, out: &mut Vec<u8>, stamp: Stamp) -> Result<(), 
     push_named(alloc, out, b".", stamp.home() as u64)
 }
 
-// Appends a pseudotime.
-fn push_time(alloc: Global, out: &mut Vec<u8>, time: PseudoTime) -> Result<(), AllocError>
+/// Appends a pseudotime.
+pub fn push_time(alloc: Global, out: &mut Vec<u8>, time: PseudoTime) -> Result<(), AllocError>
     ensures { OnOk result (out.new.items ≡ out.old.items ++ time_text time) }
 {
     push_stamp(alloc, out, time.stamp())?;

@@ -1,0 +1,3 @@
+pub mod FallingLemmas
+pub mod TellingLemmas
+pub mod TextLemmas
