@@ -112,7 +112,14 @@ fn answers(
 {
     let pass = awaits(rt, wire, pass)?;
     let outs = outs_of(alloc, BROKER, 2, 1)?;
-    gates(rt, wire, HOME, pass, outs.as_slice(), &[(stamp_of()?, true)])
+    gates(
+        rt,
+        wire,
+        HOME,
+        pass,
+        outs.as_slice(),
+        &[(stamp_of()?, true)],
+    )
 }
 
 // Tests until the decision stands on the board.
@@ -123,11 +130,11 @@ fn tests(rt: &impl Wait, wire: &TestShared, pass: TestPass, stamp: Stamp) -> Tes
     let mut pass = pass;
     for _ in rt.forever() {
         if wire.decided(&mut pass, stamp) == Some(true) {
-            break;
+            return pass;
         }
         thread::yield_now();
     }
-    pass
+    unreachable!()
 }
 
 // The broker asks, waits for the decision, and takes the answer.

@@ -1,6 +1,7 @@
 //! Each visit of a shared wire, on one thread.
 ghost use Rattle.std.specs.Prelude.{◌≡◌, true, false, IfOk};
-ghost use Rattle.pseudo_time.specs.Nodes.{repository, broker, is_broker};
+ghost use Rattle.pseudo_time.specs.Nodes as nodes;
+ghost use Rattle.pseudo_time.specs.Nodes.{is_broker};
 ghost use Rattle.wire_tests.specs.Passes.{IsAt, IsConductors};
 
 use crate::passes::{
@@ -23,10 +24,10 @@ fn exchange(
     home: TestPass,
     broker: TestPass,
 ) -> Result<(TestPass, TestPass), Fail>
-    requires home { IsAt wire.now.lock (repository 1) false false home }
-    requires broker { IsAt wire.now.lock (broker 1) false false broker }
-    ensures home { IfOk result (λ r. IsAt wire.now.lock (repository 1) false false r.0) }
-    ensures broker { IfOk result (λ r. IsAt wire.now.lock (broker 1) true false r.1) }
+    requires home { IsAt wire.now.lock (nodes.repository 1) false false home }
+    requires broker { IsAt wire.now.lock (nodes.broker 1) false false broker }
+    ensures home { IfOk result (λ r. IsAt wire.now.lock (nodes.repository 1) false false r.0) }
+    ensures broker { IfOk result (λ r. IsAt wire.now.lock (nodes.broker 1) true false r.1) }
 {
     let broker = goes(rt, wire, broker)?;
     let outs = outs_of(alloc, HOME, 1, 1)?;
@@ -101,12 +102,7 @@ fn catches_up(
 }
 
 // Nothing is due for the node.
-fn rests(
-    rt: &impl Wait,
-    wire: &TestShared,
-    node: NodeId,
-    pass: TestPass,
-) -> Result<TestPass, Fail>
+fn rests(rt: &impl Wait, wire: &TestShared, node: NodeId, pass: TestPass) -> Result<TestPass, Fail>
     requires { IsAt wire.now.lock node (is_broker node.kind) false pass }
     ensures { IfOk result (IsAt wire.now.lock node (is_broker node.kind) false) }
 {

@@ -23,8 +23,8 @@ hand_send = declared_send Hand.the_type (node.the_send, (option.the_send _ (pass
 test_sync : IsSync (SharedWire.the_row MemoryFates.the_row FixedClock.the_row FileMedium.the_row fates.ghosts clocks.ghosts media.ghosts)
 test_sync = shared_sync MemoryFates.the_row FixedClock.the_row FileMedium.the_row fates.ghosts clocks.ghosts media.ghosts memory_fates.the_send fixed_clock.the_send
 
-pub by_two-requires-send-S : goal.by_two-requires-send-S
-by_two-requires-send-S g c κs within = param_send 1 _ (arg_send _ no _ hand_send)
+pub by_two-home-requires-send-S : goal.by_two-home-requires-send-S
+by_two-home-requires-send-S g c κs within = param_send 1 _ (arg_send _ no _ hand_send)
 
-pub by_two-requires-sync-L : goal.by_two-requires-sync-L
-by_two-requires-sync-L g c κs within = param_sync 0 _ (arg_sync _ no _ test_sync)
+pub by_two-home-requires-sync-L : goal.by_two-home-requires-sync-L
+by_two-home-requires-sync-L g c κs within = param_sync 0 _ (arg_sync _ no _ test_sync)
