@@ -180,7 +180,7 @@ fn begin(alloc: Global) -> Result<Begun, AllocError>
     })
 }
 
-fn hand(number: u8, rounds: u32, pass: TimedPass) -> Hand
+fn made_hand(number: u8, rounds: u32, pass: TimedPass) -> Hand
     ensures pass { result.pass ≡ Some pass }
     ensures number { result.number ≡ number }
 {
@@ -230,10 +230,10 @@ fn timed<R: Threads + Wait + Sync>(rt: &R, alloc: Global, threads: u32) -> Resul
         conductor,
     } = begin(alloc)?;
     let each = ROUNDS / threads;
-    let one = hand(1, each, one);
-    let two = hand(2, if threads < 2 { 0 } else { each }, two);
-    let three = hand(3, if threads < 4 { 0 } else { each }, three);
-    let four = hand(4, if threads < 4 { 0 } else { each }, four);
+    let one = made_hand(1, each, one);
+    let two = made_hand(2, if threads < 2 { 0 } else { each }, two);
+    let three = made_hand(3, if threads < 4 { 0 } else { each }, three);
+    let four = made_hand(4, if threads < 4 { 0 } else { each }, four);
     let (ones, others) = by_four(rt, &wire, (one, two), (three, four));
     let one = ones.0.pass.ok_or(AllocError)?;
     let two = ones.1.pass.ok_or(AllocError)?;
