@@ -14,9 +14,10 @@ use Rattle.broker_core.specs.declared.resume_faults.ResumeFault.TheVariants as f
 use Rattle.broker_core.specs.Tasks.{tasks, Scripted}
 use Rattle.broker_core.specs.Book.{Book, book, enter}
 use Rattle.broker_core.specs.Fits.{fits, counts, add_if, keep, unfit_act, first_some, other_plan, plan_fault, resume_fault}
+use Rattle.broker_core.specs.Counted.{counts_now, counting}
 use Rattle.broker_core.specs.Notes.{Shows, noted, passed, run_begun, fits_at}
 use Rattle.broker_core.specs.Ledgers.{LedgerParts, kept, answers_noted}
-use Rattle.broker_core.specs.Replays.{fresh_ledger, fits_now, added, logged, unfit_index, unfit_at, led, other_at}
+use Rattle.broker_core.specs.Replays.{fresh_ledger, fits_now, added, logged, unfit_index, unfit_at, led, other_at, counts_at, counts_led}
 use Rattle.broker_core.specs.Inputs.{fault_of}
 use Rattle.broker_core.proofs.SoundLemmas.{sound-kept, closed-run}
 use Rattle.broker_core.proofs.FitLemmas.{fits-is}
@@ -179,6 +180,22 @@ module _ (script : List ℕ → Tree) (me run : ℕ) (acts : List ActSpec) where
   pub led-took : Scripted script acts → (log : List Effect) → Took (led (fresh_ledger me run acts) log) log
   led-took m [] = blank-took
   led-took m (f ∷ log) = logged-took m (led (fresh_ledger me run acts) log) log f (led-took m log)
+
+  -- ---- which effects count
+
+  counts-by : Scripted script acts → (l : LedgerParts) (log : List Effect) (f : Effect) (c : Bool) → Took l log → ((book (keep script me run (tasks acts) log)).run == run) ≡ c →
+      (if c then fits_now l f else false) ≡ (if c then fits script me (tasks acts) (book (keep script me run (tasks acts) log)) f else false)
+  counts-by m l log f true t e = fits-same m l log f t (eqb-true _ run e)
+  counts-by m l log f false t e = refl
+
+  counts-is : Scripted script acts → (l : LedgerParts) (log : List Effect) (f : Effect) → Took l log → counts_at l f ≡ counts_now script me run (tasks acts) (book (keep script me run (tasks acts) log)) f
+  counts-is m l log f t =
+      ap (λ (c : Bool). if c then fits_now l f else false) (same-test l log t) ∙ counts-by m l log f ((book (keep script me run (tasks acts) log)).run == run) t refl
+
+  pub counting-is : Scripted script acts → (log : List Effect) → counts_led (fresh_ledger me run acts) log ≡ counting script me run (tasks acts) log
+  unfolding counting
+  counting-is m [] = refl
+  counting-is m (f ∷ log) = λ i. counts-is m (led (fresh_ledger me run acts) log) log f (led-took m log) i ∷ counting-is m log i
 
   -- ---- an act that isn't the plan's
 

@@ -1,19 +1,18 @@
 -- What a broker keeps stays in range, and what it gives is in range.
 use Rattle.std.proofs.Common.{◌≡◌, ◌≢◌, ℕ, zero, suc, ◌+◌, ◌-◌, ◌<◌, ◌≤◌, ◌^◌, max, nat_lt, ◌==◌, Bool, true, false, cond, ◌&&◌, ◌||◌, take, length, List, [], ◌∷◌, ◌++◌, reverse, refl, sym, ◌∙◌, ap, subst, Option, Some, None, if◌then◌else◌, arith}
-use Rattle.std.specs.Prelude.{IfSome}
 use Rattle.std.specs.List.{slice_get}
 use Rattle.std.specs.Option.{option_map}
 use Rattle.std.proofs.lemmas.Bool.{eqb-true, false≢true}
 use Rattle.std.proofs.lemmas.Bool.Decides.{nat_tests}
 use Rattle.std.proofs.lemmas.List.{reverse-reverse}
-use Rattle.std.proofs.Math.Nat.{le-max_left, le-max_right, max-le}
+use Rattle.std.proofs.Math.Nat.{max-le}
 use Rattle.pseudo_time.specs.Lists.{Every}
 use Rattle.pseudo_time.specs.StampParts.{StampParts, IsStamp}
 use Rattle.pseudo_time.specs.TimeParts.{TimeParts, IsTime}
 use Rattle.pseudo_time.specs.Order.{same_stamp, same_time}
 use Rattle.pseudo_time.specs.declared.decisions.Decision.{Decision}
 use Rattle.pseudo_time.specs.declared.decisions.Decision.TheVariants as decision
-use Rattle.pseudo_time.proofs.ListLemmas.{every-map, every-append, every-reverse}
+use Rattle.pseudo_time.proofs.ListLemmas.{every-append, every-reverse}
 use Rattle.field_form.specs.Decisions.{IsDecision}
 use Rattle.value_form.specs.declared.acts.ActSpec.{ActSpec}
 use Rattle.value_form.specs.declared.endings.Ending.TheVariants as ending
@@ -32,8 +31,7 @@ use Rattle.message_form.specs.Messages.{IsMessage}
 use Rattle.turn_form.specs.declared.turns.Out.{Out}
 use Rattle.turn_form.specs.declared.turns.Turn.{Turn}
 use Rattle.turn_form.specs.Ranges.{IsEffect, AreEffects, AreOuts}
-use Rattle.script_meaning.specs.Meaning.{Stop, Asks, Over, ToRead, ToWrite, Answer}
-use Rattle.serial_model.specs.Questions.{denote, stop}
+use Rattle.script_meaning.specs.Meaning.{Stop, Asks, Over, ToRead, ToWrite}
 use Rattle.serial_model.specs.Ranges.{StopInRange}
 use Rattle.serial_model.specs.Requests.{HasBytes, AnswerHasBytes}
 use Rattle.serial_model.proofs.RequestLemmas.{denote-HasBytes, stop-InRange}
@@ -52,11 +50,11 @@ use Rattle.broker_core.specs.Stages.{is_asking}
 use Rattle.broker_core.specs.Tasks.{task_of}
 use Rattle.broker_core.specs.Tests.{is_stamp, is_time}
 use Rattle.broker_core.specs.Rows.{when}
-use Rattle.broker_core.specs.Notes.{act_at, answer_of, answered_in, answers_of, another_at, changed, fits_try_at, clock_of, end_noted, home_of, index_of, most_of, noted, open_last, passed, run_begun, shown_by, stop_at, time_at, timeout_of, tree_of, unended}
-use Rattle.broker_core.specs.Phases.{phase_of, phase_by_last, phase_by_stop, phase_by_open, phase_at, closed_at, closed_in, standing_for, standing_by, standing_at, ends_at, commit_answered, early_answered, opening_row, ended_row, reading_row, writing_row, decided_of, decision_row, reply_for, reply_by, reply_at, start_at, shown_at, by_clock_at, try_or_spent_at, after_tries_at, due_at, by_phase, owed_at}
-use Rattle.broker_core.specs.Ledgers.{IsAct, AreActs, AreNotes, LedgerParts, Settled, kept, answers_noted, owed_now, settle_on, settled, most_steps}
+use Rattle.broker_core.specs.Notes.{act_at, answered_in, answers_of, another_at, changed, fits_try_at, end_noted, home_of, index_of, most_of, open_last, passed, run_begun, shown_by, stop_at, time_at, timeout_of, tree_of, unended}
+use Rattle.broker_core.specs.Phases.{phase_of, phase_by_last, phase_by_stop, phase_by_open, phase_at, closed_at, closed_in, standing_for, standing_by, standing_at, ends_at, commit_answered, early_answered, opening_row, ended_row, reading_row, writing_row, decided_of, decision_row, reply_for, reply_by, reply_at, start_at, shown_at, by_clock_at, try_or_spent_at, after_tries_at, due_at, by_phase}
+use Rattle.broker_core.specs.Ledgers.{IsAct, AreActs, AreNotes, LedgerParts, Settled, kept, owed_now, settle_on, settled, most_steps}
 use Rattle.broker_core.specs.Replays.{fits_now, added, logged, led, fresh_ledger}
-use Rattle.broker_core.specs.Inputs.{listed, begun, firsts, phase_in, effects_from, ledger_from}
+use Rattle.broker_core.specs.Inputs.{listed, phase_in, effects_from, ledger_from}
 use Rattle.broker_core.specs.Ranges.{GivenInRange, HasStamp, IsHeard, FirstInRange, AreInRange, Ranged}
 use Rattle.script_ranges.proofs.ScriptRangeLemmas.{printable-InRange}
 use Rattle.script_ranges.proofs.TextByteLemmas.{script-IsBytes}

@@ -1,5 +1,5 @@
 -- What a broker keeps of its log is in range, so that what it gives can be stored and sent.
-use Rattle.std.specs.Prelude.{◌≢◌, ℕ, ◌≤◌, ◌<◌, ◌^◌, length, List, Option, Some, None}
+use Rattle.std.specs.Prelude.{◌≢◌, ◌≤◌, ◌<◌, ◌^◌, length, List, Option, Some, None}
 use Rattle.pseudo_time.specs.Lists.{Every}
 use Rattle.pseudo_time.specs.StampParts.{IsStamp}
 use Rattle.value_form.specs.ValueBytes.{IsValue}

@@ -1,5 +1,5 @@
 -- How a log is taken up again, effect by effect.
-use Rattle.std.specs.Prelude.{ℕ, ◌==◌, Bool, List, [], ◌∷◌, Option, Some, None, if◌then◌else◌}
+use Rattle.std.specs.Prelude.{ℕ, ◌==◌, Bool, false, List, [], ◌∷◌, Option, Some, None, if◌then◌else◌}
 use Rattle.value_form.specs.declared.acts.ActSpec.{ActSpec}
 use Rattle.effect_form.specs.declared.effects.Effect.{Effect}
 use Rattle.effect_form.specs.declared.effects.Effect.TheVariants as effect
@@ -46,3 +46,11 @@ led l (f ∷ log) = logged (led l log) f
 abbrev pub other_at : LedgerParts → List Effect → Option ℕ
 other_at l [] = None
 other_at l (f ∷ log) = first_some (other_at l log) (unfit_at (led l log) f)
+
+-- an effect of this run that fits
+abbrev pub counts_at : LedgerParts → Effect → Bool
+counts_at l f = if l.notes.run == l.run then fits_now l f else false
+
+abbrev pub counts_led : LedgerParts → List Effect → List Bool
+counts_led l [] = []
+counts_led l (f ∷ log) = counts_at (led l log) f ∷ counts_led l log

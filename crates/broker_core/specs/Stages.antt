@@ -1,8 +1,7 @@
 -- What is outstanding: the stage of the last try of a run, and the request that stands at it.
 use Rattle.std.specs.Prelude.{ℕ, ◌==◌, Bool, true, false, ◌&&◌, ◌||◌, length, List, Option, Some, None, if◌then◌else◌}
 use Rattle.value_form.specs.declared.endings.Ending.TheVariants as ending
-use Rattle.pseudo_time.specs.declared.nodes.NodeId.{NodeId}
-use Rattle.pseudo_time.specs.Nodes.{repository, broker}
+use Rattle.pseudo_time.specs.Nodes.{repository}
 use Rattle.effect_form.specs.declared.outcomes.Outcome.{Outcome}
 use Rattle.effect_form.specs.declared.outcomes.Outcome.TheVariants as outcome
 use Rattle.message_form.specs.declared.messages.Message.{Message}

@@ -17,5 +17,6 @@ mod resume_faults;
 pub use brokers::Broker;
 pub use heards::Heard;
 pub use laws::{law_of_readings, readings_agree};
+pub use logs::counted_effects;
 pub use resume_faults::ResumeFault;
 pub use turn_form::{Out, Turn};

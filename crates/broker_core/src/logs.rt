@@ -1,9 +1,12 @@
-ghost use Rattle.std.specs.Prelude.{◌≡◌, ◌≢◌, ◌≤◌, true, ◌∷◌, ◌&&◌, [], Some, None, reverse, length, slice_get, IfOk, OnOk, OnErr};
+ghost use Rattle.std.specs.Prelude.{ℕ, List, ◌≡◌, ◌≢◌, ◌≤◌, true, ◌∷◌, ◌&&◌, [], Some, None, reverse, length, slice_get, IfOk, OnOk, OnErr};
 ghost use Rattle.std.specs.Option.{option_map, option_copied};
 ghost use Rattle.pseudo_time.specs.StampParts.{StampParts};
 ghost use Rattle.script_run.specs.Told.{stop_of};
 ghost use Rattle.effect_form.specs.declared.effects.Effect.TheVariants as effect;
+ghost use Rattle.serial_model.specs.Questions.{Tree};
+ghost use Rattle.broker_core.specs.Counted.{counting};
 ghost use Rattle.broker_core.specs.Tasks as tasks;
+ghost use Rattle.broker_core.specs.Tasks.{Scripted};
 ghost use Rattle.broker_core.specs.Tests as tests;
 ghost use Rattle.broker_core.specs.Fits as fits;
 ghost use Rattle.broker_core.specs.Notes as notes;
@@ -171,18 +174,31 @@ fn unfit_index(fits: bool, effect: &Effect) -> Option<u32>
     }
 }
 
+// Takes an effect of the log up. Gives whether it is of this run and counts.
+fn count(ledger: &mut Ledger, effect: &Effect) -> Result<bool, AllocError>
+    ensures logged { OnOk result (ledger.new ≡ spec.logged ledger.old effect.now) }
+    ensures counts { IfOk result (λ c. c ≡ spec.counts_at ledger.old effect.now) }
+{
+    if !ledger.is_here() {
+        ledger.pass(effect);
+        return Ok(false);
+    }
+    let fits = does_fit(ledger, effect)?;
+    if fits {
+        ledger.note(effect)?;
+    }
+    Ok(fits)
+}
+
 // Takes an effect of the log up. Gives the index of an act of this run that doesn't fit.
 fn take_up(ledger: &mut Ledger, effect: &Effect) -> Result<Option<u32>, AllocError>
     ensures logged { OnOk result (ledger.new ≡ spec.logged ledger.old effect.now) }
     ensures unfit { IfOk result (λ i. i ≡ spec.unfit_at ledger.old effect.now) }
 {
-    if !ledger.is_here() {
-        ledger.pass(effect);
+    let is_here = ledger.is_here();
+    let fits = count(ledger, effect)?;
+    if !is_here {
         return Ok(None);
-    }
-    let fits = does_fit(ledger, effect)?;
-    if fits {
-        ledger.note(effect)?;
     }
     Ok(unfit_index(fits, effect))
 }
@@ -198,4 +214,27 @@ pub fn take_up_all(ledger: &mut Ledger, effects: &[Effect]) -> Result<Option<u32
         first = first.or(unfit);
     }
     Ok(first)
+}
+
+/// Which effects of a broker's log are of this run and count in it, one answer for each effect, the
+/// first one first. `acts` are those that the plan gives the broker, and its number is 1 to 16.
+pub fn counted_effects(
+    alloc: Global,
+    number: u8,
+    run: u32,
+    acts: &[ActSpec],
+    effects: &[Effect],
+) -> Result<Vec<bool>, AllocError>
+    requires low { 1 ≤ number }
+    requires high { number ≤ 16 }
+    requires acts { ledgers.AreActs acts.now }
+    ensures { (script : List ℕ → Tree) → Scripted script acts.now → IfOk result (λ flags. reverse flags.items ≡ counting script number run (tasks.tasks acts.now) (reverse effects.now)) }
+{
+    let mut ledger = Ledger::new(alloc, number, run, acts)?;
+    let mut flags = Vec::new(alloc);
+    for effect in effects {
+        let counts = count(&mut ledger, effect)?;
+        flags.push(counts)?;
+    }
+    Ok(flags)
 }

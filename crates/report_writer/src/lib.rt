@@ -6,6 +6,7 @@ mod records;
 mod totals;
 mod writing;
 
-pub use pieces::{push_object, push_time};
+pub use pieces::{push_named, push_object, push_time};
 pub use records::{ActReport, Down, Final, Report, Standing, TryOutcome, TryReport, Wire};
-pub use writing::write_report;
+pub use totals::count_of;
+pub use writing::{push_downs, write_report};

@@ -7,7 +7,7 @@ use pseudo_time::{PseudoTime, Stamp};
 use std::alloc::{AllocError, Global};
 use value_form::{FailKind, Line, ObjectId, Value};
 
-// Appends a word and a number.
+/// Appends a word and a number.
 pub fn push_named(
     alloc: Global,
     out: &mut Vec<u8>,

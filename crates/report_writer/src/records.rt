@@ -75,10 +75,10 @@ pub struct Down {
 /// crashes.
 #[derive(Clone, Copy, Debug, PartialEq, Eq)]
 pub struct Wire {
-    pub messages: u32,
-    pub asks: u32,
-    pub ticks: u32,
-    pub crashes: u32,
+    pub messages: u64,
+    pub asks: u64,
+    pub ticks: u64,
+    pub crashes: u64,
 }
 
 /// What a run did.

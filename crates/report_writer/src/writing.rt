@@ -165,8 +165,8 @@ fn push_down(alloc: Global, out: &mut Vec<u8>, down: Down) -> Result<(), AllocEr
     Ok(())
 }
 
-// Appends the lines of the nodes that are down.
-fn push_downs(alloc: Global, out: &mut Vec<u8>, downs: &[Down]) -> Result<(), AllocError>
+/// Appends the lines of the nodes that are down.
+pub fn push_downs(alloc: Global, out: &mut Vec<u8>, downs: &[Down]) -> Result<(), AllocError>
     ensures { OnOk result (out.new.items ≡ out.old.items ++ flat_map down_text downs.now) }
 {
     for down in downs {
@@ -222,11 +222,13 @@ fn push_totals(alloc: Global, out: &mut Vec<u8>, acts: &[ActReport]) -> Result<(
 fn push_wire_line(alloc: Global, out: &mut Vec<u8>, wire: Wire) -> Result<(), AllocError>
     ensures { OnOk result (out.new.items ≡ out.old.items ++ wire_line wire) }
 {
-    let messages = wire.messages as u64;
-    let asks = wire.asks as u64;
+    let Wire {
+        messages,
+        asks,
+        ticks,
+        crashes,
+    } = wire;
     push_two(alloc, out, b"wire messages ", messages, b" asks ", asks)?;
-    let ticks = wire.ticks as u64;
-    let crashes = wire.crashes as u64;
     push_two(alloc, out, b" ticks ", ticks, b" crashes ", crashes)?;
     out.push(b'\n')?;
     Ok(())

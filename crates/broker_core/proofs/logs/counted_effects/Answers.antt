@@ -1,0 +1,13 @@
+use Rattle.std.proofs.Common.{reverse, ◌∙◌, ap, arith}
+use Rattle.std.proofs.lemmas.List.{take_all}
+use Rattle.broker_core.specs.Replays.{fresh_ledger, counts_led}
+use Rattle.broker_core.proofs.LogLemmas.{counting-is}
+use Rattle.broker_core.proofs.logs.counted_effects.Goals as goal
+
+pub returns : goal.returns
+returns c = λ script m.
+    let l = fresh_ledger c.args.number c.args.run c.args.acts.now in
+    let f = c.loop-effect-test.false in
+    c.loop-effect.invariant.flags
+    ∙ ap (λ es. counts_led l (reverse es)) (take_all c.loop-effect.effect-index c.args.effects.now (omega (arith, f)))
+    ∙ counting-is script c.args.number c.args.run c.args.acts.now m (reverse c.args.effects.now)
