@@ -1,0 +1,8 @@
+//! A broker at work: its core, its log and its pass.
+#![tactic(auto)]
+
+mod cores;
+mod logs;
+mod nodes;
+
+pub use nodes::BrokerNode;

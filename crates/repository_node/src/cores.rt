@@ -1,0 +1,181 @@
+//! A repository's core with its log.
+ghost use Rattle.std.specs.Prelude.{◌≡◌, ◌≤◌, ◌^◌, IfErr, Result, Err};
+ghost use Rattle.effect_form.specs.Effects.{AreEffects};
+ghost use Rattle.repository_node.specs.Books.{is_able, medium_in};
+
+use crate::books::Book;
+use effect_form::Effect;
+use medium_port::Medium;
+use message_form::Message;
+use node_turn::{StoredCore, open_again};
+use object_header::HeaderTable;
+use object_history::HistoryFault;
+use pseudo_time::{NodeId, Stamp};
+use repository_core::Repository;
+use std::alloc::Global;
+use turn_form::Turn;
+use version_store::{OpenFault, Store, StoreFault};
+
+/// A repository with its log and its histories on a medium.
+#[derive(Drop)]
+pub struct RepositoryCore<M: Medium> {
+    pub(crate) number: u8,
+    /// The moment at which the run began.
+    pub(crate) start: u64,
+    pub(crate) book: Book<M>,
+    ghost moment: { start ≤ 2 ^ 62 },
+}
+
+impl<M: Medium> StoredCore<M> for RepositoryCore<M> {
+    ghost use Rattle.std.specs.Prelude.{◌≡◌};
+    ghost use Rattle.pseudo_time.specs.Nodes.{repository};
+    ghost use Rattle.repository_node.specs.Books.{is_able, medium_in, HasLife, Owes};
+
+    ghost parts = { λ c. record { node = repository c.number; able = is_able c.book; medium = medium_in c.book } };
+
+    ghost fits = { λ b c. b.start ≡ c.start };
+
+    ghost lives = { λ b c l. HasLife c.book (repository c.number) l };
+
+    ghost owes = { λ c effects. Owes c.book effects };
+
+    fn node(&self) -> NodeId {
+        NodeId::repository(self.number)
+    }
+
+    // A repository has nowhere to go: nobody calls this.
+    fn go(&mut self) -> Result<Turn, HistoryFault> {
+        Err(HistoryFault::NoMemory)
+    }
+
+    fn take(&mut self, from: NodeId, message: &Message) -> Result<Turn, HistoryFault> {
+        match &mut self.book {
+            Book::Open(core) => core.take(from, message),
+            Book::Shut(_) => Err(HistoryFault::NoMemory),
+        }
+    }
+
+    fn learn(&mut self, stamp: Stamp, committed: bool) -> Result<Turn, HistoryFault> {
+        match &mut self.book {
+            Book::Open(core) => core.learn(stamp, committed),
+            Book::Shut(_) => Err(HistoryFault::NoMemory),
+        }
+    }
+
+    fn hear(&mut self, moment: u64) -> Result<Turn, HistoryFault> {
+        match &mut self.book {
+            Book::Open(core) => core.hear(moment),
+            Book::Shut(_) => Err(HistoryFault::NoMemory),
+        }
+    }
+
+    fn knows(&self, stamp: Stamp) -> bool {
+        match &self.book {
+            Book::Open(core) => core.known(stamp).is_some(),
+            Book::Shut(_) => false,
+        }
+    }
+
+    fn append(self, effects: &[Effect]) -> (RepositoryCore<M>, Result<(), StoreFault>) {
+        let RepositoryCore {
+            number,
+            start,
+            book,
+        } = self;
+        let (book, appended) = flushed(book, effects);
+        (
+            RepositoryCore {
+                number,
+                start,
+                book,
+            },
+            appended,
+        )
+    }
+
+    fn reopen(self, alloc: Global) -> (RepositoryCore<M>, Result<usize, OpenFault>) {
+        let RepositoryCore {
+            number,
+            start,
+            book,
+        } = self;
+        let (book, opened) = opened(alloc, number, start, medium_of(book));
+        (
+            RepositoryCore {
+                number,
+                start,
+                book,
+            },
+            opened,
+        )
+    }
+
+    fn release(self) -> M {
+        let RepositoryCore {
+            number: _,
+            start: _,
+            book,
+        } = self;
+        medium_of(book)
+    }
+}
+
+// The medium.
+fn medium_of<M: Medium>(book: Book<M>) -> M
+    ensures { result ≡ medium_in book }
+{
+    match book {
+        Book::Open(core) => {
+            let (_, table) = core.part();
+            table.release()
+        }
+        Book::Shut(medium) => medium,
+    }
+}
+
+// Adds effects to the store: the core is parted from its histories, and joined with them again.
+fn flushed<M: Medium>(book: Book<M>, effects: &[Effect]) -> (Book<M>, Result<(), StoreFault>) {
+    match book {
+        Book::Shut(medium) => (Book::Shut(medium), Err(StoreFault::NoMemory)),
+        Book::Open(core) => {
+            let (rest, table) = core.part();
+            match table.flush(effects) {
+                Ok(table) => (Book::Open(rest.join(table)), Ok(())),
+                Err((medium, fault)) => (Book::Shut(medium), Err(fault)),
+            }
+        }
+    }
+}
+
+/// The core of a repository over the log of a store.
+pub fn open_core<M: Medium>(
+    alloc: Global,
+    number: u8,
+    start: u64,
+    store: Store<M>,
+    effects: &[Effect],
+) -> Result<Repository<HeaderTable<M>>, M> {
+    match HeaderTable::rebuild(alloc, store, effects) {
+        Err((medium, _)) => Err(medium),
+        Ok(table) => match Repository::open(alloc, number, start, effects, table) {
+            Err((table, _)) => Err(table.release()),
+            Ok(core) => Ok(core),
+        },
+    }
+}
+
+// Opens a medium anew, and the core over it.
+fn opened<M: Medium>(
+    alloc: Global,
+    number: u8,
+    start: u64,
+    medium: M,
+) -> (Book<M>, Result<usize, OpenFault>) {
+    match open_again(alloc, medium) {
+        Err((medium, fault)) => (Book::Shut(medium), Err(fault)),
+        Ok((store, effects)) => match open_core(alloc, number, start, store, effects.as_slice()) {
+            Err(medium) => (Book::Shut(medium), Err(OpenFault::NoMemory)),
+            Ok(core) => (Book::Open(core), Ok(effects.len())),
+        },
+    }
+}
