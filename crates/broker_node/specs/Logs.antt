@@ -3,6 +3,10 @@ use Rattle.std.specs.Prelude.{◌≡◌, ℕ, Bool, true, false, List, reverse}
 use Rattle.medium_port.specs.Image.{Image}
 use Rattle.effect_form.specs.declared.effects.Effect.{Effect}
 use Rattle.version_store.specs.StoreWords.{medium_of, effects_in}
+use Rattle.version_store.specs.declared.faults.OpenFault.{OpenFault}
+use Rattle.version_store.specs.declared.faults.OpenFault.TheVariants as opening
+use Rattle.broker_core.specs.declared.resume_faults.ResumeFault.{ResumeFault}
+use Rattle.broker_core.specs.declared.resume_faults.ResumeFault.TheVariants as resuming
 use Rattle.broker_core.specs.Book.{book}
 use Rattle.broker_core.specs.Fits.{keep}
 use Rattle.broker_core.specs.Owed.{done}
@@ -26,10 +30,16 @@ abbrev pub HasEffects : {M : Type 0} {g : _} → (M → Image) → Log M g → L
 HasEffects reads (Open store) es = effects_in reads store ≡ es
 HasEffects reads (Shut medium) es = ⊥
 
--- a medium whose store is open hasn't failed
-abbrev pub IsSound : {M : Type 0} {g : _} → (M → Bool) → Log M g → Type 0
-IsSound failed (Open store) = failed (medium_of store) ≡ false
-IsSound failed (Shut medium) = Unit {0}
+-- the medium of an open store has failed
+abbrev pub has_failed : {M : Type 0} {g : _} → (M → Bool) → Log M g → Bool
+has_failed failed (Open store) = failed (medium_of store)
+has_failed failed (Shut medium) = false
+
+-- what a log that shows a later run or another plan counts as: damage of the first page
+abbrev pub as_damage : ResumeFault → OpenFault
+as_damage resuming.NoMemory = opening.NoMemory
+as_damage (resuming.OldRun latest) = opening.Damaged 0
+as_damage (resuming.OtherPlan index) = opening.Damaged 0
 
 -- whether a broker of this life has an outcome for each of its acts, and no request is outstanding
 abbrev pub is_over : Base → ℕ → Life → Bool

@@ -1,9 +1,11 @@
 //! A broker's core with its log.
-ghost use Rattle.std.specs.Prelude.{◌≡◌, ◌≤◌, ◌<◌, ◌^◌, true, false, IsTrue, List};
-ghost use Rattle.broker_core.specs.Ledgers.{AreActs};
-ghost use Rattle.broker_core.specs.Tasks.{Scripted};
-ghost use Rattle.broker_node.specs.Logs.{IsSound, is_open, medium_in, HasEffects};
+ghost use Rattle.std.specs.Prelude.{◌≡◌, ◌≤◌, false};
+ghost use Rattle.pseudo_time.specs.Nodes.{broker};
+ghost use Rattle.world_core.specs.Cores.{IsBroker};
+ghost use Rattle.world_core.specs.Walks.{Base, Life, whole};
+ghost use Rattle.broker_node.specs.Logs.{as_damage, has_failed, is_over, medium_in};
 
+use crate::acts::OwnActs;
 use crate::logs::Log;
 use broker_core::{Broker, ResumeFault};
 use effect_form::Effect;
@@ -14,28 +16,24 @@ use object_history::HistoryFault;
 use pseudo_time::{NodeId, Stamp};
 use std::alloc::Global;
 use turn_form::Turn;
-use value_form::ActSpec;
 use version_store::{OpenFault, StoreFault};
 
 /// A broker with its log on a medium.
 #[derive(Drop)]
 pub struct BrokerCore<M: Medium> {
-    pub(crate) alloc: Global,
     pub(crate) number: u8,
     pub(crate) run: u32,
-    /// The broker's own acts of the plan.
-    pub(crate) acts: Vec<ActSpec>,
+    pub(crate) acts: OwnActs,
     pub(crate) broker: Broker,
     pub(crate) log: Log<M>,
     ghost low: { 1 ≤ number },
     ghost high: { number ≤ 16 },
     ghost runs: { 1 ≤ run },
-    ghost are_acts: { AreActs acts.items },
-    ghost sound: { IsSound M.is_failed log },
+    ghost sound: { has_failed M.is_failed log ≡ false },
 }
 
 impl<M: Medium> StoredCore<M> for BrokerCore<M> {
-    ghost use Rattle.std.specs.Prelude.{◌≡◌, IsTrue};
+    ghost use Rattle.std.specs.Prelude.{◌≡◌};
     ghost use Rattle.pseudo_time.specs.Nodes.{broker};
     ghost use Rattle.broker_core.specs.Tasks.{Scripted};
     ghost use Rattle.world_core.specs.Nodes.{acts_of};
@@ -45,28 +43,24 @@ impl<M: Medium> StoredCore<M> for BrokerCore<M> {
 
     ghost parts = { λ c. record { node = broker c.number; able = is_open c.log; medium = medium_in c.log } };
 
-    ghost fits = { λ b c. (b.run ≡ c.run) × (c.acts.items ≡ acts_of c.number b.acts) × Scripted b.script c.acts.items };
+    ghost fits = { λ b c. (b.run ≡ c.run) × (c.acts ≡ acts_of c.number b.acts) × Scripted b.script c.acts };
 
     ghost lives = { λ b c l. IsBroker b (broker c.number) (whole l) l.mind c.broker × HasEffects M.reads c.log l.gated };
 
-    ghost owes = { λ c effects. Unit };
+    ghost owes = { λ c effects. Unit {0} };
 
     fn node(&self) -> NodeId {
         NodeId::broker(self.number)
     }
 
     fn go(&mut self) -> Result<Turn, HistoryFault> {
-        match self.broker.go() {
-            Ok(turn) => Ok(turn),
-            Err(_) => Err(HistoryFault::NoMemory),
-        }
+        let turn = self.broker.go()?;
+        Ok(turn)
     }
 
     fn take(&mut self, from: NodeId, message: &Message) -> Result<Turn, HistoryFault> {
-        match self.broker.take(from, message) {
-            Ok(turn) => Ok(turn),
-            Err(_) => Err(HistoryFault::NoMemory),
-        }
+        let turn = self.broker.take(from, message)?;
+        Ok(turn)
     }
 
     // A broker has nothing to learn: nobody calls this.
@@ -75,10 +69,8 @@ impl<M: Medium> StoredCore<M> for BrokerCore<M> {
     }
 
     fn hear(&mut self, moment: u64) -> Result<Turn, HistoryFault> {
-        match self.broker.hear(moment) {
-            Ok(turn) => Ok(turn),
-            Err(_) => Err(HistoryFault::NoMemory),
-        }
+        let turn = self.broker.hear(moment)?;
+        Ok(turn)
     }
 
     // Nor this.
@@ -88,30 +80,50 @@ impl<M: Medium> StoredCore<M> for BrokerCore<M> {
 
     fn append(self, effects: &[Effect]) -> (BrokerCore<M>, Result<(), StoreFault>) {
         let BrokerCore {
-            alloc,
             number,
             run,
             acts,
             broker,
             log,
         } = self;
-        let (log, appended) = append_to(log, effects);
-        (
-            BrokerCore {
-                alloc,
-                number,
-                run,
-                acts,
-                broker,
-                log,
+        match log {
+            Log::Shut(medium) => {
+                let core = BrokerCore {
+                    number,
+                    run,
+                    acts,
+                    broker,
+                    log: Log::Shut(medium),
+                };
+                (core, Err(StoreFault::NoMemory))
+            }
+            Log::Open(store) => match store.append(effects) {
+                Ok(store) => {
+                    let core = BrokerCore {
+                        number,
+                        run,
+                        acts,
+                        broker,
+                        log: Log::Open(store),
+                    };
+                    (core, Ok(()))
+                }
+                Err((medium, fault)) => {
+                    let core = BrokerCore {
+                        number,
+                        run,
+                        acts,
+                        broker,
+                        log: Log::Shut(medium),
+                    };
+                    (core, Err(fault))
+                }
             },
-            appended,
-        )
+        }
     }
 
     fn reopen(self, alloc: Global) -> (BrokerCore<M>, Result<usize, OpenFault>) {
         let BrokerCore {
-            alloc: _,
             number,
             run,
             acts,
@@ -119,41 +131,38 @@ impl<M: Medium> StoredCore<M> for BrokerCore<M> {
             log,
         } = self;
         match open_again(alloc, medium_of(log)) {
-            Err((medium, fault)) => (
-                BrokerCore {
-                    alloc,
+            Err((medium, fault)) => {
+                let core = BrokerCore {
                     number,
                     run,
                     acts,
                     broker,
                     log: Log::Shut(medium),
-                },
-                Err(fault),
-            ),
+                };
+                (core, Err(fault))
+            }
             Ok((store, effects)) => {
                 match Broker::open(alloc, number, run, acts.as_slice(), effects.as_slice()) {
-                    Ok(broker) => (
-                        BrokerCore {
-                            alloc,
+                    Ok(broker) => {
+                        let core = BrokerCore {
                             number,
                             run,
                             acts,
                             broker,
                             log: Log::Open(store),
-                        },
-                        Ok(effects.len()),
-                    ),
-                    Err(fault) => (
-                        BrokerCore {
-                            alloc,
+                        };
+                        (core, Ok(effects.len()))
+                    }
+                    Err(fault) => {
+                        let core = BrokerCore {
                             number,
                             run,
                             acts,
                             broker,
                             log: Log::Shut(store.release()),
-                        },
-                        Err(damage_of(fault)),
-                    ),
+                        };
+                        (core, Err(damage_of(fault)))
+                    }
                 }
             }
         }
@@ -161,7 +170,6 @@ impl<M: Medium> StoredCore<M> for BrokerCore<M> {
 
     fn release(self) -> M {
         let BrokerCore {
-            alloc: _,
             number: _,
             run: _,
             acts: _,
@@ -169,6 +177,15 @@ impl<M: Medium> StoredCore<M> for BrokerCore<M> {
             log,
         } = self;
         medium_of(log)
+    }
+}
+
+impl<M: Medium> BrokerCore<M> {
+    /// Whether each act has its outcome and no request is outstanding. Takes no memory.
+    pub(crate) fn is_done(&self) -> bool
+        ensures { (b : Base) (l : Life) → IsBroker b (broker self.now.number) (whole l) l.mind self.now.broker → result ≡ is_over b self.now.number l }
+    {
+        self.broker.done()
     }
 }
 
@@ -182,24 +199,13 @@ fn medium_of<M: Medium>(log: Log<M>) -> M
     }
 }
 
-// A log that no broker of the run could have left counts as a damaged first page.
+// A log that shows a later run or another plan counts as damage of the first page.
 fn damage_of(fault: ResumeFault) -> OpenFault
-    ensures { (result ≡ OpenFault.NoMemory) ↔ (fault ≡ ResumeFault.NoMemory) }
+    ensures { result ≡ as_damage fault }
 {
     match fault {
         ResumeFault::NoMemory => OpenFault::NoMemory,
         ResumeFault::OldRun { latest: _ } => OpenFault::Damaged { page: 0 },
         ResumeFault::OtherPlan { index: _ } => OpenFault::Damaged { page: 0 },
-    }
-}
-
-// Adds effects to a log.
-fn append_to<M: Medium>(log: Log<M>, effects: &[Effect]) -> (Log<M>, Result<(), StoreFault>) {
-    match log {
-        Log::Shut(medium) => (Log::Shut(medium), Err(StoreFault::NoMemory)),
-        Log::Open(store) => match store.append(effects) {
-            Ok(store) => (Log::Open(store), Ok(())),
-            Err((medium, fault)) => (Log::Shut(medium), Err(fault)),
-        },
     }
 }

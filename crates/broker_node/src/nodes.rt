@@ -13,6 +13,7 @@ ghost use Rattle.node_turn.specs.Cores.{IsReady};
 ghost use Rattle.node_turn.specs.Nodes.{TurnsTo, MeetsWith, IsAtRest, new_node, sight};
 ghost use Rattle.broker_node.specs.Logs.{is_over};
 
+use crate::acts::OwnActs;
 use crate::cores::BrokerCore;
 use crate::logs::Log;
 use broker_core::Broker;
@@ -72,10 +73,9 @@ impl<F: Fates, C: Clock, M: Medium> BrokerNode<F, C, M> {
             Err(_) => Err((store.release(), pass, AllocError)),
             Ok(broker) => {
                 let core = BrokerCore {
-                    alloc,
                     number,
                     run,
-                    acts,
+                    acts: OwnActs::of(acts),
                     broker,
                     log: Log::Open(store),
                 };

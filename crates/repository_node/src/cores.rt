@@ -1,7 +1,12 @@
 //! A repository's core with its log.
-ghost use Rattle.std.specs.Prelude.{◌≡◌, ◌≤◌, ◌^◌, IfErr, Result, Err};
+ghost use Rattle.std.specs.Prelude.{◌≡◌, ◌≤◌, ◌^◌, true, false, [], IsTrue, IfOk, IfErr};
 ghost use Rattle.effect_form.specs.Effects.{AreEffects};
-ghost use Rattle.repository_node.specs.Books.{is_able, medium_in};
+ghost use Rattle.repository_log.specs.Logs.{HasMarks};
+ghost use Rattle.repository_core.specs.Turns.{opened_mind};
+ghost use Rattle.version_store.specs.StoreWords.{medium_of, effects_in};
+ghost use Rattle.object_header.specs.Ledgers.{content};
+ghost use Rattle.object_header.specs.Tables.{ledger_of, store_of};
+ghost use Rattle.repository_node.specs.Books.{HasMarksOfLog, medium_in};
 
 use crate::books::Book;
 use effect_form::Effect;
@@ -24,6 +29,7 @@ pub struct RepositoryCore<M: Medium> {
     pub(crate) start: u64,
     pub(crate) book: Book<M>,
     ghost moment: { start ≤ 2 ^ 62 },
+    ghost marked: { HasMarksOfLog book },
 }
 
 impl<M: Medium> StoredCore<M> for RepositoryCore<M> {
@@ -82,15 +88,37 @@ impl<M: Medium> StoredCore<M> for RepositoryCore<M> {
             start,
             book,
         } = self;
-        let (book, appended) = flushed(book, effects);
-        (
-            RepositoryCore {
-                number,
-                start,
-                book,
-            },
-            appended,
-        )
+        match book {
+            Book::Shut(medium) => {
+                let core = RepositoryCore {
+                    number,
+                    start,
+                    book: Book::Shut(medium),
+                };
+                (core, Err(StoreFault::NoMemory))
+            }
+            Book::Open(core) => {
+                let (rest, table) = core.part();
+                match table.flush(effects) {
+                    Ok(table) => {
+                        let core = RepositoryCore {
+                            number,
+                            start,
+                            book: Book::Open(rest.join(table)),
+                        };
+                        (core, Ok(()))
+                    }
+                    Err((medium, fault)) => {
+                        let core = RepositoryCore {
+                            number,
+                            start,
+                            book: Book::Shut(medium),
+                        };
+                        (core, Err(fault))
+                    }
+                }
+            }
+        }
     }
 
     fn reopen(self, alloc: Global) -> (RepositoryCore<M>, Result<usize, OpenFault>) {
@@ -99,15 +127,26 @@ impl<M: Medium> StoredCore<M> for RepositoryCore<M> {
             start,
             book,
         } = self;
-        let (book, opened) = opened(alloc, number, start, medium_of(book));
-        (
-            RepositoryCore {
+        match open_again(alloc, medium_of(book)) {
+            Err((medium, fault)) => (shut(number, start, medium), Err(fault)),
+            Ok((store, effects)) => match open_core(
+                alloc,
                 number,
                 start,
-                book,
+                store,
+                effects.as_slice(),
+            ) {
+                Err(medium) => (shut(number, start, medium), Err(OpenFault::NoMemory)),
+                Ok(core) => {
+                    let core = RepositoryCore {
+                        number,
+                        start,
+                        book: Book::Open(core),
+                    };
+                    (core, Ok(effects.len()))
+                }
             },
-            opened,
-        )
+        }
     }
 
     fn release(self) -> M {
@@ -133,49 +172,33 @@ fn medium_of<M: Medium>(book: Book<M>) -> M
     }
 }
 
-// Adds effects to the store: the core is parted from its histories, and joined with them again.
-fn flushed<M: Medium>(book: Book<M>, effects: &[Effect]) -> (Book<M>, Result<(), StoreFault>) {
-    match book {
-        Book::Shut(medium) => (Book::Shut(medium), Err(StoreFault::NoMemory)),
-        Book::Open(core) => {
-            let (rest, table) = core.part();
-            match table.flush(effects) {
-                Ok(table) => (Book::Open(rest.join(table)), Ok(())),
-                Err((medium, fault)) => (Book::Shut(medium), Err(fault)),
-            }
-        }
-    }
-}
-
-/// The core of a repository over the log of a store.
-pub fn open_core<M: Medium>(
+/// The core of a repository over the log of a store, whose effects these are. Where memory is
+/// wanting, the medium comes back.
+pub(crate) fn open_core<M: Medium>(
     alloc: Global,
     number: u8,
     start: u64,
     store: Store<M>,
     effects: &[Effect],
-) -> Result<Repository<HeaderTable<M>>, M> {
+) -> Result<Repository<HeaderTable<M>>, M>
+    requires open { M.is_failed (medium_of store) ≡ false }
+    requires log { IsTrue M.tells → effects_in M.reads store ≡ effects.now }
+    requires ranges { AreEffects effects.now }
+    requires moment { start ≤ 2 ^ 62 }
+    ensures number { IfOk result (λ r. r.number ≡ number) }
+    ensures log { IfOk result (λ r. r.log ≡ effects.now) }
+    ensures mind { IfOk result (λ r. r.mind ≡ opened_mind start) }
+    ensures whole { IfOk result (λ r. r.whole ≡ true) }
+    ensures marks { IfOk result (λ r. HasMarks (content (ledger_of r.histories)) effects.now) }
+    ensures stored { IfOk result (λ r. (ledger_of r.histories).log ≡ effects.now) }
+    ensures store { IfOk result (λ r. store_of r.histories ≡ store) }
+    ensures back { IfErr result (λ m. m ≡ medium_of store) }
+{
     match HeaderTable::rebuild(alloc, store, effects) {
         Err((medium, _)) => Err(medium),
         Ok(table) => match Repository::open(alloc, number, start, effects, table) {
             Err((table, _)) => Err(table.release()),
             Ok(core) => Ok(core),
-        },
-    }
-}
-
-// Opens a medium anew, and the core over it.
-fn opened<M: Medium>(
-    alloc: Global,
-    number: u8,
-    start: u64,
-    medium: M,
-) -> (Book<M>, Result<usize, OpenFault>) {
-    match open_again(alloc, medium) {
-        Err((medium, fault)) => (Book::Shut(medium), Err(fault)),
-        Ok((store, effects)) => match open_core(alloc, number, start, store, effects.as_slice()) {
-            Err(medium) => (Book::Shut(medium), Err(OpenFault::NoMemory)),
-            Ok(core) => (Book::Open(core), Ok(effects.len())),
         },
     }
 }
