@@ -53,6 +53,11 @@ pub learned-up : (kind : NodeKind) (f : Flags) (gone due : Bool) → is_broker k
 learned-up Repository f gone due h e = ap with_due e
 learned-up Broker f gone due h e = absurd (cc h)
 
+-- a node that went now, or before
+pub either-gone : (a b : Bool) → b ≡ true → (a || b) ≡ true
+either-gone true b h = refl
+either-gone false b h = h
+
 -- ---- lives
 
 -- an image of the durable log has none of the new effects
