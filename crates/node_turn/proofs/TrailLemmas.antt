@@ -12,7 +12,7 @@ use Rattle.seat_lock.specs.Words.{CarriesOn}
 use Rattle.world_core.specs.declared.entries.Entry.{Entry}
 use Rattle.world_core.specs.declared.entries.Entry.TheVariants.{Take, Go, Learn, Hear, Gate, Crash, Down, Tick}
 use Rattle.world_core.specs.Nodes.{leaves}
-use Rattle.world_core.specs.Walks.{Base, Life, Flags, World, names, own, whole, start_world, step, walk_from, walk}
+use Rattle.world_core.specs.Walks.{Base, Life, Flags, World, names, own, all_effects, start_world, step, walk_from, walk}
 use Rattle.world_core.proofs.Lives.{walk-append}
 use Rattle.world_core.proofs.Others.{Silent, silent-more}
 use Rattle.wire_core.specs.Boards.{owner_of, place_of}
@@ -118,7 +118,7 @@ trail-added n {old} {new} {e} learned cost is owns quiet ls cs a = record {
 }
 
 abbrev owed_by : Life → List Out
-owed_by l = filter (leaves (whole l)) l.outs
+owed_by l = filter (leaves (all_effects l)) l.outs
 
 -- what a gate sends is what was owed
 pub trail-gated : {tells : Bool} (n : NodeId) {old new : Sight} {life : Life} {flags : Flags} {ds : List Decided} → IsOf n old → Owns old → Gated tells n old new (Gate n) life flags ds

@@ -3,7 +3,7 @@ use Rattle.seat_lock.specs.Words.{knows}
 use Rattle.medium_port.specs.Image.{Image}
 use Rattle.turn_form.specs.declared.turns.Out.{Out}
 use Rattle.version_store.specs.Filling.{KeepsPages, StaysClean}
-use Rattle.world_core.specs.Walks.{whole}
+use Rattle.world_core.specs.Walks.{all_effects}
 use Rattle.wire_lock.specs.Sights.{life_at}
 use Rattle.node_turn.specs.Lives.{IsAfter}
 use Rattle.node_turn.specs.Trails.{AreSought}
@@ -93,9 +93,9 @@ returns-clause-tested g c = λ told repository.
     let u = on-ok _ _ _ c.in_default-sought.is c.look_up_all-pass.ensures.up in
     let t = c.end.ensures.sends in
     tested-after n (knows c.args.pass) (knows c.take_more-pass.result.0) (knows c.end.result.0) c.take_more-pass.ensures.trail
-      (tested-sent n (knows c.take_more-pass.result.0) k (knows c.end.result.0) (whole (life_at k n)) (life_at k n).outs t.0 t.1
-        (seeks-weaker n (knows c.take_more-pass.result.0) k _ (AreSought (whole (life_at k n)) (life_at k n).outs) c.look_up_all-pass.ensures.seeks
-          (λ tests p. subst (λ (o : List Out). AreSought (whole (life_at k n)) o tests) (u.life told).outs (on-ok _ _ _ c.in_default-sought.is p told repository)))
+      (tested-sent n (knows c.take_more-pass.result.0) k (knows c.end.result.0) (all_effects (life_at k n)) (life_at k n).outs t.0 t.1
+        (seeks-weaker n (knows c.take_more-pass.result.0) k _ (AreSought (all_effects (life_at k n)) (life_at k n).outs) c.look_up_all-pass.ensures.seeks
+          (λ tests p. subst (λ (o : List Out). AreSought (all_effects (life_at k n)) o tests) (u.life told).outs (on-ok _ _ _ c.in_default-sought.is p told repository)))
         t.2 (t.3 told))
 
 pub returns-clause-adds : goal.returns-clause-adds
