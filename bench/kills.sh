@@ -23,14 +23,15 @@ act='act broker 1 home 1 timeout 5 tries 3\n'
 } > "$work/adds"
 printf "$head${act}read a 1.1\nread b 1.2\nwithdraw\ndone\n" > "$work/reads"
 
-# Each page as a line of its bytes. The blank ones, which stand behind all others, are one line and a star.
+# The first 16 bytes of each page that isn't blank, a line each.
 pages() {
-  [ -f "$medium" ] && od -An -tx1 -w4096 "$medium"
+  [ -f "$medium" ] &&
+    perl -e 'open F, "<:raw", $ARGV[0] or exit 1; while (read F, $page, 4096) { print unpack("H32", $page), "\n" if $page =~ /[^\0]/ }' "$medium"
 }
 
-# How many of these pages aren't blank.
+# How many of these pages there are.
 used() {
-  grep -vc '^\(\( 00\)*\|\*\)$' "$work/pages"
+  wc -l < "$work/pages"
 }
 
 before=0 between=0 after=0 fresh=0
@@ -50,7 +51,7 @@ for kill in $(seq "$kills"); do
   wait "$process" 2> /dev/null
   # A page of a decision to commit: gate, format, length 12, Decide, a stamp, Committed.
   pages > "$work/pages"
-  committed=$(grep -c '^ a5 01 00 0c 04\( ..\)\{10\} 01' "$work/pages")
+  committed=$(grep -c '^a501000c04[0-9a-f]\{20\}01' "$work/pages")
   if [ "$(used)" -eq 0 ]; then
     before=$((before + 1))
   elif [ -s "$work/report" ]; then

@@ -17,13 +17,13 @@ use Rattle.broker_core.specs.Tasks.{tasks, task_of, Scripted}
 use Rattle.broker_core.specs.Book.{Book, book, enter}
 use Rattle.broker_core.specs.Fits.{fits, counts, keep}
 use Rattle.broker_core.specs.Stages.{stage, standing}
-use Rattle.broker_core.specs.Turns.{Desk, desk_at, whole, note, hears, send, fuel, state, settle_up, say}
+use Rattle.broker_core.specs.Turns.{Desk, desk_at, all_effects, note, hears, send, fuel, state, settle_up, say}
 use Rattle.broker_core.specs.Notes.{Shows, noted, answered_in}
 use Rattle.broker_core.specs.Phases.{standing_at}
 use Rattle.broker_core.specs.Ledgers.{AreNotes, LedgerParts, Settled, kept, answers_noted, settled, most_steps}
 use Rattle.broker_core.specs.Inputs.{listed, phase_in, effects_from, ledger_from}
 use Rattle.broker_core.specs.Parts.{BrokerParts, parts_of}
-use Rattle.broker_core.specs.Brokers.{NoRun, Stands, Gives, follows, FirstFits}
+use Rattle.broker_core.specs.Brokers.{NoRun, IsLedTo, Gives, follows, FirstFits}
 use Rattle.broker_core.proofs.CountLemmas.{are-same}
 use Rattle.broker_core.proofs.SoundLemmas.{sound-kept}
 use Rattle.broker_core.proofs.NotedLemmas.{noted-shows}
@@ -95,20 +95,20 @@ module _ (script : List ℕ → Tree) (me run : ℕ) (acts : List ActSpec) where
       ∙ (ap (standing_at acts s.1) p1
       ∙ (standing-any script run acts s.1 (kept s.1 raw) (state script me run (tasks acts) d2) h k
       ∙ ap (λ (x : Heard). standing (stage script run (state script me run (tasks acts) d2) x)) (sym heard2))) in
-      let log-is : whole d2 ≡ reverse turn.effects ++ log =
+      let log-is : all_effects d2 ≡ reverse turn.effects ++ log =
       ap (λ (xs : List Effect). xs ++ d2.base) (sym back) ∙ ap (λ (xs : List Effect). reverse turn.effects ++ xs) (led.base ∙ base) in
       record {
         effects = sym (reverse-reverse turn.effects) ∙ ap reverse (back ∙ sym (send-fresh o d2));
         outs = turn-outs ∙ (outs-are ∙ (ap listed stands1 ∙ sym (send-outs o d2 (led.outs ∙ outs-none))));
         heard = sym heard2 ∙ sym (send-heard o d2);
-        stands = subst (λ (x : LedgerParts). Stands script (reverse turn.effects ++ log) (parts_of x h)) (sym l-is) (record {
+        stands = subst (λ (x : LedgerParts). IsLedTo script (reverse turn.effects ++ log) (parts_of x h)) (sym l-is) (record {
           shows = subst (λ (xs : List Effect). Shows run s.1 (kept s.1 raw) (book (keep script me run (tasks acts) xs))) log-is led.at.shows;
           not_old = subst (λ (xs : List Effect). (book (keep script me run (tasks acts) xs)).run ≤ run) log-is led.at.not_old;
         });
       }
 
   first-at : Scripted script acts → (log : List Effect) (h0 h : Heard) (n : Notes) (raw : List Given) (f : Effect) →
-      Stands script log (record { number = me; run = run; acts = acts; notes = n; answers = kept n raw; heard = h0 }) →
+      IsLedTo script log (record { number = me; run = run; acts = acts; notes = n; answers = kept n raw; heard = h0 }) →
       FirstFits script (record { number = me; run = run; acts = acts; notes = n; answers = kept n raw; heard = h0 }) log (Some f) →
       At script me run acts (noted acts f n) (answers_noted f n raw) (note f (hears h (desk_at log h0)))
   first-at m log h0 h n raw f st ff =
@@ -124,7 +124,7 @@ module _ (script : List ℕ → Tree) (me run : ℕ) (acts : List ActSpec) where
 
 -- a call that works
 pub advance-gives : (script : List ℕ → Tree) (l0 l : LedgerParts) (h0 h : Heard) (log : List Effect) (first : Option Effect) (p : Phase) (effects : List Effect) (outs : List Out) (turn : Turn) →
-    Scripted script l0.acts → Stands script log (parts_of l0 h0) → FirstFits script (parts_of l0 h0) log first →
+    Scripted script l0.acts → IsLedTo script log (parts_of l0 h0) → FirstFits script (parts_of l0 h0) log first →
     l ≡ ledger_from l0 first h → reverse effects ≡ effects_from l0 first h → p ≡ phase_in l h → outs ≡ listed (standing_at l.acts l.notes p) → turn.effects ≡ effects → turn.outs ≡ outs →
     Gives script log (follows script (parts_of l0 h0) log first h) turn (parts_of l h)
 advance-gives script l0 l h0 h log None p effects outs turn m st ff l-is e-is p-is o-is te to =
@@ -138,9 +138,9 @@ advance-gives script l0 l h0 h log (Some f) p effects outs turn m st ff l-is e-i
 -- of a broker as its callers see it
 pub advance-viewed : (script : List ℕ → Tree) (q : BrokerParts) (l0 l : LedgerParts) (h0 h : Heard) (log : List Effect) (first : Option Effect) (p : Phase) (effects : List Effect) (outs : List Out) (turn : Turn) →
     parts_of l0 h0 ≡ q → l ≡ ledger_from l0 first h → reverse effects ≡ effects_from l0 first h → p ≡ phase_in l h → outs ≡ listed (standing_at l.acts l.notes p) → turn.effects ≡ effects → turn.outs ≡ outs →
-    Scripted script q.acts → Stands script log q → FirstFits script q log first → Gives script log (follows script q log first h) turn (parts_of l h)
+    Scripted script q.acts → IsLedTo script log q → FirstFits script q log first → Gives script log (follows script q log first h) turn (parts_of l h)
 advance-viewed script q l0 l h0 h log first p effects outs turn view l-is e-is p-is o-is te to =
-    subst (λ (x : BrokerParts). Scripted script x.acts → Stands script log x → FirstFits script x log first → Gives script log (follows script x log first h) turn (parts_of l h)) view
+    subst (λ (x : BrokerParts). Scripted script x.acts → IsLedTo script log x → FirstFits script x log first → Gives script log (follows script x log first h) turn (parts_of l h)) view
     (λ m st ff. advance-gives script l0 l h0 h log first p effects outs turn m st ff l-is e-is p-is o-is te to)
 
 -- where the answers that the notes count still stand, there are as many

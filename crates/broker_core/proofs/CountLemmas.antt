@@ -13,13 +13,13 @@ use Rattle.pseudo_time.specs.StampParts.{StampParts}
 use Rattle.effect_form.specs.declared.effects.Effect.{Effect}
 use Rattle.effect_form.specs.declared.effects.Effect.TheVariants as effect
 use Rattle.script_meaning.specs.Meaning.{Answer}
-use Rattle.script_run.specs.Told.{Told}
+use Rattle.script_run.specs.RunParts.{RunParts}
 use Rattle.serial_model.specs.Asked.{AreAsked}
 use Rattle.serial_model.proofs.AskedLemmas.{asked-none, asked-next, asked-few}
 use Rattle.broker_core.specs.declared.givens.Given.{Given}
 use Rattle.broker_core.specs.declared.notes.Last.{Last}
 use Rattle.broker_core.specs.declared.notes.Notes.{Notes}
-use Rattle.broker_core.specs.Notes.{answer_of, answers_of, answered_in, act_at, tree_of, answer_noted, try_begun}
+use Rattle.broker_core.specs.Notes.{answer_of, answers_given, answered_in, act_at, tree_of, answer_noted, try_begun}
 use Rattle.broker_core.specs.Ledgers.{LedgerParts, AreNotes, IsAskedFor, IsLedger, MayAdd, StepperFits, kept, lines_of}
 
 -- a try has at most 10,000 answers
@@ -40,7 +40,7 @@ module _ (acts : List ActSpec) (n : Notes) (raw : List Given) where
     clock = k.clock;
     answered = l;
     few = k.few;
-    asked = λ t. subst (λ (xs : List Given). AreAsked (tree_of (act_at acts n)) (answers_of xs)) (sym e) (k.asked t);
+    asked = λ t. subst (λ (xs : List Given). AreAsked (tree_of (act_at acts n)) (answers_given xs)) (sym e) (k.asked t);
   }
 
   -- with one answer more
@@ -58,17 +58,17 @@ module _ (acts : List ActSpec) (n : Notes) (raw : List Given) where
   pub answer-are : (g : Given) → AreNotes acts n raw → IsAskedFor acts n (kept n raw) g → AreNotes acts (answer_noted n) (kept n raw ++ g ∷ [])
   answer-are g k a =
       let long : length (kept n raw ++ g ∷ []) ≡ answered_in (answer_noted n).last = given-length g k a.last in
-      let asked1 : AreAsked (tree_of (act_at acts n)) (answers_of (kept n raw) ++ answer_of g ∷ []) = asked-next (tree_of (act_at acts n)) (answers_of (kept n raw)) (answer_of g) (k.asked a.tried) a.asks in
-      let asked2 : AreAsked (tree_of (act_at acts n)) (answers_of (kept n raw ++ g ∷ [])) = subst (AreAsked (tree_of (act_at acts n))) (sym (map-append answer_of (kept n raw) (g ∷ []))) asked1 in
-      let few1 : length (answers_of (kept n raw ++ g ∷ [])) ≤ 10000 = few-asked (act_at acts n) _ asked2 in
-      let few2 : length (answers_of (kept n raw ++ g ∷ [])) ≡ length (kept n raw ++ g ∷ []) = length-map (kept n raw ++ g ∷ []) answer_of in
+      let asked1 : AreAsked (tree_of (act_at acts n)) (answers_given (kept n raw) ++ answer_of g ∷ []) = asked-next (tree_of (act_at acts n)) (answers_given (kept n raw)) (answer_of g) (k.asked a.tried) a.asks in
+      let asked2 : AreAsked (tree_of (act_at acts n)) (answers_given (kept n raw ++ g ∷ [])) = subst (AreAsked (tree_of (act_at acts n))) (sym (map-append answer_of (kept n raw) (g ∷ []))) asked1 in
+      let few1 : length (answers_given (kept n raw ++ g ∷ [])) ≤ 10000 = few-asked (act_at acts n) _ asked2 in
+      let few2 : length (answers_given (kept n raw ++ g ∷ [])) ≡ length (kept n raw ++ g ∷ []) = length-map (kept n raw ++ g ∷ []) answer_of in
       record {
         started = k.started;
         tries = k.tries;
         clock = k.clock;
         answered = omega arith;
         few = omega arith;
-        asked = λ t. subst (λ (xs : List Given). AreAsked (tree_of (act_at acts n)) (answers_of xs)) (sym (given-kept g k a.last)) asked2;
+        asked = λ t. subst (λ (xs : List Given). AreAsked (tree_of (act_at acts n)) (answers_given xs)) (sym (given-kept g k a.last)) asked2;
       }
 
   -- with one try more
@@ -114,11 +114,11 @@ act-there acts n s l = there (n.started == 0) refl
 -- ---- the ledger once an answer was added
 
 module _ (number : ℕ) (acts : List ActSpec) (n m : Notes) (raw items : List Given) (g : Given) where
-  stepped-by : (r s : Told) → (r.script ≡ lines_of (act_at acts n)) × (r.answers ≡ answers_of (kept n raw)) → s.script ≡ r.script → s.answers ≡ r.answers ++ answer_of g ∷ [] →
-      (s.script ≡ lines_of (act_at acts n)) × (s.answers ≡ answers_of (kept n raw ++ g ∷ []))
+  stepped-by : (r s : RunParts) → (r.script ≡ lines_of (act_at acts n)) × (r.answers ≡ answers_given (kept n raw)) → s.script ≡ r.script → s.answers ≡ r.answers ++ answer_of g ∷ [] →
+      (s.script ≡ lines_of (act_at acts n)) × (s.answers ≡ answers_given (kept n raw ++ g ∷ []))
   stepped-by r s f e q = (e ∙ f.0, q ∙ (ap (λ (xs : List Answer). xs ++ answer_of g ∷ []) f.1 ∙ sym (map-append answer_of (kept n raw) (g ∷ []))))
 
-  ledger-by : (o : Option Told) → IsLedger number acts n raw None → IsAskedFor acts n (kept n raw) g → m ≡ answer_noted n → items ≡ kept n raw ++ g ∷ [] →
+  ledger-by : (o : Option RunParts) → IsLedger number acts n raw None → IsAskedFor acts n (kept n raw) g → m ≡ answer_noted n → items ≡ kept n raw ++ g ∷ [] →
       StepperFits acts (answer_noted n) (kept n raw ++ g ∷ []) o → IsLedger number acts m items o
   ledger-by o k a e q f =
       subst (λ (x : Notes). IsLedger number acts x items o) (sym e) (subst (λ (xs : List Given). IsLedger number acts (answer_noted n) xs o) (sym q) (record {
@@ -129,17 +129,17 @@ module _ (number : ℕ) (acts : List ActSpec) (n m : Notes) (raw items : List Gi
         stepper_fits = f;
       }))
 
-  without : (o : Option Told) → IsLedger number acts n raw o → IsLedger number acts n raw None
+  without : (o : Option RunParts) → IsLedger number acts n raw o → IsLedger number acts n raw None
   without o k = record { number_low = k.number_low; number_high = k.number_high; are_acts = k.are_acts; are_notes = k.are_notes; stepper_fits = tt }
 
   -- with a run at hand that was given it
-  pub ledger-run : (o : Option Told) (r s : Told) → IsLedger number acts n raw o → o ≡ Some r → IsAskedFor acts n (kept n raw) g → m ≡ answer_noted n → items ≡ kept n raw ++ g ∷ [] →
+  pub ledger-run : (o : Option RunParts) (r s : RunParts) → IsLedger number acts n raw o → o ≡ Some r → IsAskedFor acts n (kept n raw) g → m ≡ answer_noted n → items ≡ kept n raw ++ g ∷ [] →
       s.script ≡ r.script → s.answers ≡ r.answers ++ answer_of g ∷ [] → IsLedger number acts m items (Some s)
   ledger-run o r s k is a e q b d =
       let f = stepped-by r s (subst (StepperFits acts n raw) is k.stepper_fits) b d in
-      ledger-by (Some s) (without o k) a e q (f.0, f.1 ∙ ap answers_of (sym (given-kept acts n raw g k.are_notes a.last)))
+      ledger-by (Some s) (without o k) a e q (f.0, f.1 ∙ ap answers_given (sym (given-kept acts n raw g k.are_notes a.last)))
 
   -- without one
-  pub ledger-none : (o : Option Told) → IsLedger number acts n raw o → ((r : Told) → o ≡ Some r → ⊥) → IsAskedFor acts n (kept n raw) g → m ≡ answer_noted n → items ≡ kept n raw ++ g ∷ [] → IsLedger number acts m items o
+  pub ledger-none : (o : Option RunParts) → IsLedger number acts n raw o → ((r : RunParts) → o ≡ Some r → ⊥) → IsAskedFor acts n (kept n raw) g → m ≡ answer_noted n → items ≡ kept n raw ++ g ∷ [] → IsLedger number acts m items o
   ledger-none None k not a e q = ledger-by None k a e q tt
   ledger-none (Some r) k not a e q = absurd (not r refl)

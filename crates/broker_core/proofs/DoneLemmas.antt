@@ -23,7 +23,7 @@ use Rattle.broker_core.specs.Phases.{phase_at, standing_at, is_quiet}
 use Rattle.broker_core.specs.Ledgers.{LedgerParts, kept}
 use Rattle.broker_core.specs.Inputs.{listed, over_by}
 use Rattle.broker_core.specs.Parts.{BrokerParts, parts_of}
-use Rattle.broker_core.specs.Brokers.{book_for, Stands, Gives, turn_of, is_done}
+use Rattle.broker_core.specs.Brokers.{book_for, IsLedTo, Gives, turn_of, is_done}
 use Rattle.broker_core.proofs.ShapeLemmas.{over-is}
 use Rattle.broker_core.proofs.SoundLemmas.{sound-kept}
 use Rattle.broker_core.proofs.NotedLemmas.{most-of-last}
@@ -69,7 +69,7 @@ module _ (script : List ℕ → Tree) (run : ℕ) (acts : List ActSpec) where
       ∙ ap (λ (c : Bool). (if b.run == run then (length b.acts == length (tasks acts)) && all_over b.acts else length (tasks acts) == 0) && c)
       (ap is_quiet (phase-any script run acts n answers b h k) ∙ quiet-is (stage script run b h))
 
-pub done-is : (script : List ℕ → Tree) (p : BrokerParts) (log : List Effect) → Scripted script p.acts → Stands script log p →
+pub done-is : (script : List ℕ → Tree) (p : BrokerParts) (log : List Effect) → Scripted script p.acts → IsLedTo script log p →
     (over_by p.run p.acts p.notes && is_quiet (phase_at p.acts p.run p.notes p.answers p.heard)) ≡ is_done script p log
 done-is script p log m st =
     done-of script p.run p.acts p.notes p.answers (book_for script p log) p.heard
@@ -89,7 +89,7 @@ send-same : (o : Option Out) (log : List Effect) (h : Heard) → (send o (desk_a
 send-same None log h = refl
 send-same (Some x) log h = refl
 
-pub hear-gives : (script : List ℕ → Tree) (p : BrokerParts) (log : List Effect) (moment : ℕ) (turn : Turn) → Scripted script p.acts → Stands script log p →
+pub hear-gives : (script : List ℕ → Tree) (p : BrokerParts) (log : List Effect) (moment : ℕ) (turn : Turn) → Scripted script p.acts → IsLedTo script log p →
     turn.effects ≡ [] → turn.outs ≡ listed (standing_at p.acts p.notes (phase_at p.acts p.run p.notes p.answers p.heard)) → Gives script log (turn_of script p log (Hear moment)) turn p
 hear-gives script p log moment turn m st none outs =
     let b : Book = book_for script p log in
@@ -99,37 +99,37 @@ hear-gives script p log moment turn m st none outs =
       effects = none ∙ sym (ap reverse (send-quiet o log p.heard));
       outs = outs ∙ (ap listed (standing-any script p.run p.acts p.notes p.answers b p.heard k) ∙ sym (send-alone o log p.heard));
       heard = sym (send-same o log p.heard);
-      stands = subst (λ (xs : List Effect). Stands script (reverse xs ++ log) p) (sym none) st;
+      stands = subst (λ (xs : List Effect). IsLedTo script (reverse xs ++ log) p) (sym none) st;
     }
 
 -- a message that is ignored
-pub ignored-gives : (script : List ℕ → Tree) (p : BrokerParts) (log : List Effect) (d : Desk) (turn : Turn) → Stands script log p → d ≡ desk_at log p.heard → turn.effects ≡ [] → turn.outs ≡ [] → Gives script log d turn p
+pub ignored-gives : (script : List ℕ → Tree) (p : BrokerParts) (log : List Effect) (d : Desk) (turn : Turn) → IsLedTo script log p → d ≡ desk_at log p.heard → turn.effects ≡ [] → turn.outs ≡ [] → Gives script log d turn p
 ignored-gives script p log d turn st e none nothing = record {
   effects = none ∙ sym (ap (λ (x : Desk). reverse x.fresh) e);
   outs = nothing ∙ sym (ap (λ (x : Desk). x.outs) e);
   heard = sym (ap (λ (x : Desk). x.heard) e);
-  stands = subst (λ (xs : List Effect). Stands script (reverse xs ++ log) p) (sym none) st;
+  stands = subst (λ (xs : List Effect). IsLedTo script (reverse xs ++ log) p) (sym none) st;
 }
 
 pub hear-viewed : (script : List ℕ → Tree) (q : BrokerParts) (l : LedgerParts) (h : Heard) (p : Phase) (log : List Effect) (moment : ℕ) (out : Option Out) (effects : List Effect) (outs : List Out) (turn : Turn) →
     parts_of l h ≡ q → p ≡ phase_at l.acts l.run l.notes (kept l.notes l.answers) h → out ≡ standing_at l.acts l.notes p → turn.effects ≡ effects → effects ≡ [] → turn.outs ≡ outs → outs ≡ listed out →
-    Scripted script q.acts → Stands script log q → Gives script log (turn_of script q log (Hear moment)) turn q
+    Scripted script q.acts → IsLedTo script log q → Gives script log (turn_of script q log (Hear moment)) turn q
 hear-viewed script q l h p log moment out effects outs turn view p-is o-is te none to os =
-    subst (λ (x : BrokerParts). Scripted script x.acts → Stands script log x → Gives script log (turn_of script x log (Hear moment)) turn x) view
+    subst (λ (x : BrokerParts). Scripted script x.acts → IsLedTo script log x → Gives script log (turn_of script x log (Hear moment)) turn x) view
     (λ m st. hear-gives script (parts_of l h) log moment turn m st (te ∙ none) (to ∙ (os ∙ ap listed (o-is ∙ ap (standing_at l.acts l.notes) p-is))))
 
 done-viewed : (script : List ℕ → Tree) (q : BrokerParts) (l : LedgerParts) (h : Heard) (p : Phase) (log : List Effect) → parts_of l h ≡ q → p ≡ phase_at l.acts l.run l.notes (kept l.notes l.answers) h →
-    Scripted script q.acts → Stands script log q → (over_by q.run q.acts q.notes && is_quiet p) ≡ is_done script q log
+    Scripted script q.acts → IsLedTo script log q → (over_by q.run q.acts q.notes && is_quiet p) ≡ is_done script q log
 done-viewed script q l h p log view p-is =
-    subst (λ (x : BrokerParts). Scripted script x.acts → Stands script log x → (over_by x.run x.acts x.notes && is_quiet p) ≡ is_done script x log) view
+    subst (λ (x : BrokerParts). Scripted script x.acts → IsLedTo script log x → (over_by x.run x.acts x.notes && is_quiet p) ≡ is_done script x log) view
     (λ m st. ap (λ (y : Phase). over_by l.run l.acts l.notes && is_quiet y) p-is ∙ done-is script (parts_of l h) log m st)
 
 pub done-then : (script : List ℕ → Tree) (q : BrokerParts) (l : LedgerParts) (h : Heard) (p : Phase) (log : List Effect) (over quiet : Bool) → parts_of l h ≡ q → p ≡ phase_at l.acts l.run l.notes (kept l.notes l.answers) h →
-    over ≡ over_by q.run q.acts q.notes → over ≡ true → quiet ≡ is_quiet p → Scripted script q.acts → Stands script log q → quiet ≡ is_done script q log
+    over ≡ over_by q.run q.acts q.notes → over ≡ true → quiet ≡ is_quiet p → Scripted script q.acts → IsLedTo script log q → quiet ≡ is_done script q log
 done-then script q l h p log over quiet view p-is o t e m st =
     e ∙ (ap (λ (c : Bool). c && is_quiet p) (sym t ∙ o) ∙ done-viewed script q l h p log view p-is m st)
 
 pub done-else : (script : List ℕ → Tree) (q : BrokerParts) (l : LedgerParts) (h : Heard) (p : Phase) (log : List Effect) (over : Bool) → parts_of l h ≡ q → p ≡ phase_at l.acts l.run l.notes (kept l.notes l.answers) h →
-    over ≡ over_by q.run q.acts q.notes → over ≡ false → Scripted script q.acts → Stands script log q → over ≡ is_done script q log
+    over ≡ over_by q.run q.acts q.notes → over ≡ false → Scripted script q.acts → IsLedTo script log q → over ≡ is_done script q log
 done-else script q l h p log over view p-is o t m st =
     t ∙ (ap (λ (c : Bool). c && is_quiet p) (sym t ∙ o) ∙ done-viewed script q l h p log view p-is m st)

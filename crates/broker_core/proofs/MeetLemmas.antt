@@ -8,7 +8,7 @@ use Rattle.broker_core.specs.declared.givens.Given.{Given}
 use Rattle.broker_core.specs.Tasks.{Task, task_of, tasks, Scripted}
 use Rattle.broker_core.specs.Book.{Try, Act, Book, front, open_front, open_of, open_try, last_try}
 use Rattle.broker_core.specs.Fits.{stop_of}
-use Rattle.broker_core.specs.Notes.{notes_of, answers_of, answers_of_last, act_at, tree_of, stop_at}
+use Rattle.broker_core.specs.Notes.{notes_of, answers_given, answers_of_last, act_at, tree_of, stop_at}
 use Rattle.broker_core.specs.Sound.{Started, OfAct, Sound}
 use Rattle.broker_core.proofs.ShapeLemmas.{past-zero, get-task, every-get, open-is-last, open-last-front}
 use Rattle.std.proofs.Common.{append-nil}
@@ -53,11 +53,11 @@ module _ (acts : List ActSpec) where
 
     -- where its script stops
     pub stop-is : (b : Book) (t : Try) (answers : List Given) → Scripted script acts → Sound run (tasks acts) b → b.run ≡ run → open_try b ≡ Some t →
-        answers_of answers ≡ answers_of_last (last_try b) → stop_at acts (notes_of b) answers ≡ stop_of script t
+        answers_given answers ≡ answers_of_last (last_try b) → stop_at acts (notes_of b) answers ≡ stop_of script t
     stop-is b t answers m h r o e =
         let g = act-is b t h r o in
         let place : slice_get acts (length b.acts - 1) ≡ Some g.0 = placed (length b.acts) g.0 g.1 in
         let tree : tree_of (act_at acts (notes_of b)) ≡ script t.task.script =
         ap tree_of g.1 ∙ (sym (every-get _ acts (length b.acts - 1) g.0 m place) ∙ ap (λ (x : Task). script x.script) g.2) in
-        let ans : answers_of answers ≡ t.answers = e ∙ ap answers_of_last (open-is-last b t o) in
-        ap (λ (x : Tree). stop x (answers_of answers)) tree ∙ ap (stop (script t.task.script)) ans
+        let ans : answers_given answers ≡ t.answers = e ∙ ap answers_of_last (open-is-last b t o) in
+        ap (λ (x : Tree). stop x (answers_given answers)) tree ∙ ap (stop (script t.task.script)) ans

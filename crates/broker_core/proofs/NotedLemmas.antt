@@ -20,7 +20,7 @@ use Rattle.broker_core.specs.declared.notes.Notes.{Notes}
 use Rattle.broker_core.specs.Tasks.{Task, task_with, tasks}
 use Rattle.broker_core.specs.Book.{Try, Act, Book, enter, front, tries_of, on_act, on_front, on_try, new_try, gain, finish, open_front, open_of, open_try, last_try, if_open}
 use Rattle.broker_core.specs.Fits.{fits, fits_try, fits_got, fits_acked, fits_end, fits_spent}
-use Rattle.broker_core.specs.Notes.{last_of, over_behind, spent_in, tries_in, notes_of, answers_of, answer_of, answers_of_last, answered_in, act_at, most_of, over_at, act_begun, try_begun, answer_noted, noted, Shows}
+use Rattle.broker_core.specs.Notes.{last_of, over_behind, spent_in, tries_in, notes_of, answers_given, answer_of, answers_of_last, answered_in, act_at, most_of, over_at, act_begun, try_begun, answer_noted, noted, Shows}
 use Rattle.broker_core.specs.Ledgers.{kept, answers_noted}
 use Rattle.broker_core.specs.Sound.{Started}
 use Rattle.broker_core.proofs.ShapeLemmas.{over-is, most_in, open-is-last}
@@ -130,7 +130,7 @@ module _ (script : List ℕ → Tree) (me run : ℕ) (acts : List ActSpec) where
       let last : last_try b ≡ Some t = open-is-last b t o in
       let noted-last : (answer_noted (notes_of b)).last ≡ Some (record { stamp = t.stamp; answered = length t.answers + 1; end = t.end }) =
       ap (λ (x : Option Try). option_map (λ (l : Last). record l { answered = l.answered + 1 }) (option_map last_of x)) last in
-      let are : answers_of (kept (notes_of b) raw) ≡ t.answers = k.answers_are ∙ ap answers_of_last last in
+      let are : answers_given (kept (notes_of b) raw) ≡ t.answers = k.answers_are ∙ ap answers_of_last last in
       let long : length (kept (notes_of b) raw) ≡ length t.answers = sym (length-map (kept (notes_of b) raw) answer_of) ∙ ap length are in
       record {
         run_is = refl;
@@ -140,8 +140,8 @@ module _ (script : List ℕ → Tree) (me run : ℕ) (acts : List ActSpec) where
             ∙ (ap (λ (x : ℕ). record (notes_of b) { last = Some (record { stamp = t.stamp; answered = x; end = t.end }) }) (sym (length-append t.answers (answer_of g ∷ [])))
             ∙ sym (changed-notes (gain (answer_of g)) b b.acts t o));
         answers_are = λ r.
-            ap (λ (x : Option Last). answers_of (take (answered_in x) (kept (notes_of b) raw ++ g ∷ []))) noted-last
-            ∙ (ap answers_of (kept-all (length t.answers) (kept (notes_of b) raw) g long)
+            ap (λ (x : Option Last). answers_given (take (answered_in x) (kept (notes_of b) raw ++ g ∷ []))) noted-last
+            ∙ (ap answers_given (kept-all (length t.answers) (kept (notes_of b) raw) g long)
             ∙ (map-append answer_of (kept (notes_of b) raw) (g ∷ [])
             ∙ (ap (λ (xs : List Answer). xs ++ answer_of g ∷ []) are ∙ sym (ap answers_of_last (last-changed (gain (answer_of g)) b.acts t o)))));
       }
@@ -159,8 +159,8 @@ module _ (script : List ℕ → Tree) (me run : ℕ) (acts : List ActSpec) where
         clock_is = refl;
         notes_are = λ r. ap (λ (x : Option Last). record (notes_of b) { shown = shown; last = x }) noted-last ∙ sym (changed-notes (finish o) (record b { shown = shown }) b.acts t e);
         answers_are = λ r.
-            ap (λ (x : Option Last). answers_of (take (answered_in x) raw)) noted-last
-            ∙ (sym (ap (λ (x : Option Try). answers_of (take (answered_in (option_map last_of x)) raw)) last)
+            ap (λ (x : Option Last). answers_given (take (answered_in x) raw)) noted-last
+            ∙ (sym (ap (λ (x : Option Try). answers_given (take (answered_in (option_map last_of x)) raw)) last)
             ∙ (k.answers_are ∙ (ap answers_of_last last ∙ sym (ap answers_of_last (last-changed (finish o) b.acts t e)))));
       }
 
@@ -204,6 +204,6 @@ module _ (script : List ℕ → Tree) (me run : ℕ) (acts : List ActSpec) where
   pub noted-shows : (n : Notes) (raw : List Given) (b : Book) (f : Effect) → Meets script run acts n (kept n raw) b → fits script me (tasks acts) b f ≡ true →
       Shows run (noted acts f n) (kept (noted acts f n) (answers_noted f n raw)) (enter f b)
   noted-shows n raw b f k h =
-      let a : answers_of (kept (notes_of b) raw) ≡ answers_of_last (last_try b) = subst (λ (x : Notes). answers_of (kept x raw) ≡ answers_of_last (last_try b)) k.notes_are k.answers_are in
+      let a : answers_given (kept (notes_of b) raw) ≡ answers_of_last (last_try b) = subst (λ (x : Notes). answers_given (kept x raw) ≡ answers_of_last (last_try b)) k.notes_are k.answers_are in
       let k' : Meets script run acts (notes_of b) (kept (notes_of b) raw) b = record { scripted = k.scripted; sound = k.sound; here = k.here; notes_are = refl; answers_are = a } in
       subst (λ (x : Notes). Shows run (noted acts f x) (kept (noted acts f x) (answers_noted f x raw)) (enter f b)) (sym k.notes_are) (shows-after raw b f k' h)

@@ -15,7 +15,7 @@ use Rattle.broker_core.specs.Ledgers.{LedgerParts, kept}
 use Rattle.broker_core.specs.Replays.{fresh_ledger, fits_now, added, led, other_at}
 use Rattle.broker_core.specs.Inputs.{fault_of}
 use Rattle.broker_core.specs.Parts.{parts_of}
-use Rattle.broker_core.specs.Brokers.{Stands, Opens, is_fresh}
+use Rattle.broker_core.specs.Brokers.{IsLedTo, Opens, is_fresh}
 use Rattle.broker_core.proofs.LogLemmas.{Took, led-took, other-is, fault-is, not-old}
 
 -- whose the ledger is stays
@@ -49,7 +49,7 @@ module _ (script : List ℕ → Tree) (number run : ℕ) (acts : List ActSpec) w
   fault-of m l0 l log other a b o =
       fault-is script number run acts l log other (took m l0 l log a b) (o ∙ (ap (λ (x : LedgerParts). other_at x log) a ∙ other-is script number run acts m log))
 
-  took-stands : (l : LedgerParts) (h : Heard) (log : List Effect) → Took script number run acts l log → (book (keep script number run (tasks acts) log)).run ≤ run → Stands script log (parts_of l h)
+  took-stands : (l : LedgerParts) (h : Heard) (log : List Effect) → Took script number run acts l log → (book (keep script number run (tasks acts) log)).run ≤ run → IsLedTo script log (parts_of l h)
   took-stands l h log t old =
       let s1 = subst (λ (x : ℕ). Shows run l.notes (kept l.notes l.answers) (book (keep script x run (tasks acts) log))) (sym t.number) t.shows in
       let s2 = subst (λ (x : ℕ). Shows x l.notes (kept l.notes l.answers) (book (keep script l.number x (tasks acts) log))) (sym t.of_run) s1 in
@@ -60,10 +60,10 @@ module _ (script : List ℕ → Tree) (number run : ℕ) (acts : List ActSpec) w
       record { shows = s3; not_old = o3 }
 
   pub opened : (l0 l k : LedgerParts) (h : Heard) (log : List Effect) (other : Option ℕ) (r : Option ResumeFault) → l0 ≡ fresh_ledger number run acts → l ≡ led l0 log → other ≡ other_at l0 log → k ≡ l → r ≡ fault_of l other → r ≡ None →
-      Scripted script acts → (resume_fault script number run (tasks acts) log ≡ None) × Stands script log (parts_of k h)
+      Scripted script acts → (resume_fault script number run (tasks acts) log ≡ None) × IsLedTo script log (parts_of k h)
   opened l0 l k h log other r a b o c e n m =
       let f : resume_fault script number run (tasks acts) log ≡ None = sym (fault-of m l0 l log other a b o) ∙ (sym e ∙ n) in
-      (f, subst (λ (x : LedgerParts). Stands script log (parts_of x h)) (sym c) (took-stands l h log (took m l0 l log a b) (not-old script number run acts log f)))
+      (f, subst (λ (x : LedgerParts). IsLedTo script log (parts_of x h)) (sym c) (took-stands l h log (took m l0 l log a b) (not-old script number run acts log f)))
 
   opens-err : (log : List Effect) (f : ResumeFault) → resume_fault script number run (tasks acts) log ≡ Some f → Opens script number run acts log (Err f)
   opens-err log fault.NoMemory h = tt

@@ -16,7 +16,7 @@ use Rattle.broker_core.specs.Tasks.{Task, tasks, Scripted}
 use Rattle.broker_core.specs.Book.{Try, Book, open_try, last_try, time_of}
 use Rattle.broker_core.specs.Fits.{is_none, stop_of}
 use Rattle.broker_core.specs.Stages.{Stage, Idle, Refused, Opening, Asking, Finishing, Stopping, Closing, no_answer, by_stop, by_last, is_asking, is_closed, stage_of, stage, standing}
-use Rattle.broker_core.specs.Notes.{last_of, notes_of, answers_of, answers_of_last, act_at, timeout_of}
+use Rattle.broker_core.specs.Notes.{last_of, notes_of, answers_given, answers_of_last, act_at, timeout_of}
 use Rattle.broker_core.specs.Phases.{phase_of, phase_by_last, phase_by_stop, phase_by_open, phase_at, standing_for, standing_by, standing_at}
 use Rattle.broker_core.specs.Sound.{Sound}
 use Rattle.broker_core.proofs.ShapeLemmas.{open-is, open-is-last}
@@ -60,7 +60,7 @@ module _ (script : List ℕ → Tree) (run : ℕ) (acts : List ActSpec) where
     pub sound : Sound run (tasks acts) b
     pub here : b.run ≡ run
     pub notes_are : n ≡ notes_of b
-    pub answers_are : answers_of answers ≡ answers_of_last (last_try b)
+    pub answers_are : answers_given answers ≡ answers_of_last (last_try b)
 
   open-shown : (b : Book) (answers : List Given) (h : Heard) (o : Option Try) → Meets (notes_of b) answers b → open_try b ≡ o →
       phase_by_open acts (notes_of b) answers h (option_map last_of o) ≡ shown (stage_of script h o (last_try b))

@@ -33,7 +33,7 @@ use Rattle.turn_form.specs.declared.turns.Turn.{Turn}
 use Rattle.turn_form.specs.Ranges.{IsEffect, AreEffects, AreOuts}
 use Rattle.script_meaning.specs.Meaning.{Stop, Asks, Over, ToRead, ToWrite}
 use Rattle.serial_model.specs.Ranges.{StopInRange}
-use Rattle.serial_model.specs.Requests.{HasBytes, AnswerHasBytes}
+use Rattle.serial_model.specs.Requests.{AsksInRange, AnswerHasBytes}
 use Rattle.serial_model.proofs.RequestLemmas.{denote-HasBytes, stop-InRange}
 use Rattle.serial_model.proofs.TestLemmas.{by_test}
 use Rattle.broker_core.specs.declared.givens.Given.{Given}
@@ -50,7 +50,7 @@ use Rattle.broker_core.specs.Stages.{is_asking}
 use Rattle.broker_core.specs.Tasks.{task_of}
 use Rattle.broker_core.specs.Tests.{is_stamp, is_time}
 use Rattle.broker_core.specs.Rows.{when}
-use Rattle.broker_core.specs.Notes.{act_at, answered_in, answers_of, another_at, changed, fits_try_at, end_noted, home_of, index_of, most_of, open_last, passed, run_begun, shown_by, stop_at, time_at, timeout_of, tree_of, unended}
+use Rattle.broker_core.specs.Notes.{act_at, answered_in, answers_given, another_at, changed, fits_try_at, end_noted, home_of, index_of, most_of, open_last, passed, run_begun, shown_by, stop_at, time_at, timeout_of, tree_of, unended}
 use Rattle.broker_core.specs.Phases.{phase_of, phase_by_last, phase_by_stop, phase_by_open, phase_at, closed_at, closed_in, standing_for, standing_by, standing_at, ends_at, commit_answered, early_answered, opening_row, ended_row, reading_row, writing_row, decided_of, decision_row, reply_for, reply_by, reply_at, start_at, shown_at, by_clock_at, try_or_spent_at, after_tries_at, due_at, by_phase}
 use Rattle.broker_core.specs.Ledgers.{IsAct, AreActs, AreNotes, LedgerParts, Settled, kept, owed_now, settle_on, settled, most_steps}
 use Rattle.broker_core.specs.Replays.{fits_now, added, logged, led, fresh_ledger}
@@ -281,20 +281,20 @@ module _ (acts : List ActSpec) (each : Every IsAct acts) where
   index-there None h = absurd h
   index-there (Some a) h = (let k = h.index_high in omega arith, h.index_low, h.index_high)
 
-  act-fits : (n : Notes) → HasBytes (tree_of (act_at acts n))
-  act-fits n = by_test (n.started == 0) (λ c. HasBytes (tree_of (cond c None (slice_get acts (n.started - 1))))) (λ e. tt) (λ e. of (slice_get acts (n.started - 1)) (placed IsAct acts (n.started - 1) each))
+  act-fits : (n : Notes) → AsksInRange (tree_of (act_at acts n))
+  act-fits n = by_test (n.started == 0) (λ c. AsksInRange (tree_of (cond c None (slice_get acts (n.started - 1))))) (λ e. tt) (λ e. of (slice_get acts (n.started - 1)) (placed IsAct acts (n.started - 1) each))
     where
-      of : (o : Option ActSpec) → Placed IsAct acts (n.started - 1) o → HasBytes (tree_of o)
+      of : (o : Option ActSpec) → Placed IsAct acts (n.started - 1) o → AsksInRange (tree_of o)
       of None h = tt
       of (Some a) h = denote-HasBytes (block a.script.lines) (printable-InRange 16 (block a.script.lines) h.0.script)
 
-  answers-fit : (gs : List Given) → Every GivenInRange gs → Every AnswerHasBytes (answers_of gs)
+  answers-fit : (gs : List Given) → Every GivenInRange gs → Every AnswerHasBytes (answers_given gs)
   answers-fit [] h = tt
   answers-fit (given.Got v ∷ gs) h = (h.0, answers-fit gs h.1)
   answers-fit (given.Stored ∷ gs) h = (tt, answers-fit gs h.1)
 
   stop-fits : (n : Notes) (gs : List Given) → Every GivenInRange gs → StopInRange (stop_at acts n gs)
-  stop-fits n gs h = stop-InRange (tree_of (act_at acts n)) (answers_of gs) (act-fits n) (answers-fit gs h)
+  stop-fits n gs h = stop-InRange (tree_of (act_at acts n)) (answers_given gs) (act-fits n) (answers-fit gs h)
 
   -- the stage of a try of an act that was begun, with what it asks for in range
   abbrev PhaseFits : Notes → Phase → Type 0

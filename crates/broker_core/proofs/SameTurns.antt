@@ -23,7 +23,7 @@ use Rattle.broker_core.specs.Fits.{stop_of, reads_now, writes_now, fits_got, fit
 use Rattle.broker_core.specs.Stages.{Stage, Idle, Refused, Opening, Asking, Finishing, Stopping, Closing, stage, stage_of, by_last, by_stop, is_finished, standing, is_asking, no_answer, is_closed}
 use Rattle.broker_core.specs.Owed.{owed, by_stage}
 use Rattle.broker_core.specs.Rows.{News, Begun, Answered, Refusal, Over_there, Decided, Nothing_new, row, when, decided_early, news}
-use Rattle.broker_core.specs.Turns.{Desk, whole, note, hears, send, note_if, fuel, state, settle_up, say, reply, desk_turn, Input, Go, Hear, Take}
+use Rattle.broker_core.specs.Turns.{Desk, all_effects, note, hears, send, note_if, fuel, state, settle_up, say, reply, desk_turn, Input, Go, Hear, Take}
 use Rattle.broker_core.specs.Sound.{Started, OfAct, Sound}
 use Rattle.broker_core.proofs.SoundLemmas.{sound-kept}
 
@@ -103,10 +103,10 @@ module _ (s s' : List ℕ → Tree) (me run : ℕ) (plan : List Task) (agree : (
   owed-same b h k = ap (λ st. if nat_lt b.run run then Some (effect.Run run) else by_stage me plan h b st) (stage-same b h k)
 
   state-same : (d : Desk) → state s me run plan d ≡ state s' me run plan d
-  state-same d = book-same (whole d)
+  state-same d = book-same (all_effects d)
 
   sound-state : (d : Desk) → Sound run plan (state s me run plan d)
-  sound-state d = sound-kept s me run plan (whole d)
+  sound-state d = sound-kept s me run plan (all_effects d)
 
   next-same : (d : Desk) → owed s me run plan (state s me run plan d) d.heard ≡ owed s' me run plan (state s' me run plan d) d.heard
   next-same d = owed-same (state s me run plan d) d.heard (sound-state d) ∙ ap (λ b. owed s' me run plan b d.heard) (state-same d)

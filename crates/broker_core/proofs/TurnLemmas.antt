@@ -13,7 +13,7 @@ use Rattle.broker_core.specs.Tasks.{tasks, Scripted}
 use Rattle.broker_core.specs.Book.{Book, book, enter}
 use Rattle.broker_core.specs.Fits.{fits, counts, add_if, keep}
 use Rattle.broker_core.specs.Owed.{owed}
-use Rattle.broker_core.specs.Turns.{Desk, whole, note, note_if, state, settle_up}
+use Rattle.broker_core.specs.Turns.{Desk, all_effects, note, note_if, state, settle_up}
 use Rattle.broker_core.specs.Notes.{Shows, run_begun, noted, changed}
 use Rattle.broker_core.specs.Ledgers.{Settled, kept, answers_noted, settle_on, settled}
 use Rattle.broker_core.proofs.SoundLemmas.{sound-kept, here, closed-run}
@@ -26,7 +26,7 @@ module _ (script : List ℕ → Tree) (me run : ℕ) (acts : List ActSpec) where
   pub state-note : (d : Desk) (f : Effect) → counts script me run (tasks acts) (state script me run (tasks acts) d) f ≡ true →
       state script me run (tasks acts) (note f d) ≡ enter f (state script me run (tasks acts) d)
   unfolding keep book
-  state-note d f c = ap (λ (x : Bool). book (add_if x f (keep script me run (tasks acts) (whole d)))) c
+  state-note d f c = ap (λ (x : Bool). book (add_if x f (keep script me run (tasks acts) (all_effects d)))) c
 
   -- ---- an effect that is owed
 
@@ -116,7 +116,7 @@ module _ (script : List ℕ → Tree) (me run : ℕ) (acts : List ActSpec) where
     pub at : At s.1 raw e
 
   pub knows : Scripted script acts → (n : Notes) (raw : List Given) (d : Desk) → At n raw d → Knows script run acts n (kept n raw) (state script me run (tasks acts) d)
-  knows m n raw d a = record { scripted = m; sound = sound-kept script me run (tasks acts) (whole d); shows = a.shows }
+  knows m n raw d a = record { scripted = m; sound = sound-kept script me run (tasks acts) (all_effects d); shows = a.shows }
 
   after-owed : Scripted script acts → (n : Notes) (raw : List Given) (d : Desk) (f : Effect) → At n raw d → owed script me run (tasks acts) (state script me run (tasks acts) d) d.heard ≡ Some f → At (changed acts f n) raw (note f d)
   after-owed m n raw d f a o =

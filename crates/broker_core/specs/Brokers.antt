@@ -28,7 +28,7 @@ module _ (script : List ℕ → Tree) where
   book_for b log = book (keep script b.number b.run (tasks b.acts) log)
 
   -- the broker is where this log, newest first, has led it, and no later run stands in the log
-  pub record Stands (log : List Effect) (b : BrokerParts) : Type 0 where
+  pub record IsLedTo (log : List Effect) (b : BrokerParts) : Type 0 where
     pub shows : Shows b.run b.notes b.answers (book_for b log)
     pub not_old : (book_for b log).run ≤ b.run
 
@@ -41,7 +41,7 @@ module _ (script : List ℕ → Tree) where
     pub effects : turn.effects ≡ reverse desk.fresh
     pub outs : turn.outs ≡ desk.outs
     pub heard : new.heard ≡ desk.heard
-    pub stands : Stands (reverse turn.effects ++ log) new
+    pub stands : IsLedTo (reverse turn.effects ++ log) new
 
   -- whether the rules say that the broker is done
   abbrev pub is_done : BrokerParts → List Effect → Bool
@@ -49,7 +49,7 @@ module _ (script : List ℕ → Tree) where
 
   -- what opening a log comes to
   abbrev pub Opens : ℕ → ℕ → List ActSpec → List Effect → Result BrokerParts ResumeFault → Type 0
-  Opens number run acts log (Ok b) = (resume_fault script number run (tasks acts) log ≡ None) × Stands log b
+  Opens number run acts log (Ok b) = (resume_fault script number run (tasks acts) log ≡ None) × IsLedTo log b
   Opens number run acts log (Err fault.NoMemory) = Unit {0}
   Opens number run acts log (Err (fault.OldRun n)) = resume_fault script number run (tasks acts) log ≡ Some (fault.OldRun n)
   Opens number run acts log (Err (fault.OtherPlan i)) = resume_fault script number run (tasks acts) log ≡ Some (fault.OtherPlan i)

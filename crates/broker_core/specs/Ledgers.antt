@@ -7,13 +7,13 @@ use Rattle.script_form.specs.Printable.{IsPrintable}
 use Rattle.pseudo_time.specs.Lists.{Every}
 use Rattle.effect_form.specs.declared.effects.Effect.{Effect}
 use Rattle.effect_form.specs.declared.effects.Effect.TheVariants as effect
-use Rattle.script_run.specs.Told.{Told}
+use Rattle.script_run.specs.RunParts.{RunParts}
 use Rattle.serial_model.specs.Asked.{IsAnswerTo, AreAsked}
 use Rattle.broker_core.specs.declared.givens.Given.{Given}
 use Rattle.broker_core.specs.declared.givens.Given.TheVariants as given
 use Rattle.broker_core.specs.declared.heards.Heard.{Heard}
 use Rattle.broker_core.specs.declared.notes.Notes.{Notes}
-use Rattle.broker_core.specs.Notes.{act_at, answer_of, answered_in, answers_of, changed, stop_at, tree_of}
+use Rattle.broker_core.specs.Notes.{act_at, answer_of, answered_in, answers_given, changed, stop_at, tree_of}
 use Rattle.broker_core.specs.Phases.{phase_at, owed_at}
 
 -- an act that a plan can have: an Act effect can say its numbers, and its script is one of the language
@@ -51,9 +51,9 @@ lines_of None = []
 lines_of (Some a) = a.script.lines
 
 -- a run of the script at hand, with the answers so far
-abbrev pub StepperFits : List ActSpec → Notes → List Given → Option Told → Type 0
+abbrev pub StepperFits : List ActSpec → Notes → List Given → Option RunParts → Type 0
 StepperFits acts n answers None = Unit {0}
-StepperFits acts n answers (Some r) = (r.script ≡ lines_of (act_at acts n)) × (r.answers ≡ answers_of (kept n answers))
+StepperFits acts n answers (Some r) = (r.script ≡ lines_of (act_at acts n)) × (r.answers ≡ answers_given (kept n answers))
 
 -- what the notes count is in range, and each answer of the last try is to what its script asks
 pub record AreNotes (acts : List ActSpec) (n : Notes) (answers : List Given) : Type 0 where
@@ -62,9 +62,9 @@ pub record AreNotes (acts : List ActSpec) (n : Notes) (answers : List Given) : T
   pub clock : n.clock ≤ 1099511627775
   pub answered : answered_in n.last ≤ length answers
   pub few : answered_in n.last ≤ 10000
-  pub asked : n.tries ≢ 0 → AreAsked (tree_of (act_at acts n)) (answers_of (kept n answers))
+  pub asked : n.tries ≢ 0 → AreAsked (tree_of (act_at acts n)) (answers_given (kept n answers))
 
-pub record IsLedger (number : ℕ) (acts : List ActSpec) (n : Notes) (answers : List Given) (stepper : Option Told) : Type 0 where
+pub record IsLedger (number : ℕ) (acts : List ActSpec) (n : Notes) (answers : List Given) (stepper : Option RunParts) : Type 0 where
   pub number_low : 1 ≤ number
   pub number_high : number ≤ 16
   pub are_acts : AreActs acts

@@ -62,15 +62,15 @@ abbrev pub answer_of : Given → Answer
 answer_of (given.Got v) = meaning.Got v
 answer_of given.Stored = meaning.Stored
 
-abbrev pub answers_of : List Given → List Answer
-answers_of = map answer_of
+abbrev pub answers_given : List Given → List Answer
+answers_given = map answer_of
 
 -- The notes and the answers are those of the book. Of an earlier run the last Run and the clock alone are kept.
 pub record Shows (run : ℕ) (notes : Notes) (answers : List Given) (b : Book) : Type 0 where
   pub run_is : notes.run ≡ b.run
   pub clock_is : notes.clock ≡ b.clock
   pub notes_are : b.run ≡ run → notes ≡ notes_of b
-  pub answers_are : b.run ≡ run → answers_of answers ≡ answers_of_last (last_try b)
+  pub answers_are : b.run ≡ run → answers_given answers ≡ answers_of_last (last_try b)
 
 -- ---- the last act and the last try
 
@@ -145,7 +145,7 @@ clock_of (Some a) = a.clock
 
 -- where the script of the last act stops, after these answers
 abbrev pub stop_at : List ActSpec → Notes → List Given → Stop
-stop_at acts n answers = stop (tree_of (act_at acts n)) (answers_of answers)
+stop_at acts n answers = stop (tree_of (act_at acts n)) (answers_given answers)
 
 -- ---- which effects of this run fit
 

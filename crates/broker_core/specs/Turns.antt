@@ -25,8 +25,8 @@ pub record Desk : Type 0 where
 abbrev pub desk_at : List Effect → Heard → Desk
 desk_at log h = record { base = log; fresh = []; outs = []; heard = h }
 
-abbrev pub whole : Desk → List Effect
-whole d = d.fresh ++ d.base
+abbrev pub all_effects : Desk → List Effect
+all_effects d = d.fresh ++ d.base
 
 abbrev pub note : Effect → Desk → Desk
 note f d = record d { fresh = f ∷ d.fresh }
@@ -55,7 +55,7 @@ fuel acts = 3 * length acts + 3
 module _ (script : List ℕ → Tree) (me run : ℕ) (acts : List Task) where
   -- the state of a broker: the book of the part of its log that counts
   abbrev pub state : Desk → Book
-  state d = book (keep script me run acts (whole d))
+  state d = book (keep script me run acts (all_effects d))
 
   -- the effects that are owed follow, until none is owed
   unfoldable pub settle_up : ℕ → Desk → Desk

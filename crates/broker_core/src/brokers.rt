@@ -182,7 +182,7 @@ impl Broker {
     fn advance(&mut self, first: Option<Effect>, heard: Heard) -> Result<Turn, AllocError>
         requires may { inputs.MayBegin self.old.acts self.old.notes self.old.answers first }
         requires fits { ranges.FirstInRange first }
-        ensures gives { (script : List ℕ → Tree) (log : List Effect) → Scripted script self.old.acts → spec.Stands script log self.old → spec.FirstFits script self.old log first → IfOk result (λ t. spec.Gives script log (spec.follows script self.old log first heard) t self.new) }
+        ensures gives { (script : List ℕ → Tree) (log : List Effect) → Scripted script self.old.acts → spec.IsLedTo script log self.old → spec.FirstFits script self.old log first → IfOk result (λ t. spec.Gives script log (spec.follows script self.old log first heard) t self.new) }
         ensures in_range { IfOk result (λ t. AreEffects t.effects × AreOuts t.outs) }
         ensures number { self.new.number ≡ self.old.number }
         ensures run { self.new.run ≡ self.old.run }
@@ -211,7 +211,7 @@ impl Broker {
 
     /// The broker goes: what is owed is done, and the outstanding request is sent.
     pub fn go(&mut self) -> Result<Turn, AllocError>
-        ensures gives { (script : List ℕ → Tree) (log : List Effect) → Scripted script self.old.acts → spec.Stands script log self.old → IfOk result (λ t. spec.Gives script log (spec.turn_of script self.old log Go) t self.new) }
+        ensures gives { (script : List ℕ → Tree) (log : List Effect) → Scripted script self.old.acts → spec.IsLedTo script log self.old → IfOk result (λ t. spec.Gives script log (spec.turn_of script self.old log Go) t self.new) }
         ensures in_range { IfOk result (λ t. AreEffects t.effects × AreOuts t.outs) }
         ensures number { self.new.number ≡ self.old.number }
         ensures run { self.new.run ≡ self.old.run }
@@ -231,7 +231,7 @@ impl Broker {
     /// request has its stamp and step, so who sent the answer doesn't matter.
     pub fn take(&mut self, from: NodeId, message: &Message) -> Result<Turn, AllocError>
         requires message { IsMessage message.now }
-        ensures gives { (script : List ℕ → Tree) (log : List Effect) → Scripted script self.old.acts → spec.Stands script log self.old → IfOk result (λ t. spec.Gives script log (spec.turn_of script self.old log (Take from message.now)) t self.new) }
+        ensures gives { (script : List ℕ → Tree) (log : List Effect) → Scripted script self.old.acts → spec.IsLedTo script log self.old → IfOk result (λ t. spec.Gives script log (spec.turn_of script self.old log (Take from message.now)) t self.new) }
         ensures in_range { IfOk result (λ t. AreEffects t.effects × AreOuts t.outs) }
         ensures number { self.new.number ≡ self.old.number }
         ensures run { self.new.run ≡ self.old.run }
@@ -254,7 +254,7 @@ impl Broker {
 
     /// A moment is heard, whichever it is, and the outstanding request is sent again.
     pub fn hear(&mut self, moment: u64) -> Result<Turn, AllocError>
-        ensures gives { (script : List ℕ → Tree) (log : List Effect) → Scripted script self.old.acts → spec.Stands script log self.old → IfOk result (λ t. spec.Gives script log (spec.turn_of script self.old log (Hear moment)) t self.new) }
+        ensures gives { (script : List ℕ → Tree) (log : List Effect) → Scripted script self.old.acts → spec.IsLedTo script log self.old → IfOk result (λ t. spec.Gives script log (spec.turn_of script self.old log (Hear moment)) t self.new) }
         ensures in_range { IfOk result (λ t. AreEffects t.effects × AreOuts t.outs) }
         ensures same { self.new ≡ self.old }
     {
@@ -278,7 +278,7 @@ impl Broker {
 
     /// Whether each act has its outcome and no request is outstanding. Takes no memory.
     pub fn done(&self) -> bool
-        ensures { (script : List ℕ → Tree) (log : List Effect) → Scripted script self.now.acts → spec.Stands script log self.now → result ≡ spec.is_done script self.now log }
+        ensures { (script : List ℕ → Tree) (log : List Effect) → Scripted script self.now.acts → spec.IsLedTo script log self.now → result ≡ spec.is_done script self.now log }
     {
         self.is_over() && self.phase.is_quiet()
     }

@@ -4,7 +4,7 @@ ghost use Rattle.value_form.specs.Mirror.{block};
 ghost use Rattle.script_meaning.specs.Meaning as meaning;
 ghost use Rattle.serial_model.specs.Questions.{denote, stop};
 ghost use Rattle.serial_model.specs.Asked.{IsAnswerTo, AreAsked};
-ghost use Rattle.broker_core.specs.Notes.{answer_of, answers_of};
+ghost use Rattle.broker_core.specs.Notes.{answer_of, answers_given};
 
 use script_run::Run;
 use std::alloc::{AllocError, Global};
@@ -61,9 +61,9 @@ pub fn give(alloc: Global, run: &mut Run, given: &Given) -> Result<(), AllocErro
 // A run of the script that was given these answers.
 pub fn resumed(alloc: Global, script: &Script, answers: &[Given]) -> Result<Run, AllocError>
     requires script { IsScript script.now.lines }
-    requires asked { AreAsked (denote (block script.now.lines)) (answers_of answers.now) }
+    requires asked { AreAsked (denote (block script.now.lines)) (answers_given answers.now) }
     ensures script { IfOk result (λ run. run.script ≡ script.now.lines) }
-    ensures answers { IfOk result (λ run. run.answers ≡ answers_of answers.now) }
+    ensures answers { IfOk result (λ run. run.answers ≡ answers_given answers.now) }
 {
     let mut run = Run::start(alloc, script)?;
     for given in answers {

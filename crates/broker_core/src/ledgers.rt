@@ -1,7 +1,7 @@
 ghost use Rattle.std.specs.Prelude.{◌≡◌, ◌≢◌, ◌≤◌, ◌==◌, [], ◌∷◌, ◌++◌, ◌+◌, Some, None, length, take, slice_get, IfOk, IfSome, OnOk, OnErr, MatchOption};
 ghost use Rattle.std.specs.Option.{option_copied, option_map};
 ghost use Rattle.pseudo_time.specs.Lists.{Every};
-ghost use Rattle.script_run.specs.Told.{stop_of};
+ghost use Rattle.script_run.specs.RunParts.{stop_of};
 ghost use Rattle.broker_core.specs.Notes as notes;
 ghost use Rattle.broker_core.specs.Ledgers as spec;
 
@@ -164,7 +164,7 @@ impl Ledger {
     // The script of the last act, with the answers of its try. None where no act was begun.
     fn resumed(&self) -> Result<Option<Run>, AllocError>
         requires { self.now.notes.tries ≢ 0 }
-        ensures { IfOk result (λ o. MatchOption o (notes.act_at self.now.acts self.now.notes ≡ None) (λ r. (r.script ≡ spec.lines_of (notes.act_at self.now.acts self.now.notes)) × (r.answers ≡ notes.answers_of (spec.kept self.now.notes self.now.answers)))) }
+        ensures { IfOk result (λ o. MatchOption o (notes.act_at self.now.acts self.now.notes ≡ None) (λ r. (r.script ≡ spec.lines_of (notes.act_at self.now.acts self.now.notes)) × (r.answers ≡ notes.answers_given (spec.kept self.now.notes self.now.answers)))) }
     {
         let Some(act) = self.last_act() else {
             return Ok(None);

@@ -1,7 +1,7 @@
 ghost use Rattle.std.specs.Prelude.{ℕ, List, ◌≡◌, ◌≢◌, ◌≤◌, true, ◌∷◌, ◌&&◌, [], Some, None, reverse, length, slice_get, IfOk, OnOk, OnErr};
 ghost use Rattle.std.specs.Option.{option_map, option_copied};
 ghost use Rattle.pseudo_time.specs.StampParts.{StampParts};
-ghost use Rattle.script_run.specs.Told.{stop_of};
+ghost use Rattle.script_run.specs.RunParts.{stop_of};
 ghost use Rattle.effect_form.specs.declared.effects.Effect.TheVariants as effect;
 ghost use Rattle.serial_model.specs.Questions.{Tree};
 ghost use Rattle.broker_core.specs.Counted.{counting};

@@ -1,6 +1,6 @@
 ghost use Rattle.std.specs.Prelude.{◌≡◌, ◌≢◌, ◌≤◌, IfOk};
 ghost use Rattle.std.specs.Option.{option_map};
-ghost use Rattle.script_run.specs.Told.{stop_of};
+ghost use Rattle.script_run.specs.RunParts.{stop_of};
 ghost use Rattle.broker_core.specs.Tests as tests;
 ghost use Rattle.broker_core.specs.Stages as stages;
 ghost use Rattle.broker_core.specs.Notes as notes;

@@ -4,7 +4,7 @@ ghost use Rattle.broker_core.specs.Rows.{when};
 ghost use Rattle.broker_core.specs.Notes as notes;
 ghost use Rattle.broker_core.specs.Phases as spec;
 ghost use Rattle.broker_core.specs.Ledgers.{kept};
-ghost use Rattle.script_run.specs.Told.{stop_of};
+ghost use Rattle.script_run.specs.RunParts.{stop_of};
 
 use crate::heards::Heard;
 use crate::ledgers::Ledger;

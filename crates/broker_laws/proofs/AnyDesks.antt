@@ -24,7 +24,7 @@ use Rattle.broker_core.specs.Owed.{by_stage, owed}
 use Rattle.broker_core.specs.Rows.{News, news, row}
 use Rattle.broker_core.specs.Stages.{Idle, stage, stage_of, standing}
 use Rattle.broker_core.specs.Book.{open_try, last_try}
-use Rattle.broker_core.specs.Turns.{Desk, Go, Hear, Input, Take, desk_turn, fuel, hears, note, note_if, reply, say, send, settle_up, state, whole}
+use Rattle.broker_core.specs.Turns.{Desk, Go, Hear, Input, Take, desk_turn, fuel, hears, note, note_if, reply, say, send, settle_up, state, all_effects}
 use Rattle.broker_core.specs.declared.heards.Heard.{Heard}
 use Rattle.broker_core.specs.declared.replies.Reply.{Reply}
 use Rattle.broker_core.specs.declared.replies.Reply.TheVariants.{Adds, Hears, Ignored}
@@ -266,11 +266,11 @@ module _ (script : List ℕ → Tree) (me run : ℕ) (acts : List Task) where
 
     note-on : (d : Desk) (f : Effect) → Good script me run acts ever (state script me run acts d) f → InRun script me run acts (state script me run acts d) f → On d → On (note f d)
     note-on d f g own k =
-        let j : Joins script me run acts (whole d) f = record { counts = note-state script me run acts ever d f g; fits = g.fits; not_later = g.run_stays } in
+        let j : Joins script me run acts (all_effects d) f = record { counts = note-state script me run acts ever d f g; fits = g.fits; not_later = g.run_stays } in
         record {
           joins = (k.joins, j);
           rests = (k.rests, (g.fits, g.came, own));
-          outs = every-map (λ o. Says script me run acts (whole d) o.to o.message) (λ o. Says script me run acts (f ∷ whole d) o.to o.message) (λ o s. says-on (whole d) f o.to o.message j s) d.outs k.outs;
+          outs = every-map (λ o. Says script me run acts (all_effects d) o.to o.message) (λ o. Says script me run acts (f ∷ all_effects d) o.to o.message) (λ o s. says-on (all_effects d) f o.to o.message j s) d.outs k.outs;
         }
 
     note-if-on : (next : Desk → Desk) → ((d : Desk) → On d → On (next d)) → (d : Desk) (o : Option Effect) → OwedOk script me run acts ever (state script me run acts d) o →
@@ -283,13 +283,13 @@ module _ (script : List ℕ → Tree) (me run : ℕ) (acts : List Task) where
     settle-on zero d k = k
     settle-on (suc n) d k = note-if-on (settle_up script me run acts n) (λ x y. settle-on n x y) d _ (owed-ok script me run acts ever (state script me run acts d) d.heard) (λ f e. owed-in-run (state script me run acts d) d.heard f e) k
 
-    send-on : (d : Desk) (o : Option Out) → ((x : Out) → o ≡ Some x → Says script me run acts (whole d) x.to x.message) → On d → On (send o d)
+    send-on : (d : Desk) (o : Option Out) → ((x : Out) → o ≡ Some x → Says script me run acts (all_effects d) x.to x.message) → On d → On (send o d)
     send-on d None h k = k
-    send-on d (Some x) h k = record { joins = k.joins; rests = k.rests; outs = every-append (λ o. Says script me run acts (whole d) o.to o.message) d.outs (x ∷ []) k.outs (h x refl, tt) }
+    send-on d (Some x) h k = record { joins = k.joins; rests = k.rests; outs = every-append (λ o. Says script me run acts (all_effects d) o.to o.message) d.outs (x ∷ []) k.outs (h x refl, tt) }
 
     say-on : (d : Desk) → On d → On (say script me run acts d)
     say-on d k = send-on d (standing (stage script run (state script me run acts d) d.heard))
-        (λ x e. let p = standing-says (state script me run acts d) d.heard x (own-clocks (whole d)) e in record { run_is = p.0; holds = p.1 }) k
+        (λ x e. let p = standing-says (state script me run acts d) d.heard x (own-clocks (all_effects d)) e in record { run_is = p.0; holds = p.1 }) k
 
     hears-on : (d : Desk) (h : Heard) → On d → On (hears h d)
     hears-on d h k = record { joins = k.joins; rests = k.rests; outs = k.outs }

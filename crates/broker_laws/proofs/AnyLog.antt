@@ -12,7 +12,7 @@ use Rattle.broker_core.specs.Fits.{other_plan, unfit_act, first_some}
 use Rattle.broker_core.specs.Rows.{news, row}
 use Rattle.broker_core.specs.Stages.{stage, standing}
 use Rattle.pseudo_time.specs.Nodes.{broker}
-use Rattle.broker_core.specs.Turns.{Desk, Go, Hear, Input, Take, desk_turn, fuel, hears, note, note_if, reply, say, send, settle_up, state, whole}
+use Rattle.broker_core.specs.Turns.{Desk, Go, Hear, Input, Take, desk_turn, fuel, hears, note, note_if, reply, say, send, settle_up, state, all_effects}
 use Rattle.broker_core.specs.declared.heards.Heard.{Heard}
 use Rattle.broker_core.specs.declared.replies.Reply.{Reply}
 use Rattle.broker_core.specs.declared.replies.Reply.TheVariants.{Adds, Hears, Ignored}
@@ -21,7 +21,7 @@ use Rattle.broker_laws.specs.Works.{AlwaysReady}
 use Rattle.broker_laws.proofs.Desks.{Good, OwedOk, ReplyOk, news-came, note-state, owed-ok, row-ok, stage-ok}
 
 module _ (script : List ℕ → Tree) (me run : ℕ) (acts : List Task) where
-  note-ready : (ever : List Post) (d : Desk) (f : Effect) → Good script me run acts ever (state script me run acts d) f → IsReady script me run acts (whole d) → IsReady script me run acts (whole (note f d))
+  note-ready : (ever : List Post) (d : Desk) (f : Effect) → Good script me run acts ever (state script me run acts d) f → IsReady script me run acts (all_effects d) → IsReady script me run acts (all_effects (note f d))
   unfolding other_plan book
   note-ready ever d f g r = record {
     not_old = subst (λ l. nat_lt run (book l).run ≡ false) (sym (note-state script me run acts ever d f g)) (g.run_stays r.not_old);

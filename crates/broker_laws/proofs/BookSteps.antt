@@ -23,7 +23,7 @@ use Rattle.broker_core.specs.Fits.{act_effect, another, is_none, keep, next_cloc
 use Rattle.broker_core.specs.Stages.{Stage, Idle, Refused, Opening, Asking, Finishing, Stopping, Closing, by_stop, by_last, is_asking, is_closed, is_settled, no_answer, of_open, stage, stage_of}
 use Rattle.broker_core.specs.Owed.{after_act, after_tries, by_clock, by_stage, due, owed, start, try_or_spent}
 use Rattle.broker_core.specs.Tests.{is_stamp, is_time}
-use Rattle.broker_core.specs.Turns.{Desk, note, note_if, settle_up, state, whole}
+use Rattle.broker_core.specs.Turns.{Desk, note, note_if, settle_up, state, all_effects}
 use Rattle.broker_laws.proofs.Desks.{Good, OwedOk, owed-ok, note-state}
 use Rattle.turn_form.specs.Posts.{Post}
 use Rattle.broker_laws.specs.Waits.{older, newest}

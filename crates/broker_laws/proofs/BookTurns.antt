@@ -33,7 +33,7 @@ use Rattle.broker_core.specs.Stages.{Stage, Idle, Refused, Opening, Asking, Fini
 use Rattle.broker_core.specs.Owed.{after_act, after_tries, by_clock, by_stage, due, owed, start, try_or_spent}
 use Rattle.broker_core.specs.Rows.{Answered, Begun, Decided, News, Nothing_new, Over_there, Refusal, decided_commit, decided_early, ends, news, row, when}
 use Rattle.broker_core.specs.Tests.{is_stamp, is_time}
-use Rattle.broker_core.specs.Turns.{Desk, Go, Hear, Input, Take, desk_turn, fuel, hears, note, note_if, reply, say, send, settle_up, state, whole}
+use Rattle.broker_core.specs.Turns.{Desk, Go, Hear, Input, Take, desk_turn, fuel, hears, note, note_if, reply, say, send, settle_up, state, all_effects}
 use Rattle.broker_laws.proofs.Desks.{Good, OwedOk, ReplyOk, StageOk, news-came, note-state, owed-ok, row-ok, stage-ok}
 use Rattle.broker_laws.specs.Posts.{HasCome}
 use Rattle.broker_laws.specs.Waits.{older, newest}

@@ -24,7 +24,7 @@ use Rattle.broker_core.specs.Rows.{Answered, Begun, Decided, News, Nothing_new, 
 use Rattle.broker_core.specs.Stages.{Asking, Closing, Finishing, Idle, Opening, Refused, Stage, Stopping, by_stop, is_asking, is_closed, is_finished, no_answer, request, stage, stage_of, standing}
 use Rattle.pseudo_time.specs.Nodes.{repository}
 use Rattle.broker_core.specs.Tests.{is_stamp, is_time}
-use Rattle.broker_core.specs.Turns.{Desk, Go, Hear, Input, Take, desk_turn, fuel, hears, note, note_if, reply, say, send, settle_up, state, whole}
+use Rattle.broker_core.specs.Turns.{Desk, Go, Hear, Input, Take, desk_turn, fuel, hears, note, note_if, reply, say, send, settle_up, state, all_effects}
 use Rattle.broker_core.specs.declared.heards.Heard.{Heard}
 use Rattle.broker_core.specs.declared.replies.Reply.{Reply}
 use Rattle.broker_core.specs.declared.replies.Reply.TheVariants.{Adds, Hears, Ignored}
@@ -370,21 +370,21 @@ module _ (script : List ℕ → Tree) (me run : ℕ) (acts : List Task) where
 
     -- an added effect counts, over any log
     pub note-state : (d : Desk) (f : Effect) → Good (state script me run acts d) f →
-        keep script me run acts (whole (note f d)) ≡ f ∷ keep script me run acts (whole d)
+        keep script me run acts (all_effects (note f d)) ≡ f ∷ keep script me run acts (all_effects d)
     unfolding keep
     note-state d f g =
-        subst (λ c. add_if c f (keep script me run acts (whole d)) ≡ f ∷ keep script me run acts (whole d))
+        subst (λ c. add_if c f (keep script me run acts (all_effects d)) ≡ f ∷ keep script me run acts (all_effects d))
         (sym (fit-counts script me run acts (state script me run acts d) f g.fits g.planned)) refl
 
     -- the turn
     abbrev Turn : Desk → Type 0
     Turn d = TurnHolds script me run acts ever d
 
-    tidy-whole : (d : Desk) → Turn d → IsTidy script me (whole d)
+    tidy-whole : (d : Desk) → Turn d → IsTidy script me (all_effects d)
     tidy-whole d k = grown script me d.base d.fresh k.desk.tidy k.desk.grew
 
-    whole-kept : (d : Desk) → Turn d → keep script me run acts (whole d) ≡ whole d
-    whole-kept d k = kept script me run acts (whole d) (tidy-whole d k) k.ready.same_plan
+    whole-kept : (d : Desk) → Turn d → keep script me run acts (all_effects d) ≡ all_effects d
+    whole-kept d k = kept script me run acts (all_effects d) (tidy-whole d k) k.ready.same_plan
 
     each-kept : (log : List Effect) (f : Effect) (os : List Out) → IsTidy script me log → FitsBook script me (book log) f →
         Every (λ o. PostHolds script me (tries (book log)) o.to o.message) os → Every (λ o. PostHolds script me (tries (book (f ∷ log))) o.to o.message) os
@@ -395,13 +395,13 @@ module _ (script : List ℕ → Tree) (me run : ℕ) (acts : List Task) where
     unfolding other_plan book
     note-ok d f k g =
         let e = whole-kept d k in
-        let g' : Good (book (whole d)) f = subst (λ l. Good (book l) f) e g in
+        let g' : Good (book (all_effects d)) f = subst (λ l. Good (book l) f) e g in
         record {
           desk = record {
             tidy = k.desk.tidy;
             grew = (k.desk.grew, g'.fits);
             causes = (k.desk.causes, g'.came);
-            outs = each-kept (whole d) f d.outs (tidy-whole d k) g'.fits k.desk.outs;
+            outs = each-kept (all_effects d) f d.outs (tidy-whole d k) g'.fits k.desk.outs;
           };
           ready = record {
             not_old = subst (λ l. nat_lt run (book l).run ≡ false) (sym (note-state d f g)) (g.run_stays k.ready.not_old);
@@ -423,7 +423,7 @@ module _ (script : List ℕ → Tree) (me run : ℕ) (acts : List Task) where
     each-more P [] o all h = (h, tt)
     each-more P (x ∷ os) o all h = (all.0, each-more P os o all.1 h)
 
-    send-ok : (d : Desk) (o : Option Out) → Turn d → PostOk (tries (book (whole d))) o → Turn (send o d)
+    send-ok : (d : Desk) (o : Option Out) → Turn d → PostOk (tries (book (all_effects d))) o → Turn (send o d)
     send-ok d None k h = k
     send-ok d (Some o) k h = record {
       desk = record { tidy = k.desk.tidy; grew = k.desk.grew; causes = k.desk.causes; outs = each-more _ d.outs o k.desk.outs h };
@@ -434,7 +434,7 @@ module _ (script : List ℕ → Tree) (me run : ℕ) (acts : List Task) where
     say-ok d k =
         let e = whole-kept d k in
         let b : Book = state script me run acts d in
-        let c : Clocks me (book (whole d)) = clocks script me (whole d) (tidy-whole d k) in
+        let c : Clocks me (book (all_effects d)) = clocks script me (all_effects d) (tidy-whole d k) in
         let c' : Clocks me b = subst (λ l. Clocks me (book l)) (sym e) c in
         let p : PostOk (tries b) (standing (stage script run b d.heard)) = standing-ok b c' (stage script run b d.heard) (stage-ok b d.heard) in
         send-ok d (standing (stage script run b d.heard)) k

@@ -16,7 +16,7 @@ use Rattle.broker_core.specs.Fits.{another, has_outcome, is_none, next_clock, ou
 use Rattle.broker_core.specs.Owed.{after_act, after_tries, all_over, by_stage, done, due, owed, start, try_or_spent}
 use Rattle.broker_core.specs.Stages.{Asking, Closing, Finishing, Idle, Opening, Refused, Stage, Stopping, by_stop, is_asking, is_closed, no_answer, of_open, stage, stage_of, standing}
 use Rattle.broker_core.specs.Tests.{is_stamp, is_time}
-use Rattle.broker_core.specs.Turns.{Desk, state, whole}
+use Rattle.broker_core.specs.Turns.{Desk, state, all_effects}
 use Rattle.broker_core.specs.declared.heards.Heard.{Heard}
 use Rattle.broker_laws.proofs.Kept.{kept, started}
 use Rattle.broker_laws.proofs.Moves.{grown}
@@ -202,14 +202,14 @@ module _ (script : List ℕ → Tree) (me : ℕ) where
         standing (stage script run (state script me run acts d) d.heard) ≡ None → done script run acts (state script me run acts d) d.heard ≡ true
     unfolding AllDone
     rested-done ever d k r s =
-        let tidy : IsTidy script me (whole d) = grown script me d.base d.fresh k.desk.tidy k.desk.grew in
-        let e : Rattle.broker_core.specs.Fits.keep script me run acts (whole d) ≡ whole d = kept script me run acts (whole d) tidy k.ready.same_plan in
+        let tidy : IsTidy script me (all_effects d) = grown script me d.base d.fresh k.desk.tidy k.desk.grew in
+        let e : Rattle.broker_core.specs.Fits.keep script me run acts (all_effects d) ≡ all_effects d = kept script me run acts (all_effects d) tidy k.ready.same_plan in
         let b : Book = state script me run acts d in
         let w = ran b d.heard r in
         let m : b.run ≡ run = same-run b.run run w.0 k.ready.not_old in
-        let bo : before_over b.acts ≡ true = subst (λ l. before_over (book l).acts ≡ true) (sym e) (before-tidy (whole d) tidy) in
-        let m' : (book (whole d)).run ≡ run = subst (λ l. (book l).run ≡ run) e m in
-        let st : Started acts b.acts = subst (λ l. Started acts (book l).acts) (sym e) (started script me run acts (whole d) tidy k.ready.same_plan m') in
+        let bo : before_over b.acts ≡ true = subst (λ l. before_over (book l).acts ≡ true) (sym e) (before-tidy (all_effects d) tidy) in
+        let m' : (book (all_effects d)).run ≡ run = subst (λ l. (book l).run ≡ run) e m in
+        let st : Started acts b.acts = subst (λ l. Started acts (book l).acts) (sym e) (started script me run acts (all_effects d) tidy k.ready.same_plan m') in
         let q : (b.run == run) ≡ true = eq-eqb b.run run m in
         let s' : standing (stage_of script d.heard (open_of b.acts) (front (tries_of b.acts))) ≡ None =
         subst (λ c. standing (if c then stage_of script d.heard (open_of b.acts) (front (tries_of b.acts)) else Idle) ≡ None) q s in

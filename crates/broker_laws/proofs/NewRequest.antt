@@ -21,7 +21,7 @@ use Rattle.broker_core.specs.Rows.{Answered, Begun, Decided, News, Over_there, R
 use Rattle.broker_core.specs.Stages.{Asking, Closing, Finishing, Idle, Opening, Refused, Stage, Stopping, by_stop, is_asking, is_closed, is_finished, is_settled, no_answer, stage, stage_of, standing}
 use Rattle.pseudo_time.specs.Nodes.{broker}
 use Rattle.broker_core.specs.Tests.{is_stamp, is_time}
-use Rattle.broker_core.specs.Turns.{Desk, Take, desk_turn, fuel, hears, note, note_if, reply, say, send, settle_up, state, whole}
+use Rattle.broker_core.specs.Turns.{Desk, Take, desk_turn, fuel, hears, note, note_if, reply, say, send, settle_up, state, all_effects}
 use Rattle.broker_core.specs.declared.heards.Heard.{Heard}
 use Rattle.broker_core.specs.declared.replies.Reply.{Reply}
 use Rattle.broker_core.specs.declared.replies.Reply.TheVariants.{Adds, Hears, Ignored}
@@ -535,9 +535,9 @@ module _ (script : List ℕ → Tree) (me : ℕ) where
     unfolding alone
     new-request ever d from m k n o e w =
         let b : Book = state script me run acts d in
-        let tidy : IsTidy script me (whole d) = grown script me d.base d.fresh k.desk.tidy k.desk.grew in
-        let eq : keep script me run acts (whole d) ≡ whole d = kept script me run acts (whole d) tidy k.ready.same_plan in
-        let c : Clocks me b = subst (λ l. Clocks me (book l)) (sym eq) (clocks script me (whole d) tidy) in
+        let tidy : IsTidy script me (all_effects d) = grown script me d.base d.fresh k.desk.tidy k.desk.grew in
+        let eq : keep script me run acts (all_effects d) ≡ all_effects d = kept script me run acts (all_effects d) tidy k.ready.same_plan in
+        let c : Clocks me b = subst (λ l. Clocks me (book l)) (sym eq) (clocks script me (all_effects d) tidy) in
         let st : Stage = stage script run b d.heard in
         let x : Desk = desk_turn script me run acts d (Take from m) in
         let g : ReplyOk script me run acts (alone from m) b (row script st d.heard (news m)) =

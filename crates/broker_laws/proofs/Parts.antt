@@ -8,7 +8,7 @@ use Rattle.broker_core.specs.Fits.{keep}
 use Rattle.broker_core.specs.Owed.{owed}
 use Rattle.broker_core.specs.Rows.{news, row}
 use Rattle.broker_core.specs.Stages.{stage, standing}
-use Rattle.broker_core.specs.Turns.{Desk, Go, Hear, Input, Take, desk_turn, fuel, hears, note, note_if, reply, say, send, settle_up, state, whole}
+use Rattle.broker_core.specs.Turns.{Desk, Go, Hear, Input, Take, desk_turn, fuel, hears, note, note_if, reply, say, send, settle_up, state, all_effects}
 use Rattle.broker_core.specs.declared.heards.Heard.{Heard}
 use Rattle.broker_core.specs.declared.replies.Reply.{Reply}
 use Rattle.broker_core.specs.declared.replies.Reply.TheVariants.{Adds, Hears, Ignored}
@@ -17,7 +17,7 @@ use Rattle.serial_model.specs.Questions.{Tree}
 
 module _ (script : List ℕ → Tree) (me run : ℕ) (acts : List Task) where
   -- x began at the whole log of d
-  same-state : (d x : Desk) → x.base ≡ whole d → state script me run acts (joined d x) ≡ state script me run acts x
+  same-state : (d x : Desk) → x.base ≡ all_effects d → state script me run acts (joined d x) ≡ state script me run acts x
   same-state d x b =
       ap (λ l. book (keep script me run acts l)) (append_assoc x.fresh d.fresh d.base ∙ ap (λ l. x.fresh ++ l) (sym b))
 
@@ -35,7 +35,7 @@ module _ (script : List ℕ → Tree) (me run : ℕ) (acts : List Task) where
   joined-if next d x None k = refl
   joined-if next d x (Some f) k = k f
 
-  settle-joined : (n : ℕ) (d x : Desk) → x.base ≡ whole d → settle_up script me run acts n (joined d x) ≡ joined d (settle_up script me run acts n x)
+  settle-joined : (n : ℕ) (d x : Desk) → x.base ≡ all_effects d → settle_up script me run acts n (joined d x) ≡ joined d (settle_up script me run acts n x)
   unfolding settle_up
   settle-joined zero d x b = refl
   settle-joined (suc n) d x b =
@@ -49,19 +49,19 @@ module _ (script : List ℕ → Tree) (me run : ℕ) (acts : List Task) where
   send-joined d x (Some o) =
       ap (λ os. record { base = d.base; fresh = x.fresh ++ d.fresh; outs = os; heard = x.heard }) (append_assoc d.outs x.outs (o ∷ []))
 
-  say-joined : (d x : Desk) → x.base ≡ whole d → say script me run acts (joined d x) ≡ joined d (say script me run acts x)
+  say-joined : (d x : Desk) → x.base ≡ all_effects d → say script me run acts (joined d x) ≡ joined d (say script me run acts x)
   say-joined d x b =
       subst (λ s. send (standing (stage script run s x.heard)) (joined d x) ≡ joined d (say script me run acts x))
       (sym (same-state d x b)) (send-joined d x _)
 
-  both-joined : (d x : Desk) → x.base ≡ whole d →
+  both-joined : (d x : Desk) → x.base ≡ all_effects d →
       say script me run acts (settle_up script me run acts (fuel acts) (joined d x)) ≡ joined d (say script me run acts (settle_up script me run acts (fuel acts) x))
   both-joined d x b =
       subst (λ y. say script me run acts y ≡ joined d (say script me run acts (settle_up script me run acts (fuel acts) x)))
       (sym (settle-joined (fuel acts) d x b))
       (say-joined d (settle_up script me run acts (fuel acts) x) (settle-base (fuel acts) x ∙ b))
 
-  same-outs : (d : Desk) (h : Heard) → record { base = d.base; fresh = d.fresh; outs = d.outs; heard = h } ≡ joined d (record { base = whole d; fresh = []; outs = []; heard = h })
+  same-outs : (d : Desk) (h : Heard) → record { base = d.base; fresh = d.fresh; outs = d.outs; heard = h } ≡ joined d (record { base = all_effects d; fresh = []; outs = []; heard = h })
   same-outs d h = ap (λ os. record { base = d.base; fresh = d.fresh; outs = os; heard = h }) (sym (append-nil d.outs))
 
   added-outs : (d : Desk) (f : Effect) → note f d ≡ joined d (note f (afresh d))

@@ -16,7 +16,7 @@ use Rattle.broker_core.specs.Fits.{keep, other_plan, unfit_act}
 use Rattle.broker_core.specs.Rows.{news}
 use Rattle.broker_core.specs.Stages.{nothing_heard, stage}
 use Rattle.pseudo_time.specs.Nodes.{broker}
-use Rattle.broker_core.specs.Turns.{Desk, Go, Hear, Input, Take, desk_turn, fuel, hears, note, note_if, reply, say, send, settle_up, state, whole}
+use Rattle.broker_core.specs.Turns.{Desk, Go, Hear, Input, Take, desk_turn, fuel, hears, note, note_if, reply, say, send, settle_up, state, all_effects}
 use Rattle.broker_core.specs.declared.heards.Heard.{Heard}
 use Rattle.broker_core.specs.declared.replies.Reply.{Reply}
 use Rattle.broker_core.specs.declared.replies.Reply.TheVariants.{Adds, Hears, Ignored}
@@ -122,13 +122,13 @@ module _ (script : List ℕ → Tree) (me : ℕ) where
     added-refl : (d : Desk) → Added script me run acts d d
     added-refl d = record { base = refl; more = []; fresh = refl; count = refl }
 
-    added-one : (d x : Desk) (f : Effect) → keep script me run acts (whole (note f d)) ≡ f ∷ keep script me run acts (whole d) →
+    added-one : (d x : Desk) (f : Effect) → keep script me run acts (all_effects (note f d)) ≡ f ∷ keep script me run acts (all_effects d) →
         Added script me run acts (note f d) x → Added script me run acts d x
     added-one d x f e h = record {
       base = h.base;
       more = h.more ++ (f ∷ []);
       fresh = h.fresh ∙ sym (append_assoc h.more (f ∷ []) d.fresh);
-      count = h.count ∙ ap (λ l. h.more ++ l) e ∙ sym (append_assoc h.more (f ∷ []) (keep script me run acts (whole d)));
+      count = h.count ∙ ap (λ l. h.more ++ l) e ∙ sym (append_assoc h.more (f ∷ []) (keep script me run acts (all_effects d)));
     }
 
     added-if : (next : Desk → Desk) → ((d : Desk) → Added script me run acts d (next d)) → (d : Desk) (o : Option Effect) →

@@ -12,7 +12,7 @@ use Rattle.broker_core.specs.Tasks.{Task}
 use Rattle.broker_core.specs.Book.{Book, enter}
 use Rattle.broker_core.specs.Counted.{counted, own_tries}
 use Rattle.broker_core.specs.Fits.{keep}
-use Rattle.broker_core.specs.Turns.{Desk, whole}
+use Rattle.broker_core.specs.Turns.{Desk, all_effects}
 use Rattle.broker_laws.specs.Fits.{FitsBook}
 use Rattle.broker_laws.specs.Posts.{RestsOn, PostHolds}
 
@@ -41,4 +41,4 @@ module _ (script : List ℕ → Tree) (me run : ℕ) (acts : List Task) where
   pub record GoesOn (ever : List Post) (d : Desk) : Type 0 where
     pub joins : Grew Joins d.base d.fresh
     pub rests : Grew (Rests ever) d.base d.fresh
-    pub outs : Every (λ o. Says (whole d) o.to o.message) d.outs
+    pub outs : Every (λ o. Says (all_effects d) o.to o.message) d.outs

@@ -13,7 +13,7 @@ use Rattle.broker_core.specs.Fits.{keep}
 use Rattle.broker_core.specs.Owed.{owed}
 use Rattle.broker_core.specs.Stages.{nothing_heard}
 use Rattle.pseudo_time.specs.Nodes.{broker}
-use Rattle.broker_core.specs.Turns.{Desk, whole, state, Input, Go, Hear, Take}
+use Rattle.broker_core.specs.Turns.{Desk, all_effects, state, Input, Go, Hear, Take}
 use Rattle.broker_laws.specs.Fits.{FitsLog, IsTidy, IsReady}
 use Rattle.broker_laws.specs.Posts.{PostHolds, HaveCauses}
 
@@ -21,12 +21,12 @@ use Rattle.broker_laws.specs.Posts.{PostHolds, HaveCauses}
 pub record DeskHolds (script : List ℕ → Tree) (me : ℕ) (ever : List Post) (d : Desk) : Type 0 where
   pub tidy : IsTidy script me d.base
   pub grew : Grew (FitsLog script me) d.base d.fresh
-  pub causes : HaveCauses me ever (whole d)
-  pub outs : Every (λ o. PostHolds script me (tries (book (whole d))) o.to o.message) d.outs
+  pub causes : HaveCauses me ever (all_effects d)
+  pub outs : Every (λ o. PostHolds script me (tries (book (all_effects d))) o.to o.message) d.outs
 
 -- the new effects are durable, and the open messages leave
 abbrev pub gate : Desk → Desk
-gate d = record { base = whole d; fresh = []; outs = []; heard = d.heard }
+gate d = record { base = all_effects d; fresh = []; outs = []; heard = d.heard }
 
 -- the first `kept` new effects were found
 abbrev pub crash : ℕ → Desk → Desk
@@ -37,12 +37,12 @@ pub record Added (script : List ℕ → Tree) (me run : ℕ) (acts : List Task) 
   pub base : new.base ≡ old.base
   pub more : List Effect
   pub fresh : new.fresh ≡ more ++ old.fresh
-  pub count : keep script me run acts (whole new) ≡ more ++ keep script me run acts (whole old)
+  pub count : keep script me run acts (all_effects new) ≡ more ++ keep script me run acts (all_effects old)
 
 -- what a turn needs and keeps
 pub record TurnHolds (script : List ℕ → Tree) (me run : ℕ) (acts : List Task) (ever : List Post) (d : Desk) : Type 0 where
   pub desk : DeskHolds script me ever d
-  pub ready : IsReady script me run acts (whole d)
+  pub ready : IsReady script me run acts (all_effects d)
 
 -- the message asks nobody for a decision
 abbrev pub AsksNobody : Message → Type 0
@@ -61,7 +61,7 @@ MayInput me ever (Take from m) = WasSent ever from (broker me) m
 
 -- a turn begins with nothing new, over the whole log
 abbrev pub afresh : Desk → Desk
-afresh d = record { base = whole d; fresh = []; outs = []; heard = d.heard }
+afresh d = record { base = all_effects d; fresh = []; outs = []; heard = d.heard }
 
 -- what a turn gave is added
 abbrev pub joined : Desk → Desk → Desk

@@ -12,7 +12,7 @@ use Rattle.broker_core.specs.Fits.{keep}
 use Rattle.broker_core.specs.Owed.{done}
 use Rattle.broker_core.specs.Tasks.{tasks}
 use Rattle.world_core.specs.Nodes.{acts_of}
-use Rattle.world_core.specs.Walks.{Base, Life, whole}
+use Rattle.world_core.specs.Walks.{Base, Life, all_effects}
 use Rattle.broker_node.specs.declared.logs.Log.{Log}
 use Rattle.broker_node.specs.declared.logs.Log.TheVariants.{Open, Shut}
 
@@ -43,4 +43,4 @@ as_damage (resuming.OtherPlan index) = opening.Damaged 0
 
 -- whether a broker of this life has an outcome for each of its acts, and no request is outstanding
 abbrev pub is_over : Base → ℕ → Life → Bool
-is_over b i l = done b.script b.run (tasks (acts_of i b.acts)) (book (keep b.script i b.run (tasks (acts_of i b.acts)) (reverse (whole l)))) l.mind.heard
+is_over b i l = done b.script b.run (tasks (acts_of i b.acts)) (book (keep b.script i b.run (tasks (acts_of i b.acts)) (reverse (all_effects l)))) l.mind.heard

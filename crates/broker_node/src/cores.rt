@@ -2,7 +2,7 @@
 ghost use Rattle.std.specs.Prelude.{◌≡◌, ◌≤◌, false};
 ghost use Rattle.pseudo_time.specs.Nodes.{broker};
 ghost use Rattle.world_core.specs.Cores.{IsBroker};
-ghost use Rattle.world_core.specs.Walks.{Base, Life, whole};
+ghost use Rattle.world_core.specs.Walks.{Base, Life, all_effects};
 ghost use Rattle.broker_node.specs.Logs.{as_damage, has_failed, is_over, medium_in};
 
 use crate::acts::OwnActs;
@@ -37,7 +37,7 @@ impl<M: Medium> StoredCore<M> for BrokerCore<M> {
     ghost use Rattle.pseudo_time.specs.Nodes.{broker};
     ghost use Rattle.broker_core.specs.Tasks.{Scripted};
     ghost use Rattle.world_core.specs.Nodes.{acts_of};
-    ghost use Rattle.world_core.specs.Walks.{whole};
+    ghost use Rattle.world_core.specs.Walks.{all_effects};
     ghost use Rattle.world_core.specs.Cores.{IsBroker};
     ghost use Rattle.broker_node.specs.Logs.{is_open, medium_in, HasEffects};
 
@@ -45,7 +45,7 @@ impl<M: Medium> StoredCore<M> for BrokerCore<M> {
 
     ghost fits = { λ b c. (b.run ≡ c.run) × (c.acts ≡ acts_of c.number b.acts) × Scripted b.script c.acts };
 
-    ghost lives = { λ b c l. IsBroker b (broker c.number) (whole l) l.mind c.broker × HasEffects M.reads c.log l.gated };
+    ghost lives = { λ b c l. IsBroker b (broker c.number) (all_effects l) l.mind c.broker × HasEffects M.reads c.log l.gated };
 
     ghost owes = { λ c effects. Unit {0} };
 
@@ -183,7 +183,7 @@ impl<M: Medium> StoredCore<M> for BrokerCore<M> {
 impl<M: Medium> BrokerCore<M> {
     /// Whether each act has its outcome and no request is outstanding. Takes no memory.
     pub(crate) fn is_done(&self) -> bool
-        ensures { (b : Base) (l : Life) → IsBroker b (broker self.now.number) (whole l) l.mind self.now.broker → result ≡ is_over b self.now.number l }
+        ensures { (b : Base) (l : Life) → IsBroker b (broker self.now.number) (all_effects l) l.mind self.now.broker → result ≡ is_over b self.now.number l }
     {
         self.broker.done()
     }

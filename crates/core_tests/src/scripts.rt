@@ -167,9 +167,9 @@ fn holds(alloc: Global, map: ObjectMap, objects: &[(u32, i64)]) -> Result<bool, 
     Ok(map.into_list(alloc)?.as_slice() == expected.as_slice())
 }
 
-// Whether the script, carried out at once, does what the row says.
+// Whether a copy of the script, carried out at once, does what the row says.
 fn is_performed(alloc: Global, row: &Row) -> Result<bool, Fail> {
-    let script = script_of(alloc, row.script)?;
+    let script = script_of(alloc, row.script)?.copy(alloc)?;
     let done = perform(alloc, &script, &map_of(alloc, row.before)?)?;
     let lines = is_transcript(alloc, done.transcript.as_slice(), row.transcript)?;
     Ok(lines && done.ending == row.ending && holds(alloc, done.after, row.after)?)
@@ -189,12 +189,15 @@ fn ending_of(next: &Next) -> Option<Ending> {
 }
 
 // Answers the next request, if there is one, by the objects. It is asked for again where memory was
-// wanting.
+// wanting; asked for again before it is answered it has to be the same.
 fn answered(alloc: Global, run: &mut Run, map: &mut ObjectMap) -> Result<bool, Fail> {
     let next = match run.next(alloc) {
         Ok(next) => next,
         Err(_) => run.next(alloc)?,
     };
+    if run.next(alloc)? != next {
+        return Err("another request than before".into());
+    }
     match next {
         Next::Read(object) => run.give(map.value_of(alloc, object)?),
         Next::Write(object, value) => {

@@ -24,7 +24,7 @@ use Rattle.effect_form.specs.declared.effects.Effect.TheVariants.{Put, Stretch, 
 use Rattle.effect_form.specs.declared.effects.Place.{Place}
 use Rattle.effect_form.specs.Outcomes.{IsOutcome, outcome_bytes, outcome_at, clock_at}
 use Rattle.effect_form.specs.Sequences.{whole_one, whole_two}
-use Rattle.effect_form.specs.Effects.{Written, IsPlace, IsBack, back_bytes, back_from, back_at, index_at, positive_at, learned_byte, learned_at, home_at, timeout_at, tries_at, length_at, IsIndex, IsPositive, effect_bytes, IsAct, IsWritten, put_at, act_at, effect_of_tag, effect_at}
+use Rattle.effect_form.specs.Effects.{Written, IsPlace, IsBack, back_bytes, back_from, back_at, index_at, positive_at, learned_byte, learned_at, home_at, timeout_at, tries_at, length_at, IsIndex, IsPositive, effect_bytes, IsActEffect, IsWritten, put_at, act_at, effect_of_tag, effect_at}
 use Rattle.effect_form.proofs.OutcomeLaws.{clock_form, outcome_form}
 use Rattle.effect_form.proofs.SequenceLaws.{whole_one-takes, whole_one-again, whole_two-takes, whole_two-again}
 
@@ -225,7 +225,7 @@ act_takes bytes after w rest front e =
     let a = field_ok 1 (index_at after) (λ index. field 5 (home_at index.1) >>= λ home. field 6 (timeout_at home.1) >>= λ timeout. field 10 (tries_at timeout.1) >>= λ tries. field 11 (clock_at tries.1) >>= λ clock. field 19 (length_at clock.1) >>= λ size. field 21 (front_at size.0 size.1) >>= λ script. acted index.0 home.0 timeout.0 tries.0 clock.0 script) (w, rest) e in
     act_takes_from1 bytes after w rest a.0.0 a.0.1 front a.1 a.2
 
-act_again : (index home timeout tries clock : ℕ) (script rest : List ℕ) → IsAct index home timeout tries clock script
+act_again : (index home timeout tries clock : ℕ) (script rest : List ℕ) → IsActEffect index home timeout tries clock script
     → act_at ((to_be_bytes w32 index ++ (one_byte home ++ (to_be_bytes w32 timeout ++ (one_byte tries ++ (to_be_bytes w64 clock ++ (to_be_bytes w16 (length script) ++ (script))))))) ++ rest) ≡ Ok ((Act index home timeout tries clock script, None), rest)
 unfolding act_at
 act_again index home timeout tries clock script rest h =

@@ -101,7 +101,7 @@ effect_bytes (Acked step, back) = 10 ∷ to_be_bytes w32 step
 effect_bytes (End index outcome, back) = 11 ∷ (to_be_bytes w32 index ++ outcome_bytes outcome)
 
 -- the ranges of an act's fields
-pub record IsAct (index home timeout tries clock : ℕ) (script : List ℕ) : Type 0 where
+pub record IsActEffect (index home timeout tries clock : ℕ) (script : List ℕ) : Type 0 where
   pub index_in_range : IsIndex index
   pub home_in_range : (home < 256) × (1 ≤ home) × (home ≤ 16)
   pub timeout_in_range : (timeout < 2 ^ 32) × (1 ≤ timeout) × (timeout ≤ 1000000)
@@ -118,7 +118,7 @@ IsWritten (Begin stamp deadline, back) = (IsStamp stamp × (deadline < 2 ^ 64)) 
 IsWritten (Decide stamp decision, back) = (IsStamp stamp × IsDecision decision) × (back ≡ None)
 IsWritten (Learn stamp committed, back) = (IsStamp stamp × Unit {0}) × (back ≡ None)
 IsWritten (Run number, back) = IsPositive number × (back ≡ None)
-IsWritten (Act index home timeout tries clock script, back) = IsAct index home timeout tries clock script × (back ≡ None)
+IsWritten (Act index home timeout tries clock script, back) = IsActEffect index home timeout tries clock script × (back ≡ None)
 IsWritten (Try index stamp, back) = (IsIndex index × IsStamp stamp) × (back ≡ None)
 IsWritten (Got step v, back) = (IsPositive step × IsValue v) × (back ≡ None)
 IsWritten (Acked step, back) = IsPositive step × (back ≡ None)

@@ -19,7 +19,7 @@ use Rattle.expression_form.specs.declared.frames.Mode.TheVariants as m
 use Rattle.expression_form.specs.Levels.{infix_level, left_level, prefix_level, infix_token, prefix_token, call_token}
 use Rattle.expression_form.specs.Grammar.{enclosed, level_of, Bare, SpellsAt}
 use Rattle.expression_form.specs.Operands.{before, between, applied, given, operand_of}
-use Rattle.expression_form.specs.Machine.{infix_of, hole, Held, close, State, state, shift, shut_at, parted_at, prefixed, joined, wanting, opening, closing, having_as, step_at, step, run, finish, finish_at, ended, operand_read}
+use Rattle.expression_form.specs.Machine.{infix_of, hole, Waiting, close, State, state, shift, shut_at, parted_at, prefixed, joined, wanting, opening, closing, having_as, step_at, step, run, finish, finish_at, ended, operand_read}
 use Rattle.expression_form.proofs.LevelLemmas.{infix_le, prefix_le, chosen, IsInfix, infix_of-is}
 
 -- the tokens spell, at this level, an expression of which this is the operand
@@ -68,7 +68,7 @@ Reached st m.Want ts = Opened st ts
 Reached st (m.Opens head) ts = (us : List Token) × (ts ≡ us ++ head_token head ∷ []) × Opened st us
 Reached st (m.Have x l) ts = HasRead st x l ts
 
-abbrev HeldRead : Held → List Token → Type 0
+abbrev HeldRead : Waiting → List Token → Type 0
 HeldRead a ts = HasRead a.stack a.operand a.level ts
 
 -- ---- closing keeps what was read
@@ -117,9 +117,9 @@ close_hole k (f.Applied c ∷ st) x l = omega arith
 close_hole k (f.GivenFirst ∷ st) x l = omega arith
 close_hole k (f.GivenSecond y ∷ st) x l = omega arith
 close_hole k (f.Prefix q ∷ st) x l =
-    chosen (λ (a : Held). hole a.stack ≤ k) k (prefix_level q) _ _ (λ le. close_hole k st (before q x) (prefix_level q)) (λ lt. omega arith)
+    chosen (λ (a : Waiting). hole a.stack ≤ k) k (prefix_level q) _ _ (λ le. close_hole k st (before q x) (prefix_level q)) (λ lt. omega arith)
 close_hole k (f.Infix o y ∷ st) x l =
-    chosen (λ (a : Held). hole a.stack ≤ k) k (infix_level o) _ _ (λ le. close_hole k st (between o y x) (infix_level o)) (λ lt. omega arith)
+    chosen (λ (a : Waiting). hole a.stack ≤ k) k (infix_level o) _ _ (λ le. close_hole k st (between o y x) (infix_level o)) (λ lt. omega arith)
 
 hole_le : (st : List Frame) → hole st ≤ 7
 hole_le [] = omega arith
@@ -171,7 +171,7 @@ opening_read st (h.Applied c) (t.Sign g.Open) ts (us, is, o) = (us, ap (λ z. z 
 opening_read st h.Given (t.Sign g.Open) ts (us, is, o) = (us, ap (λ z. z ++ t.Sign g.Open ∷ []) is ∙ append_assoc us (t.Word w.Given ∷ []) (t.Sign g.Open ∷ []), o)
 opening_read st head _ ts r = tt
 
-shift_read : (o : Infix) (a : Held) (ts : List Token) → HeldRead a ts → hole a.stack ≤ infix_level o → OnRead (shift o a) (ts ++ infix_token o ∷ [])
+shift_read : (o : Infix) (a : Waiting) (ts : List Token) → HeldRead a ts → hole a.stack ≤ infix_level o → OnRead (shift o a) (ts ++ infix_token o ∷ [])
 shift_read o a ts r fits =
     chosen (λ s. OnRead s (ts ++ infix_token o ∷ [])) (left_level o) a.level _ _
     (λ le. (r.before', r.after', ap (λ z. z ++ infix_token o ∷ []) r.is ∙ append_assoc r.before' r.after' (infix_token o ∷ []), r.opened, lower a.operand a.level (left_level o) r.after' le r.writes, fits))

@@ -18,7 +18,7 @@ use Rattle.expression_form.specs.declared.frames.Mode.TheVariants as m
 use Rattle.expression_form.specs.Levels.{infix_level, left_level, prefix_level, infix_token, prefix_token, call_token}
 use Rattle.expression_form.specs.Grammar.{enclosed, wrapped, level_of, level_in, At, Bare, Spells}
 use Rattle.expression_form.specs.Operands.{operand_of}
-use Rattle.expression_form.specs.Machine.{hole, Held, held, close, State, state, shift, shut, parted, prefixed, joined, having_as, having, step, run, finish, ended, operand_read}
+use Rattle.expression_form.specs.Machine.{hole, Waiting, held, close, State, state, shift, shut, parted, prefixed, joined, having_as, having, step, run, finish, ended, operand_read}
 use Rattle.expression_form.proofs.LevelLemmas.{left_ge, apart, infix_of-token, chosen-le, chosen-gt}
 
 -- an operator that fits takes nothing in
@@ -138,4 +138,4 @@ pub spelled_is_read : (x : Term) (ts : List Token) → Spells x ts → operand_r
 spelled_is_read x ts at =
     let found = at_comes x 0 ts at (bare_comes x) [] (omega arith) in
     let c = found.2 in
-    ap (option_and_then finish) c.runs ∙ ap (λ (a : Held). ended a.stack a.operand) (c.closes 0 (omega arith))
+    ap (option_and_then finish) c.runs ∙ ap (λ (a : Waiting). ended a.stack a.operand) (c.closes 0 (omega arith))

@@ -52,16 +52,16 @@ is_tighter k (Some (f.Infix o x)) = nat_le k (infix_level o)
 is_tighter k _ = false
 
 -- an operand, its level and what is open below it
-pub record Held : Type 0 where
+pub record Waiting : Type 0 where
   pub stack : List Frame
   pub operand : Operand
   pub level : ℕ
 
-abbrev pub held : List Frame → Operand → ℕ → Held
+abbrev pub held : List Frame → Operand → ℕ → Waiting
 held st x l = record { stack = st; operand = x; level = l }
 
 -- takes the operand into what binds at least at this level
-abbrev pub close : ℕ → List Frame → Operand → ℕ → Held
+abbrev pub close : ℕ → List Frame → Operand → ℕ → Waiting
 close k [] x l = held [] x l
 close k (f.Group ∷ st) x l = held (f.Group ∷ st) x l
 close k (f.Applied c ∷ st) x l = held (f.Applied c ∷ st) x l
@@ -81,7 +81,7 @@ abbrev pub state : List Frame → Mode → State
 state st m = record { stack = st; mode = m }
 
 -- an operator between operands, after its left one
-abbrev pub shift : Infix → Held → Option State
+abbrev pub shift : Infix → Waiting → Option State
 shift o a = if nat_le (left_level o) a.level then Some (state (f.Infix o a.operand ∷ a.stack) m.Want) else None
 
 abbrev pub joined : Infix → List Frame → Operand → ℕ → Option State
@@ -94,7 +94,7 @@ shut_at x (f.Applied c ∷ st) = Some (state st (m.Have (applied c x) 7))
 shut_at x (f.GivenSecond y ∷ st) = Some (state st (m.Have (given y x) 7))
 shut_at x _ = None
 
-abbrev pub shut : Held → Option State
+abbrev pub shut : Waiting → Option State
 shut a = shut_at a.operand a.stack
 
 -- a comma
@@ -102,7 +102,7 @@ abbrev pub parted_at : Operand → List Frame → Option State
 parted_at x (f.GivenFirst ∷ st) = Some (state (f.GivenSecond x ∷ st) m.Want)
 parted_at x _ = None
 
-abbrev pub parted : Held → Option State
+abbrev pub parted : Waiting → Option State
 parted a = parted_at a.operand a.stack
 
 -- an operator before its operand

@@ -10,7 +10,7 @@ use Rattle.std.proofs.lemmas.List.{append-nil, append_assoc, map-append, length-
 use Rattle.std.proofs.Math.Seq.{take-append_seam, take-suc}
 use Rattle.std.proofs.lemmas.List.Elements.{filter-append}
 use Rattle.pseudo_time.specs.declared.nodes.NodeId.{NodeId}
-use Rattle.message_core.specs.declared.letters.Held.{Held}
+use Rattle.message_core.specs.declared.letters.HeldCopy.{HeldCopy}
 use Rattle.pseudo_time.specs.Nodes.{same_node}
 use Rattle.message_core.specs.Flights.{going_to, put, puts}
 use Rattle.message_core.specs.Queues.{queue_in, Grew}
@@ -63,22 +63,22 @@ module _ {A : Type 0} where
 -- ---- copies at the ends of queues
 
 one_at : (b : Bool) (number : ℕ) (to : NodeId) (o : Option (List ℕ))
-    → (if b then option_map (λ queue. queue ++ number ∷ []) o else o) ≡ option_map (λ queue. queue ++ map (λ (h : Held). h.number) (cond b ((record { number = number; to = to }) ∷ []) [])) o
+    → (if b then option_map (λ queue. queue ++ number ∷ []) o else o) ≡ option_map (λ queue. queue ++ map (λ (h : HeldCopy). h.number) (cond b ((record { number = number; to = to }) ∷ []) [])) o
 one_at true number to o = refl
 one_at false number to None = refl
 one_at false number to (Some queue) = ap Some (sym (append-nil queue))
 
 -- one copy more, as what its node's queue has more
-pub one_more : (copy : Held) (before after : NodeId → Option (List ℕ)) → ((n : NodeId) → after n ≡ (if same_node copy.to n then option_map (λ queue. queue ++ copy.number ∷ []) (before n) else before n)) → Grew (copy ∷ []) before after
+pub one_more : (copy : HeldCopy) (before after : NodeId → Option (List ℕ)) → ((n : NodeId) → after n ≡ (if same_node copy.to n then option_map (λ queue. queue ++ copy.number ∷ []) (before n) else before n)) → Grew (copy ∷ []) before after
 one_more copy before after changed n = changed n ∙ one_at (same_node copy.to n) copy.number copy.to (before n)
 
 -- a node that isn't up gets no copy
-no_queue : (b : Bool) (number : ℕ) (to : NodeId) (o : Option (List ℕ)) → o ≡ None → o ≡ option_map (λ queue. queue ++ map (λ (h : Held). h.number) (cond b ((record { number = number; to = to }) ∷ []) [])) o
+no_queue : (b : Bool) (number : ℕ) (to : NodeId) (o : Option (List ℕ)) → o ≡ None → o ≡ option_map (λ queue. queue ++ map (λ (h : HeldCopy). h.number) (cond b ((record { number = number; to = to }) ∷ []) [])) o
 no_queue b number to None none = refl
 no_queue b number to (Some queue) none = cc
 
-pub going_to-append : (n : NodeId) (xs ys : List Held) → going_to n (xs ++ ys) ≡ going_to n xs ++ going_to n ys
-going_to-append n xs ys = ap (map (λ (h : Held). h.number)) (filter-append (λ (h : Held). same_node h.to n) xs ys) ∙ map-append (λ (h : Held). h.number) (filter (λ (h : Held). same_node h.to n) xs) (filter (λ (h : Held). same_node h.to n) ys)
+pub going_to-append : (n : NodeId) (xs ys : List HeldCopy) → going_to n (xs ++ ys) ≡ going_to n xs ++ going_to n ys
+going_to-append n xs ys = ap (map (λ (h : HeldCopy). h.number)) (filter-append (λ (h : HeldCopy). same_node h.to n) xs ys) ∙ map-append (λ (h : HeldCopy). h.number) (filter (λ (h : HeldCopy). same_node h.to n) xs) (filter (λ (h : HeldCopy). same_node h.to n) ys)
 
 -- ---- undoing
 
@@ -95,7 +95,7 @@ grown_once None xs ys = refl
 grown_once (Some queue) xs ys = ap Some (append_assoc queue xs ys)
 
 -- copies after copies
-pub grew_joins : (xs ys : List Held) (before between after : NodeId → Option (List ℕ)) → Grew xs before between → Grew ys between after → Grew (xs ++ ys) before after
+pub grew_joins : (xs ys : List HeldCopy) (before between after : NodeId → Option (List ℕ)) → Grew xs before between → Grew ys between after → Grew (xs ++ ys) before after
 grew_joins xs ys before between after one two n =
     two n ∙ ap (option_map (λ queue. queue ++ going_to n ys)) (one n) ∙ grown_once (before n) (going_to n xs) (going_to n ys) ∙ ap (λ z. option_map (λ queue. queue ++ z) (before n)) (sym (going_to-append n xs ys))
 
@@ -111,14 +111,14 @@ pub grew_nothing : (before after : NodeId → Option (List ℕ)) → Grew [] bef
 grew_nothing before after grew n = grew n ∙ nothing_more (before n)
 
 undone_at : (b : Bool) (o : Option (List ℕ)) (xs : List ℕ) (number : ℕ) (to : NodeId)
-    → (if b then option_map (λ queue. take (length queue - 1) queue) (option_map (λ queue. queue ++ (xs ++ map (λ (h : Held). h.number) (cond b ((record { number = number; to = to }) ∷ []) []))) o) else option_map (λ queue. queue ++ (xs ++ map (λ (h : Held). h.number) (cond b ((record { number = number; to = to }) ∷ []) []))) o) ≡ option_map (λ queue. queue ++ xs) o
+    → (if b then option_map (λ queue. take (length queue - 1) queue) (option_map (λ queue. queue ++ (xs ++ map (λ (h : HeldCopy). h.number) (cond b ((record { number = number; to = to }) ∷ []) []))) o) else option_map (λ queue. queue ++ (xs ++ map (λ (h : HeldCopy). h.number) (cond b ((record { number = number; to = to }) ∷ []) []))) o) ≡ option_map (λ queue. queue ++ xs) o
 undone_at true None xs number to = refl
 undone_at true (Some queue) xs number to = ap Some (ap (λ z. take (length z - 1) z) (sym (append_assoc queue xs (number ∷ []))) ∙ all_but_last (queue ++ xs) number)
 undone_at false None xs number to = refl
 undone_at false (Some queue) xs number to = ap Some (ap (λ z. queue ++ z) (append-nil xs))
 
 -- the last copy is taken back
-pub last_undone : (copy : Held) (earlier : List Held) (before now after : NodeId → Option (List ℕ)) → Grew (earlier ++ copy ∷ []) before now
+pub last_undone : (copy : HeldCopy) (earlier : List HeldCopy) (before now after : NodeId → Option (List ℕ)) → Grew (earlier ++ copy ∷ []) before now
     → ((n : NodeId) → after n ≡ (if same_node copy.to n then option_map (λ queue. take (length queue - 1) queue) (now n) else now n)) → Grew earlier before after
 last_undone copy earlier before now after grew changed n =
     changed n
@@ -148,7 +148,7 @@ err_so (Err e) p = p
 
 -- ---- taking copies back, the last one first
 
-pub gathered : (copies : List Held) (k : ℕ) (d : Held) (before now : NodeId → Option (List ℕ)) → k < length copies → Grew (take (length copies - k) copies) before now
+pub gathered : (copies : List HeldCopy) (k : ℕ) (d : HeldCopy) (before now : NodeId → Option (List ℕ)) → k < length copies → Grew (take (length copies - k) copies) before now
     → Grew (take (length copies - (k + 1)) copies ++ get_or copies (length copies - 1 - k) d ∷ []) before now
 gathered copies k d before now below grew =
     let at : length copies - 1 - k ≡ length copies - (k + 1) = omega arith in
@@ -156,9 +156,9 @@ gathered copies k d before now below grew =
     let within : length copies - (k + 1) < length copies = omega (arith, below) in
     let cut : take (length copies - k) copies ≡ take (length copies - (k + 1)) copies ++ get_or copies (length copies - 1 - k) d ∷ [] =
     ap (λ n. take n copies) up ∙ take-suc copies (length copies - (k + 1)) d within ∙ ap (λ n. take (length copies - (k + 1)) copies ++ get_or copies n d ∷ []) (sym at) in
-    subst (λ (cs : List Held). Grew cs before now) cut grew
+    subst (λ (cs : List HeldCopy). Grew cs before now) cut grew
 
-pub gathered_all : (copies : List Held) (k : ℕ) (before now : NodeId → Option (List ℕ)) → length copies ≤ k → Grew (take (length copies - k) copies) before now → Grew [] before now
+pub gathered_all : (copies : List HeldCopy) (k : ℕ) (before now : NodeId → Option (List ℕ)) → length copies ≤ k → Grew (take (length copies - k) copies) before now → Grew [] before now
 gathered_all copies k before now past grew =
     let none : length copies - k ≡ 0 = omega (arith, past) in
     subst (λ (n : ℕ). Grew (take n copies) before now) none grew

@@ -7,7 +7,7 @@ use Rattle.pseudo_time.specs.declared.nodes.NodeId.{NodeId}
 use Rattle.stream_port.specs.declared.fates.Fate.{Fate}
 use Rattle.stream_port.specs.Fates.{copies_of}
 use Rattle.message_core.specs.declared.letters.Letter.{Letter}
-use Rattle.message_core.specs.declared.letters.Held.{Held}
+use Rattle.message_core.specs.declared.letters.HeldCopy.{HeldCopy}
 use Rattle.pseudo_time.specs.Nodes.{same_node}
 use Rattle.message_core.specs.Flights.{State, put, puts, next_number, sent_at_once, sent_later, sent, taken, going_to, passed, was_shut, start}
 use Rattle.message_core.specs.Sound.{WentTo, AllWentTo, AllWent, HasText, IsSound}
@@ -31,8 +31,8 @@ went_still ls more node k went = record { letter = went.letter; from_one = went.
 all_still : (ls more : List Letter) (node : NodeId) (queue : List ℕ) → AllWentTo ls node queue → AllWentTo (ls ++ more) node queue
 all_still ls more node = every-map (WentTo ls node) (WentTo (ls ++ more) node) (went_still ls more node)
 
-held_still : (ls more : List Letter) (held : List Held) → AllWent ls held → AllWent (ls ++ more) held
-held_still ls more = every-map (λ (h : Held). WentTo ls h.to h.number) (λ (h : Held). WentTo (ls ++ more) h.to h.number) (λ h. went_still ls more h.to h.number)
+held_still : (ls more : List Letter) (held : List HeldCopy) → AllWent ls held → AllWent (ls ++ more) held
+held_still ls more = every-map (λ (h : HeldCopy). WentTo ls h.to h.number) (λ (h : HeldCopy). WentTo (ls ++ more) h.to h.number) (λ h. went_still ls more h.to h.number)
 
 less_one : (n : ℕ) → n + 1 - 1 ≡ n
 less_one n = omega arith
@@ -64,18 +64,18 @@ all_puts ls node (suc n) number overtake queue new went = all_puts ls node n num
 
 -- ---- held copies
 
-held_repeated : (ls : List Letter) (n : ℕ) (h : Held) → WentTo ls h.to h.number → AllWent ls (replicate n h)
+held_repeated : (ls : List Letter) (n : ℕ) (h : HeldCopy) → WentTo ls h.to h.number → AllWent ls (replicate n h)
 held_repeated ls zero h went = tt {0}
 held_repeated ls (suc n) h went = (went, held_repeated ls n h went)
 
-going_on : (ls : List Letter) (node : NodeId) (h : Held) (b : Bool) (rest : List Held) → same_node h.to node ≡ b → WentTo ls h.to h.number → AllWentTo ls node (map (λ (k : Held). k.number) rest)
-    → AllWentTo ls node (map (λ (k : Held). k.number) (cond b (h ∷ rest) rest))
+going_on : (ls : List Letter) (node : NodeId) (h : HeldCopy) (b : Bool) (rest : List HeldCopy) → same_node h.to node ≡ b → WentTo ls h.to h.number → AllWentTo ls node (map (λ (k : HeldCopy). k.number) rest)
+    → AllWentTo ls node (map (λ (k : HeldCopy). k.number) (cond b (h ∷ rest) rest))
 going_on ls node h true rest same went all = (subst (λ (n : NodeId). WentTo ls n h.number) (same_is h.to node same) went, all)
 going_on ls node h false rest same went all = all
 
-all_going : (ls : List Letter) (node : NodeId) (held : List Held) → AllWent ls held → AllWentTo ls node (going_to node held)
+all_going : (ls : List Letter) (node : NodeId) (held : List HeldCopy) → AllWent ls held → AllWentTo ls node (going_to node held)
 all_going ls node [] went = tt {0}
-all_going ls node (h ∷ held) went = going_on ls node h (same_node h.to node) (filter (λ (k : Held). same_node k.to node) held) refl went.0 (all_going ls node held went.1)
+all_going ls node (h ∷ held) went = going_on ls node h (same_node h.to node) (filter (λ (k : HeldCopy). same_node k.to node) held) refl went.0 (all_going ls node held went.1)
 
 -- ---- a queue after a call, by the queue before
 
@@ -122,7 +122,7 @@ module _ (s : State) (sound : IsSound s) where
         texts = every-append HasText s.letters (letter ∷ []) sound.texts (text, tt {0});
       }
 
-  held_either : (ls : List Letter) (b : Bool) (x y : List Held) → AllWent ls x → AllWent ls y → AllWent ls (if b then x else y)
+  held_either : (ls : List Letter) (b : Bool) (x y : List HeldCopy) → AllWent ls x → AllWent ls y → AllWent ls (if b then x else y)
   held_either ls true x y one two = one
   held_either ls false x y one two = two
 
@@ -133,7 +133,7 @@ module _ (s : State) (sound : IsSound s) where
         queued = λ node queue is. all_still s.letters (letter ∷ []) node queue (sound.queued node queue is);
         held = λ d.
             let old = held_still s.letters (letter ∷ []) (s.held d) (sound.held d) in
-            held_either ls (s.ticks + fate.hold == d) _ _ (every-append (λ (h : Held). WentTo ls h.to h.number) (s.held d) _ old (held_repeated ls (copies_of fate) (record { number = next_number s; to = letter.to }) (just_went s.letters letter))) old;
+            held_either ls (s.ticks + fate.hold == d) _ _ (every-append (λ (h : HeldCopy). WentTo ls h.to h.number) (s.held d) _ old (held_repeated ls (copies_of fate) (record { number = next_number s; to = letter.to }) (just_went s.letters letter))) old;
         texts = every-append HasText s.letters (letter ∷ []) sound.texts (text, tt {0});
       }
 

@@ -8,7 +8,7 @@ use Rattle.std.proofs.lemmas.Option.{slice_get_within, slice_get-get_or}
 use Rattle.pseudo_time.specs.declared.nodes.NodeId.{NodeId}
 use Rattle.message_form.specs.Messages.{IsMessage, message_bytes}
 use Rattle.message_core.specs.declared.letters.Letter.{Letter}
-use Rattle.message_core.specs.declared.letters.Held.{Held}
+use Rattle.message_core.specs.declared.letters.HeldCopy.{HeldCopy}
 use Rattle.message_core.specs.declared.letters.Arrival.{Arrival}
 use Rattle.message_core.specs.Flights.{waiting, AllEmpty}
 use Rattle.message_core.specs.Arrivals.{IsFront}
@@ -45,7 +45,7 @@ waiting_went : (ls : List Letter) (node : NodeId) (o : Option (List ℕ)) (k : �
 waiting_went ls node None k all is = absurd (let never : ⊥ = cc is in never)
 waiting_went ls node (Some queue) k all is = front_went ls node queue k (all queue refl) is
 
-module _ {A : Type 0} (ls : List Letter) (t : ℕ) (qs : List (NodeId × VecDeque ℕ A)) (hs : List (ℕ × Vec Held)) where
+module _ {A : Type 0} (ls : List Letter) (t : ℕ) (qs : List (NodeId × VecDeque ℕ A)) (hs : List (ℕ × Vec HeldCopy)) where
   pub waiting_is : (node : NodeId) → waiting (now ls t qs hs) node ≡ unwrap_or (queue_in qs node) []
   waiting_is node = ap (λ o. unwrap_or o []) (queue_seen qs node)
 

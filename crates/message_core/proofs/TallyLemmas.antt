@@ -10,10 +10,10 @@ use Rattle.pseudo_time.specs.declared.nodes.NodeId.{NodeId}
 use Rattle.stream_port.specs.declared.fates.Fate.{Fate}
 use Rattle.stream_port.specs.Fates.{copies_of}
 use Rattle.message_core.specs.declared.letters.Letter.{Letter}
-use Rattle.message_core.specs.declared.letters.Held.{Held}
+use Rattle.message_core.specs.declared.letters.HeldCopy.{HeldCopy}
 use Rattle.pseudo_time.specs.Nodes.{same_node}
 use Rattle.message_core.specs.Flights.{State, Call, Send, Take, Pass, Shut, puts, next_number, sent_at_once, sent_later, sent, taken, going_to, passed, was_shut, step, flown, start, waiting}
-use Rattle.message_core.specs.Tallies.{count, Sending, Ledger, noted, blank_ledger, all_noted, numbered, came, waits_for, took, Tallied, IsDue}
+use Rattle.message_core.specs.Tallies.{count, Posted, Tally, noted, blank_tally, all_noted, numbered, came, waits_for, took, Tallied, IsDue}
 use Rattle.message_core.proofs.NodeLemmas.{same_is, same_node-refl}
 use Rattle.message_core.proofs.QueueLemmas.{going_to-append}
 use Rattle.message_core.proofs.SoundLemmas.{Of, of_all, all_of, of_map}
@@ -25,7 +25,7 @@ one_less : (m n : ℕ) (b : Bool) → (suc m == suc n) ≡ b → (m == n) ≡ b
 one_less m n true at = grind (arith, nat_tests)
 one_less m n false at = grind (arith, nat_tests)
 
-got_at : (ss : List Sending) (x : Sending) (k : ℕ) (b : Bool) → (length ss == k) ≡ b → slice_get (ss ++ x ∷ []) k ≡ (if b then Some x else slice_get ss k)
+got_at : (ss : List Posted) (x : Posted) (k : ℕ) (b : Bool) → (length ss == k) ≡ b → slice_get (ss ++ x ∷ []) k ≡ (if b then Some x else slice_get ss k)
 got_at [] x zero true at = refl
 got_at [] x zero false at = cc
 got_at [] x (suc k) true at = absurd (let never : ⊥ = grind (arith, nat_tests) in never)
@@ -38,16 +38,16 @@ placed : (m number k : ℕ) (b : Bool) → number ≡ m + 1 → (number == suc k
 placed m number k true is at = grind (arith, nat_tests)
 placed m number k false is at = grind (arith, nat_tests)
 
-sending_at : (ss : List Sending) (x : Sending) (number k : ℕ) (b : Bool) → (number == k) ≡ b → number ≡ length ss + 1 → numbered (ss ++ x ∷ []) k ≡ (if b then Some x else numbered ss k)
+sending_at : (ss : List Posted) (x : Posted) (number k : ℕ) (b : Bool) → (number == k) ≡ b → number ≡ length ss + 1 → numbered (ss ++ x ∷ []) k ≡ (if b then Some x else numbered ss k)
 sending_at ss x number zero true at is = absurd (let never : ⊥ = grind (arith, nat_tests) in never)
 sending_at ss x number zero false at is = refl
 sending_at ss x number (suc k) b at is = got_at ss x k b (placed (length ss) number k b is at)
 
-pub sending_now : (ss : List Sending) (x : Sending) (number k : ℕ) → number ≡ length ss + 1 → numbered (ss ++ x ∷ []) k ≡ (if number == k then Some x else numbered ss k)
+pub sending_now : (ss : List Posted) (x : Posted) (number k : ℕ) → number ≡ length ss + 1 → numbered (ss ++ x ∷ []) k ≡ (if number == k then Some x else numbered ss k)
 sending_now ss x number zero is = sending_at ss x number zero (number == 0) refl is
 sending_now ss x number (suc k) is = sending_at ss x number (suc k) (number == suc k) refl is
 
-pub sending_before : (ss : List Sending) (number k : ℕ) → number ≡ length ss + 1 → (number == k) ≡ true → numbered ss k ≡ None
+pub sending_before : (ss : List Posted) (number k : ℕ) → number ≡ length ss + 1 → (number == k) ≡ true → numbered ss k ≡ None
 sending_before ss number zero is at = refl
 sending_before ss number (suc k) is at = slice_get_past ss k (let same : number ≡ suc k = grind (arith, nat_tests) in omega (arith, is, same))
 
@@ -67,7 +67,7 @@ passed_at : (same : Bool) (due now n : ℕ) → ◌≡◌ {A = ℕ} (cond (same 
 passed_at false due now n = refl
 passed_at true due now n = tick_at due now n (nat_le due (now + 1)) (nat_le due now) (due == now + 1) (nat_lt now (now + 1)) refl refl refl refl
 
-came_more : (node : NodeId) (now : ℕ) (o : Option Sending) → came node (now + 1) o ≡ came node now o + waits_for node now (now + 1) o
+came_more : (node : NodeId) (now : ℕ) (o : Option Posted) → came node (now + 1) o ≡ came node now o + waits_for node now (now + 1) o
 came_more node now None = refl
 came_more node now (Some x) = passed_at (same_node x.to node) (x.ticks + x.fate.hold) now (copies_of x.fate)
 
@@ -86,12 +86,12 @@ held_on false due now d n true at = refl
 held_on false due now d n false at = refl
 held_on true due now d n b at = still_at due now d n b (due == d) (nat_lt (now + 1) d) (nat_lt now d) at refl refl
 
-waits_on : (node : NodeId) (now d : ℕ) (b : Bool) (o : Option Sending) → (now + 1 == d) ≡ b → waits_for node (now + 1) d o ≡ cond b 0 (waits_for node now d o)
+waits_on : (node : NodeId) (now d : ℕ) (b : Bool) (o : Option Posted) → (now + 1 == d) ≡ b → waits_for node (now + 1) d o ≡ cond b 0 (waits_for node now d o)
 waits_on node now d true None at = refl
 waits_on node now d false None at = refl
 waits_on node now d b (Some x) at = held_on (same_node x.to node) (x.ticks + x.fate.hold) now d (copies_of x.fate) b at
 
-none_left : (k : ℕ) (node : NodeId) (b : Bool) (held : List Held) → count k (going_to node (if b then [] else held)) ≡ cond b 0 (count k (going_to node held))
+none_left : (k : ℕ) (node : NodeId) (b : Bool) (held : List HeldCopy) → count k (going_to node (if b then [] else held)) ≡ cond b 0 (count k (going_to node held))
 none_left k node true held = refl
 none_left k node false held = refl
 
@@ -119,7 +119,7 @@ still_waits n hold now d true true j l at = refl
 still_waits n hold now d true false j l at = absurd (let never : ⊥ = grind (arith, nat_tests) in never)
 still_waits n hold now d false later j l at = refl
 
-one_going : (k : ℕ) (b : Bool) (h : Held) (rest : List Held) → count k (map (λ (g : Held). g.number) (cond b (h ∷ rest) rest)) ≡ cond b (cond (h.number == k) 1 0) 0 + count k (map (λ (g : Held). g.number) rest)
+one_going : (k : ℕ) (b : Bool) (h : HeldCopy) (rest : List HeldCopy) → count k (map (λ (g : HeldCopy). g.number) (cond b (h ∷ rest) rest)) ≡ cond b (cond (h.number == k) 1 0) 0 + count k (map (λ (g : HeldCopy). g.number) rest)
 one_going k true h rest = refl
 one_going k false h rest = omega arith
 
@@ -133,10 +133,10 @@ no_copy true true = refl
 no_copy true false = refl
 no_copy false b = refl
 
-going-replicate : (k : ℕ) (node : NodeId) (h : Held) (n : ℕ) → count k (going_to node (replicate n h)) ≡ cond (same_node h.to node) (cond (h.number == k) n 0) 0
+going-replicate : (k : ℕ) (node : NodeId) (h : HeldCopy) (n : ℕ) → count k (going_to node (replicate n h)) ≡ cond (same_node h.to node) (cond (h.number == k) n 0) 0
 going-replicate k node h zero = no_copy (same_node h.to node) (h.number == k)
 going-replicate k node h (suc n) =
-    one_going k (same_node h.to node) h (filter (λ (g : Held). same_node g.to node) (replicate n h))
+    one_going k (same_node h.to node) h (filter (λ (g : HeldCopy). same_node g.to node) (replicate n h))
     ∙ ap (λ z. cond (same_node h.to node) (cond (h.number == k) 1 0) 0 + z) (going-replicate k node h n) ∙ one_copy (same_node h.to node) (h.number == k) n
 
 ends : (b : Bool) (old new mine held copies : ℕ) (same : Bool) (n : ℕ) → copies ≡ cond same (cond b n 0) 0 → new ≡ (if b then mine else old) → (b ≡ true → old ≡ 0) → mine ≡ cond true (cond same n 0) 0 → held ≡ old → held + copies ≡ new
@@ -145,7 +145,7 @@ ends true old new mine held copies false n c is none own now = let z = none refl
 ends false old new mine held copies true n c is none own now = omega (arith, c, is, now)
 ends false old new mine held copies false n c is none own now = omega (arith, c, is, now)
 
-module _ (s : State) (l : Ledger) (t : Tallied s l) where
+module _ (s : State) (l : Tally) (t : Tallied s l) where
   due_of : (k : ℕ) (node : NodeId) → Of (λ queue. count k queue + took node (count k l.taken) (numbered l.sendings k) ≡ came node s.ticks (numbered l.sendings k)) (s.queues node)
   due_of k node = of_all (λ queue. count k queue + took node (count k l.taken) (numbered l.sendings k) ≡ came node s.ticks (numbered l.sendings k)) (s.queues node) (t.due k node)
 
@@ -193,7 +193,7 @@ module _ (s : State) (l : Ledger) (t : Tallied s l) where
   more_taken k node = count-append k l.taken (front-of node)
 
   -- what the node itself took more
-  took_own : (node : NodeId) (c d : ℕ) (o : Option Sending) → (came node s.ticks o ≡ 0 → d ≡ 0) → took node (c + d) o ≡ took node c o + d
+  took_own : (node : NodeId) (c d : ℕ) (o : Option Posted) → (came node s.ticks o ≡ 0 → d ≡ 0) → took node (c + d) o ≡ took node c o + d
   took_own node c d None none = refl
   took_own node c d (Some x) none = go (same_node x.to node) refl
     where
@@ -202,7 +202,7 @@ module _ (s : State) (l : Ledger) (t : Tallied s l) where
       go false at = let z = none (ap (λ b. cond (b && nat_le (x.ticks + x.fate.hold) s.ticks) (copies_of x.fate) 0) at) in omega (arith, z)
 
   -- what another node took is nothing more
-  took_other : (node n : NodeId) (c d : ℕ) (o : Option Sending) → same_node node n ≡ false → (came node s.ticks o ≡ 0 → d ≡ 0) → took n (c + d) o ≡ took n c o
+  took_other : (node n : NodeId) (c d : ℕ) (o : Option Posted) → same_node node n ≡ false → (came node s.ticks o ≡ 0 → d ≡ 0) → took n (c + d) o ≡ took n c o
   took_other node n c d None apart none = ap (λ z. c + z) (none refl) ∙ (let e : c + 0 ≡ c = omega arith in e)
   took_other node n c d (Some x) apart none = go (same_node x.to node) refl
     where
@@ -248,10 +248,10 @@ module _ (s : State) (l : Ledger) (t : Tallied s l) where
   -- ---- a sending
 
   module _ (letter : Letter) (fate : Fate) where
-    abbrev x : Sending
+    abbrev x : Posted
     x = record { to = letter.to; fate = fate; ticks = s.ticks }
 
-    abbrev more : List Sending
+    abbrev more : List Posted
     more = l.sendings ++ x ∷ []
 
     number_is : next_number s ≡ length l.sendings + 1
@@ -260,14 +260,14 @@ module _ (s : State) (l : Ledger) (t : Tallied s l) where
     numbered_more : length (s.letters ++ letter ∷ []) ≡ length more
     numbered_more = length-append s.letters (letter ∷ []) ∙ ap (λ n. n + 1) t.as_many ∙ sym (length-append l.sendings (x ∷ []))
 
-    came_if : (b : Bool) (node : NodeId) (o : Option Sending) → came node s.ticks (if b then Some x else o) ≡ (if b then came node s.ticks (Some x) else came node s.ticks o)
+    came_if : (b : Bool) (node : NodeId) (o : Option Posted) → came node s.ticks (if b then Some x else o) ≡ (if b then came node s.ticks (Some x) else came node s.ticks o)
     came_if true node o = refl
     came_if false node o = refl
 
     came_now : (k : ℕ) (node : NodeId) → came node s.ticks (numbered more k) ≡ (if next_number s == k then came node s.ticks (Some x) else came node s.ticks (numbered l.sendings k))
     came_now k node = ap (came node s.ticks) (sending_now l.sendings x (next_number s) k number_is) ∙ came_if (next_number s == k) node (numbered l.sendings k)
 
-    waits_if : (b : Bool) (node : NodeId) (d : ℕ) (o : Option Sending) → waits_for node s.ticks d (if b then Some x else o) ≡ (if b then waits_for node s.ticks d (Some x) else waits_for node s.ticks d o)
+    waits_if : (b : Bool) (node : NodeId) (d : ℕ) (o : Option Posted) → waits_for node s.ticks d (if b then Some x else o) ≡ (if b then waits_for node s.ticks d (Some x) else waits_for node s.ticks d o)
     waits_if true node d o = refl
     waits_if false node d o = refl
 
@@ -308,7 +308,7 @@ module _ (s : State) (l : Ledger) (t : Tallied s l) where
     held_same n old new mine false is none own held = omega (arith, is, held)
 
     -- of a message that is sent just now no copy was taken
-    took_if : (b : Bool) (k : ℕ) (node : NodeId) (o : Option Sending) → (b ≡ true → o ≡ None) → took node (count k l.taken) o ≤ came node s.ticks o
+    took_if : (b : Bool) (k : ℕ) (node : NodeId) (o : Option Posted) → (b ≡ true → o ≡ None) → took node (count k l.taken) o ≤ came node s.ticks o
         → took node (count k l.taken) (if b then Some x else o) ≡ took node (count k l.taken) o
     took_if false k node o none most = refl
     took_if true k node None none most = go (same_node x.to node) (count k l.taken) (omega (arith, most))
@@ -354,12 +354,12 @@ module _ (s : State) (l : Ledger) (t : Tallied s l) where
     waits_all false n hold now d at = both_no (now + hold == d)
     waits_all true n hold now d at = still_waits n hold now d (now + hold == d) (nat_lt now d) refl refl at
 
-    held_more : (k old new mine : ℕ) (b due : Bool) (node : NodeId) (held : List Held) → (next_number s == k) ≡ b → new ≡ (if b then mine else old) → (b ≡ true → old ≡ 0) → mine ≡ cond due (cond (same_node letter.to node) (copies_of fate) 0) 0
+    held_more : (k old new mine : ℕ) (b due : Bool) (node : NodeId) (held : List HeldCopy) → (next_number s == k) ≡ b → new ≡ (if b then mine else old) → (b ≡ true → old ≡ 0) → mine ≡ cond due (cond (same_node letter.to node) (copies_of fate) 0) 0
         → count k (going_to node held) ≡ old → count k (going_to node (if due then held ++ replicate (copies_of fate) (record { number = next_number s; to = letter.to }) else held)) ≡ new
     held_more k old new mine true false node held at is none own now = let z = none refl in omega (arith, z, is, own, now)
     held_more k old new mine false false node held at is none own now = omega (arith, is, now)
     held_more k old new mine b true node held at is none own now =
-        let copies : List Held = replicate (copies_of fate) (record { number = next_number s; to = letter.to }) in
+        let copies : List HeldCopy = replicate (copies_of fate) (record { number = next_number s; to = letter.to }) in
         let a : count k (going_to node (held ++ copies)) ≡ count k (going_to node held) + count k (going_to node copies) = ap (count k) (going_to-append node held copies) ∙ count-append k (going_to node held) (going_to node copies) in
         let c : count k (going_to node copies) ≡ cond (same_node letter.to node) (cond b (copies_of fate) 0) 0 =
         going-replicate k node (record { number = next_number s; to = letter.to }) (copies_of fate) ∙ ap (λ (z : Bool). cond (same_node letter.to node) (cond z (copies_of fate) 0) 0) at in
@@ -385,13 +385,13 @@ module _ (s : State) (l : Ledger) (t : Tallied s l) where
 
 -- ---- each call, and all calls
 
-pub tallied_step : (s : State) (l : Ledger) (call : Call) → Tallied s l → Tallied (step s call) (noted s l call)
+pub tallied_step : (s : State) (l : Tally) (call : Call) → Tallied s l → Tallied (step s call) (noted s l call)
 tallied_step s l (Send letter fate) t = tallied_sent s l t letter fate
 tallied_step s l (Take node) t = tallied_taken s l t node
 tallied_step s l Pass t = tallied_passed s l t
 tallied_step s l (Shut node) t = tallied_shut s l t node
 
-pub tallied_flown : (s : State) (l : Ledger) (calls : List Call) → Tallied s l → Tallied (flown s calls) (all_noted s l calls)
+pub tallied_flown : (s : State) (l : Tally) (calls : List Call) → Tallied s l → Tallied (flown s calls) (all_noted s l calls)
 unfolding flown all_noted
 tallied_flown s l [] t = t
 tallied_flown s l (call ∷ calls) t = tallied_flown (step s call) (noted s l call) calls (tallied_step s l call t)
@@ -412,7 +412,7 @@ empty_at : (k : ℕ) (node : NodeId) (b : Bool) → Of (λ q. count k q + 0 ≡ 
 empty_at k node true = sym (nothing_came node 0 k)
 empty_at k node false = tt {0}
 
-pub tallied_start : (nodes : List NodeId) → Tallied (start nodes) blank_ledger
+pub tallied_start : (nodes : List NodeId) → Tallied (start nodes) blank_tally
 tallied_start nodes = record {
   as_many = refl;
   due = λ k node queue is. ap (λ z. count k queue + z) (nothing_took node k) ∙ all_of (λ q. count k q + 0 ≡ came node 0 (numbered [] k)) _ queue (empty_at k node (list_any (λ m. same_node m node) nodes)) is;
@@ -433,9 +433,9 @@ le-true m n h = grind (arith, nat_tests)
 true-le : (m n : ℕ) → m ≤ n → nat_le m n ≡ true
 true-le m n h = grind (arith, nat_tests)
 
-module _ (s : State) (l : Ledger) (t : Tallied s l) (n : NodeId) where
+module _ (s : State) (l : Tally) (t : Tallied s l) (n : NodeId) where
   -- what came to the node was sent to it, and its hold has passed
-  came-due : (k : ℕ) (o : Option Sending) → numbered l.sendings k ≡ o → 1 ≤ came n s.ticks o → (x : Sending) × IsDue s l n k x × (came n s.ticks o ≡ copies_of x.fate) × (took n (count k l.taken) o ≡ count k l.taken)
+  came-due : (k : ℕ) (o : Option Posted) → numbered l.sendings k ≡ o → 1 ≤ came n s.ticks o → (x : Posted) × IsDue s l n k x × (came n s.ticks o ≡ copies_of x.fate) × (took n (count k l.taken) o ≡ count k l.taken)
   came-due k None is some = absurd (let never : ⊥ = omega (arith, some) in never)
   came-due k (Some x) is some =
       let p = ripe-parts (same_node x.to n) (nat_le (x.ticks + x.fate.hold) s.ticks) (copies_of x.fate) some in
@@ -449,7 +449,7 @@ module _ (s : State) (l : Ledger) (t : Tallied s l) (n : NodeId) where
   some-queue (Some q) k rest h = ap Some h
 
   -- a front copy is due, and was taken fewer times than its message has copies
-  pub front-due : (k : ℕ) (rest : List ℕ) → waiting s n ≡ k ∷ rest → (x : Sending) × IsDue s l n k x × (count k l.taken < copies_of x.fate)
+  pub front-due : (k : ℕ) (rest : List ℕ) → waiting s n ≡ k ∷ rest → (x : Posted) × IsDue s l n k x × (count k l.taken < copies_of x.fate)
   front-due k rest front =
       let d = t.due k n (k ∷ rest) (some-queue (s.queues n) k rest front) in
       let one = front-one k rest in
@@ -458,7 +458,7 @@ module _ (s : State) (l : Ledger) (t : Tallied s l) (n : NodeId) where
       (c.0, c.1, (omega (arith, d, one, whole, own)))
 
   -- where the queue is empty, all copies that are due were taken
-  pub empty-taken : (k : ℕ) (x : Sending) → s.queues n ≡ Some [] → IsDue s l n k x → count k l.taken ≡ copies_of x.fate
+  pub empty-taken : (k : ℕ) (x : Posted) → s.queues n ≡ Some [] → IsDue s l n k x → count k l.taken ≡ copies_of x.fate
   empty-taken k x none is =
       let d = t.due k n [] none in
       let here : same_node x.to n ≡ true = ap (λ z. same_node z n) is.to ∙ same_node-refl n in

@@ -6,7 +6,7 @@ use Rattle.pseudo_time.specs.declared.nodes.NodeId.{NodeId}
 use Rattle.stream_port.specs.declared.fates.Fate.{Fate}
 use Rattle.stream_port.specs.Fates.{copies_of}
 use Rattle.message_core.specs.declared.letters.Letter.{Letter}
-use Rattle.message_core.specs.declared.letters.Held.{Held}
+use Rattle.message_core.specs.declared.letters.HeldCopy.{HeldCopy}
 use Rattle.pseudo_time.specs.Nodes.{same_node}
 
 pub record State : Type 0 where
@@ -17,7 +17,7 @@ pub record State : Type 0 where
   -- of each node that is up, the numbers of its due copies, the front one first
   pub queues : NodeId → Option (List ℕ)
   -- the copies that are held until this tick, in order of number
-  pub held : ℕ → List Held
+  pub held : ℕ → List HeldCopy
 
 -- ---- sending
 
@@ -62,8 +62,8 @@ abbrev pub taken : State → NodeId → State
 taken s node = record { letters = s.letters; ticks = s.ticks; queues = λ n. if same_node node n then option_map (drop 1) (s.queues n) else s.queues n; held = s.held }
 
 -- the numbers of the copies that go to this node
-abbrev pub going_to : NodeId → List Held → List ℕ
-going_to n held = map (λ (h : Held). h.number) (filter (λ (h : Held). same_node h.to n) held)
+abbrev pub going_to : NodeId → List HeldCopy → List ℕ
+going_to n held = map (λ (h : HeldCopy). h.number) (filter (λ (h : HeldCopy). same_node h.to n) held)
 
 -- The copies held until this tick go to the ends of their queues. Those to a node that isn't up are given up.
 abbrev pub passed : State → State

@@ -5,7 +5,7 @@ use Rattle.pseudo_time.specs.Lists.{Every}
 use Rattle.message_form.specs.declared.messages.Message.{Message}
 use Rattle.message_form.specs.Messages.{IsMessage, message_bytes}
 use Rattle.message_core.specs.declared.letters.Letter.{Letter}
-use Rattle.message_core.specs.declared.letters.Held.{Held}
+use Rattle.message_core.specs.declared.letters.HeldCopy.{HeldCopy}
 use Rattle.message_core.specs.Flights.{State}
 
 -- the message of this number was sent to this node
@@ -18,8 +18,8 @@ pub record WentTo (letters : List Letter) (node : NodeId) (number : ℕ) : Type 
 abbrev pub AllWentTo : List Letter → NodeId → List ℕ → Type 0
 AllWentTo letters node = Every (WentTo letters node)
 
-abbrev pub AllWent : List Letter → List Held → Type 0
-AllWent letters = Every (λ (h : Held). WentTo letters h.to h.number)
+abbrev pub AllWent : List Letter → List HeldCopy → Type 0
+AllWent letters = Every (λ (h : HeldCopy). WentTo letters h.to h.number)
 
 -- the text is that of a message
 pub record HasText (letter : Letter) : Type 0 where

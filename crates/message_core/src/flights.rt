@@ -10,7 +10,7 @@ ghost use Rattle.message_core.specs.Arrivals.{Arrives};
 ghost use Rattle.message_core.specs.Parts.{state_of};
 
 use crate::holds::{Holds, hold_until, release};
-use crate::letters::{Arrival, Held, Letter, arrival_of, forget_last, letter_for};
+use crate::letters::{Arrival, HeldCopy, Letter, arrival_of, forget_last, letter_for};
 use crate::queues::{
     Queues, are_empty, arrive, close_queue, drop_front, empty_queues, front_of, put_in,
 };
@@ -53,7 +53,7 @@ fn place(
     queues: &mut Queues,
     held: &mut Holds,
     ticks: u64,
-    copy: Held,
+    copy: HeldCopy,
     fate: Fate,
 ) -> Result<(), AllocError>
     ensures queued { OnOk result ((n : NodeId) → queue_in queues.new.entries n ≡ (if (fate.hold == 0) && same_node copy.to n then option_map (puts (copies_of fate) copy.number fate.overtake) (queue_in queues.old.entries n) else queue_in queues.old.entries n)) }
@@ -115,7 +115,7 @@ impl Flight {
         let number = self.next_number()?;
         self.letters
             .push(letter_for(self.alloc, from, to, message)?)?;
-        let copy = Held { number, to };
+        let copy = HeldCopy { number, to };
         if let Err(failed) = place(
             self.alloc,
             &mut self.queues,

@@ -1,19 +1,19 @@
 ghost use Rattle.std.specs.Prelude.{◌≡◌, ◌==◌, ◌++◌, [], ℕ, OnOk, OnErr, replicate, if◌then◌else◌};
 ghost use Rattle.message_core.specs.Queues.{held_in};
 
-use crate::letters::Held;
+use crate::letters::HeldCopy;
 use std::alloc::{AllocError, Global};
 use std::collections::BTreeMap;
 
 /// The held copies by the tick that they wait for, in order of number.
-pub type Holds = BTreeMap<u64, Vec<Held>>;
+pub type Holds = BTreeMap<u64, Vec<HeldCopy>>;
 
 // So many copies wait for a tick.
 pub fn hold_until(
     alloc: Global,
     held: &mut Holds,
     due: u64,
-    copy: Held,
+    copy: HeldCopy,
     copies: u8,
 ) -> Result<(), AllocError>
     ensures ok { OnOk result ((d : ℕ) → held_in held.new.entries d ≡ (if due == d then held_in held.old.entries d ++ replicate copies copy else held_in held.old.entries d)) }

@@ -10,7 +10,7 @@ ghost use Rattle.message_form.specs.Messages.{IsMessage, message_bytes};
 ghost use Rattle.message_core.specs.Senders.{letter_of, AllInRange};
 ghost use Rattle.pseudo_time.specs.declared.nodes.NodeId.{NodeId};
 ghost use Rattle.message_core.specs.Flights.{State, Call, step, start, flown, waiting, sent, taken, passed, was_shut};
-ghost use Rattle.message_core.specs.Tallies.{Ledger, Sending, Tallied, IsDue, count, noted, blank_ledger, all_noted};
+ghost use Rattle.message_core.specs.Tallies.{Tally, Posted, Tallied, IsDue, count, noted, blank_tally, all_noted};
 
 use message_form::messages_apart;
 
@@ -19,11 +19,11 @@ use message_form::messages_apart;
 /// node is up. A front copy is due and was taken fewer times than its message has copies; where a
 /// queue is empty, all copies that are due were taken.
 pub fn copies_counted()
-    ensures start { (nodes : List NodeId) → Tallied (start nodes) blank_ledger }
-    ensures step { (s : State) (l : Ledger) (call : Call) → Tallied s l → Tallied (step s call) (noted s l call) }
-    ensures front { (s : State) (l : Ledger) → Tallied s l → (n : NodeId) (k : ℕ) (rest : List ℕ) → waiting s n ≡ k ∷ rest → (x : Sending) × IsDue s l n k x × (count k l.taken < copies_of x.fate) }
-    ensures empty { (s : State) (l : Ledger) → Tallied s l → (n : NodeId) (k : ℕ) (x : Sending) → s.queues n ≡ Some [] → IsDue s l n k x → count k l.taken ≡ copies_of x.fate }
-    ensures whole { (nodes : List NodeId) (calls : List Call) → Tallied (flown (start nodes) calls) (all_noted (start nodes) blank_ledger calls) }
+    ensures start { (nodes : List NodeId) → Tallied (start nodes) blank_tally }
+    ensures step { (s : State) (l : Tally) (call : Call) → Tallied s l → Tallied (step s call) (noted s l call) }
+    ensures front { (s : State) (l : Tally) → Tallied s l → (n : NodeId) (k : ℕ) (rest : List ℕ) → waiting s n ≡ k ∷ rest → (x : Posted) × IsDue s l n k x × (count k l.taken < copies_of x.fate) }
+    ensures empty { (s : State) (l : Tally) → Tallied s l → (n : NodeId) (k : ℕ) (x : Posted) → s.queues n ≡ Some [] → IsDue s l n k x → count k l.taken ≡ copies_of x.fate }
+    ensures whole { (nodes : List NodeId) (calls : List Call) → Tallied (flown (start nodes) calls) (all_noted (start nodes) blank_tally calls) }
 {}
 
 /// A law: just the nodes of the run have a queue, each until it is shut.

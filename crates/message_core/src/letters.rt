@@ -18,7 +18,7 @@ pub struct Letter {
 
 /// A copy that waits for a tick: the number of its message, and the node that it goes to.
 #[derive(Clone, Copy, Debug, PartialEq, Eq)]
-pub struct Held {
+pub struct HeldCopy {
     pub number: u32,
     pub to: NodeId,
 }

@@ -3,13 +3,13 @@ ghost use Rattle.std.specs.Option.{option_map, unwrap_or};
 ghost use Rattle.std.specs.List.{list_any};
 ghost use Rattle.std.specs.VecDeque.{deque_len, deque_capacity};
 ghost use Rattle.pseudo_time.specs.declared.nodes.NodeId.{NodeId};
-ghost use Rattle.message_core.specs.declared.letters.Held.{Held};
+ghost use Rattle.message_core.specs.declared.letters.HeldCopy.{HeldCopy};
 ghost use Rattle.pseudo_time.specs.Nodes.{same_node};
 ghost use Rattle.message_core.specs.Flights.{put, puts};
 ghost use Rattle.message_core.specs.Queues.{queue_in, held_in, Grew};
 
 use crate::holds::Holds;
-use crate::letters::Held;
+use crate::letters::HeldCopy;
 use pseudo_time::NodeId;
 use std::alloc::{AllocError, Global};
 use std::collections::{BTreeMap, VecDeque};
@@ -74,7 +74,7 @@ pub fn put_in(
 }
 
 // A copy goes to the end of its queue, if its node is up.
-fn add(queues: &mut Queues, copy: Held) -> Result<(), AllocError>
+fn add(queues: &mut Queues, copy: HeldCopy) -> Result<(), AllocError>
     ensures ok { OnOk result (Grew (copy ∷ []) (queue_in queues.old.entries) (queue_in queues.new.entries)) }
     ensures err { OnErr result ((n : NodeId) → queue_in queues.new.entries n ≡ queue_in queues.old.entries n) }
 {
@@ -92,8 +92,8 @@ fn drop_last(queue: &mut VecDeque<u32>)
 }
 
 // Takes the copy at the end of its queue away again.
-fn take_back(queues: &mut Queues, copy: Held)
-    ensures { (before : NodeId → Option (List ℕ)) (earlier : List Held) → Grew (earlier ++ copy ∷ []) before (queue_in queues.old.entries) → Grew earlier before (queue_in queues.new.entries) }
+fn take_back(queues: &mut Queues, copy: HeldCopy)
+    ensures { (before : NodeId → Option (List ℕ)) (earlier : List HeldCopy) → Grew (earlier ++ copy ∷ []) before (queue_in queues.old.entries) → Grew earlier before (queue_in queues.new.entries) }
 {
     if let Some(queue) = queues.get_mut(&copy.to) {
         drop_last(queue);
@@ -101,7 +101,7 @@ fn take_back(queues: &mut Queues, copy: Held)
 }
 
 // These copies go to the ends of their queues, in order, each whose node is up.
-fn spread(queues: &mut Queues, copies: &[Held]) -> Result<(), AllocError>
+fn spread(queues: &mut Queues, copies: &[HeldCopy]) -> Result<(), AllocError>
     ensures ok { OnOk result (Grew copies.now (queue_in queues.old.entries) (queue_in queues.new.entries)) }
     ensures err { OnErr result ((n : NodeId) → queue_in queues.new.entries n ≡ queue_in queues.old.entries n) }
 {
@@ -126,7 +126,7 @@ pub fn arrive(queues: &mut Queues, held: &Holds, tick: u64) -> Result<(), AllocE
 }
 
 // Takes these copies away from the ends of their queues again, the last one first.
-fn gather(queues: &mut Queues, copies: &[Held])
+fn gather(queues: &mut Queues, copies: &[HeldCopy])
     ensures { (before : NodeId → Option (List ℕ)) → Grew copies.now before (queue_in queues.old.entries) → Grew [] before (queue_in queues.new.entries) }
 {
     for back in 0..copies.len() {

@@ -16,7 +16,7 @@ use Rattle.version_store.specs.Filling.{HasPrefix, filling}
 use Rattle.version_store.specs.Storage.{storage}
 use Rattle.world_core.specs.declared.entries.Entry.TheVariants.{Gate}
 use Rattle.world_core.specs.Nodes.{leaves}
-use Rattle.world_core.specs.Walks.{Base, Life, Flags, World, whole, gated_life}
+use Rattle.world_core.specs.Walks.{Base, Life, Flags, World, all_effects, gated_life}
 use Rattle.wire_core.specs.Changes.{owed}
 use Rattle.wire_lock.specs.Decisions.{Decided}
 use Rattle.wire_lock.specs.Sights.{Sight, base_at, world_at, life_at, flags_at, IsOf, Looked, Gated, closed}
@@ -144,5 +144,5 @@ module _ {K M : Type 0} {tells : Bool} {parts : K → CoreParts M} {fits : Base 
         }
 
 -- what a gate has to send is what leaves of the draft
-pub owed-is : (k : Sight) (n : NodeId) (outs all : List Out) → outs ≡ (life_at k n).outs → all ≡ filter (leaves (whole (life_at k n))) outs → all ≡ owed (world_at k) n
-owed-is k n outs all o is = is ∙ ap (filter (leaves (whole (life_at k n)))) o
+pub owed-is : (k : Sight) (n : NodeId) (outs all : List Out) → outs ≡ (life_at k n).outs → all ≡ filter (leaves (all_effects (life_at k n))) outs → all ≡ owed (world_at k) n
+owed-is k n outs all o is = is ∙ ap (filter (leaves (all_effects (life_at k n)))) o

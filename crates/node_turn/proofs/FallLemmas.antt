@@ -37,7 +37,7 @@ pub looked-none : (k : Sight) → Owns k → Looked k k
 looked-none k owns = looked-of k k k.story owns refl (record { begins = ([], append-nil k.story); own = owns })
 
 -- a cause says the same of the same life
-cause-same : {M : Type 0} (tells : Bool) (pages : M → ℕ) (reads : M → Image) (cause : DownCause) (m : M) (l x : Life) → (IsTrue tells → x ≡ l) → IsCause tells pages reads cause m l → IsCause tells pages reads cause m x
+pub cause-same : {M : Type 0} (tells : Bool) (pages : M → ℕ) (reads : M → Image) (cause : DownCause) (m : M) (l x : Life) → (IsTrue tells → x ≡ l) → IsCause tells pages reads cause m l → IsCause tells pages reads cause m x
 cause-same tells pages reads down.Medium m l x e h = tt
 cause-same tells pages reads (down.Damaged page) m l x e h = h
 cause-same tells pages reads (down.Full number) m l x e h = (h.0, λ t. subst (λ (y : Life). count_by is_blank (reads m) < length (filling y.fresh)) (sym (e t)) (h.1 t))

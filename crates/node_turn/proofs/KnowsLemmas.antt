@@ -20,13 +20,13 @@ use Rattle.object_history.specs.Answers.{read_step}
 use Rattle.serial_model.specs.Questions.{Tree}
 use Rattle.repository_log.specs.Logs.{knows, known, is_for, decided_by, marks}
 use Rattle.repository_log.proofs.MarkLemmas.{knows-known}
-use Rattle.repository_core.specs.declared.waits.Held.{Held}
+use Rattle.repository_core.specs.declared.waits.HeldRead.{HeldRead}
 use Rattle.repository_core.specs.Hands.{Hand, now, note, Mind as HandMind}
 use Rattle.repository_core.specs.Rows.{read_as, read_known, on_read, reread, release, learn_as, on_learn, unhold, hold, ask_for, waits_for}
 use Rattle.repository_core.specs.Turns as hands
 use Rattle.world_core.specs.Nodes.{Mind, gives, kind_gives}
 use Rattle.world_core.specs.Nodes.Input.{Learning}
-use Rattle.world_core.specs.Walks.{Base, Life, whole, told}
+use Rattle.world_core.specs.Walks.{Base, Life, all_effects, after_input}
 
 or-right : (a b : Bool) → b ≡ true → (a || b) ≡ true
 or-right true b h = refl
@@ -82,7 +82,7 @@ longer-asks : (t : Bool) (h g k : Hand) → Longer h g → Longer h k → Longer
 longer-asks true h g k p q = p
 longer-asks false h g k p q = q
 
-longer-read : (before : List (TimeParts × Held)) (h : Hand) (from : NodeId) (t : TimeParts) (o : ObjectId) (r : ReadStep) → Longer h (read_as before h from t o r)
+longer-read : (before : List (TimeParts × HeldRead)) (h : Hand) (from : NodeId) (t : TimeParts) (o : ObjectId) (r : ReadStep) → Longer h (read_as before h from t o r)
 longer-read before h from t o (read.Answer v true) = record { base = refl; more = effect.Stretch o t ∷ []; fresh = refl }
 longer-read before h from t o (read.Answer v false) = longer-none h (read_as before h from t o (read.Answer v false)) refl refl
 longer-read before h from t o (read.Wait w) = longer-asks ((w.home == h.number) || waits_for w before) h _ _ (longer-none h _ refl refl) (longer-none h _ refl refl)
@@ -96,7 +96,7 @@ longer-on-read : (h : Hand) (from : NodeId) (t : TimeParts) (o : ObjectId) → L
 unfolding on_read
 longer-on-read h from t o = longer-known h from t o (known (now h) t.stamp)
 
-longer-reread : (es : List (TimeParts × Held)) (h : Hand) → Longer h (reread es h)
+longer-reread : (es : List (TimeParts × HeldRead)) (h : Hand) → Longer h (reread es h)
 longer-reread [] h = longer-none h h refl refl
 longer-reread (e ∷ es) h = longer-joins h (on_read h e.1.from e.0 e.1.object) _ (longer-on-read h e.1.from e.0 e.1.object) (longer-reread es (on_read h e.1.from e.0 e.1.object))
 
@@ -142,5 +142,5 @@ unfolding gives
 gives-knows b n log mind s c h = kind-knows b.script b.run b.acts n.kind n.number log mind s c h
 
 -- a repository that learned how an attempt was decided knows the attempt
-pub told-knows : (b : Base) (n : NodeId) (l : Life) (s : StampParts) (c : Bool) → is_broker n.kind ≡ false → knows (whole (told b n l (Learning s c))) s ≡ true
-told-knows b n l s c h = subst (λ x. knows x s ≡ true) (append_assoc l.gated l.fresh (gives b.script b.run b.acts n (whole l) l.mind (Learning s c)).effects) (gives-knows b n (whole l) l.mind s c h)
+pub told-knows : (b : Base) (n : NodeId) (l : Life) (s : StampParts) (c : Bool) → is_broker n.kind ≡ false → knows (all_effects (after_input b n l (Learning s c))) s ≡ true
+told-knows b n l s c h = subst (λ x. knows x s ≡ true) (append_assoc l.gated l.fresh (gives b.script b.run b.acts n (all_effects l) l.mind (Learning s c)).effects) (gives-knows b n (all_effects l) l.mind s c h)

@@ -8,3 +8,4 @@ pub mod AppendLemmas
 pub mod DueLemmas
 pub mod FallLemmas
 pub mod PageLemmas
+pub mod NodeLemmas

@@ -21,7 +21,7 @@ use Rattle.object_history.specs.Causes.{IsNotDamage}
 use Rattle.version_store.specs.Storage.{storage}
 use Rattle.world_core.specs.declared.entries.Entry.{Entry}
 use Rattle.world_core.specs.Nodes.{Input}
-use Rattle.world_core.specs.Walks.{Base, Life, Flags, World, told, whole, walk, went, learned, with_due}
+use Rattle.world_core.specs.Walks.{Base, Life, Flags, World, after_input, all_effects, walk, went, learned, with_due}
 use Rattle.wire_core.specs.Wires.{WireParts, base_from}
 use Rattle.wire_core.specs.declared.takens.Taken.{Taken}
 use Rattle.wire_lock.specs.Sights.{Sight, origin_in, base_at, life_at, flags_at, given, IsOf, IsAsBefore, Looked, Added, Visited, Tested, TakesOne}
@@ -53,6 +53,11 @@ pub learned-up : (kind : NodeKind) (f : Flags) (gone due : Bool) → is_broker k
 learned-up Repository f gone due h e = ap with_due e
 learned-up Broker f gone due h e = absurd (cc h)
 
+-- a node that went now, or before
+pub either-gone : (a b : Bool) → b ≡ true → (a || b) ≡ true
+either-gone true b h = refl
+either-gone false b h = h
+
 -- ---- lives
 
 -- an image of the durable log has none of the new effects
@@ -65,8 +70,8 @@ kept-none l c log e is = record {
 
 -- a node after an input, by what its core gave
 pub has-told : (b : Base) (n : NodeId) (d : DraftParts) (lives lives' : Life → Type 0) (images images' : Image → Type 0) (l : Life) (input : Input) (t : Turn)
-    → HasLife b n d lives images l → HasTurn (given_for b n l input) t → lives' (told b n l input) → NoMore images images'
-    → HasLife b n (record { durable = d.durable; effects = d.effects ++ t.effects; outs = d.outs ++ t.outs }) lives' images' (told b n l input)
+    → HasLife b n d lives images l → HasTurn (given_for b n l input) t → lives' (after_input b n l input) → NoMore images images'
+    → HasLife b n (record { durable = d.durable; effects = d.effects ++ t.effects; outs = d.outs ++ t.outs }) lives' images' (after_input b n l input)
 has-told b n d lives lives' images images' l input t h turn now fewer = record {
   core = now;
   durable = h.durable;
@@ -164,7 +169,7 @@ module _ {K M : Type 0} {tells : Bool} {parts : K → CoreParts M} {fits : Base 
     f : Follows n k k'
     f = follows-added n v.added
 
-    here : (t : IsTrue tells) → life_at k' n ≡ told (base_at k) n (life_at k n) input
+    here : (t : IsTrue tells) → life_at k' n ≡ after_input (base_at k) n (life_at k n) input
     here t = v.lives t
 
     -- the input was given, and the turn is added to the draft
@@ -181,12 +186,12 @@ module _ {K M : Type 0} {tells : Bool} {parts : K → CoreParts M} {fits : Base 
       life = λ t.
           let b : Base = base_at k in
           let l : Life = life_at k n in
-          let gave : HasTurn (given_for b (parts old).node l input) turn × lives b new (told b (parts old).node l input) =
-          if-ok result turn (λ x. HasTurn (given_for b (parts old).node l input) x × lives b new (told b (parts old).node l input)) ok (g.gave t b l u.run (u.life t).core) in
-          let at : HasTurn (given_for b n l input) turn × lives b new (told b n l input) =
-          subst (λ (m : NodeId). HasTurn (given_for b m l input) turn × lives b new (told b m l input)) u.node gave in
+          let gave : HasTurn (given_for b (parts old).node l input) turn × lives b new (after_input b (parts old).node l input) =
+          if-ok result turn (λ x. HasTurn (given_for b (parts old).node l input) x × lives b new (after_input b (parts old).node l input)) ok (g.gave t b l u.run (u.life t).core) in
+          let at : HasTurn (given_for b n l input) turn × lives b new (after_input b n l input) =
+          subst (λ (m : NodeId). HasTurn (given_for b m l input) turn × lives b new (after_input b m l input)) u.node gave in
           let d' : DraftParts = record { durable = d.durable; effects = d.effects ++ turn.effects; outs = d.outs ++ turn.outs } in
-          let has : HasLife b n d' (lives b new) (may_leave (parts new).medium) (told b n l input) =
+          let has : HasLife b n d' (lives b new) (may_leave (parts new).medium) (after_input b n l input) =
           has-told b n d (lives b old) (lives b new) (may_leave (parts old).medium) (may_leave (parts new).medium) l input turn (u.life t) at.0 at.1 (g.images t) in
           subst (λ (c : Base). HasLife c n d' (lives c new) (may_leave (parts new).medium) (life_at k' n)) (sym f.base) (subst (HasLife b n d' (lives b new) (may_leave (parts new).medium)) (sym (here t)) has);
     }
@@ -268,12 +273,12 @@ module _ {K M : Type 0} {tells : Bool} {parts : K → CoreParts M} {fits : Base 
 -- ---- logs that grow within a turn
 
 -- the log of a node whose pass saw more of others
-pub log-same : (k k' : Sight) (n : NodeId) → life_at k' n ≡ life_at k n → (more : List Effect) × (whole (life_at k' n) ≡ whole (life_at k n) ++ more)
-log-same k k' n e = ([], ap whole e ∙ sym (append-nil (whole (life_at k n))))
+pub log-same : (k k' : Sight) (n : NodeId) → life_at k' n ≡ life_at k n → (more : List Effect) × (all_effects (life_at k' n) ≡ all_effects (life_at k n) ++ more)
+log-same k k' n e = ([], ap all_effects e ∙ sym (append-nil (all_effects (life_at k n))))
 
 -- an input's effects join it
-pub log-told : (b : Base) (n : NodeId) (l x : Life) (input : Input) → x ≡ told b n l input → (more : List Effect) × (whole x ≡ whole l ++ more)
-log-told b n l x input e = ((given_for b n l input).effects, ap whole e ∙ sym (append_assoc l.gated l.fresh (given_for b n l input).effects))
+pub log-told : (b : Base) (n : NodeId) (l x : Life) (input : Input) → x ≡ after_input b n l input → (more : List Effect) × (all_effects x ≡ all_effects l ++ more)
+log-told b n l x input e = ((given_for b n l input).effects, ap all_effects e ∙ sym (append_assoc l.gated l.fresh (given_for b n l input).effects))
 
 pub log-joins : (a b c : List Effect) → (more : List Effect) × (b ≡ a ++ more) → (more : List Effect) × (c ≡ b ++ more) → (more : List Effect) × (c ≡ a ++ more)
 log-joins a b c p q = (p.0 ++ q.0, q.1 ∙ (ap (λ l. l ++ q.0) p.1 ∙ append_assoc a p.0 q.0))

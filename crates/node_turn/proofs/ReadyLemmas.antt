@@ -25,7 +25,7 @@ use Rattle.broker_laws.proofs.ReadyLemmas.{no-fault, fault-none}
 use Rattle.broker_laws.proofs.TurnLemmas.{turn-added}
 use Rattle.world_core.specs.Nodes.{Mind, Input, Given, gives, kind_gives, broker_gives, is_ready, kind_ready, broker_ready, acts_of}
 use Rattle.world_core.specs.Nodes.Input.{Going, Taking, Learning, Hearing}
-use Rattle.world_core.specs.Walks.{Base, Life, whole, told, with_given}
+use Rattle.world_core.specs.Walks.{Base, Life, all_effects, after_input, with_given}
 use Rattle.node_turn.specs.Cores.{IsReady, given_for}
 use Rattle.node_turn.specs.Lives.{StaysReady, AskNobody}
 
@@ -99,7 +99,7 @@ unfolding gives is_ready
 ready-gives b n log mind input kept h = kind-ready b.script b.run b.acts n.kind n.number log mind input kept h
 
 -- over any new effects that were there before
-pub ready-told : (b : Base) (n : NodeId) (l : Life) (input : Input) → StaysReady b n l → StaysReady b n (told b n l input)
+pub ready-told : (b : Base) (n : NodeId) (l : Life) (input : Input) → StaysReady b n l → StaysReady b n (after_input b n l input)
 ready-told b n l input r kept = ⊎_elim few many (cases_lt kept (length l.fresh))
   where
     new : List Effect
@@ -113,11 +113,11 @@ ready-told b n l input r kept = ⊎_elim few many (cases_lt kept (length l.fresh
         let m : ℕ = kept - length l.fresh in
         let k : length l.fresh + m ≡ kept = omega (arith, le) in
         let t : take kept (l.fresh ++ new) ≡ l.fresh ++ take m new = subst (λ j. take j (l.fresh ++ new) ≡ l.fresh ++ take m new) k (take-append-add l.fresh new m) in
-        let all : IsReady b n (whole l) = subst (λ es. IsReady b n (l.gated ++ es)) (take_all (length l.fresh) l.fresh (omega arith)) (r (length l.fresh)) in
-        let next : IsReady b n (whole l ++ take m new) = ready-gives b n (whole l) l.mind input m all in
+        let all : IsReady b n (all_effects l) = subst (λ es. IsReady b n (l.gated ++ es)) (take_all (length l.fresh) l.fresh (omega arith)) (r (length l.fresh)) in
+        let next : IsReady b n (all_effects l ++ take m new) = ready-gives b n (all_effects l) l.mind input m all in
         subst (IsReady b n) (append_assoc l.gated l.fresh (take m new) ∙ ap (λ es. l.gated ++ es) (sym t)) next
 
-pub ready-whole : (b : Base) (n : NodeId) (l : Life) → StaysReady b n l → IsReady b n (whole l)
+pub ready-whole : (b : Base) (n : NodeId) (l : Life) → StaysReady b n l → IsReady b n (all_effects l)
 ready-whole b n l r = subst (λ es. IsReady b n (l.gated ++ es)) (take_all (length l.fresh) l.fresh (omega arith)) (r (length l.fresh))
 
 -- a log that is durable, and nothing new
@@ -139,5 +139,5 @@ asks-gives : (b : Base) (n : NodeId) (log : List Effect) (mind : Mind) (input : 
 unfolding gives
 asks-gives b n log mind input h = kind-asks b.script b.run b.acts n.kind n.number log mind input h
 
-pub asks-told : (b : Base) (n : NodeId) (l : Life) (input : Input) → (is_broker n.kind ≡ true → AskNobody l.outs) → is_broker n.kind ≡ true → AskNobody (told b n l input).outs
-asks-told b n l input before h = every-append (λ (out : Out). AsksNobody out.message) l.outs (given_for b n l input).outs (before h) (asks-gives b n (whole l) l.mind input h)
+pub asks-told : (b : Base) (n : NodeId) (l : Life) (input : Input) → (is_broker n.kind ≡ true → AskNobody l.outs) → is_broker n.kind ≡ true → AskNobody (after_input b n l input).outs
+asks-told b n l input before h = every-append (λ (out : Out). AsksNobody out.message) l.outs (given_for b n l input).outs (before h) (asks-gives b n (all_effects l) l.mind input h)

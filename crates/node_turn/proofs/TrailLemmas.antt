@@ -12,7 +12,7 @@ use Rattle.seat_lock.specs.Words.{CarriesOn}
 use Rattle.world_core.specs.declared.entries.Entry.{Entry}
 use Rattle.world_core.specs.declared.entries.Entry.TheVariants.{Take, Go, Learn, Hear, Gate, Crash, Down, Tick}
 use Rattle.world_core.specs.Nodes.{leaves}
-use Rattle.world_core.specs.Walks.{Base, Life, Flags, World, names, own, whole, start_world, step, walk_from, walk}
+use Rattle.world_core.specs.Walks.{Base, Life, Flags, World, names, own, all_effects, start_world, step, walk_from, walk}
 use Rattle.world_core.proofs.Lives.{walk-append}
 use Rattle.world_core.proofs.Others.{Silent, silent-more}
 use Rattle.wire_core.specs.Boards.{owner_of, place_of}
@@ -22,6 +22,7 @@ use Rattle.wire_lock.specs.Sights.{Sight, origin_in, base_at, world_at, life_at,
 use Rattle.wire_core.specs.Wires.{WireParts, base_from}
 use Rattle.wire_lock.proofs.SightLemmas.{own-same}
 use Rattle.node_turn.specs.Costs.{cost_of, costs}
+use Rattle.node_turn.specs.Nodes.{Grew}
 use Rattle.node_turn.specs.Trails.{gates, sent_from, learned_by, learned_in, Trail}
 
 -- ---- what is sent
@@ -117,7 +118,7 @@ trail-added n {old} {new} {e} learned cost is owns quiet ls cs a = record {
 }
 
 abbrev owed_by : Life → List Out
-owed_by l = filter (leaves (whole l)) l.outs
+owed_by l = filter (leaves (all_effects l)) l.outs
 
 -- what a gate sends is what was owed
 pub trail-gated : {tells : Bool} (n : NodeId) {old new : Sight} {life : Life} {flags : Flags} {ds : List Decided} → IsOf n old → Owns old → Gated tells n old new (Gate n) life flags ds
@@ -181,3 +182,19 @@ trail-joins {n} {a} {b} {c} {s1} {s2} {l1} {l2} {t1} {t2} {c1} {c2} p q = record
 
 pub trail-cost : {n : NodeId} {a b : Sight} {s : List Out} {l : List Decided} {t : List (ℕ × ℕ)} {c : ℕ} → Trail n a b s l t c → costs b.own ≡ costs a.own + c
 trail-cost {n} {a} {b} {s} {l} {t} {c} p = let h = costs-append a.own p.own in ap costs p.adds ∙ omega (arith, h, p.paid)
+
+-- an entry was added
+pub grew-added : {old new : Sight} {e : Entry} → Added old new e → Grew old.own new.own
+grew-added {old} {new} {e} a = (e, [], ap (λ (k : Sight). k.own) a.kept)
+
+-- and then maybe more
+pub grew-more : {a b c : List Entry} → Grew a b → (more : List Entry) × (c ≡ b ++ more) → Grew a c
+grew-more {a} {b} {c} g m = (g.0, g.1 ++ m.0, m.1 ∙ (ap (λ l. l ++ m.0) g.2 ∙ append_assoc a (g.0 ∷ g.1) m.0))
+
+-- or before
+pub more-grew : {a b c : List Entry} → (more : List Entry) × (b ≡ a ++ more) → Grew b c → Grew a c
+more-grew {a} {b} {c} m g = go m.0 m.1
+  where
+    go : (more : List Entry) → b ≡ a ++ more → Grew a c
+    go [] e = (g.0, g.1, g.2 ∙ ap (λ l. l ++ g.0 ∷ g.1) (e ∙ append-nil a))
+    go (x ∷ more) e = (x, more ++ g.0 ∷ g.1, g.2 ∙ (ap (λ l. l ++ g.0 ∷ g.1) e ∙ append_assoc a (x ∷ more) (g.0 ∷ g.1)))

@@ -17,7 +17,7 @@ use Rattle.version_store.specs.declared.faults.OpenFault.TheVariants as opening
 use Rattle.version_store.specs.Filling.{HasPrefix, KeepsPages, StaysClean, filling}
 use Rattle.version_store.specs.Storage.{storage}
 use Rattle.world_core.specs.Nodes.{Input, Given, gives, is_ready}
-use Rattle.world_core.specs.Walks.{Base, Life, whole, opened_life, gated_life, told}
+use Rattle.world_core.specs.Walks.{Base, Life, all_effects, opened_life, gated_life, after_input}
 
 -- a core, as contracts see it beside its life
 pub record CoreParts (M : Type 0) : Type 0 where
@@ -32,7 +32,7 @@ LeavesLog images log = (c : Image) → images c → storage c ≡ Ok log
 
 -- what the rules give a node of this life for an input
 abbrev pub given_for : Base → NodeId → Life → Input → Given
-given_for b n l input = gives b.script b.run b.acts n (whole l) l.mind input
+given_for b n l input = gives b.script b.run b.acts n (all_effects l) l.mind input
 
 -- the turn has the effects and the messages that were given
 abbrev pub HasTurn : Given → Turn → Type 0
@@ -58,7 +58,7 @@ module _ {K M : Type 0} (tells : Bool) (parts : K → CoreParts M) (fits : Base 
   pub record IsGiven (old new : K) (input : Input) (result : Result Turn HistoryFault) : Type 0 where
     pub same : StaysOwn old new
     pub able : OnOk result ((parts new).able ≡ true)
-    pub gave : IsTrue tells → (b : Base) (l : Life) → fits b old → lives b old l → IfOk result (λ t. HasTurn (given_for b (parts old).node l input) t × lives b new (told b (parts old).node l input))
+    pub gave : IsTrue tells → (b : Base) (l : Life) → fits b old → lives b old l → IfOk result (λ t. HasTurn (given_for b (parts old).node l input) t × lives b new (after_input b (parts old).node l input))
     pub owed : (es : List Effect) → owes old es → IfOk result (λ t. owes new (es ++ t.effects))
     pub in_range : IfOk result (λ t. AreEffects t.effects × AreOuts t.outs)
     pub still : IsTrue tells → reads (parts new).medium ≡ reads (parts old).medium

@@ -48,6 +48,12 @@ IsCondition (Ok Quiet) c = c ≡ condition.AtWork
 IsCondition (Ok Stopped) c = (cause : DownCause) × (c ≡ condition.Down cause)
 IsCondition (Err e) c = c ≡ condition.Wanting
 
+-- the answer of a turn that left the node up says whether anything was due
+abbrev pub Answers : Bool → Turned → Type 0
+Answers quiet Worked = quiet ≡ false
+Answers quiet Quiet = quiet ≡ true
+Answers quiet Stopped = Unit {0}
+
 -- No entry was added, and the node has nothing to do but to take copies: none was due.
 pub record IsQuiet (n : NodeId) (old new : Sight) : Type 0 where
   pub same : new.own ≡ old.own

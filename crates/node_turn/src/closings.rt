@@ -9,7 +9,7 @@ ghost use Rattle.version_store.specs.declared.faults.StoreFault.TheVariants as a
 ghost use Rattle.version_store.specs.Filling.{KeepsPages, StaysClean};
 ghost use Rattle.seat_lock.specs.Words.{knows};
 ghost use Rattle.world_core.specs.Nodes.{leaves};
-ghost use Rattle.world_core.specs.Walks.{Base, Life, whole};
+ghost use Rattle.world_core.specs.Walks.{Base, Life, all_effects};
 ghost use Rattle.wire_core.specs.Changes.{owed};
 ghost use Rattle.wire_lock.specs.Decisions.{decided_by, decision_in};
 ghost use Rattle.wire_lock.specs.Sights.{IsWirePass, world_at};
@@ -34,7 +34,7 @@ use wire_lock::{SharedWire, WirePass};
 fn leaves<K: StoredCore<M>, M: Medium>(node: NodeId, core: &K, out: &Out) -> bool
     requires able { (K.parts core.now).able ≡ true }
     requires node { (K.parts core.now).node ≡ node }
-    ensures { IsTrue M.tells → (b : Base) (l : Life) → K.lives b core.now l → (is_broker node.kind ≡ true → AsksNobody out.now.message) → result ≡ leaves (whole l) out.now }
+    ensures { IsTrue M.tells → (b : Base) (l : Life) → K.lives b core.now l → (is_broker node.kind ≡ true → AsksNobody out.now.message) → result ≡ leaves (all_effects l) out.now }
 {
     if node.kind == NodeKind::Broker {
         return true;
@@ -55,7 +55,7 @@ fn add_leaving<K: StoredCore<M>, M: Medium>(
 ) -> Result<(), AllocError>
     requires able { (K.parts core.now).able ≡ true }
     requires node { (K.parts core.now).node ≡ node }
-    ensures leaving { IsTrue M.tells → (b : Base) (l : Life) → K.lives b core.now l → (is_broker node.kind ≡ true → AsksNobody out.now.message) → OnOk result (all.new.items ≡ all.old.items ++ filter (leaves (whole l)) (out.now ∷ [])) }
+    ensures leaving { IsTrue M.tells → (b : Base) (l : Life) → K.lives b core.now l → (is_broker node.kind ≡ true → AsksNobody out.now.message) → OnOk result (all.new.items ≡ all.old.items ++ filter (leaves (all_effects l)) (out.now ∷ [])) }
     ensures in_range { IsMessage out.now.message → AreOuts all.old.items → OnOk result (AreOuts all.new.items) }
 {
     if leaves(node, core, out) {
@@ -75,7 +75,7 @@ fn leaving<K: StoredCore<M>, M: Medium>(
     requires able { (K.parts core.now).able ≡ true }
     requires node { (K.parts core.now).node ≡ node }
     requires in_range { AreOuts outs.now }
-    ensures leaving { IsTrue M.tells → (b : Base) (l : Life) → K.lives b core.now l → (is_broker node.kind ≡ true → AskNobody outs.now) → IfOk result (λ all. all.items ≡ filter (leaves (whole l)) outs.now) }
+    ensures leaving { IsTrue M.tells → (b : Base) (l : Life) → K.lives b core.now l → (is_broker node.kind ≡ true → AskNobody outs.now) → IfOk result (λ all. all.items ≡ filter (leaves (all_effects l)) outs.now) }
     ensures in_range { IfOk result (λ all. AreOuts all.items) }
 {
     let mut all = Vec::new(alloc);

@@ -6,7 +6,7 @@ ghost use Rattle.effect_form.specs.declared.effects.Effect.{Effect};
 ghost use Rattle.turn_form.specs.Ranges.{AreEffects};
 ghost use Rattle.repository_log.specs.Logs.{knows};
 ghost use Rattle.world_core.specs.Nodes.Input.{Going, Taking, Learning, Hearing};
-ghost use Rattle.world_core.specs.Walks.{Base, Life, whole};
+ghost use Rattle.world_core.specs.Walks.{Base, Life, all_effects};
 ghost use Rattle.node_turn.specs.Cores.{CoreParts, IsGiven, IsAppended, IsReopened};
 
 use effect_form::Effect;
@@ -68,7 +68,7 @@ pub trait StoredCore<M: Medium>: Drop {
     fn knows(&self, stamp: Stamp) -> bool
         requires able { (parts self.now).able ≡ true }
         requires repository { is_broker (parts self.now).node.kind ≡ false }
-        ensures { IsTrue M.tells → (b : Base) (l : Life) → lives b self.now l → result ≡ knows (whole l) stamp };
+        ensures { IsTrue M.tells → (b : Base) (l : Life) → lives b self.now l → result ≡ knows (all_effects l) stamp };
 
     /// Adds the effects that it gave since its last append to the log on its medium.
     fn append(self, effects: &[Effect]) -> (Self, Result<(), StoreFault>)

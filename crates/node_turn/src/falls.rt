@@ -5,6 +5,7 @@ ghost use Rattle.wire_lock.specs.Sights.{IsWirePass, IsOf, Looked, Crashes, life
 ghost use Rattle.node_turn.specs.Lives.{IsStruck, IsCause, Keeps};
 ghost use Rattle.node_turn.specs.Costs.{costs, PaysFor, cost_of_cause};
 ghost use Rattle.node_turn.specs.Trails.{Trail};
+ghost use Rattle.node_turn.specs.Nodes.{Grew};
 
 use crate::conditions::Condition;
 use crate::cores::StoredCore;
@@ -85,6 +86,7 @@ pub fn open_anew<K: StoredCore<M>, F: Fates, C: Clock, M: Medium, R: Wait>(
     ensures trail { (cost : ℕ) × Trail node (knows pass) (knows result.0) [] [] [] cost }
     ensures paid { PaysFor (costs (knows pass).own + 1) (M.faults (K.parts core).medium) (costs (knows result.0).own) (M.faults (K.parts result.1.core).medium) }
     ensures dear { IsTrue M.tells → result.1.condition ≢ Condition.Wanting → costs (knows pass).own < costs (knows result.0).own }
+    ensures grew { result.1.condition ≡ Condition.AtWork → Grew (knows pass).own (knows result.0).own }
 {
     let (core, opened) = core.reopen(alloc);
     match opened {

@@ -5,7 +5,7 @@ ghost use Rattle.stream_port.specs.Causes.{Rose};
 ghost use Rattle.effect_form.specs.declared.effects.Effect.{Effect};
 ghost use Rattle.object_history.specs.declared.steps.HistoryFault.TheVariants as fault;
 ghost use Rattle.seat_lock.specs.Words.{knows};
-ghost use Rattle.world_core.specs.Walks.{whole};
+ghost use Rattle.world_core.specs.Walks.{all_effects};
 ghost use Rattle.wire_lock.specs.Sights.{IsWirePass, life_at};
 ghost use Rattle.node_turn.specs.Lives.{IsUp, IsAfter, IsUnwritten};
 ghost use Rattle.node_turn.specs.Trails.{Seeks, IsSought, AreSought, stamp_asked};
@@ -59,8 +59,8 @@ fn look_up<K: StoredCore<M>, F: Fates, C: Clock, M: Medium, R: Wait>(
     ensures pass { IsWirePass wire.now.lock result.0 }
     ensures up { OnOk result.1 (IsUp M.tells K.parts K.fits K.lives K.owes M.page_count M.reads M.may_leave core.new (knows result.0) node gone true draft.new) }
     ensures more { OnOk result.1 ((outs : List _) × (draft.new.outs ≡ draft.old.outs ++ outs)) }
-    ensures log { IsTrue M.tells → (more : List Effect) × (whole (life_at (knows result.0) node) ≡ whole (life_at (knows pass) node) ++ more) }
-    ensures seeks { Seeks node (knows pass) (knows result.0) (λ tests. OnOk result.1 (IsTrue M.tells → IsSought (whole (life_at (knows result.0) node)) stamp tests)) }
+    ensures log { IsTrue M.tells → (more : List Effect) × (all_effects (life_at (knows result.0) node) ≡ all_effects (life_at (knows pass) node) ++ more) }
+    ensures seeks { Seeks node (knows pass) (knows result.0) (λ tests. OnOk result.1 (IsTrue M.tells → IsSought (all_effects (life_at (knows result.0) node)) stamp tests)) }
     ensures err { IfErr result.1 (λ f. IsAfter M.tells K.parts K.fits K.lives K.owes M.page_count M.reads M.may_leave f core.new (knows result.0) node draft.old.durable) }
     ensures durable { draft.new.durable ≡ draft.old.durable }
     ensures unwritten { IsUnwritten M.tells M.faults M.reads (K.parts core.old).medium (K.parts core.new).medium }
@@ -99,8 +99,8 @@ fn look_up_asked<K: StoredCore<M>, F: Fates, C: Clock, M: Medium, R: Wait>(
     ensures pass { IsWirePass wire.now.lock result.0 }
     ensures up { OnOk result.1 (IsUp M.tells K.parts K.fits K.lives K.owes M.page_count M.reads M.may_leave core.new (knows result.0) node gone true draft.new) }
     ensures more { OnOk result.1 ((outs : List _) × (draft.new.outs ≡ draft.old.outs ++ outs)) }
-    ensures log { IsTrue M.tells → (more : List Effect) × (whole (life_at (knows result.0) node) ≡ whole (life_at (knows pass) node) ++ more) }
-    ensures seeks { Seeks node (knows pass) (knows result.0) (λ tests. OnOk result.1 (IsTrue M.tells → IfSome asked (λ s. IsSought (whole (life_at (knows result.0) node)) s tests))) }
+    ensures log { IsTrue M.tells → (more : List Effect) × (all_effects (life_at (knows result.0) node) ≡ all_effects (life_at (knows pass) node) ++ more) }
+    ensures seeks { Seeks node (knows pass) (knows result.0) (λ tests. OnOk result.1 (IsTrue M.tells → IfSome asked (λ s. IsSought (all_effects (life_at (knows result.0) node)) s tests))) }
     ensures err { IfErr result.1 (λ f. IsAfter M.tells K.parts K.fits K.lives K.owes M.page_count M.reads M.may_leave f core.new (knows result.0) node draft.old.durable) }
     ensures durable { draft.new.durable ≡ draft.old.durable }
     ensures unwritten { IsUnwritten M.tells M.faults M.reads (K.parts core.old).medium (K.parts core.new).medium }
@@ -127,7 +127,7 @@ pub fn look_up_all<K: StoredCore<M>, F: Fates, C: Clock, M: Medium, R: Wait>(
     requires up { IsUp M.tells K.parts K.fits K.lives K.owes M.page_count M.reads M.may_leave core.old (knows pass) node gone true draft.old }
     ensures pass { IsWirePass wire.now.lock result.0 }
     ensures up { OnOk result.1 (IsUp M.tells K.parts K.fits K.lives K.owes M.page_count M.reads M.may_leave core.new (knows result.0) node gone true draft.new) }
-    ensures seeks { Seeks node (knows pass) (knows result.0) (λ tests. OnOk result.1 (IsTrue M.tells → is_broker node.kind ≡ false → AreSought (whole (life_at (knows result.0) node)) draft.new.outs tests)) }
+    ensures seeks { Seeks node (knows pass) (knows result.0) (λ tests. OnOk result.1 (IsTrue M.tells → is_broker node.kind ≡ false → AreSought (all_effects (life_at (knows result.0) node)) draft.new.outs tests)) }
     ensures err { IfErr result.1 (λ f. IsAfter M.tells K.parts K.fits K.lives K.owes M.page_count M.reads M.may_leave f core.new (knows result.0) node draft.old.durable) }
     ensures durable { draft.new.durable ≡ draft.old.durable }
     ensures unwritten { IsUnwritten M.tells M.faults M.reads (K.parts core.old).medium (K.parts core.new).medium }

@@ -1,9 +1,9 @@
 //! A node: its core with its medium, and its pass.
-ghost use Rattle.std.specs.Prelude.{◌≡◌, false, IsTrue};
+ghost use Rattle.std.specs.Prelude.{◌≡◌, false, IsTrue, IfOk};
 ghost use Rattle.seat_lock.specs.Words.{knows};
 ghost use Rattle.wire_lock.specs.Sights.{IsWirePass, Looked, base_at, life_at};
 ghost use Rattle.node_turn.specs.Lives.{IsUp, no_draft};
-ghost use Rattle.node_turn.specs.Nodes.{TurnsTo, MeetsWith, IsAtRest, new_node, sight};
+ghost use Rattle.node_turn.specs.Nodes.{TurnsTo, MeetsWith, IsAtRest, IsCondition, Answers, new_node, sight};
 
 use crate::conditions::{Condition, Turned};
 use crate::cores::StoredCore;
@@ -43,6 +43,18 @@ impl<K: StoredCore<M>, F: Fates, C: Clock, M: Medium> Model for Node<K, F, C, M>
     ghost view = { λ n. record { node = n.node; condition = n.hand.condition; pass = n.pass; medium = (K.parts n.hand.core).medium } };
 
     ghost invariant = { λ n. Keeps M.tells K.parts K.fits K.lives K.owes M.page_count M.reads M.may_leave n.hand.condition n.hand.core (knows n.pass) n.node n.hand.gone n.hand.durable };
+}
+
+// What a turn answers, by how the node stands after it.
+fn answer(condition: Condition, quiet: bool) -> Result<Turned, AllocError>
+    ensures condition { IsCondition result condition }
+    ensures quiet { IfOk result (Answers quiet) }
+{
+    match condition {
+        Condition::Down { cause: _ } => Ok(Turned::Stopped),
+        Condition::Wanting => Err(AllocError),
+        Condition::AtWork => Ok(if quiet { Turned::Quiet } else { Turned::Worked }),
+    }
 }
 
 impl<K: StoredCore<M>, F: Fates, C: Clock, M: Medium> Node<K, F, C, M> {
@@ -107,11 +119,7 @@ impl<K: StoredCore<M>, F: Fates, C: Clock, M: Medium> Node<K, F, C, M> {
             ),
             Condition::AtWork => {
                 let (pass, hand, quiet) = work(alloc, rt, wire, node, hand, pass);
-                let turned = match hand.condition {
-                    Condition::Down { cause: _ } => Ok(Turned::Stopped),
-                    Condition::Wanting => Err(AllocError),
-                    Condition::AtWork => Ok(if quiet { Turned::Quiet } else { Turned::Worked }),
-                };
+                let turned = answer(hand.condition, quiet);
                 (
                     Node {
                         alloc,

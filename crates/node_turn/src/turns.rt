@@ -1,5 +1,5 @@
 //! The turn of a node that is up.
-ghost use Rattle.std.specs.Prelude.{◌≡◌, ◌≢◌, ◌≤◌, ◌<◌, ◌++◌, [], true, false, ℕ, List, IsTrue, MatchBool};
+ghost use Rattle.std.specs.Prelude.{◌≡◌, ◌≢◌, ◌||◌, ◌≤◌, ◌<◌, ◌++◌, [], true, false, ℕ, List, IsTrue, MatchBool};
 ghost use Rattle.stream_port.specs.Causes.{Rose};
 ghost use Rattle.pseudo_time.specs.Lists.{Has};
 ghost use Rattle.pseudo_time.specs.Nodes.{is_broker};
@@ -18,10 +18,10 @@ use crate::drafts::Draft;
 use crate::falls::{go_down, open_anew};
 use crate::hands::Hand;
 use crate::inputs::{begin, take_more};
-use crate::lookups::look_up_all;
+use crate::lookups::{is_broker, look_up_all};
 use medium_port::Medium;
 use object_history::HistoryFault;
-use pseudo_time::{DownCause, NodeId, NodeKind};
+use pseudo_time::{DownCause, NodeId};
 use std::alloc::Global;
 use std::sync::Wait;
 use stream_port::{Clock, Fates};
@@ -46,6 +46,7 @@ fn give_up<K: StoredCore<M>, F: Fates, C: Clock, M: Medium, R: Wait>(
     ensures trail { (cost : ℕ) × Trail node (knows pass) (knows result.0) [] [] [] cost }
     ensures paid { (before : ℕ) → (fault ≡ HistoryFault.Medium → Rose before (M.faults (K.parts core).medium)) → before ≤ M.faults (K.parts core).medium → PaysFor (costs (knows pass).own) before (costs (knows result.0).own) (M.faults (K.parts result.1.core).medium) }
     ensures dear { IsTrue M.tells → result.1.condition ≢ Condition.Wanting → costs (knows pass).own < costs (knows result.0).own }
+    ensures grew { result.1.condition ≡ Condition.AtWork → Grew (knows pass).own (knows result.0).own }
 {
     match fault {
         HistoryFault::NoMemory => (
@@ -105,29 +106,31 @@ fn end<K: StoredCore<M>, F: Fates, C: Clock, M: Medium, R: Wait>(
                 durable,
             },
         ),
-        Err(StoreFault::NoMemory) => (
-            pass,
-            Hand {
-                core,
-                condition: Condition::Wanting,
-                gone: false,
-                durable: 0,
-            },
-        ),
-        Err(StoreFault::Medium) => open_anew(alloc, rt, wire, node, durable, core, pass),
-        Err(StoreFault::Full { pages }) => {
-            let cause = DownCause::Full { pages };
-            let (pass, condition) = go_down(rt, wire, node, cause, durable, &core, pass);
-            (
+        Err(fault) => match fault {
+            StoreFault::NoMemory => (
                 pass,
                 Hand {
                     core,
-                    condition,
+                    condition: Condition::Wanting,
                     gone: false,
-                    durable,
+                    durable: 0,
                 },
-            )
-        }
+            ),
+            StoreFault::Medium => open_anew(alloc, rt, wire, node, durable, core, pass),
+            StoreFault::Full { pages } => {
+                let cause = DownCause::Full { pages };
+                let (pass, condition) = go_down(rt, wire, node, cause, durable, &core, pass);
+                (
+                    pass,
+                    Hand {
+                        core,
+                        condition,
+                        gone: false,
+                        durable,
+                    },
+                )
+            }
+        },
     }
 }
 
@@ -166,6 +169,13 @@ fn go_on<K: StoredCore<M>, F: Fates, C: Clock, M: Medium, R: Wait>(
     end(alloc, rt, wire, node, gone, core, &draft, pass)
 }
 
+// Whether a node that was at work for a visit has gone, if it is a broker.
+fn has_gone(node: NodeId, gone: bool) -> bool
+    ensures { result ≡ (gone || is_broker node.kind) }
+{
+    gone || is_broker(node)
+}
+
 /// One turn. True where nothing was due.
 pub fn work<K: StoredCore<M>, F: Fates, C: Clock, M: Medium, R: Wait>(
     alloc: Global,
@@ -182,7 +192,7 @@ pub fn work<K: StoredCore<M>, F: Fates, C: Clock, M: Medium, R: Wait>(
     ensures paid { PaysFor (costs (knows pass).own) (M.faults (K.parts hand.core).medium) (costs (knows result.0).own) (M.faults (K.parts result.1.core).medium) }
     ensures whole { IsTrue M.tells → result.1.condition ≢ Condition.Wanting → StaysWhole (costs (knows pass).own) (costs (knows result.0).own) (M.reads (K.parts hand.core).medium) (M.reads (K.parts result.1.core).medium) }
     ensures tested { IsTrue M.tells → is_broker node.kind ≡ false → HasTested node (knows pass) (knows result.0) }
-    ensures quiet { MatchBool result.2 (IsQuiet node (knows pass) (knows result.0) × (result.1.condition ≡ Condition.AtWork)) (Grew (knows pass).own (knows result.0).own) }
+    ensures quiet { MatchBool result.2 (IsQuiet node (knows pass) (knows result.0) × (result.1.condition ≡ Condition.AtWork)) (result.1.condition ≡ Condition.AtWork → Grew (knows pass).own (knows result.0).own) }
 {
     let Hand {
         mut core,
@@ -192,25 +202,27 @@ pub fn work<K: StoredCore<M>, F: Fates, C: Clock, M: Medium, R: Wait>(
     } = hand;
     let mut draft = Draft::new(alloc, durable);
     let (pass, begun) = begin(rt, wire, node, gone, &mut core, &mut draft, pass);
-    let gone = gone || node.kind == NodeKind::Broker;
+    let gone = has_gone(node, gone);
     match begun {
-        Ok(false) => (
-            pass,
-            Hand {
-                core,
-                condition: Condition::AtWork,
-                gone,
-                durable,
-            },
-            true,
-        ),
-        Ok(true) => {
-            let (pass, hand) = go_on(alloc, rt, wire, node, gone, core, draft, pass);
-            (pass, hand, false)
-        }
         Err(fault) => {
             let (pass, hand) = give_up(alloc, rt, wire, node, durable, fault, core, pass);
             (pass, hand, false)
+        }
+        Ok(started) => {
+            if started {
+                let (pass, hand) = go_on(alloc, rt, wire, node, gone, core, draft, pass);
+                return (pass, hand, false);
+            }
+            (
+                pass,
+                Hand {
+                    core,
+                    condition: Condition::AtWork,
+                    gone,
+                    durable,
+                },
+                true,
+            )
         }
     }
 }

@@ -13,7 +13,7 @@ use Rattle.object_history.specs.declared.steps.WriteStep.TheVariants as write
 use Rattle.object_history.specs.Objects.{same_object}
 use Rattle.object_history.specs.History.{Seen, settle_of, alive, version_count, sees, newest, place_of, same_place, top, stretched, reach}
 use Rattle.object_history.specs.Answers.{write_step}
-use Rattle.object_history.specs.Views.{Starts, Stands, Distinct, Fits, Grown}
+use Rattle.object_history.specs.Views.{Starts, IsVersion, Distinct, Fits, Grown}
 use Rattle.object_history.proofs.Words.{Passes, Ends, Low, AtMost}
 use Rattle.object_history.proofs.BoolLemmas.{and-both, and-right, not-false}
 use Rattle.object_history.proofs.ObjectLemmas.{same_object-of, eq-from}
@@ -27,7 +27,7 @@ more : (same : Bool) (n k : ℕ) → n < k → n < (if same then k + 1 else k)
 more true n k h = omega arith
 more false n k h = h
 
-stands-under : (o : ObjectId) (m : List Mark) (q : Seen) → Stands o m q → q.place < version_count o m
+stands-under : (o : ObjectId) (m : List Mark) (q : Seen) → IsVersion o m q → q.place < version_count o m
 unfolding version_count
 stands-under o [] q s = absurd s
 stands-under o (Put a x v ∷ m) q (inl s) = here (same_object a o) (same_object-of a o s.0)
@@ -39,13 +39,13 @@ stands-under o (Put a x v ∷ m) q (inr s) = more (same_object a o) q.place (ver
 stands-under o (Stretch a x ∷ m) q s = stands-under o m q s
 stands-under o (Settle t c ∷ m) q s = stands-under o m q s
 
-clash : (o : ObjectId) (m : List Mark) (p q : Seen) (x : TimeParts) (v : Value) → record { place = version_count o m; start = x; value = v } ≡ p → Stands o m q → p.place ≡ q.place → p ≡ q
+clash : (o : ObjectId) (m : List Mark) (p q : Seen) (x : TimeParts) (v : Value) → record { place = version_count o m; start = x; value = v } ≡ p → IsVersion o m q → p.place ≡ q.place → p ≡ q
 clash o m p q x v is s same =
     let under : q.place < version_count o m = stands-under o m q s in
     let at : version_count o m ≡ p.place = ap (λ z. z.place) is in
     absurd (omega arith)
 
-pub one-place : (o : ObjectId) (m : List Mark) (p q : Seen) → Stands o m p → Stands o m q → p.place ≡ q.place → p ≡ q
+pub one-place : (o : ObjectId) (m : List Mark) (p q : Seen) → IsVersion o m p → IsVersion o m q → p.place ≡ q.place → p ≡ q
 one-place o [] p q s t e = absurd s
 one-place o (Put a x v ∷ m) p q (inl s) (inl t) e = sym s.1 ∙ t.1
 one-place o (Put a x v ∷ m) p q (inl s) (inr t) e = clash o m p q x v s.1 t e
@@ -83,14 +83,14 @@ ends-later (Some e) y x h l = not-false (lt x e) (λ n. true≢false (sym (lt-tr
 -- ---- the order of reaches
 
 abbrev Living : ObjectId → List Mark → Seen → Type 0
-Living o m q = Stands o m q × (alive m q.start ≡ true)
+Living o m q = IsVersion o m q × (alive m q.start ≡ true)
 
 record Ordered (o : ObjectId) (m : List Mark) : Type 0 where
   origin : (r : Seen) → Living o m r → Ends (reach m o None) r.start
   versions : (q r : Seen) → Living o m q → Living o m r → lt q.start r.start ≡ true → Ends (reach m o (Some q)) r.start
 
 -- what isn't below the newest living version is it
-newest-or-below : (o : ObjectId) (m : List Mark) (n q : Seen) → Distinct m → Stands o m n → Stands o m q → lt n.start q.start ≡ false → (b : Bool) → lt q.start n.start ≡ b → (b ≡ true → Ends (reach m o (Some q)) n.start) → (x : TimeParts) → lt n.start x ≡ true → Ends (reach m o (Some n)) x → Ends (reach m o (Some q)) x
+newest-or-below : (o : ObjectId) (m : List Mark) (n q : Seen) → Distinct m → IsVersion o m n → IsVersion o m q → lt n.start q.start ≡ false → (b : Bool) → lt q.start n.start ≡ b → (b ≡ true → Ends (reach m o (Some q)) n.start) → (x : TimeParts) → lt n.start x ≡ true → Ends (reach m o (Some n)) x → Ends (reach m o (Some q)) x
 newest-or-below o m n q d s t top true e h x low ends = ends-later (reach m o (Some q)) n.start x (h refl) low
 newest-or-below o m n q d s t top false e h x low ends = subst (λ z. Ends (reach m o (Some z)) x) (one-version o m n q d s t (lt-total n.start q.start top e)) ends
 
@@ -203,7 +203,7 @@ grown-ordered o (f ∷ m) g = ordered-fits o m f g.0 (grown-distinct m g.1) (gro
 ends-is : (x e : TimeParts) (r : Option TimeParts) → Ends r x → r ≡ Some e → lt x e ≡ false
 ends-is x e r h k = let P : Option TimeParts → Type 0 = λ z. Ends z x in subst P k h
 
-pub above-reaches : (m : List Mark) (o : ObjectId) (x : TimeParts) (v : Value) (q : Seen) (e : TimeParts) → Grown m → write_step m o x v ≡ write.Put → Stands o m q → alive m q.start ≡ true → reach m o (Some q) ≡ Some e → lt x e ≡ false
+pub above-reaches : (m : List Mark) (o : ObjectId) (x : TimeParts) (v : Value) (q : Seen) (e : TimeParts) → Grown m → write_step m o x v ≡ write.Put → IsVersion o m q → alive m q.start ≡ true → reach m o (Some q) ≡ Some e → lt x e ≡ false
 above-reaches m o x v q e g put s live is = ends-is x e (reach m o (Some q)) ((above-all o m x v (grown-ordered o m g) (grown-distinct m g) put).1 q (s, live)) is
 
 pub above-origin : (m : List Mark) (o : ObjectId) (x : TimeParts) (v : Value) (e : TimeParts) → Grown m → write_step m o x v ≡ write.Put → reach m o None ≡ Some e → lt x e ≡ false

@@ -10,7 +10,7 @@ use Rattle.object_history.specs.declared.marks.Mark.TheVariants.{Put, Stretch, S
 use Rattle.pseudo_time.specs.Order.{lt}
 use Rattle.object_history.specs.Objects.{same_object}
 use Rattle.object_history.specs.History.{version_count, newest, reach, Seen, settle_of, is_alive, alive, starts_above, pick, scan}
-use Rattle.object_history.specs.Views.{Starts, Stands, Distinct, Fits}
+use Rattle.object_history.specs.Views.{Starts, IsVersion, Distinct, Fits}
 use Rattle.object_history.proofs.Words.{Passes, Ends, AtMost}
 use Rattle.pseudo_time.proofs.OrderLemmas.{lt-irreflexive}
 use Rattle.object_history.proofs.ObjectLemmas.{same_object-is}
@@ -23,11 +23,11 @@ use Rattle.object_history.proofs.ViewLemmas.{top-all}
 -- what is found stands there, passes, and nothing that passes lies above it
 abbrev pub Found : (TimeParts → Bool) → ObjectId → List Mark → Option Seen → Type 0
 Found ok o m None = Starts (λ y. ok y ≡ true → ⊥) o m
-Found ok o m (Some q) = Stands o m q × (ok q.start ≡ true) × Starts (λ y. ok y ≡ true → lt q.start y ≡ false) o m
+Found ok o m (Some q) = IsVersion o m q × (ok q.start ≡ true) × Starts (λ y. ok y ≡ true → lt q.start y ≡ false) o m
 
 abbrev pub Standing : ObjectId → List Mark → Option Seen → Type 0
 Standing o m None = Unit {0}
-Standing o m (Some q) = Stands o m q
+Standing o m (Some q) = IsVersion o m q
 
 standing-more : (o : ObjectId) (a : ObjectId) (x : TimeParts) (v : Value) (m : List Mark) (r : Option Seen) → Standing o m r → Standing o (Put a x v ∷ m) r
 standing-more o a x v m None s = tt
@@ -77,17 +77,17 @@ unfolding scan pick
 scan-kept ok o a x v m h = kept-choice (same_object a o) (ok x) (starts_above (scan ok o m) x) (Some (record { place = version_count o m; start = x; value = v })) (scan ok o m) h
 
 -- with distinct starts, one start is one version
-pub stands-starts : (P : TimeParts → Type 0) (o : ObjectId) (m : List Mark) (q : Seen) → Starts P o m → Stands o m q → P q.start
+pub stands-starts : (P : TimeParts → Type 0) (o : ObjectId) (m : List Mark) (q : Seen) → Starts P o m → IsVersion o m q → P q.start
 stands-starts P o [] q h s = absurd s
 stands-starts P o (Put a x v ∷ m) q h (inl s) = subst (λ z. P z.start) s.1 (h.0 s.0)
 stands-starts P o (Put a x v ∷ m) q h (inr s) = stands-starts P o m q h.1 s
 stands-starts P o (Stretch a x ∷ m) q h s = stands-starts P o m q h s
 stands-starts P o (Settle t c ∷ m) q h s = stands-starts P o m q h s
 
-clear : (a o : ObjectId) (x : TimeParts) (m : List Mark) (p : Seen) → a ≡ o → Starts (λ y. y ≢ x) a m → Stands o m p → p.start ≢ x
+clear : (a o : ObjectId) (x : TimeParts) (m : List Mark) (p : Seen) → a ≡ o → Starts (λ y. y ≢ x) a m → IsVersion o m p → p.start ≢ x
 clear a o x m p e h s = stands-starts (λ y. y ≢ x) o m p (subst (λ z. Starts (λ y. y ≢ x) z m) e h) s
 
-pub one-version : (o : ObjectId) (m : List Mark) (p q : Seen) → Distinct m → Stands o m p → Stands o m q → p.start ≡ q.start → p ≡ q
+pub one-version : (o : ObjectId) (m : List Mark) (p q : Seen) → Distinct m → IsVersion o m p → IsVersion o m q → p.start ≡ q.start → p ≡ q
 one-version o [] p q d s t e = absurd s
 one-version o (Put a x v ∷ m) p q d (inl s) (inl t) e = sym s.1 ∙ t.1
 one-version o (Put a x v ∷ m) p q d (inl s) (inr t) e = absurd (clear a o x m q s.0 d.0 t (sym e ∙ sym (ap (λ z. z.start) s.1)))
@@ -127,7 +127,7 @@ distinct-kept m (Put o x v) fits d = (new-start m o x v fits, d)
 distinct-kept m (Stretch o x) fits d = d
 distinct-kept m (Settle s c) fits d = d
 
-pub stands-has : (o : ObjectId) (m : List Mark) (q : Seen) → Stands o m q → Has (Put o q.start q.value) m
+pub stands-has : (o : ObjectId) (m : List Mark) (q : Seen) → IsVersion o m q → Has (Put o q.start q.value) m
 stands-has o [] q s = absurd s
 stands-has o (Put a x v ∷ m) q (inl s) = inl (ap (λ z. Put z x v) s.0 ∙ ap (λ z. Put o z.start z.value) s.1)
 stands-has o (Put a x v ∷ m) q (inr s) = inr (stands-has o m q s)

@@ -28,11 +28,11 @@ HasPut P o (Stretch a x ∷ m) = HasPut P o m
 HasPut P o (Settle s c ∷ m) = HasPut P o m
 
 -- this is a version of the object
-abbrev pub Stands : ObjectId → List Mark → Seen → Type 0
-Stands o [] q = ⊥
-Stands o (Put a x v ∷ m) q = ((a ≡ o) × (record { place = version_count o m; start = x; value = v } ≡ q)) ⊎ Stands o m q
-Stands o (Stretch a x ∷ m) q = Stands o m q
-Stands o (Settle s c ∷ m) q = Stands o m q
+abbrev pub IsVersion : ObjectId → List Mark → Seen → Type 0
+IsVersion o [] q = ⊥
+IsVersion o (Put a x v ∷ m) q = ((a ≡ o) × (record { place = version_count o m; start = x; value = v } ≡ q)) ⊎ IsVersion o m q
+IsVersion o (Stretch a x ∷ m) q = IsVersion o m q
+IsVersion o (Settle s c ∷ m) q = IsVersion o m q
 
 -- no two versions of an object have one start
 abbrev pub Distinct : List Mark → Type 0

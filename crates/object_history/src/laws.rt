@@ -12,7 +12,7 @@ ghost use Rattle.object_history.specs.declared.steps.ReadStep.TheVariants as rea
 ghost use Rattle.object_history.specs.declared.steps.WriteStep.TheVariants as write;
 ghost use Rattle.object_history.specs.History.{Seen, settle_of, alive, sees, newest, reach};
 ghost use Rattle.object_history.specs.Answers.{read_step, after_read, write_step};
-ghost use Rattle.object_history.specs.Views.{views, Starts, Stands, Distinct, Covers, Viewed, Fits, Grown};
+ghost use Rattle.object_history.specs.Views.{views, Starts, IsVersion, Distinct, Covers, Viewed, Fits, Grown};
 ghost use Rattle.object_history.specs.Settled.{settled_versions, Adds};
 
 /// What is settled stays settled, and as it was.
@@ -29,7 +29,7 @@ pub fn reach_rises()
 /// the version.
 pub fn starts_stay_distinct()
     ensures kept { (m : List Mark) (f : Mark) → Fits m f → Distinct m → Distinct (f ∷ m) }
-    ensures one { (o : ObjectId) (m : List Mark) (p q : Seen) → Distinct m → Stands o m p → Stands o m q → p.start ≡ q.start → p ≡ q }
+    ensures one { (o : ObjectId) (m : List Mark) (p q : Seen) → Distinct m → IsVersion o m p → IsVersion o m q → p.start ≡ q.start → p ≡ q }
 {}
 
 /// An accepted write lies above every version that isn't dead, and not below the reach of the last
@@ -38,7 +38,7 @@ pub fn starts_stay_distinct()
 pub fn writes_go_on_top()
     ensures versions { (m : List Mark) (o : ObjectId) (x : TimeParts) (v : Value) → write_step m o x v ≡ write.Put → Starts (λ y. alive m y ≡ true → lt y x ≡ true) o m }
     ensures reach { (m : List Mark) (o : ObjectId) (x : TimeParts) (v : Value) (e : TimeParts) → write_step m o x v ≡ write.Put → reach m o (newest m o) ≡ Some e → lt x e ≡ false }
-    ensures every_reach { (m : List Mark) (o : ObjectId) (x : TimeParts) (v : Value) (q : Seen) (e : TimeParts) → Grown m → write_step m o x v ≡ write.Put → Stands o m q → alive m q.start ≡ true → reach m o (Some q) ≡ Some e → lt x e ≡ false }
+    ensures every_reach { (m : List Mark) (o : ObjectId) (x : TimeParts) (v : Value) (q : Seen) (e : TimeParts) → Grown m → write_step m o x v ≡ write.Put → IsVersion o m q → alive m q.start ≡ true → reach m o (Some q) ≡ Some e → lt x e ≡ false }
     ensures origin { (m : List Mark) (o : ObjectId) (x : TimeParts) (v : Value) (e : TimeParts) → Grown m → write_step m o x v ≡ write.Put → reach m o None ≡ Some e → lt x e ≡ false }
 {}
 

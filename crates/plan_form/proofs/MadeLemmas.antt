@@ -21,7 +21,7 @@ use Rattle.statement_form.specs.Rows.{Numbered, rows}
 use Rattle.statement_form.specs.RowTexts.{spot_text, row_text, line_text, rows_text, script_text}
 use Rattle.script_form.specs.Printable.{IsPrintable}
 use Rattle.plan_form.specs.Plans.{InRange, act_front, terms, IsPlan}
-use Rattle.plan_form.specs.PlanTexts.{act_text, acts_text, head_text, plan_text, IsAct, EachAct, IsWhole}
+use Rattle.plan_form.specs.PlanTexts.{act_text, acts_text, head_text, plan_text, IsAct, EachAct, IsOfLanguage}
 use Rattle.plan_form.specs.Making.{step, drawn, account, balance, transfer, audit, act_of, target_of, transfer_act, drawn_act, after_act, transfers, made_plan}
 use Rattle.plan_form.proofs.PlanTextLemmas.{printed_is_plan}
 
@@ -347,7 +347,7 @@ transfers_size (suc count) state i =
 last_is : (count : ℕ) → EachAct 8 8 (count + 1) (act_of (count + 1) 1 1 audit ∷ [])
 last_is count = (act_of_is (count + 1) 1 1 audit (omega arith, omega arith) (omega arith, omega arith) audit_is, tt)
 
-pub made_is_whole : (seed count : ℕ) → count ≤ 9999 → IsWhole (made_plan seed count)
+pub made_is_whole : (seed count : ℕ) → count ≤ 9999 → IsOfLanguage (made_plan seed count)
 made_is_whole seed count h =
     let size = length-append (transfers count seed 1) (act_of (count + 1) 1 1 audit ∷ []) in
     let same = transfers_count count seed 1 in

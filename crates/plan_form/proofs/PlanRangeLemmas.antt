@@ -8,7 +8,7 @@ use Rattle.value_form.specs.Ranges.{IsScript}
 use Rattle.script_form.proofs.RangeLemmas.{printable-range}
 use Rattle.plan_form.specs.declared.plans.Plan.{Plan}
 use Rattle.plan_form.specs.Plans.{IsPlan}
-use Rattle.plan_form.specs.PlanTexts.{IsAct, IsWhole, EachAct}
+use Rattle.plan_form.specs.PlanTexts.{IsAct, IsOfLanguage, EachAct}
 use Rattle.plan_form.proofs.PlanTextLemmas.{plan_is_whole}
 
 -- indices count from n
@@ -17,7 +17,7 @@ each-act : (P : ActSpec → Type 0) (repositories brokers n : ℕ) (acts : List 
 each-act P repositories brokers n [] few low holds h = tt
 each-act P repositories brokers n (act ∷ more) few low holds (is, others) = (holds n act low (omega arith) is, each-act P repositories brokers (n + 1) more (omega arith) (omega arith) holds others)
 
-pub of-whole : (P : ActSpec → Type 0) (plan : Plan) → IsWhole plan → ((k : ℕ) (act : ActSpec) → 1 ≤ k → k ≤ 10000 → IsAct plan.repositories plan.brokers k act → P act) → Every P plan.acts
+pub of-whole : (P : ActSpec → Type 0) (plan : Plan) → IsOfLanguage plan → ((k : ℕ) (act : ActSpec) → 1 ≤ k → k ≤ 10000 → IsAct plan.repositories plan.brokers k act → P act) → Every P plan.acts
 of-whole P plan w holds = let few = w.few in each-act P plan.repositories plan.brokers 1 plan.acts (omega arith) (omega arith) holds w.acts
 
 act-names : (repositories brokers k : ℕ) (act : ActSpec) → repositories ≤ 16 → brokers ≤ 16 → IsAct repositories brokers k act → IsInRange 1 act.broker act.home
@@ -30,7 +30,7 @@ act-names repositories brokers k act few_r few_b is = record {
   home_high = (let h = is.home.1 in omega arith);
 }
 
-pub whole-names : (plan : Plan) → IsWhole plan → Every (λ act. IsInRange 1 act.broker act.home) plan.acts
+pub whole-names : (plan : Plan) → IsOfLanguage plan → Every (λ act. IsInRange 1 act.broker act.home) plan.acts
 whole-names plan w = of-whole (λ act. IsInRange 1 act.broker act.home) plan w (λ k act low high is_act. act-names plan.repositories plan.brokers k act w.repositories.1 w.brokers.1 is_act)
 
 -- ---- of the bytes of a plan

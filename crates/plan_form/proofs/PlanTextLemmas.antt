@@ -16,7 +16,7 @@ use Rattle.script_form.proofs.ReadLimitLemmas.{script_is_printable}
 use Rattle.plan_form.specs.declared.act_lines.Terms.{Terms}
 use Rattle.plan_form.specs.declared.plans.Plan.{Plan}
 use Rattle.plan_form.specs.Plans.{InRange, title, run_line, repositories_line, brokers_line, act_front, IsActLine, terms, before_done, behind_done, AreActs, IsPlan}
-use Rattle.plan_form.specs.PlanTexts.{act_line, act_text, acts_text, head_text, plan_text, IsAct, EachAct, IsWhole}
+use Rattle.plan_form.specs.PlanTexts.{act_line, act_text, acts_text, head_text, plan_text, IsAct, EachAct, IsOfLanguage}
 use Rattle.plan_form.proofs.DoneLemmas.{script_without_done}
 use Rattle.plan_form.proofs.LineListLemmas.{past_blanks-line, has_done-behind, before_done-behind, behind_done-behind}
 use Rattle.plan_form.proofs.NoPlanLemmas.{line_is_no_blank}
@@ -143,7 +143,7 @@ acts_are r b n (act ∷ more) rs bs (h, others) =
       subst (AreActs r b (n + 1) more) (sym (behind_done-behind script (codes "done" ∷ rest) without)) (acts_are r b (n + 1) more rs bs others),
     )
 
-pub printed_is_plan : (plan : Plan) → IsWhole plan → length (plan_text plan) ≤ 4194304 → IsPlan (plan_text plan) plan
+pub printed_is_plan : (plan : Plan) → IsOfLanguage plan → length (plan_text plan) ≤ 4194304 → IsPlan (plan_text plan) plan
 printed_is_plan plan h small = (
   small,
   record {
@@ -176,7 +176,7 @@ each_act r b n (act ∷ more) ls (line, rest, parts, index, says, has, script, n
   each_act r b (n + 1) more (behind_done rest) next,
 )
 
-pub plan_is_whole : (bytes : List ℕ) (plan : Plan) → IsPlan bytes plan → IsWhole plan
+pub plan_is_whole : (bytes : List ℕ) (plan : Plan) → IsPlan bytes plan → IsOfLanguage plan
 plan_is_whole bytes plan (small, h) = record {
   run = h.head.run_is;
   repositories = h.head.repositories_are;

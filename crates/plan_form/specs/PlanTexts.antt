@@ -46,7 +46,7 @@ EachAct repositories brokers n [] = Unit {0}
 EachAct repositories brokers n (act ∷ more) = IsAct repositories brokers n act × EachAct repositories brokers (n + 1) more
 
 -- a plan of the language: its numbers are in their ranges, its acts are numbered from 1, and their scripts are of the language
-pub record IsWhole (plan : Plan) : Type 0 where
+pub record IsOfLanguage (plan : Plan) : Type 0 where
   pub run : InRange (2 ^ 32 - 1) plan.run
   pub repositories : InRange 16 plan.repositories
   pub brokers : InRange 16 plan.brokers

@@ -3,7 +3,7 @@ ghost use Rattle.plan_form.specs.declared.plans.Plan.{Plan};
 ghost use Rattle.plan_form.specs.declared.plan_faults.PlanKind.{PlanKind};
 ghost use Rattle.plan_form.specs.Making.{made_plan};
 ghost use Rattle.plan_form.specs.PlanFaults.{IsPlanFault};
-ghost use Rattle.plan_form.specs.PlanTexts.{plan_text, IsWhole};
+ghost use Rattle.plan_form.specs.PlanTexts.{plan_text, IsOfLanguage};
 ghost use Rattle.plan_form.specs.Plans.{IsPlan};
 
 /// Bytes are one plan at most, and bytes with a fault are none. The text of a plan of the language is
@@ -12,8 +12,8 @@ ghost use Rattle.plan_form.specs.Plans.{IsPlan};
 pub fn law_of_plans()
     ensures one { (bytes : List ℕ) (a b : Plan) → IsPlan bytes a → IsPlan bytes b → a ≡ b }
     ensures none { (bytes : List ℕ) (line : ℕ) (what : PlanKind) (plan : Plan) → IsPlanFault bytes line what → IsPlan bytes plan → ⊥ }
-    ensures printed { (plan : Plan) → IsWhole plan → length (plan_text plan) ≤ 4194304 → IsPlan (plan_text plan) plan }
-    ensures read { (bytes : List ℕ) (plan : Plan) → IsPlan bytes plan → IsWhole plan }
+    ensures printed { (plan : Plan) → IsOfLanguage plan → length (plan_text plan) ≤ 4194304 → IsPlan (plan_text plan) plan }
+    ensures read { (bytes : List ℕ) (plan : Plan) → IsPlan bytes plan → IsOfLanguage plan }
 {}
 
 /// What a seed makes is a plan of the language, whose text isn't too long.

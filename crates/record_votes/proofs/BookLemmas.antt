@@ -25,7 +25,7 @@ use Rattle.commit_record.specs.declared.states.RecordState.TheVariants.{Unknown,
 use Rattle.commit_record.specs.States.{States, begun, settled, listed_at, begin_step}
 use Rattle.object_history.specs.History.{or_else}
 use Rattle.repository_log.specs.Logs.{marks, first_begin, decision_of, record_from, record_of, known, begun as begun_stamps, began, began_by, IsUnknown}
-use Rattle.repository_log.specs.Lookups.{Agrees, restored, early_or}
+use Rattle.repository_log.specs.Lookups.{BooksShow, restored, early_or}
 use Rattle.repository_log.proofs.LogLemmas.{from-begin, from-none, from-unknown, record-decide}
 use Rattle.repository_log.proofs.AgreeLemmas.{opened-agrees, agree-begin, agree-decide}
 use Rattle.record_votes.specs.Members.{own, book, decides}
@@ -41,7 +41,7 @@ book-begin l s d = ap own (reverse-append l (effect.Begin s d ∷ []))
 pub book-decide : (l : List Effect) (s : StampParts) (x : Decision) → book (l ++ effect.Decide s x ∷ []) ≡ effect.Decide s x ∷ book l
 book-decide l s x = ap own (reverse-append l (effect.Decide s x ∷ []))
 
-agrees : (l : List Effect) (r : States) (e : Entries) → IsBook l r e → Agrees [] l (marks l) r e
+agrees : (l : List Effect) (r : States) (e : Entries) → IsBook l r e → BooksShow [] l (marks l) r e
 agrees l r e b = opened-agrees l r e b.recorded b.remembered
 
 -- ---- a Begin
@@ -55,10 +55,10 @@ pub begin-book : (l : List Effect) (r : States) (e : Entries) (s : StampParts) (
     → IsBook (effect.Begin s d ∷ l) (restored (listed_at e s) (begun r s d) s) e
 unfolding first_begin decision_of
 begin-book l r e s d b none =
-    let a : Agrees [] l (marks l) r e = agrees l r e b in
+    let a : BooksShow [] l (marks l) r e = agrees l r e b in
     let first : first_begin l s ≡ None = from-none (first_begin l s) (decision_of l s) none in
     let early : listed_at e s ≡ early_or (listed_at e s) (known l s) = b.remembered s first ∙ a.remembered s first in
-    let after : Agrees [] (began l s d) (marks l) (restored (listed_at e s) (begun r s d) s) e = agree-begin l (marks l) r e s d (listed_at e s) (ap begin_step (b.recorded s ∙ none)) a early in
+    let after : BooksShow [] (began l s d) (marks l) (restored (listed_at e s) (begun r s d) s) e = agree-begin l (marks l) r e s d (listed_at e s) (ap begin_step (b.recorded s ∙ none)) a early in
     record {
       recorded = λ q. after.recorded q ∙ ap (λ z. record_of (began_by z l s d) q) none;
       remembered = λ q h. b.remembered q (not-begun (same_stamp s q) (first_begin l q) d h);
@@ -76,7 +76,7 @@ pub decide-book : (l : List Effect) (r : States) (e : Entries) (s : StampParts) 
 unfolding first_begin decision_of
 decide-book l r e s x t b unknown =
     let begin : first_begin l s ≡ Some t = from-begin (first_begin l s) (decision_of l s) t unknown in
-    let after : Agrees [] (effect.Decide s x ∷ l) _ (settled r s x) e = agree-decide l (marks l) r e s t x (agrees l r e b) unknown in
+    let after : BooksShow [] (effect.Decide s x ∷ l) _ (settled r s x) e = agree-decide l (marks l) r e s t x (agrees l r e b) unknown in
     record {
       recorded = λ q. after.recorded q;
       remembered = λ q h. b.remembered q h ∙ not-decided (same_stamp s q) l s q x t (same_stamp-is s q) begin h;

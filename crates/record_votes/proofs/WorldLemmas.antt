@@ -22,7 +22,7 @@ use Rattle.record_votes.specs.declared.seats.Seat.{Seat}
 use Rattle.record_votes.specs.declared.seats.Seat.TheVariants.{First, Second, Third}
 use Rattle.record_votes.specs.Members.{Given, on_message, on_moment}
 use Rattle.record_votes.specs.Polls.{member, seat_at, PollState, ballot, held, poll_goes, poll_hears, poll_takes, PollGiven}
-use Rattle.record_votes.specs.Voting.{Member, World, whole, opened, turned, took, heard, shut, crashed, Event, Goes, Delivered, Gates, Crashes, Hears, Polled, is_seat, with_member, with_poll, with_sent, post_at, to_poll, to_seat, delivered_to, delivered, after, run, Line, new_poll, founded, reached, gated, IsDecided, TwoDecided, Logs, entered, no_logs, Call, ended, left, logs_after}
+use Rattle.record_votes.specs.Voting.{Member, World, all_effects, opened, turned, took, heard, shut, crashed, Event, Goes, Delivered, Gates, Crashes, Hears, Polled, is_seat, with_member, with_poll, with_sent, post_at, to_poll, to_seat, delivered_to, delivered, after, run, Line, new_poll, founded, reached, gated, IsDecided, TwoDecided, Logs, entered, no_logs, Call, ended, left, logs_after}
 use Rattle.record_votes.proofs.LogLemmas.{voted, voted-more, voted-has, Once, Single, Tidy, tidy-front, tidy-more, tidy-none, tidy-apart, single-front, some-same}
 use Rattle.record_votes.proofs.MemberLemmas.{said, Says, message-says, moment-says}
 use Rattle.record_votes.proofs.PollLemmas.{Two, votes_of, held-two, takes-hears, held-stays, shared}
@@ -31,22 +31,22 @@ use Rattle.record_votes.proofs.PollLemmas as polls
 -- ---- a member
 
 pub record MemberFacts (m : Member) : Type 0 where
-  pub once : Tidy (whole m)
-  pub answers : (to : NodeId) (x : StampParts) (d : Decision) → Has (said to x d) m.owed → voted (whole m) x ≡ Some d
+  pub once : Tidy (all_effects m)
+  pub answers : (to : NodeId) (x : StampParts) (d : Decision) → Has (said to x d) m.owed → voted (all_effects m) x ≡ Some d
 
 -- its durable log goes on
 pub record Grows (old new : Member) : Type 0 where
   pub more : List Effect
   pub grown : new.gated ≡ old.gated ++ more
 
-whole-turned : (m : Member) (moment : ℕ) (g : Given) → whole (turned m moment g) ≡ whole m ++ g.effects
+whole-turned : (m : Member) (moment : ℕ) (g : Given) → all_effects (turned m moment g) ≡ all_effects m ++ g.effects
 whole-turned m moment g = sym (append_assoc m.gated m.fresh g.effects)
 
-turned-facts : (m : Member) (moment : ℕ) (g : Given) → Says (whole m) g → MemberFacts m → MemberFacts (turned m moment g)
+turned-facts : (m : Member) (moment : ℕ) (g : Given) → Says (all_effects m) g → MemberFacts m → MemberFacts (turned m moment g)
 turned-facts m moment g says facts = record {
-  once = subst Tidy (sym (whole-turned m moment g)) (tidy-more (whole m) g.effects facts.once says.fits);
+  once = subst Tidy (sym (whole-turned m moment g)) (tidy-more (all_effects m) g.effects facts.once says.fits);
   answers = λ to x d h. subst (λ l. voted l x ≡ Some d) (sym (whole-turned m moment g)) (elim (has-either m.owed g.outs (said to x d) h) [
-    | inl k ↦ voted-more (whole m) g.effects x d (facts.answers to x d k)
+    | inl k ↦ voted-more (all_effects m) g.effects x d (facts.answers to x d k)
     | inr k ↦ says.answers to x d k
   ]);
 }
@@ -54,7 +54,7 @@ turned-facts m moment g says facts = record {
 opened-facts : (moment : ℕ) (log : List Effect) → Tidy log → MemberFacts (opened moment log)
 opened-facts moment log once = record { once = subst Tidy (sym (append-nil log)) once; answers = λ to x d h. absurd h }
 
-kept-once : (m : Member) (kept : ℕ) → Tidy (whole m) → Tidy (m.gated ++ take kept m.fresh)
+kept-once : (m : Member) (kept : ℕ) → Tidy (all_effects m) → Tidy (m.gated ++ take kept m.fresh)
 kept-once m kept once = tidy-front (m.gated ++ take kept m.fresh) (drop kept m.fresh)
     (subst Tidy (sym (append_assoc m.gated (take kept m.fresh) (drop kept m.fresh) ∙ ap (λ z. m.gated ++ z) (take-append-drop kept m.fresh))) once)
 
@@ -204,7 +204,7 @@ module _ (lines : ℕ → Line) where
   to-seat-facts w from m None facts = facts
   to-seat-facts w from m (Some s) facts =
       let x : Member = w.members s in
-      member-facts lines w s (took x from m) (turned-facts x x.moment (on_message (whole x) x.moment from m) (message-says (whole x) x.moment from m) (facts.members s)) (turned-grows x x.moment (on_message (whole x) x.moment from m)) facts
+      member-facts lines w s (took x from m) (turned-facts x x.moment (on_message (all_effects x) x.moment from m) (message-says (all_effects x) x.moment from m) (facts.members s)) (turned-grows x x.moment (on_message (all_effects x) x.moment from m)) facts
 
   to-kind-facts : (w : World) (p : Post) (k : NodeKind) → Has p w.sent → Facts lines w → Facts lines (delivered_to w p k)
   to-kind-facts w p kind.Broker come facts = to-poll-facts w p.to.number p come facts
@@ -227,13 +227,13 @@ module _ (lines : ℕ → Line) where
   step-facts w (Gates s) facts =
       let x : Member = w.members s in
       sent-facts lines (with_member w s (shut x)) (posts (member s) x.owed) (shut-sent w s facts)
-      (member-facts lines w s (shut x) (opened-facts x.moment (whole x) (facts.members s).once) (record { more = x.fresh; grown = refl }) facts)
+      (member-facts lines w s (shut x) (opened-facts x.moment (all_effects x) (facts.members s).once) (record { more = x.fresh; grown = refl }) facts)
   step-facts w (Crashes s kept moment) facts =
       let x : Member = w.members s in
       member-facts lines w s (crashed x kept moment) (opened-facts moment (x.gated ++ take kept x.fresh) (kept-once x kept (facts.members s).once)) (record { more = take kept x.fresh; grown = refl }) facts
   step-facts w (Hears s moment) facts =
       let x : Member = w.members s in
-      member-facts lines w s (heard x moment) (turned-facts x moment (on_moment (whole x) moment) (moment-says (whole x) moment) (facts.members s)) (turned-grows x moment (on_moment (whole x) moment)) facts
+      member-facts lines w s (heard x moment) (turned-facts x moment (on_moment (all_effects x) moment) (moment-says (all_effects x) moment) (facts.members s)) (turned-grows x moment (on_moment (all_effects x) moment)) facts
   step-facts w (Polled i moment) facts = sent-facts lines w (posts (broker i) (poll_hears (w.polls i))) (broker-post w i (poll_hears (w.polls i))) facts
 
   pub run-facts : (w : World) (es : List Event) → Facts lines w → Facts lines (run w es)
@@ -266,7 +266,7 @@ seat-onward : (w : World) (from : NodeId) (m : Message) (s : Option Seat) → On
 seat-onward w from m None = onward-same w
 seat-onward w from m (Some s) =
     let x : Member = w.members s in
-    member-onward w s (took x from m) (turned-grows x x.moment (on_message (whole x) x.moment from m))
+    member-onward w s (took x from m) (turned-grows x x.moment (on_message (all_effects x) x.moment from m))
 
 kind-onward : (w : World) (p : Post) (k : NodeKind) → Onward w (delivered_to w p k)
 kind-onward w p kind.Broker =
@@ -290,7 +290,7 @@ step-onward w (Crashes s kept moment) =
     member-onward w s (crashed x kept moment) (record { more = take kept x.fresh; grown = refl })
 step-onward w (Hears s moment) =
     let x : Member = w.members s in
-    member-onward w s (heard x moment) (turned-grows x moment (on_moment (whole x) moment))
+    member-onward w s (heard x moment) (turned-grows x moment (on_moment (all_effects x) moment))
 step-onward w (Polled i moment) = sent-onward w w (posts (broker i) (poll_hears (w.polls i))) (onward-same w)
 
 pub run-onward : (w : World) (es : List Event) → Onward w (run w es)
@@ -328,8 +328,8 @@ module _ (start : Seat → ℕ) (lines : ℕ → Line) where
   pub decided-once : (es : List Event) (m : Seat) (s : StampParts) (d e : Decision) → Has (effect.Decide s d) (gated (at es) m) → Has (effect.Decide s e) (gated (at es) m) → d ≡ e
   decided-once es m s d e h k =
       let x : Member = (at es).members m in
-      let o : Once (whole x) = ((reached-facts lines start es).members m).once.once in
-      some-same (voted (whole x) s) d e (o s d (has-left x.gated x.fresh (effect.Decide s d) h)) (o s e (has-left x.gated x.fresh (effect.Decide s e) k))
+      let o : Once (all_effects x) = ((reached-facts lines start es).members m).once.once in
+      some-same (voted (all_effects x) s) d e (o s d (has-left x.gated x.fresh (effect.Decide s d) h)) (o s e (has-left x.gated x.fresh (effect.Decide s e) k))
 
   pub decided-single : (es : List Event) (m : Seat) (a b : List Effect) (s : StampParts) (d e : Decision) → gated (at es) m ≡ a ++ effect.Decide s d ∷ b → Has (effect.Decide s e) b → ⊥
   decided-single es m a b s d e is h =
@@ -369,8 +369,8 @@ facts-two lines w facts i c h =
 facts-one : (lines : ℕ → Line) (w : World) → Facts lines w → (m : Seat) (s : StampParts) (c d : Bool) → IsDecided (gated w m) s c → IsDecided (gated w m) s d → c ≡ d
 facts-one lines w facts m s c d h k =
     let x : Member = w.members m in
-    let o : Once (whole x) = (facts.members m).once.once in
-    let e : h.0 ≡ k.0 = some-same (voted (whole x) s) h.0 k.0 (o s h.0 (has-left x.gated x.fresh (effect.Decide s h.0) h.2)) (o s k.0 (has-left x.gated x.fresh (effect.Decide s k.0) k.2)) in
+    let o : Once (all_effects x) = (facts.members m).once.once in
+    let e : h.0 ≡ k.0 = some-same (voted (all_effects x) s) h.0 k.0 (o s h.0 (has-left x.gated x.fresh (effect.Decide s h.0) h.2)) (o s k.0 (has-left x.gated x.fresh (effect.Decide s k.0) k.2)) in
     sym h.1 ∙ ap is_commit e ∙ k.1
 
 facts-agree : (lines : ℕ → Line) (w : World) → Facts lines w → (s : StampParts) (c d : Bool) → TwoDecided w s c → TwoDecided w s d → c ≡ d

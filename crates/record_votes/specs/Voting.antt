@@ -26,8 +26,8 @@ pub record Member : Type 0 where
   pub owed : List Out
   pub moment : ℕ
 
-abbrev pub whole : Member → List Effect
-whole m = m.gated ++ m.fresh
+abbrev pub all_effects : Member → List Effect
+all_effects m = m.gated ++ m.fresh
 
 -- poll i is broker i
 pub record World : Type 0 where
@@ -44,13 +44,13 @@ abbrev pub turned : Member → ℕ → Given → Member
 turned m moment g = record { gated = m.gated; fresh = m.fresh ++ g.effects; owed = m.owed ++ g.outs; moment = moment }
 
 abbrev pub took : Member → NodeId → Message → Member
-took m from x = turned m m.moment (on_message (whole m) m.moment from x)
+took m from x = turned m m.moment (on_message (all_effects m) m.moment from x)
 
 abbrev pub heard : Member → ℕ → Member
-heard m moment = turned m moment (on_moment (whole m) moment)
+heard m moment = turned m moment (on_moment (all_effects m) moment)
 
 abbrev pub shut : Member → Member
-shut m = opened m.moment (whole m)
+shut m = opened m.moment (all_effects m)
 
 -- the first `kept` of its open effects were found when it was opened anew, at this moment
 abbrev pub crashed : Member → ℕ → ℕ → Member

@@ -19,7 +19,7 @@ use Rattle.object_history.specs.Answers.{after_read, after_write}
 use Rattle.repository_core.specs.Logs.{read_by, wrote}
 use Rattle.repository_log.specs.Logs.{first_begin, decision_of}
 use Rattle.repository_core.specs.Calls.{Begins, Since}
-use Rattle.repository_log.specs.Lookups.{Agrees}
+use Rattle.repository_log.specs.Lookups.{BooksShow}
 
 -- ---- the histories in a call
 
@@ -72,20 +72,20 @@ module _ {H B : Type 0} (content : H → List Mark) (below : H → B) (faults da
 
 -- ---- a log with one effect more
 
-agree-stretch : (p : List (StampParts × Decision)) (l : List Effect) (m : List Mark) (r : States) (e : List (StampParts × Decision)) (o : ObjectId) (t : TimeParts) → Agrees p l m r e → Agrees p (Stretch o t ∷ l) (mark.Stretch o t ∷ m) r e
+agree-stretch : (p : List (StampParts × Decision)) (l : List Effect) (m : List Mark) (r : States) (e : List (StampParts × Decision)) (o : ObjectId) (t : TimeParts) → BooksShow p l m r e → BooksShow p (Stretch o t ∷ l) (mark.Stretch o t ∷ m) r e
 unfolding first_begin decision_of settle_of
 agree-stretch p l m r e o t a = record { marked = ap (λ z. mark.Stretch o t ∷ z) a.marked; recorded = λ s. a.recorded s; remembered = λ s h. a.remembered s h }
 
-agree-put : (p : List (StampParts × Decision)) (l : List Effect) (m : List Mark) (r : States) (e : List (StampParts × Decision)) (o : ObjectId) (t : TimeParts) (v : Value) → Agrees p l m r e → Agrees p (Put o t v ∷ l) (mark.Put o t v ∷ m) r e
+agree-put : (p : List (StampParts × Decision)) (l : List Effect) (m : List Mark) (r : States) (e : List (StampParts × Decision)) (o : ObjectId) (t : TimeParts) (v : Value) → BooksShow p l m r e → BooksShow p (Put o t v ∷ l) (mark.Put o t v ∷ m) r e
 unfolding first_begin decision_of settle_of
 agree-put p l m r e o t v a = record { marked = ap (λ z. mark.Put o t v ∷ z) a.marked; recorded = λ s. a.recorded s; remembered = λ s h. a.remembered s h }
 
-pub agree-read : (p : List (StampParts × Decision)) (l : List Effect) (m : List Mark) (r : States) (e : List (StampParts × Decision)) (o : ObjectId) (t : TimeParts) (s : ReadStep) → Agrees p l m r e → Agrees p (read_by l o t s) (after_read m o t s) r e
+pub agree-read : (p : List (StampParts × Decision)) (l : List Effect) (m : List Mark) (r : States) (e : List (StampParts × Decision)) (o : ObjectId) (t : TimeParts) (s : ReadStep) → BooksShow p l m r e → BooksShow p (read_by l o t s) (after_read m o t s) r e
 agree-read p l m r e o t (read.Answer v true) a = agree-stretch p l m r e o t a
 agree-read p l m r e o t (read.Answer v false) a = a
 agree-read p l m r e o t (read.Wait s) a = a
 
-pub agree-write : (p : List (StampParts × Decision)) (l : List Effect) (m : List Mark) (r : States) (e : List (StampParts × Decision)) (o : ObjectId) (t : TimeParts) (v : Value) (s : WriteStep) → Agrees p l m r e → Agrees p (wrote l o t v s) (after_write m o t v s) r e
+pub agree-write : (p : List (StampParts × Decision)) (l : List Effect) (m : List Mark) (r : States) (e : List (StampParts × Decision)) (o : ObjectId) (t : TimeParts) (v : Value) (s : WriteStep) → BooksShow p l m r e → BooksShow p (wrote l o t v s) (after_write m o t v s) r e
 agree-write p l m r e o t v write.Put a = agree-put p l m r e o t v a
 agree-write p l m r e o t v write.Again a = a
 agree-write p l m r e o t v (write.LaterVersion x) a = a
@@ -93,5 +93,5 @@ agree-write p l m r e o t v (write.LaterRead x) a = a
 
 -- ---- equal parts
 
-pub agree-same : (p : List (StampParts × Decision)) (l : List Effect) (m n : List Mark) (r u : States) (e f : List (StampParts × Decision)) → m ≡ n → r ≡ u → e ≡ f → Agrees p l n u f → Agrees p l m r e
-agree-same p l m n r u e f a b c h = subst (λ x. Agrees p l x r e) (sym a) (subst (λ x. Agrees p l n x e) (sym b) (subst (λ x. Agrees p l n u x) (sym c) h))
+pub agree-same : (p : List (StampParts × Decision)) (l : List Effect) (m n : List Mark) (r u : States) (e f : List (StampParts × Decision)) → m ≡ n → r ≡ u → e ≡ f → BooksShow p l n u f → BooksShow p l m r e
+agree-same p l m n r u e f a b c h = subst (λ x. BooksShow p l x r e) (sym a) (subst (λ x. BooksShow p l n x e) (sym b) (subst (λ x. BooksShow p l n u x) (sym c) h))

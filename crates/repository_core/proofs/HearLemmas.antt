@@ -23,7 +23,7 @@ use Rattle.commit_record.specs.declared.states.RecordState.{RecordState}
 use Rattle.commit_record.specs.declared.states.RecordState.TheVariants.{Unknown, Decided}
 use Rattle.commit_record.specs.States.{listed_at}
 use Rattle.object_history.specs.Answers.{read_step}
-use Rattle.repository_core.specs.declared.waits.Held.{Held}
+use Rattle.repository_core.specs.declared.waits.HeldRead.{HeldRead}
 use Rattle.repository_log.specs.Logs.{first_begin, decision_of, record_of, marks, known, begun, IsUnknown, HasSameRecords}
 use Rattle.repository_core.specs.Hands.{Hand, now, note, send, HasSameLog}
 use Rattle.pseudo_time.specs.Nodes.{repository}
@@ -36,7 +36,7 @@ use Rattle.repository_log.proofs.ExpiryLemmas.{sorted-expiries}
 
 -- ---- a read, and all that is set free, changes no record
 
-record-as : (before : List (TimeParts × Held)) (h : Hand) (from : NodeId) (t : TimeParts) (o : ObjectId) (s : _) → HasSameRecords (now h) (now (read_as before (unhold t h) from t o s))
+record-as : (before : List (TimeParts × HeldRead)) (h : Hand) (from : NodeId) (t : TimeParts) (o : ObjectId) (s : _) → HasSameRecords (now h) (now (read_as before (unhold t h) from t o s))
 record-as before h from t o s = subst (λ l. HasSameRecords (now h) l) (sym (now-read before h from t o s)) (record-by (now h) o t s)
 
 record-known : (h : Hand) (from : NodeId) (t : TimeParts) (o : ObjectId) (u : Option Bool) → HasSameRecords (now h) (now (read_known h from t o u))
@@ -48,7 +48,7 @@ record-read : (h : Hand) (from : NodeId) (t : TimeParts) (o : ObjectId) → HasS
 unfolding on_read
 record-read h from t o = record-known h from t o (known (now h) t.stamp)
 
-record-reread : (xs : List (TimeParts × Held)) (h : Hand) → HasSameRecords (now h) (now (reread xs h))
+record-reread : (xs : List (TimeParts × HeldRead)) (h : Hand) → HasSameRecords (now h) (now (reread xs h))
 record-reread [] h = λ p. refl
 record-reread (x ∷ xs) h = λ p. record-reread xs (on_read h x.1.from x.0 x.1.object) p ∙ record-read h x.1.from x.0 x.1.object p
 

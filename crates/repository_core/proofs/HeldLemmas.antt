@@ -9,12 +9,12 @@ use Rattle.std.specs.BTreeMap.{insert_entry}
 use Rattle.std.specs.Prelude.{cond}
 use Rattle.pseudo_time.specs.Lists.{Every}
 use Rattle.pseudo_time.specs.TimeParts.{TimeParts}
-use Rattle.repository_core.specs.declared.waits.Held.{Held}
+use Rattle.repository_core.specs.declared.waits.HeldRead.{HeldRead}
 use Rattle.repository_core.specs.declared.waits.Asker.{Asker}
 use Rattle.repository_core.specs.Hands.{Hand}
 
 -- the hand with these held reads, or these askers
-abbrev pub with_held : Hand → List (TimeParts × Held) → Hand
+abbrev pub with_held : Hand → List (TimeParts × HeldRead) → Hand
 with_held h held = record h { held = held }
 
 abbrev pub with_askers : Hand → List Asker → Hand

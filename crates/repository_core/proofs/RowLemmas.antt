@@ -12,7 +12,7 @@ use Rattle.object_history.specs.declared.steps.ReadStep.{ReadStep}
 use Rattle.object_history.specs.declared.steps.ReadStep.TheVariants as read
 use Rattle.object_history.specs.declared.steps.WriteStep.{WriteStep}
 use Rattle.object_history.specs.declared.steps.WriteStep.TheVariants as write
-use Rattle.repository_core.specs.declared.waits.Held.{Held}
+use Rattle.repository_core.specs.declared.waits.HeldRead.{HeldRead}
 use Rattle.repository_core.specs.declared.waits.Asker.{Asker}
 use Rattle.std.proofs.lemmas.List.{drop_all, drop_more}
 use Rattle.std.specs.List.{filter}
@@ -30,7 +30,7 @@ now-if : (b : Bool) (x y : Hand) (l : List Effect) → now x ≡ l → now y ≡
 now-if true x y l h k = h
 now-if false x y l h k = k
 
-pub now-read : (before : List (TimeParts × Held)) (h : Hand) (from : NodeId) (t : TimeParts) (o : ObjectId) (s : ReadStep) → now (read_as before (unhold t h) from t o s) ≡ read_by (now h) o t s
+pub now-read : (before : List (TimeParts × HeldRead)) (h : Hand) (from : NodeId) (t : TimeParts) (o : ObjectId) (s : ReadStep) → now (read_as before (unhold t h) from t o s) ≡ read_by (now h) o t s
 now-read before h from t o (read.Answer v true) = refl
 now-read before h from t o (read.Answer v false) = refl
 now-read before h from t o (read.Wait w) =
@@ -65,7 +65,7 @@ pub on-read-none : (h : Hand) (from : NodeId) (t : TimeParts) (o : ObjectId) →
 unfolding on_read
 on-read-none h from t o e = ap (λ u. read_known h from t o u) e
 
-pub release-is : (s : StampParts) (h g : Hand) (released : List (TimeParts × Held)) → released ≡ filter (λ e. same_stamp e.1.waits s) h.held → g ≡ record h { held = filter (λ e. not (same_stamp e.1.waits s)) h.held }
+pub release-is : (s : StampParts) (h g : Hand) (released : List (TimeParts × HeldRead)) → released ≡ filter (λ e. same_stamp e.1.waits s) h.held → g ≡ record h { held = filter (λ e. not (same_stamp e.1.waits s)) h.held }
     → reread released g ≡ release s h
 unfolding release
 release-is s h g released e f = ap (λ z. reread z g) e ∙ ap (λ z. reread (filter (λ e. same_stamp e.1.waits s) h.held) z) f
@@ -75,16 +75,16 @@ unfolding on_learn
 on-learn-none h s c e = ap (λ u. learn_as h s c u) e
 
 -- at the end none are left
-pub none-left : (n : ℕ) (xs : List (TimeParts × Held)) (g : Hand) → length xs ≤ n → reread (drop n xs) g ≡ g
+pub none-left : (n : ℕ) (xs : List (TimeParts × HeldRead)) (g : Hand) → length xs ≤ n → reread (drop n xs) g ≡ g
 none-left n xs g h = ap (λ z. reread z g) (drop_all n xs h)
 
-next : (xs : List (TimeParts × Held)) (i : ℕ) (x : TimeParts × Held) → i < length xs → x ≡ get_or xs i x → drop i xs ≡ x ∷ drop (i + 1) xs
+next : (xs : List (TimeParts × HeldRead)) (i : ℕ) (x : TimeParts × HeldRead) → i < length xs → x ≡ get_or xs i x → drop i xs ≡ x ∷ drop (i + 1) xs
 next xs i x h e = drop_more xs i x h ∙ ap (λ z. z ∷ drop (i + 1) xs) (sym e)
 
-pub held-next : (xs : List (TimeParts × Held)) (i : ℕ) (x : TimeParts × Held) → i < length xs → x ≡ get_or xs i x → AreHeld (drop i xs) → AreHeld (drop (i + 1) xs)
+pub held-next : (xs : List (TimeParts × HeldRead)) (i : ℕ) (x : TimeParts × HeldRead) → i < length xs → x ≡ get_or xs i x → AreHeld (drop i xs) → AreHeld (drop (i + 1) xs)
 held-next xs i x h e held = let k : AreHeld (x ∷ drop (i + 1) xs) = subst AreHeld (next xs i x h e) held in k.1
 
-pub reread-next : (xs : List (TimeParts × Held)) (i : ℕ) (x : TimeParts × Held) (g g' : Hand) → i < length xs → x ≡ get_or xs i x → g' ≡ on_read g x.1.from x.0 x.1.object
+pub reread-next : (xs : List (TimeParts × HeldRead)) (i : ℕ) (x : TimeParts × HeldRead) (g g' : Hand) → i < length xs → x ≡ get_or xs i x → g' ≡ on_read g x.1.from x.0 x.1.object
     → reread (drop (i + 1) xs) g' ≡ reread (drop i xs) g
 reread-next xs i x g g' h e is = ap (λ z. reread (drop (i + 1) xs) z) is ∙ ap (λ z. reread z g) (sym (next xs i x h e))
 

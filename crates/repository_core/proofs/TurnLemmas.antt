@@ -6,7 +6,7 @@ use Rattle.turn_form.specs.declared.turns.Out.{Out}
 use Rattle.turn_form.specs.declared.turns.Turn.{Turn}
 use Rattle.repository_core.specs.Hands.{Mind, Hand, now}
 use Rattle.repository_core.specs.Cores.{given}
-use Rattle.repository_core.specs.Turns.{Input, Given, told, hand_at, mind_of, gives}
+use Rattle.repository_core.specs.Turns.{Input, Given, hand_turn, hand_at, mind_of, gives}
 
 abbrev given_as : List Effect → List Out → Mind → Given
 given_as effects outs mind = record { effects = effects; outs = outs; mind = mind }
@@ -19,13 +19,13 @@ began-is : (h : Hand) → h.fresh ≡ [] → h.outs ≡ [] → h ≡ hand_at h.n
 began-is h e f =
     ap (λ z. with_parts h z h.outs h.base) e ∙ ap (λ z. with_parts h [] z h.base) f ∙ ap (λ z. with_parts h [] [] z) (sym (reverse-reverse h.base))
 
-pub gives-is : (before first last after : Hand) (input : Input) (t : Turn) → before.fresh ≡ [] → before.outs ≡ [] → first ≡ before → last ≡ told first input
+pub gives-is : (before first last after : Hand) (input : Input) (t : Turn) → before.fresh ≡ [] → before.outs ≡ [] → first ≡ before → last ≡ hand_turn first input
     → t.effects ≡ reverse last.fresh → t.outs ≡ last.outs → after ≡ record last { base = now last; fresh = []; outs = [] }
     → given t (mind_of after) ≡ gives before.number (reverse before.base) (mind_of before) input
 unfolding gives
 gives-is before first last after input t e f began went effects outs closed =
     ap (λ z. given_as z t.outs (mind_of after)) effects ∙ ap (λ z. given_as (reverse last.fresh) z (mind_of after)) outs ∙ ap (λ z. given_as (reverse last.fresh) last.outs (mind_of z)) closed
-    ∙ ap (λ z. given_as (reverse z.fresh) z.outs (mind_of z)) (went ∙ ap (λ z. told z input) (began ∙ began-is before e f))
+    ∙ ap (λ z. given_as (reverse z.fresh) z.outs (mind_of z)) (went ∙ ap (λ z. hand_turn z input) (began ∙ began-is before e f))
 
 -- between two calls the log is that of the turn in hand
 pub at-rest : (h : Hand) → h.fresh ≡ [] → now h ≡ h.base

@@ -8,11 +8,11 @@ use Rattle.object_history.specs.declared.steps.HistoryFault.{HistoryFault}
 use Rattle.repository_core.specs.declared.books.Books.{Books}
 use Rattle.repository_core.specs.Hands.{Hand}
 use Rattle.repository_core.specs.Calls.{Since, IsCaused}
-use Rattle.repository_log.specs.Lookups.{Agrees}
+use Rattle.repository_log.specs.Lookups.{BooksShow}
 
 -- what they look up agrees with the log, but for the records whose expiry isn't noted yet
 abbrev pub AgreeBut : {H : Type 0} {g : _} → (H → List Mark) → List (StampParts × Decision) → List Effect → Books H g → Type 0
-AgreeBut content pending log b = Agrees pending log (content b.histories) b.records b.early.entries
+AgreeBut content pending log b = BooksShow pending log (content b.histories) b.records b.early.entries
 
 -- what they look up agrees with the log
 abbrev pub AgreeWith : {H : Type 0} {g : _} → (H → List Mark) → List Effect → Books H g → Type 0

@@ -8,14 +8,14 @@ use Rattle.pseudo_time.specs.declared.nodes.NodeId.{NodeId}
 use Rattle.effect_form.specs.declared.effects.Effect.{Effect}
 use Rattle.message_form.specs.declared.messages.Message.{Message}
 use Rattle.turn_form.specs.declared.turns.Out.{Out}
-use Rattle.repository_core.specs.declared.waits.Held.{Held}
+use Rattle.repository_core.specs.declared.waits.HeldRead.{HeldRead}
 use Rattle.repository_core.specs.declared.waits.Asker.{Asker}
 
 -- What a repository remembers beside its log, and loses in a crash. `held` are the reads that wait for a decision, by
 -- their pseudotimes, in rising order; `askers` are the repositories that are to be told of a decision, in the order of
 -- their numbers; `moment` is the last moment that it heard, or the run's start.
 pub record Mind : Type 0 where
-  pub held : List (TimeParts × Held)
+  pub held : List (TimeParts × HeldRead)
   pub askers : List Asker
   pub moment : ℕ
 
@@ -26,7 +26,7 @@ pub record Hand : Type 0 where
   pub base : List Effect
   pub fresh : List Effect
   pub outs : List Out
-  pub held : List (TimeParts × Held)
+  pub held : List (TimeParts × HeldRead)
   pub askers : List Asker
   pub moment : ℕ
 

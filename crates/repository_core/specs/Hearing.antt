@@ -9,7 +9,7 @@ use Rattle.effect_form.specs.declared.effects.Effect.TheVariants as effect
 use Rattle.message_form.specs.declared.messages.Message.TheVariants as message
 use Rattle.commit_record.specs.declared.states.RecordState.{RecordState}
 use Rattle.commit_record.specs.declared.states.RecordState.TheVariants as state
-use Rattle.repository_core.specs.declared.waits.Held.{Held}
+use Rattle.repository_core.specs.declared.waits.HeldRead.{HeldRead}
 use Rattle.repository_log.specs.Logs.{record_of}
 use Rattle.repository_log.specs.Expiries.{due}
 use Rattle.repository_core.specs.Hands.{Hand, now, note, send}
@@ -36,7 +36,7 @@ expire_all m [] h = h
 expire_all m (s ∷ more) h = expire_all m more (expire m s h)
 
 -- the attempts with another home for which reads are held, in the order of their stamps, beside those that are given
-abbrev pub waited : ℕ → List (TimeParts × Held) → List StampParts → List StampParts
+abbrev pub waited : ℕ → List (TimeParts × HeldRead) → List StampParts → List StampParts
 waited n [] given = given
 waited n (e ∷ more) given = waited n more (if e.1.waits.home == n then given else insert_key stamp_cmp given e.1.waits)
 

@@ -9,7 +9,7 @@ use Rattle.object_history.specs.declared.steps.ReadStep.{ReadStep}
 use Rattle.object_history.specs.declared.steps.ReadStep.TheVariants as read
 use Rattle.object_history.specs.declared.steps.WriteStep.{WriteStep}
 use Rattle.object_history.specs.declared.steps.WriteStep.TheVariants as write
-pub use Rattle.repository_log.specs.Logs.{is_commit, told, marks, known, record_from, record_of, begun, HasSameRecords, IsUnknown, began_by, began}
+pub use Rattle.repository_log.specs.Logs.{is_commit, as_decision, marks, known, record_from, record_of, begun, HasSameRecords, IsUnknown, began_by, began}
 unfoldable pub use Rattle.repository_log.specs.Logs.{knows, first_begin, decision_of}
 
 -- the log after a read that is answered so

@@ -3,8 +3,8 @@ use Rattle.std.specs.Prelude.{List}
 use Rattle.pseudo_time.specs.TimeParts.{TimeParts}
 use Rattle.pseudo_time.specs.Lists.{Every}
 use Rattle.value_form.specs.ObjectBytes.{IsObject}
-use Rattle.repository_core.specs.declared.waits.Held.{Held}
+use Rattle.repository_core.specs.declared.waits.HeldRead.{HeldRead}
 
 -- held reads are of objects in range
-abbrev pub AreHeld : List (TimeParts × Held) → Type 0
+abbrev pub AreHeld : List (TimeParts × HeldRead) → Type 0
 AreHeld held = Every (λ e. IsObject e.1.object) held

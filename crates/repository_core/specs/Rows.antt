@@ -23,7 +23,7 @@ use Rattle.object_history.specs.declared.steps.WriteStep.{WriteStep}
 use Rattle.object_history.specs.declared.steps.WriteStep.TheVariants as write
 use Rattle.object_history.specs.History.{is_settled}
 use Rattle.object_history.specs.Answers.{read_step, write_step, stands_written}
-use Rattle.repository_core.specs.declared.waits.Held.{Held}
+use Rattle.repository_core.specs.declared.waits.HeldRead.{HeldRead}
 use Rattle.repository_core.specs.declared.waits.Asker.{Asker}
 use Rattle.repository_log.specs.Logs.{is_commit, marks, known, record_of}
 use Rattle.repository_core.specs.Hands.{Hand, now, note, send, asker_cmp}
@@ -35,19 +35,19 @@ use Rattle.pseudo_time.specs.Nodes.{repository, is_repository, is_broker}
 abbrev pub unhold : TimeParts → Hand → Hand
 unhold t h = record h { held = remove_entry (is_at (time_cmp t)) h.held }
 
-abbrev pub hold : TimeParts → Held → Hand → Hand
+abbrev pub hold : TimeParts → HeldRead → Hand → Hand
 hold t x h = record h { held = insert_entry time_cmp h.held t x }
 
-abbrev pub waits_for : StampParts → List (TimeParts × Held) → Bool
+abbrev pub waits_for : StampParts → List (TimeParts × HeldRead) → Bool
 waits_for s [] = false
 waits_for s (e ∷ more) = same_stamp e.1.waits s || waits_for s more
 
 -- the home of another repository's attempt is asked, unless a read was held for that attempt just before
-abbrev pub ask_for : List (TimeParts × Held) → StampParts → Hand → Hand
+abbrev pub ask_for : List (TimeParts × HeldRead) → StampParts → Hand → Hand
 ask_for before w h = if (w.home == h.number) || waits_for w before then h else send (repository w.home) (message.Ask w) h
 
 -- by what the histories answer: a value, stretched where they say so; or the read is held
-abbrev pub read_as : List (TimeParts × Held) → Hand → NodeId → TimeParts → ObjectId → ReadStep → Hand
+abbrev pub read_as : List (TimeParts × HeldRead) → Hand → NodeId → TimeParts → ObjectId → ReadStep → Hand
 read_as before h from t o (read.Answer v true) = send from (message.Value t v) (note (effect.Stretch o t) h)
 read_as before h from t o (read.Answer v false) = send from (message.Value t v) h
 read_as before h from t o (read.Wait w) = ask_for before w (hold t (record { from = from; object = o; waits = w }) h)
@@ -64,7 +64,7 @@ on_read h from t o = read_known h from t o (known (now h) t.stamp)
 -- ---- what a decided or learned attempt sets free
 
 -- each of these reads is carried out again
-abbrev pub reread : List (TimeParts × Held) → Hand → Hand
+abbrev pub reread : List (TimeParts × HeldRead) → Hand → Hand
 reread [] h = h
 reread (e ∷ more) h = reread more (on_read h e.1.from e.0 e.1.object)
 

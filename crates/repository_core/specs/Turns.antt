@@ -23,10 +23,10 @@ opened_mind start = record { held = []; askers = []; moment = start }
 abbrev pub hand_at : ℕ → List Effect → Mind → Hand
 hand_at n log mind = record { number = n; base = log; fresh = []; outs = []; held = mind.held; askers = mind.askers; moment = mind.moment }
 
-abbrev pub told : Hand → Input → Hand
-told h (Taking from m) = on_message h from m
-told h (Learning s c) = on_learn h s c
-told h (Hearing m) = on_moment h m
+abbrev pub hand_turn : Hand → Input → Hand
+hand_turn h (Taking from m) = on_message h from m
+hand_turn h (Learning s c) = on_learn h s c
+hand_turn h (Hearing m) = on_moment h m
 
 -- what a turn gives: its effects and the messages that it owes, in order, and what the repository then remembers
 pub record Given : Type 0 where
@@ -40,5 +40,5 @@ mind_of h = record { held = h.held; askers = h.askers; moment = h.moment }
 -- THE RULES OF REPOSITORIES: what repository n gives by its whole log, oldest first, by what it remembers, and for what it is told
 unfoldable pub gives : ℕ → List Effect → Mind → Input → Given
 gives n log mind input =
-    let h : Hand = told (hand_at n (reverse log) mind) input in
+    let h : Hand = hand_turn (hand_at n (reverse log) mind) input in
     record { effects = reverse h.fresh; outs = h.outs; mind = mind_of h }

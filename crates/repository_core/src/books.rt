@@ -12,7 +12,7 @@ ghost use Rattle.object_history.specs.History.{settle_of};
 ghost use Rattle.object_history.specs.Answers.{read_step, after_read, write_step, after_write, stands_written};
 ghost use Rattle.object_history.specs.Ranges.{IsReadStep};
 ghost use Rattle.repository_core.specs.Logs.{wrote, read_by};
-ghost use Rattle.repository_log.specs.Logs.{is_commit, known, told, record_of, began};
+ghost use Rattle.repository_log.specs.Logs.{is_commit, known, as_decision, record_of, began};
 ghost use Rattle.repository_log.specs.Lookups.{early_or, restored};
 ghost use Rattle.repository_log.specs.Expiries.{expiries};
 

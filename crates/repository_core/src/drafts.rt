@@ -10,7 +10,7 @@ ghost use Rattle.repository_core.specs.Hearing as hearing;
 ghost use Rattle.repository_core.specs.Ranges.{AreHeld};
 ghost use Rattle.turn_form.specs.Ranges.{IsEffect, AreEffects, AreOuts};
 
-use crate::waits::{Asker, Held};
+use crate::waits::{Asker, HeldRead};
 use effect_form::Effect;
 use message_form::Message;
 use pseudo_time::{NodeId, PseudoTime, Stamp};
@@ -32,7 +32,7 @@ pub struct Draft {
     log: Vec<Snapshot<Effect>>,
     effects: Vec<Effect>,
     outs: Vec<Out>,
-    held: BTreeMap<PseudoTime, Held>,
+    held: BTreeMap<PseudoTime, HeldRead>,
     askers: BTreeSet<Asker>,
 }
 
@@ -131,7 +131,7 @@ impl Draft {
     }
 
     /// A read is held.
-    pub fn keep(&mut self, at: PseudoTime, held: Held) -> Result<(), AllocError>
+    pub fn keep(&mut self, at: PseudoTime, held: HeldRead) -> Result<(), AllocError>
         requires { IsObject held.object }
         ensures { OnOk result (self.new ≡ rows.hold at held self.old) }
     {
@@ -152,7 +152,7 @@ impl Draft {
     }
 
     // The held reads that wait for the attempt.
-    fn waiting(&self, stamp: Stamp) -> Result<Vec<(PseudoTime, Held)>, AllocError>
+    fn waiting(&self, stamp: Stamp) -> Result<Vec<(PseudoTime, HeldRead)>, AllocError>
         ensures waiting { IfOk result (λ v. v.items ≡ filter (λ e. same_stamp e.1.waits stamp) self.now.held) }
         ensures in_range { IfOk result (λ v. AreHeld v.items) }
     {
@@ -173,7 +173,7 @@ impl Draft {
     }
 
     /// Releases the held reads that wait for the attempt, in rising order of pseudotime.
-    pub fn release(&mut self, stamp: Stamp) -> Result<Vec<(PseudoTime, Held)>, AllocError>
+    pub fn release(&mut self, stamp: Stamp) -> Result<Vec<(PseudoTime, HeldRead)>, AllocError>
         ensures released { IfOk result (λ v. v.items ≡ filter (λ e. same_stamp e.1.waits stamp) self.old.held) }
         ensures rest { OnOk result (self.new ≡ record self.old { held = filter (λ e. not (same_stamp e.1.waits stamp)) self.old.held }) }
         ensures in_range { IfOk result (λ v. AreHeld v.items) }

@@ -12,4 +12,4 @@ mod works;
 
 pub use repositories::{CoreFault, Repository, RepositoryRest};
 pub use turn_form::{Out, Turn};
-pub use waits::{Asker, Held};
+pub use waits::{Asker, HeldRead};

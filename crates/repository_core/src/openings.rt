@@ -1,6 +1,6 @@
 ghost use Rattle.std.specs.Prelude.{◌≡◌, ◌≤◌, ◌^◌, [], IfOk, reverse};
 ghost use Rattle.repository_log.specs.Logs.{marks};
-ghost use Rattle.repository_log.specs.Lookups.{Agrees};
+ghost use Rattle.repository_log.specs.Lookups.{BooksShow};
 
 use crate::drafts::Draft;
 use commit_record::Records;
@@ -19,7 +19,7 @@ pub fn open_books(
 ) -> Result<(Draft, Records, BTreeMap<Stamp, Decision>), AllocError>
     requires { moment ≤ 2 ^ 63 }
     ensures draft { IfOk result (λ r. r.0 ≡ record { number = number; base = reverse effects.now; fresh = []; outs = []; held = []; askers = []; moment = moment }) }
-    ensures agreed { IfOk result (λ r. Agrees [] (reverse effects.now) (marks (reverse effects.now)) r.1 r.2.entries) }
+    ensures agreed { IfOk result (λ r. BooksShow [] (reverse effects.now) (marks (reverse effects.now)) r.1 r.2.entries) }
 {
     let draft = open_draft(alloc, number, moment, effects)?;
     let (records, early) = records_of(alloc, effects)?;

@@ -10,14 +10,14 @@ ghost use Rattle.value_form.specs.declared.values.Value.{Value};
 ghost use Rattle.object_history.specs.declared.steps.ReadStep.TheVariants as read_step;
 ghost use Rattle.object_history.specs.declared.steps.WriteStep.{WriteStep};
 ghost use Rattle.object_history.specs.Ranges.{IsReadStep};
-ghost use Rattle.repository_core.specs.declared.waits.Held.{Held};
+ghost use Rattle.repository_core.specs.declared.waits.HeldRead.{HeldRead};
 ghost use Rattle.pseudo_time.specs.Nodes.{repository};
 ghost use Rattle.repository_core.specs.Hands as hands;
 ghost use Rattle.repository_core.specs.Rows as rows;
 ghost use Rattle.repository_core.specs.Hearing as hearing;
 
 use crate::drafts::Draft;
-use crate::waits::Held;
+use crate::waits::HeldRead;
 use effect_form::Effect;
 use message_form::Message;
 use object_history::{ReadStep, WriteStep};
@@ -65,7 +65,7 @@ impl Draft {
     ) -> Result<(), AllocError>
         requires object { IsObject object }
         requires value { IsValue value }
-        ensures { (before : List (TimeParts × Held)) → OnOk result (self.new ≡ rows.read_as before (rows.unhold at self.old) from at object (read_step.Answer value stretch)) }
+        ensures { (before : List (TimeParts × HeldRead)) → OnOk result (self.new ≡ rows.read_as before (rows.unhold at self.old) from at object (read_step.Answer value stretch)) }
     {
         let _in_range = at.stamp();
         self.unhold(at);
@@ -93,7 +93,7 @@ impl Draft {
         self.unhold(at);
         self.keep(
             at,
-            Held {
+            HeldRead {
                 from,
                 object,
                 waits,

@@ -186,7 +186,7 @@ impl Model for RepositoryRest {
     ghost use Rattle.repository_core.specs.Turns.{mind_of};
     ghost use Rattle.repository_core.specs.Cores.{CoreState};
     ghost use Rattle.repository_log.specs.Logs.{marks};
-    ghost use Rattle.repository_log.specs.Lookups.{Agrees};
+    ghost use Rattle.repository_log.specs.Lookups.{BooksShow};
 
     ghost Value = { CoreState };
 
@@ -197,7 +197,7 @@ impl Model for RepositoryRest {
       whole = r.whole;
     } };
 
-    ghost invariant = { λ r. r.whole ≡ true → (r.draft.fresh ≡ []) × (r.draft.outs ≡ []) × Agrees [] r.draft.base (marks r.draft.base) r.records r.early.entries };
+    ghost invariant = { λ r. r.whole ≡ true → (r.draft.fresh ≡ []) × (r.draft.outs ≡ []) × BooksShow [] r.draft.base (marks r.draft.base) r.records r.early.entries };
 }
 
 impl RepositoryRest {

@@ -3,7 +3,7 @@ use value_form::ObjectId;
 
 /// A read that waits until an attempt is decided.
 #[derive(Clone, Copy, Debug, PartialEq, Eq)]
-pub struct Held {
+pub struct HeldRead {
     /// Who is to be answered.
     pub from: NodeId,
     pub object: ObjectId,

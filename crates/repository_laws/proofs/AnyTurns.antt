@@ -27,7 +27,7 @@ use Rattle.object_history.specs.History.{is_settled}
 use Rattle.object_history.proofs.AnswerLemmas.{later-read, later-version}
 use Rattle.object_history.proofs.BoolLemmas.{and-left, and-right}
 use Rattle.object_history.proofs.ObjectLemmas.{eq-from}
-use Rattle.repository_core.specs.declared.waits.Held.{Held}
+use Rattle.repository_core.specs.declared.waits.HeldRead.{HeldRead}
 use Rattle.repository_core.specs.declared.waits.Asker.{Asker}
 use Rattle.repository_core.specs.Hands.{Hand, Mind, note, now, send}
 use Rattle.pseudo_time.specs.Nodes.{broker, repository}
@@ -68,7 +68,7 @@ module _ (ever : List Post) (r : ℕ) (log : List Effect) where
   send-fine : (h : Hand) (to : NodeId) (m : Message) → Refuses ever r (now h) to m → Fine h → Fine (send to m h)
   send-fine h to m p k = record { number = k.number; base = k.base; outs = every-append (λ o. Refuses ever r (now h) o.to o.message) h.outs (record { to = to; message = m } ∷ []) k.outs (p, tt) }
 
-  held-fine : (h : Hand) (xs : List (TimeParts × Held)) → Fine h → Fine (record h { held = xs })
+  held-fine : (h : Hand) (xs : List (TimeParts × HeldRead)) → Fine h → Fine (record h { held = xs })
   held-fine h xs k = record { number = k.number; base = k.base; outs = k.outs }
 
   askers-fine : (h : Hand) (xs : List Asker) → Fine h → Fine (record h { askers = xs })
@@ -81,7 +81,7 @@ module _ (ever : List Post) (r : ℕ) (log : List Effect) where
   if-fine true x y p q = p
   if-fine false x y p q = q
 
-  read-as-fine : (before : List (TimeParts × Held)) (h : Hand) (from : NodeId) (t : TimeParts) (o : ObjectId) (s : ReadStep) → Fine h → Fine (read_as before h from t o s)
+  read-as-fine : (before : List (TimeParts × HeldRead)) (h : Hand) (from : NodeId) (t : TimeParts) (o : ObjectId) (s : ReadStep) → Fine h → Fine (read_as before h from t o s)
   read-as-fine before h from t o (Answer v true) k = send-fine (note (effect.Stretch o t) h) from (message.Value t v) tt (note-fine h (effect.Stretch o t) k)
   read-as-fine before h from t o (Answer v false) k = send-fine h from (message.Value t v) tt k
   read-as-fine before h from t o (Wait w) k =
@@ -101,7 +101,7 @@ module _ (ever : List Post) (r : ℕ) (log : List Effect) where
   unfolding on_read
   on-read-fine h from t o k = read-known-fine h from t o (known (now h) t.stamp) k
 
-  reread-fine : (xs : List (TimeParts × Held)) (h : Hand) → Fine h → Fine (reread xs h)
+  reread-fine : (xs : List (TimeParts × HeldRead)) (h : Hand) → Fine h → Fine (reread xs h)
   reread-fine [] h k = k
   reread-fine (e ∷ xs) h k = reread-fine xs (on_read h e.1.from e.0 e.1.object) (on-read-fine h e.1.from e.0 e.1.object k)
 

@@ -17,7 +17,7 @@ use Rattle.object_history.specs.Views.{Distinct, Viewed}
 use Rattle.pseudo_time.proofs.OrderLemmas.{same_stamp-is, same_stamp-of}
 use Rattle.pseudo_time.specs.Lists.{Has}
 use Rattle.pseudo_time.specs.Order.{same_stamp}
-use Rattle.repository_core.specs.Logs.{decision_of, first_begin, is_commit, marks, record_from, record_of, told}
+use Rattle.repository_core.specs.Logs.{decision_of, first_begin, is_commit, marks, record_from, record_of, as_decision}
 use Rattle.repository_laws.specs.Facts.{FitsLog, IsTidy, IsTimely}
 use Rattle.turn_form.proofs.GrowthLemmas.{grew_keeps}
 use Rattle.turn_form.specs.Growth.{Grew}
@@ -34,7 +34,7 @@ settle-if false u v c d e h = h
 settle-if true u None c d e h = ap (λ z. or_else z c) h ∙ ap (λ z. Some z) e
 settle-if true u (Some w) c d e h = ap (λ z. or_else z c) h
 
-told-commit : (c : Bool) → c ≡ is_commit (told c)
+told-commit : (c : Bool) → c ≡ is_commit (as_decision c)
 told-commit true = refl
 told-commit false = refl
 
@@ -43,7 +43,7 @@ pub settle-decision : (l : List Effect) (s : StampParts) → settle_of (marks l)
 unfolding settle_of decision_of
 settle-decision [] s = refl
 settle-decision (Decide p d ∷ l) s = settle-if (same_stamp p s) _ (decision_of l s) (is_commit d) d refl (settle-decision l s)
-settle-decision (Learn p c ∷ l) s = settle-if (same_stamp p s) _ (decision_of l s) c (told c) (told-commit c) (settle-decision l s)
+settle-decision (Learn p c ∷ l) s = settle-if (same_stamp p s) _ (decision_of l s) c (as_decision c) (told-commit c) (settle-decision l s)
 settle-decision (f ∷ l) s = settle-decision l s
 
 none-commits : (v : Option Decision) → commits v ≡ None → v ≡ None
@@ -157,7 +157,7 @@ decide-if true p s e d None l q g h = let k : e ≡ d = cc h in inl (ap (λ z. D
 decide-if true p s e d (Some w) l q g h = inr (g h)
 
 learn-if : (b : Bool) (p s : StampParts) (c : Bool) (d : Decision) (u : Option Decision) (l : List Effect) → (b ≡ true → ⊥) → (u ≡ Some d → Has (Decide s d) l) →
-    (if b then or_else u (told c) else u) ≡ Some d → Has (Decide s d) (Learn p c ∷ l)
+    (if b then or_else u (as_decision c) else u) ≡ Some d → Has (Decide s d) (Learn p c ∷ l)
 learn-if false p s c d u l q g h = inr (g h)
 learn-if true p s c d u l q g h = absurd (q refl)
 
@@ -191,7 +191,7 @@ decide-counts r (Decide p e ∷ l) s d t (inl q) =
     first-if (same_stamp p s) e d (decision_of l s) (same_stamp-of p s same) (undecided l s (subst (λ z. settle_of (marks l) z ≡ None) same (unknown-unsettled l p t.1.0 t.1.1))) dec
 decide-counts r (Decide p e ∷ l) s d t (inr h) = stays-if (same_stamp p s) e d (decision_of l s) (decide-counts r l s d t.2 h)
 decide-counts r (Learn p c ∷ l) s d t (inl q) = absurd (cc q)
-decide-counts r (Learn p c ∷ l) s d t (inr h) = stays-if (same_stamp p s) (told c) d (decision_of l s) (decide-counts r l s d t.2 h)
+decide-counts r (Learn p c ∷ l) s d t (inr h) = stays-if (same_stamp p s) (as_decision c) d (decision_of l s) (decide-counts r l s d t.2 h)
 decide-counts r (f ∷ l) s d t (inl q) = absurd (cc q)
 decide-counts r (f ∷ l) s d t (inr h) = decide-counts r l s d (tidy-tail r f l t) h
 

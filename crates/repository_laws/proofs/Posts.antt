@@ -8,7 +8,7 @@ use Rattle.message_form.specs.declared.messages.Message.TheVariants as message
 use Rattle.pseudo_time.specs.declared.nodes.NodeId.{NodeId}
 use Rattle.turn_form.specs.Posts.{Post}
 use Rattle.pseudo_time.specs.TimeParts.{TimeParts}
-use Rattle.repository_core.specs.declared.waits.Held.{Held}
+use Rattle.repository_core.specs.declared.waits.HeldRead.{HeldRead}
 use Rattle.repository_laws.proofs.Logs.{settled-log, viewed-log}
 use Rattle.pseudo_time.proofs.ListLemmas.{has-left}
 use Rattle.pseudo_time.specs.Lists.{Has}
@@ -47,7 +47,7 @@ post-more ever more r l to (message.Tell s c) p = p
 post-more ever more r l to (message.Ask s) p = tt
 post-more ever more r l to m p = absurd p
 
-pub held-more : (ever more : List Post) (r : ℕ) (x : TimeParts × Held) → HeldHolds ever r x → HeldHolds (ever ++ more) r x
+pub held-more : (ever more : List Post) (r : ℕ) (x : TimeParts × HeldRead) → HeldHolds ever r x → HeldHolds (ever ++ more) r x
 held-more ever more r x p = ((has-left ever more _ p.0.0, p.0.1), p.1)
 
 -- more messages, more ticks, and longer logs at the homes

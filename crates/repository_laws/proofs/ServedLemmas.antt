@@ -31,7 +31,7 @@ use Rattle.object_history.specs.declared.steps.WriteStep.TheVariants as write
 use Rattle.object_history.specs.History.{is_settled}
 use Rattle.object_history.specs.Answers.{read_step, stands_written, write_step}
 use Rattle.repository_log.specs.Logs.{is_commit, known, marks, record_of}
-use Rattle.repository_core.specs.declared.waits.Held.{Held}
+use Rattle.repository_core.specs.declared.waits.HeldRead.{HeldRead}
 use Rattle.repository_core.specs.declared.waits.Asker.{Asker}
 use Rattle.repository_core.specs.Hands.{Hand, note, now, send}
 use Rattle.repository_core.specs.Rows.{accepts, begin_as, close_as, hold, on_begin, on_close, on_message, on_read, on_write, read_as, read_known, release, reread, row, tell_askers, tells, unhold, waits_for, write_as}
@@ -48,7 +48,7 @@ send-grows h to m o i = has-left h.outs (record { to = to; message = m } ∷ [])
 sent-here : (h : Hand) (to : NodeId) (m : Message) → Has (record { to = to; message = m }) (send to m h).outs
 sent-here h to m = has-right h.outs (record { to = to; message = m } ∷ []) (record { to = to; message = m }) (inl refl)
 
-read-as-grows : (before : List (TimeParts × Held)) (h : Hand) (from : NodeId) (t : TimeParts) (o : ObjectId) (s : ReadStep) → Grows h (read_as before h from t o s)
+read-as-grows : (before : List (TimeParts × HeldRead)) (h : Hand) (from : NodeId) (t : TimeParts) (o : ObjectId) (s : ReadStep) → Grows h (read_as before h from t o s)
 read-as-grows before h from t o (Answer v true) x i = has-left h.outs (record { to = from; message = message.Value t v } ∷ []) x i
 read-as-grows before h from t o (Answer v false) x i = has-left h.outs (record { to = from; message = message.Value t v } ∷ []) x i
 read-as-grows before h from t o (Wait w) x i = go ((w.home == h.number) || waits_for w before)
@@ -69,7 +69,7 @@ on-read-grows : (h : Hand) (from : NodeId) (t : TimeParts) (o : ObjectId) → Gr
 unfolding on_read
 on-read-grows h from t o x i = read-known-grows h from t o (known (now h) t.stamp) x i
 
-reread-grows : (xs : List (TimeParts × Held)) (h : Hand) → Grows h (reread xs h)
+reread-grows : (xs : List (TimeParts × HeldRead)) (h : Hand) → Grows h (reread xs h)
 reread-grows [] h x i = i
 reread-grows (e ∷ xs) h x i = reread-grows xs (on_read h e.1.from e.0 e.1.object) x (on-read-grows h e.1.from e.0 e.1.object x i)
 
@@ -120,16 +120,16 @@ close-gets : (h : Hand) (from : NodeId) (s : StampParts) (d : Decision) → (rec
 unfolding on_close
 close-gets h from s d = close-as-gets h from s d (record_of (now h) s)
 
-put-in : (t : TimeParts) (x : Held) (es : List (TimeParts × Held)) → Has (t, x) (insert_entry time_cmp es t x)
+put-in : (t : TimeParts) (x : HeldRead) (es : List (TimeParts × HeldRead)) → Has (t, x) (insert_entry time_cmp es t x)
 put-in t x [] = inl refl
 put-in t x (y ∷ es) = go (put-in t x es) (time_cmp t y.0) refl
   where
     go : Has (t, x) (insert_entry time_cmp es t x) → (o : Ordering) → time_cmp t y.0 ≡ o → Has (t, x) (match_ordering o ((t, x) ∷ y ∷ es) ((y.0, x) ∷ es) (y ∷ insert_entry time_cmp es t x))
     go again Less q = inl refl
-    go again Equal q = let f : TimeParts → TimeParts × Held = λ z. (z, x) in inl (ap f (sym (time_cmp-exact t y.0 q)))
+    go again Equal q = let f : TimeParts → TimeParts × HeldRead = λ z. (z, x) in inl (ap f (sym (time_cmp-exact t y.0 q)))
     go again Greater q = inr again
 
-read-as-gets : (before : List (TimeParts × Held)) (h : Hand) (from : NodeId) (t : TimeParts) (o : ObjectId) (s : ReadStep) →
+read-as-gets : (before : List (TimeParts × HeldRead)) (h : Hand) (from : NodeId) (t : TimeParts) (o : ObjectId) (s : ReadStep) →
     GetsAnswer (read_as before h from t o s) from (message.Read t o) ⊎ IsHeld (read_as before h from t o s) from t o
 read-as-gets before h from t o (Answer v true) = inl (gets (note (effect.Stretch o t) h) from (message.Read t o) (message.Value t v) (inr (v, refl)))
 read-as-gets before h from t o (Answer v false) = inl (gets h from (message.Read t o) (message.Value t v) (inr (v, refl)))

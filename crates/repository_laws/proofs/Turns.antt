@@ -22,7 +22,7 @@ use Rattle.object_history.specs.declared.steps.ReadStep.{ReadStep}
 use Rattle.object_history.specs.declared.steps.ReadStep.TheVariants.{Answer, Wait}
 use Rattle.object_history.specs.declared.steps.WriteStep.{WriteStep}
 use Rattle.object_history.specs.declared.steps.WriteStep.TheVariants as write
-use Rattle.repository_core.specs.declared.waits.Held.{Held}
+use Rattle.repository_core.specs.declared.waits.HeldRead.{HeldRead}
 use Rattle.repository_core.specs.declared.waits.Asker.{Asker}
 use Rattle.repository_laws.proofs.Logs.{unknown-begun, decided-stands, tidy-through, begin-home, decide-settles, put-logged}
 use Rattle.repository_laws.proofs.Posts.{post-stays}
@@ -73,7 +73,7 @@ every-add : {A : Type 0} (P : A → Type 0) (xs : List A) (x : A) → Every P xs
 every-add P xs x h p = every-append P xs (x ∷ []) h (p, tt)
 
 -- one more held read, at its place
-every-hold : (P : TimeParts × Held → Type 0) (t : TimeParts) (x : Held) (es : List (TimeParts × Held)) → P (t, x) → Every P es → Every P (insert_entry time_cmp es t x)
+every-hold : (P : TimeParts × HeldRead → Type 0) (t : TimeParts) (x : HeldRead) (es : List (TimeParts × HeldRead)) → P (t, x) → Every P es → Every P (insert_entry time_cmp es t x)
 every-hold P t x [] p h = (p, tt)
 every-hold P t x (e ∷ es) p h = go (time_cmp t e.0) refl (every-hold P t x es p h.1)
   where
@@ -115,7 +115,7 @@ module _ (ever : List Post) (homes : ℕ → List Effect) (ticks : List ℕ) (r 
     outs = every-add (λ p. PostHolds ever r (now h) p.to p.message) h.outs (record { to = to; message = m }) ok.outs post;
   }
 
-  held-ok : (h : Hand) (xs : List (TimeParts × Held)) → Every (HeldHolds ever r) xs → Fine h → Fine (record h { held = xs })
+  held-ok : (h : Hand) (xs : List (TimeParts × HeldRead)) → Every (HeldHolds ever r) xs → Fine h → Fine (record h { held = xs })
   held-ok h xs k ok = record { number = ok.number; base = ok.base; tidy = ok.tidy; grew = ok.grew; causes = ok.causes; held = k; outs = ok.outs }
 
   askers-ok : (h : Hand) (xs : List Asker) → Fine h → Fine (record h { askers = xs })
@@ -131,7 +131,7 @@ module _ (ever : List Post) (homes : ℕ → List Effect) (ticks : List ℕ) (r 
   tidy-now : (h : Hand) → Fine h → IsTidy r (now h)
   tidy-now h ok = tidy-through r h.base h.fresh ok.grew ok.tidy
 
-  read-as-ok : (before : List (TimeParts × Held)) (h : Hand) (from : NodeId) (t : TimeParts) (o : ObjectId) (s : ReadStep) →
+  read-as-ok : (before : List (TimeParts × HeldRead)) (h : Hand) (from : NodeId) (t : TimeParts) (o : ObjectId) (s : ReadStep) →
       read_step (marks (now h)) o t ≡ s → settle_of (marks (now h)) t.stamp ≢ Some false →
       ReadSent ever r t o → from ≡ broker t.stamp.broker → Fine h → Fine (read_as before h from t o s)
   read-as-ok before h from t o (Answer v true) e alive sent own ok =
@@ -140,7 +140,7 @@ module _ (ever : List Post) (homes : ℕ → List Effect) (ticks : List ℕ) (r 
   read-as-ok before h from t o (Answer v false) e alive sent own ok =
       send-ok h from (message.Value t v) (o, sent, own, answer-viewed (marks (now h)) o t v false alive e) ok
   read-as-ok before h from t o (Wait w) e alive sent own ok =
-      let x : Held = record { from = from; object = o; waits = w } in
+      let x : HeldRead = record { from = from; object = o; waits = w } in
       let k : Fine (hold t x h) = held-ok h (insert_entry time_cmp h.held t x) (every-hold (HeldHolds ever r) t x h.held (sent, own) ok.held) ok in
       if-ok ((w.home == h.number) || waits_for w before) (hold t x h) (send (repository w.home) (message.Ask w) (hold t x h)) k
       (send-ok (hold t x h) (repository w.home) (message.Ask w) tt k)
@@ -161,7 +161,7 @@ module _ (ever : List Post) (homes : ℕ → List Effect) (ticks : List ℕ) (r 
   unfolding on_read
   on-read-ok h from t o sent own ok = read-known-ok h from t o (settle_of (marks (now h)) t.stamp) refl sent own ok
 
-  reread-ok : (xs : List (TimeParts × Held)) (h : Hand) → Every (HeldHolds ever r) xs → Fine h → Fine (reread xs h)
+  reread-ok : (xs : List (TimeParts × HeldRead)) (h : Hand) → Every (HeldHolds ever r) xs → Fine h → Fine (reread xs h)
   reread-ok [] h k ok = ok
   reread-ok (e ∷ xs) h k ok = reread-ok xs (on_read h e.1.from e.0 e.1.object) k.1 (on-read-ok h e.1.from e.0 e.1.object k.0.0 k.0.1 ok)
 

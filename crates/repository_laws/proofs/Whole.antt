@@ -16,7 +16,7 @@ use Rattle.repository_core.specs.Hands.{Hand, Mind}
 use Rattle.pseudo_time.specs.Nodes.{repository}
 use Rattle.repository_core.specs.Rows.{on_message, on_learn}
 use Rattle.repository_core.specs.Hearing.{on_moment}
-use Rattle.repository_core.specs.Turns.{hand_at, told}
+use Rattle.repository_core.specs.Turns.{hand_at, hand_turn}
 use Rattle.repository_core.specs.Turns.Input.{Taking, Learning, Hearing}
 use Rattle.repository_laws.specs.Facts.{FitsLog, PostHolds, IsDecidedAt, RestsOn, HandHolds, IsBacked, HasCome}
 use Rattle.repository_laws.specs.Givens.{IsGiven, Gives}
@@ -90,11 +90,11 @@ module _ (ever : List Post) (homes : ℕ → List Effect) (ticks : List ℕ) (r 
         go false e = p
     backed-there Broker i m p = tt
 
-    pub gives-taking : (from : NodeId) (m : Message) → HasCome ever homes r from m → Gives ever homes ticks r log (told (hand_at r log mind) (Taking from m))
+    pub gives-taking : (from : NodeId) (m : Message) → HasCome ever homes r from m → Gives ever homes ticks r log (hand_turn (hand_at r log mind) (Taking from m))
     gives-taking from m came = gives (on_message (hand_at r log mind) from m) (take-ok ever there ticks r log (hand_at r log mind) from m (came.0, backed-there from.kind from.number m came.1) there-own given-ok)
 
-    pub gives-learning : (s : StampParts) (c : Bool) → IsDecidedAt homes s c → Gives ever homes ticks r log (told (hand_at r log mind) (Learning s c))
+    pub gives-learning : (s : StampParts) (c : Bool) → IsDecidedAt homes s c → Gives ever homes ticks r log (hand_turn (hand_at r log mind) (Learning s c))
     gives-learning s c at = gives (on_learn (hand_at r log mind) s c) (on-learn-ok ever there ticks r log (hand_at r log mind) s c there-own (decided-there s c at) given-ok)
 
-    pub gives-hearing : (m : ℕ) → Has m ticks → Gives ever homes ticks r log (told (hand_at r log mind) (Hearing m))
+    pub gives-hearing : (m : ℕ) → Has m ticks → Gives ever homes ticks r log (hand_turn (hand_at r log mind) (Hearing m))
     gives-hearing m tick = gives (on_moment (hand_at r log mind) m) (hear-ok ever there ticks r log (hand_at r log mind) m tick given-ok)

@@ -22,7 +22,7 @@ use Rattle.object_history.specs.declared.marks.Mark.TheVariants as mark
 use Rattle.object_history.specs.declared.steps.WriteStep.TheVariants as write
 use Rattle.object_history.specs.Answers.{write_step}
 use Rattle.object_history.specs.Views.{Starts, Viewed, Fits}
-use Rattle.repository_core.specs.declared.waits.Held.{Held}
+use Rattle.repository_core.specs.declared.waits.HeldRead.{HeldRead}
 use Rattle.repository_core.specs.Logs.{is_commit, marks, known, record_of}
 use Rattle.repository_core.specs.Hands.{Hand, now}
 use Rattle.pseudo_time.specs.Nodes.{repository, broker}
@@ -129,7 +129,7 @@ RestsOn ever homes ticks r (Acked k) = Unit {0}
 RestsOn ever homes ticks r (End i e) = Unit {0}
 
 -- a held read was sent by the broker that is to be answered
-abbrev pub HeldHolds : List Post → ℕ → TimeParts × Held → Type 0
+abbrev pub HeldHolds : List Post → ℕ → TimeParts × HeldRead → Type 0
 HeldHolds ever r e = ReadSent ever r e.0 e.1.object × (e.1.from ≡ broker e.0.stamp.broker)
 
 -- ---- turns

@@ -11,11 +11,11 @@ ghost use Rattle.message_form.specs.declared.messages.Message.{Message};
 ghost use Rattle.turn_form.specs.Posts.{Post, WasSent};
 ghost use Rattle.turn_form.specs.Growth.{Grew};
 ghost use Rattle.object_history.specs.Views.{Distinct};
-ghost use Rattle.repository_core.specs.declared.waits.Held.{Held};
+ghost use Rattle.repository_core.specs.declared.waits.HeldRead.{HeldRead};
 ghost use Rattle.repository_core.specs.Logs.{marks};
 ghost use Rattle.repository_core.specs.Hands.{Hand, Mind};
 ghost use Rattle.pseudo_time.specs.Nodes.{repository};
-ghost use Rattle.repository_core.specs.Turns.{hand_at, told};
+ghost use Rattle.repository_core.specs.Turns.{hand_at, hand_turn};
 ghost use Rattle.repository_core.specs.Turns.Input.{Taking, Learning, Hearing};
 ghost use Rattle.repository_laws.specs.Facts.{IsTimely, FitsLog, IsTidy, PostHolds, IsDecidedAt, RestsOn, HeldHolds, HasCome};
 ghost use Rattle.repository_laws.specs.AnyLogs.{RefusesRightly};
@@ -52,7 +52,7 @@ pub fn messages_stay_true()
 pub fn causes_stay()
     ensures effects { (ever more : List Post) (homes longer : ℕ → List Effect) (ticks late : List ℕ) (r : ℕ) (f : Effect) →
         ((n : ℕ) (g : Effect) → Has g (homes n) → Has g (longer n)) → RestsOn ever homes ticks r f → RestsOn (ever ++ more) longer (ticks ++ late) r f }
-    ensures held { (ever more : List Post) (r : ℕ) (e : TimeParts × Held) → HeldHolds ever r e → HeldHolds (ever ++ more) r e }
+    ensures held { (ever more : List Post) (r : ℕ) (e : TimeParts × HeldRead) → HeldHolds ever r e → HeldHolds (ever ++ more) r e }
 {}
 
 /// Each turn adds effects that fit, one by one, each with its cause; what its messages say holds of the
@@ -61,19 +61,19 @@ pub fn causes_stay()
 /// stamp's home; or a moment that was ticked.
 pub fn turns_keep_facts()
     ensures taking { (ever : List Post) (homes : ℕ → List Effect) (ticks : List ℕ) (r : ℕ) (log : List Effect) (mind : Mind) (from : NodeId) (m : Message) →
-        IsGiven ever homes r log mind → HasCome ever homes r from m → Gives ever homes ticks r log (told (hand_at r log mind) (Taking from m)) }
+        IsGiven ever homes r log mind → HasCome ever homes r from m → Gives ever homes ticks r log (hand_turn (hand_at r log mind) (Taking from m)) }
     ensures learning { (ever : List Post) (homes : ℕ → List Effect) (ticks : List ℕ) (r : ℕ) (log : List Effect) (mind : Mind) (s : StampParts) (c : Bool) →
-        IsGiven ever homes r log mind → IsDecidedAt homes s c → Gives ever homes ticks r log (told (hand_at r log mind) (Learning s c)) }
+        IsGiven ever homes r log mind → IsDecidedAt homes s c → Gives ever homes ticks r log (hand_turn (hand_at r log mind) (Learning s c)) }
     ensures hearing { (ever : List Post) (homes : ℕ → List Effect) (ticks : List ℕ) (r : ℕ) (log : List Effect) (mind : Mind) (m : ℕ) →
-        IsGiven ever homes r log mind → Has m ticks → Gives ever homes ticks r log (told (hand_at r log mind) (Hearing m)) }
+        IsGiven ever homes r log mind → Has m ticks → Gives ever homes ticks r log (hand_turn (hand_at r log mind) (Hearing m)) }
 {}
 
 /// Over every log, also over one that no calls could have left, a turn refuses a write only where the
 /// log says so.
 pub fn refusals_are_right()
-    ensures taking { (ever : List Post) (r : ℕ) (log : List Effect) (mind : Mind) (from : NodeId) (m : Message) → WasSent ever from (repository r) m → RefusesRightly ever r log (told (hand_at r log mind) (Taking from m)) }
-    ensures learning { (ever : List Post) (r : ℕ) (log : List Effect) (mind : Mind) (s : StampParts) (c : Bool) → RefusesRightly ever r log (told (hand_at r log mind) (Learning s c)) }
-    ensures hearing { (ever : List Post) (r : ℕ) (log : List Effect) (mind : Mind) (m : ℕ) → RefusesRightly ever r log (told (hand_at r log mind) (Hearing m)) }
+    ensures taking { (ever : List Post) (r : ℕ) (log : List Effect) (mind : Mind) (from : NodeId) (m : Message) → WasSent ever from (repository r) m → RefusesRightly ever r log (hand_turn (hand_at r log mind) (Taking from m)) }
+    ensures learning { (ever : List Post) (r : ℕ) (log : List Effect) (mind : Mind) (s : StampParts) (c : Bool) → RefusesRightly ever r log (hand_turn (hand_at r log mind) (Learning s c)) }
+    ensures hearing { (ever : List Post) (r : ℕ) (log : List Effect) (mind : Mind) (m : ℕ) → RefusesRightly ever r log (hand_turn (hand_at r log mind) (Hearing m)) }
 {}
 
 /// A request that isn't ignored is answered in the turn that takes it, or, a read that waits for an

@@ -16,8 +16,8 @@ use Rattle.commit_record.specs.States.{States, begin_step, begun, begun_at, sett
 use Rattle.object_history.specs.declared.marks.Mark.{Mark}
 use Rattle.object_history.specs.declared.marks.Mark.TheVariants.{Settle}
 use Rattle.object_history.specs.History.{or_else, settle_of}
-use Rattle.repository_log.specs.Logs.{is_commit, told, known, first_begin, decision_of, record_from, record_of, marks, began, began_by}
-use Rattle.repository_log.specs.Lookups.{Agrees, early_or, pending_or, restored}
+use Rattle.repository_log.specs.Logs.{is_commit, as_decision, known, first_begin, decision_of, record_from, record_of, marks, began, began_by}
+use Rattle.repository_log.specs.Lookups.{BooksShow, early_or, pending_or, restored}
 use Rattle.repository_log.specs.Opening.{AreRecords, AreEarly}
 use Rattle.repository_log.proofs.OpenLemmas.{get-put}
 use Rattle.repository_log.proofs.LogLemmas.{known-decision, commits, undecided, from-unknown, from-begin, from-none, record-begin, record-decide, record-learn}
@@ -29,7 +29,7 @@ early-is None = refl
 early-is (Some d) = refl
 
 -- at the end of the log
-pub opened-agrees : (l : List Effect) (r : States) (e : List (StampParts × Decision)) → AreRecords l r → AreEarly l e → Agrees [] l (marks l) r e
+pub opened-agrees : (l : List Effect) (r : States) (e : List (StampParts × Decision)) → AreRecords l r → AreEarly l e → BooksShow [] l (marks l) r e
 opened-agrees l r e h k = record {
   marked = refl;
   recorded = h;
@@ -56,7 +56,7 @@ decide-if true l s q x c w t e there none h = let k : Some t ≡ None = sym ther
 decide-if false l s q x c w t e there none h = h
 
 learn-if : (b : Bool) (v : Option Decision) (k : Option Bool) (w : Option Decision) (c : Bool) → (b ≡ true → v ≡ None) → (b ≡ true → k ≡ None) → v ≡ early_or w k
-    → (if b then or_else v (told c) else v) ≡ early_or w (if b then or_else k c else k)
+    → (if b then or_else v (as_decision c) else v) ≡ early_or w (if b then or_else k c else k)
 learn-if true (Some d) k w c f g h = let e : Some d ≡ None = f refl in absurd (cc e)
 learn-if true None (Some y) w c f g h = let e : Some y ≡ None = g refl in absurd (cc e)
 learn-if true None None None c f g h = refl
@@ -66,7 +66,7 @@ learn-if false v k w c f g h = h
 -- ---- one effect more
 
 module _ (l : List Effect) (m : List Mark) (r : States) (e : List (StampParts × Decision)) (s : StampParts) where
-  pub agree-decide : (t : ℕ) (x : Decision) → Agrees [] l m r e → record_of l s ≡ Some (Unknown t) → Agrees [] (Decide s x ∷ l) (Settle s (is_commit x) ∷ m) (settled r s x) e
+  pub agree-decide : (t : ℕ) (x : Decision) → BooksShow [] l m r e → record_of l s ≡ Some (Unknown t) → BooksShow [] (Decide s x ∷ l) (Settle s (is_commit x) ∷ m) (settled r s x) e
   unfolding first_begin decision_of settle_of
   agree-decide t x a unknown =
       let begin : first_begin l s ≡ Some t = from-begin (first_begin l s) (decision_of l s) t unknown in
@@ -88,8 +88,8 @@ module _ (l : List Effect) (m : List Mark) (r : States) (e : List (StampParts ×
   unfolding same_stamp
   listed-at rest q x = ap (λ b. cond b (Some x) (listed_at rest q)) ((eq_by_cmp_equiv stamp_cmp-total).symm q s)
 
-  pub agree-expire : (t : ℕ) (x : Decision) (rest : List (StampParts × Decision)) → Agrees ((s, x) ∷ rest) l m r e → record_of l s ≡ Some (Unknown t) → listed_at rest s ≡ None
-      → Agrees rest (Decide s x ∷ l) (Settle s (is_commit x) ∷ m) r e
+  pub agree-expire : (t : ℕ) (x : Decision) (rest : List (StampParts × Decision)) → BooksShow ((s, x) ∷ rest) l m r e → record_of l s ≡ Some (Unknown t) → listed_at rest s ≡ None
+      → BooksShow rest (Decide s x ∷ l) (Settle s (is_commit x) ∷ m) r e
   unfolding first_begin decision_of settle_of
   agree-expire t x rest a unknown once =
       let begin : first_begin l s ≡ Some t = from-begin (first_begin l s) (decision_of l s) t unknown in
@@ -103,7 +103,7 @@ module _ (l : List Effect) (m : List Mark) (r : States) (e : List (StampParts ×
         remembered = λ q h. decide-if (same_stamp s q) l s q x (is_commit x) (listed_at e q) t (same_stamp-is s q) begin h (a.remembered q h);
       }
 
-  pub agree-learn : (c : Bool) → Agrees [] l m r e → settle_of m s ≡ None → Agrees [] (Learn s c ∷ l) (Settle s c ∷ m) (settled r s (told c)) e
+  pub agree-learn : (c : Bool) → BooksShow [] l m r e → settle_of m s ≡ None → BooksShow [] (Learn s c ∷ l) (Settle s c ∷ m) (settled r s (as_decision c)) e
   unfolding first_begin decision_of settle_of
   agree-learn c a unsettled =
       let unknown : known l s ≡ None = ap (λ z. settle_of z s) (sym a.marked) ∙ unsettled in
@@ -111,8 +111,8 @@ module _ (l : List Effect) (m : List Mark) (r : States) (e : List (StampParts ×
       record {
         marked = ap (λ z. Settle s c ∷ z) a.marked;
         recorded = λ q.
-            decided-at r s q (told c) (first_begin l s) (a.recorded s ∙ ap (λ d. record_from (first_begin l s) d) none)
-            ∙ ap (λ u. if same_stamp s q then record_from (first_begin l s) (Some (told c)) else u) (a.recorded q) ∙ sym (record-learn l s q c none);
+            decided-at r s q (as_decision c) (first_begin l s) (a.recorded s ∙ ap (λ d. record_from (first_begin l s) d) none)
+            ∙ ap (λ u. if same_stamp s q then record_from (first_begin l s) (Some (as_decision c)) else u) (a.recorded q) ∙ sym (record-learn l s q c none);
         remembered = λ q h. learn-if (same_stamp s q) (decision_of l q) (known l q) (listed_at e q) c (λ b. ap (λ z. decision_of l z) (sym (same_stamp-is s q b)) ∙ none)
             (λ b. ap (λ z. known l z) (sym (same_stamp-is s q b)) ∙ unknown) (a.remembered q h);
       }
@@ -144,12 +144,12 @@ module _ (l : List Effect) (m : List Mark) (r : States) (e : List (StampParts ×
   new-none (Some (Unknown t)) h = absurd (cc h)
   new-none (Some (Decided x)) h = absurd (cc h)
 
-  agree-begun-as : (d : ℕ) (u : Option RecordState) → finite.get r s ≡ u → begin_step u ≢ begins.New → Agrees [] l m r e → Agrees [] (began_by u l s d) m (begun r s d) e
+  agree-begun-as : (d : ℕ) (u : Option RecordState) → finite.get r s ≡ u → begin_step u ≢ begins.New → BooksShow [] l m r e → BooksShow [] (began_by u l s d) m (begun r s d) e
   agree-begun-as d None is old a = absurd (old refl)
-  agree-begun-as d (Some v) is old a = subst (λ z. Agrees [] l m z e) (sym (ap (λ u. begun_at u r s d) is)) a
+  agree-begun-as d (Some v) is old a = subst (λ z. BooksShow [] l m z e) (sym (ap (λ u. begun_at u r s d) is)) a
 
-  agree-begin-as : (d : ℕ) (x : Option Decision) (u : Option RecordState) → record_of l s ≡ u → u ≡ None → Agrees [] l m r e → x ≡ early_or (listed_at e s) (settle_of m s)
-      → Agrees [] (began_by u l s d) m (restored x (begun r s d) s) e
+  agree-begin-as : (d : ℕ) (x : Option Decision) (u : Option RecordState) → record_of l s ≡ u → u ≡ None → BooksShow [] l m r e → x ≡ early_or (listed_at e s) (settle_of m s)
+      → BooksShow [] (began_by u l s d) m (restored x (begun r s d) s) e
   unfolding first_begin decision_of settle_of
   agree-begin-as d x (Some v) is none a early = absurd (cc none)
   agree-begin-as d x None is none a early =
@@ -164,10 +164,10 @@ module _ (l : List Effect) (m : List Mark) (r : States) (e : List (StampParts ×
       }
 
   -- the record was made
-  pub agree-begin : (d : ℕ) (x : Option Decision) → begin_step (finite.get r s) ≡ begins.New → Agrees [] l m r e → x ≡ early_or (listed_at e s) (settle_of m s)
-      → Agrees [] (began l s d) m (restored x (begun r s d) s) e
+  pub agree-begin : (d : ℕ) (x : Option Decision) → begin_step (finite.get r s) ≡ begins.New → BooksShow [] l m r e → x ≡ early_or (listed_at e s) (settle_of m s)
+      → BooksShow [] (began l s d) m (restored x (begun r s d) s) e
   agree-begin d x new a early = agree-begin-as d x (record_of l s) refl (new-none (record_of l s) (ap begin_step (sym (a.recorded s)) ∙ new)) a early
 
   -- it was there
-  pub agree-begun : (d : ℕ) → begin_step (finite.get r s) ≢ begins.New → Agrees [] l m r e → Agrees [] (began l s d) m (begun r s d) e
+  pub agree-begun : (d : ℕ) → begin_step (finite.get r s) ≢ begins.New → BooksShow [] l m r e → BooksShow [] (began l s d) m (begun r s d) e
   agree-begun d old a = agree-begun-as d (record_of l s) (a.recorded s) (λ k. old (ap begin_step (a.recorded s) ∙ k)) a

@@ -9,7 +9,7 @@ use Rattle.effect_form.specs.declared.effects.Effect.{Effect}
 use Rattle.effect_form.specs.declared.effects.Effect.TheVariants.{Begin, Decide, Learn}
 use Rattle.commit_record.specs.declared.states.RecordState.TheVariants.{Unknown, Decided}
 use Rattle.object_history.specs.History.{or_else, settle_of}
-use Rattle.repository_log.specs.Logs.{is_commit, told, known, first_begin, decision_of, record_from, record_of}
+use Rattle.repository_log.specs.Logs.{is_commit, as_decision, known, first_begin, decision_of, record_from, record_of}
 
 -- ---- whether it is settled
 
@@ -23,7 +23,7 @@ settle-if false u v c d e h = h
 settle-if true u None c d e h = ap (λ z. or_else z c) h ∙ ap (λ z. Some z) e
 settle-if true u (Some w) c d e h = ap (λ z. or_else z c) h
 
-told-commit : (c : Bool) → c ≡ is_commit (told c)
+told-commit : (c : Bool) → c ≡ is_commit (as_decision c)
 told-commit true = refl
 told-commit false = refl
 
@@ -32,7 +32,7 @@ pub known-decision : (l : List Effect) (s : StampParts) → known l s ≡ commit
 unfolding settle_of decision_of
 known-decision [] s = refl
 known-decision (Decide p d ∷ l) s = settle-if (same_stamp p s) _ (decision_of l s) (is_commit d) d refl (known-decision l s)
-known-decision (Learn p c ∷ l) s = settle-if (same_stamp p s) _ (decision_of l s) c (told c) (told-commit c) (known-decision l s)
+known-decision (Learn p c ∷ l) s = settle-if (same_stamp p s) _ (decision_of l s) c (as_decision c) (told-commit c) (known-decision l s)
 known-decision (f ∷ l) s = known-decision l s
 
 none-commits : (v : Option Decision) → commits v ≡ None → v ≡ None
@@ -96,6 +96,6 @@ unfolding first_begin decision_of
 record-decide l s q x none = decide-if (same_stamp s q) l s q x (same_stamp-is s q) none
 
 pub record-learn : (l : List Effect) (s q : StampParts) (c : Bool) → decision_of l s ≡ None
-    → record_of (Learn s c ∷ l) q ≡ (if same_stamp s q then record_from (first_begin l s) (Some (told c)) else record_of l q)
+    → record_of (Learn s c ∷ l) q ≡ (if same_stamp s q then record_from (first_begin l s) (Some (as_decision c)) else record_of l q)
 unfolding first_begin decision_of
-record-learn l s q c none = decide-if (same_stamp s q) l s q (told c) (same_stamp-is s q) none
+record-learn l s q c none = decide-if (same_stamp s q) l s q (as_decision c) (same_stamp-is s q) none

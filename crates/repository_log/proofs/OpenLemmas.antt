@@ -18,7 +18,7 @@ use Rattle.commit_record.specs.declared.states.RecordState.{RecordState}
 use Rattle.commit_record.specs.declared.states.RecordState.TheVariants.{Unknown, Decided}
 use Rattle.commit_record.specs.States.{States, begun, begun_at, settled, settled_at, listed_at}
 use Rattle.object_history.specs.History.{or_else}
-use Rattle.repository_log.specs.Logs.{told, first_begin, decision_of, record_from}
+use Rattle.repository_log.specs.Logs.{as_decision, first_begin, decision_of, record_from}
 use Rattle.repository_log.specs.Logs.{begun_by, decided_by}
 use Rattle.repository_log.specs.Opening.{kept_after, AreBegun, AreDecided, AreKept}
 
@@ -78,7 +78,7 @@ unfolding decision_of
 some-decided (Decide p e) l s q x h =
     let both : ◌≡◌ {A = StampParts × Decision} (p, e) (s, x) = cc h in ap (λ z. if same_stamp z.0 q then or_else (decision_of l q) z.1 else decision_of l q) both
 some-decided (Learn p c) l s q x h =
-    let both : ◌≡◌ {A = StampParts × Decision} (p, told c) (s, x) = cc h in ap (λ z. if same_stamp z.0 q then or_else (decision_of l q) z.1 else decision_of l q) both
+    let both : ◌≡◌ {A = StampParts × Decision} (p, as_decision c) (s, x) = cc h in ap (λ z. if same_stamp z.0 q then or_else (decision_of l q) z.1 else decision_of l q) both
 some-decided (Begin p d) l s q x h = absurd (cc h)
 some-decided (Put o y v) l s q x h = absurd (cc h)
 some-decided (Stretch o y) l s q x h = absurd (cc h)

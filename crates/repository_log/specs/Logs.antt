@@ -21,9 +21,9 @@ is_commit decision.Withdrawn = false
 is_commit (decision.Expired deadline moment) = false
 
 -- what was learned, as a decision
-abbrev pub told : Bool → Decision
-told true = decision.Committed
-told false = decision.Withdrawn
+abbrev pub as_decision : Bool → Decision
+as_decision true = decision.Committed
+as_decision false = decision.Withdrawn
 
 -- ---- what one effect says
 
@@ -58,7 +58,7 @@ begun_by (End i e) = None
 -- the attempt that it decides, with the decision
 abbrev pub decided_by : Effect → Option (StampParts × Decision)
 decided_by (Decide s d) = Some (s, d)
-decided_by (Learn s c) = Some (s, told c)
+decided_by (Learn s c) = Some (s, as_decision c)
 decided_by (Begin s d) = None
 decided_by (Put o x v) = None
 decided_by (Stretch o x) = None

@@ -150,7 +150,7 @@ pub fn is_commit(decision: Decision) -> bool
 
 /// What was learned, as a decision.
 pub fn learned(committed: bool) -> Decision
-    ensures { result ≡ logs.told committed }
+    ensures { result ≡ logs.as_decision committed }
 {
     if committed {
         Decision::Committed

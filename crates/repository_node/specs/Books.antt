@@ -8,7 +8,7 @@ use Rattle.object_header.specs.Tables.{ledger_of, store_of}
 use Rattle.repository_core.specs.Cores.{Core}
 use Rattle.world_core.specs.Cores.{IsRepository}
 use Rattle.world_core.specs.Nodes.{Mind}
-use Rattle.world_core.specs.Walks.{Life, whole}
+use Rattle.world_core.specs.Walks.{Life, all_effects}
 use Rattle.repository_node.specs.declared.books.Book.{Book}
 use Rattle.repository_node.specs.declared.books.Book.TheVariants.{Open, Shut}
 
@@ -23,7 +23,7 @@ medium_in (Shut medium) = medium
 
 -- the core has this life, and its store the life's durable log
 abbrev pub HasLife : {M : Type 0} {g : _} → Book M g → NodeId → Life → Type 0
-HasLife (Open core) n l = IsRepository n (whole l) l.mind core × ((ledger_of core.histories).log ≡ l.gated)
+HasLife (Open core) n l = IsRepository n (all_effects l) l.mind core × ((ledger_of core.histories).log ≡ l.gated)
 HasLife (Shut medium) n l = ⊥
 
 -- of the core's log, these effects aren't in its store yet

@@ -68,9 +68,9 @@ pub record Came (W : Type 0) : Type 0 where
   pub lines : List Line
   pub world : W
 
-pub data Outcome (W : Type 0) : Type 0 where
-  Goes : State W → Outcome W
-  Stops : Came W → Outcome W
+pub data Course (W : Type 0) : Type 0 where
+  Goes : State W → Course W
+  Stops : Came W → Course W
 
 -- ---- statements
 
@@ -85,39 +85,39 @@ line_of (Repeat l x part e) = l
 line_of (Withdraw l) = l
 
 module _ {W : Type 0} (answers : Answers W) where
-  abbrev pub stopped : State W → Stop → Outcome W
+  abbrev pub stopped : State W → Stop → Course W
   stopped st stop = Stops (record { stop = stop; lines = st.lines; world = st.world })
 
-  abbrev pub then_do : Outcome W → (State W → Outcome W) → Outcome W
+  abbrev pub then_do : Course W → (State W → Course W) → Course W
   then_do (Goes st) go = go st
   then_do (Stops came) go = Stops came
 
   -- a statement begins if the budget has room for it
-  abbrev pub counted : ℕ → ℕ → State W → (State W → Outcome W) → Outcome W
+  abbrev pub counted : ℕ → ℕ → State W → (State W → Course W) → Course W
   counted zero l st go = stopped st (Over (ending.Failed l fails.Budget))
   counted (suc left) l st go = go (record st { left = left })
 
   -- a statement goes on with what was evaluated, or fails
-  abbrev pub valued : {A : Type 0} → Result A FailKind → ℕ → State W → (A → Outcome W) → Outcome W
+  abbrev pub valued : {A : Type 0} → Result A FailKind → ℕ → State W → (A → Course W) → Course W
   valued (Ok x) l st go = go x
   valued (Err kind) l st go = stopped st (Over (ending.Failed l kind))
 
-  abbrev pub read_of : Option (Value × W) → List ℕ → ObjectId → State W → Outcome W
+  abbrev pub read_of : Option (Value × W) → List ℕ → ObjectId → State W → Course W
   read_of None name object st = stopped st (Asks (ToRead object))
   read_of (Some p) name object st = Goes (record st { names = with_name st.names name p.0; lines = st.lines ++ line.Read object p.0 ∷ []; world = p.1 })
 
-  abbrev pub write_of : Option W → ObjectId → Value → State W → Outcome W
+  abbrev pub write_of : Option W → ObjectId → Value → State W → Course W
   write_of None object value st = stopped st (Asks (ToWrite object value))
   write_of (Some w) object value st = Goes (record st { lines = st.lines ++ line.Wrote object value ∷ []; world = w })
 
   -- a part is carried out so many times
-  abbrev pub turns : ℕ → (State W → Outcome W) → State W → Outcome W
+  abbrev pub turns : ℕ → (State W → Course W) → State W → Course W
   turns zero part st = Goes st
   turns (suc n) part st = then_do (part st) (turns n part)
 
   -- `begun` is a statement that the budget had room for
   abbrev mutual
-    pub begun : Step → State W → Outcome W
+    pub begun : Step → State W → Course W
     begun (Let l name x) st = valued (value st.names x) l st (λ a. Goes (record st { names = with_name st.names name a }))
     begun (Read l name place) st = valued (object_at st.names place) l st (λ o. read_of (answers.read st.world o) name o st)
     begun (Write l place x) st = valued (object_at st.names place) l st (λ o. valued (value st.names x) l st (λ a. write_of (answers.write st.world o a) o a st))
@@ -128,16 +128,16 @@ module _ {W : Type 0} (answers : Answers W) where
     begun (Withdraw l) st = stopped st (Over (ending.Withdrawn l))
 
     -- the statements of a part, in order
-    pub all_done : Block → State W → Outcome W
+    pub all_done : Block → State W → Course W
     all_done End st = Goes st
     all_done (Then x part) st = then_do (counted st.left (line_of x) st (begun x)) (all_done part)
 
   -- one statement
-  abbrev pub done : Step → State W → Outcome W
+  abbrev pub done : Step → State W → Course W
   done x st = counted st.left (line_of x) st (begun x)
 
   -- a script that comes to its end is finished
-  abbrev pub finished : Outcome W → Came W
+  abbrev pub finished : Course W → Came W
   finished (Goes st) = record { stop = Over ending.Finished; lines = st.lines; world = st.world }
   finished (Stops came) = came
 

@@ -11,7 +11,7 @@ use Rattle.value_form.specs.declared.transcripts.Line.TheVariants as line
 use Rattle.value_form.specs.declared.values.Value.{Value}
 use Rattle.value_form.specs.Mirror.{plain, block, term, spot}
 use Rattle.value_form.specs.MirrorLaws.{shape, plain-out}
-use Rattle.script_meaning.specs.Meaning.{State, Came, Outcome, Goes, Stops, Over, Answer, by_answers, then_do, valued, turns, begun, done, all_done, value, object_at, condition, count, answers_of}
+use Rattle.script_meaning.specs.Meaning.{State, Came, Course, Goes, Stops, Over, Answer, by_answers, then_do, valued, turns, begun, done, all_done, value, object_at, condition, count, answers_of}
 use Rattle.script_run.specs.declared.frames.Part.{Part}
 use Rattle.script_run.specs.declared.frames.Part.TheVariants as part
 use Rattle.script_run.specs.declared.frames.Frame.{Frame}
@@ -24,7 +24,7 @@ abbrev St : Type 0
 St = State (List Answer)
 
 abbrev Out : Type 0
-Out = Outcome (List Answer)
+Out = Course (List Answer)
 
 abbrev End : Type 0
 End = Came (List Answer)

@@ -16,7 +16,7 @@ use Rattle.std.specs.Global.{Vec}
 use Rattle.script_run.specs.declared.nexts.Next.{Next}
 use Rattle.script_run.specs.declared.nexts.Next.TheVariants as next
 use Rattle.script_run.specs.declared.machines.Machine.{Machine}
-use Rattle.script_run.specs.Told.{Told, answered, stop_of, Tells}
+use Rattle.script_run.specs.RunParts.{RunParts, answered, stop_of, Tells}
 use Rattle.script_run.specs.Standings.{Standing, named, goes_to}
 use Rattle.script_run.specs.Steps.{step}
 use Rattle.script_run.specs.Machines.{stand_of, arrival_of, SameAhead, HasStopped}
@@ -101,7 +101,7 @@ halts script n h r is = record { in_range = r.in_range; ahead_is = r.ahead_is; f
 -- ---- as callers see it
 
 -- what was said at a halt
-pub told_tells : (script : List Stmt) (m : Machine) (waiting : Option (List ℕ)) (stop : Option Halt) (h : Halt) (t : Told) → IsRun script m waiting stop → told_by script m stop ≡ t → stop ≡ Some h → Tells t.script t.answers t.lines (next_of h)
+pub told_tells : (script : List Stmt) (m : Machine) (waiting : Option (List ℕ)) (stop : Option Halt) (h : Halt) (t : RunParts) → IsRun script m waiting stop → told_by script m stop ≡ t → stop ≡ Some h → Tells t.script t.answers t.lines (next_of h)
 told_tells script m waiting stop h t r view is =
     subst (λ z. Tells z.script z.answers z.lines (next_of h)) view (tells script m waiting h (subst (IsRun script m waiting) is r))
 
@@ -123,14 +123,14 @@ answered_view script m n stop now l a lines shows added same none =
     ∙ ap (λ z. record { script = script; answers = answers_of z; lines = z; said = None }) (ap (λ z. z.lines.items) same ∙ added)
     ∙ ap (λ z. record { script = script; answers = z; lines = m.lines.items ++ l ∷ []; said = None }) (answers_of-append m.lines.items (l ∷ []) ∙ ap (λ z. answers_of m.lines.items ++ z) shows)
 
-pub given_view : (script : List Stmt) (m n : Machine) (stop now : Option Halt) (t : Told) (name : List ℕ) (o p : ObjectId) (a : Value) (lines : Vec Line) → told_by script m stop ≡ t → stop ≡ Some (halt.Read name p) → t.said ≡ Some (next.Read o) → lines.items ≡ m.lines.items ++ line.Read p a ∷ [] → n ≡ record m { lines = lines; left = m.left - 1; at = m.at + 1 } → now ≡ None → told_by script n now ≡ answered t (Got a) (line.Read o a)
+pub given_view : (script : List Stmt) (m n : Machine) (stop now : Option Halt) (t : RunParts) (name : List ℕ) (o p : ObjectId) (a : Value) (lines : Vec Line) → told_by script m stop ≡ t → stop ≡ Some (halt.Read name p) → t.said ≡ Some (next.Read o) → lines.items ≡ m.lines.items ++ line.Read p a ∷ [] → n ≡ record m { lines = lines; left = m.left - 1; at = m.at + 1 } → now ≡ None → told_by script n now ≡ answered t (Got a) (line.Read o a)
 given_view script m n stop now t name o p a lines view is said added same none =
     let e : Some (next.Read p) ≡ Some (next.Read o) = sym (ap (λ z. z.said) (sym view) ∙ ap said_at is) ∙ said in
     let same_object : p ≡ o = cc e in
     answered_view script m n stop now (line.Read p a) (Got a) lines refl added same none
     ∙ ap (λ z. answered (told_by script m stop) (Got a) (line.Read z a)) same_object ∙ ap (λ z. answered z (Got a) (line.Read o a)) view
 
-pub stored_view : (script : List Stmt) (m n : Machine) (stop now : Option Halt) (t : Told) (o p : ObjectId) (a b : Value) (lines : Vec Line) → told_by script m stop ≡ t → stop ≡ Some (halt.Write p b) → t.said ≡ Some (next.Write o a) → lines.items ≡ m.lines.items ++ line.Wrote p b ∷ [] → n ≡ record m { lines = lines; left = m.left - 1; at = m.at + 1 } → now ≡ None → told_by script n now ≡ answered t Stored (line.Wrote o a)
+pub stored_view : (script : List Stmt) (m n : Machine) (stop now : Option Halt) (t : RunParts) (o p : ObjectId) (a b : Value) (lines : Vec Line) → told_by script m stop ≡ t → stop ≡ Some (halt.Write p b) → t.said ≡ Some (next.Write o a) → lines.items ≡ m.lines.items ++ line.Wrote p b ∷ [] → n ≡ record m { lines = lines; left = m.left - 1; at = m.at + 1 } → now ≡ None → told_by script n now ≡ answered t Stored (line.Wrote o a)
 stored_view script m n stop now t o p a b lines view is said added same none =
     let e : Some (next.Write p b) ≡ Some (next.Write o a) = sym (ap (λ z. z.said) (sym view) ∙ ap said_at is) ∙ said in
     let same_object : p ≡ o = cc e in
@@ -145,7 +145,7 @@ unsaid : (stop : Option Halt) → said_at stop ≡ None → stop ≡ None
 unsaid None is = refl
 unsaid (Some h) is = absurd (let never : ⊥ = cc is in never)
 
-pub nothing_said : (script : List Stmt) (m : Machine) (stop : Option Halt) (t : Told) → told_by script m stop ≡ t → t.said ≡ None → stop ≡ None
+pub nothing_said : (script : List Stmt) (m : Machine) (stop : Option Halt) (t : RunParts) → told_by script m stop ≡ t → t.said ≡ None → stop ≡ None
 nothing_said script m stop t view is = unsaid stop (ap (λ z. z.said) view ∙ is)
 
 -- the name that waited has its value, and the machine went on over the script
@@ -163,7 +163,7 @@ stopped_as script shown m s g waiting now stop h r none settled same ahead =
     (halts script g h (went_on script shown m s g waiting (subst (IsRun script m waiting) none r) settled.1 same ahead.0) (subst (λ z. HasStopped z h g) same ahead.1))
 
 -- the transcript and the halt are those of the talk with the answers from before
-pub stopped_tells : (script : List Stmt) (m g : Machine) (now : Option (List ℕ)) (stop : Option Halt) (h : Halt) (t : Told) (n : Next) → IsRun script g now (Some h) → told_by script m stop ≡ t → answers_of g.lines.items ≡ answers_of m.lines.items → n ≡ next_of h → Tells t.script t.answers g.lines.items n
+pub stopped_tells : (script : List Stmt) (m g : Machine) (now : Option (List ℕ)) (stop : Option Halt) (h : Halt) (t : RunParts) (n : Next) → IsRun script g now (Some h) → told_by script m stop ≡ t → answers_of g.lines.items ≡ answers_of m.lines.items → n ≡ next_of h → Tells t.script t.answers g.lines.items n
 stopped_tells script m g now stop h t n r view same is =
     subst (λ z. Tells z.script z.answers g.lines.items n) view
     (subst (λ z. Tells script z g.lines.items n) same (subst (Tells script (answers_of g.lines.items) g.lines.items) (sym is) (tells script g now h r)))

@@ -2,4 +2,4 @@ pub mod Machines
 pub mod Runs
 pub mod Standings
 pub mod Steps
-pub mod Told
+pub mod RunParts

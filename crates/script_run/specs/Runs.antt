@@ -11,7 +11,7 @@ use Rattle.script_run.specs.declared.halts.Halt.TheVariants as halt
 use Rattle.script_run.specs.declared.machines.Machine.{Machine}
 use Rattle.script_run.specs.declared.nexts.Next.{Next}
 use Rattle.script_run.specs.declared.nexts.Next.TheVariants as next
-use Rattle.script_run.specs.Told.{Told}
+use Rattle.script_run.specs.RunParts.{RunParts}
 use Rattle.script_run.specs.Standings.{named, goes_to}
 use Rattle.script_run.specs.Machines.{stand_of, HasStopped}
 
@@ -29,7 +29,7 @@ abbrev pub said_at : Option Halt → Option Next
 said_at None = None
 said_at (Some h) = Some (next_of h)
 
-abbrev pub told_by : List Stmt → Machine → Option Halt → Told
+abbrev pub told_by : List Stmt → Machine → Option Halt → RunParts
 told_by script m stop = record { script = script; answers = answers_of m.lines.items; lines = m.lines.items; said = said_at stop }
 
 -- where a run has stopped, no name waits for its value

@@ -8,7 +8,7 @@ use Rattle.value_form.specs.declared.values.Value.{Value}
 use Rattle.value_form.specs.declared.values.Value.TheVariants as v
 use Rattle.script_meaning.specs.Names.{Names, with_name}
 use Rattle.value_form.specs.Mirror.{Block, block}
-use Rattle.script_meaning.specs.Meaning.{State, Came, Outcome, Goes, Stops, Answer, finished, all_done, turns, by_answers}
+use Rattle.script_meaning.specs.Meaning.{State, Came, Course, Goes, Stops, Answer, finished, all_done, turns, by_answers}
 use Rattle.script_run.specs.declared.frames.Part.{Part}
 use Rattle.script_run.specs.declared.frames.Part.TheVariants as part
 use Rattle.script_run.specs.declared.frames.Frame.{Frame}
@@ -35,7 +35,7 @@ pub data Rest : Type 0 where
   -- a part so many times, and then the rest
   Again : ℕ → Block → Rest → Rest
 
-abbrev pub then_come : Outcome (List Answer) → (State (List Answer) → Came (List Answer)) → Came (List Answer)
+abbrev pub then_come : Course (List Answer) → (State (List Answer) → Came (List Answer)) → Came (List Answer)
 then_come (Goes st) go = go st
 then_come (Stops came) go = came
 

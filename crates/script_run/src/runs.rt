@@ -3,7 +3,7 @@ ghost use Rattle.value_form.specs.declared.objects.ObjectId.{ObjectId};
 ghost use Rattle.value_form.specs.declared.values.Value.{Value};
 ghost use Rattle.script_meaning.specs.Meaning.{Got, Stored};
 ghost use Rattle.value_form.specs.Ranges.{IsScript};
-ghost use Rattle.script_run.specs.Told.{begun, answered, IsRead, IsWrite, Tells};
+ghost use Rattle.script_run.specs.RunParts.{begun, answered, IsRead, IsWrite, Tells};
 ghost use Rattle.script_run.specs.Standings.{last_value, named};
 ghost use Rattle.script_run.specs.Machines.{stand_of};
 ghost use Rattle.script_run.specs.Runs as spec;
@@ -35,10 +35,10 @@ pub struct Run {
 }
 
 impl Model for Run {
-    ghost use Rattle.script_run.specs.Told.{Told, told_code};
+    ghost use Rattle.script_run.specs.RunParts.{RunParts, told_code};
     ghost use Rattle.script_run.specs.Runs.{told_by, IsRun};
 
-    ghost Value = { Told };
+    ghost Value = { RunParts };
 
     ghost coded = { told_code };
 

@@ -65,7 +65,7 @@ module _ (p : AnyPlace) where
   abbrev ever : List Post
   ever = sent_by (walk base p.front)
 
-  any-facts-there : refines.Facts (any_facts p.script base.run base.acts (log_before p.trace)) base (logs_at (log_opened p.trace) (walk base p.front)) [] ever (λ moment. Has (Tick moment) p.front)
+  any-facts-there : refines.LogFacts (any_facts p.script base.run base.acts (log_before p.trace)) base (logs_at (log_opened p.trace) (walk base p.front)) [] ever (λ moment. Has (Tick moment) p.front)
   any-facts-there = any-trace p.script p.plan p.asked p.trace p.front p.rest p.legal p.here
 
   meets : Meets base (fates_of p.trace.sent) (start_world base) p.front

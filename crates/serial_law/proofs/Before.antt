@@ -19,7 +19,7 @@ use Rattle.object_history.specs.History.{Seen, scan}
 use Rattle.pseudo_time.specs.Order.{same_stamp, stamp_lt}
 use Rattle.script_meaning.specs.Meaning.{Answer, Got, Over, Stored, ToWrite}
 use Rattle.world_core.specs.Deeds.{RunLogs, Try, after_deed, all_deeds, before, committed, deed, deed_of, deed_stamps, finals, find, marks_at, written}
-use Rattle.serial_law.specs.Facts.{Facts, asks}
+use Rattle.serial_law.specs.Facts.{RunFacts, asks}
 use Rattle.serial_law.specs.Serial.{HasValue, HoldsAll, HoldsBefore}
 use Rattle.serial_model.specs.Questions.{Ends, Reads, Says, Tree, Writes, after, talked}
 use Rattle.value_form.specs.Objects.{Objects, object_cmp, value_at}
@@ -69,12 +69,12 @@ more [] ys a = omega arith
 more (x ∷ xs) ys a = let h = more xs ys a in omega (arith, h)
 
 -- a committed try is whole
-pub whole : (k : RunLogs) (ever : List Post) → Facts k ever → (T : Try) → Has T k.tries → committed k T.stamp ≡ true →
+pub whole : (k : RunLogs) (ever : List Post) → RunFacts k ever → (T : Try) → Has T k.tries → committed k T.stamp ≡ true →
     (talked T.script T.answers).stop ≡ Over ending.Finished
 whole k ever f T a c = (f.commit_asked T a (f.commit T.stamp (at-home k ever f T.stamp c))).0
 
 -- its puts are answered
-pub whole-puts : (k : RunLogs) (ever : List Post) → Facts k ever → (T : Try) → Has T k.tries → committed k T.stamp ≡ true →
+pub whole-puts : (k : RunLogs) (ever : List Post) → RunFacts k ever → (T : Try) → Has T k.tries → committed k T.stamp ≡ true →
     (o : ObjectId) (x : TimeParts) (w : Value) → PutAt o x w (marks_at k o) → x.stamp ≡ T.stamp → x.step ≤ length T.answers
 whole-puts k ever f T a c o x w h e =
     let l = put-at k o x w h in
@@ -91,7 +91,7 @@ whole-puts k ever f T a c o x w h e =
         subst (λ xs. x.step ≤ length xs) (sym e) (omega (arith, n, le))
 
 -- the deed of a committed stamp
-deed-of : (k : RunLogs) (ever : List Post) → Facts k ever → (s : StampParts) → committed k s ≡ true → (m : Objects) → HoldsBefore k s m →
+deed-of : (k : RunLogs) (ever : List Post) → RunFacts k ever → (s : StampParts) → committed k s ≡ true → (m : Objects) → HoldsBefore k s m →
     (r : Option Try) → find s k.tries ≡ r → Deed (marks_at k) s m (after_deed (deed_of r (written k s)) m)
 deed-of k ever f s c m h None e = given-deed k ever f s m
 deed-of k ever f s c m h (Some T) e =
@@ -191,7 +191,7 @@ next-holds k ok f s ss far m holds =
     holds
 
 -- the fold
-fold-all : (k : RunLogs) (ever : List Post) → Facts k ever → (ok f : StampParts → Bool) (ss : List StampParts) → Far k ok f ss → (m : Objects) →
+fold-all : (k : RunLogs) (ever : List Post) → RunFacts k ever → (ok f : StampParts → Bool) (ss : List StampParts) → Far k ok f ss → (m : Objects) →
     Holds (marks_at k) f m → Holds (marks_at k) ok (all_deeds k ss m)
 unfolding all_deeds
 fold-all k ever facts ok f [] far m holds =
@@ -224,7 +224,7 @@ empty-holds : (k : RunLogs) → Holds (marks_at k) (λ x. false) finite.empty
 empty-holds k o = subst (λ v. HasValue (scan (on (λ x. false)) o (marks_at k o)) v) (sym (ap (λ r. unwrap_or r Nothing) (finite.get-empty object_cmp o)))
     (none-one (scan (on (λ x. false)) o (marks_at k o)) (scan-passes (on (λ x. false)) o (marks_at k o)))
 
-pub before-holds : (k : RunLogs) (ever : List Post) → Facts k ever → (s : StampParts) → HoldsBefore k s (before k s)
+pub before-holds : (k : RunLogs) (ever : List Post) → RunFacts k ever → (s : StampParts) → HoldsBefore k s (before k s)
 unfolding before
 before-holds k ever facts s =
     let ok : StampParts → Bool = λ x. stamp_lt x s && committed k x in
@@ -233,7 +233,7 @@ before-holds k ever facts s =
     (λ x y c below h. and-both (stamp_lt x s) (committed k x) (stamp_lt-trans x y s below (and-left (stamp_lt y s) _ h)) c))
     finite.empty (empty-holds k)
 
-pub finals-hold : (k : RunLogs) (ever : List Post) → Facts k ever → HoldsAll k (finals k)
+pub finals-hold : (k : RunLogs) (ever : List Post) → RunFacts k ever → HoldsAll k (finals k)
 unfolding finals
 finals-hold k ever facts =
     let ok : StampParts → Bool = λ x. committed k x in

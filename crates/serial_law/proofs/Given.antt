@@ -16,7 +16,7 @@ use Rattle.object_history.specs.Objects.{same_object}
 use Rattle.object_history.specs.Views.{Distinct}
 use Rattle.pseudo_time.specs.Order.{lt, same_stamp}
 use Rattle.world_core.specs.Deeds.{RunLogs, Version, in_run, log_of, marks_at, put_in, puts_of, puts_to, set_all, written}
-use Rattle.serial_law.specs.Facts.{Facts}
+use Rattle.serial_law.specs.Facts.{RunFacts}
 use Rattle.repository_core.specs.Logs.{marks}
 use Rattle.value_form.specs.Objects.{Objects, value_at}
 use Rattle.object_history.proofs.ObjectLemmas.{same_object-is, same_object-of}
@@ -193,7 +193,7 @@ to-in k s (suc n) r o x v h j p e =
     ]
 
 -- the list of a stamp's puts has what picked at their objects, and nothing else
-pub written-at : (k : RunLogs) (ever : List Post) → Facts k ever → (s : StampParts) (v : Version) → In (written k s) v → Of s (marks_at k v.object) v
+pub written-at : (k : RunLogs) (ever : List Post) → RunFacts k ever → (s : StampParts) (v : Version) → In (written k s) v → Of s (marks_at k v.object) v
 written-at k ever f s v j =
     let w = in-to k s k.repositories v j in
     let here : in_run k w.0 ≡ true = in-both k w.0 w.1 w.2 in
@@ -250,16 +250,16 @@ one-value (Put a y u ∷ m) o x v w d (inr h) (inr j) = one-value m o x v w d.1 
 one-value (Stretch a y ∷ m) o x v w d h j = one-value m o x v w d h j
 one-value (Settle t c ∷ m) o x v w d h j = one-value m o x v w d h j
 
-pub distinct-at : (k : RunLogs) (ever : List Post) → Facts k ever → (o : ObjectId) → Distinct (marks_at k o)
+pub distinct-at : (k : RunLogs) (ever : List Post) → RunFacts k ever → (o : ObjectId) → Distinct (marks_at k o)
 distinct-at k ever f o = marks-cases k o (λ m. Distinct m) (λ i. f.distinct o.repository i) tt
 
 -- a listed put of the object, at its marks
-listed : (k : RunLogs) (ever : List Post) → Facts k ever → (s : StampParts) (u : Version) → In (written k s) u → (o : ObjectId) → u.object ≡ o →
+listed : (k : RunLogs) (ever : List Post) → RunFacts k ever → (s : StampParts) (u : Version) → In (written k s) u → (o : ObjectId) → u.object ≡ o →
     PutAt o u.start u.value (marks_at k o) × (u.start.stamp ≡ s)
 listed k ever f s u j o e =
     let w = written-at k ever f s u j in (subst (λ p. PutAt p u.start u.value (marks_at k p)) e w.0, w.1)
 
-given-one : (k : RunLogs) (ever : List Post) → Facts k ever → (s : StampParts) (m : Objects) (o : ObjectId) (r : Option Seen) → Picked o (marks_at k o) r →
+given-one : (k : RunLogs) (ever : List Post) → RunFacts k ever → (s : StampParts) (m : Objects) (o : ObjectId) (r : Option Seen) → Picked o (marks_at k o) r →
     Passes (on (λ x. same_stamp x s)) r → Starts (λ y. same_stamp y.stamp s ≡ true → AtMost r y) o (marks_at k o) →
     Deed_at r (value_at m o) (value_at (set_all (written k s) m) o)
 unfolding Picked
@@ -275,7 +275,7 @@ given-one k ever f s m o (Some q) st pas top =
     one-value (marks_at k o) o q.start u.value q.value (distinct-at k ever f o) (subst (λ z. PutAt o z u.value (marks_at k o)) x w.0) st)
 
 -- the deed of given writes
-pub given-deed : (k : RunLogs) (ever : List Post) → Facts k ever → (s : StampParts) (m : Objects) → Deed (marks_at k) s m (set_all (written k s) m)
+pub given-deed : (k : RunLogs) (ever : List Post) → RunFacts k ever → (s : StampParts) (m : Objects) → Deed (marks_at k) s m (set_all (written k s) m)
 given-deed k ever f s m o =
     given-one k ever f s m o (scan (on (λ x. same_stamp x s)) o (marks_at k o)) (picked (on (λ x. same_stamp x s)) o (marks_at k o))
     (scan-passes (on (λ x. same_stamp x s)) o (marks_at k o)) (top-all (on (λ x. same_stamp x s)) o (marks_at k o))

@@ -18,7 +18,7 @@ use Rattle.object_history.specs.Views.{Distinct}
 use Rattle.pseudo_time.specs.Order.{lt, same_stamp}
 use Rattle.script_meaning.specs.Meaning.{Answer, Got, Stored, ToWrite}
 use Rattle.world_core.specs.Deeds.{RunLogs, Try, Version, committed, in_run, lines_written, log_of, marks_at, put_in, puts_of, puts_to, written}
-use Rattle.serial_law.specs.Facts.{Facts, asks, at}
+use Rattle.serial_law.specs.Facts.{RunFacts, asks, at}
 use Rattle.repository_core.specs.Logs.{marks}
 use Rattle.serial_model.specs.Questions.{Ends, Reads, Says, Tree, Writes, after, talked}
 use Rattle.value_form.specs.declared.transcripts.Line.{Line}
@@ -188,7 +188,7 @@ strict-of s (Stretch a y ∷ m) ps d h k j = strict-of s m ps d h k j
 strict-of s (Settle t c ∷ m) ps d h k j = strict-of s m ps d h k j
 
 -- a put of the try's stamp in a log of the run: what its script asks there
-one-log : (k : RunLogs) (ever : List Post) → Facts k ever → (T : Try) → Has T k.tries → (r q : ℕ) → in_run k r ≡ true → in_run k q ≡ true →
+one-log : (k : RunLogs) (ever : List Post) → RunFacts k ever → (T : Try) → Has T k.tries → (r q : ℕ) → in_run k r ≡ true → in_run k q ≡ true →
     (o p : ObjectId) (x : TimeParts) (v w : Value) → x.stamp ≡ T.stamp → PutAt o x v (marks (log_of k r)) → PutAt p x w (marks (log_of k q)) → (o ≡ p) × (r ≡ q)
 one-log k ever f T a r q i j o p x v w e h g =
     let hp = f.put r o x v i (marks-put (log_of k r) o x v h) in
@@ -200,7 +200,7 @@ one-log k ever f T a r q i j o p x v w e h g =
     let obj : o ≡ p = write-object o p v w (sym ha.4 ∙ ap (λ xs. asks (after T.script xs)) same ∙ ga.4) in
     (obj, sym hp.0 ∙ ap (λ z. z.repository) obj ∙ gp.0)
 
-strict-to : (k : RunLogs) (ever : List Post) → Facts k ever → (T : Try) → Has T k.tries → (n : ℕ) → n ≤ k.repositories → Strict (puts_to k T.stamp n)
+strict-to : (k : RunLogs) (ever : List Post) → RunFacts k ever → (T : Try) → Has T k.tries → (n : ℕ) → n ≤ k.repositories → Strict (puts_to k T.stamp n)
 unfolding puts_to
 strict-to k ever f T a zero le = tt
 strict-to k ever f T a (suc n) le =
@@ -216,7 +216,7 @@ strict-to k ever f T a (suc n) le =
     (strict-to k ever f T a n (omega (arith, le)))
 
 -- the puts of a committed try
-pub puts-are-lines : (k : RunLogs) (ever : List Post) → Facts k ever → (T : Try) → Has T k.tries → committed k T.stamp ≡ true →
+pub puts-are-lines : (k : RunLogs) (ever : List Post) → RunFacts k ever → (T : Try) → Has T k.tries → committed k T.stamp ≡ true →
     written k T.stamp ≡ lines_written T.stamp 1 (talked T.script T.answers).lines
 unfolding version
 puts-are-lines k ever f T a c =

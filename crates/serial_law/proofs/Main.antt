@@ -13,18 +13,18 @@ use Rattle.serial_law.proofs.Before.{whole, before-holds}
 use Rattle.serial_law.proofs.Lines.{puts-are-lines}
 use Rattle.script_meaning.specs.Meaning.{Over}
 use Rattle.world_core.specs.Deeds.{RunLogs, Try, before, committed, marks_at}
-use Rattle.serial_law.specs.Facts.{Facts, MayCommit}
-use Rattle.serial_law.specs.Serial.{IsSerial, Serial, Whole}
-use Rattle.serial_model.specs.Questions.{Tree, talked, told}
+use Rattle.serial_law.specs.Facts.{RunFacts, MayCommit}
+use Rattle.serial_law.specs.Serial.{IsSerial, Serial, IsComplete}
+use Rattle.serial_model.specs.Questions.{Tree, talked, talked_alone}
 use Rattle.value_form.specs.Objects.{Objects}
 use Rattle.value_form.specs.declared.endings.Ending.{Ending}
 use Rattle.value_form.specs.declared.endings.Ending.TheVariants as ending
 use Rattle.pseudo_time.specs.Lists.{Has}
 
-whole-of : (t : Tree) (ans : List Answer) (m : Objects) (e : Ending) → Alike t ans m → (talked t ans).stop ≡ Over e → Whole (talked t ans) (told t m) e
+whole-of : (t : Tree) (ans : List Answer) (m : Objects) (e : Ending) → Alike t ans m → (talked t ans).stop ≡ Over e → IsComplete (talked t ans) (talked_alone t m) e
 whole-of t ans m e h k = let s = h.whole e k in record { over = k; lines = s.0; ends = s.1 }
 
-not-other : (k : RunLogs) (ever : List Post) → Facts k ever → (T : Try) → Has T k.tries → (e : Outcome) → T.ended ≡ Some e →
+not-other : (k : RunLogs) (ever : List Post) → RunFacts k ever → (T : Try) → Has T k.tries → (e : Outcome) → T.ended ≡ Some e →
     (e ≡ outcome.Committed → ⊥) → committed k T.stamp ≡ true → MayCommit (Some e) → ⊥
 not-other k ever f T a outcome.Committed h n c m = n refl
 not-other k ever f T a (outcome.Expired d t) h n c m =
@@ -32,8 +32,8 @@ not-other k ever f T a (outcome.Expired d t) h n c m =
     (f.decided T.stamp (decision.Expired d t) (f.end_expired T d t a h)) (at-home k ever f T.stamp c))
 not-other k ever f T a e h n c m = absurd m
 
-pub serial-try : (k : RunLogs) (ever : List Post) → Facts k ever → (T : Try) → Has T k.tries →
-    IsSerial k T (talked T.script T.answers) (told T.script (before k T.stamp))
+pub serial-try : (k : RunLogs) (ever : List Post) → RunFacts k ever → (T : Try) → Has T k.tries →
+    IsSerial k T (talked T.script T.answers) (talked_alone T.script (before k T.stamp))
 serial-try k ever f T a =
     let al = alone T.script T.answers T.stamp (marks_at k) (committed k) (lone k ever f T a) (before k T.stamp) (before-holds k ever f T.stamp) in
     record {
@@ -52,5 +52,5 @@ serial-try k ever f T a =
         absurd (not-other k ever f T a e h n c (subst MayCommit h (f.commit_asked T a (f.commit T.stamp (at-home k ever f T.stamp c))).1))
 
 -- the second part
-pub serial : (k : RunLogs) (ever : List Post) → Facts k ever → Serial k
+pub serial : (k : RunLogs) (ever : List Post) → RunFacts k ever → Serial k
 serial k ever f T a = serial-try k ever f T a

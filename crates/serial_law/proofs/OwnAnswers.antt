@@ -36,7 +36,7 @@ use Rattle.broker_laws.proofs.Moves.{clocks}
 use Rattle.world_facts.specs.NodeRules.{kind_post}
 use Rattle.serial_law.specs.Answers.{brings, IsAnsweredThere, StoredBefore}
 use Rattle.serial_law.specs.Facts.{asked_of}
-use Rattle.serial_law.specs.Runs.{Place, log_at, sent_before}
+use Rattle.serial_law.specs.Runs.{Position, log_at, sent_before}
 use Rattle.serial_law.proofs.Attempts.{found-try}
 use Rattle.serial_law.proofs.LogLemmas.{put-marks, marks-put}
 use Rattle.serial_law.proofs.Lone.{or-right}
@@ -57,7 +57,7 @@ never-same o p v e = cc e
 asks-same : (q r : Request) → Asks q ≡ Asks r → q ≡ r
 asks-same q r e = cc e
 
-module _ (p : Place) where
+module _ (p : Position) where
   abbrev ever : List Post
   ever = sent_before p
 

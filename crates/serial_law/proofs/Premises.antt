@@ -14,7 +14,7 @@ use Rattle.object_history.specs.Views.{Viewed}
 use Rattle.pseudo_time.specs.Lists.{Has}
 use Rattle.script_meaning.specs.Meaning.{Answer, Got, Request, Stored, ToRead, ToWrite}
 use Rattle.world_core.specs.Deeds.{RunLogs, Try, committed, in_run, log_of, marks_at}
-use Rattle.serial_law.specs.Facts.{Asked, Facts, asks, at}
+use Rattle.serial_law.specs.Facts.{Asked, RunFacts, asks, at}
 use Rattle.serial_model.specs.Questions.{after}
 use Rattle.serial_law.proofs.Puts.{PutAt}
 
@@ -31,7 +31,7 @@ same-some p q e = cc e
 same-object : (o p : ObjectId) (v w : Value) → Some (ToWrite p v) ≡ Some (ToWrite o w) → p ≡ o
 same-object o p v w e = cc e
 
-got-viewed : (k : RunLogs) (ever : List Post) → Facts k ever → (T : Try) → Has T k.tries → (pre post : List Answer) (v : Value) →
+got-viewed : (k : RunLogs) (ever : List Post) → RunFacts k ever → (T : Try) → Has T k.tries → (pre post : List Answer) (v : Value) →
     T.answers ≡ pre ++ (Got v ∷ post) → (o : ObjectId) × (asks (after T.script pre) ≡ Some (ToRead o)) × Viewed (marks_at k o) o (at T.stamp pre) v
 got-viewed k ever f T a pre post v e =
     let g = f.got T pre post v a e in
@@ -45,7 +45,7 @@ got-viewed k ever f T a pre post v e =
     )
 
 -- an acknowledged write: what was asked, and its put
-acked-put : (k : RunLogs) (ever : List Post) → Facts k ever → (T : Try) → Has T k.tries → (pre post : List Answer) →
+acked-put : (k : RunLogs) (ever : List Post) → RunFacts k ever → (T : Try) → Has T k.tries → (pre post : List Answer) →
     T.answers ≡ pre ++ (Stored ∷ post) → (o : ObjectId) × (v : Value) × (asks (after T.script pre) ≡ Some (ToWrite o v)) × PutAt o (at T.stamp pre) v (marks_at k o)
 acked-put k ever f T a pre post e =
     let g = f.acked T pre post a e in
@@ -60,7 +60,7 @@ acked-put k ever f T a pre post e =
           (put-marks (log_of k s.0.repository) s.0 (at T.stamp pre) s.1 s.3),
     )
 
-pub write-stored : (k : RunLogs) (ever : List Post) → Facts k ever → (T : Try) → Has T k.tries → (o : ObjectId) (w : Value) (pre : List Answer) →
+pub write-stored : (k : RunLogs) (ever : List Post) → RunFacts k ever → (T : Try) → Has T k.tries → (o : ObjectId) (w : Value) (pre : List Answer) →
     Written T.script T.answers o pre w → PutAt o (at T.stamp pre) w (marks_at k o)
 write-stored k ever f T a o w pre h =
     let s = acked-put k ever f T a pre h.0.0 h.0.1 in
@@ -77,7 +77,7 @@ put-at k o x v =
     marks-cases k o (λ m. PutAt o x v m → (in_run k o.repository ≡ true) × Has (effect.Put o x v) (log_of k o.repository))
     (λ e h. (e, marks-put (log_of k o.repository) o x v h)) (λ h. absurd h)
 
-pub put-written : (k : RunLogs) (ever : List Post) → Facts k ever → (T : Try) → Has T k.tries → (o : ObjectId) (x : TimeParts) (w : Value) →
+pub put-written : (k : RunLogs) (ever : List Post) → RunFacts k ever → (T : Try) → Has T k.tries → (o : ObjectId) (x : TimeParts) (w : Value) →
     PutAt o x w (marks_at k o) → x.stamp ≡ T.stamp → x.step ≤ length T.answers →
     (pre : List Answer) × (x.step ≡ length pre + 1) × Written T.script T.answers o pre w
 put-written c ever f T a o x w h e l =
@@ -99,7 +99,7 @@ put-written c ever f T a o x w h e l =
     next pre (Stored ∷ post) e n q = (pre, n, ((post, e), q))
     next pre (Got v ∷ post) e n q = let g = got-viewed c ever f T a pre post v e in absurd (cc (sym g.1 ∙ q))
 
-pub lone : (k : RunLogs) (ever : List Post) → Facts k ever → (T : Try) → Has T k.tries → Lone T.script T.answers T.stamp (marks_at k) (committed k)
+pub lone : (k : RunLogs) (ever : List Post) → RunFacts k ever → (T : Try) → Has T k.tries → Lone T.script T.answers T.stamp (marks_at k) (committed k)
 lone k ever f T a = record {
   yes = λ o x. marks-cases k o (λ m. settle_of m x ≡ Some true → committed k x ≡ true)
       (λ i h. sure-yes k ever f o.repository x i h) (unfold settle_of in λ h. absurd (cc h));

@@ -6,7 +6,7 @@ use Rattle.value_form.specs.declared.values.Value.{Value}
 use Rattle.object_history.specs.declared.marks.Mark.{Mark}
 use Rattle.object_history.specs.declared.marks.Mark.TheVariants.{Put, Stretch, Settle}
 use Rattle.object_history.specs.History.{Seen, scan}
-use Rattle.object_history.specs.Views.{Starts, Stands}
+use Rattle.object_history.specs.Views.{Starts, IsVersion}
 use Rattle.object_history.proofs.Words.{AtMost}
 use Rattle.object_history.proofs.ScanLemmas.{Standing, standing}
 
@@ -32,7 +32,7 @@ starts-at P o x w (Put a y v ∷ m) h (inr j) = starts-at P o x w m h.1 j
 starts-at P o x w (Stretch a y ∷ m) h j = starts-at P o x w m h j
 starts-at P o x w (Settle s c ∷ m) h j = starts-at P o x w m h j
 
-put-of : (o : ObjectId) (m : List Mark) (q : Seen) → Stands o m q → PutAt o q.start q.value m
+put-of : (o : ObjectId) (m : List Mark) (q : Seen) → IsVersion o m q → PutAt o q.start q.value m
 put-of o [] q s = absurd s
 put-of o (Put a x v ∷ m) q (inl s) = inl (s.0, ap (λ (z : Seen). z.start) s.1, ap (λ (z : Seen). z.value) s.1)
 put-of o (Put a x v ∷ m) q (inr s) = inr (put-of o m q s)

@@ -30,7 +30,7 @@ use Rattle.serial_model.specs.Questions.{Tree, after, stop, talked}
 use Rattle.serial_model.proofs.AnswerLemmas.{talked-stop}
 use Rattle.plan_form.specs.declared.plans.Plan.{Plan}
 use Rattle.plan_form.specs.Plans.{InRange}
-use Rattle.plan_form.specs.PlanTexts.{EachAct, IsWhole}
+use Rattle.plan_form.specs.PlanTexts.{EachAct, IsOfLanguage}
 use Rattle.repository_core.specs.Logs.{is_commit, marks}
 use Rattle.repository_laws.specs.Facts as repositories
 use Rattle.repository_laws.proofs.Logs.{tidy-distinct, learn-home, decide-home, decided-once, decide-cause}
@@ -50,7 +50,7 @@ use Rattle.world_facts.specs.NodeRules.{kind_post, node_facts}
 use Rattle.world_facts.specs.Refines as refines
 use Rattle.serial_law.specs.Causes.{HasReason, Causes}
 use Rattle.world_core.specs.Deeds.{Try, RunLogs, in_run}
-use Rattle.serial_law.specs.Facts.{Said, at, asks, request_at, asked_of, Asked, MayCommit, Facts}
+use Rattle.serial_law.specs.Facts.{Said, at, asks, request_at, asked_of, Asked, MayCommit, RunFacts}
 use Rattle.serial_law.specs.Runs.{attempt, run_of}
 use Rattle.broker_core.specs.Fits.{keep}
 use Rattle.broker_laws.proofs.Kept.{kept}
@@ -124,9 +124,9 @@ may-commit (Some (outcome.LaterVersion o x)) h = absurd h
 may-commit (Some (outcome.Spent c)) h = absurd h
 
 module _ (script : List ℕ → Tree) (b : Base) (plan : Plan) (logs : NodeId → List Effect) (past sent : List Post) (May : ℕ → Type 0)
-    (same_run : b.run ≡ plan.run) (same_acts : b.acts ≡ plan.acts) (whole : IsWhole plan) (scripted : Scripted script plan.acts)
+    (same_run : b.run ≡ plan.run) (same_acts : b.acts ≡ plan.acts) (whole : IsOfLanguage plan) (scripted : Scripted script plan.acts)
     (opened : (k : ℕ) → 1 ≤ k → k ≤ plan.brokers → is_some (opened_log b.opened (broker k)) ≡ true)
-    (f : refines.Facts (node_facts script) b logs past sent May) where
+    (f : refines.LogFacts (node_facts script) b logs past sent May) where
   abbrev ever : List Post
   ever = past ++ sent
 
@@ -287,7 +287,7 @@ module _ (script : List ℕ → Tree) (b : Base) (plan : Plan) (logs : NodeId �
   moved : (P : Try → Type 0) (a : Try) (m : Mine a) → P (attempt script m.try) → P a
   moved P a m h = subst P m.is h
 
-  pub run-facts : Facts run ever
+  pub run-facts : RunFacts run ever
   run-facts = record {
     decided_once = λ s d e h k. ap is_commit (decided-once s.home (log (repository s.home)) s d e (f.tidy (repository s.home)) h k);
     decided_home = λ r s d i h. sym (decide-home r (log (repository r)) s d (f.tidy (repository r)) h);

@@ -10,7 +10,7 @@ use Rattle.serial_law.proofs.LogLemmas.{SettledBy, OnlyLearns, settle-marks, has
 use Rattle.object_history.specs.History.{settle_of}
 use Rattle.pseudo_time.specs.Lists.{Has}
 use Rattle.world_core.specs.Deeds.{RunLogs, committed, has_commit, has_learned, in_run, log_of, some_of}
-use Rattle.serial_law.specs.Facts.{Facts}
+use Rattle.serial_law.specs.Facts.{RunFacts}
 use Rattle.repository_core.specs.Logs.{is_commit, marks}
 
 if-true : (b x y : Bool) → b ≡ true → x ≡ true → (if b then x else y) ≡ true
@@ -25,13 +25,13 @@ if-cases : (b x y : Bool) → (if b then x else y) ≡ true → ((b ≡ true) ×
 if-cases true x y h = inl (refl, h)
 if-cases false x y h = inr h
 
-pub committed-home : (k : RunLogs) (ever : List Post) → Facts k ever → (s : StampParts) → in_run k s.home ≡ true → Has (effect.Decide s decision.Committed) (log_of k s.home) → committed k s ≡ true
+pub committed-home : (k : RunLogs) (ever : List Post) → RunFacts k ever → (s : StampParts) → in_run k s.home ≡ true → Has (effect.Decide s decision.Committed) (log_of k s.home) → committed k s ≡ true
 unfolding committed
 committed-home k ever f s h j =
     if-true (in_run k s.home) (has_commit s (log_of k s.home)) _ h
     (commit-has s (log_of k s.home) (record { decides = λ d i. f.decided_once s d decision.Committed i j; learns = λ c i. f.learned_away s.home s c h i refl }) j)
 
-committed-learned : (k : RunLogs) (ever : List Post) → Facts k ever → (s : StampParts) (r : ℕ) → in_run k s.home ≡ false → in_run k r ≡ true → Has (effect.Learn s true) (log_of k r) →
+committed-learned : (k : RunLogs) (ever : List Post) → RunFacts k ever → (s : StampParts) (r : ℕ) → in_run k s.home ≡ false → in_run k r ≡ true → Has (effect.Learn s true) (log_of k r) →
     committed k s ≡ true
 unfolding committed
 committed-learned k ever f s r h i j =
@@ -63,7 +63,7 @@ commit-at : (k : RunLogs) (s : StampParts) (d : Decision) → Has (effect.Decide
 commit-at k s d h e = subst (λ x. Has (effect.Decide s x) (log_of k s.home)) (commits d e) h
 
 -- a committed stamp has its Decide Committed at home, wherever that is
-pub at-home : (k : RunLogs) (ever : List Post) → Facts k ever → (s : StampParts) → committed k s ≡ true → Has (effect.Decide s decision.Committed) (log_of k s.home)
+pub at-home : (k : RunLogs) (ever : List Post) → RunFacts k ever → (s : StampParts) → committed k s ≡ true → Has (effect.Decide s decision.Committed) (log_of k s.home)
 at-home k ever f s h =
     elim (committed-is k s h) [
       | inl e ↦ e.1
@@ -71,13 +71,13 @@ at-home k ever f s h =
     ]
 
 -- what a log of the run shows as settled was decided so at home
-home-says : (k : RunLogs) (ever : List Post) → Facts k ever → (r : ℕ) (s : StampParts) (c : Bool) → in_run k r ≡ true → SettledBy (log_of k r) s c →
+home-says : (k : RunLogs) (ever : List Post) → RunFacts k ever → (r : ℕ) (s : StampParts) (c : Bool) → in_run k r ≡ true → SettledBy (log_of k r) s c →
     (d : Decision) × Has (effect.Decide s d) (log_of k s.home) × (c ≡ is_commit d)
 home-says k ever f r s c i (inl h) =
     (h.0, subst (λ x. Has (effect.Decide s h.0) (log_of k x)) (f.decided_home r s h.0 i h.1) h.1, h.2)
 home-says k ever f r s c i (inr h) = f.learned r s c i h
 
-pub sure-yes : (k : RunLogs) (ever : List Post) → Facts k ever → (r : ℕ) (s : StampParts) → in_run k r ≡ true →
+pub sure-yes : (k : RunLogs) (ever : List Post) → RunFacts k ever → (r : ℕ) (s : StampParts) → in_run k r ≡ true →
     settle_of (marks (log_of k r)) s ≡ Some true → committed k s ≡ true
 sure-yes k ever f r s i h =
     let by : SettledBy (log_of k r) s true = settle-marks (log_of k r) s true h in
@@ -91,7 +91,7 @@ sure-yes k ever f r s i h =
     cases false e here (inl j) =
         absurd (true≢false (sym (ap (λ x. in_run k x) (sym (f.decided_home r s j.0 i j.1)) ∙ i) ∙ e))
 
-pub sure-no : (k : RunLogs) (ever : List Post) → Facts k ever → (r : ℕ) (s : StampParts) → in_run k r ≡ true →
+pub sure-no : (k : RunLogs) (ever : List Post) → RunFacts k ever → (r : ℕ) (s : StampParts) → in_run k r ≡ true →
     settle_of (marks (log_of k r)) s ≡ Some false → committed k s ≡ false
 sure-no k ever f r s i h = cases (committed k s) refl
   where

@@ -9,7 +9,7 @@ use Rattle.serial_model.specs.Questions.{left_after}
 use Rattle.serial_law.proofs.Lone.{Lone, Holds_below, value}
 use Rattle.script_meaning.specs.Meaning.{Answer, Got, Over, Request, Stored, ToRead, ToWrite}
 use Rattle.serial_law.specs.Facts.{asks}
-use Rattle.serial_model.specs.Questions.{Agrees, Ends, IsFrontOf, Reads, Says, Talked, Tree, Writes, after, left_by, talked, told}
+use Rattle.serial_model.specs.Questions.{AnswersOf, Ends, IsFrontOf, Reads, Says, Talked, Tree, Writes, after, left_by, talked, talked_alone}
 use Rattle.value_form.specs.Objects.{Objects, value_at}
 use Rattle.value_form.specs.declared.transcripts.Line.TheVariants as line
 use Rattle.std.specs.FinMap as finite
@@ -27,16 +27,16 @@ Right (Some (ToWrite o v)) (Got w) m = ⊥
 
 -- as far as the answers go, the script did what it does alone; once it ended, that is all of it, with the same ending and map
 pub record Alike (t : Tree) (ans : List Answer) (m : Objects) : Type 0 where
-  pub front : IsFrontOf (talked t ans).lines (told t m).lines
-  pub whole : (e : Ending) → (talked t ans).stop ≡ Over e → ((talked t ans).lines ≡ (told t m).lines) × ((told t m).stop ≡ Over e) × (left_by t m ≡ left_after t ans m)
+  pub front : IsFrontOf (talked t ans).lines (talked_alone t m).lines
+  pub whole : (e : Ending) → (talked t ans).stop ≡ Over e → ((talked t ans).lines ≡ (talked_alone t m).lines) × ((talked_alone t m).stop ≡ Over e) × (left_by t m ≡ left_after t ans m)
 
-alike-front : (t : Tree) (ans : List Answer) (m : Objects) → Agrees t ans m → IsFrontOf (talked t ans).lines (told t m).lines
+alike-front : (t : Tree) (ans : List Answer) (m : Objects) → AnswersOf t ans m → IsFrontOf (talked t ans).lines (talked_alone t m).lines
 alike-front (Ends e) [] m h = ([], refl)
 alike-front (Ends e) (a ∷ ans) m h = absurd h
 alike-front (Says v t) ans m h = let r = alike-front t ans m h in (r.0, ap (λ xs. line.Print v ∷ xs) r.1)
 alike-front (Reads o k) [] m h = (_, refl)
 alike-front (Reads o k) (Got v ∷ ans) m h =
-    let P : Value → Type 0 = λ w. IsFrontOf (talked (Reads o k) (Got v ∷ ans)).lines (line.Read o w ∷ (told (k w) m).lines) in
+    let P : Value → Type 0 = λ w. IsFrontOf (talked (Reads o k) (Got v ∷ ans)).lines (line.Read o w ∷ (talked_alone (k w) m).lines) in
     let r = alike-front (k v) ans m h.1 in
     subst P h.0 (r.0, ap (λ xs. line.Read o v ∷ xs) r.1)
 alike-front (Reads o k) (Stored ∷ ans) m h = absurd h
@@ -44,7 +44,7 @@ alike-front (Writes o v t) [] m h = (_, refl)
 alike-front (Writes o v t) (Stored ∷ ans) m h = let r = alike-front t ans (finite.insert m o v) h in (r.0, ap (λ xs. line.Wrote o v ∷ xs) r.1)
 alike-front (Writes o v t) (Got w ∷ ans) m h = absurd h
 
-pub alike : (t : Tree) (ans : List Answer) (m : Objects) → Agrees t ans m → Alike t ans m
+pub alike : (t : Tree) (ans : List Answer) (m : Objects) → AnswersOf t ans m → Alike t ans m
 alike t ans m h = record {
   front = alike-front t ans m h;
   whole = λ e k. let w = agrees-whole t ans m e h (sym (talked-stop t ans) ∙ k) in (ap (λ (x : Talked). x.lines) (sym w.0), ap (λ (x : Talked). x.stop) w.0 ∙ k, w.1);
@@ -53,7 +53,7 @@ alike t ans m h = record {
 -- answers that are right one by one agree
 agrees : (t : Tree) (ans : List Answer) (m : Objects) →
     ((pre post : List Answer) (a : Answer) → ans ≡ pre ++ (a ∷ post) → Right (asks (after t pre)) a (left_after t pre m)) →
-    Agrees t ans m
+    AnswersOf t ans m
 agrees (Ends e) [] m h = tt
 agrees (Ends e) (a ∷ ans) m h = h [] ans a refl
 agrees (Says v t) ans m h = agrees t ans m h

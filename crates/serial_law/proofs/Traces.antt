@@ -50,14 +50,14 @@ use Rattle.world_facts.specs.Refines.{logs_at, past_sent, Ticked}
 use Rattle.world_facts.proofs.NodeLaws.{node-laws, past-laws}
 use Rattle.world_facts.proofs.Openings.{legal-facts}
 use Rattle.world_facts.specs.NodeRules.{node_turns}
-use Rattle.serial_law.specs.Facts.{Facts}
-use Rattle.serial_law.specs.Runs.{Place, world_at, log_at, run_at, sent_before, TickedBefore, AnsweredIn, AnsweredBefore, Acknowledges, SeesStill}
+use Rattle.serial_law.specs.Facts.{RunFacts}
+use Rattle.serial_law.specs.Runs.{Position, world_at, log_at, run_at, sent_before, TickedBefore, AnsweredIn, AnsweredBefore, Acknowledges, SeesStill}
 use Rattle.serial_law.proofs.RunFacts.{each-has, run-facts, run-causes}
 use Rattle.serial_law.specs.Causes.{Causes, IsSpent}
 
-module _ (p : Place) where
+module _ (p : Position) where
   -- all that holds of logs and messages there
-  pub place-facts : refines.Facts (node_facts p.script) (base_of p.script p.plan p.trace) (logs_at p.logs (world_at p)) (past_sent p.script p.past.0) (sent_by (world_at p)) (TickedBefore p)
+  pub place-facts : refines.LogFacts (node_facts p.script) (base_of p.script p.plan p.trace) (logs_at p.logs (world_at p)) (past_sent p.script p.past.0) (sent_by (world_at p)) (TickedBefore p)
   place-facts = legal-facts p.script (node_turns p.script) (node_facts p.script) (node-laws p.script) (past-laws p.script) p.plan p.asked p.trace p.logs p.front p.rest p.past p.agrees p.legal p.here
 
   abbrev ever : List Post
@@ -69,7 +69,7 @@ module _ (p : Place) where
       le : (a b : ℕ) → a ≤ b → nat_le a b ≡ true
       le a b h = grind (arith, common_steps)
 
-  pub place-serial-facts : Facts (run_at p) ever
+  pub place-serial-facts : RunFacts (run_at p) ever
   place-serial-facts =
       run-facts p.script (base_of p.script p.plan p.trace) p.plan (logs_at p.logs (world_at p)) (past_sent p.script p.past.0) (sent_by (world_at p)) (TickedBefore p) refl refl p.whole p.legal.scripted
       brokers-opened place-facts

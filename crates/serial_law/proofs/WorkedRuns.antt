@@ -22,7 +22,7 @@ use Rattle.effect_form.specs.declared.effects.Effect.{Effect}
 use Rattle.effect_form.specs.declared.effects.Effect.TheVariants as effect
 use Rattle.effect_form.specs.declared.outcomes.Outcome.TheVariants as outcome
 use Rattle.script_meaning.specs.Meaning.{Got, Stored, ToRead, Asks, Over}
-use Rattle.serial_model.specs.Questions.{Tree, Ends, Says, Reads, Writes, talked, told, left_by}
+use Rattle.serial_model.specs.Questions.{Tree, Ends, Says, Reads, Writes, talked, talked_alone, left_by}
 use Rattle.pseudo_time.specs.declared.nodes.NodeId.{NodeId}
 use Rattle.plan_form.specs.declared.plans.Plan.{Plan}
 use Rattle.broker_core.specs.Book.{book}
@@ -105,7 +105,7 @@ alone-talked = refl
 alone-open : talked alone_script (Stored ∷ []) ≡ record { lines = line.Wrote (object 1 7) (int 10) ∷ []; stop = Asks (ToRead (object 1 7)) }
 alone-open = refl
 
-alone-alone : told alone_script finite.empty ≡ record { lines = alone_lines; stop = Over ending.Finished }
+alone-alone : talked_alone alone_script finite.empty ≡ record { lines = alone_lines; stop = Over ending.Finished }
 alone-alone = ap (λ x. record { lines = line.Wrote (object 1 7) (int 10) ∷ line.Read (object 1 7) x ∷ line.Print x ∷ []; stop = Over ending.Finished }) (value-one (object 1 7) (int 10))
 
 alone-left : left_by alone_script finite.empty ≡ one (object 1 7) (int 10)
@@ -173,7 +173,7 @@ retried-before : before retried_run (stamp 1 2 1) ≡ finite.empty
 unfolding before all_deeds log_stamps put_stamps try_stamps stamp_if stamp_in committed has_commit knows booked_tries find puts_to puts_of put_in book same_stamp stamp_lt lt
 retried-before = refl
 
-retried-reader : told (retried_script (2 ∷ [])) finite.empty ≡ record { lines = line.Read (object 1 1) Nothing ∷ []; stop = Over ending.Finished }
+retried-reader : talked_alone (retried_script (2 ∷ [])) finite.empty ≡ record { lines = line.Read (object 1 1) Nothing ∷ []; stop = Over ending.Finished }
 retried-reader = ap (λ x. record { lines = line.Read (object 1 1) x ∷ []; stop = Over ending.Finished }) (value-none (object 1 1))
 
 retried-finals : finals retried_run ≡ one (object 1 1) (int 5)
@@ -206,7 +206,7 @@ elsewhere-before : before elsewhere_run (stamp 2 1 1) ≡ one (object 2 1) (int 
 unfolding before all_deeds log_stamps put_stamps try_stamps stamp_if stamp_in committed has_commit knows booked_tries find puts_to puts_of put_in book same_stamp stamp_lt lt
 elsewhere-before = refl
 
-elsewhere-reader : (told (elsewhere_script (2 ∷ [])) (one (object 2 1) (int 4))).lines ≡ (talked (elsewhere_script (2 ∷ [])) (Got (int 4) ∷ [])).lines
+elsewhere-reader : (talked_alone (elsewhere_script (2 ∷ [])) (one (object 2 1) (int 4))).lines ≡ (talked (elsewhere_script (2 ∷ [])) (Got (int 4) ∷ [])).lines
 elsewhere-reader = ap (λ x. line.Read (object 2 1) x ∷ []) (value-one (object 2 1) (int 4))
 
 elsewhere-finals : finals elsewhere_run ≡ one (object 2 1) (int 4)
@@ -246,7 +246,7 @@ withdrawn_run = booked_of withdrawn_script (plan 1 2 1) (λ n. pick_log n.kind n
 withdrawn-talked : talked (withdrawn_script (1 ∷ [])) (Stored ∷ []) ≡ record { lines = line.Wrote (object 2 1) (int 7) ∷ []; stop = Over (ending.Withdrawn 2) }
 withdrawn-talked = refl
 
-withdrawn-alone : (told (withdrawn_script (1 ∷ [])) finite.empty).stop ≡ Over (ending.Withdrawn 2)
+withdrawn-alone : (talked_alone (withdrawn_script (1 ∷ [])) finite.empty).stop ≡ Over (ending.Withdrawn 2)
 withdrawn-alone = refl
 
 withdrawn-before : before withdrawn_run (stamp 2 1 1) ≡ finite.empty

@@ -53,7 +53,7 @@ MayCommit (Some outcome.Committed) = Unit {0}
 MayCommit (Some (outcome.Expired d m)) = Unit {0}
 MayCommit (Some e) = ⊥
 
-pub record Facts (k : RunLogs) (ever : List Post) : Type 0 where
+pub record RunFacts (k : RunLogs) (ever : List Post) : Type 0 where
   -- A stamp is decided once, at its home, and what was learned agrees with that.
   pub decided_once : (s : StampParts) (d e : Decision) → Has (effect.Decide s d) (log_of k s.home) → Has (effect.Decide s e) (log_of k s.home) → is_commit d ≡ is_commit e
   pub decided_home : (r : ℕ) (s : StampParts) (d : Decision) → in_run k r ≡ true → Has (effect.Decide s d) (log_of k r) → r ≡ s.home

@@ -18,7 +18,7 @@ use Rattle.object_history.specs.History.{alive, sees}
 use Rattle.object_history.specs.Views.{Firm, Viewed, value_of}
 use Rattle.serial_model.specs.Questions.{Tree}
 use Rattle.plan_form.specs.declared.plans.Plan.{Plan}
-use Rattle.plan_form.specs.PlanTexts.{IsWhole}
+use Rattle.plan_form.specs.PlanTexts.{IsOfLanguage}
 use Rattle.repository_core.specs.Logs.{is_commit, marks}
 use Rattle.pseudo_time.specs.Nodes.{broker}
 use Rattle.world_core.specs.declared.entries.Entry.{Entry}
@@ -26,7 +26,7 @@ use Rattle.world_core.specs.declared.traces.Trace.{Trace}
 use Rattle.world_core.specs.Walks.{World, walk, sent_by}
 use Rattle.world_core.specs.Legal.{Legal, base_of}
 use Rattle.world_core.specs.Answered.{WasAnswered}
-use Rattle.world_core.specs.Pasts.{Call, HasPast, Agrees}
+use Rattle.world_core.specs.Pasts.{Call, HasPast, OpenedWith}
 use Rattle.world_facts.specs.Refines.{logs_at, past_sent, Ticked}
 pub use Rattle.world_core.specs.Deeds.{Try, RunLogs, attempt, book_tries, run_of}
 unfoldable pub use Rattle.world_core.specs.Deeds.{run_tries}
@@ -35,7 +35,7 @@ unfoldable pub use Rattle.world_core.specs.Deeds.{run_tries}
 
 -- A place of a legal trace of a plan of the language, over logs with a past. `logs` are those so far, oldest effect first, and
 -- `front` are the trace's entries up to the place. `script` reads the texts of scripts.
-pub record Place : Type 0 where
+pub record Position : Type 0 where
   pub script : List ℕ → Tree
   pub plan : Plan
   pub asked : List Asked
@@ -44,28 +44,28 @@ pub record Place : Type 0 where
   pub front : List Entry
   pub rest : List Entry
   pub here : trace.entries ≡ front ++ rest
-  pub whole : IsWhole plan
+  pub whole : IsOfLanguage plan
   pub past : HasPast script logs
-  pub agrees : Agrees trace.opened logs
+  pub agrees : OpenedWith trace.opened logs
   pub legal : Legal script plan asked trace
 
-abbrev pub world_at : Place → World
+abbrev pub world_at : Position → World
 world_at p = walk (base_of p.script p.plan p.trace) p.front
 
 -- a node's durable log there, newest effect first
-abbrev pub log_at : Place → NodeId → List Effect
+abbrev pub log_at : Position → NodeId → List Effect
 log_at p n = reverse (logs_at p.logs (world_at p) n)
 
 -- the run as it stands there
-abbrev pub run_at : Place → RunLogs
+abbrev pub run_at : Position → RunLogs
 run_at p = run_of p.script p.plan (log_at p)
 
 -- all that was sent before, in the runs of the past and in the trace
-abbrev pub sent_before : Place → List Post
+abbrev pub sent_before : Position → List Post
 sent_before p = past_sent p.script p.past.0 ++ sent_by (world_at p)
 
 -- the moment was ticked before, in a run of the past or in the trace
-abbrev pub TickedBefore : Place → ℕ → Type 0
+abbrev pub TickedBefore : Position → ℕ → Type 0
 TickedBefore p = Ticked p.past.0 p.front
 
 -- in one of these runs the repository of the object took this write, and answered so
@@ -74,7 +74,7 @@ AnsweredIn script [] x o v step = ⊥
 AnsweredIn script (c ∷ cs) x o v step = WasAnswered (base_of script c.plan c.trace) c.trace.entries x o v step ⊎ AnsweredIn script cs x o v step
 
 -- before, in the trace or in a run of the past
-abbrev pub AnsweredBefore : Place → TimeParts → ObjectId → Value → WriteStep → Type 0
+abbrev pub AnsweredBefore : Position → TimeParts → ObjectId → Value → WriteStep → Type 0
 AnsweredBefore p x o v step = WasAnswered (base_of p.script p.plan p.trace) p.front x o v step ⊎ AnsweredIn p.script p.past.0 x o v step
 
 -- ---- acknowledgements

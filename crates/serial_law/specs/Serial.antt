@@ -14,11 +14,11 @@ use Rattle.effect_form.specs.declared.outcomes.Outcome.TheVariants as outcome
 use Rattle.object_history.specs.History.{Seen, scan}
 use Rattle.object_history.specs.Views.{value_of}
 use Rattle.script_meaning.specs.Meaning.{Over}
-use Rattle.serial_model.specs.Questions.{Talked, talked, told, IsFrontOf}
+use Rattle.serial_model.specs.Questions.{Talked, talked, talked_alone, IsFrontOf}
 use Rattle.world_core.specs.Deeds.{Try, RunLogs, committed, before, written, lines_written, marks_at}
 
 -- the attempt's transcript is the whole one, and its script alone ends so
-pub record Whole (t alone : Talked) (e : Ending) : Type 0 where
+pub record IsComplete (t alone : Talked) (e : Ending) : Type 0 where
   pub over : t.stop ≡ Over e
   pub lines : t.lines ≡ alone.lines
   pub ends : alone.stop ≡ Over e
@@ -28,9 +28,9 @@ pub record IsSerial (k : RunLogs) (try : Try) (t alone : Talked) : Type 0 where
   -- its transcript is a front of what its script does alone
   pub front : IsFrontOf t.lines alone.lines
   -- once it is committed, or its script withdrew or failed, it is all of that
-  pub finished : committed k try.stamp ≡ true → Whole t alone ending.Finished
-  pub withdrawn : (l : ℕ) → try.ended ≡ Some (outcome.Withdrawn l) → Whole t alone (ending.Withdrawn l)
-  pub failed : (l : ℕ) (kind : FailKind) → try.ended ≡ Some (outcome.Failed l kind) → Whole t alone (ending.Failed l kind)
+  pub finished : committed k try.stamp ≡ true → IsComplete t alone ending.Finished
+  pub withdrawn : (l : ℕ) → try.ended ≡ Some (outcome.Withdrawn l) → IsComplete t alone (ending.Withdrawn l)
+  pub failed : (l : ℕ) (kind : FailKind) → try.ended ≡ Some (outcome.Failed l kind) → IsComplete t alone (ending.Failed l kind)
   -- an End says whether it is committed
   pub sure : try.ended ≡ Some outcome.Committed → committed k try.stamp ≡ true
   pub other : (e : Outcome) → try.ended ≡ Some e → (e ≡ outcome.Committed → ⊥) → committed k try.stamp ≡ false
@@ -38,7 +38,7 @@ pub record IsSerial (k : RunLogs) (try : Try) (t alone : Talked) : Type 0 where
   pub puts : committed k try.stamp ≡ true → written k try.stamp ≡ lines_written try.stamp 1 t.lines
 
 abbrev pub Serial : RunLogs → Type 0
-Serial k = (try : Try) → Has try k.tries → IsSerial k try (talked try.script try.answers) (told try.script (before k try.stamp))
+Serial k = (try : Try) → Has try k.tries → IsSerial k try (talked try.script try.answers) (talked_alone try.script (before k try.stamp))
 
 -- ---- maps and the versions behind them
 

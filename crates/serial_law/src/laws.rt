@@ -21,37 +21,37 @@ ghost use Rattle.world_facts.specs.AnyRules.{log_before};
 ghost use Rattle.serial_law.specs.Added.{AnyPlace, any_log, EndCause};
 ghost use Rattle.serial_law.specs.Causes.{Causes, IsSpent};
 ghost use Rattle.world_core.specs.Deeds.{RunLogs, before, finals};
-ghost use Rattle.serial_law.specs.Facts.{Facts};
-ghost use Rattle.serial_law.specs.Runs.{Place, log_at, run_at, sent_before, TickedBefore, AnsweredBefore, Acknowledges, SeesStill};
+ghost use Rattle.serial_law.specs.Facts.{RunFacts};
+ghost use Rattle.serial_law.specs.Runs.{Position, log_at, run_at, sent_before, TickedBefore, AnsweredBefore, Acknowledges, SeesStill};
 ghost use Rattle.serial_law.specs.Serial.{Serial, HoldsAll, HoldsBefore};
 
 /// Every attempt of a run reads, writes and ends as its script does alone, over the map after the
 /// committed deeds before its stamp (Bernstein et al. 1987, chapter 5): at each place of each legal
 /// trace over logs with a past, with crashes anywhere, and of all logs and messages with these facts.
 pub fn law_serial()
-    ensures places { (p : Place) → Serial (run_at p) }
-    ensures facts { (k : RunLogs) (ever : List Post) → Facts k ever → Serial k }
+    ensures places { (p : Position) → Serial (run_at p) }
+    ensures facts { (k : RunLogs) (ever : List Post) → RunFacts k ever → Serial k }
 {}
 
 /// The map after all committed deeds has, of each object, the committed put with the greatest start in
 /// the logs, else Nothing.
 pub fn law_finals()
-    ensures places { (p : Place) → HoldsAll (run_at p) (finals (run_at p)) }
-    ensures facts { (k : RunLogs) (ever : List Post) → Facts k ever → HoldsAll k (finals k) }
+    ensures places { (p : Position) → HoldsAll (run_at p) (finals (run_at p)) }
+    ensures facts { (k : RunLogs) (ever : List Post) → RunFacts k ever → HoldsAll k (finals k) }
 {}
 
 /// The map before a stamp has, of each object, the committed put with the greatest start below it.
 pub fn law_before()
-    ensures places { (p : Place) (s : StampParts) → HoldsBefore (run_at p) s (before (run_at p) s) }
-    ensures facts { (k : RunLogs) (ever : List Post) → Facts k ever → (s : StampParts) → HoldsBefore k s (before k s) }
+    ensures places { (p : Position) (s : StampParts) → HoldsBefore (run_at p) s (before (run_at p) s) }
+    ensures facts { (k : RunLogs) (ever : List Post) → RunFacts k ever → (s : StampParts) → HoldsBefore k s (before k s) }
 {}
 
 /// Whatever was sent before a place, in the trace or in the past, the log of its sender agrees with there.
 /// What a read was answered, a read at that time would see there still, unless its attempt was aborted.
 pub fn law_acknowledged()
-    ensures sight { (p : Place) (r : ℕ) (to : NodeId) (t : TimeParts) (v : Value) → Has (record { from = repository r; to = to; message = message.Value t v }) (sent_before p)
+    ensures sight { (p : Position) (r : ℕ) (to : NodeId) (t : TimeParts) (v : Value) → Has (record { from = repository r; to = to; message = message.Value t v }) (sent_before p)
         → (o : ObjectId) × SeesStill (marks (log_at p (repository r))) o t v }
-    ensures logs { (p : Place) (q : Post) → Has q (sent_before p) → Acknowledges (sent_before p) q.from (log_at p q.from) q.message }
+    ensures logs { (p : Position) (q : Post) → Has q (sent_before p) → Acknowledges (sent_before p) q.from (log_at p q.from) q.message }
 {}
 
 /// Each End of an attempt of the run has its cause in the logs: a decision at its home, the end that its
@@ -63,9 +63,9 @@ pub fn law_acknowledged()
 /// Over logs without a past, too, each End that the trace added has its cause: a refusal, the end of a
 /// script, or that no clock was left.
 pub fn law_causes()
-    ensures ends { (p : Place) → Causes (run_at p) (TickedBefore p) (AnsweredBefore p) }
-    ensures spent { (p : Place) (b i c : ℕ) (late early : List Effect) → log_at p (broker b) ≡ late ++ (effect.End i (outcome.Spent c) ∷ early) → MayTry i (book early).acts (IsSpent (book early) c) }
-    ensures limits { (p : Place) (b : ℕ) → Every IsWithinLimits (book (log_at p (broker b))).acts }
+    ensures ends { (p : Position) → Causes (run_at p) (TickedBefore p) (AnsweredBefore p) }
+    ensures spent { (p : Position) (b i c : ℕ) (late early : List Effect) → log_at p (broker b) ≡ late ++ (effect.End i (outcome.Spent c) ∷ early) → MayTry i (book early).acts (IsSpent (book early) c) }
+    ensures limits { (p : Position) (b : ℕ) → Every IsWithinLimits (book (log_at p (broker b))).acts }
     ensures added { (p : AnyPlace) (b i : ℕ) (o : Outcome) (late early : List Effect) → any_log p (broker b) ≡ late ++ (effect.End i o ∷ (early ++ log_before p.trace (broker b))) →
         EndCause p b (early ++ log_before p.trace (broker b)) i o }
 {}

@@ -5,7 +5,7 @@ use Rattle.value_form.specs.declared.transcripts.Line.{Line}
 use Rattle.value_form.specs.declared.transcripts.Line.TheVariants as line
 use Rattle.value_form.specs.Objects.{Objects, value_at}
 use Rattle.script_meaning.specs.Meaning.{Request, ToRead, ToWrite, Asks, Answer, Got, Stored, answers_of}
-use Rattle.serial_model.specs.Questions.{Tree, Ends, Says, Reads, Writes, Talked, line_before, waits, talked, told, stop, request_of, IsFrontOf}
+use Rattle.serial_model.specs.Questions.{Tree, Ends, Says, Reads, Writes, Talked, line_before, waits, talked, talked_alone, stop, request_of, IsFrontOf}
 
 -- where a talk stops
 pub talked-stop : (t : Tree) (ans : List Answer) → (talked t ans).stop ≡ stop t ans
@@ -19,7 +19,7 @@ talked-stop (Writes o a t) (Stored ∷ ans) = talked-stop t ans
 talked-stop (Writes o a t) (Got b ∷ ans) = refl
 
 -- the answers of the map give what the map gives
-pub talked-answers_of : (t : Tree) (m : Objects) → talked t (answers_of (told t m).lines) ≡ told t m
+pub talked-answers_of : (t : Tree) (m : Objects) → talked t (answers_of (talked_alone t m).lines) ≡ talked_alone t m
 talked-answers_of (Ends e) m = refl
 talked-answers_of (Says a t) m = ap (line_before (line.Print a)) (talked-answers_of t m)
 talked-answers_of (Reads o k) m = ap (line_before (line.Read o (value_at m o))) (talked-answers_of (k (value_at m o)) m)
@@ -49,7 +49,7 @@ unfoldable rest_of : List Line → List Line
 rest_of [] = []
 rest_of (l ∷ lines) = lines
 
-pub talked-front : (t : Tree) (m : Objects) (before rest : List Line) (l : Line) (q : Request) → (told t m).lines ≡ before ++ (l ∷ rest) → request_of l ≡ Some q → talked t (answers_of before) ≡ record { lines = before; stop = Asks q }
+pub talked-front : (t : Tree) (m : Objects) (before rest : List Line) (l : Line) (q : Request) → (talked_alone t m).lines ≡ before ++ (l ∷ rest) → request_of l ≡ Some q → talked t (answers_of before) ≡ record { lines = before; stop = Asks q }
 unfolding first_of rest_of
 talked-front (Ends e) m [] rest l q is r = cc
 talked-front (Ends e) m (x ∷ before) rest l q is r = cc

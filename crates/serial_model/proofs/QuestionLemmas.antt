@@ -11,20 +11,20 @@ use Rattle.value_form.specs.declared.transcripts.Line.TheVariants as line
 use Rattle.script_meaning.specs.Names.{Names, with_name}
 use Rattle.value_form.specs.Objects.{Objects, value_at}
 use Rattle.value_form.specs.Mirror.{Step, Let, Read, Write, Print, If, IfElse, Repeat, Withdraw, Block, End, Then}
-use Rattle.script_meaning.specs.Meaning.{value, object_at, condition, count, line_of, ToRead, ToWrite, Stop, Asks, Over, Answers, State, Came, Outcome, Goes, Stops, then_do, counted, valued, read_of, write_of, turns, begun, all_done, finished, carried_out, over_objects, by_answers, Answer, Got, Stored}
-use Rattle.serial_model.specs.Questions.{Tree, Ends, Says, Reads, Writes, Onward, asked_if_room, asked_with, asked_turns, asked, all_asked, denote, read_on, write_on, walk, Talked, line_before, talked, told, left_by}
+use Rattle.script_meaning.specs.Meaning.{value, object_at, condition, count, line_of, ToRead, ToWrite, Stop, Asks, Over, Answers, State, Came, Course, Goes, Stops, then_do, counted, valued, read_of, write_of, turns, begun, all_done, finished, carried_out, over_objects, by_answers, Answer, Got, Stored}
+use Rattle.serial_model.specs.Questions.{Tree, Ends, Says, Reads, Writes, Onward, asked_if_room, asked_with, asked_turns, asked, all_asked, denote, read_on, write_on, walk, Talked, line_before, talked, talked_alone, left_by}
 
 module _ {W : Type 0} (A : Answers W) where
   -- what comes after an outcome
-  abbrev pub carry : Outcome W → (State W → Came W) → Came W
+  abbrev pub carry : Course W → (State W → Came W) → Came W
   carry (Goes st) go = go st
   carry (Stops came) go = came
 
-  carry-then : (o : Outcome W) (go : State W → Outcome W) (f : State W → Came W) → carry (then_do A o go) f ≡ carry o (λ st. carry (go st) f)
+  carry-then : (o : Course W) (go : State W → Course W) (f : State W → Came W) → carry (then_do A o go) f ≡ carry o (λ st. carry (go st) f)
   carry-then (Goes st) go f = refl
   carry-then (Stops came) go f = refl
 
-  carry-same : (o : Outcome W) (f g : State W → Came W) → ((st : State W) → f st ≡ g st) → carry o f ≡ carry o g
+  carry-same : (o : Course W) (f g : State W → Came W) → ((st : State W) → f st ≡ g st) → carry o f ≡ carry o g
   carry-same (Goes st) f g same = same st
   carry-same (Stops came) f g same = refl
 
@@ -35,15 +35,15 @@ module _ {W : Type 0} (A : Answers W) where
   abbrev pub onward : Onward → State W → Came W
   onward go st = from (go st.names st.left) st
 
-  with_walk : {X : Type 0} (r : Result X FailKind) (l : ℕ) (st : State W) (go : X → Tree) (go' : X → Outcome W) (f : State W → Came W) → ((x : X) → from (go x) st ≡ carry (go' x) f) → from (asked_with r l go) st ≡ carry (valued A r l st go') f
+  with_walk : {X : Type 0} (r : Result X FailKind) (l : ℕ) (st : State W) (go : X → Tree) (go' : X → Course W) (f : State W → Came W) → ((x : X) → from (go x) st ≡ carry (go' x) f) → from (asked_with r l go) st ≡ carry (valued A r l st go') f
   with_walk (Ok x) l st go go' f h = h x
   with_walk (Err k) l st go go' f h = refl
 
-  room_walk : (left l : ℕ) (st : State W) (go : ℕ → Tree) (go' : State W → Outcome W) (f : State W → Came W) → ((left' : ℕ) → from (go left') st ≡ carry (go' (record st { left = left' })) f) → from (asked_if_room left l go) st ≡ carry (counted A left l st go') f
+  room_walk : (left l : ℕ) (st : State W) (go : ℕ → Tree) (go' : State W → Course W) (f : State W → Came W) → ((left' : ℕ) → from (go left') st ≡ carry (go' (record st { left = left' })) f) → from (asked_if_room left l go) st ≡ carry (counted A left l st go') f
   room_walk zero l st go go' f h = refl
   room_walk (suc left) l st go go' f h = h left
 
-  if_walk : (holds : Bool) (st : State W) (t u : Tree) (o p : Outcome W) (f : State W → Came W) → from t st ≡ carry o f → from u st ≡ carry p f → from (if holds then t else u) st ≡ carry (if holds then o else p) f
+  if_walk : (holds : Bool) (st : State W) (t u : Tree) (o p : Course W) (f : State W → Came W) → from t st ≡ carry o f → from u st ≡ carry p f → from (if holds then t else u) st ≡ carry (if holds then o else p) f
   if_walk true st t u o p f g h = g
   if_walk false st t u o p f g h = h
 
@@ -55,7 +55,7 @@ module _ {W : Type 0} (A : Answers W) where
   write_walk None o a st go = refl
   write_walk (Some w) o a st go = refl
 
-  turns_walk : (n : ℕ) (part : Names → ℕ → Onward → Tree) (part' : State W → Outcome W) → ((st : State W) (go : Onward) → from (part st.names st.left go) st ≡ carry (part' st) (onward go)) → (st : State W) (go : Onward) → from (asked_turns n part st.names st.left go) st ≡ carry (turns A n part' st) (onward go)
+  turns_walk : (n : ℕ) (part : Names → ℕ → Onward → Tree) (part' : State W → Course W) → ((st : State W) (go : Onward) → from (part st.names st.left go) st ≡ carry (part' st) (onward go)) → (st : State W) (go : Onward) → from (asked_turns n part st.names st.left go) st ≡ carry (turns A n part' st) (onward go)
   turns_walk zero part part' h st go = refl
   turns_walk (suc n) part part' h st go =
       h st (λ names' left'. asked_turns n part names' left' go)
@@ -81,7 +81,7 @@ module _ {W : Type 0} (A : Answers W) where
         ∙ carry-same (begun A x (record st { left = left' })) _ _ (λ st'. all_walk part st' go))
         ∙ sym (carry-then (counted A st.left (line_of x) st (begun A x)) (all_done A part) (onward go))
 
-  finished-carry : (o : Outcome W) → carry o (onward (λ names left. Ends ending.Finished)) ≡ finished A o
+  finished-carry : (o : Course W) → carry o (onward (λ names left. Ends ending.Finished)) ≡ finished A o
   finished-carry (Goes st) = refl
   finished-carry (Stops came) = refl
 
@@ -93,18 +93,18 @@ module _ {W : Type 0} (A : Answers W) where
 -- ---- the walk of a map
 
 abbrev came_told : List Line → Tree → Objects → Came Objects
-came_told lines t m = record { stop = (told t m).stop; lines = lines ++ (told t m).lines; world = left_by t m }
+came_told lines t m = record { stop = (talked_alone t m).stop; lines = lines ++ (talked_alone t m).lines; world = left_by t m }
 
 one_more : (lines rest : List Line) (l : Line) (s : Stop) (m : Objects) → ◌≡◌ {A = Came Objects} (record { stop = s; lines = (lines ++ l ∷ []) ++ rest; world = m }) (record { stop = s; lines = lines ++ (l ∷ rest); world = m })
 one_more lines rest l s m = ap (λ z. record { stop = s; lines = z; world = m }) (append_assoc lines (l ∷ []) rest)
 
 walk-told : (t : Tree) (lines : List Line) (m : Objects) → walk over_objects t lines m ≡ came_told lines t m
 walk-told (Ends e) lines m = ap (λ z. record { stop = Over e; lines = z; world = m }) (sym (append-nil lines))
-walk-told (Says a t) lines m = walk-told t (lines ++ line.Print a ∷ []) m ∙ one_more lines (told t m).lines (line.Print a) (told t m).stop (left_by t m)
-walk-told (Reads o k) lines m = walk-told (k (value_at m o)) (lines ++ line.Read o (value_at m o) ∷ []) m ∙ one_more lines (told (k (value_at m o)) m).lines (line.Read o (value_at m o)) (told (k (value_at m o)) m).stop (left_by (k (value_at m o)) m)
-walk-told (Writes o a t) lines m = walk-told t (lines ++ line.Wrote o a ∷ []) (finite.insert m o a) ∙ one_more lines (told t (finite.insert m o a)).lines (line.Wrote o a) (told t (finite.insert m o a)).stop (left_by t (finite.insert m o a))
+walk-told (Says a t) lines m = walk-told t (lines ++ line.Print a ∷ []) m ∙ one_more lines (talked_alone t m).lines (line.Print a) (talked_alone t m).stop (left_by t m)
+walk-told (Reads o k) lines m = walk-told (k (value_at m o)) (lines ++ line.Read o (value_at m o) ∷ []) m ∙ one_more lines (talked_alone (k (value_at m o)) m).lines (line.Read o (value_at m o)) (talked_alone (k (value_at m o)) m).stop (left_by (k (value_at m o)) m)
+walk-told (Writes o a t) lines m = walk-told t (lines ++ line.Wrote o a ∷ []) (finite.insert m o a) ∙ one_more lines (talked_alone t (finite.insert m o a)).lines (line.Wrote o a) (talked_alone t (finite.insert m o a)).stop (left_by t (finite.insert m o a))
 
-pub perform-told : (script : Block) (m : Objects) → carried_out over_objects script m ≡ record { stop = (told (denote script) m).stop; lines = (told (denote script) m).lines; world = left_by (denote script) m }
+pub perform-told : (script : Block) (m : Objects) → carried_out over_objects script m ≡ record { stop = (talked_alone (denote script) m).stop; lines = (talked_alone (denote script) m).lines; world = left_by (denote script) m }
 perform-told script m = carried_out-walk over_objects script m ∙ walk-told (denote script) [] m
 
 -- ---- the walk of a list of answers

@@ -10,7 +10,7 @@ use Rattle.value_form.specs.ObjectBytes.{IsObject}
 use Rattle.script_meaning.specs.Meaning.{ToRead, ToWrite, Asks, Got, talk}
 use Rattle.serial_model.specs.Questions.{Tree, Ends, Reads, Writes}
 use Rattle.serial_model.specs.Ranges.{TermInRange, SpotInRange, BlockInRange, StopInRange}
-use Rattle.serial_model.specs.Requests.{HasBytes, AnswerHasBytes}
+use Rattle.serial_model.specs.Requests.{AsksInRange, AnswerHasBytes}
 
 -- ---- `read x 3.7`, and then `write 16[x] x + 1`
 
@@ -42,7 +42,7 @@ line-201 : BlockInRange (Then (Withdraw 201) End) → ⊥
 line-201 h = let high = h.0.1 in omega arith
 
 -- a script that ends on line 201 has nothing that can be stored
-ends-201 : HasBytes (Ends (ending.Withdrawn 201)) → ⊥
+ends-201 : AsksInRange (Ends (ending.Withdrawn 201)) → ⊥
 ends-201 h = let high = h.1 in omega arith
 
 number-two_to_the_63 : TermInRange (Between op.Add (Number 1) (Number (2 ^ 63))) → ⊥
@@ -57,11 +57,11 @@ text-1001 bytes long h = let few = h.0 in omega arith
 abbrev writes_back : Tree
 writes_back = Reads counter (λ a. Writes counter a (Ends ending.Finished))
 
-writes_back-HasBytes : HasBytes writes_back
+writes_back-HasBytes : AsksInRange writes_back
 writes_back-HasBytes = (counter-IsObject, λ a a_is. ((counter-IsObject, a_is), tt))
 
 -- a value that has no bytes is written
-writes_long : (bytes : List ℕ) → length bytes ≡ 1001 → HasBytes (Writes counter (v.Text bytes) (Ends ending.Finished)) → ⊥
+writes_long : (bytes : List ℕ) → length bytes ≡ 1001 → AsksInRange (Writes counter (v.Text bytes) (Ends ending.Finished)) → ⊥
 writes_long bytes long h = let few = h.0.1.0 in omega arith
 
 asks-17 : StopInRange (Asks (ToRead (record { repository = 17; number = 0 }))) → ⊥

@@ -4,7 +4,7 @@ use Rattle.value_form.specs.declared.transcripts.Line.{Line}
 use Rattle.value_form.specs.Objects.{Objects}
 use Rattle.value_form.specs.Mirror.{Block}
 use Rattle.script_meaning.specs.Meaning.{Request, Asks, Answer, perform, talk, answers_of}
-use Rattle.serial_model.specs.Questions.{Talked, denote, told, talked, request_of, IsFrontOf, IsTalkOf}
+use Rattle.serial_model.specs.Questions.{Talked, denote, talked_alone, talked, request_of, IsFrontOf, IsTalkOf}
 use Rattle.serial_model.proofs.QuestionLemmas.{perform-told, talk-talked}
 use Rattle.serial_model.proofs.AnswerLemmas.{talked-answers_of, talked-append, talked-front}
 
@@ -14,10 +14,10 @@ talk_of script ans = let is = talk-talked script ans in (ap (λ t. t.lines) is, 
 by : (script : Block) (ans : List Answer) (t : Talked) → talked (denote script) ans ≡ t → IsTalkOf t (talk script ans)
 by script ans t is = subst (λ z. IsTalkOf z (talk script ans)) is (talk_of script ans)
 
-lines_alone : (script : Block) (m : Objects) → (perform script m).lines ≡ (told (denote script) m).lines
+lines_alone : (script : Block) (m : Objects) → (perform script m).lines ≡ (talked_alone (denote script) m).lines
 lines_alone script m = ap (λ c. c.lines) (perform-told script m)
 
-pub talk_whole : (script : Block) (m : Objects) → IsTalkOf (told (denote script) m) (talk script (answers_of (perform script m).lines))
+pub talk_whole : (script : Block) (m : Objects) → IsTalkOf (talked_alone (denote script) m) (talk script (answers_of (perform script m).lines))
 talk_whole script m = by script _ _ (ap (λ ls. talked (denote script) (answers_of ls)) (lines_alone script m) ∙ talked-answers_of (denote script) m)
 
 pub talk_front : (script : Block) (m : Objects) (before rest : List Line) (l : Line) (q : Request) → (perform script m).lines ≡ before ++ (l ∷ rest) → request_of l ≡ Some q → IsTalkOf (record { lines = before; stop = Asks q }) (talk script (answers_of before))

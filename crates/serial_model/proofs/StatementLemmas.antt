@@ -10,13 +10,13 @@ use Rattle.value_form.specs.Mirror.{Step, Let, Read, Write, Print, If, IfElse, R
 use Rattle.value_form.specs.MirrorLaws.{plain-if, plain-if_else, plain-repeat}
 use Rattle.value_form.specs.Objects.{Objects}
 use Rattle.value_form.specs.Ranges.{IsStep, IsBlock}
-use Rattle.script_meaning.specs.Meaning.{State, Outcome, Goes, then_do, valued, turns, begun, all_done, over_objects, condition, count}
+use Rattle.script_meaning.specs.Meaning.{State, Course, Goes, then_do, valued, turns, begun, all_done, over_objects, condition, count}
 
 abbrev St : Type 0
 St = State Objects
 
 abbrev Out : Type 0
-Out = Outcome Objects
+Out = Course Objects
 
 -- the parts of a statement in range are in range
 pub part_if : (x : Stmt) (l : ℕ) (t : Expr) (part : List Stmt) (e : ℕ) (shown : List Stmt) → x ≡ s.If l t part e → IsStep (plain x) → shown ≡ part → IsBlock (block shown)

@@ -2,7 +2,7 @@
 use Rattle.std.specs.Prelude.{Option, Some, None}
 use Rattle.value_form.specs.declared.endings.Ending.{Ending}
 use Rattle.value_form.specs.Objects.{Objects}
-use Rattle.script_meaning.specs.Meaning.{State, Came, Outcome, Goes, Stops, Over}
+use Rattle.script_meaning.specs.Meaning.{State, Came, Course, Goes, Stops, Over}
 use Rattle.serial_model.specs.declared.works.Work.{Work}
 use Rattle.serial_model.specs.declared.works.Performed.{Performed}
 
@@ -10,7 +10,7 @@ abbrev pub state_of : Work → State Objects
 state_of w = record { names = w.names; left = w.left; lines = w.lines.items; world = w.objects }
 
 -- it goes on, or has ended
-abbrev pub came_to : Option Ending → Work → Outcome Objects
+abbrev pub came_to : Option Ending → Work → Course Objects
 came_to None w = Goes (state_of w)
 came_to (Some e) w = Stops (record { stop = Over e; lines = w.lines.items; world = w.objects })
 

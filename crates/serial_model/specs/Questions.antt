@@ -97,11 +97,11 @@ talked (Writes o a t) (Stored ∷ ans) = line_before (line.Wrote o a) (talked t 
 talked (Writes o a t) (Got b ∷ ans) = waits (ToWrite o a)
 
 -- alone, over a map of objects
-abbrev pub told : Tree → Objects → Talked
-told (Ends e) m = record { lines = []; stop = Over e }
-told (Says a t) m = line_before (line.Print a) (told t m)
-told (Reads o k) m = line_before (line.Read o (value_at m o)) (told (k (value_at m o)) m)
-told (Writes o a t) m = line_before (line.Wrote o a) (told t (finite.insert m o a))
+abbrev pub talked_alone : Tree → Objects → Talked
+talked_alone (Ends e) m = record { lines = []; stop = Over e }
+talked_alone (Says a t) m = line_before (line.Print a) (talked_alone t m)
+talked_alone (Reads o k) m = line_before (line.Read o (value_at m o)) (talked_alone (k (value_at m o)) m)
+talked_alone (Writes o a t) m = line_before (line.Wrote o a) (talked_alone t (finite.insert m o a))
 
 -- the map after that
 abbrev pub left_by : Tree → Objects → Objects
@@ -142,16 +142,16 @@ request_of (line.Read o a) = Some (ToRead o)
 request_of (line.Wrote o a) = Some (ToWrite o a)
 
 -- each answer is what the map, with the script's own writes so far, would give
-abbrev pub Agrees : Tree → List Answer → Objects → Type 0
-Agrees (Ends e) [] m = Unit {0}
-Agrees (Ends e) (a ∷ ans) m = ⊥
-Agrees (Says a t) ans m = Agrees t ans m
-Agrees (Reads o k) [] m = Unit {0}
-Agrees (Reads o k) (Got a ∷ ans) m = (a ≡ value_at m o) × Agrees (k a) ans m
-Agrees (Reads o k) (Stored ∷ ans) m = ⊥
-Agrees (Writes o a t) [] m = Unit {0}
-Agrees (Writes o a t) (Stored ∷ ans) m = Agrees t ans (finite.insert m o a)
-Agrees (Writes o a t) (Got b ∷ ans) m = ⊥
+abbrev pub AnswersOf : Tree → List Answer → Objects → Type 0
+AnswersOf (Ends e) [] m = Unit {0}
+AnswersOf (Ends e) (a ∷ ans) m = ⊥
+AnswersOf (Says a t) ans m = AnswersOf t ans m
+AnswersOf (Reads o k) [] m = Unit {0}
+AnswersOf (Reads o k) (Got a ∷ ans) m = (a ≡ value_at m o) × AnswersOf (k a) ans m
+AnswersOf (Reads o k) (Stored ∷ ans) m = ⊥
+AnswersOf (Writes o a t) [] m = Unit {0}
+AnswersOf (Writes o a t) (Stored ∷ ans) m = AnswersOf t ans (finite.insert m o a)
+AnswersOf (Writes o a t) (Got b ∷ ans) m = ⊥
 
 -- the map with the writes that were answered
 abbrev pub left_after : Tree → List Answer → Objects → Objects

@@ -7,11 +7,11 @@ use Rattle.serial_model.specs.Ranges.{EndingInRange}
 use Rattle.serial_model.specs.Questions.{Tree, Ends, Says, Reads, Writes}
 
 -- where the answers have bytes, so have the objects and values of all requests, and the ending is in range
-abbrev pub HasBytes : Tree → Type 0
-HasBytes (Ends e) = EndingInRange e
-HasBytes (Says a t) = HasBytes t
-HasBytes (Reads o k) = IsObject o × ((a : Value) → IsValue a → HasBytes (k a))
-HasBytes (Writes o a t) = (IsObject o × IsValue a) × HasBytes t
+abbrev pub AsksInRange : Tree → Type 0
+AsksInRange (Ends e) = EndingInRange e
+AsksInRange (Says a t) = AsksInRange t
+AsksInRange (Reads o k) = IsObject o × ((a : Value) → IsValue a → AsksInRange (k a))
+AsksInRange (Writes o a t) = (IsObject o × IsValue a) × AsksInRange t
 
 -- what was read has bytes
 abbrev pub AnswerHasBytes : Answer → Type 0

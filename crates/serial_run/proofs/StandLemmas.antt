@@ -13,8 +13,8 @@ use Rattle.value_form.specs.Objects.{Objects, value_at}
 use Rattle.script_meaning.specs.Meaning.{ToRead, ToWrite, Asks, Over, Came, Answer, Got, Stored, talk, perform}
 use Rattle.script_run.specs.declared.nexts.Next.{Next}
 use Rattle.script_run.specs.declared.nexts.Next.TheVariants as next
-use Rattle.script_run.specs.Told.{Told, answered, stop_of, Tells}
-use Rattle.serial_model.specs.Questions.{denote, told, left_by, stop, Agrees, left_after}
+use Rattle.script_run.specs.RunParts.{RunParts, answered, stop_of, Tells}
+use Rattle.serial_model.specs.Questions.{denote, talked_alone, left_by, stop, AnswersOf, left_after}
 use Rattle.serial_model.specs.Overlays.{overlaid}
 use Rattle.serial_model.proofs.AgreeLemmas.{ReadOn, WrittenOn, agrees-none, agrees-read, agrees-write, agrees-few, agrees-whole}
 use Rattle.serial_model.proofs.AnswerLemmas.{talked-stop}
@@ -25,18 +25,18 @@ use Rattle.serial_run.specs.Standing.{Stands}
 
 -- ---- at the beginning
 
-pub stands-begun : (script : List Stmt) (run : Told) (w m : Objects) → run.script ≡ script → run.answers ≡ [] → w ≡ finite.empty → Stands run w m
+pub stands-begun : (script : List Stmt) (run : RunParts) (w m : Objects) → run.script ≡ script → run.answers ≡ [] → w ≡ finite.empty → Stands run w m
 stands-begun script run w m is none empty =
     let begins = agrees-none (denote (block run.script)) m in
     record {
-      agrees = subst (λ z. Agrees (denote (block run.script)) z m) (sym none) begins.0;
+      agrees = subst (λ z. AnswersOf (denote (block run.script)) z m) (sym none) begins.0;
       has = ap (λ z. left_after (denote (block run.script)) z m) none ∙ begins.1 ∙ sym (ap (λ z. overlaid z m) empty ∙ overlaid-none m);
     }
 
 -- ---- one request
 
 -- one answer more, and all as it was
-pub record IsAnswered (old new : Told) (w m : Objects) : Type 0 where
+pub record IsAnswered (old new : RunParts) (w m : Objects) : Type 0 where
   pub stands : Stands new w m
   pub script : new.script ≡ old.script
   pub more : length new.answers ≡ length old.answers + 1
@@ -48,13 +48,13 @@ one_longer : (ans new : List Answer) (a : Answer) → new ≡ ans ++ a ∷ [] �
 one_longer ans new a is = ap length is ∙ length-append ans (a ∷ [])
 
 -- what stands for these answers stands for a run that has them
-stands_so : (new : Told) (script : List Stmt) (ans : List Answer) (w m : Objects) → new.script ≡ script → new.answers ≡ ans → Agrees (denote (block script)) ans m → left_after (denote (block script)) ans m ≡ overlaid w m → Stands new w m
+stands_so : (new : RunParts) (script : List Stmt) (ans : List Answer) (w m : Objects) → new.script ≡ script → new.answers ≡ ans → AnswersOf (denote (block script)) ans m → left_after (denote (block script)) ans m ≡ overlaid w m → Stands new w m
 stands_so new script ans w m same answers agrees has = record {
-  agrees = subst (λ z. Agrees (denote (block z)) new.answers m) (sym same) (subst (λ z. Agrees (denote (block script)) z m) (sym answers) agrees);
+  agrees = subst (λ z. AnswersOf (denote (block z)) new.answers m) (sym same) (subst (λ z. AnswersOf (denote (block script)) z m) (sym answers) agrees);
   has = ap (λ z. left_after (denote (block z)) new.answers m) same ∙ ap (λ z. left_after (denote (block script)) z m) answers ∙ has;
 }
 
-pub read_answered : (old mid new : Told) (w m : Objects) (o : ObjectId) (v : Value) (n : Next) → Stands old w m → mid.script ≡ old.script → mid.answers ≡ old.answers → Tells old.script old.answers mid.lines n → n ≡ next.Read o
+pub read_answered : (old mid new : RunParts) (w m : Objects) (o : ObjectId) (v : Value) (n : Next) → Stands old w m → mid.script ≡ old.script → mid.answers ≡ old.answers → Tells old.script old.answers mid.lines n → n ≡ next.Read o
     → v ≡ value_at (overlaid w m) o → new ≡ answered mid (Got v) (line.Read o v) → IsAnswered old new w m
 read_answered old mid new w m o v n s same as_before tells is value new_is =
     let tree = denote (block old.script) in
@@ -64,7 +64,7 @@ read_answered old mid new w m o v n s same as_before tells is value new_is =
     let script : new.script ≡ old.script = ap (λ z. z.script) new_is ∙ same in
     record { stands = stands_so new old.script (old.answers ++ Got v ∷ []) w m script answers on.0 (on.1 ∙ s.has); script = script; more = one_longer old.answers new.answers (Got v) answers }
 
-pub write_answered : (old mid new : Told) (w after m : Objects) (o : ObjectId) (a : Value) (n : Next) → Stands old w m → mid.script ≡ old.script → mid.answers ≡ old.answers → Tells old.script old.answers mid.lines n → n ≡ next.Write o a
+pub write_answered : (old mid new : RunParts) (w after m : Objects) (o : ObjectId) (a : Value) (n : Next) → Stands old w m → mid.script ≡ old.script → mid.answers ≡ old.answers → Tells old.script old.answers mid.lines n → n ≡ next.Write o a
     → after ≡ finite.insert w o a → new ≡ answered mid Stored (line.Wrote o a) → IsAnswered old new after m
 write_answered old mid new w after m o a n s same as_before tells is written new_is =
     let tree = denote (block old.script) in
@@ -78,21 +78,21 @@ write_answered old mid new w after m o a n s same as_before tells is written new
 -- ---- at the end
 
 -- there are at most 10,000 requests
-pub no_more_requests : (run : Told) (w m : Objects) → Stands run w m → 10001 ≤ length run.answers → ⊥
+pub no_more_requests : (run : RunParts) (w m : Objects) → Stands run w m → 10001 ≤ length run.answers → ⊥
 no_more_requests run w m s long = let few = agrees-few (block run.script) run.answers m s.agrees in absurd (omega arith)
 
 abbrev pub ended : Ending → List Line → Objects → Came Objects
 ended e lines m = record { stop = Over e; lines = lines; world = m }
 
-pub is_alone : (run : Told) (w m : Objects) (e : Ending) → Stands run w m → talk (block run.script) run.answers ≡ record { stop = Over e; lines = run.lines; world = [] } → perform (block run.script) m ≡ ended e run.lines (overlaid w m)
+pub is_alone : (run : RunParts) (w m : Objects) (e : Ending) → Stands run w m → talk (block run.script) run.answers ≡ record { stop = Over e; lines = run.lines; world = [] } → perform (block run.script) m ≡ ended e run.lines (overlaid w m)
 is_alone run w m e s over =
     let tree = denote (block run.script) in
     let talk_is = talk_of (block run.script) run.answers in
     let ends : stop tree run.answers ≡ Over e = sym (talked-stop tree run.answers) ∙ sym talk_is.1 ∙ ap (λ z. z.stop) over in
     let whole = agrees-whole tree run.answers m e s.agrees ends in
-    let lines : (told tree m).lines ≡ run.lines = ap (λ z. z.lines) whole.0 ∙ sym talk_is.0 ∙ ap (λ z. z.lines) over in
-    let stopped : (told tree m).stop ≡ Over e = ap (λ z. z.stop) whole.0 ∙ talked-stop tree run.answers ∙ ends in
+    let lines : (talked_alone tree m).lines ≡ run.lines = ap (λ z. z.lines) whole.0 ∙ sym talk_is.0 ∙ ap (λ z. z.lines) over in
+    let stopped : (talked_alone tree m).stop ≡ Over e = ap (λ z. z.stop) whole.0 ∙ talked-stop tree run.answers ∙ ends in
     perform-told (block run.script) m
-    ∙ ap (λ z. record { stop = z; lines = (told tree m).lines; world = left_by tree m }) stopped
+    ∙ ap (λ z. record { stop = z; lines = (talked_alone tree m).lines; world = left_by tree m }) stopped
     ∙ ap (λ z. record { stop = Over e; lines = z; world = left_by tree m }) lines
     ∙ ap (ended e run.lines) (whole.1 ∙ s.has)

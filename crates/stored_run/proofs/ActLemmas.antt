@@ -14,7 +14,7 @@ use Rattle.effect_form.specs.declared.effects.Effect.{Effect}
 use Rattle.effect_form.specs.declared.effects.Effect.TheVariants.{Begin, Decide}
 use Rattle.script_meaning.specs.Meaning.{perform, talk}
 use Rattle.script_run.specs.declared.nexts.Next.{Next}
-use Rattle.script_run.specs.Told.{Told, Tells}
+use Rattle.script_run.specs.RunParts.{RunParts, Tells}
 use Rattle.serial_model.specs.Questions.{IsFrontOf, denote}
 use Rattle.serial_run.proofs.StandLemmas.{stands-begun}
 use Rattle.object_history.specs.declared.marks.Mark.{Mark}
@@ -23,7 +23,7 @@ use Rattle.stored_run.specs.Ends.{IsBrokenOff}
 use Rattle.stored_run.specs.Growth.{grown_to, with_lines}
 use Rattle.stored_run.specs.Kept.{kept_map}
 use Rattle.stored_run.specs.Media.{Adds, Stops}
-use Rattle.serial_model.specs.Requests.{HasBytes, AnswerHasBytes}
+use Rattle.serial_model.specs.Requests.{AsksInRange, AnswerHasBytes}
 use Rattle.stored_run.specs.Ready.{IsReady}
 use Rattle.stored_run.specs.Requests.{IsGoing, HasComeTo}
 use Rattle.stored_run.specs.Runs.{decision_of, is_finished, effects_with, shown_with, IsNext, IsAtWork}
@@ -34,11 +34,11 @@ use Rattle.stored_run.proofs.RequestLemmas.{shows_so}
 
 -- ---- it begins
 
-pub begins-going : (act : ActSpec) (s : StampParts) (run : Told) (h : List Mark) (w : Objects) → IsReady act → run.script ≡ act.script.lines → run.answers ≡ [] → w ≡ finite.empty → IsLone s 1 h finite.empty (kept_map h) → IsGoing s 1 run h w
+pub begins-going : (act : ActSpec) (s : StampParts) (run : RunParts) (h : List Mark) (w : Objects) → IsReady act → run.script ≡ act.script.lines → run.answers ≡ [] → w ≡ finite.empty → IsLone s 1 h finite.empty (kept_map h) → IsGoing s 1 run h w
 begins-going act s run h w ready script none empty lone = record {
   lone = subst (λ z. IsLone s 1 h z (kept_map h)) (sym empty) lone;
   stands = stands-begun act.script.lines run w (kept_map h) script none empty;
-  requests = subst (λ z. HasBytes (denote (block z))) (sym script) ready.requests;
+  requests = subst (λ z. AsksInRange (denote (block z))) (sym script) ready.requests;
   answers = subst (λ z. Every AnswerHasBytes z) (sym none) tt;
   count = ap (λ z. Rattle.std.specs.Prelude.length z + 1) (sym none);
 }
@@ -68,7 +68,7 @@ next-are s script first h objects lines stood next is (inl some) =
     )
 next-are s script first h objects lines stood next is (inr all) = ([], ap (λ z. z ++ next ∷ []) is ∙ ap (λ z. shown_with s first h z ++ next ∷ []) all.0 ∙ ap (λ z. shown_with s first h (perform script objects).lines ++ z ∷ []) all.1)
 
-pub at-work : (act : ActSpec) (s : StampParts) (run : Told) (h : List Mark) (lines : List Line) (stood : List Effect) (next : Effect) → run.script ≡ act.script.lines → run.answers ≡ [] → HasComeTo s run h lines stood next → IsAtWork act s h (kept_map h) lines (Begin s act.timeout ∷ stood) next
+pub at-work : (act : ActSpec) (s : StampParts) (run : RunParts) (h : List Mark) (lines : List Line) (stood : List Effect) (next : Effect) → run.script ≡ act.script.lines → run.answers ≡ [] → HasComeTo s run h lines stood next → IsAtWork act s h (kept_map h) lines (Begin s act.timeout ∷ stood) next
 at-work act s run h lines stood next script none has =
     let first = Begin s act.timeout in
     let some = has.0 in
@@ -85,7 +85,7 @@ at-work act s run h lines stood next script none has =
     }
 
 -- at its beginning
-pub at-work-first : (act : ActSpec) (s : StampParts) (run : Told) (h : List Mark) (n : Next) → run.script ≡ act.script.lines → run.answers ≡ [] → IsGoing s 1 run h finite.empty → Tells run.script run.answers run.lines n → IsAtWork act s h (kept_map h) run.lines [] (Begin s act.timeout)
+pub at-work-first : (act : ActSpec) (s : StampParts) (run : RunParts) (h : List Mark) (n : Next) → run.script ≡ act.script.lines → run.answers ≡ [] → IsGoing s 1 run h finite.empty → Tells run.script run.answers run.lines n → IsAtWork act s h (kept_map h) run.lines [] (Begin s act.timeout)
 at-work-first act s run h n script none going tells =
     let shows = shows_so s 1 run h finite.empty run.lines n going tells in
     let all = first-effects s (block act.script.lines) (Begin s act.timeout) h (kept_map h) in

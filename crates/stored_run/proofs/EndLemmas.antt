@@ -10,7 +10,7 @@ use Rattle.value_form.specs.Objects.{Objects}
 use Rattle.effect_form.specs.declared.effects.Effect.{Effect}
 use Rattle.effect_form.specs.declared.effects.Effect.TheVariants.{Decide}
 use Rattle.script_meaning.specs.Meaning.{Over, perform}
-use Rattle.script_run.specs.Told.{Told}
+use Rattle.script_run.specs.RunParts.{RunParts}
 use Rattle.serial_model.specs.Overlays.{overlaid}
 use Rattle.serial_run.specs.Attempts.{left_of}
 use Rattle.object_history.specs.declared.marks.Mark.{Mark}
@@ -35,7 +35,7 @@ abbrev pub decides : StampParts → Ending → List Effect
 decides s e = decides_as s e ∷ []
 
 -- what a run shows, which stopped at its decision
-pub ended-asks : (s : StampParts) (run : Told) (h h' : List Mark) (w' : Objects) (e : Ending) (lines : List Line) (effects : List Effect) → IsEnded s run h h' w' e lines effects → ShowsSome run lines (kept_map h) → HasComeTo s run h lines effects (decides_as s e)
+pub ended-asks : (s : StampParts) (run : RunParts) (h h' : List Mark) (w' : Objects) (e : Ending) (lines : List Line) (effects : List Effect) → IsEnded s run h h' w' e lines effects → ShowsSome run lines (kept_map h) → HasComeTo s run h lines effects (decides_as s e)
 ended-asks s run h h' w' e lines effects ended shows = (
   shows,
   λ first none. (
@@ -44,23 +44,23 @@ ended-asks s run h h' w' e lines effects ended shows = (
   ),
 )
 
-pub ended-grown : (s : StampParts) (run : Told) (h h' : List Mark) (w' : Objects) (e : Ending) (lines : List Line) (effects : List Effect) (first : Effect) → run.answers ≡ [] → IsEnded s run h h' w' e lines effects
+pub ended-grown : (s : StampParts) (run : RunParts) (h h' : List Mark) (w' : Objects) (e : Ending) (lines : List Line) (effects : List Effect) (first : Effect) → run.answers ≡ [] → IsEnded s run h h' w' e lines effects
     → (n : ℕ) × (grown_with s (block run.script) first h (kept_map h) ≡ grown_to n h' (first ∷ effects))
 ended-grown s run h h' w' e lines effects first none ended =
     (ended.steps, ap (λ c. with_lines s (grown_to 1 h (first ∷ [])) c.lines) ended.is_alone ∙ ended.comes (grown_to 1 h (first ∷ [])) (first ∷ []) (at_first s run h first none))
 
-pub ended-marks : (s : StampParts) (run : Told) (h h' m : List Mark) (w' : Objects) (e : Ending) (lines : List Line) (effects : List Effect) (first : Effect) → run.answers ≡ [] → IsEnded s run h h' w' e lines effects → m ≡ Settle s (is_finished (Over e)) ∷ h'
+pub ended-marks : (s : StampParts) (run : RunParts) (h h' m : List Mark) (w' : Objects) (e : Ending) (lines : List Line) (effects : List Effect) (first : Effect) → run.answers ≡ [] → IsEnded s run h h' w' e lines effects → m ≡ Settle s (is_finished (Over e)) ∷ h'
     → m ≡ Settle s (is_finished (Over e)) ∷ (grown_with s (block run.script) first h (kept_map h)).marks
 ended-marks s run h h' m w' e lines effects first none ended is =
     is ∙ ap (λ z. Settle s (is_finished (Over e)) ∷ z) (sym (ap (λ g. g.marks) (ended-grown s run h h' w' e lines effects first none ended).1))
 
-pub ended-effects : (s : StampParts) (run : Told) (h h' : List Mark) (w' : Objects) (e : Ending) (lines : List Line) (effects : List Effect) (first : Effect) → run.answers ≡ [] → IsEnded s run h h' w' e lines effects
+pub ended-effects : (s : StampParts) (run : RunParts) (h h' : List Mark) (w' : Objects) (e : Ending) (lines : List Line) (effects : List Effect) (first : Effect) → run.answers ≡ [] → IsEnded s run h h' w' e lines effects
     → effects_with s (block run.script) first h (kept_map h) ≡ first ∷ (effects ++ decides s e)
 ended-effects s run h h' w' e lines effects first none ended =
     ap (λ g. g.effects ++ Decide s (decision_of (is_finished (perform (block run.script) (kept_map h)).stop)) ∷ []) (ended-grown s run h h' w' e lines effects first none ended).1
     ∙ ap (λ c. (first ∷ effects) ++ Decide s (decision_of (is_finished c.stop)) ∷ []) ended.is_alone
 
-pub next-effects : (s : StampParts) (run : Told) (h : List Mark) (effects : List Effect) (first : Effect) → run.answers ≡ [] → AreNext s 1 run h effects
+pub next-effects : (s : StampParts) (run : RunParts) (h : List Mark) (effects : List Effect) (first : Effect) → run.answers ≡ [] → AreNext s 1 run h effects
     → (more : List Effect) × (effects_with s (block run.script) first h (kept_map h) ≡ first ∷ (effects ++ more))
 next-effects s run h effects first none next =
     let on = next (grown_to 1 h (first ∷ [])) (first ∷ []) (at_first s run h first none) in

@@ -11,7 +11,7 @@ use Rattle.value_form.specs.declared.objects.ObjectId.{ObjectId}
 use Rattle.object_history.specs.declared.marks.Mark.{Mark}
 use Rattle.object_history.specs.declared.marks.Mark.TheVariants.{Put, Stretch, Settle}
 use Rattle.object_history.specs.History.{Seen, or_else, settle_of, is_alive, is_settled, is_committed}
-use Rattle.object_history.specs.Views.{Starts, Stands}
+use Rattle.object_history.specs.Views.{Starts, IsVersion}
 use Rattle.object_history.proofs.BoolLemmas.{not-false}
 use Rattle.object_history.proofs.ScanLemmas.{stands-starts}
 use Rattle.stored_run.specs.Kept.{committed}
@@ -43,7 +43,7 @@ starts-of P o (Put a x v ∷ m) k = (λ e. k.0, starts-of P o m k.1)
 starts-of P o (Stretch a x ∷ m) k = starts-of P o m k
 starts-of P o (Settle s c ∷ m) k = starts-of P o m k
 
-pub stands-each : (P : TimeParts → Type 0) (o : ObjectId) (m : List Mark) (q : Seen) → EachStart P m → Stands o m q → P q.start
+pub stands-each : (P : TimeParts → Type 0) (o : ObjectId) (m : List Mark) (q : Seen) → EachStart P m → IsVersion o m q → P q.start
 stands-each P o m q k s = stands-starts P o m q (starts-of P o m k) s
 
 pub clocks-more : (n k : ℕ) (m : List Mark) → n ≤ k → ClocksTo n m → ClocksTo k m

@@ -19,8 +19,8 @@ use Rattle.effect_form.specs.declared.effects.Effect.TheVariants as effect
 use Rattle.script_meaning.specs.Meaning.{Over, Answer, Got, Stored}
 use Rattle.script_run.specs.declared.nexts.Next.{Next}
 use Rattle.script_run.specs.declared.nexts.Next.TheVariants as next
-use Rattle.script_run.specs.Told.{Told, answered, stop_of, Tells}
-use Rattle.serial_model.specs.Questions.{IsFrontOf, denote, told, talked, stop, left_after}
+use Rattle.script_run.specs.RunParts.{RunParts, answered, stop_of, Tells}
+use Rattle.serial_model.specs.Questions.{IsFrontOf, denote, talked_alone, talked, stop, left_after}
 use Rattle.serial_model.specs.Overlays.{overlaid}
 use Rattle.serial_model.proofs.AnswerLemmas.{talked-stop}
 use Rattle.serial_model.proofs.ScriptLemmas.{talk_of}
@@ -33,7 +33,7 @@ use Rattle.object_history.specs.declared.steps.WriteStep.TheVariants as written
 use Rattle.object_history.specs.Answers.{read_step, write_step}
 use Rattle.stored_run.specs.Growth.{Grown, grown_to, stretch_if, stretch_mark_if, stretches, with_line, with_lines}
 use Rattle.stored_run.specs.Kept.{kept_map}
-use Rattle.serial_model.specs.Requests.{HasBytes, AnswerHasBytes}
+use Rattle.serial_model.specs.Requests.{AsksInRange, AnswerHasBytes}
 use Rattle.medium_port.specs.Image.{Image}
 use Rattle.version_store.specs.declared.faults.StoreFault.{StoreFault}
 use Rattle.stored_run.specs.Media.{StandsBefore, StopsAmong}
@@ -45,13 +45,13 @@ use Rattle.stored_run.proofs.LoneLemmas.{lone-read, lone-write, lone-passed, lon
 
 -- ---- where it stops
 
-pub asks_so : (run : Told) (lines : List Line) (n : Next) → Tells run.script run.answers lines n → stop (denote (block run.script)) run.answers ≡ stop_of n
+pub asks_so : (run : RunParts) (lines : List Line) (n : Next) → Tells run.script run.answers lines n → stop (denote (block run.script)) run.answers ≡ stop_of n
 asks_so run lines n tells = sym (talked-stop (denote (block run.script)) run.answers) ∙ sym (talk_of (block run.script) run.answers).1 ∙ ap (λ z. z.stop) tells
 
-so_far : (run : Told) (lines : List Line) (n : Next) → Tells run.script run.answers lines n → lines ≡ lines_so_far run
+so_far : (run : RunParts) (lines : List Line) (n : Next) → Tells run.script run.answers lines n → lines ≡ lines_so_far run
 so_far run lines n tells = sym (ap (λ z. z.lines) tells) ∙ (talk_of (block run.script) run.answers).0
 
-pub shows_so : (s : StampParts) (n : ℕ) (run : Told) (h : List Mark) (w : Objects) (lines : List Line) (nx : Next) → IsGoing s n run h w → Tells run.script run.answers lines nx → Shows run lines (kept_map h)
+pub shows_so : (s : StampParts) (n : ℕ) (run : RunParts) (h : List Mark) (w : Objects) (lines : List Line) (nx : Next) → IsGoing s n run h w → Tells run.script run.answers lines nx → Shows run lines (kept_map h)
 shows_so s n run h w lines nx going tells =
     let front = talked-front (denote (block run.script)) run.answers (kept_map h) going.stands.agrees in
     record {
@@ -64,13 +64,13 @@ shows_so s n run h w lines nx going tells =
 behind : (s : StampParts) (from : Grown) (n : ℕ) (h : List Mark) (es : List Effect) (seen all rest : List Line) → with_lines s from seen ≡ grown_to n h es → all ≡ seen ++ rest → with_lines s from all ≡ with_lines s (grown_to n h es) rest
 behind s from n h es seen all rest comes is = ap (with_lines s from) is ∙ lines-append s from seen rest ∙ ap (λ z. with_lines s z rest) comes
 
-pub next_none : (s : StampParts) (n : ℕ) (run : Told) (h : List Mark) (w : Objects) → IsGoing s n run h w → AreNext s n run h []
+pub next_none : (s : StampParts) (n : ℕ) (run : RunParts) (h : List Mark) (w : Objects) → IsGoing s n run h w → AreNext s n run h []
 next_none s n run h w going from es comes =
     let front = talked-front (denote (block run.script)) run.answers (kept_map h) going.stands.agrees in
     let more = lines-more s (grown_to n h es) front.0 in
     (more.0, ap (λ z. z.effects) (behind s from n h es (lines_so_far run) _ front.0 comes (lines-alone (block run.script) (kept_map h) ∙ sym front.1)) ∙ more.1 ∙ ap (λ z. z ++ more.0) (sym (append-nil es)))
 
-pub next_stretch : (s : StampParts) (n : ℕ) (run : Told) (h : List Mark) (w : Objects) (lines : List Line) (nx : Next) (o : ObjectId) (t : TimeParts) → IsGoing s n run h w → Tells run.script run.answers lines nx → nx ≡ next.Read o → t ≡ time_of s n
+pub next_stretch : (s : StampParts) (n : ℕ) (run : RunParts) (h : List Mark) (w : Objects) (lines : List Line) (nx : Next) (o : ObjectId) (t : TimeParts) → IsGoing s n run h w → Tells run.script run.answers lines nx → nx ≡ next.Read o → t ≡ time_of s n
     → AreNext s n run h (stretch_if (stretches h o t) o t)
 next_stretch s n run h w lines nx o t going tells is at from es comes =
     let front = next-read (denote (block run.script)) run.answers (kept_map h) o going.stands.agrees (asks_so run lines nx tells ∙ ap stop_of is) in
@@ -81,10 +81,10 @@ next_stretch s n run h w lines nx o t going tells is at from es comes =
           ∙ ap (λ z. (es ++ stretch_if (stretches h o z) o z) ++ more.0) (sym at),
     )
   where
-    left_so : Told → List Mark → Objects
+    left_so : RunParts → List Mark → Objects
     left_so r m = Rattle.serial_model.specs.Questions.left_after (denote (block r.script)) r.answers (kept_map m)
 
-pub next_put : (s : StampParts) (n : ℕ) (run : Told) (h : List Mark) (w : Objects) (lines : List Line) (nx : Next) (o : ObjectId) (a : Value) (t : TimeParts) → IsGoing s n run h w → Tells run.script run.answers lines nx → nx ≡ next.Write o a → t ≡ time_of s n
+pub next_put : (s : StampParts) (n : ℕ) (run : RunParts) (h : List Mark) (w : Objects) (lines : List Line) (nx : Next) (o : ObjectId) (a : Value) (t : TimeParts) → IsGoing s n run h w → Tells run.script run.answers lines nx → nx ≡ next.Write o a → t ≡ time_of s n
     → AreNext s n run h (effect.Put o t a ∷ [])
 next_put s n run h w lines nx o a t going tells is at from es comes =
     let front = next-write (denote (block run.script)) run.answers (kept_map h) o a going.stands.agrees (asks_so run lines nx tells ∙ ap stop_of is) in
@@ -95,7 +95,7 @@ next_put s n run h w lines nx o a t going tells is at from es comes =
     )
 
 -- the transcript goes up to it
-pub asks_stretch : (s : StampParts) (n : ℕ) (run : Told) (h : List Mark) (w : Objects) (lines : List Line) (nx : Next) (o : ObjectId) (t : TimeParts) → IsGoing s n run h w → Tells run.script run.answers lines nx → nx ≡ next.Read o → t ≡ time_of s n → stretches h o t ≡ true
+pub asks_stretch : (s : StampParts) (n : ℕ) (run : RunParts) (h : List Mark) (w : Objects) (lines : List Line) (nx : Next) (o : ObjectId) (t : TimeParts) → IsGoing s n run h w → Tells run.script run.answers lines nx → nx ≡ next.Read o → t ≡ time_of s n → stretches h o t ≡ true
     → IsAsking s n run h lines (effect.Stretch o t)
 asks_stretch s n run h w lines nx o t going tells is at due =
     let front = next-read (denote (block run.script)) run.answers (kept_map h) o going.stands.agrees (asks_so run lines nx tells ∙ ap stop_of is) in
@@ -108,7 +108,7 @@ asks_stretch s n run h w lines nx o t going tells is at due =
       adds = λ es. ap (λ z. es ++ stretch_if (stretches h o z) o z) (sym at) ∙ ap (λ b. es ++ stretch_if b o t) due;
     }
 
-pub asks_put : (s : StampParts) (n : ℕ) (run : Told) (h : List Mark) (w : Objects) (lines : List Line) (nx : Next) (o : ObjectId) (a : Value) (t : TimeParts) → IsGoing s n run h w → Tells run.script run.answers lines nx → nx ≡ next.Write o a → t ≡ time_of s n
+pub asks_put : (s : StampParts) (n : ℕ) (run : RunParts) (h : List Mark) (w : Objects) (lines : List Line) (nx : Next) (o : ObjectId) (a : Value) (t : TimeParts) → IsGoing s n run h w → Tells run.script run.answers lines nx → nx ≡ next.Write o a → t ≡ time_of s n
     → IsAsking s n run h lines (effect.Put o t a)
 asks_put s n run h w lines nx o a t going tells is at =
     let front = next-write (denote (block run.script)) run.answers (kept_map h) o a going.stands.agrees (asks_so run lines nx tells ∙ ap stop_of is) in
@@ -127,19 +127,19 @@ stretch_due tells left cause log false o t among = absurd (nothing-among among.s
 
 -- ---- what a request asks of the histories
 
-pub read_is : (s : StampParts) (n : ℕ) (run : Told) (h : List Mark) (w : Objects) (o : ObjectId) (t : TimeParts) → IsGoing s n run h w → t ≡ time_of s n → read_step h o t ≡ read.Answer (value_at (overlaid w (kept_map h)) o) (stretches h o t)
+pub read_is : (s : StampParts) (n : ℕ) (run : RunParts) (h : List Mark) (w : Objects) (o : ObjectId) (t : TimeParts) → IsGoing s n run h w → t ≡ time_of s n → read_step h o t ≡ read.Answer (value_at (overlaid w (kept_map h)) o) (stretches h o t)
 read_is s n run h w o t going at = subst (λ z. read_step h o z ≡ read.Answer (value_at (overlaid w (kept_map h)) o) (stretches h o z)) (sym at) (lone-read s n h w (kept_map h) o going.lone)
 
-pub is_answered : (s : StampParts) (n : ℕ) (run : Told) (h : List Mark) (w : Objects) (o : ObjectId) (t : TimeParts) → IsGoing s n run h w → t ≡ time_of s n → (v : Value) × (read_step h o t ≡ read.Answer v (stretches h o t))
+pub is_answered : (s : StampParts) (n : ℕ) (run : RunParts) (h : List Mark) (w : Objects) (o : ObjectId) (t : TimeParts) → IsGoing s n run h w → t ≡ time_of s n → (v : Value) × (read_step h o t ≡ read.Answer v (stretches h o t))
 is_answered s n run h w o t going at = (value_at (overlaid w (kept_map h)) o, read_is s n run h w o t going at)
 
-pub is_accepted : (s : StampParts) (n : ℕ) (run : Told) (h : List Mark) (w : Objects) (o : ObjectId) (v : Value) (t : TimeParts) → IsGoing s n run h w → t ≡ time_of s n → write_step h o t v ≡ written.Put
+pub is_accepted : (s : StampParts) (n : ℕ) (run : RunParts) (h : List Mark) (w : Objects) (o : ObjectId) (v : Value) (t : TimeParts) → IsGoing s n run h w → t ≡ time_of s n → write_step h o t v ≡ written.Put
 is_accepted s n run h w o v t going at = subst (λ z. write_step h o z v ≡ written.Put) (sym at) (lone-write s n h w (kept_map h) o v going.lone)
 
-pub read_has_bytes : (s : StampParts) (n : ℕ) (run : Told) (h : List Mark) (w : Objects) (lines : List Line) (nx : Next) (o : ObjectId) → IsGoing s n run h w → Tells run.script run.answers lines nx → nx ≡ next.Read o → IsObject o
+pub read_has_bytes : (s : StampParts) (n : ℕ) (run : RunParts) (h : List Mark) (w : Objects) (lines : List Line) (nx : Next) (o : ObjectId) → IsGoing s n run h w → Tells run.script run.answers lines nx → nx ≡ next.Read o → IsObject o
 read_has_bytes s n run h w lines nx o going tells is = reads-bytes (denote (block run.script)) run.answers o (kept_map h) going.requests going.answers going.stands.agrees (asks_so run lines nx tells ∙ ap stop_of is)
 
-pub write_has_bytes : (s : StampParts) (n : ℕ) (run : Told) (h : List Mark) (w : Objects) (lines : List Line) (nx : Next) (o : ObjectId) (a : Value) → IsGoing s n run h w → Tells run.script run.answers lines nx → nx ≡ next.Write o a → IsObject o × IsValue a
+pub write_has_bytes : (s : StampParts) (n : ℕ) (run : RunParts) (h : List Mark) (w : Objects) (lines : List Line) (nx : Next) (o : ObjectId) (a : Value) → IsGoing s n run h w → Tells run.script run.answers lines nx → nx ≡ next.Write o a → IsObject o × IsValue a
 write_has_bytes s n run h w lines nx o a going tells is = writes-bytes (denote (block run.script)) run.answers o a (kept_map h) going.requests going.answers going.stands.agrees (asks_so run lines nx tells ∙ ap stop_of is)
 
 -- ---- a request is answered
@@ -156,19 +156,19 @@ lone_on true s n h w objects o lone = lone-stretched s n h w objects o lone
 lone_on false s n h w objects o lone = lone-passed s n h w objects lone
 
 -- with the objects that it kept
-going_so : (s : StampParts) (n : ℕ) (old new : Told) (h h' : List Mark) (w w' : Objects) (a : Answer) → IsGoing s n old h w → IsLone s (n + 1) h' w' (kept_map h) → stand.IsAnswered old new w' (kept_map h) → new.answers ≡ old.answers ++ a ∷ [] → AnswerHasBytes a → IsGoing s (n + 1) new h' w'
+going_so : (s : StampParts) (n : ℕ) (old new : RunParts) (h h' : List Mark) (w w' : Objects) (a : Answer) → IsGoing s n old h w → IsLone s (n + 1) h' w' (kept_map h) → stand.IsAnswered old new w' (kept_map h) → new.answers ≡ old.answers ++ a ∷ [] → AnswerHasBytes a → IsGoing s (n + 1) new h' w'
 going_so s n old new h h' w w' a going lone step is bytes = record {
   lone = subst (λ z. IsLone s (n + 1) h' w' z) lone.kept lone;
   stands = subst (λ z. Stands new w' z) lone.kept step.stands;
-  requests = subst (λ z. HasBytes (denote (block z))) (sym step.script) going.requests;
+  requests = subst (λ z. AsksInRange (denote (block z))) (sym step.script) going.requests;
   answers = subst (λ z. Every AnswerHasBytes z) (sym is) (every_more old.answers a going.answers bytes);
   count = (let count = going.count in let more = step.more in omega arith);
 }
 
-lines_new : (old new : Told) (a : Answer) → new.script ≡ old.script → new.answers ≡ old.answers ++ a ∷ [] → lines_so_far new ≡ (talked (denote (block old.script)) (old.answers ++ a ∷ [])).lines
+lines_new : (old new : RunParts) (a : Answer) → new.script ≡ old.script → new.answers ≡ old.answers ++ a ∷ [] → lines_so_far new ≡ (talked (denote (block old.script)) (old.answers ++ a ∷ [])).lines
 lines_new old new a script answers = ap (λ z. (talked (denote (block z)) new.answers).lines) script ∙ ap (λ z. (talked (denote (block old.script)) z).lines) answers
 
-pub read_goes : (s : StampParts) (n : ℕ) (old mid new : Told) (h h' : List Mark) (w : Objects) (o : ObjectId) (v : Value) (nx : Next) (t : TimeParts) → IsGoing s n old h w → mid.script ≡ old.script → mid.answers ≡ old.answers → Tells old.script old.answers mid.lines nx → nx ≡ next.Read o → t ≡ time_of s n
+pub read_goes : (s : StampParts) (n : ℕ) (old mid new : RunParts) (h h' : List Mark) (w : Objects) (o : ObjectId) (v : Value) (nx : Next) (t : TimeParts) → IsGoing s n old h w → mid.script ≡ old.script → mid.answers ≡ old.answers → Tells old.script old.answers mid.lines nx → nx ≡ next.Read o → t ≡ time_of s n
     → read_step h o t ≡ read.Answer v (stretches h o t) → IsValue v → h' ≡ stretch_mark_if (stretches h o t) o t h → new ≡ answered mid (Got v) (line.Read o v) → Goes s n old new h h' w w (stretch_if (stretches h o t) o t)
 read_goes s n old mid new h h' w o v nx t going script answers tells is at step bytes grows new_is =
     let value : v ≡ value_at (overlaid w (kept_map h)) o = read_value v _ _ _ (sym step ∙ read_is s n old h w o t going at) in
@@ -188,7 +188,7 @@ read_goes s n old mid new h h' w o v nx t going script answers tells is at step 
           ∙ ap (λ z. grown_to (n + 1) h' (es ++ stretch_if (stretches h o z) o z)) (sym at);
     }
 
-pub write_goes : (s : StampParts) (n : ℕ) (old mid new : Told) (h h' : List Mark) (w w' : Objects) (o : ObjectId) (a : Value) (nx : Next) (t : TimeParts) → IsGoing s n old h w → mid.script ≡ old.script → mid.answers ≡ old.answers → Tells old.script old.answers mid.lines nx → nx ≡ next.Write o a → t ≡ time_of s n
+pub write_goes : (s : StampParts) (n : ℕ) (old mid new : RunParts) (h h' : List Mark) (w w' : Objects) (o : ObjectId) (a : Value) (nx : Next) (t : TimeParts) → IsGoing s n old h w → mid.script ≡ old.script → mid.answers ≡ old.answers → Tells old.script old.answers mid.lines nx → nx ≡ next.Write o a → t ≡ time_of s n
     → w' ≡ finite.insert w o a → h' ≡ mark.Put o t a ∷ h → new ≡ answered mid Stored (line.Wrote o a) → Goes s n old new h h' w w' (effect.Put o t a ∷ [])
 write_goes s n old mid new h h' w w' o a nx t going script answers tells is at set grows new_is =
     let one = stand.write_answered old mid new w w' (kept_map h) o a nx going.stands script answers tells is set new_is in
@@ -209,9 +209,9 @@ write_goes s n old mid new h h' w w' o a nx t going script answers tells is at s
 
 -- ---- the end
 
-pub over_so : (s : StampParts) (n : ℕ) (old mid : Told) (h : List Mark) (w : Objects) (nx : Next) (e : Ending) → IsGoing s n old h w → Tells old.script old.answers mid.lines nx → stop_of nx ≡ Over e → IsOver s n old h w e mid.lines
+pub over_so : (s : StampParts) (n : ℕ) (old mid : RunParts) (h : List Mark) (w : Objects) (nx : Next) (e : Ending) → IsGoing s n old h w → Tells old.script old.answers mid.lines nx → stop_of nx ≡ Over e → IsOver s n old h w e mid.lines
 over_so s n old mid h w nx e going tells ends =
-    let run : Told = record { script = old.script; answers = old.answers; lines = mid.lines; said = Rattle.std.specs.Prelude.None } in
+    let run : RunParts = record { script = old.script; answers = old.answers; lines = mid.lines; said = Rattle.std.specs.Prelude.None } in
     record {
       is_alone = stand.is_alone run w (kept_map h) e (record { agrees = going.stands.agrees; has = going.stands.has }) (tells ∙ ap (λ z. record { stop = z; lines = mid.lines; world = [] }) ends);
       comes = λ from es so. ap (with_lines s from) (so_far old mid.lines nx tells) ∙ so;

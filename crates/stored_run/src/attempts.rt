@@ -7,7 +7,7 @@ ghost use Rattle.value_form.specs.Ranges.{IsScript};
 ghost use Rattle.effect_form.specs.declared.effects.Effect.{Effect};
 ghost use Rattle.script_meaning.specs.Meaning.{Over, perform};
 ghost use Rattle.script_run.specs.declared.nexts.Next.{Next};
-ghost use Rattle.script_run.specs.Told.{Tells};
+ghost use Rattle.script_run.specs.RunParts.{Tells};
 ghost use Rattle.serial_model.specs.Overlays.{overlaid};
 ghost use Rattle.serial_run.specs.Attempts.{came_of, left_of};
 ghost use Rattle.object_history.specs.declared.marks.Mark.TheVariants as mark;

@@ -14,7 +14,7 @@ use Rattle.world_core.specs.declared.entries.Entry.{Entry}
 use Rattle.world_core.specs.declared.entries.Entry.TheVariants.{Gate}
 use Rattle.world_core.specs.Nodes.{leaves}
 use Rattle.world_core.specs.Nodes.Input.{Taking, Hearing}
-use Rattle.world_core.specs.Walks.{Base, Life, World, names, step, told, took, hears, lives_on, sent_by, whole, numbered, last_after}
+use Rattle.world_core.specs.Walks.{Base, Life, World, names, step, after_input, took, hears, lives_on, sent_by, all_effects, numbered, last_after}
 use Rattle.trace_logs.specs.declared.letters.Letter.{Letter}
 use Rattle.trace_logs.specs.declared.seats.Seat.{Seat}
 use Rattle.trace_logs.specs.declared.replays.Replay.{Replay}
@@ -48,7 +48,7 @@ letter-in-range letters zero x h e = absurd (cc e)
 letter-in-range letters (suc k) x h e = some-letter letters k x h e
 
 pub took-sent : {T E : Type 0} (b : Base) (w : World) (x : Result T E) (n : NodeId) (t : Seat) (l : Life) (letters : List Letter) (a : Letter) (k : ℕ) → all_posted letters ≡ sent_by w → Some a ≡ numbered letters k →
-    OnOk x (Lives b t (told b n l (Taking a.from a.out.message))) → OnOk x (Lives b t (took b n l (numbered w.sendings k)))
+    OnOk x (Lives b t (after_input b n l (Taking a.from a.out.message))) → OnOk x (Lives b t (took b n l (numbered w.sendings k)))
 took-sent b w x n t l letters a k h e g = subst (λ z. OnOk x (Lives b t z)) (sym (took-letter b n l letters w.sendings k h ∙ ap (λ o. took_post b n l (option_map posted o)) (sym e))) g
 
 pub took-unsent : (b : Base) (w : World) (n : NodeId) (l : Life) (letters : List Letter) (k : ℕ) → all_posted letters ≡ sent_by w → None ≡ numbered letters k → took b n l (numbered w.sendings k) ≡ l
@@ -56,7 +56,7 @@ took-unsent b w n l letters k h e = took-letter b n l letters w.sendings k h ∙
 
 -- ---- moments that are heard
 
-pub heard-last : {T E : Type 0} (b : Base) (w : World) (x : Result T E) (n : NodeId) (t : Seat) (l : Life) (moment : ℕ) → w.last ≡ Some moment → OnOk x (Lives b t (told b n l (Hearing moment))) → OnOk x (Lives b t (hears b n l w.last))
+pub heard-last : {T E : Type 0} (b : Base) (w : World) (x : Result T E) (n : NodeId) (t : Seat) (l : Life) (moment : ℕ) → w.last ≡ Some moment → OnOk x (Lives b t (after_input b n l (Hearing moment))) → OnOk x (Lives b t (hears b n l w.last))
 heard-last b w x n t l moment e g = subst (λ o. OnOk x (Lives b t (hears b n l o))) (sym e) g
 
 pub heard-nothing : (b : Base) (w : World) (n : NodeId) (l : Life) → w.last ≡ None → hears b n l w.last ≡ l
@@ -68,9 +68,9 @@ pub gate-absent : (b : Base) (w : World) (r : Replay) (n : NodeId) → Shows b w
 gate-absent b w r n h a = sent-gate b w n ∙ ap (λ z. sent_by w ++ z) (leaving-unknown w n (h.known n ∙ among-not n r.seats.items a)) ∙ append-nil (sent_by w)
 
 gate-sends : (b : Base) (w : World) (r : Replay) (i : ℕ) (s : Seat) (n : NodeId) (new : List Letter) → Shows b w r → (i < length r.seats.items) × ((d : Seat) → same_node (get_or r.seats.items i d).node n ≡ true) → s ≡ get_or r.seats.items i s →
-    all_posted new ≡ all_posted r.letters.items ++ posts s.node (filter (leaves (whole (w.life s.node))) (w.life s.node).outs) → all_posted new ≡ sent_by (step b w (Gate n))
+    all_posted new ≡ all_posted r.letters.items ++ posts s.node (filter (leaves (all_effects (w.life s.node))) (w.life s.node).outs) → all_posted new ≡ sent_by (step b w (Gate n))
 gate-sends b w r i s n new h at here e =
-    e ∙ (λ j. h.sent j ++ posts (is j) (filter (leaves (whole (w.life (is j)))) (w.life (is j)).outs)) ∙ ap (λ z. sent_by w ++ z) (sym (leaving-known w n known)) ∙ sym (sent-gate b w n)
+    e ∙ (λ j. h.sent j ++ posts (is j) (filter (leaves (all_effects (w.life (is j)))) (w.life (is j)).outs)) ∙ ap (λ z. sent_by w ++ z) (sym (leaving-known w n known)) ∙ sym (sent-gate b w n)
   where
     is : s.node ≡ n
     is = ap (λ (z : Seat). z.node) here ∙ same_is (get_or r.seats.items i s).node n (at.1 s)
@@ -79,6 +79,6 @@ gate-sends b w r i s n new h at here e =
     known = h.known n ∙ subst (λ m. is_among (nodes_of r.seats.items) m ≡ true) (same_is (get_or r.seats.items i s).node n (at.1 s)) (among-at r.seats.items i s at.0)
 
 pub gate-ok : {T E : Type 0} (b : Base) (w : World) (x : Result T E) (r : Replay) (i : ℕ) (s : Seat) (n : NodeId) (new : List Letter) → Shows b w r → (i < length r.seats.items) × ((d : Seat) → same_node (get_or r.seats.items i d).node n ≡ true) → s ≡ get_or r.seats.items i s →
-    ((l : Life) → Lives b s l → OnOk x (all_posted new ≡ all_posted r.letters.items ++ posts s.node (filter (leaves (whole l)) l.outs))) → OnOk x (all_posted new ≡ sent_by (step b w (Gate n)))
+    ((l : Life) → Lives b s l → OnOk x (all_posted new ≡ all_posted r.letters.items ++ posts s.node (filter (leaves (all_effects l)) l.outs))) → OnOk x (all_posted new ≡ sent_by (step b w (Gate n)))
 gate-ok b w (Err y) r i s n new h at here f = tt
 gate-ok b w (Ok y) r i s n new h at here f = gate-sends b w r i s n new h at here (f (w.life s.node) (subst (λ (z : Seat). Lives b z (w.life z.node)) (sym here) (every-at (λ (z : Seat). Lives b z (w.life z.node)) r.seats.items i s at.0 h.seats)))

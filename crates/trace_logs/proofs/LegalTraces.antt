@@ -22,7 +22,7 @@ use Rattle.world_core.specs.declared.entries.Entry.{Entry}
 use Rattle.world_core.specs.declared.entries.Entry.TheVariants.{Take, Go, Gate}
 use Rattle.world_core.specs.Nodes.{is_ready, leaves}
 use Rattle.world_core.specs.Nodes.Input.{Going, Taking}
-use Rattle.world_core.specs.Walks.{Flags, Life, World, Sending, gated_life, numbered, opened_log, sent_by, start_world, step, told, took, walk, walk_from, whole, with_due}
+use Rattle.world_core.specs.Walks.{Flags, Life, World, Sending, gated_life, numbered, opened_log, sent_by, start_world, step, after_input, took, walk, walk_from, all_effects, with_due}
 use Rattle.world_core.specs.Legal.{AllReady, JustNodes, Legal, Meets, Rule, fates_of, in_plan, is_within, post_of}
 use Rattle.trace_logs.proofs.OpenedLemmas.{once-two}
 use Rattle.trace_logs.proofs.WorkedTraces.{home, desk, stamp, blank, prompt}
@@ -68,15 +68,15 @@ desk_sending m = record { post = record { from = home; to = desk; message = m };
 
 -- the messages that a gate sends
 abbrev gate_sends : NodeId → Life → List Sending
-gate_sends n l = map (λ (p : Post). record { post = p; ticks = 0 }) (posts n (filter (leaves (whole l)) l.outs))
+gate_sends n l = map (λ (p : Post). record { post = p; ticks = 0 }) (posts n (filter (leaves (all_effects l)) l.outs))
 
 module _ {es : List Entry} {r b : Life} {s : List Sending} {t : List ℕ} where
-  goes : {x y : Bool} (c : Life) → told base desk b Going ≡ c → Onward es r c true x true s t → Onward (Go desk ∷ es) r b false x y s t
+  goes : {x y : Bool} (c : Life) → after_input base desk b Going ≡ c → Onward es r c true x true s t → Onward (Go desk ∷ es) r b false x y s t
   goes c given next = record {
     from = λ w p. more w (Go desk) es (record { up = ap (λ f. f.up) p.desk_flags; broker = refl; fresh = ap (λ f. f.gone) p.desk_flags })
         (next.from (step base w (Go desk)) (record {
           home_life = p.home_life;
-          desk_life = if-known w desk (told base desk (w.life desk) Going) (ap (λ f. f.known) p.desk_flags) ∙ ap (λ l. told base desk l Going) p.desk_life ∙ given;
+          desk_life = if-known w desk (after_input base desk (w.life desk) Going) (ap (λ f. f.known) p.desk_flags) ∙ ap (λ l. after_input base desk l Going) p.desk_life ∙ given;
           home_flags = p.home_flags;
           desk_flags = ap (λ (f : Flags). if f.known then record { known = f.known; up = f.up; gone = true; due = true } else f) p.desk_flags;
           sends = p.sends;
@@ -87,7 +87,7 @@ module _ {es : List Entry} {r b : Life} {s : List Sending} {t : List ℕ} where
   }
 
   home-takes : {g x y : Bool} (k : ℕ) (m : Message) (c : Life) → numbered s k ≡ Some (home_sending m) → numbered (fates_of sent) k ≡ Some prompt → count k t ≡ 0
-      → told base home r (Taking desk m) ≡ c → Onward es c b g true y s (k ∷ t) → Onward (Take home k ∷ es) r b g x y s t
+      → after_input base home r (Taking desk m) ≡ c → Onward es c b g true y s (k ∷ t) → Onward (Take home k ∷ es) r b g x y s t
   home-takes k m c found fated first given next = record {
     from = λ w p. more w (Take home k) es
         (record {
@@ -116,7 +116,7 @@ module _ {es : List Entry} {r b : Life} {s : List Sending} {t : List ℕ} where
   }
 
   desk-takes : {x y : Bool} (k : ℕ) (m : Message) (c : Life) → numbered s k ≡ Some (desk_sending m) → numbered (fates_of sent) k ≡ Some prompt → count k t ≡ 0
-      → told base desk b (Taking home m) ≡ c → Onward es r c true x true s (k ∷ t) → Onward (Take desk k ∷ es) r b true x y s t
+      → after_input base desk b (Taking home m) ≡ c → Onward es r c true x true s (k ∷ t) → Onward (Take desk k ∷ es) r b true x y s t
   desk-takes k m c found fated first given next = record {
     from = λ w p. more w (Take desk k) es
         (record {
@@ -153,7 +153,7 @@ module _ {es : List Entry} {r b : Life} {s : List Sending} {t : List ℕ} where
           home_flags = ap (λ (f : Flags). if f.known then record { known = f.known; up = f.up; gone = f.gone; due = false } else f) p.home_flags;
           desk_flags = p.desk_flags;
           sends = λ j. p.sends j ++ map (λ (q : Post). record { post = q; ticks = p.early j })
-              (if (p.home_flags j).known then posts home (filter (leaves (whole (p.home_life j))) (p.home_life j).outs) else []);
+              (if (p.home_flags j).known then posts home (filter (leaves (all_effects (p.home_life j))) (p.home_life j).outs) else []);
           takes = p.takes;
           quiet = p.quiet;
           early = p.early;
@@ -169,7 +169,7 @@ module _ {es : List Entry} {r b : Life} {s : List Sending} {t : List ℕ} where
           home_flags = p.home_flags;
           desk_flags = ap (λ (f : Flags). if f.known then record { known = f.known; up = f.up; gone = f.gone; due = false } else f) p.desk_flags;
           sends = λ j. p.sends j ++ map (λ (q : Post). record { post = q; ticks = p.early j })
-              (if (p.desk_flags j).known then posts desk (filter (leaves (whole (p.desk_life j))) (p.desk_life j).outs) else []);
+              (if (p.desk_flags j).known then posts desk (filter (leaves (all_effects (p.desk_life j))) (p.desk_life j).outs) else []);
           takes = p.takes;
           quiet = p.quiet;
           early = p.early;

@@ -23,7 +23,7 @@ use Rattle.turn_form.specs.Ranges.{IsEffect, AreEffects, AreOuts}
 use Rattle.broker_core.specs.Ledgers.{AreActs}
 use Rattle.broker_core.specs.Tasks.{Scripted}
 use Rattle.world_core.specs.Nodes.{Input, Given, gives, opened_mind}
-use Rattle.world_core.specs.Walks.{Base, Life, told, whole, gated_life, crashed_life}
+use Rattle.world_core.specs.Walks.{Base, Life, after_input, all_effects, gated_life, crashed_life}
 use Rattle.trace_logs.specs.declared.seats.Seat.{Seat}
 use Rattle.trace_logs.specs.Cores.{StandsFor, Gave, IsWhole, kind_of, own_acts, acts_for}
 use Rattle.trace_logs.specs.Seats.{Lives, IsSound}
@@ -40,9 +40,9 @@ log-kept n xs ys h = every-left IsEffect (xs ++ take n ys) (drop n ys) (subst Ar
 
 -- a node is told something
 pub told-lives : (b : Base) (s t : Seat) (l : Life) (i : Input) (turn : Turn) → Lives b s l →
-    Gave b s.node (whole l) (gives b.script b.run b.acts s.node (whole l) l.mind i) turn t.core →
+    Gave b s.node (all_effects l) (gives b.script b.run b.acts s.node (all_effects l) l.mind i) turn t.core →
     t.node ≡ s.node → t.acts ≡ s.acts → t.gated ≡ s.gated → t.fresh.items ≡ s.fresh.items ++ turn.effects → t.outs.items ≡ s.outs.items ++ turn.outs →
-    Lives b t (told b s.node l i)
+    Lives b t (after_input b s.node l i)
 told-lives b s t l i turn h g node acts gated fresh outs = record {
   gated = ap (λ v. v.items) gated ∙ h.gated;
   fresh = fresh ∙ (λ j. h.fresh j ++ g.effects j);
@@ -53,7 +53,7 @@ told-lives b s t l i turn h g node acts gated fresh outs = record {
 }
   where
     gave : Given
-    gave = gives b.script b.run b.acts s.node (whole l) l.mind i
+    gave = gives b.script b.run b.acts s.node (all_effects l) l.mind i
 
 pub told-sound : (s t : Seat) (turn : Turn) → IsSound s → kind_of t.core ≡ kind_of s.core → IsWhole t.core → AreEffects turn.effects × AreOuts turn.outs →
     t.node ≡ s.node → t.acts ≡ s.acts → t.gated ≡ s.gated → t.fresh.items ≡ s.fresh.items ++ turn.effects → t.outs.items ≡ s.outs.items ++ turn.outs → IsSound t
@@ -77,8 +77,8 @@ gated-lives b s t l h node acts core gated fresh outs = record {
   gated = gated ∙ (λ j. h.gated j ++ h.fresh j);
   fresh = fresh;
   outs = outs;
-  core = subst (λ z. StandsFor b t.node z l.mind t.core) (sym (append-nil (whole l)))
-      (subst (λ c. StandsFor b t.node (whole l) l.mind c) (sym core) (subst (λ n. StandsFor b n (whole l) l.mind s.core) (sym node) h.core));
+  core = subst (λ z. StandsFor b t.node z l.mind t.core) (sym (append-nil (all_effects l)))
+      (subst (λ c. StandsFor b t.node (all_effects l) l.mind c) (sym core) (subst (λ n. StandsFor b n (all_effects l) l.mind s.core) (sym node) h.core));
   acts = ap (λ v. v.items) acts ∙ h.acts ∙ ap (λ n. own_acts n b.acts) (sym node);
   scripted = subst (λ v. Scripted b.script v.items) (sym acts) h.scripted;
 }

@@ -16,7 +16,7 @@ use Rattle.world_core.specs.declared.entries.Entry.{Entry}
 use Rattle.world_core.specs.declared.entries.Entry.TheVariants.{Take, Go, Learn, Hear, Gate, Crash, Down, Tick}
 use Rattle.world_core.specs.Nodes.{leaves}
 use Rattle.world_core.specs.Nodes.Input.{Taking}
-use Rattle.world_core.specs.Walks.{Base, Life, Flags, Sending, World, names, step, told, took, lives_on, flagged, went, learned, has_heard, leaving, sent_by, whole, numbered, last_after}
+use Rattle.world_core.specs.Walks.{Base, Life, Flags, Sending, World, names, step, after_input, took, lives_on, flagged, went, learned, has_heard, leaving, sent_by, all_effects, numbered, last_after}
 use Rattle.world_core.proofs.Lives.{step-other}
 use Rattle.trace_logs.specs.declared.letters.Letter.{Letter}
 use Rattle.trace_logs.specs.declared.seats.Seat.{Seat}
@@ -142,11 +142,11 @@ posts-of-sendings ticks (p ∷ ps) = ap (λ z. p ∷ z) (posts-of-sendings ticks
 pub sent-gate : (b : Base) (w : World) (n : NodeId) → sent_by (step b w (Gate n)) ≡ sent_by w ++ leaving w n
 sent-gate b w n = map-append (λ (s : Sending). s.post) w.sendings (map (λ (p : Post). record { post = p; ticks = w.ticks }) (leaving w n)) ∙ ap (λ z. sent_by w ++ z) (posts-of-sendings w.ticks (leaving w n))
 
-pub leaving-known : (w : World) (n : NodeId) → (w.flags n).known ≡ true → leaving w n ≡ posts n (filter (leaves (whole (w.life n))) (w.life n).outs)
-leaving-known w n h = ap (λ t. if t then posts n (filter (leaves (whole (w.life n))) (w.life n).outs) else []) h
+pub leaving-known : (w : World) (n : NodeId) → (w.flags n).known ≡ true → leaving w n ≡ posts n (filter (leaves (all_effects (w.life n))) (w.life n).outs)
+leaving-known w n h = ap (λ t. if t then posts n (filter (leaves (all_effects (w.life n))) (w.life n).outs) else []) h
 
 pub leaving-unknown : (w : World) (n : NodeId) → (w.flags n).known ≡ false → leaving w n ≡ []
-leaving-unknown w n h = ap (λ t. if t then posts n (filter (leaves (whole (w.life n))) (w.life n).outs) else []) h
+leaving-unknown w n h = ap (λ t. if t then posts n (filter (leaves (all_effects (w.life n))) (w.life n).outs) else []) h
 
 numbered-map : {X Y : Type 0} (f : X → Y) (xs : List X) (k : ℕ) → numbered (map f xs) k ≡ option_map f (numbered xs k)
 numbered-map f xs zero = refl
@@ -155,7 +155,7 @@ numbered-map f xs (suc k) = slice_get-map f xs k
 module _ (b : Base) (n : NodeId) (l : Life) where
   abbrev pub took_post : Option Post → Life
   took_post None = l
-  took_post (Some p) = told b n l (Taking p.from p.message)
+  took_post (Some p) = after_input b n l (Taking p.from p.message)
 
   took-is : (s : Option Sending) → took b n l s ≡ took_post (option_map (λ (s : Sending). s.post) s)
   took-is None = refl

@@ -41,7 +41,7 @@ use Rattle.world_core.specs.declared.traces.Sent.{Sent}
 use Rattle.world_core.specs.declared.traces.Trace.{Trace}
 use Rattle.world_core.specs.Nodes.{gives, with_desk}
 use Rattle.world_core.specs.Nodes.Input.{Going, Taking}
-use Rattle.world_core.specs.Walks.{Base, Life, told, whole, with_given}
+use Rattle.world_core.specs.Walks.{Base, Life, after_input, all_effects, with_given}
 use Rattle.trace_logs.proofs.WorkedTraces.{home, desk, stamp, blank, prompt}
 
 -- ---- the plan
@@ -151,13 +151,13 @@ task-is = ap (λ b. task_with 1 1 5 3 1 (script_text b)) (block-made part) ∙ a
 
 -- what the broker is given for an input, by its task
 abbrev pub given_for : Task → Life → desks.Input → Life
-given_for t l i = with_given l (with_desk l.mind (desks.desk_turn script 1 1 (t ∷ []) (desks.desk_at (reverse (whole l)) l.mind.heard) i))
+given_for t l i = with_given l (with_desk l.mind (desks.desk_turn script 1 1 (t ∷ []) (desks.desk_at (reverse (all_effects l)) l.mind.heard) i))
 
-pub going : (l c : Life) → given_for task l desks.Go ≡ c → told base desk l Going ≡ c
+pub going : (l c : Life) → given_for task l desks.Go ≡ c → after_input base desk l Going ≡ c
 unfolding gives
 going l c h = ap (λ t. given_for t l desks.Go) task-is ∙ h
 
-pub taking : (l c : Life) (m : Message) → given_for task l (desks.Take home m) ≡ c → told base desk l (Taking home m) ≡ c
+pub taking : (l c : Life) (m : Message) → given_for task l (desks.Take home m) ≡ c → after_input base desk l (Taking home m) ≡ c
 unfolding gives
 taking l c m h = ap (λ t. given_for t l (desks.Take home m)) task-is ∙ h
 
@@ -165,7 +165,7 @@ pub go-given : given_for task (keeps [] [] []) desks.Go ≡ works went [] begins
 unfolding settle_up book keep same_stamp same_time
 go-given = refl
 
-pub begin-given : told base home (keeps [] [] []) (Taking desk (message.Begin stamp 5)) ≡ keeps [] (effect.Begin stamp 5 ∷ []) (to_desk (message.Begun stamp))
+pub begin-given : after_input base home (keeps [] [] []) (Taking desk (message.Begin stamp 5)) ≡ keeps [] (effect.Begin stamp 5 ∷ []) (to_desk (message.Begun stamp))
 unfolding gives turns.gives on_message on_begin first_begin decision_of same_stamp
 begin-given = refl
 
@@ -173,7 +173,7 @@ pub begun-given : given_for task (works went begins [] []) (desks.Take home (mes
 unfolding settle_up book keep same_stamp same_time
 begun-given = refl
 
-pub write-given : told base home (keeps (effect.Begin stamp 5 ∷ []) [] []) (Taking desk (message.Write (at 1) object ten))
+pub write-given : after_input base home (keeps (effect.Begin stamp 5 ∷ []) [] []) (Taking desk (message.Write (at 1) object ten))
     ≡ keeps (effect.Begin stamp 5 ∷ []) (effect.Put object (at 1) ten ∷ []) (to_desk (message.Stored (at 1)))
 unfolding gives turns.gives on_message on_write has_put some_put settle_of version_count pick scan stretched same_object same_value same_stamp lt
 write-given = refl
@@ -182,7 +182,7 @@ pub stored-given : given_for task (works began begins [] []) (desks.Take home (m
 unfolding settle_up book keep same_stamp same_time
 stored-given = refl
 
-pub read-given : told base home (keeps (effect.Begin stamp 5 ∷ effect.Put object (at 1) ten ∷ []) [] []) (Taking desk (message.Read (at 2) object))
+pub read-given : after_input base home (keeps (effect.Begin stamp 5 ∷ effect.Put object (at 1) ten ∷ []) [] []) (Taking desk (message.Read (at 2) object))
     ≡ keeps (effect.Begin stamp 5 ∷ effect.Put object (at 1) ten ∷ []) (effect.Stretch object (at 2) ∷ []) (to_desk (message.Value (at 2) ten))
 unfolding gives turns.gives on_message on_read has_put some_put settle_of version_count pick scan stretched same_object same_value same_stamp lt
 read-given = refl
@@ -191,7 +191,7 @@ pub value-given : given_for task (works began (begins ++ effect.Acked 1 ∷ []) 
 unfolding settle_up book keep same_stamp same_time
 value-given = refl
 
-pub commit-given : told base home (keeps (effect.Begin stamp 5 ∷ effect.Put object (at 1) ten ∷ effect.Stretch object (at 2) ∷ []) [] []) (Taking desk (message.Commit stamp))
+pub commit-given : after_input base home (keeps (effect.Begin stamp 5 ∷ effect.Put object (at 1) ten ∷ effect.Stretch object (at 2) ∷ []) [] []) (Taking desk (message.Commit stamp))
     ≡ keeps (effect.Begin stamp 5 ∷ effect.Put object (at 1) ten ∷ effect.Stretch object (at 2) ∷ []) (effect.Decide stamp decision.Committed ∷ []) (to_desk (message.Decided stamp decision.Committed))
 unfolding gives turns.gives on_message on_close first_begin decision_of release tell_askers same_stamp
 commit-given = refl

@@ -3,7 +3,7 @@ use Rattle.std.specs.Prelude.{◌≡◌, ◌≤◌, ◌++◌}
 use Rattle.turn_form.specs.Ranges.{AreEffects, AreOuts}
 use Rattle.broker_core.specs.Ledgers.{AreActs}
 use Rattle.broker_core.specs.Tasks.{Scripted}
-use Rattle.world_core.specs.Walks.{Base, Life, whole}
+use Rattle.world_core.specs.Walks.{Base, Life, all_effects}
 use Rattle.trace_logs.specs.declared.seats.Seat.{Seat}
 use Rattle.trace_logs.specs.Cores.{StandsFor, IsWhole, kind_of, own_acts}
 
@@ -12,7 +12,7 @@ pub record Lives (b : Base) (s : Seat) (l : Life) : Type 0 where
   pub gated : s.gated.items ≡ l.gated
   pub fresh : s.fresh.items ≡ l.fresh
   pub outs : s.outs.items ≡ l.outs
-  pub core : StandsFor b s.node (whole l) l.mind s.core
+  pub core : StandsFor b s.node (all_effects l) l.mind s.core
   pub acts : s.acts.items ≡ own_acts s.node b.acts
   pub scripted : Scripted b.script s.acts.items
 

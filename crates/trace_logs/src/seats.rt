@@ -10,7 +10,7 @@ ghost use Rattle.broker_core.specs.Ledgers.{AreActs};
 ghost use Rattle.broker_core.specs.Tasks.{Scripted};
 ghost use Rattle.world_core.specs.Nodes.{leaves};
 ghost use Rattle.world_core.specs.Nodes.Input.{Going, Taking, Learning, Hearing};
-ghost use Rattle.world_core.specs.Walks.{Base, Life, told, whole, gated_life, crashed_life, opened_life};
+ghost use Rattle.world_core.specs.Walks.{Base, Life, after_input, all_effects, gated_life, crashed_life, opened_life};
 ghost use Rattle.trace_logs.specs.Cores.{StandsFor, own_acts};
 ghost use Rattle.trace_logs.specs.Letters.{all_posted, AreLetters};
 ghost use Rattle.trace_logs.specs.Seats.{Lives, IsSound};
@@ -91,7 +91,7 @@ impl Seat {
     pub fn take(&mut self, from: NodeId, message: &Message) -> Result<(), AllocError>
         requires sound { IsSound self.old }
         requires message { IsMessage message.now }
-        ensures lives { (b : Base) (l : Life) → Lives b self.old l → OnOk result (Lives b self.new (told b self.old.node l (Taking from message.now))) }
+        ensures lives { (b : Base) (l : Life) → Lives b self.old l → OnOk result (Lives b self.new (after_input b self.old.node l (Taking from message.now))) }
         ensures node { OnOk result (self.new.node ≡ self.old.node) }
         ensures sound { OnOk result (IsSound self.new) }
     {
@@ -102,7 +102,7 @@ impl Seat {
     /// Goes, a broker.
     pub fn go(&mut self, alloc: Global) -> Result<(), AllocError>
         requires sound { IsSound self.old }
-        ensures lives { (b : Base) (l : Life) → Lives b self.old l → OnOk result (Lives b self.new (told b self.old.node l Going)) }
+        ensures lives { (b : Base) (l : Life) → Lives b self.old l → OnOk result (Lives b self.new (after_input b self.old.node l Going)) }
         ensures node { OnOk result (self.new.node ≡ self.old.node) }
         ensures sound { OnOk result (IsSound self.new) }
     {
@@ -113,7 +113,7 @@ impl Seat {
     /// Learns a decision, a repository.
     pub fn learn(&mut self, alloc: Global, stamp: Stamp, committed: bool) -> Result<(), AllocError>
         requires sound { IsSound self.old }
-        ensures lives { (b : Base) (l : Life) → Lives b self.old l → OnOk result (Lives b self.new (told b self.old.node l (Learning stamp committed))) }
+        ensures lives { (b : Base) (l : Life) → Lives b self.old l → OnOk result (Lives b self.new (after_input b self.old.node l (Learning stamp committed))) }
         ensures node { OnOk result (self.new.node ≡ self.old.node) }
         ensures sound { OnOk result (IsSound self.new) }
     {
@@ -125,7 +125,7 @@ impl Seat {
     pub fn hear(&mut self, moment: u64) -> Result<(), AllocError>
         requires sound { IsSound self.old }
         requires moment { moment ≤ 2 ^ 63 }
-        ensures lives { (b : Base) (l : Life) → Lives b self.old l → OnOk result (Lives b self.new (told b self.old.node l (Hearing moment))) }
+        ensures lives { (b : Base) (l : Life) → Lives b self.old l → OnOk result (Lives b self.new (after_input b self.old.node l (Hearing moment))) }
         ensures node { OnOk result (self.new.node ≡ self.old.node) }
         ensures sound { OnOk result (IsSound self.new) }
     {
@@ -177,7 +177,7 @@ impl Seat {
     pub fn gate(&mut self, alloc: Global, letters: &mut Vec<Letter>) -> Result<(), AllocError>
         requires sound { IsSound self.old }
         ensures lives { (b : Base) (l : Life) → Lives b self.old l → OnOk result (Lives b self.new (gated_life l)) }
-        ensures sent { (b : Base) (l : Life) → Lives b self.old l → OnOk result (all_posted letters.new.items ≡ all_posted letters.old.items ++ posts self.old.node (filter (leaves (whole l)) l.outs)) }
+        ensures sent { (b : Base) (l : Life) → Lives b self.old l → OnOk result (all_posted letters.new.items ≡ all_posted letters.old.items ++ posts self.old.node (filter (leaves (all_effects l)) l.outs)) }
         ensures in_range { AreLetters letters.old.items → OnOk result (AreLetters letters.new.items) }
         ensures node { OnOk result (self.new.node ≡ self.old.node) }
         ensures sound { OnOk result (IsSound self.new) }

@@ -11,7 +11,7 @@ use Rattle.value_form.specs.Mirror.{block}
 use Rattle.script_meaning.specs.Meaning.{Answer, Got, Stored, Stop}
 use Rattle.script_run.specs.declared.nexts.Next.{Next}
 use Rattle.script_run.specs.declared.nexts.Next.TheVariants as next
-use Rattle.script_run.specs.Told.{Told, Tells, begun, stop_of}
+use Rattle.script_run.specs.RunParts.{RunParts, Tells, begun, stop_of}
 use Rattle.serial_model.specs.Asked.{IsAnswerTo}
 use Rattle.serial_model.specs.Questions.{Tree, Ends, Says, Reads, Writes, denote, stop, talked, line_before}
 use Rattle.serial_model.proofs.ScriptLemmas.{talk_of}
@@ -78,11 +78,11 @@ module _ (script : List Stmt) (ans : List Answer) (ls : List Line) (n : Next) (t
   pub told-lines : ls ≡ (talked (denote (block script)) ans).lines
   told-lines = sym (ap (λ x. x.lines) t) ∙ (talk_of (block script) ans).0
 
-gave-not : (b : Bool) (old new : Told) (a : Answer) → b ≡ false → Gave b old new a → Gave false old new a
+gave-not : (b : Bool) (old new : RunParts) (a : Answer) → b ≡ false → Gave b old new a → Gave false old new a
 gave-not b old new a h g = subst (λ z. Gave z old new a) h g
 
 -- the answer in this place isn't asked for
-pub stopped-early : (lines : List Stmt) (first : List Answer) (old new : Told) (xs : List Answered) (i : ℕ) (x : Answered) (b : Bool) → old.script ≡ lines → old.answers ≡ first ++ answers_of (take i xs) → i < length xs → x ≡ get_or xs i x →
+pub stopped-early : (lines : List Stmt) (first : List Answer) (old new : RunParts) (xs : List Answered) (i : ℕ) (x : Answered) (b : Bool) → old.script ≡ lines → old.answers ≡ first ++ answers_of (take i xs) → i < length xs → x ≡ get_or xs i x →
     b ≡ false → Gave b old new (answer_of x) → talked (denote (block lines)) new.answers ≡ talked (denote (block lines)) (first ++ answers_of xs)
 stopped-early lines first old new xs i x b e q l is h g =
     let k = gave-not b old new (answer_of x) h g in
@@ -93,7 +93,7 @@ stopped-early lines first old new xs i x b e q l is h g =
     ∙ ap (talked (denote (block lines))) (ap (λ z. z ++ answer_of x ∷ answers_of (drop (suc i) xs)) q ∙ append_assoc first (answers_of (take i xs)) (answer_of x ∷ answers_of (drop (suc i) xs)) ∙ ap (λ z. first ++ z) (sym parts))
 
 -- of a run that began and was given answers
-pub transcript-is : (lines : List Stmt) (run new : Told) (xs : List Answered) → run ≡ begun lines → new.script ≡ run.script →
+pub transcript-is : (lines : List Stmt) (run new : RunParts) (xs : List Answered) → run ≡ begun lines → new.script ≡ run.script →
     talked (denote (block run.script)) new.answers ≡ talked (denote (block run.script)) (run.answers ++ answers_of xs) → (talked (denote (block new.script)) new.answers).lines ≡ (talked (denote (block lines)) (answers_of xs)).lines
 transcript-is lines run new xs r e t =
-    ap (λ (s : List Stmt). (talked (denote (block s)) new.answers).lines) e ∙ ap (λ k. k.lines) t ∙ ap (λ (z : Told). (talked (denote (block z.script)) (z.answers ++ answers_of xs)).lines) r
+    ap (λ (s : List Stmt). (talked (denote (block s)) new.answers).lines) e ∙ ap (λ k. k.lines) t ∙ ap (λ (z : RunParts). (talked (denote (block z.script)) (z.answers ++ answers_of xs)).lines) r

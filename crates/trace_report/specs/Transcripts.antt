@@ -2,7 +2,7 @@
 use Rattle.std.specs.Prelude.{◌≡◌, Bool, true, false, List, [], ◌∷◌, ◌++◌, map}
 use Rattle.script_meaning.specs.Meaning as meaning
 use Rattle.script_meaning.specs.Meaning.{Answer, Stop, Asks, Over, ToRead, ToWrite}
-use Rattle.script_run.specs.Told.{Told}
+use Rattle.script_run.specs.RunParts.{RunParts}
 use Rattle.value_form.specs.Mirror.{block}
 use Rattle.serial_model.specs.Questions.{denote, stop}
 use Rattle.trace_report.specs.declared.answers.Answered.{Answered}
@@ -25,6 +25,6 @@ IsUnasked (Asks (ToWrite o w)) meaning.Stored = ⊥
 IsUnasked (Over e) a = Unit {0}
 
 -- the answer was given, or the script doesn't ask for it
-abbrev pub Gave : Bool → Told → Told → Answer → Type 0
+abbrev pub Gave : Bool → RunParts → RunParts → Answer → Type 0
 Gave true old new a = new.answers ≡ old.answers ++ a ∷ []
 Gave false old new a = (new.answers ≡ old.answers) × IsUnasked (stop (denote (block old.script)) old.answers) a

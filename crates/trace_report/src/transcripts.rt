@@ -2,7 +2,7 @@ ghost use Rattle.std.specs.Prelude.{◌≡◌, ◌++◌, IfOk, OnOk};
 ghost use Rattle.value_form.specs.Mirror.{block};
 ghost use Rattle.value_form.specs.Ranges.{IsScript};
 ghost use Rattle.script_meaning.specs.Meaning.{Got, Stored};
-ghost use Rattle.script_run.specs.Told.{stop_of};
+ghost use Rattle.script_run.specs.RunParts.{stop_of};
 ghost use Rattle.serial_model.specs.Questions.{denote, talked};
 ghost use Rattle.broker_core.specs.Fits.{reads_now, writes_now};
 ghost use Rattle.trace_report.specs.Transcripts.{answer_of, answers_of, Gave};

@@ -13,7 +13,7 @@ use Rattle.effect_form.specs.declared.effects.Effect.{Effect}
 use Rattle.version_store.specs.Entries.{Log}
 use Rattle.version_store.specs.Storage.{Content, content_of, Reading, log_going, Going, Ended, Damaged, begun, next, scan, going_or_damaged, log_with, texts_of}
 use Rattle.version_store.specs.Laying.{IsAtRest}
-use Rattle.version_store.specs.Heads.{Heads, Stands}
+use Rattle.version_store.specs.Heads.{Heads, IsFound}
 use Rattle.version_store.specs.Found.{Reached, reading_of}
 use Rattle.version_store.proofs.ScanLemmas.{scan_more}
 
@@ -53,7 +53,7 @@ ended_blank false c c' page (Gated body) is = absurd (not_ended page (log_with c
 ended_blank true c c' page (Gated body) is = absurd (cc is)
 
 pub reached_more : (reads : Image) (page : ℕ) (heads heads' : Heads) (effects effects' : List Effect) (n n' : ℕ) (ended ended' : Bool) → page < length reads → (was : Reached reads page heads effects n ended)
-    → (more : Content) × (next (reading_of ended was.content) page (state_of (get_or reads page [])) ≡ reading_of ended' more) × Stands heads' effects' more.log → n' ≡ cond ended' n (page + 1) → Reached reads (page + 1) heads' effects' n' ended'
+    → (more : Content) × (next (reading_of ended was.content) page (state_of (get_or reads page [])) ≡ reading_of ended' more) × IsFound heads' effects' more.log → n' ≡ cond ended' n (page + 1) → Reached reads (page + 1) heads' effects' n' ended'
 reached_more reads page heads heads' effects effects' n n' ended false within was more is =
     let reading = scan_more reads page within ∙ ap (λ r. next r page (state_of (get_or reads page []))) was.reading ∙ more.1 in
     record {

@@ -9,7 +9,7 @@ use Rattle.effect_form.specs.declared.effects.Place.{Place}
 use Rattle.effect_form.specs.Effects.{Written, effect_bytes, effect_at}
 use Rattle.effect_form.proofs.EffectLaws.{effect_takes}
 use Rattle.version_store.specs.Entries.{Log, back_in, same_back}
-use Rattle.version_store.specs.Heads.{Heads, HeadsFit, Stands}
+use Rattle.version_store.specs.Heads.{Heads, HeadsFit, IsFound}
 use Rattle.version_store.specs.Storage.{place_before, admitted, log_at}
 use Rattle.version_store.specs.Laying.{entry_at}
 use Rattle.version_store.proofs.LogLemmas.{effects_of-append}
@@ -43,8 +43,8 @@ module _ (log : Log) (place : Place) (bytes : List ℕ) (e : Effect) (back last 
   pub refused : same_back back last ≡ false → admitted log place read ≡ None
   refused other = found ∙ cond-false (same_back back (back_in log e)) _ _ (ap (λ (b : Option Place). same_back back b) (sym last_is) ∙ other)
 
-  module _ (heads heads' : Heads) (effects effects' : List Effect) (was : Stands heads effects log) (same : same_back back last ≡ true) (heads_fit : HeadsFit heads' (log ++ entry_at log place e ∷ [])) (pushed : effects' ≡ effects ++ e ∷ []) where
-    pub admits : (more : Log) × (admitted log place read ≡ Some (more, rest)) × Stands heads' effects' more
+  module _ (heads heads' : Heads) (effects effects' : List Effect) (was : IsFound heads effects log) (same : same_back back last ≡ true) (heads_fit : HeadsFit heads' (log ++ entry_at log place e ∷ [])) (pushed : effects' ≡ effects ++ e ∷ []) where
+    pub admits : (more : Log) × (admitted log place read ≡ Some (more, rest)) × IsFound heads' effects' more
     admits =
         let back_is : back ≡ back_in log e = same_back-is back last same ∙ last_is in (
           log ++ record { effect = e; place = place; back = back } ∷ [],
@@ -73,10 +73,10 @@ log_at-over log page end (b ∷ bytes) some = refl
 -- after i effects, so many bytes are left and the log so far leads to the page's
 pub record SoFar (log : Log) (page : ℕ) (texts : List ℕ) (i : ℕ) (rest : List ℕ) (heads : Heads) (effects : List Effect) : Type 0 where
   pub now : Log
-  pub stands : Stands heads effects now
+  pub stands : IsFound heads effects now
   pub leads : log_at (length texts - i) now page (4 + length texts) rest ≡ log_at (length texts) log page (4 + length texts) texts
 
-pub so_far_none : (log : Log) (page : ℕ) (texts : List ℕ) (heads : Heads) (effects : List Effect) → Stands heads effects log → SoFar log page texts 0 texts heads effects
+pub so_far_none : (log : Log) (page : ℕ) (texts : List ℕ) (heads : Heads) (effects : List Effect) → IsFound heads effects log → SoFar log page texts 0 texts heads effects
 so_far_none log page texts heads effects stands = record { now = log; stands = stands; leads = ap (λ (k : ℕ). log_at k log page (4 + length texts) texts) (whole (length texts)) }
   where
     whole : (n : ℕ) → n - 0 ≡ n
@@ -90,7 +90,7 @@ over n i high = omega arith
 
 module _ (log : Log) (page : ℕ) (texts : List ℕ) (i : ℕ) (rest : List ℕ) (heads : Heads) (effects : List Effect) (was : SoFar log page texts i rest heads effects) where
   -- no bytes are left
-  pub page_ends : length rest ≡ 0 → (more : Log) × (log_at (length texts) log page (4 + length texts) texts ≡ Some more) × Stands heads effects more
+  pub page_ends : length rest ≡ 0 → (more : Log) × (log_at (length texts) log page (4 + length texts) texts ≡ Some more) × IsFound heads effects more
   page_ends none_left = (was.now, sym was.leads ∙ log_at-none (length texts - i) was.now page (4 + length texts) rest none_left, was.stands)
 
   -- bytes are left behind the last effect that may be
@@ -104,7 +104,7 @@ module _ (log : Log) (page : ℕ) (texts : List ℕ) (i : ℕ) (rest : List ℕ)
   pub page_stops : i < length texts → 1 ≤ length rest → admitted was.now (place_before page (4 + length texts) (length rest)) (effect_at rest) ≡ None → log_at (length texts) log page (4 + length texts) texts ≡ None
   page_stops low some is = step low some ∙ ap (λ (o : Option (Log × List ℕ)). o >>= λ more. log_at (length texts - (i + 1)) more.0 page (4 + length texts) more.1) is
 
-  pub page_goes : i < length texts → 1 ≤ length rest → (rest' : List ℕ) (heads' : Heads) (effects' : List Effect) → (more : Log) × (admitted was.now (place_before page (4 + length texts) (length rest)) (effect_at rest) ≡ Some (more, rest')) × Stands heads' effects' more → SoFar log page texts (i + 1) rest' heads' effects'
+  pub page_goes : i < length texts → 1 ≤ length rest → (rest' : List ℕ) (heads' : Heads) (effects' : List Effect) → (more : Log) × (admitted was.now (place_before page (4 + length texts) (length rest)) (effect_at rest) ≡ Some (more, rest')) × IsFound heads' effects' more → SoFar log page texts (i + 1) rest' heads' effects'
   page_goes low some rest' heads' effects' more = record {
     now = more.0;
     stands = more.2;

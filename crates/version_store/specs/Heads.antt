@@ -23,6 +23,6 @@ abbrev pub AreBelow : ℕ → Heads → Type 0
 AreBelow limit heads = (object : ObjectId) (place : Place) → get object_cmp heads object ≡ Some place → place.page < limit
 
 -- what an opening has found is a log
-pub record Stands (heads : Heads) (effects : List Effect) (log : Log) : Type 0 where
+pub record IsFound (heads : Heads) (effects : List Effect) (log : Log) : Type 0 where
   pub heads_fit : HeadsFit heads log
   pub effects_are : effects ≡ effects_of log

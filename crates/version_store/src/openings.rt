@@ -7,7 +7,7 @@ ghost use Rattle.page_gate.specs.declared.pages.PageState.TheVariants.{Blank};
 ghost use Rattle.version_store.specs.Faults.{fails_reading};
 ghost use Rattle.effect_form.specs.Effects.{AreEffects};
 ghost use Rattle.version_store.specs.Found.{Reached, reading_of};
-ghost use Rattle.version_store.specs.Heads.{AreBelow, ArePlaces, Stands};
+ghost use Rattle.version_store.specs.Heads.{AreBelow, ArePlaces, IsFound};
 ghost use Rattle.version_store.specs.Storage.{Content, Damaged, begun, next, scan};
 
 use crate::faults::OpenFault;
@@ -39,7 +39,7 @@ fn add_state(
 ) -> Result<bool, AllocError>
     requires page { page < 1048576 }
     requires places { ArePlaces found.old.heads }
-    ensures found { (c : Content) → Stands found.old.heads found.old.effects.items c.log → IfOk result (λ b. MatchBool b ((more : Content) × (next (reading_of found.old.ended c) page state.now ≡ reading_of found.new.ended more) × Stands found.new.heads found.new.effects.items more.log) (next (reading_of found.old.ended c) page state.now ≡ Damaged page)) }
+    ensures found { (c : Content) → IsFound found.old.heads found.old.effects.items c.log → IfOk result (λ b. MatchBool b ((more : Content) × (next (reading_of found.old.ended c) page state.now ≡ reading_of found.new.ended more) × IsFound found.new.heads found.new.effects.items more.log) (next (reading_of found.old.ended c) page state.now ≡ Damaged page)) }
     ensures next { IfOk result (λ b. b ≡ true → found.new.next ≡ (if found.new.ended then found.old.next else page + 1)) }
     ensures marked { IfOk result (λ b. b ≡ false → state.now ≢ Blank) }
     ensures places { OnOk result (ArePlaces found.new.heads) }

@@ -14,7 +14,7 @@ use Rattle.message_core.specs.Parts.{FlightParts, state_of}
 use Rattle.world_core.specs.declared.entries.Entry.TheVariants.{Take, Go, Learn, Hear, Crash, Down, Tick}
 use Rattle.world_core.specs.declared.traces.Sent.{Sent}
 use Rattle.world_core.specs.Walks.{Base, World, numbered, opened_log, step, start_world, walk}
-use Rattle.world_core.specs.Legal.{HasGone, MayTake, MayTick, Stands, is_behind, fates_of}
+use Rattle.world_core.specs.Legal.{HasGone, MayTake, MayTick, IsDecidedAs, is_behind, fates_of}
 use Rattle.wire_core.specs.declared.stories.Story.{Story}
 use Rattle.wire_core.specs.Changes.{IsQuiet}
 use Rattle.wire_core.specs.Clocked.{next_moment}
@@ -50,7 +50,7 @@ module _ (told : Bool) (o : Origin) (s s' : Story) (sent : List Sent) (asked : L
       (λ t. record { up = up; some = (behind-parts w n behind).0; behind = (behind-parts w n behind).1 })
 
   -- a repository learns
-  pub learn-more : (n : NodeId) (stamp : StampParts) (committed : Bool) → HasOneMore s s' (Learn n stamp committed) → (w.flags n).up ≡ true → is_broker n.kind ≡ false → (IsTrue told → Stands w stamp committed)
+  pub learn-more : (n : NodeId) (stamp : StampParts) (committed : Bool) → HasOneMore s s' (Learn n stamp committed) → (w.flags n).up ≡ true → is_broker n.kind ≡ false → (IsTrue told → IsDecidedAs w stamp committed)
       → IsSound told (parts_with o s' sent asked answers flight false) s'.nodes.entries s'.ticks s'.last
   learn-more n stamp committed more up repository stands = sound-left told o s s' (Learn n stamp committed) sent asked answers flight broken h more whole (record { sends = λ v. refl; last = λ l. refl; moments = refl }) (record { taken = λ l. refl; ticks = λ k. refl; up = refl })
       (λ t. record { up = up; repository = repository; stands = stands t })

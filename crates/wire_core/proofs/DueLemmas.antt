@@ -57,15 +57,15 @@ module _ (s : State) (w : World) (sent : List Sent) (marks : List Marked) (t : I
   pub due-front : (n : NodeId) (k : ℕ) (rest : List ℕ) → waiting s n ≡ k ∷ rest
       → (m : Marked) × (numbered marks k ≡ Some m) × (m.sent.to ≡ n) × (m.ticks + m.sent.fate.hold ≤ w.ticks) × (times_taken w k < copies_of m.sent.fate)
   due-front n k rest front =
-      let d : (x : tallies.Sending) × IsDue s t.ledger n k x × (count k t.ledger.taken < copies_of x.fate) = front-due s t.ledger t.tally n k rest front in
+      let d : (x : tallies.Posted) × IsDue s t.ledger n k x × (count k t.ledger.taken < copies_of x.fate) = front-due s t.ledger t.tally n k rest front in
       let m : (m : Marked) × (numbered marks k ≡ Some m) × (tallied m ≡ d.0) = numbered-from tallied marks k d.0 (ap (λ l. numbered l k) (sym t.sendings) ∙ d.1.there) in
-      let hold : (tallied m.0).ticks + (tallied m.0).fate.hold ≡ d.0.ticks + d.0.fate.hold = ap (λ (y : tallies.Sending). y.ticks + y.fate.hold) m.2 in
-      let copies : copies_of (tallied m.0).fate ≡ copies_of d.0.fate = ap (λ (y : tallies.Sending). copies_of y.fate) m.2 in
+      let hold : (tallied m.0).ticks + (tallied m.0).fate.hold ≡ d.0.ticks + d.0.fate.hold = ap (λ (y : tallies.Posted). y.ticks + y.fate.hold) m.2 in
+      let copies : copies_of (tallied m.0).fate ≡ copies_of d.0.fate = ap (λ (y : tallies.Posted). copies_of y.fate) m.2 in
       let ripe = d.1.ripe in
       let ticks = t.ticks in
       let less = d.2 in
       let times = t.taken k in
-      (m.0, m.1, ap (λ (y : tallies.Sending). y.to) m.2 ∙ d.1.to, omega (arith, hold, ripe, ticks), omega (arith, copies, less, times))
+      (m.0, m.1, ap (λ (y : tallies.Posted). y.to) m.2 ∙ d.1.to, omega (arith, hold, ripe, ticks), omega (arith, copies, less, times))
 
   -- where a queue is empty, all due copies were taken
   empty-took : (n : NodeId) (k : ℕ) (m : Marked) → waiting s n ≡ [] → is_some (s.queues n) ≡ true → numbered marks k ≡ Some m → m.sent.to ≡ n → m.ticks + m.sent.fate.hold ≤ w.ticks → times_taken w k ≡ copies_of m.sent.fate

@@ -15,7 +15,7 @@ use Rattle.message_core.specs.Senders.{AllInRange}
 use Rattle.world_core.specs.declared.entries.Entry.TheVariants.{Gate}
 use Rattle.world_core.specs.declared.traces.Sent.{Sent}
 use Rattle.world_core.specs.Nodes.{leaves}
-use Rattle.world_core.specs.Walks.{Base, World, Sending, sendings_after, leaving, sent_by, whole, start_world, walk}
+use Rattle.world_core.specs.Walks.{Base, World, Sending, sendings_after, leaving, sent_by, all_effects, start_world, walk}
 use Rattle.world_core.specs.Legal.{Meets, Numbered, post_of, fates_of, asked_of}
 use Rattle.world_core.proofs.Legality.{numbered-join}
 use Rattle.world_core.proofs.Rules.{meets-grown}
@@ -42,7 +42,7 @@ abbrev sending_now : ℕ → Post → Sending
 sending_now ticks p = record { post = p; ticks = ticks }
 
 leaving-is : (w : World) (n : NodeId) → (w.flags n).known ≡ true → leaving w n ≡ posts n (owed w n)
-leaving-is w n known = ap (λ t. if t then posts n (filter (leaves (whole (w.life n))) (w.life n).outs) else []) known
+leaving-is w n known = ap (λ t. if t then posts n (filter (leaves (all_effects (w.life n))) (w.life n).outs) else []) known
 
 outs-in-range : (n : NodeId) (outs : List Out) → AreOuts outs → AllInRange (posts n outs)
 outs-in-range n [] h = tt

@@ -10,7 +10,7 @@ use Rattle.stream_port.specs.declared.fates.Asked.{Asked}
 use Rattle.stream_port.specs.Clocks.{Adds}
 use Rattle.message_core.specs.Flights.{State, start}
 use Rattle.message_core.specs.Parts.{FlightParts, state_of}
-use Rattle.message_core.specs.Tallies.{blank_ledger}
+use Rattle.message_core.specs.Tallies.{blank_tally}
 use Rattle.message_core.proofs.StayLemmas.{made}
 use Rattle.message_core.proofs.TallyLemmas.{tallied_start}
 use Rattle.world_core.specs.declared.entries.Entry.{Entry}
@@ -67,7 +67,7 @@ new-fits o s is = record {
 
 new-tied : (o : Origin) → IsTied (start (names_of o.opened)) (start_world (base_from o)) [] []
 new-tied o = record {
-  ledger = blank_ledger;
+  ledger = blank_tally;
   tally = tallied_start (names_of o.opened);
   taken = λ k. refl;
   sendings = refl;

@@ -8,7 +8,7 @@ use Rattle.pseudo_time.specs.declared.nodes.NodeKind.TheVariants.{Repository, Br
 use Rattle.world_core.specs.declared.entries.Entry.{Entry}
 use Rattle.world_core.specs.declared.entries.Entry.TheVariants.{Take, Go, Learn, Hear, Gate, Crash, Down, Tick}
 use Rattle.world_core.specs.Walks.{walk}
-use Rattle.world_core.specs.Legal.{Stands}
+use Rattle.world_core.specs.Legal.{IsDecidedAs}
 use Rattle.world_core.proofs.Lives.{stands-stays}
 use Rattle.wire_core.specs.Wires.{Origin, base_from}
 
@@ -50,7 +50,7 @@ pub record IsDecided (o : Origin) (es : List Entry) (word number : ℕ) : Type 0
   pub in_range : IsStamp stamp
   pub place : word ≡ place_of stamp
   pub coded : number ≡ number_of stamp committed
-  pub stands : Stands (walk (base_from o) es) stamp committed
+  pub stands : IsDecidedAs (walk (base_from o) es) stamp committed
 
 -- Where media tell their content, a word holds 0 or such a number.
 abbrev pub MayHold : Bool → Origin → List Entry → ℕ → ℕ → Type 0

@@ -13,7 +13,7 @@ use Rattle.message_core.specs.Parts.{state_of}
 use Rattle.world_core.specs.declared.entries.Entry.{Entry}
 use Rattle.world_core.specs.declared.entries.Entry.TheVariants.{Take, Gate, Tick}
 use Rattle.world_core.specs.Nodes.{leaves}
-use Rattle.world_core.specs.Walks.{World, Sending, numbered, whole}
+use Rattle.world_core.specs.Walks.{World, Sending, numbered, all_effects}
 use Rattle.world_core.specs.Legal.{HasGone, IsReleased, times_taken, is_behind, post_of}
 use Rattle.wire_core.specs.Wires.{WireParts, world_of}
 use Rattle.wire_core.specs.declared.takens.Taken.{Taken}
@@ -78,7 +78,7 @@ TookAll fates w n = (number : ℕ) (s : Sending) → numbered w.sendings number 
 
 -- the messages that a node's gate has to send: those that it owes, without each Ask whose stamp its log knows
 abbrev pub owed : World → NodeId → List Out
-owed w n = filter (leaves (whole (w.life n))) (w.life n).outs
+owed w n = filter (leaves (all_effects (w.life n))) (w.life n).outs
 
 -- ---- ticks
 

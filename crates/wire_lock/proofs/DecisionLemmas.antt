@@ -14,7 +14,7 @@ use Rattle.repository_core.specs.Logs.{is_commit}
 use Rattle.world_core.specs.declared.entries.Entry.{Entry}
 use Rattle.world_core.specs.declared.entries.Entry.TheVariants.{Gate}
 use Rattle.world_core.specs.Walks.{Base, Life, World, gated_life, walk}
-use Rattle.world_core.specs.Legal.{Stands}
+use Rattle.world_core.specs.Legal.{IsDecidedAs}
 use Rattle.wire_core.specs.Wires.{Origin, base_from}
 use Rattle.wire_core.specs.Boards.{place_of, number_of, IsDecided, MayHold}
 use Rattle.wire_lock.specs.Decisions.{Decided, decision_in, decided_by, answer_of}
@@ -66,14 +66,14 @@ number-some s c e = let l : 1 ≤ code c = code-low c in omega (arith, e, l)
 
 -- what a word that may be held tells
 pub held-stands : (told : Bool) (o o' : Origin) (es : List Entry) (word number : ℕ) (s : StampParts) (c : Bool) → IsStamp s → o ≡ o' → MayHold told o es word number → number ≡ number_of s c
-    → IsTrue told → Stands (walk (base_from o') es) s c
-held-stands told o o' es word number s c is same held n t = subst (λ (x : Origin). Stands (walk (base_from x) es) s c) same (go (held t))
+    → IsTrue told → IsDecidedAs (walk (base_from o') es) s c
+held-stands told o o' es word number s c is same held n t = subst (λ (x : Origin). IsDecidedAs (walk (base_from x) es) s c) same (go (held t))
   where
-    go : (number ≡ 0) ⊎ IsDecided o es word number → Stands (walk (base_from o) es) s c
+    go : (number ≡ 0) ⊎ IsDecided o es word number → IsDecidedAs (walk (base_from o) es) s c
     go (inl none) = absurd (number-some s c (sym n ∙ none))
     go (inr d) =
         let h : (d.stamp ≡ s) × (d.committed ≡ c) = number-one d.stamp s d.committed c d.in_range is (sym d.coded ∙ n) in
-        subst (λ (b : Bool). Stands (walk (base_from o) es) s b) h.1 (subst (λ (x : StampParts). Stands (walk (base_from o) es) x d.committed) h.0 d.stands)
+        subst (λ (b : Bool). IsDecidedAs (walk (base_from o) es) s b) h.1 (subst (λ (x : StampParts). IsDecidedAs (walk (base_from o) es) x d.committed) h.0 d.stands)
 
 -- ---- what a number tells of a stamp
 
@@ -118,23 +118,23 @@ in-all n log [] within = tt
 in-all n log (e ∷ es) within =
     every-append (InLog n log) (decision_in n e) (decided_by n es) (in-one n log e (within e (inl refl))) (in-all n log es (λ x h. within x (inr h)))
 
-log-stands : (w : World) (n : NodeId) (d : Decided) → InLog n (w.life n).gated d → Stands w d.0 d.1
+log-stands : (w : World) (n : NodeId) (d : Decided) → InLog n (w.life n).gated d → IsDecidedAs w d.0 d.1
 log-stands w n d h = (h.1.0, subst (λ (m : NodeId). Has (effect.Decide d.0 h.1.0) (w.life m).gated) (sym h.0) h.1.1, h.1.2)
 
 -- after the gate each of them stands in the durable log
 pub gate-stands : (told : Bool) (b b' : Base) (l l' : List Entry) (n : NodeId) (ds : List Decided) → ((walk b l).flags n).up ≡ true → (IsTrue told → ds ≡ decided_by n ((walk b l).life n).fresh)
-    → b' ≡ b → l' ≡ l ++ Gate n ∷ [] → IsTrue told → Every (λ (d : Decided). Stands (walk b' l') d.0 d.1) ds
+    → b' ≡ b → l' ≡ l ++ Gate n ∷ [] → IsTrue told → Every (λ (d : Decided). IsDecidedAs (walk b' l') d.0 d.1) ds
 gate-stands told b b' l l' n ds up all sameb samel t =
     let life : (walk b (l ++ Gate n ∷ [])).life n ≡ gated_life ((walk b l).life n) = life-own b l (Gate n) n (same_node-refl n) (up-known b l n up) in
     let w : World = walk b (l ++ Gate n ∷ []) in
     let within : (e : Effect) → Has e ((walk b l).life n).fresh → Has e ((walk b (l ++ Gate n ∷ [])).life n).gated =
     λ e h. subst (λ (x : Life). Has e x.gated) (sym life) (has-right ((walk b l).life n).gated ((walk b l).life n).fresh e h) in
-    let here : Every (λ (d : Decided). Stands (walk b (l ++ Gate n ∷ [])) d.0 d.1) (decided_by n ((walk b l).life n).fresh) =
-    every-map (InLog n ((walk b (l ++ Gate n ∷ [])).life n).gated) (λ (d : Decided). Stands (walk b (l ++ Gate n ∷ [])) d.0 d.1) (log-stands (walk b (l ++ Gate n ∷ [])) n) (decided_by n ((walk b l).life n).fresh)
+    let here : Every (λ (d : Decided). IsDecidedAs (walk b (l ++ Gate n ∷ [])) d.0 d.1) (decided_by n ((walk b l).life n).fresh) =
+    every-map (InLog n ((walk b (l ++ Gate n ∷ [])).life n).gated) (λ (d : Decided). IsDecidedAs (walk b (l ++ Gate n ∷ [])) d.0 d.1) (log-stands (walk b (l ++ Gate n ∷ [])) n) (decided_by n ((walk b l).life n).fresh)
     (in-all n ((walk b (l ++ Gate n ∷ [])).life n).gated ((walk b l).life n).fresh within) in
-    subst (λ (x : Base). Every (λ (d : Decided). Stands (walk x l') d.0 d.1) ds) (sym sameb)
-    (subst (λ (es : List Entry). Every (λ (d : Decided). Stands (walk b es) d.0 d.1) ds) (sym samel)
-    (subst (Every (λ (d : Decided). Stands (walk b (l ++ Gate n ∷ [])) d.0 d.1)) (sym (all t)) here))
+    subst (λ (x : Base). Every (λ (d : Decided). IsDecidedAs (walk x l') d.0 d.1) ds) (sym sameb)
+    (subst (λ (es : List Entry). Every (λ (d : Decided). IsDecidedAs (walk b es) d.0 d.1) ds) (sym samel)
+    (subst (Every (λ (d : Decided). IsDecidedAs (walk b (l ++ Gate n ∷ [])) d.0 d.1)) (sym (all t)) here))
 
 every-at : (P : Decided → Type 0) (ds : List Decided) (i : ℕ) (d : Decided) → i < length ds → Every P ds → P (get_or ds i d)
 every-at P [] i d lt e = absurd (omega (arith, lt))
@@ -143,14 +143,14 @@ every-at P (x ∷ xs) (suc i) d lt e = every-at P xs i d (omega (arith, lt)) e.1
 
 -- what stands a word may hold
 pub may-post : (told : Bool) (o : Origin) (l : List Entry) (ds : List Decided) (i : ℕ) (d : Decided) (word number : ℕ) → i < length ds → d ≡ get_or ds i d
-    → (IsTrue told → Every (λ (x : Decided). Stands (walk (base_from o) l) x.0 x.1) ds) → IsStamp d.0 → word ≡ place_of d.0 → number ≡ number_of d.0 d.1 → MayHold told o l word number
+    → (IsTrue told → Every (λ (x : Decided). IsDecidedAs (walk (base_from o) l) x.0 x.1) ds) → IsStamp d.0 → word ≡ place_of d.0 → number ≡ number_of d.0 d.1 → MayHold told o l word number
 may-post told o l ds i d word number low at all is place coded t = inr (record {
   stamp = d.0;
   committed = d.1;
   in_range = is;
   place = place;
   coded = coded;
-  stands = subst (λ (x : Decided). Stands (walk (base_from o) l) x.0 x.1) (sym at) (every-at (λ (x : Decided). Stands (walk (base_from o) l) x.0 x.1) ds i d low (all t));
+  stands = subst (λ (x : Decided). IsDecidedAs (walk (base_from o) l) x.0 x.1) (sym at) (every-at (λ (x : Decided). IsDecidedAs (walk (base_from o) l) x.0 x.1) ds i d low (all t));
 })
 
 pub may-at : (told : Bool) (o o' : Origin) (l l' : List Entry) (word number : ℕ) → o ≡ o' → l ≡ l' → MayHold told o l word number → MayHold told o' l' word number

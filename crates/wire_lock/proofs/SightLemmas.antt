@@ -21,8 +21,8 @@ use Rattle.world_core.specs.declared.entries.Entry.{Entry}
 use Rattle.world_core.specs.declared.entries.Entry.TheVariants.{Take, Go, Learn, Hear, Gate, Crash, Down, Tick}
 use Rattle.turn_form.specs.Posts.{Post}
 use Rattle.world_core.specs.Nodes.Input.{Taking}
-use Rattle.world_core.specs.Walks.{Base, Life, Flags, Sending, World, numbered, took, told, gated_life, sent_by, names, own, lives_on, flagged, is_down, step, start_world, walk_from, walk}
-use Rattle.world_core.specs.Legal.{Stands, Idle, is_behind, fates_of}
+use Rattle.world_core.specs.Walks.{Base, Life, Flags, Sending, World, numbered, took, after_input, gated_life, sent_by, names, own, lives_on, flagged, is_down, step, start_world, walk_from, walk}
+use Rattle.world_core.specs.Legal.{IsDecidedAs, Idle, is_behind, fates_of}
 use Rattle.world_core.proofs.Lives.{walk-append, walk-more, same-life, stands-stays}
 use Rattle.world_core.proofs.Others.{same-flags, same-behind}
 use Rattle.message_core.specs.declared.letters.Arrival.{Arrival}
@@ -80,8 +80,8 @@ as-before k l owns car = record {
     here : (n : NodeId) → IsOf n k → own n (k.story ++ car.begins.0) ≡ own n k.story
     here n is = ap (own n) car.begins.1 ∙ own-same k n l is owns car
 
-pub stands-later : (b : Base) (l l' : List Entry) (s : StampParts) (committed : Bool) → Begins l l' → Stands (walk b l) s committed → Stands (walk b l') s committed
-stands-later b l l' s committed begins h = subst (λ es. Stands (walk b es) s committed) begins.1 (stands-stays b l begins.0 s committed h)
+pub stands-later : (b : Base) (l l' : List Entry) (s : StampParts) (committed : Bool) → Begins l l' → IsDecidedAs (walk b l) s committed → IsDecidedAs (walk b l') s committed
+stands-later b l l' s committed begins h = subst (λ es. IsDecidedAs (walk b es) s committed) begins.1 (stands-stays b l begins.0 s committed h)
 
 moved-on : (b : Base) (w : World) (es : List Entry) → w.moved ≡ true → (walk_from b w es).moved ≡ true
 unfolding walk_from
@@ -228,10 +228,10 @@ tested-of k k' s word number answer owns at is car tells = record {
 
 -- what was taken is the message with this number
 pub took-copy : (b : Base) (n : NodeId) (l : Life) (sendings : List Sending) (number : ℕ) (p : Post) → numbered (map (λ (s : Sending). s.post) sendings) number ≡ Some p
-    → took b n l (numbered sendings number) ≡ told b n l (Taking p.from p.message)
+    → took b n l (numbered sendings number) ≡ after_input b n l (Taking p.from p.message)
 took-copy b n l sendings number p h =
     let f : (x : Sending) × (numbered sendings number ≡ Some x) × (x.post ≡ p) = numbered-from (λ (s : Sending). s.post) sendings number p h in
-    ap (took b n l) f.1 ∙ ap (λ (q : Post). told b n l (Taking q.from q.message)) f.2
+    ap (took b n l) f.1 ∙ ap (λ (q : Post). after_input b n l (Taking q.from q.message)) f.2
 
 -- it is so too after the taking
 pub copy-left : (k k' : Sight) (l : List Entry) (own : List Entry) (w : World) (n : NodeId) (a : Arrival) → k' ≡ record k { story = l ++ Take n a.number ∷ []; own = own } → w ≡ walk (base_at k) l

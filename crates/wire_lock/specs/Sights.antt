@@ -15,7 +15,7 @@ use Rattle.world_core.specs.declared.entries.Entry.TheVariants.{Take, Go, Learn,
 use Rattle.world_core.specs.declared.traces.Opened.{Opened}
 use Rattle.world_core.specs.Nodes.{Input}
 use Rattle.world_core.specs.Nodes.Input.{Going, Taking, Learning, Hearing}
-use Rattle.world_core.specs.Walks.{Base, Life, Flags, World, walk, opened_log, told, gated_life, crashed_life, went, learned, with_due}
+use Rattle.world_core.specs.Walks.{Base, Life, Flags, World, walk, opened_log, after_input, gated_life, crashed_life, went, learned, with_due}
 use Rattle.world_core.specs.Legal.{HasGone, is_behind}
 use Rattle.wire_core.specs.Wires.{Origin, WireParts, base_from}
 use Rattle.wire_core.specs.Boards.{owner_for, owner_of, place_of}
@@ -131,7 +131,7 @@ pub record Tested (old new : Sight) (stamp : StampParts) (answer : Option Bool) 
 
 -- The node is given this input: its core decides what becomes of it.
 abbrev pub given : NodeId → Sight → Input → Life
-given n k input = told (base_at k) n (life_at k n) input
+given n k input = after_input (base_at k) n (life_at k n) input
 
 -- the broker went
 abbrev pub Goes : Bool → NodeId → Sight → Sight → Type 0

@@ -2,7 +2,7 @@
 ghost use Rattle.std.specs.Prelude.{◌≡◌, ◌<◌, IsTrue, IfSome};
 ghost use Rattle.pseudo_time.specs.StampParts.{IsStamp};
 ghost use Rattle.seat_lock.specs.Words.{knows};
-ghost use Rattle.world_core.specs.Legal.{Stands};
+ghost use Rattle.world_core.specs.Legal.{IsDecidedAs};
 ghost use Rattle.wire_core.specs.Boards.{place_of, number_of};
 ghost use Rattle.wire_lock.specs.Sights.{IsWirePass, Tested, world_at};
 
@@ -43,7 +43,7 @@ impl<F: Fates, C: Clock, M: Medium> SharedWire<F, C, M> {
         requires pass { IsWirePass self.now.lock pass.old }
         ensures pass { IsWirePass self.now.lock pass.new }
         ensures tested { Tested (knows pass.old) (knows pass.new) stamp result }
-        ensures stands { IsTrue M.tells → IfSome result (λ committed. Stands (world_at (knows pass.new)) stamp committed) }
+        ensures stands { IsTrue M.tells → IfSome result (λ committed. IsDecidedAs (world_at (knows pass.new)) stamp committed) }
     {
         let number = self.lock.test(pass, place_of(stamp));
         if number == number_of(stamp, true) {

@@ -4,7 +4,7 @@ ghost use Rattle.pseudo_time.specs.Lists.{Every};
 ghost use Rattle.turn_form.specs.Ranges.{AreOuts};
 ghost use Rattle.seat_lock.specs.Words.{knows, sees, IsInside, lock_of, base_of, board_size, has_noted};
 ghost use Rattle.world_core.specs.Walks.{walk};
-ghost use Rattle.world_core.specs.Legal.{Stands};
+ghost use Rattle.world_core.specs.Legal.{IsDecidedAs};
 ghost use Rattle.wire_core.specs.Wires.{base_from};
 ghost use Rattle.wire_core.specs.Changes.{owed};
 ghost use Rattle.wire_lock.specs.Decisions.{posted, decided_by};
@@ -29,7 +29,7 @@ fn post_all<F: Fates, C: Clock, M: Medium>(
 )
     requires board { board_size (lock_of visit.old) ≡ 4096 }
     requires inside { (x : _) × IsInside visit.old x }
-    requires stand { IsTrue M.tells → Every (λ d. Stands (walk (base_from (base_of (lock_of visit.old)).origin) (sees visit.old).story) d.0 d.1) decides.now }
+    requires stand { IsTrue M.tells → Every (λ d. IsDecidedAs (walk (base_from (base_of (lock_of visit.old)).origin) (sees visit.old).story) d.0 d.1) decides.now }
     ensures lock { lock_of visit.new ≡ lock_of visit.old }
     ensures inside { (x : _) → IsInside visit.old x → IsInside visit.new x }
     ensures noted { has_noted visit.new ≡ has_noted visit.old }

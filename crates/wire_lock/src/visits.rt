@@ -4,7 +4,7 @@ ghost use Rattle.pseudo_time.specs.Nodes.{is_broker};
 ghost use Rattle.message_form.specs.Messages.{IsMessage};
 ghost use Rattle.seat_lock.specs.Words.{knows};
 ghost use Rattle.world_core.specs.Walks.{sent_by};
-ghost use Rattle.world_core.specs.Legal.{HasGone, Stands, is_behind};
+ghost use Rattle.world_core.specs.Legal.{HasGone, IsDecidedAs, is_behind};
 ghost use Rattle.wire_core.specs.Changes.{IfArrived, IsCopyOf};
 ghost use Rattle.wire_lock.specs.Sights.{IsWirePass, IsOf, HadNothing, world_at, life_at, flags_at};
 ghost use Rattle.wire_lock.specs.Sights.{Looked, TakesOne, Goes, Hears, Learns, Crashes, Falls};
@@ -115,7 +115,7 @@ impl<F: Fates, C: Clock, M: Medium> SharedWire<F, C, M> {
         requires node { IsOf node (knows pass) }
         requires up { (flags_at (knows pass) node).up ≡ true }
         requires repository { is_broker node.kind ≡ false }
-        requires stands { IsTrue M.tells → Stands (world_at (knows pass)) stamp committed }
+        requires stands { IsTrue M.tells → IsDecidedAs (world_at (knows pass)) stamp committed }
         ensures pass { IsWirePass self.now.lock result.0 }
         ensures ok { OnOk result.1 (Learns M.tells node (knows pass) (knows result.0) stamp committed) }
         ensures err { OnErr result.1 (Looked (knows pass) (knows result.0)) }

@@ -30,7 +30,7 @@ use Rattle.world_core.specs.declared.entries.Entry.{Entry}
 use Rattle.world_core.specs.declared.entries.Entry.TheVariants.{Take, Go, Learn, Hear, Gate, Crash, Down, Tick}
 use Rattle.world_core.specs.Nodes.{Mind, Input, gives, repository, broker, leaves}
 use Rattle.world_core.specs.Nodes.Input.{Going, Taking, Learning, Hearing}
-use Rattle.world_core.specs.Walks.{Base, Life, World, Sending, numbered, whole, told, took, hears, lives_on, life_after, names, leaving, sendings_after, step, start_world, walk_from, walk, sent_by}
+use Rattle.world_core.specs.Walks.{Base, Life, World, Sending, numbered, all_effects, after_input, took, hears, lives_on, life_after, names, leaving, sendings_after, step, start_world, walk_from, walk, sent_by}
 use Rattle.world_core.specs.Legal.{Rule, Meets}
 use Rattle.world_core.specs.Answered.{WasAnswered}
 use Rattle.world_core.proofs.Lives.{sent-grows}
@@ -133,7 +133,7 @@ module _ (b : Base) where
   module _ (fates : List Fate) (es : List Entry) (w : World) (at : w ≡ walk b es) (inv : Inv es w) where
     -- a write that the repository takes now
     of-write : (r number : ℕ) (s : Sending) (from : NodeId) (m : Message) → numbered w.sendings number ≡ Some s → s.post.from ≡ from → s.post.to ≡ repository r → s.post.message ≡ m →
-        accepts r from m ≡ true → OfWrite (Reason (es ++ Take (repository r) number ∷ []) r) (reverse (whole (w.life (repository r)))) m
+        accepts r from m ≡ true → OfWrite (Reason (es ++ Take (repository r) number ∷ []) r) (reverse (all_effects (w.life (repository r)))) m
     of-write r number s from (message.Write t o v) n f to is a =
         let rep : o.repository ≡ r = eqb-true o.repository r (and-right (is_broker_of t.stamp.broker from) (o.repository == r) a) in
         let fr : from ≡ broker t.stamp.broker = broker-of t.stamp.broker from.kind from.number (and-left (is_broker_of t.stamp.broker from) (o.repository == r) a) in
@@ -150,7 +150,7 @@ module _ (b : Base) where
             here = here';
             sent = ap (λ (u : World). numbered u.sendings number) (sym at) ∙ n;
             is_write = λ i. record { from = (f ∙ fr) i; to = to' i; message = is i };
-            answer = ap (λ (u : World). write_step (marks (reverse (whole (u.life (repository o.repository))))) o t v) (sym at) ∙ ap (λ k. write_step (marks (reverse (whole (w.life (repository k))))) o t v) rep;
+            answer = ap (λ (u : World). write_step (marks (reverse (all_effects (u.life (repository o.repository))))) o t v) (sym at) ∙ ap (λ k. write_step (marks (reverse (all_effects (w.life (repository k))))) o t v) rep;
           },
         )
     of-write r number s from (message.Begin x t) n f to is a = tt
@@ -172,10 +172,10 @@ module _ (b : Base) where
     abbrev Then : Entry → ℕ → TimeParts → WriteStep → Type 0
     Then e r = Reason (es ++ e ∷ []) r
 
-    told-fine : (e : Entry) (r : ℕ) (l : Life) (input : Input) → Fine (Then e r) l.outs → MayTell (Then e r) b.script b.run b.acts r (whole l) input → Fine (Then e r) (told b (repository r) l input).outs
+    told-fine : (e : Entry) (r : ℕ) (l : Life) (input : Input) → Fine (Then e r) l.outs → MayTell (Then e r) b.script b.run b.acts r (all_effects l) input → Fine (Then e r) (after_input b (repository r) l input).outs
     told-fine e r l input k m =
-        every-append (λ (o : Out). Says (Then e r) o.message) l.outs (gives b.script b.run b.acts (repository r) (whole l) l.mind input).outs k
-        (gives-fine (Then e r) b.script b.run b.acts r (whole l) l.mind input m)
+        every-append (λ (o : Out). Says (Then e r) o.message) l.outs (gives b.script b.run b.acts (repository r) (all_effects l) l.mind input).outs k
+        (gives-fine (Then e r) b.script b.run b.acts r (all_effects l) l.mind input m)
 
     hears-fine : (e : Entry) (r : ℕ) (l : Life) (o : Option ℕ) → Fine (Then e r) l.outs → Fine (Then e r) (hears b (repository r) l o).outs
     hears-fine e r l None k = k
@@ -235,8 +235,8 @@ module _ (b : Base) where
     leaves-fine : (e : Entry) (n : NodeId) → Every (FineSent (es ++ e ∷ [])) (map sent_at (leaving w n))
     leaves-fine e n = by (w.flags n).known
       where
-        by : (c : Bool) → Every (FineSent (es ++ e ∷ [])) (map sent_at (if c then posts n (filter (leaves (whole (w.life n))) (w.life n).outs) else []))
-        by true = posted e n (filter (leaves (whole (w.life n))) (w.life n).outs) (λ r f. filtered (λ (o : Out). Says (Then e r) o.message) (leaves (whole (w.life n))) (w.life n).outs
+        by : (c : Bool) → Every (FineSent (es ++ e ∷ [])) (map sent_at (if c then posts n (filter (leaves (all_effects (w.life n))) (w.life n).outs) else []))
+        by true = posted e n (filter (leaves (all_effects (w.life n))) (w.life n).outs) (λ r f. filtered (λ (o : Out). Says (Then e r) o.message) (leaves (all_effects (w.life n))) (w.life n).outs
             (subst (λ (m : NodeId). Fine (Then e r) (w.life m).outs) (sym f) (old-fine e r)))
         by false = tt
 

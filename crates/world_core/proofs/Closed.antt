@@ -9,7 +9,7 @@ use Rattle.world_core.specs.declared.entries.Entry.{Entry}
 use Rattle.world_core.specs.declared.entries.Entry.TheVariants.{Take, Go, Learn, Hear, Gate, Crash, Down, Tick}
 use Rattle.world_core.specs.Nodes.{Given, Mind, nothing_given, gives, kind_gives}
 use Rattle.world_core.specs.Nodes.Input.{Going, Learning}
-use Rattle.world_core.specs.Walks.{Base, Flags, Life, World, names, whole, told, with_given, lives_on, flagged, step, start_world, walk_from, walk}
+use Rattle.world_core.specs.Walks.{Base, Flags, Life, World, names, all_effects, after_input, with_given, lives_on, flagged, step, start_world, walk_from, walk}
 
 -- no effect and no message waits for a gate
 abbrev pub IsClosed : Life → Type 0
@@ -24,23 +24,23 @@ given-nothing : (l : Life) (g : Given) → g ≡ nothing_given l.mind → IsClos
 given-nothing l g e h = (ap (λ (x : Given). l.fresh ++ x.effects) e ∙ append-nil l.fresh ∙ h.0, ap (λ (x : Given). l.outs ++ x.outs) e ∙ append-nil l.outs ∙ h.1)
 
 module _ (b : Base) where
-  repository-goes : (n : NodeId) (l : Life) → n.kind ≡ Repository → gives b.script b.run b.acts n (whole l) l.mind Going ≡ nothing_given l.mind
+  repository-goes : (n : NodeId) (l : Life) → n.kind ≡ Repository → gives b.script b.run b.acts n (all_effects l) l.mind Going ≡ nothing_given l.mind
   unfolding gives
-  repository-goes n l e = ap (λ (k : NodeKind). kind_gives b.script b.run b.acts k n.number (whole l) l.mind Going) e
+  repository-goes n l e = ap (λ (k : NodeKind). kind_gives b.script b.run b.acts k n.number (all_effects l) l.mind Going) e
 
-  broker-learns : (n : NodeId) (l : Life) (s : StampParts) (c : Bool) → n.kind ≡ Broker → gives b.script b.run b.acts n (whole l) l.mind (Learning s c) ≡ nothing_given l.mind
+  broker-learns : (n : NodeId) (l : Life) (s : StampParts) (c : Bool) → n.kind ≡ Broker → gives b.script b.run b.acts n (all_effects l) l.mind (Learning s c) ≡ nothing_given l.mind
   unfolding gives
-  broker-learns n l s c e = ap (λ (k : NodeKind). kind_gives b.script b.run b.acts k n.number (whole l) l.mind (Learning s c)) e
+  broker-learns n l s c e = ap (λ (k : NodeKind). kind_gives b.script b.run b.acts k n.number (all_effects l) l.mind (Learning s c)) e
 
   -- one entry of the node's own
-  goes-closed : (n : NodeId) (k : NodeKind) (f : Flags) (l : Life) (node : NodeId) → n.kind ≡ k → ClosesWith f l → ClosesWith (flagged None k f (Go node)) (told b n l Going)
-  goes-closed n Repository f l node e h = λ shut. given-nothing l (gives b.script b.run b.acts n (whole l) l.mind Going) (repository-goes n l e) (h shut)
+  goes-closed : (n : NodeId) (k : NodeKind) (f : Flags) (l : Life) (node : NodeId) → n.kind ≡ k → ClosesWith f l → ClosesWith (flagged None k f (Go node)) (after_input b n l Going)
+  goes-closed n Repository f l node e h = λ shut. given-nothing l (gives b.script b.run b.acts n (all_effects l) l.mind Going) (repository-goes n l e) (h shut)
   goes-closed n Broker f l node e h = λ shut. absurd (let k : true ≡ false = shut in cc k)
 
   learns-closed : (n : NodeId) (k : NodeKind) (f : Flags) (l : Life) (node : NodeId) (s : StampParts) (c : Bool) → n.kind ≡ k → ClosesWith f l
-      → ClosesWith (flagged None k f (Learn node s c)) (told b n l (Learning s c))
+      → ClosesWith (flagged None k f (Learn node s c)) (after_input b n l (Learning s c))
   learns-closed n Repository f l node s c e h = λ shut. absurd (let k : true ≡ false = shut in cc k)
-  learns-closed n Broker f l node s c e h = λ shut. given-nothing l (gives b.script b.run b.acts n (whole l) l.mind (Learning s c)) (broker-learns n l s c e) (h shut)
+  learns-closed n Broker f l node s c e h = λ shut. given-nothing l (gives b.script b.run b.acts n (all_effects l) l.mind (Learning s c)) (broker-learns n l s c e) (h shut)
 
   own-closed : (w : World) (e : Entry) (n : NodeId) → ClosesWith (w.flags n) (w.life n) → ClosesWith (flagged w.last n.kind (w.flags n) e) (lives_on b w n (w.life n) e)
   own-closed w (Take node number) n h = λ shut. absurd (let k : true ≡ false = shut in cc k)

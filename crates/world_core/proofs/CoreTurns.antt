@@ -12,7 +12,7 @@ use Rattle.object_history.specs.declared.steps.HistoryFault.{HistoryFault}
 use Rattle.serial_model.specs.Questions.{Tree}
 use Rattle.repository_core.specs.Cores.{Core, given}
 use Rattle.repository_core.specs.Turns as turns
-use Rattle.broker_core.specs.Brokers.{Stands, Gives, turn_of}
+use Rattle.broker_core.specs.Brokers.{IsLedTo, Gives, turn_of}
 use Rattle.broker_core.specs.Parts.{BrokerParts}
 use Rattle.broker_core.specs.Tasks.{Scripted, tasks}
 use Rattle.broker_core.specs.Turns as desks
@@ -71,7 +71,7 @@ module _ (b : Base) (n : NodeId) (log : List Effect) (mind : Mind) where
           acts = acts ∙ s.acts;
           heard = g.heard ∙ ap (λ d. d.heard) e;
           scripted = subst (Scripted b.script) (sym acts) s.scripted;
-          stands = subst (λ l. Stands b.script l q) (sym (reverse-append log t.effects) ∙ ap (λ x. reverse (log ++ x)) f) g.stands;
+          stands = subst (λ l. IsLedTo b.script l q) (sym (reverse-append log t.effects) ∙ ap (λ x. reverse (log ++ x)) f) g.stands;
         };
       }
 
@@ -94,7 +94,7 @@ module _ (b : Base) (n : NodeId) (log : List Effect) (mind : Mind) where
       (repository-gave n log mind r q t i s (subst (λ x. IfOk x (λ t. given t q.mind ≡ turns.gives r.number r.log r.mind i)) k g) (subst (λ x. IfOk x (λ t. q.log ≡ r.log ++ t.effects)) k l) (subst (λ x. OnOk x (q.number ≡ r.number)) k m))
 
   pub broker-answers : (p q : BrokerParts) (x : Result Turn AllocError) (i : desks.Input) (j : Input) → broker_gives b.script b.run b.acts n.number log mind j ≡ with_desk mind (desk_after b.script b.run b.acts n.number log mind i) →
-      IsBroker b n log mind p → ((script : List ℕ → Tree) (l : List Effect) → Scripted script p.acts → Stands script l p → IfOk x (λ t. Gives script l (turn_of script p l i) t q)) → q.number ≡ p.number → q.run ≡ p.run → q.acts ≡ p.acts →
+      IsBroker b n log mind p → ((script : List ℕ → Tree) (l : List Effect) → Scripted script p.acts → IsLedTo script l p → IfOk x (λ t. Gives script l (turn_of script p l i) t q)) → q.number ≡ p.number → q.run ≡ p.run → q.acts ≡ p.acts →
       IfOk x (λ t. BrokerGave b n log (gives b.script b.run b.acts n log mind j) t q)
   broker-answers p q (Err e) i j same s g number run acts = tt
   broker-answers p q (Ok t) i j same s g number run acts =

@@ -13,8 +13,8 @@ use Rattle.world_core.specs.declared.entries.Entry.{Entry}
 use Rattle.world_core.specs.declared.entries.Entry.TheVariants.{Take, Go, Learn, Hear, Gate, Crash, Down, Tick}
 use Rattle.world_core.specs.Nodes.{Input, repository}
 use Rattle.world_core.specs.Nodes.Input.{Going, Taking, Learning, Hearing}
-use Rattle.world_core.specs.Walks.{Base, Life, Sending, World, numbered, sent_by, names, own, told, took, hears, lives_on, gated_life, crashed_life, leaving, step, start_world, walk_from, walk}
-use Rattle.world_core.specs.Legal.{Stands}
+use Rattle.world_core.specs.Walks.{Base, Life, Sending, World, numbered, sent_by, names, own, after_input, took, hears, lives_on, gated_life, crashed_life, leaving, step, start_world, walk_from, walk}
+use Rattle.world_core.specs.Legal.{IsDecidedAs}
 
 module _ (b : Base) where
   pub walk-append : (w : World) (es more : List Entry) → walk_from b w (es ++ more) ≡ walk_from b (walk_from b w es) more
@@ -63,16 +63,16 @@ module _ (b : Base) where
 
   longer-took : (n : NodeId) (l : Life) (found : Option Sending) → Longer l (took b n l found)
   longer-took n l None = no-longer l l refl
-  longer-took n l (Some s) = no-longer l (told b n l (Taking s.post.from s.post.message)) refl
+  longer-took n l (Some s) = no-longer l (after_input b n l (Taking s.post.from s.post.message)) refl
 
   longer-hears : (n : NodeId) (l : Life) (last : Option ℕ) → Longer l (hears b n l last)
   longer-hears n l None = no-longer l l refl
-  longer-hears n l (Some moment) = no-longer l (told b n l (Hearing moment)) refl
+  longer-hears n l (Some moment) = no-longer l (after_input b n l (Hearing moment)) refl
 
   longer-own : (w : World) (n : NodeId) (l : Life) (e : Entry) → Longer l (lives_on b w n l e)
   longer-own w n l (Take node number) = longer-took n l (numbered w.sendings number)
-  longer-own w n l (Go node) = no-longer l (told b n l Going) refl
-  longer-own w n l (Learn node stamp committed) = no-longer l (told b n l (Learning stamp committed)) refl
+  longer-own w n l (Go node) = no-longer l (after_input b n l Going) refl
+  longer-own w n l (Learn node stamp committed) = no-longer l (after_input b n l (Learning stamp committed)) refl
   longer-own w n l (Hear node) = longer-hears n l w.last
   longer-own w n l (Gate node) = (l.fresh, refl)
   longer-own w n l (Crash node kept) = (take kept l.fresh, refl)
@@ -97,7 +97,7 @@ module _ (b : Base) where
       (h.0, ap (λ (w : World). (w.life n).gated) (walk-append (start_world b) es more) ∙ h.1)
 
   -- a decision that stands stays
-  pub stands-stays : (es more : List Entry) (s : StampParts) (committed : Bool) → Stands (walk b es) s committed → Stands (walk b (es ++ more)) s committed
+  pub stands-stays : (es more : List Entry) (s : StampParts) (committed : Bool) → IsDecidedAs (walk b es) s committed → IsDecidedAs (walk b (es ++ more)) s committed
   stands-stays es more s committed h =
       let g : (late : List Effect) × (((walk b (es ++ more)).life (repository s.home)).gated ≡ ((walk b es).life (repository s.home)).gated ++ late) = gated-grows es more (repository s.home) in
       (h.0, subst (Has (effect.Decide s h.0)) (sym g.1) (has-left ((walk b es).life (repository s.home)).gated g.0 (effect.Decide s h.0) h.1), h.2)

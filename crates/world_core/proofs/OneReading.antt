@@ -8,7 +8,7 @@ use Rattle.effect_form.specs.declared.effects.Effect.{Effect}
 use Rattle.stream_port.specs.declared.fates.Asked.{Asked}
 use Rattle.serial_model.specs.Questions.{Tree}
 use Rattle.plan_form.specs.declared.plans.Plan.{Plan}
-use Rattle.plan_form.specs.PlanTexts.{IsWhole}
+use Rattle.plan_form.specs.PlanTexts.{IsOfLanguage}
 use Rattle.broker_core.specs.Tasks.{Scripted}
 use Rattle.world_core.specs.declared.traces.Trace.{Trace}
 use Rattle.world_core.specs.Walks.{World}
@@ -28,7 +28,7 @@ acts_in [] = []
 acts_in (c ∷ cs) = c.plan.acts ++ acts_in cs
 
 -- the reading of a plan's acts reads them
-pub own-reading : (plan : Plan) → IsWhole plan → Scripted (reading plan.acts) plan.acts
+pub own-reading : (plan : Plan) → IsOfLanguage plan → Scripted (reading plan.acts) plan.acts
 own-reading plan w = reads-own plan.acts (plan-acts plan w)
 
 all-acts : (cs : List Call) → WereRuns cs → Every IsAct (acts_in cs)
@@ -48,7 +48,7 @@ module _ (all : List ActSpec) (ps : Every IsAct all) where
   by-plan true x x' y y' e f = e
   by-plan false x x' y y' e f = f
 
-  read-all : (c : Call) (cs : List Call) → IsWhole c.plan → ((a : ActSpec) → Has a (acts_in (c ∷ cs)) → Has a all) → Scripted common c.plan.acts
+  read-all : (c : Call) (cs : List Call) → IsOfLanguage c.plan → ((a : ActSpec) → Has a (acts_in (c ∷ cs)) → Has a all) → Scripted common c.plan.acts
   unfolding acts_in
   read-all c cs w h = reads-all all c.plan.acts ps (plan-acts c.plan w) (λ a k. h a (has-left c.plan.acts (acts_in cs) a k))
 
@@ -73,7 +73,7 @@ module _ (all : List ActSpec) (ps : Every IsAct all) where
   )
 
 -- Logs that earlier runs left, each legal by its own plan, have a past by one reading, by which the trace is legal too.
-pub one-reading : (plan : Plan) (asked : List Asked) (t : Trace) (logs : NodeId → List Effect) → IsWhole plan → IsLegal plan asked t → WereLeft logs →
+pub one-reading : (plan : Plan) (asked : List Asked) (t : Trace) (logs : NodeId → List Effect) → IsOfLanguage plan → IsLegal plan asked t → WereLeft logs →
     (script : List ℕ → Tree) × HasPast script logs × Legal script plan asked t
 one-reading plan asked t logs w l left =
     let all = plan.acts ++ acts_in left.0 in

@@ -8,7 +8,7 @@ use Rattle.value_form.specs.declared.acts.ActSpec.{ActSpec}
 use Rattle.value_form.specs.Mirror.{block}
 use Rattle.plan_form.specs.declared.plans.Plan.{Plan}
 use Rattle.plan_form.specs.PlanTexts as plans
-use Rattle.plan_form.specs.PlanTexts.{IsWhole}
+use Rattle.plan_form.specs.PlanTexts.{IsOfLanguage}
 use Rattle.plan_form.proofs.PlanRangeLemmas.{of-whole}
 use Rattle.serial_model.specs.Ranges.{BlockInRange}
 use Rattle.broker_core.specs.Ledgers.{IsAct, AreActs}
@@ -31,7 +31,7 @@ act-is repositories brokers k act few low high is = record {
   script = printable-up repositories 16 (block act.script.lines) few is.script;
 }
 
-pub plan-acts : (plan : Plan) → IsWhole plan → Every IsAct plan.acts
+pub plan-acts : (plan : Plan) → IsOfLanguage plan → Every IsAct plan.acts
 plan-acts plan w = of-whole IsAct plan w (λ k act low high is. act-is plan.repositories plan.brokers k act w.repositories.1 low high is)
 
 every-filter : {X : Type 0} (P : X → Type 0) (test : X → Bool) (xs : List X) → Every P xs → Every P (filter test xs)
@@ -48,11 +48,11 @@ own-acts b acts h = record {
   few = let e = length-filter (λ (a : ActSpec). a.broker == b) acts in let l = count_by-le-length (λ (a : ActSpec). a.broker == b) acts in let f = h.few in omega (arith, e, l, f);
 }
 
-pub plan-AreActs : (plan : Plan) → IsWhole plan → AreActs plan.acts
+pub plan-AreActs : (plan : Plan) → IsOfLanguage plan → AreActs plan.acts
 plan-AreActs plan w = record { each = plan-acts plan w; few = w.few }
 
-pub plan-own_acts : (plan : Plan) (b : ℕ) → IsWhole plan → AreActs (acts_of b plan.acts)
+pub plan-own_acts : (plan : Plan) (b : ℕ) → IsOfLanguage plan → AreActs (acts_of b plan.acts)
 plan-own_acts plan b w = own-acts b plan.acts (plan-AreActs plan w)
 
-pub whole-scripts : (plan : Plan) → IsWhole plan → Every (λ act. BlockInRange (block act.script.lines)) plan.acts
+pub whole-scripts : (plan : Plan) → IsOfLanguage plan → Every (λ act. BlockInRange (block act.script.lines)) plan.acts
 whole-scripts plan w = of-whole (λ act. BlockInRange (block act.script.lines)) plan w (λ k act low high is_act. printable-InRange plan.repositories (block act.script.lines) is_act.script)

@@ -23,7 +23,7 @@ use Rattle.object_history.specs.declared.steps.ReadStep.TheVariants as read
 use Rattle.object_history.specs.declared.steps.WriteStep.{WriteStep}
 use Rattle.object_history.specs.declared.steps.WriteStep.TheVariants as write
 use Rattle.object_history.specs.Answers.{read_step, write_step}
-use Rattle.repository_core.specs.declared.waits.Held.{Held}
+use Rattle.repository_core.specs.declared.waits.HeldRead.{HeldRead}
 use Rattle.repository_core.specs.declared.waits.Asker.{Asker}
 use Rattle.repository_core.specs.Logs.{is_commit, marks, known, record_of}
 use Rattle.repository_core.specs.Hands.{Hand, now, note, send}
@@ -50,14 +50,14 @@ module _ (P : TimeParts → WriteStep → Type 0) where
 
   -- ---- reads
 
-  asks-for : (before : List (TimeParts × Held)) (w : StampParts) (h : Hand) → Ok h → Ok (ask_for before w h)
+  asks-for : (before : List (TimeParts × HeldRead)) (w : StampParts) (h : Hand) → Ok h → Ok (ask_for before w h)
   asks-for before w h k = by ((w.home == h.number) || waits_for w before)
     where
       by : (b : Bool) → Ok (if b then h else send (repository w.home) (message.Ask w) h)
       by true = k
       by false = sends (repository w.home) (message.Ask w) h k tt
 
-  reads-as : (before : List (TimeParts × Held)) (h : Hand) (from : NodeId) (t : TimeParts) (o : ObjectId) (r : ReadStep) → Ok h → Ok (read_as before h from t o r)
+  reads-as : (before : List (TimeParts × HeldRead)) (h : Hand) (from : NodeId) (t : TimeParts) (o : ObjectId) (r : ReadStep) → Ok h → Ok (read_as before h from t o r)
   reads-as before h from t o (read.Answer v true) k = sends from (message.Value t v) (note (effect.Stretch o t) h) k tt
   reads-as before h from t o (read.Answer v false) k = sends from (message.Value t v) h k tt
   reads-as before h from t o (read.Wait w) k = asks-for before w (hold t (record { from = from; object = o; waits = w }) h) k
@@ -71,7 +71,7 @@ module _ (P : TimeParts → WriteStep → Type 0) where
   unfolding on_read
   on-read h from t o k = reads-known h from t o (known (now h) t.stamp) k
 
-  rereads : (held : List (TimeParts × Held)) (h : Hand) → Ok h → Ok (reread held h)
+  rereads : (held : List (TimeParts × HeldRead)) (h : Hand) → Ok h → Ok (reread held h)
   rereads [] h k = k
   rereads (e ∷ more) h k = rereads more (on_read h e.1.from e.0 e.1.object) (on-read h e.1.from e.0 e.1.object k)
 

@@ -21,7 +21,7 @@ use Rattle.world_core.specs.declared.traces.Opened.{Opened}
 use Rattle.world_core.specs.declared.traces.Trace.{Trace}
 use Rattle.world_core.specs.Nodes.{Mind, Input, gives, kind_gives, broker_gives, is_ready, kind_ready, acts_of, with_desk}
 use Rattle.world_core.specs.Nodes.Input.{Going, Taking, Learning, Hearing}
-use Rattle.world_core.specs.Walks.{Base, Life, World, Sending, whole, told, took, hears, lives_on, life_after, flags_after, heard_after, sendings_after, taken_after, ticks_after, last_after, is_down, names, numbered, with_given, step, start_world, walk_from, walk, sent_by}
+use Rattle.world_core.specs.Walks.{Base, Life, World, Sending, all_effects, after_input, took, hears, lives_on, life_after, flags_after, heard_after, sendings_after, taken_after, ticks_after, last_after, is_down, names, numbered, with_given, step, start_world, walk_from, walk, sent_by}
 use Rattle.world_core.specs.Legal.{Rule, Meets, Legal, base_of, fates_of}
 use Rattle.broker_core.proofs.SameTurns.{desk-same, fault-same}
 
@@ -84,8 +84,8 @@ module _ (s s' : List ℕ → Tree) (run : ℕ) (acts : List ActSpec) (start : �
   abbrev b' : Base
   b' = with_script s' run acts start opened
 
-  told-same : (n : NodeId) (l : Life) (input : Input) → told b n l input ≡ told b' n l input
-  told-same n l input = ap (with_given l) (gives-same s s' run acts h h' n (whole l) l.mind input)
+  told-same : (n : NodeId) (l : Life) (input : Input) → after_input b n l input ≡ after_input b' n l input
+  told-same n l input = ap (with_given l) (gives-same s s' run acts h h' n (all_effects l) l.mind input)
 
   took-same : (n : NodeId) (l : Life) (o : Option Sending) → took b n l o ≡ took b' n l o
   took-same n l None = refl

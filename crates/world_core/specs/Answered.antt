@@ -10,7 +10,7 @@ use Rattle.repository_core.specs.Logs.{marks}
 use Rattle.world_core.specs.declared.entries.Entry.{Entry}
 use Rattle.world_core.specs.declared.entries.Entry.TheVariants.{Take}
 use Rattle.world_core.specs.Nodes.{repository, broker}
-use Rattle.world_core.specs.Walks.{Base, Sending, walk, whole, numbered}
+use Rattle.world_core.specs.Walks.{Base, Sending, walk, all_effects, numbered}
 
 -- the repository of the object took this write at this place of the entries, and its history answered so
 pub record WasAnswered (b : Base) (es : List Entry) (x : TimeParts) (o : ObjectId) (v : Value) (step : WriteStep) : Type 0 where
@@ -21,4 +21,4 @@ pub record WasAnswered (b : Base) (es : List Entry) (x : TimeParts) (o : ObjectI
   pub here : es ≡ before ++ (Take (repository o.repository) number ∷ after)
   pub sent : numbered (walk b before).sendings number ≡ Some sending
   pub is_write : sending.post ≡ record { from = broker x.stamp.broker; to = repository o.repository; message = message.Write x o v }
-  pub answer : write_step (marks (reverse (whole ((walk b before).life (repository o.repository))))) o x v ≡ step
+  pub answer : write_step (marks (reverse (all_effects ((walk b before).life (repository o.repository))))) o x v ≡ step

@@ -7,7 +7,7 @@ use Rattle.value_form.specs.declared.acts.ActSpec.{ActSpec}
 use Rattle.effect_form.specs.declared.effects.Effect.{Effect}
 use Rattle.turn_form.specs.declared.turns.Turn.{Turn}
 use Rattle.repository_core.specs.Cores.{Core}
-use Rattle.broker_core.specs.Brokers.{Stands}
+use Rattle.broker_core.specs.Brokers.{IsLedTo}
 use Rattle.broker_core.specs.Parts.{BrokerParts}
 use Rattle.broker_core.specs.Tasks.{Scripted}
 use Rattle.world_core.specs.Nodes.{Mind, Given, acts_of}
@@ -36,7 +36,7 @@ pub record IsBroker (b : Base) (n : NodeId) (l : List Effect) (m : Mind) (p : Br
   pub acts : p.acts ≡ acts_of n.number b.acts
   pub heard : p.heard ≡ m.heard
   pub scripted : Scripted b.script p.acts
-  pub stands : Stands b.script (reverse l) p
+  pub stands : IsLedTo b.script (reverse l) p
 
 -- a repository's turn is what the rules give, and its core goes on from there
 pub record RepositoryGave {H : Type 0} (n : NodeId) (log : List Effect) (g : Given) (t : Turn) (new : Core H) : Type 0 where

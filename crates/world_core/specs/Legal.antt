@@ -78,13 +78,13 @@ pub record MayHear (w : World) (n : NodeId) : Type 0 where
   pub behind : w.heard n ≡ false
 
 -- how the stamp was decided stands in the durable log of its home
-abbrev pub Stands : World → StampParts → Bool → Type 0
-Stands w s committed = (d : Decision) × Has (effect.Decide s d) (w.life (repository s.home)).gated × (committed ≡ is_commit d)
+abbrev pub IsDecidedAs : World → StampParts → Bool → Type 0
+IsDecidedAs w s committed = (d : Decision) × Has (effect.Decide s d) (w.life (repository s.home)).gated × (committed ≡ is_commit d)
 
 pub record MayLearn (w : World) (n : NodeId) (s : StampParts) (committed : Bool) : Type 0 where
   pub up : (w.flags n).up ≡ true
   pub repository : is_broker n.kind ≡ false
-  pub stands : Stands w s committed
+  pub stands : IsDecidedAs w s committed
 
 -- An up node gates where it has something to close.
 pub record MayGate (w : World) (n : NodeId) : Type 0 where

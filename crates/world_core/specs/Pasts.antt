@@ -35,8 +35,8 @@ logs_after script [] n = []
 logs_after script (c ∷ cs) n = if in_plan c.plan n then log_left script c n else logs_after script cs n
 
 -- nodes were opened with the logs so far
-abbrev pub Agrees : List Opened → (NodeId → List Effect) → Type 0
-Agrees opened logs = (n : NodeId) (log : List Effect) → opened_log opened n ≡ Some log → log ≡ logs n
+abbrev pub OpenedWith : List Opened → (NodeId → List Effect) → Type 0
+OpenedWith opened logs = (n : NodeId) (log : List Effect) → opened_log opened n ≡ Some log → log ≡ logs n
 
 -- its Down stands, and no entry of another kind
 abbrev pub WasNotOpened : List Entry → NodeId → Type 0
@@ -44,7 +44,7 @@ WasNotOpened es n = ((cause : DownCause) × Has (Down n cause) es) × Every (λ 
 
 -- a legal run over these logs, in which each node was opened
 pub record IsCall (script : List ℕ → Tree) (logs : NodeId → List Effect) (c : Call) : Type 0 where
-  pub agrees : Agrees c.trace.opened logs
+  pub agrees : OpenedWith c.trace.opened logs
   pub legal : Legal script c.plan c.asked c.trace
   pub opened : (n : NodeId) → in_plan c.plan n ≡ true → WasNotOpened c.trace.entries n → ⊥
 

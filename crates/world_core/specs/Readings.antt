@@ -4,12 +4,12 @@ use Rattle.pseudo_time.specs.declared.nodes.NodeId.{NodeId}
 use Rattle.effect_form.specs.declared.effects.Effect.{Effect}
 use Rattle.stream_port.specs.declared.fates.Asked.{Asked}
 use Rattle.plan_form.specs.declared.plans.Plan.{Plan}
-use Rattle.plan_form.specs.PlanTexts.{IsWhole}
+use Rattle.plan_form.specs.PlanTexts.{IsOfLanguage}
 use Rattle.broker_core.specs.Readings.{reading}
 use Rattle.world_core.specs.declared.traces.Trace.{Trace}
 use Rattle.world_core.specs.Walks.{World, Life, walk}
 use Rattle.world_core.specs.Legal.{Legal, base_of, in_plan}
-use Rattle.world_core.specs.Pasts.{Call, Agrees, WasNotOpened, log_left}
+use Rattle.world_core.specs.Pasts.{Call, OpenedWith, WasNotOpened, log_left}
 
 -- ---- traces of a plan
 
@@ -38,8 +38,8 @@ AllOpened plan t = (n : NodeId) → in_plan plan n ≡ true → WasNotOpened t.e
 
 -- a run of a plan of the language over these logs: legal, and each node was opened
 pub record WasRun (logs : NodeId → List Effect) (c : Call) : Type 0 where
-  pub whole : IsWhole c.plan
-  pub agrees : Agrees c.trace.opened logs
+  pub whole : IsOfLanguage c.plan
+  pub agrees : OpenedWith c.trace.opened logs
   pub legal : IsLegal c.plan c.asked c.trace
   pub opened : AllOpened c.plan c.trace
 

@@ -43,8 +43,8 @@ pub record Life : Type 0 where
   pub outs : List Out
   pub mind : Mind
 
-abbrev pub whole : Life → List Effect
-whole l = l.gated ++ l.fresh
+abbrev pub all_effects : Life → List Effect
+all_effects l = l.gated ++ l.fresh
 
 abbrev pub opened_life : ℕ → List Effect → Life
 opened_life start log = record { gated = log; fresh = []; outs = []; mind = opened_mind start }
@@ -54,7 +54,7 @@ with_given l g = record { gated = l.gated; fresh = l.fresh ++ g.effects; outs = 
 
 -- the new effects join the log, and no message is open any more
 abbrev pub gated_life : Life → Life
-gated_life l = record { gated = whole l; fresh = []; outs = []; mind = l.mind }
+gated_life l = record { gated = all_effects l; fresh = []; outs = []; mind = l.mind }
 
 -- the first `kept` new effects were found, and all else is gone
 abbrev pub crashed_life : ℕ → ℕ → Life → Life
@@ -128,24 +128,24 @@ own n es = filter (names n) es
 -- ---- one entry
 
 -- a node is given an input
-abbrev pub told : Base → NodeId → Life → Input → Life
-told b n l input = with_given l (gives b.script b.run b.acts n (whole l) l.mind input)
+abbrev pub after_input : Base → NodeId → Life → Input → Life
+after_input b n l input = with_given l (gives b.script b.run b.acts n (all_effects l) l.mind input)
 
 -- A message that wasn't sent gives nothing.
 abbrev pub took : Base → NodeId → Life → Option Sending → Life
 took b n l None = l
-took b n l (Some s) = told b n l (Taking s.post.from s.post.message)
+took b n l (Some s) = after_input b n l (Taking s.post.from s.post.message)
 
 -- Before any Tick there is nothing to hear.
 abbrev pub hears : Base → NodeId → Life → Option ℕ → Life
 hears b n l None = l
-hears b n l (Some moment) = told b n l (Hearing moment)
+hears b n l (Some moment) = after_input b n l (Hearing moment)
 
 -- a node's life after an entry of its own
 abbrev pub lives_on : Base → World → NodeId → Life → Entry → Life
 lives_on b w n l (Take node number) = took b n l (numbered w.sendings number)
-lives_on b w n l (Go node) = told b n l Going
-lives_on b w n l (Learn node stamp committed) = told b n l (Learning stamp committed)
+lives_on b w n l (Go node) = after_input b n l Going
+lives_on b w n l (Learn node stamp committed) = after_input b n l (Learning stamp committed)
 lives_on b w n l (Hear node) = hears b n l w.last
 lives_on b w n l (Gate node) = gated_life l
 lives_on b w n l (Crash node kept) = crashed_life b.start kept l
@@ -199,7 +199,7 @@ heard_after w (Tick moment) n = false
 
 -- the messages that a gate of this node sends
 abbrev pub leaving : World → NodeId → List Post
-leaving w n = if (w.flags n).known then posts n (filter (leaves (whole (w.life n))) (w.life n).outs) else []
+leaving w n = if (w.flags n).known then posts n (filter (leaves (all_effects (w.life n))) (w.life n).outs) else []
 
 abbrev pub sendings_after : World → Entry → List Sending
 sendings_after w (Take node number) = w.sendings

@@ -7,7 +7,7 @@ ghost use Rattle.value_form.specs.Mirror.{block};
 ghost use Rattle.effect_form.specs.declared.effects.Effect.{Effect};
 ghost use Rattle.stream_port.specs.declared.fates.Asked.{Asked};
 ghost use Rattle.plan_form.specs.declared.plans.Plan.{Plan};
-ghost use Rattle.plan_form.specs.PlanTexts.{IsWhole};
+ghost use Rattle.plan_form.specs.PlanTexts.{IsOfLanguage};
 ghost use Rattle.serial_model.specs.Questions.{Tree};
 ghost use Rattle.serial_model.specs.Ranges.{BlockInRange};
 ghost use Rattle.broker_core.specs.Ledgers.{AreActs};
@@ -25,11 +25,11 @@ ghost use Rattle.world_core.specs.Walks.{walk};
 /// scripts ask for is in range, and the broker and home of each are those of a stamp. So each script
 /// of a plan has a reading, that of the plan's acts.
 pub fn law_of_plans_in_range()
-    ensures acts { (plan : Plan) → IsWhole plan → AreActs plan.acts }
-    ensures own { (plan : Plan) (b : ℕ) → IsWhole plan → AreActs (acts_of b plan.acts) }
-    ensures names { (plan : Plan) → IsWhole plan → Every (λ act. IsInRange 1 act.broker act.home) plan.acts }
-    ensures scripts { (plan : Plan) → IsWhole plan → Every (λ act. BlockInRange (block act.script.lines)) plan.acts }
-    ensures read { (plan : Plan) → IsWhole plan → Scripted (reading plan.acts) plan.acts }
+    ensures acts { (plan : Plan) → IsOfLanguage plan → AreActs plan.acts }
+    ensures own { (plan : Plan) (b : ℕ) → IsOfLanguage plan → AreActs (acts_of b plan.acts) }
+    ensures names { (plan : Plan) → IsOfLanguage plan → Every (λ act. IsInRange 1 act.broker act.home) plan.acts }
+    ensures scripts { (plan : Plan) → IsOfLanguage plan → Every (λ act. BlockInRange (block act.script.lines)) plan.acts }
+    ensures read { (plan : Plan) → IsOfLanguage plan → Scripted (reading plan.acts) plan.acts }
 {}
 
 /// Two readings that both read a plan's scripts give the same walk of its traces, and the same traces
@@ -42,6 +42,6 @@ pub fn readings_walk_alike()
 /// Where earlier runs left these logs, each legal by its own plan, there is one reading of scripts by
 /// which the logs have a past and a trace that is legal by its plan is legal.
 pub fn one_reading_for_all()
-    ensures { (plan : Plan) (asked : List Asked) (t : Trace) (logs : NodeId → List Effect) → IsWhole plan → IsLegal plan asked t → WereLeft logs
+    ensures { (plan : Plan) (asked : List Asked) (t : Trace) (logs : NodeId → List Effect) → IsOfLanguage plan → IsLegal plan asked t → WereLeft logs
         → (script : List ℕ → Tree) × HasPast script logs × Legal script plan asked t }
 {}

@@ -32,11 +32,11 @@ use Rattle.world_core.specs.Nodes.{Mind, Input, repository}
 use Rattle.world_core.specs.Nodes.Input.{Going, Taking, Learning, Hearing}
 use Rattle.world_core.specs.Walks.{Base, sent_by, start_world, walk}
 use Rattle.world_core.specs.Legal.{Meets, Legal, base_of, fates_of}
-use Rattle.world_core.specs.Pasts.{Agrees}
+use Rattle.world_core.specs.Pasts.{OpenedWith}
 use Rattle.world_core.proofs.Rules.{meets-front}
 use Rattle.world_facts.specs.Rules.{Around, Later, NodeFacts, MayInput, TurnGives, NodeLaws}
-use Rattle.world_facts.specs.Soft.Event.{Start}
-use Rattle.world_facts.specs.Refines.{Left, Facts, logs_at}
+use Rattle.world_facts.specs.Soft.SoftEvent.{Start}
+use Rattle.world_facts.specs.Refines.{Left, LogFacts, logs_at}
 use Rattle.world_facts.specs.NodeRules.{of_hand, of_desk, kind_turn, node_turns}
 use Rattle.world_facts.specs.AnyRules.{tasks_of, any_fits, any_post, any_cause, any_facts, log_opened, log_before}
 use Rattle.world_facts.proofs.NodeLaws.{gives-are}
@@ -147,14 +147,14 @@ module _ (script : List ℕ → Tree) (run : ℕ) (acts : List ActSpec) (logs : 
   }
 
 pub any-trace : (script : List ℕ → Tree) (plan : Plan) (asked : List Asked) (t : Trace) (front rest : List Entry) → Legal script plan asked t → t.entries ≡ front ++ rest →
-    Facts (any_facts script (base_of script plan t).run (base_of script plan t).acts (log_before t)) (base_of script plan t) (logs_at (log_opened t) (walk (base_of script plan t) front)) [] (sent_by (walk (base_of script plan t) front))
+    LogFacts (any_facts script (base_of script plan t).run (base_of script plan t).acts (log_before t)) (base_of script plan t) (logs_at (log_opened t) (walk (base_of script plan t) front)) [] (sent_by (walk (base_of script plan t) front))
     (λ moment. Has (Tick moment) front)
 any-trace script plan asked t front rest legal here =
     let b : Base = base_of script plan t in
     let logs : NodeId → List Effect = λ n. log_opened t n in
     let own : NodeId → List Effect = λ n. reverse (log_opened t n) in
     let laws : NodeLaws script (node_turns script) (any_facts script b.run b.acts own) = any-laws script b.run b.acts own in
-    let agrees : Agrees t.opened logs = λ n log e. sym (ap (λ z. unwrap_or z []) e) in
+    let agrees : OpenedWith t.opened logs = λ n log e. sym (ap (λ z. unwrap_or z []) e) in
     let rules : Meets b (fates_of t.sent) (start_world b) front = meets-front b (fates_of t.sent) (start_world b) front rest (subst (Meets b (fates_of t.sent) (start_world b)) here legal.meets) in
     facts-of script (node_turns script) (any_facts script b.run b.acts own) laws b logs [] (λ moment. Has (Tick moment) front) (walk b front)
     (walk-refines script (node_turns script) (any_facts script b.run b.acts own) laws b logs [] (λ moment. Has (Tick moment) front) refl (fates_of t.sent) (start_world b) front (λ moment h. h)

@@ -16,8 +16,8 @@ use Rattle.serial_model.specs.Questions.{Tree}
 use Rattle.world_core.specs.Nodes.{Input, Given, repository}
 use Rattle.world_core.specs.Nodes.Input.{Going, Taking, Learning, Hearing}
 use Rattle.world_facts.specs.Rules.{Around, Later, NodeFacts, Turns, MayInput, SenderOk, TurnGiven, TurnGives, NodeLaws}
-use Rattle.world_facts.specs.Soft.{SoftNode, whole, keep, gate, crash, Soft, put, around, Event, react, happens, nothing, happened, May, Mays, NodeOk, SentOk, Inv}
-use Rattle.world_facts.specs.Soft.Event.{Start, React, Gate, Crash, Tick}
+use Rattle.world_facts.specs.Soft.{SoftNode, whole, keep, gate, crash, Soft, put, around, SoftEvent, react, happens, nothing, happened, May, Mays, NodeOk, SentOk, Inv}
+use Rattle.world_facts.specs.Soft.SoftEvent.{Start, React, Gate, Crash, Tick}
 use Rattle.world_facts.proofs.Growths.{each-map, each-drop, every-filter, every-of-map, put-all, put-here}
 
 module _ (script : List ℕ → Tree) (turns : Turns) (F : NodeFacts) (laws : NodeLaws script turns F) where
@@ -153,7 +153,7 @@ module _ (script : List ℕ → Tree) (turns : Turns) (F : NodeFacts) (laws : No
   inv-nothing empty = record { nodes = λ n. record { tidy = empty n; grew = tt; proofs = tt; mind_ok = laws.opened [] n 0; outs = tt }; sent = tt }
 
   -- what always holds, holds in every world that events reach
-  pub inv-reached : (es : List Event) → Mays F turns es → Inv F (happened turns es)
+  pub inv-reached : (es : List SoftEvent) → Mays F turns es → Inv F (happened turns es)
   inv-reached [] may = inv-nothing may
   inv-reached (Start logs ∷ es) may = started logs may
   inv-reached (React n run acts input ∷ es) may =

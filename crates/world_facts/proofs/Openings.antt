@@ -22,12 +22,12 @@ use Rattle.world_core.specs.declared.traces.Trace.{Trace}
 use Rattle.world_core.specs.Nodes.{repository, is_ready}
 use Rattle.world_core.specs.Walks.{Base, Life, World, opened_log, sent_by, start_world, walk}
 use Rattle.world_core.specs.Legal.{Meets, AllReady, Legal, base_of, fates_of}
-use Rattle.world_core.specs.Pasts.{Call, log_left, logs_after, Agrees, AreCalls, HasPast}
+use Rattle.world_core.specs.Pasts.{Call, log_left, logs_after, OpenedWith, AreCalls, HasPast}
 use Rattle.world_core.proofs.Rules.{meets-front}
 use Rattle.world_facts.specs.Rules.{Around, Later, NodeFacts, Turns, NodeLaws, PastLaws}
-use Rattle.world_facts.specs.Soft.{SoftNode, whole, put, crash, kept_log, opened_seat, Soft, around, Event, happened, Mays, NodeOk, SentOk, Inv}
-use Rattle.world_facts.specs.Soft.Event.{Crash}
-use Rattle.world_facts.specs.Refines.{seat_of, past_sent, PastTick, Ticked, Refines, Left, LivesOk, logs_at, Facts}
+use Rattle.world_facts.specs.Soft.{SoftNode, whole, put, crash, kept_log, opened_seat, Soft, around, SoftEvent, happened, Mays, NodeOk, SentOk, Inv}
+use Rattle.world_facts.specs.Soft.SoftEvent.{Crash}
+use Rattle.world_facts.specs.Refines.{seat_of, past_sent, PastTick, Ticked, Refines, Left, LivesOk, logs_at, LogFacts}
 use Rattle.world_facts.proofs.Growths.{each-map, drop-none, length-reverse, take-back}
 use Rattle.world_facts.proofs.Keeps.{inv-reached}
 use Rattle.world_facts.proofs.Refinements.{ready-gated, walk-refines}
@@ -71,14 +71,14 @@ module _ (kept : NodeId → ℕ) (start : ℕ) where
       without n false q e = h.outside n e
 
   module _ (turns : Turns) (F : NodeFacts) where
-    pub record AllCrashed (os : List Opened) (es : List Event) : Type 0 where
-      pub events : List Event
+    pub record AllCrashed (os : List Opened) (es : List SoftEvent) : Type 0 where
+      pub events : List SoftEvent
       pub may : Mays F turns events
       pub crashed : Crashed os (happened turns es).seat (happened turns events).seat
       pub ever : (happened turns events).ever ≡ (happened turns es).ever
       pub ticks : (happened turns events).ticks ≡ (happened turns es).ticks
 
-    pub crash-all : (os : List Opened) (es : List Event) → Mays F turns es → AllCrashed os es
+    pub crash-all : (os : List Opened) (es : List SoftEvent) → Mays F turns es → AllCrashed os es
     crash-all [] es may = record { events = es; may = may; crashed = record { inside = λ n e. absurd (cc e); outside = λ n e. refl }; ever = refl; ticks = refl }
     crash-all (o ∷ os) es may =
         let r : AllCrashed os es = crash-all os es may in
@@ -107,7 +107,7 @@ module _ (script : List ℕ → Tree) (turns : Turns) (F : NodeFacts) (laws : No
       go (Some log) q e = past.ready_is b.run b.acts n log (subst (λ z. is_ready z b.run b.acts n log ≡ true) same (ready n log q))
 
   -- a run begins
-  pub opens : (b : Base) (logs : NodeId → List Effect) (old : List Post) (Before May : ℕ → Type 0) → ((t : ℕ) → Before t → May t) → Left turns F logs old Before → Agrees b.opened logs →
+  pub opens : (b : Base) (logs : NodeId → List Effect) (old : List Post) (Before May : ℕ → Type 0) → ((t : ℕ) → Before t → May t) → Left turns F logs old Before → OpenedWith b.opened logs →
       ((n : NodeId) → is_some (opened_log b.opened n) ≡ true → F.Ready b.run b.acts n (reverse (unwrap_or (opened_log b.opened n) []))) → Refines turns F b logs old May (start_world b)
   opens b logs sent Before May wider left agrees ready =
       let c : AllCrashed (λ n. 0) b.start turns F b.opened left.events = crash-all (λ n. 0) b.start turns F b.opened left.events left.may in
@@ -172,7 +172,7 @@ module _ (script : List ℕ → Tree) (turns : Turns) (F : NodeFacts) (laws : No
       (λ n e. ap (λ t. if t then log_left script c n else logs_after script cs n) (sym (h.1.legal.nodes.just n) ∙ e))
 
   -- a trace over logs with a past
-  pub refined : PastLaws script F → (b : Base) (fates : List Fate) (logs : NodeId → List Effect) (es : List Entry) → b.script ≡ script → (past : HasPast script logs) → Agrees b.opened logs → AllReady b →
+  pub refined : PastLaws script F → (b : Base) (fates : List Fate) (logs : NodeId → List Effect) (es : List Entry) → b.script ≡ script → (past : HasPast script logs) → OpenedWith b.opened logs → AllReady b →
       Meets b fates (start_world b) es → Refines turns F b logs (past_sent script past.0) (Ticked past.0 es) (walk b es)
   refined start b fates logs es same past agrees ready rules =
       let l : Left turns F (logs_after script past.0) (past_sent script past.0) (PastTick past.0) = past-left start past.0 past.1 in
@@ -204,7 +204,7 @@ module _ (script : List ℕ → Tree) (turns : Turns) (F : NodeFacts) (laws : No
     ticks = λ t c. c;
   }
 
-  pub facts-of : (b : Base) (logs : NodeId → List Effect) (old : List Post) (May : ℕ → Type 0) (w : World) → Refines turns F b logs old May w → Facts F b (logs_at logs w) old (sent_by w) May
+  pub facts-of : (b : Base) (logs : NodeId → List Effect) (old : List Post) (May : ℕ → Type 0) (w : World) → Refines turns F b logs old May w → LogFacts F b (logs_at logs w) old (sent_by w) May
   facts-of b logs old May w r =
       let s : Soft = happened turns r.events in
       let inv : Inv F s = inv-reached script turns F laws r.events r.may in
@@ -248,16 +248,16 @@ module _ (script : List ℕ → Tree) (turns : Turns) (F : NodeFacts) (laws : No
   }
 
   -- the facts of a legal trace over logs with a past, at its end and after each of its entries
-  pub legal-facts : PastLaws script F → (plan : Plan) (asked : List Asked) (t : Trace) (logs : NodeId → List Effect) (front rest : List Entry) → (past : HasPast script logs) → Agrees t.opened logs →
+  pub legal-facts : PastLaws script F → (plan : Plan) (asked : List Asked) (t : Trace) (logs : NodeId → List Effect) (front rest : List Entry) → (past : HasPast script logs) → OpenedWith t.opened logs →
       Legal script plan asked t → t.entries ≡ front ++ rest →
-      Facts F (base_of script plan t) (logs_at logs (walk (base_of script plan t) front)) (past_sent script past.0) (sent_by (walk (base_of script plan t) front)) (Ticked past.0 front)
+      LogFacts F (base_of script plan t) (logs_at logs (walk (base_of script plan t) front)) (past_sent script past.0) (sent_by (walk (base_of script plan t) front)) (Ticked past.0 front)
   legal-facts start plan asked t logs front rest past agrees legal here =
       facts-of (base_of script plan t) logs (past_sent script past.0) (Ticked past.0 front) (walk (base_of script plan t) front)
       (refined start (base_of script plan t) (fates_of t.sent) logs front refl past agrees legal.ready
       (meets-front (base_of script plan t) (fates_of t.sent) (start_world (base_of script plan t)) front rest
       (subst (Meets (base_of script plan t) (fates_of t.sent) (start_world (base_of script plan t))) here legal.meets)))
 
-  pub legal-lives : PastLaws script F → (plan : Plan) (asked : List Asked) (t : Trace) (logs : NodeId → List Effect) (front rest : List Entry) → (past : HasPast script logs) → Agrees t.opened logs →
+  pub legal-lives : PastLaws script F → (plan : Plan) (asked : List Asked) (t : Trace) (logs : NodeId → List Effect) (front rest : List Entry) → (past : HasPast script logs) → OpenedWith t.opened logs →
       Legal script plan asked t → t.entries ≡ front ++ rest →
       LivesOk F (base_of script plan t) (logs_at logs (walk (base_of script plan t) front)) (past_sent script past.0) (Ticked past.0 front) (walk (base_of script plan t) front)
   legal-lives start plan asked t logs front rest past agrees legal here =

@@ -19,12 +19,12 @@ use Rattle.world_core.specs.declared.entries.Entry.{Entry}
 use Rattle.world_core.specs.declared.entries.Entry.TheVariants as entry
 use Rattle.world_core.specs.Nodes.{Input, leaves, repository}
 use Rattle.world_core.specs.Nodes.Input.{Going, Taking, Learning, Hearing}
-use Rattle.world_core.specs.Walks.{Base, Life, Sending, World, opened_log, numbered, names, step, told, took, hears, lives_on, gated_life, crashed_life, opened_life, leaving, sent_by, start_world, walk_from, walk, last_after}
+use Rattle.world_core.specs.Walks.{Base, Life, Sending, World, opened_log, numbered, names, step, after_input, took, hears, lives_on, gated_life, crashed_life, opened_life, leaving, sent_by, start_world, walk_from, walk, last_after}
 use Rattle.world_core.specs.Walks as walks
-use Rattle.world_core.specs.Legal.{MayTake, MayHear, MayGate, MayCrash, Stands, Rule, Meets}
+use Rattle.world_core.specs.Legal.{MayTake, MayHear, MayGate, MayCrash, IsDecidedAs, Rule, Meets}
 use Rattle.world_facts.specs.Rules.{IsDecided, NodeFacts, Turns, MayInput, TurnGives, NodeLaws}
-use Rattle.world_facts.specs.Soft.{SoftNode, whole, put, gate, crash, Soft, around, Event, react, happened, Mays, Inv}
-use Rattle.world_facts.specs.Soft.Event.{React, Gate, Crash, Tick}
+use Rattle.world_facts.specs.Soft.{SoftNode, whole, put, gate, crash, Soft, around, SoftEvent, react, happened, Mays, Inv}
+use Rattle.world_facts.specs.Soft.SoftEvent.{React, Gate, Crash, Tick}
 use Rattle.world_facts.specs.Refines.{seat_of, Models, Refines}
 use Rattle.world_facts.proofs.Growths.{none-has, numbered-has, put-all}
 use Rattle.world_facts.proofs.Keeps.{tidy-grown, turn-gives, inv-reached}
@@ -78,7 +78,7 @@ module _ (script : List ℕ → Tree) (turns : Turns) (F : NodeFacts) (laws : No
 
     -- an input of a node that was opened
     input-refines : (w : World) (e : Entry) (n : NodeId) (input : Input) (r : Refines turns F b others old May w) → ((k : NodeId) → names k e ≡ same_node n k) → (w.flags n).known ≡ true →
-        MayInput (around (happened turns r.events)) n input → lives_on b w n (w.life n) e ≡ told b n (w.life n) input → sent_by (step b w e) ≡ sent_by w → last_after w.last e ≡ w.last →
+        MayInput (around (happened turns r.events)) n input → lives_on b w n (w.life n) e ≡ after_input b n (w.life n) input → sent_by (step b w e) ≡ sent_by w → last_after w.last e ≡ w.last →
         Refines turns F b others old May (step b w e)
     input-refines w e n input r own known may is sends last =
         let s : Soft = happened turns r.events in
@@ -94,7 +94,7 @@ module _ (script : List ℕ → Tree) (turns : Turns) (F : NodeFacts) (laws : No
         }
 
     -- a decision that stands in the trace stands in the other world
-    decided-there : (s : Soft) (w : World) (t : StampParts) (committed : Bool) → Models turns F b others old May s w → Stands w t committed → IsDecided (around s) t committed
+    decided-there : (s : Soft) (w : World) (t : StampParts) (committed : Bool) → Models turns F b others old May s w → IsDecidedAs w t committed → IsDecided (around s) t committed
     decided-there s w t committed h d = (d.0, go (w.flags (repository t.home)).known refl, d.2)
       where
         go : (k : Bool) → (w.flags (repository t.home)).known ≡ k → Has (effect.Decide t d.0) (s.seat (repository t.home)).gated
@@ -122,7 +122,7 @@ module _ (script : List ℕ → Tree) (turns : Turns) (F : NodeFacts) (laws : No
         let s : Soft = happened turns r.events in
         let known : (w.flags n).known ≡ true = r.models.ups n rule.up in
         let at : s.seat n ≡ seat_of (w.life n) = r.models.lives n known in
-        let which : Out → Bool = leaves (walks.whole (w.life n)) in
+        let which : Out → Bool = leaves (walks.all_effects (w.life n)) in
         let left : leaving w n ≡ posts n (filter which (s.seat n).outs) =
         ap (λ t. if t then posts n (filter which (w.life n).outs) else []) known ∙ ap (λ (x : SoftNode). posts n (filter which x.outs)) (sym at) in
         record {
@@ -150,7 +150,7 @@ module _ (script : List ℕ → Tree) (turns : Turns) (F : NodeFacts) (laws : No
         }
 
     -- an entry that changes no life
-    still-refines : (w : World) (e : Entry) (events : List Event) → Mays F turns events → (m : Models turns F b others old May (happened turns events) w) → ((k : NodeId) → (step b w e).life k ≡ w.life k) →
+    still-refines : (w : World) (e : Entry) (events : List SoftEvent) → Mays F turns events → (m : Models turns F b others old May (happened turns events) w) → ((k : NodeId) → (step b w e).life k ≡ w.life k) →
         sent_by (step b w e) ≡ sent_by w → ((t : ℕ) → last_after w.last e ≡ Some t → Has t (happened turns events).ticks) → Refines turns F b others old May (step b w e)
     still-refines w e events may h stays sends ticks = record {
       events = events;

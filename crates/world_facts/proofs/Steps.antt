@@ -12,7 +12,7 @@ use Rattle.world_core.specs.declared.entries.Entry.{Entry}
 use Rattle.world_core.specs.declared.entries.Entry.TheVariants.{Take, Go, Learn, Hear, Gate, Crash, Down, Tick}
 use Rattle.world_core.specs.Nodes.{Input, Given, gives}
 use Rattle.world_core.specs.Walks as walks
-use Rattle.world_core.specs.Walks.{Base, Life, Flags, Sending, World, names, step, told, lives_on, gated_life, crashed_life, flagged, went, learned, has_heard, leaving, sent_by, sendings_after, with_given}
+use Rattle.world_core.specs.Walks.{Base, Life, Flags, Sending, World, names, step, after_input, lives_on, gated_life, crashed_life, flagged, went, learned, has_heard, leaving, sent_by, sendings_after, with_given}
 use Rattle.world_facts.specs.Rules.{NodeFacts, Turns, forward, NodeLaws}
 use Rattle.world_facts.specs.Soft.{SoftNode, whole, put, gate, crash, react, with_turn, opened_seat}
 use Rattle.world_facts.specs.Refines.{seat_of}
@@ -91,12 +91,12 @@ crashed-seat start kept l = ap (λ g. opened_seat g start)
     ∙ sym (reverse-append l.gated (take kept l.fresh)))
 
 module _ (script : List ℕ → Tree) (turns : Turns) (F : NodeFacts) (laws : NodeLaws script turns F) where
-  pub told-seat : (b : Base) (n : NodeId) (l : Life) (input : Input) → b.script ≡ script → react turns b.run b.acts n (seat_of l) input ≡ seat_of (told b n l input)
+  pub told-seat : (b : Base) (n : NodeId) (l : Life) (input : Input) → b.script ≡ script → react turns b.run b.acts n (seat_of l) input ≡ seat_of (after_input b n l input)
   told-seat b n l input same =
       let g : Given = turns b.run b.acts n (whole (seat_of l)) l.mind input in
-      let all : reverse (walks.whole l) ≡ whole (seat_of l) = reverse-append l.gated l.fresh in
-      let is : gives b.script b.run b.acts n (walks.whole l) l.mind input ≡ forward (turns b.run b.acts n (whole (seat_of l)) l.mind input) =
-      ap (λ z. gives z b.run b.acts n (walks.whole l) l.mind input) same ∙ laws.turns_are b.run b.acts n (walks.whole l) l.mind input ∙ ap (λ z. forward (turns b.run b.acts n z l.mind input)) all in
+      let all : reverse (walks.all_effects l) ≡ whole (seat_of l) = reverse-append l.gated l.fresh in
+      let is : gives b.script b.run b.acts n (walks.all_effects l) l.mind input ≡ forward (turns b.run b.acts n (whole (seat_of l)) l.mind input) =
+      ap (λ z. gives z b.run b.acts n (walks.all_effects l) l.mind input) same ∙ laws.turns_are b.run b.acts n (walks.all_effects l) l.mind input ∙ ap (λ z. forward (turns b.run b.acts n z l.mind input)) all in
       with-seat l g ∙ ap (λ z. seat_of (with_given l z)) (sym is)
     where
       with-seat : (l : Life) (g : Given) → with_turn (seat_of l) g ≡ seat_of (with_given l (forward g))

@@ -27,9 +27,9 @@ of_hand mind h = record { effects = h.fresh; outs = h.outs; mind = record { hand
 
 abbrev pub repository_turn : ℕ → List Effect → Mind → Input → Given
 repository_turn r log mind Going = nothing_given mind
-repository_turn r log mind (Taking from m) = of_hand mind (hands.told (hands.hand_at r log mind.hands) (hands.Taking from m))
-repository_turn r log mind (Learning s committed) = of_hand mind (hands.told (hands.hand_at r log mind.hands) (hands.Learning s committed))
-repository_turn r log mind (Hearing t) = of_hand mind (hands.told (hands.hand_at r log mind.hands) (hands.Hearing t))
+repository_turn r log mind (Taking from m) = of_hand mind (hands.hand_turn (hands.hand_at r log mind.hands) (hands.Taking from m))
+repository_turn r log mind (Learning s committed) = of_hand mind (hands.hand_turn (hands.hand_at r log mind.hands) (hands.Learning s committed))
+repository_turn r log mind (Hearing t) = of_hand mind (hands.hand_turn (hands.hand_at r log mind.hands) (hands.Hearing t))
 
 abbrev pub of_desk : Mind → desks.Desk → Given
 of_desk mind d = record { effects = d.fresh; outs = d.outs; mind = record { hands = mind.hands; heard = d.heard } }

@@ -12,7 +12,7 @@ use Rattle.world_core.specs.Walks.{Base, Life, World, opened_log, sent_by, walk}
 use Rattle.world_core.specs.Legal.{base_of}
 use Rattle.world_core.specs.Pasts.{Call}
 use Rattle.world_facts.specs.Rules.{NodeFacts, Turns}
-use Rattle.world_facts.specs.Soft.{NodeOk, SoftNode, whole, Soft, Event, happened, Mays, SentOk}
+use Rattle.world_facts.specs.Soft.{NodeOk, SoftNode, whole, Soft, SoftEvent, happened, Mays, SentOk}
 
 -- a life, newest first
 abbrev pub seat_of : Life → SoftNode
@@ -51,13 +51,13 @@ module _ (turns : Turns) (F : NodeFacts) (b : Base) (others : NodeId → List Ef
     pub ready : (n : NodeId) → (w.flags n).known ≡ true → F.Ready b.run b.acts n (whole (seat_of (w.life n)))
 
   pub record Refines (w : World) : Type 0 where
-    pub events : List Event
+    pub events : List SoftEvent
     pub may : Mays F turns events
     pub models : Models (happened turns events) w
 
 -- between runs: nothing is open, and these are the logs, oldest effect first
 pub record Left (turns : Turns) (F : NodeFacts) (logs : NodeId → List Effect) (old : List Post) (May : ℕ → Type 0) : Type 0 where
-  pub events : List Event
+  pub events : List SoftEvent
   pub may : Mays F turns events
   pub gated : (n : NodeId) → ((happened turns events).seat n).gated ≡ reverse (logs n)
   pub fresh : (n : NodeId) → ((happened turns events).seat n).fresh ≡ []
@@ -69,7 +69,7 @@ abbrev pub logs_at : (NodeId → List Effect) → World → NodeId → List Effe
 logs_at others w n = if (w.flags n).known then (w.life n).gated else others n
 
 -- what holds of all durable logs and of all messages sent, in the past and in the trace; `May` holds of the moments that were ticked
-pub record Facts (F : NodeFacts) (b : Base) (logs : NodeId → List Effect) (past sent : List Post) (May : ℕ → Type 0) : Type 0 where
+pub record LogFacts (F : NodeFacts) (b : Base) (logs : NodeId → List Effect) (past sent : List Post) (May : ℕ → Type 0) : Type 0 where
   pub ticks : List ℕ
   pub ticked : (t : ℕ) → Has t ticks → May t
   pub tidy : (n : NodeId) → F.Tidy n (reverse (logs n))

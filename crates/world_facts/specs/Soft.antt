@@ -54,18 +54,18 @@ abbrev pub around : Soft → Around
 around w = record { ever = w.ever; logs = λ n. (w.seat n).gated; ticks = w.ticks }
 
 -- `Start` puts logs in place, before all else
-pub data Event : Type 0 where
-  Start : (NodeId → List Effect) → Event
-  React : NodeId → ℕ → List ActSpec → Input → Event
-  Gate : NodeId → (Out → Bool) → Event
-  Crash : NodeId → ℕ → ℕ → Event
-  Tick : ℕ → Event
+pub data SoftEvent : Type 0 where
+  Start : (NodeId → List Effect) → SoftEvent
+  React : NodeId → ℕ → List ActSpec → Input → SoftEvent
+  Gate : NodeId → (Out → Bool) → SoftEvent
+  Crash : NodeId → ℕ → ℕ → SoftEvent
+  Tick : ℕ → SoftEvent
 
 module _ (turns : Turns) where
   abbrev pub react : ℕ → List ActSpec → NodeId → SoftNode → Input → SoftNode
   react run acts n x input = with_turn x (turns run acts n (whole x) x.mind input)
 
-  abbrev pub happens : Soft → Event → Soft
+  abbrev pub happens : Soft → SoftEvent → Soft
   happens w (Start logs) = record { seat = λ n. opened_seat (logs n) 0; ever = []; ticks = [] }
   happens w (React n run acts input) = record { seat = put n (react run acts n (w.seat n) input) w.seat; ever = w.ever; ticks = w.ticks }
   happens w (Gate n which) = record { seat = put n (gate (w.seat n)) w.seat; ever = w.ever ++ posts n (filter which (w.seat n).outs); ticks = w.ticks }
@@ -76,20 +76,20 @@ abbrev pub nothing : Soft
 nothing = record { seat = λ n. opened_seat [] 0; ever = []; ticks = [] }
 
 -- events stand newest first
-abbrev pub happened : Turns → List Event → Soft
+abbrev pub happened : Turns → List SoftEvent → Soft
 happened turns [] = nothing
 happened turns (e ∷ es) = happens turns (happened turns es) e
 
 module _ (F : NodeFacts) where
   -- a node reacts to an input that may come, where its log is ready
-  abbrev pub May : Soft → Event → Type 0
+  abbrev pub May : Soft → SoftEvent → Type 0
   May w (Start logs) = (n : NodeId) → F.Tidy n (logs n) × Each (F.Proof (record { ever = []; logs = logs; ticks = [] }) n) (logs n)
   May w (React n run acts input) = MayInput (around w) n input × F.Ready run acts n (whole (w.seat n))
   May w (Gate n which) = Unit {0}
   May w (Crash n kept start) = Unit {0}
   May w (Tick t) = Unit {0}
 
-  abbrev pub Mays : Turns → List Event → Type 0
+  abbrev pub Mays : Turns → List SoftEvent → Type 0
   Mays turns [] = (n : NodeId) → F.Tidy n []
   Mays turns (Start logs ∷ es) = May (happened turns es) (Start logs)
   Mays turns (React n run acts input ∷ es) = Mays turns es × May (happened turns es) (React n run acts input)

@@ -10,8 +10,8 @@ ghost use Rattle.world_core.specs.declared.entries.Entry.TheVariants.{Tick};
 ghost use Rattle.world_core.specs.declared.traces.Trace.{Trace};
 ghost use Rattle.world_core.specs.Walks.{walk, sent_by};
 ghost use Rattle.world_core.specs.Legal.{Legal, base_of};
-ghost use Rattle.world_core.specs.Pasts.{HasPast, Agrees};
-ghost use Rattle.world_facts.specs.Refines.{Facts, LivesOk, logs_at, past_sent, Ticked};
+ghost use Rattle.world_core.specs.Pasts.{HasPast, OpenedWith};
+ghost use Rattle.world_facts.specs.Refines.{LogFacts, LivesOk, logs_at, past_sent, Ticked};
 ghost use Rattle.world_facts.specs.NodeRules.{node_facts};
 ghost use Rattle.world_facts.specs.AnyRules.{any_facts, log_opened, log_before};
 
@@ -20,15 +20,15 @@ ghost use Rattle.world_facts.specs.AnyRules.{any_facts, log_opened, log_before};
 /// of its sender's durable log is true, and no log shows a later run or another plan.
 pub fn facts_of_legal_traces()
     ensures { (script : List ℕ → Tree) (plan : Plan) (asked : List Asked) (t : Trace) (logs : NodeId → List Effect) (front rest : List Entry) →
-        (past : HasPast script logs) → Agrees t.opened logs → Legal script plan asked t → t.entries ≡ front ++ rest →
-        Facts (node_facts script) (base_of script plan t) (logs_at logs (walk (base_of script plan t) front)) (past_sent script past.0) (sent_by (walk (base_of script plan t) front)) (Ticked past.0 front) }
+        (past : HasPast script logs) → OpenedWith t.opened logs → Legal script plan asked t → t.entries ≡ front ++ rest →
+        LogFacts (node_facts script) (base_of script plan t) (logs_at logs (walk (base_of script plan t) front)) (past_sent script past.0) (sent_by (walk (base_of script plan t) front)) (Ticked past.0 front) }
 {}
 
 /// The same of the whole lives of the nodes there, with the effects, messages and minds that no gate has
 /// closed yet.
 pub fn facts_of_whole_lives()
     ensures { (script : List ℕ → Tree) (plan : Plan) (asked : List Asked) (t : Trace) (logs : NodeId → List Effect) (front rest : List Entry) →
-        (past : HasPast script logs) → Agrees t.opened logs → Legal script plan asked t → t.entries ≡ front ++ rest →
+        (past : HasPast script logs) → OpenedWith t.opened logs → Legal script plan asked t → t.entries ≡ front ++ rest →
         LivesOk (node_facts script) (base_of script plan t) (logs_at logs (walk (base_of script plan t) front)) (past_sent script past.0) (Ticked past.0 front) (walk (base_of script plan t) front) }
 {}
 
@@ -37,6 +37,6 @@ pub fn facts_of_whole_lives()
 /// sent is what its attempts of this run ask for.
 pub fn facts_of_any_trace()
     ensures { (script : List ℕ → Tree) (plan : Plan) (asked : List Asked) (t : Trace) (front rest : List Entry) → Legal script plan asked t → t.entries ≡ front ++ rest →
-        Facts (any_facts script (base_of script plan t).run (base_of script plan t).acts (log_before t)) (base_of script plan t) (logs_at (log_opened t) (walk (base_of script plan t) front)) [] (sent_by (walk (base_of script plan t) front))
+        LogFacts (any_facts script (base_of script plan t).run (base_of script plan t).acts (log_before t)) (base_of script plan t) (logs_at (log_opened t) (walk (base_of script plan t) front)) [] (sent_by (walk (base_of script plan t) front))
         (λ moment. Has (Tick moment) front) }
 {}

@@ -1,5 +1,5 @@
 use Rattle.message_core.specs.Flights.{start}
-use Rattle.message_core.specs.Tallies.{blank_ledger}
+use Rattle.message_core.specs.Tallies.{blank_tally}
 use Rattle.message_core.proofs.TallyLemmas.{tallied_start, tallied_step, tallied_flown, front-due, empty-taken}
 use Rattle.message_core.proofs.laws.copies_counted.Goals as goal
 
@@ -10,7 +10,7 @@ pub returns-clause-step : goal.returns-clause-step
 returns-clause-step c = tallied_step
 
 pub returns-clause-whole : goal.returns-clause-whole
-returns-clause-whole c = λ nodes calls. tallied_flown (start nodes) blank_ledger calls (tallied_start nodes)
+returns-clause-whole c = λ nodes calls. tallied_flown (start nodes) blank_tally calls (tallied_start nodes)
 
 pub returns-clause-front : goal.returns-clause-front
 returns-clause-front c = front-due

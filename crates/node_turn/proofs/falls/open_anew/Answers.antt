@@ -5,7 +5,7 @@ use Rattle.wire_lock.proofs.SightLemmas.{up-known}
 use Rattle.node_turn.specs.Costs.{costs, PaysFor}
 use Rattle.node_turn.proofs.CostLemmas.{pays-none}
 use Rattle.node_turn.proofs.LifeLemmas.{on-ok, on-err, stored-looked}
-use Rattle.node_turn.proofs.TrailLemmas.{trail-none, trail-looked, trail-added, trail-cost}
+use Rattle.node_turn.proofs.TrailLemmas.{trail-none, trail-looked, trail-added, trail-cost, grew-added}
 use Rattle.node_turn.proofs.FallLemmas.{crash-few, up-crashed, stored-reopened, struck-reopened, opening-cause, opening-pays, opening-dear}
 use Rattle.node_turn.proofs.falls.open_anew.Goals as goal
 
@@ -73,3 +73,9 @@ returns-in-Some-clause-dear g c = λ told ne.
     let t = c.go_down-pass.ensures.trail in
     subst (λ (x : ℕ). costs (knows c.args.pass).own < x) (sym (trail-cost t.3))
     (opening-dear c.requires.struck c.reopen-core.ensures c.in-Err.fault c.in-Some.cause (costs (knows c.args.pass).own) t.0 c.in-Err.is (sym c.down_cause.ensures ∙ c.in-Some.is) (t.2 ne) told)
+
+pub returns-in-Ok-noted-clause-grew : goal.returns-in-Ok-noted-clause-grew
+returns-in-Ok-noted-clause-grew g c = λ w. grew-added (on-ok _ _ _ c.in-Ok-noted.is c.note_crash-pass.ensures.ok).added
+
+pub returns-in-Some-clause-grew : goal.returns-in-Some-clause-grew
+returns-in-Some-clause-grew g c = λ w. absurd (c.go_down-pass.ensures.stops w)

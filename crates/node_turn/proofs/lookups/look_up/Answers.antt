@@ -1,6 +1,6 @@
 use Rattle.std.proofs.Common.{◌≡◌, ◌∙◌, refl, sym, ap, subst, [], ◌∷◌, ◌++◌, inl, inr, Bool, ℕ, true, false}
 use Rattle.seat_lock.specs.Words.{knows}
-use Rattle.world_core.specs.Walks.{Life, whole}
+use Rattle.world_core.specs.Walks.{Life, all_effects}
 use Rattle.world_core.specs.Nodes.Input.{Learning}
 use Rattle.wire_core.specs.Boards.{place_of}
 use Rattle.wire_lock.specs.Decisions.{Decided}
@@ -87,5 +87,5 @@ returns-in-Ok-clause-seeks g c =
       tested = (place_of c.args.stamp, t.number) ∷ [];
       trail = trail-joins (trail-tested c.args.node c.requires.up.own c.requires.pass.own t) (trail-added c.args.node (d ∷ []) 0 u.own c.decided.ensures.pass.own refl refl refl v.added);
       found = all-found ((place_of c.args.stamp, t.number) ∷ []) d (found-one c.args.stamp t.number c.in-Some.committed (sym c.in-Some.is ∙ t.tells));
-      says = sought-learnt c.added.result (λ told. inl (subst (λ (l : Life). is_known (whole l) c.args.stamp ≡ true) (sym (v.lives told)) (told-knows (base_at (knows c.decided.new.pass)) c.args.node (life_at (knows c.decided.new.pass) c.args.node) c.args.stamp c.in-Some.committed c.requires.repository)));
+      says = sought-learnt c.added.result (λ told. inl (subst (λ (l : Life). is_known (all_effects l) c.args.stamp ≡ true) (sym (v.lives told)) (told-knows (base_at (knows c.decided.new.pass)) c.args.node (life_at (knows c.decided.new.pass) c.args.node) c.args.stamp c.in-Some.committed c.requires.repository)));
     }

@@ -2,7 +2,7 @@ use Rattle.std.proofs.Common.{◌≡◌, ◌∙◌, refl, sym, ap, subst, [], ar
 use Rattle.std.proofs.lemmas.Bool.Decides.{nat_tests}
 use Rattle.std.specs.Prelude.{IsTrue}
 use Rattle.seat_lock.specs.Words.{knows}
-use Rattle.world_core.specs.Walks.{whole}
+use Rattle.world_core.specs.Walks.{all_effects}
 use Rattle.wire_lock.specs.Sights.{life_at}
 use Rattle.turn_form.specs.declared.turns.Out.{Out}
 use Rattle.node_turn.specs.Trails.{stamp_asked}
@@ -19,7 +19,7 @@ loop-index-init g c = record {
   up = c.requires.up;
   durable = refl;
   unwritten = unwritten-none _ _ _ _;
-  seeks = seeks-none c.args.node (knows c.args.pass) _ (λ told. sought-none (whole (life_at (knows c.args.pass) c.args.node)) c.args.draft.now.outs);
+  seeks = seeks-none c.args.node (knows c.args.pass) _ (λ told. sought-none (all_effects (life_at (knows c.args.pass) c.args.node)) c.args.draft.now.outs);
 }
 
 pub returns-in-Err-clause-seeks : goal.returns-in-Err-clause-seeks
@@ -36,7 +36,7 @@ loop-index-preserved g c =
       unwritten = unwritten-joins before.unwritten e.unwritten;
       seeks = seeks-joins c.args.node before.seeks e.seeks (λ t u p q told.
           sought-next c.loop-index.index c.loop-index.draft.outs c.look_up_asked-back.new.draft.outs c.index-outs-index.result c.stamp_asked-asked.result
-          (whole (life_at (knows c.loop-index.pass) c.args.node)) (whole (life_at (knows c.look_up_asked-back.result.0) c.args.node)) t u
+          (all_effects (life_at (knows c.loop-index.pass) c.args.node)) (all_effects (life_at (knows c.look_up_asked-back.result.0) c.args.node)) t u
           (subst (λ (l : List Out). c.loop-index.index < length l) c.outs.ensures c.loop-index-test.true)
           (c.stamp_asked-asked.ensures ∙ ap stamp_asked (c.index-outs-index.is ∙ ap (λ (l : List Out). get_or l c.loop-index.index c.index-outs-index.result) c.outs-in-loop-index.ensures))
           (on-ok _ _ _ c.in_default.is e.more) (e.log told) (p told) ((on-ok _ _ _ c.in_default.is q) told));

@@ -40,3 +40,6 @@ returns-in-Damaged-clause-paid g c = λ before rose le.
 
 pub returns-in-Damaged-clause-dear : goal.returns-in-Damaged-clause-dear
 returns-in-Damaged-clause-dear g c = λ told ne. absurd ((rw c.in-Damaged.is at c.requires.after).1 told)
+
+pub returns-in-Damaged-clause-grew : goal.returns-in-Damaged-clause-grew
+returns-in-Damaged-clause-grew g c = λ w. absurd (c.go_down-pass.ensures.stops w)

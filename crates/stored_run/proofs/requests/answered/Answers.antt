@@ -2,7 +2,7 @@ use Rattle.std.proofs.Common.{◌≡◌, [], ◌∷◌, Some, ap, ◌∙◌}
 use Rattle.effect_form.specs.declared.effects.Effect.TheVariants as effect
 use Rattle.value_form.specs.declared.endings.Ending.{Ending}
 use Rattle.script_meaning.specs.Meaning.{Over}
-use Rattle.script_run.specs.Told.{stop_of}
+use Rattle.script_run.specs.RunParts.{stop_of}
 use Rattle.version_store.specs.StoreWords.{medium_of}
 use Rattle.stored_run.specs.Growth.{stretch_if, stretches}
 use Rattle.stored_run.specs.Media.{held}

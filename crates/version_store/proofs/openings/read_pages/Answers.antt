@@ -8,7 +8,7 @@ use Rattle.effect_form.specs.declared.effects.Effect.{Effect}
 use Rattle.effect_form.specs.Effects.{AreEffects}
 use Rattle.version_store.specs.declared.faults.OpenFault.TheVariants as faults
 use Rattle.version_store.specs.Found.{reading_of}
-use Rattle.version_store.specs.Heads.{Heads, Stands}
+use Rattle.version_store.specs.Heads.{Heads, IsFound}
 use Rattle.version_store.specs.Storage.{Content, content_of, Reading, Damaged, next}
 use Rattle.version_store.proofs.ScanLemmas.{scan_more, scan_damaged}
 use Rattle.version_store.proofs.OpenLemmas.{reached_more}
@@ -22,11 +22,11 @@ cond_low true m n le = le
 cond_low false m n le = omega arith
 
 module _ (b : Bool) (reading : Reading) (ended : Bool) (heads : Heads) (effects : List Effect) (page : ℕ) where
-  when_good : b ≡ true → MatchBool b ((more : Content) × (reading ≡ reading_of ended more) × Stands heads effects more.log) (reading ≡ Damaged page) → (more : Content) × (reading ≡ reading_of ended more) × Stands heads effects more.log
-  when_good is met = subst (λ (q : Bool). MatchBool q ((more : Content) × (reading ≡ reading_of ended more) × Stands heads effects more.log) (reading ≡ Damaged page)) is met
+  when_good : b ≡ true → MatchBool b ((more : Content) × (reading ≡ reading_of ended more) × IsFound heads effects more.log) (reading ≡ Damaged page) → (more : Content) × (reading ≡ reading_of ended more) × IsFound heads effects more.log
+  when_good is met = subst (λ (q : Bool). MatchBool q ((more : Content) × (reading ≡ reading_of ended more) × IsFound heads effects more.log) (reading ≡ Damaged page)) is met
 
-  when_bad : b ≡ false → MatchBool b ((more : Content) × (reading ≡ reading_of ended more) × Stands heads effects more.log) (reading ≡ Damaged page) → reading ≡ Damaged page
-  when_bad is met = subst (λ (q : Bool). MatchBool q ((more : Content) × (reading ≡ reading_of ended more) × Stands heads effects more.log) (reading ≡ Damaged page)) is met
+  when_bad : b ≡ false → MatchBool b ((more : Content) × (reading ≡ reading_of ended more) × IsFound heads effects more.log) (reading ≡ Damaged page) → reading ≡ Damaged page
+  when_bad is met = subst (λ (q : Bool). MatchBool q ((more : Content) × (reading ≡ reading_of ended more) × IsFound heads effects more.log) (reading ≡ Damaged page)) is met
 
 pub returns-then-not-good-clause-damaged : goal.returns-then-not-good-clause-damaged
 returns-then-not-good-clause-damaged g c told size page is =
@@ -75,5 +75,5 @@ loop-page-preserved g c = record {
       let now = c.add_state.new.found in
       let good = when_good c.in-Ok-add_state.good (next (reading_of f.ended was.content) i c.in-Ok.state) now.ended now.heads now.effects.items i c.if-not-good.false (c.in-Ok-add_state.ensures.found was.content was.stands) in
       reached_more r i f.heads now.heads f.effects.items now.effects.items f.next now.next f.ended now.ended within was
-      (subst (λ (s : PageState). (more : Content) × (next (reading_of f.ended was.content) i s ≡ reading_of now.ended more) × Stands now.heads now.effects.items more.log) read good) (c.in-Ok-add_state.ensures.next c.if-not-good.false);
+      (subst (λ (s : PageState). (more : Content) × (next (reading_of f.ended was.content) i s ≡ reading_of now.ended more) × IsFound now.heads now.effects.items more.log) read good) (c.in-Ok-add_state.ensures.next c.if-not-good.false);
 }

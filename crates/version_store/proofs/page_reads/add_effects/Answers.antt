@@ -4,7 +4,7 @@ use Rattle.std.specs.Borrow.{Bor}
 use Rattle.std.proofs.lemmas.Bool.Decides.{nat_tests}
 use Rattle.effect_form.specs.declared.effects.Effect.{Effect}
 use Rattle.version_store.specs.Entries.{Log}
-use Rattle.version_store.specs.Heads.{Heads, Stands}
+use Rattle.version_store.specs.Heads.{Heads, IsFound}
 use Rattle.version_store.proofs.ReadLemmas.{page_stops, page_goes}
 use Rattle.version_store.proofs.page_reads.add_effects.Goals as goal
 
@@ -12,11 +12,11 @@ some_left : (n : ℕ) (b : Bool) → b ≡ (n == 0) → b ≡ false → 1 ≤ n
 some_left n b is other = grind (arith, nat_tests)
 
 module _ (o : Option (Bor (List ℕ))) (reading : Option (Log × List ℕ)) (heads : Heads) (effects : List Effect) where
-  at_none : o ≡ None → MatchOption o (reading ≡ None) (λ rest. (more : Log) × (reading ≡ Some (more, rest.now)) × Stands heads effects more) → reading ≡ None
-  at_none is met = subst (λ (q : Option (Bor (List ℕ))). MatchOption q (reading ≡ None) (λ rest. (more : Log) × (reading ≡ Some (more, rest.now)) × Stands heads effects more)) is met
+  at_none : o ≡ None → MatchOption o (reading ≡ None) (λ rest. (more : Log) × (reading ≡ Some (more, rest.now)) × IsFound heads effects more) → reading ≡ None
+  at_none is met = subst (λ (q : Option (Bor (List ℕ))). MatchOption q (reading ≡ None) (λ rest. (more : Log) × (reading ≡ Some (more, rest.now)) × IsFound heads effects more)) is met
 
-  at_some : (rest : Bor (List ℕ)) → o ≡ Some rest → MatchOption o (reading ≡ None) (λ rest. (more : Log) × (reading ≡ Some (more, rest.now)) × Stands heads effects more) → (more : Log) × (reading ≡ Some (more, rest.now)) × Stands heads effects more
-  at_some rest is met = subst (λ (q : Option (Bor (List ℕ))). MatchOption q (reading ≡ None) (λ rest. (more : Log) × (reading ≡ Some (more, rest.now)) × Stands heads effects more)) is met
+  at_some : (rest : Bor (List ℕ)) → o ≡ Some rest → MatchOption o (reading ≡ None) (λ rest. (more : Log) × (reading ≡ Some (more, rest.now)) × IsFound heads effects more) → (more : Log) × (reading ≡ Some (more, rest.now)) × IsFound heads effects more
+  at_some rest is met = subst (λ (q : Option (Bor (List ℕ))). MatchOption q (reading ≡ None) (λ rest. (more : Log) × (reading ≡ Some (more, rest.now)) × IsFound heads effects more)) is met
 
 less_at : (o : Option (Bor (List ℕ))) (rest : Bor (List ℕ)) (n : ℕ) → o ≡ Some rest → MatchOption o (Unit {0}) (λ rest. length rest.now ≤ n) → length rest.now ≤ n
 less_at o rest n is met = subst (λ (q : Option (Bor (List ℕ))). MatchOption q (Unit {0}) (λ rest. length rest.now ≤ n)) is met

@@ -1,7 +1,7 @@
 use Rattle.std.proofs.Common.{◌≤◌, ◌<◌, ℕ, length}
 use Rattle.version_store.specs.Entries.{Log}
 use Rattle.effect_form.specs.Effects.{AreEffects}
-use Rattle.version_store.specs.Heads.{AreBelow, ArePlaces, Stands}
+use Rattle.version_store.specs.Heads.{AreBelow, ArePlaces, IsFound}
 use Rattle.version_store.proofs.ReadLemmas.{SoFar}
 use Rattle.version_store.proofs.page_reads.add_effects.Given as goal
 
@@ -11,5 +11,5 @@ invariant-loop l = record {
   places : ArePlaces l.heads;
   below : (limit : ℕ) → l.page < limit → AreBelow limit l.fn.heads → AreBelow limit l.heads;
   ranges : AreEffects l.fn.effects.items → AreEffects l.effects.items;
-  content : (log : Log) → Stands l.fn.heads l.fn.effects.items log → SoFar log l.page l.texts l.counter l.rest l.heads l.effects.items;
+  content : (log : Log) → IsFound l.fn.heads l.fn.effects.items log → SoFar log l.page l.texts l.counter l.rest l.heads l.effects.items;
 }

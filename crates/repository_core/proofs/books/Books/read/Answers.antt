@@ -1,14 +1,14 @@
 use Rattle.std.proofs.Common.{List, subst, sym}
 use Rattle.object_history.specs.declared.marks.Mark.{Mark}
 use Rattle.repository_core.specs.Logs.{read_by}
-use Rattle.repository_log.specs.Lookups.{Agrees}
+use Rattle.repository_log.specs.Lookups.{BooksShow}
 use Rattle.repository_core.proofs.BookLemmas.{since_read, agree-read}
 use Rattle.repository_core.proofs.books.Books.read.Goals as goal
 
 pub returns-clause-agree : goal.returns-clause-agree
 returns-clause-agree g c = λ pending log a.
     let b = c.args.self.now in
-    subst (λ (m : List Mark). Agrees pending (read_by log c.args.object c.args.at c.in_ok-step.step) m b.records b.early.entries) (sym c.in_ok-step.ensures.grown)
+    subst (λ (m : List Mark). BooksShow pending (read_by log c.args.object c.args.at c.in_ok-step.step) m b.records b.early.entries) (sym c.in_ok-step.ensures.grown)
     (agree-read pending log (g.H.Histories.content b.histories) b.records b.early.entries c.args.object c.args.at c.in_ok-step.step a)
 
 pub returns-clause-since : goal.returns-clause-since

@@ -1,14 +1,14 @@
 use Rattle.std.proofs.Common.{List, subst, sym}
 use Rattle.object_history.specs.declared.marks.Mark.{Mark}
 use Rattle.repository_core.specs.Logs.{wrote}
-use Rattle.repository_log.specs.Lookups.{Agrees}
+use Rattle.repository_log.specs.Lookups.{BooksShow}
 use Rattle.repository_core.proofs.BookLemmas.{since_write, agree-write}
 use Rattle.repository_core.proofs.books.Books.write.Goals as goal
 
 pub returns-clause-agree : goal.returns-clause-agree
 returns-clause-agree g c = λ pending log a.
     let b = c.args.self.now in
-    subst (λ (m : List Mark). Agrees pending (wrote log c.args.object c.args.at c.args.value.now c.in_ok-step.step) m b.records b.early.entries) (sym c.in_ok-step.ensures.grown)
+    subst (λ (m : List Mark). BooksShow pending (wrote log c.args.object c.args.at c.args.value.now c.in_ok-step.step) m b.records b.early.entries) (sym c.in_ok-step.ensures.grown)
     (agree-write pending log (g.H.Histories.content b.histories) b.records b.early.entries c.args.object c.args.at c.args.value.now c.in_ok-step.step a)
 
 pub returns-clause-since : goal.returns-clause-since

@@ -1,7 +1,7 @@
 use Rattle.std.proofs.Common.{subst, sym}
 use Rattle.value_form.specs.ObjectBytes.{IsObject}
 use Rattle.pseudo_time.specs.TimeParts.{time_cmp}
-use Rattle.repository_core.specs.declared.waits.Held.{Held}
+use Rattle.repository_core.specs.declared.waits.HeldRead.{HeldRead}
 use Rattle.repository_core.specs.Ranges.{AreHeld}
 use Rattle.repository_core.proofs.HeldLemmas.{every-insert}
 use Rattle.repository_core.proofs.drafts.Draft.keep.Goals as goal
@@ -13,7 +13,7 @@ pub invariant_of-self-2 : goal.invariant_of-self-2
 invariant_of-self-2 c = (
   c.self.invariant.0,
   subst AreHeld (sym c.in_ok-insert.ensures.entries)
-      (every-insert (λ (x : Held). IsObject x.object) time_cmp c.self.inside.held.entries c.args.at c.args.held c.requires c.self.invariant.1),
+      (every-insert (λ (x : HeldRead). IsObject x.object) time_cmp c.self.inside.held.entries c.args.at c.args.held c.requires c.self.invariant.1),
   c.self.invariant.2,
   c.self.invariant.3,
 )

@@ -1,5 +1,5 @@
 use Rattle.std.proofs.Common.{sym, subst}
-use Rattle.script_run.specs.Told.{Tells}
+use Rattle.script_run.specs.RunParts.{Tells}
 use Rattle.script_run.proofs.RunLemmas.{told_tells}
 use Rattle.script_run.proofs.runs.Run.next.Goals as goal
 

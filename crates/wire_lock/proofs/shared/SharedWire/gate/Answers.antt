@@ -7,7 +7,7 @@ use Rattle.wire_lock.specs.Sights.{base_at}
 use Rattle.wire_lock.proofs.SightLemmas.{finds, origin-of, entries-in, story-of, lock-origin, looked-of}
 use Rattle.std.specs.List.{filter}
 use Rattle.world_core.specs.Nodes.{leaves}
-use Rattle.world_core.specs.Walks.{whole}
+use Rattle.world_core.specs.Walks.{all_effects}
 use Rattle.wire_core.specs.Wires.{base_from}
 use Rattle.wire_lock.specs.Decisions.{posted, decided_by}
 use Rattle.wire_lock.proofs.SightLemmas.{pass-origin, gated-of, gate-kept, all-posted}
@@ -30,7 +30,7 @@ pub gate-requires-clause-owed : goal.gate-requires-clause-owed
 gate-requires-clause-owed g c =
     let x = c.enter-visit.ensures.value in
     let s = finds c.args.self.now.lock c.args.pass x.0 c.value.result.now _ c.requires.pass x.2 x.3 c.enter-visit.ensures.carries (c.value.ensures.value x.0 x.1) in
-    λ t. c.requires.owed t ∙ ap (λ (l : Life). filter (leaves (whole l)) l.outs) (sym (ap (λ (w : World). w.life c.args.node) s.world ∙ s.before.life c.args.node c.requires.node))
+    λ t. c.requires.owed t ∙ ap (λ (l : Life). filter (leaves (all_effects l)) l.outs) (sym (ap (λ (w : World). w.life c.args.node) s.world ∙ s.before.life c.args.node c.requires.node))
 
 pub leave-requires : goal.leave-requires
 leave-requires g c =

@@ -4,7 +4,7 @@ use Rattle.seat_lock.specs.Words.{knows, sees}
 use Rattle.world_core.specs.declared.entries.Entry.{Entry}
 use Rattle.world_core.specs.declared.entries.Entry.TheVariants.{Learn}
 use Rattle.world_core.specs.Walks.{World, Flags}
-use Rattle.world_core.specs.Legal.{Stands}
+use Rattle.world_core.specs.Legal.{IsDecidedAs}
 use Rattle.wire_lock.specs.Sights.{base_at}
 use Rattle.wire_lock.proofs.SightLemmas.{finds, origin-of, entries-in, story-of, lock-origin, noted-kept, looked-of, visited-of, stands-later}
 use Rattle.wire_lock.proofs.shared.SharedWire.learn.Goals as goal
@@ -19,7 +19,7 @@ pub learn-requires-clause-stands : goal.learn-requires-clause-stands
 learn-requires-clause-stands g c =
     let x = c.enter-visit.ensures.value in
     let s = finds c.args.self.now.lock c.args.pass x.0 c.value.result.now _ c.requires.pass x.2 x.3 c.enter-visit.ensures.carries (c.value.ensures.value x.0 x.1) in
-    λ t. subst (λ (w : World). Stands w c.args.stamp c.args.committed) (sym s.world) (stands-later (base_at (knows c.args.pass)) _ _ c.args.stamp c.args.committed c.enter-visit.ensures.carries.begins (c.requires.stands t))
+    λ t. subst (λ (w : World). IsDecidedAs w c.args.stamp c.args.committed) (sym s.world) (stands-later (base_at (knows c.args.pass)) _ _ c.args.stamp c.args.committed c.enter-visit.ensures.carries.begins (c.requires.stands t))
 
 pub leave-requires : goal.leave-requires
 leave-requires g c =

@@ -15,7 +15,7 @@ use Rattle.script_run.specs.declared.nexts.Next.{Next}
 use Rattle.script_run.specs.declared.nexts.Next.TheVariants as next
 
 -- a run, as its callers see it
-pub record Told : Type 0 where
+pub record RunParts : Type 0 where
   pub script : List Stmt
   -- the answers that it was given, in order
   pub answers : List Answer
@@ -24,11 +24,11 @@ pub record Told : Type 0 where
   pub said : Option Next
 
 -- a run that begins
-abbrev pub begun : List Stmt → Told
+abbrev pub begun : List Stmt → RunParts
 begun script = record { script = script; answers = []; lines = []; said = None }
 
 -- a run once it was given an answer, which shows in this line
-abbrev pub answered : Told → Answer → Line → Told
+abbrev pub answered : RunParts → Answer → Line → RunParts
 answered t a l = record { script = t.script; answers = t.answers ++ a ∷ []; lines = t.lines ++ l ∷ []; said = None }
 
 abbrev pub IsRead : Option Next → Type 0
@@ -68,7 +68,7 @@ answer_back Stored = refl
 abbrev answer_code : Coded Answer
 answer_code = code_by (Option Value) (coded_option value.the_row.coded) value_in answer_with answer_back
 
-abbrev pub told_code : Coded Told
+abbrev pub told_code : Coded RunParts
 told_code = code_by (List Stmt × (List Answer × (List Line × Option Next)))
     (coded× (coded_list statement.the_row.coded) (coded× (coded_list answer_code) (coded× (coded_list written.the_row.coded) (coded_option said.the_row.coded))))
     (λ t. (t.script, (t.answers, (t.lines, t.said))))
