@@ -130,7 +130,7 @@ impl<M: Medium> StoredCore<M> for BrokerCore<M> {
             broker,
             log,
         } = self;
-        match open_again(alloc, medium_of(log)) {
+        match open_again(alloc, medium_from(log)) {
             Err((medium, fault)) => {
                 let core = BrokerCore {
                     number,
@@ -176,7 +176,7 @@ impl<M: Medium> StoredCore<M> for BrokerCore<M> {
             broker: _,
             log,
         } = self;
-        medium_of(log)
+        medium_from(log)
     }
 }
 
@@ -190,7 +190,7 @@ impl<M: Medium> BrokerCore<M> {
 }
 
 // The medium.
-fn medium_of<M: Medium>(log: Log<M>) -> M
+fn medium_from<M: Medium>(log: Log<M>) -> M
     ensures { result ≡ medium_in log }
 {
     match log {

@@ -1,11 +1,13 @@
 -- Where a repository's core stands.
-use Rattle.std.specs.Prelude.{◌≡◌, Bool, true, false, List, ◌++◌}
+use Rattle.std.specs.Prelude.{◌≡◌, Bool, true, false, List, [], ◌++◌}
 use Rattle.pseudo_time.specs.declared.nodes.NodeId.{NodeId}
 use Rattle.medium_port.specs.Image.{Image}
 use Rattle.effect_form.specs.declared.effects.Effect.{Effect}
 use Rattle.version_store.specs.StoreWords.{medium_of}
+use Rattle.object_history.specs.declared.marks.Mark.{Mark}
+use Rattle.object_header.specs.Ledgers.{content}
 use Rattle.object_header.specs.Tables.{ledger_of, store_of}
-use Rattle.repository_core.specs.Cores.{Core}
+use Rattle.repository_core.specs.Cores.{Core, HasMarks}
 use Rattle.world_core.specs.Cores.{IsRepository}
 use Rattle.world_core.specs.Nodes.{Mind}
 use Rattle.world_core.specs.Walks.{Life, all_effects}
@@ -30,3 +32,17 @@ HasLife (Shut medium) n l = ⊥
 abbrev pub Owes : {M : Type 0} {g : _} → Book M g → List Effect → Type 0
 Owes (Open core) effects = core.log ≡ (ledger_of core.histories).log ++ effects
 Owes (Shut medium) effects = ⊥
+
+-- the marks of its histories, newest first
+abbrev pub marks_in : {M : Type 0} {g : _} → Book M g → List Mark
+marks_in (Open core) = content (ledger_of core.histories)
+marks_in (Shut medium) = []
+
+-- the log of its core, oldest first
+abbrev pub log_in : {M : Type 0} {g : _} → Book M g → List Effect
+log_in (Open core) = core.log
+log_in (Shut medium) = []
+
+-- where no call of its core has failed, the histories have the marks of the core's log
+abbrev pub HasMarksOfLog : {M : Type 0} {g : _} → Book M g → Type 0
+HasMarksOfLog book = is_able book ≡ true → HasMarks (marks_in book) (log_in book)

@@ -127,8 +127,15 @@ impl<M: Medium> StoredCore<M> for RepositoryCore<M> {
             start,
             book,
         } = self;
-        match open_again(alloc, medium_of(book)) {
-            Err((medium, fault)) => (shut(number, start, medium), Err(fault)),
+        match open_again(alloc, medium_from(book)) {
+            Err((medium, fault)) => {
+                let core = RepositoryCore {
+                    number,
+                    start,
+                    book: Book::Shut(medium),
+                };
+                (core, Err(fault))
+            },
             Ok((store, effects)) => match open_core(
                 alloc,
                 number,
@@ -136,7 +143,14 @@ impl<M: Medium> StoredCore<M> for RepositoryCore<M> {
                 store,
                 effects.as_slice(),
             ) {
-                Err(medium) => (shut(number, start, medium), Err(OpenFault::NoMemory)),
+                Err(medium) => {
+                    let core = RepositoryCore {
+                        number,
+                        start,
+                        book: Book::Shut(medium),
+                    };
+                    (core, Err(OpenFault::NoMemory))
+                },
                 Ok(core) => {
                     let core = RepositoryCore {
                         number,
@@ -155,12 +169,12 @@ impl<M: Medium> StoredCore<M> for RepositoryCore<M> {
             start: _,
             book,
         } = self;
-        medium_of(book)
+        medium_from(book)
     }
 }
 
 // The medium.
-fn medium_of<M: Medium>(book: Book<M>) -> M
+fn medium_from<M: Medium>(book: Book<M>) -> M
     ensures { result ≡ medium_in book }
 {
     match book {

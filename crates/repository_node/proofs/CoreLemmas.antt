@@ -1,0 +1,100 @@
+-- What a repository's core and the store beside it say of a life.
+use Rattle.std.proofs.Common.{◌≡◌, ℕ, ◌≤◌, ◌++◌, Bool, true, false, List, [], length, reverse, Option, Some, None, is_some, Result, Ok, Err, IsTrue, IfOk, IfErr, OnOk, is_ok, refl, sym, ap, subst, ◌∙◌, append_assoc}
+use Rattle.std.specs.declared.alloc.AllocError.{AllocError}
+use Rattle.std.proofs.lemmas.List.{append-nil}
+use Rattle.pseudo_time.specs.StampParts.{StampParts}
+use Rattle.pseudo_time.specs.Nodes.{repository}
+use Rattle.pseudo_time.specs.declared.nodes.NodeId.{NodeId}
+use Rattle.medium_port.specs.Image.{Image, NoMore}
+use Rattle.effect_form.specs.declared.effects.Effect.{Effect}
+use Rattle.turn_form.specs.declared.turns.Turn.{Turn}
+use Rattle.version_store.specs.Entries.{effects_of}
+use Rattle.version_store.specs.Settled.{IsSettled}
+use Rattle.version_store.specs.Storage.{storage, effects_found, log_of}
+use Rattle.object_history.specs.declared.marks.Mark.{Mark}
+use Rattle.object_history.specs.declared.steps.HistoryFault.{HistoryFault}
+use Rattle.repository_log.specs.Logs.{knows, known, HasMarks}
+use Rattle.repository_log.proofs.MarkLemmas.{knows-known}
+use Rattle.object_header.specs.Ledgers.{told_image}
+use Rattle.repository_core.specs.Cores.{Core, given}
+use Rattle.repository_core.specs.Turns as turns
+use Rattle.world_core.specs.Cores.{IsRepository, RepositoryGave}
+use Rattle.world_core.specs.Nodes.{Input, repository_gives, with_hands, opened_mind}
+use Rattle.world_core.specs.Walks.{Base, Life, all_effects, opened_life, gated_life, after_input}
+use Rattle.world_core.proofs.CoreTurns.{repository-answers}
+use Rattle.trace_logs.proofs.MarkLemmas.{knows-reverse}
+use Rattle.node_turn.specs.Cores.{LeavesLog, HasTurn, given_for}
+
+-- ---- turns
+
+-- the turn is what the rules give, and the core has the life after it
+pub gave-repository : {H : Type 0} (b : Base) (n : NodeId) (l : Life) (r q : Core H) (x : Result Turn HistoryFault) (i : turns.Input) (j : Input)
+    → repository_gives n.number (all_effects l) l.mind j ≡ with_hands l.mind (turns.gives n.number (all_effects l) l.mind.hands i)
+    → IsRepository n (all_effects l) l.mind r → IfOk x (λ t. given t q.mind ≡ turns.gives r.number r.log r.mind i) → IfOk x (λ t. q.log ≡ r.log ++ t.effects) → OnOk x (q.number ≡ r.number)
+    → IfOk x (λ t. HasTurn (given_for b n l j) t × IsRepository n (all_effects (after_input b n l j)) (after_input b n l j).mind q)
+gave-repository b n l r q (Err e) i j same s g log number = tt
+gave-repository {H} b n l r q (Ok t) i j same s g log number =
+    let y : RepositoryGave n (all_effects l) (given_for b n l j) t q = repository-answers b n (all_effects l) l.mind r q (Ok t) (Ok t) i j same s g log number refl in
+    ((y.effects, y.outs), subst (λ l. IsRepository n l (given_for b n l j).mind q) (append_assoc l.gated l.fresh (given_for b n l j).effects) y.stands)
+
+-- after its gate it has the same log
+pub gated-repository : {H : Type 0} (n : NodeId) (l : Life) (r : Core H) → IsRepository n (all_effects l) l.mind r → IsRepository n (all_effects (gated_life l)) l.mind r
+gated-repository n l r s = subst (λ log. IsRepository n log l.mind r) (sym (append-nil (all_effects l))) s
+
+-- what is owed grows by what was given
+pub owed-more : {x : Result Turn HistoryFault} (log stored new new_stored owed : List Effect) → new_stored ≡ stored → log ≡ stored ++ owed → IfOk x (λ t. new ≡ log ++ t.effects)
+    → IfOk x (λ t. new ≡ new_stored ++ (owed ++ t.effects))
+owed-more {Err e} log stored new new_stored owed same is more = tt
+owed-more {Ok t} log stored new new_stored owed same is more = more ∙ ap (λ l. l ++ t.effects) is ∙ append_assoc stored owed t.effects ∙ ap (λ l. l ++ (owed ++ t.effects)) (sym same)
+
+-- what is asked of the log from either end
+pub knows-asked : (log whole : List Effect) (s : StampParts) → log ≡ whole → is_some (known (reverse log) s) ≡ knows whole s
+knows-asked log whole s e = knows-known (reverse log) s ∙ knows-reverse log s ∙ ap (λ l. knows l s) e
+
+-- where the core is whole the call gave a turn, and so the histories have the marks of its log
+pub marked-called : {T E : Type 0} (x : Result T E) (whole : Bool) (P : Type 0) → whole ≡ is_ok x → OnOk x P → whole ≡ true → P
+marked-called (Ok t) whole P is p h = p
+marked-called (Err e) whole P is p h = absurd (let z : false ≡ true = sym is ∙ h in cc z)
+
+pub able-called : {T E : Type 0} (x : Result T E) (whole : Bool) → whole ≡ is_ok x → OnOk x (whole ≡ true)
+able-called (Ok t) whole is = is
+able-called (Err e) whole is = tt
+
+-- ---- openings
+
+-- a core that was opened over a log has the life of a node that was opened with it
+pub opened-repository : {H : Type 0} (b : Base) (i start : ℕ) (log : List Effect) (r : Core H) → b.start ≡ start → r.number ≡ i → r.log ≡ log → r.mind ≡ turns.opened_mind start
+    → IsRepository (repository i) (all_effects (opened_life b.start log)) (opened_mind b.start) r
+opened-repository b i start log r begins number is mind = record {
+  kind = refl;
+  number = number;
+  log = is ∙ sym (append-nil log);
+  mind = mind ∙ ap turns.opened_mind (sym begins);
+}
+
+-- ---- media between two calls
+
+told-same : (tells : Bool) (a b : Image) → tells ≡ true → told_image tells a ≡ told_image tells b → a ≡ b
+told-same true a b t e = some-same e
+  where
+    some-same : {A : Type 0} {x y : A} → ◌≡◌ {A = Option A} (Some x) (Some y) → x ≡ y
+    some-same {A} {x} {y} e = cc e
+told-same false a b t e = absurd (cc t)
+
+ok-same : {A E : Type 0} (x y : A) → ◌≡◌ {A = Result A E} (Ok x) (Ok y) → x ≡ y
+ok-same x y e = cc e
+
+module _ (image : Image) (images : Image → Type 0) (settled : IsSettled image images) where
+  storage-settled : storage image ≡ Ok (effects_of (log_of image))
+  storage-settled = ap effects_found settled.log
+
+  -- what a crash leaves is the log that reads give
+  pub log-left : (log : List Effect) → images image → LeavesLog images log → effects_of (log_of image) ≡ log
+  log-left log now leaves = ok-same (effects_of (log_of image)) log (sym storage-settled ∙ leaves image now)
+
+  pub leaves-log : (log : List Effect) → effects_of (log_of image) ≡ log → LeavesLog images log
+  leaves-log log e c left = ap storage (settled.only c left) ∙ storage-settled ∙ ap (λ (l : List Effect). Ok l) e
+
+-- no image is new where reads give the same
+pub none-new : (old new : Image) (was is : Image → Type 0) → new ≡ old → was old → IsSettled new is → NoMore was is
+none-new old new was is same now settled c left = subst was (sym (settled.only c left ∙ same)) now
