@@ -1,20 +1,15 @@
 -- What a broker's core and the store beside it say of a life.
 use Rattle.std.proofs.Common.{◌≡◌, ℕ, ◌++◌, Bool, true, false, List, [], length, reverse, Option, Some, None, is_none, Result, Ok, Err, IfOk, OnOk, refl, sym, ap, subst, ◌∙◌, append_assoc}
-use Rattle.std.specs.declared.alloc.AllocError.{AllocError}
 use Rattle.std.proofs.lemmas.List.{append-nil}
 use Rattle.pseudo_time.specs.Nodes.{broker}
 use Rattle.pseudo_time.specs.declared.nodes.NodeId.{NodeId}
 use Rattle.pseudo_time.specs.declared.nodes.NodeKind.TheVariants.{Broker}
 use Rattle.value_form.specs.declared.acts.ActSpec.{ActSpec}
-use Rattle.medium_port.specs.Image.{Image}
 use Rattle.effect_form.specs.declared.effects.Effect.{Effect}
 use Rattle.turn_form.specs.declared.turns.Turn.{Turn}
 use Rattle.serial_model.specs.Questions.{Tree}
 use Rattle.version_store.specs.declared.faults.OpenFault.{OpenFault}
 use Rattle.version_store.specs.declared.faults.OpenFault.TheVariants as opening
-use Rattle.version_store.specs.Entries.{effects_of}
-use Rattle.version_store.specs.Settled.{IsSettled}
-use Rattle.version_store.specs.Storage.{storage, entries, effects_found, log_of}
 use Rattle.broker_core.specs.declared.resume_faults.ResumeFault.{ResumeFault}
 use Rattle.broker_core.specs.declared.resume_faults.ResumeFault.TheVariants as resuming
 use Rattle.broker_core.specs.Brokers.{IsLedTo, Gives, Opens, turn_of, is_fresh}
@@ -25,22 +20,22 @@ use Rattle.broker_core.specs.Turns as desks
 use Rattle.world_core.specs.Cores.{IsBroker, BrokerGave}
 use Rattle.world_core.specs.Nodes.{Input, broker_gives, kind_ready, broker_ready, with_desk, desk_after, acts_of, is_ready, opened_mind}
 use Rattle.world_core.specs.Walks.{Base, Life, all_effects, opened_life, gated_life, after_input}
-use Rattle.world_core.proofs.CoreTurns.{broker-answers}
-use Rattle.node_turn.specs.Cores.{LeavesLog, HasTurn, IsReady, given_for}
+use Rattle.world_core.proofs.CoreTurns.{gives-broker, broker-gave}
+use Rattle.node_turn.specs.Cores.{HasTurn, IsReady, given_for}
 use Rattle.broker_node.specs.Logs.{as_damage}
 
 -- ---- turns
 
 -- the turn is what the rules give, and the broker has the life after it
-pub gave-broker : (b : Base) (n : NodeId) (l : Life) (p q : BrokerParts) (x : Result Turn AllocError) (i : desks.Input) (j : Input) (t : Turn) → x ≡ Ok t
+pub gave-broker : (b : Base) (n : NodeId) (l : Life) (p q : BrokerParts) (i : desks.Input) (j : Input) (t : Turn)
     → broker_gives b.script b.run b.acts n.number (all_effects l) l.mind j ≡ with_desk l.mind (desk_after b.script b.run b.acts n.number (all_effects l) l.mind i)
-    → IsBroker b n (all_effects l) l.mind p → ((script : List ℕ → Tree) (log : List Effect) → Scripted script p.acts → IsLedTo script log p → IfOk x (λ u. Gives script log (turn_of script p log i) u q))
-    → q.number ≡ p.number → q.run ≡ p.run → q.acts ≡ p.acts
-    → HasTurn (given_for b n l j) t × IsBroker b n (all_effects (after_input b n l j)) (after_input b n l j).mind q
-gave-broker b n l p q x i j t ok same s g number run acts =
-    let y : BrokerGave b n (all_effects l) (given_for b n l j) t q =
-    subst (λ r. IfOk r (λ u. BrokerGave b n (all_effects l) (given_for b n l j) u q)) ok (broker-answers b n (all_effects l) l.mind p q x i j same s g number run acts) in
-    ((y.effects, y.outs), subst (λ log. IsBroker b n log (given_for b n l j).mind q) (append_assoc l.gated l.fresh (given_for b n l j).effects) y.stands)
+    → IsBroker b n (all_effects l) l.mind p → ((script : List ℕ → Tree) (log : List Effect) → Scripted script p.acts → IsLedTo script log p → Gives script log (turn_of script p log i) t q)
+    → q.number ≡ p.number → q.run ≡ p.run → q.acts ≡ p.acts → HasTurn (given_for b n l j) t × IsBroker b n (all_effects (after_input b n l j)) (after_input b n l j).mind q
+gave-broker b n l p q i j t same s g number run acts =
+    let log = all_effects l in
+    let y : BrokerGave b n log (given_for b n l j) t q =
+    subst (λ z. BrokerGave b n log z t q) (sym (gives-broker b.script b.run b.acts n log l.mind j s.kind ∙ same)) (broker-gave b n log l.mind p q t i s (g b.script (reverse log) s.scripted s.stands) number run acts) in
+    ((y.effects, y.outs), subst (λ k. IsBroker b n k (given_for b n l j).mind q) (append_assoc l.gated l.fresh (given_for b n l j).effects) y.stands)
 
 -- after its gate it has the same log
 pub gated-broker : (b : Base) (n : NodeId) (l : Life) (p : BrokerParts) → IsBroker b n (all_effects l) l.mind p → IsBroker b n (all_effects (gated_life l)) l.mind p
@@ -81,19 +76,3 @@ pub no-medium : (f : ResumeFault) → as_damage f ≡ opening.Medium → ⊥
 no-medium resuming.NoMemory e = cc e
 no-medium (resuming.OldRun n) e = cc e
 no-medium (resuming.OtherPlan n) e = cc e
-
--- ---- media between two calls
-
-ok-same : {A E : Type 0} (x y : A) → ◌≡◌ {A = Result A E} (Ok x) (Ok y) → x ≡ y
-ok-same x y e = cc e
-
-module _ (image : Image) (images : Image → Type 0) (settled : IsSettled image images) where
-  storage-settled : storage image ≡ Ok (effects_of (log_of image))
-  storage-settled = ap effects_found settled.log
-
-  -- what a crash leaves is the log that reads give
-  pub log-left : (log : List Effect) → images image → LeavesLog images log → effects_of (log_of image) ≡ log
-  log-left log now leaves = ok-same (effects_of (log_of image)) log (sym storage-settled ∙ leaves image now)
-
-  pub leaves-log : (log : List Effect) → effects_of (log_of image) ≡ log → LeavesLog images log
-  leaves-log log e c left = ap storage (settled.only c left) ∙ storage-settled ∙ ap (λ (l : List Effect). Ok l) e

@@ -5,12 +5,9 @@ use Rattle.std.proofs.lemmas.List.{append-nil}
 use Rattle.pseudo_time.specs.StampParts.{StampParts}
 use Rattle.pseudo_time.specs.Nodes.{repository}
 use Rattle.pseudo_time.specs.declared.nodes.NodeId.{NodeId}
-use Rattle.medium_port.specs.Image.{Image, NoMore}
+use Rattle.medium_port.specs.Image.{Image}
 use Rattle.effect_form.specs.declared.effects.Effect.{Effect}
 use Rattle.turn_form.specs.declared.turns.Turn.{Turn}
-use Rattle.version_store.specs.Entries.{effects_of}
-use Rattle.version_store.specs.Settled.{IsSettled}
-use Rattle.version_store.specs.Storage.{storage, effects_found, log_of}
 use Rattle.object_history.specs.declared.marks.Mark.{Mark}
 use Rattle.object_history.specs.declared.steps.HistoryFault.{HistoryFault}
 use Rattle.repository_log.specs.Logs.{knows, known, HasMarks}
@@ -23,7 +20,7 @@ use Rattle.world_core.specs.Nodes.{Input, repository_gives, with_hands, opened_m
 use Rattle.world_core.specs.Walks.{Base, Life, all_effects, opened_life, gated_life, after_input}
 use Rattle.world_core.proofs.CoreTurns.{repository-answers}
 use Rattle.trace_logs.proofs.MarkLemmas.{knows-reverse}
-use Rattle.node_turn.specs.Cores.{LeavesLog, HasTurn, given_for}
+use Rattle.node_turn.specs.Cores.{HasTurn, given_for}
 
 -- ---- turns
 
@@ -72,29 +69,11 @@ opened-repository b i start log r begins number is mind = record {
   mind = mind ∙ ap turns.opened_mind (sym begins);
 }
 
--- ---- media between two calls
+-- ---- media that tell
 
-told-same : (tells : Bool) (a b : Image) → tells ≡ true → told_image tells a ≡ told_image tells b → a ≡ b
+pub told-same : (tells : Bool) (a b : Image) → tells ≡ true → told_image tells a ≡ told_image tells b → a ≡ b
 told-same true a b t e = some-same e
   where
     some-same : {A : Type 0} {x y : A} → ◌≡◌ {A = Option A} (Some x) (Some y) → x ≡ y
     some-same {A} {x} {y} e = cc e
 told-same false a b t e = absurd (cc t)
-
-ok-same : {A E : Type 0} (x y : A) → ◌≡◌ {A = Result A E} (Ok x) (Ok y) → x ≡ y
-ok-same x y e = cc e
-
-module _ (image : Image) (images : Image → Type 0) (settled : IsSettled image images) where
-  storage-settled : storage image ≡ Ok (effects_of (log_of image))
-  storage-settled = ap effects_found settled.log
-
-  -- what a crash leaves is the log that reads give
-  pub log-left : (log : List Effect) → images image → LeavesLog images log → effects_of (log_of image) ≡ log
-  log-left log now leaves = ok-same (effects_of (log_of image)) log (sym storage-settled ∙ leaves image now)
-
-  pub leaves-log : (log : List Effect) → effects_of (log_of image) ≡ log → LeavesLog images log
-  leaves-log log e c left = ap storage (settled.only c left) ∙ storage-settled ∙ ap (λ (l : List Effect). Ok l) e
-
--- no image is new where reads give the same
-pub none-new : (old new : Image) (was is : Image → Type 0) → new ≡ old → was old → IsSettled new is → NoMore was is
-none-new old new was is same now settled c left = subst was (sym (settled.only c left ∙ same)) now
