@@ -36,9 +36,13 @@ pub struct BrokerNode<F: Fates, C: Clock, M: Medium> {
 }
 
 impl<F: Fates, C: Clock, M: Medium> Model for BrokerNode<F, C, M> {
+    ghost use Rattle.std.specs.Coded.{codes};
+    ghost use Rattle.value_form.specs.contracts.scripts.Stmt as stmt;
     ghost use Rattle.node_turn.specs.Nodes.{NodeParts};
 
     ghost Value = { NodeParts M };
+
+    ghost coded = { Prim.hlevel (codes, stmt.the_row.coded) };
 
     ghost view = { λ n. n.node };
 }

@@ -34,9 +34,9 @@ gave-repository {H} b n l r q (Ok t) i j same s g log number =
     let y : RepositoryGave n (all_effects l) (given_for b n l j) t q = repository-answers b n (all_effects l) l.mind r q (Ok t) (Ok t) i j same s g log number refl in
     ((y.effects, y.outs), subst (λ l. IsRepository n l (given_for b n l j).mind q) (append_assoc l.gated l.fresh (given_for b n l j).effects) y.stands)
 
--- after its gate it has the same log
-pub gated-repository : {H : Type 0} (n : NodeId) (l : Life) (r : Core H) → IsRepository n (all_effects l) l.mind r → IsRepository n (all_effects (gated_life l)) l.mind r
-gated-repository n l r s = subst (λ log. IsRepository n log l.mind r) (sym (append-nil (all_effects l))) s
+-- a core that was parted from its histories and joined with others
+pub joined-repository : {H : Type 0} (n : NodeId) (l : Life) (r q : Core H) → q.number ≡ r.number → q.log ≡ r.log → q.mind ≡ r.mind → IsRepository n (all_effects l) l.mind r → IsRepository n (all_effects (gated_life l)) l.mind q
+joined-repository n l r q number log mind s = record { kind = s.kind; number = number ∙ s.number; log = log ∙ s.log ∙ sym (append-nil (all_effects l)); mind = mind ∙ s.mind }
 
 -- what is owed grows by what was given
 pub owed-more : {x : Result Turn HistoryFault} (log stored new new_stored owed : List Effect) → new_stored ≡ stored → log ≡ stored ++ owed → IfOk x (λ t. new ≡ log ++ t.effects)

@@ -28,9 +28,13 @@ pub struct RepositoryNode<F: Fates, C: Clock, M: Medium> {
 }
 
 impl<F: Fates, C: Clock, M: Medium> Model for RepositoryNode<F, C, M> {
+    ghost use Rattle.std.specs.Coded.{codes};
+    ghost use Rattle.value_form.specs.contracts.scripts.Stmt as stmt;
     ghost use Rattle.node_turn.specs.Nodes.{NodeParts};
 
     ghost Value = { NodeParts M };
+
+    ghost coded = { Prim.hlevel (codes, stmt.the_row.coded) };
 
     ghost view = { λ n. n.node };
 }
