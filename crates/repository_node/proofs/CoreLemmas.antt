@@ -13,7 +13,7 @@ use Rattle.object_history.specs.declared.steps.HistoryFault.{HistoryFault}
 use Rattle.repository_log.specs.Logs.{knows, known, HasMarks}
 use Rattle.repository_log.proofs.MarkLemmas.{knows-known}
 use Rattle.object_header.specs.Ledgers.{told_image}
-use Rattle.repository_core.specs.Cores.{Core, given}
+use Rattle.repository_core.specs.Cores.{Core, CoreState, given}
 use Rattle.repository_core.specs.Turns as turns
 use Rattle.world_core.specs.Cores.{IsRepository, RepositoryGave}
 use Rattle.world_core.specs.Nodes.{Input, repository_gives, with_hands, opened_mind}
@@ -24,25 +24,33 @@ use Rattle.node_turn.specs.Cores.{HasTurn, given_for}
 
 -- ---- turns
 
--- the turn is what the rules give, and the core has the life after it
-pub gave-repository : {H : Type 0} (b : Base) (n : NodeId) (l : Life) (r q : Core H) (x : Result Turn HistoryFault) (i : turns.Input) (j : Input)
+-- the turn is what the rules give, and the core has the life after it; and what else is so
+pub gave-repository : {H C : Type 0} (b : Base) (n : NodeId) (l : Life) (r q : Core H) (x : Result Turn HistoryFault) (i : turns.Input) (j : Input)
     → repository_gives n.number (all_effects l) l.mind j ≡ with_hands l.mind (turns.gives n.number (all_effects l) l.mind.hands i)
-    → IsRepository n (all_effects l) l.mind r → IfOk x (λ t. given t q.mind ≡ turns.gives r.number r.log r.mind i) → IfOk x (λ t. q.log ≡ r.log ++ t.effects) → OnOk x (q.number ≡ r.number)
-    → IfOk x (λ t. HasTurn (given_for b n l j) t × IsRepository n (all_effects (after_input b n l j)) (after_input b n l j).mind q)
-gave-repository b n l r q (Err e) i j same s g log number = tt
-gave-repository {H} b n l r q (Ok t) i j same s g log number =
+    → IsRepository n (all_effects l) l.mind r → IfOk x (λ t. given t q.mind ≡ turns.gives r.number r.log r.mind i) → IfOk x (λ t. q.log ≡ r.log ++ t.effects) → OnOk x (q.number ≡ r.number) → C
+    → IfOk x (λ t. HasTurn (given_for b n l j) t × (IsRepository n (all_effects (after_input b n l j)) (after_input b n l j).mind q × C))
+gave-repository b n l r q (Err e) i j same s g log number k = tt
+gave-repository {H} {C} b n l r q (Ok t) i j same s g log number k =
     let y : RepositoryGave n (all_effects l) (given_for b n l j) t q = repository-answers b n (all_effects l) l.mind r q (Ok t) (Ok t) i j same s g log number refl in
-    ((y.effects, y.outs), subst (λ l. IsRepository n l (given_for b n l j).mind q) (append_assoc l.gated l.fresh (given_for b n l j).effects) y.stands)
+    ((y.effects, y.outs), (subst (λ es. IsRepository n es (given_for b n l j).mind q) (append_assoc l.gated l.fresh (given_for b n l j).effects) y.stands, k))
+
+-- what a core was parted into, and what a part was joined to
+pub parted : {H : Type 0} (s : CoreState) (r : Core H) → s ≡ record { number = r.number; log = r.log; mind = r.mind; whole = r.whole } → (s.number ≡ r.number) × (s.log ≡ r.log) × (s.mind ≡ r.mind) × (s.whole ≡ r.whole)
+parted s r e = (ap (λ (x : CoreState). x.number) e, ap (λ (x : CoreState). x.log) e, ap (λ (x : CoreState). x.mind) e, ap (λ (x : CoreState). x.whole) e)
+
+pub joined : {H : Type 0} (q : Core H) (s : CoreState) (h : H) → q ≡ record { number = s.number; log = s.log; mind = s.mind; whole = s.whole; histories = h }
+    → (q.number ≡ s.number) × (q.log ≡ s.log) × (q.mind ≡ s.mind) × (q.whole ≡ s.whole) × (q.histories ≡ h)
+joined {H} q s h e = (ap (λ (x : Core H). x.number) e, ap (λ (x : Core H). x.log) e, ap (λ (x : Core H). x.mind) e, ap (λ (x : Core H). x.whole) e, ap (λ (x : Core H). x.histories) e)
 
 -- a core that was parted from its histories and joined with others
 pub joined-repository : {H : Type 0} (n : NodeId) (l : Life) (r q : Core H) → q.number ≡ r.number → q.log ≡ r.log → q.mind ≡ r.mind → IsRepository n (all_effects l) l.mind r → IsRepository n (all_effects (gated_life l)) l.mind q
 joined-repository n l r q number log mind s = record { kind = s.kind; number = number ∙ s.number; log = log ∙ s.log ∙ sym (append-nil (all_effects l)); mind = mind ∙ s.mind }
 
 -- what is owed grows by what was given
-pub owed-more : {x : Result Turn HistoryFault} (log stored new new_stored owed : List Effect) → new_stored ≡ stored → log ≡ stored ++ owed → IfOk x (λ t. new ≡ log ++ t.effects)
+pub owed-more : (x : Result Turn HistoryFault) (log stored new new_stored owed : List Effect) → new_stored ≡ stored → log ≡ stored ++ owed → IfOk x (λ t. new ≡ log ++ t.effects)
     → IfOk x (λ t. new ≡ new_stored ++ (owed ++ t.effects))
-owed-more {Err e} log stored new new_stored owed same is more = tt
-owed-more {Ok t} log stored new new_stored owed same is more = more ∙ ap (λ l. l ++ t.effects) is ∙ append_assoc stored owed t.effects ∙ ap (λ l. l ++ (owed ++ t.effects)) (sym same)
+owed-more (Err e) log stored new new_stored owed same is more = tt
+owed-more (Ok t) log stored new new_stored owed same is more = more ∙ ap (λ l. l ++ t.effects) is ∙ append_assoc stored owed t.effects ∙ ap (λ l. l ++ (owed ++ t.effects)) (sym same)
 
 -- what is asked of the log from either end
 pub knows-asked : (log whole : List Effect) (s : StampParts) → log ≡ whole → is_some (known (reverse log) s) ≡ knows whole s
