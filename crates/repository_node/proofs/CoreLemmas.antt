@@ -16,11 +16,11 @@ use Rattle.object_header.specs.Ledgers.{told_image}
 use Rattle.repository_core.specs.Cores.{Core, CoreState, given}
 use Rattle.repository_core.specs.Turns as turns
 use Rattle.world_core.specs.Cores.{IsRepository, RepositoryGave}
-use Rattle.world_core.specs.Nodes.{Input, repository_gives, with_hands, opened_mind}
+use Rattle.world_core.specs.Nodes.{Input, repository_gives, with_hands, opened_mind, is_ready}
 use Rattle.world_core.specs.Walks.{Base, Life, all_effects, opened_life, gated_life, after_input}
 use Rattle.world_core.proofs.CoreTurns.{repository-answers}
 use Rattle.trace_logs.proofs.MarkLemmas.{knows-reverse}
-use Rattle.node_turn.specs.Cores.{HasTurn, given_for}
+use Rattle.node_turn.specs.Cores.{HasTurn, IsReady, given_for}
 
 -- ---- turns
 
@@ -76,6 +76,11 @@ opened-repository b i start log r begins number is mind = record {
   log = is ∙ sym (append-nil log);
   mind = mind ∙ ap turns.opened_mind (sym begins);
 }
+
+-- a repository goes on from every log
+pub ready-repository : (b : Base) (i : ℕ) (log : List Effect) → IsReady b (repository i) log
+unfolding is_ready
+ready-repository b i log = refl
 
 -- ---- media that tell
 
