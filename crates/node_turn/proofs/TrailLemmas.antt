@@ -188,12 +188,12 @@ pub grew-added : {old new : Sight} {e : Entry} → Added old new e → Grew old.
 grew-added {old} {new} {e} a = (e, [], ap (λ (k : Sight). k.own) a.kept)
 
 -- and then maybe more
-pub grew-more : {a b c : List Entry} → Grew a b → (more : List Entry) × (c ≡ b ++ more) → Grew a c
-grew-more {a} {b} {c} g m = (g.0, g.1 ++ m.0, m.1 ∙ (ap (λ l. l ++ m.0) g.2 ∙ append_assoc a (g.0 ∷ g.1) m.0))
+pub grew-more : (a b c : List Entry) → Grew a b → (more : List Entry) × (c ≡ b ++ more) → Grew a c
+grew-more a b c g m = (g.0, g.1 ++ m.0, m.1 ∙ (ap (λ l. l ++ m.0) g.2 ∙ append_assoc a (g.0 ∷ g.1) m.0))
 
 -- or before
-pub more-grew : {a b c : List Entry} → (more : List Entry) × (b ≡ a ++ more) → Grew b c → Grew a c
-more-grew {a} {b} {c} m g = go m.0 m.1
+pub more-grew : (a b c : List Entry) → (more : List Entry) × (b ≡ a ++ more) → Grew b c → Grew a c
+more-grew a b c m g = go m.0 m.1
   where
     go : (more : List Entry) → b ≡ a ++ more → Grew a c
     go [] e = (g.0, g.1, g.2 ∙ ap (λ l. l ++ g.0 ∷ g.1) (e ∙ append-nil a))

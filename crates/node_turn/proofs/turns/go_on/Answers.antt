@@ -16,7 +16,7 @@ use Rattle.node_turn.proofs.turns.go_on.Goals as goal
 pub give_up-requires-clause-after : goal.give_up-requires-clause-after
 give_up-requires-clause-after g c =
     subst (IsAfter g.M.Medium.tells g.K.StoredCore.parts g.K.StoredCore.fits g.K.StoredCore.lives g.K.StoredCore.owes g.M.Medium.page_count g.M.Medium.reads g.M.Medium.may_leave c.in-Err.fault c.take_more-pass.new.core (knows c.take_more-pass.result.0) c.args.node)
-      (sym c.durable.ensures) (if-err _ _ _ c.in-Err.is c.take_more-pass.ensures.err)
+      (sym c.durable-durable.ensures) (if-err _ _ _ c.in-Err.is c.take_more-pass.ensures.err)
 
 pub returns-in-Err-clause-paid : goal.returns-in-Err-clause-paid
 returns-in-Err-clause-paid g c =
@@ -39,11 +39,6 @@ pub returns-in-Err-clause-adds : goal.returns-in-Err-clause-adds
 returns-in-Err-clause-adds g c =
     let t = trail-joins c.take_more-pass.ensures.trail c.give_up.ensures.trail.1 in
     (t.own, t.adds)
-
-pub give_up-in-Err-sought-requires-clause-after : goal.give_up-in-Err-sought-requires-clause-after
-give_up-in-Err-sought-requires-clause-after g c =
-    subst (IsAfter g.M.Medium.tells g.K.StoredCore.parts g.K.StoredCore.fits g.K.StoredCore.lives g.K.StoredCore.owes g.M.Medium.page_count g.M.Medium.reads g.M.Medium.may_leave c.in-Err-sought.fault c.look_up_all-pass.new.core (knows c.look_up_all-pass.result.0) c.args.node)
-      (c.take_more-pass.ensures.durable ∙ sym c.durable.ensures) (if-err _ _ _ c.in-Err-sought.is c.look_up_all-pass.ensures.err)
 
 pub returns-in-Err-sought-clause-paid : goal.returns-in-Err-sought-clause-paid
 returns-in-Err-sought-clause-paid g c =

@@ -36,7 +36,7 @@ returns-in-Err-clause-tested g c = λ told repository.
 pub returns-in-Err-clause-quiet : goal.returns-in-Err-clause-quiet
 returns-in-Err-clause-quiet g c = λ w.
     let t = c.begin-pass.ensures.trail in
-    more-grew (t.own, t.adds) (c.give_up-pass.ensures.grew w)
+    more-grew (knows c.args.pass).own (knows c.begin-pass.result.0).own (knows c.give_up-pass.result.0).own (t.own, t.adds) (c.give_up-pass.ensures.grew w)
 
 pub go_on-pass-requires-clause-up : goal.go_on-pass-requires-clause-up
 go_on-pass-requires-clause-up g c =
@@ -63,7 +63,7 @@ returns-then-started-clause-tested g c = λ told repository.
     tested-after c.args.node (knows c.args.pass) (knows c.begin-pass.result.0) (knows c.go_on-pass.result.0) c.begin-pass.ensures.trail (c.go_on-pass.ensures.tested told repository)
 
 pub returns-then-started-clause-quiet : goal.returns-then-started-clause-quiet
-returns-then-started-clause-quiet g c = λ w. grew-more (c.begin-pass.ensures.grew (c.in-Ok.is ∙ ap (λ b. Ok b) c.if-started.true)) c.go_on-pass.ensures.adds
+returns-then-started-clause-quiet g c = λ w. grew-more (knows c.args.pass).own (knows c.begin-pass.result.0).own (knows c.go_on-pass.result.0).own (c.begin-pass.ensures.grew (c.in-Ok.is ∙ ap (λ b. Ok b) c.if-started.true)) c.go_on-pass.ensures.adds
 
 pub returns-clause-keeps : goal.returns-clause-keeps
 returns-clause-keeps g c =
