@@ -122,13 +122,15 @@ module _ {K M : Type 0} (tells : Bool) (parts : K → CoreParts M) (fits : Base 
         → MatchBool quiet (IsQuiet n (knows pass) (knows pass') × (c' ≡ condition.AtWork)) (c' ≡ condition.AtWork → Grew (knows pass).own (knows pass').own)
         → IfOk r (λ t. Does t n (knows pass) (knows pass'))
     does-answer (Ok Worked) h is answers q =
-        let u : IsUp tells parts fits lives owes pages reads may_leave new (knows pass') n gone false (no_draft durable) = keeps-at new (knows pass') n gone durable c' condition.AtWork is h in
-        (subst (λ (b : Bool). MatchBool b (IsQuiet n (knows pass) (knows pass') × (c' ≡ condition.AtWork)) (c' ≡ condition.AtWork → Grew (knows pass).own (knows pass').own)) answers q is,
-        ap (λ (x : Flags). x.up) u.flags)
+        let u : IsUp tells parts fits lives owes pages reads may_leave new (knows pass') n gone false (no_draft durable) = keeps-at new (knows pass') n gone durable c' condition.AtWork is h in (
+          subst (λ (b : Bool). MatchBool b (IsQuiet n (knows pass) (knows pass') × (c' ≡ condition.AtWork)) (c' ≡ condition.AtWork → Grew (knows pass).own (knows pass').own)) answers q is,
+          ap (λ (x : Flags). x.up) u.flags,
+        )
     does-answer (Ok Quiet) h is answers q =
-        let u : IsUp tells parts fits lives owes pages reads may_leave new (knows pass') n gone false (no_draft durable) = keeps-at new (knows pass') n gone durable c' condition.AtWork is h in
-        ((subst (λ (b : Bool). MatchBool b (IsQuiet n (knows pass) (knows pass') × (c' ≡ condition.AtWork)) (c' ≡ condition.AtWork → Grew (knows pass).own (knows pass').own)) answers q).0,
-        ap (λ (x : Flags). x.up) u.flags)
+        let u : IsUp tells parts fits lives owes pages reads may_leave new (knows pass') n gone false (no_draft durable) = keeps-at new (knows pass') n gone durable c' condition.AtWork is h in (
+          (subst (λ (b : Bool). MatchBool b (IsQuiet n (knows pass) (knows pass') × (c' ≡ condition.AtWork)) (c' ≡ condition.AtWork → Grew (knows pass).own (knows pass').own)) answers q).0,
+          ap (λ (x : Flags). x.up) u.flags,
+        )
     does-answer (Ok Stopped) h is answers q =
         let d : IsDown tells parts fits lives owes pages reads may_leave new (knows pass') n is.0 = keeps-at new (knows pass') n gone durable c' (condition.Down is.0) is.1 h in
         d.down

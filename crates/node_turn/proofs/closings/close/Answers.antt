@@ -70,7 +70,7 @@ gate-pass-requires-clause-owed g c = λ t.
     let h = c.requires.up.life t in
     let o = c.outs.ensures ∙ h.outs in
     c.as_slice.ensures.value ∙ owed-is k c.args.node c.outs.result.now c.in-Ok.outs.items o
-      (c.in-Ok.ensures.leaving t (base_at k) (life_at k c.args.node) h.core (λ broker. subst AskNobody (sym o) (h.asks broker)))
+    (c.in-Ok.ensures.leaving t (base_at k) (life_at k c.args.node) h.core (λ broker. subst AskNobody (sym o) (h.asks broker)))
 
 pub gate-pass-requires-clause-decides : goal.gate-pass-requires-clause-decides
 gate-pass-requires-clause-decides g c = λ t.
