@@ -1,5 +1,5 @@
 -- What a node keeps while others move on, at rest, and over a turn.
-use Rattle.std.proofs.Common.{◌≡◌, ◌≢◌, ℕ, Bool, true, false, List, [], ◌∷◌, ◌++◌, Result, Ok, Err, IsTrue, IfOk, OnOk, refl, sym, ap, subst, ◌∙◌}
+use Rattle.std.proofs.Common.{◌≡◌, ◌≢◌, ℕ, Bool, false, List, Result, Ok, Err, IsTrue, IfOk, OnOk, refl, sym, ap, subst, ◌∙◌}
 use Rattle.std.specs.Prelude.{MatchBool}
 use Rattle.pseudo_time.specs.declared.nodes.NodeId.{NodeId}
 use Rattle.pseudo_time.specs.Nodes.{is_broker}
@@ -12,16 +12,16 @@ use Rattle.seat_lock.specs.Words.{knows}
 use Rattle.world_core.specs.declared.entries.Entry.{Entry}
 use Rattle.world_core.specs.Walks.{Base, Life, Flags}
 use Rattle.wire_core.specs.Wires.{WireParts}
-use Rattle.wire_lock.specs.Sights.{Sight, base_at, life_at, flags_at, IsOf, Looked}
+use Rattle.wire_lock.specs.Sights.{Sight, base_at, life_at, Looked}
 use Rattle.node_turn.specs.declared.conditions.Condition.{Condition}
 use Rattle.node_turn.specs.declared.conditions.Condition.TheVariants as condition
 use Rattle.node_turn.specs.declared.conditions.Turned.{Turned}
 use Rattle.node_turn.specs.declared.conditions.Turned.TheVariants.{Worked, Quiet, Stopped}
 use Rattle.node_turn.specs.Cores.{CoreParts}
-use Rattle.node_turn.specs.Lives.{no_draft, IsUp, IsStored, IsDown, Keeps}
+use Rattle.node_turn.specs.Lives.{no_draft, IsUp, IsDown, Keeps}
 use Rattle.node_turn.specs.Costs.{costs, PaysFor}
 use Rattle.node_turn.specs.Trails.{HasTested}
-use Rattle.node_turn.specs.Nodes.{NodeParts, Grew, IsCondition, IsQuiet, Answers, Does, StaysWhole, TurnsTo, Stands, IsAtRest}
+use Rattle.node_turn.specs.Nodes.{NodeParts, Grew, IsCondition, IsQuiet, Answers, Does, StaysWhole, TurnsTo, IsAtRest}
 use Rattle.node_turn.proofs.LifeLemmas.{Follows, follows-looked, flags-seen, life-looked, up-looked, up-stored, stored-looked}
 use Rattle.node_turn.proofs.FallLemmas.{cause-same}
 use Rattle.node_turn.proofs.PageLemmas.{whole-same}

@@ -1,11 +1,10 @@
 -- What visits and tests leave of a trail.
-use Rattle.std.specs.Prelude.{◌≡◌, ℕ, ◌+◌, Bool, true, false, List, [], ◌∷◌, ◌++◌, Option, if◌then◌else◌}
+use Rattle.std.specs.Prelude.{◌≡◌, ℕ, ◌+◌, Bool, false, List, [], ◌∷◌, ◌++◌, Option, if◌then◌else◌}
 use Rattle.std.specs.List.{filter}
-use Rattle.std.proofs.Common.{refl, ap, sym, ◌∙◌, subst, arith, append_assoc}
+use Rattle.std.proofs.Common.{refl, ap, sym, ◌∙◌, arith, append_assoc}
 use Rattle.std.proofs.lemmas.List.{append-nil}
 use Rattle.pseudo_time.specs.StampParts.{StampParts}
 use Rattle.pseudo_time.specs.declared.nodes.NodeId.{NodeId}
-use Rattle.pseudo_time.specs.Nodes.{same_node}
 use Rattle.message_core.proofs.NodeLemmas.{same_node-refl}
 use Rattle.turn_form.specs.declared.turns.Out.{Out}
 use Rattle.seat_lock.specs.Words.{CarriesOn}
@@ -18,7 +17,7 @@ use Rattle.world_core.proofs.Others.{Silent, silent-more}
 use Rattle.wire_core.specs.Boards.{owner_of, place_of}
 use Rattle.wire_core.specs.Changes.{owed}
 use Rattle.wire_lock.specs.Decisions.{Decided}
-use Rattle.wire_lock.specs.Sights.{Sight, origin_in, base_at, world_at, life_at, IsOf, Owns, IsAsBefore, Looked, Added, Visited, Gated, Tested}
+use Rattle.wire_lock.specs.Sights.{Sight, origin_in, base_at, world_at, IsOf, Owns, Looked, Added, Gated, Tested}
 use Rattle.wire_core.specs.Wires.{WireParts, base_from}
 use Rattle.wire_lock.proofs.SightLemmas.{own-same}
 use Rattle.node_turn.specs.Costs.{cost_of, costs}

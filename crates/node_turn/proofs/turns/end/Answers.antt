@@ -1,4 +1,4 @@
-use Rattle.std.proofs.Common.{◌≡◌, ◌≤◌, ◌<◌, ◌+◌, ◌∙◌, ℕ, refl, sym, ap, subst, arith, [], Err}
+use Rattle.std.proofs.Common.{◌+◌, ◌∙◌, refl, sym, ap, subst, arith, [], Err}
 use Rattle.seat_lock.specs.Words.{knows}
 use Rattle.wire_core.specs.Changes.{owed}
 use Rattle.wire_lock.specs.Sights.{world_at}

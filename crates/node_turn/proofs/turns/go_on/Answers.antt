@@ -1,4 +1,4 @@
-use Rattle.std.proofs.Common.{◌≡◌, ◌≤◌, ◌<◌, ◌+◌, ◌∙◌, ℕ, List, refl, sym, ap, subst, arith, [], Err}
+use Rattle.std.proofs.Common.{◌+◌, ◌∙◌, List, sym, ap, subst, arith, Err}
 use Rattle.seat_lock.specs.Words.{knows}
 use Rattle.medium_port.specs.Image.{Image}
 use Rattle.turn_form.specs.declared.turns.Out.{Out}
