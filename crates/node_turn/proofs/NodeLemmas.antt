@@ -65,11 +65,6 @@ module _ {K M : Type 0} (tells : Bool) (parts : K → CoreParts M) (fits : Base 
 
   -- ---- at rest
 
-  pub keeps-node : (core : K) (k : Sight) (n : NodeId) (gone : Bool) (durable : ℕ) (c : Condition) → Keeps tells parts fits lives owes pages reads may_leave c core k n gone durable → (parts core).node ≡ n
-  keeps-node core k n gone durable condition.AtWork u = u.node
-  keeps-node core k n gone durable (condition.Down cause) d = d.stored.node
-  keeps-node core k n gone durable condition.Wanting s = s.node
-
   rest-seen : (core : K) (n : NodeId) (gone : Bool) (durable : ℕ) (pass : Pass) (c : Condition) → Keeps tells parts fits lives owes pages reads may_leave c core (knows pass) n gone durable
       → IsAtRest tells pages reads may_leave (seen n c pass core)
   rest-seen core n gone durable pass condition.AtWork u = record { own = u.own; kept = (up-stored u).kept; stands = (ap (λ (x : Flags). x.up) u.flags, λ t. sym (u.life t).effects) }
@@ -79,13 +74,6 @@ module _ {K M : Type 0} (tells : Bool) (parts : K → CoreParts M) (fits : Base 
   pub keeps-rest : (core : K) (n : NodeId) (gone : Bool) (durable : ℕ) (pass : Pass) (c : Condition) → Keeps tells parts fits lives owes pages reads may_leave c core (knows pass) n gone durable
       → {old : NodeParts M} → seen n c pass core ≡ old → IsAtRest tells pages reads may_leave old
   keeps-rest core n gone durable pass c h {old} view = subst (IsAtRest tells pages reads may_leave) view (rest-seen core n gone durable pass c h)
-
-  -- the core of a node at work
-  pub keeps-life : (core : K) (k : Sight) (n : NodeId) (gone : Bool) (durable : ℕ) (c : Condition) → Keeps tells parts fits lives owes pages reads may_leave c core k n gone durable → IsTrue tells → c ≡ condition.AtWork
-      → fits (base_at k) core × lives (base_at k) core (life_at k n)
-  keeps-life core k n gone durable c h t e =
-      let u : IsUp tells parts fits lives owes pages reads may_leave core k n gone false (no_draft durable) = keeps-at core k n gone durable c condition.AtWork e h in
-      (u.run, (u.life t).core)
 
   -- ---- a turn
 
