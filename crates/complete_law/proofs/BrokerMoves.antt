@@ -3,7 +3,6 @@ use Rattle.std.proofs.Common.{◌≡◌, ◌≢◌, ◌⊎◌, ℕ, zero, suc, �
 use Rattle.std.proofs.lemmas.Grind.{common_steps}
 use Rattle.std.proofs.lemmas.Bool.{false≢true, true≢false}
 use Rattle.std.proofs.lemmas.List.{reverse-append}
-use Rattle.std.specs.List.{count_by}
 use Rattle.pseudo_time.specs.Lists.{Every, Has}
 use Rattle.pseudo_time.specs.declared.nodes.NodeId.{NodeId}
 use Rattle.pseudo_time.specs.declared.nodes.NodeKind.{NodeKind}
@@ -37,6 +36,7 @@ use Rattle.broker_laws.proofs.Desks.{desk-ok}
 use Rattle.broker_laws.proofs.Kept.{kept}
 use Rattle.broker_laws.proofs.Moves.{grown}
 use Rattle.broker_laws.proofs.TurnLemmas.{turn-added, turn-rests, go-rests}
+use Rattle.message_core.specs.Tallies.{count}
 use Rattle.world_core.specs.declared.entries.Entry.{Entry}
 use Rattle.world_core.specs.declared.entries.Entry.TheVariants as entry
 use Rattle.world_core.specs.Nodes.Input.{Going, Taking}
@@ -57,8 +57,8 @@ use Rattle.complete_law.proofs.Hearings.{tells-so}
 use Rattle.complete_law.proofs.Places.{log_of, gated_of, IsBegun, IsDecided, tasks_of, desk_of, standing_in, CalmWorld}
 
 -- a copy of one message is no copy of another
-pub other-copies : (k j : ℕ) (ts : List ℕ) → (k == j) ≡ false → count_by (λ i. i == j) (k ∷ ts) ≡ count_by (λ i. i == j) ts
-other-copies k j ts e = rw e refl
+pub other-copies : (k j : ℕ) (ts : List ℕ) → (k == j) ≡ false → count j (k ∷ ts) ≡ count j ts
+other-copies k j ts e = let one : Bool → ℕ = λ b. cond b 1 0 in let x : ◌≡◌ {A = ℕ} (one (k == j)) 0 = ap one e in omega (arith, x)
 
 ignored-or : (r : Reply) → (r ≡ Ignored) ⊎ (r ≡ Ignored → ⊥)
 ignored-or Ignored = inl refl
@@ -156,7 +156,7 @@ module _ (b : Base) (w : World) (calm : CalmWorld b w) (f : Refines (node_turns 
         known-same m true = refl
         known-same m false = refl
 
-        one : (j : ℕ) (s : Sending) → numbered w.sendings j ≡ Some s → times_taken w j ≡ 0 → (t : Bool) → (k == j) ≡ t → (count_by (λ i. i == j) (k ∷ w.taken) ≡ 0) ⊎ (s.post ≡ record { from = from0; to = broker n; message = m0 })
+        one : (j : ℕ) (s : Sending) → numbered w.sendings j ≡ Some s → times_taken w j ≡ 0 → (t : Bool) → (k == j) ≡ t → (count j (k ∷ w.taken) ≡ 0) ⊎ (s.post ≡ record { from = from0; to = broker n; message = m0 })
         one j s at zero' false e = inl (other-copies k j w.taken e ∙ zero')
         one j s at zero' true e =
             let q : Some may.sending ≡ Some s = sym may.sent ∙ ap (numbered w.sendings) (eq-from k j e) ∙ at in
@@ -210,7 +210,7 @@ module _ (b : Base) (w : World) (calm : CalmWorld b w) (f : Refines (node_turns 
     untaken1 : (j : ℕ) → numbered w.sendings j ≡ None → times_taken w' j ≡ 0
     untaken1 j e = go (k == j) refl
       where
-        go : (t : Bool) → (k == j) ≡ t → count_by (λ i. i == j) (k ∷ w.taken) ≡ 0
+        go : (t : Bool) → (k == j) ≡ t → count j (k ∷ w.taken) ≡ 0
         go false q = other-copies k j w.taken q ∙ calm.untaken j e
         go true q = let no : Some may.sending ≡ None = sym may.sent ∙ ap (numbered w.sendings) (eq-from k j q) ∙ e in absurd (cc no)
 

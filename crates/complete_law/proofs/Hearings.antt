@@ -25,6 +25,7 @@ use Rattle.serial_model.specs.Questions.{Tree}
 use Rattle.object_history.specs.History.{or_else, settle_of}
 use Rattle.repository_log.specs.Logs.{is_commit, known, marks}
 use Rattle.repository_laws.specs.Facts as repositories
+use Rattle.turn_form.specs.Posts.{WasSent}
 use Rattle.repository_laws.proofs.Logs.{begin-home, decide-home, decide-cause}
 use Rattle.broker_core.specs.Book.{Book, Try, book, find, open_try, time_of, tries}
 use Rattle.broker_core.specs.Fits.{is_none, stop_of}
@@ -122,13 +123,13 @@ module _ (b : Base) (w : World) (calm : CalmWorld b w) (facts : LogFacts (node_f
     pub open-closed : (t : Try) → find t.stamp (tries (book (log_of w (broker n)))) ≡ Some t → t.end ≡ None → t.stamp.broker ≡ n → (ticks : List ℕ) → ((m : ℕ) → Has m ticks → ⊥) → (d : Decision) (i : ℕ) →
         repositories.WasClosed (sent_by w) ticks i t.stamp d → (d ≡ decision.Committed) × (stop_of b.script t ≡ Over ending.Finished)
     open-closed t found none own ticks never decision.Committed i sent =
-        let mine = subst (λ m. repositories.WasSent (sent_by w) (broker m) (repository i) (message.Commit t.stamp)) own sent in
+        let mine = subst (λ m. WasSent (sent_by w) (broker m) (repository i) (message.Commit t.stamp)) own sent in
         let k = post-grown b.script n (L (broker n)) fresh (repository i) (message.Commit t.stamp) tidy grew (says (broker n) (repository i) (message.Commit t.stamp) mine) in
         let found' : find t.stamp (tries (book (fresh ++ L (broker n)))) ≡ Some t = subst (λ l. find t.stamp (tries (book l)) ≡ Some t) log-is found in
         let same : k.2.0 ≡ t = found-same t.stamp (tries (book (fresh ++ L (broker n)))) k.2.0 t k.2.1 found' in
         (refl, subst (λ (u : Try). stop_of b.script u ≡ Over ending.Finished) same k.2.3)
     open-closed t found none own ticks never decision.Withdrawn i sent =
-        let mine = subst (λ m. repositories.WasSent (sent_by w) (broker m) (repository i) (message.Withdraw t.stamp)) own sent in
+        let mine = subst (λ m. WasSent (sent_by w) (broker m) (repository i) (message.Withdraw t.stamp)) own sent in
         let k : SaidOf b w n (message.Withdraw t.stamp) = calm.said n (record { to = repository i; message = message.Withdraw t.stamp }) (inr mine) in
         let same : k.1.0 ≡ t = found-same t.stamp (tries (book (log_of w (broker n)))) k.1.0 t k.1.1 found in
         let ended : is_none t.end ≡ false = subst (λ (u : Try). is_none u.end ≡ false) same k.1.2 in
@@ -139,7 +140,7 @@ module _ (b : Base) (w : World) (calm : CalmWorld b w) (facts : LogFacts (node_f
         (d : Decision) (i : ℕ) → Has (effect.Decide t.stamp d) (L (repository i)) → ⊥
     asking-undecided t q found none asks own decision.Committed i h =
         let sent = (each-in _ (L (repository i)) (effect.Decide t.stamp decision.Committed) (facts.proofs (repository i)) h).1 in
-        let mine = subst (λ m. repositories.WasSent (sent_by w) (broker m) (repository i) (message.Commit t.stamp)) own sent in
+        let mine = subst (λ m. WasSent (sent_by w) (broker m) (repository i) (message.Commit t.stamp)) own sent in
         let k = post-grown b.script n (L (broker n)) fresh (repository i) (message.Commit t.stamp) tidy grew (says (broker n) (repository i) (message.Commit t.stamp) mine) in
         let found' : find t.stamp (tries (book (fresh ++ L (broker n)))) ≡ Some t = subst (λ l. find t.stamp (tries (book l)) ≡ Some t) log-is found in
         let same : k.2.0 ≡ t = found-same t.stamp (tries (book (fresh ++ L (broker n)))) k.2.0 t k.2.1 found' in
@@ -147,7 +148,7 @@ module _ (b : Base) (w : World) (calm : CalmWorld b w) (facts : LogFacts (node_f
         absurd (cc no)
     asking-undecided t q found none asks own decision.Withdrawn i h =
         let sent = (each-in _ (L (repository i)) (effect.Decide t.stamp decision.Withdrawn) (facts.proofs (repository i)) h).1 in
-        let mine = subst (λ m. repositories.WasSent (sent_by w) (broker m) (repository i) (message.Withdraw t.stamp)) own sent in
+        let mine = subst (λ m. WasSent (sent_by w) (broker m) (repository i) (message.Withdraw t.stamp)) own sent in
         let k : SaidOf b w n (message.Withdraw t.stamp) = calm.said n (record { to = repository i; message = message.Withdraw t.stamp }) (inr mine) in
         let same : k.1.0 ≡ t = found-same t.stamp (tries (book (log_of w (broker n)))) k.1.0 t k.1.1 found in
         let ended : is_none t.end ≡ false = subst (λ (u : Try). is_none u.end ≡ false) same k.1.2 in

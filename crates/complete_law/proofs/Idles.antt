@@ -50,7 +50,7 @@ use Rattle.broker_laws.specs.Works.{TurnHolds, IsRested}
 use Rattle.broker_laws.specs.Posts.{IsAskOf}
 use Rattle.broker_laws.proofs.Kept.{kept}
 use Rattle.world_core.specs.Nodes.{acts_of}
-use Rattle.world_core.specs.Walks.{Base, Life, Sending, World, numbered, opened_life, opened_log, sent_by, all_effects}
+use Rattle.world_core.specs.Walks.{Base, Life, Sending, World, numbered, opened_life, opened_log, sent_by}
 use Rattle.world_core.specs.Legal as legal
 use Rattle.world_core.specs.Legal.{IsIdle, JustNodes, in_plan, times_taken}
 use Rattle.world_facts.specs.Refines.{LogFacts, logs_at}
@@ -215,7 +215,7 @@ module _ (b : Base) (plan : Plan) (May : ℕ → Type 0) (w : World) (fates : Li
 
   kept-there : (n : ℕ) (t : Try) → InRange plan.brokers n → Has t (tries_of (book (logs n)).acts) → InRange plan.repositories t.stamp.home × Inside plan.repositories (b.script t.task.script)
   kept-there n t i has =
-      try-kept b.script plan n b.run (logs n) t all_effects scripted (turns n i).desk.tidy ready-plan run-is has
+      try-kept b.script plan n b.run (logs n) t whole scripted (turns n i).desk.tidy ready-plan run-is has
     where
       ready-plan : IsReady b.script n b.run (tasks (acts_of n plan.acts)) (logs n)
       ready-plan = subst (λ x. IsReady b.script n b.run (tasks (acts_of n x)) (logs n)) same-acts (turns n i).ready

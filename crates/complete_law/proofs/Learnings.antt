@@ -41,7 +41,7 @@ use Rattle.repository_laws.specs.Facts as repositories
 use Rattle.world_core.specs.Walks as walks
 use Rattle.world_facts.specs.NodeRules.{node_turns, node_facts}
 use Rattle.world_facts.specs.Refines.{seat_of}
-use Rattle.world_facts.specs.Soft.{NodeOk, Seat, Soft, around, happened}
+use Rattle.world_facts.specs.Soft.{NodeOk, SoftNode, Soft, around, happened}
 
 -- ---- the attempts that a log learned of
 
@@ -248,7 +248,7 @@ module _ (p : CalmPlace) where
       go true known =
           let m : Life = w.life (repository s.home) in
           let ok : NodeOk (node_facts base.script) (around soft) (repository s.home) (seat_of (w.life (repository s.home))) = node-there base w (calm-there p) (facts-there p) (repository s.home) known in
-          let here : Has (effect.Decide s d) (reverse (w.life (repository s.home)).gated) = subst (λ (x : Seat). Has (effect.Decide s d) x.gated) ((facts-there p).models.lives (repository s.home) known) h in
+          let here : Has (effect.Decide s d) (reverse (w.life (repository s.home)).gated) = subst (λ (x : SoftNode). Has (effect.Decide s d) x.gated) ((facts-there p).models.lives (repository s.home) known) h in
           closed-named s d (each-in _ (reverse m.fresh ++ reverse m.gated) (effect.Decide s d) ok.proofs (has-right (reverse m.fresh) (reverse m.gated) (effect.Decide s d) here)).1
       go false off = absurd (subst (Has (effect.Decide s d)) ((facts-there p).models.outside (repository s.home) off).0 h)
 

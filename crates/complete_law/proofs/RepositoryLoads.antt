@@ -2,8 +2,6 @@
 use Rattle.std.proofs.Common.{◌≡◌, ℕ, zero, suc, ◌+◌, ◌≤◌, ◌<◌, ◌==◌, min, Bool, true, false, ◌&&◌, List, [], ◌∷◌, ◌++◌, map, reverse, cond, refl, sym, ◌∙◌, ap, subst, Option, Some, None, if◌then◌else◌, arith, slice_get}
 use Rattle.std.proofs.lemmas.Grind.{common_steps}
 use Rattle.std.proofs.lemmas.Bool.{false≢true, true≢false}
-use Rattle.std.specs.List.{count_by}
-use Rattle.std.proofs.lemmas.List.Sums.{sum_by-cons}
 use Rattle.pseudo_time.specs.Lists.{Every, Has}
 use Rattle.pseudo_time.specs.StampParts.{StampParts}
 use Rattle.pseudo_time.specs.declared.nodes.NodeId.{NodeId}
@@ -23,6 +21,7 @@ use Rattle.repository_core.specs.Turns.{hand_at}
 use Rattle.repository_core.specs.Rows.{accepts, on_learn, on_message}
 use Rattle.repository_laws.proofs.AnyTurns.{begun-fine, on-learn-fine, take-fine}
 use Rattle.pseudo_time.specs.Nodes.{repository}
+use Rattle.message_core.specs.Tallies.{count}
 use Rattle.world_core.specs.declared.entries.Entry.{Entry}
 use Rattle.world_core.specs.declared.entries.Entry.TheVariants as entry
 use Rattle.world_core.specs.Nodes.{gives}
@@ -47,14 +46,14 @@ abbrev pub seen : ℕ → List ℕ → Bool
 seen j [] = false
 seen j (k ∷ ks) = if k == j then true else seen j ks
 
-unseen : (j : ℕ) (ks : List ℕ) → count_by (λ k. k == j) ks ≡ 0 → seen j ks ≡ false
+unseen : (j : ℕ) (ks : List ℕ) → count j ks ≡ 0 → seen j ks ≡ false
 unseen j [] e = refl
 unseen j (k ∷ ks) e = go (λ h. unseen j ks h) (k == j) refl
   where
-    go : (count_by (λ k. k == j) ks ≡ 0 → seen j ks ≡ false) → (c : Bool) → (k == j) ≡ c → (if c then true else seen j ks) ≡ false
-    go again c q = last c again (sym (ap (λ d. cond d 1 0 + count_by (λ k. k == j) ks) q) ∙ sym (sum_by-cons (λ k. cond (k == j) 1 0) k ks) ∙ e)
+    go : (count j ks ≡ 0 → seen j ks ≡ false) → (c : Bool) → (k == j) ≡ c → (if c then true else seen j ks) ≡ false
+    go again c q = last c again (sym (ap (λ d. cond d 1 0 + count j ks) q) ∙ e)
       where
-        last : (c : Bool) → (count_by (λ k. k == j) ks ≡ 0 → seen j ks ≡ false) → cond c 1 0 + count_by (λ k. k == j) ks ≡ 0 → (if c then true else seen j ks) ≡ false
+        last : (c : Bool) → (count j ks ≡ 0 → seen j ks ≡ false) → cond c 1 0 + count j ks ≡ 0 → (if c then true else seen j ks) ≡ false
         last true again h = absurd (omega (arith, h))
         last false again h = again (omega (arith, h))
 

@@ -2,7 +2,6 @@
 use Rattle.std.proofs.Common.{◌≡◌, ◌≢◌, ◌⊎◌, ℕ, zero, suc, ◌+◌, ◌==◌, Bool, true, false, ◌&&◌, List, [], ◌∷◌, ◌++◌, map, reverse, refl, sym, ◌∙◌, ap, subst, Option, Some, None, if◌then◌else◌, inl, inr, append_assoc, append-nil}
 use Rattle.std.proofs.lemmas.Bool.{eq-eqb, false≢true, true≢false}
 use Rattle.std.proofs.lemmas.List.{reverse-append}
-use Rattle.std.specs.List.{count_by}
 use Rattle.pseudo_time.specs.Lists.{Every, Has}
 use Rattle.pseudo_time.proofs.ListLemmas.{every-has, has-right}
 use Rattle.pseudo_time.specs.StampParts.{StampParts}
@@ -46,6 +45,7 @@ use Rattle.broker_core.specs.Stages.{stage}
 use Rattle.pseudo_time.specs.Nodes.{repository, broker}
 use Rattle.broker_laws.specs.Posts as brokers
 use Rattle.broker_laws.proofs.Found.{one-request}
+use Rattle.message_core.specs.Tallies.{count}
 use Rattle.world_core.specs.declared.entries.Entry.TheVariants as entry
 use Rattle.world_core.specs.Nodes.{gives}
 use Rattle.world_core.specs.Nodes.Input.{Learning, Taking}
@@ -251,17 +251,17 @@ module _ (b : Base) (w : World) (calm : CalmWorld b w) (f : Refines (node_turns 
           one-gone m true = refl
           one-gone m false = refl
 
-          one : (j : ℕ) (s : Sending) → numbered w.sendings j ≡ Some s → times_taken w j ≡ 0 → (t : Bool) → (k == j) ≡ t → (count_by (λ i. i == j) (k ∷ w.taken) ≡ 0) ⊎ Taken s.post
+          one : (j : ℕ) (s : Sending) → numbered w.sendings j ≡ Some s → times_taken w j ≡ 0 → (t : Bool) → (k == j) ≡ t → (count j (k ∷ w.taken) ≡ 0) ⊎ Taken s.post
           one j s at z false e = inl (other-copies k j w.taken e ∙ z)
           one j s at z true e =
               let q : Some may.sending ≡ Some s = sym may.sent ∙ ap (numbered w.sendings) (eq-from k j e) ∙ at in
               let is : may.sending ≡ s = cc q in
               inr (ap (λ (x : Sending). x.post) (sym is) ∙ ap (λ z. let p : Post = record { from = from0; to = z; message = m0 } in p) may.to)
 
-          none : (j : ℕ) → numbered w.sendings j ≡ None → count_by (λ i. i == j) (k ∷ w.taken) ≡ 0
+          none : (j : ℕ) → numbered w.sendings j ≡ None → count j (k ∷ w.taken) ≡ 0
           none j e = go (k == j) refl
             where
-              go : (t : Bool) → (k == j) ≡ t → count_by (λ i. i == j) (k ∷ w.taken) ≡ 0
+              go : (t : Bool) → (k == j) ≡ t → count j (k ∷ w.taken) ≡ 0
               go false q = other-copies k j w.taken q ∙ calm.untaken j e
               go true q = let nothing : Some may.sending ≡ None = sym may.sent ∙ ap (numbered w.sendings) (eq-from k j q) ∙ e in absurd (cc nothing)
 
