@@ -69,7 +69,7 @@ times-keyed k (x ∷ xs) a = go (asker_cmp a x) (times-keyed k xs a)
     go Equal h = omega arith
     go Greater h = omega (arith, h)
 
-times-parted : {X : Type 0} (k : ℕ) (test : X → Bool) (xs : List X) → times k (filter test xs) + times k (filter (λ x. not (test x)) xs) ≡ times k xs
+pub times-parted : {X : Type 0} (k : ℕ) (test : X → Bool) (xs : List X) → times k (filter test xs) + times k (filter (λ x. not (test x)) xs) ≡ times k xs
 times-parted k test [] = omega arith
 times-parted k test (x ∷ xs) = go (test x) (times-parted k test xs)
   where

@@ -33,3 +33,5 @@ pub mod Stops
 pub mod Stucks
 pub mod Totals
 pub mod Learnings
+pub mod AskLoads
+pub mod Messages

@@ -15,7 +15,9 @@ use Rattle.stream_port.specs.Fates.{copies_of}
 use Rattle.turn_form.specs.declared.turns.Out.{Out}
 use Rattle.turn_form.specs.Posts.{Post}
 use Rattle.repository_core.specs.Hands.{Hand, now}
-use Rattle.repository_core.specs.Hands as hand
+use Rattle.repository_core.specs.declared.waits.Asker.{Asker}
+use Rattle.repository_core.specs.declared.waits.HeldRead.{HeldRead}
+use Rattle.pseudo_time.specs.TimeParts.{TimeParts}
 use Rattle.repository_core.specs.Turns as hands
 use Rattle.repository_core.specs.Turns.{hand_at}
 use Rattle.repository_core.specs.Rows.{accepts, on_learn, on_message}
@@ -32,7 +34,7 @@ use Rattle.world_core.specs.Legal.{MayGo, MayLearn, MayTake, Rule, times_taken}
 use Rattle.world_facts.proofs.Growths.{numbered-has}
 use Rattle.complete_law.specs.Calm.{CalmPlace, CalmRun, IsPlain, IsQuiet, log_at, world_at}
 use Rattle.complete_law.proofs.Frames.{grown-log}
-use Rattle.complete_law.proofs.HandLoads.{Prices, learnt, measure, price, price-if, stored-load, taken, times}
+use Rattle.complete_law.proofs.HandLoads.{Prices, learnt, price-if, stored-load, taken, times}
 use Rattle.complete_law.proofs.Loads.{Cases, Fed, Kept, by-entry, issued, load, load-append, sent-load}
 use Rattle.complete_law.proofs.Places.{CalmWorld, log_of}
 use Rattle.complete_law.proofs.Ranges.{at-place}
@@ -132,107 +134,134 @@ module _ (g : Sending → ℕ) where
 
 -- ---- one repository
 
-module _ (p : Prices) (r : CalmRun) where
-  abbrev b : Base
-  b = steps.b r
+-- what a message that is taken brings it, at these prices
+abbrev pub gain : Prices → CalmRun → ℕ → Sending → ℕ
+gain p r n s = gain-if (same_node s.post.to (repository n)) (price-if p (accepts n s.post.from s.post.message) s.post.message)
 
-  abbrev pub gain : ℕ → Sending → ℕ
-  gain n s = gain-if (same_node s.post.to (repository n)) (price-if p (accepts n s.post.from s.post.message) s.post.message)
+-- a weight of messages, and what the log, the held reads and the askers count
+module _ (v : Message → ℕ) (rest : List Effect → List (TimeParts × HeldRead) → List Asker → ℕ) where
+  abbrev pub load-of : Hand → ℕ
+  load-of h = load v h.outs + rest (now h) h.held h.askers
 
-  abbrev pub remembered : hand.Mind → ℕ
-  remembered m = times p.kh m.held + times p.ka m.askers
+  abbrev pub counted-in : World → ℕ → ℕ
+  counted-in w n = issued v w (repository n) + rest (log_of w (repository n)) (w.life (repository n)).mind.hands.held (w.life (repository n)).mind.hands.askers
 
-  -- THE INVARIANT: what it has sent, owes, stores, holds and keeps is paid by what it took
-  abbrev pub IsPriced : World → ℕ → Type 0
-  IsPriced w n = issued p.wt w (repository n) + (stored-load p (log_of w (repository n)) + remembered (w.life (repository n)).mind.hands) ≤ used-in (gain n) w
+  module _ (p : Prices) (takes : (h : Hand) (from : NodeId) (m : Message) → load-of (on_message h from m) ≤ load-of h + price-if p (accepts h.number from m) m)
+      (learns : (h : Hand) (s : StampParts) (c : Bool) → load-of (on_learn h s c) ≤ load-of h) (blank : rest [] [] [] ≡ 0) (r : CalmRun) where
+    abbrev b : Base
+    b = steps.b r
 
-  module _ (w : World) (e : Entry) (f : Facts-at r w) (c : CalmWorld b w) (n : ℕ) (k : IsPriced w n) where
-    abbrev w' : World
-    w' = step b w e
+    -- THE INVARIANT: what it has sent, owes, stores, holds and keeps is paid by what it took
+    abbrev pub IsPaidFor : World → ℕ → Type 0
+    IsPaidFor w n = counted-in w n ≤ used-in (gain p r n) w
 
-    abbrev hand0 : Hand
-    hand0 = hand_at n (log_of w (repository n)) (w.life (repository n)).mind.hands
+    module _ (w : World) (e : Entry) (f : Facts-at r w) (c : CalmWorld b w) (n : ℕ) (k : IsPaidFor w n) where
+      abbrev w' : World
+      w' = step b w e
 
-    kept-priced : Kept w w' (repository n) → IsPriced w' n
-    kept-priced same =
-        let x = same.issued p.wt in
-        let y : stored-load p (log_of w' (repository n)) ≡ stored-load p (log_of w (repository n)) = ap (stored-load p) same.log in
-        let v : remembered (w'.life (repository n)).mind.hands ≡ remembered (w.life (repository n)).mind.hands = ap (λ m. remembered m.hands) same.mind in
-        let u = used-on (gain n) b w e in
-        omega (arith, k, x, y, v, u)
+      abbrev hand0 : Hand
+      hand0 = hand_at n (log_of w (repository n)) (w.life (repository n)).mind.hands
 
-    -- a turn
-    turn-priced : (h : Hand) (most : ℕ) (l : Life) → l ≡ life-hand (w.life (repository n)) h → h.base ≡ log_of w (repository n) → Fed w w' (repository n) l → measure p h ≤ measure p hand0 + most → used-in (gain n) w + most ≤ used-in (gain n) w' → IsPriced w' n
-    turn-priced h most l is base fed costs more =
-        let now' : w'.life (repository n) ≡ life-hand (w.life (repository n)) h = fed.life ∙ is in
-        let x : load p.wt (w'.life (repository n)).outs ≡ load p.wt ((w.life (repository n)).outs ++ h.outs) = ap (λ (y : Life). load p.wt y.outs) now' in
-        let y = load-append p.wt (w.life (repository n)).outs h.outs in
-        let s : sent-load p.wt (repository n) w'.sendings ≡ sent-load p.wt (repository n) w.sendings = ap (sent-load p.wt (repository n)) fed.sendings in
-        let log : log_of w' (repository n) ≡ h.fresh ++ log_of w (repository n) = ap (λ (y : Life). reverse (walks.all_effects y)) now' ∙ grown-log (w.life (repository n)).gated (w.life (repository n)).fresh h.fresh in
-        let t : stored-load p (log_of w' (repository n)) ≡ stored-load p (now h) = ap (stored-load p) (log ∙ ap (λ z. h.fresh ++ z) (sym base)) in
-        let m : remembered (w'.life (repository n)).mind.hands ≡ remembered (hands.mind_of h) = ap (λ (y : Life). remembered y.mind.hands) now' in
-        omega (arith, k, costs, more, x, y, s, t, m)
+      kept-paid : Kept w w' (repository n) → IsPaidFor w' n
+      kept-paid same =
+          let x = same.issued v in
+          let y : rest (log_of w' (repository n)) (w'.life (repository n)).mind.hands.held (w'.life (repository n)).mind.hands.askers
+              ≡ rest (log_of w (repository n)) (w'.life (repository n)).mind.hands.held (w'.life (repository n)).mind.hands.askers =
+              ap (λ z. rest z (w'.life (repository n)).mind.hands.held (w'.life (repository n)).mind.hands.askers) same.log in
+          let z : rest (log_of w (repository n)) (w'.life (repository n)).mind.hands.held (w'.life (repository n)).mind.hands.askers
+              ≡ rest (log_of w (repository n)) (w.life (repository n)).mind.hands.held (w.life (repository n)).mind.hands.askers =
+              ap (λ m. rest (log_of w (repository n)) m.hands.held m.hands.askers) same.mind in
+          let u = used-on (gain p r n) b w e in
+          omega (arith, k, x, y, z, u)
 
-    once : (number : ℕ) (may : MayTake (steps.fates r) w (repository n) number) → seen number w.taken ≡ false
-    once number may = unseen number w.taken (zero-of (times_taken w number) (one number may.fated) may.fewer)
-      where
-        one : (m : ℕ) → numbered (steps.fates r) m ≡ Some may.fate → copies_of may.fate ≡ 1
-        one zero e = absurd (cc e)
-        one (suc m) e = let x = at-place IsPlain (steps.fates r) m may.fate r.plain e in ap (λ k. min k 3) x.0
+      -- a turn
+      turn-paid : (h : Hand) (most : ℕ) (l : Life) → l ≡ life-hand (w.life (repository n)) h → h.base ≡ log_of w (repository n) → Fed w w' (repository n) l → load-of h ≤ load-of hand0 + most →
+          used-in (gain p r n) w + most ≤ used-in (gain p r n) w' → IsPaidFor w' n
+      turn-paid h most l is base fed costs more =
+          let now' : w'.life (repository n) ≡ life-hand (w.life (repository n)) h = fed.life ∙ is in
+          let x : load v (w'.life (repository n)).outs ≡ load v ((w.life (repository n)).outs ++ h.outs) = ap (λ (y : Life). load v y.outs) now' in
+          let y = load-append v (w.life (repository n)).outs h.outs in
+          let s : sent-load v (repository n) w'.sendings ≡ sent-load v (repository n) w.sendings = ap (sent-load v (repository n)) fed.sendings in
+          let log : log_of w' (repository n) ≡ h.fresh ++ log_of w (repository n) =
+              ap (λ (y : Life). reverse (walks.all_effects y)) now' ∙ grown-log (w.life (repository n)).gated (w.life (repository n)).fresh h.fresh in
+          let t : rest (log_of w' (repository n)) (w'.life (repository n)).mind.hands.held (w'.life (repository n)).mind.hands.askers
+              ≡ rest (now h) (w'.life (repository n)).mind.hands.held (w'.life (repository n)).mind.hands.askers =
+              ap (λ z. rest z (w'.life (repository n)).mind.hands.held (w'.life (repository n)).mind.hands.askers) (log ∙ ap (λ z. h.fresh ++ z) (sym base)) in
+          let m : rest (now h) (w'.life (repository n)).mind.hands.held (w'.life (repository n)).mind.hands.askers ≡ rest (now h) h.held h.askers =
+              ap (λ (y : Life). rest (now h) y.mind.hands.held y.mind.hands.askers) now' in
+          omega (arith, k, costs, more, x, y, s, t, m)
 
-        zero-of : (x : ℕ) → copies_of may.fate ≡ 1 → x < copies_of may.fate → x ≡ 0
-        zero-of x q h = let l : x < 1 = subst (λ m. x < m) q h in omega (arith, l)
+      once : (number : ℕ) (may : MayTake (steps.fates r) w (repository n) number) → seen number w.taken ≡ false
+      once number may = unseen number w.taken (zero-of (times_taken w number) (one number may.fated) may.fewer)
+        where
+          one : (m : ℕ) → numbered (steps.fates r) m ≡ Some may.fate → copies_of may.fate ≡ 1
+          one zero e = absurd (cc e)
+          one (suc m) e = let x = at-place IsPlain (steps.fates r) m may.fate r.plain e in ap (λ k. min k 3) x.0
 
-    brings : (number : ℕ) (s : Sending) → numbered w.sendings number ≡ Some s → seen number w.taken ≡ false → used-in (gain n) w + gain n s ≤ used (gain n) 1 (number ∷ w.taken) w.sendings
-    brings zero s e off = absurd (cc e)
-    brings (suc i) s e off =
-        let next : suc i ≡ 1 + i = omega arith in
-        let k = used-takes (gain n) 1 i w.taken w.sendings s e (subst (λ m. seen m w.taken ≡ false) next off) in
-        let same : used (gain n) 1 (suc i ∷ w.taken) w.sendings ≡ used (gain n) 1 ((1 + i) ∷ w.taken) w.sendings = ap (λ m. used (gain n) 1 (m ∷ w.taken) w.sendings) next in
-        omega (arith, k, same)
+          zero-of : (x : ℕ) → copies_of may.fate ≡ 1 → x < copies_of may.fate → x ≡ 0
+          zero-of x q h = let l : x < 1 = subst (λ m. x < m) q h in omega (arith, l)
 
-    hand-takes : (from : NodeId) (m : Message) → after_input b (repository n) (w.life (repository n)) (Taking from m) ≡ life-hand (w.life (repository n)) (on_message hand0 from m)
-    unfolding gives hands.gives
-    hand-takes from m = refl
+      brings : (number : ℕ) (s : Sending) → numbered w.sendings number ≡ Some s → seen number w.taken ≡ false → used-in (gain p r n) w + gain p r n s ≤ used (gain p r n) 1 (number ∷ w.taken) w.sendings
+      brings zero s e off = absurd (cc e)
+      brings (suc i) s e off =
+          let next : suc i ≡ 1 + i = omega arith in
+          let k = used-takes (gain p r n) 1 i w.taken w.sendings s e (subst (λ m. seen m w.taken ≡ false) next off) in
+          let same : used (gain p r n) 1 (suc i ∷ w.taken) w.sendings ≡ used (gain p r n) 1 ((1 + i) ∷ w.taken) w.sendings = ap (λ m. used (gain p r n) 1 (m ∷ w.taken) w.sendings) next in
+          omega (arith, k, same)
 
-    hand-learns : (s : StampParts) (d : Bool) → after_input b (repository n) (w.life (repository n)) (Learning s d) ≡ life-hand (w.life (repository n)) (on_learn hand0 s d)
-    unfolding gives hands.gives
-    hand-learns s d = refl
+      hand-takes : (from : NodeId) (m : Message) → after_input b (repository n) (w.life (repository n)) (Taking from m) ≡ life-hand (w.life (repository n)) (on_message hand0 from m)
+      unfolding gives hands.gives
+      hand-takes from m = refl
 
-    take-case : (number : ℕ) (may : MayTake (steps.fates r) w (repository n) number) → w'.taken ≡ number ∷ w.taken → (w'.flags (repository n)).gone ≡ (w.flags (repository n)).gone →
-        Fed w w' (repository n) (after_input b (repository n) (w.life (repository n)) (Taking may.sending.post.from may.sending.post.message)) → IsPriced w' n
-    take-case number may ks gone fed =
-        let from0 : NodeId = may.sending.post.from in
-        let m0 : Message = may.sending.post.message in
-        let sent : Has (record { from = may.sending.post.from; to = repository n; message = may.sending.post.message }) (sent_by w) =
-            subst (λ z'. Has (record { from = may.sending.post.from; to = z'; message = may.sending.post.message }) (sent_by w)) may.to (numbered-has (λ (x : Sending). x.post) w.sendings number may.sending may.sent) in
-        let base = (take-fine (sent_by w) n (log_of w (repository n)) hand0 may.sending.post.from may.sending.post.message sent (begun-fine (sent_by w) n (log_of w (repository n)) (w.life (repository n)).mind.hands)).base in
-        let to : same_node may.sending.post.to (repository n) ≡ true = subst (λ z'. same_node z' (repository n) ≡ true) (sym may.to) (same_node-refl (repository n)) in
-        let worth : gain n may.sending ≡ price-if p (accepts n may.sending.post.from may.sending.post.message) may.sending.post.message =
-            ap (λ t. gain-if t (price-if p (accepts n may.sending.post.from may.sending.post.message) may.sending.post.message)) to in
-        let grows = brings number may.sending may.sent (once number may) in
-        let after : used-in (gain n) w' ≡ used (gain n) 1 (number ∷ w.taken) w.sendings = ap (λ ks. used (gain n) 1 ks w'.sendings) ks ∙ ap (used (gain n) 1 (number ∷ w.taken)) fed.sendings in
-        turn-priced (on_message hand0 may.sending.post.from may.sending.post.message) (price-if p (accepts n may.sending.post.from may.sending.post.message) may.sending.post.message)
-        (after_input b (repository n) (w.life (repository n)) (Taking may.sending.post.from may.sending.post.message)) (hand-takes may.sending.post.from may.sending.post.message) base fed
-        (taken p hand0 may.sending.post.from may.sending.post.message) (omega (arith, worth, grows, after))
+      hand-learns : (s : StampParts) (d : Bool) → after_input b (repository n) (w.life (repository n)) (Learning s d) ≡ life-hand (w.life (repository n)) (on_learn hand0 s d)
+      unfolding gives hands.gives
+      hand-learns s d = refl
 
-    learn-case : (s : StampParts) (d : Bool) → MayLearn w (repository n) s d → Fed w w' (repository n) (after_input b (repository n) (w.life (repository n)) (Learning s d)) → IsPriced w' n
-    learn-case s d may fed =
-        let base = (on-learn-fine (sent_by w) n (log_of w (repository n)) hand0 s d (begun-fine (sent_by w) n (log_of w (repository n)) (w.life (repository n)).mind.hands)).base in
-        let u = used-on (gain n) b w e in
-        let l = learnt p hand0 s d in
-        turn-priced (on_learn hand0 s d) 0 (after_input b (repository n) (w.life (repository n)) (Learning s d)) (hand-learns s d) base fed (omega (arith, l)) (omega (arith, u))
+      take-case : (number : ℕ) (may : MayTake (steps.fates r) w (repository n) number) → w'.taken ≡ number ∷ w.taken → (w'.flags (repository n)).gone ≡ (w.flags (repository n)).gone →
+          Fed w w' (repository n) (after_input b (repository n) (w.life (repository n)) (Taking may.sending.post.from may.sending.post.message)) → IsPaidFor w' n
+      take-case number may ks gone fed =
+          let from0 : NodeId = may.sending.post.from in
+          let m0 : Message = may.sending.post.message in
+          let sent : Has (record { from = may.sending.post.from; to = repository n; message = may.sending.post.message }) (sent_by w) =
+              subst (λ z'. Has (record { from = may.sending.post.from; to = z'; message = may.sending.post.message }) (sent_by w)) may.to (numbered-has (λ (x : Sending). x.post) w.sendings number may.sending may.sent) in
+          let base = (take-fine (sent_by w) n (log_of w (repository n)) hand0 may.sending.post.from may.sending.post.message sent (begun-fine (sent_by w) n (log_of w (repository n)) (w.life (repository n)).mind.hands)).base in
+          let to : same_node may.sending.post.to (repository n) ≡ true = subst (λ z'. same_node z' (repository n) ≡ true) (sym may.to) (same_node-refl (repository n)) in
+          let worth : gain p r n may.sending ≡ price-if p (accepts n may.sending.post.from may.sending.post.message) may.sending.post.message =
+              ap (λ t. gain-if t (price-if p (accepts n may.sending.post.from may.sending.post.message) may.sending.post.message)) to in
+          let grows = brings number may.sending may.sent (once number may) in
+          let after : used-in (gain p r n) w' ≡ used (gain p r n) 1 (number ∷ w.taken) w.sendings = ap (λ ks. used (gain p r n) 1 ks w'.sendings) ks ∙ ap (used (gain p r n) 1 (number ∷ w.taken)) fed.sendings in
+          turn-paid (on_message hand0 may.sending.post.from may.sending.post.message) (price-if p (accepts n may.sending.post.from may.sending.post.message) may.sending.post.message)
+          (after_input b (repository n) (w.life (repository n)) (Taking may.sending.post.from may.sending.post.message)) (hand-takes may.sending.post.from may.sending.post.message) base fed
+          (takes hand0 may.sending.post.from may.sending.post.message) (omega (arith, worth, grows, after))
 
-    priced-case : IsQuiet e → Rule b (steps.fates r) w e → IsPriced w' n
-    priced-case q rule = by-entry r w f c (IsPriced w' n) e (repository n) q rule (record { kept = kept-priced; takes = take-case; goes = λ may gone fed. absurd (false≢true may.broker); learns = learn-case })
+      learn-case : (s : StampParts) (d : Bool) → MayLearn w (repository n) s d → Fed w w' (repository n) (after_input b (repository n) (w.life (repository n)) (Learning s d)) → IsPaidFor w' n
+      learn-case s d may fed =
+          let base = (on-learn-fine (sent_by w) n (log_of w (repository n)) hand0 s d (begun-fine (sent_by w) n (log_of w (repository n)) (w.life (repository n)).mind.hands)).base in
+          let u = used-on (gain p r n) b w e in
+          let l = learns hand0 s d in
+          turn-paid (on_learn hand0 s d) 0 (after_input b (repository n) (w.life (repository n)) (Learning s d)) (hand-learns s d) base fed (omega (arith, l)) (omega (arith, u))
 
-  start-priced : (n : ℕ) → IsPriced (start_world b) n
-  start-priced n =
-      let x : load p.wt ((start_world b).life (repository n)).outs ≡ 0 = ap (λ (l : Life). load p.wt l.outs) (steps.empty-life r (repository n)) in
-      let y : stored-load p (log_of (start_world b) (repository n)) ≡ 0 = ap (λ (l : Life). stored-load p (reverse (walks.all_effects l))) (steps.empty-life r (repository n)) in
-      let v : remembered ((start_world b).life (repository n)).mind.hands ≡ 0 = ap (λ (l : Life). remembered l.mind.hands) (steps.empty-life r (repository n)) in
-      omega (arith, x, y, v)
+      paid-case : IsQuiet e → Rule b (steps.fates r) w e → IsPaidFor w' n
+      paid-case q rule = by-entry r w f c (IsPaidFor w' n) e (repository n) q rule (record { kept = kept-paid; takes = take-case; goes = λ may gone fed. absurd (false≢true may.broker); learns = learn-case })
 
--- at each place
-pub all-priced : (p : Prices) (place : CalmPlace) (n : ℕ) → IsPriced p place.run (world_at place) n
-all-priced p place = steps.always place (λ w. (n : ℕ) → IsPriced p place.run w n) (start-priced p place.run) (λ w e f c q rule k n. priced-case p place.run w e f c n (k n) q rule)
+
+    start-paid : (n : ℕ) → IsPaidFor (start_world b) n
+    start-paid n =
+        let x : load v ((start_world b).life (repository n)).outs ≡ 0 = ap (λ (l : Life). load v l.outs) (steps.empty-life r (repository n)) in
+        let y : rest (log_of (start_world b) (repository n)) ((start_world b).life (repository n)).mind.hands.held ((start_world b).life (repository n)).mind.hands.askers ≡ rest [] [] [] =
+            ap (λ (l : Life). rest (reverse (walks.all_effects l)) l.mind.hands.held l.mind.hands.askers) (steps.empty-life r (repository n)) in
+        omega (arith, x, y, blank)
+
+  -- at each place
+  pub all-paid : (p : Prices) → ((h : Hand) (from : NodeId) (m : Message) → load-of (on_message h from m) ≤ load-of h + price-if p (accepts h.number from m) m) →
+      ((h : Hand) (s : StampParts) (c : Bool) → load-of (on_learn h s c) ≤ load-of h) → rest [] [] [] ≡ 0 → (place : CalmPlace) (n : ℕ) → counted-in (world_at place) n ≤ used-in (gain p place.run n) (world_at place)
+  all-paid p takes learns blank place =
+      steps.always place (λ w. (n : ℕ) → counted-in w n ≤ used-in (gain p place.run n) w) (start-paid p takes learns blank place.run)
+      (λ w e f c q rule k n. paid-case p takes learns blank place.run w e f c n (k n) q rule)
+
+-- what the log stores, and what is held and kept, at these prices
+abbrev pub rest-of : Prices → List Effect → List (TimeParts × HeldRead) → List Asker → ℕ
+rest-of p log held askers = stored-load p log + (times p.kh held + times p.ka askers)
+
+pub all-priced : (p : Prices) (place : CalmPlace) (n : ℕ) → counted-in p.wt (rest-of p) (world_at place) n ≤ used-in (gain p place.run n) (world_at place)
+all-priced p place n = all-paid p.wt (rest-of p) p (taken p) (learnt p) (omega arith) place n

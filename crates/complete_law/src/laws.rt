@@ -23,6 +23,13 @@ pub fn law_never_stuck()
     ensures { (p : CalmPlace) → IsIdleAt p → AllDone p }
 {}
 
+/// Each attempt sends at most two messages to begin, four per request and two to end. A script has at
+/// most 10,000 requests.
+pub fn law_few_messages()
+    ensures few { (p : CalmPlace) (most : ℕ) → AskAtMost p.run most → length (sent_at p) ≤ most_messages p.run most }
+    ensures always { (script : Block) → AsksAtMost 10000 (denote script) }
+{}
+
 /// No node has more effects, so each finds room where a medium has as many pages.
 pub fn law_few_effects()
     ensures { (p : CalmPlace) (most : ℕ) (n : NodeId) → AskAtMost p.run most → length (log_at p n) ≤ most_effects p.run most }
