@@ -134,9 +134,12 @@ CloseAnswers (Some (state.Decided e)) s d m = m ≡ message.Decided s e
 close-as-answers : (h : Hand) (from : NodeId) (s : StampParts) (d : Decision) (u : Option RecordState) → (u ≡ None → ⊥) → (m : Message) × CloseAnswers u s d m × Has (record { to = from; message = m }) (close_as h from s d u).outs
 close-as-answers h from s d None some = absurd (some refl)
 close-as-answers h from s d (Some (state.Unknown t)) some =
-    let j : Hand = send from (message.Decided s d) (note (effect.Decide s d) h) in
-    (message.Decided s d, refl, release-grows s (tell_askers s (is_commit d) j) (record { to = from; message = message.Decided s d })
-    (tell-askers-grow s (is_commit d) j (record { to = from; message = message.Decided s d }) (sent-here (note (effect.Decide s d) h) from (message.Decided s d))))
+    let j : Hand = send from (message.Decided s d) (note (effect.Decide s d) h) in (
+      message.Decided s d,
+      refl,
+      release-grows s (tell_askers s (is_commit d) j) (record { to = from; message = message.Decided s d })
+          (tell-askers-grow s (is_commit d) j (record { to = from; message = message.Decided s d }) (sent-here (note (effect.Decide s d) h) from (message.Decided s d))),
+    )
 close-as-answers h from s d (Some (state.Decided e)) some = (message.Decided s e, refl, sent-here h from (message.Decided s e))
 
 pub on-close-answers : (h : Hand) (from : NodeId) (s : StampParts) (d : Decision) → (record_of (now h) s ≡ None → ⊥) →

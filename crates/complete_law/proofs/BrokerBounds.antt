@@ -54,9 +54,10 @@ IsLed script most a = IsAllowed script most a.task × IsSpare a × Every (λ (t 
 pub led : (script : List ℕ → Tree) (most run : ℕ) (ts : List Task) (as' : List Act) → Every (IsAllowed script most) ts → Started ts as' → Every IsSpare as' → Every (λ (a : Act). (a.run ≡ run) × OfAct a) as' → Every (IsPlayed script) (tries_of as') →
     Every (IsLed script most) as'
 led script most run ts [] allowed s spare kin played = tt
-led script most run ts (a ∷ as') allowed s spare kin played =
-    ((at-place (IsAllowed script most) ts (length as') a.task allowed s.1, spare.0, both a.tries kin.0.1 (every-left (IsPlayed script) a.tries (tries_of as') played)),
-    led script most run ts as' allowed s.0 spare.1 kin.1 (every-right (IsPlayed script) a.tries (tries_of as') played))
+led script most run ts (a ∷ as') allowed s spare kin played = (
+  (at-place (IsAllowed script most) ts (length as') a.task allowed s.1, spare.0, both a.tries kin.0.1 (every-left (IsPlayed script) a.tries (tries_of as') played)),
+  led script most run ts as' allowed s.0 spare.1 kin.1 (every-right (IsPlayed script) a.tries (tries_of as') played),
+)
   where
     both : (us : List Try) → Every (λ (t : Try). (t.task ≡ a.task) × (t.run ≡ a.run)) us → Every (IsPlayed script) us → Every (λ (t : Try). IsPlayed script t × (t.task ≡ a.task)) us
     both [] k p = tt
@@ -106,11 +107,12 @@ module _ (p : CalmPlace) (most : ℕ) (asks : AskAtMost p.run most) where
 
     in-run : (book (log n)).run ≡ base.run → Every (IsLed base.script most) (book (log n)).acts × (tries-allowed (book (log n)).acts ≤ tries-given (tasks_of base n))
     in-run same =
-        let s : Started (tasks_of base n) (book (log n)).acts = started base.script n base.run (tasks_of base n) (log n) turn.desk.tidy turn.ready.same_plan same in
-        (led base.script most (book (log n)).run (tasks_of base n) (book (log n)).acts allowed s
-            (front-of (book (log n)).acts (book (log n)).past (spare base.script n (log n) turn.desk.tidy)) (kin (log n))
-            (own-tries (IsPlayed base.script) (book (log n)).acts (book (log n)).past (played base.script n (log n) turn.desk.tidy)),
-        started-few (tasks_of base n) (book (log n)).acts s)
+        let s : Started (tasks_of base n) (book (log n)).acts = started base.script n base.run (tasks_of base n) (log n) turn.desk.tidy turn.ready.same_plan same in (
+          led base.script most (book (log n)).run (tasks_of base n) (book (log n)).acts allowed s
+              (front-of (book (log n)).acts (book (log n)).past (spare base.script n (log n) turn.desk.tidy)) (kin (log n))
+              (own-tries (IsPlayed base.script) (book (log n)).acts (book (log n)).past (played base.script n (log n) turn.desk.tidy)),
+          started-few (tasks_of base n) (book (log n)).acts s,
+        )
 
     -- all acts of the book are led, and have no more attempts than the broker's tasks
     pub all-led : Every (IsLed base.script most) (book (log n)).acts × (tries-allowed (book (log n)).acts ≤ tries-given (tasks_of base n))
@@ -127,7 +129,7 @@ module _ (p : CalmPlace) (most : ℕ) (asks : AskAtMost p.run most) where
         let long : length (log n) ≤ begun-run base.run (book (log n)) + size-acts ((book (log n)).acts ++ (book (log n)).past) = log-size base.script n base.run (log n) turn.desk.tidy (only-runs p n) in
         let join : size-acts ((book (log n)).acts ++ (book (log n)).past) ≡ size-acts (book (log n)).acts = ap (λ past. size-acts ((book (log n)).acts ++ past)) no-past ∙ ap size-acts (append-nil (book (log n)).acts) in
         let share : size-acts (book (log n)).acts ≤ tries-allowed (book (log n)).acts * (most + 3) =
-            acts-share size-act (most + 3) (book (log n)).acts (led-sizes base.script most (book (log n)).acts all-led.0) size-acts refl (λ a more. refl) in
+        acts-share size-act (most + 3) (book (log n)).acts (led-sizes base.script most (book (log n)).acts all-led.0) size-acts refl (λ a more. refl) in
         let few : tries-given (tasks_of base n) ≤ tries_in base.acts = tasks-few (λ (a : ActSpec). a.broker == n) base.acts in
         let mine : tries-allowed (book (log n)).acts ≤ tries-given (tasks_of base n) = all-led.1 in
         let all = mul-mono (tries-allowed (book (log n)).acts) (tries_in base.acts) (most + 3) (omega (arith, few, mine)) in

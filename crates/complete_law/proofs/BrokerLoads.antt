@@ -79,10 +79,11 @@ module _ (u v z : ℕ) (r : CalmRun) where
     w' = step b w e
 
     kept-paid : Kept w w' (broker n) → IsPaid w' n
-    kept-paid same =
-        ((λ g. let x = k.0 (sym same.gone ∙ g) in (same.log ∙ x.0, below-zero (issued wt w' (broker n)) (issued wt w (broker n)) (same.issued wt) x.1)),
-        up-to (issued wt w' (broker n)) (issued wt w (broker n)) (paid-of n (log_of w (broker n)) (w.life (broker n)).mind.heard) (paid-of n (log_of w' (broker n)) (w'.life (broker n)).mind.heard) (same.issued wt) k.1
-        (ap (λ log. paid-of n log (w'.life (broker n)).mind.heard) same.log ∙ ap (λ m. paid-of n (log_of w (broker n)) m.heard) same.mind))
+    kept-paid same = (
+      (λ g. let x = k.0 (sym same.gone ∙ g) in (same.log ∙ x.0, below-zero (issued wt w' (broker n)) (issued wt w (broker n)) (same.issued wt) x.1)),
+      up-to (issued wt w' (broker n)) (issued wt w (broker n)) (paid-of n (log_of w (broker n)) (w.life (broker n)).mind.heard) (paid-of n (log_of w' (broker n)) (w'.life (broker n)).mind.heard) (same.issued wt) k.1
+          (ap (λ log. paid-of n log (w'.life (broker n)).mind.heard) same.log ∙ ap (λ m. paid-of n (log_of w (broker n)) m.heard) same.mind),
+    )
 
     -- a turn pays what it says
     turn-paid : (i : desks.Input) (l : Life) → l ≡ life-with b (w.life (broker n)) (turned b w n i) → Fed w w' (broker n) l →
@@ -98,23 +99,25 @@ module _ (u v z : ℕ) (r : CalmRun) where
         let log : log_of w' (broker n) ≡ desks.all_effects (turned b w n i) = ap (λ (y : Life). reverse (walks.all_effects y)) now ∙ after.0 in
         let heard : (w'.life (broker n)).mind.heard ≡ (turned b w n i).heard = ap (λ (y : Life). y.mind.heard) now in
         let p : paid-of n (log_of w' (broker n)) (w'.life (broker n)).mind.heard ≡ paid-of n (desks.all_effects (turned b w n i)) (turned b w n i).heard =
-            ap (λ z'. paid-of n z' (w'.life (broker n)).mind.heard) log ∙ ap (paid-of n (desks.all_effects (turned b w n i))) heard in
+        ap (λ z'. paid-of n z' (w'.life (broker n)).mind.heard) log ∙ ap (paid-of n (desks.all_effects (turned b w n i))) heard in
         omega (arith, paid, x, y, t, s, p)
 
     take-case : (number : ℕ) (may : MayTake (steps.fates r) w (broker n) number) → w'.taken ≡ number ∷ w.taken → (w'.flags (broker n)).gone ≡ (w.flags (broker n)).gone →
         Fed w w' (broker n) (after_input b (broker n) (w.life (broker n)) (Taking may.sending.post.from may.sending.post.message)) → IsPaid w' n
-    take-case number may taken gone fed =
-        ((λ g. absurd (true≢false (sym (may.gone refl) ∙ sym gone ∙ g))),
-        turn-paid (desks.Take may.sending.post.from may.sending.post.message) (after_input b (broker n) (w.life (broker n)) (Taking may.sending.post.from may.sending.post.message)) (takes b w n may.sending.post.from may.sending.post.message) fed
-        (costs.take-paid u v z b.script n b.run (tasks_of b n) (IsBegun w) (IsDecided w) (issued wt w (broker n)) (sent_by w) (desk_of b w n) may.sending.post.from may.sending.post.message refl
-        (may.sending.post.from, moves.was-sent b w c f n number (steps.fates r) may) (moves.tells b w c f n number (steps.fates r) may) (c.sound n) k.1))
+    take-case number may taken gone fed = (
+      (λ g. absurd (true≢false (sym (may.gone refl) ∙ sym gone ∙ g))),
+      turn-paid (desks.Take may.sending.post.from may.sending.post.message) (after_input b (broker n) (w.life (broker n)) (Taking may.sending.post.from may.sending.post.message)) (takes b w n may.sending.post.from may.sending.post.message) fed
+          (costs.take-paid u v z b.script n b.run (tasks_of b n) (IsBegun w) (IsDecided w) (issued wt w (broker n)) (sent_by w) (desk_of b w n) may.sending.post.from may.sending.post.message refl
+          (may.sending.post.from, moves.was-sent b w c f n number (steps.fates r) may) (moves.tells b w c f n number (steps.fates r) may) (c.sound n) k.1),
+    )
 
     go-case : MayGo w (broker n) → (w'.flags (broker n)).gone ≡ true → Fed w w' (broker n) (after_input b (broker n) (w.life (broker n)) Going) → IsPaid w' n
     go-case may gone fed =
-        let new = k.0 may.fresh in
-        ((λ g. absurd (true≢false (sym gone ∙ g))),
-        turn-paid desks.Go (after_input b (broker n) (w.life (broker n)) Going) (goes b w n) fed
-        (let x = costs.go-paid u v z b.script n b.run (tasks_of b n) (IsBegun w) (IsDecided w) (desk_of b w n) refl (c.sound n) (no-acts n (log_of w (broker n)) (w.life (broker n)).mind.heard new.0) in let y = new.1 in omega (arith, x, y)))
+        let new = k.0 may.fresh in (
+          (λ g. absurd (true≢false (sym gone ∙ g))),
+          turn-paid desks.Go (after_input b (broker n) (w.life (broker n)) Going) (goes b w n) fed
+              (let x = costs.go-paid u v z b.script n b.run (tasks_of b n) (IsBegun w) (IsDecided w) (desk_of b w n) refl (c.sound n) (no-acts n (log_of w (broker n)) (w.life (broker n)).mind.heard new.0) in let y = new.1 in omega (arith, x, y)),
+        )
 
     paid-case : IsQuiet e → Rule b (steps.fates r) w e → IsPaid w' n
     paid-case q rule = by-entry r w f c (IsPaid w' n) e (broker n) q rule (record { kept = kept-paid; takes = take-case; goes = go-case; learns = λ s d may fed. absurd (true≢false may.repository) })

@@ -143,8 +143,8 @@ module _ (b : Base) (w : World) (calm : CalmWorld b w) (f : Refines (node_turns 
       let node-i : NodeOk (node_facts b.script) (around (happened (node_turns b.script) f.events)) (broker i) (seat_of (w.life (broker i))) = node-there b w calm f (broker i) known-i in
       let gated-known : reverse (logs_at (λ n. []) w (broker i)) ≡ reverse l.gated = ap (λ c. reverse (if c then (w.life (broker i)).gated else [])) known-i in
       let r = open-closed b w calm (facts-of b.script (node_turns b.script) (node_facts b.script) (node-laws b.script) b (λ n. []) [] (λ t. ⊥) w f) i
-          (subst (IsTidy b.script i) (sym gated-known) node-i.tidy) (reverse l.fresh) (reverse-append l.gated l.fresh ∙ ap (λ z. reverse l.fresh ++ z) (sym gated-known))
-          (subst (λ z. Grew (FitsLog b.script i) z (reverse l.fresh)) (sym gated-known) node-i.grew) t found first.2 own (happened (node_turns b.script) f.events).ticks (λ m h. f.models.ticked m h) d n closed in
+      (subst (IsTidy b.script i) (sym gated-known) node-i.tidy) (reverse l.fresh) (reverse-append l.gated l.fresh ∙ ap (λ z. reverse l.fresh ++ z) (sym gated-known))
+      (subst (λ z. Grew (FitsLog b.script i) z (reverse l.fresh)) (sym gated-known) node-i.grew) t found first.2 own (happened (node_turns b.script) f.events).ticks (λ m h. f.models.ticked m h) d n closed in
       (r.0, ap is_finished r.1)
 
   -- the request is served

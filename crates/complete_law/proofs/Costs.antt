@@ -481,7 +481,7 @@ module _ (u v z : ℕ) (script : List ℕ → Tree) where
     closed-room c h b t none last k =
         let m = need-if (b.run == run) (stage_of script (record h { closed = Some t.stamp }) (open_try b) (last_try b)) in
         let n : need (stage_of script (record h { closed = Some t.stamp }) (open_try b) (last_try b)) ≡ 0 =
-            subst (λ o. need (stage_of script (record h { closed = Some t.stamp }) o (last_try b)) ≡ 0) (sym none) (subst (λ o. need (by_last (record h { closed = Some t.stamp }) o) ≡ 0) (sym last) (shut (is_none t.end) (is_settled t.end))) in
+        subst (λ o. need (stage_of script (record h { closed = Some t.stamp }) o (last_try b)) ≡ 0) (sym none) (subst (λ o. need (by_last (record h { closed = Some t.stamp }) o) ≡ 0) (sym last) (shut (is_none t.end) (is_settled t.end))) in
         omega (arith, k, m, n)
       where
         shut : (n s : Bool) → need (if n || (if n then false else (s || is_stamp (Some t.stamp) t.stamp)) then Idle else Closing t) ≡ 0
@@ -608,9 +608,9 @@ module _ (u v z : ℕ) (script : List ℕ → Tree) where
       go-paid d none sound no-acts =
           let g : Heard = record d.heard { gone = true } in
           let idle : need (stage_of script (record d.heard { gone = true }) (open_try (At d)) (last_try (At d))) ≡ 0 =
-              subst (λ as'. need (stage_of script (record d.heard { gone = true }) (open_of as') (front (tries_of as'))) ≡ 0) (sym no-acts) refl in
+          subst (λ as'. need (stage_of script (record d.heard { gone = true }) (open_of as') (front (tries_of as'))) ≡ 0) (sym no-acts) refl in
           let m = need-if ((At d).run == run) (stage_of script (record d.heard { gone = true }) (open_try (At d)) (last_try (At d))) in
           let k = settled-paid 0 (hears (record d.heard { gone = true }) d) none
-              (record { past = sound.past; early = sound.early; trail = sound.trail; settled = sound.settled; started = sound.started; ended = sound.ended; begun = sound.begun; closed = sound.closed })
-              (omega (arith, idle, m)) in
+          (record { past = sound.past; early = sound.early; trail = sound.trail; settled = sound.settled; started = sound.started; ended = sound.ended; begun = sound.begun; closed = sound.closed })
+          (omega (arith, idle, m)) in
           omega (arith, k)

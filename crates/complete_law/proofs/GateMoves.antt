@@ -168,10 +168,13 @@ module _ (b : Base) (w : World) (calm : CalmWorld b w) (f : Refines (node_turns 
 
       go : Placed b w i o → Placed b w' i o
       go (inl x) = inl (flies (broker i) o (request-leaves (all_effects (w.life (broker i))) (stage b.script b.run (state b.script i b.run (tasks_of b i) (desk_of b w i)) (w.life (broker i)).mind.heard) o stands) x)
-      go (inr (inl (from, m, x, h))) = inr (inl (from, m,
-          flies from (record { to = broker i; message = m }) (answer-leaves b.script (stage b.script b.run (state b.script i b.run (tasks_of b i) (desk_of b w i)) (w.life (broker i)).mind.heard) (w.life (broker i)).mind.heard (all_effects (w.life from)) (broker i) m h) x,
-          subst (λ l. (row b.script (stage b.script b.run (state b.script i b.run (tasks_of b i) (desk_at l (w'.life (broker i)).mind.heard)) (w'.life (broker i)).mind.heard) (w'.life (broker i)).mind.heard (news m) ≡ Ignored → ⊥)) (sym (log-same (broker i)))
-          (subst (λ z. (row b.script (stage b.script b.run (state b.script i b.run (tasks_of b i) (desk_at (log_of w (broker i)) z.heard)) z.heard) z.heard (news m) ≡ Ignored → ⊥)) (sym (mind-same (broker i))) h)))
+      go (inr (inl (from, m, x, h))) = inr (inl (
+        from,
+        m,
+        flies from (record { to = broker i; message = m }) (answer-leaves b.script (stage b.script b.run (state b.script i b.run (tasks_of b i) (desk_of b w i)) (w.life (broker i)).mind.heard) (w.life (broker i)).mind.heard (all_effects (w.life from)) (broker i) m h) x,
+        subst (λ l. (row b.script (stage b.script b.run (state b.script i b.run (tasks_of b i) (desk_at l (w'.life (broker i)).mind.heard)) (w'.life (broker i)).mind.heard) (w'.life (broker i)).mind.heard (news m) ≡ Ignored → ⊥)) (sym (log-same (broker i)))
+            (subst (λ z. (row b.script (stage b.script b.run (state b.script i b.run (tasks_of b i) (desk_at (log_of w (broker i)) z.heard)) z.heard) z.heard (news m) ≡ Ignored → ⊥)) (sym (mind-same (broker i))) h),
+      ))
       go (inr (inr k)) = inr (inr (held-more i o k))
 
   -- ---- repositories

@@ -54,6 +54,7 @@ answering = record {
   later-read = λ t e. omega arith;
   later-version = λ t x. omega arith;
 }
+
 abbrev pub telling : Prices
 telling = record {
   wt = tell-one;
@@ -74,6 +75,7 @@ telling = record {
   later-read = λ t e. omega arith;
   later-version = λ t x. omega arith;
 }
+
 each : (m : Message) → answer-one m + (ask-one m + tell-one m) ≡ 1
 each (message.Ask s) = refl
 each (message.Tell s c) = refl
@@ -257,7 +259,7 @@ module _ (p : CalmPlace) (most : ℕ) (asks : AskAtMost p.run most) where
       let t = paid-total telling (by-repository ask-one) (telling-most p.run) in
       let k1 = sent-total ask-one ss (top ss) (omega arith) in
       let k2 = sum-mono (λ i. sent-load ask-one (repository i) ss) (λ i. all (gain requesting p.run i) ss) (top ss)
-          (λ i. (let x = few i in let z = used-most (gain requesting p.run i) 1 w.taken ss in omega (arith, x, z))) in
+      (λ i. (let x = few i in let z = used-most (gain requesting p.run i) 1 w.taken ss in omega (arith, x, z))) in
       let k3 = gains-total requesting p.run (by-broker (wt 0 1 0 p.run)) (gain-most requesting (wt 0 1 0 p.run) (requests-each p.run) refl p.run) ss (top ss) in
       let v = brokers-few p most asks 0 1 0 in
       let s = spread (tries_in p.run.plan.acts) in

@@ -96,9 +96,10 @@ act-over a final e = by-spent a.spent refl e
 
 acts-over : (as' : List Act) → Every EndsFinal (tries_of as') → all_over as' ≡ true → Every HasOutcome as'
 acts-over [] final e = tt
-acts-over (a ∷ as') final e =
-    (act-over a (every-left EndsFinal a.tries (tries_of as') final) (and-left (has_outcome a) (all_over as') e),
-    acts-over as' (every-right EndsFinal a.tries (tries_of as') final) (and-right (has_outcome a) (all_over as') e))
+acts-over (a ∷ as') final e = (
+  act-over a (every-left EndsFinal a.tries (tries_of as') final) (and-left (has_outcome a) (all_over as') e),
+  acts-over as' (every-right EndsFinal a.tries (tries_of as') final) (and-right (has_outcome a) (all_over as') e),
+)
 
 pub own-tries : (P : Try → Type 0) (as' past : List Act) → Every P (tries_of (as' ++ past)) → Every P (tries_of as')
 own-tries P [] past e = tt

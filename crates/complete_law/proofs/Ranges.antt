@@ -57,9 +57,9 @@ pub try-kept : (script : List ℕ → Tree) (plan : Plan) (i run : ℕ) (log : L
 try-kept script plan i run log t whole scripted tidy ready same has =
     let mine : IsPlanned run (tasks (acts_of i plan.acts)) t = every-has (IsPlanned run (tasks (acts_of i plan.acts))) (tries_of (book log).acts) t (planned script i run (tasks (acts_of i plan.acts)) log tidy ready same) has in
     let task : IsKept script plan.repositories t.task =
-        at-place (IsKept script plan.repositories) (tasks (acts_of i plan.acts)) mine.1.0 t.task
-        (kept-tasks script plan.repositories (acts_of i plan.acts) (kept-every (λ a. IsKept script plan.repositories (task_of a)) (λ (a : ActSpec). a.broker == i) plan.acts (kept-acts script plan.repositories plan.brokers 1 plan.acts whole.acts scripted)))
-        mine.1.1 in
+    at-place (IsKept script plan.repositories) (tasks (acts_of i plan.acts)) mine.1.0 t.task
+    (kept-tasks script plan.repositories (acts_of i plan.acts) (kept-every (λ a. IsKept script plan.repositories (task_of a)) (λ (a : ActSpec). a.broker == i) plan.acts (kept-acts script plan.repositories plan.brokers 1 plan.acts whole.acts scripted)))
+    mine.1.1 in
     (subst (InRange plan.repositories) (sym (try-home script i log t tidy has)) task.0, task.1)
 
 -- and so is the request that it stands at

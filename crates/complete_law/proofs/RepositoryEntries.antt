@@ -259,10 +259,20 @@ module _ (b : Base) (w w' : World) (n : ℕ) (h : Hand) (Taken : Post → Type 0
         | inl p ↦ elim (k.served (x, y) (subst (λ z. Has (x, y) (w.life z).mind.hands.held) p there)) [
           | inl no' ↦ absurd no'
           | inr s ↦ elim s [
-            | inl t ↦ inr (inr (x, record { from = y.from; object = y.object; waits = t.0 }, q, own, subst (λ z. Has (x, record { from = y.from; object = y.object; waits = t.0 }) (w'.life z).mind.hands.held) (sym p)
-                (subst (λ (l : Life). Has (x, record { from = y.from; object = y.object; waits = t.0 }) l.mind.hands.held) (sym mv.here) t.1)))
-            | inr t ↦ inr (inl (repository n, t.0, owed-flies (record { to = broker i; message = t.0 }) (subst (λ z. Has (record { to = z; message = t.0 }) h.outs) own t.2),
-                read-heeded i x y.object t.0 (e ∙ ap (λ z. Some z) q) t.1))
+            | inl t ↦ inr (inr (
+              x,
+              record { from = y.from; object = y.object; waits = t.0 },
+              q,
+              own,
+              subst (λ z. Has (x, record { from = y.from; object = y.object; waits = t.0 }) (w'.life z).mind.hands.held) (sym p)
+                  (subst (λ (l : Life). Has (x, record { from = y.from; object = y.object; waits = t.0 }) l.mind.hands.held) (sym mv.here) t.1),
+            ))
+            | inr t ↦ inr (inl (
+              repository n,
+              t.0,
+              owed-flies (record { to = broker i; message = t.0 }) (subst (λ z. Has (record { to = z; message = t.0 }) h.outs) own t.2),
+              read-heeded i x y.object t.0 (e ∙ ap (λ z. Some z) q) t.1,
+            ))
           ]
         ]
       ]

@@ -166,11 +166,11 @@ module _ (v : Message → ℕ) (rest : List Effect → List (TimeParts × HeldRe
       kept-paid same =
           let x = same.issued v in
           let y : rest (log_of w' (repository n)) (w'.life (repository n)).mind.hands.held (w'.life (repository n)).mind.hands.askers
-              ≡ rest (log_of w (repository n)) (w'.life (repository n)).mind.hands.held (w'.life (repository n)).mind.hands.askers =
-              ap (λ z. rest z (w'.life (repository n)).mind.hands.held (w'.life (repository n)).mind.hands.askers) same.log in
+          ≡ rest (log_of w (repository n)) (w'.life (repository n)).mind.hands.held (w'.life (repository n)).mind.hands.askers =
+          ap (λ z. rest z (w'.life (repository n)).mind.hands.held (w'.life (repository n)).mind.hands.askers) same.log in
           let z : rest (log_of w (repository n)) (w'.life (repository n)).mind.hands.held (w'.life (repository n)).mind.hands.askers
-              ≡ rest (log_of w (repository n)) (w.life (repository n)).mind.hands.held (w.life (repository n)).mind.hands.askers =
-              ap (λ m. rest (log_of w (repository n)) m.hands.held m.hands.askers) same.mind in
+          ≡ rest (log_of w (repository n)) (w.life (repository n)).mind.hands.held (w.life (repository n)).mind.hands.askers =
+          ap (λ m. rest (log_of w (repository n)) m.hands.held m.hands.askers) same.mind in
           let u = used-on (gain p r n) b w e in
           omega (arith, k, x, y, z, u)
 
@@ -183,12 +183,12 @@ module _ (v : Message → ℕ) (rest : List Effect → List (TimeParts × HeldRe
           let y = load-append v (w.life (repository n)).outs h.outs in
           let s : sent-load v (repository n) w'.sendings ≡ sent-load v (repository n) w.sendings = ap (sent-load v (repository n)) fed.sendings in
           let log : log_of w' (repository n) ≡ h.fresh ++ log_of w (repository n) =
-              ap (λ (y : Life). reverse (walks.all_effects y)) now' ∙ grown-log (w.life (repository n)).gated (w.life (repository n)).fresh h.fresh in
+          ap (λ (y : Life). reverse (walks.all_effects y)) now' ∙ grown-log (w.life (repository n)).gated (w.life (repository n)).fresh h.fresh in
           let t : rest (log_of w' (repository n)) (w'.life (repository n)).mind.hands.held (w'.life (repository n)).mind.hands.askers
-              ≡ rest (now h) (w'.life (repository n)).mind.hands.held (w'.life (repository n)).mind.hands.askers =
-              ap (λ z. rest z (w'.life (repository n)).mind.hands.held (w'.life (repository n)).mind.hands.askers) (log ∙ ap (λ z. h.fresh ++ z) (sym base)) in
+          ≡ rest (now h) (w'.life (repository n)).mind.hands.held (w'.life (repository n)).mind.hands.askers =
+          ap (λ z. rest z (w'.life (repository n)).mind.hands.held (w'.life (repository n)).mind.hands.askers) (log ∙ ap (λ z. h.fresh ++ z) (sym base)) in
           let m : rest (now h) (w'.life (repository n)).mind.hands.held (w'.life (repository n)).mind.hands.askers ≡ rest (now h) h.held h.askers =
-              ap (λ (y : Life). rest (now h) y.mind.hands.held y.mind.hands.askers) now' in
+          ap (λ (y : Life). rest (now h) y.mind.hands.held y.mind.hands.askers) now' in
           omega (arith, k, costs, more, x, y, s, t, m)
 
       once : (number : ℕ) (may : MayTake (steps.fates r) w (repository n) number) → seen number w.taken ≡ false
@@ -223,11 +223,11 @@ module _ (v : Message → ℕ) (rest : List Effect → List (TimeParts × HeldRe
           let from0 : NodeId = may.sending.post.from in
           let m0 : Message = may.sending.post.message in
           let sent : Has (record { from = may.sending.post.from; to = repository n; message = may.sending.post.message }) (sent_by w) =
-              subst (λ z'. Has (record { from = may.sending.post.from; to = z'; message = may.sending.post.message }) (sent_by w)) may.to (numbered-has (λ (x : Sending). x.post) w.sendings number may.sending may.sent) in
+          subst (λ z'. Has (record { from = may.sending.post.from; to = z'; message = may.sending.post.message }) (sent_by w)) may.to (numbered-has (λ (x : Sending). x.post) w.sendings number may.sending may.sent) in
           let base = (take-fine (sent_by w) n (log_of w (repository n)) hand0 may.sending.post.from may.sending.post.message sent (begun-fine (sent_by w) n (log_of w (repository n)) (w.life (repository n)).mind.hands)).base in
           let to : same_node may.sending.post.to (repository n) ≡ true = subst (λ z'. same_node z' (repository n) ≡ true) (sym may.to) (same_node-refl (repository n)) in
           let worth : gain p r n may.sending ≡ price-if p (accepts n may.sending.post.from may.sending.post.message) may.sending.post.message =
-              ap (λ t. gain-if t (price-if p (accepts n may.sending.post.from may.sending.post.message) may.sending.post.message)) to in
+          ap (λ t. gain-if t (price-if p (accepts n may.sending.post.from may.sending.post.message) may.sending.post.message)) to in
           let grows = brings number may.sending may.sent (once number may) in
           let after : used-in (gain p r n) w' ≡ used (gain p r n) 1 (number ∷ w.taken) w.sendings = ap (λ ks. used (gain p r n) 1 ks w'.sendings) ks ∙ ap (used (gain p r n) 1 (number ∷ w.taken)) fed.sendings in
           turn-paid (on_message hand0 may.sending.post.from may.sending.post.message) (price-if p (accepts n may.sending.post.from may.sending.post.message) may.sending.post.message)
@@ -244,12 +244,11 @@ module _ (v : Message → ℕ) (rest : List Effect → List (TimeParts × HeldRe
       paid-case : IsQuiet e → Rule b (steps.fates r) w e → IsPaidFor w' n
       paid-case q rule = by-entry r w f c (IsPaidFor w' n) e (repository n) q rule (record { kept = kept-paid; takes = take-case; goes = λ may gone fed. absurd (false≢true may.broker); learns = learn-case })
 
-
     start-paid : (n : ℕ) → IsPaidFor (start_world b) n
     start-paid n =
         let x : load v ((start_world b).life (repository n)).outs ≡ 0 = ap (λ (l : Life). load v l.outs) (steps.empty-life r (repository n)) in
         let y : rest (log_of (start_world b) (repository n)) ((start_world b).life (repository n)).mind.hands.held ((start_world b).life (repository n)).mind.hands.askers ≡ rest [] [] [] =
-            ap (λ (l : Life). rest (reverse (walks.all_effects l)) l.mind.hands.held l.mind.hands.askers) (steps.empty-life r (repository n)) in
+        ap (λ (l : Life). rest (reverse (walks.all_effects l)) l.mind.hands.held l.mind.hands.askers) (steps.empty-life r (repository n)) in
         omega (arith, x, y, blank)
 
   -- at each place

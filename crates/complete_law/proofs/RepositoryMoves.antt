@@ -325,8 +325,8 @@ module _ (b : Base) (w : World) (calm : CalmWorld b w) (f : Refines (node_turns 
           let begun : HasBegun s (log_of w (repository n)) = subst (λ z. HasBegun s (log_of w (repository z))) home (begun-whole b w calm f r s u) in
           let serves = ask-serves old r s home (has-record (log_of w (repository n)) s begun.0 begun.1) in
           let in-hand : Has (record { repository = r; stamp = s }) th.askers ⊎ ((c : Bool) × Has (tell_of (record { repository = r; stamp = s }) c) th.outs) =
-              subst (λ z. Has (record { repository = r; stamp = s }) (on_message old z m0).askers ⊎ ((c : Bool) × Has (tell_of (record { repository = r; stamp = s }) c) (on_message old z m0).outs)) (sym from-is)
-              (subst (λ m. Has (record { repository = r; stamp = s }) (on_message old (repository r) m).askers ⊎ ((c : Bool) × Has (tell_of (record { repository = r; stamp = s }) c) (on_message old (repository r) m).outs)) (sym m-is) serves) in
+          subst (λ z. Has (record { repository = r; stamp = s }) (on_message old z m0).askers ⊎ ((c : Bool) × Has (tell_of (record { repository = r; stamp = s }) c) (on_message old z m0).outs)) (sym from-is)
+          (subst (λ m. Has (record { repository = r; stamp = s }) (on_message old (repository r) m).askers ⊎ ((c : Bool) × Has (tell_of (record { repository = r; stamp = s }) c) (on_message old (repository r) m).outs)) (sym m-is) serves) in
           elim in-hand [
             | inl a ↦ inr (inl (subst (λ z. Has (record { repository = r; stamp = s }) (tw.life (repository z)).mind.hands.askers) (sym home) (subst (λ (l : Life). Has (record { repository = r; stamp = s }) l.mind.hands.askers) (sym take-turned.here) a)))
             | inr c ↦ inr (inr (c.0, subst (λ z. Flying tw (repository z) (tell_of (record { repository = r; stamp = s }) c.0)) (sym home) (owed-flies b w tw n th Taken take-turned calm R agree (tell_of (record { repository = r; stamp = s }) c.0) c.1)))

@@ -168,9 +168,9 @@ module _ (script : List ℕ → Tree) (run : ℕ) (acts : ℕ → List Task) (mo
       let rest = began script b run (acts b) (counted b) (k.heard b) (k.rested b i) in
       let same : (counted b).run ≡ run = same-run script b run (acts b) (counted b).run run rest.0 (k.turns b i).ready.not_old in
       let in-run : stage script run (counted b) (k.heard b) ≡ stage_of script (k.heard b) (open_try (counted b)) (last_try (counted b)) =
-          ap (λ c. if c then stage_of script (k.heard b) (open_try (counted b)) (last_try (counted b)) else Idle) (eq-eqb (counted b).run run same) in
+      ap (λ c. if c then stage_of script (k.heard b) (open_try (counted b)) (last_try (counted b)) else Idle) (eq-eqb (counted b).run run same) in
       let s = last-sends script b run (acts b) (counted b) (k.heard b) t last' (λ n. last-is-open script b run (acts b) (k.brokers b) t same last' n) (λ c. undone (closed-decided c))
-          (subst (λ z. by_stage b (acts b) (k.heard b) (counted b) z ≡ None) in-run rest.1) in
+      (subst (λ z. by_stage b (acts b) (k.heard b) (counted b) z ≡ None) in-run rest.1) in
       let stands : at b ≡ Some s.0 = ap standing in-run ∙ s.1 in
       let r = k.reads b s.0 i stands in
       let read : at b ≡ Some (read_to r.0 r.1.object) = stands ∙ ap (λ z. Some z) r.2 in
@@ -210,7 +210,7 @@ module _ (script : List ℕ → Tree) (run : ℕ) (acts : ℕ → List Task) (mo
       let found : find w.start.stamp (tries (book (k.brokers w.start.stamp.broker))) ≡ Some t = writer.1.1 in
       let stamp-is : t.stamp ≡ w.start.stamp = (each-found (λ y. Unit {0}) w.start.stamp (tries (book (k.brokers w.start.stamp.broker))) t found (every-unit (tries (book (k.brokers w.start.stamp.broker))))).1 in
       let undone : DecidedAt k.homes w.start.stamp → ⊥ = λ d. k.undecided r.1.object.repository w.start.stamp
-          (subst (λ z. waits_for z (k.held r.1.object.repository) ≡ true) (sym w.own) (waiting (k.held r.1.object.repository) e r.3)) d in
+      (subst (λ z. waits_for z (k.held r.1.object.repository) ≡ true) (sym w.own) (waiting (k.held r.1.object.repository) e r.3)) d in
       let less : stamp_lt w.start.stamp r.0.stamp ≡ true = first (stamp_lt w.start.stamp r.0.stamp) w.start r.0 refl w.below w.other in
       (w.start.stamp, stuck t writer.0 found stamp-is undone, below w.start.stamp s (subst (λ z. stamp_lt w.start.stamp z ≡ true) (ap (λ (z : TimeParts). z.stamp) same-x ∙ of-s) less))
     where

@@ -134,7 +134,7 @@ module _ (p : CalmPlace) (most : ℕ) (asks : AskAtMost p.run most) where
       let m : ℕ = u + (most * v + z) in
       let a = sent-total (wt u v z p.run) w.sendings (top w.sendings) (omega arith) in
       let b = sum-mono (λ i. sent-load (wt u v z p.run) (broker i) w.sendings) (λ i. tries-given (tasks_of (steps.b p.run) i) * (u + (most * v + z))) (top w.sendings)
-          (λ i. (let k = broker-issues u v z p most asks i in omega (arith, k))) in
+      (λ i. (let k = broker-issues u v z p most asks i in omega (arith, k))) in
       let c = sum-times (λ i. tries-given (tasks_of (steps.b p.run) i)) (u + (most * v + z)) (top w.sendings) in
       let d = mul-mono (sum-to (λ i. tries-given (tasks_of (steps.b p.run) i)) (top w.sendings)) (tries_in p.run.plan.acts) (u + (most * v + z)) (sum-tasks p.run.plan.acts (top w.sendings)) in
       omega (arith, a, b, c, d)

@@ -47,4 +47,3 @@ pub fn law_nothing_stops()
     ensures { (r : CalmRun) (most : ℕ) → AskAtMost r most →
         ((p : CalmPlace) (e : Entry) (more : List Entry) → p.run ≡ r → p.rest ≡ e ∷ more → MayStop (most_effects r most) p e) → Every IsQuiet r.trace.entries }
 {}
-
