@@ -1,13 +1,13 @@
 -- Each request that a repository takes is answered, but for a read that is held; and the broker heeds each of these answers while the request stands.
-use Rattle.std.proofs.Common.{◌≡◌, ◌⊎◌, ℕ, ◌+◌, ◌==◌, Bool, true, false, ◌&&◌, ◌||◌, not, List, [], ◌∷◌, ◌++◌, refl, sym, ◌∙◌, ap, subst, Option, Some, None, if◌then◌else◌, inl, inr}
-use Rattle.std.proofs.lemmas.Bool.{false≢true, true≢false}
+use Rattle.std.proofs.Common.{◌≡◌, ◌⊎◌, ℕ, ◌+◌, ◌==◌, Bool, true, false, ◌||◌, not, List, [], ◌∷◌, refl, subst, Option, Some, None, if◌then◌else◌, inl, inr}
+use Rattle.std.proofs.lemmas.Bool.{false≢true}
 use Rattle.std.specs.List.{filter}
-use Rattle.pseudo_time.specs.Lists.{Every, Has}
+use Rattle.pseudo_time.specs.Lists.{Has}
 use Rattle.pseudo_time.proofs.ListLemmas.{has-left, has-right}
 use Rattle.pseudo_time.specs.StampParts.{StampParts}
 use Rattle.pseudo_time.specs.TimeParts.{TimeParts}
 use Rattle.pseudo_time.specs.Order.{same_stamp, same_time}
-use Rattle.pseudo_time.proofs.OrderLemmas.{same_stamp-self, same_stamp-is, same_time-of}
+use Rattle.pseudo_time.proofs.OrderLemmas.{same_stamp-self, same_time-of}
 use Rattle.pseudo_time.specs.declared.decisions.Decision.{Decision}
 use Rattle.pseudo_time.specs.declared.decisions.Decision.TheVariants as decision
 use Rattle.pseudo_time.specs.declared.nodes.NodeId.{NodeId}
@@ -20,7 +20,7 @@ use Rattle.effect_form.specs.declared.effects.Effect.TheVariants as effect
 use Rattle.message_form.specs.declared.messages.Message.{Message}
 use Rattle.message_form.specs.declared.messages.Message.TheVariants as message
 use Rattle.turn_form.specs.declared.turns.Out.{Out}
-use Rattle.script_meaning.specs.Meaning.{Request, ToRead, ToWrite, Stop, Asks, Over}
+use Rattle.script_meaning.specs.Meaning.{ToRead, ToWrite}
 use Rattle.serial_model.specs.Questions.{Tree}
 use Rattle.object_history.specs.declared.steps.ReadStep.{ReadStep}
 use Rattle.object_history.specs.declared.steps.ReadStep.TheVariants.{Answer, Wait}
@@ -33,14 +33,14 @@ use Rattle.repository_core.specs.declared.waits.Asker.{Asker}
 use Rattle.repository_core.specs.Hands.{Hand, note, now, send}
 use Rattle.pseudo_time.specs.Nodes.{repository}
 use Rattle.repository_log.specs.Logs.{is_commit, known, marks, record_of}
-use Rattle.repository_core.specs.Rows.{ask_for, begin_as, close_as, hold, on_begin, on_close, on_read, on_write, read_as, read_known, release, reread, tell_askers, tells, unhold, waits_for, write_as}
+use Rattle.repository_core.specs.Rows.{begin_as, close_as, hold, on_begin, on_close, on_read, on_write, read_as, read_known, release, reread, tell_askers, tells, unhold, waits_for, write_as}
 use Rattle.broker_core.specs.declared.heards.Heard.{Heard}
 use Rattle.broker_core.specs.declared.replies.Reply.{Reply}
 use Rattle.broker_core.specs.declared.replies.Reply.TheVariants.{Adds, Hears, Ignored}
 use Rattle.broker_core.specs.Book.{Try, time_of}
 use Rattle.broker_core.specs.Fits.{stop_of}
-use Rattle.broker_core.specs.Rows.{decided_commit, decided_early, news, row, when}
-use Rattle.broker_core.specs.Stages.{Stage, Asking, Closing, Finishing, Opening, is_finished}
+use Rattle.broker_core.specs.Rows.{news, row, when}
+use Rattle.broker_core.specs.Stages.{Asking, Closing, Finishing, Opening, is_finished}
 use Rattle.repository_waits.proofs.ReadSteps.{Answers}
 
 -- ---- what a repository owes stays owed in its turn

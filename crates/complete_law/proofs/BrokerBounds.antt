@@ -1,18 +1,15 @@
 -- A calm broker's log has no more effects than its acts allow.
-use Rattle.std.proofs.Common.{◌≡◌, ℕ, zero, suc, ◌+◌, ◌*◌, ◌≤◌, ◌==◌, nat_lt, Bool, true, false, length, List, [], ◌∷◌, ◌++◌, reverse, refl, sym, ◌∙◌, ap, subst, Option, Some, None, append-nil, arith, slice_get}
-use Rattle.std.proofs.lemmas.Grind.{common_steps}
-use Rattle.pseudo_time.specs.Lists.{Every, Has}
-use Rattle.pseudo_time.proofs.ListLemmas.{every-append, every-left, every-right, every-has}
+use Rattle.std.proofs.Common.{◌≡◌, ℕ, ◌+◌, ◌*◌, ◌≤◌, ◌==◌, nat_lt, Bool, true, false, length, List, [], ◌∷◌, ◌++◌, reverse, refl, sym, ◌∙◌, ap, subst, append-nil, arith}
+use Rattle.pseudo_time.specs.Lists.{Every}
+use Rattle.pseudo_time.proofs.ListLemmas.{every-left, every-right}
 use Rattle.value_form.specs.declared.acts.ActSpec.{ActSpec}
 use Rattle.effect_form.specs.declared.effects.Effect.{Effect}
-use Rattle.script_meaning.specs.Meaning.{Stop}
 use Rattle.serial_model.specs.Questions.{Tree, stop}
-use Rattle.plan_form.specs.PlanTexts.{EachAct, IsOfLanguage}
+use Rattle.plan_form.specs.PlanTexts.{EachAct}
 use Rattle.broker_core.specs.Book.{Act, Book, Try, book, tries_of}
 use Rattle.pseudo_time.specs.Nodes.{broker}
 use Rattle.broker_core.specs.Tasks.{Task, task_of, tasks}
-use Rattle.broker_core.specs.Turns.{desk_at, state}
-use Rattle.broker_laws.specs.Fits.{IsTidy}
+use Rattle.broker_core.specs.Turns.{state}
 use Rattle.broker_core.specs.Sound.{Started}
 use Rattle.broker_laws.specs.Posts.{IsPlayed}
 use Rattle.broker_core.specs.Sound.{OfAct}
@@ -23,11 +20,11 @@ use Rattle.broker_laws.proofs.Tries.{played}
 use Rattle.world_core.specs.Nodes.{acts_of}
 use Rattle.world_core.specs.Walks.{Base, Life, World, sent_by}
 use Rattle.world_core.specs.Walks as walks
-use Rattle.complete_law.specs.Calm.{AskAtMost, AsksAtMost, CalmPlace, book_at, log_at, tasks_at, tries_in, world_at}
+use Rattle.complete_law.specs.Calm.{AskAtMost, AsksAtMost, CalmPlace, log_at, tries_in, world_at}
 use Rattle.complete_law.proofs.BrokerMoves.{turn-there}
 use Rattle.complete_law.proofs.BrokerRuns.{only-runs}
 use Rattle.complete_law.proofs.Outcomes.{own-tries}
-use Rattle.complete_law.proofs.Places.{CalmWorld, desk_of, log_of, tasks_of}
+use Rattle.complete_law.proofs.Places.{desk_of, tasks_of}
 use Rattle.complete_law.proofs.Ranges.{at-place, kept-every, same-run}
 use Rattle.complete_law.proofs.Shares.{act-size, acts-share, answers-few, asking-one, mul-mono, started-few, tasks-few, tries-allowed, tries-given}
 use Rattle.complete_law.proofs.Sizes.{IsSpare, begun-run, log-size, one-if, size-act, size-acts, spare}

@@ -1,14 +1,12 @@
 -- An entry at which a broker takes a turn keeps what always holds.
-use Rattle.std.proofs.Common.{◌≡◌, ◌≢◌, ◌⊎◌, ℕ, zero, suc, ◌+◌, ◌≤◌, ◌==◌, Bool, true, false, ◌&&◌, List, [], ◌∷◌, ◌++◌, map, reverse, refl, sym, ◌∙◌, ap, subst, Option, Some, None, is_some, if◌then◌else◌, inl, inr, append_assoc, append-nil, arith}
-use Rattle.std.proofs.lemmas.Grind.{common_steps}
-use Rattle.std.proofs.lemmas.Bool.{false≢true, true≢false}
-use Rattle.pseudo_time.specs.Lists.{Every, Has}
+use Rattle.std.proofs.Common.{◌≡◌, ◌≢◌, ◌⊎◌, ℕ, ◌==◌, true, false, List, [], ◌∷◌, ◌++◌, map, reverse, refl, sym, ◌∙◌, ap, subst, Option, Some, None, inl, inr}
+use Rattle.std.proofs.lemmas.Bool.{true≢false}
+use Rattle.pseudo_time.specs.Lists.{Has}
 use Rattle.pseudo_time.proofs.ListLemmas.{every-map, has-left, has-right, has-either}
 use Rattle.pseudo_time.specs.StampParts.{StampParts}
 use Rattle.pseudo_time.specs.TimeParts.{TimeParts}
 use Rattle.pseudo_time.specs.declared.decisions.Decision.{Decision}
 use Rattle.pseudo_time.specs.declared.nodes.NodeId.{NodeId}
-use Rattle.pseudo_time.specs.declared.nodes.NodeKind.{NodeKind}
 use Rattle.pseudo_time.specs.declared.nodes.NodeKind.TheVariants as kind
 use Rattle.effect_form.specs.declared.effects.Effect.{Effect}
 use Rattle.effect_form.specs.declared.effects.Effect.TheVariants as effect
@@ -23,10 +21,9 @@ use Rattle.repository_core.specs.declared.waits.HeldRead.{HeldRead}
 use Rattle.repository_core.specs.declared.waits.Asker.{Asker}
 use Rattle.repository_core.specs.Rows.{waits_for}
 use Rattle.broker_core.specs.declared.heards.Heard.{Heard}
-use Rattle.broker_core.specs.declared.replies.Reply.{Reply}
-use Rattle.broker_core.specs.declared.replies.Reply.TheVariants.{Adds, Hears, Ignored}
+use Rattle.broker_core.specs.declared.replies.Reply.TheVariants.{Ignored}
 use Rattle.broker_core.specs.Book.{Act, Book, Try, book, find, last_try, tries, tries_of}
-use Rattle.broker_core.specs.Fits.{is_none, keep}
+use Rattle.broker_core.specs.Fits.{is_none}
 use Rattle.broker_core.specs.Rows.{row, news}
 use Rattle.broker_core.specs.Stages.{stage, standing}
 use Rattle.pseudo_time.specs.Nodes.{repository, broker}
@@ -35,7 +32,7 @@ use Rattle.broker_core.specs.Turns as desks
 use Rattle.broker_core.specs.Turns.{Desk, desk_at, desk_turn, state}
 use Rattle.broker_laws.specs.Fits.{FitsLog, IsTidy}
 use Rattle.broker_laws.specs.Posts.{IsLater}
-use Rattle.broker_laws.specs.Works.{IsRested, TurnHolds}
+use Rattle.broker_laws.specs.Works.{IsRested}
 use Rattle.broker_laws.proofs.Desks.{last-first}
 use Rattle.broker_laws.proofs.Moves.{grown, later-kept}
 use Rattle.pseudo_time.proofs.OrderLemmas.{same_stamp-self}
@@ -43,10 +40,10 @@ use Rattle.world_core.specs.Walks.{Base, Life, Sending, World, numbered, opened_
 use Rattle.world_core.specs.Legal.{times_taken}
 use Rattle.repository_waits.specs.Waits.{Waits}
 use Rattle.complete_law.specs.AtRest.{standing_at, read_to}
-use Rattle.complete_law.proofs.BrokerSteps.{AllDecided, BookSound, HasSettled, HasStarted, Trail, older}
+use Rattle.complete_law.proofs.BrokerSteps.{BookSound, HasSettled, HasStarted, Trail, older}
 use Rattle.complete_law.proofs.BrokerTurns.{DeskSound, OutSound, standing-sound, stands-to}
 use Rattle.repository_waits.specs.Waits.{ask_of, tell_of}
-use Rattle.complete_law.proofs.Places.{log_of, gated_of, homes_of, held_of, IsBegun, IsDecided, Flying, AskedFor, tasks_of, desk_of, standing_in, Heeds, Placed, SaidOf, CalmWorld}
+use Rattle.complete_law.proofs.Places.{log_of, held_of, IsBegun, IsDecided, Flying, AskedFor, tasks_of, desk_of, standing_in, Placed, SaidOf, CalmWorld}
 use Rattle.complete_law.proofs.Frames.{life-with}
 
 -- what is sound stays sound as more has begun and is decided

@@ -1,44 +1,38 @@
 -- What a broker has sent and owes is paid by its attempts, and those have no more than the plan allows.
-use Rattle.std.proofs.Common.{◌≡◌, ℕ, zero, suc, ◌+◌, ◌*◌, ◌≤◌, ◌==◌, max, Bool, true, false, ◌&&◌, length, List, [], ◌∷◌, ◌++◌, map, reverse, refl, sym, ◌∙◌, ap, subst, Option, Some, None, if◌then◌else◌, arith}
-use Rattle.std.proofs.lemmas.Grind.{common_steps}
-use Rattle.std.proofs.lemmas.Bool.{false≢true, true≢false}
-use Rattle.pseudo_time.specs.Lists.{Every, Has}
-use Rattle.pseudo_time.specs.declared.nodes.NodeId.{NodeId}
+use Rattle.std.proofs.Common.{◌≡◌, ℕ, ◌+◌, ◌*◌, ◌≤◌, max, Bool, true, false, length, List, [], ◌∷◌, ◌++◌, reverse, refl, sym, ◌∙◌, ap, Option, Some, None, if◌then◌else◌, arith}
+use Rattle.std.proofs.lemmas.Bool.{true≢false}
+use Rattle.pseudo_time.specs.Lists.{Every}
 use Rattle.effect_form.specs.declared.effects.Effect.{Effect}
 use Rattle.effect_form.specs.declared.outcomes.Outcome.{Outcome}
 use Rattle.effect_form.specs.declared.outcomes.Outcome.TheVariants as outcome
 use Rattle.message_form.specs.declared.messages.Message.{Message}
 use Rattle.turn_form.specs.declared.turns.Out.{Out}
 use Rattle.script_meaning.specs.Meaning.{Answer, Stop, Asks, Over}
-use Rattle.serial_model.specs.Questions.{Tree, stop}
+use Rattle.serial_model.specs.Questions.{Tree}
 use Rattle.broker_core.specs.declared.heards.Heard.{Heard}
 use Rattle.broker_core.specs.Book.{Act, Book, Try, book, tries_of}
 use Rattle.broker_core.specs.Fits.{keep, stop_of}
-use Rattle.broker_core.specs.Rows.{news}
-use Rattle.broker_core.specs.Stages.{nothing_heard}
 use Rattle.pseudo_time.specs.Nodes.{broker}
-use Rattle.broker_core.specs.Tasks.{Task}
-use Rattle.broker_core.specs.Tests.{is_stamp}
 use Rattle.broker_core.specs.Turns as desks
 use Rattle.broker_core.specs.Turns.{Desk, desk_at, desk_turn, state}
 use Rattle.script_meaning.specs.Meaning.{ToWrite}
 use Rattle.broker_laws.specs.Fits.{EndsBy}
 use Rattle.broker_laws.specs.Posts.{IsPlayed}
 use Rattle.world_core.specs.declared.entries.Entry.{Entry}
-use Rattle.world_core.specs.Nodes.Input.{Going, Taking, Learning}
+use Rattle.world_core.specs.Nodes.Input.{Going, Taking}
 use Rattle.world_core.specs.Walks.{Base, Life, World, opened_life, sent_by, start_world, step, after_input}
 use Rattle.world_core.specs.Walks as walks
-use Rattle.world_core.specs.Legal.{Rule, MayGo, MayLearn, MayTake}
-use Rattle.complete_law.specs.Calm.{AskAtMost, CalmPlace, CalmRun, IsQuiet, log_at, tries_in, world_at}
+use Rattle.world_core.specs.Legal.{Rule, MayGo, MayTake}
+use Rattle.complete_law.specs.Calm.{AskAtMost, CalmPlace, CalmRun, IsQuiet, log_at, world_at}
 use Rattle.complete_law.proofs.BrokerBounds.{IsAllowed, IsLed, all-led, few-answers, state-is}
 use Rattle.complete_law.proofs.BrokerMoves as moves
 use Rattle.complete_law.proofs.Costs as costs
 use Rattle.complete_law.proofs.Costs.{ac, is-fresh, at-stop, old, pos, pos-by, rank, refused, weigh, weight}
 use Rattle.complete_law.proofs.Frames.{desk-after, goes, life-with, takes, turned}
-use Rattle.complete_law.proofs.Loads.{Cases, Fed, Kept, by-entry, issued, load, load-append, sent-load}
+use Rattle.complete_law.proofs.Loads.{Fed, Kept, by-entry, issued, load, load-append, sent-load}
 use Rattle.complete_law.proofs.Places.{CalmWorld, IsBegun, IsDecided, desk_of, log_of, tasks_of}
 use Rattle.complete_law.proofs.Shares.{acts-share, asking-one, mul-mono, mul-plus, tries-allowed, tries-given}
-use Rattle.complete_law.proofs.Sizes.{IsSpare, spent-one}
+use Rattle.complete_law.proofs.Sizes.{spent-one}
 use Rattle.complete_law.proofs.Steps as steps
 use Rattle.complete_law.proofs.Steps.{Facts-at}
 

@@ -1,32 +1,26 @@
 -- The entries at which a broker takes a turn: it takes a message, or it goes.
-use Rattle.std.proofs.Common.{◌≡◌, ◌≢◌, ◌⊎◌, ℕ, zero, suc, ◌+◌, ◌==◌, Bool, true, false, ◌&&◌, List, [], ◌∷◌, ◌++◌, map, reverse, cond, refl, sym, ◌∙◌, ap, subst, Option, Some, None, is_some, if◌then◌else◌, inl, inr, append_assoc, append-nil, arith}
-use Rattle.std.proofs.lemmas.Grind.{common_steps}
+use Rattle.std.proofs.Common.{◌≡◌, ◌≢◌, ◌⊎◌, ℕ, ◌==◌, Bool, true, false, ◌&&◌, List, [], ◌∷◌, ◌++◌, reverse, cond, refl, sym, ◌∙◌, ap, subst, Some, None, if◌then◌else◌, inl, inr, arith}
 use Rattle.std.proofs.lemmas.Bool.{false≢true, true≢false}
 use Rattle.std.proofs.lemmas.List.{reverse-append}
-use Rattle.pseudo_time.specs.Lists.{Every, Has}
+use Rattle.pseudo_time.specs.Lists.{Has}
 use Rattle.pseudo_time.specs.declared.nodes.NodeId.{NodeId}
 use Rattle.pseudo_time.specs.declared.nodes.NodeKind.{NodeKind}
 use Rattle.pseudo_time.specs.declared.nodes.NodeKind.TheVariants as kind
-use Rattle.effect_form.specs.declared.effects.Effect.{Effect}
 use Rattle.message_form.specs.declared.messages.Message.{Message}
 use Rattle.message_form.specs.declared.messages.Message.TheVariants as message
 use Rattle.turn_form.specs.declared.turns.Out.{Out}
-use Rattle.turn_form.specs.Growth.{Each, Grew}
-use Rattle.turn_form.specs.Posts.{Post, post}
+use Rattle.turn_form.specs.Growth.{Grew}
+use Rattle.turn_form.specs.Posts.{Post}
 use Rattle.pseudo_time.specs.Nodes.{same_node}
 use Rattle.message_core.proofs.NodeLemmas.{same_is, same_node-refl}
 use Rattle.object_history.proofs.ObjectLemmas.{eq-from}
 use Rattle.stream_port.specs.declared.fates.Fate.{Fate}
-use Rattle.serial_model.specs.Questions.{Tree}
 use Rattle.broker_core.specs.declared.replies.Reply.{Reply}
 use Rattle.broker_core.specs.declared.replies.Reply.TheVariants.{Adds, Hears, Ignored}
-use Rattle.broker_core.specs.declared.heards.Heard.{Heard}
-use Rattle.broker_core.specs.Book.{Book, book}
-use Rattle.broker_core.specs.Fits.{keep}
+use Rattle.broker_core.specs.Book.{book}
 use Rattle.broker_core.specs.Rows.{row, news}
-use Rattle.broker_core.specs.Stages.{stage, standing}
-use Rattle.pseudo_time.specs.Nodes.{repository, broker}
-use Rattle.broker_core.specs.Tasks.{Task}
+use Rattle.broker_core.specs.Stages.{stage}
+use Rattle.pseudo_time.specs.Nodes.{broker}
 use Rattle.broker_core.specs.Turns as desks
 use Rattle.broker_core.specs.Turns.{Desk, desk_at, desk_turn, reply, state}
 use Rattle.broker_laws.specs.Posts.{HaveCauses}
@@ -37,16 +31,14 @@ use Rattle.broker_laws.proofs.Kept.{kept}
 use Rattle.broker_laws.proofs.Moves.{grown}
 use Rattle.broker_laws.proofs.TurnLemmas.{turn-added, turn-rests, go-rests}
 use Rattle.message_core.specs.Tallies.{count}
-use Rattle.world_core.specs.declared.entries.Entry.{Entry}
 use Rattle.world_core.specs.declared.entries.Entry.TheVariants as entry
-use Rattle.world_core.specs.Nodes.Input.{Going, Taking}
-use Rattle.world_core.specs.Walks.{Base, Flags, Life, Sending, World, flagged, lives_on, names, numbered, sent_by, step, after_input, took, went, all_effects}
+use Rattle.world_core.specs.Walks.{Base, Flags, Life, Sending, World, flagged, lives_on, numbered, sent_by, step, took, went, all_effects}
 use Rattle.world_core.specs.Legal.{MayTake, MayGo, times_taken}
 use Rattle.world_facts.specs.Refines.{Refines, logs_at, seat_of}
 use Rattle.world_facts.specs.NodeRules.{node_turns, node_facts}
-use Rattle.world_facts.specs.Soft.{Inv, NodeOk, Soft, around, happened}
+use Rattle.world_facts.specs.Soft.{NodeOk, around, happened}
 use Rattle.world_facts.proofs.Growths.{numbered-has}
-use Rattle.world_facts.proofs.Keeps.{inv-reached, tidy-grown}
+use Rattle.world_facts.proofs.Keeps.{inv-reached}
 use Rattle.world_facts.proofs.NodeLaws.{node-laws}
 use Rattle.world_facts.proofs.Openings.{facts-of}
 use Rattle.complete_law.proofs.BrokerTurns.{DeskSound, Tells, take-sound, go-sound, heard-says, go-says, take-stands, go-stands}
@@ -54,7 +46,7 @@ use Rattle.complete_law.proofs.BrokerEntries.{Moved, moved-asked, moved-askers, 
 use Rattle.complete_law.specs.AtRest.{standing_at}
 use Rattle.complete_law.proofs.Frames.{desk-after, goes, life-with, takes, turned}
 use Rattle.complete_law.proofs.Hearings.{tells-so}
-use Rattle.complete_law.proofs.Places.{log_of, gated_of, IsBegun, IsDecided, tasks_of, desk_of, standing_in, CalmWorld}
+use Rattle.complete_law.proofs.Places.{IsBegun, IsDecided, tasks_of, desk_of, CalmWorld}
 
 -- a copy of one message is no copy of another
 pub other-copies : (k j : ℕ) (ts : List ℕ) → (k == j) ≡ false → count j (k ∷ ts) ≡ count j ts

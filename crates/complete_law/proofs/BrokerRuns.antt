@@ -1,23 +1,18 @@
 -- The only Run in a calm broker's log is that of its run. So its log has no more effects than its acts and their attempts may have.
-use Rattle.std.proofs.Common.{◌≡◌, ℕ, zero, suc, ◌+◌, ◌*◌, ◌≤◌, ◌==◌, nat_lt, Bool, true, false, ◌&&◌, length, List, [], ◌∷◌, ◌++◌, reverse, refl, sym, ◌∙◌, ap, subst, Option, Some, None, is_some, if◌then◌else◌, append_assoc, append-nil, arith, slice_get}
-use Rattle.std.proofs.lemmas.Grind.{common_steps}
-use Rattle.std.proofs.lemmas.Bool.{false≢true, true≢false}
-use Rattle.pseudo_time.specs.Lists.{Every, Has}
-use Rattle.pseudo_time.specs.StampParts.{StampParts}
-use Rattle.pseudo_time.specs.TimeParts.{TimeParts}
+use Rattle.std.proofs.Common.{◌≡◌, ℕ, zero, suc, nat_lt, Bool, true, false, ◌&&◌, length, List, [], ◌∷◌, ◌++◌, reverse, refl, sym, ap, subst, Option, Some, None, if◌then◌else◌, append-nil, slice_get}
+use Rattle.pseudo_time.specs.Lists.{Every}
 use Rattle.pseudo_time.specs.declared.decisions.Decision.{Decision}
 use Rattle.pseudo_time.specs.declared.decisions.Decision.TheVariants as decision
-use Rattle.pseudo_time.specs.declared.nodes.NodeId.{NodeId}
 use Rattle.effect_form.specs.declared.effects.Effect.{Effect}
 use Rattle.effect_form.specs.declared.effects.Effect.TheVariants as effect
 use Rattle.effect_form.specs.declared.outcomes.Outcome.TheVariants as outcome
 use Rattle.pseudo_time.specs.Order.{same_stamp, same_time}
-use Rattle.script_meaning.specs.Meaning.{Answer, Got, Stored, Request, ToRead, ToWrite}
+use Rattle.script_meaning.specs.Meaning.{Got, Stored, ToRead, ToWrite}
 use Rattle.serial_model.specs.Questions.{Tree}
 use Rattle.broker_core.specs.declared.heards.Heard.{Heard}
 use Rattle.broker_core.specs.declared.replies.Reply.{Reply}
 use Rattle.broker_core.specs.declared.replies.Reply.TheVariants.{Adds, Hears, Ignored}
-use Rattle.broker_core.specs.Book.{Act, Book, Try, book, time_of}
+use Rattle.broker_core.specs.Book.{Act, Book, Try, time_of}
 use Rattle.broker_core.specs.Fits.{another, next_clock, shown_to, stop_of}
 use Rattle.broker_core.specs.Owed.{after_act, after_tries, by_clock, by_stage, due, owed, start, try_or_spent}
 use Rattle.broker_core.specs.Rows.{ends, News, Begun, Answered, Refusal, Over_there, Decided, row, news, when, decided_commit, decided_early}
@@ -30,13 +25,12 @@ use Rattle.turn_form.specs.declared.turns.Out.{Out}
 use Rattle.world_core.specs.declared.entries.Entry.{Entry}
 use Rattle.world_core.specs.declared.entries.Entry.TheVariants as entry
 use Rattle.world_core.specs.Nodes.{gives}
-use Rattle.world_core.specs.Nodes.Input.{Going, Taking, Hearing, Learning}
+use Rattle.world_core.specs.Nodes.Input.{Hearing, Learning}
 use Rattle.world_core.specs.Walks as walks
 use Rattle.world_core.specs.Walks.{Base, Life, Sending, World, gated_life, lives_on, names, numbered, opened_life, start_world, step, after_input, took, all_effects}
-use Rattle.world_core.specs.Legal.{Rule}
-use Rattle.complete_law.specs.Calm.{CalmPlace, CalmRun, IsQuiet, world_at, log_at}
+use Rattle.complete_law.specs.Calm.{CalmPlace, IsQuiet, world_at}
 use Rattle.complete_law.proofs.Frames.{desk-after, goes, life-with, takes, turned}
-use Rattle.complete_law.proofs.Places.{CalmWorld, desk_of, log_of, tasks_of}
+use Rattle.complete_law.proofs.Places.{desk_of, log_of, tasks_of}
 use Rattle.complete_law.proofs.Sizes.{IsOfRun}
 use Rattle.complete_law.proofs.Steps as steps
 

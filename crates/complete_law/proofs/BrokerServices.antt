@@ -1,27 +1,23 @@
 -- A request that stands and is taken by its repository is answered, and heeded, or held.
-use Rattle.std.proofs.Common.{◌≡◌, ◌⊎◌, ℕ, ◌==◌, Bool, true, false, List, [], ◌∷◌, ◌++◌, reverse, refl, sym, ◌∙◌, ap, subst, Option, Some, None, if◌then◌else◌, inl, inr}
-use Rattle.std.proofs.lemmas.Bool.{false≢true, true≢false}
+use Rattle.std.proofs.Common.{◌≡◌, ℕ, ◌==◌, Bool, true, false, [], ◌∷◌, ◌++◌, reverse, refl, sym, ◌∙◌, ap, subst, Some, None, if◌then◌else◌, inl, inr}
 use Rattle.std.proofs.lemmas.List.{reverse-append}
-use Rattle.pseudo_time.specs.Lists.{Every, Has}
+use Rattle.pseudo_time.specs.Lists.{Has}
 use Rattle.pseudo_time.proofs.ListLemmas.{has-right}
 use Rattle.pseudo_time.specs.StampParts.{StampParts}
 use Rattle.pseudo_time.specs.TimeParts.{TimeParts}
 use Rattle.pseudo_time.proofs.OrderLemmas.{same_stamp-self}
 use Rattle.pseudo_time.specs.declared.decisions.Decision.{Decision}
-use Rattle.pseudo_time.specs.declared.decisions.Decision.TheVariants as decision
 use Rattle.pseudo_time.specs.declared.nodes.NodeId.{NodeId}
 use Rattle.commit_record.specs.declared.states.RecordState.TheVariants as records
-use Rattle.value_form.specs.declared.endings.Ending.TheVariants as ending
 use Rattle.value_form.specs.declared.objects.ObjectId.{ObjectId}
-use Rattle.effect_form.specs.declared.effects.Effect.{Effect}
 use Rattle.effect_form.specs.declared.effects.Effect.TheVariants as effect
 use Rattle.message_form.specs.declared.messages.Message.{Message}
 use Rattle.message_form.specs.declared.messages.Message.TheVariants as message
 use Rattle.turn_form.specs.declared.turns.Out.{Out}
 use Rattle.turn_form.specs.Growth.{Grew}
-use Rattle.script_meaning.specs.Meaning.{Over, ToRead, ToWrite}
+use Rattle.script_meaning.specs.Meaning.{ToRead, ToWrite}
 use Rattle.repository_core.specs.declared.waits.HeldRead.{HeldRead}
-use Rattle.repository_core.specs.Hands.{Hand, now}
+use Rattle.repository_core.specs.Hands.{Hand}
 use Rattle.repository_log.specs.Logs.{record_of}
 use Rattle.repository_core.specs.Rows.{accepts, on_message}
 use Rattle.repository_core.specs.Turns.{hand_at}
@@ -30,19 +26,18 @@ use Rattle.repository_laws.proofs.Logs.{decided-stands, tidy-through}
 use Rattle.broker_core.specs.declared.heards.Heard.{Heard}
 use Rattle.broker_core.specs.declared.replies.Reply.TheVariants.{Ignored}
 use Rattle.broker_core.specs.Book.{Book, Try, book, find, open_try, time_of, tries}
-use Rattle.broker_core.specs.Fits.{is_none, keep, stop_of}
+use Rattle.broker_core.specs.Fits.{keep}
 use Rattle.broker_core.specs.Rows.{news, row}
 use Rattle.broker_core.specs.Stages.{Stage, Idle, Refused, Opening, Asking, Finishing, Stopping, Closing, is_finished, nothing_heard, stage, standing}
 use Rattle.pseudo_time.specs.Nodes.{repository, broker}
-use Rattle.broker_core.specs.Turns as desks
-use Rattle.broker_core.specs.Turns.{desk_at, state}
+use Rattle.broker_core.specs.Turns.{state}
 use Rattle.broker_laws.specs.Fits.{FitsLog, IsTidy}
 use Rattle.broker_laws.specs.Posts.{Clocks, IsBelow, PostHolds}
 use Rattle.broker_laws.specs.Works.{TurnHolds}
 use Rattle.broker_laws.proofs.Desks.{PostOk, StageOk, open-first, stage-ok, standing-ok}
 use Rattle.broker_laws.proofs.Found.{each-found}
 use Rattle.broker_laws.proofs.Kept.{kept}
-use Rattle.broker_laws.proofs.Moves.{clocks, grown}
+use Rattle.broker_laws.proofs.Moves.{clocks}
 use Rattle.world_core.specs.Walks.{Base, Life, World, sent_by, all_effects}
 use Rattle.world_facts.specs.Refines.{Refines, logs_at, seat_of}
 use Rattle.world_facts.specs.NodeRules.{node_turns, node_facts}
@@ -53,7 +48,7 @@ use Rattle.complete_law.specs.AtRest.{read_to, standing_at}
 use Rattle.repository_waits.proofs.AskServices.{has-record}
 use Rattle.complete_law.proofs.BrokerMoves.{node-there, turn-there}
 use Rattle.complete_law.proofs.BrokerSteps.{StageSound, stage-sound}
-use Rattle.repository_waits.proofs.ReadSteps.{Answers, Keeps, Serves, on-message-serves}
+use Rattle.repository_waits.proofs.ReadSteps.{Keeps, Serves, on-message-serves}
 use Rattle.complete_law.proofs.Answering.{heeds-read}
 use Rattle.complete_law.proofs.Hearings.{each-in, open-closed}
 use Rattle.complete_law.proofs.Places.{log_of, gated_of, Heeds, IsBegun, IsDecided, desk_of, standing_in, tasks_of, CalmWorld}

@@ -1,8 +1,7 @@
 -- What a broker's messages cost, by its book: each attempt pays u to begin, v for each request, and z to end. What it has sent is never more than its attempts have paid.
-use Rattle.std.proofs.Common.{◌≡◌, ℕ, zero, suc, ◌+◌, ◌*◌, ◌≤◌, ◌==◌, max, nat_lt, Bool, true, false, ◌&&◌, ◌||◌, length, List, [], ◌∷◌, ◌++◌, refl, sym, ◌∙◌, ap, subst, Option, Some, None, if◌then◌else◌, inl, inr, append-nil, arith, slice_get}
+use Rattle.std.proofs.Common.{◌≡◌, ℕ, zero, suc, ◌+◌, ◌≤◌, ◌==◌, max, nat_lt, Bool, true, false, ◌&&◌, ◌||◌, length, List, [], ◌∷◌, ◌++◌, refl, sym, ◌∙◌, ap, subst, Option, Some, None, if◌then◌else◌, arith, slice_get}
 use Rattle.std.proofs.lemmas.Grind.{common_steps}
-use Rattle.std.proofs.lemmas.Bool.{false≢true, true≢false}
-use Rattle.pseudo_time.specs.Lists.{Every, Has}
+use Rattle.std.proofs.lemmas.Bool.{false≢true}
 use Rattle.pseudo_time.specs.StampParts.{StampParts}
 use Rattle.pseudo_time.specs.TimeParts.{TimeParts}
 use Rattle.pseudo_time.specs.Order.{same_stamp, same_time}
@@ -22,11 +21,11 @@ use Rattle.serial_model.specs.Questions.{Tree}
 use Rattle.broker_core.specs.declared.heards.Heard.{Heard}
 use Rattle.broker_core.specs.declared.replies.Reply.{Reply}
 use Rattle.broker_core.specs.declared.replies.Reply.TheVariants.{Adds, Hears, Ignored}
-use Rattle.broker_core.specs.Book.{Act, Book, Try, book, close, enter, finish, front, gain, if_open, last_try, new_try, on_act, on_front, on_try, open_front, open_of, open_try, time_of, tries_of}
+use Rattle.broker_core.specs.Book.{Act, Book, Try, enter, finish, front, gain, if_open, last_try, new_try, on_act, on_front, on_try, open_front, open_of, open_try, time_of, tries_of}
 use Rattle.broker_core.specs.Fits.{is_none, next_clock, shown_to, another, stop_of}
 use Rattle.broker_core.specs.Owed.{after_act, after_tries, by_clock, by_stage, due, owed, start, try_or_spent}
 use Rattle.broker_core.specs.Rows.{ends, News, Begun, Answered, Refusal, Over_there, Decided, row, news, when, decided_commit, decided_early}
-use Rattle.broker_core.specs.Stages.{Stage, Idle, Refused, Opening, Asking, Finishing, Stopping, Closing, by_last, by_stop, is_asking, is_closed, is_finished, is_settled, no_answer, of_open, request, stage, stage_of, standing}
+use Rattle.broker_core.specs.Stages.{Stage, Idle, Refused, Opening, Asking, Finishing, Stopping, Closing, by_last, by_stop, is_asking, is_closed, is_finished, is_settled, no_answer, of_open, stage, stage_of, standing}
 use Rattle.pseudo_time.specs.Nodes.{repository}
 use Rattle.broker_core.specs.Tasks.{Task}
 use Rattle.broker_core.specs.Tests.{is_stamp, is_time}
@@ -39,7 +38,7 @@ use Rattle.turn_form.specs.Posts.{Post}
 use Rattle.pseudo_time.specs.declared.nodes.NodeId.{NodeId}
 use Rattle.broker_core.specs.Turns as desks
 use Rattle.complete_law.proofs.BrokerSteps.{BookSound, StageSound, enter-sound, stage-sound}
-use Rattle.complete_law.proofs.BrokerTurns.{ReplySound, Tells, owed-allowed, reply-sounds, settle-outs, settle-sound, state-note}
+use Rattle.complete_law.proofs.BrokerTurns.{ReplySound, Tells, owed-allowed, reply-sounds, settle-outs, state-note}
 
 -- the open attempt is the newest
 split : (g : Try → Try) (as' : List Act) (t : Try) → open_of as' ≡ Some t →

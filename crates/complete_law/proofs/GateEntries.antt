@@ -1,13 +1,10 @@
 -- A gate moves what is open: messages that were owed were sent, and all else stands as it stood.
-use Rattle.std.proofs.Common.{◌≡◌, ◌≢◌, ◌⊎◌, ℕ, zero, suc, ◌+◌, ◌≤◌, ◌==◌, Bool, true, false, ◌&&◌, ◌||◌, not, List, [], ◌∷◌, ◌++◌, map, reverse, cond, refl, sym, ◌∙◌, ap, subst, Option, Some, None, is_some, slice_get, if◌then◌else◌, inl, inr, append_assoc, append-nil, arith}
-use Rattle.std.proofs.lemmas.Grind.{common_steps}
-use Rattle.std.proofs.lemmas.Bool.{false≢true, true≢false}
-use Rattle.std.proofs.lemmas.List.{map-append, reverse-append}
+use Rattle.std.proofs.Common.{◌≡◌, ◌⊎◌, ℕ, zero, suc, Bool, true, false, ◌||◌, not, List, [], ◌∷◌, ◌++◌, map, reverse, cond, refl, sym, ◌∙◌, ap, subst, Option, Some, None, slice_get, if◌then◌else◌, inl, inr}
+use Rattle.std.proofs.lemmas.Bool.{false≢true}
 use Rattle.std.specs.List.{filter}
-use Rattle.pseudo_time.specs.Lists.{Every, Has}
-use Rattle.pseudo_time.proofs.ListLemmas.{has-either, has-left, has-right, has-reverse}
+use Rattle.pseudo_time.specs.Lists.{Has}
+use Rattle.pseudo_time.proofs.ListLemmas.{has-reverse}
 use Rattle.pseudo_time.specs.StampParts.{StampParts}
-use Rattle.pseudo_time.specs.TimeParts.{TimeParts}
 use Rattle.pseudo_time.specs.Order.{same_stamp}
 use Rattle.pseudo_time.proofs.OrderLemmas.{same_stamp-is, same_stamp-self}
 use Rattle.pseudo_time.specs.declared.decisions.Decision.{Decision}
@@ -17,26 +14,19 @@ use Rattle.effect_form.specs.declared.effects.Effect.TheVariants as effect
 use Rattle.message_form.specs.declared.messages.Message.{Message}
 use Rattle.message_form.specs.declared.messages.Message.TheVariants as message
 use Rattle.turn_form.specs.declared.turns.Out.{Out}
-use Rattle.turn_form.specs.Posts.{Post, post, posts}
-use Rattle.pseudo_time.specs.Nodes.{same_node}
-use Rattle.message_core.proofs.NodeLemmas.{same_is, same_node-refl}
 use Rattle.serial_model.specs.Questions.{Tree}
 use Rattle.object_history.specs.History.{or_else, settle_of}
-use Rattle.repository_core.specs.declared.waits.HeldRead.{HeldRead}
-use Rattle.repository_core.specs.declared.waits.Asker.{Asker}
-use Rattle.repository_log.specs.Logs.{is_commit, known, knows, marks}
+use Rattle.repository_log.specs.Logs.{known, knows, marks}
 use Rattle.broker_core.specs.declared.replies.Reply.TheVariants.{Ignored}
 use Rattle.broker_core.specs.declared.heards.Heard.{Heard}
 use Rattle.broker_core.specs.Book.{time_of}
-use Rattle.broker_core.specs.Rows.{News, Nothing_new, news, row}
+use Rattle.broker_core.specs.Rows.{Nothing_new, news, row}
 use Rattle.broker_core.specs.Stages.{Stage, Idle, Refused, Opening, Asking, Finishing, Stopping, Closing, standing}
-use Rattle.pseudo_time.specs.Nodes.{repository, broker}
-use Rattle.script_meaning.specs.Meaning.{Request, ToRead, ToWrite}
+use Rattle.pseudo_time.specs.Nodes.{repository}
+use Rattle.script_meaning.specs.Meaning.{ToRead, ToWrite}
 use Rattle.repository_laws.proofs.Logs.{decide-settles, settled-log}
 use Rattle.world_core.specs.Nodes.{leaves}
-use Rattle.world_core.specs.Walks.{Base, Life, Sending, World, gated_life, leaving, numbered, opened_life, sent_by, all_effects}
-use Rattle.world_core.specs.Legal.{times_taken}
-use Rattle.complete_law.proofs.Places.{log_of, gated_of, Flying}
+use Rattle.world_core.specs.Walks.{numbered}
 
 -- ---- places in a list
 

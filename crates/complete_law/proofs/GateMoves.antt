@@ -1,11 +1,9 @@
 -- The entry Gate keeps what always holds.
-use Rattle.std.proofs.Common.{◌≡◌, ◌≢◌, ◌⊎◌, ℕ, zero, suc, ◌+◌, ◌≤◌, ◌==◌, Bool, true, false, ◌&&◌, not, List, [], ◌∷◌, ◌++◌, map, reverse, refl, sym, ◌∙◌, ap, subst, Option, Some, None, slice_get, if◌then◌else◌, inl, inr, append-nil, arith}
-use Rattle.std.proofs.lemmas.Grind.{common_steps}
-use Rattle.std.proofs.lemmas.Bool.{false≢true, true≢false}
-use Rattle.std.proofs.lemmas.List.{map-append, reverse-append}
+use Rattle.std.proofs.Common.{◌≡◌, ◌⊎◌, ℕ, suc, ◌≤◌, ◌==◌, Bool, true, false, ◌&&◌, List, [], map, reverse, refl, sym, ◌∙◌, ap, subst, Some, None, if◌then◌else◌, inl, inr, append-nil, arith}
+use Rattle.std.proofs.lemmas.List.{reverse-append}
 use Rattle.std.specs.List.{filter}
 use Rattle.pseudo_time.specs.Lists.{Has}
-use Rattle.pseudo_time.proofs.ListLemmas.{has-either, has-left, has-right, has-reverse}
+use Rattle.pseudo_time.proofs.ListLemmas.{has-either, has-right}
 use Rattle.pseudo_time.specs.StampParts.{StampParts}
 use Rattle.pseudo_time.specs.TimeParts.{TimeParts}
 use Rattle.pseudo_time.specs.declared.decisions.Decision.{Decision}
@@ -17,10 +15,10 @@ use Rattle.message_form.specs.declared.messages.Message.TheVariants as message
 use Rattle.turn_form.specs.declared.turns.Out.{Out}
 use Rattle.turn_form.specs.Posts.{Post, post, posts}
 use Rattle.pseudo_time.specs.Nodes.{same_node}
-use Rattle.message_core.proofs.NodeLemmas.{same_is, same_node-refl}
+use Rattle.message_core.proofs.NodeLemmas.{same_node-refl}
 use Rattle.repository_core.specs.declared.waits.HeldRead.{HeldRead}
 use Rattle.repository_core.specs.declared.waits.Asker.{Asker}
-use Rattle.repository_log.specs.Logs.{known, knows}
+use Rattle.repository_log.specs.Logs.{known}
 use Rattle.repository_core.specs.Rows.{waits_for}
 use Rattle.broker_core.specs.declared.heards.Heard.{Heard}
 use Rattle.broker_core.specs.Book.{Try, book, find, tries}
@@ -33,7 +31,7 @@ use Rattle.broker_core.specs.Turns.{desk_at, state}
 use Rattle.broker_laws.specs.Works.{IsRested}
 use Rattle.world_core.specs.declared.entries.Entry.TheVariants as entry
 use Rattle.world_core.specs.Nodes.{leaves}
-use Rattle.world_core.specs.Walks.{Base, Flags, Life, Sending, World, flagged, gated_life, leaving, lives_on, numbered, opened_life, sent_by, step, all_effects}
+use Rattle.world_core.specs.Walks.{Base, Flags, Life, Sending, World, flagged, gated_life, leaving, lives_on, numbered, sent_by, step, all_effects}
 use Rattle.world_core.specs.Legal.{MayGate, times_taken}
 use Rattle.world_facts.specs.Refines.{Refines}
 use Rattle.world_facts.specs.NodeRules.{node_turns, node_facts}
@@ -47,7 +45,7 @@ use Rattle.complete_law.proofs.GateEntries.{answer-leaves, ask-leaves, at-end, h
 use Rattle.repository_waits.proofs.HeldLemmas.{filter-has}
 use Rattle.repository_waits.specs.Waits.{ask_of, tell_of}
 use Rattle.complete_law.proofs.Idles.{waits-has}
-use Rattle.complete_law.proofs.Places.{log_of, gated_of, homes_of, held_of, IsBegun, IsDecided, Flying, AskedFor, tasks_of, desk_of, standing_in, Heeds, Placed, SaidOf, CalmWorld}
+use Rattle.complete_law.proofs.Places.{log_of, gated_of, held_of, IsBegun, IsDecided, Flying, AskedFor, tasks_of, desk_of, standing_in, Placed, SaidOf, CalmWorld}
 
 module _ (b : Base) (w : World) (calm : CalmWorld b w) (f : Refines (node_turns b.script) (node_facts b.script) b (λ n. []) [] (λ t. ⊥) w) (n : NodeId) (may : MayGate w n) where
   abbrev w' : World

@@ -1,7 +1,7 @@
 -- What a message that comes to a broker tells is so: no Ended comes for a request that stands.
-use Rattle.std.proofs.Common.{◌≡◌, ◌≢◌, ◌⊎◌, ℕ, zero, suc, Bool, true, false, List, [], ◌∷◌, ◌++◌, reverse, refl, sym, ◌∙◌, ap, subst, Option, Some, None, is_some, if◌then◌else◌, inl, inr}
-use Rattle.std.proofs.lemmas.Bool.{false≢true, true≢false}
-use Rattle.pseudo_time.specs.Lists.{Every, Has}
+use Rattle.std.proofs.Common.{◌≡◌, ◌⊎◌, ℕ, Bool, true, false, List, [], ◌∷◌, ◌++◌, reverse, refl, sym, ◌∙◌, ap, subst, Option, Some, None, if◌then◌else◌, inl, inr}
+use Rattle.std.proofs.lemmas.Bool.{true≢false}
+use Rattle.pseudo_time.specs.Lists.{Has}
 use Rattle.pseudo_time.proofs.ListLemmas.{every-has}
 use Rattle.pseudo_time.specs.StampParts.{StampParts}
 use Rattle.pseudo_time.specs.TimeParts.{TimeParts}
@@ -17,11 +17,8 @@ use Rattle.effect_form.specs.declared.effects.Effect.{Effect}
 use Rattle.effect_form.specs.declared.effects.Effect.TheVariants as effect
 use Rattle.message_form.specs.declared.messages.Message.{Message}
 use Rattle.message_form.specs.declared.messages.Message.TheVariants as message
-use Rattle.turn_form.specs.declared.turns.Out.{Out}
 use Rattle.turn_form.specs.Growth.{Each, Grew}
-use Rattle.turn_form.specs.Posts.{Post, post}
-use Rattle.script_meaning.specs.Meaning.{Request, Stop, Asks, Over}
-use Rattle.serial_model.specs.Questions.{Tree}
+use Rattle.script_meaning.specs.Meaning.{Request, Asks, Over}
 use Rattle.object_history.specs.History.{or_else, settle_of}
 use Rattle.repository_log.specs.Logs.{is_commit, known, marks}
 use Rattle.repository_laws.specs.Facts as repositories
@@ -29,11 +26,10 @@ use Rattle.turn_form.specs.Posts.{WasSent}
 use Rattle.repository_laws.proofs.Logs.{begin-home, decide-home, decide-cause}
 use Rattle.broker_core.specs.Book.{Book, Try, book, find, open_try, time_of, tries}
 use Rattle.broker_core.specs.Fits.{is_none, stop_of}
-use Rattle.broker_core.specs.Rows.{News, news}
+use Rattle.broker_core.specs.Rows.{news}
 use Rattle.pseudo_time.specs.Nodes.{repository, broker}
 use Rattle.broker_core.specs.Tasks.{Task}
 use Rattle.broker_laws.specs.Fits.{IsTidy, FitsLog}
-use Rattle.broker_laws.specs.Posts as brokers
 use Rattle.broker_laws.proofs.Desks.{open-first}
 use Rattle.broker_laws.proofs.Found.{each-found}
 use Rattle.broker_laws.proofs.Moves.{clocks, grown, post-grown}
@@ -42,8 +38,7 @@ use Rattle.world_core.specs.Walks.{Base, Life, World, sent_by}
 use Rattle.world_facts.specs.Refines.{LogFacts, logs_at}
 use Rattle.world_facts.specs.NodeRules.{kind_post, node_facts}
 use Rattle.world_facts.specs.Soft.{SentOk}
-use Rattle.complete_law.specs.AtRest.{DecidedAt}
-use Rattle.complete_law.proofs.Places.{log_of, gated_of, homes_of, IsBegun, IsDecided, SaidOf, CalmWorld}
+use Rattle.complete_law.proofs.Places.{log_of, gated_of, IsBegun, IsDecided, SaidOf, CalmWorld}
 use Rattle.complete_law.proofs.BrokerTurns.{Tells}
 
 -- a stamp that a log knows has its Decide or its Learn there

@@ -1,24 +1,22 @@
 -- At an idle place the nodes rest, so every broker is done.
-use Rattle.std.proofs.Common.{◌≡◌, ◌≢◌, ◌⊎◌, ℕ, zero, suc, ◌+◌, ◌==◌, ◌≤◌, nat_le, nat_lt, Bool, true, false, ◌&&◌, ◌||◌, List, [], ◌∷◌, ◌++◌, map, reverse, min, refl, sym, ◌∙◌, ap, subst, Option, Some, None, is_some, if◌then◌else◌, inl, inr, append-nil, arith}
+use Rattle.std.proofs.Common.{◌≡◌, ◌⊎◌, ℕ, zero, suc, ◌+◌, ◌==◌, ◌≤◌, nat_le, nat_lt, Bool, true, false, ◌&&◌, ◌||◌, List, [], ◌∷◌, ◌++◌, reverse, min, refl, sym, ◌∙◌, ap, subst, Some, None, is_some, if◌then◌else◌, inl, inr, append-nil, arith}
 use Rattle.std.proofs.lemmas.Grind.{common_steps}
-use Rattle.std.proofs.lemmas.Bool.{false≢true, true≢false}
+use Rattle.std.proofs.lemmas.Bool.{false≢true}
 use Rattle.pseudo_time.specs.Lists.{Every, Has}
 use Rattle.pseudo_time.proofs.ListLemmas.{every-append, every-has}
 use Rattle.pseudo_time.specs.StampParts.{StampParts}
 use Rattle.pseudo_time.specs.TimeParts.{TimeParts}
 use Rattle.pseudo_time.specs.Order.{same_stamp}
 use Rattle.pseudo_time.proofs.OrderLemmas.{same_stamp-is}
-use Rattle.pseudo_time.specs.declared.decisions.Decision.{Decision}
 use Rattle.pseudo_time.specs.declared.nodes.NodeId.{NodeId}
 use Rattle.value_form.specs.declared.objects.ObjectId.{ObjectId}
 use Rattle.value_form.specs.declared.values.Value.{Value}
 use Rattle.effect_form.specs.declared.effects.Effect.{Effect}
 use Rattle.effect_form.specs.declared.effects.Effect.TheVariants as effect
-use Rattle.message_form.specs.declared.messages.Message.{Message}
 use Rattle.message_form.specs.declared.messages.Message.TheVariants as message
 use Rattle.turn_form.specs.declared.turns.Out.{Out}
 use Rattle.turn_form.specs.Growth.{Each}
-use Rattle.turn_form.specs.Posts.{Post, post}
+use Rattle.turn_form.specs.Posts.{Post}
 use Rattle.stream_port.specs.declared.fates.Fate.{Fate}
 use Rattle.stream_port.specs.Fates.{copies_of}
 use Rattle.serial_model.specs.Questions.{Tree}
@@ -36,7 +34,6 @@ use Rattle.repository_log.specs.Logs.{known}
 use Rattle.repository_core.specs.Rows.{waits_for}
 use Rattle.repository_laws.specs.Facts.{WriteSent}
 use Rattle.turn_form.specs.Posts.{WasSent}
-use Rattle.repository_laws.specs.Facts as repositories
 use Rattle.repository_laws.proofs.Logs.{decide-settles}
 use Rattle.broker_core.specs.declared.heards.Heard.{Heard}
 use Rattle.object_history.proofs.ObjectLemmas.{eq-from}
@@ -45,24 +42,24 @@ use Rattle.broker_core.specs.Book.{Act, Book, Try, book, find, front, last_try, 
 use Rattle.broker_core.specs.Stages.{Stage, Idle, Refused, Opening, Asking, Finishing, Stopping, Closing, is_settled, stage, standing}
 use Rattle.pseudo_time.specs.Nodes.{repository, broker}
 use Rattle.broker_core.specs.Tasks.{Scripted, Task, tasks}
-use Rattle.broker_core.specs.Turns.{Desk, desk_at, state}
+use Rattle.broker_core.specs.Turns.{desk_at, state}
 use Rattle.broker_laws.specs.Works.{TurnHolds, IsRested}
 use Rattle.broker_laws.specs.Posts.{IsAskOf}
 use Rattle.broker_laws.proofs.Kept.{kept}
 use Rattle.world_core.specs.Nodes.{acts_of}
-use Rattle.world_core.specs.Walks.{Base, Life, Sending, World, numbered, opened_life, opened_log, sent_by}
+use Rattle.world_core.specs.Walks.{Base, Life, World, numbered, opened_log, sent_by}
 use Rattle.world_core.specs.Legal as legal
 use Rattle.world_core.specs.Legal.{IsIdle, JustNodes, in_plan, times_taken}
 use Rattle.world_facts.specs.Refines.{LogFacts, logs_at}
-use Rattle.world_facts.specs.NodeRules.{kind_cause, kind_post, node_facts}
+use Rattle.world_facts.specs.NodeRules.{node_facts}
 use Rattle.world_facts.specs.Soft.{SentOk}
-use Rattle.world_facts.proofs.Growths.{none-has, numbered-has}
+use Rattle.world_facts.proofs.Growths.{none-has}
 use Rattle.repository_waits.specs.Waits.{Waits}
 use Rattle.complete_law.specs.AtRest.{DecidedAt, standing_at, is_done, read_to, AtRest}
 use Rattle.complete_law.specs.Calm.{IsPlain}
 use Rattle.complete_law.proofs.BrokerSteps.{AllDecided, BookSound, HasSettled, Trail, last-among, older, open-among}
 use Rattle.repository_waits.specs.Waits.{ask_of, tell_of}
-use Rattle.complete_law.proofs.Places.{log_of, gated_of, homes_of, held_of, IsBegun, IsDecided, Flying, AskedFor, tasks_of, desk_of, standing_in, Heeds, Placed, CalmWorld}
+use Rattle.complete_law.proofs.Places.{log_of, gated_of, held_of, IsBegun, IsDecided, Flying, AskedFor, tasks_of, standing_in, Placed, CalmWorld}
 use Rattle.complete_law.proofs.Rests.{all-done}
 
 each-has : (P : List Effect → Effect → Type 0) (log : List Effect) (f : Effect) → Each P log → Has f log → (below : List Effect) × P below f

@@ -1,18 +1,14 @@
 -- A repository learns of no more attempts than brokers asked to end.
-use Rattle.std.proofs.Common.{◌≡◌, ◌≢◌, ◌⊎◌, ℕ, zero, suc, ◌+◌, ◌*◌, ◌≤◌, ◌==◌, Bool, true, false, ◌&&◌, not, length, List, [], ◌∷◌, ◌++◌, map, reverse, refl, sym, ◌∙◌, ap, subst, Option, Some, None, if◌then◌else◌, inl, inr, arith}
-use Rattle.std.proofs.lemmas.Grind.{common_steps}
-use Rattle.std.proofs.lemmas.Bool.{false≢true, true≢false}
+use Rattle.std.proofs.Common.{◌≡◌, ◌⊎◌, ℕ, zero, suc, ◌+◌, ◌*◌, ◌≤◌, Bool, true, false, not, length, List, [], ◌∷◌, ◌++◌, map, reverse, refl, sym, ◌∙◌, ap, subst, Option, Some, None, if◌then◌else◌, inl, inr, arith}
+use Rattle.std.proofs.lemmas.Bool.{false≢true}
 use Rattle.std.proofs.lemmas.List.{reverse-append}
 use Rattle.std.specs.List.{filter}
-use Rattle.pseudo_time.specs.Lists.{Every, Has}
+use Rattle.pseudo_time.specs.Lists.{Has}
 use Rattle.pseudo_time.specs.Order.{same_stamp}
 use Rattle.pseudo_time.proofs.OrderLemmas.{same_stamp-is, same_stamp-self}
 use Rattle.pseudo_time.specs.StampParts.{StampParts}
 use Rattle.pseudo_time.specs.declared.decisions.Decision.{Decision}
 use Rattle.pseudo_time.specs.declared.decisions.Decision.TheVariants as decision
-use Rattle.pseudo_time.specs.declared.nodes.NodeId.{NodeId}
-use Rattle.pseudo_time.specs.declared.nodes.NodeKind.{NodeKind}
-use Rattle.pseudo_time.specs.declared.nodes.NodeKind.TheVariants as kind
 use Rattle.effect_form.specs.declared.effects.Effect.{Effect}
 use Rattle.effect_form.specs.declared.effects.Effect.TheVariants as effect
 use Rattle.message_form.specs.declared.messages.Message.{Message}
@@ -21,7 +17,7 @@ use Rattle.object_history.specs.History.{or_else, settle_of}
 use Rattle.repository_log.specs.Logs.{known, marks}
 use Rattle.pseudo_time.specs.Nodes.{is_broker}
 use Rattle.repository_laws.specs.Facts.{IsTidy}
-use Rattle.repository_laws.proofs.Logs.{settled-log, tidy-tail, tidy-through}
+use Rattle.repository_laws.proofs.Logs.{settled-log, tidy-through}
 use Rattle.pseudo_time.specs.Nodes.{broker, repository}
 use Rattle.turn_form.specs.Posts.{Post}
 use Rattle.world_core.specs.Walks.{Base, Life, Sending, World, sent_by}
@@ -29,7 +25,7 @@ use Rattle.complete_law.specs.Calm.{AskAtMost, CalmPlace, CalmRun, log_at, tries
 use Rattle.complete_law.proofs.BrokerLoads.{wt}
 use Rattle.complete_law.proofs.Loads.{if-from}
 use Rattle.complete_law.proofs.RepositoryLoads.{all}
-use Rattle.complete_law.proofs.Totals.{by-broker, stores, stored-few, we-plain}
+use Rattle.complete_law.proofs.Totals.{by-broker, stores, stored-few}
 use Rattle.complete_law.proofs.HandLoads.{stored-load}
 use Rattle.complete_law.proofs.Totals.{brokers-few}
 use Rattle.complete_law.proofs.BrokerMoves.{node-there}

@@ -1,24 +1,22 @@
 -- How much a node has sent and owes, where each message has a weight; and what an entry leaves of a node, or gives it.
-use Rattle.std.proofs.Common.{◌≡◌, ℕ, zero, suc, ◌+◌, ◌*◌, ◌≤◌, ◌==◌, Bool, true, false, ◌&&◌, length, List, [], ◌∷◌, ◌++◌, map, reverse, cond, refl, sym, ◌∙◌, ap, subst, Option, Some, None, if◌then◌else◌, append-nil, arith}
-use Rattle.std.proofs.lemmas.Grind.{common_steps}
+use Rattle.std.proofs.Common.{◌≡◌, ℕ, ◌+◌, ◌≤◌, Bool, true, false, ◌&&◌, List, [], ◌∷◌, ◌++◌, map, reverse, refl, sym, ◌∙◌, ap, subst, if◌then◌else◌, append-nil, arith}
 use Rattle.std.proofs.lemmas.Bool.{false≢true, true≢false}
 use Rattle.std.specs.List.{filter}
 use Rattle.pseudo_time.specs.StampParts.{StampParts}
 use Rattle.pseudo_time.specs.declared.nodes.NodeId.{NodeId}
 use Rattle.pseudo_time.specs.declared.nodes.NodeKind.{NodeKind}
 use Rattle.pseudo_time.specs.declared.nodes.NodeKind.TheVariants as kind
-use Rattle.effect_form.specs.declared.effects.Effect.{Effect}
 use Rattle.message_form.specs.declared.messages.Message.{Message}
 use Rattle.pseudo_time.specs.Nodes.{same_node}
-use Rattle.message_core.proofs.NodeLemmas.{same_is, same_node-refl}
+use Rattle.message_core.proofs.NodeLemmas.{same_is}
 use Rattle.stream_port.specs.declared.fates.Fate.{Fate}
 use Rattle.turn_form.specs.declared.turns.Out.{Out}
-use Rattle.turn_form.specs.Posts.{Post, post, posts}
+use Rattle.turn_form.specs.Posts.{Post, posts}
 use Rattle.world_core.specs.declared.entries.Entry.{Entry}
 use Rattle.world_core.specs.declared.entries.Entry.TheVariants as entry
-use Rattle.world_core.specs.Nodes.{Mind, leaves}
-use Rattle.world_core.specs.Nodes.Input.{Going, Taking, Hearing, Learning}
-use Rattle.world_core.specs.Walks.{Base, Flags, Life, Sending, World, flagged, gated_life, leaving, lives_on, names, numbered, step, after_input, took, went, learned, all_effects}
+use Rattle.world_core.specs.Nodes.{leaves}
+use Rattle.world_core.specs.Nodes.Input.{Going, Taking, Learning}
+use Rattle.world_core.specs.Walks.{Base, Flags, Life, Sending, World, flagged, gated_life, leaving, lives_on, names, step, after_input, took, went, all_effects}
 use Rattle.world_core.specs.Legal.{MayGate, MayGo, MayLearn, MayTake, Rule}
 use Rattle.pseudo_time.specs.Nodes.{is_broker}
 use Rattle.complete_law.specs.Calm.{CalmRun, IsQuiet}

@@ -1,26 +1,24 @@
 -- What is sent in a calm run: requests, as many answers, Asks, and as many Tells.
-use Rattle.std.proofs.Common.{◌≡◌, ℕ, zero, suc, ◌+◌, ◌*◌, ◌≤◌, ◌==◌, Bool, true, false, ◌&&◌, length, List, [], ◌∷◌, ◌++◌, map, refl, sym, ◌∙◌, ap, subst, if◌then◌else◌, arith}
+use Rattle.std.proofs.Common.{◌≡◌, ℕ, zero, suc, ◌+◌, ◌*◌, ◌≤◌, ◌==◌, Bool, true, false, ◌&&◌, length, List, [], ◌∷◌, map, refl, ◌∙◌, ap, arith}
 use Rattle.std.proofs.lemmas.Grind.{common_steps}
 use Rattle.pseudo_time.specs.declared.nodes.NodeId.{NodeId}
 use Rattle.pseudo_time.specs.declared.nodes.NodeKind.{NodeKind}
 use Rattle.pseudo_time.specs.declared.nodes.NodeKind.TheVariants as kind
-use Rattle.effect_form.specs.declared.effects.Effect.{Effect}
-use Rattle.effect_form.specs.declared.effects.Effect.TheVariants as effect
 use Rattle.message_form.specs.declared.messages.Message.{Message}
 use Rattle.message_form.specs.declared.messages.Message.TheVariants as message
 use Rattle.pseudo_time.specs.Nodes.{same_node}
 use Rattle.message_core.proofs.NodeLemmas.{same_is, same_node-refl}
 use Rattle.repository_core.specs.Rows.{accepts}
 use Rattle.pseudo_time.specs.Nodes.{is_broker, is_repository}
-use Rattle.pseudo_time.specs.Nodes.{broker, repository}
+use Rattle.pseudo_time.specs.Nodes.{repository}
 use Rattle.world_core.specs.Walks.{Sending, World}
-use Rattle.complete_law.specs.Calm.{AskAtMost, CalmPlace, CalmRun, log_at, most_messages, sent_at, tries_in, world_at}
+use Rattle.complete_law.specs.Calm.{AskAtMost, CalmPlace, CalmRun, most_messages, sent_at, tries_in, world_at}
 use Rattle.complete_law.proofs.AskLoads.{ask-one, requesting, rest-asks, asks-learnt, asks-taken}
 use Rattle.complete_law.proofs.BrokerLoads.{wt}
-use Rattle.complete_law.proofs.HandLoads.{Prices, price, price-if, stored-load}
-use Rattle.complete_law.proofs.Loads.{if-from, issued, load, sent-load}
+use Rattle.complete_law.proofs.HandLoads.{Prices, price, price-if}
+use Rattle.complete_law.proofs.Loads.{if-from, issued, sent-load}
 use Rattle.complete_law.proofs.RepositoryLoads.{all, all-paid, all-priced, gain, gain-if, used-in, used-most}
-use Rattle.complete_law.proofs.Totals.{all-mono, brokers-few, by-broker, gain-most, one-each, sum-has, sum-mono, sum-one, sum-plus, sum-to}
+use Rattle.complete_law.proofs.Totals.{brokers-few, by-broker, gain-most, one-each, sum-has, sum-mono, sum-one, sum-plus, sum-to}
 
 -- ---- what each message counts as
 

@@ -1,49 +1,41 @@
 -- Of a broker that is done each act is over: no attempt expired, as no moment was ticked.
-use Rattle.std.proofs.Common.{◌≡◌, ◌⊎◌, ℕ, ◌≤◌, ◌==◌, nat_lt, nat_le, Bool, true, false, ◌&&◌, length, List, [], ◌∷◌, ◌++◌, reverse, refl, sym, ◌∙◌, ap, subst, Option, Some, None, is_some, if◌then◌else◌, inl, inr, append_assoc, arith}
+use Rattle.std.proofs.Common.{◌≡◌, ℕ, ◌≤◌, ◌==◌, nat_lt, nat_le, Bool, true, false, ◌&&◌, length, List, [], ◌∷◌, ◌++◌, reverse, refl, sym, ◌∙◌, ap, subst, Option, Some, None, if◌then◌else◌, inl, inr, arith}
 use Rattle.std.proofs.lemmas.Grind.{common_steps}
-use Rattle.std.proofs.lemmas.Bool.{false≢true, true≢false}
+use Rattle.std.proofs.lemmas.Bool.{false≢true}
 use Rattle.pseudo_time.specs.Lists.{Every, Has}
 use Rattle.pseudo_time.proofs.ListLemmas.{every-append, every-left, every-right, every-has}
 use Rattle.pseudo_time.specs.StampParts.{StampParts}
-use Rattle.pseudo_time.specs.declared.decisions.Decision.{Decision}
 use Rattle.pseudo_time.specs.declared.decisions.Decision.TheVariants as decision
 use Rattle.pseudo_time.specs.declared.nodes.NodeId.{NodeId}
 use Rattle.pseudo_time.specs.declared.nodes.NodeKind.{NodeKind}
 use Rattle.pseudo_time.specs.declared.nodes.NodeKind.TheVariants as kind
-use Rattle.effect_form.specs.declared.effects.Effect.{Effect}
 use Rattle.effect_form.specs.declared.effects.Effect.TheVariants as effect
 use Rattle.effect_form.specs.declared.outcomes.Outcome.{Outcome}
 use Rattle.effect_form.specs.declared.outcomes.Outcome.TheVariants as outcome
-use Rattle.message_form.specs.declared.messages.Message.{Message}
 use Rattle.message_form.specs.declared.messages.Message.TheVariants as message
 use Rattle.plan_form.specs.Plans.{InRange}
-use Rattle.broker_core.specs.declared.heards.Heard.{Heard}
 use Rattle.broker_core.specs.Book.{Act, Book, Try, book, tries, tries_of}
-use Rattle.broker_core.specs.Fits.{another, calls_again, has_outcome, is_none, keep, outcome_by}
-use Rattle.broker_core.specs.Owed.{all_over, done}
+use Rattle.broker_core.specs.Fits.{calls_again, has_outcome, is_none, keep, outcome_by}
+use Rattle.broker_core.specs.Owed.{all_over}
 use Rattle.broker_core.specs.Stages.{stage, standing}
 use Rattle.pseudo_time.specs.Nodes.{broker, repository}
-use Rattle.broker_core.specs.Tasks.{Task}
-use Rattle.broker_core.specs.Turns.{desk_at, state, all_effects}
 use Rattle.broker_laws.specs.Fits.{EndsBy}
 use Rattle.broker_laws.specs.Posts.{EndCame, IsPlayed, IsProven}
 use Rattle.broker_laws.specs.Works.{TurnHolds}
 use Rattle.broker_laws.proofs.Kept.{kept}
 use Rattle.broker_laws.proofs.TestLemmas.{and-left, and-right}
 use Rattle.broker_laws.proofs.Tries.{played, proven}
-use Rattle.turn_form.specs.Posts.{Post}
 use Rattle.world_core.specs.Walks.{Base, Life, World, sent_by}
 use Rattle.world_core.specs.Walks as walks
-use Rattle.world_core.specs.Legal.{base_of, in_plan, is_within}
-use Rattle.world_facts.specs.Refines.{Refines, LogFacts, logs_at}
+use Rattle.world_core.specs.Legal.{base_of}
+use Rattle.world_facts.specs.Refines.{LogFacts, logs_at}
 use Rattle.world_facts.specs.NodeRules.{kind_post, node_turns, node_facts}
 use Rattle.world_facts.proofs.NodeLaws.{node-laws}
 use Rattle.world_facts.proofs.Openings.{facts-of}
 use Rattle.complete_law.specs.Calm.{CalmPlace, AllDone, HasOutcome, IsOver, book_at, log_at, tasks_at, world_at}
 use Rattle.complete_law.proofs.BrokerMoves.{turn-there}
 use Rattle.complete_law.proofs.Hearings.{each-in, says}
-use Rattle.complete_law.proofs.Places.{CalmWorld, desk_of, log_of, tasks_of}
-use Rattle.complete_law.proofs.Ranges.{same-run}
+use Rattle.complete_law.proofs.Places.{desk_of, tasks_of}
 use Rattle.complete_law.proofs.Steps.{calm-there, facts-there}
 
 -- ---- of plain books

@@ -1,18 +1,16 @@
 -- What always holds at a calm place: where each request that stands is, and what keeps it from being lost.
-use Rattle.std.proofs.Common.{◌≡◌, ◌⊎◌, ℕ, ◌≤◌, ◌==◌, Bool, true, false, List, [], ◌∷◌, ◌++◌, reverse, Option, Some, None}
-use Rattle.pseudo_time.specs.Lists.{Every, Has}
+use Rattle.std.proofs.Common.{◌≡◌, ◌⊎◌, ℕ, ◌≤◌, ◌==◌, Bool, true, false, List, [], reverse, Option, Some, None}
+use Rattle.pseudo_time.specs.Lists.{Has}
 use Rattle.pseudo_time.specs.StampParts.{StampParts}
 use Rattle.pseudo_time.specs.TimeParts.{TimeParts}
 use Rattle.pseudo_time.specs.declared.decisions.Decision.{Decision}
 use Rattle.pseudo_time.specs.declared.nodes.NodeId.{NodeId}
-use Rattle.value_form.specs.declared.objects.ObjectId.{ObjectId}
 use Rattle.effect_form.specs.declared.effects.Effect.{Effect}
 use Rattle.effect_form.specs.declared.effects.Effect.TheVariants as effect
 use Rattle.message_form.specs.declared.messages.Message.{Message}
 use Rattle.message_form.specs.declared.messages.Message.TheVariants as message
 use Rattle.turn_form.specs.declared.turns.Out.{Out}
-use Rattle.turn_form.specs.Posts.{Post, post}
-use Rattle.serial_model.specs.Questions.{Tree}
+use Rattle.turn_form.specs.Posts.{post}
 use Rattle.repository_core.specs.declared.waits.HeldRead.{HeldRead}
 use Rattle.repository_core.specs.declared.waits.Asker.{Asker}
 use Rattle.repository_core.specs.Rows.{waits_for}
@@ -27,7 +25,7 @@ use Rattle.broker_core.specs.Tasks.{Task, tasks}
 use Rattle.broker_core.specs.Turns.{Desk, desk_at, state}
 use Rattle.broker_laws.specs.Works.{IsRested}
 use Rattle.world_core.specs.Nodes.{acts_of}
-use Rattle.world_core.specs.Walks.{Base, Life, Sending, World, numbered, opened_life, sent_by, all_effects}
+use Rattle.world_core.specs.Walks.{Base, Sending, World, numbered, opened_life, sent_by, all_effects}
 use Rattle.world_core.specs.Legal.{times_taken}
 use Rattle.repository_waits.specs.Waits.{Waits}
 use Rattle.complete_law.specs.AtRest.{DecidedAt, read_to, standing_at}

@@ -1,14 +1,13 @@
 -- An entry at which a repository takes a turn keeps what always holds, where the message that it took is served.
-use Rattle.std.proofs.Common.{◌≡◌, ◌≢◌, ◌⊎◌, ℕ, zero, suc, ◌+◌, ◌≤◌, ◌==◌, Bool, true, false, ◌&&◌, List, [], ◌∷◌, ◌++◌, map, reverse, refl, sym, ◌∙◌, ap, subst, Option, Some, None, if◌then◌else◌, inl, inr, append_assoc, append-nil}
-use Rattle.std.proofs.lemmas.Bool.{false≢true, true≢false}
+use Rattle.std.proofs.Common.{◌≡◌, ◌≢◌, ◌⊎◌, ℕ, ◌≤◌, ◌==◌, Bool, true, false, List, [], ◌++◌, map, reverse, sym, ◌∙◌, ap, subst, Some, None, inl, inr, append_assoc}
+use Rattle.std.proofs.lemmas.Bool.{true≢false}
 use Rattle.std.proofs.lemmas.List.{reverse-append, reverse-reverse}
-use Rattle.pseudo_time.specs.Lists.{Every, Has}
+use Rattle.pseudo_time.specs.Lists.{Has}
 use Rattle.pseudo_time.proofs.ListLemmas.{every-has, has-left, has-right}
 use Rattle.pseudo_time.specs.StampParts.{StampParts}
 use Rattle.pseudo_time.specs.TimeParts.{TimeParts}
 use Rattle.pseudo_time.specs.declared.decisions.Decision.{Decision}
 use Rattle.pseudo_time.specs.declared.nodes.NodeId.{NodeId}
-use Rattle.pseudo_time.specs.declared.nodes.NodeKind.{NodeKind}
 use Rattle.pseudo_time.specs.declared.nodes.NodeKind.TheVariants as kind
 use Rattle.value_form.specs.declared.objects.ObjectId.{ObjectId}
 use Rattle.effect_form.specs.declared.effects.Effect.{Effect}
@@ -18,12 +17,9 @@ use Rattle.message_form.specs.declared.messages.Message.TheVariants as message
 use Rattle.turn_form.specs.declared.turns.Out.{Out}
 use Rattle.turn_form.specs.Posts.{Post, post}
 use Rattle.script_meaning.specs.Meaning.{ToRead, ToWrite}
-use Rattle.serial_model.specs.Questions.{Tree}
-use Rattle.object_history.proofs.ObjectLemmas.{eq-from}
 use Rattle.repository_core.specs.declared.waits.HeldRead.{HeldRead}
 use Rattle.repository_core.specs.declared.waits.Asker.{Asker}
 use Rattle.repository_core.specs.Hands.{Hand, now}
-use Rattle.repository_log.specs.Logs.{known}
 use Rattle.repository_core.specs.Rows.{waits_for}
 use Rattle.repository_core.specs.Turns.{hand_at, mind_of}
 use Rattle.broker_core.specs.declared.heards.Heard.{Heard}
@@ -45,8 +41,7 @@ use Rattle.complete_law.proofs.BrokerTurns.{DeskSound}
 use Rattle.repository_waits.proofs.ReadSteps.{Answers, Keeps, Serves}
 use Rattle.repository_waits.specs.Waits.{ask_of, tell_of}
 use Rattle.complete_law.proofs.Answering.{heeds-read}
-use Rattle.complete_law.proofs.Idles.{waits-has}
-use Rattle.complete_law.proofs.Places.{log_of, gated_of, homes_of, held_of, IsBegun, IsDecided, Flying, AskedFor, tasks_of, desk_of, standing_in, Heeds, Placed, SaidOf, CalmWorld}
+use Rattle.complete_law.proofs.Places.{log_of, held_of, IsBegun, IsDecided, Flying, AskedFor, tasks_of, desk_of, standing_in, Heeds, Placed, SaidOf, CalmWorld}
 
 -- a life after a repository's turn
 abbrev pub life-hand : Life → Hand → Life

@@ -1,18 +1,15 @@
 -- What a repository has sent, owes, stores, holds and keeps is paid by the messages that it took, and each is taken once.
-use Rattle.std.proofs.Common.{◌≡◌, ℕ, zero, suc, ◌+◌, ◌≤◌, ◌<◌, ◌==◌, min, Bool, true, false, ◌&&◌, List, [], ◌∷◌, ◌++◌, map, reverse, cond, refl, sym, ◌∙◌, ap, subst, Option, Some, None, if◌then◌else◌, arith, slice_get}
+use Rattle.std.proofs.Common.{◌≡◌, ℕ, zero, suc, ◌+◌, ◌≤◌, ◌<◌, ◌==◌, min, Bool, true, false, List, [], ◌∷◌, ◌++◌, map, reverse, cond, refl, sym, ◌∙◌, ap, subst, Some, if◌then◌else◌, arith, slice_get}
 use Rattle.std.proofs.lemmas.Grind.{common_steps}
-use Rattle.std.proofs.lemmas.Bool.{false≢true, true≢false}
-use Rattle.pseudo_time.specs.Lists.{Every, Has}
+use Rattle.std.proofs.lemmas.Bool.{false≢true}
+use Rattle.pseudo_time.specs.Lists.{Has}
 use Rattle.pseudo_time.specs.StampParts.{StampParts}
 use Rattle.pseudo_time.specs.declared.nodes.NodeId.{NodeId}
 use Rattle.effect_form.specs.declared.effects.Effect.{Effect}
 use Rattle.message_form.specs.declared.messages.Message.{Message}
 use Rattle.pseudo_time.specs.Nodes.{same_node}
-use Rattle.message_core.proofs.NodeLemmas.{same_is, same_node-refl}
-use Rattle.object_history.proofs.ObjectLemmas.{eq-from}
-use Rattle.stream_port.specs.declared.fates.Fate.{Fate}
+use Rattle.message_core.proofs.NodeLemmas.{same_node-refl}
 use Rattle.stream_port.specs.Fates.{copies_of}
-use Rattle.turn_form.specs.declared.turns.Out.{Out}
 use Rattle.turn_form.specs.Posts.{Post}
 use Rattle.repository_core.specs.Hands.{Hand, now}
 use Rattle.repository_core.specs.declared.waits.Asker.{Asker}
@@ -27,15 +24,15 @@ use Rattle.message_core.specs.Tallies.{count}
 use Rattle.world_core.specs.declared.entries.Entry.{Entry}
 use Rattle.world_core.specs.declared.entries.Entry.TheVariants as entry
 use Rattle.world_core.specs.Nodes.{gives}
-use Rattle.world_core.specs.Nodes.Input.{Going, Taking, Learning}
+use Rattle.world_core.specs.Nodes.Input.{Taking, Learning}
 use Rattle.world_core.specs.Walks.{Base, Life, Sending, World, leaving, numbered, sent_by, sendings_after, start_world, step, taken_after, after_input}
 use Rattle.world_core.specs.Walks as walks
-use Rattle.world_core.specs.Legal.{MayGo, MayLearn, MayTake, Rule, times_taken}
+use Rattle.world_core.specs.Legal.{MayLearn, MayTake, Rule, times_taken}
 use Rattle.world_facts.proofs.Growths.{numbered-has}
-use Rattle.complete_law.specs.Calm.{CalmPlace, CalmRun, IsPlain, IsQuiet, log_at, world_at}
+use Rattle.complete_law.specs.Calm.{CalmPlace, CalmRun, IsPlain, IsQuiet, world_at}
 use Rattle.complete_law.proofs.Frames.{grown-log}
 use Rattle.complete_law.proofs.HandLoads.{Prices, learnt, price-if, stored-load, taken, times}
-use Rattle.complete_law.proofs.Loads.{Cases, Fed, Kept, by-entry, issued, load, load-append, sent-load}
+use Rattle.complete_law.proofs.Loads.{Fed, Kept, by-entry, issued, load, load-append, sent-load}
 use Rattle.complete_law.proofs.Places.{CalmWorld, log_of}
 use Rattle.complete_law.proofs.Ranges.{at-place}
 use Rattle.complete_law.proofs.RepositoryEntries.{life-hand}

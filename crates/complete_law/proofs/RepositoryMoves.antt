@@ -1,12 +1,11 @@
 -- The entries at which a repository takes a turn: it learns a decision, or it takes a message.
-use Rattle.std.proofs.Common.{◌≡◌, ◌≢◌, ◌⊎◌, ℕ, zero, suc, ◌+◌, ◌==◌, Bool, true, false, ◌&&◌, List, [], ◌∷◌, ◌++◌, map, reverse, refl, sym, ◌∙◌, ap, subst, Option, Some, None, if◌then◌else◌, inl, inr, append_assoc, append-nil}
-use Rattle.std.proofs.lemmas.Bool.{eq-eqb, false≢true, true≢false}
+use Rattle.std.proofs.Common.{◌≡◌, ◌⊎◌, ℕ, ◌==◌, Bool, true, false, ◌&&◌, List, [], ◌∷◌, ◌++◌, reverse, refl, sym, ◌∙◌, ap, subst, Option, Some, None, if◌then◌else◌, inl, inr}
+use Rattle.std.proofs.lemmas.Bool.{eq-eqb, false≢true}
 use Rattle.std.proofs.lemmas.List.{reverse-append}
 use Rattle.pseudo_time.specs.Lists.{Every, Has}
 use Rattle.pseudo_time.proofs.ListLemmas.{every-has, has-right}
 use Rattle.pseudo_time.specs.StampParts.{StampParts}
 use Rattle.pseudo_time.specs.TimeParts.{TimeParts}
-use Rattle.pseudo_time.specs.declared.decisions.Decision.{Decision}
 use Rattle.pseudo_time.specs.declared.nodes.NodeId.{NodeId}
 use Rattle.pseudo_time.specs.declared.nodes.NodeKind.{NodeKind}
 use Rattle.pseudo_time.specs.declared.nodes.NodeKind.TheVariants as kind
@@ -18,13 +17,11 @@ use Rattle.message_form.specs.declared.messages.Message.TheVariants as message
 use Rattle.turn_form.specs.declared.turns.Out.{Out}
 use Rattle.turn_form.specs.Posts.{Post, post}
 use Rattle.pseudo_time.specs.Nodes.{same_node}
-use Rattle.message_core.proofs.NodeLemmas.{same_is, same_node-refl}
+use Rattle.message_core.proofs.NodeLemmas.{same_node-refl}
 use Rattle.object_history.proofs.ObjectLemmas.{eq-from}
 use Rattle.stream_port.specs.declared.fates.Fate.{Fate}
-use Rattle.script_meaning.specs.Meaning.{Request, ToRead, ToWrite}
-use Rattle.serial_model.specs.Questions.{Tree}
+use Rattle.script_meaning.specs.Meaning.{ToRead}
 use Rattle.repository_core.specs.declared.waits.HeldRead.{HeldRead}
-use Rattle.repository_core.specs.declared.waits.Asker.{Asker}
 use Rattle.repository_core.specs.Hands.{Hand, now}
 use Rattle.repository_core.specs.Rows.{accepts, is_broker_of, on_learn, on_message, waits_for}
 use Rattle.repository_log.specs.Logs.{known}
@@ -43,14 +40,13 @@ use Rattle.broker_core.specs.Turns.{desk_at, state}
 use Rattle.broker_core.specs.Book.{book, tries}
 use Rattle.broker_core.specs.Stages.{stage}
 use Rattle.pseudo_time.specs.Nodes.{repository, broker}
-use Rattle.broker_laws.specs.Posts as brokers
 use Rattle.broker_laws.proofs.Found.{one-request}
 use Rattle.message_core.specs.Tallies.{count}
 use Rattle.world_core.specs.declared.entries.Entry.TheVariants as entry
 use Rattle.world_core.specs.Nodes.{gives}
 use Rattle.world_core.specs.Nodes.Input.{Learning, Taking}
 use Rattle.world_core.specs.Walks.{Base, Flags, Life, Sending, World, flagged, learned, lives_on, numbered, sent_by, step, after_input, took, all_effects}
-use Rattle.world_core.specs.Legal.{MayLearn, MayTake, times_taken}
+use Rattle.world_core.specs.Legal.{MayTake, times_taken}
 use Rattle.world_facts.specs.Refines.{LogFacts, Refines, logs_at, seat_of}
 use Rattle.world_facts.specs.NodeRules.{kind_post, node_turns, node_facts}
 use Rattle.world_facts.specs.Soft.{NodeOk, SentOk, around, happened}
@@ -64,7 +60,7 @@ use Rattle.complete_law.proofs.BrokerMoves.{all-off, both-on, node-there, not-sa
 use Rattle.complete_law.proofs.BrokerServices.{serves-broker}
 use Rattle.repository_waits.proofs.ReadSteps.{Asks, Keeps, begins, on-learn-keeps, on-message-keeps}
 use Rattle.repository_waits.specs.Waits.{ask_of, tell_of}
-use Rattle.complete_law.proofs.Places.{log_of, gated_of, held_of, AskedFor, Flying, Heeds, IsBegun, Placed, desk_of, standing_in, tasks_of, CalmWorld}
+use Rattle.complete_law.proofs.Places.{log_of, held_of, AskedFor, Flying, Heeds, IsBegun, Placed, standing_in, tasks_of, CalmWorld}
 use Rattle.repository_waits.proofs.AskServices.{ask-serves, has-record}
 use Rattle.complete_law.proofs.Hearings.{each-in}
 use Rattle.complete_law.proofs.RepositoryEntries.{Turned, broker-life, life-hand, log-here, owed-flies, turned-calm, waits-there}

@@ -1,11 +1,7 @@
 -- A request that stands, when its repository takes it, is answered so that its broker heeds it, or it is a read that is held.
-use Rattle.std.proofs.Common.{◌≡◌, ◌⊎◌, ℕ, ◌==◌, ◌&&◌, Bool, true, false, List, [], ◌∷◌, ◌++◌, reverse, refl, sym, ◌∙◌, ap, subst, Option, Some, None, if◌then◌else◌, inl, inr}
-use Rattle.std.proofs.lemmas.Bool.{eq-eqb, false≢true, true≢false}
-use Rattle.std.proofs.lemmas.List.{reverse-append}
-use Rattle.pseudo_time.specs.Lists.{Every, Has}
-use Rattle.pseudo_time.proofs.ListLemmas.{has-right}
-use Rattle.pseudo_time.specs.StampParts.{StampParts}
-use Rattle.pseudo_time.specs.TimeParts.{TimeParts}
+use Rattle.std.proofs.Common.{◌≡◌, ℕ, ◌==◌, ◌&&◌, Bool, true, false, List, refl, sym, ◌∙◌, ap, subst, Option, Some, None, if◌then◌else◌}
+use Rattle.std.proofs.lemmas.Bool.{eq-eqb, false≢true}
+use Rattle.pseudo_time.specs.Lists.{Has}
 use Rattle.pseudo_time.specs.declared.decisions.Decision.{Decision}
 use Rattle.pseudo_time.specs.declared.decisions.Decision.TheVariants as decision
 use Rattle.pseudo_time.specs.declared.nodes.NodeId.{NodeId}
@@ -15,18 +11,17 @@ use Rattle.value_form.specs.declared.objects.ObjectId.{ObjectId}
 use Rattle.value_form.specs.declared.values.Value.{Value}
 use Rattle.message_form.specs.declared.messages.Message.{Message}
 use Rattle.message_form.specs.declared.messages.Message.TheVariants as message
-use Rattle.turn_form.specs.declared.turns.Out.{Out}
-use Rattle.script_meaning.specs.Meaning.{Request, ToRead, ToWrite}
+use Rattle.script_meaning.specs.Meaning.{ToWrite}
 use Rattle.serial_model.specs.Questions.{Tree}
 use Rattle.repository_core.specs.Hands.{Hand, now}
 use Rattle.repository_log.specs.Logs.{record_of}
-use Rattle.repository_core.specs.Rows.{accepts, on_begin, on_close, on_message, on_write, row}
+use Rattle.repository_core.specs.Rows.{accepts, on_message, row}
 use Rattle.broker_core.specs.declared.heards.Heard.{Heard}
 use Rattle.broker_core.specs.declared.replies.Reply.TheVariants.{Ignored}
-use Rattle.broker_core.specs.Book.{Book, Try, time_of, tries}
+use Rattle.broker_core.specs.Book.{Try, time_of}
 use Rattle.broker_core.specs.Fits.{stop_of}
 use Rattle.broker_core.specs.Rows as rows
-use Rattle.broker_core.specs.Stages.{Stage, Idle, Refused, Opening, Asking, Finishing, Stopping, Closing, is_finished, standing}
+use Rattle.broker_core.specs.Stages.{Stage, Opening, Asking, Finishing, Closing, is_finished}
 use Rattle.pseudo_time.specs.Nodes.{repository, broker}
 use Rattle.broker_laws.specs.Posts.{PostHolds}
 use Rattle.complete_law.proofs.Answering.{BeginAnswers, CloseAnswers, heeds-begun, heeds-close, heeds-commit, heeds-early, heeds-write, on-begin-answers, on-close-answers, on-write-answers}

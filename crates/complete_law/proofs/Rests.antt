@@ -1,5 +1,5 @@
 -- Of nodes at rest every broker is done: a read waits for a smaller stamp alone, so the broker of the least stamp that is waited for would have an answer due.
-use Rattle.std.proofs.Common.{◌≡◌, ◌≢◌, ◌⊎◌, ℕ, ◌==◌, nat_lt, Bool, true, false, ◌&&◌, ◌||◌, List, [], ◌∷◌, ◌++◌, refl, sym, ◌∙◌, ap, subst, Option, Some, None, if◌then◌else◌, inl, inr, append-nil, arith}
+use Rattle.std.proofs.Common.{◌≡◌, ◌≢◌, ◌⊎◌, ℕ, nat_lt, Bool, true, false, ◌&&◌, ◌||◌, List, [], ◌∷◌, ◌++◌, refl, sym, ◌∙◌, ap, subst, Option, Some, None, if◌then◌else◌, inl, inr, arith}
 use Rattle.std.proofs.lemmas.Grind.{common_steps}
 use Rattle.std.proofs.lemmas.Bool.{false≢true, eq-eqb}
 use Rattle.pseudo_time.specs.Lists.{Every, Has}
@@ -9,33 +9,25 @@ use Rattle.pseudo_time.specs.Order.{same_stamp, stamp_lt, lt}
 use Rattle.pseudo_time.proofs.OrderLemmas.{same_stamp-is, same_stamp-self, lt-own}
 use Rattle.value_form.specs.declared.endings.Ending.TheVariants as ending
 use Rattle.value_form.specs.declared.objects.ObjectId.{ObjectId}
-use Rattle.value_form.specs.declared.values.Value.{Value}
-use Rattle.effect_form.specs.declared.effects.Effect.{Effect}
 use Rattle.effect_form.specs.declared.effects.Effect.TheVariants as effect
 use Rattle.effect_form.specs.declared.outcomes.Outcome.{Outcome}
-use Rattle.message_form.specs.declared.messages.Message.{Message}
 use Rattle.message_form.specs.declared.messages.Message.TheVariants as message
-use Rattle.pseudo_time.specs.declared.nodes.NodeId.{NodeId}
 use Rattle.turn_form.specs.declared.turns.Out.{Out}
-use Rattle.turn_form.specs.Posts.{Post}
-use Rattle.script_meaning.specs.Meaning.{Request, ToRead, ToWrite, Stop, Asks, Over}
+use Rattle.script_meaning.specs.Meaning.{ToRead, ToWrite, Stop, Asks, Over}
 use Rattle.serial_model.specs.Questions.{Tree}
 use Rattle.repository_core.specs.declared.waits.HeldRead.{HeldRead}
 use Rattle.repository_core.specs.Rows.{waits_for}
 use Rattle.repository_laws.specs.Facts.{WriteSent}
-use Rattle.turn_form.specs.Posts.{WasSent}
 use Rattle.plan_form.specs.Plans.{InRange}
 use Rattle.broker_core.specs.declared.heards.Heard.{Heard}
-use Rattle.broker_core.specs.Book.{Act, Book, Try, book, tries, tries_of, find, front, last_try, open_try, open_of, open_front, if_open, time_of}
-use Rattle.broker_core.specs.Fits.{is_none, keep, stop_of}
-use Rattle.broker_core.specs.Stages.{Stage, Idle, Refused, Opening, Asking, Finishing, Stopping, Closing, by_stop, by_last, of_open, stage_of, stage, standing, request, is_asking, is_closed, is_settled, no_answer}
-use Rattle.pseudo_time.specs.Nodes.{repository, broker}
-use Rattle.broker_core.specs.Owed.{owed, by_stage, due}
+use Rattle.broker_core.specs.Book.{Act, Book, Try, book, tries, tries_of, find, front, last_try, open_try, open_of, open_front, time_of}
+use Rattle.broker_core.specs.Fits.{is_none, stop_of}
+use Rattle.broker_core.specs.Stages.{Stage, Idle, Refused, Opening, Asking, Finishing, Stopping, Closing, by_stop, by_last, of_open, stage_of, stage, standing, is_asking, is_closed, is_settled, no_answer}
+use Rattle.pseudo_time.specs.Nodes.{repository}
+use Rattle.broker_core.specs.Owed.{owed, by_stage}
 use Rattle.broker_core.specs.Tasks.{Task}
 use Rattle.broker_core.specs.Tests.{is_stamp, is_time}
-use Rattle.broker_core.specs.Turns.{Desk, desk_at, state}
-use Rattle.broker_laws.specs.Posts.{IsAskOf}
-use Rattle.broker_laws.specs.Works.{TurnHolds, IsRested}
+use Rattle.broker_core.specs.Turns.{desk_at, state}
 use Rattle.broker_laws.proofs.Kept.{kept}
 use Rattle.broker_laws.proofs.Found.{each-found}
 use Rattle.broker_laws.proofs.LastTry.{last-is-open}

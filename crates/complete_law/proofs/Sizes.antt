@@ -1,10 +1,9 @@
 -- How large a broker's log is, by its book: one effect for the Run, each act, each attempt, each answer, each End and each act that is spent.
-use Rattle.std.proofs.Common.{◌≡◌, ℕ, zero, suc, ◌+◌, ◌*◌, ◌<◌, ◌≤◌, ◌==◌, max, nat_lt, Bool, true, false, ◌&&◌, length, List, [], ◌∷◌, ◌++◌, refl, sym, ◌∙◌, ap, subst, Option, Some, None, if◌then◌else◌, append_assoc, arith, slice_get}
-use Rattle.std.proofs.lemmas.Bool.{ltb-true, false≢true, true≢false}
+use Rattle.std.proofs.Common.{◌≡◌, ℕ, ◌+◌, ◌<◌, ◌≤◌, ◌==◌, max, Bool, true, false, length, List, [], ◌∷◌, ◌++◌, refl, sym, ap, subst, Option, Some, None, arith}
+use Rattle.std.proofs.lemmas.Bool.{ltb-true}
 use Rattle.std.proofs.lemmas.Grind.{common_steps}
 use Rattle.std.proofs.lemmas.List.{length-append}
-use Rattle.pseudo_time.specs.Lists.{Every, Has}
-use Rattle.pseudo_time.proofs.ListLemmas.{every-left, every-right}
+use Rattle.pseudo_time.specs.Lists.{Every}
 use Rattle.effect_form.specs.declared.effects.Effect.{Effect}
 use Rattle.effect_form.specs.declared.effects.Effect.TheVariants as effect
 use Rattle.effect_form.specs.declared.outcomes.Outcome.{Outcome}
@@ -12,11 +11,9 @@ use Rattle.effect_form.specs.declared.outcomes.Outcome.TheVariants as outcome
 use Rattle.pseudo_time.specs.StampParts.{StampParts}
 use Rattle.script_meaning.specs.Meaning.{Answer, Got, Stored}
 use Rattle.serial_model.specs.Questions.{Tree}
-use Rattle.broker_core.specs.Book.{Act, Book, Try, book, close, enter, finish, gain, if_open, new_try, on_act, on_front, on_try, open_front, open_of, tries_of}
-use Rattle.broker_core.specs.Fits.{another, calls_again, next_clock, shown_to}
-use Rattle.broker_core.specs.Tasks.{Task}
+use Rattle.broker_core.specs.Book.{Act, Book, Try, book, close, enter, finish, gain, new_try, on_act, on_front, on_try, open_front, open_of}
+use Rattle.broker_core.specs.Fits.{another, calls_again}
 use Rattle.broker_laws.specs.Fits.{EndFits, FitsBook, IsTidy, MayTry}
-use Rattle.broker_core.specs.Sound.{Started}
 use Rattle.broker_laws.proofs.Moves.{if-open}
 use Rattle.broker_laws.proofs.TestLemmas.{and-right}
 

@@ -1,33 +1,29 @@
 -- Each entry of a calm trace keeps what always holds. (Skeleton: the holes are the steps that are left.)
-use Rattle.std.proofs.Common.{◌≡◌, ◌≢◌, ◌⊎◌, ℕ, ◌==◌, Bool, true, false, List, [], ◌∷◌, ◌++◌, reverse, refl, sym, ◌∙◌, ap, subst, Option, Some, None, is_some, inl, inr}
+use Rattle.std.proofs.Common.{◌≡◌, ℕ, Bool, List, [], ◌∷◌, reverse, refl, sym, ◌∙◌, ap, subst, Option, Some, None, is_some, inl, inr}
 use Rattle.std.proofs.lemmas.Bool.{false≢true, true≢false}
 use Rattle.std.specs.Option.{unwrap_or}
-use Rattle.pseudo_time.specs.Lists.{Every, Has}
+use Rattle.pseudo_time.specs.Lists.{Every}
 use Rattle.pseudo_time.specs.StampParts.{StampParts}
 use Rattle.pseudo_time.specs.declared.nodes.NodeId.{NodeId}
 use Rattle.pseudo_time.specs.declared.nodes.NodeKind.{NodeKind}
 use Rattle.pseudo_time.specs.declared.nodes.NodeKind.TheVariants as kind
 use Rattle.effect_form.specs.declared.effects.Effect.{Effect}
 use Rattle.stream_port.specs.declared.fates.Fate.{Fate}
-use Rattle.serial_model.specs.Questions.{Tree}
 use Rattle.broker_core.specs.Book.{book}
 use Rattle.broker_core.specs.Stages.{nothing_heard}
 use Rattle.pseudo_time.specs.Nodes.{repository, broker}
 use Rattle.broker_core.specs.Fits.{keep}
 use Rattle.world_core.specs.declared.entries.Entry.{Entry}
 use Rattle.world_core.specs.declared.entries.Entry.TheVariants as entry
-use Rattle.world_core.specs.Walks.{Base, Life, Sending, World, opened_life, opened_log, sent_by, start_world, step, walk_from, all_effects}
+use Rattle.world_core.specs.Walks.{Base, Life, World, opened_life, opened_log, start_world, step, walk_from, all_effects}
 use Rattle.world_core.specs.Legal.{Meets, MayTake, MayGo, MayLearn, MayHear, MayGate, Rule, base_of, fates_of}
-use Rattle.pseudo_time.specs.Nodes.{is_broker}
-use Rattle.world_core.specs.Pasts.{OpenedWith}
 use Rattle.world_core.proofs.Rules.{meets-front}
 use Rattle.world_facts.specs.NodeRules.{node_turns, node_facts}
 use Rattle.world_facts.specs.Refines.{Refines}
-use Rattle.world_facts.specs.Soft.{happened}
 use Rattle.world_facts.proofs.NodeLaws.{node-laws, past-laws}
 use Rattle.world_facts.proofs.Openings.{opens, left-nothing, ready-start}
 use Rattle.world_facts.proofs.Refinements.{step-refines}
-use Rattle.complete_law.specs.Calm.{CalmRun, CalmPlace, IsQuiet, IsPlain, IsIdleAt, AllDone, world_at}
+use Rattle.complete_law.specs.Calm.{CalmRun, CalmPlace, IsQuiet, IsIdleAt, AllDone, world_at}
 use Rattle.complete_law.proofs.Places.{CalmWorld, IsBegun, IsDecided, tasks_of}
 use Rattle.complete_law.proofs.BrokerTurns.{DeskSound}
 use Rattle.broker_core.specs.Turns.{desk_at}

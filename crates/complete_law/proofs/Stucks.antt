@@ -1,18 +1,9 @@
 -- No calm place is stuck, where what always holds holds there.
-use Rattle.std.proofs.Common.{◌≡◌, ℕ, true, reverse, List, [], ◌∷◌, ◌++◌, refl, sym, ◌∙◌, subst, Option, Some, None, is_some}
+use Rattle.std.proofs.Common.{◌≡◌, List, [], ◌∷◌, refl, ◌∙◌}
 use Rattle.pseudo_time.specs.declared.nodes.NodeId.{NodeId}
-use Rattle.effect_form.specs.declared.effects.Effect.{Effect}
-use Rattle.pseudo_time.specs.Lists.{Has}
-use Rattle.pseudo_time.specs.TimeParts.{TimeParts}
-use Rattle.value_form.specs.declared.objects.ObjectId.{ObjectId}
-use Rattle.value_form.specs.declared.values.Value.{Value}
-use Rattle.effect_form.specs.declared.effects.Effect.TheVariants as effect
-use Rattle.turn_form.specs.declared.turns.Out.{Out}
-use Rattle.pseudo_time.specs.Nodes.{repository}
-use Rattle.plan_form.specs.Plans.{InRange}
-use Rattle.world_core.specs.Walks.{Base, World, opened_log, sent_by, start_world, step, walk, walk_from}
+use Rattle.world_core.specs.Walks.{Base, World, sent_by, start_world, step, walk_from}
 use Rattle.world_core.specs.declared.entries.Entry.{Entry}
-use Rattle.world_core.specs.Legal.{Idle, base_of, fates_of}
+use Rattle.world_core.specs.Legal.{base_of, fates_of}
 use Rattle.world_core.specs.Pasts.{OpenedWith}
 use Rattle.world_facts.specs.NodeRules.{node_turns, node_facts}
 use Rattle.world_facts.specs.Refines.{LogFacts, logs_at, Ticked}
@@ -20,7 +11,7 @@ use Rattle.world_facts.proofs.NodeLaws.{node-laws, past-laws}
 use Rattle.world_facts.proofs.Openings.{legal-facts}
 use Rattle.world_facts.proofs.Steps.{step-known}
 use Rattle.complete_law.specs.Calm.{CalmPlace, IsIdleAt, AllDone, world_at}
-use Rattle.complete_law.proofs.Places.{CalmWorld, standing_in}
+use Rattle.complete_law.proofs.Places.{CalmWorld}
 use Rattle.complete_law.proofs.Idles.{idle-done}
 
 walk-known : (b : Base) (w : World) (es : List Entry) (n : NodeId) → ((walk_from b w es).flags n).known ≡ (w.flags n).known

@@ -1,7 +1,6 @@
 -- What all brokers have sent together, and so what one repository has stored.
-use Rattle.std.proofs.Common.{◌≡◌, ℕ, zero, suc, ◌+◌, ◌*◌, ◌≤◌, ◌<◌, ◌==◌, Bool, true, false, ◌&&◌, List, [], ◌∷◌, ◌++◌, refl, sym, ◌∙◌, ap, subst, Option, Some, None, if◌then◌else◌, arith}
+use Rattle.std.proofs.Common.{◌≡◌, ℕ, zero, suc, ◌+◌, ◌*◌, ◌≤◌, ◌<◌, ◌==◌, Bool, true, false, ◌&&◌, List, [], ◌∷◌, refl, sym, ap, subst, if◌then◌else◌, arith}
 use Rattle.std.proofs.lemmas.Grind.{common_steps}
-use Rattle.std.proofs.lemmas.Bool.{false≢true, true≢false}
 use Rattle.std.specs.List.{filter}
 use Rattle.pseudo_time.specs.declared.nodes.NodeId.{NodeId}
 use Rattle.pseudo_time.specs.declared.nodes.NodeKind.{NodeKind}
@@ -13,18 +12,17 @@ use Rattle.message_form.specs.declared.messages.Message.{Message}
 use Rattle.message_form.specs.declared.messages.Message.TheVariants as message
 use Rattle.pseudo_time.specs.Nodes.{same_node}
 use Rattle.message_core.proofs.NodeLemmas.{same_node-refl}
-use Rattle.repository_core.specs.Rows.{accepts, is_broker_of}
+use Rattle.repository_core.specs.Rows.{accepts}
 use Rattle.pseudo_time.specs.Nodes.{is_broker}
 use Rattle.pseudo_time.specs.Nodes.{broker, repository}
-use Rattle.broker_core.specs.Tasks.{Task, tasks}
-use Rattle.world_core.specs.Walks.{Base, Life, Sending, World}
+use Rattle.broker_core.specs.Tasks.{tasks}
+use Rattle.world_core.specs.Walks.{Sending, World}
 use Rattle.complete_law.specs.Calm.{AskAtMost, CalmPlace, log_at, tries_in, world_at}
-use Rattle.complete_law.proofs.BrokerLoads.{broker-issues, fee, wt}
-use Rattle.complete_law.proofs.Costs.{weight}
+use Rattle.complete_law.proofs.BrokerLoads.{broker-issues, wt}
 use Rattle.complete_law.proofs.HandLoads.{Prices, price, price-if, stored-load}
-use Rattle.complete_law.proofs.Loads.{if-from, issued, load, sent-load}
+use Rattle.complete_law.proofs.Loads.{if-from, sent-load}
 use Rattle.complete_law.proofs.Places.{tasks_of}
-use Rattle.complete_law.proofs.RepositoryLoads.{all, all-priced, gain, gain-if, used-in, used-most}
+use Rattle.complete_law.proofs.RepositoryLoads.{all, all-priced, gain, gain-if, used-most}
 use Rattle.complete_law.proofs.Shares.{mul-mono, mul-plus, tries-given}
 use Rattle.complete_law.proofs.Steps as steps
 

@@ -1,34 +1,31 @@
 -- Nodes at rest: nothing is open and no message is on its way. Logs stand newest first.
-use Rattle.std.specs.Prelude.{◌≡◌, ◌≢◌, ◌⊎◌, ℕ, ◌≤◌, Bool, true, false, List, [], ◌∷◌, Option, Some, None}
+use Rattle.std.specs.Prelude.{◌≡◌, ◌⊎◌, ℕ, Bool, true, List, Option, Some}
 use Rattle.pseudo_time.specs.Lists.{Has}
 use Rattle.pseudo_time.specs.StampParts.{StampParts}
 use Rattle.pseudo_time.specs.TimeParts.{TimeParts}
-use Rattle.pseudo_time.specs.Order.{lt}
 use Rattle.pseudo_time.specs.declared.decisions.Decision.{Decision}
 use Rattle.pseudo_time.specs.declared.nodes.NodeId.{NodeId}
 use Rattle.value_form.specs.declared.objects.ObjectId.{ObjectId}
 use Rattle.value_form.specs.declared.values.Value.{Value}
 use Rattle.effect_form.specs.declared.effects.Effect.{Effect}
 use Rattle.effect_form.specs.declared.effects.Effect.TheVariants as effect
-use Rattle.message_form.specs.declared.messages.Message.{Message}
 use Rattle.message_form.specs.declared.messages.Message.TheVariants as message
 use Rattle.turn_form.specs.declared.turns.Out.{Out}
 use Rattle.turn_form.specs.Posts.{Post}
 use Rattle.script_meaning.specs.Meaning.{ToWrite}
 use Rattle.serial_model.specs.Questions.{Tree}
 use Rattle.repository_core.specs.declared.waits.HeldRead.{HeldRead}
-use Rattle.repository_log.specs.Logs.{known}
 use Rattle.repository_core.specs.Rows.{waits_for}
 use Rattle.repository_laws.specs.Facts.{WriteSent}
 use Rattle.repository_waits.specs.Waits.{Waits}
 use Rattle.turn_form.specs.Posts.{WasSent}
 use Rattle.plan_form.specs.Plans.{InRange}
 use Rattle.broker_core.specs.declared.heards.Heard.{Heard}
-use Rattle.broker_core.specs.Book.{Book, Try, book, tries, find, last_try}
+use Rattle.broker_core.specs.Book.{Try, book, tries, find, last_try}
 use Rattle.broker_core.specs.Stages.{stage, standing, is_settled}
 use Rattle.pseudo_time.specs.Nodes.{repository, broker}
 use Rattle.broker_core.specs.Tasks.{Task}
-use Rattle.broker_core.specs.Turns.{Desk, desk_at, state}
+use Rattle.broker_core.specs.Turns.{desk_at, state}
 use Rattle.broker_core.specs.Owed.{done}
 use Rattle.broker_laws.specs.Posts.{IsAskOf}
 use Rattle.broker_laws.specs.Works.{TurnHolds, IsRested}

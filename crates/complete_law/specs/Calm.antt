@@ -1,6 +1,6 @@
 -- Places of legal traces over empty logs at which nothing was lost, repeated or held and no node has stopped, and what holds there.
-use Rattle.std.specs.Prelude.{◌≡◌, ◌⊎◌, ℕ, zero, suc, ◌+◌, ◌*◌, ◌≤◌, ◌<◌, Bool, true, false, List, [], ◌∷◌, ◌++◌, length, reverse, Option, Some, None}
-use Rattle.pseudo_time.specs.Lists.{Every, Has}
+use Rattle.std.specs.Prelude.{◌≡◌, ◌⊎◌, ℕ, zero, suc, ◌+◌, ◌*◌, ◌≤◌, ◌<◌, Bool, true, List, [], ◌∷◌, ◌++◌, length, reverse, Option, Some, None}
+use Rattle.pseudo_time.specs.Lists.{Every}
 use Rattle.pseudo_time.specs.declared.nodes.NodeId.{NodeId}
 use Rattle.value_form.specs.declared.acts.ActSpec.{ActSpec}
 use Rattle.value_form.specs.declared.values.Value.{Value}
@@ -21,12 +21,11 @@ use Rattle.broker_core.specs.Owed.{done}
 use Rattle.pseudo_time.specs.Nodes.{broker}
 use Rattle.world_core.specs.declared.entries.Entry.{Entry}
 use Rattle.world_core.specs.declared.entries.Entry.TheVariants.{Take, Go, Learn, Hear, Gate, Crash, Down, Tick}
-use Rattle.pseudo_time.specs.declared.down_causes.DownCause.{DownCause}
 use Rattle.pseudo_time.specs.declared.down_causes.DownCause.TheVariants.{Medium, Damaged, Full}
 use Rattle.world_core.specs.declared.traces.Opened.{Opened}
 use Rattle.world_core.specs.declared.traces.Trace.{Trace}
 use Rattle.world_core.specs.Nodes.{acts_of}
-use Rattle.world_core.specs.Walks.{Life, World, opened_log, walk, all_effects, sent_by}
+use Rattle.world_core.specs.Walks.{World, opened_log, walk, all_effects, sent_by}
 use Rattle.world_core.specs.Legal.{Legal, Idle, base_of, fates_of}
 
 -- ---- the premises
