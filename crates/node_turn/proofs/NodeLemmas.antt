@@ -12,7 +12,7 @@ use Rattle.seat_lock.specs.Words.{knows}
 use Rattle.world_core.specs.declared.entries.Entry.{Entry}
 use Rattle.world_core.specs.Walks.{Base, Life, Flags}
 use Rattle.wire_core.specs.Wires.{WireParts}
-use Rattle.wire_lock.specs.Sights.{Sight, base_at, life_at, Looked}
+use Rattle.wire_lock.specs.Sights.{Sight, life_at, Looked}
 use Rattle.node_turn.specs.declared.conditions.Condition.{Condition}
 use Rattle.node_turn.specs.declared.conditions.Condition.TheVariants as condition
 use Rattle.node_turn.specs.declared.conditions.Turned.{Turned}
