@@ -1,9 +1,9 @@
 -- What an append leaves of a node, and the gate after it.
-use Rattle.std.proofs.Common.{◌≡◌, ◌≢◌, ℕ, ◌+◌, ◌≤◌, Bool, true, false, List, [], ◌∷◌, ◌++◌, length, take, Option, Some, None, Result, Ok, Err, IsTrue, IfOk, IfErr, OnOk, OnErr, refl, sym, ap, subst, ◌∙◌, arith, append_assoc}
+use Rattle.std.proofs.Common.{◌≡◌, ◌≢◌, ℕ, ◌+◌, ◌≤◌, Bool, true, false, List, [], ◌++◌, length, take, Result, Ok, Err, IsTrue, refl, sym, ap, subst, ◌∙◌, arith}
 use Rattle.std.specs.List.{filter}
 use Rattle.std.specs.Prelude.{count_by, ◌<◌}
 use Rattle.page_gate.specs.States.{is_blank}
-use Rattle.std.proofs.lemmas.List.{append-nil, length-append, take_all}
+use Rattle.std.proofs.lemmas.List.{length-append, take_all}
 use Rattle.pseudo_time.specs.declared.nodes.NodeId.{NodeId}
 use Rattle.pseudo_time.specs.declared.down_causes.DownCause.TheVariants as down
 use Rattle.stream_port.specs.Causes.{Rose}
@@ -16,14 +16,14 @@ use Rattle.version_store.specs.Filling.{HasPrefix, filling}
 use Rattle.version_store.specs.Storage.{storage}
 use Rattle.world_core.specs.declared.entries.Entry.TheVariants.{Gate}
 use Rattle.world_core.specs.Nodes.{leaves}
-use Rattle.world_core.specs.Walks.{Base, Life, Flags, World, all_effects, gated_life}
+use Rattle.world_core.specs.Walks.{Base, Life, Flags, all_effects, gated_life}
 use Rattle.wire_core.specs.Changes.{owed}
 use Rattle.wire_lock.specs.Decisions.{Decided}
-use Rattle.wire_lock.specs.Sights.{Sight, base_at, world_at, life_at, flags_at, IsOf, Looked, Gated, closed}
+use Rattle.wire_lock.specs.Sights.{Sight, base_at, world_at, life_at, flags_at, Gated, closed}
 use Rattle.node_turn.specs.Cores.{CoreParts, LeavesLog, IsAppended, IsFull}
-use Rattle.node_turn.specs.Lives.{DraftParts, no_draft, IsKept, HasLife, up_flags, IsUp, IsStored, IsStruck, IsCause, IsAfterAppend}
+use Rattle.node_turn.specs.Lives.{DraftParts, no_draft, IsKept, HasLife, IsUp, IsStored, IsStruck, IsCause, IsAfterAppend}
 use Rattle.node_turn.proofs.ReadyLemmas.{ready-whole, ready-durable}
-use Rattle.node_turn.proofs.LifeLemmas.{Follows, follows-of, on-ok, if-err, kept-none, stored-looked}
+use Rattle.node_turn.proofs.LifeLemmas.{Follows, follows-of, on-ok, if-err, kept-none}
 
 -- an image of a log that a beginning of these effects was added to
 pub kept-prefix : (l : Life) (log es : List Effect) (c : Image) → log ≡ l.gated → es ≡ l.fresh → HasPrefix log es c → IsKept l c

@@ -1,6 +1,5 @@
 -- What a node has after it went down, or after it was opened anew.
-use Rattle.std.proofs.Common.{◌≡◌, ℕ, ◌+◌, ◌-◌, ◌≤◌, ◌<◌, Bool, true, false, List, [], ◌∷◌, ◌++◌, length, take, Option, Some, None, Result, Ok, Err, IsTrue, IfOk, IfErr, OnOk, refl, sym, ap, subst, ◌∙◌, arith, length-append}
-use Rattle.std.specs.Option.{unwrap_or}
+use Rattle.std.proofs.Common.{◌≡◌, ℕ, ◌+◌, ◌-◌, ◌≤◌, ◌<◌, Bool, true, false, List, [], ◌++◌, length, take, Option, Some, Result, Ok, Err, IsTrue, refl, sym, ap, subst, ◌∙◌, arith, length-append}
 use Rattle.std.proofs.lemmas.List.{append-nil, length-take-le}
 use Rattle.pseudo_time.specs.declared.nodes.NodeId.{NodeId}
 use Rattle.pseudo_time.specs.declared.down_causes.DownCause.{DownCause}
@@ -12,16 +11,12 @@ use Rattle.effect_form.specs.declared.effects.Effect.{Effect}
 use Rattle.version_store.specs.declared.faults.OpenFault.{OpenFault}
 use Rattle.version_store.specs.declared.faults.OpenFault.TheVariants as opening
 use Rattle.version_store.specs.Filling.{filling}
-use Rattle.version_store.specs.Storage.{storage}
 use Rattle.world_core.specs.declared.entries.Entry.{Entry}
-use Rattle.world_core.specs.declared.entries.Entry.TheVariants.{Crash, Down}
-use Rattle.world_core.specs.Walks.{Base, Life, Flags, opened_log, opened_life, crashed_life}
-use Rattle.seat_lock.specs.Words.{CarriesOn}
-use Rattle.wire_core.specs.Boards.{owner_of}
-use Rattle.wire_lock.specs.Sights.{Sight, origin_at, base_at, world_at, life_at, flags_at, IsOf, Owns, Looked, Added, Falls, Crashes, HadNothing, crashed, downed}
+use Rattle.world_core.specs.Walks.{Base, Life, Flags, opened_life}
+use Rattle.wire_lock.specs.Sights.{Sight, base_at, life_at, flags_at, Owns, Looked, Added, Falls, Crashes, HadNothing, crashed}
 use Rattle.wire_lock.proofs.SightLemmas.{looked-of}
-use Rattle.node_turn.specs.Cores.{CoreParts, LeavesLog, IsReady, HasFound, IsReopened}
-use Rattle.node_turn.specs.Lives.{DraftParts, no_draft, IsKept, StaysReady, HasLife, up_flags, IsUp, IsStored, IsStruck, IsCause, IsDown}
+use Rattle.node_turn.specs.Cores.{CoreParts, IsReady, HasFound, IsReopened}
+use Rattle.node_turn.specs.Lives.{no_draft, IsKept, HasLife, up_flags, IsUp, IsStored, IsStruck, IsCause, IsDown}
 use Rattle.version_store.specs.Causes.{down_of_opening}
 use Rattle.node_turn.specs.Costs.{cost_of_cause, PaysFor}
 use Rattle.node_turn.proofs.CostLemmas.{pays-none, pays-one}

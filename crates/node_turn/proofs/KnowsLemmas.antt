@@ -1,5 +1,5 @@
 -- A log that knows an attempt: it does so in whatever order it stands, and after the attempt was learned.
-use Rattle.std.proofs.Common.{◌≡◌, ℕ, Bool, true, false, ◌||◌, List, [], ◌∷◌, ◌++◌, reverse, Option, Some, None, is_some, refl, sym, ap, subst, ◌∙◌, append_assoc, ◌==◌, ◌&&◌, not, if◌then◌else◌}
+use Rattle.std.proofs.Common.{◌≡◌, ℕ, Bool, true, false, ◌||◌, List, [], ◌∷◌, ◌++◌, reverse, Option, Some, None, is_some, refl, sym, ap, subst, ◌∙◌, append_assoc, ◌==◌, not, if◌then◌else◌}
 use Rattle.std.proofs.lemmas.List.{reverse-append, reverse-reverse}
 use Rattle.std.specs.List.{filter}
 use Rattle.pseudo_time.specs.StampParts.{StampParts}
@@ -22,7 +22,7 @@ use Rattle.repository_log.specs.Logs.{knows, known, is_for, decided_by, marks}
 use Rattle.repository_log.proofs.MarkLemmas.{knows-known}
 use Rattle.repository_core.specs.declared.waits.HeldRead.{HeldRead}
 use Rattle.repository_core.specs.Hands.{Hand, now, note, Mind as HandMind}
-use Rattle.repository_core.specs.Rows.{read_as, read_known, on_read, reread, release, learn_as, on_learn, unhold, hold, ask_for, waits_for}
+use Rattle.repository_core.specs.Rows.{read_as, read_known, on_read, reread, release, learn_as, on_learn, unhold, waits_for}
 use Rattle.repository_core.specs.Turns as hands
 use Rattle.world_core.specs.Nodes.{Mind, gives, kind_gives}
 use Rattle.world_core.specs.Nodes.Input.{Learning}

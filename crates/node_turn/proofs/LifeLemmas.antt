@@ -1,6 +1,6 @@
 -- What a node keeps of its life, from call to call.
-use Rattle.std.proofs.Common.{◌≡◌, ◌≢◌, ◌⊎◌, ℕ, ◌+◌, ◌-◌, ◌≤◌, Bool, true, false, List, [], ◌∷◌, ◌++◌, length, take, Option, Some, None, Result, Ok, Err, IsTrue, IfOk, IfErr, OnOk, OnErr, IsErrOf, ◌||◌, refl, sym, ap, subst, ◌∙◌, arith, append_assoc}
-use Rattle.std.proofs.lemmas.List.{append-nil, length-append, take_all}
+use Rattle.std.proofs.Common.{◌≡◌, ℕ, Bool, true, false, List, [], ◌++◌, length, Option, Result, Ok, Err, IsTrue, IfOk, IfErr, OnOk, OnErr, IsErrOf, ◌||◌, refl, sym, ap, subst, ◌∙◌, arith, append_assoc}
+use Rattle.std.proofs.lemmas.List.{append-nil}
 use Rattle.pseudo_time.proofs.ListLemmas.{every-append}
 use Rattle.pseudo_time.specs.StampParts.{StampParts}
 use Rattle.pseudo_time.specs.declared.nodes.NodeId.{NodeId}
@@ -21,12 +21,12 @@ use Rattle.object_history.specs.Causes.{IsNotDamage}
 use Rattle.version_store.specs.Storage.{storage}
 use Rattle.world_core.specs.declared.entries.Entry.{Entry}
 use Rattle.world_core.specs.Nodes.{Input}
-use Rattle.world_core.specs.Walks.{Base, Life, Flags, World, after_input, all_effects, walk, went, learned, with_due}
+use Rattle.world_core.specs.Walks.{Base, Life, Flags, after_input, all_effects, walk, went, learned, with_due}
 use Rattle.wire_core.specs.Wires.{WireParts, base_from}
 use Rattle.wire_core.specs.declared.takens.Taken.{Taken}
 use Rattle.wire_lock.specs.Sights.{Sight, origin_in, base_at, life_at, flags_at, given, IsOf, IsAsBefore, Looked, Added, Visited, Tested, TakesOne}
-use Rattle.node_turn.specs.Cores.{CoreParts, LeavesLog, IsReady, HasTurn, given_for, IsGiven}
-use Rattle.node_turn.specs.Lives.{DraftParts, IsKept, StaysReady, AskNobody, HasLife, up_flags, images_of, IsUnwritten, IsUp, IsStored, IsStruck, IsAfter}
+use Rattle.node_turn.specs.Cores.{CoreParts, HasTurn, given_for, IsGiven}
+use Rattle.node_turn.specs.Lives.{DraftParts, IsKept, StaysReady, HasLife, up_flags, IsUnwritten, IsUp, IsStored, IsStruck, IsAfter}
 use Rattle.node_turn.proofs.ReadyLemmas.{ready-told, asks-told}
 
 -- ---- results

@@ -1,5 +1,5 @@
 -- What a node keeps while others move on, at rest, and over a turn.
-use Rattle.std.proofs.Common.{◌≡◌, ◌≢◌, ℕ, Bool, true, false, List, [], ◌∷◌, ◌++◌, Result, Ok, Err, IsTrue, IfOk, OnOk, refl, sym, ap, subst, ◌∙◌}
+use Rattle.std.proofs.Common.{◌≡◌, ◌≢◌, ℕ, Bool, false, List, Result, Ok, Err, IsTrue, IfOk, OnOk, refl, sym, ap, subst, ◌∙◌}
 use Rattle.std.specs.Prelude.{MatchBool}
 use Rattle.pseudo_time.specs.declared.nodes.NodeId.{NodeId}
 use Rattle.pseudo_time.specs.Nodes.{is_broker}
@@ -12,16 +12,16 @@ use Rattle.seat_lock.specs.Words.{knows}
 use Rattle.world_core.specs.declared.entries.Entry.{Entry}
 use Rattle.world_core.specs.Walks.{Base, Life, Flags}
 use Rattle.wire_core.specs.Wires.{WireParts}
-use Rattle.wire_lock.specs.Sights.{Sight, base_at, life_at, flags_at, IsOf, Looked}
+use Rattle.wire_lock.specs.Sights.{Sight, life_at, Looked}
 use Rattle.node_turn.specs.declared.conditions.Condition.{Condition}
 use Rattle.node_turn.specs.declared.conditions.Condition.TheVariants as condition
 use Rattle.node_turn.specs.declared.conditions.Turned.{Turned}
 use Rattle.node_turn.specs.declared.conditions.Turned.TheVariants.{Worked, Quiet, Stopped}
 use Rattle.node_turn.specs.Cores.{CoreParts}
-use Rattle.node_turn.specs.Lives.{no_draft, IsUp, IsStored, IsDown, Keeps}
+use Rattle.node_turn.specs.Lives.{no_draft, IsUp, IsDown, Keeps}
 use Rattle.node_turn.specs.Costs.{costs, PaysFor}
 use Rattle.node_turn.specs.Trails.{HasTested}
-use Rattle.node_turn.specs.Nodes.{NodeParts, Grew, IsCondition, IsQuiet, Answers, Does, StaysWhole, TurnsTo, Stands, IsAtRest}
+use Rattle.node_turn.specs.Nodes.{NodeParts, Grew, IsCondition, IsQuiet, Answers, Does, StaysWhole, TurnsTo, IsAtRest}
 use Rattle.node_turn.proofs.LifeLemmas.{Follows, follows-looked, flags-seen, life-looked, up-looked, up-stored, stored-looked}
 use Rattle.node_turn.proofs.FallLemmas.{cause-same}
 use Rattle.node_turn.proofs.PageLemmas.{whole-same}
@@ -65,11 +65,6 @@ module _ {K M : Type 0} (tells : Bool) (parts : K → CoreParts M) (fits : Base 
 
   -- ---- at rest
 
-  pub keeps-node : (core : K) (k : Sight) (n : NodeId) (gone : Bool) (durable : ℕ) (c : Condition) → Keeps tells parts fits lives owes pages reads may_leave c core k n gone durable → (parts core).node ≡ n
-  keeps-node core k n gone durable condition.AtWork u = u.node
-  keeps-node core k n gone durable (condition.Down cause) d = d.stored.node
-  keeps-node core k n gone durable condition.Wanting s = s.node
-
   rest-seen : (core : K) (n : NodeId) (gone : Bool) (durable : ℕ) (pass : Pass) (c : Condition) → Keeps tells parts fits lives owes pages reads may_leave c core (knows pass) n gone durable
       → IsAtRest tells pages reads may_leave (seen n c pass core)
   rest-seen core n gone durable pass condition.AtWork u = record { own = u.own; kept = (up-stored u).kept; stands = (ap (λ (x : Flags). x.up) u.flags, λ t. sym (u.life t).effects) }
@@ -79,13 +74,6 @@ module _ {K M : Type 0} (tells : Bool) (parts : K → CoreParts M) (fits : Base 
   pub keeps-rest : (core : K) (n : NodeId) (gone : Bool) (durable : ℕ) (pass : Pass) (c : Condition) → Keeps tells parts fits lives owes pages reads may_leave c core (knows pass) n gone durable
       → {old : NodeParts M} → seen n c pass core ≡ old → IsAtRest tells pages reads may_leave old
   keeps-rest core n gone durable pass c h {old} view = subst (IsAtRest tells pages reads may_leave) view (rest-seen core n gone durable pass c h)
-
-  -- the core of a node at work
-  pub keeps-life : (core : K) (k : Sight) (n : NodeId) (gone : Bool) (durable : ℕ) (c : Condition) → Keeps tells parts fits lives owes pages reads may_leave c core k n gone durable → IsTrue tells → c ≡ condition.AtWork
-      → fits (base_at k) core × lives (base_at k) core (life_at k n)
-  keeps-life core k n gone durable c h t e =
-      let u : IsUp tells parts fits lives owes pages reads may_leave core k n gone false (no_draft durable) = keeps-at core k n gone durable c condition.AtWork e h in
-      (u.run, (u.life t).core)
 
   -- ---- a turn
 
@@ -122,13 +110,15 @@ module _ {K M : Type 0} (tells : Bool) (parts : K → CoreParts M) (fits : Base 
         → MatchBool quiet (IsQuiet n (knows pass) (knows pass') × (c' ≡ condition.AtWork)) (c' ≡ condition.AtWork → Grew (knows pass).own (knows pass').own)
         → IfOk r (λ t. Does t n (knows pass) (knows pass'))
     does-answer (Ok Worked) h is answers q =
-        let u : IsUp tells parts fits lives owes pages reads may_leave new (knows pass') n gone false (no_draft durable) = keeps-at new (knows pass') n gone durable c' condition.AtWork is h in
-        (subst (λ (b : Bool). MatchBool b (IsQuiet n (knows pass) (knows pass') × (c' ≡ condition.AtWork)) (c' ≡ condition.AtWork → Grew (knows pass).own (knows pass').own)) answers q is,
-        ap (λ (x : Flags). x.up) u.flags)
+        let u : IsUp tells parts fits lives owes pages reads may_leave new (knows pass') n gone false (no_draft durable) = keeps-at new (knows pass') n gone durable c' condition.AtWork is h in (
+          subst (λ (b : Bool). MatchBool b (IsQuiet n (knows pass) (knows pass') × (c' ≡ condition.AtWork)) (c' ≡ condition.AtWork → Grew (knows pass).own (knows pass').own)) answers q is,
+          ap (λ (x : Flags). x.up) u.flags,
+        )
     does-answer (Ok Quiet) h is answers q =
-        let u : IsUp tells parts fits lives owes pages reads may_leave new (knows pass') n gone false (no_draft durable) = keeps-at new (knows pass') n gone durable c' condition.AtWork is h in
-        ((subst (λ (b : Bool). MatchBool b (IsQuiet n (knows pass) (knows pass') × (c' ≡ condition.AtWork)) (c' ≡ condition.AtWork → Grew (knows pass).own (knows pass').own)) answers q).0,
-        ap (λ (x : Flags). x.up) u.flags)
+        let u : IsUp tells parts fits lives owes pages reads may_leave new (knows pass') n gone false (no_draft durable) = keeps-at new (knows pass') n gone durable c' condition.AtWork is h in (
+          (subst (λ (b : Bool). MatchBool b (IsQuiet n (knows pass) (knows pass') × (c' ≡ condition.AtWork)) (c' ≡ condition.AtWork → Grew (knows pass).own (knows pass').own)) answers q).0,
+          ap (λ (x : Flags). x.up) u.flags,
+        )
     does-answer (Ok Stopped) h is answers q =
         let d : IsDown tells parts fits lives owes pages reads may_leave new (knows pass') n is.0 = keeps-at new (knows pass') n gone durable c' (condition.Down is.0) is.1 h in
         d.down

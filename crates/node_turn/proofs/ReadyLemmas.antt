@@ -1,9 +1,8 @@
 -- With any beginning of what a turn adds a node's log is ready, and a broker asks nobody.
-use Rattle.std.proofs.Common.{◌≡◌, ◌⊎◌, ℕ, zero, suc, ◌+◌, ◌-◌, ◌≤◌, Bool, true, false, List, [], ◌++◌, length, take, drop, reverse, Option, None, Some, is_none, refl, sym, ap, subst, ◌∙◌, arith, ⊎_elim, append_assoc, ◌<◌}
+use Rattle.std.proofs.Common.{◌≡◌, ℕ, zero, suc, ◌+◌, ◌-◌, ◌≤◌, true, List, [], ◌++◌, length, take, drop, reverse, Option, None, Some, is_none, refl, sym, ap, subst, ◌∙◌, arith, ⊎_elim, append_assoc, ◌<◌}
 use Rattle.std.proofs.lemmas.List.{append-nil, length-append, take-append-drop, take-append-le, take_all, length-take-le, length-reverse, reverse-append, reverse-reverse}
 use Rattle.std.proofs.Math.Seq.{take-append_seam, take-append-add}
 use Rattle.std.proofs.lemmas.Bool.{cases_lt}
-use Rattle.pseudo_time.specs.Lists.{Every}
 use Rattle.pseudo_time.proofs.ListLemmas.{every-append}
 use Rattle.pseudo_time.specs.declared.nodes.NodeId.{NodeId}
 use Rattle.pseudo_time.specs.declared.nodes.NodeKind.{NodeKind}
@@ -14,18 +13,17 @@ use Rattle.effect_form.specs.declared.effects.Effect.{Effect}
 use Rattle.turn_form.specs.declared.turns.Out.{Out}
 use Rattle.serial_model.specs.Questions.{Tree}
 use Rattle.broker_core.specs.Fits.{resume_fault}
-use Rattle.broker_core.specs.Tasks.{Task, tasks}
+use Rattle.broker_core.specs.Tasks.{tasks}
 use Rattle.broker_core.specs.Turns as desks
-use Rattle.broker_core.specs.declared.resume_faults.ResumeFault.{ResumeFault}
 use Rattle.broker_laws.specs.Fits as brokers
-use Rattle.broker_laws.specs.Works.{AlwaysReady, AsksNobody, Added}
+use Rattle.broker_laws.specs.Works.{AlwaysReady, AsksNobody}
 use Rattle.broker_laws.proofs.AnyLog.{turn-always}
 use Rattle.broker_laws.proofs.Nobody.{turn-nobody}
 use Rattle.broker_laws.proofs.ReadyLemmas.{no-fault, fault-none}
 use Rattle.broker_laws.proofs.TurnLemmas.{turn-added}
-use Rattle.world_core.specs.Nodes.{Mind, Input, Given, gives, kind_gives, broker_gives, is_ready, kind_ready, broker_ready, acts_of}
+use Rattle.world_core.specs.Nodes.{Mind, Input, gives, kind_gives, is_ready, kind_ready, broker_ready, acts_of}
 use Rattle.world_core.specs.Nodes.Input.{Going, Taking, Learning, Hearing}
-use Rattle.world_core.specs.Walks.{Base, Life, all_effects, after_input, with_given}
+use Rattle.world_core.specs.Walks.{Base, Life, all_effects, after_input}
 use Rattle.node_turn.specs.Cores.{IsReady, given_for}
 use Rattle.node_turn.specs.Lives.{StaysReady, AskNobody}
 

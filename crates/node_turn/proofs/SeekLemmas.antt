@@ -1,9 +1,9 @@
 -- What the tests of a turn found.
-use Rattle.std.specs.Prelude.{◌≡◌, ◌⊎◌, ℕ, ◌+◌, ◌<◌, ◌≤◌, ◌==◌, ◌||◌, not, Bool, true, false, List, [], ◌∷◌, ◌++◌, length, take, Option, Some, None, Result, Ok, Err, OnOk, IfSome}
+use Rattle.std.specs.Prelude.{◌≡◌, ℕ, ◌+◌, ◌<◌, ◌==◌, ◌||◌, not, Bool, true, false, List, [], ◌∷◌, ◌++◌, length, take, Option, Some, None, Result, Ok, Err, OnOk, IfSome}
 use Rattle.std.specs.List.{filter}
-use Rattle.std.proofs.Common.{refl, ap, sym, ◌∙◌, subst, cond, arith, inl, inr, ⊎_elim, append_assoc, get_or}
+use Rattle.std.proofs.Common.{refl, ap, sym, ◌∙◌, subst, cond, arith, inl, inr, ⊎_elim, get_or}
 use Rattle.std.proofs.lemmas.Bool.{eqb-true}
-use Rattle.std.proofs.lemmas.List.{append-nil, take_more, take-append-le, take_all}
+use Rattle.std.proofs.lemmas.List.{append-nil, take_more, take-append-le}
 use Rattle.pseudo_time.specs.Lists.{Has}
 use Rattle.pseudo_time.proofs.ListLemmas.{has-left, has-right, has-either}
 use Rattle.pseudo_time.specs.StampParts.{StampParts}
@@ -95,9 +95,6 @@ sought-next i outs outs' d asked log log' t u lt at o g before this out s h ask 
 pub sought-none : (log : List Effect) (outs : List Out) → AreSought log (take 0 outs) []
 sought-none log outs out s h ask = elim h [ ]
 
-pub sought-all : (i : ℕ) (log : List Effect) (outs : List Out) (t : List (ℕ × ℕ)) → length outs ≤ i → AreSought log (take i outs) t → AreSought log outs t
-sought-all i log outs t le h = subst (λ l. AreSought log l t) (take_all i outs le) h
-
 -- ---- pieces that seek
 
 module _ (n : NodeId) where
@@ -106,9 +103,6 @@ module _ (n : NodeId) where
 
   pub seeks-weaker : (a b : Sight) (P Q : List (ℕ × ℕ) → Type 0) → Seeks n a b P → ((t : List (ℕ × ℕ)) → P t → Q t) → Seeks n a b Q
   seeks-weaker a b P Q l f = record { learned = l.learned; tested = l.tested; trail = l.trail; found = l.found; says = f l.tested l.says }
-
-  pub seeks-ok : {T E : Type 0} (a b : Sight) (r : Result T E) (v : T) (P : List (ℕ × ℕ) → Type 0) → r ≡ Ok v → Seeks n a b (λ t. OnOk r (P t)) → Seeks n a b P
-  seeks-ok {T} {E} a b r v P e l = subst (λ (x : Result T E). Seeks n a b (λ t. OnOk x (P t))) e l
 
   pub seeks-joins : {a b c : Sight} {P Q R : List (ℕ × ℕ) → Type 0} → Seeks n a b P → Seeks n b c Q → ((t u : List (ℕ × ℕ)) → P t → Q u → R (t ++ u)) → Seeks n a c R
   seeks-joins {a} {b} {c} {P} {Q} {R} p q f = record {

@@ -1,11 +1,10 @@
 -- What visits and tests leave of a trail.
-use Rattle.std.specs.Prelude.{◌≡◌, ℕ, ◌+◌, Bool, true, false, List, [], ◌∷◌, ◌++◌, Option, if◌then◌else◌}
+use Rattle.std.specs.Prelude.{◌≡◌, ℕ, ◌+◌, Bool, false, List, [], ◌∷◌, ◌++◌, Option, if◌then◌else◌}
 use Rattle.std.specs.List.{filter}
-use Rattle.std.proofs.Common.{refl, ap, sym, ◌∙◌, subst, arith, append_assoc}
+use Rattle.std.proofs.Common.{refl, ap, sym, ◌∙◌, arith, append_assoc}
 use Rattle.std.proofs.lemmas.List.{append-nil}
 use Rattle.pseudo_time.specs.StampParts.{StampParts}
 use Rattle.pseudo_time.specs.declared.nodes.NodeId.{NodeId}
-use Rattle.pseudo_time.specs.Nodes.{same_node}
 use Rattle.message_core.proofs.NodeLemmas.{same_node-refl}
 use Rattle.turn_form.specs.declared.turns.Out.{Out}
 use Rattle.seat_lock.specs.Words.{CarriesOn}
@@ -18,7 +17,7 @@ use Rattle.world_core.proofs.Others.{Silent, silent-more}
 use Rattle.wire_core.specs.Boards.{owner_of, place_of}
 use Rattle.wire_core.specs.Changes.{owed}
 use Rattle.wire_lock.specs.Decisions.{Decided}
-use Rattle.wire_lock.specs.Sights.{Sight, origin_in, base_at, world_at, life_at, IsOf, Owns, IsAsBefore, Looked, Added, Visited, Gated, Tested}
+use Rattle.wire_lock.specs.Sights.{Sight, origin_in, base_at, world_at, IsOf, Owns, Looked, Added, Gated, Tested}
 use Rattle.wire_core.specs.Wires.{WireParts, base_from}
 use Rattle.wire_lock.proofs.SightLemmas.{own-same}
 use Rattle.node_turn.specs.Costs.{cost_of, costs}
@@ -188,12 +187,12 @@ pub grew-added : {old new : Sight} {e : Entry} → Added old new e → Grew old.
 grew-added {old} {new} {e} a = (e, [], ap (λ (k : Sight). k.own) a.kept)
 
 -- and then maybe more
-pub grew-more : {a b c : List Entry} → Grew a b → (more : List Entry) × (c ≡ b ++ more) → Grew a c
-grew-more {a} {b} {c} g m = (g.0, g.1 ++ m.0, m.1 ∙ (ap (λ l. l ++ m.0) g.2 ∙ append_assoc a (g.0 ∷ g.1) m.0))
+pub grew-more : (a b c : List Entry) → Grew a b → (more : List Entry) × (c ≡ b ++ more) → Grew a c
+grew-more a b c g m = (g.0, g.1 ++ m.0, m.1 ∙ (ap (λ l. l ++ m.0) g.2 ∙ append_assoc a (g.0 ∷ g.1) m.0))
 
 -- or before
-pub more-grew : {a b c : List Entry} → (more : List Entry) × (b ≡ a ++ more) → Grew b c → Grew a c
-more-grew {a} {b} {c} m g = go m.0 m.1
+pub more-grew : (a b c : List Entry) → (more : List Entry) × (b ≡ a ++ more) → Grew b c → Grew a c
+more-grew a b c m g = go m.0 m.1
   where
     go : (more : List Entry) → b ≡ a ++ more → Grew a c
     go [] e = (g.0, g.1, g.2 ∙ ap (λ l. l ++ g.0 ∷ g.1) (e ∙ append-nil a))

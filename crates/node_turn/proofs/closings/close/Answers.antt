@@ -1,11 +1,10 @@
-use Rattle.std.proofs.Common.{◌≡◌, ◌∙◌, refl, sym, ap, subst, [], ◌++◌, arith, ◌≤◌, List, length}
+use Rattle.std.proofs.Common.{◌∙◌, sym, ap, subst, arith, List, length}
 use Rattle.effect_form.specs.declared.effects.Effect.{Effect}
 use Rattle.node_turn.specs.Lives.{AskNobody}
 use Rattle.seat_lock.specs.Words.{knows}
-use Rattle.world_core.specs.Walks.{Flags}
 use Rattle.wire_lock.specs.Decisions.{decided_by}
 use Rattle.wire_lock.specs.Sights.{base_at, life_at}
-use Rattle.node_turn.proofs.LifeLemmas.{on-ok, on-err, if-ok, up-stored, stored-looked}
+use Rattle.node_turn.proofs.LifeLemmas.{on-ok, on-err, up-stored, stored-looked}
 use Rattle.node_turn.proofs.TrailLemmas.{trail-none, trail-looked, trail-gated}
 use Rattle.node_turn.proofs.AppendLemmas.{appended-at, full-same, cause-append, after-append, stored-appended, up-gated, owed-is}
 use Rattle.node_turn.proofs.closings.close.Goals as goal
@@ -70,7 +69,7 @@ gate-pass-requires-clause-owed g c = λ t.
     let h = c.requires.up.life t in
     let o = c.outs.ensures ∙ h.outs in
     c.as_slice.ensures.value ∙ owed-is k c.args.node c.outs.result.now c.in-Ok.outs.items o
-      (c.in-Ok.ensures.leaving t (base_at k) (life_at k c.args.node) h.core (λ broker. subst AskNobody (sym o) (h.asks broker)))
+    (c.in-Ok.ensures.leaving t (base_at k) (life_at k c.args.node) h.core (λ broker. subst AskNobody (sym o) (h.asks broker)))
 
 pub gate-pass-requires-clause-decides : goal.gate-pass-requires-clause-decides
 gate-pass-requires-clause-decides g c = λ t.

@@ -1,4 +1,4 @@
-use Rattle.std.proofs.Common.{◌≡◌, ◌≤◌, ◌<◌, ◌+◌, ◌∙◌, ℕ, refl, sym, ap, subst, arith, []}
+use Rattle.std.proofs.Common.{◌<◌, ◌+◌, ◌∙◌, ℕ, refl, sym, subst, arith, []}
 use Rattle.seat_lock.specs.Words.{knows}
 use Rattle.wire_lock.specs.Sights.{base_at}
 use Rattle.wire_lock.proofs.SightLemmas.{up-known}

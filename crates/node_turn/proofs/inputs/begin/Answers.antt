@@ -1,4 +1,3 @@
-use Rattle.std.proofs.Common.{◌∙◌}
 use Rattle.node_turn.proofs.TrailLemmas.{trail-joins}
 use Rattle.node_turn.proofs.inputs.begin.Goals as goal
 

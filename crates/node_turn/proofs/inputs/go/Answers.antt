@@ -1,6 +1,5 @@
-use Rattle.std.proofs.Common.{refl, true, false, [], ap}
+use Rattle.std.proofs.Common.{refl, false, []}
 use Rattle.seat_lock.specs.Words.{knows}
-use Rattle.world_core.specs.declared.entries.Entry.TheVariants.{Go}
 use Rattle.wire_lock.specs.Sights.{flags_at}
 use Rattle.node_turn.proofs.LifeLemmas.{on-ok, on-err, went-up, up-added, after-added, cause-added}
 use Rattle.node_turn.proofs.TrailLemmas.{trail-looked, trail-added}

@@ -1,7 +1,6 @@
-use Rattle.std.proofs.Common.{refl, true, false, [], ap}
-use Rattle.seat_lock.specs.Words.{knows}
+use Rattle.std.proofs.Common.{refl, [], ap}
 use Rattle.world_core.specs.Walks.{with_due}
-use Rattle.node_turn.proofs.LifeLemmas.{on-ok, if-ok, if-err, on-err, up-added, after-added, cause-added, taken-at}
+use Rattle.node_turn.proofs.LifeLemmas.{on-ok, if-ok, if-err, on-err, up-added, after-added, taken-at}
 use Rattle.node_turn.proofs.TrailLemmas.{trail-looked, trail-added}
 use Rattle.node_turn.proofs.inputs.take.Goals as goal
 

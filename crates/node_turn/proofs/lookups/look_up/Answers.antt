@@ -1,4 +1,4 @@
-use Rattle.std.proofs.Common.{◌≡◌, ◌∙◌, refl, sym, ap, subst, [], ◌∷◌, ◌++◌, inl, inr, Bool, ℕ, true, false}
+use Rattle.std.proofs.Common.{◌≡◌, ◌∙◌, refl, sym, subst, [], ◌∷◌, inl, inr, true}
 use Rattle.seat_lock.specs.Words.{knows}
 use Rattle.world_core.specs.Walks.{Life, all_effects}
 use Rattle.world_core.specs.Nodes.Input.{Learning}
@@ -7,7 +7,7 @@ use Rattle.wire_lock.specs.Decisions.{Decided}
 use Rattle.wire_lock.specs.Sights.{base_at, life_at, flags_at}
 use Rattle.repository_log.specs.Logs.{knows as is_known}
 use Rattle.node_turn.proofs.LifeLemmas.{on-ok, on-err, learned-up, up-added, after-added, cause-added, up-tested, up-stored, stored-looked, life-tested, life-looked, log-same, log-told, log-joins}
-use Rattle.node_turn.proofs.TrailLemmas.{trail-none, trail-looked, trail-added, trail-tested, trail-joins}
+use Rattle.node_turn.proofs.TrailLemmas.{trail-looked, trail-added, trail-tested, trail-joins}
 use Rattle.node_turn.proofs.SeekLemmas.{sought-learnt, seeks-none, none-found, all-found, missed-one, found-one}
 use Rattle.node_turn.proofs.KnowsLemmas.{told-knows}
 use Rattle.node_turn.proofs.lookups.look_up.Goals as goal

@@ -1,6 +1,4 @@
-use Rattle.std.proofs.Common.{◌≡◌, ◌∙◌, refl, sym, ap, subst, [], arith, true, false, List, length, ◌<◌, get_or}
-use Rattle.std.proofs.lemmas.Bool.Decides.{nat_tests}
-use Rattle.std.specs.Prelude.{IsTrue}
+use Rattle.std.proofs.Common.{◌≡◌, ◌∙◌, refl, sym, ap, subst, true, false, List, length, ◌<◌, get_or}
 use Rattle.seat_lock.specs.Words.{knows}
 use Rattle.world_core.specs.Walks.{all_effects}
 use Rattle.wire_lock.specs.Sights.{life_at}

@@ -1,4 +1,4 @@
-use Rattle.std.proofs.Common.{◌≡◌, ◌-◌, ◌^◌, [], true, take}
+use Rattle.std.proofs.Common.{◌≡◌, ◌-◌, ◌^◌, true, take}
 use Rattle.std.specs.Prelude.{IsTrue}
 use Rattle.seat_lock.specs.Words.{knows}
 use Rattle.world_core.specs.Walks.{all_effects}

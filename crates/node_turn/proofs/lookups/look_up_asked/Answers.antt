@@ -1,4 +1,3 @@
-use Rattle.std.proofs.Common.{[]}
 use Rattle.seat_lock.specs.Words.{knows}
 use Rattle.node_turn.proofs.SeekLemmas.{seeks-none, none-of}
 use Rattle.node_turn.proofs.lookups.look_up_asked.Goals as goal

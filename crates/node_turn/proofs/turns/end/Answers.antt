@@ -1,8 +1,9 @@
-use Rattle.std.proofs.Common.{◌≡◌, ◌≤◌, ◌<◌, ◌+◌, ◌∙◌, ℕ, refl, sym, ap, subst, arith, [], Err}
+use Rattle.std.proofs.Common.{◌+◌, ◌∙◌, refl, sym, ap, subst, arith, [], Err}
 use Rattle.seat_lock.specs.Words.{knows}
 use Rattle.wire_core.specs.Changes.{owed}
 use Rattle.wire_lock.specs.Sights.{world_at}
 use Rattle.version_store.specs.Filling.{KeepsPages, StaysClean}
+use Rattle.node_turn.specs.Lives.{IsStruck}
 use Rattle.node_turn.proofs.CostLemmas.{pays-none, pays-one}
 use Rattle.node_turn.proofs.LifeLemmas.{on-ok, if-ok, on-err, if-err}
 use Rattle.node_turn.proofs.TrailLemmas.{trail-joins, trail-cost}
@@ -38,7 +39,9 @@ pub returns-in-NoMemory-clause-whole : goal.returns-in-NoMemory-clause-whole
 returns-in-NoMemory-clause-whole g c = λ told ne. absurd (ne refl)
 
 pub open_anew-requires-clause-struck : goal.open_anew-requires-clause-struck
-open_anew-requires-clause-struck g c = rw c.in-Medium.is at (if-err _ _ _ c.in-Err.is c.close-pass.ensures.err)
+open_anew-requires-clause-struck g c =
+    subst (IsStruck g.M.Medium.tells g.K.StoredCore.parts g.K.StoredCore.fits g.K.StoredCore.lives g.K.StoredCore.owes g.M.Medium.page_count g.M.Medium.reads g.M.Medium.may_leave c.close-pass.result.1 (knows c.close-pass.result.0) c.args.node) (sym c.durable-durable.ensures)
+    (rw c.in-Medium.is at (if-err _ _ _ c.in-Err.is c.close-pass.ensures.err))
 
 pub returns-in-Medium-clause-sends : goal.returns-in-Medium-clause-sends
 returns-in-Medium-clause-sends g c =
@@ -58,7 +61,9 @@ returns-in-Medium-clause-whole g c = λ told ne same.
     absurd (omega (arith, e, d, same))
 
 pub go_down-pass-requires-clause-struck : goal.go_down-pass-requires-clause-struck
-go_down-pass-requires-clause-struck g c = (rw c.in-Full.is at (if-err _ _ _ c.in-Err.is c.close-pass.ensures.err)).0
+go_down-pass-requires-clause-struck g c =
+    subst (IsStruck g.M.Medium.tells g.K.StoredCore.parts g.K.StoredCore.fits g.K.StoredCore.lives g.K.StoredCore.owes g.M.Medium.page_count g.M.Medium.reads g.M.Medium.may_leave c.close-pass.result.1 (knows c.close-pass.result.0) c.args.node) (sym c.durable-durable.ensures)
+    (rw c.in-Full.is at (if-err _ _ _ c.in-Err.is c.close-pass.ensures.err)).0
 
 pub go_down-pass-requires-clause-cause : goal.go_down-pass-requires-clause-cause
 go_down-pass-requires-clause-cause g c = (rw c.in-Full.is at (if-err _ _ _ c.in-Err.is c.close-pass.ensures.err)).1
@@ -80,4 +85,4 @@ pub returns-in-Full-clause-whole : goal.returns-in-Full-clause-whole
 returns-in-Full-clause-whole g c = λ told ne same.
     let m = if-err _ _ _ c.in-Err.is c.close-pass.ensures.nothing c.in-Full.pages c.in-Full.is in
     subst (λ x. KeepsPages (g.M.Medium.reads (g.K.StoredCore.parts c.args.core).medium) (g.M.Medium.reads x) × StaysClean (g.M.Medium.reads (g.K.StoredCore.parts c.args.core).medium) (g.M.Medium.reads x)) (sym m)
-      (whole-same (g.M.Medium.reads (g.K.StoredCore.parts c.args.core).medium))
+    (whole-same (g.M.Medium.reads (g.K.StoredCore.parts c.args.core).medium))

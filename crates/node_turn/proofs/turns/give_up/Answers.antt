@@ -1,4 +1,4 @@
-use Rattle.std.proofs.Common.{◌≡◌, ◌≤◌, ◌+◌, ◌∙◌, ℕ, refl, sym, ap, subst, arith, []}
+use Rattle.std.proofs.Common.{refl, arith}
 use Rattle.seat_lock.specs.Words.{knows}
 use Rattle.node_turn.proofs.CostLemmas.{pays-none, pays-one}
 use Rattle.node_turn.proofs.TrailLemmas.{trail-none, trail-cost}
