@@ -1,5 +1,5 @@
 //! A broker at work: its core, its log and its pass.
-// #![tactic(auto)]
+#![tactic(auto)]
 
 mod acts;
 mod cores;

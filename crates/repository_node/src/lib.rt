@@ -1,5 +1,5 @@
 //! A repository at work: its core over headers in version storage, and its pass.
-// #![tactic(auto)]
+#![tactic(auto)]
 
 mod books;
 mod cores;

@@ -15,9 +15,10 @@ returns-in-Ok g c =
     (appends-all g.M.Medium.tells g.M.Medium.faults g.M.Medium.page_count g.M.Medium.reads g.M.Medium.may_leave now (medium_of s) (medium_of r) c.args.effects.now s.settled c.in-Ok.ensures.later c.in-Ok.ensures.images tt r.settled c.in-Ok.ensures.added
     (λ t. c.in-Ok.ensures.kept t (g.M.Medium.reads (medium_of r)) (now (medium_of r) t)) c.in-Ok.ensures.clean)
     (refl, tt)
-    (λ t b l h fresh.
-        (gated-broker b (broker c.args.self.number) l c.args.self.broker h.0,
-        c.in-Ok.ensures.added t ∙ ap (λ es. es ++ c.args.effects.now) (subst (λ z. HasEffects g.M.Medium.reads z l.gated) c.in-Open.is h.1) ∙ ap (λ es. l.gated ++ es) (sym fresh)))
+    (λ t b l h fresh. (
+      gated-broker b (broker c.args.self.number) l c.args.self.broker h.0,
+      c.in-Ok.ensures.added t ∙ ap (λ es. es ++ c.args.effects.now) (subst (λ z. HasEffects g.M.Medium.reads z l.gated) c.in-Open.is h.1) ∙ ap (λ es. l.gated ++ es) (sym fresh),
+    ))
 
 pub returns-in-Err : goal.returns-in-Err
 returns-in-Err g c =

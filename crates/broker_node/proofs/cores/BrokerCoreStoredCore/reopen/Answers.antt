@@ -20,6 +20,6 @@ returns-in-Err-open g c =
     (λ t. subst (λ z. NoMore (g.M.Medium.may_leave m) (g.M.Medium.may_leave z)) (sym c.release.ensures) (c.in-Ok.ensures.images t))
     (λ e. absurd (no-medium c.in-Err-open.fault (sym c.damage_of.ensures ∙ e)))
     (λ t b f ready page e.
-        opens-sound b old.number old.run acts log c.in-Err-open.fault page f.0 (c.as_slice.ensures.acts ∙ f.1)
-        (ready-found (g.M.Medium.may_leave m) (broker old.number) b (g.M.Medium.reads (medium_of c.in-Ok.store)) log (c.in-Ok.ensures.was t) (c.in-Ok.ensures.found t ∙ ap (λ (l : List Effect). Ok l) (sym c.as_slice-in-Ok.ensures.value)) ready)
-        (c.in-Err-open.ensures.opens b.script (subst (Scripted b.script) (sym c.as_slice.ensures.acts) f.2)) (sym c.damage_of.ensures ∙ e))
+    opens-sound b old.number old.run acts log c.in-Err-open.fault page f.0 (c.as_slice.ensures.acts ∙ f.1)
+    (ready-found (g.M.Medium.may_leave m) (broker old.number) b (g.M.Medium.reads (medium_of c.in-Ok.store)) log (c.in-Ok.ensures.was t) (c.in-Ok.ensures.found t ∙ ap (λ (l : List Effect). Ok l) (sym c.as_slice-in-Ok.ensures.value)) ready)
+    (c.in-Err-open.ensures.opens b.script (subst (Scripted b.script) (sym c.as_slice.ensures.acts) f.2)) (sym c.damage_of.ensures ∙ e))

@@ -49,8 +49,8 @@ returns-in-Ok g c =
     c.in-Ok.ensures.clean))
     (j.3 ∙ p.3 ∙ able, j.1 ∙ p.1 ∙ owed ∙ sym stored ∙ sym (append-nil (ledger_of c.join.result.histories).log))
     (λ t b l h fresh.
-        let o = subst (λ z. HasLife z name l) c.in-Open.is h in
-        (joined-repository name l core c.join.result (j.0 ∙ p.0) (j.1 ∙ p.1) (j.2 ∙ p.2) o.0, stored ∙ ap (λ es. es ++ effects) o.1 ∙ ap (λ es. l.gated ++ es) (sym fresh)))
+    let o = subst (λ z. HasLife z name l) c.in-Open.is h in
+    (joined-repository name l core c.join.result (j.0 ∙ p.0) (j.1 ∙ p.1) (j.2 ∙ p.2) o.0, stored ∙ ap (λ es. es ++ effects) o.1 ∙ ap (λ es. l.gated ++ es) (sym fresh)))
 
 pub returns-in-Err : goal.returns-in-Err
 returns-in-Err g c =

@@ -21,8 +21,8 @@ new-node-requires g c =
     let name = sym c.repository-name.ensures in
     record {
       up = up-new _ k c.repository-name.result log _ name c.in-Ok.ensures.whole (c.in-Ok.ensures.log ∙ sym c.in-Ok.ensures.stored ∙ sym (append-nil (ledger_of core.histories).log)) c.requires.start.1
-      (subst (λ n. IsOf n k) name c.requires.pass.0) c.requires.pass.1 (subst (λ n. opened_log (origin_at k).opened n ≡ Some log) name c.requires.opened) refl
-      (subst (λ n. IsReady b n log) name (ready-repository b c.args.number log))
-      (λ t. (opened-repository b c.args.number c.args.start log core c.requires.start.1 c.in-Ok.ensures.number c.in-Ok.ensures.log c.in-Ok.ensures.mind, c.in-Ok.ensures.stored))
-      (λ t. subst (λ s. LeavesLog (g.M.Medium.may_leave (medium_of s)) log) (sym c.in-Ok.ensures.store) (leaves-log (g.M.Medium.reads m) (g.M.Medium.may_leave m) (c.args.store.settled t) log (c.requires.log t)));
+          (subst (λ n. IsOf n k) name c.requires.pass.0) c.requires.pass.1 (subst (λ n. opened_log (origin_at k).opened n ≡ Some log) name c.requires.opened) refl
+          (subst (λ n. IsReady b n log) name (ready-repository b c.args.number log))
+          (λ t. (opened-repository b c.args.number c.args.start log core c.requires.start.1 c.in-Ok.ensures.number c.in-Ok.ensures.log c.in-Ok.ensures.mind, c.in-Ok.ensures.stored))
+          (λ t. subst (λ s. LeavesLog (g.M.Medium.may_leave (medium_of s)) log) (sym c.in-Ok.ensures.store) (leaves-log (g.M.Medium.reads m) (g.M.Medium.may_leave m) (c.args.store.settled t) log (c.requires.log t)));
     }
