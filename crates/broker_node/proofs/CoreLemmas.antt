@@ -1,14 +1,12 @@
 -- What a broker's core and the store beside it say of a life.
-use Rattle.std.proofs.Common.{◌≡◌, ℕ, ◌++◌, Bool, true, false, List, [], length, reverse, Option, Some, None, is_none, Result, Ok, Err, IfOk, OnOk, refl, sym, ap, subst, ◌∙◌, append_assoc}
+use Rattle.std.proofs.Common.{◌≡◌, ℕ, true, false, List, reverse, Option, Some, is_none, Err, refl, sym, ap, subst, ◌∙◌, append_assoc}
 use Rattle.std.proofs.lemmas.List.{append-nil}
 use Rattle.pseudo_time.specs.Nodes.{broker}
 use Rattle.pseudo_time.specs.declared.nodes.NodeId.{NodeId}
-use Rattle.pseudo_time.specs.declared.nodes.NodeKind.TheVariants.{Broker}
 use Rattle.value_form.specs.declared.acts.ActSpec.{ActSpec}
 use Rattle.effect_form.specs.declared.effects.Effect.{Effect}
 use Rattle.turn_form.specs.declared.turns.Turn.{Turn}
 use Rattle.serial_model.specs.Questions.{Tree}
-use Rattle.version_store.specs.declared.faults.OpenFault.{OpenFault}
 use Rattle.version_store.specs.declared.faults.OpenFault.TheVariants as opening
 use Rattle.broker_core.specs.declared.resume_faults.ResumeFault.{ResumeFault}
 use Rattle.broker_core.specs.declared.resume_faults.ResumeFault.TheVariants as resuming
@@ -18,7 +16,7 @@ use Rattle.broker_core.specs.Parts.{BrokerParts}
 use Rattle.broker_core.specs.Tasks.{Scripted, tasks}
 use Rattle.broker_core.specs.Turns as desks
 use Rattle.world_core.specs.Cores.{IsBroker, BrokerGave}
-use Rattle.world_core.specs.Nodes.{Input, broker_gives, kind_ready, broker_ready, with_desk, desk_after, acts_of, is_ready, opened_mind}
+use Rattle.world_core.specs.Nodes.{Input, broker_gives, with_desk, desk_after, acts_of, is_ready, opened_mind}
 use Rattle.world_core.specs.Walks.{Base, Life, all_effects, opened_life, gated_life, after_input}
 use Rattle.world_core.proofs.CoreTurns.{gives-broker, broker-gave}
 use Rattle.node_turn.specs.Cores.{HasTurn, IsReady, given_for}

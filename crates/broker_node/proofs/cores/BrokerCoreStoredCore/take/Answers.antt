@@ -1,6 +1,5 @@
-use Rattle.std.proofs.Common.{refl, ap, sym, arith}
+use Rattle.std.proofs.Common.{refl, arith}
 use Rattle.pseudo_time.specs.Nodes.{broker}
-use Rattle.broker_core.specs.Parts.{BrokerParts}
 use Rattle.broker_core.specs.Turns as desks
 use Rattle.world_core.specs.Nodes.Input.{Taking}
 use Rattle.broker_node.proofs.CoreLemmas.{gave-broker}
