@@ -1,6 +1,5 @@
 -- What a repository's core and the store beside it say of a life.
-use Rattle.std.proofs.Common.{◌≡◌, ℕ, ◌≤◌, ◌++◌, Bool, true, false, List, [], length, reverse, Option, Some, None, is_some, Result, Ok, Err, IsTrue, IfOk, IfErr, OnOk, is_ok, refl, sym, ap, subst, ◌∙◌, append_assoc}
-use Rattle.std.specs.declared.alloc.AllocError.{AllocError}
+use Rattle.std.proofs.Common.{◌≡◌, ℕ, ◌++◌, Bool, true, false, List, reverse, Option, Some, is_some, Result, Ok, Err, IfOk, OnOk, is_ok, refl, sym, ap, subst, ◌∙◌, append_assoc}
 use Rattle.std.proofs.lemmas.List.{append-nil}
 use Rattle.pseudo_time.specs.StampParts.{StampParts}
 use Rattle.pseudo_time.specs.Nodes.{repository}
@@ -8,9 +7,8 @@ use Rattle.pseudo_time.specs.declared.nodes.NodeId.{NodeId}
 use Rattle.medium_port.specs.Image.{Image}
 use Rattle.effect_form.specs.declared.effects.Effect.{Effect}
 use Rattle.turn_form.specs.declared.turns.Turn.{Turn}
-use Rattle.object_history.specs.declared.marks.Mark.{Mark}
 use Rattle.object_history.specs.declared.steps.HistoryFault.{HistoryFault}
-use Rattle.repository_log.specs.Logs.{knows, known, HasMarks}
+use Rattle.repository_log.specs.Logs.{knows, known}
 use Rattle.repository_log.proofs.MarkLemmas.{knows-known}
 use Rattle.object_header.specs.Ledgers.{told_image}
 use Rattle.repository_core.specs.Cores.{Core, CoreState, given}

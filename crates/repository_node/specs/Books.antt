@@ -1,15 +1,13 @@
 -- Where a repository's core stands.
 use Rattle.std.specs.Prelude.{◌≡◌, Bool, true, false, List, [], ◌++◌}
 use Rattle.pseudo_time.specs.declared.nodes.NodeId.{NodeId}
-use Rattle.medium_port.specs.Image.{Image}
 use Rattle.effect_form.specs.declared.effects.Effect.{Effect}
 use Rattle.version_store.specs.StoreWords.{medium_of}
 use Rattle.object_history.specs.declared.marks.Mark.{Mark}
 use Rattle.object_header.specs.Ledgers.{content}
 use Rattle.object_header.specs.Tables.{ledger_of, store_of}
-use Rattle.repository_core.specs.Cores.{Core, HasMarks}
+use Rattle.repository_core.specs.Cores.{HasMarks}
 use Rattle.world_core.specs.Cores.{IsRepository}
-use Rattle.world_core.specs.Nodes.{Mind}
 use Rattle.world_core.specs.Walks.{Life, all_effects}
 use Rattle.repository_node.specs.declared.books.Book.{Book}
 use Rattle.repository_node.specs.declared.books.Book.TheVariants.{Open, Shut}
