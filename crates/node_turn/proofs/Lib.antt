@@ -9,3 +9,5 @@ pub mod DueLemmas
 pub mod FallLemmas
 pub mod PageLemmas
 pub mod NodeLemmas
+pub mod NewLemmas
+pub mod MediumLemmas
