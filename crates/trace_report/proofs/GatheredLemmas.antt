@@ -1,5 +1,5 @@
 -- What the code keeps of committed deeds stays what the logs say when one more attempt or put is read.
-use Rattle.std.proofs.Common.{◌≡◌, ℕ, zero, suc, Bool, true, false, List, [], ◌∷◌, ◌++◌, map, take, drop, refl, sym, ◌∙◌, ap, subst, Option, Some, None, if◌then◌else◌, cond}
+use Rattle.std.proofs.Common.{◌≡◌, ℕ, zero, suc, Bool, true, false, List, [], ◌∷◌, ◌++◌, map, take, drop, refl, sym, ◌∙◌, ap, Option, Some, None, if◌then◌else◌, cond}
 use Rattle.std.specs.Option.{is_some, option_copied, option_to_list}
 use Rattle.std.specs.Borrow.{Bor}
 use Rattle.std.specs.Global.{Vec}
@@ -19,8 +19,8 @@ use Rattle.value_form.specs.declared.values.Value.{Value}
 use Rattle.effect_form.specs.declared.effects.Effect.{Effect}
 use Rattle.effect_form.specs.declared.effects.Effect.TheVariants as effect
 use Rattle.object_history.specs.declared.marks.Mark.{Mark}
-use Rattle.object_history.specs.declared.marks.Mark.TheVariants.{Put, Stretch, Settle}
-use Rattle.repository_log.specs.Logs.{mark_of, marks}
+use Rattle.object_history.specs.declared.marks.Mark.TheVariants.{Put}
+use Rattle.repository_log.specs.Logs.{mark_of}
 use Rattle.serial_model.specs.Deeds.{Version, put_in, stamp_if, stamp_in}
 use Rattle.world_core.specs.Deeds.{RunLogs, committed, puts_of, put_stamps}
 use Rattle.trace_report.specs.declared.deeds.Deeds.{Deeds}

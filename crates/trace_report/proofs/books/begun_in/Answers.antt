@@ -1,4 +1,4 @@
-use Rattle.std.proofs.Common.{◌≡◌, ap, ◌∙◌, map, arith}
+use Rattle.std.proofs.Common.{ap, ◌∙◌, map, arith}
 use Rattle.trace_report.specs.Begun.{act_parts}
 use Rattle.trace_report.specs.Reports.{logs_by}
 use Rattle.trace_report.proofs.BookLemmas.{begun-all}

@@ -1,4 +1,4 @@
-use Rattle.trace_report.proofs.DecidedLemmas.{firsts-step, decided-all}
+use Rattle.trace_report.proofs.DecidedLemmas.{firsts-step}
 use Rattle.trace_report.proofs.decided.firsts_of.Goals as goal
 
 pub loop-below-preserved : goal.loop-below-preserved
