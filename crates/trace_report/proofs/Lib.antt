@@ -4,3 +4,6 @@ pub mod WorkedReports
 pub mod TranscriptLemmas
 pub mod BegunLemmas
 pub mod LogLemmas
+pub mod BookLemmas
+pub mod DecidedLemmas
+pub mod GatheredLemmas

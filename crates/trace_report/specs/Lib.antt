@@ -5,3 +5,6 @@ pub mod Reports
 pub mod Downs
 pub mod Begun
 pub mod Transcripts
+pub mod Books
+pub mod Decided
+pub mod Gathered

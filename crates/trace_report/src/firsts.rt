@@ -1,7 +1,6 @@
 ghost use Rattle.std.specs.Prelude.{◌≡◌, ◌∷◌, List, Some, reverse, IfOk, OnOk};
 ghost use Rattle.effect_form.specs.declared.effects.Effect.{Effect};
 ghost use Rattle.std.specs.FinMap as finite;
-ghost use Rattle.world_core.specs.Deeds.{has_commit, has_learned};
 ghost use Rattle.trace_report.specs.Firsts as spec;
 ghost use Rattle.trace_report.specs.Firsts.{AreFirsts};
 
@@ -122,14 +121,14 @@ impl Firsts {
 
     /// Whether the first that the log says of the attempt is its Decide Committed.
     pub fn has_commit(&self, stamp: Stamp) -> bool
-        ensures { (log : List Effect) → AreFirsts log self.now → result ≡ has_commit stamp log }
+        ensures { result ≡ spec.is_decided (finite.get self.now stamp) }
     {
         is_decided(self.get(stamp))
     }
 
     /// And that it was learned as committed.
     pub fn has_learned(&self, stamp: Stamp) -> bool
-        ensures { (log : List Effect) → AreFirsts log self.now → result ≡ has_learned stamp log }
+        ensures { result ≡ spec.is_learned (finite.get self.now stamp) }
     {
         is_learned(self.get(stamp))
     }

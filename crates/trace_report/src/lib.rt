@@ -1,17 +1,22 @@
-//! What a run did, told from its trace: what its acts came to, what its objects hold in the end, which
-//! nodes are down, and what the wire carried.
+//! What the logs and the trace of a run say: which acts its brokers have begun, which deeds are
+//! committed, which nodes are down, and what the wire carried.
 #![tactic(auto)]
 
 mod answers;
 mod begun;
+mod books;
 mod counts;
+mod decided;
+mod deeds;
 mod downs;
 mod firsts;
+mod node_logs;
 mod transcripts;
 
 pub use answers::Answered;
-pub use begun::{BegunAct, BegunTry, enter};
+pub use begun::{BegunAct, BegunTry};
+pub use books::begun_in;
 pub use counts::wire_of;
+pub use deeds::{Deeds, Write, deeds_of};
 pub use downs::downs_of;
-pub use firsts::Firsts;
 pub use transcripts::transcript;

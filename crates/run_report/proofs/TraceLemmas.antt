@@ -1,0 +1,29 @@
+-- The logs that are read off a trace are the durable logs at its end.
+use Rattle.std.proofs.Common.{◌≡◌, List, ℕ, sym, ◌∙◌, ap, subst}
+use Rattle.pseudo_time.specs.declared.nodes.NodeId.{NodeId}
+use Rattle.effect_form.specs.declared.effects.Effect.{Effect}
+use Rattle.value_form.specs.declared.acts.ActSpec.{ActSpec}
+use Rattle.serial_model.specs.Questions.{Tree}
+use Rattle.plan_form.specs.declared.plans.Plan.{Plan}
+use Rattle.plan_form.specs.PlanTexts.{IsOfLanguage}
+use Rattle.broker_core.specs.Ledgers.{AreActs}
+use Rattle.broker_core.specs.Readings.{reading}
+use Rattle.broker_core.specs.Tasks.{Scripted}
+use Rattle.world_core.specs.declared.traces.Opened.{Opened}
+use Rattle.world_core.specs.declared.traces.Trace.{Trace}
+use Rattle.world_core.specs.Readings.{gated_log}
+use Rattle.world_core.specs.Walks.{walk}
+use Rattle.world_core.proofs.OneReading.{own-reading}
+use Rattle.world_core.proofs.PlanRangeLemmas.{plan-AreActs}
+use Rattle.trace_logs.specs.Replays.{base_for, logs_in}
+use Rattle.trace_report.specs.Reports.{logs_by}
+use Rattle.trace_report.proofs.LogLemmas.{logs-are}
+
+pub plan-acts : (plan : Plan) (acts : List ActSpec) → IsOfLanguage plan → acts ≡ plan.acts → AreActs acts
+plan-acts plan acts w is = subst AreActs (sym is) (plan-AreActs plan w)
+
+pub logs-found : (plan : Plan) (t : Trace) (acts : List ActSpec) → IsOfLanguage plan → acts ≡ plan.acts → (logs : List Opened) →
+    ((script : List ℕ → Tree) → Scripted script acts → logs ≡ logs_in (walk (base_for script plan.run acts t) t.entries) t.opened) → ◌≡◌ {A = NodeId → List Effect} (logs_by logs) (gated_log plan t)
+logs-found plan t acts w is logs h =
+    ap logs_by (h (reading plan.acts) (subst (Scripted (reading plan.acts)) (sym is) (own-reading plan w)) ∙ ap (λ (as' : List ActSpec). logs_in (walk (base_for (reading plan.acts) plan.run as' t) t.entries) t.opened) is)
+    ∙ (λ i n. logs-are plan t n i)

@@ -1,0 +1,6 @@
+use Rattle.std.proofs.Common.{◌≡◌, take}
+use Rattle.world_core.specs.Nodes.{acts_of}
+use Rattle.trace_report.proofs.books.acts_of.Given as goal
+
+abbrev pub invariant-loop-act : goal.invariant-loop-act
+invariant-loop-act l = l.own.items ≡ acts_of l.number (take l.act-index l.acts)

@@ -1,0 +1,9 @@
+use Rattle.std.proofs.Common.{◌≡◌, map}
+use Rattle.trace_report.specs.Begun.{kept, act_parts}
+use Rattle.trace_report.specs.Books.{begun_last}
+use Rattle.trace_report.specs.Reports.{logs_by}
+use Rattle.trace_report.proofs.books.begun_in.Given as goal
+
+-- those of the last brokers, so many of them
+abbrev pub invariant-loop-count : goal.invariant-loop-count
+invariant-loop-count l = kept l.all.items ≡ map act_parts (begun_last l.plan (logs_by l.logs) l.plan.brokers l.count)

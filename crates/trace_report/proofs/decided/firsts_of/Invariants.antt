@@ -1,0 +1,9 @@
+use Rattle.std.proofs.Common.{◌≡◌, length, reverse}
+use Rattle.pseudo_time.specs.Nodes.{repository}
+use Rattle.trace_report.specs.Decided.{AreEach}
+use Rattle.trace_report.specs.Reports.{logs_by}
+use Rattle.trace_report.proofs.decided.firsts_of.Given as goal
+
+-- of the repositories so far
+abbrev pub invariant-loop-below : goal.invariant-loop-below
+invariant-loop-below l = (length l.firsts.items ≡ l.below) × AreEach (λ r. reverse (logs_by l.logs (repository r))) l.firsts.items

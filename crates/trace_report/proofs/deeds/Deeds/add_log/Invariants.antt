@@ -1,0 +1,11 @@
+use Rattle.std.proofs.Common.{List, ◌++◌, reverse, take}
+use Rattle.object_history.specs.declared.marks.Mark.{Mark}
+use Rattle.repository_log.specs.Logs.{marks}
+use Rattle.world_core.specs.Deeds.{RunLogs}
+use Rattle.trace_report.specs.Decided.{AreDecided}
+use Rattle.trace_report.specs.Gathered.{AreDeeds, Made}
+use Rattle.trace_report.proofs.deeds.Deeds.add_log.Given as goal
+
+abbrev pub invariant-loop-effect : goal.invariant-loop-effect
+invariant-loop-effect l =
+    (k : RunLogs) (made : Made) (m : List Mark) → AreDecided k l.firsts → AreDeeds k made m l.initial.self → AreDeeds k made (marks (reverse (take l.effect-index l.effects)) ++ m) l.self
