@@ -1,0 +1,194 @@
+-- A request that stands and is taken by its repository is answered, and heeded, or held.
+use Rattle.std.proofs.Common.{◌≡◌, ℕ, ◌==◌, Bool, true, false, [], ◌∷◌, ◌++◌, reverse, refl, sym, ◌∙◌, ap, subst, Some, None, if◌then◌else◌, inl, inr}
+use Rattle.std.proofs.lemmas.List.{reverse-append}
+use Rattle.pseudo_time.specs.Lists.{Has}
+use Rattle.pseudo_time.proofs.ListLemmas.{has-right}
+use Rattle.pseudo_time.specs.StampParts.{StampParts}
+use Rattle.pseudo_time.specs.TimeParts.{TimeParts}
+use Rattle.pseudo_time.proofs.OrderLemmas.{same_stamp-self}
+use Rattle.pseudo_time.specs.declared.decisions.Decision.{Decision}
+use Rattle.pseudo_time.specs.declared.nodes.NodeId.{NodeId}
+use Rattle.commit_record.specs.declared.states.RecordState.TheVariants as records
+use Rattle.value_form.specs.declared.objects.ObjectId.{ObjectId}
+use Rattle.effect_form.specs.declared.effects.Effect.TheVariants as effect
+use Rattle.message_form.specs.declared.messages.Message.{Message}
+use Rattle.message_form.specs.declared.messages.Message.TheVariants as message
+use Rattle.turn_form.specs.declared.turns.Out.{Out}
+use Rattle.turn_form.specs.Growth.{Grew}
+use Rattle.script_meaning.specs.Meaning.{ToRead, ToWrite}
+use Rattle.repository_core.specs.declared.waits.HeldRead.{HeldRead}
+use Rattle.repository_core.specs.Hands.{Hand}
+use Rattle.repository_log.specs.Logs.{record_of}
+use Rattle.repository_core.specs.Rows.{accepts, on_message}
+use Rattle.repository_core.specs.Turns.{hand_at}
+use Rattle.repository_laws.specs.Facts as repositories
+use Rattle.repository_laws.proofs.Logs.{decided-stands, tidy-through}
+use Rattle.broker_core.specs.declared.heards.Heard.{Heard}
+use Rattle.broker_core.specs.declared.replies.Reply.TheVariants.{Ignored}
+use Rattle.broker_core.specs.Book.{Book, Try, book, find, open_try, time_of, tries}
+use Rattle.broker_core.specs.Fits.{keep}
+use Rattle.broker_core.specs.Rows.{news, row}
+use Rattle.broker_core.specs.Stages.{Stage, Idle, Refused, Opening, Asking, Finishing, Stopping, Closing, is_finished, nothing_heard, stage, standing}
+use Rattle.pseudo_time.specs.Nodes.{repository, broker}
+use Rattle.broker_core.specs.Turns.{state}
+use Rattle.broker_laws.specs.Fits.{FitsLog, IsTidy}
+use Rattle.broker_laws.specs.Posts.{Clocks, IsBelow, PostHolds}
+use Rattle.broker_laws.specs.Works.{TurnHolds}
+use Rattle.broker_laws.proofs.Desks.{PostOk, StageOk, open-first, stage-ok, standing-ok}
+use Rattle.broker_laws.proofs.Found.{each-found}
+use Rattle.broker_laws.proofs.Kept.{kept}
+use Rattle.broker_laws.proofs.Moves.{clocks}
+use Rattle.world_core.specs.Walks.{Base, Life, World, sent_by, all_effects}
+use Rattle.world_facts.specs.Refines.{Refines, logs_at, seat_of}
+use Rattle.world_facts.specs.NodeRules.{node_turns, node_facts}
+use Rattle.world_facts.specs.Soft.{NodeOk, around, happened}
+use Rattle.world_facts.proofs.NodeLaws.{node-laws}
+use Rattle.world_facts.proofs.Openings.{facts-of}
+use Rattle.complete_law.specs.AtRest.{read_to, standing_at}
+use Rattle.repository_waits.proofs.AskServices.{has-record}
+use Rattle.complete_law.proofs.BrokerMoves.{node-there, turn-there}
+use Rattle.complete_law.proofs.BrokerSteps.{StageSound, stage-sound}
+use Rattle.repository_waits.proofs.ReadSteps.{Keeps, Serves, on-message-serves}
+use Rattle.complete_law.proofs.Answering.{heeds-read}
+use Rattle.complete_law.proofs.Hearings.{each-in, open-closed}
+use Rattle.complete_law.proofs.Places.{log_of, gated_of, Heeds, IsBegun, IsDecided, desk_of, standing_in, tasks_of, CalmWorld}
+use Rattle.complete_law.proofs.RequestServices.{AnsweredBy, OpenDecided, accepted, begin-served, commit-served, withdraw-served, write-served}
+
+some-same : {A : Type 0} (x y : A) → Some x ≡ Some y → x ≡ y
+some-same x y e = cc e
+
+module _ (b : Base) (w : World) (calm : CalmWorld b w) (f : Refines (node_turns b.script) (node_facts b.script) b (λ n. []) [] (λ t. ⊥) w) (n : ℕ) (known-n : (w.flags (repository n)).known ≡ true) (i : ℕ) (o : Out) (stands : standing_in b w i ≡ Some o) (at-n : o.to ≡ repository n)
+    (R : TimeParts → ObjectId → NodeId → Type 0) (agree : (t : TimeParts) (o p : ObjectId) (f g : NodeId) → R t o f → R t p g → (o ≡ p) × (f ≡ g)) where
+  abbrev old : Hand
+  old = hand_at n (log_of w (repository n)) (w.life (repository n)).mind.hands
+
+  abbrev heard : Heard
+  heard = (w.life (broker i)).mind.heard
+
+  abbrev the-book : Book
+  the-book = state b.script i b.run (tasks_of b i) (desk_of b w i)
+
+  abbrev st : Stage
+  st = stage b.script b.run the-book heard
+
+  blank-stands : standing_at b.script i b.run (tasks_of b i) [] nothing_heard ≡ None
+  unfolding keep book
+  blank-stands = go (0 == b.run)
+    where
+      go : (c : Bool) → standing (if c then Idle else Idle) ≡ None
+      go true = refl
+      go false = refl
+
+  known-i : (w.flags (broker i)).known ≡ true
+  known-i = go (w.flags (broker i)).known refl
+    where
+      go : (c : Bool) → (w.flags (broker i)).known ≡ c → c ≡ true
+      go true e = refl
+      go false e =
+          let s : standing_at b.script i b.run (tasks_of b i) [] nothing_heard ≡ Some o = subst (λ (l : Life). standing_at b.script i b.run (tasks_of b i) (reverse (all_effects l)) l.mind.heard ≡ Some o) (calm.outside (broker i) e) stands in
+          let z : None ≡ Some o = sym blank-stands ∙ s in absurd (cc z)
+
+  turn0 : TurnHolds b.script i b.run (tasks_of b i) (sent_by w) (desk_of b w i)
+  turn0 = turn-there b w calm f i known-i
+
+  counts : the-book ≡ book (log_of w (broker i))
+  counts = ap book (kept b.script i b.run (tasks_of b i) (log_of w (broker i)) turn0.desk.tidy turn0.ready.same_plan)
+
+  clock : Clocks i (book (log_of w (broker i)))
+  clock = clocks b.script i (log_of w (broker i)) turn0.desk.tidy
+
+  ok : StageOk b.script i b.run (tasks_of b i) the-book st
+  ok = stage-ok b.script i b.run (tasks_of b i) the-book heard
+
+  of : StageSound b.script i b.run (tasks_of b i) (IsBegun w) (IsDecided w) st
+  of = stage-sound b.script i b.run (tasks_of b i) (IsBegun w) (IsDecided w) heard the-book (calm.sound i)
+
+  holds : PostHolds b.script i (tries the-book) (repository n) o.message
+  holds = subst (λ z. PostHolds b.script i (tries the-book) z o.message) at-n
+      (subst (PostOk b.script i b.run (tasks_of b i) (tries the-book)) stands (standing-ok b.script i b.run (tasks_of b i) the-book (subst (Clocks i) (sym counts) clock) st ok))
+
+  accept : accepts n (broker i) o.message ≡ true
+  accept = accepted b.script i n (tries the-book) o.message holds
+
+  node-n : NodeOk (node_facts b.script) (around (happened (node_turns b.script) f.events)) (repository n) (seat_of (w.life (repository n)))
+  node-n = node-there b w calm f (repository n) known-n
+
+  abbrev ln : Life
+  ln = w.life (repository n)
+
+  split-n : log_of w (repository n) ≡ reverse ln.fresh ++ reverse ln.gated
+  split-n = reverse-append ln.gated ln.fresh
+
+  tidy-n : repositories.IsTidy n (log_of w (repository n))
+  tidy-n = subst (repositories.IsTidy n) (sym split-n) (tidy-through n (reverse ln.gated) (reverse ln.fresh) node-n.grew node-n.tidy)
+
+  recorded : (s : StampParts) → IsBegun w s → s.home ≡ n → record_of (log_of w (repository n)) s ≡ None → ⊥
+  recorded s h home = has-record (log_of w (repository n)) s h.0 (subst (Has (effect.Begin s h.0)) (sym split-n) (has-right (reverse ln.fresh) (reverse ln.gated) (effect.Begin s h.0) (subst (λ z. Has (effect.Begin s h.0) (gated_of w (repository z))) home h.1)))
+
+  decided-so : (t : Try) → open_try the-book ≡ Some t → t.stamp.home ≡ n → (d : Decision) → record_of (log_of w (repository n)) t.stamp ≡ Some (records.Decided d) → OpenDecided b.script t d
+  decided-so t open' home d e =
+      let first = open-first b.script i b.run (tasks_of b i) the-book t open' in
+      let all : tries (book (log_of w (broker i))) ≡ t ∷ first.0 = ap tries (sym counts) ∙ first.1 in
+      let found : find t.stamp (tries (book (log_of w (broker i)))) ≡ Some t = subst (λ ts. find t.stamp ts ≡ Some t) (sym all) (rw (same_stamp-self t.stamp) refl) in
+      let own : t.stamp.broker ≡ i = (each-found (IsBelow i (book (log_of w (broker i))).clock) t.stamp (tries (book (log_of w (broker i)))) t found clock).0.1 in
+      let here : Has (effect.Decide t.stamp d) (log_of w (repository n)) = decided-stands n (log_of w (repository n)) t.stamp d tidy-n home e in
+      let cause = (each-in _ (reverse ln.fresh ++ reverse ln.gated) (effect.Decide t.stamp d) node-n.proofs (subst (Has (effect.Decide t.stamp d)) split-n here)).1 in
+      let closed : repositories.WasClosed (sent_by w) (happened (node_turns b.script) f.events).ticks n t.stamp d = subst (λ ever. repositories.WasClosed ever (happened (node_turns b.script) f.events).ticks n t.stamp d) f.models.ever cause in
+      let l : Life = w.life (broker i) in
+      let node-i : NodeOk (node_facts b.script) (around (happened (node_turns b.script) f.events)) (broker i) (seat_of (w.life (broker i))) = node-there b w calm f (broker i) known-i in
+      let gated-known : reverse (logs_at (λ n. []) w (broker i)) ≡ reverse l.gated = ap (λ c. reverse (if c then (w.life (broker i)).gated else [])) known-i in
+      let r = open-closed b w calm (facts-of b.script (node_turns b.script) (node_facts b.script) (node-laws b.script) b (λ n. []) [] (λ t. ⊥) w f) i
+      (subst (IsTidy b.script i) (sym gated-known) node-i.tidy) (reverse l.fresh) (reverse-append l.gated l.fresh ∙ ap (λ z. reverse l.fresh ++ z) (sym gated-known))
+      (subst (λ z. Grew (FitsLog b.script i) z (reverse l.fresh)) (sym gated-known) node-i.grew) t found first.2 own (happened (node_turns b.script) f.events).ticks (λ m h. f.models.ticked m h) d n closed in
+      (r.0, ap is_finished r.1)
+
+  -- the request is served
+  module _ {P : Type 0} (answered : (m : Message) → Has (record { to = broker i; message = m }) (on_message old (broker i) o.message).outs → Heeds b w i m → P)
+      (held : (x : TimeParts) (y : HeldRead) → o ≡ read_to x y.object → y.from ≡ broker i → Has (x, y) (on_message old (broker i) o.message).held → P)
+      (begun : Keeps R agree old (λ e. ⊥) (λ s. ⊥) old) (mine : (x : TimeParts) (a : ObjectId) → o ≡ read_to x a → R x a (broker i)) where
+    by-answer : (s : Stage) (z : Out) → st ≡ s → z ≡ o → AnsweredBy b.script s heard i (on_message old (broker i) z.message) → P
+    by-answer s z q is r =
+        answered r.0 (subst (λ (x : Out). Has (record { to = broker i; message = r.0 }) (on_message old (broker i) x.message).outs) is r.1) (subst (λ x. row b.script x heard (news r.0) ≡ Ignored → ⊥) (sym q) r.2)
+
+    accept-of : (z : Out) → z ≡ o → accepts n (broker i) z.message ≡ true
+    accept-of z is = subst (λ (x : Out). accepts n (broker i) x.message ≡ true) (sym is) accept
+
+    home-of : (z : Out) → z ≡ o → z.to ≡ repository n
+    home-of z is = ap (λ (x : Out). x.to) is ∙ at-n
+
+    number-of : (r : ℕ) → repository r ≡ repository n → r ≡ n
+    number-of r e = ap (λ (x : NodeId). x.number) e
+
+    serve : (s : Stage) → st ≡ s → StageOk b.script i b.run (tasks_of b i) the-book s → StageSound b.script i b.run (tasks_of b i) (IsBegun w) (IsDecided w) s → standing s ≡ Some o → P
+    serve Idle q k g e = absurd (cc e)
+    serve (Refused t) q k g e = absurd g
+    serve (Opening t) q k g e =
+        let z : Out = record { to = repository t.stamp.home; message = message.Begin t.stamp t.task.timeout } in
+        let is : z ≡ o = some-same z o e in
+        by-answer (Opening t) z q is (begin-served b.script heard old i t t.task.timeout (accept-of z is) (decided-so t k (number-of t.stamp.home (home-of z is))))
+    serve (Asking t (ToRead a)) q k g e =
+        let z : Out = record { to = repository a.repository; message = message.Read (time_of t) a } in
+        let is : z ≡ o = some-same z o e in
+        read-served t a q is (on-message-serves R agree old old (broker i) (time_of t) a (accept-of z is) (mine (time_of t) a (sym is)) begun)
+      where
+        read-served : (t : Try) (a : ObjectId) → st ≡ Asking t (ToRead a) → (let z : Out = record { to = repository a.repository; message = message.Read (time_of t) a } in z ≡ o) → Serves (on_message old (broker i) (message.Read (time_of t) a)) (time_of t) a (broker i) → P
+        read-served t a q is (inl h) = held (time_of t) (record { from = broker i; object = a; waits = h.0 }) (sym is) refl (subst (λ (x : Out). Has (time_of t, record { from = broker i; object = a; waits = h.0 }) (on_message old (broker i) x.message).held) is h.1)
+        read-served t a q is (inr h) =
+            answered h.0 (subst (λ (x : Out). Has (record { to = broker i; message = h.0 }) (on_message old (broker i) x.message).outs) is h.2) (subst (λ x. row b.script x heard (news h.0) ≡ Ignored → ⊥) (sym q) (heeds-read b.script t a heard h.0 h.1))
+    serve (Asking t (ToWrite a v)) q k g e =
+        let z : Out = record { to = repository a.repository; message = message.Write (time_of t) a v } in
+        let is : z ≡ o = some-same z o e in
+        by-answer (Asking t (ToWrite a v)) z q is (write-served b.script heard old i t a v (accept-of z is))
+    serve (Finishing t) q k g e =
+        let z : Out = record { to = repository t.stamp.home; message = message.Commit t.stamp } in
+        let is : z ≡ o = some-same z o e in
+        let home : t.stamp.home ≡ n = number-of t.stamp.home (home-of z is) in
+        by-answer (Finishing t) z q is (commit-served b.script heard old i t (accept-of z is) (recorded t.stamp g home) (decided-so t k.0 home))
+    serve (Stopping t p) q k g e = absurd (cc e)
+    serve (Closing t) q k g e =
+        let z : Out = record { to = repository t.stamp.home; message = message.Withdraw t.stamp } in
+        let is : z ≡ o = some-same z o e in
+        by-answer (Closing t) z q is (withdraw-served b.script heard old i t (accept-of z is) (recorded t.stamp g.0 (number-of t.stamp.home (home-of z is))))
+
+    pub serves-broker : P
+    serves-broker = serve st refl ok of stands

@@ -1,0 +1,308 @@
+-- What each step of a broker's turn keeps, where no Ended comes: an attempt has an answer or an End only after its Begin stands at its home, and all attempts but the last are decided there.
+use Rattle.std.proofs.Common.{◌≡◌, ℕ, ◌+◌, ◌==◌, max, nat_lt, Bool, true, false, ◌&&◌, ◌||◌, length, List, [], ◌∷◌, ◌++◌, refl, sym, ◌∙◌, ap, subst, Option, Some, None, if◌then◌else◌, inl, arith}
+use Rattle.std.proofs.lemmas.Grind.{common_steps}
+use Rattle.std.proofs.lemmas.Bool.{false≢true, true≢false}
+use Rattle.pseudo_time.specs.Lists.{Every, Has}
+use Rattle.pseudo_time.proofs.ListLemmas.{every-has}
+use Rattle.pseudo_time.specs.StampParts.{StampParts}
+use Rattle.pseudo_time.specs.TimeParts.{TimeParts}
+use Rattle.pseudo_time.proofs.OrderLemmas.{same_stamp-is}
+use Rattle.value_form.specs.declared.endings.Ending.TheVariants as ending
+use Rattle.effect_form.specs.declared.effects.Effect.{Effect}
+use Rattle.effect_form.specs.declared.effects.Effect.TheVariants as effect
+use Rattle.effect_form.specs.declared.outcomes.Outcome.{Outcome}
+use Rattle.effect_form.specs.declared.outcomes.Outcome.TheVariants as outcome
+use Rattle.script_meaning.specs.Meaning.{Answer, Got, Stored, Stop, Asks, Over}
+use Rattle.serial_model.specs.Questions.{Tree}
+use Rattle.broker_core.specs.declared.heards.Heard.{Heard}
+use Rattle.broker_core.specs.Tasks.{Task, task_with}
+use Rattle.broker_core.specs.Book.{Act, Book, Try, close, enter, finish, front, gain, last_try, new_try, on_act, on_front, on_try, open_of, open_front, open_try, if_open, tries_of}
+use Rattle.broker_core.specs.Fits.{is_none, stop_of}
+use Rattle.broker_core.specs.Stages.{Stage, Idle, Refused, Opening, Asking, Finishing, Stopping, Closing, by_stop, is_asking, is_closed, is_settled, no_answer, of_open, stage, stage_of}
+use Rattle.broker_core.specs.Tests.{is_stamp, is_time}
+
+not-below : (n : ℕ) → nat_lt n n ≡ false
+not-below n = grind (arith, common_steps)
+
+-- all but the newest
+abbrev pub older : List Try → List Try
+older [] = []
+older (t ∷ ts) = ts
+
+-- the newest try of the newest act
+abbrev pub newest : List Act → Option Try
+newest [] = None
+newest (a ∷ done) = front a.tries
+
+module _ (script : List ℕ → Tree) (me run : ℕ) (acts : List Task) (Begun Decided : StampParts → Type 0) where
+  abbrev pub AllDecided : List Try → Type 0
+  AllDecided ts = Every (λ (t : Try). Decided t.stamp) ts
+
+  abbrev pub Trail : List Act → Type 0
+  Trail [] = Unit {0}
+  Trail (a ∷ done) = AllDecided (tries_of done) × AllDecided (older a.tries) × ((c : ℕ) → a.spent ≡ Some c → AllDecided a.tries)
+
+  abbrev pub HasSettled : Try → Type 0
+  HasSettled t = is_settled t.end ≡ true → Decided t.stamp
+
+  abbrev pub HasStarted : Try → Type 0
+  HasStarted t = (no_answer t && is_none t.end) ≡ false → Begun t.stamp
+
+  pub record BookSound (h : Heard) (b : Book) : Type 0 where
+    pub past : b.past ≡ []
+    pub early : nat_lt b.run run ≡ true → b.acts ≡ []
+    pub trail : Trail b.acts
+    pub settled : Every HasSettled (tries_of b.acts)
+    pub started : Every HasStarted (tries_of b.acts)
+    pub ended : h.ended ≡ None
+    pub begun : (s : StampParts) → h.begun ≡ Some s → Begun s
+    pub closed : (s : StampParts) → h.closed ≡ Some s → Decided s
+
+  -- ---- changes of the newest try
+
+  on-try-trail : (g : Try → Try) → ((t : Try) → (g t).stamp ≡ t.stamp) → (as' : List Act) → Trail as' → Trail (on_try g as')
+  on-try-trail g same [] k = tt
+  on-try-trail g same (a ∷ done) k = (k.0, behind a.tries k.1, λ c e. all a.tries (k.2 c e))
+    where
+      behind : (ts : List Try) → AllDecided (older ts) → AllDecided (older (on_front g ts))
+      behind [] k = k
+      behind (t ∷ ts) k = k
+
+      all : (ts : List Try) → AllDecided ts → AllDecided (on_front g ts)
+      all [] k = k
+      all (t ∷ ts) k = (subst Decided (sym (same t)) k.0, k.1)
+
+  on-try-every : (P : Try → Type 0) (g : Try → Try) (as' : List Act) → ((t : Try) → newest as' ≡ Some t → P t → P (g t)) → Every P (tries_of as') → Every P (tries_of (on_try g as'))
+  on-try-every P g [] one k = k
+  on-try-every P g (a ∷ done) one k = go a.tries one k
+    where
+      go : (ts : List Try) → ((t : Try) → front ts ≡ Some t → P t → P (g t)) → Every P (ts ++ tries_of done) → Every P (on_front g ts ++ tries_of done)
+      go [] one k = k
+      go (t ∷ ts) one k = (one t refl k.0, k.1)
+
+  -- what an effect asks for
+  abbrev pub EndAllowed : Outcome → Book → Type 0
+  EndAllowed o b = (t : Try) → newest b.acts ≡ Some t → Begun t.stamp × (is_settled (Some o) ≡ true → Decided t.stamp)
+
+  abbrev pub OfNewest : List Act → (Act → Type 0) → Type 0
+  OfNewest [] P = Unit {0}
+  OfNewest (a ∷ done) P = P a
+
+  abbrev pub OutcomeAllowed : Outcome → Book → Type 0
+  OutcomeAllowed outcome.Committed b = EndAllowed outcome.Committed b
+  OutcomeAllowed (outcome.Withdrawn l) b = EndAllowed (outcome.Withdrawn l) b
+  OutcomeAllowed (outcome.Failed l k) b = EndAllowed (outcome.Failed l k) b
+  OutcomeAllowed (outcome.LaterRead o e) b = EndAllowed (outcome.LaterRead o e) b
+  OutcomeAllowed (outcome.LaterVersion o x) b = EndAllowed (outcome.LaterVersion o x) b
+  OutcomeAllowed (outcome.Expired d m) b = EndAllowed (outcome.Expired d m) b
+  OutcomeAllowed (outcome.Spent c) b = OfNewest b.acts (λ a. AllDecided a.tries)
+
+  abbrev pub Allowed : Book → Effect → Type 0
+  Allowed b (effect.Run n) = (n ≡ run) × (b.acts ≡ [])
+  Allowed b (effect.Act i h t k c x) = (nat_lt b.run run ≡ false) × AllDecided (tries_of b.acts)
+  Allowed b (effect.Try i s) = (nat_lt b.run run ≡ false) × OfNewest b.acts (λ a. AllDecided a.tries × (a.spent ≡ None))
+  Allowed b (effect.Got k v) = (nat_lt b.run run ≡ false) × ((t : Try) → newest b.acts ≡ Some t → Begun t.stamp)
+  Allowed b (effect.Acked k) = (nat_lt b.run run ≡ false) × ((t : Try) → newest b.acts ≡ Some t → Begun t.stamp)
+  Allowed b (effect.End i o) = (nat_lt b.run run ≡ false) × OutcomeAllowed o b
+  Allowed b f = Unit {0}
+
+  in-run : (b : Book) (as' : List Act) → nat_lt b.run run ≡ false → nat_lt b.run run ≡ true → as' ≡ []
+  in-run b as' n e = absurd (true≢false (sym e ∙ n))
+
+  -- an attempt gets an answer
+  gain-sound : (h : Heard) (b : Book) (x : Answer) → nat_lt b.run run ≡ false → ((t : Try) → newest b.acts ≡ Some t → Begun t.stamp) → BookSound h b → BookSound h (record b { acts = on_try (gain x) b.acts })
+  gain-sound h b x n begun k = record {
+    past = k.past;
+    early = in-run b (on_try (gain x) b.acts) n;
+    trail = on-try-trail (gain x) (λ t. refl) b.acts k.trail;
+    settled = on-try-every HasSettled (gain x) b.acts (λ t e s. s) k.settled;
+    started = on-try-every HasStarted (gain x) b.acts (λ t e s u. begun t e) k.started;
+    ended = k.ended;
+    begun = k.begun;
+    closed = k.closed;
+  }
+
+  -- an attempt ends
+  end-sound : (h : Heard) (b : Book) (o : Outcome) (shown : ℕ) → nat_lt b.run run ≡ false → EndAllowed o b → BookSound h b → BookSound h (record b { shown = shown; acts = on_try (finish o) b.acts })
+  end-sound h b o shown n allowed k = record {
+    past = k.past;
+    early = in-run b (on_try (finish o) b.acts) n;
+    trail = on-try-trail (finish o) (λ t. refl) b.acts k.trail;
+    settled = on-try-every HasSettled (finish o) b.acts (λ t e s u. (allowed t e).1 u) k.settled;
+    started = on-try-every HasStarted (finish o) b.acts (λ t e s u. (allowed t e).0) k.started;
+    ended = k.ended;
+    begun = k.begun;
+    closed = k.closed;
+  }
+
+  spent-sound : (h : Heard) (b : Book) (c : ℕ) → nat_lt b.run run ≡ false → OfNewest b.acts (λ a. AllDecided a.tries) → BookSound h b → BookSound h (record b { acts = on_act (λ a. record a { spent = Some c }) b.acts })
+  spent-sound h b c n all k = record {
+    past = k.past;
+    early = in-run b (on_act (λ a. record a { spent = Some c }) b.acts) n;
+    trail = trailed b.acts k.trail all;
+    settled = same HasSettled b.acts k.settled;
+    started = same HasStarted b.acts k.started;
+    ended = k.ended;
+    begun = k.begun;
+    closed = k.closed;
+  }
+    where
+      trailed : (as' : List Act) → Trail as' → OfNewest as' (λ a. AllDecided a.tries) → Trail (on_act (λ a. record a { spent = Some c }) as')
+      trailed [] t all = tt
+      trailed (a ∷ done) t all = (t.0, t.1, λ c' e. all)
+
+      same : (P : Try → Type 0) (as' : List Act) → Every P (tries_of as') → Every P (tries_of (on_act (λ a. record a { spent = Some c }) as'))
+      same P [] e = e
+      same P (a ∷ done) e = e
+
+  close-sound : (h : Heard) (b : Book) (o : Outcome) → nat_lt b.run run ≡ false → OutcomeAllowed o b → BookSound h b → BookSound h (close o b)
+  close-sound h b outcome.Committed n a k = end-sound h b outcome.Committed b.shown n a k
+  close-sound h b (outcome.Withdrawn l) n a k = end-sound h b (outcome.Withdrawn l) b.shown n a k
+  close-sound h b (outcome.Failed l kind) n a k = end-sound h b (outcome.Failed l kind) b.shown n a k
+  close-sound h b (outcome.LaterRead o e) n a k = end-sound h b (outcome.LaterRead o e) (max b.shown e.stamp.clock) n a k
+  close-sound h b (outcome.LaterVersion o x) n a k = end-sound h b (outcome.LaterVersion o x) (max b.shown x.stamp.clock) n a k
+  close-sound h b (outcome.Expired d m) n a k = end-sound h b (outcome.Expired d m) b.shown n a k
+  close-sound h b (outcome.Spent c) n a k = spent-sound h b c n a k
+
+  -- a new attempt has no answer and no End
+  try-sound : (h : Heard) (b : Book) (s : StampParts) → nat_lt b.run run ≡ false → OfNewest b.acts (λ a. AllDecided a.tries × (a.spent ≡ None)) → BookSound h b →
+      BookSound h (record b { clock = max b.clock s.clock; acts = on_act (λ a. record a { tries = new_try a s ∷ a.tries }) b.acts })
+  try-sound h b s n all k = record {
+    past = k.past;
+    early = in-run b (on_act (λ a. record a { tries = new_try a s ∷ a.tries }) b.acts) n;
+    trail = trailed b.acts k.trail all;
+    settled = one HasSettled b.acts (λ a e. absurd (false≢true e)) k.settled;
+    started = one HasStarted b.acts (λ a e. absurd (true≢false e)) k.started;
+    ended = k.ended;
+    begun = k.begun;
+    closed = k.closed;
+  }
+    where
+      trailed : (as' : List Act) → Trail as' → OfNewest as' (λ a. AllDecided a.tries × (a.spent ≡ None)) → Trail (on_act (λ a. record a { tries = new_try a s ∷ a.tries }) as')
+      trailed [] t all = tt
+      trailed (a ∷ done) t all = (t.0, all.0, λ c e. let no : Some c ≡ None = sym e ∙ all.1 in absurd (cc no))
+
+      one : (P : Try → Type 0) (as' : List Act) → ((a : Act) → P (new_try a s)) → Every P (tries_of as') → Every P (tries_of (on_act (λ a. record a { tries = new_try a s ∷ a.tries }) as'))
+      one P [] p e = e
+      one P (a ∷ done) p e = (p a, e)
+
+  -- an effect is entered
+  pub enter-sound : (h : Heard) (b : Book) (f : Effect) → Allowed b f → BookSound h b → BookSound h (enter f b)
+  enter-sound h b (effect.Run n) a k = record {
+    past = subst (λ as'. as' ++ b.past ≡ []) (sym a.1) k.past;
+    early = λ e. absurd (true≢false (sym e ∙ subst (λ m. nat_lt m run ≡ false) (sym a.0) (not-below run)));
+    trail = tt;
+    settled = tt;
+    started = tt;
+    ended = k.ended;
+    begun = k.begun;
+    closed = k.closed;
+  }
+  enter-sound h b (effect.Act i home t tries c x) a k = record {
+    past = k.past;
+    early = in-run b (record { run = b.run; task = task_with i home t tries c x; tries = []; spent = None } ∷ b.acts) a.0;
+    trail = (a.1, tt, λ c' e. tt);
+    settled = k.settled;
+    started = k.started;
+    ended = k.ended;
+    begun = k.begun;
+    closed = k.closed;
+  }
+  enter-sound h b (effect.Try i s) a k = try-sound h b s a.0 a.1 k
+  enter-sound h b (effect.Got n v) a k = gain-sound h b (Got v) a.0 a.1 k
+  enter-sound h b (effect.Acked n) a k = gain-sound h b Stored a.0 a.1 k
+  enter-sound h b (effect.End i o) a k = close-sound h b o a.0 a.1 k
+  enter-sound h b (effect.Put o x v) a k = k
+  enter-sound h b (effect.Stretch o x) a k = k
+  enter-sound h b (effect.Begin s d) a k = k
+  enter-sound h b (effect.Decide s d) a k = k
+  enter-sound h b (effect.Learn s c) a k = k
+
+  -- ---- stages
+
+  -- what a stage says: beyond Opening the attempt has begun, and no Ended was heard
+  abbrev pub StageSound : Stage → Type 0
+  StageSound Idle = Unit {0}
+  StageSound (Refused t) = ⊥
+  StageSound (Opening t) = Unit {0}
+  StageSound (Asking t q) = Begun t.stamp
+  StageSound (Finishing t) = Begun t.stamp
+  StageSound (Stopping t (outcome.Withdrawn l)) = Begun t.stamp
+  StageSound (Stopping t (outcome.Failed l k)) = Begun t.stamp
+  StageSound (Stopping t o) = ⊥
+  StageSound (Closing t) = Begun t.stamp × (is_none t.end ≡ false)
+
+  by-stop-sound : (t : Try) (s : Stop) → Begun t.stamp → StageSound (by_stop t s)
+  by-stop-sound t (Asks q) k = k
+  by-stop-sound t (Over ending.Finished) k = k
+  by-stop-sound t (Over (ending.Withdrawn l)) k = k
+  by-stop-sound t (Over (ending.Failed l x)) k = k
+
+  pub stamp-heard : (o : Option StampParts) (s : StampParts) → is_stamp o s ≡ true → o ≡ Some s
+  stamp-heard None s e = absurd (false≢true e)
+  stamp-heard (Some x) s e = ap (λ z. Some z) (same_stamp-is x s e)
+
+  -- the open attempt is among those of the book
+  pub open-among : (as' : List Act) (t : Try) → open_of as' ≡ Some t → Has t (tries_of as') × (t.end ≡ None) × (newest as' ≡ Some t)
+  open-among [] t e = absurd (cc e)
+  open-among (a ∷ done) t e = go a.tries e
+    where
+      here : (x : Try) (ts : List Try) (o : Option Outcome) → x.end ≡ o → if_open x o ≡ Some t → Has t ((x ∷ ts) ++ tries_of done) × (t.end ≡ None) × (front (x ∷ ts) ≡ Some t)
+      here x ts None q e = let k : x ≡ t = cc e in (inl k, subst (λ (y : Try). y.end ≡ None) k q, e)
+      here x ts (Some o) q e = absurd (cc e)
+
+      go : (ts : List Try) → open_front ts ≡ Some t → Has t (ts ++ tries_of done) × (t.end ≡ None) × (front ts ≡ Some t)
+      go [] e = absurd (cc e)
+      go (x ∷ ts) e = here x ts x.end refl e
+
+  pub last-among : (as' : List Act) (t : Try) → front (tries_of as') ≡ Some t → Has t (tries_of as')
+  last-among as' t e = go (tries_of as') e
+    where
+      go : (ts : List Try) → front ts ≡ Some t → Has t ts
+      go [] e = absurd (cc e)
+      go (x ∷ ts) e = let k : x ≡ t = cc e in inl k
+
+  open-sound : (h : Heard) (b : Book) (t : Try) → BookSound h b → open_try b ≡ Some t → StageSound (of_open script h t)
+  open-sound h b t k e = first (is_asking (stop_of script t) && is_time h.ended (record { stamp = t.stamp; step = length t.answers + 1 })) refl
+    where
+      among : Has t (tries_of b.acts) × (t.end ≡ None) × (newest b.acts ≡ Some t)
+      among = open-among b.acts t e
+
+      by-answer : (n : Bool) → no_answer t ≡ n → (s : Bool) → is_stamp h.begun t.stamp ≡ s → StageSound (if n && (if s then false else true) then Opening t else by_stop t (stop_of script t))
+      by-answer true q true r = by-stop-sound t (stop_of script t) (k.begun t.stamp (stamp-heard h.begun t.stamp r))
+      by-answer true q false r = tt
+      by-answer false q s r = by-stop-sound t (stop_of script t) (every-has HasStarted (tries_of b.acts) t k.started among.0 (subst (λ z. (z && is_none t.end) ≡ false) (sym q) refl))
+
+      never-time : (c : Bool) (o : Option TimeParts) (x : TimeParts) → o ≡ None → (c && is_time o x) ≡ true → ⊥
+      never-time true None x e m = false≢true m
+      never-time false None x e m = false≢true m
+      never-time c (Some y) x e m = absurd (cc e)
+
+      first : (c : Bool) → (is_asking (stop_of script t) && is_time h.ended (record { stamp = t.stamp; step = length t.answers + 1 })) ≡ c →
+          StageSound (if c then Refused t else (if no_answer t && (if is_stamp h.begun t.stamp then false else true) then Opening t else by_stop t (stop_of script t)))
+      first true q = never-time (is_asking (stop_of script t)) h.ended (record { stamp = t.stamp; step = length t.answers + 1 }) k.ended q
+      first false q = by-answer (no_answer t) refl (is_stamp h.begun t.stamp) refl
+
+  last-sound : (h : Heard) (b : Book) (t : Try) → BookSound h b → last_try b ≡ Some t → StageSound (if is_none t.end || is_closed h t then Idle else Closing t)
+  last-sound h b t k e = go (is_none t.end) refl (is_closed h t)
+    where
+      go : (n : Bool) → is_none t.end ≡ n → (c : Bool) → StageSound (if n || c then Idle else Closing t)
+      go true q c = tt
+      go false q true = tt
+      go false q false = (every-has HasStarted (tries_of b.acts) t k.started (last-among b.acts t e) (and-false (no_answer t) q), q)
+        where
+          and-false : (a : Bool) → is_none t.end ≡ false → (a && is_none t.end) ≡ false
+          and-false true q = q
+          and-false false q = refl
+
+  pub stage-sound : (h : Heard) (b : Book) → BookSound h b → StageSound (stage script run b h)
+  stage-sound h b k = in-this (b.run == run)
+    where
+      by-open : (o last : Option Try) → open_try b ≡ o → last_try b ≡ last → StageSound (stage_of script h o last)
+      by-open (Some t) last e l = open-sound h b t k e
+      by-open None None e l = tt
+      by-open None (Some t) e l = last-sound h b t k l
+
+      in-this : (c : Bool) → StageSound (if c then stage_of script h (open_try b) (last_try b) else Idle)
+      in-this true = by-open (open_try b) (last_try b) refl refl
+      in-this false = tt

@@ -1,0 +1,300 @@
+-- A repository learns of no more attempts than brokers asked to end.
+use Rattle.std.proofs.Common.{◌≡◌, ◌⊎◌, ℕ, zero, suc, ◌+◌, ◌*◌, ◌≤◌, Bool, true, false, not, length, List, [], ◌∷◌, ◌++◌, map, reverse, refl, sym, ◌∙◌, ap, subst, Option, Some, None, if◌then◌else◌, inl, inr, arith}
+use Rattle.std.proofs.lemmas.Bool.{false≢true}
+use Rattle.std.proofs.lemmas.List.{reverse-append}
+use Rattle.std.specs.List.{filter}
+use Rattle.pseudo_time.specs.Lists.{Has}
+use Rattle.pseudo_time.specs.Order.{same_stamp}
+use Rattle.pseudo_time.proofs.OrderLemmas.{same_stamp-is, same_stamp-self}
+use Rattle.pseudo_time.specs.StampParts.{StampParts}
+use Rattle.pseudo_time.specs.declared.decisions.Decision.{Decision}
+use Rattle.pseudo_time.specs.declared.decisions.Decision.TheVariants as decision
+use Rattle.effect_form.specs.declared.effects.Effect.{Effect}
+use Rattle.effect_form.specs.declared.effects.Effect.TheVariants as effect
+use Rattle.message_form.specs.declared.messages.Message.{Message}
+use Rattle.message_form.specs.declared.messages.Message.TheVariants as message
+use Rattle.object_history.specs.History.{or_else, settle_of}
+use Rattle.repository_log.specs.Logs.{known, marks}
+use Rattle.pseudo_time.specs.Nodes.{is_broker}
+use Rattle.repository_laws.specs.Facts.{IsTidy}
+use Rattle.repository_laws.proofs.Logs.{settled-log, tidy-through}
+use Rattle.pseudo_time.specs.Nodes.{broker, repository}
+use Rattle.turn_form.specs.Posts.{Post}
+use Rattle.world_core.specs.Walks.{Base, Life, Sending, World, sent_by}
+use Rattle.complete_law.specs.Calm.{AskAtMost, CalmPlace, CalmRun, log_at, tries_in, world_at}
+use Rattle.complete_law.proofs.BrokerLoads.{wt}
+use Rattle.complete_law.proofs.Loads.{if-from}
+use Rattle.complete_law.proofs.RepositoryLoads.{all}
+use Rattle.complete_law.proofs.Totals.{by-broker, stores, stored-few}
+use Rattle.complete_law.proofs.HandLoads.{stored-load}
+use Rattle.complete_law.proofs.Totals.{brokers-few}
+use Rattle.complete_law.proofs.BrokerMoves.{node-there}
+use Rattle.complete_law.proofs.Hearings.{each-in}
+use Rattle.pseudo_time.proofs.ListLemmas.{has-right}
+use Rattle.complete_law.proofs.Steps as steps
+use Rattle.complete_law.proofs.Steps.{calm-there, facts-there}
+use Rattle.repository_laws.specs.Facts as repositories
+use Rattle.world_core.specs.Walks as walks
+use Rattle.world_facts.specs.NodeRules.{node_turns, node_facts}
+use Rattle.world_facts.specs.Refines.{seat_of}
+use Rattle.world_facts.specs.Soft.{NodeOk, SoftNode, Soft, around, happened}
+
+-- ---- the attempts that a log learned of
+
+abbrev pub learned : List Effect → List StampParts
+learned [] = []
+learned (effect.Learn s c ∷ l) = s ∷ learned l
+learned (effect.Put o x v ∷ l) = learned l
+learned (effect.Stretch o x ∷ l) = learned l
+learned (effect.Begin s d ∷ l) = learned l
+learned (effect.Decide s d ∷ l) = learned l
+learned (effect.Run n ∷ l) = learned l
+learned (effect.Act i h t n c b ∷ l) = learned l
+learned (effect.Try i s ∷ l) = learned l
+learned (effect.Got k v ∷ l) = learned l
+learned (effect.Acked k ∷ l) = learned l
+learned (effect.End i e ∷ l) = learned l
+
+pub stored-all : (l : List Effect) → length l ≡ stored-load stores l + length (learned l)
+stored-all [] = refl
+stored-all (effect.Learn s c ∷ l) = let k = stored-all l in omega (arith, k)
+stored-all (effect.Put o x v ∷ l) = let k = stored-all l in omega (arith, k)
+stored-all (effect.Stretch o x ∷ l) = let k = stored-all l in omega (arith, k)
+stored-all (effect.Begin s d ∷ l) = let k = stored-all l in omega (arith, k)
+stored-all (effect.Decide s d ∷ l) = let k = stored-all l in omega (arith, k)
+stored-all (effect.Run n ∷ l) = let k = stored-all l in omega (arith, k)
+stored-all (effect.Act i h t n c b ∷ l) = let k = stored-all l in omega (arith, k)
+stored-all (effect.Try i s ∷ l) = let k = stored-all l in omega (arith, k)
+stored-all (effect.Got k v ∷ l) = let j = stored-all l in omega (arith, j)
+stored-all (effect.Acked k ∷ l) = let j = stored-all l in omega (arith, j)
+stored-all (effect.End i e ∷ l) = let k = stored-all l in omega (arith, k)
+
+abbrev pub Single : List StampParts → Type 0
+Single [] = Unit {0}
+Single (s ∷ ss) = (Has s ss → ⊥) × Single ss
+
+learn-known : (l : List Effect) (s : StampParts) (c : Bool) → known (effect.Learn s c ∷ l) s ≡ None → ⊥
+unfolding settle_of
+learn-known l s c e = go (same_stamp s s) (same_stamp-self s) (settle_of (marks l) s) e
+  where
+    go : (t : Bool) → t ≡ true → (u : Option Bool) → (if t then or_else u c else u) ≡ None → ⊥
+    go true q None e = absurd (cc e)
+    go true q (Some x) e = absurd (cc e)
+    go false q u e = false≢true q
+
+known-before : (f : Effect) (l : List Effect) (s : StampParts) → known (f ∷ l) s ≡ None → known l s ≡ None
+known-before f l s e = go (known l s) refl
+  where
+    go : (u : Option Bool) → known l s ≡ u → u ≡ None
+    go None q = refl
+    go (Some x) q = let no : Some x ≡ None = sym (settled-log l f s x q) ∙ e in absurd (cc no)
+
+-- what a log learned of, it knows
+has-known : (l : List Effect) (s : StampParts) → Has s (learned l) → known l s ≡ None → ⊥
+has-known [] s h e = h
+has-known (effect.Learn p c ∷ l) s (inl q) e = learn-known l p c (subst (λ x. known (effect.Learn p c ∷ l) x ≡ None) (sym q) e)
+has-known (effect.Learn p c ∷ l) s (inr h) e = has-known l s h (known-before (effect.Learn p c) l s e)
+has-known (effect.Put o x v ∷ l) s h e = has-known l s h (known-before (effect.Put o x v) l s e)
+has-known (effect.Stretch o x ∷ l) s h e = has-known l s h (known-before (effect.Stretch o x) l s e)
+has-known (effect.Begin p d ∷ l) s h e = has-known l s h (known-before (effect.Begin p d) l s e)
+has-known (effect.Decide p d ∷ l) s h e = has-known l s h (known-before (effect.Decide p d) l s e)
+has-known (effect.Run n ∷ l) s h e = has-known l s h (known-before (effect.Run n) l s e)
+has-known (effect.Act i o t n c b ∷ l) s h e = has-known l s h (known-before (effect.Act i o t n c b) l s e)
+has-known (effect.Try i p ∷ l) s h e = has-known l s h (known-before (effect.Try i p) l s e)
+has-known (effect.Got k v ∷ l) s h e = has-known l s h (known-before (effect.Got k v) l s e)
+has-known (effect.Acked k ∷ l) s h e = has-known l s h (known-before (effect.Acked k) l s e)
+has-known (effect.End i o ∷ l) s h e = has-known l s h (known-before (effect.End i o) l s e)
+
+-- each attempt once
+learned-single : (r : ℕ) (l : List Effect) → IsTidy r l → Single (learned l)
+learned-single r [] t = tt
+learned-single r (effect.Learn s c ∷ l) t = ((λ h. has-known l s h t.1), learned-single r l t.2)
+learned-single r (effect.Put o x v ∷ l) t = learned-single r l t.2
+learned-single r (effect.Stretch o x ∷ l) t = learned-single r l t.1
+learned-single r (effect.Begin s d ∷ l) t = learned-single r l t.1
+learned-single r (effect.Decide s d ∷ l) t = learned-single r l t.2
+learned-single r (effect.Run n ∷ l) t = absurd t
+learned-single r (effect.Act i h k n c b ∷ l) t = absurd t
+learned-single r (effect.Try i s ∷ l) t = absurd t
+learned-single r (effect.Got k v ∷ l) t = absurd t
+learned-single r (effect.Acked k ∷ l) t = absurd t
+learned-single r (effect.End i e ∷ l) t = absurd t
+
+has-learned : (l : List Effect) (s : StampParts) → Has s (learned l) → (c : Bool) × Has (effect.Learn s c) l
+has-learned [] s h = absurd h
+has-learned (effect.Learn p c ∷ l) s (inl q) = (c, inl (ap (λ x. effect.Learn x c) q))
+has-learned (effect.Learn p c ∷ l) s (inr h) = let k = has-learned l s h in (k.0, inr k.1)
+has-learned (effect.Put o x v ∷ l) s h = let k = has-learned l s h in (k.0, inr k.1)
+has-learned (effect.Stretch o x ∷ l) s h = let k = has-learned l s h in (k.0, inr k.1)
+has-learned (effect.Begin p d ∷ l) s h = let k = has-learned l s h in (k.0, inr k.1)
+has-learned (effect.Decide p d ∷ l) s h = let k = has-learned l s h in (k.0, inr k.1)
+has-learned (effect.Run n ∷ l) s h = let k = has-learned l s h in (k.0, inr k.1)
+has-learned (effect.Act i o t n c b ∷ l) s h = let k = has-learned l s h in (k.0, inr k.1)
+has-learned (effect.Try i p ∷ l) s h = let k = has-learned l s h in (k.0, inr k.1)
+has-learned (effect.Got m v ∷ l) s h = let k = has-learned l s h in (k.0, inr k.1)
+has-learned (effect.Acked m ∷ l) s h = let k = has-learned l s h in (k.0, inr k.1)
+has-learned (effect.End i o ∷ l) s h = let k = has-learned l s h in (k.0, inr k.1)
+
+-- ---- as many messages
+
+abbrev pub ender-of : Message → Option StampParts
+ender-of (message.Commit s) = Some s
+ender-of (message.Withdraw s) = Some s
+ender-of m = None
+
+abbrev Named : StampParts → List Sending → Type 0
+Named s [] = ⊥
+Named s (x ∷ xs) = (is_broker x.post.from.kind ≡ true) × (ender-of x.post.message ≡ Some s) ⊎ Named s xs
+
+abbrev without : StampParts → List StampParts → List StampParts
+without s ss = filter (λ x. not (same_stamp s x)) ss
+
+without-has : (s t : StampParts) (ss : List StampParts) → Has t (without s ss) → Has t ss × (same_stamp s t ≡ false)
+without-has s t [] h = absurd h
+without-has s t (x ∷ ss) h = go (λ k. without-has s t ss k) (same_stamp s x) refl h
+  where
+    go : (Has t (without s ss) → Has t ss × (same_stamp s t ≡ false)) → (c : Bool) → same_stamp s x ≡ c → Has t (if not c then x ∷ without s ss else without s ss) → Has t (x ∷ ss) × (same_stamp s t ≡ false)
+    go again true e h = let k = again h in (inr k.0, k.1)
+    go again false e (inl q) = (inl q, subst (λ y. same_stamp s y ≡ false) q e)
+    go again false e (inr h) = let k = again h in (inr k.0, k.1)
+
+without-single : (s : StampParts) (ss : List StampParts) → Single ss → Single (without s ss)
+without-single s [] k = tt
+without-single s (x ∷ ss) k = go (same_stamp s x) (without-single s ss k.1)
+  where
+    go : (c : Bool) → Single (without s ss) → Single (if not c then x ∷ without s ss else without s ss)
+    go true h = h
+    go false h = ((λ i. k.0 (without-has s x ss i).0), h)
+
+without-absent : (s : StampParts) (ss : List StampParts) → (Has s ss → ⊥) → length (without s ss) ≡ length ss
+without-absent s [] n = refl
+without-absent s (x ∷ ss) n = go (same_stamp s x) refl (without-absent s ss (λ h. n (inr h)))
+  where
+    go : (c : Bool) → same_stamp s x ≡ c → length (without s ss) ≡ length ss → length (if not c then x ∷ without s ss else without s ss) ≡ length (x ∷ ss)
+    go true e k = absurd (n (inl (sym (same_stamp-is s x e))))
+    go false e k = omega (arith, k)
+
+without-length : (s : StampParts) (ss : List StampParts) → Single ss → length ss ≤ 1 + length (without s ss)
+without-length s [] k = omega arith
+without-length s (x ∷ ss) k = go (same_stamp s x) refl (without-length s ss k.1)
+  where
+    go : (c : Bool) → same_stamp s x ≡ c → length ss ≤ 1 + length (without s ss) → length (x ∷ ss) ≤ 1 + length (if not c then x ∷ without s ss else without s ss)
+    go true e h = let a = without-absent s ss (λ i. k.0 (subst (λ y. Has y ss) (same_stamp-is s x e) i)) in omega (arith, a)
+    go false e h = omega (arith, h)
+
+module _ (r : CalmRun) where
+  abbrev g : Sending → ℕ
+  g = by-broker (wt 0 0 1 r)
+
+  ends-one : (m : Message) (s : StampParts) → ender-of m ≡ Some s → wt 0 0 1 r m ≡ 1
+  ends-one (message.Commit t) s e = refl
+  ends-one (message.Withdraw t) s e = refl
+  ends-one m s e = absurd (cc e)
+
+  pigeons : (xs : List Sending) (ss : List StampParts) → Single ss → ((s : StampParts) → Has s ss → Named s xs) → length ss ≤ all g xs
+  pigeons [] [] single named = omega arith
+  pigeons [] (s ∷ ss) single named = absurd (named s (inl refl))
+  pigeons (x ∷ xs) ss single named = go (λ us h i. pigeons xs us h i) (is_broker x.post.from.kind) refl (ender-of x.post.message) refl
+    where
+      rest : (s : StampParts) → ((is_broker x.post.from.kind ≡ true) × (ender-of x.post.message ≡ Some s) → ⊥) → Has s ss → Named s xs
+      rest s never h = elim (named s h) [
+        | inl e ↦ absurd (never e)
+        | inr k ↦ k
+      ]
+
+      go : ((us : List StampParts) → Single us → ((s : StampParts) → Has s us → Named s xs) → length us ≤ all g xs) → (b : Bool) → is_broker x.post.from.kind ≡ b → (o : Option StampParts) → ender-of x.post.message ≡ o → length ss ≤ g x + all g xs
+      go again false e o q = let k = again ss single (λ s. rest s (λ i. false≢true (sym e ∙ i.0))) in omega (arith, k)
+      go again true e None q = let k = again ss single (λ s. rest s (λ i. (let no : None ≡ Some s = sym q ∙ i.1 in absurd (cc no)))) in omega (arith, k)
+      go again true e (Some t) q =
+          let k = again (without t ss) (without-single t ss single) (λ s h. (let i = without-has t s ss h in rest s (λ j. other s i.1 j.1) i.0)) in
+          let l = without-length t ss single in
+          let one : g x ≡ 1 = ap (λ c. if-from c (wt 0 0 1 r x.post.message)) e ∙ ends-one x.post.message t q in
+          omega (arith, k, l, one)
+        where
+          other : (s : StampParts) → same_stamp t s ≡ false → ender-of x.post.message ≡ Some s → ⊥
+          other s off at = let no : Some t ≡ Some s = sym q ∙ at in let is : t ≡ s = cc no in false≢true (sym off ∙ subst (λ y. same_stamp t y ≡ true) is (same_stamp-self t))
+
+named-by : (s : StampParts) (xs : List Sending) (i n : ℕ) (m : Message) → ender-of m ≡ Some s → Has (record { from = broker i; to = repository n; message = m }) (map (λ (x : Sending). x.post) xs) → Named s xs
+named-by s [] i n m e h = absurd h
+named-by s (x ∷ xs) i n m e (inl q) =
+    inl (ap (λ (p : Post). is_broker p.from.kind) q, ap (λ (p : Post). ender-of p.message) q ∙ e)
+named-by s (x ∷ xs) i n m e (inr h) = inr (named-by s xs i n m e h)
+
+-- ---- at a place
+
+module _ (p : CalmPlace) where
+  abbrev base : Base
+  base = steps.b p.run
+
+  abbrev w : World
+  w = world_at p
+
+  abbrev soft : Soft
+  soft = happened (node_turns base.script) (facts-there p).events
+
+  closed-named : (s : StampParts) (d : Decision) → repositories.WasClosed soft.ever soft.ticks s.home s d → Named s w.sendings
+  closed-named s decision.Committed h = named-by s w.sendings s.broker s.home (message.Commit s) refl (subst (Has (record { from = broker s.broker; to = repository s.home; message = message.Commit s })) (facts-there p).models.ever h)
+  closed-named s decision.Withdrawn h = named-by s w.sendings s.broker s.home (message.Withdraw s) refl (subst (Has (record { from = broker s.broker; to = repository s.home; message = message.Withdraw s })) (facts-there p).models.ever h)
+  closed-named s (decision.Expired d m) h = absurd ((facts-there p).models.ticked m h)
+
+  decided-named : (s : StampParts) (d : Decision) → Has (effect.Decide s d) (soft.seat (repository s.home)).gated → Named s w.sendings
+  decided-named s d h = go (w.flags (repository s.home)).known refl
+    where
+      go : (c : Bool) → (w.flags (repository s.home)).known ≡ c → Named s w.sendings
+      go true known =
+          let m : Life = w.life (repository s.home) in
+          let ok : NodeOk (node_facts base.script) (around soft) (repository s.home) (seat_of (w.life (repository s.home))) = node-there base w (calm-there p) (facts-there p) (repository s.home) known in
+          let here : Has (effect.Decide s d) (reverse (w.life (repository s.home)).gated) = subst (λ (x : SoftNode). Has (effect.Decide s d) x.gated) ((facts-there p).models.lives (repository s.home) known) h in
+          closed-named s d (each-in _ (reverse m.fresh ++ reverse m.gated) (effect.Decide s d) ok.proofs (has-right (reverse m.fresh) (reverse m.gated) (effect.Decide s d) here)).1
+      go false off = absurd (subst (Has (effect.Decide s d)) ((facts-there p).models.outside (repository s.home) off).0 h)
+
+  module _ (n : ℕ) (known : (w.flags (repository n)).known ≡ true) where
+    abbrev l : Life
+    l = w.life (repository n)
+
+    ok : NodeOk (node_facts base.script) (around soft) (repository n) (seat_of (w.life (repository n)))
+    ok = node-there base w (calm-there p) (facts-there p) (repository n) known
+
+    all-log : log_at p (repository n) ≡ reverse l.fresh ++ reverse l.gated
+    all-log = reverse-append l.gated l.fresh
+
+    tidy : IsTidy n (log_at p (repository n))
+    tidy = subst (IsTidy n) (sym all-log) (tidy-through n (reverse l.gated) (reverse l.fresh) ok.grew ok.tidy)
+
+    learned-named : (s : StampParts) → Has s (learned (log_at p (repository n))) → Named s w.sendings
+    learned-named s h =
+        let k = has-learned (log_at p (repository n)) s h in
+        let there : Has (effect.Learn s k.0) (reverse l.fresh ++ reverse l.gated) = subst (Has (effect.Learn s k.0)) all-log k.1 in
+        let cause = (each-in _ (reverse l.fresh ++ reverse l.gated) (effect.Learn s k.0) ok.proofs there).1 in
+        decided-named s cause.0 cause.1
+
+    few-learned : length (learned (log_at p (repository n))) ≤ all (g p.run) w.sendings
+    few-learned = pigeons p.run w.sendings (learned (log_at p (repository n))) (learned-single n (log_at p (repository n)) tidy) learned-named
+
+  module _ (most : ℕ) (asks : AskAtMost p.run most) where
+    known-few : (n : ℕ) → (w.flags (repository n)).known ≡ true → length (log_at p (repository n)) ≤ 1 + tries_in p.run.plan.acts * (most + 3)
+    known-few n known =
+        let a = stored-all (log_at p (repository n)) in
+        let b = stored-few p most asks n in
+        let c = few-learned n known in
+        let d = brokers-few p most asks 0 0 1 in
+        let e : tries_in p.run.plan.acts * (0 + (most * 0 + 1)) ≡ tries_in p.run.plan.acts = one (tries_in p.run.plan.acts) in
+        let f = grow (tries_in p.run.plan.acts) in
+        omega (arith, a, b, c, d, e, f)
+      where
+        one : (x : ℕ) → x * (0 + (most * 0 + 1)) ≡ x
+        one x = let z : 0 + (most * 0 + 1) ≡ 1 = omega arith in ap (λ y. x * y) z ∙ omega arith
+
+        grow : (x : ℕ) → x * (most + 3) ≡ x * (most + 2) + x
+        grow zero = omega arith
+        grow (suc x) = let k = grow x in omega (arith, k)
+
+    -- the log of a repository
+    pub repository-few : (n : ℕ) → length (log_at p (repository n)) ≤ 1 + tries_in p.run.plan.acts * (most + 3)
+    repository-few n = go (w.flags (repository n)).known refl
+      where
+        go : (c : Bool) → (w.flags (repository n)).known ≡ c → length (log_at p (repository n)) ≤ 1 + tries_in p.run.plan.acts * (most + 3)
+        go true e = known-few n e
+        go false e =
+            let none : length (log_at p (repository n)) ≡ 0 = ap (λ (x : Life). length (reverse (walks.all_effects x))) ((calm-there p).outside (repository n) e) in
+            omega (arith, none)

@@ -1,0 +1,107 @@
+-- What always holds at a calm place: where each request that stands is, and what keeps it from being lost.
+use Rattle.std.proofs.Common.{◌≡◌, ◌⊎◌, ℕ, ◌≤◌, ◌==◌, Bool, true, false, List, [], reverse, Option, Some, None}
+use Rattle.pseudo_time.specs.Lists.{Has}
+use Rattle.pseudo_time.specs.StampParts.{StampParts}
+use Rattle.pseudo_time.specs.TimeParts.{TimeParts}
+use Rattle.pseudo_time.specs.declared.decisions.Decision.{Decision}
+use Rattle.pseudo_time.specs.declared.nodes.NodeId.{NodeId}
+use Rattle.effect_form.specs.declared.effects.Effect.{Effect}
+use Rattle.effect_form.specs.declared.effects.Effect.TheVariants as effect
+use Rattle.message_form.specs.declared.messages.Message.{Message}
+use Rattle.message_form.specs.declared.messages.Message.TheVariants as message
+use Rattle.turn_form.specs.declared.turns.Out.{Out}
+use Rattle.turn_form.specs.Posts.{post}
+use Rattle.repository_core.specs.declared.waits.HeldRead.{HeldRead}
+use Rattle.repository_core.specs.declared.waits.Asker.{Asker}
+use Rattle.repository_core.specs.Rows.{waits_for}
+use Rattle.repository_laws.specs.Facts.{HasBegun}
+use Rattle.broker_core.specs.declared.replies.Reply.TheVariants.{Ignored}
+use Rattle.broker_core.specs.Book.{Try, book, find, tries}
+use Rattle.broker_core.specs.Fits.{is_none}
+use Rattle.broker_core.specs.Rows.{row, news}
+use Rattle.broker_core.specs.Stages.{stage}
+use Rattle.pseudo_time.specs.Nodes.{repository, broker}
+use Rattle.broker_core.specs.Tasks.{Task, tasks}
+use Rattle.broker_core.specs.Turns.{Desk, desk_at, state}
+use Rattle.broker_laws.specs.Works.{IsRested}
+use Rattle.world_core.specs.Nodes.{acts_of}
+use Rattle.world_core.specs.Walks.{Base, Sending, World, numbered, opened_life, sent_by, all_effects}
+use Rattle.world_core.specs.Legal.{times_taken}
+use Rattle.repository_waits.specs.Waits.{Waits}
+use Rattle.complete_law.specs.AtRest.{DecidedAt, read_to, standing_at}
+use Rattle.repository_waits.specs.Waits.{ask_of, tell_of}
+use Rattle.complete_law.proofs.BrokerTurns.{DeskSound}
+
+-- a node's whole log, and its durable one, newest effect first
+abbrev pub log_of : World → NodeId → List Effect
+log_of w n = reverse (all_effects (w.life n))
+
+abbrev pub gated_of : World → NodeId → List Effect
+gated_of w n = reverse (w.life n).gated
+
+abbrev pub homes_of : World → ℕ → List Effect
+homes_of w r = gated_of w (repository r)
+
+abbrev pub IsBegun : World → StampParts → Type 0
+IsBegun w s = HasBegun s (homes_of w s.home)
+
+abbrev pub IsDecided : World → StampParts → Type 0
+IsDecided w s = DecidedAt (homes_of w) s
+
+abbrev pub held_of : World → ℕ → List (TimeParts × HeldRead)
+held_of w r = (w.life (repository r)).mind.hands.held
+
+-- the message is on its way: its node owes it, or it was sent and not taken
+abbrev pub Flying : World → NodeId → Out → Type 0
+Flying w from out = Has out (w.life from).outs ⊎ ((k : ℕ) × (s : Sending) × (numbered w.sendings k ≡ Some s) × (s.post ≡ post from out) × (times_taken w k ≡ 0))
+
+-- the home of the attempt was asked, knows who asked, or has told
+abbrev pub AskedFor : World → ℕ → StampParts → Type 0
+AskedFor w r s =
+    Flying w (repository r) (ask_of s) ⊎ (Has (record { repository = r; stamp = s }) (w.life (repository s.home)).mind.hands.askers
+    ⊎ ((c : Bool) × Flying w (repository s.home) (tell_of (record { repository = r; stamp = s }) c)))
+
+module _ (b : Base) where
+  abbrev pub tasks_of : ℕ → List Task
+  tasks_of n = tasks (acts_of n b.acts)
+
+  abbrev pub desk_of : World → ℕ → Desk
+  desk_of w n = desk_at (log_of w (broker n)) (w.life (broker n)).mind.heard
+
+  abbrev pub standing_in : World → ℕ → Option Out
+  standing_in w n = standing_at b.script n b.run (tasks_of n) (log_of w (broker n)) (w.life (broker n)).mind.heard
+
+  -- an answer is a message that the broker wouldn't ignore
+  abbrev pub Heeds : World → ℕ → Message → Type 0
+  Heeds w n m = row b.script (stage b.script b.run (state b.script n b.run (tasks_of n) (desk_of w n)) (w.life (broker n)).mind.heard) (w.life (broker n)).mind.heard (news m) ≡ Ignored → ⊥
+
+  -- where the request is that stands: on its way, answered, with the answer on its way, or a read that is held
+  abbrev pub Placed : World → ℕ → Out → Type 0
+  Placed w n out =
+      Flying w (broker n) out ⊎ (((from : NodeId) × (m : Message) × Flying w from (record { to = broker n; message = m }) × Heeds w n m)
+      ⊎ ((x : TimeParts) × (e : HeldRead) × (out ≡ read_to x e.object) × (e.from ≡ broker n) × Has (x, e) (held_of w e.object.repository)))
+
+  -- what a message of a broker says
+  abbrev pub SaidOf : World → ℕ → Message → Type 0
+  SaidOf w n (message.Read x o) = IsBegun w x.stamp
+  SaidOf w n (message.Write x o v) = IsBegun w x.stamp
+  SaidOf w n (message.Commit s) = IsBegun w s
+  SaidOf w n (message.Withdraw s) = IsBegun w s × ((t : Try) × (find s (tries (book (log_of w (broker n)))) ≡ Some t) × (is_none t.end ≡ false))
+  SaidOf w n m = Unit {0}
+
+  pub record CalmWorld (w : World) : Type 0 where
+    -- of all nodes
+    pub ups : (n : NodeId) → (w.flags n).up ≡ (w.flags n).known
+    pub outside : (n : NodeId) → (w.flags n).known ≡ false → w.life n ≡ opened_life b.start []
+    pub shut : (n : NodeId) → (w.flags n).due ≡ false → ((w.life n).fresh ≡ []) × ((w.life n).outs ≡ [])
+    pub still : (s : Sending) → Has s w.sendings → s.ticks ≤ w.ticks
+    pub untaken : (k : ℕ) → numbered w.sendings k ≡ None → times_taken w k ≡ 0
+    -- of brokers
+    pub rested : (n : ℕ) → (w.flags (broker n)).gone ≡ true → IsRested b.script n b.run (tasks_of n) (desk_of w n)
+    pub sound : (n : ℕ) → DeskSound b.script n b.run (tasks_of n) (IsBegun w) (IsDecided w) (desk_of w n)
+    pub said : (n : ℕ) (o : Out) → Has o (w.life (broker n)).outs ⊎ Has (post (broker n) o) (sent_by w) → SaidOf w n o.message
+    pub placed : (n : ℕ) (o : Out) → (w.flags (broker n)).gone ≡ true → standing_in w n ≡ Some o → Placed w n o
+    -- of repositories
+    pub waits : (r : ℕ) (e : TimeParts × HeldRead) → Has e (held_of w r) → Waits (log_of w (repository r)) e
+    pub asked : (r : ℕ) (s : StampParts) → waits_for s (held_of w r) ≡ true → (s.home == r) ≡ false → AskedFor w r s
+    pub askers : (r : ℕ) (a : Asker) → Has a (w.life (repository r)).mind.hands.askers → (a.stamp.home ≡ r) × ((d : Decision) → Has (effect.Decide a.stamp d) (log_of w (repository r)) → ⊥)

@@ -1,0 +1,183 @@
+-- Each entry of a calm trace keeps what always holds. (Skeleton: the holes are the steps that are left.)
+use Rattle.std.proofs.Common.{◌≡◌, ℕ, Bool, List, [], ◌∷◌, reverse, refl, sym, ◌∙◌, ap, subst, Option, Some, None, is_some, inl, inr}
+use Rattle.std.proofs.lemmas.Bool.{false≢true, true≢false}
+use Rattle.std.specs.Option.{unwrap_or}
+use Rattle.pseudo_time.specs.Lists.{Every}
+use Rattle.pseudo_time.specs.StampParts.{StampParts}
+use Rattle.pseudo_time.specs.declared.nodes.NodeId.{NodeId}
+use Rattle.pseudo_time.specs.declared.nodes.NodeKind.{NodeKind}
+use Rattle.pseudo_time.specs.declared.nodes.NodeKind.TheVariants as kind
+use Rattle.effect_form.specs.declared.effects.Effect.{Effect}
+use Rattle.stream_port.specs.declared.fates.Fate.{Fate}
+use Rattle.broker_core.specs.Book.{book}
+use Rattle.broker_core.specs.Stages.{nothing_heard}
+use Rattle.pseudo_time.specs.Nodes.{repository, broker}
+use Rattle.broker_core.specs.Fits.{keep}
+use Rattle.world_core.specs.declared.entries.Entry.{Entry}
+use Rattle.world_core.specs.declared.entries.Entry.TheVariants as entry
+use Rattle.world_core.specs.Walks.{Base, Life, World, opened_life, opened_log, start_world, step, walk_from, all_effects}
+use Rattle.world_core.specs.Legal.{Meets, MayTake, MayGo, MayLearn, MayHear, MayGate, Rule, base_of, fates_of}
+use Rattle.world_core.proofs.Rules.{meets-front}
+use Rattle.world_facts.specs.NodeRules.{node_turns, node_facts}
+use Rattle.world_facts.specs.Refines.{Refines}
+use Rattle.world_facts.proofs.NodeLaws.{node-laws, past-laws}
+use Rattle.world_facts.proofs.Openings.{opens, left-nothing, ready-start}
+use Rattle.world_facts.proofs.Refinements.{step-refines}
+use Rattle.complete_law.specs.Calm.{CalmRun, CalmPlace, IsQuiet, IsIdleAt, AllDone, world_at}
+use Rattle.complete_law.proofs.Places.{CalmWorld, IsBegun, IsDecided, tasks_of}
+use Rattle.complete_law.proofs.BrokerTurns.{DeskSound}
+use Rattle.broker_core.specs.Turns.{desk_at}
+use Rattle.complete_law.proofs.BrokerMoves.{take-calm, go-calm}
+use Rattle.complete_law.proofs.GateMoves.{gate-calm}
+use Rattle.complete_law.proofs.RepositoryMoves.{learn-calm, take-calm-there}
+use Rattle.complete_law.proofs.Stucks.{stuck-never}
+
+module _ (r : CalmRun) where
+  abbrev pub b : Base
+  b = base_of r.script r.plan r.trace
+
+  abbrev pub fates : List Fate
+  fates = fates_of r.trace.sent
+
+  -- all that the landed laws say of nodes, with what isn't gated yet; no moment is ticked
+  abbrev pub Facts-at : World → Type 0
+  Facts-at w = Refines (node_turns r.script) (node_facts r.script) b (λ n. []) [] (λ t. ⊥) w
+
+  -- ---- the steps
+
+  -- a broker takes a message: it is heeded, and the request that stands is owed; or it is ignored
+  take-broker : (w : World) (n k : ℕ) → Facts-at w → CalmWorld b w → MayTake fates w (broker n) k → CalmWorld b (step b w (entry.Take (broker n) k))
+  take-broker w n k f c may = take-calm b w c f n k fates may
+
+  -- a repository takes a message: a request is answered or held, and what is waited for is asked for or told
+  take-repository : (w : World) (n k : ℕ) → Facts-at w → CalmWorld b w → MayTake fates w (repository n) k → CalmWorld b (step b w (entry.Take (repository n) k))
+  take-repository w n k f c may = take-calm-there b w c f n (sym (c.ups (repository n)) ∙ may.up) k fates may
+
+  go-step : (w : World) (n : NodeId) → Facts-at w → CalmWorld b w → MayGo w n → CalmWorld b (step b w (entry.Go n))
+  go-step w n f c may = go n.kind n.number may
+    where
+      go : (kd : NodeKind) (i : ℕ) → MayGo w (record { kind = kd; number = i }) → CalmWorld b (step b w (entry.Go (record { kind = kd; number = i })))
+      go kind.Repository i may = absurd (false≢true may.broker)
+      go kind.Broker i may = go-calm b w c f i may
+
+  learn-step : (w : World) (n : NodeId) (s : StampParts) (committed : Bool) → Facts-at w → CalmWorld b w → MayLearn w n s committed → CalmWorld b (step b w (entry.Learn n s committed))
+  learn-step w n s committed f c may = go n.kind n.number may
+    where
+      go : (kd : NodeKind) (i : ℕ) → MayLearn w (record { kind = kd; number = i }) s committed → CalmWorld b (step b w (entry.Learn (record { kind = kd; number = i }) s committed))
+      go kind.Broker i may = absurd (true≢false may.repository)
+      go kind.Repository i may = learn-calm b w c f i (sym (c.ups (repository i)) ∙ may.up) s committed
+
+  gate-step : (w : World) (n : NodeId) → Facts-at w → CalmWorld b w → MayGate w n → CalmWorld b (step b w (entry.Gate n))
+  gate-step w n f c may = gate-calm b w c f n may
+
+  -- ---- the start
+
+  pub empty-life : (n : NodeId) → (start_world b).life n ≡ opened_life b.start []
+  empty-life n = go (opened_log b.opened n) refl
+    where
+      go : (o : Option (List Effect)) → opened_log b.opened n ≡ o → opened_life b.start (unwrap_or o []) ≡ opened_life b.start []
+      go None e = refl
+      go (Some log) e = ap (opened_life b.start) (r.empty n log e)
+
+  -- a broker that was never given anything
+  blank-sound : (n : ℕ) → DeskSound b.script n b.run (tasks_of b n) (IsBegun (start_world b)) (IsDecided (start_world b)) (desk_at [] nothing_heard)
+  unfolding keep book
+  blank-sound n = record { past = refl; early = λ e. refl; trail = tt; settled = tt; started = tt; ended = refl; begun = λ s e. absurd (cc e); closed = λ s e. absurd (cc e) }
+
+  start-calm : CalmWorld b (start_world b)
+  start-calm = record {
+    ups = λ n. refl;
+    outside = λ n e. empty-life n;
+    shut = λ n e. (refl, refl);
+    still = λ s h. absurd h;
+    untaken = λ k e. refl;
+    rested = λ n g. absurd (false≢true g);
+    sound = λ n. subst (λ (l : Life). DeskSound b.script n b.run (tasks_of b n) (IsBegun (start_world b)) (IsDecided (start_world b)) (desk_at (reverse (all_effects l)) nothing_heard)) (sym (empty-life (broker n))) (blank-sound n);
+    said = λ n o h. absurd (elim h [
+      | inl i ↦ i
+      | inr i ↦ i
+    ]);
+    placed = λ n o g e. absurd (false≢true g);
+    waits = λ m e h. absurd h;
+    asked = λ m s e n. absurd (false≢true e);
+    askers = λ m a h. absurd h;
+  }
+
+  -- ---- all entries
+
+  take-step : (w : World) (n : NodeId) (k : ℕ) → Facts-at w → CalmWorld b w → MayTake fates w n k → CalmWorld b (step b w (entry.Take n k))
+  take-step w n k f c may = go n.kind n.number may
+    where
+      go : (kd : NodeKind) (i : ℕ) → MayTake fates w (record { kind = kd; number = i }) k → CalmWorld b (step b w (entry.Take (record { kind = kd; number = i }) k))
+      go kind.Repository i may = take-repository w i k f c may
+      go kind.Broker i may = take-broker w i k f c may
+
+  pub no-moment : (w : World) (n : NodeId) → Facts-at w → MayHear w n → ⊥
+  no-moment w n f may = go w.last refl
+    where
+      go : (l : Option ℕ) → w.last ≡ l → ⊥
+      go None e = false≢true (sym (ap is_some e) ∙ may.some)
+      go (Some t) e = f.models.ticked t (f.models.ticks t e)
+
+  one-step : (w : World) (e : Entry) → Facts-at w → CalmWorld b w → IsQuiet e → Rule b fates w e → CalmWorld b (step b w e)
+  one-step w (entry.Take n k) f c q rule = take-step w n k f c rule
+  one-step w (entry.Go n) f c q rule = go-step w n f c rule
+  one-step w (entry.Learn n s d) f c q rule = learn-step w n s d f c rule
+  one-step w (entry.Hear n) f c q rule = absurd (no-moment w n f rule)
+  one-step w (entry.Gate n) f c q rule = gate-step w n f c rule
+  one-step w (entry.Crash n kept) f c q rule = absurd q
+  one-step w (entry.Down n cause) f c q rule = absurd q
+  one-step w (entry.Tick moment) f c q rule = absurd q
+
+  quiet-tick : (e : Entry) → IsQuiet e → (t : ℕ) → e ≡ entry.Tick t → ⊥
+  quiet-tick e q t is = subst IsQuiet is q
+
+  steps : (w : World) (es : List Entry) → Facts-at w → CalmWorld b w → Every IsQuiet es → Meets b fates w es → CalmWorld b (walk_from b w es)
+  unfolding walk_from Meets
+  steps w [] f c quiet rules = c
+  steps w (e ∷ es) f c quiet rules =
+      steps (step b w e) es (step-refines r.script (node_turns r.script) (node_facts r.script) (node-laws r.script) b (λ n. []) [] (λ t. ⊥) refl fates w e (quiet-tick e quiet.0) f rules.0)
+      (one-step w e f c quiet.0 rules.0) quiet.1 rules.1
+
+  -- what holds at the start, and is kept by each entry of a quiet trace, holds at each place
+  pub steps-with : (P : World → Type 0) → ((w : World) (e : Entry) → Facts-at w → CalmWorld b w → IsQuiet e → Rule b fates w e → P w → P (step b w e)) →
+      (w : World) (es : List Entry) → Facts-at w → CalmWorld b w → P w → Every IsQuiet es → Meets b fates w es → P (walk_from b w es)
+  unfolding walk_from Meets
+  steps-with P one w [] f c p quiet rules = p
+  steps-with P one w (e ∷ es) f c p quiet rules =
+      steps-with P one (step b w e) es (step-refines r.script (node_turns r.script) (node_facts r.script) (node-laws r.script) b (λ n. []) [] (λ t. ⊥) refl fates w e (quiet-tick e quiet.0) f rules.0)
+      (one-step w e f c quiet.0 rules.0) (one w e f c quiet.0 rules.0 p) quiet.1 rules.1
+
+  pub facts-steps : (w : World) (es : List Entry) → Facts-at w → Every IsQuiet es → Meets b fates w es → Facts-at (walk_from b w es)
+  unfolding walk_from Meets
+  facts-steps w [] f quiet rules = f
+  facts-steps w (e ∷ es) f quiet rules =
+      facts-steps (step b w e) es (step-refines r.script (node_turns r.script) (node_facts r.script) (node-laws r.script) b (λ n. []) [] (λ t. ⊥) refl fates w e (quiet-tick e quiet.0) f rules.0) quiet.1 rules.1
+
+  start-facts : Facts-at (start_world b)
+  start-facts =
+      opens r.script (node_turns r.script) (node_facts r.script) (node-laws r.script) b (λ n. []) [] (λ t. ⊥) (λ t. ⊥) (λ t h. h) (left-nothing r.script (node_turns r.script) (node_facts r.script) (node-laws r.script) (past-laws r.script)) (λ n log e. r.empty n log e)
+      (ready-start r.script (node_turns r.script) (node_facts r.script) (node-laws r.script) (past-laws r.script) b refl r.legal.ready)
+
+-- what always holds, holds at each calm place
+pub calm-there : (p : CalmPlace) → CalmWorld (base_of p.run.script p.run.plan p.run.trace) (world_at p)
+calm-there p =
+    steps p.run (start_world (b p.run)) p.front (start-facts p.run) (start-calm p.run) p.quiet
+    (meets-front (b p.run) (fates p.run) (start_world (b p.run)) p.front p.rest (subst (Meets (b p.run) (fates p.run) (start_world (b p.run))) p.here p.run.legal.meets))
+
+-- no calm place is stuck
+pub never-stuck : (p : CalmPlace) → IsIdleAt p → AllDone p
+never-stuck p = stuck-never p (calm-there p)
+
+-- all that the landed laws say of nodes, with what isn't gated, at each calm place
+pub facts-there : (p : CalmPlace) → Facts-at p.run (world_at p)
+facts-there p =
+    facts-steps p.run (start_world (b p.run)) p.front (start-facts p.run) p.quiet
+    (meets-front (b p.run) (fates p.run) (start_world (b p.run)) p.front p.rest (subst (Meets (b p.run) (fates p.run) (start_world (b p.run))) p.here p.run.legal.meets))
+
+-- what holds at the start, and is kept by each entry, holds at each calm place
+pub always : (p : CalmPlace) (P : World → Type 0) → P (start_world (b p.run)) →
+    ((w : World) (e : Entry) → Facts-at p.run w → CalmWorld (b p.run) w → IsQuiet e → Rule (b p.run) (fates p.run) w e → P w → P (step (b p.run) w e)) → P (world_at p)
+always p P start one =
+    steps-with p.run P one (start_world (b p.run)) p.front (start-facts p.run) (start-calm p.run) start p.quiet
+    (meets-front (b p.run) (fates p.run) (start_world (b p.run)) p.front p.rest (subst (Meets (b p.run) (fates p.run) (start_world (b p.run))) p.here p.run.legal.meets))

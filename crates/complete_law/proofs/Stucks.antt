@@ -1,0 +1,35 @@
+-- No calm place is stuck, where what always holds holds there.
+use Rattle.std.proofs.Common.{◌≡◌, List, [], ◌∷◌, refl, ◌∙◌}
+use Rattle.pseudo_time.specs.declared.nodes.NodeId.{NodeId}
+use Rattle.world_core.specs.Walks.{Base, World, sent_by, start_world, step, walk_from}
+use Rattle.world_core.specs.declared.entries.Entry.{Entry}
+use Rattle.world_core.specs.Legal.{base_of, fates_of}
+use Rattle.world_core.specs.Pasts.{OpenedWith}
+use Rattle.world_facts.specs.NodeRules.{node_turns, node_facts}
+use Rattle.world_facts.specs.Refines.{LogFacts, logs_at, Ticked}
+use Rattle.world_facts.proofs.NodeLaws.{node-laws, past-laws}
+use Rattle.world_facts.proofs.Openings.{legal-facts}
+use Rattle.world_facts.proofs.Steps.{step-known}
+use Rattle.complete_law.specs.Calm.{CalmPlace, IsIdleAt, AllDone, world_at}
+use Rattle.complete_law.proofs.Places.{CalmWorld}
+use Rattle.complete_law.proofs.Idles.{idle-done}
+
+walk-known : (b : Base) (w : World) (es : List Entry) (n : NodeId) → ((walk_from b w es).flags n).known ≡ (w.flags n).known
+unfolding walk_from
+walk-known b w [] n = refl
+walk-known b w (e ∷ es) n = walk-known b (step b w e) es n ∙ (step-known b w e n).0
+
+module _ (p : CalmPlace) where
+  abbrev base : Base
+  base = base_of p.run.script p.run.plan p.run.trace
+
+  agrees : OpenedWith p.run.trace.opened (λ n. [])
+  agrees n log e = p.run.empty n log e
+
+  pub calm-facts : LogFacts (node_facts p.run.script) base (logs_at (λ n. []) (world_at p)) [] (sent_by (world_at p)) (Ticked [] p.front)
+  calm-facts = legal-facts p.run.script (node_turns p.run.script) (node_facts p.run.script) (node-laws p.run.script) (past-laws p.run.script) p.run.plan p.run.asked p.run.trace (λ n. []) p.front p.rest
+      ([], tt, λ n. refl) agrees p.run.legal p.here
+
+  pub stuck-never : CalmWorld base (world_at p) → IsIdleAt p → AllDone p
+  stuck-never calm idle b i =
+      idle-done base p.run.plan (Ticked [] p.front) (world_at p) (fates_of p.run.trace.sent) p.run.legal.nodes p.run.plain calm (λ n. walk-known base (start_world base) p.front n) calm-facts idle p.run.whole p.run.legal.scripted refl b i

@@ -1,0 +1,10 @@
+//! Completeness: where no message is lost, repeated or held and no node stops, a run that waits for
+//! nothing is over, and it has stored no more than its plan allows.
+#![tactic(auto)]
+
+mod laws;
+
+pub use laws::{
+    law_at_rest, law_few_effects, law_few_messages, law_never_stuck, law_nothing_stops,
+    law_outcomes,
+};

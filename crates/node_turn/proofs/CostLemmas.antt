@@ -1,0 +1,12 @@
+-- What entries cost.
+use Rattle.std.specs.Prelude.{ℕ, ◌+◌, ◌≤◌}
+use Rattle.std.proofs.Common.{arith}
+use Rattle.stream_port.specs.Causes.{Rose}
+use Rattle.node_turn.specs.Costs.{PaysFor}
+
+pub pays-none : (old new count now : ℕ) → new ≤ old → count ≤ now → PaysFor old count new now
+pays-none old new count now le later first r = omega (arith, le, later, r)
+
+-- a fault pays for one more
+pub pays-one : (old new count now : ℕ) → new ≤ old + 1 → Rose count now → PaysFor old count new now
+pays-one old new count now le rose first r = omega (arith, le, rose, r)

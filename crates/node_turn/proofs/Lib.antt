@@ -1,0 +1,13 @@
+pub mod TrailLemmas
+pub mod SeekLemmas
+pub mod CostLemmas
+pub mod ReadyLemmas
+pub mod LifeLemmas
+pub mod KnowsLemmas
+pub mod AppendLemmas
+pub mod DueLemmas
+pub mod FallLemmas
+pub mod PageLemmas
+pub mod NodeLemmas
+pub mod NewLemmas
+pub mod MediumLemmas

@@ -1,0 +1,173 @@
+-- What an append and an opening leave of a medium, for the cores that keep their log on it.
+use Rattle.std.proofs.Common.{◌≡◌, ◌≢◌, ℕ, ◌≤◌, ◌<◌, Bool, true, List, [], ◌++◌, length, Result, Ok, Err, IsTrue, IfOk, IfErr, OnOk, refl, sym, ap, subst, ◌∙◌}
+use Rattle.std.specs.Prelude.{count_by, IsErrOf}
+use Rattle.stream_port.specs.Causes.{Rose}
+use Rattle.medium_port.specs.Image.{Image, Only, NoMore}
+use Rattle.pseudo_time.specs.declared.nodes.NodeId.{NodeId}
+use Rattle.page_gate.specs.States.{is_blank}
+use Rattle.effect_form.specs.declared.effects.Effect.{Effect}
+use Rattle.version_store.specs.declared.faults.OpenFault.{OpenFault}
+use Rattle.version_store.specs.declared.faults.OpenFault.TheVariants as opening
+use Rattle.version_store.specs.declared.faults.StoreFault.{StoreFault}
+use Rattle.version_store.specs.declared.faults.StoreFault.TheVariants as adding
+use Rattle.version_store.specs.Entries.{effects_of}
+use Rattle.version_store.specs.Filling.{HasPrefix, KeepsPages, StaysClean, filling}
+use Rattle.version_store.specs.Settled.{IsSettled}
+use Rattle.version_store.specs.Storage.{storage, effects_found, log_of}
+use Rattle.world_core.specs.Walks.{Base, Life, opened_life, gated_life}
+use Rattle.node_turn.specs.Cores.{CoreParts, LeavesLog, IsReady, IsFull, IsAppended, IsReopened}
+
+-- ---- answers
+
+ok-same : {A E : Type 0} (x y : A) → ◌≡◌ {A = Result A E} (Ok x) (Ok y) → x ≡ y
+ok-same x y e = cc e
+
+err-same : {A E : Type 0} (x y : E) → ◌≡◌ {A = Result A E} (Err x) (Err y) → x ≡ y
+err-same x y e = cc e
+
+-- ---- media between two calls
+
+-- the effects of what reads give
+abbrev pub effects_read : Image → List Effect
+effects_read image = effects_of (log_of image)
+
+module _ (image : Image) (images : Image → Type 0) (settled : IsSettled image images) where
+  storage-settled : storage image ≡ Ok (effects_read image)
+  storage-settled = ap effects_found settled.log
+
+  -- what a crash leaves is the log that reads give
+  pub log-left : (log : List Effect) → images image → LeavesLog images log → effects_read image ≡ log
+  log-left log now leaves = ok-same (effects_read image) log (sym storage-settled ∙ leaves image now)
+
+  pub leaves-log : (log : List Effect) → effects_read image ≡ log → LeavesLog images log
+  leaves-log log e c left = ap storage (settled.only c left) ∙ storage-settled ∙ ap (λ (l : List Effect). Ok l) e
+
+-- no image is new where reads give the same
+pub none-new : (old new : Image) (was is : Image → Type 0) → new ≡ old → was old → IsSettled new is → NoMore was is
+none-new old new was is same now settled c left = subst was (sym (settled.only c left ∙ same)) now
+
+-- ---- images with which a node is ready
+
+-- each image has a log with which the node is ready
+abbrev pub AreReady : (Image → Type 0) → NodeId → Base → Type 0
+AreReady images n b = (c : Image) → images c → (log : List Effect) × (storage c ≡ Ok log) × IsReady b n log
+
+-- none of them is damaged
+pub not-damaged : (images : Image → Type 0) (n : NodeId) (b : Base) (f : OpenFault) → ((page : ℕ) → f ≡ opening.Damaged page → (image : Image) × images image × (storage image ≡ Err page))
+    → AreReady images n b → (page : ℕ) → f ≡ opening.Damaged page → ⊥
+not-damaged images n b f damaged ready page e =
+    let d = damaged page e in
+    let r = ready d.0 d.1 in
+    let z : ◌≡◌ {A = Result (List Effect) ℕ} (Ok r.0) (Err page) = sym r.1 ∙ d.2 in
+    cc z
+
+-- with the log that was found the node is ready
+pub ready-found : (images : Image → Type 0) (n : NodeId) (b : Base) (image : Image) (log : List Effect) → images image → storage image ≡ Ok log → AreReady images n b → IsReady b n log
+ready-found images n b image log was found ready =
+    let r = ready image was in
+    subst (IsReady b n) (ok-same r.0 log (sym r.1 ∙ found)) r.2
+
+-- ---- appends
+
+-- what an append leaves of the medium
+pub record AppendsTo {M T : Type 0} (tells : Bool) (faults pages : M → ℕ) (reads : M → Image) (may_leave : M → Image → Type 0) (old new : M) (effects : List Effect) (result : Result T StoreFault) : Type 0 where
+  pub later : faults old ≤ faults new
+  pub left : IsTrue tells → (log : List Effect) → LeavesLog (may_leave old) log → OnOk result (LeavesLog (may_leave new) (log ++ effects))
+  pub images : IsTrue tells → (log : List Effect) → LeavesLog (may_leave old) log → (c : Image) → may_leave new c → HasPrefix log effects c
+  pub clean : IsTrue tells → OnOk result (KeepsPages (reads old) (reads new) × StaysClean (reads old) (reads new))
+  pub nothing : IfErr result (λ f. f ≢ adding.Medium → new ≡ old)
+  pub full : IfErr result (λ f. (number : ℕ) → f ≡ adding.Full number → (number ≡ pages old) × (IsTrue tells → count_by is_blank (reads old) < length (filling effects)))
+  pub cause : IsErrOf result adding.Medium → Rose (faults old) (faults new)
+
+module _ {M : Type 0} (tells : Bool) (faults pages : M → ℕ) (reads : M → Image) (may_leave : M → Image → Type 0) (now : (m : M) → IsTrue tells → may_leave m (reads m)) (old new : M) (effects : List Effect)
+    (settled : IsTrue tells → IsSettled (reads old) (may_leave old)) (later : faults old ≤ faults new)
+    (images : IsTrue tells → (c : Image) → may_leave new c → HasPrefix (effects_read (reads old)) effects c) where
+  images-from : IsTrue tells → (log : List Effect) → LeavesLog (may_leave old) log → (c : Image) → may_leave new c → HasPrefix log effects c
+  images-from t log leaves c left = subst (λ l. HasPrefix l effects c) (log-left (reads old) (may_leave old) (settled t) log (now old t) leaves) (images t c left)
+
+  -- all was added
+  pub appends-all : {T : Type 0} (x : T) → (IsTrue tells → IsSettled (reads new) (may_leave new)) → (IsTrue tells → effects_read (reads new) ≡ effects_read (reads old) ++ effects)
+      → (IsTrue tells → KeepsPages (reads old) (reads new)) → (IsTrue tells → StaysClean (reads old) (reads new)) → AppendsTo tells faults pages reads may_leave old new effects (Ok x)
+  appends-all x rests grown keeps clean = record {
+    later = later;
+    left = λ t log leaves. leaves-log (reads new) (may_leave new) (rests t) (log ++ effects) (grown t ∙ ap (λ l. l ++ effects) (log-left (reads old) (may_leave old) (settled t) log (now old t) leaves));
+    images = images-from;
+    clean = λ t. (keeps t, clean t);
+    nothing = tt;
+    full = tt;
+    cause = λ e. absurd (cc e);
+  }
+
+  -- a fault
+  pub appends-none : {T : Type 0} (f : StoreFault) → (f ≢ adding.Medium → new ≡ old) → ((number : ℕ) → f ≡ adding.Full number → number ≡ pages old)
+      → (IsTrue tells → (number : ℕ) → f ≡ adding.Full number → count_by is_blank (reads old) < length (filling effects)) → (f ≡ adding.Medium → Rose (faults old) (faults new))
+      → AppendsTo {T = T} tells faults pages reads may_leave old new effects (Err f)
+  appends-none f nothing all blank cause = record {
+    later = later;
+    left = λ t log leaves. tt;
+    images = images-from;
+    clean = λ t. tt;
+    nothing = nothing;
+    full = λ number e. (all number e, λ t. blank t number e);
+    cause = λ e. cause (err-same f adding.Medium e);
+  }
+
+module _ {K M : Type 0} {tells : Bool} {parts : K → CoreParts M} {fits : Base → K → Type 0} {lives : Base → K → Life → Type 0} {owes : K → List Effect → Type 0}
+    {faults pages : M → ℕ} {reads : M → Image} {may_leave : M → Image → Type 0} (old new : K) (m : M) (is : (parts old).medium ≡ m)
+    (node : (parts new).node ≡ (parts old).node) (run : (b : Base) → fits b old → fits b new) where
+  -- a core after an append: where all was added, it owes nothing, and has the life after the gate
+  pub appended : {T : Type 0} (effects : List Effect) (result : Result T StoreFault) → AppendsTo tells faults pages reads may_leave m (parts new).medium effects result → OnOk result (((parts new).able ≡ true) × owes new [])
+      → (IsTrue tells → (b : Base) (l : Life) → lives b old l → l.fresh ≡ effects → OnOk result (lives b new (gated_life l)))
+      → IsAppended tells parts fits lives owes faults pages reads may_leave old new effects result
+  appended {T} effects result to able has =
+      let a : AppendsTo tells faults pages reads may_leave (parts old).medium (parts new).medium effects result = subst (λ x. AppendsTo tells faults pages reads may_leave x (parts new).medium effects result) (sym is) to in
+      record {
+        same = record { node = node; run = run; later = a.later };
+        able = able;
+        has = has;
+        left = a.left;
+        images = a.images;
+        clean = a.clean;
+        nothing = a.nothing;
+        full = fills result a.full;
+        cause = a.cause;
+      }
+    where
+      fills : (r : Result T StoreFault) → IfErr r (λ f. (number : ℕ) → f ≡ adding.Full number → (number ≡ pages (parts old).medium) × (IsTrue tells → count_by is_blank (reads (parts old).medium) < length (filling effects)))
+          → IfErr r (λ f. (number : ℕ) → f ≡ adding.Full number → IsFull tells parts fits lives owes faults pages reads may_leave (parts old).medium effects number)
+      fills (Ok x) h = tt
+      fills (Err f) h = λ number e. record { all = (h number e).0; blank = (h number e).1 }
+
+  -- the medium was opened, and its log found
+  pub reopened-all : (log : List Effect) (count : ℕ) → count ≡ length log → (parts new).able ≡ true → owes new [] → faults m ≤ faults (parts new).medium
+      → (IsTrue tells → may_leave m (reads (parts new).medium)) → (IsTrue tells → storage (reads (parts new).medium) ≡ Ok log) → (IsTrue tells → Only (reads (parts new).medium) (may_leave (parts new).medium))
+      → (IsTrue tells → NoMore (may_leave m) (may_leave (parts new).medium)) → (IsTrue tells → (b : Base) → fits b old → lives b new (opened_life b.start log))
+      → IsReopened tells parts fits lives owes faults pages reads may_leave old new (Ok count)
+  reopened-all log count size able owed later was found only images has = record {
+    same = record { node = node; run = run; later = subst (λ x. faults x ≤ faults (parts new).medium) (sym is) later };
+    able = (able, owed);
+    found = λ t. record {
+      image = reads (parts new).medium;
+      left = subst (λ x. may_leave x (reads (parts new).medium)) (sym is) (was t);
+      log = log;
+      is = found t;
+      size = sym size;
+      only = λ c left. ap storage (only t c left) ∙ found t;
+      has = has t;
+    };
+    images = λ t. subst (λ x. NoMore (may_leave x) (may_leave (parts new).medium)) (sym is) (images t);
+    cause = λ e. absurd (cc e);
+    sound = λ t b f ready page e. absurd (cc e);
+  }
+
+  -- a fault
+  pub reopened-none : (f : OpenFault) → faults m ≤ faults (parts new).medium → (IsTrue tells → NoMore (may_leave m) (may_leave (parts new).medium)) → (f ≡ opening.Medium → Rose (faults m) (faults (parts new).medium))
+      → (IsTrue tells → (b : Base) → fits b old → AreReady (may_leave m) (parts old).node b → (page : ℕ) → f ≡ opening.Damaged page → ⊥) → IsReopened tells parts fits lives owes faults pages reads may_leave old new (Err f)
+  reopened-none f later images cause sound = record {
+    same = record { node = node; run = run; later = subst (λ x. faults x ≤ faults (parts new).medium) (sym is) later };
+    able = tt;
+    found = λ t. tt;
+    images = λ t. subst (λ x. NoMore (may_leave x) (may_leave (parts new).medium)) (sym is) (images t);
+    cause = λ e. subst (λ x. Rose (faults x) (faults (parts new).medium)) (sym is) (cause (err-same f opening.Medium e));
+    sound = λ t b h ready page e. sound t b h (subst (λ x. AreReady (may_leave x) (parts old).node b) is ready) page (err-same f (opening.Damaged page) e);
+  }

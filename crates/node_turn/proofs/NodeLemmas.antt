@@ -1,0 +1,146 @@
+-- What a node keeps while others move on, at rest, and over a turn.
+use Rattle.std.proofs.Common.{◌≡◌, ◌≢◌, ℕ, Bool, false, List, Result, Ok, Err, IsTrue, IfOk, OnOk, refl, sym, ap, subst, ◌∙◌}
+use Rattle.std.specs.Prelude.{MatchBool}
+use Rattle.pseudo_time.specs.declared.nodes.NodeId.{NodeId}
+use Rattle.pseudo_time.specs.Nodes.{is_broker}
+use Rattle.pseudo_time.specs.declared.down_causes.DownCause.{DownCause}
+use Rattle.medium_port.specs.Image.{Image}
+use Rattle.effect_form.specs.declared.effects.Effect.{Effect}
+use Rattle.atomic_table.specs.declared.shared.Seat.{Seat}
+use Rattle.seat_lock.specs.declared.views.View.{View}
+use Rattle.seat_lock.specs.Words.{knows}
+use Rattle.world_core.specs.declared.entries.Entry.{Entry}
+use Rattle.world_core.specs.Walks.{Base, Life, Flags}
+use Rattle.wire_core.specs.Wires.{WireParts}
+use Rattle.wire_lock.specs.Sights.{Sight, life_at, Looked}
+use Rattle.node_turn.specs.declared.conditions.Condition.{Condition}
+use Rattle.node_turn.specs.declared.conditions.Condition.TheVariants as condition
+use Rattle.node_turn.specs.declared.conditions.Turned.{Turned}
+use Rattle.node_turn.specs.declared.conditions.Turned.TheVariants.{Worked, Quiet, Stopped}
+use Rattle.node_turn.specs.Cores.{CoreParts}
+use Rattle.node_turn.specs.Lives.{no_draft, IsUp, IsDown, Keeps}
+use Rattle.node_turn.specs.Costs.{costs, PaysFor}
+use Rattle.node_turn.specs.Trails.{HasTested}
+use Rattle.node_turn.specs.Nodes.{NodeParts, Grew, IsCondition, IsQuiet, Answers, Does, StaysWhole, TurnsTo, IsAtRest}
+use Rattle.node_turn.proofs.LifeLemmas.{Follows, follows-looked, flags-seen, life-looked, up-looked, up-stored, stored-looked}
+use Rattle.node_turn.proofs.FallLemmas.{cause-same}
+use Rattle.node_turn.proofs.PageLemmas.{whole-same}
+use Rattle.node_turn.proofs.SeekLemmas.{tested-none}
+use Rattle.node_turn.proofs.TrailLemmas.{trail-none}
+
+-- a node's pass
+abbrev Pass : Type 0
+Pass = Seat WireParts (View WireParts Entry)
+
+module _ {K M : Type 0} (tells : Bool) (parts : K → CoreParts M) (fits : Base → K → Type 0) (lives : Base → K → Life → Type 0) (owes : K → List Effect → Type 0)
+    (pages : M → ℕ) (reads : M → Image) (may_leave : M → Image → Type 0) where
+  -- ---- what is kept
+
+  -- a node as contracts see it
+  abbrev seen : NodeId → Condition → Pass → K → NodeParts M
+  seen n c pass core = record { node = n; condition = c; pass = pass; medium = (parts core).medium }
+
+  keeps-at : (core : K) (k : Sight) (n : NodeId) (gone : Bool) (durable : ℕ) (c x : Condition) → c ≡ x → Keeps tells parts fits lives owes pages reads may_leave c core k n gone durable
+      → Keeps tells parts fits lives owes pages reads may_leave x core k n gone durable
+  keeps-at core k n gone durable c x e h = subst (λ (y : Condition). Keeps tells parts fits lives owes pages reads may_leave y core k n gone durable) e h
+
+  -- ---- others move on
+
+  down-looked : {core : K} {k k' : Sight} {n : NodeId} {cause : DownCause} → IsDown tells parts fits lives owes pages reads may_leave core k n cause → Looked k k' → IsDown tells parts fits lives owes pages reads may_leave core k' n cause
+  down-looked {core} {k} {k'} {n} {cause} d look =
+      let f : Follows n k k' = follows-looked n look in
+      record {
+        stored = stored-looked d.stored look;
+        down = ap (λ (x : Flags). x.up) (flags-seen n k k' f.base look.before d.stored.own) ∙ d.down;
+        before = d.before;
+        last = ap (λ (s : Sight). s.own) look.kept ∙ d.last;
+        caused = cause-same tells pages reads cause (parts core).medium (life_at k n) (life_at k' n) (λ t. life-looked n d.stored.own look) d.caused;
+      }
+
+  pub keeps-looked : (core : K) (k k' : Sight) (n : NodeId) (gone : Bool) (durable : ℕ) (c : Condition) → Keeps tells parts fits lives owes pages reads may_leave c core k n gone durable → Looked k k'
+      → Keeps tells parts fits lives owes pages reads may_leave c core k' n gone durable
+  keeps-looked core k k' n gone durable condition.AtWork u look = up-looked u look
+  keeps-looked core k k' n gone durable (condition.Down cause) d look = down-looked d look
+  keeps-looked core k k' n gone durable condition.Wanting s look = stored-looked s look
+
+  -- ---- at rest
+
+  rest-seen : (core : K) (n : NodeId) (gone : Bool) (durable : ℕ) (pass : Pass) (c : Condition) → Keeps tells parts fits lives owes pages reads may_leave c core (knows pass) n gone durable
+      → IsAtRest tells pages reads may_leave (seen n c pass core)
+  rest-seen core n gone durable pass condition.AtWork u = record { own = u.own; kept = (up-stored u).kept; stands = (ap (λ (x : Flags). x.up) u.flags, λ t. sym (u.life t).effects) }
+  rest-seen core n gone durable pass (condition.Down cause) d = record { own = d.stored.own; kept = d.stored.kept; stands = (d.down, (d.before, d.last), d.caused) }
+  rest-seen core n gone durable pass condition.Wanting s = record { own = s.own; kept = s.kept; stands = tt }
+
+  pub keeps-rest : (core : K) (n : NodeId) (gone : Bool) (durable : ℕ) (pass : Pass) (c : Condition) → Keeps tells parts fits lives owes pages reads may_leave c core (knows pass) n gone durable
+      → {old : NodeParts M} → seen n c pass core ≡ old → IsAtRest tells pages reads may_leave old
+  keeps-rest core n gone durable pass c h {old} view = subst (IsAtRest tells pages reads may_leave) view (rest-seen core n gone durable pass c h)
+
+  -- ---- a turn
+
+  -- a node that was down already
+  pub turned-down : {E : Type 0} (faults : M → ℕ) (core : K) (n : NodeId) (gone : Bool) (durable : ℕ) (pass : Pass) (c : Condition) (cause : DownCause) → c ≡ condition.Down cause
+      → Keeps tells parts fits lives owes pages reads may_leave c core (knows pass) n gone durable → {old : NodeParts M} → seen n c pass core ≡ old → TurnsTo {E = E} tells faults reads old (seen n c pass core) (Ok Stopped)
+  turned-down {E} faults core n gone durable pass c cause e h {old} view =
+      let d : IsDown tells parts fits lives owes pages reads may_leave core (knows pass) n cause = keeps-at core (knows pass) n gone durable c (condition.Down cause) e h in
+      subst (λ (p : NodeParts M). TurnsTo {E = E} tells faults reads p (seen n c pass core) (Ok Stopped)) view (record {
+        node = refl;
+        answers = (cause, e);
+        does = d.down;
+        paid = λ first r. r;
+        whole = λ t same. whole-same (reads (parts core).medium);
+        tested = λ t repository. tested-none n (knows pass) (knows pass) 0 (trail-none n (knows pass));
+      })
+
+  -- a node that had found no memory before
+  pub turned-wanting : {E : Type 0} (faults : M → ℕ) (core : K) (n : NodeId) (pass : Pass) (c : Condition) (x : E) → c ≡ condition.Wanting → {old : NodeParts M} → seen n c pass core ≡ old
+      → TurnsTo tells faults reads old (seen n c pass core) (Err x)
+  turned-wanting {E} faults core n pass c x e {old} view =
+      subst (λ (p : NodeParts M). TurnsTo {E = E} tells faults reads p (seen n c pass core) (Err x)) view (record {
+        node = refl;
+        answers = e;
+        does = tt;
+        paid = λ first r. r;
+        whole = λ t. tt;
+        tested = λ t repository. tested-none n (knows pass) (knows pass) 0 (trail-none n (knows pass));
+      })
+
+  -- a node that was at work
+  module _ {E : Type 0} (faults : M → ℕ) (core new : K) (n : NodeId) (gone : Bool) (durable : ℕ) (pass pass' : Pass) (c c' : Condition) (quiet : Bool) where
+    does-answer : (r : Result Turned E) → Keeps tells parts fits lives owes pages reads may_leave c' new (knows pass') n gone durable → IsCondition r c' → IfOk r (Answers quiet)
+        → MatchBool quiet (IsQuiet n (knows pass) (knows pass') × (c' ≡ condition.AtWork)) (c' ≡ condition.AtWork → Grew (knows pass).own (knows pass').own)
+        → IfOk r (λ t. Does t n (knows pass) (knows pass'))
+    does-answer (Ok Worked) h is answers q =
+        let u : IsUp tells parts fits lives owes pages reads may_leave new (knows pass') n gone false (no_draft durable) = keeps-at new (knows pass') n gone durable c' condition.AtWork is h in (
+          subst (λ (b : Bool). MatchBool b (IsQuiet n (knows pass) (knows pass') × (c' ≡ condition.AtWork)) (c' ≡ condition.AtWork → Grew (knows pass).own (knows pass').own)) answers q is,
+          ap (λ (x : Flags). x.up) u.flags,
+        )
+    does-answer (Ok Quiet) h is answers q =
+        let u : IsUp tells parts fits lives owes pages reads may_leave new (knows pass') n gone false (no_draft durable) = keeps-at new (knows pass') n gone durable c' condition.AtWork is h in (
+          (subst (λ (b : Bool). MatchBool b (IsQuiet n (knows pass) (knows pass') × (c' ≡ condition.AtWork)) (c' ≡ condition.AtWork → Grew (knows pass).own (knows pass').own)) answers q).0,
+          ap (λ (x : Flags). x.up) u.flags,
+        )
+    does-answer (Ok Stopped) h is answers q =
+        let d : IsDown tells parts fits lives owes pages reads may_leave new (knows pass') n is.0 = keeps-at new (knows pass') n gone durable c' (condition.Down is.0) is.1 h in
+        d.down
+    does-answer (Err x) h is answers q = tt
+
+    whole-answer : (r : Result Turned E) → IsCondition r c' → (W : Type 0) → (c' ≢ condition.Wanting → W) → OnOk r W
+    whole-answer (Ok Worked) is W w = w (λ z. let x : condition.AtWork ≡ condition.Wanting = sym is ∙ z in cc x)
+    whole-answer (Ok Quiet) is W w = w (λ z. let x : condition.AtWork ≡ condition.Wanting = sym is ∙ z in cc x)
+    whole-answer (Ok Stopped) is W w = w (λ z. let x : condition.Down is.0 ≡ condition.Wanting = sym is.1 ∙ z in cc x)
+    whole-answer (Err e) is W w = tt
+
+    pub turned-working : (r : Result Turned E) → Keeps tells parts fits lives owes pages reads may_leave c' new (knows pass') n gone durable → IsCondition r c' → IfOk r (Answers quiet)
+        → MatchBool quiet (IsQuiet n (knows pass) (knows pass') × (c' ≡ condition.AtWork)) (c' ≡ condition.AtWork → Grew (knows pass).own (knows pass').own)
+        → PaysFor (costs (knows pass).own) (faults (parts core).medium) (costs (knows pass').own) (faults (parts new).medium)
+        → (IsTrue tells → c' ≢ condition.Wanting → StaysWhole (costs (knows pass).own) (costs (knows pass').own) (reads (parts core).medium) (reads (parts new).medium))
+        → (IsTrue tells → is_broker n.kind ≡ false → HasTested n (knows pass) (knows pass'))
+        → {old : NodeParts M} → seen n c pass core ≡ old → TurnsTo tells faults reads old (seen n c' pass' new) r
+    turned-working r h is answers q paid whole tested {old} view = subst (λ (p : NodeParts M). TurnsTo {E = E} tells faults reads p (seen n c' pass' new) r) view (record {
+      node = refl;
+      answers = is;
+      does = does-answer r h is answers q;
+      paid = paid;
+      whole = λ t. whole-answer r is (StaysWhole (costs (knows pass).own) (costs (knows pass').own) (reads (parts core).medium) (reads (parts new).medium)) (whole t);
+      tested = tested;
+    })

@@ -1,0 +1,15 @@
+use Rattle.std.proofs.Common.{◌≡◌, take, true}
+use Rattle.std.specs.Prelude.{IsTrue}
+use Rattle.std.specs.List.{filter}
+use Rattle.pseudo_time.specs.Nodes.{is_broker}
+use Rattle.turn_form.specs.Ranges.{AreOuts}
+use Rattle.world_core.specs.Nodes.{leaves}
+use Rattle.world_core.specs.Walks.{Base, Life, all_effects}
+use Rattle.node_turn.specs.Lives.{AskNobody}
+use Rattle.node_turn.proofs.closings.leaving.Given as goal
+
+abbrev pub invariant-loop-out : goal.invariant-loop-out
+invariant-loop-out g l = record {
+  leaving : IsTrue g.M.Medium.tells → (b : Base) (x : Life) → g.K.StoredCore.lives b l.core x → (is_broker l.node.kind ≡ true → AskNobody l.outs) → l.all.items ≡ filter (leaves (all_effects x)) (take l.out-index l.outs);
+  in_range : AreOuts l.all.items;
+}

@@ -1,0 +1,23 @@
+use Rattle.std.proofs.Common.{refl, [], arith, ◌+◌}
+use Rattle.seat_lock.specs.Words.{knows}
+use Rattle.node_turn.specs.Costs.{cost_of_cause}
+use Rattle.node_turn.proofs.LifeLemmas.{on-ok, on-err, stored-looked}
+use Rattle.node_turn.proofs.TrailLemmas.{trail-looked, trail-added}
+use Rattle.node_turn.proofs.FallLemmas.{had-nothing, down-fallen}
+use Rattle.node_turn.proofs.falls.go_down.Goals as goal
+
+pub down-pass-requires-clause-none : goal.down-pass-requires-clause-none
+down-pass-requires-clause-none g c = had-nothing c.args.node (knows c.args.pass) c.requires.struck.due
+
+pub returns-in-Err-clause-keeps : goal.returns-in-Err-clause-keeps
+returns-in-Err-clause-keeps g c = λ gone count. stored-looked c.requires.struck.stored (on-err _ _ _ c.in-Err.is c.down-pass.ensures.err)
+
+pub returns-in-Err-clause-trail : goal.returns-in-Err-clause-trail
+returns-in-Err-clause-trail g c = (0, omega arith, λ ne. absurd (ne refl), trail-looked c.args.node c.requires.struck.stored.own c.requires.pass.own (on-err _ _ _ c.in-Err.is c.down-pass.ensures.err))
+
+pub returns-in-Ok-clause-keeps : goal.returns-in-Ok-clause-keeps
+returns-in-Ok-clause-keeps g c = λ gone count. down-fallen c.args.cause c.requires.struck c.requires.cause (on-ok _ _ _ c.in-Ok.is c.down-pass.ensures.ok)
+
+pub returns-in-Ok-clause-trail : goal.returns-in-Ok-clause-trail
+returns-in-Ok-clause-trail g c =
+    (cost_of_cause c.args.cause + 0, omega arith, λ ne. omega arith, trail-added c.args.node [] (cost_of_cause c.args.cause + 0) c.requires.struck.stored.own c.requires.pass.own refl refl refl (on-ok _ _ _ c.in-Ok.is c.down-pass.ensures.ok).added)

@@ -1,0 +1,81 @@
+use Rattle.std.proofs.Common.{◌<◌, ◌+◌, ◌∙◌, ℕ, refl, sym, subst, arith, []}
+use Rattle.seat_lock.specs.Words.{knows}
+use Rattle.wire_lock.specs.Sights.{base_at}
+use Rattle.wire_lock.proofs.SightLemmas.{up-known}
+use Rattle.node_turn.specs.Costs.{costs, PaysFor}
+use Rattle.node_turn.proofs.CostLemmas.{pays-none}
+use Rattle.node_turn.proofs.LifeLemmas.{on-ok, on-err, stored-looked}
+use Rattle.node_turn.proofs.TrailLemmas.{trail-none, trail-looked, trail-added, trail-cost, grew-added}
+use Rattle.node_turn.proofs.FallLemmas.{crash-few, up-crashed, stored-reopened, struck-reopened, opening-cause, opening-pays, opening-dear}
+use Rattle.node_turn.proofs.falls.open_anew.Goals as goal
+
+pub note_crash-pass-requires-clause-kept : goal.note_crash-pass-requires-clause-kept
+note_crash-pass-requires-clause-kept g c = crash-few c.requires.struck c.reopen-core.ensures c.in-Ok.found c.in-Ok.is
+
+pub returns-in-Ok-noted-clause-keeps : goal.returns-in-Ok-noted-clause-keeps
+returns-in-Ok-noted-clause-keeps g c =
+    up-crashed c.requires.struck c.reopen-core.ensures c.in-Ok.found c.in-Ok.is (on-ok _ _ _ c.in-Ok-noted.is c.note_crash-pass.ensures.ok) (up-known (base_at (knows c.args.pass)) (knows c.args.pass).story c.args.node c.requires.struck.up)
+
+pub returns-in-Ok-noted-clause-trail : goal.returns-in-Ok-noted-clause-trail
+returns-in-Ok-noted-clause-trail g c =
+    (1, trail-added c.args.node [] 1 c.requires.struck.stored.own c.requires.pass.own refl refl refl (on-ok _ _ _ c.in-Ok-noted.is c.note_crash-pass.ensures.ok).added)
+
+pub returns-in-Ok-noted-clause-paid : goal.returns-in-Ok-noted-clause-paid
+returns-in-Ok-noted-clause-paid g c =
+    let e = trail-cost (trail-added c.args.node [] 1 c.requires.struck.stored.own c.requires.pass.own refl refl refl (on-ok _ _ _ c.in-Ok-noted.is c.note_crash-pass.ensures.ok).added) in
+    pays-none _ _ _ _ (omega (arith, e)) c.reopen-core.ensures.same.later
+
+pub returns-in-Ok-noted-clause-dear : goal.returns-in-Ok-noted-clause-dear
+returns-in-Ok-noted-clause-dear g c = λ told ne.
+    let e = trail-cost (trail-added c.args.node [] 1 c.requires.struck.stored.own c.requires.pass.own refl refl refl (on-ok _ _ _ c.in-Ok-noted.is c.note_crash-pass.ensures.ok).added) in
+    omega (arith, e)
+
+pub returns-in-Err-noted-clause-keeps : goal.returns-in-Err-noted-clause-keeps
+returns-in-Err-noted-clause-keeps g c = stored-looked (stored-reopened c.requires.struck c.reopen-core.ensures) (on-err _ _ _ c.in-Err-noted.is c.note_crash-pass.ensures.err)
+
+pub returns-in-Err-noted-clause-trail : goal.returns-in-Err-noted-clause-trail
+returns-in-Err-noted-clause-trail g c = (0, trail-looked c.args.node c.requires.struck.stored.own c.requires.pass.own (on-err _ _ _ c.in-Err-noted.is c.note_crash-pass.ensures.err))
+
+pub returns-in-Err-noted-clause-paid : goal.returns-in-Err-noted-clause-paid
+returns-in-Err-noted-clause-paid g c =
+    let e = trail-cost (trail-looked c.args.node c.requires.struck.stored.own c.requires.pass.own (on-err _ _ _ c.in-Err-noted.is c.note_crash-pass.ensures.err)) in
+    pays-none _ _ _ _ (omega (arith, e)) c.reopen-core.ensures.same.later
+
+pub returns-in-Err-noted-clause-dear : goal.returns-in-Err-noted-clause-dear
+returns-in-Err-noted-clause-dear g c = λ told ne. absurd (ne refl)
+
+pub returns-in-None-clause-keeps : goal.returns-in-None-clause-keeps
+returns-in-None-clause-keeps g c = stored-reopened c.requires.struck c.reopen-core.ensures
+
+pub returns-in-None-clause-trail : goal.returns-in-None-clause-trail
+returns-in-None-clause-trail g c = (0, trail-none c.args.node (knows c.args.pass))
+
+pub returns-in-None-clause-paid : goal.returns-in-None-clause-paid
+returns-in-None-clause-paid g c = pays-none _ _ _ _ (omega arith) c.reopen-core.ensures.same.later
+
+pub returns-in-None-clause-dear : goal.returns-in-None-clause-dear
+returns-in-None-clause-dear g c = λ told ne. absurd (ne refl)
+
+pub go_down-pass-requires-clause-struck : goal.go_down-pass-requires-clause-struck
+go_down-pass-requires-clause-struck g c = struck-reopened c.requires.struck c.reopen-core.ensures
+
+pub go_down-pass-requires-clause-cause : goal.go_down-pass-requires-clause-cause
+go_down-pass-requires-clause-cause g c = opening-cause c.requires.struck c.reopen-core.ensures c.in-Err.fault c.in-Some.cause c.in-Err.is (sym c.down_cause.ensures ∙ c.in-Some.is)
+
+pub returns-in-Some-clause-paid : goal.returns-in-Some-clause-paid
+returns-in-Some-clause-paid g c =
+    let t = c.go_down-pass.ensures.trail in
+    subst (λ (x : ℕ). PaysFor (costs (knows c.args.pass).own + 1) (g.M.Medium.faults (g.K.StoredCore.parts c.args.core).medium) x (g.M.Medium.faults (g.K.StoredCore.parts c.reopen-core.result.0).medium)) (sym (trail-cost t.3))
+    (opening-pays c.requires.struck c.reopen-core.ensures c.in-Err.fault c.in-Some.cause (costs (knows c.args.pass).own) t.0 c.in-Err.is (sym c.down_cause.ensures ∙ c.in-Some.is) t.1)
+
+pub returns-in-Some-clause-dear : goal.returns-in-Some-clause-dear
+returns-in-Some-clause-dear g c = λ told ne.
+    let t = c.go_down-pass.ensures.trail in
+    subst (λ (x : ℕ). costs (knows c.args.pass).own < x) (sym (trail-cost t.3))
+    (opening-dear c.requires.struck c.reopen-core.ensures c.in-Err.fault c.in-Some.cause (costs (knows c.args.pass).own) t.0 c.in-Err.is (sym c.down_cause.ensures ∙ c.in-Some.is) (t.2 ne) told)
+
+pub returns-in-Ok-noted-clause-grew : goal.returns-in-Ok-noted-clause-grew
+returns-in-Ok-noted-clause-grew g c = λ w. grew-added (on-ok _ _ _ c.in-Ok-noted.is c.note_crash-pass.ensures.ok).added
+
+pub returns-in-Some-clause-grew : goal.returns-in-Some-clause-grew
+returns-in-Some-clause-grew g c = λ w. absurd (c.go_down-pass.ensures.stops w)

@@ -1,0 +1,27 @@
+use Rattle.std.proofs.Common.{refl, false, []}
+use Rattle.seat_lock.specs.Words.{knows}
+use Rattle.wire_lock.specs.Sights.{flags_at}
+use Rattle.node_turn.proofs.LifeLemmas.{on-ok, on-err, went-up, up-added, after-added, cause-added}
+use Rattle.node_turn.proofs.TrailLemmas.{trail-looked, trail-added}
+use Rattle.node_turn.proofs.inputs.go.Goals as goal
+
+pub returns-in-Err-clause-trail : goal.returns-in-Err-clause-trail
+returns-in-Err-clause-trail g c = trail-looked c.args.node c.requires.up.own c.requires.pass.own (on-err _ _ _ c.in-Err.is c.go-pass.ensures.err)
+
+pub returns-in-Ok-clause-trail : goal.returns-in-Ok-clause-trail
+returns-in-Ok-clause-trail g c = trail-added c.args.node [] 0 c.requires.up.own c.requires.pass.own refl refl refl (on-ok _ _ _ c.in-Ok.is c.go-pass.ensures.ok).added
+
+pub returns-in-Ok-clause-up : goal.returns-in-Ok-clause-up
+returns-in-Ok-clause-up g c =
+    up-added c.requires.up (on-ok _ _ _ c.in-Ok.is c.go-pass.ensures.ok) (went-up c.args.node.kind (flags_at (knows c.args.pass) c.args.node) false false c.requires.broker c.requires.up.flags) c.go-gave.ensures.given
+    c.added.result c.added.new.draft c.added.ensures.ok c.added.ensures.err c.added.ensures.wanting
+
+pub returns-in-Ok-clause-err : goal.returns-in-Ok-clause-err
+returns-in-Ok-clause-err g c =
+    after-added c.requires.up (on-ok _ _ _ c.in-Ok.is c.go-pass.ensures.ok) (went-up c.args.node.kind (flags_at (knows c.args.pass) c.args.node) false false c.requires.broker c.requires.up.flags) c.go-gave.ensures.given
+    c.added.result c.added.new.draft c.added.ensures.ok c.added.ensures.err c.added.ensures.wanting
+
+pub returns-in-Ok-clause-cause : goal.returns-in-Ok-clause-cause
+returns-in-Ok-clause-cause g c =
+    cause-added c.requires.up (on-ok _ _ _ c.in-Ok.is c.go-pass.ensures.ok) (went-up c.args.node.kind (flags_at (knows c.args.pass) c.args.node) false false c.requires.broker c.requires.up.flags) c.go-gave.ensures.given
+    c.added.result c.added.new.draft c.added.ensures.ok c.added.ensures.err c.added.ensures.wanting

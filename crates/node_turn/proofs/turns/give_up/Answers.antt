@@ -1,0 +1,45 @@
+use Rattle.std.proofs.Common.{refl, arith}
+use Rattle.seat_lock.specs.Words.{knows}
+use Rattle.node_turn.proofs.CostLemmas.{pays-none, pays-one}
+use Rattle.node_turn.proofs.TrailLemmas.{trail-none, trail-cost}
+use Rattle.node_turn.proofs.turns.give_up.Goals as goal
+
+pub returns-in-NoMemory-clause-keeps : goal.returns-in-NoMemory-clause-keeps
+returns-in-NoMemory-clause-keeps g c = rw c.in-NoMemory.is at c.requires.after
+
+pub returns-in-NoMemory-clause-trail : goal.returns-in-NoMemory-clause-trail
+returns-in-NoMemory-clause-trail g c = (0, trail-none c.args.node (knows c.args.pass))
+
+pub returns-in-NoMemory-clause-paid : goal.returns-in-NoMemory-clause-paid
+returns-in-NoMemory-clause-paid g c = λ before rose le. pays-none _ _ _ _ (omega arith) le
+
+pub returns-in-NoMemory-clause-dear : goal.returns-in-NoMemory-clause-dear
+returns-in-NoMemory-clause-dear g c = λ told ne. absurd (ne refl)
+
+pub open_anew-requires-clause-struck : goal.open_anew-requires-clause-struck
+open_anew-requires-clause-struck g c = rw c.in-Medium.is at c.requires.after
+
+pub returns-in-Medium-clause-paid : goal.returns-in-Medium-clause-paid
+returns-in-Medium-clause-paid g c = λ before rose le first r. c.open_anew.ensures.paid first (pays-one _ _ _ _ (omega arith) (rose c.in-Medium.is) first r)
+
+pub go_down-pass-requires-clause-struck : goal.go_down-pass-requires-clause-struck
+go_down-pass-requires-clause-struck g c = (rw c.in-Damaged.is at c.requires.after).0
+
+pub go_down-pass-requires-clause-cause : goal.go_down-pass-requires-clause-cause
+go_down-pass-requires-clause-cause g c = (rw c.in-Damaged.is at c.requires.after).1
+
+pub returns-in-Damaged-clause-trail : goal.returns-in-Damaged-clause-trail
+returns-in-Damaged-clause-trail g c = let t = c.go_down-pass.ensures.trail in (t.0, t.3)
+
+pub returns-in-Damaged-clause-paid : goal.returns-in-Damaged-clause-paid
+returns-in-Damaged-clause-paid g c = λ before rose le.
+    let t = c.go_down-pass.ensures.trail in
+    let e = trail-cost t.3 in
+    let few = t.1 in
+    pays-none _ _ _ _ (omega (arith, e, few)) le
+
+pub returns-in-Damaged-clause-dear : goal.returns-in-Damaged-clause-dear
+returns-in-Damaged-clause-dear g c = λ told ne. absurd ((rw c.in-Damaged.is at c.requires.after).1 told)
+
+pub returns-in-Damaged-clause-grew : goal.returns-in-Damaged-clause-grew
+returns-in-Damaged-clause-grew g c = λ w. absurd (c.go_down-pass.ensures.stops w)

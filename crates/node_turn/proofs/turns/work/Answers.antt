@@ -1,0 +1,90 @@
+use Rattle.std.proofs.Common.{◌+◌, ◌∙◌, ◌||◌, Bool, refl, sym, ap, subst, arith, Ok, Err, true, false}
+use Rattle.seat_lock.specs.Words.{knows}
+use Rattle.medium_port.specs.Image.{Image}
+use Rattle.pseudo_time.specs.Nodes.{is_broker}
+use Rattle.version_store.specs.Filling.{KeepsPages, StaysClean}
+use Rattle.node_turn.specs.Lives.{DraftParts, IsUp, IsAfter}
+use Rattle.node_turn.proofs.CostLemmas.{pays-none}
+use Rattle.node_turn.proofs.LifeLemmas.{if-ok, if-err, either-gone}
+use Rattle.node_turn.proofs.PageLemmas.{whole-same}
+use Rattle.node_turn.proofs.SeekLemmas.{tested-none, tested-after}
+use Rattle.node_turn.proofs.TrailLemmas.{trail-joins, trail-cost, grew-more, more-grew}
+use Rattle.node_turn.proofs.turns.work.Goals as goal
+
+pub give_up-pass-requires-clause-after : goal.give_up-pass-requires-clause-after
+give_up-pass-requires-clause-after g c =
+    subst (IsAfter g.M.Medium.tells g.K.StoredCore.parts g.K.StoredCore.fits g.K.StoredCore.lives g.K.StoredCore.owes g.M.Medium.page_count g.M.Medium.reads g.M.Medium.may_leave c.in-Err.fault c.begin-pass.new.core (knows c.begin-pass.result.0) c.args.node)
+    (ap (λ (d : DraftParts). d.durable) c.new-draft.ensures) (if-err _ _ _ c.in-Err.is c.begin-pass.ensures.err)
+
+pub returns-in-Err-clause-paid : goal.returns-in-Err-clause-paid
+returns-in-Err-clause-paid g c =
+    let e = trail-cost c.begin-pass.ensures.trail in
+    λ first r. c.give_up-pass.ensures.paid (g.M.Medium.faults (g.K.StoredCore.parts c.args.hand.core).medium) (λ m. c.begin-pass.ensures.cause (c.in-Err.is ∙ ap (λ f. Err f) m)) c.begin-pass.ensures.unwritten.later
+    first (pays-none _ _ _ _ (omega (arith, e)) (omega arith) first r)
+
+pub returns-in-Err-clause-whole : goal.returns-in-Err-clause-whole
+returns-in-Err-clause-whole g c = λ told ne same.
+    let e = trail-cost c.begin-pass.ensures.trail in
+    let d = c.give_up-pass.ensures.dear told ne in
+    absurd (omega (arith, e, d, same))
+
+pub returns-in-Err-clause-tested : goal.returns-in-Err-clause-tested
+returns-in-Err-clause-tested g c = λ told repository.
+    let q = c.give_up-pass.ensures.trail in
+    tested-none c.args.node (knows c.args.pass) (knows c.give_up-pass.result.0) (0 + q.0) (trail-joins c.begin-pass.ensures.trail q.1)
+
+pub returns-in-Err-clause-quiet : goal.returns-in-Err-clause-quiet
+returns-in-Err-clause-quiet g c = λ w.
+    let t = c.begin-pass.ensures.trail in
+    more-grew (knows c.args.pass).own (knows c.begin-pass.result.0).own (knows c.give_up-pass.result.0).own (t.own, t.adds) (c.give_up-pass.ensures.grew w)
+
+pub go_on-pass-requires-clause-up : goal.go_on-pass-requires-clause-up
+go_on-pass-requires-clause-up g c =
+    let up = λ (gone begun : Bool). IsUp g.M.Medium.tells g.K.StoredCore.parts g.K.StoredCore.fits g.K.StoredCore.lives g.K.StoredCore.owes g.M.Medium.page_count g.M.Medium.reads g.M.Medium.may_leave c.begin-pass.new.core (knows c.begin-pass.result.0) c.args.node gone begun c.begin-pass.new.draft in
+    subst (λ (gone : Bool). up gone true) (sym c.has_gone-gone.ensures)
+    (subst (λ (begun : Bool). up (c.args.hand.gone || is_broker c.args.node.kind) begun) c.if-started.true (if-ok _ _ _ c.in-Ok.is c.begin-pass.ensures.up))
+
+pub go_on-pass-requires-clause-gone : goal.go_on-pass-requires-clause-gone
+go_on-pass-requires-clause-gone g c = λ h. c.has_gone-gone.ensures ∙ either-gone c.args.hand.gone (is_broker c.args.node.kind) h
+
+pub returns-then-started-clause-paid : goal.returns-then-started-clause-paid
+returns-then-started-clause-paid g c =
+    let e = trail-cost c.begin-pass.ensures.trail in
+    λ first r. c.go_on-pass.ensures.paid first (pays-none _ _ _ _ (omega (arith, e)) c.begin-pass.ensures.unwritten.later first r)
+
+pub returns-then-started-clause-whole : goal.returns-then-started-clause-whole
+returns-then-started-clause-whole g c = λ told ne same.
+    let e = trail-cost c.begin-pass.ensures.trail in
+    subst (λ (x : Image). KeepsPages x (g.M.Medium.reads (g.K.StoredCore.parts c.go_on-pass.result.1.core).medium) × StaysClean x (g.M.Medium.reads (g.K.StoredCore.parts c.go_on-pass.result.1.core).medium))
+    (c.begin-pass.ensures.unwritten.still told) (c.go_on-pass.ensures.whole told ne (omega (arith, e, same)))
+
+pub returns-then-started-clause-tested : goal.returns-then-started-clause-tested
+returns-then-started-clause-tested g c = λ told repository.
+    tested-after c.args.node (knows c.args.pass) (knows c.begin-pass.result.0) (knows c.go_on-pass.result.0) c.begin-pass.ensures.trail (c.go_on-pass.ensures.tested told repository)
+
+pub returns-then-started-clause-quiet : goal.returns-then-started-clause-quiet
+returns-then-started-clause-quiet g c = λ w. grew-more (knows c.args.pass).own (knows c.begin-pass.result.0).own (knows c.go_on-pass.result.0).own (c.begin-pass.ensures.grew (c.in-Ok.is ∙ ap (λ b. Ok b) c.if-started.true)) c.go_on-pass.ensures.adds
+
+pub returns-clause-keeps : goal.returns-clause-keeps
+returns-clause-keeps g c =
+    let up = λ (gone begun : Bool) (d : DraftParts). IsUp g.M.Medium.tells g.K.StoredCore.parts g.K.StoredCore.fits g.K.StoredCore.lives g.K.StoredCore.owes g.M.Medium.page_count g.M.Medium.reads g.M.Medium.may_leave c.begin-pass.new.core (knows c.begin-pass.result.0) c.args.node gone begun d in
+    let q = c.begin-pass.ensures.quiet (c.in-Ok.is ∙ ap (λ b. Ok b) c.if-started.false) in
+    subst (λ (d : DraftParts). up c.has_gone-gone.result false d) (q.1 ∙ c.new-draft.ensures)
+    (subst (λ (gone : Bool). up gone false c.begin-pass.new.draft) (sym c.has_gone-gone.ensures)
+    (subst (λ (begun : Bool). up (c.args.hand.gone || is_broker c.args.node.kind) begun c.begin-pass.new.draft) c.if-started.false (if-ok _ _ _ c.in-Ok.is c.begin-pass.ensures.up)))
+
+pub returns-clause-paid : goal.returns-clause-paid
+returns-clause-paid g c =
+    let e = trail-cost c.begin-pass.ensures.trail in
+    pays-none _ _ _ _ (omega (arith, e)) c.begin-pass.ensures.unwritten.later
+
+pub returns-clause-whole : goal.returns-clause-whole
+returns-clause-whole g c = λ told ne same.
+    subst (λ (x : Image). KeepsPages (g.M.Medium.reads (g.K.StoredCore.parts c.args.hand.core).medium) x × StaysClean (g.M.Medium.reads (g.K.StoredCore.parts c.args.hand.core).medium) x)
+    (sym (c.begin-pass.ensures.unwritten.still told)) (whole-same (g.M.Medium.reads (g.K.StoredCore.parts c.args.hand.core).medium))
+
+pub returns-clause-tested : goal.returns-clause-tested
+returns-clause-tested g c = λ told repository. tested-none c.args.node (knows c.args.pass) (knows c.begin-pass.result.0) 0 c.begin-pass.ensures.trail
+
+pub returns-clause-quiet : goal.returns-clause-quiet
+returns-clause-quiet g c = ((c.begin-pass.ensures.quiet (c.in-Ok.is ∙ ap (λ b. Ok b) c.if-started.false)).0, refl)

@@ -1,0 +1,105 @@
+-- What the calls of a core that keeps its log on a medium do. Logs stand oldest first.
+use Rattle.std.specs.Prelude.{◌≡◌, ◌≢◌, ◌≤◌, ◌<◌, ℕ, Bool, true, List, [], ◌++◌, length, count_by, Result, Ok, IsTrue, IfOk, IfErr, OnOk, IsErrOf}
+use Rattle.stream_port.specs.Causes.{Rose}
+use Rattle.medium_port.specs.Image.{Image, NoMore}
+use Rattle.page_gate.specs.States.{is_blank}
+use Rattle.pseudo_time.specs.declared.nodes.NodeId.{NodeId}
+use Rattle.effect_form.specs.declared.effects.Effect.{Effect}
+use Rattle.turn_form.specs.declared.turns.Turn.{Turn}
+use Rattle.turn_form.specs.Ranges.{AreEffects, AreOuts}
+use Rattle.object_history.specs.declared.steps.HistoryFault.{HistoryFault}
+use Rattle.object_history.specs.declared.steps.HistoryFault.TheVariants as fault
+use Rattle.object_history.specs.Causes.{IsNotDamage}
+use Rattle.version_store.specs.declared.faults.StoreFault.{StoreFault}
+use Rattle.version_store.specs.declared.faults.StoreFault.TheVariants as adding
+use Rattle.version_store.specs.declared.faults.OpenFault.{OpenFault}
+use Rattle.version_store.specs.declared.faults.OpenFault.TheVariants as opening
+use Rattle.version_store.specs.Filling.{HasPrefix, KeepsPages, StaysClean, filling}
+use Rattle.version_store.specs.Storage.{storage}
+use Rattle.world_core.specs.Nodes.{Input, Given, gives, is_ready}
+use Rattle.world_core.specs.Walks.{Base, Life, all_effects, opened_life, gated_life, after_input}
+
+-- a core, as contracts see it beside its life
+pub record CoreParts (M : Type 0) : Type 0 where
+  pub node : NodeId
+  -- it can be given inputs: none of its calls has failed since it was opened
+  pub able : Bool
+  pub medium : M
+
+-- a crash leaves no image but those of this log
+abbrev pub LeavesLog : (Image → Type 0) → List Effect → Type 0
+LeavesLog images log = (c : Image) → images c → storage c ≡ Ok log
+
+-- what the rules give a node of this life for an input
+abbrev pub given_for : Base → NodeId → Life → Input → Given
+given_for b n l input = gives b.script b.run b.acts n (all_effects l) l.mind input
+
+-- the turn has the effects and the messages that were given
+abbrev pub HasTurn : Given → Turn → Type 0
+HasTurn g t = (t.effects ≡ g.effects) × (t.outs ≡ g.outs)
+
+-- the node's log shows neither a later run nor another plan
+abbrev pub IsReady : Base → NodeId → List Effect → Type 0
+IsReady b n log = is_ready b.script b.run b.acts n log ≡ true
+
+-- The meanings of a type K of cores over media of a type M: whether media tell their content; the parts of a core; whether it is one
+-- of the run that a walk begins with; whether it has a life, with the durable log on its medium; and whether these are the effects
+-- that it gave since its last append.
+module _ {K M : Type 0} (tells : Bool) (parts : K → CoreParts M) (fits : Base → K → Type 0) (lives : Base → K → Life → Type 0) (owes : K → List Effect → Type 0)
+    (faults pages : M → ℕ) (reads : M → Image) (may_leave : M → Image → Type 0) where
+  -- it stays the core of its node in its run, and its medium's count of faults doesn't fall
+  pub record StaysOwn (old new : K) : Type 0 where
+    pub node : (parts new).node ≡ (parts old).node
+    pub run : (b : Base) → fits b old → fits b new
+    pub later : faults (parts old).medium ≤ faults (parts new).medium
+
+  -- An input was given: the turn is what the rules give, and the core has the life after it. Nothing was written. A fault of the medium
+  -- comes only where its count rose, and a damaged page never where media tell their content.
+  pub record IsGiven (old new : K) (input : Input) (result : Result Turn HistoryFault) : Type 0 where
+    pub same : StaysOwn old new
+    pub able : OnOk result ((parts new).able ≡ true)
+    pub gave : IsTrue tells → (b : Base) (l : Life) → fits b old → lives b old l → IfOk result (λ t. HasTurn (given_for b (parts old).node l input) t × lives b new (after_input b (parts old).node l input))
+    pub owed : (es : List Effect) → owes old es → IfOk result (λ t. owes new (es ++ t.effects))
+    pub in_range : IfOk result (λ t. AreEffects t.effects × AreOuts t.outs)
+    pub still : IsTrue tells → reads (parts new).medium ≡ reads (parts old).medium
+    pub images : IsTrue tells → NoMore (may_leave (parts old).medium) (may_leave (parts new).medium)
+    pub cause : IsErrOf result fault.Medium → Rose (faults (parts old).medium) (faults (parts new).medium)
+    pub sound : IsTrue tells → IfErr result IsNotDamage
+
+  -- The effects need more pages than are blank. The number is that of all its pages.
+  pub record IsFull (m : M) (effects : List Effect) (number : ℕ) : Type 0 where
+    pub all : number ≡ pages m
+    pub blank : IsTrue tells → count_by is_blank (reads m) < length (filling effects)
+
+  -- The new effects were added to the log on the medium: the core has the life after it, and a crash leaves that log. Where they
+  -- weren't, a crash leaves the old log with a beginning of them; only a fault of the medium comes after anything was written.
+  pub record IsAppended {T : Type 0} (old new : K) (effects : List Effect) (result : Result T StoreFault) : Type 0 where
+    pub same : StaysOwn old new
+    pub able : OnOk result (((parts new).able ≡ true) × owes new [])
+    pub has : IsTrue tells → (b : Base) (l : Life) → lives b old l → l.fresh ≡ effects → OnOk result (lives b new (gated_life l))
+    pub left : IsTrue tells → (log : List Effect) → LeavesLog (may_leave (parts old).medium) log → OnOk result (LeavesLog (may_leave (parts new).medium) (log ++ effects))
+    pub images : IsTrue tells → (log : List Effect) → LeavesLog (may_leave (parts old).medium) log → (c : Image) → may_leave (parts new).medium c → HasPrefix log effects c
+    pub clean : IsTrue tells → OnOk result (KeepsPages (reads (parts old).medium) (reads (parts new).medium) × StaysClean (reads (parts old).medium) (reads (parts new).medium))
+    pub nothing : IfErr result (λ f. f ≢ adding.Medium → (parts new).medium ≡ (parts old).medium)
+    pub full : IfErr result (λ f. (number : ℕ) → f ≡ adding.Full number → IsFull (parts old).medium effects number)
+    pub cause : IsErrOf result adding.Medium → Rose (faults (parts old).medium) (faults (parts new).medium)
+
+  -- The log that was found on an image that a crash could leave; so many effects stand in it.
+  pub record HasFound (old new : K) (count : ℕ) : Type 0 where
+    pub image : Image
+    pub left : may_leave (parts old).medium image
+    pub log : List Effect
+    pub is : storage image ≡ Ok log
+    pub size : length log ≡ count
+    pub only : LeavesLog (may_leave (parts new).medium) log
+    pub has : (b : Base) → fits b old → lives b new (opened_life b.start log)
+
+  -- The medium was opened anew, and the core over the log that was found. A damaged page never comes where each image that a crash
+  -- could leave has a log that shows neither a later run nor another plan.
+  pub record IsReopened (old new : K) (result : Result ℕ OpenFault) : Type 0 where
+    pub same : StaysOwn old new
+    pub able : OnOk result (((parts new).able ≡ true) × owes new [])
+    pub found : IsTrue tells → IfOk result (HasFound old new)
+    pub images : IsTrue tells → NoMore (may_leave (parts old).medium) (may_leave (parts new).medium)
+    pub cause : IsErrOf result opening.Medium → Rose (faults (parts old).medium) (faults (parts new).medium)
+    pub sound : IsTrue tells → (b : Base) → fits b old → ((c : Image) → may_leave (parts old).medium c → (log : List Effect) × (storage c ≡ Ok log) × IsReady b (parts old).node log) → (page : ℕ) → IsErrOf result (opening.Damaged page) → ⊥

@@ -1,0 +1,6 @@
+pub mod Cores
+pub mod Lives
+pub mod Costs
+pub mod Trails
+pub mod Nodes
+pub mod Came

@@ -1,0 +1,102 @@
+-- A node between its turns, and what a turn does.
+use Rattle.std.specs.Prelude.{◌≡◌, ℕ, Bool, true, false, List, [], ◌∷◌, ◌++◌, Result, Ok, Err, IsTrue, IfOk, OnOk}
+use Rattle.pseudo_time.specs.declared.nodes.NodeId.{NodeId}
+use Rattle.pseudo_time.specs.Nodes.{is_broker}
+use Rattle.pseudo_time.specs.declared.down_causes.DownCause.{DownCause}
+use Rattle.medium_port.specs.Image.{Image}
+use Rattle.version_store.specs.Filling.{KeepsPages, StaysClean}
+use Rattle.atomic_table.specs.declared.shared.Seat.{Seat}
+use Rattle.seat_lock.specs.declared.views.View.{View}
+use Rattle.seat_lock.specs.Words.{knows}
+use Rattle.seat_lock.specs.Story.{longer}
+use Rattle.world_core.specs.declared.entries.Entry.{Entry}
+use Rattle.world_core.specs.declared.entries.Entry.TheVariants.{Down}
+use Rattle.world_core.specs.Legal.{HasGone, is_behind}
+use Rattle.wire_core.specs.Wires.{WireParts}
+use Rattle.wire_lock.specs.Sights.{Sight, IsOf, Looked, world_at, life_at, flags_at}
+use Rattle.node_turn.specs.declared.conditions.Condition.{Condition}
+use Rattle.node_turn.specs.declared.conditions.Condition.TheVariants as condition
+use Rattle.node_turn.specs.declared.conditions.Turned.{Turned}
+use Rattle.node_turn.specs.declared.conditions.Turned.TheVariants.{Worked, Quiet, Stopped}
+use Rattle.node_turn.specs.Lives.{IsKept, IsCause}
+use Rattle.node_turn.specs.Costs.{costs, PaysFor}
+use Rattle.node_turn.specs.Trails.{HasTested}
+
+-- a node, as contracts see it
+pub record NodeParts (M : Type 0) : Type 0 where
+  pub node : NodeId
+  pub condition : Condition
+  pub pass : Seat WireParts (View WireParts Entry)
+  pub medium : M
+
+-- what the node's pass has seen
+abbrev pub sight : {M : Type 0} → NodeParts M → Sight
+sight p = knows p.pass
+
+-- a node that was just opened
+abbrev pub new_node : {M : Type 0} → NodeId → Seat WireParts (View WireParts Entry) → M → NodeParts M
+new_node n pass medium = record { node = n; condition = condition.AtWork; pass = pass; medium = medium }
+
+-- there is more
+abbrev pub Grew : {E : Type 0} → List E → List E → Type 0
+Grew old new = (e : _) × (rest : List _) × (new ≡ old ++ e ∷ rest)
+
+-- the condition that a turn's answer tells
+abbrev pub IsCondition : {E : Type 0} → Result Turned E → Condition → Type 0
+IsCondition (Ok Worked) c = c ≡ condition.AtWork
+IsCondition (Ok Quiet) c = c ≡ condition.AtWork
+IsCondition (Ok Stopped) c = (cause : DownCause) × (c ≡ condition.Down cause)
+IsCondition (Err e) c = c ≡ condition.Wanting
+
+-- the answer of a turn that left the node up says whether anything was due
+abbrev pub Answers : Bool → Turned → Type 0
+Answers quiet Worked = quiet ≡ false
+Answers quiet Quiet = quiet ≡ true
+Answers quiet Stopped = Unit {0}
+
+-- No entry was added, and the node has nothing to do but to take copies: none was due.
+pub record IsQuiet (n : NodeId) (old new : Sight) : Type 0 where
+  pub same : new.own ≡ old.own
+  pub heard : is_behind (world_at new) n ≡ false
+  pub gone : HasGone (world_at new) n
+
+-- What a turn that answers this does: Worked adds entries, and leaves the node up; Quiet adds none; Stopped leaves it down.
+abbrev pub Does : Turned → NodeId → Sight → Sight → Type 0
+Does Worked n old new = Grew old.own new.own × ((flags_at new n).up ≡ true)
+Does Quiet n old new = IsQuiet n old new × ((flags_at new n).up ≡ true)
+Does Stopped n old new = (flags_at new n).up ≡ false
+
+-- Where no entry costs a fault, no page that was blank is spoiled, and no other is written.
+abbrev pub StaysWhole : ℕ → ℕ → Image → Image → Type 0
+StaysWhole cost new_cost old new = new_cost ≡ cost → KeepsPages old new × StaysClean old new
+
+-- A turn, with its answer: what it did, what it cost in faults, and what the board was tested for.
+pub record TurnsTo {M E : Type 0} (tells : Bool) (faults : M → ℕ) (reads : M → Image) (old new : NodeParts M) (result : Result Turned E) : Type 0 where
+  pub node : new.node ≡ old.node
+  pub answers : IsCondition result new.condition
+  pub does : IfOk result (λ t. Does t old.node (sight old) (sight new))
+  pub paid : PaysFor (costs (sight old).own) (faults old.medium) (costs (sight new).own) (faults new.medium)
+  pub whole : IsTrue tells → OnOk result (StaysWhole (costs (sight old).own) (costs (sight new).own) (reads old.medium) (reads new.medium))
+  pub tested : IsTrue tells → is_broker old.node.kind ≡ false → HasTested old.node (sight old) (sight new)
+
+-- A meeting with a pass that had seen this: the node has then seen the longer of the two stories, and all else of it is as before.
+pub record MeetsWith {M : Type 0} (other : Sight) (old new : NodeParts M) : Type 0 where
+  pub node : new.node ≡ old.node
+  pub condition : new.condition ≡ old.condition
+  pub medium : new.medium ≡ old.medium
+  pub looked : Looked (sight old) (sight new)
+  pub longest : (sight new).story ≡ longer (sight old).story other.story
+
+module _ {M : Type 0} (tells : Bool) (pages : M → ℕ) (reads : M → Image) (may_leave : M → Image → Type 0) where
+  -- what a node's condition says of its entries
+  abbrev pub Stands : Condition → NodeParts M → Type 0
+  Stands condition.AtWork p = ((flags_at (sight p) p.node).up ≡ true) × (IsTrue tells → (life_at (sight p) p.node).fresh ≡ [])
+  Stands (condition.Down cause) p = ((flags_at (sight p) p.node).up ≡ false) × ((before : List Entry) × ((sight p).own ≡ before ++ Down p.node cause ∷ [])) × IsCause tells pages reads cause p.medium (life_at (sight p) p.node)
+  Stands condition.Wanting p = Unit {0}
+
+  -- What a node is at rest: a crash now leaves its durable log with a beginning of its new effects, of which there are none while it is up; and
+  -- where it is down, its last entry says so, and why.
+  pub record IsAtRest (p : NodeParts M) : Type 0 where
+    pub own : IsOf p.node (sight p)
+    pub kept : IsTrue tells → (c : Image) → may_leave p.medium c → IsKept (life_at (sight p) p.node) c
+    pub stands : Stands p.condition p

@@ -1,0 +1,162 @@
+//! How a turn is closed: the effects are made durable, and then the gate sends what waits for them.
+ghost use Rattle.std.specs.Prelude.{◌≡◌, ◌≤◌, ◌++◌, ◌∷◌, [], true, false, ℕ, IsTrue, IfOk, IfErr, OnOk, OnErr, IsErrOf};
+ghost use Rattle.message_form.specs.Messages.{IsMessage};
+ghost use Rattle.std.specs.List.{filter};
+ghost use Rattle.pseudo_time.specs.Nodes.{is_broker};
+ghost use Rattle.stream_port.specs.Causes.{Rose};
+ghost use Rattle.turn_form.specs.Ranges.{AreOuts};
+ghost use Rattle.version_store.specs.declared.faults.StoreFault.TheVariants as adding;
+ghost use Rattle.version_store.specs.Filling.{KeepsPages, StaysClean};
+ghost use Rattle.seat_lock.specs.Words.{knows};
+ghost use Rattle.world_core.specs.Nodes.{leaves};
+ghost use Rattle.world_core.specs.Walks.{Base, Life, all_effects};
+ghost use Rattle.wire_core.specs.Changes.{owed};
+ghost use Rattle.wire_lock.specs.Decisions.{decided_by, decision_in};
+ghost use Rattle.wire_lock.specs.Sights.{IsWirePass, world_at};
+ghost use Rattle.broker_laws.specs.Works.{AsksNobody};
+ghost use Rattle.node_turn.specs.Lives.{AskNobody, IsUp, IsAfterAppend, no_draft};
+ghost use Rattle.node_turn.specs.Trails.{Trail};
+
+use crate::cores::StoredCore;
+use crate::drafts::Draft;
+use crate::lookups::stamp_asked;
+use effect_form::Effect;
+use medium_port::Medium;
+use pseudo_time::{Decision, NodeId, NodeKind, Stamp};
+use std::alloc::{AllocError, Global};
+use std::sync::Wait;
+use stream_port::{Clock, Fates};
+use turn_form::Out;
+use version_store::StoreFault;
+use wire_lock::{SharedWire, WirePass};
+
+// Whether a message leaves at the gate: all but a repository's Ask for an attempt that its log knows.
+fn leaves<K: StoredCore<M>, M: Medium>(node: NodeId, core: &K, out: &Out) -> bool
+    requires able { (K.parts core.now).able ≡ true }
+    requires node { (K.parts core.now).node ≡ node }
+    ensures { IsTrue M.tells → (b : Base) (l : Life) → K.lives b core.now l → (is_broker node.kind ≡ true → AsksNobody out.now.message) → result ≡ leaves (all_effects l) out.now }
+{
+    if node.kind == NodeKind::Broker {
+        return true;
+    }
+    match stamp_asked(out) {
+        Some(stamp) => !core.knows(stamp),
+        None => true,
+    }
+}
+
+// Adds a message, where it leaves.
+fn add_leaving<K: StoredCore<M>, M: Medium>(
+    alloc: Global,
+    node: NodeId,
+    core: &K,
+    out: &Out,
+    all: &mut Vec<Out>,
+) -> Result<(), AllocError>
+    requires able { (K.parts core.now).able ≡ true }
+    requires node { (K.parts core.now).node ≡ node }
+    ensures leaving { IsTrue M.tells → (b : Base) (l : Life) → K.lives b core.now l → (is_broker node.kind ≡ true → AsksNobody out.now.message) → OnOk result (all.new.items ≡ all.old.items ++ filter (leaves (all_effects l)) (out.now ∷ [])) }
+    ensures in_range { IsMessage out.now.message → AreOuts all.old.items → OnOk result (AreOuts all.new.items) }
+{
+    if leaves(node, core, out) {
+        let out = out.copy(alloc)?;
+        all.push(out)?;
+    }
+    Ok(())
+}
+
+// The messages that leave at the gate, in order.
+fn leaving<K: StoredCore<M>, M: Medium>(
+    alloc: Global,
+    node: NodeId,
+    core: &K,
+    outs: &[Out],
+) -> Result<Vec<Out>, AllocError>
+    requires able { (K.parts core.now).able ≡ true }
+    requires node { (K.parts core.now).node ≡ node }
+    requires in_range { AreOuts outs.now }
+    ensures leaving { IsTrue M.tells → (b : Base) (l : Life) → K.lives b core.now l → (is_broker node.kind ≡ true → AskNobody outs.now) → IfOk result (λ all. all.items ≡ filter (leaves (all_effects l)) outs.now) }
+    ensures in_range { IfOk result (λ all. AreOuts all.items) }
+{
+    let mut all = Vec::new(alloc);
+    for out in outs {
+        add_leaving(alloc, node, core, out, &mut all)?;
+    }
+    Ok(all)
+}
+
+// Adds the decision that an effect is, where the attempt's home is this node.
+fn add_decision(
+    node: NodeId,
+    effect: &Effect,
+    all: &mut Vec<(Stamp, bool)>,
+) -> Result<(), AllocError>
+    ensures { OnOk result (all.new.items ≡ all.old.items ++ decision_in node effect.now) }
+{
+    if let Effect::Decide { stamp, decision } = effect {
+        if NodeId::repository(stamp.home()) == node {
+            all.push((*stamp, *decision == Decision::Committed))?;
+        }
+    }
+    Ok(())
+}
+
+// The decisions among the effects whose attempt has this node as its home, in order.
+fn decisions(
+    alloc: Global,
+    node: NodeId,
+    effects: &[Effect],
+) -> Result<Vec<(Stamp, bool)>, AllocError>
+    ensures { IfOk result (λ all. all.items ≡ decided_by node effects.now) }
+{
+    let mut all = Vec::new(alloc);
+    for effect in effects {
+        add_decision(node, effect, &mut all)?;
+    }
+    Ok(all)
+}
+
+/// Closes a turn. Ok tells how many effects are then durable.
+pub fn close<K: StoredCore<M>, F: Fates, C: Clock, M: Medium, R: Wait>(
+    alloc: Global,
+    rt: &R,
+    wire: &SharedWire<F, C, M>,
+    node: NodeId,
+    gone: bool,
+    core: K,
+    draft: &Draft,
+    pass: WirePass<F, C, M>,
+) -> (WirePass<F, C, M>, K, Result<usize, StoreFault>)
+    requires pass { IsWirePass wire.now.lock pass }
+    requires up { IsUp M.tells K.parts K.fits K.lives K.owes M.page_count M.reads M.may_leave core (knows pass) node gone true draft.now }
+    ensures pass { IsWirePass wire.now.lock result.0 }
+    ensures up { IfOk result.2 (λ durable. IsUp M.tells K.parts K.fits K.lives K.owes M.page_count M.reads M.may_leave result.1 (knows result.0) node gone false (no_draft durable)) }
+    ensures err { IfErr result.2 (λ f. IsAfterAppend M.tells K.parts K.fits K.lives K.owes M.page_count M.reads M.may_leave f result.1 (knows result.0) node draft.now.durable) }
+    ensures sent { OnOk result.2 (Trail node (knows pass) (knows result.0) (owed (world_at (knows pass)) node) [] [] 0) }
+    ensures unsent { OnErr result.2 (Trail node (knows pass) (knows result.0) [] [] [] 0) }
+    ensures later { M.faults (K.parts core).medium ≤ M.faults (K.parts result.1).medium }
+    ensures clean { IsTrue M.tells → OnOk result.2 (KeepsPages (M.reads (K.parts core).medium) (M.reads (K.parts result.1).medium) × StaysClean (M.reads (K.parts core).medium) (M.reads (K.parts result.1).medium)) }
+    ensures nothing { IfErr result.2 (λ f. (number : ℕ) → f ≡ adding.Full number → (K.parts result.1).medium ≡ (K.parts core).medium) }
+    ensures cause { IsErrOf result.2 adding.Medium → Rose (M.faults (K.parts core).medium) (M.faults (K.parts result.1).medium) }
+{
+    let Ok(outs) = leaving(alloc, node, &core, draft.outs()) else {
+        return (pass, core, Err(StoreFault::NoMemory));
+    };
+    let Ok(decides) = decisions(alloc, node, draft.effects()) else {
+        return (pass, core, Err(StoreFault::NoMemory));
+    };
+    let Some(durable) = draft.durable().checked_add(draft.effects().len()) else {
+        return (pass, core, Err(StoreFault::NoMemory));
+    };
+    let (core, appended) = core.append(draft.effects());
+    match appended {
+        Err(fault) => (pass, core, Err(fault)),
+        Ok(()) => {
+            let (pass, gated) = wire.gate(rt, node, pass, outs.as_slice(), decides.as_slice());
+            match gated {
+                Err(_) => (pass, core, Err(StoreFault::NoMemory)),
+                Ok(()) => (pass, core, Ok(durable)),
+            }
+        }
+    }
+}

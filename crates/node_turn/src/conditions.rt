@@ -1,0 +1,21 @@
+use pseudo_time::DownCause;
+
+/// How a node stands between two turns.
+#[derive(Clone, Copy, Debug, PartialEq, Eq)]
+pub enum Condition {
+    AtWork,
+    /// It stopped for good.
+    Down { cause: DownCause },
+    /// A turn found no memory: nothing is done any more.
+    Wanting,
+}
+
+/// What came of a turn.
+#[derive(Clone, Copy, Debug, PartialEq, Eq)]
+pub enum Turned {
+    Worked,
+    /// Nothing was due.
+    Quiet,
+    /// The node is down.
+    Stopped,
+}

@@ -1,0 +1,174 @@
+//! A node: its core with its medium, and its pass.
+ghost use Rattle.std.specs.Prelude.{◌≡◌, false, IsTrue, IfOk};
+ghost use Rattle.seat_lock.specs.Words.{knows};
+ghost use Rattle.wire_lock.specs.Sights.{IsWirePass, Looked, base_at, life_at};
+ghost use Rattle.node_turn.specs.Lives.{IsUp, no_draft};
+ghost use Rattle.node_turn.specs.Nodes.{TurnsTo, MeetsWith, IsAtRest, IsCondition, Answers, new_node, sight};
+
+use crate::conditions::{Condition, Turned};
+use crate::cores::StoredCore;
+use crate::hands::Hand;
+use crate::turns::work;
+use medium_port::Medium;
+use pseudo_time::NodeId;
+use std::alloc::{AllocError, Global};
+use std::marker::Model;
+use std::sync::Wait;
+use stream_port::{Clock, Fates};
+use wire_lock::{SharedWire, WirePass};
+
+/// A node of a run: its core, its medium and its pass.
+///
+/// Contracts see its name, how it stands, its pass and its medium. Between two turns what it keeps is
+/// that of its life in what its pass has seen, so that nothing which other nodes do can touch it.
+#[derive(Drop)]
+pub struct Node<K: StoredCore<M>, F: Fates, C: Clock, M: Medium> {
+    alloc: Global,
+    node: NodeId,
+    hand: Hand<K>,
+    pass: WirePass<F, C, M>,
+}
+
+impl<K: StoredCore<M>, F: Fates, C: Clock, M: Medium> Model for Node<K, F, C, M> {
+    ghost use Rattle.std.specs.Coded.{codes};
+    ghost use Rattle.value_form.specs.contracts.scripts.Stmt as stmt;
+    ghost use Rattle.seat_lock.specs.Words.{knows};
+    ghost use Rattle.node_turn.specs.Lives.{Keeps};
+    ghost use Rattle.node_turn.specs.Nodes.{NodeParts};
+
+    ghost Value = { NodeParts M };
+
+    ghost coded = { Prim.hlevel (codes, stmt.the_row.coded) };
+
+    ghost view = { λ n. record { node = n.node; condition = n.hand.condition; pass = n.pass; medium = (K.parts n.hand.core).medium } };
+
+    ghost invariant = { λ n. Keeps M.tells K.parts K.fits K.lives K.owes M.page_count M.reads M.may_leave n.hand.condition n.hand.core (knows n.pass) n.node n.hand.gone n.hand.durable };
+}
+
+// What a turn answers, by how the node stands after it.
+fn answer(condition: Condition, quiet: bool) -> Result<Turned, AllocError>
+    ensures condition { IsCondition result condition }
+    ensures quiet { IfOk result (Answers quiet) }
+{
+    match condition {
+        Condition::Down { cause: _ } => Ok(Turned::Stopped),
+        Condition::Wanting => Err(AllocError),
+        Condition::AtWork => Ok(if quiet { Turned::Quiet } else { Turned::Worked }),
+    }
+}
+
+impl<K: StoredCore<M>, F: Fates, C: Clock, M: Medium> Node<K, F, C, M> {
+    /// A node that was just opened, with so many effects.
+    pub fn new(
+        alloc: Global,
+        node: NodeId,
+        count: usize,
+        core: K,
+        pass: WirePass<F, C, M>,
+    ) -> Node<K, F, C, M>
+        requires up { IsUp M.tells K.parts K.fits K.lives K.owes M.page_count M.reads M.may_leave core (knows pass) node false false (no_draft count) }
+        ensures { result ≡ new_node node pass (K.parts core).medium }
+    {
+        Node {
+            alloc,
+            node,
+            hand: Hand {
+                core,
+                condition: Condition::AtWork,
+                gone: false,
+                durable: count,
+            },
+            pass,
+        }
+    }
+
+    /// One turn. An error found no memory, in this turn or in an earlier one.
+    pub fn turn<R: Wait>(
+        self,
+        rt: &R,
+        wire: &SharedWire<F, C, M>,
+    ) -> (Node<K, F, C, M>, Result<Turned, AllocError>)
+        requires pass { IsWirePass wire.now.lock self.pass }
+        ensures pass { IsWirePass wire.now.lock result.0.pass }
+        ensures turns { TurnsTo M.tells M.faults M.reads self result.0 result.1 }
+    {
+        let Node {
+            alloc,
+            node,
+            hand,
+            pass,
+        } = self;
+        match hand.condition {
+            Condition::Down { cause: _ } => (
+                Node {
+                    alloc,
+                    node,
+                    hand,
+                    pass,
+                },
+                Ok(Turned::Stopped),
+            ),
+            Condition::Wanting => (
+                Node {
+                    alloc,
+                    node,
+                    hand,
+                    pass,
+                },
+                Err(AllocError),
+            ),
+            Condition::AtWork => {
+                let (pass, hand, quiet) = work(alloc, rt, wire, node, hand, pass);
+                let turned = answer(hand.condition, quiet);
+                (
+                    Node {
+                        alloc,
+                        node,
+                        hand,
+                        pass,
+                    },
+                    turned,
+                )
+            }
+        }
+    }
+
+    /// Its core. While it is at work, that has the node's life.
+    pub fn core(&self) -> &K
+        ensures medium { (K.parts result.now).medium ≡ self.now.medium }
+        ensures node { (K.parts result.now).node ≡ self.now.node }
+        ensures life { IsTrue M.tells → self.now.condition ≡ Condition.AtWork → K.fits (base_at (sight self.now)) result.now × K.lives (base_at (sight self.now)) result.now (life_at (sight self.now) self.now.node) }
+    {
+        &self.hand.core
+    }
+
+    /// The node's pass meets another.
+    pub fn meet(&mut self, wire: &SharedWire<F, C, M>, other: &mut WirePass<F, C, M>)
+        requires pass { IsWirePass wire.now.lock self.old.pass × IsWirePass wire.now.lock other.old }
+        ensures pass { IsWirePass wire.now.lock self.new.pass × IsWirePass wire.now.lock other.new }
+        ensures met { MeetsWith (knows other.old) self.old self.new }
+        ensures other { Looked (knows other.old) (knows other.new) × ((knows other.new).story ≡ (sight self.new).story) }
+    {
+        wire.meet(&mut self.pass, other);
+    }
+
+    /// The medium and the pass.
+    pub fn release(self) -> (M, WirePass<F, C, M>)
+        ensures parts { (result.0 ≡ self.medium) × (result.1 ≡ self.pass) }
+        ensures rest { IsAtRest M.tells M.page_count M.reads M.may_leave self }
+    {
+        let Node {
+            alloc: _,
+            node: _,
+            hand,
+            pass,
+        } = self;
+        let Hand {
+            core,
+            condition: _,
+            gone: _,
+            durable: _,
+        } = hand;
+        (core.release(), pass)
+    }
+}
