@@ -1,0 +1,76 @@
+-- What a broker's core and the store beside it say of a life.
+use Rattle.std.proofs.Common.{◌≡◌, ℕ, true, false, List, reverse, Option, Some, is_none, Err, refl, sym, ap, subst, ◌∙◌, append_assoc}
+use Rattle.std.proofs.lemmas.List.{append-nil}
+use Rattle.pseudo_time.specs.Nodes.{broker}
+use Rattle.pseudo_time.specs.declared.nodes.NodeId.{NodeId}
+use Rattle.value_form.specs.declared.acts.ActSpec.{ActSpec}
+use Rattle.effect_form.specs.declared.effects.Effect.{Effect}
+use Rattle.turn_form.specs.declared.turns.Turn.{Turn}
+use Rattle.serial_model.specs.Questions.{Tree}
+use Rattle.version_store.specs.declared.faults.OpenFault.TheVariants as opening
+use Rattle.broker_core.specs.declared.resume_faults.ResumeFault.{ResumeFault}
+use Rattle.broker_core.specs.declared.resume_faults.ResumeFault.TheVariants as resuming
+use Rattle.broker_core.specs.Brokers.{IsLedTo, Gives, Opens, turn_of, is_fresh}
+use Rattle.broker_core.specs.Fits.{resume_fault}
+use Rattle.broker_core.specs.Parts.{BrokerParts}
+use Rattle.broker_core.specs.Tasks.{Scripted, tasks}
+use Rattle.broker_core.specs.Turns as desks
+use Rattle.world_core.specs.Cores.{IsBroker, BrokerGave}
+use Rattle.world_core.specs.Nodes.{Input, broker_gives, with_desk, desk_after, acts_of, is_ready, opened_mind}
+use Rattle.world_core.specs.Walks.{Base, Life, all_effects, opened_life, gated_life, after_input}
+use Rattle.world_core.proofs.CoreTurns.{gives-broker, broker-gave}
+use Rattle.node_turn.specs.Cores.{HasTurn, IsReady, given_for}
+use Rattle.broker_node.specs.Logs.{as_damage}
+
+-- ---- turns
+
+-- the turn is what the rules give, and the broker has the life after it
+pub gave-broker : (b : Base) (n : NodeId) (l : Life) (p q : BrokerParts) (i : desks.Input) (j : Input) (t : Turn)
+    → broker_gives b.script b.run b.acts n.number (all_effects l) l.mind j ≡ with_desk l.mind (desk_after b.script b.run b.acts n.number (all_effects l) l.mind i)
+    → IsBroker b n (all_effects l) l.mind p → ((script : List ℕ → Tree) (log : List Effect) → Scripted script p.acts → IsLedTo script log p → Gives script log (turn_of script p log i) t q)
+    → q.number ≡ p.number → q.run ≡ p.run → q.acts ≡ p.acts → HasTurn (given_for b n l j) t × IsBroker b n (all_effects (after_input b n l j)) (after_input b n l j).mind q
+gave-broker b n l p q i j t same s g number run acts =
+    let log = all_effects l in
+    let y : BrokerGave b n log (given_for b n l j) t q =
+    subst (λ z. BrokerGave b n log z t q) (sym (gives-broker b.script b.run b.acts n log l.mind j s.kind ∙ same)) (broker-gave b n log l.mind p q t i s (g b.script (reverse log) s.scripted s.stands) number run acts) in
+    ((y.effects, y.outs), subst (λ k. IsBroker b n k (given_for b n l j).mind q) (append_assoc l.gated l.fresh (given_for b n l j).effects) y.stands)
+
+-- after its gate it has the same log
+pub gated-broker : (b : Base) (n : NodeId) (l : Life) (p : BrokerParts) → IsBroker b n (all_effects l) l.mind p → IsBroker b n (all_effects (gated_life l)) l.mind p
+gated-broker b n l p s = subst (λ log. IsBroker b n log l.mind p) (sym (append-nil (all_effects l))) s
+
+-- ---- openings
+
+-- a broker that was opened over a log has the life of a node that was opened with it
+pub opened-broker : (b : Base) (i r : ℕ) (acts : List ActSpec) (log : List Effect) (p : BrokerParts) → b.run ≡ r → acts ≡ acts_of i b.acts → Scripted b.script acts → is_fresh i r acts p → IsLedTo b.script (reverse log) p
+    → IsBroker b (broker i) (all_effects (opened_life b.start log)) (opened_mind b.start) p
+opened-broker b i r acts log p run own scripted f led = record {
+  kind = refl;
+  number = f.0;
+  run = f.1 ∙ sym run;
+  acts = f.2 ∙ own;
+  heard = f.3;
+  scripted = subst (Scripted b.script) (sym f.2) scripted;
+  stands = subst (λ l. IsLedTo b.script (reverse l) p) (sym (append-nil log)) led;
+}
+
+-- a log with which it is ready shows no fault
+no-fault : (b : Base) (i r : ℕ) (acts : List ActSpec) (log : List Effect) → b.run ≡ r → acts ≡ acts_of i b.acts → IsReady b (broker i) log → is_none (resume_fault b.script i r (tasks acts) (reverse log)) ≡ true
+unfolding is_ready
+no-fault b i r acts log run own h = subst (λ a. is_none (resume_fault b.script i r (tasks a) (reverse log)) ≡ true) (sym own) (subst (λ k. is_none (resume_fault b.script i k (tasks (acts_of i b.acts)) (reverse log)) ≡ true) run h)
+
+no-some : {A : Type 0} (o : Option A) (x : A) → o ≡ Some x → is_none o ≡ true → ⊥
+no-some o x e h = let z : false ≡ true = sym (ap is_none e) ∙ h in cc z
+
+-- so an opening of it tells none
+pub opens-sound : (b : Base) (i r : ℕ) (acts : List ActSpec) (log : List Effect) (f : ResumeFault) (page : ℕ) → b.run ≡ r → acts ≡ acts_of i b.acts → IsReady b (broker i) log → Opens b.script i r acts (reverse log) (Err f)
+    → as_damage f ≡ opening.Damaged page → ⊥
+opens-sound b i r acts log resuming.NoMemory page run own h o e = cc e
+opens-sound b i r acts log (resuming.OldRun n) page run own h o e = no-some (resume_fault b.script i r (tasks acts) (reverse log)) (resuming.OldRun n) o (no-fault b i r acts log run own h)
+opens-sound b i r acts log (resuming.OtherPlan n) page run own h o e = no-some (resume_fault b.script i r (tasks acts) (reverse log)) (resuming.OtherPlan n) o (no-fault b i r acts log run own h)
+
+-- and nothing counts as a fault of the medium
+pub no-medium : (f : ResumeFault) → as_damage f ≡ opening.Medium → ⊥
+no-medium resuming.NoMemory e = cc e
+no-medium (resuming.OldRun n) e = cc e
+no-medium (resuming.OtherPlan n) e = cc e

@@ -1,0 +1,23 @@
+use Rattle.std.proofs.Common.{refl, arith}
+use Rattle.pseudo_time.specs.Nodes.{broker}
+use Rattle.broker_core.specs.Turns as desks
+use Rattle.world_core.specs.Nodes.Input.{Going}
+use Rattle.broker_node.proofs.CoreLemmas.{gave-broker}
+use Rattle.broker_node.proofs.cores.BrokerCoreStoredCore.go.Goals as goal
+
+pub returns : goal.returns
+returns g c = record {
+  given = record {
+    same = record { node = refl; run = λ b f. f; later = omega arith };
+    able = c.requires.able;
+    gave = λ t b l f s.
+        let y = gave-broker b (broker c.args.self.now.number) l c.args.self.now.broker c.go.new.self (desks.Go) (Going) c.in_ok-turn.turn refl s.0 c.in_ok-turn.ensures.gives c.go.ensures.number c.go.ensures.run c.go.ensures.acts in
+        (y.0, (y.1, s.1));
+    owed = λ es o. tt;
+    in_range = c.in_ok-turn.ensures.in_range;
+    still = λ t. refl;
+    images = λ t i left. left;
+    cause = λ e. absurd (cc e);
+    sound = λ t. tt;
+  };
+}

@@ -1,0 +1,9 @@
+use medium_port::Medium;
+use version_store::Store;
+
+/// Where a broker's log stands: in a store, or, after a fault, on a medium that is to be opened anew.
+#[derive(Drop)]
+pub enum Log<M: Medium> {
+    Open(Store<M>),
+    Shut(M),
+}

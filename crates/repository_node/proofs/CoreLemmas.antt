@@ -1,0 +1,90 @@
+-- What a repository's core and the store beside it say of a life.
+use Rattle.std.proofs.Common.{◌≡◌, ℕ, ◌++◌, Bool, true, false, List, reverse, Option, Some, is_some, Result, Ok, Err, IfOk, OnOk, is_ok, refl, sym, ap, subst, ◌∙◌, append_assoc}
+use Rattle.std.proofs.lemmas.List.{append-nil}
+use Rattle.pseudo_time.specs.StampParts.{StampParts}
+use Rattle.pseudo_time.specs.Nodes.{repository}
+use Rattle.pseudo_time.specs.declared.nodes.NodeId.{NodeId}
+use Rattle.medium_port.specs.Image.{Image}
+use Rattle.effect_form.specs.declared.effects.Effect.{Effect}
+use Rattle.turn_form.specs.declared.turns.Turn.{Turn}
+use Rattle.object_history.specs.declared.steps.HistoryFault.{HistoryFault}
+use Rattle.repository_log.specs.Logs.{knows, known}
+use Rattle.repository_log.proofs.MarkLemmas.{knows-known}
+use Rattle.object_header.specs.Ledgers.{told_image}
+use Rattle.repository_core.specs.Cores.{Core, CoreState, given}
+use Rattle.repository_core.specs.Turns as turns
+use Rattle.world_core.specs.Cores.{IsRepository, RepositoryGave}
+use Rattle.world_core.specs.Nodes.{Input, repository_gives, with_hands, opened_mind, is_ready}
+use Rattle.world_core.specs.Walks.{Base, Life, all_effects, opened_life, gated_life, after_input}
+use Rattle.world_core.proofs.CoreTurns.{repository-answers}
+use Rattle.trace_logs.proofs.MarkLemmas.{knows-reverse}
+use Rattle.node_turn.specs.Cores.{HasTurn, IsReady, given_for}
+
+-- ---- turns
+
+-- the turn is what the rules give, and the core has the life after it; and what else is so
+pub gave-repository : {H C : Type 0} (b : Base) (n : NodeId) (l : Life) (r q : Core H) (x : Result Turn HistoryFault) (i : turns.Input) (j : Input)
+    → repository_gives n.number (all_effects l) l.mind j ≡ with_hands l.mind (turns.gives n.number (all_effects l) l.mind.hands i)
+    → IsRepository n (all_effects l) l.mind r → IfOk x (λ t. given t q.mind ≡ turns.gives r.number r.log r.mind i) → IfOk x (λ t. q.log ≡ r.log ++ t.effects) → OnOk x (q.number ≡ r.number) → C
+    → IfOk x (λ t. HasTurn (given_for b n l j) t × (IsRepository n (all_effects (after_input b n l j)) (after_input b n l j).mind q × C))
+gave-repository b n l r q (Err e) i j same s g log number k = tt
+gave-repository {H} {C} b n l r q (Ok t) i j same s g log number k =
+    let y : RepositoryGave n (all_effects l) (given_for b n l j) t q = repository-answers b n (all_effects l) l.mind r q (Ok t) (Ok t) i j same s g log number refl in
+    ((y.effects, y.outs), (subst (λ es. IsRepository n es (given_for b n l j).mind q) (append_assoc l.gated l.fresh (given_for b n l j).effects) y.stands, k))
+
+-- what a core was parted into, and what a part was joined to
+pub parted : {H : Type 0} (s : CoreState) (r : Core H) → s ≡ record { number = r.number; log = r.log; mind = r.mind; whole = r.whole } → (s.number ≡ r.number) × (s.log ≡ r.log) × (s.mind ≡ r.mind) × (s.whole ≡ r.whole)
+parted s r e = (ap (λ (x : CoreState). x.number) e, ap (λ (x : CoreState). x.log) e, ap (λ (x : CoreState). x.mind) e, ap (λ (x : CoreState). x.whole) e)
+
+pub joined : {H : Type 0} (q : Core H) (s : CoreState) (h : H) → q ≡ record { number = s.number; log = s.log; mind = s.mind; whole = s.whole; histories = h }
+    → (q.number ≡ s.number) × (q.log ≡ s.log) × (q.mind ≡ s.mind) × (q.whole ≡ s.whole) × (q.histories ≡ h)
+joined {H} q s h e = (ap (λ (x : Core H). x.number) e, ap (λ (x : Core H). x.log) e, ap (λ (x : Core H). x.mind) e, ap (λ (x : Core H). x.whole) e, ap (λ (x : Core H). x.histories) e)
+
+-- a core that was parted from its histories and joined with others
+pub joined-repository : {H : Type 0} (n : NodeId) (l : Life) (r q : Core H) → q.number ≡ r.number → q.log ≡ r.log → q.mind ≡ r.mind → IsRepository n (all_effects l) l.mind r → IsRepository n (all_effects (gated_life l)) l.mind q
+joined-repository n l r q number log mind s = record { kind = s.kind; number = number ∙ s.number; log = log ∙ s.log ∙ sym (append-nil (all_effects l)); mind = mind ∙ s.mind }
+
+-- what is owed grows by what was given
+pub owed-more : (x : Result Turn HistoryFault) (log stored new new_stored owed : List Effect) → new_stored ≡ stored → log ≡ stored ++ owed → IfOk x (λ t. new ≡ log ++ t.effects)
+    → IfOk x (λ t. new ≡ new_stored ++ (owed ++ t.effects))
+owed-more (Err e) log stored new new_stored owed same is more = tt
+owed-more (Ok t) log stored new new_stored owed same is more = more ∙ ap (λ l. l ++ t.effects) is ∙ append_assoc stored owed t.effects ∙ ap (λ l. l ++ (owed ++ t.effects)) (sym same)
+
+-- what is asked of the log from either end
+pub knows-asked : (log whole : List Effect) (s : StampParts) → log ≡ whole → is_some (known (reverse log) s) ≡ knows whole s
+knows-asked log whole s e = knows-known (reverse log) s ∙ knows-reverse log s ∙ ap (λ l. knows l s) e
+
+-- where the core is whole the call gave a turn, and so the histories have the marks of its log
+pub marked-called : {T E : Type 0} (x : Result T E) (whole : Bool) (P : Type 0) → whole ≡ is_ok x → OnOk x P → whole ≡ true → P
+marked-called (Ok t) whole P is p h = p
+marked-called (Err e) whole P is p h = absurd (let z : false ≡ true = sym is ∙ h in cc z)
+
+pub able-called : {T E : Type 0} (x : Result T E) (whole : Bool) → whole ≡ is_ok x → OnOk x (whole ≡ true)
+able-called (Ok t) whole is = is
+able-called (Err e) whole is = tt
+
+-- ---- openings
+
+-- a core that was opened over a log has the life of a node that was opened with it
+pub opened-repository : {H : Type 0} (b : Base) (i start : ℕ) (log : List Effect) (r : Core H) → b.start ≡ start → r.number ≡ i → r.log ≡ log → r.mind ≡ turns.opened_mind start
+    → IsRepository (repository i) (all_effects (opened_life b.start log)) (opened_mind b.start) r
+opened-repository b i start log r begins number is mind = record {
+  kind = refl;
+  number = number;
+  log = is ∙ sym (append-nil log);
+  mind = mind ∙ ap turns.opened_mind (sym begins);
+}
+
+-- a repository goes on from every log
+pub ready-repository : (b : Base) (i : ℕ) (log : List Effect) → IsReady b (repository i) log
+unfolding is_ready
+ready-repository b i log = refl
+
+-- ---- media that tell
+
+pub told-same : (tells : Bool) (a b : Image) → tells ≡ true → told_image tells a ≡ told_image tells b → a ≡ b
+told-same true a b t e = some-same e
+  where
+    some-same : {A : Type 0} {x y : A} → ◌≡◌ {A = Option A} (Some x) (Some y) → x ≡ y
+    some-same {A} {x} {y} e = cc e
+told-same false a b t e = absurd (cc t)
