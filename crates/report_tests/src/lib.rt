@@ -1,5 +1,9 @@
-//! Tests of the texts that tell what happened: histories of objects.
+//! Tests of the texts that tell what happened: histories of objects, and reports and summaries of runs.
 #![tactic(auto)]
 
 #[cfg(test)]
 mod histories;
+#[cfg(test)]
+mod reports;
+#[cfg(test)]
+mod traces;
