@@ -1,4 +1,6 @@
-use Rattle.std.proofs.Common.{refl, false, []}
+use Rattle.std.proofs.Common.{◌∙◌, ap, refl, false, []}
+use Rattle.pseudo_time.specs.Nodes.{is_broker}
+use Rattle.pseudo_time.specs.declared.nodes.NodeId.{NodeId}
 use Rattle.seat_lock.specs.Words.{knows}
 use Rattle.wire_lock.specs.Sights.{flags_at}
 use Rattle.node_turn.proofs.LifeLemmas.{on-ok, on-err, went-up, up-added, after-added, cause-added}
@@ -13,15 +15,15 @@ returns-in-Ok-clause-trail g c = trail-added c.args.node [] 0 c.requires.up.own 
 
 pub returns-in-Ok-clause-up : goal.returns-in-Ok-clause-up
 returns-in-Ok-clause-up g c =
-    up-added c.requires.up (on-ok _ _ _ c.in-Ok.is c.go-pass.ensures.ok) (went-up c.args.node.kind (flags_at (knows c.args.pass) c.args.node) false false c.requires.broker c.requires.up.flags) c.go-gave.ensures.given
+    up-added c.requires.up (on-ok _ _ _ c.in-Ok.is c.go-pass.ensures.ok) (went-up c.args.node.kind (flags_at (knows c.args.pass) c.args.node) false false c.requires.broker c.requires.up.flags) (c.go-gave.ensures.given (ap (λ (n : NodeId). is_broker n.kind) c.requires.up.node ∙ c.requires.broker))
     c.added.result c.added.new.draft c.added.ensures.ok c.added.ensures.err c.added.ensures.wanting
 
 pub returns-in-Ok-clause-err : goal.returns-in-Ok-clause-err
 returns-in-Ok-clause-err g c =
-    after-added c.requires.up (on-ok _ _ _ c.in-Ok.is c.go-pass.ensures.ok) (went-up c.args.node.kind (flags_at (knows c.args.pass) c.args.node) false false c.requires.broker c.requires.up.flags) c.go-gave.ensures.given
+    after-added c.requires.up (on-ok _ _ _ c.in-Ok.is c.go-pass.ensures.ok) (went-up c.args.node.kind (flags_at (knows c.args.pass) c.args.node) false false c.requires.broker c.requires.up.flags) (c.go-gave.ensures.given (ap (λ (n : NodeId). is_broker n.kind) c.requires.up.node ∙ c.requires.broker))
     c.added.result c.added.new.draft c.added.ensures.ok c.added.ensures.err c.added.ensures.wanting
 
 pub returns-in-Ok-clause-cause : goal.returns-in-Ok-clause-cause
 returns-in-Ok-clause-cause g c =
-    cause-added c.requires.up (on-ok _ _ _ c.in-Ok.is c.go-pass.ensures.ok) (went-up c.args.node.kind (flags_at (knows c.args.pass) c.args.node) false false c.requires.broker c.requires.up.flags) c.go-gave.ensures.given
+    cause-added c.requires.up (on-ok _ _ _ c.in-Ok.is c.go-pass.ensures.ok) (went-up c.args.node.kind (flags_at (knows c.args.pass) c.args.node) false false c.requires.broker c.requires.up.flags) (c.go-gave.ensures.given (ap (λ (n : NodeId). is_broker n.kind) c.requires.up.node ∙ c.requires.broker))
     c.added.result c.added.new.draft c.added.ensures.ok c.added.ensures.err c.added.ensures.wanting

@@ -1,4 +1,6 @@
-use Rattle.std.proofs.Common.{◌≡◌, ◌∙◌, refl, sym, subst, [], ◌∷◌, inl, inr, true}
+use Rattle.pseudo_time.specs.Nodes.{is_broker}
+use Rattle.pseudo_time.specs.declared.nodes.NodeId.{NodeId}
+use Rattle.std.proofs.Common.{◌≡◌, ◌∙◌, ap, refl, sym, subst, [], ◌∷◌, inl, inr, true}
 use Rattle.seat_lock.specs.Words.{knows}
 use Rattle.world_core.specs.Walks.{Life, all_effects}
 use Rattle.world_core.specs.Nodes.Input.{Learning}
@@ -14,7 +16,7 @@ use Rattle.node_turn.proofs.lookups.look_up.Goals as goal
 
 pub returns-then-knows-clause-seeks : goal.returns-then-knows-clause-seeks
 returns-then-knows-clause-seeks g c =
-    seeks-none c.args.node (knows c.args.pass) _ (λ t. inl (sym (c.knows.ensures t (base_at (knows c.args.pass)) (life_at (knows c.args.pass) c.args.node) (c.requires.up.life t).core) ∙ c.if-knows.true))
+    seeks-none c.args.node (knows c.args.pass) _ (λ t. inl (sym (c.knows.ensures (ap (λ (n : NodeId). is_broker n.kind) c.requires.up.node ∙ c.requires.repository) t (base_at (knows c.args.pass)) (life_at (knows c.args.pass) c.args.node) (c.requires.up.life t).core) ∙ c.if-knows.true))
 
 pub returns-in_default-clause-up : goal.returns-in_default-clause-up
 returns-in_default-clause-up g c = up-tested c.requires.up c.decided.ensures.tested
@@ -56,19 +58,19 @@ returns-in-Err-clause-seeks g c =
 pub returns-in-Ok-clause-up : goal.returns-in-Ok-clause-up
 returns-in-Ok-clause-up g c =
     let u = up-tested c.requires.up c.decided.ensures.tested in
-    up-added u (on-ok _ _ _ c.in-Ok.is c.learn-pass.ensures.ok) (learned-up c.args.node.kind (flags_at (knows c.decided.new.pass) c.args.node) c.args.gone true c.requires.repository u.flags) c.learn-gave.ensures.given
+    up-added u (on-ok _ _ _ c.in-Ok.is c.learn-pass.ensures.ok) (learned-up c.args.node.kind (flags_at (knows c.decided.new.pass) c.args.node) c.args.gone true c.requires.repository u.flags) (c.learn-gave.ensures.given (ap (λ (n : NodeId). is_broker n.kind) u.node ∙ c.requires.repository))
     c.added.result c.added.new.draft c.added.ensures.ok c.added.ensures.err c.added.ensures.wanting
 
 pub returns-in-Ok-clause-err : goal.returns-in-Ok-clause-err
 returns-in-Ok-clause-err g c =
     let u = up-tested c.requires.up c.decided.ensures.tested in
-    after-added u (on-ok _ _ _ c.in-Ok.is c.learn-pass.ensures.ok) (learned-up c.args.node.kind (flags_at (knows c.decided.new.pass) c.args.node) c.args.gone true c.requires.repository u.flags) c.learn-gave.ensures.given
+    after-added u (on-ok _ _ _ c.in-Ok.is c.learn-pass.ensures.ok) (learned-up c.args.node.kind (flags_at (knows c.decided.new.pass) c.args.node) c.args.gone true c.requires.repository u.flags) (c.learn-gave.ensures.given (ap (λ (n : NodeId). is_broker n.kind) u.node ∙ c.requires.repository))
     c.added.result c.added.new.draft c.added.ensures.ok c.added.ensures.err c.added.ensures.wanting
 
 pub returns-in-Ok-clause-cause : goal.returns-in-Ok-clause-cause
 returns-in-Ok-clause-cause g c =
     let u = up-tested c.requires.up c.decided.ensures.tested in
-    cause-added u (on-ok _ _ _ c.in-Ok.is c.learn-pass.ensures.ok) (learned-up c.args.node.kind (flags_at (knows c.decided.new.pass) c.args.node) c.args.gone true c.requires.repository u.flags) c.learn-gave.ensures.given
+    cause-added u (on-ok _ _ _ c.in-Ok.is c.learn-pass.ensures.ok) (learned-up c.args.node.kind (flags_at (knows c.decided.new.pass) c.args.node) c.args.gone true c.requires.repository u.flags) (c.learn-gave.ensures.given (ap (λ (n : NodeId). is_broker n.kind) u.node ∙ c.requires.repository))
     c.added.result c.added.new.draft c.added.ensures.ok c.added.ensures.err c.added.ensures.wanting
 
 pub returns-in-Ok-clause-log : goal.returns-in-Ok-clause-log

@@ -7,7 +7,7 @@ use Rattle.broker_node.proofs.cores.BrokerCoreStoredCore.go.Goals as goal
 
 pub returns : goal.returns
 returns g c = record {
-  given = record {
+  given = λ kind. record {
     same = record { node = refl; run = λ b f. f; later = omega arith };
     able = c.requires.able;
     gave = λ t b l f s.

@@ -24,7 +24,7 @@ returns-in-Open g c =
     let same = λ (t : IsTrue g.M.Medium.tells). told-same g.M.Medium.tells (g.M.Medium.reads n) (g.M.Medium.reads m) t (ap (λ (b : BeneathParts). b.image) called.stays) in
     let stored = ap (λ (b : BeneathParts). b.log) called.stays in
     record {
-      given = record {
+      given = λ kind. record {
         same = record { node = refl; run = λ b f. f; later = subst (λ z. g.M.Medium.faults z ≤ g.M.Medium.faults n) was called.cause.faults_stay };
         able = able-called c.learn.result new.whole called.whole;
         gave = λ t b l f h.
