@@ -9,6 +9,7 @@ mod headers;
 mod histories;
 mod media;
 mod records;
+mod reports;
 mod scripts;
 mod stores;
 mod texts;
@@ -22,7 +23,7 @@ use std::io::ErrorKind;
 use std::process::ExitCode;
 
 /// Each bench with small numbers, as words behind one another.
-const SMALL: [&str; 11] = [
+const SMALL: [&str; 12] = [
     "media . 8",
     "stores memory 3 16",
     "records 10 5",
@@ -34,6 +35,7 @@ const SMALL: [&str; 11] = [
     "brokers 3 2 2",
     "traces 1000 2",
     "wires 1000",
+    "reports 16 1",
 ];
 
 // What the bench of this name finds.
@@ -49,6 +51,7 @@ fn timed(alloc: Global, rt: &HostRuntime, name: &str, words: &[String]) -> Resul
         "brokers" => brokers::timed(alloc, words),
         "traces" => traces::timed(alloc, words),
         "wires" => wires::timed(alloc, words),
+        "reports" => reports::timed(alloc, words),
         _ => Err(Fault::Words),
     }
 }
