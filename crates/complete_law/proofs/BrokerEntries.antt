@@ -40,8 +40,9 @@ use Rattle.world_core.specs.Walks.{Base, Life, Sending, World, numbered, opened_
 use Rattle.world_core.specs.Legal.{times_taken}
 use Rattle.repository_waits.specs.Waits.{Waits}
 use Rattle.complete_law.specs.AtRest.{standing_at, read_to}
-use Rattle.complete_law.proofs.BrokerSteps.{BookSound, HasSettled, HasStarted, Trail, older}
-use Rattle.complete_law.proofs.BrokerTurns.{DeskSound, OutSound, standing-sound, stands-to}
+use Rattle.broker_laws.specs.Waits.{older}
+use Rattle.broker_laws.proofs.BookSteps.{BookSound, HasSettled, HasStarted, Trail}
+use Rattle.broker_laws.proofs.BookTurns.{DeskSound, OutSound, standing-sound, stands-to}
 use Rattle.repository_waits.specs.Waits.{ask_of, tell_of}
 use Rattle.complete_law.proofs.Places.{log_of, held_of, IsBegun, IsDecided, Flying, AskedFor, tasks_of, desk_of, standing_in, Placed, SaidOf, CalmWorld}
 use Rattle.complete_law.proofs.Frames.{life-with}

@@ -41,7 +41,7 @@ use Rattle.world_facts.proofs.Growths.{numbered-has}
 use Rattle.world_facts.proofs.Keeps.{inv-reached}
 use Rattle.world_facts.proofs.NodeLaws.{node-laws}
 use Rattle.world_facts.proofs.Openings.{facts-of}
-use Rattle.complete_law.proofs.BrokerTurns.{DeskSound, Tells, take-sound, go-sound, heard-says, go-says, take-stands, go-stands}
+use Rattle.broker_laws.proofs.BookTurns.{DeskSound, Tells, take-sound, go-sound, heard-says, go-says, take-stands, go-stands}
 use Rattle.complete_law.proofs.BrokerEntries.{Moved, moved-asked, moved-askers, moved-outside, moved-placed, moved-rested, moved-said, moved-shut, moved-sound, moved-ups, moved-waits, ignored-placed, owed-placed, PlacedAt}
 use Rattle.complete_law.specs.AtRest.{standing_at}
 use Rattle.complete_law.proofs.Frames.{desk-after, goes, life-with, takes, turned}

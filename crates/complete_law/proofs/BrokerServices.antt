@@ -47,7 +47,7 @@ use Rattle.world_facts.proofs.Openings.{facts-of}
 use Rattle.complete_law.specs.AtRest.{read_to, standing_at}
 use Rattle.repository_waits.proofs.AskServices.{has-record}
 use Rattle.complete_law.proofs.BrokerMoves.{node-there, turn-there}
-use Rattle.complete_law.proofs.BrokerSteps.{StageSound, stage-sound}
+use Rattle.broker_laws.proofs.BookSteps.{StageSound, stage-sound}
 use Rattle.repository_waits.proofs.ReadSteps.{Keeps, Serves, on-message-serves}
 use Rattle.complete_law.proofs.Answering.{heeds-read}
 use Rattle.complete_law.proofs.Hearings.{each-in, open-closed}

@@ -37,8 +37,8 @@ use Rattle.broker_laws.proofs.Desks.{ReplyOk, news-came, row-ok}
 use Rattle.turn_form.specs.Posts.{Post}
 use Rattle.pseudo_time.specs.declared.nodes.NodeId.{NodeId}
 use Rattle.broker_core.specs.Turns as desks
-use Rattle.complete_law.proofs.BrokerSteps.{BookSound, StageSound, enter-sound, stage-sound}
-use Rattle.complete_law.proofs.BrokerTurns.{ReplySound, Tells, owed-allowed, reply-sounds, settle-outs, state-note}
+use Rattle.broker_laws.proofs.BookSteps.{BookSound, StageSound, enter-sound, stage-sound}
+use Rattle.broker_laws.proofs.BookTurns.{ReplySound, Tells, owed-allowed, reply-sounds, settle-outs, state-note}
 
 -- the open attempt is the newest
 split : (g : Try → Try) (as' : List Act) (t : Try) → open_of as' ≡ Some t →

@@ -40,7 +40,7 @@ use Rattle.repository_waits.specs.Waits.{Waits}
 use Rattle.complete_law.specs.AtRest.{read_to, standing_at}
 use Rattle.complete_law.proofs.BrokerEntries.{sound-more}
 use Rattle.complete_law.proofs.BrokerMoves.{all-off, both-on, not-same, parted}
-use Rattle.complete_law.proofs.BrokerTurns.{DeskSound}
+use Rattle.broker_laws.proofs.BookTurns.{DeskSound}
 use Rattle.complete_law.proofs.GateEntries.{answer-leaves, ask-leaves, at-end, has-filter, has-map, map-has, numbered-before, numbered-kept, request-leaves}
 use Rattle.repository_waits.proofs.HeldLemmas.{filter-has}
 use Rattle.repository_waits.specs.Waits.{ask_of, tell_of}

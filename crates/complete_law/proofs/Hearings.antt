@@ -39,7 +39,7 @@ use Rattle.world_facts.specs.Refines.{LogFacts, logs_at}
 use Rattle.world_facts.specs.NodeRules.{kind_post, node_facts}
 use Rattle.world_facts.specs.Soft.{SentOk}
 use Rattle.complete_law.proofs.Places.{log_of, gated_of, IsBegun, IsDecided, SaidOf, CalmWorld}
-use Rattle.complete_law.proofs.BrokerTurns.{Tells}
+use Rattle.broker_laws.proofs.BookTurns.{Tells}
 
 -- a stamp that a log knows has its Decide or its Learn there
 abbrev pub SettledBy : List Effect → StampParts → Bool → Type 0

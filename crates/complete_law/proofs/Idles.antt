@@ -57,7 +57,8 @@ use Rattle.world_facts.proofs.Growths.{none-has}
 use Rattle.repository_waits.specs.Waits.{Waits}
 use Rattle.complete_law.specs.AtRest.{DecidedAt, standing_at, is_done, read_to, AtRest}
 use Rattle.complete_law.specs.Calm.{IsPlain}
-use Rattle.complete_law.proofs.BrokerSteps.{AllDecided, BookSound, HasSettled, Trail, last-among, older, open-among}
+use Rattle.broker_laws.specs.Waits.{older}
+use Rattle.broker_laws.proofs.BookSteps.{AllDecided, BookSound, HasSettled, Trail, last-among, open-among}
 use Rattle.repository_waits.specs.Waits.{ask_of, tell_of}
 use Rattle.complete_law.proofs.Places.{log_of, gated_of, held_of, IsBegun, IsDecided, Flying, AskedFor, tasks_of, standing_in, Placed, CalmWorld}
 use Rattle.complete_law.proofs.Rests.{all-done}

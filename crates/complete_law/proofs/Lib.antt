@@ -5,8 +5,6 @@ pub mod BrokerMoves
 pub mod BrokerRuns
 pub mod BrokerBounds
 pub mod BrokerServices
-pub mod BrokerSteps
-pub mod BrokerTurns
 pub mod Budgets
 pub mod Counts
 pub mod Costs

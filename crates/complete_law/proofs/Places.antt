@@ -30,7 +30,7 @@ use Rattle.world_core.specs.Legal.{times_taken}
 use Rattle.repository_waits.specs.Waits.{Waits}
 use Rattle.complete_law.specs.AtRest.{DecidedAt, read_to, standing_at}
 use Rattle.repository_waits.specs.Waits.{ask_of, tell_of}
-use Rattle.complete_law.proofs.BrokerTurns.{DeskSound}
+use Rattle.broker_laws.proofs.BookTurns.{DeskSound}
 
 -- a node's whole log, and its durable one, newest effect first
 abbrev pub log_of : World → NodeId → List Effect

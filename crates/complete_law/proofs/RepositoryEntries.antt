@@ -37,7 +37,7 @@ use Rattle.repository_waits.specs.Waits.{Waits}
 use Rattle.complete_law.specs.AtRest.{standing_at, read_to}
 use Rattle.repository_waits.proofs.AskerSteps.{Askers}
 use Rattle.complete_law.proofs.BrokerEntries.{sound-more}
-use Rattle.complete_law.proofs.BrokerTurns.{DeskSound}
+use Rattle.broker_laws.proofs.BookTurns.{DeskSound}
 use Rattle.repository_waits.proofs.ReadSteps.{Answers, Keeps, Serves}
 use Rattle.repository_waits.specs.Waits.{ask_of, tell_of}
 use Rattle.complete_law.proofs.Answering.{heeds-read}

@@ -25,7 +25,7 @@ use Rattle.world_facts.proofs.Openings.{opens, left-nothing, ready-start}
 use Rattle.world_facts.proofs.Refinements.{step-refines}
 use Rattle.complete_law.specs.Calm.{CalmRun, CalmPlace, IsQuiet, IsIdleAt, AllDone, world_at}
 use Rattle.complete_law.proofs.Places.{CalmWorld, IsBegun, IsDecided, tasks_of}
-use Rattle.complete_law.proofs.BrokerTurns.{DeskSound}
+use Rattle.broker_laws.proofs.BookTurns.{DeskSound}
 use Rattle.broker_core.specs.Turns.{desk_at}
 use Rattle.complete_law.proofs.BrokerMoves.{take-calm, go-calm}
 use Rattle.complete_law.proofs.GateMoves.{gate-calm}
