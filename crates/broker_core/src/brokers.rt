@@ -16,7 +16,7 @@ ghost use Rattle.message_form.specs.Messages.{IsMessage};
 ghost use Rattle.turn_form.specs.Ranges.{AreEffects, AreOuts};
 
 use crate::heards::Heard;
-use crate::ledgers::Ledger;
+use crate::ledgers::Replay;
 use crate::logs::take_up_all;
 use crate::owed::settle;
 use crate::phases::{Phase, phase_now, standing};
@@ -35,7 +35,7 @@ use value_form::ActSpec;
 /// A call that answers an error found no memory, and the broker is as before.
 #[derive(Drop)]
 pub struct Broker {
-    ledger: Ledger,
+    ledger: Replay,
     heard: Heard,
     /// The stage of the last try.
     phase: Phase,
@@ -76,7 +76,7 @@ fn listed(alloc: Global, out: Option<Out>) -> Result<Vec<Out>, AllocError>
 
 // Adds the effect to the ledger, if there is one, and to the list.
 fn add_first(
-    ledger: &mut Ledger,
+    ledger: &mut Replay,
     effects: &mut Vec<Effect>,
     first: Option<Effect>,
 ) -> Result<(), AllocError>
@@ -99,7 +99,7 @@ fn add_first(
 }
 
 // Adds the effect, and those that are owed after it, and says what is to be sent.
-fn yielded(ledger: &mut Ledger, first: Option<Effect>, heard: &Heard) -> Result<Gain, AllocError>
+fn yielded(ledger: &mut Replay, first: Option<Effect>, heard: &Heard) -> Result<Gain, AllocError>
     requires { inputs.MayBegin ledger.old.acts ledger.old.notes (ledgers.kept ledger.old.notes ledger.old.answers) first }
     ensures effects { IfOk result (λ w. reverse w.effects.items ≡ inputs.effects_from ledger.old first heard.now) }
     ensures ledger { OnOk result (ledger.new ≡ inputs.ledger_from ledger.old first heard.now) }
@@ -126,7 +126,7 @@ fn yielded(ledger: &mut Ledger, first: Option<Effect>, heard: &Heard) -> Result<
 
 // Why the broker can't go on from a log that led to these notes: `other` is the index of the first act
 // that isn't the plan's.
-fn resume_fault(ledger: &Ledger, other: Option<u32>) -> Option<ResumeFault>
+fn resume_fault(ledger: &Replay, other: Option<u32>) -> Option<ResumeFault>
     ensures fault { result ≡ inputs.fault_of ledger.now other }
     ensures are_notes { ledgers.AreNotes ledger.now.acts ledger.now.notes ledger.now.answers }
 {
@@ -164,7 +164,7 @@ impl Broker {
         ensures opens { (script : List ℕ → Tree) → Scripted script acts.now → spec.Opens script number run acts.now (reverse effects.now) result }
         ensures fresh { IfOk result (λ b. spec.is_fresh number run acts.now b) }
     {
-        let mut ledger = Ledger::new(alloc, number, run, acts)?;
+        let mut ledger = Replay::new(alloc, number, run, acts)?;
         let other = take_up_all(&mut ledger, effects)?;
         if let Some(fault) = resume_fault(&ledger, other) {
             return Err(fault);

@@ -182,7 +182,7 @@ impl<M: Medium> StoredCore<M> for BrokerCore<M> {
 
 impl<M: Medium> BrokerCore<M> {
     /// Whether each act has its outcome and no request is outstanding. Takes no memory.
-    pub(crate) fn is_done(&self) -> bool
+    pub fn is_done(&self) -> bool
         ensures { (b : Base) (l : Life) → IsBroker b (broker self.now.number) (all_effects l) l.mind self.now.broker → result ≡ is_over b self.now.number l }
     {
         self.broker.done()

@@ -6,4 +6,5 @@ mod cores;
 mod logs;
 mod nodes;
 
-pub use nodes::BrokerNode;
+pub use cores::BrokerCore;
+pub use nodes::{BrokerNode, is_done, open_broker};

@@ -42,55 +42,7 @@ use Rattle.broker_core.specs.Fits.{stop_of}
 use Rattle.broker_core.specs.Rows.{news, row, when}
 use Rattle.broker_core.specs.Stages.{Asking, Closing, Finishing, Opening, is_finished}
 use Rattle.repository_waits.proofs.ReadSteps.{Answers}
-
--- ---- what a repository owes stays owed in its turn
-
-abbrev pub Grows : Hand → Hand → Type 0
-Grows h k = (o : Out) → Has o h.outs → Has o k.outs
-
-send-grows : (h : Hand) (to : NodeId) (m : Message) → Grows h (send to m h)
-send-grows h to m o i = has-left h.outs (record { to = to; message = m } ∷ []) o i
-
-sent-here : (h : Hand) (to : NodeId) (m : Message) → Has (record { to = to; message = m }) (send to m h).outs
-sent-here h to m = has-right h.outs (record { to = to; message = m } ∷ []) (record { to = to; message = m }) (inl refl)
-
-read-as-grows : (before : List (TimeParts × HeldRead)) (h : Hand) (from : NodeId) (t : TimeParts) (o : ObjectId) (s : ReadStep) → Grows h (read_as before h from t o s)
-read-as-grows before h from t o (Answer v true) x i = has-left h.outs (record { to = from; message = message.Value t v } ∷ []) x i
-read-as-grows before h from t o (Answer v false) x i = has-left h.outs (record { to = from; message = message.Value t v } ∷ []) x i
-read-as-grows before h from t o (Wait w) x i = go ((w.home == h.number) || waits_for w before)
-  where
-    j : Hand
-    j = hold t (record { from = from; object = o; waits = w }) h
-
-    go : (b : Bool) → Has x (if b then hold t (record { from = from; object = o; waits = w }) h else send (repository w.home) (message.Ask w) (hold t (record { from = from; object = o; waits = w }) h)).outs
-    go true = i
-    go false = has-left h.outs (record { to = repository w.home; message = message.Ask w } ∷ []) x i
-
-read-known-grows : (h : Hand) (from : NodeId) (t : TimeParts) (o : ObjectId) (u : Option Bool) → Grows h (read_known h from t o u)
-read-known-grows h from t o (Some false) x i = has-left h.outs (record { to = from; message = message.Ended t } ∷ []) x i
-read-known-grows h from t o (Some true) x i = read-as-grows h.held (unhold t h) from t o (read_step (marks (now h)) o t) x i
-read-known-grows h from t o None x i = read-as-grows h.held (unhold t h) from t o (read_step (marks (now h)) o t) x i
-
-on-read-grows : (h : Hand) (from : NodeId) (t : TimeParts) (o : ObjectId) → Grows h (on_read h from t o)
-unfolding on_read
-on-read-grows h from t o x i = read-known-grows h from t o (known (now h) t.stamp) x i
-
-reread-grows : (xs : List (TimeParts × HeldRead)) (h : Hand) → Grows h (reread xs h)
-reread-grows [] h x i = i
-reread-grows (e ∷ xs) h x i = reread-grows xs (on_read h e.1.from e.0 e.1.object) x (on-read-grows h e.1.from e.0 e.1.object x i)
-
-release-grows : (s : StampParts) (h : Hand) → Grows h (release s h)
-unfolding release
-release-grows s h x i = reread-grows (filter (λ e. same_stamp e.1.waits s) h.held) (record h { held = filter (λ e. not (same_stamp e.1.waits s)) h.held }) x i
-
-tells-grow : (as' : List Asker) (s : StampParts) (c : Bool) (h : Hand) → Grows h (tells as' s c h)
-tells-grow [] s c h x i = i
-tells-grow (a ∷ as') s c h x i = tells-grow as' s c (send (repository a.repository) (message.Tell s c) h) x (send-grows h (repository a.repository) (message.Tell s c) x i)
-
-tell-askers-grow : (s : StampParts) (c : Bool) (h : Hand) → Grows h (tell_askers s c h)
-unfolding tell_askers
-tell-askers-grow s c h x i =
-    tells-grow (filter (λ a. same_stamp a.stamp s) h.askers) s c (record h { askers = filter (λ a. not (same_stamp a.stamp s)) h.askers }) x i
+use Rattle.repository_laws.proofs.ServedLemmas.{sent-here, release-grows, tell-askers-grow}
 
 -- ---- answers to a Write, a Begin, a Commit and a Withdraw
 

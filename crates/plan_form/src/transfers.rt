@@ -6,7 +6,7 @@ ghost use Rattle.value_form.specs.MirrorLaws.{made, made_all, made_step};
 ghost use Rattle.plan_form.specs.Making as spec;
 
 use std::alloc::{AllocError, Global};
-use value_form::{Boxed, Bytes, Expr, Infix, Items, ObjectId, Place, Script, Stmt};
+use value_form::{Boxed, Bytes, Expr, Infix, Items, ObjectId, Script, Stmt, Target};
 
 fn name(alloc: Global, bytes: &[u8]) -> Result<Bytes, AllocError>
     ensures { IfOk result (λ n. n ≡ bytes.now) }
@@ -59,8 +59,8 @@ fn moves(
         Expr::Number(amount),
     )?;
     let mut part = Vec::new(alloc);
-    part.push(Stmt::Write(4, Place::Fixed(source), less))?;
-    part.push(Stmt::Write(5, Place::Fixed(target), more))?;
+    part.push(Stmt::Write(4, Target::Fixed(source), less))?;
+    part.push(Stmt::Write(5, Target::Fixed(target), more))?;
     Ok(Items::of(part))
 }
 
@@ -83,8 +83,8 @@ pub fn transfer(
     )?;
     let part = moves(alloc, source, target, amount)?;
     let mut lines = Vec::new(alloc);
-    lines.push(Stmt::Read(1, a, Place::Fixed(source)))?;
-    lines.push(Stmt::Read(2, b, Place::Fixed(target)))?;
+    lines.push(Stmt::Read(1, a, Target::Fixed(source)))?;
+    lines.push(Stmt::Read(2, b, Target::Fixed(target)))?;
     lines.push(Stmt::If(3, enough, part, 6))?;
     Ok(Script {
         lines: Items::of(lines),
@@ -104,7 +104,7 @@ fn account_read(alloc: Global, repository: u8, line: u16) -> Result<Stmt, AllocE
 {
     let number = variable(alloc, b"k")?;
     let value = name(alloc, b"v")?;
-    Ok(Stmt::Read(line, value, Place::At(repository, number)))
+    Ok(Stmt::Read(line, value, Target::At(repository, number)))
 }
 
 fn account_sum(alloc: Global, line: u16) -> Result<Stmt, AllocError>

@@ -11,8 +11,8 @@ use Rattle.pseudo_time.specs.declared.nodes.NodeKind.TheVariants as kind
 use Rattle.message_form.specs.declared.messages.Message.{Message}
 use Rattle.message_form.specs.declared.messages.Message.TheVariants as message
 use Rattle.repository_log.specs.Logs.{is_commit}
-use Rattle.record_votes.specs.declared.seats.Seat.{Seat}
-use Rattle.record_votes.specs.declared.seats.Seat.TheVariants.{First, Second, Third}
+use Rattle.record_votes.specs.declared.member_numbers.MemberNumber.{MemberNumber}
+use Rattle.record_votes.specs.declared.member_numbers.MemberNumber.TheVariants.{First, Second, Third}
 use Rattle.record_votes.specs.declared.ballots.Ballot.{Ballot}
 use Rattle.record_votes.specs.Polls.{number_of, member, seat_by, seat_of, PollState, ballot, with_ballot, held, held_of, heard_from, heard_by, begun_heard, vote_heard, poll_takes, PollGiven, ignored}
 
@@ -27,29 +27,29 @@ first≢third e = cc e
 second≢third : Second ≢ Third
 second≢third e = cc e
 
-seat-if : (a b c : Bool) (n : ℕ) (s : Seat) → (a ≡ true → n ≡ 1) → (b ≡ true → n ≡ 2) → (c ≡ true → n ≡ 3)
+seat-if : (a b c : Bool) (n : ℕ) (s : MemberNumber) → (a ≡ true → n ≡ 1) → (b ≡ true → n ≡ 2) → (c ≡ true → n ≡ 3)
     → (if a then Some First else if b then Some Second else if c then Some Third else None) ≡ Some s → n ≡ number_of s
 seat-if true b c n s f g k h = let e : First ≡ s = cc h in f refl ∙ ap number_of e
 seat-if false true c n s f g k h = let e : Second ≡ s = cc h in g refl ∙ ap number_of e
 seat-if false false true n s f g k h = let e : Third ≡ s = cc h in k refl ∙ ap number_of e
 seat-if false false false n s f g k h = absurd (cc h)
 
-seat-kind : (k : NodeKind) (n : ℕ) (s : Seat) → seat_by k n ≡ Some s → record { kind = k; number = n } ≡ member s
+seat-kind : (k : NodeKind) (n : ℕ) (s : MemberNumber) → seat_by k n ≡ Some s → record { kind = k; number = n } ≡ member s
 seat-kind kind.Repository n s h =
     ap (λ z. record { kind = kind.Repository; number = z }) (seat-if (n == 1) (n == 2) (n == 3) n s (eqb-true n 1) (eqb-true n 2) (eqb-true n 3) h)
 seat-kind kind.Broker n s h = absurd (cc h)
 
-pub seat-member : (from : NodeId) (s : Seat) → seat_of from ≡ Some s → from ≡ member s
+pub seat-member : (from : NodeId) (s : MemberNumber) → seat_of from ≡ Some s → from ≡ member s
 seat-member from s h = seat-kind from.kind from.number s h
 
 -- ---- two of three
 
 abbrev pub Ballots : Type 0
-Ballots = Seat → Option Bool
+Ballots = MemberNumber → Option Bool
 
 pub record Two (votes : Ballots) (c : Bool) : Type 0 where
-  pub one : Seat
-  pub other : Seat
+  pub one : MemberNumber
+  pub other : MemberNumber
   pub apart : one ≢ other
   pub one_vote : votes one ≡ Some c
   pub other_vote : votes other ≡ Some c
@@ -87,7 +87,7 @@ two-held None (Some false) (Some true) c h = absurd (cc h)
 two-held None (Some false) None c h = absurd (cc h)
 two-held None None z c h = absurd (cc h)
 
-three-votes : (p : PollState) (s : Seat) → three p.first.vote p.second.vote p.third.vote s ≡ votes_of p s
+three-votes : (p : PollState) (s : MemberNumber) → three p.first.vote p.second.vote p.third.vote s ≡ votes_of p s
 three-votes p First = refl
 three-votes p Second = refl
 three-votes p Third = refl
@@ -102,14 +102,14 @@ held-two p c h =
 -- what its ballots become: the stamp stays, a vote stays, and a new vote was heard in a Decided from that member
 pub record Hears (from : NodeId) (m : Message) (old new : PollState) : Type 0 where
   pub stamp : new.stamp ≡ old.stamp
-  pub stays : (s : Seat) (c : Bool) → (ballot old s).vote ≡ Some c → (ballot new s).vote ≡ Some c
-  pub cause : (s : Seat) (c : Bool) → (ballot new s).vote ≡ Some c → ((ballot old s).vote ≡ Some c) ⊎ ((d : Decision) × (is_commit d ≡ c) × (from ≡ member s) × (m ≡ message.Decided old.stamp d))
+  pub stays : (s : MemberNumber) (c : Bool) → (ballot old s).vote ≡ Some c → (ballot new s).vote ≡ Some c
+  pub cause : (s : MemberNumber) (c : Bool) → (ballot new s).vote ≡ Some c → ((ballot old s).vote ≡ Some c) ⊎ ((d : Decision) × (is_commit d ≡ c) × (from ≡ member s) × (m ≡ message.Decided old.stamp d))
 
 hears-nothing : (from : NodeId) (m : Message) (p : PollState) → Hears from m p p
 hears-nothing from m p = record { stamp = refl; stays = λ s c h. h; cause = λ s c h. inl h }
 
 -- what holds of the new ballot and of the old ones holds of all
-with-at : (P : Seat → Ballot → Type 0) (p : PollState) (s : Seat) (b : Ballot) → P s b → ((k : Seat) → P k (ballot p k)) → (k : Seat) → P k (ballot (with_ballot p s b) k)
+with-at : (P : MemberNumber → Ballot → Type 0) (p : PollState) (s : MemberNumber) (b : Ballot) → P s b → ((k : MemberNumber) → P k (ballot p k)) → (k : MemberNumber) → P k (ballot (with_ballot p s b) k)
 with-at P p First b h f First = h
 with-at P p First b h f Second = f Second
 with-at P p First b h f Third = f Third
@@ -120,15 +120,15 @@ with-at P p Third b h f First = f First
 with-at P p Third b h f Second = f Second
 with-at P p Third b h f Third = h
 
-with-stamp : (p : PollState) (s : Seat) (b : Ballot) → (with_ballot p s b).stamp ≡ p.stamp
+with-stamp : (p : PollState) (s : MemberNumber) (b : Ballot) → (with_ballot p s b).stamp ≡ p.stamp
 with-stamp p First b = refl
 with-stamp p Second b = refl
 with-stamp p Third b = refl
 
-abbrev Cause : NodeId → Message → PollState → Seat → Bool → Type 0
+abbrev Cause : NodeId → Message → PollState → MemberNumber → Bool → Type 0
 Cause from m p s c = ((ballot p s).vote ≡ Some c) ⊎ ((d : Decision) × (is_commit d ≡ c) × (from ≡ member s) × (m ≡ message.Decided p.stamp d))
 
-hears-by : (from : NodeId) (m : Message) (p : PollState) (s : Seat) (b : Ballot)
+hears-by : (from : NodeId) (m : Message) (p : PollState) (s : MemberNumber) (b : Ballot)
     → ((c : Bool) → (ballot p s).vote ≡ Some c → b.vote ≡ Some c) → ((c : Bool) → b.vote ≡ Some c → Cause from m p s c) → Hears from m p (with_ballot p s b)
 hears-by from m p s b f g = record {
   stamp = with-stamp p s b;
@@ -136,10 +136,10 @@ hears-by from m p s b f g = record {
   cause = with-at (λ k z. (c : Bool) → z.vote ≡ Some c → Cause from m p k c) p s b g (λ k c h. inl h);
 }
 
-begun-hears : (from : NodeId) (m : Message) (p : PollState) (s : Seat) → Hears from m p (begun_heard p s (ballot p s)).poll
+begun-hears : (from : NodeId) (m : Message) (p : PollState) (s : MemberNumber) → Hears from m p (begun_heard p s (ballot p s)).poll
 begun-hears from m p s = hears-by from m p s (record (ballot p s) { begun = true }) (λ c h. h) (λ c h. inl h)
 
-vote-hears : (from : NodeId) (m : Message) (p : PollState) (s : Seat) (d : Decision) (v : Option Bool) → (ballot p s).vote ≡ v
+vote-hears : (from : NodeId) (m : Message) (p : PollState) (s : MemberNumber) (d : Decision) (v : Option Bool) → (ballot p s).vote ≡ v
     → from ≡ member s → m ≡ message.Decided p.stamp d → Hears from m p (vote_heard p s d (ballot p s) v).poll
 vote-hears from m p s d None none e f = hears-by from m p s (record (ballot p s) { vote = Some (is_commit d) })
     (λ c h. let k : None ≡ Some c = sym none ∙ h in absurd (cc k)) (λ c h. let k : is_commit d ≡ c = cc h in inr (d, k, e, f))
@@ -149,13 +149,13 @@ hears-if : (b : Bool) (from : NodeId) (m : Message) (p : PollState) (g : PollGiv
 hears-if true from m p g h = h refl
 hears-if false from m p g h = hears-nothing from m p
 
-from-hears : (from : NodeId) (m : Message) (p : PollState) (s : Seat) → from ≡ member s → Hears from m p (heard_from p s m).poll
+from-hears : (from : NodeId) (m : Message) (p : PollState) (s : MemberNumber) → from ≡ member s → Hears from m p (heard_from p s m).poll
 from-hears from (message.Begun x) p s e = hears-if (same_stamp x p.stamp) from (message.Begun x) p (begun_heard p s (ballot p s)) (λ h. begun-hears from (message.Begun x) p s)
 from-hears from (message.Decided x d) p s e = hears-if (same_stamp x p.stamp) from (message.Decided x d) p (vote_heard p s d (ballot p s) (ballot p s).vote)
     (λ h. vote-hears from (message.Decided x d) p s d (ballot p s).vote refl e (ap (λ z. message.Decided z d) (same_stamp-is x p.stamp h)))
 from-hears from m p s e = hears-nothing from m p
 
-by-hears : (from : NodeId) (m : Message) (p : PollState) (s : Option Seat) → seat_of from ≡ s → Hears from m p (heard_by p s m).poll
+by-hears : (from : NodeId) (m : Message) (p : PollState) (s : Option MemberNumber) → seat_of from ≡ s → Hears from m p (heard_by p s m).poll
 by-hears from m p None e = hears-nothing from m p
 by-hears from m p (Some s) e = from-hears from m p s (seat-member from s e)
 
@@ -191,7 +191,7 @@ is-held x y z c t = by-seats x y z c t.one t.other t.apart t.one_vote t.other_vo
     last-two (Some false) false = refl
     last-two None false = refl
 
-    by-seats : (x y z : Option Bool) (c : Bool) (a b : Seat) → a ≢ b → three x y z a ≡ Some c → three x y z b ≡ Some c → held_of x y z ≡ Some c
+    by-seats : (x y z : Option Bool) (c : Bool) (a b : MemberNumber) → a ≢ b → three x y z a ≡ Some c → three x y z b ≡ Some c → held_of x y z ≡ Some c
     by-seats x y z c First First n h k = absurd (n refl)
     by-seats x y z c First Second n h k = ap (λ u. held_of u y z) h ∙ ap (λ u. held_of (Some c) u z) k ∙ first-two z c
     by-seats x y z c First Third n h k = ap (λ u. held_of u y z) h ∙ ap (λ u. held_of (Some c) y u) k ∙ outer-two y c
@@ -207,14 +207,14 @@ two-hold p c t = is-held p.first.vote p.second.vote p.third.vote c
     (record { one = t.one; other = t.other; apart = t.apart; one_vote = three-votes p t.one ∙ t.one_vote; other_vote = three-votes p t.other ∙ t.other_vote })
 
 -- votes that stay keep what is held
-pub held-stays : (old new : PollState) (c : Bool) → ((s : Seat) (v : Bool) → (ballot old s).vote ≡ Some v → (ballot new s).vote ≡ Some v) → held old ≡ Some c → held new ≡ Some c
+pub held-stays : (old new : PollState) (c : Bool) → ((s : MemberNumber) (v : Bool) → (ballot old s).vote ≡ Some v → (ballot new s).vote ≡ Some v) → held old ≡ Some c → held new ≡ Some c
 held-stays old new c f h =
     let t : Two (votes_of old) c = held-two old c h in
     two-hold new c (record { one = t.one; other = t.other; apart = t.apart; one_vote = f t.one c t.one_vote; other_vote = f t.other c t.other_vote })
 
 -- ---- two pairs of three have one in common
 
-pub shared : (a b x y : Seat) → a ≢ b → x ≢ y → ((a ≡ x) ⊎ (a ≡ y)) ⊎ ((b ≡ x) ⊎ (b ≡ y))
+pub shared : (a b x y : MemberNumber) → a ≢ b → x ≢ y → ((a ≡ x) ⊎ (a ≡ y)) ⊎ ((b ≡ x) ⊎ (b ≡ y))
 shared First b First y n m = inl (inl refl)
 shared Second b Second y n m = inl (inl refl)
 shared Third b Third y n m = inl (inl refl)

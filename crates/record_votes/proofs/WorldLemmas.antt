@@ -18,8 +18,8 @@ use Rattle.turn_form.specs.declared.turns.Out.{Out}
 use Rattle.turn_form.specs.Posts.{Post, post, posts}
 use Rattle.repository_log.specs.Logs.{is_commit}
 use Rattle.pseudo_time.specs.Nodes.{broker}
-use Rattle.record_votes.specs.declared.seats.Seat.{Seat}
-use Rattle.record_votes.specs.declared.seats.Seat.TheVariants.{First, Second, Third}
+use Rattle.record_votes.specs.declared.member_numbers.MemberNumber.{MemberNumber}
+use Rattle.record_votes.specs.declared.member_numbers.MemberNumber.TheVariants.{First, Second, Third}
 use Rattle.record_votes.specs.Members.{Given, on_message, on_moment}
 use Rattle.record_votes.specs.Polls.{member, seat_at, PollState, ballot, held, poll_goes, poll_hears, poll_takes, PollGiven}
 use Rattle.record_votes.specs.Voting.{Member, World, all_effects, opened, turned, took, heard, shut, crashed, Event, Goes, Delivered, Gates, Crashes, Hears, Polled, is_seat, with_member, with_poll, with_sent, post_at, to_poll, to_seat, delivered_to, delivered, after, run, Line, new_poll, founded, reached, gated, IsDecided, TwoDecided, Logs, entered, no_logs, Call, ended, left, logs_after}
@@ -61,15 +61,15 @@ kept-once m kept once = tidy-front (m.gated ++ take kept m.fresh) (drop kept m.f
 -- ---- the world
 
 pub record Facts (lines : ℕ → Line) (w : World) : Type 0 where
-  pub members : (s : Seat) → MemberFacts (w.members s)
-  pub sent : (s : Seat) (to : NodeId) (x : StampParts) (d : Decision) → Has (post (member s) (said to x d)) w.sent → voted (gated w s) x ≡ Some d
+  pub members : (s : MemberNumber) → MemberFacts (w.members s)
+  pub sent : (s : MemberNumber) (to : NodeId) (x : StampParts) (d : Decision) → Has (post (member s) (said to x d)) w.sent → voted (gated w s) x ≡ Some d
   pub stamps : (i : ℕ) → (w.polls i).stamp ≡ (lines i).stamp
-  pub ballots : (i : ℕ) (s : Seat) (c : Bool) → (ballot (w.polls i) s).vote ≡ Some c → (d : Decision) × (is_commit d ≡ c) × (voted (gated w s) (lines i).stamp ≡ Some d)
+  pub ballots : (i : ℕ) (s : MemberNumber) (c : Bool) → (ballot (w.polls i) s).vote ≡ Some c → (d : Decision) × (is_commit d ≡ c) × (voted (gated w s) (lines i).stamp ≡ Some d)
 
 -- what never ends: durable logs go on, and votes stay
 pub record Onward (old new : World) : Type 0 where
-  pub logs : (s : Seat) → Grows (old.members s) (new.members s)
-  pub votes : (i : ℕ) (s : Seat) (c : Bool) → (ballot (old.polls i) s).vote ≡ Some c → (ballot (new.polls i) s).vote ≡ Some c
+  pub logs : (s : MemberNumber) → Grows (old.members s) (new.members s)
+  pub votes : (i : ℕ) (s : MemberNumber) (c : Bool) → (ballot (old.polls i) s).vote ≡ Some c → (ballot (new.polls i) s).vote ≡ Some c
 
 same-log : (m : Member) → Grows m m
 same-log m = record { more = []; grown = sym (append-nil m.gated) }
@@ -89,7 +89,7 @@ onward-on a b c f g = record {
 grows-voted : (old new : Member) → Grows old new → (x : StampParts) (d : Decision) → voted old.gated x ≡ Some d → voted new.gated x ≡ Some d
 grows-voted old new g x d h = subst (λ l. voted l x ≡ Some d) (sym g.grown) (voted-more old.gated g.more x d h)
 
-at-seat : (P : Seat → Member → Type 0) (f : Seat → Member) (s : Seat) (m : Member) → P s m → ((k : Seat) → P k (f k)) → (k : Seat) → P k (if is_seat s k then m else f k)
+at-seat : (P : MemberNumber → Member → Type 0) (f : MemberNumber → Member) (s : MemberNumber) (m : Member) → P s m → ((k : MemberNumber) → P k (f k)) → (k : MemberNumber) → P k (if is_seat s k then m else f k)
 at-seat P f First m h g First = h
 at-seat P f First m h g Second = g Second
 at-seat P f First m h g Third = g Third
@@ -100,14 +100,14 @@ at-seat P f Third m h g First = g First
 at-seat P f Third m h g Second = g Second
 at-seat P f Third m h g Third = h
 
-at-own : (f : Seat → Member) (s : Seat) (m : Member) → (if is_seat s s then m else f s) ≡ m
+at-own : (f : MemberNumber → Member) (s : MemberNumber) (m : Member) → (if is_seat s s then m else f s) ≡ m
 at-own f First m = refl
 at-own f Second m = refl
 at-own f Third m = refl
 
 module _ (lines : ℕ → Line) where
   -- one member changes
-  member-facts : (w : World) (s : Seat) (m : Member) → MemberFacts m → Grows (w.members s) m → Facts lines w → Facts lines (with_member w s m)
+  member-facts : (w : World) (s : MemberNumber) (m : Member) → MemberFacts m → Grows (w.members s) m → Facts lines w → Facts lines (with_member w s m)
   member-facts w s m h g facts = record {
     members = at-seat (λ k z. MemberFacts z) w.members s m h facts.members;
     sent = at-seat (λ k z. (to : NodeId) (x : StampParts) (d : Decision) → Has (post (member k) (said to x d)) w.sent → voted z.gated x ≡ Some d) w.members s m
@@ -118,7 +118,7 @@ module _ (lines : ℕ → Line) where
   }
 
   -- messages are sent
-  sent-facts : (w : World) (more : List Post) → ((s : Seat) (to : NodeId) (x : StampParts) (d : Decision) → Has (post (member s) (said to x d)) more → voted (gated w s) x ≡ Some d)
+  sent-facts : (w : World) (more : List Post) → ((s : MemberNumber) (to : NodeId) (x : StampParts) (d : Decision) → Has (post (member s) (said to x d)) more → voted (gated w s) x ≡ Some d)
       → Facts lines w → Facts lines (with_sent w more)
   sent-facts w more f facts = record {
     members = facts.members;
@@ -130,7 +130,7 @@ module _ (lines : ℕ → Line) where
     ballots = facts.ballots;
   }
 
-member-onward : (w : World) (s : Seat) (m : Member) → Grows (w.members s) m → Onward w (with_member w s m)
+member-onward : (w : World) (s : MemberNumber) (m : Member) → Grows (w.members s) m → Onward w (with_member w s m)
 member-onward w s m g = record { logs = at-seat (λ k z. Grows (w.members k) z) w.members s m g (λ k. same-log (w.members k)); votes = λ i k c h. h }
 
 -- ---- posts
@@ -140,10 +140,10 @@ has-post from [] p h = absurd h
 has-post from (o ∷ outs) p (inl e) = (sym (ap (λ z. z.from) e), inl (ap (λ (z : Post). let r : Out = record { to = z.to; message = z.message } in r) e))
 has-post from (o ∷ outs) p (inr k) = let h : (p.from ≡ from) × Has (record { to = p.to; message = p.message }) outs = has-post from outs p k in (h.0, inr h.1)
 
-member≢broker : (s : Seat) (i : ℕ) → member s ≡ broker i → ⊥
+member≢broker : (s : MemberNumber) (i : ℕ) → member s ≡ broker i → ⊥
 member≢broker s i e = let k : kind.Repository ≡ kind.Broker = ap (λ z. z.kind) e in cc k
 
-same-seat : (a b : Seat) → member a ≡ member b → a ≡ b
+same-seat : (a b : MemberNumber) → member a ≡ member b → a ≡ b
 same-seat First First e = refl
 same-seat Second Second e = refl
 same-seat Third Third e = refl
@@ -154,7 +154,7 @@ same-seat Second Third e = let k : 2 ≡ 3 = ap (λ z. z.number) e in absurd (cc
 same-seat Third First e = let k : 3 ≡ 1 = ap (λ z. z.number) e in absurd (cc k)
 same-seat Third Second e = let k : 3 ≡ 2 = ap (λ z. z.number) e in absurd (cc k)
 
-broker-post : (w : World) (i : ℕ) (outs : List Out) (s : Seat) (to : NodeId) (x : StampParts) (d : Decision) → Has (post (member s) (said to x d)) (posts (broker i) outs) → voted (gated w s) x ≡ Some d
+broker-post : (w : World) (i : ℕ) (outs : List Out) (s : MemberNumber) (to : NodeId) (x : StampParts) (d : Decision) → Has (post (member s) (said to x d)) (posts (broker i) outs) → voted (gated w s) x ≡ Some d
 broker-post w i outs s to x d h = absurd (member≢broker s i (has-post (broker i) outs (post (member s) (said to x d)) h).0)
 
 at-post : (ps : List Post) (k : ℕ) (p : Post) → post_at ps k ≡ Some p → Has p ps
@@ -172,15 +172,15 @@ at-poll : (P : ℕ → PollState → Type 0) (f : ℕ → PollState) (i : ℕ) (
 at-poll P f i p h g k = at-if P i k p (f k) (i == k) (eqb-true i k) h (g k)
 
 module _ (lines : ℕ → Line) where
-  abbrev IsBacked : World → ℕ → Seat → Bool → Type 0
+  abbrev IsBacked : World → ℕ → MemberNumber → Bool → Type 0
   IsBacked w i s c = (d : Decision) × (is_commit d ≡ c) × (voted (gated w s) (lines i).stamp ≡ Some d)
 
-  poll-facts : (w : World) (i : ℕ) (p : PollState) → p.stamp ≡ (lines i).stamp → ((s : Seat) (c : Bool) → (ballot p s).vote ≡ Some c → IsBacked w i s c) → Facts lines w → Facts lines (with_poll w i p)
+  poll-facts : (w : World) (i : ℕ) (p : PollState) → p.stamp ≡ (lines i).stamp → ((s : MemberNumber) (c : Bool) → (ballot p s).vote ≡ Some c → IsBacked w i s c) → Facts lines w → Facts lines (with_poll w i p)
   poll-facts w i p e f facts = record {
     members = facts.members;
     sent = facts.sent;
     stamps = at-poll (λ k q. q.stamp ≡ (lines k).stamp) w.polls i p e facts.stamps;
-    ballots = at-poll (λ k q. (s : Seat) (c : Bool) → (ballot q s).vote ≡ Some c → IsBacked w k s c) w.polls i p f facts.ballots;
+    ballots = at-poll (λ k q. (s : MemberNumber) (c : Bool) → (ballot q s).vote ≡ Some c → IsBacked w k s c) w.polls i p f facts.ballots;
   }
 
   to-poll-facts : (w : World) (i : ℕ) (p : Post) → Has p w.sent → Facts lines w → Facts lines (to_poll w i (poll_takes (w.polls i) p.from p.message))
@@ -200,7 +200,7 @@ module _ (lines : ℕ → Line) where
             (d, new.1, facts.sent s p.to (lines i).stamp d (subst (λ z. Has z w.sent) there come)))
       ]) facts)
 
-  to-seat-facts : (w : World) (from : NodeId) (m : Message) (s : Option Seat) → Facts lines w → Facts lines (to_seat w from m s)
+  to-seat-facts : (w : World) (from : NodeId) (m : Message) (s : Option MemberNumber) → Facts lines w → Facts lines (to_seat w from m s)
   to-seat-facts w from m None facts = facts
   to-seat-facts w from m (Some s) facts =
       let x : Member = w.members s in
@@ -214,7 +214,7 @@ module _ (lines : ℕ → Line) where
   delivered-facts w None come facts = facts
   delivered-facts w (Some p) come facts = to-kind-facts w p p.to.kind (come p refl) facts
 
-  shut-sent : (w : World) (s : Seat) → Facts lines w → (k : Seat) (to : NodeId) (x : StampParts) (d : Decision)
+  shut-sent : (w : World) (s : MemberNumber) → Facts lines w → (k : MemberNumber) (to : NodeId) (x : StampParts) (d : Decision)
       → Has (post (member k) (said to x d)) (posts (member s) (w.members s).owed) → voted (gated (with_member w s (shut (w.members s))) k) x ≡ Some d
   shut-sent w s facts k to x d h =
       let p : (member k ≡ member s) × Has (said to x d) (w.members s).owed = has-post (member s) (w.members s).owed (post (member k) (said to x d)) h in
@@ -240,7 +240,7 @@ module _ (lines : ℕ → Line) where
   run-facts w [] facts = facts
   run-facts w (e ∷ es) facts = run-facts (after w e) es (step-facts w e facts)
 
-  pub founded-facts : (start : Seat → ℕ) → Facts lines (founded start lines)
+  pub founded-facts : (start : MemberNumber → ℕ) → Facts lines (founded start lines)
   founded-facts start = record {
     members = λ s. opened-facts (start s) [] tidy-none;
     sent = λ s to x d h. absurd h;
@@ -248,21 +248,21 @@ module _ (lines : ℕ → Line) where
     ballots = λ i s c. elim s as (λ s. (ballot (new_poll i (lines i)) s).vote ≡ Some c → IsBacked (founded start lines) i s c) [ First ↦ λ h. absurd (cc h) | Second ↦ λ h. absurd (cc h) | Third ↦ λ h. absurd (cc h) ];
   }
 
-  pub reached-facts : (start : Seat → ℕ) (es : List Event) → Facts lines (reached start lines es)
+  pub reached-facts : (start : MemberNumber → ℕ) (es : List Event) → Facts lines (reached start lines es)
   reached-facts start es = run-facts (founded start lines) es (founded-facts start)
 
 -- ---- what never ends
 
-poll-onward : (w : World) (i : ℕ) (p : PollState) → ((s : Seat) (c : Bool) → (ballot (w.polls i) s).vote ≡ Some c → (ballot p s).vote ≡ Some c) → Onward w (with_poll w i p)
+poll-onward : (w : World) (i : ℕ) (p : PollState) → ((s : MemberNumber) (c : Bool) → (ballot (w.polls i) s).vote ≡ Some c → (ballot p s).vote ≡ Some c) → Onward w (with_poll w i p)
 poll-onward w i p f = record {
   logs = λ s. same-log (w.members s);
-  votes = at-poll (λ k q. (s : Seat) (c : Bool) → (ballot (w.polls k) s).vote ≡ Some c → (ballot q s).vote ≡ Some c) w.polls i p f (λ k s c h. h);
+  votes = at-poll (λ k q. (s : MemberNumber) (c : Bool) → (ballot (w.polls k) s).vote ≡ Some c → (ballot q s).vote ≡ Some c) w.polls i p f (λ k s c h. h);
 }
 
 sent-onward : (old w : World) (more : List Post) → Onward old w → Onward old (with_sent w more)
 sent-onward old w more h = record { logs = h.logs; votes = h.votes }
 
-seat-onward : (w : World) (from : NodeId) (m : Message) (s : Option Seat) → Onward w (to_seat w from m s)
+seat-onward : (w : World) (from : NodeId) (m : Message) (s : Option MemberNumber) → Onward w (to_seat w from m s)
 seat-onward w from m None = onward-same w
 seat-onward w from m (Some s) =
     let x : Member = w.members s in
@@ -303,12 +303,12 @@ run-append w (e ∷ es) more = run-append (after w e) es more
 
 -- ---- the law
 
-module _ (start : Seat → ℕ) (lines : ℕ → Line) where
+module _ (start : MemberNumber → ℕ) (lines : ℕ → Line) where
   abbrev at : List Event → World
   at es = reached start lines es
 
   -- a vote that a poll holds stands in that member's durable log
-  backed : (es : List Event) (i : ℕ) (s : Seat) (c : Bool) → (ballot ((at es).polls i) s).vote ≡ Some c → IsDecided (gated (at es) s) (lines i).stamp c
+  backed : (es : List Event) (i : ℕ) (s : MemberNumber) (c : Bool) → (ballot ((at es).polls i) s).vote ≡ Some c → IsDecided (gated (at es) s) (lines i).stamp c
   backed es i s c h =
       let b : IsBacked lines (at es) i s c = (reached-facts lines start es).ballots i s c h in
       (b.0, b.1, voted-has (gated (at es) s) (lines i).stamp b.0 b.2)
@@ -325,18 +325,18 @@ module _ (start : Seat → ℕ) (lines : ℕ → Line) where
   pub two-decided : (es more : List Event) (i : ℕ) (c : Bool) → held ((at es).polls i) ≡ Some c → TwoDecided (at (es ++ more)) (lines i).stamp c
   two-decided es more i c h = two-now (es ++ more) i c (later-held es more i c h)
 
-  pub decided-once : (es : List Event) (m : Seat) (s : StampParts) (d e : Decision) → Has (effect.Decide s d) (gated (at es) m) → Has (effect.Decide s e) (gated (at es) m) → d ≡ e
+  pub decided-once : (es : List Event) (m : MemberNumber) (s : StampParts) (d e : Decision) → Has (effect.Decide s d) (gated (at es) m) → Has (effect.Decide s e) (gated (at es) m) → d ≡ e
   decided-once es m s d e h k =
       let x : Member = (at es).members m in
       let o : Once (all_effects x) = ((reached-facts lines start es).members m).once.once in
       some-same (voted (all_effects x) s) d e (o s d (has-left x.gated x.fresh (effect.Decide s d) h)) (o s e (has-left x.gated x.fresh (effect.Decide s e) k))
 
-  pub decided-single : (es : List Event) (m : Seat) (a b : List Effect) (s : StampParts) (d e : Decision) → gated (at es) m ≡ a ++ effect.Decide s d ∷ b → Has (effect.Decide s e) b → ⊥
+  pub decided-single : (es : List Event) (m : MemberNumber) (a b : List Effect) (s : StampParts) (d e : Decision) → gated (at es) m ≡ a ++ effect.Decide s d ∷ b → Has (effect.Decide s e) b → ⊥
   decided-single es m a b s d e is h =
       let x : Member = (at es).members m in
       tidy-apart a b s d e (subst Single is (single-front x.gated x.fresh ((reached-facts lines start es).members m).once.single)) h
 
-  one-way : (es : List Event) (m : Seat) (s : StampParts) (c d : Bool) → IsDecided (gated (at es) m) s c → IsDecided (gated (at es) m) s d → c ≡ d
+  one-way : (es : List Event) (m : MemberNumber) (s : StampParts) (c d : Bool) → IsDecided (gated (at es) m) s c → IsDecided (gated (at es) m) s d → c ≡ d
   one-way es m s c d h k = sym h.1 ∙ ap is_commit (decided-once es m s h.0 k.0 h.2 k.2) ∙ k.1
 
   two-agree : (es : List Event) (s : StampParts) (c d : Bool) → TwoDecided (at es) s c → TwoDecided (at es) s d → c ≡ d
@@ -363,10 +363,10 @@ facts-two lines w facts i c h =
     let t : Two (votes_of (w.polls i)) c = held-two (w.polls i) c h in
     record { one = t.one; other = t.other; apart = t.apart; one_decided = stands t.one t.one_vote; other_decided = stands t.other t.other_vote }
   where
-    stands : (s : Seat) → (ballot (w.polls i) s).vote ≡ Some c → IsDecided (gated w s) (lines i).stamp c
+    stands : (s : MemberNumber) → (ballot (w.polls i) s).vote ≡ Some c → IsDecided (gated w s) (lines i).stamp c
     stands s v = let b : IsBacked lines w i s c = facts.ballots i s c v in (b.0, b.1, voted-has (gated w s) (lines i).stamp b.0 b.2)
 
-facts-one : (lines : ℕ → Line) (w : World) → Facts lines w → (m : Seat) (s : StampParts) (c d : Bool) → IsDecided (gated w m) s c → IsDecided (gated w m) s d → c ≡ d
+facts-one : (lines : ℕ → Line) (w : World) → Facts lines w → (m : MemberNumber) (s : StampParts) (c d : Bool) → IsDecided (gated w m) s c → IsDecided (gated w m) s d → c ≡ d
 facts-one lines w facts m s c d h k =
     let x : Member = w.members m in
     let o : Once (all_effects x) = (facts.members m).once.once in
@@ -386,9 +386,9 @@ facts-agree lines w facts s c d a b = elim (shared a.one a.other b.one b.other a
 ]
 
 abbrev Onces : Logs → Type 0
-Onces logs = (s : Seat) → Tidy (logs s)
+Onces logs = (s : MemberNumber) → Tidy (logs s)
 
-entered-facts : (start : Seat → ℕ) (logs : Logs) (lines : ℕ → Line) → Onces logs → Facts lines (entered start logs lines)
+entered-facts : (start : MemberNumber → ℕ) (logs : Logs) (lines : ℕ → Line) → Onces logs → Facts lines (entered start logs lines)
 entered-facts start logs lines once = record {
   members = λ s. opened-facts (start s) (logs s) (once s);
   sent = λ s to x d h. absurd h;
@@ -407,15 +407,15 @@ after-onces logs [] once = once
 after-onces logs (c ∷ cs) once = after-onces (left logs c) cs (left-onces logs c once)
 
 -- what stands when a call begins stands in its durable logs
-entered-has : (logs : Logs) (c : Call) (s : Seat) (f : Effect) → Has f (logs s) → Has f (gated (ended logs c) s)
+entered-has : (logs : Logs) (c : Call) (s : MemberNumber) (f : Effect) → Has f (logs s) → Has f (gated (ended logs c) s)
 entered-has logs c s f h =
     let g : Grows (opened (c.start s) (logs s)) ((ended logs c).members s) = (run-onward (entered c.start logs c.lines) c.events).logs s in
     subst (Has f) (sym g.grown) (has-left (logs s) g.more f h)
 
-left-has : (logs : Logs) (c : Call) (s : Seat) (f : Effect) → Has f (gated (ended logs c) s) → Has f (left logs c s)
+left-has : (logs : Logs) (c : Call) (s : MemberNumber) (f : Effect) → Has f (gated (ended logs c) s) → Has f (left logs c s)
 left-has logs c s f h = has-left (gated (ended logs c) s) (take (c.kept s) ((ended logs c).members s).fresh) f h
 
-after-has : (logs : Logs) (cs : List Call) (s : Seat) (f : Effect) → Has f (logs s) → Has f (logs_after logs cs s)
+after-has : (logs : Logs) (cs : List Call) (s : MemberNumber) (f : Effect) → Has f (logs s) → Has f (logs_after logs cs s)
 after-has logs [] s f h = h
 after-has logs (c ∷ cs) s f h = after-has (left logs c) cs s f (left-has logs c s f (entered-has logs c s f h))
 
@@ -426,7 +426,7 @@ after-append logs (c ∷ a) b = after-append (left logs c) a b
 later-two : (logs : Logs) (c d : Call) (between : List Call) (s : StampParts) (v : Bool) → TwoDecided (ended logs c) s v → TwoDecided (ended (logs_after logs (c ∷ between)) d) s v
 later-two logs c d between s v t = record { one = t.one; other = t.other; apart = t.apart; one_decided = later t.one t.one_decided; other_decided = later t.other t.other_decided }
   where
-    later : (m : Seat) → IsDecided (gated (ended logs c) m) s v → IsDecided (gated (ended (logs_after logs (c ∷ between)) d) m) s v
+    later : (m : MemberNumber) → IsDecided (gated (ended logs c) m) s v → IsDecided (gated (ended (logs_after logs (c ∷ between)) d) m) s v
     later m h = (h.0, h.1, entered-has (logs_after logs (c ∷ between)) d m (effect.Decide s h.0) (after-has (left logs c) between m (effect.Decide s h.0) (left-has logs c m (effect.Decide s h.0) h.2)))
 
 -- two polls of one stamp, in whatever calls

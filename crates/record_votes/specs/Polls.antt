@@ -12,28 +12,28 @@ use Rattle.turn_form.specs.declared.turns.Out.{Out}
 use Rattle.repository_log.specs.Logs.{is_commit}
 use Rattle.pseudo_time.specs.Nodes.{repository}
 use Rattle.record_votes.specs.declared.ballots.Ballot.{Ballot}
-use Rattle.record_votes.specs.declared.seats.Seat.{Seat}
-use Rattle.record_votes.specs.declared.seats.Seat.TheVariants.{First, Second, Third}
+use Rattle.record_votes.specs.declared.member_numbers.MemberNumber.{MemberNumber}
+use Rattle.record_votes.specs.declared.member_numbers.MemberNumber.TheVariants.{First, Second, Third}
 use Rattle.record_votes.specs.declared.ballots.Wish.{Wish}
 use Rattle.record_votes.specs.declared.ballots.Wish.TheVariants as wish
 
-abbrev pub number_of : Seat → ℕ
+abbrev pub number_of : MemberNumber → ℕ
 number_of First = 1
 number_of Second = 2
 number_of Third = 3
 
 -- members are repositories 1 to 3
-abbrev pub member : Seat → NodeId
+abbrev pub member : MemberNumber → NodeId
 member s = repository (number_of s)
 
-abbrev pub seat_at : ℕ → Option Seat
+abbrev pub seat_at : ℕ → Option MemberNumber
 seat_at n = if n == 1 then Some First else if n == 2 then Some Second else if n == 3 then Some Third else None
 
-abbrev pub seat_by : NodeKind → ℕ → Option Seat
+abbrev pub seat_by : NodeKind → ℕ → Option MemberNumber
 seat_by kind.Repository n = seat_at n
 seat_by kind.Broker n = None
 
-abbrev pub seat_of : NodeId → Option Seat
+abbrev pub seat_of : NodeId → Option MemberNumber
 seat_of node = seat_by node.kind node.number
 
 -- A poll. A ballot is what was heard from one member: whether Begun, and how the first Decided went.
@@ -46,12 +46,12 @@ pub record PollState : Type 0 where
   pub second : Ballot
   pub third : Ballot
 
-abbrev pub ballot : PollState → Seat → Ballot
+abbrev pub ballot : PollState → MemberNumber → Ballot
 ballot p First = p.first
 ballot p Second = p.second
 ballot p Third = p.third
 
-abbrev pub with_ballot : PollState → Seat → Ballot → PollState
+abbrev pub with_ballot : PollState → MemberNumber → Ballot → PollState
 with_ballot p First b = record p { first = b }
 with_ballot p Second b = record p { second = b }
 with_ballot p Third b = record p { third = b }
@@ -77,7 +77,7 @@ held p = held_of p.first.vote p.second.vote p.third.vote
 
 -- ---- what it sends
 
-abbrev pub to_member : Seat → Message → List Out
+abbrev pub to_member : MemberNumber → Message → List Out
 to_member s m = record { to = member s; message = m } ∷ []
 
 abbrev pub wish_for : Wish → StampParts → Message
@@ -90,11 +90,11 @@ outstanding p false = message.Begin p.stamp p.timeout
 outstanding p true = wish_for p.wish p.stamp
 
 -- nothing to a member that has voted
-abbrev pub asked : PollState → Seat → Bool → Option Bool → List Out
+abbrev pub asked : PollState → MemberNumber → Bool → Option Bool → List Out
 asked p s begun (Some v) = []
 asked p s begun None = to_member s (outstanding p begun)
 
-abbrev pub asked_again : PollState → Seat → List Out
+abbrev pub asked_again : PollState → MemberNumber → List Out
 asked_again p s = asked p s (ballot p s).begun (ballot p s).vote
 
 -- a poll that holds a decision sends nothing
@@ -108,7 +108,7 @@ pub record PollGiven : Type 0 where
 abbrev pub ignored : PollState → PollGiven
 ignored p = record { poll = p; outs = [] }
 
-abbrev pub begin_to : PollState → Seat → List Out
+abbrev pub begin_to : PollState → MemberNumber → List Out
 begin_to p s = to_member s (message.Begin p.stamp p.timeout)
 
 -- THE RULES OF POLLS: it goes
@@ -120,15 +120,15 @@ unfoldable pub poll_hears : PollState → List Out
 poll_hears p = unless_held p (asked_again p First ++ (asked_again p Second ++ asked_again p Third))
 
 -- Begun is heard from this member; the first asks for the wish
-abbrev pub begun_heard : PollState → Seat → Ballot → PollGiven
+abbrev pub begun_heard : PollState → MemberNumber → Ballot → PollGiven
 begun_heard p s b = record { poll = with_ballot p s (record b { begun = true }); outs = if b.begun then [] else unless_held p (asked p s true b.vote) }
 
 -- Decided is heard from this member; the first counts
-abbrev pub vote_heard : PollState → Seat → Decision → Ballot → Option Bool → PollGiven
+abbrev pub vote_heard : PollState → MemberNumber → Decision → Ballot → Option Bool → PollGiven
 vote_heard p s d b None = record { poll = with_ballot p s (record b { vote = Some (is_commit d) }); outs = [] }
 vote_heard p s d b (Some v) = ignored p
 
-abbrev pub heard_from : PollState → Seat → Message → PollGiven
+abbrev pub heard_from : PollState → MemberNumber → Message → PollGiven
 heard_from p s (message.Begun x) = if same_stamp x p.stamp then begun_heard p s (ballot p s) else ignored p
 heard_from p s (message.Decided x d) = if same_stamp x p.stamp then vote_heard p s d (ballot p s) (ballot p s).vote else ignored p
 heard_from p s (message.Begin x t) = ignored p
@@ -144,7 +144,7 @@ heard_from p s (message.Withdraw x) = ignored p
 heard_from p s (message.Ask x) = ignored p
 heard_from p s (message.Tell x c) = ignored p
 
-abbrev pub heard_by : PollState → Option Seat → Message → PollGiven
+abbrev pub heard_by : PollState → Option MemberNumber → Message → PollGiven
 heard_by p None m = ignored p
 heard_by p (Some s) m = heard_from p s m
 

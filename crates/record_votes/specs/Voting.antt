@@ -13,8 +13,8 @@ use Rattle.turn_form.specs.declared.turns.Out.{Out}
 use Rattle.turn_form.specs.Posts.{Post, posts}
 use Rattle.repository_log.specs.Logs.{is_commit}
 use Rattle.pseudo_time.specs.Nodes.{broker}
-use Rattle.record_votes.specs.declared.seats.Seat.{Seat}
-use Rattle.record_votes.specs.declared.seats.Seat.TheVariants.{First, Second, Third}
+use Rattle.record_votes.specs.declared.member_numbers.MemberNumber.{MemberNumber}
+use Rattle.record_votes.specs.declared.member_numbers.MemberNumber.TheVariants.{First, Second, Third}
 use Rattle.record_votes.specs.declared.ballots.Wish.{Wish}
 use Rattle.record_votes.specs.Members.{Given, on_message, on_moment}
 use Rattle.record_votes.specs.Polls.{member, seat_at, PollState, poll_goes, poll_hears, poll_takes, PollGiven}
@@ -31,7 +31,7 @@ all_effects m = m.gated ++ m.fresh
 
 -- poll i is broker i
 pub record World : Type 0 where
-  pub members : Seat → Member
+  pub members : MemberNumber → Member
   pub polls : ℕ → PollState
   pub sent : List Post
 
@@ -64,14 +64,14 @@ pub data Event : Type 0 where
   -- the message of this number among those sent, from 0, is delivered
   Delivered : ℕ → Event
   -- a member's gate: its effects are durable, and its messages are sent
-  Gates : Seat → Event
+  Gates : MemberNumber → Event
   -- a member crashes, keeps so many open effects, and is opened anew at a moment
-  Crashes : Seat → ℕ → ℕ → Event
+  Crashes : MemberNumber → ℕ → ℕ → Event
   -- a member, or a poll, hears a moment
-  Hears : Seat → ℕ → Event
+  Hears : MemberNumber → ℕ → Event
   Polled : ℕ → ℕ → Event
 
-abbrev pub is_seat : Seat → Seat → Bool
+abbrev pub is_seat : MemberNumber → MemberNumber → Bool
 is_seat First First = true
 is_seat First Second = false
 is_seat First Third = false
@@ -82,7 +82,7 @@ is_seat Third First = false
 is_seat Third Second = false
 is_seat Third Third = true
 
-abbrev pub with_member : World → Seat → Member → World
+abbrev pub with_member : World → MemberNumber → Member → World
 with_member w s m = record w { members = λ k. if is_seat s k then m else w.members k }
 
 abbrev pub with_poll : World → ℕ → PollState → World
@@ -99,7 +99,7 @@ post_at (p ∷ ps) (suc k) = post_at ps k
 abbrev pub to_poll : World → ℕ → PollGiven → World
 to_poll w i g = with_sent (with_poll w i g.poll) (posts (broker i) g.outs)
 
-abbrev pub to_seat : World → NodeId → Message → Option Seat → World
+abbrev pub to_seat : World → NodeId → Message → Option MemberNumber → World
 to_seat w from x None = w
 to_seat w from x (Some s) = with_member w s (took (w.members s) from x)
 
@@ -136,25 +136,25 @@ abbrev pub new_poll : ℕ → Line → PollState
 new_poll i l = record { number = i; stamp = l.stamp; timeout = l.timeout; wish = l.wish; first = record { begun = false; vote = None }; second = record { begun = false; vote = None }; third = record { begun = false; vote = None } }
 
 abbrev pub Logs : Type 0
-Logs = Seat → List Effect
+Logs = MemberNumber → List Effect
 
 -- these logs, polls that have heard nothing, and nothing sent
-abbrev pub entered : (Seat → ℕ) → Logs → (ℕ → Line) → World
+abbrev pub entered : (MemberNumber → ℕ) → Logs → (ℕ → Line) → World
 entered start logs lines = record { members = λ s. opened (start s) (logs s); polls = λ i. new_poll i (lines i); sent = [] }
 
 abbrev pub no_logs : Logs
 no_logs s = []
 
 -- empty logs
-abbrev pub founded : (Seat → ℕ) → (ℕ → Line) → World
+abbrev pub founded : (MemberNumber → ℕ) → (ℕ → Line) → World
 founded start lines = entered start no_logs lines
 
-abbrev pub reached : (Seat → ℕ) → (ℕ → Line) → List Event → World
+abbrev pub reached : (MemberNumber → ℕ) → (ℕ → Line) → List Event → World
 reached start lines events = run (founded start lines) events
 
 -- ---- what is decided
 
-abbrev pub gated : World → Seat → List Effect
+abbrev pub gated : World → MemberNumber → List Effect
 gated w s = (w.members s).gated
 
 -- a Decide of this kind stands in the log
@@ -163,8 +163,8 @@ IsDecided log s c = (d : Decision) × (is_commit d ≡ c) × Has (effect.Decide 
 
 -- two members' durable logs have a Decide of this kind
 pub record TwoDecided (w : World) (s : StampParts) (c : Bool) : Type 0 where
-  pub one : Seat
-  pub other : Seat
+  pub one : MemberNumber
+  pub other : MemberNumber
   pub apart : one ≢ other
   pub one_decided : IsDecided (gated w one) s c
   pub other_decided : IsDecided (gated w other) s c
@@ -174,9 +174,9 @@ pub record TwoDecided (w : World) (s : StampParts) (c : Bool) : Type 0 where
 -- A call: its polls, the moments at which its members opened, what happened, and how many open effects of each member are found later.
 pub record Call : Type 0 where
   pub lines : ℕ → Line
-  pub start : Seat → ℕ
+  pub start : MemberNumber → ℕ
   pub events : List Event
-  pub kept : Seat → ℕ
+  pub kept : MemberNumber → ℕ
 
 -- the world at the end of a call that began with these logs
 abbrev pub ended : Logs → Call → World

@@ -4,10 +4,10 @@
 
 mod ballots;
 mod laws;
+mod member_numbers;
 mod members;
 mod owned;
 mod polls;
-mod seats;
 mod votes;
 
 pub use ballots::Wish;

@@ -4,7 +4,7 @@ ghost use Rattle.turn_form.specs.Ranges.{AreOuts};
 ghost use Rattle.record_votes.specs.Polls as polls;
 
 use crate::ballots::{Ballot, Wish};
-use crate::seats::Seat;
+use crate::member_numbers::MemberNumber;
 use message_form::Message;
 use pseudo_time::{Decision, NodeId, NodeKind, Stamp};
 use repository_log::is_commit;
@@ -78,23 +78,23 @@ impl Poll {
         held_of(self.first.vote, self.second.vote, self.third.vote)
     }
 
-    fn ballot(&self, seat: Seat) -> Ballot
+    fn ballot(&self, seat: MemberNumber) -> Ballot
         ensures { result ≡ polls.ballot self.now seat }
     {
         match seat {
-            Seat::First => self.first,
-            Seat::Second => self.second,
-            Seat::Third => self.third,
+            MemberNumber::First => self.first,
+            MemberNumber::Second => self.second,
+            MemberNumber::Third => self.third,
         }
     }
 
-    fn set_ballot(&mut self, seat: Seat, ballot: Ballot)
+    fn set_ballot(&mut self, seat: MemberNumber, ballot: Ballot)
         ensures { self.new ≡ polls.with_ballot self.old seat ballot }
     {
         match seat {
-            Seat::First => self.first = ballot,
-            Seat::Second => self.second = ballot,
-            Seat::Third => self.third = ballot,
+            MemberNumber::First => self.first = ballot,
+            MemberNumber::Second => self.second = ballot,
+            MemberNumber::Third => self.third = ballot,
         }
     }
 
@@ -121,7 +121,7 @@ impl Poll {
     fn ask(
         &self,
         outs: &mut Vec<Out>,
-        seat: Seat,
+        seat: MemberNumber,
         begun: bool,
         vote: Option<bool>,
     ) -> Result<(), AllocError>
@@ -137,7 +137,7 @@ impl Poll {
     }
 
     // Asks a member again.
-    fn ask_again(&self, outs: &mut Vec<Out>, seat: Seat) -> Result<(), AllocError>
+    fn ask_again(&self, outs: &mut Vec<Out>, seat: MemberNumber) -> Result<(), AllocError>
         requires { AreOuts outs.old.items }
         ensures asked { OnOk result (outs.new.items ≡ outs.old.items ++ polls.asked_again self.now seat) }
         ensures in_range { OnOk result (AreOuts outs.new.items) }
@@ -147,7 +147,7 @@ impl Poll {
     }
 
     // Asks a member for a record.
-    fn begin(&self, outs: &mut Vec<Out>, seat: Seat) -> Result<(), AllocError>
+    fn begin(&self, outs: &mut Vec<Out>, seat: MemberNumber) -> Result<(), AllocError>
         requires { AreOuts outs.old.items }
         ensures asked { OnOk result (outs.new.items ≡ outs.old.items ++ polls.begin_to self.now seat) }
         ensures in_range { OnOk result (AreOuts outs.new.items) }
@@ -164,9 +164,9 @@ impl Poll {
     {
         let mut outs = Vec::new(self.alloc);
         if self.held().is_none() {
-            self.begin(&mut outs, Seat::First)?;
-            self.begin(&mut outs, Seat::Second)?;
-            self.begin(&mut outs, Seat::Third)?;
+            self.begin(&mut outs, MemberNumber::First)?;
+            self.begin(&mut outs, MemberNumber::Second)?;
+            self.begin(&mut outs, MemberNumber::Third)?;
         }
         Ok(Turn::of(Vec::new(self.alloc), outs))
     }
@@ -181,15 +181,15 @@ impl Poll {
     {
         let mut outs = Vec::new(self.alloc);
         if self.held().is_none() {
-            self.ask_again(&mut outs, Seat::First)?;
-            self.ask_again(&mut outs, Seat::Second)?;
-            self.ask_again(&mut outs, Seat::Third)?;
+            self.ask_again(&mut outs, MemberNumber::First)?;
+            self.ask_again(&mut outs, MemberNumber::Second)?;
+            self.ask_again(&mut outs, MemberNumber::Third)?;
         }
         Ok(Turn::of(Vec::new(self.alloc), outs))
     }
 
     // What the first Begun of a member asks for.
-    fn wish_of(&self, seat: Seat, ballot: Ballot) -> Result<Vec<Out>, AllocError>
+    fn wish_of(&self, seat: MemberNumber, ballot: Ballot) -> Result<Vec<Out>, AllocError>
         ensures asked { ballot ≡ polls.ballot self.now seat → IfOk result (λ v. v.items ≡ (polls.begun_heard self.now seat ballot).outs) }
         ensures in_range { IfOk result (λ v. AreOuts v.items) }
     {
@@ -201,7 +201,7 @@ impl Poll {
     }
 
     // Hears Begun from a member.
-    fn hear_begun(&mut self, seat: Seat) -> Result<Turn, AllocError>
+    fn hear_begun(&mut self, seat: MemberNumber) -> Result<Turn, AllocError>
         ensures gives { IfOk result (λ t. (t.effects ≡ []) × (t.outs ≡ (polls.begun_heard self.old seat (polls.ballot self.old seat)).outs)) }
         ensures in_range { IfOk result (λ t. AreOuts t.outs) }
         ensures heard { OnOk result (self.new ≡ (polls.begun_heard self.old seat (polls.ballot self.old seat)).poll) }
@@ -220,7 +220,7 @@ impl Poll {
     }
 
     // Hears Decided from a member.
-    fn hear_vote(&mut self, seat: Seat, decision: Decision)
+    fn hear_vote(&mut self, seat: MemberNumber, decision: Decision)
         ensures { self.new ≡ (polls.vote_heard self.old seat decision (polls.ballot self.old seat) (polls.ballot self.old seat).vote).poll }
     {
         let ballot = self.ballot(seat);
@@ -236,7 +236,7 @@ impl Poll {
     }
 
     // Hears a message from a member.
-    fn hear_from(&mut self, seat: Seat, message: &Message) -> Result<Turn, AllocError>
+    fn hear_from(&mut self, seat: MemberNumber, message: &Message) -> Result<Turn, AllocError>
         ensures gives { IfOk result (λ t. (t.effects ≡ []) × (t.outs ≡ (polls.heard_from self.old seat message.now).outs)) }
         ensures in_range { IfOk result (λ t. AreOuts t.outs) }
         ensures heard { OnOk result (self.new ≡ (polls.heard_from self.old seat message.now).poll) }
@@ -275,7 +275,7 @@ impl Poll {
 }
 
 // A message to a member.
-fn push_to(outs: &mut Vec<Out>, seat: Seat, message: Message) -> Result<(), AllocError>
+fn push_to(outs: &mut Vec<Out>, seat: MemberNumber, message: Message) -> Result<(), AllocError>
     requires outs { AreOuts outs.old.items }
     requires message { IsMessage message }
     ensures pushed { OnOk result (outs.new.items ≡ outs.old.items ++ polls.to_member seat message) }
@@ -286,18 +286,18 @@ fn push_to(outs: &mut Vec<Out>, seat: Seat, message: Message) -> Result<(), Allo
     Ok(())
 }
 
-fn member(seat: Seat) -> NodeId
+fn member(seat: MemberNumber) -> NodeId
     ensures { result ≡ polls.member seat }
 {
     let number = match seat {
-        Seat::First => 1,
-        Seat::Second => 2,
-        Seat::Third => 3,
+        MemberNumber::First => 1,
+        MemberNumber::Second => 2,
+        MemberNumber::Third => 3,
     };
     NodeId::repository(number)
 }
 
-fn seat_of(node: NodeId) -> Option<Seat>
+fn seat_of(node: NodeId) -> Option<MemberNumber>
     ensures { result ≡ polls.seat_of node }
 {
     match node.kind {
@@ -306,17 +306,17 @@ fn seat_of(node: NodeId) -> Option<Seat>
     }
 }
 
-fn seat_at(number: u8) -> Option<Seat>
+fn seat_at(number: u8) -> Option<MemberNumber>
     ensures { result ≡ polls.seat_at number }
 {
     if number == 1 {
-        return Some(Seat::First);
+        return Some(MemberNumber::First);
     }
     if number == 2 {
-        return Some(Seat::Second);
+        return Some(MemberNumber::Second);
     }
     if number == 3 {
-        return Some(Seat::Third);
+        return Some(MemberNumber::Third);
     }
     None
 }

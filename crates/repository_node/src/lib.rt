@@ -5,4 +5,5 @@ mod books;
 mod cores;
 mod nodes;
 
-pub use nodes::RepositoryNode;
+pub use cores::RepositoryCore;
+pub use nodes::{RepositoryNode, open_repository};

@@ -6,7 +6,7 @@ ghost use Rattle.value_form.specs.Ranges.{IsTerm, IsSpot};
 use crate::names::Names;
 use crate::operations::{call_of, given_of, infix_of, object_of, prefix_of};
 use std::alloc::{AllocError, Global};
-use value_form::{Expr, FailKind, ObjectId, Place, Value};
+use value_form::{Expr, FailKind, ObjectId, Target, Value};
 
 /// What an expression gives, from left to right, or the first failure.
 pub fn evaluate(
@@ -51,14 +51,14 @@ pub fn evaluate(
 pub fn object_at(
     alloc: Global,
     names: &Names,
-    place: &Place,
+    place: &Target,
 ) -> Result<Result<ObjectId, FailKind>, AllocError>
     requires { IsSpot (spot place.now) }
     ensures { IfOk result (λ r. r ≡ meaning.object_at names.now (spot place.now)) }
 {
     match place {
-        Place::Fixed(object) => Ok(Ok(*object)),
-        Place::At(repository, number) => match evaluate(alloc, names, number)? {
+        Target::Fixed(object) => Ok(Ok(*object)),
+        Target::At(repository, number) => match evaluate(alloc, names, number)? {
             Ok(value) => Ok(object_of(*repository, &value)),
             Err(kind) => Ok(Err(kind)),
         },

@@ -14,7 +14,7 @@ use crate::halts::Halt;
 use crate::machines::Machine;
 use script_meaning::{condition, count, evaluate, line_of, object_at};
 use std::alloc::{AllocError, Global};
-use value_form::{Bytes, Ending, Expr, FailKind, Line, Place, Stmt};
+use value_form::{Bytes, Ending, Expr, FailKind, Line, Stmt, Target};
 
 fn set_name(
     alloc: Global,
@@ -42,7 +42,7 @@ fn read(
     alloc: Global,
     line: u16,
     name: &Bytes,
-    place: &Place,
+    place: &Target,
     machine: &mut Machine,
 ) -> Result<Option<Halt>, AllocError>
     requires spot { IsSpot (spot place.now) }
@@ -58,7 +58,7 @@ fn read(
 fn write(
     alloc: Global,
     line: u16,
-    place: &Place,
+    place: &Target,
     expression: &Expr,
     machine: &mut Machine,
 ) -> Result<Option<Halt>, AllocError>

@@ -11,6 +11,10 @@ use crate::locks::{Pass, SeatLock, Visit};
 use crate::plays::{Draw, Look};
 use std::sync::Wait;
 
+// A visit is over in less time than a thread takes to sleep and wake, so who waits looks this often
+// at the ticket that is served before it sleeps.
+const LOOKS_BEFORE_PARKING: u32 = 1_000;
+
 impl<T: Storied> SeatLock<T> {
     // Draws a ticket.
     fn draw(&self, seat: &mut Pass<T>) -> u64
@@ -30,12 +34,17 @@ impl<T: Storied> SeatLock<T> {
         ensures took { (x : T) × (l : List T.Entry) × Took (meaning T.story T.stands T.owner T.may_hold) seat.old.me seat.new.me x l }
     {
         let shared = &self.table.shared;
+        let mut looks = 0;
         for _ in rt.forever() {
             let served = shared.load::<Look>(seat, 1);
             if served == ticket {
                 return;
             }
-            shared.park(rt, 1, (served & 0xffff_ffff) as u32);
+            if looks < LOOKS_BEFORE_PARKING {
+                looks += 1;
+            } else {
+                shared.park(rt, 1, (served & 0xffff_ffff) as u32);
+            }
         }
         unreachable!()
     }

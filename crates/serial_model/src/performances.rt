@@ -8,7 +8,7 @@ use crate::object_maps::ObjectMap;
 use crate::works::{Performed, Work};
 use script_meaning::{Names, condition, count, evaluate, line_of, object_at};
 use std::alloc::{AllocError, Global};
-use value_form::{Bytes, Ending, Expr, FailKind, Items, Line, Place, Script, Stmt};
+use value_form::{Bytes, Ending, Expr, FailKind, Items, Line, Script, Stmt, Target};
 
 /// How many statements a script may begin.
 const BUDGET: u32 = 10_000;
@@ -37,7 +37,7 @@ fn read(
     alloc: Global,
     line: u16,
     name: &Bytes,
-    place: &Place,
+    place: &Target,
     work: &mut Work,
 ) -> Result<Option<Ending>, AllocError>
     requires { IsSpot (spot place.now) }
@@ -59,7 +59,7 @@ fn read(
 fn write(
     alloc: Global,
     line: u16,
-    place: &Place,
+    place: &Target,
     expression: &Expr,
     work: &mut Work,
 ) -> Result<Option<Ending>, AllocError>

@@ -3,7 +3,7 @@ use serial_model::ObjectMap;
 use std::alloc::Global;
 use std::test::*;
 use value_form::{
-    Bytes, Ending, Expr, FailKind, Items, Line, ObjectId, Place, Script, Stmt, Value,
+    Bytes, Ending, Expr, FailKind, Items, Line, ObjectId, Script, Stmt, Target, Value,
 };
 
 const FIRST: ObjectId = ObjectId {
@@ -25,11 +25,11 @@ fn name(alloc: Global) -> Result<Bytes, Fail> {
 fn own_writes_over_a_map(rt: HostRuntime) -> Result<(), Fail> {
     let alloc = rt.alloc();
     let mut lines = Vec::new(alloc);
-    lines.push(Stmt::Write(1, Place::Fixed(FIRST), Expr::Number(5)))?;
-    lines.push(Stmt::Read(2, name(alloc)?, Place::Fixed(FIRST)))?;
-    lines.push(Stmt::Read(3, name(alloc)?, Place::Fixed(SECOND)))?;
+    lines.push(Stmt::Write(1, Target::Fixed(FIRST), Expr::Number(5)))?;
+    lines.push(Stmt::Read(2, name(alloc)?, Target::Fixed(FIRST)))?;
+    lines.push(Stmt::Read(3, name(alloc)?, Target::Fixed(SECOND)))?;
     lines.push(Stmt::Print(4, Expr::Name(name(alloc)?)))?;
-    lines.push(Stmt::Write(5, Place::Fixed(FIRST), Expr::Nothing))?;
+    lines.push(Stmt::Write(5, Target::Fixed(FIRST), Expr::Nothing))?;
     lines.push(Stmt::Withdraw(6))?;
     let script = Script {
         lines: Items::of(lines),
@@ -60,7 +60,7 @@ fn own_writes_over_a_map(rt: HostRuntime) -> Result<(), Fail> {
 fn as_many_requests_as_the_budget_lets(rt: HostRuntime) -> Result<(), Fail> {
     let alloc = rt.alloc();
     let mut inner = Vec::new(alloc);
-    inner.push(Stmt::Write(3, Place::Fixed(FIRST), Expr::Number(1)))?;
+    inner.push(Stmt::Write(3, Target::Fixed(FIRST), Expr::Number(1)))?;
     let mut outer = Vec::new(alloc);
     outer.push(Stmt::Repeat(2, Expr::Number(1_000), Items::of(inner), 4))?;
     let mut lines = Vec::new(alloc);

@@ -1,8 +1,8 @@
 -- A script is built from its rows, and from no others.
 use Rattle.std.proofs.Common.{◌≡◌, ℕ, List, [], ◌∷◌, ◌++◌, Option, Some, None, refl, sym, ap, ◌∙◌, subst, append_assoc, append-nil}
 use Rattle.std.specs.Prelude.{unwrap_or}
-use Rattle.value_form.specs.declared.scripts.Place.{Place}
-use Rattle.value_form.specs.declared.scripts.Place.TheVariants as p
+use Rattle.value_form.specs.declared.scripts.Target.{Target}
+use Rattle.value_form.specs.declared.scripts.Target.TheVariants as p
 use Rattle.value_form.specs.declared.scripts.Stmt.{Stmt}
 use Rattle.value_form.specs.declared.scripts.Stmt.TheVariants as s
 use Rattle.value_form.specs.declared.scripts.Stmt.TheOpen.{Stmt-F}
@@ -24,7 +24,7 @@ use Rattle.statement_form.specs.Feeds.{made_flat, feeds}
 
 -- ---- a row and its parsed line are the same
 
-made_place-spot : (place : Place) → made_place (spot place) ≡ place
+made_place-spot : (place : Target) → made_place (spot place) ≡ place
 made_place-spot (p.Fixed object) = refl
 made_place-spot (p.At n x) = ap (p.At n) (made-term x)
 

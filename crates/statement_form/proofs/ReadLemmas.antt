@@ -8,7 +8,7 @@ use Rattle.token_form.specs.declared.tokens.Word.TheVariants as w
 use Rattle.token_form.specs.declared.tokens.Sign.TheVariants as g
 use Rattle.value_form.specs.declared.objects.ObjectId.{ObjectId}
 use Rattle.value_form.specs.declared.expressions.Expr.{Expr}
-use Rattle.value_form.specs.declared.scripts.Place.{Place}
+use Rattle.value_form.specs.declared.scripts.Target.{Target}
 use Rattle.value_form.specs.Mirror.{Term, Spot, Fixed, At, term, spot}
 use Rattle.expression_form.specs.declared.read_faults.ReadFault.{ReadFault}
 use Rattle.expression_form.specs.declared.read_faults.ReadFault.TheVariants.{Syntax, Depth, NoMemory}
@@ -114,7 +114,7 @@ indexed_place n es rest ts empty is x spells =
     let k = indexed_spells n ts es rest x is spells in
     subst (SpellsSpot (At n x)) (sym (k.1 ∙ ap (λ z. k.0 ++ z) (empty_is rest empty) ∙ append-nil k.0)) k.2
 
-pub place_fault : (n : ℕ) (es rest ts : List Token) → (length rest == 0) ≡ true → fixed_of ts ≡ None → indexed_of ts ≡ Some (n, es, rest) → (result : Result Place ReadFault) (fault : ReadFault) → HandsOn result fault → Reads term Spells depth es (Err fault) → Reads spot SpellsSpot spot_depth ts result
+pub place_fault : (n : ℕ) (es rest ts : List Token) → (length rest == 0) ≡ true → fixed_of ts ≡ None → indexed_of ts ≡ Some (n, es, rest) → (result : Result Target ReadFault) (fault : ReadFault) → HandsOn result fault → Reads term Spells depth es (Err fault) → Reads spot SpellsSpot spot_depth ts result
 place_fault n es rest ts empty none is =
     handed term spot Spells SpellsSpot depth spot_depth es ts (At n) (indexed_place n es rest ts empty is)
     (λ place k. let o = only_indexed n es rest ts (none, is) place [] (spot_alone place ts k) in (o.0, o.3)) (λ x. refl)

@@ -1,4 +1,4 @@
-use value_form::{Bytes, Expr, Place};
+use value_form::{Bytes, Expr, Target};
 
 /// What stands on a line of a script: a statement, or a part of one.
 #[derive(Debug, Drop)]
@@ -6,9 +6,9 @@ pub enum Flat {
     /// `let NAME = E`
     Let(Bytes, Expr),
     /// `read NAME OBJECT`
-    Read(Bytes, Place),
+    Read(Bytes, Target),
     /// `write OBJECT E`
-    Write(Place, Expr),
+    Write(Target, Expr),
     /// `print E`
     Print(Expr),
     /// `if E`

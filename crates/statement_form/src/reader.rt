@@ -12,16 +12,16 @@ use crate::targets::{behind_equal, fixed_of, indexed_of, name_of};
 use expression_form::{ReadFault, read_expression};
 use std::alloc::Global;
 use token_form::{Token, Word};
-use value_form::{Expr, Place};
+use value_form::{Expr, Target};
 
 // The object that all the tokens are.
-fn read_place(alloc: Global, tokens: &[Token]) -> Result<Place, ReadFault>
+fn read_place(alloc: Global, tokens: &[Token]) -> Result<Target, ReadFault>
     ensures { Reads spot SpellsSpot spot_depth tokens.now result }
 {
     match fixed_of(tokens) {
         Some((object, rest)) => {
             if rest.is_empty() {
-                Ok(Place::Fixed(object))
+                Ok(Target::Fixed(object))
             } else {
                 Err(ReadFault::Syntax)
             }
@@ -30,7 +30,7 @@ fn read_place(alloc: Global, tokens: &[Token]) -> Result<Place, ReadFault>
             Some((repository, part, rest)) => {
                 if rest.is_empty() {
                     let number = read_expression(alloc, part)?;
-                    Ok(Place::At(repository, number))
+                    Ok(Target::At(repository, number))
                 } else {
                     Err(ReadFault::Syntax)
                 }
@@ -112,12 +112,12 @@ fn read_write(alloc: Global, tokens: &[Token]) -> Result<Flat, ReadFault>
     match fixed_of(tokens) {
         Some((object, rest)) => {
             let value = read_expression(alloc, rest)?;
-            Ok(Flat::Write(Place::Fixed(object), value))
+            Ok(Flat::Write(Target::Fixed(object), value))
         }
         None => match indexed_of(tokens) {
             Some((repository, part, rest)) => {
                 let (number, value) = read_both(alloc, part, rest)?;
-                Ok(Flat::Write(Place::At(repository, number), value))
+                Ok(Flat::Write(Target::At(repository, number), value))
             }
             None => Err(ReadFault::Syntax),
         },

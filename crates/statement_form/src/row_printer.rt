@@ -8,21 +8,21 @@ ghost use Rattle.statement_form.specs.RowTexts.{row_text, spot_text};
 use crate::flats::Flat;
 use expression_form::print_expression;
 use std::alloc::{AllocError, Global};
-use value_form::{Bytes, Expr, Place};
+use value_form::{Bytes, Expr, Target};
 
 // An object.
-fn put_place(alloc: Global, out: &mut Vec<u8>, place: &Place) -> Result<(), AllocError>
+fn put_place(alloc: Global, out: &mut Vec<u8>, place: &Target) -> Result<(), AllocError>
     ensures { OnOk result (out.new.items ≡ out.old.items ++ spot_text (spot place.now)) }
 {
     match place {
-        Place::Fixed(object) => {
+        Target::Fixed(object) => {
             let repository = object.repository.to_string(alloc)?;
             let number = object.number.to_string(alloc)?;
             out.extend_from_slice(repository.as_bytes())?;
             out.push(b'.')?;
             out.extend_from_slice(number.as_bytes())
         }
-        Place::At(repository, number) => {
+        Target::At(repository, number) => {
             let repository = repository.to_string(alloc)?;
             out.extend_from_slice(repository.as_bytes())?;
             out.push(b'[')?;
@@ -60,7 +60,7 @@ pub fn put_read(
     alloc: Global,
     out: &mut Vec<u8>,
     name: &Bytes,
-    place: &Place,
+    place: &Target,
 ) -> Result<(), AllocError>
     ensures { OnOk result (out.new.items ≡ out.old.items ++ row_text (r.Read name.now (spot place.now))) }
 {
@@ -74,7 +74,7 @@ pub fn put_read(
 pub fn put_write(
     alloc: Global,
     out: &mut Vec<u8>,
-    place: &Place,
+    place: &Target,
     value: &Expr,
 ) -> Result<(), AllocError>
     ensures { OnOk result (out.new.items ≡ out.old.items ++ row_text (r.Write (spot place.now) (term value.now))) }

@@ -9,15 +9,15 @@ use Rattle.world_core.specs.declared.entries.Entry.{Entry}
 use Rattle.world_core.specs.declared.traces.Opened.{Opened}
 use Rattle.world_core.proofs.Lives.{walk-more}
 use Rattle.world_core.specs.Walks.{Base, World, start_world, opened_life, walk, step}
-use Rattle.trace_logs.specs.declared.seats.Seat.{Seat}
+use Rattle.trace_logs.specs.declared.replayed_nodes.ReplayedNode.{ReplayedNode}
 use Rattle.trace_logs.specs.declared.replays.Replay.{Replay}
 use Rattle.trace_logs.specs.Letters.{all_posted}
-use Rattle.trace_logs.specs.Seats.{Lives}
+use Rattle.trace_logs.specs.ReplayedNodes.{Lives}
 use Rattle.trace_logs.specs.Replays.{IsOnce, AreAt, Apart, Shows, nodes_of, is_among, gated_logs, logs_in}
 use Rattle.trace_logs.proofs.PlaceLemmas.{once-apart, at-more, at-nodes, at-start, among-opened}
 
 -- one node more
-pub seats-more : (b : Base) (start : ℕ) (opened : List Opened) (i : ℕ) (o : Opened) (s : Seat) (old new : List Seat) → i < length opened → o ≡ get_or opened i o → AreAt b start (take i opened) old →
+pub seats-more : (b : Base) (start : ℕ) (opened : List Opened) (i : ℕ) (o : Opened) (s : ReplayedNode) (old new : List ReplayedNode) → i < length opened → o ≡ get_or opened i o → AreAt b start (take i opened) old →
     s.node ≡ o.node → Lives b s (opened_life start o.effects) → new ≡ old ++ s ∷ [] → AreAt b start (take (i + 1) opened) new
 seats-more b start opened i o s old new lt at h e l n =
     subst (λ z. AreAt b start z new) (ap (λ x. take i opened ++ x ∷ []) at ∙ sym (take_more opened i o lt)) (subst (AreAt b start (take i opened ++ o ∷ [])) (sym n) (at-more b start (take i opened) old o s h e l))
@@ -43,7 +43,7 @@ starts b r once run start at letters last =
 abbrev in_world : World → NodeId → Opened
 in_world w n = record { node = n; effects = (w.life n).gated }
 
-seats-logs : (b : Base) (w : World) (seats : List Seat) → Every (λ (s : Seat). Lives b s (w.life s.node)) seats → gated_logs seats ≡ map (in_world w) (nodes_of seats)
+seats-logs : (b : Base) (w : World) (seats : List ReplayedNode) → Every (λ (s : ReplayedNode). Lives b s (w.life s.node)) seats → gated_logs seats ≡ map (in_world w) (nodes_of seats)
 seats-logs b w [] h = refl
 seats-logs b w (s ∷ ss) h = λ j. record { node = s.node; effects = h.0.gated j } ∷ seats-logs b w ss h.1 j
 

@@ -5,7 +5,7 @@ pub mod LegalTraces
 pub mod MarkLemmas
 pub mod OpenedLemmas
 pub mod PlaceLemmas
-pub mod SeatLemmas
+pub mod ReplayedNodeLemmas
 pub mod WalkLemmas
 pub mod RefusedDowns
 pub mod RefusedSends

@@ -12,8 +12,8 @@ use Rattle.pseudo_time.specs.Nodes.{same_node}
 use Rattle.message_core.proofs.NodeLemmas.{same_is, same_node-refl}
 use Rattle.world_core.specs.declared.traces.Opened.{Opened}
 use Rattle.world_core.specs.Walks.{Base, opened_log, opened_life}
-use Rattle.trace_logs.specs.declared.seats.Seat.{Seat}
-use Rattle.trace_logs.specs.Seats.{Lives}
+use Rattle.trace_logs.specs.declared.replayed_nodes.ReplayedNode.{ReplayedNode}
+use Rattle.trace_logs.specs.ReplayedNodes.{Lives}
 use Rattle.trace_logs.specs.Replays.{IsOnce, IsAbsent, Apart, AreAt, nodes_of, is_among}
 
 -- ---- names
@@ -28,50 +28,50 @@ same-sym a c = go (same_node a c) (same_node c a) refl refl
 
 -- ---- one seat is changed
 
-abbrev Others : NodeId → List Seat → Type 0
+abbrev Others : NodeId → List ReplayedNode → Type 0
 Others m seats = Every (λ n. same_node m n ≡ false) (nodes_of seats)
 
-pub others-change : (P Q : Seat → Type 0) (m : NodeId) (seats : List Seat) → Others m seats → ((s : Seat) → same_node m s.node ≡ false → P s → Q s) → Every P seats → Every Q seats
+pub others-change : (P Q : ReplayedNode → Type 0) (m : NodeId) (seats : List ReplayedNode) → Others m seats → ((s : ReplayedNode) → same_node m s.node ≡ false → P s → Q s) → Every P seats → Every Q seats
 others-change P Q m [] a f h = tt
 others-change P Q m (s ∷ ss) a f h = (f s a.0 h.0, others-change P Q m ss a.1 f h.1)
 
-pub all-change : (P Q : Seat → Type 0) (seats : List Seat) → ((s : Seat) → P s → Q s) → Every P seats → Every Q seats
+pub all-change : (P Q : ReplayedNode → Type 0) (seats : List ReplayedNode) → ((s : ReplayedNode) → P s → Q s) → Every P seats → Every Q seats
 all-change P Q [] f h = tt
 all-change P Q (s ∷ ss) f h = (f s h.0, all-change P Q ss f h.1)
 
-pub absent-change : (P Q : Seat → Type 0) (n : NodeId) (seats : List Seat) → IsAbsent n seats → ((s : Seat) → same_node s.node n ≡ false → P s → Q s) → Every P seats → Every Q seats
+pub absent-change : (P Q : ReplayedNode → Type 0) (n : NodeId) (seats : List ReplayedNode) → IsAbsent n seats → ((s : ReplayedNode) → same_node s.node n ≡ false → P s → Q s) → Every P seats → Every Q seats
 absent-change P Q n [] a f h = tt
 absent-change P Q n (s ∷ ss) a f h = (f s a.0 h.0, absent-change P Q n ss a.1 f h.1)
 
-other-at : (m : NodeId) (seats : List Seat) (i : ℕ) (d : Seat) → i < length seats → Others m seats → same_node m (get_or seats i d).node ≡ false
+other-at : (m : NodeId) (seats : List ReplayedNode) (i : ℕ) (d : ReplayedNode) → i < length seats → Others m seats → same_node m (get_or seats i d).node ≡ false
 other-at m [] i d l a = absurd (omega (arith, l))
 other-at m (s ∷ ss) zero d l a = a.0
 other-at m (s ∷ ss) (suc i) d l a = other-at m ss i d (omega (arith, l)) a.1
 
-pub every-at : (P : Seat → Type 0) (seats : List Seat) (i : ℕ) (d : Seat) → i < length seats → Every P seats → P (get_or seats i d)
+pub every-at : (P : ReplayedNode → Type 0) (seats : List ReplayedNode) (i : ℕ) (d : ReplayedNode) → i < length seats → Every P seats → P (get_or seats i d)
 every-at P [] i d l h = absurd (omega (arith, l))
 every-at P (s ∷ ss) zero d l h = h.0
 every-at P (s ∷ ss) (suc i) d l h = every-at P ss i d (omega (arith, l)) h.1
 
 -- the seat at a place is changed, and the others go on
-pub set-every : (P Q : Seat → Type 0) (seats : List Seat) (i : ℕ) (t d : Seat) → i < length seats → Apart (nodes_of seats) →
-    ((s : Seat) → same_node (get_or seats i d).node s.node ≡ false → P s → Q s) → Q t → Every P seats → Every Q (set seats i t)
+pub set-every : (P Q : ReplayedNode → Type 0) (seats : List ReplayedNode) (i : ℕ) (t d : ReplayedNode) → i < length seats → Apart (nodes_of seats) →
+    ((s : ReplayedNode) → same_node (get_or seats i d).node s.node ≡ false → P s → Q s) → Q t → Every P seats → Every Q (set seats i t)
 set-every P Q [] i t d l a f q h = absurd (omega (arith, l))
 set-every P Q (s ∷ ss) zero t d l a f q h = (q, others-change P Q s.node ss a.0 f h.1)
 set-every P Q (s ∷ ss) (suc i) t d l a f q h =
     (f s (same-sym (get_or ss i d).node s.node ∙ other-at s.node ss i d (omega (arith, l)) a.0) h.0, set-every P Q ss i t d (omega (arith, l)) a.1 f q h.1)
 
-pub set-all : (P : Seat → Type 0) (seats : List Seat) (i : ℕ) (t : Seat) → P t → Every P seats → Every P (set seats i t)
+pub set-all : (P : ReplayedNode → Type 0) (seats : List ReplayedNode) (i : ℕ) (t : ReplayedNode) → P t → Every P seats → Every P (set seats i t)
 set-all P [] i t q h = tt
 set-all P (s ∷ ss) zero t q h = (q, h.1)
 set-all P (s ∷ ss) (suc i) t q h = (h.0, set-all P ss i t q h.1)
 
-pub nodes-set : (seats : List Seat) (i : ℕ) (t d : Seat) → t.node ≡ (get_or seats i d).node → nodes_of (set seats i t) ≡ nodes_of seats
-nodes-set seats i t d h = map-set_same (λ (s : Seat). s.node) seats i t d h
+pub nodes-set : (seats : List ReplayedNode) (i : ℕ) (t d : ReplayedNode) → t.node ≡ (get_or seats i d).node → nodes_of (set seats i t) ≡ nodes_of seats
+nodes-set seats i t d h = map-set_same (λ (s : ReplayedNode). s.node) seats i t d h
 
 -- ---- which nodes stand there
 
-pub among-at : (seats : List Seat) (i : ℕ) (d : Seat) → i < length seats → is_among (nodes_of seats) (get_or seats i d).node ≡ true
+pub among-at : (seats : List ReplayedNode) (i : ℕ) (d : ReplayedNode) → i < length seats → is_among (nodes_of seats) (get_or seats i d).node ≡ true
 among-at [] i d l = absurd (omega (arith, l))
 among-at (s ∷ ss) zero d l = ap (λ z. if z then true else is_among (nodes_of ss) s.node) (same_node-refl s.node)
 among-at (s ∷ ss) (suc i) d l = either (same_node s.node (get_or ss i d).node) (is_among (nodes_of ss) (get_or ss i d).node) (among-at ss i d (omega (arith, l)))
@@ -80,7 +80,7 @@ among-at (s ∷ ss) (suc i) d l = either (same_node s.node (get_or ss i d).node)
     either true y h = refl
     either false y h = h
 
-pub among-not : (n : NodeId) (seats : List Seat) → IsAbsent n seats → is_among (nodes_of seats) n ≡ false
+pub among-not : (n : NodeId) (seats : List ReplayedNode) → IsAbsent n seats → is_among (nodes_of seats) n ≡ false
 among-not n [] h = refl
 among-not n (s ∷ ss) h = ap (λ z. if z then true else is_among (nodes_of ss) n) h.0 ∙ among-not n ss h.1
 
@@ -120,13 +120,13 @@ once-apart (o ∷ os) h = (flip o.node (map (λ (o : Opened). o.node) os) (none-
     rest : IsOnce os
     rest n = fewer (same_node o.node n) (times n os) (subst (λ c. c ≤ 1) (times-more n o os) (h n))
 
-pub at-nodes : (b : Base) (start : ℕ) (opened : List Opened) (seats : List Seat) → AreAt b start opened seats → nodes_of seats ≡ map (λ (o : Opened). o.node) opened
+pub at-nodes : (b : Base) (start : ℕ) (opened : List Opened) (seats : List ReplayedNode) → AreAt b start opened seats → nodes_of seats ≡ map (λ (o : Opened). o.node) opened
 at-nodes b start [] [] h = refl
 at-nodes b start [] (s ∷ ss) h = absurd h
 at-nodes b start (o ∷ os) [] h = absurd h
 at-nodes b start (o ∷ os) (s ∷ ss) h = λ j. h.0.0 j ∷ at-nodes b start os ss h.1 j
 
-pub at-more : (b : Base) (start : ℕ) (opened : List Opened) (seats : List Seat) (o : Opened) (s : Seat) → AreAt b start opened seats → s.node ≡ o.node → Lives b s (opened_life start o.effects) → AreAt b start (opened ++ o ∷ []) (seats ++ s ∷ [])
+pub at-more : (b : Base) (start : ℕ) (opened : List Opened) (seats : List ReplayedNode) (o : Opened) (s : ReplayedNode) → AreAt b start opened seats → s.node ≡ o.node → Lives b s (opened_life start o.effects) → AreAt b start (opened ++ o ∷ []) (seats ++ s ∷ [])
 at-more b start [] [] o s h e l = ((e, l), tt)
 at-more b start [] (t ∷ ss) o s h e l = absurd h
 at-more b start (p ∷ os) [] o s h e l = absurd h
@@ -140,10 +140,10 @@ among-opened (o ∷ os) n = go (same_node o.node n) (among-opened os n)
     go true h = refl
     go false h = h
 
-abbrev LivesAt : Base → ℕ → List Opened → Seat → Type 0
+abbrev LivesAt : Base → ℕ → List Opened → ReplayedNode → Type 0
 LivesAt b start opened s = Lives b s (opened_life start (unwrap_or (opened_log opened s.node) []))
 
-pub at-start : (b : Base) (start : ℕ) (opened : List Opened) (seats : List Seat) → Apart (map (λ (o : Opened). o.node) opened) → AreAt b start opened seats → Every (LivesAt b start opened) seats
+pub at-start : (b : Base) (start : ℕ) (opened : List Opened) (seats : List ReplayedNode) → Apart (map (λ (o : Opened). o.node) opened) → AreAt b start opened seats → Every (LivesAt b start opened) seats
 at-start b start [] [] a h = tt
 at-start b start [] (s ∷ ss) a h = absurd h
 at-start b start (o ∷ os) [] a h = absurd h
@@ -156,5 +156,5 @@ at-start b start (o ∷ os) (s ∷ ss) a h =
     here : LivesAt b start (o ∷ os) s
     here = subst (λ z. Lives b s (opened_life start (unwrap_or z []))) (sym mine) h.0.1
 
-    later : (t : Seat) → same_node o.node t.node ≡ false → LivesAt b start os t → LivesAt b start (o ∷ os) t
+    later : (t : ReplayedNode) → same_node o.node t.node ≡ false → LivesAt b start os t → LivesAt b start (o ∷ os) t
     later t e l = subst (λ z. Lives b t (opened_life start (unwrap_or (if z then Some o.effects else opened_log os t.node) []))) (sym e) l

@@ -18,11 +18,11 @@ use Rattle.world_core.specs.Nodes.{leaves}
 use Rattle.world_core.specs.Nodes.Input.{Taking}
 use Rattle.world_core.specs.Walks.{Base, Life, Flags, Sending, World, names, step, after_input, took, lives_on, flagged, went, learned, has_heard, leaving, sent_by, all_effects, numbered, last_after}
 use Rattle.world_core.proofs.Lives.{step-other}
-use Rattle.trace_logs.specs.declared.letters.Letter.{Letter}
-use Rattle.trace_logs.specs.declared.seats.Seat.{Seat}
+use Rattle.trace_logs.specs.declared.letters.SentMessage.{SentMessage}
+use Rattle.trace_logs.specs.declared.replayed_nodes.ReplayedNode.{ReplayedNode}
 use Rattle.trace_logs.specs.declared.replays.Replay.{Replay}
 use Rattle.trace_logs.specs.Letters.{posted, all_posted}
-use Rattle.trace_logs.specs.Seats.{Lives}
+use Rattle.trace_logs.specs.ReplayedNodes.{Lives}
 use Rattle.trace_logs.specs.Replays.{IsAbsent, Apart, Shows, nodes_of, is_among}
 use Rattle.trace_logs.proofs.PlaceLemmas.{same-sym, set-every, nodes-set, among-at, all-change, absent-change, every-at}
 
@@ -74,10 +74,10 @@ still-step b w e h n = go (names n e && (w.flags n).known)
 -- ---- the nodes after an entry
 
 module _ (b : Base) (w : World) (e : Entry) where
-  abbrev LiveNow : Seat → Type 0
+  abbrev LiveNow : ReplayedNode → Type 0
   LiveNow s = Lives b s (w.life s.node)
 
-  abbrev LiveThen : Seat → Type 0
+  abbrev LiveThen : ReplayedNode → Type 0
   LiveThen s = Lives b s ((step b w e).life s.node)
 
   shows-step : (r q : Replay) → Shows b w r → q.run ≡ r.run → q.start ≡ r.start → nodes_of q.seats.items ≡ nodes_of r.seats.items → Every LiveThen q.seats.items →
@@ -93,7 +93,7 @@ module _ (b : Base) (w : World) (e : Entry) where
     last = last;
   }
 
-  changed : (r q : Replay) (i : ℕ) (t d : Seat) (n : NodeId) → Shows b w r → ((k : NodeId) → names k e ≡ same_node n k) → i < length r.seats.items → same_node (get_or r.seats.items i d).node n ≡ true →
+  changed : (r q : Replay) (i : ℕ) (t d : ReplayedNode) (n : NodeId) → Shows b w r → ((k : NodeId) → names k e ≡ same_node n k) → i < length r.seats.items → same_node (get_or r.seats.items i d).node n ≡ true →
       t.node ≡ (get_or r.seats.items i d).node → ((l : Life) → Lives b (get_or r.seats.items i d) l → Lives b t (lives_on b w (get_or r.seats.items i d).node l e)) →
       q.run ≡ r.run → q.start ≡ r.start → q.seats.items ≡ set r.seats.items i t → all_posted q.letters.items ≡ sent_by (step b w e) → q.last ≡ last_after w.last e → Shows b (step b w e) q
   changed r q i t d n h own l at node lives run start seats sent last =
@@ -103,7 +103,7 @@ module _ (b : Base) (w : World) (e : Entry) where
       here : n ≡ (get_or r.seats.items i d).node
       here = sym (same_is (get_or r.seats.items i d).node n at)
 
-      other : (s : Seat) → same_node (get_or r.seats.items i d).node s.node ≡ false → LiveNow s → LiveThen s
+      other : (s : ReplayedNode) → same_node (get_or r.seats.items i d).node s.node ≡ false → LiveNow s → LiveThen s
       other s apart x = subst (Lives b s) (sym (step-other b w e s.node (own s.node ∙ ap (λ z. same_node z s.node) here ∙ apart))) x
 
       after : (step b w e).life (get_or r.seats.items i d).node ≡ lives_on b w (get_or r.seats.items i d).node (w.life (get_or r.seats.items i d).node) e
@@ -114,7 +114,7 @@ module _ (b : Base) (w : World) (e : Entry) where
       mine = subst (λ z. Lives b t ((step b w e).life z)) (sym node) (subst (Lives b t) (sym after) (lives (w.life (get_or r.seats.items i d).node) (every-at LiveNow r.seats.items i d l h.seats)))
 
   -- the node of the entry, at this place, does what it says
-  pub moved : (r q : Replay) (i : ℕ) (s t : Seat) (n : NodeId) → Shows b w r → ((k : NodeId) → names k e ≡ same_node n k) → (i < length r.seats.items) × ((d : Seat) → same_node (get_or r.seats.items i d).node n ≡ true) →
+  pub moved : (r q : Replay) (i : ℕ) (s t : ReplayedNode) (n : NodeId) → Shows b w r → ((k : NodeId) → names k e ≡ same_node n k) → (i < length r.seats.items) × ((d : ReplayedNode) → same_node (get_or r.seats.items i d).node n ≡ true) →
       s ≡ get_or r.seats.items i s → t.node ≡ s.node → ((l : Life) → Lives b s l → Lives b t (lives_on b w s.node l e)) →
       q.run ≡ r.run → q.start ≡ r.start → q.seats.items ≡ set r.seats.items i t → all_posted q.letters.items ≡ sent_by (step b w e) → q.last ≡ last_after w.last e → Shows b (step b w e) q
   moved r q i s t n h own at here node lives run start seats sent last =
@@ -130,7 +130,7 @@ module _ (b : Base) (w : World) (e : Entry) where
   pub absent : (r : Replay) (n : NodeId) → Shows b w r → ((k : NodeId) → names k e ≡ same_node n k) → IsAbsent n r.seats.items → sent_by (step b w e) ≡ sent_by w → w.last ≡ last_after w.last e → Shows b (step b w e) r
   absent r n h own a sent last = shows-step r r h refl refl refl (absent-change LiveNow LiveThen n r.seats.items a other h.seats) (h.sent ∙ sym sent) (h.last ∙ last)
     where
-      other : (s : Seat) → same_node s.node n ≡ false → LiveNow s → LiveThen s
+      other : (s : ReplayedNode) → same_node s.node n ≡ false → LiveNow s → LiveThen s
       other s apart x = subst (Lives b s) (sym (step-other b w e s.node (own s.node ∙ same-sym n s.node ∙ apart))) x
 
 -- ---- messages
@@ -162,6 +162,6 @@ module _ (b : Base) (n : NodeId) (l : Life) where
   took-is (Some s) = refl
 
   -- what a number gives, by the letters
-  pub took-letter : (letters : List Letter) (sendings : List Sending) (k : ℕ) → all_posted letters ≡ map (λ (s : Sending). s.post) sendings →
+  pub took-letter : (letters : List SentMessage) (sendings : List Sending) (k : ℕ) → all_posted letters ≡ map (λ (s : Sending). s.post) sendings →
       took b n l (numbered sendings k) ≡ took_post (option_map posted (numbered letters k))
   took-letter letters sendings k h = took-is (numbered sendings k) ∙ ap took_post (sym (numbered-map (λ (s : Sending). s.post) sendings k) ∙ ap (λ ps. numbered ps k) (sym h) ∙ numbered-map posted letters k)

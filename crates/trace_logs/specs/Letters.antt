@@ -3,14 +3,14 @@ use Rattle.std.specs.Prelude.{List, map}
 use Rattle.pseudo_time.specs.Lists.{Every}
 use Rattle.message_form.specs.Messages.{IsMessage}
 use Rattle.turn_form.specs.Posts.{Post, post}
-use Rattle.trace_logs.specs.declared.letters.Letter.{Letter}
+use Rattle.trace_logs.specs.declared.letters.SentMessage.{SentMessage}
 
-abbrev pub posted : Letter → Post
+abbrev pub posted : SentMessage → Post
 posted l = post l.from l.out
 
-abbrev pub all_posted : List Letter → List Post
+abbrev pub all_posted : List SentMessage → List Post
 all_posted letters = map posted letters
 
 -- each message is in range
-abbrev pub AreLetters : List Letter → Type 0
-AreLetters letters = Every (λ (l : Letter). IsMessage l.out.message) letters
+abbrev pub AreLetters : List SentMessage → Type 0
+AreLetters letters = Every (λ (l : SentMessage). IsMessage l.out.message) letters

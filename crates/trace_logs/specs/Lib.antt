@@ -1,5 +1,5 @@
 pub mod Cores
 pub mod Letters
-pub mod Seats
+pub mod ReplayedNodes
 pub mod Replays
 pub use Rattle.world_core.specs.Walks

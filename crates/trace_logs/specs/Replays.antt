@@ -12,10 +12,10 @@ use Rattle.world_core.specs.declared.entries.Entry.TheVariants as entry
 use Rattle.world_core.specs.declared.traces.Opened.{Opened}
 use Rattle.world_core.specs.declared.traces.Trace.{Trace}
 use Rattle.world_core.specs.Walks.{Base, World, sent_by, opened_life}
-use Rattle.trace_logs.specs.declared.seats.Seat.{Seat}
+use Rattle.trace_logs.specs.declared.replayed_nodes.ReplayedNode.{ReplayedNode}
 use Rattle.trace_logs.specs.declared.replays.Replay.{Replay}
 use Rattle.trace_logs.specs.Letters.{AreLetters, all_posted}
-use Rattle.trace_logs.specs.Seats.{Lives, IsSound}
+use Rattle.trace_logs.specs.ReplayedNodes.{Lives, IsSound}
 
 -- ---- what is asked of a trace
 
@@ -45,8 +45,8 @@ logs_in w opened = map (λ (o : Opened). record { node = o.node; effects = (w.li
 
 -- ---- on the way
 
-abbrev pub nodes_of : List Seat → List NodeId
-nodes_of seats = map (λ (s : Seat). s.node) seats
+abbrev pub nodes_of : List ReplayedNode → List NodeId
+nodes_of seats = map (λ (s : ReplayedNode). s.node) seats
 
 -- whether the node stands there
 abbrev pub is_among : List NodeId → NodeId → Bool
@@ -59,19 +59,19 @@ Apart [] = Unit {0}
 Apart (m ∷ ms) = Every (λ n. same_node m n ≡ false) ms × Apart ms
 
 -- none of the seats is that of this node
-abbrev pub IsAbsent : NodeId → List Seat → Type 0
-IsAbsent n seats = Every (λ (s : Seat). same_node s.node n ≡ false) seats
+abbrev pub IsAbsent : NodeId → List ReplayedNode → Type 0
+IsAbsent n seats = Every (λ (s : ReplayedNode). same_node s.node n ≡ false) seats
 
 -- these are the nodes as they were opened
-abbrev pub AreAt : Base → ℕ → List Opened → List Seat → Type 0
+abbrev pub AreAt : Base → ℕ → List Opened → List ReplayedNode → Type 0
 AreAt b start [] [] = Unit {0}
 AreAt b start [] (s ∷ seats) = ⊥
 AreAt b start (o ∷ opened) [] = ⊥
 AreAt b start (o ∷ opened) (s ∷ seats) = ((s.node ≡ o.node) × Lives b s (opened_life start o.effects)) × AreAt b start opened seats
 
 -- the nodes with their durable logs
-abbrev pub gated_logs : List Seat → List Opened
-gated_logs seats = map (λ (s : Seat). record { node = s.node; effects = s.gated.items }) seats
+abbrev pub gated_logs : List ReplayedNode → List Opened
+gated_logs seats = map (λ (s : ReplayedNode). record { node = s.node; effects = s.gated.items }) seats
 
 -- where the walk from this base has come to
 pub record Shows (b : Base) (w : World) (r : Replay) : Type 0 where
@@ -79,7 +79,7 @@ pub record Shows (b : Base) (w : World) (r : Replay) : Type 0 where
   pub start : b.start ≡ r.start
   pub nodes : nodes_of r.seats.items ≡ map (λ (o : Opened). o.node) b.opened
   pub apart : Apart (nodes_of r.seats.items)
-  pub seats : Every (λ (s : Seat). Lives b s (w.life s.node)) r.seats.items
+  pub seats : Every (λ (s : ReplayedNode). Lives b s (w.life s.node)) r.seats.items
   pub known : (n : NodeId) → (w.flags n).known ≡ is_among (nodes_of r.seats.items) n
   pub sent : all_posted r.letters.items ≡ sent_by w
   pub last : r.last ≡ w.last

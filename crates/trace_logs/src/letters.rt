@@ -7,13 +7,13 @@ use turn_form::Out;
 
 /// A message that was sent, and by whom.
 #[derive(Drop)]
-pub struct Letter {
+pub struct SentMessage {
     pub from: NodeId,
     pub out: Out,
 }
 
 /// The message with this number, counted from 1. None where none has it.
-pub fn letter_at(letters: &[Letter], number: u32) -> Option<&Letter>
+pub fn letter_at(letters: &[SentMessage], number: u32) -> Option<&SentMessage>
     ensures { option_copied result ≡ numbered letters.now number }
 {
     let index = number.checked_sub(1)?;

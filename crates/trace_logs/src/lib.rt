@@ -4,7 +4,7 @@
 
 mod cores;
 mod letters;
+mod replayed_nodes;
 mod replays;
-mod seats;
 
 pub use replays::logs;

@@ -11,11 +11,11 @@ ghost use Rattle.world_core.specs.declared.entries.Entry.TheVariants as entry;
 ghost use Rattle.world_core.specs.Walks.{Base, World, Life, opened_life, start_world, walk_from, walk, step};
 ghost use Rattle.trace_logs.specs.Cores.{own_acts};
 ghost use Rattle.trace_logs.specs.Letters.{AreLetters};
-ghost use Rattle.trace_logs.specs.Seats.{Lives, IsSound};
+ghost use Rattle.trace_logs.specs.ReplayedNodes.{Lives, IsSound};
 ghost use Rattle.trace_logs.specs.Replays.{IsOpened, IsOnce, IsMoment, IsAbsent, Shows, IsFit, AreAt, base_for, logs_in, gated_logs};
 
-use crate::letters::{Letter, letter_at};
-use crate::seats::Seat;
+use crate::letters::{SentMessage, letter_at};
+use crate::replayed_nodes::ReplayedNode;
 use effect_form::Effect;
 use pseudo_time::{NodeId, NodeKind, Stamp};
 use std::alloc::{AllocError, Global};
@@ -29,16 +29,16 @@ pub struct Replay {
     run: u32,
     start: u64,
     /// The nodes that were opened, in their order.
-    seats: Vec<Seat>,
+    seats: Vec<ReplayedNode>,
     /// The message with number k stands at place k - 1.
-    letters: Vec<Letter>,
+    letters: Vec<SentMessage>,
     /// The moment of the last Tick.
     last: Option<u64>,
 }
 
 // The place of a node.
-fn place_of(seats: &[Seat], node: NodeId) -> Option<usize>
-    ensures { MatchOption result (IsAbsent node seats.now) (λ place. (place < length seats.now) × ((d : Seat) → same_node (slice_index_or seats.now place d).node node ≡ true)) }
+fn place_of(seats: &[ReplayedNode], node: NodeId) -> Option<usize>
+    ensures { MatchOption result (IsAbsent node seats.now) (λ place. (place < length seats.now) × ((d : ReplayedNode) → same_node (slice_index_or seats.now place d).node node ≡ true)) }
 {
     for place in 0..seats.len() {
         if seats[place].node == node {
@@ -81,7 +81,7 @@ fn seat_of(
     start: u64,
     acts: &[ActSpec],
     opened: &Opened,
-) -> Result<Seat, AllocError>
+) -> Result<ReplayedNode, AllocError>
     requires run { 1 ≤ run }
     requires acts { AreActs acts.now }
     requires opened { IsOpened opened.now }
@@ -92,7 +92,7 @@ fn seat_of(
 {
     let own = acts_of(alloc, opened.node, acts)?;
     let log = copies(alloc, opened.effects.as_slice())?;
-    Seat::open(alloc, run, start, opened.node, own, log)
+    ReplayedNode::open(alloc, run, start, opened.node, own, log)
 }
 
 // The nodes as they were opened.
@@ -102,7 +102,7 @@ fn seats_of(
     start: u64,
     acts: &[ActSpec],
     opened: &[Opened],
-) -> Result<Vec<Seat>, AllocError>
+) -> Result<Vec<ReplayedNode>, AllocError>
     requires run { 1 ≤ run }
     requires acts { AreActs acts.now }
     requires opened { Every IsOpened opened.now }
@@ -119,7 +119,7 @@ fn seats_of(
 }
 
 // The nodes with their durable logs.
-fn logs_of(alloc: Global, seats: Vec<Seat>) -> Result<Vec<Opened>, AllocError>
+fn logs_of(alloc: Global, seats: Vec<ReplayedNode>) -> Result<Vec<Opened>, AllocError>
     ensures { IfOk result (λ opened. opened.items ≡ gated_logs seats.items) }
 {
     let mut opened = Vec::new(alloc);

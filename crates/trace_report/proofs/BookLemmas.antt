@@ -25,7 +25,7 @@ use Rattle.broker_core.proofs.SoundLemmas.{closed-run}
 use Rattle.world_core.specs.Nodes.{acts_of}
 use Rattle.world_core.proofs.OneReading.{own-reading}
 use Rattle.world_core.proofs.PlanRangeLemmas.{plan-own_acts}
-use Rattle.trace_logs.proofs.SeatLemmas.{own-scripted}
+use Rattle.trace_logs.proofs.ReplayedNodeLemmas.{own-scripted}
 use Rattle.trace_report.specs.Acts.{acts_in, begun_acts}
 use Rattle.trace_report.specs.Begun.{act_parts, try_parts, entered, closed, tried, spent_by, on_first, on_last, gained, ended}
 use Rattle.trace_report.specs.Books.{entered_if, read_off, begun_to, begun_last}

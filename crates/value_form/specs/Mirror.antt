@@ -7,8 +7,8 @@ use Rattle.value_form.specs.declared.expressions.Call.{Call}
 use Rattle.value_form.specs.declared.expressions.Expr.{Expr}
 use Rattle.value_form.specs.declared.expressions.Expr.TheOpen.{Expr-F}
 use Rattle.value_form.specs.declared.expressions.Expr.TheFolds.{fold-Expr}
-use Rattle.value_form.specs.declared.scripts.Place.{Place}
-use Rattle.value_form.specs.declared.scripts.Place.TheVariants as p
+use Rattle.value_form.specs.declared.scripts.Target.{Target}
+use Rattle.value_form.specs.declared.scripts.Target.TheVariants as p
 use Rattle.value_form.specs.declared.scripts.Stmt.{Stmt}
 use Rattle.value_form.specs.declared.scripts.Stmt.TheOpen.{Stmt-F}
 use Rattle.value_form.specs.declared.scripts.Stmt.TheFolds.{fold-Stmt}
@@ -59,7 +59,7 @@ term_layer (Expr-F.Given x y) = Given x y
 abbrev pub term : Expr → Term
 term = fold-Expr Term term_layer
 
-abbrev pub spot : Place → Spot
+abbrev pub spot : Target → Spot
 spot (p.Fixed object) = Fixed object
 spot (p.At repository x) = At repository (term x)
 

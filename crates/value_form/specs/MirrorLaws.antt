@@ -9,8 +9,8 @@ use Rattle.value_form.specs.declared.expressions.Expr.TheVariants as e
 use Rattle.value_form.specs.declared.expressions.Expr.TheOpen.{Expr-F}
 use Rattle.value_form.specs.declared.expressions.Expr.TheViews.{roll-Expr}
 use Rattle.value_form.specs.declared.expressions.Expr.TheFolds.{fold-roll-Expr, ind-Expr, map-Expr}
-use Rattle.value_form.specs.declared.scripts.Place.{Place}
-use Rattle.value_form.specs.declared.scripts.Place.TheVariants as p
+use Rattle.value_form.specs.declared.scripts.Target.{Target}
+use Rattle.value_form.specs.declared.scripts.Target.TheVariants as p
 use Rattle.value_form.specs.declared.scripts.Stmt.{Stmt, out-Stmt}
 use Rattle.value_form.specs.declared.scripts.Stmt.TheVariants as s
 use Rattle.value_form.specs.declared.scripts.Stmt.TheOpen.{Stmt-F}
@@ -29,7 +29,7 @@ made (Between o x y) = e.Infix o (made x) (made y)
 made (Applied f x) = e.Call f (made x)
 made (Given x y) = e.Given (made x) (made y)
 
-abbrev pub made_place : Spot → Place
+abbrev pub made_place : Spot → Target
 made_place (Fixed object) = p.Fixed object
 made_place (At repository x) = p.At repository (made x)
 
@@ -133,7 +133,7 @@ term-made (Given x y) = term-given (made x) (made y) ∙ ap (λ z. Given z (term
 
 -- ---- a script is made back from its plain tree
 
-made_place-spot : (place : Place) → made_place (spot place) ≡ place
+made_place-spot : (place : Target) → made_place (spot place) ≡ place
 made_place-spot (p.Fixed object) = refl
 made_place-spot (p.At repository x) = ap (p.At repository) (made-term x)
 

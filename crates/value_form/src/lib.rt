@@ -24,7 +24,7 @@ pub use fail_kinds::FailKind;
 pub use lists::Items;
 pub use object_bytes::{object_bytes_of, push_object_bytes};
 pub use objects::ObjectId;
-pub use scripts::{Place, Script, Stmt};
+pub use scripts::{Script, Stmt, Target};
 pub use texts::Bytes;
 pub use transcripts::Line;
 pub use value_bytes::values_apart;

@@ -8,7 +8,7 @@ use std::alloc::{AllocError, Global};
 
 /// Which object a statement reads or writes.
 #[derive(Debug, Drop)]
-pub enum Place {
+pub enum Target {
     /// `R.N`
     Fixed(ObjectId),
     /// `R[E]`: the repository, from 1 to 16, and the expression whose value is the number.
@@ -21,9 +21,9 @@ pub enum Stmt {
     /// The name gets the value.
     Let(u16, Bytes, Expr),
     /// The name gets what the object holds.
-    Read(u16, Bytes, Place),
+    Read(u16, Bytes, Target),
     /// The object gets the value.
-    Write(u16, Place, Expr),
+    Write(u16, Target, Expr),
     /// The transcript gets the value.
     Print(u16, Expr),
     /// The part is carried out where the value isn't 0. Then the line of `end`.
@@ -43,14 +43,14 @@ pub struct Script {
     pub lines: Items<Stmt>,
 }
 
-impl Place {
+impl Target {
     /// An equal place.
-    pub fn copy(&self, alloc: Global) -> Result<Place, AllocError>
+    pub fn copy(&self, alloc: Global) -> Result<Target, AllocError>
         ensures { IfOk result (λ p. p ≡ self.now) }
     {
         match self {
-            Place::Fixed(object) => Ok(Place::Fixed(*object)),
-            Place::At(repository, number) => Ok(Place::At(*repository, number.copy(alloc)?)),
+            Target::Fixed(object) => Ok(Target::Fixed(*object)),
+            Target::At(repository, number) => Ok(Target::At(*repository, number.copy(alloc)?)),
         }
     }
 }

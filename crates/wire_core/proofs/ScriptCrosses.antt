@@ -8,7 +8,7 @@ use denote.Param.SendFields.{declared_send, variants_send, as_row_send}
 use Rattle.value_form.specs.contracts.acts.ActSpec as ActSpec
 use Rattle.value_form.specs.contracts.scripts.Script as Script
 use Rattle.value_form.specs.contracts.scripts.Stmt as Stmt
-use Rattle.value_form.specs.contracts.scripts.Place as Place
+use Rattle.value_form.specs.contracts.scripts.Target as Target
 use Rattle.value_form.specs.contracts.expressions.Expr as Expr
 use Rattle.value_form.specs.contracts.expressions.Expr.TheKnot.{type-Expr}
 use Rattle.value_form.specs.contracts.scripts.Stmt.TheKnot.{type-Stmt}
@@ -63,8 +63,8 @@ pub expr_send : IsSend Expr.the_row
 expr_send = let b = at _ (boxed.the_send _ expr_hole) in
     variants_send Expr.enum ((n64, tt), ((bytes.the_send, tt), (tt, ((bytes.the_send, tt), ((before.the_send, (b, tt)), ((between.the_send, (b, (b, tt))), ((call.the_send, (b, tt)), ((b, (b, tt)), tt))))))))
 
-pub place_send : IsSend Place.the_row
-place_send = variants_send Place.enum ((object.the_send, tt), ((n8, (expr_send, tt)), tt))
+pub place_send : IsSend Target.the_row
+place_send = variants_send Target.enum ((object.the_send, tt), ((n8, (expr_send, tt)), tt))
 
 stmt_hole : IsSend Stmt.the_hole
 stmt_hole = fix_send Stmt.the_ring (Stmt.by_members (Sends Stmt.the_ring) record {

@@ -4,8 +4,8 @@ use Rattle.broker_core.specs.Ledgers.{AreActs}
 use Rattle.broker_core.specs.Tasks.{Scripted}
 use Rattle.world_core.specs.Walks.{opened_life}
 use Rattle.trace_logs.specs.Cores.{own_acts}
-use Rattle.trace_logs.specs.Seats.{Lives}
-use Rattle.trace_logs.proofs.SeatLemmas.{own-acts, own-scripted}
+use Rattle.trace_logs.specs.ReplayedNodes.{Lives}
+use Rattle.trace_logs.proofs.ReplayedNodeLemmas.{own-acts, own-scripted}
 use Rattle.trace_logs.proofs.replays.seat_of.Goals as goal
 
 pub open-requires-clause-acts : goal.open-requires-clause-acts

@@ -1,4 +1,4 @@
-use Rattle.trace_logs.specs.Seats.{IsSound}
+use Rattle.trace_logs.specs.ReplayedNodes.{IsSound}
 use Rattle.trace_logs.proofs.EndLemmas.{seats-more, every-more}
 use Rattle.trace_logs.proofs.replays.seats_of.Goals as goal
 

@@ -2,7 +2,7 @@ use Rattle.std.proofs.Common.{◌≡◌, take}
 use Rattle.pseudo_time.specs.Lists.{Every}
 use Rattle.broker_core.specs.Tasks.{Scripted}
 use Rattle.world_core.specs.Walks.{Base}
-use Rattle.trace_logs.specs.Seats.{IsSound}
+use Rattle.trace_logs.specs.ReplayedNodes.{IsSound}
 use Rattle.trace_logs.specs.Replays.{AreAt}
 use Rattle.trace_logs.proofs.replays.seats_of.Given as goal
 

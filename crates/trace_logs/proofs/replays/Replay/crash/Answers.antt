@@ -4,7 +4,7 @@ use Rattle.std.proofs.Math.ListN.{get_or}
 use Rattle.pseudo_time.specs.Nodes.{same_node}
 use Rattle.world_core.specs.declared.entries.Entry.TheVariants as entry
 use Rattle.world_core.specs.Walks.{sent_by}
-use Rattle.trace_logs.specs.declared.seats.Seat.{Seat}
+use Rattle.trace_logs.specs.declared.replayed_nodes.ReplayedNode.{ReplayedNode}
 use Rattle.trace_logs.specs.Letters.{all_posted}
 use Rattle.trace_logs.specs.Replays.{IsAbsent}
 use Rattle.trace_logs.proofs.WalkLemmas.{absent}
@@ -18,5 +18,5 @@ returns-in_default-clause-shows c b w h =
 pub returns-clause-shows : goal.returns-clause-shows
 returns-clause-shows c b w h =
     moved-ok b w (entry.Crash c.args.node c.args.kept) c.crash.result c.args.self.now (record c.args.self.now { seats = with_item c.args.self.now.seats c.in-Some.place c.crash.new.self }) c.in-Some.place c.index_mut.result.now c.crash.new.self c.args.node h (λ k. refl)
-    (subst (λ seats. (c.in-Some.place < length seats) × ((d : Seat) → same_node (get_or seats c.in-Some.place d).node c.args.node ≡ true)) c.as_slice.ensures.value c.in-Some.ensures)
+    (subst (λ seats. (c.in-Some.place < length seats) × ((d : ReplayedNode) → same_node (get_or seats c.in-Some.place d).node c.args.node ≡ true)) c.as_slice.ensures.value c.in-Some.ensures)
     c.index_mut.ensures.value c.crash.ensures.node (λ l x. c.crash.ensures.lives b l h.run h.start x) refl refl refl (always c.crash.result (all_posted c.args.self.now.letters.items ≡ sent_by w) h.sent) h.last

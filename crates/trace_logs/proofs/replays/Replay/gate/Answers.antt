@@ -3,7 +3,7 @@ use Rattle.std.specs.Vec.{with_item}
 use Rattle.std.proofs.Math.ListN.{get_or}
 use Rattle.pseudo_time.specs.Nodes.{same_node}
 use Rattle.world_core.specs.declared.entries.Entry.TheVariants as entry
-use Rattle.trace_logs.specs.declared.seats.Seat.{Seat}
+use Rattle.trace_logs.specs.declared.replayed_nodes.ReplayedNode.{ReplayedNode}
 use Rattle.trace_logs.specs.Replays.{IsAbsent}
 use Rattle.trace_logs.proofs.WalkLemmas.{absent}
 use Rattle.trace_logs.proofs.EntryLemmas.{moved-ok, gate-absent, gate-ok}
@@ -16,5 +16,5 @@ returns-in_default-clause-shows c b w h =
 pub returns-clause-shows : goal.returns-clause-shows
 returns-clause-shows c b w h =
     moved-ok b w (entry.Gate c.args.node) c.gate.result c.args.self.now (record c.args.self.now { seats = with_item c.args.self.now.seats c.in-Some.place c.gate.new.self; letters = c.gate.new.letters }) c.in-Some.place c.index_mut.result.now c.gate.new.self c.args.node h (λ k. refl)
-    (subst (λ seats. (c.in-Some.place < length seats) × ((d : Seat) → same_node (get_or seats c.in-Some.place d).node c.args.node ≡ true)) c.as_slice.ensures.value c.in-Some.ensures)
-    c.index_mut.ensures.value c.gate.ensures.node (c.gate.ensures.lives b) refl refl refl (gate-ok b w c.gate.result c.args.self.now c.in-Some.place c.index_mut.result.now c.args.node c.gate.new.letters.items h (subst (λ seats. (c.in-Some.place < length seats) × ((d : Seat) → same_node (get_or seats c.in-Some.place d).node c.args.node ≡ true)) c.as_slice.ensures.value c.in-Some.ensures) c.index_mut.ensures.value (c.gate.ensures.sent b)) h.last
+    (subst (λ seats. (c.in-Some.place < length seats) × ((d : ReplayedNode) → same_node (get_or seats c.in-Some.place d).node c.args.node ≡ true)) c.as_slice.ensures.value c.in-Some.ensures)
+    c.index_mut.ensures.value c.gate.ensures.node (c.gate.ensures.lives b) refl refl refl (gate-ok b w c.gate.result c.args.self.now c.in-Some.place c.index_mut.result.now c.args.node c.gate.new.letters.items h (subst (λ seats. (c.in-Some.place < length seats) × ((d : ReplayedNode) → same_node (get_or seats c.in-Some.place d).node c.args.node ≡ true)) c.as_slice.ensures.value c.in-Some.ensures) c.index_mut.ensures.value (c.gate.ensures.sent b)) h.last

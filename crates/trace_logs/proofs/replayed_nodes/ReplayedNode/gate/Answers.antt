@@ -5,8 +5,8 @@ use Rattle.turn_form.specs.Posts.{posts}
 use Rattle.world_core.specs.Nodes.{leaves}
 use Rattle.world_core.specs.Walks.{all_effects, gated_life}
 use Rattle.trace_logs.specs.Letters.{all_posted}
-use Rattle.trace_logs.proofs.SeatLemmas.{gated-lives}
-use Rattle.trace_logs.proofs.seats.Seat.gate.Goals as goal
+use Rattle.trace_logs.proofs.ReplayedNodeLemmas.{gated-lives}
+use Rattle.trace_logs.proofs.replayed_nodes.ReplayedNode.gate.Goals as goal
 
 pub returns-clause-sent : goal.returns-clause-sent
 returns-clause-sent c b l h =

@@ -3,8 +3,8 @@ use Rattle.broker_core.specs.Tasks.{Scripted}
 use Rattle.world_core.specs.Nodes.{opened_mind}
 use Rattle.turn_form.specs.Ranges.{AreEffects}
 use Rattle.trace_logs.specs.Cores.{StandsFor}
-use Rattle.trace_logs.proofs.SeatLemmas.{crashed-lives, crashed-sound, log-kept}
-use Rattle.trace_logs.proofs.seats.Seat.crash.Goals as goal
+use Rattle.trace_logs.proofs.ReplayedNodeLemmas.{crashed-lives, crashed-sound, log-kept}
+use Rattle.trace_logs.proofs.replayed_nodes.ReplayedNode.crash.Goals as goal
 
 pub open_core-requires-clause-log : goal.open_core-requires-clause-log
 open_core-requires-clause-log c =

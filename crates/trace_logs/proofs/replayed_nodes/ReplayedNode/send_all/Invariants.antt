@@ -4,8 +4,8 @@ use Rattle.turn_form.specs.Posts.{posts}
 use Rattle.world_core.specs.Nodes.{leaves}
 use Rattle.world_core.specs.Walks.{Base, Life}
 use Rattle.trace_logs.specs.Letters.{all_posted, AreLetters}
-use Rattle.trace_logs.specs.Seats.{Lives}
-use Rattle.trace_logs.proofs.seats.Seat.send_all.Given as goal
+use Rattle.trace_logs.specs.ReplayedNodes.{Lives}
+use Rattle.trace_logs.proofs.replayed_nodes.ReplayedNode.send_all.Given as goal
 
 -- those so far
 abbrev pub invariant-loop-out : goal.invariant-loop-out

@@ -9,7 +9,7 @@ use Rattle.node_turn.specs.Cores.{IsReady, LeavesLog}
 use Rattle.node_turn.proofs.MediumLemmas.{leaves-log}
 use Rattle.node_turn.proofs.NewLemmas.{up-new}
 use Rattle.repository_node.proofs.CoreLemmas.{opened-repository, ready-repository}
-use Rattle.repository_node.proofs.nodes.RepositoryNode.new.Goals as goal
+use Rattle.repository_node.proofs.nodes.open_repository.Goals as goal
 
 pub new-node-requires : goal.new-node-requires
 new-node-requires g c =

@@ -1,7 +1,7 @@
 use Rattle.world_core.specs.Nodes.{leaves}
 use Rattle.trace_logs.specs.Letters.{all_posted}
-use Rattle.trace_logs.proofs.SeatLemmas.{sent-more}
-use Rattle.trace_logs.proofs.seats.Seat.send_all.Goals as goal
+use Rattle.trace_logs.proofs.ReplayedNodeLemmas.{sent-more}
+use Rattle.trace_logs.proofs.replayed_nodes.ReplayedNode.send_all.Goals as goal
 
 pub loop-out-preserved : goal.loop-out-preserved
 loop-out-preserved c = (

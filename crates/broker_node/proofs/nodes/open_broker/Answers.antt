@@ -8,7 +8,7 @@ use Rattle.node_turn.specs.Cores.{IsReady}
 use Rattle.node_turn.proofs.MediumLemmas.{leaves-log}
 use Rattle.node_turn.proofs.NewLemmas.{up-new}
 use Rattle.broker_node.proofs.CoreLemmas.{opened-broker}
-use Rattle.broker_node.proofs.nodes.BrokerNode.new.Goals as goal
+use Rattle.broker_node.proofs.nodes.open_broker.Goals as goal
 
 pub new-node-requires : goal.new-node-requires
 new-node-requires g c =
@@ -16,11 +16,11 @@ new-node-requires g c =
     let b = base_at k in
     let log = c.args.effects.now in
     let m = medium_of c.args.store in
-    let name = sym c.broker.ensures in
+    let name = sym c.broker-name.ensures in
     let plan = c.requires.acts in
     let scripted = subst (Scripted b.script) (sym c.as_slice.ensures.value) plan.2 in
     record {
-      up = up-new _ k c.broker.result log _ name refl tt (sym c.requires.runs.1, c.of.ensures ∙ plan.1, subst (Scripted b.script) (sym c.of.ensures) plan.2)
+      up = up-new _ k c.broker-name.result log _ name refl tt (sym c.requires.runs.1, c.of.ensures ∙ plan.1, subst (Scripted b.script) (sym c.of.ensures) plan.2)
           (subst (λ n. IsOf n k) name c.requires.pass.0) c.requires.pass.1 (subst (λ n. opened_log (origin_at k).opened n ≡ Some log) name c.requires.opened) refl (subst (λ n. IsReady b n log) name c.requires.ready)
           (λ t. (
             opened-broker b c.args.number c.args.run c.as_slice.result.now log c.in-Ok.broker (sym c.requires.runs.1) (c.as_slice.ensures.value ∙ plan.1) scripted c.in-Ok.ensures.fresh (c.in-Ok.ensures.opens b.script scripted).1,

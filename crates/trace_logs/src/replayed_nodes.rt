@@ -13,10 +13,10 @@ ghost use Rattle.world_core.specs.Nodes.Input.{Going, Taking, Learning, Hearing}
 ghost use Rattle.world_core.specs.Walks.{Base, Life, after_input, all_effects, gated_life, crashed_life, opened_life};
 ghost use Rattle.trace_logs.specs.Cores.{StandsFor, own_acts};
 ghost use Rattle.trace_logs.specs.Letters.{all_posted, AreLetters};
-ghost use Rattle.trace_logs.specs.Seats.{Lives, IsSound};
+ghost use Rattle.trace_logs.specs.ReplayedNodes.{Lives, IsSound};
 
 use crate::cores::{NodeCore, open_core};
-use crate::letters::Letter;
+use crate::letters::SentMessage;
 use effect_form::Effect;
 use message_form::Message;
 use pseudo_time::{NodeId, Stamp};
@@ -27,7 +27,7 @@ use value_form::ActSpec;
 
 /// A node at a place of a trace.
 #[derive(Drop)]
-pub struct Seat {
+pub struct ReplayedNode {
     pub node: NodeId,
     /// A broker's own acts of the plan, none for a repository.
     pub acts: Vec<ActSpec>,
@@ -39,7 +39,7 @@ pub struct Seat {
     pub core: NodeCore,
 }
 
-impl Seat {
+impl ReplayedNode {
     /// A node that is opened with this log.
     pub fn open(
         alloc: Global,
@@ -48,7 +48,7 @@ impl Seat {
         node: NodeId,
         acts: Vec<ActSpec>,
         log: Vec<Effect>,
-    ) -> Result<Seat, AllocError>
+    ) -> Result<ReplayedNode, AllocError>
         requires low { 1 ≤ node.number }
         requires high { node.number ≤ 16 }
         requires acts { AreActs acts.items }
@@ -60,7 +60,7 @@ impl Seat {
         ensures sound { IfOk result IsSound }
     {
         let core = open_core(alloc, run, start, node, acts.as_slice(), log.as_slice())?;
-        Ok(Seat {
+        Ok(ReplayedNode {
             node,
             acts,
             gated: log,
@@ -146,7 +146,7 @@ impl Seat {
     }
 
     // Sends a message, if it leaves.
-    fn send(&self, out: Out, letters: &mut Vec<Letter>) -> Result<(), AllocError>
+    fn send(&self, out: Out, letters: &mut Vec<SentMessage>) -> Result<(), AllocError>
         requires sound { IsSound self.now }
         requires message { IsMessage out.message }
         ensures sent { (b : Base) (l : Life) → Lives b self.now l → l.fresh ≡ [] → OnOk result (all_posted letters.new.items ≡ all_posted letters.old.items ++ posts self.now.node (filter (leaves l.gated) (out ∷ []))) }
@@ -156,12 +156,12 @@ impl Seat {
             return Ok(());
         }
         let from = self.node;
-        letters.push(Letter { from, out })?;
+        letters.push(SentMessage { from, out })?;
         Ok(())
     }
 
     // Sends the messages that leave, in order.
-    fn send_all(&self, outs: Vec<Out>, letters: &mut Vec<Letter>) -> Result<(), AllocError>
+    fn send_all(&self, outs: Vec<Out>, letters: &mut Vec<SentMessage>) -> Result<(), AllocError>
         requires sound { IsSound self.now }
         requires messages { AreOuts outs.items }
         ensures sent { (b : Base) (l : Life) → Lives b self.now l → l.fresh ≡ [] → OnOk result (all_posted letters.new.items ≡ all_posted letters.old.items ++ posts self.now.node (filter (leaves l.gated) outs.items)) }
@@ -174,7 +174,7 @@ impl Seat {
     }
 
     /// The new effects join the log, and the messages leave.
-    pub fn gate(&mut self, alloc: Global, letters: &mut Vec<Letter>) -> Result<(), AllocError>
+    pub fn gate(&mut self, alloc: Global, letters: &mut Vec<SentMessage>) -> Result<(), AllocError>
         requires sound { IsSound self.old }
         ensures lives { (b : Base) (l : Life) → Lives b self.old l → OnOk result (Lives b self.new (gated_life l)) }
         ensures sent { (b : Base) (l : Life) → Lives b self.old l → OnOk result (all_posted letters.new.items ≡ all_posted letters.old.items ++ posts self.old.node (filter (leaves (all_effects l)) l.outs)) }

@@ -24,9 +24,9 @@ use Rattle.broker_core.specs.Ledgers.{AreActs}
 use Rattle.broker_core.specs.Tasks.{Scripted}
 use Rattle.world_core.specs.Nodes.{Input, Given, gives, opened_mind}
 use Rattle.world_core.specs.Walks.{Base, Life, after_input, all_effects, gated_life, crashed_life}
-use Rattle.trace_logs.specs.declared.seats.Seat.{Seat}
+use Rattle.trace_logs.specs.declared.replayed_nodes.ReplayedNode.{ReplayedNode}
 use Rattle.trace_logs.specs.Cores.{StandsFor, Gave, IsWhole, kind_of, own_acts, acts_for}
-use Rattle.trace_logs.specs.Seats.{Lives, IsSound}
+use Rattle.trace_logs.specs.ReplayedNodes.{Lives, IsSound}
 
 -- ---- ranges
 
@@ -39,7 +39,7 @@ log-kept n xs ys h = every-left IsEffect (xs ++ take n ys) (drop n ys) (subst Ar
 -- ---- turns
 
 -- a node is told something
-pub told-lives : (b : Base) (s t : Seat) (l : Life) (i : Input) (turn : Turn) → Lives b s l →
+pub told-lives : (b : Base) (s t : ReplayedNode) (l : Life) (i : Input) (turn : Turn) → Lives b s l →
     Gave b s.node (all_effects l) (gives b.script b.run b.acts s.node (all_effects l) l.mind i) turn t.core →
     t.node ≡ s.node → t.acts ≡ s.acts → t.gated ≡ s.gated → t.fresh.items ≡ s.fresh.items ++ turn.effects → t.outs.items ≡ s.outs.items ++ turn.outs →
     Lives b t (after_input b s.node l i)
@@ -55,7 +55,7 @@ told-lives b s t l i turn h g node acts gated fresh outs = record {
     gave : Given
     gave = gives b.script b.run b.acts s.node (all_effects l) l.mind i
 
-pub told-sound : (s t : Seat) (turn : Turn) → IsSound s → kind_of t.core ≡ kind_of s.core → IsWhole t.core → AreEffects turn.effects × AreOuts turn.outs →
+pub told-sound : (s t : ReplayedNode) (turn : Turn) → IsSound s → kind_of t.core ≡ kind_of s.core → IsWhole t.core → AreEffects turn.effects × AreOuts turn.outs →
     t.node ≡ s.node → t.acts ≡ s.acts → t.gated ≡ s.gated → t.fresh.items ≡ s.fresh.items ++ turn.effects → t.outs.items ≡ s.outs.items ++ turn.outs → IsSound t
 told-sound s t turn h kind good fits node acts gated fresh outs = record {
   low = subst (λ n. 1 ≤ n.number) (sym node) h.low;
@@ -71,7 +71,7 @@ told-sound s t turn h kind good fits node acts gated fresh outs = record {
 -- ---- gates and crashes
 
 -- all effects are durable, and nothing else is open
-pub gated-lives : (b : Base) (s t : Seat) (l : Life) → Lives b s l → t.node ≡ s.node → t.acts ≡ s.acts → t.core ≡ s.core →
+pub gated-lives : (b : Base) (s t : ReplayedNode) (l : Life) → Lives b s l → t.node ≡ s.node → t.acts ≡ s.acts → t.core ≡ s.core →
     t.gated.items ≡ s.gated.items ++ s.fresh.items → t.fresh.items ≡ [] → t.outs.items ≡ [] → Lives b t (gated_life l)
 gated-lives b s t l h node acts core gated fresh outs = record {
   gated = gated ∙ (λ j. h.gated j ++ h.fresh j);
@@ -83,7 +83,7 @@ gated-lives b s t l h node acts core gated fresh outs = record {
   scripted = subst (λ v. Scripted b.script v.items) (sym acts) h.scripted;
 }
 
-pub gated-sound : (s t : Seat) → IsSound s → t.node ≡ s.node → t.acts ≡ s.acts → t.core ≡ s.core →
+pub gated-sound : (s t : ReplayedNode) → IsSound s → t.node ≡ s.node → t.acts ≡ s.acts → t.core ≡ s.core →
     t.gated.items ≡ s.gated.items ++ s.fresh.items → t.fresh.items ≡ [] → t.outs.items ≡ [] → IsSound t
 gated-sound s t h node acts core gated fresh outs = record {
   low = subst (λ n. 1 ≤ n.number) (sym node) h.low;
@@ -96,7 +96,7 @@ gated-sound s t h node acts core gated fresh outs = record {
 }
 
 -- it was opened anew over the effects that were found
-pub crashed-lives : (b : Base) (s t : Seat) (l : Life) (kept : ℕ) → Lives b s l → t.node ≡ s.node → t.acts ≡ s.acts →
+pub crashed-lives : (b : Base) (s t : ReplayedNode) (l : Life) (kept : ℕ) → Lives b s l → t.node ≡ s.node → t.acts ≡ s.acts →
     t.gated.items ≡ s.gated.items ++ take kept s.fresh.items → t.fresh.items ≡ [] → t.outs.items ≡ [] →
     StandsFor b s.node t.gated.items (opened_mind b.start) t.core → Lives b t (crashed_life b.start kept l)
 crashed-lives b s t l kept h node acts gated fresh outs core =
@@ -111,7 +111,7 @@ crashed-lives b s t l kept h node acts gated fresh outs core =
       scripted = subst (λ v. Scripted b.script v.items) (sym acts) h.scripted;
     }
 
-pub crashed-sound : (s t : Seat) (kept : ℕ) → IsSound s → t.node ≡ s.node → t.acts ≡ s.acts → kind_of t.core ≡ s.node.kind → IsWhole t.core →
+pub crashed-sound : (s t : ReplayedNode) (kept : ℕ) → IsSound s → t.node ≡ s.node → t.acts ≡ s.acts → kind_of t.core ≡ s.node.kind → IsWhole t.core →
     t.gated.items ≡ s.gated.items ++ take kept s.fresh.items → t.fresh.items ≡ [] → t.outs.items ≡ [] → IsSound t
 crashed-sound s t kept h node acts kind good gated fresh outs = record {
   low = subst (λ n. 1 ≤ n.number) (sym node) h.low;

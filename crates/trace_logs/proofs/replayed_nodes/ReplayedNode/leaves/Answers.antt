@@ -3,7 +3,7 @@ use Rattle.std.proofs.lemmas.List.{append-nil}
 use Rattle.repository_core.specs.Logs.{knows}
 use Rattle.world_core.specs.Nodes.{leaves}
 use Rattle.trace_logs.specs.Cores.{StandsFor}
-use Rattle.trace_logs.proofs.seats.Seat.leaves.Goals as goal
+use Rattle.trace_logs.proofs.replayed_nodes.ReplayedNode.leaves.Goals as goal
 
 pub returns-in-Ask : goal.returns-in-Ask
 returns-in-Ask c b l h fresh =

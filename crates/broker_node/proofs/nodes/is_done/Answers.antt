@@ -1,0 +1,12 @@
+use Rattle.std.proofs.Common.{ap, ◌∙◌}
+use Rattle.pseudo_time.specs.declared.nodes.NodeId.{NodeId}
+use Rattle.wire_lock.specs.Sights.{base_at, life_at}
+use Rattle.node_turn.specs.Nodes.{sight}
+use Rattle.broker_node.specs.Logs.{is_over}
+use Rattle.broker_node.proofs.nodes.is_done.Goals as goal
+
+pub returns : goal.returns
+returns g c = λ t at.
+    let p = c.args.node.now in
+    let l = life_at (sight p) p.node in
+    c.is_done.ensures (base_at (sight p)) l (c.core.ensures.life t at).1.0 ∙ ap (λ (n : NodeId). is_over (base_at (sight p)) n.number l) c.core.ensures.node
