@@ -2,7 +2,7 @@
 use Rattle.std.proofs.Common.{ℕ, List, ◌∷◌, ◌++◌, inr}
 use Rattle.pseudo_time.specs.declared.decisions.Decision.TheVariants as decision
 use Rattle.effect_form.specs.declared.effects.Effect.{Effect}
-use Rattle.effect_form.specs.declared.effects.Effect.TheVariants.{Put, Decide, Learn}
+use Rattle.effect_form.specs.declared.effects.Effect.TheVariants.{Put, Stretch, Decide, Learn}
 use Rattle.message_form.specs.declared.messages.Message.{Message}
 use Rattle.message_form.specs.declared.messages.Message.TheVariants as message
 use Rattle.pseudo_time.specs.declared.nodes.NodeId.{NodeId}
@@ -54,6 +54,7 @@ held-more ever more r x p = ((has-left ever more _ p.0.0, p.0.1), p.1)
 pub evidence-more : (ever more : List Post) (homes longer : ℕ → List Effect) (ticks late : List ℕ) (r : ℕ) (f : Effect) →
     ((n : ℕ) (g : Effect) → Has g (homes n) → Has g (longer n)) → RestsOn ever homes ticks r f → RestsOn (ever ++ more) longer (ticks ++ late) r f
 evidence-more ever more homes longer ticks late r (Put o x v) h p = (has-left ever more _ p.0, p.1)
+evidence-more ever more homes longer ticks late r (Stretch o x) h p = (has-left ever more _ p.0, p.1)
 evidence-more ever more homes longer ticks late r (Decide s decision.Committed) h p = has-left ever more _ p
 evidence-more ever more homes longer ticks late r (Decide s decision.Withdrawn) h p = has-left ever more _ p
 evidence-more ever more homes longer ticks late r (Decide s (decision.Expired d m)) h p = has-left ticks late m p

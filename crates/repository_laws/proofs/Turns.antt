@@ -136,7 +136,7 @@ module _ (ever : List Post) (homes : ℕ → List Effect) (ticks : List ℕ) (r 
       ReadSent ever r t o → from ≡ broker t.stamp.broker → Fine h → Fine (read_as before h from t o s)
   read-as-ok before h from t o (Answer v true) e alive sent own ok =
       send-ok (note (effect.Stretch o t) h) from (message.Value t v) (o, sent, own, answer-viewed (marks (now h)) o t v true alive e)
-      (note-ok h (effect.Stretch o t) sent.1 tt ok)
+      (note-ok h (effect.Stretch o t) sent.1 sent ok)
   read-as-ok before h from t o (Answer v false) e alive sent own ok =
       send-ok h from (message.Value t v) (o, sent, own, answer-viewed (marks (now h)) o t v false alive e) ok
   read-as-ok before h from t o (Wait w) e alive sent own ok =

@@ -117,7 +117,7 @@ WasClosed ever ticks r s (Expired d m) = Has m ticks
 -- what must have come before the effect
 abbrev pub RestsOn : List Post → (ℕ → List Effect) → List ℕ → ℕ → Effect → Type 0
 RestsOn ever homes ticks r (Put o x v) = WriteSent ever r x o v
-RestsOn ever homes ticks r (Stretch o x) = Unit {0}
+RestsOn ever homes ticks r (Stretch o x) = ReadSent ever r x o
 RestsOn ever homes ticks r (Begin s d) = Unit {0}
 RestsOn ever homes ticks r (Decide s d) = WasClosed ever ticks r s d
 RestsOn ever homes ticks r (Learn s c) = IsDecidedAt homes s c

@@ -97,7 +97,7 @@ module _ (script : List ℕ → Tree) where
   repository-later w v r (effect.Decide s decision.Withdrawn) l p = subst (Has _) (sym l.ever) (has-left w.ever l.more _ p)
   repository-later w v r (effect.Decide s (decision.Expired d m)) l p = l.ticks m p
   repository-later w v r (effect.Learn s c) l p = (p.0, l.homes s p.0 p.1, p.2)
-  repository-later w v r (effect.Stretch o x) l p = p
+  repository-later w v r (effect.Stretch o x) l p = (subst (Has _) (sym l.ever) (has-left w.ever l.more _ p.0), p.1)
   repository-later w v r (effect.Begin s d) l p = p
   repository-later w v r (effect.Run n) l p = p
   repository-later w v r (effect.Act i h t n c b) l p = p
