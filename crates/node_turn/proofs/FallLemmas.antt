@@ -62,6 +62,7 @@ module _ {K M : Type 0} {tells : Bool} {parts : K → CoreParts M} {fits : Base 
   down-fallen {core} {k} {k'} {n} {durable} cause s why v = record {
     stored = stored-added s.stored v.added v.lives;
     down = ap (λ (x : Flags). x.up) v.stands;
+    due = ap (λ (x : Flags). x.due) v.stands ∙ s.due;
     before = k.own;
     last = ap (λ (x : Sight). x.own) v.added.kept;
     caused = cause-same tells pages reads cause (parts core).medium (life_at k n) (life_at k' n) v.lives why;

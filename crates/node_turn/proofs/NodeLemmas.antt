@@ -21,12 +21,12 @@ use Rattle.node_turn.specs.Cores.{CoreParts}
 use Rattle.node_turn.specs.Lives.{no_draft, IsUp, IsDown, Keeps}
 use Rattle.node_turn.specs.Costs.{costs, PaysFor}
 use Rattle.node_turn.specs.Trails.{HasTested}
-use Rattle.node_turn.specs.Nodes.{NodeParts, Grew, IsCondition, IsQuiet, Answers, Does, StaysWhole, TurnsTo, IsAtRest}
+use Rattle.node_turn.specs.Nodes.{NodeParts, Adds, Grew, IsCondition, IsQuiet, Answers, Does, StaysWhole, TurnsTo, IsAtRest}
 use Rattle.node_turn.proofs.LifeLemmas.{Follows, follows-looked, flags-seen, life-looked, up-looked, up-stored, stored-looked}
 use Rattle.node_turn.proofs.FallLemmas.{cause-same}
 use Rattle.node_turn.proofs.PageLemmas.{whole-same}
 use Rattle.node_turn.proofs.SeekLemmas.{tested-none}
-use Rattle.node_turn.proofs.TrailLemmas.{trail-none}
+use Rattle.node_turn.proofs.TrailLemmas.{trail-none, adds-none}
 
 -- a node's pass
 abbrev Pass : Type 0
@@ -52,6 +52,7 @@ module _ {K M : Type 0} (tells : Bool) (parts : K → CoreParts M) (fits : Base 
       record {
         stored = stored-looked d.stored look;
         down = ap (λ (x : Flags). x.up) (flags-seen n k k' f.base look.before d.stored.own) ∙ d.down;
+        due = ap (λ (x : Flags). x.due) (flags-seen n k k' f.base look.before d.stored.own) ∙ d.due;
         before = d.before;
         last = ap (λ (s : Sight). s.own) look.kept ∙ d.last;
         caused = cause-same tells pages reads cause (parts core).medium (life_at k n) (life_at k' n) (λ t. life-looked n d.stored.own look) d.caused;
@@ -68,7 +69,7 @@ module _ {K M : Type 0} (tells : Bool) (parts : K → CoreParts M) (fits : Base 
   rest-seen : (core : K) (n : NodeId) (gone : Bool) (durable : ℕ) (pass : Pass) (c : Condition) → Keeps tells parts fits lives owes pages reads may_leave c core (knows pass) n gone durable
       → IsAtRest tells pages reads may_leave (seen n c pass core)
   rest-seen core n gone durable pass condition.AtWork u = record { own = u.own; kept = (up-stored u).kept; stands = (ap (λ (x : Flags). x.up) u.flags, λ t. sym (u.life t).effects) }
-  rest-seen core n gone durable pass (condition.Down cause) d = record { own = d.stored.own; kept = d.stored.kept; stands = (d.down, (d.before, d.last), d.caused) }
+  rest-seen core n gone durable pass (condition.Down cause) d = record { own = d.stored.own; kept = d.stored.kept; stands = (d.down, d.due, (d.before, d.last), d.caused) }
   rest-seen core n gone durable pass condition.Wanting s = record { own = s.own; kept = s.kept; stands = tt }
 
   pub keeps-rest : (core : K) (n : NodeId) (gone : Bool) (durable : ℕ) (pass : Pass) (c : Condition) → Keeps tells parts fits lives owes pages reads may_leave c core (knows pass) n gone durable
@@ -86,6 +87,7 @@ module _ {K M : Type 0} (tells : Bool) (parts : K → CoreParts M) (fits : Base 
         node = refl;
         answers = (cause, e);
         does = d.down;
+        adds = adds-none (knows pass).own;
         paid = λ first r. r;
         whole = λ t same. whole-same (reads (parts core).medium);
         tested = λ t repository. tested-none n (knows pass) (knows pass) 0 (trail-none n (knows pass));
@@ -99,6 +101,7 @@ module _ {K M : Type 0} (tells : Bool) (parts : K → CoreParts M) (fits : Base 
         node = refl;
         answers = e;
         does = tt;
+        adds = adds-none (knows pass).own;
         paid = λ first r. r;
         whole = λ t. tt;
         tested = λ t repository. tested-none n (knows pass) (knows pass) 0 (trail-none n (knows pass));
@@ -132,14 +135,16 @@ module _ {K M : Type 0} (tells : Bool) (parts : K → CoreParts M) (fits : Base 
 
     pub turned-working : (r : Result Turned E) → Keeps tells parts fits lives owes pages reads may_leave c' new (knows pass') n gone durable → IsCondition r c' → IfOk r (Answers quiet)
         → MatchBool quiet (IsQuiet n (knows pass) (knows pass') × (c' ≡ condition.AtWork)) (c' ≡ condition.AtWork → Grew (knows pass).own (knows pass').own)
+        → Adds (knows pass).own (knows pass').own
         → PaysFor (costs (knows pass).own) (faults (parts core).medium) (costs (knows pass').own) (faults (parts new).medium)
         → (IsTrue tells → c' ≢ condition.Wanting → StaysWhole (costs (knows pass).own) (costs (knows pass').own) (reads (parts core).medium) (reads (parts new).medium))
         → (IsTrue tells → is_broker n.kind ≡ false → HasTested n (knows pass) (knows pass'))
         → {old : NodeParts M} → seen n c pass core ≡ old → TurnsTo tells faults reads old (seen n c' pass' new) r
-    turned-working r h is answers q paid whole tested {old} view = subst (λ (p : NodeParts M). TurnsTo {E = E} tells faults reads p (seen n c' pass' new) r) view (record {
+    turned-working r h is answers q adds paid whole tested {old} view = subst (λ (p : NodeParts M). TurnsTo {E = E} tells faults reads p (seen n c' pass' new) r) view (record {
       node = refl;
       answers = is;
       does = does-answer r h is answers q;
+      adds = adds;
       paid = paid;
       whole = λ t. whole-answer r is (StaysWhole (costs (knows pass).own) (costs (knows pass').own) (reads (parts core).medium) (reads (parts new).medium)) (whole t);
       tested = tested;

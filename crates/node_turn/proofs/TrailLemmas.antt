@@ -21,7 +21,7 @@ use Rattle.wire_lock.specs.Sights.{Sight, origin_in, base_at, world_at, IsOf, Ow
 use Rattle.wire_core.specs.Wires.{WireParts, base_from}
 use Rattle.wire_lock.proofs.SightLemmas.{own-same}
 use Rattle.node_turn.specs.Costs.{cost_of, costs}
-use Rattle.node_turn.specs.Nodes.{Grew}
+use Rattle.node_turn.specs.Nodes.{Adds, Grew}
 use Rattle.node_turn.specs.Trails.{gates, sent_from, learned_by, learned_in, Trail}
 
 -- ---- what is sent
@@ -186,12 +186,19 @@ trail-cost {n} {a} {b} {s} {l} {t} {c} p = let h = costs-append a.own p.own in a
 pub grew-added : {old new : Sight} {e : Entry} → Added old new e → Grew old.own new.own
 grew-added {old} {new} {e} a = (e, [], ap (λ (k : Sight). k.own) a.kept)
 
+-- none, and then more
+pub adds-none : (a : List Entry) → Adds a a
+adds-none a = ([], sym (append-nil a))
+
+pub adds-more : (a b c : List Entry) → Adds a b → Adds b c → Adds a c
+adds-more a b c m k = (m.0 ++ k.0, k.1 ∙ (ap (λ l. l ++ k.0) m.1 ∙ append_assoc a m.0 k.0))
+
 -- and then maybe more
-pub grew-more : (a b c : List Entry) → Grew a b → (more : List Entry) × (c ≡ b ++ more) → Grew a c
+pub grew-more : (a b c : List Entry) → Grew a b → Adds b c → Grew a c
 grew-more a b c g m = (g.0, g.1 ++ m.0, m.1 ∙ (ap (λ l. l ++ m.0) g.2 ∙ append_assoc a (g.0 ∷ g.1) m.0))
 
 -- or before
-pub more-grew : (a b c : List Entry) → (more : List Entry) × (b ≡ a ++ more) → Grew b c → Grew a c
+pub more-grew : (a b c : List Entry) → Adds a b → Grew b c → Grew a c
 more-grew a b c m g = go m.0 m.1
   where
     go : (more : List Entry) → b ≡ a ++ more → Grew a c

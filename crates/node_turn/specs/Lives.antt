@@ -114,10 +114,11 @@ module _ {K M : Type 0} (tells : Bool) (parts : K → CoreParts M) (fits : Base 
     pub count : IsTrue tells → durable ≡ length (life_at k n).gated
     pub ready : IsTrue tells → StaysReady (base_at k) n (life_at k n)
 
-  -- The node is down, this is its last entry, and it had this cause.
+  -- The node went down in a turn: this is its last entry, and it had this cause.
   pub record IsDown (core : K) (k : Sight) (n : NodeId) (cause : DownCause) : Type 0 where
     pub stored : IsStored core k n
     pub down : (flags_at k n).up ≡ false
+    pub due : (flags_at k n).due ≡ true
     pub before : List Entry
     pub last : k.own ≡ before ++ Down n cause ∷ []
     pub caused : IsCause tells pages reads cause (parts core).medium (life_at k n)

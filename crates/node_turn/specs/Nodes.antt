@@ -37,6 +37,10 @@ sight p = knows p.pass
 abbrev pub new_node : {M : Type 0} → NodeId → Seat WireParts (View WireParts Entry) → M → NodeParts M
 new_node n pass medium = record { node = n; condition = condition.AtWork; pass = pass; medium = medium }
 
+-- nothing is lost
+abbrev pub Adds : {E : Type 0} → List E → List E → Type 0
+Adds old new = (more : List _) × (new ≡ old ++ more)
+
 -- there is more
 abbrev pub Grew : {E : Type 0} → List E → List E → Type 0
 Grew old new = (e : _) × (rest : List _) × (new ≡ old ++ e ∷ rest)
@@ -75,6 +79,7 @@ pub record TurnsTo {M E : Type 0} (tells : Bool) (faults : M → ℕ) (reads : M
   pub node : new.node ≡ old.node
   pub answers : IsCondition result new.condition
   pub does : IfOk result (λ t. Does t old.node (sight old) (sight new))
+  pub adds : Adds (sight old).own (sight new).own
   pub paid : PaysFor (costs (sight old).own) (faults old.medium) (costs (sight new).own) (faults new.medium)
   pub whole : IsTrue tells → OnOk result (StaysWhole (costs (sight old).own) (costs (sight new).own) (reads old.medium) (reads new.medium))
   pub tested : IsTrue tells → is_broker old.node.kind ≡ false → HasTested old.node (sight old) (sight new)
@@ -91,11 +96,11 @@ module _ {M : Type 0} (tells : Bool) (pages : M → ℕ) (reads : M → Image) (
   -- what a node's condition says of its entries
   abbrev pub Stands : Condition → NodeParts M → Type 0
   Stands condition.AtWork p = ((flags_at (sight p) p.node).up ≡ true) × (IsTrue tells → (life_at (sight p) p.node).fresh ≡ [])
-  Stands (condition.Down cause) p = ((flags_at (sight p) p.node).up ≡ false) × ((before : List Entry) × ((sight p).own ≡ before ++ Down p.node cause ∷ [])) × IsCause tells pages reads cause p.medium (life_at (sight p) p.node)
+  Stands (condition.Down cause) p = ((flags_at (sight p) p.node).up ≡ false) × ((flags_at (sight p) p.node).due ≡ true) × ((before : List Entry) × ((sight p).own ≡ before ++ Down p.node cause ∷ [])) × IsCause tells pages reads cause p.medium (life_at (sight p) p.node)
   Stands condition.Wanting p = Unit {0}
 
   -- What a node is at rest: a crash now leaves its durable log with a beginning of its new effects, of which there are none while it is up; and
-  -- where it is down, its last entry says so, and why.
+  -- where it is down, it went down in a turn, and its last entry says so, and why.
   pub record IsAtRest (p : NodeParts M) : Type 0 where
     pub own : IsOf p.node (sight p)
     pub kept : IsTrue tells → (c : Image) → may_leave p.medium c → IsKept (life_at (sight p) p.node) c

@@ -142,6 +142,13 @@ impl<K: StoredCore<M>, F: Fates, C: Clock, M: Medium> Node<K, F, C, M> {
         &self.hand.core
     }
 
+    /// How it stands.
+    pub fn condition(&self) -> Condition
+        ensures { result ≡ self.now.condition }
+    {
+        self.hand.condition
+    }
+
     /// The node's pass meets another.
     pub fn meet(&mut self, wire: &SharedWire<F, C, M>, other: &mut WirePass<F, C, M>)
         requires pass { IsWirePass wire.now.lock self.old.pass × IsWirePass wire.now.lock other.old }

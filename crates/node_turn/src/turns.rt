@@ -9,7 +9,7 @@ ghost use Rattle.wire_lock.specs.Sights.{IsWirePass, world_at};
 ghost use Rattle.node_turn.specs.Lives.{IsUp, IsAfter, Keeps, no_draft};
 ghost use Rattle.node_turn.specs.Costs.{costs, PaysFor};
 ghost use Rattle.node_turn.specs.Trails.{Trail, HasTested};
-ghost use Rattle.node_turn.specs.Nodes.{Grew, StaysWhole, IsQuiet};
+ghost use Rattle.node_turn.specs.Nodes.{Adds, Grew, StaysWhole, IsQuiet};
 
 use crate::closings::close;
 use crate::conditions::Condition;
@@ -153,7 +153,7 @@ fn go_on<K: StoredCore<M>, F: Fates, C: Clock, M: Medium, R: Wait>(
     ensures paid { PaysFor (costs (knows pass).own) (M.faults (K.parts core).medium) (costs (knows result.0).own) (M.faults (K.parts result.1.core).medium) }
     ensures whole { IsTrue M.tells → result.1.condition ≢ Condition.Wanting → StaysWhole (costs (knows pass).own) (costs (knows result.0).own) (M.reads (K.parts core).medium) (M.reads (K.parts result.1.core).medium) }
     ensures tested { IsTrue M.tells → is_broker node.kind ≡ false → HasTested node (knows pass) (knows result.0) }
-    ensures adds { (more : List _) × ((knows result.0).own ≡ (knows pass).own ++ more) }
+    ensures adds { Adds (knows pass).own (knows result.0).own }
 {
     let mut core = core;
     let mut draft = draft;
@@ -192,6 +192,7 @@ pub fn work<K: StoredCore<M>, F: Fates, C: Clock, M: Medium, R: Wait>(
     ensures paid { PaysFor (costs (knows pass).own) (M.faults (K.parts hand.core).medium) (costs (knows result.0).own) (M.faults (K.parts result.1.core).medium) }
     ensures whole { IsTrue M.tells → result.1.condition ≢ Condition.Wanting → StaysWhole (costs (knows pass).own) (costs (knows result.0).own) (M.reads (K.parts hand.core).medium) (M.reads (K.parts result.1.core).medium) }
     ensures tested { IsTrue M.tells → is_broker node.kind ≡ false → HasTested node (knows pass) (knows result.0) }
+    ensures adds { Adds (knows pass).own (knows result.0).own }
     ensures quiet { MatchBool result.2 (IsQuiet node (knows pass) (knows result.0) × (result.1.condition ≡ Condition.AtWork)) (result.1.condition ≡ Condition.AtWork → Grew (knows pass).own (knows result.0).own) }
 {
     let Hand {

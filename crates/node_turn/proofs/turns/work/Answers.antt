@@ -8,7 +8,7 @@ use Rattle.node_turn.proofs.CostLemmas.{pays-none}
 use Rattle.node_turn.proofs.LifeLemmas.{if-ok, if-err, either-gone}
 use Rattle.node_turn.proofs.PageLemmas.{whole-same}
 use Rattle.node_turn.proofs.SeekLemmas.{tested-none, tested-after}
-use Rattle.node_turn.proofs.TrailLemmas.{trail-joins, trail-cost, grew-more, more-grew}
+use Rattle.node_turn.proofs.TrailLemmas.{trail-joins, trail-cost, adds-more, grew-more, more-grew}
 use Rattle.node_turn.proofs.turns.work.Goals as goal
 
 pub give_up-pass-requires-clause-after : goal.give_up-pass-requires-clause-after
@@ -32,6 +32,12 @@ pub returns-in-Err-clause-tested : goal.returns-in-Err-clause-tested
 returns-in-Err-clause-tested g c = λ told repository.
     let q = c.give_up-pass.ensures.trail in
     tested-none c.args.node (knows c.args.pass) (knows c.give_up-pass.result.0) (0 + q.0) (trail-joins c.begin-pass.ensures.trail q.1)
+
+pub returns-in-Err-clause-adds : goal.returns-in-Err-clause-adds
+returns-in-Err-clause-adds g c =
+    let t = c.begin-pass.ensures.trail in
+    let q = c.give_up-pass.ensures.trail.1 in
+    adds-more (knows c.args.pass).own (knows c.begin-pass.result.0).own (knows c.give_up-pass.result.0).own (t.own, t.adds) (q.own, q.adds)
 
 pub returns-in-Err-clause-quiet : goal.returns-in-Err-clause-quiet
 returns-in-Err-clause-quiet g c = λ w.
@@ -62,6 +68,11 @@ pub returns-then-started-clause-tested : goal.returns-then-started-clause-tested
 returns-then-started-clause-tested g c = λ told repository.
     tested-after c.args.node (knows c.args.pass) (knows c.begin-pass.result.0) (knows c.go_on-pass.result.0) c.begin-pass.ensures.trail (c.go_on-pass.ensures.tested told repository)
 
+pub returns-then-started-clause-adds : goal.returns-then-started-clause-adds
+returns-then-started-clause-adds g c =
+    let t = c.begin-pass.ensures.trail in
+    adds-more (knows c.args.pass).own (knows c.begin-pass.result.0).own (knows c.go_on-pass.result.0).own (t.own, t.adds) c.go_on-pass.ensures.adds
+
 pub returns-then-started-clause-quiet : goal.returns-then-started-clause-quiet
 returns-then-started-clause-quiet g c = λ w. grew-more (knows c.args.pass).own (knows c.begin-pass.result.0).own (knows c.go_on-pass.result.0).own (c.begin-pass.ensures.grew (c.in-Ok.is ∙ ap (λ b. Ok b) c.if-started.true)) c.go_on-pass.ensures.adds
 
@@ -85,6 +96,9 @@ returns-clause-whole g c = λ told ne same.
 
 pub returns-clause-tested : goal.returns-clause-tested
 returns-clause-tested g c = λ told repository. tested-none c.args.node (knows c.args.pass) (knows c.begin-pass.result.0) 0 c.begin-pass.ensures.trail
+
+pub returns-clause-adds : goal.returns-clause-adds
+returns-clause-adds g c = let t = c.begin-pass.ensures.trail in (t.own, t.adds)
 
 pub returns-clause-quiet : goal.returns-clause-quiet
 returns-clause-quiet g c = ((c.begin-pass.ensures.quiet (c.in-Ok.is ∙ ap (λ b. Ok b) c.if-started.false)).0, refl)

@@ -19,4 +19,4 @@ returns-in-AtWork-clause-turns g c =
     let w = c.work-pass in
     turned-working g.M.Medium.tells g.K.StoredCore.parts g.K.StoredCore.fits g.K.StoredCore.lives g.K.StoredCore.owes g.M.Medium.page_count g.M.Medium.reads g.M.Medium.may_leave
     g.M.Medium.faults i.hand.core w.result.1.core i.node w.result.1.gone w.result.1.durable i.pass w.result.0 i.hand.condition w.result.1.condition w.result.2 c.answer-turned.result
-    w.ensures.keeps c.answer-turned.ensures.condition c.answer-turned.ensures.quiet w.ensures.quiet w.ensures.paid w.ensures.whole w.ensures.tested c.self.view_is
+    w.ensures.keeps c.answer-turned.ensures.condition c.answer-turned.ensures.quiet w.ensures.quiet w.ensures.adds w.ensures.paid w.ensures.whole w.ensures.tested c.self.view_is
