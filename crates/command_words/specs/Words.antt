@@ -1,0 +1,85 @@
+-- The words of the top call.
+use Rattle.std.specs.Prelude.{◌≡◌, ◌≢◌, ◌⊎◌, ℕ, ◌≤◌, ◌-◌, ◌^◌, List, [], ◌∷◌, codes, get_or, length, map, Some, None}
+use Rattle.std.specs.Borrow.{Bor}
+use Rattle.std.specs.Fmt.{decimal}
+use Rattle.std.specs.Option.{unwrap_or}
+use Rattle.value_form.specs.declared.objects.ObjectId.{ObjectId}
+use Rattle.report_writer.specs.Parts.{object_text}
+use Rattle.command_words.specs.declared.commands.Options.{Options}
+use Rattle.command_words.specs.declared.commands.Command.{Command}
+use Rattle.command_words.specs.declared.commands.Command.TheVariants.{Run, Load, History}
+use Rattle.command_words.specs.declared.options.Given.{Given}
+
+-- ---- numbers
+
+-- the word is this number, between these
+pub record IsNumber (least most n : ℕ) (word : List ℕ) : Type 0 where
+  pub low : least ≤ n
+  pub high : n ≤ most
+  pub is : word ≡ decimal n
+
+-- no sign and no zero stands in front, `0` itself aside
+abbrev pub IsPlain : List ℕ → Type 0
+IsPlain word = (get_or word 0 0 ≢ 43) × (get_or word 0 0 ≡ 48 → length word ≡ 1)
+
+-- ---- options
+
+abbrev pub none_given : Given
+none_given = record { workers = None; ticks = None; messages = None }
+
+-- these with one option more, which they lack: its name and its number
+abbrev pub IsWith : Given → (name word : List ℕ) → Given → Type 0
+IsWith rest name word g =
+    ((n : ℕ) × (name ≡ codes "--workers") × IsNumber 1 16 n word × (rest.workers ≡ None) × (g ≡ record rest { workers = Some n }))
+    ⊎ (((n : ℕ) × (name ≡ codes "--ticks") × IsNumber 0 1000000 n word × (rest.ticks ≡ None) × (g ≡ record rest { ticks = Some n }))
+    ⊎ ((n : ℕ) × (name ≡ codes "--messages") × IsNumber 1 1000000 n word × (rest.messages ≡ None) × (g ≡ record rest { messages = Some n })))
+
+-- the words are these options, in any order, each at most once
+abbrev pub AreGiven : Given → List (List ℕ) → Type 0
+AreGiven g [] = g ≡ none_given
+AreGiven g (name ∷ []) = ⊥
+AreGiven g (name ∷ word ∷ more) = (rest : Given) × AreGiven rest more × IsWith rest name word g
+
+-- what isn't given is this
+abbrev pub options_of : Given → Options
+options_of g = record { workers = unwrap_or g.workers 1; ticks = unwrap_or g.ticks 10000; messages = unwrap_or g.messages 200000 }
+
+abbrev pub AreOptions : Options → List (List ℕ) → Type 0
+AreOptions o words = (g : Given) × AreGiven g words × (o ≡ options_of g)
+
+-- ---- commands
+
+pub record IsLoad (seed count : ℕ) (o : Options) (words : List (List ℕ)) : Type 0 where
+  pub seed_word : List ℕ
+  pub count_word : List ℕ
+  pub more : List (List ℕ)
+  pub are : words ≡ codes "load" ∷ seed_word ∷ count_word ∷ more
+  pub seed_is : IsNumber 0 (2 ^ 64 - 1) seed seed_word
+  pub count_is : IsNumber 1 9999 count count_word
+  pub options : AreOptions o more
+
+-- the word is this object
+pub record IsObjectWord (object : ObjectId) (word : List ℕ) : Type 0 where
+  pub is : word ≡ object_text object
+  pub low : 1 ≤ object.repository
+  pub high : object.repository ≤ 16
+  pub most : object.number ≤ 2 ^ 32 - 1
+
+pub record IsHistory (object : ObjectId) (words : List (List ℕ)) : Type 0 where
+  pub word : List ℕ
+  pub are : words ≡ codes "history" ∷ word ∷ []
+  pub object_is : IsObjectWord object word
+
+-- the words are this command
+abbrev pub AreWords : Command → List (List ℕ) → Type 0
+AreWords (Run o) words = (more : List (List ℕ)) × (words ≡ codes "run" ∷ more) × AreOptions o more
+AreWords (Load seed count o) words = IsLoad seed count o words
+AreWords (History object) words = IsHistory object words
+
+-- what the words of a call are
+abbrev pub said : List (Bor (List ℕ)) → List (List ℕ)
+said words = map (λ w. w.now) words
+
+-- they are no command
+abbrev pub AreNone : List (List ℕ) → Type 0
+AreNone words = (c : Command) → AreWords c words → ⊥

@@ -1,0 +1,77 @@
+//! The commands.
+ghost use Rattle.std.specs.Prelude.{◌≡◌, ◌∷◌, ℕ, codes, None, IfSome, MatchOption};
+ghost use Rattle.value_form.specs.declared.objects.ObjectId.{ObjectId};
+ghost use Rattle.command_words.specs.Words.{AreWords, AreNone, IsLoad, IsHistory, said};
+
+use crate::numbers::{number, object};
+use crate::options::options;
+use value_form::ObjectId;
+
+/// How far a run may go, and on how many threads.
+#[derive(Clone, Copy, Debug, PartialEq, Eq)]
+pub struct Options {
+    /// How many threads give nodes their turns, 1 to 16.
+    pub workers: usize,
+    /// The most Ticks, 0 to 1,000,000.
+    pub ticks: u64,
+    /// The run ends where so many messages were sent, 1 to 1,000,000.
+    pub messages: u32,
+}
+
+/// What a call is to do.
+#[derive(Clone, Copy, Debug, PartialEq, Eq)]
+pub enum Command {
+    /// Run the plan that the source has.
+    Run(Options),
+    /// Run the plan that is made of a seed, with so many acts and one more.
+    Load {
+        seed: u64,
+        count: u32,
+        options: Options,
+    },
+    /// Tell the history of an object.
+    History(ObjectId),
+}
+
+// A load: its seed, its count and its options.
+fn load(words: &[&str]) -> Option<Command>
+    ensures { MatchOption result ((seed count : ℕ) (o : Options) → IsLoad seed count o (codes "load" ∷ said words.now) → ⊥) (λ c. AreWords c (codes "load" ∷ said words.now)) }
+{
+    let [seed, count, more @ ..] = words else {
+        return None;
+    };
+    Some(Command::Load {
+        seed: number(seed, 0, u64::MAX)?,
+        count: number(count, 1, 9_999)? as u32,
+        options: options(more)?,
+    })
+}
+
+// A history: its object.
+fn history(words: &[&str]) -> Option<Command>
+    ensures { MatchOption result ((o : ObjectId) → IsHistory o (codes "history" ∷ said words.now) → ⊥) (λ c. AreWords c (codes "history" ∷ said words.now)) }
+{
+    let [word] = words else {
+        return None;
+    };
+    Some(Command::History(object(word)?))
+}
+
+/// The command that the words are: `run OPTIONS`, `load SEED COUNT OPTIONS` or `history R.N`. OPTIONS
+/// are any of `--workers W` (1 unless given), `--ticks T` (10,000) and `--messages N` (200,000), in any
+/// order, each at most once, name and number as two words. Numbers are decimal digits without a sign or
+/// a zero in front. None where they are no command.
+pub fn read_words(words: &[&str]) -> Option<Command>
+    ensures words { IfSome result (λ c. AreWords c (said words.now)) }
+    ensures none { result ≡ None → AreNone (said words.now) }
+{
+    let [first, more @ ..] = words else {
+        return None;
+    };
+    match *first {
+        "run" => Some(Command::Run(options(more)?)),
+        "load" => load(more),
+        "history" => history(more),
+        _ => None,
+    }
+}

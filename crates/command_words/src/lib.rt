@@ -1,0 +1,8 @@
+//! The words of a call: which command they are.
+#![tactic(auto)]
+
+mod commands;
+mod numbers;
+mod options;
+
+pub use commands::{Command, Options, read_words};
