@@ -1,0 +1,116 @@
+-- Runs that agree in the logs of their repositories and in their tries are serial together.
+use Rattle.std.proofs.Common.{◌≡◌, ℕ, zero, suc, ◌≤◌, Bool, true, false, ◌&&◌, ◌||◌, nat_le, map, List, [], ◌∷◌, refl, sym, ◌∙◌, ap, subst, if◌then◌else◌, arith}
+use Rattle.std.proofs.lemmas.Grind.{common_steps}
+use Rattle.std.specs.FinMap as finite
+use Rattle.pseudo_time.specs.StampParts.{StampParts}
+use Rattle.pseudo_time.specs.Order.{stamp_lt}
+use Rattle.pseudo_time.specs.Nodes.{repository}
+use Rattle.pseudo_time.specs.declared.nodes.NodeId.{NodeId}
+use Rattle.value_form.specs.Objects.{Objects}
+use Rattle.effect_form.specs.declared.effects.Effect.{Effect}
+use Rattle.object_history.specs.declared.marks.Mark.{Mark}
+use Rattle.object_history.specs.declared.marks.Mark.TheVariants.{Put, Stretch, Settle}
+use Rattle.repository_core.specs.Logs.{marks}
+use Rattle.serial_model.specs.Questions.{talked, talked_alone}
+use Rattle.serial_model.specs.Deeds.{after_deeds, stamp_if}
+use Rattle.world_core.specs.Deeds.{Try, RunLogs, in_run, some_of, has_commit, has_learned, committed, puts_of, puts_to, written, find, deed_of, deed, put_stamps, log_stamps, try_stamps, deed_stamps, all_deeds, before}
+use Rattle.serial_law.specs.Serial.{Serial, IsSerial}
+use Rattle.broker_laws.proofs.TestLemmas.{and-both}
+
+abbrev run_with : ℕ → (NodeId → List Effect) → List Try → RunLogs
+run_with n logs tries = record { repositories = n; logs = logs; tries = tries }
+
+pub le-to : (a b : ℕ) → a ≤ b → nat_le a b ≡ true
+le-to a b h = grind (arith, common_steps)
+
+module _ (most : ℕ) (f g : NodeId → List Effect) (tries : List Try) (same : (r : ℕ) → (nat_le 1 r && nat_le r most) ≡ true → f (repository r) ≡ g (repository r)) where
+  abbrev k : RunLogs
+  k = run_with most f tries
+
+  abbrev k' : RunLogs
+  k' = run_with most g tries
+
+  here : (r : ℕ) → suc r ≤ most → f (repository (suc r)) ≡ g (repository (suc r))
+  here r le = same (suc r) (and-both (le-to 1 (suc r) (omega arith)) (le-to (suc r) most le))
+
+  -- ---- committed stamps
+
+  some-same : (s : StampParts) (n : ℕ) → n ≤ most → some_of n (λ r. has_learned s (f (repository r))) ≡ some_of n (λ r. has_learned s (g (repository r)))
+  unfolding some_of
+  some-same s zero le = refl
+  some-same s (suc n) le = λ i. has_learned s (here n le i) || some-same s n (omega (arith, le)) i
+
+  if-same : (c : Bool) (x x' y y' : Bool) → (c ≡ true → x ≡ x') → y ≡ y' → (if c then x else y) ≡ (if c then x' else y')
+  if-same true x x' y y' h e = h refl
+  if-same false x x' y y' h e = e
+
+  pub committed-same : (s : StampParts) → committed k s ≡ committed k' s
+  unfolding committed
+  committed-same s = if-same (in_run k s.home) _ _ _ _ (λ h. ap (has_commit s) (same s.home h)) (some-same s most (omega arith))
+
+  -- ---- puts
+
+  puts-same : (s : StampParts) (n : ℕ) → n ≤ most → puts_to k s n ≡ puts_to k' s n
+  unfolding puts_to
+  puts-same s zero le = refl
+  puts-same s (suc n) le = λ i. puts_of s (marks (here n le i)) (puts-same s n (omega (arith, le)) i)
+
+  written-same : (s : StampParts) → written k s ≡ written k' s
+  written-same s = puts-same s most (omega arith)
+
+  deed-same : (s : StampParts) → deed k s ≡ deed k' s
+  deed-same s = ap (deed_of (find s tries)) (written-same s)
+
+  -- ---- the map before a stamp
+
+  marks-stamps : (ok ok' : StampParts → Bool) → ((s : StampParts) → ok s ≡ ok' s) → (m : List Mark) (ss : List StampParts) → put_stamps ok m ss ≡ put_stamps ok' m ss
+  unfolding put_stamps
+  marks-stamps ok ok' e [] ss = refl
+  marks-stamps ok ok' e (Put o x v ∷ m) ss = λ i. stamp_if (e x.stamp i) x.stamp (marks-stamps ok ok' e m ss i)
+  marks-stamps ok ok' e (Stretch o x ∷ m) ss = marks-stamps ok ok' e m ss
+  marks-stamps ok ok' e (Settle t c ∷ m) ss = marks-stamps ok ok' e m ss
+
+  tries-stamps : (ok ok' : StampParts → Bool) → ((s : StampParts) → ok s ≡ ok' s) → (ts : List Try) → try_stamps ok ts ≡ try_stamps ok' ts
+  unfolding try_stamps
+  tries-stamps ok ok' e [] = refl
+  tries-stamps ok ok' e (t ∷ ts) = λ i. stamp_if (e t.stamp i) t.stamp (tries-stamps ok ok' e ts i)
+
+  logs-stamps : (ok ok' : StampParts → Bool) → ((s : StampParts) → ok s ≡ ok' s) → (n : ℕ) → n ≤ most → (ss ss' : List StampParts) → ss ≡ ss' → log_stamps k ok n ss ≡ log_stamps k' ok' n ss'
+  unfolding log_stamps
+  logs-stamps ok ok' e zero le ss ss' q = q
+  logs-stamps ok ok' e (suc n) le ss ss' q =
+      marks-stamps ok ok' e (marks (f (repository (suc n)))) (log_stamps k ok n ss)
+      ∙ (λ i. put_stamps ok' (marks (here n le i)) (logs-stamps ok ok' e n (omega (arith, le)) ss ss' q i))
+
+  map-same : (ss : List StampParts) → map (deed k) ss ≡ map (deed k') ss
+  map-same [] = refl
+  map-same (s ∷ ss) = λ i. deed-same s i ∷ map-same ss i
+
+  deeds-same : (ss : List StampParts) (m : Objects) → all_deeds k ss m ≡ all_deeds k' ss m
+  unfolding all_deeds
+  deeds-same ss m = ap (λ ds. after_deeds ds m) (map-same ss)
+
+  pub before-same : (s : StampParts) → before k s ≡ before k' s
+  unfolding before
+  before-same s =
+      let ok : StampParts → Bool = λ t. stamp_lt t s && committed k t in
+      let ok' : StampParts → Bool = λ t. stamp_lt t s && committed k' t in
+      let e : (t : StampParts) → ok t ≡ ok' t = λ t. ap (λ c. stamp_lt t s && c) (committed-same t) in
+      deeds-same (deed_stamps k ok) finite.empty ∙ ap (λ ss. all_deeds k' ss finite.empty) (logs-stamps ok ok' e most (omega arith) _ _ (tries-stamps ok ok' e tries))
+
+  -- ---- serial
+
+  pub serial-same : Serial k → Serial k'
+  serial-same h t j =
+      let p = h t j in
+      let p' : IsSerial k t (talked t.script t.answers) (talked_alone t.script (before k' t.stamp)) = subst (λ m. IsSerial k t (talked t.script t.answers) (talked_alone t.script m)) (before-same t.stamp) p in
+      let c : committed k' t.stamp ≡ committed k t.stamp = sym (committed-same t.stamp) in
+      record {
+        front = p'.front;
+        finished = λ e. p'.finished (sym c ∙ e);
+        withdrawn = p'.withdrawn;
+        failed = p'.failed;
+        sure = λ e. c ∙ p'.sure e;
+        other = λ o e n. c ∙ p'.other o e n;
+        puts = λ e. sym (written-same t.stamp) ∙ p'.puts (sym c ∙ e);
+      }

@@ -1,0 +1,134 @@
+-- What the top call promises of serial runs, from the law of serial runs.
+use Rattle.std.proofs.Common.{◌≡◌, ℕ, zero, suc, ◌≤◌, ◌==◌, Bool, true, false, ◌&&◌, List, [], ◌∷◌, ◌++◌, append-nil, length, map, refl, sym, ◌∙◌, ap, subst, Option, Some, None, if◌then◌else◌, arith}
+use Rattle.std.proofs.lemmas.Bool.{eqb-true}
+use Rattle.std.specs.Prelude.{reverse}
+use Rattle.pseudo_time.specs.Lists.{Every}
+use Rattle.pseudo_time.specs.declared.nodes.NodeId.{NodeId}
+use Rattle.pseudo_time.specs.declared.nodes.NodeKind.{NodeKind}
+use Rattle.pseudo_time.specs.declared.nodes.NodeKind.TheVariants.{Repository, Broker}
+use Rattle.value_form.specs.declared.acts.ActSpec.{ActSpec}
+use Rattle.value_form.specs.Mirror.{Block}
+use Rattle.effect_form.specs.declared.effects.Effect.{Effect}
+use Rattle.stream_port.specs.declared.fates.Asked.{Asked}
+use Rattle.statement_form.specs.RowTexts.{script_text}
+use Rattle.script_form.specs.Printable.{IsPrintable}
+use Rattle.serial_model.specs.Questions.{Tree}
+use Rattle.plan_form.specs.declared.plans.Plan.{Plan}
+use Rattle.plan_form.specs.PlanTexts.{IsOfLanguage}
+use Rattle.broker_core.specs.Tasks.{Task, tasks, Scripted}
+use Rattle.broker_core.specs.Book as books
+use Rattle.broker_core.specs.Book.{Book, Act, tries_of}
+use Rattle.broker_core.specs.Sound.{Started, OfAct}
+use Rattle.world_core.specs.declared.entries.Entry.{Entry}
+use Rattle.world_core.specs.declared.entries.Entry.TheVariants.{Take, Go, Learn, Hear, Gate, Crash, Down, Tick}
+use Rattle.world_core.specs.declared.traces.Trace.{Trace}
+use Rattle.world_core.specs.Nodes.{acts_of}
+use Rattle.world_core.specs.Walks.{Base, World, Flags, names, flagged, went, learned, has_heard, step, walk_from, start_world}
+use Rattle.world_core.specs.Legal.{base_of, in_plan}
+use Rattle.world_core.specs.Deeds.{Try, attempt, book_tries, run_tries}
+use Rattle.pseudo_time.specs.Nodes.{broker, repository}
+use Rattle.broker_core.specs.Readings.{reading}
+use Rattle.broker_core.specs.Counted.{counted}
+use Rattle.world_core.specs.Readings.{IsLegal, gated_log}
+use Rattle.serial_law.specs.Runs.{Position, world_at, log_at, run_at}
+use Rattle.serial_law.specs.Serial.{Serial}
+use Rattle.run_laws.specs.Serials.{IsSerialOver}
+use Rattle.broker_laws.proofs.TestLemmas.{and-both}
+use Rattle.broker_core.proofs.SoundLemmas.{sound-kept}
+use Rattle.broker_core.proofs.SameTurns.{book-same}
+use Rattle.world_core.proofs.SameWorlds.{Agree, agree-of, walk-same}
+use Rattle.world_core.proofs.OneReading.{own-reading, one-reading}
+use Rattle.run_laws.proofs.SameRuns.{le-to, serial-same}
+
+-- ---- which nodes a walk knows
+
+went-known : (k : NodeKind) (f : Flags) → (went k f).known ≡ f.known
+went-known Repository f = refl
+went-known Broker f = refl
+
+learned-known : (k : NodeKind) (f : Flags) → (learned k f).known ≡ f.known
+learned-known Repository f = refl
+learned-known Broker f = refl
+
+heard-known : (o : Option ℕ) (f : Flags) → (has_heard o f).known ≡ f.known
+heard-known None f = refl
+heard-known (Some m) f = refl
+
+flagged-known : (o : Option ℕ) (k : NodeKind) (f : Flags) (e : Entry) → (flagged o k f e).known ≡ f.known
+flagged-known o k f (Take n i) = refl
+flagged-known o k f (Go n) = went-known k f
+flagged-known o k f (Learn n s c) = learned-known k f
+flagged-known o k f (Hear n) = heard-known o f
+flagged-known o k f (Gate n) = refl
+flagged-known o k f (Crash n i) = refl
+flagged-known o k f (Down n c) = refl
+flagged-known o k f (Tick m) = refl
+
+either-known : (b : Bool) (f g : Flags) → f.known ≡ g.known → (if b then f else g).known ≡ g.known
+either-known true f g e = e
+either-known false f g e = refl
+
+known-from : (b : Base) (w : World) (es : List Entry) (n : NodeId) → ((walk_from b w es).flags n).known ≡ (w.flags n).known
+unfolding walk_from
+known-from b w [] n = refl
+known-from b w (e ∷ es) n = known-from b (step b w e) es n ∙ either-known (names n e && (w.flags n).known) (flagged w.last n.kind (w.flags n) e) (w.flags n) (flagged-known w.last n.kind (w.flags n) e)
+
+-- ---- attempts by two readings
+
+module _ (s s' : List ℕ → Tree) (run : ℕ) (acts : List ActSpec) (h : Scripted s acts) (h' : Scripted s' acts) where
+  attempt-same : (t : books.Try) → s t.task.script ≡ s' t.task.script → attempt s t ≡ attempt s' t
+  attempt-same t e = ap (λ k. record { stamp = t.stamp; script = k; answers = t.answers; ended = t.end }) e
+
+  tries-at : (task : Task) (r : ℕ) (ts : List books.Try) → Every (λ (t : books.Try). (t.task ≡ task) × (t.run ≡ r)) ts → s task.script ≡ s' task.script → map (attempt s) ts ≡ map (attempt s') ts
+  tries-at task r [] k e = refl
+  tries-at task r (t ∷ ts) k e = λ i. attempt-same t (subst (λ (x : Task). s x.script ≡ s' x.script) (sym k.0.0) e) i ∷ tries-at task r ts k.1 e i
+
+  map-both : (f : books.Try → Try) (xs ys : List books.Try) → map f (xs ++ ys) ≡ map f xs ++ map f ys
+  map-both f [] ys = refl
+  map-both f (x ∷ xs) ys = ap (λ l. f x ∷ l) (map-both f xs ys)
+
+  acts-at : (plan : List Task) → Agree s s' plan → (as' : List Act) → Started plan as' → Every OfAct as' → map (attempt s) (tries_of as') ≡ map (attempt s') (tries_of as')
+  acts-at plan g [] k o = refl
+  acts-at plan g (a ∷ done) k o =
+      map-both (attempt s) a.tries (tries_of done)
+      ∙ (λ i. tries-at a.task a.run a.tries o.0 (g (length done) a.task k.1) i ++ acts-at plan g done k.0 o.1 i)
+      ∙ sym (map-both (attempt s') a.tries (tries_of done))
+
+  if-same : (c : Bool) (x y : List Try) → (c ≡ true → x ≡ y) → (if c then x else []) ≡ (if c then y else [])
+  if-same true x y k = k refl
+  if-same false x y k = refl
+
+  own-same : (b : ℕ) (log : List Effect) → book_tries s run (counted s b run (tasks (acts_of b acts)) log) ≡ book_tries s' run (counted s' b run (tasks (acts_of b acts)) log)
+  own-same b log =
+      let g = agree-of s s' b acts h h' in
+      let sound = sound-kept s b run (tasks (acts_of b acts)) log in
+      if-same ((counted s b run (tasks (acts_of b acts)) log).run == run) _ _ (λ e. acts-at (tasks (acts_of b acts)) g (counted s b run (tasks (acts_of b acts)) log).acts (sound.started (eqb-true _ _ e)) (sound.of_acts (eqb-true _ _ e)))
+      ∙ ap (book_tries s' run) (book-same s s' b run (tasks (acts_of b acts)) g log)
+
+  all-same : (f g : NodeId → List Effect) (n : ℕ) → ((b : ℕ) → 1 ≤ b → b ≤ n → f (broker b) ≡ g (broker b)) → run_tries s run acts f n ≡ run_tries s' run acts g n
+  unfolding run_tries
+  all-same f g zero k = refl
+  all-same f g (suc b) k =
+      λ i. all-same f g b (λ c low high. k c low (omega (arith, high))) i ++ (own-same (suc b) (f (broker (suc b))) ∙ ap (λ l. book_tries s' run (counted s' (suc b) run (tasks (acts_of (suc b) acts)) l)) (k (suc b) (omega arith) (omega arith))) i
+
+-- ---- the promise
+
+module _ (law : (p : Position) → Serial (run_at p)) where
+  known-log : (c : Bool) (x y : List Effect) → c ≡ true → (if c then x else y) ≡ x
+  known-log true x y e = refl
+  known-log false x y e = cc
+
+  pub serial-over : (plan : Plan) (asked : List Asked) (t : Trace) → IsOfLanguage plan → IsLegal plan asked t → IsSerialOver plan t
+  serial-over plan asked t w l logs left agrees all =
+      let r = one-reading plan asked t logs w l left in
+      let own = own-reading plan w in
+      let p : Position = record { script = r.0; plan = plan; asked = asked; trace = t; logs = logs; front = t.entries; rest = []; here = sym (append-nil t.entries); whole = w; past = r.1; agrees = agrees; legal = r.2 } in
+      let known : (n : NodeId) → in_plan plan n ≡ true → ((world_at p).flags n).known ≡ true =
+          λ n i. known-from (base_of r.0 plan t) (start_world (base_of r.0 plan t)) t.entries n ∙ l.nodes.just n ∙ i in
+      let there : (n : NodeId) → in_plan plan n ≡ true → log_at p n ≡ reverse (gated_log plan t n) =
+          λ n i. ap reverse (known-log ((world_at p).flags n).known _ _ (known n i) ∙ ap (λ (v : World). (v.life n).gated) (walk-same r.0 (reading plan.acts) plan r.2.scripted own t t.entries)) in
+      let tries : run_tries r.0 plan.run plan.acts (log_at p) plan.brokers ≡ run_tries (reading plan.acts) plan.run plan.acts (λ n. reverse (gated_log plan t n)) plan.brokers =
+          all-same r.0 (reading plan.acts) plan.run plan.acts r.2.scripted own (log_at p) (λ n. reverse (gated_log plan t n)) plan.brokers
+          (λ b low high. there (broker b) (and-both (le-to 1 b low) (le-to b plan.brokers high))) in
+      serial-same plan.repositories (log_at p) (λ n. reverse (gated_log plan t n)) (run_tries (reading plan.acts) plan.run plan.acts (λ n. reverse (gated_log plan t n)) plan.brokers) (λ r i. there (repository r) i)
+      (subst (λ ts. Serial (record { repositories = plan.repositories; logs = log_at p; tries = ts })) tries (law p))

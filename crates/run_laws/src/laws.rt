@@ -1,0 +1,19 @@
+//! The laws.
+ghost use Rattle.std.specs.Prelude.{List};
+ghost use Rattle.stream_port.specs.declared.fates.Asked.{Asked};
+ghost use Rattle.plan_form.specs.declared.plans.Plan.{Plan};
+ghost use Rattle.plan_form.specs.PlanTexts.{IsOfLanguage};
+ghost use Rattle.world_core.specs.declared.traces.Trace.{Trace};
+ghost use Rattle.world_core.specs.Readings.{IsLegal};
+ghost use Rattle.run_laws.specs.Serials.{IsSerialOver};
+
+use serial_law::law_serial;
+
+/// Every attempt of a run reads, writes and ends as its script does alone, after the committed deeds before
+/// its stamp (Bernstein et al. 1987, chapter 5): of each legal trace of a plan of the language, whatever
+/// other plans the earlier runs had that left its logs.
+pub fn law_serial_runs()
+    ensures { (plan : Plan) (asked : List Asked) (t : Trace) → IsOfLanguage plan → IsLegal plan asked t → IsSerialOver plan t }
+{
+    law_serial();
+}

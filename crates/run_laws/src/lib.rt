@@ -1,0 +1,7 @@
+//! Laws of a run by its plan and its trace alone, for callers that have no reading of scripts and no past at
+//! hand.
+#![tactic(auto)]
+
+mod laws;
+
+pub use laws::law_serial_runs;
