@@ -6,15 +6,17 @@ use Rattle.pseudo_time.specs.StampParts.{StampParts}
 use Rattle.pseudo_time.specs.Order.{stamp_lt}
 use Rattle.pseudo_time.specs.Nodes.{repository}
 use Rattle.pseudo_time.specs.declared.nodes.NodeId.{NodeId}
-use Rattle.value_form.specs.Objects.{Objects}
+use Rattle.value_form.specs.declared.objects.ObjectId.{ObjectId}
+use Rattle.value_form.specs.Objects.{Objects, value_at}
 use Rattle.effect_form.specs.declared.effects.Effect.{Effect}
 use Rattle.object_history.specs.declared.marks.Mark.{Mark}
 use Rattle.object_history.specs.declared.marks.Mark.TheVariants.{Put, Stretch, Settle}
+use Rattle.object_history.specs.History.{scan}
 use Rattle.repository_core.specs.Logs.{marks}
 use Rattle.serial_model.specs.Questions.{talked, talked_alone}
 use Rattle.serial_model.specs.Deeds.{after_deeds, stamp_if}
-use Rattle.world_core.specs.Deeds.{Try, RunLogs, in_run, some_of, has_commit, has_learned, committed, puts_of, puts_to, written, find, deed_of, deed, put_stamps, log_stamps, try_stamps, deed_stamps, all_deeds, before}
-use Rattle.serial_law.specs.Serial.{Serial, IsSerial}
+use Rattle.world_core.specs.Deeds.{Try, RunLogs, in_run, some_of, has_commit, has_learned, committed, puts_of, puts_to, written, find, deed_of, deed, put_stamps, log_stamps, try_stamps, deed_stamps, all_deeds, before, finals, marks_at}
+use Rattle.serial_law.specs.Serial.{Serial, IsSerial, HasValue, HoldsAll}
 use Rattle.broker_laws.proofs.TestLemmas.{and-both}
 
 abbrev run_with : ℕ → (NodeId → List Effect) → List Try → RunLogs
@@ -97,6 +99,28 @@ module _ (most : ℕ) (f g : NodeId → List Effect) (tries : List Try) (same : 
       let ok' : StampParts → Bool = λ t. stamp_lt t s && committed k' t in
       let e : (t : StampParts) → ok t ≡ ok' t = λ t. ap (λ c. stamp_lt t s && c) (committed-same t) in
       deeds-same (deed_stamps k ok) finite.empty ∙ ap (λ ss. all_deeds k' ss finite.empty) (logs-stamps ok ok' e most (omega arith) _ _ (tries-stamps ok ok' e tries))
+
+  pub finals-same : finals k ≡ finals k'
+  unfolding finals
+  finals-same =
+      let ok : StampParts → Bool = λ t. committed k t in
+      let ok' : StampParts → Bool = λ t. committed k' t in
+      deeds-same (deed_stamps k ok) finite.empty ∙ ap (λ ss. all_deeds k' ss finite.empty) (logs-stamps ok ok' committed-same most (omega arith) _ _ (tries-stamps ok ok' committed-same tries))
+
+  marks-same : (o : ObjectId) → marks_at k o ≡ marks_at k' o
+  unfolding marks_at
+  marks-same o = here-marks (in_run k o.repository) (λ e. same o.repository e)
+    where
+      here-marks : (c : Bool) → (c ≡ true → f (repository o.repository) ≡ g (repository o.repository)) →
+          (if c then marks (f (repository o.repository)) else []) ≡ (if c then marks (g (repository o.repository)) else [])
+      here-marks true h = ap marks (h refl)
+      here-marks false h = refl
+
+  pub finals-hold : HoldsAll k (finals k) → HoldsAll k' (finals k')
+  finals-hold h o =
+      subst (λ m. HasValue (scan (λ x. committed k' x.stamp) o (marks_at k' o)) (value_at m o)) finals-same
+      (subst (λ m. HasValue (scan (λ x. committed k' x.stamp) o m) (value_at (finals k) o)) (marks-same o)
+      (subst (λ (c : StampParts → Bool). HasValue (scan (λ x. c x.stamp) o (marks_at k o)) (value_at (finals k) o)) (λ i s. committed-same s i) (h o)))
 
   -- ---- serial
 

@@ -1,5 +1,5 @@
 -- What the top call promises of serial runs, from the law of serial runs.
-use Rattle.std.proofs.Common.{◌≡◌, ℕ, zero, suc, ◌≤◌, ◌==◌, Bool, true, false, ◌&&◌, List, [], ◌∷◌, ◌++◌, append-nil, length, map, refl, sym, ◌∙◌, ap, subst, Option, Some, None, if◌then◌else◌, arith}
+use Rattle.std.proofs.Common.{◌≡◌, ℕ, zero, suc, ◌≤◌, ◌==◌, nat_le, Bool, true, false, ◌&&◌, List, [], ◌∷◌, ◌++◌, append-nil, length, map, refl, sym, ◌∙◌, ap, subst, Option, Some, None, if◌then◌else◌, arith}
 use Rattle.std.proofs.lemmas.Bool.{eqb-true}
 use Rattle.std.specs.Prelude.{reverse}
 use Rattle.pseudo_time.specs.Lists.{Every}
@@ -25,20 +25,21 @@ use Rattle.world_core.specs.declared.traces.Trace.{Trace}
 use Rattle.world_core.specs.Nodes.{acts_of}
 use Rattle.world_core.specs.Walks.{Base, World, Flags, names, flagged, went, learned, has_heard, step, walk_from, start_world}
 use Rattle.world_core.specs.Legal.{base_of, in_plan}
-use Rattle.world_core.specs.Deeds.{Try, attempt, book_tries, run_tries}
+use Rattle.world_core.specs.Deeds.{RunLogs, Try, attempt, book_tries, finals, run_tries}
 use Rattle.pseudo_time.specs.Nodes.{broker, repository}
 use Rattle.broker_core.specs.Readings.{reading}
 use Rattle.broker_core.specs.Counted.{counted}
-use Rattle.world_core.specs.Readings.{IsLegal, gated_log}
+use Rattle.world_core.specs.Readings.{IsLegal, WereLeft, gated_log}
+use Rattle.world_core.specs.Pasts.{OpenedWith}
 use Rattle.serial_law.specs.Runs.{Position, world_at, log_at, run_at}
-use Rattle.serial_law.specs.Serial.{Serial}
-use Rattle.run_laws.specs.Serials.{IsSerialOver}
+use Rattle.serial_law.specs.Serial.{HoldsAll, Serial}
+use Rattle.run_laws.specs.Serials.{HoldsFinals, IsSerialOver, run_in}
 use Rattle.broker_laws.proofs.TestLemmas.{and-both}
 use Rattle.broker_core.proofs.SoundLemmas.{sound-kept}
 use Rattle.broker_core.proofs.SameTurns.{book-same}
 use Rattle.world_core.proofs.SameWorlds.{Agree, agree-of, walk-same}
 use Rattle.world_core.proofs.OneReading.{own-reading, one-reading}
-use Rattle.run_laws.proofs.SameRuns.{le-to, serial-same}
+use Rattle.run_laws.proofs.SameRuns.{finals-hold, le-to, serial-same}
 
 -- ---- which nodes a walk knows
 
@@ -111,24 +112,53 @@ module _ (s s' : List ℕ → Tree) (run : ℕ) (acts : List ActSpec) (h : Scrip
   all-same f g (suc b) k =
       λ i. all-same f g b (λ c low high. k c low (omega (arith, high))) i ++ (own-same (suc b) (f (broker (suc b))) ∙ ap (λ l. book_tries s' run (counted s' (suc b) run (tasks (acts_of (suc b) acts)) l)) (k (suc b) (omega arith) (omega arith))) i
 
--- ---- the promise
+-- ---- a run by its plan
+
+known-log : (c : Bool) (x y : List Effect) → c ≡ true → (if c then x else y) ≡ x
+known-log true x y e = refl
+known-log false x y e = cc
+
+-- the run stands at the end of a legal trace over a past by one reading, and agrees with it in the logs of its repositories and in its attempts
+pub record Placed (plan : Plan) (t : Trace) : Type 0 where
+  pub place : Position
+  pub repositories : place.plan.repositories ≡ plan.repositories
+  pub logs : (r : ℕ) → (nat_le 1 r && nat_le r plan.repositories) ≡ true → log_at place (repository r) ≡ reverse (gated_log plan t (repository r))
+  pub tries : (run_at place).tries ≡ (run_in plan t).tries
+
+pub placed : (plan : Plan) (asked : List Asked) (t : Trace) → IsOfLanguage plan → IsLegal plan asked t → (logs : NodeId → List Effect) → WereLeft logs → OpenedWith t.opened logs → Placed plan t
+placed plan asked t w l logs left agrees =
+    let r = one-reading plan asked t logs w l left in
+    let own = own-reading plan w in
+    let p : Position = record { script = r.0; plan = plan; asked = asked; trace = t; logs = logs; front = t.entries; rest = []; here = sym (append-nil t.entries); whole = w; past = r.1; agrees = agrees; legal = r.2 } in
+    let known : (n : NodeId) → in_plan plan n ≡ true → ((world_at p).flags n).known ≡ true =
+    λ n i. known-from (base_of r.0 plan t) (start_world (base_of r.0 plan t)) t.entries n ∙ l.nodes.just n ∙ i in
+    let there : (n : NodeId) → in_plan plan n ≡ true → log_at p n ≡ reverse (gated_log plan t n) =
+    λ n i. ap reverse (known-log ((world_at p).flags n).known _ _ (known n i) ∙ ap (λ (v : World). (v.life n).gated) (walk-same r.0 (reading plan.acts) plan r.2.scripted own t t.entries)) in
+    record {
+      place = p;
+      repositories = refl;
+      logs = λ r i. there (repository r) i;
+      tries = all-same r.0 (reading plan.acts) plan.run plan.acts r.2.scripted own (log_at p) (λ n. reverse (gated_log plan t n)) plan.brokers
+          (λ b low high. there (broker b) (and-both (le-to 1 b low) (le-to b plan.brokers high)));
+    }
+
+-- ---- the promises
+
+abbrev Ends : RunLogs → Type 0
+Ends m = HoldsAll m (finals m)
 
 module _ (law : (p : Position) → Serial (run_at p)) where
-  known-log : (c : Bool) (x y : List Effect) → c ≡ true → (if c then x else y) ≡ x
-  known-log true x y e = refl
-  known-log false x y e = cc
-
   pub serial-over : (plan : Plan) (asked : List Asked) (t : Trace) → IsOfLanguage plan → IsLegal plan asked t → IsSerialOver plan t
-  serial-over plan asked t w l logs left agrees all =
-      let r = one-reading plan asked t logs w l left in
-      let own = own-reading plan w in
-      let p : Position = record { script = r.0; plan = plan; asked = asked; trace = t; logs = logs; front = t.entries; rest = []; here = sym (append-nil t.entries); whole = w; past = r.1; agrees = agrees; legal = r.2 } in
-      let known : (n : NodeId) → in_plan plan n ≡ true → ((world_at p).flags n).known ≡ true =
-          λ n i. known-from (base_of r.0 plan t) (start_world (base_of r.0 plan t)) t.entries n ∙ l.nodes.just n ∙ i in
-      let there : (n : NodeId) → in_plan plan n ≡ true → log_at p n ≡ reverse (gated_log plan t n) =
-          λ n i. ap reverse (known-log ((world_at p).flags n).known _ _ (known n i) ∙ ap (λ (v : World). (v.life n).gated) (walk-same r.0 (reading plan.acts) plan r.2.scripted own t t.entries)) in
-      let tries : run_tries r.0 plan.run plan.acts (log_at p) plan.brokers ≡ run_tries (reading plan.acts) plan.run plan.acts (λ n. reverse (gated_log plan t n)) plan.brokers =
-          all-same r.0 (reading plan.acts) plan.run plan.acts r.2.scripted own (log_at p) (λ n. reverse (gated_log plan t n)) plan.brokers
-          (λ b low high. there (broker b) (and-both (le-to 1 b low) (le-to b plan.brokers high))) in
-      serial-same plan.repositories (log_at p) (λ n. reverse (gated_log plan t n)) (run_tries (reading plan.acts) plan.run plan.acts (λ n. reverse (gated_log plan t n)) plan.brokers) (λ r i. there (repository r) i)
-      (subst (λ ts. Serial (record { repositories = plan.repositories; logs = log_at p; tries = ts })) tries (law p))
+  serial-over plan asked t w l logs left agrees =
+      let k = placed plan asked t w l logs left agrees in
+      serial-same plan.repositories (log_at k.place) (λ n. reverse (gated_log plan t n)) (run_in plan t).tries k.logs
+      (subst (λ ts. Serial (record { repositories = plan.repositories; logs = log_at k.place; tries = ts })) k.tries
+      (subst (λ n. Serial (record { repositories = n; logs = log_at k.place; tries = (run_at k.place).tries })) k.repositories (law k.place)))
+
+module _ (law : (p : Position) → HoldsAll (run_at p) (finals (run_at p))) where
+  pub finals-over : (plan : Plan) (asked : List Asked) (t : Trace) → IsOfLanguage plan → IsLegal plan asked t → HoldsFinals plan t
+  finals-over plan asked t w l logs left agrees =
+      let k = placed plan asked t w l logs left agrees in
+      finals-hold plan.repositories (log_at k.place) (λ n. reverse (gated_log plan t n)) (run_in plan t).tries k.logs
+      (subst (λ ts. Ends (record { repositories = plan.repositories; logs = log_at k.place; tries = ts })) k.tries
+      (subst (λ n. Ends (record { repositories = n; logs = log_at k.place; tries = (run_at k.place).tries })) k.repositories (law k.place)))

@@ -5,15 +5,23 @@ ghost use Rattle.plan_form.specs.declared.plans.Plan.{Plan};
 ghost use Rattle.plan_form.specs.PlanTexts.{IsOfLanguage};
 ghost use Rattle.world_core.specs.declared.traces.Trace.{Trace};
 ghost use Rattle.world_core.specs.Readings.{IsLegal};
-ghost use Rattle.run_laws.specs.Serials.{IsSerialOver};
+ghost use Rattle.run_laws.specs.Serials.{HoldsFinals, IsSerialOver};
 
-use serial_law::law_serial;
+use serial_law::{law_finals, law_serial};
 
 /// Every attempt of a run reads, writes and ends as its script does alone, after the committed deeds before
 /// its stamp (Bernstein et al. 1987, chapter 5): of each legal trace of a plan of the language, whatever
 /// other plans the earlier runs had that left its logs.
-pub fn law_serial_runs()
+pub fn law_of_serial_runs()
     ensures { (plan : Plan) (asked : List Asked) (t : Trace) → IsOfLanguage plan → IsLegal plan asked t → IsSerialOver plan t }
 {
     law_serial();
+}
+
+/// The map after all committed deeds has, of each object, the committed put with the greatest start in
+/// the logs at the end: so the finals of a report are the committed ones.
+pub fn law_of_finals()
+    ensures { (plan : Plan) (asked : List Asked) (t : Trace) → IsOfLanguage plan → IsLegal plan asked t → HoldsFinals plan t }
+{
+    law_finals();
 }
