@@ -1,0 +1,7 @@
+use Rattle.std.proofs.Common.{All, take}
+use Rattle.run_media.specs.Openings.{IsOpen}
+use Rattle.run_media.proofs.media.are_open.Given as goal
+
+-- those so far
+abbrev pub invariant-loop-opening : goal.invariant-loop-opening
+invariant-loop-opening g l = All IsOpen (take l.opening-index l.openings)
