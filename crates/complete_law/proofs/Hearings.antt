@@ -88,10 +88,10 @@ each-in P (g ∷ log) f e (inl q) = (log, subst (P log) q e.1)
 each-in P (g ∷ log) f e (inr h) = each-in P log f e.0 h
 
 module _ (b : Base) (w : World) (calm : CalmWorld b w) (facts : LogFacts (node_facts b.script) b (logs_at (λ n. []) w) [] (sent_by w) (λ t. ⊥)) where
-  abbrev L : NodeId → List Effect
+  abbrev pub L : NodeId → List Effect
   L n = reverse (logs_at (λ n. []) w n)
 
-  gated-same : (n : NodeId) → gated_of w n ≡ L n
+  pub gated-same : (n : NodeId) → gated_of w n ≡ L n
   gated-same n = go (w.flags n).known refl
     where
       go : (c : Bool) → (w.flags n).known ≡ c → gated_of w n ≡ reverse (if c then (w.life n).gated else [])
@@ -131,7 +131,7 @@ module _ (b : Base) (w : World) (calm : CalmWorld b w) (facts : LogFacts (node_f
         absurd (true≢false (sym (ap is_none none) ∙ ended))
     open-closed t found none own ticks never (decision.Expired x m) i h = absurd (never m h)
 
-    asking-undecided : (t : Try) (q : Request) → find t.stamp (tries (book (log_of w (broker n)))) ≡ Some t → t.end ≡ None → stop_of b.script t ≡ Asks q → t.stamp.broker ≡ n →
+    pub asking-undecided : (t : Try) (q : Request) → find t.stamp (tries (book (log_of w (broker n)))) ≡ Some t → t.end ≡ None → stop_of b.script t ≡ Asks q → t.stamp.broker ≡ n →
         (d : Decision) (i : ℕ) → Has (effect.Decide t.stamp d) (L (repository i)) → ⊥
     asking-undecided t q found none asks own decision.Committed i h =
         let sent = (each-in _ (L (repository i)) (effect.Decide t.stamp decision.Committed) (facts.proofs (repository i)) h).1 in

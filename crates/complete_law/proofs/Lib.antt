@@ -33,3 +33,6 @@ pub mod Totals
 pub mod Learnings
 pub mod AskLoads
 pub mod Messages
+pub mod Rising
+pub mod Refusals
+pub mod OneBroker

@@ -7,6 +7,8 @@ use Rattle.value_form.specs.declared.values.Value.{Value}
 use Rattle.effect_form.specs.declared.effects.Effect.{Effect}
 use Rattle.effect_form.specs.declared.outcomes.Outcome.{Outcome}
 use Rattle.effect_form.specs.declared.outcomes.Outcome.TheVariants as outcome
+use Rattle.message_form.specs.declared.messages.Message.{Message}
+use Rattle.message_form.specs.declared.messages.Message.TheVariants as message
 use Rattle.turn_form.specs.Posts.{Post}
 use Rattle.stream_port.specs.declared.fates.Asked.{Asked}
 use Rattle.stream_port.specs.declared.fates.Fate.{Fate}
@@ -140,6 +142,12 @@ IsOver a (outcome.Spent c) = ⊥
 -- the act is spent, or the End of its newest attempt is its outcome
 abbrev pub HasOutcome : Act → Type 0
 HasOutcome a = ((c : ℕ) × (a.spent ≡ Some c)) ⊎ ((t : Try) × (ts : List Try) × (o : Outcome) × (a.tries ≡ t ∷ ts) × (t.end ≡ Some o) × IsOver a o)
+
+-- a write is refused
+abbrev pub IsRefusal : Message → Type 0
+IsRefusal (message.LaterRead x e) = Unit {0}
+IsRefusal (message.LaterVersion x y) = Unit {0}
+IsRefusal _ = ⊥
 
 -- a write of the attempt was refused
 abbrev pub WasRefused : Option Outcome → Type 0

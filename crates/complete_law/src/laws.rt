@@ -6,11 +6,13 @@ ghost use Rattle.value_form.specs.Mirror.{Block};
 ghost use Rattle.serial_model.specs.Questions.{Tree, denote};
 ghost use Rattle.broker_core.specs.Tasks.{Task};
 ghost use Rattle.plan_form.specs.Plans.{InRange};
+ghost use Rattle.message_form.specs.declared.messages.Message.{Message};
+ghost use Rattle.turn_form.specs.Posts.{WasSent};
 ghost use Rattle.complete_law.specs.AtRest.{AtRest, is_done};
 ghost use Rattle.broker_core.specs.Book.{Try, tries_of};
 ghost use Rattle.world_core.specs.declared.entries.Entry.{Entry};
 ghost use Rattle.world_core.specs.Walks.{sent_by};
-ghost use Rattle.complete_law.specs.Calm.{CalmRun, CalmPlace, IsQuiet, log_at, sent_at, book_at, IsIdleAt, AllDone, AsksAtMost, AskAtMost, most_messages, most_effects, HasOutcome, WasRefused, MayStop};
+ghost use Rattle.complete_law.specs.Calm.{CalmRun, CalmPlace, IsQuiet, log_at, sent_at, book_at, IsIdleAt, AllDone, AsksAtMost, AskAtMost, most_messages, most_effects, HasOutcome, IsRefusal, WasRefused, MayStop};
 
 /// Of nodes at rest, where nothing is open and no message is on its way, every broker is done.
 pub fn law_at_rest()
@@ -46,4 +48,10 @@ pub fn law_outcomes()
 pub fn law_nothing_stops()
     ensures { (r : CalmRun) (most : ℕ) → AskAtMost r most →
         ((p : CalmPlace) (e : Entry) (more : List Entry) → p.run ≡ r → p.rest ≡ e ∷ more → MayStop (most_effects r most) p e) → Every IsQuiet r.trace.entries }
+{}
+
+/// With one broker no write is refused: no repository ever says so, and no attempt ended so.
+pub fn law_one_broker()
+    ensures said { (p : CalmPlace) (from to : NodeId) (m : Message) → p.run.plan.brokers ≡ 1 → WasSent (sent_at p) from to m → IsRefusal m → ⊥ }
+    ensures ended { (p : CalmPlace) (b : ℕ) → p.run.plan.brokers ≡ 1 → Every (λ (t : Try). WasRefused t.end → ⊥) (tries_of (book_at p b).acts) }
 {}

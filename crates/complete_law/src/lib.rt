@@ -6,5 +6,5 @@ mod laws;
 
 pub use laws::{
     law_at_rest, law_few_effects, law_few_messages, law_never_stuck, law_nothing_stops,
-    law_outcomes,
+    law_one_broker, law_outcomes,
 };

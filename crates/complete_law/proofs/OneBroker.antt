@@ -1,0 +1,503 @@
+-- With one broker no write is refused, at any calm place.
+use Rattle.std.proofs.Common.{◌≡◌, ◌≢◌, ◌⊎◌, ℕ, ◌+◌, ◌≤◌, ◌==◌, nat_le, Bool, true, false, ◌&&◌, length, List, [], ◌∷◌, ◌++◌, reverse, refl, sym, ◌∙◌, ap, subst, Option, Some, None, if◌then◌else◌, inl, inr, append-nil, arith}
+use Rattle.std.proofs.lemmas.Grind.{common_steps}
+use Rattle.std.proofs.lemmas.Bool.{false≢true, true≢false}
+use Rattle.std.proofs.lemmas.List.{reverse-append}
+use Rattle.std.specs.List.{filter}
+use Rattle.pseudo_time.specs.Lists.{Every, Has}
+use Rattle.pseudo_time.proofs.ListLemmas.{every-has, has-either, has-right}
+use Rattle.pseudo_time.specs.StampParts.{StampParts}
+use Rattle.pseudo_time.specs.TimeParts.{TimeParts}
+use Rattle.pseudo_time.specs.Order.{lt}
+use Rattle.pseudo_time.proofs.OrderLemmas.{lt-asymmetric, lt-irreflexive}
+use Rattle.pseudo_time.specs.declared.decisions.Decision.{Decision}
+use Rattle.pseudo_time.specs.declared.decisions.Decision.TheVariants as decision
+use Rattle.pseudo_time.specs.declared.nodes.NodeId.{NodeId}
+use Rattle.pseudo_time.specs.declared.nodes.NodeKind.{NodeKind}
+use Rattle.pseudo_time.specs.declared.nodes.NodeKind.TheVariants as kind
+use Rattle.pseudo_time.specs.Nodes.{broker, repository, same_node}
+use Rattle.value_form.specs.declared.endings.Ending.{Ending}
+use Rattle.value_form.specs.declared.objects.ObjectId.{ObjectId}
+use Rattle.value_form.specs.declared.values.Value.{Value}
+use Rattle.effect_form.specs.declared.effects.Effect.{Effect}
+use Rattle.effect_form.specs.declared.effects.Effect.TheVariants as effect
+use Rattle.effect_form.specs.declared.outcomes.Outcome.{Outcome}
+use Rattle.effect_form.specs.declared.outcomes.Outcome.TheVariants as outcome
+use Rattle.message_form.specs.declared.messages.Message.{Message}
+use Rattle.message_form.specs.declared.messages.Message.TheVariants as message
+use Rattle.message_core.proofs.NodeLemmas.{same_node-refl}
+use Rattle.turn_form.specs.declared.turns.Out.{Out}
+use Rattle.turn_form.specs.Posts.{Post, WasSent, post, posts}
+use Rattle.stream_port.specs.declared.fates.Fate.{Fate}
+use Rattle.script_meaning.specs.Meaning.{Answer, Asks, Got, Over, Request, Stop, Stored, ToRead, ToWrite}
+use Rattle.serial_model.specs.Questions.{stop}
+use Rattle.object_history.specs.declared.marks.Mark.TheVariants as mark
+use Rattle.object_history.specs.declared.steps.WriteStep.{WriteStep}
+use Rattle.object_history.specs.declared.steps.WriteStep.TheVariants as write
+use Rattle.object_history.specs.Answers.{stands_written, write_step}
+use Rattle.object_history.proofs.AnswerLemmas.{later-read, later-version}
+use Rattle.object_history.proofs.BoolLemmas.{and-left, and-right}
+use Rattle.object_history.proofs.ObjectLemmas.{eq-from}
+use Rattle.repository_core.specs.Hands.{Hand}
+use Rattle.repository_core.specs.Rows.{accepts, is_broker_of, on_learn, on_message}
+use Rattle.repository_core.specs.Turns as hands
+use Rattle.repository_core.specs.Turns.{hand_at}
+use Rattle.repository_log.specs.Logs.{known, marks}
+use Rattle.repository_laws.proofs.Logs.{put-logged}
+use Rattle.repository_laws.proofs.Turns.{broker-is}
+use Rattle.repository_waits.proofs.HeldLemmas.{filter-has}
+use Rattle.plan_form.specs.Plans.{InRange}
+use Rattle.broker_core.specs.Book.{Book, Try, book, find, tries, tries_of}
+use Rattle.broker_core.specs.Fits.{keep}
+use Rattle.broker_core.specs.Turns.{state}
+use Rattle.broker_laws.specs.Fits.{EndsBy, IsTidy}
+use Rattle.broker_laws.specs.Posts.{EndCame, IsAskOf, IsFitting, IsPlayed, IsProven, PostHolds, at}
+use Rattle.broker_laws.specs.Works.{TurnHolds}
+use Rattle.broker_laws.proofs.Found.{each-found, one-request}
+use Rattle.broker_laws.proofs.Kept.{kept}
+use Rattle.broker_laws.proofs.Moves.{post-grown}
+use Rattle.broker_laws.proofs.Tries.{played, proven}
+use Rattle.world_core.specs.declared.entries.Entry.{Entry}
+use Rattle.world_core.specs.declared.entries.Entry.TheVariants as entry
+use Rattle.world_core.specs.Nodes.{gives, leaves}
+use Rattle.world_core.specs.Nodes.Input.{Learning, Taking}
+use Rattle.world_core.specs.Walks.{Base, Life, World, after_input, all_effects, gated_life, leaving, lives_on, sent_by, start_world, step, took}
+use Rattle.world_core.specs.Legal.{MayGate, MayGo, MayLearn, MayTake, Rule, base_of}
+use Rattle.world_facts.specs.Refines.{LogFacts, Refines, logs_at, seat_of}
+use Rattle.world_facts.specs.NodeRules.{kind_post, node_facts, node_turns}
+use Rattle.world_facts.specs.Soft.{NodeOk, around, happened}
+use Rattle.world_facts.proofs.Growths.{numbered-has}
+use Rattle.world_facts.proofs.NodeLaws.{node-laws}
+use Rattle.world_facts.proofs.Openings.{facts-of}
+use Rattle.world_facts.proofs.Steps.{sent-gate}
+use Rattle.complete_law.specs.AtRest.{DecidedAt}
+use Rattle.complete_law.specs.Calm.{CalmPlace, CalmRun, IsQuiet, IsRefusal, WasRefused, book_at, log_at, sent_at, world_at}
+use Rattle.complete_law.proofs.BrokerMoves.{all-off, both-on, node-there, not-same, parted, turn-there}
+use Rattle.complete_law.proofs.GateEntries.{map-has}
+use Rattle.complete_law.proofs.Hearings.{asking-undecided, each-in, gated-same, says}
+use Rattle.complete_law.proofs.Outcomes.{book-is, in-plan, own-tries, unknown-book}
+use Rattle.complete_law.proofs.Places.{CalmWorld, IsBegun, IsDecided, desk_of, log_of, tasks_of}
+use Rattle.complete_law.proofs.Refusals.{ArePlain, IsNotRefused, IsRefusing, learn-plain, put-written, stretch-logged, take-plain}
+use Rattle.complete_law.proofs.RepositoryEntries.{life-hand}
+use Rattle.complete_law.proofs.Rising.{asked-before, falling, find-has, undecided-last}
+use Rattle.complete_law.proofs.Steps.{Facts-at, always, calm-there, empty-life, facts-there, no-moment}
+
+-- no repository says, or owes, that a write is refused
+abbrev pub NoRefusal : World → Type 0
+NoRefusal w = (r : ℕ) (o : Out) → IsRefusal o.message → (Has o (w.life (repository r)).outs → ⊥) × (Has (post (repository r) o) (sent_by w) → ⊥)
+
+-- all brokers that were opened are one
+abbrev pub OneBroker : World → Type 0
+OneBroker w = (i j : ℕ) → (w.flags (broker i)).known ≡ true → (w.flags (broker j)).known ≡ true → i ≡ j
+
+module _ (b : Base) (w : World) (calm : CalmWorld b w) (f : Refines (node_turns b.script) (node_facts b.script) b (λ n. []) [] (λ t. ⊥) w) (none : NoRefusal w) (one : OneBroker w) where
+  facts : LogFacts (node_facts b.script) b (logs_at (λ n. []) w) [] (sent_by w) (λ t. ⊥)
+  facts = facts-of b.script (node_turns b.script) (node_facts b.script) (node-laws b.script) b (λ n. []) [] (λ t. ⊥) w f
+
+  durable : (n : NodeId) → (w.flags n).known ≡ true → reverse (logs_at (λ n. []) w n) ≡ reverse (w.life n).gated
+  durable n e = ap (λ c. reverse (if c then (w.life n).gated else [])) e
+
+  -- no message at all refuses a write
+  pub unsaid : (from to : NodeId) (m : Message) → IsRefusal m → Has (record { from = from; to = to; message = m }) (sent_by w) → ⊥
+  unsaid from to m is h = go from.kind from.number m is h (says b w calm facts from to m h)
+    where
+      go : (kd : NodeKind) (i : ℕ) (m : Message) → IsRefusal m → Has (record { from = record { kind = kd; number = i }; to = to; message = m }) (sent_by w) →
+          kind_post b.script (sent_by w) kd i (reverse (logs_at (λ n. []) w (record { kind = kd; number = i }))) (record { to = to; message = m }) → ⊥
+      go kind.Repository i m is h p = (none i (record { to = to; message = m }) is).1 h
+      go kind.Broker i (message.LaterRead x e) is h p = p
+      go kind.Broker i (message.LaterVersion x y) is h p = p
+      go kind.Broker i _ is h p = is
+
+  -- nor does one say that an attempt expired
+  unexpired : (from to : NodeId) (s : StampParts) (d m : ℕ) → Has (record { from = from; to = to; message = message.Decided s (decision.Expired d m) }) (sent_by w) → ⊥
+  unexpired from to s d m h = go from.kind from.number (says b w calm facts from to (message.Decided s (decision.Expired d m)) h)
+    where
+      go : (kd : NodeKind) (i : ℕ) → kind_post b.script (sent_by w) kd i (reverse (logs_at (λ n. []) w (record { kind = kd; number = i }))) (record { to = to; message = message.Decided s (decision.Expired d m) }) → ⊥
+      go kind.Repository i h = facts.ticked m (each-in _ (reverse (logs_at (λ n. []) w (repository i))) (effect.Decide s (decision.Expired d m)) (facts.proofs (repository i)) h).1
+      go kind.Broker i h = h
+
+  -- a broker that asked for something was opened
+  asker-known : (i : ℕ) (x : TimeParts) (q : Request) → IsAskOf b.script (tries (book (reverse (logs_at (λ n. []) w (broker i))))) x q → (w.flags (broker i)).known ≡ true
+  unfolding book
+  asker-known i x q = go (w.flags (broker i)).known
+    where
+      go : (c : Bool) → IsAskOf b.script (tries (book (reverse (if c then (w.life (broker i)).gated else [])))) x q → c ≡ true
+      go true k = refl
+      go false k = absurd (cc k.1)
+
+  -- what a message of a broker says holds of its whole log
+  now-holds : (i : ℕ) → (w.flags (broker i)).known ≡ true → (to : NodeId) (m : Message) → Has (record { from = broker i; to = to; message = m }) (sent_by w) → PostHolds b.script i (tries (book (log_of w (broker i)))) to m
+  now-holds i e to m h =
+      let l : Life = w.life (broker i) in
+      let ok : NodeOk (node_facts b.script) (around (happened (node_turns b.script) f.events)) (broker i) (seat_of (w.life (broker i))) = node-there b w calm f (broker i) e in
+      subst (λ z. PostHolds b.script i (tries (book z)) to m) (sym (reverse-append l.gated l.fresh))
+      (post-grown b.script i (reverse l.gated) (reverse l.fresh) to m ok.tidy ok.grew (subst (λ z. PostHolds b.script i (tries (book z)) to m) (durable (broker i) e) (says b w calm facts (broker i) to m h)))
+
+  module _ (n : ℕ) (opened : (w.flags (repository n)).known ≡ true) where
+    abbrev log : List Effect
+    log = log_of w (repository n)
+
+    -- what an effect of the repository rests on
+    rests : (x : Effect) → Has x log → (below : List Effect) × (node_facts b.script).Proof (around (happened (node_turns b.script) f.events)) (repository n) below x
+    rests x h =
+        let l : Life = w.life (repository n) in
+        each-in _ (reverse l.fresh ++ reverse l.gated) x (node-there b w calm f (repository n) opened).proofs (subst (Has x) (reverse-append l.gated l.fresh) h)
+
+    module _ (x : TimeParts) (o : ObjectId) (v : Value) (sent : Has (record { from = broker x.stamp.broker; to = repository n; message = message.Write x o v }) (sent_by w)) (here : o.repository ≡ n) where
+      abbrev i : ℕ
+      i = x.stamp.broker
+
+      known-i : (w.flags (broker i)).known ≡ true
+      known-i = asker-known i x (ToWrite o v) (says b w calm facts (broker i) (repository n) (message.Write x o v) sent).2
+
+      abbrev blog : List Effect
+      blog = log_of w (broker i)
+
+      abbrev B : List Try
+      B = tries (book blog)
+
+      turn : TurnHolds b.script i b.run (tasks_of b i) (sent_by w) (desk_of b w i)
+      turn = turn-there b w calm f i known-i
+
+      ask : IsAskOf b.script B x (ToWrite o v)
+      ask = (now-holds i known-i (repository n) (message.Write x o v) sent).2
+
+      abbrev t : Try
+      t = ask.0
+
+      plays : IsPlayed b.script t × (t.stamp ≡ x.stamp)
+      plays = each-found (IsPlayed b.script) x.stamp B t ask.1 (played b.script i blog turn.desk.tidy)
+
+      proves : IsProven i (sent_by w) t × (t.stamp ≡ x.stamp)
+      proves = each-found (IsProven i (sent_by w)) x.stamp B t ask.1 (proven b.script i (sent_by w) blog turn.desk.tidy turn.desk.causes)
+
+      -- ---- the write was answered: it stands
+
+      stored-there : (from : NodeId) → Has (record { from = from; to = broker i; message = message.Stored x }) (sent_by w) → Has (effect.Put o x v) log
+      stored-there from h = go from.kind from.number (says b w calm facts from (broker i) (message.Stored x) h)
+        where
+          go : (kd : NodeKind) (r : ℕ) → kind_post b.script (sent_by w) kd r (reverse (logs_at (λ n. []) w (record { kind = kd; number = r }))) (record { to = broker i; message = message.Stored x }) → Has (effect.Put o x v) log
+          go kind.Broker r p = absurd p
+          go kind.Repository r (p, u, wrote, put) =
+              let same : ToWrite p u ≡ ToWrite o v = one-request b.script B x (ToWrite p u) (ToWrite o v) (now-holds i known-i (repository r) (message.Write x p u) wrote.0).2 ask in
+              let po : p ≡ o = cc same in
+              let uv : u ≡ v = cc same in
+              let rn : r ≡ n = sym wrote.1 ∙ ap (λ (a : ObjectId). a.repository) po ∙ here in
+              let l : Life = w.life (repository n) in
+              let mine : Has (effect.Put o x v) (reverse (logs_at (λ n. []) w (repository n))) = subst (λ z. Has (effect.Put o x v) (reverse (logs_at (λ n. []) w (repository z)))) rn
+              (subst (λ z. Has (effect.Put o x z) (reverse (logs_at (λ n. []) w (repository r)))) uv (subst (λ z. Has (effect.Put z x u) (reverse (logs_at (λ n. []) w (repository r)))) po put)) in
+              subst (Has (effect.Put o x v)) (sym (reverse-append l.gated l.fresh)) (has-right (reverse l.fresh) (reverse l.gated) (effect.Put o x v) (subst (Has (effect.Put o x v)) (durable (repository n) opened) mine))
+
+      is-stored : (pre : List Answer) (a : Answer) (more : List Answer) → t.answers ≡ pre ++ a ∷ more → x.step ≡ length pre + 1 → stop (b.script t.task.script) pre ≡ Asks (ToWrite o v) → Has (effect.Put o x v) log
+      is-stored pre a more all step asks = go a all (subst (λ s. IsFitting s a) asks (plays.0.asked pre more a all))
+        where
+          go : (a : Answer) → t.answers ≡ pre ++ a ∷ more → IsFitting (Asks (ToWrite o v)) a → Has (effect.Put o x v) log
+          go (Got u) e fit = absurd fit
+          go Stored e fit =
+              let came = proves.0.answers pre more Stored e in
+              let time : at t.stamp (length pre + 1) ≡ x = ap (λ s. at s (length pre + 1)) proves.1 ∙ ap (λ k. at x.stamp k) (sym step) in
+              stored-there came.0 (subst (λ z. Has (record { from = came.0; to = broker i; message = message.Stored z }) (sent_by w)) time came.1)
+
+      -- ---- or it is the current request: all others lie below it
+
+      module _ (asks : stop (b.script t.task.script) t.answers ≡ Asks (ToWrite o v)) (step : x.step ≡ length t.answers + 1) where
+        open-end : t.end ≡ None
+        open-end = go t.end refl
+          where
+            over : (e : Ending) → stop (b.script t.task.script) t.answers ≡ Over e → ⊥
+            over e q = let no : Asks (ToWrite o v) ≡ Over e = sym asks ∙ q in cc no
+
+            by : (c : Outcome) → EndsBy b.script t c → EndCame i (sent_by w) t c → ⊥
+            by outcome.Committed k came = over _ k
+            by (outcome.Withdrawn l) k came = over _ k
+            by (outcome.Failed l y) k came = over _ k
+            by (outcome.LaterRead a e) k came = unsaid came.0 (broker i) (message.LaterRead _ e) tt came.1
+            by (outcome.LaterVersion a e) k came = unsaid came.0 (broker i) (message.LaterVersion _ e) tt came.1
+            by (outcome.Expired d m) k came = unexpired came.0 (broker i) t.stamp d m came.1
+            by (outcome.Spent c) k came = k
+
+            go : (e : Option Outcome) → t.end ≡ e → t.end ≡ None
+            go None e = e
+            go (Some c) e = absurd (by c (plays.0.ends c e) (proves.0.ends c e))
+
+        undecided : IsDecided w t.stamp → ⊥
+        undecided (d, h) =
+            let l : Life = w.life (broker i) in
+            let ok : NodeOk (node_facts b.script) (around (happened (node_turns b.script) f.events)) (broker i) (seat_of (w.life (broker i))) = node-there b w calm f (broker i) known-i in
+            let same : reverse l.gated ≡ reverse (logs_at (λ n. []) w (broker i)) = sym (durable (broker i) known-i) in
+            asking-undecided b w calm facts i (subst (IsTidy b.script i) same ok.tidy) (reverse l.fresh) (reverse-append l.gated l.fresh ∙ ap (λ z. reverse l.fresh ++ z) same)
+            (subst (λ z. Grown z) same ok.grew) t (ToWrite o v) (subst (λ s. find s B ≡ Some t) (sym plays.1) ask.1) open-end asks (ap (λ (s : StampParts). s.broker) plays.1)
+            d t.stamp.home (subst (Has (effect.Decide t.stamp d)) (gated-same b w calm facts (repository t.stamp.home)) h)
+          where
+            abbrev Grown : List Effect → Type 0
+            Grown z = Rattle.turn_form.specs.Growth.Grew (Rattle.broker_laws.specs.Fits.FitsLog b.script i) z (reverse (w.life (broker i)).fresh)
+
+        book-same : state b.script i b.run (tasks_of b i) (desk_of b w i) ≡ book blog
+        book-same = ap book (kept b.script i b.run (tasks_of b i) blog turn.desk.tidy turn.ready.same_plan)
+
+        own-book : B ≡ tries_of (book blog).acts
+        own-book =
+            let past : (book blog).past ≡ [] = subst (λ (k : Book). k.past ≡ []) book-same (calm.sound i).past in
+            ap (λ z. tries_of ((book blog).acts ++ z)) past ∙ ap (λ z. tries_of z) (append-nil (book blog).acts)
+
+        last : (rest : List Try) × (B ≡ t ∷ rest)
+        last =
+            let k = undecided-last b.run (IsBegun w) (IsDecided w) (book blog).acts t (subst (λ (k : Book). Rattle.broker_laws.specs.Waits.Trail b.run (IsBegun w) (IsDecided w) k.acts) book-same (calm.sound i).trail)
+            (subst (Has t) own-book (find-has x.stamp B t ask.1)) undecided in
+            (k.0, own-book ∙ k.1)
+
+        below : (e : TimeParts) (q : Request) → IsAskOf b.script B e q → (lt e x ≡ true) ⊎ (e ≡ x)
+        below e q k = asked-before b.script B last.0 t x e q last.1 (falling b.script i blog turn.desk.tidy) plays.1 step k
+
+        -- what another request asked, of the one broker
+        asked : (e : TimeParts) (m : Message) (q : Request) → Has (record { from = broker e.stamp.broker; to = repository n; message = m }) (sent_by w) →
+            ((j : ℕ) → PostHolds b.script j (tries (book (log_of w (broker j)))) (repository n) m → IsAskOf b.script (tries (book (log_of w (broker j)))) e q) →
+            ((j : ℕ) → PostHolds b.script j (tries (book (reverse (logs_at (λ n. []) w (broker j))))) (repository n) m → IsAskOf b.script (tries (book (reverse (logs_at (λ n. []) w (broker j))))) e q) → IsAskOf b.script B e q
+        asked e m q h whole first =
+            let j : ℕ = e.stamp.broker in
+            let opened-j : (w.flags (broker j)).known ≡ true = asker-known j e q (first j (says b w calm facts (broker j) (repository n) m h)) in
+            subst (λ z. IsAskOf b.script (tries (book (log_of w (broker z)))) e q) (one j i opened-j known-i) (whole j (now-holds j opened-j (repository n) m h))
+
+        sent-before : (p : Post) → Has p (happened (node_turns b.script) f.events).ever → Has p (sent_by w)
+        sent-before p = subst (Has p) f.models.ever
+
+        no-later-read : (e : TimeParts) → write_step (marks log) o x v ≡ write.LaterRead e → ⊥
+        no-later-read e h =
+            let k = later-read (marks log) o x v e h in
+            let read = (rests (effect.Stretch o e) (stretch-logged log o e k.1)).1 in
+            elim (below e (ToRead o) (asked e (message.Read e o) (ToRead o) (sent-before _ read.0) (λ j p. p.2) (λ j p. p.2))) [
+              | inl l ↦ true≢false (sym l ∙ lt-asymmetric x e k.0)
+              | inr s ↦ true≢false (sym k.0 ∙ subst (λ z. lt x z ≡ false) (sym s) (lt-irreflexive x))
+            ]
+
+        no-later-version : (y : TimeParts) → stands_written (marks log) o x v ≡ false → known log x.stamp ≡ None → write_step (marks log) o x v ≡ write.LaterVersion y → ⊥
+        no-later-version y off unknown h =
+            let k = later-version (marks log) o x v y h in
+            let u : Value = k.1.0 in
+            let put : Has (effect.Put o y u) log = put-logged log o y u k.1.1 in
+            let wrote = (rests (effect.Put o y u) put).1 in
+            let its : IsAskOf b.script B y (ToWrite o u) = asked y (message.Write y o u) (ToWrite o u) (sent-before _ wrote.0) (λ j p. p.2) (λ j p. p.2) in
+            elim (below y (ToWrite o u) its) [
+              | inl l ↦ true≢false (sym l ∙ k.0)
+              | inr s ↦
+                  let same : ToWrite o u ≡ ToWrite o v = one-request b.script B x (ToWrite o u) (ToWrite o v) (subst (λ z. IsAskOf b.script B z (ToWrite o u)) s its) ask in
+                  let uv : u ≡ v = cc same in
+                  let stands : Has (effect.Put o x v) log = subst (λ z. Has (effect.Put o x z) log) uv (subst (λ z. Has (effect.Put o z u) log) s put) in
+                  true≢false (sym (put-written log o x v unknown stands) ∙ off)
+            ]
+
+        current : IsNotRefused log x o v
+        current off unknown = go (write_step (marks log) o x v) refl
+          where
+            go : (s : WriteStep) → write_step (marks log) o x v ≡ s → IsRefusing s → ⊥
+            go (write.LaterRead e) h is = no-later-read e h
+            go (write.LaterVersion y) h is = no-later-version y off unknown h
+            go write.Put h is = is
+            go write.Again h is = is
+
+      pub not-refused : IsNotRefused log x o v
+      not-refused = go ask.2.1 ask.2.2
+        where
+          go : (after : List Answer) → t.answers ≡ ask.2.0 ++ after → IsNotRefused log x o v
+          go (a ∷ more) all off unknown is = true≢false (sym (put-written log o x v unknown (is-stored ask.2.0 a more all ask.2.3 ask.2.4)) ∙ off)
+          go [] all =
+              let same : t.answers ≡ ask.2.0 = all ∙ append-nil ask.2.0 in
+              current (subst (λ z. stop (b.script t.task.script) z ≡ Asks (ToWrite o v)) (sym same) ask.2.4) (ask.2.3 ∙ ap (λ (z : List Answer). length z + 1) (sym same))
+
+  -- ---- entries
+
+  repository-is : (i r : ℕ) → repository i ≡ repository r → i ≡ r
+  repository-is i r e = ap (λ (x : NodeId). x.number) e
+
+  -- nothing is sent, and what this repository comes to owe is plain
+  stays : (e : Entry) (n : ℕ) (outs : List Out) → (step b w e).sendings ≡ w.sendings → ((r : ℕ) → ((step b w e).life (repository r) ≡ w.life (repository r)) ⊎ (((step b w e).life (repository r)).outs ≡ (w.life (repository r)).outs ++ outs)) → ArePlain outs →
+      NoRefusal (step b w e)
+  stays e n outs same lives plain r o is = (owes (lives r), λ h. (none r o is).1 (subst (λ s. Has (post (repository r) o) (Rattle.std.proofs.Common.map (λ (x : Rattle.world_core.specs.Walks.Sending). x.post) s)) same h))
+    where
+      owes : ((step b w e).life (repository r) ≡ w.life (repository r)) ⊎ (((step b w e).life (repository r)).outs ≡ (w.life (repository r)).outs ++ outs) → Has o ((step b w e).life (repository r)).outs → ⊥
+      owes (inl q) h = (none r o is).0 (subst (λ (l : Life). Has o l.outs) q h)
+      owes (inr q) h = elim (has-either (w.life (repository r)).outs outs o (subst (Has o) q h)) [
+        | inl a ↦ (none r o is).0 a
+        | inr c ↦ every-has (λ (x : Out). IsRefusal x.message → ⊥) outs o plain c is
+      ]
+
+  not-broker : (i r : ℕ) → repository r ≢ broker i
+  not-broker i r e = let k : kind.Repository ≡ kind.Broker = ap (λ (x : NodeId). x.kind) e in cc k
+
+  take-keeps : (n : NodeId) (k : ℕ) (fates : List Fate) → MayTake fates w n k → NoRefusal (step b w (entry.Take n k))
+  take-keeps n k fates may = go n.kind n.number may
+    where
+      go : (kd : NodeKind) (i : ℕ) → MayTake fates w (record { kind = kd; number = i }) k → NoRefusal (step b w (entry.Take (record { kind = kd; number = i }) k))
+      go kind.Broker i may = stays (entry.Take (broker i) k) 0 [] refl
+          (λ r. inl (all-off b w calm f (same_node (broker i) (repository r)) (w.flags (repository r)).known (lives_on b w (repository r) (w.life (repository r)) (entry.Take (broker i) k)) (w.life (repository r)) (not-same b w calm f (broker i) (repository r) (not-broker i r)))) tt
+      go kind.Repository i may = stays (entry.Take (repository i) k) i h.outs refl lives plain
+        where
+          from0 : NodeId
+          from0 = may.sending.post.from
+
+          abbrev m0 : Message
+          m0 = may.sending.post.message
+
+          abbrev h : Hand
+          h = on_message (hand_at i (log_of w (repository i)) (w.life (repository i)).mind.hands) may.sending.post.from may.sending.post.message
+
+          opened : (w.flags (repository i)).known ≡ true
+          opened = sym (calm.ups (repository i)) ∙ may.up
+
+          takes : after_input b (repository i) (w.life (repository i)) (Taking may.sending.post.from may.sending.post.message) ≡ life-hand (w.life (repository i)) h
+          unfolding gives hands.gives
+          takes = refl
+
+          here : ((step b w (entry.Take (repository i) k)).life (repository i)).outs ≡ (w.life (repository i)).outs ++ h.outs
+          here = ap (λ (l : Life). l.outs) (both-on b w calm f (same_node (repository i) (repository i)) (w.flags (repository i)).known (lives_on b w (repository i) (w.life (repository i)) (entry.Take (repository i) k)) (w.life (repository i)) (same_node-refl (repository i)) opened
+              ∙ ap (took b (repository i) (w.life (repository i))) may.sent ∙ takes)
+
+          lives : (r : ℕ) → ((step b w (entry.Take (repository i) k)).life (repository r) ≡ w.life (repository r)) ⊎ (((step b w (entry.Take (repository i) k)).life (repository r)).outs ≡ (w.life (repository r)).outs ++ h.outs)
+          lives r = elim (parted b w calm f (repository i) (repository r)) [
+            | inl e ↦ inr (subst (λ z. ((step b w (entry.Take (repository i) k)).life z).outs ≡ (w.life z).outs ++ h.outs) (sym e) here)
+            | inr ne ↦ inl (all-off b w calm f (same_node (repository i) (repository r)) (w.flags (repository r)).known (lives_on b w (repository r) (w.life (repository r)) (entry.Take (repository i) k)) (w.life (repository r)) (not-same b w calm f (repository i) (repository r) ne))
+          ]
+
+          was-sent : Has (record { from = may.sending.post.from; to = repository i; message = may.sending.post.message }) (sent_by w)
+          was-sent = subst (λ z. Has (record { from = may.sending.post.from; to = z; message = may.sending.post.message }) (sent_by w)) may.to (numbered-has (λ (x : Rattle.world_core.specs.Walks.Sending). x.post) w.sendings k may.sending may.sent)
+
+          never : (x : TimeParts) (o : ObjectId) (v : Value) → may.sending.post.message ≡ message.Write x o v → accepts i may.sending.post.from may.sending.post.message ≡ true → IsNotRefused (log_of w (repository i)) x o v
+          never x o v is takes-it =
+              let accepted : accepts i may.sending.post.from (message.Write x o v) ≡ true = subst (λ z. accepts i may.sending.post.from z ≡ true) is takes-it in
+              let own : may.sending.post.from ≡ broker x.stamp.broker = broker-is x.stamp.broker may.sending.post.from (and-left (is_broker_of x.stamp.broker may.sending.post.from) (o.repository == i) accepted) in
+              not-refused i opened x o v
+              (subst (λ z. Has (record { from = z; to = repository i; message = message.Write x o v }) (sent_by w)) own (subst (λ z. Has (record { from = may.sending.post.from; to = repository i; message = z }) (sent_by w)) is was-sent))
+              (eq-from o.repository i (and-right (is_broker_of x.stamp.broker may.sending.post.from) (o.repository == i) accepted))
+
+          plain : ArePlain h.outs
+          plain = take-plain i (log_of w (repository i)) (w.life (repository i)).mind.hands may.sending.post.from may.sending.post.message never
+
+  go-keeps : (n : NodeId) → MayGo w n → NoRefusal (step b w (entry.Go n))
+  go-keeps n may = go n.kind n.number may
+    where
+      go : (kd : NodeKind) (i : ℕ) → MayGo w (record { kind = kd; number = i }) → NoRefusal (step b w (entry.Go (record { kind = kd; number = i })))
+      go kind.Repository i may = absurd (false≢true may.broker)
+      go kind.Broker i may = stays (entry.Go (broker i)) 0 [] refl
+          (λ r. inl (all-off b w calm f (same_node (broker i) (repository r)) (w.flags (repository r)).known (lives_on b w (repository r) (w.life (repository r)) (entry.Go (broker i))) (w.life (repository r)) (not-same b w calm f (broker i) (repository r) (not-broker i r)))) tt
+
+  learn-keeps : (n : NodeId) (s : StampParts) (c : Bool) → MayLearn w n s c → NoRefusal (step b w (entry.Learn n s c))
+  learn-keeps n s c may = go n.kind n.number may
+    where
+      go : (kd : NodeKind) (i : ℕ) → MayLearn w (record { kind = kd; number = i }) s c → NoRefusal (step b w (entry.Learn (record { kind = kd; number = i }) s c))
+      go kind.Broker i may = absurd (true≢false may.repository)
+      go kind.Repository i may = stays (entry.Learn (repository i) s c) i h.outs refl lives (learn-plain i (log_of w (repository i)) (w.life (repository i)).mind.hands s c)
+        where
+          abbrev h : Hand
+          h = on_learn (hand_at i (log_of w (repository i)) (w.life (repository i)).mind.hands) s c
+
+          opened : (w.flags (repository i)).known ≡ true
+          opened = sym (calm.ups (repository i)) ∙ may.up
+
+          learns : after_input b (repository i) (w.life (repository i)) (Learning s c) ≡ life-hand (w.life (repository i)) h
+          unfolding gives hands.gives
+          learns = refl
+
+          here : ((step b w (entry.Learn (repository i) s c)).life (repository i)).outs ≡ (w.life (repository i)).outs ++ h.outs
+          here = ap (λ (l : Life). l.outs) (both-on b w calm f (same_node (repository i) (repository i)) (w.flags (repository i)).known (lives_on b w (repository i) (w.life (repository i)) (entry.Learn (repository i) s c)) (w.life (repository i)) (same_node-refl (repository i)) opened ∙ learns)
+
+          lives : (r : ℕ) → ((step b w (entry.Learn (repository i) s c)).life (repository r) ≡ w.life (repository r)) ⊎ (((step b w (entry.Learn (repository i) s c)).life (repository r)).outs ≡ (w.life (repository r)).outs ++ h.outs)
+          lives r = elim (parted b w calm f (repository i) (repository r)) [
+            | inl e ↦ inr (subst (λ z. ((step b w (entry.Learn (repository i) s c)).life z).outs ≡ (w.life z).outs ++ h.outs) (sym e) here)
+            | inr ne ↦ inl (all-off b w calm f (same_node (repository i) (repository r)) (w.flags (repository r)).known (lives_on b w (repository r) (w.life (repository r)) (entry.Learn (repository i) s c)) (w.life (repository r)) (not-same b w calm f (repository i) (repository r) ne))
+          ]
+
+  gate-keeps : (n : NodeId) → MayGate w n → NoRefusal (step b w (entry.Gate n))
+  gate-keeps n may r o is = (owes, sends)
+    where
+      mine : (w.flags n).known ≡ true
+      mine = sym (calm.ups n) ∙ may.up
+
+      owes : Has o ((step b w (entry.Gate n)).life (repository r)).outs → ⊥
+      owes h = elim (parted b w calm f n (repository r)) [
+        | inl e ↦ subst (λ (l : Life). Has o l.outs) (both-on b w calm f (same_node n (repository r)) (w.flags (repository r)).known (lives_on b w (repository r) (w.life (repository r)) (entry.Gate n)) (w.life (repository r))
+            (subst (λ z. same_node n z ≡ true) (sym e) (same_node-refl n)) (subst (λ z. (w.flags z).known ≡ true) (sym e) mine)) h
+        | inr ne ↦ (none r o is).0 (subst (λ (l : Life). Has o l.outs) (all-off b w calm f (same_node n (repository r)) (w.flags (repository r)).known (lives_on b w (repository r) (w.life (repository r)) (entry.Gate n)) (w.life (repository r)) (not-same b w calm f n (repository r) ne)) h)
+      ]
+
+      leaving-is : leaving w n ≡ posts n (filter (leaves (all_effects (w.life n))) (w.life n).outs)
+      leaving-is = ap (λ c. if c then posts n (filter (leaves (all_effects (w.life n))) (w.life n).outs) else []) mine
+
+      new : ((x : Out) × Has x (filter (leaves (all_effects (w.life n))) (w.life n).outs) × (post n x ≡ post (repository r) o)) → ⊥
+      new (x, h, e) =
+          let at-r : n ≡ repository r = ap (λ (p : Post). p.from) e in
+          let same : x.message ≡ o.message = ap (λ (p : Post). p.message) e in
+          (none r x (subst IsRefusal (sym same) is)).0 (subst (λ z. Has x (w.life z).outs) at-r (filter-has (leaves (all_effects (w.life n))) (w.life n).outs x h))
+
+      sends : Has (post (repository r) o) (sent_by (step b w (entry.Gate n))) → ⊥
+      sends h = elim (has-either (sent_by w) (leaving w n) (post (repository r) o) (subst (Has (post (repository r) o)) (sent-gate b w n) h)) [
+        | inl a ↦ (none r o is).1 a
+        | inr c ↦ new (map-has (post n) (filter (leaves (all_effects (w.life n))) (w.life n).outs) (post (repository r) o) (subst (Has (post (repository r) o)) leaving-is c))
+      ]
+
+-- ---- at a place
+
+one-broker : (b : Base) (w : World) → Refines (node_turns b.script) (node_facts b.script) b (λ n. []) [] (λ t. ⊥) w → ((i : ℕ) → (w.flags (broker i)).known ≡ true → i ≡ 1) → OneBroker w
+one-broker b w f all i j e q = all i e ∙ sym (all j q)
+
+module _ (p : CalmPlace) (single : p.run.plan.brokers ≡ 1) where
+  abbrev base : Base
+  base = base_of p.run.script p.run.plan p.run.trace
+
+  first : (most i : ℕ) → most ≡ 1 → (nat_le 1 i && nat_le i most) ≡ true → i ≡ 1
+  first most i e h = grind (arith, common_steps)
+
+  ones : (w : World) → Facts-at p.run w → OneBroker w
+  ones w f = one-broker base w f (λ i e. first p.run.plan.brokers i single (sym (p.run.legal.nodes.just (broker i)) ∙ sym (f.models.known (broker i)) ∙ e))
+
+  keeps : (w : World) (e : Entry) → Facts-at p.run w → CalmWorld base w → IsQuiet e → Rule base _ w e → NoRefusal w → NoRefusal (step base w e)
+  keeps w (entry.Take n k) f c q rule none = take-keeps base w c f none (ones w f) n k _ rule
+  keeps w (entry.Go n) f c q rule none = go-keeps base w c f none (ones w f) n rule
+  keeps w (entry.Learn n s d) f c q rule none = learn-keeps base w c f none (ones w f) n s d rule
+  keeps w (entry.Hear n) f c q rule none = absurd (no-moment p.run w n f rule)
+  keeps w (entry.Gate n) f c q rule none = gate-keeps base w c f none (ones w f) n rule
+  keeps w (entry.Crash n kept) f c q rule none = absurd q
+  keeps w (entry.Down n cause) f c q rule none = absurd q
+  keeps w (entry.Tick moment) f c q rule none = absurd q
+
+  begins : NoRefusal (start_world base)
+  begins r o is = (λ h. subst (λ (l : Life). Has o l.outs) (empty-life p.run (repository r)) h, λ h. h)
+
+  no-refusal : NoRefusal (world_at p)
+  no-refusal = always p NoRefusal begins keeps
+
+  pub said-never : (from to : NodeId) (m : Message) → WasSent (sent_at p) from to m → IsRefusal m → ⊥
+  said-never from to m h is = unsaid base (world_at p) (calm-there p) (facts-there p) no-refusal (ones (world_at p) (facts-there p)) from to m is h
+
+  unrefused : (i : ℕ) (t : Try) → IsProven i (sent_at p) t → WasRefused t.end → ⊥
+  unrefused i t k = go t.end refl
+    where
+      go : (e : Option Outcome) → t.end ≡ e → WasRefused e → ⊥
+      go None q h = h
+      go (Some (outcome.LaterRead o e)) q h = let came = k.ends (outcome.LaterRead o e) q in said-never came.0 (broker i) _ came.1 tt
+      go (Some (outcome.LaterVersion o e)) q h = let came = k.ends (outcome.LaterVersion o e) q in said-never came.0 (broker i) _ came.1 tt
+      go (Some outcome.Committed) q h = h
+      go (Some (outcome.Withdrawn l)) q h = h
+      go (Some (outcome.Failed l x)) q h = h
+      go (Some (outcome.Expired d m)) q h = h
+      go (Some (outcome.Spent c)) q h = h
+
+  all-unrefused : (i : ℕ) (ts : List Try) → Every (IsProven i (sent_at p)) ts → Every (λ (t : Try). WasRefused t.end → ⊥) ts
+  all-unrefused i [] k = tt
+  all-unrefused i (t ∷ ts) k = (unrefused i t k.0, all-unrefused i ts k.1)
+
+  pub ended-never : (i : ℕ) → Every (λ (t : Try). WasRefused t.end → ⊥) (tries_of (book_at p i).acts)
+  ended-never i = go ((world_at p).flags (broker i)).known refl
+    where
+      go : (c : Bool) → ((world_at p).flags (broker i)).known ≡ c → Every (λ (t : Try). WasRefused t.end → ⊥) (tries_of (book_at p i).acts)
+      go false e = subst (λ as'. Every (λ (t : Try). WasRefused t.end → ⊥) (tries_of as')) (sym (unknown-book p i e)) tt
+      go true e =
+          let turn : TurnHolds base.script i base.run (tasks_of base i) (sent_by (world_at p)) (desk_of base (world_at p) i) = turn-there base (world_at p) (calm-there p) (facts-there p) i e in
+          let k : Book = book (log_at p (broker i)) in
+          subst (λ (k : Book). Every (λ (t : Try). WasRefused t.end → ⊥) (tries_of k.acts)) (sym (book-is p i e))
+          (own-tries (λ (t : Try). WasRefused t.end → ⊥) k.acts k.past (all-unrefused i (tries k) (proven base.script i (sent_by (world_at p)) (log_at p (broker i)) turn.desk.tidy turn.desk.causes)))
+
+pub never-said : (p : CalmPlace) (from to : NodeId) (m : Message) → p.run.plan.brokers ≡ 1 → WasSent (sent_at p) from to m → IsRefusal m → ⊥
+never-said p from to m single h is = said-never p single from to m h is
+
+pub never-ended : (p : CalmPlace) (b : ℕ) → p.run.plan.brokers ≡ 1 → Every (λ (t : Try). WasRefused t.end → ⊥) (tries_of (book_at p b).acts)
+never-ended p b single = ended-never p single b

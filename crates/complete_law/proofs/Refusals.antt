@@ -1,0 +1,209 @@
+-- A turn of a repository refuses nothing but the write that it takes, and this one only where its log says so.
+use Rattle.std.proofs.Common.{◌≡◌, ◌==◌, Bool, true, false, ◌&&◌, ◌||◌, ℕ, List, [], ◌∷◌, ◌++◌, refl, sym, ◌∙◌, ap, subst, Option, Some, None, if◌then◌else◌, inl, inr}
+use Rattle.std.proofs.lemmas.Bool.{false≢true, true≢false}
+use Rattle.std.specs.Cmp.{signed_Decides}
+use Rattle.std.specs.Cmp.Lexicographic.{bytes_decides}
+use Rattle.pseudo_time.specs.Lists.{Every, Has}
+use Rattle.pseudo_time.proofs.ListLemmas.{every-append, every-map}
+use Rattle.pseudo_time.specs.StampParts.{StampParts}
+use Rattle.pseudo_time.specs.TimeParts.{TimeParts}
+use Rattle.pseudo_time.specs.Order.{same_time}
+use Rattle.pseudo_time.proofs.OrderLemmas.{same_time-of}
+use Rattle.pseudo_time.specs.declared.nodes.NodeId.{NodeId}
+use Rattle.value_form.specs.declared.objects.ObjectId.{ObjectId}
+use Rattle.value_form.specs.declared.values.Value.{Value}
+use Rattle.value_form.specs.declared.values.Value.TheVariants.{Nothing, Number, Text}
+use Rattle.effect_form.specs.declared.effects.Effect.{Effect}
+use Rattle.effect_form.specs.declared.effects.Effect.TheVariants as effect
+use Rattle.message_form.specs.declared.messages.Message.{Message}
+use Rattle.message_form.specs.declared.messages.Message.TheVariants as message
+use Rattle.turn_form.specs.declared.turns.Out.{Out}
+use Rattle.turn_form.specs.Posts.{Post}
+use Rattle.object_history.specs.declared.marks.Mark.{Mark}
+use Rattle.object_history.specs.declared.marks.Mark.TheVariants as mark
+use Rattle.object_history.specs.declared.steps.WriteStep.{WriteStep}
+use Rattle.object_history.specs.declared.steps.WriteStep.TheVariants as write
+use Rattle.object_history.specs.Answers.{has_put, stands_written, write_step}
+use Rattle.object_history.specs.History.{alive, is_alive, is_settled}
+use Rattle.object_history.specs.Objects.{same_object, same_value}
+use Rattle.object_history.proofs.ObjectLemmas.{same_object-of}
+use Rattle.object_history.proofs.BoolLemmas.{and-both}
+use Rattle.repository_core.specs.Hands.{Hand, Mind, note, now, send}
+use Rattle.repository_core.specs.Rows.{accepts, on_learn, on_message, on_write, write_as}
+use Rattle.repository_core.specs.Turns.{hand_at}
+use Rattle.repository_log.specs.Logs.{known, marks}
+use Rattle.pseudo_time.specs.Nodes.{broker, repository}
+use Rattle.repository_laws.specs.AnyLogs.{Refuses}
+use Rattle.repository_laws.proofs.AnyTurns.{begun-fine, on-learn-fine, take-fine}
+use Rattle.complete_law.specs.Calm.{IsRefusal}
+
+-- ---- marks of a log
+
+pub put-marked : (l : List Effect) (o : ObjectId) (x : TimeParts) (v : Value) → Has (effect.Put o x v) l → Has (mark.Put o x v) (marks l)
+put-marked [] o x v h = absurd h
+put-marked (effect.Put a y w ∷ l) o x v (inl q) = let e : a ≡ o = cc q in let f : y ≡ x = cc q in let g : w ≡ v = cc q in inl (ap (λ z. mark.Put z y w) e ∙ ap (λ z. mark.Put o z w) f ∙ ap (λ z. mark.Put o x z) g)
+put-marked (effect.Put a y w ∷ l) o x v (inr h) = inr (put-marked l o x v h)
+put-marked (effect.Stretch a y ∷ l) o x v (inl q) = absurd (cc q)
+put-marked (effect.Stretch a y ∷ l) o x v (inr h) = inr (put-marked l o x v h)
+put-marked (effect.Decide s d ∷ l) o x v (inl q) = absurd (cc q)
+put-marked (effect.Decide s d ∷ l) o x v (inr h) = inr (put-marked l o x v h)
+put-marked (effect.Learn s c ∷ l) o x v (inl q) = absurd (cc q)
+put-marked (effect.Learn s c ∷ l) o x v (inr h) = inr (put-marked l o x v h)
+put-marked (effect.Begin s d ∷ l) o x v (inl q) = absurd (cc q)
+put-marked (effect.Begin s d ∷ l) o x v (inr h) = put-marked l o x v h
+put-marked (effect.Run n ∷ l) o x v (inl q) = absurd (cc q)
+put-marked (effect.Run n ∷ l) o x v (inr h) = put-marked l o x v h
+put-marked (effect.Act i t m n k c ∷ l) o x v (inl q) = absurd (cc q)
+put-marked (effect.Act i t m n k c ∷ l) o x v (inr h) = put-marked l o x v h
+put-marked (effect.Try i s ∷ l) o x v (inl q) = absurd (cc q)
+put-marked (effect.Try i s ∷ l) o x v (inr h) = put-marked l o x v h
+put-marked (effect.Got k w ∷ l) o x v (inl q) = absurd (cc q)
+put-marked (effect.Got k w ∷ l) o x v (inr h) = put-marked l o x v h
+put-marked (effect.Acked k ∷ l) o x v (inl q) = absurd (cc q)
+put-marked (effect.Acked k ∷ l) o x v (inr h) = put-marked l o x v h
+put-marked (effect.End i e ∷ l) o x v (inl q) = absurd (cc q)
+put-marked (effect.End i e ∷ l) o x v (inr h) = put-marked l o x v h
+
+pub stretch-logged : (l : List Effect) (o : ObjectId) (x : TimeParts) → Has (mark.Stretch o x) (marks l) → Has (effect.Stretch o x) l
+stretch-logged [] o x h = absurd h
+stretch-logged (effect.Stretch a y ∷ l) o x (inl q) = let e : a ≡ o = cc q in let f : y ≡ x = cc q in inl (ap (λ z. effect.Stretch z y) e ∙ ap (λ z. effect.Stretch o z) f)
+stretch-logged (effect.Stretch a y ∷ l) o x (inr h) = inr (stretch-logged l o x h)
+stretch-logged (effect.Put a y w ∷ l) o x (inl q) = absurd (cc q)
+stretch-logged (effect.Put a y w ∷ l) o x (inr h) = inr (stretch-logged l o x h)
+stretch-logged (effect.Decide s d ∷ l) o x (inl q) = absurd (cc q)
+stretch-logged (effect.Decide s d ∷ l) o x (inr h) = inr (stretch-logged l o x h)
+stretch-logged (effect.Learn s c ∷ l) o x (inl q) = absurd (cc q)
+stretch-logged (effect.Learn s c ∷ l) o x (inr h) = inr (stretch-logged l o x h)
+stretch-logged (f ∷ l) o x h = inr (stretch-logged l o x h)
+
+-- ---- a version that stands
+
+same_value-self : (v : Value) → same_value v v ≡ true
+unfolding same_value
+same_value-self Nothing = refl
+same_value-self (Number a) = (signed_Decides a a).1 refl
+same_value-self (Text a) = (bytes_decides a a).1 refl
+
+or-left : (a b : Bool) → a ≡ true → (a || b) ≡ true
+or-left true b h = refl
+or-left false b h = absurd (false≢true h)
+
+or-right : (a b : Bool) → b ≡ true → (a || b) ≡ true
+or-right true b h = refl
+or-right false b h = h
+
+has_put-has : (o : ObjectId) (t : TimeParts) (v : Value) (m : List Mark) → Has (mark.Put o t v) m → has_put o t v m ≡ true
+unfolding has_put
+has_put-has o t v [] h = absurd h
+has_put-has o t v (mark.Put a x w ∷ m) (inl q) =
+    let e : a ≡ o = cc q in let f : x ≡ t = cc q in let g : w ≡ v = cc q in
+    or-left (same_object a o && (same_time x t && same_value w v)) (has_put o t v m)
+    (and-both (same_object a o) (same_time x t && same_value w v) (same_object-of a o e) (and-both (same_time x t) (same_value w v) (same_time-of x t f) (subst (λ z. same_value w z ≡ true) g (same_value-self w))))
+has_put-has o t v (mark.Put a x w ∷ m) (inr h) = or-right (same_object a o && (same_time x t && same_value w v)) (has_put o t v m) (has_put-has o t v m h)
+has_put-has o t v (mark.Stretch a x ∷ m) (inl q) = absurd (cc q)
+has_put-has o t v (mark.Stretch a x ∷ m) (inr h) = has_put-has o t v m h
+has_put-has o t v (mark.Settle s c ∷ m) (inl q) = absurd (cc q)
+has_put-has o t v (mark.Settle s c ∷ m) (inr h) = has_put-has o t v m h
+
+-- a Put of an attempt that isn't known stands
+pub put-written : (l : List Effect) (o : ObjectId) (t : TimeParts) (v : Value) → known l t.stamp ≡ None → Has (effect.Put o t v) l → stands_written (marks l) o t v ≡ true
+put-written l o t v n h = and-both (alive (marks l) t) (has_put o t v (marks l)) (ap (λ u. is_alive u) n) (has_put-has o t v (marks l) (put-marked l o t v h))
+
+-- ---- turns
+
+abbrev pub IsRefusing : WriteStep → Type 0
+IsRefusing (write.LaterRead e) = Unit {0}
+IsRefusing (write.LaterVersion x) = Unit {0}
+IsRefusing write.Put = ⊥
+IsRefusing write.Again = ⊥
+
+-- none of these messages refuses a write
+abbrev pub ArePlain : List Out → Type 0
+ArePlain outs = Every (λ (o : Out). IsRefusal o.message → ⊥) outs
+
+-- the message is no Write
+abbrev IsNoWrite : Message → Type 0
+IsNoWrite (message.Write t o v) = ⊥
+IsNoWrite _ = Unit {0}
+
+-- the refusal of a write that wasn't sent
+unsent : (r : ℕ) (l : List Effect) (to : NodeId) (x : Message) → Refuses [] r l to x → IsRefusal x → ⊥
+unsent r l to (message.LaterRead t e) h i = h.2.0
+unsent r l to (message.LaterVersion t e) h i = h.2.0
+unsent r l to _ h i = i
+
+-- nor of one that was, where the one message that was sent is no Write
+other-sent : (p : Post) (r : ℕ) (l : List Effect) (to : NodeId) (x : Message) → IsNoWrite p.message → Refuses (p ∷ []) r l to x → IsRefusal x → ⊥
+other-sent p r l to (message.LaterRead t e) no h i = elim h.2.0 [
+  | inl q ↦ subst (λ (y : Post). IsNoWrite y.message) q no
+  | inr n ↦ n
+]
+other-sent p r l to (message.LaterVersion t e) no h i = elim h.2.0 [
+  | inl q ↦ subst (λ (y : Post). IsNoWrite y.message) q no
+  | inr n ↦ n
+]
+other-sent p r l to _ no h i = i
+
+pub learn-plain : (r : ℕ) (log : List Effect) (mind : Mind) (s : StampParts) (c : Bool) → ArePlain (on_learn (hand_at r log mind) s c).outs
+learn-plain r log mind s c =
+    let h : Hand = on_learn (hand_at r log mind) s c in
+    every-map (λ (o : Out). Refuses [] r (now h) o.to o.message) (λ (o : Out). IsRefusal o.message → ⊥) (λ o k. unsent r (now h) o.to o.message k) h.outs
+    (on-learn-fine [] r log (hand_at r log mind) s c (begun-fine [] r log mind)).outs
+
+other-plain : (r : ℕ) (log : List Effect) (mind : Mind) (from : NodeId) (m : Message) → IsNoWrite m → ArePlain (on_message (hand_at r log mind) from m).outs
+other-plain r log mind from m no =
+    let p : Post = record { from = from; to = repository r; message = m } in
+    let h : Hand = on_message (hand_at r log mind) from m in
+    every-map (λ (o : Out). Refuses (p ∷ []) r (now h) o.to o.message) (λ (o : Out). IsRefusal o.message → ⊥) (λ o k. other-sent p r (now h) o.to o.message no k) h.outs
+    (take-fine (p ∷ []) r log (hand_at r log mind) from m (inl refl) (begun-fine (p ∷ []) r log mind)).outs
+
+send-plain : (h : Hand) (to : NodeId) (m : Message) → (IsRefusal m → ⊥) → ArePlain h.outs → ArePlain (send to m h).outs
+send-plain h to m no k = every-append (λ (o : Out). IsRefusal o.message → ⊥) h.outs (record { to = to; message = m } ∷ []) k (no, tt)
+
+write-as-plain : (h : Hand) (from : NodeId) (t : TimeParts) (o : ObjectId) (v : Value) (stands is_known : Bool) (s : WriteStep) → (stands ≡ false → is_known ≡ false → IsRefusing s → ⊥) → ArePlain h.outs →
+    ArePlain (write_as h from t o v stands is_known s).outs
+write-as-plain h from t o v true is_known s never k = send-plain h from (message.Stored t) (λ i. i) k
+write-as-plain h from t o v false true s never k = send-plain h from (message.Ended t) (λ i. i) k
+write-as-plain h from t o v false false write.Put never k = send-plain (note (effect.Put o t v) h) from (message.Stored t) (λ i. i) k
+write-as-plain h from t o v false false write.Again never k = send-plain h from (message.Stored t) (λ i. i) k
+write-as-plain h from t o v false false (write.LaterVersion x) never k = absurd (never refl refl tt)
+write-as-plain h from t o v false false (write.LaterRead e) never k = absurd (never refl refl tt)
+
+-- the log of repository r doesn't say that this write is refused
+abbrev pub IsNotRefused : List Effect → TimeParts → ObjectId → Value → Type 0
+IsNotRefused log t o v = stands_written (marks log) o t v ≡ false → known log t.stamp ≡ None → IsRefusing (write_step (marks log) o t v) → ⊥
+
+unknown : (u : Option Bool) → is_settled u ≡ false → u ≡ None
+unknown None e = refl
+unknown (Some c) e = absurd (true≢false e)
+
+on-write-plain : (r : ℕ) (log : List Effect) (mind : Mind) (from : NodeId) (t : TimeParts) (o : ObjectId) (v : Value) → IsNotRefused log t o v → ArePlain (on_write (hand_at r log mind) from t o v).outs
+unfolding on_write
+on-write-plain r log mind from t o v never =
+    write-as-plain (hand_at r log mind) from t o v (stands_written (marks log) o t v) (is_settled (known log t.stamp)) (write_step (marks log) o t v) (λ s k. never s (unknown (known log t.stamp) k)) tt
+
+write-plain : (r : ℕ) (log : List Effect) (mind : Mind) (from : NodeId) (t : TimeParts) (o : ObjectId) (v : Value) → (accepts r from (message.Write t o v) ≡ true → IsNotRefused log t o v) →
+    ArePlain (on_message (hand_at r log mind) from (message.Write t o v)).outs
+unfolding on_message
+write-plain r log mind from t o v never = go (accepts r from (message.Write t o v)) never
+  where
+    go : (c : Bool) → (c ≡ true → IsNotRefused log t o v) → ArePlain (if c then on_write (hand_at r log mind) from t o v else hand_at r log mind).outs
+    go true n = on-write-plain r log mind from t o v (n refl)
+    go false n = tt
+
+pub take-plain : (r : ℕ) (log : List Effect) (mind : Mind) (from : NodeId) (m : Message) → ((t : TimeParts) (o : ObjectId) (v : Value) → m ≡ message.Write t o v → accepts r from m ≡ true → IsNotRefused log t o v) →
+    ArePlain (on_message (hand_at r log mind) from m).outs
+take-plain r log mind from (message.Write t o v) never = write-plain r log mind from t o v (never t o v refl)
+take-plain r log mind from (message.Begin s d) never = other-plain r log mind from (message.Begin s d) tt
+take-plain r log mind from (message.Begun s) never = other-plain r log mind from (message.Begun s) tt
+take-plain r log mind from (message.Read t o) never = other-plain r log mind from (message.Read t o) tt
+take-plain r log mind from (message.Value t v) never = other-plain r log mind from (message.Value t v) tt
+take-plain r log mind from (message.Stored t) never = other-plain r log mind from (message.Stored t) tt
+take-plain r log mind from (message.LaterRead t e) never = other-plain r log mind from (message.LaterRead t e) tt
+take-plain r log mind from (message.LaterVersion t x) never = other-plain r log mind from (message.LaterVersion t x) tt
+take-plain r log mind from (message.Ended t) never = other-plain r log mind from (message.Ended t) tt
+take-plain r log mind from (message.Commit s) never = other-plain r log mind from (message.Commit s) tt
+take-plain r log mind from (message.Withdraw s) never = other-plain r log mind from (message.Withdraw s) tt
+take-plain r log mind from (message.Decided s d) never = other-plain r log mind from (message.Decided s d) tt
+take-plain r log mind from (message.Ask s) never = other-plain r log mind from (message.Ask s) tt
+take-plain r log mind from (message.Tell s c) never = other-plain r log mind from (message.Tell s c) tt
