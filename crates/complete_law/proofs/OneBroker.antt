@@ -1,5 +1,5 @@
 -- With one broker no write is refused, at any calm place.
-use Rattle.std.proofs.Common.{◌≡◌, ◌≢◌, ◌⊎◌, ℕ, ◌+◌, ◌≤◌, ◌==◌, nat_le, Bool, true, false, ◌&&◌, length, List, [], ◌∷◌, ◌++◌, reverse, refl, sym, ◌∙◌, ap, subst, Option, Some, None, if◌then◌else◌, inl, inr, append-nil, arith}
+use Rattle.std.proofs.Common.{◌≡◌, ◌≢◌, ◌⊎◌, ℕ, ◌+◌, ◌≤◌, ◌==◌, nat_le, Bool, true, false, ◌&&◌, length, List, [], ◌∷◌, ◌++◌, map, reverse, refl, sym, ◌∙◌, ap, subst, Option, Some, None, if◌then◌else◌, inl, inr, append-nil, arith}
 use Rattle.std.proofs.lemmas.Grind.{common_steps}
 use Rattle.std.proofs.lemmas.Bool.{false≢true, true≢false}
 use Rattle.std.proofs.lemmas.List.{reverse-append}
@@ -27,6 +27,7 @@ use Rattle.message_form.specs.declared.messages.Message.{Message}
 use Rattle.message_form.specs.declared.messages.Message.TheVariants as message
 use Rattle.message_core.proofs.NodeLemmas.{same_node-refl}
 use Rattle.turn_form.specs.declared.turns.Out.{Out}
+use Rattle.turn_form.specs.Growth.{Grew}
 use Rattle.turn_form.specs.Posts.{Post, WasSent, post, posts}
 use Rattle.stream_port.specs.declared.fates.Fate.{Fate}
 use Rattle.script_meaning.specs.Meaning.{Answer, Asks, Got, Over, Request, Stop, Stored, ToRead, ToWrite}
@@ -50,8 +51,9 @@ use Rattle.plan_form.specs.Plans.{InRange}
 use Rattle.broker_core.specs.Book.{Book, Try, book, find, tries, tries_of}
 use Rattle.broker_core.specs.Fits.{keep}
 use Rattle.broker_core.specs.Turns.{state}
-use Rattle.broker_laws.specs.Fits.{EndsBy, IsTidy}
+use Rattle.broker_laws.specs.Fits.{EndsBy, FitsLog, IsTidy}
 use Rattle.broker_laws.specs.Posts.{EndCame, IsAskOf, IsFitting, IsPlayed, IsProven, PostHolds, at}
+use Rattle.broker_laws.specs.Waits.{Trail}
 use Rattle.broker_laws.specs.Works.{TurnHolds}
 use Rattle.broker_laws.proofs.Found.{each-found, one-request}
 use Rattle.broker_laws.proofs.Kept.{kept}
@@ -61,7 +63,7 @@ use Rattle.world_core.specs.declared.entries.Entry.{Entry}
 use Rattle.world_core.specs.declared.entries.Entry.TheVariants as entry
 use Rattle.world_core.specs.Nodes.{gives, leaves}
 use Rattle.world_core.specs.Nodes.Input.{Learning, Taking}
-use Rattle.world_core.specs.Walks.{Base, Life, World, after_input, all_effects, gated_life, leaving, lives_on, sent_by, start_world, step, took}
+use Rattle.world_core.specs.Walks.{Base, Life, Sending, World, after_input, all_effects, gated_life, leaving, lives_on, sent_by, start_world, step, took}
 use Rattle.world_core.specs.Legal.{MayGate, MayGo, MayLearn, MayTake, Rule, base_of}
 use Rattle.world_facts.specs.Refines.{LogFacts, Refines, logs_at, seat_of}
 use Rattle.world_facts.specs.NodeRules.{kind_post, node_facts, node_turns}
@@ -75,12 +77,12 @@ use Rattle.complete_law.specs.Calm.{CalmPlace, CalmRun, IsQuiet, IsRefusal, WasR
 use Rattle.complete_law.proofs.BrokerMoves.{all-off, both-on, node-there, not-same, parted, turn-there}
 use Rattle.complete_law.proofs.GateEntries.{map-has}
 use Rattle.complete_law.proofs.Hearings.{asking-undecided, each-in, gated-same, says}
-use Rattle.complete_law.proofs.Outcomes.{book-is, in-plan, own-tries, unknown-book}
+use Rattle.complete_law.proofs.Outcomes.{book-is, own-tries, unknown-book}
 use Rattle.complete_law.proofs.Places.{CalmWorld, IsBegun, IsDecided, desk_of, log_of, tasks_of}
 use Rattle.complete_law.proofs.Refusals.{ArePlain, IsNotRefused, IsRefusing, learn-plain, put-written, stretch-logged, take-plain}
 use Rattle.complete_law.proofs.RepositoryEntries.{life-hand}
 use Rattle.complete_law.proofs.Rising.{asked-before, falling, find-has, undecided-last}
-use Rattle.complete_law.proofs.Steps.{Facts-at, always, calm-there, empty-life, facts-there, no-moment}
+use Rattle.complete_law.proofs.Steps.{Facts-at, fates, always, calm-there, empty-life, facts-there, no-moment}
 
 -- no repository says, or owes, that a write is refused
 abbrev pub NoRefusal : World → Type 0
@@ -179,7 +181,7 @@ module _ (b : Base) (w : World) (calm : CalmWorld b w) (f : Refines (node_turns 
           go : (kd : NodeKind) (r : ℕ) → kind_post b.script (sent_by w) kd r (reverse (logs_at (λ n. []) w (record { kind = kd; number = r }))) (record { to = broker i; message = message.Stored x }) → Has (effect.Put o x v) log
           go kind.Broker r p = absurd p
           go kind.Repository r (p, u, wrote, put) =
-              let same : ToWrite p u ≡ ToWrite o v = one-request b.script B x (ToWrite p u) (ToWrite o v) (now-holds i known-i (repository r) (message.Write x p u) wrote.0).2 ask in
+              let same : ToWrite p u ≡ ToWrite o v = one-request b.script i B x (ToWrite p u) (ToWrite o v) (now-holds i known-i (repository r) (message.Write x p u) wrote.0).2 ask in
               let po : p ≡ o = cc same in
               let uv : u ≡ v = cc same in
               let rn : r ≡ n = sym wrote.1 ∙ ap (λ (a : ObjectId). a.repository) po ∙ here in
@@ -226,11 +228,8 @@ module _ (b : Base) (w : World) (calm : CalmWorld b w) (f : Refines (node_turns 
             let ok : NodeOk (node_facts b.script) (around (happened (node_turns b.script) f.events)) (broker i) (seat_of (w.life (broker i))) = node-there b w calm f (broker i) known-i in
             let same : reverse l.gated ≡ reverse (logs_at (λ n. []) w (broker i)) = sym (durable (broker i) known-i) in
             asking-undecided b w calm facts i (subst (IsTidy b.script i) same ok.tidy) (reverse l.fresh) (reverse-append l.gated l.fresh ∙ ap (λ z. reverse l.fresh ++ z) same)
-            (subst (λ z. Grown z) same ok.grew) t (ToWrite o v) (subst (λ s. find s B ≡ Some t) (sym plays.1) ask.1) open-end asks (ap (λ (s : StampParts). s.broker) plays.1)
+            (subst (λ z. Grew (FitsLog b.script i) z (reverse (w.life (broker i)).fresh)) same ok.grew) t (ToWrite o v) (subst (λ s. find s B ≡ Some t) (sym plays.1) ask.1) open-end asks (ap (λ (s : StampParts). s.broker) plays.1)
             d t.stamp.home (subst (Has (effect.Decide t.stamp d)) (gated-same b w calm facts (repository t.stamp.home)) h)
-          where
-            abbrev Grown : List Effect → Type 0
-            Grown z = Rattle.turn_form.specs.Growth.Grew (Rattle.broker_laws.specs.Fits.FitsLog b.script i) z (reverse (w.life (broker i)).fresh)
 
         book-same : state b.script i b.run (tasks_of b i) (desk_of b w i) ≡ book blog
         book-same = ap book (kept b.script i b.run (tasks_of b i) blog turn.desk.tidy turn.ready.same_plan)
@@ -242,7 +241,7 @@ module _ (b : Base) (w : World) (calm : CalmWorld b w) (f : Refines (node_turns 
 
         last : (rest : List Try) × (B ≡ t ∷ rest)
         last =
-            let k = undecided-last b.run (IsBegun w) (IsDecided w) (book blog).acts t (subst (λ (k : Book). Rattle.broker_laws.specs.Waits.Trail b.run (IsBegun w) (IsDecided w) k.acts) book-same (calm.sound i).trail)
+            let k = undecided-last b.run (IsBegun w) (IsDecided w) (book blog).acts t (subst (λ (k : Book). Trail b.run (IsBegun w) (IsDecided w) k.acts) book-same (calm.sound i).trail)
             (subst (Has t) own-book (find-has x.stamp B t ask.1)) undecided in
             (k.0, own-book ∙ k.1)
 
@@ -280,7 +279,7 @@ module _ (b : Base) (w : World) (calm : CalmWorld b w) (f : Refines (node_turns 
             elim (below y (ToWrite o u) its) [
               | inl l ↦ true≢false (sym l ∙ k.0)
               | inr s ↦
-                  let same : ToWrite o u ≡ ToWrite o v = one-request b.script B x (ToWrite o u) (ToWrite o v) (subst (λ z. IsAskOf b.script B z (ToWrite o u)) s its) ask in
+                  let same : ToWrite o u ≡ ToWrite o v = one-request b.script i B x (ToWrite o u) (ToWrite o v) (subst (λ z. IsAskOf b.script B z (ToWrite o u)) s its) ask in
                   let uv : u ≡ v = cc same in
                   let stands : Has (effect.Put o x v) log = subst (λ z. Has (effect.Put o x z) log) uv (subst (λ z. Has (effect.Put o z u) log) s put) in
                   true≢false (sym (put-written log o x v unknown stands) ∙ off)
@@ -299,7 +298,7 @@ module _ (b : Base) (w : World) (calm : CalmWorld b w) (f : Refines (node_turns 
       not-refused = go ask.2.1 ask.2.2
         where
           go : (after : List Answer) → t.answers ≡ ask.2.0 ++ after → IsNotRefused log x o v
-          go (a ∷ more) all off unknown is = true≢false (sym (put-written log o x v unknown (is-stored ask.2.0 a more all ask.2.3 ask.2.4)) ∙ off)
+          go (a ∷ more) all = λ off unknown is. true≢false (sym (put-written log o x v unknown (is-stored ask.2.0 a more all ask.2.3 ask.2.4)) ∙ off)
           go [] all =
               let same : t.answers ≡ ask.2.0 = all ∙ append-nil ask.2.0 in
               current (subst (λ z. stop (b.script t.task.script) z ≡ Asks (ToWrite o v)) (sym same) ask.2.4) (ask.2.3 ∙ ap (λ (z : List Answer). length z + 1) (sym same))
@@ -310,9 +309,9 @@ module _ (b : Base) (w : World) (calm : CalmWorld b w) (f : Refines (node_turns 
   repository-is i r e = ap (λ (x : NodeId). x.number) e
 
   -- nothing is sent, and what this repository comes to owe is plain
-  stays : (e : Entry) (n : ℕ) (outs : List Out) → (step b w e).sendings ≡ w.sendings → ((r : ℕ) → ((step b w e).life (repository r) ≡ w.life (repository r)) ⊎ (((step b w e).life (repository r)).outs ≡ (w.life (repository r)).outs ++ outs)) → ArePlain outs →
+  stays : (e : Entry) (outs : List Out) → (step b w e).sendings ≡ w.sendings → ((r : ℕ) → ((step b w e).life (repository r) ≡ w.life (repository r)) ⊎ (((step b w e).life (repository r)).outs ≡ (w.life (repository r)).outs ++ outs)) → ArePlain outs →
       NoRefusal (step b w e)
-  stays e n outs same lives plain r o is = (owes (lives r), λ h. (none r o is).1 (subst (λ s. Has (post (repository r) o) (Rattle.std.proofs.Common.map (λ (x : Rattle.world_core.specs.Walks.Sending). x.post) s)) same h))
+  stays e outs same lives plain r o is = (owes (lives r), λ h. (none r o is).1 (subst (λ s. Has (post (repository r) o) (map (λ (x : Sending). x.post) s)) same h))
     where
       owes : ((step b w e).life (repository r) ≡ w.life (repository r)) ⊎ (((step b w e).life (repository r)).outs ≡ (w.life (repository r)).outs ++ outs) → Has o ((step b w e).life (repository r)).outs → ⊥
       owes (inl q) h = (none r o is).0 (subst (λ (l : Life). Has o l.outs) q h)
@@ -324,89 +323,100 @@ module _ (b : Base) (w : World) (calm : CalmWorld b w) (f : Refines (node_turns 
   not-broker : (i r : ℕ) → repository r ≢ broker i
   not-broker i r e = let k : kind.Repository ≡ kind.Broker = ap (λ (x : NodeId). x.kind) e in cc k
 
-  take-keeps : (n : NodeId) (k : ℕ) (fates : List Fate) → MayTake fates w n k → NoRefusal (step b w (entry.Take n k))
+  module _ (i k : ℕ) (fates : List Fate) (may : MayTake fates w (repository i) k) where
+    abbrev from0 : NodeId
+    from0 = may.sending.post.from
+
+    abbrev m0 : Message
+    m0 = may.sending.post.message
+
+    abbrev h : Hand
+    h = on_message (hand_at i (log_of w (repository i)) (w.life (repository i)).mind.hands) from0 m0
+
+    abbrev tw : World
+    tw = step b w (entry.Take (repository i) k)
+
+    opened : (w.flags (repository i)).known ≡ true
+    opened = sym (calm.ups (repository i)) ∙ may.up
+
+    takes : after_input b (repository i) (w.life (repository i)) (Taking from0 m0) ≡ life-hand (w.life (repository i)) h
+    unfolding gives hands.gives
+    takes = refl
+
+    here : (tw.life (repository i)).outs ≡ (w.life (repository i)).outs ++ h.outs
+    here = ap (λ (l : Life). l.outs) (both-on b w calm f (same_node (repository i) (repository i)) (w.flags (repository i)).known (lives_on b w (repository i) (w.life (repository i)) (entry.Take (repository i) k)) (w.life (repository i)) (same_node-refl (repository i)) opened
+        ∙ ap (took b (repository i) (w.life (repository i))) may.sent ∙ takes)
+
+    lives : (r : ℕ) → (tw.life (repository r) ≡ w.life (repository r)) ⊎ ((tw.life (repository r)).outs ≡ (w.life (repository r)).outs ++ h.outs)
+    lives r = elim (parted b w calm f (repository i) (repository r)) [
+      | inl e ↦ inr (subst (λ z. (tw.life z).outs ≡ (w.life z).outs ++ h.outs) (sym e) here)
+      | inr ne ↦ inl (all-off b w calm f (same_node (repository i) (repository r)) (w.flags (repository r)).known (lives_on b w (repository r) (w.life (repository r)) (entry.Take (repository i) k)) (w.life (repository r)) (not-same b w calm f (repository i) (repository r) ne))
+    ]
+
+    was-sent : Has (record { from = from0; to = repository i; message = m0 }) (sent_by w)
+    was-sent = subst (λ z. Has (record { from = from0; to = z; message = m0 }) (sent_by w)) may.to (numbered-has (λ (x : Sending). x.post) w.sendings k may.sending may.sent)
+
+    never : (x : TimeParts) (o : ObjectId) (v : Value) → m0 ≡ message.Write x o v → accepts i from0 m0 ≡ true → IsNotRefused (log_of w (repository i)) x o v
+    never x o v is takes-it =
+        let accepted : accepts i from0 (message.Write x o v) ≡ true = subst (λ z. accepts i from0 z ≡ true) is takes-it in
+        let own : from0 ≡ broker x.stamp.broker = broker-is x.stamp.broker from0 (and-left (is_broker_of x.stamp.broker from0) (o.repository == i) accepted) in
+        not-refused i opened x o v
+        (subst (λ z. Has (record { from = z; to = repository i; message = message.Write x o v }) (sent_by w)) own (subst (λ z. Has (record { from = from0; to = repository i; message = z }) (sent_by w)) is was-sent))
+        (eq-from o.repository i (and-right (is_broker_of x.stamp.broker from0) (o.repository == i) accepted))
+
+    take-there : NoRefusal tw
+    take-there = stays (entry.Take (repository i) k) h.outs refl lives (take-plain i (log_of w (repository i)) (w.life (repository i)).mind.hands from0 m0 never)
+
+  pub take-keeps : (n : NodeId) (k : ℕ) (fates : List Fate) → MayTake fates w n k → NoRefusal (step b w (entry.Take n k))
   take-keeps n k fates may = go n.kind n.number may
     where
       go : (kd : NodeKind) (i : ℕ) → MayTake fates w (record { kind = kd; number = i }) k → NoRefusal (step b w (entry.Take (record { kind = kd; number = i }) k))
-      go kind.Broker i may = stays (entry.Take (broker i) k) 0 [] refl
+      go kind.Broker i may = stays (entry.Take (broker i) k) [] refl
           (λ r. inl (all-off b w calm f (same_node (broker i) (repository r)) (w.flags (repository r)).known (lives_on b w (repository r) (w.life (repository r)) (entry.Take (broker i) k)) (w.life (repository r)) (not-same b w calm f (broker i) (repository r) (not-broker i r)))) tt
-      go kind.Repository i may = stays (entry.Take (repository i) k) i h.outs refl lives plain
-        where
-          from0 : NodeId
-          from0 = may.sending.post.from
+      go kind.Repository i may = take-there i k fates may
 
-          abbrev m0 : Message
-          m0 = may.sending.post.message
-
-          abbrev h : Hand
-          h = on_message (hand_at i (log_of w (repository i)) (w.life (repository i)).mind.hands) may.sending.post.from may.sending.post.message
-
-          opened : (w.flags (repository i)).known ≡ true
-          opened = sym (calm.ups (repository i)) ∙ may.up
-
-          takes : after_input b (repository i) (w.life (repository i)) (Taking may.sending.post.from may.sending.post.message) ≡ life-hand (w.life (repository i)) h
-          unfolding gives hands.gives
-          takes = refl
-
-          here : ((step b w (entry.Take (repository i) k)).life (repository i)).outs ≡ (w.life (repository i)).outs ++ h.outs
-          here = ap (λ (l : Life). l.outs) (both-on b w calm f (same_node (repository i) (repository i)) (w.flags (repository i)).known (lives_on b w (repository i) (w.life (repository i)) (entry.Take (repository i) k)) (w.life (repository i)) (same_node-refl (repository i)) opened
-              ∙ ap (took b (repository i) (w.life (repository i))) may.sent ∙ takes)
-
-          lives : (r : ℕ) → ((step b w (entry.Take (repository i) k)).life (repository r) ≡ w.life (repository r)) ⊎ (((step b w (entry.Take (repository i) k)).life (repository r)).outs ≡ (w.life (repository r)).outs ++ h.outs)
-          lives r = elim (parted b w calm f (repository i) (repository r)) [
-            | inl e ↦ inr (subst (λ z. ((step b w (entry.Take (repository i) k)).life z).outs ≡ (w.life z).outs ++ h.outs) (sym e) here)
-            | inr ne ↦ inl (all-off b w calm f (same_node (repository i) (repository r)) (w.flags (repository r)).known (lives_on b w (repository r) (w.life (repository r)) (entry.Take (repository i) k)) (w.life (repository r)) (not-same b w calm f (repository i) (repository r) ne))
-          ]
-
-          was-sent : Has (record { from = may.sending.post.from; to = repository i; message = may.sending.post.message }) (sent_by w)
-          was-sent = subst (λ z. Has (record { from = may.sending.post.from; to = z; message = may.sending.post.message }) (sent_by w)) may.to (numbered-has (λ (x : Rattle.world_core.specs.Walks.Sending). x.post) w.sendings k may.sending may.sent)
-
-          never : (x : TimeParts) (o : ObjectId) (v : Value) → may.sending.post.message ≡ message.Write x o v → accepts i may.sending.post.from may.sending.post.message ≡ true → IsNotRefused (log_of w (repository i)) x o v
-          never x o v is takes-it =
-              let accepted : accepts i may.sending.post.from (message.Write x o v) ≡ true = subst (λ z. accepts i may.sending.post.from z ≡ true) is takes-it in
-              let own : may.sending.post.from ≡ broker x.stamp.broker = broker-is x.stamp.broker may.sending.post.from (and-left (is_broker_of x.stamp.broker may.sending.post.from) (o.repository == i) accepted) in
-              not-refused i opened x o v
-              (subst (λ z. Has (record { from = z; to = repository i; message = message.Write x o v }) (sent_by w)) own (subst (λ z. Has (record { from = may.sending.post.from; to = repository i; message = z }) (sent_by w)) is was-sent))
-              (eq-from o.repository i (and-right (is_broker_of x.stamp.broker may.sending.post.from) (o.repository == i) accepted))
-
-          plain : ArePlain h.outs
-          plain = take-plain i (log_of w (repository i)) (w.life (repository i)).mind.hands may.sending.post.from may.sending.post.message never
-
-  go-keeps : (n : NodeId) → MayGo w n → NoRefusal (step b w (entry.Go n))
+  pub go-keeps : (n : NodeId) → MayGo w n → NoRefusal (step b w (entry.Go n))
   go-keeps n may = go n.kind n.number may
     where
       go : (kd : NodeKind) (i : ℕ) → MayGo w (record { kind = kd; number = i }) → NoRefusal (step b w (entry.Go (record { kind = kd; number = i })))
       go kind.Repository i may = absurd (false≢true may.broker)
-      go kind.Broker i may = stays (entry.Go (broker i)) 0 [] refl
+      go kind.Broker i may = stays (entry.Go (broker i)) [] refl
           (λ r. inl (all-off b w calm f (same_node (broker i) (repository r)) (w.flags (repository r)).known (lives_on b w (repository r) (w.life (repository r)) (entry.Go (broker i))) (w.life (repository r)) (not-same b w calm f (broker i) (repository r) (not-broker i r)))) tt
 
-  learn-keeps : (n : NodeId) (s : StampParts) (c : Bool) → MayLearn w n s c → NoRefusal (step b w (entry.Learn n s c))
+  module _ (i : ℕ) (s : StampParts) (c : Bool) (may : MayLearn w (repository i) s c) where
+    abbrev learned-hand : Hand
+    learned-hand = on_learn (hand_at i (log_of w (repository i)) (w.life (repository i)).mind.hands) s c
+
+    abbrev lw : World
+    lw = step b w (entry.Learn (repository i) s c)
+
+    up-there : (w.flags (repository i)).known ≡ true
+    up-there = sym (calm.ups (repository i)) ∙ may.up
+
+    learns : after_input b (repository i) (w.life (repository i)) (Learning s c) ≡ life-hand (w.life (repository i)) learned-hand
+    unfolding gives hands.gives
+    learns = refl
+
+    learned-here : (lw.life (repository i)).outs ≡ (w.life (repository i)).outs ++ learned-hand.outs
+    learned-here = ap (λ (l : Life). l.outs) (both-on b w calm f (same_node (repository i) (repository i)) (w.flags (repository i)).known (lives_on b w (repository i) (w.life (repository i)) (entry.Learn (repository i) s c)) (w.life (repository i)) (same_node-refl (repository i)) up-there ∙ learns)
+
+    learned-lives : (r : ℕ) → (lw.life (repository r) ≡ w.life (repository r)) ⊎ ((lw.life (repository r)).outs ≡ (w.life (repository r)).outs ++ learned-hand.outs)
+    learned-lives r = elim (parted b w calm f (repository i) (repository r)) [
+      | inl e ↦ inr (subst (λ z. (lw.life z).outs ≡ (w.life z).outs ++ learned-hand.outs) (sym e) learned-here)
+      | inr ne ↦ inl (all-off b w calm f (same_node (repository i) (repository r)) (w.flags (repository r)).known (lives_on b w (repository r) (w.life (repository r)) (entry.Learn (repository i) s c)) (w.life (repository r)) (not-same b w calm f (repository i) (repository r) ne))
+    ]
+
+    learn-there : NoRefusal lw
+    learn-there = stays (entry.Learn (repository i) s c) learned-hand.outs refl learned-lives (learn-plain i (log_of w (repository i)) (w.life (repository i)).mind.hands s c)
+
+  pub learn-keeps : (n : NodeId) (s : StampParts) (c : Bool) → MayLearn w n s c → NoRefusal (step b w (entry.Learn n s c))
   learn-keeps n s c may = go n.kind n.number may
     where
       go : (kd : NodeKind) (i : ℕ) → MayLearn w (record { kind = kd; number = i }) s c → NoRefusal (step b w (entry.Learn (record { kind = kd; number = i }) s c))
       go kind.Broker i may = absurd (true≢false may.repository)
-      go kind.Repository i may = stays (entry.Learn (repository i) s c) i h.outs refl lives (learn-plain i (log_of w (repository i)) (w.life (repository i)).mind.hands s c)
-        where
-          abbrev h : Hand
-          h = on_learn (hand_at i (log_of w (repository i)) (w.life (repository i)).mind.hands) s c
+      go kind.Repository i may = learn-there i s c may
 
-          opened : (w.flags (repository i)).known ≡ true
-          opened = sym (calm.ups (repository i)) ∙ may.up
-
-          learns : after_input b (repository i) (w.life (repository i)) (Learning s c) ≡ life-hand (w.life (repository i)) h
-          unfolding gives hands.gives
-          learns = refl
-
-          here : ((step b w (entry.Learn (repository i) s c)).life (repository i)).outs ≡ (w.life (repository i)).outs ++ h.outs
-          here = ap (λ (l : Life). l.outs) (both-on b w calm f (same_node (repository i) (repository i)) (w.flags (repository i)).known (lives_on b w (repository i) (w.life (repository i)) (entry.Learn (repository i) s c)) (w.life (repository i)) (same_node-refl (repository i)) opened ∙ learns)
-
-          lives : (r : ℕ) → ((step b w (entry.Learn (repository i) s c)).life (repository r) ≡ w.life (repository r)) ⊎ (((step b w (entry.Learn (repository i) s c)).life (repository r)).outs ≡ (w.life (repository r)).outs ++ h.outs)
-          lives r = elim (parted b w calm f (repository i) (repository r)) [
-            | inl e ↦ inr (subst (λ z. ((step b w (entry.Learn (repository i) s c)).life z).outs ≡ (w.life z).outs ++ h.outs) (sym e) here)
-            | inr ne ↦ inl (all-off b w calm f (same_node (repository i) (repository r)) (w.flags (repository r)).known (lives_on b w (repository r) (w.life (repository r)) (entry.Learn (repository i) s c)) (w.life (repository r)) (not-same b w calm f (repository i) (repository r) ne))
-          ]
-
-  gate-keeps : (n : NodeId) → MayGate w n → NoRefusal (step b w (entry.Gate n))
+  pub gate-keeps : (n : NodeId) → MayGate w n → NoRefusal (step b w (entry.Gate n))
   gate-keeps n may r o is = (owes, sends)
     where
       mine : (w.flags n).known ≡ true
@@ -449,8 +459,8 @@ module _ (p : CalmPlace) (single : p.run.plan.brokers ≡ 1) where
   ones : (w : World) → Facts-at p.run w → OneBroker w
   ones w f = one-broker base w f (λ i e. first p.run.plan.brokers i single (sym (p.run.legal.nodes.just (broker i)) ∙ sym (f.models.known (broker i)) ∙ e))
 
-  keeps : (w : World) (e : Entry) → Facts-at p.run w → CalmWorld base w → IsQuiet e → Rule base _ w e → NoRefusal w → NoRefusal (step base w e)
-  keeps w (entry.Take n k) f c q rule none = take-keeps base w c f none (ones w f) n k _ rule
+  keeps : (w : World) (e : Entry) → Facts-at p.run w → CalmWorld base w → IsQuiet e → Rule base (fates p.run) w e → NoRefusal w → NoRefusal (step base w e)
+  keeps w (entry.Take n k) f c q rule none = take-keeps base w c f none (ones w f) n k (fates p.run) rule
   keeps w (entry.Go n) f c q rule none = go-keeps base w c f none (ones w f) n rule
   keeps w (entry.Learn n s d) f c q rule none = learn-keeps base w c f none (ones w f) n s d rule
   keeps w (entry.Hear n) f c q rule none = absurd (no-moment p.run w n f rule)

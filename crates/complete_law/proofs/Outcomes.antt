@@ -177,7 +177,7 @@ module _ (p : CalmPlace) where
         book-over base.run (book_at p n) (length (book_at p n).acts) (length (tasks_at p n)) (is_none (standing (stage base.script base.run (book_at p n) (w.life (broker n)).mind.heard)))
         turn.ready.not_old ((calm-there p).sound n).early all-final (all n in-plan)
 
-  unknown-book : (n : ℕ) → (w.flags (broker n)).known ≡ false → (book_at p n).acts ≡ []
+  pub unknown-book : (n : ℕ) → (w.flags (broker n)).known ≡ false → (book_at p n).acts ≡ []
   unfolding keep book
   unknown-book n off = ap (λ (l : Life). (book (keep base.script n base.run (tasks_of base n) (reverse (walks.all_effects l)))).acts) ((calm-there p).outside (broker n) off)
 

@@ -134,15 +134,15 @@ unsent r l to _ h i = i
 
 -- nor of one that was, where the one message that was sent is no Write
 other-sent : (p : Post) (r : ℕ) (l : List Effect) (to : NodeId) (x : Message) → IsNoWrite p.message → Refuses (p ∷ []) r l to x → IsRefusal x → ⊥
-other-sent p r l to (message.LaterRead t e) no h i = elim h.2.0 [
-  | inl q ↦ subst (λ (y : Post). IsNoWrite y.message) q no
+other-sent p r l to (message.LaterRead t e) plain h i = elim h.2.0 [
+  | inl q ↦ subst (λ (y : Post). IsNoWrite y.message) q plain
   | inr n ↦ n
 ]
-other-sent p r l to (message.LaterVersion t e) no h i = elim h.2.0 [
-  | inl q ↦ subst (λ (y : Post). IsNoWrite y.message) q no
+other-sent p r l to (message.LaterVersion t e) plain h i = elim h.2.0 [
+  | inl q ↦ subst (λ (y : Post). IsNoWrite y.message) q plain
   | inr n ↦ n
 ]
-other-sent p r l to _ no h i = i
+other-sent p r l to _ plain h i = i
 
 pub learn-plain : (r : ℕ) (log : List Effect) (mind : Mind) (s : StampParts) (c : Bool) → ArePlain (on_learn (hand_at r log mind) s c).outs
 learn-plain r log mind s c =
@@ -151,14 +151,14 @@ learn-plain r log mind s c =
     (on-learn-fine [] r log (hand_at r log mind) s c (begun-fine [] r log mind)).outs
 
 other-plain : (r : ℕ) (log : List Effect) (mind : Mind) (from : NodeId) (m : Message) → IsNoWrite m → ArePlain (on_message (hand_at r log mind) from m).outs
-other-plain r log mind from m no =
+other-plain r log mind from m other =
     let p : Post = record { from = from; to = repository r; message = m } in
     let h : Hand = on_message (hand_at r log mind) from m in
-    every-map (λ (o : Out). Refuses (p ∷ []) r (now h) o.to o.message) (λ (o : Out). IsRefusal o.message → ⊥) (λ o k. other-sent p r (now h) o.to o.message no k) h.outs
+    every-map (λ (o : Out). Refuses (p ∷ []) r (now h) o.to o.message) (λ (o : Out). IsRefusal o.message → ⊥) (λ o k. other-sent p r (now h) o.to o.message other k) h.outs
     (take-fine (p ∷ []) r log (hand_at r log mind) from m (inl refl) (begun-fine (p ∷ []) r log mind)).outs
 
 send-plain : (h : Hand) (to : NodeId) (m : Message) → (IsRefusal m → ⊥) → ArePlain h.outs → ArePlain (send to m h).outs
-send-plain h to m no k = every-append (λ (o : Out). IsRefusal o.message → ⊥) h.outs (record { to = to; message = m } ∷ []) k (no, tt)
+send-plain h to m plain k = every-append (λ (o : Out). IsRefusal o.message → ⊥) h.outs (record { to = to; message = m } ∷ []) k (plain, tt)
 
 write-as-plain : (h : Hand) (from : NodeId) (t : TimeParts) (o : ObjectId) (v : Value) (stands is_known : Bool) (s : WriteStep) → (stands ≡ false → is_known ≡ false → IsRefusing s → ⊥) → ArePlain h.outs →
     ArePlain (write_as h from t o v stands is_known s).outs

@@ -79,11 +79,11 @@ module _ (script : List ℕ → Tree) (me : ℕ) where
 
 -- an attempt that isn't decided is the last
 pub undecided-last : (run : ℕ) (B D : StampParts → Type 0) (as' : List Act) (t : Try) → Trail run B D as' → Has t (tries_of as') → (D t.stamp → ⊥) → (rest : List Try) × (tries_of as' ≡ t ∷ rest)
-undecided-last run B D [] t k i no = absurd i
-undecided-last run B D (a ∷ done) t k i no = go a.tries k.1 i
+undecided-last run B D [] t k i off = absurd i
+undecided-last run B D (a ∷ done) t k i off = go a.tries k.1 i
   where
     decided : (ts : List Try) → Every (λ (x : Try). D x.stamp) ts → Has t ts → ⊥
-    decided ts all h = no (every-has (λ (x : Try). D x.stamp) ts t all h)
+    decided ts all h = off (every-has (λ (x : Try). D x.stamp) ts t all h)
 
     go : (ts : List Try) → Every (λ (x : Try). D x.stamp) (older ts) → Has t (ts ++ tries_of done) → (rest : List Try) × (ts ++ tries_of done ≡ t ∷ rest)
     go [] all h = absurd (decided (tries_of done) k.0 h)
@@ -95,11 +95,11 @@ undecided-last run B D (a ∷ done) t k i no = go a.tries k.1 i
 
 pub find-has : (s : StampParts) (ts : List Try) (t : Try) → find s ts ≡ Some t → Has t ts
 find-has s [] t h = absurd (cc h)
-find-has s (u ∷ ts) t h = go (same_stamp u.stamp s) h
+find-has s (u ∷ ts) t h = go (same_stamp u.stamp s) (find-has s ts t) h
   where
-    go : (c : Bool) → (if c then Some u else find s ts) ≡ Some t → Has t (u ∷ ts)
-    go true h = let e : u ≡ t = cc h in inl e
-    go false h = inr (find-has s ts t h)
+    go : (c : Bool) → (find s ts ≡ Some t → Has t ts) → (if c then Some u else find s ts) ≡ Some t → Has t (u ∷ ts)
+    go true more h = let e : u ≡ t = cc h in inl e
+    go false more h = inr (more h)
 
 -- ---- times
 
