@@ -1,5 +1,5 @@
 -- With one broker no write is refused, at any calm place.
-use Rattle.std.proofs.Common.{◌≡◌, ◌≢◌, ◌⊎◌, ℕ, ◌+◌, ◌≤◌, ◌==◌, nat_le, Bool, true, false, ◌&&◌, length, List, [], ◌∷◌, ◌++◌, map, reverse, refl, sym, ◌∙◌, ap, subst, Option, Some, None, if◌then◌else◌, inl, inr, append-nil, arith}
+use Rattle.std.proofs.Common.{◌≡◌, ◌≢◌, ◌⊎◌, ℕ, ◌+◌, ◌==◌, nat_le, Bool, true, false, ◌&&◌, length, List, [], ◌∷◌, ◌++◌, map, reverse, refl, sym, ◌∙◌, ap, subst, Option, Some, None, if◌then◌else◌, inl, inr, append-nil, arith}
 use Rattle.std.proofs.lemmas.Grind.{common_steps}
 use Rattle.std.proofs.lemmas.Bool.{false≢true, true≢false}
 use Rattle.std.proofs.lemmas.List.{reverse-append}
@@ -10,7 +10,6 @@ use Rattle.pseudo_time.specs.StampParts.{StampParts}
 use Rattle.pseudo_time.specs.TimeParts.{TimeParts}
 use Rattle.pseudo_time.specs.Order.{lt}
 use Rattle.pseudo_time.proofs.OrderLemmas.{lt-asymmetric, lt-irreflexive}
-use Rattle.pseudo_time.specs.declared.decisions.Decision.{Decision}
 use Rattle.pseudo_time.specs.declared.decisions.Decision.TheVariants as decision
 use Rattle.pseudo_time.specs.declared.nodes.NodeId.{NodeId}
 use Rattle.pseudo_time.specs.declared.nodes.NodeKind.{NodeKind}
@@ -30,9 +29,8 @@ use Rattle.turn_form.specs.declared.turns.Out.{Out}
 use Rattle.turn_form.specs.Growth.{Grew}
 use Rattle.turn_form.specs.Posts.{Post, WasSent, post, posts}
 use Rattle.stream_port.specs.declared.fates.Fate.{Fate}
-use Rattle.script_meaning.specs.Meaning.{Answer, Asks, Got, Over, Request, Stop, Stored, ToRead, ToWrite}
+use Rattle.script_meaning.specs.Meaning.{Answer, Asks, Got, Over, Request, Stored, ToRead, ToWrite}
 use Rattle.serial_model.specs.Questions.{stop}
-use Rattle.object_history.specs.declared.marks.Mark.TheVariants as mark
 use Rattle.object_history.specs.declared.steps.WriteStep.{WriteStep}
 use Rattle.object_history.specs.declared.steps.WriteStep.TheVariants as write
 use Rattle.object_history.specs.Answers.{stands_written, write_step}
@@ -47,9 +45,7 @@ use Rattle.repository_log.specs.Logs.{known, marks}
 use Rattle.repository_laws.proofs.Logs.{put-logged}
 use Rattle.repository_laws.proofs.Turns.{broker-is}
 use Rattle.repository_waits.proofs.HeldLemmas.{filter-has}
-use Rattle.plan_form.specs.Plans.{InRange}
 use Rattle.broker_core.specs.Book.{Book, Try, book, find, tries, tries_of}
-use Rattle.broker_core.specs.Fits.{keep}
 use Rattle.broker_core.specs.Turns.{state}
 use Rattle.broker_laws.specs.Fits.{EndsBy, FitsLog, IsTidy}
 use Rattle.broker_laws.specs.Posts.{EndCame, IsAskOf, IsFitting, IsPlayed, IsProven, PostHolds, at}
@@ -63,7 +59,7 @@ use Rattle.world_core.specs.declared.entries.Entry.{Entry}
 use Rattle.world_core.specs.declared.entries.Entry.TheVariants as entry
 use Rattle.world_core.specs.Nodes.{gives, leaves}
 use Rattle.world_core.specs.Nodes.Input.{Learning, Taking}
-use Rattle.world_core.specs.Walks.{Base, Life, Sending, World, after_input, all_effects, gated_life, leaving, lives_on, sent_by, start_world, step, took}
+use Rattle.world_core.specs.Walks.{Base, Life, Sending, World, after_input, all_effects, leaving, lives_on, sent_by, start_world, step, took}
 use Rattle.world_core.specs.Legal.{MayGate, MayGo, MayLearn, MayTake, Rule, base_of}
 use Rattle.world_facts.specs.Refines.{LogFacts, Refines, logs_at, seat_of}
 use Rattle.world_facts.specs.NodeRules.{kind_post, node_facts, node_turns}
@@ -72,8 +68,7 @@ use Rattle.world_facts.proofs.Growths.{numbered-has}
 use Rattle.world_facts.proofs.NodeLaws.{node-laws}
 use Rattle.world_facts.proofs.Openings.{facts-of}
 use Rattle.world_facts.proofs.Steps.{sent-gate}
-use Rattle.complete_law.specs.AtRest.{DecidedAt}
-use Rattle.complete_law.specs.Calm.{CalmPlace, CalmRun, IsQuiet, IsRefusal, WasRefused, book_at, log_at, sent_at, world_at}
+use Rattle.complete_law.specs.Calm.{CalmPlace, IsQuiet, IsRefusal, WasRefused, book_at, log_at, sent_at, world_at}
 use Rattle.complete_law.proofs.BrokerMoves.{all-off, both-on, node-there, not-same, parted, turn-there}
 use Rattle.complete_law.proofs.GateEntries.{map-has}
 use Rattle.complete_law.proofs.Hearings.{asking-undecided, each-in, gated-same, says}

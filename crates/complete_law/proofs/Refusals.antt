@@ -1,5 +1,5 @@
 -- A turn of a repository refuses nothing but the write that it takes, and this one only where its log says so.
-use Rattle.std.proofs.Common.{◌≡◌, ◌==◌, Bool, true, false, ◌&&◌, ◌||◌, ℕ, List, [], ◌∷◌, ◌++◌, refl, sym, ◌∙◌, ap, subst, Option, Some, None, if◌then◌else◌, inl, inr}
+use Rattle.std.proofs.Common.{◌≡◌, Bool, true, false, ◌&&◌, ◌||◌, ℕ, List, [], ◌∷◌, refl, ◌∙◌, ap, subst, Option, Some, None, if◌then◌else◌, inl, inr}
 use Rattle.std.proofs.lemmas.Bool.{false≢true, true≢false}
 use Rattle.std.specs.Cmp.{signed_Decides}
 use Rattle.std.specs.Cmp.Lexicographic.{bytes_decides}
@@ -32,7 +32,7 @@ use Rattle.repository_core.specs.Hands.{Hand, Mind, note, now, send}
 use Rattle.repository_core.specs.Rows.{accepts, on_learn, on_message, on_write, write_as}
 use Rattle.repository_core.specs.Turns.{hand_at}
 use Rattle.repository_log.specs.Logs.{known, marks}
-use Rattle.pseudo_time.specs.Nodes.{broker, repository}
+use Rattle.pseudo_time.specs.Nodes.{repository}
 use Rattle.repository_laws.specs.AnyLogs.{Refuses}
 use Rattle.repository_laws.proofs.AnyTurns.{begun-fine, on-learn-fine, take-fine}
 use Rattle.complete_law.specs.Calm.{IsRefusal}
