@@ -1,0 +1,9 @@
+pub mod BrokerCrosses
+pub mod Crosses
+pub mod PageLemmas
+pub mod PairLemmas
+pub mod RepositoryCrosses
+pub mod RoundLemmas
+pub mod ShareLemmas
+pub mod TickLemmas
+pub mod WentLemmas

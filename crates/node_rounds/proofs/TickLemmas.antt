@@ -1,0 +1,58 @@
+-- What the conductor has seen, over looks and Ticks.
+use Rattle.std.proofs.Common.{◌≡◌, ◌+◌, ℕ, Bool, List, [], ◌∷◌, ◌++◌, refl, ap, sym, subst, ◌∙◌, arith}
+use Rattle.std.specs.Prelude.{cond}
+use Rattle.std.proofs.lemmas.List.{append-nil}
+use Rattle.std.proofs.lemmas.List.Sums.{sum_by-append}
+use Rattle.seat_lock.specs.Story.{Begins}
+use Rattle.world_core.specs.declared.entries.Entry.{Entry}
+use Rattle.world_core.specs.declared.entries.Entry.TheVariants.{Tick}
+use Rattle.wire_lock.specs.Sights.{Sight, Looked, Added}
+use Rattle.trace_report.specs.Counts.{is_tick, tick_count}
+use Rattle.node_rounds.specs.declared.limits.Limits.{Limits}
+use Rattle.node_rounds.specs.declared.reasons.Next.{Next}
+use Rattle.node_rounds.specs.declared.reasons.Next.TheVariants as next
+use Rattle.node_rounds.specs.Nodes.{Shares, EachNode, EachPlace, HasMet, IsUp}
+use Rattle.node_rounds.specs.Reasons.{SeesMore, Follows, EndsFor}
+use Rattle.node_rounds.proofs.RoundLemmas.{begins-joins, looked-own, looked-owner}
+use Rattle.node_rounds.proofs.ShareLemmas.{each-through}
+
+-- one Tick more
+count-more : (es : List Entry) (moment : ℕ) → tick_count (es ++ Tick moment ∷ []) ≡ tick_count es + 1
+count-more es moment = sum_by-append (λ e. cond (is_tick e) 1 0) es (Tick moment ∷ [])
+
+pub sees-same : (k : Sight) → SeesMore 0 k k
+sees-same k = record { owner = refl; begins = ([], append-nil k.story); ticked = omega arith }
+
+pub sees-looked : (a b : Sight) → Looked a b → SeesMore 0 a b
+sees-looked a b p = record { owner = looked-owner p; begins = p.before.carries.begins; ticked = ap tick_count (looked-own p) ∙ omega arith }
+
+pub sees-tick : (a b : Sight) (moment : ℕ) → Added a b (Tick moment) → SeesMore 1 a b
+sees-tick a b moment p = record {
+  owner = ap (λ (k : Sight). k.owner) p.kept;
+  begins = begins-joins a.story p.found b.story p.before.carries.begins (Tick moment ∷ [], sym (ap (λ (k : Sight). k.story) p.kept));
+  ticked = ap (λ (k : Sight). tick_count k.own) p.kept ∙ count-more a.own moment;
+}
+
+pub sees-joins : (m n : ℕ) (a b c : Sight) → SeesMore m a b → SeesMore n b c → SeesMore (m + n) a c
+sees-joins m n a b c p q = record {
+  owner = q.owner ∙ p.owner;
+  begins = begins-joins a.story b.story c.story p.begins q.begins;
+  ticked = omega (arith, p.ticked, q.ticked);
+}
+
+module _ {M : Type 0} (tells : Bool) (limits : Limits) where
+  -- what follows, as seen from before a look
+  pub follows-looked : (a b c : Sight) (what : Next) (nodes : Shares M) → Looked a b → Follows tells limits what nodes b c → Follows tells limits what nodes a c
+  follows-looked a b c next.Round nodes p f = (f.0, sees-joins 0 0 a b c (sees-looked a b p) f.1)
+  follows-looked a b c next.Ticked nodes p f = let e = ap tick_count (looked-own p) in (f.0, omega (arith, e, f.1), sees-joins 0 1 a b c (sees-looked a b p) f.2)
+  follows-looked a b c (next.End why) nodes p f = (f.0, sees-joins 0 0 a b c (sees-looked a b p) f.1)
+
+  -- a Tick, behind which the conductor met the nodes again
+  pub follows-met : (a b c : Sight) (nodes met : Shares M) → EachPlace HasMet nodes met → Looked b c → Follows tells limits next.Ticked nodes a b → Follows tells limits next.Ticked met a c
+  follows-met a b c nodes met m p f = (each-through IsUp HasMet IsUp (λ x y up h. h.condition ∙ up) nodes met f.0 m, f.1, sees-joins 1 0 a b c f.2 (sees-looked b c p))
+
+  -- the conductor's story goes on
+  pub follows-begins : (a b : Sight) (what : Next) (nodes : Shares M) → Follows tells limits what nodes a b → Begins a.story b.story
+  follows-begins a b next.Round nodes f = f.1.begins
+  follows-begins a b next.Ticked nodes f = f.2.begins
+  follows-begins a b (next.End why) nodes f = f.1.begins

@@ -1,0 +1,16 @@
+use Rattle.std.proofs.Common.{sym, subst}
+use Rattle.std.specs.Prelude.{All, IsTrue}
+use Rattle.node_rounds.specs.Nodes.{IsUp}
+use Rattle.node_rounds.specs.Reasons.{IsDone}
+use Rattle.node_rounds.proofs.PairLemmas.{within-more}
+use Rattle.node_rounds.proofs.conductors.are_all_done.Goals as goal
+
+pub are_done-requires : goal.are_done-requires
+are_done-requires g c = record {
+  up = subst (All IsUp) (sym c.as_slice.ensures.value) (subst (λ nodes. All IsUp nodes.items) (sym c.nodes-item.is) (c.requires.up c.loop-nodes.nodes-index c.nodes-item.result c.loop-nodes-test.true));
+}
+
+pub loop-nodes-preserved : goal.loop-nodes-preserved
+loop-nodes-preserved g c =
+    within-more (λ nodes. IsTrue g.M.Medium.tells → All IsDone nodes.items) c.args.shares.now c.loop-nodes.nodes-index c.nodes-item.result c.loop-nodes-test.true c.nodes-item.is c.loop-nodes.invariant
+    (λ told. subst (All IsDone) c.as_slice.ensures.value (c.are_done.ensures c.if-not-are_done.false told))

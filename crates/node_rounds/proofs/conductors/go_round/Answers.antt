@@ -1,0 +1,58 @@
+use denote.Exit.{no}
+use denote.Param.{param}
+use denote.Param.Send.{param_send, param_sync, arg_send, arg_sync}
+use Rattle.std.proofs.Common.{sym, subst}
+use Rattle.seat_lock.specs.Words.{knows}
+use Rattle.node_rounds.specs.declared.reasons.Next.TheVariants as next
+use Rattle.node_rounds.specs.Reasons.{Follows}
+use Rattle.wire_lock.proofs.Crosses.{shared_sync}
+use Rattle.node_rounds.proofs.Crosses.{run_send}
+use Rattle.node_rounds.proofs.TickLemmas.{follows-looked, follows-met, follows-begins}
+use Rattle.node_rounds.proofs.WentLemmas.{all-more, passes-after, went-round, went-met}
+use Rattle.node_rounds.proofs.conductors.go_round.Goals as goal
+
+pub round-shares-requires-send-S : goal.round-shares-requires-send-S
+round-shares-requires-send-S g c κs within = param_send 1 _ (arg_send _ no _ (run_send (param 0 g.row.F) (param 1 g.row.C) (param 2 g.row.M) g.F.Fates g.C.Clock g.M.Medium c.type_bounds.send-F c.type_bounds.send-C c.type_bounds.send-M))
+
+pub round-shares-requires-sync-L : goal.round-shares-requires-sync-L
+round-shares-requires-sync-L g c κs within = param_sync 0 _ (arg_sync _ no _ (shared_sync (param 0 g.row.F) (param 1 g.row.C) (param 2 g.row.M) g.F.Fates g.C.Clock g.M.Medium c.type_bounds.send-F c.type_bounds.send-C))
+
+pub meet_all-requires : goal.meet_all-requires
+meet_all-requires g c = record {
+  pass = (passes-after c.args.wire.now.lock g.M.Medium.tells g.M.Medium.faults g.M.Medium.reads c.args.shares.items c.round-shares.result.items c.requires.ready c.round-shares.ensures.does, c.requires.pass);
+}
+
+pub returns-in-Ticked-clause-went : goal.returns-in-Ticked-clause-went
+returns-in-Ticked-clause-went g c =
+    let lock = c.args.wire.now.lock in
+    went-met lock g.M.Medium.tells g.M.Medium.faults g.M.Medium.reads c.args.shares.items c.meet_all.new.shares.items c.meet_all-in-Ticked.new.shares.items
+    (went-round lock g.M.Medium.tells g.M.Medium.faults g.M.Medium.reads c.args.shares.items c.round-shares.result.items c.meet_all.new.shares.items c.round-shares.ensures.does c.meet_all.ensures.met) c.meet_all-in-Ticked.ensures.met
+
+pub returns-in-Ticked-clause-next : goal.returns-in-Ticked-clause-next
+returns-in-Ticked-clause-next g c =
+    let tells = g.M.Medium.tells in
+    let limits = c.args.limits in
+    let nodes = c.meet_all.new.shares.items in
+    let first = knows c.args.pass in
+    let met = knows c.meet_all.new.pass in
+    let asked = knows c.asked-pass.result.0 in
+    let said = subst (λ ns. Follows tells limits c.asked-pass.result.1 ns met asked) c.as_slice.ensures.value c.asked-pass.ensures.next in
+    let ticked = subst (λ what. Follows tells limits what nodes met asked) c.in-Ticked.is said in
+    subst (λ what. Follows tells limits what c.meet_all-in-Ticked.new.shares.items first (knows c.meet_all-in-Ticked.new.pass)) (sym c.in-Ticked.is)
+    (follows-met tells limits first asked (knows c.meet_all-in-Ticked.new.pass) nodes c.meet_all-in-Ticked.new.shares.items c.meet_all-in-Ticked.ensures.met c.meet_all-in-Ticked.ensures.looked
+    (follows-looked tells limits first met asked next.Ticked nodes c.meet_all.ensures.looked ticked))
+
+pub returns : goal.returns
+returns g c =
+    let tells = g.M.Medium.tells in
+    let limits = c.args.limits in
+    let nodes = c.meet_all.new.shares.items in
+    let met = knows c.meet_all.new.pass in
+    let asked = knows c.asked-pass.result.0 in
+    let said = subst (λ ns. Follows tells limits c.asked-pass.result.1 ns met asked) c.as_slice.ensures.value c.asked-pass.ensures.next in
+    record {
+      passes = (c.meet_all.ensures.pass.0, c.asked-pass.ensures.pass);
+      went = went-round c.args.wire.now.lock tells g.M.Medium.faults g.M.Medium.reads c.args.shares.items c.round-shares.result.items nodes c.round-shares.ensures.does c.meet_all.ensures.met;
+      all = all-more met.story asked.story nodes (follows-begins tells limits met asked c.asked-pass.result.1 nodes said) c.meet_all.ensures.all;
+      next = follows-looked tells limits (knows c.args.pass) met asked c.asked-pass.result.1 nodes c.meet_all.ensures.looked said;
+    }

@@ -1,0 +1,6 @@
+use Rattle.std.specs.List.{AllWithin}
+use Rattle.node_rounds.specs.Nodes.{IsUp}
+use Rattle.node_rounds.proofs.conductors.is_any_down.Given as goal
+
+abbrev pub invariant-loop-node : goal.invariant-loop-node
+invariant-loop-node g l = AllWithin IsUp l.nodes 0 l.node-index

@@ -1,0 +1,7 @@
+use Rattle.std.specs.List.{AllWithin}
+use Rattle.std.specs.Prelude.{All}
+use Rattle.node_rounds.specs.Reasons.{HasMemory}
+use Rattle.node_rounds.proofs.conductors.was_wanting.Given as goal
+
+abbrev pub invariant-loop-nodes : goal.invariant-loop-nodes
+invariant-loop-nodes g l = AllWithin (λ nodes. All HasMemory nodes.items) l.shares 0 l.nodes-index

@@ -1,0 +1,17 @@
+use Rattle.std.proofs.Common.{◌≡◌, length}
+use Rattle.std.specs.Prelude.{All}
+use Rattle.std.specs.List.{AllWithin}
+use Rattle.seat_lock.specs.Words.{knows}
+use Rattle.wire_lock.specs.Sights.{IsWirePass, Looked}
+use Rattle.node_rounds.specs.Nodes.{EachNode, EachPlace, HasAllOf, HasMet, HasPass}
+use Rattle.node_rounds.proofs.meetings.meet_all.Given as goal
+
+abbrev pub invariant-loop-i : goal.invariant-loop-i
+invariant-loop-i g l = record {
+  size : length l.shares.items ≡ l.i-end;
+  hold : EachNode (HasPass l.wire.lock) l.shares.items;
+  pass_is : IsWirePass l.wire.lock l.pass;
+  looked : Looked (knows l.fn.pass) (knows l.pass);
+  all : AllWithin (λ nodes. All (HasAllOf (knows l.pass).story) nodes.items) l.shares.items 0 l.i;
+  met : EachPlace HasMet l.fn.shares.items l.shares.items;
+}

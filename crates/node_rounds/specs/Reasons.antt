@@ -1,0 +1,70 @@
+-- Why no further round follows, and what follows a round.
+use Rattle.std.specs.Prelude.{◌≡◌, ◌≢◌, ℕ, ◌+◌, ◌≤◌, ◌<◌, Bool, true, List, length, Option, Some, None, IsTrue, if◌then◌else◌}
+use Rattle.pseudo_time.specs.declared.nodes.NodeId.{NodeId}
+use Rattle.pseudo_time.specs.declared.down_causes.DownCause.{DownCause}
+use Rattle.pseudo_time.specs.Nodes.{is_broker}
+use Rattle.seat_lock.specs.Story.{Begins}
+use Rattle.world_core.specs.Walks.{sent_by}
+use Rattle.wire_lock.specs.Sights.{Sight, AtRest, base_at, life_at, world_at}
+use Rattle.trace_report.specs.Counts.{tick_count}
+use Rattle.node_turn.specs.declared.conditions.Condition.TheVariants as condition
+use Rattle.node_turn.specs.Nodes.{NodeParts, sight}
+use Rattle.broker_node.specs.Logs.{is_over}
+use Rattle.node_rounds.specs.declared.limits.Limits.{Limits}
+use Rattle.node_rounds.specs.declared.reasons.Reason.{Reason}
+use Rattle.node_rounds.specs.declared.reasons.Reason.TheVariants as reason
+use Rattle.node_rounds.specs.declared.reasons.Next.{Next}
+use Rattle.node_rounds.specs.declared.reasons.Next.TheVariants as next
+use Rattle.node_rounds.specs.Nodes.{Shares, EachNode, SomeNode, IsUp}
+
+-- ---- nodes
+
+-- of what a pass of the node's has seen: a repository always is; a broker where each of its acts has its outcome, and no request is outstanding
+abbrev pub is_done_at : Sight → NodeId → Bool
+is_done_at k n = if is_broker n.kind then is_over (base_at k) n.number (life_at k n) else true
+
+module _ {M : Type 0} where
+  abbrev pub IsDone : NodeParts M → Type 0
+  IsDone n = is_done_at (sight n) n.node ≡ true
+
+  abbrev pub IsDown : NodeParts M → Type 0
+  IsDown n = (cause : DownCause) × (n.condition ≡ condition.Down cause)
+
+  -- each of its turns found the memory that it needed
+  abbrev pub HasMemory : NodeParts M → Type 0
+  HasMemory n = n.condition ≢ condition.Wanting
+
+  -- ---- why no further round follows
+
+  -- Of the nodes, and of what the conductor has seen: a node is down; all brokers are done; so many messages were sent that the run ends; or nothing is
+  -- due, and there were as many Ticks as there may be. Where memory was wanting nothing is said.
+  abbrev pub EndsFor : Bool → Limits → Reason → Shares M → Sight → Type 0
+  EndsFor tells limits reason.Down nodes k = EachNode HasMemory nodes × SomeNode IsDown nodes
+  EndsFor tells limits reason.Done nodes k = EachNode IsUp nodes × (IsTrue tells → EachNode IsDone nodes)
+  EndsFor tells limits reason.Enough nodes k = EachNode IsUp nodes × (IsTrue tells → limits.messages ≤ length (sent_by (world_at k)))
+  EndsFor tells limits reason.RunOut nodes k = EachNode IsUp nodes × AtRest (world_at k) × (tick_count k.own ≡ limits.ticks)
+  EndsFor tells limits reason.Wanting nodes k = Unit {0}
+
+  -- what the nodes alone say: that the run ends, or that all are at work
+  abbrev pub NodesSay : Bool → Option Reason → Shares M → Type 0
+  NodesSay tells (Some reason.Down) nodes = EachNode HasMemory nodes × SomeNode IsDown nodes
+  NodesSay tells (Some reason.Done) nodes = EachNode IsUp nodes × (IsTrue tells → EachNode IsDone nodes)
+  NodesSay tells (Some reason.Enough) nodes = ⊥
+  NodesSay tells (Some reason.RunOut) nodes = ⊥
+  NodesSay tells (Some reason.Wanting) nodes = Unit {0}
+  NodesSay tells None nodes = EachNode IsUp nodes
+
+-- ---- what follows a round
+
+-- what the conductor has seen went on, by so many Ticks of its own
+pub record SeesMore (ticks : ℕ) (old new : Sight) : Type 0 where
+  pub owner : new.owner ≡ old.owner
+  pub begins : Begins old.story new.story
+  pub ticked : tick_count new.own ≡ tick_count old.own + ticks
+
+module _ {M : Type 0} (tells : Bool) (limits : Limits) where
+  -- A further round follows where all nodes are at work; behind a Tick only where one more may be made.
+  abbrev pub Follows : Next → Shares M → Sight → Sight → Type 0
+  Follows next.Round nodes old new = EachNode IsUp nodes × SeesMore 0 old new
+  Follows next.Ticked nodes old new = EachNode IsUp nodes × (tick_count old.own < limits.ticks) × SeesMore 1 old new
+  Follows (next.End why) nodes old new = EndsFor tells limits why nodes new × SeesMore 0 old new

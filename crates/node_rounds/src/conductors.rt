@@ -1,0 +1,225 @@
+//! The conductor: rounds, and the five questions behind each.
+ghost use Rattle.std.specs.Prelude.{◌≡◌, ◌≤◌, All, Any, IsTrue, MatchBool};
+ghost use Rattle.seat_lock.specs.Words.{knows};
+ghost use Rattle.wire_lock.specs.Sights.{IsWirePass};
+ghost use Rattle.trace_report.specs.Counts.{tick_count};
+ghost use Rattle.node_rounds.specs.Nodes.{EachNode, SomeNode, EachPlace, GoesOn, HasAllOf, HasPass, IsReady, IsUp};
+ghost use Rattle.node_rounds.specs.Reasons.{EndsFor, Follows, HasMemory, IsDone, IsDown, NodesSay};
+
+use crate::limits::Limits;
+use crate::meetings::meet_all;
+use crate::nodes::RunNode;
+use crate::reasons::{Next, Reason};
+use crate::turns::round;
+use medium_port::Medium;
+use node_turn::Condition;
+use std::sync::Wait;
+use std::thread::Threads;
+use stream_port::{Clock, Fates};
+use wire_lock::{SharedWire, WirePass};
+
+// Whether memory was wanting for a node of a share.
+fn is_any_wanting<F: Fates, C: Clock, M: Medium>(nodes: &[RunNode<F, C, M>]) -> bool
+    ensures { MatchBool result (Any (λ n. n.condition ≡ Condition.Wanting) nodes.now) (All HasMemory nodes.now) }
+{
+    for node in nodes {
+        if let Condition::Wanting = node.condition() {
+            return true;
+        }
+    }
+    false
+}
+
+// Whether a node of a share is down.
+fn is_any_down<F: Fates, C: Clock, M: Medium>(nodes: &[RunNode<F, C, M>]) -> bool
+    requires memory { All HasMemory nodes.now }
+    ensures { MatchBool result (Any IsDown nodes.now) (All IsUp nodes.now) }
+{
+    for node in nodes {
+        if let Condition::Down { cause: _ } = node.condition() {
+            return true;
+        }
+    }
+    false
+}
+
+// Whether all nodes of a share are done.
+fn are_done<F: Fates, C: Clock, M: Medium>(nodes: &[RunNode<F, C, M>]) -> bool
+    requires up { All IsUp nodes.now }
+    ensures { IsTrue result → IsTrue M.tells → All IsDone nodes.now }
+{
+    for node in nodes {
+        if !node.is_done() {
+            return false;
+        }
+    }
+    true
+}
+
+// Whether memory was wanting for a node.
+fn was_wanting<F: Fates, C: Clock, M: Medium>(shares: &[Vec<RunNode<F, C, M>>]) -> bool
+    ensures { MatchBool result (SomeNode (λ n. n.condition ≡ Condition.Wanting) shares.now) (EachNode HasMemory shares.now) }
+{
+    for nodes in shares {
+        if is_any_wanting(nodes.as_slice()) {
+            return true;
+        }
+    }
+    false
+}
+
+// Whether a node is down.
+fn has_down<F: Fates, C: Clock, M: Medium>(shares: &[Vec<RunNode<F, C, M>>]) -> bool
+    requires memory { EachNode HasMemory shares.now }
+    ensures { MatchBool result (SomeNode IsDown shares.now) (EachNode IsUp shares.now) }
+{
+    for nodes in shares {
+        if is_any_down(nodes.as_slice()) {
+            return true;
+        }
+    }
+    false
+}
+
+// Whether all nodes are done.
+fn are_all_done<F: Fates, C: Clock, M: Medium>(shares: &[Vec<RunNode<F, C, M>>]) -> bool
+    requires up { EachNode IsUp shares.now }
+    ensures { IsTrue result → IsTrue M.tells → EachNode IsDone shares.now }
+{
+    for nodes in shares {
+        if !are_done(nodes.as_slice()) {
+            return false;
+        }
+    }
+    true
+}
+
+// What the nodes alone say of the end.
+fn ended_by_nodes<F: Fates, C: Clock, M: Medium>(shares: &[Vec<RunNode<F, C, M>>]) -> Option<Reason>
+    ensures { NodesSay M.tells result shares.now }
+{
+    if was_wanting(shares) {
+        return Some(Reason::Wanting);
+    }
+    if has_down(shares) {
+        return Some(Reason::Down);
+    }
+    if are_all_done(shares) {
+        return Some(Reason::Done);
+    }
+    None
+}
+
+// The five questions, behind a round in which the conductor met all nodes. Where nothing is due time
+// passes.
+fn asked<F: Fates, C: Clock, M: Medium, R: Wait>(
+    rt: &R,
+    wire: &SharedWire<F, C, M>,
+    limits: Limits,
+    ticks: u64,
+    shares: &[Vec<RunNode<F, C, M>>],
+    pass: WirePass<F, C, M>,
+) -> (WirePass<F, C, M>, Next)
+    requires pass { IsWirePass wire.now.lock pass }
+    requires conductor { (knows pass).owner ≡ 0 }
+    requires ticks { tick_count (knows pass).own ≡ ticks }
+    requires few { ticks ≤ limits.ticks }
+    ensures pass { IsWirePass wire.now.lock result.0 }
+    ensures next { Follows M.tells limits result.1 shares.now (knows pass) (knows result.0) }
+{
+    if let Some(reason) = ended_by_nodes(shares) {
+        return (pass, Next::End(reason));
+    }
+    let (pass, seen) = wire.look(rt, pass);
+    if seen.sent >= limits.messages {
+        return (pass, Next::End(Reason::Enough));
+    }
+    if !seen.idle {
+        return (pass, Next::Round);
+    }
+    if ticks >= limits.ticks {
+        return (pass, Next::End(Reason::RunOut));
+    }
+    let (pass, ticked) = wire.tick(rt, pass);
+    match ticked {
+        Ok(Some(_)) => (pass, Next::Ticked),
+        Ok(None) => (pass, Next::Round),
+        Err(_) => (pass, Next::End(Reason::Wanting)),
+    }
+}
+
+// A round, in which each node has a turn. The conductor meets them all, and again where it ticked.
+fn go_round<
+    F: Fates + Drop + Send,
+    C: Clock + Drop + Send,
+    M: Medium + Drop + Send,
+    R: Threads + Wait + Sync,
+>(
+    rt: &R,
+    wire: &SharedWire<F, C, M>,
+    limits: Limits,
+    ticks: u64,
+    shares: Vec<Vec<RunNode<F, C, M>>>,
+    pass: WirePass<F, C, M>,
+) -> (Vec<Vec<RunNode<F, C, M>>>, WirePass<F, C, M>, Next)
+    requires ready { EachNode (IsReady wire.now.lock) shares.items }
+    requires pass { IsWirePass wire.now.lock pass }
+    requires conductor { (knows pass).owner ≡ 0 }
+    requires ticks { tick_count (knows pass).own ≡ ticks }
+    requires few { ticks ≤ limits.ticks }
+    ensures passes { EachNode (HasPass wire.now.lock) result.0.items × IsWirePass wire.now.lock result.1 }
+    ensures went { EachPlace (GoesOn M.tells M.faults M.reads) shares.items result.0.items }
+    ensures all { EachNode (HasAllOf (knows result.1).story) result.0.items }
+    ensures next { Follows M.tells limits result.2 result.0.items (knows pass) (knows result.1) }
+{
+    let mut shares = round(rt, wire, shares);
+    let mut pass = pass;
+    meet_all(wire, &mut shares, &mut pass);
+    let (mut pass, next) = asked(rt, wire, limits, ticks, shares.as_slice(), pass);
+    if let Next::Ticked = next {
+        meet_all(wire, &mut shares, &mut pass);
+        return (shares, pass, next);
+    }
+    (shares, pass, next)
+}
+
+/// Gives the nodes their turns, round by round, until the run has ended. The pass is the conductor's,
+/// which has made no Tick yet.
+pub fn go_on<
+    F: Fates + Drop + Send,
+    C: Clock + Drop + Send,
+    M: Medium + Drop + Send,
+    R: Threads + Wait + Sync,
+>(
+    rt: &R,
+    wire: &SharedWire<F, C, M>,
+    limits: Limits,
+    shares: Vec<Vec<RunNode<F, C, M>>>,
+    pass: WirePass<F, C, M>,
+) -> (Vec<Vec<RunNode<F, C, M>>>, WirePass<F, C, M>, Reason)
+    requires ready { EachNode (IsReady wire.now.lock) shares.items }
+    requires pass { IsWirePass wire.now.lock pass }
+    requires conductor { (knows pass).owner ≡ 0 }
+    requires ticks { tick_count (knows pass).own ≡ 0 }
+    ensures passes { EachNode (HasPass wire.now.lock) result.0.items × IsWirePass wire.now.lock result.1 }
+    ensures went { EachPlace (GoesOn M.tells M.faults M.reads) shares.items result.0.items }
+    ensures all { EachNode (HasAllOf (knows result.1).story) result.0.items }
+    ensures conductor { (knows result.1).owner ≡ 0 }
+    ensures ticks { tick_count (knows result.1).own ≤ limits.ticks }
+    ensures reason { EndsFor M.tells limits result.2 result.0.items (knows result.1) }
+{
+    let mut shares = shares;
+    let mut pass = pass;
+    let mut ticks = 0;
+    for _ in rt.forever() {
+        let (nodes, conductor, next) = go_round(rt, wire, limits, ticks, shares, pass);
+        shares = nodes;
+        pass = conductor;
+        match next {
+            Next::End(reason) => return (shares, pass, reason),
+            Next::Round => {}
+            Next::Ticked => ticks += 1,
+        }
+    }
+    unreachable!()
+}

@@ -1,0 +1,6 @@
+/// A node of one of the two kinds.
+#[derive(Drop)]
+pub enum AnyNode<R, B> {
+    Repository(R),
+    Broker(B),
+}

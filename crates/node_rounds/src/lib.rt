@@ -1,0 +1,16 @@
+//! Nodes of either kind go in rounds, on several threads, until the run has ended.
+#![tactic(auto)]
+
+mod conductors;
+mod kinds;
+mod limits;
+mod meetings;
+mod nodes;
+mod reasons;
+mod turns;
+
+pub use conductors::go_on;
+pub use kinds::AnyNode;
+pub use limits::Limits;
+pub use nodes::RunNode;
+pub use reasons::Reason;

@@ -1,0 +1,100 @@
+//! A node of a run, of either kind.
+ghost use Rattle.std.specs.Prelude.{◌≡◌, IsTrue};
+ghost use Rattle.seat_lock.specs.Words.{knows};
+ghost use Rattle.wire_lock.specs.Sights.{IsWirePass, Looked};
+ghost use Rattle.node_turn.specs.Nodes.{MeetsWith, sight};
+ghost use Rattle.node_rounds.specs.Reasons.{is_done_at};
+
+use crate::kinds::AnyNode;
+use crate::turns::Turns;
+use broker_node::{BrokerNode, is_done};
+use medium_port::Medium;
+use node_turn::Condition;
+use repository_node::RepositoryNode;
+use std::marker::Model;
+use std::sync::Wait;
+use stream_port::{Clock, Fates};
+use wire_lock::{SharedWire, WirePass};
+
+/// A node of a run, of either kind. Contracts see its name, how it stands, its pass and its medium.
+#[derive(Drop)]
+pub struct RunNode<F: Fates, C: Clock, M: Medium> {
+    pub kind: AnyNode<RepositoryNode<F, C, M>, BrokerNode<F, C, M>>,
+}
+
+impl<F: Fates, C: Clock, M: Medium> Model for RunNode<F, C, M> {
+    ghost use Rattle.std.specs.Coded.{codes};
+    ghost use Rattle.value_form.specs.contracts.scripts.Stmt as stmt;
+    ghost use Rattle.node_turn.specs.Nodes.{NodeParts};
+    ghost use Rattle.node_rounds.specs.Kinds.{parts_of, IsOfKind};
+
+    ghost Value = { NodeParts M };
+
+    ghost coded = { Prim.hlevel (codes, stmt.the_row.coded) };
+
+    ghost view = { λ n. parts_of n.kind };
+
+    ghost invariant = { λ n. IsOfKind n.kind };
+}
+
+impl<F: Fates, C: Clock, M: Medium> RunNode<F, C, M> {
+    /// How it stands.
+    pub fn condition(&self) -> Condition
+        ensures { result ≡ self.now.condition }
+    {
+        match &self.kind {
+            AnyNode::Repository(node) => node.condition(),
+            AnyNode::Broker(node) => node.condition(),
+        }
+    }
+
+    /// Its pass meets another.
+    pub fn meet(&mut self, wire: &SharedWire<F, C, M>, other: &mut WirePass<F, C, M>)
+        requires pass { IsWirePass wire.now.lock self.old.pass × IsWirePass wire.now.lock other.old }
+        ensures pass { IsWirePass wire.now.lock self.new.pass × IsWirePass wire.now.lock other.new }
+        ensures met { MeetsWith (knows other.old) self.old self.new }
+        ensures other { Looked (knows other.old) (knows other.new) × ((knows other.new).story ≡ (sight self.new).story) }
+    {
+        match &mut self.kind {
+            AnyNode::Repository(node) => node.meet(wire, other),
+            AnyNode::Broker(node) => node.meet(wire, other),
+        }
+    }
+
+    /// Whether nothing keeps the run from ending: a repository is always done; a broker where each of
+    /// its acts has its outcome and no request is outstanding. Takes no memory.
+    pub fn is_done(&self) -> bool
+        ensures { IsTrue M.tells → self.now.condition ≡ Condition.AtWork → result ≡ is_done_at (sight self.now) self.now.node }
+    {
+        match &self.kind {
+            AnyNode::Repository(_) => true,
+            AnyNode::Broker(node) => is_done(node),
+        }
+    }
+}
+
+impl<F: Fates, C: Clock, M: Medium> Turns<SharedWire<F, C, M>> for RunNode<F, C, M> {
+    ghost use Rattle.node_rounds.specs.Nodes.{IsReady, HadTurn};
+
+    ghost ready = { λ wire n. IsReady wire.lock n };
+
+    ghost does = { λ wire old new. HadTurn wire.lock M.tells M.faults M.reads old new };
+
+    fn take_turn<R: Wait>(self, rt: &R, shared: &SharedWire<F, C, M>) -> RunNode<F, C, M> {
+        let RunNode { kind } = self;
+        match kind {
+            AnyNode::Repository(node) => {
+                let (node, _) = node.turn(rt, shared);
+                RunNode {
+                    kind: AnyNode::Repository(node),
+                }
+            }
+            AnyNode::Broker(node) => {
+                let (node, _) = node.turn(rt, shared);
+                RunNode {
+                    kind: AnyNode::Broker(node),
+                }
+            }
+        }
+    }
+}
