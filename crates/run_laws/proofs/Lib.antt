@@ -1,2 +1,3 @@
+pub mod ReasonRuns
 pub mod SameRuns
 pub mod SerialRuns

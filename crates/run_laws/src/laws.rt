@@ -6,8 +6,9 @@ ghost use Rattle.plan_form.specs.PlanTexts.{IsOfLanguage};
 ghost use Rattle.world_core.specs.declared.traces.Trace.{Trace};
 ghost use Rattle.world_core.specs.Readings.{IsLegal};
 ghost use Rattle.run_laws.specs.Serials.{HoldsFinals, IsSerialOver};
+ghost use Rattle.run_laws.specs.Reasons.{HaveReasons};
 
-use serial_law::{law_finals, law_serial};
+use serial_law::{law_causes, law_facts, law_finals, law_serial};
 
 /// Every attempt of a run reads, writes and ends as its script does alone, after the committed deeds before
 /// its stamp (Bernstein et al. 1987, chapter 5): of each legal trace of a plan of the language, whatever
@@ -24,4 +25,14 @@ pub fn law_of_finals()
     ensures { (plan : Plan) (asked : List Asked) (t : Trace) → IsOfLanguage plan → IsLegal plan asked t → HoldsFinals plan t }
 {
     law_finals();
+}
+
+/// Each End of an attempt of the run has its cause: a decision at its home, the end that its script came
+/// to, or a read or version above the write that was refused, which its repository answered so, in this
+/// run or in an earlier one.
+pub fn law_of_reasons()
+    ensures { (plan : Plan) (asked : List Asked) (t : Trace) → IsOfLanguage plan → IsLegal plan asked t → HaveReasons plan t }
+{
+    law_facts();
+    law_causes();
 }

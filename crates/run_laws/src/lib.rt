@@ -4,4 +4,4 @@
 
 mod laws;
 
-pub use laws::{law_of_finals, law_of_serial_runs};
+pub use laws::{law_of_finals, law_of_reasons, law_of_serial_runs};

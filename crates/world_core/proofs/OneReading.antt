@@ -72,14 +72,22 @@ module _ (all : List ActSpec) (ps : Every IsAct all) where
     },
   )
 
--- Logs that earlier runs left, each legal by its own plan, have a past by one reading, by which the trace is legal too.
-pub one-reading : (plan : Plan) (asked : List Asked) (t : Trace) (logs : NodeId → List Effect) → IsOfLanguage plan → IsLegal plan asked t → WereLeft logs →
-    (script : List ℕ → Tree) × HasPast script logs × Legal script plan asked t
-one-reading plan asked t logs w l left =
+-- Runs that are legal each by its own plan, and a trace over what they left, are legal by one reading.
+pub common-reading : (plan : Plan) (asked : List Asked) (t : Trace) (logs : NodeId → List Effect) → IsOfLanguage plan → IsLegal plan asked t → (left : WereLeft logs) →
+    (script : List ℕ → Tree) × AreCalls script left.0 × ((n : NodeId) → logs n ≡ logs_after script left.0 n) × Legal script plan asked t
+common-reading plan asked t logs w l left =
     let all = plan.acts ++ acts_in left.0 in
     let ps = every-append IsAct plan.acts (acts_in left.0) (plan-acts plan w) (all-acts left.0 left.1) in
     let within : (a : ActSpec) → Has a (acts_in left.0) → Has a all = λ a k. has-right plan.acts (acts_in left.0) a k in (
       reading all,
-      (left.0, are-calls all ps left.0 left.1 within, λ n. left.2 n ∙ logs-same all ps left.0 left.1 within n),
+      are-calls all ps left.0 left.1 within,
+      (λ n. left.2 n ∙ logs-same all ps left.0 left.1 within n),
       legal-same (reading plan.acts) (reading all) plan (own-reading plan w) (reads-all all plan.acts ps (plan-acts plan w) (λ a k. has-left plan.acts (acts_in left.0) a k)) asked t l,
     )
+
+-- So the logs have a past by it.
+pub one-reading : (plan : Plan) (asked : List Asked) (t : Trace) (logs : NodeId → List Effect) → IsOfLanguage plan → IsLegal plan asked t → WereLeft logs →
+    (script : List ℕ → Tree) × HasPast script logs × Legal script plan asked t
+one-reading plan asked t logs w l left =
+    let r = common-reading plan asked t logs w l left in
+    (r.0, (left.0, r.1, r.2), r.3)
