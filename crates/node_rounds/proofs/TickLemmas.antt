@@ -1,18 +1,20 @@
 -- What the conductor has seen, over looks and Ticks.
-use Rattle.std.proofs.Common.{◌≡◌, ◌+◌, ℕ, Bool, List, [], ◌∷◌, ◌++◌, refl, ap, sym, subst, ◌∙◌, arith}
+use Rattle.std.proofs.Common.{◌≡◌, ◌+◌, ◌<◌, ℕ, Bool, List, [], ◌∷◌, ◌++◌, inr, refl, ap, sym, subst, ◌∙◌, arith}
 use Rattle.std.specs.Prelude.{cond}
 use Rattle.std.proofs.lemmas.List.{append-nil}
 use Rattle.std.proofs.lemmas.List.Sums.{sum_by-append}
 use Rattle.seat_lock.specs.Story.{Begins}
 use Rattle.world_core.specs.declared.entries.Entry.{Entry}
 use Rattle.world_core.specs.declared.entries.Entry.TheVariants.{Tick}
-use Rattle.wire_lock.specs.Sights.{Sight, Looked, Added}
+use Rattle.world_core.specs.Walks.{walk}
+use Rattle.wire_lock.specs.Sights.{Sight, AtRest, Looked, Added, base_at, world_at}
 use Rattle.trace_report.specs.Counts.{is_tick, tick_count}
 use Rattle.node_rounds.specs.declared.limits.Limits.{Limits}
+use Rattle.node_rounds.specs.declared.reasons.Reason.TheVariants as reason
 use Rattle.node_rounds.specs.declared.reasons.Next.{Next}
 use Rattle.node_rounds.specs.declared.reasons.Next.TheVariants as next
 use Rattle.node_rounds.specs.Nodes.{Shares, EachNode, EachPlace, HasMet, IsUp}
-use Rattle.node_rounds.specs.Reasons.{SeesMore, Follows, EndsFor}
+use Rattle.node_rounds.specs.Reasons.{SeesMore, SawRest, Follows}
 use Rattle.node_rounds.proofs.RoundLemmas.{begins-joins, looked-own, looked-owner}
 use Rattle.node_rounds.proofs.ShareLemmas.{each-through}
 
@@ -40,7 +42,18 @@ sees-joins m n a b c p q = record {
   ticked = omega (arith, p.ticked, q.ticked);
 }
 
+-- the conductor saw rest, and then looked once more
+pub saw-rest : (a b : Sight) → AtRest (world_at a) → Looked a b → SawRest b
+saw-rest a b rest p = (a.story, p.before.carries.begins, subst (λ (k : Sight). AtRest (walk (base_at k) a.story)) (sym p.kept) rest)
+
 module _ {M : Type 0} (tells : Bool) (limits : Limits) where
+  -- memory was wanting for a Tick
+  pub wants-tick : (a b c : Sight) (nodes : Shares M) → EachNode IsUp nodes → AtRest (world_at b) → Looked a b → Looked b c → tick_count a.own < limits.ticks → Follows tells limits (next.End reason.Wanting) nodes a c
+  wants-tick a b c nodes up rest p q few =
+      let m = ap tick_count (looked-own p) in
+      let n = ap tick_count (looked-own q) in
+      (inr (up, omega (arith, m, n, few), saw-rest b c rest q), sees-joins 0 0 a b c (sees-looked a b p) (sees-looked b c q))
+
   -- what follows, as seen from before a look
   pub follows-looked : (a b c : Sight) (what : Next) (nodes : Shares M) → Looked a b → Follows tells limits what nodes b c → Follows tells limits what nodes a c
   follows-looked a b c next.Round nodes p f = (f.0, sees-joins 0 0 a b c (sees-looked a b p) f.1)

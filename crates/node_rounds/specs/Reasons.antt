@@ -1,10 +1,11 @@
 -- Why no further round follows, and what follows a round.
-use Rattle.std.specs.Prelude.{◌≡◌, ◌≢◌, ℕ, ◌+◌, ◌≤◌, ◌<◌, Bool, true, List, length, Option, Some, None, IsTrue, if◌then◌else◌}
+use Rattle.std.specs.Prelude.{◌≡◌, ◌≢◌, ◌⊎◌, ℕ, ◌+◌, ◌≤◌, ◌<◌, Bool, true, List, length, Option, Some, None, IsTrue, if◌then◌else◌}
 use Rattle.pseudo_time.specs.declared.nodes.NodeId.{NodeId}
 use Rattle.pseudo_time.specs.declared.down_causes.DownCause.{DownCause}
 use Rattle.pseudo_time.specs.Nodes.{is_broker}
 use Rattle.seat_lock.specs.Story.{Begins}
-use Rattle.world_core.specs.Walks.{sent_by}
+use Rattle.world_core.specs.declared.entries.Entry.{Entry}
+use Rattle.world_core.specs.Walks.{sent_by, walk}
 use Rattle.wire_lock.specs.Sights.{Sight, AtRest, base_at, life_at, world_at}
 use Rattle.trace_report.specs.Counts.{tick_count}
 use Rattle.node_turn.specs.declared.conditions.Condition.TheVariants as condition
@@ -16,6 +17,10 @@ use Rattle.node_rounds.specs.declared.reasons.Reason.TheVariants as reason
 use Rattle.node_rounds.specs.declared.reasons.Next.{Next}
 use Rattle.node_rounds.specs.declared.reasons.Next.TheVariants as next
 use Rattle.node_rounds.specs.Nodes.{Shares, EachNode, SomeNode, IsUp}
+
+-- the conductor once saw that nothing was due
+abbrev pub SawRest : Sight → Type 0
+SawRest k = (seen : List Entry) × Begins seen k.story × AtRest (walk (base_at k) seen)
 
 -- ---- nodes
 
@@ -34,16 +39,20 @@ module _ {M : Type 0} where
   abbrev pub HasMemory : NodeParts M → Type 0
   HasMemory n = n.condition ≢ condition.Wanting
 
+  -- one of its turns didn't
+  abbrev pub WantsMemory : NodeParts M → Type 0
+  WantsMemory n = n.condition ≡ condition.Wanting
+
   -- ---- why no further round follows
 
   -- Of the nodes, and of what the conductor has seen: a node is down; all brokers are done; so many messages were sent that the run ends; or nothing is
-  -- due, and there were as many Ticks as there may be. Where memory was wanting nothing is said.
+  -- due, and there were as many Ticks as there may be. Or memory was wanting: in a turn of a node, or for a Tick that was due and could be made.
   abbrev pub EndsFor : Bool → Limits → Reason → Shares M → Sight → Type 0
   EndsFor tells limits reason.Down nodes k = EachNode HasMemory nodes × SomeNode IsDown nodes
   EndsFor tells limits reason.Done nodes k = EachNode IsUp nodes × (IsTrue tells → EachNode IsDone nodes)
   EndsFor tells limits reason.Enough nodes k = EachNode IsUp nodes × (IsTrue tells → limits.messages ≤ length (sent_by (world_at k)))
   EndsFor tells limits reason.RunOut nodes k = EachNode IsUp nodes × AtRest (world_at k) × (tick_count k.own ≡ limits.ticks)
-  EndsFor tells limits reason.Wanting nodes k = Unit {0}
+  EndsFor tells limits reason.Wanting nodes k = SomeNode WantsMemory nodes ⊎ (EachNode IsUp nodes × (tick_count k.own < limits.ticks) × SawRest k)
 
   -- what the nodes alone say: that the run ends, or that all are at work
   abbrev pub NodesSay : Bool → Option Reason → Shares M → Type 0
@@ -51,7 +60,7 @@ module _ {M : Type 0} where
   NodesSay tells (Some reason.Done) nodes = EachNode IsUp nodes × (IsTrue tells → EachNode IsDone nodes)
   NodesSay tells (Some reason.Enough) nodes = ⊥
   NodesSay tells (Some reason.RunOut) nodes = ⊥
-  NodesSay tells (Some reason.Wanting) nodes = Unit {0}
+  NodesSay tells (Some reason.Wanting) nodes = SomeNode WantsMemory nodes
   NodesSay tells None nodes = EachNode IsUp nodes
 
 -- ---- what follows a round
