@@ -1,5 +1,5 @@
 -- What the conductor has seen, over looks and Ticks.
-use Rattle.std.proofs.Common.{◌≡◌, ◌+◌, ◌<◌, ℕ, Bool, List, [], ◌∷◌, ◌++◌, inr, refl, ap, sym, subst, ◌∙◌, arith}
+use Rattle.std.proofs.Common.{◌≡◌, ◌+◌, ◌<◌, ℕ, Bool, true, false, not, IsTrue, List, [], ◌∷◌, ◌++◌, inr, refl, ap, sym, subst, ◌∙◌, arith}
 use Rattle.std.specs.Prelude.{cond}
 use Rattle.std.proofs.lemmas.List.{append-nil}
 use Rattle.std.proofs.lemmas.List.Sums.{sum_by-append}
@@ -41,6 +41,11 @@ sees-joins m n a b c p q = record {
   begins = begins-joins a.story b.story c.story p.begins q.begins;
   ticked = omega (arith, p.ticked, q.ticked);
 }
+
+-- what isn't false
+pub is-so : (b : Bool) → not b ≡ false → IsTrue b
+is-so true e = refl
+is-so false e = absurd cc
 
 -- the conductor saw rest, and then looked once more
 pub saw-rest : (a b : Sight) → AtRest (world_at a) → Looked a b → SawRest b
