@@ -710,14 +710,14 @@ fn logs_tell_reports(rt: HostRuntime) -> Result<(), Fail> {
                 let opened = run.opened(alloc)?;
                 let trace = run.trace(alloc)?;
                 let told = report_by(alloc, &plan, opened.as_slice(), &trace)?;
-                assert_eq!(rt; told.as_slice(), text.as_bytes());
+                assert_eq!(rt; told.text.as_slice(), text.as_bytes());
             }
             Step::Sums(text) => {
                 let plan = plan_of(alloc, run.plan)?;
                 let opened = run.opened(alloc)?;
                 let trace = run.trace(alloc)?;
                 let told = summary_by(alloc, 7, &plan, opened.as_slice(), &trace)?;
-                assert_eq!(rt; told.as_slice(), text.as_bytes());
+                assert_eq!(rt; told.text.as_slice(), text.as_bytes());
             }
             step => run.read(alloc, step)?,
         }

@@ -93,13 +93,15 @@ fn traces_tell_reports(rt: HostRuntime) -> Result<(), Fail> {
     };
     let told = report(alloc, &plan, &trace)?;
     assert_eq!(rt;
-        told.as_slice(),
+        told.text.as_slice(),
         b"swallow report 1\nrun 1\nact 1 broker 1 home 1\ntry 1.1.1 open\ntotals acts 1 committed 0 withdrawn 0 failed 0 refused 0 expired 0 spent 0 open 1\nwire messages 1 asks 0 ticks 0 crashes 0\n".as_slice()
     );
+    assert_eq!(rt; told.unfinished, 1);
     let told = summary(alloc, 7, &plan, &trace)?;
     assert_eq!(rt;
-        told.as_slice(),
+        told.text.as_slice(),
         b"swallow load 7 0\nacts 1 open 1\nsum none\n".as_slice()
     );
+    assert_eq!(rt; told.unfinished, 1);
     Ok(())
 }

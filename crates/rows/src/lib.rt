@@ -1,7 +1,7 @@
-//! Worked runs of the top call: words, plans, media and the reports that they give.
+//! Worked runs of the top call: words, plans, fates and stops, and the reports that they give.
 #![tactic(auto)]
 
 #[cfg(test)]
-mod stored;
+mod calls;
 #[cfg(test)]
-mod top;
+mod rows;

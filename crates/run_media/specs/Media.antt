@@ -1,8 +1,6 @@
 -- Media, and what is handed back of them.
-use Rattle.std.specs.Prelude.{◌≡◌, ◌⊎◌, ℕ, Bool, false, IsTrue, List, ◌++◌, Option, Some, None, Ok}
+use Rattle.std.specs.Prelude.{◌≡◌, ℕ, Bool, false, IsTrue, List, Option, Some, None}
 use Rattle.medium_port.specs.Image.{Image, NoMore}
-use Rattle.effect_form.specs.declared.effects.Effect.{Effect}
-use Rattle.version_store.specs.Storage.{storage}
 use Rattle.std.specs.List.{AllZip}
 
 -- of media of one type: whether they tell their content, what reads give, what a crash may leave, how many pages there are, how often one failed, whether it
@@ -48,14 +46,3 @@ module _ {M : Type 0} (w : Media M) where
   IsLeftAlone None (Some new) = ⊥
   IsLeftAlone (Some old) None = ⊥
   IsLeftAlone (Some old) (Some new) = IsUntouched old new
-
-  -- a crash leaves the log that it had, with more behind it
-  abbrev pub HasItsLog : M → M → Type 0
-  HasItsLog old new = IsTrue w.tells → (log : List Effect) → storage (w.reads old) ≡ Ok log → (c : Image) → w.may_leave new c → (more : List Effect) × (storage c ≡ Ok (log ++ more))
-
-  -- a medium in its place that wasn't written to, or that has its log
-  abbrev pub IsKeptWhole : Option M → Option M → Type 0
-  IsKeptWhole None None = Unit {0}
-  IsKeptWhole None (Some new) = ⊥
-  IsKeptWhole (Some old) None = ⊥
-  IsKeptWhole (Some old) (Some new) = IsUntouched old new ⊎ HasItsLog old new

@@ -8,7 +8,7 @@ mod places;
 mod refusals;
 
 pub use logs::opened_nodes;
-pub use media::{are_open, give_back, open_all};
+pub use media::{are_open, give_back, open_all, open_one};
 pub use openings::{Opening, Refusal};
 pub use places::{node_at, node_count, own_acts};
 pub use refusals::first_refusal;

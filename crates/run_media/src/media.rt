@@ -10,8 +10,8 @@ use pseudo_time::DownCause;
 use std::alloc::Global;
 use version_store::Store;
 
-// Opens a medium, unless it is missing.
-fn open_one<M: Medium>(alloc: Global, medium: Option<M>) -> Opening<M>
+/// Opens a medium, unless it is missing.
+pub fn open_one<M: Medium>(alloc: Global, medium: Option<M>) -> Opening<M>
     requires usable { IsUsable (media_with M.tells M.reads M.may_leave M.page_count M.faults M.is_failed) medium }
     ensures { HasOpened (media_with M.tells M.reads M.may_leave M.page_count M.faults M.is_failed) medium result }
 {

@@ -8,5 +8,5 @@ mod reports;
 mod shown;
 mod summaries;
 
-pub use reports::{report, report_by};
+pub use reports::{Reported, report, report_by};
 pub use summaries::{summary, summary_by};

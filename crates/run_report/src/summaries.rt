@@ -5,9 +5,10 @@ ghost use Rattle.trace_logs.specs.Replays.{IsOpened, IsOnce, IsMoment};
 ghost use Rattle.trace_report.specs.Reports as spec;
 ghost use Rattle.trace_report.specs.Reports.{logs_by};
 
+use crate::reports::{Reported, unfinished_of};
 use crate::shown::acts_of_plan;
 use plan_form::Plan;
-use report_writer::{ActReport, Standing, TryOutcome, count_of, push_downs, push_named};
+use report_writer::{ActReport, TryOutcome, push_downs, push_named};
 use std::alloc::{AllocError, Global};
 use trace_logs::logs;
 use trace_report::{begun_in, downs_of};
@@ -87,35 +88,40 @@ pub fn summary_by(
     plan: &Plan,
     logs: &[Opened],
     trace: &Trace,
-) -> Result<Bytes, AllocError>
+) -> Result<Reported, AllocError>
     requires { IsOfLanguage plan.now }
-    ensures { IfOk result (λ text. text ≡ spec.load_text_by seed plan.now (logs_by logs.now) trace.now) }
+    ensures text { IfOk result (λ r. r.text ≡ spec.load_text_by seed plan.now (logs_by logs.now) trace.now) }
+    ensures unfinished { IfOk result (λ r. r.unfinished ≡ spec.open_by plan.now (logs_by logs.now)) }
 {
     let begun = begun_in(alloc, plan, logs)?;
     let acts = acts_of_plan(alloc, plan, begun)?;
     let downs = downs_of(alloc, plan, trace)?;
     let sum = sum_of(alloc, acts.as_slice())?;
-    let unfinished = count_of(Standing::Open, acts.as_slice()) as u64;
+    let unfinished = unfinished_of(acts.as_slice());
     let count = plan.acts.as_slice().len() as u64;
     let mut out = Vec::new(alloc);
     push_load(alloc, &mut out, seed, count.saturating_sub(1))?;
     push_acts(alloc, &mut out, count, unfinished)?;
     push_sum(alloc, &mut out, &sum)?;
     push_downs(alloc, &mut out, downs.as_slice())?;
-    Ok(Bytes::of(out))
+    Ok(Reported {
+        text: Bytes::of(out),
+        unfinished,
+    })
 }
 
 /// The summary of a load from its trace alone: the logs are found first.
 ///
 /// Numbers of nodes are 1 to 16, no node is opened twice, the effects in the logs are in range, and no
 /// moment is above 2^63.
-pub fn summary(alloc: Global, seed: u64, plan: &Plan, trace: &Trace) -> Result<Bytes, AllocError>
+pub fn summary(alloc: Global, seed: u64, plan: &Plan, trace: &Trace) -> Result<Reported, AllocError>
     requires whole { IsOfLanguage plan.now }
     requires opened { Every IsOpened trace.now.opened }
     requires once { IsOnce trace.now.opened }
     requires start { trace.now.start ≤ 2 ^ 63 }
     requires moments { Every IsMoment trace.now.entries }
-    ensures { IfOk result (λ text. text ≡ spec.load_text seed plan.now trace.now) }
+    ensures text { IfOk result (λ r. r.text ≡ spec.load_text seed plan.now trace.now) }
+    ensures unfinished { IfOk result (λ r. r.unfinished ≡ spec.open_acts plan.now trace.now) }
 {
     let logs = logs(alloc, plan.run, plan.acts.as_slice(), trace)?;
     summary_by(alloc, seed, plan, logs.as_slice(), trace)

@@ -154,6 +154,7 @@ fn told(alloc: Global, count: u32, times: u32) -> Result<usize, Fault> {
     let mut bytes = 0;
     for _time in 0..times {
         bytes = report_by(alloc, &plan, logs.as_slice(), &trace)?
+            .text
             .as_slice()
             .len();
     }

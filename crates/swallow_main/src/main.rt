@@ -7,7 +7,7 @@ use std::fs::{self, File};
 use std::io::ErrorKind;
 use std::process::ExitCode;
 use std::{env, io};
-use stream_port::{ReadSource, WriteSink};
+use stream_port::{MemoryFates, ReadSource, SecondsClock, WriteSink};
 use swallow_top::swallow;
 
 /// The status where the report can't be written.
@@ -75,7 +75,16 @@ fn main(rt: HostRuntime) -> ExitCode {
     let Ok(mut shelf) = FileShelf::new(alloc, &rt, rt.stderr(), folder) else {
         return without_memory(rt);
     };
-    let ended = swallow(alloc, shown.as_slice(), &mut source, &mut sink, &mut shelf);
+    let ended = swallow(
+        &rt,
+        alloc,
+        shown.as_slice(),
+        &mut source,
+        &mut sink,
+        &mut shelf,
+        MemoryFates::new(alloc, Vec::new(alloc)),
+        SecondsClock::new(&rt),
+    );
     if ended.status == NO_MEMORY {
         let _said = eprintln!(rt;
             "swallow: out of memory, so the report is missing; acts that were committed stand"

@@ -1,12 +1,17 @@
 -- What was read of an input says what the input is.
-use Rattle.std.proofs.Common.{ℕ, ◌≤◌, List, ◌++◌, length, None, Some, sym, ap, ◌∙◌, subst, arith, append-nil}
-use Rattle.std.specs.Prelude.{Option}
+use Rattle.std.proofs.Common.{ℕ, ◌≤◌, List, ◌++◌, length, None, Some, Ok, Err, sym, ap, ◌∙◌, subst, arith, append-nil}
+use Rattle.std.specs.Prelude.{Option, Result}
 use Rattle.std.specs.Io.KnownBytes.{Consumes, IsAtEnd}
 use Rattle.std.proofs.lemmas.List.{length-append}
 use Rattle.plan_form.specs.declared.plan_faults.PlanKind.{PlanKind}
 use Rattle.plan_form.specs.declared.plan_faults.PlanKind.TheVariants as kind
 use Rattle.plan_form.specs.PlanFaults.{IsPlanFault}
+use Rattle.plan_form.specs.declared.plans.Plan.{Plan}
+use Rattle.plan_form.specs.Plans.{IsPlan}
+use Rattle.swallow_top.specs.declared.stops.Stop.{Stop}
+use Rattle.swallow_top.specs.declared.stops.Stop.TheVariants as stop
 use Rattle.swallow_top.specs.Inputs.{OfInput}
+use Rattle.swallow_top.specs.Plans.{IsReadAs, ReadsPlan}
 
 -- all of the input was read
 pub of_whole : (left new : Option (List ℕ)) (bytes : List ℕ) (P : List ℕ → Type 0) → Consumes left new bytes → IsAtEnd new → P bytes → OfInput left P
@@ -32,7 +37,21 @@ of_fault left new bytes line kind.Acts read ended h = of_whole left new bytes (�
 of_fault left new bytes line (kind.Script s) read ended h = of_whole left new bytes (λ input. IsPlanFault input line (kind.Script s)) read (ended h.0) h
 of_fault left new bytes line kind.End read ended h = of_whole left new bytes (λ input. IsPlanFault input line kind.End) read (ended h.0) h
 
+-- what the bytes are is what the input is
+pub reads-plan : (left new : Option (List ℕ)) (before after : ℕ) (bytes : List ℕ) (r : Result Plan Stop) → Consumes left new bytes → (length bytes ≤ 4194304 → IsAtEnd new) → IsReadAs bytes r → ReadsPlan left new before after r
+reads-plan left new before after bytes (Ok plan) read ended h = (of_whole left new bytes (λ input. IsPlan input plan) read (ended h.0) h, ended h.0)
+reads-plan left new before after bytes (Err (stop.Fault line what)) read ended h = of_fault left new bytes line what read ended h
+reads-plan left new before after bytes (Err stop.NoMemory) read ended h = tt
+reads-plan left new before after bytes (Err stop.Source) read ended h = absurd h
+reads-plan left new before after bytes (Err stop.Words) read ended h = absurd h
+reads-plan left new before after bytes (Err stop.Sink) read ended h = absurd h
+
 -- what holds of the input with something more
 pub of_input-with : (left : Option (List ℕ)) (P Q : List ℕ → Type 0) → ((input : List ℕ) → P input → Q input) → OfInput left P → OfInput left Q
 of_input-with None P Q f h = (h.0, f h.0 h.1)
 of_input-with (Some input) P Q f h = f input h
+
+-- and what doesn't depend on it
+pub of_input-all : (left : Option (List ℕ)) (P : List ℕ → Type 0) (Q : Type 0) → ((input : List ℕ) → P input → Q) → OfInput left P → Q
+of_input-all None P Q f h = f h.0 h.1
+of_input-all (Some input) P Q f h = f input h

@@ -1,5 +1,7 @@
-pub mod ActLemmas
+pub mod HistoryLemmas
 pub mod InputLemmas
+pub mod PromiseLemmas
+pub mod RunLemmas
+pub mod ShelfLemmas
 pub mod StreamLemmas
 pub mod TopLemmas
-pub mod ShelfLemmas

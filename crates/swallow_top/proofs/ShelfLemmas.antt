@@ -1,127 +1,225 @@
--- What is said of a medium, said of its place on the shelf.
-use Rattle.std.proofs.Common.{◌≡◌, ℕ, Bool, IsTrue, List, [], ◌∷◌, ◌++◌, map, refl, ap, ◌∙◌, sym, subst, Ok, Option, Some, None, ◌⊎◌, inl, inr}
-use Rattle.std.specs.FinMap as finite
-use Rattle.stream_port.specs.Causes.{Rose}
-use Rattle.medium_port.specs.Image.{Image}
-use Rattle.medium_port.specs.Names.{IsJustSo}
-use Rattle.value_form.specs.declared.acts.ActSpec.{ActSpec}
-use Rattle.value_form.specs.Objects.{Objects}
+-- Media that are taken one after another, and handed back under their names.
+use Rattle.std.proofs.Common.{◌≡◌, ◌≢◌, ◌↔◌, ◌⊎◌, ◌≤◌, ◌<◌, ◌+◌, ◌==◌, inl, inr, ℕ, zero, suc, Bool, true, false, cond, IsTrue, List, [], ◌∷◌, ◌++◌, length, length-append, append-nil, append_assoc, Option, Some, None, Ok, slice_get, refl, ap, sym, subst, ◌∙◌, arith}
+use Rattle.std.specs.Prelude.{All}
+use Rattle.std.specs.List.{AllZip, count_by}
+use Rattle.std.proofs.lemmas.Bool.Decides.{nat_tests}
+use Rattle.std.proofs.lemmas.List.Sums.{sum_by-append}
+use Rattle.std.proofs.lemmas.List.Elements.{All-nil, All-cons}
+use Rattle.pseudo_time.specs.Lists.{Every, Has}
+use Rattle.pseudo_time.specs.declared.nodes.NodeId.{NodeId}
+use Rattle.pseudo_time.specs.declared.nodes.NodeKind.{NodeKind}
+use Rattle.pseudo_time.specs.declared.nodes.NodeKind.TheVariants.{Repository, Broker}
+use Rattle.stream_port.specs.Causes.{Rose, RoseBy, rises_add, rise_stays, rose_by_none}
 use Rattle.effect_form.specs.declared.effects.Effect.{Effect}
-use Rattle.report_writer.specs.declared.records.ActReport.{ActReport}
-use Rattle.plan_form.specs.declared.plans.Plan.{Plan}
-use Rattle.pseudo_time.specs.declared.down_causes.DownCause.{DownCause}
-use Rattle.pseudo_time.specs.declared.down_causes.DownCause.TheVariants as down
-use Rattle.report_writer.specs.Reports.{report_text}
+use Rattle.medium_port.specs.Image.{Image, NoMore}
+use Rattle.medium_port.specs.Names.{IsJustSo}
+use Rattle.medium_port.specs.declared.shelves.MediumName.{MediumName}
 use Rattle.version_store.specs.Storage.{storage}
-use Rattle.stored_run.specs.Ends.{CameTo, HasCauseIfAny, IsKept, WasCarriedOut, StoppedBefore, StoppedIn, NeverOpened}
-use Rattle.stored_run.specs.Media.{HasFront}
-use Rattle.stored_run.specs.Runs.{effects_over, untried}
-use Rattle.swallow_top.specs.Runs.{repository, report_with}
-use Rattle.swallow_top.specs.Shelves.{LosesNothing, AllLoseNothing, CameOver, IsTextOf}
+use Rattle.plan_form.specs.declared.plans.Plan.{Plan}
+use Rattle.run_media.specs.Media.{Media, AreBack, IsBack, IsLeftAlone, IsUsable, IsUntouched}
+use Rattle.run_media.specs.Places.{kind_place, node_at, place_of}
+use Rattle.run_media.proofs.OrderLemmas.{place-at}
+use Rattle.run_rounds.specs.Finishes.{IsKeptWhole, HasItsLog}
 use Rattle.swallow_top.specs.declared.media.Kept.{Kept}
+use Rattle.swallow_top.specs.Contract.{AllKept, LosesNothing}
+use Rattle.swallow_top.specs.Shelves.{ShelfSight, IsLeft, IsTaken, TakesOne, AreTaken, WereTaken, is_missing, kept_from, kept_of, medium_name}
 
--- on the shelf the medium was as it is read: it holds had, and may hold what is before
-module _ (tells : Bool) (had was : Image) (before now : Image → Type 0) (just : IsTrue tells → IsJustSo had was before now) where
-  carried_out : (left : Image → Type 0) (acts : List ActSpec) (reports : List ActReport) (objects : Objects) → WasCarriedOut tells was left acts reports objects → WasCarriedOut tells had left acts reports objects
-  carried_out left acts reports objects w = record {
-    log = w.log;
-    is_log = λ told. ap storage (sym (just told).reads_same) ∙ w.is_log told;
-    reports_are = w.reports_are;
-    objects_are = w.objects_are;
-    restores = w.restores;
-    images = w.images;
+-- ---- names
+
+nat-same : (a b : ℕ) → (a ≡ b) ⊎ (a ≢ b)
+nat-same a b = by (a == b) refl
+  where
+    by : (t : Bool) → (a == b) ≡ t → (a ≡ b) ⊎ (a ≢ b)
+    by true e = inl (grind (arith, nat_tests))
+    by false e = inr (λ same. absurd (grind (arith, nat_tests)))
+
+kind-same : (a b : NodeKind) → (a ≡ b) ⊎ (a ≢ b)
+kind-same Repository Repository = inl refl
+kind-same Repository Broker = inr (λ e. absurd (cc e))
+kind-same Broker Repository = inr (λ e. absurd (cc e))
+kind-same Broker Broker = inl refl
+
+pub name-same : (a b : MediumName) → (a ≡ b) ⊎ (a ≢ b)
+name-same a b = by (kind-same a.kind b.kind) (nat-same a.number b.number) (nat-same a.volume b.volume)
+  where
+    by : (a.kind ≡ b.kind) ⊎ (a.kind ≢ b.kind) → (a.number ≡ b.number) ⊎ (a.number ≢ b.number) → (a.volume ≡ b.volume) ⊎ (a.volume ≢ b.volume) → (a ≡ b) ⊎ (a ≢ b)
+    by (inl k) (inl n) (inl v) = inl (λ i. record { kind = k i; number = n i; volume = v i })
+    by (inl k) (inl n) (inr v) = inr (λ e. v (ap (λ (x : MediumName). x.volume) e))
+    by (inl k) (inr n) v = inr (λ e. n (ap (λ (x : MediumName). x.number) e))
+    by (inr k) n v = inr (λ e. k (ap (λ (x : MediumName). x.kind) e))
+
+-- nodes in two places have media of two names
+pub apart : (plan : Plan) (i j : ℕ) → i < j → medium_name (node_at plan j) ≢ medium_name (node_at plan i)
+apart plan i j lt e =
+    let same : j ≡ i = sym (place-at plan j) ∙ (ap (λ (x : MediumName). kind_place plan x.kind x.number) e ∙ place-at plan i) in
+    absurd (omega (arith, same, lt))
+
+-- ---- what stays
+
+just-joined : (had mid now : Image) (before between after : Image → Type 0) → IsJustSo had mid before between → IsJustSo mid now between after → IsJustSo had now before after
+just-joined had mid now before between after p q = record { reads_same = q.reads_same ∙ p.reads_same; no_more = λ c h. p.no_more c (q.no_more c h); no_fewer = λ c h. q.no_fewer c (p.no_fewer c h) }
+
+pub left-same : (tells : Bool) (a : ShelfSight) (name : MediumName) → IsLeft tells a a name
+left-same tells a name = record { taken = (λ x. x, λ x. x); count = refl; content = λ t. record { reads_same = refl; no_more = λ c h. h; no_fewer = λ c h. h } }
+
+left-joined : (tells : Bool) (a b c : ShelfSight) (name : MediumName) → IsLeft tells a b name → IsLeft tells b c name → IsLeft tells a c name
+left-joined tells a b c name p q = record {
+  taken = (λ x. p.taken.0 (q.taken.0 x), λ x. q.taken.1 (p.taken.1 x));
+  count = q.count ∙ p.count;
+  content = λ t. just-joined (a.holds name) (b.holds name) (c.holds name) (a.may_hold name) (b.may_hold name) (c.may_hold name) (p.content t) (q.content t);
+}
+
+-- ---- places in a list
+
+get-front : {A : Type 0} (xs ys : List A) (i : ℕ) (x : A) → slice_get xs i ≡ Some x → slice_get (xs ++ ys) i ≡ Some x
+get-front [] ys i x e = absurd cc
+get-front (y ∷ xs) ys zero x e = e
+get-front (y ∷ xs) ys (suc i) x e = get-front xs ys i x e
+
+get-last : {A : Type 0} (xs : List A) (x : A) → slice_get (xs ++ x ∷ []) (length xs) ≡ Some x
+get-last [] x = refl
+get-last (y ∷ xs) x = get-last xs x
+
+one-longer : {A : Type 0} (xs : List A) (x : A) → length (xs ++ x ∷ []) ≡ suc (length xs)
+one-longer xs x = let e = length-append xs (x ∷ []) in omega (arith, e)
+
+module _ {M : Type 0} (w : Media M) where
+  -- ---- taken one after another
+
+  taken-left : (a b : ShelfSight) (n : NodeId) (m : M) → IsLeft w.tells a b (medium_name n) → IsTaken w b n m → IsTaken w a n m
+  taken-left a b n m l k = record {
+    content = λ t. just-joined (a.holds (medium_name n)) (b.holds (medium_name n)) (w.reads m) (a.may_hold (medium_name n)) (b.may_hold (medium_name n)) (w.may_leave m) (l.content t) (k.content t);
+    count = k.count ∙ l.count;
+    sound = k.sound;
+    first = λ x. k.first (l.taken.1 x);
   }
 
-  stopped_before : (left : Image → Type 0) (cause : DownCause) (acts : List ActSpec) (reports : List ActReport) (objects : Objects) → StoppedBefore tells was left cause acts reports objects → StoppedBefore tells had left cause acts reports objects
-  stopped_before left cause acts reports objects w = record {
-    fault = w.fault;
-    is_cause = w.is_cause;
-    log = w.log;
-    is_log = λ told. ap storage (sym (just told).reads_same) ∙ w.is_log told;
-    reports_are = w.reports_are;
-    objects_are = w.objects_are;
-    among = w.among;
-  }
+  are-more : (a : ShelfSight) (plan : Plan) (i : ℕ) (xs : List (Option M)) (m : Option M) → AreTaken w a plan i xs → AreTaken w a plan (i + length xs) (m ∷ []) → AreTaken w a plan i (xs ++ m ∷ [])
+  are-more a plan i [] m p q = subst (λ k. AreTaken w a plan k (m ∷ [])) (omega arith) q
+  are-more a plan i (None ∷ xs) m p q = are-more a plan (suc i) xs m p (subst (λ k. AreTaken w a plan k (m ∷ [])) (omega arith) q)
+  are-more a plan i (Some x ∷ xs) m p q = (p.0, are-more a plan (suc i) xs m p.1 (subst (λ k. AreTaken w a plan k (m ∷ [])) (omega arith) q))
 
-  stopped_in : (left : Image → Type 0) (cause : DownCause) (acts : List ActSpec) (reports : List ActReport) (objects : Objects) → StoppedIn tells was left cause acts reports objects → StoppedIn tells had left cause acts reports objects
-  stopped_in left cause acts reports objects w = record {
-    fault = w.fault;
-    is_cause = w.is_cause;
-    log = w.log;
-    is_log = λ told. ap storage (sym (just told).reads_same) ∙ w.is_log told;
-    before = w.before;
-    act = w.act;
-    behind = w.behind;
-    are = w.are;
-    clock = w.clock;
-    is_next = w.is_next;
-    lines = w.lines;
-    broken_off = w.broken_off;
-    reports_are = w.reports_are;
-    objects_are = w.objects_are;
-  }
+  count-more : (xs : List (Option M)) (m : Option M) → count_by is_missing (xs ++ m ∷ []) ≡ count_by is_missing xs + count_by is_missing (m ∷ [])
+  count-more xs m = sum_by-append (λ x. cond (is_missing x) 1 0) xs (m ∷ [])
 
-  never_opened : (left : Image → Type 0) (cause : DownCause) (acts : List ActSpec) (reports : List ActReport) (objects : Objects) → NeverOpened tells now left cause acts reports objects → NeverOpened tells before left cause acts reports objects
-  never_opened left cause acts reports objects w = record {
-    fault = w.fault;
-    is_cause = w.is_cause;
-    reports_are = w.reports_are;
-    objects_are = w.objects_are;
-    images = λ told i there. (just told).no_more i (w.images told i there);
-  }
+  -- none was taken yet
+  pub taken-none : (a : ShelfSight) (plan : Plan) (xs : List (Option M)) → xs ≡ [] → WereTaken w a a plan xs
+  taken-none a plan xs none = subst (WereTaken w a a plan) (sym none) (record {
+    are = tt;
+    missing = rose_by_none a.faults a.faults (omega arith);
+    back = λ name is was. absurd (was is);
+    others = λ name far. left-same w.tells a name;
+  })
 
-  pub came-on-shelf : (left : Image → Type 0) (cause : Option DownCause) (acts : List ActSpec) (reports : List ActReport) (objects : Objects) → CameTo tells was now left cause acts reports objects → CameTo tells had before left cause acts reports objects
-  came-on-shelf left None acts reports objects w = carried_out left acts reports objects w
-  came-on-shelf left (Some cause) acts reports objects (inl w) = inl (stopped_in left cause acts reports objects w)
-  came-on-shelf left (Some cause) acts reports objects (inr (inl w)) = inr (inl (stopped_before left cause acts reports objects w))
-  came-on-shelf left (Some cause) acts reports objects (inr (inr w)) = inr (inr (never_opened left cause acts reports objects w))
-
-  pub cause-on-shelf : (then : Image) (faults_before faults_now pages : ℕ) (cause : Option DownCause) → HasCauseIfAny tells was then faults_before faults_now pages cause → HasCauseIfAny tells had then faults_before faults_now pages cause
-  cause-on-shelf then faults_before faults_now pages None h = tt
-  cause-on-shelf then faults_before faults_now pages (Some cause) h = record {
-    failed = h.failed;
-    damaged = λ page is told. ap storage (sym (just told).reads_same) ∙ h.damaged page is told;
-    full = h.full;
-  }
-
-  pub loses-nothing : (left : Image → Type 0) (acts : List ActSpec) → IsKept tells was now left acts → LosesNothing tells had before left
-  loses-nothing left acts kept told i there = by (kept told i there)
+  -- and one more
+  pub taken-more : (a b c : ShelfSight) (plan : Plan) (xs : List (Option M)) (n : NodeId) (m : Option M) → n ≡ node_at plan (length xs) → WereTaken w a b plan xs → TakesOne w b c n m → WereTaken w a c plan (xs ++ m ∷ [])
+  taken-more a b c plan xs n m is p q = by m q
     where
-      by : now i ⊎ ((log : List Effect) × (storage was ≡ Ok log) × HasFront log (effects_over acts log) i) → before i ⊎ ((log more : List Effect) × (storage had ≡ Ok log) × (storage i ≡ Ok (log ++ more)))
-      by (inl might) = inl ((just told).no_more i might)
-      by (inr some) = inr (some.0, some.2.front, ap storage (sym (just told).reads_same) ∙ some.1, some.2.is)
+      longer : (x : Option M) → length (xs ++ x ∷ []) ≡ suc (length xs)
+      longer x = one-longer xs x
 
--- ---- what is handed back
+      there : (x : Option M) → AreTaken w a plan (length xs) (x ∷ []) → AreTaken w a plan (0 + length xs) (x ∷ [])
+      there x h = subst (λ k. AreTaken w a plan k (x ∷ [])) (omega arith) h
 
--- a text that is the report of what was done over the medium that is handed back alone
-pub text-over : {M : Type 0} (tells : Bool) (reads : M → Image) (may_leave : M → Image → Type 0) (page_count faults : M → ℕ) (had : Image) (before : Image → Type 0) (m : M) (medium_faults shelf_faults shelf_faults_now : ℕ) → (IsTrue tells → IsJustSo had (reads m) before (may_leave m))
-    → faults m ≡ medium_faults → (plan : Plan) (acts : List ActSpec) (cause : Option DownCause) (reports : List ActReport) (objects : Objects) (text : List ℕ) (new : M) (k : Kept M) (old media : List (Kept M)) → acts ≡ plan.acts → CameTo tells (reads m) (may_leave m) (may_leave new) cause acts reports objects
-    → HasCauseIfAny tells (reads m) (reads new) (faults m) (faults new) (page_count new) cause → text ≡ report_text (report_with plan cause reports objects) → k ≡ record { node = repository; volume = 0; medium = new } → old ≡ [] → media ≡ old ++ k ∷ []
-    → IsTextOf tells reads may_leave page_count faults had before medium_faults shelf_faults shelf_faults_now plan cause text media
-text-over tells reads may_leave page_count faults had before m medium_faults shelf_faults shelf_faults_now just count plan acts cause reports objects text new k old media same came why is_text is none are = record {
-  reports = reports;
-  objects = objects;
-  came = subst (λ z. CameOver tells reads may_leave page_count faults had before medium_faults shelf_faults shelf_faults_now plan.acts cause reports objects z) (sym (are ∙ ap (λ z. z ++ k ∷ []) none ∙ ap (λ z. z ∷ []) is)) (
-    refl,
-    refl,
-    subst (λ z. CameTo tells had before (may_leave new) cause z reports objects) same (came-on-shelf tells had (reads m) before (may_leave m) just (may_leave new) cause acts reports objects came),
-    subst (λ z. HasCauseIfAny tells had (reads new) z (faults new) (page_count new) cause) count (cause-on-shelf tells had (reads m) before (may_leave m) just (reads new) (faults m) (faults new) (page_count new) cause why),
-  );
-  is_text = is_text;
-}
+      kept-left : IsLeft w.tells a b (medium_name n)
+      kept-left = p.others (medium_name n) (λ i lt. subst (λ (k : NodeId). medium_name k ≢ medium_name (node_at plan i)) (sym is) (apart plan i (length xs) lt))
 
--- a text that is the report of a run whose medium wasn't taken
-pub text-untaken : {M : Type 0} (tells : Bool) (reads : M → Image) (may_leave : M → Image → Type 0) (page_count faults : M → ℕ) (had : Image) (before : Image → Type 0) (medium_faults shelf_faults shelf_faults_now : ℕ) (plan : Plan) (text : List ℕ) (media : List (Kept M)) → media ≡ [] → Rose shelf_faults shelf_faults_now
-    → text ≡ report_text (report_with plan (Some down.Medium) (map untried plan.acts) finite.empty) → IsTextOf tells reads may_leave page_count faults had before medium_faults shelf_faults shelf_faults_now plan (Some down.Medium) text media
-text-untaken tells reads may_leave page_count faults had before medium_faults shelf_faults shelf_faults_now plan text media none rose is_text = record {
-  reports = map untried plan.acts;
-  objects = finite.empty;
-  came = subst (λ z. CameOver tells reads may_leave page_count faults had before medium_faults shelf_faults shelf_faults_now plan.acts (Some down.Medium) (map untried plan.acts) finite.empty z) (sym none) (refl, refl, refl, rose);
-  is_text = is_text;
-}
+      before : (x : Option M) (name : MediumName) → b.is_taken name → (a.is_taken name → ⊥) → (place : ℕ) × (one : M) × (name ≡ medium_name (node_at plan place)) × (slice_get (xs ++ x ∷ []) place ≡ Some (Some one))
+      before x name taken was = let h = p.back name taken was in (h.0, h.1, h.2, get-front xs (x ∷ []) h.0 (Some h.1) h.3)
 
--- nothing of the one medium that is handed back is lost
-pub one-loses-nothing : {M : Type 0} (tells : Bool) (may_leave : M → Image → Type 0) (had was : Image) (before now : Image → Type 0) → (IsTrue tells → IsJustSo had was before now) → (acts : List ActSpec) (new : M) (k : Kept M) (old media : List (Kept M)) → IsKept tells was now (may_leave new) acts
-    → k ≡ record { node = repository; volume = 0; medium = new } → old ≡ [] → media ≡ old ++ k ∷ [] → AllLoseNothing tells may_leave had before media
-one-loses-nothing tells may_leave had was before now just acts new k old media kept is none are =
-    subst (AllLoseNothing tells may_leave had before) (sym (are ∙ ap (λ z. z ++ k ∷ []) none ∙ ap (λ z. z ∷ []) is)) (loses-nothing tells had was before now just (may_leave new) acts kept, tt)
+      by : (x : Option M) → TakesOne w b c n x → WereTaken w a c plan (xs ++ x ∷ [])
+      by None h = record {
+        are = are-more a plan 0 xs None p.are (there None tt);
+        missing = subst (λ k. RoseBy k a.faults c.faults) (sym (count-more xs None)) (rises_add (count_by is_missing xs) 1 a.faults b.faults c.faults p.missing h.1);
+        back = λ name taken was. before None name ((h.0 name).taken.0 taken) was;
+        others = λ name far. left-joined w.tells a b c name (p.others name (λ i lt. far i (let e = longer None in omega (arith, e, lt)))) (h.0 name);
+      }
+      by (Some x) h = record {
+        are = are-more a plan 0 xs (Some x) p.are (there (Some x) (subst (λ (k : NodeId). IsTaken w a k x) is (taken-left a b n x kept-left h.0), tt));
+        missing = subst (λ k. RoseBy k a.faults c.faults) (let e = count-more xs (Some x) in sym (e ∙ omega arith)) (rise_stays (count_by is_missing xs) a.faults b.faults c.faults p.missing h.2);
+        back = λ name taken was. one name taken was (name-same name (medium_name n));
+        others = λ name far. left-joined w.tells a b c name (p.others name (λ i lt. far i (let e = longer (Some x) in omega (arith, e, lt))))
+            (h.1 name (subst (λ (k : NodeId). name ≢ medium_name k) (sym is) (far (length xs) (let e = longer (Some x) in omega (arith, e)))));
+      }
+        where
+          one : (name : MediumName) → c.is_taken name → (a.is_taken name → ⊥) → (name ≡ medium_name n) ⊎ (name ≢ medium_name n) → (place : ℕ) × (m : M) × (name ≡ medium_name (node_at plan place)) × (slice_get (xs ++ Some x ∷ []) place ≡ Some (Some m))
+          one name taken was (inl e) = (length xs, x, e ∙ ap medium_name is, get-last xs (Some x))
+          one name taken was (inr far) = before (Some x) name ((h.1 name far).taken.0 taken) was
+
+  -- media that stood on a shelf haven't failed
+  pub usable : (a : ShelfSight) (plan : Plan) (i : ℕ) (xs : List (Option M)) → AreTaken w a plan i xs → All (IsUsable w) xs
+  usable a plan i [] h = All-nil (IsUsable w)
+  usable a plan i (None ∷ xs) h = All-cons (IsUsable w) None xs tt (usable a plan (suc i) xs h)
+  usable a plan i (Some x ∷ xs) h = All-cons (IsUsable w) (Some x) xs h.0.sound (usable a plan (suc i) xs h.1)
+
+-- ---- handed back
+
+module _ {M : Type 0} where
+  pub kept-more : (plan : Plan) (i : ℕ) (xs : List (Option M)) (m : Option M) → kept_from {M = M} plan i (xs ++ m ∷ []) ≡ kept_from plan i xs ++ kept_of (node_at plan (i + length xs)) m
+  kept-more plan i [] m = append-nil (kept_of (node_at plan i) m) ∙ ap (λ k. kept_of (node_at plan k) m) (omega arith)
+  kept-more plan i (x ∷ xs) m =
+      ap (λ l. kept_of (node_at plan i) x ++ l) (kept-more plan (suc i) xs m ∙ ap (λ k. kept_from plan (suc i) xs ++ kept_of (node_at plan k) m) (omega arith))
+      ∙ sym (append_assoc (kept_of (node_at plan i) x) (kept_from plan (suc i) xs) (kept_of (node_at plan (i + length (x ∷ xs))) m))
+
+  -- one more medium is kept
+  pub keep-joined : (plan : Plan) (xs ys : List (Option M)) (m : Option M) (k all : List (Kept M)) (n : NodeId) (place : ℕ) → ys ≡ xs ++ m ∷ [] → place ≡ length xs → n ≡ node_at plan place → k ≡ kept_from plan 0 xs → all ≡ k ++ kept_of n m → all ≡ kept_from plan 0 ys
+  keep-joined plan xs ys m k all n place are at is front more =
+      let here : place ≡ 0 + length xs = omega (arith, at) in
+      more ∙ (ap (λ l. l ++ kept_of n m) front ∙ (ap (λ x. kept_from plan 0 xs ++ kept_of x m) (is ∙ ap (node_at plan) here) ∙ (sym (kept-more plan 0 xs m) ∙ ap (kept_from plan 0) (sym are))))
+
+  has-behind : (x : Kept M) (xs ys : List (Kept M)) → Has x ys → Has x (xs ++ ys)
+  has-behind x [] ys h = h
+  has-behind x (y ∷ xs) ys h = inr (has-behind x xs ys h)
+
+  kept-has : (plan : Plan) (i : ℕ) (xs : List (Option M)) (place : ℕ) (m : M) → slice_get xs place ≡ Some (Some m) → Has (record { node = node_at plan (i + place); volume = 0; medium = m }) (kept_from {M = M} plan i xs)
+  kept-has plan i [] place m e = absurd cc
+  kept-has plan i (x ∷ xs) zero m e =
+      let is : x ≡ Some m = cc in
+      let n : i + 0 ≡ i = omega arith in
+      subst (λ y. Has (record { node = node_at plan (i + 0); volume = 0; medium = m }) (kept_of (node_at plan i) y ++ kept_from plan (suc i) xs)) (sym is) (inl (ap (λ k. record { node = node_at plan k; volume = 0; medium = m }) (sym n)))
+  kept-has plan i (x ∷ xs) (suc place) m e =
+      let n : suc i + place ≡ i + suc place = omega arith in
+      has-behind _ (kept_of (node_at plan i) x) (kept_from plan (suc i) xs) (subst (λ k. Has (record { node = node_at plan k; volume = 0; medium = m }) (kept_from plan (suc i) xs)) n (kept-has plan (suc i) xs place m e))
+
+  back-at : (media left : List (Option M)) (i : ℕ) (m : M) → AreBack media left → slice_get media i ≡ Some (Some m) → (new : M) × (slice_get left i ≡ Some (Some new))
+  back-at [] [] i m b e = absurd cc
+  back-at [] (y ∷ ys) i m b e = absurd b
+  back-at (x ∷ xs) [] i m b e = absurd b
+  back-at (x ∷ xs) (None ∷ ys) zero m b e = let is : x ≡ Some m = cc in absurd (subst (λ z. IsBack z None) is b.0)
+  back-at (x ∷ xs) (Some y ∷ ys) zero m b e = (y, refl)
+  back-at (x ∷ xs) (y ∷ ys) (suc i) m b e = back-at xs ys i m b.1 e
+
+  -- each medium that was taken is handed back
+  pub all-kept : (w : Media M) (old new : ShelfSight) (plan : Plan) (media left : List (Option M)) → WereTaken w old new plan media → AreBack media left → AllKept old new (kept_from {M = M} plan 0 left)
+  all-kept w old new plan media left taken back name is was =
+      let h = taken.back name is was in
+      let b = back-at media left h.0 h.1 back h.3 in
+      (node_at plan h.0, b.0, h.2, subst (λ k. Has (record { node = node_at plan k; volume = 0; medium = b.0 }) (kept_from plan 0 left)) (omega arith) (kept-has plan 0 left h.0 b.0 b.1))
+
+  every-both : (P : Kept M → Type 0) (xs ys : List (Kept M)) → Every P xs → Every P ys → Every P (xs ++ ys)
+  every-both P [] ys p q = q
+  every-both P (x ∷ xs) ys p q = (p.0, every-both P xs ys p.1 q)
+
+  loses-one : (w : Media M) (old : ShelfSight) (n : NodeId) (m new : M) → IsTaken w old n m → IsUntouched w m new ⊎ HasItsLog w m new → LosesNothing {M = M} w old (record { node = n; volume = 0; medium = new })
+  loses-one w old n m new taken (inl u) = inl (λ t c h. (taken.content t).no_more c (u t c h))
+  loses-one w old n m new taken (inr l) = inr (λ t. let h = l t in (h.0, ap storage (sym (taken.content t).reads_same) ∙ h.1, h.2))
+
+  -- media that are whole lose nothing
+  pub lose-nothing : (w : Media M) (old : ShelfSight) (plan : Plan) (i : ℕ) (media left : List (Option M)) → AreTaken w old plan i media → AllZip (IsKeptWhole w) media left → Every (LosesNothing w old) (kept_from {M = M} plan i left)
+  lose-nothing w old plan i [] [] t k = tt
+  lose-nothing w old plan i [] (y ∷ ys) t k = absurd k
+  lose-nothing w old plan i (x ∷ xs) [] t k = absurd k
+  lose-nothing w old plan i (None ∷ xs) (None ∷ ys) t k = lose-nothing w old plan (suc i) xs ys t k.1
+  lose-nothing w old plan i (None ∷ xs) (Some y ∷ ys) t k = absurd k.0
+  lose-nothing w old plan i (Some x ∷ xs) (None ∷ ys) t k = absurd k.0
+  lose-nothing w old plan i (Some x ∷ xs) (Some y ∷ ys) t k = (loses-one w old (node_at plan i) x y t.0 k.0, lose-nothing w old plan (suc i) xs ys t.1 k.1)
+
+  -- media that were left alone are whole
+  pub alone-whole : (w : Media M) (media left : List (Option M)) → AllZip (IsLeftAlone w) media left → AllZip (IsKeptWhole w) media left
+  alone-whole w [] [] h = tt
+  alone-whole w [] (y ∷ ys) h = absurd h
+  alone-whole w (x ∷ xs) [] h = absurd h
+  alone-whole w (None ∷ xs) (None ∷ ys) h = (tt, alone-whole w xs ys h.1)
+  alone-whole w (None ∷ xs) (Some y ∷ ys) h = absurd h.0
+  alone-whole w (Some x ∷ xs) (None ∷ ys) h = absurd h.0
+  alone-whole w (Some x ∷ xs) (Some y ∷ ys) h = (inl h.0, alone-whole w xs ys h.1)

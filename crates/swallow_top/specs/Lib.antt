@@ -1,6 +1,9 @@
+pub mod Contract
+pub mod Histories
 pub mod Inputs
-pub mod PlanReads
-pub mod Runs
+pub mod Lines
+pub mod Plans
+pub mod Promise
 pub mod Shelves
-pub mod Top
+pub mod Tellings
 pub mod Written

@@ -1,48 +1,77 @@
--- What a run of a plan over a shelf comes to.
-use Rattle.std.specs.Prelude.{◌≡◌, ℕ, ◌⊎◌, Bool, IsTrue, List, [], ◌∷◌, ◌++◌, Option, Some, Ok, map}
-use Rattle.std.specs.FinMap as finite
-use Rattle.stream_port.specs.Causes.{Rose}
+-- The media of a plan's nodes, as a shelf gives them and a call hands them back.
+use Rattle.std.specs.Prelude.{◌≡◌, ◌≢◌, ◌↔◌, ℕ, ◌≤◌, ◌<◌, suc, Bool, true, false, IsTrue, List, [], ◌∷◌, ◌++◌, length, slice_get, Option, Some, None}
+use Rattle.std.specs.List.{count_by}
+use Rattle.pseudo_time.specs.declared.nodes.NodeId.{NodeId}
+use Rattle.stream_port.specs.Causes.{Rose, RoseBy}
 use Rattle.medium_port.specs.Image.{Image}
+use Rattle.medium_port.specs.Names.{IsJustSo}
 use Rattle.medium_port.specs.declared.shelves.MediumName.{MediumName}
-use Rattle.pseudo_time.specs.declared.nodes.NodeKind.TheVariants.{Repository}
-use Rattle.value_form.specs.declared.acts.ActSpec.{ActSpec}
-use Rattle.value_form.specs.Objects.{Objects}
-use Rattle.effect_form.specs.declared.effects.Effect.{Effect}
 use Rattle.plan_form.specs.declared.plans.Plan.{Plan}
-use Rattle.report_writer.specs.declared.records.ActReport.{ActReport}
-use Rattle.pseudo_time.specs.declared.down_causes.DownCause.{DownCause}
-use Rattle.pseudo_time.specs.declared.down_causes.DownCause.TheVariants as down
-use Rattle.report_writer.specs.Reports.{report_text}
-use Rattle.version_store.specs.Storage.{storage}
-use Rattle.stored_run.specs.Ends.{CameTo, HasCauseIfAny}
-use Rattle.stored_run.specs.Runs.{untried}
-use Rattle.swallow_top.specs.Runs.{repository, report_with}
+use Rattle.run_media.specs.Media.{Media}
+use Rattle.run_media.specs.Places.{node_at}
 use Rattle.swallow_top.specs.declared.media.Kept.{Kept}
 
--- the name of the medium of the first repository
-abbrev pub repository_medium : MediumName
-repository_medium = record { kind = Repository; number = 1; volume = 0 }
+-- of a shelf: what its media hold, what a crash may leave of them, how often each has failed, which were taken, and how often a taking has failed
+pub record ShelfSight : Type 1 where
+  pub holds : MediumName → Image
+  pub may_hold : MediumName → Image → Type 0
+  pub medium_faults : MediumName → ℕ
+  pub is_taken : MediumName → Type 0
+  pub faults : ℕ
 
--- nothing of a medium is lost: what is left now might be left before, or it is the log with more effects behind it
-abbrev pub LosesNothing : (tells : Bool) (was : Image) (might left : Image → Type 0) → Type 0
-LosesNothing tells was might left = IsTrue tells → (c : Image) → left c → might c ⊎ ((log more : List Effect) × (storage was ≡ Ok log) × (storage c ≡ Ok (log ++ more)))
+abbrev pub shelf_sight : (MediumName → Image) → (MediumName → Image → Type 0) → (MediumName → ℕ) → (MediumName → Type 0) → ℕ → ShelfSight
+shelf_sight holds may_hold medium_faults is_taken faults = record { holds = holds; may_hold = may_hold; medium_faults = medium_faults; is_taken = is_taken; faults = faults }
 
--- so of all media handed back
-abbrev pub AllLoseNothing : {M : Type 0} → (tells : Bool) (may_leave : M → Image → Type 0) (was : Image) (might : Image → Type 0) → List (Kept M) → Type 0
-AllLoseNothing tells may_leave was might [] = Unit {0}
-AllLoseNothing tells may_leave was might (k ∷ ks) = LosesNothing tells was might (may_leave k.medium) × AllLoseNothing tells may_leave was might ks
+-- the name of a node's medium
+abbrev pub medium_name : NodeId → MediumName
+medium_name n = record { kind = n.kind; number = n.number; volume = 0 }
 
--- Acts came to these reports and objects over the medium that is handed back, which read so before, and might be left so. Where none is, the shelf failed and no act has a try.
-abbrev pub CameOver : {M : Type 0} → (tells : Bool) (reads : M → Image) (may_leave : M → Image → Type 0) (page_count faults : M → ℕ) (was : Image) (might : Image → Type 0) (medium_faults shelf_faults shelf_faults_now : ℕ) (acts : List ActSpec) → Option DownCause → List ActReport → Objects → List (Kept M) → Type 0
-CameOver tells reads may_leave page_count faults was might medium_faults shelf_faults shelf_faults_now acts cause reports objects [] =
-    (cause ≡ Some down.Medium) × (reports ≡ map untried acts) × (objects ≡ finite.empty) × Rose shelf_faults shelf_faults_now
-CameOver tells reads may_leave page_count faults was might medium_faults shelf_faults shelf_faults_now acts cause reports objects (k ∷ []) =
-    (k.node ≡ repository) × (k.volume ≡ 0) × CameTo tells was might (may_leave k.medium) cause acts reports objects × HasCauseIfAny tells was (reads k.medium) medium_faults (faults k.medium) (page_count k.medium) cause
-CameOver tells reads may_leave page_count faults was might medium_faults shelf_faults shelf_faults_now acts cause reports objects (k ∷ l ∷ ks) = ⊥
+-- ---- what is taken
 
--- the text is the report of what the plan's acts came to
-pub record IsTextOf {M : Type 0} (tells : Bool) (reads : M → Image) (may_leave : M → Image → Type 0) (page_count faults : M → ℕ) (was : Image) (might : Image → Type 0) (medium_faults shelf_faults shelf_faults_now : ℕ) (plan : Plan) (cause : Option DownCause) (text : List ℕ) (media : List (Kept M)) : Type 0 where
-  pub reports : List ActReport
-  pub objects : Objects
-  pub came : CameOver tells reads may_leave page_count faults was might medium_faults shelf_faults shelf_faults_now plan.acts cause reports objects media
-  pub is_text : text ≡ report_text (report_with plan cause reports objects)
+-- the shelf has under this name what it had
+pub record IsLeft (tells : Bool) (old new : ShelfSight) (name : MediumName) : Type 0 where
+  pub taken : new.is_taken name ↔ old.is_taken name
+  pub count : new.medium_faults name ≡ old.medium_faults name
+  pub content : IsTrue tells → IsJustSo (old.holds name) (new.holds name) (old.may_hold name) (new.may_hold name)
+
+module _ {M : Type 0} (w : Media M) (old : ShelfSight) where
+  -- the medium is that of the node, just as it stood on the shelf
+  pub record IsTaken (n : NodeId) (m : M) : Type 0 where
+    pub content : IsTrue w.tells → IsJustSo (old.holds (medium_name n)) (w.reads m) (old.may_hold (medium_name n)) (w.may_leave m)
+    pub count : w.faults m ≡ old.medium_faults (medium_name n)
+    pub sound : w.is_failed m ≡ false
+    pub first : old.is_taken (medium_name n) → ⊥
+
+  -- the medium of the node was taken, and nothing else; or the shelf failed
+  abbrev pub TakesOne : ShelfSight → NodeId → Option M → Type 0
+  TakesOne new n None = ((name : MediumName) → IsLeft w.tells old new name) × Rose old.faults new.faults
+  TakesOne new n (Some m) = IsTaken n m × ((name : MediumName) → name ≢ medium_name n → IsLeft w.tells old new name) × (old.faults ≤ new.faults)
+
+  -- these are the media of the plan's nodes from this place on, each as it stood on the shelf; None where the shelf gave none
+  abbrev pub AreTaken : Plan → ℕ → List (Option M) → Type 0
+  AreTaken plan place [] = Unit {0}
+  AreTaken plan place (None ∷ media) = AreTaken plan (suc place) media
+  AreTaken plan place (Some m ∷ media) = IsTaken (node_at plan place) m × AreTaken plan (suc place) media
+
+abbrev pub is_missing : {M : Type 0} → Option M → Bool
+is_missing None = true
+is_missing (Some m) = false
+
+-- The media of the plan's first nodes were taken, and no others. The shelf failed for each that it didn't give.
+pub record WereTaken {M : Type 0} (w : Media M) (old new : ShelfSight) (plan : Plan) (media : List (Option M)) : Type 0 where
+  pub are : AreTaken w old plan 0 media
+  pub missing : RoseBy (count_by is_missing media) old.faults new.faults
+  pub back : (name : MediumName) → new.is_taken name → (old.is_taken name → ⊥) → (place : ℕ) × (m : M) × (name ≡ medium_name (node_at plan place)) × (slice_get media place ≡ Some (Some m))
+  pub others : (name : MediumName) → ((place : ℕ) → place < length media → name ≢ medium_name (node_at plan place)) → IsLeft w.tells old new name
+
+-- ---- what is handed back
+
+-- the medium under the name of its node, unless it is missing
+abbrev pub kept_of : {M : Type 0} → NodeId → Option M → List (Kept M)
+kept_of n None = []
+kept_of n (Some m) = record { node = n; volume = 0; medium = m } ∷ []
+
+-- these media under the names of the plan's nodes from this place on, without those that are missing
+abbrev pub kept_from : {M : Type 0} → Plan → ℕ → List (Option M) → List (Kept M)
+kept_from plan place [] = []
+kept_from plan place (m ∷ media) = kept_of (node_at plan place) m ++ kept_from plan (suc place) media

@@ -1,14 +1,15 @@
 //! The top call: from words to a report.
 #![tactic(auto)]
 
-mod finals;
+mod histories;
 mod lines;
 mod media;
-mod served;
-mod shelved;
+mod plans;
+mod reports;
+mod shelves;
 mod stops;
 mod streams;
 mod top;
 
-pub use media::{Early, Kept};
+pub use media::{Finish, Kept};
 pub use top::swallow;

@@ -1,15 +1,15 @@
 use plan_form::PlanKind;
 use std::alloc::{AllocError, AllocFailed};
 
-/// Why there is no report.
+/// Why no plan is run.
 #[derive(Clone, Copy, Debug, PartialEq, Eq)]
 pub enum Stop {
     /// Memory is wanting.
     NoMemory,
     /// The input isn't a plan: the line of its fault, and what is wrong with it.
     Fault { line: u32, kind: PlanKind },
-    /// The plan isn't served.
-    Unserved,
+    /// The words are no command.
+    Words,
     /// The source failed.
     Source,
     /// The sink failed.

@@ -1,15 +1,57 @@
-use Rattle.std.proofs.Common.{ap, Err}
-use Rattle.swallow_top.proofs.ActLemmas.{plan_is_ready}
-use Rattle.swallow_top.proofs.TopLemmas.{refusal-of}
+use Rattle.std.proofs.Common.{◌∙◌, ap, sym, subst}
+use Rattle.plan_form.specs.PlanTexts.{IsOfLanguage}
+use Rattle.plan_form.proofs.MadeLemmas.{made_is_whole}
+use Rattle.command_words.specs.Words.{AreWords, said}
+use Rattle.run_media.specs.Media.{media_with}
+use Rattle.swallow_top.specs.Contract.{RefusedAs}
+use Rattle.swallow_top.specs.Histories.{TellsHistory}
+use Rattle.swallow_top.specs.Shelves.{shelf_sight}
+use Rattle.swallow_top.specs.Written.{sinking}
+use Rattle.swallow_top.proofs.PromiseLemmas.{language-of, promise-history, promise-load, promise-refused, quiet-call, some-workers}
 use Rattle.swallow_top.proofs.top.swallow.Goals as goal
 
-pub run_on_shelf-requires : goal.run_on_shelf-requires
-run_on_shelf-requires g c =
-    let is = c.in-Ok.ensures.ready in
-    plan_is_ready is.0 c.in-Ok.plan is.1
+pub run_plan-requires-clause-plan : goal.run_plan-requires-clause-plan
+run_plan-requires-clause-plan g c κs within = language-of (g.I.Source.left c.args.source.now) (g.I.Source.left c.read_plan.new.source) (g.I.Source.faults c.args.source.now) (g.I.Source.faults c.read_plan.new.source) c.in-Ok.plan c.in-Ok.ensures
 
-pub returns-in-Err-clause-plan : goal.returns-in-Err-clause-plan
-returns-in-Err-clause-plan g c =
-    let refused = c.refused.ensures in
-    refusal-of (g.I.Source.left c.args.source.now) (g.O.Sink.taken c.args.sink.now) (g.O.Sink.taken c.refused.new.sink) (g.O.Sink.faults c.args.sink.now) (g.O.Sink.faults c.refused.new.sink) c.in-Err.stop c.refused.result
-    (λ line kind e. c.in-Err.ensures.fault line kind (ap (λ z. Err z) e)) (λ e. c.in-Err.ensures.unserved (ap (λ z. Err z) e)) refused.fault refused.unserved refused.source refused.others
+pub run_plan-requires-clause-workers : goal.run_plan-requires-clause-workers
+run_plan-requires-clause-workers g c κs within = some-workers c.in-Some-Run.options (subst (λ x. AreWords x (said c.args.words.now)) c.in-Some-Run.field-0-is c.in-Some-Run.ensures.words).0 (subst (λ x. AreWords x (said c.args.words.now)) c.in-Some-Run.field-0-is c.in-Some-Run.ensures.words).2
+
+pub run_plan-requires-in-Ok-make-clause-plan : goal.run_plan-requires-in-Ok-make-clause-plan
+run_plan-requires-in-Ok-make-clause-plan g c κs within = subst IsOfLanguage (sym c.in-Ok-make.ensures) (made_is_whole c.in-Some-Load.seed c.in-Some-Load.count (subst (λ x. AreWords x (said c.args.words.now)) c.in-Some-Load.field-0-is c.in-Some-Load.ensures.words).count_is.high)
+
+pub run_plan-requires-in-Ok-make-clause-workers : goal.run_plan-requires-in-Ok-make-clause-workers
+run_plan-requires-in-Ok-make-clause-workers g c κs within = some-workers c.in-Some-Load.options (subst (λ x. AreWords x (said c.args.words.now)) c.in-Some-Load.field-0-is c.in-Some-Load.ensures.words).more (subst (λ x. AreWords x (said c.args.words.now)) c.in-Some-Load.field-0-is c.in-Some-Load.ensures.words).options
+
+pub returns-in-Err : goal.returns-in-Err
+returns-in-Err g c =
+    let q = c.quiet-in-Err.ensures in
+    let k = g.O.Sink in
+    let s = sinking (k.taken c.args.sink.now) (k.taken c.refused-status-in-Err.new.sink) (k.faults c.args.sink.now) (k.faults c.refused-status-in-Err.new.sink) in
+    record {
+      promise = promise-refused _ c.in-Some-Run.options c.in-Err.stop (subst (λ x. AreWords x (said c.args.words.now)) c.in-Some-Run.field-0-is c.in-Some-Run.ensures.words) c.in-Err.ensures (subst (λ n. RefusedAs c.in-Err.stop n s) (sym q.status) c.refused-status-in-Err.ensures)
+          (λ status is. quiet-call _ status is (q.media ∙ c.new-in-Err.ensures.items) q.trace (ap g.F.Fates.asked q.told.0) (ap g.C.Clock.answers q.told.1)) (λ name is was. absurd (was is));
+    }
+
+pub returns-in-Ok-make : goal.returns-in-Ok-make
+returns-in-Ok-make g c = record {
+  promise = promise-load _ c.in-Some-Load.seed c.in-Some-Load.count c.in-Some-Load.options c.in-Ok-make.plan (subst (λ x. AreWords x (said c.args.words.now)) c.in-Some-Load.field-0-is c.in-Some-Load.ensures.words) c.in-Ok-make.ensures c.run_plan-in-Ok-make.ensures.ran c.run_plan-in-Ok-make.ensures.kept;
+}
+
+pub returns-in-Some-History : goal.returns-in-Some-History
+returns-in-Some-History g c =
+    let m = g.S.Medium.Medium in
+    let w = media_with m.tells m.reads m.may_leave m.page_count m.faults m.is_failed in
+    let h = g.S.Shelf in
+    let old = shelf_sight (h.holds c.args.shelf.now) (h.may_hold c.args.shelf.now) (h.medium_faults c.args.shelf.now) (h.is_taken c.args.shelf.now) (h.faults c.args.shelf.now) in
+    let sf = c.tell_history-status.new.shelf in
+    let new = shelf_sight (h.holds sf) (h.may_hold sf) (h.medium_faults sf) (h.is_taken sf) (h.faults sf) in
+    let k = g.O.Sink in
+    let s = sinking (k.taken c.args.sink.now) (k.taken c.tell_history-status.new.sink) (k.faults c.args.sink.now) (k.faults c.tell_history-status.new.sink) in
+    let q = c.quiet-in-Some-History.ensures in
+    let object = c.in-Some-History.object in
+    let media = subst (λ l. TellsHistory w old new object l s c.tell_history-status.result.0) (sym q.media) c.tell_history-status.ensures in
+    let tells = subst (λ n. TellsHistory w old new object c.quiet-in-Some-History.result.media s n) (sym q.status) media in
+    record {
+      promise = promise-history _ object (subst (λ x. AreWords x (said c.args.words.now)) c.in-Some-History.field-0-is c.in-Some-History.ensures.words) tells
+          (record { trace = q.trace; fates = ap g.F.Fates.asked q.told.0; clock = ap g.C.Clock.answers q.told.1 });
+    }

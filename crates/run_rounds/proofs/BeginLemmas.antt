@@ -1,0 +1,43 @@
+-- How a run ends that doesn't begin, and what its wire began with.
+use Rattle.std.proofs.Common.{◌≡◌, ℕ, List, length, map, Option, Some, sym, subst}
+use Rattle.std.specs.List.{AllZip}
+use Rattle.stream_port.specs.declared.fates.Asked.{Asked}
+use Rattle.plan_form.specs.declared.plans.Plan.{Plan}
+use Rattle.wire_core.specs.Wires.{Origin}
+use Rattle.run_media.specs.declared.openings.Opening.{Opening}
+use Rattle.run_media.specs.declared.openings.Refusal.{Refusal}
+use Rattle.run_media.specs.declared.openings.Refusal.TheVariants as refusal
+use Rattle.run_media.specs.Media.{Media}
+use Rattle.run_media.specs.Openings.{FirstRefusal, HasOpened, medium_in}
+use Rattle.run_media.specs.Places.{node_count}
+use Rattle.run_starts.specs.Starts.{IsSetUp}
+use Rattle.run_rounds.specs.declared.ends.End.{End}
+use Rattle.run_rounds.specs.declared.ends.End.TheVariants as end
+use Rattle.run_rounds.specs.Finishes.{EndsAs, IsEndFor, Tellers, tellers}
+use Rattle.run_rounds.proofs.BackLemmas.{first-fault, opened-alone, opened-back, opened-kept, same-back, same-kept}
+
+-- nothing was opened
+pub ends-untried : {M : Type 0} (w : Media M) (most_ticks enough : ℕ) (plan : Plan) (told : Tellers) (media : List (Option M)) → EndsAs w most_ticks enough plan told media media end.NoMemory
+ends-untried w most_ticks enough plan told media = (same-back w media, same-kept w media)
+
+module _ {M : Type 0} {g : _} (w : Media M) (most_ticks enough : ℕ) (plan : Plan) where
+  module _ (told : Tellers) (media : List (Option M)) where
+    module _ (os : List (Opening M g)) (opened : AllZip (HasOpened w) media os) where
+      -- memory was wanting
+      pub ends-wanting : EndsAs w most_ticks enough plan told media (map medium_in os) end.NoMemory
+      ends-wanting = (opened-back w media os opened, opened-kept w media os opened)
+
+      -- no run begins
+      pub ends-refused : (e : End) (why : Refusal) → IsEndFor why e → length os ≡ node_count plan → FirstRefusal plan os (Some why) → told.asked ≡ told.asked_before → told.answers ≡ told.answers_before
+          → EndsAs w most_ticks enough plan told media (map medium_in os) e
+      ends-refused e refusal.NoMemory is count first asked answers = subst (EndsAs w most_ticks enough plan told media (map medium_in os)) (sym is) ends-wanting
+      ends-refused e (refusal.Resume fault) is count first asked answers =
+          subst (EndsAs w most_ticks enough plan told media (map medium_in os)) (sym is)
+          (opened-back w media os opened, opened-alone w media os opened, first-fault w plan media os fault opened count first, asked, answers)
+
+  -- what the fates and the clock had told when the wire began is what they had told before
+  pub ends-set-up : (os : List (Opening M g)) (asked later : List Asked) (answers more : Option (List ℕ)) (o : Origin) (media left : List (Option M)) (e : End) → IsSetUp plan os asked answers o
+      → EndsAs w most_ticks enough plan (tellers o.asked later o.answers more) media left e → EndsAs w most_ticks enough plan (tellers asked later answers more) media left e
+  ends-set-up os asked later answers more o media left e set h =
+      subst (λ (a : List Asked). EndsAs w most_ticks enough plan (tellers a later answers more) media left e) set.asked_is
+      (subst (λ (a : Option (List ℕ)). EndsAs w most_ticks enough plan (tellers o.asked later a more) media left e) set.answers_are h)

@@ -1,0 +1,102 @@
+-- What the closing of a run's wire says, and what its calls ask.
+use Rattle.std.proofs.Common.{◌≡◌, ◌⊎◌, ◌≤◌, ◌<◌, ◌+◌, ◌++◌, ◌↔◌, ◌∙◌, ◌^◌, ℕ, Bool, true, IsTrue, List, [], ◌∷◌, Option, length, map, inl, inr, refl, ap, sym, subst, arith}
+use Rattle.std.specs.Prelude.{All}
+use Rattle.std.specs.List.{AllZip}
+use Rattle.std.proofs.lemmas.List.{length-map, length_push}
+use Rattle.std.proofs.lemmas.List.Elements.{All-push}
+use Rattle.std.proofs.lemmas.Slice.Zip.{AllZip-long}
+use Rattle.stream_port.specs.declared.fates.Asked.{Asked}
+use Rattle.plan_form.specs.declared.plans.Plan.{Plan}
+use Rattle.plan_form.specs.PlanTexts.{IsOfLanguage}
+use Rattle.seat_lock.specs.declared.views.View.{View}
+use Rattle.seat_lock.specs.declared.views.Founding.{Founding}
+use Rattle.seat_lock.specs.declared.locks.LockTable.{LockTable}
+use Rattle.seat_lock.specs.Rule.{IsOneOf}
+use Rattle.seat_lock.specs.Words.{CarriesOn, fresh, knows}
+use Rattle.world_core.specs.declared.entries.Entry.{Entry}
+use Rattle.world_core.specs.declared.traces.Trace.{Trace}
+use Rattle.world_core.specs.Legal.{Idle, fates_of}
+use Rattle.wire_core.specs.Wires.{Origin, WireParts}
+use Rattle.wire_core.specs.Boards.{owner_of}
+use Rattle.wire_lock.specs.Sights.{IsWirePass, Sight, owners_for}
+use Rattle.wire_lock.specs.Stories.{IsWhole, end_of}
+use Rattle.trace_report.specs.Counts.{tick_count}
+use Rattle.node_turn.specs.Nodes.{NodeParts}
+use Rattle.node_rounds.specs.declared.limits.Limits.{Limits}
+use Rattle.node_rounds.specs.declared.reasons.Reason.{Reason}
+use Rattle.node_rounds.specs.declared.reasons.Reason.TheVariants as reason
+use Rattle.node_rounds.specs.Nodes.{GoesOn}
+use Rattle.run_media.specs.Media.{Media}
+use Rattle.run_media.specs.Places.{node_count}
+use Rattle.run_rounds.specs.declared.ends.End.{End}
+use Rattle.run_rounds.specs.declared.ends.End.TheVariants as end
+use Rattle.run_rounds.specs.Closings.{ClosedAs, HaveGone, IfRan, Pass, ToldFor}
+
+-- ---- what is told
+
+pub told-for : (told : Trace) (idle : Bool) (why : Reason) → (why ≡ reason.Down) ⊎ ((why ≡ reason.Done) ⊎ (why ≡ reason.Enough)) → ToldFor told idle why told
+told-for told idle why (inl e) = record {
+  is = refl;
+  memory = λ f. (let z : reason.Down ≡ reason.Wanting = sym e ∙ f in cc z);
+  out = λ f. absurd (let z : reason.Down ≡ reason.RunOut = sym e ∙ f in cc z);
+}
+told-for told idle why (inr (inl e)) = record {
+  is = refl;
+  memory = λ f. (let z : reason.Done ≡ reason.Wanting = sym e ∙ f in cc z);
+  out = λ f. absurd (let z : reason.Done ≡ reason.RunOut = sym e ∙ f in cc z);
+}
+told-for told idle why (inr (inr e)) = record {
+  is = refl;
+  memory = λ f. (let z : reason.Enough ≡ reason.Wanting = sym e ∙ f in cc z);
+  out = λ f. absurd (let z : reason.Enough ≡ reason.RunOut = sym e ∙ f in cc z);
+}
+
+pub told-idle : (told : Trace) (idle : Bool) (why : Reason) → why ≡ reason.RunOut → idle ≡ true → ToldFor told idle why told
+told-idle told idle why e rest = record {
+  is = refl;
+  memory = λ f. (let z : reason.RunOut ≡ reason.Wanting = sym e ∙ f in cc z);
+  out = λ f. rest;
+}
+
+-- of a trace that is told this is known
+pub closed-as : (tells : Bool) (o : Origin) (passes : List Pass) (why : Reason) (told : Trace) (idle : Bool) (asked : List Asked) (answers : Option (List ℕ)) → IsWhole tells o told asked answers
+    → All (λ (pass : Pass). CarriesOn owner_of (knows pass) told.entries) passes → All (λ e. IsOneOf (owners_for o.opened) (owner_of e)) told.entries → (IsTrue tells → IsTrue idle ↔ Idle (fates_of told.sent) (end_of o told))
+    → (e : End) → IfRan e (ToldFor told idle why) → IfRan e (λ t. ClosedAs tells o passes why t asked answers)
+closed-as tells o passes why told idle asked answers whole carries owned rests (end.Ran t) h =
+    subst (λ (x : Trace). ClosedAs tells o passes why x asked answers) (sym h.is) (record { whole = whole; carries = carries; owned = owned; memory = h.memory; idle = λ tl out. (rests tl).0 (h.out out) })
+closed-as tells o passes why told idle asked answers whole carries owned rests (end.Refused fault) h = h
+closed-as tells o passes why told idle asked answers whole carries owned rests end.NoMemory h = tt
+
+-- where memory was wanting nothing is told
+pub none-told : (tells : Bool) (o : Origin) (passes : List Pass) (asked : List Asked) (answers : Option (List ℕ)) (e : End) → IfRan e (λ t. ClosedAs tells o passes reason.Wanting t asked answers) → e ≡ end.NoMemory
+none-told tells o passes asked answers (end.Ran t) h = absurd (h.memory refl)
+none-told tells o passes asked answers (end.Refused fault) h = absurd h
+none-told tells o passes asked answers end.NoMemory h = refl
+
+-- ---- passes
+
+-- one pass of the wire more
+pub wires-pushed : {Q A : Type 0} (lock : LockTable WireParts (View WireParts Entry) (Founding WireParts) Q A) (all front : List Pass) (last : Pass) → all ≡ front ++ last ∷ [] → All (IsWirePass lock) front → IsWirePass lock last → All (IsWirePass lock) all
+wires-pushed lock all front last e are is = subst (All (IsWirePass lock)) (sym e) (All-push (IsWirePass lock) front last are is)
+
+-- ---- counts
+
+-- a pass for each node, and the conductor's
+pub passes-count : {M : Type 0} (w : Media M) (limits : Limits) (begun : List (NodeParts M)) (why : Reason) (media : List (Option M)) (passes : List Pass) → HaveGone w limits begun why media passes → length passes ≡ length begun + 1
+passes-count {M} w limits begun why media passes gone =
+    ap length gone.passes_are ∙ (length_push (map (λ (n : NodeParts M). n.pass) gone.nodes) gone.conductor
+    ∙ ap (λ (n : ℕ). n + 1) (length-map gone.nodes (λ (n : NodeParts M). n.pass) ∙ AllZip-long (GoesOn w.tells w.faults w.reads) begun gone.nodes gone.went))
+
+-- a plan has few nodes
+pub few-nodes : (plan : Plan) → IsOfLanguage plan → node_count plan < 2 ^ 32
+few-nodes plan lang = let r = lang.repositories.1 in let b = lang.brokers.1 in omega (arith, r, b)
+
+-- the conductor's new pass has no entries
+pub new-conductor : (w : WireParts) (k : Sight) → k ≡ fresh w 0 → (k.owner ≡ 0) × (tick_count k.own ≡ 0)
+new-conductor w k e = (ap (λ (s : Sight). s.owner) e, ap (λ (s : Sight). tick_count s.own) e)
+
+-- ---- media
+
+-- how nodes have gone, of the media as they are handed on
+pub gone-left : {M : Type 0} (w : Media M) (limits : Limits) (begun : List (NodeParts M)) (why : Reason) (media left : List (Option M)) (passes : List Pass) → left ≡ media → HaveGone w limits begun why media passes → HaveGone w limits begun why left passes
+gone-left {M} w limits begun why media left passes e h = subst (λ (l : List (Option M)). HaveGone w limits begun why l passes) (sym e) h

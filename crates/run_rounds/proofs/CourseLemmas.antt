@@ -1,0 +1,86 @@
+-- How the nodes of shares have gone, told of them in one list.
+use Rattle.std.proofs.Common.{◌≡◌, ◌≤◌, ◌<◌, ℕ, Bool, IsTrue, List, [], ◌∷◌, ◌++◌, length, map, Option, Some, All, refl, ap, sym, subst, ◌∙◌, arith}
+use Rattle.std.specs.List.{AllZip}
+use Rattle.std.specs.declared.vec.Vec.{Vec}
+use Rattle.std.specs.declared.alloc.Global.{Global}
+use Rattle.std.proofs.lemmas.List.Elements.{All-append, All-cons, All-map, All-nil}
+use Rattle.std.proofs.lemmas.Slice.Zip.{AllZip-long}
+use Rattle.atomic_table.specs.declared.shared.Seat.{Seat}
+use Rattle.seat_lock.specs.declared.views.View.{View}
+use Rattle.seat_lock.specs.declared.views.Founding.{Founding}
+use Rattle.seat_lock.specs.declared.locks.LockTable.{LockTable}
+use Rattle.seat_lock.specs.Words.{knows}
+use Rattle.world_core.specs.declared.entries.Entry.{Entry}
+use Rattle.wire_core.specs.Wires.{WireParts}
+use Rattle.wire_lock.specs.Sights.{IsWirePass, Sight}
+use Rattle.trace_report.specs.Counts.{tick_count}
+use Rattle.node_turn.specs.Nodes.{NodeParts, IsAtRest}
+use Rattle.node_rounds.specs.declared.limits.Limits.{Limits}
+use Rattle.node_rounds.specs.declared.reasons.Reason.{Reason}
+use Rattle.node_rounds.specs.declared.reasons.Reason.TheVariants as reason
+use Rattle.node_rounds.specs.Nodes.{EachNode, EachPlace, GoesOn, HasAllOf, HasPass, IsUp, Shares}
+use Rattle.node_rounds.specs.Reasons.{EndsFor, HasMemory, IsDone, IsDown}
+use Rattle.run_media.specs.Media.{Media}
+use Rattle.run_rounds.specs.Closings.{HaveGone, ListEnds, Pass}
+use Rattle.run_starts.specs.Deals.{IsDealt}
+use Rattle.run_starts.proofs.AlongLemmas.{dealt-along, each-listed, some-listed}
+
+module _ {M : Type 0} (W : ℕ) (pos : 0 < W) (nodes : List (NodeParts M)) (shares : List (Vec (NodeParts M) Global)) (d : IsDealt W nodes shares) (size : length shares ≡ W) where
+  -- why the rounds ended
+  pub ends-listed : (tells : Bool) (limits : Limits) (why : Reason) (k : Sight) → EndsFor tells limits why shares k → ListEnds tells limits why nodes k
+  ends-listed tells limits reason.Down k h = (each-listed W pos HasMemory nodes shares d size h.0, some-listed W pos IsDown nodes shares d size h.1)
+  ends-listed tells limits reason.Done k h = (each-listed W pos IsUp nodes shares d size h.0, λ t. each-listed W pos IsDone nodes shares d size (h.1 t))
+  ends-listed tells limits reason.Enough k h = (each-listed W pos IsUp nodes shares d size h.0, h.1)
+  ends-listed tells limits reason.RunOut k h = (each-listed W pos IsUp nodes shares d size h.0, h.1, h.2)
+  ends-listed tells limits reason.Wanting k h = tt
+
+-- as many shares after as before
+pub as-many : {M : Type 0} (R : NodeParts M → NodeParts M → Type 0) (W : ℕ) (old new : List (Vec (NodeParts M) Global)) → length old ≡ W → AllZip (λ (a b : Vec (NodeParts M) Global). AllZip R a.items b.items) old new → length new ≡ W
+as-many {M} R W old new size zip = AllZip-long (λ (a b : Vec (NodeParts M) Global). AllZip R a.items b.items) old new zip ∙ size
+
+-- the shares of nodes went on: so did the nodes, which are again dealt to them
+module _ {M : Type 0} (w : Media M) (W : ℕ) (pos : 0 < W) (begun : List (NodeParts M)) (old new : Shares M) (d : IsDealt W begun old) (size : length old ≡ W) (went : EachPlace (GoesOn w.tells w.faults w.reads) old new) where
+  abbrev pub as-dealt : (ys : List (NodeParts M)) × IsDealt W ys new × AllZip (GoesOn w.tells w.faults w.reads) begun ys
+  as-dealt = dealt-along W pos (GoesOn w.tells w.faults w.reads) begun old new d size went
+
+  pub shares-count : length new ≡ W
+  shares-count = as-many (GoesOn w.tells w.faults w.reads) W old new size went
+
+  -- as collecting asks it
+  abbrev pub dealt-again : (xs : List (NodeParts M)) × IsDealt (length new) xs new × (length xs ≡ length begun)
+  dealt-again = (as-dealt.0, subst (λ (n : ℕ). IsDealt n as-dealt.0 new) (sym shares-count) as-dealt.1, AllZip-long (GoesOn w.tells w.faults w.reads) begun as-dealt.0 as-dealt.2)
+
+  module _ (nodes : List (NodeParts M)) (whole : (xs : List (NodeParts M)) → IsDealt (length new) xs new → length xs ≡ length begun → nodes ≡ xs) where
+    nodes-are : nodes ≡ as-dealt.0
+    nodes-are = whole dealt-again.0 dealt-again.1 dealt-again.2
+
+    nodes-dealt : IsDealt W nodes new
+    nodes-dealt = subst (λ (xs : List (NodeParts M)). IsDealt W xs new) (sym nodes-are) as-dealt.1
+
+    pub nodes-count : length nodes ≡ length begun
+    nodes-count = ap length nodes-are ∙ dealt-again.2
+
+    module _ {Q A : Type 0} (lock : LockTable WireParts (View WireParts Entry) (Founding WireParts) Q A) (passes : List Pass) (conductor : Pass) (are : passes ≡ map (λ (n : NodeParts M). n.pass) nodes ++ conductor ∷ []) where
+      -- all passes are the wire's
+      pub all-passes : EachNode (HasPass lock) new → IsWirePass lock conductor → All (IsWirePass lock) passes
+      all-passes each own =
+          subst (All (IsWirePass lock)) (sym are)
+          (All-append (IsWirePass lock) (map (λ (n : NodeParts M). n.pass) nodes) (conductor ∷ []) (All-map (IsWirePass lock) (λ (n : NodeParts M). n.pass) nodes (each-listed W pos (HasPass lock) nodes new nodes-dealt shares-count each))
+          (All-cons (IsWirePass lock) conductor [] own (All-nil (IsWirePass lock))))
+
+    module _ (limits : Limits) (why : Reason) (media : List (Option M)) (passes : List Pass) (conductor : Pass) (passes-are : passes ≡ map (λ (n : NodeParts M). n.pass) nodes ++ conductor ∷ []) (media-are : media ≡ map (λ (n : NodeParts M). Some n.medium) nodes) where
+      -- the rounds of a run
+      pub have-gone : All (IsAtRest w.tells w.page_count w.reads w.may_leave) nodes → EachNode (HasAllOf (knows conductor).story) new → (knows conductor).owner ≡ 0 → tick_count (knows conductor).own ≤ limits.ticks
+          → EndsFor w.tells limits why new (knows conductor) → HaveGone w limits begun why media passes
+      have-gone rest each owner ticks ends = record {
+        nodes = nodes;
+        conductor = conductor;
+        media_are = media-are;
+        passes_are = passes-are;
+        went = subst (λ (xs : List (NodeParts M)). AllZip (GoesOn w.tells w.faults w.reads) begun xs) (sym nodes-are) as-dealt.2;
+        rest = rest;
+        all = each-listed W pos (HasAllOf (knows conductor).story) nodes new nodes-dealt shares-count each;
+        owner = owner;
+        ticks = ticks;
+        ends = ends-listed W pos nodes new nodes-dealt shares-count w.tells limits why (knows conductor) ends;
+      }

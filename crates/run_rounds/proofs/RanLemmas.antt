@@ -1,0 +1,190 @@
+-- From how its nodes ended, and what the closing of its wire tells, to the end of a run.
+use Rattle.std.proofs.Common.{◌≡◌, ◌≢◌, ◌⊎◌, ◌≤◌, ◌<◌, ◌++◌, ◌∙◌, ℕ, Bool, true, IsTrue, List, [], ◌∷◌, Option, Some, length, map, get_or, inl, inr, refl, ap, sym, subst, arith}
+use Rattle.std.specs.Prelude.{All, Any}
+use Rattle.std.specs.List.{AllZip}
+use Rattle.std.proofs.lemmas.Option.{get_or_from_slice_get, slice_get_within}
+use Rattle.std.proofs.lemmas.Slice.Zip.{AllZip-long}
+use Rattle.pseudo_time.specs.declared.nodes.NodeId.{NodeId}
+use Rattle.pseudo_time.specs.Nodes.{broker}
+use Rattle.pseudo_time.specs.declared.down_causes.DownCause.{DownCause}
+use Rattle.stream_port.specs.declared.fates.Asked.{Asked}
+use Rattle.seat_lock.specs.declared.views.View.{View}
+use Rattle.seat_lock.specs.declared.views.Founding.{Founding}
+use Rattle.seat_lock.specs.declared.locks.LockTable.{LockTable}
+use Rattle.seat_lock.specs.Words.{CarriesOn, base_of as lock_base, knows}
+use Rattle.plan_form.specs.declared.plans.Plan.{Plan}
+use Rattle.plan_form.specs.PlanTexts.{IsOfLanguage}
+use Rattle.broker_core.specs.Readings.{reading}
+use Rattle.world_core.specs.declared.entries.Entry.{Entry}
+use Rattle.world_core.specs.declared.traces.Trace.{Trace}
+use Rattle.world_core.specs.Walks.{Base, World, walk}
+use Rattle.world_core.specs.Legal.{Idle, base_of, fates_of, in_plan}
+use Rattle.wire_core.specs.Wires.{Origin, WireParts, base_from}
+use Rattle.wire_core.specs.Boards.{owner_of}
+use Rattle.wire_lock.specs.Sights.{IsOf, IsWirePass}
+use Rattle.trace_report.specs.Counts.{tick_count}
+use Rattle.node_turn.specs.declared.conditions.Condition.{Condition}
+use Rattle.node_turn.specs.declared.conditions.Condition.TheVariants as condition
+use Rattle.node_turn.specs.Nodes.{NodeParts, IsAtRest, Stands, sight}
+use Rattle.node_rounds.specs.declared.limits.Limits.{Limits}
+use Rattle.node_rounds.specs.declared.reasons.Reason.{Reason}
+use Rattle.node_rounds.specs.declared.reasons.Reason.TheVariants as reason
+use Rattle.node_rounds.specs.Nodes.{GoesOn, IsUp}
+use Rattle.node_rounds.specs.Reasons.{HasMemory, IsDone, is_done_at}
+use Rattle.run_media.specs.declared.openings.Opening.{Opening}
+use Rattle.run_media.specs.Media.{Media}
+use Rattle.run_media.specs.Openings.{AreReady, HasOpened, IsOpen}
+use Rattle.run_media.specs.Places.{node_count}
+use Rattle.run_starts.specs.Seats.{Along, IsNewNode}
+use Rattle.run_starts.specs.Starts.{IsSetUp, fresh_for}
+use Rattle.run_rounds.specs.declared.ends.End.{End}
+use Rattle.run_rounds.specs.declared.ends.End.TheVariants as end
+use Rattle.run_rounds.specs.Closings.{ClosedAs, HasRun, HaveGone, IfRan, ListEnds, Pass}
+use Rattle.run_rounds.specs.Ends.{AllDone, HasEnded, HasRunOut, some_down}
+use Rattle.run_rounds.specs.Finishes.{EndsAs, IsKeptWhole, account_of, tellers}
+use Rattle.run_rounds.specs.Runs.{IsTold, Ran}
+use Rattle.run_rounds.proofs.ListLemmas.{all-end, all-front, all-mapped, one-of}
+use Rattle.run_rounds.proofs.EndLemmas.{down-whole, done-whole, enough-whole, ticks-whole}
+use Rattle.run_rounds.proofs.SeenLemmas.{At, are-back, logs-of, none-own, went-along}
+use Rattle.run_rounds.proofs.KnownLemmas.{HaveStood, Known, at-base, same-base}
+use Rattle.run_rounds.proofs.LogLemmas.{restores, stood-at}
+use Rattle.run_rounds.proofs.CountLemmas.{are-counted, have-causes}
+use Rattle.run_rounds.proofs.KeptLemmas.{all-kept}
+use Rattle.run_rounds.proofs.RangeLemmas.{ranges-of, ranges-opened}
+use Rattle.run_rounds.proofs.ToldLemmas.{is-told, nodes-told, ready-told}
+
+-- ---- memory
+
+-- in a run that doesn't end for want of memory no node wanted any
+memory-of : {M : Type 0} (tells : Bool) (limits : Limits) (why : Reason) (nodes : List (NodeParts M)) (k : _) → ListEnds tells limits why nodes k → why ≢ reason.Wanting → All HasMemory nodes
+memory-of tells limits reason.Down nodes k h memory = h.0
+memory-of tells limits reason.Done nodes k h memory = λ i d lt. up-memory (h.0 i d lt)
+  where
+    up-memory : {c : Condition} → c ≡ condition.AtWork → c ≢ condition.Wanting
+    up-memory e f = let z : condition.AtWork ≡ condition.Wanting = sym e ∙ f in absurd (cc z)
+memory-of tells limits reason.Enough nodes k h memory = λ i d lt. up-memory (h.0 i d lt)
+  where
+    up-memory : {c : Condition} → c ≡ condition.AtWork → c ≢ condition.Wanting
+    up-memory e f = let z : condition.AtWork ≡ condition.Wanting = sym e ∙ f in absurd (cc z)
+memory-of tells limits reason.RunOut nodes k h memory = λ i d lt. up-memory (h.0 i d lt)
+  where
+    up-memory : {c : Condition} → c ≡ condition.AtWork → c ≢ condition.Wanting
+    up-memory e f = let z : condition.AtWork ≡ condition.Wanting = sym e ∙ f in absurd (cc z)
+memory-of tells limits reason.Wanting nodes k h memory = absurd (memory refl)
+
+module _ {M Q A : Type 0} (w : Media M) (limits : Limits) (plan : Plan) (lock : LockTable WireParts (View WireParts Entry) (Founding WireParts) Q A) (t : Trace) (asked : List Asked) (answers : Option (List ℕ)) where
+  abbrev origin : Origin
+  origin = (lock_base lock).origin
+
+  abbrev IsKnown : Pass → Type 0
+  IsKnown pass = Known w plan lock t pass
+
+  module _ (begun : List (NodeParts M)) (why : Reason) (media : List (Option M)) (passes : List Pass) (gone : HaveGone w limits begun why media passes) (wires : All (IsWirePass lock) passes) (close : ClosedAs w.tells origin passes why t asked answers) where
+    known : All IsKnown (map (λ (n : NodeParts M). n.pass) gone.nodes ++ gone.conductor ∷ [])
+    known = subst (All IsKnown) gone.passes_are (λ k d lt. record { wire = wires k d lt; carries = close.carries k d lt })
+
+    pub of-node : All (λ (n : NodeParts M). IsKnown n.pass) gone.nodes
+    of-node = all-mapped IsKnown (λ (n : NodeParts M). n.pass) gone.nodes (all-front IsKnown (map (λ (n : NodeParts M). n.pass) gone.nodes) (gone.conductor ∷ []) known)
+
+    conductor : IsKnown gone.conductor
+    conductor = all-end IsKnown (map (λ (n : NodeParts M). n.pass) gone.nodes) gone.conductor known
+
+    pub has-memory : All HasMemory gone.nodes
+    has-memory = memory-of w.tells limits why gone.nodes (knows gone.conductor) gone.ends close.memory
+
+    ticks-are : tick_count t.entries ≡ tick_count (knows gone.conductor).own
+    ticks-are = ticks-whole (knows gone.conductor) t.entries gone.owner conductor.carries
+
+    some-down : (i : ℕ) (p : NodeParts M) → i < length gone.nodes → get_or gone.nodes i p ≡ p → (cause : DownCause) → p.condition ≡ condition.Down cause → some_down t.entries ≡ true
+    some-down i p lt is cause down =
+        let rest = one-of (IsAtRest w.tells w.page_count w.reads w.may_leave) gone.nodes i p gone.rest lt is in
+        let k = one-of (λ (n : NodeParts M). IsKnown n.pass) gone.nodes i p of-node lt is in
+        let stands = subst (λ (c : Condition). Stands w.tells w.page_count w.reads w.may_leave c p) down rest.stands in
+        down-whole (sight p) t.entries stands.2.0 p.node cause k.carries stands.2.1
+
+    module _ (first : List (Option M)) (stood : HaveStood w plan lock t first gone.nodes) (told : IsTrue w.tells) where
+      all-done : All IsDone gone.nodes → AllDone plan t
+      all-done done b within =
+          let s = stood-at w plan lock t first gone.nodes stood (broker b) within in
+          let p = s.node in
+          let d = one-of IsDone gone.nodes s.place p done (slice_get_within gone.nodes s.place p s.here) (get_or_from_slice_get gone.nodes s.place p p s.here) in
+          done-whole (sight p) (broker b) t.entries (base_of (reading plan.acts) plan t) (subst (λ (n : NodeId). IsOf n (sight p)) s.went.name s.went.rest.own) s.went.pass.wire.own s.went.pass.carries
+          (at-base w plan lock t p.pass s.went.pass.wire ∙ stood.same) refl (subst (λ (n : NodeId). is_done_at (sight p) n ≡ true) s.went.name d)
+
+      ends-so : (r : Reason) → r ≡ why → ListEnds w.tells limits r gone.nodes (knows gone.conductor)
+          → (some_down t.entries ≡ true) ⊎ (AllDone plan t ⊎ ((limits.messages ≤ length t.sent) ⊎ HasRunOut limits.ticks plan t))
+      ends-so reason.Down e h = let d = h.1 in inl (some-down d.0 d.1 d.2 d.3 d.4.0 d.4.1)
+      ends-so reason.Done e h = inr (inl (all-done (h.1 told)))
+      ends-so reason.Enough e h = inr (inr (inl (enough-whole (knows gone.conductor) origin t limits.messages (at-base w plan lock t gone.conductor conductor.wire) conductor.carries (close.whole.sent told) (h.1 told))))
+      ends-so reason.RunOut e h = inr (inr (inr (subst (λ (b : Base). Idle (fates_of t.sent) (walk b t.entries)) stood.same (close.idle told (sym e)), ticks-are ∙ h.2)))
+      ends-so reason.Wanting e h = absurd (close.memory (sym e))
+
+      -- the run has ended
+      pub ended-so : HasEnded limits.ticks limits.messages plan t
+      ended-so = record { few = (let few = gone.ticks in omega (arith, ticks-are, few)); why = ends-so why refl gone.ends }
+
+-- ---- the end
+
+module _ {M Q A : Type 0} {g : _} (w : Media M) (limits : Limits) (plan : Plan) (lang : IsOfLanguage plan) (lock : LockTable WireParts (View WireParts Entry) (Founding WireParts) Q A) (asked : List Asked) (answers : Option (List ℕ))
+    (first : List (Option M)) (os : List (Opening M g)) (opened : AllZip (HasOpened w) first os) (are-open : All IsOpen os) (count : length os ≡ node_count plan) (ready : AreReady plan 0 os)
+    (set : IsSetUp plan os (lock_base lock).origin.asked (lock_base lock).origin.answers (lock_base lock).origin) (begun : List (NodeParts M)) (new : Along (IsNewNode plan) 0 os begun)
+    (unseen : All (λ (b : NodeParts M). (sight b).own ≡ []) begun) where
+  first-count : length first ≡ node_count plan
+  first-count = sym (AllZip-long (HasOpened w) first os opened) ∙ count
+
+  module _ (why : Reason) (media : List (Option M)) (passes : List Pass) (gone : HaveGone w limits begun why media passes) (wires : All (IsWirePass lock) passes) where
+    -- what is known of each node's place, by what is known of its pass
+    places : (Q : Pass → Type 0) → All (λ (n : NodeParts M). Q n.pass) gone.nodes → Along (At w plan (lock_base lock).origin Q) 0 first gone.nodes
+    places Q all = went-along w plan (lock_base lock).origin Q 0 first os begun gone.nodes opened are-open new unseen gone.went gone.rest all
+        (logs-of w plan (lock_base lock).origin Q os (lock_base lock).origin.asked (lock_base lock).origin.answers set)
+
+    node-wires : All (λ (n : NodeParts M). IsWirePass lock n.pass) gone.nodes
+    node-wires = all-mapped (IsWirePass lock) (λ (n : NodeParts M). n.pass) gone.nodes
+        (all-front (IsWirePass lock) (map (λ (n : NodeParts M). n.pass) gone.nodes) (gone.conductor ∷ []) (subst (All (IsWirePass lock)) gone.passes_are wires))
+
+    module _ (t : Trace) (close : ClosedAs w.tells (lock_base lock).origin passes why t asked answers) where
+      stood : HaveStood w plan lock t first gone.nodes
+      stood = record {
+        along = places (Known w plan lock t) (of-node w limits plan lock t asked answers begun why media passes gone wires close);
+        count = first-count;
+        same = same-base plan os (lock_base lock).origin.asked (lock_base lock).origin.answers (lock_base lock).origin t set close.whole.start close.whole.opened;
+        opened = close.whole.opened;
+        memory = has-memory w limits plan lock t asked answers begun why media passes gone wires close;
+      }
+
+      told-as : IsTrue w.tells → IsTold plan (account_of t (tellers (lock_base lock).origin.asked asked (lock_base lock).origin.answers answers))
+      told-as told = is-told plan os (lock_base lock).origin t set lang count ready w.tells asked answers told close.whole
+
+      has-ran : Ran w limits.ticks limits.messages plan (account_of t (tellers (lock_base lock).origin.asked asked (lock_base lock).origin.answers answers)) first (map (λ (n : NodeParts M). Some n.medium) gone.nodes)
+      has-ran = record {
+        nodes = nodes-told plan os (lock_base lock).origin t set lang count ready close.whole.opened;
+        ready = ready-told plan os (lock_base lock).origin t set lang count ready close.whole.opened;
+        ranges = ranges-of plan lang os (lock_base lock).origin.asked asked (lock_base lock).origin.answers answers (lock_base lock).origin w.tells t set count (ranges-opened w first os opened) close.whole;
+        is_told = told-as;
+        over = λ told. inl (ended-so w limits plan lock t asked answers begun why media passes gone wires close first stood told);
+        logs = restores w plan lock t first gone.nodes stood;
+        counts = are-counted w plan lock t first gone.nodes stood;
+        stops = λ told. have-causes w plan lock t first gone.nodes stood asked lang.repositories.1 told
+            (told-as told).legal;
+      }
+
+    -- nothing that stood in a log is lost, however the run ends
+    pub ran-kept : AllZip (IsKeptWhole w) first (map (λ (n : NodeParts M). Some n.medium) gone.nodes)
+    ran-kept = all-kept w plan lock first gone.nodes (places (IsWirePass lock) node-wires)
+
+    -- by the end that is told
+    ends-by : (e : End) → IfRan e (λ t. ClosedAs w.tells (lock_base lock).origin passes why t asked answers)
+        → EndsAs w limits.ticks limits.messages plan (tellers (lock_base lock).origin.asked asked (lock_base lock).origin.answers answers) first (map (λ (n : NodeParts M). Some n.medium) gone.nodes) e
+    ends-by (end.Ran t) close = has-ran t close
+    ends-by (end.Refused fault) close = absurd close
+    ends-by end.NoMemory close = (
+      are-back w plan (lock_base lock).origin (IsWirePass lock) first gone.nodes (places (IsWirePass lock) node-wires),
+      ran-kept,
+    )
+
+  -- a run whose nodes were opened ends as it is told
+  pub ends-as : (media : List (Option M)) (e : End) → HasRun w lock limits begun media e asked answers
+      → EndsAs w limits.ticks limits.messages plan (tellers (lock_base lock).origin.asked asked (lock_base lock).origin.answers answers) first media e
+  ends-as media e run =
+      subst (λ (l : List (Option M)). EndsAs w limits.ticks limits.messages plan (tellers (lock_base lock).origin.asked asked (lock_base lock).origin.answers answers) first l e) (sym run.gone.media_are)
+      (ends-by run.why media run.passes run.gone run.wires e run.closed)

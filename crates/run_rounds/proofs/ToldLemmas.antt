@@ -1,0 +1,51 @@
+-- What the closing of a run's wire tells, of the plan that the run was set up for.
+use Rattle.std.proofs.Common.{◌≡◌, ◌∙◌, ℕ, true, IsTrue, List, length, Option, Some, refl, ap, sym, subst}
+use Rattle.pseudo_time.specs.declared.nodes.NodeId.{NodeId}
+use Rattle.value_form.specs.declared.acts.ActSpec.{ActSpec}
+use Rattle.effect_form.specs.declared.effects.Effect.{Effect}
+use Rattle.stream_port.specs.declared.fates.Asked.{Asked}
+use Rattle.plan_form.specs.declared.plans.Plan.{Plan}
+use Rattle.plan_form.specs.PlanTexts.{IsOfLanguage}
+use Rattle.broker_core.specs.Readings.{reading}
+use Rattle.world_core.specs.declared.traces.Opened.{Opened}
+use Rattle.world_core.specs.declared.traces.Trace.{Trace}
+use Rattle.world_core.specs.Nodes.{is_ready}
+use Rattle.world_core.specs.Walks.{opened_log}
+use Rattle.world_core.specs.Legal.{AllReady, JustNodes, base_of}
+use Rattle.wire_core.specs.Wires.{IsRunOf, Origin}
+use Rattle.wire_core.specs.Clocked.{IsClocked}
+use Rattle.wire_lock.specs.Stories.{IsWhole}
+use Rattle.run_media.specs.declared.openings.Opening.{Opening}
+use Rattle.run_media.specs.Openings.{AreReady}
+use Rattle.run_media.specs.Places.{node_count}
+use Rattle.run_starts.specs.Starts.{IsSetUp}
+use Rattle.run_starts.proofs.StartLemmas.{run-of}
+use Rattle.run_rounds.specs.Finishes.{account_of, tellers}
+use Rattle.run_rounds.specs.Runs.{IsTold}
+
+-- what is set up is so for what its wire began with
+pub set-up-own : {M : Type 0} {g : _} (plan : Plan) (os : List (Opening M g)) (asked : List Asked) (answers : Option (List ℕ)) (o : Origin) → IsSetUp plan os asked answers o → IsSetUp plan os o.asked o.answers o
+set-up-own plan os asked answers o s = record { run = s.run; acts = s.acts; opened = s.opened; start = s.start; asked_is = refl; answers_are = refl }
+
+module _ {M : Type 0} {g : _} (plan : Plan) (os : List (Opening M g)) (o : Origin) (t : Trace) (set : IsSetUp plan os o.asked o.answers o) (language : IsOfLanguage plan) (count : length os ≡ node_count plan) (ready : AreReady plan 0 os) where
+  run : IsRunOf plan o
+  run = run-of plan os o.asked o.answers o set language count ready
+
+  module _ (opened : t.opened ≡ o.opened) where
+    -- its nodes are those of the plan
+    pub nodes-told : JustNodes plan t.opened
+    nodes-told = subst (JustNodes plan) (sym opened) run.nodes
+
+    -- and their logs show neither a later run nor another plan
+    pub ready-told : AllReady (base_of (reading plan.acts) plan t)
+    ready-told n log e =
+        subst (λ (acts : List ActSpec). is_ready (reading acts) plan.run acts n log ≡ true) (sym run.acts)
+        (subst (λ (r : ℕ). is_ready (reading o.acts) r o.acts n log ≡ true) (sym run.run) (run.ready n log (sym (ap (λ (l : List Opened). opened_log l n) opened) ∙ e)))
+
+  -- the trace is one of the plan
+  pub is-told : (told : _) (asked : List Asked) (answers : Option (List ℕ)) → IsTrue told → IsWhole told o t asked answers → IsTold plan (account_of t (tellers o.asked asked o.answers answers))
+  is-told told asked answers known whole = record {
+    legal = whole.legal known plan run;
+    fates = whole.fates;
+    clock = subst (λ (start : ℕ). IsClocked o.answers answers start t.entries) (sym whole.start) whole.clock;
+  }

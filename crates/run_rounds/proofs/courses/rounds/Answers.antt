@@ -1,0 +1,44 @@
+use Rattle.std.proofs.Common.{◌≡◌, ◌∙◌, ◌++◌, ◌∷◌, [], length, sym, ap, arith}
+use Rattle.std.proofs.lemmas.List.{length-map}
+use Rattle.node_rounds.specs.Nodes.{IsReady}
+use Rattle.run_media.specs.Media.{media_with}
+use Rattle.run_starts.proofs.AlongLemmas.{each-shared}
+use Rattle.run_rounds.proofs.CourseLemmas.{all-passes, dealt-again, have-gone, shares-count}
+use Rattle.run_rounds.proofs.courses.rounds.Goals as goal
+
+pub go_on-shares-requires-clause-ready : goal.go_on-shares-requires-clause-ready
+go_on-shares-requires-clause-ready g c κs within =
+    each-shared (length c.args.shares.items) c.requires.some (IsReady c.args.wire.now.lock) c.args.nodes.items c.deal-nodes.result.1.items c.deal-nodes.ensures.dealt c.deal-nodes.ensures.count c.requires.ready
+
+pub collect-nodes-requires-clause-some : goal.collect-nodes-requires-clause-some
+collect-nodes-requires-clause-some g c =
+    let w = media_with g.M.Medium.tells g.M.Medium.reads g.M.Medium.may_leave g.M.Medium.page_count g.M.Medium.faults g.M.Medium.is_failed in
+    let n = shares-count w (length c.args.shares.items) c.requires.some c.args.nodes.items c.deal-nodes.result.1.items c.go_on-shares.result.0.items c.deal-nodes.ensures.dealt c.deal-nodes.ensures.count c.go_on-shares.ensures.went in
+    let some = c.requires.some in omega (arith, n, some)
+
+pub collect-nodes-requires-clause-dealt : goal.collect-nodes-requires-clause-dealt
+collect-nodes-requires-clause-dealt g c =
+    let w = media_with g.M.Medium.tells g.M.Medium.reads g.M.Medium.may_leave g.M.Medium.page_count g.M.Medium.faults g.M.Medium.is_failed in
+    let h = dealt-again w (length c.args.shares.items) c.requires.some c.args.nodes.items c.deal-nodes.result.1.items c.go_on-shares.result.0.items c.deal-nodes.ensures.dealt c.deal-nodes.ensures.count c.go_on-shares.ensures.went in
+    let l = h.2 in
+    (h.0, h.1, omega (arith, l, c.args.nodes.ok, c.len-count.ensures))
+
+pub push_reserved-requires : goal.push_reserved-requires
+push_reserved-requires g c =
+    let p = ap length c.take_apart-media.ensures.passes ∙ length-map c.collect-nodes.result.items _ in
+    omega (arith, p, c.collect-nodes.ensures.room.0, c.take_apart-media.ensures.room.1, c.take_apart-media.result.1.ok, c.collect-nodes.result.ok, c.requires.room.1, c.len-count.ensures)
+
+pub returns-clause-passes : goal.returns-clause-passes
+returns-clause-passes g c =
+    let w = media_with g.M.Medium.tells g.M.Medium.reads g.M.Medium.may_leave g.M.Medium.page_count g.M.Medium.faults g.M.Medium.is_failed in
+    all-passes w (length c.args.shares.items) c.requires.some c.args.nodes.items c.deal-nodes.result.1.items c.go_on-shares.result.0.items c.deal-nodes.ensures.dealt c.deal-nodes.ensures.count c.go_on-shares.ensures.went
+    c.collect-nodes.result.items (λ xs d l. c.collect-nodes.ensures.whole xs d (omega (arith, l, c.args.nodes.ok, c.len-count.ensures)))
+    c.args.wire.now.lock c.push_reserved.new.self.items c.go_on-shares.result.1 (c.push_reserved.ensures.items ∙ ap (λ l. l ++ c.go_on-shares.result.1 ∷ []) c.take_apart-media.ensures.passes) c.go_on-shares.ensures.passes.0 c.go_on-shares.ensures.passes.1
+
+pub returns-clause-gone : goal.returns-clause-gone
+returns-clause-gone g c =
+    let w = media_with g.M.Medium.tells g.M.Medium.reads g.M.Medium.may_leave g.M.Medium.page_count g.M.Medium.faults g.M.Medium.is_failed in
+    have-gone w (length c.args.shares.items) c.requires.some c.args.nodes.items c.deal-nodes.result.1.items c.go_on-shares.result.0.items c.deal-nodes.ensures.dealt c.deal-nodes.ensures.count c.go_on-shares.ensures.went
+    c.collect-nodes.result.items (λ xs d l. c.collect-nodes.ensures.whole xs d (omega (arith, l, c.args.nodes.ok, c.len-count.ensures)))
+    c.args.limits c.go_on-shares.result.2 c.take_apart-media.result.0.items c.push_reserved.new.self.items c.go_on-shares.result.1 (c.push_reserved.ensures.items ∙ ap (λ l. l ++ c.go_on-shares.result.1 ∷ []) c.take_apart-media.ensures.passes)
+    c.take_apart-media.ensures.media c.take_apart-media.ensures.rest c.go_on-shares.ensures.all c.go_on-shares.ensures.conductor c.go_on-shares.ensures.ticks c.go_on-shares.ensures.reason

@@ -1,0 +1,25 @@
+use Rattle.std.proofs.Common.{arith}
+use Rattle.run_media.specs.Media.{media_with}
+use Rattle.run_rounds.proofs.CloseLemmas.{gone-left, passes-count}
+use Rattle.run_rounds.proofs.runs.run_nodes.Goals as goal
+
+pub closed_run-requires-clause-all : goal.closed_run-requires-clause-all
+closed_run-requires-clause-all g c =
+    let r = c.rounds-ended.result in
+    let w = media_with g.M.Medium.tells g.M.Medium.reads g.M.Medium.may_leave g.M.Medium.page_count g.M.Medium.faults g.M.Medium.is_failed in
+    let n = passes-count w c.args.limits c.args.nodes.items r.reason r.media.items r.passes.items c.rounds-ended.ensures.gone in
+    let ok = r.passes.ok in
+    let count = c.requires.count in
+    omega (arith, n, ok, count)
+
+pub returns : goal.returns
+returns g c =
+    let r = c.rounds-ended.result in
+    let w = media_with g.M.Medium.tells g.M.Medium.reads g.M.Medium.may_leave g.M.Medium.page_count g.M.Medium.faults g.M.Medium.is_failed in
+    record {
+      why = r.reason;
+      passes = r.passes.items;
+      gone = gone-left w c.args.limits c.args.nodes.items r.reason r.media.items c.closed_run.result.media r.passes.items c.closed_run.ensures.media c.rounds-ended.ensures.gone;
+      wires = c.rounds-ended.ensures.passes;
+      closed = c.closed_run.ensures.closed;
+    }

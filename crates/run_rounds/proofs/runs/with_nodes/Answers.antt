@@ -1,0 +1,173 @@
+use Rattle.std.proofs.Common.{◌≡◌, ◌∙◌, [], length, map, sym, subst, ap, arith}
+use Rattle.std.proofs.lemmas.List.{length-map}
+use Rattle.std.specs.Prelude.{All}
+use Rattle.seat_lock.specs.Words.{base_of, knows}
+use Rattle.wire_lock.specs.Sights.{IsWirePass}
+use Rattle.node_turn.specs.Nodes.{NodeParts}
+use Rattle.run_media.specs.Media.{media_with}
+use Rattle.run_starts.specs.Deals.{HaveRoom, IsDealt}
+use Rattle.run_starts.specs.Seats.{IsNewNode}
+use Rattle.run_rounds.specs.declared.ends.End.TheVariants as end
+use Rattle.run_rounds.specs.Closings.{Pass}
+use Rattle.run_rounds.specs.Finishes.{EndsAs, tellers}
+use Rattle.run_rounds.proofs.BackLemmas.{opened-back, opened-kept}
+use Rattle.run_rounds.proofs.CloseLemmas.{new-conductor}
+use Rattle.run_rounds.proofs.ListLemmas.{all-mapped, along-long}
+use Rattle.run_rounds.proofs.PlaceLemmas.{pass-count, seats-count}
+use Rattle.run_rounds.proofs.RanLemmas.{ends-as}
+use Rattle.run_rounds.proofs.SeenLemmas.{none-own}
+use Rattle.run_rounds.proofs.SoundLemmas.{can-seat, open-of, ready-nodes}
+use Rattle.run_rounds.proofs.runs.with_nodes.Goals as goal
+
+pub stopped-requires-clause-all : goal.stopped-requires-clause-all
+stopped-requires-clause-all g c =
+    let lock = c.args.begun.wire.lock in
+    let wire = base_of lock in
+    let passes = c.args.begun.passes in
+    let os = c.args.openings.items in
+    let plan = c.args.plan.now in
+    let n = pass-count wire wire.origin.opened passes.items c.requires.fresh in
+    omega (arith, n, passes.ok)
+
+pub returns-in_default : goal.returns-in_default
+returns-in_default g c first opened =
+    let w = media_with g.M.Medium.tells g.M.Medium.reads g.M.Medium.may_leave g.M.Medium.page_count g.M.Medium.faults g.M.Medium.is_failed in
+    let lock = c.args.begun.wire.lock in
+    let wire = base_of lock in
+    let passes = c.args.begun.passes in
+    let os = c.args.openings.items in
+    let plan = c.args.plan.now in
+    let r = c.stopped.result in
+    let told = tellers wire.origin.asked (g.F.Fates.asked r.fates) wire.origin.answers (g.C.Clock.answers r.clock) in
+    subst (λ e. EndsAs w c.args.limits.ticks c.args.limits.messages plan told first r.media e) (sym c.stopped.ensures.end)
+    (subst (λ left. EndsAs w c.args.limits.ticks c.args.limits.messages plan told first left end.NoMemory) (sym (c.stopped.ensures.media ∙ c.give_back.ensures.back))
+    (opened-back w first os opened, opened-kept w first os opened))
+
+pub open_nodes-nodes-requires-clause-can : goal.open_nodes-nodes-requires-clause-can
+open_nodes-nodes-requires-clause-can g c =
+    let lock = c.args.begun.wire.lock in
+    let wire = base_of lock in
+    let passes = c.args.begun.passes in
+    let os = c.args.openings.items in
+    let plan = c.args.plan.now in
+    can-seat (media_with g.M.Medium.tells g.M.Medium.reads g.M.Medium.may_leave g.M.Medium.page_count g.M.Medium.faults g.M.Medium.is_failed) plan os wire c.args.begun.start passes.items c.requires.set_up c.requires.start c.requires.ready c.requires.sound c.requires.fresh
+
+pub stopped-requires-then-not-is_whole-clause-passes : goal.stopped-requires-then-not-is_whole-clause-passes
+stopped-requires-then-not-is_whole-clause-passes g c =
+    let lock = c.args.begun.wire.lock in
+    let wire = base_of lock in
+    let passes = c.args.begun.passes in
+    let os = c.args.openings.items in
+    let plan = c.args.plan.now in
+    let back = c.open_nodes-nodes.ensures.back c.if-not-is_whole.true in
+    (subst (All (IsWirePass lock)) (sym back.1) c.requires.passes, c.requires.conductor.0)
+
+pub stopped-requires-then-not-is_whole-clause-all : goal.stopped-requires-then-not-is_whole-clause-all
+stopped-requires-then-not-is_whole-clause-all g c =
+    let lock = c.args.begun.wire.lock in
+    let wire = base_of lock in
+    let passes = c.args.begun.passes in
+    let os = c.args.openings.items in
+    let plan = c.args.plan.now in
+    let back = c.open_nodes-nodes.ensures.back c.if-not-is_whole.true in
+    let n = pass-count wire wire.origin.opened passes.items c.requires.fresh in
+    let same = ap length back.1 in
+    omega (arith, n, same, c.open_nodes-nodes.result.passes.ok)
+
+pub stopped-requires-then-not-is_whole-clause-room : goal.stopped-requires-then-not-is_whole-clause-room
+stopped-requires-then-not-is_whole-clause-room g c =
+    let back = c.open_nodes-nodes.ensures.back c.if-not-is_whole.true in
+    let same = ap length back.1 in
+    omega (arith, same, c.open_nodes-nodes.result.passes.ok, c.args.begun.passes.ok, c.requires.pass_room, c.open_nodes-nodes.ensures.room.1)
+
+pub returns-then-not-is_whole : goal.returns-then-not-is_whole
+returns-then-not-is_whole g c first opened =
+    let w = media_with g.M.Medium.tells g.M.Medium.reads g.M.Medium.may_leave g.M.Medium.page_count g.M.Medium.faults g.M.Medium.is_failed in
+    let lock = c.args.begun.wire.lock in
+    let wire = base_of lock in
+    let passes = c.args.begun.passes in
+    let os = c.args.openings.items in
+    let plan = c.args.plan.now in
+    let back = c.open_nodes-nodes.ensures.back c.if-not-is_whole.true in
+    let r = c.stopped-then-not-is_whole.result in
+    let told = tellers wire.origin.asked (g.F.Fates.asked r.fates) wire.origin.answers (g.C.Clock.answers r.clock) in
+    subst (λ e. EndsAs w c.args.limits.ticks c.args.limits.messages plan told first r.media e) (sym c.stopped-then-not-is_whole.ensures.end)
+    (subst (λ left. EndsAs w c.args.limits.ticks c.args.limits.messages plan told first left end.NoMemory) (sym (c.stopped-then-not-is_whole.ensures.media ∙ back.0))
+    (opened-back w first os opened, opened-kept w first os opened))
+
+pub run_nodes-requires-clause-ready : goal.run_nodes-requires-clause-ready
+run_nodes-requires-clause-ready g c κs within =
+    let lock = c.args.begun.wire.lock in
+    let wire = base_of lock in
+    let passes = c.args.begun.passes in
+    let os = c.args.openings.items in
+    let plan = c.args.plan.now in
+    let whole = c.if-not-is_whole.false in
+    let o = c.open_nodes-nodes in
+    ready-nodes lock plan os o.result.nodes.items passes.items (o.ensures.new whole) (o.ensures.passes whole) c.requires.passes
+
+pub run_nodes-requires-clause-count : goal.run_nodes-requires-clause-count
+run_nodes-requires-clause-count g c κs within =
+    let lock = c.args.begun.wire.lock in
+    let wire = base_of lock in
+    let passes = c.args.begun.passes in
+    let os = c.args.openings.items in
+    let plan = c.args.plan.now in
+    let whole = c.if-not-is_whole.false in
+    let o = c.open_nodes-nodes in
+    let n = pass-count wire wire.origin.opened passes.items c.requires.fresh in
+    let same = ap length (o.ensures.passes whole) in
+    let long = length-map o.result.nodes.items (λ (n : NodeParts g.row.M.Denot). n.pass) in
+    omega (arith, n, same, long)
+
+pub run_nodes-requires-clause-pass : goal.run_nodes-requires-clause-pass
+run_nodes-requires-clause-pass g c κs within =
+    let lock = c.args.begun.wire.lock in
+    let wire = base_of lock in
+    let passes = c.args.begun.passes in
+    let os = c.args.openings.items in
+    let plan = c.args.plan.now in
+    let fresh = new-conductor wire (knows c.args.begun.conductor) c.requires.conductor.1 in
+    (c.requires.conductor.0, fresh.0, fresh.1)
+
+pub run_nodes-requires-clause-dealt : goal.run_nodes-requires-clause-dealt
+run_nodes-requires-clause-dealt g c κs within =
+    let shares = c.in-Ok-Ok.shares.items in
+    subst (λ n. IsDealt n [] shares) (sym c.in-Ok-Ok.ensures'.count) c.in-Ok-Ok.ensures'.dealt
+
+pub run_nodes-requires-clause-share_room : goal.run_nodes-requires-clause-share_room
+run_nodes-requires-clause-share_room g c κs within =
+    let shares = c.in-Ok-Ok.shares.items in
+    let whole = c.if-not-is_whole.false in
+    let o = c.open_nodes-nodes in
+    let long = along-long (IsNewNode c.args.plan.now) 0 c.args.openings.items o.result.nodes.items (o.ensures.new whole) in
+    (c.len-count.result, omega (arith, long, c.len-count.ensures, c.args.openings.ok, o.result.nodes.ok), subst (λ n. HaveRoom n c.len-count.result shares) (sym c.in-Ok-Ok.ensures'.count) c.in-Ok-Ok.ensures'.room)
+
+pub run_nodes-requires-clause-empty : goal.run_nodes-requires-clause-empty
+run_nodes-requires-clause-empty g c κs within = c.open_nodes-nodes.ensures.emptied c.if-not-is_whole.false
+
+pub run_nodes-requires-clause-room : goal.run_nodes-requires-clause-room
+run_nodes-requires-clause-room g c κs within =
+    let o = c.open_nodes-nodes in
+    let passes = c.args.begun.passes in
+    let long = along-long (IsNewNode c.args.plan.now) 0 c.args.openings.items o.result.nodes.items (o.ensures.new c.if-not-is_whole.false) in
+    let n = seats-count c.args.plan.now c.args.openings.items _ _ (base_of c.args.begun.wire.lock) c.requires.set_up passes.items c.requires.fresh in (
+      omega (arith, long, o.result.nodes.ok, c.args.openings.ok, c.requires.room, o.ensures.room.0),
+      omega (arith, long, n, o.result.nodes.ok, passes.ok, c.requires.pass_room, o.ensures.room.1),
+    )
+
+pub returns : goal.returns
+returns g c first opened =
+    let w = media_with g.M.Medium.tells g.M.Medium.reads g.M.Medium.may_leave g.M.Medium.page_count g.M.Medium.faults g.M.Medium.is_failed in
+    let lock = c.args.begun.wire.lock in
+    let wire = base_of lock in
+    let passes = c.args.begun.passes in
+    let os = c.args.openings.items in
+    let plan = c.args.plan.now in
+    let whole = c.if-not-is_whole.false in
+    let o = c.open_nodes-nodes in
+    let nodes = o.result.nodes.items in
+    let own = none-own wire wire.origin.opened passes.items c.requires.fresh in
+    let unseen = all-mapped (λ (p : Pass). (knows p).own ≡ []) (λ (n : NodeParts g.row.M.Denot). n.pass) nodes (subst (All (λ (p : Pass). (knows p).own ≡ [])) (sym (o.ensures.passes whole)) own) in
+    let r = c.run_nodes.result in
+    ends-as w c.args.limits plan c.requires.plan lock (g.F.Fates.asked r.fates) (g.C.Clock.answers r.clock) first os opened (open-of w os c.requires.sound) c.requires.count c.requires.ready c.requires.set_up nodes (o.ensures.new whole) unseen r.media r.end c.run_nodes.ensures

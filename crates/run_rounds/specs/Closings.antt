@@ -1,0 +1,82 @@
+-- What the closing of a run's wire tells, and how nodes ended that went in rounds.
+use Rattle.std.specs.Prelude.{◌≡◌, ◌≢◌, ℕ, ◌≤◌, Bool, true, IsTrue, List, [], ◌∷◌, ◌++◌, map, length, Option, Some, All, Any}
+use Rattle.std.specs.List.{AllZip}
+use Rattle.stream_port.specs.declared.fates.Asked.{Asked}
+use Rattle.atomic_table.specs.declared.shared.Seat.{Seat}
+use Rattle.seat_lock.specs.declared.views.View.{View}
+use Rattle.seat_lock.specs.declared.views.Founding.{Founding}
+use Rattle.seat_lock.specs.declared.locks.LockTable.{LockTable}
+use Rattle.seat_lock.specs.Rule.{IsOneOf}
+use Rattle.seat_lock.specs.Words.{CarriesOn, base_of, knows}
+use Rattle.world_core.specs.declared.entries.Entry.{Entry}
+use Rattle.world_core.specs.declared.traces.Trace.{Trace}
+use Rattle.world_core.specs.Walks.{sent_by}
+use Rattle.world_core.specs.Legal.{Idle, fates_of}
+use Rattle.wire_core.specs.Wires.{Origin, WireParts}
+use Rattle.wire_core.specs.Boards.{owner_of}
+use Rattle.wire_lock.specs.Sights.{AtRest, IsWirePass, Sight, owners_for, world_at}
+use Rattle.wire_lock.specs.Stories.{IsWhole, end_of}
+use Rattle.trace_report.specs.Counts.{tick_count}
+use Rattle.node_turn.specs.Nodes.{NodeParts, IsAtRest, sight}
+use Rattle.node_rounds.specs.declared.limits.Limits.{Limits}
+use Rattle.node_rounds.specs.declared.reasons.Reason.{Reason}
+use Rattle.node_rounds.specs.declared.reasons.Reason.TheVariants as reason
+use Rattle.node_rounds.specs.Nodes.{GoesOn, HasAllOf, IsUp}
+use Rattle.node_rounds.specs.Reasons.{HasMemory, IsDone, IsDown}
+use Rattle.run_media.specs.Media.{Media}
+use Rattle.run_rounds.specs.declared.ends.End.{End}
+use Rattle.run_rounds.specs.declared.ends.End.TheVariants.{Ran, Refused, NoMemory}
+
+abbrev pub Pass : Type 0
+Pass = Seat WireParts (View WireParts Entry)
+
+-- so it is of the trace, where one is told; else memory was wanting
+abbrev pub IfRan : End → (Trace → Type 0) → Type 0
+IfRan (Ran t) P = P t
+IfRan (Refused fault) P = ⊥
+IfRan NoMemory P = Unit {0}
+
+-- the trace is told for this reason: not where memory was wanting, and of a run that has run out only where its wire closed idle
+pub record ToldFor (told : Trace) (idle : Bool) (why : Reason) (t : Trace) : Type 0 where
+  pub is : t ≡ told
+  pub memory : why ≢ reason.Wanting
+  pub out : why ≡ reason.RunOut → idle ≡ true
+
+-- What is known of a run whose wire, of this origin, closed whole with these passes, for this reason.
+pub record ClosedAs (tells : Bool) (o : Origin) (passes : List Pass) (why : Reason) (t : Trace) (asked : List Asked) (answers : Option (List ℕ)) : Type 0 where
+  pub whole : IsWhole tells o t asked answers
+  pub carries : All (λ pass. CarriesOn owner_of (knows pass) t.entries) passes
+  pub owned : All (λ e. IsOneOf (owners_for o.opened) (owner_of e)) t.entries
+  pub memory : why ≢ reason.Wanting
+  pub idle : IsTrue tells → why ≡ reason.RunOut → Idle (fates_of t.sent) (end_of o t)
+
+module _ {M : Type 0} where
+  -- the conductor's reason, by the nodes in one list
+  abbrev pub ListEnds : Bool → Limits → Reason → List (NodeParts M) → Sight → Type 0
+  ListEnds tells limits reason.Down nodes k = All HasMemory nodes × Any IsDown nodes
+  ListEnds tells limits reason.Done nodes k = All IsUp nodes × (IsTrue tells → All IsDone nodes)
+  ListEnds tells limits reason.Enough nodes k = All IsUp nodes × (IsTrue tells → limits.messages ≤ length (sent_by (world_at k)))
+  ListEnds tells limits reason.RunOut nodes k = All IsUp nodes × AtRest (world_at k) × (tick_count k.own ≡ limits.ticks)
+  ListEnds tells limits reason.Wanting nodes k = Unit {0}
+
+-- How nodes ended that went in rounds, by what is handed back. `begun` are they as they were opened, in the plan's order.
+pub record HaveGone {M : Type 0} (w : Media M) (limits : Limits) (begun : List (NodeParts M)) (why : Reason) (media : List (Option M)) (passes : List Pass) : Type 0 where
+  pub nodes : List (NodeParts M)
+  pub conductor : Pass
+  pub media_are : media ≡ map (λ n. Some n.medium) nodes
+  pub passes_are : passes ≡ map (λ n. n.pass) nodes ++ conductor ∷ []
+  pub went : AllZip (GoesOn w.tells w.faults w.reads) begun nodes
+  pub rest : All (IsAtRest w.tells w.page_count w.reads w.may_leave) nodes
+  pub all : All (HasAllOf (knows conductor).story) nodes
+  pub owner : (knows conductor).owner ≡ 0
+  pub ticks : tick_count (knows conductor).own ≤ limits.ticks
+  pub ends : ListEnds w.tells limits why nodes (knows conductor)
+
+module _ {M Q A : Type 0} (w : Media M) (lock : LockTable WireParts (View WireParts Entry) (Founding WireParts) Q A) (limits : Limits) where
+  -- Nodes went in rounds from these on, and then the run's wire closed: their media stand in their places, and this is the end.
+  pub record HasRun (begun : List (NodeParts M)) (media : List (Option M)) (end : End) (asked : List Asked) (answers : Option (List ℕ)) : Type 0 where
+    pub why : Reason
+    pub passes : List Pass
+    pub gone : HaveGone w limits begun why media passes
+    pub wires : All (IsWirePass lock) passes
+    pub closed : IfRan end (λ t. ClosedAs w.tells (base_of lock).origin passes why t asked answers)

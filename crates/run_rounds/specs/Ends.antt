@@ -1,0 +1,39 @@
+-- When a run has ended.
+use Rattle.std.specs.Prelude.{◌≡◌, ◌⊎◌, ℕ, ◌≤◌, Bool, true, List, length}
+use Rattle.std.specs.List.{list_any}
+use Rattle.pseudo_time.specs.declared.nodes.NodeId.{NodeId}
+use Rattle.pseudo_time.specs.Nodes.{broker}
+use Rattle.plan_form.specs.declared.plans.Plan.{Plan}
+use Rattle.broker_core.specs.Readings.{reading}
+use Rattle.world_core.specs.declared.entries.Entry.{Entry}
+use Rattle.world_core.specs.declared.traces.Trace.{Trace}
+use Rattle.world_core.specs.Walks.{is_down}
+use Rattle.world_core.specs.Legal.{Idle, base_of, fates_of, in_plan, is_within}
+use Rattle.world_core.specs.Pasts.{WasNotOpened}
+use Rattle.world_core.specs.Readings.{life_after, world_after}
+use Rattle.trace_report.specs.Counts.{tick_count}
+use Rattle.broker_node.specs.Logs.{is_over}
+
+-- some node is down
+abbrev pub some_down : List Entry → Bool
+some_down es = list_any is_down es
+
+-- each act of the broker has its outcome, and no request is outstanding
+abbrev pub broker_done : Plan → Trace → ℕ → Bool
+broker_done plan t b = is_over (base_of (reading plan.acts) plan t) b (life_after plan t (broker b))
+
+abbrev pub AllDone : Plan → Trace → Type 0
+AllDone plan t = (b : ℕ) → is_within b plan.brokers ≡ true → broker_done plan t b ≡ true
+
+-- no node that is up has anything to do, and no further Tick may be made
+abbrev pub HasRunOut : (most_ticks : ℕ) → Plan → Trace → Type 0
+HasRunOut most_ticks plan t = Idle (fates_of t.sent) (world_after plan t) × (tick_count t.entries ≡ most_ticks)
+
+-- A run has at most so many Ticks, and ends where a node is down, all brokers are done, enough messages were sent, or it has run out.
+pub record HasEnded (most_ticks enough : ℕ) (plan : Plan) (t : Trace) : Type 0 where
+  pub few : tick_count t.entries ≤ most_ticks
+  pub why : (some_down t.entries ≡ true) ⊎ (AllDone plan t ⊎ ((enough ≤ length t.sent) ⊎ HasRunOut most_ticks plan t))
+
+-- A node of the plan wasn't opened, so that no round began.
+abbrev pub IsUnopened : Plan → Trace → Type 0
+IsUnopened plan t = (n : NodeId) × (in_plan plan n ≡ true) × WasNotOpened t.entries n

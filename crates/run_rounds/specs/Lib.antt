@@ -1,0 +1,5 @@
+pub mod Media
+pub mod Ends
+pub mod Runs
+pub mod Finishes
+pub mod Closings

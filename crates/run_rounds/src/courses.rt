@@ -1,0 +1,59 @@
+//! The rounds of a run whose nodes were all opened.
+ghost use Rattle.std.specs.Prelude.{◌≡◌, ◌≤◌, ◌<◌, [], length, vec_len, vec_capacity, All};
+ghost use Rattle.seat_lock.specs.Words.{knows};
+ghost use Rattle.wire_lock.specs.Sights.{IsWirePass};
+ghost use Rattle.trace_report.specs.Counts.{tick_count};
+ghost use Rattle.node_rounds.specs.Nodes.{IsReady};
+ghost use Rattle.run_media.specs.Media.{media_with};
+ghost use Rattle.run_rounds.specs.Closings.{HaveGone};
+ghost use Rattle.run_starts.specs.Deals.{IsDealt, HaveRoom};
+
+use crate::ends::Ended;
+use medium_port::Medium;
+use node_rounds::{Limits, RunNode, go_on};
+use run_starts::{collect, deal, take_apart};
+use std::sync::Wait;
+use std::thread::Threads;
+use stream_port::{Clock, Fates};
+use wire_lock::{SharedWire, WirePass};
+
+/// Lets the nodes go on, node i with worker i mod W, until the run has ended, and takes them apart. The
+/// shares are empty, with room for all nodes; so are the lists of media and passes.
+pub fn rounds<
+    F: Fates + Drop + Send,
+    C: Clock + Drop + Send,
+    M: Medium + Drop + Send,
+    R: Threads + Wait + Sync,
+>(
+    rt: &R,
+    wire: &SharedWire<F, C, M>,
+    limits: Limits,
+    nodes: Vec<RunNode<F, C, M>>,
+    shares: Vec<Vec<RunNode<F, C, M>>>,
+    conductor: WirePass<F, C, M>,
+    media: Vec<Option<M>>,
+    passes: Vec<WirePass<F, C, M>>,
+) -> Ended<F, C, M>
+    requires ready { All (IsReady wire.now.lock) nodes.items }
+    requires some { 1 ≤ length shares.items }
+    requires dealt { IsDealt (length shares.items) [] shares.items }
+    requires share_room { (count : _) × (vec_len nodes ≤ count) × HaveRoom (length shares.items) count shares.items }
+    requires pass { IsWirePass wire.now.lock conductor × ((knows conductor).owner ≡ 0) × (tick_count (knows conductor).own ≡ 0) }
+    requires empty { (media.items ≡ []) × (passes.items ≡ []) }
+    requires room { (vec_len nodes ≤ vec_capacity media) × (vec_len nodes < vec_capacity passes) }
+    ensures passes { All (IsWirePass wire.now.lock) result.passes.items }
+    ensures gone { HaveGone (media_with M.tells M.reads M.may_leave M.page_count M.faults M.is_failed) limits nodes.items result.reason result.media.items result.passes.items }
+{
+    let count = nodes.len();
+    let (nodes, shares) = deal(nodes, shares);
+    let (shares, conductor, reason) = go_on(rt, wire, limits, shares, conductor);
+    let nodes = collect(shares, count, nodes);
+    let (media, passes) = take_apart(nodes, media, passes);
+    let mut passes = passes;
+    passes.push_reserved(conductor);
+    Ended {
+        media,
+        passes,
+        reason,
+    }
+}

@@ -1,0 +1,9 @@
+//! A run of a plan: its nodes go in rounds, on several threads, until the run has ended.
+#![tactic(auto)]
+
+mod courses;
+mod ends;
+mod runs;
+
+pub use ends::{End, Finished};
+pub use runs::run;

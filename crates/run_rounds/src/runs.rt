@@ -1,0 +1,260 @@
+//! A run of a plan.
+ghost use Rattle.std.specs.Prelude.{◌≡◌, ◌≤◌, ◌<◌, ℕ, List, [], length, map, vec_len, vec_capacity, slice_get, Option, Some, All};
+ghost use Rattle.std.specs.List.{AllZip};
+ghost use Rattle.seat_lock.specs.Words.{base_of, fresh, knows};
+ghost use Rattle.plan_form.specs.PlanTexts.{IsOfLanguage};
+ghost use Rattle.wire_lock.specs.Sights.{IsWirePass};
+ghost use Rattle.run_media.specs.Media.{IsUsable, media_with};
+ghost use Rattle.run_media.specs.Openings.{AreReady, HasOpened, IsOpen, medium_in};
+ghost use Rattle.run_starts.specs.Deals.{HaveRoom, IsDealt};
+ghost use Rattle.run_starts.specs.Seats.{IsSound};
+ghost use Rattle.run_starts.specs.Starts.{IsSetUp, fresh_for};
+ghost use Rattle.run_media.specs.Places.{node_count};
+ghost use Rattle.node_rounds.specs.Nodes.{IsReady};
+ghost use Rattle.trace_report.specs.Counts.{tick_count};
+ghost use Rattle.run_rounds.specs.Closings.{HasRun};
+ghost use Rattle.run_rounds.specs.Finishes.{EndsAs, IsEndFor, tellers};
+
+use crate::courses::rounds;
+use crate::ends::{End, Ended, Finished, closed_run};
+use medium_port::Medium;
+use node_rounds::{Limits, Reason, RunNode};
+use plan_form::Plan;
+use run_media::{Opening, Refusal, are_open, first_refusal, give_back, open_all};
+use run_starts::{Begun, Seated, down_visits, empty_shares, open_nodes, wire_for};
+use std::alloc::Global;
+use std::sync::Wait;
+use std::thread::Threads;
+use stream_port::{Clock, Fates};
+use value_form::Items;
+use wire_lock::{SharedWire, WirePass};
+
+// The end of a run that didn't begin.
+fn refused(refusal: Refusal) -> End
+    ensures { IsEndFor refusal result }
+{
+    match refusal {
+        Refusal::Resume(fault) => End::Refused(fault),
+        Refusal::NoMemory => End::NoMemory,
+    }
+}
+
+// A run that didn't begin hands its media back.
+fn unbegun<F, C, M: Medium>(
+    end: End,
+    media: Vec<Option<M>>,
+    openings: Vec<Opening<M>>,
+    fates: F,
+    clock: C,
+) -> Finished<F, C, M>
+    requires empty { media.items ≡ [] }
+    requires room { vec_len openings ≤ vec_capacity media }
+    ensures end { result.end ≡ end }
+    ensures media { result.media ≡ map medium_in openings.items }
+    ensures told { (result.fates ≡ fates) × (result.clock ≡ clock) }
+{
+    Finished {
+        end,
+        media: Items::of(give_back(media, openings)),
+        fates,
+        clock,
+    }
+}
+
+// Opens the nodes, and lets them go on.
+fn with_nodes<
+    F: Fates + Drop + Send,
+    C: Clock + Drop + Send,
+    M: Medium + Drop + Send,
+    R: Threads + Wait + Sync,
+>(
+    rt: &R,
+    alloc: Global,
+    plan: &Plan,
+    limits: Limits,
+    begun: Begun<F, C, M>,
+    openings: Vec<Opening<M>>,
+    media: Vec<Option<M>>,
+) -> Finished<F, C, M>
+    requires plan { IsOfLanguage plan.now }
+    requires set_up { IsSetUp plan.now openings.items (base_of begun.wire.lock).origin.asked (base_of begun.wire.lock).origin.answers (base_of begun.wire.lock).origin }
+    requires start { begun.start ≡ (base_of begun.wire.lock).origin.start }
+    requires passes { All (IsWirePass begun.wire.lock) begun.passes.items }
+    requires fresh { map knows begun.passes.items ≡ fresh_for (base_of begun.wire.lock) (base_of begun.wire.lock).origin.opened }
+    requires conductor { IsWirePass begun.wire.lock begun.conductor × (knows begun.conductor ≡ fresh (base_of begun.wire.lock) 0) }
+    requires pass_room { vec_len begun.passes < vec_capacity begun.passes }
+    requires count { length openings.items ≡ node_count plan.now }
+    requires ready { AreReady plan.now 0 openings.items }
+    requires empty { media.items ≡ [] }
+    requires room { vec_len openings ≤ vec_capacity media }
+    requires workers { 1 ≤ limits.workers }
+    requires sound { All (IsSound (media_with M.tells M.reads M.may_leave M.page_count M.faults M.is_failed)) openings.items }
+    ensures { (first : List (Option M)) → AllZip (HasOpened (media_with M.tells M.reads M.may_leave M.page_count M.faults M.is_failed)) first openings.items → EndsAs (media_with M.tells M.reads M.may_leave M.page_count M.faults M.is_failed) limits.ticks limits.messages plan.now (tellers (base_of begun.wire.lock).origin.asked (F.asked result.fates) (base_of begun.wire.lock).origin.answers (C.answers result.clock)) first result.media result.end }
+{
+    let Begun {
+        wire,
+        passes,
+        conductor,
+        start,
+    } = begun;
+    let count = openings.len();
+    let (Ok(nodes), Ok(shares)) = (
+        Vec::with_capacity(alloc, count),
+        empty_shares(alloc, limits.workers, count),
+    ) else {
+        return stopped(wire, passes, conductor, give_back(media, openings));
+    };
+    let Seated {
+        nodes,
+        media,
+        passes,
+        is_whole,
+    } = open_nodes(alloc, plan, start, openings, passes, nodes, media);
+    if !is_whole {
+        return stopped(wire, passes, conductor, media);
+    }
+    run_nodes(rt, wire, limits, nodes, shares, conductor, media, passes)
+}
+
+// Lets the opened nodes go on until the run has ended, and closes its wire.
+fn run_nodes<
+    F: Fates + Drop + Send,
+    C: Clock + Drop + Send,
+    M: Medium + Drop + Send,
+    R: Threads + Wait + Sync,
+>(
+    rt: &R,
+    wire: SharedWire<F, C, M>,
+    limits: Limits,
+    nodes: Vec<RunNode<F, C, M>>,
+    shares: Vec<Vec<RunNode<F, C, M>>>,
+    conductor: WirePass<F, C, M>,
+    media: Vec<Option<M>>,
+    passes: Vec<WirePass<F, C, M>>,
+) -> Finished<F, C, M>
+    requires ready { All (IsReady wire.lock) nodes.items }
+    requires count { length nodes.items ≡ length (base_of wire.lock).origin.opened }
+    requires some { 1 ≤ length shares.items }
+    requires dealt { IsDealt (length shares.items) [] shares.items }
+    requires share_room { (count : _) × (vec_len nodes ≤ count) × HaveRoom (length shares.items) count shares.items }
+    requires pass { IsWirePass wire.lock conductor × ((knows conductor).owner ≡ 0) × (tick_count (knows conductor).own ≡ 0) }
+    requires empty { (media.items ≡ []) × (passes.items ≡ []) }
+    requires room { (vec_len nodes ≤ vec_capacity media) × (vec_len nodes < vec_capacity passes) }
+    ensures { HasRun (media_with M.tells M.reads M.may_leave M.page_count M.faults M.is_failed) wire.lock limits nodes.items result.media result.end (F.asked result.fates) (C.answers result.clock) }
+{
+    let ended = rounds(rt, &wire, limits, nodes, shares, conductor, media, passes);
+    closed_run(wire, ended)
+}
+
+// Memory is wanting before the first round.
+fn stopped<F: Fates, C: Clock, M: Medium>(
+    wire: SharedWire<F, C, M>,
+    passes: Vec<WirePass<F, C, M>>,
+    conductor: WirePass<F, C, M>,
+    media: Vec<Option<M>>,
+) -> Finished<F, C, M>
+    requires passes { All (IsWirePass wire.lock) passes.items × IsWirePass wire.lock conductor }
+    requires all { vec_len passes ≡ length (base_of wire.lock).origin.opened }
+    requires room { vec_len passes < vec_capacity passes }
+    ensures end { result.end ≡ End.NoMemory }
+    ensures media { result.media ≡ media.items }
+{
+    let mut passes = passes;
+    passes.push_reserved(conductor);
+    closed_run(
+        wire,
+        Ended {
+            media,
+            passes,
+            reason: Reason::Wanting,
+        },
+    )
+}
+
+// No round follows where a node can't be opened.
+fn without_nodes<F: Fates, C: Clock, M: Medium, R: Wait>(
+    rt: &R,
+    plan: &Plan,
+    begun: Begun<F, C, M>,
+    openings: Vec<Opening<M>>,
+    media: Vec<Option<M>>,
+) -> Finished<F, C, M>
+    requires plan { IsOfLanguage plan.now }
+    requires set_up { IsSetUp plan.now openings.items (base_of begun.wire.lock).origin.asked (base_of begun.wire.lock).origin.answers (base_of begun.wire.lock).origin }
+    requires start { begun.start ≡ (base_of begun.wire.lock).origin.start }
+    requires passes { All (IsWirePass begun.wire.lock) begun.passes.items }
+    requires fresh { map knows begun.passes.items ≡ fresh_for (base_of begun.wire.lock) (base_of begun.wire.lock).origin.opened }
+    requires conductor { IsWirePass begun.wire.lock begun.conductor × (knows begun.conductor ≡ fresh (base_of begun.wire.lock) 0) }
+    requires pass_room { vec_len begun.passes < vec_capacity begun.passes }
+    requires count { length openings.items ≡ node_count plan.now }
+    requires ready { AreReady plan.now 0 openings.items }
+    requires empty { media.items ≡ [] }
+    requires room { vec_len openings ≤ vec_capacity media }
+    requires shut { (place : _) × (opening : _) × (slice_get openings.items place ≡ Some opening) × (IsOpen opening → ⊥) }
+    ensures { (most_ticks enough : ℕ) (first : List (Option M)) → AllZip (HasOpened (media_with M.tells M.reads M.may_leave M.page_count M.faults M.is_failed)) first openings.items → EndsAs (media_with M.tells M.reads M.may_leave M.page_count M.faults M.is_failed) most_ticks enough plan.now (tellers (base_of begun.wire.lock).origin.asked (F.asked result.fates) (base_of begun.wire.lock).origin.answers (C.answers result.clock)) first result.media result.end }
+{
+    let Begun {
+        wire,
+        passes,
+        conductor,
+        start: _,
+    } = begun;
+    let (passes, reason) = down_visits(rt, &wire, plan, openings.as_slice(), passes);
+    let mut passes = passes;
+    passes.push_reserved(conductor);
+    let ended = Ended {
+        media: give_back(media, openings),
+        passes,
+        reason,
+    };
+    closed_run(wire, ended)
+}
+
+/// Runs a plan over the media of its nodes, which stand in the order of the nodes: repositories first,
+/// rising. A medium that is missing couldn't be had.
+///
+/// Where a node can't be opened its Down is told, and no round follows. Where a broker's log shows a
+/// later run or another plan, no run begins, and nothing is added to any log.
+pub fn run<
+    F: Fates + Drop + Send,
+    C: Clock + Drop + Send,
+    M: Medium + Drop + Send,
+    R: Threads + Wait + Sync,
+>(
+    rt: &R,
+    alloc: Global,
+    plan: &Plan,
+    limits: Limits,
+    media: Vec<Option<M>>,
+    fates: F,
+    clock: C,
+) -> Finished<F, C, M>
+    requires plan { IsOfLanguage plan.now }
+    requires count { length media.items ≡ node_count plan.now }
+    requires usable { All (IsUsable (media_with M.tells M.reads M.may_leave M.page_count M.faults M.is_failed)) media.items }
+    requires workers { 1 ≤ limits.workers }
+    ensures { EndsAs (media_with M.tells M.reads M.may_leave M.page_count M.faults M.is_failed) limits.ticks limits.messages plan.now (tellers (F.asked fates) (F.asked result.fates) (C.answers clock) (C.answers result.clock)) media.items result.media result.end }
+{
+    let Ok(room) = Vec::with_capacity(alloc, media.len()) else {
+        return Finished {
+            end: End::NoMemory,
+            media: Items::of(media),
+            fates,
+            clock,
+        };
+    };
+    let (media, openings) = open_all(alloc, media, room);
+    if let Some(refusal) = first_refusal(alloc, plan, openings.as_slice()) {
+        return unbegun(refused(refusal), media, openings, fates, clock);
+    }
+    match wire_for(alloc, plan, openings.as_slice(), fates, clock) {
+        Err((fates, clock, _)) => unbegun(End::NoMemory, media, openings, fates, clock),
+        Ok(begun) => {
+            if are_open(openings.as_slice()) {
+                with_nodes(rt, alloc, plan, limits, begun, openings, media)
+            } else {
+                without_nodes(rt, plan, begun, openings, media)
+            }
+        }
+    }
+}

@@ -1,0 +1,5 @@
+pub mod DealLemmas
+pub mod AlongLemmas
+pub mod StartLemmas
+pub mod DownLemmas
+pub mod SeatLemmas

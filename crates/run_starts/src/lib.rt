@@ -1,0 +1,13 @@
+//! How a run begins: its wire over what was opened, its nodes with their passes dealt to workers, and
+//! the Downs of those that can't be opened.
+#![tactic(auto)]
+
+mod deals;
+mod downs;
+mod seats;
+mod starts;
+
+pub use deals::{collect, deal, empty_shares};
+pub use downs::down_visits;
+pub use seats::{Seated, open_nodes, take_apart};
+pub use starts::{Begun, wire_for};

@@ -1,0 +1,104 @@
+//! The start of a run: its wire, and the passes of its nodes.
+ghost use Rattle.std.specs.Prelude.{◌≡◌, ◌≢◌, ◌<◌, [], length, map, vec_len, vec_capacity, All, AllPairs, IfOk};
+ghost use Rattle.seat_lock.specs.Words.{base_of, fresh, knows};
+ghost use Rattle.plan_form.specs.PlanTexts.{IsOfLanguage};
+ghost use Rattle.wire_lock.specs.Sights.{IsWirePass, owners_for};
+ghost use Rattle.run_media.specs.Places as order;
+ghost use Rattle.run_starts.specs.Starts.{IsSetUp, fresh_for};
+
+use medium_port::Medium;
+use plan_form::Plan;
+use run_media::{Opening, opened_nodes};
+use std::alloc::{AllocError, Global};
+use stream_port::{Clock, Fates};
+use value_form::ActSpec;
+use wire_core::Wire;
+use wire_lock::{SharedWire, WirePass};
+
+/// The wire of a run, with the passes of its nodes, in their order, and the conductor's.
+#[derive(Drop)]
+pub struct Begun<F: Fates, C: Clock, M: Medium> {
+    pub wire: SharedWire<F, C, M>,
+    pub passes: Vec<WirePass<F, C, M>>,
+    pub conductor: WirePass<F, C, M>,
+    /// The moment at which the run begins.
+    pub start: u64,
+}
+
+fn copied_acts(alloc: Global, acts: &[ActSpec]) -> Result<Vec<ActSpec>, AllocError>
+    ensures { IfOk result (λ copied. copied.items ≡ acts.now) }
+{
+    let mut copied = Vec::new(alloc);
+    for act in acts {
+        copied.push(act.copy(alloc)?)?;
+    }
+    Ok(copied)
+}
+
+/// The wire of a run over what was opened.
+pub fn wire_for<F: Fates, C: Clock, M: Medium>(
+    alloc: Global,
+    plan: &Plan,
+    openings: &[Opening<M>],
+    fates: F,
+    clock: C,
+) -> Result<Begun<F, C, M>, (F, C, AllocError)>
+    requires plan { IsOfLanguage plan.now }
+    requires count { length openings.now ≡ order.node_count plan.now }
+    ensures set_up { IfOk result (λ b. IsSetUp plan.now openings.now (F.asked fates) (C.answers clock) (base_of b.wire.lock).origin) }
+    ensures start { IfOk result (λ b. b.start ≡ (base_of b.wire.lock).origin.start) }
+    ensures passes { IfOk result (λ b. All (IsWirePass b.wire.lock) b.passes.items) }
+    ensures fresh { IfOk result (λ b. map knows b.passes.items ≡ fresh_for (base_of b.wire.lock) (base_of b.wire.lock).origin.opened) }
+    ensures conductor { IfOk result (λ b. IsWirePass b.wire.lock b.conductor × (knows b.conductor ≡ fresh (base_of b.wire.lock) 0)) }
+    ensures room { IfOk result (λ b. vec_len b.passes < vec_capacity b.passes) }
+{
+    let Ok(acts) = copied_acts(alloc, plan.acts.as_slice()) else {
+        return Err((fates, clock, AllocError));
+    };
+    let Ok(opened) = opened_nodes(alloc, plan, openings) else {
+        return Err((fates, clock, AllocError));
+    };
+    match Wire::new(alloc, plan.run, acts, opened, fates, clock) {
+        Err(refused) => Err(refused),
+        Ok(wire) => {
+            let start = wire.start();
+            shared(alloc, wire, start)
+        }
+    }
+}
+
+// The wire under its lock, with its passes.
+fn shared<F: Fates, C: Clock, M: Medium>(
+    alloc: Global,
+    wire: Wire<F, C, M>,
+    start: u64,
+) -> Result<Begun<F, C, M>, (F, C, AllocError)>
+    requires new { wire.entries ≡ [] }
+    requires start { start ≡ wire.origin.start }
+    requires differ { AllPairs (λ a b. a ≢ b) (owners_for wire.origin.opened) }
+    ensures base { IfOk result (λ b. base_of b.wire.lock ≡ wire) }
+    ensures start { IfOk result (λ b. b.start ≡ (base_of b.wire.lock).origin.start) }
+    ensures passes { IfOk result (λ b. All (IsWirePass b.wire.lock) b.passes.items) }
+    ensures fresh { IfOk result (λ b. map knows b.passes.items ≡ fresh_for (base_of b.wire.lock) (base_of b.wire.lock).origin.opened) }
+    ensures conductor { IfOk result (λ b. IsWirePass b.wire.lock b.conductor × (knows b.conductor ≡ fresh (base_of b.wire.lock) 0)) }
+    ensures room { IfOk result (λ b. vec_len b.passes < vec_capacity b.passes) }
+{
+    match SharedWire::new(alloc, wire) {
+        Ok((wire, passes)) => {
+            let mut passes = passes;
+            let Some(conductor) = passes.pop() else {
+                unreachable!()
+            };
+            Ok(Begun {
+                wire,
+                passes,
+                conductor,
+                start,
+            })
+        }
+        Err((wire, wanting)) => {
+            let (_, fates, clock) = wire.finish();
+            Err((fates, clock, wanting))
+        }
+    }
+}

@@ -1,0 +1,147 @@
+-- What the parts of a call say, said in the words of its promise.
+use Rattle.std.proofs.Common.{◌≡◌, ◌⊎◌, ◌≤◌, ◌==◌, inl, inr, ℕ, Bool, true, false, IsTrue, List, [], ◌∷◌, Option, Result, Some, None, Ok, Err, refl, ap, sym, subst, ◌∙◌, arith, if◌then◌else◌}
+use Rattle.std.specs.Io.KnownBytes.{IsAtEnd}
+use Rattle.std.specs.Option.{unwrap_or}
+use Rattle.pseudo_time.specs.Lists.{Has}
+use Rattle.plan_form.specs.declared.plans.Plan.{Plan}
+use Rattle.plan_form.specs.PlanFaults.{IsPlanFault}
+use Rattle.plan_form.specs.Plans.{IsPlan}
+use Rattle.plan_form.specs.PlanTexts.{IsOfLanguage}
+use Rattle.plan_form.specs.Making.{made_plan}
+use Rattle.plan_form.proofs.PlanTextLemmas.{plan_is_whole}
+use Rattle.world_core.specs.declared.traces.Trace.{Trace}
+use Rattle.trace_report.specs.Reports.{open_acts}
+use Rattle.value_form.specs.declared.objects.ObjectId.{ObjectId}
+use Rattle.wire_lock.specs.Stories.{no_trace}
+use Rattle.command_words.specs.declared.commands.Options.{Options}
+use Rattle.command_words.specs.declared.commands.Command.{Command}
+use Rattle.command_words.specs.declared.commands.Command.TheVariants.{Run, Load, History}
+use Rattle.command_words.specs.declared.options.Given.{Given}
+use Rattle.command_words.specs.Words.{AreGiven, AreNone, AreOptions, AreWords, IsWith}
+use Rattle.run_media.specs.Media.{Media}
+use Rattle.run_rounds.specs.Ends.{some_down}
+use Rattle.run_rounds.specs.Runs.{Account}
+use Rattle.swallow_top.specs.declared.media.Kept.{Kept}
+use Rattle.swallow_top.specs.declared.reports.Wanted.{Wanted}
+use Rattle.swallow_top.specs.declared.reports.Wanted.TheVariants.{Report, Summary}
+use Rattle.swallow_top.specs.declared.stops.Stop.{Stop}
+use Rattle.swallow_top.specs.declared.stops.Stop.TheVariants as stop
+use Rattle.swallow_top.specs.Contract.{AllKept, HasNoRun, IsNoPlan, RefusedAs, RunsPlan}
+use Rattle.swallow_top.specs.Histories.{TellsHistory, ShowsDown, ShowsHistory, home_of}
+use Rattle.swallow_top.specs.Inputs.{OfInput}
+use Rattle.swallow_top.specs.Plans.{ReadsPlan}
+use Rattle.swallow_top.specs.Promise.{Call, HasNoWords, IsQuiet, Promise, WasDone}
+use Rattle.swallow_top.specs.Shelves.{ShelfSight}
+use Rattle.swallow_top.specs.Tellings.{status_of, status_with}
+use Rattle.swallow_top.specs.Written.{Sinking, Ends, EndsIfAny}
+use Rattle.swallow_top.proofs.InputLemmas.{of_input-all, of_input-with}
+
+-- ---- statuses
+
+if-most : (b : Bool) (x y most : ℕ) → x ≤ most → y ≤ most → (if b then x else y) ≤ most
+if-most true x y most p q = p
+if-most false x y most p q = q
+
+status-most : (plan : Plan) (t : Trace) → status_of plan t ≤ 7
+status-most plan t = if-most (some_down t.entries) 6 (if open_acts plan t == 0 then 0 else 5) 7 (omega arith) (if-most (open_acts plan t == 0) 0 5 7 (omega arith) (omega arith))
+
+ends-most : (status : ℕ) (s : Sinking) (there : ℕ) (text : List ℕ) → there ≤ 7 → Ends status s there text → status ≤ 7
+ends-most status s there text most (inl h) = subst (λ n. n ≤ 7) (sym h.0) most
+ends-most status s there text most (inr h) = let e = h.0 in omega (arith, e)
+
+any-most : (status : ℕ) (s : Sinking) (there : ℕ) (text : List ℕ) → there ≤ 7 → EndsIfAny status s there text → status ≤ 7
+any-most status s there text most (inl h) = omega (arith, h)
+any-most status s there text most (inr h) = ends-most status s there text most h
+
+module _ {M : Type 0} (w : Media M) (old new : ShelfSight) (kept : List (Kept M)) where
+  pub runs-most : (plan : Plan) (wanted : Wanted) (o : Options) (told : Account) (s : Sinking) (status : ℕ) → RunsPlan w old new kept plan wanted o told s status → status ≤ 7
+  runs-most plan wanted o told s status (inl h) = let e = h.0 in omega (arith, e)
+  runs-most plan wanted o told s status (inr (inl h)) = let e = h.0 in omega (arith, e)
+  runs-most plan wanted o told s status (inr (inr h)) = any-most status s (status_of plan told.trace) _ (status-most plan told.trace) h.1
+
+  pub tells-most : (object : ObjectId) (s : Sinking) (status : ℕ) → TellsHistory w old new object kept s status → status ≤ 7
+  tells-most object s status h = by h.told
+    where
+      by : (status ≡ 7) ⊎ (((text : List ℕ) × ShowsHistory w old new object kept text × Ends status s 0 text) ⊎ ((text : List ℕ) × ShowsDown w old new object kept text × Ends status s 6 text)) → status ≤ 7
+      by (inl e) = omega (arith, e)
+      by (inr (inl x)) = ends-most status s 0 x.0 (omega arith) x.2
+      by (inr (inr x)) = ends-most status s 6 x.0 (omega arith) x.2
+
+-- nothing was taken from a shelf that is as it was
+pub none-kept : {M : Type 0} (old new : ShelfSight) (kept : List (Kept M)) → ((name : _) → new.is_taken name → old.is_taken name) → AllKept old new kept
+none-kept old new kept same name is was = absurd (was (same name is))
+
+-- ---- words
+
+with-workers : (rest g : Given) (name word : List ℕ) → 1 ≤ unwrap_or rest.workers 1 → IsWith rest name word g → 1 ≤ unwrap_or g.workers 1
+with-workers rest g name word before (inl h) = subst (λ (x : Given). 1 ≤ unwrap_or x.workers 1) (sym h.4) h.2.low
+with-workers rest g name word before (inr (inl h)) = subst (λ (x : Given). 1 ≤ unwrap_or x.workers 1) (sym h.4) before
+with-workers rest g name word before (inr (inr h)) = subst (λ (x : Given). 1 ≤ unwrap_or x.workers 1) (sym h.4) before
+
+given-workers : (words : List (List ℕ)) (g : Given) → AreGiven g words → 1 ≤ unwrap_or g.workers 1
+given-workers [] g h = subst (λ (x : Given). 1 ≤ unwrap_or x.workers 1) (sym h) (omega arith)
+given-workers (name ∷ []) g h = absurd h
+given-workers (name ∷ word ∷ more) g h = with-workers h.0 g name word (given-workers more h.0 h.1) h.2
+
+-- there is a worker
+pub some-workers : (o : Options) (words : List (List ℕ)) → AreOptions o words → 1 ≤ o.workers
+some-workers o words h = subst (λ (x : Options). 1 ≤ x.workers) (sym h.2) (given-workers words h.0 h.1)
+
+-- ---- calls
+
+module _ {M : Type 0} (c : Call M) where
+  pub quiet-call : (status : ℕ) → c.status ≡ status → c.media ≡ [] → c.told.trace ≡ no_trace → c.told.asked ≡ c.told.asked_before → c.told.answers ≡ c.told.answers_before → IsQuiet c status
+  quiet-call status is none trace asked answers = record { status_is = is; none = none; no_run = record { trace = trace; fates = asked; clock = answers } }
+
+  -- a call that refused what it read, or had no memory
+  refused-run : (o : Options) (s : Stop) → AreWords (Run o) c.words → ReadsPlan c.input c.left c.faults_before c.faults (Err s) → RefusedAs s c.status c.sink
+      → ((status : ℕ) → c.status ≡ status → IsQuiet c status) → HasNoWords c ⊎ (IsQuiet c 7 ⊎ ((command : Command) × AreWords command c.words × WasDone c command))
+  refused-run o (stop.Fault line kind) words read (inl seven) quiet = inr (inl (quiet 7 seven))
+  refused-run o (stop.Fault line kind) words read (inr two) quiet =
+      inr (inr (Run o, words, inr (inl (quiet 2 two.0, of_input-with c.input (λ input. IsPlanFault input line kind) (λ input. IsNoPlan input c.sink) (λ input h. record { line = line; kind = kind; is_fault = h; told = two.1 }) read))))
+  refused-run o stop.Source words read refused quiet = inr (inr (Run o, words, inl (quiet 3 refused.0, read, refused.1)))
+  refused-run o stop.NoMemory words read refused quiet = inr (inl (quiet 7 refused))
+  refused-run o stop.Words words read refused quiet = absurd read
+  refused-run o stop.Sink words read refused quiet = absurd read
+
+  refused-most : (s : Stop) → RefusedAs s c.status c.sink → c.status ≤ 7
+  refused-most stop.Words h = let e = h.0 in omega (arith, e)
+  refused-most (stop.Fault line kind) (inl h) = omega (arith, h)
+  refused-most (stop.Fault line kind) (inr h) = let e = h.0 in omega (arith, e)
+  refused-most stop.Source h = let e = h.0 in omega (arith, e)
+  refused-most stop.NoMemory h = omega (arith, h)
+  refused-most stop.Sink h = omega (arith, h)
+
+  pub promise-none : AreNone c.words → RefusedAs stop.Words c.status c.sink → ((status : ℕ) → c.status ≡ status → IsQuiet c status) → AllKept c.shelf_before c.shelf c.media → Promise c
+  promise-none none refused quiet kept = record { done = inl (quiet 1 refused.0, none, refused.1); kept = kept; statuses = refused-most stop.Words refused }
+
+  pub promise-refused : (o : Options) (s : Stop) → AreWords (Run o) c.words → ReadsPlan c.input c.left c.faults_before c.faults (Err s) → RefusedAs s c.status c.sink → ((status : ℕ) → c.status ≡ status → IsQuiet c status) → AllKept c.shelf_before c.shelf c.media → Promise c
+  promise-refused o s words read refused quiet kept = record { done = refused-run o s words read refused quiet; kept = kept; statuses = refused-most s refused }
+
+  pub promise-run : (o : Options) (plan : Plan) → AreWords (Run o) c.words → ReadsPlan c.input c.left c.faults_before c.faults (Ok plan) → RunsPlan c.media_are c.shelf_before c.shelf c.media plan Report o c.told c.sink c.status → AllKept c.shelf_before c.shelf c.media → Promise c
+  promise-run o plan words read runs kept = record {
+    done = inr (inr (Run o, words, inr (inr (read.1, of_input-with c.input (λ input. IsPlan input plan) (λ input. (p : Plan) × IsPlan input p × RunsPlan c.media_are c.shelf_before c.shelf c.media p Report o c.told c.sink c.status) (λ input h. (plan, h, runs)) read.0))));
+    kept = kept;
+    statuses = runs-most c.media_are c.shelf_before c.shelf c.media plan Report o c.told c.sink c.status runs;
+  }
+
+  pub promise-load : (seed count : ℕ) (o : Options) (plan : Plan) → AreWords (Load seed count o) c.words → plan ≡ made_plan seed count → RunsPlan c.media_are c.shelf_before c.shelf c.media plan (Summary seed) o c.told c.sink c.status → AllKept c.shelf_before c.shelf c.media → Promise c
+  promise-load seed count o plan words made runs kept = record {
+    done = inr (inr (Load seed count o, words, subst (λ p. RunsPlan c.media_are c.shelf_before c.shelf c.media p (Summary seed) o c.told c.sink c.status) made runs));
+    kept = kept;
+    statuses = runs-most c.media_are c.shelf_before c.shelf c.media plan (Summary seed) o c.told c.sink c.status runs;
+  }
+
+  pub promise-wanting : IsQuiet c 7 → AllKept c.shelf_before c.shelf c.media → Promise c
+  promise-wanting quiet kept = record { done = inr (inl quiet); kept = kept; statuses = let e = quiet.status_is in omega (arith, e) }
+
+  pub promise-history : (object : ObjectId) → AreWords (History object) c.words → TellsHistory c.media_are c.shelf_before c.shelf object c.media c.sink c.status → HasNoRun c.told → Promise c
+  promise-history object words tells none = record {
+    done = inr (inr (History object, words, (tells, none)));
+    kept = λ name is was. let h = tells.back.others name is was in (home_of object, h.0, h.1, subst (Has (record { node = home_of object; volume = 0; medium = h.0 })) (sym h.2) (inl refl));
+    statuses = tells-most c.media_are c.shelf_before c.shelf c.media object c.sink c.status tells;
+  }
+
+-- a plan that was read is of the language
+pub language-of : (left new : Option (List ℕ)) (before after : ℕ) (plan : Plan) → ReadsPlan left new before after (Ok plan) → IsOfLanguage plan
+language-of left new before after plan read = of_input-all left (λ input. IsPlan input plan) (IsOfLanguage plan) (λ input h. plan_is_whole input plan h) read.0

@@ -1,0 +1,80 @@
+-- From how a run ended to what comes of its plan.
+use Rattle.std.proofs.Common.{◌≡◌, ◌⊎◌, inl, inr, ℕ, IsTrue, List, length, Option, Some, None, refl, ap, sym, subst, ◌∙◌}
+use Rattle.std.proofs.lemmas.Slice.Zip.{AllZip-long}
+use Rattle.pseudo_time.specs.Lists.{Every}
+use Rattle.stream_port.specs.declared.fates.Asked.{Asked}
+use Rattle.plan_form.specs.declared.plans.Plan.{Plan}
+use Rattle.plan_form.specs.PlanTexts.{IsOfLanguage}
+use Rattle.world_core.specs.declared.traces.Trace.{Trace}
+use Rattle.world_core.specs.Legal.{JustNodes}
+use Rattle.world_core.specs.Readings.{IsLegal}
+use Rattle.wire_lock.specs.Stories.{no_trace}
+use Rattle.command_words.specs.declared.commands.Options.{Options}
+use Rattle.run_media.specs.Media.{Media, AreBack, IsBack}
+use Rattle.run_rounds.specs.declared.ends.End.{End}
+use Rattle.run_rounds.specs.declared.ends.End.TheVariants as end
+use Rattle.run_rounds.specs.Runs.{Ran, HasRanges}
+use Rattle.run_rounds.specs.Finishes.{EndsAs, Tellers, account_of}
+use Rattle.run_laws.specs.Serials.{HoldsFinals, IsSerialOver}
+use Rattle.run_laws.specs.Reasons.{HaveReasons}
+use Rattle.swallow_top.specs.declared.media.Kept.{Kept}
+use Rattle.swallow_top.specs.declared.reports.Wanted.{Wanted}
+use Rattle.swallow_top.specs.Contract.{AllKept, HasNoRun, LosesNothing, RanOver, RunsPlan}
+use Rattle.swallow_top.specs.Shelves.{ShelfSight, WereTaken, kept_from}
+use Rattle.swallow_top.specs.Tellings.{OfRun, TellsEnd, status_of, wanted_text}
+use Rattle.swallow_top.specs.Written.{Sinking, EndsIfAny}
+use Rattle.swallow_top.proofs.ShelfLemmas.{all-kept, alone-whole, lose-nothing}
+
+module _ {M : Type 0} (w : Media M) (ticks messages : ℕ) (plan : Plan) (told : Tellers) (media left : List (Option M)) where
+  -- what the writing of a report asks of the trace
+  pub end-nodes : (e : End) → EndsAs w ticks messages plan told media left e → OfRun e (λ t. JustNodes plan t.opened)
+  end-nodes (end.Ran t) h = h.nodes
+  end-nodes (end.Refused fault) h = tt
+  end-nodes end.NoMemory h = tt
+
+  pub end-ranges : (e : End) → EndsAs w ticks messages plan told media left e → OfRun e HasRanges
+  end-ranges (end.Ran t) h = h.ranges
+  end-ranges (end.Refused fault) h = tt
+  end-ranges end.NoMemory h = tt
+
+  -- media come back however a run ends
+  pub end-back : (e : End) → EndsAs w ticks messages plan told media left e → AreBack media left
+  end-back (end.Ran t) h = h.logs.back
+  end-back (end.Refused fault) h = h.0
+  end-back end.NoMemory h = h.0
+
+  -- as many as were taken
+  pub end-long : (e : End) → EndsAs w ticks messages plan told media left e → length left ≡ length media
+  end-long e h = AllZip-long IsBack media left (end-back e h)
+
+module _ {M : Type 0} (w : Media M) (old new : ShelfSight) (plan : Plan) (o : Options) (told : Tellers) (media left : List (Option M)) (taken : WereTaken w old new plan media)
+    (language : IsOfLanguage plan) (serial : (p : Plan) (asked : List Asked) (t : Trace) → IsOfLanguage p → IsLegal p asked t → IsSerialOver p t)
+    (finals : (p : Plan) (asked : List Asked) (t : Trace) → IsOfLanguage p → IsLegal p asked t → HoldsFinals p t) (reasons : (p : Plan) (asked : List Asked) (t : Trace) → IsOfLanguage p → IsLegal p asked t → HaveReasons p t) where
+  ran-over : (t : Trace) → Ran w o.ticks o.messages plan (account_of t told) media left → RanOver {M = M} w old new (kept_from plan 0 left) plan o (account_of t told)
+  ran-over t ran = record {
+    media = media;
+    left = left;
+    taken = taken;
+    handed = refl;
+    ran = ran;
+    serial = λ tells. serial plan told.asked t language (ran.is_told tells).legal;
+    finals = λ tells. finals plan told.asked t language (ran.is_told tells).legal;
+    reasons = λ tells. reasons plan told.asked t language (ran.is_told tells).legal;
+  }
+
+  by-end : (wanted : Wanted) (e : End) (status : ℕ) (t : Trace) (s : Sinking) → EndsAs w o.ticks o.messages plan told media left e → TellsEnd wanted plan e status t s → RunsPlan {M = M} w old new (kept_from plan 0 left) plan wanted o (account_of t told) s status
+  by-end wanted (end.Ran r) status t s ends tells =
+      subst (λ (z : Trace). RunsPlan {M = M} w old new (kept_from plan 0 left) plan wanted o (account_of z told) s status) (sym tells.0) (inr (inr (ran-over r ends, tells.1)))
+  by-end wanted (end.Refused fault) status t s ends (none, inl seven) = inl (seven, none, lose-nothing w old plan 0 media left taken.are (alone-whole {M = M} w media left ends.1))
+  by-end wanted (end.Refused fault) status t s ends (none, inr two) = inr (inl (
+    two.0,
+    record { media = media; left = left; taken = taken; handed = refl; untouched = ends.1; why = fault; first = ends.2; line = two.1 },
+    record { trace = none; fates = ends.3; clock = ends.4 },
+  ))
+  by-end wanted end.NoMemory status t s ends tells = inl (tells.1, tells.0, lose-nothing w old plan 0 media left taken.are ends.1)
+
+  pub runs-plan : (wanted : Wanted) (e : End) (status : ℕ) (t : Trace) (s : Sinking) (kept : List (Kept M)) → kept ≡ kept_from plan 0 left → EndsAs w o.ticks o.messages plan told media left e → TellsEnd wanted plan e status t s → RunsPlan w old new kept plan wanted o (account_of t told) s status
+  runs-plan wanted e status t s kept are ends tells = subst (λ l. RunsPlan w old new l plan wanted o (account_of t told) s status) (sym are) (by-end wanted e status t s ends tells)
+
+  pub runs-kept : (e : End) (kept : List (Kept M)) → kept ≡ kept_from plan 0 left → EndsAs w o.ticks o.messages plan told media left e → AllKept old new kept
+  runs-kept e kept are ends = subst (AllKept old new) (sym are) (all-kept w old new plan media left taken (end-back w o.ticks o.messages plan told media left e ends))

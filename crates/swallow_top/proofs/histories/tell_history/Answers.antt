@@ -1,0 +1,23 @@
+use Rattle.std.proofs.Common.{◌++◌, ◌∙◌, ap, subst}
+use Rattle.run_media.specs.Media.{media_with}
+use Rattle.run_media.specs.Openings.{medium_in}
+use Rattle.swallow_top.specs.Shelves.{TakesOne, kept_of, shelf_sight}
+use Rattle.swallow_top.specs.Written.{sinking}
+use Rattle.swallow_top.proofs.HistoryLemmas.{tells-history}
+use Rattle.swallow_top.proofs.histories.tell_history.Goals as goal
+
+pub returns : goal.returns
+returns g c =
+    let m = g.S.Medium.Medium in
+    let w = media_with m.tells m.reads m.may_leave m.page_count m.faults m.is_failed in
+    let h = g.S.Shelf in
+    let old = shelf_sight (h.holds c.args.shelf.now) (h.may_hold c.args.shelf.now) (h.medium_faults c.args.shelf.now) (h.is_taken c.args.shelf.now) (h.faults c.args.shelf.now) in
+    let new = shelf_sight (h.holds c.take_one.new.shelf) (h.may_hold c.take_one.new.shelf) (h.medium_faults c.take_one.new.shelf) (h.is_taken c.take_one.new.shelf) (h.faults c.take_one.new.shelf) in
+    let o = g.O.Sink in
+    let s = sinking (o.taken c.args.sink.now) (o.taken c.tell_opening-status.new.sink) (o.faults c.args.sink.now) (o.faults c.tell_opening-status.new.sink) in
+    let home = c.repository-node.ensures in
+    tells-history w old new c.args.object c.keep_one.result.items c.take_one.result c.open_one-opening.result s c.tell_opening-status.result (subst (λ n. TakesOne w old new n c.take_one.result) home c.take_one.ensures)
+    c.open_one-opening.ensures c.tell_opening-status.ensures
+    (c.keep_one.ensures.kept
+    ∙ (ap (λ l. l ++ kept_of c.repository-node.result c.release.result) c.in-Ok.ensures.items
+    ∙ (ap (kept_of c.repository-node.result) c.release.ensures ∙ ap (λ n. kept_of n (medium_in c.open_one-opening.result)) home)))

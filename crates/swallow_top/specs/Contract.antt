@@ -1,0 +1,89 @@
+-- What comes of a plan that is run, and of one that is refused.
+use Rattle.std.specs.Prelude.{◌≡◌, ◌⊎◌, ℕ, IsTrue, List, [], ◌++◌, Option, Some, Ok}
+use Rattle.std.specs.List.{AllZip}
+use Rattle.pseudo_time.specs.Lists.{Every, Has}
+use Rattle.pseudo_time.specs.declared.nodes.NodeId.{NodeId}
+use Rattle.effect_form.specs.declared.effects.Effect.{Effect}
+use Rattle.medium_port.specs.Image.{Image, NoMore}
+use Rattle.medium_port.specs.declared.shelves.MediumName.{MediumName}
+use Rattle.version_store.specs.Storage.{storage}
+use Rattle.plan_form.specs.declared.plans.Plan.{Plan}
+use Rattle.plan_form.specs.declared.plan_faults.PlanKind.{PlanKind}
+use Rattle.plan_form.specs.PlanFaults.{IsPlanFault}
+use Rattle.broker_core.specs.declared.resume_faults.ResumeFault.{ResumeFault}
+use Rattle.wire_lock.specs.Stories.{no_trace}
+use Rattle.command_words.specs.declared.commands.Options.{Options}
+use Rattle.run_media.specs.Media.{Media, IsLeftAlone}
+use Rattle.run_rounds.specs.Runs.{Account, Ran, IsFirstFault}
+use Rattle.run_rounds.specs.Finishes.{IsKeptWhole}
+use Rattle.run_laws.specs.Serials.{HoldsFinals, IsSerialOver}
+use Rattle.run_laws.specs.Reasons.{HaveReasons}
+use Rattle.swallow_top.specs.declared.media.Kept.{Kept}
+use Rattle.swallow_top.specs.declared.reports.Wanted.{Wanted}
+use Rattle.swallow_top.specs.declared.stops.Stop.{Stop}
+use Rattle.swallow_top.specs.declared.stops.Stop.TheVariants as stop
+use Rattle.swallow_top.specs.Lines.{fault_line, resume_line, source_line, words_line}
+use Rattle.swallow_top.specs.Shelves.{ShelfSight, WereTaken, kept_from, medium_name}
+use Rattle.swallow_top.specs.Tellings.{status_of, wanted_text}
+use Rattle.swallow_top.specs.Written.{Sinking, EndsIfAny, GotLine}
+
+-- no run began: nothing was asked, and the trace names no node
+pub record HasNoRun (told : Account) : Type 0 where
+  pub trace : told.trace ≡ no_trace
+  pub fates : told.asked ≡ told.asked_before
+  pub clock : told.answers ≡ told.answers_before
+
+module _ {M : Type 0} (w : Media M) (old : ShelfSight) where
+  -- A crash leaves no image of this medium that it couldn't have left before; or the log that the medium had, with more behind it.
+  abbrev pub LosesNothing : Kept M → Type 0
+  LosesNothing k = (IsTrue w.tells → NoMore (old.may_hold (medium_name k.node)) (w.may_leave k.medium))
+      ⊎ (IsTrue w.tells → (log : List Effect) × (storage (old.holds (medium_name k.node)) ≡ Ok log) × ((c : Image) → w.may_leave k.medium c → (more : List Effect) × (storage c ≡ Ok (log ++ more))))
+
+-- each medium that was taken is handed back
+abbrev pub AllKept : {M : Type 0} → (old new : ShelfSight) → List (Kept M) → Type 0
+AllKept {M} old new kept = (name : MediumName) → new.is_taken name → (old.is_taken name → ⊥) → (n : NodeId) × (m : M) × (name ≡ medium_name n) × Has (record { node = n; volume = 0; medium = m }) kept
+
+module _ {M : Type 0} (w : Media M) (old new : ShelfSight) (kept : List (Kept M)) where
+  module _ (plan : Plan) where
+    -- A run over the media that the shelf gave, and what follows of its trace. What is left of the media is handed back.
+    pub record RanOver (o : Options) (told : Account) : Type 0 where
+      pub media : List (Option M)
+      pub left : List (Option M)
+      pub taken : WereTaken w old new plan media
+      pub handed : kept ≡ kept_from plan 0 left
+      pub ran : Ran w o.ticks o.messages plan told media left
+      pub serial : IsTrue w.tells → IsSerialOver plan told.trace
+      pub finals : IsTrue w.tells → HoldsFinals plan told.trace
+      pub reasons : IsTrue w.tells → HaveReasons plan told.trace
+
+    -- A broker's log refuses the plan: the first that could be opened and shows a fault. The media of the plan's nodes were taken, and are handed back as they were.
+    pub record IsRefusedByLog (s : Sinking) : Type 0 where
+      pub media : List (Option M)
+      pub left : List (Option M)
+      pub taken : WereTaken w old new plan media
+      pub handed : kept ≡ kept_from plan 0 left
+      pub untouched : AllZip (IsLeftAlone w) media left
+      pub why : ResumeFault
+      pub first : IsFirstFault w plan media left why
+      pub line : GotLine s (resume_line why)
+
+    -- What came of running the plan: memory was wanting, and nothing that a medium held is lost; or a broker's log refuses it; or it ran, and is told unless memory was wanting for that.
+    abbrev pub RunsPlan : Wanted → Options → Account → Sinking → ℕ → Type 0
+    RunsPlan wanted o told s status = ((status ≡ 7) × (told.trace ≡ no_trace) × Every (LosesNothing w old) kept)
+        ⊎ (((status ≡ 2) × IsRefusedByLog s × HasNoRun told)
+        ⊎ (RanOver o told × EndsIfAny status s (status_of plan told.trace) (wanted_text wanted plan told.trace)))
+
+-- the status and the line of a refusal
+abbrev pub RefusedAs : Stop → ℕ → Sinking → Type 0
+RefusedAs stop.Words status s = (status ≡ 1) × GotLine s words_line
+RefusedAs (stop.Fault line kind) status s = (status ≡ 7) ⊎ ((status ≡ 2) × GotLine s (fault_line line kind))
+RefusedAs stop.Source status s = (status ≡ 3) × GotLine s source_line
+RefusedAs stop.NoMemory status s = status ≡ 7
+RefusedAs stop.Sink status s = status ≡ 7
+
+-- the input is no plan
+pub record IsNoPlan (input : List ℕ) (s : Sinking) : Type 0 where
+  pub line : ℕ
+  pub kind : PlanKind
+  pub is_fault : IsPlanFault input line kind
+  pub told : GotLine s (fault_line line kind)

@@ -1,0 +1,73 @@
+-- The promise of the top call.
+use Rattle.std.specs.Prelude.{◌≡◌, ◌⊎◌, ℕ, ◌≤◌, List, [], Option}
+use Rattle.std.specs.Io.KnownBytes.{IsAtEnd}
+use Rattle.stream_port.specs.Causes.{Rose}
+use Rattle.plan_form.specs.declared.plans.Plan.{Plan}
+use Rattle.plan_form.specs.Plans.{IsPlan}
+use Rattle.plan_form.specs.Making.{made_plan}
+use Rattle.command_words.specs.declared.commands.Options.{Options}
+use Rattle.command_words.specs.declared.commands.Command.{Command}
+use Rattle.command_words.specs.declared.commands.Command.TheVariants.{Run, Load, History}
+use Rattle.command_words.specs.Words.{AreWords, AreNone}
+use Rattle.run_media.specs.Media.{Media}
+use Rattle.run_rounds.specs.Runs.{Account}
+use Rattle.swallow_top.specs.declared.media.Kept.{Kept}
+use Rattle.swallow_top.specs.declared.reports.Wanted.TheVariants.{Report, Summary}
+use Rattle.swallow_top.specs.Contract.{AllKept, HasNoRun, IsNoPlan, RunsPlan}
+use Rattle.swallow_top.specs.Histories.{TellsHistory}
+use Rattle.swallow_top.specs.Inputs.{OfInput}
+use Rattle.swallow_top.specs.Lines.{words_line, source_line}
+use Rattle.swallow_top.specs.Shelves.{ShelfSight}
+use Rattle.swallow_top.specs.Written.{Sinking, GotLine}
+
+-- all that a call was given and gave, as contracts see it
+pub record Call (M : Type 0) : Type 1 where
+  pub words : List (List ℕ)
+  pub status : ℕ
+  -- what the source had and has, and how often it had failed and has
+  pub input : Option (List ℕ)
+  pub left : Option (List ℕ)
+  pub faults_before : ℕ
+  pub faults : ℕ
+  pub sink : Sinking
+  pub media_are : Media M
+  pub shelf_before : ShelfSight
+  pub shelf : ShelfSight
+  pub told : Account
+  pub media : List (Kept M)
+
+module _ {M : Type 0} (c : Call M) where
+  -- nothing was run: no medium was taken, and nothing was asked
+  pub record IsQuiet (status : ℕ) : Type 0 where
+    pub status_is : c.status ≡ status
+    pub none : c.media ≡ []
+    pub no_run : HasNoRun c.told
+
+  -- the words are no command, and the sink got the line that says so
+  abbrev pub HasNoWords : Type 0
+  HasNoWords = IsQuiet 1 × AreNone c.words × GotLine c.sink words_line
+
+  -- the source failed
+  abbrev pub HasNoInput : Type 0
+  HasNoInput = IsQuiet 3 × Rose c.faults_before c.faults × GotLine c.sink source_line
+
+  -- the input is no plan
+  abbrev pub HasNoPlan : Type 0
+  HasNoPlan = IsQuiet 2 × OfInput c.input (λ input. IsNoPlan input c.sink)
+
+  -- the input, which was read to its end, is a plan, and this came of running it
+  abbrev pub HasRun : Options → Type 0
+  HasRun o = IsAtEnd c.left × OfInput c.input (λ input. (plan : Plan) × IsPlan input plan × RunsPlan c.media_are c.shelf_before c.shelf c.media plan Report o c.told c.sink c.status)
+
+  -- what was done for the command that the words are
+  abbrev pub WasDone : Command → Type 0
+  WasDone (Run o) = HasNoInput ⊎ (HasNoPlan ⊎ HasRun o)
+  WasDone (Load seed count o) = RunsPlan c.media_are c.shelf_before c.shelf c.media (made_plan seed count) (Summary seed) o c.told c.sink c.status
+  WasDone (History object) = TellsHistory c.media_are c.shelf_before c.shelf object c.media c.sink c.status × HasNoRun c.told
+
+  pub record Promise : Type 0 where
+    -- The words are no command; or memory was wanting before anything was done; or the words are a command, and this was done.
+    pub done : HasNoWords ⊎ (IsQuiet 7 ⊎ ((command : Command) × AreWords command c.words × WasDone command))
+    -- Each medium that was taken is handed back.
+    pub kept : AllKept c.shelf_before c.shelf c.media
+    pub statuses : c.status ≤ 7
