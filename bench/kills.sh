@@ -1,5 +1,6 @@
 #!/usr/bin/env bash
-# Ends the program by its process id in the middle of runs, 200 times or as often as the first word says.
+# Ends the program by its process id in the middle of runs, 200 times or as often as the first word says, with as
+# many workers as the second word says, or one. Each run has a number of its own, above those before it.
 # Each act of a run reads 1.1, adds 1 and writes the sum to 1.1 and to 1.2. After each kill the pages of the
 # file that have a gated decision to commit are counted, and then a run that reads both objects is begun:
 # both have to be that count. The reading run withdraws its act, so it adds no such page. A fresh folder is
@@ -10,18 +11,22 @@ trap 'rm -rf "$work"' EXIT
 "$top/swallow" "$work/first" run < "$top/examples/first.plan" > /dev/null || exit 1
 program="$top/crates/swallow_main/out/swallow_main"
 kills=${1:-200}
+workers=${2:-1}
 folder="$work/data"
 medium="$folder/repository-1-0"
 
-head='swallow plan 1\nrun 1\nrepositories 1\nbrokers 1\n'
+run=0
 act='act broker 1 home 1 timeout 5 tries 3\n'
-{
-  printf "$head"
-  for _ in $(seq 180); do
-    printf "${act}read a 1.1\nlet s = given(a, 0) + 1\nwrite 1.1 s\nwrite 1.2 s\ndone\n"
-  done
-} > "$work/adds"
-printf "$head${act}read a 1.1\nread b 1.2\nwithdraw\ndone\n" > "$work/reads"
+for _ in $(seq 180); do
+  printf "${act}read a 1.1\nlet s = given(a, 0) + 1\nwrite 1.1 s\nwrite 1.2 s\ndone\n"
+done > "$work/adds"
+printf "${act}read a 1.1\nread b 1.2\nwithdraw\ndone\n" > "$work/reads"
+
+# A plan of these acts, with the next run number.
+plan() {
+  run=$((run + 1))
+  { printf 'swallow plan 1\nrun %d\nrepositories 1\nbrokers 1\n' "$run"; cat "$1"; } > "$work/plan"
+}
 
 # The first 16 bytes of each page that isn't blank, a line each.
 pages() {
@@ -44,7 +49,8 @@ for kill in $(seq "$kills"); do
   # Of a fresh folder the run is ended early, at times before it has a page.
   most=600
   [ -f "$medium" ] || most=40
-  "$program" "$folder" run < "$work/adds" > "$work/report" &
+  plan "$work/adds"
+  "$program" "$folder" run --workers "$workers" < "$work/plan" > "$work/report" &
   process=$!
   sleep "$(printf '0.%03d' $((RANDOM % most)))"
   kill -9 "$process" 2> /dev/null
@@ -59,7 +65,8 @@ for kill in $(seq "$kills"); do
   else
     between=$((between + 1))
   fi
-  "$program" "$folder" run < "$work/reads" > "$work/read" || { echo "kill $kill: status $?"; cat "$work/read"; exit 1; }
+  plan "$work/reads"
+  "$program" "$folder" run --workers "$workers" < "$work/plan" > "$work/read" || { echo "kill $kill: status $?"; cat "$work/read"; exit 1; }
   value=$committed
   [ "$committed" -eq 0 ] && value=nothing
   if ! grep -qx "read 1.1 $value" "$work/read" || ! grep -qx "read 1.2 $value" "$work/read"; then

@@ -4,19 +4,88 @@ use pseudo_time::NodeKind;
 use std::test::*;
 use stream_port::{Fate, FateRule};
 
+/// One act from words to report.
+const FIRST: Row = Row {
+    words: &["run"],
+    plan: "swallow plan 1\nrun 1\nrepositories 1\nbrokers 1\nact broker 1 home 1 timeout 5 tries 3\nwrite 1.7 10\nread x 1.7\nprint x\ndone\n",
+    rules: &[],
+    stops: &[],
+    source_fails: 0,
+    sink_fails: 0,
+    again: false,
+    status: 0,
+    text: "swallow report 1\nrun 1\nact 1 broker 1 home 1\ntry 1.1.1 committed\nwrote 1.7 10\nread 1.7 10\nprint 10\nfinal 1.7 10\ntotals acts 1 committed 1 withdrawn 0 failed 0 refused 0 expired 0 spent 0 open 0\nwire messages 8 asks 0 ticks 0 crashes 0\n",
+};
+
+/// A write behind a later read is refused, and its act tried again.
+const LATER_READ: Row = Row {
+    words: &["run"],
+    plan: "swallow plan 1\nrun 1\nrepositories 1\nbrokers 2\nact broker 1 home 1 timeout 5 tries 3\nwrite 1.1 5\ndone\nact broker 2 home 1 timeout 5 tries 3\nread a 1.1\ndone\n",
+    rules: &[FateRule {
+        tag: 5,
+        nth: 1,
+        fate: Fate {
+            copies: 1,
+            overtake: 0,
+            hold: 1,
+        },
+    }],
+    stops: &[],
+    source_fails: 0,
+    sink_fails: 0,
+    again: false,
+    status: 0,
+    text: "swallow report 1\nrun 1\nact 1 broker 1 home 1\ntry 1.1.1 refused later-read 1.1 1.2.1/1\ntry 2.1.1 committed\nwrote 1.1 5\nact 2 broker 2 home 1\ntry 1.2.1 committed\nread 1.1 nothing\nfinal 1.1 5\ntotals acts 2 committed 2 withdrawn 0 failed 0 refused 0 expired 0 spent 0 open 0\nwire messages 20 asks 0 ticks 1 crashes 0\n",
+};
+
+/// The repository stops at the gate of a page, which is spoiled.
+const TORN_GATE: Row = Row {
+    words: &["run"],
+    plan: "swallow plan 1\nrun 1\nrepositories 1\nbrokers 1\nact broker 1 home 1 timeout 5 tries 3\nwrite 1.7 10\nread x 1.7\nprint x\ndone\n",
+    rules: &[],
+    stops: &[Stopped {
+        kind: NodeKind::Repository,
+        number: 1,
+        pages: 64,
+        stop: Some(Stop {
+            at: StopAt::Write { page: 3, at: 1 },
+            keep: 0,
+            fill: 0xA5,
+        }),
+        front: &[],
+    }],
+    source_fails: 0,
+    sink_fails: 0,
+    again: false,
+    status: 0,
+    text: "swallow report 1\nrun 1\nact 1 broker 1 home 1\ntry 1.1.1 committed\nwrote 1.7 10\nread 1.7 10\nprint 10\nfinal 1.7 10\ntotals acts 1 committed 1 withdrawn 0 failed 0 refused 0 expired 0 spent 0 open 0\nwire messages 9 asks 0 ticks 1 crashes 1\n",
+};
+
+/// The broker stops where it writes its End.
+const TORN_END: Row = Row {
+    words: &["run"],
+    plan: "swallow plan 1\nrun 1\nrepositories 1\nbrokers 1\nact broker 1 home 1 timeout 5 tries 3\nwrite 1.7 10\nread x 1.7\nprint x\ndone\n",
+    rules: &[],
+    stops: &[Stopped {
+        kind: NodeKind::Broker,
+        number: 1,
+        pages: 64,
+        stop: Some(Stop {
+            at: StopAt::Write { page: 3, at: 1 },
+            keep: 0,
+            fill: 0xFF,
+        }),
+        front: &[],
+    }],
+    source_fails: 0,
+    sink_fails: 0,
+    again: false,
+    status: 0,
+    text: "swallow report 1\nrun 1\nact 1 broker 1 home 1\ntry 1.1.1 committed\nwrote 1.7 10\nread 1.7 10\nprint 10\nfinal 1.7 10\ntotals acts 1 committed 1 withdrawn 0 failed 0 refused 0 expired 0 spent 0 open 0\nwire messages 10 asks 0 ticks 0 crashes 1\n",
+};
+
 const ROWS: [Row; 39] = [
-    // One act from words to report.
-    Row {
-        words: &["run"],
-        plan: "swallow plan 1\nrun 1\nrepositories 1\nbrokers 1\nact broker 1 home 1 timeout 5 tries 3\nwrite 1.7 10\nread x 1.7\nprint x\ndone\n",
-        rules: &[],
-        stops: &[],
-        source_fails: 0,
-        sink_fails: 0,
-        again: false,
-        status: 0,
-        text: "swallow report 1\nrun 1\nact 1 broker 1 home 1\ntry 1.1.1 committed\nwrote 1.7 10\nread 1.7 10\nprint 10\nfinal 1.7 10\ntotals acts 1 committed 1 withdrawn 0 failed 0 refused 0 expired 0 spent 0 open 0\nwire messages 8 asks 0 ticks 0 crashes 0\n",
-    },
+    FIRST,
     // The same run again on these media: its acts have their outcomes.
     Row {
         words: &["run"],
@@ -113,26 +182,7 @@ const ROWS: [Row; 39] = [
         status: 2,
         text: "swallow: old run 2\n",
     },
-    // A write behind a later read is refused, and its act tried again.
-    Row {
-        words: &["run"],
-        plan: "swallow plan 1\nrun 1\nrepositories 1\nbrokers 2\nact broker 1 home 1 timeout 5 tries 3\nwrite 1.1 5\ndone\nact broker 2 home 1 timeout 5 tries 3\nread a 1.1\ndone\n",
-        rules: &[FateRule {
-            tag: 5,
-            nth: 1,
-            fate: Fate {
-                copies: 1,
-                overtake: 0,
-                hold: 1,
-            },
-        }],
-        stops: &[],
-        source_fails: 0,
-        sink_fails: 0,
-        again: false,
-        status: 0,
-        text: "swallow report 1\nrun 1\nact 1 broker 1 home 1\ntry 1.1.1 refused later-read 1.1 1.2.1/1\ntry 2.1.1 committed\nwrote 1.1 5\nact 2 broker 2 home 1\ntry 1.2.1 committed\nread 1.1 nothing\nfinal 1.1 5\ntotals acts 2 committed 2 withdrawn 0 failed 0 refused 0 expired 0 spent 0 open 0\nwire messages 20 asks 0 ticks 1 crashes 0\n",
-    },
+    LATER_READ,
     // A write below a later version, which is a token yet.
     Row {
         words: &["run"],
@@ -256,28 +306,7 @@ const ROWS: [Row; 39] = [
         status: 0,
         text: "swallow report 1\nrun 1\nact 1 broker 1 home 1\ntry 1.1.1 committed\nwrote 2.1 4\nact 2 broker 1 home 1\ntry 2.1.1 committed\nread 2.1 4\nfinal 2.1 4\ntotals acts 2 committed 2 withdrawn 0 failed 0 refused 0 expired 0 spent 0 open 0\nwire messages 12 asks 0 ticks 0 crashes 0\n",
     },
-    // The repository stops at the gate of a page, which is spoiled.
-    Row {
-        words: &["run"],
-        plan: "swallow plan 1\nrun 1\nrepositories 1\nbrokers 1\nact broker 1 home 1 timeout 5 tries 3\nwrite 1.7 10\nread x 1.7\nprint x\ndone\n",
-        rules: &[],
-        stops: &[Stopped {
-            kind: NodeKind::Repository,
-            number: 1,
-            pages: 64,
-            stop: Some(Stop {
-                at: StopAt::Write { page: 3, at: 1 },
-                keep: 0,
-                fill: 0xA5,
-            }),
-            front: &[],
-        }],
-        source_fails: 0,
-        sink_fails: 0,
-        again: false,
-        status: 0,
-        text: "swallow report 1\nrun 1\nact 1 broker 1 home 1\ntry 1.1.1 committed\nwrote 1.7 10\nread 1.7 10\nprint 10\nfinal 1.7 10\ntotals acts 1 committed 1 withdrawn 0 failed 0 refused 0 expired 0 spent 0 open 0\nwire messages 9 asks 0 ticks 1 crashes 1\n",
-    },
+    TORN_GATE,
     // It stops behind the gate, which keeps the effect.
     Row {
         words: &["run"],
@@ -330,28 +359,7 @@ const ROWS: [Row; 39] = [
         status: 0,
         text: "swallow report 1\nrun 1\nact 1 broker 1 home 1\ntry 1.1.1 refused later-read 1.1 1.2.1/1\ntry 2.1.1 committed\nwrote 1.1 5\nact 2 broker 2 home 1\ntry 1.2.1 committed\nread 1.1 nothing\nfinal 1.1 5\ntotals acts 2 committed 2 withdrawn 0 failed 0 refused 0 expired 0 spent 0 open 0\nwire messages 21 asks 0 ticks 1 crashes 1\n",
     },
-    // The broker stops where it writes its End.
-    Row {
-        words: &["run"],
-        plan: "swallow plan 1\nrun 1\nrepositories 1\nbrokers 1\nact broker 1 home 1 timeout 5 tries 3\nwrite 1.7 10\nread x 1.7\nprint x\ndone\n",
-        rules: &[],
-        stops: &[Stopped {
-            kind: NodeKind::Broker,
-            number: 1,
-            pages: 64,
-            stop: Some(Stop {
-                at: StopAt::Write { page: 3, at: 1 },
-                keep: 0,
-                fill: 0xFF,
-            }),
-            front: &[],
-        }],
-        source_fails: 0,
-        sink_fails: 0,
-        again: false,
-        status: 0,
-        text: "swallow report 1\nrun 1\nact 1 broker 1 home 1\ntry 1.1.1 committed\nwrote 1.7 10\nread 1.7 10\nprint 10\nfinal 1.7 10\ntotals acts 1 committed 1 withdrawn 0 failed 0 refused 0 expired 0 spent 0 open 0\nwire messages 10 asks 0 ticks 0 crashes 1\n",
-    },
+    TORN_END,
     // The repository's medium is full.
     Row {
         words: &["run"],
@@ -614,6 +622,31 @@ fn rows_have_their_statuses_and_texts(rt: HostRuntime) -> Result<(), Fail> {
         assert_eq!(rt; called.text.as_slice(), row.text.as_bytes());
         assert_eq!(rt; called.finish.status, row.status);
         left = called.finish.media.into_vec();
+    }
+    Ok(())
+}
+
+// What stands in front of the line of the wire.
+fn acts_of(row: &Row) -> Option<&'static [u8]> {
+    let at = row.text.find("wire messages")?;
+    row.text.as_bytes().get(..at)
+}
+
+// Nodes on four workers may send their messages in another order, and no other act or final comes of it.
+#[test]
+fn four_workers_give_the_same_acts(rt: HostRuntime) -> Result<(), Fail> {
+    let alloc = rt.alloc();
+    for row in [FIRST, LATER_READ, TORN_GATE, TORN_END].as_slice() {
+        let four = Row {
+            words: &["run", "--workers", "4"],
+            ..*row
+        };
+        let called = call(&rt, alloc, &four, Vec::new(alloc))?;
+        let Some(acts) = acts_of(row) else {
+            return Err("a line of the wire".into());
+        };
+        assert_eq!(rt; called.text.as_slice().starts_with(acts), true);
+        assert_eq!(rt; called.finish.status, row.status);
     }
     Ok(())
 }
