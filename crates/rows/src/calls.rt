@@ -13,50 +13,46 @@ use swallow_top::{Finish, Kept, swallow};
 
 pub type TestFinish = Finish<MemoryMedium, MemoryFates, FixedClock>;
 
-/// Where a node's medium stops, and how many pages it has.
+/// A node's medium: how many pages it has, where it stops, and bytes of it that aren't 0.
 #[derive(Clone, Copy)]
-pub struct Stopped {
+pub struct Stopped<'a> {
     pub kind: NodeKind,
     pub number: u8,
     pub pages: u32,
-    pub stop: Option<Stop>,
-    /// What its first page begins with.
-    pub front: &'static [u8],
+    pub stops: &'a [Stop],
+    /// A page, a place on it, and what stands there.
+    pub bytes: &'a [(u32, u16, &'a [u8])],
 }
 
 /// What a call is given, and what it gives.
 #[derive(Clone, Copy)]
-pub struct Row {
-    pub words: &'static [&'static str],
-    pub plan: &'static str,
-    pub rules: &'static [FateRule],
-    pub stops: &'static [Stopped],
-    /// The call of the source that fails, or 0.
-    pub source_fails: u64,
-    /// The call of the sink, which takes 10 bytes a call, that fails, or 0.
-    pub sink_fails: u64,
+pub struct Row<'a> {
+    pub words: &'a [&'a str],
+    pub plan: &'a [u8],
+    pub rules: &'a [FateRule],
+    pub stops: &'a [Stopped<'a>],
+    /// How many bytes the source gives a call, and which call of it fails, or 0.
+    pub source: (usize, u64),
+    /// How many bytes the sink takes a call, and which call of it fails, or 0.
+    pub sink: (usize, u64),
     /// The media are those that the row before this one left; else they are blank.
     pub again: bool,
     pub status: u8,
-    pub text: &'static str,
+    pub text: &'a str,
 }
 
-fn medium_of(alloc: Global, stopped: Stopped) -> Result<MemoryMedium, Fail>
+fn medium_of(alloc: Global, stopped: Stopped<'_>) -> Result<MemoryMedium, Fail>
     ensures { IfOk result (λ m. failed_in m ≡ false) }
 {
-    let mut stops = Vec::new(alloc);
-    if let Some(stop) = stopped.stop {
-        stops.push(stop)?;
-    }
     if stopped.pages == 0 || stopped.pages > 1_048_576 {
         return Err("pages".into());
     }
-    let mut medium = MemoryMedium::new(alloc, stopped.pages, stops)?;
-    if !stopped.front.is_empty() {
-        if stopped.front.len() > 4096 {
-            return Err("a front".into());
+    let mut medium = MemoryMedium::new(alloc, stopped.pages, stopped.stops.to_vec(alloc)?)?;
+    for (page, at, bytes) in stopped.bytes {
+        if *page >= stopped.pages || usize::from(*at) + bytes.len() > 4096 {
+            return Err("a place".into());
         }
-        if medium.write(0, 0, stopped.front).is_err() || medium.sync().is_err() {
+        if medium.write(*page, *at, bytes).is_err() || medium.sync().is_err() {
             return Err("a write".into());
         }
     }
@@ -100,15 +96,20 @@ pub struct Called {
 pub fn call<R: Threads + Wait + Sync>(
     rt: &R,
     alloc: Global,
-    row: &Row,
+    row: &Row<'_>,
     left: Vec<Kept<MemoryMedium>>,
 ) -> Result<Called, Fail> {
+    let (given, source_fails) = row.source;
+    let (taken, sink_fails) = row.sink;
+    if given == 0 || taken == 0 {
+        return Err("bytes a call".into());
+    }
     let mut source = MemorySource::new(
-        row.plan.as_bytes().to_vec(alloc)?,
-        4096,
-        vec![in alloc; row.source_fails]?,
+        row.plan.to_vec(alloc)?,
+        given,
+        vec![in alloc; source_fails]?,
     );
-    let mut sink = MemorySink::new(alloc, 10, vec![in alloc; row.sink_fails]?);
+    let mut sink = MemorySink::new(alloc, taken, vec![in alloc; sink_fails]?);
     let mut shelf = shelf_of(alloc, row, left)?;
     let finish = swallow(
         rt,

@@ -6,4 +6,8 @@ mod calls;
 #[cfg(test)]
 mod meetings;
 #[cfg(test)]
+mod refusals;
+#[cfg(test)]
 mod rows;
+#[cfg(test)]
+mod stops;
