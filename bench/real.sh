@@ -38,6 +38,12 @@ skip() {
   echo "left out: $*"
 }
 
+# The plan in this file with a run number above those before it: milliseconds since the script began.
+began=$(date +%s%N)
+numbered() {
+  sed "2s/.*/run $((($(date +%s%N) - began) / 1000000 + 1))/" "$work/$1"
+}
+
 head='swallow plan 1\nrun 1\nrepositories 1\nbrokers 1\n'
 act='act broker 1 home 1 timeout 5 tries 3\n'
 
@@ -55,16 +61,17 @@ printf "$head${act}read a 1.1\nwithdraw\ndone\n" > "$work/reads"
 
 # What 1.1 has in this folder, by a run that writes nothing but its own withdrawal.
 held() {
-  "$program" "$1" run < "$work/reads" 2> /dev/null | sed -n 's/^read 1\.1 //p'
+  numbered reads | "$program" "$1" run 2> /dev/null | sed -n 's/^read 1\.1 //p'
 }
 
 # ---- closed streams
 
 for stream in 0 1 2 "0 1" "1 2" "0 2" "0 1 2"; do
   folder="$work/closed-${stream// /-}"
-  "$program" "$folder" run < "$work/adds" > /dev/null || exit 1
+  numbered adds | "$program" "$folder" run > /dev/null || exit 1
+  numbered adds > "$work/again"
   # Opened first, then closed.
-  redirected='< "$work/adds" > "$work/out" 2> "$work/err"'
+  redirected='< "$work/again" > "$work/out" 2> "$work/err"'
   for one in $stream; do
     case $one in
       0) redirected="$redirected <&-" ;;
@@ -90,16 +97,27 @@ done
 
 for round in $(seq 15); do
   folder="$work/two-$round"
-  "$program" "$folder" run < "$work/one" > /dev/null || exit 1
-  "$program" "$folder" run < "$work/many" > "$work/out-1" 2> "$work/err-1" &
+  numbered one | "$program" "$folder" run > /dev/null || exit 1
+  numbered many > "$work/many-1"
+  numbered adds > "$work/adds-2"
+  "$program" "$folder" run < "$work/many-1" > "$work/out-1" 2> "$work/err-1" &
   first=$!
-  "$program" "$folder" run < "$work/adds" > "$work/out-2" 2> "$work/err-2"
+  "$program" "$folder" run < "$work/adds-2" > "$work/out-2" 2> "$work/err-2"
   two=$?
   wait "$first"
   one=$?
   sum=1
-  if [ "$one" -eq 0 ]; then sum=$((sum + 150)); else has "line of the first of two" "$work/err-1" "locked by another program"; fi
-  if [ "$two" -eq 0 ]; then sum=$((sum + 30)); else has "line of the second of two" "$work/err-2" "locked by another program"; fi
+  # One that comes behind the other may have the smaller run number: then it is refused.
+  case $one in
+    0) sum=$((sum + 150)) ;;
+    2) has "line of the first of two" "$work/out-1" "swallow: old run" ;;
+    *) has "line of the first of two" "$work/err-1" "locked by another program" ;;
+  esac
+  case $two in
+    0) sum=$((sum + 30)) ;;
+    2) has "line of the second of two" "$work/out-2" "swallow: old run" ;;
+    *) has "line of the second of two" "$work/err-2" "locked by another program" ;;
+  esac
   is "acts of two programs at once" "$(held "$folder")" "$sum"
   rm -rf "$folder"
 done
@@ -110,17 +128,19 @@ done
 mistake() {
   local what="$1" folder="$2" reason="$3"
   shift 3
-  "$@" "$program" "$folder" run < "$work/one" > "$work/out" 2> "$work/err"
+  numbered one > "$work/mistaken"
+  "$@" "$program" "$folder" run < "$work/mistaken" > "$work/out" 2> "$work/err"
   is "status of $what" "$?" 6
   has "report of $what" "$work/out" "down repository 1 medium"
   has "line of $what" "$work/err" "swallow: $folder/repository-1-0: $reason"
-  is "lines of $what" "$(wc -l < "$work/err")" 1
+  # The broker's medium stands in the same folder.
+  is "lines of $what" "$(grep -c "repository-1-0" "$work/err")" 1
 }
 
-"$program" "$work/not/there/yet" run < "$work/one" > /dev/null 2> "$work/err"
+numbered one | "$program" "$work/not/there/yet" run > /dev/null 2> "$work/err"
 is "status with parents missing" "$?" 0
 is "acts with parents missing" "$(held "$work/not/there/yet")" 1
-(cd "$work" && "$program" here/too run < "$work/one" > /dev/null)
+(cd "$work" && numbered one | "$program" here/too run > /dev/null)
 is "status of a relative folder" "$?" 0
 is "acts of a relative folder" "$(held "$work/here/too")" 1
 
@@ -137,7 +157,7 @@ mkdir "$work/long" && truncate -s 4294971392 "$work/long/repository-1-0"
 mistake "a file of too many pages" "$work/long" "a file of 4294971392 bytes"
 mistake "a name that is too long" "$work/$(printf 'n%.0s' $(seq 300))" "File name too long"
 mistake "no name" "" "the folder has no name"
-"$program" "$work/locked" run < "$work/one" > /dev/null || exit 1
+numbered one | "$program" "$work/locked" run > /dev/null || exit 1
 exec 9< "$work/locked/repository-1-0"
 if flock -n 9; then
   mistake "a locked file" "$work/locked" "locked by another program"
@@ -164,12 +184,12 @@ fi
 mkdir "$work/small"
 if mount -t tmpfs -o size=256k tmpfs "$work/small" 2> /dev/null; then
   mounted="$work/small"
-  "$program" "$work/small" run < "$work/one" > /dev/null 2> "$work/err"
+  numbered one | "$program" "$work/small" run > /dev/null 2> "$work/err"
   is "status while there is room" "$?" 0
-  "$program" "$work/small" run < "$work/many" > "$work/out" 2> "$work/err"
+  numbered many | "$program" "$work/small" run > "$work/out" 2> "$work/err"
   is "status of a full file system" "$?" 6
   has "line of a full file system" "$work/err" "swallow: $work/small/repository-1-0: No space left on device"
-  is "lines of a full file system" "$(wc -l < "$work/err")" 1
+  is "lines of a full file system" "$(grep -c "No space left" "$work/err")" 1
   acts=$(grep -c '^try .* committed' "$work/out")
   mount -o remount,size=64m "$work/small"
   is "acts of a file system that was full" "$(held "$work/small")" "$((acts + 1))"

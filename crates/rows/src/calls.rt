@@ -20,8 +20,8 @@ pub struct Stopped<'a> {
     pub number: u8,
     pub pages: u32,
     pub stops: &'a [Stop],
-    /// A page, a place on it, and what stands there.
-    pub bytes: &'a [(u32, u16, &'a [u8])],
+    /// A page, a place on it, and what stands there, or none.
+    pub bytes: Option<(u32, u16, &'a [u8])>,
 }
 
 /// What a call is given, and what it gives.
@@ -48,11 +48,11 @@ fn medium_of(alloc: Global, stopped: Stopped<'_>) -> Result<MemoryMedium, Fail>
         return Err("pages".into());
     }
     let mut medium = MemoryMedium::new(alloc, stopped.pages, stopped.stops.to_vec(alloc)?)?;
-    for (page, at, bytes) in stopped.bytes {
-        if *page >= stopped.pages || usize::from(*at) + bytes.len() > 4096 {
+    if let Some((page, at, bytes)) = stopped.bytes {
+        if page >= stopped.pages || usize::from(at) + bytes.len() > 4096 {
             return Err("a place".into());
         }
-        if medium.write(*page, *at, bytes).is_err() || medium.sync().is_err() {
+        if medium.write(page, at, bytes).is_err() || medium.sync().is_err() {
             return Err("a write".into());
         }
     }

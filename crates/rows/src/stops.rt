@@ -1,6 +1,5 @@
 //! Media that stop at each of their calls.
 use crate::calls::{Called, Row, Stopped, call};
-use crate::rows::FIRST;
 use medium_port::{MemoryMedium, Stop, StopAt};
 use pseudo_time::NodeKind;
 use std::alloc::Global;
@@ -8,6 +7,10 @@ use std::sync::Wait;
 use std::test::*;
 use std::thread::Threads;
 use swallow_top::Kept;
+
+/// One act that writes, reads and prints.
+const PLAN: &[u8] =
+    b"swallow plan 1\nrun 1\nrepositories 1\nbrokers 1\nact broker 1 home 1 timeout 5 tries 3\nwrite 1.7 10\nread x 1.7\nprint x\ndone\n";
 
 /// What a stop keeps of a write that wasn't synced, and what stands in the place of the rest.
 const LEFT: [(u16, u8); 6] = [
@@ -44,8 +47,30 @@ fn medium<'a>(kind: NodeKind, stops: &'a [Stop]) -> Stopped<'a> {
         number: 1,
         pages: 8,
         stops,
-        bytes: &[],
+        bytes: None,
     }
+}
+
+// One act over these media.
+fn over<'a>(stops: &'a [Stopped<'a>]) -> Row<'a> {
+    Row {
+        words: &["run"],
+        plan: PLAN,
+        rules: &[],
+        stops,
+        source: (4096, 0),
+        sink: (4096, 0),
+        again: false,
+        status: 0,
+        text: "",
+    }
+}
+
+// The status, the text and the media of a call.
+fn parts(called: Called) -> (u8, Vec<u8>, Vec<Kept<MemoryMedium>>) {
+    let Called { finish, text } = called;
+    let status = finish.status;
+    (status, text, finish.media.into_vec())
 }
 
 // The run over media of eight pages, of which that of this kind of node stops.
@@ -61,11 +86,7 @@ fn stopped<R: Threads + Wait + Sync>(
         NodeKind::Broker => NodeKind::Repository,
     };
     let media = [medium(kind, &stops), medium(other, &[])];
-    let row = Row {
-        stops: &media,
-        ..FIRST
-    };
-    call(rt, alloc, &row, Vec::new(alloc))
+    call(rt, alloc, &over(&media), Vec::new(alloc))
 }
 
 // Whether a run over these media has the same acts and finals, and sends no message.
@@ -74,12 +95,13 @@ fn stands<R: Threads + Wait + Sync>(
     alloc: Global,
     left: Vec<Kept<MemoryMedium>>,
 ) -> Result<bool, Fail> {
-    let called = call(rt, alloc, &FIRST, left)?;
-    let text = called.text.as_slice();
+    let (status, text, _) = parts(call(rt, alloc, &over(&[]), left)?);
     Ok(
-        text.starts_with(ACTS)
-            && text.ends_with(b"wire messages 0 asks 0 ticks 0 crashes 0\n")
-            && called.finish.status == 0,
+        status == 0
+            && text.as_slice().starts_with(ACTS)
+            && text
+                .as_slice()
+                .ends_with(b"wire messages 0 asks 0 ticks 0 crashes 0\n"),
     )
 }
 
@@ -95,18 +117,18 @@ fn a_stop_at_each_call(rt: HostRuntime) -> Result<(), Fail> {
                     keep,
                     fill,
                 };
-                let called = stopped(&rt, alloc, kind, stop)?;
+                let (status, text, left) = parts(stopped(&rt, alloc, kind, stop)?);
                 if number <= OPENING {
-                    assert_eq!(rt; called.finish.status, 6);
-                    assert_eq!(rt; called.text.as_slice(), down);
-                } else if called.text.as_slice().ends_with(b"crashes 0\n") {
+                    assert_eq!(rt; status, 6);
+                    assert_eq!(rt; text.as_slice(), down);
+                } else if text.as_slice().ends_with(b"crashes 0\n") {
                     break;
                 } else {
                     last = number;
-                    assert_eq!(rt; called.finish.status, 0);
-                    assert_eq!(rt; called.text.as_slice().starts_with(ACTS), true);
-                    assert_eq!(rt; called.text.as_slice().ends_with(b"crashes 1\n"), true);
-                    assert_eq!(rt; stands(&rt, alloc, called.finish.media.into_vec())?, true);
+                    assert_eq!(rt; status, 0);
+                    assert_eq!(rt; text.as_slice().starts_with(ACTS), true);
+                    assert_eq!(rt; text.as_slice().ends_with(b"crashes 1\n"), true);
+                    assert_eq!(rt; stands(&rt, alloc, left)?, true);
                 }
             }
             // Four pages are written, each by a body, a gate and two syncs.
@@ -139,17 +161,13 @@ fn a_reopening_that_fails(rt: HostRuntime) -> Result<(), Fail> {
         number: 1,
         pages: 64,
         stops: &TWICE,
-        bytes: &[],
+        bytes: None,
     }];
-    let row = Row {
-        stops: &media,
-        ..FIRST
-    };
-    let called = call(&rt, alloc, &row, Vec::new(alloc))?;
-    let Ok(text) = str::from_utf8(called.text.as_slice()) else {
+    let (status, bytes, _) = parts(call(&rt, alloc, &over(&media), Vec::new(alloc))?);
+    let Ok(text) = str::from_utf8(bytes.as_slice()) else {
         return Err("a text".into());
     };
-    assert_eq!(rt; called.finish.status, 6);
+    assert_eq!(rt; status, 6);
     assert_eq!(rt;
         text.contains("try 1.1.1 open\ndown repository 1 medium\n"),
         true
