@@ -73,9 +73,11 @@ pub fn open_broker<F: Fates, C: Clock, M: Medium>(
     }
 }
 
-/// Whether each act of the broker has its outcome and no request is outstanding. Takes no memory.
+/// Whether each act of the broker has its outcome and no request is outstanding, as far as its pass,
+/// which is its own, has seen. Takes no memory.
 pub fn is_done<F: Fates, C: Clock, M: Medium>(node: &BrokerNode<F, C, M>) -> bool
-    ensures { IsTrue M.tells → node.now.condition ≡ Condition.AtWork → result ≡ is_over (base_at (sight node.now)) node.now.node.number (life_at (sight node.now) node.now.node) }
+    ensures over { IsTrue M.tells → node.now.condition ≡ Condition.AtWork → result ≡ is_over (base_at (sight node.now)) node.now.node.number (life_at (sight node.now) node.now.node) }
+    ensures own { node.now.condition ≡ Condition.AtWork → IsOf node.now.node (sight node.now) }
 {
     node.core().is_done()
 }

@@ -6,4 +6,5 @@ pub mod RepositoryCrosses
 pub mod RoundLemmas
 pub mod ShareLemmas
 pub mod TickLemmas
+pub mod WantedLemmas
 pub mod WentLemmas

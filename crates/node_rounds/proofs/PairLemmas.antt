@@ -1,6 +1,6 @@
 -- Lists beside each other, and what holds of each element.
-use Rattle.std.proofs.Common.{◌≡◌, ◌<◌, ◌≤◌, ◌+◌, ◌∙◌, ℕ, zero, suc, List, [], ◌∷◌, ◌++◌, length, get_or, subst, sym, arith}
-use Rattle.std.specs.Prelude.{All, slice_set}
+use Rattle.std.proofs.Common.{◌≡◌, ◌<◌, ◌≤◌, ◌+◌, ◌∙◌, ℕ, zero, suc, List, [], ◌∷◌, ◌++◌, length, get_or, refl, subst, sym, arith}
+use Rattle.std.specs.Prelude.{All, Any, slice_set}
 use Rattle.std.specs.List.{AllZip, AllWithin}
 use Rattle.std.proofs.lemmas.List.{get_or_default}
 use Rattle.std.proofs.lemmas.List.Elements.{All-nil, All-cons, AllWithin-more}
@@ -70,3 +70,18 @@ within-more P xs i x lt is so one = AllWithin-more P xs 0 i so (λ d. subst P (i
 -- and its end
 pub within-all : {A : Type 0} (P : A → Type 0) (xs : List A) (i : ℕ) → length xs ≤ i → AllWithin P xs 0 i → All P xs
 within-all P xs i long so = λ k d lt. so k d (omega arith) (omega (arith, lt, long))
+
+-- ---- one of the elements
+
+pub any-both : {A : Type 0} (P Q R : A → Type 0) → ((x : A) → P x → Q x → R x) → (xs : List A) → Any P xs → All Q xs → Any R xs
+any-both P Q R f xs (i, x, lt, e, p) q = (i, x, lt, e, f x p (subst Q e (q i x lt)))
+
+-- what holds of one element holds of the one beside it, where the pairs carry it over
+pub any-through : {A B : Type 0} (P : A → Type 0) (R : A → B → Type 0) (Q : B → Type 0) → ((x : A) (y : B) → P x → R x y → Q y) → (xs : List A) (ys : List B) → Any P xs → AllZip R xs ys → Any Q ys
+any-through P R Q f [] ys (i, x, lt, e, p) zip = absurd (omega (arith, lt))
+any-through P R Q f (a ∷ xs) [] h zip = absurd zip
+any-through P R Q f (a ∷ xs) (b ∷ ys) (zero, x, lt, e, p) zip = (zero, b, omega arith, refl, f a b (subst P (sym e) p) zip.0)
+any-through P R Q f (a ∷ xs) (b ∷ ys) (suc i, x, lt, e, p) zip =
+    let h = any-through P R Q f xs ys (i, x, omega (arith, lt), e, p) zip.1 in
+    let below = h.2 in
+    (suc h.0, h.1, omega (arith, below), h.3, h.4)

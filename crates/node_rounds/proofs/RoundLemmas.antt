@@ -21,7 +21,7 @@ use Rattle.node_turn.specs.Costs.{costs, PaysFor}
 use Rattle.node_turn.specs.Nodes.{NodeParts, Adds, StaysWhole, IsCondition, TurnsTo, MeetsWith, sight}
 use Rattle.node_turn.proofs.TrailLemmas.{costs-append, adds-more, adds-none}
 use Rattle.node_turn.proofs.PageLemmas.{whole-same}
-use Rattle.node_rounds.specs.Nodes.{GoesOn, HasMet, HasAllOf, HasPass}
+use Rattle.node_rounds.specs.Nodes.{GoesOn, HasMet, HasAllOf, HasPass, HasSeen}
 use Rattle.node_rounds.proofs.PageLemmas.{keeps-joins, clean-joins}
 use Rattle.node_rounds.proofs.PairLemmas.{zip-same, zip-through, zip-with}
 
@@ -64,11 +64,15 @@ module _ {M : Type 0} where
 
   -- a story that goes on has them too
   pub has-more : (n : NodeParts M) (l l' : List Entry) → Begins l l' → HasAllOf l n → HasAllOf l' n
-  has-more n l l' b h = record { part = h.part; begins = begins-joins h.part l l' h.begins b; all = h.all }
+  has-more n l l' b h = record { begins = begins-joins (sight n).story l l' h.begins b; all = h.all }
 
   -- of a node that the conductor met it has them
   pub has-met : (n : NodeParts M) (l : List Entry) → Owns (sight n) → l ≡ (sight n).story → HasAllOf l n
-  has-met n l owns is = record { part = (sight n).story; begins = ([], append-nil (sight n).story ∙ sym is); all = owns }
+  has-met n l owns is = record { begins = ([], append-nil (sight n).story ∙ sym is); all = owns }
+
+  -- it has seen what it met
+  pub seen-met : (n : NodeParts M) (first seen story : List Entry) → Begins first seen → Begins seen story → story ≡ (sight n).story → HasSeen first n
+  seen-met n first seen story b c is = subst (Begins first) is (begins-joins first seen story b c)
 
   -- ---- meetings
 

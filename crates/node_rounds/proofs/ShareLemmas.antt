@@ -1,11 +1,11 @@
 -- What holds of the nodes of all shares.
 use Rattle.std.proofs.Common.{◌≡◌, ◌≢◌, List}
-use Rattle.std.specs.Prelude.{All}
+use Rattle.std.specs.Prelude.{All, Any}
 use Rattle.std.specs.List.{AllZip}
 use Rattle.std.proofs.lemmas.List.Elements.{All-weaker}
 use Rattle.node_turn.specs.Nodes.{NodeParts}
-use Rattle.node_rounds.specs.Nodes.{Shares, EachNode, EachPlace}
-use Rattle.node_rounds.proofs.PairLemmas.{all-through, all-both, zip-through, zip-same, zip-with}
+use Rattle.node_rounds.specs.Nodes.{Shares, EachNode, EachPlace, SomeNode}
+use Rattle.node_rounds.proofs.PairLemmas.{all-through, all-both, any-both, any-through, zip-through, zip-same, zip-with}
 
 module _ {M : Type 0} where
   pub each-weaker : (P Q : NodeParts M → Type 0) → ((n : NodeParts M) → P n → Q n) → (shares : Shares M) → EachNode P shares → EachNode Q shares
@@ -29,3 +29,12 @@ module _ {M : Type 0} where
       → (old mid new : Shares M) → EachPlace R old mid → EachPlace S mid new → EachPlace T old new
   place-through R S T f old mid new = zip-through (λ before after. AllZip R before.items after.items) (λ before after. AllZip S before.items after.items) (λ before after. AllZip T before.items after.items)
       (λ x y z. zip-through R S T f x.items y.items z.items) old mid new
+
+  -- one node of which two things hold
+  pub some-both : (P Q R : NodeParts M → Type 0) → ((n : NodeParts M) → P n → Q n → R n) → (shares : Shares M) → SomeNode P shares → EachNode Q shares → SomeNode R shares
+  some-both P Q R f shares = any-both (λ nodes. Any P nodes.items) (λ nodes. All Q nodes.items) (λ nodes. Any R nodes.items) (λ nodes. any-both P Q R f nodes.items) shares
+
+  -- what holds of a node before holds of it after, where its place carries it over
+  pub some-through : (P : NodeParts M → Type 0) (R : NodeParts M → NodeParts M → Type 0) (Q : NodeParts M → Type 0) → ((x y : NodeParts M) → P x → R x y → Q y)
+      → (old new : Shares M) → SomeNode P old → EachPlace R old new → SomeNode Q new
+  some-through P R Q f old new = any-through (λ nodes. Any P nodes.items) (λ before after. AllZip R before.items after.items) (λ nodes. Any Q nodes.items) (λ x y. any-through P R Q f x.items y.items) old new

@@ -74,3 +74,9 @@ module _ {M : Type 0} (tells : Bool) (limits : Limits) where
   follows-begins a b next.Round nodes f = f.1.begins
   follows-begins a b next.Ticked nodes f = f.2.begins
   follows-begins a b (next.End why) nodes f = f.1.begins
+
+  -- no Tick was made where what follows isn't behind one
+  pub follows-none : (a b : Sight) (what : Next) (nodes : Shares M) → (what ≡ next.Ticked → ⊥) → Follows tells limits what nodes a b → SeesMore 0 a b
+  follows-none a b next.Round nodes not f = f.1
+  follows-none a b next.Ticked nodes not f = absurd (not refl)
+  follows-none a b (next.End why) nodes not f = f.1

@@ -10,6 +10,7 @@ use Rattle.wire_core.specs.Wires.{WireParts}
 use Rattle.node_turn.specs.Nodes.{NodeParts}
 use Rattle.node_rounds.specs.Nodes.{Shares, EachNode, EachPlace, GoesOn, HadTurn, HasAllOf, HasMet, HasPass, IsReady, IsUp}
 use Rattle.node_rounds.proofs.RoundLemmas.{goes-same, goes-met, goes-joins, has-more}
+use Rattle.node_rounds.proofs.WantedLemmas.{SameName}
 use Rattle.node_rounds.proofs.ShareLemmas.{each-weaker, each-both, each-through, place-same, place-with, place-through}
 
 -- a story that goes on has all entries of the nodes too
@@ -39,6 +40,10 @@ module _ {M Q A : Type 0} (lock : LockTable WireParts (View WireParts Entry) (Fo
   pub went-on : (old mid new : Shares M) → EachNode (IsReady lock) mid → Went old mid → Went mid new → Went old new
   went-on old mid new ready first second = place-through (GoesOn tells faults reads) (λ y z. IsReady lock y × GoesOn tells faults reads y z) (GoesOn tells faults reads) (λ x y z p q. goes-joins tells faults reads x y z p q.0.up q.1)
       old mid new first (place-with (IsReady lock) (GoesOn tells faults reads) (λ y z. IsReady lock y × GoesOn tells faults reads y z) (λ y z r g. (r, g)) mid new ready second)
+
+  -- each place has the node that it had
+  pub same-names : (old new : Shares M) → EachNode (IsReady lock) old → Went old new → EachPlace SameName old new
+  same-names old new ready went = place-with (IsReady lock) (GoesOn tells faults reads) SameName (λ x y r g. g.node) old new ready went
 
 module _ {M Q A : Type 0} (lock : LockTable WireParts (View WireParts Entry) (Founding WireParts) Q A) where
   -- nodes at work, with passes of the wire, may have a turn

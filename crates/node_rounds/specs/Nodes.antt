@@ -7,11 +7,10 @@ use Rattle.medium_port.specs.Image.{Image}
 use Rattle.seat_lock.specs.declared.views.View.{View}
 use Rattle.seat_lock.specs.declared.views.Founding.{Founding}
 use Rattle.seat_lock.specs.declared.locks.LockTable.{LockTable}
-use Rattle.seat_lock.specs.Story.{Begins, entries_of}
+use Rattle.seat_lock.specs.Story.{Begins}
 use Rattle.world_core.specs.declared.entries.Entry.{Entry}
 use Rattle.wire_core.specs.Wires.{WireParts}
-use Rattle.wire_core.specs.Boards.{owner_of}
-use Rattle.wire_lock.specs.Sights.{IsWirePass, Looked}
+use Rattle.wire_lock.specs.Sights.{IsWirePass, Looked, Owns}
 use Rattle.node_turn.specs.declared.conditions.Condition.TheVariants as condition
 use Rattle.node_turn.specs.Costs.{costs, PaysFor}
 use Rattle.node_turn.specs.Nodes.{NodeParts, Adds, StaysWhole, sight}
@@ -52,11 +51,14 @@ module _ {M : Type 0} where
     pub medium : new.medium ≡ old.medium
     pub looked : Looked (sight old) (sight new)
 
-  -- this much of a story has all entries of the node
+  -- this much of a story has all entries of the node: it goes on from what its pass has seen
   pub record HasAllOf (story : List Entry) (n : NodeParts M) : Type 0 where
-    pub part : List Entry
-    pub begins : Begins part story
-    pub all : entries_of owner_of (sight n).owner part ≡ (sight n).own
+    pub begins : Begins (sight n).story story
+    pub all : Owns (sight n)
+
+  -- its pass has seen this much
+  abbrev pub HasSeen : List Entry → NodeParts M → Type 0
+  HasSeen story n = Begins story (sight n).story
 
   -- it is at work
   abbrev pub IsUp : NodeParts M → Type 0

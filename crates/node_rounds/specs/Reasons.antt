@@ -1,12 +1,15 @@
 -- Why no further round follows, and what follows a round.
-use Rattle.std.specs.Prelude.{◌≡◌, ◌≢◌, ◌⊎◌, ℕ, ◌+◌, ◌≤◌, ◌<◌, Bool, true, List, length, Option, Some, None, IsTrue, if◌then◌else◌}
+use Rattle.std.specs.Prelude.{◌≡◌, ◌≢◌, ◌⊎◌, ℕ, ◌+◌, ◌≤◌, ◌<◌, Bool, true, false, List, [], ◌∷◌, ◌++◌, length, Option, Some, None, IsTrue, if◌then◌else◌}
 use Rattle.pseudo_time.specs.declared.nodes.NodeId.{NodeId}
 use Rattle.pseudo_time.specs.declared.down_causes.DownCause.{DownCause}
 use Rattle.pseudo_time.specs.Nodes.{is_broker}
 use Rattle.seat_lock.specs.Story.{Begins}
+use Rattle.seat_lock.specs.Words.{CarriesOn}
 use Rattle.world_core.specs.declared.entries.Entry.{Entry}
-use Rattle.world_core.specs.Walks.{sent_by, walk}
-use Rattle.wire_lock.specs.Sights.{Sight, AtRest, base_at, life_at, world_at}
+use Rattle.world_core.specs.declared.entries.Entry.TheVariants.{Tick}
+use Rattle.world_core.specs.Walks.{Base, sent_by, walk}
+use Rattle.wire_core.specs.Boards.{owner_of}
+use Rattle.wire_lock.specs.Sights.{Sight, IsOf, AtRest, base_at, world_at}
 use Rattle.trace_report.specs.Counts.{tick_count}
 use Rattle.node_turn.specs.declared.conditions.Condition.TheVariants as condition
 use Rattle.node_turn.specs.Nodes.{NodeParts, sight}
@@ -24,13 +27,29 @@ SawRest k = (seen : List Entry) × Begins seen k.story × AtRest (walk (base_at 
 
 -- ---- nodes
 
--- of what a pass of the node's has seen: a repository always is; a broker where each of its acts has its outcome, and no request is outstanding
+-- where these entries lead: a repository always is; a broker where each of its acts has its outcome, and no request is outstanding
+abbrev pub is_done_after : Base → List Entry → NodeId → Bool
+is_done_after b es n = if is_broker n.kind then is_over b n.number ((walk b es).life n) else true
+
+-- of what a pass of the node's has seen
 abbrev pub is_done_at : Sight → NodeId → Bool
-is_done_at k n = if is_broker n.kind then is_over (base_at k) n.number (life_at k n) else true
+is_done_at k n = is_done_after (base_at k) k.story n
 
 module _ {M : Type 0} where
   abbrev pub IsDone : NodeParts M → Type 0
   IsDone n = is_done_at (sight n) n.node ≡ true
+
+  -- it isn't done, as far as its pass, its own, has seen
+  abbrev pub IsLate : Bool → NodeParts M → Type 0
+  IsLate tells n = IsOf n.node (sight n) × (IsTrue tells → is_done_at (sight n) n.node ≡ false)
+
+  -- where these entries lead
+  abbrev pub IsLateAfter : Base → List Entry → NodeParts M → Type 0
+  IsLateAfter b es n = is_done_after b es n.node ≡ false
+
+  -- Each Tick of a story stands where some node isn't done.
+  abbrev pub TicksAreWanted : Base → List Entry → Shares M → Type 0
+  TicksAreWanted b story nodes = (front : List Entry) (moment : ℕ) (rest : List Entry) → story ≡ front ++ Tick moment ∷ rest → SomeNode (IsLateAfter b front) nodes
 
   abbrev pub IsDown : NodeParts M → Type 0
   IsDown n = (cause : DownCause) × (n.condition ≡ condition.Down cause)
@@ -54,14 +73,14 @@ module _ {M : Type 0} where
   EndsFor tells limits reason.RunOut nodes k = EachNode IsUp nodes × AtRest (world_at k) × (tick_count k.own ≡ limits.ticks)
   EndsFor tells limits reason.Wanting nodes k = SomeNode WantsMemory nodes ⊎ (EachNode IsUp nodes × (tick_count k.own < limits.ticks) × SawRest k)
 
-  -- what the nodes alone say: that the run ends, or that all are at work
+  -- what the nodes alone say: that the run ends, or that all are at work, and one isn't done
   abbrev pub NodesSay : Bool → Option Reason → Shares M → Type 0
   NodesSay tells (Some reason.Down) nodes = EachNode HasMemory nodes × SomeNode IsDown nodes
   NodesSay tells (Some reason.Done) nodes = EachNode IsUp nodes × (IsTrue tells → EachNode IsDone nodes)
   NodesSay tells (Some reason.Enough) nodes = ⊥
   NodesSay tells (Some reason.RunOut) nodes = ⊥
   NodesSay tells (Some reason.Wanting) nodes = SomeNode WantsMemory nodes
-  NodesSay tells None nodes = EachNode IsUp nodes
+  NodesSay tells None nodes = EachNode IsUp nodes × SomeNode (IsLate tells) nodes
 
 -- ---- what follows a round
 
@@ -70,6 +89,13 @@ pub record SeesMore (ticks : ℕ) (old new : Sight) : Type 0 where
   pub owner : new.owner ≡ old.owner
   pub begins : Begins old.story new.story
   pub ticked : tick_count new.own ≡ tick_count old.own + ticks
+
+-- the conductor added a Tick to what it found
+pub record HasTicked (old new : Sight) : Type 0 where
+  pub found : List Entry
+  pub moment : ℕ
+  pub carries : CarriesOn owner_of old found
+  pub begins : Begins (found ++ Tick moment ∷ []) new.story
 
 module _ {M : Type 0} (tells : Bool) (limits : Limits) where
   -- A further round follows where all nodes are at work; behind a Tick only where one more may be made.

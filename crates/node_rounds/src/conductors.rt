@@ -1,10 +1,11 @@
 //! The conductor: rounds, and the five questions behind each.
 ghost use Rattle.std.specs.Prelude.{◌≡◌, ◌≤◌, All, Any, IsTrue, MatchBool};
-ghost use Rattle.seat_lock.specs.Words.{knows};
+ghost use Rattle.seat_lock.specs.Words.{base_of, knows};
+ghost use Rattle.wire_core.specs.Wires.{base_from};
 ghost use Rattle.wire_lock.specs.Sights.{IsWirePass};
 ghost use Rattle.trace_report.specs.Counts.{tick_count};
 ghost use Rattle.node_rounds.specs.Nodes.{EachNode, SomeNode, EachPlace, GoesOn, HasAllOf, HasPass, IsReady, IsUp};
-ghost use Rattle.node_rounds.specs.Reasons.{EndsFor, Follows, HasMemory, IsDone, IsDown, NodesSay};
+ghost use Rattle.node_rounds.specs.Reasons.{EndsFor, Follows, HasMemory, HasTicked, IsDone, IsDown, IsLate, NodesSay, TicksAreWanted};
 
 use crate::limits::Limits;
 use crate::meetings::meet_all;
@@ -46,7 +47,7 @@ fn is_any_down<F: Fates, C: Clock, M: Medium>(nodes: &[RunNode<F, C, M>]) -> boo
 // Whether all nodes of a share are done.
 fn are_done<F: Fates, C: Clock, M: Medium>(nodes: &[RunNode<F, C, M>]) -> bool
     requires up { All IsUp nodes.now }
-    ensures { IsTrue result → IsTrue M.tells → All IsDone nodes.now }
+    ensures { MatchBool result (IsTrue M.tells → All IsDone nodes.now) (Any (IsLate M.tells) nodes.now) }
 {
     for node in nodes {
         if !node.is_done() {
@@ -84,7 +85,7 @@ fn has_down<F: Fates, C: Clock, M: Medium>(shares: &[Vec<RunNode<F, C, M>>]) -> 
 // Whether all nodes are done.
 fn are_all_done<F: Fates, C: Clock, M: Medium>(shares: &[Vec<RunNode<F, C, M>>]) -> bool
     requires up { EachNode IsUp shares.now }
-    ensures { IsTrue result → IsTrue M.tells → EachNode IsDone shares.now }
+    ensures { MatchBool result (IsTrue M.tells → EachNode IsDone shares.now) (SomeNode (IsLate M.tells) shares.now) }
 {
     for nodes in shares {
         if !are_done(nodes.as_slice()) {
@@ -110,8 +111,8 @@ fn ended_by_nodes<F: Fates, C: Clock, M: Medium>(shares: &[Vec<RunNode<F, C, M>>
     None
 }
 
-// The five questions, behind a round in which the conductor met all nodes. Where nothing is due time
-// passes.
+// The five questions, behind a round in which the conductor met all nodes. Where nothing is due, and a
+// node isn't done, time passes.
 fn asked<F: Fates, C: Clock, M: Medium, R: Wait>(
     rt: &R,
     wire: &SharedWire<F, C, M>,
@@ -126,6 +127,7 @@ fn asked<F: Fates, C: Clock, M: Medium, R: Wait>(
     requires few { ticks ≤ limits.ticks }
     ensures pass { IsWirePass wire.now.lock result.0 }
     ensures next { Follows M.tells limits result.1 shares.now (knows pass) (knows result.0) }
+    ensures ticked { result.1 ≡ Next.Ticked → SomeNode (IsLate M.tells) shares.now × HasTicked (knows pass) (knows result.0) }
 {
     if let Some(reason) = ended_by_nodes(shares) {
         return (pass, Next::End(reason));
@@ -171,6 +173,7 @@ fn go_round<
     ensures went { EachPlace (GoesOn M.tells M.faults M.reads) shares.items result.0.items }
     ensures all { EachNode (HasAllOf (knows result.1).story) result.0.items }
     ensures next { Follows M.tells limits result.2 result.0.items (knows pass) (knows result.1) }
+    ensures wanted { IsTrue M.tells → TicksAreWanted (base_from (base_of wire.now.lock).origin) (knows pass).story shares.items → TicksAreWanted (base_from (base_of wire.now.lock).origin) (knows result.1).story result.0.items }
 {
     let mut shares = round(rt, wire, shares);
     let mut pass = pass;
@@ -207,6 +210,7 @@ pub fn go_on<
     ensures conductor { (knows result.1).owner ≡ 0 }
     ensures ticks { tick_count (knows result.1).own ≤ limits.ticks }
     ensures reason { EndsFor M.tells limits result.2 result.0.items (knows result.1) }
+    ensures wanted { IsTrue M.tells → TicksAreWanted (base_from (base_of wire.now.lock).origin) (knows result.1).story result.0.items }
 {
     let mut shares = shares;
     let mut pass = pass;

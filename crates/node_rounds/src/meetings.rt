@@ -3,7 +3,7 @@ ghost use Rattle.std.specs.Prelude.{◌≡◌, All};
 ghost use Rattle.std.specs.List.{AllZip};
 ghost use Rattle.seat_lock.specs.Words.{knows};
 ghost use Rattle.wire_lock.specs.Sights.{IsWirePass, Looked};
-ghost use Rattle.node_rounds.specs.Nodes.{EachNode, EachPlace, HasAllOf, HasMet, HasPass};
+ghost use Rattle.node_rounds.specs.Nodes.{EachNode, EachPlace, HasAllOf, HasMet, HasPass, HasSeen};
 
 use crate::nodes::RunNode;
 use medium_port::Medium;
@@ -21,13 +21,15 @@ fn meet_share<F: Fates, C: Clock, M: Medium>(
     ensures met { AllZip HasMet nodes.old.items nodes.new.items }
     ensures looked { Looked (knows pass.old) (knows pass.new) }
     ensures all { All (HasAllOf (knows pass.new).story) nodes.new.items }
+    ensures seen { All (HasSeen (knows pass.old).story) nodes.new.items }
 {
     for i in 0..nodes.len() {
         nodes[i].meet(wire, pass);
     }
 }
 
-/// The passes of the nodes meet the conductor's, share by share. It has then all entries of each.
+/// The passes of the nodes meet the conductor's, share by share. It has then all entries of each, and
+/// each has seen what it had.
 pub fn meet_all<F: Fates, C: Clock, M: Medium>(
     wire: &SharedWire<F, C, M>,
     shares: &mut Vec<Vec<RunNode<F, C, M>>>,
@@ -38,6 +40,7 @@ pub fn meet_all<F: Fates, C: Clock, M: Medium>(
     ensures met { EachPlace HasMet shares.old.items shares.new.items }
     ensures looked { Looked (knows pass.old) (knows pass.new) }
     ensures all { EachNode (HasAllOf (knows pass.new).story) shares.new.items }
+    ensures seen { EachNode (HasSeen (knows pass.old).story) shares.new.items }
 {
     for i in 0..shares.len() {
         meet_share(wire, &mut shares[i], pass);

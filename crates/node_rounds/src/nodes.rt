@@ -1,7 +1,7 @@
 //! A node of a run, of either kind.
-ghost use Rattle.std.specs.Prelude.{◌≡◌, IsTrue};
+ghost use Rattle.std.specs.Prelude.{◌≡◌, false, IsTrue};
 ghost use Rattle.seat_lock.specs.Words.{knows};
-ghost use Rattle.wire_lock.specs.Sights.{IsWirePass, Looked};
+ghost use Rattle.wire_lock.specs.Sights.{IsOf, IsWirePass, Looked};
 ghost use Rattle.node_turn.specs.Nodes.{MeetsWith, sight};
 ghost use Rattle.node_rounds.specs.Reasons.{is_done_at};
 
@@ -64,7 +64,8 @@ impl<F: Fates, C: Clock, M: Medium> RunNode<F, C, M> {
     /// Whether nothing keeps the run from ending: a repository is always done; a broker where each of
     /// its acts has its outcome and no request is outstanding. Takes no memory.
     pub fn is_done(&self) -> bool
-        ensures { IsTrue M.tells → self.now.condition ≡ Condition.AtWork → result ≡ is_done_at (sight self.now) self.now.node }
+        ensures done { IsTrue M.tells → self.now.condition ≡ Condition.AtWork → result ≡ is_done_at (sight self.now) self.now.node }
+        ensures own { self.now.condition ≡ Condition.AtWork → result ≡ false → IsOf self.now.node (sight self.now) }
     {
         match &self.kind {
             AnyNode::Repository(_) => true,

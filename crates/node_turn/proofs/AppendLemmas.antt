@@ -10,6 +10,7 @@ use Rattle.stream_port.specs.Causes.{Rose}
 use Rattle.medium_port.specs.Image.{Image}
 use Rattle.effect_form.specs.declared.effects.Effect.{Effect}
 use Rattle.turn_form.specs.declared.turns.Out.{Out}
+use Rattle.turn_form.specs.Ranges.{AreEffects}
 use Rattle.version_store.specs.declared.faults.StoreFault.{StoreFault}
 use Rattle.version_store.specs.declared.faults.StoreFault.TheVariants as adding
 use Rattle.version_store.specs.Filling.{HasPrefix, filling}
@@ -82,18 +83,25 @@ module _ {K M : Type 0} {tells : Bool} {parts : K → CoreParts M} {fits : Base 
   kept-same : (parts new).medium ≡ (parts core).medium → IsTrue tells → (c : Image) → may_leave (parts new).medium c → IsKept (life_at k n) c
   kept-same e t c i = kept-none (life_at k n) c (life_at k n).gated refl ((u.life t).images_left c (subst (λ (m : M). may_leave m c) e i))
 
-  full-new : (number : ℕ) → (parts new).medium ≡ (parts core).medium → IsFull tells parts fits lives owes faults pages reads may_leave (parts core).medium d.effects number → IsCause tells pages reads (down.Full number) (parts new).medium (life_at k n)
-  full-new number e f =
-      subst (λ (m : M). IsCause tells pages reads (down.Full number) m (life_at k n)) (sym e) (f.all, λ t. subst (λ es. count_by is_blank (reads (parts core).medium) < length (filling es)) (u.life t).effects (f.blank t))
+  full-new : ((m : M) → IsTrue tells → may_leave m (reads m)) → (number : ℕ) → (parts new).medium ≡ (parts core).medium → IsFull tells parts fits lives owes faults pages reads may_leave (parts core).medium d.effects number → IsCause tells pages reads (down.Full number) (parts new).medium (life_at k n)
+  full-new now number e f =
+      subst (λ (m : M). IsCause tells pages reads (down.Full number) m (life_at k n)) (sym e) (
+        f.all,
+        λ t. record {
+          durable = (u.life t).images_left (reads (parts core).medium) (now (parts core).medium t);
+          ranges = subst AreEffects (u.life t).effects u.effects_fit;
+          blank = subst (λ es. count_by is_blank (reads (parts core).medium) < length (filling es)) (u.life t).effects (f.blank t);
+        },
+      )
 
   -- the append answered a fault
-  pub after-append : (f : StoreFault) → result ≡ Err f → IsAfterAppend tells parts fits lives owes pages reads may_leave f new k n d.durable
-  after-append adding.NoMemory e = stored-by (kept-same (if-err result adding.NoMemory (λ f. f ≢ adding.Medium → (parts new).medium ≡ (parts core).medium) e a.nothing not-medium-none))
-  after-append adding.Medium e = struck-by kept-failed
-  after-append (adding.Full number) e =
+  pub after-append : ((m : M) → IsTrue tells → may_leave m (reads m)) → (f : StoreFault) → result ≡ Err f → IsAfterAppend tells parts fits lives owes pages reads may_leave f new k n d.durable
+  after-append now adding.NoMemory e = stored-by (kept-same (if-err result adding.NoMemory (λ f. f ≢ adding.Medium → (parts new).medium ≡ (parts core).medium) e a.nothing not-medium-none))
+  after-append now adding.Medium e = struck-by kept-failed
+  after-append now (adding.Full number) e =
       let same : (parts new).medium ≡ (parts core).medium = if-err result (adding.Full number) (λ f. f ≢ adding.Medium → (parts new).medium ≡ (parts core).medium) e a.nothing (not-medium-full number) in (
         struck-by (kept-same same),
-        full-new number same (if-err result (adding.Full number) (λ f. (m : ℕ) → f ≡ adding.Full m → IsFull tells parts fits lives owes faults pages reads may_leave (parts core).medium d.effects m) e a.full number refl),
+        full-new now number same (if-err result (adding.Full number) (λ f. (m : ℕ) → f ≡ adding.Full m → IsFull tells parts fits lives owes faults pages reads may_leave (parts core).medium d.effects m) e a.full number refl),
       )
 
   pub full-same : (f : StoreFault) → result ≡ Err f → (number : ℕ) → f ≡ adding.Full number → (parts new).medium ≡ (parts core).medium

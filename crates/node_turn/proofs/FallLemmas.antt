@@ -5,18 +5,15 @@ use Rattle.pseudo_time.specs.declared.nodes.NodeId.{NodeId}
 use Rattle.pseudo_time.specs.declared.down_causes.DownCause.{DownCause}
 use Rattle.pseudo_time.specs.declared.down_causes.DownCause.TheVariants as down
 use Rattle.medium_port.specs.Image.{Image}
-use Rattle.page_gate.specs.States.{is_blank}
-use Rattle.std.specs.Prelude.{count_by}
 use Rattle.effect_form.specs.declared.effects.Effect.{Effect}
 use Rattle.version_store.specs.declared.faults.OpenFault.{OpenFault}
 use Rattle.version_store.specs.declared.faults.OpenFault.TheVariants as opening
-use Rattle.version_store.specs.Filling.{filling}
 use Rattle.world_core.specs.declared.entries.Entry.{Entry}
 use Rattle.world_core.specs.Walks.{Base, Life, Flags, opened_life}
 use Rattle.wire_lock.specs.Sights.{Sight, base_at, life_at, flags_at, Owns, Looked, Added, Falls, Crashes, HadNothing, crashed}
 use Rattle.wire_lock.proofs.SightLemmas.{looked-of}
 use Rattle.node_turn.specs.Cores.{CoreParts, IsReady, HasFound, IsReopened}
-use Rattle.node_turn.specs.Lives.{no_draft, IsKept, HasLife, up_flags, IsUp, IsStored, IsStruck, IsCause, IsDown}
+use Rattle.node_turn.specs.Lives.{no_draft, IsKept, HasLife, up_flags, IsUp, IsStored, IsStruck, IsCause, IsDown, IsFullFor}
 use Rattle.version_store.specs.Causes.{down_of_opening}
 use Rattle.node_turn.specs.Costs.{cost_of_cause, PaysFor}
 use Rattle.node_turn.proofs.CostLemmas.{pays-none, pays-one}
@@ -35,7 +32,7 @@ looked-none k owns = looked-of k k k.story owns refl (record { begins = ([], app
 pub cause-same : {M : Type 0} (tells : Bool) (pages : M → ℕ) (reads : M → Image) (cause : DownCause) (m : M) (l x : Life) → (IsTrue tells → x ≡ l) → IsCause tells pages reads cause m l → IsCause tells pages reads cause m x
 cause-same tells pages reads down.Medium m l x e h = tt
 cause-same tells pages reads (down.Damaged page) m l x e h = h
-cause-same tells pages reads (down.Full number) m l x e h = (h.0, λ t. subst (λ (y : Life). count_by is_blank (reads m) < length (filling y.fresh)) (sym (e t)) (h.1 t))
+cause-same tells pages reads (down.Full number) m l x e h = (h.0, λ t. subst (λ (y : Life). IsFullFor y (reads m)) (sym (e t)) (h.1 t))
 
 some-same : {A : Type 0} {x y : A} → ◌≡◌ {A = Option A} (Some x) (Some y) → x ≡ y
 some-same {A} {x} {y} e = cc e

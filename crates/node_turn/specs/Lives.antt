@@ -72,13 +72,18 @@ pub record IsUnwritten {M : Type 0} (tells : Bool) (faults : M → ℕ) (reads :
   pub later : faults old ≤ faults new
   pub still : IsTrue tells → reads new ≡ reads old
 
+-- The image is full for a node of this life: it has the node's durable log, and nothing of its new effects, which are in range and need more pages than are blank.
+pub record IsFullFor (l : Life) (image : Image) : Type 0 where
+  pub durable : storage image ≡ Ok l.gated
+  pub ranges : AreEffects l.fresh
+  pub blank : count_by is_blank image < length (filling l.fresh)
+
 module _ {M : Type 0} (tells : Bool) (pages : M → ℕ) (reads : M → Image) where
-  -- Why a node may go down. Its medium is full: it has so many pages, and the new effects need more than are blank. A damaged page is no
-  -- cause where media tell their content.
+  -- Why a node may go down. Its medium, of so many pages, is full. A damaged page is no cause where media tell their content.
   abbrev pub IsCause : DownCause → M → Life → Type 0
   IsCause down.Medium m l = Unit {0}
   IsCause (down.Damaged page) m l = IsTrue tells → ⊥
-  IsCause (down.Full number) m l = (number ≡ pages m) × (IsTrue tells → count_by is_blank (reads m) < length (filling l.fresh))
+  IsCause (down.Full number) m l = (number ≡ pages m) × (IsTrue tells → IsFullFor l (reads m))
 
 -- The meanings are those of a type K of cores over media of a type M. `k` is what the node's pass has seen.
 module _ {K M : Type 0} (tells : Bool) (parts : K → CoreParts M) (fits : Base → K → Type 0) (lives : Base → K → Life → Type 0) (owes : K → List Effect → Type 0)

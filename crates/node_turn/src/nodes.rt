@@ -1,7 +1,7 @@
 //! A node: its core with its medium, and its pass.
 ghost use Rattle.std.specs.Prelude.{◌≡◌, false, IsTrue, IfOk};
 ghost use Rattle.seat_lock.specs.Words.{knows};
-ghost use Rattle.wire_lock.specs.Sights.{IsWirePass, Looked, base_at, life_at};
+ghost use Rattle.wire_lock.specs.Sights.{IsOf, IsWirePass, Looked, base_at, life_at};
 ghost use Rattle.node_turn.specs.Lives.{IsUp, no_draft};
 ghost use Rattle.node_turn.specs.Nodes.{TurnsTo, MeetsWith, IsAtRest, IsCondition, Answers, new_node, sight};
 
@@ -133,10 +133,11 @@ impl<K: StoredCore<M>, F: Fates, C: Clock, M: Medium> Node<K, F, C, M> {
         }
     }
 
-    /// Its core. While it is at work, that has the node's life.
+    /// Its core. While it is at work, that has the node's life, and its pass is the node's own.
     pub fn core(&self) -> &K
         ensures medium { (K.parts result.now).medium ≡ self.now.medium }
         ensures node { (K.parts result.now).node ≡ self.now.node }
+        ensures own { self.now.condition ≡ Condition.AtWork → IsOf self.now.node (sight self.now) }
         ensures life { IsTrue M.tells → self.now.condition ≡ Condition.AtWork → K.fits (base_at (sight self.now)) result.now × K.lives (base_at (sight self.now)) result.now (life_at (sight self.now) self.now.node) }
     {
         &self.hand.core

@@ -1,6 +1,5 @@
 -- Counts of faults, and why nodes went down.
-use Rattle.std.proofs.Common.{◌≡◌, ◌≤◌, ◌<◌, ◌∙◌, ℕ, Bool, true, IsTrue, List, [], Option, Some, None, length, refl, ap, sym, subst}
-use Rattle.std.specs.List.{count_by}
+use Rattle.std.proofs.Common.{◌≡◌, ◌≤◌, ◌∙◌, ℕ, Bool, true, IsTrue, List, [], Option, Some, None, refl, ap, sym, subst}
 use Rattle.pseudo_time.specs.Lists.{Every}
 use Rattle.pseudo_time.proofs.ListLemmas.{every-map}
 use Rattle.pseudo_time.specs.declared.nodes.NodeId.{NodeId}
@@ -8,8 +7,7 @@ use Rattle.pseudo_time.specs.declared.down_causes.DownCause.{DownCause}
 use Rattle.pseudo_time.specs.declared.down_causes.DownCause.TheVariants as down
 use Rattle.stream_port.specs.declared.fates.Asked.{Asked}
 use Rattle.stream_port.specs.Causes.{RoseBy, rise_of_fewer}
-use Rattle.page_gate.specs.States.{is_blank}
-use Rattle.version_store.specs.Filling.{StaysClean, filling}
+use Rattle.version_store.specs.Filling.{StaysClean}
 use Rattle.plan_form.specs.declared.plans.Plan.{Plan}
 use Rattle.seat_lock.specs.declared.views.View.{View}
 use Rattle.seat_lock.specs.declared.views.Founding.{Founding}
@@ -19,13 +17,13 @@ use Rattle.world_core.specs.declared.entries.Entry.{Entry}
 use Rattle.world_core.specs.declared.traces.Trace.{Trace}
 use Rattle.world_core.specs.Walks.{Life, names, own, start_world}
 use Rattle.world_core.specs.Legal.{fates_of, in_plan}
-use Rattle.world_core.specs.Readings.{IsLegal, open_effects}
+use Rattle.world_core.specs.Readings.{IsLegal, life_after}
 use Rattle.wire_core.specs.Wires.{WireParts}
 use Rattle.wire_core.specs.Boards.{owner_for, owner_of}
 use Rattle.wire_lock.specs.Sights.{IsOf, life_at}
 use Rattle.trace_report.specs.Counts.{down_cause}
 use Rattle.node_turn.specs.Costs.{costs}
-use Rattle.node_turn.specs.Lives.{IsCause}
+use Rattle.node_turn.specs.Lives.{IsCause, IsFullFor}
 use Rattle.node_turn.specs.Nodes.{NodeParts, sight}
 use Rattle.run_media.specs.Media.{Media}
 use Rattle.run_rounds.specs.Media.{AreCounted, Became, HaveCauses}
@@ -90,10 +88,10 @@ module _ {M Q A : Type 0} (w : Media M) (plan : Plan) (lock : LockTable WirePart
         let mine : entries_of owner_of (owner_for n) t.entries ≡ (sight s.node).own = subst (λ (o : ℕ). entries_of owner_of o t.entries ≡ (sight s.node).own) (owner-is n s) s.went.pass.carries.own in
         ap costs (sym mine ∙ own-whole plan few n is t.entries all-named) ∙ none
 
-    is-full : (n : NodeId) (s : NodeOf n) (pages : ℕ) → down_cause n t.entries ≡ Some (down.Full pages) → (pages ≡ w.page_count s.node.medium) × (count_by is_blank (w.reads s.node.medium) < length (filling (open_effects plan t n)))
+    is-full : (n : NodeId) (s : NodeOf n) (pages : ℕ) → down_cause n t.entries ≡ Some (down.Full pages) → (pages ≡ w.page_count s.node.medium) × IsFullFor (life_after plan t n) (w.reads s.node.medium)
     is-full n s pages h =
         let c = cause-of n s (down.Full pages) h in
-        (c.0, subst (λ (l : Life). count_by is_blank (w.reads s.node.medium) < length (filling l.fresh)) (sym (life-end w plan lock t stood.same stood.opened n s.old s.node s.went)) (c.1 told))
+        (c.0, subst (λ (l : Life). IsFullFor l (w.reads s.node.medium)) (sym (life-end w plan lock t stood.same stood.opened n s.old s.node s.went)) (c.1 told))
 
     -- nodes went down for their causes
     pub have-causes : HaveCauses w first after plan t
@@ -101,7 +99,7 @@ module _ {M Q A : Type 0} (w : Media M) (plan : Plan) (lock : LockTable WirePart
       unopened = λ n is not. absurd (opened-at w plan lock t first ps stood n is not);
       damaged = λ n old new page is h became. absurd (let s = node-of n is in cause-of n s (down.Damaged page) h told);
       full = λ n old new pages is h became. (let s = node-of n is in
-          subst (λ (m : M). (pages ≡ w.page_count m) × (count_by is_blank (w.reads m) < length (filling (open_effects plan t n)))) (now n s old new became) (is-full n s pages h));
+          subst (λ (m : M). (pages ≡ w.page_count m) × IsFullFor (life_after plan t n) (w.reads m)) (now n s old new became) (is-full n s pages h));
       clean = λ n old new is none became. (let s = node-of n is in
           subst (λ (m : M). StaysClean (w.reads m) (w.reads new)) (was n s old new became)
           (subst (λ (m : M). StaysClean (w.reads s.old) (w.reads m)) (now n s old new became) (s.went.whole told (has-memory w plan lock t first ps stood n s) (costless n s is none))));

@@ -12,14 +12,14 @@ use Rattle.seat_lock.specs.declared.locks.LockTable.{LockTable}
 use Rattle.seat_lock.specs.Words.{knows}
 use Rattle.world_core.specs.declared.entries.Entry.{Entry}
 use Rattle.wire_core.specs.Wires.{WireParts}
-use Rattle.wire_lock.specs.Sights.{IsWirePass, Sight}
+use Rattle.wire_lock.specs.Sights.{IsWirePass, Sight, base_at}
 use Rattle.trace_report.specs.Counts.{tick_count}
 use Rattle.node_turn.specs.Nodes.{NodeParts, IsAtRest}
 use Rattle.node_rounds.specs.declared.limits.Limits.{Limits}
 use Rattle.node_rounds.specs.declared.reasons.Reason.{Reason}
 use Rattle.node_rounds.specs.declared.reasons.Reason.TheVariants as reason
 use Rattle.node_rounds.specs.Nodes.{EachNode, EachPlace, GoesOn, HasAllOf, HasPass, IsUp, Shares}
-use Rattle.node_rounds.specs.Reasons.{EndsFor, HasMemory, IsDone, IsDown}
+use Rattle.node_rounds.specs.Reasons.{EndsFor, HasMemory, IsDone, IsDown, IsLateAfter, TicksAreWanted}
 use Rattle.run_media.specs.Media.{Media}
 use Rattle.run_rounds.specs.Closings.{HaveGone, ListEnds, Pass}
 use Rattle.run_starts.specs.Deals.{IsDealt}
@@ -71,8 +71,9 @@ module _ {M : Type 0} (w : Media M) (W : ℕ) (pos : 0 < W) (begun : List (NodeP
     module _ (limits : Limits) (why : Reason) (media : List (Option M)) (passes : List Pass) (conductor : Pass) (passes-are : passes ≡ map (λ (n : NodeParts M). n.pass) nodes ++ conductor ∷ []) (media-are : media ≡ map (λ (n : NodeParts M). Some n.medium) nodes) where
       -- the rounds of a run
       pub have-gone : All (IsAtRest w.tells w.page_count w.reads w.may_leave) nodes → EachNode (HasAllOf (knows conductor).story) new → (knows conductor).owner ≡ 0 → tick_count (knows conductor).own ≤ limits.ticks
+          → (IsTrue w.tells → TicksAreWanted (base_at (knows conductor)) (knows conductor).story new)
           → EndsFor w.tells limits why new (knows conductor) → HaveGone w limits begun why media passes
-      have-gone rest each owner ticks ends = record {
+      have-gone rest each owner ticks wanted ends = record {
         nodes = nodes;
         conductor = conductor;
         media_are = media-are;
@@ -82,5 +83,6 @@ module _ {M : Type 0} (w : Media M) (W : ℕ) (pos : 0 < W) (begun : List (NodeP
         all = each-listed W pos (HasAllOf (knows conductor).story) nodes new nodes-dealt shares-count each;
         owner = owner;
         ticks = ticks;
+        wanted = λ told front moment more is. some-listed W pos (IsLateAfter (base_at (knows conductor)) front) nodes new nodes-dealt shares-count (wanted told front moment more is);
         ends = ends-listed W pos nodes new nodes-dealt shares-count w.tells limits why (knows conductor) ends;
       }

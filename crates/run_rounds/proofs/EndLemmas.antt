@@ -30,46 +30,15 @@ use Rattle.trace_report.specs.Counts.{is_tick, tick_count}
 use Rattle.node_turn.specs.Costs.{costs}
 use Rattle.broker_node.specs.Logs.{is_over}
 use Rattle.node_rounds.specs.Reasons.{is_done_at}
+use Rattle.node_rounds.proofs.WantedLemmas.{life-whole}
 use Rattle.run_rounds.proofs.ListLemmas.{any-has, has-filter}
 
--- ---- lives
+-- ---- flags
 
+-- at the end the node has the flags that its pass has seen
 module _ (k : Sight) (n : NodeId) (es : List Entry) (b : Base) (is : IsOf n k) (owns : Owns k) (car : CarriesOn owner_of k es) (at : base_at k ≡ b) where
-  -- at the end the node has the life that its pass has seen
-  pub life-whole : (walk b es).life n ≡ life_at k n
-  life-whole = subst (λ (x : Base). (walk x es).life n ≡ life_at k n) at ((as-before k es owns car).life n is)
-
   pub flags-whole : (walk b es).flags n ≡ flags_at k n
   flags-whole = subst (λ (x : Base). (walk x es).flags n ≡ flags_at k n) at ((as-before k es owns car).flags n is)
-
--- ---- Ticks
-
--- Ticks are the conductor's
-tick-owner : (e : Entry) → is_tick e ≡ true → owner_of e ≡ 0
-tick-owner (Take node number) h = absurd cc
-tick-owner (Go node) h = absurd cc
-tick-owner (Learn node stamp committed) h = absurd cc
-tick-owner (Hear node) h = absurd cc
-tick-owner (Gate node) h = absurd cc
-tick-owner (Crash node kept) h = absurd cc
-tick-owner (Down node cause) h = absurd cc
-tick-owner (Tick moment) h = refl
-
-tick-cons : (e : Entry) (es : List Entry) → tick_count (e ∷ es) ≡ cond (is_tick e) 1 0 + tick_count es
-tick-cons e es = sum_by-cons (λ (x : Entry). cond (is_tick x) 1 0) e es
-
--- all Ticks of a list are among the conductor's entries
-pub ticks-among : (es : List Entry) → tick_count (entries_of owner_of 0 es) ≡ tick_count es
-ticks-among [] = refl
-ticks-among (e ∷ es) = step (ticks-among es) (owner_of e == 0) (is_tick e) refl refl
-  where
-    step : tick_count (entries_of owner_of 0 es) ≡ tick_count es → (t s : Bool) → (owner_of e == 0) ≡ t → is_tick e ≡ s → tick_count (cond t (e ∷ entries_of owner_of 0 es) (entries_of owner_of 0 es)) ≡ tick_count (e ∷ es)
-    step rest true s p q = tick-cons e (entries_of owner_of 0 es) ∙ (ap (λ (n : ℕ). cond (is_tick e) 1 0 + n) rest ∙ sym (tick-cons e es))
-    step rest false true p q = let o = tick-owner e q in absurd (grind (arith, nat_tests))
-    step rest false false p q = let z : tick_count es ≡ 0 + tick_count es = omega arith in rest ∙ (z ∙ (ap (λ (b : Bool). cond b 1 0 + tick_count es) (sym q) ∙ sym (tick-cons e es)))
-
-pub ticks-whole : (k : Sight) (es : List Entry) → k.owner ≡ 0 → CarriesOn owner_of k es → tick_count es ≡ tick_count k.own
-ticks-whole k es conductor car = sym (ticks-among es) ∙ ap tick_count (subst (λ (o : ℕ). entries_of owner_of o es ≡ k.own) conductor car.own)
 
 -- ---- messages
 

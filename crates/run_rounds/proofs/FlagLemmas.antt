@@ -51,7 +51,7 @@ told-of n c (e ∷ es) (inr later) = go (told-of n c es later) (cause-step n e e
 -- ---- what is known of flags
 
 module _ (b : Base) where
-  stays-down : (w : World) (e : Entry) (n : NodeId) → (w.flags n).up ≡ false → ((step b w e).flags n).up ≡ false
+  pub stays-down : (w : World) (e : Entry) (n : NodeId) → (w.flags n).up ≡ false → ((step b w e).flags n).up ≡ false
   stays-down w e n h = go ((step b w e).flags n).up refl
     where
       go : (t : Bool) → ((step b w e).flags n).up ≡ t → t ≡ false
@@ -63,10 +63,10 @@ module _ (b : Base) where
   down-from w [] n h = h
   down-from w (e ∷ es) n h = down-from (step b w e) es n (stays-down w e n h)
 
-  stays-known : (w : World) (e : Entry) (n : NodeId) → (w.flags n).known ≡ true → ((step b w e).flags n).known ≡ true
+  pub stays-known : (w : World) (e : Entry) (n : NodeId) → (w.flags n).known ≡ true → ((step b w e).flags n).known ≡ true
   stays-known w e n h = (step-known b w e n).0 ∙ h
 
-  fell : (w : World) (n node : NodeId) (cause : DownCause) → same_node node n ≡ true → (w.flags n).known ≡ true → ((step b w (Down node cause)).flags n).up ≡ false
+  pub fell : (w : World) (n node : NodeId) (cause : DownCause) → same_node node n ≡ true → (w.flags n).known ≡ true → ((step b w (Down node cause)).flags n).up ≡ false
   fell w n node cause is known = ap (λ (t : Bool). (if t then flagged w.last n.kind (w.flags n) (Down node cause) else w.flags n).up) (both-true (same_node node n) (w.flags n).known is known)
 
   fell-by : (w : World) (n node : NodeId) (cause : DownCause) (e : Entry) → e ≡ Down node cause → same_node node n ≡ true → (w.flags n).known ≡ true → ((step b w e).flags n).up ≡ false
@@ -131,7 +131,7 @@ module _ (b : Base) where
         go rest (inl same) = rest same
         go rest (inr f) = absurd (none-later (step b w e) es n d (fell-by w n f.0 f.1 e f.2 f.3 known) meets.1 later)
 
-    up-named : (w : World) (e : Entry) (m : NodeId) → names m e ≡ true → Rule b fates w e → (w.flags m).up ≡ true
+    pub up-named : (w : World) (e : Entry) (m : NodeId) → names m e ≡ true → Rule b fates w e → (w.flags m).up ≡ true
     up-named w (Take node number) m h r = subst (λ (x : NodeId). (w.flags x).up ≡ true) (same_is node m h) r.up
     up-named w (Go node) m h r = subst (λ (x : NodeId). (w.flags x).up ≡ true) (same_is node m h) r.up
     up-named w (Learn node stamp committed) m h r = subst (λ (x : NodeId). (w.flags x).up ≡ true) (same_is node m h) r.up

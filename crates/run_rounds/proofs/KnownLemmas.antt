@@ -35,7 +35,8 @@ use Rattle.run_media.specs.Places.{node_count}
 use Rattle.run_starts.specs.Seats.{Along}
 use Rattle.run_starts.specs.Starts.{IsSetUp}
 use Rattle.run_rounds.specs.Closings.{Pass}
-use Rattle.run_rounds.proofs.EndLemmas.{down-in, flags-whole, life-whole}
+use Rattle.node_rounds.proofs.WantedLemmas.{life-whole}
+use Rattle.run_rounds.proofs.EndLemmas.{down-in, flags-whole}
 use Rattle.run_rounds.proofs.FlagLemmas.{down-ends, none-due, told-of}
 use Rattle.run_rounds.proofs.SeenLemmas.{At, Seen, Went, of-seen, seen}
 

@@ -1,11 +1,13 @@
 -- From how its nodes ended, and what the closing of its wire tells, to the end of a run.
-use Rattle.std.proofs.Common.{◌≡◌, ◌≢◌, ◌⊎◌, ◌≤◌, ◌<◌, ◌++◌, ◌∙◌, ℕ, Bool, true, IsTrue, List, [], ◌∷◌, Option, Some, length, map, get_or, inl, inr, refl, ap, sym, subst, arith}
+use Rattle.std.proofs.Common.{◌≡◌, ◌≢◌, ◌⊎◌, ◌≤◌, ◌<◌, ◌++◌, ◌∙◌, ◌+◌, ℕ, Bool, true, false, if◌then◌else◌, IsTrue, List, [], ◌∷◌, Option, Some, length, map, get_or, inl, inr, refl, ap, sym, subst, arith}
 use Rattle.std.specs.Prelude.{All, Any}
 use Rattle.std.specs.List.{AllZip}
 use Rattle.std.proofs.lemmas.Option.{get_or_from_slice_get, slice_get_within}
 use Rattle.std.proofs.lemmas.Slice.Zip.{AllZip-long}
 use Rattle.pseudo_time.specs.declared.nodes.NodeId.{NodeId}
-use Rattle.pseudo_time.specs.Nodes.{broker}
+use Rattle.pseudo_time.specs.Nodes.{broker, is_broker}
+use Rattle.pseudo_time.specs.declared.nodes.NodeKind.{NodeKind}
+use Rattle.pseudo_time.specs.declared.nodes.NodeKind.TheVariants.{Repository, Broker}
 use Rattle.pseudo_time.specs.declared.down_causes.DownCause.{DownCause}
 use Rattle.stream_port.specs.declared.fates.Asked.{Asked}
 use Rattle.seat_lock.specs.declared.views.View.{View}
@@ -16,9 +18,10 @@ use Rattle.plan_form.specs.declared.plans.Plan.{Plan}
 use Rattle.plan_form.specs.PlanTexts.{IsOfLanguage}
 use Rattle.broker_core.specs.Readings.{reading}
 use Rattle.world_core.specs.declared.entries.Entry.{Entry}
+use Rattle.world_core.specs.declared.entries.Entry.TheVariants.{Tick}
 use Rattle.world_core.specs.declared.traces.Trace.{Trace}
 use Rattle.world_core.specs.Walks.{Base, World, walk}
-use Rattle.world_core.specs.Legal.{Idle, base_of, fates_of, in_plan}
+use Rattle.world_core.specs.Legal.{Idle, base_of, fates_of, in_plan, is_within, most_of}
 use Rattle.wire_core.specs.Wires.{Origin, WireParts, base_from}
 use Rattle.wire_core.specs.Boards.{owner_of}
 use Rattle.wire_lock.specs.Sights.{IsOf, IsWirePass}
@@ -26,25 +29,28 @@ use Rattle.trace_report.specs.Counts.{tick_count}
 use Rattle.node_turn.specs.declared.conditions.Condition.{Condition}
 use Rattle.node_turn.specs.declared.conditions.Condition.TheVariants as condition
 use Rattle.node_turn.specs.Nodes.{NodeParts, IsAtRest, Stands, sight}
+use Rattle.broker_node.specs.Logs.{is_over}
 use Rattle.node_rounds.specs.declared.limits.Limits.{Limits}
 use Rattle.node_rounds.specs.declared.reasons.Reason.{Reason}
 use Rattle.node_rounds.specs.declared.reasons.Reason.TheVariants as reason
 use Rattle.node_rounds.specs.Nodes.{GoesOn, IsUp}
-use Rattle.node_rounds.specs.Reasons.{HasMemory, IsDone, is_done_at}
+use Rattle.node_rounds.specs.Reasons.{HasMemory, IsDone, IsLateAfter, is_done_after, is_done_at}
 use Rattle.run_media.specs.declared.openings.Opening.{Opening}
 use Rattle.run_media.specs.Media.{Media}
 use Rattle.run_media.specs.Openings.{AreReady, HasOpened, IsOpen}
-use Rattle.run_media.specs.Places.{node_count}
+use Rattle.run_media.specs.Places.{node_at, node_count}
+use Rattle.run_media.proofs.OrderLemmas.{in-at}
 use Rattle.run_starts.specs.Seats.{Along, IsNewNode}
 use Rattle.run_starts.specs.Starts.{IsSetUp, fresh_for}
 use Rattle.run_rounds.specs.declared.ends.End.{End}
 use Rattle.run_rounds.specs.declared.ends.End.TheVariants as end
 use Rattle.run_rounds.specs.Closings.{ClosedAs, HasRun, HaveGone, IfRan, ListEnds, Pass}
-use Rattle.run_rounds.specs.Ends.{AllDone, HasEnded, HasRunOut, some_down}
+use Rattle.run_rounds.specs.Ends.{AllDone, HasEnded, HasRunOut, TicksAreWanted, broker_done_after, some_down}
 use Rattle.run_rounds.specs.Finishes.{EndsAs, IsKeptWhole, account_of, tellers}
 use Rattle.run_rounds.specs.Runs.{IsTold, Ran}
-use Rattle.run_rounds.proofs.ListLemmas.{all-end, all-front, all-mapped, one-of}
-use Rattle.run_rounds.proofs.EndLemmas.{down-whole, done-whole, enough-whole, ticks-whole}
+use Rattle.run_rounds.proofs.ListLemmas.{all-end, all-front, all-mapped, along-at, along-long, one-of}
+use Rattle.node_rounds.proofs.WantedLemmas.{story-ticks, tick-before, ticks-whole}
+use Rattle.run_rounds.proofs.EndLemmas.{down-whole, done-whole, enough-whole}
 use Rattle.run_rounds.proofs.SeenLemmas.{At, are-back, logs-of, none-own, went-along}
 use Rattle.run_rounds.proofs.KnownLemmas.{HaveStood, Known, at-base, same-base}
 use Rattle.run_rounds.proofs.LogLemmas.{restores, stood-at}
@@ -103,6 +109,17 @@ module _ {M Q A : Type 0} (w : Media M) (limits : Limits) (plan : Plan) (lock : 
         down-whole (sight p) t.entries stands.2.0 p.node cause k.carries stands.2.1
 
     module _ (first : List (Option M)) (stood : HaveStood w plan lock t first gone.nodes) (told : IsTrue w.tells) where
+      -- the node in a place is one of the plan
+      at-name : (i : ℕ) (p : NodeParts M) → i < length gone.nodes → get_or gone.nodes i p ≡ p → in_plan plan p.node ≡ true
+      at-name i p lt is =
+          let long = along-long (At w plan origin (Known w plan lock t)) 0 first gone.nodes stood.along in
+          let count = stood.count in
+          let h = along-at (At w plan origin (Known w plan lock t)) 0 first gone.nodes i stood.along (omega (arith, lt, long)) in
+          let same : h.1 ≡ p = sym (get_or_from_slice_get gone.nodes i p h.1 h.3) ∙ is in
+          let name : h.1.node ≡ node_at plan (0 + i) = h.4.2.name in
+          subst (λ (q : NodeParts M). in_plan plan q.node ≡ true) same
+          (subst (λ (m : NodeId). in_plan plan m ≡ true) (sym name) (in-at plan (0 + i) (omega (arith, lt, long, count))))
+
       all-done : All IsDone gone.nodes → AllDone plan t
       all-done done b within =
           let s = stood-at w plan lock t first gone.nodes stood (broker b) within in
@@ -119,9 +136,35 @@ module _ {M Q A : Type 0} (w : Media M) (limits : Limits) (plan : Plan) (lock : 
       ends-so reason.RunOut e h = inr (inr (inr (subst (λ (b : Base). Idle (fates_of t.sent) (walk b t.entries)) stood.same (close.idle told (sym e)), ticks-are ∙ h.2)))
       ends-so reason.Wanting e h = absurd (close.memory (sym e))
 
+      -- a node that isn't done is a broker of the plan
+      late-broker : (front : List Entry) (i : ℕ) (p : NodeParts M) → i < length gone.nodes → get_or gone.nodes i p ≡ p → IsLateAfter (base_of (reading plan.acts) plan t) front p
+          → (b : ℕ) × (is_within b plan.brokers ≡ true) × (broker_done_after plan t front b ≡ false)
+      late-broker front i p lt is late = by p.node (at-name i p lt is) late
+        where
+          by : (n : NodeId) → in_plan plan n ≡ true → is_done_after (base_of (reading plan.acts) plan t) front n ≡ false → (b : ℕ) × (is_within b plan.brokers ≡ true) × (broker_done_after plan t front b ≡ false)
+          by n within late = go n.kind refl
+            where
+              go : (k : NodeKind) → n.kind ≡ k → (b : ℕ) × (is_within b plan.brokers ≡ true) × (broker_done_after plan t front b ≡ false)
+              go Repository e = absurd (let z : true ≡ false = sym (ap (λ (x : NodeKind). if is_broker x then is_over (base_of (reading plan.acts) plan t) n.number ((walk (base_of (reading plan.acts) plan t) front).life n) else true) e) ∙ late in cc z)
+              go Broker e = (
+                n.number,
+                subst (λ (x : NodeKind). is_within n.number (most_of plan x) ≡ true) e within,
+                ap (λ (x : NodeKind). is_over (base_of (reading plan.acts) plan t) n.number ((walk (base_of (reading plan.acts) plan t) front).life (record { kind = x; number = n.number }))) (sym e)
+                ∙ (sym (ap (λ (x : NodeKind). if is_broker x then is_over (base_of (reading plan.acts) plan t) n.number ((walk (base_of (reading plan.acts) plan t) front).life n) else true) e) ∙ late),
+              )
+
+      -- each Tick stands where some broker isn't done
+      ticks-wanted : TicksAreWanted plan t
+      ticks-wanted front moment rest is =
+          let k = knows gone.conductor in
+          let s = story-ticks k gone.owner conductor.wire.own in
+          let h = tick-before k.story t.entries front moment rest conductor.carries.begins (omega (arith, ticks-are, s)) is in
+          let found = gone.wanted told front moment h.0 h.1 in
+          late-broker front found.0 found.1 found.2 found.3 (subst (λ (b : Base). IsLateAfter b front found.1) (at-base w plan lock t gone.conductor conductor.wire ∙ stood.same) found.4)
+
       -- the run has ended
       pub ended-so : HasEnded limits.ticks limits.messages plan t
-      ended-so = record { few = (let few = gone.ticks in omega (arith, ticks-are, few)); why = ends-so why refl gone.ends }
+      ended-so = record { few = (let few = gone.ticks in omega (arith, ticks-are, few)); wanted = ticks-wanted; why = ends-so why refl gone.ends }
 
 -- ---- the end
 

@@ -9,12 +9,13 @@ use Rattle.seat_lock.specs.declared.locks.LockTable.{LockTable}
 use Rattle.seat_lock.specs.Rule.{IsOneOf}
 use Rattle.seat_lock.specs.Words.{CarriesOn, base_of, knows}
 use Rattle.world_core.specs.declared.entries.Entry.{Entry}
+use Rattle.world_core.specs.declared.entries.Entry.TheVariants.{Tick}
 use Rattle.world_core.specs.declared.traces.Trace.{Trace}
 use Rattle.world_core.specs.Walks.{sent_by}
 use Rattle.world_core.specs.Legal.{Idle, fates_of}
 use Rattle.wire_core.specs.Wires.{Origin, WireParts}
 use Rattle.wire_core.specs.Boards.{owner_of}
-use Rattle.wire_lock.specs.Sights.{AtRest, IsWirePass, Sight, owners_for, world_at}
+use Rattle.wire_lock.specs.Sights.{AtRest, IsWirePass, Sight, base_at, owners_for, world_at}
 use Rattle.wire_lock.specs.Stories.{IsWhole, end_of}
 use Rattle.trace_report.specs.Counts.{tick_count}
 use Rattle.node_turn.specs.Nodes.{NodeParts, IsAtRest, sight}
@@ -22,7 +23,7 @@ use Rattle.node_rounds.specs.declared.limits.Limits.{Limits}
 use Rattle.node_rounds.specs.declared.reasons.Reason.{Reason}
 use Rattle.node_rounds.specs.declared.reasons.Reason.TheVariants as reason
 use Rattle.node_rounds.specs.Nodes.{GoesOn, HasAllOf, IsUp}
-use Rattle.node_rounds.specs.Reasons.{HasMemory, IsDone, IsDown}
+use Rattle.node_rounds.specs.Reasons.{HasMemory, IsDone, IsDown, IsLateAfter}
 use Rattle.run_media.specs.Media.{Media}
 use Rattle.run_rounds.specs.declared.ends.End.{End}
 use Rattle.run_rounds.specs.declared.ends.End.TheVariants.{Ran, Refused, NoMemory}
@@ -59,6 +60,11 @@ module _ {M : Type 0} where
   ListEnds tells limits reason.RunOut nodes k = All IsUp nodes × AtRest (world_at k) × (tick_count k.own ≡ limits.ticks)
   ListEnds tells limits reason.Wanting nodes k = Unit {0}
 
+module _ {M : Type 0} where
+  -- each Tick that the conductor has seen stands where some node isn't done
+  abbrev pub TicksWereWanted : Sight → List (NodeParts M) → Type 0
+  TicksWereWanted k nodes = (front : List Entry) (moment : ℕ) (rest : List Entry) → k.story ≡ front ++ Tick moment ∷ rest → Any (IsLateAfter (base_at k) front) nodes
+
 -- How nodes ended that went in rounds, by what is handed back. `begun` are they as they were opened, in the plan's order.
 pub record HaveGone {M : Type 0} (w : Media M) (limits : Limits) (begun : List (NodeParts M)) (why : Reason) (media : List (Option M)) (passes : List Pass) : Type 0 where
   pub nodes : List (NodeParts M)
@@ -70,6 +76,7 @@ pub record HaveGone {M : Type 0} (w : Media M) (limits : Limits) (begun : List (
   pub all : All (HasAllOf (knows conductor).story) nodes
   pub owner : (knows conductor).owner ≡ 0
   pub ticks : tick_count (knows conductor).own ≤ limits.ticks
+  pub wanted : IsTrue w.tells → TicksWereWanted (knows conductor) nodes
   pub ends : ListEnds w.tells limits why nodes (knows conductor)
 
 module _ {M Q A : Type 0} (w : Media M) (lock : LockTable WireParts (View WireParts Entry) (Founding WireParts) Q A) (limits : Limits) where

@@ -1,16 +1,17 @@
 -- When a run has ended.
-use Rattle.std.specs.Prelude.{◌≡◌, ◌⊎◌, ℕ, ◌≤◌, Bool, true, List, length}
+use Rattle.std.specs.Prelude.{◌≡◌, ◌⊎◌, ℕ, ◌≤◌, Bool, true, false, List, ◌∷◌, ◌++◌, length}
 use Rattle.std.specs.List.{list_any}
 use Rattle.pseudo_time.specs.declared.nodes.NodeId.{NodeId}
 use Rattle.pseudo_time.specs.Nodes.{broker}
 use Rattle.plan_form.specs.declared.plans.Plan.{Plan}
 use Rattle.broker_core.specs.Readings.{reading}
 use Rattle.world_core.specs.declared.entries.Entry.{Entry}
+use Rattle.world_core.specs.declared.entries.Entry.TheVariants.{Tick}
 use Rattle.world_core.specs.declared.traces.Trace.{Trace}
-use Rattle.world_core.specs.Walks.{is_down}
+use Rattle.world_core.specs.Walks.{is_down, walk}
 use Rattle.world_core.specs.Legal.{Idle, base_of, fates_of, in_plan, is_within}
 use Rattle.world_core.specs.Pasts.{WasNotOpened}
-use Rattle.world_core.specs.Readings.{life_after, world_after}
+use Rattle.world_core.specs.Readings.{world_after}
 use Rattle.trace_report.specs.Counts.{tick_count}
 use Rattle.broker_node.specs.Logs.{is_over}
 
@@ -18,9 +19,13 @@ use Rattle.broker_node.specs.Logs.{is_over}
 abbrev pub some_down : List Entry → Bool
 some_down es = list_any is_down es
 
--- each act of the broker has its outcome, and no request is outstanding
+-- where these entries lead each act of the broker has its outcome, and no request is outstanding
+abbrev pub broker_done_after : Plan → Trace → List Entry → ℕ → Bool
+broker_done_after plan t es b = is_over (base_of (reading plan.acts) plan t) b ((walk (base_of (reading plan.acts) plan t) es).life (broker b))
+
+-- and so it is at the end
 abbrev pub broker_done : Plan → Trace → ℕ → Bool
-broker_done plan t b = is_over (base_of (reading plan.acts) plan t) b (life_after plan t (broker b))
+broker_done plan t b = broker_done_after plan t t.entries b
 
 abbrev pub AllDone : Plan → Trace → Type 0
 AllDone plan t = (b : ℕ) → is_within b plan.brokers ≡ true → broker_done plan t b ≡ true
@@ -29,9 +34,14 @@ AllDone plan t = (b : ℕ) → is_within b plan.brokers ≡ true → broker_done
 abbrev pub HasRunOut : (most_ticks : ℕ) → Plan → Trace → Type 0
 HasRunOut most_ticks plan t = Idle (fates_of t.sent) (world_after plan t) × (tick_count t.entries ≡ most_ticks)
 
+-- Time passes only where some broker isn't done.
+abbrev pub TicksAreWanted : Plan → Trace → Type 0
+TicksAreWanted plan t = (front : List Entry) (moment : ℕ) (rest : List Entry) → t.entries ≡ front ++ Tick moment ∷ rest → (b : ℕ) × (is_within b plan.brokers ≡ true) × (broker_done_after plan t front b ≡ false)
+
 -- A run has at most so many Ticks, and ends where a node is down, all brokers are done, enough messages were sent, or it has run out.
 pub record HasEnded (most_ticks enough : ℕ) (plan : Plan) (t : Trace) : Type 0 where
   pub few : tick_count t.entries ≤ most_ticks
+  pub wanted : TicksAreWanted plan t
   pub why : (some_down t.entries ≡ true) ⊎ (AllDone plan t ⊎ ((enough ≤ length t.sent) ⊎ HasRunOut most_ticks plan t))
 
 -- A node of the plan wasn't opened, so that no round began.

@@ -1,14 +1,12 @@
 -- The media of a run: what nodes were opened with, what they are left with, and why nodes stopped.
-use Rattle.std.specs.Prelude.{◌≡◌, ◌⊎◌, ℕ, ◌<◌, true, IsTrue, List, [], length, Option, Some, None, Ok, Err, slice_get}
-use Rattle.std.specs.List.{count_by}
+use Rattle.std.specs.Prelude.{◌≡◌, ◌⊎◌, ℕ, true, IsTrue, List, [], Option, Some, None, Ok, Err, slice_get}
 use Rattle.pseudo_time.specs.declared.nodes.NodeId.{NodeId}
 use Rattle.pseudo_time.specs.declared.down_causes.DownCause.TheVariants as down
 use Rattle.stream_port.specs.Causes.{Rose, RoseBy}
 use Rattle.medium_port.specs.Image.{Image}
-use Rattle.page_gate.specs.States.{is_blank}
 use Rattle.effect_form.specs.declared.effects.Effect.{Effect}
 use Rattle.version_store.specs.Storage.{storage}
-use Rattle.version_store.specs.Filling.{StaysClean, filling}
+use Rattle.version_store.specs.Filling.{StaysClean}
 use Rattle.plan_form.specs.declared.plans.Plan.{Plan}
 use Rattle.world_core.specs.declared.traces.Trace.{Trace}
 use Rattle.world_core.specs.Walks.{opened_log, own}
@@ -17,7 +15,7 @@ use Rattle.world_core.specs.Pasts.{WasNotOpened}
 use Rattle.world_core.specs.Readings.{life_after, open_effects}
 use Rattle.trace_report.specs.Counts.{down_cause}
 use Rattle.node_turn.specs.Costs.{costs}
-use Rattle.node_turn.specs.Lives.{IsKept}
+use Rattle.node_turn.specs.Lives.{IsKept, IsFullFor}
 use Rattle.run_media.specs.Media.{Media, AreBack, IsUntouched}
 use Rattle.run_media.specs.Places.{place_of}
 
@@ -61,12 +59,12 @@ module _ {M : Type 0} (w : Media M) where
       pub unopened : (n : NodeId) (old new : M) → in_plan plan n ≡ true → WasNotOpened t.entries n → down_cause n t.entries ≡ Some down.Medium → Became plan media left n old new → Rose (w.faults old) (w.faults new)
       pub missing : (n : NodeId) → in_plan plan n ≡ true → medium_at plan media n ≡ None → down_cause n t.entries ≡ Some down.Medium
 
-    -- A node is down since its medium failed; or it wasn't opened, and the page is the first damaged one of what its medium held; or its medium is full, whose blank pages don't
-    -- take its open effects. Without a fault no page is spoiled.
+    -- A node is down since its medium failed; or it wasn't opened, and the page is the first damaged one of what its medium held; or its medium is full: it has the durable log,
+    -- and its blank pages don't take the open effects. Without a fault no page is spoiled.
     pub record HaveCauses (plan : Plan) (t : Trace) : Type 0 where
       pub unopened : (n : NodeId) → in_plan plan n ≡ true → WasNotOpened t.entries n → (down_cause n t.entries ≡ Some down.Medium) ⊎ ((page : ℕ) × (down_cause n t.entries ≡ Some (down.Damaged page)))
       pub damaged : (n : NodeId) (old new : M) (page : ℕ) → in_plan plan n ≡ true → down_cause n t.entries ≡ Some (down.Damaged page) → Became plan media left n old new
           → WasNotOpened t.entries n × (storage (w.reads old) ≡ Err page)
       pub full : (n : NodeId) (old new : M) (pages : ℕ) → in_plan plan n ≡ true → down_cause n t.entries ≡ Some (down.Full pages) → Became plan media left n old new
-          → (pages ≡ w.page_count new) × (count_by is_blank (w.reads new) < length (filling (open_effects plan t n)))
+          → (pages ≡ w.page_count new) × IsFullFor (life_after plan t n) (w.reads new)
       pub clean : (n : NodeId) (old new : M) → in_plan plan n ≡ true → costs (own n t.entries) ≡ 0 → Became plan media left n old new → StaysClean (w.reads old) (w.reads new)

@@ -1,3 +1,4 @@
+pub mod CompleteLemmas
 pub mod HistoryLemmas
 pub mod InputLemmas
 pub mod PromiseLemmas

@@ -26,7 +26,7 @@ use Rattle.swallow_top.specs.declared.reports.Wanted.{Wanted}
 use Rattle.swallow_top.specs.declared.reports.Wanted.TheVariants.{Report, Summary}
 use Rattle.swallow_top.specs.declared.stops.Stop.{Stop}
 use Rattle.swallow_top.specs.declared.stops.Stop.TheVariants as stop
-use Rattle.swallow_top.specs.Contract.{AllKept, HasNoRun, IsNoPlan, RefusedAs, RunsPlan}
+use Rattle.swallow_top.specs.Contract.{AllKept, CameOf, HasNoRun, IsNoPlan, RefusedAs, RunsPlan}
 use Rattle.swallow_top.specs.Histories.{TellsHistory, ShowsDown, ShowsHistory, home_of}
 use Rattle.swallow_top.specs.Inputs.{OfInput}
 use Rattle.swallow_top.specs.Plans.{ReadsPlan}
@@ -55,9 +55,12 @@ any-most status s there text most (inr h) = ends-most status s there text most h
 
 module _ {M : Type 0} (w : Media M) (old new : ShelfSight) (kept : List (Kept M)) where
   pub runs-most : (plan : Plan) (wanted : Wanted) (o : Options) (told : Account) (s : Sinking) (status : ℕ) → RunsPlan w old new kept plan wanted o told s status → status ≤ 7
-  runs-most plan wanted o told s status (inl h) = let e = h.0 in omega (arith, e)
-  runs-most plan wanted o told s status (inr (inl h)) = let e = h.0 in omega (arith, e)
-  runs-most plan wanted o told s status (inr (inr h)) = any-most status s (status_of plan told.trace) _ (status-most plan told.trace) h.1
+  runs-most plan wanted o told s status runs = by runs.came
+    where
+      by : CameOf w old new kept plan wanted o told s status → status ≤ 7
+      by (inl h) = let e = h.0 in omega (arith, e)
+      by (inr (inl h)) = let e = h.0 in omega (arith, e)
+      by (inr (inr h)) = any-most status s (status_of plan told.trace) _ (status-most plan told.trace) h.1
 
   pub tells-most : (object : ObjectId) (s : Sinking) (status : ℕ) → TellsHistory w old new object kept s status → status ≤ 7
   tells-most object s status h = by h.told

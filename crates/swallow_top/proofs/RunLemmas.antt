@@ -11,6 +11,7 @@ use Rattle.world_core.specs.Readings.{IsLegal}
 use Rattle.wire_lock.specs.Stories.{no_trace}
 use Rattle.command_words.specs.declared.commands.Options.{Options}
 use Rattle.run_media.specs.Media.{Media, AreBack, IsBack}
+use Rattle.run_media.specs.Places.{node_count}
 use Rattle.run_rounds.specs.declared.ends.End.{End}
 use Rattle.run_rounds.specs.declared.ends.End.TheVariants as end
 use Rattle.run_rounds.specs.Runs.{Ran, HasRanges}
@@ -19,10 +20,11 @@ use Rattle.run_laws.specs.Serials.{HoldsFinals, IsSerialOver}
 use Rattle.run_laws.specs.Reasons.{HaveReasons}
 use Rattle.swallow_top.specs.declared.media.Kept.{Kept}
 use Rattle.swallow_top.specs.declared.reports.Wanted.{Wanted}
-use Rattle.swallow_top.specs.Contract.{AllKept, HasNoRun, LosesNothing, RanOver, RunsPlan}
+use Rattle.swallow_top.specs.Contract.{AllKept, CameOf, Completes, HasNoRun, LosesNothing, RanOver, RunsPlan}
 use Rattle.swallow_top.specs.Shelves.{ShelfSight, WereTaken, kept_from}
 use Rattle.swallow_top.specs.Tellings.{OfRun, TellsEnd, status_of, wanted_text}
 use Rattle.swallow_top.specs.Written.{Sinking, EndsIfAny}
+use Rattle.swallow_top.proofs.CompleteLemmas.{complete-status, run-complete, unrefused}
 use Rattle.swallow_top.proofs.ShelfLemmas.{all-kept, alone-whole, lose-nothing}
 
 module _ {M : Type 0} (w : Media M) (ticks messages : ℕ) (plan : Plan) (told : Tellers) (media left : List (Option M)) where
@@ -49,7 +51,8 @@ module _ {M : Type 0} (w : Media M) (ticks messages : ℕ) (plan : Plan) (told :
 
 module _ {M : Type 0} (w : Media M) (old new : ShelfSight) (plan : Plan) (o : Options) (told : Tellers) (media left : List (Option M)) (taken : WereTaken w old new plan media)
     (language : IsOfLanguage plan) (serial : (p : Plan) (asked : List Asked) (t : Trace) → IsOfLanguage p → IsLegal p asked t → IsSerialOver p t)
-    (finals : (p : Plan) (asked : List Asked) (t : Trace) → IsOfLanguage p → IsLegal p asked t → HoldsFinals p t) (reasons : (p : Plan) (asked : List Asked) (t : Trace) → IsOfLanguage p → IsLegal p asked t → HaveReasons p t) where
+    (finals : (p : Plan) (asked : List Asked) (t : Trace) → IsOfLanguage p → IsLegal p asked t → HoldsFinals p t) (reasons : (p : Plan) (asked : List Asked) (t : Trace) → IsOfLanguage p → IsLegal p asked t → HaveReasons p t)
+    (full : length media ≡ node_count plan) where
   ran-over : (t : Trace) → Ran w o.ticks o.messages plan (account_of t told) media left → RanOver {M = M} w old new (kept_from plan 0 left) plan o (account_of t told)
   ran-over t ran = record {
     media = media;
@@ -62,9 +65,9 @@ module _ {M : Type 0} (w : Media M) (old new : ShelfSight) (plan : Plan) (o : Op
     reasons = λ tells. reasons plan told.asked t language (ran.is_told tells).legal;
   }
 
-  by-end : (wanted : Wanted) (e : End) (status : ℕ) (t : Trace) (s : Sinking) → EndsAs w o.ticks o.messages plan told media left e → TellsEnd wanted plan e status t s → RunsPlan {M = M} w old new (kept_from plan 0 left) plan wanted o (account_of t told) s status
+  by-end : (wanted : Wanted) (e : End) (status : ℕ) (t : Trace) (s : Sinking) → EndsAs w o.ticks o.messages plan told media left e → TellsEnd wanted plan e status t s → CameOf {M = M} w old new (kept_from plan 0 left) plan wanted o (account_of t told) s status
   by-end wanted (end.Ran r) status t s ends tells =
-      subst (λ (z : Trace). RunsPlan {M = M} w old new (kept_from plan 0 left) plan wanted o (account_of z told) s status) (sym tells.0) (inr (inr (ran-over r ends, tells.1)))
+      subst (λ (z : Trace). CameOf {M = M} w old new (kept_from plan 0 left) plan wanted o (account_of z told) s status) (sym tells.0) (inr (inr (ran-over r ends, tells.1)))
   by-end wanted (end.Refused fault) status t s ends (none, inl seven) = inl (seven, none, lose-nothing w old plan 0 media left taken.are (alone-whole {M = M} w media left ends.1))
   by-end wanted (end.Refused fault) status t s ends (none, inr two) = inr (inl (
     two.0,
@@ -73,8 +76,20 @@ module _ {M : Type 0} (w : Media M) (old new : ShelfSight) (plan : Plan) (o : Op
   ))
   by-end wanted end.NoMemory status t s ends tells = inl (tells.1, tells.0, lose-nothing w old plan 0 media left taken.are ends.1)
 
+  -- where all is smooth
+  completes : (wanted : Wanted) (e : End) (status : ℕ) (t : Trace) (s : Sinking) → EndsAs w o.ticks o.messages plan told media left e → TellsEnd wanted plan e status t s → Completes {M = M} w old new (kept_from plan 0 left) plan o (account_of t told) s status
+  completes wanted (end.Ran r) status t s ends (same, inl seven) tells most smooth = inl seven
+  completes wanted (end.Ran r) status t s ends (same, inr (inr failed)) tells most smooth = absurd (smooth.sink failed.1.1)
+  completes wanted (end.Ran r) status t s ends (same, inr (inl written)) tells most smooth =
+      let done = run-complete w old new plan language o told media left taken full tells t (subst (λ (z : Trace). Ran w o.ticks o.messages plan (account_of z told) media left) (sym same) ends) s most smooth in
+      inr (written.0 ∙ (ap (status_of plan) (sym same) ∙ complete-status plan t done), done)
+  completes wanted (end.Refused fault) status t s ends (none, inl seven) tells most smooth = inl seven
+  completes wanted (end.Refused fault) status t s ends (none, inr two) tells most smooth = absurd (unrefused w old new plan o told media left taken tells t s most smooth fault ends.2)
+  completes wanted end.NoMemory status t s ends told-as tells most smooth = inl told-as.1
+
   pub runs-plan : (wanted : Wanted) (e : End) (status : ℕ) (t : Trace) (s : Sinking) (kept : List (Kept M)) → kept ≡ kept_from plan 0 left → EndsAs w o.ticks o.messages plan told media left e → TellsEnd wanted plan e status t s → RunsPlan w old new kept plan wanted o (account_of t told) s status
-  runs-plan wanted e status t s kept are ends tells = subst (λ l. RunsPlan w old new l plan wanted o (account_of t told) s status) (sym are) (by-end wanted e status t s ends tells)
+  runs-plan wanted e status t s kept are ends tells = subst (λ l. RunsPlan w old new l plan wanted o (account_of t told) s status) (sym are)
+      (record { came = by-end wanted e status t s ends tells; completes = completes wanted e status t s ends tells })
 
   pub runs-kept : (e : End) (kept : List (Kept M)) → kept ≡ kept_from plan 0 left → EndsAs w o.ticks o.messages plan told media left e → AllKept old new kept
   runs-kept e kept are ends = subst (AllKept old new) (sym are) (all-kept w old new plan media left taken (end-back w o.ticks o.messages plan told media left e ends))

@@ -171,7 +171,7 @@ module _ {M : Type 0} where
   has-behind x [] ys h = h
   has-behind x (y ∷ xs) ys h = inr (has-behind x xs ys h)
 
-  kept-has : (plan : Plan) (i : ℕ) (xs : List (Option M)) (place : ℕ) (m : M) → slice_get xs place ≡ Some (Some m) → Has (record { node = node_at plan (i + place); volume = 0; medium = m }) (kept_from {M = M} plan i xs)
+  pub kept-has : (plan : Plan) (i : ℕ) (xs : List (Option M)) (place : ℕ) (m : M) → slice_get xs place ≡ Some (Some m) → Has (record { node = node_at plan (i + place); volume = 0; medium = m }) (kept_from {M = M} plan i xs)
   kept-has plan i [] place m e = absurd cc
   kept-has plan i (x ∷ xs) zero m e =
       let is : x ≡ Some m = cc in

@@ -1,16 +1,18 @@
 -- What comes of a plan that is run, and of one that is refused.
-use Rattle.std.specs.Prelude.{◌≡◌, ◌⊎◌, ℕ, IsTrue, List, [], ◌++◌, Option, Some, Ok}
+use Rattle.std.specs.Prelude.{◌≡◌, ◌⊎◌, ℕ, ◌≤◌, ◌<◌, true, IsTrue, List, [], ◌++◌, length, Option, Some, Ok}
 use Rattle.std.specs.List.{AllZip}
 use Rattle.pseudo_time.specs.Lists.{Every, Has}
 use Rattle.pseudo_time.specs.declared.nodes.NodeId.{NodeId}
+use Rattle.stream_port.specs.Causes.{Rose}
 use Rattle.effect_form.specs.declared.effects.Effect.{Effect}
-use Rattle.medium_port.specs.Image.{Image, NoMore}
+use Rattle.medium_port.specs.Image.{Image, IsBlankImage, NoMore}
 use Rattle.medium_port.specs.declared.shelves.MediumName.{MediumName}
 use Rattle.version_store.specs.Storage.{storage}
 use Rattle.plan_form.specs.declared.plans.Plan.{Plan}
 use Rattle.plan_form.specs.declared.plan_faults.PlanKind.{PlanKind}
 use Rattle.plan_form.specs.PlanFaults.{IsPlanFault}
 use Rattle.broker_core.specs.declared.resume_faults.ResumeFault.{ResumeFault}
+use Rattle.world_core.specs.Legal.{fates_of, in_plan}
 use Rattle.wire_lock.specs.Stories.{no_trace}
 use Rattle.command_words.specs.declared.commands.Options.{Options}
 use Rattle.run_media.specs.Media.{Media, IsLeftAlone}
@@ -18,6 +20,8 @@ use Rattle.run_rounds.specs.Runs.{Account, Ran, IsFirstFault}
 use Rattle.run_rounds.specs.Finishes.{IsKeptWhole}
 use Rattle.run_laws.specs.Serials.{HoldsFinals, IsSerialOver}
 use Rattle.run_laws.specs.Reasons.{HaveReasons}
+use Rattle.complete_law.specs.Calm.{IsPlain}
+use Rattle.run_complete.specs.Smooth.{AskAtMost, IsComplete, messages_for, pages_for}
 use Rattle.swallow_top.specs.declared.media.Kept.{Kept}
 use Rattle.swallow_top.specs.declared.reports.Wanted.{Wanted}
 use Rattle.swallow_top.specs.declared.stops.Stop.{Stop}
@@ -68,10 +72,31 @@ module _ {M : Type 0} (w : Media M) (old new : ShelfSight) (kept : List (Kept M)
       pub line : GotLine s (resume_line why)
 
     -- What came of running the plan: memory was wanting, and nothing that a medium held is lost; or a broker's log refuses it; or it ran, and is told unless memory was wanting for that.
-    abbrev pub RunsPlan : Wanted → Options → Account → Sinking → ℕ → Type 0
-    RunsPlan wanted o told s status = ((status ≡ 7) × (told.trace ≡ no_trace) × Every (LosesNothing w old) kept)
+    abbrev pub CameOf : Wanted → Options → Account → Sinking → ℕ → Type 0
+    CameOf wanted o told s status = ((status ≡ 7) × (told.trace ≡ no_trace) × Every (LosesNothing w old) kept)
         ⊎ (((status ≡ 2) × IsRefusedByLog s × HasNoRun told)
         ⊎ (RanOver o told × EndsIfAny status s (status_of plan told.trace) (wanted_text wanted plan told.trace)))
+
+    -- Scripts of the plan make at most so many requests; no count rose of the shelf, a medium or the sink; the nodes' media were blank, and what they hold then is large
+    -- enough; fewer messages are sent than those at which the run ends, each as one copy without a hold.
+    pub record IsSmooth (o : Options) (told : Account) (s : Sinking) (most : ℕ) : Type 0 where
+      pub asks : AskAtMost plan most
+      pub sink : Rose s.faults_before s.faults → ⊥
+      pub shelf : Rose old.faults new.faults → ⊥
+      pub media : (n : NodeId) (m : M) → Has (record { node = n; volume = 0; medium = m }) kept → Rose (old.medium_faults (medium_name n)) (w.faults m) → ⊥
+      pub blank : (n : NodeId) → in_plan plan n ≡ true → IsBlankImage (old.holds (medium_name n))
+      pub large : (n : NodeId) (m : M) → Has (record { node = n; volume = 0; medium = m }) kept → pages_for plan most ≤ length (w.reads m)
+      pub few : messages_for plan most < o.messages
+      pub plain : Every IsPlain (fates_of told.trace.sent)
+
+    -- Where all is smooth the run is complete, and its text is written, unless memory was wanting.
+    abbrev pub Completes : Options → Account → Sinking → ℕ → Type 0
+    Completes o told s status = IsTrue w.tells → (most : ℕ) → IsSmooth o told s most → (status ≡ 7) ⊎ ((status ≡ 0) × IsComplete plan told.trace)
+
+    -- what came of running the plan; and what must succeed, succeeds
+    pub record RunsPlan (wanted : Wanted) (o : Options) (told : Account) (s : Sinking) (status : ℕ) : Type 0 where
+      pub came : CameOf wanted o told s status
+      pub completes : Completes o told s status
 
 -- the status and the line of a refusal
 abbrev pub RefusedAs : Stop → ℕ → Sinking → Type 0

@@ -1,7 +1,7 @@
 use Rattle.std.proofs.Common.{sym, subst}
-use Rattle.std.specs.Prelude.{All, IsTrue}
+use Rattle.std.specs.Prelude.{All, Any, IsTrue, MatchBool}
 use Rattle.node_rounds.specs.Nodes.{IsUp}
-use Rattle.node_rounds.specs.Reasons.{IsDone}
+use Rattle.node_rounds.specs.Reasons.{IsDone, IsLate}
 use Rattle.node_rounds.proofs.PairLemmas.{within-more}
 use Rattle.node_rounds.proofs.conductors.are_all_done.Goals as goal
 
@@ -13,4 +13,9 @@ are_done-requires g c = record {
 pub loop-nodes-preserved : goal.loop-nodes-preserved
 loop-nodes-preserved g c =
     within-more (λ nodes. IsTrue g.M.Medium.tells → All IsDone nodes.items) c.args.shares.now c.loop-nodes.nodes-index c.nodes-item.result c.loop-nodes-test.true c.nodes-item.is c.loop-nodes.invariant
-    (λ told. subst (All IsDone) c.as_slice.ensures.value (c.are_done.ensures c.if-not-are_done.false told))
+    (λ told. subst (All IsDone) c.as_slice.ensures.value (subst (λ b. MatchBool b (IsTrue g.M.Medium.tells → All IsDone c.as_slice.result.now) (Any (IsLate g.M.Medium.tells) c.as_slice.result.now)) c.if-not-are_done.false c.are_done.ensures told))
+
+pub returns-then-not-are_done : goal.returns-then-not-are_done
+returns-then-not-are_done g c =
+    let found = subst (λ b. MatchBool b (IsTrue g.M.Medium.tells → All IsDone c.as_slice.result.now) (Any (IsLate g.M.Medium.tells) c.as_slice.result.now)) c.if-not-are_done.true c.are_done.ensures in
+    (c.loop-nodes.nodes-index, c.nodes-item.result, c.loop-nodes-test.true, sym c.nodes-item.is, subst (Any (IsLate g.M.Medium.tells)) c.as_slice.ensures.value found)

@@ -3,6 +3,7 @@ use Rattle.seat_lock.specs.Words.{knows}
 use Rattle.node_rounds.specs.declared.reasons.Next.TheVariants as next
 use Rattle.node_rounds.specs.Reasons.{Follows}
 use Rattle.node_rounds.proofs.WentLemmas.{went-none, went-on, ready-again}
+use Rattle.node_rounds.proofs.WantedLemmas.{first-wanted}
 use Rattle.node_rounds.proofs.conductors.go_on.Goals as goal
 
 pub loop-init : goal.loop-init
@@ -13,11 +14,15 @@ loop-init g c = record {
   conductor = c.requires.conductor;
   ticked = c.requires.ticks;
   few = omega arith;
+  wanted = λ told. first-wanted c.args.wire.now.lock (knows c.args.pass) c.args.shares.items c.requires.conductor c.requires.pass.own c.requires.ticks;
 }
 
 pub returns-in-End-clause-went : goal.returns-in-End-clause-went
 returns-in-End-clause-went g c =
     went-on c.args.wire.now.lock g.M.Medium.tells g.M.Medium.faults g.M.Medium.reads c.args.shares.items c.loop.shares.items c.go_round-nodes.result.0.items c.loop.invariant.ready c.loop.invariant.went c.go_round-nodes.ensures.went
+
+pub returns-in-End-clause-wanted : goal.returns-in-End-clause-wanted
+returns-in-End-clause-wanted g c = λ told. c.go_round-nodes.ensures.wanted told (c.loop.invariant.wanted told)
 
 pub loop-preserved-in-Round : goal.loop-preserved-in-Round
 loop-preserved-in-Round g c =
@@ -31,6 +36,7 @@ loop-preserved-in-Round g c =
       conductor = f.1.owner ∙ inv.conductor;
       ticked = omega (arith, f.1.ticked, inv.ticked);
       few = inv.few;
+      wanted = λ told. round.ensures.wanted told (inv.wanted told);
     }
 
 pub loop-preserved : goal.loop-preserved
@@ -45,4 +51,5 @@ loop-preserved g c =
       conductor = f.2.owner ∙ inv.conductor;
       ticked = omega (arith, f.2.ticked, inv.ticked);
       few = omega (arith, f.1, inv.ticked);
+      wanted = λ told. round.ensures.wanted told (inv.wanted told);
     }

@@ -1,8 +1,11 @@
 use Rattle.std.proofs.Common.{◌≡◌, ◌≤◌}
-use Rattle.seat_lock.specs.Words.{knows}
+use Rattle.std.specs.Prelude.{IsTrue}
+use Rattle.seat_lock.specs.Words.{base_of, knows}
+use Rattle.wire_core.specs.Wires.{base_from}
 use Rattle.wire_lock.specs.Sights.{IsWirePass}
 use Rattle.trace_report.specs.Counts.{tick_count}
 use Rattle.node_rounds.specs.Nodes.{EachNode, EachPlace, GoesOn, IsReady}
+use Rattle.node_rounds.specs.Reasons.{TicksAreWanted}
 use Rattle.node_rounds.proofs.conductors.go_on.Given as goal
 
 abbrev pub invariant-loop : goal.invariant-loop
@@ -13,4 +16,5 @@ invariant-loop g l = record {
   conductor : (knows l.pass).owner ≡ 0;
   ticked : tick_count (knows l.pass).own ≡ l.ticks;
   few : l.ticks ≤ l.limits.ticks;
+  wanted : IsTrue g.M.Medium.tells → TicksAreWanted (base_from (base_of l.wire.lock).origin) (knows l.pass).story l.shares.items;
 }

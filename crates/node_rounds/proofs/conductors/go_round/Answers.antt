@@ -4,11 +4,13 @@ use denote.Param.Send.{param_send, param_sync, arg_send, arg_sync}
 use Rattle.std.proofs.Common.{sym, subst}
 use Rattle.seat_lock.specs.Words.{knows}
 use Rattle.node_rounds.specs.declared.reasons.Next.TheVariants as next
-use Rattle.node_rounds.specs.Reasons.{Follows}
+use Rattle.node_rounds.specs.Nodes.{SomeNode}
+use Rattle.node_rounds.specs.Reasons.{Follows, HasTicked, IsLate}
 use Rattle.wire_lock.proofs.Crosses.{shared_sync}
 use Rattle.node_rounds.proofs.Crosses.{run_send}
-use Rattle.node_rounds.proofs.TickLemmas.{follows-looked, follows-met, follows-begins}
-use Rattle.node_rounds.proofs.WentLemmas.{all-more, passes-after, went-round, went-met}
+use Rattle.node_rounds.proofs.TickLemmas.{follows-looked, follows-met, follows-begins, follows-none}
+use Rattle.node_rounds.proofs.WantedLemmas.{round-wanted, still-wanted}
+use Rattle.node_rounds.proofs.WentLemmas.{all-more, passes-after, same-names, went-round, went-met}
 use Rattle.node_rounds.proofs.conductors.go_round.Goals as goal
 
 pub round-shares-requires-send-S : goal.round-shares-requires-send-S
@@ -42,6 +44,24 @@ returns-in-Ticked-clause-next g c =
     (follows-met tells limits first asked (knows c.meet_all-in-Ticked.new.pass) nodes c.meet_all-in-Ticked.new.shares.items c.meet_all-in-Ticked.ensures.met c.meet_all-in-Ticked.ensures.looked
     (follows-looked tells limits first met asked next.Ticked nodes c.meet_all.ensures.looked ticked))
 
+pub returns-in-Ticked-clause-wanted : goal.returns-in-Ticked-clause-wanted
+returns-in-Ticked-clause-wanted g c = λ told wanted.
+    let tells = g.M.Medium.tells in
+    let limits = c.args.limits in
+    let lock = c.args.wire.now.lock in
+    let nodes = c.meet_all.new.shares.items in
+    let met = knows c.meet_all.new.pass in
+    let asked = knows c.asked-pass.result.0 in
+    let said = subst (λ ns. Follows tells limits c.asked-pass.result.1 ns met asked) c.as_slice.ensures.value c.asked-pass.ensures.next in
+    let ticked = subst (λ what. Follows tells limits what nodes met asked) c.in-Ticked.is said in
+    let late = subst (λ ns. SomeNode (IsLate tells) ns × HasTicked met asked) c.as_slice.ensures.value (c.asked-pass.ensures.ticked c.in-Ticked.is) in
+    round-wanted lock tells told (knows c.args.pass) met asked (knows c.meet_all-in-Ticked.new.pass) c.args.shares.items nodes c.meet_all-in-Ticked.new.shares.items
+    c.requires.conductor c.requires.pass.own c.meet_all-in-Ticked.ensures.pass.1.own c.meet_all.ensures.looked late.1 ticked.2 c.meet_all-in-Ticked.ensures.looked late.0
+    c.meet_all.ensures.pass.0 c.meet_all.ensures.all c.meet_all-in-Ticked.ensures.met c.meet_all-in-Ticked.ensures.seen
+    (same-names lock tells g.M.Medium.faults g.M.Medium.reads c.args.shares.items c.meet_all-in-Ticked.new.shares.items c.requires.ready
+    (went-met lock tells g.M.Medium.faults g.M.Medium.reads c.args.shares.items nodes c.meet_all-in-Ticked.new.shares.items
+    (went-round lock tells g.M.Medium.faults g.M.Medium.reads c.args.shares.items c.round-shares.result.items nodes c.round-shares.ensures.does c.meet_all.ensures.met) c.meet_all-in-Ticked.ensures.met)) wanted
+
 pub returns : goal.returns
 returns g c =
     let tells = g.M.Medium.tells in
@@ -55,4 +75,9 @@ returns g c =
       went = went-round c.args.wire.now.lock tells g.M.Medium.faults g.M.Medium.reads c.args.shares.items c.round-shares.result.items nodes c.round-shares.ensures.does c.meet_all.ensures.met;
       all = all-more met.story asked.story nodes (follows-begins tells limits met asked c.asked-pass.result.1 nodes said) c.meet_all.ensures.all;
       next = follows-looked tells limits (knows c.args.pass) met asked c.asked-pass.result.1 nodes c.meet_all.ensures.looked said;
+      wanted = λ told wanted.
+          still-wanted c.args.wire.now.lock (knows c.args.pass) asked c.args.shares.items nodes c.requires.conductor c.requires.pass.own c.asked-pass.ensures.pass.own
+          (follows-none tells limits (knows c.args.pass) asked c.asked-pass.result.1 nodes c.in_default.not-Ticked (follows-looked tells limits (knows c.args.pass) met asked c.asked-pass.result.1 nodes c.meet_all.ensures.looked said))
+          (same-names c.args.wire.now.lock tells g.M.Medium.faults g.M.Medium.reads c.args.shares.items nodes c.requires.ready
+          (went-round c.args.wire.now.lock tells g.M.Medium.faults g.M.Medium.reads c.args.shares.items c.round-shares.result.items nodes c.round-shares.ensures.does c.meet_all.ensures.met)) wanted;
     }

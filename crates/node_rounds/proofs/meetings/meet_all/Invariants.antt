@@ -3,7 +3,7 @@ use Rattle.std.specs.Prelude.{All}
 use Rattle.std.specs.List.{AllWithin}
 use Rattle.seat_lock.specs.Words.{knows}
 use Rattle.wire_lock.specs.Sights.{IsWirePass, Looked}
-use Rattle.node_rounds.specs.Nodes.{EachNode, EachPlace, HasAllOf, HasMet, HasPass}
+use Rattle.node_rounds.specs.Nodes.{EachNode, EachPlace, HasAllOf, HasMet, HasPass, HasSeen}
 use Rattle.node_rounds.proofs.meetings.meet_all.Given as goal
 
 abbrev pub invariant-loop-i : goal.invariant-loop-i
@@ -13,5 +13,6 @@ invariant-loop-i g l = record {
   pass_is : IsWirePass l.wire.lock l.pass;
   looked : Looked (knows l.fn.pass) (knows l.pass);
   all : AllWithin (λ nodes. All (HasAllOf (knows l.pass).story) nodes.items) l.shares.items 0 l.i;
+  seen : AllWithin (λ nodes. All (HasSeen (knows l.fn.pass).story) nodes.items) l.shares.items 0 l.i;
   met : EachPlace HasMet l.fn.shares.items l.shares.items;
 }

@@ -1,9 +1,9 @@
 use Rattle.std.proofs.Common.{◌≡◌, ◌<◌, ◌∙◌, ℕ, sym, subst, length, length-set, get_or, arith}
 use Rattle.std.proofs.lemmas.List.Elements.{All-set, AllWithin-none, AllWithin-more_set}
 use Rattle.seat_lock.specs.Words.{knows}
-use Rattle.node_rounds.specs.Nodes.{HasMet, HasAllOf, HasPass}
+use Rattle.node_rounds.specs.Nodes.{HasMet, HasAllOf, HasPass, HasSeen}
 use Rattle.node_rounds.proofs.PairLemmas.{zip-set}
-use Rattle.node_rounds.proofs.RoundLemmas.{looked-joins, has-more, has-met, looked-same, mets-same, met-joins, met-of}
+use Rattle.node_rounds.proofs.RoundLemmas.{looked-joins, has-more, has-met, looked-same, mets-same, met-joins, met-of, seen-met}
 use Rattle.node_rounds.proofs.meetings.meet_share.Goals as goal
 
 pub loop-i-init : goal.loop-i-init
@@ -13,6 +13,7 @@ loop-i-init g c = record {
   pass_is = c.requires.pass.1;
   looked = looked-same _ c.requires.pass.1.own;
   all = AllWithin-none (HasAllOf (knows c.args.pass.now).story) c.args.nodes.now.items 0;
+  seen = AllWithin-none (HasSeen (knows c.args.pass.now).story) c.args.nodes.now.items 0;
   met = mets-same c.args.wire.now.lock c.args.nodes.now.items c.requires.pass.0;
 }
 
@@ -32,8 +33,13 @@ loop-i-preserved g c =
       pass_is = c.meet.ensures.pass.1;
       looked = looked-joins _ _ _ c.requires.pass.1.own inv.looked c.meet.ensures.other.0;
       all = AllWithin-more_set ns i new lt (HasAllOf story) (λ k d low high. has-more (get_or ns k d) seen story c.meet.ensures.other.0.before.carries.begins (inv.all k d low high)) (has-met new story c.meet.ensures.pass.0.own c.meet.ensures.other.1);
+      seen = AllWithin-more_set ns i new lt (HasSeen (knows c.args.pass.now).story) inv.seen
+          (seen-met new (knows c.args.pass.now).story seen story inv.looked.before.carries.begins c.meet.ensures.other.0.before.carries.begins c.meet.ensures.other.1);
       met = zip-set (HasPass c.args.wire.now.lock) HasMet c.args.nodes.now.items ns i old new (λ x pass m. met-joins x old new pass.own (subst (HasMet x) (sym c.index_mut.ensures.value) m) (met-of _ old new c.meet.ensures.met)) c.requires.pass.0 inv.met;
     }
 
 pub returns-clause-all : goal.returns-clause-all
 returns-clause-all g c = λ k d lt. c.loop-i.invariant.all k d (omega arith) (omega (arith, lt, c.loop-i.invariant.size))
+
+pub returns-clause-seen : goal.returns-clause-seen
+returns-clause-seen g c = λ k d lt. c.loop-i.invariant.seen k d (omega arith) (omega (arith, lt, c.loop-i.invariant.size))

@@ -3,7 +3,7 @@ use Rattle.std.specs.Prelude.{All}
 use Rattle.std.specs.List.{AllZip, AllWithin}
 use Rattle.seat_lock.specs.Words.{knows}
 use Rattle.wire_lock.specs.Sights.{IsWirePass, Looked}
-use Rattle.node_rounds.specs.Nodes.{HasAllOf, HasMet, HasPass}
+use Rattle.node_rounds.specs.Nodes.{HasAllOf, HasMet, HasPass, HasSeen}
 use Rattle.node_rounds.proofs.meetings.meet_share.Given as goal
 
 abbrev pub invariant-loop-i : goal.invariant-loop-i
@@ -13,5 +13,6 @@ invariant-loop-i g l = record {
   pass_is : IsWirePass l.wire.lock l.pass;
   looked : Looked (knows l.fn.pass) (knows l.pass);
   all : AllWithin (HasAllOf (knows l.pass).story) l.nodes.items 0 l.i;
+  seen : AllWithin (HasSeen (knows l.fn.pass).story) l.nodes.items 0 l.i;
   met : AllZip HasMet l.fn.nodes.items l.nodes.items;
 }

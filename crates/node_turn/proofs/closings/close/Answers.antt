@@ -28,7 +28,7 @@ pub returns-in_default-checked_add-clause-unsent : goal.returns-in_default-check
 returns-in_default-checked_add-clause-unsent g c = trail-none c.args.node (knows c.args.pass)
 
 pub returns-in-Err-clause-err : goal.returns-in-Err-clause-err
-returns-in-Err-clause-err g c = after-append c.requires.up (appended-at c.effects-3.ensures c.append-core.ensures) c.in-Err.fault c.in-Err.is
+returns-in-Err-clause-err g c = after-append c.requires.up (appended-at c.effects-3.ensures c.append-core.ensures) g.met.M.Medium.reads_now c.in-Err.fault c.in-Err.is
 
 pub returns-in-Err-clause-unsent : goal.returns-in-Err-clause-unsent
 returns-in-Err-clause-unsent g c = trail-none c.args.node (knows c.args.pass)

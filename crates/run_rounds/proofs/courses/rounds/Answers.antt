@@ -1,6 +1,11 @@
-use Rattle.std.proofs.Common.{◌≡◌, ◌∙◌, ◌++◌, ◌∷◌, [], length, sym, ap, arith}
+use Rattle.std.proofs.Common.{◌≡◌, ◌∙◌, ◌++◌, ◌∷◌, [], length, sym, ap, subst, arith}
 use Rattle.std.proofs.lemmas.List.{length-map}
+use Rattle.seat_lock.specs.Words.{knows}
+use Rattle.world_core.specs.Walks.{Base}
+use Rattle.wire_core.specs.Wires.{base_from}
+use Rattle.wire_lock.proofs.SightLemmas.{pass-origin}
 use Rattle.node_rounds.specs.Nodes.{IsReady}
+use Rattle.node_rounds.specs.Reasons.{TicksAreWanted}
 use Rattle.run_media.specs.Media.{media_with}
 use Rattle.run_starts.proofs.AlongLemmas.{each-shared}
 use Rattle.run_rounds.proofs.CourseLemmas.{all-passes, dealt-again, have-gone, shares-count}
@@ -41,4 +46,6 @@ returns-clause-gone g c =
     have-gone w (length c.args.shares.items) c.requires.some c.args.nodes.items c.deal-nodes.result.1.items c.go_on-shares.result.0.items c.deal-nodes.ensures.dealt c.deal-nodes.ensures.count c.go_on-shares.ensures.went
     c.collect-nodes.result.items (λ xs d l. c.collect-nodes.ensures.whole xs d (omega (arith, l, c.args.nodes.ok, c.len-count.ensures)))
     c.args.limits c.go_on-shares.result.2 c.take_apart-media.result.0.items c.push_reserved.new.self.items c.go_on-shares.result.1 (c.push_reserved.ensures.items ∙ ap (λ l. l ++ c.go_on-shares.result.1 ∷ []) c.take_apart-media.ensures.passes)
-    c.take_apart-media.ensures.media c.take_apart-media.ensures.rest c.go_on-shares.ensures.all c.go_on-shares.ensures.conductor c.go_on-shares.ensures.ticks c.go_on-shares.ensures.reason
+    c.take_apart-media.ensures.media c.take_apart-media.ensures.rest c.go_on-shares.ensures.all c.go_on-shares.ensures.conductor c.go_on-shares.ensures.ticks
+    (λ told. subst (λ (b : Base). TicksAreWanted b (knows c.go_on-shares.result.1).story c.go_on-shares.result.0.items) (ap base_from (pass-origin c.args.wire.now.lock c.go_on-shares.result.1 c.go_on-shares.ensures.passes.1.of_lock)) (c.go_on-shares.ensures.wanted told))
+    c.go_on-shares.ensures.reason

@@ -1,0 +1,4 @@
+pub mod DownLemmas
+pub mod PageLemmas
+pub mod SmoothLemmas
+pub mod StandingLemmas

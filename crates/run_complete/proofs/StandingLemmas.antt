@@ -1,0 +1,279 @@
+-- Where its broker has begun all acts, and each has an outcome, an act is shown with its outcome.
+use Rattle.std.proofs.Common.{◌≡◌, ◌⊎◌, ◌+◌, ◌-◌, ◌≤◌, ◌<◌, ◌∙◌, ◌++◌, ◌&&◌, ◌==◌, nat_lt, nat_le, ℕ, zero, suc, Bool, true, false, List, [], ◌∷◌, Option, Some, None, length, map, reverse, slice_get, inl, inr, refl, ap, sym, subst, arith, if◌then◌else◌}
+use Rattle.std.specs.Prelude.{cond, filter}
+use Rattle.std.proofs.lemmas.Bool.{eq-eqb, eqb-true}
+use Rattle.std.proofs.lemmas.Bool.Decides.{nat_tests}
+use Rattle.std.proofs.lemmas.List.{length-append, length-map, length-reverse, map-append, reverse-append}
+use Rattle.std.proofs.lemmas.Option.{slice_get_within}
+use Rattle.pseudo_time.specs.Lists.{Every, Has}
+use Rattle.pseudo_time.specs.Nodes.{broker}
+use Rattle.pseudo_time.specs.declared.nodes.NodeId.{NodeId}
+use Rattle.value_form.specs.declared.acts.ActSpec.{ActSpec}
+use Rattle.effect_form.specs.declared.effects.Effect.{Effect}
+use Rattle.effect_form.specs.declared.outcomes.Outcome.{Outcome}
+use Rattle.effect_form.specs.declared.outcomes.Outcome.TheVariants as ended
+use Rattle.serial_model.specs.Questions.{Tree}
+use Rattle.plan_form.specs.declared.plans.Plan.{Plan}
+use Rattle.plan_form.specs.Plans.{InRange}
+use Rattle.plan_form.specs.PlanTexts.{EachAct, IsOfLanguage}
+use Rattle.broker_core.specs.Book.{Act, Book, Try}
+use Rattle.broker_core.specs.Readings.{reading}
+use Rattle.broker_core.specs.Sound.{Started}
+use Rattle.broker_core.specs.Tasks.{Task, task_of, tasks}
+use Rattle.broker_core.proofs.SoundLemmas.{sound-kept}
+use Rattle.world_core.specs.Nodes.{acts_of}
+use Rattle.report_writer.specs.declared.records.ActReport.{ActReport}
+use Rattle.report_writer.specs.declared.records.TryReport.{TryReport}
+use Rattle.report_writer.specs.declared.records.TryOutcome.{TryOutcome}
+use Rattle.report_writer.specs.declared.records.Standing.{Standing}
+use Rattle.report_writer.specs.declared.records.Standing.TheVariants as standing
+use Rattle.report_writer.specs.Standings.{count_of, last_outcome, outcome_in, same, standing_after, standing_of, standing_where}
+use Rattle.trace_report.specs.Acts.{act_begun, act_shown, act_with, acts_in, acts_shown, begun_acts, counted_by, shown_end, tasks_of, tries_shown, try_shown}
+use Rattle.repository_waits.proofs.HeldLemmas.{filter-has}
+use Rattle.complete_law.specs.Calm.{HasOutcome, IsOver}
+use Rattle.complete_law.proofs.GateEntries.{has-filter, has-map}
+use Rattle.run_complete.specs.Finished.{AllBegun}
+use Rattle.run_complete.specs.Smooth.{IsFinal, IsFinished}
+
+some-same : {A : Type 0} {x y : A} → ◌≡◌ {A = Option A} (Some x) (Some y) → x ≡ y
+some-same e = cc
+
+-- ---- lists and places
+
+at-place : {A : Type 0} (xs : List A) (x : A) → Has x xs → (i : ℕ) × (slice_get xs i ≡ Some x)
+at-place [] x h = absurd h
+at-place (y ∷ xs) x (inl e) = (0, ap (λ z. Some z) e)
+at-place (y ∷ xs) x (inr h) = let k = at-place xs x h in (suc k.0, k.1)
+
+has-place : {A : Type 0} (xs : List A) (i : ℕ) (x : A) → slice_get xs i ≡ Some x → Has x xs
+has-place [] i x h = absurd cc
+has-place (y ∷ xs) zero x h = inl (some-same h)
+has-place (y ∷ xs) (suc i) x h = inr (has-place xs i x h)
+
+every-by : {A : Type 0} (P : A → Type 0) (xs : List A) → ((x : A) → Has x xs → P x) → Every P xs
+every-by P [] h = tt
+every-by P (x ∷ xs) h = (h x (inl refl), every-by P xs (λ y k. h y (inr k)))
+
+has-every : {A : Type 0} (P : A → Type 0) (xs : List A) (x : A) → Every P xs → Has x xs → P x
+has-every P [] x h k = absurd k
+has-every P (y ∷ xs) x h (inl e) = subst P e h.0
+has-every P (y ∷ xs) x h (inr k) = has-every P xs x h.1 k
+
+has-mapped : {A B : Type 0} (f : A → B) (xs : List A) (y : B) → Has y (map f xs) → (x : A) × Has x xs × (f x ≡ y)
+has-mapped f [] y h = absurd h
+has-mapped f (x ∷ xs) y (inl e) = (x, inl refl, e)
+has-mapped f (x ∷ xs) y (inr h) = let k = has-mapped f xs y h in (k.0, inr k.1, k.2)
+
+-- ---- acts of a plan
+
+-- an act stands where its index says
+index-at : (repositories brokers n : ℕ) (acts : List ActSpec) (i : ℕ) (a : ActSpec) → EachAct repositories brokers n acts → slice_get acts i ≡ Some a → a.index ≡ n + i
+index-at repositories brokers n [] i a each h = absurd cc
+index-at repositories brokers n (x ∷ acts) zero a each h = let e : x.index ≡ a.index = ap (λ (y : ActSpec). y.index) (some-same h) in let k = each.0.index in omega (arith, e, k)
+index-at repositories brokers n (x ∷ acts) (suc i) a each h = let k = index-at repositories brokers (n + 1) acts i a each.1 h in omega (arith, k)
+
+one-index : (plan : Plan) → IsOfLanguage plan → (a b : ActSpec) → Has a plan.acts → Has b plan.acts → a.index ≡ b.index → a ≡ b
+one-index plan lang a b h k e =
+    let i = at-place plan.acts a h in
+    let j = at-place plan.acts b k in
+    let x = index-at plan.repositories plan.brokers 1 plan.acts i.0 a lang.acts i.1 in
+    let y = index-at plan.repositories plan.brokers 1 plan.acts j.0 b lang.acts j.1 in
+    let z : i.0 ≡ j.0 = omega (arith, x, y, e) in
+    some-same (sym i.1 ∙ (ap (slice_get plan.acts) z ∙ j.1))
+
+-- ---- acts that were begun
+
+-- each act that was begun is one of the tasks
+begun-task : (ts : List Task) (acts : List Act) (a : Act) → Started ts acts → Has a acts → Has a.task ts
+begun-task ts [] a s h = absurd h
+begun-task ts (x ∷ acts) a s (inl e) = has-place ts (length acts) a.task (s.1 ∙ ap (λ (y : Act). Some y.task) e)
+begun-task ts (x ∷ acts) a s (inr h) = begun-task ts acts a s.0 h
+
+-- each task before their number was begun
+task-begun : (ts : List Task) (acts : List Act) (i : ℕ) (t : Task) → Started ts acts → i < length acts → slice_get ts i ≡ Some t → (a : Act) × Has a acts × (a.task ≡ t)
+task-begun ts [] i t s lt h = absurd (omega (arith, lt))
+task-begun ts (x ∷ acts) i t s lt h = by (nat_lt i (length acts)) refl
+  where
+    by : (c : Bool) → nat_lt i (length acts) ≡ c → (a : Act) × Has a (x ∷ acts) × (a.task ≡ t)
+    by true e = let k = task-begun ts acts i t s.0 (grind (arith, nat_tests)) h in (k.0, inr k.1, k.2)
+    by false e =
+        let high : length acts ≤ i = grind (arith, nat_tests) in
+        let z : length acts ≡ i = omega (arith, high, lt) in
+        (x, inl refl, some-same (sym s.1 ∙ (ap (slice_get ts) z ∙ h)))
+
+-- the first act with an index is there
+first-begun : (i : ℕ) (acts : List Act) (a : Act) → Has a acts → a.task.index ≡ i → (b : Act) × (act_begun i acts ≡ Some b) × Has b acts × (b.task.index ≡ i)
+first-begun i [] a h e = absurd h
+first-begun i (x ∷ acts) a h e = by (x.task.index == i) refl
+  where
+    there : (x.task.index == i) ≡ false → Has a (x ∷ acts) → Has a acts
+    there f (inl q) = absurd (let z : true ≡ false = sym (eq-eqb x.task.index i (ap (λ (y : Act). y.task.index) q ∙ e)) ∙ f in cc z)
+    there f (inr k) = k
+
+    by : (c : Bool) → (x.task.index == i) ≡ c → (b : Act) × (act_begun i (x ∷ acts) ≡ Some b) × Has b (x ∷ acts) × (b.task.index ≡ i)
+    by true f = (x, ap (λ (t : Bool). if t then Some x else act_begun i acts) f, inl refl, eqb-true x.task.index i f)
+    by false f =
+        let k = first-begun i acts a (there f h) e in
+        (k.0, ap (λ (t : Bool). if t then Some x else act_begun i acts) f ∙ k.1, inr k.2, k.3)
+
+-- ---- how an act is shown
+
+last-shown : (script : List ℕ → Tree) (t : Try) (ts : List Try) → last_outcome (map (try_shown script) (reverse (t ∷ ts))) ≡ shown_end t.end
+last-shown script t ts =
+    ap last_outcome (ap (map (try_shown script)) (reverse-append (t ∷ []) ts) ∙ map-append (try_shown script) (reverse ts) (t ∷ []))
+    ∙ ap outcome_in (last-at (map (try_shown script) (reverse ts)) (try_shown script t))
+  where
+    behind : {A : Type 0} (xs : List A) (x : A) → slice_get (xs ++ x ∷ []) (length xs) ≡ Some x
+    behind [] x = refl
+    behind (y ∷ xs) x = behind xs x
+
+    last-at : {A : Type 0} (xs : List A) (x : A) → slice_get (xs ++ x ∷ []) (length (xs ++ x ∷ []) - 1) ≡ Some x
+    last-at xs x =
+        let n = length-append xs (x ∷ []) in
+        let z : length (xs ++ x ∷ []) - 1 ≡ length xs = omega (arith, n) in
+        ap (slice_get (xs ++ x ∷ [])) z ∙ behind xs x
+
+module _ (script : List ℕ → Tree) (a : ActSpec) (begun : Act) (allowed : begun.task.tries ≡ a.tries) where
+  abbrev shown : List TryReport
+  shown = map (try_shown script) (reverse begun.tries)
+
+  abbrev is_last : Bool
+  is_last = if nat_lt (length shown) a.tries then false else true
+
+  count : length shown ≡ length begun.tries
+  count = length-map (reverse begun.tries) (try_shown script) ∙ length-reverse begun.tries
+
+  last-one : begun.task.tries ≤ length begun.tries → is_last ≡ true
+  last-one h = by (nat_lt (length shown) a.tries) refl
+    where
+      by : (t : Bool) → nat_lt (length shown) a.tries ≡ t → (if t then false else true) ≡ true
+      by true e = absurd (let c = count in let lt : length shown < a.tries = grind (arith, nat_tests) in omega (arith, lt, c, h, allowed))
+      by false e = refl
+
+  final-after : (o : Outcome) → IsOver begun o → IsFinal (standing_after is_last (shown_end (Some o)))
+  final-after ended.Committed over = tt
+  final-after (ended.Withdrawn l) over = tt
+  final-after (ended.Failed l k) over = tt
+  final-after (ended.LaterRead o e) over = subst (λ (t : Bool). IsFinal (if t then standing.Refused else standing.Open)) (sym (last-one over)) tt
+  final-after (ended.LaterVersion o x) over = subst (λ (t : Bool). IsFinal (if t then standing.Refused else standing.Open)) (sym (last-one over)) tt
+  final-after (ended.Expired d m) over = absurd over
+  final-after (ended.Spent c) over = absurd over
+
+  finished-as : HasOutcome begun → IsFinished (act_with script a (Some begun))
+  finished-as h = by begun.spent refl
+    where
+      ended-as : HasOutcome begun → begun.spent ≡ None → IsFinal (standing_after is_last (last_outcome shown))
+      ended-as (inl k) none = absurd (let z : Some k.0 ≡ None = sym k.1 ∙ none in cc z)
+      ended-as (inr (t, ts, o, is, end, over)) none =
+          let e : last_outcome shown ≡ shown_end (Some o) = ap (λ (us : List Try). last_outcome (map (try_shown script) (reverse us))) is ∙ (last-shown script t ts ∙ ap shown_end end) in
+          subst (λ (x : TryOutcome). IsFinal (standing_after is_last x)) (sym e) (final-after o over)
+
+      by : (s : Option ℕ) → begun.spent ≡ s → IsFinished (act_with script a (Some begun))
+      by (Some c) e = subst (λ (x : Option ℕ). IsFinal (standing_where x is_last (last_outcome shown))) (sym e) tt
+      by None e = subst (λ (x : Option ℕ). IsFinal (standing_where x is_last (last_outcome shown))) (sym e) (ended-as h e)
+
+-- ---- a plan whose brokers are done
+
+broker-at : (repositories brokers n : ℕ) (acts : List ActSpec) (a : ActSpec) → EachAct repositories brokers n acts → Has a acts → InRange brokers a.broker
+broker-at repositories brokers n [] a each h = absurd h
+broker-at repositories brokers n (x ∷ acts) a each (inl e) = subst (λ (y : ActSpec). InRange brokers y.broker) e each.0.broker
+broker-at repositories brokers n (x ∷ acts) a each (inr h) = broker-at repositories brokers (n + 1) acts a each.1 h
+
+every-mapped : {A B : Type 0} (P : B → Type 0) (f : A → B) (xs : List A) → ((x : A) → Has x xs → P (f x)) → Every P (map f xs)
+every-mapped P f [] h = tt
+every-mapped P f (x ∷ xs) h = (h x (inl refl), every-mapped P f xs (λ y k. h y (inr k)))
+
+module _ (plan : Plan) (lang : IsOfLanguage plan) (logs : NodeId → List Effect) where
+  abbrev book_of : ℕ → Book
+  book_of b = counted_by plan b (logs (broker b))
+
+  -- an act as its broker began it
+  record IsBegunAs (a : ActSpec) (act : Act) : Type 0 where
+    found : act_begun a.index (begun_acts plan logs a.broker) ≡ Some act
+    tries : act.task.tries ≡ a.tries
+    here : Has act (book_of a.broker).acts
+
+  begun-as : (a : ActSpec) → Has a plan.acts → AllBegun plan a.broker (book_of a.broker) → (act : Act) × IsBegunAs a act
+  begun-as a h begun = by begun
+    where
+      b : ℕ
+      b = a.broker
+
+      ts : List Task
+      ts = tasks_of plan b
+
+      there : Has (task_of a) ts
+      there = has-map task_of (acts_of b plan.acts) a (has-filter (λ (x : ActSpec). x.broker == b) plan.acts a h (eq-eqb a.broker a.broker refl))
+
+      by : AllBegun plan a.broker (book_of a.broker) → (act : Act) × IsBegunAs a act
+      by (inl none) = absurd (subst (Has (task_of a)) none there)
+      by (inr (run, count)) =
+          let acts = (book_of b).acts in
+          let started = (sound-kept (reading plan.acts) b plan.run ts (reverse (logs (broker b)))).started run in
+          let i = at-place ts (task_of a) there in
+          let within = slice_get_within ts i.0 (task_of a) i.1 in
+          let k = task-begun ts acts i.0 (task_of a) started (omega (arith, within, count)) i.1 in
+          let f = first-begun a.index acts k.0 k.1 (ap (λ (t : Task). t.index) k.2) in
+          let m = has-mapped task_of (acts_of b plan.acts) f.0.task (begun-task ts acts f.0 started f.2) in
+          let one = one-index plan lang m.0 a (filter-has (λ (x : ActSpec). x.broker == b) plan.acts m.0 m.1) h (ap (λ (t : Task). t.index) m.2 ∙ f.3) in
+          (
+            f.0,
+            record {
+              found = ap (act_begun a.index) (ap (λ (t : Bool). if t then acts else []) (eq-eqb (book_of b).run plan.run run)) ∙ f.1;
+              tries = ap (λ (t : Task). t.tries) (sym m.2) ∙ ap (λ (x : ActSpec). x.tries) one;
+              here = f.2;
+            },
+          )
+
+  module _ (done : (b : ℕ) → InRange plan.brokers b → AllBegun plan b (book_of b) × Every HasOutcome (book_of b).acts) where
+    abbrev within : (a : ActSpec) → Has a plan.acts → InRange plan.brokers a.broker
+    within a h = broker-at plan.repositories plan.brokers 1 plan.acts a lang.acts h
+
+    pub all-finished : Every IsFinished (acts_shown plan logs)
+    all-finished = every-mapped IsFinished (act_shown plan logs) plan.acts (λ a h.
+        let d = done a.broker (within a h) in
+        let k = begun-as a h d.0 in
+        subst (λ (o : Option Act). IsFinished (act_with (reading plan.acts) a o)) (sym k.1.found) (finished-as (reading plan.acts) a k.0 k.1.tries (has-every HasOutcome (book_of a.broker).acts k.0 d.1 k.1.here)))
+
+    -- what holds of each attempt of each act that was begun holds of each that is shown
+    pub all-tries : (P : TryOutcome → Type 0) → ((b : ℕ) → InRange plan.brokers b → Every (λ (act : Act). Every (λ (t : Try). P (shown_end t.end)) act.tries) (book_of b).acts)
+        → Every (λ (a : ActReport). Every (λ (t : TryReport). P t.outcome) a.tries) (acts_shown plan logs)
+    all-tries P each = every-mapped _ (act_shown plan logs) plan.acts (λ a h.
+        let k = begun-as a h (done a.broker (within a h)).0 in
+        subst (λ (o : Option Act). Every (λ (t : TryReport). P t.outcome) (tries_shown (reading plan.acts) o)) (sym k.1.found)
+        (every-mapped (λ (t : TryReport). P t.outcome) (try_shown (reading plan.acts)) (reverse k.0.tries) (λ t is. has-every (λ (u : Try). P (shown_end u.end)) k.0.tries t (has-every (λ (act : Act). Every (λ (u : Try). P (shown_end u.end)) act.tries) (book_of a.broker).acts k.0 (each a.broker (within a h)) k.1.here) (unreversed k.0.tries t is))))
+      where
+        split : {A : Type 0} (xs ys : List A) (x : A) → Has x (xs ++ ys) → Has x xs ⊎ Has x ys
+        split [] ys x h = inr h
+        split (z ∷ xs) ys x (inl e) = inl (inl e)
+        split (z ∷ xs) ys x (inr h) = join (split xs ys x h)
+          where
+            join : Has x xs ⊎ Has x ys → Has x (z ∷ xs) ⊎ Has x ys
+            join (inl k) = inl (inr k)
+            join (inr k) = inr k
+
+        unreversed : {A : Type 0} (xs : List A) (x : A) → Has x (reverse xs) → Has x xs
+        unreversed [] x h = h
+        unreversed (y ∷ xs) x h = by (split (reverse xs) (y ∷ []) x (subst (Has x) (reverse-append (y ∷ []) xs) h))
+          where
+            by : Has x (reverse xs) ⊎ Has x (y ∷ []) → Has x (y ∷ xs)
+            by (inl k) = inr (unreversed xs x k)
+            by (inr (inl e)) = inl e
+            by (inr (inr e)) = absurd e
+
+-- where all are finished none is open
+pub none-open : (acts : List ActReport) → Every IsFinished acts → count_of standing.Open acts ≡ 0
+none-open [] h = refl
+none-open (a ∷ acts) h = by (standing_of a) refl h.0
+  where
+    skip : same standing.Open (standing_of a) ≡ false → count_of standing.Open (a ∷ acts) ≡ 0
+    skip e = ap (λ (t : Bool). length (cond t (a ∷ filter (λ (x : ActReport). same standing.Open (standing_of x)) acts) (filter (λ (x : ActReport). same standing.Open (standing_of x)) acts))) e ∙ none-open acts h.1
+
+    by : (s : Standing) → standing_of a ≡ s → IsFinal s → count_of standing.Open (a ∷ acts) ≡ 0
+    by standing.Committed e f = skip (ap (same standing.Open) e)
+    by standing.Withdrawn e f = skip (ap (same standing.Open) e)
+    by standing.Failed e f = skip (ap (same standing.Open) e)
+    by standing.Refused e f = skip (ap (same standing.Open) e)
+    by standing.Spent e f = skip (ap (same standing.Open) e)
+    by standing.Expired e f = absurd f
+    by standing.Open e f = absurd f
