@@ -1,5 +1,5 @@
 -- Each Tick of the conductor's story stands where some node isn't done.
-use Rattle.std.proofs.Common.{◌≡◌, ◌⊎◌, ◌+◌, ◌≤◌, ◌<◌, ◌==◌, ℕ, Bool, true, false, IsTrue, List, [], ◌∷◌, ◌++◌, length, inl, inr, refl, ap, sym, subst, ◌∙◌, arith}
+use Rattle.std.proofs.Common.{◌≡◌, ◌⊎◌, ◌+◌, ◌≤◌, ◌<◌, ◌==◌, ℕ, Bool, true, false, IsTrue, List, [], ◌∷◌, ◌++◌, length, inl, inr, refl, ap, sym, subst, ◌∙◌, append_assoc, arith}
 use Rattle.std.specs.Prelude.{cond, if◌then◌else◌}
 use Rattle.std.proofs.lemmas.Bool.Decides.{nat_tests}
 use Rattle.std.proofs.lemmas.List.{append-nil}
@@ -114,7 +114,7 @@ front-none (x ∷ xs) ys h = absurd cc
 
 between : (o : ℕ) (a c m own : List Entry) → Begins a c → Begins c m → entries_of owner_of o a ≡ own → entries_of owner_of o m ≡ own → entries_of owner_of o c ≡ own
 between o a c m own p q first last =
-    let whole : a ++ (p.0 ++ q.0) ≡ m = (begins-joins a c m p q).1 in
+    let whole : a ++ (p.0 ++ q.0) ≡ m = sym (append_assoc a p.0 q.0) ∙ (ap (λ l. l ++ q.0) p.1 ∙ q.1) in
     let all : own ++ entries_of owner_of o (p.0 ++ q.0) ≡ own =
     ap (λ l. l ++ entries_of owner_of o (p.0 ++ q.0)) (sym first) ∙ (sym (filter-append (λ e. owner_of e == o) a (p.0 ++ q.0)) ∙ (ap (entries_of owner_of o) whole ∙ last)) in
     let none : entries_of owner_of o p.0 ++ entries_of owner_of o q.0 ≡ [] = sym (filter-append (λ e. owner_of e == o) p.0 q.0) ∙ no-more own (entries_of owner_of o (p.0 ++ q.0)) all in
@@ -174,47 +174,48 @@ module _ {M : Type 0} where
         by (inl e) = subst (λ (l : List Entry). SomeNode (IsLateAfter b l) after) (sym e) late
         by (inr p) = wanted-same old found nodes after begins same names wanted front moment p.0 p.1
 
-module _ {M Q A : Type 0} (lock : LockTable WireParts (View WireParts Entry) (Founding WireParts) Q A) where
-  abbrev base : Base
-  base = base_from (lock_base lock).origin
+-- what a walk over the entries of a lock's wire begins with
+abbrev pub wire_base : {Q A : Type 0} → LockTable WireParts (View WireParts Entry) (Founding WireParts) Q A → Base
+wire_base lock = base_from (lock_base lock).origin
 
+module _ {M Q A : Type 0} (lock : LockTable WireParts (View WireParts Entry) (Founding WireParts) Q A) where
   -- before the first Tick
-  pub first-wanted : (k : Sight) (nodes : Shares M) → k.owner ≡ 0 → Owns k → tick_count k.own ≡ 0 → TicksAreWanted base k.story nodes
-  first-wanted k nodes conductor owns none = let s = story-ticks k conductor owns in wanted-none base k.story nodes (omega (arith, s, none))
+  pub first-wanted : (k : Sight) (nodes : Shares M) → k.owner ≡ 0 → Owns k → tick_count k.own ≡ 0 → TicksAreWanted (wire_base lock) k.story nodes
+  first-wanted k nodes conductor owns none = let s = story-ticks k conductor owns in wanted-none (wire_base lock) k.story nodes (omega (arith, s, none))
 
   -- where the conductor only looked
-  pub still-wanted : (old new : Sight) (nodes after : Shares M) → old.owner ≡ 0 → Owns old → Owns new → SeesMore 0 old new → EachPlace SameName nodes after → TicksAreWanted base old.story nodes → TicksAreWanted base new.story after
+  pub still-wanted : (old new : Sight) (nodes after : Shares M) → old.owner ≡ 0 → Owns old → Owns new → SeesMore 0 old new → EachPlace SameName nodes after → TicksAreWanted (wire_base lock) old.story nodes → TicksAreWanted (wire_base lock) new.story after
   still-wanted old new nodes after conductor first last more names wanted =
       let a = story-ticks old conductor first in
       let c = story-ticks new (more.owner ∙ conductor) last in
       let t = more.ticked in
-      wanted-same base old.story new.story nodes after more.begins (omega (arith, a, c, t)) names wanted
+      wanted-same (wire_base lock) old.story new.story nodes after more.begins (omega (arith, a, c, t)) names wanted
 
   module _ (tells : Bool) (told : IsTrue tells) where
     -- a node that wasn't done when a Tick was added, and met the conductor before and behind it, isn't done where the Tick stands
     abbrev WasLate : List Entry → NodeParts M → NodeParts M → Type 0
     WasLate met x y = (IsLate tells x × HasPass lock x × HasAllOf met x) × HasMet x y
 
-    late-at : (met found asked : List Entry) (x y : NodeParts M) → Begins met found → Begins found asked → WasLate met x y → HasSeen asked y → IsLateAfter base found y
+    late-at : (met found asked : List Entry) (x y : NodeParts M) → Begins met found → Begins found asked → WasLate met x y → HasSeen asked y → IsLateAfter (wire_base lock) found y
     late-at met found asked x y front back (late, h) seen =
         let k = sight x in
         let own = between k.owner k.story found (sight y).story k.own (begins-joins k.story met found late.2.begins front) (begins-joins found asked (sight y).story back seen) late.2.all h.looked.before.carries.own in
-        let car = record { begins = begins-joins k.story met found late.2.begins front; own = own } in
-        let at : base_at k ≡ base = ap base_from (sym (pass-origin lock x.pass late.1.of_lock)) in
-        subst (λ (m : NodeId). is_done_after base found m ≡ false) (sym h.node) (done-whole k x.node found base late.0.0 late.1.own car at ∙ late.0.1 told)
+        let car : CarriesOn owner_of k found = record { begins = begins-joins k.story met found late.2.begins front; own = own } in
+        let at : base_at k ≡ (wire_base lock) = ap base_from (sym (pass-origin lock x.pass late.1.of_lock)) in
+        subst (λ (m : NodeId). is_done_after (wire_base lock) found m ≡ false) (sym h.node) (done-whole k x.node found (wire_base lock) late.0.0 late.1.own car at ∙ late.0.1 told)
 
     late-after : (met found asked : List Entry) (mid after : Shares M) → Begins met found → Begins found asked → SomeNode (IsLate tells) mid → EachNode (HasPass lock) mid → EachNode (HasAllOf met) mid → EachPlace HasMet mid after
-        → EachNode (HasSeen asked) after → SomeNode (IsLateAfter base found) after
+        → EachNode (HasSeen asked) after → SomeNode (IsLateAfter (wire_base lock) found) after
     late-after met found asked mid after front back late passes all meets seen =
-        some-both (λ y. (x : NodeParts M) × WasLate met x y) (HasSeen asked) (IsLateAfter base found) (λ y w s. late-at met found asked w.0 y front back w.1 s) after
-        (some-through (λ x. IsLate tells x × HasPass lock x × HasAllOf met x) HasMet (λ y. (x : NodeParts M) × WasLate met x y) (λ x y p m. (x, p, m)) mid after
+        some-both (λ y. (x : NodeParts M) × WasLate met x y) (HasSeen asked) (IsLateAfter (wire_base lock) found) (λ y w s. late-at met found asked w.0 y front back w.1 s) after
+        (some-through (λ x. IsLate tells x × HasPass lock x × HasAllOf met x) HasMet (λ y. (x : NodeParts M) × WasLate met x y) (λ x y p m. (x, (p, m))) mid after
         (some-both (IsLate tells) (λ x. HasPass lock x × HasAllOf met x) (λ x. IsLate tells x × HasPass lock x × HasAllOf met x) (λ x l p. (l, p.0, p.1)) mid late (each-both (HasPass lock) (HasAllOf met) (λ x. HasPass lock x × HasAllOf met x) (λ x p h. (p, h)) mid passes all)) meets)
         seen
 
     -- a round with a Tick
     pub round-wanted : (old met asked new : Sight) (begun mid after : Shares M) → old.owner ≡ 0 → Owns old → Owns new → Looked old met → HasTicked met asked → SeesMore 1 met asked → Looked asked new
         → SomeNode (IsLate tells) mid → EachNode (HasPass lock) mid → EachNode (HasAllOf met.story) mid → EachPlace HasMet mid after → EachNode (HasSeen asked.story) after
-        → EachPlace SameName begun after → TicksAreWanted base old.story begun → TicksAreWanted base new.story after
+        → EachPlace SameName begun after → TicksAreWanted (wire_base lock) old.story begun → TicksAreWanted (wire_base lock) new.story after
     round-wanted old met asked new begun mid after conductor first last look t more again late passes all meets seen names wanted =
         let a = story-ticks old conductor first in
         let found = ticks-whole met t.found (looked-owner look ∙ conductor) t.carries in
@@ -222,7 +223,7 @@ module _ {M Q A : Type 0} (lock : LockTable WireParts (View WireParts Entry) (Fo
         let c = story-ticks new (looked-owner again ∙ (more.owner ∙ (looked-owner look ∙ conductor))) last in
         let d = ap tick_count (looked-own again) in
         let one = more.ticked in
-        wanted-ticked base old.story t.found new.story t.moment begun after
+        wanted-ticked (wire_base lock) old.story t.found new.story t.moment begun after
         (begins-joins old.story met.story t.found look.before.carries.begins t.carries.begins) (omega (arith, a, found, own))
         (begins-joins (t.found ++ Tick t.moment ∷ []) asked.story new.story t.begins again.before.carries.begins) (omega (arith, c, d, one, found)) names wanted
         (late-after met.story t.found asked.story mid after t.carries.begins (front-of t.found t.moment asked.story t.begins) late passes all meets seen)

@@ -44,6 +44,10 @@ module _ (b : Base) (fates : List Fate) where
   unfolding Meets
   rest-meets w e es h = h.1
 
+  one-step : (w : World) (e : Entry) (n : NodeId) → (walk_from b w (e ∷ [])).life n ≡ (step b w e).life n
+  unfolding walk_from
+  one-step w e n = refl
+
   down-life : (w : World) (n : NodeId) (cause : DownCause) → (step b w (Down n cause)).life n ≡ w.life n
   down-life w n cause = by (same_node n n && (w.flags n).known)
     where
@@ -56,12 +60,8 @@ module _ (b : Base) (fates : List Fate) where
   life-down front rest n cause known meets =
       ap (λ (es : List Entry). (walk b es).life n) (sym (append_assoc front (Down n cause ∷ []) rest))
       ∙ (same-life b (front ++ Down n cause ∷ []) rest n none
-      ∙ (ap (λ (w : World). w.life n) (walk-append b (start_world b) front (Down n cause ∷ [])) ∙ (one (walk b front) ∙ down-life (walk b front) n cause)))
+      ∙ (ap (λ (w : World). w.life n) (walk-append b (start_world b) front (Down n cause ∷ [])) ∙ (one-step (walk b front) (Down n cause) n ∙ down-life (walk b front) n cause)))
     where
-      one : (w : World) → (walk_from b w (Down n cause ∷ [])).life n ≡ (step b w (Down n cause)).life n
-      unfolding walk_from
-      one w = refl
-
       behind : Meets b fates (step b (walk b front) (Down n cause)) rest
       behind = rest-meets (walk b front) (Down n cause) rest (meets-behind (start_world b) front (Down n cause ∷ rest) meets)
 

@@ -42,13 +42,13 @@ admitted-more log place (Ok found) more h = go (same_back found.0.1 (back_in log
 log-more : (n : ℕ) (log : Log) (page end : ℕ) (bytes : List ℕ) (more : Log) → log_at n log page end bytes ≡ Some more → length log ≤ length more
 log-more n log page end [] more h = let e : length log ≡ length more = ap (λ (l : Log). length l) (some-same h) in omega (arith, e)
 log-more zero log page end (b ∷ bytes) more h = absurd cc
-log-more (suc n) log page end (b ∷ bytes) more h = go (admitted log (place_before page end (length (b ∷ bytes))) (effect_at (b ∷ bytes))) refl h
+log-more (suc n) log page end (b ∷ bytes) more h = go (λ l rest k. log-more n l page end rest more k) (admitted log (place_before page end (length (b ∷ bytes))) (effect_at (b ∷ bytes))) refl h
   where
-    go : (o : Option (Log × List ℕ)) → admitted log (place_before page end (length (b ∷ bytes))) (effect_at (b ∷ bytes)) ≡ o → (o >>= λ m. log_at n m.0 page end m.1) ≡ Some more → length log ≤ length more
-    go None e k = absurd cc
-    go (Some m) e k =
+    go : ((l : Log) (rest : List ℕ) → log_at n l page end rest ≡ Some more → length l ≤ length more) → (o : Option (Log × List ℕ)) → admitted log (place_before page end (length (b ∷ bytes))) (effect_at (b ∷ bytes)) ≡ o → (o >>= λ m. log_at n m.0 page end m.1) ≡ Some more → length log ≤ length more
+    go next None e k = absurd cc
+    go next (Some m) e k =
         let one = admitted-more log (place_before page end (length (b ∷ bytes))) (effect_at (b ∷ bytes)) m e in
-        let rest = log-more n m.0 page end m.1 more k in
+        let rest = next m.0 m.1 k in
         omega (arith, one, rest)
 
 log-some : (log : Log) (page end : ℕ) (texts : List ℕ) (more : Log) → 1 ≤ length texts → log_at (length texts) log page end texts ≡ Some more → length log + 1 ≤ length more
@@ -122,18 +122,18 @@ state-else p e = ap (λ (t : Bool). if t then Blank else if slice_index p 0 == 1
 -- behind a blank page all are blank
 ended : (n : ℕ) (c : Content) (pages : Image) (log : Log) → finish (scan (Ended c) n pages) ≡ Ok log → (length pages ≤ count_by is_blank pages) × (c.log ≡ log)
 ended n c [] log h = (omega arith, ok-same h)
-ended n c (p ∷ pages) log h = by (is_blank p) refl
+ended n c (p ∷ pages) log h = by (λ k. ended (n + 1) c pages log k) (is_blank p) refl
   where
     now : PageState → Type 0
     now s = finish (scan (next (Ended c) n s) (n + 1) pages) ≡ Ok log
 
-    by : (t : Bool) → is_blank p ≡ t → (length (p ∷ pages) ≤ count_by is_blank (p ∷ pages)) × (c.log ≡ log)
-    by true e =
-        let rest = ended (n + 1) c pages log (subst now (state-blank p e) h) in
+    by : (finish (scan (Ended c) (n + 1) pages) ≡ Ok log → (length pages ≤ count_by is_blank pages) × (c.log ≡ log)) → (t : Bool) → is_blank p ≡ t → (length (p ∷ pages) ≤ count_by is_blank (p ∷ pages)) × (c.log ≡ log)
+    by behind true e =
+        let rest = behind (subst now (state-blank p e) h) in
         let few = rest.0 in
         let one = blank-more p pages ∙ ap (λ (t : Bool). cond t 1 0 + count_by is_blank pages) e in
         (omega (arith, few, one), rest.1)
-    by false e = gate (slice_index p 0 == 165) (subst now (state-else p e) h)
+    by behind false e = gate (slice_index p 0 == 165) (subst now (state-else p e) h)
       where
         gate : (g : Bool) → now (if g then Gated (drop 1 p) else Spoiled) → (length (p ∷ pages) ≤ count_by is_blank (p ∷ pages)) × (c.log ≡ log)
         gate true k = absurd (fails n (n + 1) pages log k)
@@ -144,19 +144,19 @@ IsClean page = state_of page ≢ Spoiled
 
 going : (n : ℕ) (c : Content) (pages : Image) (log : Log) → Every IsClean pages → finish (scan (Going c) n pages) ≡ Ok log → length pages + length c.log ≤ count_by is_blank pages + length log
 going n c [] log clean h = let e : length c.log ≡ length log = ap (λ (l : Log). length l) (ok-same h) in omega (arith, e)
-going n c (p ∷ pages) log clean h = by (is_blank p) refl
+going n c (p ∷ pages) log clean h = by (λ more k. going (n + 1) (content_of more) pages log clean.1 k) (is_blank p) refl
   where
     now : PageState → Type 0
     now s = finish (scan (next (Going c) n s) (n + 1) pages) ≡ Ok log
 
-    by : (t : Bool) → is_blank p ≡ t → length (p ∷ pages) + length c.log ≤ count_by is_blank (p ∷ pages) + length log
-    by true e =
+    by : ((more : Log) → finish (scan (Going (content_of more)) (n + 1) pages) ≡ Ok log → length pages + length more ≤ count_by is_blank pages + length log) → (t : Bool) → is_blank p ≡ t → length (p ∷ pages) + length c.log ≤ count_by is_blank (p ∷ pages) + length log
+    by next-page true e =
         let rest = ended (n + 1) c pages log (subst now (state-blank p e) h) in
         let few = rest.0 in
         let same : length c.log ≡ length log = ap (λ (l : Log). length l) rest.1 in
         let one = blank-more p pages ∙ ap (λ (t : Bool). cond t 1 0 + count_by is_blank pages) e in
         omega (arith, few, one, same)
-    by false e = gate (slice_index p 0 == 165) refl (subst now (state-else p e) h)
+    by next-page false e = gate (slice_index p 0 == 165) refl (subst now (state-else p e) h)
       where
         none : count_by is_blank (p ∷ pages) ≡ 0 + count_by is_blank pages
         none = blank-more p pages ∙ ap (λ (t : Bool). cond t 1 0 + count_by is_blank pages) e
@@ -164,7 +164,7 @@ going n c (p ∷ pages) log clean h = by (is_blank p) refl
         texts : (o : Option Log) → log_with c.log n (texts_of (drop 1 p)) ≡ o → finish (scan (going_or_damaged n o) (n + 1) pages) ≡ Ok log → length (p ∷ pages) + length c.log ≤ count_by is_blank (p ∷ pages) + length log
         texts None i k = absurd (fails n (n + 1) pages log k)
         texts (Some more) i k =
-            let rest = going (n + 1) (content_of more) pages log clean.1 k in
+            let rest = next-page more k in
             let grew = with-some c.log n (drop 1 p) more i in
             omega (arith, rest, grew, none)
 

@@ -275,8 +275,8 @@ module _ {M : Type 0} (w : Media M) (told : IsTrue w.tells) (most_ticks enough m
   no-unopened : IsUnopened plan t → ⊥
   no-unopened h = all-opened h.0 h.1 h.2
 
-  ended : HasEnded most_ticks enough plan t
-  ended = by (ran.over told)
+  has-ended : HasEnded most_ticks enough plan t
+  has-ended = by (ran.over told)
     where
       by : HasEnded most_ticks enough plan t ⊎ IsUnopened plan t → HasEnded most_ticks enough plan t
       by (inl h) = h
@@ -295,7 +295,7 @@ module _ {M : Type 0} (w : Media M) (told : IsTrue w.tells) (most_ticks enough m
       undamaged node page p (cause-here front node (down.Damaged page) rest is p)
   may-stop front (Down node (down.Full pages)) rest is quiet = absurd (unfilled front node pages rest is quiet)
   may-stop front (Tick moment) rest is quiet = λ all.
-      let late = ended.wanted front moment rest is in
+      let late = has-ended.wanted front moment rest is in
       let z : true ≡ false = sym (all late.0 (from-within plan.brokers late.0 late.1)) ∙ late.2 in
       cc z
 
@@ -318,7 +318,7 @@ module _ {M : Type 0} (w : Media M) (told : IsTrue w.tells) (most_ticks enough m
           move (Down node (down.Full pages)) h = h
           move (Tick moment) h = h
 
-      abbrev Stops : CalmRun → Type 0
+      Stops : CalmRun → Type 0
       Stops r = (front rest : List Entry) (here : r.trace.entries ≡ front ++ rest) (quiet : Every IsQuiet front) (e : Entry) (more : List Entry) → rest ≡ e ∷ more → MayStop (most_effects run most) (record { run = r; front = front; rest = rest; here = here; quiet = quiet }) e
 
       at : (r : CalmRun) → run ≡ r → Stops r
@@ -330,7 +330,7 @@ module _ {M : Type 0} (w : Media M) (told : IsTrue w.tells) (most_ticks enough m
   end = record { run = run; front = t.entries; rest = []; here = sym (append-nil t.entries); quiet = whole-quiet }
 
   all-done : AllDone end
-  all-done = by ended.why
+  all-done = by has-ended.why
     where
       by : (some_down t.entries ≡ true) ⊎ (ends.AllDone plan t ⊎ ((enough ≤ length t.sent) ⊎ ends.HasRunOut most_ticks plan t)) → AllDone end
       by (inl d) = absurd (let z : true ≡ false = sym d ∙ none-down t.entries whole-quiet in cc z)
@@ -354,7 +354,7 @@ module _ {M : Type 0} (w : Media M) (told : IsTrue w.tells) (most_ticks enough m
 
   done-each : (b : ℕ) → InRange plan.brokers b → AllBegun plan b (counted_by plan b (gated_log plan t (broker b))) × Every HasOutcome (counted_by plan b (gated_log plan t (broker b))).acts
   done-each b within =
-      subst (λ (k : Book). AllBegun plan b k × Every HasOutcome k.acts) (all-durable b within) (begun-by plan b (book_at end b) _ (all-done b within), outcomes end all-done b)
+      subst (λ (k : Book). AllBegun plan b k × Every HasOutcome k.acts) (all-durable b within) (begun-by plan b (book_at end b) ((calm.world_at end).life (broker b)).mind.heard (all-done b within), outcomes end all-done b)
 
   -- the run is complete
   pub complete : IsComplete plan t

@@ -64,6 +64,26 @@ has-mapped f [] y h = absurd h
 has-mapped f (x ∷ xs) y (inl e) = (x, inl refl, e)
 has-mapped f (x ∷ xs) y (inr h) = let k = has-mapped f xs y h in (k.0, inr k.1, k.2)
 
+-- ---- lists the other way round
+
+split : {A : Type 0} (xs ys : List A) (x : A) → Has x (xs ++ ys) → Has x xs ⊎ Has x ys
+split [] ys x h = inr h
+split (z ∷ xs) ys x (inl e) = inl (inl e)
+split (z ∷ xs) ys x (inr h) = join (split xs ys x h)
+  where
+    join : Has x xs ⊎ Has x ys → Has x (z ∷ xs) ⊎ Has x ys
+    join (inl k) = inl (inr k)
+    join (inr k) = inr k
+
+unreversed : {A : Type 0} (xs : List A) (x : A) → Has x (reverse xs) → Has x xs
+unreversed [] x h = h
+unreversed (y ∷ xs) x h = by (λ k. unreversed xs x k) (split (reverse xs) (y ∷ []) x (subst (Has x) (reverse-append (y ∷ []) xs) h))
+  where
+    by : (Has x (reverse xs) → Has x xs) → Has x (reverse xs) ⊎ Has x (y ∷ []) → Has x (y ∷ xs)
+    by front (inl k) = inr (front k)
+    by front (inr (inl e)) = inl e
+    by front (inr (inr e)) = absurd e
+
 -- ---- acts of a plan
 
 -- an act stands where its index says
@@ -92,11 +112,11 @@ begun-task ts (x ∷ acts) a s (inr h) = begun-task ts acts a s.0 h
 -- each task before their number was begun
 task-begun : (ts : List Task) (acts : List Act) (i : ℕ) (t : Task) → Started ts acts → i < length acts → slice_get ts i ≡ Some t → (a : Act) × Has a acts × (a.task ≡ t)
 task-begun ts [] i t s lt h = absurd (omega (arith, lt))
-task-begun ts (x ∷ acts) i t s lt h = by (nat_lt i (length acts)) refl
+task-begun ts (x ∷ acts) i t s lt h = by (λ below. task-begun ts acts i t s.0 below h) (nat_lt i (length acts)) refl
   where
-    by : (c : Bool) → nat_lt i (length acts) ≡ c → (a : Act) × Has a (x ∷ acts) × (a.task ≡ t)
-    by true e = let k = task-begun ts acts i t s.0 (grind (arith, nat_tests)) h in (k.0, inr k.1, k.2)
-    by false e =
+    by : (i < length acts → (a : Act) × Has a acts × (a.task ≡ t)) → (c : Bool) → nat_lt i (length acts) ≡ c → (a : Act) × Has a (x ∷ acts) × (a.task ≡ t)
+    by before true e = let k = before (grind (arith, nat_tests)) in (k.0, inr k.1, k.2)
+    by before false e =
         let high : length acts ≤ i = grind (arith, nat_tests) in
         let z : length acts ≡ i = omega (arith, high, lt) in
         (x, inl refl, some-same (sym s.1 ∙ (ap (slice_get ts) z ∙ h)))
@@ -104,16 +124,16 @@ task-begun ts (x ∷ acts) i t s lt h = by (nat_lt i (length acts)) refl
 -- the first act with an index is there
 first-begun : (i : ℕ) (acts : List Act) (a : Act) → Has a acts → a.task.index ≡ i → (b : Act) × (act_begun i acts ≡ Some b) × Has b acts × (b.task.index ≡ i)
 first-begun i [] a h e = absurd h
-first-begun i (x ∷ acts) a h e = by (x.task.index == i) refl
+first-begun i (x ∷ acts) a h e = by (λ k. first-begun i acts a k e) (x.task.index == i) refl
   where
     there : (x.task.index == i) ≡ false → Has a (x ∷ acts) → Has a acts
     there f (inl q) = absurd (let z : true ≡ false = sym (eq-eqb x.task.index i (ap (λ (y : Act). y.task.index) q ∙ e)) ∙ f in cc z)
     there f (inr k) = k
 
-    by : (c : Bool) → (x.task.index == i) ≡ c → (b : Act) × (act_begun i (x ∷ acts) ≡ Some b) × Has b (x ∷ acts) × (b.task.index ≡ i)
-    by true f = (x, ap (λ (t : Bool). if t then Some x else act_begun i acts) f, inl refl, eqb-true x.task.index i f)
-    by false f =
-        let k = first-begun i acts a (there f h) e in
+    by : (Has a acts → (b : Act) × (act_begun i acts ≡ Some b) × Has b acts × (b.task.index ≡ i)) → (c : Bool) → (x.task.index == i) ≡ c → (b : Act) × (act_begun i (x ∷ acts) ≡ Some b) × Has b (x ∷ acts) × (b.task.index ≡ i)
+    by later true f = (x, ap (λ (t : Bool). if t then Some x else act_begun i acts) f, inl refl, eqb-true x.task.index i f)
+    by later false f =
+        let k = later (there f h) in
         (k.0, ap (λ (t : Bool). if t then Some x else act_begun i acts) f ∙ k.1, inr k.2, k.3)
 
 -- ---- how an act is shown
@@ -242,38 +262,20 @@ module _ (plan : Plan) (lang : IsOfLanguage plan) (logs : NodeId → List Effect
         let k = begun-as a h (done a.broker (within a h)).0 in
         subst (λ (o : Option Act). Every (λ (t : TryReport). P t.outcome) (tries_shown (reading plan.acts) o)) (sym k.1.found)
         (every-mapped (λ (t : TryReport). P t.outcome) (try_shown (reading plan.acts)) (reverse k.0.tries) (λ t is. has-every (λ (u : Try). P (shown_end u.end)) k.0.tries t (has-every (λ (act : Act). Every (λ (u : Try). P (shown_end u.end)) act.tries) (book_of a.broker).acts k.0 (each a.broker (within a h)) k.1.here) (unreversed k.0.tries t is))))
-      where
-        split : {A : Type 0} (xs ys : List A) (x : A) → Has x (xs ++ ys) → Has x xs ⊎ Has x ys
-        split [] ys x h = inr h
-        split (z ∷ xs) ys x (inl e) = inl (inl e)
-        split (z ∷ xs) ys x (inr h) = join (split xs ys x h)
-          where
-            join : Has x xs ⊎ Has x ys → Has x (z ∷ xs) ⊎ Has x ys
-            join (inl k) = inl (inr k)
-            join (inr k) = inr k
-
-        unreversed : {A : Type 0} (xs : List A) (x : A) → Has x (reverse xs) → Has x xs
-        unreversed [] x h = h
-        unreversed (y ∷ xs) x h = by (split (reverse xs) (y ∷ []) x (subst (Has x) (reverse-append (y ∷ []) xs) h))
-          where
-            by : Has x (reverse xs) ⊎ Has x (y ∷ []) → Has x (y ∷ xs)
-            by (inl k) = inr (unreversed xs x k)
-            by (inr (inl e)) = inl e
-            by (inr (inr e)) = absurd e
 
 -- where all are finished none is open
 pub none-open : (acts : List ActReport) → Every IsFinished acts → count_of standing.Open acts ≡ 0
 none-open [] h = refl
-none-open (a ∷ acts) h = by (standing_of a) refl h.0
+none-open (a ∷ acts) h = by (none-open acts h.1) (standing_of a) refl h.0
   where
-    skip : same standing.Open (standing_of a) ≡ false → count_of standing.Open (a ∷ acts) ≡ 0
-    skip e = ap (λ (t : Bool). length (cond t (a ∷ filter (λ (x : ActReport). same standing.Open (standing_of x)) acts) (filter (λ (x : ActReport). same standing.Open (standing_of x)) acts))) e ∙ none-open acts h.1
+    skip : count_of standing.Open acts ≡ 0 → same standing.Open (standing_of a) ≡ false → count_of standing.Open (a ∷ acts) ≡ 0
+    skip rest e = ap (λ (t : Bool). length (cond t (a ∷ filter (λ (x : ActReport). same standing.Open (standing_of x)) acts) (filter (λ (x : ActReport). same standing.Open (standing_of x)) acts))) e ∙ rest
 
-    by : (s : Standing) → standing_of a ≡ s → IsFinal s → count_of standing.Open (a ∷ acts) ≡ 0
-    by standing.Committed e f = skip (ap (same standing.Open) e)
-    by standing.Withdrawn e f = skip (ap (same standing.Open) e)
-    by standing.Failed e f = skip (ap (same standing.Open) e)
-    by standing.Refused e f = skip (ap (same standing.Open) e)
-    by standing.Spent e f = skip (ap (same standing.Open) e)
-    by standing.Expired e f = absurd f
-    by standing.Open e f = absurd f
+    by : count_of standing.Open acts ≡ 0 → (s : Standing) → standing_of a ≡ s → IsFinal s → count_of standing.Open (a ∷ acts) ≡ 0
+    by rest standing.Committed e f = skip rest (ap (same standing.Open) e)
+    by rest standing.Withdrawn e f = skip rest (ap (same standing.Open) e)
+    by rest standing.Failed e f = skip rest (ap (same standing.Open) e)
+    by rest standing.Refused e f = skip rest (ap (same standing.Open) e)
+    by rest standing.Spent e f = skip rest (ap (same standing.Open) e)
+    by rest standing.Expired e f = absurd f
+    by rest standing.Open e f = absurd f

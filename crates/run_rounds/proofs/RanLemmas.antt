@@ -115,7 +115,7 @@ module _ {M Q A : Type 0} (w : Media M) (limits : Limits) (plan : Plan) (lock : 
           let long = along-long (At w plan origin (Known w plan lock t)) 0 first gone.nodes stood.along in
           let count = stood.count in
           let h = along-at (At w plan origin (Known w plan lock t)) 0 first gone.nodes i stood.along (omega (arith, lt, long)) in
-          let same : h.1 ≡ p = sym (get_or_from_slice_get gone.nodes i p h.1 h.3) ∙ is in
+          let same : h.1 ≡ p = sym (get_or_from_slice_get gone.nodes i h.1 p h.3) ∙ is in
           let name : h.1.node ≡ node_at plan (0 + i) = h.4.2.name in
           subst (λ (q : NodeParts M). in_plan plan q.node ≡ true) same
           (subst (λ (m : NodeId). in_plan plan m ≡ true) (sym name) (in-at plan (0 + i) (omega (arith, lt, long, count))))

@@ -15,6 +15,7 @@ use Rattle.plan_form.specs.PlanTexts.{IsOfLanguage}
 use Rattle.broker_core.specs.Book.{book}
 use Rattle.broker_core.specs.Fits.{keep, other_plan, plan_fault}
 use Rattle.broker_core.specs.declared.resume_faults.ResumeFault.{ResumeFault}
+use Rattle.broker_core.specs.declared.resume_faults.ResumeFault.TheVariants as resuming
 use Rattle.world_core.specs.declared.traces.Trace.{Trace}
 use Rattle.world_core.specs.Legal.{in_plan}
 use Rattle.trace_report.specs.Reports.{open_acts}
@@ -48,7 +49,7 @@ none-refused : (plan : Plan) (b : ℕ) → fault_in plan (broker b) [] ≡ None
 unfolding keep book other_plan
 none-refused plan b = by (nat_lt plan.run 0) (grind (arith, nat_tests)) (0 == plan.run)
   where
-    by : (t : Bool) → t ≡ false → (u : Bool) → (if t then _ else (if u then plan_fault None else None)) ≡ None
+    by : (t : Bool) → t ≡ false → (u : Bool) → (if t then Some (resuming.OldRun 0) else (if u then plan_fault None else None)) ≡ None
     by true e u = absurd cc
     by false e true = refl
     by false e false = refl
@@ -79,10 +80,13 @@ module _ {M : Type 0} (w : Media M) (old new : ShelfSight) (plan : Plan) where
   inner-some None m e = absurd cc
   inner-some (Some x) m e = ap (λ (y : Option M). Some y) e
 
+  first-at : (n : NodeId) → in_plan plan n ≡ true → node_at plan (0 + place_of plan n) ≡ n
+  first-at n is = let z : 0 + place_of plan n ≡ place_of plan n = omega arith in ap (node_at plan) z ∙ (at-place plan n is).1
+
   module _ (o : Options) (told : Tellers) (media left : List (Option M)) (taken : WereTaken w old new plan media) (tells : IsTrue w.tells) where
     -- the medium of a node of the plan, as it was taken
     taken-of : (n : NodeId) (m : M) → in_plan plan n ≡ true → medium_at plan media n ≡ Some m → IsTaken w old n m
-    taken-of n m is e = subst (λ (k : NodeId). IsTaken w old k m) (at-place plan n is).1 (taken-at 0 media (place_of plan n) m taken.are (inner-some (slice_get media (place_of plan n)) m e))
+    taken-of n m is e = subst (λ (k : NodeId). IsTaken w old k m) (first-at n is) (taken-at 0 media (place_of plan n) m taken.are (inner-some (slice_get media (place_of plan n)) m e))
 
     module _ (t : Trace) (s : Sinking) (most : ℕ) (smooth : IsSmooth {M = M} w old new (kept_from plan 0 left) plan o (account_of t told) s most) where
       blank-of : (n : NodeId) (m : M) → in_plan plan n ≡ true → medium_at plan media n ≡ Some m → IsBlankImage (w.reads m)
@@ -115,7 +119,7 @@ module _ {M : Type 0} (w : Media M) (old new : ShelfSight) (plan : Plan) where
 
         kept-of : (n : NodeId) (m : M) → in_plan plan n ≡ true → medium_at plan left n ≡ Some m → Has (record { node = n; volume = 0; medium = m }) (kept_from {M = M} plan 0 left)
         kept-of n m is e =
-            subst (λ (k : NodeId). Has (record { node = k; volume = 0; medium = m }) (kept_from {M = M} plan 0 left)) (at-place plan n is).1 (kept-has plan 0 left (place_of plan n) m (inner-some (slice_get left (place_of plan n)) m e))
+            subst (λ (k : NodeId). Has (record { node = k; volume = 0; medium = m }) (kept_from {M = M} plan 0 left)) (first-at n is) (kept-has plan 0 left (place_of plan n) m (inner-some (slice_get left (place_of plan n)) m e))
 
         smooth-run : IsSmoothRun w most o.messages plan t media left
         smooth-run = record {
