@@ -336,10 +336,10 @@ module _ {M : Type 0} (w : Media M) (told : IsTrue w.tells) (most_ticks enough m
       by (inl d) = absurd (let z : true ≡ false = sym d ∙ none-down t.entries whole-quiet in cc z)
       by (inr (inl d)) = λ b within. d b (to-within plan.brokers b within)
       by (inr (inr (inl many))) = absurd (
-        let few = few-messages end most smooth.asks in
-        let bound = smooth.few in
-        let sent : length t.sent ≡ length (calm.sent_at end) = sym (length-map t.sent post_of) ∙ ap length legal.sent in
-        omega (arith, many, few, bound, sent))
+          let few = few-messages end most smooth.asks in
+          let bound = smooth.few in
+          let sent : length t.sent ≡ length (calm.sent_at end) = sym (length-map t.sent post_of) ∙ ap length legal.sent in
+          omega (arith, many, few, bound, sent))
       by (inr (inr (inr out))) = never-stuck end out.0
 
   -- nothing is open

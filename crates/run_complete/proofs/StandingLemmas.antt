@@ -235,8 +235,7 @@ module _ (plan : Plan) (lang : IsOfLanguage plan) (logs : NodeId → List Effect
           let k = task-begun ts acts i.0 (task_of a) started (omega (arith, within, count)) i.1 in
           let f = first-begun a.index acts k.0 k.1 (ap (λ (t : Task). t.index) k.2) in
           let m = has-mapped task_of (acts_of b plan.acts) f.0.task (begun-task ts acts f.0 started f.2) in
-          let one = one-index plan lang m.0 a (filter-has (λ (x : ActSpec). x.broker == b) plan.acts m.0 m.1) h (ap (λ (t : Task). t.index) m.2 ∙ f.3) in
-          (
+          let one = one-index plan lang m.0 a (filter-has (λ (x : ActSpec). x.broker == b) plan.acts m.0 m.1) h (ap (λ (t : Task). t.index) m.2 ∙ f.3) in (
             f.0,
             record {
               found = ap (act_begun a.index) (ap (λ (t : Bool). if t then acts else []) (eq-eqb (book_of b).run plan.run run)) ∙ f.1;

@@ -150,7 +150,7 @@ module _ {M Q A : Type 0} (w : Media M) (limits : Limits) (plan : Plan) (lock : 
                 n.number,
                 subst (λ (x : NodeKind). is_within n.number (most_of plan x) ≡ true) e within,
                 ap (λ (x : NodeKind). is_over (base_of (reading plan.acts) plan t) n.number ((walk (base_of (reading plan.acts) plan t) front).life (record { kind = x; number = n.number }))) (sym e)
-                ∙ (sym (ap (λ (x : NodeKind). if is_broker x then is_over (base_of (reading plan.acts) plan t) n.number ((walk (base_of (reading plan.acts) plan t) front).life n) else true) e) ∙ late),
+                    ∙ (sym (ap (λ (x : NodeKind). if is_broker x then is_over (base_of (reading plan.acts) plan t) n.number ((walk (base_of (reading plan.acts) plan t) front).life n) else true) e) ∙ late),
               )
 
       -- each Tick stands where some broker isn't done
