@@ -7,7 +7,7 @@ use Rattle.swallow_top.specs.Contract.{RefusedAs}
 use Rattle.swallow_top.specs.Histories.{TellsHistory}
 use Rattle.swallow_top.specs.Shelves.{shelf_sight}
 use Rattle.swallow_top.specs.Written.{sinking}
-use Rattle.swallow_top.proofs.PromiseLemmas.{language-of, promise-history, promise-load, promise-refused, quiet-call, some-workers}
+use Rattle.swallow_top.proofs.PromiseLemmas.{language-of, promise-history, promise-load, promise-refused, promise-run, quiet-call, some-workers}
 use Rattle.swallow_top.proofs.top.swallow.Goals as goal
 
 pub run_plan-requires-clause-plan : goal.run_plan-requires-clause-plan
@@ -31,6 +31,11 @@ returns-in-Err g c =
       promise = promise-refused _ c.in-Some-Run.options c.in-Err.stop (subst (λ x. AreWords x (said c.args.words.now)) c.in-Some-Run.field-0-is c.in-Some-Run.ensures.words) c.in-Err.ensures (subst (λ n. RefusedAs c.in-Err.stop n s) (sym q.status) c.refused-status-in-Err.ensures)
           (λ status is. quiet-call _ status is (q.media ∙ c.new-in-Err.ensures.items) q.trace (ap g.F.Fates.asked q.told.0) (ap g.C.Clock.answers q.told.1)) (λ name is was. absurd (was is));
     }
+
+pub returns-in-Ok : goal.returns-in-Ok
+returns-in-Ok g c = record {
+  promise = promise-run _ c.in-Some-Run.options c.in-Ok.plan (subst (λ x. AreWords x (said c.args.words.now)) c.in-Some-Run.field-0-is c.in-Some-Run.ensures.words) c.in-Ok.ensures c.run_plan.ensures.ran c.run_plan.ensures.kept;
+}
 
 pub returns-in-Ok-make : goal.returns-in-Ok-make
 returns-in-Ok-make g c = record {
