@@ -260,6 +260,19 @@ const WORDS: [(&[&str], Said<'static>); 36] = [
     ),
 ];
 
+// The options in this order, each with its value.
+fn options_in(alloc: Global, order: &[usize]) -> Result<Vec<&'static str>, Fail> {
+    let mut words = Vec::new(alloc);
+    for place in order {
+        let Some((name, value)) = PAIRS.as_slice().get(*place) else {
+            return Err("a place".into());
+        };
+        words.push(*name)?;
+        words.push(*value)?;
+    }
+    Ok(words)
+}
+
 // Whether the words say this.
 fn says(alloc: Global, words: &[&str], said: Said<'_>) -> Result<bool, Fail> {
     Ok(match lab_words(alloc, words) {
@@ -275,14 +288,15 @@ fn words_are_read_as_they_say(rt: HostRuntime) -> Result<(), Fail> {
     for (words, said) in WORDS.as_slice() {
         assert!(rt; says(alloc, words, *said)?, "{words:?}");
     }
+    Ok(())
+}
+
+#[test]
+fn options_stand_in_any_order(rt: HostRuntime) -> Result<(), Fail> {
+    let alloc = rt.alloc();
+    let said = Some((64, 5, 3, "run --workers 4"));
     for order in ORDERS.as_slice() {
-        let mut words = Vec::new(alloc);
-        for place in order {
-            let (name, value) = PAIRS[*place];
-            words.push(name)?;
-            words.push(value)?;
-        }
-        let said = Some((64, 5, 3, "run --workers 4"));
+        let words = options_in(alloc, order.as_slice())?;
         assert!(rt; says(alloc, words.as_slice(), said)?, "{order:?}");
     }
     Ok(())
