@@ -10,19 +10,16 @@ use Rattle.seat_lock.specs.declared.locks.LockTable.{LockTable}
 use Rattle.seat_lock.specs.Words.{knows}
 use Rattle.world_core.specs.declared.entries.Entry.{Entry}
 use Rattle.world_core.specs.declared.traces.Opened.{Opened}
-use Rattle.world_core.specs.Walks.{Flags, opened_log}
+use Rattle.world_core.specs.Walks.{opened_log}
 use Rattle.wire_core.specs.Wires.{WireParts}
 use Rattle.wire_core.specs.declared.takens.Taken.{Taken}
 use Rattle.wire_core.specs.declared.takens.Taken.TheVariants.{Behind, Nothing, Arrived}
 use Rattle.wire_lock.specs.Sights.{IsWirePass, IsOf, flags_at, origin_at}
+use Rattle.node_turn.specs.Lives.{up_flags}
 
 -- two repositories and one broker, with empty logs
 abbrev pub blank_three : List Opened
 blank_three = record { node = repository 1; effects = [] } ∷ record { node = repository 2; effects = [] } ∷ record { node = broker 1; effects = [] } ∷ []
-
--- a node that is up
-abbrev pub up_flags : Bool → Bool → Flags
-up_flags gone due = record { known = true; up = true; gone = gone; due = due }
 
 -- The run that the pass is of is run 1, and has these acts.
 pub record IsRunWith (all : List ActSpec) (pass : Seat WireParts (View WireParts Entry)) : Type 0 where
