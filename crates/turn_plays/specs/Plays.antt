@@ -1,5 +1,5 @@
 -- What is so of a run in which one node is at work and a test plays the others.
-use Rattle.std.specs.Prelude.{◌≡◌, ℕ, Bool, false, length}
+use Rattle.std.specs.Prelude.{◌≡◌, Bool, false, length}
 use Rattle.pseudo_time.specs.declared.nodes.NodeId.{NodeId}
 use Rattle.pseudo_time.specs.Nodes.{repository, is_broker}
 use Rattle.atomic_table.specs.declared.shared.Seat.{Seat}
