@@ -15,7 +15,7 @@ use broker_core::law_of_readings;
 use broker_node::{BrokerCore, is_done, open_broker};
 use effect_form::{Effect, Outcome};
 use medium_port::{Stop, StopAt};
-use node_turn::Turned;
+use node_turn::{StoredCore, Turned};
 use pseudo_time::DownCause;
 use script_form::{law_of_lines, parse};
 use std::alloc::{AllocError, Global};
@@ -141,13 +141,26 @@ fn begin_broker(alloc: Global, pages: u32, stops: &[Stop]) -> Result<BrokerPlay,
     })
 }
 
-// The act: the broker is done after it, and no sooner.
-fn whole(rt: &impl Wait, alloc: Global) -> Result<(TestClosed, QuietMedium), Fail> {
-    let play = begin_broker(alloc, 8, &[])?;
+// The broker sends the four messages of the act, one in each turn, and each is answered.
+fn answered<K: StoredCore<QuietMedium>>(
+    rt: &impl Wait,
+    alloc: Global,
+    play: Play<K>,
+) -> Result<Play<K>, Fail>
+    requires { GoesOn false play }
+    ensures { IfOk result (GoesOn false) }
+{
     let play = play.answer(rt, alloc, 1)?;
     let play = play.answer(rt, alloc, 3)?;
     let play = play.answer(rt, alloc, 5)?;
-    let play = play.answer(rt, alloc, 7)?;
+    play.answer(rt, alloc, 7)
+}
+
+// The broker is done after this turn, and no sooner.
+fn completes(rt: &impl Wait, play: BrokerPlay) -> Result<BrokerPlay, Fail>
+    requires { GoesOn false play }
+    ensures { IfOk result (GoesOn false) }
+{
     if is_done(&play.node) {
         return Err("an answer to take".into());
     }
@@ -155,6 +168,14 @@ fn whole(rt: &impl Wait, alloc: Global) -> Result<(TestClosed, QuietMedium), Fai
     if !is_done(&play.node) {
         return Err("a broker that is done".into());
     }
+    Ok(play)
+}
+
+// The act, and a turn after it.
+fn whole(rt: &impl Wait, alloc: Global) -> Result<(TestClosed, QuietMedium), Fail> {
+    let play = begin_broker(alloc, 8, &[])?;
+    let play = answered(rt, alloc, play)?;
+    let play = completes(rt, play)?;
     let play = play.turn(rt, Turned::Quiet)?;
     let ended = play.finish(alloc)?;
     Ok(ended)
