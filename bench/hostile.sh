@@ -1,55 +1,64 @@
 #!/usr/bin/env bash
 # Spoils plans, media that runs left, and messages, and gives each to the public call that reads it. The words are
-# a seed and how many in all, 7 and 20,000 unless given: four of ten are plans, and three of ten each sets of media
-# and messages. The program (bench/hostile; its sources end in .txt, since the gate takes a .rt file in crates alone)
-# isn't proved: it is built with checks of each index, sum and access, and so are the libraries below it. Prints how
-# often each answer came; a wrong one is told with its seed and its number, by which it can be tried alone:
-# bench/hostile.sh SEED KIND NUMBER.
+# a seed, how many plans, sets of media and messages, and how many processes share them: 7, 800, 200, 4,000 and 1 unless
+# given. The program (bench/hostile) isn't proved: it is built with checks of each index, sum and access, and so are the
+# libraries below it (checked.sh). Prints how often each answer came, and how much processor each kind took; a wrong one is told with its seed and its
+# number, by which it can be tried alone: bench/hostile.sh SEED KIND NUMBER. A crash and a hang are told with their block of numbers.
 top="$(cd "$(dirname "${BASH_SOURCE[0]}")/.." && pwd)" || exit 1
 made="$(mktemp -d)" || exit 1
 trap 'rm -rf "$made"' EXIT
+. "$top/bench/checked.sh" || exit 1
+build_checked hostile "$made" || exit 1
 seed=${1:-7}
-seconds=7200
+processes=1
+mkdir "$made/cases" "$made/ends" || exit 1
 
-# A tree of the repository's crates and the program, which is none of them.
-mkdir -p "$made/crates/hostile" "$made/cases" || exit 1
-for crate in "$top"/crates/*/; do
-  mkdir -p "$made/crates/$(basename "$crate")" && cp -r "$crate/src" "$made/crates/$(basename "$crate")/" || exit 1
-done
-mkdir "$made/crates/hostile/src" || exit 1
-for source in "$top"/bench/hostile/src/*.rt.txt; do
-  cp "$source" "$made/crates/hostile/src/$(basename "$source" .txt)" || exit 1
-done
-libraries=$(sed -n 's/^swallow_top[^:]*: //p' "$top/crates.txt")
-{ cat "$top/crates.txt"; echo "hostile: $libraries swallow_top"; } > "$made/crates.txt"
-
-# So many cases of a kind from a number on, as the input of one run.
+# So many cases of a kind from a number on, as the input of one process.
 cases() {
   { echo "$1 $seed $2 $3"; cat "$top"/examples/*.plan; } > "$made/cases/$1-$2"
 }
 
-# So many cases of a kind, 25,000 at most in a run.
+# So many cases of a kind, $3 at most in a process.
 kind() {
   local first
-  for ((first = 0; first < $2; first += 25000)); do
-    cases "$1" "$first" $(($2 - first < 25000 ? $2 - first : 25000))
+  for ((first = 0; first < $2; first += $3)); do
+    cases "$1" "$first" $(($2 - first < $3 ? $2 - first : $3))
   done
 }
 
 if [ "$#" -eq 3 ]; then
   cases "$2" "$3" 1
 else
-  count=${2:-20000}
-  kind plans $((count * 4 / 10))
-  kind pages $((count * 3 / 10))
+  processes=${5:-1}
+  kind plans "${2:-800}" 1000
+  kind pages "${3:-200}" 250
   # A case of messages has sixteen.
-  kind messages $((count * 3 / 160))
+  kind messages $((${4:-4000} / 16)) 2000
 fi
-cd "$made/crates/hostile" || exit 1
-rt try --steps 1 --seconds "$seconds" --cases "$made/cases" > "$made/said" 2> "$made/how"
-status=$?
+
+# One block, for at most ten minutes of processor: what it says, its status, and the seconds that it took.
+cat > "$made/block" <<'B'
+#!/usr/bin/env bash
+cd "$1" && ulimit -t 600 || exit 1
+block=$(basename "$2")
+TIMEFORMAT="$block %U"
+{ time env -i ./program < "$2" > "ends/$block.said" 2> "ends/$block.how"; } 2> "ends/$block.time"
+echo "$?" > "ends/$block.status"
+B
+chmod +x "$made/block"
+find "$made/cases" -type f | sort | xargs -P "$processes" -n 1 "$made/block" "$made"
+
+cd "$made/ends" || exit 1
 awk '/^(plans|pages|messages) [0-9]+ / { kind = $1; count = $2; sub(/^[a-z]+ [0-9]+ /, ""); sums[kind ": " $0] += count }
-  END { for (name in sums) print sums[name], name }' "$made/said" | sort -k2,2 -k1,1nr
-grep -A 12 '^wrong ' "$made/said"
-cat "$made/how" >&2
-[ "$status" -eq 0 ] && ! grep -q '^wrong ' "$made/said" && ! grep -q '^case=.* status=[1-9]' "$made/how"
+  END { for (name in sums) print sums[name], name }' ./*.said | sort -k2,2 -k1,1nr
+awk '{ sub(/-.*/, "", $1); sums[$1] += $2 } END { for (kind in sums) print kind ": " sums[kind] " seconds of processor" }' ./*.time
+wrong=0
+for status in ./*.status; do
+  if [ "$(cat "$status")" -ne 0 ]; then
+    wrong=1
+    echo "$(basename "$status" .status): status $(cat "$status")"
+    grep -A 12 '^wrong ' "${status%.status}.said"
+    head -n 40 "${status%.status}.how"
+  fi
+done
+exit "$wrong"
