@@ -61,6 +61,9 @@ const PAGES: u32 = 12;
 /// The calls of an opening: a sync, and a read of each page.
 const OPENING: u64 = 13;
 
+/// At least two pages are written, each by a body, a gate and two syncs.
+const LEAST: u64 = OPENING + 8;
+
 /// More calls than a run has.
 const MOST: u64 = 200;
 
@@ -217,41 +220,57 @@ fn at_call(number: u64, keep: u16, fill: u8) -> Stop {
     }
 }
 
+// The last call of a run at which a node's medium stopped, where each stop at a call up to it was right.
+fn last_stop<R: Threads + Wait + Sync>(
+    rt: &R,
+    alloc: Global,
+    story: &Story,
+    words: &[&str],
+    node: usize,
+    tear: (u16, u8),
+) -> Result<u64, Fail> {
+    let (keep, fill) = tear;
+    for number in 1..MOST {
+        let stops = [at_call(number, keep, fill)];
+        let stops = [(node, stops.as_slice())];
+        let ended = run_twice(rt, alloc, story, words, node, 1, &stops)?;
+        if is_over(number, &ended) {
+            return Ok(number - 1);
+        }
+        if !is_right(number, &ended) {
+            return Err("what came of a stop".into());
+        }
+    }
+    Err("a run without an end".into())
+}
+
 #[test]
-fn a_stop_at_each_call(rt: HostRuntime) -> Result<(), Fail> {
+fn a_stop_at_each_call_over_one_repository(rt: HostRuntime) -> Result<(), Fail> {
     let alloc = rt.alloc();
-    for story in STORIES.as_slice() {
-        for node in 0..story.nodes.len() {
-            for (keep, fill) in TEARS {
-                let mut last = 0;
-                for number in 1..MOST {
-                    let stops = [at_call(number, keep, fill)];
-                    let ended = run_twice(
-                        &rt,
-                        alloc,
-                        story,
-                        ONE,
-                        node,
-                        1,
-                        &[(node, stops.as_slice())],
-                    )?;
-                    if is_over(number, &ended) {
-                        break;
-                    }
-                    assert_eq!(rt; is_right(number, &ended), true);
-                    last = number;
-                }
-                // At least two pages are written, each by a body, a gate and two syncs.
-                assert_eq!(rt; last >= OPENING + 8 && last < MOST - 1, true);
-            }
+    for node in 0..STORIES[0].nodes.len() {
+        for tear in TEARS {
+            let last = last_stop(&rt, alloc, &STORIES[0], ONE, node, tear)?;
+            assert_eq!(rt; last >= LEAST, true);
         }
     }
     Ok(())
 }
 
-/// How many calls behind the first stop the second one is: in the opening that follows, which begins
-/// with the reopening, or behind it.
-const GAPS: [u64; 5] = [1, 2, OPENING + 1, OPENING + 2, OPENING + 6];
+#[test]
+fn a_stop_at_each_call_over_two_repositories(rt: HostRuntime) -> Result<(), Fail> {
+    let alloc = rt.alloc();
+    for node in 0..STORIES[1].nodes.len() {
+        for tear in TEARS {
+            let last = last_stop(&rt, alloc, &STORIES[1], ONE, node, tear)?;
+            assert_eq!(rt; last >= LEAST, true);
+        }
+    }
+    Ok(())
+}
+
+/// How many calls behind the first stop the second one is: the reopening that follows, the last read of the opening,
+/// the next call, or one a page later.
+const GAPS: [u64; 4] = [1, OPENING + 1, OPENING + 2, OPENING + 6];
 
 #[test]
 fn two_stops_in_one_run(rt: HostRuntime) -> Result<(), Fail> {
@@ -321,25 +340,8 @@ fn stops_among_four_workers(rt: HostRuntime) -> Result<(), Fail> {
     let alloc = rt.alloc();
     for story in STORIES.as_slice() {
         for node in 0..story.nodes.len() {
-            let mut last = 0;
-            for number in 1..MOST {
-                let stops = [at_call(number, 0, 0xA5)];
-                let ended = run_twice(
-                    &rt,
-                    alloc,
-                    story,
-                    FOUR,
-                    node,
-                    1,
-                    &[(node, stops.as_slice())],
-                )?;
-                if is_over(number, &ended) {
-                    break;
-                }
-                assert_eq!(rt; is_right(number, &ended), true);
-                last = number;
-            }
-            assert_eq!(rt; last > OPENING && last < MOST - 1, true);
+            let last = last_stop(&rt, alloc, story, FOUR, node, (0, 0xA5))?;
+            assert_eq!(rt; last >= LEAST, true);
         }
     }
     Ok(())
