@@ -22,7 +22,7 @@ use Rattle.node_turn.specs.Nodes.{NodeParts, Adds, StaysWhole, IsCondition, Turn
 use Rattle.node_turn.proofs.TrailLemmas.{costs-append, adds-more, adds-none}
 use Rattle.node_turn.proofs.PageLemmas.{whole-same}
 use Rattle.node_rounds.specs.Nodes.{GoesOn, HasMet, HasAllOf, HasPass, HasSeen}
-use Rattle.node_rounds.proofs.PageLemmas.{keeps-joins, clean-joins}
+use Rattle.node_rounds.proofs.PageLemmas.{intact-joins}
 use Rattle.node_rounds.proofs.PairLemmas.{zip-same, zip-through, zip-with}
 
 -- ---- conditions
@@ -133,7 +133,7 @@ module _ {M : Type 0} where
           let y = cost-less (sight b).own (sight c).own h.adds in
           let p = g.whole told (up-working b up) (omega (arith, x.1, y.1, same)) in
           let q = h.whole told ne (omega (arith, x.1, y.1, same)) in
-          (keeps-joins (reads a.medium) (reads b.medium) (reads c.medium) p.0 q.0, clean-joins (reads a.medium) (reads b.medium) (reads c.medium) p.1 q.0 q.1);
+          intact-joins (reads a.medium) (reads b.medium) (reads c.medium) p q;
     }
 
 module _ {M Q A : Type 0} (lock : LockTable WireParts (View WireParts Entry) (Founding WireParts) Q A) where

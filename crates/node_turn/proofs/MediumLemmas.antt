@@ -2,7 +2,7 @@
 use Rattle.std.proofs.Common.{◌≡◌, ◌≢◌, ℕ, ◌≤◌, ◌<◌, Bool, true, List, [], ◌++◌, length, Result, Ok, Err, IsTrue, IfOk, IfErr, OnOk, refl, sym, ap, subst, ◌∙◌}
 use Rattle.std.specs.Prelude.{count_by, IsErrOf}
 use Rattle.stream_port.specs.Causes.{Rose}
-use Rattle.medium_port.specs.Image.{Image, Only, NoMore}
+use Rattle.medium_port.specs.Image.{Image, IsImage, Only, NoMore}
 use Rattle.pseudo_time.specs.declared.nodes.NodeId.{NodeId}
 use Rattle.page_gate.specs.States.{is_blank}
 use Rattle.effect_form.specs.declared.effects.Effect.{Effect}
@@ -15,7 +15,7 @@ use Rattle.version_store.specs.Filling.{HasPrefix, KeepsPages, StaysClean, filli
 use Rattle.version_store.specs.Settled.{IsSettled}
 use Rattle.version_store.specs.Storage.{storage, effects_found, log_of}
 use Rattle.world_core.specs.Walks.{Base, Life, opened_life, gated_life}
-use Rattle.node_turn.specs.Cores.{CoreParts, LeavesLog, IsReady, IsFull, IsAppended, IsReopened}
+use Rattle.node_turn.specs.Cores.{CoreParts, IsIntact, LeavesLog, IsReady, IsFull, IsAppended, IsReopened}
 
 -- ---- answers
 
@@ -74,7 +74,7 @@ pub record AppendsTo {M T : Type 0} (tells : Bool) (faults pages : M → ℕ) (r
   pub later : faults old ≤ faults new
   pub left : IsTrue tells → (log : List Effect) → LeavesLog (may_leave old) log → OnOk result (LeavesLog (may_leave new) (log ++ effects))
   pub images : IsTrue tells → (log : List Effect) → LeavesLog (may_leave old) log → (c : Image) → may_leave new c → HasPrefix log effects c
-  pub clean : IsTrue tells → OnOk result (KeepsPages (reads old) (reads new) × StaysClean (reads old) (reads new))
+  pub intact : IsTrue tells → OnOk result (IsIntact (reads old) (reads new))
   pub nothing : IfErr result (λ f. f ≢ adding.Medium → new ≡ old)
   pub full : IfErr result (λ f. (number : ℕ) → f ≡ adding.Full number → (number ≡ pages old) × (IsTrue tells → count_by is_blank (reads old) < length (filling effects)))
   pub cause : IsErrOf result adding.Medium → Rose (faults old) (faults new)
@@ -86,13 +86,13 @@ module _ {M : Type 0} (tells : Bool) (faults pages : M → ℕ) (reads : M → I
   images-from t log leaves c left = subst (λ l. HasPrefix l effects c) (log-left (reads old) (may_leave old) (settled t) log (now old t) leaves) (images t c left)
 
   -- all was added
-  pub appends-all : {T : Type 0} (x : T) → (IsTrue tells → IsSettled (reads new) (may_leave new)) → (IsTrue tells → effects_read (reads new) ≡ effects_read (reads old) ++ effects)
+  pub appends-all : {T : Type 0} (x : T) → ((m : M) (c : Image) → IsTrue tells → may_leave m c → IsImage (pages m) c) → pages new ≡ pages old → (IsTrue tells → IsSettled (reads new) (may_leave new)) → (IsTrue tells → effects_read (reads new) ≡ effects_read (reads old) ++ effects)
       → (IsTrue tells → KeepsPages (reads old) (reads new)) → (IsTrue tells → StaysClean (reads old) (reads new)) → AppendsTo tells faults pages reads may_leave old new effects (Ok x)
-  appends-all x rests grown keeps clean = record {
+  appends-all x shape size rests grown keeps clean = record {
     later = later;
     left = λ t log leaves. leaves-log (reads new) (may_leave new) (rests t) (log ++ effects) (grown t ∙ ap (λ l. l ++ effects) (log-left (reads old) (may_leave old) (settled t) log (now old t) leaves));
     images = images-from;
-    clean = λ t. (keeps t, clean t);
+    intact = λ t. record { count = (shape new (reads new) t (now new t)).count ∙ size ∙ sym (shape old (reads old) t (now old t)).count; keeps = keeps t; clean = clean t };
     nothing = tt;
     full = tt;
     cause = λ e. absurd (cc e);
@@ -106,7 +106,7 @@ module _ {M : Type 0} (tells : Bool) (faults pages : M → ℕ) (reads : M → I
     later = later;
     left = λ t log leaves. tt;
     images = images-from;
-    clean = λ t. tt;
+    intact = λ t. tt;
     nothing = nothing;
     full = λ number e. (all number e, λ t. blank t number e);
     cause = λ e. cause (err-same f adding.Medium e);
@@ -127,7 +127,7 @@ module _ {K M : Type 0} {tells : Bool} {parts : K → CoreParts M} {fits : Base 
         has = has;
         left = a.left;
         images = a.images;
-        clean = a.clean;
+        intact = a.intact;
         nothing = a.nothing;
         full = fills result a.full;
         cause = a.cause;

@@ -5,11 +5,15 @@ use Rattle.medium_port.specs.Image.{Image, page_of}
 use Rattle.page_gate.specs.States.{is_blank, state_of}
 use Rattle.page_gate.specs.declared.pages.PageState.{PageState}
 use Rattle.page_gate.specs.declared.pages.PageState.TheVariants.{Blank, Spoiled, Gated}
-use Rattle.version_store.specs.Filling.{KeepsPages, StaysClean}
+use Rattle.node_turn.specs.Cores.{IsIntact}
 
 blank-is : (p : List ℕ) → is_blank p ≡ true → state_of p ≡ Blank
 blank-is p h = ap (λ (t : Bool). if t then Blank else if slice_index p 0 == 165 then Gated (drop 1 p) else Spoiled) h
 
 -- no page was written
-pub whole-same : (i : Image) → KeepsPages i i × StaysClean i i
-whole-same i = (λ page h. refl, λ page h e. let z : ◌≡◌ {A = PageState} Blank Spoiled = sym (blank-is (page_of i page) h) ∙ e in cc z)
+pub whole-same : (i : Image) → IsIntact i i
+whole-same i = record {
+  count = refl;
+  keeps = λ page h. refl;
+  clean = λ page h e. let z : ◌≡◌ {A = PageState} Blank Spoiled = sym (blank-is (page_of i page) h) ∙ e in cc z;
+}

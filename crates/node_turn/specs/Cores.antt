@@ -38,6 +38,12 @@ given_for b n l input = gives b.script b.run b.acts n (all_effects l) l.mind inp
 abbrev pub HasTurn : Given → Turn → Type 0
 HasTurn g t = (t.effects ≡ g.effects) × (t.outs ≡ g.outs)
 
+-- the pages of an image are there later: none that wasn't blank was changed, and none that was is spoiled
+pub record IsIntact (old new : Image) : Type 0 where
+  pub count : length new ≡ length old
+  pub keeps : KeepsPages old new
+  pub clean : StaysClean old new
+
 -- the node's log shows neither a later run nor another plan
 abbrev pub IsReady : Base → NodeId → List Effect → Type 0
 IsReady b n log = is_ready b.script b.run b.acts n log ≡ true
@@ -79,7 +85,7 @@ module _ {K M : Type 0} (tells : Bool) (parts : K → CoreParts M) (fits : Base 
     pub has : IsTrue tells → (b : Base) (l : Life) → lives b old l → l.fresh ≡ effects → OnOk result (lives b new (gated_life l))
     pub left : IsTrue tells → (log : List Effect) → LeavesLog (may_leave (parts old).medium) log → OnOk result (LeavesLog (may_leave (parts new).medium) (log ++ effects))
     pub images : IsTrue tells → (log : List Effect) → LeavesLog (may_leave (parts old).medium) log → (c : Image) → may_leave (parts new).medium c → HasPrefix log effects c
-    pub clean : IsTrue tells → OnOk result (KeepsPages (reads (parts old).medium) (reads (parts new).medium) × StaysClean (reads (parts old).medium) (reads (parts new).medium))
+    pub intact : IsTrue tells → OnOk result (IsIntact (reads (parts old).medium) (reads (parts new).medium))
     pub nothing : IfErr result (λ f. f ≢ adding.Medium → (parts new).medium ≡ (parts old).medium)
     pub full : IfErr result (λ f. (number : ℕ) → f ≡ adding.Full number → IsFull (parts old).medium effects number)
     pub cause : IsErrOf result adding.Medium → Rose (faults (parts old).medium) (faults (parts new).medium)

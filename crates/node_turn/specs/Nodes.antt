@@ -4,7 +4,6 @@ use Rattle.pseudo_time.specs.declared.nodes.NodeId.{NodeId}
 use Rattle.pseudo_time.specs.Nodes.{is_broker}
 use Rattle.pseudo_time.specs.declared.down_causes.DownCause.{DownCause}
 use Rattle.medium_port.specs.Image.{Image}
-use Rattle.version_store.specs.Filling.{KeepsPages, StaysClean}
 use Rattle.atomic_table.specs.declared.shared.Seat.{Seat}
 use Rattle.seat_lock.specs.declared.views.View.{View}
 use Rattle.seat_lock.specs.Words.{knows}
@@ -19,6 +18,7 @@ use Rattle.node_turn.specs.declared.conditions.Condition.TheVariants as conditio
 use Rattle.node_turn.specs.declared.conditions.Turned.{Turned}
 use Rattle.node_turn.specs.declared.conditions.Turned.TheVariants.{Worked, Quiet, Stopped}
 use Rattle.node_turn.specs.Lives.{IsKept, IsCause}
+use Rattle.node_turn.specs.Cores.{IsIntact}
 use Rattle.node_turn.specs.Costs.{costs, PaysFor}
 use Rattle.node_turn.specs.Trails.{HasTested}
 
@@ -70,9 +70,9 @@ Does Worked n old new = Grew old.own new.own × ((flags_at new n).up ≡ true)
 Does Quiet n old new = IsQuiet n old new × ((flags_at new n).up ≡ true)
 Does Stopped n old new = (flags_at new n).up ≡ false
 
--- Where no entry costs a fault, no page that was blank is spoiled, and no other is written.
+-- Where no entry costs a fault, the pages are there, none that was blank is spoiled, and no other is written.
 abbrev pub StaysWhole : ℕ → ℕ → Image → Image → Type 0
-StaysWhole cost new_cost old new = new_cost ≡ cost → KeepsPages old new × StaysClean old new
+StaysWhole cost new_cost old new = new_cost ≡ cost → IsIntact old new
 
 -- A turn, with its answer: what it did, what it cost in faults, and what the board was tested for.
 pub record TurnsTo {M E : Type 0} (tells : Bool) (faults : M → ℕ) (reads : M → Image) (old new : NodeParts M) (result : Result Turned E) : Type 0 where

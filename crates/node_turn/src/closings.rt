@@ -6,7 +6,6 @@ ghost use Rattle.pseudo_time.specs.Nodes.{is_broker};
 ghost use Rattle.stream_port.specs.Causes.{Rose};
 ghost use Rattle.turn_form.specs.Ranges.{AreOuts};
 ghost use Rattle.version_store.specs.declared.faults.StoreFault.TheVariants as adding;
-ghost use Rattle.version_store.specs.Filling.{KeepsPages, StaysClean};
 ghost use Rattle.seat_lock.specs.Words.{knows};
 ghost use Rattle.world_core.specs.Nodes.{leaves};
 ghost use Rattle.world_core.specs.Walks.{Base, Life, all_effects};
@@ -14,6 +13,7 @@ ghost use Rattle.wire_core.specs.Changes.{owed};
 ghost use Rattle.wire_lock.specs.Decisions.{decided_by, decision_in};
 ghost use Rattle.wire_lock.specs.Sights.{IsWirePass, world_at};
 ghost use Rattle.broker_laws.specs.Works.{AsksNobody};
+ghost use Rattle.node_turn.specs.Cores.{IsIntact};
 ghost use Rattle.node_turn.specs.Lives.{AskNobody, IsUp, IsAfterAppend, no_draft};
 ghost use Rattle.node_turn.specs.Trails.{Trail};
 
@@ -135,7 +135,7 @@ pub fn close<K: StoredCore<M>, F: Fates, C: Clock, M: Medium, R: Wait>(
     ensures sent { OnOk result.2 (Trail node (knows pass) (knows result.0) (owed (world_at (knows pass)) node) [] [] 0) }
     ensures unsent { OnErr result.2 (Trail node (knows pass) (knows result.0) [] [] [] 0) }
     ensures later { M.faults (K.parts core).medium ≤ M.faults (K.parts result.1).medium }
-    ensures clean { IsTrue M.tells → OnOk result.2 (KeepsPages (M.reads (K.parts core).medium) (M.reads (K.parts result.1).medium) × StaysClean (M.reads (K.parts core).medium) (M.reads (K.parts result.1).medium)) }
+    ensures intact { IsTrue M.tells → OnOk result.2 (IsIntact (M.reads (K.parts core).medium) (M.reads (K.parts result.1).medium)) }
     ensures nothing { IfErr result.2 (λ f. (number : ℕ) → f ≡ adding.Full number → (K.parts result.1).medium ≡ (K.parts core).medium) }
     ensures cause { IsErrOf result.2 adding.Medium → Rose (M.faults (K.parts core).medium) (M.faults (K.parts result.1).medium) }
 {

@@ -259,18 +259,20 @@ module _ {M : Type 0} (w : Media M) (told : IsTrue w.tells) (most_ticks enough m
       let p = node-here front (Down n (down.Full pages)) rest n is (same_node-refl n) in
       let b = became-of n p in
       let f = ((ran.stops told).full n b.0 b.1 pages p (cause-here front n (down.Full pages) rest is p) b.2).1 in
-      let clean = clean-over (w.reads b.0) (w.reads b.1) (smooth.blank n b.0 p b.2.0) ((ran.stops told).clean n b.0 b.1 p (costless n p (all-opened n p)) b.2) in
+      let intact = (ran.stops told).intact n b.0 b.1 p (costless n p (all-opened n p)) b.2 in
+      let count = intact.count in
+      let clean = clean-over (w.reads b.0) (w.reads b.1) (smooth.blank n b.0 p b.2.0) intact.clean in
       let used = few-pages (w.reads b.1) (life_after plan t n).gated clean f.durable in
       let fill = filling-most (life_after plan t n).fresh f.ranges in
       let blank = f.blank in
-      let large = smooth.large n b.0 b.1 p b.2 in
+      let large = smooth.large n b.0 p b.2.0 in
       let at = place front (Down n (down.Full pages)) rest is quiet in
       let few = few-effects at most n smooth.asks in
       let life : life_after plan t n ≡ (walk base front).life n =
       ap (λ (es : List Entry). (walk base es).life n) is ∙ life-down base (fates_of t.sent) front rest n (down.Full pages) (known n p) (subst (λ (es : List Entry). Meets base (fates_of t.sent) (start_world base) es) is legal.meets) in
       let size : length (log_at at n) ≡ length (life_after plan t n).gated + length (life_after plan t n).fresh =
       length-reverse (all_effects ((walk base front).life n)) ∙ (ap (λ (l : Life). length (all_effects l)) (sym life) ∙ length-append (life_after plan t n).gated (life_after plan t n).fresh) in
-      omega (arith, used, fill, blank, large, few, size)
+      omega (arith, used, fill, blank, large, count, few, size)
 
   no-unopened : IsUnopened plan t → ⊥
   no-unopened h = all-opened h.0 h.1 h.2

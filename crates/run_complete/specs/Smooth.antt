@@ -37,14 +37,14 @@ pages_for plan most = 1 + tries_in plan.acts * (most + 3)
 abbrev pub messages_for : Plan → ℕ → ℕ
 messages_for plan most = tries_in plan.acts * (4 * most + 4)
 
--- Scripts of the plan make at most so many requests. The nodes' media are blank, no count of theirs rose, and what they hold then is large enough.
+-- Scripts of the plan make at most so many requests. The nodes' media were blank and have enough pages, and no count of theirs rose.
 -- Fewer messages are sent than those at which the run ends, each as one copy without a hold.
 pub record IsSmoothRun {M : Type 0} (w : Media M) (most enough : ℕ) (plan : Plan) (t : Trace) (media left : List (Option M)) : Type 0 where
   pub asks : AskAtMost plan most
   pub had : (n : NodeId) → in_plan plan n ≡ true → (old : M) × (medium_at plan media n ≡ Some old)
   pub blank : (n : NodeId) (old : M) → in_plan plan n ≡ true → medium_at plan media n ≡ Some old → IsBlankImage (w.reads old)
   pub faultless : (n : NodeId) (old new : M) → in_plan plan n ≡ true → Became plan media left n old new → Rose (w.faults old) (w.faults new) → ⊥
-  pub large : (n : NodeId) (old new : M) → in_plan plan n ≡ true → Became plan media left n old new → pages_for plan most ≤ length (w.reads new)
+  pub large : (n : NodeId) (old : M) → in_plan plan n ≡ true → medium_at plan media n ≡ Some old → pages_for plan most ≤ length (w.reads old)
   pub few : messages_for plan most < enough
   pub plain : Every IsPlain (fates_of t.sent)
 

@@ -7,7 +7,6 @@ use Rattle.pseudo_time.specs.declared.down_causes.DownCause.{DownCause}
 use Rattle.pseudo_time.specs.declared.down_causes.DownCause.TheVariants as down
 use Rattle.stream_port.specs.declared.fates.Asked.{Asked}
 use Rattle.stream_port.specs.Causes.{RoseBy, rise_of_fewer}
-use Rattle.version_store.specs.Filling.{StaysClean}
 use Rattle.plan_form.specs.declared.plans.Plan.{Plan}
 use Rattle.seat_lock.specs.declared.views.View.{View}
 use Rattle.seat_lock.specs.declared.views.Founding.{Founding}
@@ -22,6 +21,7 @@ use Rattle.wire_core.specs.Wires.{WireParts}
 use Rattle.wire_core.specs.Boards.{owner_for, owner_of}
 use Rattle.wire_lock.specs.Sights.{IsOf, life_at}
 use Rattle.trace_report.specs.Counts.{down_cause}
+use Rattle.node_turn.specs.Cores.{IsIntact}
 use Rattle.node_turn.specs.Costs.{costs}
 use Rattle.node_turn.specs.Lives.{IsCause, IsFullFor}
 use Rattle.node_turn.specs.Nodes.{NodeParts, sight}
@@ -100,7 +100,7 @@ module _ {M Q A : Type 0} (w : Media M) (plan : Plan) (lock : LockTable WirePart
       damaged = λ n old new page is h became. absurd (let s = node-of n is in cause-of n s (down.Damaged page) h told);
       full = λ n old new pages is h became. (let s = node-of n is in
           subst (λ (m : M). (pages ≡ w.page_count m) × IsFullFor (life_after plan t n) (w.reads m)) (now n s old new became) (is-full n s pages h));
-      clean = λ n old new is none became. (let s = node-of n is in
-          subst (λ (m : M). StaysClean (w.reads m) (w.reads new)) (was n s old new became)
-          (subst (λ (m : M). StaysClean (w.reads s.old) (w.reads m)) (now n s old new became) (s.went.whole told (has-memory w plan lock t first ps stood n s) (costless n s is none))));
+      intact = λ n old new is none became. (let s = node-of n is in
+          subst (λ (m : M). IsIntact (w.reads m) (w.reads new)) (was n s old new became)
+          (subst (λ (m : M). IsIntact (w.reads s.old) (w.reads m)) (now n s old new became) (s.went.whole told (has-memory w plan lock t first ps stood n s) (costless n s is none))));
     }

@@ -10,7 +10,6 @@ use Rattle.stream_port.specs.declared.fates.Asked.{Asked}
 use Rattle.stream_port.specs.Causes.{RoseBy, rose_by_none}
 use Rattle.medium_port.specs.Image.{Image}
 use Rattle.effect_form.specs.declared.effects.Effect.{Effect}
-use Rattle.version_store.specs.Filling.{StaysClean}
 use Rattle.version_store.specs.Storage.{storage}
 use Rattle.version_store.specs.StoreWords.{medium_of}
 use Rattle.plan_form.specs.declared.plans.Plan.{Plan}
@@ -21,6 +20,7 @@ use Rattle.world_core.specs.Walks.{opened_log}
 use Rattle.wire_core.specs.Wires.{Origin, WireParts}
 use Rattle.wire_core.specs.Boards.{owner_for}
 use Rattle.wire_lock.specs.Sights.{Sight}
+use Rattle.node_turn.specs.Cores.{IsIntact}
 use Rattle.node_turn.specs.declared.conditions.Condition.TheVariants as condition
 use Rattle.node_turn.specs.Costs.{costs}
 use Rattle.node_turn.specs.Nodes.{NodeParts, IsAtRest, sight}
@@ -55,7 +55,7 @@ module _ {M : Type 0} (w : Media M) (plan : Plan) (o : Origin) (Q : Pass → Typ
     pub opened : opened_log o.opened n ≡ Some log
     pub held : IsTrue w.tells → storage (w.reads old) ≡ Ok log
     pub paid : RoseBy (costs (sight p).own) (w.faults old) (w.faults p.medium)
-    pub whole : IsTrue w.tells → p.condition ≢ condition.Wanting → costs (sight p).own ≡ 0 → StaysClean (w.reads old) (w.reads p.medium)
+    pub whole : IsTrue w.tells → p.condition ≢ condition.Wanting → costs (sight p).own ≡ 0 → IsIntact (w.reads old) (w.reads p.medium)
     pub rest : IsAtRest w.tells w.page_count w.reads w.may_leave p
     pub pass : Q p.pass
 
@@ -76,7 +76,7 @@ module _ {M : Type 0} (w : Media M) (plan : Plan) (o : Origin) (Q : Pass → Typ
         opened = log;
         held = h.held;
         paid = went.paid (w.faults old) (subst (λ (n : ℕ). RoseBy n (w.faults old) (w.faults b.medium)) (sym free) (rose_by_none (w.faults old) (w.faults b.medium) (subst (λ (m : M). w.faults old ≤ w.faults m) same h.same.later)));
-        whole = λ t memory costless. subst (λ (image : Image). StaysClean image (w.reads p.medium)) (ap w.reads (sym same) ∙ h.same.still t) (went.whole t memory (costless ∙ sym free)).1;
+        whole = λ t memory costless. subst (λ (image : Image). IsIntact image (w.reads p.medium)) (ap w.reads (sym same) ∙ h.same.still t) (went.whole t memory (costless ∙ sym free));
         rest = rest;
         pass = pass;
       },

@@ -13,7 +13,6 @@ use Rattle.stream_port.specs.Causes.{Rose, RoseBy, rose_by_none}
 use Rattle.medium_port.specs.Image.{Image}
 use Rattle.effect_form.specs.declared.effects.Effect.{Effect}
 use Rattle.version_store.specs.Storage.{storage}
-use Rattle.version_store.specs.Filling.{StaysClean}
 use Rattle.plan_form.specs.declared.plans.Plan.{Plan}
 use Rattle.plan_form.specs.PlanTexts.{IsOfLanguage}
 use Rattle.seat_lock.specs.Rule.{IsOneOf}
@@ -32,6 +31,7 @@ use Rattle.wire_core.specs.Wires.{Origin, WireParts}
 use Rattle.wire_core.specs.Boards.{owner_for, owner_of}
 use Rattle.wire_lock.specs.Sights.{Sight, owners_for}
 use Rattle.trace_report.specs.Counts.{down_cause}
+use Rattle.node_turn.specs.Cores.{IsIntact}
 use Rattle.node_turn.specs.Costs.{costs}
 use Rattle.node_turn.specs.Lives.{IsKept}
 use Rattle.node_turn.proofs.PageLemmas.{whole-same}
@@ -221,7 +221,7 @@ module _ {M : Type 0} {g : _} (w : Media M) where
       unopened = λ n here was. unopened n was;
       damaged = λ n old new page here e b. (let h = of-cause n (down.Damaged page) old new e b in (h.0, h.1 told));
       full = λ n old new pages here e b. absurd (of-cause n (down.Full pages) old new e b).1;
-      clean = λ n old new here none b. subst (StaysClean (w.reads old)) (sym ((as-before n old new b).still told)) (whole-same (w.reads old)).1;
+      intact = λ n old new here none b. subst (IsIntact (w.reads old)) (sym ((as-before n old new b).still told)) (whole-same (w.reads old));
     }
       where
         unopened : (n : NodeId) → WasNotOpened t.entries n → (down_cause n t.entries ≡ Some down.Medium) ⊎ ((page : ℕ) × (down_cause n t.entries ≡ Some (down.Damaged page)))

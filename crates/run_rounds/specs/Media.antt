@@ -6,7 +6,6 @@ use Rattle.stream_port.specs.Causes.{Rose, RoseBy}
 use Rattle.medium_port.specs.Image.{Image}
 use Rattle.effect_form.specs.declared.effects.Effect.{Effect}
 use Rattle.version_store.specs.Storage.{storage}
-use Rattle.version_store.specs.Filling.{StaysClean}
 use Rattle.plan_form.specs.declared.plans.Plan.{Plan}
 use Rattle.world_core.specs.declared.traces.Trace.{Trace}
 use Rattle.world_core.specs.Walks.{opened_log, own}
@@ -14,6 +13,7 @@ use Rattle.world_core.specs.Legal.{in_plan}
 use Rattle.world_core.specs.Pasts.{WasNotOpened}
 use Rattle.world_core.specs.Readings.{life_after, open_effects}
 use Rattle.trace_report.specs.Counts.{down_cause}
+use Rattle.node_turn.specs.Cores.{IsIntact}
 use Rattle.node_turn.specs.Costs.{costs}
 use Rattle.node_turn.specs.Lives.{IsKept, IsFullFor}
 use Rattle.run_media.specs.Media.{Media, AreBack, IsUntouched}
@@ -60,11 +60,11 @@ module _ {M : Type 0} (w : Media M) where
       pub missing : (n : NodeId) → in_plan plan n ≡ true → medium_at plan media n ≡ None → down_cause n t.entries ≡ Some down.Medium
 
     -- A node is down since its medium failed; or it wasn't opened, and the page is the first damaged one of what its medium held; or its medium is full: it has the durable log,
-    -- and its blank pages don't take the open effects. Without a fault no page is spoiled.
+    -- and its blank pages don't take the open effects. Without a fault its pages stay: none that was written is changed, and none is spoiled.
     pub record HaveCauses (plan : Plan) (t : Trace) : Type 0 where
       pub unopened : (n : NodeId) → in_plan plan n ≡ true → WasNotOpened t.entries n → (down_cause n t.entries ≡ Some down.Medium) ⊎ ((page : ℕ) × (down_cause n t.entries ≡ Some (down.Damaged page)))
       pub damaged : (n : NodeId) (old new : M) (page : ℕ) → in_plan plan n ≡ true → down_cause n t.entries ≡ Some (down.Damaged page) → Became plan media left n old new
           → WasNotOpened t.entries n × (storage (w.reads old) ≡ Err page)
       pub full : (n : NodeId) (old new : M) (pages : ℕ) → in_plan plan n ≡ true → down_cause n t.entries ≡ Some (down.Full pages) → Became plan media left n old new
           → (pages ≡ w.page_count new) × IsFullFor (life_after plan t n) (w.reads new)
-      pub clean : (n : NodeId) (old new : M) → in_plan plan n ≡ true → costs (own n t.entries) ≡ 0 → Became plan media left n old new → StaysClean (w.reads old) (w.reads new)
+      pub intact : (n : NodeId) (old new : M) → in_plan plan n ≡ true → costs (own n t.entries) ≡ 0 → Became plan media left n old new → IsIntact (w.reads old) (w.reads new)

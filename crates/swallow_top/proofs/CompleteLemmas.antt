@@ -1,5 +1,5 @@
 -- What must succeed, succeeds: from what the shelf gave and got back to a complete run.
-use Rattle.std.proofs.Common.{◌≡◌, ◌+◌, ◌<◌, ◌==◌, ◌∙◌, nat_lt, ℕ, zero, suc, Bool, true, false, IsTrue, List, [], ◌∷◌, cond, length, Option, Some, None, Ok, slice_get, refl, ap, sym, subst, arith, if◌then◌else◌}
+use Rattle.std.proofs.Common.{◌≡◌, ◌+◌, ◌<◌, ◌≤◌, ◌==◌, ◌∙◌, nat_lt, ℕ, zero, suc, Bool, true, false, IsTrue, List, [], ◌∷◌, cond, length, Option, Some, None, Ok, slice_get, refl, ap, sym, subst, arith, if◌then◌else◌}
 use Rattle.std.specs.List.{count_by}
 use Rattle.std.proofs.lemmas.Bool.Decides.{nat_tests}
 use Rattle.std.proofs.lemmas.List.Sums.{sum_by-cons}
@@ -28,7 +28,7 @@ use Rattle.run_rounds.specs.Ends.{some_down}
 use Rattle.run_rounds.specs.Finishes.{Tellers, account_of}
 use Rattle.run_rounds.specs.Media.{Became, inner, medium_at}
 use Rattle.run_rounds.specs.Runs.{IsFirstFault, Ran}
-use Rattle.run_complete.specs.Smooth.{IsComplete, IsSmoothRun}
+use Rattle.run_complete.specs.Smooth.{IsComplete, IsSmoothRun, pages_for}
 use Rattle.run_complete.proofs.PageLemmas.{blank-none}
 use Rattle.run_complete.proofs.SmoothLemmas.{complete, none-down}
 use Rattle.run_complete.proofs.StandingLemmas.{none-open}
@@ -92,6 +92,9 @@ module _ {M : Type 0} (w : Media M) (old new : ShelfSight) (plan : Plan) where
       blank-of : (n : NodeId) (m : M) → in_plan plan n ≡ true → medium_at plan media n ≡ Some m → IsBlankImage (w.reads m)
       blank-of n m is e = subst IsBlankImage (sym ((taken-of n m is e).content tells).reads_same) (smooth.blank n is)
 
+      large-of : (n : NodeId) (m : M) → in_plan plan n ≡ true → medium_at plan media n ≡ Some m → pages_for plan most ≤ length (w.reads m)
+      large-of n m is e = subst (λ (image : Image). pages_for plan most ≤ length image) (sym ((taken-of n m is e).content tells).reads_same) (smooth.large n is)
+
       -- no log refuses the plan
       pub unrefused : (fault : ResumeFault) → IsFirstFault w plan media left fault → ⊥
       unrefused fault first =
@@ -127,7 +130,7 @@ module _ {M : Type 0} (w : Media M) (old new : ShelfSight) (plan : Plan) where
           had = had;
           blank = λ n m is e. blank-of n m is e;
           faultless = λ n m x is became rose. smooth.media n x (kept-of n x is became.1) (subst (λ (k : ℕ). Rose k (w.faults x)) (taken-of n m is became.0).count rose);
-          large = λ n m x is became. smooth.large n x (kept-of n x is became.1);
+          large = λ n m is e. large-of n m is e;
           few = smooth.few;
           plain = smooth.plain;
         }

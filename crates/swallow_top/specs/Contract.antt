@@ -77,15 +77,15 @@ module _ {M : Type 0} (w : Media M) (old new : ShelfSight) (kept : List (Kept M)
         ⊎ (((status ≡ 2) × IsRefusedByLog s × HasNoRun told)
         ⊎ (RanOver o told × EndsIfAny status s (status_of plan told.trace) (wanted_text wanted plan told.trace)))
 
-    -- Scripts of the plan make at most so many requests; no count rose of the shelf, a medium or the sink; the nodes' media were blank, and what they hold then is large
-    -- enough; fewer messages are sent than those at which the run ends, each as one copy without a hold.
+    -- Scripts of the plan make at most so many requests; no count rose of the shelf, a medium or the sink; the nodes' media were blank and had enough pages;
+    -- fewer messages are sent than those at which the run ends, each as one copy without a hold.
     pub record IsSmooth (o : Options) (told : Account) (s : Sinking) (most : ℕ) : Type 0 where
       pub asks : AskAtMost plan most
       pub sink : Rose s.faults_before s.faults → ⊥
       pub shelf : Rose old.faults new.faults → ⊥
       pub media : (n : NodeId) (m : M) → Has (record { node = n; volume = 0; medium = m }) kept → Rose (old.medium_faults (medium_name n)) (w.faults m) → ⊥
       pub blank : (n : NodeId) → in_plan plan n ≡ true → IsBlankImage (old.holds (medium_name n))
-      pub large : (n : NodeId) (m : M) → Has (record { node = n; volume = 0; medium = m }) kept → pages_for plan most ≤ length (w.reads m)
+      pub large : (n : NodeId) → in_plan plan n ≡ true → pages_for plan most ≤ length (old.holds (medium_name n))
       pub few : messages_for plan most < o.messages
       pub plain : Every IsPlain (fates_of told.trace.sent)
 

@@ -60,8 +60,8 @@ returns-clause-sent g c = trail-gated c.args.node c.requires.up.own c.requires.p
 pub returns-clause-later : goal.returns-clause-later
 returns-clause-later g c = c.append-core.ensures.same.later
 
-pub returns-clause-clean : goal.returns-clause-clean
-returns-clause-clean g c = λ t. on-ok _ _ _ c.in-Ok-appended.is (c.append-core.ensures.clean t)
+pub returns-clause-intact : goal.returns-clause-intact
+returns-clause-intact g c = λ t. on-ok _ _ _ c.in-Ok-appended.is (c.append-core.ensures.intact t)
 
 pub gate-pass-requires-clause-owed : goal.gate-pass-requires-clause-owed
 gate-pass-requires-clause-owed g c = λ t.

@@ -2,7 +2,7 @@ use Rattle.std.proofs.Common.{◌+◌, ◌∙◌, refl, sym, ap, subst, arith, [
 use Rattle.seat_lock.specs.Words.{knows}
 use Rattle.wire_core.specs.Changes.{owed}
 use Rattle.wire_lock.specs.Sights.{world_at}
-use Rattle.version_store.specs.Filling.{KeepsPages, StaysClean}
+use Rattle.node_turn.specs.Cores.{IsIntact}
 use Rattle.node_turn.specs.Lives.{IsStruck}
 use Rattle.node_turn.proofs.CostLemmas.{pays-none, pays-one}
 use Rattle.node_turn.proofs.LifeLemmas.{on-ok, if-ok, on-err, if-err}
@@ -22,7 +22,7 @@ returns-in-Ok-clause-paid g c =
     pays-none _ _ _ _ (omega (arith, e)) c.close-pass.ensures.later
 
 pub returns-in-Ok-clause-whole : goal.returns-in-Ok-clause-whole
-returns-in-Ok-clause-whole g c = λ told ne same. on-ok _ _ _ c.in-Ok.is (c.close-pass.ensures.clean told)
+returns-in-Ok-clause-whole g c = λ told ne same. on-ok _ _ _ c.in-Ok.is (c.close-pass.ensures.intact told)
 
 pub returns-in-NoMemory-clause-keeps : goal.returns-in-NoMemory-clause-keeps
 returns-in-NoMemory-clause-keeps g c = rw c.in-NoMemory.is at (if-err _ _ _ c.in-Err.is c.close-pass.ensures.err)
@@ -84,5 +84,5 @@ returns-in-Full-clause-paid g c =
 pub returns-in-Full-clause-whole : goal.returns-in-Full-clause-whole
 returns-in-Full-clause-whole g c = λ told ne same.
     let m = if-err _ _ _ c.in-Err.is c.close-pass.ensures.nothing c.in-Full.pages c.in-Full.is in
-    subst (λ x. KeepsPages (g.M.Medium.reads (g.K.StoredCore.parts c.args.core).medium) (g.M.Medium.reads x) × StaysClean (g.M.Medium.reads (g.K.StoredCore.parts c.args.core).medium) (g.M.Medium.reads x)) (sym m)
+    subst (λ x. IsIntact (g.M.Medium.reads (g.K.StoredCore.parts c.args.core).medium) (g.M.Medium.reads x)) (sym m)
     (whole-same (g.M.Medium.reads (g.K.StoredCore.parts c.args.core).medium))

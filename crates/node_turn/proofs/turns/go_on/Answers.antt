@@ -2,7 +2,7 @@ use Rattle.std.proofs.Common.{◌+◌, ◌∙◌, List, sym, ap, subst, arith, E
 use Rattle.seat_lock.specs.Words.{knows}
 use Rattle.medium_port.specs.Image.{Image}
 use Rattle.turn_form.specs.declared.turns.Out.{Out}
-use Rattle.version_store.specs.Filling.{KeepsPages, StaysClean}
+use Rattle.node_turn.specs.Cores.{IsIntact}
 use Rattle.world_core.specs.Walks.{all_effects}
 use Rattle.wire_lock.specs.Sights.{life_at}
 use Rattle.node_turn.specs.Lives.{IsAfter}
@@ -78,7 +78,7 @@ pub returns-clause-whole : goal.returns-clause-whole
 returns-clause-whole g c = λ told ne same.
     let e = trail-cost c.take_more-pass.ensures.trail in
     let s = trail-cost c.look_up_all-pass.ensures.seeks.trail in
-    subst (λ (x : Image). KeepsPages x (g.M.Medium.reads (g.K.StoredCore.parts c.end.result.1.core).medium) × StaysClean x (g.M.Medium.reads (g.K.StoredCore.parts c.end.result.1.core).medium))
+    subst (λ (x : Image). IsIntact x (g.M.Medium.reads (g.K.StoredCore.parts c.end.result.1.core).medium))
     (c.look_up_all-pass.ensures.unwritten.still told ∙ c.take_more-pass.ensures.unwritten.still told) (c.end.ensures.whole told ne (omega (arith, e, s, same)))
 
 pub returns-clause-tested : goal.returns-clause-tested

@@ -2,7 +2,7 @@ use Rattle.std.proofs.Common.{◌+◌, ◌∙◌, ◌||◌, Bool, refl, sym, ap,
 use Rattle.seat_lock.specs.Words.{knows}
 use Rattle.medium_port.specs.Image.{Image}
 use Rattle.pseudo_time.specs.Nodes.{is_broker}
-use Rattle.version_store.specs.Filling.{KeepsPages, StaysClean}
+use Rattle.node_turn.specs.Cores.{IsIntact}
 use Rattle.node_turn.specs.Lives.{DraftParts, IsUp, IsAfter}
 use Rattle.node_turn.proofs.CostLemmas.{pays-none}
 use Rattle.node_turn.proofs.LifeLemmas.{if-ok, if-err, either-gone}
@@ -61,7 +61,7 @@ returns-then-started-clause-paid g c =
 pub returns-then-started-clause-whole : goal.returns-then-started-clause-whole
 returns-then-started-clause-whole g c = λ told ne same.
     let e = trail-cost c.begin-pass.ensures.trail in
-    subst (λ (x : Image). KeepsPages x (g.M.Medium.reads (g.K.StoredCore.parts c.go_on-pass.result.1.core).medium) × StaysClean x (g.M.Medium.reads (g.K.StoredCore.parts c.go_on-pass.result.1.core).medium))
+    subst (λ (x : Image). IsIntact x (g.M.Medium.reads (g.K.StoredCore.parts c.go_on-pass.result.1.core).medium))
     (c.begin-pass.ensures.unwritten.still told) (c.go_on-pass.ensures.whole told ne (omega (arith, e, same)))
 
 pub returns-then-started-clause-tested : goal.returns-then-started-clause-tested
@@ -91,7 +91,7 @@ returns-clause-paid g c =
 
 pub returns-clause-whole : goal.returns-clause-whole
 returns-clause-whole g c = λ told ne same.
-    subst (λ (x : Image). KeepsPages (g.M.Medium.reads (g.K.StoredCore.parts c.args.hand.core).medium) x × StaysClean (g.M.Medium.reads (g.K.StoredCore.parts c.args.hand.core).medium) x)
+    subst (λ (x : Image). IsIntact (g.M.Medium.reads (g.K.StoredCore.parts c.args.hand.core).medium) x)
     (sym (c.begin-pass.ensures.unwritten.still told)) (whole-same (g.M.Medium.reads (g.K.StoredCore.parts c.args.hand.core).medium))
 
 pub returns-clause-tested : goal.returns-clause-tested
