@@ -1,14 +1,15 @@
 #!/usr/bin/env bash
 # Spoils plans, media that runs left, and messages, and gives each to the public call that reads it. The words are
 # a seed, how many plans, sets of media and messages, and how many processes share them: 7, 800, 200, 4,000 and 1 unless
-# given. The program (bench/hostile) isn't proved: it is built with checks of each index, sum and access, and so are the
-# libraries below it (checked.sh). Prints how often each answer came, and how much processor each kind took; a wrong one is told with its seed and its
-# number, by which it can be tried alone: bench/hostile.sh SEED KIND NUMBER. A crash and a hang are told with their block of numbers.
+# given. The program (bench/hostile) isn't proved: it and the libraries below it are built with checks of each index and
+# sum, and with HOW=whole of each access (checked.sh). Prints how often each answer came, and how much processor each kind
+# took; a wrong one is told with its seed and its number, by which it can be tried alone: bench/hostile.sh SEED KIND NUMBER.
+# A crash and a hang are told with their block of numbers.
 top="$(cd "$(dirname "${BASH_SOURCE[0]}")/.." && pwd)" || exit 1
 made="$(mktemp -d)" || exit 1
 trap 'rm -rf "$made"' EXIT
 . "$top/bench/checked.sh" || exit 1
-build_checked hostile "$made" || exit 1
+build_checked hostile "$made" "${HOW:-quick}" || exit 1
 seed=${1:-7}
 processes=1
 mkdir "$made/cases" "$made/ends" || exit 1

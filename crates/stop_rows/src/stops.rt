@@ -9,6 +9,7 @@ use stream_port::{Fate, FateRule};
 use swallow_top::Kept;
 
 /// A plan, its fates, and what its report has, whatever stops.
+#[derive(Clone, Copy)]
 struct Story {
     plan: &'static [u8],
     rules: &'static [FateRule],
@@ -247,9 +248,10 @@ fn last_stop<R: Threads + Wait + Sync>(
 #[test]
 fn a_stop_at_each_call_over_one_repository(rt: HostRuntime) -> Result<(), Fail> {
     let alloc = rt.alloc();
-    for node in 0..STORIES[0].nodes.len() {
+    let [story, _] = STORIES;
+    for node in 0..story.nodes.len() {
         for tear in TEARS {
-            let last = last_stop(&rt, alloc, &STORIES[0], ONE, node, tear)?;
+            let last = last_stop(&rt, alloc, &story, ONE, node, tear)?;
             assert_eq!(rt; last >= LEAST, true);
         }
     }
@@ -259,9 +261,10 @@ fn a_stop_at_each_call_over_one_repository(rt: HostRuntime) -> Result<(), Fail> 
 #[test]
 fn a_stop_at_each_call_over_two_repositories(rt: HostRuntime) -> Result<(), Fail> {
     let alloc = rt.alloc();
-    for node in 0..STORIES[1].nodes.len() {
+    let [_, story] = STORIES;
+    for node in 0..story.nodes.len() {
         for tear in TEARS {
-            let last = last_stop(&rt, alloc, &STORIES[1], ONE, node, tear)?;
+            let last = last_stop(&rt, alloc, &story, ONE, node, tear)?;
             assert_eq!(rt; last >= LEAST, true);
         }
     }
