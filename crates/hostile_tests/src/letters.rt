@@ -296,27 +296,36 @@ fn taken_by_repository(
 
 // What a repository gives for each of its messages, where this one comes before the one at this place, if any does. None where
 // that gives anything.
+fn turns_of_repository(
+    core: &mut Repository<PlainHistories>,
+    alloc: Global,
+    more: Option<(usize, &Letter)>,
+) -> Result<Option<Vec<Turn>>, Fail>
+    requires { core.old.whole ≡ true }
+{
+    let mut turns = Vec::new(alloc);
+    for (place, letter) in TO_REPOSITORY.iter().enumerate() {
+        if let Some((at, other)) = more {
+            if at == place && !is_quiet(&taken_by_repository(core, alloc, other)?) {
+                return Ok(None);
+            }
+        }
+        turns.push(taken_by_repository(core, alloc, letter)?)?;
+    }
+    Ok(Some(turns))
+}
+
 fn given_by_repository(
     alloc: Global,
     more: Option<(usize, &Letter)>,
 ) -> Result<Option<Vec<Turn>>, Fail> {
-    let Ok(mut core) = Repository::open(alloc, 1, 0, &[], PlainHistories::new(alloc)) else {
-        return Err("a repository".into());
-    };
-    let mut turns = Vec::new(alloc);
-    for (place, letter) in TO_REPOSITORY.iter().enumerate() {
-        if let Some((at, other)) = more {
-            if at == place {
-                let turn = taken_by_repository(&mut core, alloc, other)?;
-                if !is_quiet(&turn) {
-                    return Ok(None);
-                }
-            }
+    match Repository::open(alloc, 1, 0, &[], PlainHistories::new(alloc)) {
+        Ok(core) => {
+            let mut core = core;
+            turns_of_repository(&mut core, alloc, more)
         }
-        let turn = taken_by_repository(&mut core, alloc, letter)?;
-        turns.push(turn)?;
+        Err(_) => Err("a repository".into()),
     }
-    Ok(Some(turns))
 }
 
 #[test]
@@ -348,8 +357,31 @@ fn acts(alloc: Global) -> Result<Plan, Fail>
     }
 }
 
-// What a broker gives for each of its messages, where this one comes before the one at this place, if any does. None where
-// that gives anything.
+fn taken_by_broker(broker: &mut Broker, alloc: Global, letter: &Letter) -> Result<Turn, Fail> {
+    let message = message_of(alloc, letter)?;
+    Ok(broker.take(sender_of(letter), &message)?)
+}
+
+// What a broker gives when it goes and then for each of its messages, where this one comes before the one at this place, if any
+// does. None where that gives anything, or not all is done behind them.
+fn turns_of_broker(
+    broker: &mut Broker,
+    alloc: Global,
+    more: Option<(usize, &Letter)>,
+) -> Result<Option<Vec<Turn>>, Fail> {
+    let mut turns = Vec::new(alloc);
+    turns.push(broker.go()?)?;
+    for (place, letter) in TO_BROKER.iter().enumerate() {
+        if let Some((at, other)) = more {
+            if at == place && !is_quiet(&taken_by_broker(broker, alloc, other)?) {
+                return Ok(None);
+            }
+        }
+        turns.push(taken_by_broker(broker, alloc, letter)?)?;
+    }
+    Ok(if broker.done() { Some(turns) } else { None })
+}
+
 fn given_by_broker(
     alloc: Global,
     acts: &[ActSpec],
@@ -358,27 +390,7 @@ fn given_by_broker(
     requires { AreActs acts.now }
 {
     let mut broker = Broker::open(alloc, 1, 1, acts, &[])?;
-    let mut turns = Vec::new(alloc);
-    let turn = broker.go()?;
-    turns.push(turn)?;
-    for (place, letter) in TO_BROKER.iter().enumerate() {
-        if let Some((at, other)) = more {
-            if at == place {
-                let message = message_of(alloc, other)?;
-                let turn = broker.take(sender_of(other), &message)?;
-                if !is_quiet(&turn) {
-                    return Ok(None);
-                }
-            }
-        }
-        let message = message_of(alloc, letter)?;
-        let turn = broker.take(sender_of(letter), &message)?;
-        turns.push(turn)?;
-    }
-    if !broker.done() {
-        return Ok(None);
-    }
-    Ok(Some(turns))
+    turns_of_broker(&mut broker, alloc, more)
 }
 
 #[test]

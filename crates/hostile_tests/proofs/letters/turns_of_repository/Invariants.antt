@@ -1,5 +1,5 @@
 use Rattle.std.proofs.Common.{◌≡◌, true}
-use Rattle.hostile_tests.proofs.letters.given_by_repository.Given as goal
+use Rattle.hostile_tests.proofs.letters.turns_of_repository.Given as goal
 
 -- no call has failed
 abbrev pub invariant-loop-place : goal.invariant-loop-place
