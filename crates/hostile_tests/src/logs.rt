@@ -320,6 +320,17 @@ fn page_of(alloc: Global, effects: &str) -> Result<Vec<u8>, Fail> {
     Ok(page)
 }
 
+// A medium whose first page this is.
+fn medium_of<'a>(kind: NodeKind, page: &'a [u8]) -> Stopped<'a> {
+    Stopped {
+        kind,
+        number: 1,
+        pages: 16,
+        stops: &[],
+        bytes: Some((0, 0, page)),
+    }
+}
+
 // The status and the text of a call over this log.
 fn told_over<R: Threads + Wait + Sync>(
     rt: &R,
@@ -328,14 +339,7 @@ fn told_over<R: Threads + Wait + Sync>(
 ) -> Result<(u8, Vec<u8>), Fail> {
     let words = log.words;
     let page = page_of(alloc, log.effects)?;
-    let bytes = Some((0, 0, page.as_slice()));
-    let media = [Stopped {
-        kind: log.kind,
-        number: 1,
-        pages: 16,
-        stops: &[],
-        bytes,
-    }];
+    let media = [medium_of(log.kind, page.as_slice())];
     let row = Row {
         words,
         plan: PLAN,
