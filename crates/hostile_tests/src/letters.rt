@@ -2,6 +2,7 @@
 ghost use Rattle.std.specs.Prelude.{◌≡◌, true, IfOk, OnOk};
 ghost use Rattle.broker_core.specs.Ledgers.{AreActs};
 ghost use Rattle.message_form.specs.Messages.{IsMessage};
+ghost use Rattle.plan_form.specs.PlanTexts.{IsOfLanguage};
 
 use crate::digits::bytes_of;
 use broker_core::Broker;
@@ -346,15 +347,22 @@ fn a_repository_ignores_what_is_not_for_it(rt: HostRuntime) -> Result<(), Fail> 
     Ok(())
 }
 
-fn acts(alloc: Global) -> Result<Plan, Fail>
-    ensures { IfOk result (λ p. AreActs p.acts) }
+fn plan_of(alloc: Global, text: &[u8]) -> Result<Plan, Fail>
+    ensures { IfOk result IsOfLanguage }
 {
     law_of_plans();
-    law_of_plans_in_range();
-    match parse(alloc, PLAN) {
+    match parse(alloc, text) {
         Ok(plan) => Ok(plan),
         Err(_) => Err("a plan".into()),
     }
+}
+
+fn acts(alloc: Global) -> Result<Plan, Fail>
+    ensures { IfOk result (λ p. AreActs p.acts) }
+{
+    law_of_plans_in_range();
+    let plan = plan_of(alloc, PLAN)?;
+    Ok(plan)
 }
 
 fn taken_by_broker(broker: &mut Broker, alloc: Global, letter: &Letter) -> Result<Turn, Fail> {
