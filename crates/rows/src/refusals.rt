@@ -1,6 +1,6 @@
 //! Plans that are refused, each with its line, and streams that fail at each call.
-use crate::calls::{Row, call};
 use crate::rows::FIRST;
+use row_calls::{Row, call};
 use std::alloc::{AllocError, Global};
 use std::test::*;
 

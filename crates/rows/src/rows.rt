@@ -1,6 +1,6 @@
-use crate::calls::{Row, Stopped, call};
 use medium_port::{Stop, StopAt};
 use pseudo_time::NodeKind;
+use row_calls::{Row, Stopped, call};
 use std::test::*;
 use stream_port::{Fate, FateRule};
 

@@ -1,7 +1,7 @@
 //! Media that stop at each of their calls.
-use crate::calls::{Called, Row, Stopped, call};
 use medium_port::{MemoryMedium, Stop, StopAt};
 use pseudo_time::NodeKind;
+use row_calls::{Called, Row, Stopped, call, parts};
 use std::alloc::Global;
 use std::sync::Wait;
 use std::test::*;
@@ -64,13 +64,6 @@ fn over<'a>(stops: &'a [Stopped<'a>]) -> Row<'a> {
         status: 0,
         text: "",
     }
-}
-
-// The status, the text and the media of a call.
-fn parts(called: Called) -> (u8, Vec<u8>, Vec<Kept<MemoryMedium>>) {
-    let Called { finish, text } = called;
-    let status = finish.status;
-    (status, text, finish.media.into_vec())
 }
 
 // The run over media of eight pages, of which that of this kind of node stops.

@@ -126,3 +126,10 @@ pub fn call<R: Threads + Wait + Sync>(
         text: sink.taken().to_vec(alloc)?,
     })
 }
+
+/// The status, the text and the media of a call.
+pub fn parts(called: Called) -> (u8, Vec<u8>, Vec<Kept<MemoryMedium>>) {
+    let Called { finish, text } = called;
+    let status = finish.status;
+    (status, text, finish.media.into_vec())
+}

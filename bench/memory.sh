@@ -1,0 +1,48 @@
+#!/usr/bin/env bash
+# Refuses each allocation of a run in turn (refuse.c), and runs again over the media that were handed back (bench/memory): one act;
+# two brokers, of which one is refused a write; one act whose repository stops in the middle of a page; and three acts
+# over three repositories. The program is built with checks of each index and sum (checked.sh). Prints for each run how many
+# allocations it has, and what came of those that were refused: status 0, the report as if none had been; 7, memory is wanting; 9, a medium or the sink
+# in memory failed; 8, the program itself gave up. In 0, 7 and 9 the second run had its finals. Each other end is told. The word says how
+# many processes share the numbers, or 1.
+top="$(cd "$(dirname "${BASH_SOURCE[0]}")/.." && pwd)" || exit 1
+made="$(mktemp -d)" || exit 1
+trap 'rm -rf "$made"' EXIT
+. "$top/bench/checked.sh" || exit 1
+build_checked memory "$made" quick || exit 1
+cc -O2 -Wall -shared -fPIC -o "$made/refuse.so" "$top/bench/refuse.c" || exit 1
+count=${1:-1}
+
+# Each number from $2 to $3 by steps of $4, each in a run of $1: a line each with its number, status and what was written.
+refused() {
+  local number said
+  for ((number = $2; number <= $3; number += $4)); do
+    said=$(env -i LD_PRELOAD="$made/refuse.so" REFUSED="$number" timeout 60 "$made/program" < "$1" 2>&1)
+    echo "$number $? ${said//$'\n'/ }"
+  done
+}
+
+wrong=0
+# The run of a plan with these words, as often as it has allocations.
+run() {
+  local most first
+  { echo "$2"; cat "$3"; } > "$made/input"
+  most=$(sed '1s/^/first /' "$made/input" | env -i LD_PRELOAD="$made/refuse.so" COUNTED=1 "$made/program" 2>&1 | tail -n 1)
+  for ((first = 1; first <= count; first++)); do
+    refused "$made/input" "$first" "$most" "$count" > "$made/ends-$first" &
+  done
+  wait
+  sort -n "$made"/ends-* > "$made/ends"
+  rm "$made"/ends-*
+  echo "$1: $most allocations, $(awk '{ ends[$2]++ } END { for (end in ends) print "status " end ": " ends[end] }' "$made/ends" | sort | paste -s -d ' ')"
+  grep -v '^[0-9]* [0789] ' "$made/ends" | cut -c 1-400 && wrong=1
+  [ "$(wc -l < "$made/ends")" -eq "$most" ] || wrong=1
+}
+
+act='act broker 1 home 1 timeout 5 tries 3\n'
+printf "swallow plan 1\nrun 1\nrepositories 1\nbrokers 2\n${act}write 1.1 5\ndone\nact broker 2 home 1 timeout 5 tries 3\nread a 1.1\ndone\n" > "$made/two"
+run "one act" plain "$top/examples/first.plan"
+run "two brokers" held "$made/two"
+run "a torn page" torn "$top/examples/first.plan"
+run "three repositories" plain "$top/examples/homes.plan"
+exit "$wrong"
