@@ -1,0 +1,5 @@
+pub mod Fates
+pub mod Given
+pub mod Losses
+pub mod Options
+pub mod Shelves
