@@ -7,15 +7,15 @@ ghost use Rattle.turn_plays.specs.Plays.{GoesOn};
 
 use effect_form::Effect;
 use message_form::Message;
-use node_turn::Turned;
+use node_turn::{StoredCore, Turned};
 use pseudo_time::{PseudoTime, Stamp};
 use std::alloc::{AllocError, Global};
 use std::sync::Wait;
 use std::test::*;
 use turn_form::Out;
 use turn_plays::{
-    BROKER, HOME, OBJECT, OTHER, Play, QuietMedium, RepositoryPlay, TestClosed, add_out,
-    begin_repository, found, hears, out_of, sends,
+    BROKER, HOME, OBJECT, OTHER, Play, QuietMedium, TestClosed, add_out, begin_repository, found,
+    hears, out_of, sends,
 };
 use value_form::Value;
 use world_core::Entry;
@@ -103,6 +103,14 @@ fn tell() -> Result<Message, AllocError>
     })
 }
 
+// What the home of the attempt tells the repository.
+fn told(alloc: Global) -> Result<Vec<Out>, AllocError>
+    ensures { IfOk result (λ outs. AreOuts outs.items) }
+{
+    let message = tell()?;
+    out_of(alloc, HOME, message)
+}
+
 // What the broker sends: to the repository the write and the read, and a message to the home.
 fn requests(alloc: Global) -> Result<Vec<Out>, AllocError>
     ensures { IfOk result (λ outs. AreOuts outs.items) }
@@ -115,36 +123,59 @@ fn requests(alloc: Global) -> Result<Vec<Out>, AllocError>
 }
 
 // The home of the attempt takes its message, sends these, and posts these decisions.
-fn replies(
+fn replies<K: StoredCore<QuietMedium>>(
     rt: &impl Wait,
-    play: RepositoryPlay,
+    play: Play<K>,
     outs: &[Out],
     decides: &[(Stamp, bool)],
-) -> Result<RepositoryPlay, Fail>
+) -> Result<Play<K>, Fail>
     requires play { GoesOn false play }
     requires outs { AreOuts outs.now }
     ensures { IfOk result (GoesOn false) }
 {
+    let message = begin()?;
     let other = play.other;
-    let other = hears(rt, &play.wire, OTHER, other, BROKER, &begin()?)?;
+    let other = hears(rt, &play.wire, OTHER, other, BROKER, &message)?;
     let other = sends(rt, &play.wire, OTHER, other, outs, decides)?;
     Ok(Play { other, ..play })
 }
 
-// What the home of the attempt does.
-fn plays(
+// The home of the attempt takes its message, and posts the decision.
+fn posts<K: StoredCore<QuietMedium>>(rt: &impl Wait, play: Play<K>) -> Result<Play<K>, Fail>
+    requires { GoesOn false play }
+    ensures { IfOk result (GoesOn false) }
+{
+    let stamp = attempt()?;
+    replies(rt, play, &[], &[(stamp, true)])
+}
+
+// The home of the attempt takes its message, and tells the repository of the decision.
+fn tells<K: StoredCore<QuietMedium>>(
     rt: &impl Wait,
     alloc: Global,
-    play: RepositoryPlay,
+    play: Play<K>,
+) -> Result<Play<K>, Fail>
+    requires { GoesOn false play }
+    ensures { IfOk result (GoesOn false) }
+{
+    let outs = told(alloc)?;
+    replies(rt, play, outs.as_slice(), &[])
+}
+
+// What the home of the attempt does.
+fn plays<K: StoredCore<QuietMedium>>(
+    rt: &impl Wait,
+    alloc: Global,
+    play: Play<K>,
     played: Played,
-) -> Result<RepositoryPlay, Fail>
+) -> Result<Play<K>, Fail>
     requires { GoesOn false play }
     ensures { IfOk result (GoesOn false) }
 {
     match played {
         Played::Nothing => Ok(play),
-        Played::Posts => replies(rt, play, &[], &[(attempt()?, true)]),
-        Played::Tells => replies(rt, play, out_of(alloc, HOME, tell()?)?.as_slice(), &[]),
+        Played::Posts => posts(rt, play),
+        Played::Tells => tells(rt, alloc, play),
     }
 }
 
