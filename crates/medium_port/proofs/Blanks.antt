@@ -45,13 +45,13 @@ zero_get (suc n) (suc k) = zero_get n k
 
 -- as many pages of 0
 module _ (n : ℕ) (zeros : List ℕ) (size : length zeros ≡ 4096) (blank : (k : ℕ) → get_or zeros k 0 ≡ 0) where
-  blank_replicate : IsBlankImage (replicate n zeros)
+  pub blank_replicate : IsBlankImage (replicate n zeros)
   blank_replicate page at = ⊎_elim
       (λ low. ap (λ (l : List ℕ). get_or l at 0) (get_or-replicate n page zeros [] low) ∙ blank at)
       (λ past. ap (λ (l : List ℕ). get_or l at 0) (get_or_past (replicate n zeros) page [] (omega (arith, past, length-replicate n zeros))))
       (cases_lt page n)
 
-  image_replicate : IsImage n (replicate n zeros)
+  pub image_replicate : IsImage n (replicate n zeros)
   image_replicate = record {
     count = length-replicate n zeros;
     pages = λ page low. ap (λ (l : List ℕ). length l) (get_or-replicate n page zeros [] low) ∙ size;

@@ -43,7 +43,7 @@ among_push : (spans : List Span) (s x : Span) → Among (spans ++ s ∷ []) x �
 among_push [] s x among = ⊎_elim (λ same. inr same) (λ none. absurd none) among
 among_push (y ∷ spans) s x among = ⊎_elim (λ same. inl (inl same)) (λ rest. ⊎_elim (λ front. inl (inr front)) (λ last. inr last) (among_push spans s x rest)) among
 
-fit_push : (n : ℕ) (spans : List Span) (s : Span) → SpansFit n spans → SpanFits n s → SpansFit n (spans ++ s ∷ [])
+pub fit_push : (n : ℕ) (spans : List Span) (s : Span) → SpansFit n spans → SpanFits n s → SpansFit n (spans ++ s ∷ [])
 fit_push n spans s fits last x among = ⊎_elim (λ front. fits x front) (λ same. subst (λ (y : Span). SpanFits n y) (sym same) last) (among_push spans s x among)
 
 span_cases : (s : Span) (p k : ℕ) → OutsideSpan s p k ⊎ ((p ≡ s.page) × (s.at ≤ k) × (k < s.at + length s.bytes))
@@ -214,3 +214,7 @@ among_right (s ∷ a) b x among = inr (among_right a b x among)
 pub damaged-append : (stop : Stop) (a b : List Span) (image : Image) → damaged stop (a ++ b) image ≡ damaged stop b (damaged stop a image)
 damaged-append stop [] b image = refl
 damaged-append stop (s ∷ a) b image = damaged-append stop a b (put_bytes s.page s.at (torn_bytes stop s.bytes) image)
+
+-- writes within fewer pages are within more
+pub fit_more : (n k : ℕ) (spans : List Span) → n ≤ k → SpansFit n spans → SpansFit k spans
+fit_more n k spans le fit x among = let f = fit x among in let page = f.page in record { page = omega (arith, le, page); range = f.range; bytes = f.bytes }

@@ -1,5 +1,6 @@
 mod Pages
 mod Blanks
 mod Disks
+mod Held
 mod MetLemmas
 mod SlotLemmas

@@ -1,5 +1,6 @@
 pub mod Disk
 pub mod Files
+pub mod HeldPages
 pub mod Image
 pub mod MeetShelves
 pub mod MemoryMedia

@@ -7,6 +7,7 @@ mod events;
 mod file_media;
 mod file_shelves;
 mod healths;
+mod held_pages;
 mod media;
 mod meet_media;
 mod meet_shelves;

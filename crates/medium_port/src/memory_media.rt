@@ -45,7 +45,7 @@ impl MemoryMedium {
         ensures unread { IfOk result (λ m. last_of m ≡ None) }
         ensures starved { IfOk result (λ m. starved_of m ≡ 0) }
     {
-        let past = Past::new(alloc, pages)?;
+        let past = Past::new(alloc, pages);
         Ok(MemoryMedium {
             alloc,
             past,
@@ -136,7 +136,7 @@ impl Medium for MemoryMedium {
             self.met = Some(stop);
             return Err(self.health.fail());
         }
-        *into = self.past.held[page as usize];
+        self.past.held.read(page, into);
         self.last = Some((page, Snapshot::of(into)));
         Ok(())
     }

@@ -4,9 +4,9 @@ ghost use Rattle.medium_port.specs.declared.shelves.MediumName.{MediumName};
 ghost use Rattle.medium_port.specs.declared.memory_media.MemoryMedium.{MemoryMedium};
 ghost use Rattle.medium_port.specs.Slots.{slot_of, NowHas, IsBlankOf};
 
+use crate::held_pages::zero_page;
 use crate::media::MediumFault;
 use crate::memory_media::MemoryMedium;
-use crate::pasts::zero_page;
 use crate::shelves::{MediumName, Shelf};
 use crate::slots::{Slot, add, place_of, swap};
 use pseudo_time::NodeKind;

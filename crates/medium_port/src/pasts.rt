@@ -5,8 +5,9 @@ ghost use Rattle.medium_port.specs.Disk.{replay, disk_of, happened, spans_of, af
 ghost use Rattle.medium_port.specs.declared.events.Event.TheVariants.{Wrote};
 
 use crate::events::{Event, WrittenBytes};
+use crate::held_pages::HeldPages;
 use crate::stops::Stop;
-use std::alloc::{AllocError, Global};
+use std::alloc::Global;
 use std::snapshot::Snapshot;
 
 // The pages of a medium in memory, and what was written to them since the last sync. Of all that was
@@ -14,14 +15,15 @@ use std::snapshot::Snapshot;
 #[derive(Drop)]
 pub struct Past {
     pub count: u32,
-    pub held: Vec<[u8; 4096]>,
+    pub held: HeldPages,
     // The writes since the last sync, also those that a stop met.
     pub unsynced: Vec<Event>,
-    pub first: Snapshot<Vec<[u8; 4096]>>,
+    pub first: Snapshot<HeldPages>,
     pub events: Vec<Snapshot<Event>>,
     ghost replayed: { held.items ≡ (replay (disk_of first.value.items) (happened events.items)).reads },
     ghost sound: { IsSound count (replay (disk_of first.value.items) (happened events.items)) },
     ghost tied: { spans_of unsynced.items ≡ (replay (disk_of first.value.items) (happened events.items)).unsynced },
+    ghost fit: { SpansFit held.front (spans_of unsynced.items) },
 }
 
 // Whether there was memory to remember what was done.
@@ -64,53 +66,22 @@ fn keep_write(
     }
 }
 
-fn write_bytes(pages: &mut Vec<[u8; 4096]>, page: u32, at: u16, bytes: &[u8])
-    requires page { page < length pages.old.items }
-    requires range { at + length bytes.now ≤ 4096 }
-    ensures { pages.new.items ≡ put_bytes page at bytes.now pages.old.items }
-{
-    let start = at as usize;
-    let end = start + bytes.len();
-    let place = &mut pages[page as usize];
-    place[start..end].copy_from_slice(bytes);
-}
-
-// Puts what a stop leaves of these bytes in their place.
-fn tear(range: &mut [u8], bytes: &[u8], stop: Stop)
-    requires { length range.old ≡ length bytes.now }
-    ensures { range.new ≡ torn_bytes stop bytes.now }
-{
-    let kept = bytes.len().min(stop.keep as usize);
-    range[..kept].copy_from_slice(&bytes[..kept]);
-    range[kept..].fill(stop.fill);
-}
-
-fn tear_span(pages: &mut Vec<[u8; 4096]>, page: u32, at: u16, bytes: &[u8], stop: Stop)
-    requires page { page < length pages.old.items }
-    requires range { at + length bytes.now ≤ 4096 }
-    ensures { pages.new.items ≡ put_bytes page at (torn_bytes stop bytes.now) pages.old.items }
-{
-    let from = at as usize;
-    let to = from + bytes.len();
-    let place = &mut pages[page as usize];
-    tear(&mut place[from..to], bytes, stop);
-}
-
 // Tears what the event wrote.
-fn tear_event(pages: &mut Vec<[u8; 4096]>, event: &Event, stop: Stop)
-    requires { SpansFit (length pages.old.items) (spans_of (event.now ∷ [])) }
+fn tear_event(pages: &mut HeldPages, event: &Event, stop: Stop)
+    requires { SpansFit pages.old.front (spans_of (event.now ∷ [])) }
     ensures torn { pages.new.items ≡ damaged stop (spans_of (event.now ∷ [])) pages.old.items }
-    ensures size { length pages.new.items ≡ length pages.old.items }
+    ensures front { pages.new.front ≡ pages.old.front }
 {
     if let Event::Wrote(page, at, bytes) = event {
-        tear_span(pages, *page, *at, bytes.as_slice(), stop);
+        pages.tear(*page, *at, bytes.as_slice(), stop);
     }
 }
 
 // Tears each write among the events.
-fn tear_all(pages: &mut Vec<[u8; 4096]>, events: &[Event], stop: Stop)
-    requires { SpansFit (length pages.old.items) (spans_of events.now) }
-    ensures { pages.new.items ≡ damaged stop (spans_of events.now) pages.old.items }
+fn tear_all(pages: &mut HeldPages, events: &[Event], stop: Stop)
+    requires { SpansFit pages.old.front (spans_of events.now) }
+    ensures torn { pages.new.items ≡ damaged stop (spans_of events.now) pages.old.items }
+    ensures front { pages.new.front ≡ pages.old.front }
 {
     for event in events {
         tear_event(pages, event, stop);
@@ -118,9 +89,10 @@ fn tear_all(pages: &mut Vec<[u8; 4096]>, events: &[Event], stop: Stop)
 }
 
 // Tears them where there was a stop.
-fn tear_after(pages: &mut Vec<[u8; 4096]>, events: &[Event], stop: Option<Stop>)
-    requires { SpansFit (length pages.old.items) (spans_of events.now) }
+fn tear_after(pages: &mut HeldPages, events: &[Event], stop: Option<Stop>)
+    requires { SpansFit pages.old.front (spans_of events.now) }
     ensures torn { pages.new.items ≡ after_stop stop (spans_of events.now) pages.old.items }
+    ensures front { pages.new.front ≡ pages.old.front }
     ensures fill { IfSome stop (λ s. s.fill < 256) }
 {
     if let Some(stop) = stop {
@@ -128,44 +100,25 @@ fn tear_after(pages: &mut Vec<[u8; 4096]>, events: &[Event], stop: Option<Stop>)
     }
 }
 
-pub fn zero_page() -> [u8; 4096]
-    ensures size { length result ≡ 4096 }
-    ensures zero { (k : ℕ) → slice_index result k ≡ 0 }
-{
-    [0; 4096]
-}
-
-fn blank_pages(alloc: Global, count: u32) -> Result<Vec<[u8; 4096]>, AllocError>
-    ensures shape { IfOk result (λ v. IsImage count v.items) }
-    ensures zero { IfOk result (λ v. IsBlankImage v.items) }
-{
-    let mut pages = Vec::new(alloc);
-    for _ in 0..count {
-        let page = zero_page();
-        pages.push(page)?;
-    }
-    Ok(pages)
-}
-
 impl Past {
     ghost use Rattle.medium_port.specs.Pasts.{events_in, unsynced_in, left_now, Grows, IsWrittenTo, IsAsBefore};
 
-    pub fn new(alloc: Global, count: u32) -> Result<Past, AllocError>
-        ensures count { IfOk result (λ p. p.count ≡ count) }
-        ensures shape { IfOk result (λ p. IsImage count p.held.items) }
-        ensures blank { IfOk result (λ p. IsBlankImage p.held.items) }
-        ensures fresh { IfOk result (λ p. (events_in p ≡ []) × (unsynced_in p ≡ [])) }
-        ensures only { IfOk result (λ p. Only p.held.items (left_now p)) }
+    pub fn new(alloc: Global, count: u32) -> Past
+        ensures count { result.count ≡ count }
+        ensures shape { IsImage count result.held.items }
+        ensures blank { IsBlankImage result.held.items }
+        ensures fresh { (events_in result ≡ []) × (unsynced_in result ≡ []) }
+        ensures only { Only result.held.items (left_now result) }
     {
-        let held = blank_pages(alloc, count)?;
+        let held = HeldPages::new(alloc, count);
         let first = Snapshot::of(&held);
-        Ok(Past {
+        Past {
             count,
             held,
             unsynced: Vec::new(alloc),
             first,
             events: Vec::new(alloc),
-        })
+        }
     }
 
     // Whether there was memory to write.
@@ -177,10 +130,13 @@ impl Past {
         ensures time { Grows self.old self.new }
         ensures count { self.new.count ≡ self.old.count }
     {
+        if !self.held.hold(page) {
+            return false;
+        }
         if !keep_write(alloc, &mut self.unsynced, &mut self.events, page, at, bytes) {
             return false;
         }
-        write_bytes(&mut self.held, page, at, bytes);
+        self.held.put(page, at, bytes);
         true
     }
 

@@ -22,7 +22,8 @@ loop-event-preserved c =
     let rest = spans_of (drop (i + 1) events) in
     let step = spans_step events i d c.loop-event-test.true in
     record {
-      fit = λ x among. subst (λ (n : ℕ). SpanFits n x) (sym c.tear_event.ensures.size) (c.loop-event.invariant.fit x (subst (λ (l : List Span). Among l x) (sym step) (among_right first rest x among)));
+      fit = λ x among. subst (λ (n : ℕ). SpanFits n x) (sym c.tear_event.ensures.front) (c.loop-event.invariant.fit x (subst (λ (l : List Span). Among l x) (sym step) (among_right first rest x among)));
+      front = c.tear_event.ensures.front ∙ c.loop-event.invariant.front;
       left =
           ap (λ (image : Image). damaged c.args.stop rest image) (c.tear_event.ensures.torn ∙ ap (λ (e : Event). damaged c.args.stop (spans_of (e ∷ [])) old) c.event-item.is)
           ∙ sym (damaged-append c.args.stop first rest old)

@@ -1,21 +1,16 @@
-use Rattle.std.proofs.Common.{List, sym, ◌∙◌, ap, ℕ, length, subst}
+use Rattle.std.proofs.Common.{List, sym, ◌∙◌, ap, ℕ, subst}
 use Rattle.std.proofs.lemmas.Bool.Decides.{when_true}
 use Rattle.medium_port.specs.Image.{Image}
 use Rattle.medium_port.specs.declared.events.Event.{Event}
 use Rattle.medium_port.specs.declared.events.Event.TheVariants.{Reopened}
-use Rattle.medium_port.specs.Disk.{Disk, replay, Span, Among, SpanFits, spans_of, after_stop, MayLeave}
+use Rattle.medium_port.specs.Disk.{Disk, replay, Span, Among, SpansFit, spans_of, after_stop, MayLeave}
 use Rattle.medium_port.specs.Pasts.{first_disk, events_in}
 use Rattle.medium_port.proofs.Disks.{sound_reopen, reopen_crash, now_push, left_push, sound_push, later_push, each_push, before_push, kept_push}
 use Rattle.medium_port.proofs.pasts.Past.reopen.Goals as goal
 
 pub tear_after-requires : goal.tear_after-requires
 tear_after-requires c x among =
-    let m = c.args.self.now in
-    let first = first_disk m in
-    let es = events_in m in
-    let kept = when_true _ _ c.if-not-keep.false c.keep.ensures in
-    let size = ap (λ (i : Image). length i) m.replayed ∙ m.sound.reads.count in
-    subst (λ (n : ℕ). SpanFits n x) (sym size) (m.sound.spans x (subst (λ (l : List Span). Among l x) (ap (λ (l : List Event). spans_of l) c.as_slice.ensures.value ∙ m.tied) among))
+    c.args.self.now.fit x (subst (λ (l : List Span). Among l x) (ap (λ (l : List Event). spans_of l) c.as_slice.ensures.value) among)
 
 pub invariant_of-self-2-clause-replayed : goal.invariant_of-self-2-clause-replayed
 invariant_of-self-2-clause-replayed c =
@@ -77,3 +72,6 @@ returns-clause-one c done =
     let is = c.tear_after.ensures.torn ∙ ap (λ (l : List Span). after_stop c.args.stop l m.held.items) (ap (λ (l : List Event). spans_of l) c.as_slice.ensures.value ∙ m.tied) ∙ ap (λ (i : Image). after_stop c.args.stop (replay first es).unsynced i) m.replayed in
     let sound = sound_reopen m.count (replay first es) c.args.stop c.tear_after.ensures.fill m.sound in
     subst (λ (i : Image). MayLeave m.count (replay first es) i) (sym is) (record { shape = sound.reads; kept = sound.kept })
+
+pub invariant_of-self-2-clause-fit : goal.invariant_of-self-2-clause-fit
+invariant_of-self-2-clause-fit c = subst (λ (n : ℕ). SpansFit n (spans_of c.args.self.now.unsynced.items)) (sym c.tear_after.ensures.front) c.args.self.now.fit

@@ -1,13 +1,16 @@
-use Rattle.std.proofs.Common.{List, sym, ◌∙◌, ap, ◌++◌, [], ◌∷◌, length, subst, arith}
+use Rattle.std.proofs.Common.{ℕ, List, sym, ◌∙◌, ap, ◌++◌, [], ◌∷◌, length, subst, arith}
 use Rattle.std.proofs.lemmas.Bool.Decides.{when_true, when_false}
 use Rattle.std.specs.declared.snapshot.Snapshot.{Snapshot}
 use Rattle.medium_port.specs.Image.{Image, put_bytes}
 use Rattle.medium_port.specs.declared.events.Event.{Event}
 use Rattle.medium_port.specs.declared.events.Event.TheVariants.{Wrote}
-use Rattle.medium_port.specs.Disk.{Disk, replay, Span, spans_of, happened, MayLeave}
+use Rattle.medium_port.specs.Disk.{Disk, replay, Span, SpansFit, spans_of, happened, MayLeave}
 use Rattle.medium_port.specs.Pasts.{first_disk, events_in}
-use Rattle.medium_port.proofs.Disks.{torn_self, write_crash, sound_write, now_push, left_push, sound_push, spans-push, later_push, each_push, before_push, kept_push}
+use Rattle.medium_port.proofs.Disks.{fit_more, fit_push, torn_self, write_crash, sound_write, now_push, left_push, sound_push, spans-push, later_push, each_push, before_push, kept_push}
 use Rattle.medium_port.proofs.pasts.Past.write.Goals as goal
+
+pub returns-then-not-hold-clause-crash : goal.returns-then-not-hold-clause-crash
+returns-then-not-hold-clause-crash c i left = (i, left, torn_self c.args.page c.args.at (length c.args.bytes.now) i)
 
 pub returns-then-not-keep_write-clause-crash : goal.returns-then-not-keep_write-clause-crash
 returns-then-not-keep_write-clause-crash c i left =
@@ -49,7 +52,7 @@ returns-clause-done c =
     let bytes = c.args.bytes.now in
     let event = Wrote c.args.page c.args.at bytes in
     record {
-      reads = c.write_bytes.ensures;
+      reads = c.put.ensures.items ∙ ap (λ (i : Image). put_bytes c.args.page c.args.at bytes i) c.hold.ensures.same;
       unsynced = ap (λ (l : List Event). spans_of l) (when_true _ _ c.if-not-keep_write.false c.keep_write.ensures.unsynced) ∙ spans-push m.unsynced.items event;
     }
 
@@ -61,7 +64,8 @@ invariant_of-self-2-clause-replayed c =
     let kept = when_true _ _ c.if-not-keep_write.false c.keep_write.ensures.events in
     let bytes = c.args.bytes.now in
     let event = Wrote c.args.page c.args.at bytes in
-    c.write_bytes.ensures
+    c.put.ensures.items
+    ∙ ap (λ (i : Image). put_bytes c.args.page c.args.at bytes i) c.hold.ensures.same
     ∙ ap (λ (i : Image). put_bytes c.args.page c.args.at bytes i) m.replayed
     ∙ sym (ap (λ (d : Disk). d.reads) (now_push m.count first es _ event kept))
 
@@ -89,3 +93,15 @@ invariant_of-self-2-clause-tied c =
     ∙ spans-push m.unsynced.items event
     ∙ ap (λ (l : List Span). l ++ span ∷ []) m.tied
     ∙ sym (ap (λ (d : Disk). d.unsynced) (now_push m.count first es _ event kept))
+
+pub invariant_of-self-2-clause-fit : goal.invariant_of-self-2-clause-fit
+invariant_of-self-2-clause-fit c =
+    let m = c.args.self.now in
+    let bytes = c.args.bytes.now in
+    let span : Span = record { page = c.args.page; at = c.args.at; bytes = bytes } in
+    let held = c.hold.ensures.held c.if-not-hold.false in
+    let more = c.hold.ensures.more in
+    let is = ap (λ (l : List Event). spans_of l) (when_true _ _ c.if-not-keep_write.false c.keep_write.ensures.unsynced) ∙ spans-push m.unsynced.items (Wrote c.args.page c.args.at bytes) in
+    subst (λ (n : ℕ). SpansFit n (spans_of c.keep_write.new.unsynced.items)) (sym c.put.ensures.front)
+    (subst (λ (l : List Span). SpansFit c.hold.new.self.front l) (sym is)
+    (fit_push c.hold.new.self.front (spans_of m.unsynced.items) span (fit_more m.held.front c.hold.new.self.front (spans_of m.unsynced.items) more m.fit) (record { page = held; range = c.requires.range; bytes = λ k. omega (arith, c.type_inv.bytes k) })))

@@ -1,0 +1,11 @@
+use Rattle.std.proofs.Common.{sym, subst}
+use Rattle.medium_port.specs.Image.{Image, IsImage, IsBlankImage}
+use Rattle.medium_port.specs.HeldPages.{with_blanks}
+use Rattle.medium_port.proofs.Held.{blank_with, image_with}
+use Rattle.medium_port.proofs.held_pages.HeldPages.new.Goals as goal
+
+pub returns-clause-shape : goal.returns-clause-shape
+returns-clause-shape c = subst (λ (front : Image). IsImage c.args.count (with_blanks c.args.count front)) (sym c.new.ensures.items) (image_with c.args.count)
+
+pub returns-clause-blank : goal.returns-clause-blank
+returns-clause-blank c = subst (λ (front : Image). IsBlankImage (with_blanks c.args.count front)) (sym c.new.ensures.items) (blank_with c.args.count)

@@ -1,0 +1,14 @@
+use Rattle.std.proofs.Common.{ap, arith, ◌∙◌}
+use Rattle.medium_port.specs.Image.{Image, put_bytes}
+use Rattle.medium_port.specs.HeldPages.{HeldParts, with_blanks}
+use Rattle.medium_port.proofs.Held.{put_with}
+use Rattle.medium_port.proofs.held_pages.HeldPages.put.Goals as goal
+
+pub returns-clause-items : goal.returns-clause-items
+returns-clause-items c =
+    let s = c.self.inside in
+    let held = ap (λ (p : HeldParts). p.front) c.self.view_is in
+    let low = c.requires.page in
+    ap (λ (front : Image). with_blanks s.count front) c.write_bytes.ensures
+    ∙ put_with s.count c.args.page c.args.at c.args.bytes.now s.front.items (omega (arith, held, low))
+    ∙ ap (λ (p : HeldParts). put_bytes c.args.page c.args.at c.args.bytes.now p.items) c.self.view_is
