@@ -1,0 +1,85 @@
+-- Where a node is when a run begins.
+use Rattle.std.specs.Prelude.{◌≡◌, ℕ, false, List, [], ◌∷◌, ◌++◌, map, Option, Some, is_some, All, IfSome}
+use Rattle.std.specs.Option.{option_to_list}
+use Rattle.std.proofs.Common.{refl, ap, sym, ◌∙◌, subst}
+use Rattle.std.proofs.lemmas.List.{map-append, same_from_push}
+use Rattle.std.proofs.lemmas.List.Elements.{All-pop}
+use Rattle.atomic_table.specs.declared.shared.Seat.{Seat}
+use Rattle.pseudo_time.specs.declared.nodes.NodeId.{NodeId}
+use Rattle.pseudo_time.specs.Nodes.{repository, broker}
+use Rattle.value_form.specs.declared.acts.ActSpec.{ActSpec}
+use Rattle.seat_lock.specs.declared.views.View.{View}
+use Rattle.seat_lock.specs.declared.views.Founding.{Founding}
+use Rattle.seat_lock.specs.declared.locks.LockTable.{LockTable}
+use Rattle.seat_lock.specs.Words.{knows, fresh}
+use Rattle.world_core.specs.declared.entries.Entry.{Entry}
+use Rattle.world_core.specs.declared.traces.Opened.{Opened}
+use Rattle.world_core.specs.Walks.{Base, opened_flags, opened_log, walk, walk_from}
+use Rattle.wire_core.specs.Wires.{WireParts, base_from}
+use Rattle.wire_core.specs.Boards.{owner_for}
+use Rattle.wire_lock.specs.Sights.{Sight, IsWirePass, flags_at, origin_at, owners_for}
+use Rattle.turn_plays.specs.Passes.{IsAt, IsFresh, IsRunWith, blank_three}
+
+abbrev Pass : Type 0
+Pass = Seat WireParts (View WireParts Entry)
+
+flags-new : (b : Base) (n : NodeId) → (walk b []).flags n ≡ opened_flags (is_some (opened_log b.opened n))
+unfolding walk_from
+flags-new b n = refl
+
+module _ {Q A : Type 0} (lock : LockTable WireParts (View WireParts Entry) (Founding WireParts) Q A) (w : WireParts) (pass : Pass) (is : IsWirePass lock pass) (n : NodeId)
+    (new : knows pass ≡ fresh w (owner_for n)) (blank : w.origin.opened ≡ blank_three) (empty : opened_log blank_three n ≡ Some []) where
+  opened-blank : opened_log w.origin.opened n ≡ Some []
+  opened-blank = ap (λ (os : List Opened). opened_log os n) blank ∙ empty
+
+  at-start : IsAt lock n false false pass
+  at-start = record {
+    of_lock = is;
+    own = ap (λ (k : Sight). k.owner) new;
+    flags = ap (λ (k : Sight). flags_at k n) new ∙ flags-new (base_from w.origin) n ∙ ap (λ o. opened_flags (is_some o)) opened-blank;
+  }
+
+  fresh-start : IsFresh lock n w.origin.start pass
+  fresh-start = record {
+    at = at-start;
+    story = ap (λ (k : Sight). k.story) new;
+    own = ap (λ (k : Sight). k.own) new;
+    begins = ap (λ (k : Sight). (origin_at k).start) new;
+    opened = ap (λ (k : Sight). opened_log (origin_at k).opened n) new ∙ opened-blank;
+  }
+
+-- four passes taken from the end of a list are its last ones
+popped : (ones twos threes fours : List Pass) (all : List Pass) (a b c d : Pass) (x y z v : Sight) → all ≡ ones ++ d ∷ [] → ones ≡ twos ++ c ∷ [] → twos ≡ threes ++ b ∷ [] → threes ≡ fours ++ a ∷ []
+    → map knows all ≡ x ∷ y ∷ z ∷ v ∷ [] → (knows a ≡ x) × (knows b ≡ y) × (knows c ≡ z) × (knows d ≡ v)
+popped ones twos threes fours all a b c d x y z v first second third fourth are =
+    let one = same_from_push (map knows ones) (x ∷ y ∷ z ∷ []) (knows d) v (sym (map-append knows ones (d ∷ [])) ∙ sym (ap (map knows) first) ∙ are) in
+    let two = same_from_push (map knows twos) (x ∷ y ∷ []) (knows c) z (sym (map-append knows twos (c ∷ [])) ∙ sym (ap (map knows) second) ∙ one.0) in
+    let three = same_from_push (map knows threes) (x ∷ []) (knows b) y (sym (map-append knows threes (b ∷ [])) ∙ sym (ap (map knows) third) ∙ two.0) in
+    let four = same_from_push (map knows fours) [] (knows a) x (sym (map-append knows fours (a ∷ [])) ∙ sym (ap (map knows) fourth) ∙ three.0) in
+    (four.1, three.1, two.1, one.1)
+
+-- so are four that are popped off those of a new run of two repositories and one broker
+module _ {Q A : Type 0} (lock : LockTable WireParts (View WireParts Entry) (Founding WireParts) Q A) (w : WireParts) where
+  pub dealt : (all ones twos threes fours : List Pass) (r s t u : Option Pass) (a b c d : Pass) → all ≡ ones ++ option_to_list r → ones ≡ twos ++ option_to_list s → twos ≡ threes ++ option_to_list t → threes ≡ fours ++ option_to_list u
+      → r ≡ Some d → s ≡ Some c → t ≡ Some b → u ≡ Some a → All (IsWirePass lock) all → map knows all ≡ map (fresh w) (owners_for w.origin.opened) → w.origin.opened ≡ blank_three
+      → IsFresh lock (repository 1) w.origin.start a × IsAt lock (repository 2) false false b × IsFresh lock (broker 1) w.origin.start c × IsWirePass lock d × (knows c ≡ fresh w 17)
+  dealt all ones twos threes fours r s t u a b c d first second third fourth last later early front are known blank =
+      let one = All-pop (IsWirePass lock) all ones r first are in
+      let two = All-pop (IsWirePass lock) ones twos s second one.0 in
+      let three = All-pop (IsWirePass lock) twos threes t third two.0 in
+      let four = All-pop (IsWirePass lock) threes fours u fourth three.0 in
+      let own = popped ones twos threes fours all a b c d (fresh w 1) (fresh w 2) (fresh w 17) (fresh w 0) (first ∙ ap (λ o. ones ++ option_to_list o) last) (second ∙ ap (λ o. twos ++ option_to_list o) later)
+      (third ∙ ap (λ o. threes ++ option_to_list o) early) (fourth ∙ ap (λ o. fours ++ option_to_list o) front) (known ∙ ap (λ (os : List Opened). map (fresh w) (owners_for os)) blank) in (
+        fresh-start lock w a (subst (λ o. IfSome o (IsWirePass lock)) front four.1) (repository 1) own.0 blank refl,
+        at-start lock w b (subst (λ o. IfSome o (IsWirePass lock)) early three.1) (repository 2) own.1 blank refl,
+        fresh-start lock w c (subst (λ o. IfSome o (IsWirePass lock)) later two.1) (broker 1) own.2 blank refl,
+        subst (λ o. IfSome o (IsWirePass lock)) last one.1,
+        own.2,
+      )
+
+-- a pass that was just made is of the run of its wire
+pub run-of : (w : WireParts) (all : List ActSpec) (pass : Pass) (number : ℕ) → knows pass ≡ fresh w number → w.origin.run ≡ 1 → w.origin.acts ≡ all → IsRunWith all pass
+run-of w all pass number new run is = record {
+  run = ap (λ (k : Sight). (origin_at k).run) new ∙ run;
+  acts = ap (λ (k : Sight). (origin_at k).acts) new ∙ is;
+}
