@@ -3,8 +3,9 @@
 # two brokers, of which one is refused a write; one act whose repository stops in the middle of a page; and three acts
 # over three repositories. The program is built with checks of each index and sum (checked.sh). Prints for each run how many
 # allocations it has, and what came of those that were refused: status 0, the report as if none had been; 7, memory is wanting; 9, a medium or the sink
-# in memory failed; 8, the program itself gave up. In 0, 7 and 9 the second run had its finals. Each other end is told. The word says how
-# many processes share the numbers, or 1.
+# in memory failed; 8, the program itself gave up. In 0, 7 and 9 the second run had its finals. Each other end is told. The first run
+# is then made by the proved program over files, once for each allocation, and each time again with all memory: how often each
+# status came is told, and where the second run hadn't its acts. The word says how many processes share the numbers, or 1.
 top="$(cd "$(dirname "${BASH_SOURCE[0]}")/.." && pwd)" || exit 1
 made="$(mktemp -d)" || exit 1
 trap 'rm -rf "$made"' EXIT
@@ -45,4 +46,23 @@ run "one act" plain "$top/examples/first.plan"
 run "two brokers" held "$made/two"
 run "a torn page" torn "$top/examples/first.plan"
 run "three repositories" plain "$top/examples/homes.plan"
+
+# The program over a folder, with what is set before it.
+over() {
+  env -i "$@" "$top/crates/swallow_main/out/swallow_main" "$made/folder" run < "$top/examples/first.plan"
+}
+"$top/swallow" "$made/plain" run < "$top/examples/first.plan" | grep -v '^wire' > "$made/acts"
+most=$(over LD_PRELOAD="$made/refuse.so" COUNTED=1 2>&1 > /dev/null | tail -n 1)
+for ((number = 1; number <= most; number++)); do
+  rm -rf "$made/folder"
+  over LD_PRELOAD="$made/refuse.so" REFUSED="$number" > /dev/null 2>&1
+  status=$?
+  again=$(over 2>&1)
+  second=$?
+  grep -v '^wire' <<< "$again" | cmp -s - "$made/acts" && [ "$second" -eq 0 ] || echo "$number: status $status, and then $second: $again"
+  echo "$status" >> "$made/statuses"
+done > "$made/told"
+echo "over files: $most allocations, $(sort "$made/statuses" | uniq -c | awk '{ print "status " $2 ": " $1 }' | paste -s -d ' ')"
+cat "$made/told"
+[ -s "$made/told" ] && wrong=1
 exit "$wrong"
