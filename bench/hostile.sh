@@ -47,7 +47,7 @@ TIMEFORMAT="$block %U"
 echo "$?" > "ends/$block.status"
 B
 chmod +x "$made/block"
-find "$made/cases" -type f | sort | xargs -P "$processes" -n 1 "$made/block" "$made"
+find "$made/cases" -type f | sort -V | xargs -P "$processes" -n 1 "$made/block" "$made"
 
 cd "$made/ends" || exit 1
 awk '/^(plans|pages|messages) [0-9]+ / { kind = $1; count = $2; sub(/^[a-z]+ [0-9]+ /, ""); sums[kind ": " $0] += count }
