@@ -1,5 +1,5 @@
 -- The core of a node at a place of a walk.
-use Rattle.std.specs.Prelude.{◌≡◌, ℕ, true, List, [], ◌++◌, reverse}
+use Rattle.std.specs.Prelude.{◌≡◌, ℕ, true, List, [], ◌++◌}
 use Rattle.pseudo_time.specs.declared.nodes.NodeId.{NodeId}
 use Rattle.pseudo_time.specs.declared.nodes.NodeKind.{NodeKind}
 use Rattle.pseudo_time.specs.declared.nodes.NodeKind.TheVariants.{Repository, Broker}
@@ -11,9 +11,6 @@ use Rattle.object_history.specs.declared.steps.HistoryFault.{HistoryFault}
 use Rattle.object_history.specs.declared.steps.HistoryFault.TheVariants as fault
 use Rattle.repository_core.specs.Cores.{Core}
 use Rattle.turn_form.specs.Ranges.{AreEffects}
-use Rattle.broker_core.specs.Brokers.{IsLedTo}
-use Rattle.broker_core.specs.Parts.{BrokerParts}
-use Rattle.broker_core.specs.Tasks.{Scripted}
 use Rattle.world_core.specs.Nodes.{Mind, Given, acts_of}
 use Rattle.world_core.specs.Walks.{Base}
 pub use Rattle.world_core.specs.Cores.{IsRepository, IsBroker, own_acts, acts_for}

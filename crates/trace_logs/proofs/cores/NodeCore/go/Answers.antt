@@ -12,4 +12,4 @@ returns-in-Repository-clause-gives c b n log mind s =
 pub returns-in-Broker-clause-gives : goal.returns-in-Broker-clause-gives
 returns-in-Broker-clause-gives c b n log mind s =
     broker-answers b n log mind c.in-Broker.core c.go.new.self c.go.result (desks.Go) (Going) refl (subst (StandsFor b n log mind) c.in-Broker.is s)
-    c.go.ensures.gives c.go.ensures.number c.go.ensures.run c.go.ensures.acts
+    c.go.ensures.gives

@@ -14,4 +14,4 @@ returns-in-Repository-clause-gives c b n log mind s =
 pub returns-in-Broker-clause-gives : goal.returns-in-Broker-clause-gives
 returns-in-Broker-clause-gives c b n log mind s =
     broker-answers b n log mind c.in-Broker.core c.take-in-Broker.new.self c.take-in-Broker.result (desks.Take c.args.from c.args.message.now) (Taking c.args.from c.args.message.now) refl (subst (StandsFor b n log mind) c.in-Broker.is s)
-    c.take-in-Broker.ensures.gives c.take-in-Broker.ensures.number c.take-in-Broker.ensures.run c.take-in-Broker.ensures.acts
+    c.take-in-Broker.ensures.gives
