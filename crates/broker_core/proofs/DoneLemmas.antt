@@ -1,7 +1,7 @@
 -- What `done` and `hear` answer.
 use Rattle.std.proofs.Common.{◌≡◌, ℕ, ◌==◌, Bool, true, false, ◌&&◌, length, List, [], ◌++◌, reverse, refl, sym, ◌∙◌, ap, subst, Option, Some, None, if◌then◌else◌}
 use Rattle.std.proofs.lemmas.Bool.{eqb-true}
-use Rattle.std.proofs.lemmas.List.{length-map}
+use Rattle.std.proofs.lemmas.List.{append-nil, length-map}
 use Rattle.value_form.specs.declared.acts.ActSpec.{ActSpec}
 use Rattle.effect_form.specs.declared.effects.Effect.{Effect}
 use Rattle.turn_form.specs.declared.turns.Out.{Out}
@@ -22,8 +22,8 @@ use Rattle.broker_core.specs.Notes.{notes_of, act_at, most_of, over_at}
 use Rattle.broker_core.specs.Phases.{phase_at, standing_at, is_quiet}
 use Rattle.broker_core.specs.Ledgers.{LedgerParts, kept}
 use Rattle.broker_core.specs.Inputs.{listed, over_by}
-use Rattle.broker_core.specs.Parts.{BrokerParts, parts_of}
-use Rattle.broker_core.specs.Brokers.{book_for, IsLedTo, Gives, turn_of, is_done}
+use Rattle.broker_core.specs.Parts.{BrokerParts, IsBroker, IsLedTo, book_of, parts_of}
+use Rattle.broker_core.specs.Brokers.{Gives, turn_of, is_done}
 use Rattle.broker_core.proofs.ShapeLemmas.{over-is}
 use Rattle.broker_core.proofs.SoundLemmas.{sound-kept}
 use Rattle.broker_core.proofs.NotedLemmas.{most-of-last}
@@ -69,13 +69,26 @@ module _ (script : List ℕ → Tree) (run : ℕ) (acts : List ActSpec) where
       ∙ ap (λ (c : Bool). (if b.run == run then (length b.acts == length (tasks acts)) && all_over b.acts else length (tasks acts) == 0) && c)
       (ap is_quiet (phase-any script run acts n answers b h k) ∙ quiet-is (stage script run b h))
 
-pub done-is : (script : List ℕ → Tree) (p : BrokerParts) (log : List Effect) → Scripted script p.acts → IsLedTo script log p →
-    (over_by p.run p.acts p.notes && is_quiet (phase_at p.acts p.run p.notes p.answers p.heard)) ≡ is_done script p log
-done-is script p log m st =
-    done-of script p.run p.acts p.notes p.answers (book_for script p log) p.heard
-    (record { scripted = m; sound = sound-kept script p.number p.run (tasks p.acts) log; shows = st.shows })
+-- what the notes show of the log
+pub knows-of : (script : List ℕ → Tree) (b : BrokerParts) (n : Notes) (answers : List Given) → Scripted script b.acts → IsLedTo script b n answers → Knows script b.run b.acts n answers (book_of script b)
+knows-of script b n answers m st = record { scripted = m; sound = sound-kept script b.number b.run (tasks b.acts) (reverse b.log); shows = st.shows }
 
--- ---- a moment that is heard
+module _ (script : List ℕ → Tree) (l : LedgerParts) (h : Heard) (p : Phase) (log : List Effect) (b : BrokerParts) (view : parts_of l h log ≡ b) (k : IsBroker l h p log) where
+  done-is : Scripted script l.acts → (over_by l.run l.acts l.notes && is_quiet p) ≡ is_done script (parts_of l h log)
+  done-is m =
+      ap (λ (y : Phase). over_by l.run l.acts l.notes && is_quiet y) k.phase_is
+      ∙ done-of script l.run l.acts l.notes (kept l.notes l.answers) (book_of script (parts_of l h log)) h (knows-of script (parts_of l h log) l.notes (kept l.notes l.answers) m (k.led script m))
+
+  done-viewed : Scripted script b.acts → (over_by l.run l.acts l.notes && is_quiet p) ≡ is_done script b
+  done-viewed = subst (λ (x : BrokerParts). Scripted script x.acts → (over_by l.run l.acts l.notes && is_quiet p) ≡ is_done script x) view done-is
+
+  pub done-then : (over quiet : Bool) → over ≡ over_by l.run l.acts l.notes → over ≡ true → quiet ≡ is_quiet p → Scripted script b.acts → quiet ≡ is_done script b
+  done-then over quiet o t e m = e ∙ (ap (λ (c : Bool). c && is_quiet p) (sym t ∙ o) ∙ done-viewed m)
+
+  pub done-else : (over : Bool) → over ≡ over_by l.run l.acts l.notes → over ≡ false → Scripted script b.acts → over ≡ is_done script b
+  done-else over o t m = t ∙ (ap (λ (c : Bool). c && is_quiet p) (sym t ∙ o) ∙ done-viewed m)
+
+-- ---- calls after which the broker is as before
 
 send-alone : (o : Option Out) (log : List Effect) (h : Heard) → (send o (desk_at log h)).outs ≡ listed o
 send-alone None log h = refl
@@ -89,47 +102,28 @@ send-same : (o : Option Out) (log : List Effect) (h : Heard) → (send o (desk_a
 send-same None log h = refl
 send-same (Some x) log h = refl
 
-pub hear-gives : (script : List ℕ → Tree) (p : BrokerParts) (log : List Effect) (moment : ℕ) (turn : Turn) → Scripted script p.acts → IsLedTo script log p →
-    turn.effects ≡ [] → turn.outs ≡ listed (standing_at p.acts p.notes (phase_at p.acts p.run p.notes p.answers p.heard)) → Gives script log (turn_of script p log (Hear moment)) turn p
-hear-gives script p log moment turn m st none outs =
-    let b : Book = book_for script p log in
-    let o : Option Out = standing (stage script p.run b p.heard) in
-    let k : Knows script p.run p.acts p.notes p.answers b = record { scripted = m; sound = sound-kept script p.number p.run (tasks p.acts) log; shows = st.shows } in
-    record {
-      effects = none ∙ sym (ap reverse (send-quiet o log p.heard));
-      outs = outs ∙ (ap listed (standing-any script p.run p.acts p.notes p.answers b p.heard k) ∙ sym (send-alone o log p.heard));
-      heard = sym (send-same o log p.heard);
-      stands = subst (λ (xs : List Effect). IsLedTo script (reverse xs ++ log) p) (sym none) st;
-    }
-
--- a message that is ignored
-pub ignored-gives : (script : List ℕ → Tree) (p : BrokerParts) (log : List Effect) (d : Desk) (turn : Turn) → IsLedTo script log p → d ≡ desk_at log p.heard → turn.effects ≡ [] → turn.outs ≡ [] → Gives script log d turn p
-ignored-gives script p log d turn st e none nothing = record {
-  effects = none ∙ sym (ap (λ (x : Desk). reverse x.fresh) e);
-  outs = nothing ∙ sym (ap (λ (x : Desk). x.outs) e);
-  heard = sym (ap (λ (x : Desk). x.heard) e);
-  stands = subst (λ (xs : List Effect). IsLedTo script (reverse xs ++ log) p) (sym none) st;
+still-gives : (b : BrokerParts) (d : Desk) (turn : Turn) (outs : List Out) → d.fresh ≡ [] → d.outs ≡ outs → d.heard ≡ b.heard → turn.effects ≡ [] → turn.outs ≡ outs → Gives d turn b b
+still-gives b d turn outs f o h te to = record {
+  effects = te ∙ sym (ap reverse f);
+  outs = to ∙ sym o;
+  broker = λ j. record { number = b.number; run = b.run; acts = b.acts; log = (sym (append-nil b.log) ∙ ap (λ (xs : List Effect). b.log ++ xs) (sym te)) j; heard = sym h j };
 }
 
-pub hear-viewed : (script : List ℕ → Tree) (q : BrokerParts) (l : LedgerParts) (h : Heard) (p : Phase) (log : List Effect) (moment : ℕ) (out : Option Out) (effects : List Effect) (outs : List Out) (turn : Turn) →
-    parts_of l h ≡ q → p ≡ phase_at l.acts l.run l.notes (kept l.notes l.answers) h → out ≡ standing_at l.acts l.notes p → turn.effects ≡ effects → effects ≡ [] → turn.outs ≡ outs → outs ≡ listed out →
-    Scripted script q.acts → IsLedTo script log q → Gives script log (turn_of script q log (Hear moment)) turn q
-hear-viewed script q l h p log moment out effects outs turn view p-is o-is te none to os =
-    subst (λ (x : BrokerParts). Scripted script x.acts → IsLedTo script log x → Gives script log (turn_of script x log (Hear moment)) turn x) view
-    (λ m st. hear-gives script (parts_of l h) log moment turn m st (te ∙ none) (to ∙ (os ∙ ap listed (o-is ∙ ap (standing_at l.acts l.notes) p-is))))
+-- a message that is ignored
+pub ignored-gives : (b : BrokerParts) (d : Desk) (turn : Turn) → d ≡ desk_at (reverse b.log) b.heard → turn.effects ≡ [] → turn.outs ≡ [] → Gives d turn b b
+ignored-gives b d turn e none nothing = still-gives b d turn [] (ap (λ (x : Desk). x.fresh) e) (ap (λ (x : Desk). x.outs) e) (ap (λ (x : Desk). x.heard) e) none nothing
 
-done-viewed : (script : List ℕ → Tree) (q : BrokerParts) (l : LedgerParts) (h : Heard) (p : Phase) (log : List Effect) → parts_of l h ≡ q → p ≡ phase_at l.acts l.run l.notes (kept l.notes l.answers) h →
-    Scripted script q.acts → IsLedTo script log q → (over_by q.run q.acts q.notes && is_quiet p) ≡ is_done script q log
-done-viewed script q l h p log view p-is =
-    subst (λ (x : BrokerParts). Scripted script x.acts → IsLedTo script log x → (over_by x.run x.acts x.notes && is_quiet p) ≡ is_done script x log) view
-    (λ m st. ap (λ (y : Phase). over_by l.run l.acts l.notes && is_quiet y) p-is ∙ done-is script (parts_of l h) log m st)
-
-pub done-then : (script : List ℕ → Tree) (q : BrokerParts) (l : LedgerParts) (h : Heard) (p : Phase) (log : List Effect) (over quiet : Bool) → parts_of l h ≡ q → p ≡ phase_at l.acts l.run l.notes (kept l.notes l.answers) h →
-    over ≡ over_by q.run q.acts q.notes → over ≡ true → quiet ≡ is_quiet p → Scripted script q.acts → IsLedTo script log q → quiet ≡ is_done script q log
-done-then script q l h p log over quiet view p-is o t e m st =
-    e ∙ (ap (λ (c : Bool). c && is_quiet p) (sym t ∙ o) ∙ done-viewed script q l h p log view p-is m st)
-
-pub done-else : (script : List ℕ → Tree) (q : BrokerParts) (l : LedgerParts) (h : Heard) (p : Phase) (log : List Effect) (over : Bool) → parts_of l h ≡ q → p ≡ phase_at l.acts l.run l.notes (kept l.notes l.answers) h →
-    over ≡ over_by q.run q.acts q.notes → over ≡ false → Scripted script q.acts → IsLedTo script log q → over ≡ is_done script q log
-done-else script q l h p log over view p-is o t m st =
-    t ∙ (ap (λ (c : Bool). c && is_quiet p) (sym t ∙ o) ∙ done-viewed script q l h p log view p-is m st)
+-- a moment that is heard
+pub hear-gives : (script : List ℕ → Tree) (l : LedgerParts) (h : Heard) (p : Phase) (log : List Effect) (b : BrokerParts) (moment : ℕ) (out : Option Out) (turn : Turn) → parts_of l h log ≡ b → IsBroker l h p log →
+    out ≡ standing_at l.acts l.notes p → turn.effects ≡ [] → turn.outs ≡ listed out → Scripted script b.acts → Gives (turn_of script b (Hear moment)) turn b b
+hear-gives script l h p log b moment out turn view k o-is te to =
+    subst (λ (x : BrokerParts). Scripted script x.acts → Gives (turn_of script x (Hear moment)) turn x x) view go
+  where
+    go : Scripted script l.acts → Gives (turn_of script (parts_of l h log) (Hear moment)) turn (parts_of l h log) (parts_of l h log)
+    go m =
+        let q : BrokerParts = parts_of l h log in
+        let o : Option Out = standing (stage script l.run (book_of script q) h) in
+        let stands : out ≡ o =
+        o-is ∙ (ap (standing_at l.acts l.notes) k.phase_is
+        ∙ standing-any script l.run l.acts l.notes (kept l.notes l.answers) (book_of script q) h (knows-of script q l.notes (kept l.notes l.answers) m (k.led script m))) in
+        still-gives q (turn_of script q (Hear moment)) turn (listed out) (send-quiet o (reverse log) h) (send-alone o (reverse log) h ∙ ap listed (sym stands)) (send-same o (reverse log) h) te to

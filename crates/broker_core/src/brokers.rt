@@ -27,10 +27,10 @@ use message_form::Message;
 use pseudo_time::NodeId;
 use std::alloc::{AllocError, Global};
 use std::marker::Model;
-use turn_form::{Out, Turn};
+use turn_form::{Out, SnapshotLog, Turn};
 use value_form::ActSpec;
 
-/// A broker in a run of a plan. It keeps notes on its log, and not the log.
+/// A broker in a run of a plan. Contracts see its log; it keeps notes on it, and not the log.
 ///
 /// A call that answers an error found no memory, and the broker is as before.
 #[derive(Drop)]
@@ -39,6 +39,8 @@ pub struct Broker {
     heard: Heard,
     /// The stage of the last try.
     phase: Phase,
+    /// What the notes are on.
+    log: SnapshotLog,
 }
 
 impl Model for Broker {
@@ -50,9 +52,9 @@ impl Model for Broker {
 
     ghost coded = { Prim.hlevel (codes, stmt.the_row.coded) };
 
-    ghost view = { λ b. parts_of b.ledger b.heard };
+    ghost view = { λ b. parts_of b.ledger b.heard b.log };
 
-    ghost invariant = { λ b. IsBroker b.ledger b.heard b.phase };
+    ghost invariant = { λ b. IsBroker b.ledger b.heard b.phase b.log };
 }
 
 // What an input led to: the new effects, the messages and the stage.
@@ -99,7 +101,12 @@ fn add_first(
 }
 
 // Adds the effect, and those that are owed after it, and says what is to be sent.
-fn yielded(ledger: &mut Replay, first: Option<Effect>, heard: &Heard) -> Result<Gain, AllocError>
+fn yielded(
+    ledger: &mut Replay,
+    log: &mut SnapshotLog,
+    first: Option<Effect>,
+    heard: &Heard,
+) -> Result<Gain, AllocError>
     requires { inputs.MayBegin ledger.old.acts ledger.old.notes (ledgers.kept ledger.old.notes ledger.old.answers) first }
     ensures effects { IfOk result (λ w. reverse w.effects.items ≡ inputs.effects_from ledger.old first heard.now) }
     ensures ledger { OnOk result (ledger.new ≡ inputs.ledger_from ledger.old first heard.now) }
@@ -110,6 +117,8 @@ fn yielded(ledger: &mut Replay, first: Option<Effect>, heard: &Heard) -> Result<
     ensures number { ledger.new.number ≡ ledger.old.number }
     ensures run { ledger.new.run ≡ ledger.old.run }
     ensures acts { ledger.new.acts ≡ ledger.old.acts }
+    ensures logged { IfOk result (λ w. log.new ≡ log.old ++ w.effects.items) }
+    ensures unlogged { OnErr result (log.new ≡ log.old) }
 {
     let alloc = ledger.alloc();
     let mut effects = Vec::new(alloc);
@@ -117,6 +126,7 @@ fn yielded(ledger: &mut Replay, first: Option<Effect>, heard: &Heard) -> Result<
     let phase = settle(ledger, heard, &mut effects)?;
     let out = standing(ledger, &phase)?;
     let outs = listed(alloc, out)?;
+    log.add(alloc, effects.as_slice())?;
     Ok(Gain {
         effects,
         outs,
@@ -140,6 +150,18 @@ fn resume_fault(ledger: &Replay, other: Option<u32>) -> Option<ResumeFault>
     }
 }
 
+// Whether each act of the plan has its outcome.
+fn is_over(ledger: &Replay) -> bool
+    ensures { result ≡ inputs.over_by ledger.now.run ledger.now.acts ledger.now.notes }
+{
+    if !ledger.is_here() {
+        return ledger.act_count() == 0;
+    }
+    let notes = ledger.notes();
+    let most = ledger.last_tries();
+    notes.started == ledger.act_count() && notes.is_over(most)
+}
+
 impl Broker {
     ghost use Rattle.broker_core.specs.Parts.{BrokerParts};
 
@@ -161,8 +183,8 @@ impl Broker {
         requires run { 1 ≤ run }
         requires acts { ledgers.AreActs acts.now }
         requires log { AreEffects effects.now }
-        ensures opens { (script : List ℕ → Tree) → Scripted script acts.now → spec.Opens script number run acts.now (reverse effects.now) result }
-        ensures fresh { IfOk result (λ b. spec.is_fresh number run acts.now b) }
+        ensures opens { (script : List ℕ → Tree) → Scripted script acts.now → spec.Opens script number run acts.now effects.now result }
+        ensures fresh { IfOk result (λ b. b ≡ spec.opened_broker number run acts.now effects.now) }
     {
         let mut ledger = Replay::new(alloc, number, run, acts)?;
         let other = take_up_all(&mut ledger, effects)?;
@@ -171,26 +193,26 @@ impl Broker {
         }
         let heard = Heard::nothing();
         let phase = phase_now(&mut ledger, &heard)?;
+        let mut log = SnapshotLog::new(alloc);
+        log.add(alloc, effects)?;
         Ok(Broker {
             ledger,
             heard,
             phase,
+            log,
         })
     }
 
     // Adds the effect, hears what is heard now, and what follows.
     fn advance(&mut self, first: Option<Effect>, heard: Heard) -> Result<Turn, AllocError>
-        requires may { inputs.MayBegin self.old.acts self.old.notes self.old.answers first }
-        requires fits { ranges.FirstInRange first }
-        ensures gives { (script : List ℕ → Tree) (log : List Effect) → Scripted script self.old.acts → spec.IsLedTo script log self.old → spec.FirstFits script self.old log first → IfOk result (λ t. spec.Gives script log (spec.follows script self.old log first heard) t self.new) }
+        requires fits { (script : List ℕ → Tree) → Scripted script self.old.acts → spec.FirstFits script self.old first }
+        requires in_range { ranges.FirstInRange first }
+        ensures gives { (script : List ℕ → Tree) → Scripted script self.old.acts → IfOk result (λ t. spec.Gives (spec.follows script self.old first heard) t self.old self.new) }
         ensures in_range { IfOk result (λ t. AreEffects t.effects × AreOuts t.outs) }
-        ensures number { self.new.number ≡ self.old.number }
-        ensures run { self.new.run ≡ self.old.run }
-        ensures acts { self.new.acts ≡ self.old.acts }
         ensures err { OnErr result (self.new ≡ self.old) }
     {
         let before = self.ledger.notes();
-        match yielded(&mut self.ledger, first, &heard) {
+        match yielded(&mut self.ledger, &mut self.log, first, &heard) {
             Ok(
                 Gain {
                     effects,
@@ -211,11 +233,8 @@ impl Broker {
 
     /// The broker goes: what is owed is done, and the outstanding request is sent.
     pub fn go(&mut self) -> Result<Turn, AllocError>
-        ensures gives { (script : List ℕ → Tree) (log : List Effect) → Scripted script self.old.acts → spec.IsLedTo script log self.old → IfOk result (λ t. spec.Gives script log (spec.turn_of script self.old log Go) t self.new) }
+        ensures gives { (script : List ℕ → Tree) → Scripted script self.old.acts → IfOk result (λ t. spec.Gives (spec.turn_of script self.old Go) t self.old self.new) }
         ensures in_range { IfOk result (λ t. AreEffects t.effects × AreOuts t.outs) }
-        ensures number { self.new.number ≡ self.old.number }
-        ensures run { self.new.run ≡ self.old.run }
-        ensures acts { self.new.acts ≡ self.old.acts }
         ensures err { OnErr result (self.new ≡ self.old) }
     {
         let heard = Heard {
@@ -231,11 +250,8 @@ impl Broker {
     /// request has its stamp and step, so who sent the answer doesn't matter.
     pub fn take(&mut self, from: NodeId, message: &Message) -> Result<Turn, AllocError>
         requires message { IsMessage message.now }
-        ensures gives { (script : List ℕ → Tree) (log : List Effect) → Scripted script self.old.acts → spec.IsLedTo script log self.old → IfOk result (λ t. spec.Gives script log (spec.turn_of script self.old log (Take from message.now)) t self.new) }
+        ensures gives { (script : List ℕ → Tree) → Scripted script self.old.acts → IfOk result (λ t. spec.Gives (spec.turn_of script self.old (Take from message.now)) t self.old self.new) }
         ensures in_range { IfOk result (λ t. AreEffects t.effects × AreOuts t.outs) }
-        ensures number { self.new.number ≡ self.old.number }
-        ensures run { self.new.run ≡ self.old.run }
-        ensures acts { self.new.acts ≡ self.old.acts }
         ensures err { OnErr result (self.new ≡ self.old) }
     {
         match reply_to(&mut self.ledger, &self.phase, &self.heard, message)? {
@@ -254,9 +270,9 @@ impl Broker {
 
     /// A moment is heard, whichever it is, and the outstanding request is sent again.
     pub fn hear(&mut self, moment: u64) -> Result<Turn, AllocError>
-        ensures gives { (script : List ℕ → Tree) (log : List Effect) → Scripted script self.old.acts → spec.IsLedTo script log self.old → IfOk result (λ t. spec.Gives script log (spec.turn_of script self.old log (Hear moment)) t self.new) }
+        ensures gives { (script : List ℕ → Tree) → Scripted script self.old.acts → IfOk result (λ t. spec.Gives (spec.turn_of script self.old (Hear moment)) t self.old self.new) }
         ensures in_range { IfOk result (λ t. AreEffects t.effects × AreOuts t.outs) }
-        ensures same { self.new ≡ self.old }
+        ensures err { OnErr result (self.new ≡ self.old) }
     {
         let alloc = self.ledger.alloc();
         let out = standing(&self.ledger, &self.phase)?;
@@ -264,22 +280,10 @@ impl Broker {
         Ok(Turn::of(Vec::new(alloc), outs))
     }
 
-    // Whether each act of the plan has its outcome.
-    fn is_over(&self) -> bool
-        ensures { result ≡ inputs.over_by self.now.run self.now.acts self.now.notes }
-    {
-        if !self.ledger.is_here() {
-            return self.ledger.act_count() == 0;
-        }
-        let notes = self.ledger.notes();
-        let most = self.ledger.last_tries();
-        notes.started == self.ledger.act_count() && notes.is_over(most)
-    }
-
     /// Whether each act has its outcome and no request is outstanding. Takes no memory.
     pub fn done(&self) -> bool
-        ensures { (script : List ℕ → Tree) (log : List Effect) → Scripted script self.now.acts → spec.IsLedTo script log self.now → result ≡ spec.is_done script self.now log }
+        ensures { (script : List ℕ → Tree) → Scripted script self.now.acts → result ≡ spec.is_done script self.now }
     {
-        self.is_over() && self.phase.is_quiet()
+        is_over(&self.ledger) && self.phase.is_quiet()
     }
 }

@@ -10,8 +10,10 @@ use Rattle.serial_model.specs.Questions.{Tree}
 use Rattle.version_store.specs.declared.faults.OpenFault.TheVariants as opening
 use Rattle.broker_core.specs.declared.resume_faults.ResumeFault.{ResumeFault}
 use Rattle.broker_core.specs.declared.resume_faults.ResumeFault.TheVariants as resuming
-use Rattle.broker_core.specs.Brokers.{IsLedTo, Gives, Opens, turn_of, is_fresh}
-use Rattle.broker_core.specs.Fits.{resume_fault}
+use Rattle.broker_core.specs.Book.{book}
+use Rattle.broker_core.specs.Brokers.{Gives, Opens, is_done, opened_broker, turn_of}
+use Rattle.broker_core.specs.Fits.{keep, resume_fault}
+use Rattle.broker_core.specs.Owed.{done}
 use Rattle.broker_core.specs.Parts.{BrokerParts}
 use Rattle.broker_core.specs.Tasks.{Scripted, tasks}
 use Rattle.broker_core.specs.Turns as desks
@@ -20,38 +22,42 @@ use Rattle.world_core.specs.Nodes.{Input, broker_gives, with_desk, desk_after, a
 use Rattle.world_core.specs.Walks.{Base, Life, all_effects, opened_life, gated_life, after_input}
 use Rattle.world_core.proofs.CoreTurns.{gives-broker, broker-gave}
 use Rattle.node_turn.specs.Cores.{HasTurn, IsReady, given_for}
-use Rattle.broker_node.specs.Logs.{as_damage}
+use Rattle.broker_node.specs.Logs.{as_damage, is_over}
 
 -- ---- turns
 
 -- the turn is what the rules give, and the broker has the life after it
 pub gave-broker : (b : Base) (n : NodeId) (l : Life) (p q : BrokerParts) (i : desks.Input) (j : Input) (t : Turn)
     → broker_gives b.script b.run b.acts n.number (all_effects l) l.mind j ≡ with_desk l.mind (desk_after b.script b.run b.acts n.number (all_effects l) l.mind i)
-    → IsBroker b n (all_effects l) l.mind p → ((script : List ℕ → Tree) (log : List Effect) → Scripted script p.acts → IsLedTo script log p → Gives script log (turn_of script p log i) t q)
-    → q.number ≡ p.number → q.run ≡ p.run → q.acts ≡ p.acts → HasTurn (given_for b n l j) t × IsBroker b n (all_effects (after_input b n l j)) (after_input b n l j).mind q
-gave-broker b n l p q i j t same s g number run acts =
+    → IsBroker b n (all_effects l) l.mind p → ((script : List ℕ → Tree) → Scripted script p.acts → Gives (turn_of script p i) t p q)
+    → HasTurn (given_for b n l j) t × IsBroker b n (all_effects (after_input b n l j)) (after_input b n l j).mind q
+gave-broker b n l p q i j t same s g =
     let log = all_effects l in
     let y : BrokerGave b n log (given_for b n l j) t q =
-    subst (λ z. BrokerGave b n log z t q) (sym (gives-broker b.script b.run b.acts n log l.mind j s.kind ∙ same)) (broker-gave b n log l.mind p q t i s (g b.script (reverse log) s.scripted s.stands) number run acts) in
+    subst (λ z. BrokerGave b n log z t q) (sym (gives-broker b.script b.run b.acts n log l.mind j s.kind ∙ same)) (broker-gave b n log l.mind p q t i s (g b.script s.scripted)) in
     ((y.effects, y.outs), subst (λ k. IsBroker b n k (given_for b n l j).mind q) (append_assoc l.gated l.fresh (given_for b n l j).effects) y.stands)
 
 -- after its gate it has the same log
 pub gated-broker : (b : Base) (n : NodeId) (l : Life) (p : BrokerParts) → IsBroker b n (all_effects l) l.mind p → IsBroker b n (all_effects (gated_life l)) l.mind p
 gated-broker b n l p s = subst (λ log. IsBroker b n log l.mind p) (sym (append-nil (all_effects l))) s
 
+-- it is done where the rules say so of its life
+pub done-over : (b : Base) (i : ℕ) (l : Life) (p : BrokerParts) → IsBroker b (broker i) (all_effects l) l.mind p → is_done b.script p ≡ is_over b i l
+done-over b i l p s = λ j. done b.script (s.run j) (tasks (s.acts j)) (book (keep b.script (s.number j) (s.run j) (tasks (s.acts j)) (reverse (s.log j)))) (s.heard j)
+
 -- ---- openings
 
 -- a broker that was opened over a log has the life of a node that was opened with it
-pub opened-broker : (b : Base) (i r : ℕ) (acts : List ActSpec) (log : List Effect) (p : BrokerParts) → b.run ≡ r → acts ≡ acts_of i b.acts → Scripted b.script acts → is_fresh i r acts p → IsLedTo b.script (reverse log) p
+pub opened-broker : (b : Base) (i r : ℕ) (acts : List ActSpec) (log : List Effect) (p : BrokerParts) → b.run ≡ r → acts ≡ acts_of i b.acts → Scripted b.script acts → p ≡ opened_broker i r acts log
     → IsBroker b (broker i) (all_effects (opened_life b.start log)) (opened_mind b.start) p
-opened-broker b i r acts log p run own scripted f led = record {
+opened-broker b i r acts log p run own scripted f = record {
   kind = refl;
-  number = f.0;
-  run = f.1 ∙ sym run;
-  acts = f.2 ∙ own;
-  heard = f.3;
-  scripted = subst (Scripted b.script) (sym f.2) scripted;
-  stands = subst (λ l. IsLedTo b.script (reverse l) p) (sym (append-nil log)) led;
+  number = ap (λ (x : BrokerParts). x.number) f;
+  run = ap (λ (x : BrokerParts). x.run) f ∙ sym run;
+  acts = ap (λ (x : BrokerParts). x.acts) f ∙ own;
+  log = ap (λ (x : BrokerParts). x.log) f ∙ sym (append-nil log);
+  heard = ap (λ (x : BrokerParts). x.heard) f;
+  scripted = subst (Scripted b.script) (sym (ap (λ (x : BrokerParts). x.acts) f)) scripted;
 }
 
 -- a log with which it is ready shows no fault
@@ -63,7 +69,7 @@ no-some : {A : Type 0} (o : Option A) (x : A) → o ≡ Some x → is_none o ≡
 no-some o x e h = let z : false ≡ true = sym (ap is_none e) ∙ h in cc z
 
 -- so an opening of it tells none
-pub opens-sound : (b : Base) (i r : ℕ) (acts : List ActSpec) (log : List Effect) (f : ResumeFault) (page : ℕ) → b.run ≡ r → acts ≡ acts_of i b.acts → IsReady b (broker i) log → Opens b.script i r acts (reverse log) (Err f)
+pub opens-sound : (b : Base) (i r : ℕ) (acts : List ActSpec) (log : List Effect) (f : ResumeFault) (page : ℕ) → b.run ≡ r → acts ≡ acts_of i b.acts → IsReady b (broker i) log → Opens b.script i r acts log (Err f)
     → as_damage f ≡ opening.Damaged page → ⊥
 opens-sound b i r acts log resuming.NoMemory page run own h o e = cc e
 opens-sound b i r acts log (resuming.OldRun n) page run own h o e = no-some (resume_fault b.script i r (tasks acts) (reverse log)) (resuming.OldRun n) o (no-fault b i r acts log run own h)

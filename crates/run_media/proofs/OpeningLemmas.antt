@@ -127,15 +127,15 @@ module _ {M : Type 0} {g : _} (plan : Plan) (n : NodeId) (o : Opening M g) where
       go (Some (refusal.Resume f)) e = (tt, subst (λ (k : NodeKind). kind_fault plan k n.number effects.items ≡ Some f) (sym kind) e.0, e.1)
 
 -- what opening a broker says of its log where it doesn't answer for want of memory
-pub opens-fault : (s : List ℕ → Tree) (number run : ℕ) (acts : List ActSpec) (log : List Effect) (f : ResumeFault) → f ≢ fault.NoMemory → Opens s number run acts log (Err f) → resume_fault s number run (tasks acts) log ≡ Some f
+pub opens-fault : (s : List ℕ → Tree) (number run : ℕ) (acts : List ActSpec) (log : List Effect) (f : ResumeFault) → f ≢ fault.NoMemory → Opens s number run acts log (Err f) → resume_fault s number run (tasks acts) (reverse log) ≡ Some f
 opens-fault s number run acts log fault.NoMemory other h = absurd (other refl)
 opens-fault s number run acts log (fault.OldRun n) other h = h
 opens-fault s number run acts log (fault.OtherPlan i) other h = h
 
-pub refuses-err : (plan : Plan) (number : ℕ) (acts : List ActSpec) (log : List Effect) (f : ResumeFault) (r : Refusal) → acts ≡ acts_of number plan.acts → IsRefusalFor f r → Opens (reading plan.acts) number plan.run acts (reverse log) (Err f) → RefusesLog plan number log (Some r)
+pub refuses-err : (plan : Plan) (number : ℕ) (acts : List ActSpec) (log : List Effect) (f : ResumeFault) (r : Refusal) → acts ≡ acts_of number plan.acts → IsRefusalFor f r → Opens (reading plan.acts) number plan.run acts log (Err f) → RefusesLog plan number log (Some r)
 refuses-err plan number acts log f refusal.NoMemory own is h = tt
 refuses-err plan number acts log f (refusal.Resume told) own is h =
-    let e : resume_fault (reading plan.acts) number plan.run (tasks acts) (reverse log) ≡ Some f = opens-fault (reading plan.acts) number plan.run acts (reverse log) f is.1 h in (
+    let e : resume_fault (reading plan.acts) number plan.run (tasks acts) (reverse log) ≡ Some f = opens-fault (reading plan.acts) number plan.run acts log f is.1 h in (
       subst (λ (a : List ActSpec). resume_fault (reading plan.acts) number plan.run (tasks a) (reverse log) ≡ Some told) own (e ∙ ap (λ (k : ResumeFault). Some k) (sym is.0)),
       λ n. is.1 (sym is.0 ∙ n),
     )

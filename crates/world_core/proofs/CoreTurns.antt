@@ -2,7 +2,7 @@
 use Rattle.std.proofs.Common.{◌≡◌, ℕ, ◌++◌, List, [], reverse, refl, sym, ap, subst, ◌∙◌, Result, Ok, Err}
 use Rattle.std.specs.Prelude.{IfOk, OnOk}
 use Rattle.std.specs.declared.alloc.AllocError.{AllocError}
-use Rattle.std.proofs.lemmas.List.{append-nil, reverse-append}
+use Rattle.std.proofs.lemmas.List.{append-nil}
 use Rattle.pseudo_time.specs.declared.nodes.NodeId.{NodeId}
 use Rattle.pseudo_time.specs.declared.nodes.NodeKind.TheVariants.{Repository, Broker}
 use Rattle.value_form.specs.declared.acts.ActSpec.{ActSpec}
@@ -12,7 +12,7 @@ use Rattle.object_history.specs.declared.steps.HistoryFault.{HistoryFault}
 use Rattle.serial_model.specs.Questions.{Tree}
 use Rattle.repository_core.specs.Cores.{Core, given}
 use Rattle.repository_core.specs.Turns as turns
-use Rattle.broker_core.specs.Brokers.{IsLedTo, Gives, turn_of}
+use Rattle.broker_core.specs.Brokers.{Gives, turn_of}
 use Rattle.broker_core.specs.Parts.{BrokerParts}
 use Rattle.broker_core.specs.Tasks.{Scripted, tasks}
 use Rattle.broker_core.specs.Turns as desks
@@ -55,23 +55,23 @@ module _ (b : Base) (n : NodeId) (log : List Effect) (mind : Mind) where
   broker-quiet : (t : Turn) (p : BrokerParts) → t.effects ≡ [] → t.outs ≡ [] → IsBroker b n log mind p → BrokerGave b n log (nothing_given mind) t p
   broker-quiet t p e o s = record { effects = e; outs = o; stands = subst (λ l. IsBroker b n l mind p) (sym (append-nil log)) s }
 
-  pub broker-gave : (p q : BrokerParts) (t : Turn) (i : desks.Input) → IsBroker b n log mind p → Gives b.script (reverse log) (turn_of b.script p (reverse log) i) t q → q.number ≡ p.number → q.run ≡ p.run → q.acts ≡ p.acts →
-      BrokerGave b n log (with_desk mind (desk_after b.script b.run b.acts n.number log mind i)) t q
-  broker-gave p q t i s g number run acts =
-      let e : turn_of b.script p (reverse log) i ≡ desk_after b.script b.run b.acts n.number log mind i =
-      λ j. desks.desk_turn b.script (s.number j) (s.run j) (tasks (s.acts j)) (desks.desk_at (reverse log) (s.heard j)) i in
+  pub broker-gave : (p q : BrokerParts) (t : Turn) (i : desks.Input) → IsBroker b n log mind p → Gives (turn_of b.script p i) t p q → BrokerGave b n log (with_desk mind (desk_after b.script b.run b.acts n.number log mind i)) t q
+  broker-gave p q t i s g =
+      let e : turn_of b.script p i ≡ desk_after b.script b.run b.acts n.number log mind i =
+      λ j. desks.desk_turn b.script (s.number j) (s.run j) (tasks (s.acts j)) (desks.desk_at (reverse (s.log j)) (s.heard j)) i in
       let f : t.effects ≡ reverse (desk_after b.script b.run b.acts n.number log mind i).fresh = g.effects ∙ ap (λ d. reverse d.fresh) e in
+      let acts : q.acts ≡ p.acts = ap (λ (x : BrokerParts). x.acts) g.broker in
       record {
         effects = f;
         outs = g.outs ∙ ap (λ d. d.outs) e;
         stands = record {
           kind = s.kind;
-          number = number ∙ s.number;
-          run = run ∙ s.run;
+          number = ap (λ (x : BrokerParts). x.number) g.broker ∙ s.number;
+          run = ap (λ (x : BrokerParts). x.run) g.broker ∙ s.run;
           acts = acts ∙ s.acts;
-          heard = g.heard ∙ ap (λ d. d.heard) e;
+          log = ap (λ (x : BrokerParts). x.log) g.broker ∙ (λ j. s.log j ++ f j);
+          heard = ap (λ (x : BrokerParts). x.heard) g.broker ∙ ap (λ d. d.heard) e;
           scripted = subst (Scripted b.script) (sym acts) s.scripted;
-          stands = subst (λ l. IsLedTo b.script l q) (sym (reverse-append log t.effects) ∙ ap (λ x. reverse (log ++ x)) f) g.stands;
         };
       }
 
@@ -94,9 +94,7 @@ module _ (b : Base) (n : NodeId) (log : List Effect) (mind : Mind) where
       (repository-gave n log mind r q t i s (subst (λ x. IfOk x (λ t. given t q.mind ≡ turns.gives r.number r.log r.mind i)) k g) (subst (λ x. IfOk x (λ t. q.log ≡ r.log ++ t.effects)) k l) (subst (λ x. OnOk x (q.number ≡ r.number)) k m))
 
   pub broker-answers : (p q : BrokerParts) (x : Result Turn AllocError) (i : desks.Input) (j : Input) → broker_gives b.script b.run b.acts n.number log mind j ≡ with_desk mind (desk_after b.script b.run b.acts n.number log mind i) →
-      IsBroker b n log mind p → ((script : List ℕ → Tree) (l : List Effect) → Scripted script p.acts → IsLedTo script l p → IfOk x (λ t. Gives script l (turn_of script p l i) t q)) → q.number ≡ p.number → q.run ≡ p.run → q.acts ≡ p.acts →
-      IfOk x (λ t. BrokerGave b n log (gives b.script b.run b.acts n log mind j) t q)
-  broker-answers p q (Err e) i j same s g number run acts = tt
-  broker-answers p q (Ok t) i j same s g number run acts =
-      subst (λ z. BrokerGave b n log z t q) (sym (gives-broker b.script b.run b.acts n log mind j s.kind ∙ same))
-      (broker-gave p q t i s (g b.script (reverse log) s.scripted s.stands) number run acts)
+      IsBroker b n log mind p → ((script : List ℕ → Tree) → Scripted script p.acts → IfOk x (λ t. Gives (turn_of script p i) t p q)) → IfOk x (λ t. BrokerGave b n log (gives b.script b.run b.acts n log mind j) t q)
+  broker-answers p q (Err e) i j same s g = tt
+  broker-answers p q (Ok t) i j same s g =
+      subst (λ z. BrokerGave b n log z t q) (sym (gives-broker b.script b.run b.acts n log mind j s.kind ∙ same)) (broker-gave p q t i s (g b.script s.scripted))

@@ -1,5 +1,5 @@
 -- A node's core at a place of a walk: where the log and the mind of its life have led it. It may keep any histories.
-use Rattle.std.specs.Prelude.{◌≡◌, ℕ, List, [], ◌++◌, reverse}
+use Rattle.std.specs.Prelude.{◌≡◌, ℕ, List, [], ◌++◌}
 use Rattle.pseudo_time.specs.declared.nodes.NodeId.{NodeId}
 use Rattle.pseudo_time.specs.declared.nodes.NodeKind.{NodeKind}
 use Rattle.pseudo_time.specs.declared.nodes.NodeKind.TheVariants.{Repository, Broker}
@@ -7,7 +7,6 @@ use Rattle.value_form.specs.declared.acts.ActSpec.{ActSpec}
 use Rattle.effect_form.specs.declared.effects.Effect.{Effect}
 use Rattle.turn_form.specs.declared.turns.Turn.{Turn}
 use Rattle.repository_core.specs.Cores.{Core}
-use Rattle.broker_core.specs.Brokers.{IsLedTo}
 use Rattle.broker_core.specs.Parts.{BrokerParts}
 use Rattle.broker_core.specs.Tasks.{Scripted}
 use Rattle.world_core.specs.Nodes.{Mind, Given, acts_of}
@@ -34,9 +33,9 @@ pub record IsBroker (b : Base) (n : NodeId) (l : List Effect) (m : Mind) (p : Br
   pub number : p.number ≡ n.number
   pub run : p.run ≡ b.run
   pub acts : p.acts ≡ acts_of n.number b.acts
+  pub log : p.log ≡ l
   pub heard : p.heard ≡ m.heard
   pub scripted : Scripted b.script p.acts
-  pub stands : IsLedTo b.script (reverse l) p
 
 -- a repository's turn is what the rules give, and its core goes on from there
 pub record RepositoryGave {H : Type 0} (n : NodeId) (log : List Effect) (g : Given) (t : Turn) (new : Core H) : Type 0 where

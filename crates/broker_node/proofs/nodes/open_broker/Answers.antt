@@ -23,7 +23,7 @@ new-node-requires g c =
       up = up-new _ k c.broker-name.result log _ name refl tt (sym c.requires.runs.1, c.of.ensures ∙ plan.1, subst (Scripted b.script) (sym c.of.ensures) plan.2)
           (subst (λ n. IsOf n k) name c.requires.pass.0) c.requires.pass.1 (subst (λ n. opened_log (origin_at k).opened n ≡ Some log) name c.requires.opened) refl (subst (λ n. IsReady b n log) name c.requires.ready)
           (λ t. (
-            opened-broker b c.args.number c.args.run c.as_slice.result.now log c.in-Ok.broker (sym c.requires.runs.1) (c.as_slice.ensures.value ∙ plan.1) scripted c.in-Ok.ensures.fresh (c.in-Ok.ensures.opens b.script scripted).1,
+            opened-broker b c.args.number c.args.run c.as_slice.result.now log c.in-Ok.broker (sym c.requires.runs.1) (c.as_slice.ensures.value ∙ plan.1) scripted c.in-Ok.ensures.fresh,
             c.requires.log t,
           ))
           (λ t. leaves-log (g.M.Medium.reads m) (g.M.Medium.may_leave m) (c.args.store.settled t) log (c.requires.log t));

@@ -20,7 +20,7 @@ returns-in-Ok-open c =
     let s = reading plan.acts in
     let is : c.as_slice-2.result.now ≡ acts_of c.args.number plan.acts = c.as_slice-2.ensures.value ∙ (c.in-Ok.ensures ∙ ap (acts_of c.args.number) c.as_slice.ensures) in
     let scripted = subst (Scripted s) (sym is) (reads-own plan c.args.number c.requires.plan) in
-    subst (λ (acts : List ActSpec). resume_fault s c.args.number plan.run (tasks acts) (reverse c.args.effects.now) ≡ None) is (c.in-Ok-open.ensures.opens s scripted).0
+    subst (λ (acts : List ActSpec). resume_fault s c.args.number plan.run (tasks acts) (reverse c.args.effects.now) ≡ None) is (c.in-Ok-open.ensures.opens s scripted)
 
 pub returns : goal.returns
 returns c =

@@ -1,6 +1,5 @@
-use Rattle.std.proofs.Common.{refl, ap, arith}
+use Rattle.std.proofs.Common.{refl, arith}
 use Rattle.pseudo_time.specs.Nodes.{broker}
-use Rattle.broker_core.specs.Parts.{BrokerParts}
 use Rattle.broker_core.specs.Turns as desks
 use Rattle.world_core.specs.Nodes.Input.{Hearing}
 use Rattle.broker_node.proofs.CoreLemmas.{gave-broker}
@@ -12,7 +11,7 @@ returns g c = record {
     same = record { node = refl; run = λ b f. f; later = omega arith };
     able = c.requires.able;
     gave = λ t b l f s.
-        let y = gave-broker b (broker c.args.self.now.number) l c.args.self.now.broker c.hear.new.self (desks.Hear c.args.moment) (Hearing c.args.moment) c.in_ok-turn.turn refl s.0 c.in_ok-turn.ensures.gives (ap (λ (p : BrokerParts). p.number) c.hear.ensures.same) (ap (λ (p : BrokerParts). p.run) c.hear.ensures.same) (ap (λ (p : BrokerParts). p.acts) c.hear.ensures.same) in
+        let y = gave-broker b (broker c.args.self.now.number) l c.args.self.now.broker c.hear.new.self (desks.Hear c.args.moment) (Hearing c.args.moment) c.in_ok-turn.turn refl s.0 c.in_ok-turn.ensures.gives in
         (y.0, (y.1, s.1));
     owed = λ es o. tt;
     in_range = c.in_ok-turn.ensures.in_range;

@@ -11,7 +11,7 @@ returns g c = record {
     same = record { node = refl; run = λ b f. f; later = omega arith };
     able = c.requires.able;
     gave = λ t b l f s.
-        let y = gave-broker b (broker c.args.self.now.number) l c.args.self.now.broker c.take.new.self (desks.Take c.args.from c.args.message.now) (Taking c.args.from c.args.message.now) c.in_ok-turn.turn refl s.0 c.in_ok-turn.ensures.gives c.take.ensures.number c.take.ensures.run c.take.ensures.acts in
+        let y = gave-broker b (broker c.args.self.now.number) l c.args.self.now.broker c.take.new.self (desks.Take c.args.from c.args.message.now) (Taking c.args.from c.args.message.now) c.in_ok-turn.turn refl s.0 c.in_ok-turn.ensures.gives in
         (y.0, (y.1, s.1));
     owed = λ es o. tt;
     in_range = c.in_ok-turn.ensures.in_range;
