@@ -9,6 +9,8 @@ use Rattle.std.proofs.option.Option.TheSendSync as option
 use Rattle.medium_port.specs.declared.media.Medium as medium
 use Rattle.wire_core.proofs.ScriptCrosses.{n32, act_send, script_send}
 use Rattle.value_form.proofs.texts.Bytes.TheSendSync as bytes
+use Rattle.turn_form.specs.contracts.logs.SnapshotLog as SnapshotLog
+use Rattle.turn_form.specs.contracts.logs.SnapshotLog.TheInside as SnapshotLogInside
 use Rattle.script_run.proofs.machines.Machine.TheSendSync as machine
 use Rattle.script_run.proofs.halts.Halt.TheSendSync as halt
 use Rattle.script_run.specs.contracts.runs.Run as Run
@@ -35,8 +37,11 @@ run_send = view_send _ _ _ _ _ (declared_send RunInside.the_type (script_send, (
 replay_send : IsSend Replay.the_row
 replay_send = view_send _ _ _ _ _ (declared_send ReplayInside.the_type (send, (n8, (n32, (Vec-send _ act_send, (notes.the_send, (Vec-send _ given.the_send, (option.the_send _ run_send, tt))))))))
 
+pub log_send : IsSend SnapshotLog.the_row
+log_send = view_send _ _ _ _ _ (declared_send SnapshotLogInside.the_type (Vec-send _ (search sendable depth 20), tt))
+
 broker_send : IsSend Broker.the_row
-broker_send = view_send _ _ _ _ _ (declared_send BrokerInside.the_type (replay_send, (heard.the_send, (phase.the_send, tt))))
+broker_send = view_send _ _ _ _ _ (declared_send BrokerInside.the_type (replay_send, (heard.the_send, (phase.the_send, (log_send, tt)))))
 
 acts_send : IsSend OwnActs.the_row
 acts_send = view_send _ _ _ _ _ (declared_send OwnActsInside.the_type (Vec-send _ act_send, tt))
