@@ -49,9 +49,9 @@ send-outs None d e = e
 send-outs (Some x) d e = ap (λ (xs : List Out). xs ++ x ∷ []) e
 
 -- the desk has these effects and messages, and these notes are where the log then leads
-record Leads (script : List ℕ → Tree) (desk : Desk) (effects : List Effect) (outs : List Out) (new : BrokerParts) (n : Notes) (answers : List Given) : Type 0 where
-  pub effects : effects ≡ reverse desk.fresh
-  pub outs : outs ≡ desk.outs
+record Leads (script : List ℕ → Tree) (desk : Desk) (added : List Effect) (sent : List Out) (new : BrokerParts) (n : Notes) (answers : List Given) : Type 0 where
+  pub effects : added ≡ reverse desk.fresh
+  pub outs : sent ≡ desk.outs
   pub heard : new.heard ≡ desk.heard
   pub stands : IsLedTo script new n answers
 

@@ -1,5 +1,5 @@
 -- A message that is taken.
-use Rattle.std.proofs.Common.{◌≡◌, ℕ, ◌==◌, Bool, true, false, List, [], refl, sym, ◌∙◌, ap, subst, Some, None}
+use Rattle.std.proofs.Common.{◌≡◌, ℕ, ◌==◌, Bool, true, false, List, [], reverse, refl, sym, ◌∙◌, ap, subst, Some, None}
 use Rattle.std.proofs.lemmas.Bool.{eqb-true}
 use Rattle.pseudo_time.specs.declared.nodes.NodeId.{NodeId}
 use Rattle.effect_form.specs.declared.effects.Effect.{Effect}
