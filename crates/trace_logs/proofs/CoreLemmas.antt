@@ -27,13 +27,6 @@ use Rattle.world_core.specs.Cores.{IsRepository, IsBroker, RepositoryGave, Broke
 use Rattle.world_core.proofs.CoreTurns.{repository-still as still-repository, broker-still as still-broker, repository-answers as answers-of-repository, broker-answers as answers-of-broker}
 use Rattle.trace_logs.specs.Cores.{IsWant, Gave}
 
--- histories in memory fail for want of memory alone
-pub only-wants : {T : Type 0} (result : Result T HistoryFault) → IfErr result IsNotDamage → HasHistoryCause 0 0 0 0 result → IfErr result IsWant
-only-wants (Ok t) h c = tt
-only-wants (Err fault.NoMemory) h c = refl
-only-wants (Err (fault.Damaged page)) h c = absurd h
-only-wants (Err fault.Medium) h c = let never = c.medium refl in absurd (omega (arith, never))
-
 -- ---- turns of the cores of nodes
 
 module _ (b : Base) (n : NodeId) (log : List Effect) (mind : Mind) where

@@ -5,7 +5,7 @@ use Rattle.broker_core.specs.Ledgers.{AreActs}
 use Rattle.broker_core.specs.Tasks.{Scripted}
 use Rattle.world_core.specs.Walks.{Base, Life, all_effects}
 use Rattle.trace_logs.specs.declared.replayed_nodes.ReplayedNode.{ReplayedNode}
-use Rattle.trace_logs.specs.Cores.{StandsFor, IsWhole, kind_of, own_acts}
+use Rattle.trace_logs.specs.Cores.{StandsFor, IsAble, kind_of, own_acts}
 
 -- the node has this life
 pub record Lives (b : Base) (s : ReplayedNode) (l : Life) : Type 0 where
@@ -22,6 +22,6 @@ pub record IsSound (s : ReplayedNode) : Type 0 where
   pub high : s.node.number ≤ 16
   pub acts : AreActs s.acts.items
   pub kind : kind_of s.core ≡ s.node.kind
-  pub whole : IsWhole s.core
+  pub able : IsAble s.core
   pub log : AreEffects (s.gated.items ++ s.fresh.items)
   pub outs : AreOuts s.outs.items
