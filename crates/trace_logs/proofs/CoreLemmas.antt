@@ -15,7 +15,7 @@ use Rattle.object_history.specs.Causes.{HasHistoryCause, IsNotDamage}
 use Rattle.serial_model.specs.Questions.{Tree}
 use Rattle.repository_core.specs.Cores.{Core, given}
 use Rattle.repository_core.specs.Turns as turns
-use Rattle.broker_core.specs.Brokers.{IsLedTo, Gives, turn_of}
+use Rattle.broker_core.specs.Brokers.{Gives, turn_of}
 use Rattle.broker_core.specs.Parts.{BrokerParts}
 use Rattle.broker_core.specs.Tasks.{Scripted, tasks}
 use Rattle.broker_core.specs.Turns as desks
@@ -59,7 +59,5 @@ module _ (b : Base) (n : NodeId) (log : List Effect) (mind : Mind) where
       repositories-of (gives b.script b.run b.acts n log mind j) q y (answers-of-repository b n log mind r q x y i j same s g l m k)
 
   pub broker-answers : (p q : BrokerParts) (x : Result Turn AllocError) (i : desks.Input) (j : Input) → broker_gives b.script b.run b.acts n.number log mind j ≡ with_desk mind (desk_after b.script b.run b.acts n.number log mind i) →
-      IsBroker b n log mind p → ((script : List ℕ → Tree) (l : List Effect) → Scripted script p.acts → IsLedTo script l p → IfOk x (λ t. Gives script l (turn_of script p l i) t q)) → q.number ≡ p.number → q.run ≡ p.run → q.acts ≡ p.acts →
-      IfOk x (λ t. Gave b n log (gives b.script b.run b.acts n log mind j) t (core.Broker q))
-  broker-answers p q x i j same s g number run acts =
-      brokers-of (gives b.script b.run b.acts n log mind j) q x (answers-of-broker b n log mind p q x i j same s g number run acts)
+      IsBroker b n log mind p → ((script : List ℕ → Tree) → Scripted script p.acts → IfOk x (λ t. Gives (turn_of script p i) t p q)) → IfOk x (λ t. Gave b n log (gives b.script b.run b.acts n log mind j) t (core.Broker q))
+  broker-answers p q x i j same s g = brokers-of (gives b.script b.run b.acts n log mind j) q x (answers-of-broker b n log mind p q x i j same s g)

@@ -11,9 +11,6 @@ use Rattle.object_history.specs.declared.steps.HistoryFault.{HistoryFault}
 use Rattle.object_history.specs.declared.steps.HistoryFault.TheVariants as fault
 use Rattle.repository_core.specs.Cores.{Core}
 use Rattle.turn_form.specs.Ranges.{AreEffects, AreOuts}
-use Rattle.broker_core.specs.Brokers.{IsLedTo}
-use Rattle.broker_core.specs.Parts.{BrokerParts}
-use Rattle.broker_core.specs.Tasks.{Scripted}
 use Rattle.world_core.specs.Nodes.{Mind, Given, Input, gives}
 use Rattle.world_core.specs.Walks.{Base}
 pub use Rattle.world_core.specs.Cores.{IsRepository, IsBroker, own_acts, acts_for}

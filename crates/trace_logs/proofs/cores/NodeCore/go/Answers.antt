@@ -18,7 +18,7 @@ pub returns-in-Broker : goal.returns-in-Broker
 returns-in-Broker c = record {
   gave = λ b n log mind s.
       broker-answers b n log mind c.in-Broker.core c.go.new.self c.go.result (desks.Go) (Going) refl (subst (StandsFor b n log mind) c.in-Broker.is s)
-      c.go.ensures.gives c.go.ensures.number c.go.ensures.run c.go.ensures.acts;
+      c.go.ensures.gives;
   kind = search rules;
   able = search rules;
   in_range = search rules;

@@ -1,4 +1,4 @@
-use Rattle.std.proofs.Common.{rules, refl, subst, ap}
+use Rattle.std.proofs.Common.{rules, refl, subst}
 use Rattle.repository_core.specs.Turns as turns
 use Rattle.broker_core.specs.Turns as desks
 use Rattle.world_core.specs.Nodes.Input.{Hearing}
@@ -20,7 +20,7 @@ pub returns-in-Broker : goal.returns-in-Broker
 returns-in-Broker c = record {
   gave = λ b n log mind s.
       broker-answers b n log mind c.in-Broker.core c.hear-in-Broker.new.self c.hear-in-Broker.result (desks.Hear c.args.moment) (Hearing c.args.moment) refl (subst (StandsFor b n log mind) c.in-Broker.is s)
-      c.hear-in-Broker.ensures.gives (ap (λ p. p.number) c.hear-in-Broker.ensures.same) (ap (λ p. p.run) c.hear-in-Broker.ensures.same) (ap (λ p. p.acts) c.hear-in-Broker.ensures.same);
+      c.hear-in-Broker.ensures.gives;
   kind = search rules;
   able = search rules;
   in_range = search rules;

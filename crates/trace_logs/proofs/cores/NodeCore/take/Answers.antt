@@ -20,7 +20,7 @@ pub returns-in-Broker : goal.returns-in-Broker
 returns-in-Broker c = record {
   gave = λ b n log mind s.
       broker-answers b n log mind c.in-Broker.core c.take-in-Broker.new.self c.take-in-Broker.result (desks.Take c.args.from c.args.message.now) (Taking c.args.from c.args.message.now) refl (subst (StandsFor b n log mind) c.in-Broker.is s)
-      c.take-in-Broker.ensures.gives c.take-in-Broker.ensures.number c.take-in-Broker.ensures.run c.take-in-Broker.ensures.acts;
+      c.take-in-Broker.ensures.gives;
   kind = search rules;
   able = search rules;
   in_range = search rules;
