@@ -1,5 +1,5 @@
 -- A vote world: three members, polls, and all messages ever sent.
-use Rattle.std.specs.Prelude.{◌≡◌, ◌≢◌, ℕ, zero, suc, Bool, true, false, List, [], ◌∷◌, ◌++◌, take, Option, Some, None, ◌==◌, if◌then◌else◌}
+use Rattle.std.specs.Prelude.{◌≡◌, ◌≢◌, ℕ, zero, suc, Bool, false, List, [], ◌∷◌, ◌++◌, take, Option, Some, None, ◌==◌, if◌then◌else◌}
 use Rattle.pseudo_time.specs.Lists.{Has}
 use Rattle.pseudo_time.specs.StampParts.{StampParts}
 use Rattle.pseudo_time.specs.declared.decisions.Decision.{Decision}
@@ -14,7 +14,6 @@ use Rattle.turn_form.specs.Posts.{Post, posts}
 use Rattle.repository_log.specs.Logs.{is_commit}
 use Rattle.pseudo_time.specs.Nodes.{broker}
 use Rattle.record_votes.specs.declared.member_numbers.MemberNumber.{MemberNumber}
-use Rattle.record_votes.specs.declared.member_numbers.MemberNumber.TheVariants.{First, Second, Third}
 use Rattle.record_votes.specs.declared.ballots.Wish.{Wish}
 use Rattle.record_votes.specs.Members.{Given, on_message, on_moment}
 use Rattle.record_votes.specs.Polls.{number_of, member, voter_at, PollState, poll_goes, poll_hears, poll_takes, PollGiven}

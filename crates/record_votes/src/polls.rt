@@ -1,4 +1,4 @@
-ghost use Rattle.std.specs.Prelude.{◌≡◌, ◌++◌, ◌∷◌, [], OnOk, OnErr, IfOk, Some, None, true};
+ghost use Rattle.std.specs.Prelude.{◌≡◌, ◌++◌, [], OnOk, OnErr, IfOk, Some, None, true};
 ghost use Rattle.message_form.specs.Messages.{IsMessage, IsTimeout};
 ghost use Rattle.turn_form.specs.Ranges.{AreOuts};
 ghost use Rattle.record_votes.specs.Polls as polls;

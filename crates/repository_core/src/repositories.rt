@@ -32,8 +32,7 @@ pub struct Repository<H: Histories> {
 }
 
 impl<H: Histories> Model for Repository<H> {
-    ghost use Rattle.std.specs.Prelude.{◌≡◌, false, reverse, [], length};
-    ghost use Rattle.repository_core.specs.Hands.{now};
+    ghost use Rattle.std.specs.Prelude.{◌≡◌, false, reverse, []};
     ghost use Rattle.repository_core.specs.Turns.{mind_of};
     ghost use Rattle.repository_core.specs.Cores.{Core};
     ghost use Rattle.repository_core.specs.Accounts.{IsOpen};

@@ -1,4 +1,4 @@
-ghost use Rattle.std.specs.Prelude.{◌≡◌, ◌≤◌, ◌^◌, ℕ, Some, None, IsTrue, OnOk, List, ◌∷◌, true, false};
+ghost use Rattle.std.specs.Prelude.{◌≡◌, ◌≤◌, ◌^◌, Some, None, IsTrue, OnOk, List, ◌∷◌, true, false};
 ghost use Rattle.pseudo_time.specs.StampParts.{StampParts};
 ghost use Rattle.pseudo_time.specs.declared.decisions.Decision.{Decision};
 ghost use Rattle.value_form.specs.ObjectBytes.{IsObject};
@@ -11,7 +11,6 @@ ghost use Rattle.commit_record.specs.declared.states.RecordState.TheVariants as 
 ghost use Rattle.commit_record.specs.States.{listed_at};
 ghost use Rattle.object_history.specs.History.{settle_of};
 ghost use Rattle.object_history.specs.Answers.{read_step, write_step, stands_written};
-ghost use Rattle.object_history.specs.declared.steps.WriteStep.{WriteStep};
 ghost use Rattle.repository_log.specs.Logs.{is_commit, marks, record_of, HasSameRecords, IsUnknown};
 ghost use Rattle.repository_core.specs.Hands.{now, note, send, HasSameLog};
 ghost use Rattle.repository_core.specs.Rows as rows;

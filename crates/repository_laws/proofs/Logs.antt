@@ -18,7 +18,7 @@ use Rattle.pseudo_time.proofs.OrderLemmas.{same_stamp-is, same_stamp-of}
 use Rattle.pseudo_time.specs.Lists.{Has}
 use Rattle.pseudo_time.specs.Order.{same_stamp}
 use Rattle.repository_log.proofs.LogLemmas.{undecided, from-begin, from-decided, unknown-unsettled}
-use Rattle.repository_core.specs.Logs.{decision_of, first_begin, is_commit, marks, record_from, record_of, as_decision}
+use Rattle.repository_core.specs.Logs.{decision_of, first_begin, is_commit, marks, record_of, as_decision}
 use Rattle.repository_laws.specs.Facts.{FitsLog, IsTidy, IsTimely}
 use Rattle.turn_form.proofs.GrowthLemmas.{grew_keeps}
 use Rattle.turn_form.specs.Growth.{Grew}

@@ -1,15 +1,9 @@
 -- A request is answered in its turn, or held.
-use Rattle.std.proofs.Common.{◌≡◌, ◌⊎◌, ℕ, ◌+◌, ◌==◌, Bool, true, false, ◌||◌, not, List, [], ◌∷◌, refl, sym, ap, subst, Option, Some, None, if◌then◌else◌, inl, inr}
+use Rattle.std.proofs.Common.{◌≡◌, ◌⊎◌, ℕ, ◌+◌, ◌==◌, Bool, true, false, ◌||◌, not, List, [], ◌∷◌, refl, sym, subst, Option, Some, None, if◌then◌else◌, inl, inr}
 use Rattle.std.specs.List.{filter}
-use Rattle.std.specs.BTreeMap.{insert_entry}
-use Rattle.std.specs.Ordering.{match_ordering}
-use Rattle.std.specs.declared.cmp.Ordering.{Ordering}
-use Rattle.std.specs.declared.cmp.Ordering.TheVariants.{Less, Equal, Greater}
 use Rattle.pseudo_time.specs.Order.{same_stamp}
-use Rattle.pseudo_time.specs.TimeParts.{time_cmp}
 use Rattle.pseudo_time.specs.Nodes.{repository}
 use Rattle.pseudo_time.proofs.ListLemmas.{has-left, has-right}
-use Rattle.pseudo_time.proofs.OrderLemmas.{time_cmp-exact}
 use Rattle.pseudo_time.specs.declared.decisions.Decision.TheVariants as decision
 use Rattle.pseudo_time.specs.Lists.{Has}
 use Rattle.pseudo_time.specs.StampParts.{StampParts}

@@ -45,10 +45,6 @@ use Rattle.std.specs.List.{filter}
 use Rattle.std.specs.Map.{remove_entry}
 use Rattle.std.specs.BTreeMap.{insert_entry, is_at}
 use Rattle.std.specs.BTreeSet.{insert_key}
-use Rattle.std.specs.Ordering.{match_ordering}
-use Rattle.std.specs.declared.cmp.Ordering.{Ordering}
-use Rattle.std.specs.declared.cmp.Ordering.TheVariants.{Less, Equal, Greater}
-use Rattle.pseudo_time.proofs.OrderLemmas.{time_cmp-exact}
 use Rattle.repository_laws.specs.Facts.{Once, FitsLog, HandHolds, RestsOn, HasCome, HeldHolds, IsBacked, IsDecidedAt, IsTidy, IsTimely, PostHolds, ReadSent, WasClosed, WriteSent}
 
 pub broker-is : (n : ℕ) (from : NodeId) → is_broker_of n from ≡ true → from ≡ broker n

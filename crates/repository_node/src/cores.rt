@@ -1,5 +1,5 @@
 //! A repository's core with its log.
-ghost use Rattle.std.specs.Prelude.{◌≡◌, ◌≤◌, ◌^◌, true, false, [], IsTrue, IfOk, IfErr};
+ghost use Rattle.std.specs.Prelude.{◌≡◌, ◌≤◌, ◌^◌, false, IsTrue, IfOk, IfErr};
 ghost use Rattle.effect_form.specs.Effects.{AreEffects};
 ghost use Rattle.repository_log.specs.Logs.{HasMarks};
 ghost use Rattle.repository_core.specs.Turns.{opened_mind};

@@ -1,33 +1,28 @@
 -- How the life of a node goes on, and what the code keeps of it.
-use Rattle.std.proofs.Common.{◌≡◌, ◌≤◌, ℕ, Bool, true, false, cond, arith, ◌==◌, ◌++◌, List, [], ◌∷◌, take, drop, sym, ap, subst, ◌∙◌, append_assoc}
+use Rattle.std.proofs.Common.{◌≡◌, ◌≤◌, ℕ, Bool, arith, ◌==◌, ◌++◌, List, [], ◌∷◌, take, drop, sym, ap, subst, ◌∙◌, append_assoc}
 use Rattle.std.specs.List.{filter}
 use Rattle.std.proofs.lemmas.List.{append-nil, take-append-drop, map-append}
 use Rattle.std.proofs.lemmas.List.Elements.{filter-append}
-use Rattle.std.proofs.lemmas.List.Sums.{length-filter, count_by-le-length}
-use Rattle.pseudo_time.specs.Lists.{Every}
 use Rattle.pseudo_time.specs.declared.nodes.NodeId.{NodeId}
 use Rattle.pseudo_time.specs.declared.nodes.NodeKind.{NodeKind}
 use Rattle.pseudo_time.specs.declared.nodes.NodeKind.TheVariants.{Repository, Broker}
-use Rattle.pseudo_time.proofs.ListLemmas.{every-append, every-left}
+use Rattle.pseudo_time.proofs.ListLemmas.{every-left}
 use Rattle.effect_form.specs.declared.effects.Effect.{Effect}
-use Rattle.turn_form.specs.declared.turns.Turn.{Turn}
 use Rattle.turn_form.specs.declared.turns.Out.{Out}
-use Rattle.message_form.specs.Messages.{IsMessage}
 use Rattle.turn_form.specs.Posts.{Post, post, posts}
 use Rattle.serial_model.specs.Questions.{Tree, denote}
 use Rattle.value_form.specs.Mirror.{block}
 use Rattle.statement_form.specs.RowTexts.{script_text}
 use Rattle.value_form.specs.declared.acts.ActSpec.{ActSpec}
-use Rattle.broker_core.specs.Ledgers.{IsAct}
 use Rattle.turn_form.specs.Ranges.{IsEffect, AreEffects, AreOuts}
 use Rattle.broker_core.specs.Ledgers.{AreActs}
 use Rattle.broker_core.specs.Tasks.{Scripted}
 use Rattle.repository_core.proofs.HeldLemmas.{every-filter}
-use Rattle.world_core.specs.Nodes.{Input, Given, gives, opened_mind}
-use Rattle.world_core.specs.Walks.{Base, Life, after_input, all_effects, gated_life, crashed_life}
+use Rattle.world_core.specs.Nodes.{opened_mind}
+use Rattle.world_core.specs.Walks.{Base, Life, all_effects, gated_life, crashed_life}
 use Rattle.world_core.proofs.PlanRangeLemmas.{own-acts as broker-acts}
 use Rattle.trace_logs.specs.declared.replayed_nodes.ReplayedNode.{ReplayedNode}
-use Rattle.trace_logs.specs.Cores.{StandsFor, Gave, IsAble, kind_of, own_acts, acts_for}
+use Rattle.trace_logs.specs.Cores.{StandsFor, IsAble, kind_of, own_acts, acts_for}
 use Rattle.trace_logs.specs.ReplayedNodes.{Lives, IsSound}
 
 -- ---- ranges

@@ -1,15 +1,12 @@
 -- The core of a node at a place of a walk.
-use Rattle.std.specs.Prelude.{◌≡◌, ℕ, false, List, [], ◌++◌, Result, IfOk, OnOk}
+use Rattle.std.specs.Prelude.{◌≡◌, false, List, ◌++◌, Result, IfOk, OnOk}
 use Rattle.pseudo_time.specs.declared.nodes.NodeId.{NodeId}
 use Rattle.pseudo_time.specs.declared.nodes.NodeKind.{NodeKind}
 use Rattle.pseudo_time.specs.declared.nodes.NodeKind.TheVariants.{Repository, Broker}
-use Rattle.value_form.specs.declared.acts.ActSpec.{ActSpec}
 use Rattle.effect_form.specs.declared.effects.Effect.{Effect}
 use Rattle.turn_form.specs.declared.turns.Turn.{Turn}
-use Rattle.object_history.specs.declared.marks.Mark.{Mark}
 use Rattle.object_history.specs.declared.steps.HistoryFault.{HistoryFault}
 use Rattle.object_history.specs.declared.steps.HistoryFault.TheVariants as fault
-use Rattle.repository_core.specs.Cores.{Core}
 use Rattle.turn_form.specs.Ranges.{AreEffects, AreOuts}
 use Rattle.world_core.specs.Nodes.{Mind, Given, Input, gives}
 use Rattle.world_core.specs.Walks.{Base}

@@ -1,4 +1,4 @@
-ghost use Rattle.std.specs.Prelude.{◌≡◌, ◌≤◌, ◌^◌, ◌++◌, ◌∷◌, [], ℕ, List, IfOk, OnOk};
+ghost use Rattle.std.specs.Prelude.{◌≡◌, ◌≤◌, ◌^◌, ◌++◌, ◌∷◌, [], IfOk, OnOk};
 ghost use Rattle.std.specs.List.{filter};
 ghost use Rattle.effect_form.specs.declared.effects.Effect.{Effect};
 ghost use Rattle.pseudo_time.specs.declared.nodes.NodeId.{NodeId};
@@ -10,10 +10,10 @@ ghost use Rattle.broker_core.specs.Ledgers.{AreActs};
 ghost use Rattle.broker_core.specs.Tasks.{Scripted};
 ghost use Rattle.world_core.specs.Nodes.{leaves};
 ghost use Rattle.world_core.specs.Nodes.Input.{Going, Taking, Learning, Hearing};
-ghost use Rattle.world_core.specs.Walks.{Base, Life, after_input, all_effects, gated_life, crashed_life, opened_life};
-ghost use Rattle.trace_logs.specs.Cores.{StandsFor, own_acts};
+ghost use Rattle.world_core.specs.Walks.{Base, Life, all_effects, gated_life, crashed_life, opened_life};
+ghost use Rattle.trace_logs.specs.Cores.{own_acts};
 ghost use Rattle.trace_logs.specs.Letters.{all_posted, AreLetters};
-ghost use Rattle.trace_logs.specs.ReplayedNodes.{Lives, IsSound};
+ghost use Rattle.trace_logs.specs.ReplayedNodes.{Lives, IsSound, LivesOn};
 
 use crate::cores::{NodeCore, open_core};
 use crate::letters::SentMessage;
@@ -92,10 +92,7 @@ impl ReplayedNode {
     pub fn take(&mut self, from: NodeId, message: &Message) -> Result<(), AllocError>
         requires sound { IsSound self.old }
         requires message { IsMessage message.now }
-        ensures lives { (b : Base) (l : Life) → Lives b self.old l
-            → OnOk result (Lives b self.new (after_input b self.old.node l (Taking from message.now))) }
-        ensures node { OnOk result (self.new.node ≡ self.old.node) }
-        ensures sound { OnOk result (IsSound self.new) }
+        ensures { LivesOn self.old self.new (Taking from message.now) result }
     {
         let turn = self.core.take(from, message)?;
         self.add(turn)
@@ -104,9 +101,7 @@ impl ReplayedNode {
     /// Goes, a broker.
     pub fn go(&mut self, alloc: Global) -> Result<(), AllocError>
         requires sound { IsSound self.old }
-        ensures lives { (b : Base) (l : Life) → Lives b self.old l → OnOk result (Lives b self.new (after_input b self.old.node l Going)) }
-        ensures node { OnOk result (self.new.node ≡ self.old.node) }
-        ensures sound { OnOk result (IsSound self.new) }
+        ensures { LivesOn self.old self.new Going result }
     {
         let turn = self.core.go(alloc)?;
         self.add(turn)
@@ -115,10 +110,7 @@ impl ReplayedNode {
     /// Learns a decision, a repository.
     pub fn learn(&mut self, alloc: Global, stamp: Stamp, committed: bool) -> Result<(), AllocError>
         requires sound { IsSound self.old }
-        ensures lives { (b : Base) (l : Life) → Lives b self.old l
-            → OnOk result (Lives b self.new (after_input b self.old.node l (Learning stamp committed))) }
-        ensures node { OnOk result (self.new.node ≡ self.old.node) }
-        ensures sound { OnOk result (IsSound self.new) }
+        ensures { LivesOn self.old self.new (Learning stamp committed) result }
     {
         let turn = self.core.learn(alloc, stamp, committed)?;
         self.add(turn)
@@ -128,9 +120,7 @@ impl ReplayedNode {
     pub fn hear(&mut self, moment: u64) -> Result<(), AllocError>
         requires sound { IsSound self.old }
         requires moment { moment ≤ 2 ^ 63 }
-        ensures lives { (b : Base) (l : Life) → Lives b self.old l → OnOk result (Lives b self.new (after_input b self.old.node l (Hearing moment))) }
-        ensures node { OnOk result (self.new.node ≡ self.old.node) }
-        ensures sound { OnOk result (IsSound self.new) }
+        ensures { LivesOn self.old self.new (Hearing moment) result }
     {
         let turn = self.core.hear(moment)?;
         self.add(turn)

@@ -1,5 +1,4 @@
-ghost use Rattle.std.specs.Prelude.{◌≡◌, ◌≤◌, ◌<◌, ◌^◌, ◌++◌, ◌∷◌, [], ℕ, List, false, true, length, slice_index_or, Some, None, IfOk, OnOk, MatchOption, IfSome};
-ghost use Rattle.std.specs.List.{filter, count_by};
+ghost use Rattle.std.specs.Prelude.{◌≡◌, ◌≤◌, ◌<◌, ◌^◌, ℕ, List, true, length, slice_index_or, Some, None, IfOk, OnOk, MatchOption};
 ghost use Rattle.pseudo_time.specs.Lists.{Every};
 ghost use Rattle.pseudo_time.specs.declared.nodes.NodeId.{NodeId};
 ghost use Rattle.broker_core.specs.Ledgers.{AreActs};
@@ -8,9 +7,8 @@ ghost use Rattle.pseudo_time.specs.Nodes.{same_node};
 ghost use Rattle.serial_model.specs.Questions.{Tree};
 ghost use Rattle.world_core.specs.declared.traces.Opened.{Opened};
 ghost use Rattle.world_core.specs.declared.entries.Entry.TheVariants as entry;
-ghost use Rattle.world_core.specs.Walks.{Base, World, Life, opened_life, start_world, walk_from, walk, step};
+ghost use Rattle.world_core.specs.Walks.{Base, World, opened_life, walk, step};
 ghost use Rattle.trace_logs.specs.Cores.{own_acts};
-ghost use Rattle.trace_logs.specs.Letters.{AreLetters};
 ghost use Rattle.trace_logs.specs.ReplayedNodes.{Lives, IsSound};
 ghost use Rattle.trace_logs.specs.Replays.{IsOpened, IsOnce, IsMoment, IsAbsent, Shows, IsFit, AreAt, base_for, logs_in, gated_logs};
 
