@@ -198,7 +198,7 @@ module _ (R : TimeParts → ObjectId → NodeId → Type 0) (agree : (t : TimePa
         | inl a ↦ inl (inr a)
         | inr b ↦ still e b
       ];
-      waiting = every-remove (λ e. off e.1.waits ⊎ Waits (now h) e) (is_at (time_cmp t)) h.held k.waiting;
+      waiting = every-remove (λ (e : TimeParts × HeldRead). off e.1.waits ⊎ Waits (now h) e) (is_at (time_cmp t)) h.held k.waiting;
       asks = λ w i n. k.asks w (waits-remove w (is_at (time_cmp t)) h.held i) n;
     }
       where
