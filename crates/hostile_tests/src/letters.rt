@@ -1,5 +1,5 @@
 //! Messages that are ignored: what a node gives for those before and after is the same without them.
-ghost use Rattle.std.specs.Prelude.{◌≡◌, true, IfOk, OnOk};
+ghost use Rattle.std.specs.Prelude.{◌≡◌, false, IfOk, OnOk};
 ghost use Rattle.broker_core.specs.Ledgers.{AreActs};
 ghost use Rattle.message_form.specs.Messages.{IsMessage};
 ghost use Rattle.plan_form.specs.PlanTexts.{IsOfLanguage};
@@ -285,8 +285,8 @@ fn taken_by_repository(
     alloc: Global,
     letter: &Letter,
 ) -> Result<Turn, Fail>
-    requires { core.old.whole ≡ true }
-    ensures { OnOk result (core.new.whole ≡ true) }
+    requires { core.old.is_failed ≡ false }
+    ensures { OnOk result (core.new.is_failed ≡ false) }
 {
     let message = message_of(alloc, letter)?;
     match core.take(sender_of(letter), &message) {
@@ -302,7 +302,7 @@ fn turns_of_repository(
     alloc: Global,
     more: Option<(usize, &Letter)>,
 ) -> Result<Option<Vec<Turn>>, Fail>
-    requires { core.old.whole ≡ true }
+    requires { core.old.is_failed ≡ false }
 {
     let mut turns = Vec::new(alloc);
     for (place, letter) in TO_REPOSITORY.iter().enumerate() {

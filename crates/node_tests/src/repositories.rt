@@ -1,4 +1,4 @@
-ghost use Rattle.std.specs.Prelude.{◌≡◌, true, IfSome, OnOk};
+ghost use Rattle.std.specs.Prelude.{◌≡◌, false, IfSome, OnOk};
 ghost use Rattle.value_form.specs.ObjectBytes.{IsObject};
 ghost use Rattle.message_form.specs.Messages.{IsMessage};
 
@@ -308,8 +308,8 @@ fn receiver_of(step: Step) -> NodeId {
 
 /// Carries a call out.
 fn call(core: &mut Repository<PlainHistories>, step: Step) -> Result<Turn, CoreFault>
-    requires { core.old.whole ≡ true }
-    ensures { OnOk result (core.new.whole ≡ true) }
+    requires { core.old.is_failed ≡ false }
+    ensures { OnOk result (core.new.is_failed ≡ false) }
 {
     if let Step::Hear(moment) = step {
         let turn = core.hear(moment.min(1_000_000))?;
@@ -373,8 +373,8 @@ fn steps_of(
     given: Given,
     steps: &[Step],
 ) -> Result<usize, CoreFault>
-    requires { core.old.whole ≡ true }
-    ensures { OnOk result (core.new.whole ≡ true) }
+    requires { core.old.is_failed ≡ false }
+    ensures { OnOk result (core.new.is_failed ≡ false) }
 {
     let mut given = given;
     for (place, step) in steps.iter().enumerate() {
@@ -741,8 +741,8 @@ fn a_held_read_comes_again(rt: HostRuntime) -> Result<(), Fail> {
 
 // A core is parted and joined again.
 fn joined(core: Repository<PlainHistories>) -> Repository<PlainHistories>
-    requires { core.whole ≡ true }
-    ensures { result.whole ≡ true }
+    requires { core.is_failed ≡ false }
+    ensures { result.is_failed ≡ false }
 {
     let (rest, histories) = core.part();
     rest.join(histories)

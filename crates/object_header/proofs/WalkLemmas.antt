@@ -1,14 +1,12 @@
 -- A walk from an object's last place by the back places meets its versions, the newest first.
-use Rattle.std.proofs.Common.{◌≡◌, ℕ, zero, suc, ◌+◌, ◌≤◌, ◌<◌, Bool, true, false, List, [], ◌∷◌, ◌++◌, length, reverse, take, drop, refl, sym, ◌∙◌, ap, subst, Option, Some, None, slice_index_or, ◌&&◌, if◌then◌else◌, cond, arith, inl, inr}
-use Rattle.std.specs.Ordering.{is_eq}
-use Rattle.std.proofs.lemmas.Bool.{false≢true, true≢false, cases_Bool, cond-true, cond-false}
-use Rattle.std.proofs.lemmas.List.{reverse-append, take_all}
+use Rattle.std.proofs.Common.{◌≡◌, ℕ, zero, suc, ◌+◌, ◌≤◌, ◌<◌, Bool, true, false, List, [], ◌∷◌, ◌++◌, length, reverse, take, refl, sym, ◌∙◌, ap, Option, Some, None, slice_index_or, ◌&&◌, if◌then◌else◌, cond, arith}
+use Rattle.std.proofs.lemmas.Bool.{false≢true, true≢false, cond-true, cond-false}
+use Rattle.std.proofs.lemmas.List.{reverse-append}
 use Rattle.std.proofs.Math.Seq.{take-suc}
 use Rattle.field_form.proofs.FormLaws.{some_is}
 use Rattle.pseudo_time.specs.TimeParts.{TimeParts}
 use Rattle.value_form.specs.declared.objects.ObjectId.{ObjectId}
 use Rattle.value_form.specs.declared.values.Value.{Value}
-use Rattle.value_form.specs.Objects.{object_cmp}
 use Rattle.effect_form.specs.declared.effects.Effect.{Effect}
 use Rattle.effect_form.specs.declared.effects.Effect.TheVariants.{Put, Stretch, Begin, Decide, Learn, Run, Act, Try, Got, Acked, End}
 use Rattle.effect_form.specs.declared.effects.Place.{Place}
@@ -16,7 +14,7 @@ use Rattle.object_history.specs.declared.marks.Mark.{Mark}
 use Rattle.object_history.specs.declared.marks.Mark.TheVariants as mark
 use Rattle.object_history.specs.Objects.{same_object}
 use Rattle.object_history.proofs.ObjectLemmas.{same_object-is}
-use Rattle.version_store.specs.Entries.{Entry, Log, effects_of, IsIn, put_object, is_object, last_put, back_of, back_in}
+use Rattle.version_store.specs.Entries.{Entry, Log, effects_of, IsIn, put_object, is_object, last_put, back_in}
 use Rattle.std.specs.Option.{is_some}
 use Rattle.version_store.specs.Fetch.{StandsAt}
 use Rattle.version_store.proofs.LogLemmas.{last_from-push, effects_of-append}
@@ -183,11 +181,3 @@ module _ (ok : TimeParts → Bool) (o : ObjectId) where
 
     pub walk-done : (place : Option Place) → Walks ok o log place → place ≡ None → None ≡ first_put ok o (marks_in log)
     walk-done place w is = sym (w.first ∙ missed nothing w.left w.within (sym w.at ∙ is))
-
-    pub walk-begun : (place : Option Place) → place ≡ last_put log o → Walks ok o log place
-    walk-begun place is = record {
-      left = length log;
-      within = omega arith;
-      at = is ∙ ap (λ l. last_put l o) (sym (take_all (length log) log (omega arith)));
-      first = ap (λ l. first_put ok o (marks_in l)) (sym (take_all (length log) log (omega arith)));
-    }

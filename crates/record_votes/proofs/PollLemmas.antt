@@ -14,9 +14,9 @@ use Rattle.repository_log.specs.Logs.{is_commit}
 use Rattle.record_votes.specs.declared.member_numbers.MemberNumber.{MemberNumber}
 use Rattle.record_votes.specs.declared.member_numbers.MemberNumber.TheVariants.{First, Second, Third}
 use Rattle.record_votes.specs.declared.ballots.Ballot.{Ballot}
-use Rattle.record_votes.specs.Polls.{number_of, member, seat_by, seat_of, PollState, ballot, with_ballot, held, held_of, heard_from, heard_by, begun_heard, vote_heard, poll_takes, PollGiven, ignored}
+use Rattle.record_votes.specs.Polls.{number_of, member, voter_by, voter_of, PollState, ballot, with_ballot, held, held_of, heard_from, heard_by, begun_heard, vote_heard, poll_takes, PollGiven, ignored}
 
--- ---- seats
+-- ---- voters
 
 first≢second : First ≢ Second
 first≢second e = cc e
@@ -27,20 +27,20 @@ first≢third e = cc e
 second≢third : Second ≢ Third
 second≢third e = cc e
 
-seat-if : (a b c : Bool) (n : ℕ) (s : MemberNumber) → (a ≡ true → n ≡ 1) → (b ≡ true → n ≡ 2) → (c ≡ true → n ≡ 3)
+voter-if : (a b c : Bool) (n : ℕ) (s : MemberNumber) → (a ≡ true → n ≡ 1) → (b ≡ true → n ≡ 2) → (c ≡ true → n ≡ 3)
     → (if a then Some First else if b then Some Second else if c then Some Third else None) ≡ Some s → n ≡ number_of s
-seat-if true b c n s f g k h = let e : First ≡ s = cc h in f refl ∙ ap number_of e
-seat-if false true c n s f g k h = let e : Second ≡ s = cc h in g refl ∙ ap number_of e
-seat-if false false true n s f g k h = let e : Third ≡ s = cc h in k refl ∙ ap number_of e
-seat-if false false false n s f g k h = absurd (cc h)
+voter-if true b c n s f g k h = let e : First ≡ s = cc h in f refl ∙ ap number_of e
+voter-if false true c n s f g k h = let e : Second ≡ s = cc h in g refl ∙ ap number_of e
+voter-if false false true n s f g k h = let e : Third ≡ s = cc h in k refl ∙ ap number_of e
+voter-if false false false n s f g k h = absurd (cc h)
 
-seat-kind : (k : NodeKind) (n : ℕ) (s : MemberNumber) → seat_by k n ≡ Some s → record { kind = k; number = n } ≡ member s
-seat-kind kind.Repository n s h =
-    ap (λ z. record { kind = kind.Repository; number = z }) (seat-if (n == 1) (n == 2) (n == 3) n s (eqb-true n 1) (eqb-true n 2) (eqb-true n 3) h)
-seat-kind kind.Broker n s h = absurd (cc h)
+voter-kind : (k : NodeKind) (n : ℕ) (s : MemberNumber) → voter_by k n ≡ Some s → record { kind = k; number = n } ≡ member s
+voter-kind kind.Repository n s h =
+    ap (λ z. record { kind = kind.Repository; number = z }) (voter-if (n == 1) (n == 2) (n == 3) n s (eqb-true n 1) (eqb-true n 2) (eqb-true n 3) h)
+voter-kind kind.Broker n s h = absurd (cc h)
 
-pub seat-member : (from : NodeId) (s : MemberNumber) → seat_of from ≡ Some s → from ≡ member s
-seat-member from s h = seat-kind from.kind from.number s h
+pub voter-member : (from : NodeId) (s : MemberNumber) → voter_of from ≡ Some s → from ≡ member s
+voter-member from s h = voter-kind from.kind from.number s h
 
 -- ---- two of three
 
@@ -155,19 +155,19 @@ from-hears from (message.Decided x d) p s e = hears-if (same_stamp x p.stamp) fr
     (λ h. vote-hears from (message.Decided x d) p s d (ballot p s).vote refl e (ap (λ z. message.Decided z d) (same_stamp-is x p.stamp h)))
 from-hears from m p s e = hears-nothing from m p
 
-by-hears : (from : NodeId) (m : Message) (p : PollState) (s : Option MemberNumber) → seat_of from ≡ s → Hears from m p (heard_by p s m).poll
+by-hears : (from : NodeId) (m : Message) (p : PollState) (s : Option MemberNumber) → voter_of from ≡ s → Hears from m p (heard_by p s m).poll
 by-hears from m p None e = hears-nothing from m p
-by-hears from m p (Some s) e = from-hears from m p s (seat-member from s e)
+by-hears from m p (Some s) e = from-hears from m p s (voter-member from s e)
 
 pub takes-hears : (from : NodeId) (m : Message) (p : PollState) → Hears from m p (poll_takes p from m).poll
 unfolding poll_takes
-takes-hears from m p = by-hears from m p (seat_of from) refl
+takes-hears from m p = by-hears from m p (voter_of from) refl
 
 -- ---- what is held stays
 
 -- where two voted so, that is what is held
 is-held : (x y z : Option Bool) (c : Bool) → Two (three x y z) c → held_of x y z ≡ Some c
-is-held x y z c t = by-seats x y z c t.one t.other t.apart t.one_vote t.other_vote
+is-held x y z c t = by-voters x y z c t.one t.other t.apart t.one_vote t.other_vote
   where
     first-two : (z : Option Bool) (c : Bool) → held_of (Some c) (Some c) z ≡ Some c
     first-two z true = refl
@@ -191,16 +191,16 @@ is-held x y z c t = by-seats x y z c t.one t.other t.apart t.one_vote t.other_vo
     last-two (Some false) false = refl
     last-two None false = refl
 
-    by-seats : (x y z : Option Bool) (c : Bool) (a b : MemberNumber) → a ≢ b → three x y z a ≡ Some c → three x y z b ≡ Some c → held_of x y z ≡ Some c
-    by-seats x y z c First First n h k = absurd (n refl)
-    by-seats x y z c First Second n h k = ap (λ u. held_of u y z) h ∙ ap (λ u. held_of (Some c) u z) k ∙ first-two z c
-    by-seats x y z c First Third n h k = ap (λ u. held_of u y z) h ∙ ap (λ u. held_of (Some c) y u) k ∙ outer-two y c
-    by-seats x y z c Second First n h k = ap (λ u. held_of u y z) k ∙ ap (λ u. held_of (Some c) u z) h ∙ first-two z c
-    by-seats x y z c Second Second n h k = absurd (n refl)
-    by-seats x y z c Second Third n h k = ap (λ u. held_of x u z) h ∙ ap (λ u. held_of x (Some c) u) k ∙ last-two x c
-    by-seats x y z c Third First n h k = ap (λ u. held_of u y z) k ∙ ap (λ u. held_of (Some c) y u) h ∙ outer-two y c
-    by-seats x y z c Third Second n h k = ap (λ u. held_of x u z) k ∙ ap (λ u. held_of x (Some c) u) h ∙ last-two x c
-    by-seats x y z c Third Third n h k = absurd (n refl)
+    by-voters : (x y z : Option Bool) (c : Bool) (a b : MemberNumber) → a ≢ b → three x y z a ≡ Some c → three x y z b ≡ Some c → held_of x y z ≡ Some c
+    by-voters x y z c First First n h k = absurd (n refl)
+    by-voters x y z c First Second n h k = ap (λ u. held_of u y z) h ∙ ap (λ u. held_of (Some c) u z) k ∙ first-two z c
+    by-voters x y z c First Third n h k = ap (λ u. held_of u y z) h ∙ ap (λ u. held_of (Some c) y u) k ∙ outer-two y c
+    by-voters x y z c Second First n h k = ap (λ u. held_of u y z) k ∙ ap (λ u. held_of (Some c) u z) h ∙ first-two z c
+    by-voters x y z c Second Second n h k = absurd (n refl)
+    by-voters x y z c Second Third n h k = ap (λ u. held_of x u z) h ∙ ap (λ u. held_of x (Some c) u) k ∙ last-two x c
+    by-voters x y z c Third First n h k = ap (λ u. held_of u y z) k ∙ ap (λ u. held_of (Some c) y u) h ∙ outer-two y c
+    by-voters x y z c Third Second n h k = ap (λ u. held_of x u z) k ∙ ap (λ u. held_of x (Some c) u) h ∙ last-two x c
+    by-voters x y z c Third Third n h k = absurd (n refl)
 
 pub two-hold : (p : PollState) (c : Bool) → Two (votes_of p) c → held p ≡ Some c
 two-hold p c t = is-held p.first.vote p.second.vote p.third.vote c

@@ -21,8 +21,8 @@ use Rattle.pseudo_time.specs.Nodes.{broker}
 use Rattle.record_votes.specs.declared.member_numbers.MemberNumber.{MemberNumber}
 use Rattle.record_votes.specs.declared.member_numbers.MemberNumber.TheVariants.{First, Second, Third}
 use Rattle.record_votes.specs.Members.{Given, on_message, on_moment}
-use Rattle.record_votes.specs.Polls.{member, seat_at, PollState, ballot, held, poll_goes, poll_hears, poll_takes, PollGiven}
-use Rattle.record_votes.specs.Voting.{Member, World, all_effects, opened, turned, took, heard, shut, crashed, Event, Goes, Delivered, Gates, Crashes, Hears, Polled, is_seat, with_member, with_poll, with_sent, post_at, to_poll, to_seat, delivered_to, delivered, after, run, Line, new_poll, founded, reached, gated, IsDecided, TwoDecided, Logs, entered, no_logs, Call, ended, left, logs_after}
+use Rattle.record_votes.specs.Polls.{member, voter_at, voter_of, PollState, ballot, held, poll_goes, poll_hears, poll_takes, PollGiven}
+use Rattle.record_votes.specs.Voting.{Member, World, all_effects, opened, turned, took, heard, shut, crashed, Event, Goes, Delivered, Gates, Crashes, Hears, Polled, is_same_voter, with_member, with_poll, with_sent, post_at, to_poll, to_voter, delivered_to, delivered, after, run, Line, new_poll, founded, reached, gated, IsDecided, TwoDecided, Logs, entered, no_logs, Call, ended, left, logs_after}
 use Rattle.record_votes.proofs.LogLemmas.{voted, voted-more, voted-has, Once, Single, Tidy, tidy-front, tidy-more, tidy-none, tidy-apart, single-front, some-same}
 use Rattle.record_votes.proofs.MemberLemmas.{said, Says, message-says, moment-says}
 use Rattle.record_votes.proofs.PollLemmas.{Two, votes_of, held-two, takes-hears, held-stays, shared}
@@ -89,18 +89,18 @@ onward-on a b c f g = record {
 grows-voted : (old new : Member) → Grows old new → (x : StampParts) (d : Decision) → voted old.gated x ≡ Some d → voted new.gated x ≡ Some d
 grows-voted old new g x d h = subst (λ l. voted l x ≡ Some d) (sym g.grown) (voted-more old.gated g.more x d h)
 
-at-seat : (P : MemberNumber → Member → Type 0) (f : MemberNumber → Member) (s : MemberNumber) (m : Member) → P s m → ((k : MemberNumber) → P k (f k)) → (k : MemberNumber) → P k (if is_seat s k then m else f k)
-at-seat P f First m h g First = h
-at-seat P f First m h g Second = g Second
-at-seat P f First m h g Third = g Third
-at-seat P f Second m h g First = g First
-at-seat P f Second m h g Second = h
-at-seat P f Second m h g Third = g Third
-at-seat P f Third m h g First = g First
-at-seat P f Third m h g Second = g Second
-at-seat P f Third m h g Third = h
+at-voter : (P : MemberNumber → Member → Type 0) (f : MemberNumber → Member) (s : MemberNumber) (m : Member) → P s m → ((k : MemberNumber) → P k (f k)) → (k : MemberNumber) → P k (if is_same_voter s k then m else f k)
+at-voter P f First m h g First = h
+at-voter P f First m h g Second = g Second
+at-voter P f First m h g Third = g Third
+at-voter P f Second m h g First = g First
+at-voter P f Second m h g Second = h
+at-voter P f Second m h g Third = g Third
+at-voter P f Third m h g First = g First
+at-voter P f Third m h g Second = g Second
+at-voter P f Third m h g Third = h
 
-at-own : (f : MemberNumber → Member) (s : MemberNumber) (m : Member) → (if is_seat s s then m else f s) ≡ m
+at-own : (f : MemberNumber → Member) (s : MemberNumber) (m : Member) → (if is_same_voter s s then m else f s) ≡ m
 at-own f First m = refl
 at-own f Second m = refl
 at-own f Third m = refl
@@ -109,11 +109,11 @@ module _ (lines : ℕ → Line) where
   -- one member changes
   member-facts : (w : World) (s : MemberNumber) (m : Member) → MemberFacts m → Grows (w.members s) m → Facts lines w → Facts lines (with_member w s m)
   member-facts w s m h g facts = record {
-    members = at-seat (λ k z. MemberFacts z) w.members s m h facts.members;
-    sent = at-seat (λ k z. (to : NodeId) (x : StampParts) (d : Decision) → Has (post (member k) (said to x d)) w.sent → voted z.gated x ≡ Some d) w.members s m
+    members = at-voter (λ k z. MemberFacts z) w.members s m h facts.members;
+    sent = at-voter (λ k z. (to : NodeId) (x : StampParts) (d : Decision) → Has (post (member k) (said to x d)) w.sent → voted z.gated x ≡ Some d) w.members s m
         (λ to x d k. grows-voted (w.members s) m g x d (facts.sent s to x d k)) facts.sent;
     stamps = facts.stamps;
-    ballots = λ i. at-seat (λ k z. (c : Bool) → (ballot (w.polls i) k).vote ≡ Some c → (d : Decision) × (is_commit d ≡ c) × (voted z.gated (lines i).stamp ≡ Some d)) w.members s m
+    ballots = λ i. at-voter (λ k z. (c : Bool) → (ballot (w.polls i) k).vote ≡ Some c → (d : Decision) × (is_commit d ≡ c) × (voted z.gated (lines i).stamp ≡ Some d)) w.members s m
         (λ c k. let b : (d : Decision) × (is_commit d ≡ c) × (voted (gated w s) (lines i).stamp ≡ Some d) = facts.ballots i s c k in (b.0, b.1, grows-voted (w.members s) m g (lines i).stamp b.0 b.2)) (facts.ballots i);
   }
 
@@ -131,7 +131,7 @@ module _ (lines : ℕ → Line) where
   }
 
 member-onward : (w : World) (s : MemberNumber) (m : Member) → Grows (w.members s) m → Onward w (with_member w s m)
-member-onward w s m g = record { logs = at-seat (λ k z. Grows (w.members k) z) w.members s m g (λ k. same-log (w.members k)); votes = λ i k c h. h }
+member-onward w s m g = record { logs = at-voter (λ k z. Grows (w.members k) z) w.members s m g (λ k. same-log (w.members k)); votes = λ i k c h. h }
 
 -- ---- posts
 
@@ -143,16 +143,13 @@ has-post from (o ∷ outs) p (inr k) = let h : (p.from ≡ from) × Has (record 
 member≢broker : (s : MemberNumber) (i : ℕ) → member s ≡ broker i → ⊥
 member≢broker s i e = let k : kind.Repository ≡ kind.Broker = ap (λ z. z.kind) e in cc k
 
-same-seat : (a b : MemberNumber) → member a ≡ member b → a ≡ b
-same-seat First First e = refl
-same-seat Second Second e = refl
-same-seat Third Third e = refl
-same-seat First Second e = let k : 1 ≡ 2 = ap (λ z. z.number) e in absurd (cc k)
-same-seat First Third e = let k : 1 ≡ 3 = ap (λ z. z.number) e in absurd (cc k)
-same-seat Second First e = let k : 2 ≡ 1 = ap (λ z. z.number) e in absurd (cc k)
-same-seat Second Third e = let k : 2 ≡ 3 = ap (λ z. z.number) e in absurd (cc k)
-same-seat Third First e = let k : 3 ≡ 1 = ap (λ z. z.number) e in absurd (cc k)
-same-seat Third Second e = let k : 3 ≡ 2 = ap (λ z. z.number) e in absurd (cc k)
+voter-back : (s : MemberNumber) → voter_of (member s) ≡ Some s
+voter-back First = refl
+voter-back Second = refl
+voter-back Third = refl
+
+same-voter : (a b : MemberNumber) → member a ≡ member b → a ≡ b
+same-voter a b e = let k : Some a ≡ Some b = sym (voter-back a) ∙ ap voter_of e ∙ voter-back b in cc k
 
 broker-post : (w : World) (i : ℕ) (outs : List Out) (s : MemberNumber) (to : NodeId) (x : StampParts) (d : Decision) → Has (post (member s) (said to x d)) (posts (broker i) outs) → voted (gated w s) x ≡ Some d
 broker-post w i outs s to x d h = absurd (member≢broker s i (has-post (broker i) outs (post (member s) (said to x d)) h).0)
@@ -200,15 +197,15 @@ module _ (lines : ℕ → Line) where
             (d, new.1, facts.sent s p.to (lines i).stamp d (subst (λ z. Has z w.sent) there come)))
       ]) facts)
 
-  to-seat-facts : (w : World) (from : NodeId) (m : Message) (s : Option MemberNumber) → Facts lines w → Facts lines (to_seat w from m s)
-  to-seat-facts w from m None facts = facts
-  to-seat-facts w from m (Some s) facts =
+  to-voter-facts : (w : World) (from : NodeId) (m : Message) (s : Option MemberNumber) → Facts lines w → Facts lines (to_voter w from m s)
+  to-voter-facts w from m None facts = facts
+  to-voter-facts w from m (Some s) facts =
       let x : Member = w.members s in
       member-facts lines w s (took x from m) (turned-facts x x.moment (on_message (all_effects x) x.moment from m) (message-says (all_effects x) x.moment from m) (facts.members s)) (turned-grows x x.moment (on_message (all_effects x) x.moment from m)) facts
 
   to-kind-facts : (w : World) (p : Post) (k : NodeKind) → Has p w.sent → Facts lines w → Facts lines (delivered_to w p k)
   to-kind-facts w p kind.Broker come facts = to-poll-facts w p.to.number p come facts
-  to-kind-facts w p kind.Repository come facts = to-seat-facts w p.from p.message (seat_at p.to.number) facts
+  to-kind-facts w p kind.Repository come facts = to-voter-facts w p.from p.message (voter_at p.to.number) facts
 
   delivered-facts : (w : World) (p : Option Post) → ((q : Post) → p ≡ Some q → Has q w.sent) → Facts lines w → Facts lines (delivered w p)
   delivered-facts w None come facts = facts
@@ -218,7 +215,7 @@ module _ (lines : ℕ → Line) where
       → Has (post (member k) (said to x d)) (posts (member s) (w.members s).owed) → voted (gated (with_member w s (shut (w.members s))) k) x ≡ Some d
   shut-sent w s facts k to x d h =
       let p : (member k ≡ member s) × Has (said to x d) (w.members s).owed = has-post (member s) (w.members s).owed (post (member k) (said to x d)) h in
-      subst (λ z. voted (gated (with_member w s (shut (w.members s))) z) x ≡ Some d) (sym (same-seat k s p.0))
+      subst (λ z. voted (gated (with_member w s (shut (w.members s))) z) x ≡ Some d) (sym (same-voter k s p.0))
       (subst (λ z. voted z.gated x ≡ Some d) (sym (at-own w.members s (shut (w.members s)))) ((facts.members s).answers to x d p.1))
 
   step-facts : (w : World) (e : Event) → Facts lines w → Facts lines (after w e)
@@ -262,9 +259,9 @@ poll-onward w i p f = record {
 sent-onward : (old w : World) (more : List Post) → Onward old w → Onward old (with_sent w more)
 sent-onward old w more h = record { logs = h.logs; votes = h.votes }
 
-seat-onward : (w : World) (from : NodeId) (m : Message) (s : Option MemberNumber) → Onward w (to_seat w from m s)
-seat-onward w from m None = onward-same w
-seat-onward w from m (Some s) =
+voter-onward : (w : World) (from : NodeId) (m : Message) (s : Option MemberNumber) → Onward w (to_voter w from m s)
+voter-onward w from m None = onward-same w
+voter-onward w from m (Some s) =
     let x : Member = w.members s in
     member-onward w s (took x from m) (turned-grows x x.moment (on_message (all_effects x) x.moment from m))
 
@@ -273,7 +270,7 @@ kind-onward w p kind.Broker =
     let i : ℕ = p.to.number in
     let g : PollGiven = poll_takes (w.polls i) p.from p.message in
     sent-onward w (with_poll w i g.poll) (posts (broker i) g.outs) (poll-onward w i g.poll (takes-hears p.from p.message (w.polls i)).stays)
-kind-onward w p kind.Repository = seat-onward w p.from p.message (seat_at p.to.number)
+kind-onward w p kind.Repository = voter-onward w p.from p.message (voter_at p.to.number)
 
 delivered-onward : (w : World) (p : Option Post) → Onward w (delivered w p)
 delivered-onward w None = onward-same w

@@ -26,15 +26,15 @@ number_of Third = 3
 abbrev pub member : MemberNumber → NodeId
 member s = repository (number_of s)
 
-abbrev pub seat_at : ℕ → Option MemberNumber
-seat_at n = if n == 1 then Some First else if n == 2 then Some Second else if n == 3 then Some Third else None
+abbrev pub voter_at : ℕ → Option MemberNumber
+voter_at n = if n == 1 then Some First else if n == 2 then Some Second else if n == 3 then Some Third else None
 
-abbrev pub seat_by : NodeKind → ℕ → Option MemberNumber
-seat_by kind.Repository n = seat_at n
-seat_by kind.Broker n = None
+abbrev pub voter_by : NodeKind → ℕ → Option MemberNumber
+voter_by kind.Repository n = voter_at n
+voter_by kind.Broker n = None
 
-abbrev pub seat_of : NodeId → Option MemberNumber
-seat_of node = seat_by node.kind node.number
+abbrev pub voter_of : NodeId → Option MemberNumber
+voter_of node = voter_by node.kind node.number
 
 -- A poll. A ballot is what was heard from one member: whether Begun, and how the first Decided went.
 pub record PollState : Type 0 where
@@ -150,4 +150,4 @@ heard_by p (Some s) m = heard_from p s m
 
 -- a message is taken
 unfoldable pub poll_takes : PollState → NodeId → Message → PollGiven
-poll_takes p from m = heard_by p (seat_of from) m
+poll_takes p from m = heard_by p (voter_of from) m

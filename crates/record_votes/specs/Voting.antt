@@ -1,5 +1,5 @@
 -- A vote world: three members, polls, and all messages ever sent.
-use Rattle.std.specs.Prelude.{◌≡◌, ◌≢◌, ℕ, zero, suc, Bool, true, false, List, [], ◌∷◌, ◌++◌, take, Option, Some, None, ◌==◌, if◌then◌else◌}
+use Rattle.std.specs.Prelude.{◌≡◌, ◌≢◌, ℕ, zero, suc, Bool, false, List, [], ◌∷◌, ◌++◌, take, Option, Some, None, ◌==◌, if◌then◌else◌}
 use Rattle.pseudo_time.specs.Lists.{Has}
 use Rattle.pseudo_time.specs.StampParts.{StampParts}
 use Rattle.pseudo_time.specs.declared.decisions.Decision.{Decision}
@@ -14,10 +14,9 @@ use Rattle.turn_form.specs.Posts.{Post, posts}
 use Rattle.repository_log.specs.Logs.{is_commit}
 use Rattle.pseudo_time.specs.Nodes.{broker}
 use Rattle.record_votes.specs.declared.member_numbers.MemberNumber.{MemberNumber}
-use Rattle.record_votes.specs.declared.member_numbers.MemberNumber.TheVariants.{First, Second, Third}
 use Rattle.record_votes.specs.declared.ballots.Wish.{Wish}
 use Rattle.record_votes.specs.Members.{Given, on_message, on_moment}
-use Rattle.record_votes.specs.Polls.{member, seat_at, PollState, poll_goes, poll_hears, poll_takes, PollGiven}
+use Rattle.record_votes.specs.Polls.{number_of, member, voter_at, PollState, poll_goes, poll_hears, poll_takes, PollGiven}
 
 -- A member: its durable log, the effects and messages of its turns since, all oldest first, and the last moment that it heard.
 pub record Member : Type 0 where
@@ -71,19 +70,11 @@ pub data Event : Type 0 where
   Hears : MemberNumber → ℕ → Event
   Polled : ℕ → ℕ → Event
 
-abbrev pub is_seat : MemberNumber → MemberNumber → Bool
-is_seat First First = true
-is_seat First Second = false
-is_seat First Third = false
-is_seat Second First = false
-is_seat Second Second = true
-is_seat Second Third = false
-is_seat Third First = false
-is_seat Third Second = false
-is_seat Third Third = true
+abbrev pub is_same_voter : MemberNumber → MemberNumber → Bool
+is_same_voter a b = number_of a == number_of b
 
 abbrev pub with_member : World → MemberNumber → Member → World
-with_member w s m = record w { members = λ k. if is_seat s k then m else w.members k }
+with_member w s m = record w { members = λ k. if is_same_voter s k then m else w.members k }
 
 abbrev pub with_poll : World → ℕ → PollState → World
 with_poll w i p = record w { polls = λ k. if i == k then p else w.polls k }
@@ -99,13 +90,13 @@ post_at (p ∷ ps) (suc k) = post_at ps k
 abbrev pub to_poll : World → ℕ → PollGiven → World
 to_poll w i g = with_sent (with_poll w i g.poll) (posts (broker i) g.outs)
 
-abbrev pub to_seat : World → NodeId → Message → Option MemberNumber → World
-to_seat w from x None = w
-to_seat w from x (Some s) = with_member w s (took (w.members s) from x)
+abbrev pub to_voter : World → NodeId → Message → Option MemberNumber → World
+to_voter w from x None = w
+to_voter w from x (Some s) = with_member w s (took (w.members s) from x)
 
 abbrev pub delivered_to : World → Post → NodeKind → World
 delivered_to w p kind.Broker = to_poll w p.to.number (poll_takes (w.polls p.to.number) p.from p.message)
-delivered_to w p kind.Repository = to_seat w p.from p.message (seat_at p.to.number)
+delivered_to w p kind.Repository = to_voter w p.from p.message (voter_at p.to.number)
 
 abbrev pub delivered : World → Option Post → World
 delivered w None = w

@@ -1,4 +1,4 @@
-ghost use Rattle.std.specs.Prelude.{◌≡◌, ◌++◌, ◌∷◌, [], OnOk, OnErr, IfOk, Some, None, true};
+ghost use Rattle.std.specs.Prelude.{◌≡◌, ◌++◌, [], OnOk, OnErr, IfOk, Some, None, true};
 ghost use Rattle.message_form.specs.Messages.{IsMessage, IsTimeout};
 ghost use Rattle.turn_form.specs.Ranges.{AreOuts};
 ghost use Rattle.record_votes.specs.Polls as polls;
@@ -78,20 +78,20 @@ impl Poll {
         held_of(self.first.vote, self.second.vote, self.third.vote)
     }
 
-    fn ballot(&self, seat: MemberNumber) -> Ballot
-        ensures { result ≡ polls.ballot self.now seat }
+    fn ballot(&self, voter: MemberNumber) -> Ballot
+        ensures { result ≡ polls.ballot self.now voter }
     {
-        match seat {
+        match voter {
             MemberNumber::First => self.first,
             MemberNumber::Second => self.second,
             MemberNumber::Third => self.third,
         }
     }
 
-    fn set_ballot(&mut self, seat: MemberNumber, ballot: Ballot)
-        ensures { self.new ≡ polls.with_ballot self.old seat ballot }
+    fn set_ballot(&mut self, voter: MemberNumber, ballot: Ballot)
+        ensures { self.new ≡ polls.with_ballot self.old voter ballot }
     {
-        match seat {
+        match voter {
             MemberNumber::First => self.first = ballot,
             MemberNumber::Second => self.second = ballot,
             MemberNumber::Third => self.third = ballot,
@@ -121,38 +121,38 @@ impl Poll {
     fn ask(
         &self,
         outs: &mut Vec<Out>,
-        seat: MemberNumber,
+        voter: MemberNumber,
         begun: bool,
         vote: Option<bool>,
     ) -> Result<(), AllocError>
         requires { AreOuts outs.old.items }
-        ensures asked { OnOk result (outs.new.items ≡ outs.old.items ++ polls.asked self.now seat begun vote) }
+        ensures asked { OnOk result (outs.new.items ≡ outs.old.items ++ polls.asked self.now voter begun vote) }
         ensures in_range { OnOk result (AreOuts outs.new.items) }
     {
         if vote.is_some() {
             return Ok(());
         }
         let message = self.outstanding(begun);
-        push_to(outs, seat, message)
+        push_to(outs, voter, message)
     }
 
     // Asks a member again.
-    fn ask_again(&self, outs: &mut Vec<Out>, seat: MemberNumber) -> Result<(), AllocError>
+    fn ask_again(&self, outs: &mut Vec<Out>, voter: MemberNumber) -> Result<(), AllocError>
         requires { AreOuts outs.old.items }
-        ensures asked { OnOk result (outs.new.items ≡ outs.old.items ++ polls.asked_again self.now seat) }
+        ensures asked { OnOk result (outs.new.items ≡ outs.old.items ++ polls.asked_again self.now voter) }
         ensures in_range { OnOk result (AreOuts outs.new.items) }
     {
-        let ballot = self.ballot(seat);
-        self.ask(outs, seat, ballot.begun, ballot.vote)
+        let ballot = self.ballot(voter);
+        self.ask(outs, voter, ballot.begun, ballot.vote)
     }
 
     // Asks a member for a record.
-    fn begin(&self, outs: &mut Vec<Out>, seat: MemberNumber) -> Result<(), AllocError>
+    fn begin(&self, outs: &mut Vec<Out>, voter: MemberNumber) -> Result<(), AllocError>
         requires { AreOuts outs.old.items }
-        ensures asked { OnOk result (outs.new.items ≡ outs.old.items ++ polls.begin_to self.now seat) }
+        ensures asked { OnOk result (outs.new.items ≡ outs.old.items ++ polls.begin_to self.now voter) }
         ensures in_range { OnOk result (AreOuts outs.new.items) }
     {
-        self.ask(outs, seat, false, None)
+        self.ask(outs, voter, false, None)
     }
 
     /// The poll goes: it asks each member for a record. Want of memory is the one error.
@@ -189,28 +189,28 @@ impl Poll {
     }
 
     // What the first Begun of a member asks for.
-    fn wish_of(&self, seat: MemberNumber, ballot: Ballot) -> Result<Vec<Out>, AllocError>
-        ensures asked { ballot ≡ polls.ballot self.now seat → IfOk result (λ v. v.items ≡ (polls.begun_heard self.now seat ballot).outs) }
+    fn wish_of(&self, voter: MemberNumber, ballot: Ballot) -> Result<Vec<Out>, AllocError>
+        ensures asked { ballot ≡ polls.ballot self.now voter → IfOk result (λ v. v.items ≡ (polls.begun_heard self.now voter ballot).outs) }
         ensures in_range { IfOk result (λ v. AreOuts v.items) }
     {
         let mut outs = Vec::new(self.alloc);
         if !ballot.begun && self.held().is_none() {
-            self.ask(&mut outs, seat, true, ballot.vote)?;
+            self.ask(&mut outs, voter, true, ballot.vote)?;
         }
         Ok(outs)
     }
 
     // Hears Begun from a member.
-    fn hear_begun(&mut self, seat: MemberNumber) -> Result<Turn, AllocError>
-        ensures gives { IfOk result (λ t. (t.effects ≡ []) × (t.outs ≡ (polls.begun_heard self.old seat (polls.ballot self.old seat)).outs)) }
+    fn hear_begun(&mut self, voter: MemberNumber) -> Result<Turn, AllocError>
+        ensures gives { IfOk result (λ t. (t.effects ≡ []) × (t.outs ≡ (polls.begun_heard self.old voter (polls.ballot self.old voter)).outs)) }
         ensures in_range { IfOk result (λ t. AreOuts t.outs) }
-        ensures heard { OnOk result (self.new ≡ (polls.begun_heard self.old seat (polls.ballot self.old seat)).poll) }
+        ensures heard { OnOk result (self.new ≡ (polls.begun_heard self.old voter (polls.ballot self.old voter)).poll) }
         ensures err { OnErr result (self.new ≡ self.old) }
     {
-        let ballot = self.ballot(seat);
-        let outs = self.wish_of(seat, ballot)?;
+        let ballot = self.ballot(voter);
+        let outs = self.wish_of(voter, ballot)?;
         self.set_ballot(
-            seat,
+            voter,
             Ballot {
                 begun: true,
                 vote: ballot.vote,
@@ -220,13 +220,13 @@ impl Poll {
     }
 
     // Hears Decided from a member.
-    fn hear_vote(&mut self, seat: MemberNumber, decision: Decision)
-        ensures { self.new ≡ (polls.vote_heard self.old seat decision (polls.ballot self.old seat) (polls.ballot self.old seat).vote).poll }
+    fn hear_vote(&mut self, voter: MemberNumber, decision: Decision)
+        ensures { self.new ≡ (polls.vote_heard self.old voter decision (polls.ballot self.old voter) (polls.ballot self.old voter).vote).poll }
     {
-        let ballot = self.ballot(seat);
+        let ballot = self.ballot(voter);
         if ballot.vote.is_none() {
             self.set_ballot(
-                seat,
+                voter,
                 Ballot {
                     begun: ballot.begun,
                     vote: Some(is_commit(decision)),
@@ -236,21 +236,21 @@ impl Poll {
     }
 
     // Hears a message from a member.
-    fn hear_from(&mut self, seat: MemberNumber, message: &Message) -> Result<Turn, AllocError>
-        ensures gives { IfOk result (λ t. (t.effects ≡ []) × (t.outs ≡ (polls.heard_from self.old seat message.now).outs)) }
+    fn hear_from(&mut self, voter: MemberNumber, message: &Message) -> Result<Turn, AllocError>
+        ensures gives { IfOk result (λ t. (t.effects ≡ []) × (t.outs ≡ (polls.heard_from self.old voter message.now).outs)) }
         ensures in_range { IfOk result (λ t. AreOuts t.outs) }
-        ensures heard { OnOk result (self.new ≡ (polls.heard_from self.old seat message.now).poll) }
+        ensures heard { OnOk result (self.new ≡ (polls.heard_from self.old voter message.now).poll) }
         ensures err { OnErr result (self.new ≡ self.old) }
     {
         match message {
             Message::Begun { stamp } => {
                 if stamp.is_same(self.stamp) {
-                    return self.hear_begun(seat);
+                    return self.hear_begun(voter);
                 }
             }
             Message::Decided { stamp, decision } => {
                 if stamp.is_same(self.stamp) {
-                    self.hear_vote(seat, *decision);
+                    self.hear_vote(voter, *decision);
                 }
             }
             _ => (),
@@ -267,29 +267,29 @@ impl Poll {
         ensures heard { OnOk result (self.new ≡ (polls.poll_takes self.old from message.now).poll) }
         ensures err { OnErr result (self.new ≡ self.old) }
     {
-        match seat_of(from) {
+        match voter_of(from) {
             None => Ok(Turn::quiet(self.alloc)),
-            Some(seat) => self.hear_from(seat, message),
+            Some(voter) => self.hear_from(voter, message),
         }
     }
 }
 
 // A message to a member.
-fn push_to(outs: &mut Vec<Out>, seat: MemberNumber, message: Message) -> Result<(), AllocError>
+fn push_to(outs: &mut Vec<Out>, voter: MemberNumber, message: Message) -> Result<(), AllocError>
     requires outs { AreOuts outs.old.items }
     requires message { IsMessage message }
-    ensures pushed { OnOk result (outs.new.items ≡ outs.old.items ++ polls.to_member seat message) }
+    ensures pushed { OnOk result (outs.new.items ≡ outs.old.items ++ polls.to_member voter message) }
     ensures in_range { OnOk result (AreOuts outs.new.items) }
 {
-    let to = member(seat);
+    let to = member(voter);
     outs.push(Out { to, message })?;
     Ok(())
 }
 
-fn member(seat: MemberNumber) -> NodeId
-    ensures { result ≡ polls.member seat }
+fn member(voter: MemberNumber) -> NodeId
+    ensures { result ≡ polls.member voter }
 {
-    let number = match seat {
+    let number = match voter {
         MemberNumber::First => 1,
         MemberNumber::Second => 2,
         MemberNumber::Third => 3,
@@ -297,17 +297,17 @@ fn member(seat: MemberNumber) -> NodeId
     NodeId::repository(number)
 }
 
-fn seat_of(node: NodeId) -> Option<MemberNumber>
-    ensures { result ≡ polls.seat_of node }
+fn voter_of(node: NodeId) -> Option<MemberNumber>
+    ensures { result ≡ polls.voter_of node }
 {
     match node.kind {
-        NodeKind::Repository => seat_at(node.number),
+        NodeKind::Repository => voter_at(node.number),
         NodeKind::Broker => None,
     }
 }
 
-fn seat_at(number: u8) -> Option<MemberNumber>
-    ensures { result ≡ polls.seat_at number }
+fn voter_at(number: u8) -> Option<MemberNumber>
+    ensures { result ≡ polls.voter_at number }
 {
     if number == 1 {
         return Some(MemberNumber::First);

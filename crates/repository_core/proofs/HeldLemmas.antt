@@ -1,5 +1,5 @@
 -- What holds of each held read stays true of those that are left, and of one more.
-use Rattle.std.proofs.Common.{Bool, true, false, List, [], ◌∷◌}
+use Rattle.std.proofs.Common.{◌≡◌, Bool, true, false, List, [], ◌∷◌, refl, sym, ap, subst, inl, inr}
 use Rattle.std.specs.declared.cmp.Ordering.{Ordering}
 use Rattle.std.specs.declared.cmp.Ordering.TheVariants.{Less, Equal, Greater}
 use Rattle.std.specs.Ordering.{match_ordering}
@@ -7,8 +7,9 @@ use Rattle.std.specs.List.{filter}
 use Rattle.std.specs.Map.{remove_entry}
 use Rattle.std.specs.BTreeMap.{insert_entry}
 use Rattle.std.specs.Prelude.{cond}
-use Rattle.pseudo_time.specs.Lists.{Every}
-use Rattle.pseudo_time.specs.TimeParts.{TimeParts}
+use Rattle.pseudo_time.specs.Lists.{Every, Has}
+use Rattle.pseudo_time.specs.TimeParts.{TimeParts, time_cmp}
+use Rattle.pseudo_time.proofs.OrderLemmas.{time_cmp-exact}
 use Rattle.repository_core.specs.declared.waits.HeldRead.{HeldRead}
 use Rattle.repository_core.specs.declared.waits.Asker.{Asker}
 use Rattle.repository_core.specs.Hands.{Hand}
@@ -44,3 +45,23 @@ module _ {K X : Type 0} where
   every-insert P cmp [] k v p h = (p, tt)
   every-insert P cmp (e ∷ es) k v p h =
       every-match (Every (λ e. P e.1)) (cmp k e.0) ((k, v) ∷ e ∷ es) ((e.0, v) ∷ es) (e ∷ insert_entry cmp es k v) (p, h) (p, h.1) (h.0, every-insert P cmp es k v p h.1)
+
+-- ---- one more held read, at its place
+
+pub put-in : (t : TimeParts) (x : HeldRead) (es : List (TimeParts × HeldRead)) → Has (t, x) (insert_entry time_cmp es t x)
+put-in t x [] = inl refl
+put-in t x (y ∷ es) = go (put-in t x es) (time_cmp t y.0) refl
+  where
+    go : Has (t, x) (insert_entry time_cmp es t x) → (o : Ordering) → time_cmp t y.0 ≡ o → Has (t, x) (match_ordering o ((t, x) ∷ y ∷ es) ((y.0, x) ∷ es) (y ∷ insert_entry time_cmp es t x))
+    go again Less q = inl refl
+    go again Equal q = let f : TimeParts → TimeParts × HeldRead = λ z. (z, x) in inl (ap f (sym (time_cmp-exact t y.0 q)))
+    go again Greater q = inr again
+
+pub every-put : (P : TimeParts × HeldRead → Type 0) (t : TimeParts) (x : HeldRead) (es : List (TimeParts × HeldRead)) → P (t, x) → Every P es → Every P (insert_entry time_cmp es t x)
+every-put P t x [] p h = (p, tt)
+every-put P t x (e ∷ es) p h = go (time_cmp t e.0) refl (every-put P t x es p h.1)
+  where
+    go : (o : Ordering) → time_cmp t e.0 ≡ o → Every P (insert_entry time_cmp es t x) → Every P (match_ordering o ((t, x) ∷ e ∷ es) ((e.0, x) ∷ es) (e ∷ insert_entry time_cmp es t x))
+    go Less q rest = (p, h)
+    go Equal q rest = (subst (λ z. P (z, x)) (time_cmp-exact t e.0 q) p, h.1)
+    go Greater q rest = (h.0, rest)

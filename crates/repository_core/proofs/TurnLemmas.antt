@@ -1,9 +1,14 @@
 -- A whole turn, from its beginning to its end, is what the rules give.
-use Rattle.std.proofs.Common.{◌≡◌, List, [], ◌++◌, reverse, sym, ◌∙◌, ap}
+use Rattle.std.proofs.Common.{◌≡◌, List, [], ◌++◌, reverse, sym, ◌∙◌, ap, subst}
 use Rattle.std.proofs.lemmas.List.{reverse-reverse}
+use Rattle.pseudo_time.specs.StampParts.{StampParts}
+use Rattle.pseudo_time.specs.declared.decisions.Decision.{Decision}
 use Rattle.effect_form.specs.declared.effects.Effect.{Effect}
+use Rattle.object_history.specs.declared.marks.Mark.{Mark}
 use Rattle.turn_form.specs.declared.turns.Out.{Out}
 use Rattle.turn_form.specs.declared.turns.Turn.{Turn}
+use Rattle.repository_core.specs.declared.books.Books.{Books}
+use Rattle.repository_core.specs.Accounts.{AgreeBut, AgreeWith, IsOpen}
 use Rattle.repository_core.specs.Hands.{Mind, Hand, now}
 use Rattle.repository_core.specs.Cores.{given}
 use Rattle.repository_core.specs.Turns.{Input, Given, hand_turn, hand_at, mind_of, gives}
@@ -27,6 +32,9 @@ gives-is before first last after input t e f began went effects outs closed =
     ap (λ z. given_as z t.outs (mind_of after)) effects ∙ ap (λ z. given_as (reverse last.fresh) z (mind_of after)) outs ∙ ap (λ z. given_as (reverse last.fresh) last.outs (mind_of z)) closed
     ∙ ap (λ z. given_as (reverse z.fresh) z.outs (mind_of z)) (went ∙ ap (λ z. hand_turn z input) (began ∙ began-is before e f))
 
--- between two calls the log is that of the turn in hand
-pub at-rest : (h : Hand) → h.fresh ≡ [] → now h ≡ h.base
-at-rest h e = ap (λ z. z ++ h.base) e
+-- between two calls the log is that of the turn in hand, and so the books agree with it as the next call begins
+pub begins-agreed : {H : Type 0} {g k : _} (content : H → List Mark) (before first : Hand) (b : Books H g) (started : Books H k) → IsOpen content before b → first ≡ before
+    → ((pending : List (StampParts × Decision)) (log : List Effect) → AgreeBut content pending log b → AgreeBut content pending log started) → AgreeWith content (now first) started
+begins-agreed content before first b started rests same keeps =
+    subst (λ h. AgreeWith content (now h) started) (sym same)
+    (keeps [] (now before) (subst (λ l. AgreeWith content l b) (sym (ap (λ z. z ++ before.base) rests.0)) rests.2))

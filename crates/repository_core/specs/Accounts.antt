@@ -1,5 +1,5 @@
 -- The books of a repository, in a call and beside its log.
-use Rattle.std.specs.Prelude.{◌≡◌, ℕ, Bool, List, []}
+use Rattle.std.specs.Prelude.{◌≡◌, ℕ, Bool, List, [], Result, OnOk}
 use Rattle.pseudo_time.specs.StampParts.{StampParts}
 use Rattle.pseudo_time.specs.declared.decisions.Decision.{Decision}
 use Rattle.effect_form.specs.declared.effects.Effect.{Effect}
@@ -7,7 +7,7 @@ use Rattle.object_history.specs.declared.marks.Mark.{Mark}
 use Rattle.object_history.specs.declared.steps.HistoryFault.{HistoryFault}
 use Rattle.repository_core.specs.declared.books.Books.{Books}
 use Rattle.repository_core.specs.Hands.{Hand}
-use Rattle.repository_core.specs.Calls.{Since, IsCaused}
+use Rattle.repository_core.specs.Calls.{Since, IsCaused, WentOn}
 use Rattle.repository_log.specs.Lookups.{BooksShow}
 
 -- what they look up agrees with the log, but for the records whose expiry isn't noted yet
@@ -31,3 +31,12 @@ AreOfOneCall old new = new.first.value ≡ old.first.value
 -- between two calls: nothing is added and nothing owed, and what the books look up agrees with the log
 abbrev pub IsOpen : {H : Type 0} {g : _} → (H → List Mark) → Hand → Books H g → Type 0
 IsOpen content h b = (h.fresh ≡ []) × (h.outs ≡ []) × AgreeWith content h.base b
+
+-- what was pending still is, and beside it they still agree
+abbrev pub StillAgree : {H T E : Type 0} {g k : _} → (H → List Mark) → List Effect → Books H g → List Effect → Books H k → Result T E → Type 0
+StillAgree content before old after new result =
+    (pending : List (StampParts × Decision)) → AgreeBut content pending before old → OnOk result (AgreeBut content pending after new)
+
+-- the same of the books
+abbrev pub HaveGoneOn : {H B T : Type 0} {g k : _} → Bool → (H → List Mark) → (H → B) → (H → ℕ) → (H → ℕ) → Books H g → Books H k → Result T HistoryFault → Type 0
+HaveGoneOn tells content below faults damage old new result = WentOn tells content below faults damage old.first.value new.first.value new.histories result

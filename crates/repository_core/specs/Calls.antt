@@ -1,5 +1,5 @@
 -- A repository's histories in a call.
-use Rattle.std.specs.Prelude.{◌≡◌, ℕ, ◌≤◌, Bool, IsTrue, List, ◌++◌}
+use Rattle.std.specs.Prelude.{◌≡◌, ℕ, ◌≤◌, Bool, IsTrue, List, ◌++◌, Result, IfErr}
 use Rattle.stream_port.specs.Causes.{Rose}
 use Rattle.object_history.specs.declared.marks.Mark.{Mark}
 use Rattle.object_history.specs.declared.steps.HistoryFault.{HistoryFault}
@@ -22,3 +22,11 @@ abbrev pub IsCaused : {H : Type 0} → Bool → (H → ℕ) → (H → ℕ) → 
 IsCaused tells faults damage first now fault.Medium = Rose (faults first) (faults now)
 IsCaused tells faults damage first now (fault.Damaged page) = Rose (damage first) (damage now) × (IsTrue tells → ⊥)
 IsCaused tells faults damage first now fault.NoMemory = Unit {0}
+
+-- What a step of a call leaves, where the call began with the histories `first`, as is remembered before the step, and `again`,
+-- after it: the histories are what the call may make of them, a fault has its cause in the call, and it is the same call.
+pub record WentOn {H B T : Type 0} (tells : Bool) (content : H → List Mark) (below : H → B) (faults damage : H → ℕ)
+    (first again now : H) (result : Result T HistoryFault) : Type 0 where
+  pub since : Since content below faults damage again now
+  pub fault : IfErr result (IsCaused tells faults damage again now)
+  pub call : again ≡ first

@@ -1,8 +1,8 @@
-ghost use Rattle.std.specs.Prelude.{◌≡◌, ◌≤◌, ◌^◌, true, IsTrue, IfOk, IfErr, reverse};
+ghost use Rattle.std.specs.Prelude.{◌≡◌, ◌≤◌, ◌^◌, false, IsTrue, IfOk, IfErr, reverse};
 ghost use Rattle.message_form.specs.Messages.{IsMessage};
-ghost use Rattle.repository_core.specs.Cores.{HasMarks, IsCalled, given};
+ghost use Rattle.repository_core.specs.Cores.{HasMarks, IsByRules, IsCalled};
 ghost use Rattle.repository_log.specs.Logs.{known};
-ghost use Rattle.repository_core.specs.Turns.{gives, opened_mind, Taking, Learning, Hearing};
+ghost use Rattle.repository_core.specs.Turns.{opened_mind, Taking, Learning, Hearing};
 
 use crate::books::Books;
 use crate::drafts::Draft;
@@ -27,13 +27,12 @@ pub type CoreFault = HistoryFault;
 #[derive(Drop)]
 pub struct Repository<H: Histories> {
     work: Work<H>,
-    /// No call has failed.
-    whole: bool,
+    /// Whether a call has failed.
+    is_failed: bool,
 }
 
 impl<H: Histories> Model for Repository<H> {
-    ghost use Rattle.std.specs.Prelude.{◌≡◌, true, reverse, [], length};
-    ghost use Rattle.repository_core.specs.Hands.{now};
+    ghost use Rattle.std.specs.Prelude.{◌≡◌, false, reverse, []};
     ghost use Rattle.repository_core.specs.Turns.{mind_of};
     ghost use Rattle.repository_core.specs.Cores.{Core};
     ghost use Rattle.repository_core.specs.Accounts.{IsOpen};
@@ -44,56 +43,56 @@ impl<H: Histories> Model for Repository<H> {
       number = r.work.draft.number;
       log = reverse r.work.draft.base;
       mind = mind_of r.work.draft;
-      whole = r.whole;
+      is_failed = r.is_failed;
       histories = r.work.books.histories;
     } };
 
-    ghost invariant = { λ r. r.whole ≡ true → IsOpen H.content r.work.draft r.work.books };
+    ghost invariant = { λ r. r.is_failed ≡ false → IsOpen H.content r.work.draft r.work.books };
 }
 
 impl<H: Histories> Repository<H> {
     /// Takes a message from a node. Where the histories tell their content, the turn and what the
     /// repository then remembers are those of the rules.
     pub fn take(&mut self, from: NodeId, message: &Message) -> Result<Turn, CoreFault>
-        requires whole { self.old.whole ≡ true }
+        requires able { self.old.is_failed ≡ false }
         requires message { IsMessage message.now }
-        ensures gives { IsTrue H.tells → IfOk result (λ t. given t self.new.mind ≡ gives self.old.number self.old.log self.old.mind (Taking from message.now)) }
+        ensures gives { IsTrue H.tells → IsByRules (Taking from message.now) self.old self.new result }
         ensures called { IsCalled H.tells H.content H.below H.faults H.damage self.old self.new result }
     {
-        self.whole = false;
+        self.is_failed = true;
         self.work.start();
         self.work.on_message(from, message)?;
         let turn = self.work.draft.close()?;
-        self.whole = true;
+        self.is_failed = false;
         Ok(turn)
     }
 
     /// Learns the decision of an attempt, which stands at its home.
     pub fn learn(&mut self, stamp: Stamp, committed: bool) -> Result<Turn, CoreFault>
-        requires whole { self.old.whole ≡ true }
-        ensures gives { IsTrue H.tells → IfOk result (λ t. given t self.new.mind ≡ gives self.old.number self.old.log self.old.mind (Learning stamp committed)) }
+        requires able { self.old.is_failed ≡ false }
+        ensures gives { IsTrue H.tells → IsByRules (Learning stamp committed) self.old self.new result }
         ensures called { IsCalled H.tells H.content H.below H.faults H.damage self.old self.new result }
     {
-        self.whole = false;
+        self.is_failed = true;
         self.work.start();
         self.work.on_learn(stamp, committed)?;
         let turn = self.work.draft.close()?;
-        self.whole = true;
+        self.is_failed = false;
         Ok(turn)
     }
 
     /// Hears a moment of at most 2^63.
     pub fn hear(&mut self, moment: u64) -> Result<Turn, CoreFault>
-        requires whole { self.old.whole ≡ true }
+        requires able { self.old.is_failed ≡ false }
         requires moment { moment ≤ 2 ^ 63 }
-        ensures gives { IsTrue H.tells → IfOk result (λ t. given t self.new.mind ≡ gives self.old.number self.old.log self.old.mind (Hearing moment)) }
+        ensures gives { IsTrue H.tells → IsByRules (Hearing moment) self.old self.new result }
         ensures called { IsCalled H.tells H.content H.below H.faults H.damage self.old self.new result }
     {
-        self.whole = false;
+        self.is_failed = true;
         self.work.start();
         self.work.on_moment(moment)?;
         let turn = self.work.draft.close()?;
-        self.whole = true;
+        self.is_failed = false;
         Ok(turn)
     }
 
@@ -111,7 +110,7 @@ impl<H: Histories> Repository<H> {
         ensures number { IfOk result (λ r. r.number ≡ number) }
         ensures log { IfOk result (λ r. r.log ≡ effects.now) }
         ensures mind { IfOk result (λ r. r.mind ≡ opened_mind moment) }
-        ensures whole { IfOk result (λ r. r.whole ≡ true) }
+        ensures able { IfOk result (λ r. r.is_failed ≡ false) }
         ensures histories { IfOk result (λ r. r.histories ≡ histories) }
         ensures back { IfErr result (λ e. e.0 ≡ histories) }
     {
@@ -130,17 +129,20 @@ impl<H: Histories> Repository<H> {
                     draft,
                     books,
                 };
-                Ok(Repository { work, whole: true })
+                Ok(Repository {
+                    work,
+                    is_failed: false,
+                })
             }
         }
     }
 
     /// Parts the core and its histories.
     pub fn part(self) -> (RepositoryRest, H)
-        ensures state { result.0 ≡ record { number = self.number; log = self.log; mind = self.mind; whole = self.whole } }
+        ensures state { result.0 ≡ record { number = self.number; log = self.log; mind = self.mind; is_failed = self.is_failed } }
         ensures histories { result.1 ≡ self.histories }
     {
-        let Repository { work, whole } = self;
+        let Repository { work, is_failed } = self;
         let Work {
             alloc,
             draft,
@@ -157,14 +159,14 @@ impl<H: Histories> Repository<H> {
             draft,
             records,
             early,
-            whole,
+            is_failed,
         };
         (rest, histories)
     }
 
     /// How the attempt was settled. None where no Decide or Learn of it is in the log.
     pub fn known(&self, stamp: Stamp) -> Option<bool>
-        requires whole { self.now.whole ≡ true }
+        requires able { self.now.is_failed ≡ false }
         ensures { result ≡ known (reverse self.now.log) stamp }
     {
         self.work.books.known(stamp)
@@ -178,11 +180,11 @@ pub struct RepositoryRest {
     draft: Draft,
     records: Records,
     early: BTreeMap<Stamp, Decision>,
-    whole: bool,
+    is_failed: bool,
 }
 
 impl Model for RepositoryRest {
-    ghost use Rattle.std.specs.Prelude.{◌≡◌, true, reverse, []};
+    ghost use Rattle.std.specs.Prelude.{◌≡◌, false, reverse, []};
     ghost use Rattle.repository_core.specs.Turns.{mind_of};
     ghost use Rattle.repository_core.specs.Cores.{CoreState};
     ghost use Rattle.repository_log.specs.Logs.{marks};
@@ -194,24 +196,24 @@ impl Model for RepositoryRest {
       number = r.draft.number;
       log = reverse r.draft.base;
       mind = mind_of r.draft;
-      whole = r.whole;
+      is_failed = r.is_failed;
     } };
 
-    ghost invariant = { λ r. r.whole ≡ true → (r.draft.fresh ≡ []) × (r.draft.outs ≡ []) × BooksShow [] r.draft.base (marks r.draft.base) r.records r.early.entries };
+    ghost invariant = { λ r. r.is_failed ≡ false → (r.draft.fresh ≡ []) × (r.draft.outs ≡ []) × BooksShow [] r.draft.base (marks r.draft.base) r.records r.early.entries };
 }
 
 impl RepositoryRest {
     /// The core with its histories, which are as they were when it was parted.
     pub fn join<H: Histories>(self, histories: H) -> Repository<H>
-        requires marks { self.whole ≡ true → HasMarks (H.content histories) self.log }
-        ensures { result ≡ record { number = self.number; log = self.log; mind = self.mind; whole = self.whole; histories = histories } }
+        requires marks { self.is_failed ≡ false → HasMarks (H.content histories) self.log }
+        ensures { result ≡ record { number = self.number; log = self.log; mind = self.mind; is_failed = self.is_failed; histories = histories } }
     {
         let RepositoryRest {
             alloc,
             draft,
             records,
             early,
-            whole,
+            is_failed,
         } = self;
         let first = Snapshot::of(&histories);
         let books = Books {
@@ -225,6 +227,6 @@ impl RepositoryRest {
             draft,
             books,
         };
-        Repository { work, whole }
+        Repository { work, is_failed }
     }
 }

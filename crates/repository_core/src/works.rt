@@ -1,4 +1,4 @@
-ghost use Rattle.std.specs.Prelude.{◌≡◌, ◌≤◌, ◌^◌, ℕ, Some, None, IsTrue, OnOk, IfErr, List, ◌∷◌, true, false};
+ghost use Rattle.std.specs.Prelude.{◌≡◌, ◌≤◌, ◌^◌, Some, None, IsTrue, OnOk, List, ◌∷◌, true, false};
 ghost use Rattle.pseudo_time.specs.StampParts.{StampParts};
 ghost use Rattle.pseudo_time.specs.declared.decisions.Decision.{Decision};
 ghost use Rattle.value_form.specs.ObjectBytes.{IsObject};
@@ -11,7 +11,6 @@ ghost use Rattle.commit_record.specs.declared.states.RecordState.TheVariants as 
 ghost use Rattle.commit_record.specs.States.{listed_at};
 ghost use Rattle.object_history.specs.History.{settle_of};
 ghost use Rattle.object_history.specs.Answers.{read_step, write_step, stands_written};
-ghost use Rattle.object_history.specs.declared.steps.WriteStep.{WriteStep};
 ghost use Rattle.repository_log.specs.Logs.{is_commit, marks, record_of, HasSameRecords, IsUnknown};
 ghost use Rattle.repository_core.specs.Hands.{now, note, send, HasSameLog};
 ghost use Rattle.repository_core.specs.Rows as rows;
@@ -38,7 +37,7 @@ pub struct Work<H: Histories> {
 }
 
 impl<H: Histories> Work<H> {
-    ghost use Rattle.repository_core.specs.Accounts.{AgreeBut, AgreeWith, AreSince, HaveFault, AreOfOneCall};
+    ghost use Rattle.repository_core.specs.Accounts.{AgreeBut, AgreeWith, AreSince, HaveGoneOn, StillAgree};
 
     /// A call begins.
     pub fn start(&mut self)
@@ -55,11 +54,9 @@ impl<H: Histories> Work<H> {
     fn read(&mut self, from: NodeId, at: PseudoTime, object: ObjectId) -> Result<(), HistoryFault>
         requires object { IsObject object }
         requires since { AreSince H.content H.below H.faults H.damage self.old.books }
-        ensures agreed { (pending : List (StampParts × Decision)) → AgreeBut H.content pending (now self.old.draft) self.old.books → OnOk result (AgreeBut H.content pending (now self.new.draft) self.new.books) }
+        ensures agreed { StillAgree H.content (now self.old.draft) self.old.books (now self.new.draft) self.new.books result }
         ensures records { OnOk result (HasSameRecords (now self.old.draft) (now self.new.draft)) }
-        ensures since { AreSince H.content H.below H.faults H.damage self.new.books }
-        ensures fault { IfErr result (HaveFault H.tells H.faults H.damage self.new.books) }
-        ensures call { AreOfOneCall self.old.books self.new.books }
+        ensures went { HaveGoneOn H.tells H.content H.below H.faults H.damage self.old.books self.new.books result }
         ensures log { OnOk result (HasSameLog self.old.draft self.new.draft) }
         ensures gives { IsTrue H.tells → (pending : List (StampParts × Decision)) → AgreeBut H.content pending (now self.old.draft) self.old.books → OnOk result (self.new.draft ≡ rows.read_as self.old.draft.held (rows.unhold at self.old.draft) from at object (read_step (marks (now self.old.draft)) object at)) }
     {
@@ -78,11 +75,9 @@ impl<H: Histories> Work<H> {
     ) -> Result<(), HistoryFault>
         requires object { IsObject object }
         requires since { AreSince H.content H.below H.faults H.damage self.old.books }
-        ensures agreed { (pending : List (StampParts × Decision)) → AgreeBut H.content pending (now self.old.draft) self.old.books → OnOk result (AgreeBut H.content pending (now self.new.draft) self.new.books) }
+        ensures agreed { StillAgree H.content (now self.old.draft) self.old.books (now self.new.draft) self.new.books result }
         ensures records { OnOk result (HasSameRecords (now self.old.draft) (now self.new.draft)) }
-        ensures since { AreSince H.content H.below H.faults H.damage self.new.books }
-        ensures fault { IfErr result (HaveFault H.tells H.faults H.damage self.new.books) }
-        ensures call { AreOfOneCall self.old.books self.new.books }
+        ensures went { HaveGoneOn H.tells H.content H.below H.faults H.damage self.old.books self.new.books result }
         ensures log { OnOk result (HasSameLog self.old.draft self.new.draft) }
         ensures gives { IsTrue H.tells → (pending : List (StampParts × Decision)) → AgreeBut H.content pending (now self.old.draft) self.old.books → OnOk result (self.new.draft ≡ rows.on_read self.old.draft from at object) }
     {
@@ -98,11 +93,9 @@ impl<H: Histories> Work<H> {
     #[tactic(auto, unfolding(crate::specs::Rows::release))]
     pub fn release(&mut self, stamp: Stamp) -> Result<(), HistoryFault>
         requires since { AreSince H.content H.below H.faults H.damage self.old.books }
-        ensures agreed { (pending : List (StampParts × Decision)) → AgreeBut H.content pending (now self.old.draft) self.old.books → OnOk result (AgreeBut H.content pending (now self.new.draft) self.new.books) }
+        ensures agreed { StillAgree H.content (now self.old.draft) self.old.books (now self.new.draft) self.new.books result }
         ensures records { OnOk result (HasSameRecords (now self.old.draft) (now self.new.draft)) }
-        ensures since { AreSince H.content H.below H.faults H.damage self.new.books }
-        ensures fault { IfErr result (HaveFault H.tells H.faults H.damage self.new.books) }
-        ensures call { AreOfOneCall self.old.books self.new.books }
+        ensures went { HaveGoneOn H.tells H.content H.below H.faults H.damage self.old.books self.new.books result }
         ensures log { OnOk result (HasSameLog self.old.draft self.new.draft) }
         ensures gives { IsTrue H.tells → (pending : List (StampParts × Decision)) → AgreeBut H.content pending (now self.old.draft) self.old.books → OnOk result (self.new.draft ≡ rows.release stamp self.old.draft) }
     {
@@ -126,9 +119,7 @@ impl<H: Histories> Work<H> {
         requires agreed { AgreeWith H.content (now self.old.draft) self.old.books }
         requires since { AreSince H.content H.below H.faults H.damage self.old.books }
         ensures agreed { OnOk result (AgreeWith H.content (now self.new.draft) self.new.books) }
-        ensures since { AreSince H.content H.below H.faults H.damage self.new.books }
-        ensures fault { IfErr result (HaveFault H.tells H.faults H.damage self.new.books) }
-        ensures call { AreOfOneCall self.old.books self.new.books }
+        ensures went { HaveGoneOn H.tells H.content H.below H.faults H.damage self.old.books self.new.books result }
         ensures log { OnOk result (HasSameLog self.old.draft self.new.draft) }
         ensures gives { IsTrue H.tells → OnOk result (self.new.draft ≡ rows.write_as self.old.draft from at object value.now (stands_written (marks (now self.old.draft)) object at value.now) true (write_step (marks (now self.old.draft)) object at value.now)) }
     {
@@ -150,9 +141,7 @@ impl<H: Histories> Work<H> {
         requires agreed { AgreeWith H.content (now self.old.draft) self.old.books }
         requires since { AreSince H.content H.below H.faults H.damage self.old.books }
         ensures agreed { OnOk result (AgreeWith H.content (now self.new.draft) self.new.books) }
-        ensures since { AreSince H.content H.below H.faults H.damage self.new.books }
-        ensures fault { IfErr result (HaveFault H.tells H.faults H.damage self.new.books) }
-        ensures call { AreOfOneCall self.old.books self.new.books }
+        ensures went { HaveGoneOn H.tells H.content H.below H.faults H.damage self.old.books self.new.books result }
         ensures log { OnOk result (HasSameLog self.old.draft self.new.draft) }
         ensures gives { IsTrue H.tells → OnOk result (self.new.draft ≡ rows.write_as self.old.draft from at object value.now (stands_written (marks (now self.old.draft)) object at value.now) false (write_step (marks (now self.old.draft)) object at value.now)) }
     {
@@ -176,9 +165,7 @@ impl<H: Histories> Work<H> {
         requires agreed { AgreeWith H.content (now self.old.draft) self.old.books }
         requires since { AreSince H.content H.below H.faults H.damage self.old.books }
         ensures agreed { OnOk result (AgreeWith H.content (now self.new.draft) self.new.books) }
-        ensures since { AreSince H.content H.below H.faults H.damage self.new.books }
-        ensures fault { IfErr result (HaveFault H.tells H.faults H.damage self.new.books) }
-        ensures call { AreOfOneCall self.old.books self.new.books }
+        ensures went { HaveGoneOn H.tells H.content H.below H.faults H.damage self.old.books self.new.books result }
         ensures log { OnOk result (HasSameLog self.old.draft self.new.draft) }
         ensures gives { IsTrue H.tells → OnOk result (self.new.draft ≡ rows.on_write self.old.draft from at object value.now) }
     {
@@ -195,9 +182,7 @@ impl<H: Histories> Work<H> {
         requires agreed { AgreeWith H.content (now self.old.draft) self.old.books }
         requires since { AreSince H.content H.below H.faults H.damage self.old.books }
         ensures agreed { OnOk result (AgreeWith H.content (now self.new.draft) self.new.books) }
-        ensures since { AreSince H.content H.below H.faults H.damage self.new.books }
-        ensures fault { IfErr result (HaveFault H.tells H.faults H.damage self.new.books) }
-        ensures call { AreOfOneCall self.old.books self.new.books }
+        ensures went { HaveGoneOn H.tells H.content H.below H.faults H.damage self.old.books self.new.books result }
         ensures log { OnOk result (HasSameLog self.old.draft self.new.draft) }
         ensures gives { IsTrue H.tells → OnOk result (self.new.draft ≡ rows.on_begin self.old.draft from stamp timeout) }
     {
@@ -217,9 +202,7 @@ impl<H: Histories> Work<H> {
         requires agreed { AgreeWith H.content (now self.old.draft) self.old.books }
         requires since { AreSince H.content H.below H.faults H.damage self.old.books }
         ensures agreed { OnOk result (AgreeWith H.content (now self.new.draft) self.new.books) }
-        ensures since { AreSince H.content H.below H.faults H.damage self.new.books }
-        ensures fault { IfErr result (HaveFault H.tells H.faults H.damage self.new.books) }
-        ensures call { AreOfOneCall self.old.books self.new.books }
+        ensures went { HaveGoneOn H.tells H.content H.below H.faults H.damage self.old.books self.new.books result }
         ensures log { OnOk result (HasSameLog self.old.draft self.new.draft) }
         ensures gives { OnOk result (self.new.draft ≡ note (effect.Decide stamp decision) self.old.draft) }
     {
@@ -235,9 +218,7 @@ impl<H: Histories> Work<H> {
         requires agreed { AgreeWith H.content (now self.old.draft) self.old.books }
         requires since { AreSince H.content H.below H.faults H.damage self.old.books }
         ensures agreed { OnOk result (AgreeWith H.content (now self.new.draft) self.new.books) }
-        ensures since { AreSince H.content H.below H.faults H.damage self.new.books }
-        ensures fault { IfErr result (HaveFault H.tells H.faults H.damage self.new.books) }
-        ensures call { AreOfOneCall self.old.books self.new.books }
+        ensures went { HaveGoneOn H.tells H.content H.below H.faults H.damage self.old.books self.new.books result }
         ensures log { OnOk result (HasSameLog self.old.draft self.new.draft) }
         ensures gives { IsTrue H.tells → OnOk result (self.new.draft ≡ rows.release stamp (rows.tell_askers stamp (is_commit decision) (send from (message.Decided stamp decision) (note (effect.Decide stamp decision) self.old.draft)))) }
     {
@@ -259,9 +240,7 @@ impl<H: Histories> Work<H> {
         requires agreed { AgreeWith H.content (now self.old.draft) self.old.books }
         requires since { AreSince H.content H.below H.faults H.damage self.old.books }
         ensures agreed { OnOk result (AgreeWith H.content (now self.new.draft) self.new.books) }
-        ensures since { AreSince H.content H.below H.faults H.damage self.new.books }
-        ensures fault { IfErr result (HaveFault H.tells H.faults H.damage self.new.books) }
-        ensures call { AreOfOneCall self.old.books self.new.books }
+        ensures went { HaveGoneOn H.tells H.content H.below H.faults H.damage self.old.books self.new.books result }
         ensures log { OnOk result (HasSameLog self.old.draft self.new.draft) }
         ensures gives { IsTrue H.tells → OnOk result (self.new.draft ≡ rows.on_close self.old.draft from stamp decision) }
     {
@@ -279,9 +258,7 @@ impl<H: Histories> Work<H> {
         requires agreed { AgreeWith H.content (now self.old.draft) self.old.books }
         requires since { AreSince H.content H.below H.faults H.damage self.old.books }
         ensures agreed { OnOk result (AgreeWith H.content (now self.new.draft) self.new.books) }
-        ensures since { AreSince H.content H.below H.faults H.damage self.new.books }
-        ensures fault { IfErr result (HaveFault H.tells H.faults H.damage self.new.books) }
-        ensures call { AreOfOneCall self.old.books self.new.books }
+        ensures went { HaveGoneOn H.tells H.content H.below H.faults H.damage self.old.books self.new.books result }
         ensures log { OnOk result (HasSameLog self.old.draft self.new.draft) }
         ensures gives { IsTrue H.tells → OnOk result (self.new.draft ≡ rows.on_ask self.old.draft from stamp) }
     {
@@ -301,9 +278,7 @@ impl<H: Histories> Work<H> {
         requires agreed { AgreeWith H.content (now self.old.draft) self.old.books }
         requires since { AreSince H.content H.below H.faults H.damage self.old.books }
         ensures agreed { OnOk result (AgreeWith H.content (now self.new.draft) self.new.books) }
-        ensures since { AreSince H.content H.below H.faults H.damage self.new.books }
-        ensures fault { IfErr result (HaveFault H.tells H.faults H.damage self.new.books) }
-        ensures call { AreOfOneCall self.old.books self.new.books }
+        ensures went { HaveGoneOn H.tells H.content H.below H.faults H.damage self.old.books self.new.books result }
         ensures log { OnOk result (HasSameLog self.old.draft self.new.draft) }
         ensures gives { OnOk result (self.new.draft ≡ note (effect.Learn stamp committed) self.old.draft) }
     {
@@ -318,9 +293,7 @@ impl<H: Histories> Work<H> {
         requires agreed { AgreeWith H.content (now self.old.draft) self.old.books }
         requires since { AreSince H.content H.below H.faults H.damage self.old.books }
         ensures agreed { OnOk result (AgreeWith H.content (now self.new.draft) self.new.books) }
-        ensures since { AreSince H.content H.below H.faults H.damage self.new.books }
-        ensures fault { IfErr result (HaveFault H.tells H.faults H.damage self.new.books) }
-        ensures call { AreOfOneCall self.old.books self.new.books }
+        ensures went { HaveGoneOn H.tells H.content H.below H.faults H.damage self.old.books self.new.books result }
         ensures log { OnOk result (HasSameLog self.old.draft self.new.draft) }
         ensures gives { IsTrue H.tells → OnOk result (self.new.draft ≡ rows.on_learn self.old.draft stamp committed) }
     {
@@ -340,9 +313,7 @@ impl<H: Histories> Work<H> {
         requires agreed { AgreeWith H.content (now self.old.draft) self.old.books }
         requires since { AreSince H.content H.below H.faults H.damage self.old.books }
         ensures agreed { OnOk result (AgreeWith H.content (now self.new.draft) self.new.books) }
-        ensures since { AreSince H.content H.below H.faults H.damage self.new.books }
-        ensures fault { IfErr result (HaveFault H.tells H.faults H.damage self.new.books) }
-        ensures call { AreOfOneCall self.old.books self.new.books }
+        ensures went { HaveGoneOn H.tells H.content H.below H.faults H.damage self.old.books self.new.books result }
         ensures log { OnOk result (HasSameLog self.old.draft self.new.draft) }
         ensures gives { IsTrue H.tells → OnOk result (self.new.draft ≡ rows.row self.old.draft from message.now) }
     {
@@ -365,9 +336,7 @@ impl<H: Histories> Work<H> {
         requires agreed { AgreeWith H.content (now self.old.draft) self.old.books }
         requires since { AreSince H.content H.below H.faults H.damage self.old.books }
         ensures agreed { OnOk result (AgreeWith H.content (now self.new.draft) self.new.books) }
-        ensures since { AreSince H.content H.below H.faults H.damage self.new.books }
-        ensures fault { IfErr result (HaveFault H.tells H.faults H.damage self.new.books) }
-        ensures call { AreOfOneCall self.old.books self.new.books }
+        ensures went { HaveGoneOn H.tells H.content H.below H.faults H.damage self.old.books self.new.books result }
         ensures log { OnOk result (HasSameLog self.old.draft self.new.draft) }
         ensures gives { IsTrue H.tells → OnOk result (self.new.draft ≡ rows.on_message self.old.draft from message.now) }
     {
@@ -383,9 +352,7 @@ impl<H: Histories> Work<H> {
         requires since { AreSince H.content H.below H.faults H.damage self.old.books }
         ensures agreed { (rest : List (StampParts × Decision)) → IsUnknown (now self.old.draft) stamp → listed_at rest stamp ≡ None → AgreeBut H.content ((stamp, decision) ∷ rest) (now self.old.draft) self.old.books → OnOk result (AgreeBut H.content rest (now self.new.draft) self.new.books) }
         ensures records { OnOk result ((s : StampParts) → record_of (now self.new.draft) s ≡ record_of (effect.Decide stamp decision ∷ now self.old.draft) s) }
-        ensures since { AreSince H.content H.below H.faults H.damage self.new.books }
-        ensures fault { IfErr result (HaveFault H.tells H.faults H.damage self.new.books) }
-        ensures call { AreOfOneCall self.old.books self.new.books }
+        ensures went { HaveGoneOn H.tells H.content H.below H.faults H.damage self.old.books self.new.books result }
         ensures log { OnOk result (HasSameLog self.old.draft self.new.draft) }
         ensures gives { (rest : List (StampParts × Decision)) → IsTrue H.tells → IsUnknown (now self.old.draft) stamp → listed_at rest stamp ≡ None → AgreeBut H.content ((stamp, decision) ∷ rest) (now self.old.draft) self.old.books → OnOk result (self.new.draft ≡ rows.release stamp (rows.tell_askers stamp false (note (effect.Decide stamp decision) self.old.draft))) }
     {
@@ -400,9 +367,7 @@ impl<H: Histories> Work<H> {
         requires agreed { AgreeWith H.content (now self.old.draft) self.old.books }
         requires since { AreSince H.content H.below H.faults H.damage self.old.books }
         ensures agreed { OnOk result (AgreeWith H.content (now self.new.draft) self.new.books) }
-        ensures since { AreSince H.content H.below H.faults H.damage self.new.books }
-        ensures fault { IfErr result (HaveFault H.tells H.faults H.damage self.new.books) }
-        ensures call { AreOfOneCall self.old.books self.new.books }
+        ensures went { HaveGoneOn H.tells H.content H.below H.faults H.damage self.old.books self.new.books result }
         ensures log { OnOk result (HasSameLog self.old.draft self.new.draft) }
         ensures gives { IsTrue H.tells → OnOk result (self.new.draft ≡ hearing.expired (expiries moment (now self.old.draft)) self.old.draft) }
     {
@@ -419,9 +384,7 @@ impl<H: Histories> Work<H> {
         requires agreed { AgreeWith H.content (now self.old.draft) self.old.books }
         requires since { AreSince H.content H.below H.faults H.damage self.old.books }
         ensures agreed { OnOk result (AgreeWith H.content (now self.new.draft) self.new.books) }
-        ensures since { AreSince H.content H.below H.faults H.damage self.new.books }
-        ensures fault { IfErr result (HaveFault H.tells H.faults H.damage self.new.books) }
-        ensures call { AreOfOneCall self.old.books self.new.books }
+        ensures went { HaveGoneOn H.tells H.content H.below H.faults H.damage self.old.books self.new.books result }
         ensures log { OnOk result (HasSameLog self.old.draft self.new.draft) }
         ensures gives { IsTrue H.tells → OnOk result (self.new.draft ≡ hearing.on_moment self.old.draft moment) }
     {

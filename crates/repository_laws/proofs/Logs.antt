@@ -17,59 +17,13 @@ use Rattle.object_history.specs.Views.{Distinct, Viewed}
 use Rattle.pseudo_time.proofs.OrderLemmas.{same_stamp-is, same_stamp-of}
 use Rattle.pseudo_time.specs.Lists.{Has}
 use Rattle.pseudo_time.specs.Order.{same_stamp}
-use Rattle.repository_core.specs.Logs.{decision_of, first_begin, is_commit, marks, record_from, record_of, as_decision}
+use Rattle.repository_log.proofs.LogLemmas.{undecided, from-begin, from-decided, unknown-unsettled}
+use Rattle.repository_core.specs.Logs.{decision_of, first_begin, is_commit, marks, record_of, as_decision}
 use Rattle.repository_laws.specs.Facts.{FitsLog, IsTidy, IsTimely}
 use Rattle.turn_form.proofs.GrowthLemmas.{grew_keeps}
 use Rattle.turn_form.specs.Growth.{Grew}
 
 -- ----- records -----
-
-abbrev commits : Option Decision → Option Bool
-commits None = None
-commits (Some d) = Some (is_commit d)
-
-settle-if : (b : Bool) (u : Option Bool) (v : Option Decision) (c : Bool) (d : Decision) → c ≡ is_commit d → u ≡ commits v →
-    (if b then or_else u c else u) ≡ commits (if b then or_else v d else v)
-settle-if false u v c d e h = h
-settle-if true u None c d e h = ap (λ z. or_else z c) h ∙ ap (λ z. Some z) e
-settle-if true u (Some w) c d e h = ap (λ z. or_else z c) h
-
-told-commit : (c : Bool) → c ≡ is_commit (as_decision c)
-told-commit true = refl
-told-commit false = refl
-
--- the history settles a stamp as the log decides it
-pub settle-decision : (l : List Effect) (s : StampParts) → settle_of (marks l) s ≡ commits (decision_of l s)
-unfolding settle_of decision_of
-settle-decision [] s = refl
-settle-decision (Decide p d ∷ l) s = settle-if (same_stamp p s) _ (decision_of l s) (is_commit d) d refl (settle-decision l s)
-settle-decision (Learn p c ∷ l) s = settle-if (same_stamp p s) _ (decision_of l s) c (as_decision c) (told-commit c) (settle-decision l s)
-settle-decision (f ∷ l) s = settle-decision l s
-
-none-commits : (v : Option Decision) → commits v ≡ None → v ≡ None
-none-commits None h = refl
-none-commits (Some d) h = absurd (cc h)
-
-pub undecided : (l : List Effect) (s : StampParts) → settle_of (marks l) s ≡ None → decision_of l s ≡ None
-undecided l s h = none-commits (decision_of l s) (sym (settle-decision l s) ∙ h)
-
-from-unknown : (t : Option ℕ) (d : Option Decision) (u : ℕ) → record_from t d ≡ Some (Unknown u) → d ≡ None
-from-unknown None d u h = absurd (cc h)
-from-unknown (Some t) None u h = refl
-from-unknown (Some t) (Some d) u h = absurd (cc h)
-
-from-begin : (t : Option ℕ) (d : Option Decision) (u : ℕ) → record_from t d ≡ Some (Unknown u) → t ≡ Some u
-from-begin None d u h = absurd (cc h)
-from-begin (Some t) None u h = let e : t ≡ u = cc h in ap (λ z. Some z) e
-from-begin (Some t) (Some d) u h = absurd (cc h)
-
-from-decided : (t : Option ℕ) (d : Option Decision) (e : Decision) → record_from t d ≡ Some (Decided e) → d ≡ Some e
-from-decided None d e h = absurd (cc h)
-from-decided (Some t) None e h = absurd (cc h)
-from-decided (Some t) (Some d) e h = let k : d ≡ e = cc h in ap (λ z. Some z) k
-
-pub unknown-unsettled : (l : List Effect) (s : StampParts) (t : ℕ) → record_of l s ≡ Some (Unknown t) → settle_of (marks l) s ≡ None
-unknown-unsettled l s t h = settle-decision l s ∙ ap (λ z. commits z) (from-unknown (first_begin l s) (decision_of l s) t h)
 
 begin-if : (b : Bool) (p s : StampParts) (d t : ℕ) (u : Option ℕ) (l : List Effect) → (b ≡ true → p ≡ s) → (u ≡ Some t → Has (Begin s t) l) →
     (if b then or_else u d else u) ≡ Some t → Has (Begin s t) (Begin p d ∷ l)

@@ -1,15 +1,9 @@
 -- A request is answered in its turn, or held.
-use Rattle.std.proofs.Common.{◌≡◌, ◌⊎◌, ℕ, ◌+◌, ◌==◌, Bool, true, false, ◌||◌, not, List, [], ◌∷◌, refl, sym, ap, subst, Option, Some, None, if◌then◌else◌, inl, inr}
+use Rattle.std.proofs.Common.{◌≡◌, ◌⊎◌, ℕ, ◌+◌, ◌==◌, Bool, true, false, ◌||◌, not, List, [], ◌∷◌, refl, sym, subst, Option, Some, None, if◌then◌else◌, inl, inr}
 use Rattle.std.specs.List.{filter}
-use Rattle.std.specs.BTreeMap.{insert_entry}
-use Rattle.std.specs.Ordering.{match_ordering}
-use Rattle.std.specs.declared.cmp.Ordering.{Ordering}
-use Rattle.std.specs.declared.cmp.Ordering.TheVariants.{Less, Equal, Greater}
 use Rattle.pseudo_time.specs.Order.{same_stamp}
-use Rattle.pseudo_time.specs.TimeParts.{time_cmp}
 use Rattle.pseudo_time.specs.Nodes.{repository}
 use Rattle.pseudo_time.proofs.ListLemmas.{has-left, has-right}
-use Rattle.pseudo_time.proofs.OrderLemmas.{time_cmp-exact}
 use Rattle.pseudo_time.specs.declared.decisions.Decision.TheVariants as decision
 use Rattle.pseudo_time.specs.Lists.{Has}
 use Rattle.pseudo_time.specs.StampParts.{StampParts}
@@ -33,6 +27,7 @@ use Rattle.object_history.specs.Answers.{read_step, stands_written, write_step}
 use Rattle.repository_log.specs.Logs.{is_commit, known, marks, record_of}
 use Rattle.repository_core.specs.declared.waits.HeldRead.{HeldRead}
 use Rattle.repository_core.specs.declared.waits.Asker.{Asker}
+use Rattle.repository_core.proofs.HeldLemmas.{put-in}
 use Rattle.repository_core.specs.Hands.{Hand, note, now, send}
 use Rattle.repository_core.specs.Rows.{accepts, begin_as, close_as, hold, on_begin, on_close, on_message, on_read, on_write, read_as, read_known, release, reread, row, tell_askers, tells, unhold, waits_for, write_as}
 use Rattle.repository_laws.specs.Served.{IsAnswer, GetsAnswer, IsHeld, IsServed}
@@ -119,15 +114,6 @@ close-as-gets h from s d (Some (state.Decided e)) = inr (e, sent-here h from (me
 close-gets : (h : Hand) (from : NodeId) (s : StampParts) (d : Decision) → (record_of (now h) s ≡ None) ⊎ ((e : Decision) × Has (record { to = from; message = message.Decided s e }) (on_close h from s d).outs)
 unfolding on_close
 close-gets h from s d = close-as-gets h from s d (record_of (now h) s)
-
-put-in : (t : TimeParts) (x : HeldRead) (es : List (TimeParts × HeldRead)) → Has (t, x) (insert_entry time_cmp es t x)
-put-in t x [] = inl refl
-put-in t x (y ∷ es) = go (put-in t x es) (time_cmp t y.0) refl
-  where
-    go : Has (t, x) (insert_entry time_cmp es t x) → (o : Ordering) → time_cmp t y.0 ≡ o → Has (t, x) (match_ordering o ((t, x) ∷ y ∷ es) ((y.0, x) ∷ es) (y ∷ insert_entry time_cmp es t x))
-    go again Less q = inl refl
-    go again Equal q = let f : TimeParts → TimeParts × HeldRead = λ z. (z, x) in inl (ap f (sym (time_cmp-exact t y.0 q)))
-    go again Greater q = inr again
 
 read-as-gets : (before : List (TimeParts × HeldRead)) (h : Hand) (from : NodeId) (t : TimeParts) (o : ObjectId) (s : ReadStep) →
     GetsAnswer (read_as before h from t o s) from (message.Read t o) ⊎ IsHeld (read_as before h from t o s) from t o

@@ -40,15 +40,11 @@ use Rattle.repository_core.specs.Hearing.{ask_again, asks, expire, expire_all, e
 use Rattle.repository_log.specs.Expiries.{due}
 use Rattle.repository_core.specs.Logs.{is_commit, known, marks, record_of}
 use Rattle.repository_core.specs.Rows.{accepts, ask_as, begin_as, close_as, hold, is_broker_of, learn_as, on_ask, on_begin, on_close, on_learn, on_message, on_read, on_write, read_as, read_known, release, reread, row, tell_askers, tells, unhold, waits_for, write_as}
-use Rattle.repository_core.proofs.HeldLemmas.{every-filter, every-remove}
+use Rattle.repository_core.proofs.HeldLemmas.{every-filter, every-remove, every-put}
 use Rattle.std.specs.List.{filter}
 use Rattle.std.specs.Map.{remove_entry}
 use Rattle.std.specs.BTreeMap.{insert_entry, is_at}
 use Rattle.std.specs.BTreeSet.{insert_key}
-use Rattle.std.specs.Ordering.{match_ordering}
-use Rattle.std.specs.declared.cmp.Ordering.{Ordering}
-use Rattle.std.specs.declared.cmp.Ordering.TheVariants.{Less, Equal, Greater}
-use Rattle.pseudo_time.proofs.OrderLemmas.{time_cmp-exact}
 use Rattle.repository_laws.specs.Facts.{Once, FitsLog, HandHolds, RestsOn, HasCome, HeldHolds, IsBacked, IsDecidedAt, IsTidy, IsTimely, PostHolds, ReadSent, WasClosed, WriteSent}
 
 pub broker-is : (n : ℕ) (from : NodeId) → is_broker_of n from ≡ true → from ≡ broker n
@@ -71,16 +67,6 @@ once-now P (f ∷ l) p = inl p
 
 every-add : {A : Type 0} (P : A → Type 0) (xs : List A) (x : A) → Every P xs → P x → Every P (xs ++ x ∷ [])
 every-add P xs x h p = every-append P xs (x ∷ []) h (p, tt)
-
--- one more held read, at its place
-every-hold : (P : TimeParts × HeldRead → Type 0) (t : TimeParts) (x : HeldRead) (es : List (TimeParts × HeldRead)) → P (t, x) → Every P es → Every P (insert_entry time_cmp es t x)
-every-hold P t x [] p h = (p, tt)
-every-hold P t x (e ∷ es) p h = go (time_cmp t e.0) refl (every-hold P t x es p h.1)
-  where
-    go : (o : Ordering) → time_cmp t e.0 ≡ o → Every P (insert_entry time_cmp es t x) → Every P (match_ordering o ((t, x) ∷ e ∷ es) ((e.0, x) ∷ es) (e ∷ insert_entry time_cmp es t x))
-    go Less q rest = (p, h)
-    go Equal q rest = (subst (λ z. P (z, x)) (time_cmp-exact t e.0 q) p, h.1)
-    go Greater q rest = (h.0, rest)
 
 live : (u : Option Bool) → is_alive u ≡ true → u ≢ Some false
 live u h k = false≢true (sym (ap (λ z. is_alive z) k) ∙ h)
@@ -141,7 +127,7 @@ module _ (ever : List Post) (homes : ℕ → List Effect) (ticks : List ℕ) (r 
       send-ok h from (message.Value t v) (o, sent, own, answer-viewed (marks (now h)) o t v false alive e) ok
   read-as-ok before h from t o (Wait w) e alive sent own ok =
       let x : HeldRead = record { from = from; object = o; waits = w } in
-      let k : Fine (hold t x h) = held-ok h (insert_entry time_cmp h.held t x) (every-hold (HeldHolds ever r) t x h.held (sent, own) ok.held) ok in
+      let k : Fine (hold t x h) = held-ok h (insert_entry time_cmp h.held t x) (every-put (HeldHolds ever r) t x h.held (sent, own) ok.held) ok in
       if-ok ((w.home == h.number) || waits_for w before) (hold t x h) (send (repository w.home) (message.Ask w) (hold t x h)) k
       (send-ok (hold t x h) (repository w.home) (message.Ask w) tt k)
 

@@ -1,5 +1,5 @@
 -- What a repository's core and the store beside it say of a life.
-use Rattle.std.proofs.Common.{◌≡◌, ℕ, ◌++◌, Bool, true, false, List, reverse, Option, Some, is_some, Result, Ok, Err, IfOk, OnOk, is_ok, refl, sym, ap, subst, ◌∙◌, append_assoc}
+use Rattle.std.proofs.Common.{◌≡◌, ℕ, ◌++◌, Bool, true, false, not, List, reverse, Option, Some, is_some, Result, Ok, Err, IfOk, OnOk, is_err, refl, sym, ap, subst, ◌∙◌, append_assoc}
 use Rattle.std.proofs.lemmas.List.{append-nil}
 use Rattle.pseudo_time.specs.StampParts.{StampParts}
 use Rattle.pseudo_time.specs.Nodes.{repository}
@@ -33,12 +33,12 @@ gave-repository {H} {C} b n l r q (Ok t) i j same s g log number k =
     ((y.effects, y.outs), (subst (λ es. IsRepository n es (given_for b n l j).mind q) (append_assoc l.gated l.fresh (given_for b n l j).effects) y.stands, k))
 
 -- what a core was parted into, and what a part was joined to
-pub parted : {H : Type 0} (s : CoreState) (r : Core H) → s ≡ record { number = r.number; log = r.log; mind = r.mind; whole = r.whole } → (s.number ≡ r.number) × (s.log ≡ r.log) × (s.mind ≡ r.mind) × (s.whole ≡ r.whole)
-parted s r e = (ap (λ (x : CoreState). x.number) e, ap (λ (x : CoreState). x.log) e, ap (λ (x : CoreState). x.mind) e, ap (λ (x : CoreState). x.whole) e)
+pub parted : {H : Type 0} (s : CoreState) (r : Core H) → s ≡ record { number = r.number; log = r.log; mind = r.mind; is_failed = r.is_failed } → (s.number ≡ r.number) × (s.log ≡ r.log) × (s.mind ≡ r.mind) × (s.is_failed ≡ r.is_failed)
+parted s r e = (ap (λ (x : CoreState). x.number) e, ap (λ (x : CoreState). x.log) e, ap (λ (x : CoreState). x.mind) e, ap (λ (x : CoreState). x.is_failed) e)
 
-pub joined : {H : Type 0} (q : Core H) (s : CoreState) (h : H) → q ≡ record { number = s.number; log = s.log; mind = s.mind; whole = s.whole; histories = h }
-    → (q.number ≡ s.number) × (q.log ≡ s.log) × (q.mind ≡ s.mind) × (q.whole ≡ s.whole) × (q.histories ≡ h)
-joined {H} q s h e = (ap (λ (x : Core H). x.number) e, ap (λ (x : Core H). x.log) e, ap (λ (x : Core H). x.mind) e, ap (λ (x : Core H). x.whole) e, ap (λ (x : Core H). x.histories) e)
+pub joined : {H : Type 0} (q : Core H) (s : CoreState) (h : H) → q ≡ record { number = s.number; log = s.log; mind = s.mind; is_failed = s.is_failed; histories = h }
+    → (q.number ≡ s.number) × (q.log ≡ s.log) × (q.mind ≡ s.mind) × (q.is_failed ≡ s.is_failed) × (q.histories ≡ h)
+joined {H} q s h e = (ap (λ (x : Core H). x.number) e, ap (λ (x : Core H). x.log) e, ap (λ (x : Core H). x.mind) e, ap (λ (x : Core H). x.is_failed) e, ap (λ (x : Core H). x.histories) e)
 
 -- a core that was parted from its histories and joined with others
 pub joined-repository : {H : Type 0} (n : NodeId) (l : Life) (r q : Core H) → q.number ≡ r.number → q.log ≡ r.log → q.mind ≡ r.mind → IsRepository n (all_effects l) l.mind r → IsRepository n (all_effects (gated_life l)) l.mind q
@@ -51,17 +51,13 @@ owed-more (Err e) log stored new new_stored owed same is more = tt
 owed-more (Ok t) log stored new new_stored owed same is more = more ∙ ap (λ l. l ++ t.effects) is ∙ append_assoc stored owed t.effects ∙ ap (λ l. l ++ (owed ++ t.effects)) (sym same)
 
 -- what is asked of the log from either end
-pub knows-asked : (log whole : List Effect) (s : StampParts) → log ≡ whole → is_some (known (reverse log) s) ≡ knows whole s
-knows-asked log whole s e = knows-known (reverse log) s ∙ knows-reverse log s ∙ ap (λ l. knows l s) e
+pub knows-asked : (log all : List Effect) (s : StampParts) → log ≡ all → is_some (known (reverse log) s) ≡ knows all s
+knows-asked log all s e = knows-known (reverse log) s ∙ knows-reverse log s ∙ ap (λ l. knows l s) e
 
--- where the core is whole the call gave a turn, and so the histories have the marks of its log
-pub marked-called : {T E : Type 0} (x : Result T E) (whole : Bool) (P : Type 0) → whole ≡ is_ok x → OnOk x P → whole ≡ true → P
-marked-called (Ok t) whole P is p h = p
-marked-called (Err e) whole P is p h = absurd (let z : false ≡ true = sym is ∙ h in cc z)
-
-pub able-called : {T E : Type 0} (x : Result T E) (whole : Bool) → whole ≡ is_ok x → OnOk x (whole ≡ true)
-able-called (Ok t) whole is = is
-able-called (Err e) whole is = tt
+-- where the call gave a turn, the core hasn't failed
+pub able-called : {T E : Type 0} (x : Result T E) (failed : Bool) → failed ≡ is_err x → OnOk x (not failed ≡ true)
+able-called (Ok t) failed is = ap not is
+able-called (Err e) failed is = tt
 
 -- ---- openings
 

@@ -1,5 +1,5 @@
 -- Where a repository's core stands.
-use Rattle.std.specs.Prelude.{◌≡◌, Bool, true, false, List, [], ◌++◌}
+use Rattle.std.specs.Prelude.{◌≡◌, Bool, true, false, not, List, [], ◌++◌}
 use Rattle.pseudo_time.specs.declared.nodes.NodeId.{NodeId}
 use Rattle.effect_form.specs.declared.effects.Effect.{Effect}
 use Rattle.version_store.specs.StoreWords.{medium_of}
@@ -14,7 +14,7 @@ use Rattle.repository_node.specs.declared.books.Book.TheVariants.{Open, Shut}
 
 -- no call of its core has failed
 abbrev pub is_able : {M : Type 0} {g : _} → Book M g → Bool
-is_able (Open core) = core.whole
+is_able (Open core) = not core.is_failed
 is_able (Shut medium) = false
 
 abbrev pub medium_in : {M : Type 0} {g : _} → Book M g → M

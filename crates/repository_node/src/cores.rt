@@ -1,5 +1,5 @@
 //! A repository's core with its log.
-ghost use Rattle.std.specs.Prelude.{◌≡◌, ◌≤◌, ◌^◌, true, false, [], IsTrue, IfOk, IfErr};
+ghost use Rattle.std.specs.Prelude.{◌≡◌, ◌≤◌, ◌^◌, false, IsTrue, IfOk, IfErr};
 ghost use Rattle.effect_form.specs.Effects.{AreEffects};
 ghost use Rattle.repository_log.specs.Logs.{HasMarks};
 ghost use Rattle.repository_core.specs.Turns.{opened_mind};
@@ -202,7 +202,7 @@ pub(crate) fn open_core<M: Medium>(
     ensures number { IfOk result (λ r. r.number ≡ number) }
     ensures log { IfOk result (λ r. r.log ≡ effects.now) }
     ensures mind { IfOk result (λ r. r.mind ≡ opened_mind start) }
-    ensures whole { IfOk result (λ r. r.whole ≡ true) }
+    ensures able { IfOk result (λ r. r.is_failed ≡ false) }
     ensures marks { IfOk result (λ r. HasMarks (content (ledger_of r.histories)) effects.now) }
     ensures stored { IfOk result (λ r. (ledger_of r.histories).log ≡ effects.now) }
     ensures store { IfOk result (λ r. store_of r.histories ≡ store) }

@@ -40,7 +40,8 @@ use Rattle.pseudo_time.specs.Nodes.{repository}
 use Rattle.repository_log.specs.Logs.{is_commit, known, marks, record_of}
 use Rattle.repository_core.specs.Rows.{accepts, ask_as, begin_as, close_as, hold, learn_as, on_ask, on_begin, on_close, on_learn, on_message, on_read, on_write, read_as, read_known, release, reread, row, tell_askers, tells, unhold, waits_for, write_as}
 use Rattle.pseudo_time.specs.Nodes.{is_repository}
-use Rattle.repository_laws.proofs.Logs.{decide-settles, unknown-unsettled}
+use Rattle.repository_log.proofs.LogLemmas.{unknown-unsettled}
+use Rattle.repository_laws.proofs.Logs.{decide-settles}
 use Rattle.repository_log.specs.Expiries.{due}
 use Rattle.repository_core.specs.Hearing.{ask_again, asks, expire, expire_all, expire_as, on_moment, waited}
 use Rattle.repository_waits.specs.Waits.{tell_of}

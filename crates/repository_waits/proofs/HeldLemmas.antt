@@ -1,5 +1,5 @@
 -- Lists of held reads: what a filter, an insertion and a removal leave of them.
-use Rattle.std.proofs.Common.{◌≡◌, ◌⊎◌, Bool, true, false, ◌||◌, not, List, [], ◌∷◌, refl, sym, ap, subst, inl, inr}
+use Rattle.std.proofs.Common.{◌≡◌, ◌⊎◌, Bool, true, false, ◌||◌, not, List, [], ◌∷◌, refl, sym, subst, inl, inr}
 use Rattle.std.proofs.lemmas.Bool.{false≢true}
 use Rattle.std.specs.Prelude.{cond}
 use Rattle.std.specs.List.{filter}
@@ -94,32 +94,6 @@ kept-or t x (y ∷ es) e h = go (λ k. kept-or t x es e k) (time_cmp t y.0) refl
       | inl a ↦ inl a
       | inr b ↦ inr (inr b)
     ]
-
-pub put-in : (t : TimeParts) (x : HeldRead) (es : List (TimeParts × HeldRead)) → Has (t, x) (insert_entry time_cmp es t x)
-put-in t x [] = inl refl
-put-in t x (y ∷ es) = go (put-in t x es) (time_cmp t y.0) refl
-  where
-    go : Has (t, x) (insert_entry time_cmp es t x) → (o : Ordering) → time_cmp t y.0 ≡ o → Has (t, x) (match_ordering o ((t, x) ∷ y ∷ es) ((y.0, x) ∷ es) (y ∷ insert_entry time_cmp es t x))
-    go again Less q = inl refl
-    go again Equal q = let f : TimeParts → TimeParts × HeldRead = λ z. (z, x) in inl (ap f (sym (time_cmp-exact t y.0 q)))
-    go again Greater q = inr again
-
-pub every-remove : (P : TimeParts × HeldRead → Type 0) (test : TimeParts → Bool) (es : List (TimeParts × HeldRead)) → Every P es → Every P (remove_entry test es)
-every-remove P test [] h = tt
-every-remove P test (e ∷ es) h = go (every-remove P test es h.1) (test e.0)
-  where
-    go : Every P (remove_entry test es) → (b : Bool) → Every P (cond b es (e ∷ remove_entry test es))
-    go rest true = h.1
-    go rest false = (h.0, rest)
-
-pub every-put : (P : TimeParts × HeldRead → Type 0) (t : TimeParts) (x : HeldRead) (es : List (TimeParts × HeldRead)) → P (t, x) → Every P es → Every P (insert_entry time_cmp es t x)
-every-put P t x [] p h = (p, tt)
-every-put P t x (e ∷ es) p h = go (time_cmp t e.0) refl (every-put P t x es p h.1)
-  where
-    go : (o : Ordering) → time_cmp t e.0 ≡ o → Every P (insert_entry time_cmp es t x) → Every P (match_ordering o ((t, x) ∷ e ∷ es) ((e.0, x) ∷ es) (e ∷ insert_entry time_cmp es t x))
-    go Less q rest = (p, h)
-    go Equal q rest = (subst (λ z. P (z, x)) (time_cmp-exact t e.0 q) p, h.1)
-    go Greater q rest = (h.0, rest)
 
 -- ---- what is waited for
 

@@ -43,7 +43,8 @@ use Rattle.repository_laws.proofs.Logs.{put-logged}
 use Rattle.repository_log.specs.Expiries.{due}
 use Rattle.repository_core.specs.Hearing.{ask_again, asks, expire, expire_all, expire_as, on_moment, waited}
 use Rattle.repository_waits.specs.Waits.{Waits, ask_of}
-use Rattle.repository_waits.proofs.HeldLemmas.{or-split, has-split, every-passing, gone-or, kept-or, put-in, every-remove, every-put, waits-put, waits-remove, waits-filter}
+use Rattle.repository_core.proofs.HeldLemmas.{put-in, every-remove, every-put}
+use Rattle.repository_waits.proofs.HeldLemmas.{or-split, has-split, every-passing, gone-or, kept-or, waits-put, waits-remove, waits-filter}
 
 -- a read that has to wait
 pub read-waits : (l : List Effect) (from : NodeId) (t : TimeParts) (o : ObjectId) (w : StampParts) → read_step (marks l) o t ≡ Wait w → Waits l (t, record { from = from; object = o; waits = w })
@@ -197,7 +198,7 @@ module _ (R : TimeParts → ObjectId → NodeId → Type 0) (agree : (t : TimePa
         | inl a ↦ inl (inr a)
         | inr b ↦ still e b
       ];
-      waiting = every-remove (λ e. off e.1.waits ⊎ Waits (now h) e) (is_at (time_cmp t)) h.held k.waiting;
+      waiting = every-remove (λ (e : TimeParts × HeldRead). off e.1.waits ⊎ Waits (now h) e) (is_at (time_cmp t)) h.held k.waiting;
       asks = λ w i n. k.asks w (waits-remove w (is_at (time_cmp t)) h.held i) n;
     }
       where

@@ -1,38 +1,26 @@
 -- The turns of cores are those of the rules.
-use Rattle.std.proofs.Common.{◌≡◌, ℕ, ◌++◌, List, [], reverse, refl, sym, ap, subst, ◌∙◌, Result, Ok, Err, arith}
-use Rattle.std.specs.Prelude.{IfErr, IfOk, OnOk}
+use Rattle.std.proofs.Common.{◌≡◌, ℕ, ◌++◌, List, [], Result, Ok, Err}
+use Rattle.std.specs.Prelude.{IfOk, OnOk}
 use Rattle.std.specs.declared.alloc.AllocError.{AllocError}
-use Rattle.std.proofs.lemmas.List.{append-nil, reverse-append}
 use Rattle.pseudo_time.specs.declared.nodes.NodeId.{NodeId}
-use Rattle.pseudo_time.specs.declared.nodes.NodeKind.TheVariants.{Repository, Broker}
-use Rattle.value_form.specs.declared.acts.ActSpec.{ActSpec}
 use Rattle.effect_form.specs.declared.effects.Effect.{Effect}
 use Rattle.turn_form.specs.declared.turns.Turn.{Turn}
 use Rattle.object_history.specs.declared.marks.Mark.{Mark}
 use Rattle.object_history.specs.declared.steps.HistoryFault.{HistoryFault}
 use Rattle.object_history.specs.declared.steps.HistoryFault.TheVariants as fault
-use Rattle.object_history.specs.Causes.{HasHistoryCause, IsNotDamage}
 use Rattle.serial_model.specs.Questions.{Tree}
 use Rattle.repository_core.specs.Cores.{Core, given}
 use Rattle.repository_core.specs.Turns as turns
 use Rattle.broker_core.specs.Brokers.{Gives, turn_of}
 use Rattle.broker_core.specs.Parts.{BrokerParts}
-use Rattle.broker_core.specs.Tasks.{Scripted, tasks}
+use Rattle.broker_core.specs.Tasks.{Scripted}
 use Rattle.broker_core.specs.Turns as desks
-use Rattle.world_core.specs.Nodes.{Mind, Given, Input, gives, kind_gives, repository_gives, broker_gives, with_hands, with_desk, desk_after, nothing_given}
+use Rattle.world_core.specs.Nodes.{Mind, Given, Input, gives, repository_gives, broker_gives, with_hands, with_desk, desk_after, nothing_given}
 use Rattle.world_core.specs.Walks.{Base}
-use Rattle.trace_logs.specs.declared.cores.NodeCore.{NodeCore}
 use Rattle.trace_logs.specs.declared.cores.NodeCore.TheVariants as core
 use Rattle.world_core.specs.Cores.{IsRepository, IsBroker, RepositoryGave, BrokerGave}
 use Rattle.world_core.proofs.CoreTurns.{repository-still as still-repository, broker-still as still-broker, repository-answers as answers-of-repository, broker-answers as answers-of-broker}
-use Rattle.trace_logs.specs.Cores.{IsWant, Gave}
-
--- histories in memory fail for want of memory alone
-pub only-wants : {T : Type 0} (result : Result T HistoryFault) → IfErr result IsNotDamage → HasHistoryCause 0 0 0 0 result → IfErr result IsWant
-only-wants (Ok t) h c = tt
-only-wants (Err fault.NoMemory) h c = refl
-only-wants (Err (fault.Damaged page)) h c = absurd h
-only-wants (Err fault.Medium) h c = let never = c.medium refl in absurd (omega (arith, never))
+use Rattle.trace_logs.specs.Cores.{Gave}
 
 -- ---- turns of the cores of nodes
 

@@ -17,23 +17,23 @@ use Rattle.trace_logs.specs.Replays.{IsOnce, AreAt, Apart, Shows, nodes_of, is_a
 use Rattle.trace_logs.proofs.PlaceLemmas.{once-apart, at-more, at-nodes, at-start, among-opened}
 
 -- one node more
-pub seats-more : (b : Base) (start : ℕ) (opened : List Opened) (i : ℕ) (o : Opened) (s : ReplayedNode) (old new : List ReplayedNode) → i < length opened → o ≡ get_or opened i o → AreAt b start (take i opened) old →
+pub replayed-more : (b : Base) (start : ℕ) (opened : List Opened) (i : ℕ) (o : Opened) (s : ReplayedNode) (old new : List ReplayedNode) → i < length opened → o ≡ get_or opened i o → AreAt b start (take i opened) old →
     s.node ≡ o.node → Lives b s (opened_life start o.effects) → new ≡ old ++ s ∷ [] → AreAt b start (take (i + 1) opened) new
-seats-more b start opened i o s old new lt at h e l n =
+replayed-more b start opened i o s old new lt at h e l n =
     subst (λ z. AreAt b start z new) (ap (λ x. take i opened ++ x ∷ []) at ∙ sym (take_more opened i o lt)) (subst (AreAt b start (take i opened ++ o ∷ [])) (sym n) (at-more b start (take i opened) old o s h e l))
 
 pub every-more : {X : Type 0} (P : X → Type 0) (x : X) (old new : List X) → Every P old → P x → new ≡ old ++ x ∷ [] → Every P new
 every-more P x old new h p n = subst (Every P) (sym n) (every-append P old (x ∷ []) h (p, tt))
 
-pub starts : (b : Base) (r : Replay) → IsOnce b.opened → b.run ≡ r.run → b.start ≡ r.start → AreAt b b.start b.opened r.seats.items → r.letters.items ≡ [] → r.last ≡ None → Shows b (start_world b) r
+pub starts : (b : Base) (r : Replay) → IsOnce b.opened → b.run ≡ r.run → b.start ≡ r.start → AreAt b b.start b.opened r.replayed.items → r.letters.items ≡ [] → r.last ≡ None → Shows b (start_world b) r
 starts b r once run start at letters last =
-    let nodes : nodes_of r.seats.items ≡ map (λ (o : Opened). o.node) b.opened = at-nodes b b.start b.opened r.seats.items at in
+    let nodes : nodes_of r.replayed.items ≡ map (λ (o : Opened). o.node) b.opened = at-nodes b b.start b.opened r.replayed.items at in
     record {
       run = run;
       start = start;
       nodes = nodes;
       apart = subst Apart (sym nodes) (once-apart b.opened once);
-      seats = at-start b b.start b.opened r.seats.items (once-apart b.opened once) at;
+      replayed = at-start b b.start b.opened r.replayed.items (once-apart b.opened once) at;
       known = λ n. among-opened b.opened n ∙ ap (λ ns. is_among ns n) (sym nodes);
       sent = ap all_posted letters;
       last = last;
@@ -43,16 +43,16 @@ starts b r once run start at letters last =
 abbrev in_world : World → NodeId → Opened
 in_world w n = record { node = n; effects = (w.life n).gated }
 
-seats-logs : (b : Base) (w : World) (seats : List ReplayedNode) → Every (λ (s : ReplayedNode). Lives b s (w.life s.node)) seats → gated_logs seats ≡ map (in_world w) (nodes_of seats)
-seats-logs b w [] h = refl
-seats-logs b w (s ∷ ss) h = λ j. record { node = s.node; effects = h.0.gated j } ∷ seats-logs b w ss h.1 j
+replayed-logs : (b : Base) (w : World) (replayed : List ReplayedNode) → Every (λ (s : ReplayedNode). Lives b s (w.life s.node)) replayed → gated_logs replayed ≡ map (in_world w) (nodes_of replayed)
+replayed-logs b w [] h = refl
+replayed-logs b w (s ∷ ss) h = λ j. record { node = s.node; effects = h.0.gated j } ∷ replayed-logs b w ss h.1 j
 
 opened-logs : (w : World) (opened : List Opened) → map (in_world w) (map (λ (o : Opened). o.node) opened) ≡ logs_in w opened
 opened-logs w [] = refl
 opened-logs w (o ∷ os) = ap (λ z. in_world w o.node ∷ z) (opened-logs w os)
 
-pub ends : (b : Base) (w : World) (r : Replay) → Shows b w r → gated_logs r.seats.items ≡ logs_in w b.opened
-ends b w r h = seats-logs b w r.seats.items h.seats ∙ ap (map (in_world w)) h.nodes ∙ opened-logs w b.opened
+pub ends : (b : Base) (w : World) (r : Replay) → Shows b w r → gated_logs r.replayed.items ≡ logs_in w b.opened
+ends b w r h = replayed-logs b w r.replayed.items h.replayed ∙ ap (map (in_world w)) h.nodes ∙ opened-logs w b.opened
 
 -- ---- on the way
 
@@ -61,5 +61,5 @@ pub walk-on : (b : Base) (es : List Entry) (i : ℕ) (e : Entry) (r : Replay) �
 walk-on b es i e r lt at h = subst (λ w. Shows b w r) (sym (ap (walk b) (take_more es i e lt ∙ ap (λ x. take i es ++ x ∷ []) (sym at)) ∙ walk-more b (take i es) e)) h
 
 -- all entries
-pub walk-end : (b : Base) (es : List Entry) (i : ℕ) (r : Replay) → length es ≤ i → Shows b (walk b (take i es)) r → gated_logs r.seats.items ≡ logs_in (walk b es) b.opened
+pub walk-end : (b : Base) (es : List Entry) (i : ℕ) (r : Replay) → length es ≤ i → Shows b (walk b (take i es)) r → gated_logs r.replayed.items ≡ logs_in (walk b es) b.opened
 walk-end b es i r lt h = ends b (walk b es) r (subst (λ z. Shows b (walk b z) r) (take_all i es lt) h)

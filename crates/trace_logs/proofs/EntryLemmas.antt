@@ -30,11 +30,11 @@ always (Err y) P h = tt
 
 -- the node of the entry, at this place, did what it says
 pub moved-ok : {T E : Type 0} (b : Base) (w : World) (e : Entry) (x : Result T E) (r q : Replay) (i : ℕ) (s t : ReplayedNode) (n : NodeId) → Shows b w r → ((k : NodeId) → names k e ≡ same_node n k) →
-    (i < length r.seats.items) × ((d : ReplayedNode) → same_node (get_or r.seats.items i d).node n ≡ true) → s ≡ get_or r.seats.items i s → OnOk x (t.node ≡ s.node) →
-    ((l : Life) → Lives b s l → OnOk x (Lives b t (lives_on b w s.node l e))) → q.run ≡ r.run → q.start ≡ r.start → q.seats.items ≡ set r.seats.items i t →
+    (i < length r.replayed.items) × ((d : ReplayedNode) → same_node (get_or r.replayed.items i d).node n ≡ true) → s ≡ get_or r.replayed.items i s → OnOk x (t.node ≡ s.node) →
+    ((l : Life) → Lives b s l → OnOk x (Lives b t (lives_on b w s.node l e))) → q.run ≡ r.run → q.start ≡ r.start → q.replayed.items ≡ set r.replayed.items i t →
     OnOk x (all_posted q.letters.items ≡ sent_by (step b w e)) → q.last ≡ last_after w.last e → OnOk x (Shows b (step b w e) q)
-moved-ok b w e (Err y) r q i s t n h own at here node lives run start seats sent last = tt
-moved-ok b w e (Ok y) r q i s t n h own at here node lives run start seats sent last = moved b w e r q i s t n h own at here node lives run start seats sent last
+moved-ok b w e (Err y) r q i s t n h own at here node lives run start replayed sent last = tt
+moved-ok b w e (Ok y) r q i s t n h own at here node lives run start replayed sent last = moved b w e r q i s t n h own at here node lives run start replayed sent last
 
 -- ---- messages that are taken
 
@@ -64,21 +64,21 @@ heard-nothing b w n l e = ap (hears b n l) e
 
 -- ---- messages that leave
 
-pub gate-absent : (b : Base) (w : World) (r : Replay) (n : NodeId) → Shows b w r → IsAbsent n r.seats.items → sent_by (step b w (Gate n)) ≡ sent_by w
-gate-absent b w r n h a = sent-gate b w n ∙ ap (λ z. sent_by w ++ z) (leaving-unknown w n (h.known n ∙ among-not n r.seats.items a)) ∙ append-nil (sent_by w)
+pub gate-absent : (b : Base) (w : World) (r : Replay) (n : NodeId) → Shows b w r → IsAbsent n r.replayed.items → sent_by (step b w (Gate n)) ≡ sent_by w
+gate-absent b w r n h a = sent-gate b w n ∙ ap (λ z. sent_by w ++ z) (leaving-unknown w n (h.known n ∙ among-not n r.replayed.items a)) ∙ append-nil (sent_by w)
 
-gate-sends : (b : Base) (w : World) (r : Replay) (i : ℕ) (s : ReplayedNode) (n : NodeId) (new : List SentMessage) → Shows b w r → (i < length r.seats.items) × ((d : ReplayedNode) → same_node (get_or r.seats.items i d).node n ≡ true) → s ≡ get_or r.seats.items i s →
+gate-sends : (b : Base) (w : World) (r : Replay) (i : ℕ) (s : ReplayedNode) (n : NodeId) (new : List SentMessage) → Shows b w r → (i < length r.replayed.items) × ((d : ReplayedNode) → same_node (get_or r.replayed.items i d).node n ≡ true) → s ≡ get_or r.replayed.items i s →
     all_posted new ≡ all_posted r.letters.items ++ posts s.node (filter (leaves (all_effects (w.life s.node))) (w.life s.node).outs) → all_posted new ≡ sent_by (step b w (Gate n))
 gate-sends b w r i s n new h at here e =
     e ∙ (λ j. h.sent j ++ posts (is j) (filter (leaves (all_effects (w.life (is j)))) (w.life (is j)).outs)) ∙ ap (λ z. sent_by w ++ z) (sym (leaving-known w n known)) ∙ sym (sent-gate b w n)
   where
     is : s.node ≡ n
-    is = ap (λ (z : ReplayedNode). z.node) here ∙ same_is (get_or r.seats.items i s).node n (at.1 s)
+    is = ap (λ (z : ReplayedNode). z.node) here ∙ same_is (get_or r.replayed.items i s).node n (at.1 s)
 
     known : (w.flags n).known ≡ true
-    known = h.known n ∙ subst (λ m. is_among (nodes_of r.seats.items) m ≡ true) (same_is (get_or r.seats.items i s).node n (at.1 s)) (among-at r.seats.items i s at.0)
+    known = h.known n ∙ subst (λ m. is_among (nodes_of r.replayed.items) m ≡ true) (same_is (get_or r.replayed.items i s).node n (at.1 s)) (among-at r.replayed.items i s at.0)
 
-pub gate-ok : {T E : Type 0} (b : Base) (w : World) (x : Result T E) (r : Replay) (i : ℕ) (s : ReplayedNode) (n : NodeId) (new : List SentMessage) → Shows b w r → (i < length r.seats.items) × ((d : ReplayedNode) → same_node (get_or r.seats.items i d).node n ≡ true) → s ≡ get_or r.seats.items i s →
+pub gate-ok : {T E : Type 0} (b : Base) (w : World) (x : Result T E) (r : Replay) (i : ℕ) (s : ReplayedNode) (n : NodeId) (new : List SentMessage) → Shows b w r → (i < length r.replayed.items) × ((d : ReplayedNode) → same_node (get_or r.replayed.items i d).node n ≡ true) → s ≡ get_or r.replayed.items i s →
     ((l : Life) → Lives b s l → OnOk x (all_posted new ≡ all_posted r.letters.items ++ posts s.node (filter (leaves (all_effects l)) l.outs))) → OnOk x (all_posted new ≡ sent_by (step b w (Gate n)))
 gate-ok b w (Err y) r i s n new h at here f = tt
-gate-ok b w (Ok y) r i s n new h at here f = gate-sends b w r i s n new h at here (f (w.life s.node) (subst (λ (z : ReplayedNode). Lives b z (w.life z.node)) (sym here) (every-at (λ (z : ReplayedNode). Lives b z (w.life z.node)) r.seats.items i s at.0 h.seats)))
+gate-ok b w (Ok y) r i s n new h at here f = gate-sends b w r i s n new h at here (f (w.life s.node) (subst (λ (z : ReplayedNode). Lives b z (w.life z.node)) (sym here) (every-at (λ (z : ReplayedNode). Lives b z (w.life z.node)) r.replayed.items i s at.0 h.replayed)))

@@ -26,52 +26,52 @@ same-sym a c = go (same_node a c) (same_node c a) refl refl
     go false true p q = ap (λ z. same_node z c) (sym (same_is c a q)) ∙ ap (λ z. same_node c z) (same_is c a q)
     go false false p q = p ∙ sym q
 
--- ---- one seat is changed
+-- ---- one node is changed
 
 abbrev Others : NodeId → List ReplayedNode → Type 0
-Others m seats = Every (λ n. same_node m n ≡ false) (nodes_of seats)
+Others m replayed = Every (λ n. same_node m n ≡ false) (nodes_of replayed)
 
-pub others-change : (P Q : ReplayedNode → Type 0) (m : NodeId) (seats : List ReplayedNode) → Others m seats → ((s : ReplayedNode) → same_node m s.node ≡ false → P s → Q s) → Every P seats → Every Q seats
+pub others-change : (P Q : ReplayedNode → Type 0) (m : NodeId) (replayed : List ReplayedNode) → Others m replayed → ((s : ReplayedNode) → same_node m s.node ≡ false → P s → Q s) → Every P replayed → Every Q replayed
 others-change P Q m [] a f h = tt
 others-change P Q m (s ∷ ss) a f h = (f s a.0 h.0, others-change P Q m ss a.1 f h.1)
 
-pub all-change : (P Q : ReplayedNode → Type 0) (seats : List ReplayedNode) → ((s : ReplayedNode) → P s → Q s) → Every P seats → Every Q seats
+pub all-change : (P Q : ReplayedNode → Type 0) (replayed : List ReplayedNode) → ((s : ReplayedNode) → P s → Q s) → Every P replayed → Every Q replayed
 all-change P Q [] f h = tt
 all-change P Q (s ∷ ss) f h = (f s h.0, all-change P Q ss f h.1)
 
-pub absent-change : (P Q : ReplayedNode → Type 0) (n : NodeId) (seats : List ReplayedNode) → IsAbsent n seats → ((s : ReplayedNode) → same_node s.node n ≡ false → P s → Q s) → Every P seats → Every Q seats
+pub absent-change : (P Q : ReplayedNode → Type 0) (n : NodeId) (replayed : List ReplayedNode) → IsAbsent n replayed → ((s : ReplayedNode) → same_node s.node n ≡ false → P s → Q s) → Every P replayed → Every Q replayed
 absent-change P Q n [] a f h = tt
 absent-change P Q n (s ∷ ss) a f h = (f s a.0 h.0, absent-change P Q n ss a.1 f h.1)
 
-other-at : (m : NodeId) (seats : List ReplayedNode) (i : ℕ) (d : ReplayedNode) → i < length seats → Others m seats → same_node m (get_or seats i d).node ≡ false
+other-at : (m : NodeId) (replayed : List ReplayedNode) (i : ℕ) (d : ReplayedNode) → i < length replayed → Others m replayed → same_node m (get_or replayed i d).node ≡ false
 other-at m [] i d l a = absurd (omega (arith, l))
 other-at m (s ∷ ss) zero d l a = a.0
 other-at m (s ∷ ss) (suc i) d l a = other-at m ss i d (omega (arith, l)) a.1
 
-pub every-at : (P : ReplayedNode → Type 0) (seats : List ReplayedNode) (i : ℕ) (d : ReplayedNode) → i < length seats → Every P seats → P (get_or seats i d)
+pub every-at : (P : ReplayedNode → Type 0) (replayed : List ReplayedNode) (i : ℕ) (d : ReplayedNode) → i < length replayed → Every P replayed → P (get_or replayed i d)
 every-at P [] i d l h = absurd (omega (arith, l))
 every-at P (s ∷ ss) zero d l h = h.0
 every-at P (s ∷ ss) (suc i) d l h = every-at P ss i d (omega (arith, l)) h.1
 
--- the seat at a place is changed, and the others go on
-pub set-every : (P Q : ReplayedNode → Type 0) (seats : List ReplayedNode) (i : ℕ) (t d : ReplayedNode) → i < length seats → Apart (nodes_of seats) →
-    ((s : ReplayedNode) → same_node (get_or seats i d).node s.node ≡ false → P s → Q s) → Q t → Every P seats → Every Q (set seats i t)
+-- the node at a place is changed, and the others go on
+pub set-every : (P Q : ReplayedNode → Type 0) (replayed : List ReplayedNode) (i : ℕ) (t d : ReplayedNode) → i < length replayed → Apart (nodes_of replayed) →
+    ((s : ReplayedNode) → same_node (get_or replayed i d).node s.node ≡ false → P s → Q s) → Q t → Every P replayed → Every Q (set replayed i t)
 set-every P Q [] i t d l a f q h = absurd (omega (arith, l))
 set-every P Q (s ∷ ss) zero t d l a f q h = (q, others-change P Q s.node ss a.0 f h.1)
 set-every P Q (s ∷ ss) (suc i) t d l a f q h =
     (f s (same-sym (get_or ss i d).node s.node ∙ other-at s.node ss i d (omega (arith, l)) a.0) h.0, set-every P Q ss i t d (omega (arith, l)) a.1 f q h.1)
 
-pub set-all : (P : ReplayedNode → Type 0) (seats : List ReplayedNode) (i : ℕ) (t : ReplayedNode) → P t → Every P seats → Every P (set seats i t)
+pub set-all : (P : ReplayedNode → Type 0) (replayed : List ReplayedNode) (i : ℕ) (t : ReplayedNode) → P t → Every P replayed → Every P (set replayed i t)
 set-all P [] i t q h = tt
 set-all P (s ∷ ss) zero t q h = (q, h.1)
 set-all P (s ∷ ss) (suc i) t q h = (h.0, set-all P ss i t q h.1)
 
-pub nodes-set : (seats : List ReplayedNode) (i : ℕ) (t d : ReplayedNode) → t.node ≡ (get_or seats i d).node → nodes_of (set seats i t) ≡ nodes_of seats
-nodes-set seats i t d h = map-set_same (λ (s : ReplayedNode). s.node) seats i t d h
+pub nodes-set : (replayed : List ReplayedNode) (i : ℕ) (t d : ReplayedNode) → t.node ≡ (get_or replayed i d).node → nodes_of (set replayed i t) ≡ nodes_of replayed
+nodes-set replayed i t d h = map-set_same (λ (s : ReplayedNode). s.node) replayed i t d h
 
 -- ---- which nodes stand there
 
-pub among-at : (seats : List ReplayedNode) (i : ℕ) (d : ReplayedNode) → i < length seats → is_among (nodes_of seats) (get_or seats i d).node ≡ true
+pub among-at : (replayed : List ReplayedNode) (i : ℕ) (d : ReplayedNode) → i < length replayed → is_among (nodes_of replayed) (get_or replayed i d).node ≡ true
 among-at [] i d l = absurd (omega (arith, l))
 among-at (s ∷ ss) zero d l = ap (λ z. if z then true else is_among (nodes_of ss) s.node) (same_node-refl s.node)
 among-at (s ∷ ss) (suc i) d l = either (same_node s.node (get_or ss i d).node) (is_among (nodes_of ss) (get_or ss i d).node) (among-at ss i d (omega (arith, l)))
@@ -80,7 +80,7 @@ among-at (s ∷ ss) (suc i) d l = either (same_node s.node (get_or ss i d).node)
     either true y h = refl
     either false y h = h
 
-pub among-not : (n : NodeId) (seats : List ReplayedNode) → IsAbsent n seats → is_among (nodes_of seats) n ≡ false
+pub among-not : (n : NodeId) (replayed : List ReplayedNode) → IsAbsent n replayed → is_among (nodes_of replayed) n ≡ false
 among-not n [] h = refl
 among-not n (s ∷ ss) h = ap (λ z. if z then true else is_among (nodes_of ss) n) h.0 ∙ among-not n ss h.1
 
@@ -120,13 +120,13 @@ once-apart (o ∷ os) h = (flip o.node (map (λ (o : Opened). o.node) os) (none-
     rest : IsOnce os
     rest n = fewer (same_node o.node n) (times n os) (subst (λ c. c ≤ 1) (times-more n o os) (h n))
 
-pub at-nodes : (b : Base) (start : ℕ) (opened : List Opened) (seats : List ReplayedNode) → AreAt b start opened seats → nodes_of seats ≡ map (λ (o : Opened). o.node) opened
+pub at-nodes : (b : Base) (start : ℕ) (opened : List Opened) (replayed : List ReplayedNode) → AreAt b start opened replayed → nodes_of replayed ≡ map (λ (o : Opened). o.node) opened
 at-nodes b start [] [] h = refl
 at-nodes b start [] (s ∷ ss) h = absurd h
 at-nodes b start (o ∷ os) [] h = absurd h
 at-nodes b start (o ∷ os) (s ∷ ss) h = λ j. h.0.0 j ∷ at-nodes b start os ss h.1 j
 
-pub at-more : (b : Base) (start : ℕ) (opened : List Opened) (seats : List ReplayedNode) (o : Opened) (s : ReplayedNode) → AreAt b start opened seats → s.node ≡ o.node → Lives b s (opened_life start o.effects) → AreAt b start (opened ++ o ∷ []) (seats ++ s ∷ [])
+pub at-more : (b : Base) (start : ℕ) (opened : List Opened) (replayed : List ReplayedNode) (o : Opened) (s : ReplayedNode) → AreAt b start opened replayed → s.node ≡ o.node → Lives b s (opened_life start o.effects) → AreAt b start (opened ++ o ∷ []) (replayed ++ s ∷ [])
 at-more b start [] [] o s h e l = ((e, l), tt)
 at-more b start [] (t ∷ ss) o s h e l = absurd h
 at-more b start (p ∷ os) [] o s h e l = absurd h
@@ -143,7 +143,7 @@ among-opened (o ∷ os) n = go (same_node o.node n) (among-opened os n)
 abbrev LivesAt : Base → ℕ → List Opened → ReplayedNode → Type 0
 LivesAt b start opened s = Lives b s (opened_life start (unwrap_or (opened_log opened s.node) []))
 
-pub at-start : (b : Base) (start : ℕ) (opened : List Opened) (seats : List ReplayedNode) → Apart (map (λ (o : Opened). o.node) opened) → AreAt b start opened seats → Every (LivesAt b start opened) seats
+pub at-start : (b : Base) (start : ℕ) (opened : List Opened) (replayed : List ReplayedNode) → Apart (map (λ (o : Opened). o.node) opened) → AreAt b start opened replayed → Every (LivesAt b start opened) replayed
 at-start b start [] [] a h = tt
 at-start b start [] (s ∷ ss) a h = absurd h
 at-start b start (o ∷ os) [] a h = absurd h

@@ -1,72 +1,34 @@
 -- How the life of a node goes on, and what the code keeps of it.
-use Rattle.std.proofs.Common.{◌≡◌, ◌≤◌, ℕ, Bool, true, false, cond, arith, ◌==◌, ◌++◌, List, [], ◌∷◌, take, drop, sym, ap, subst, ◌∙◌, append_assoc}
+use Rattle.std.proofs.Common.{◌≡◌, ◌≤◌, ℕ, Bool, arith, ◌==◌, ◌++◌, List, [], ◌∷◌, take, drop, sym, ap, subst, ◌∙◌, append_assoc}
 use Rattle.std.specs.List.{filter}
 use Rattle.std.proofs.lemmas.List.{append-nil, take-append-drop, map-append}
 use Rattle.std.proofs.lemmas.List.Elements.{filter-append}
-use Rattle.std.proofs.lemmas.List.Sums.{length-filter, count_by-le-length}
-use Rattle.pseudo_time.specs.Lists.{Every}
 use Rattle.pseudo_time.specs.declared.nodes.NodeId.{NodeId}
 use Rattle.pseudo_time.specs.declared.nodes.NodeKind.{NodeKind}
 use Rattle.pseudo_time.specs.declared.nodes.NodeKind.TheVariants.{Repository, Broker}
-use Rattle.pseudo_time.proofs.ListLemmas.{every-append, every-left}
+use Rattle.pseudo_time.proofs.ListLemmas.{every-left}
 use Rattle.effect_form.specs.declared.effects.Effect.{Effect}
-use Rattle.turn_form.specs.declared.turns.Turn.{Turn}
 use Rattle.turn_form.specs.declared.turns.Out.{Out}
-use Rattle.message_form.specs.Messages.{IsMessage}
 use Rattle.turn_form.specs.Posts.{Post, post, posts}
 use Rattle.serial_model.specs.Questions.{Tree, denote}
 use Rattle.value_form.specs.Mirror.{block}
 use Rattle.statement_form.specs.RowTexts.{script_text}
 use Rattle.value_form.specs.declared.acts.ActSpec.{ActSpec}
-use Rattle.broker_core.specs.Ledgers.{IsAct}
 use Rattle.turn_form.specs.Ranges.{IsEffect, AreEffects, AreOuts}
 use Rattle.broker_core.specs.Ledgers.{AreActs}
 use Rattle.broker_core.specs.Tasks.{Scripted}
-use Rattle.world_core.specs.Nodes.{Input, Given, gives, opened_mind}
-use Rattle.world_core.specs.Walks.{Base, Life, after_input, all_effects, gated_life, crashed_life}
+use Rattle.repository_core.proofs.HeldLemmas.{every-filter}
+use Rattle.world_core.specs.Nodes.{opened_mind}
+use Rattle.world_core.specs.Walks.{Base, Life, all_effects, gated_life, crashed_life}
+use Rattle.world_core.proofs.PlanRangeLemmas.{own-acts as broker-acts}
 use Rattle.trace_logs.specs.declared.replayed_nodes.ReplayedNode.{ReplayedNode}
-use Rattle.trace_logs.specs.Cores.{StandsFor, Gave, IsWhole, kind_of, own_acts, acts_for}
+use Rattle.trace_logs.specs.Cores.{StandsFor, IsAble, kind_of, own_acts, acts_for}
 use Rattle.trace_logs.specs.ReplayedNodes.{Lives, IsSound}
 
 -- ---- ranges
 
-pub log-grown : (xs ys zs : List Effect) → AreEffects (xs ++ ys) → AreEffects zs → AreEffects (xs ++ (ys ++ zs))
-log-grown xs ys zs h g = subst AreEffects (append_assoc xs ys zs) (every-append IsEffect (xs ++ ys) zs h g)
-
 pub log-kept : (n : ℕ) (xs ys : List Effect) → AreEffects (xs ++ ys) → AreEffects (xs ++ take n ys)
 log-kept n xs ys h = every-left IsEffect (xs ++ take n ys) (drop n ys) (subst AreEffects (ap (λ z. xs ++ z) (sym (take-append-drop n ys)) ∙ sym (append_assoc xs (take n ys) (drop n ys))) h)
-
--- ---- turns
-
--- a node is told something
-pub told-lives : (b : Base) (s t : ReplayedNode) (l : Life) (i : Input) (turn : Turn) → Lives b s l →
-    Gave b s.node (all_effects l) (gives b.script b.run b.acts s.node (all_effects l) l.mind i) turn t.core →
-    t.node ≡ s.node → t.acts ≡ s.acts → t.gated ≡ s.gated → t.fresh.items ≡ s.fresh.items ++ turn.effects → t.outs.items ≡ s.outs.items ++ turn.outs →
-    Lives b t (after_input b s.node l i)
-told-lives b s t l i turn h g node acts gated fresh outs = record {
-  gated = ap (λ v. v.items) gated ∙ h.gated;
-  fresh = fresh ∙ (λ j. h.fresh j ++ g.effects j);
-  outs = outs ∙ (λ j. h.outs j ++ g.outs j);
-  core = subst (λ n. StandsFor b n (l.gated ++ (l.fresh ++ gave.effects)) gave.mind t.core) (sym node) (subst (λ z. StandsFor b s.node z gave.mind t.core) (append_assoc l.gated l.fresh gave.effects) g.stands);
-  acts = ap (λ v. v.items) acts ∙ h.acts ∙ ap (λ n. own_acts n b.acts) (sym node);
-  scripted = subst (λ v. Scripted b.script v.items) (sym acts) h.scripted;
-}
-  where
-    gave : Given
-    gave = gives b.script b.run b.acts s.node (all_effects l) l.mind i
-
-pub told-sound : (s t : ReplayedNode) (turn : Turn) → IsSound s → kind_of t.core ≡ kind_of s.core → IsWhole t.core → AreEffects turn.effects × AreOuts turn.outs →
-    t.node ≡ s.node → t.acts ≡ s.acts → t.gated ≡ s.gated → t.fresh.items ≡ s.fresh.items ++ turn.effects → t.outs.items ≡ s.outs.items ++ turn.outs → IsSound t
-told-sound s t turn h kind good fits node acts gated fresh outs = record {
-  low = subst (λ n. 1 ≤ n.number) (sym node) h.low;
-  high = subst (λ n. n.number ≤ 16) (sym node) h.high;
-  acts = subst (λ v. AreActs v.items) (sym acts) h.acts;
-  kind = kind ∙ h.kind ∙ ap (λ n. n.kind) (sym node);
-  whole = good;
-  log = subst (λ v. AreEffects (v.items ++ t.fresh.items)) (sym gated)
-      (subst (λ z. AreEffects (s.gated.items ++ z)) (sym fresh) (log-grown s.gated.items s.fresh.items turn.effects h.log fits.0));
-  outs = subst AreOuts (sym outs) (every-append (λ (o : Out). IsMessage o.message) s.outs.items turn.outs h.outs fits.1);
-}
 
 -- ---- gates and crashes
 
@@ -81,18 +43,6 @@ gated-lives b s t l h node acts core gated fresh outs = record {
       (subst (λ c. StandsFor b t.node (all_effects l) l.mind c) (sym core) (subst (λ n. StandsFor b n (all_effects l) l.mind s.core) (sym node) h.core));
   acts = ap (λ v. v.items) acts ∙ h.acts ∙ ap (λ n. own_acts n b.acts) (sym node);
   scripted = subst (λ v. Scripted b.script v.items) (sym acts) h.scripted;
-}
-
-pub gated-sound : (s t : ReplayedNode) → IsSound s → t.node ≡ s.node → t.acts ≡ s.acts → t.core ≡ s.core →
-    t.gated.items ≡ s.gated.items ++ s.fresh.items → t.fresh.items ≡ [] → t.outs.items ≡ [] → IsSound t
-gated-sound s t h node acts core gated fresh outs = record {
-  low = subst (λ n. 1 ≤ n.number) (sym node) h.low;
-  high = subst (λ n. n.number ≤ 16) (sym node) h.high;
-  acts = subst (λ v. AreActs v.items) (sym acts) h.acts;
-  kind = ap kind_of core ∙ h.kind ∙ ap (λ n. n.kind) (sym node);
-  whole = subst IsWhole (sym core) h.whole;
-  log = subst AreEffects (sym ((λ j. gated j ++ fresh j) ∙ append-nil (s.gated.items ++ s.fresh.items))) h.log;
-  outs = subst AreOuts (sym outs) tt;
 }
 
 -- it was opened anew over the effects that were found
@@ -111,14 +61,14 @@ crashed-lives b s t l kept h node acts gated fresh outs core =
       scripted = subst (λ v. Scripted b.script v.items) (sym acts) h.scripted;
     }
 
-pub crashed-sound : (s t : ReplayedNode) (kept : ℕ) → IsSound s → t.node ≡ s.node → t.acts ≡ s.acts → kind_of t.core ≡ s.node.kind → IsWhole t.core →
+pub crashed-sound : (s t : ReplayedNode) (kept : ℕ) → IsSound s → t.node ≡ s.node → t.acts ≡ s.acts → kind_of t.core ≡ s.node.kind → IsAble t.core →
     t.gated.items ≡ s.gated.items ++ take kept s.fresh.items → t.fresh.items ≡ [] → t.outs.items ≡ [] → IsSound t
 crashed-sound s t kept h node acts kind good gated fresh outs = record {
   low = subst (λ n. 1 ≤ n.number) (sym node) h.low;
   high = subst (λ n. n.number ≤ 16) (sym node) h.high;
   acts = subst (λ v. AreActs v.items) (sym acts) h.acts;
   kind = kind ∙ ap (λ n. n.kind) (sym node);
-  whole = good;
+  able = good;
   log = subst AreEffects (sym ((λ j. gated j ++ fresh j) ∙ append-nil (s.gated.items ++ take kept s.fresh.items))) (log-kept kept s.gated.items s.fresh.items h.log);
   outs = subst AreOuts (sym outs) tt;
 }
@@ -131,28 +81,11 @@ sent-more n test ys out first old new h g =
     g ∙ ap (λ z. z ++ posts n (filter test (out ∷ []))) h ∙ append_assoc first (posts n (filter test ys)) (posts n (filter test (out ∷ [])))
     ∙ ap (λ z. first ++ z) (sym (map-append (post n) (filter test ys) (filter test (out ∷ []))) ∙ ap (posts n) (sym (filter-append test ys (out ∷ []))))
 
-pub one-stays : (n : NodeId) (test : Out → Bool) (out : Out) (old : List Post) → test out ≡ false → old ≡ old ++ posts n (filter test (out ∷ []))
-one-stays n test out old h = sym (ap (λ t. old ++ posts n (cond t (out ∷ []) [])) h ∙ append-nil old)
-
-pub one-leaves : (n : NodeId) (test : Out → Bool) (out : Out) (old : List Post) → test out ≡ true → old ++ post n out ∷ [] ≡ old ++ posts n (filter test (out ∷ []))
-one-leaves n test out old h = ap (λ t. old ++ posts n (cond t (out ∷ []) [])) (sym h)
-
 -- ---- a broker's own acts
-
-every-filter : {X : Type 0} (P : X → Type 0) (test : X → Bool) (xs : List X) → Every P xs → Every P (filter test xs)
-every-filter P test [] h = tt
-every-filter P test (x ∷ xs) h = go (test x) (every-filter P test xs h.1)
-  where
-    go : (t : Bool) → Every P (filter test xs) → Every P (cond t (x ∷ filter test xs) (filter test xs))
-    go true k = (h.0, k)
-    go false k = k
 
 pub own-acts : (k : NodeKind) (i : ℕ) (acts : List ActSpec) → AreActs acts → AreActs (acts_for k i acts)
 own-acts Repository i acts h = record { each = tt; few = omega arith }
-own-acts Broker i acts h = record {
-  each = every-filter IsAct (λ (a : ActSpec). a.broker == i) acts h.each;
-  few = let e = length-filter (λ (a : ActSpec). a.broker == i) acts in let l = count_by-le-length (λ (a : ActSpec). a.broker == i) acts in let f = h.few in omega (arith, e, l, f);
-}
+own-acts Broker i acts h = broker-acts i acts h
 
 pub own-scripted : (script : List ℕ → Tree) (k : NodeKind) (i : ℕ) (acts : List ActSpec) → Scripted script acts → Scripted script (acts_for k i acts)
 own-scripted script Repository i acts h = tt

@@ -80,55 +80,55 @@ module _ (b : Base) (w : World) (e : Entry) where
   abbrev LiveThen : ReplayedNode → Type 0
   LiveThen s = Lives b s ((step b w e).life s.node)
 
-  shows-step : (r q : Replay) → Shows b w r → q.run ≡ r.run → q.start ≡ r.start → nodes_of q.seats.items ≡ nodes_of r.seats.items → Every LiveThen q.seats.items →
+  shows-step : (r q : Replay) → Shows b w r → q.run ≡ r.run → q.start ≡ r.start → nodes_of q.replayed.items ≡ nodes_of r.replayed.items → Every LiveThen q.replayed.items →
       all_posted q.letters.items ≡ sent_by (step b w e) → q.last ≡ last_after w.last e → Shows b (step b w e) q
-  shows-step r q h run start nodes seats sent last = record {
+  shows-step r q h run start nodes replayed sent last = record {
     run = h.run ∙ sym run;
     start = h.start ∙ sym start;
     nodes = nodes ∙ h.nodes;
     apart = subst Apart (sym nodes) h.apart;
-    seats = seats;
+    replayed = replayed;
     known = λ n. step-known b w e n ∙ h.known n ∙ ap (λ ns. is_among ns n) (sym nodes);
     sent = sent;
     last = last;
   }
 
-  changed : (r q : Replay) (i : ℕ) (t d : ReplayedNode) (n : NodeId) → Shows b w r → ((k : NodeId) → names k e ≡ same_node n k) → i < length r.seats.items → same_node (get_or r.seats.items i d).node n ≡ true →
-      t.node ≡ (get_or r.seats.items i d).node → ((l : Life) → Lives b (get_or r.seats.items i d) l → Lives b t (lives_on b w (get_or r.seats.items i d).node l e)) →
-      q.run ≡ r.run → q.start ≡ r.start → q.seats.items ≡ set r.seats.items i t → all_posted q.letters.items ≡ sent_by (step b w e) → q.last ≡ last_after w.last e → Shows b (step b w e) q
-  changed r q i t d n h own l at node lives run start seats sent last =
-      shows-step r q h run start (ap nodes_of seats ∙ nodes-set r.seats.items i t d node)
-      (subst (Every LiveThen) (sym seats) (set-every LiveNow LiveThen r.seats.items i t d l h.apart other mine h.seats)) sent last
+  changed : (r q : Replay) (i : ℕ) (t d : ReplayedNode) (n : NodeId) → Shows b w r → ((k : NodeId) → names k e ≡ same_node n k) → i < length r.replayed.items → same_node (get_or r.replayed.items i d).node n ≡ true →
+      t.node ≡ (get_or r.replayed.items i d).node → ((l : Life) → Lives b (get_or r.replayed.items i d) l → Lives b t (lives_on b w (get_or r.replayed.items i d).node l e)) →
+      q.run ≡ r.run → q.start ≡ r.start → q.replayed.items ≡ set r.replayed.items i t → all_posted q.letters.items ≡ sent_by (step b w e) → q.last ≡ last_after w.last e → Shows b (step b w e) q
+  changed r q i t d n h own l at node lives run start replayed sent last =
+      shows-step r q h run start (ap nodes_of replayed ∙ nodes-set r.replayed.items i t d node)
+      (subst (Every LiveThen) (sym replayed) (set-every LiveNow LiveThen r.replayed.items i t d l h.apart other mine h.replayed)) sent last
     where
-      here : n ≡ (get_or r.seats.items i d).node
-      here = sym (same_is (get_or r.seats.items i d).node n at)
+      here : n ≡ (get_or r.replayed.items i d).node
+      here = sym (same_is (get_or r.replayed.items i d).node n at)
 
-      other : (s : ReplayedNode) → same_node (get_or r.seats.items i d).node s.node ≡ false → LiveNow s → LiveThen s
+      other : (s : ReplayedNode) → same_node (get_or r.replayed.items i d).node s.node ≡ false → LiveNow s → LiveThen s
       other s apart x = subst (Lives b s) (sym (step-other b w e s.node (own s.node ∙ ap (λ z. same_node z s.node) here ∙ apart))) x
 
-      after : (step b w e).life (get_or r.seats.items i d).node ≡ lives_on b w (get_or r.seats.items i d).node (w.life (get_or r.seats.items i d).node) e
-      after = own-step b w e (get_or r.seats.items i d).node (own (get_or r.seats.items i d).node ∙ ap (λ z. same_node z (get_or r.seats.items i d).node) here ∙ same_node-refl (get_or r.seats.items i d).node)
-          (h.known (get_or r.seats.items i d).node ∙ among-at r.seats.items i d l)
+      after : (step b w e).life (get_or r.replayed.items i d).node ≡ lives_on b w (get_or r.replayed.items i d).node (w.life (get_or r.replayed.items i d).node) e
+      after = own-step b w e (get_or r.replayed.items i d).node (own (get_or r.replayed.items i d).node ∙ ap (λ z. same_node z (get_or r.replayed.items i d).node) here ∙ same_node-refl (get_or r.replayed.items i d).node)
+          (h.known (get_or r.replayed.items i d).node ∙ among-at r.replayed.items i d l)
 
       mine : LiveThen t
-      mine = subst (λ z. Lives b t ((step b w e).life z)) (sym node) (subst (Lives b t) (sym after) (lives (w.life (get_or r.seats.items i d).node) (every-at LiveNow r.seats.items i d l h.seats)))
+      mine = subst (λ z. Lives b t ((step b w e).life z)) (sym node) (subst (Lives b t) (sym after) (lives (w.life (get_or r.replayed.items i d).node) (every-at LiveNow r.replayed.items i d l h.replayed)))
 
   -- the node of the entry, at this place, does what it says
-  pub moved : (r q : Replay) (i : ℕ) (s t : ReplayedNode) (n : NodeId) → Shows b w r → ((k : NodeId) → names k e ≡ same_node n k) → (i < length r.seats.items) × ((d : ReplayedNode) → same_node (get_or r.seats.items i d).node n ≡ true) →
-      s ≡ get_or r.seats.items i s → t.node ≡ s.node → ((l : Life) → Lives b s l → Lives b t (lives_on b w s.node l e)) →
-      q.run ≡ r.run → q.start ≡ r.start → q.seats.items ≡ set r.seats.items i t → all_posted q.letters.items ≡ sent_by (step b w e) → q.last ≡ last_after w.last e → Shows b (step b w e) q
-  moved r q i s t n h own at here node lives run start seats sent last =
-      changed r q i t s n h own at.0 (at.1 s) (node ∙ ap (λ z. z.node) here) (subst (λ z. (l : Life) → Lives b z l → Lives b t (lives_on b w z.node l e)) here lives) run start seats sent last
+  pub moved : (r q : Replay) (i : ℕ) (s t : ReplayedNode) (n : NodeId) → Shows b w r → ((k : NodeId) → names k e ≡ same_node n k) → (i < length r.replayed.items) × ((d : ReplayedNode) → same_node (get_or r.replayed.items i d).node n ≡ true) →
+      s ≡ get_or r.replayed.items i s → t.node ≡ s.node → ((l : Life) → Lives b s l → Lives b t (lives_on b w s.node l e)) →
+      q.run ≡ r.run → q.start ≡ r.start → q.replayed.items ≡ set r.replayed.items i t → all_posted q.letters.items ≡ sent_by (step b w e) → q.last ≡ last_after w.last e → Shows b (step b w e) q
+  moved r q i s t n h own at here node lives run start replayed sent last =
+      changed r q i t s n h own at.0 (at.1 s) (node ∙ ap (λ z. z.node) here) (subst (λ z. (l : Life) → Lives b z l → Lives b t (lives_on b w z.node l e)) here lives) run start replayed sent last
 
   -- an entry that leaves its own node's life leaves all
-  pub still : (r q : Replay) → Shows b w r → ((n : NodeId) → lives_on b w n (w.life n) e ≡ w.life n) → q.run ≡ r.run → q.start ≡ r.start → q.seats.items ≡ r.seats.items →
+  pub still : (r q : Replay) → Shows b w r → ((n : NodeId) → lives_on b w n (w.life n) e ≡ w.life n) → q.run ≡ r.run → q.start ≡ r.start → q.replayed.items ≡ r.replayed.items →
       all_posted q.letters.items ≡ sent_by (step b w e) → q.last ≡ last_after w.last e → Shows b (step b w e) q
-  still r q h same run start seats sent last = shows-step r q h run start (ap nodes_of seats)
-      (subst (Every LiveThen) (sym seats) (all-change LiveNow LiveThen r.seats.items (λ s x. subst (Lives b s) (sym (still-step b w e same s.node)) x) h.seats)) sent last
+  still r q h same run start replayed sent last = shows-step r q h run start (ap nodes_of replayed)
+      (subst (Every LiveThen) (sym replayed) (all-change LiveNow LiveThen r.replayed.items (λ s x. subst (Lives b s) (sym (still-step b w e same s.node)) x) h.replayed)) sent last
 
   -- an entry of a node that wasn't opened gives nothing
-  pub absent : (r : Replay) (n : NodeId) → Shows b w r → ((k : NodeId) → names k e ≡ same_node n k) → IsAbsent n r.seats.items → sent_by (step b w e) ≡ sent_by w → w.last ≡ last_after w.last e → Shows b (step b w e) r
-  absent r n h own a sent last = shows-step r r h refl refl refl (absent-change LiveNow LiveThen n r.seats.items a other h.seats) (h.sent ∙ sym sent) (h.last ∙ last)
+  pub absent : (r : Replay) (n : NodeId) → Shows b w r → ((k : NodeId) → names k e ≡ same_node n k) → IsAbsent n r.replayed.items → sent_by (step b w e) ≡ sent_by w → w.last ≡ last_after w.last e → Shows b (step b w e) r
+  absent r n h own a sent last = shows-step r r h refl refl refl (absent-change LiveNow LiveThen n r.replayed.items a other h.replayed) (h.sent ∙ sym sent) (h.last ∙ last)
     where
       other : (s : ReplayedNode) → same_node s.node n ≡ false → LiveNow s → LiveThen s
       other s apart x = subst (Lives b s) (sym (step-other b w e s.node (own s.node ∙ same-sym n s.node ∙ apart))) x

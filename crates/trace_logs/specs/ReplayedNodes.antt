@@ -1,11 +1,12 @@
 -- A node at a place of a trace, as the code keeps it.
-use Rattle.std.specs.Prelude.{◌≡◌, ◌≤◌, ◌++◌}
+use Rattle.std.specs.Prelude.{◌≡◌, ◌≤◌, ◌++◌, Result, OnOk}
 use Rattle.turn_form.specs.Ranges.{AreEffects, AreOuts}
 use Rattle.broker_core.specs.Ledgers.{AreActs}
 use Rattle.broker_core.specs.Tasks.{Scripted}
-use Rattle.world_core.specs.Walks.{Base, Life, all_effects}
+use Rattle.world_core.specs.Nodes.{Input}
+use Rattle.world_core.specs.Walks.{Base, Life, after_input, all_effects}
 use Rattle.trace_logs.specs.declared.replayed_nodes.ReplayedNode.{ReplayedNode}
-use Rattle.trace_logs.specs.Cores.{StandsFor, IsWhole, kind_of, own_acts}
+use Rattle.trace_logs.specs.Cores.{StandsFor, IsAble, kind_of, own_acts}
 
 -- the node has this life
 pub record Lives (b : Base) (s : ReplayedNode) (l : Life) : Type 0 where
@@ -22,6 +23,12 @@ pub record IsSound (s : ReplayedNode) : Type 0 where
   pub high : s.node.number ≤ 16
   pub acts : AreActs s.acts.items
   pub kind : kind_of s.core ≡ s.node.kind
-  pub whole : IsWhole s.core
+  pub able : IsAble s.core
   pub log : AreEffects (s.gated.items ++ s.fresh.items)
   pub outs : AreOuts s.outs.items
+
+-- the node was given this input: where it has a life it has the one after it
+pub record LivesOn {T E : Type 0} (old new : ReplayedNode) (input : Input) (result : Result T E) : Type 0 where
+  pub lives : (b : Base) (l : Life) → Lives b old l → OnOk result (Lives b new (after_input b old.node l input))
+  pub node : OnOk result (new.node ≡ old.node)
+  pub sound : OnOk result (IsSound new)

@@ -46,7 +46,7 @@ logs_in w opened = map (λ (o : Opened). record { node = o.node; effects = (w.li
 -- ---- on the way
 
 abbrev pub nodes_of : List ReplayedNode → List NodeId
-nodes_of seats = map (λ (s : ReplayedNode). s.node) seats
+nodes_of replayed = map (λ (s : ReplayedNode). s.node) replayed
 
 -- whether the node stands there
 abbrev pub is_among : List NodeId → NodeId → Bool
@@ -58,35 +58,35 @@ abbrev pub Apart : List NodeId → Type 0
 Apart [] = Unit {0}
 Apart (m ∷ ms) = Every (λ n. same_node m n ≡ false) ms × Apart ms
 
--- none of the seats is that of this node
+-- none of the replayed nodes is this one
 abbrev pub IsAbsent : NodeId → List ReplayedNode → Type 0
-IsAbsent n seats = Every (λ (s : ReplayedNode). same_node s.node n ≡ false) seats
+IsAbsent n replayed = Every (λ (s : ReplayedNode). same_node s.node n ≡ false) replayed
 
 -- these are the nodes as they were opened
 abbrev pub AreAt : Base → ℕ → List Opened → List ReplayedNode → Type 0
 AreAt b start [] [] = Unit {0}
-AreAt b start [] (s ∷ seats) = ⊥
+AreAt b start [] (s ∷ replayed) = ⊥
 AreAt b start (o ∷ opened) [] = ⊥
-AreAt b start (o ∷ opened) (s ∷ seats) = ((s.node ≡ o.node) × Lives b s (opened_life start o.effects)) × AreAt b start opened seats
+AreAt b start (o ∷ opened) (s ∷ replayed) = ((s.node ≡ o.node) × Lives b s (opened_life start o.effects)) × AreAt b start opened replayed
 
 -- the nodes with their durable logs
 abbrev pub gated_logs : List ReplayedNode → List Opened
-gated_logs seats = map (λ (s : ReplayedNode). record { node = s.node; effects = s.gated.items }) seats
+gated_logs replayed = map (λ (s : ReplayedNode). record { node = s.node; effects = s.gated.items }) replayed
 
 -- where the walk from this base has come to
 pub record Shows (b : Base) (w : World) (r : Replay) : Type 0 where
   pub run : b.run ≡ r.run
   pub start : b.start ≡ r.start
-  pub nodes : nodes_of r.seats.items ≡ map (λ (o : Opened). o.node) b.opened
-  pub apart : Apart (nodes_of r.seats.items)
-  pub seats : Every (λ (s : ReplayedNode). Lives b s (w.life s.node)) r.seats.items
-  pub known : (n : NodeId) → (w.flags n).known ≡ is_among (nodes_of r.seats.items) n
+  pub nodes : nodes_of r.replayed.items ≡ map (λ (o : Opened). o.node) b.opened
+  pub apart : Apart (nodes_of r.replayed.items)
+  pub replayed : Every (λ (s : ReplayedNode). Lives b s (w.life s.node)) r.replayed.items
+  pub known : (n : NodeId) → (w.flags n).known ≡ is_among (nodes_of r.replayed.items) n
   pub sent : all_posted r.letters.items ≡ sent_by w
   pub last : r.last ≡ w.last
 
 -- all that the cores are given is in range
 pub record IsFit (r : Replay) : Type 0 where
-  pub seats : Every IsSound r.seats.items
+  pub replayed : Every IsSound r.replayed.items
   pub letters : AreLetters r.letters.items
   pub run : 1 ≤ r.run
   pub start : r.start ≤ 2 ^ 63

@@ -1,16 +1,15 @@
-ghost use Rattle.std.specs.Prelude.{◌≡◌, ◌≤◌, ◌^◌, ◌++◌, ◌∷◌, [], ℕ, List, IfOk, OnOk, IfErr, Ok};
-ghost use Rattle.effect_form.specs.declared.effects.Effect.{Effect};
+ghost use Rattle.std.specs.Prelude.{◌≡◌, ◌≤◌, ◌^◌, ◌∷◌, [], IfOk, IfErr, Ok};
 ghost use Rattle.message_form.specs.Messages.{IsMessage};
 ghost use Rattle.pseudo_time.specs.declared.nodes.NodeId.{NodeId};
 ghost use Rattle.value_form.specs.declared.acts.ActSpec.{ActSpec};
 ghost use Rattle.broker_core.specs.Ledgers.{AreActs};
 ghost use Rattle.broker_core.specs.Tasks.{Scripted};
-ghost use Rattle.turn_form.specs.Ranges.{AreEffects, AreOuts};
+ghost use Rattle.turn_form.specs.Ranges.{AreEffects};
 ghost use Rattle.repository_log.specs.Logs.{knows};
-ghost use Rattle.world_core.specs.Nodes.{Mind, opened_mind, gives};
+ghost use Rattle.world_core.specs.Nodes.{Mind, opened_mind};
 ghost use Rattle.world_core.specs.Nodes.Input.{Going, Taking, Learning, Hearing};
 ghost use Rattle.world_core.specs.Walks.{Base};
-ghost use Rattle.trace_logs.specs.Cores.{StandsFor, Gave, IsWhole, IsWant, kind_of, own_acts};
+ghost use Rattle.trace_logs.specs.Cores.{StandsFor, IsAble, IsGiven, IsWant, kind_of, own_acts};
 
 use broker_core::Broker;
 use effect_form::Effect;
@@ -85,9 +84,10 @@ pub fn open_core(
     requires acts { AreActs acts.now }
     requires log { AreEffects log.now }
     requires start { start ≤ 2 ^ 63 }
-    ensures stands { (b : Base) → b.run ≡ run → acts.now ≡ own_acts node b.acts → Scripted b.script acts.now → IfOk result (λ core. StandsFor b node log.now (opened_mind start) core) }
+    ensures stands { (b : Base) → b.run ≡ run → acts.now ≡ own_acts node b.acts → Scripted b.script acts.now
+        → IfOk result (λ core. StandsFor b node log.now (opened_mind start) core) }
     ensures kind { IfOk result (λ core. kind_of core ≡ node.kind) }
-    ensures whole { IfOk result (λ core. IsWhole core) }
+    ensures able { IfOk result IsAble }
 {
     match node.kind {
         NodeKind::Repository => {
@@ -107,12 +107,9 @@ pub fn open_core(
 impl NodeCore {
     /// Takes a message.
     pub fn take(&mut self, from: NodeId, message: &Message) -> Result<Turn, AllocError>
-        requires whole { IsWhole self.old }
+        requires able { IsAble self.old }
         requires message { IsMessage message.now }
-        ensures gives { (b : Base) (n : NodeId) (log : List Effect) (mind : Mind) → StandsFor b n log mind self.old → IfOk result (λ turn. Gave b n log (gives b.script b.run b.acts n log mind (Taking from message.now)) turn self.new) }
-        ensures kind { kind_of self.new ≡ kind_of self.old }
-        ensures whole { OnOk result (IsWhole self.new) }
-        ensures in_range { IfOk result (λ turn. AreEffects turn.effects × AreOuts turn.outs) }
+        ensures { IsGiven self.old self.new (Taking from message.now) result }
     {
         match self {
             NodeCore::Repository(core) => wanted(core.take(from, message)),
@@ -122,11 +119,8 @@ impl NodeCore {
 
     /// Goes. A repository has nowhere to go.
     pub fn go(&mut self, alloc: Global) -> Result<Turn, AllocError>
-        requires whole { IsWhole self.old }
-        ensures gives { (b : Base) (n : NodeId) (log : List Effect) (mind : Mind) → StandsFor b n log mind self.old → IfOk result (λ turn. Gave b n log (gives b.script b.run b.acts n log mind (Going)) turn self.new) }
-        ensures kind { kind_of self.new ≡ kind_of self.old }
-        ensures whole { OnOk result (IsWhole self.new) }
-        ensures in_range { IfOk result (λ turn. AreEffects turn.effects × AreOuts turn.outs) }
+        requires able { IsAble self.old }
+        ensures { IsGiven self.old self.new Going result }
     {
         match self {
             NodeCore::Repository(core) => Ok(Turn::quiet(alloc)),
@@ -141,11 +135,8 @@ impl NodeCore {
         stamp: Stamp,
         committed: bool,
     ) -> Result<Turn, AllocError>
-        requires whole { IsWhole self.old }
-        ensures gives { (b : Base) (n : NodeId) (log : List Effect) (mind : Mind) → StandsFor b n log mind self.old → IfOk result (λ turn. Gave b n log (gives b.script b.run b.acts n log mind (Learning stamp committed)) turn self.new) }
-        ensures kind { kind_of self.new ≡ kind_of self.old }
-        ensures whole { OnOk result (IsWhole self.new) }
-        ensures in_range { IfOk result (λ turn. AreEffects turn.effects × AreOuts turn.outs) }
+        requires able { IsAble self.old }
+        ensures { IsGiven self.old self.new (Learning stamp committed) result }
     {
         match self {
             NodeCore::Repository(core) => wanted(core.learn(stamp, committed)),
@@ -155,12 +146,9 @@ impl NodeCore {
 
     /// Hears a moment, of at most 2^63.
     pub fn hear(&mut self, moment: u64) -> Result<Turn, AllocError>
-        requires whole { IsWhole self.old }
+        requires able { IsAble self.old }
         requires moment { moment ≤ 2 ^ 63 }
-        ensures gives { (b : Base) (n : NodeId) (log : List Effect) (mind : Mind) → StandsFor b n log mind self.old → IfOk result (λ turn. Gave b n log (gives b.script b.run b.acts n log mind (Hearing moment)) turn self.new) }
-        ensures kind { kind_of self.new ≡ kind_of self.old }
-        ensures whole { OnOk result (IsWhole self.new) }
-        ensures in_range { IfOk result (λ turn. AreEffects turn.effects × AreOuts turn.outs) }
+        ensures { IsGiven self.old self.new (Hearing moment) result }
     {
         match self {
             NodeCore::Repository(core) => wanted(core.hear(moment)),
@@ -171,7 +159,7 @@ impl NodeCore {
     /// Whether the log that the core stands for has a Decide or a Learn of the stamp. A broker's core
     /// keeps no log, so it is searched here; a broker asks nobody, so it never is.
     pub fn knows(&self, log: &[Effect], stamp: Stamp) -> bool
-        requires whole { IsWhole self.now }
+        requires able { IsAble self.now }
         ensures { (b : Base) (n : NodeId) (mind : Mind) → StandsFor b n log.now mind self.now → result ≡ knows log.now stamp }
     {
         match self {

@@ -1,4 +1,4 @@
-ghost use Rattle.std.specs.Prelude.{◌≡◌, ◌≤◌, ◌^◌, ◌++◌, ◌∷◌, [], ℕ, List, IfOk, OnOk};
+ghost use Rattle.std.specs.Prelude.{◌≡◌, ◌≤◌, ◌^◌, ◌++◌, ◌∷◌, [], IfOk, OnOk};
 ghost use Rattle.std.specs.List.{filter};
 ghost use Rattle.effect_form.specs.declared.effects.Effect.{Effect};
 ghost use Rattle.pseudo_time.specs.declared.nodes.NodeId.{NodeId};
@@ -10,10 +10,10 @@ ghost use Rattle.broker_core.specs.Ledgers.{AreActs};
 ghost use Rattle.broker_core.specs.Tasks.{Scripted};
 ghost use Rattle.world_core.specs.Nodes.{leaves};
 ghost use Rattle.world_core.specs.Nodes.Input.{Going, Taking, Learning, Hearing};
-ghost use Rattle.world_core.specs.Walks.{Base, Life, after_input, all_effects, gated_life, crashed_life, opened_life};
-ghost use Rattle.trace_logs.specs.Cores.{StandsFor, own_acts};
+ghost use Rattle.world_core.specs.Walks.{Base, Life, all_effects, gated_life, crashed_life, opened_life};
+ghost use Rattle.trace_logs.specs.Cores.{own_acts};
 ghost use Rattle.trace_logs.specs.Letters.{all_posted, AreLetters};
-ghost use Rattle.trace_logs.specs.ReplayedNodes.{Lives, IsSound};
+ghost use Rattle.trace_logs.specs.ReplayedNodes.{Lives, IsSound, LivesOn};
 
 use crate::cores::{NodeCore, open_core};
 use crate::letters::SentMessage;
@@ -55,8 +55,9 @@ impl ReplayedNode {
         requires run { 1 ≤ run }
         requires log { AreEffects log.items }
         requires start { start ≤ 2 ^ 63 }
-        ensures lives { (b : Base) → b.run ≡ run → acts.items ≡ own_acts node b.acts → Scripted b.script acts.items → IfOk result (λ seat. Lives b seat (opened_life start log.items)) }
-        ensures node { IfOk result (λ seat. seat.node ≡ node) }
+        ensures lives { (b : Base) → b.run ≡ run → acts.items ≡ own_acts node b.acts → Scripted b.script acts.items
+            → IfOk result (λ s. Lives b s (opened_life start log.items)) }
+        ensures node { IfOk result (λ s. s.node ≡ node) }
         ensures sound { IfOk result IsSound }
     {
         let core = open_core(alloc, run, start, node, acts.as_slice(), log.as_slice())?;
@@ -91,9 +92,7 @@ impl ReplayedNode {
     pub fn take(&mut self, from: NodeId, message: &Message) -> Result<(), AllocError>
         requires sound { IsSound self.old }
         requires message { IsMessage message.now }
-        ensures lives { (b : Base) (l : Life) → Lives b self.old l → OnOk result (Lives b self.new (after_input b self.old.node l (Taking from message.now))) }
-        ensures node { OnOk result (self.new.node ≡ self.old.node) }
-        ensures sound { OnOk result (IsSound self.new) }
+        ensures { LivesOn self.old self.new (Taking from message.now) result }
     {
         let turn = self.core.take(from, message)?;
         self.add(turn)
@@ -102,9 +101,7 @@ impl ReplayedNode {
     /// Goes, a broker.
     pub fn go(&mut self, alloc: Global) -> Result<(), AllocError>
         requires sound { IsSound self.old }
-        ensures lives { (b : Base) (l : Life) → Lives b self.old l → OnOk result (Lives b self.new (after_input b self.old.node l Going)) }
-        ensures node { OnOk result (self.new.node ≡ self.old.node) }
-        ensures sound { OnOk result (IsSound self.new) }
+        ensures { LivesOn self.old self.new Going result }
     {
         let turn = self.core.go(alloc)?;
         self.add(turn)
@@ -113,9 +110,7 @@ impl ReplayedNode {
     /// Learns a decision, a repository.
     pub fn learn(&mut self, alloc: Global, stamp: Stamp, committed: bool) -> Result<(), AllocError>
         requires sound { IsSound self.old }
-        ensures lives { (b : Base) (l : Life) → Lives b self.old l → OnOk result (Lives b self.new (after_input b self.old.node l (Learning stamp committed))) }
-        ensures node { OnOk result (self.new.node ≡ self.old.node) }
-        ensures sound { OnOk result (IsSound self.new) }
+        ensures { LivesOn self.old self.new (Learning stamp committed) result }
     {
         let turn = self.core.learn(alloc, stamp, committed)?;
         self.add(turn)
@@ -125,9 +120,7 @@ impl ReplayedNode {
     pub fn hear(&mut self, moment: u64) -> Result<(), AllocError>
         requires sound { IsSound self.old }
         requires moment { moment ≤ 2 ^ 63 }
-        ensures lives { (b : Base) (l : Life) → Lives b self.old l → OnOk result (Lives b self.new (after_input b self.old.node l (Hearing moment))) }
-        ensures node { OnOk result (self.new.node ≡ self.old.node) }
-        ensures sound { OnOk result (IsSound self.new) }
+        ensures { LivesOn self.old self.new (Hearing moment) result }
     {
         let turn = self.core.hear(moment)?;
         self.add(turn)
@@ -149,7 +142,8 @@ impl ReplayedNode {
     fn send(&self, out: Out, letters: &mut Vec<SentMessage>) -> Result<(), AllocError>
         requires sound { IsSound self.now }
         requires message { IsMessage out.message }
-        ensures sent { (b : Base) (l : Life) → Lives b self.now l → l.fresh ≡ [] → OnOk result (all_posted letters.new.items ≡ all_posted letters.old.items ++ posts self.now.node (filter (leaves l.gated) (out ∷ []))) }
+        ensures sent { (b : Base) (l : Life) → Lives b self.now l → l.fresh ≡ []
+            → OnOk result (all_posted letters.new.items ≡ all_posted letters.old.items ++ posts self.now.node (filter (leaves l.gated) (out ∷ []))) }
         ensures in_range { AreLetters letters.old.items → OnOk result (AreLetters letters.new.items) }
     {
         if !self.leaves(&out) {
@@ -164,7 +158,8 @@ impl ReplayedNode {
     fn send_all(&self, outs: Vec<Out>, letters: &mut Vec<SentMessage>) -> Result<(), AllocError>
         requires sound { IsSound self.now }
         requires messages { AreOuts outs.items }
-        ensures sent { (b : Base) (l : Life) → Lives b self.now l → l.fresh ≡ [] → OnOk result (all_posted letters.new.items ≡ all_posted letters.old.items ++ posts self.now.node (filter (leaves l.gated) outs.items)) }
+        ensures sent { (b : Base) (l : Life) → Lives b self.now l → l.fresh ≡ []
+            → OnOk result (all_posted letters.new.items ≡ all_posted letters.old.items ++ posts self.now.node (filter (leaves l.gated) outs.items)) }
         ensures in_range { AreLetters letters.old.items → OnOk result (AreLetters letters.new.items) }
     {
         for out in outs {
@@ -177,7 +172,8 @@ impl ReplayedNode {
     pub fn gate(&mut self, alloc: Global, letters: &mut Vec<SentMessage>) -> Result<(), AllocError>
         requires sound { IsSound self.old }
         ensures lives { (b : Base) (l : Life) → Lives b self.old l → OnOk result (Lives b self.new (gated_life l)) }
-        ensures sent { (b : Base) (l : Life) → Lives b self.old l → OnOk result (all_posted letters.new.items ≡ all_posted letters.old.items ++ posts self.old.node (filter (leaves (all_effects l)) l.outs)) }
+        ensures sent { (b : Base) (l : Life) → Lives b self.old l
+            → OnOk result (all_posted letters.new.items ≡ all_posted letters.old.items ++ posts self.old.node (filter (leaves (all_effects l)) l.outs)) }
         ensures in_range { AreLetters letters.old.items → OnOk result (AreLetters letters.new.items) }
         ensures node { OnOk result (self.new.node ≡ self.old.node) }
         ensures sound { OnOk result (IsSound self.new) }
@@ -199,7 +195,8 @@ impl ReplayedNode {
         requires sound { IsSound self.old }
         requires run { 1 ≤ run }
         requires start { start ≤ 2 ^ 63 }
-        ensures lives { (b : Base) (l : Life) → b.run ≡ run → b.start ≡ start → Lives b self.old l → OnOk result (Lives b self.new (crashed_life b.start kept l)) }
+        ensures lives { (b : Base) (l : Life) → b.run ≡ run → b.start ≡ start → Lives b self.old l
+            → OnOk result (Lives b self.new (crashed_life b.start kept l)) }
         ensures node { OnOk result (self.new.node ≡ self.old.node) }
         ensures sound { OnOk result (IsSound self.new) }
     {

@@ -1,5 +1,4 @@
-ghost use Rattle.std.specs.Prelude.{◌≡◌, ◌≤◌, ◌<◌, ◌^◌, ◌++◌, ◌∷◌, [], ℕ, List, false, true, length, slice_index_or, Some, None, IfOk, OnOk, MatchOption, IfSome};
-ghost use Rattle.std.specs.List.{filter, count_by};
+ghost use Rattle.std.specs.Prelude.{◌≡◌, ◌≤◌, ◌<◌, ◌^◌, ℕ, List, true, length, slice_index_or, Some, None, IfOk, OnOk, MatchOption};
 ghost use Rattle.pseudo_time.specs.Lists.{Every};
 ghost use Rattle.pseudo_time.specs.declared.nodes.NodeId.{NodeId};
 ghost use Rattle.broker_core.specs.Ledgers.{AreActs};
@@ -8,9 +7,8 @@ ghost use Rattle.pseudo_time.specs.Nodes.{same_node};
 ghost use Rattle.serial_model.specs.Questions.{Tree};
 ghost use Rattle.world_core.specs.declared.traces.Opened.{Opened};
 ghost use Rattle.world_core.specs.declared.entries.Entry.TheVariants as entry;
-ghost use Rattle.world_core.specs.Walks.{Base, World, Life, opened_life, start_world, walk_from, walk, step};
+ghost use Rattle.world_core.specs.Walks.{Base, World, opened_life, walk, step};
 ghost use Rattle.trace_logs.specs.Cores.{own_acts};
-ghost use Rattle.trace_logs.specs.Letters.{AreLetters};
 ghost use Rattle.trace_logs.specs.ReplayedNodes.{Lives, IsSound};
 ghost use Rattle.trace_logs.specs.Replays.{IsOpened, IsOnce, IsMoment, IsAbsent, Shows, IsFit, AreAt, base_for, logs_in, gated_logs};
 
@@ -29,7 +27,7 @@ pub struct Replay {
     run: u32,
     start: u64,
     /// The nodes that were opened, in their order.
-    seats: Vec<ReplayedNode>,
+    replayed: Vec<ReplayedNode>,
     /// The message with number k stands at place k - 1.
     letters: Vec<SentMessage>,
     /// The moment of the last Tick.
@@ -37,11 +35,12 @@ pub struct Replay {
 }
 
 // The place of a node.
-fn place_of(seats: &[ReplayedNode], node: NodeId) -> Option<usize>
-    ensures { MatchOption result (IsAbsent node seats.now) (λ place. (place < length seats.now) × ((d : ReplayedNode) → same_node (slice_index_or seats.now place d).node node ≡ true)) }
+fn place_of(replayed: &[ReplayedNode], node: NodeId) -> Option<usize>
+    ensures { MatchOption result (IsAbsent node replayed.now)
+        (λ place. (place < length replayed.now) × ((d : ReplayedNode) → same_node (slice_index_or replayed.now place d).node node ≡ true)) }
 {
-    for place in 0..seats.len() {
-        if seats[place].node == node {
+    for place in 0..replayed.len() {
+        if replayed[place].node == node {
             return Some(place);
         }
     }
@@ -75,7 +74,7 @@ fn copies(alloc: Global, effects: &[Effect]) -> Result<Vec<Effect>, AllocError>
 }
 
 // A node as it was opened.
-fn seat_of(
+fn opened_node(
     alloc: Global,
     run: u32,
     start: u64,
@@ -86,8 +85,9 @@ fn seat_of(
     requires acts { AreActs acts.now }
     requires opened { IsOpened opened.now }
     requires start { start ≤ 2 ^ 63 }
-    ensures lives { (b : Base) → b.run ≡ run → b.acts ≡ acts.now → Scripted b.script acts.now → IfOk result (λ seat. Lives b seat (opened_life start opened.now.effects)) }
-    ensures node { IfOk result (λ seat. seat.node ≡ opened.now.node) }
+    ensures lives { (b : Base) → b.run ≡ run → b.acts ≡ acts.now → Scripted b.script acts.now
+        → IfOk result (λ s. Lives b s (opened_life start opened.now.effects)) }
+    ensures node { IfOk result (λ s. s.node ≡ opened.now.node) }
     ensures sound { IfOk result IsSound }
 {
     let own = acts_of(alloc, opened.node, acts)?;
@@ -96,7 +96,7 @@ fn seat_of(
 }
 
 // The nodes as they were opened.
-fn seats_of(
+fn opened_nodes(
     alloc: Global,
     run: u32,
     start: u64,
@@ -107,26 +107,27 @@ fn seats_of(
     requires acts { AreActs acts.now }
     requires opened { Every IsOpened opened.now }
     requires start { start ≤ 2 ^ 63 }
-    ensures lives { (b : Base) → b.run ≡ run → b.acts ≡ acts.now → Scripted b.script acts.now → IfOk result (λ seats. AreAt b start opened.now seats.items) }
-    ensures sound { IfOk result (λ seats. Every IsSound seats.items) }
+    ensures lives { (b : Base) → b.run ≡ run → b.acts ≡ acts.now → Scripted b.script acts.now
+        → IfOk result (λ replayed. AreAt b start opened.now replayed.items) }
+    ensures sound { IfOk result (λ replayed. Every IsSound replayed.items) }
 {
-    let mut seats = Vec::new(alloc);
+    let mut replayed = Vec::new(alloc);
     for one in opened {
-        let seat = seat_of(alloc, run, start, acts, one)?;
-        seats.push(seat)?;
+        let node = opened_node(alloc, run, start, acts, one)?;
+        replayed.push(node)?;
     }
-    Ok(seats)
+    Ok(replayed)
 }
 
 // The nodes with their durable logs.
-fn logs_of(alloc: Global, seats: Vec<ReplayedNode>) -> Result<Vec<Opened>, AllocError>
-    ensures { IfOk result (λ opened. opened.items ≡ gated_logs seats.items) }
+fn logs_of(alloc: Global, replayed: Vec<ReplayedNode>) -> Result<Vec<Opened>, AllocError>
+    ensures { IfOk result (λ opened. opened.items ≡ gated_logs replayed.items) }
 {
     let mut opened = Vec::new(alloc);
-    for seat in seats {
+    for node in replayed {
         opened.push(Opened {
-            node: seat.node,
-            effects: Items::of(seat.gated),
+            node: node.node,
+            effects: Items::of(node.gated),
         })?;
     }
     Ok(opened)
@@ -139,12 +140,12 @@ impl Replay {
         ensures shows { (b : Base) (w : World) → Shows b w self.old → OnOk result (Shows b (step b w (entry.Take node number)) self.new) }
         ensures fit { OnOk result (IsFit self.new) }
     {
-        let Some(place) = place_of(self.seats.as_slice(), node) else {
+        let Some(place) = place_of(self.replayed.as_slice(), node) else {
             return Ok(());
         };
         match letter_at(self.letters.as_slice(), number) {
             None => Ok(()),
-            Some(letter) => self.seats[place].take(letter.from, &letter.out.message),
+            Some(letter) => self.replayed[place].take(letter.from, &letter.out.message),
         }
     }
 
@@ -154,10 +155,10 @@ impl Replay {
         ensures shows { (b : Base) (w : World) → Shows b w self.old → OnOk result (Shows b (step b w (entry.Go node)) self.new) }
         ensures fit { OnOk result (IsFit self.new) }
     {
-        let Some(place) = place_of(self.seats.as_slice(), node) else {
+        let Some(place) = place_of(self.replayed.as_slice(), node) else {
             return Ok(());
         };
-        self.seats[place].go(self.alloc)
+        self.replayed[place].go(self.alloc)
     }
 
     // The node learns a decision.
@@ -166,10 +167,10 @@ impl Replay {
         ensures shows { (b : Base) (w : World) → Shows b w self.old → OnOk result (Shows b (step b w (entry.Learn node stamp committed)) self.new) }
         ensures fit { OnOk result (IsFit self.new) }
     {
-        let Some(place) = place_of(self.seats.as_slice(), node) else {
+        let Some(place) = place_of(self.replayed.as_slice(), node) else {
             return Ok(());
         };
-        self.seats[place].learn(self.alloc, stamp, committed)
+        self.replayed[place].learn(self.alloc, stamp, committed)
     }
 
     // The node hears the moment of the last Tick. Before any there is none.
@@ -178,12 +179,12 @@ impl Replay {
         ensures shows { (b : Base) (w : World) → Shows b w self.old → OnOk result (Shows b (step b w (entry.Hear node)) self.new) }
         ensures fit { OnOk result (IsFit self.new) }
     {
-        let Some(place) = place_of(self.seats.as_slice(), node) else {
+        let Some(place) = place_of(self.replayed.as_slice(), node) else {
             return Ok(());
         };
         match self.last {
             None => Ok(()),
-            Some(moment) => self.seats[place].hear(moment),
+            Some(moment) => self.replayed[place].hear(moment),
         }
     }
 
@@ -193,10 +194,10 @@ impl Replay {
         ensures shows { (b : Base) (w : World) → Shows b w self.old → OnOk result (Shows b (step b w (entry.Gate node)) self.new) }
         ensures fit { OnOk result (IsFit self.new) }
     {
-        let Some(place) = place_of(self.seats.as_slice(), node) else {
+        let Some(place) = place_of(self.replayed.as_slice(), node) else {
             return Ok(());
         };
-        self.seats[place].gate(self.alloc, &mut self.letters)
+        self.replayed[place].gate(self.alloc, &mut self.letters)
     }
 
     // The node crashes, and is opened anew.
@@ -205,10 +206,10 @@ impl Replay {
         ensures shows { (b : Base) (w : World) → Shows b w self.old → OnOk result (Shows b (step b w (entry.Crash node kept)) self.new) }
         ensures fit { OnOk result (IsFit self.new) }
     {
-        let Some(place) = place_of(self.seats.as_slice(), node) else {
+        let Some(place) = place_of(self.replayed.as_slice(), node) else {
             return Ok(());
         };
-        self.seats[place].crash(self.alloc, self.run, self.start, kept)
+        self.replayed[place].crash(self.alloc, self.run, self.start, kept)
     }
 
     // One entry. That of a node that was not opened gives nothing.
@@ -257,18 +258,19 @@ pub fn logs(
     requires once { IsOnce trace.now.opened }
     requires start { trace.now.start ≤ 2 ^ 63 }
     requires moments { Every IsMoment trace.now.entries }
-    ensures { (script : List ℕ → Tree) → Scripted script acts.now → IfOk result (λ logs. logs.items ≡ logs_in (walk (base_for script run acts.now trace.now) trace.now.entries) trace.now.opened) }
+    ensures { (script : List ℕ → Tree) → Scripted script acts.now
+        → IfOk result (λ logs. logs.items ≡ logs_in (walk (base_for script run acts.now trace.now) trace.now.entries) trace.now.opened) }
 {
     let mut replay = Replay {
         alloc,
         run,
         start: trace.start,
-        seats: seats_of(alloc, run, trace.start, acts, trace.opened.as_slice())?,
+        replayed: opened_nodes(alloc, run, trace.start, acts, trace.opened.as_slice())?,
         letters: Vec::new(alloc),
         last: None,
     };
     for entry in trace.entries.as_slice() {
         replay.on_entry(entry)?;
     }
-    logs_of(alloc, replay.seats)
+    logs_of(alloc, replay.replayed)
 }

@@ -1,4 +1,4 @@
-use Rattle.std.proofs.Common.{◌≡◌, refl, sym, subst, ◌∙◌, Some}
+use Rattle.std.proofs.Common.{◌≡◌, refl, sym, ap, subst, ◌∙◌, not, Some}
 use Rattle.std.proofs.lemmas.List.{append-nil}
 use Rattle.version_store.specs.StoreWords.{medium_of}
 use Rattle.object_header.specs.Tables.{ledger_of}
@@ -20,7 +20,7 @@ new-node-requires g c =
     let m = medium_of c.args.store in
     let name = sym c.repository-name.ensures in
     record {
-      up = up-new _ k c.repository-name.result log _ name c.in-Ok.ensures.whole (c.in-Ok.ensures.log ∙ sym c.in-Ok.ensures.stored ∙ sym (append-nil (ledger_of core.histories).log)) c.requires.start.1
+      up = up-new _ k c.repository-name.result log _ name (ap not c.in-Ok.ensures.able) (c.in-Ok.ensures.log ∙ sym c.in-Ok.ensures.stored ∙ sym (append-nil (ledger_of core.histories).log)) c.requires.start.1
           (subst (λ n. IsOf n k) name c.requires.pass.0) c.requires.pass.1 (subst (λ n. opened_log (origin_at k).opened n ≡ Some log) name c.requires.opened) refl
           (subst (λ n. IsReady b n log) name (ready-repository b c.args.number log))
           (λ t. (opened-repository b c.args.number c.args.start log core c.requires.start.1 c.in-Ok.ensures.number c.in-Ok.ensures.log c.in-Ok.ensures.mind, c.in-Ok.ensures.stored))

@@ -3,5 +3,5 @@ use Rattle.trace_logs.specs.Replays.{gated_logs}
 use Rattle.trace_logs.proofs.replays.logs_of.Given as goal
 
 -- those so far
-abbrev pub invariant-loop-seat : goal.invariant-loop-seat
-invariant-loop-seat l = l.opened.items ≡ gated_logs l.yielded
+abbrev pub invariant-loop-node : goal.invariant-loop-node
+invariant-loop-node l = l.opened.items ≡ gated_logs l.yielded

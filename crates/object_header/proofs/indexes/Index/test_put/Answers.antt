@@ -1,8 +1,9 @@
-use Rattle.std.proofs.Common.{rules, arith, ◌≡◌, true, false, refl, sym, ap, ◌∙◌, subst}
+use Rattle.std.proofs.Common.{◌≡◌, sym, ap, ◌∙◌}
+use Rattle.std.proofs.lemmas.Result.{on_ok_weaker}
 use Rattle.pseudo_time.specs.Order.{lt}
 use Rattle.object_header.specs.declared.heads.Span.{Span}
 use Rattle.object_header.specs.declared.heads.Look.TheVariants as found
-use Rattle.object_header.proofs.PlanLemmas.{on_ok, rises-look, odd-now}
+use Rattle.object_header.proofs.PlanLemmas.{rises-look, odd-now}
 use Rattle.object_header.proofs.indexes.Index.test_put.Goals as goal
 
 pub returns-then-is_before : goal.returns-then-is_before
@@ -18,7 +19,7 @@ returns-then-is_before c = record {
     shown s t e = cc e
 
 pub returns-else-is_before : goal.returns-else-is_before
-returns-else-is_before c = record { ok = λ m is. on_ok c.set_odd.result (λ at. odd-now m _ _ _ c.args.object c.args.start at is) c.set_odd.ensures.ok }
+returns-else-is_before c = record { ok = λ m is. on_ok_weaker c.set_odd.result (λ at. odd-now m _ _ _ c.args.object c.args.start at is) c.set_odd.ensures.ok }
 
 pub returns-in_default : goal.returns-in_default
 returns-in_default c = record { ok = λ m is. (is, rises-look m _ _ c.args.object c.args.start c.look.result is c.look.ensures (λ s e. absurd (c.in_default.not-Shown s e))) }

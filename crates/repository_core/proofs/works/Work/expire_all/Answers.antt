@@ -48,8 +48,8 @@ loop-stamp-preserved g c =
       agreed = e.agreed rest unknown once agreed;
       pending = still-pending c.args.moment (now h) (now c.expire.new.self.draft) x rest e.records apart.0 pending.1;
       apart = apart.1;
-      since = e.since;
-      call = e.call ∙ i.call;
+      since = e.went.since;
+      call = e.went.call ∙ i.call;
       log = (e.log.0 ∙ i.log.0, e.log.1 ∙ i.log.1);
       gives = λ tells. ap (λ z. expired rest z) (e.gives rest tells unknown once agreed) ∙ ap (λ es. expired es h) (sym next) ∙ i.gives tells;
     }

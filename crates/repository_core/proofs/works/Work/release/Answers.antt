@@ -6,8 +6,8 @@ pub loop-at-preserved : goal.loop-at-preserved
 loop-at-preserved g c = record {
   agreed = λ pending a. c.in_ok-on_read.ensures.agreed pending (c.loop-at.invariant.agreed pending a);
   records = λ s. c.in_ok-on_read.ensures.records s ∙ c.loop-at.invariant.records s;
-  since = c.in_ok-on_read.ensures.since;
-  call = c.in_ok-on_read.ensures.call ∙ c.loop-at.invariant.call;
+  since = c.in_ok-on_read.ensures.went.since;
+  call = c.in_ok-on_read.ensures.went.call ∙ c.loop-at.invariant.call;
   log = (c.in_ok-on_read.ensures.log.0 ∙ c.loop-at.invariant.log.0, c.in_ok-on_read.ensures.log.1 ∙ c.loop-at.invariant.log.1);
   held = held-next c.deref-at-items.result.now c.loop-at.at-index c.loop-at-item.result c.loop-at-test.true c.loop-at-item.is c.loop-at.invariant.held;
   gives = λ tells pending a.

@@ -1,4 +1,4 @@
-use Rattle.std.proofs.Common.{◌≡◌, true, refl, ap, sym, subst, ◌∙◌, ◌++◌, Ok}
+use Rattle.std.proofs.Common.{◌≡◌, true, not, refl, ap, sym, subst, ◌∙◌, ◌++◌, Ok}
 use Rattle.std.proofs.lemmas.List.{append-nil}
 use Rattle.pseudo_time.specs.Nodes.{repository}
 use Rattle.version_store.specs.Filling.{HasPrefix, KeepsPages}
@@ -17,7 +17,7 @@ pub flush-requires-clause-late : goal.flush-requires-clause-late
 flush-requires-clause-late g c =
     let core = c.in-Open.core in
     let table = c.part-rest.result.1 in
-    let able : core.whole ≡ true = subst (λ z. is_able z ≡ true) c.in-Open.is c.requires.able in
+    let able : not core.is_failed ≡ true = subst (λ z. is_able z ≡ true) c.in-Open.is c.requires.able in
     let owed : core.log ≡ (ledger_of core.histories).log ++ c.args.effects.now = subst (λ z. Owes z c.args.effects.now) c.in-Open.is c.requires.owed in
     let marked : HasMarks (content (ledger_of core.histories)) core.log = subst (λ z. HasMarksOfLog z) c.in-Open.is c.args.self.marked able in
     late-of_log (ledger_of table) c.args.effects.now
@@ -36,7 +36,7 @@ returns-in-Ok g c =
     let was = ap (λ z. medium_in z) c.in-Open.is ∙ ap (λ h. medium_of (store_of h)) (sym c.part-rest.ensures.histories) in
     let p = parted c.part-rest.result.0 core c.part-rest.ensures.state in
     let j = joined c.join.result c.part-rest.result.0 new c.join.ensures in
-    let able : core.whole ≡ true = subst (λ z. is_able z ≡ true) c.in-Open.is c.requires.able in
+    let able : not core.is_failed ≡ true = subst (λ z. is_able z ≡ true) c.in-Open.is c.requires.able in
     let owed : core.log ≡ (ledger_of core.histories).log ++ effects = subst (λ z. Owes z effects) c.in-Open.is c.requires.owed in
     let stored : (ledger_of c.join.result.histories).log ≡ (ledger_of core.histories).log ++ effects =
     ap (λ h. (ledger_of h).log) j.4 ∙ c.in-Ok.ensures.log ∙ ap (λ h. (ledger_of h).log ++ effects) c.part-rest.ensures.histories in
@@ -47,7 +47,7 @@ returns-in-Ok g c =
     (λ t. new.stored t ∙ c.in-Ok.ensures.log ∙ ap (λ l. l ++ effects) (sym (old.stored t)))
     (λ t. images_left g.M.Medium.moment g.M.Medium.left_since g.M.Medium.reads g.M.Medium.may_leave m n (KeepsPages (g.M.Medium.reads m)) (λ k d le there. g.met.M.Medium.counts_now n k d t le there) (c.in-Ok.ensures.kept t) (g.M.Medium.reads n) (now n t))
     c.in-Ok.ensures.clean))
-    (j.3 ∙ p.3 ∙ able, j.1 ∙ p.1 ∙ owed ∙ sym stored ∙ sym (append-nil (ledger_of c.join.result.histories).log))
+    (ap not (j.3 ∙ p.3) ∙ able, j.1 ∙ p.1 ∙ owed ∙ sym stored ∙ sym (append-nil (ledger_of c.join.result.histories).log))
     (λ t b l h fresh.
     let o = subst (λ z. HasLife z name l) c.in-Open.is h in
     (joined-repository name l core c.join.result (j.0 ∙ p.0) (j.1 ∙ p.1) (j.2 ∙ p.2) o.0, stored ∙ ap (λ es. es ++ effects) o.1 ∙ ap (λ es. l.gated ++ es) (sym fresh)))

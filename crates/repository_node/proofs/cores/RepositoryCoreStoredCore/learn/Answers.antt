@@ -26,7 +26,7 @@ returns-in-Open g c =
     record {
       given = λ kind. record {
         same = record { node = refl; run = λ b f. f; later = subst (λ z. g.M.Medium.faults z ≤ g.M.Medium.faults n) was called.cause.faults_stay };
-        able = able-called c.learn.result new.whole called.whole;
+        able = able-called c.learn.result new.is_failed called.failed;
         gave = λ t b l f h.
             let o = subst (λ z. HasLife z name l) c.in-Open.is h in
             gave-repository b name l old new c.learn.result (turns.Learning c.args.stamp c.args.committed) (Learning c.args.stamp c.args.committed) refl o.0 (c.learn.ensures.gives t) called.log called.number (stored ∙ o.1);

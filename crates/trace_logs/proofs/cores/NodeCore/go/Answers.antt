@@ -1,15 +1,25 @@
-use Rattle.std.proofs.Common.{refl, subst}
+use Rattle.std.proofs.Common.{rules, refl, subst}
 use Rattle.broker_core.specs.Turns as desks
 use Rattle.world_core.specs.Nodes.Input.{Going}
 use Rattle.trace_logs.specs.Cores.{StandsFor}
 use Rattle.trace_logs.proofs.CoreLemmas.{repository-still, broker-answers}
 use Rattle.trace_logs.proofs.cores.NodeCore.go.Goals as goal
 
-pub returns-in-Repository-clause-gives : goal.returns-in-Repository-clause-gives
-returns-in-Repository-clause-gives c b n log mind s =
-    repository-still b n log mind c.in-Repository.core c.quiet.result Going refl (subst (StandsFor b n log mind) c.in-Repository.is s) c.quiet.ensures
+pub returns-in-Repository : goal.returns-in-Repository
+returns-in-Repository c = record {
+  gave = λ b n log mind s.
+      repository-still b n log mind c.in-Repository.core c.quiet.result Going refl (subst (StandsFor b n log mind) c.in-Repository.is s) c.quiet.ensures;
+  kind = search rules;
+  able = search rules;
+  in_range = search rules;
+}
 
-pub returns-in-Broker-clause-gives : goal.returns-in-Broker-clause-gives
-returns-in-Broker-clause-gives c b n log mind s =
-    broker-answers b n log mind c.in-Broker.core c.go.new.self c.go.result (desks.Go) (Going) refl (subst (StandsFor b n log mind) c.in-Broker.is s)
-    c.go.ensures.gives
+pub returns-in-Broker : goal.returns-in-Broker
+returns-in-Broker c = record {
+  gave = λ b n log mind s.
+      broker-answers b n log mind c.in-Broker.core c.go.new.self c.go.result (desks.Go) (Going) refl (subst (StandsFor b n log mind) c.in-Broker.is s)
+      c.go.ensures.gives;
+  kind = search rules;
+  able = search rules;
+  in_range = search rules;
+}

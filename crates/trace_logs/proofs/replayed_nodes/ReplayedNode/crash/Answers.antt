@@ -21,5 +21,5 @@ returns-clause-lives c b l run start h =
 
 pub returns-clause-sound : goal.returns-clause-sound
 returns-clause-sound c =
-    crashed-sound c.args.self.now (record c.args.self.now { gated = c.append.new.self; fresh = c.replace-found.new.dest; outs = c.clear.new.self; core = c.in_ok-self.field-0 }) c.args.kept c.requires.sound refl refl c.in_ok-self.ensures.kind c.in_ok-self.ensures.whole
+    crashed-sound c.args.self.now (record c.args.self.now { gated = c.append.new.self; fresh = c.replace-found.new.dest; outs = c.clear.new.self; core = c.in_ok-self.field-0 }) c.args.kept c.requires.sound refl refl c.in_ok-self.ensures.kind c.in_ok-self.ensures.able
     (c.in_ok-append.ensures.items ∙ ap (λ z. c.args.self.now.gated.items ++ z) (c.truncate.ensures.items ∙ ap (λ v. take c.args.kept v.items) c.replace-found.ensures.value)) (ap (λ v. v.items) c.replace-found.ensures.after ∙ c.new.ensures.items) c.clear.ensures.items

@@ -17,6 +17,6 @@ returns-in_default-clause-shows c b w h =
 
 pub returns-clause-shows : goal.returns-clause-shows
 returns-clause-shows c b w h =
-    moved-ok b w (entry.Crash c.args.node c.args.kept) c.crash.result c.args.self.now (record c.args.self.now { seats = with_item c.args.self.now.seats c.in-Some.place c.crash.new.self }) c.in-Some.place c.index_mut.result.now c.crash.new.self c.args.node h (λ k. refl)
-    (subst (λ seats. (c.in-Some.place < length seats) × ((d : ReplayedNode) → same_node (get_or seats c.in-Some.place d).node c.args.node ≡ true)) c.as_slice.ensures.value c.in-Some.ensures)
+    moved-ok b w (entry.Crash c.args.node c.args.kept) c.crash.result c.args.self.now (record c.args.self.now { replayed = with_item c.args.self.now.replayed c.in-Some.place c.crash.new.self }) c.in-Some.place c.index_mut.result.now c.crash.new.self c.args.node h (λ k. refl)
+    (subst (λ replayed. (c.in-Some.place < length replayed) × ((d : ReplayedNode) → same_node (get_or replayed c.in-Some.place d).node c.args.node ≡ true)) c.as_slice.ensures.value c.in-Some.ensures)
     c.index_mut.ensures.value c.crash.ensures.node (λ l x. c.crash.ensures.lives b l h.run h.start x) refl refl refl (always c.crash.result (all_posted c.args.self.now.letters.items ≡ sent_by w) h.sent) h.last

@@ -20,6 +20,6 @@ returns-in-None-clause-shows c b w h = still b w (entry.Hear c.args.node) c.args
 
 pub returns-in-Some-last-clause-shows : goal.returns-in-Some-last-clause-shows
 returns-in-Some-last-clause-shows c b w h =
-    moved-ok b w (entry.Hear c.args.node) c.hear.result c.args.self.now (record c.args.self.now { seats = with_item c.args.self.now.seats c.in-Some.place c.hear.new.self }) c.in-Some.place c.index_mut.result.now c.hear.new.self c.args.node h (λ k. refl)
-    (subst (λ seats. (c.in-Some.place < length seats) × ((d : ReplayedNode) → same_node (get_or seats c.in-Some.place d).node c.args.node ≡ true)) c.as_slice.ensures.value c.in-Some.ensures)
+    moved-ok b w (entry.Hear c.args.node) c.hear.result c.args.self.now (record c.args.self.now { replayed = with_item c.args.self.now.replayed c.in-Some.place c.hear.new.self }) c.in-Some.place c.index_mut.result.now c.hear.new.self c.args.node h (λ k. refl)
+    (subst (λ replayed. (c.in-Some.place < length replayed) × ((d : ReplayedNode) → same_node (get_or replayed c.in-Some.place d).node c.args.node ≡ true)) c.as_slice.ensures.value c.in-Some.ensures)
     c.index_mut.ensures.value c.hear.ensures.node (λ l x. heard-last b w c.hear.result c.index_mut.result.now.node c.hear.new.self l c.in-Some-last.moment (sym h.last ∙ c.in-Some-last.is) (c.hear.ensures.lives b l x)) refl refl refl (always c.hear.result (all_posted c.args.self.now.letters.items ≡ sent_by w) h.sent) h.last

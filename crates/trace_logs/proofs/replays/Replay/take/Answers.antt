@@ -23,7 +23,7 @@ returns-in-None-clause-shows c b w h = still b w (entry.Take c.args.node c.args.
 
 pub returns-in-Some-letter_at-clause-shows : goal.returns-in-Some-letter_at-clause-shows
 returns-in-Some-letter_at-clause-shows c b w h =
-    moved-ok b w (entry.Take c.args.node c.args.number) c.take.result c.args.self.now (record c.args.self.now { seats = with_item c.args.self.now.seats c.in-Some.place c.take.new.self }) c.in-Some.place c.index_mut.result.now c.take.new.self c.args.node h (λ k. refl)
-    (subst (λ seats. (c.in-Some.place < length seats) × ((d : ReplayedNode) → same_node (get_or seats c.in-Some.place d).node c.args.node ≡ true)) c.as_slice.ensures.value c.in-Some.ensures)
+    moved-ok b w (entry.Take c.args.node c.args.number) c.take.result c.args.self.now (record c.args.self.now { replayed = with_item c.args.self.now.replayed c.in-Some.place c.take.new.self }) c.in-Some.place c.index_mut.result.now c.take.new.self c.args.node h (λ k. refl)
+    (subst (λ replayed. (c.in-Some.place < length replayed) × ((d : ReplayedNode) → same_node (get_or replayed c.in-Some.place d).node c.args.node ≡ true)) c.as_slice.ensures.value c.in-Some.ensures)
     c.index_mut.ensures.value c.take.ensures.node (λ l x. took-sent b w c.take.result c.index_mut.result.now.node c.take.new.self l c.args.self.now.letters.items c.in-Some-letter_at.letter.now c.args.number h.sent
     (c.in-Some-letter_at.ensures ∙ ap (λ ls. numbered ls c.args.number) c.as_slice-2.ensures.value) (c.take.ensures.lives b l x)) refl refl refl (always c.take.result (all_posted c.args.self.now.letters.items ≡ sent_by w) h.sent) h.last
