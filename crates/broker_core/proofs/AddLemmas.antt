@@ -76,13 +76,7 @@ module _ (acts : List ActSpec) (n : Notes) (answers : List Given) where
 
   phase-may : (me : ℕ) (h : Heard) (p : Phase) → MayBegin acts n answers (by_phase me acts h n p)
   phase-may me h (phase.Stopping o) = tt
-  phase-may me h phase.Idle = due-may me h (n.started == 0) n.spent refl
-  phase-may me h phase.Refused = due-may me h (n.started == 0) n.spent refl
-  phase-may me h phase.Opening = due-may me h (n.started == 0) n.spent refl
-  phase-may me h (phase.Reading o) = due-may me h (n.started == 0) n.spent refl
-  phase-may me h (phase.Writing o v) = due-may me h (n.started == 0) n.spent refl
-  phase-may me h phase.Finishing = due-may me h (n.started == 0) n.spent refl
-  phase-may me h phase.Closing = due-may me h (n.started == 0) n.spent refl
+  phase-may me h x = due-may me h (n.started == 0) n.spent refl
 
   run-may : (me run : ℕ) (h : Heard) (p : Phase) (c : Bool) → MayBegin acts n answers (if c then Some (effect.Run run) else by_phase me acts h n p)
   run-may me run h p true = tt
@@ -115,8 +109,4 @@ module _ (acts : List ActSpec) (n : Notes) (answers : List Given) where
   heard-may me (effect.Got k v) h t = got-may k v (open_last n) (stop_at acts n answers) refl refl t
   heard-may me (effect.Acked k) h t = acked-may k (open_last n) (stop_at acts n answers) refl refl t
   heard-may me (effect.End i o) h t = tt
-  heard-may me (effect.Put o x v) h t = absurd h
-  heard-may me (effect.Stretch o x) h t = absurd h
-  heard-may me (effect.Begin s d) h t = absurd h
-  heard-may me (effect.Decide s d) h t = absurd h
-  heard-may me (effect.Learn s c) h t = absurd h
+  heard-may me f h t = absurd h

@@ -58,29 +58,16 @@ record Leads (script : List ℕ → Tree) (desk : Desk) (added : List Effect) (s
 module _ (script : List ℕ → Tree) (me run : ℕ) (acts : List ActSpec) where
   fit-counts : (b : Book) (f : Effect) → fits script me (tasks acts) b f ≡ true → counts script me run (tasks acts) b f ≡ true
   fit-counts b (effect.Run m) h = h
-  fit-counts b (effect.Act i x t k c' y) h = counted (b.run == run) _ h
-  fit-counts b (effect.Try i t) h = counted (b.run == run) _ h
-  fit-counts b (effect.Got k v) h = counted (b.run == run) _ h
-  fit-counts b (effect.Acked k) h = counted (b.run == run) _ h
-  fit-counts b (effect.End i o) h = counted (b.run == run) _ h
   fit-counts b (effect.Put o x v) h = absurd (false≢true h)
   fit-counts b (effect.Stretch o x) h = absurd (false≢true h)
   fit-counts b (effect.Begin t d) h = absurd (false≢true h)
   fit-counts b (effect.Decide t d) h = absurd (false≢true h)
   fit-counts b (effect.Learn t d) h = absurd (false≢true h)
+  fit-counts b f h = counted (b.run == run) _ h
 
   run-is : (f : Effect) → NoRun f → RunIs script me run (tasks acts) f
   run-is (effect.Run m) h = absurd h
-  run-is (effect.Act i x t k c' y) h = tt
-  run-is (effect.Try i t) h = tt
-  run-is (effect.Got k v) h = tt
-  run-is (effect.Acked k) h = tt
-  run-is (effect.End i o) h = tt
-  run-is (effect.Put o x v) h = tt
-  run-is (effect.Stretch o x) h = tt
-  run-is (effect.Begin t d) h = tt
-  run-is (effect.Decide t d) h = tt
-  run-is (effect.Learn t d) h = tt
+  run-is f h = tt
 
   -- what follows on a desk
   finished : Scripted script acts → (log fresh : List Effect) (d : Desk) (h : Heard) (n : Notes) (raw : List Given) → d.base ≡ reverse log → d.outs ≡ [] → d.heard ≡ h → d.fresh ≡ fresh → At script me run acts n raw d →

@@ -90,13 +90,8 @@ module _ (me : ℕ) (acts : List ActSpec) where
         ap (λ (x : Stop). (k == length t.answers + 1) && writes_now x) (stop-is acts script run b t answers m.scripted m.sound m.here e m.answers_are)
 
     outcome-fits : (b : Book) (answers : List Given) (i : ℕ) (o : Outcome) → Meets script run acts (notes_of b) answers b → fits_at me acts (notes_of b) answers (effect.End i o) ≡ fits_outcome i o b
-    outcome-fits b answers i outcome.Committed k = end-fits b answers i k
-    outcome-fits b answers i (outcome.Withdrawn l) k = end-fits b answers i k
-    outcome-fits b answers i (outcome.Failed l k') k = end-fits b answers i k
-    outcome-fits b answers i (outcome.LaterRead o e) k = end-fits b answers i k
-    outcome-fits b answers i (outcome.LaterVersion o x) k = end-fits b answers i k
-    outcome-fits b answers i (outcome.Expired d m) k = end-fits b answers i k
     outcome-fits b answers i (outcome.Spent c) k = spent-fits i b b.acts (k.sound.started k.here)
+    outcome-fits b answers i o k = end-fits b answers i k
 
     fits-of : (b : Book) (answers : List Given) (f : Effect) → Meets script run acts (notes_of b) answers b → fits_at me acts (notes_of b) answers f ≡ fits script me (tasks acts) b f
     fits-of b answers (effect.Run n) k = refl
@@ -109,11 +104,7 @@ module _ (me : ℕ) (acts : List ActSpec) where
     fits-of b answers (effect.Acked k) m =
         ap (λ (o : Option Last). fits_step_at k o && writes_now (stop_at acts (notes_of b) answers)) (open-is b) ∙ acked-open b answers k (open_try b) m refl
     fits-of b answers (effect.End i o) k = outcome-fits b answers i o k
-    fits-of b answers (effect.Put o x v) k = refl
-    fits-of b answers (effect.Stretch o x) k = refl
-    fits-of b answers (effect.Begin s d) k = refl
-    fits-of b answers (effect.Decide s d) k = refl
-    fits-of b answers (effect.Learn s d) k = refl
+    fits-of b answers f k = refl
 
     pub fits-is : (n : Notes) (answers : List Given) (b : Book) (f : Effect) → Meets script run acts n answers b → fits_at me acts n answers f ≡ fits script me (tasks acts) b f
     fits-is n answers b f k =

@@ -22,17 +22,12 @@ use Rattle.broker_core.proofs.StopLemmas.{told-stop}
 -- what is given to a run that asks for it
 read-next : (n : Next) (a : Value) → IsAnswerTo (stop_of n) (Got a) → (o : ObjectId) × (n ≡ next.Read o)
 read-next (next.Read o) a h = (o, refl)
-read-next (next.Write o v) a h = absurd h
-read-next next.Finished a h = absurd h
-read-next (next.Withdrawn l) a h = absurd h
-read-next (next.Failed l k) a h = absurd h
+read-next x a h = absurd h
 
 write-next : (n : Next) → IsAnswerTo (stop_of n) Stored → (o : ObjectId) × (v : Value) × (n ≡ next.Write o v)
 write-next (next.Read o) h = absurd h
 write-next (next.Write o v) h = (o, v, refl)
-write-next next.Finished h = absurd h
-write-next (next.Withdrawn l) h = absurd h
-write-next (next.Failed l k) h = absurd h
+write-next x h = absurd h
 
 told-asks : (script : List Stmt) (ans : List Answer) (ls : List Line) (n : Next) (a : Answer) → Tells script ans ls n → IsAnswerTo (stop (denote (block script)) ans) a → IsAnswerTo (stop_of n) a
 told-asks script ans ls n a t h = subst (λ (s : Stop). IsAnswerTo s a) (sym (told-stop script ans ls n t)) h

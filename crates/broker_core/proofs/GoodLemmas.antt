@@ -165,13 +165,9 @@ module _ (script : List ℕ → Tree) (me run : ℕ) (plan : List Task) where
 
   stage-good : (b : Book) (h : Heard) (s : Stage) → StopGood b s → Good b (by_stage me plan h b s)
   unfolding StopGood
-  stage-good b h Idle k = due-good h b b.acts refl
-  stage-good b h (Refused t) k = due-good h b b.acts refl
-  stage-good b h (Opening t) k = due-good h b b.acts refl
-  stage-good b h (Asking t q) k = due-good h b b.acts refl
-  stage-good b h (Finishing t) k = due-good h b b.acts refl
   stage-good b h (Stopping t o) k = (counted (b.run == run) _ k, tt, tt)
   stage-good b h (Closing t) k = due-good h b b.acts refl
+  stage-good b h x k = due-good h b b.acts refl
 
   pub owed-good : (b : Book) (h : Heard) → Good b (owed script me run plan b h)
   owed-good b h = run-first (nat_lt b.run run) refl
@@ -212,35 +208,15 @@ module _ (script : List ℕ → Tree) (me run : ℕ) (plan : List Task) where
 
   idle-row : (b : Book) (h : Heard) (m : Message) → ReplyGood b (row script Idle h (news m))
   idle-row b h (message.Begin s n) = tt
-  idle-row b h (message.Begun s) = tt
-  idle-row b h (message.Read x o') = tt
-  idle-row b h (message.Value x v') = tt
-  idle-row b h (message.Write x o' v') = tt
-  idle-row b h (message.Stored x) = tt
-  idle-row b h (message.LaterRead x e') = tt
-  idle-row b h (message.LaterVersion x y) = tt
-  idle-row b h (message.Ended x) = tt
-  idle-row b h (message.Commit s) = tt
-  idle-row b h (message.Withdraw s) = tt
-  idle-row b h (message.Decided s d) = tt
-  idle-row b h (message.Ask s) = tt
-  idle-row b h (message.Tell s c) = tt
+  idle-row b h m = tt
 
   opening-row : (b : Book) (t : Try) (h : Heard) (e : open_try b ≡ Some t) (m : Message) → ReplyGood b (row script (Opening t) h (news m))
   opening-row b t h e (message.Begin s n) = tt
   opening-row b t h e (message.Begun s) = when-good b (same_stamp t.stamp s) _ (λ k. tt)
-  opening-row b t h e (message.Read x o') = tt
-  opening-row b t h e (message.Value x v') = tt
-  opening-row b t h e (message.Write x o' v') = tt
-  opening-row b t h e (message.Stored x) = tt
-  opening-row b t h e (message.LaterRead x e') = tt
-  opening-row b t h e (message.LaterVersion x y) = tt
-  opening-row b t h e (message.Ended x) = tt
-  opening-row b t h e (message.Commit s) = tt
-  opening-row b t h e (message.Withdraw s) = tt
   opening-row b t h e (message.Decided s d) = when-good b (same_stamp t.stamp s) _ (λ k. early-good b (is_finished (stop_of script t)) t d e)
   opening-row b t h e (message.Ask s) = tt
   opening-row b t h e (message.Tell s c) = tt
+  opening-row b t h e m = tt
 
   reading-row : (b : Book) (t : Try) (o : ObjectId) (h : Heard) (e : open_try b ≡ Some t) (q : stop_of script t ≡ Asks (ToRead o)) (m : Message) → ReplyGood b (row script (Asking t (ToRead o)) h (news m))
   reading-row b t o h e q (message.Begin s n) = tt
@@ -252,18 +228,9 @@ module _ (script : List ℕ → Tree) (me run : ℕ) (plan : List Task) where
   reading-row b t o h e q (message.LaterRead x e') = tt
   reading-row b t o h e q (message.LaterVersion x y) = tt
   reading-row b t o h e q (message.Ended x) = when-good b (same_time (time_of t) x) _ (λ k. tt)
-  reading-row b t o h e q (message.Commit s) = tt
-  reading-row b t o h e q (message.Withdraw s) = tt
-  reading-row b t o h e q (message.Decided s d) = tt
-  reading-row b t o h e q (message.Ask s) = tt
-  reading-row b t o h e q (message.Tell s c) = tt
+  reading-row b t o h e q m = tt
 
   writing-row : (b : Book) (t : Try) (o : ObjectId) (v : Value) (h : Heard) (e : open_try b ≡ Some t) (q : stop_of script t ≡ Asks (ToWrite o v)) (m : Message) → ReplyGood b (row script (Asking t (ToWrite o v)) h (news m))
-  writing-row b t o v h e q (message.Begin s n) = tt
-  writing-row b t o v h e q (message.Begun s) = tt
-  writing-row b t o v h e q (message.Read x o') = tt
-  writing-row b t o v h e q (message.Value x v') = tt
-  writing-row b t o v h e q (message.Write x o' v') = tt
   writing-row b t o v h e q (message.Stored x) = when-good b (same_time (time_of t) x) _ (λ k. (acked-good b t o v x e q k, tt))
   writing-row b t o v h e q (message.LaterRead x e') = when-good b (same_time (time_of t) x) _ (λ k. (end-here b t e, tt))
   writing-row b t o v h e q (message.LaterVersion x y) = when-good b (same_time (time_of t) x) _ (λ k. (end-here b t e, tt))
@@ -273,70 +240,29 @@ module _ (script : List ℕ → Tree) (me run : ℕ) (plan : List Task) where
   writing-row b t o v h e q (message.Decided s d) = tt
   writing-row b t o v h e q (message.Ask s) = tt
   writing-row b t o v h e q (message.Tell s c) = tt
+  writing-row b t o v h e q m = tt
 
   finishing-row : (b : Book) (t : Try) (h : Heard) (e : open_try b ≡ Some t) (m : Message) → ReplyGood b (row script (Finishing t) h (news m))
-  finishing-row b t h e (message.Begin s n) = tt
-  finishing-row b t h e (message.Begun s) = tt
-  finishing-row b t h e (message.Read x o') = tt
-  finishing-row b t h e (message.Value x v') = tt
-  finishing-row b t h e (message.Write x o' v') = tt
-  finishing-row b t h e (message.Stored x) = tt
-  finishing-row b t h e (message.LaterRead x e') = tt
-  finishing-row b t h e (message.LaterVersion x y) = tt
-  finishing-row b t h e (message.Ended x) = tt
-  finishing-row b t h e (message.Commit s) = tt
-  finishing-row b t h e (message.Withdraw s) = tt
   finishing-row b t h e (message.Decided s d) = when-good b (same_stamp t.stamp s) _ (λ k. commit-good b t d e)
   finishing-row b t h e (message.Ask s) = tt
   finishing-row b t h e (message.Tell s c) = tt
+  finishing-row b t h e m = tt
 
   refused-row : (b : Book) (t : Try) (h : Heard) (e : open_try b ≡ Some t) (m : Message) → ReplyGood b (row script (Refused t) h (news m))
-  refused-row b t h e (message.Begin s n) = tt
-  refused-row b t h e (message.Begun s) = tt
-  refused-row b t h e (message.Read x o') = tt
-  refused-row b t h e (message.Value x v') = tt
-  refused-row b t h e (message.Write x o' v') = tt
-  refused-row b t h e (message.Stored x) = tt
-  refused-row b t h e (message.LaterRead x e') = tt
-  refused-row b t h e (message.LaterVersion x y) = tt
-  refused-row b t h e (message.Ended x) = tt
-  refused-row b t h e (message.Commit s) = tt
-  refused-row b t h e (message.Withdraw s) = tt
   refused-row b t h e (message.Decided s d) = when-good b (same_stamp t.stamp s) _ (λ k. early-good b false t d e)
   refused-row b t h e (message.Ask s) = tt
   refused-row b t h e (message.Tell s c) = tt
+  refused-row b t h e m = tt
 
   stopping-row : (b : Book) (t : Try) (o : Outcome) (h : Heard) (m : Message) → ReplyGood b (row script (Stopping t o) h (news m))
   stopping-row b t o h (message.Begin s n) = tt
-  stopping-row b t o h (message.Begun s) = tt
-  stopping-row b t o h (message.Read x o') = tt
-  stopping-row b t o h (message.Value x v') = tt
-  stopping-row b t o h (message.Write x o' v') = tt
-  stopping-row b t o h (message.Stored x) = tt
-  stopping-row b t o h (message.LaterRead x e') = tt
-  stopping-row b t o h (message.LaterVersion x y) = tt
-  stopping-row b t o h (message.Ended x) = tt
-  stopping-row b t o h (message.Commit s) = tt
-  stopping-row b t o h (message.Withdraw s) = tt
-  stopping-row b t o h (message.Decided s d) = tt
-  stopping-row b t o h (message.Ask s) = tt
-  stopping-row b t o h (message.Tell s c) = tt
+  stopping-row b t o h m = tt
 
   closing-row : (b : Book) (t : Try) (h : Heard) (m : Message) → ReplyGood b (row script (Closing t) h (news m))
-  closing-row b t h (message.Begin s n) = tt
-  closing-row b t h (message.Begun s) = tt
-  closing-row b t h (message.Read x o') = tt
-  closing-row b t h (message.Value x v') = tt
-  closing-row b t h (message.Write x o' v') = tt
-  closing-row b t h (message.Stored x) = tt
-  closing-row b t h (message.LaterRead x e') = tt
-  closing-row b t h (message.LaterVersion x y) = tt
-  closing-row b t h (message.Ended x) = tt
-  closing-row b t h (message.Commit s) = tt
-  closing-row b t h (message.Withdraw s) = tt
   closing-row b t h (message.Decided s d) = when-good b (same_stamp t.stamp s) _ (λ k. tt)
   closing-row b t h (message.Ask s) = tt
   closing-row b t h (message.Tell s c) = tt
+  closing-row b t h m = tt
 
   pub row-good : (acts : List ActSpec) (b : Book) (s : Stage) (h : Heard) (m : Message) → StageOf script run acts b s → ReplyGood b (row script s h (news m))
   unfolding StageOf

@@ -49,16 +49,12 @@ module _ (script : List ℕ → Tree) (me run : ℕ) (acts : List ActSpec) where
 
   counts-here : (b : Book) (f : Effect) → (b.run == run) ≡ true → counts script me run (tasks acts) b f ≡ fits script me (tasks acts) b f
   counts-here b (effect.Run m) e = refl
-  counts-here b (effect.Act i x t k c y) e = cond (b.run == run) _ e
-  counts-here b (effect.Try i t) e = cond (b.run == run) _ e
-  counts-here b (effect.Got k v) e = cond (b.run == run) _ e
-  counts-here b (effect.Acked k) e = cond (b.run == run) _ e
-  counts-here b (effect.End i o) e = cond (b.run == run) _ e
   counts-here b (effect.Put o x v) e = refl
   counts-here b (effect.Stretch o x) e = refl
   counts-here b (effect.Begin t d) e = refl
   counts-here b (effect.Decide t d) e = refl
   counts-here b (effect.Learn t d) e = refl
+  counts-here b f e = cond (b.run == run) _ e
 
   kept-shows : (n : Notes) (answers : List Given) (log : List Effect) (f : Effect) (c : Bool) → (c ≡ true → Shows run n answers (enter f (book (keep script me run (tasks acts) log)))) →
       (c ≡ false → Shows run n answers (book (keep script me run (tasks acts) log))) → Shows run n answers (book (add_if c f (keep script me run (tasks acts) log)))
@@ -105,12 +101,7 @@ module _ (script : List ℕ → Tree) (me run : ℕ) (acts : List ActSpec) where
 
   closed-clock : (o : _) (b : Book) → (enter (effect.End 0 o) b).clock ≡ b.clock
   closed-clock outcome.Committed b = refl
-  closed-clock (outcome.Withdrawn l) b = refl
-  closed-clock (outcome.Failed l k) b = refl
-  closed-clock (outcome.LaterRead o e) b = refl
-  closed-clock (outcome.LaterVersion o x) b = refl
-  closed-clock (outcome.Expired d m) b = refl
-  closed-clock (outcome.Spent c) b = refl
+  closed-clock o b = refl
 
   begun-run : (n : Notes) (raw : List Given) (b : Book) (m : ℕ) → Shows run n (kept n raw) b → Shows run (run_begun m n) (kept (run_begun m n) raw) (enter (effect.Run m) b)
   begun-run n raw b m s = record {
@@ -153,11 +144,7 @@ module _ (script : List ℕ → Tree) (me run : ℕ) (acts : List ActSpec) where
   away-shows l log (effect.End i o) t e =
       rest-shows l.notes l.notes l.answers log (effect.End i o) _ t.shows e (closed-run o (book (keep script me run (tasks acts) log))) refl
       (λ _. t.shows.clock_is ∙ sym (closed-clock o (book (keep script me run (tasks acts) log)))) (λ _. t.shows.clock_is)
-  away-shows l log (effect.Put o x v) t e = t.shows
-  away-shows l log (effect.Stretch o x) t e = t.shows
-  away-shows l log (effect.Begin s d) t e = t.shows
-  away-shows l log (effect.Decide s d) t e = t.shows
-  away-shows l log (effect.Learn s d) t e = t.shows
+  away-shows l log f t e = t.shows
 
   -- each effect
   one-took : Scripted script acts → (l : LedgerParts) (log : List Effect) (f : Effect) (c : Bool) → Took l log → ((book (keep script me run (tasks acts) log)).run == run) ≡ c →
@@ -216,15 +203,7 @@ module _ (script : List ℕ → Tree) (me run : ℕ) (acts : List ActSpec) where
   unfit-book : (b : Book) (f : Effect) → (if b.run == run then unfit_index (fits script me (tasks acts) b f) f else None) ≡ unfit_act script me run (tasks acts) b f
   unfit-book b (effect.Run n) = none-either (b.run == run)
   unfit-book b (effect.Act i x t k c y) = act-unfit (b.run == run) (fits script me (tasks acts) b (effect.Act i x t k c y)) i
-  unfit-book b (effect.Try i s) = none-either (b.run == run)
-  unfit-book b (effect.Got k v) = none-either (b.run == run)
-  unfit-book b (effect.Acked k) = none-either (b.run == run)
-  unfit-book b (effect.End i o) = none-either (b.run == run)
-  unfit-book b (effect.Put o x v) = none-either (b.run == run)
-  unfit-book b (effect.Stretch o x) = none-either (b.run == run)
-  unfit-book b (effect.Begin s d) = none-either (b.run == run)
-  unfit-book b (effect.Decide s d) = none-either (b.run == run)
-  unfit-book b (effect.Learn s d) = none-either (b.run == run)
+  unfit-book b f = none-either (b.run == run)
 
   unfit-is : Scripted script acts → (l : LedgerParts) (log : List Effect) (f : Effect) → Took l log → unfit_at l f ≡ unfit_act script me run (tasks acts) (book (keep script me run (tasks acts) log)) f
   unfit-is m l log f t =

@@ -165,9 +165,6 @@ module _ (script : List ℕ → Tree) (me run : ℕ) (acts : List ActSpec) where
       }
 
   end-shows : (raw : List Given) (b : Book) (i : ℕ) (o : Outcome) → Meets script run acts (notes_of b) (kept (notes_of b) raw) b → fits script me (tasks acts) b (effect.End i o) ≡ true → ShowsAfter raw b (effect.End i o)
-  end-shows raw b i outcome.Committed k h = let t = open-of-end i (open_try b) h in finish-shows raw b t.0 outcome.Committed b.shown k t.1
-  end-shows raw b i (outcome.Withdrawn l) k h = let t = open-of-end i (open_try b) h in finish-shows raw b t.0 (outcome.Withdrawn l) b.shown k t.1
-  end-shows raw b i (outcome.Failed l k') k h = let t = open-of-end i (open_try b) h in finish-shows raw b t.0 (outcome.Failed l k') b.shown k t.1
   end-shows raw b i (outcome.LaterRead o e) k h = let t = open-of-end i (open_try b) h in finish-shows raw b t.0 (outcome.LaterRead o e) (max b.shown e.stamp.clock) k t.1
   end-shows raw b i (outcome.LaterVersion o x) k h = let t = open-of-end i (open_try b) h in finish-shows raw b t.0 (outcome.LaterVersion o x) (max b.shown x.stamp.clock) k t.1
   end-shows raw b i (outcome.Expired d m) k h = let t = open-of-end i (open_try b) h in finish-shows raw b t.0 (outcome.Expired d m) b.shown k t.1
@@ -177,6 +174,7 @@ module _ (script : List ℕ → Tree) (me run : ℕ) (acts : List ActSpec) where
     notes_are = λ r. spent-notes i c b b.acts h;
     answers_are = λ r. k.answers_are ∙ ap answers_of_last (sym (spent-last c b.acts));
   }
+  end-shows raw b i o k h = let t = open-of-end i (open_try b) h in finish-shows raw b t.0 o b.shown k t.1
 
   shows-after : (raw : List Given) (b : Book) (f : Effect) → Meets script run acts (notes_of b) (kept (notes_of b) raw) b → fits script me (tasks acts) b f ≡ true → ShowsAfter raw b f
   shows-after raw b (effect.Run n) k h = record { run_is = refl; clock_is = refl; notes_are = λ r. refl; answers_are = λ r. refl }
@@ -195,11 +193,7 @@ module _ (script : List ℕ → Tree) (me run : ℕ) (acts : List ActSpec) where
   shows-after raw b (effect.Got n v) k h = let t = open-of-got script n (open_try b) h in answer-shows raw b t.0 (given.Got v) k t.1
   shows-after raw b (effect.Acked n) k h = let t = open-of-acked script n (open_try b) h in answer-shows raw b t.0 given.Stored k t.1
   shows-after raw b (effect.End i o) k h = end-shows raw b i o k h
-  shows-after raw b (effect.Put o x v) k h = absurd (false≢true h)
-  shows-after raw b (effect.Stretch o x) k h = absurd (false≢true h)
-  shows-after raw b (effect.Begin s d) k h = absurd (false≢true h)
-  shows-after raw b (effect.Decide s d) k h = absurd (false≢true h)
-  shows-after raw b (effect.Learn s d) k h = absurd (false≢true h)
+  shows-after raw b f k h = absurd (false≢true h)
 
   pub noted-shows : (n : Notes) (raw : List Given) (b : Book) (f : Effect) → Meets script run acts n (kept n raw) b → fits script me (tasks acts) b f ≡ true →
       Shows run (noted acts f n) (kept (noted acts f n) (answers_noted f n raw)) (enter f b)

@@ -114,13 +114,11 @@ Starts (effect.Try i s) n = n.started ≢ 0
 Starts _ n = Unit {0}
 
 shown-range : (o : Outcome) (n : ℕ) → IsOutcome o → n ≤ 1099511627775 → shown_by o n ≤ 1099511627775
-shown-range outcome.Committed n h k = k
-shown-range (outcome.Withdrawn l) n h k = k
-shown-range (outcome.Failed l f) n h k = k
 shown-range (outcome.LaterRead o e) n h k = max-le k (let c = h.1.stamp_in_range.clock_high in omega arith)
 shown-range (outcome.LaterVersion o x) n h k = max-le k (let c = h.1.stamp_in_range.clock_high in omega arith)
 shown-range (outcome.Expired d m) n h k = k
 shown-range (outcome.Spent c) n h k = k
+shown-range o n h k = k
 
 end-InRange : (o : Outcome) (n : Notes) (answers : List Given) → IsOutcome o → AreInRange n answers → AreInRange (end_noted o n) answers
 end-InRange (outcome.Spent c) n answers e h = record { begun = h.begun; shown = h.shown; stamp = h.stamp; answers_fit = h.answers_fit }
@@ -147,11 +145,7 @@ changed-InRange acts (effect.Try i x) n answers e s h = record { begun = λ k. s
 changed-InRange acts (effect.Got k v) n answers e s h = h
 changed-InRange acts (effect.Acked k) n answers e s h = h
 changed-InRange acts (effect.End i o) n answers e s h = end-InRange o n answers e.0.1 h
-changed-InRange acts (effect.Put o x v) n answers e s h = h
-changed-InRange acts (effect.Stretch o x) n answers e s h = h
-changed-InRange acts (effect.Begin x d) n answers e s h = h
-changed-InRange acts (effect.Decide x d) n answers e s h = h
-changed-InRange acts (effect.Learn x c) n answers e s h = h
+changed-InRange acts f n answers e s h = h
 
 answered-InRange : (n : Notes) (answers : List Given) (g : Given) → GivenInRange g → AreInRange n answers
     → AreInRange (record n { last = option_map (λ (l : Last). record l { answered = l.answered + 1 }) n.last }) (kept n answers ++ g ∷ [])
@@ -169,11 +163,7 @@ added-InRange l (effect.Try i x) e s h = changed-InRange l.acts (effect.Try i x)
 added-InRange l (effect.Got k v) e s h = answered-InRange l.notes l.answers (given.Got v) e.0.1 h
 added-InRange l (effect.Acked k) e s h = answered-InRange l.notes l.answers given.Stored tt h
 added-InRange l (effect.End i o) e s h = changed-InRange l.acts (effect.End i o) l.notes l.answers e s h
-added-InRange l (effect.Put o x v) e s h = h
-added-InRange l (effect.Stretch o x) e s h = h
-added-InRange l (effect.Begin x d) e s h = h
-added-InRange l (effect.Decide x d) e s h = h
-added-InRange l (effect.Learn x c) e s h = h
+added-InRange l f e s h = h
 
 -- ---- a log that is taken up
 
@@ -181,14 +171,7 @@ passed-InRange : (f : Effect) (n : Notes) (answers : List Given) → AreInRange 
 passed-InRange (effect.Run m) n answers h = by_test (nat_lt n.run m) (λ c. AreInRange (cond c (run_begun m n) n) answers) (λ e. run-InRange m n answers) (λ e. h)
 passed-InRange (effect.Act i x t k c y) n answers h = h
 passed-InRange (effect.Try i x) n answers h = record { begun = h.begun; shown = h.shown; stamp = h.stamp; answers_fit = h.answers_fit }
-passed-InRange (effect.Got k v) n answers h = h
-passed-InRange (effect.Acked k) n answers h = h
-passed-InRange (effect.End i o) n answers h = h
-passed-InRange (effect.Put o x v) n answers h = h
-passed-InRange (effect.Stretch o x) n answers h = h
-passed-InRange (effect.Begin x d) n answers h = h
-passed-InRange (effect.Decide x d) n answers h = h
-passed-InRange (effect.Learn x c) n answers h = h
+passed-InRange f n answers h = h
 
 starts-by : (me : ℕ) (acts : List ActSpec) (n : Notes) (i : ℕ) (s : StampParts) (c : Bool) → (n.started == 0) ≡ c → fits_try_at me (cond c None (slice_get acts (n.started - 1))) i s n ≡ true → n.started ≢ 0
 starts-by me acts n i s true e h = absurd (false≢true h)
@@ -198,14 +181,7 @@ starts-of : (l : LedgerParts) (f : Effect) → fits_now l f ≡ true → Starts 
 starts-of l (effect.Run m) h = tt
 starts-of l (effect.Act i x t k c y) h = tt
 starts-of l (effect.Try i x) h = starts-by l.number l.acts l.notes i x (l.notes.started == 0) refl h
-starts-of l (effect.Got k v) h = tt
-starts-of l (effect.Acked k) h = tt
-starts-of l (effect.End i o) h = tt
-starts-of l (effect.Put o x v) h = tt
-starts-of l (effect.Stretch o x) h = tt
-starts-of l (effect.Begin x d) h = tt
-starts-of l (effect.Decide x d) h = tt
-starts-of l (effect.Learn x c) h = tt
+starts-of l f h = tt
 
 abbrev LedgerInRange : LedgerParts → Type 0
 LedgerInRange l = AreInRange l.notes l.answers
@@ -245,12 +221,7 @@ pub record Fit (acts : List ActSpec) (answers : List Given) (n : Notes) : Type 0
 
 end-same : (o : Outcome) (n : Notes) → ((end_noted o n).started ≡ n.started) × ((end_noted o n).clock ≡ n.clock)
 end-same outcome.Committed n = (refl, refl)
-end-same (outcome.Withdrawn l) n = (refl, refl)
-end-same (outcome.Failed l k) n = (refl, refl)
-end-same (outcome.LaterRead o e) n = (refl, refl)
-end-same (outcome.LaterVersion o x) n = (refl, refl)
-end-same (outcome.Expired d m) n = (refl, refl)
-end-same (outcome.Spent c) n = (refl, refl)
+end-same o n = (refl, refl)
 
 end-Fit : (acts : List ActSpec) (answers : List Given) (o : Outcome) (n : Notes) → IsOutcome o → Fit acts answers n → Fit acts answers (end_noted o n)
 end-Fit acts answers o n e h =
@@ -262,14 +233,7 @@ heard-Fit : (l : LedgerParts) (f : Effect) → IsEffect f → IsHeard f → Fit 
 heard-Fit l (effect.Got k v) e is h = record { started = h.started; clock = h.clock; range = added-InRange l (effect.Got k v) e tt h.range }
 heard-Fit l (effect.Acked k) e is h = record { started = h.started; clock = h.clock; range = added-InRange l (effect.Acked k) e tt h.range }
 heard-Fit l (effect.End i o) e is h = end-Fit l.acts l.answers o l.notes e.0.1 h
-heard-Fit l (effect.Run m) e is h = absurd is
-heard-Fit l (effect.Act i x t k c y) e is h = absurd is
-heard-Fit l (effect.Try i x) e is h = absurd is
-heard-Fit l (effect.Put o x v) e is h = absurd is
-heard-Fit l (effect.Stretch o x) e is h = absurd is
-heard-Fit l (effect.Begin x d) e is h = absurd is
-heard-Fit l (effect.Decide x d) e is h = absurd is
-heard-Fit l (effect.Learn x c) e is h = absurd is
+heard-Fit l f e is h = absurd is
 
 module _ (acts : List ActSpec) (each : Every IsAct acts) where
   act-there : (n : Notes) → n.started ≢ 0 → n.started ≤ length acts → Holds IsAct (act_at acts n)
@@ -415,12 +379,7 @@ module _ (acts : List ActSpec) (each : Every IsAct acts) where
     by-phase : (hd : Heard) (n : Notes) (p : Phase) → Fit acts answers n → PhaseFits n p → OwedFits n (by_phase me acts hd n p)
     by-phase hd n (phase.Stopping o) h (b, k) = (((index-there (act_at acts n) (act-there n b h.started), k), refl), end-Fit acts answers o n k h)
     by-phase hd n phase.Idle h k = due-fits hd n h
-    by-phase hd n phase.Refused h k = due-fits hd n h
-    by-phase hd n phase.Opening h k = due-fits hd n h
-    by-phase hd n (phase.Reading o) h k = due-fits hd n h
-    by-phase hd n (phase.Writing o v) h k = due-fits hd n h
-    by-phase hd n phase.Finishing h k = due-fits hd n h
-    by-phase hd n phase.Closing h k = due-fits hd n h
+    by-phase hd n x h k = due-fits hd n h
 
     owed-fits : (hd : Heard) (n : Notes) → Fit acts answers n → OwedFits n (owed_now me run acts answers hd n)
     owed-fits hd n h =
@@ -455,13 +414,11 @@ module _ (acts : List ActSpec) (each : Every IsAct acts) where
 
   standing-for : (n : Notes) (l : Last) (p : Phase) → n.started ≤ length acts → IsStamp l.stamp → l.answered ≤ 10000 → PhaseFits n p → OutFits (standing_for (timeout_of (act_at acts n)) l p)
   standing-for n l phase.Idle started s few k = tt
-  standing-for n l phase.Refused started s few k = s
   standing-for n l phase.Opening started s few k = (s, timeout-there (act_at acts n) (act-there n k started))
   standing-for n l (phase.Reading o) started s few k = (time-fits l s few, k.1)
   standing-for n l (phase.Writing o v) started s few k = (time-fits l s few, k.1, k.2)
-  standing-for n l phase.Finishing started s few k = s
   standing-for n l (phase.Stopping o) started s few k = tt
-  standing-for n l phase.Closing started s few k = s
+  standing-for n l x started s few k = s
 
   standing-fits : (n : Notes) (p : Phase) → n.started ≤ length acts → HasStamp n.last → answered_in n.last ≤ 10000 → PhaseFits n p → OutFits (standing_at acts n p)
   standing-fits n p started s few k = go n.last s few
@@ -537,11 +494,7 @@ module _ (acts : List ActSpec) (each : Every IsAct acts) where
   reply-for n s l phase.Opening h m started k is = opening-fits (index_of (act_at acts n)) _ l h m (index-there (act_at acts n) (act-there n k started)) is
   reply-for n s l (phase.Reading o) h m started k is = reading-fits l h m is
   reply-for n s l (phase.Writing o v) h m started k is = writing-fits (index_of (act_at acts n)) o l h m (index-there (act_at acts n) (act-there n k.0 started)) k.1 is
-  reply-for n s l phase.Idle h m started k is = decision-fits n l phase.Idle h (decided_of l.stamp m) started k (decided-fits l.stamp m is)
-  reply-for n s l phase.Refused h m started k is = decision-fits n l phase.Refused h (decided_of l.stamp m) started k (decided-fits l.stamp m is)
-  reply-for n s l phase.Finishing h m started k is = decision-fits n l phase.Finishing h (decided_of l.stamp m) started k (decided-fits l.stamp m is)
-  reply-for n s l (phase.Stopping o) h m started k is = decision-fits n l (phase.Stopping o) h (decided_of l.stamp m) started k (decided-fits l.stamp m is)
-  reply-for n s l phase.Closing h m started k is = decision-fits n l phase.Closing h (decided_of l.stamp m) started k (decided-fits l.stamp m is)
+  reply-for n s l x h m started k is = decision-fits n l x h (decided_of l.stamp m) started k (decided-fits l.stamp m is)
 
   reply-fits : (n : Notes) (gs : List Given) (p : Phase) (h : Heard) (m : Message) → n.started ≤ length acts → PhaseFits n p → IsMessage m → ReplyFits (reply_at acts n gs p h m)
   reply-fits n gs p h m started k is = go n.last

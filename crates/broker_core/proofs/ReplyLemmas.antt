@@ -69,100 +69,36 @@ module _ (script : List ℕ → Tree) where
   stopping-is t e h m = still-stopping t.task.index (last_of t) h e (decided_of t.stamp m)
 
   opening-is : (t : Try) (h : Heard) (m : Message) → opening_row t.task.index (finished_for m (stop_of script t)) (last_of t) h m ≡ row script (Opening t) h (news m)
-  opening-is t h (message.Begin s n) = refl
-  opening-is t h (message.Begun s) = refl
-  opening-is t h (message.Read x o') = refl
-  opening-is t h (message.Value x v') = refl
-  opening-is t h (message.Write x o' v') = refl
-  opening-is t h (message.Stored x) = refl
-  opening-is t h (message.LaterRead x e) = refl
-  opening-is t h (message.LaterVersion x y) = refl
-  opening-is t h (message.Ended x) = refl
-  opening-is t h (message.Commit s) = refl
-  opening-is t h (message.Withdraw s) = refl
   opening-is t h (message.Decided s d) = ap (when (same_stamp t.stamp s)) (early-is (is_finished (stop_of script t)) t d)
   opening-is t h (message.Ask s) = refl
   opening-is t h (message.Tell s c) = refl
+  opening-is t h m = refl
 
   reading-is : (t : Try) (o : ObjectId) (h : Heard) (m : Message) → reading_row (last_of t) h m ≡ row script (Asking t (ToRead o)) h (news m)
   reading-is t o h (message.Begin s n) = refl
-  reading-is t o h (message.Begun s) = refl
-  reading-is t o h (message.Read x o') = refl
-  reading-is t o h (message.Value x v') = refl
-  reading-is t o h (message.Write x o' v') = refl
-  reading-is t o h (message.Stored x) = refl
-  reading-is t o h (message.LaterRead x e) = refl
-  reading-is t o h (message.LaterVersion x y) = refl
-  reading-is t o h (message.Ended x) = refl
-  reading-is t o h (message.Commit s) = refl
-  reading-is t o h (message.Withdraw s) = refl
-  reading-is t o h (message.Decided s d) = refl
-  reading-is t o h (message.Ask s) = refl
-  reading-is t o h (message.Tell s c) = refl
+  reading-is t o h m = refl
 
   writing-is : (t : Try) (o : ObjectId) (v : Value) (h : Heard) (m : Message) → writing_row t.task.index o (last_of t) h m ≡ row script (Asking t (ToWrite o v)) h (news m)
   writing-is t o v h (message.Begin s n) = refl
-  writing-is t o v h (message.Begun s) = refl
-  writing-is t o v h (message.Read x o') = refl
-  writing-is t o v h (message.Value x v') = refl
-  writing-is t o v h (message.Write x o' v') = refl
-  writing-is t o v h (message.Stored x) = refl
-  writing-is t o v h (message.LaterRead x e) = refl
-  writing-is t o v h (message.LaterVersion x y) = refl
-  writing-is t o v h (message.Ended x) = refl
-  writing-is t o v h (message.Commit s) = refl
-  writing-is t o v h (message.Withdraw s) = refl
-  writing-is t o v h (message.Decided s d) = refl
-  writing-is t o v h (message.Ask s) = refl
-  writing-is t o v h (message.Tell s c) = refl
+  writing-is t o v h m = refl
 
   finishing-is : (t : Try) (h : Heard) (m : Message) → deciding_row t.task.index (last_of t) phase.Finishing h m ≡ row script (Finishing t) h (news m)
-  finishing-is t h (message.Begin s n) = refl
-  finishing-is t h (message.Begun s) = refl
-  finishing-is t h (message.Read x o') = refl
-  finishing-is t h (message.Value x v') = refl
-  finishing-is t h (message.Write x o' v') = refl
-  finishing-is t h (message.Stored x) = refl
-  finishing-is t h (message.LaterRead x e) = refl
-  finishing-is t h (message.LaterVersion x y) = refl
-  finishing-is t h (message.Ended x) = refl
-  finishing-is t h (message.Commit s) = refl
-  finishing-is t h (message.Withdraw s) = refl
   finishing-is t h (message.Decided s d) = commit-if (same_stamp t.stamp s) t h d
   finishing-is t h (message.Ask s) = refl
   finishing-is t h (message.Tell s c) = refl
+  finishing-is t h m = refl
 
   refused-is : (t : Try) (h : Heard) (m : Message) → deciding_row t.task.index (last_of t) phase.Refused h m ≡ row script (Refused t) h (news m)
-  refused-is t h (message.Begin s n) = refl
-  refused-is t h (message.Begun s) = refl
-  refused-is t h (message.Read x o') = refl
-  refused-is t h (message.Value x v') = refl
-  refused-is t h (message.Write x o' v') = refl
-  refused-is t h (message.Stored x) = refl
-  refused-is t h (message.LaterRead x e) = refl
-  refused-is t h (message.LaterVersion x y) = refl
-  refused-is t h (message.Ended x) = refl
-  refused-is t h (message.Commit s) = refl
-  refused-is t h (message.Withdraw s) = refl
   refused-is t h (message.Decided s d) = early-if (same_stamp t.stamp s) t h d
   refused-is t h (message.Ask s) = refl
   refused-is t h (message.Tell s c) = refl
+  refused-is t h m = refl
 
   closing-is : (t : Try) (h : Heard) (m : Message) → deciding_row t.task.index (last_of t) phase.Closing h m ≡ row script (Closing t) h (news m)
-  closing-is t h (message.Begin s n) = refl
-  closing-is t h (message.Begun s) = refl
-  closing-is t h (message.Read x o') = refl
-  closing-is t h (message.Value x v') = refl
-  closing-is t h (message.Write x o' v') = refl
-  closing-is t h (message.Stored x) = refl
-  closing-is t h (message.LaterRead x e) = refl
-  closing-is t h (message.LaterVersion x y) = refl
-  closing-is t h (message.Ended x) = refl
-  closing-is t h (message.Commit s) = refl
-  closing-is t h (message.Withdraw s) = refl
   closing-is t h (message.Decided s d) = closed-if (same_stamp t.stamp s) t h d
   closing-is t h (message.Ask s) = refl
   closing-is t h (message.Tell s c) = refl
+  closing-is t h m = refl
 
 module _ (script : List ℕ → Tree) (run : ℕ) (acts : List ActSpec) where
   at-last-try : (b : Book) (t : Try) (i : ℕ) (s : Stop) (p : Phase) (h : Heard) (m : Message) → last_try b ≡ Some t → reply_by i s (option_map last_of (last_try b)) p h m ≡ reply_for i s (last_of t) p h m

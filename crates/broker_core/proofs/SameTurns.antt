@@ -20,7 +20,7 @@ use Rattle.broker_core.specs.Tests.{is_time, is_stamp}
 use Rattle.broker_core.specs.Tasks.{Task}
 use Rattle.broker_core.specs.Book.{Try, Act, Book, book, open_try, open_of, open_front, if_open, last_try, time_of}
 use Rattle.broker_core.specs.Fits.{stop_of, reads_now, writes_now, fits_got, fits_acked, counts, add_if, keep, unfit_act, other_plan, first_some, resume_fault, plan_fault, is_none}
-use Rattle.broker_core.specs.Stages.{Stage, Idle, Refused, Opening, Asking, Finishing, Stopping, Closing, stage, stage_of, by_last, by_stop, is_finished, standing, is_asking, no_answer, is_closed}
+use Rattle.broker_core.specs.Stages.{Stage, Idle, Refused, Opening, Closing, stage, stage_of, by_last, by_stop, is_finished, standing, is_asking, no_answer, is_closed}
 use Rattle.broker_core.specs.Owed.{owed, by_stage}
 use Rattle.broker_core.specs.Rows.{News, Begun, Answered, Refusal, Over_there, Decided, Nothing_new, row, when, decided_early, news}
 use Rattle.broker_core.specs.Turns.{Desk, all_effects, note, hears, send, note_if, fuel, state, settle_up, say, reply, desk_turn, Input, Go, Hear, Take}
@@ -68,12 +68,7 @@ module _ (s s' : List ℕ → Tree) (me run : ℕ) (plan : List Task) (agree : (
   counts-same b (effect.Try i x) h = refl
   counts-same b (effect.Got k v) h = if-same (b.run == run) _ _ true (λ r. got-same k (open_try b) (open-same b h (eqb-true _ _ r)))
   counts-same b (effect.Acked k) h = if-same (b.run == run) _ _ true (λ r. acked-same k (open_try b) (open-same b h (eqb-true _ _ r)))
-  counts-same b (effect.End i o) h = refl
-  counts-same b (effect.Put o x v) h = refl
-  counts-same b (effect.Stretch o x) h = refl
-  counts-same b (effect.Begin x d) h = refl
-  counts-same b (effect.Decide x d) h = refl
-  counts-same b (effect.Learn x d) h = refl
+  counts-same b f h = refl
 
   pub keep-same : (log : List Effect) → keep s me run plan log ≡ keep s' me run plan log
   unfolding keep
@@ -149,11 +144,7 @@ module _ (s s' : List ℕ → Tree) (me run : ℕ) (plan : List Task) (agree : (
   row-same (Opening t) h (Decided x d) k = ap (λ st. when (same_stamp t.stamp x) (decided_early (is_finished st) t d)) (k t refl)
   row-same (Opening t) h Nothing_new k = refl
   row-same Idle h n k = refl
-  row-same (Refused t) h n k = refl
-  row-same (Asking t q) h n k = refl
-  row-same (Finishing t) h n k = refl
-  row-same (Stopping t o) h n k = refl
-  row-same (Closing t) h n k = refl
+  row-same x h n k = refl
 
   -- an attempt that opens is the open one
   by-stop-not : (u : Try) (st : Stop) (t : Try) → by_stop u st ≡ Opening t → u ≡ t
@@ -205,16 +196,7 @@ module _ (s s' : List ℕ → Tree) (me run : ℕ) (plan : List Task) (agree : (
 
   unfit-same : (b : Book) (f : Effect) → unfit_act s me run plan b f ≡ unfit_act s' me run plan b f
   unfit-same b (effect.Run n) = refl
-  unfit-same b (effect.Act i x t k c y) = refl
-  unfit-same b (effect.Try i x) = refl
-  unfit-same b (effect.Got k v) = refl
-  unfit-same b (effect.Acked k) = refl
-  unfit-same b (effect.End i o) = refl
-  unfit-same b (effect.Put o x v) = refl
-  unfit-same b (effect.Stretch o x) = refl
-  unfit-same b (effect.Begin x d) = refl
-  unfit-same b (effect.Decide x d) = refl
-  unfit-same b (effect.Learn x d) = refl
+  unfit-same b f = refl
 
   other-same : (log : List Effect) → other_plan s me run plan log ≡ other_plan s' me run plan log
   unfolding other_plan

@@ -78,22 +78,12 @@ module _ (plan : List Task) where
   tried-on s as' h = (started-on plan _ (λ a. refl) as' h.0, of-on _ (λ a k. ((refl, refl), k)) as' h.1)
 
   closed-both : (o : Outcome) (b : Book) → Both plan b.acts → Both plan (close o b).acts
-  closed-both outcome.Committed b h = on-tries (finish outcome.Committed) (λ t. (refl, refl)) b.acts h
-  closed-both (outcome.Withdrawn l) b h = on-tries (finish (outcome.Withdrawn l)) (λ t. (refl, refl)) b.acts h
-  closed-both (outcome.Failed l k) b h = on-tries (finish (outcome.Failed l k)) (λ t. (refl, refl)) b.acts h
-  closed-both (outcome.LaterRead o e) b h = on-tries (finish (outcome.LaterRead o e)) (λ t. (refl, refl)) b.acts h
-  closed-both (outcome.LaterVersion o x) b h = on-tries (finish (outcome.LaterVersion o x)) (λ t. (refl, refl)) b.acts h
-  closed-both (outcome.Expired d m) b h = on-tries (finish (outcome.Expired d m)) (λ t. (refl, refl)) b.acts h
   closed-both (outcome.Spent c) b h = spent-on c b.acts h
+  closed-both o b h = on-tries (finish o) (λ t. (refl, refl)) b.acts h
 
 pub closed-run : (o : Outcome) (b : Book) → (close o b).run ≡ b.run
 closed-run outcome.Committed b = refl
-closed-run (outcome.Withdrawn l) b = refl
-closed-run (outcome.Failed l k) b = refl
-closed-run (outcome.LaterRead o e) b = refl
-closed-run (outcome.LaterVersion o x) b = refl
-closed-run (outcome.Expired d m) b = refl
-closed-run (outcome.Spent c) b = refl
+closed-run o b = refl
 
 pub here : (e f : Bool) → e ≡ true → (if e then f else true) ≡ true → f ≡ true
 here true f k h = h
@@ -113,11 +103,7 @@ module _ (script : List ℕ → Tree) (me run : ℕ) (plan : List Task) where
   fine-enter b (effect.Got k v) h c r = on-tries plan _ (λ t. (refl, refl)) b.acts (h r)
   fine-enter b (effect.Acked k) h c r = on-tries plan _ (λ t. (refl, refl)) b.acts (h r)
   fine-enter b (effect.End i o) h c r = closed-both plan o b (h (sym (closed-run o b) ∙ r))
-  fine-enter b (effect.Put o x v) h c r = h r
-  fine-enter b (effect.Stretch o x) h c r = h r
-  fine-enter b (effect.Begin s d) h c r = h r
-  fine-enter b (effect.Decide s d) h c r = h r
-  fine-enter b (effect.Learn s d) h c r = h r
+  fine-enter b f h c r = h r
 
   fine-if : (c : Bool) (f : Effect) (kept : List Effect) → Fine (book kept) → (c ≡ true → Fine (book (f ∷ kept))) → Fine (book (add_if c f kept))
   fine-if true f kept h k = k refl

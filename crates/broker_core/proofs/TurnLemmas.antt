@@ -37,12 +37,7 @@ module _ (script : List ℕ → Tree) (me run : ℕ) (acts : List ActSpec) where
   plain-shows n raw b (effect.Try i t) p s = s
   plain-shows n raw b (effect.Got k v) p s = absurd p
   plain-shows n raw b (effect.Acked k) p s = absurd p
-  plain-shows n raw b (effect.End i o) p s = s
-  plain-shows n raw b (effect.Put o x v) p s = s
-  plain-shows n raw b (effect.Stretch o x) p s = s
-  plain-shows n raw b (effect.Begin t d) p s = s
-  plain-shows n raw b (effect.Decide t d) p s = s
-  plain-shows n raw b (effect.Learn t d) p s = s
+  plain-shows n raw b f p s = s
 
   -- an effect that counts in this run fits
   fit-here : (b : Book) (f : Effect) → b.run ≡ run → IsPlain f → counts script me run (tasks acts) b f ≡ true → fits script me (tasks acts) b f ≡ true
@@ -52,11 +47,7 @@ module _ (script : List ℕ → Tree) (me run : ℕ) (acts : List ActSpec) where
   fit-here b (effect.Got k v) r p c = absurd p
   fit-here b (effect.Acked k) r p c = absurd p
   fit-here b (effect.End i o) r p c = here (b.run == run) _ (eq-eqb b.run run r) c
-  fit-here b (effect.Put o x v) r p c = c
-  fit-here b (effect.Stretch o x) r p c = c
-  fit-here b (effect.Begin t d) r p c = c
-  fit-here b (effect.Decide t d) r p c = c
-  fit-here b (effect.Learn t d) r p c = c
+  fit-here b f r p c = c
 
   at-most : (m n : ℕ) → m ≡ n → m ≤ n
   at-most m n e = omega arith
@@ -71,11 +62,7 @@ module _ (script : List ℕ → Tree) (me run : ℕ) (acts : List ActSpec) where
   not-later b (effect.Got k v) l r = l
   not-later b (effect.Acked k) l r = l
   not-later b (effect.End i o) l r = still (enter (effect.End i o) b).run b.run (closed-run o b) l
-  not-later b (effect.Put o x v) l r = l
-  not-later b (effect.Stretch o x) l r = l
-  not-later b (effect.Begin t d) l r = l
-  not-later b (effect.Decide t d) l r = l
-  not-later b (effect.Learn t d) l r = l
+  not-later b f l r = l
 
   begins-late : (m : ℕ) → m ≤ run → (m == run) ≡ false → nat_lt m run ≡ true
   begins-late m h e = grind (arith, common_steps)

@@ -68,22 +68,12 @@ module _ (script : List ℕ → Tree) (me run : ℕ) (acts : List Task) where
   )
 
   closed-below : (o : Outcome) (b : Book) → Every (IsBelow me b.clock) (tries_of b.acts) → Every (IsBelow me (close o b).clock) (tries_of (close o b).acts)
-  closed-below outcome.Committed b h = restamped (finish outcome.Committed) (λ t. refl) b.clock b.acts h
-  closed-below (outcome.Withdrawn l) b h = restamped (finish (outcome.Withdrawn l)) (λ t. refl) b.clock b.acts h
-  closed-below (outcome.Failed l k) b h = restamped (finish (outcome.Failed l k)) (λ t. refl) b.clock b.acts h
-  closed-below (outcome.LaterRead o e) b h = restamped (finish (outcome.LaterRead o e)) (λ t. refl) b.clock b.acts h
-  closed-below (outcome.LaterVersion o x) b h = restamped (finish (outcome.LaterVersion o x)) (λ t. refl) b.clock b.acts h
-  closed-below (outcome.Expired d m) b h = restamped (finish (outcome.Expired d m)) (λ t. refl) b.clock b.acts h
   closed-below (outcome.Spent c) b h = spent-same c b.clock b.acts h
+  closed-below o b h = restamped (finish o) (λ t. refl) b.clock b.acts h
 
   close-run : (o : Outcome) (b : Book) → (close o b).run ≡ b.run
   close-run outcome.Committed b = refl
-  close-run (outcome.Withdrawn l) b = refl
-  close-run (outcome.Failed l k) b = refl
-  close-run (outcome.LaterRead o e) b = refl
-  close-run (outcome.LaterVersion o x) b = refl
-  close-run (outcome.Expired d m) b = refl
-  close-run (outcome.Spent c) b = refl
+  close-run o b = refl
 
   abbrev Own : Book → Type 0
   Own b = b.run ≡ run → Every (IsBelow me b.clock) (tries_of b.acts)
@@ -95,11 +85,7 @@ module _ (script : List ℕ → Tree) (me run : ℕ) (acts : List Task) where
   entered-below b (effect.Got k v) e h r = restamped (gain (Got v)) (λ t. refl) b.clock b.acts (h r)
   entered-below b (effect.Acked k) e h r = restamped (gain Stored) (λ t. refl) b.clock b.acts (h r)
   entered-below b (effect.End i o) e h r = closed-below o b (h (sym (close-run o b) ∙ r))
-  entered-below b (effect.Put o x v) e h r = h r
-  entered-below b (effect.Stretch o x) e h r = h r
-  entered-below b (effect.Begin s d) e h r = h r
-  entered-below b (effect.Decide s d) e h r = h r
-  entered-below b (effect.Learn s c) e h r = h r
+  entered-below b f e h r = h r
 
   -- each stamp of this run is the broker's own, and none is above its clock: over every log
   pub own-clocks : (log : List Effect) → Own (counted script me run acts log)
@@ -119,24 +105,14 @@ module _ (script : List ℕ → Tree) (me run : ℕ) (acts : List Task) where
 
   end-alone : (i : ℕ) (o : Outcome) (b : Book) → EndFits script i o b → EndFits script i o (alone b)
   end-alone i outcome.Committed b h = h
-  end-alone i (outcome.Withdrawn l) b h = h
-  end-alone i (outcome.Failed l k) b h = h
-  end-alone i (outcome.LaterRead o e) b h = h
-  end-alone i (outcome.LaterVersion o x) b h = h
-  end-alone i (outcome.Expired d m) b h = h
-  end-alone i (outcome.Spent c) b h = h
+  end-alone i o b h = h
 
   packed : (xs ys : List Act) → Moved script (tries_of (xs ++ [])) (tries_of (ys ++ [])) → Moved script (tries_of xs) (tries_of ys)
   packed xs ys m = subst (λ zs. Moved script (tries_of zs) (tries_of ys)) (append-nil xs) (subst (λ zs. Moved script (tries_of (xs ++ [])) (tries_of zs)) (append-nil ys) m)
 
   end-moved : (i : ℕ) (o : Outcome) (b : Book) → Every (IsBelow me b.clock) (tries_of (b.acts ++ [])) → EndFits script i o b → Moved script (tries_of b.acts) (tries_of (close o b).acts)
   end-moved i outcome.Committed b c h = packed b.acts (close outcome.Committed b).acts (moved script me (alone b) (effect.End i outcome.Committed) c h)
-  end-moved i (outcome.Withdrawn l) b c h = packed b.acts (close (outcome.Withdrawn l) b).acts (moved script me (alone b) (effect.End i (outcome.Withdrawn l)) c h)
-  end-moved i (outcome.Failed l k) b c h = packed b.acts (close (outcome.Failed l k) b).acts (moved script me (alone b) (effect.End i (outcome.Failed l k)) c h)
-  end-moved i (outcome.LaterRead o e) b c h = packed b.acts (close (outcome.LaterRead o e) b).acts (moved script me (alone b) (effect.End i (outcome.LaterRead o e)) c h)
-  end-moved i (outcome.LaterVersion o x) b c h = packed b.acts (close (outcome.LaterVersion o x) b).acts (moved script me (alone b) (effect.End i (outcome.LaterVersion o x)) c h)
-  end-moved i (outcome.Expired d m) b c h = packed b.acts (close (outcome.Expired d m) b).acts (moved script me (alone b) (effect.End i (outcome.Expired d m)) c h)
-  end-moved i (outcome.Spent k) b c h = packed b.acts (close (outcome.Spent k) b).acts (moved script me (alone b) (effect.End i (outcome.Spent k)) c h)
+  end-moved i o b c h = packed b.acts (close o b).acts (moved script me (alone b) (effect.End i o) c h)
 
   own-moved : (b : Book) (f : Effect) → Every (IsBelow me b.clock) (tries_of b.acts) → FitsBook script me b f → (enter f b).run ≡ b.run → Moved script (tries_of b.acts) (tries_of (enter f b).acts)
   own-moved b f c h same = go f h same
@@ -151,11 +127,7 @@ module _ (script : List ℕ → Tree) (me run : ℕ) (acts : List Task) where
       go (effect.Got k v) h same = packed b.acts (enter (effect.Got k v) b).acts (moved script me (alone b) (effect.Got k v) wide h)
       go (effect.Acked k) h same = packed b.acts (enter (effect.Acked k) b).acts (moved script me (alone b) (effect.Acked k) wide h)
       go (effect.End i o) h same = end-moved i o b wide h
-      go (effect.Put o x v) h same = absurd h
-      go (effect.Stretch o x) h same = absurd h
-      go (effect.Begin s d) h same = absurd h
-      go (effect.Decide s d) h same = absurd h
-      go (effect.Learn s d) h same = absurd h
+      go f h same = absurd h
 
   not-above : (r n : ℕ) → r < n → nat_lt r n ≡ false → ⊥
   not-above r n h k = grind (h, k, arith, common_steps)
@@ -172,11 +144,7 @@ module _ (script : List ℕ → Tree) (me run : ℕ) (acts : List Task) where
   run-stays b (effect.Got k v) r h later = refl
   run-stays b (effect.Acked k) r h later = refl
   run-stays b (effect.End i o) r h later = close-run o b
-  run-stays b (effect.Put o x v) r h later = refl
-  run-stays b (effect.Stretch o x) r h later = refl
-  run-stays b (effect.Begin s d) r h later = refl
-  run-stays b (effect.Decide s d) r h later = refl
-  run-stays b (effect.Learn s d) r h later = refl
+  run-stays b f r h later = refl
 
   pub enters : (log : List Effect) (f : Effect) → Joins script me run acts log f → counted script me run acts (f ∷ log) ≡ enter f (counted script me run acts log)
   unfolding book
@@ -229,16 +197,7 @@ module _ (script : List ℕ → Tree) (me run : ℕ) (acts : List Task) where
   -- what is owed, and what a message adds, is of this run
   in-run : (b : Book) (f : Effect) → nat_lt b.run run ≡ false → InRun script me run acts b f
   in-run b (effect.Run n) h = tt
-  in-run b (effect.Act i x t k c y) h = h
-  in-run b (effect.Try i s) h = h
-  in-run b (effect.Got k v) h = h
-  in-run b (effect.Acked k) h = h
-  in-run b (effect.End i o) h = h
-  in-run b (effect.Put o x v) h = h
-  in-run b (effect.Stretch o x) h = h
-  in-run b (effect.Begin s d) h = h
-  in-run b (effect.Decide s d) h = h
-  in-run b (effect.Learn s c) h = h
+  in-run b f h = h
 
   owed-in-run : (b : Book) (h : Heard) (f : Effect) → owed script me run acts b h ≡ Some f → InRun script me run acts b f
   owed-in-run b h f e = go (nat_lt b.run run) refl e

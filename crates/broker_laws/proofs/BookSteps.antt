@@ -1,31 +1,24 @@
 -- What each step of a broker's turn keeps, where no Ended comes: an attempt has an answer or an End only after its Begin stands at its home, and all attempts but the last are decided there.
-use Rattle.std.proofs.Common.{◌≡◌, ℕ, zero, suc, ◌+◌, ◌==◌, max, nat_lt, Bool, true, false, ◌&&◌, ◌||◌, not, length, List, [], ◌∷◌, ◌++◌, refl, sym, ◌∙◌, ap, subst, Option, Some, None, if◌then◌else◌, inl, inr, arith}
+use Rattle.std.proofs.Common.{◌≡◌, ℕ, ◌+◌, ◌==◌, max, nat_lt, Bool, true, false, ◌&&◌, ◌||◌, length, List, [], ◌∷◌, ◌++◌, refl, sym, ◌∙◌, ap, subst, Option, Some, None, if◌then◌else◌, inl, arith}
 use Rattle.std.proofs.lemmas.Grind.{common_steps}
 use Rattle.std.proofs.lemmas.Bool.{false≢true, true≢false}
-use Rattle.std.specs.List.{slice_get}
 use Rattle.pseudo_time.specs.Lists.{Every, Has}
-use Rattle.pseudo_time.proofs.ListLemmas.{every-append, every-left, every-right, every-has, every-map}
+use Rattle.pseudo_time.proofs.ListLemmas.{every-has}
 use Rattle.pseudo_time.specs.StampParts.{StampParts}
 use Rattle.pseudo_time.specs.TimeParts.{TimeParts}
-use Rattle.pseudo_time.specs.Order.{same_stamp}
 use Rattle.pseudo_time.proofs.OrderLemmas.{same_stamp-is}
-use Rattle.value_form.specs.declared.endings.Ending.TheVariants as ending
 use Rattle.effect_form.specs.declared.effects.Effect.{Effect}
 use Rattle.effect_form.specs.declared.effects.Effect.TheVariants as effect
 use Rattle.effect_form.specs.declared.outcomes.Outcome.{Outcome}
 use Rattle.effect_form.specs.declared.outcomes.Outcome.TheVariants as outcome
-use Rattle.script_meaning.specs.Meaning.{Answer, Got, Stored, Request, ToRead, ToWrite, Stop, Asks, Over}
+use Rattle.script_meaning.specs.Meaning.{Answer, Got, Stored, Stop, Asks}
 use Rattle.serial_model.specs.Questions.{Tree}
 use Rattle.broker_core.specs.declared.heards.Heard.{Heard}
 use Rattle.broker_core.specs.Tasks.{Task, task_with}
-use Rattle.broker_core.specs.Book.{Act, Book, Try, book, close, enter, finish, front, gain, last_try, new_try, on_act, on_front, on_try, open_of, open_front, open_try, if_open, tries_of}
-use Rattle.broker_core.specs.Fits.{act_effect, another, is_none, keep, next_clock, shown_to, stop_of}
-use Rattle.broker_core.specs.Stages.{Stage, Idle, Refused, Opening, Asking, Finishing, Stopping, Closing, by_stop, by_last, is_asking, is_closed, is_settled, no_answer, of_open, stage, stage_of}
-use Rattle.broker_core.specs.Owed.{after_act, after_tries, by_clock, by_stage, due, owed, start, try_or_spent}
+use Rattle.broker_core.specs.Book.{Act, Book, Try, close, enter, finish, front, gain, last_try, new_try, on_act, on_front, on_try, open_of, open_front, open_try, if_open, tries_of}
+use Rattle.broker_core.specs.Fits.{is_none, stop_of}
+use Rattle.broker_core.specs.Stages.{Stage, Idle, Refused, Opening, Asking, Finishing, Stopping, Closing, by_stop, is_asking, is_closed, is_settled, no_answer, of_open, stage, stage_of}
 use Rattle.broker_core.specs.Tests.{is_stamp, is_time}
-use Rattle.broker_core.specs.Turns.{Desk, note, note_if, settle_up, state, all_effects}
-use Rattle.broker_laws.proofs.Desks.{Good, OwedOk, owed-ok, note-state}
-use Rattle.turn_form.specs.Posts.{Post}
 use Rattle.broker_laws.specs.Waits.{older, newest}
 use Rattle.broker_laws.specs.Waits as waits
 
@@ -146,13 +139,11 @@ module _ (script : List ℕ → Tree) (me run : ℕ) (acts : List Task) (Begun D
       same P (a ∷ done) e = e
 
   close-sound : (h : Heard) (b : Book) (o : Outcome) → nat_lt b.run run ≡ false → OutcomeAllowed o b → BookSound h b → BookSound h (close o b)
-  close-sound h b outcome.Committed n a k = end-sound h b outcome.Committed b.shown n a k
-  close-sound h b (outcome.Withdrawn l) n a k = end-sound h b (outcome.Withdrawn l) b.shown n a k
-  close-sound h b (outcome.Failed l kind) n a k = end-sound h b (outcome.Failed l kind) b.shown n a k
   close-sound h b (outcome.LaterRead o e) n a k = end-sound h b (outcome.LaterRead o e) (max b.shown e.stamp.clock) n a k
   close-sound h b (outcome.LaterVersion o x) n a k = end-sound h b (outcome.LaterVersion o x) (max b.shown x.stamp.clock) n a k
   close-sound h b (outcome.Expired d m) n a k = end-sound h b (outcome.Expired d m) b.shown n a k
   close-sound h b (outcome.Spent c) n a k = spent-sound h b c n a k
+  close-sound h b o n a k = end-sound h b o b.shown n a k
 
   -- a new attempt has no answer and no End
   try-sound : (h : Heard) (b : Book) (s : StampParts) → nat_lt b.run run ≡ false → OfNewest b.acts (λ a. AllDecided a.tries × (a.spent ≡ None)) → BookSound h b →
@@ -202,11 +193,7 @@ module _ (script : List ℕ → Tree) (me run : ℕ) (acts : List Task) (Begun D
   enter-sound h b (effect.Got n v) a k = gain-sound h b (Got v) a.0 a.1 k
   enter-sound h b (effect.Acked n) a k = gain-sound h b Stored a.0 a.1 k
   enter-sound h b (effect.End i o) a k = close-sound h b o a.0 a.1 k
-  enter-sound h b (effect.Put o x v) a k = k
-  enter-sound h b (effect.Stretch o x) a k = k
-  enter-sound h b (effect.Begin s d) a k = k
-  enter-sound h b (effect.Decide s d) a k = k
-  enter-sound h b (effect.Learn s c) a k = k
+  enter-sound h b f a k = k
 
   -- ---- stages
 
@@ -224,9 +211,7 @@ module _ (script : List ℕ → Tree) (me run : ℕ) (acts : List Task) (Begun D
 
   by-stop-sound : (t : Try) (s : Stop) → Begun t.stamp → StageSound (by_stop t s)
   by-stop-sound t (Asks q) k = k
-  by-stop-sound t (Over ending.Finished) k = k
-  by-stop-sound t (Over (ending.Withdrawn l)) k = k
-  by-stop-sound t (Over (ending.Failed l x)) k = k
+  by-stop-sound t x k = k
 
   pub stamp-heard : (o : Option StampParts) (s : StampParts) → is_stamp o s ≡ true → o ≡ Some s
   stamp-heard None s e = absurd (false≢true e)

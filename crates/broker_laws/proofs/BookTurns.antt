@@ -1,18 +1,16 @@
 -- What a whole turn of a broker keeps, where no Ended comes for its current request; and what its messages then say.
-use Rattle.std.proofs.Common.{◌≡◌, ℕ, zero, suc, ◌+◌, ◌==◌, nat_lt, Bool, true, false, ◌&&◌, ◌||◌, length, List, [], ◌∷◌, ◌++◌, refl, sym, ◌∙◌, ap, subst, Option, Some, None, if◌then◌else◌, inl, inr, arith}
+use Rattle.std.proofs.Common.{◌≡◌, ℕ, zero, suc, ◌+◌, ◌==◌, nat_lt, Bool, true, false, ◌||◌, length, List, [], ◌∷◌, ◌++◌, refl, sym, ◌∙◌, ap, subst, Option, Some, None, if◌then◌else◌, inl, inr, arith}
 use Rattle.std.proofs.lemmas.Grind.{common_steps}
-use Rattle.std.proofs.lemmas.Bool.{false≢true, true≢false}
+use Rattle.std.proofs.lemmas.Bool.{false≢true}
 use Rattle.std.specs.List.{slice_get}
-use Rattle.pseudo_time.specs.Lists.{Every, Has}
+use Rattle.pseudo_time.specs.Lists.{Has}
 use Rattle.pseudo_time.proofs.ListLemmas.{every-append, every-has, has-right}
 use Rattle.pseudo_time.specs.StampParts.{StampParts}
-use Rattle.pseudo_time.specs.TimeParts.{TimeParts}
 use Rattle.pseudo_time.specs.Order.{same_stamp, same_time}
 use Rattle.pseudo_time.proofs.OrderLemmas.{same_stamp-is}
 use Rattle.pseudo_time.specs.declared.decisions.Decision.{Decision}
 use Rattle.pseudo_time.specs.declared.decisions.Decision.TheVariants as decision
 use Rattle.pseudo_time.specs.declared.nodes.NodeId.{NodeId}
-use Rattle.value_form.specs.declared.endings.Ending.TheVariants as ending
 use Rattle.effect_form.specs.declared.effects.Effect.{Effect}
 use Rattle.effect_form.specs.declared.effects.Effect.TheVariants as effect
 use Rattle.effect_form.specs.declared.outcomes.Outcome.{Outcome}
@@ -21,25 +19,25 @@ use Rattle.message_form.specs.declared.messages.Message.{Message}
 use Rattle.message_form.specs.declared.messages.Message.TheVariants as message
 use Rattle.turn_form.specs.declared.turns.Out.{Out}
 use Rattle.turn_form.specs.Posts.{Post}
-use Rattle.script_meaning.specs.Meaning.{Answer, Got, Stored, Request, ToRead, ToWrite, Stop, Asks, Over}
+use Rattle.script_meaning.specs.Meaning.{Got, Stored, Request, ToRead, ToWrite, Asks}
 use Rattle.serial_model.specs.Questions.{Tree}
 use Rattle.broker_core.specs.declared.heards.Heard.{Heard}
 use Rattle.broker_core.specs.declared.replies.Reply.{Reply}
 use Rattle.broker_core.specs.declared.replies.Reply.TheVariants.{Adds, Hears, Ignored}
 use Rattle.broker_core.specs.Tasks.{Task}
 use Rattle.broker_core.specs.Book.{Act, Book, Try, book, enter, last_try, open_try, time_of, tries_of}
-use Rattle.broker_core.specs.Fits.{act_effect, another, is_none, keep, next_clock, shown_to, stop_of}
+use Rattle.broker_core.specs.Fits.{act_effect, another, is_none, next_clock, shown_to, stop_of}
 use Rattle.broker_core.specs.Stages.{Stage, Idle, Refused, Opening, Asking, Finishing, Stopping, Closing, is_closed, is_finished, is_settled, stage, stage_of, standing}
 use Rattle.broker_core.specs.Owed.{after_act, after_tries, by_clock, by_stage, due, owed, start, try_or_spent}
-use Rattle.broker_core.specs.Rows.{Answered, Begun, Decided, News, Nothing_new, Over_there, Refusal, decided_commit, decided_early, ends, news, row, when}
-use Rattle.broker_core.specs.Tests.{is_stamp, is_time}
-use Rattle.broker_core.specs.Turns.{Desk, Go, Hear, Input, Take, desk_turn, fuel, hears, note, note_if, reply, say, send, settle_up, state, all_effects}
+use Rattle.broker_core.specs.Rows.{Answered, Begun, Decided, News, Over_there, Refusal, decided_commit, decided_early, ends, news, row, when}
+use Rattle.broker_core.specs.Tests.{is_stamp}
+use Rattle.broker_core.specs.Turns.{Desk, Go, Hear, Take, desk_turn, fuel, hears, note, note_if, reply, say, send, settle_up, state}
 use Rattle.broker_laws.proofs.Desks.{Good, OwedOk, ReplyOk, StageOk, news-came, note-state, owed-ok, row-ok, stage-ok}
 use Rattle.broker_laws.specs.Posts.{HasCome}
 use Rattle.broker_laws.specs.Waits.{older, newest}
 use Rattle.broker_laws.specs.Waits as waits
 use Rattle.pseudo_time.specs.Nodes.{repository}
-use Rattle.broker_laws.proofs.BookSteps.{Allowed, AllDecided, BookSound, EndAllowed, HasSettled, HasStarted, OfNewest, StageSound, Trail, enter-sound, open-among, last-among, stage-sound, stamp-heard}
+use Rattle.broker_laws.proofs.BookSteps.{Allowed, AllDecided, BookSound, EndAllowed, HasSettled, OfNewest, StageSound, Trail, enter-sound, open-among, stage-sound, stamp-heard}
 
 some-same : {A : Type 0} (x y : A) → Some x ≡ Some y → x ≡ y
 some-same x y e = cc e
@@ -129,12 +127,7 @@ module _ (script : List ℕ → Tree) (me run : ℕ) (acts : List Task) (IsBegun
 
   stage-allowed : (h : Heard) (b : Book) (st : Stage) (f : Effect) → StageOk script me run acts b st → Of st → Sound h b → nat_lt b.run run ≡ false → by_stage me acts h b st ≡ Some f → Fits b f
   stage-allowed h b (Stopping t o) f ok of k n e = stopping-allowed b t o f ok.0 of n (some-same (effect.End t.task.index o) f e)
-  stage-allowed h b Idle f ok of k n e = due-allowed h b b.acts f refl k n e
-  stage-allowed h b (Refused t) f ok of k n e = due-allowed h b b.acts f refl k n e
-  stage-allowed h b (Opening t) f ok of k n e = due-allowed h b b.acts f refl k n e
-  stage-allowed h b (Asking t q) f ok of k n e = due-allowed h b b.acts f refl k n e
-  stage-allowed h b (Finishing t) f ok of k n e = due-allowed h b b.acts f refl k n e
-  stage-allowed h b (Closing t) f ok of k n e = due-allowed h b b.acts f refl k n e
+  stage-allowed h b x f ok of k n e = due-allowed h b b.acts f refl k n e
 
   pub owed-allowed : (h : Heard) (b : Book) (f : Effect) → Sound h b → owed script me run acts b h ≡ Some f → Fits b f
   owed-allowed h b f k e = go (nat_lt b.run run) refl e

@@ -66,9 +66,7 @@ module _ (script : List ℕ → Tree) (me run : ℕ) (acts : List Task) where
 
   by-stop-ok : (b : Book) (t : Try) (s : Stop) → open_try b ≡ Some t → stop_of script t ≡ s → StageOk b (by_stop t s)
   by-stop-ok b t (Asks q) e h = (e, h)
-  by-stop-ok b t (Over ending.Finished) e h = (e, h)
-  by-stop-ok b t (Over (ending.Withdrawn l)) e h = (e, h)
-  by-stop-ok b t (Over (ending.Failed l k)) e h = (e, h)
+  by-stop-ok b t x e h = (e, h)
 
   of-stage : (b : Book) (h : Heard) (o last : Option Try) → open_try b ≡ o → last_try b ≡ last → StageOk b (stage_of script h o last)
   of-stage b h (Some t) last e l =
@@ -139,13 +137,8 @@ module _ (script : List ℕ → Tree) (me run : ℕ) (acts : List Task) where
     to-open P o t e h = subst (λ x. OfOpen x P) (sym e) h
 
     good-end : (b : Book) (t : Try) (o : Outcome) → open_try b ≡ Some t → EndsBy script t o → EndCame me ever t o → Good b (effect.End t.task.index o)
-    good-end b t outcome.Committed e h v = record { fits = (t, e, (refl, h)); came = to-open _ (open_try b) t e v; planned = refl; run_stays = λ n. n }
-    good-end b t (outcome.Withdrawn l) e h v = record { fits = (t, e, (refl, h)); came = to-open _ (open_try b) t e v; planned = refl; run_stays = λ n. n }
-    good-end b t (outcome.Failed l k) e h v = record { fits = (t, e, (refl, h)); came = to-open _ (open_try b) t e v; planned = refl; run_stays = λ n. n }
-    good-end b t (outcome.LaterRead o x) e h v = record { fits = (t, e, (refl, h)); came = to-open _ (open_try b) t e v; planned = refl; run_stays = λ n. n }
-    good-end b t (outcome.LaterVersion o x) e h v = record { fits = (t, e, (refl, h)); came = to-open _ (open_try b) t e v; planned = refl; run_stays = λ n. n }
-    good-end b t (outcome.Expired d m) e h v = record { fits = (t, e, (refl, h)); came = to-open _ (open_try b) t e v; planned = refl; run_stays = λ n. n }
     good-end b t (outcome.Spent c) e h v = absurd h
+    good-end b t o e h v = record { fits = (t, e, (refl, h)); came = to-open _ (open_try b) t e v; planned = refl; run_stays = λ n. n }
 
     abbrev pub ReplyOk : Book → Reply → Type 0
     ReplyOk b Ignored = Unit {0}
@@ -169,13 +162,7 @@ module _ (script : List ℕ → Tree) (me run : ℕ) (acts : List Task) where
     news-came (message.LaterVersion x y) h = h
     news-came (message.Ended x) h = tt
     news-came (message.Decided s d) h = h
-    news-came (message.Begin s t) h = tt
-    news-came (message.Read x o) h = tt
-    news-came (message.Write x o v) h = tt
-    news-came (message.Commit s) h = tt
-    news-came (message.Withdraw s) h = tt
-    news-came (message.Ask s) h = tt
-    news-came (message.Tell s c) h = tt
+    news-came m h = tt
 
     when-ok : (b : Book) (c : Bool) (r : Reply) → (c ≡ true → ReplyOk b r) → ReplyOk b (when c r)
     when-ok b true r h = h refl
@@ -345,19 +332,11 @@ module _ (script : List ℕ → Tree) (me run : ℕ) (acts : List Task) where
     stops-ok b t outcome.Committed e h = absurd h
     stops-ok b t (outcome.Withdrawn l) e h = good-end b t (outcome.Withdrawn l) e h tt
     stops-ok b t (outcome.Failed l k) e h = good-end b t (outcome.Failed l k) e h tt
-    stops-ok b t (outcome.LaterRead o x) e h = absurd h
-    stops-ok b t (outcome.LaterVersion o x) e h = absurd h
-    stops-ok b t (outcome.Expired d m) e h = absurd h
-    stops-ok b t (outcome.Spent c) e h = absurd h
+    stops-ok b t w e h = absurd h
 
     by-stage-ok : (h : Heard) (b : Book) (st : Stage) → StageOk b st → OwedOk b (by_stage me acts h b st)
     by-stage-ok h b (Stopping t o) ok = stops-ok b t o ok.0 ok.1
-    by-stage-ok h b Idle ok = due-ok h b b.acts refl
-    by-stage-ok h b (Refused t) ok = due-ok h b b.acts refl
-    by-stage-ok h b (Opening t) ok = due-ok h b b.acts refl
-    by-stage-ok h b (Asking t q) ok = due-ok h b b.acts refl
-    by-stage-ok h b (Finishing t) ok = due-ok h b b.acts refl
-    by-stage-ok h b (Closing t) ok = due-ok h b b.acts refl
+    by-stage-ok h b x ok = due-ok h b b.acts refl
 
     not-below : (n : ℕ) → nat_lt n n ≡ false
     not-below n = grind (arith, common_steps)

@@ -10,11 +10,10 @@ use Rattle.effect_form.specs.declared.effects.Effect.TheVariants as effect
 use Rattle.effect_form.specs.declared.outcomes.Outcome.{Outcome}
 use Rattle.effect_form.specs.declared.outcomes.Outcome.TheVariants as outcome
 use Rattle.turn_form.specs.Posts.{Post}
-use Rattle.value_form.specs.declared.endings.Ending.TheVariants as ending
-use Rattle.broker_core.specs.Book.{Act, Book, Try, book, close, enter, front, last_try, on_act, on_front, on_try, open_of, open_try, time_of, tries_of}
-use Rattle.broker_core.specs.Fits.{another, has_outcome, is_none, next_clock, outcome_by, shown_to, stop_of}
+use Rattle.broker_core.specs.Book.{Act, Book, Try, book, close, enter, front, on_act, open_of, open_try, time_of, tries_of}
+use Rattle.broker_core.specs.Fits.{another, has_outcome, is_none, outcome_by, stop_of}
 use Rattle.broker_core.specs.Owed.{after_act, after_tries, all_over, by_stage, done, due, owed, start, try_or_spent}
-use Rattle.broker_core.specs.Stages.{Asking, Closing, Finishing, Idle, Opening, Refused, Stage, Stopping, by_stop, is_asking, is_closed, no_answer, of_open, stage, stage_of, standing}
+use Rattle.broker_core.specs.Stages.{Closing, Idle, Opening, Refused, Stage, Stopping, by_stop, is_asking, is_closed, no_answer, of_open, stage, stage_of, standing}
 use Rattle.broker_core.specs.Tests.{is_stamp, is_time}
 use Rattle.broker_core.specs.Turns.{Desk, state, all_effects}
 use Rattle.broker_core.specs.declared.heards.Heard.{Heard}
@@ -24,7 +23,7 @@ use Rattle.broker_laws.proofs.TestLemmas.{and-both}
 use Rattle.broker_core.specs.Sound.{Started}
 use Rattle.broker_laws.specs.Fits.{FitsBook, IsTidy, may_start}
 use Rattle.broker_laws.specs.Works.{IsRested, TurnHolds}
-use Rattle.script_meaning.specs.Meaning.{Asks, Over, Stop, ToRead, ToWrite}
+use Rattle.script_meaning.specs.Meaning.{Asks, Stop, ToRead}
 use Rattle.serial_model.specs.Questions.{Tree}
 
 past-end : (xs : List Task) (n : ℕ) → slice_get xs n ≡ None → length xs ≤ n
@@ -44,12 +43,7 @@ before-on g (a ∷ as') h = h
 module _ (script : List ℕ → Tree) (me : ℕ) where
   before-close : (o : Outcome) (b : Book) → before_over b.acts ≡ true → before_over (close o b).acts ≡ true
   before-close outcome.Committed b h = before-on _ b.acts h
-  before-close (outcome.Withdrawn l) b h = before-on _ b.acts h
-  before-close (outcome.Failed l k) b h = before-on _ b.acts h
-  before-close (outcome.LaterRead o e) b h = before-on _ b.acts h
-  before-close (outcome.LaterVersion o x) b h = before-on _ b.acts h
-  before-close (outcome.Expired d m) b h = before-on _ b.acts h
-  before-close (outcome.Spent c) b h = before-on _ b.acts h
+  before-close o b h = before-on _ b.acts h
 
   before-act : (as' : List Act) → may_start as' ≡ true → before_over as' ≡ true → all_over as' ≡ true
   before-act [] m h = refl
@@ -62,11 +56,7 @@ module _ (script : List ℕ → Tree) (me : ℕ) where
   before-enter b (effect.Got k v) f h = before-on _ b.acts h
   before-enter b (effect.Acked k) f h = before-on _ b.acts h
   before-enter b (effect.End i o) f h = before-close o b h
-  before-enter b (effect.Put o x v) f h = h
-  before-enter b (effect.Stretch o x) f h = h
-  before-enter b (effect.Begin s d) f h = h
-  before-enter b (effect.Decide s d) f h = h
-  before-enter b (effect.Learn s d) f h = h
+  before-enter b g f h = h
 
   pub before-tidy : (log : List Effect) → IsTidy script me log → before_over (book log).acts ≡ true
   unfolding book
@@ -80,10 +70,7 @@ module _ (script : List ℕ → Tree) (me : ℕ) where
     -- an open try always stands or stops
     by-stop-busy : (h : Heard) (b : Book) (t : Try) (s : Stop) → standing (by_stop t s) ≡ None → by_stage me acts h b (by_stop t s) ≡ None → ⊥
     by-stop-busy h b t (Asks (ToRead o)) s w = cc
-    by-stop-busy h b t (Asks (ToWrite o v)) s w = cc
-    by-stop-busy h b t (Over ending.Finished) s w = cc
-    by-stop-busy h b t (Over (ending.Withdrawn l)) s w = cc
-    by-stop-busy h b t (Over (ending.Failed l k)) s w = cc
+    by-stop-busy h b t x s w = cc
 
     if-busy : (h : Heard) (b : Book) (c : Bool) (x y : Stage) →
         (standing x ≡ None → by_stage me acts h b x ≡ None → ⊥) → (standing y ≡ None → by_stage me acts h b y ≡ None → ⊥) →
@@ -177,13 +164,9 @@ module _ (script : List ℕ → Tree) (me : ℕ) where
 
     -- a stage at which nothing stands and nothing is owed
     due-of : (h : Heard) (b : Book) (st : Stage) → standing st ≡ None → by_stage me acts h b st ≡ None → due me acts h b b.acts ≡ None
-    due-of h b Idle s w = w
-    due-of h b (Refused t) s w = w
-    due-of h b (Opening t) s w = w
-    due-of h b (Asking t q) s w = w
-    due-of h b (Finishing t) s w = w
     due-of h b (Stopping t o) s w = cc
     due-of h b (Closing t) s w = w
+    due-of h b x s w = w
 
     same-run : (m n : ℕ) → nat_lt m n ≡ false → nat_lt n m ≡ false → m ≡ n
     same-run m n h k = grind (arith, common_steps)

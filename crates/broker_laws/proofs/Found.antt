@@ -93,13 +93,8 @@ kin-try : (run : ℕ) (g : Try → Try) (as' : List Act) → ((t : Try) → (g t
 kin-try run g as' s r h = kin-on run (λ a. record a { tries = on_front g a.tries }) (λ a k. kin-front run g a s r k) as' h
 
 kin-close : (o : Outcome) (b : Book) → Every (Kin b.run) b.acts → Every (Kin (close o b).run) (close o b).acts
-kin-close outcome.Committed b h = kin-try b.run _ b.acts (λ t. refl) (λ t. refl) h
-kin-close (outcome.Withdrawn l) b h = kin-try b.run _ b.acts (λ t. refl) (λ t. refl) h
-kin-close (outcome.Failed l k) b h = kin-try b.run _ b.acts (λ t. refl) (λ t. refl) h
-kin-close (outcome.LaterRead o e) b h = kin-try b.run _ b.acts (λ t. refl) (λ t. refl) h
-kin-close (outcome.LaterVersion o x) b h = kin-try b.run _ b.acts (λ t. refl) (λ t. refl) h
-kin-close (outcome.Expired d m) b h = kin-try b.run _ b.acts (λ t. refl) (λ t. refl) h
 kin-close (outcome.Spent c) b h = kin-on b.run _ (λ a k. k) b.acts h
+kin-close o b h = kin-try b.run _ b.acts (λ t. refl) (λ t. refl) h
 
 kin-enter : (f : Effect) (b : Book) → Every (Kin b.run) b.acts → Every (Kin (enter f b).run) (enter f b).acts
 kin-enter (effect.Run n) b h = tt
@@ -108,11 +103,7 @@ kin-enter (effect.Try i s) b h = kin-on b.run _ (λ a k. (k.0, ((refl, refl), k.
 kin-enter (effect.Got k v) b h = kin-try b.run (gain (Got v)) b.acts (λ t. refl) (λ t. refl) h
 kin-enter (effect.Acked k) b h = kin-try b.run (gain Stored) b.acts (λ t. refl) (λ t. refl) h
 kin-enter (effect.End i o) b h = kin-close o b h
-kin-enter (effect.Put o x v) b h = h
-kin-enter (effect.Stretch o x) b h = h
-kin-enter (effect.Begin s d) b h = h
-kin-enter (effect.Decide s d) b h = h
-kin-enter (effect.Learn s d) b h = h
+kin-enter f b h = h
 
 pub kin : (log : List Effect) → Every (λ a. (a.run ≡ (book log).run) × OfAct a) (book log).acts
 unfolding book

@@ -8,10 +8,10 @@ use Rattle.effect_form.specs.declared.effects.Effect.{Effect}
 use Rattle.effect_form.specs.declared.effects.Effect.TheVariants as effect
 use Rattle.effect_form.specs.declared.outcomes.Outcome.{Outcome}
 use Rattle.effect_form.specs.declared.outcomes.Outcome.TheVariants as outcome
-use Rattle.broker_core.specs.Book.{Act, Book, Try, book, close, enter, finish, on_front, on_try, open_front, open_of}
+use Rattle.broker_core.specs.Book.{Act, Book, Try, book, enter, finish, on_front, on_try, open_front, open_of}
 use Rattle.broker_core.specs.Fits.{calls_again, is_none, next_clock, shown_to}
 use Rattle.broker_core.specs.Owed.{after_act, after_tries, by_clock, by_stage, due, owed, start}
-use Rattle.broker_core.specs.Stages.{Asking, Closing, Finishing, Idle, Opening, Refused, Stage, Stopping, is_closed, stage}
+use Rattle.broker_core.specs.Stages.{Stage, Stopping, is_closed, stage}
 use Rattle.broker_core.specs.Turns.{Desk, fuel, note, note_if, settle_up, state}
 use Rattle.broker_core.specs.declared.heards.Heard.{Heard}
 use Rattle.broker_laws.proofs.Desks.{OwedOk, StageOk, Stops, note-state, owed-ok, stage-ok}
@@ -88,10 +88,7 @@ module _ (script : List ℕ → Tree) (me run : ℕ) (acts : List Task) where
   stops-fall b t outcome.Committed e h = absurd h
   stops-fall b t (outcome.Withdrawn l) e h = (refl, stop-falls (outcome.Withdrawn l) refl b.acts t e)
   stops-fall b t (outcome.Failed l k) e h = (refl, stop-falls (outcome.Failed l k) refl b.acts t e)
-  stops-fall b t (outcome.LaterRead o x) e h = absurd h
-  stops-fall b t (outcome.LaterVersion o x) e h = absurd h
-  stops-fall b t (outcome.Expired d m) e h = absurd h
-  stops-fall b t (outcome.Spent c) e h = absurd h
+  stops-fall b t w e h = absurd h
 
   start-falls : (b : Book) (o : Option Task) → slice_get acts (length b.acts) ≡ o → Falls b (start o)
   start-falls b None e = tt
@@ -157,12 +154,7 @@ module _ (script : List ℕ → Tree) (me run : ℕ) (acts : List Task) where
 
   by-stage-falls : (h : Heard) (b : Book) (st : Stage) → StageOk script me run acts b st → Falls b (by_stage me acts h b st)
   by-stage-falls h b (Stopping t o) ok = stops-fall b t o ok.0 ok.1
-  by-stage-falls h b Idle ok = due-falls h b b.acts refl
-  by-stage-falls h b (Refused t) ok = due-falls h b b.acts refl
-  by-stage-falls h b (Opening t) ok = due-falls h b b.acts refl
-  by-stage-falls h b (Asking t q) ok = due-falls h b b.acts refl
-  by-stage-falls h b (Finishing t) ok = due-falls h b b.acts refl
-  by-stage-falls h b (Closing t) ok = due-falls h b b.acts refl
+  by-stage-falls h b x ok = due-falls h b b.acts refl
 
   -- each owed effect leaves less
   abbrev Less : Book → Option Effect → Type 0

@@ -56,13 +56,8 @@ module _ (script : List ℕ → Tree) (me : ℕ) where
   end-fits i b P h = subst (λ o. fits_end i o ≡ true) (sym h.1) (eq-eqb i h.0.task.index h.2.0)
 
   outcome-fits : (i : ℕ) (o : Outcome) (b : Book) → EndFits script i o b → fits_outcome i o b ≡ true
-  outcome-fits i outcome.Committed b h = end-fits i b _ h
-  outcome-fits i (outcome.Withdrawn l) b h = end-fits i b _ h
-  outcome-fits i (outcome.Failed l k) b h = end-fits i b _ h
-  outcome-fits i (outcome.LaterRead o e) b h = end-fits i b _ h
-  outcome-fits i (outcome.LaterVersion o x) b h = end-fits i b _ h
-  outcome-fits i (outcome.Expired d m) b h = end-fits i b _ h
   outcome-fits i (outcome.Spent c) b h = spent-fits i b.acts _ h
+  outcome-fits i o b h = end-fits i b _ h
 
   got-fits : (k : ℕ) (o : Option Try) (t : Try) → o ≡ Some t → k ≡ length t.answers + 1 → reads_now (stop_of script t) ≡ true → fits_got script k o ≡ true
   got-fits k o t e n r = subst (λ x. fits_got script k x ≡ true) (sym e) (and-both (eq-eqb k (length t.answers + 1) n) r)
@@ -81,11 +76,7 @@ module _ (script : List ℕ → Tree) (me : ℕ) where
     fit-counts b (effect.Acked k) h p =
         if-true (b.run == run) _ (acked-fits k (open_try b) h.0 h.1 h.2.0 (subst (λ s. writes_now s ≡ true) (sym h.2.1.2) refl))
     fit-counts b (effect.End i o) h p = if-true (b.run == run) _ (outcome-fits i o b h)
-    fit-counts b (effect.Put o x v) h p = absurd h
-    fit-counts b (effect.Stretch o x) h p = absurd h
-    fit-counts b (effect.Begin s d) h p = absurd h
-    fit-counts b (effect.Decide s d) h p = absurd h
-    fit-counts b (effect.Learn s d) h p = absurd h
+    fit-counts b f h p = absurd h
 
     pub first-none : (x y : Option ℕ) → first_some x y ≡ None → (x ≡ None) × (y ≡ None)
     first-none None y h = (refl, h)
@@ -109,21 +100,11 @@ module _ (script : List ℕ → Tree) (me : ℕ) where
 
     started-close : (o : Outcome) (b : Book) → Started acts b.acts → Started acts (close o b).acts
     started-close outcome.Committed b h = started-on _ (λ a. refl) b.acts h
-    started-close (outcome.Withdrawn l) b h = started-on _ (λ a. refl) b.acts h
-    started-close (outcome.Failed l k) b h = started-on _ (λ a. refl) b.acts h
-    started-close (outcome.LaterRead o e) b h = started-on _ (λ a. refl) b.acts h
-    started-close (outcome.LaterVersion o x) b h = started-on _ (λ a. refl) b.acts h
-    started-close (outcome.Expired d m) b h = started-on _ (λ a. refl) b.acts h
-    started-close (outcome.Spent c) b h = started-on _ (λ a. refl) b.acts h
+    started-close o b h = started-on _ (λ a. refl) b.acts h
 
     run-close : (o : Outcome) (b : Book) → (close o b).run ≡ b.run
     run-close outcome.Committed b = refl
-    run-close (outcome.Withdrawn l) b = refl
-    run-close (outcome.Failed l k) b = refl
-    run-close (outcome.LaterRead o e) b = refl
-    run-close (outcome.LaterVersion o x) b = refl
-    run-close (outcome.Expired d m) b = refl
-    run-close (outcome.Spent c) b = refl
+    run-close o b = refl
 
     started-enter : (b : Book) (f : Effect) → (b.run ≡ run → Started acts b.acts) → unfit_act script me run acts b f ≡ None →
         (enter f b).run ≡ run → Started acts (enter f b).acts
@@ -138,11 +119,7 @@ module _ (script : List ℕ → Tree) (me : ℕ) where
     started-enter b (effect.Got k v) h u r = started-on _ (λ a. refl) b.acts (h r)
     started-enter b (effect.Acked k) h u r = started-on _ (λ a. refl) b.acts (h r)
     started-enter b (effect.End i o) h u r = started-close o b (h (sym (run-close o b) ∙ r))
-    started-enter b (effect.Put o x v) h u r = h r
-    started-enter b (effect.Stretch o x) h u r = h r
-    started-enter b (effect.Begin s d) h u r = h r
-    started-enter b (effect.Decide s d) h u r = h r
-    started-enter b (effect.Learn s d) h u r = h r
+    started-enter b f h u r = h r
 
     pub started : (log : List Effect) → IsTidy script me log → other_plan script me run acts log ≡ None →
         (book log).run ≡ run → Started acts (book log).acts

@@ -77,22 +77,12 @@ calm-spent n i (a ∷ done) f h = (h.0, λ c e. and-right (is_none a.spent) _ (a
 
 module _ (script : List ℕ → Tree) (me run : ℕ) (acts : List Task) where
   calm-close : (i : ℕ) (o : Outcome) (b : Book) → fits script me acts b (effect.End i o) ≡ true → Calm b.acts → Calm (close o b).acts
-  calm-close i outcome.Committed b f h = calm-end outcome.Committed i b.acts f h
-  calm-close i (outcome.Withdrawn l) b f h = calm-end (outcome.Withdrawn l) i b.acts f h
-  calm-close i (outcome.Failed l k) b f h = calm-end (outcome.Failed l k) i b.acts f h
-  calm-close i (outcome.LaterRead o e) b f h = calm-end (outcome.LaterRead o e) i b.acts f h
-  calm-close i (outcome.LaterVersion o x) b f h = calm-end (outcome.LaterVersion o x) i b.acts f h
-  calm-close i (outcome.Expired d m) b f h = calm-end (outcome.Expired d m) i b.acts f h
   calm-close i (outcome.Spent c) b f h = calm-spent c i b.acts f h
+  calm-close i o b f h = calm-end o i b.acts f h
 
   run-close : (o : Outcome) (b : Book) → (close o b).run ≡ b.run
   run-close outcome.Committed b = refl
-  run-close (outcome.Withdrawn l) b = refl
-  run-close (outcome.Failed l k) b = refl
-  run-close (outcome.LaterRead o e) b = refl
-  run-close (outcome.LaterVersion o x) b = refl
-  run-close (outcome.Expired d m) b = refl
-  run-close (outcome.Spent c) b = refl
+  run-close o b = refl
 
   fits-here : (b : Book) (x : Bool) → b.run ≡ run → (if b.run == run then x else true) ≡ true → x ≡ true
   fits-here b x e h = subst (λ c. (if c then x else true) ≡ true) (eq-eqb b.run run e) h
@@ -105,11 +95,7 @@ module _ (script : List ℕ → Tree) (me run : ℕ) (acts : List Task) where
   calm-enter b (effect.Got k v) f h e = calm-gain (Got v) b.acts (h e)
   calm-enter b (effect.Acked k) f h e = calm-gain Stored b.acts (h e)
   calm-enter b (effect.End i o) f h e = let r = sym (run-close o b) ∙ e in calm-close i o b (fits-here b _ r f) (h r)
-  calm-enter b (effect.Put o x v) f h e = h e
-  calm-enter b (effect.Stretch o x) f h e = h e
-  calm-enter b (effect.Begin s d) f h e = h e
-  calm-enter b (effect.Decide s d) f h e = h e
-  calm-enter b (effect.Learn s d) f h e = h e
+  calm-enter b g f h e = h e
 
   calm-add : (c : Bool) (f : Effect) (kept : List Effect) → counts script me run acts (book kept) f ≡ c →
       ((book kept).run ≡ run → Calm (book kept).acts) → (book (add_if c f kept)).run ≡ run → Calm (book (add_if c f kept)).acts

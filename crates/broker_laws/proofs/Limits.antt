@@ -48,13 +48,8 @@ module _ (script : List ℕ → Tree) (me : ℕ) where
       ((λ n e. let k : c ≡ n = cc in subst (λ z. 1099511627775 ≤ z) k (no-clock b.clock (shown_to b a) c f.3.0 f.3.1), h.0.1), h.1)
 
   within-close : (i : ℕ) (o : Outcome) (b : Book) → EndFits script i o b → Every IsWithinLimits (b.acts ++ b.past) → Every IsWithinLimits ((close o b).acts ++ (close o b).past)
-  within-close i outcome.Committed b f h = within-on _ b.acts b.past h
-  within-close i (outcome.Withdrawn l) b f h = within-on _ b.acts b.past h
-  within-close i (outcome.Failed l k) b f h = within-on _ b.acts b.past h
-  within-close i (outcome.LaterRead o e) b f h = within-on _ b.acts b.past h
-  within-close i (outcome.LaterVersion o x) b f h = within-on _ b.acts b.past h
-  within-close i (outcome.Expired d m) b f h = within-on _ b.acts b.past h
   within-close i (outcome.Spent c) b f h = within-spent i c b b.acts b.past f h
+  within-close i o b f h = within-on _ b.acts b.past h
 
   within-enter : (b : Book) (f : Effect) → FitsBook script me b f → Every IsWithinLimits (b.acts ++ b.past) → Every IsWithinLimits ((enter f b).acts ++ (enter f b).past)
   within-enter b (effect.Run n) f h = h
@@ -63,11 +58,7 @@ module _ (script : List ℕ → Tree) (me : ℕ) where
   within-enter b (effect.Got k v) f h = within-on (gain (Got v)) b.acts b.past h
   within-enter b (effect.Acked k) f h = within-on (gain Stored) b.acts b.past h
   within-enter b (effect.End i o) f h = within-close i o b f h
-  within-enter b (effect.Put o x v) f h = absurd f
-  within-enter b (effect.Stretch o x) f h = absurd f
-  within-enter b (effect.Begin s d) f h = absurd f
-  within-enter b (effect.Decide s d) f h = absurd f
-  within-enter b (effect.Learn s d) f h = absurd f
+  within-enter b g f h = absurd f
 
   pub within : (log : List Effect) → IsTidy script me log → Every IsWithinLimits ((book log).acts ++ (book log).past)
   unfolding book

@@ -75,17 +75,12 @@ module _ (script : List ℕ → Tree) (me : ℕ) where
   moved-try i s b (a ∷ acts) past P h n = tried (new_try a s) n refl refl
 
   moved-close : (i : ℕ) (o : Outcome) (b : Book) → EndFits script i o b → Moved script (tries b) (tries (close o b))
-  moved-close i outcome.Committed b h = moved-end outcome.Committed b.acts b.past h.0 h.1 h.2.1
-  moved-close i (outcome.Withdrawn l) b h = moved-end (outcome.Withdrawn l) b.acts b.past h.0 h.1 h.2.1
-  moved-close i (outcome.Failed l k) b h = moved-end (outcome.Failed l k) b.acts b.past h.0 h.1 h.2.1
-  moved-close i (outcome.LaterRead o e) b h = moved-end (outcome.LaterRead o e) b.acts b.past h.0 h.1 h.2.1
-  moved-close i (outcome.LaterVersion o x) b h = moved-end (outcome.LaterVersion o x) b.acts b.past h.0 h.1 h.2.1
-  moved-close i (outcome.Expired d m) b h = moved-end (outcome.Expired d m) b.acts b.past h.0 h.1 h.2.1
   moved-close i (outcome.Spent c) b h = moved-spent b.acts b.past
     where
       moved-spent : (acts past : List Act) → Moved script (tries_of (acts ++ past)) (tries_of ((close (outcome.Spent c) (record b { acts = acts; past = past })).acts ++ past))
       moved-spent [] past = same
       moved-spent (a ∷ acts) past = same
+  moved-close i o b h = moved-end o b.acts b.past h.0 h.1 h.2.1
 
   above : (i : ℕ) (s : StampParts) (acts : List Act) (clock : ℕ) → MayTry i acts (λ a. (s.broker ≡ me) × (s.home ≡ a.task.home) × (clock < s.clock)) → clock < s.clock
   above i s [] clock h = absurd h
@@ -98,11 +93,7 @@ module _ (script : List ℕ → Tree) (me : ℕ) where
   moved b (effect.Got k v) c h = moved-gain (Got v) b.acts b.past h.0 h.1 h.2.1
   moved b (effect.Acked k) c h = moved-gain Stored b.acts b.past h.0 h.1 h.2.1
   moved b (effect.End i o) c h = moved-close i o b h
-  moved b (effect.Put o x v) c h = absurd h
-  moved b (effect.Stretch o x) c h = absurd h
-  moved b (effect.Begin s d) c h = absurd h
-  moved b (effect.Decide s d) c h = absurd h
-  moved b (effect.Learn s d) c h = absurd h
+  moved b f c h = absurd h
 
   -- clocks
   below-more : (c d : ℕ) (ts : List Try) → c ≤ d → Every (IsBelow me c) ts → Every (IsBelow me d) ts
@@ -124,18 +115,13 @@ module _ (script : List ℕ → Tree) (me : ℕ) where
       subst (λ xs. Every (IsBelow me c) xs) (sym w.2) (subst (λ (x : StampParts). (x.clock ≤ c) × (x.broker ≡ me)) (sym s) old.0, old.1)
 
   clocks-close : (i : ℕ) (o : Outcome) (b : Book) → EndFits script i o b → Clocks me b → Clocks me (close o b)
-  clocks-close i outcome.Committed b h all = clocks-open (finish outcome.Committed) b.clock b.acts b.past h.0 refl h.1 all
-  clocks-close i (outcome.Withdrawn l) b h all = clocks-open (finish (outcome.Withdrawn l)) b.clock b.acts b.past h.0 refl h.1 all
-  clocks-close i (outcome.Failed l k) b h all = clocks-open (finish (outcome.Failed l k)) b.clock b.acts b.past h.0 refl h.1 all
-  clocks-close i (outcome.LaterRead o e) b h all = clocks-open (finish (outcome.LaterRead o e)) b.clock b.acts b.past h.0 refl h.1 all
-  clocks-close i (outcome.LaterVersion o x) b h all = clocks-open (finish (outcome.LaterVersion o x)) b.clock b.acts b.past h.0 refl h.1 all
-  clocks-close i (outcome.Expired d m) b h all = clocks-open (finish (outcome.Expired d m)) b.clock b.acts b.past h.0 refl h.1 all
   clocks-close i (outcome.Spent c) b h all = spent b.acts b.past all
     where
       spent : (acts past : List Act) → Every (IsBelow me b.clock) (tries_of (acts ++ past)) →
           Every (IsBelow me b.clock) (tries_of ((close (outcome.Spent c) (record b { acts = acts; past = past })).acts ++ past))
       spent [] past all = all
       spent (a ∷ acts) past all = all
+  clocks-close i o b h all = clocks-open (finish o) b.clock b.acts b.past h.0 refl h.1 all
 
   pub clocks-kept : (b : Book) (f : Effect) → FitsBook script me b f → Clocks me b → Clocks me (enter f b)
   clocks-kept b (effect.Run n) h c = c
@@ -144,11 +130,7 @@ module _ (script : List ℕ → Tree) (me : ℕ) where
   clocks-kept b (effect.Got k v) h c = clocks-open (gain (Got v)) b.clock b.acts b.past h.0 refl h.1 c
   clocks-kept b (effect.Acked k) h c = clocks-open (gain Stored) b.clock b.acts b.past h.0 refl h.1 c
   clocks-kept b (effect.End i o) h c = clocks-close i o b h c
-  clocks-kept b (effect.Put o x v) h c = absurd h
-  clocks-kept b (effect.Stretch o x) h c = absurd h
-  clocks-kept b (effect.Begin s d) h c = absurd h
-  clocks-kept b (effect.Decide s d) h c = absurd h
-  clocks-kept b (effect.Learn s d) h c = absurd h
+  clocks-kept b f h c = absurd h
 
   pub clocks : (log : List Effect) → IsTidy script me log → Clocks me (book log)
   unfolding book
@@ -262,15 +244,7 @@ module _ (script : List ℕ → Tree) (me : ℕ) where
   post-moved w to (message.Read x o) h = (h.0, h.1, ask-kept w x _ h.2)
   post-moved w to (message.Write x o v) h = (h.0, h.1, ask-kept w x _ h.2)
   post-moved w to (message.Commit s) h = (h.0, h.1, commit-kept w s h.2)
-  post-moved w to (message.Begun s) h = h
-  post-moved w to (message.Value x v) h = h
-  post-moved w to (message.Stored x) h = h
-  post-moved w to (message.LaterRead x e) h = h
-  post-moved w to (message.LaterVersion x y) h = h
-  post-moved w to (message.Ended x) h = h
-  post-moved w to (message.Decided s d) h = h
-  post-moved w to (message.Ask s) h = h
-  post-moved w to (message.Tell s c) h = h
+  post-moved w to m h = h
 
   -- a message that was sent stays right
   pub post-kept : (log : List Effect) (f : Effect) (to : NodeId) (m : Message) → IsTidy script me log → FitsBook script me (book log) f →

@@ -92,17 +92,12 @@ module _ (script : List ℕ → Tree) (me : ℕ) where
       subst (λ (z : Try). R (length z.answers)) u.2 (subst (λ n. R n) (sym (length-append u.0.answers (x ∷ []))) (mono (length u.0.answers) r))
 
   past-close : (R : ℕ → Type 0) (s : StampParts) (i : ℕ) (o : Outcome) (b : Book) → Past R s b → Past R s (close o b)
-  past-close R s i outcome.Committed b p = (p.0, λ t e k. absurd (open-finish _ t b.acts e))
-  past-close R s i (outcome.Withdrawn l) b p = (p.0, λ t e k. absurd (open-finish _ t b.acts e))
-  past-close R s i (outcome.Failed l x) b p = (p.0, λ t e k. absurd (open-finish _ t b.acts e))
-  past-close R s i (outcome.LaterRead o x) b p = (p.0, λ t e k. absurd (open-finish _ t b.acts e))
-  past-close R s i (outcome.LaterVersion o x) b p = (p.0, λ t e k. absurd (open-finish _ t b.acts e))
-  past-close R s i (outcome.Expired d m) b p = (p.0, λ t e k. absurd (open-finish _ t b.acts e))
   past-close R s i (outcome.Spent c) b p = (p.0, λ t e k. p.1 t (same b.acts ∙ e) k)
     where
       same : (acts : List Act) → open_of acts ≡ open_of (on_act (λ a. record a { spent = Some c }) acts)
       same [] = refl
       same (a ∷ done) = refl
+  past-close R s i o b p = (p.0, λ t e k. absurd (open-finish _ t b.acts e))
 
   past-kept : (R : ℕ → Type 0) → ((n : ℕ) → R n → R (n + 1)) → (s : StampParts) (b : Book) (f : Effect) → FitsBook script me b f → Past R s b → Past R s (enter f b)
   past-kept R mono s b (effect.Run n) f p = (p.0, λ t e k. absurd (let z : None ≡ Some t = e in cc))
@@ -111,11 +106,7 @@ module _ (script : List ℕ → Tree) (me : ℕ) where
   past-kept R mono s b (effect.Got k v) f p = (p.0, past-gain R mono s (Got v) b p)
   past-kept R mono s b (effect.Acked k) f p = (p.0, past-gain R mono s Stored b p)
   past-kept R mono s b (effect.End i o) f p = past-close R s i o b p
-  past-kept R mono s b (effect.Put o x v) f p = absurd f
-  past-kept R mono s b (effect.Stretch o x) f p = absurd f
-  past-kept R mono s b (effect.Begin x d) f p = absurd f
-  past-kept R mono s b (effect.Decide x d) f p = absurd f
-  past-kept R mono s b (effect.Learn x d) f p = absurd f
+  past-kept R mono s b g f p = absurd f
 
   -- the last try, where it has stamp s, was decided by its home
   abbrev Sure : StampParts → Book → Type 0
@@ -141,17 +132,12 @@ module _ (script : List ℕ → Tree) (me : ℕ) where
       absurd (omega arith)
 
   sure-close : (s : StampParts) (i : ℕ) (o : Outcome) (b : Book) → EndFits script i o b → Sure s b → Sure s (close o b)
-  sure-close s i outcome.Committed b f p = (p.0, sure-open s (finish outcome.Committed) b f.0 f.1 refl p)
-  sure-close s i (outcome.Withdrawn l) b f p = (p.0, sure-open s (finish (outcome.Withdrawn l)) b f.0 f.1 refl p)
-  sure-close s i (outcome.Failed l x) b f p = (p.0, sure-open s (finish (outcome.Failed l x)) b f.0 f.1 refl p)
-  sure-close s i (outcome.LaterRead o x) b f p = (p.0, sure-open s (finish (outcome.LaterRead o x)) b f.0 f.1 refl p)
-  sure-close s i (outcome.LaterVersion o x) b f p = (p.0, sure-open s (finish (outcome.LaterVersion o x)) b f.0 f.1 refl p)
-  sure-close s i (outcome.Expired d m) b f p = (p.0, sure-open s (finish (outcome.Expired d m)) b f.0 f.1 refl p)
   sure-close s i (outcome.Spent c) b f p = (p.0, λ t e k. p.1 t (same b.acts ∙ e) k)
     where
       same : (acts : List Act) → front (tries_of acts) ≡ front (tries_of (on_act (λ a. record a { spent = Some c }) acts))
       same [] = refl
       same (a ∷ done) = refl
+  sure-close s i o b f p = (p.0, sure-open s (finish o) b f.0 f.1 refl p)
 
   sure-kept : (s : StampParts) (b : Book) (f : Effect) → FitsBook script me b f → Sure s b → Sure s (enter f b)
   sure-kept s b (effect.Run n) f p = (p.0, λ t e k. absurd (let z : None ≡ Some t = e in cc))
@@ -160,11 +146,7 @@ module _ (script : List ℕ → Tree) (me : ℕ) where
   sure-kept s b (effect.Got k v) f p = (p.0, sure-open s (gain (Got v)) b f.0 f.1 refl p)
   sure-kept s b (effect.Acked k) f p = (p.0, sure-open s (gain Stored) b f.0 f.1 refl p)
   sure-kept s b (effect.End i o) f p = sure-close s i o b f p
-  sure-kept s b (effect.Put o x v) f p = absurd f
-  sure-kept s b (effect.Stretch o x) f p = absurd f
-  sure-kept s b (effect.Begin x d) f p = absurd f
-  sure-kept s b (effect.Decide x d) f p = absurd f
-  sure-kept s b (effect.Learn x d) f p = absurd f
+  sure-kept s b g f p = absurd f
 
   module _ (run : ℕ) (acts : List Task) where
     -- what a stage says of what was heard
@@ -220,10 +202,7 @@ module _ (script : List ℕ → Tree) (me : ℕ) where
     OpeningOf s Idle = ⊥
     OpeningOf s (Refused t) = ⊥
     OpeningOf s (Opening t) = t.stamp ≡ s
-    OpeningOf s (Asking t q) = ⊥
-    OpeningOf s (Finishing t) = ⊥
-    OpeningOf s (Stopping t o) = ⊥
-    OpeningOf s (Closing t) = ⊥
+    OpeningOf s x = ⊥
 
     begin-same : (st : Stage) (n : NodeId) (s : StampParts) (k : ℕ) → standing st ≡ Some (record { to = n; message = message.Begin s k }) → OpeningOf s st
     unfolding OpeningOf
@@ -237,31 +216,23 @@ module _ (script : List ℕ → Tree) (me : ℕ) where
     begin-same (Closing t) n s k e = let m : message.Withdraw t.stamp ≡ message.Begin s k = ap (λ o. msg (message.Begin s k) o) e in cc
 
     AskingOf : TimeParts → Stage → Type 0
-    AskingOf x Idle = ⊥
-    AskingOf x (Refused t) = ⊥
-    AskingOf x (Opening t) = ⊥
     AskingOf x (Asking t q) = time_of t ≡ x
     AskingOf x (Finishing t) = ⊥
     AskingOf x (Stopping t o) = ⊥
     AskingOf x (Closing t) = ⊥
+    AskingOf x e = ⊥
 
     FinishingOf : StampParts → Stage → Type 0
-    FinishingOf s Idle = ⊥
-    FinishingOf s (Refused t) = ⊥
-    FinishingOf s (Opening t) = ⊥
-    FinishingOf s (Asking t q) = ⊥
     FinishingOf s (Finishing t) = t.stamp ≡ s
     FinishingOf s (Stopping t o) = ⊥
     FinishingOf s (Closing t) = ⊥
+    FinishingOf s x = ⊥
 
     WithdrawOf : StampParts → Stage → Type 0
     WithdrawOf s Idle = ⊥
     WithdrawOf s (Refused t) = t.stamp ≡ s
-    WithdrawOf s (Opening t) = ⊥
-    WithdrawOf s (Asking t q) = ⊥
-    WithdrawOf s (Finishing t) = ⊥
-    WithdrawOf s (Stopping t o) = ⊥
     WithdrawOf s (Closing t) = t.stamp ≡ s
+    WithdrawOf s x = ⊥
 
     read-same : (st : Stage) (n : NodeId) (x : TimeParts) (o : _) → standing st ≡ Some (record { to = n; message = message.Read x o }) → AskingOf x st
     unfolding AskingOf
@@ -351,12 +322,7 @@ module _ (script : List ℕ → Tree) (me : ℕ) where
     no-begin : (b : Book) (h : Heard) (t : Try) (st : Stage) → StageOk script me run acts b st → Says b h st → (h.begun ≡ Some t.stamp) ⊎ Past Never t.stamp b → OpeningOf t.stamp st → ⊥
     unfolding OpeningOf
     no-begin b h t (Opening u) ok sa k e = elim k [ inl w ↦ stamp-clash h.begun t.stamp u.stamp w e sa | inr p ↦ open-clash b t u ok e p ]
-    no-begin b h t Idle ok sa k e = e
-    no-begin b h t (Refused u) ok sa k e = e
-    no-begin b h t (Asking u q) ok sa k e = e
-    no-begin b h t (Finishing u) ok sa k e = e
-    no-begin b h t (Stopping u o) ok sa k e = e
-    no-begin b h t (Closing u) ok sa k e = e
+    no-begin b h t x ok sa k e = e
 
     no-ask : (b : Book) (h : Heard) (t : Try) (st : Stage) → StageOk script me run acts b st → Says b h st →
         (h.ended ≡ Some (time_of t)) ⊎ Past (λ n. length t.answers + 1 ≤ n) t.stamp b → AskingOf (time_of t) st → ⊥
@@ -367,22 +333,12 @@ module _ (script : List ℕ → Tree) (me : ℕ) where
           | inr p ↦ let r : length t.answers + 1 ≤ length u.answers = p.1 u ok.0 (ap (λ (y : TimeParts). y.stamp) e) in
               let n : length u.answers + 1 ≡ length t.answers + 1 = ap (λ (y : TimeParts). y.step) e in absurd (omega arith)
         ]
-    no-ask b h t Idle ok sa k e = e
-    no-ask b h t (Refused u) ok sa k e = e
-    no-ask b h t (Opening u) ok sa k e = e
-    no-ask b h t (Finishing u) ok sa k e = e
-    no-ask b h t (Stopping u o) ok sa k e = e
-    no-ask b h t (Closing u) ok sa k e = e
+    no-ask b h t x ok sa k e = e
 
     no-commit : (b : Book) (t : Try) (st : Stage) → StageOk script me run acts b st → Past Never t.stamp b → FinishingOf t.stamp st → ⊥
     unfolding FinishingOf
     no-commit b t (Finishing u) ok p e = open-clash b t u ok.0 e p
-    no-commit b t Idle ok p e = e
-    no-commit b t (Refused u) ok p e = e
-    no-commit b t (Opening u) ok p e = e
-    no-commit b t (Asking u q) ok p e = e
-    no-commit b t (Stopping u o) ok p e = e
-    no-commit b t (Closing u) ok p e = e
+    no-commit b t x ok p e = e
 
     no-withdraw : (b : Book) (h : Heard) (t : Try) (st : Stage) → StageOk script me run acts b st → Says b h st → Past Never t.stamp b →
         (h.closed ≡ Some t.stamp) ⊎ Sure t.stamp b → WithdrawOf t.stamp st → ⊥
@@ -393,11 +349,7 @@ module _ (script : List ℕ → Tree) (me : ℕ) where
           | inl w ↦ stamp-clash h.closed t.stamp u.stamp w e sa.1
           | inr r ↦ let c : true ≡ false = sym (r.1 u ok e) ∙ sa.2 in cc
         ]
-    no-withdraw b h t Idle ok sa p k e = e
-    no-withdraw b h t (Opening u) ok sa p k e = e
-    no-withdraw b h t (Asking u q) ok sa p k e = e
-    no-withdraw b h t (Finishing u) ok sa p k e = e
-    no-withdraw b h t (Stopping u o) ok sa p k e = e
+    no-withdraw b h t x ok sa p k e = e
 
     -- a blocked request doesn't stand
     blocked-new : (st : Stage) (h : Heard) (b : Book) (new : Stage) → StageOk script me run acts b new → Says b h new → Blocked st h b →

@@ -16,12 +16,7 @@ use Rattle.broker_core.specs.declared.resume_faults.ResumeFault.TheVariants as f
 module _ (script : List ℕ → Tree) (me run : ℕ) (acts : List Task) where
   run-close : (o : Outcome) (b : Book) → (close o b).run ≡ b.run
   run-close outcome.Committed b = refl
-  run-close (outcome.Withdrawn l) b = refl
-  run-close (outcome.Failed l k) b = refl
-  run-close (outcome.LaterRead o e) b = refl
-  run-close (outcome.LaterVersion o x) b = refl
-  run-close (outcome.Expired d m) b = refl
-  run-close (outcome.Spent c) b = refl
+  run-close o b = refl
 
   same-below : (b c : Book) → c.run ≡ b.run → nat_lt c.run run ≡ true → nat_lt b.run run ≡ true
   same-below b c e h = subst (λ n. nat_lt n run ≡ true) e h
@@ -33,11 +28,7 @@ module _ (script : List ℕ → Tree) (me run : ℕ) (acts : List Task) where
   was-below b (effect.Got k v) c h = h
   was-below b (effect.Acked k) c h = h
   was-below b (effect.End i o) c h = same-below b (close o b) (run-close o b) h
-  was-below b (effect.Put o x v) c h = h
-  was-below b (effect.Stretch o x) c h = h
-  was-below b (effect.Begin s d) c h = h
-  was-below b (effect.Decide s d) c h = h
-  was-below b (effect.Learn s d) c h = h
+  was-below b f c h = h
 
   not-this : (b : Book) → nat_lt b.run run ≡ true → (b.run == run) ≡ false
   not-this b h = grind (arith, common_steps)
@@ -45,16 +36,7 @@ module _ (script : List ℕ → Tree) (me run : ℕ) (acts : List Task) where
   no-unfit : (b : Book) (f : Effect) → nat_lt b.run run ≡ true → unfit_act script me run acts b f ≡ None
   no-unfit b (effect.Act i x t k y z) h =
       subst (λ c. (if c && (if fits script me acts b (effect.Act i x t k y z) then false else true) then Some i else None) ≡ None) (sym (not-this b h)) refl
-  no-unfit b (effect.Run n) h = refl
-  no-unfit b (effect.Try i s) h = refl
-  no-unfit b (effect.Got k v) h = refl
-  no-unfit b (effect.Acked k) h = refl
-  no-unfit b (effect.End i o) h = refl
-  no-unfit b (effect.Put o x v) h = refl
-  no-unfit b (effect.Stretch o x) h = refl
-  no-unfit b (effect.Begin s d) h = refl
-  no-unfit b (effect.Decide s d) h = refl
-  no-unfit b (effect.Learn s d) h = refl
+  no-unfit b f h = refl
 
   was-add : (c : Bool) (f : Effect) (kept : List Effect) → counts script me run acts (book kept) f ≡ c →
       nat_lt (book (add_if c f kept)).run run ≡ true → nat_lt (book kept).run run ≡ true

@@ -79,12 +79,7 @@ module _ (script : List ℕ → Tree) (me : ℕ) where
 
   ends-same : (t : Try) (o p : Outcome) → EndsBy script t o → EndsBy script (finish p t) o
   ends-same t outcome.Committed p h = h
-  ends-same t (outcome.Withdrawn l) p h = h
-  ends-same t (outcome.Failed l k) p h = h
-  ends-same t (outcome.LaterRead o x) p h = h
-  ends-same t (outcome.LaterVersion o x) p h = h
-  ends-same t (outcome.Expired d m) p h = h
-  ends-same t (outcome.Spent c) p h = h
+  ends-same t o p h = h
 
   played-end : (t : Try) (o : Outcome) → t.end ≡ None → EndsBy script t o → IsPlayed script t → IsPlayed script (finish o t)
   played-end t o e h p = record {
@@ -132,12 +127,7 @@ module _ (script : List ℕ → Tree) (me : ℕ) where
 
     came-same : (t : Try) (o p : Outcome) → EndCame me ever t o → EndCame me ever (finish p t) o
     came-same t outcome.Committed p h = h
-    came-same t (outcome.Withdrawn l) p h = h
-    came-same t (outcome.Failed l k) p h = h
-    came-same t (outcome.LaterRead o x) p h = h
-    came-same t (outcome.LaterVersion o x) p h = h
-    came-same t (outcome.Expired d m) p h = h
-    came-same t (outcome.Spent c) p h = h
+    came-same t o p h = h
 
     proven-end : (t : Try) (o : Outcome) → EndCame me ever t o → IsProven me ever t → IsProven me ever (finish o t)
     proven-end t o h p = record {
@@ -182,11 +172,7 @@ module _ (script : List ℕ → Tree) (me : ℕ) where
     proven-kept b (effect.Acked k) h v all =
         each-open _ (gain Stored) b.acts b.past h.0 h.1 (λ e p. proven-gain h.0 Stored k h.2.0 (of-open _ (open_try b) h.0 h.1 v) e p) all
     proven-kept b (effect.End i o) h v all = proven-close i o b h v all
-    proven-kept b (effect.Put o x w) h v all = absurd h
-    proven-kept b (effect.Stretch o x) h v all = absurd h
-    proven-kept b (effect.Begin s d) h v all = absurd h
-    proven-kept b (effect.Decide s d) h v all = absurd h
-    proven-kept b (effect.Learn s d) h v all = absurd h
+    proven-kept b f h v all = absurd h
 
     pub proven : (log : List Effect) → IsTidy script me log → HaveCauses me ever log → Every (IsProven me ever) (tries (book log))
     unfolding book

@@ -36,25 +36,16 @@ module _ (script : List ℕ → Tree) (me : ℕ) where
   -- a ready log was ready before
   run-close : (o : Outcome) (b : Book) → b.run ≤ (close o b).run
   run-close outcome.Committed b = omega arith
-  run-close (outcome.Withdrawn l) b = omega arith
-  run-close (outcome.Failed l k) b = omega arith
-  run-close (outcome.LaterRead o e) b = omega arith
-  run-close (outcome.LaterVersion o x) b = omega arith
-  run-close (outcome.Expired d m) b = omega arith
-  run-close (outcome.Spent c) b = omega arith
+  run-close o b = omega arith
 
   pub runs-rise : (b : Book) (f : Effect) → FitsBook script me b f → b.run ≤ (enter f b).run
-  runs-rise b (effect.Run n) h = omega arith
-  runs-rise b (effect.Act i x t k c y) h = omega arith
-  runs-rise b (effect.Try i s) h = omega arith
-  runs-rise b (effect.Got k v) h = omega arith
-  runs-rise b (effect.Acked k) h = omega arith
   runs-rise b (effect.End i o) h = run-close o b
   runs-rise b (effect.Put o x v) h = omega arith
   runs-rise b (effect.Stretch o x) h = omega arith
   runs-rise b (effect.Begin s d) h = omega arith
   runs-rise b (effect.Decide s d) h = omega arith
   runs-rise b (effect.Learn s d) h = omega arith
+  runs-rise b f h = omega arith
 
   not-over : (run m n : ℕ) → m ≤ n → nat_lt run n ≡ false → nat_lt run m ≡ false
   not-over run m n h k = grind (arith, common_steps)
@@ -205,10 +196,8 @@ module _ (script : List ℕ → Tree) (me : ℕ) where
     end-more t outcome.Committed h = came-more _ h
     end-more t (outcome.Withdrawn l) h = h
     end-more t (outcome.Failed l k) h = h
-    end-more t (outcome.LaterRead o x) h = came-more _ h
-    end-more t (outcome.LaterVersion o x) h = came-more _ h
-    end-more t (outcome.Expired d m) h = came-more _ h
     end-more t (outcome.Spent c) h = h
+    end-more t w h = came-more _ h
 
     open-more : (P Q : Try → Type 0) → ((t : Try) → P t → Q t) → (o : Option Try) → OfOpen o P → OfOpen o Q
     open-more P Q k None h = h
@@ -218,14 +207,7 @@ module _ (script : List ℕ → Tree) (me : ℕ) where
     cause-more b (effect.Got k v) h = open-more _ _ (λ t p. answer-more (Got v) _ p) (open_try b) h
     cause-more b (effect.Acked k) h = open-more _ _ (λ t p. answer-more Stored _ p) (open_try b) h
     cause-more b (effect.End i o) h = open-more _ _ (λ t p. end-more t o p) (open_try b) h
-    cause-more b (effect.Run n) h = h
-    cause-more b (effect.Act i x t k c y) h = h
-    cause-more b (effect.Try i s) h = h
-    cause-more b (effect.Put o x v) h = h
-    cause-more b (effect.Stretch o x) h = h
-    cause-more b (effect.Begin s d) h = h
-    cause-more b (effect.Decide s d) h = h
-    cause-more b (effect.Learn s d) h = h
+    cause-more b f h = h
 
     pub effs-more : (log : List Effect) → HaveCauses me ever log → HaveCauses me (ever ++ more) log
     effs-more [] h = h

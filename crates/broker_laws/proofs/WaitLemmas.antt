@@ -1,7 +1,5 @@
 -- A new try and a request come only after what they wait for came.
-use Rattle.std.proofs.Common.{◌≡◌, ℕ, List, [], Some, None, inl, inr, refl}
-use Rattle.pseudo_time.specs.StampParts.{StampParts}
-use Rattle.pseudo_time.specs.declared.nodes.NodeId.{NodeId}
+use Rattle.std.proofs.Common.{◌≡◌, ℕ, List, [], Some, inl, inr, refl}
 use Rattle.message_form.specs.declared.messages.Message.{Message}
 use Rattle.message_form.specs.declared.messages.Message.TheVariants as message
 use Rattle.turn_form.specs.Posts.{Post}
@@ -23,17 +21,7 @@ module _ (script : List ℕ → Tree) (me run : ℕ) (acts : List Task) (ever : 
   tells b (message.Begun s) h k = inl h
   tells b (message.Decided s d) h k = ((d, h), inr (d, h))
   tells b (message.Ended x) h k = absurd k
-  tells b (message.Begin s t) h k = tt
-  tells b (message.Read x o) h k = tt
-  tells b (message.Value x v) h k = tt
-  tells b (message.Write x o v) h k = tt
-  tells b (message.Stored x) h k = tt
-  tells b (message.LaterRead x e) h k = tt
-  tells b (message.LaterVersion x e) h k = tt
-  tells b (message.Commit s) h k = tt
-  tells b (message.Withdraw s) h k = tt
-  tells b (message.Ask s) h k = tt
-  tells b (message.Tell s c) h k = tt
+  tells b m h k = tt
 
   pub turn-waits : (d : Desk) (i : Input) → MayInput me ever i → IsCalm i → Waits script me run acts ever d → Waits script me run acts ever (desk_turn script me run acts d i)
   turn-waits d Go may calm w = go-sound script me run acts (BegunCame me ever) (DecidedCame me ever) d w
