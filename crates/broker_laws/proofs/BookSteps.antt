@@ -7,11 +7,12 @@ use Rattle.pseudo_time.proofs.ListLemmas.{every-has}
 use Rattle.pseudo_time.specs.StampParts.{StampParts}
 use Rattle.pseudo_time.specs.TimeParts.{TimeParts}
 use Rattle.pseudo_time.proofs.OrderLemmas.{same_stamp-is}
+use Rattle.value_form.specs.declared.endings.Ending.TheVariants as ending
 use Rattle.effect_form.specs.declared.effects.Effect.{Effect}
 use Rattle.effect_form.specs.declared.effects.Effect.TheVariants as effect
 use Rattle.effect_form.specs.declared.outcomes.Outcome.{Outcome}
 use Rattle.effect_form.specs.declared.outcomes.Outcome.TheVariants as outcome
-use Rattle.script_meaning.specs.Meaning.{Answer, Got, Stored, Stop, Asks}
+use Rattle.script_meaning.specs.Meaning.{Answer, Got, Stored, Stop, Asks, Over}
 use Rattle.serial_model.specs.Questions.{Tree}
 use Rattle.broker_core.specs.declared.heards.Heard.{Heard}
 use Rattle.broker_core.specs.Tasks.{Task, task_with}
@@ -211,7 +212,9 @@ module _ (script : List ℕ → Tree) (me run : ℕ) (acts : List Task) (Begun D
 
   by-stop-sound : (t : Try) (s : Stop) → Begun t.stamp → StageSound (by_stop t s)
   by-stop-sound t (Asks q) k = k
-  by-stop-sound t x k = k
+  by-stop-sound t (Over ending.Finished) k = k
+  by-stop-sound t (Over (ending.Withdrawn l)) k = k
+  by-stop-sound t (Over (ending.Failed l x)) k = k
 
   pub stamp-heard : (o : Option StampParts) (s : StampParts) → is_stamp o s ≡ true → o ≡ Some s
   stamp-heard None s e = absurd (false≢true e)

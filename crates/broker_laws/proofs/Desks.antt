@@ -66,7 +66,9 @@ module _ (script : List ℕ → Tree) (me run : ℕ) (acts : List Task) where
 
   by-stop-ok : (b : Book) (t : Try) (s : Stop) → open_try b ≡ Some t → stop_of script t ≡ s → StageOk b (by_stop t s)
   by-stop-ok b t (Asks q) e h = (e, h)
-  by-stop-ok b t x e h = (e, h)
+  by-stop-ok b t (Over ending.Finished) e h = (e, h)
+  by-stop-ok b t (Over (ending.Withdrawn l)) e h = (e, h)
+  by-stop-ok b t (Over (ending.Failed l k)) e h = (e, h)
 
   of-stage : (b : Book) (h : Heard) (o last : Option Try) → open_try b ≡ o → last_try b ≡ last → StageOk b (stage_of script h o last)
   of-stage b h (Some t) last e l =

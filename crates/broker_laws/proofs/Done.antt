@@ -10,6 +10,7 @@ use Rattle.effect_form.specs.declared.effects.Effect.TheVariants as effect
 use Rattle.effect_form.specs.declared.outcomes.Outcome.{Outcome}
 use Rattle.effect_form.specs.declared.outcomes.Outcome.TheVariants as outcome
 use Rattle.turn_form.specs.Posts.{Post}
+use Rattle.value_form.specs.declared.endings.Ending.TheVariants as ending
 use Rattle.broker_core.specs.Book.{Act, Book, Try, book, close, enter, front, on_act, open_of, open_try, time_of, tries_of}
 use Rattle.broker_core.specs.Fits.{another, has_outcome, is_none, outcome_by, stop_of}
 use Rattle.broker_core.specs.Owed.{after_act, after_tries, all_over, by_stage, done, due, owed, start, try_or_spent}
@@ -23,7 +24,7 @@ use Rattle.broker_laws.proofs.TestLemmas.{and-both}
 use Rattle.broker_core.specs.Sound.{Started}
 use Rattle.broker_laws.specs.Fits.{FitsBook, IsTidy, may_start}
 use Rattle.broker_laws.specs.Works.{IsRested, TurnHolds}
-use Rattle.script_meaning.specs.Meaning.{Asks, Stop, ToRead}
+use Rattle.script_meaning.specs.Meaning.{Asks, Over, Stop, ToRead, ToWrite}
 use Rattle.serial_model.specs.Questions.{Tree}
 
 past-end : (xs : List Task) (n : ℕ) → slice_get xs n ≡ None → length xs ≤ n
@@ -70,7 +71,10 @@ module _ (script : List ℕ → Tree) (me : ℕ) where
     -- an open try always stands or stops
     by-stop-busy : (h : Heard) (b : Book) (t : Try) (s : Stop) → standing (by_stop t s) ≡ None → by_stage me acts h b (by_stop t s) ≡ None → ⊥
     by-stop-busy h b t (Asks (ToRead o)) s w = cc
-    by-stop-busy h b t x s w = cc
+    by-stop-busy h b t (Asks (ToWrite o v)) s w = cc
+    by-stop-busy h b t (Over ending.Finished) s w = cc
+    by-stop-busy h b t (Over (ending.Withdrawn l)) s w = cc
+    by-stop-busy h b t (Over (ending.Failed l k)) s w = cc
 
     if-busy : (h : Heard) (b : Book) (c : Bool) (x y : Stage) →
         (standing x ≡ None → by_stage me acts h b x ≡ None → ⊥) → (standing y ≡ None → by_stage me acts h b y ≡ None → ⊥) →

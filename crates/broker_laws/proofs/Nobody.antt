@@ -4,13 +4,14 @@ use Rattle.pseudo_time.specs.Lists.{Every}
 use Rattle.pseudo_time.proofs.ListLemmas.{every-append}
 use Rattle.effect_form.specs.declared.effects.Effect.{Effect}
 use Rattle.turn_form.specs.declared.turns.Out.{Out}
+use Rattle.script_meaning.specs.Meaning.{ToRead, ToWrite}
 use Rattle.serial_model.specs.Questions.{Tree}
 use Rattle.broker_core.specs.declared.replies.Reply.{Reply}
 use Rattle.broker_core.specs.declared.replies.Reply.TheVariants.{Ignored, Hears, Adds}
 use Rattle.broker_core.specs.Tasks.{Task}
 use Rattle.broker_core.specs.Owed.{owed}
 use Rattle.broker_core.specs.Rows.{row, news}
-use Rattle.broker_core.specs.Stages.{Stage, Idle, stage, standing}
+use Rattle.broker_core.specs.Stages.{Stage, Idle, Refused, Opening, Asking, Finishing, Stopping, Closing, stage, standing}
 use Rattle.broker_core.specs.Turns.{Desk, Input, Go, Hear, Take, fuel, hears, note, note_if, send, state, settle_up, say, reply, desk_turn}
 use Rattle.broker_laws.specs.Works.{AsksNobody}
 
@@ -23,7 +24,13 @@ MayStand (Some o) = AsksNobody o.message
 
 standing-nobody : (st : Stage) → MayStand (standing st)
 standing-nobody Idle = tt
-standing-nobody x = tt
+standing-nobody (Refused t) = tt
+standing-nobody (Opening t) = tt
+standing-nobody (Asking t (ToRead o)) = tt
+standing-nobody (Asking t (ToWrite o v)) = tt
+standing-nobody (Finishing t) = tt
+standing-nobody (Stopping t o) = tt
+standing-nobody (Closing t) = tt
 
 send-nobody : (o : Option Out) (d : Desk) → MayStand o → AskNobody d.outs → AskNobody (send o d).outs
 send-nobody None d k h = h
