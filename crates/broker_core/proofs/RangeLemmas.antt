@@ -52,7 +52,7 @@ use Rattle.broker_core.specs.Tests.{is_stamp, is_time}
 use Rattle.broker_core.specs.Rows.{when}
 use Rattle.broker_core.specs.Notes.{act_at, answered_in, answers_given, another_at, changed, fits_try_at, end_noted, home_of, index_of, most_of, open_last, passed, run_begun, shown_by, stop_at, time_at, timeout_of, tree_of, unended}
 use Rattle.broker_core.specs.Phases.{phase_of, phase_by_last, phase_by_stop, phase_by_open, phase_at, closed_at, closed_in, standing_for, standing_by, standing_at, ends_at, commit_answered, early_answered, opening_row, ended_row, reading_row, writing_row, decided_of, decision_row, reply_for, reply_by, reply_at, start_at, shown_at, by_clock_at, try_or_spent_at, after_tries_at, due_at, by_phase}
-use Rattle.broker_core.specs.Ledgers.{IsAct, AreActs, AreNotes, LedgerParts, Settled, kept, owed_now, settle_on, settled, most_steps}
+use Rattle.broker_core.specs.Ledgers.{IsBrokerAct, AreBrokerActs, AreNotes, LedgerParts, Settled, kept, owed_now, settle_on, settled, most_steps}
 use Rattle.broker_core.specs.Replays.{fits_now, added, logged, led, fresh_ledger}
 use Rattle.broker_core.specs.Inputs.{listed, phase_in, effects_from, ledger_from}
 use Rattle.broker_core.specs.Ranges.{GivenInRange, HasStamp, IsHeard, FirstInRange, AreInRange, Ranged}
@@ -235,20 +235,20 @@ heard-Fit l (effect.Acked k) e is h = record { started = h.started; clock = h.cl
 heard-Fit l (effect.End i o) e is h = end-Fit l.acts l.answers o l.notes e.0.1 h
 heard-Fit l f e is h = absurd is
 
-module _ (acts : List ActSpec) (each : Every IsAct acts) where
-  act-there : (n : Notes) → n.started ≢ 0 → n.started ≤ length acts → Holds IsAct (act_at acts n)
+module _ (acts : List ActSpec) (each : Every IsBrokerAct acts) where
+  act-there : (n : Notes) → n.started ≢ 0 → n.started ≤ length acts → Holds IsBrokerAct (act_at acts n)
   act-there n ne few =
-      by_test (n.started == 0) (λ c. Holds IsAct (cond c None (slice_get acts (n.started - 1)))) (λ e. absurd (ne (eqb-true n.started 0 e)))
-      (λ e. there IsAct acts (n.started - 1) (omega arith) each)
+      by_test (n.started == 0) (λ c. Holds IsBrokerAct (cond c None (slice_get acts (n.started - 1)))) (λ e. absurd (ne (eqb-true n.started 0 e)))
+      (λ e. there IsBrokerAct acts (n.started - 1) (omega arith) each)
 
-  index-there : (o : Option ActSpec) → Holds IsAct o → IsIndex (index_of o)
+  index-there : (o : Option ActSpec) → Holds IsBrokerAct o → IsIndex (index_of o)
   index-there None h = absurd h
   index-there (Some a) h = (let k = h.index_high in omega arith, h.index_low, h.index_high)
 
   act-fits : (n : Notes) → AsksInRange (tree_of (act_at acts n))
-  act-fits n = by_test (n.started == 0) (λ c. AsksInRange (tree_of (cond c None (slice_get acts (n.started - 1))))) (λ e. tt) (λ e. of (slice_get acts (n.started - 1)) (placed IsAct acts (n.started - 1) each))
+  act-fits n = by_test (n.started == 0) (λ c. AsksInRange (tree_of (cond c None (slice_get acts (n.started - 1))))) (λ e. tt) (λ e. of (slice_get acts (n.started - 1)) (placed IsBrokerAct acts (n.started - 1) each))
     where
-      of : (o : Option ActSpec) → Placed IsAct acts (n.started - 1) o → AsksInRange (tree_of o)
+      of : (o : Option ActSpec) → Placed IsBrokerAct acts (n.started - 1) o → AsksInRange (tree_of o)
       of None h = tt
       of (Some a) h = denote-HasBytes (block a.script.lines) (printable-InRange 16 (block a.script.lines) h.0.script)
 
@@ -308,7 +308,7 @@ module _ (acts : List ActSpec) (each : Every IsAct acts) where
     OwedFits n None = Unit {0}
     OwedFits n (Some f) = IsEffect f × Fit acts answers (changed acts f n)
 
-    start-fits : (n : Notes) (o : Option ActSpec) → Fit acts answers n → Placed IsAct acts n.started o → OwedFits n (start_at o)
+    start-fits : (n : Notes) (o : Option ActSpec) → Fit acts answers n → Placed IsBrokerAct acts n.started o → OwedFits n (start_at o)
     start-fits n None h p = tt
     start-fits n (Some a) h (is, below) =
         let text = script-IsBytes 16 (block a.script.lines) is.script in
@@ -327,17 +327,17 @@ module _ (acts : List ActSpec) (each : Every IsAct acts) where
         (e, record { started = omega (arith, below); clock = h.clock; range = changed-InRange acts (act_effect (task_of a)) n answers e tt h.range })
 
     start-there : (n : Notes) → Fit acts answers n → OwedFits n (start_at (slice_get acts n.started))
-    start-there n h = start-fits n (slice_get acts n.started) h (placed IsAct acts n.started each)
+    start-there n h = start-fits n (slice_get acts n.started) h (placed IsBrokerAct acts n.started each)
 
-    shown-fits : (n : Notes) (o : Option ActSpec) → Holds IsAct o → n.shown ≤ 1099511627775 → shown_at o n ≤ 1099511627775
+    shown-fits : (n : Notes) (o : Option ActSpec) → Holds IsBrokerAct o → n.shown ≤ 1099511627775 → shown_at o n ≤ 1099511627775
     shown-fits n None a h = absurd a
     shown-fits n (Some a) is h = max-le h (let k = is.clock_high in omega arith)
 
-    home-there : (o : Option ActSpec) → Holds IsAct o → (1 ≤ home_of o) × (home_of o ≤ 16)
+    home-there : (o : Option ActSpec) → Holds IsBrokerAct o → (1 ≤ home_of o) × (home_of o ≤ 16)
     home-there None h = absurd h
     home-there (Some a) h = (h.home_low, h.home_high)
 
-    by-clock : (n : Notes) (o : Option ActSpec) → Fit acts answers n → n.started ≢ 0 → Holds IsAct o → OwedFits n (Some (by_clock_at me o n (next_clock n.clock (shown_at o n))))
+    by-clock : (n : Notes) (o : Option ActSpec) → Fit acts answers n → n.started ≢ 0 → Holds IsBrokerAct o → OwedFits n (Some (by_clock_at me o n (next_clock n.clock (shown_at o n))))
     by-clock n o h b a =
         let last : ℕ = max n.clock (shown_at o n) in
         let high : last ≤ 1099511627775 = max-le h.clock (shown-fits n o a h.range.shown) in
@@ -401,7 +401,7 @@ module _ (acts : List ActSpec) (each : Every IsAct acts) where
 
   -- ---- messages
 
-  timeout-there : (o : Option ActSpec) → Holds IsAct o → (timeout_of o < 2 ^ 32) × (1 ≤ timeout_of o) × (timeout_of o ≤ 1000000)
+  timeout-there : (o : Option ActSpec) → Holds IsBrokerAct o → (timeout_of o < 2 ^ 32) × (1 ≤ timeout_of o) × (timeout_of o ≤ 1000000)
   timeout-there None h = absurd h
   timeout-there (Some a) h = (let k = h.timeout_high in omega arith, h.timeout_low, h.timeout_high)
 
@@ -537,13 +537,13 @@ ranged-restored number run acts n old new same r = record {
   in_range = record { begun = r.in_range.begun; shown = r.in_range.shown; stamp = r.in_range.stamp; answers_fit = subst (Every GivenInRange) (sym same) r.in_range.answers_fit };
 }
 
-pub ranged-opened : (number run : ℕ) (acts : List ActSpec) (log : List Effect) (l0 l l' : LedgerParts) → AreActs acts → 1 ≤ number → number ≤ 16 → 1 ≤ run → run < 2 ^ 32 → AreEffects log →
+pub ranged-opened : (number run : ℕ) (acts : List ActSpec) (log : List Effect) (l0 l l' : LedgerParts) → AreBrokerActs acts → 1 ≤ number → number ≤ 16 → 1 ≤ run → run < 2 ^ 32 → AreEffects log →
     l0 ≡ fresh_ledger number run acts → l ≡ led l0 (reverse log) → l' ≡ l → AreNotes l.acts l.notes l.answers → Ranged l'
 ranged-opened number run acts log l0 l l' are low high run_low run_high es fresh e same notes =
     let is : l ≡ led (fresh_ledger number run acts) (reverse log) = e ∙ ap (λ x. led x (reverse log)) fresh in
     let names = led-same (fresh_ledger number run acts) (reverse log) in
     subst Ranged (sym same) (record {
-      are_acts = subst AreActs (sym (ap (λ (x : LedgerParts). x.acts) is ∙ names.2)) are;
+      are_acts = subst AreBrokerActs (sym (ap (λ (x : LedgerParts). x.acts) is ∙ names.2)) are;
       number_low = subst (λ n. 1 ≤ n) (sym (ap (λ (x : LedgerParts). x.number) is ∙ names.0)) low;
       number_high = subst (λ n. n ≤ 16) (sym (ap (λ (x : LedgerParts). x.number) is ∙ names.0)) high;
       run_low = subst (λ n. 1 ≤ n) (sym (ap (λ (x : LedgerParts). x.run) is ∙ names.1)) run_low;

@@ -16,7 +16,7 @@ use Rattle.script_form.specs.Scripts.{IsScriptLines}
 use Rattle.script_form.proofs.PrintLemmas.{one_script_of_lines, printed_is_script}
 use Rattle.serial_model.specs.Questions.{Tree, denote}
 use Rattle.broker_core.specs.Tasks.{Scripted}
-use Rattle.broker_core.specs.Ledgers.{IsAct}
+use Rattle.broker_core.specs.Ledgers.{IsBrokerAct}
 use Rattle.broker_core.specs.Readings.{reading}
 
 -- ---- a greater greatest repository
@@ -55,21 +55,21 @@ part a = block a.script.lines
 abbrev text : ActSpec → List ℕ
 text a = script_text (part a)
 
-read-by : (c : Bool) (x a : ActSpec) (rest : Tree) → pointwise ◌==◌ (text x) (text a) ≡ c → IsAct x → IsAct a → (c ≡ false → rest ≡ denote (part a)) →
+read-by : (c : Bool) (x a : ActSpec) (rest : Tree) → pointwise ◌==◌ (text x) (text a) ≡ c → IsBrokerAct x → IsBrokerAct a → (c ≡ false → rest ≡ denote (part a)) →
     (if c then denote (part x) else rest) ≡ denote (part a)
 read-by true x a rest e p q h = ap denote (printable-apart 16 16 (part x) (part a) p.script q.script (same_text (text x) (text a) (sym e)))
 read-by false x a rest e p q h = h refl
 
-pub reads : (acts : List ActSpec) (a : ActSpec) → Every IsAct acts → IsAct a → Has a acts → reading acts (text a) ≡ denote (part a)
+pub reads : (acts : List ActSpec) (a : ActSpec) → Every IsBrokerAct acts → IsBrokerAct a → Has a acts → reading acts (text a) ≡ denote (part a)
 unfolding reading
 reads [] a ps q h = absurd h
 reads (x ∷ acts) a ps q (inl e) = read-by (pointwise ◌==◌ (text x) (text a)) x a (reading acts (text a)) refl ps.0 q
     (λ no. absurd (false≢true (sym no ∙ (bytes_decides (text x) (text a)).1 (ap text e))))
 reads (x ∷ acts) a ps q (inr h) = read-by (pointwise ◌==◌ (text x) (text a)) x a (reading acts (text a)) refl ps.0 q (λ no. reads acts a ps.1 q h)
 
-pub reads-all : (all acts : List ActSpec) → Every IsAct all → Every IsAct acts → ((a : ActSpec) → Has a acts → Has a all) → Scripted (reading all) acts
+pub reads-all : (all acts : List ActSpec) → Every IsBrokerAct all → Every IsBrokerAct acts → ((a : ActSpec) → Has a acts → Has a all) → Scripted (reading all) acts
 reads-all all [] ps qs h = tt
 reads-all all (a ∷ acts) ps qs h = (reads all a ps qs.0 (h a (inl refl)), reads-all all acts ps qs.1 (λ x k. h x (inr k)))
 
-pub reads-own : (acts : List ActSpec) → Every IsAct acts → Scripted (reading acts) acts
+pub reads-own : (acts : List ActSpec) → Every IsBrokerAct acts → Scripted (reading acts) acts
 reads-own acts ps = reads-all acts acts ps ps (λ a h. h)

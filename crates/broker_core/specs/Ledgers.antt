@@ -16,8 +16,8 @@ use Rattle.broker_core.specs.declared.notes.Notes.{Notes}
 use Rattle.broker_core.specs.Notes.{act_at, answer_of, answered_in, answers_given, changed, stop_at, tree_of}
 use Rattle.broker_core.specs.Phases.{phase_at, owed_at}
 
--- an act that a plan can have: an Act effect can say its numbers, and its script is one of the language
-pub record IsAct (a : ActSpec) : Type 0 where
+-- an act that a plan can give a broker: an Act effect can say its numbers, and its script is one of the language
+pub record IsBrokerAct (a : ActSpec) : Type 0 where
   pub index_low : 1 ≤ a.index
   pub index_high : a.index ≤ 10000
   pub home_low : 1 ≤ a.home
@@ -30,8 +30,8 @@ pub record IsAct (a : ActSpec) : Type 0 where
   pub clock_high : a.clock ≤ 1099511627775
   pub script : IsPrintable 16 (block a.script.lines)
 
-pub record AreActs (acts : List ActSpec) : Type 0 where
-  pub each : Every IsAct acts
+pub record AreBrokerActs (acts : List ActSpec) : Type 0 where
+  pub each : Every IsBrokerAct acts
   pub few : length acts ≤ 10000
 
 -- what a log comes to, with the acts that the plan gives the broker
@@ -67,7 +67,7 @@ pub record AreNotes (acts : List ActSpec) (n : Notes) (answers : List Given) : T
 pub record IsLedger (number : ℕ) (acts : List ActSpec) (n : Notes) (answers : List Given) (stepper : Option RunParts) : Type 0 where
   pub number_low : 1 ≤ number
   pub number_high : number ≤ 16
-  pub are_acts : AreActs acts
+  pub are_acts : AreBrokerActs acts
   pub are_notes : AreNotes acts n answers
   pub stepper_fits : StepperFits acts n answers stepper
 

@@ -10,7 +10,7 @@ use Rattle.broker_core.specs.declared.givens.Given.{Given}
 use Rattle.broker_core.specs.declared.givens.Given.TheVariants as given
 use Rattle.broker_core.specs.declared.notes.Last.{Last}
 use Rattle.broker_core.specs.declared.notes.Notes.{Notes}
-use Rattle.broker_core.specs.Ledgers.{AreActs, LedgerParts, kept}
+use Rattle.broker_core.specs.Ledgers.{AreBrokerActs, LedgerParts, kept}
 
 -- an answer to a read has bytes
 abbrev pub GivenInRange : Given → Type 0
@@ -43,7 +43,7 @@ pub record AreInRange (n : Notes) (answers : List Given) : Type 0 where
 
 -- the ledger of a broker of 1 to 16 in a run of a plan, with what is kept in range
 pub record Ranged (l : LedgerParts) : Type 0 where
-  pub are_acts : AreActs l.acts
+  pub are_acts : AreBrokerActs l.acts
   pub number_low : 1 ≤ l.number
   pub number_high : l.number ≤ 16
   pub run_low : 1 ≤ l.run

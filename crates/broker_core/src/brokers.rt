@@ -181,7 +181,7 @@ impl Broker {
         requires low { 1 ≤ number }
         requires high { number ≤ 16 }
         requires run { 1 ≤ run }
-        requires acts { ledgers.AreActs acts.now }
+        requires acts { ledgers.AreBrokerActs acts.now }
         requires log { AreEffects effects.now }
         ensures opens { (script : List ℕ → Tree) → Scripted script acts.now → spec.Opens script number run acts.now effects.now result }
         ensures fresh { IfOk result (λ b. b ≡ spec.opened_broker number run acts.now effects.now) }

@@ -8,7 +8,7 @@ ghost use Rattle.statement_form.specs.RowTexts.{script_text};
 ghost use Rattle.script_form.specs.Printable.{IsPrintable};
 ghost use Rattle.serial_model.specs.Questions.{Tree};
 ghost use Rattle.broker_core.specs.Fits.{keep, resume_fault};
-ghost use Rattle.broker_core.specs.Ledgers.{IsAct};
+ghost use Rattle.broker_core.specs.Ledgers.{IsBrokerAct};
 ghost use Rattle.broker_core.specs.Readings.{reading};
 ghost use Rattle.broker_core.specs.Tasks.{Task, Scripted};
 ghost use Rattle.broker_core.specs.Turns.{Desk, Input, desk_turn};
@@ -17,8 +17,8 @@ ghost use Rattle.broker_core.specs.Turns.{Desk, Input, desk_turn};
 /// and one reading reads the acts of many plans: that of all their acts.
 pub fn law_of_readings()
     ensures apart { (n m : ℕ) (a b : Block) → IsPrintable n a → IsPrintable m b → script_text a ≡ script_text b → a ≡ b }
-    ensures own { (acts : List ActSpec) → Every IsAct acts → Scripted (reading acts) acts }
-    ensures among { (all acts : List ActSpec) → Every IsAct all → Every IsAct acts → ((a : ActSpec) → Has a acts → Has a all) → Scripted (reading all) acts }
+    ensures own { (acts : List ActSpec) → Every IsBrokerAct acts → Scripted (reading acts) acts }
+    ensures among { (all acts : List ActSpec) → Every IsBrokerAct all → Every IsBrokerAct acts → ((a : ActSpec) → Has a acts → Has a all) → Scripted (reading all) acts }
 {}
 
 /// Two readings that agree on the texts of a broker's acts give the same turns, count the same of a

@@ -58,7 +58,7 @@ impl Replay {
     pub fn new(alloc: Global, number: u8, run: u32, acts: &[ActSpec]) -> Result<Replay, AllocError>
         requires low { 1 ≤ number }
         requires high { number ≤ 16 }
-        requires acts { spec.AreActs acts.now }
+        requires acts { spec.AreBrokerActs acts.now }
         ensures { IfOk result (λ l. l ≡ record { number = number; run = run; acts = acts.now; notes = notes.blank_notes; answers = [] }) }
     {
         let acts = copy_acts(alloc, acts)?;
@@ -123,7 +123,7 @@ impl Replay {
     /// The act that was begun last.
     pub fn last_act(&self) -> Option<&ActSpec>
         ensures act { option_copied result ≡ notes.act_at self.now.acts self.now.notes }
-        ensures is_act { IfSome result (λ a. spec.IsAct a.now) }
+        ensures is_act { IfSome result (λ a. spec.IsBrokerAct a.now) }
     {
         if self.notes.started == 0 {
             return None;

@@ -227,7 +227,7 @@ pub fn counted_effects(
 ) -> Result<Vec<bool>, AllocError>
     requires low { 1 ≤ number }
     requires high { number ≤ 16 }
-    requires acts { ledgers.AreActs acts.now }
+    requires acts { ledgers.AreBrokerActs acts.now }
     ensures { (script : List ℕ → Tree) → Scripted script acts.now → IfOk result (λ flags. reverse flags.items ≡ counting script number run (tasks.tasks acts.now) (reverse effects.now)) }
 {
     let mut ledger = Replay::new(alloc, number, run, acts)?;

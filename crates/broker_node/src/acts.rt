@@ -1,5 +1,5 @@
 ghost use Rattle.std.specs.Prelude.{◌≡◌};
-ghost use Rattle.broker_core.specs.Ledgers.{AreActs};
+ghost use Rattle.broker_core.specs.Ledgers.{AreBrokerActs};
 
 use std::marker::Model;
 use value_form::ActSpec;
@@ -15,7 +15,7 @@ impl Model for OwnActs {
     ghost use Rattle.std.specs.Coded.{codes};
     ghost use Rattle.value_form.specs.contracts.scripts.Stmt as stmt;
     ghost use Rattle.value_form.specs.declared.acts.ActSpec.{ActSpec};
-    ghost use Rattle.broker_core.specs.Ledgers.{AreActs};
+    ghost use Rattle.broker_core.specs.Ledgers.{AreBrokerActs};
 
     ghost Value = { List ActSpec };
 
@@ -23,12 +23,12 @@ impl Model for OwnActs {
 
     ghost view = { λ a. a.acts.items };
 
-    ghost invariant = { λ a. AreActs a.acts.items };
+    ghost invariant = { λ a. AreBrokerActs a.acts.items };
 }
 
 impl OwnActs {
     pub(crate) fn of(acts: Vec<ActSpec>) -> OwnActs
-        requires acts { AreActs acts.items }
+        requires acts { AreBrokerActs acts.items }
         ensures { result ≡ acts.items }
     {
         OwnActs { acts }
@@ -36,7 +36,7 @@ impl OwnActs {
 
     pub(crate) fn as_slice(&self) -> &[ActSpec]
         ensures acts { result.now ≡ self.now }
-        ensures in_range { AreActs self.now }
+        ensures in_range { AreBrokerActs self.now }
     {
         self.acts.as_slice()
     }

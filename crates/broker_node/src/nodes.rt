@@ -2,7 +2,7 @@
 ghost use Rattle.std.specs.Prelude.{◌≡◌, ◌≤◌, [], false, IsTrue, IfOk, IfErr, Some};
 ghost use Rattle.effect_form.specs.Effects.{AreEffects};
 ghost use Rattle.pseudo_time.specs.Nodes.{broker};
-ghost use Rattle.broker_core.specs.Ledgers.{AreActs};
+ghost use Rattle.broker_core.specs.Ledgers.{AreBrokerActs};
 ghost use Rattle.broker_core.specs.Tasks.{Scripted};
 ghost use Rattle.version_store.specs.StoreWords.{medium_of, effects_in};
 ghost use Rattle.seat_lock.specs.Words.{knows};
@@ -46,7 +46,7 @@ pub fn open_broker<F: Fates, C: Clock, M: Medium>(
     requires low { 1 ≤ number }
     requires high { number ≤ 16 }
     requires runs { (1 ≤ run) × (run ≡ (origin_at (knows pass)).run) }
-    requires acts { AreActs acts.items × (acts.items ≡ acts_of number (origin_at (knows pass)).acts) × Scripted (base_at (knows pass)).script acts.items }
+    requires acts { AreBrokerActs acts.items × (acts.items ≡ acts_of number (origin_at (knows pass)).acts) × Scripted (base_at (knows pass)).script acts.items }
     requires open { M.is_failed (medium_of store) ≡ false }
     requires log { IsTrue M.tells → effects_in M.reads store ≡ effects.now }
     requires ranges { AreEffects effects.now }

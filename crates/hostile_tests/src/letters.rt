@@ -1,6 +1,6 @@
 //! Messages that are ignored: what a node gives for those before and after is the same without them.
 ghost use Rattle.std.specs.Prelude.{◌≡◌, false, IfOk, OnOk};
-ghost use Rattle.broker_core.specs.Ledgers.{AreActs};
+ghost use Rattle.broker_core.specs.Ledgers.{AreBrokerActs};
 ghost use Rattle.message_form.specs.Messages.{IsMessage};
 ghost use Rattle.plan_form.specs.PlanTexts.{IsOfLanguage};
 
@@ -358,7 +358,7 @@ fn plan_of(alloc: Global, text: &[u8]) -> Result<Plan, Fail>
 }
 
 fn acts(alloc: Global) -> Result<Plan, Fail>
-    ensures { IfOk result (λ p. AreActs p.acts) }
+    ensures { IfOk result (λ p. AreBrokerActs p.acts) }
 {
     law_of_plans_in_range();
     let plan = plan_of(alloc, PLAN)?;
@@ -395,7 +395,7 @@ fn given_by_broker(
     acts: &[ActSpec],
     more: Option<(usize, &Letter)>,
 ) -> Result<Option<Vec<Turn>>, Fail>
-    requires { AreActs acts.now }
+    requires { AreBrokerActs acts.now }
 {
     let mut broker = Broker::open(alloc, 1, 1, acts, &[])?;
     turns_of_broker(&mut broker, alloc, more)

@@ -10,7 +10,7 @@ ghost use Rattle.effect_form.specs.Outcomes.{IsOutcome};
 ghost use Rattle.script_form.specs.Printable.{IsPrintable};
 ghost use Rattle.message_form.specs.Messages.{IsMessage};
 ghost use Rattle.turn_form.specs.Ranges.{IsEffect, AreEffects};
-ghost use Rattle.broker_core.specs.Ledgers.{IsAct};
+ghost use Rattle.broker_core.specs.Ledgers.{IsBrokerAct};
 
 use broker_core::{Broker, ResumeFault};
 use effect_form::{Effect, Outcome};
@@ -159,7 +159,7 @@ pub fn act_of(
     program: Program,
     clock: u64,
 ) -> Result<ActSpec, AllocError>
-    ensures { IfOk result (λ a. IsAct a) }
+    ensures { IfOk result (λ a. IsBrokerAct a) }
 {
     let index = index_of(index)?;
     if clock == 0 || clock > LAST_CLOCK {

@@ -2,7 +2,7 @@ ghost use Rattle.std.specs.Prelude.{◌≤◌, ◌^◌, IfOk};
 ghost use Rattle.pseudo_time.specs.Lists.{Every};
 ghost use Rattle.value_form.specs.Mirror.{block};
 ghost use Rattle.script_form.specs.Printable.{IsPrintable};
-ghost use Rattle.broker_core.specs.Ledgers.{IsAct};
+ghost use Rattle.broker_core.specs.Ledgers.{IsBrokerAct};
 ghost use Rattle.trace_logs.specs.Replays.{IsMoment, IsOnce, IsOpened};
 
 use effect_form::{Effect, Outcome};
@@ -62,7 +62,7 @@ fn script_of(alloc: Global) -> Result<Script, AllocError>
 }
 
 fn act_of(alloc: Global) -> Result<ActSpec, AllocError>
-    ensures { IfOk result (λ a. IsAct a) }
+    ensures { IfOk result (λ a. IsBrokerAct a) }
 {
     let script = script_of(alloc)?;
     Ok(ActSpec {

@@ -6,7 +6,7 @@ use Rattle.value_form.specs.declared.acts.ActSpec.{ActSpec}
 use Rattle.serial_model.specs.Questions.{Tree}
 use Rattle.plan_form.specs.declared.plans.Plan.{Plan}
 use Rattle.plan_form.specs.PlanTexts.{IsOfLanguage}
-use Rattle.broker_core.specs.Ledgers.{AreActs}
+use Rattle.broker_core.specs.Ledgers.{AreBrokerActs}
 use Rattle.broker_core.specs.Readings.{reading}
 use Rattle.broker_core.specs.Tasks.{Scripted}
 use Rattle.world_core.specs.declared.traces.Opened.{Opened}
@@ -14,13 +14,13 @@ use Rattle.world_core.specs.declared.traces.Trace.{Trace}
 use Rattle.world_core.specs.Readings.{gated_log}
 use Rattle.world_core.specs.Walks.{walk}
 use Rattle.world_core.proofs.OneReading.{own-reading}
-use Rattle.world_core.proofs.PlanRangeLemmas.{plan-AreActs}
+use Rattle.world_core.proofs.PlanRangeLemmas.{plan-AreBrokerActs}
 use Rattle.trace_logs.specs.Replays.{base_for, logs_in}
 use Rattle.trace_report.specs.Reports.{logs_by}
 use Rattle.trace_report.proofs.LogLemmas.{logs-are}
 
-pub plan-acts : (plan : Plan) (acts : List ActSpec) → IsOfLanguage plan → acts ≡ plan.acts → AreActs acts
-plan-acts plan acts w is = subst AreActs (sym is) (plan-AreActs plan w)
+pub plan-acts : (plan : Plan) (acts : List ActSpec) → IsOfLanguage plan → acts ≡ plan.acts → AreBrokerActs acts
+plan-acts plan acts w is = subst AreBrokerActs (sym is) (plan-AreBrokerActs plan w)
 
 pub logs-found : (plan : Plan) (t : Trace) (acts : List ActSpec) → IsOfLanguage plan → acts ≡ plan.acts → (logs : List Opened) →
     ((script : List ℕ → Tree) → Scripted script acts → logs ≡ logs_in (walk (base_for script plan.run acts t) t.entries) t.opened) → ◌≡◌ {A = NodeId → List Effect} (logs_by logs) (gated_log plan t)

@@ -11,7 +11,7 @@ use Rattle.version_store.specs.declared.stores.Store.{Store}
 use Rattle.stream_port.specs.declared.fates.Asked.{Asked}
 use Rattle.plan_form.specs.declared.plans.Plan.{Plan}
 use Rattle.plan_form.specs.PlanTexts.{IsOfLanguage}
-use Rattle.broker_core.specs.Ledgers.{AreActs}
+use Rattle.broker_core.specs.Ledgers.{AreBrokerActs}
 use Rattle.broker_core.specs.Readings.{reading}
 use Rattle.broker_core.specs.Tasks.{Scripted}
 use Rattle.seat_lock.specs.Words.{fresh}
@@ -61,9 +61,9 @@ module _ (plan : Plan) (start : ℕ) (n : NodeId) (log : List Effect) (k : Sight
 
   -- ---- a broker's acts
 
-  pub own-acts : (acts : List ActSpec) → IsOfLanguage plan → acts ≡ acts_of n.number plan.acts → AreActs acts × (acts ≡ acts_of n.number (origin_at k).acts) × Scripted (base_at k).script acts
+  pub own-acts : (acts : List ActSpec) → IsOfLanguage plan → acts ≡ acts_of n.number plan.acts → AreBrokerActs acts × (acts ≡ acts_of n.number (origin_at k).acts) × Scripted (base_at k).script acts
   own-acts acts w is = (
-    subst AreActs (sym is) (plan-own_acts plan n.number w),
+    subst AreBrokerActs (sym is) (plan-own_acts plan n.number w),
     is ∙ ap (acts_of n.number) (sym can.acts),
     subst (λ (all : List ActSpec). Scripted (reading all) acts) (sym can.acts) (subst (Scripted (reading plan.acts)) (sym is) (reads-own plan n.number w)),
   )

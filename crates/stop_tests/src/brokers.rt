@@ -4,7 +4,7 @@ ghost use Rattle.std.specs.Prelude.{◌≡◌, ◌≤◌, [], ◌∷◌, false, 
 ghost use Rattle.pseudo_time.specs.Nodes.{repository, broker};
 ghost use Rattle.value_form.specs.Mirror.{block};
 ghost use Rattle.script_form.specs.Printable.{IsPrintable};
-ghost use Rattle.broker_core.specs.Ledgers.{IsAct};
+ghost use Rattle.broker_core.specs.Ledgers.{IsBrokerAct};
 ghost use Rattle.medium_port.specs.MemoryMedia.{failed_in};
 ghost use Rattle.seat_lock.specs.Words.{base_of};
 ghost use Rattle.wire_lock.specs.Sights.{IsWirePass};
@@ -44,7 +44,7 @@ fn script_of(alloc: Global) -> Result<Script, AllocError>
 }
 
 fn act_of(alloc: Global) -> Result<ActSpec, AllocError>
-    ensures is_act { IfOk result IsAct }
+    ensures is_act { IfOk result IsBrokerAct }
     ensures broker { IfOk result (λ a. a.broker ≡ 1) }
 {
     let script = script_of(alloc)?;
@@ -74,7 +74,7 @@ fn ready(alloc: Global) -> Result<(Started, ActSpec), AllocError>
     ensures other { IfOk result (λ r. IsAt r.0.wire.lock (repository 2) false false r.0.other) }
     ensures broker { IfOk result (λ r. IsFresh r.0.wire.lock (broker 1) r.0.start r.0.broker) }
     ensures conductor { IfOk result (λ r. IsWirePass r.0.wire.lock r.0.conductor) }
-    ensures act { IfOk result (λ r. IsAct r.1 × (r.1.broker ≡ 1)) }
+    ensures act { IfOk result (λ r. IsBrokerAct r.1 × (r.1.broker ≡ 1)) }
     ensures plan { IfOk result (λ r. IsRunWith (r.1 ∷ []) r.0.broker) }
 {
     let act = act_of(alloc)?;
@@ -92,7 +92,7 @@ fn broker_on(
     medium: QuietMedium,
     pass: TestPass,
 ) -> Result<TestNode<BrokerCore<QuietMedium>>, Fail>
-    requires act { IsAct act × (act.broker ≡ 1) }
+    requires act { IsBrokerAct act × (act.broker ≡ 1) }
     requires plan { IsRunWith (act ∷ []) pass }
     requires medium { failed_in medium.medium ≡ false }
     requires pass { IsFresh wire.now.lock (broker 1) start pass }

@@ -6,7 +6,7 @@ ghost use Rattle.value_form.specs.Mirror.{block};
 ghost use Rattle.script_form.specs.Printable.{IsPrintable};
 ghost use Rattle.message_form.specs.Messages.{IsMessage};
 ghost use Rattle.turn_form.specs.Ranges.{AreEffects, AreOuts};
-ghost use Rattle.broker_core.specs.Ledgers.{IsAct, AreActs};
+ghost use Rattle.broker_core.specs.Ledgers.{IsBrokerAct, AreBrokerActs};
 
 use crate::faults::{Fault, number};
 use broker_core::{Broker, ResumeFault};
@@ -46,7 +46,7 @@ fn script(alloc: Global, turns: u32, writes: u32) -> Result<Script, AllocError>
 
 fn act(alloc: Global, index: u32, turns: u32, writes: u32) -> Result<ActSpec, AllocError>
     requires { (1 ≤ index) × (index ≤ 10000) }
-    ensures { IfOk result (λ a. IsAct a) }
+    ensures { IfOk result (λ a. IsBrokerAct a) }
 {
     let script = script(alloc, turns, writes)?;
     Ok(ActSpec {
@@ -62,10 +62,10 @@ fn act(alloc: Global, index: u32, turns: u32, writes: u32) -> Result<ActSpec, Al
 
 // Adds one more act.
 fn push_act(acts: &mut Vec<ActSpec>, act: ActSpec) -> Result<(), AllocError>
-    requires act { IsAct act }
+    requires act { IsBrokerAct act }
     requires few { length acts.old.items < 10000 }
-    requires acts { AreActs acts.old.items }
-    ensures { OnOk result (AreActs acts.new.items) }
+    requires acts { AreBrokerActs acts.old.items }
+    ensures { OnOk result (AreBrokerActs acts.new.items) }
 {
     acts.push(act)?;
     Ok(())
@@ -73,7 +73,7 @@ fn push_act(acts: &mut Vec<ActSpec>, act: ActSpec) -> Result<(), AllocError>
 
 // So many acts, 10,000 at most.
 fn acts(alloc: Global, count: u32, turns: u32, writes: u32) -> Result<Vec<ActSpec>, AllocError>
-    ensures { IfOk result (λ v. AreActs v.items) }
+    ensures { IfOk result (λ v. AreBrokerActs v.items) }
 {
     let mut acts = Vec::new(alloc);
     for place in 0..count {

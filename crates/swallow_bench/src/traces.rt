@@ -4,7 +4,7 @@
 // the logs have in all.
 ghost use Rattle.std.specs.Prelude.{◌≡◌, ◌≤◌, ◌<◌, [], length, IfOk, OnOk};
 ghost use Rattle.pseudo_time.specs.Lists.{Every};
-ghost use Rattle.broker_core.specs.Ledgers.{IsAct, AreActs};
+ghost use Rattle.broker_core.specs.Ledgers.{IsBrokerAct, AreBrokerActs};
 ghost use Rattle.trace_logs.specs.Replays.{IsOpened, IsOnce, IsMoment};
 
 use crate::faults::{Fault, number};
@@ -43,7 +43,7 @@ fn broker(number: u8) -> NodeId
 fn act(alloc: Global, index: u32, number: u8) -> ActSpec
     requires index { (1 ≤ index) × (index ≤ 10000) }
     requires number { (1 ≤ number) × (number ≤ 16) }
-    ensures { IsAct result }
+    ensures { IsBrokerAct result }
 {
     ActSpec {
         index,
@@ -60,10 +60,10 @@ fn act(alloc: Global, index: u32, number: u8) -> ActSpec
 
 // Adds one more act.
 fn push_act(acts: &mut Vec<ActSpec>, act: ActSpec) -> Result<(), AllocError>
-    requires act { IsAct act }
+    requires act { IsBrokerAct act }
     requires few { length acts.old.items < 10000 }
-    requires acts { AreActs acts.old.items }
-    ensures { OnOk result (AreActs acts.new.items) }
+    requires acts { AreBrokerActs acts.old.items }
+    ensures { OnOk result (AreBrokerActs acts.new.items) }
 {
     acts.push(act)?;
     Ok(())
@@ -71,7 +71,7 @@ fn push_act(acts: &mut Vec<ActSpec>, act: ActSpec) -> Result<(), AllocError>
 
 // So many acts, 10,000 at most, of one broker after another.
 fn acts(alloc: Global, count: u32) -> Result<Vec<ActSpec>, AllocError>
-    ensures { IfOk result (λ acts. AreActs acts.items) }
+    ensures { IfOk result (λ acts. AreBrokerActs acts.items) }
 {
     let mut acts = Vec::new(alloc);
     for place in 0..count {

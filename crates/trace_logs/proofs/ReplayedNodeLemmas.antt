@@ -15,7 +15,7 @@ use Rattle.value_form.specs.Mirror.{block}
 use Rattle.statement_form.specs.RowTexts.{script_text}
 use Rattle.value_form.specs.declared.acts.ActSpec.{ActSpec}
 use Rattle.turn_form.specs.Ranges.{IsEffect, AreEffects, AreOuts}
-use Rattle.broker_core.specs.Ledgers.{AreActs}
+use Rattle.broker_core.specs.Ledgers.{AreBrokerActs}
 use Rattle.broker_core.specs.Tasks.{Scripted}
 use Rattle.repository_core.proofs.HeldLemmas.{every-filter}
 use Rattle.world_core.specs.Nodes.{opened_mind}
@@ -66,7 +66,7 @@ pub crashed-sound : (s t : ReplayedNode) (kept : ℕ) → IsSound s → t.node �
 crashed-sound s t kept h node acts kind good gated fresh outs = record {
   low = subst (λ n. 1 ≤ n.number) (sym node) h.low;
   high = subst (λ n. n.number ≤ 16) (sym node) h.high;
-  acts = subst (λ v. AreActs v.items) (sym acts) h.acts;
+  acts = subst (λ v. AreBrokerActs v.items) (sym acts) h.acts;
   kind = kind ∙ ap (λ n. n.kind) (sym node);
   able = good;
   log = subst AreEffects (sym ((λ j. gated j ++ fresh j) ∙ append-nil (s.gated.items ++ take kept s.fresh.items))) (log-kept kept s.gated.items s.fresh.items h.log);
@@ -83,7 +83,7 @@ sent-more n test ys out first old new h g =
 
 -- ---- a broker's own acts
 
-pub own-acts : (k : NodeKind) (i : ℕ) (acts : List ActSpec) → AreActs acts → AreActs (acts_for k i acts)
+pub own-acts : (k : NodeKind) (i : ℕ) (acts : List ActSpec) → AreBrokerActs acts → AreBrokerActs (acts_for k i acts)
 own-acts Repository i acts h = record { each = tt; few = omega arith }
 own-acts Broker i acts h = broker-acts i acts h
 

@@ -1,7 +1,7 @@
 -- A node at a place of a trace, as the code keeps it.
 use Rattle.std.specs.Prelude.{◌≡◌, ◌≤◌, ◌++◌, Result, OnOk}
 use Rattle.turn_form.specs.Ranges.{AreEffects, AreOuts}
-use Rattle.broker_core.specs.Ledgers.{AreActs}
+use Rattle.broker_core.specs.Ledgers.{AreBrokerActs}
 use Rattle.broker_core.specs.Tasks.{Scripted}
 use Rattle.world_core.specs.Nodes.{Input}
 use Rattle.world_core.specs.Walks.{Base, Life, after_input, all_effects}
@@ -21,7 +21,7 @@ pub record Lives (b : Base) (s : ReplayedNode) (l : Life) : Type 0 where
 pub record IsSound (s : ReplayedNode) : Type 0 where
   pub low : 1 ≤ s.node.number
   pub high : s.node.number ≤ 16
-  pub acts : AreActs s.acts.items
+  pub acts : AreBrokerActs s.acts.items
   pub kind : kind_of s.core ≡ s.node.kind
   pub able : IsAble s.core
   pub log : AreEffects (s.gated.items ++ s.fresh.items)

@@ -2,7 +2,7 @@ ghost use Rattle.std.specs.Prelude.{◌≡◌, ◌≤◌, ◌^◌, ◌∷◌, []
 ghost use Rattle.message_form.specs.Messages.{IsMessage};
 ghost use Rattle.pseudo_time.specs.declared.nodes.NodeId.{NodeId};
 ghost use Rattle.value_form.specs.declared.acts.ActSpec.{ActSpec};
-ghost use Rattle.broker_core.specs.Ledgers.{AreActs};
+ghost use Rattle.broker_core.specs.Ledgers.{AreBrokerActs};
 ghost use Rattle.broker_core.specs.Tasks.{Scripted};
 ghost use Rattle.turn_form.specs.Ranges.{AreEffects};
 ghost use Rattle.repository_log.specs.Logs.{knows};
@@ -81,7 +81,7 @@ pub fn open_core(
     requires low { 1 ≤ node.number }
     requires high { node.number ≤ 16 }
     requires run { 1 ≤ run }
-    requires acts { AreActs acts.now }
+    requires acts { AreBrokerActs acts.now }
     requires log { AreEffects log.now }
     requires start { start ≤ 2 ^ 63 }
     ensures stands { (b : Base) → b.run ≡ run → acts.now ≡ own_acts node b.acts → Scripted b.script acts.now

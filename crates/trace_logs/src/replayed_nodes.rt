@@ -6,7 +6,7 @@ ghost use Rattle.message_form.specs.Messages.{IsMessage};
 ghost use Rattle.turn_form.specs.declared.turns.Out.{Out};
 ghost use Rattle.turn_form.specs.Posts.{posts};
 ghost use Rattle.turn_form.specs.Ranges.{AreEffects, AreOuts};
-ghost use Rattle.broker_core.specs.Ledgers.{AreActs};
+ghost use Rattle.broker_core.specs.Ledgers.{AreBrokerActs};
 ghost use Rattle.broker_core.specs.Tasks.{Scripted};
 ghost use Rattle.world_core.specs.Nodes.{leaves};
 ghost use Rattle.world_core.specs.Nodes.Input.{Going, Taking, Learning, Hearing};
@@ -51,7 +51,7 @@ impl ReplayedNode {
     ) -> Result<ReplayedNode, AllocError>
         requires low { 1 ≤ node.number }
         requires high { node.number ≤ 16 }
-        requires acts { AreActs acts.items }
+        requires acts { AreBrokerActs acts.items }
         requires run { 1 ≤ run }
         requires log { AreEffects log.items }
         requires start { start ≤ 2 ^ 63 }

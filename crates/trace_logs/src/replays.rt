@@ -1,7 +1,7 @@
 ghost use Rattle.std.specs.Prelude.{◌≡◌, ◌≤◌, ◌<◌, ◌^◌, ℕ, List, true, length, slice_index_or, Some, None, IfOk, OnOk, MatchOption};
 ghost use Rattle.pseudo_time.specs.Lists.{Every};
 ghost use Rattle.pseudo_time.specs.declared.nodes.NodeId.{NodeId};
-ghost use Rattle.broker_core.specs.Ledgers.{AreActs};
+ghost use Rattle.broker_core.specs.Ledgers.{AreBrokerActs};
 ghost use Rattle.broker_core.specs.Tasks.{Scripted};
 ghost use Rattle.pseudo_time.specs.Nodes.{same_node};
 ghost use Rattle.serial_model.specs.Questions.{Tree};
@@ -82,7 +82,7 @@ fn opened_node(
     opened: &Opened,
 ) -> Result<ReplayedNode, AllocError>
     requires run { 1 ≤ run }
-    requires acts { AreActs acts.now }
+    requires acts { AreBrokerActs acts.now }
     requires opened { IsOpened opened.now }
     requires start { start ≤ 2 ^ 63 }
     ensures lives { (b : Base) → b.run ≡ run → b.acts ≡ acts.now → Scripted b.script acts.now
@@ -104,7 +104,7 @@ fn opened_nodes(
     opened: &[Opened],
 ) -> Result<Vec<ReplayedNode>, AllocError>
     requires run { 1 ≤ run }
-    requires acts { AreActs acts.now }
+    requires acts { AreBrokerActs acts.now }
     requires opened { Every IsOpened opened.now }
     requires start { start ≤ 2 ^ 63 }
     ensures lives { (b : Base) → b.run ≡ run → b.acts ≡ acts.now → Scripted b.script acts.now
@@ -253,7 +253,7 @@ pub fn logs(
     trace: &Trace,
 ) -> Result<Vec<Opened>, AllocError>
     requires run { 1 ≤ run }
-    requires acts { AreActs acts.now }
+    requires acts { AreBrokerActs acts.now }
     requires opened { Every IsOpened trace.now.opened }
     requires once { IsOnce trace.now.opened }
     requires start { trace.now.start ≤ 2 ^ 63 }

@@ -18,7 +18,7 @@ use Rattle.plan_form.specs.PlanTexts.{IsOfLanguage}
 use Rattle.broker_core.specs.Book.{Act, Try, Book, book, enter, close, on_act, on_front, on_try, gain, finish, new_try}
 use Rattle.broker_core.specs.Counted.{counted, counts_now, counting}
 use Rattle.broker_core.specs.Fits.{fits, counts, keep, add_if}
-use Rattle.broker_core.specs.Ledgers.{AreActs}
+use Rattle.broker_core.specs.Ledgers.{AreBrokerActs}
 use Rattle.broker_core.specs.Readings.{reading}
 use Rattle.broker_core.specs.Tasks.{Task, tasks, Scripted}
 use Rattle.broker_core.proofs.SoundLemmas.{closed-run}
@@ -173,8 +173,8 @@ module _ (script : List ℕ → Tree) (me run : ℕ) (plan : List Task) where
 -- ---- a broker of a plan
 
 module _ (plan : Plan) (whole : IsOfLanguage plan) (number : ℕ) (own : List ActSpec) (is : own ≡ acts_of number plan.acts) where
-  pub own-acts : AreActs own
-  own-acts = subst AreActs (sym is) (plan-own_acts plan number whole)
+  pub own-acts : AreBrokerActs own
+  own-acts = subst AreBrokerActs (sym is) (plan-own_acts plan number whole)
 
   pub own-read : Scripted (reading plan.acts) own
   own-read = subst (Scripted (reading plan.acts)) (sym is) (own-scripted (reading plan.acts) Broker number plan.acts (own-reading plan whole))

@@ -15,7 +15,7 @@ use Rattle.world_core.specs.Walks.{World}
 use Rattle.world_core.specs.Legal.{Legal, in_plan}
 use Rattle.world_core.specs.Pasts.{Call, AreCalls, HasPast, logs_after, log_left}
 use Rattle.broker_core.specs.Readings.{reading}
-use Rattle.broker_core.specs.Ledgers.{IsAct}
+use Rattle.broker_core.specs.Ledgers.{IsBrokerAct}
 use Rattle.broker_core.proofs.ReadingLemmas.{reads-all, reads-own}
 use Rattle.world_core.proofs.PlanRangeLemmas.{plan-acts}
 use Rattle.world_core.specs.Readings.{IsLegal, WereRuns, WereLeft, all_left}
@@ -31,13 +31,13 @@ acts_in (c ∷ cs) = c.plan.acts ++ acts_in cs
 pub own-reading : (plan : Plan) → IsOfLanguage plan → Scripted (reading plan.acts) plan.acts
 own-reading plan w = reads-own plan.acts (plan-acts plan w)
 
-all-acts : (cs : List Call) → WereRuns cs → Every IsAct (acts_in cs)
+all-acts : (cs : List Call) → WereRuns cs → Every IsBrokerAct (acts_in cs)
 unfolding acts_in
 all-acts [] h = tt
-all-acts (c ∷ cs) h = every-append IsAct c.plan.acts (acts_in cs) (plan-acts c.plan h.1.whole) (all-acts cs h.0)
+all-acts (c ∷ cs) h = every-append IsBrokerAct c.plan.acts (acts_in cs) (plan-acts c.plan h.1.whole) (all-acts cs h.0)
 
 -- of these acts, among which are those of all the calls
-module _ (all : List ActSpec) (ps : Every IsAct all) where
+module _ (all : List ActSpec) (ps : Every IsBrokerAct all) where
   abbrev common : List ℕ → Tree
   common = reading all
 
@@ -77,7 +77,7 @@ pub common-reading : (plan : Plan) (asked : List Asked) (t : Trace) (logs : Node
     (script : List ℕ → Tree) × AreCalls script left.0 × ((n : NodeId) → logs n ≡ logs_after script left.0 n) × Legal script plan asked t
 common-reading plan asked t logs w l left =
     let all = plan.acts ++ acts_in left.0 in
-    let ps = every-append IsAct plan.acts (acts_in left.0) (plan-acts plan w) (all-acts left.0 left.1) in
+    let ps = every-append IsBrokerAct plan.acts (acts_in left.0) (plan-acts plan w) (all-acts left.0 left.1) in
     let within : (a : ActSpec) → Has a (acts_in left.0) → Has a all = λ a k. has-right plan.acts (acts_in left.0) a k in (
       reading all,
       are-calls all ps left.0 left.1 within,

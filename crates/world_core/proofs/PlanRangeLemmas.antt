@@ -11,12 +11,12 @@ use Rattle.plan_form.specs.PlanTexts as plans
 use Rattle.plan_form.specs.PlanTexts.{IsOfLanguage}
 use Rattle.plan_form.proofs.PlanRangeLemmas.{of-whole}
 use Rattle.serial_model.specs.Ranges.{BlockInRange}
-use Rattle.broker_core.specs.Ledgers.{IsAct, AreActs}
+use Rattle.broker_core.specs.Ledgers.{IsBrokerAct, AreBrokerActs}
 use Rattle.broker_core.proofs.ReadingLemmas.{printable-up}
 use Rattle.script_ranges.proofs.ScriptRangeLemmas.{printable-InRange}
 use Rattle.world_core.specs.Nodes.{acts_of}
 
-act-is : (repositories brokers k : ℕ) (act : ActSpec) → repositories ≤ 16 → 1 ≤ k → k ≤ 10000 → plans.IsAct repositories brokers k act → IsAct act
+act-is : (repositories brokers k : ℕ) (act : ActSpec) → repositories ≤ 16 → 1 ≤ k → k ≤ 10000 → plans.IsAct repositories brokers k act → IsBrokerAct act
 act-is repositories brokers k act few low high is = record {
   index_low = (let e = is.index in omega arith);
   index_high = (let e = is.index in omega arith);
@@ -31,8 +31,8 @@ act-is repositories brokers k act few low high is = record {
   script = printable-up repositories 16 (block act.script.lines) few is.script;
 }
 
-pub plan-acts : (plan : Plan) → IsOfLanguage plan → Every IsAct plan.acts
-plan-acts plan w = of-whole IsAct plan w (λ k act low high is. act-is plan.repositories plan.brokers k act w.repositories.1 low high is)
+pub plan-acts : (plan : Plan) → IsOfLanguage plan → Every IsBrokerAct plan.acts
+plan-acts plan w = of-whole IsBrokerAct plan w (λ k act low high is. act-is plan.repositories plan.brokers k act w.repositories.1 low high is)
 
 every-filter : {X : Type 0} (P : X → Type 0) (test : X → Bool) (xs : List X) → Every P xs → Every P (filter test xs)
 every-filter P test [] h = tt
@@ -42,17 +42,17 @@ every-filter P test (x ∷ xs) h = go (test x) (every-filter P test xs h.1)
     go true k = (h.0, k)
     go false k = k
 
-pub own-acts : (b : ℕ) (acts : List ActSpec) → AreActs acts → AreActs (acts_of b acts)
+pub own-acts : (b : ℕ) (acts : List ActSpec) → AreBrokerActs acts → AreBrokerActs (acts_of b acts)
 own-acts b acts h = record {
-  each = every-filter IsAct (λ (a : ActSpec). a.broker == b) acts h.each;
+  each = every-filter IsBrokerAct (λ (a : ActSpec). a.broker == b) acts h.each;
   few = let e = length-filter (λ (a : ActSpec). a.broker == b) acts in let l = count_by-le-length (λ (a : ActSpec). a.broker == b) acts in let f = h.few in omega (arith, e, l, f);
 }
 
-pub plan-AreActs : (plan : Plan) → IsOfLanguage plan → AreActs plan.acts
-plan-AreActs plan w = record { each = plan-acts plan w; few = w.few }
+pub plan-AreBrokerActs : (plan : Plan) → IsOfLanguage plan → AreBrokerActs plan.acts
+plan-AreBrokerActs plan w = record { each = plan-acts plan w; few = w.few }
 
-pub plan-own_acts : (plan : Plan) (b : ℕ) → IsOfLanguage plan → AreActs (acts_of b plan.acts)
-plan-own_acts plan b w = own-acts b plan.acts (plan-AreActs plan w)
+pub plan-own_acts : (plan : Plan) (b : ℕ) → IsOfLanguage plan → AreBrokerActs (acts_of b plan.acts)
+plan-own_acts plan b w = own-acts b plan.acts (plan-AreBrokerActs plan w)
 
 pub whole-scripts : (plan : Plan) → IsOfLanguage plan → Every (λ act. BlockInRange (block act.script.lines)) plan.acts
 whole-scripts plan w = of-whole (λ act. BlockInRange (block act.script.lines)) plan w (λ k act low high is_act. printable-InRange plan.repositories (block act.script.lines) is_act.script)

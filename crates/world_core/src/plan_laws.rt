@@ -10,7 +10,7 @@ ghost use Rattle.plan_form.specs.declared.plans.Plan.{Plan};
 ghost use Rattle.plan_form.specs.PlanTexts.{IsOfLanguage};
 ghost use Rattle.serial_model.specs.Questions.{Tree};
 ghost use Rattle.serial_model.specs.Ranges.{BlockInRange};
-ghost use Rattle.broker_core.specs.Ledgers.{AreActs};
+ghost use Rattle.broker_core.specs.Ledgers.{AreBrokerActs};
 ghost use Rattle.broker_core.specs.Readings.{reading};
 ghost use Rattle.broker_core.specs.Tasks.{Scripted};
 ghost use Rattle.world_core.specs.declared.entries.Entry.{Entry};
@@ -25,8 +25,8 @@ ghost use Rattle.world_core.specs.Walks.{walk};
 /// scripts ask for is in range, and the broker and home of each are those of a stamp. So each script
 /// of a plan has a reading, that of the plan's acts.
 pub fn law_of_plans_in_range()
-    ensures acts { (plan : Plan) → IsOfLanguage plan → AreActs plan.acts }
-    ensures own { (plan : Plan) (b : ℕ) → IsOfLanguage plan → AreActs (acts_of b plan.acts) }
+    ensures acts { (plan : Plan) → IsOfLanguage plan → AreBrokerActs plan.acts }
+    ensures own { (plan : Plan) (b : ℕ) → IsOfLanguage plan → AreBrokerActs (acts_of b plan.acts) }
     ensures names { (plan : Plan) → IsOfLanguage plan → Every (λ act. IsInRange 1 act.broker act.home) plan.acts }
     ensures scripts { (plan : Plan) → IsOfLanguage plan → Every (λ act. BlockInRange (block act.script.lines)) plan.acts }
     ensures read { (plan : Plan) → IsOfLanguage plan → Scripted (reading plan.acts) plan.acts }

@@ -1,7 +1,7 @@
 use Rattle.std.proofs.Common.{◌≡◌, List, ap, sym, subst, ◌∙◌, reverse, None}
 use Rattle.value_form.specs.declared.acts.ActSpec.{ActSpec}
 use Rattle.broker_core.specs.Fits.{resume_fault}
-use Rattle.broker_core.specs.Ledgers.{AreActs}
+use Rattle.broker_core.specs.Ledgers.{AreBrokerActs}
 use Rattle.broker_core.specs.Readings.{reading}
 use Rattle.broker_core.specs.Tasks.{Scripted, tasks}
 use Rattle.world_core.specs.Nodes.{acts_of}
@@ -12,7 +12,7 @@ use Rattle.run_media.proofs.refusals.broker_refusal.Goals as goal
 pub open-requires-clause-acts : goal.open-requires-clause-acts
 open-requires-clause-acts c =
     let is : c.as_slice-2.result.now ≡ acts_of c.args.number c.args.plan.now.acts = c.as_slice-2.ensures.value ∙ (c.in-Ok.ensures ∙ ap (acts_of c.args.number) c.as_slice.ensures) in
-    subst AreActs (sym is) (plan-own_acts c.args.plan.now c.args.number c.requires.plan)
+    subst AreBrokerActs (sym is) (plan-own_acts c.args.plan.now c.args.number c.requires.plan)
 
 pub returns-in-Ok-open : goal.returns-in-Ok-open
 returns-in-Ok-open c =

@@ -1,6 +1,6 @@
 use Rattle.std.proofs.Common.{sym, ap, subst, ◌∙◌}
 use Rattle.std.specs.Prelude.{IfOk}
-use Rattle.broker_core.specs.Ledgers.{AreActs}
+use Rattle.broker_core.specs.Ledgers.{AreBrokerActs}
 use Rattle.broker_core.specs.Tasks.{Scripted}
 use Rattle.world_core.specs.Walks.{opened_life}
 use Rattle.trace_logs.specs.Cores.{own_acts}
@@ -9,7 +9,7 @@ use Rattle.trace_logs.proofs.ReplayedNodeLemmas.{own-acts, own-scripted}
 use Rattle.trace_logs.proofs.replays.opened_node.Goals as goal
 
 pub open-requires-clause-acts : goal.open-requires-clause-acts
-open-requires-clause-acts c = subst AreActs (sym c.in_ok-own.ensures) (own-acts c.args.opened.now.node.kind c.args.opened.now.node.number c.args.acts.now c.requires.acts)
+open-requires-clause-acts c = subst AreBrokerActs (sym c.in_ok-own.ensures) (own-acts c.args.opened.now.node.kind c.args.opened.now.node.number c.args.acts.now c.requires.acts)
 
 pub returns-clause-lives : goal.returns-clause-lives
 returns-clause-lives c b run acts scripted =
