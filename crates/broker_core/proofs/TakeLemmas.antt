@@ -15,9 +15,9 @@ use Rattle.broker_core.specs.Book.{Book}
 use Rattle.broker_core.specs.Stages.{Stage, stage}
 use Rattle.broker_core.specs.Rows.{row, news}
 use Rattle.broker_core.specs.Turns.{Desk, Take, desk_at, reply}
-use Rattle.broker_core.specs.Phases.{phase_at, reply_at}
+use Rattle.broker_core.specs.Phases.{reply_at}
 use Rattle.broker_core.specs.Ledgers.{LedgerParts, kept}
-use Rattle.broker_core.specs.Parts.{BrokerParts, IsBroker, IsLedTo, book_of, parts_of}
+use Rattle.broker_core.specs.Parts.{BrokerParts, IsBroker, book_of, parts_of}
 use Rattle.broker_core.specs.Brokers.{Gives, turn_of, follows, FirstFits}
 use Rattle.broker_core.proofs.PhaseLemmas.{stage-of-is}
 use Rattle.broker_core.proofs.AnyLemmas.{reply-any, stage-away}

@@ -1,6 +1,6 @@
 -- When a new try and a request of it may come at all, in runs in which no Ended comes: a try has an answer or an End only after its Begin stands at its
 -- home, and all tries but the last are decided there. Said of what is known to have begun and to be decided.
-use Rattle.std.specs.Prelude.{◌≡◌, ◌⊎◌, ℕ, nat_lt, Bool, true, false, ◌&&◌, List, [], ◌∷◌, Option, Some, None}
+use Rattle.std.specs.Prelude.{◌≡◌, ◌⊎◌, ℕ, nat_lt, true, false, ◌&&◌, List, [], ◌∷◌, Option, Some, None}
 use Rattle.pseudo_time.specs.Lists.{Every}
 use Rattle.pseudo_time.specs.StampParts.{StampParts}
 use Rattle.pseudo_time.specs.declared.decisions.Decision.{Decision}
