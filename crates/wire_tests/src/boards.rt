@@ -1,18 +1,14 @@
 //! Decisions on the board of a shared wire.
 ghost use Rattle.std.specs.Prelude.{◌≡◌, IfOk};
 
-use crate::passes::{Started, end, gates, goes, start};
-use crate::wires::BROKER;
+use crate::passes::{Started, end, start};
 use pseudo_time::Stamp;
 use std::alloc::{AllocError, Global};
 use std::sync::Wait;
 use std::test::*;
+use turn_plays::{BROKER, goes, sends, stamp_of};
 use wire_lock::{number_of, place_of};
 use world_core::Entry;
-
-fn stamp_at(clock: u64) -> Result<Stamp, AllocError> {
-    Stamp::new(clock, 1, 1).ok_or(AllocError)
-}
 
 /// The clock of a stamp, its word, whether it is committed, and its number.
 const NUMBERS: [(u64, u32, bool, u64); 4] = [
@@ -25,7 +21,7 @@ const NUMBERS: [(u64, u32, bool, u64); 4] = [
 // Whether each decision has its word and its number.
 fn are_numbers(numbers: &[(u64, u32, bool, u64)]) -> Result<bool, AllocError> {
     for (clock, place, committed, number) in numbers {
-        let stamp = stamp_at(*clock)?;
+        let stamp = stamp_of(*clock)?;
         if place_of(stamp) != *place {
             return Ok(false);
         }
@@ -62,10 +58,10 @@ const POSTED: [(Option<bool>, Option<bool>, Option<bool>, Option<bool>); 5] = [
 fn decides_of(alloc: Global, pair: Pair) -> Result<Vec<(Stamp, bool)>, AllocError> {
     let mut decides = Vec::new(alloc);
     if let Some(committed) = pair.first {
-        decides.push((stamp_at(1)?, committed))?;
+        decides.push((stamp_of(1)?, committed))?;
     }
     if let Some(committed) = pair.later {
-        decides.push((stamp_at(4097)?, committed))?;
+        decides.push((stamp_of(4097)?, committed))?;
     }
     Ok(decides)
 }
@@ -78,17 +74,17 @@ fn tells(rt: &impl Wait, alloc: Global, posted: Pair, told: Pair) -> Result<bool
         broker,
         conductor,
     } = start(alloc, Vec::new(alloc))?;
-    let before = wire.decided(&mut home, stamp_at(1)?);
+    let before = wire.decided(&mut home, stamp_of(1)?);
     let pass = goes(rt, &wire, broker)?;
     let decides = decides_of(alloc, posted)?;
-    let mut pass = gates(rt, &wire, BROKER, pass, &[], decides.as_slice())?;
+    let mut pass = sends(rt, &wire, BROKER, pass, &[], decides.as_slice())?;
     let here = Pair {
-        first: wire.decided(&mut pass, stamp_at(1)?),
-        later: wire.decided(&mut pass, stamp_at(4097)?),
+        first: wire.decided(&mut pass, stamp_of(1)?),
+        later: wire.decided(&mut pass, stamp_of(4097)?),
     };
     let there = Pair {
-        first: wire.decided(&mut home, stamp_at(1)?),
-        later: wire.decided(&mut home, stamp_at(4097)?),
+        first: wire.decided(&mut home, stamp_of(1)?),
+        later: wire.decided(&mut home, stamp_of(4097)?),
     };
     let closed = end(alloc, wire, home, pass, conductor)?;
     let entries = closed.told.trace().entries.as_slice();

@@ -2,16 +2,18 @@
 ghost use Rattle.std.specs.Prelude.{◌≡◌, true, false, IfOk};
 ghost use Rattle.pseudo_time.specs.Nodes as nodes;
 ghost use Rattle.pseudo_time.specs.Nodes.{is_broker};
-ghost use Rattle.wire_tests.specs.Passes.{IsAt, IsConductors};
+ghost use Rattle.turn_plays.specs.Passes.{IsAt};
+ghost use Rattle.wire_tests.specs.Passes.{IsConductors};
 
-use crate::passes::{
-    Started, TestClosed, TestPass, TestShared, end, falls, gates, goes, hears, learns, start, takes,
-};
-use crate::wires::{BROKER, HOME, message_of, outs_of, stamp_of};
+use crate::passes::{Started, end, falls, hears, learns, start};
+use crate::wires::outs_of;
 use pseudo_time::{DownCause, NodeId};
 use std::alloc::Global;
 use std::sync::Wait;
 use std::test::*;
+use turn_plays::{
+    BROKER, HOME, TestClosed, TestPass, TestShared, goes, message_of, sends, stamp_of, takes,
+};
 use wire_core::Taken;
 use wire_lock::{Seen, Told};
 use world_core::Entry;
@@ -31,7 +33,7 @@ fn exchange(
 {
     let broker = goes(rt, wire, broker)?;
     let outs = outs_of(alloc, HOME, 1, 1)?;
-    let broker = gates(rt, wire, BROKER, broker, outs.as_slice(), &[])?;
+    let broker = sends(rt, wire, BROKER, broker, outs.as_slice(), &[])?;
     let (home, taken) = takes(rt, wire, HOME, home)?;
     let Taken::Arrived(arrival) = taken else {
         return Err("a copy".into());
@@ -40,7 +42,7 @@ fn exchange(
     if !same || arrival.number != 1 || arrival.from != BROKER {
         return Err("the copy".into());
     }
-    let home = gates(rt, wire, HOME, home, &[], &[(stamp_of()?, true)])?;
+    let home = sends(rt, wire, HOME, home, &[], &[(stamp_of(1)?, true)])?;
     Ok((home, broker))
 }
 
@@ -129,12 +131,12 @@ fn whole(rt: &impl Wait, alloc: Global) -> Result<TestClosed, Fail> {
     let conductor = sees(rt, &wire, conductor, 1, true)?;
     let conductor = ticks(rt, &wire, conductor, Some(1))?;
     let home = catches_up(rt, &wire, HOME, home, 1)?;
-    let home = gates(rt, &wire, HOME, home, &[], &[])?;
+    let home = sends(rt, &wire, HOME, home, &[], &[])?;
     let broker = catches_up(rt, &wire, BROKER, broker, 1)?;
-    let broker = gates(rt, &wire, BROKER, broker, &[], &[])?;
+    let broker = sends(rt, &wire, BROKER, broker, &[], &[])?;
     let mut conductor = ticks(rt, &wire, conductor, Some(2))?;
     let home = catches_up(rt, &wire, HOME, home, 2)?;
-    let home = learns(rt, &wire, home, stamp_of()?, true)?;
+    let home = learns(rt, &wire, home, stamp_of(1)?, true)?;
     let mut home = falls(rt, &wire, home)?;
     wire.meet(&mut conductor, &mut home);
     Ok(end(alloc, wire, home, broker, conductor)?)
@@ -174,7 +176,7 @@ const AFTER: [Entry; 2] = [
 fn is_whole(entries: &[Entry]) -> Result<bool, Fail> {
     let learned = Entry::Learn {
         node: HOME,
-        stamp: stamp_of()?,
+        stamp: stamp_of(1)?,
         committed: true,
     };
     let (before, rest) = entries.split_at_checked(11).ok_or("eleven entries")?;
