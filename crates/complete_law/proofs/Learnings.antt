@@ -20,7 +20,7 @@ use Rattle.repository_laws.specs.Facts.{IsTidy}
 use Rattle.repository_laws.proofs.Logs.{settled-log, tidy-through}
 use Rattle.pseudo_time.specs.Nodes.{broker, repository}
 use Rattle.turn_form.specs.Posts.{Post}
-use Rattle.world_core.specs.Walks.{Base, Life, Sending, World, sent_by}
+use Rattle.world_core.specs.Walks.{Base, Life, Sending, World}
 use Rattle.complete_law.specs.Calm.{AskAtMost, CalmPlace, CalmRun, log_at, tries_in, world_at}
 use Rattle.complete_law.proofs.BrokerLoads.{wt}
 use Rattle.complete_law.proofs.Loads.{if-from}
@@ -29,7 +29,6 @@ use Rattle.complete_law.proofs.Totals.{by-broker, stores, stored-few}
 use Rattle.complete_law.proofs.HandLoads.{stored-load}
 use Rattle.complete_law.proofs.Totals.{brokers-few}
 use Rattle.complete_law.proofs.BrokerMoves.{node-there}
-use Rattle.complete_law.proofs.Hearings.{each-in}
 use Rattle.pseudo_time.proofs.ListLemmas.{has-right}
 use Rattle.complete_law.proofs.Steps as steps
 use Rattle.complete_law.proofs.Steps.{calm-there, facts-there}
@@ -38,6 +37,7 @@ use Rattle.world_core.specs.Walks as walks
 use Rattle.world_facts.specs.NodeRules.{node_turns, node_facts}
 use Rattle.world_facts.specs.Refines.{seat_of}
 use Rattle.world_facts.specs.Soft.{NodeOk, SoftNode, Soft, around, happened}
+use Rattle.world_facts.proofs.Growths.{each-has}
 
 -- ---- the attempts that a log learned of
 
@@ -245,7 +245,7 @@ module _ (p : CalmPlace) where
           let m : Life = w.life (repository s.home) in
           let ok : NodeOk (node_facts base.script) (around soft) (repository s.home) (seat_of (w.life (repository s.home))) = node-there base w (calm-there p) (facts-there p) (repository s.home) known in
           let here : Has (effect.Decide s d) (reverse (w.life (repository s.home)).gated) = subst (λ (x : SoftNode). Has (effect.Decide s d) x.gated) ((facts-there p).models.lives (repository s.home) known) h in
-          closed-named s d (each-in _ (reverse m.fresh ++ reverse m.gated) (effect.Decide s d) ok.proofs (has-right (reverse m.fresh) (reverse m.gated) (effect.Decide s d) here)).1
+          closed-named s d (each-has _ (reverse m.fresh ++ reverse m.gated) (effect.Decide s d) ok.proofs (has-right (reverse m.fresh) (reverse m.gated) (effect.Decide s d) here)).1
       go false off = absurd (subst (Has (effect.Decide s d)) ((facts-there p).models.outside (repository s.home) off).0 h)
 
   module _ (n : ℕ) (known : (w.flags (repository n)).known ≡ true) where
@@ -265,7 +265,7 @@ module _ (p : CalmPlace) where
     learned-named s h =
         let k = has-learned (log_at p (repository n)) s h in
         let there : Has (effect.Learn s k.0) (reverse l.fresh ++ reverse l.gated) = subst (Has (effect.Learn s k.0)) all-log k.1 in
-        let cause = (each-in _ (reverse l.fresh ++ reverse l.gated) (effect.Learn s k.0) ok.proofs there).1 in
+        let cause = (each-has _ (reverse l.fresh ++ reverse l.gated) (effect.Learn s k.0) ok.proofs there).1 in
         decided-named s cause.0 cause.1
 
     few-learned : length (learned (log_at p (repository n))) ≤ all (g p.run) w.sendings

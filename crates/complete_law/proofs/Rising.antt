@@ -93,14 +93,6 @@ undecided-last run B D (a ∷ done) t k i off = go a.tries k.1 i
       | inr x ↦ decided (tries_of done) k.0 x
     ])
 
-pub find-has : (s : StampParts) (ts : List Try) (t : Try) → find s ts ≡ Some t → Has t ts
-find-has s [] t h = absurd (cc h)
-find-has s (u ∷ ts) t h = go (same_stamp u.stamp s) (find-has s ts t) h
-  where
-    go : (c : Bool) → (find s ts ≡ Some t → Has t ts) → (if c then Some u else find s ts) ≡ Some t → Has t (u ∷ ts)
-    go true more h = let e : u ≡ t = cc h in inl e
-    go false more h = inr (more h)
-
 -- ---- times
 
 level : (n m : ℕ) → n < m → is_lt (nat_cmp n m) ≡ true

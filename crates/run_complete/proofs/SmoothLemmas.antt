@@ -1,8 +1,6 @@
 -- A smooth run is complete.
-use Rattle.std.proofs.Common.{◌≡◌, ◌⊎◌, ◌+◌, ◌*◌, ◌≤◌, ◌<◌, ◌∙◌, ◌++◌, ◌&&◌, ◌==◌, nat_le, ℕ, zero, suc, Bool, true, false, IsTrue, List, [], ◌∷◌, Option, Some, None, Ok, Err, is_some, length, map, reverse, slice_get, cond, inl, inr, refl, ap, sym, subst, arith, if◌then◌else◌}
-use Rattle.std.specs.List.{AllZip, count_by, list_any}
+use Rattle.std.proofs.Common.{◌≡◌, ◌⊎◌, ◌+◌, ◌≤◌, ◌∙◌, ◌++◌, ◌&&◌, ◌==◌, ℕ, zero, suc, Bool, true, false, IsTrue, List, [], ◌∷◌, Option, Some, None, is_some, length, reverse, slice_get, cond, inl, inr, refl, ap, sym, subst, arith, if◌then◌else◌}
 use Rattle.std.proofs.lemmas.Bool.{eqb-true}
-use Rattle.std.proofs.lemmas.Bool.Decides.{nat_tests}
 use Rattle.std.proofs.lemmas.List.{append-nil, length-append, length-map, length-reverse}
 use Rattle.std.proofs.lemmas.List.Elements.{filter-append}
 use Rattle.pseudo_time.specs.Lists.{Every, Has}
@@ -10,38 +8,32 @@ use Rattle.pseudo_time.proofs.ListLemmas.{every-has, every-right, every-left, ev
 use Rattle.pseudo_time.specs.declared.nodes.NodeId.{NodeId}
 use Rattle.pseudo_time.specs.declared.down_causes.DownCause.{DownCause}
 use Rattle.pseudo_time.specs.declared.down_causes.DownCause.TheVariants as down
-use Rattle.pseudo_time.specs.Nodes.{broker, same_node}
+use Rattle.pseudo_time.specs.Nodes.{broker}
 use Rattle.message_core.proofs.NodeLemmas.{same_node-refl}
-use Rattle.stream_port.specs.Causes.{Rose, RoseBy, rise_of_fewer}
+use Rattle.stream_port.specs.Causes.{RoseBy, rise_of_fewer}
 use Rattle.effect_form.specs.declared.effects.Effect.{Effect}
 use Rattle.effect_form.specs.declared.outcomes.Outcome.{Outcome}
 use Rattle.effect_form.specs.declared.outcomes.Outcome.TheVariants as ended
-use Rattle.version_store.specs.Filling.{filling}
-use Rattle.version_store.specs.Storage.{storage}
 use Rattle.version_store.proofs.FillingLemmas.{filling-most}
-use Rattle.page_gate.specs.States.{is_blank}
 use Rattle.plan_form.specs.declared.plans.Plan.{Plan}
 use Rattle.plan_form.specs.Plans.{InRange}
 use Rattle.plan_form.specs.PlanTexts.{IsOfLanguage}
 use Rattle.broker_core.specs.Book.{Act, Book, Try, book, tries_of}
-use Rattle.broker_core.specs.Fits.{is_none, keep}
+use Rattle.broker_core.specs.Fits.{keep}
 use Rattle.broker_core.specs.Owed.{all_over, done}
 use Rattle.broker_core.specs.Readings.{reading}
-use Rattle.broker_core.specs.Stages.{stage, standing}
 use Rattle.broker_core.specs.declared.heards.Heard.{Heard}
-use Rattle.broker_core.proofs.SoundLemmas.{and-left, and-right}
+use Rattle.broker_core.proofs.SoundLemmas.{and-left}
 use Rattle.world_core.specs.declared.entries.Entry.{Entry}
 use Rattle.world_core.specs.declared.entries.Entry.TheVariants.{Take, Go, Learn, Hear, Gate, Crash, Down, Tick}
 use Rattle.world_core.specs.declared.traces.Trace.{Trace}
-use Rattle.world_core.specs.Walks.{Base, Life, all_effects, is_down, names, opened_log, own, sent_by, start_world, walk}
-use Rattle.world_core.specs.Legal.{Meets, base_of, fates_of, in_plan, is_within, post_of}
+use Rattle.world_core.specs.Walks.{Base, Life, all_effects, names, own, start_world, walk}
+use Rattle.world_core.specs.Legal.{Meets, base_of, fates_of, in_plan, post_of}
 use Rattle.world_core.specs.Pasts.{WasNotOpened}
 use Rattle.world_core.specs.Readings.{IsLegal, gated_log, life_after}
-use Rattle.report_writer.specs.declared.records.TryOutcome.{TryOutcome}
-use Rattle.trace_report.specs.Acts.{acts_shown, counted_by, shown_end, tasks_of}
+use Rattle.trace_report.specs.Acts.{counted_by, shown_end, tasks_of}
 use Rattle.trace_report.specs.Counts.{down_cause}
 use Rattle.node_turn.specs.Costs.{cost_of, costs}
-use Rattle.node_turn.specs.Lives.{IsFullFor}
 use Rattle.node_turn.proofs.TrailLemmas.{costs-append}
 use Rattle.run_media.specs.Media.{Media, IsBack}
 use Rattle.run_media.specs.Places.{place_of}
@@ -52,7 +44,7 @@ use Rattle.run_rounds.specs.Media.{Became, inner, medium_at}
 use Rattle.run_rounds.specs.Runs.{Account, Ran}
 use Rattle.run_rounds.proofs.FlagLemmas.{named-opened, one-down, told-of}
 use Rattle.complete_law.specs.Calm as calm
-use Rattle.complete_law.specs.Calm.{AllDone, CalmPlace, CalmRun, HasOutcome, IsQuiet, MayStop, book_at, is_done_at, log_at, most_effects}
+use Rattle.complete_law.specs.Calm.{AllDone, CalmPlace, CalmRun, HasOutcome, IsQuiet, MayStop, book_at, log_at, most_effects}
 use Rattle.complete_law.proofs.Counts.{few-effects}
 use Rattle.complete_law.proofs.Messages.{few-messages}
 use Rattle.complete_law.proofs.OneBroker.{never-ended}
@@ -64,9 +56,7 @@ use Rattle.run_complete.specs.Smooth.{IsComplete, IsSmoothRun, WasRefused}
 use Rattle.run_complete.proofs.DownLemmas.{life-down}
 use Rattle.run_complete.proofs.PageLemmas.{blank-none, clean-over, few-pages}
 use Rattle.run_complete.proofs.StandingLemmas.{all-finished, all-tries}
-
-some-same : {A : Type 0} {x y : A} → ◌≡◌ {A = Option A} (Some x) (Some y) → x ≡ y
-some-same e = cc
+use Rattle.world_facts.proofs.Ranges.{in-range, within}
 
 -- ---- quiet entries
 
@@ -105,19 +95,6 @@ costs-one n front e rest is =
     omega (arith, c, d)
 
 -- ---- brokers that are done
-
-to-within : (most i : ℕ) → InRange most i → is_within i most ≡ true
-to-within most i h = both (nat_le 1 i) (nat_le i most) (let low = h.0 in grind (arith, nat_tests)) (let high = h.1 in grind (arith, nat_tests))
-  where
-    both : (x y : Bool) → x ≡ true → y ≡ true → (x && y) ≡ true
-    both true y a b = b
-    both false y a b = absurd cc
-
-from-within : (most i : ℕ) → is_within i most ≡ true → InRange most i
-from-within most i h =
-    let low = and-left (nat_le 1 i) (nat_le i most) h in
-    let high = and-right (nat_le 1 i) (nat_le i most) h in
-    (grind (arith, nat_tests), grind (arith, nat_tests))
 
 begun-by : (plan : Plan) (b : ℕ) (k : Book) (heard : Heard) → done (reading plan.acts) plan.run (tasks_of plan b) k heard ≡ true → AllBegun plan b k
 begun-by plan b k heard h = by (k.run == plan.run) refl (and-left (if k.run == plan.run then (length k.acts == length (tasks_of plan b)) && all_over k.acts else length (tasks_of plan b) == 0) _ h)
@@ -298,7 +275,7 @@ module _ {M : Type 0} (w : Media M) (told : IsTrue w.tells) (most_ticks enough m
   may-stop front (Down node (down.Full pages)) rest is quiet = absurd (unfilled front node pages rest is quiet)
   may-stop front (Tick moment) rest is quiet = λ all.
       let late = has-ended.wanted front moment rest is in
-      let z : true ≡ false = sym (all late.0 (from-within plan.brokers late.0 late.1)) ∙ late.2 in
+      let z : true ≡ false = sym (all late.0 (in-range late.0 plan.brokers late.1)) ∙ late.2 in
       cc z
 
   -- no Tick, Crash or Down stands
@@ -336,7 +313,7 @@ module _ {M : Type 0} (w : Media M) (told : IsTrue w.tells) (most_ticks enough m
     where
       by : (some_down t.entries ≡ true) ⊎ (ends.AllDone plan t ⊎ ((enough ≤ length t.sent) ⊎ ends.HasRunOut most_ticks plan t)) → AllDone end
       by (inl d) = absurd (let z : true ≡ false = sym d ∙ none-down t.entries whole-quiet in cc z)
-      by (inr (inl d)) = λ b within. d b (to-within plan.brokers b within)
+      by (inr (inl d)) = λ b inside. d b (within b plan.brokers inside)
       by (inr (inr (inl many))) = absurd (
           let few = few-messages end most smooth.asks in
           let bound = smooth.few in
@@ -346,9 +323,9 @@ module _ {M : Type 0} (w : Media M) (told : IsTrue w.tells) (most_ticks enough m
 
   -- nothing is open
   all-durable : (b : ℕ) → InRange plan.brokers b → book_at end b ≡ counted_by plan b (gated_log plan t (broker b))
-  all-durable b within =
+  all-durable b inside =
       let n = broker b in
-      let is : in_plan plan n ≡ true = to-within plan.brokers b within in
+      let is : in_plan plan n ≡ true = within b plan.brokers inside in
       let o = ran.logs.opened n is (all-opened n is) in
       let fresh = (o.3 told).up (no-cause n t.entries whole-quiet) in
       ap (λ (es : List Effect). book (keep (reading plan.acts) b plan.run (tasks_of plan b) (reverse ((life_after plan t n).gated ++ es)))) fresh

@@ -1,5 +1,7 @@
 -- Nodes that went down: what the entries alone say of them.
-use Rattle.std.proofs.Common.{◌≡◌, ◌⊎◌, ◌∙◌, ◌++◌, ◌&&◌, Bool, true, false, List, [], ◌∷◌, Option, Some, None, is_some, if◌then◌else◌, inl, inr, refl, ap, sym, subst}
+use Rattle.std.proofs.Common.{◌≡◌, ◌⊎◌, ◌∙◌, ◌&&◌, Bool, true, false, List, [], ◌∷◌, Some, is_some, if◌then◌else◌, inl, inr, refl, ap, sym, subst}
+use Rattle.std.proofs.lemmas.Option.{same_Some}
+use Rattle.std.proofs.lemmas.Bool.{and_from}
 use Rattle.pseudo_time.specs.Lists.{Every, Has}
 use Rattle.pseudo_time.specs.declared.nodes.NodeId.{NodeId}
 use Rattle.pseudo_time.specs.declared.down_causes.DownCause.{DownCause}
@@ -8,14 +10,10 @@ use Rattle.message_core.proofs.NodeLemmas.{same_is, same_node-refl}
 use Rattle.stream_port.specs.declared.fates.Fate.{Fate}
 use Rattle.world_core.specs.declared.entries.Entry.{Entry}
 use Rattle.world_core.specs.declared.entries.Entry.TheVariants.{Take, Go, Learn, Hear, Gate, Crash, Down, Tick}
-use Rattle.world_core.specs.Walks.{Base, Flags, World, flagged, is_down, names, opened_log, step, walk_from}
+use Rattle.world_core.specs.Walks.{Base, World, flagged, is_down, names, opened_log, step, walk_from}
 use Rattle.world_core.specs.Legal.{Meets, Rule}
 use Rattle.world_facts.proofs.Steps.{step-known}
 use Rattle.trace_report.specs.Counts.{down_cause}
-use Rattle.run_rounds.proofs.ListLemmas.{some-same}
-
-both-true : (a b : Bool) → a ≡ true → b ≡ true → (a && b) ≡ true
-both-true a b p q = ap (λ (t : Bool). t && b) p ∙ q
 
 -- ---- the first Down of a node
 
@@ -67,7 +65,7 @@ module _ (b : Base) where
   stays-known w e n h = (step-known b w e n).0 ∙ h
 
   pub fell : (w : World) (n node : NodeId) (cause : DownCause) → same_node node n ≡ true → (w.flags n).known ≡ true → ((step b w (Down node cause)).flags n).up ≡ false
-  fell w n node cause is known = ap (λ (t : Bool). (if t then flagged w.last n.kind (w.flags n) (Down node cause) else w.flags n).up) (both-true (same_node node n) (w.flags n).known is known)
+  fell w n node cause is known = ap (λ (t : Bool). (if t then flagged w.last n.kind (w.flags n) (Down node cause) else w.flags n).up) (and_from (same_node node n) (w.flags n).known is known)
 
   fell-by : (w : World) (n node : NodeId) (cause : DownCause) (e : Entry) → e ≡ Down node cause → same_node node n ≡ true → (w.flags n).known ≡ true → ((step b w e).flags n).up ≡ false
   fell-by w n node cause e at is known = subst (λ (x : Entry). ((step b w x).flags n).up ≡ false) (sym at) (fell w n node cause is known)
@@ -124,7 +122,7 @@ module _ (b : Base) where
     pub one-down : (w : World) (es : List Entry) (n : NodeId) (c d : DownCause) → (w.flags n).known ≡ true → Meets b fates w es → down_cause n es ≡ Some c → Has (Down n d) es → c ≡ d
     unfolding Meets
     one-down w [] n c d known meets h has = absurd has
-    one-down w (e ∷ es) n c d known meets h (inl is) = some-same (sym h ∙ here-told n d e es is)
+    one-down w (e ∷ es) n c d known meets h (inl is) = same_Some _ _ (sym h ∙ here-told n d e es is)
     one-down w (e ∷ es) n c d known meets h (inr later) = go (λ same. one-down (step b w e) es n c d (stays-known w e n known) meets.1 (sym same ∙ h) later) (cause-step n e es)
       where
         go : (down_cause n (e ∷ es) ≡ down_cause n es → c ≡ d) → (down_cause n (e ∷ es) ≡ down_cause n es) ⊎ ((m : NodeId) × (x : DownCause) × (e ≡ Down m x) × (same_node m n ≡ true) × (down_cause n (e ∷ es) ≡ Some x)) → c ≡ d

@@ -1,6 +1,6 @@
 -- From how its nodes ended, and what the closing of its wire tells, to the end of a run.
 use Rattle.std.proofs.Common.{◌≡◌, ◌≢◌, ◌⊎◌, ◌≤◌, ◌<◌, ◌++◌, ◌∙◌, ◌+◌, ℕ, Bool, true, false, if◌then◌else◌, IsTrue, List, [], ◌∷◌, Option, Some, length, map, get_or, inl, inr, refl, ap, sym, subst, arith}
-use Rattle.std.specs.Prelude.{All, Any}
+use Rattle.std.specs.Prelude.{All}
 use Rattle.std.specs.List.{AllZip}
 use Rattle.std.proofs.lemmas.Option.{get_or_from_slice_get, slice_get_within}
 use Rattle.std.proofs.lemmas.Slice.Zip.{AllZip-long}
@@ -13,17 +13,15 @@ use Rattle.stream_port.specs.declared.fates.Asked.{Asked}
 use Rattle.seat_lock.specs.declared.views.View.{View}
 use Rattle.seat_lock.specs.declared.views.Founding.{Founding}
 use Rattle.seat_lock.specs.declared.locks.LockTable.{LockTable}
-use Rattle.seat_lock.specs.Words.{CarriesOn, base_of as lock_base, knows}
+use Rattle.seat_lock.specs.Words.{base_of as lock_base, knows}
 use Rattle.plan_form.specs.declared.plans.Plan.{Plan}
 use Rattle.plan_form.specs.PlanTexts.{IsOfLanguage}
 use Rattle.broker_core.specs.Readings.{reading}
 use Rattle.world_core.specs.declared.entries.Entry.{Entry}
-use Rattle.world_core.specs.declared.entries.Entry.TheVariants.{Tick}
 use Rattle.world_core.specs.declared.traces.Trace.{Trace}
-use Rattle.world_core.specs.Walks.{Base, World, walk}
+use Rattle.world_core.specs.Walks.{Base, walk}
 use Rattle.world_core.specs.Legal.{Idle, base_of, fates_of, in_plan, is_within, most_of}
-use Rattle.wire_core.specs.Wires.{Origin, WireParts, base_from}
-use Rattle.wire_core.specs.Boards.{owner_of}
+use Rattle.wire_core.specs.Wires.{Origin, WireParts}
 use Rattle.wire_lock.specs.Sights.{IsOf, IsWirePass}
 use Rattle.trace_report.specs.Counts.{tick_count}
 use Rattle.node_turn.specs.declared.conditions.Condition.{Condition}
@@ -33,7 +31,6 @@ use Rattle.broker_node.specs.Logs.{is_over}
 use Rattle.node_rounds.specs.declared.limits.Limits.{Limits}
 use Rattle.node_rounds.specs.declared.reasons.Reason.{Reason}
 use Rattle.node_rounds.specs.declared.reasons.Reason.TheVariants as reason
-use Rattle.node_rounds.specs.Nodes.{GoesOn, IsUp}
 use Rattle.node_rounds.specs.Reasons.{HasMemory, IsDone, IsLateAfter, is_done_after, is_done_at}
 use Rattle.run_media.specs.declared.openings.Opening.{Opening}
 use Rattle.run_media.specs.Media.{Media}
@@ -41,41 +38,36 @@ use Rattle.run_media.specs.Openings.{AreReady, HasOpened, IsOpen}
 use Rattle.run_media.specs.Places.{node_at, node_count}
 use Rattle.run_media.proofs.OrderLemmas.{in-at}
 use Rattle.run_starts.specs.Seats.{Along, IsNewNode}
-use Rattle.run_starts.specs.Starts.{IsSetUp, fresh_for}
+use Rattle.run_starts.specs.Starts.{IsSetUp}
 use Rattle.run_rounds.specs.declared.ends.End.{End}
 use Rattle.run_rounds.specs.declared.ends.End.TheVariants as end
 use Rattle.run_rounds.specs.Closings.{ClosedAs, HasRun, HaveGone, IfRan, ListEnds, Pass}
 use Rattle.run_rounds.specs.Ends.{AllDone, HasEnded, HasRunOut, TicksAreWanted, broker_done_after, some_down}
 use Rattle.run_rounds.specs.Finishes.{EndsAs, IsKeptWhole, account_of, tellers}
 use Rattle.run_rounds.specs.Runs.{IsTold, Ran}
-use Rattle.run_rounds.proofs.ListLemmas.{all-end, all-front, all-mapped, along-at, along-long, one-of}
+use Rattle.run_rounds.proofs.ListLemmas.{all-end, all-front, all-mapped, along-at, one-of}
 use Rattle.node_rounds.proofs.WantedLemmas.{story-ticks, tick-before, ticks-whole}
 use Rattle.run_rounds.proofs.EndLemmas.{down-whole, done-whole, enough-whole}
-use Rattle.run_rounds.proofs.SeenLemmas.{At, are-back, logs-of, none-own, went-along}
+use Rattle.run_rounds.proofs.SeenLemmas.{At, are-back, logs-of, went-along}
 use Rattle.run_rounds.proofs.KnownLemmas.{HaveStood, Known, at-base, same-base}
 use Rattle.run_rounds.proofs.LogLemmas.{restores, stood-at}
 use Rattle.run_rounds.proofs.CountLemmas.{are-counted, have-causes}
 use Rattle.run_rounds.proofs.KeptLemmas.{all-kept}
 use Rattle.run_rounds.proofs.RangeLemmas.{ranges-of, ranges-opened}
 use Rattle.run_rounds.proofs.ToldLemmas.{is-told, nodes-told, ready-told}
+use Rattle.run_starts.proofs.AlongLemmas.{along-length}
 
 -- ---- memory
+
+up-memory : {c : Condition} → c ≡ condition.AtWork → c ≢ condition.Wanting
+up-memory e f = let z : condition.AtWork ≡ condition.Wanting = sym e ∙ f in absurd (cc z)
 
 -- in a run that doesn't end for want of memory no node wanted any
 memory-of : {M : Type 0} (tells : Bool) (limits : Limits) (why : Reason) (nodes : List (NodeParts M)) (k : _) → ListEnds tells limits why nodes k → why ≢ reason.Wanting → All HasMemory nodes
 memory-of tells limits reason.Down nodes k h memory = h.0
 memory-of tells limits reason.Done nodes k h memory = λ i d lt. up-memory (h.0 i d lt)
-  where
-    up-memory : {c : Condition} → c ≡ condition.AtWork → c ≢ condition.Wanting
-    up-memory e f = let z : condition.AtWork ≡ condition.Wanting = sym e ∙ f in absurd (cc z)
 memory-of tells limits reason.Enough nodes k h memory = λ i d lt. up-memory (h.0 i d lt)
-  where
-    up-memory : {c : Condition} → c ≡ condition.AtWork → c ≢ condition.Wanting
-    up-memory e f = let z : condition.AtWork ≡ condition.Wanting = sym e ∙ f in absurd (cc z)
 memory-of tells limits reason.RunOut nodes k h memory = λ i d lt. up-memory (h.0 i d lt)
-  where
-    up-memory : {c : Condition} → c ≡ condition.AtWork → c ≢ condition.Wanting
-    up-memory e f = let z : condition.AtWork ≡ condition.Wanting = sym e ∙ f in absurd (cc z)
 memory-of tells limits reason.Wanting nodes k h memory = absurd (memory refl)
 
 module _ {M Q A : Type 0} (w : Media M) (limits : Limits) (plan : Plan) (lock : LockTable WireParts (View WireParts Entry) (Founding WireParts) Q A) (t : Trace) (asked : List Asked) (answers : Option (List ℕ)) where
@@ -112,7 +104,7 @@ module _ {M Q A : Type 0} (w : Media M) (limits : Limits) (plan : Plan) (lock : 
       -- the node in a place is one of the plan
       at-name : (i : ℕ) (p : NodeParts M) → i < length gone.nodes → get_or gone.nodes i p ≡ p → in_plan plan p.node ≡ true
       at-name i p lt is =
-          let long = along-long (At w plan origin (Known w plan lock t)) 0 first gone.nodes stood.along in
+          let long = along-length (At w plan origin (Known w plan lock t)) 0 first gone.nodes stood.along in
           let count = stood.count in
           let h = along-at (At w plan origin (Known w plan lock t)) 0 first gone.nodes i stood.along (omega (arith, lt, long)) in
           let same : h.1 ≡ p = sym (get_or_from_slice_get gone.nodes i h.1 p h.3) ∙ is in

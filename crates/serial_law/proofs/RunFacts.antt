@@ -1,7 +1,6 @@
 -- What holds of all logs and messages of a legal run gives the facts that keep it serial.
-use Rattle.std.proofs.Common.{◌≡◌, ℕ, zero, suc, ◌+◌, ◌≤◌, Bool, true, false, List, [], ◌∷◌, ◌++◌, reverse, refl, sym, ◌∙◌, ap, subst, Option, Some, None, is_some, slice_get, inl, inr, if◌then◌else◌, ◌==◌}
+use Rattle.std.proofs.Common.{◌≡◌, ℕ, ◌+◌, ◌≤◌, true, List, [], ◌∷◌, ◌++◌, reverse, refl, sym, ◌∙◌, ap, subst, Option, Some, None, is_some, inl, inr, ◌==◌}
 use Rattle.std.proofs.lemmas.List.{append-nil}
-use Rattle.std.specs.List.{filter}
 use Rattle.pseudo_time.specs.Lists.{Every, Has}
 use Rattle.pseudo_time.specs.StampParts.{StampParts}
 use Rattle.pseudo_time.specs.TimeParts.{TimeParts}
@@ -22,7 +21,6 @@ use Rattle.effect_form.specs.declared.outcomes.Outcome.{Outcome}
 use Rattle.effect_form.specs.declared.outcomes.Outcome.TheVariants as outcome
 use Rattle.message_form.specs.declared.messages.Message.{Message}
 use Rattle.message_form.specs.declared.messages.Message.TheVariants as message
-use Rattle.turn_form.specs.Growth.{Each}
 use Rattle.turn_form.specs.Posts.{Post, WasSent}
 use Rattle.object_history.specs.Views.{Viewed}
 use Rattle.script_meaning.specs.Meaning.{Got, Stored, Request, ToRead, ToWrite, Stop, Asks, Over}
@@ -61,14 +59,9 @@ use Rattle.serial_law.proofs.CauseLemmas.{once-read, once-version}
 use Rattle.serial_law.proofs.Inside.{Inside, inside-after, inside-asks, inside-script}
 use Rattle.serial_law.proofs.LogLemmas.{in-both}
 use Rattle.serial_law.proofs.Premises.{asked-here}
+use Rattle.world_facts.proofs.Growths.{each-has, every-filter, every-at}
 
 -- ---- lists
-
--- an effect of a log, with the log below it
-pub each-has : (P : List Effect → Effect → Type 0) (log : List Effect) (f : Effect) → Each P log → Has f log → (below : List Effect) × P below f
-each-has P [] f h k = absurd k
-each-has P (g ∷ log) f h (inl e) = (log, subst (P log) e h.1)
-each-has P (g ∷ log) f h (inr k) = each-has P log f h.0 k
 
 pub said-of : (ever : List Post) (p : Post) → Has p ever → Said ever p.message
 said-of [] p h = absurd h
@@ -80,23 +73,10 @@ of-said [] m h = absurd h
 of-said (q ∷ ever) m (inl e) = (q, inl refl, e)
 of-said (q ∷ ever) m (inr h) = let r = of-said ever m h in (r.0, inr r.1, r.2)
 
-pub kept-every : {A : Type 0} → (P : A → Type 0) (test : A → Bool) (xs : List A) → Every P xs → Every P (filter test xs)
-kept-every P test [] h = tt
-kept-every P test (x ∷ xs) h = go (test x) (kept-every P test xs h.1)
-  where
-    go : (c : Bool) → Every P (filter test xs) → Every P (if c then x ∷ filter test xs else filter test xs)
-    go true k = (h.0, k)
-    go false k = k
-
-pub at-place : {A : Type 0} → (P : A → Type 0) (xs : List A) (n : ℕ) (x : A) → Every P xs → slice_get xs n ≡ Some x → P x
-at-place P [] n x h e = absurd (cc e)
-at-place P (y ∷ xs) zero x h e = let same : y ≡ x = cc e in subst P same h.0
-at-place P (y ∷ xs) (suc n) x h e = at-place P xs n x h.1 e
-
 -- ---- what the acts of a plan keep to
 
 -- its home is a repository of the run, and so are those of the objects that its script asks for
-abbrev IsKept : (List ℕ → Tree) → ℕ → Task → Type 0
+abbrev pub IsKept : (List ℕ → Tree) → ℕ → Task → Type 0
 IsKept script n task = InRange n task.home × Inside n (script task.script)
 
 pub kept-acts : (script : List ℕ → Tree) (n k first : ℕ) (acts : List ActSpec) → EachAct n k first acts → Scripted script acts → Every (λ a. IsKept script n (task_of a)) acts
@@ -211,9 +191,9 @@ module _ (script : List ℕ → Tree) (b : Base) (plan : Plan) (logs : NodeId �
 
     its-task : IsKept script plan.repositories m.try.task
     its-task =
-        at-place (IsKept script plan.repositories) (tasks (acts_of me plan.acts)) its-plan.1.0 m.try.task
+        every-at (IsKept script plan.repositories) (tasks (acts_of me plan.acts)) its-plan.1.0 m.try.task
         (kept-tasks script plan.repositories (acts_of me plan.acts)
-        (kept-every (λ a. IsKept script plan.repositories (task_of a)) (λ (a : ActSpec). a.broker == me) plan.acts (kept-acts script plan.repositories plan.brokers 1 plan.acts whole.acts scripted)))
+        (every-filter (λ a. IsKept script plan.repositories (task_of a)) (λ (a : ActSpec). a.broker == me) plan.acts (kept-acts script plan.repositories plan.brokers 1 plan.acts whole.acts scripted)))
         its-plan.1.1
 
     its-home : InRange plan.repositories m.try.stamp.home

@@ -1,6 +1,6 @@
 -- The laws of legal traces, from the facts of their logs and messages.
-use Rattle.std.proofs.Common.{◌≡◌, inl, inr, ℕ, Bool, ◌≤◌, true, List, [], ◌∷◌, ◌++◌, refl, sym, ap, ◌∙◌, subst, is_some, nat_le, arith}
-use Rattle.std.proofs.lemmas.Grind.{common_steps}
+use Rattle.std.proofs.Common.{◌≡◌, inl, inr, ℕ, Bool, ◌≤◌, true, List, [], ◌∷◌, ◌++◌, refl, sym, ap, ◌∙◌, subst, is_some, nat_le}
+use Rattle.std.proofs.lemmas.Bool.{le-leb}
 use Rattle.pseudo_time.specs.Lists.{Every, Has}
 use Rattle.pseudo_time.specs.StampParts.{StampParts}
 use Rattle.pseudo_time.specs.TimeParts.{TimeParts}
@@ -46,14 +46,15 @@ use Rattle.world_core.proofs.Refusals.{Says, says-map}
 use Rattle.world_core.proofs.Answered.{Reason, meets-front, post-answered, write-sent}
 use Rattle.world_facts.specs.NodeRules.{kind_post, node_facts}
 use Rattle.world_facts.specs.Refines as refines
-use Rattle.world_facts.specs.Refines.{logs_at, past_sent, Ticked}
+use Rattle.world_facts.specs.Refines.{logs_at, past_sent}
 use Rattle.world_facts.proofs.NodeLaws.{node-laws, past-laws}
 use Rattle.world_facts.proofs.Openings.{legal-facts}
 use Rattle.world_facts.specs.NodeRules.{node_turns}
 use Rattle.serial_law.specs.Facts.{RunFacts}
 use Rattle.serial_law.specs.Runs.{Position, world_at, log_at, run_at, sent_before, TickedBefore, AnsweredIn, AnsweredBefore, Acknowledges, SeesStill}
-use Rattle.serial_law.proofs.RunFacts.{each-has, run-facts, run-causes}
+use Rattle.serial_law.proofs.RunFacts.{run-facts, run-causes}
 use Rattle.serial_law.specs.Causes.{Causes, IsSpent}
+use Rattle.world_facts.proofs.Growths.{each-has}
 
 module _ (p : Position) where
   -- all that holds of logs and messages there
@@ -64,10 +65,7 @@ module _ (p : Position) where
   ever = sent_before p
 
   brokers-opened : (k : ℕ) → 1 ≤ k → k ≤ p.plan.brokers → is_some (opened_log p.trace.opened (broker k)) ≡ true
-  brokers-opened k low high = p.legal.nodes.just (broker k) ∙ and-both (nat_le 1 k) (nat_le k p.plan.brokers) (le 1 k low) (le k p.plan.brokers high)
-    where
-      le : (a b : ℕ) → a ≤ b → nat_le a b ≡ true
-      le a b h = grind (arith, common_steps)
+  brokers-opened k low high = p.legal.nodes.just (broker k) ∙ and-both (nat_le 1 k) (nat_le k p.plan.brokers) (le-leb 1 k low) (le-leb k p.plan.brokers high)
 
   pub place-serial-facts : RunFacts (run_at p) ever
   place-serial-facts =

@@ -2,6 +2,7 @@
 use Rattle.std.proofs.Common.{◌≡◌, ℕ, zero, suc, ◌-◌, Bool, true, false, List, [], ◌∷◌, ◌++◌, drop, length, reverse, if◌then◌else◌, refl, sym, ◌∙◌, ap, subst, Option, Some, None, is_some, append_assoc, inl, inr}
 use Rattle.std.specs.List.{filter}
 use Rattle.std.proofs.lemmas.List.{append-nil}
+use Rattle.std.proofs.lemmas.Option.{same_Some}
 use Rattle.pseudo_time.specs.Lists.{Has}
 use Rattle.pseudo_time.specs.StampParts.{StampParts}
 use Rattle.pseudo_time.specs.declared.nodes.NodeId.{NodeId}
@@ -19,7 +20,7 @@ use Rattle.world_core.specs.declared.entries.Entry.{Entry}
 use Rattle.world_core.specs.declared.entries.Entry.TheVariants as entry
 use Rattle.world_core.specs.Nodes.{Input, leaves, repository}
 use Rattle.world_core.specs.Nodes.Input.{Going, Taking, Learning, Hearing}
-use Rattle.world_core.specs.Walks.{Base, Life, Sending, World, opened_log, numbered, names, step, after_input, took, hears, lives_on, gated_life, crashed_life, opened_life, leaving, sent_by, start_world, walk_from, walk, last_after}
+use Rattle.world_core.specs.Walks.{Base, Life, Sending, World, names, step, after_input, took, hears, lives_on, leaving, sent_by, walk_from, last_after}
 use Rattle.world_core.specs.Walks as walks
 use Rattle.world_core.specs.Legal.{MayTake, MayHear, MayGate, MayCrash, IsDecidedAs, Rule, Meets}
 use Rattle.world_facts.specs.Rules.{IsDecided, NodeFacts, Turns, MayInput, TurnGives, NodeLaws}
@@ -175,9 +176,6 @@ module _ (script : List ℕ → Tree) (turns : Turns) (F : NodeFacts) (laws : No
         now t (inl e) = subst May e may
         now t (inr k) = h.ticked t k
 
-    some-is : (a c : ℕ) → Some a ≡ Some c → a ≡ c
-    some-is a c e = cc e
-
     pub step-refines : (fates : List Fate) (w : World) (e : Entry) → ((t : ℕ) → e ≡ entry.Tick t → May t) → Refines turns F b others old May w → Rule b fates w e → Refines turns F b others old May (step b w e)
     step-refines fates w (entry.Take n number) may r rule = take-refines fates w n number r rule
     step-refines fates w (entry.Go n) may r rule = input-refines w (entry.Go n) n Going r (λ k. refl) (r.models.ups n rule.up) tt refl refl refl
@@ -189,7 +187,7 @@ module _ (script : List ℕ → Tree) (turns : Turns) (F : NodeFacts) (laws : No
     step-refines fates w (entry.Down n cause) may r rule = still-refines w (entry.Down n cause) r.events r.may r.models (all-stay b w (entry.Down n cause) (λ k. refl)) refl r.models.ticks
     step-refines fates w (entry.Tick moment) may r rule =
         still-refines w (entry.Tick moment) (Tick moment ∷ r.events) r.may (ticked w moment (happened turns r.events) (may moment refl) r.models) (all-stay b w (entry.Tick moment) (λ k. refl)) refl
-        (λ t at. inl (some-is moment t at))
+        (λ t at. inl (same_Some moment t at))
 
     pub walk-refines : (fates : List Fate) (w : World) (es : List Entry) → ((t : ℕ) → Has (entry.Tick t) es → May t) → Refines turns F b others old May w → Meets b fates w es → Refines turns F b others old May (walk_from b w es)
     unfolding walk_from Meets

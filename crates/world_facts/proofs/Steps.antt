@@ -12,7 +12,7 @@ use Rattle.world_core.specs.declared.entries.Entry.{Entry}
 use Rattle.world_core.specs.declared.entries.Entry.TheVariants.{Take, Go, Learn, Hear, Gate, Crash, Down, Tick}
 use Rattle.world_core.specs.Nodes.{Input, Given, gives}
 use Rattle.world_core.specs.Walks as walks
-use Rattle.world_core.specs.Walks.{Base, Life, Flags, Sending, World, names, step, after_input, lives_on, gated_life, crashed_life, flagged, went, learned, has_heard, leaving, sent_by, sendings_after, with_given}
+use Rattle.world_core.specs.Walks.{Base, Life, Flags, Sending, World, names, step, after_input, lives_on, gated_life, crashed_life, flagged, went, learned, has_heard, leaving, sent_by, with_given, walk_from}
 use Rattle.world_facts.specs.Rules.{NodeFacts, Turns, forward, NodeLaws}
 use Rattle.world_facts.specs.Soft.{SoftNode, whole, put, gate, crash, react, with_turn, opened_seat}
 use Rattle.world_facts.specs.Refines.{seat_of}
@@ -48,6 +48,11 @@ step-known b w e n = go (names n e && (w.flags n).known)
     go : (t : Bool) → ((if t then flagged w.last n.kind (w.flags n) e else w.flags n).known ≡ (w.flags n).known) × ((if t then flagged w.last n.kind (w.flags n) e else w.flags n).up ≡ true → (w.flags n).up ≡ true)
     go true = flagged-known w.last n.kind (w.flags n) e
     go false = (refl, λ u. u)
+
+pub walk-known : (b : Base) (w : World) (es : List Entry) (n : NodeId) → ((walk_from b w es).flags n).known ≡ (w.flags n).known
+unfolding walk_from
+walk-known b w [] n = refl
+walk-known b w (e ∷ es) n = walk-known b (step b w e) es n ∙ (step-known b w e n).0
 
 -- ---- lives
 
