@@ -22,7 +22,7 @@ use Rattle.broker_core.specs.Rows.{row, news}
 use Rattle.broker_core.specs.Stages.{stage}
 use Rattle.pseudo_time.specs.Nodes.{broker}
 use Rattle.broker_core.specs.Turns as desks
-use Rattle.broker_core.specs.Turns.{Desk, reply, state}
+use Rattle.broker_core.specs.Turns.{Desk, desk_at, desk_turn, reply, state}
 use Rattle.broker_laws.specs.Posts.{HaveCauses}
 use Rattle.broker_laws.specs.Fits.{FitsLog, IsReady, IsTidy}
 use Rattle.broker_laws.specs.Works.{TurnHolds}

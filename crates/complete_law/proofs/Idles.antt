@@ -47,7 +47,7 @@ use Rattle.broker_laws.proofs.Kept.{kept}
 use Rattle.world_core.specs.Nodes.{acts_of}
 use Rattle.world_core.specs.Walks.{Base, Life, World, numbered, opened_log, sent_by}
 use Rattle.world_core.specs.Legal as legal
-use Rattle.world_core.specs.Legal.{JustNodes}
+use Rattle.world_core.specs.Legal.{IsIdle, JustNodes, in_plan, times_taken}
 use Rattle.world_facts.specs.Refines.{LogFacts, logs_at}
 use Rattle.world_facts.specs.NodeRules.{node_facts}
 use Rattle.world_facts.specs.Soft.{SentOk}

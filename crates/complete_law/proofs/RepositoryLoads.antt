@@ -25,7 +25,7 @@ use Rattle.world_core.specs.declared.entries.Entry.{Entry}
 use Rattle.world_core.specs.declared.entries.Entry.TheVariants as entry
 use Rattle.world_core.specs.Nodes.{gives}
 use Rattle.world_core.specs.Nodes.Input.{Taking, Learning}
-use Rattle.world_core.specs.Walks.{Base, Life, Sending, World, leaving, numbered, sent_by, start_world, step, after_input}
+use Rattle.world_core.specs.Walks.{Base, Life, Sending, World, leaving, numbered, sent_by, sendings_after, start_world, step, taken_after, after_input}
 use Rattle.world_core.specs.Walks as walks
 use Rattle.world_core.specs.Legal.{MayLearn, MayTake, Rule, times_taken}
 use Rattle.world_facts.proofs.Growths.{numbered-has, every-at}

@@ -5,14 +5,17 @@ use Rattle.std.specs.Prelude.{reverse}
 use Rattle.pseudo_time.specs.Lists.{Every}
 use Rattle.pseudo_time.specs.declared.nodes.NodeId.{NodeId}
 use Rattle.value_form.specs.declared.acts.ActSpec.{ActSpec}
+use Rattle.value_form.specs.Mirror.{Block}
 use Rattle.effect_form.specs.declared.effects.Effect.{Effect}
 use Rattle.stream_port.specs.declared.fates.Asked.{Asked}
+use Rattle.statement_form.specs.RowTexts.{script_text}
+use Rattle.script_form.specs.Printable.{IsPrintable}
 use Rattle.serial_model.specs.Questions.{Tree}
 use Rattle.plan_form.specs.declared.plans.Plan.{Plan}
 use Rattle.plan_form.specs.PlanTexts.{IsOfLanguage}
 use Rattle.broker_core.specs.Tasks.{Task, tasks, Scripted}
 use Rattle.broker_core.specs.Book as books
-use Rattle.broker_core.specs.Book.{Act, tries_of}
+use Rattle.broker_core.specs.Book.{Book, Act, tries_of}
 use Rattle.broker_core.specs.Sound.{Started, OfAct}
 use Rattle.world_core.specs.declared.traces.Trace.{Trace}
 use Rattle.world_core.specs.Nodes.{acts_of}

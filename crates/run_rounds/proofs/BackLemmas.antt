@@ -1,12 +1,14 @@
 -- Media that are handed back where no run began, and the broker whose log refuses a plan.
-use Rattle.std.proofs.Common.{◌≡◌, ◌<◌, ◌+◌, ◌-◌, inl, nat_lt, ℕ, zero, suc, Bool, true, false, IsTrue, List, [], ◌∷◌, ◌++◌, length, map, Option, Some, None, Ok, Err, Result, is_none, slice_get, refl, ap, sym, subst, ◌∙◌, arith, if◌then◌else◌}
+use Rattle.std.proofs.Common.{◌≡◌, ◌<◌, ◌+◌, ◌-◌, inl, nat_lt, ℕ, zero, suc, Bool, true, false, IsTrue, List, [], ◌∷◌, ◌++◌, length, map, Option, Some, None, Ok, Err, Result, is_none, slice_get, refl, ap, sym, subst, ◌∙◌, arith, if◌then◌else◌, ◌≢◌, ◌⊎◌, inr}
 use Rattle.std.specs.Prelude.{All}
 use Rattle.std.specs.List.{AllZip}
 use Rattle.std.proofs.lemmas.List.Elements.{All-cons, All-nil}
+use Rattle.std.proofs.lemmas.Bool.Decides.{nat_tests}
 use Rattle.std.proofs.lemmas.Option.{same_Some}
 use Rattle.pseudo_time.specs.declared.nodes.NodeId.{NodeId}
 use Rattle.pseudo_time.specs.declared.nodes.NodeKind.{NodeKind}
 use Rattle.pseudo_time.specs.declared.nodes.NodeKind.TheVariants.{Repository, Broker}
+use Rattle.pseudo_time.specs.declared.down_causes.DownCause.{DownCause}
 use Rattle.pseudo_time.specs.declared.down_causes.DownCause.TheVariants as down
 use Rattle.pseudo_time.specs.Nodes.{repository, broker}
 use Rattle.stream_port.specs.Causes.{Rose}
@@ -24,7 +26,7 @@ use Rattle.run_media.specs.Media.{Media, IsBack, AreBack, IsLeftAlone}
 use Rattle.run_media.specs.Openings.{HasOpened, medium_in, log_in, IsInRange, IsOpen, IsWanting, kind_fault, fault_in, IsReadyFor, AreReady, IsFirstRefusal}
 use Rattle.run_media.specs.Places.{node_count, node_at, place_of}
 use Rattle.run_media.proofs.OrderLemmas.{place-at, at-place, in-at}
-use Rattle.run_rounds.specs.Media.{Became, inner}
+use Rattle.run_rounds.specs.Media.{Became, medium_at, inner}
 use Rattle.run_rounds.specs.Finishes.{IsKeptWhole}
 use Rattle.run_rounds.specs.Runs.{Shows, IsFirstFault}
 use Rattle.world_facts.proofs.Ranges.{in-range}

@@ -1,5 +1,5 @@
 -- Entries that are just the Downs of nodes that can't be opened.
-use Rattle.std.proofs.Common.{◌≡◌, ◌+◌, ◌-◌, ◌==◌, ◌&&◌, inl, inr, ◌∙◌, ℕ, zero, suc, Bool, true, false, List, [], ◌∷◌, cond, eq-eqb, Option, Some, All, slice_get, refl, ap, sym, subst, arith, if◌then◌else◌}
+use Rattle.std.proofs.Common.{◌≡◌, ◌≤◌, ◌+◌, ◌-◌, ◌==◌, ◌&&◌, ◌⊎◌, inl, inr, ◌∙◌, ◌++◌, ℕ, zero, suc, Bool, true, false, List, [], ◌∷◌, cond, eq-eqb, length, map, Option, Some, None, All, slice_get, refl, ap, sym, subst, arith, if◌then◌else◌}
 use Rattle.std.specs.Option.{unwrap_or}
 use Rattle.std.proofs.lemmas.Bool.Decides.{nat_tests}
 use Rattle.std.proofs.lemmas.Option.{same_Some}
@@ -9,12 +9,12 @@ use Rattle.pseudo_time.specs.declared.nodes.NodeId.{NodeId}
 use Rattle.pseudo_time.specs.declared.down_causes.DownCause.{DownCause}
 use Rattle.message_core.proofs.NodeLemmas.{same_is, same_node-refl}
 use Rattle.plan_form.specs.declared.plans.Plan.{Plan}
-use Rattle.seat_lock.specs.Rule.{IsOneOf, same}
+use Rattle.seat_lock.specs.Rule.{IsOneOf, total, same}
 use Rattle.seat_lock.specs.Story.{entries_of}
 use Rattle.seat_lock.specs.Words.{CarriesOn, knows}
 use Rattle.world_core.specs.declared.entries.Entry.{Entry}
 use Rattle.world_core.specs.declared.entries.Entry.TheVariants.{Take, Go, Learn, Hear, Gate, Crash, Down, Tick}
-use Rattle.world_core.specs.Walks.{Base, World, is_down, names, opened_life, opened_log, own, start_world, step, walk, walk_from}
+use Rattle.world_core.specs.Walks.{Base, Life, World, is_down, lives_on, names, opened_life, opened_log, own, start_world, step, walk, walk_from}
 use Rattle.wire_core.specs.Wires.{WireParts}
 use Rattle.wire_core.specs.Boards.{owner_for, owner_of}
 use Rattle.wire_lock.specs.Sights.{owners_for}

@@ -3,6 +3,7 @@ use Rattle.std.proofs.Common.{◌≡◌, ◌≤◌, ◌+◌, ◌==◌, ◌∙◌
 use Rattle.std.specs.List.{list_any}
 use Rattle.std.proofs.lemmas.Bool.Decides.{nat_tests}
 use Rattle.std.proofs.lemmas.List.{length-map}
+use Rattle.std.proofs.lemmas.List.Sums.{sum_by-cons}
 use Rattle.pseudo_time.specs.Lists.{Every, Has}
 use Rattle.pseudo_time.proofs.ListLemmas.{has-right}
 use Rattle.pseudo_time.specs.declared.nodes.NodeId.{NodeId}
@@ -25,6 +26,7 @@ use Rattle.wire_core.specs.Boards.{owner_for, owner_of, owner_with}
 use Rattle.wire_lock.specs.Sights.{Sight, IsOf, Owns, base_at, flags_at, life_at, world_at}
 use Rattle.wire_lock.specs.Stories.{end_of}
 use Rattle.wire_lock.proofs.SightLemmas.{as-before}
+use Rattle.trace_report.specs.Counts.{is_tick, tick_count}
 use Rattle.node_turn.specs.Costs.{costs}
 use Rattle.broker_node.specs.Logs.{is_over}
 use Rattle.node_rounds.specs.Reasons.{is_done_at}

@@ -1,5 +1,5 @@
 -- Nodes that went down: what the entries alone say of them.
-use Rattle.std.proofs.Common.{◌≡◌, ◌⊎◌, ◌∙◌, ◌&&◌, Bool, true, false, List, [], ◌∷◌, Some, is_some, if◌then◌else◌, inl, inr, refl, ap, sym, subst}
+use Rattle.std.proofs.Common.{◌≡◌, ◌⊎◌, ◌∙◌, ◌++◌, ◌&&◌, Bool, true, false, List, [], ◌∷◌, Option, Some, None, is_some, if◌then◌else◌, inl, inr, refl, ap, sym, subst}
 use Rattle.std.proofs.lemmas.Option.{same_Some}
 use Rattle.std.proofs.lemmas.Bool.{and_from}
 use Rattle.pseudo_time.specs.Lists.{Every, Has}
@@ -10,7 +10,7 @@ use Rattle.message_core.proofs.NodeLemmas.{same_is, same_node-refl}
 use Rattle.stream_port.specs.declared.fates.Fate.{Fate}
 use Rattle.world_core.specs.declared.entries.Entry.{Entry}
 use Rattle.world_core.specs.declared.entries.Entry.TheVariants.{Take, Go, Learn, Hear, Gate, Crash, Down, Tick}
-use Rattle.world_core.specs.Walks.{Base, World, flagged, is_down, names, opened_log, step, walk_from}
+use Rattle.world_core.specs.Walks.{Base, Flags, World, flagged, is_down, names, opened_log, step, walk_from}
 use Rattle.world_core.specs.Legal.{Meets, Rule}
 use Rattle.world_facts.proofs.Steps.{step-known}
 use Rattle.trace_report.specs.Counts.{down_cause}

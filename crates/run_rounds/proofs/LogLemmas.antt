@@ -1,7 +1,9 @@
 -- The logs of a run's trace are those of its media, before and after.
-use Rattle.std.proofs.Common.{◌≡◌, ◌∙◌, true, IsTrue, List, Option, Ok, ap, sym, subst}
+use Rattle.std.proofs.Common.{◌≡◌, ◌∙◌, ℕ, true, IsTrue, List, [], Option, Some, None, Ok, ap, sym, subst}
+use Rattle.std.specs.Prelude.{All}
 use Rattle.std.proofs.lemmas.Option.{same_Some}
 use Rattle.pseudo_time.specs.declared.nodes.NodeId.{NodeId}
+use Rattle.medium_port.specs.Image.{Image}
 use Rattle.effect_form.specs.declared.effects.Effect.{Effect}
 use Rattle.version_store.specs.Storage.{storage}
 use Rattle.plan_form.specs.declared.plans.Plan.{Plan}
@@ -12,9 +14,11 @@ use Rattle.world_core.specs.declared.entries.Entry.{Entry}
 use Rattle.world_core.specs.declared.traces.Trace.{Trace}
 use Rattle.world_core.specs.Legal.{in_plan}
 use Rattle.world_core.specs.Pasts.{WasNotOpened}
-use Rattle.world_core.specs.Walks.{Life}
+use Rattle.world_core.specs.Walks.{Life, opened_log}
+use Rattle.world_core.specs.Readings.{open_effects}
 use Rattle.wire_core.specs.Wires.{WireParts}
 use Rattle.wire_lock.specs.Sights.{life_at}
+use Rattle.trace_report.specs.Counts.{down_cause}
 use Rattle.node_turn.specs.Lives.{IsKept}
 use Rattle.node_turn.specs.Nodes.{NodeParts, sight}
 use Rattle.node_rounds.specs.Reasons.{HasMemory}

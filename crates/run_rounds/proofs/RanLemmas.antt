@@ -1,6 +1,6 @@
 -- From how its nodes ended, and what the closing of its wire tells, to the end of a run.
 use Rattle.std.proofs.Common.{◌≡◌, ◌≢◌, ◌⊎◌, ◌≤◌, ◌<◌, ◌++◌, ◌∙◌, ◌+◌, ℕ, Bool, true, false, if◌then◌else◌, IsTrue, List, [], ◌∷◌, Option, Some, length, map, get_or, inl, inr, refl, ap, sym, subst, arith}
-use Rattle.std.specs.Prelude.{All}
+use Rattle.std.specs.Prelude.{All, Any}
 use Rattle.std.specs.List.{AllZip}
 use Rattle.std.proofs.lemmas.Option.{get_or_from_slice_get, slice_get_within}
 use Rattle.std.proofs.lemmas.Slice.Zip.{AllZip-long}
@@ -13,15 +13,17 @@ use Rattle.stream_port.specs.declared.fates.Asked.{Asked}
 use Rattle.seat_lock.specs.declared.views.View.{View}
 use Rattle.seat_lock.specs.declared.views.Founding.{Founding}
 use Rattle.seat_lock.specs.declared.locks.LockTable.{LockTable}
-use Rattle.seat_lock.specs.Words.{base_of as lock_base, knows}
+use Rattle.seat_lock.specs.Words.{CarriesOn, base_of as lock_base, knows}
 use Rattle.plan_form.specs.declared.plans.Plan.{Plan}
 use Rattle.plan_form.specs.PlanTexts.{IsOfLanguage}
 use Rattle.broker_core.specs.Readings.{reading}
 use Rattle.world_core.specs.declared.entries.Entry.{Entry}
+use Rattle.world_core.specs.declared.entries.Entry.TheVariants.{Tick}
 use Rattle.world_core.specs.declared.traces.Trace.{Trace}
-use Rattle.world_core.specs.Walks.{Base, walk}
+use Rattle.world_core.specs.Walks.{Base, World, walk}
 use Rattle.world_core.specs.Legal.{Idle, base_of, fates_of, in_plan, is_within, most_of}
-use Rattle.wire_core.specs.Wires.{Origin, WireParts}
+use Rattle.wire_core.specs.Wires.{Origin, WireParts, base_from}
+use Rattle.wire_core.specs.Boards.{owner_of}
 use Rattle.wire_lock.specs.Sights.{IsOf, IsWirePass}
 use Rattle.trace_report.specs.Counts.{tick_count}
 use Rattle.node_turn.specs.declared.conditions.Condition.{Condition}
@@ -31,6 +33,7 @@ use Rattle.broker_node.specs.Logs.{is_over}
 use Rattle.node_rounds.specs.declared.limits.Limits.{Limits}
 use Rattle.node_rounds.specs.declared.reasons.Reason.{Reason}
 use Rattle.node_rounds.specs.declared.reasons.Reason.TheVariants as reason
+use Rattle.node_rounds.specs.Nodes.{GoesOn, IsUp}
 use Rattle.node_rounds.specs.Reasons.{HasMemory, IsDone, IsLateAfter, is_done_after, is_done_at}
 use Rattle.run_media.specs.declared.openings.Opening.{Opening}
 use Rattle.run_media.specs.Media.{Media}
@@ -38,7 +41,7 @@ use Rattle.run_media.specs.Openings.{AreReady, HasOpened, IsOpen}
 use Rattle.run_media.specs.Places.{node_at, node_count}
 use Rattle.run_media.proofs.OrderLemmas.{in-at}
 use Rattle.run_starts.specs.Seats.{Along, IsNewNode}
-use Rattle.run_starts.specs.Starts.{IsSetUp}
+use Rattle.run_starts.specs.Starts.{IsSetUp, fresh_for}
 use Rattle.run_rounds.specs.declared.ends.End.{End}
 use Rattle.run_rounds.specs.declared.ends.End.TheVariants as end
 use Rattle.run_rounds.specs.Closings.{ClosedAs, HasRun, HaveGone, IfRan, ListEnds, Pass}
@@ -48,7 +51,7 @@ use Rattle.run_rounds.specs.Runs.{IsTold, Ran}
 use Rattle.run_rounds.proofs.ListLemmas.{all-end, all-front, all-mapped, along-at, one-of}
 use Rattle.node_rounds.proofs.WantedLemmas.{story-ticks, tick-before, ticks-whole}
 use Rattle.run_rounds.proofs.EndLemmas.{down-whole, done-whole, enough-whole}
-use Rattle.run_rounds.proofs.SeenLemmas.{At, are-back, logs-of, went-along}
+use Rattle.run_rounds.proofs.SeenLemmas.{At, are-back, logs-of, none-own, went-along}
 use Rattle.run_rounds.proofs.KnownLemmas.{HaveStood, Known, at-base, same-base}
 use Rattle.run_rounds.proofs.LogLemmas.{restores, stood-at}
 use Rattle.run_rounds.proofs.CountLemmas.{are-counted, have-causes}

@@ -1,7 +1,8 @@
 -- What is known at the end of the node in each place of the plan.
-use Rattle.std.proofs.Common.{◌≡◌, ◌≢◌, ◌≤◌, ◌<◌, ◌+◌, ◌∙◌, ℕ, suc, true, IsTrue, List, [], ◌∷◌, Option, Some, None, length, map, slice_get, Ok, refl, ap, sym, subst, arith}
-use Rattle.std.specs.Prelude.{All}
+use Rattle.std.proofs.Common.{◌≡◌, ◌≢◌, ◌≤◌, ◌<◌, ◌+◌, ◌++◌, ◌∙◌, ℕ, zero, suc, true, false, IsTrue, List, [], ◌∷◌, Option, Some, None, length, map, take, get_or, slice_get, Ok, refl, ap, sym, subst, arith}
+use Rattle.std.specs.Prelude.{All, Any}
 use Rattle.std.specs.List.{AllZip}
+use Rattle.std.proofs.lemmas.Slice.Zip.{AllZip-long}
 use Rattle.std.proofs.lemmas.List.Elements.{All-map}
 use Rattle.std.proofs.lemmas.Option.{get_or_from_slice_get, slice_get_within, same_Some}
 use Rattle.pseudo_time.specs.declared.nodes.NodeId.{NodeId}
@@ -27,7 +28,7 @@ use Rattle.node_rounds.specs.Nodes.{GoesOn}
 use Rattle.run_media.specs.declared.openings.Opening.{Opening}
 use Rattle.run_media.specs.declared.openings.Opening.TheVariants.{Open, Shut, Wanting}
 use Rattle.run_media.specs.Media.{Media, IsBack, AreBack}
-use Rattle.run_media.specs.Openings.{HasOpened, IsOpen, log_in}
+use Rattle.run_media.specs.Openings.{HasOpened, IsOpen, log_in, medium_in, opened_from}
 use Rattle.run_media.specs.Places.{node_at, node_count, place_of}
 use Rattle.run_media.proofs.OrderLemmas.{at-place, log-at}
 use Rattle.run_starts.specs.Seats.{Along, IsNewNode}

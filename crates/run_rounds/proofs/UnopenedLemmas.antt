@@ -1,15 +1,15 @@
 -- A run of which a node couldn't be opened.
-use Rattle.std.proofs.Common.{◌≡◌, ◌≢◌, ◌+◌, ◌⊎◌, inl, inr, ◌∙◌, ◌++◌, ℕ, true, IsTrue, List, [], ◌∷◌, length, map, Option, Some, None, Ok, All, slice_get, take, refl, ap, sym, subst, arith, append-nil}
+use Rattle.std.proofs.Common.{◌≡◌, ◌≢◌, ◌≤◌, ◌<◌, ◌+◌, ◌⊎◌, inl, inr, ◌∙◌, ◌++◌, ℕ, zero, suc, Bool, true, false, IsTrue, List, [], ◌∷◌, length, map, Option, Some, None, Ok, Err, All, slice_get, take, refl, ap, sym, subst, arith, append-nil}
 use Rattle.std.specs.List.{AllZip}
 use Rattle.std.specs.Option.{option_map, unwrap_or}
 use Rattle.std.proofs.Math.Seq.{take-length}
 use Rattle.std.proofs.lemmas.Option.{slice_get-map, slice_get_within, same_Some}
-use Rattle.pseudo_time.specs.Lists.{Every}
+use Rattle.pseudo_time.specs.Lists.{Every, Has}
 use Rattle.pseudo_time.specs.declared.nodes.NodeId.{NodeId}
 use Rattle.pseudo_time.specs.declared.down_causes.DownCause.{DownCause}
 use Rattle.pseudo_time.specs.declared.down_causes.DownCause.TheVariants as down
 use Rattle.stream_port.specs.declared.fates.Asked.{Asked}
-use Rattle.stream_port.specs.Causes.{RoseBy, rose_by_none}
+use Rattle.stream_port.specs.Causes.{Rose, RoseBy, rose_by_none}
 use Rattle.medium_port.specs.Image.{Image}
 use Rattle.effect_form.specs.declared.effects.Effect.{Effect}
 use Rattle.version_store.specs.Storage.{storage}
@@ -17,7 +17,7 @@ use Rattle.plan_form.specs.declared.plans.Plan.{Plan}
 use Rattle.plan_form.specs.PlanTexts.{IsOfLanguage}
 use Rattle.seat_lock.specs.Rule.{IsOneOf}
 use Rattle.seat_lock.specs.Story.{entries_of}
-use Rattle.seat_lock.specs.Words.{CarriesOn, fresh, knows}
+use Rattle.seat_lock.specs.Words.{CarriesOn, Known, fresh, knows}
 use Rattle.world_core.specs.declared.entries.Entry.{Entry}
 use Rattle.world_core.specs.declared.entries.Entry.TheVariants.{Down}
 use Rattle.world_core.specs.declared.traces.Opened.{Opened}
@@ -25,9 +25,9 @@ use Rattle.world_core.specs.declared.traces.Trace.{Trace}
 use Rattle.world_core.specs.Walks.{Life, opened_life, opened_log, own}
 use Rattle.world_core.specs.Legal.{base_of, in_plan}
 use Rattle.world_core.specs.Pasts.{WasNotOpened}
-use Rattle.world_core.specs.Readings.{life_after}
+use Rattle.world_core.specs.Readings.{life_after, open_effects}
 use Rattle.broker_core.specs.Readings.{reading}
-use Rattle.wire_core.specs.Wires.{WireParts}
+use Rattle.wire_core.specs.Wires.{Origin, WireParts}
 use Rattle.wire_core.specs.Boards.{owner_for, owner_of}
 use Rattle.wire_lock.specs.Sights.{Sight, owners_for}
 use Rattle.trace_report.specs.Counts.{down_cause}

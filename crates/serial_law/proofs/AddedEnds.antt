@@ -34,7 +34,7 @@ use Rattle.broker_core.specs.Counted.{counted, own_tries}
 use Rattle.broker_laws.specs.AnyLogs.{Joins, Rests, Says}
 use Rattle.broker_laws.specs.Fits.{IsWriting}
 use Rattle.broker_laws.specs.Posts as posts
-use Rattle.broker_laws.specs.Posts.{IsAskOf, OfOpen}
+use Rattle.broker_laws.specs.Posts.{IsAskOf, IsLater, OfOpen}
 use Rattle.broker_laws.proofs.AnyDesks.{later-through, enters, open-own}
 use Rattle.broker_laws.proofs.TurnLemmas.{runs-rise}
 use Rattle.world_core.specs.Answered.{WasAnswered}

@@ -46,7 +46,7 @@ use Rattle.world_core.proofs.Refusals.{Says, says-map}
 use Rattle.world_core.proofs.Answered.{Reason, meets-front, post-answered, write-sent}
 use Rattle.world_facts.specs.NodeRules.{kind_post, node_facts}
 use Rattle.world_facts.specs.Refines as refines
-use Rattle.world_facts.specs.Refines.{logs_at, past_sent}
+use Rattle.world_facts.specs.Refines.{logs_at, past_sent, Ticked}
 use Rattle.world_facts.proofs.NodeLaws.{node-laws, past-laws}
 use Rattle.world_facts.proofs.Openings.{legal-facts}
 use Rattle.world_facts.specs.NodeRules.{node_turns}

@@ -7,7 +7,9 @@ use Rattle.pseudo_time.specs.Lists.{Has}
 use Rattle.pseudo_time.specs.Nodes.{broker}
 use Rattle.pseudo_time.specs.declared.nodes.NodeId.{NodeId}
 use Rattle.stream_port.specs.Causes.{Rose, RoseBy, rise_of_fewer}
+use Rattle.effect_form.specs.declared.effects.Effect.{Effect}
 use Rattle.medium_port.specs.Image.{Image, IsBlankImage}
+use Rattle.version_store.specs.Storage.{storage}
 use Rattle.plan_form.specs.declared.plans.Plan.{Plan}
 use Rattle.plan_form.specs.PlanTexts.{IsOfLanguage}
 use Rattle.broker_core.specs.Book.{book}
@@ -22,16 +24,17 @@ use Rattle.run_media.specs.Media.{Media}
 use Rattle.run_media.specs.Openings.{fault_in}
 use Rattle.run_media.specs.Places.{node_at, node_count, place_of}
 use Rattle.run_media.proofs.OrderLemmas.{at-place}
+use Rattle.run_rounds.specs.Ends.{some_down}
 use Rattle.run_rounds.specs.Finishes.{Tellers, account_of}
-use Rattle.run_rounds.specs.Media.{inner, medium_at}
+use Rattle.run_rounds.specs.Media.{Became, inner, medium_at}
 use Rattle.run_rounds.specs.Runs.{IsFirstFault, Ran}
 use Rattle.run_complete.specs.Smooth.{IsComplete, IsSmoothRun, pages_for}
 use Rattle.run_complete.proofs.PageLemmas.{blank-none}
 use Rattle.run_complete.proofs.SmoothLemmas.{complete, none-down}
 use Rattle.run_complete.proofs.StandingLemmas.{none-open}
 use Rattle.swallow_top.specs.Contract.{IsSmooth}
-use Rattle.swallow_top.specs.Shelves.{AreTaken, IsTaken, ShelfSight, WereTaken, is_missing, kept_from}
-use Rattle.swallow_top.specs.Tellings.{status_of}
+use Rattle.swallow_top.specs.Shelves.{AreTaken, IsTaken, ShelfSight, WereTaken, is_missing, kept_from, medium_name}
+use Rattle.swallow_top.specs.Tellings.{status_of, status_with}
 use Rattle.swallow_top.specs.Written.{Sinking}
 use Rattle.swallow_top.proofs.ShelfLemmas.{kept-has}
 use Rattle.run_starts.proofs.DealLemmas.{some-within}

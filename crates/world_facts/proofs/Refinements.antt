@@ -20,7 +20,7 @@ use Rattle.world_core.specs.declared.entries.Entry.{Entry}
 use Rattle.world_core.specs.declared.entries.Entry.TheVariants as entry
 use Rattle.world_core.specs.Nodes.{Input, leaves, repository}
 use Rattle.world_core.specs.Nodes.Input.{Going, Taking, Learning, Hearing}
-use Rattle.world_core.specs.Walks.{Base, Life, Sending, World, names, step, after_input, took, hears, lives_on, leaving, sent_by, walk_from, last_after}
+use Rattle.world_core.specs.Walks.{Base, Life, Sending, World, opened_log, numbered, names, step, after_input, took, hears, lives_on, gated_life, crashed_life, opened_life, leaving, sent_by, start_world, walk_from, walk, last_after}
 use Rattle.world_core.specs.Walks as walks
 use Rattle.world_core.specs.Legal.{MayTake, MayHear, MayGate, MayCrash, IsDecidedAs, Rule, Meets}
 use Rattle.world_facts.specs.Rules.{IsDecided, NodeFacts, Turns, MayInput, TurnGives, NodeLaws}
