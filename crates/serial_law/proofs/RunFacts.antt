@@ -37,7 +37,7 @@ use Rattle.broker_core.specs.Book.{book, tries, tries_of, find}
 use Rattle.pseudo_time.specs.Nodes.{broker, repository}
 use Rattle.broker_core.specs.Tasks.{Task, task_of, tasks, Scripted}
 use Rattle.broker_laws.specs.Fits as brokers
-use Rattle.broker_laws.specs.Posts.{IsAskOf, IsCommitOf, IsBelow, IsPlayed, IsProven, IsPlanned}
+use Rattle.broker_laws.specs.Posts.{IsAskOf, IsCommitOf, IsBelow, IsPlayed, IsProven, IsPlanned, MayCommit}
 use Rattle.broker_laws.specs.Posts as posts
 use Rattle.broker_laws.proofs.Found.{planned}
 use Rattle.broker_laws.proofs.Moves.{clocks, distinct}
@@ -48,7 +48,7 @@ use Rattle.world_facts.specs.NodeRules.{kind_post, node_facts}
 use Rattle.world_facts.specs.Refines as refines
 use Rattle.serial_law.specs.Causes.{HasReason, Causes}
 use Rattle.world_core.specs.Deeds.{Try, RunLogs, in_run}
-use Rattle.serial_law.specs.Facts.{Said, at, asks, request_at, asked_of, Asked, MayCommit, RunFacts}
+use Rattle.serial_law.specs.Facts.{Said, at, asks, request_at, asked_of, Asked, RunFacts}
 use Rattle.serial_law.specs.Runs.{attempt, run_of}
 use Rattle.broker_core.specs.Fits.{keep}
 use Rattle.broker_laws.proofs.Kept.{kept}
@@ -92,16 +92,6 @@ kept-tasks script n (a ∷ acts) h = (h.0, kept-tasks script n acts h.1)
 
 asks-some : (s : Stop) (q : Request) → s ≡ Asks q → request_at s ≡ Some q
 asks-some s q e = ap request_at e
-
-may-commit : (o : Option Outcome) → posts.MayCommit o → MayCommit o
-may-commit None h = tt
-may-commit (Some outcome.Committed) h = tt
-may-commit (Some (outcome.Expired d m)) h = tt
-may-commit (Some (outcome.Withdrawn l)) h = absurd h
-may-commit (Some (outcome.Failed l k)) h = absurd h
-may-commit (Some (outcome.LaterRead o e)) h = absurd h
-may-commit (Some (outcome.LaterVersion o x)) h = absurd h
-may-commit (Some (outcome.Spent c)) h = absurd h
 
 module _ (script : List ℕ → Tree) (b : Base) (plan : Plan) (logs : NodeId → List Effect) (past sent : List Post) (May : ℕ → Type 0)
     (same_run : b.run ≡ plan.run) (same_acts : b.acts ≡ plan.acts) (whole : IsOfLanguage plan) (scripted : Scripted script plan.acts)
@@ -221,7 +211,7 @@ module _ (script : List ℕ → Tree) (b : Base) (plan : Plan) (logs : NodeId �
     its-commit i k h =
         let same : h.0 ≡ m.try = same-try m.try.stamp i h.0 refl k h.1 in (
           talked-stop (script m.try.task.script) m.try.answers ∙ subst (λ (y : books.Try). stop (script y.task.script) y.answers ≡ Over ending.Finished) same h.3,
-          may-commit m.try.end (subst (λ (y : books.Try). posts.MayCommit y.end) same h.2),
+          subst (λ (y : books.Try). MayCommit y.end) same h.2,
         )
 
   -- ---- what was asked
