@@ -237,14 +237,14 @@ module _ (p : CalmPlace) where
   closed-named s decision.Withdrawn h = named-by s w.sendings s.broker s.home (message.Withdraw s) refl (subst (Has (record { from = broker s.broker; to = repository s.home; message = message.Withdraw s })) (facts-there p).models.ever h)
   closed-named s (decision.Expired d m) h = absurd ((facts-there p).models.ticked m h)
 
-  decided-named : (s : StampParts) (d : Decision) → Has (effect.Decide s d) (soft.seat (repository s.home)).gated → Named s w.sendings
+  decided-named : (s : StampParts) (d : Decision) → Has (effect.Decide s d) (soft.seat (repository s.home)).past → Named s w.sendings
   decided-named s d h = go (w.flags (repository s.home)).known refl
     where
       go : (c : Bool) → (w.flags (repository s.home)).known ≡ c → Named s w.sendings
       go true known =
           let m : Life = w.life (repository s.home) in
           let ok : NodeOk (node_facts base.script) (around soft) (repository s.home) (seat_of (w.life (repository s.home))) = node-there base w (calm-there p) (facts-there p) (repository s.home) known in
-          let here : Has (effect.Decide s d) (reverse (w.life (repository s.home)).gated) = subst (λ (x : SoftNode). Has (effect.Decide s d) x.gated) ((facts-there p).models.lives (repository s.home) known) h in
+          let here : Has (effect.Decide s d) (reverse (w.life (repository s.home)).gated) = subst (λ (x : SoftNode). Has (effect.Decide s d) x.past) ((facts-there p).models.lives (repository s.home) known) h in
           closed-named s d (each-has _ (reverse m.fresh ++ reverse m.gated) (effect.Decide s d) ok.proofs (has-right (reverse m.fresh) (reverse m.gated) (effect.Decide s d) here)).1
       go false off = absurd (subst (Has (effect.Decide s d)) ((facts-there p).models.outside (repository s.home) off).0 h)
 

@@ -87,7 +87,7 @@ unknown-stays b w e k h = ap (λ t. if names k e && t then lives_on b w k (w.lif
 -- ---- a seat is a life turned round
 
 pub gated-seat : (l : Life) → gate (seat_of l) ≡ seat_of (gated_life l)
-gated-seat l = ap (λ g. let x : SoftNode = record { gated = g; fresh = []; outs = []; mind = l.mind } in x) (sym (reverse-append l.gated l.fresh))
+gated-seat l = ap (λ g. let x : SoftNode = record { past = g; added = []; outs = []; mind = l.mind } in x) (sym (reverse-append l.gated l.fresh))
 
 pub crashed-seat : (start kept : ℕ) (l : Life) → crash kept start (seat_of l) ≡ seat_of (crashed_life start kept l)
 crashed-seat start kept l = ap (λ g. opened_seat g start)
@@ -105,7 +105,7 @@ module _ (script : List ℕ → Tree) (turns : Turns) (F : NodeFacts) (laws : No
       with-seat l g ∙ ap (λ z. seat_of (with_given l z)) (sym is)
     where
       with-seat : (l : Life) (g : Given) → with_turn (seat_of l) g ≡ seat_of (with_given l (forward g))
-      with-seat l g = ap (λ f. let x : SoftNode = record { gated = reverse l.gated; fresh = f; outs = l.outs ++ g.outs; mind = g.mind } in x)
+      with-seat l g = ap (λ f. let x : SoftNode = record { past = reverse l.gated; added = f; outs = l.outs ++ g.outs; mind = g.mind } in x)
           (ap (λ z. z ++ reverse l.fresh) (sym (reverse-reverse g.effects)) ∙ sym (reverse-append l.fresh (reverse g.effects)))
 
 -- ---- messages
