@@ -177,16 +177,7 @@ putters-single (effect.Put o x v ∷ l) = go (has-stamp x.stamp (putters l)) ref
     go : (c : Bool) → has-stamp x.stamp (putters l) ≡ c → Single (putters l) → Single (with-stamp c x.stamp (putters l))
     go true e k = k
     go false e k = (stamp-out x.stamp (putters l) e, k)
-putters-single (effect.Stretch o x ∷ l) = putters-single l
-putters-single (effect.Begin s d ∷ l) = putters-single l
-putters-single (effect.Decide s d ∷ l) = putters-single l
-putters-single (effect.Learn s c ∷ l) = putters-single l
-putters-single (effect.Run n ∷ l) = putters-single l
-putters-single (effect.Act i h t n c b ∷ l) = putters-single l
-putters-single (effect.Try i s ∷ l) = putters-single l
-putters-single (effect.Got k v ∷ l) = putters-single l
-putters-single (effect.Acked k ∷ l) = putters-single l
-putters-single (effect.End i e ∷ l) = putters-single l
+putters-single (f ∷ l) = putters-single l
 
 still : (c : Bool) (s w : StampParts) (ss : List StampParts) → Has s ss → Has s (with-stamp c w ss)
 still true s w ss h = h
@@ -529,13 +520,7 @@ asks-row h from (message.Read t o) = asks-read h from t o
 asks-row h from (message.Write t o v) = asks-write-as h from t o v (stands_written (marks (now h)) o t v) (is_settled (known (now h) t.stamp)) (write_step (marks (now h)) o t v)
 asks-row h from (message.Ask s) = let k = asks-ask-as h from s (record_of (now h) s) in omega (arith, k)
 asks-row h from (message.Tell s c) = let k = asks-learnt h s c in omega (arith, k)
-asks-row h from (message.Begun s) = omega arith
-asks-row h from (message.Value t v) = omega arith
-asks-row h from (message.Stored t) = omega arith
-asks-row h from (message.LaterRead t e) = omega arith
-asks-row h from (message.LaterVersion t x) = omega arith
-asks-row h from (message.Ended t) = omega arith
-asks-row h from (message.Decided s d) = omega arith
+asks-row h from m = omega arith
 
 -- a message that is taken
 pub asks-taken : (h : Hand) (from : NodeId) (m : Message) → ask-measure (on_message h from m) ≤ ask-measure h + price-if requesting (accepts h.number from m) m

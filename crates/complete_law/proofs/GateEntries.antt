@@ -51,13 +51,7 @@ request-leaves log (Closing t) o e = let q : record { to = repository t.stamp.ho
 -- nothing new is ignored
 nothing-new : (script : List ℕ → Tree) (st : Stage) (h : Heard) → row script st h Nothing_new ≡ Ignored
 nothing-new script Idle h = refl
-nothing-new script (Refused t) h = refl
-nothing-new script (Opening t) h = refl
-nothing-new script (Asking t (ToRead a)) h = refl
-nothing-new script (Asking t (ToWrite a v)) h = refl
-nothing-new script (Finishing t) h = refl
-nothing-new script (Stopping t p) h = refl
-nothing-new script (Closing t) h = refl
+nothing-new script x h = refl
 
 -- an answer that is heeded leaves
 pub answer-leaves : (script : List ℕ → Tree) (st : Stage) (h : Heard) (log : List Effect) (to : NodeId) (m : Message) → (row script st h (news m) ≡ Ignored → ⊥) → leaves log (record { to = to; message = m }) ≡ true
@@ -80,15 +74,7 @@ settled-by (effect.Learn p x ∷ l) s e = go (λ k. settled-by l s k) (same_stam
         (f : Effect) × Has f (effect.Learn p x ∷ l) × (((d : Decision) × (f ≡ effect.Decide s d)) ⊎ ((c : Bool) × (f ≡ effect.Learn s c)))
     go again true q e = (effect.Learn p x, inl refl, inr (x, ap (λ z. effect.Learn z x) (same_stamp-is p s q)))
     go again false q e = let k = again e in (k.0, inr k.1, k.2)
-settled-by (effect.Put o x v ∷ l) s e = let k = settled-by l s e in (k.0, inr k.1, k.2)
-settled-by (effect.Stretch o x ∷ l) s e = let k = settled-by l s e in (k.0, inr k.1, k.2)
-settled-by (effect.Begin p d ∷ l) s e = let k = settled-by l s e in (k.0, inr k.1, k.2)
-settled-by (effect.Run n ∷ l) s e = let k = settled-by l s e in (k.0, inr k.1, k.2)
-settled-by (effect.Act i h t n c x ∷ l) s e = let k = settled-by l s e in (k.0, inr k.1, k.2)
-settled-by (effect.Try i p ∷ l) s e = let k = settled-by l s e in (k.0, inr k.1, k.2)
-settled-by (effect.Got n v ∷ l) s e = let k = settled-by l s e in (k.0, inr k.1, k.2)
-settled-by (effect.Acked n ∷ l) s e = let k = settled-by l s e in (k.0, inr k.1, k.2)
-settled-by (effect.End i o ∷ l) s e = let k = settled-by l s e in (k.0, inr k.1, k.2)
+settled-by (f ∷ l) s e = let k = settled-by l s e in (k.0, inr k.1, k.2)
 
 learn-settles : (l : List Effect) (s : StampParts) (c : Bool) → Has (effect.Learn s c) l → (x : Bool) × (settle_of (marks l) s ≡ Some x)
 unfolding settle_of

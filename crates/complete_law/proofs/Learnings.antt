@@ -57,17 +57,10 @@ learned (effect.End i e ∷ l) = learned l
 
 pub stored-all : (l : List Effect) → length l ≡ stored-load stores l + length (learned l)
 stored-all [] = refl
-stored-all (effect.Learn s c ∷ l) = let k = stored-all l in omega (arith, k)
-stored-all (effect.Put o x v ∷ l) = let k = stored-all l in omega (arith, k)
-stored-all (effect.Stretch o x ∷ l) = let k = stored-all l in omega (arith, k)
-stored-all (effect.Begin s d ∷ l) = let k = stored-all l in omega (arith, k)
-stored-all (effect.Decide s d ∷ l) = let k = stored-all l in omega (arith, k)
-stored-all (effect.Run n ∷ l) = let k = stored-all l in omega (arith, k)
-stored-all (effect.Act i h t n c b ∷ l) = let k = stored-all l in omega (arith, k)
-stored-all (effect.Try i s ∷ l) = let k = stored-all l in omega (arith, k)
 stored-all (effect.Got k v ∷ l) = let j = stored-all l in omega (arith, j)
 stored-all (effect.Acked k ∷ l) = let j = stored-all l in omega (arith, j)
 stored-all (effect.End i e ∷ l) = let k = stored-all l in omega (arith, k)
+stored-all (f ∷ l) = let k = stored-all l in omega (arith, k)
 
 abbrev pub Single : List StampParts → Type 0
 Single [] = Unit {0}
@@ -95,15 +88,7 @@ has-known [] s h e = h
 has-known (effect.Learn p c ∷ l) s (inl q) e = learn-known l p c (subst (λ x. known (effect.Learn p c ∷ l) x ≡ None) (sym q) e)
 has-known (effect.Learn p c ∷ l) s (inr h) e = has-known l s h (known-before (effect.Learn p c) l s e)
 has-known (effect.Put o x v ∷ l) s h e = has-known l s h (known-before (effect.Put o x v) l s e)
-has-known (effect.Stretch o x ∷ l) s h e = has-known l s h (known-before (effect.Stretch o x) l s e)
-has-known (effect.Begin p d ∷ l) s h e = has-known l s h (known-before (effect.Begin p d) l s e)
-has-known (effect.Decide p d ∷ l) s h e = has-known l s h (known-before (effect.Decide p d) l s e)
-has-known (effect.Run n ∷ l) s h e = has-known l s h (known-before (effect.Run n) l s e)
-has-known (effect.Act i o t n c b ∷ l) s h e = has-known l s h (known-before (effect.Act i o t n c b) l s e)
-has-known (effect.Try i p ∷ l) s h e = has-known l s h (known-before (effect.Try i p) l s e)
-has-known (effect.Got k v ∷ l) s h e = has-known l s h (known-before (effect.Got k v) l s e)
-has-known (effect.Acked k ∷ l) s h e = has-known l s h (known-before (effect.Acked k) l s e)
-has-known (effect.End i o ∷ l) s h e = has-known l s h (known-before (effect.End i o) l s e)
+has-known (f ∷ l) s h e = has-known l s h (known-before f l s e)
 
 -- each attempt once
 learned-single : (r : ℕ) (l : List Effect) → IsTidy r l → Single (learned l)
@@ -113,27 +98,14 @@ learned-single r (effect.Put o x v ∷ l) t = learned-single r l t.2
 learned-single r (effect.Stretch o x ∷ l) t = learned-single r l t.1
 learned-single r (effect.Begin s d ∷ l) t = learned-single r l t.1
 learned-single r (effect.Decide s d ∷ l) t = learned-single r l t.2
-learned-single r (effect.Run n ∷ l) t = absurd t
-learned-single r (effect.Act i h k n c b ∷ l) t = absurd t
-learned-single r (effect.Try i s ∷ l) t = absurd t
-learned-single r (effect.Got k v ∷ l) t = absurd t
-learned-single r (effect.Acked k ∷ l) t = absurd t
-learned-single r (effect.End i e ∷ l) t = absurd t
+learned-single r (f ∷ l) t = absurd t
 
 has-learned : (l : List Effect) (s : StampParts) → Has s (learned l) → (c : Bool) × Has (effect.Learn s c) l
 has-learned [] s h = absurd h
 has-learned (effect.Learn p c ∷ l) s (inl q) = (c, inl (ap (λ x. effect.Learn x c) q))
 has-learned (effect.Learn p c ∷ l) s (inr h) = let k = has-learned l s h in (k.0, inr k.1)
 has-learned (effect.Put o x v ∷ l) s h = let k = has-learned l s h in (k.0, inr k.1)
-has-learned (effect.Stretch o x ∷ l) s h = let k = has-learned l s h in (k.0, inr k.1)
-has-learned (effect.Begin p d ∷ l) s h = let k = has-learned l s h in (k.0, inr k.1)
-has-learned (effect.Decide p d ∷ l) s h = let k = has-learned l s h in (k.0, inr k.1)
-has-learned (effect.Run n ∷ l) s h = let k = has-learned l s h in (k.0, inr k.1)
-has-learned (effect.Act i o t n c b ∷ l) s h = let k = has-learned l s h in (k.0, inr k.1)
-has-learned (effect.Try i p ∷ l) s h = let k = has-learned l s h in (k.0, inr k.1)
-has-learned (effect.Got m v ∷ l) s h = let k = has-learned l s h in (k.0, inr k.1)
-has-learned (effect.Acked m ∷ l) s h = let k = has-learned l s h in (k.0, inr k.1)
-has-learned (effect.End i o ∷ l) s h = let k = has-learned l s h in (k.0, inr k.1)
+has-learned (f ∷ l) s h = let k = has-learned l s h in (k.0, inr k.1)
 
 -- ---- as many messages
 

@@ -215,6 +215,4 @@ module _ (r : CalmRun) (w : World) (f : Facts-at r w) (c : CalmWorld (steps.b r)
     by-entry (entry.Learn m s d) n q rule cases = learn-case m s d n rule cases
     by-entry (entry.Hear m) n q rule cases = absurd (steps.no-moment r w m f rule)
     by-entry (entry.Gate m) n q rule cases = cases.kept (gate-left m n rule)
-    by-entry (entry.Crash m k) n q rule cases = absurd q
-    by-entry (entry.Down m k) n q rule cases = absurd q
-    by-entry (entry.Tick m) n q rule cases = absurd q
+    by-entry e n q rule cases = absurd q

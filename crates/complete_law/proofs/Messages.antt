@@ -76,38 +76,14 @@ telling = record {
 
 each : (m : Message) → answer-one m + (ask-one m + tell-one m) ≡ 1
 each (message.Ask s) = refl
-each (message.Tell s c) = refl
-each (message.Begin s t) = refl
-each (message.Read x o) = refl
-each (message.Write x o v) = refl
-each (message.Commit s) = refl
-each (message.Withdraw s) = refl
-each (message.Begun s) = refl
-each (message.Value x v) = refl
-each (message.Stored x) = refl
-each (message.LaterRead x e) = refl
-each (message.LaterVersion x y) = refl
-each (message.Ended x) = refl
-each (message.Decided s d) = refl
+each m = refl
 
 abbrev pub by-repository : (Message → ℕ) → Sending → ℕ
 by-repository = from-kind is_repository
 
 broker-one : (r : CalmRun) (m : Message) → wt 1 1 1 r m ≡ 1
 broker-one r (message.Begin s t) = refl
-broker-one r (message.Read x o) = refl
-broker-one r (message.Write x o v) = refl
-broker-one r (message.Commit s) = refl
-broker-one r (message.Withdraw s) = refl
-broker-one r (message.Begun s) = refl
-broker-one r (message.Value x v) = refl
-broker-one r (message.Stored x) = refl
-broker-one r (message.LaterRead x e) = refl
-broker-one r (message.LaterVersion x y) = refl
-broker-one r (message.Ended x) = refl
-broker-one r (message.Decided s d) = refl
-broker-one r (message.Ask s) = refl
-broker-one r (message.Tell s c) = refl
+broker-one r m = refl
 
 -- all that was sent
 sent-parts : (r : CalmRun) (ss : List Sending) → length (map (λ (s : Sending). s.post) ss) ≡ all (by-broker (wt 1 1 1 r)) ss + (all (by-repository answer-one) ss + (all (by-repository ask-one) ss + all (by-repository tell-one) ss))
@@ -172,19 +148,7 @@ telling-most r n s = go (same_node s.post.to (repository n)) (asked s.post.messa
 
     asked : (m : Message) → price-if telling (accepts n s.post.from m) m ≤ if-from (is_repository s.post.from.kind) (ask-one m)
     asked (message.Ask q) = capped q (is_repository s.post.from.kind) (q.home == n)
-    asked (message.Begin q t) = free (message.Begin q t) (is_repository s.post.from.kind) (accepts n s.post.from (message.Begin q t)) 0 refl
-    asked (message.Read x o) = free (message.Read x o) (is_repository s.post.from.kind) (accepts n s.post.from (message.Read x o)) 0 refl
-    asked (message.Write x o v) = free (message.Write x o v) (is_repository s.post.from.kind) (accepts n s.post.from (message.Write x o v)) 0 refl
-    asked (message.Commit q) = free (message.Commit q) (is_repository s.post.from.kind) (accepts n s.post.from (message.Commit q)) 0 refl
-    asked (message.Withdraw q) = free (message.Withdraw q) (is_repository s.post.from.kind) (accepts n s.post.from (message.Withdraw q)) 0 refl
-    asked (message.Begun q) = free (message.Begun q) (is_repository s.post.from.kind) (accepts n s.post.from (message.Begun q)) 0 refl
-    asked (message.Value x v) = free (message.Value x v) (is_repository s.post.from.kind) (accepts n s.post.from (message.Value x v)) 0 refl
-    asked (message.Stored x) = free (message.Stored x) (is_repository s.post.from.kind) (accepts n s.post.from (message.Stored x)) 0 refl
-    asked (message.LaterRead x e) = free (message.LaterRead x e) (is_repository s.post.from.kind) (accepts n s.post.from (message.LaterRead x e)) 0 refl
-    asked (message.LaterVersion x y) = free (message.LaterVersion x y) (is_repository s.post.from.kind) (accepts n s.post.from (message.LaterVersion x y)) 0 refl
-    asked (message.Ended x) = free (message.Ended x) (is_repository s.post.from.kind) (accepts n s.post.from (message.Ended x)) 0 refl
-    asked (message.Decided q d) = free (message.Decided q d) (is_repository s.post.from.kind) (accepts n s.post.from (message.Decided q d)) 0 refl
-    asked (message.Tell q c) = free (message.Tell q c) (is_repository s.post.from.kind) (accepts n s.post.from (message.Tell q c)) 0 refl
+    asked m = free m (is_repository s.post.from.kind) (accepts n s.post.from m) 0 refl
 
     go : (c : Bool) → price-if telling (accepts n s.post.from s.post.message) s.post.message ≤ by-repository ask-one s → gain-if c (price-if telling (accepts n s.post.from s.post.message) s.post.message) ≤ by-repository ask-one s
     go true h = h
@@ -195,19 +159,7 @@ answers-each r m = one-each r m
 
 requests-each : (r : CalmRun) (m : Message) → price requesting m ≤ wt 0 1 0 r m
 requests-each r (message.Write x o v) = omega arith
-requests-each r (message.Begin q t) = omega arith
-requests-each r (message.Read x o) = omega arith
-requests-each r (message.Commit q) = omega arith
-requests-each r (message.Withdraw q) = omega arith
-requests-each r (message.Begun q) = omega arith
-requests-each r (message.Value x v) = omega arith
-requests-each r (message.Stored x) = omega arith
-requests-each r (message.LaterRead x e) = omega arith
-requests-each r (message.LaterVersion x y) = omega arith
-requests-each r (message.Ended x) = omega arith
-requests-each r (message.Decided q d) = omega arith
-requests-each r (message.Tell q c) = omega arith
-requests-each r (message.Ask q) = omega arith
+requests-each r m = omega arith
 
 module _ (p : CalmPlace) (most : ℕ) (asks : AskAtMost p.run most) where
   abbrev w : World

@@ -206,13 +206,11 @@ module _ (b : Base) (w : World) (calm : CalmWorld b w) (f : Refines (node_turns 
             over e q = let no : Asks (ToWrite o v) ≡ Over e = sym asks ∙ q in cc no
 
             by : (c : Outcome) → EndsBy b.script t c → EndCame i (sent_by w) t c → ⊥
-            by outcome.Committed k came = over _ k
-            by (outcome.Withdrawn l) k came = over _ k
-            by (outcome.Failed l y) k came = over _ k
             by (outcome.LaterRead a e) k came = unsaid came.0 (broker i) (message.LaterRead _ e) tt came.1
             by (outcome.LaterVersion a e) k came = unsaid came.0 (broker i) (message.LaterVersion _ e) tt came.1
             by (outcome.Expired d m) k came = unexpired came.0 (broker i) t.stamp d m came.1
             by (outcome.Spent c) k came = k
+            by o k came = over _ k
 
             go : (e : Option Outcome) → t.end ≡ e → t.end ≡ None
             go None e = e
@@ -461,9 +459,7 @@ module _ (p : CalmPlace) (single : p.run.plan.brokers ≡ 1) where
   keeps w (entry.Learn n s d) f c q rule none = learn-keeps base w c f none (ones w f) n s d rule
   keeps w (entry.Hear n) f c q rule none = absurd (no-moment p.run w n f rule)
   keeps w (entry.Gate n) f c q rule none = gate-keeps base w c f none (ones w f) n rule
-  keeps w (entry.Crash n kept) f c q rule none = absurd q
-  keeps w (entry.Down n cause) f c q rule none = absurd q
-  keeps w (entry.Tick moment) f c q rule none = absurd q
+  keeps w e f c q rule none = absurd q
 
   begins : NoRefusal (start_world base)
   begins r o is = (λ h. subst (λ (l : Life). Has o l.outs) (empty-life p.run (repository r)) h, λ h. h)

@@ -56,13 +56,11 @@ abbrev EndsFinal : Try → Type 0
 EndsFinal t = (o : Outcome) → t.end ≡ Some o → IsFinal o
 
 over-by : (a : Act) (t : Try) (ts : List Try) (o : Outcome) → a.tries ≡ t ∷ ts → IsFinal o → (calls_again (Some o) && nat_lt (length (t ∷ ts)) a.task.tries) ≡ false → IsOver a o
-over-by a t ts outcome.Committed is f e = tt
-over-by a t ts (outcome.Withdrawn l) is f e = tt
-over-by a t ts (outcome.Failed l k) is f e = tt
 over-by a t ts (outcome.LaterRead o x) is f e = subst (λ us. a.task.tries ≤ length us) (sym is) (ltb-false (length (t ∷ ts)) a.task.tries e)
 over-by a t ts (outcome.LaterVersion o x) is f e = subst (λ us. a.task.tries ≤ length us) (sym is) (ltb-false (length (t ∷ ts)) a.task.tries e)
 over-by a t ts (outcome.Expired d m) is f e = f
 over-by a t ts (outcome.Spent c) is f e = f
+over-by a t ts o is f e = tt
 
 act-over : (a : Act) → Every EndsFinal a.tries → has_outcome a ≡ true → HasOutcome a
 act-over a final e = by-spent a.spent refl e
@@ -133,13 +131,9 @@ module _ (p : CalmPlace) where
   ends-final n t k c o e = go o (k.ends o e) (c.ends o e)
     where
       go : (o : Outcome) → EndsBy base.script t o → EndCame n (sent_by w) t o → IsFinal o
-      go outcome.Committed k c = tt
-      go (outcome.Withdrawn l) k c = tt
-      go (outcome.Failed l x) k c = tt
-      go (outcome.LaterRead o x) k c = tt
-      go (outcome.LaterVersion o x) k c = tt
       go (outcome.Expired d m) k c = unexpired c.0 (broker n) t.stamp d m c.1
       go (outcome.Spent x) k c = k
+      go o k c = tt
 
   -- the book of a broker that was opened is that of its log
   module _ (n : ℕ) (known : (w.flags (broker n)).known ≡ true) where

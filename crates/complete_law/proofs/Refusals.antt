@@ -174,16 +174,4 @@ write-plain r log mind from t o v never = go (accepts r from (message.Write t o 
 pub take-plain : (r : ℕ) (log : List Effect) (mind : Mind) (from : NodeId) (m : Message) → ((t : TimeParts) (o : ObjectId) (v : Value) → m ≡ message.Write t o v → accepts r from m ≡ true → IsNotRefused log t o v) →
     ArePlain (on_message (hand_at r log mind) from m).outs
 take-plain r log mind from (message.Write t o v) never = write-plain r log mind from t o v (never t o v refl)
-take-plain r log mind from (message.Begin s d) never = other-plain r log mind from (message.Begin s d) tt
-take-plain r log mind from (message.Begun s) never = other-plain r log mind from (message.Begun s) tt
-take-plain r log mind from (message.Read t o) never = other-plain r log mind from (message.Read t o) tt
-take-plain r log mind from (message.Value t v) never = other-plain r log mind from (message.Value t v) tt
-take-plain r log mind from (message.Stored t) never = other-plain r log mind from (message.Stored t) tt
-take-plain r log mind from (message.LaterRead t e) never = other-plain r log mind from (message.LaterRead t e) tt
-take-plain r log mind from (message.LaterVersion t x) never = other-plain r log mind from (message.LaterVersion t x) tt
-take-plain r log mind from (message.Ended t) never = other-plain r log mind from (message.Ended t) tt
-take-plain r log mind from (message.Commit s) never = other-plain r log mind from (message.Commit s) tt
-take-plain r log mind from (message.Withdraw s) never = other-plain r log mind from (message.Withdraw s) tt
-take-plain r log mind from (message.Decided s d) never = other-plain r log mind from (message.Decided s d) tt
-take-plain r log mind from (message.Ask s) never = other-plain r log mind from (message.Ask s) tt
-take-plain r log mind from (message.Tell s c) never = other-plain r log mind from (message.Tell s c) tt
+take-plain r log mind from m never = other-plain r log mind from m tt

@@ -120,13 +120,11 @@ module _ (g : Sending → ℕ) where
 
   pub used-on : (b : Base) (w : World) (e : Entry) → used-in w ≤ used-in (step b w e)
   used-on b w (entry.Take m k) = used-grows 1 k w.taken w.sendings
-  used-on b w (entry.Go m) = omega arith
-  used-on b w (entry.Learn m s c) = omega arith
-  used-on b w (entry.Hear m) = omega arith
   used-on b w (entry.Gate m) = used-append 1 w.taken w.sendings (map (λ (p : Post). record { post = p; ticks = w.ticks }) (leaving w m))
   used-on b w (entry.Crash m k) = omega arith
   used-on b w (entry.Down m k) = omega arith
   used-on b w (entry.Tick m) = omega arith
+  used-on b w e = omega arith
 
 -- ---- one repository
 

@@ -33,15 +33,7 @@ accepted script i n ts (message.Commit s) h = and_from (i == s.broker) (s.home =
 accepted script i n ts (message.Withdraw s) h = and_from (i == s.broker) (s.home == n) (eq-eqb i s.broker (sym h.0)) (eq-eqb s.home n (sym (ap (λ (x : NodeId). x.number) h.1)))
 accepted script i n ts (message.Read x o) h = and_from (i == x.stamp.broker) (o.repository == n) (eq-eqb i x.stamp.broker (sym h.0)) (eq-eqb o.repository n (sym (ap (λ (x : NodeId). x.number) h.1)))
 accepted script i n ts (message.Write x o v) h = and_from (i == x.stamp.broker) (o.repository == n) (eq-eqb i x.stamp.broker (sym h.0)) (eq-eqb o.repository n (sym (ap (λ (x : NodeId). x.number) h.1)))
-accepted script i n ts (message.Begun s) h = absurd h
-accepted script i n ts (message.Value x v) h = absurd h
-accepted script i n ts (message.Stored x) h = absurd h
-accepted script i n ts (message.LaterRead x e) h = absurd h
-accepted script i n ts (message.LaterVersion x y) h = absurd h
-accepted script i n ts (message.Ended x) h = absurd h
-accepted script i n ts (message.Decided s d) h = absurd h
-accepted script i n ts (message.Ask s) h = absurd h
-accepted script i n ts (message.Tell s c) h = absurd h
+accepted script i n ts m h = absurd h
 
 -- so it carries out its row
 pub carried : (h : Hand) (from : NodeId) (m : Message) → accepts h.number from m ≡ true → on_message h from m ≡ row h from m

@@ -201,13 +201,7 @@ module _ (p : Prices) (v : Message → ℕ) (most : (m : Message) → price p m 
   of-broker n from (message.Write t o a) = capped (message.Write t o a) (is_broker from.kind) (from.number == t.stamp.broker) (o.repository == n)
   of-broker n from (message.Ask s) = nothing (message.Ask s) (is_broker from.kind) (accepts n from (message.Ask s)) free
   of-broker n from (message.Tell s c) = nothing (message.Tell s c) (is_broker from.kind) (accepts n from (message.Tell s c)) refl
-  of-broker n from (message.Begun s) = omega arith
-  of-broker n from (message.Value t a) = omega arith
-  of-broker n from (message.Stored t) = omega arith
-  of-broker n from (message.LaterRead t e) = omega arith
-  of-broker n from (message.LaterVersion t x) = omega arith
-  of-broker n from (message.Ended t) = omega arith
-  of-broker n from (message.Decided s d) = omega arith
+  of-broker n from m = omega arith
 
   pub gain-most : (r : _) (n : ℕ) (s : Sending) → gain p r n s ≤ by-broker v s
   gain-most r n s = let k = of-broker n s.post.from s.post.message in go (same_node s.post.to (repository n)) k
@@ -218,19 +212,7 @@ module _ (p : Prices) (v : Message → ℕ) (most : (m : Message) → price p m 
 
 pub one-each : (r : _) (m : Message) → price stores m ≤ wt 1 1 1 r m
 one-each r (message.Begin s t) = omega arith
-one-each r (message.Commit s) = omega arith
-one-each r (message.Withdraw s) = omega arith
-one-each r (message.Read t o) = omega arith
-one-each r (message.Write t o a) = omega arith
-one-each r (message.Ask s) = omega arith
-one-each r (message.Tell s c) = omega arith
-one-each r (message.Begun s) = omega arith
-one-each r (message.Value t a) = omega arith
-one-each r (message.Stored t) = omega arith
-one-each r (message.LaterRead t e) = omega arith
-one-each r (message.LaterVersion t x) = omega arith
-one-each r (message.Ended t) = omega arith
-one-each r (message.Decided s d) = omega arith
+one-each r m = omega arith
 
 -- but for its Learns, a repository stores no more effects than brokers sent requests
 pub stored-few : (p : CalmPlace) (most : ℕ) → AskAtMost p.run most → (n : ℕ) → stored-load stores (log_at p (repository n)) ≤ tries_in p.run.plan.acts * (most + 2)

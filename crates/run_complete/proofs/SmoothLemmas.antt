@@ -30,7 +30,7 @@ use Rattle.broker_core.specs.Stages.{stage, standing}
 use Rattle.broker_core.specs.declared.heards.Heard.{Heard}
 use Rattle.broker_core.proofs.SoundLemmas.{and-left}
 use Rattle.world_core.specs.declared.entries.Entry.{Entry}
-use Rattle.world_core.specs.declared.entries.Entry.TheVariants.{Take, Go, Learn, Hear, Gate, Crash, Down, Tick}
+use Rattle.world_core.specs.declared.entries.Entry.TheVariants.{Take, Crash, Down, Tick}
 use Rattle.world_core.specs.declared.traces.Trace.{Trace}
 use Rattle.world_core.specs.Walks.{Base, Life, all_effects, is_down, names, opened_log, own, sent_by, start_world, walk}
 use Rattle.world_core.specs.Legal.{Meets, base_of, fates_of, in_plan, post_of}
@@ -70,25 +70,17 @@ use Rattle.world_facts.proofs.Ranges.{in-range, within}
 -- no node is down
 pub none-down : (es : List Entry) → Every IsQuiet es → some_down es ≡ false
 none-down [] h = refl
-none-down (Take node number ∷ es) h = none-down es h.1
-none-down (Go node ∷ es) h = none-down es h.1
-none-down (Learn node stamp committed ∷ es) h = none-down es h.1
-none-down (Hear node ∷ es) h = none-down es h.1
-none-down (Gate node ∷ es) h = none-down es h.1
 none-down (Crash node kept ∷ es) h = absurd h.0
 none-down (Down node cause ∷ es) h = absurd h.0
 none-down (Tick moment ∷ es) h = absurd h.0
+none-down (e ∷ es) h = none-down es h.1
 
 no-cause : (n : NodeId) (es : List Entry) → Every IsQuiet es → down_cause n es ≡ None
 no-cause n [] h = refl
-no-cause n (Take node number ∷ es) h = no-cause n es h.1
-no-cause n (Go node ∷ es) h = no-cause n es h.1
-no-cause n (Learn node stamp committed ∷ es) h = no-cause n es h.1
-no-cause n (Hear node ∷ es) h = no-cause n es h.1
-no-cause n (Gate node ∷ es) h = no-cause n es h.1
 no-cause n (Crash node kept ∷ es) h = absurd h.0
 no-cause n (Down node cause ∷ es) h = absurd h.0
 no-cause n (Tick moment ∷ es) h = absurd h.0
+no-cause n (e ∷ es) h = no-cause n es h.1
 
 -- ---- costs
 
@@ -269,11 +261,6 @@ module _ {M : Type 0} (w : Media M) (told : IsTrue w.tells) (most_ticks enough m
       by (inr h) = absurd (no-unopened h)
 
   may-stop : (front : List Entry) (e : Entry) (rest : List Entry) (is : AtEntry front e rest) (quiet : Every IsQuiet front) → MayStop (most_effects run most) (place front e rest is quiet) e
-  may-stop front (Take node number) rest is quiet = tt
-  may-stop front (Go node) rest is quiet = tt
-  may-stop front (Learn node stamp committed) rest is quiet = tt
-  may-stop front (Hear node) rest is quiet = tt
-  may-stop front (Gate node) rest is quiet = tt
   may-stop front (Crash node kept) rest is quiet = dear front (Crash node kept) rest node is (same_node-refl node) (omega arith)
   may-stop front (Down node down.Medium) rest is quiet = dear front (Down node down.Medium) rest node is (same_node-refl node) (omega arith)
   may-stop front (Down node (down.Damaged page)) rest is quiet =
@@ -284,6 +271,7 @@ module _ {M : Type 0} (w : Media M) (told : IsTrue w.tells) (most_ticks enough m
       let late = has-ended.wanted front moment rest is in
       let z : true ≡ false = sym (all late.0 (in-range late.0 plan.brokers late.1)) ∙ late.2 in
       cc z
+  may-stop front e rest is quiet = tt
 
   -- no Tick, Crash or Down stands
   whole-quiet : Every IsQuiet t.entries
@@ -294,15 +282,7 @@ module _ {M : Type 0} (w : Media M) (told : IsTrue w.tells) (most_ticks enough m
         where
           move : (x : Entry) → MayStop (most_effects run most) (place front e more (here ∙ ap (λ (es : List Entry). front ++ es) next) quiet) x → MayStop (most_effects run most) (record { run = run; front = front; rest = rest; here = here; quiet = quiet }) x
           move (Take node number) h = h
-          move (Go node) h = h
-          move (Learn node stamp committed) h = h
-          move (Hear node) h = h
-          move (Gate node) h = h
-          move (Crash node kept) h = h
-          move (Down node down.Medium) h = h
-          move (Down node (down.Damaged page)) h = h
-          move (Down node (down.Full pages)) h = h
-          move (Tick moment) h = h
+          move e h = h
 
       Stops : CalmRun → Type 0
       Stops r = (front rest : List Entry) (here : r.trace.entries ≡ front ++ rest) (quiet : Every IsQuiet front) (e : Entry) (more : List Entry) → rest ≡ e ∷ more → MayStop (most_effects run most) (record { run = r; front = front; rest = rest; here = here; quiet = quiet }) e

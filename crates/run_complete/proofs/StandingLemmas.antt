@@ -134,13 +134,11 @@ module _ (script : List ℕ → Tree) (a : ActSpec) (begun : Act) (allowed : beg
       by false e = refl
 
   final-after : (o : Outcome) → IsOver begun o → IsFinal (standing_after is_last (shown_end (Some o)))
-  final-after ended.Committed over = tt
-  final-after (ended.Withdrawn l) over = tt
-  final-after (ended.Failed l k) over = tt
   final-after (ended.LaterRead o e) over = subst (λ (t : Bool). IsFinal (if t then standing.Refused else standing.Open)) (sym (last-one over)) tt
   final-after (ended.LaterVersion o x) over = subst (λ (t : Bool). IsFinal (if t then standing.Refused else standing.Open)) (sym (last-one over)) tt
   final-after (ended.Expired d m) over = absurd over
   final-after (ended.Spent c) over = absurd over
+  final-after o over = tt
 
   finished-as : HasOutcome begun → IsFinished (act_with script a (Some begun))
   finished-as h = by begun.spent refl
@@ -234,10 +232,6 @@ none-open (a ∷ acts) h = by (none-open acts h.1) (standing_of a) refl h.0
     skip rest e = ap (λ (t : Bool). length (cond t (a ∷ filter (λ (x : ActReport). same standing.Open (standing_of x)) acts) (filter (λ (x : ActReport). same standing.Open (standing_of x)) acts))) e ∙ rest
 
     by : count_of standing.Open acts ≡ 0 → (s : Standing) → standing_of a ≡ s → IsFinal s → count_of standing.Open (a ∷ acts) ≡ 0
-    by rest standing.Committed e f = skip rest (ap (same standing.Open) e)
-    by rest standing.Withdrawn e f = skip rest (ap (same standing.Open) e)
-    by rest standing.Failed e f = skip rest (ap (same standing.Open) e)
-    by rest standing.Refused e f = skip rest (ap (same standing.Open) e)
-    by rest standing.Spent e f = skip rest (ap (same standing.Open) e)
     by rest standing.Expired e f = absurd f
     by rest standing.Open e f = absurd f
+    by rest x e f = skip rest (ap (same standing.Open) e)

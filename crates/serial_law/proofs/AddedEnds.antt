@@ -189,9 +189,6 @@ module _ (p : AnyPlace) where
       by-outcome : (u : Outcome) → Rests p.script b base.run acts ever below (effect.End i u) → EndCause p b below i u
       by-outcome outcome.Committed r = tt
       by-outcome (outcome.Expired d m) r = tt
-      by-outcome (outcome.Withdrawn l) r = r.0
-      by-outcome (outcome.Failed l k) r = r.0
-      by-outcome (outcome.Spent c) r = r.0
       by-outcome (outcome.LaterRead w e) r =
           let t : Try = r.0.0 in
           let came : posts.HasCome b ever (message.LaterRead (time_of t) e) = subst (λ z. OfOpen z (λ x. posts.EndCame b ever x (outcome.LaterRead w e))) r.0.1 r.1 in
@@ -200,6 +197,7 @@ module _ (p : AnyPlace) where
           let t : Try = r.0.0 in
           let came : posts.HasCome b ever (message.LaterVersion (time_of t) x) = subst (λ z. OfOpen z (λ y. posts.EndCame b ever y (outcome.LaterVersion w x))) r.0.1 r.1 in
           version-cause t w r.0.2.1.0 r.2 r.0.1 r.0.2.1.1 x came.0.kind came.0.number (sent-holds (record { from = came.0; to = broker b; message = message.LaterVersion (time_of t) x }) came.1) came.1
+      by-outcome o r = r.0
 
       pub caused : EndCause p b below i o
       caused = by-outcome o rests

@@ -45,13 +45,8 @@ homes-try g k acts h = homes-on (λ a. record a { tries = on_front g a.tries }) 
     fronts (t ∷ ts) h = (k t h.0, h.1)
 
 homes-close : (o : Outcome) (b : Book) → Every Homes b.acts → Every Homes (close o b).acts
-homes-close outcome.Committed b h = homes-try (finish outcome.Committed) (λ t p. p) b.acts h
-homes-close (outcome.Withdrawn l) b h = homes-try (finish (outcome.Withdrawn l)) (λ t p. p) b.acts h
-homes-close (outcome.Failed l k) b h = homes-try (finish (outcome.Failed l k)) (λ t p. p) b.acts h
-homes-close (outcome.LaterRead o e) b h = homes-try (finish (outcome.LaterRead o e)) (λ t p. p) b.acts h
-homes-close (outcome.LaterVersion o x) b h = homes-try (finish (outcome.LaterVersion o x)) (λ t p. p) b.acts h
-homes-close (outcome.Expired d m) b h = homes-try (finish (outcome.Expired d m)) (λ t p. p) b.acts h
 homes-close (outcome.Spent c) b h = homes-on (λ a. record a { spent = Some c }) (λ a p. p) b.acts h
+homes-close o b h = homes-try (finish o) (λ t p. p) b.acts h
 
 module _ (script : List ℕ → Tree) (me : ℕ) where
   homes-began : (i : ℕ) (s : StampParts) (clock : ℕ) (acts : List Act) → MayTry i acts (λ a. (s.broker ≡ me) × (s.home ≡ a.task.home) × (suc clock ≤ s.clock)) → Every Homes acts →
@@ -66,11 +61,7 @@ module _ (script : List ℕ → Tree) (me : ℕ) where
   homes-enter (effect.Got k v) b m h = homes-try (gain _) (λ t p. p) b.acts h
   homes-enter (effect.Acked k) b m h = homes-try (gain _) (λ t p. p) b.acts h
   homes-enter (effect.End i o) b m h = homes-close o b h
-  homes-enter (effect.Put o x v) b m h = h
-  homes-enter (effect.Stretch o x) b m h = h
-  homes-enter (effect.Begin s d) b m h = h
-  homes-enter (effect.Decide s d) b m h = h
-  homes-enter (effect.Learn s c) b m h = h
+  homes-enter f b m h = h
 
   all-homes : (log : List Effect) → IsTidy script me log → Every Homes (book log).acts
   unfolding book

@@ -100,15 +100,7 @@ knows-has (effect.Decide t d ∷ log) s h =
     elim (or_cases (same_stamp t s) (knows log s) h) [ inl e ↦ inl (d, inl (decide-path s t d (same_stamp-is t s e))) | inr e ↦ skip (effect.Decide t d) log s (knows-has log s e) ]
 knows-has (effect.Learn t c ∷ log) s h =
     elim (or_cases (same_stamp t s) (knows log s) h) [ inl e ↦ inr (c, inl (learn-path s t c c (same_stamp-is t s e) refl)) | inr e ↦ skip (effect.Learn t c) log s (knows-has log s e) ]
-knows-has (effect.Put o x v ∷ log) s h = skip (effect.Put o x v) log s (knows-has log s h)
-knows-has (effect.Stretch o x ∷ log) s h = skip (effect.Stretch o x) log s (knows-has log s h)
-knows-has (effect.Begin t d ∷ log) s h = skip (effect.Begin t d) log s (knows-has log s h)
-knows-has (effect.Run n ∷ log) s h = skip (effect.Run n) log s (knows-has log s h)
-knows-has (effect.Act i x t k c y ∷ log) s h = skip (effect.Act i x t k c y) log s (knows-has log s h)
-knows-has (effect.Try i t ∷ log) s h = skip (effect.Try i t) log s (knows-has log s h)
-knows-has (effect.Got k v ∷ log) s h = skip (effect.Got k v) log s (knows-has log s h)
-knows-has (effect.Acked k ∷ log) s h = skip (effect.Acked k) log s (knows-has log s h)
-knows-has (effect.End i o ∷ log) s h = skip (effect.End i o) log s (knows-has log s h)
+knows-has (f ∷ log) s h = skip f log s (knows-has log s h)
 
 commits-only : (d : Decision) → is_commit d ≡ true → d ≡ decision.Committed
 commits-only decision.Committed h = refl

@@ -1,5 +1,5 @@
 -- What holds of all logs and messages of a legal run gives the facts that keep it serial.
-use Rattle.std.proofs.Common.{◌≡◌, ℕ, ◌+◌, ◌≤◌, true, List, [], ◌∷◌, ◌++◌, reverse, refl, sym, ◌∙◌, ap, subst, Option, Some, None, is_some, inl, inr, ◌==◌}
+use Rattle.std.proofs.Common.{◌≡◌, ℕ, ◌+◌, ◌≤◌, true, List, [], ◌∷◌, ◌++◌, reverse, refl, sym, ◌∙◌, ap, subst, Some, is_some, inl, inr, ◌==◌}
 use Rattle.std.proofs.lemmas.List.{append-nil}
 use Rattle.pseudo_time.specs.Lists.{Every, Has}
 use Rattle.pseudo_time.specs.StampParts.{StampParts}
@@ -246,11 +246,7 @@ module _ (script : List ℕ → Tree) (b : Base) (plan : Plan) (logs : NodeId �
   own-put r (effect.Learn s c ∷ l) o x v h (inl e) = absurd (cc e)
   own-put r (effect.Learn s c ∷ l) o x v h (inr k) = own-put r l o x v h.2 k
   own-put r (effect.Run n ∷ l) o x v h k = absurd h
-  own-put r (effect.Act i j t n c z ∷ l) o x v h k = absurd h
-  own-put r (effect.Try i s ∷ l) o x v h k = absurd h
-  own-put r (effect.Got i w ∷ l) o x v h k = absurd h
-  own-put r (effect.Acked i ∷ l) o x v h k = absurd h
-  own-put r (effect.End i w ∷ l) o x v h k = absurd h
+  own-put r (f ∷ l) o x v h k = absurd h
 
   -- ---- all together
 

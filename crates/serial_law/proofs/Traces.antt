@@ -79,11 +79,6 @@ module _ (p : Position) where
   acknowledges Repository i log to (message.Value x v) h = (h.0, h.1.0, h.3)
   acknowledges Repository i log to (message.Decided s d) h = h
   acknowledges Repository i log to (message.Tell s c) h = h
-  acknowledges Repository i log to (message.Begun s) h = tt
-  acknowledges Repository i log to (message.LaterRead x e) h = tt
-  acknowledges Repository i log to (message.LaterVersion x y) h = tt
-  acknowledges Repository i log to (message.Ended x) h = tt
-  acknowledges Repository i log to (message.Ask s) h = tt
   acknowledges Repository i log to (message.Begin s d) h = absurd h
   acknowledges Repository i log to (message.Read x o) h = absurd h
   acknowledges Repository i log to (message.Write x o v) h = absurd h
@@ -94,15 +89,8 @@ module _ (p : Position) where
   acknowledges Broker i log to (message.Write x o v) h = tt
   acknowledges Broker i log to (message.Commit s) h = tt
   acknowledges Broker i log to (message.Withdraw s) h = tt
-  acknowledges Broker i log to (message.Stored x) h = absurd h
-  acknowledges Broker i log to (message.Value x v) h = absurd h
-  acknowledges Broker i log to (message.Decided s d) h = absurd h
-  acknowledges Broker i log to (message.Tell s c) h = absurd h
-  acknowledges Broker i log to (message.Begun s) h = absurd h
-  acknowledges Broker i log to (message.LaterRead x e) h = absurd h
-  acknowledges Broker i log to (message.LaterVersion x y) h = absurd h
-  acknowledges Broker i log to (message.Ended x) h = absurd h
-  acknowledges Broker i log to (message.Ask s) h = absurd h
+  acknowledges Repository i log to m h = tt
+  acknowledges Broker i log to m h = absurd h
 
   pub place-acknowledges : (q : Post) → Has q ever → Acknowledges ever q.from (log_at p q.from) q.message
   place-acknowledges q h = acknowledges q.from.kind q.from.number (log_at p q.from) q.to q.message (every-has _ ever q place-facts.sent_ok h)

@@ -58,13 +58,8 @@ spent-is c [] = refl
 spent-is c (a ∷ acts) = refl
 
 closed-is : (o : Outcome) (b : Book) → closed o (map act_parts b.acts) ≡ map act_parts (close o b).acts
-closed-is outcome.Committed b = ended-is outcome.Committed b.acts
-closed-is (outcome.Withdrawn l) b = ended-is (outcome.Withdrawn l) b.acts
-closed-is (outcome.Failed l k) b = ended-is (outcome.Failed l k) b.acts
-closed-is (outcome.LaterRead o e) b = ended-is (outcome.LaterRead o e) b.acts
-closed-is (outcome.LaterVersion o x) b = ended-is (outcome.LaterVersion o x) b.acts
-closed-is (outcome.Expired d m) b = ended-is (outcome.Expired d m) b.acts
 closed-is (outcome.Spent c) b = spent-is c b.acts
+closed-is o b = ended-is o b.acts
 
 entered-is : (b : Book) (f : Effect) → entered f (map act_parts b.acts) ≡ map act_parts (enter f b).acts
 entered-is b (effect.Run n) = refl
@@ -73,11 +68,7 @@ entered-is b (effect.Try i s) = tried-is s b.acts
 entered-is b (effect.Got k v) = gained-is (Got v) b.acts
 entered-is b (effect.Acked k) = gained-is Stored b.acts
 entered-is b (effect.End i o) = closed-is o b
-entered-is b (effect.Put o x v) = refl
-entered-is b (effect.Stretch o x) = refl
-entered-is b (effect.Begin s d) = refl
-entered-is b (effect.Decide s d) = refl
-entered-is b (effect.Learn s c) = refl
+entered-is b f = refl
 
 -- ---- the acts of this run
 
@@ -96,11 +87,7 @@ module _ (script : List ℕ → Tree) (me run : ℕ) (plan : List Task) where
   enter-here b (effect.Got k v) h = cond-true (b.run == run) _ _ h
   enter-here b (effect.Acked k) h = cond-true (b.run == run) _ _ h
   enter-here b (effect.End i o) h = cond-true ((close o b).run == run) _ _ (ap (λ r. r == run) (closed-run o b) ∙ h)
-  enter-here b (effect.Put o x v) h = cond-true (b.run == run) _ _ h
-  enter-here b (effect.Stretch o x) h = cond-true (b.run == run) _ _ h
-  enter-here b (effect.Begin s d) h = cond-true (b.run == run) _ _ h
-  enter-here b (effect.Decide s d) h = cond-true (b.run == run) _ _ h
-  enter-here b (effect.Learn s c) h = cond-true (b.run == run) _ _ h
+  enter-here b f h = cond-true (b.run == run) _ _ h
 
   enter-away : (b : Book) (f : Effect) → (b.run == run) ≡ false → now (enter f b) ≡ []
   enter-away b (effect.Run n) h = either (n == run)
@@ -109,25 +96,17 @@ module _ (script : List ℕ → Tree) (me run : ℕ) (plan : List Task) where
   enter-away b (effect.Got k v) h = cond-false (b.run == run) _ _ h
   enter-away b (effect.Acked k) h = cond-false (b.run == run) _ _ h
   enter-away b (effect.End i o) h = cond-false ((close o b).run == run) _ _ (ap (λ r. r == run) (closed-run o b) ∙ h)
-  enter-away b (effect.Put o x v) h = cond-false (b.run == run) _ _ h
-  enter-away b (effect.Stretch o x) h = cond-false (b.run == run) _ _ h
-  enter-away b (effect.Begin s d) h = cond-false (b.run == run) _ _ h
-  enter-away b (effect.Decide s d) h = cond-false (b.run == run) _ _ h
-  enter-away b (effect.Learn s c) h = cond-false (b.run == run) _ _ h
+  enter-away b f h = cond-false (b.run == run) _ _ h
 
   -- in this run what fits counts
   counts-here : (b : Book) (f : Effect) → (b.run == run) ≡ true → counts script me run plan b f ≡ fits script me plan b f
   counts-here b (effect.Run n) h = refl
-  counts-here b (effect.Act i x t k c y) h = cond-true (b.run == run) _ _ h
-  counts-here b (effect.Try i s) h = cond-true (b.run == run) _ _ h
-  counts-here b (effect.Got k v) h = cond-true (b.run == run) _ _ h
-  counts-here b (effect.Acked k) h = cond-true (b.run == run) _ _ h
-  counts-here b (effect.End i o) h = cond-true (b.run == run) _ _ h
   counts-here b (effect.Put o x v) h = refl
   counts-here b (effect.Stretch o x) h = refl
   counts-here b (effect.Begin s d) h = refl
   counts-here b (effect.Decide s d) h = refl
   counts-here b (effect.Learn s c) h = refl
+  counts-here b f h = cond-true (b.run == run) _ _ h
 
   step-here : (log : List Effect) (f : Effect) (c : Bool) → ((book log).run == run) ≡ true →
       entered_if c f (map act_parts (now (book log))) ≡ map act_parts (now (book (add_if c f log)))

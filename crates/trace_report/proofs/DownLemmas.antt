@@ -6,7 +6,7 @@ use Rattle.pseudo_time.specs.declared.nodes.NodeId.{NodeId}
 use Rattle.pseudo_time.specs.Nodes.{same_node}
 use Rattle.pseudo_time.specs.declared.nodes.NodeKind.TheVariants.{Repository, Broker}
 use Rattle.world_core.specs.declared.entries.Entry.{Entry}
-use Rattle.world_core.specs.declared.entries.Entry.TheVariants.{Take, Go, Learn, Hear, Gate, Crash, Down, Tick}
+use Rattle.world_core.specs.declared.entries.Entry.TheVariants.{Down, Tick}
 use Rattle.world_core.specs.declared.traces.Trace.{Trace}
 use Rattle.plan_form.specs.declared.plans.Plan.{Plan}
 use Rattle.report_writer.specs.declared.records.Down.{Down as Fallen}
@@ -16,14 +16,9 @@ use Rattle.trace_report.specs.Downs.{fallen, cause_of, shown, nodes_of_kind}
 
 cause-is : (n : NodeId) (es : List Entry) → cause_of (fallen es) n ≡ down_cause n es
 cause-is n [] = refl
-cause-is n (Take node number ∷ es) = cause-is n es
-cause-is n (Go node ∷ es) = cause-is n es
-cause-is n (Learn node stamp committed ∷ es) = cause-is n es
-cause-is n (Hear node ∷ es) = cause-is n es
-cause-is n (Gate node ∷ es) = cause-is n es
-cause-is n (Crash node kept ∷ es) = cause-is n es
 cause-is n (Down node cause ∷ es) = ap (λ r. if same_node node n then Some cause else r) (cause-is n es)
 cause-is n (Tick moment ∷ es) = cause-is n es
+cause-is n (e ∷ es) = cause-is n es
 
 shown-is : (es : List Entry) → ◌≡◌ {A = NodeId → List Fallen} (shown (fallen es)) (λ n. down_shown n (down_cause n es))
 shown-is es = λ i n. down_shown n (cause-is n es i)

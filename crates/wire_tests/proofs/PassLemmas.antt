@@ -15,7 +15,7 @@ use Rattle.world_core.specs.declared.traces.Opened.{Opened}
 use Rattle.world_core.specs.declared.entries.Entry.TheVariants.{Crash}
 use Rattle.world_core.specs.Walks.{Life, Flags, World, start_world, walk_from}
 use Rattle.world_core.proofs.Lives.{walk-append}
-use Rattle.wire_core.specs.Wires.{WireParts}
+use Rattle.wire_core.specs.Wires.{WireParts, Origin}
 use Rattle.wire_lock.specs.Sights.{Sight, IsWirePass, HadNothing, Visited, Tested, base_at, flags_at, owners_for, world_at}
 use Rattle.turn_plays.specs.Passes.{IsAt}
 use Rattle.turn_plays.proofs.PassLemmas.{at-start, popped}
