@@ -43,26 +43,11 @@ pub put-marked : (l : List Effect) (o : ObjectId) (x : TimeParts) (v : Value) �
 put-marked [] o x v h = absurd h
 put-marked (effect.Put a y w ∷ l) o x v (inl q) = let e : a ≡ o = cc q in let f : y ≡ x = cc q in let g : w ≡ v = cc q in inl (ap (λ z. mark.Put z y w) e ∙ ap (λ z. mark.Put o z w) f ∙ ap (λ z. mark.Put o x z) g)
 put-marked (effect.Put a y w ∷ l) o x v (inr h) = inr (put-marked l o x v h)
-put-marked (effect.Stretch a y ∷ l) o x v (inl q) = absurd (cc q)
 put-marked (effect.Stretch a y ∷ l) o x v (inr h) = inr (put-marked l o x v h)
-put-marked (effect.Decide s d ∷ l) o x v (inl q) = absurd (cc q)
 put-marked (effect.Decide s d ∷ l) o x v (inr h) = inr (put-marked l o x v h)
-put-marked (effect.Learn s c ∷ l) o x v (inl q) = absurd (cc q)
 put-marked (effect.Learn s c ∷ l) o x v (inr h) = inr (put-marked l o x v h)
-put-marked (effect.Begin s d ∷ l) o x v (inl q) = absurd (cc q)
-put-marked (effect.Begin s d ∷ l) o x v (inr h) = put-marked l o x v h
-put-marked (effect.Run n ∷ l) o x v (inl q) = absurd (cc q)
-put-marked (effect.Run n ∷ l) o x v (inr h) = put-marked l o x v h
-put-marked (effect.Act i t m n k c ∷ l) o x v (inl q) = absurd (cc q)
-put-marked (effect.Act i t m n k c ∷ l) o x v (inr h) = put-marked l o x v h
-put-marked (effect.Try i s ∷ l) o x v (inl q) = absurd (cc q)
-put-marked (effect.Try i s ∷ l) o x v (inr h) = put-marked l o x v h
-put-marked (effect.Got k w ∷ l) o x v (inl q) = absurd (cc q)
-put-marked (effect.Got k w ∷ l) o x v (inr h) = put-marked l o x v h
-put-marked (effect.Acked k ∷ l) o x v (inl q) = absurd (cc q)
-put-marked (effect.Acked k ∷ l) o x v (inr h) = put-marked l o x v h
-put-marked (effect.End i e ∷ l) o x v (inl q) = absurd (cc q)
-put-marked (effect.End i e ∷ l) o x v (inr h) = put-marked l o x v h
+put-marked (f ∷ l) o x v (inl q) = absurd (cc q)
+put-marked (f ∷ l) o x v (inr h) = put-marked l o x v h
 
 -- ---- a version that stands
 

@@ -13,7 +13,7 @@ use Rattle.seat_lock.specs.Rule.{IsOneOf, total, same}
 use Rattle.seat_lock.specs.Story.{entries_of}
 use Rattle.seat_lock.specs.Words.{CarriesOn, knows}
 use Rattle.world_core.specs.declared.entries.Entry.{Entry}
-use Rattle.world_core.specs.declared.entries.Entry.TheVariants.{Take, Go, Learn, Hear, Gate, Crash, Down, Tick}
+use Rattle.world_core.specs.declared.entries.Entry.TheVariants.{Down}
 use Rattle.world_core.specs.Walks.{Base, Life, World, is_down, lives_on, names, opened_life, opened_log, own, start_world, step, walk, walk_from}
 use Rattle.wire_core.specs.Wires.{WireParts}
 use Rattle.wire_core.specs.Boards.{owner_for, owner_of}
@@ -62,18 +62,12 @@ down-cause e = cc
 -- ---- lives
 
 still-one : (b : Base) (w : World) (n : NodeId) (e : Entry) → is_down e ≡ true → (step b w e).life n ≡ w.life n
-still-one b w n (Take node number) h = absurd (cc h)
-still-one b w n (Go node) h = absurd (cc h)
-still-one b w n (Learn node stamp committed) h = absurd (cc h)
-still-one b w n (Hear node) h = absurd (cc h)
-still-one b w n (Gate node) h = absurd (cc h)
-still-one b w n (Crash node kept) h = absurd (cc h)
 still-one b w n (Down node cause) h = go (same_node node n && (w.flags n).known)
   where
     go : (t : Bool) → (if t then w.life n else w.life n) ≡ w.life n
     go true = refl
     go false = refl
-still-one b w n (Tick moment) h = absurd (cc h)
+still-one b w n e h = absurd (cc h)
 
 still-from : (b : Base) (w : World) (n : NodeId) (es : List Entry) → Every (λ e. is_down e ≡ true) es → (walk_from b w es).life n ≡ w.life n
 unfolding walk_from

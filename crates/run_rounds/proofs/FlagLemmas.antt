@@ -19,19 +19,13 @@ use Rattle.trace_report.specs.Counts.{down_cause}
 
 -- an entry is no Down of the node, or its first
 pub cause-step : (n : NodeId) (e : Entry) (es : List Entry) → (down_cause n (e ∷ es) ≡ down_cause n es) ⊎ ((node : NodeId) × (cause : DownCause) × (e ≡ Down node cause) × (same_node node n ≡ true) × (down_cause n (e ∷ es) ≡ Some cause))
-cause-step n (Take node number) es = inl refl
-cause-step n (Go node) es = inl refl
-cause-step n (Learn node stamp committed) es = inl refl
-cause-step n (Hear node) es = inl refl
-cause-step n (Gate node) es = inl refl
-cause-step n (Crash node kept) es = inl refl
 cause-step n (Down node cause) es = go (same_node node n) refl
   where
     go : (t : Bool) → same_node node n ≡ t
         → (down_cause n (Down node cause ∷ es) ≡ down_cause n es) ⊎ ((m : NodeId) × (c : DownCause) × (Down node cause ≡ Down m c) × (same_node m n ≡ true) × (down_cause n (Down node cause ∷ es) ≡ Some c))
     go true is = inr (node, cause, refl, is, ap (λ (t : Bool). if t then Some cause else down_cause n es) is)
     go false is = inl (ap (λ (t : Bool). if t then Some cause else down_cause n es) is)
-cause-step n (Tick moment) es = inl refl
+cause-step n e es = inl refl
 
 here-told : (n : NodeId) (c : DownCause) (e : Entry) (es : List Entry) → e ≡ Down n c → down_cause n (e ∷ es) ≡ Some c
 here-told n c e es is = ap (λ (x : Entry). down_cause n (x ∷ es)) is ∙ ap (λ (t : Bool). if t then Some c else down_cause n es) (same_node-refl n)
@@ -83,14 +77,8 @@ module _ (b : Base) where
   -- ---- where nothing but Downs stand
 
   down-is : (e : Entry) → is_down e ≡ true → (node : NodeId) × (cause : DownCause) × (e ≡ Down node cause)
-  down-is (Take node number) h = absurd (cc h)
-  down-is (Go node) h = absurd (cc h)
-  down-is (Learn node stamp committed) h = absurd (cc h)
-  down-is (Hear node) h = absurd (cc h)
-  down-is (Gate node) h = absurd (cc h)
-  down-is (Crash node kept) h = absurd (cc h)
   down-is (Down node cause) h = (node, cause, refl)
-  down-is (Tick moment) h = absurd (cc h)
+  down-is e h = absurd (cc h)
 
   due-kept : (w : World) (n node : NodeId) (cause : DownCause) → ((step b w (Down node cause)).flags n).due ≡ (w.flags n).due
   due-kept w n node cause = go (same_node node n && (w.flags n).known)

@@ -9,7 +9,7 @@ use Rattle.pseudo_time.specs.Nodes.{same_node}
 use Rattle.message_core.proofs.NodeLemmas.{same_is}
 use Rattle.serial_model.specs.Questions.{Tree}
 use Rattle.world_core.specs.declared.entries.Entry.{Entry}
-use Rattle.world_core.specs.declared.entries.Entry.TheVariants.{Take, Go, Learn, Hear, Gate, Crash, Down, Tick}
+use Rattle.world_core.specs.declared.entries.Entry.TheVariants.{Go, Learn, Hear, Gate, Down}
 use Rattle.world_core.specs.Nodes.{Input, Given, gives}
 use Rattle.world_core.specs.Walks as walks
 use Rattle.world_core.specs.Walks.{Base, Life, Flags, Sending, World, names, step, after_input, lives_on, gated_life, crashed_life, flagged, went, learned, has_heard, leaving, sent_by, with_given, walk_from, sendings_after}
@@ -33,14 +33,11 @@ heard-known None f = (refl, refl)
 heard-known (Some moment) f = (refl, refl)
 
 flagged-known : (last : Option ℕ) (k : NodeKind) (f : Flags) (e : Entry) → ((flagged last k f e).known ≡ f.known) × ((flagged last k f e).up ≡ true → f.up ≡ true)
-flagged-known last k f (Take n number) = (refl, λ u. u)
 flagged-known last k f (Go n) = let w = went-known k f in (w.0, λ u. sym w.1 ∙ u)
 flagged-known last k f (Learn n stamp committed) = let w = learned-known k f in (w.0, λ u. sym w.1 ∙ u)
 flagged-known last k f (Hear n) = let w = heard-known last f in (w.0, λ u. sym w.1 ∙ u)
-flagged-known last k f (Gate n) = (refl, λ u. u)
-flagged-known last k f (Crash n kept) = (refl, λ u. u)
 flagged-known last k f (Down n cause) = (refl, λ u. absurd (cc u))
-flagged-known last k f (Tick moment) = (refl, λ u. u)
+flagged-known last k f e = (refl, λ u. u)
 
 pub step-known : (b : Base) (w : World) (e : Entry) (n : NodeId) → (((step b w e).flags n).known ≡ (w.flags n).known) × (((step b w e).flags n).up ≡ true → (w.flags n).up ≡ true)
 step-known b w e n = go (names n e && (w.flags n).known)
