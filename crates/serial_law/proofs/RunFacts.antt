@@ -245,7 +245,6 @@ module _ (script : List ℕ → Tree) (b : Base) (plan : Plan) (logs : NodeId �
   own-put r (effect.Decide s d ∷ l) o x v h (inr k) = own-put r l o x v h.2 k
   own-put r (effect.Learn s c ∷ l) o x v h (inl e) = absurd (cc e)
   own-put r (effect.Learn s c ∷ l) o x v h (inr k) = own-put r l o x v h.2 k
-  own-put r (effect.Run n ∷ l) o x v h k = absurd h
   own-put r (f ∷ l) o x v h k = absurd h
 
   -- ---- all together
