@@ -86,16 +86,7 @@ with-stamp false s ss = s ∷ ss
 abbrev pub putters : List Effect → List StampParts
 putters [] = []
 putters (effect.Put o x v ∷ l) = with-stamp (has-stamp x.stamp (putters l)) x.stamp (putters l)
-putters (effect.Stretch o x ∷ l) = putters l
-putters (effect.Begin s d ∷ l) = putters l
-putters (effect.Decide s d ∷ l) = putters l
-putters (effect.Learn s c ∷ l) = putters l
-putters (effect.Run n ∷ l) = putters l
-putters (effect.Act i h t n c b ∷ l) = putters l
-putters (effect.Try i s ∷ l) = putters l
-putters (effect.Got k v ∷ l) = putters l
-putters (effect.Acked k ∷ l) = putters l
-putters (effect.End i e ∷ l) = putters l
+putters (f ∷ l) = putters l
 
 -- one where the stamp is unknown and no read waits for it
 abbrev pub unasked : List Effect → List (TimeParts × HeldRead) → StampParts → ℕ

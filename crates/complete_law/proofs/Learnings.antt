@@ -44,16 +44,7 @@ use Rattle.world_facts.proofs.Growths.{each-has}
 abbrev pub learned : List Effect → List StampParts
 learned [] = []
 learned (effect.Learn s c ∷ l) = s ∷ learned l
-learned (effect.Put o x v ∷ l) = learned l
-learned (effect.Stretch o x ∷ l) = learned l
-learned (effect.Begin s d ∷ l) = learned l
-learned (effect.Decide s d ∷ l) = learned l
-learned (effect.Run n ∷ l) = learned l
-learned (effect.Act i h t n c b ∷ l) = learned l
-learned (effect.Try i s ∷ l) = learned l
-learned (effect.Got k v ∷ l) = learned l
-learned (effect.Acked k ∷ l) = learned l
-learned (effect.End i e ∷ l) = learned l
+learned (f ∷ l) = learned l
 
 pub stored-all : (l : List Effect) → length l ≡ stored-load stores l + length (learned l)
 stored-all [] = refl

@@ -44,13 +44,9 @@ use Rattle.world_facts.proofs.Ranges.{in-range}
 
 -- an End that an attempt may have where no moment was ticked
 abbrev IsFinal : Outcome → Type 0
-IsFinal outcome.Committed = Unit {0}
-IsFinal (outcome.Withdrawn l) = Unit {0}
-IsFinal (outcome.Failed l k) = Unit {0}
-IsFinal (outcome.LaterRead o e) = Unit {0}
-IsFinal (outcome.LaterVersion o x) = Unit {0}
 IsFinal (outcome.Expired d m) = ⊥
 IsFinal (outcome.Spent c) = ⊥
+IsFinal o = Unit {0}
 
 abbrev EndsFinal : Try → Type 0
 EndsFinal t = (o : Outcome) → t.end ≡ Some o → IsFinal o
