@@ -150,7 +150,7 @@ module _ (u v z : ℕ) (script : List ℕ → Tree) where
   under c t = if is-fresh c t then 0 else u + ac t.answers
 
   by-stop-need : (t : Try) (s : Stop) → need (by_stop t s) + (u + ac t.answers) ≤ at-stop t s
-  by-stop-need t (Asks q) = omega arith
+  by-stop-need t (Over ending.Finished) = omega arith
   by-stop-need t x = omega arith
 
   never-time : (c : Bool) (o : Option TimeParts) (x : TimeParts) → o ≡ None → (c && is_time o x) ≡ true → ⊥
@@ -365,7 +365,7 @@ module _ (u v z : ℕ) (script : List ℕ → Tree) where
     opening-fresh h b t e = go (b.run == run) e
       where
         by-stopped : (x : Try) (s : Stop) → by_stop x s ≡ Opening t → ⊥
-        by-stopped x (Asks q) e = absurd (cc e)
+        by-stopped x (Over ending.Finished) e = absurd (cc e)
         by-stopped x f e = absurd (cc e)
 
         second : (x : Try) (f : Bool) → is-fresh (is_stamp h.begun x.stamp) x ≡ f → (if f then Opening x else by_stop x (stop_of script x)) ≡ Opening t → is-fresh (is_stamp h.begun t.stamp) t ≡ true
@@ -393,7 +393,7 @@ module _ (u v z : ℕ) (script : List ℕ → Tree) where
     closing-none h b t e = go (b.run == run) e
       where
         by-stopped : (x : Try) (s : Stop) → by_stop x s ≡ Closing t → ⊥
-        by-stopped x (Asks q) e = absurd (cc e)
+        by-stopped x (Over ending.Finished) e = absurd (cc e)
         by-stopped x f e = absurd (cc e)
 
         first : (x : Try) (r f : Bool) → (if r then Refused x else (if f then Opening x else by_stop x (stop_of script x))) ≡ Closing t → ⊥

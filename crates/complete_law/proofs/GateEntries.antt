@@ -50,7 +50,7 @@ request-leaves log (Closing t) o e = let q : record { to = repository t.stamp.ho
 
 -- nothing new is ignored
 nothing-new : (script : List ℕ → Tree) (st : Stage) (h : Heard) → row script st h Nothing_new ≡ Ignored
-nothing-new script Idle h = refl
+nothing-new script (Asking t (ToRead a)) h = refl
 nothing-new script x h = refl
 
 -- an answer that is heeded leaves

@@ -150,7 +150,6 @@ module _ (p : CalmPlace) where
 
     in-plan : InRange p.run.plan.brokers n
     in-plan = in-range n p.run.plan.brokers (sym (p.run.legal.nodes.just (broker n)) ∙ sym ((facts-there p).models.known (broker n)) ∙ known)
-      where
 
     known-outcomes : AllDone p → Every HasOutcome (book_at p n).acts
     known-outcomes all =

@@ -151,7 +151,7 @@ module _ (script : List ℕ → Tree) (run : ℕ) (acts : ℕ → List Task) (mo
       let is : counted b ≡ book (k.brokers b) = counts b i in
       let last' : last_try (counted b) ≡ Some t = subst (λ z. last_try z ≡ Some t) (sym is) last in
       let rest = began script b run (acts b) (counted b) (k.heard b) (k.rested b i) in
-      let same : (counted b).run ≡ run = same-run script b run (acts b) (counted b).run run rest.0 (k.turns b i).ready.not_old in
+      let same : (counted b).run ≡ run = same-run (counted b).run run rest.0 (k.turns b i).ready.not_old in
       let in-run : stage script run (counted b) (k.heard b) ≡ stage_of script (k.heard b) (open_try (counted b)) (last_try (counted b)) =
       ap (λ c. if c then stage_of script (k.heard b) (open_try (counted b)) (last_try (counted b)) else Idle) (eq-eqb (counted b).run run same) in
       let s = last-sends script b run (acts b) (counted b) (k.heard b) t last' (λ n. last-is-open script b run (acts b) (k.brokers b) t same last' n) (λ c. undone (closed-decided c))
