@@ -6,7 +6,7 @@ use Rattle.std.specs.Ordering.{match_ordering}
 use Rattle.std.specs.declared.cmp.Ordering.{Ordering}
 use Rattle.std.specs.declared.cmp.Ordering.TheVariants.{Less, Equal, Greater}
 use Rattle.pseudo_time.specs.TimeParts.{time_cmp}
-use Rattle.std.proofs.lemmas.Bool.{false≢true, true≢false}
+use Rattle.std.proofs.lemmas.Bool.{false≢true, true≢false, or_right}
 use Rattle.pseudo_time.specs.Lists.{Has}
 use Rattle.pseudo_time.specs.Order.{same_stamp}
 use Rattle.pseudo_time.proofs.OrderLemmas.{same_stamp-is, same_stamp-self}
@@ -38,7 +38,7 @@ use Rattle.repository_log.specs.Logs.{is_commit, known, marks, record_of}
 use Rattle.repository_core.specs.Rows.{ask_as, ask_for, accepts, begin_as, close_as, hold, learn_as, on_ask, on_begin, on_close, on_learn, on_message, on_read, on_write, read_as, read_known, release, reread, row, tell_askers, tells, unhold, waits_for, write_as}
 use Rattle.repository_laws.proofs.Logs.{settled-log}
 use Rattle.repository_waits.specs.Waits.{Waits}
-use Rattle.repository_waits.proofs.HeldLemmas.{or-right, waits-remove}
+use Rattle.repository_waits.proofs.HeldLemmas.{waits-remove}
 use Rattle.repository_waits.proofs.ReadSteps.{read-waits}
 use Rattle.complete_law.proofs.HandLoads.{Prices, price, price-if, times, times-parted}
 use Rattle.complete_law.proofs.Learnings.{Single}
@@ -86,16 +86,7 @@ with-stamp false s ss = s ∷ ss
 abbrev pub putters : List Effect → List StampParts
 putters [] = []
 putters (effect.Put o x v ∷ l) = with-stamp (has-stamp x.stamp (putters l)) x.stamp (putters l)
-putters (effect.Stretch o x ∷ l) = putters l
-putters (effect.Begin s d ∷ l) = putters l
-putters (effect.Decide s d ∷ l) = putters l
-putters (effect.Learn s c ∷ l) = putters l
-putters (effect.Run n ∷ l) = putters l
-putters (effect.Act i h t n c b ∷ l) = putters l
-putters (effect.Try i s ∷ l) = putters l
-putters (effect.Got k v ∷ l) = putters l
-putters (effect.Acked k ∷ l) = putters l
-putters (effect.End i e ∷ l) = putters l
+putters (f ∷ l) = putters l
 
 -- one where the stamp is unknown and no read waits for it
 abbrev pub unasked : List Effect → List (TimeParts × HeldRead) → StampParts → ℕ
@@ -177,16 +168,7 @@ putters-single (effect.Put o x v ∷ l) = go (has-stamp x.stamp (putters l)) ref
     go : (c : Bool) → has-stamp x.stamp (putters l) ≡ c → Single (putters l) → Single (with-stamp c x.stamp (putters l))
     go true e k = k
     go false e k = (stamp-out x.stamp (putters l) e, k)
-putters-single (effect.Stretch o x ∷ l) = putters-single l
-putters-single (effect.Begin s d ∷ l) = putters-single l
-putters-single (effect.Decide s d ∷ l) = putters-single l
-putters-single (effect.Learn s c ∷ l) = putters-single l
-putters-single (effect.Run n ∷ l) = putters-single l
-putters-single (effect.Act i h t n c b ∷ l) = putters-single l
-putters-single (effect.Try i s ∷ l) = putters-single l
-putters-single (effect.Got k v ∷ l) = putters-single l
-putters-single (effect.Acked k ∷ l) = putters-single l
-putters-single (effect.End i e ∷ l) = putters-single l
+putters-single (f ∷ l) = putters-single l
 
 still : (c : Bool) (s w : StampParts) (ss : List StampParts) → Has s ss → Has s (with-stamp c w ss)
 still true s w ss h = h
@@ -202,26 +184,8 @@ put-stands (effect.Put a y b ∷ l) o x v (inl e) =
     go true q = stamp-in y.stamp (putters l) q
     go false q = inl refl
 put-stands (effect.Put a y b ∷ l) o x v (inr h) = still (has-stamp y.stamp (putters l)) x.stamp y.stamp (putters l) (put-stands l o x v h)
-put-stands (effect.Stretch a y ∷ l) o x v (inl e) = absurd (cc e)
-put-stands (effect.Stretch a y ∷ l) o x v (inr h) = put-stands l o x v h
-put-stands (effect.Begin s d ∷ l) o x v (inl e) = absurd (cc e)
-put-stands (effect.Begin s d ∷ l) o x v (inr h) = put-stands l o x v h
-put-stands (effect.Decide s d ∷ l) o x v (inl e) = absurd (cc e)
-put-stands (effect.Decide s d ∷ l) o x v (inr h) = put-stands l o x v h
-put-stands (effect.Learn s c ∷ l) o x v (inl e) = absurd (cc e)
-put-stands (effect.Learn s c ∷ l) o x v (inr h) = put-stands l o x v h
-put-stands (effect.Run n ∷ l) o x v (inl e) = absurd (cc e)
-put-stands (effect.Run n ∷ l) o x v (inr h) = put-stands l o x v h
-put-stands (effect.Act i p t n c b ∷ l) o x v (inl e) = absurd (cc e)
-put-stands (effect.Act i p t n c b ∷ l) o x v (inr h) = put-stands l o x v h
-put-stands (effect.Try i s ∷ l) o x v (inl e) = absurd (cc e)
-put-stands (effect.Try i s ∷ l) o x v (inr h) = put-stands l o x v h
-put-stands (effect.Got k a ∷ l) o x v (inl e) = absurd (cc e)
-put-stands (effect.Got k a ∷ l) o x v (inr h) = put-stands l o x v h
-put-stands (effect.Acked k ∷ l) o x v (inl e) = absurd (cc e)
-put-stands (effect.Acked k ∷ l) o x v (inr h) = put-stands l o x v h
-put-stands (effect.End i z ∷ l) o x v (inl e) = absurd (cc e)
-put-stands (effect.End i z ∷ l) o x v (inr h) = put-stands l o x v h
+put-stands (f ∷ l) o x v (inl e) = absurd (cc e)
+put-stands (f ∷ l) o x v (inr h) = put-stands l o x v h
 
 unasked-most : (log : List Effect) (held : List (TimeParts × HeldRead)) (s : StampParts) → unasked log held s ≤ 1
 unasked-most log held s = go (is_settled (known log s)) (waits_for s held)
@@ -273,7 +237,7 @@ or-on true b c k e = refl
 or-on false b c k e = k e
 
 tail-fewer : (e : TimeParts × HeldRead) (es : List (TimeParts × HeldRead)) → Fewer es (e ∷ es)
-tail-fewer e es = inr (e.1.waits, (omega arith, (λ s n. sym (ap (λ c. c || waits_for s es) n)), (λ s k. or-right (same_stamp e.1.waits s) (waits_for s es) k)))
+tail-fewer e es = inr (e.1.waits, (omega arith, (λ s n. sym (ap (λ c. c || waits_for s es) n)), (λ s k. or_right (same_stamp e.1.waits s) (waits_for s es) k)))
 
 cons-fewer : (e : TimeParts × HeldRead) (mid held : List (TimeParts × HeldRead)) → Fewer mid held → Fewer (e ∷ mid) (e ∷ held)
 cons-fewer e mid held (inl q) = inl (ap (λ z. e ∷ z) q)
@@ -314,10 +278,10 @@ inserted-joined [] t x = ([], inl refl, omega arith, (λ s e. absurd (false≢tr
 inserted-joined (e ∷ es) t x = go (time_cmp t e.0) (inserted-joined es t x)
   where
     go : (o : Ordering) → Joined x.waits es (insert_entry time_cmp es t x) → Joined x.waits (e ∷ es) (match_ordering o ((t, x) ∷ e ∷ es) ((e.0, x) ∷ es) (e ∷ insert_entry time_cmp es t x))
-    go Less k = (e ∷ es, inl refl, omega arith, (λ s i. or-right (same_stamp x.waits s) (waits_for s (e ∷ es)) i), own-waits x.waits (waits_for x.waits (e ∷ es)))
-    go Equal k = (es, tail-fewer e es, omega arith, (λ s i. or-right (same_stamp x.waits s) (waits_for s es) i), own-waits x.waits (waits_for x.waits es))
+    go Less k = (e ∷ es, inl refl, omega arith, (λ s i. or_right (same_stamp x.waits s) (waits_for s (e ∷ es)) i), own-waits x.waits (waits_for x.waits (e ∷ es)))
+    go Equal k = (es, tail-fewer e es, omega arith, (λ s i. or_right (same_stamp x.waits s) (waits_for s es) i), own-waits x.waits (waits_for x.waits es))
     go Greater (mid, f, n, l, own) =
-        (e ∷ mid, cons-fewer e mid es f, omega (arith, n), (λ s i. or-on (same_stamp e.1.waits s) (waits_for s mid) (waits_for s (insert_entry time_cmp es t x)) (l s) i), or-right (same_stamp e.1.waits x.waits) (waits_for x.waits (insert_entry time_cmp es t x)) own)
+        (e ∷ mid, cons-fewer e mid es f, omega (arith, n), (λ s i. or-on (same_stamp e.1.waits s) (waits_for s mid) (waits_for s (insert_entry time_cmp es t x)) (l s) i), or_right (same_stamp e.1.waits x.waits) (waits_for x.waits (insert_entry time_cmp es t x)) own)
 
 more-waits : (log : List Effect) (mid later : List (TimeParts × HeldRead)) (s : StampParts) → (waits_for s mid ≡ true → waits_for s later ≡ true) → unasked log later s ≤ unasked log mid s
 more-waits log mid later s k = go (waits_for s mid) refl (waits_for s later) refl (is_settled (known log s))
@@ -434,7 +398,7 @@ waits-kept s x (e ∷ es) n h = go (λ k. waits-kept s x es n k) (same_stamp e.1
         absurd (false≢true (sym n ∙ subst (λ y. same_stamp s y ≡ true) is (same_stamp-self s)))
     go again true q false p h = again h
     go again false q true p h = ap (λ c. c || waits_for x (filter (λ e. not (same_stamp e.1.waits s)) es)) p
-    go again false q false p h = or-right (same_stamp e.1.waits x) (waits_for x (filter (λ e. not (same_stamp e.1.waits s)) es)) (again h)
+    go again false q false p h = or_right (same_stamp e.1.waits x) (waits_for x (filter (λ e. not (same_stamp e.1.waits s)) es)) (again h)
 
 asks-release : (s : StampParts) (h : Hand) → is_settled (known (now h) s) ≡ true → ask-measure (release s h) ≤ ask-measure h
 unfolding release
@@ -529,13 +493,7 @@ asks-row h from (message.Read t o) = asks-read h from t o
 asks-row h from (message.Write t o v) = asks-write-as h from t o v (stands_written (marks (now h)) o t v) (is_settled (known (now h) t.stamp)) (write_step (marks (now h)) o t v)
 asks-row h from (message.Ask s) = let k = asks-ask-as h from s (record_of (now h) s) in omega (arith, k)
 asks-row h from (message.Tell s c) = let k = asks-learnt h s c in omega (arith, k)
-asks-row h from (message.Begun s) = omega arith
-asks-row h from (message.Value t v) = omega arith
-asks-row h from (message.Stored t) = omega arith
-asks-row h from (message.LaterRead t e) = omega arith
-asks-row h from (message.LaterVersion t x) = omega arith
-asks-row h from (message.Ended t) = omega arith
-asks-row h from (message.Decided s d) = omega arith
+asks-row h from m = omega arith
 
 -- a message that is taken
 pub asks-taken : (h : Hand) (from : NodeId) (m : Message) → ask-measure (on_message h from m) ≤ ask-measure h + price-if requesting (accepts h.number from m) m

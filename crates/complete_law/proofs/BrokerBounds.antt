@@ -25,11 +25,12 @@ use Rattle.complete_law.proofs.BrokerMoves.{turn-there}
 use Rattle.complete_law.proofs.BrokerRuns.{only-runs}
 use Rattle.complete_law.proofs.Outcomes.{own-tries}
 use Rattle.complete_law.proofs.Places.{desk_of, tasks_of}
-use Rattle.complete_law.proofs.Ranges.{at-place, kept-every, same-run}
+use Rattle.complete_law.proofs.Ranges.{same-run}
 use Rattle.complete_law.proofs.Shares.{act-size, acts-share, answers-few, asking-one, mul-mono, started-few, tasks-few, tries-allowed, tries-given}
 use Rattle.complete_law.proofs.Sizes.{IsSpare, begun-run, log-size, one-if, size-act, size-acts, spare}
 use Rattle.complete_law.proofs.Steps as steps
 use Rattle.complete_law.proofs.Steps.{calm-there, facts-there}
+use Rattle.world_facts.proofs.Growths.{every-at, every-filter}
 
 -- a task of the plan may be tried, and its script makes few requests
 abbrev pub IsAllowed : (List ℕ → Tree) → ℕ → Task → Type 0
@@ -52,7 +53,7 @@ pub led : (script : List ℕ → Tree) (most run : ℕ) (ts : List Task) (as' : 
     Every (IsLed script most) as'
 led script most run ts [] allowed s spare kin played = tt
 led script most run ts (a ∷ as') allowed s spare kin played = (
-  (at-place (IsAllowed script most) ts (length as') a.task allowed s.1, spare.0, both a.tries kin.0.1 (every-left (IsPlayed script) a.tries (tries_of as') played)),
+  (every-at (IsAllowed script most) ts (length as') a.task allowed s.1, spare.0, both a.tries kin.0.1 (every-left (IsPlayed script) a.tries (tries_of as') played)),
   led script most run ts as' allowed s.0 spare.1 kin.1 (every-right (IsPlayed script) a.tries (tries_of as') played),
 )
   where
@@ -97,7 +98,7 @@ module _ (p : CalmPlace) (most : ℕ) (asks : AskAtMost p.run most) where
 
     allowed : Every (IsAllowed base.script most) (tasks_of base n)
     allowed = allowed-tasks base.script most (acts_of n base.acts)
-        (kept-every (λ a. IsAllowed base.script most (task_of a)) (λ (a : ActSpec). a.broker == n) base.acts (allowed-acts base.script most p.run.plan.repositories p.run.plan.brokers 1 base.acts p.run.whole.acts asks))
+        (every-filter (λ a. IsAllowed base.script most (task_of a)) (λ (a : ActSpec). a.broker == n) base.acts (allowed-acts base.script most p.run.plan.repositories p.run.plan.brokers 1 base.acts p.run.whole.acts asks))
 
     front-of : (as' past : List Act) → Every IsSpare (as' ++ past) → Every IsSpare as'
     front-of as' past h = every-left IsSpare as' past h

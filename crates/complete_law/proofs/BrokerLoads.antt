@@ -152,13 +152,11 @@ module _ (u v z most : ℕ) (script : List ℕ → Tree) where
       asked q e = let k = ac-is t.answers in let j : asking-one (stop_of script t) ≡ 1 = ap asking-one e in let m = requests-fee (length t.answers) 1 (omega (arith, h, j)) in omega (arith, k, m)
 
       go : (o : Outcome) → EndsBy script t o → ac u v z script t.answers + refused u v z script o ≤ most * v
-      go outcome.Committed k = plain
-      go (outcome.Withdrawn l) k = plain
-      go (outcome.Failed l x) k = plain
       go (outcome.LaterRead o x) k = asked (ToWrite o k.0) k.1
       go (outcome.LaterVersion o x) k = asked (ToWrite o k.0) k.1
       go (outcome.Expired d m) k = plain
       go (outcome.Spent x) k = plain
+      go o k = plain
 
   try-fee : (t : Try) → IsPlayed script t → length t.answers + asking-one (stop_of script t) ≤ most → pos u v z script true t ≤ fee
   try-fee t played h = go t.end refl

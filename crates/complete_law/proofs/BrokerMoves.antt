@@ -1,6 +1,6 @@
 -- The entries at which a broker takes a turn: it takes a message, or it goes.
 use Rattle.std.proofs.Common.{◌≡◌, ◌≢◌, ◌⊎◌, ℕ, ◌==◌, Bool, true, false, ◌&&◌, List, [], ◌∷◌, ◌++◌, reverse, cond, refl, sym, ◌∙◌, ap, subst, Some, None, if◌then◌else◌, inl, inr, arith}
-use Rattle.std.proofs.lemmas.Bool.{false≢true, true≢false}
+use Rattle.std.proofs.lemmas.Bool.{false≢true}
 use Rattle.std.proofs.lemmas.List.{reverse-append}
 use Rattle.pseudo_time.specs.Lists.{Has}
 use Rattle.pseudo_time.specs.declared.nodes.NodeId.{NodeId}
@@ -46,7 +46,7 @@ use Rattle.complete_law.proofs.BrokerEntries.{Moved, moved-asked, moved-askers, 
 use Rattle.complete_law.specs.AtRest.{standing_at}
 use Rattle.complete_law.proofs.Frames.{desk-after, goes, life-with, takes, turned}
 use Rattle.complete_law.proofs.Hearings.{tells-so}
-use Rattle.complete_law.proofs.Places.{IsBegun, IsDecided, tasks_of, desk_of, CalmWorld}
+use Rattle.complete_law.proofs.Places.{IsBegun, IsDecided, tasks_of, desk_of, CalmWorld, all-off, both-on}
 
 -- a copy of one message is no copy of another
 pub other-copies : (k j : ℕ) (ts : List ℕ) → (k == j) ≡ false → count j (k ∷ ts) ≡ count j ts
@@ -77,16 +77,6 @@ module _ (b : Base) (w : World) (calm : CalmWorld b w) (f : Refines (node_turns 
         };
         ready = subst (λ z. IsReady b.script n b.run (tasks_of b n) z) (sym all) (f.models.ready (broker n) known);
       }
-
-  -- what an entry of this node changes, and what it leaves
-  pub both-on : {X : Type 0} (s c : Bool) (x z : X) → s ≡ true → c ≡ true → (if s && c then x else z) ≡ x
-  both-on true true x z e q = refl
-  both-on false c x z e q = absurd (false≢true e)
-  both-on true false x z e q = absurd (false≢true q)
-
-  pub all-off : {X : Type 0} (s c : Bool) (x z : X) → s ≡ false → (if s && c then x else z) ≡ z
-  all-off false c x z e = refl
-  all-off true c x z e = absurd (true≢false e)
 
   pub not-same : (n : NodeId) (m : NodeId) → m ≢ n → same_node n m ≡ false
   not-same n m ne = go (same_node n m) refl

@@ -16,7 +16,7 @@ use Rattle.broker_core.specs.Book.{Act, Book, Try, time_of}
 use Rattle.broker_core.specs.Fits.{another, next_clock, shown_to, stop_of}
 use Rattle.broker_core.specs.Owed.{after_act, after_tries, by_clock, by_stage, due, owed, start, try_or_spent}
 use Rattle.broker_core.specs.Rows.{ends, News, Begun, Answered, Refusal, Over_there, Decided, row, news, when, decided_commit, decided_early}
-use Rattle.broker_core.specs.Stages.{Stage, Idle, Refused, Opening, Asking, Finishing, Stopping, Closing, is_closed, is_finished, stage, standing}
+use Rattle.broker_core.specs.Stages.{Stage, Refused, Opening, Asking, Finishing, Stopping, Closing, is_closed, is_finished, stage, standing}
 use Rattle.pseudo_time.specs.Nodes.{broker}
 use Rattle.broker_core.specs.Tasks.{Task}
 use Rattle.broker_core.specs.Turns as desks
@@ -66,12 +66,7 @@ module _ (script : List ℕ → Tree) (me run : ℕ) (acts : List Task) where
 
   stage-of : (h : Heard) (b : Book) (st : Stage) → OptOf (by_stage me acts h b st)
   stage-of h b (Stopping t o) = tt
-  stage-of h b Idle = due-of h b b.acts
-  stage-of h b (Refused t) = due-of h b b.acts
-  stage-of h b (Opening t) = due-of h b b.acts
-  stage-of h b (Asking t q) = due-of h b b.acts
-  stage-of h b (Finishing t) = due-of h b b.acts
-  stage-of h b (Closing t) = due-of h b b.acts
+  stage-of h b x = due-of h b b.acts
 
   owed-of : (b : Book) (h : Heard) → OptOf (owed script me run acts b h)
   owed-of b h = go (nat_lt b.run run)
@@ -176,9 +171,7 @@ module _ (p : CalmPlace) where
       go None = only n
       go (Some t) = turn-log w n (desks.Hear t) _ (hear-turn w n t) only
   one-life w (entry.Gate m) n q only = same-log w n (gated_life (w.life (broker n))) (ap reverse (append-nil (all_effects (w.life (broker n))))) only
-  one-life w (entry.Crash m k) n q only = absurd q
-  one-life w (entry.Down m k) n q only = absurd q
-  one-life w (entry.Tick m) n q only = absurd q
+  one-life w e n q only = absurd q
 
   one-entry : (w : World) (e : Entry) → IsQuiet e → Only w → Only (step base w e)
   one-entry w e q only n = go (names (broker n) e && (w.flags (broker n)).known)

@@ -1,6 +1,7 @@
 -- A request that stands and is taken by its repository is answered, and heeded, or held.
 use Rattle.std.proofs.Common.{◌≡◌, ℕ, ◌==◌, Bool, true, false, [], ◌∷◌, ◌++◌, reverse, refl, sym, ◌∙◌, ap, subst, Some, None, if◌then◌else◌, inl, inr}
 use Rattle.std.proofs.lemmas.List.{reverse-append}
+use Rattle.std.proofs.lemmas.Option.{same_Some}
 use Rattle.pseudo_time.specs.Lists.{Has}
 use Rattle.pseudo_time.proofs.ListLemmas.{has-right}
 use Rattle.pseudo_time.specs.StampParts.{StampParts}
@@ -50,12 +51,10 @@ use Rattle.complete_law.proofs.BrokerMoves.{node-there, turn-there}
 use Rattle.broker_laws.proofs.BookSteps.{StageSound, stage-sound}
 use Rattle.repository_waits.proofs.ReadSteps.{Keeps, Serves, on-message-serves}
 use Rattle.complete_law.proofs.Answering.{heeds-read}
-use Rattle.complete_law.proofs.Hearings.{each-in, open-closed}
+use Rattle.complete_law.proofs.Hearings.{open-closed}
 use Rattle.complete_law.proofs.Places.{log_of, gated_of, Heeds, IsBegun, IsDecided, desk_of, standing_in, tasks_of, CalmWorld}
 use Rattle.complete_law.proofs.RequestServices.{AnsweredBy, OpenDecided, accepted, begin-served, commit-served, withdraw-served, write-served}
-
-some-same : {A : Type 0} (x y : A) → Some x ≡ Some y → x ≡ y
-some-same x y e = cc e
+use Rattle.world_facts.proofs.Growths.{each-has}
 
 module _ (b : Base) (w : World) (calm : CalmWorld b w) (f : Refines (node_turns b.script) (node_facts b.script) b (λ n. []) [] (λ t. ⊥) w) (n : ℕ) (known-n : (w.flags (repository n)).known ≡ true) (i : ℕ) (o : Out) (stands : standing_in b w i ≡ Some o) (at-n : o.to ≡ repository n)
     (R : TimeParts → ObjectId → NodeId → Type 0) (agree : (t : TimeParts) (o p : ObjectId) (f g : NodeId) → R t o f → R t p g → (o ≡ p) × (f ≡ g)) where
@@ -132,7 +131,7 @@ module _ (b : Base) (w : World) (calm : CalmWorld b w) (f : Refines (node_turns 
       let found : find t.stamp (tries (book (log_of w (broker i)))) ≡ Some t = subst (λ ts. find t.stamp ts ≡ Some t) (sym all) (rw (same_stamp-self t.stamp) refl) in
       let own : t.stamp.broker ≡ i = (each-found (IsBelow i (book (log_of w (broker i))).clock) t.stamp (tries (book (log_of w (broker i)))) t found clock).0.1 in
       let here : Has (effect.Decide t.stamp d) (log_of w (repository n)) = decided-stands n (log_of w (repository n)) t.stamp d tidy-n home e in
-      let cause = (each-in _ (reverse ln.fresh ++ reverse ln.gated) (effect.Decide t.stamp d) node-n.proofs (subst (Has (effect.Decide t.stamp d)) split-n here)).1 in
+      let cause = (each-has _ (reverse ln.fresh ++ reverse ln.gated) (effect.Decide t.stamp d) node-n.proofs (subst (Has (effect.Decide t.stamp d)) split-n here)).1 in
       let closed : repositories.WasClosed (sent_by w) (happened (node_turns b.script) f.events).ticks n t.stamp d = subst (λ ever. repositories.WasClosed ever (happened (node_turns b.script) f.events).ticks n t.stamp d) f.models.ever cause in
       let l : Life = w.life (broker i) in
       let node-i : NodeOk (node_facts b.script) (around (happened (node_turns b.script) f.events)) (broker i) (seat_of (w.life (broker i))) = node-there b w calm f (broker i) known-i in
@@ -164,11 +163,11 @@ module _ (b : Base) (w : World) (calm : CalmWorld b w) (f : Refines (node_turns 
     serve (Refused t) q k g e = absurd g
     serve (Opening t) q k g e =
         let z : Out = record { to = repository t.stamp.home; message = message.Begin t.stamp t.task.timeout } in
-        let is : z ≡ o = some-same z o e in
+        let is : z ≡ o = same_Some z o e in
         by-answer (Opening t) z q is (begin-served b.script heard old i t t.task.timeout (accept-of z is) (decided-so t k (number-of t.stamp.home (home-of z is))))
     serve (Asking t (ToRead a)) q k g e =
         let z : Out = record { to = repository a.repository; message = message.Read (time_of t) a } in
-        let is : z ≡ o = some-same z o e in
+        let is : z ≡ o = same_Some z o e in
         read-served t a q is (on-message-serves R agree old old (broker i) (time_of t) a (accept-of z is) (mine (time_of t) a (sym is)) begun)
       where
         read-served : (t : Try) (a : ObjectId) → st ≡ Asking t (ToRead a) → (let z : Out = record { to = repository a.repository; message = message.Read (time_of t) a } in z ≡ o) → Serves (on_message old (broker i) (message.Read (time_of t) a)) (time_of t) a (broker i) → P
@@ -177,17 +176,17 @@ module _ (b : Base) (w : World) (calm : CalmWorld b w) (f : Refines (node_turns 
             answered h.0 (subst (λ (x : Out). Has (record { to = broker i; message = h.0 }) (on_message old (broker i) x.message).outs) is h.2) (subst (λ x. row b.script x heard (news h.0) ≡ Ignored → ⊥) (sym q) (heeds-read b.script t a heard h.0 h.1))
     serve (Asking t (ToWrite a v)) q k g e =
         let z : Out = record { to = repository a.repository; message = message.Write (time_of t) a v } in
-        let is : z ≡ o = some-same z o e in
+        let is : z ≡ o = same_Some z o e in
         by-answer (Asking t (ToWrite a v)) z q is (write-served b.script heard old i t a v (accept-of z is))
     serve (Finishing t) q k g e =
         let z : Out = record { to = repository t.stamp.home; message = message.Commit t.stamp } in
-        let is : z ≡ o = some-same z o e in
+        let is : z ≡ o = same_Some z o e in
         let home : t.stamp.home ≡ n = number-of t.stamp.home (home-of z is) in
         by-answer (Finishing t) z q is (commit-served b.script heard old i t (accept-of z is) (recorded t.stamp g home) (decided-so t k.0 home))
     serve (Stopping t p) q k g e = absurd (cc e)
     serve (Closing t) q k g e =
         let z : Out = record { to = repository t.stamp.home; message = message.Withdraw t.stamp } in
-        let is : z ≡ o = some-same z o e in
+        let is : z ≡ o = same_Some z o e in
         by-answer (Closing t) z q is (withdraw-served b.script heard old i t (accept-of z is) (recorded t.stamp g.0 (number-of t.stamp.home (home-of z is))))
 
     pub serves-broker : P

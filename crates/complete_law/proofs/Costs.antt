@@ -150,10 +150,8 @@ module _ (u v z : ℕ) (script : List ℕ → Tree) where
   under c t = if is-fresh c t then 0 else u + ac t.answers
 
   by-stop-need : (t : Try) (s : Stop) → need (by_stop t s) + (u + ac t.answers) ≤ at-stop t s
-  by-stop-need t (Asks q) = omega arith
   by-stop-need t (Over ending.Finished) = omega arith
-  by-stop-need t (Over (ending.Withdrawn l)) = omega arith
-  by-stop-need t (Over (ending.Failed l k)) = omega arith
+  by-stop-need t x = omega arith
 
   never-time : (c : Bool) (o : Option TimeParts) (x : TimeParts) → o ≡ None → (c && is_time o x) ≡ true → ⊥
   never-time true None x e m = false≢true m
@@ -334,12 +332,7 @@ module _ (u v z : ℕ) (script : List ℕ → Tree) where
 
     stage-pays : (h : Heard) (b : Book) (st : Stage) → stage script run b h ≡ st → StageOk script me run acts b st → h.ended ≡ None → OptPays h b (by_stage me acts h b st)
     stage-pays h b (Stopping t o) e ok none = stop-pays h b t t.task.index o e ok.0 ok.1
-    stage-pays h b Idle e ok none = due-pays h b b.acts none
-    stage-pays h b (Refused t) e ok none = due-pays h b b.acts none
-    stage-pays h b (Opening t) e ok none = due-pays h b b.acts none
-    stage-pays h b (Asking t q) e ok none = due-pays h b b.acts none
-    stage-pays h b (Finishing t) e ok none = due-pays h b b.acts none
-    stage-pays h b (Closing t) e ok none = due-pays h b b.acts none
+    stage-pays h b x e ok none = due-pays h b b.acts none
 
     run-pays : (h : Heard) (b : Book) → b.acts ≡ [] → Pays h b (effect.Run run)
     run-pays h b none =
@@ -372,10 +365,8 @@ module _ (u v z : ℕ) (script : List ℕ → Tree) where
     opening-fresh h b t e = go (b.run == run) e
       where
         by-stopped : (x : Try) (s : Stop) → by_stop x s ≡ Opening t → ⊥
-        by-stopped x (Asks q) e = absurd (cc e)
         by-stopped x (Over ending.Finished) e = absurd (cc e)
-        by-stopped x (Over (ending.Withdrawn l)) e = absurd (cc e)
-        by-stopped x (Over (ending.Failed l k)) e = absurd (cc e)
+        by-stopped x f e = absurd (cc e)
 
         second : (x : Try) (f : Bool) → is-fresh (is_stamp h.begun x.stamp) x ≡ f → (if f then Opening x else by_stop x (stop_of script x)) ≡ Opening t → is-fresh (is_stamp h.begun t.stamp) t ≡ true
         second x true q e = let is : x ≡ t = cc e in subst (λ (y : Try). is-fresh (is_stamp h.begun y.stamp) y ≡ true) is q
@@ -402,10 +393,8 @@ module _ (u v z : ℕ) (script : List ℕ → Tree) where
     closing-none h b t e = go (b.run == run) e
       where
         by-stopped : (x : Try) (s : Stop) → by_stop x s ≡ Closing t → ⊥
-        by-stopped x (Asks q) e = absurd (cc e)
         by-stopped x (Over ending.Finished) e = absurd (cc e)
-        by-stopped x (Over (ending.Withdrawn l)) e = absurd (cc e)
-        by-stopped x (Over (ending.Failed l k)) e = absurd (cc e)
+        by-stopped x f e = absurd (cc e)
 
         first : (x : Try) (r f : Bool) → (if r then Refused x else (if f then Opening x else by_stop x (stop_of script x))) ≡ Closing t → ⊥
         first x true f e = absurd (cc e)

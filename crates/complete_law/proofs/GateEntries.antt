@@ -1,7 +1,6 @@
 -- A gate moves what is open: messages that were owed were sent, and all else stands as it stood.
-use Rattle.std.proofs.Common.{◌≡◌, ◌⊎◌, ℕ, zero, suc, Bool, true, false, ◌||◌, not, List, [], ◌∷◌, ◌++◌, map, reverse, cond, refl, sym, ◌∙◌, ap, subst, Option, Some, None, slice_get, if◌then◌else◌, inl, inr}
+use Rattle.std.proofs.Common.{◌≡◌, ◌⊎◌, ℕ, zero, suc, Bool, true, false, ◌||◌, not, List, [], ◌∷◌, ◌++◌, reverse, refl, sym, ◌∙◌, ap, subst, Option, Some, None, slice_get, if◌then◌else◌, inl, inr}
 use Rattle.std.proofs.lemmas.Bool.{false≢true}
-use Rattle.std.specs.List.{filter}
 use Rattle.pseudo_time.specs.Lists.{Has}
 use Rattle.pseudo_time.proofs.ListLemmas.{has-reverse}
 use Rattle.pseudo_time.specs.StampParts.{StampParts}
@@ -27,38 +26,14 @@ use Rattle.script_meaning.specs.Meaning.{ToRead, ToWrite}
 use Rattle.repository_laws.proofs.Logs.{decide-settles, settled-log}
 use Rattle.world_core.specs.Nodes.{leaves}
 use Rattle.world_core.specs.Walks.{numbered}
+use Rattle.world_facts.proofs.Growths.{has-at}
 
 -- ---- places in a list
 
-in-index : {X : Type 0} (ys : List X) (x : X) → Has x ys → (k : ℕ) × (slice_get ys k ≡ Some x)
-in-index [] x h = absurd h
-in-index (y ∷ ys) x (inl e) = (0, ap (λ z. Some z) e)
-in-index (y ∷ ys) x (inr h) = let k = in-index ys x h in (suc k.0, k.1)
-
 -- an element of what is added stands behind all that was there
 pub at-end : {X : Type 0} (xs ys : List X) (x : X) → Has x ys → (k : ℕ) × (slice_get (xs ++ ys) k ≡ Some x) × (slice_get xs k ≡ None)
-at-end [] ys x h = let k = in-index ys x h in (k.0, k.1, refl)
+at-end [] ys x h = let k = has-at ys x h in (k.0, k.1, refl)
 at-end (z ∷ xs) ys x h = let k = at-end xs ys x h in (suc k.0, k.1, k.2)
-
-pub has-filter : {X : Type 0} (test : X → Bool) (xs : List X) (x : X) → Has x xs → test x ≡ true → Has x (filter test xs)
-has-filter test [] x h e = absurd h
-has-filter test (y ∷ xs) x h e = go (λ k. has-filter test xs x k e) (test y) refl h
-  where
-    go : (Has x xs → Has x (filter test xs)) → (b : Bool) → test y ≡ b → Has x (y ∷ xs) → Has x (cond b (y ∷ filter test xs) (filter test xs))
-    go again true q (inl p) = inl p
-    go again false q (inl p) = absurd (false≢true (sym q ∙ ap test p ∙ e))
-    go again true q (inr k) = inr (again k)
-    go again false q (inr k) = again k
-
-pub has-map : {X Y : Type 0} (g : X → Y) (xs : List X) (x : X) → Has x xs → Has (g x) (map g xs)
-has-map g [] x h = h
-has-map g (y ∷ xs) x (inl e) = inl (ap g e)
-has-map g (y ∷ xs) x (inr h) = inr (has-map g xs x h)
-
-pub map-has : {X Y : Type 0} (g : X → Y) (xs : List X) (y : Y) → Has y (map g xs) → (x : X) × Has x xs × (g x ≡ y)
-map-has g [] y h = absurd h
-map-has g (x ∷ xs) y (inl e) = (x, inl refl, e)
-map-has g (x ∷ xs) y (inr h) = let k = map-has g xs y h in (k.0, inr k.1, k.2)
 
 -- ---- which messages leave
 
@@ -75,14 +50,8 @@ request-leaves log (Closing t) o e = let q : record { to = repository t.stamp.ho
 
 -- nothing new is ignored
 nothing-new : (script : List ℕ → Tree) (st : Stage) (h : Heard) → row script st h Nothing_new ≡ Ignored
-nothing-new script Idle h = refl
-nothing-new script (Refused t) h = refl
-nothing-new script (Opening t) h = refl
 nothing-new script (Asking t (ToRead a)) h = refl
-nothing-new script (Asking t (ToWrite a v)) h = refl
-nothing-new script (Finishing t) h = refl
-nothing-new script (Stopping t p) h = refl
-nothing-new script (Closing t) h = refl
+nothing-new script x h = refl
 
 -- an answer that is heeded leaves
 pub answer-leaves : (script : List ℕ → Tree) (st : Stage) (h : Heard) (log : List Effect) (to : NodeId) (m : Message) → (row script st h (news m) ≡ Ignored → ⊥) → leaves log (record { to = to; message = m }) ≡ true
@@ -105,15 +74,7 @@ settled-by (effect.Learn p x ∷ l) s e = go (λ k. settled-by l s k) (same_stam
         (f : Effect) × Has f (effect.Learn p x ∷ l) × (((d : Decision) × (f ≡ effect.Decide s d)) ⊎ ((c : Bool) × (f ≡ effect.Learn s c)))
     go again true q e = (effect.Learn p x, inl refl, inr (x, ap (λ z. effect.Learn z x) (same_stamp-is p s q)))
     go again false q e = let k = again e in (k.0, inr k.1, k.2)
-settled-by (effect.Put o x v ∷ l) s e = let k = settled-by l s e in (k.0, inr k.1, k.2)
-settled-by (effect.Stretch o x ∷ l) s e = let k = settled-by l s e in (k.0, inr k.1, k.2)
-settled-by (effect.Begin p d ∷ l) s e = let k = settled-by l s e in (k.0, inr k.1, k.2)
-settled-by (effect.Run n ∷ l) s e = let k = settled-by l s e in (k.0, inr k.1, k.2)
-settled-by (effect.Act i h t n c x ∷ l) s e = let k = settled-by l s e in (k.0, inr k.1, k.2)
-settled-by (effect.Try i p ∷ l) s e = let k = settled-by l s e in (k.0, inr k.1, k.2)
-settled-by (effect.Got n v ∷ l) s e = let k = settled-by l s e in (k.0, inr k.1, k.2)
-settled-by (effect.Acked n ∷ l) s e = let k = settled-by l s e in (k.0, inr k.1, k.2)
-settled-by (effect.End i o ∷ l) s e = let k = settled-by l s e in (k.0, inr k.1, k.2)
+settled-by (f ∷ l) s e = let k = settled-by l s e in (k.0, inr k.1, k.2)
 
 learn-settles : (l : List Effect) (s : StampParts) (c : Bool) → Has (effect.Learn s c) l → (x : Bool) × (settle_of (marks l) s ≡ Some x)
 unfolding settle_of

@@ -39,13 +39,14 @@ use Rattle.world_facts.proofs.Steps.{sent-gate, step-known, unknown-stays}
 use Rattle.repository_waits.specs.Waits.{Waits}
 use Rattle.complete_law.specs.AtRest.{read_to, standing_at}
 use Rattle.complete_law.proofs.BrokerEntries.{sound-more}
-use Rattle.complete_law.proofs.BrokerMoves.{all-off, both-on, not-same, parted}
+use Rattle.complete_law.proofs.BrokerMoves.{not-same, parted}
 use Rattle.broker_laws.proofs.BookTurns.{DeskSound}
-use Rattle.complete_law.proofs.GateEntries.{answer-leaves, ask-leaves, at-end, has-filter, has-map, map-has, numbered-before, numbered-kept, request-leaves}
+use Rattle.complete_law.proofs.GateEntries.{answer-leaves, ask-leaves, at-end, numbered-before, numbered-kept, request-leaves}
 use Rattle.repository_waits.proofs.HeldLemmas.{filter-has}
 use Rattle.repository_waits.specs.Waits.{ask_of, tell_of}
 use Rattle.complete_law.proofs.Idles.{waits-has}
-use Rattle.complete_law.proofs.Places.{log_of, gated_of, held_of, IsBegun, IsDecided, Flying, AskedFor, tasks_of, desk_of, standing_in, Placed, SaidOf, CalmWorld}
+use Rattle.complete_law.proofs.Places.{log_of, gated_of, held_of, IsBegun, IsDecided, Flying, AskedFor, tasks_of, desk_of, standing_in, Placed, SaidOf, CalmWorld, all-off, both-on}
+use Rattle.world_facts.proofs.Growths.{has-filter, has-map, map-has}
 
 module _ (b : Base) (w : World) (calm : CalmWorld b w) (f : Refines (node_turns b.script) (node_facts b.script) b (λ n. []) [] (λ t. ⊥) w) (n : NodeId) (may : MayGate w n) where
   abbrev w' : World
@@ -56,8 +57,8 @@ module _ (b : Base) (w : World) (calm : CalmWorld b w) (f : Refines (node_turns 
 
   lifes : (m : NodeId) → (w'.life m ≡ w.life m) ⊎ ((m ≡ n) × (w'.life m ≡ gated_life (w.life m)))
   lifes m = elim (parted b w calm f n m) [
-    | inl e ↦ inr (e, both-on b w calm f (same_node n m) (w.flags m).known (lives_on b w m (w.life m) (entry.Gate n)) (w.life m) (subst (λ z. same_node n z ≡ true) (sym e) (same_node-refl n)) (subst (λ z. (w.flags z).known ≡ true) (sym e) mine))
-    | inr ne ↦ inl (all-off b w calm f (same_node n m) (w.flags m).known (lives_on b w m (w.life m) (entry.Gate n)) (w.life m) (not-same b w calm f n m ne))
+    | inl e ↦ inr (e, both-on (same_node n m) (w.flags m).known (lives_on b w m (w.life m) (entry.Gate n)) (w.life m) (subst (λ z. same_node n z ≡ true) (sym e) (same_node-refl n)) (subst (λ z. (w.flags z).known ≡ true) (sym e) mine))
+    | inr ne ↦ inl (all-off (same_node n m) (w.flags m).known (lives_on b w m (w.life m) (entry.Gate n)) (w.life m) (not-same b w calm f n m ne))
   ]
 
   log-same : (m : NodeId) → log_of w' m ≡ log_of w m
@@ -198,13 +199,13 @@ module _ (b : Base) (w : World) (calm : CalmWorld b w) (f : Refines (node_turns 
   askers r a h = let k = calm.askers r a (subst (λ m. Has a m.hands.askers) (mind-same (repository r)) h) in (k.0, λ x i. k.1 x (subst (Has (effect.Decide a.stamp x)) (log-same (repository r)) i))
 
   life-mine : w'.life n ≡ gated_life (w.life n)
-  life-mine = both-on b w calm f (same_node n n) (w.flags n).known (lives_on b w n (w.life n) (entry.Gate n)) (w.life n) (same_node-refl n) mine
+  life-mine = both-on (same_node n n) (w.flags n).known (lives_on b w n (w.life n) (entry.Gate n)) (w.life n) (same_node-refl n) mine
 
   shut : (m : NodeId) → (w'.flags m).due ≡ false → ((w'.life m).fresh ≡ []) × ((w'.life m).outs ≡ [])
   shut m e = elim (parted b w calm f n m) [
     | inl q ↦ subst (λ z. ((w'.life z).fresh ≡ []) × ((w'.life z).outs ≡ [])) (sym q) (ap (λ (x : Life). x.fresh) life-mine, ap (λ (x : Life). x.outs) life-mine)
-    | inr ne ↦ subst (λ (l : Life). (l.fresh ≡ []) × (l.outs ≡ [])) (sym (all-off b w calm f (same_node n m) (w.flags m).known (lives_on b w m (w.life m) (entry.Gate n)) (w.life m) (not-same b w calm f n m ne)))
-        (calm.shut m (sym (ap (λ (x : Flags). x.due) (all-off b w calm f (same_node n m) (w.flags m).known (flagged w.last m.kind (w.flags m) (entry.Gate n)) (w.flags m) (not-same b w calm f n m ne))) ∙ e))
+    | inr ne ↦ subst (λ (l : Life). (l.fresh ≡ []) × (l.outs ≡ [])) (sym (all-off (same_node n m) (w.flags m).known (lives_on b w m (w.life m) (entry.Gate n)) (w.life m) (not-same b w calm f n m ne)))
+        (calm.shut m (sym (ap (λ (x : Flags). x.due) (all-off (same_node n m) (w.flags m).known (flagged w.last m.kind (w.flags m) (entry.Gate n)) (w.flags m) (not-same b w calm f n m ne))) ∙ e))
   ]
 
   still : (s : Sending) → Has s w'.sendings → s.ticks ≤ w'.ticks

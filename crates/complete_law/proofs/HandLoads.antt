@@ -232,13 +232,7 @@ module _ (p : Prices) where
   rows h from (message.Write t o v) = writes h from t o v
   rows h from (message.Ask s) = asked h from s
   rows h from (message.Tell s c) = let k = learnt h s c in omega (arith, k)
-  rows h from (message.Begun s) = omega arith
-  rows h from (message.Value t v) = omega arith
-  rows h from (message.Stored t) = omega arith
-  rows h from (message.LaterRead t e) = omega arith
-  rows h from (message.LaterVersion t x) = omega arith
-  rows h from (message.Ended t) = omega arith
-  rows h from (message.Decided s d) = omega arith
+  rows h from m = omega arith
 
   abbrev pub price-if : Bool → Message → ℕ
   price-if true m = price m

@@ -1,12 +1,12 @@
 -- What a message that comes to a broker tells is so: no Ended comes for a request that stands.
-use Rattle.std.proofs.Common.{◌≡◌, ◌⊎◌, ℕ, Bool, true, false, List, [], ◌∷◌, ◌++◌, reverse, refl, sym, ◌∙◌, ap, subst, Option, Some, None, if◌then◌else◌, inl, inr}
+use Rattle.std.proofs.Common.{◌≡◌, ℕ, Bool, true, false, List, [], ◌∷◌, ◌++◌, reverse, refl, sym, ◌∙◌, ap, subst, Some, None, if◌then◌else◌, inl, inr}
 use Rattle.std.proofs.lemmas.Bool.{true≢false}
 use Rattle.pseudo_time.specs.Lists.{Has}
 use Rattle.pseudo_time.proofs.ListLemmas.{every-has}
 use Rattle.pseudo_time.specs.StampParts.{StampParts}
 use Rattle.pseudo_time.specs.TimeParts.{TimeParts}
-use Rattle.pseudo_time.specs.Order.{same_stamp, same_time}
-use Rattle.pseudo_time.proofs.OrderLemmas.{same_stamp-is, same_stamp-self, same_time-is}
+use Rattle.pseudo_time.specs.Order.{same_time}
+use Rattle.pseudo_time.proofs.OrderLemmas.{same_stamp-self, same_time-is}
 use Rattle.pseudo_time.specs.declared.decisions.Decision.{Decision}
 use Rattle.pseudo_time.specs.declared.decisions.Decision.TheVariants as decision
 use Rattle.pseudo_time.specs.declared.nodes.NodeId.{NodeId}
@@ -17,10 +17,9 @@ use Rattle.effect_form.specs.declared.effects.Effect.{Effect}
 use Rattle.effect_form.specs.declared.effects.Effect.TheVariants as effect
 use Rattle.message_form.specs.declared.messages.Message.{Message}
 use Rattle.message_form.specs.declared.messages.Message.TheVariants as message
-use Rattle.turn_form.specs.Growth.{Each, Grew}
+use Rattle.turn_form.specs.Growth.{Grew}
 use Rattle.script_meaning.specs.Meaning.{Request, Asks, Over}
-use Rattle.object_history.specs.History.{or_else, settle_of}
-use Rattle.repository_log.specs.Logs.{is_commit, known, marks}
+use Rattle.repository_log.specs.Logs.{known}
 use Rattle.repository_laws.specs.Facts as repositories
 use Rattle.turn_form.specs.Posts.{WasSent}
 use Rattle.repository_laws.proofs.Logs.{begin-home, decide-home, decide-cause}
@@ -40,52 +39,11 @@ use Rattle.world_facts.specs.NodeRules.{kind_post, node_facts}
 use Rattle.world_facts.specs.Soft.{SentOk}
 use Rattle.complete_law.proofs.Places.{log_of, gated_of, IsBegun, IsDecided, SaidOf, CalmWorld}
 use Rattle.broker_laws.proofs.BookTurns.{Tells}
-
--- a stamp that a log knows has its Decide or its Learn there
-abbrev pub SettledBy : List Effect → StampParts → Bool → Type 0
-SettledBy log s c = ((d : Decision) × Has (effect.Decide s d) log × (is_commit d ≡ c)) ⊎ Has (effect.Learn s c) log
-
-settled-more : (f : Effect) (log : List Effect) (s : StampParts) (c : Bool) → SettledBy log s c → SettledBy (f ∷ log) s c
-settled-more f log s c (inl (d, h, e)) = inl (d, inr h, e)
-settled-more f log s c (inr h) = inr (inr h)
-
-module _ (log : List Effect) (s : StampParts) (c : Bool) (again : settle_of (marks log) s ≡ Some c → SettledBy log s c) where
-  by-decide : (p : StampParts) (d : Decision) (b : Bool) (u : Option Bool) → same_stamp p s ≡ b → settle_of (marks log) s ≡ u → (if b then or_else u (is_commit d) else u) ≡ Some c → SettledBy (effect.Decide p d ∷ log) s c
-  by-decide p d false u e q h = settled-more (effect.Decide p d) log s c (again (q ∙ h))
-  by-decide p d true (Some x) e q h = settled-more (effect.Decide p d) log s c (again (q ∙ h))
-  by-decide p d true None e q h = let k : is_commit d ≡ c = cc h in inl (d, inl (ap (λ z. effect.Decide z d) (same_stamp-is p s e)), k)
-
-  by-learn : (p : StampParts) (x : Bool) (b : Bool) (u : Option Bool) → same_stamp p s ≡ b → settle_of (marks log) s ≡ u → (if b then or_else u x else u) ≡ Some c → SettledBy (effect.Learn p x ∷ log) s c
-  by-learn p x false u e q h = settled-more (effect.Learn p x) log s c (again (q ∙ h))
-  by-learn p x true (Some y) e q h = settled-more (effect.Learn p x) log s c (again (q ∙ h))
-  by-learn p x true None e q h =
-      let k : x ≡ c = cc h in
-      let first : effect.Learn p x ≡ effect.Learn s x = ap (λ z. effect.Learn z x) (same_stamp-is p s e) in
-      let second : effect.Learn s x ≡ effect.Learn s c = ap (λ z. effect.Learn s z) k in
-      inr (inl (first ∙ second))
-
-settle-stands : (log : List Effect) (s : StampParts) (c : Bool) → settle_of (marks log) s ≡ Some c → SettledBy log s c
-unfolding settle_of
-settle-stands [] s c h = absurd (cc h)
-settle-stands (effect.Decide p d ∷ log) s c h = by-decide log s c (settle-stands log s c) p d (same_stamp p s) (settle_of (marks log) s) refl refl h
-settle-stands (effect.Learn p x ∷ log) s c h = by-learn log s c (settle-stands log s c) p x (same_stamp p s) (settle_of (marks log) s) refl refl h
-settle-stands (effect.Put o x v ∷ log) s c h = settled-more (effect.Put o x v) log s c (settle-stands log s c h)
-settle-stands (effect.Stretch o x ∷ log) s c h = settled-more (effect.Stretch o x) log s c (settle-stands log s c h)
-settle-stands (effect.Begin p d ∷ log) s c h = settled-more (effect.Begin p d) log s c (settle-stands log s c h)
-settle-stands (effect.Run n ∷ log) s c h = settled-more (effect.Run n) log s c (settle-stands log s c h)
-settle-stands (effect.Act i home t n k x ∷ log) s c h = settled-more (effect.Act i home t n k x) log s c (settle-stands log s c h)
-settle-stands (effect.Try i p ∷ log) s c h = settled-more (effect.Try i p) log s c (settle-stands log s c h)
-settle-stands (effect.Got k v ∷ log) s c h = settled-more (effect.Got k v) log s c (settle-stands log s c h)
-settle-stands (effect.Acked k ∷ log) s c h = settled-more (effect.Acked k) log s c (settle-stands log s c h)
-settle-stands (effect.End i e ∷ log) s c h = settled-more (effect.End i e) log s c (settle-stands log s c h)
+use Rattle.serial_law.proofs.LogLemmas.{SettledBy, settle-marks}
+use Rattle.world_facts.proofs.Growths.{each-has}
 
 found-same : (s : StampParts) (ts : List Try) (t u : Try) → find s ts ≡ Some t → find s ts ≡ Some u → t ≡ u
 found-same s ts t u h k = let e : Some t ≡ Some u = sym h ∙ k in cc e
-
-pub each-in : (P : List Effect → Effect → Type 0) (log : List Effect) (f : Effect) → Each P log → Has f log → (below : List Effect) × P below f
-each-in P [] f e h = absurd h
-each-in P (g ∷ log) f e (inl q) = (log, subst (P log) q e.1)
-each-in P (g ∷ log) f e (inr h) = each-in P log f e.0 h
 
 module _ (b : Base) (w : World) (calm : CalmWorld b w) (facts : LogFacts (node_facts b.script) b (logs_at (λ n. []) w) [] (sent_by w) (λ t. ⊥)) where
   abbrev pub L : NodeId → List Effect
@@ -134,7 +92,7 @@ module _ (b : Base) (w : World) (calm : CalmWorld b w) (facts : LogFacts (node_f
     pub asking-undecided : (t : Try) (q : Request) → find t.stamp (tries (book (log_of w (broker n)))) ≡ Some t → t.end ≡ None → stop_of b.script t ≡ Asks q → t.stamp.broker ≡ n →
         (d : Decision) (i : ℕ) → Has (effect.Decide t.stamp d) (L (repository i)) → ⊥
     asking-undecided t q found none asks own decision.Committed i h =
-        let sent = (each-in _ (L (repository i)) (effect.Decide t.stamp decision.Committed) (facts.proofs (repository i)) h).1 in
+        let sent = (each-has _ (L (repository i)) (effect.Decide t.stamp decision.Committed) (facts.proofs (repository i)) h).1 in
         let mine = subst (λ m. WasSent (sent_by w) (broker m) (repository i) (message.Commit t.stamp)) own sent in
         let k = post-grown b.script n (L (broker n)) fresh (repository i) (message.Commit t.stamp) tidy grew (says (broker n) (repository i) (message.Commit t.stamp) mine) in
         let found' : find t.stamp (tries (book (fresh ++ L (broker n)))) ≡ Some t = subst (λ l. find t.stamp (tries (book l)) ≡ Some t) log-is found in
@@ -142,23 +100,23 @@ module _ (b : Base) (w : World) (calm : CalmWorld b w) (facts : LogFacts (node_f
         let no : Over ending.Finished ≡ Asks q = sym (subst (λ (u : Try). stop_of b.script u ≡ Over ending.Finished) same k.2.3) ∙ asks in
         absurd (cc no)
     asking-undecided t q found none asks own decision.Withdrawn i h =
-        let sent = (each-in _ (L (repository i)) (effect.Decide t.stamp decision.Withdrawn) (facts.proofs (repository i)) h).1 in
+        let sent = (each-has _ (L (repository i)) (effect.Decide t.stamp decision.Withdrawn) (facts.proofs (repository i)) h).1 in
         let mine = subst (λ m. WasSent (sent_by w) (broker m) (repository i) (message.Withdraw t.stamp)) own sent in
         let k : SaidOf b w n (message.Withdraw t.stamp) = calm.said n (record { to = repository i; message = message.Withdraw t.stamp }) (inr mine) in
         let same : k.1.0 ≡ t = found-same t.stamp (tries (book (log_of w (broker n)))) k.1.0 t k.1.1 found in
         let ended : is_none t.end ≡ false = subst (λ (u : Try). is_none u.end ≡ false) same k.1.2 in
         absurd (true≢false (sym (ap is_none none) ∙ ended))
     asking-undecided t q found none asks own (decision.Expired x m) i h =
-        facts.ticked m (each-in _ (L (repository i)) (effect.Decide t.stamp (decision.Expired x m)) (facts.proofs (repository i)) h).1
+        facts.ticked m (each-has _ (L (repository i)) (effect.Decide t.stamp (decision.Expired x m)) (facts.proofs (repository i)) h).1
 
     asking-unknown : (t : Try) (q : Request) → find t.stamp (tries (book (log_of w (broker n)))) ≡ Some t → t.end ≡ None → stop_of b.script t ≡ Asks q → t.stamp.broker ≡ n →
         (i : ℕ) (c : Bool) → known (L (repository i)) t.stamp ≡ Some c → ⊥
-    asking-unknown t q found none asks own i c k = go (settle-stands (L (repository i)) t.stamp c k)
+    asking-unknown t q found none asks own i c k = go (settle-marks (L (repository i)) t.stamp c k)
       where
         go : SettledBy (L (repository i)) t.stamp c → ⊥
         go (inl (d, h, e)) = asking-undecided t q found none asks own d i h
         go (inr h) =
-            let cause = (each-in _ (L (repository i)) (effect.Learn t.stamp c) (facts.proofs (repository i)) h).1 in
+            let cause = (each-has _ (L (repository i)) (effect.Learn t.stamp c) (facts.proofs (repository i)) h).1 in
             asking-undecided t q found none asks own cause.0 t.stamp.home cause.1
 
     -- what a message that was sent to the broker tells is so
@@ -180,28 +138,8 @@ module _ (b : Base) (w : World) (calm : CalmWorld b w) (facts : LogFacts (node_f
         go kind.Repository i (message.Begun s) p = begun-there s i p
         go kind.Repository i (message.Decided s d) p = decided-there s d i p
         go kind.Repository i (message.Ended x) p = ended i x p.0 p.1
-        go kind.Repository i (message.Value x v) p = tt
-        go kind.Repository i (message.Stored x) p = tt
-        go kind.Repository i (message.LaterRead x e) p = tt
-        go kind.Repository i (message.LaterVersion x y) p = tt
-        go kind.Repository i (message.Begin s t) p = tt
-        go kind.Repository i (message.Read x o) p = tt
-        go kind.Repository i (message.Write x o v) p = tt
-        go kind.Repository i (message.Commit s) p = tt
-        go kind.Repository i (message.Withdraw s) p = tt
-        go kind.Repository i (message.Ask s) p = tt
-        go kind.Repository i (message.Tell s c) p = tt
         go kind.Broker i (message.Begun s) p = absurd p
         go kind.Broker i (message.Decided s d) p = absurd p
         go kind.Broker i (message.Ended x) p = absurd p
-        go kind.Broker i (message.Value x v) p = tt
-        go kind.Broker i (message.Stored x) p = tt
-        go kind.Broker i (message.LaterRead x e) p = tt
-        go kind.Broker i (message.LaterVersion x y) p = tt
-        go kind.Broker i (message.Begin s t) p = tt
-        go kind.Broker i (message.Read x o) p = tt
-        go kind.Broker i (message.Write x o v) p = tt
-        go kind.Broker i (message.Commit s) p = tt
-        go kind.Broker i (message.Withdraw s) p = tt
-        go kind.Broker i (message.Ask s) p = tt
-        go kind.Broker i (message.Tell s c) p = tt
+        go kind.Repository i m p = tt
+        go kind.Broker i m p = tt

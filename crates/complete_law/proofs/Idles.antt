@@ -1,6 +1,5 @@
 -- At an idle place the nodes rest, so every broker is done.
-use Rattle.std.proofs.Common.{◌≡◌, ◌⊎◌, ℕ, zero, suc, ◌+◌, ◌==◌, ◌≤◌, nat_le, nat_lt, Bool, true, false, ◌&&◌, ◌||◌, List, [], ◌∷◌, ◌++◌, reverse, min, refl, sym, ◌∙◌, ap, subst, Some, None, is_some, if◌then◌else◌, inl, inr, append-nil, arith}
-use Rattle.std.proofs.lemmas.Grind.{common_steps}
+use Rattle.std.proofs.Common.{◌≡◌, ◌⊎◌, ℕ, zero, suc, ◌+◌, ◌==◌, ◌≤◌, nat_lt, Bool, true, false, ◌||◌, List, [], ◌∷◌, ◌++◌, reverse, min, refl, sym, ◌∙◌, ap, subst, Some, None, is_some, if◌then◌else◌, inl, inr, append-nil, arith}
 use Rattle.std.proofs.lemmas.Bool.{false≢true}
 use Rattle.pseudo_time.specs.Lists.{Every, Has}
 use Rattle.pseudo_time.proofs.ListLemmas.{every-append, every-has}
@@ -15,7 +14,6 @@ use Rattle.effect_form.specs.declared.effects.Effect.{Effect}
 use Rattle.effect_form.specs.declared.effects.Effect.TheVariants as effect
 use Rattle.message_form.specs.declared.messages.Message.TheVariants as message
 use Rattle.turn_form.specs.declared.turns.Out.{Out}
-use Rattle.turn_form.specs.Growth.{Each}
 use Rattle.turn_form.specs.Posts.{Post}
 use Rattle.stream_port.specs.declared.fates.Fate.{Fate}
 use Rattle.stream_port.specs.Fates.{copies_of}
@@ -53,7 +51,7 @@ use Rattle.world_core.specs.Legal.{IsIdle, JustNodes, in_plan, times_taken}
 use Rattle.world_facts.specs.Refines.{LogFacts, logs_at}
 use Rattle.world_facts.specs.NodeRules.{node_facts}
 use Rattle.world_facts.specs.Soft.{SentOk}
-use Rattle.world_facts.proofs.Growths.{none-has}
+use Rattle.world_facts.proofs.Growths.{none-has, each-has}
 use Rattle.repository_waits.specs.Waits.{Waits}
 use Rattle.complete_law.specs.AtRest.{DecidedAt, standing_at, is_done, read_to, AtRest}
 use Rattle.complete_law.specs.Calm.{IsPlain}
@@ -62,11 +60,8 @@ use Rattle.broker_laws.proofs.BookSteps.{AllDecided, BookSound, HasSettled, Trai
 use Rattle.repository_waits.specs.Waits.{ask_of, tell_of}
 use Rattle.complete_law.proofs.Places.{log_of, gated_of, held_of, IsBegun, IsDecided, Flying, AskedFor, tasks_of, standing_in, Placed, CalmWorld}
 use Rattle.complete_law.proofs.Rests.{all-done}
-
-each-has : (P : List Effect → Effect → Type 0) (log : List Effect) (f : Effect) → Each P log → Has f log → (below : List Effect) × P below f
-each-has P [] f e h = absurd h
-each-has P (g ∷ log) f e (inl q) = (log, subst (P log) q e.1)
-each-has P (g ∷ log) f e (inr h) = each-has P log f e.0 h
+use Rattle.serial_law.proofs.Attempts.{found-in}
+use Rattle.world_facts.proofs.Ranges.{in-range, within}
 
 -- a numbered element stands in the list
 numbered-in : {X : Type 0} (xs : List X) (k : ℕ) (x : X) → numbered xs k ≡ Some x → Has x xs
@@ -82,14 +77,6 @@ waits-has s (x ∷ es) h = go (λ k. waits-has s es k) (same_stamp x.1.waits s) 
     go : (waits_for s es ≡ true → (e : TimeParts × HeldRead) × Has e es × (e.1.waits ≡ s)) → (b : Bool) → same_stamp x.1.waits s ≡ b → (b || waits_for s es) ≡ true → (e : TimeParts × HeldRead) × Has e (x ∷ es) × (e.1.waits ≡ s)
     go again true q h = (x, inl refl, same_stamp-is x.1.waits s q)
     go again false q h = let r = again h in (r.0, inr r.1, r.2)
-
-found-has : (s : StampParts) (ts : List Try) (t : Try) → find s ts ≡ Some t → Has t ts × (t.stamp ≡ s)
-found-has s [] t e = absurd (cc e)
-found-has s (x ∷ ts) t e = go (λ k. found-has s ts t k) (same_stamp x.stamp s) refl e
-  where
-    go : (find s ts ≡ Some t → Has t ts × (t.stamp ≡ s)) → (b : Bool) → same_stamp x.stamp s ≡ b → (if b then Some x else find s ts) ≡ Some t → Has t (x ∷ ts) × (t.stamp ≡ s)
-    go again true q e = let is : x ≡ t = cc e in (inl is, ap (λ (z : Try). z.stamp) (sym is) ∙ same_stamp-is x.stamp s q)
-    go again false q e = let k = again e in (inr k.0, k.1)
 
 -- an attempt that is found is the last one, or is decided
 module _ (script : List ℕ → Tree) (me run : ℕ) (acts : List Task) (Begun Decided : StampParts → Type 0) where
@@ -165,21 +152,9 @@ module _ (b : Base) (plan : Plan) (May : ℕ → Type 0) (w : World) (fates : Li
 
   known-in : (n : ℕ) → InRange plan.brokers n → (w.flags (broker n)).known ≡ true
   known-in n i = knowns (broker n) ∙ nodes.just (broker n) ∙ within n plan.brokers i
-    where
-      within : (n most : ℕ) → InRange most n → (nat_le 1 n && nat_le n most) ≡ true
-      within n most i = let lo : 1 ≤ n = i.0 in let hi : n ≤ most = i.1 in grind (arith, common_steps)
 
   in-known : (n : ℕ) → (w.flags (broker n)).known ≡ true → InRange plan.brokers n
-  in-known n e = within n plan.brokers (sym (nodes.just (broker n)) ∙ sym (knowns (broker n)) ∙ e)
-    where
-      low : (n most : ℕ) → (nat_le 1 n && nat_le n most) ≡ true → 1 ≤ n
-      low n most h = grind (arith, common_steps)
-
-      high : (n most : ℕ) → (nat_le 1 n && nat_le n most) ≡ true → n ≤ most
-      high n most h = grind (arith, common_steps)
-
-      within : (n most : ℕ) → (nat_le 1 n && nat_le n most) ≡ true → InRange most n
-      within n most h = (low n most h, high n most h)
+  in-known n e = in-range n plan.brokers (sym (nodes.just (broker n)) ∙ sym (knowns (broker n)) ∙ e)
 
   opened : (n : ℕ) → InRange plan.brokers n → is_some (opened_log b.opened (broker n)) ≡ true
   opened n i = sym (knowns (broker n)) ∙ known-in n i
@@ -207,9 +182,6 @@ module _ (b : Base) (plan : Plan) (May : ℕ → Type 0) (w : World) (fates : Li
 
   repository-known : (r : ℕ) → InRange plan.repositories r → (w.flags (repository r)).known ≡ true
   repository-known r i = knowns (repository r) ∙ nodes.just (repository r) ∙ within r plan.repositories i
-    where
-      within : (n most : ℕ) → InRange most n → (nat_le 1 n && nat_le n most) ≡ true
-      within n most i = let lo : 1 ≤ n = i.0 in let hi : n ≤ most = i.1 in grind (arith, common_steps)
 
   kept-there : (n : ℕ) (t : Try) → InRange plan.brokers n → Has t (tries_of (book (logs n)).acts) → InRange plan.repositories t.stamp.home × Inside plan.repositories (b.script t.task.script)
   kept-there n t i has =
@@ -309,7 +281,7 @@ module _ (b : Base) (plan : Plan) (May : ℕ → Type 0) (w : World) (fates : Li
       let k = writers x.stamp.broker (repository r) x o v sent.0 in
       let i : InRange plan.brokers x.stamp.broker = k.0 in
       let all : tries (book (logs x.stamp.broker)) ≡ tries_of (book (logs x.stamp.broker)).acts = ap (λ z. tries_of ((book (logs x.stamp.broker)).acts ++ z)) (sound x.stamp.broker i).past ∙ ap tries_of (append-nil (book (logs x.stamp.broker)).acts) in
-      let has = found-has x.stamp (tries_of (book (logs x.stamp.broker)).acts) k.1.0 (subst (λ ts. find x.stamp ts ≡ Some k.1.0) all k.1.1) in
+      let has = found-in x.stamp (tries_of (book (logs x.stamp.broker)).acts) k.1.0 (subst (λ ts. find x.stamp ts ≡ Some k.1.0) all k.1.1) in
       subst (λ z. (w.flags (repository z.home)).known ≡ true) has.1 (repository-known k.1.0.stamp.home (kept-there x.stamp.broker k.1.0 i has.0).0)
 
   undecided : (r : ℕ) (s : StampParts) → waits_for s (held_of w r) ≡ true → DecidedAt homes s → ⊥

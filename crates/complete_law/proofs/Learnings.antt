@@ -29,7 +29,6 @@ use Rattle.complete_law.proofs.Totals.{by-broker, stores, stored-few}
 use Rattle.complete_law.proofs.HandLoads.{stored-load}
 use Rattle.complete_law.proofs.Totals.{brokers-few}
 use Rattle.complete_law.proofs.BrokerMoves.{node-there}
-use Rattle.complete_law.proofs.Hearings.{each-in}
 use Rattle.pseudo_time.proofs.ListLemmas.{has-right}
 use Rattle.complete_law.proofs.Steps as steps
 use Rattle.complete_law.proofs.Steps.{calm-there, facts-there}
@@ -38,36 +37,21 @@ use Rattle.world_core.specs.Walks as walks
 use Rattle.world_facts.specs.NodeRules.{node_turns, node_facts}
 use Rattle.world_facts.specs.Refines.{seat_of}
 use Rattle.world_facts.specs.Soft.{NodeOk, SoftNode, Soft, around, happened}
+use Rattle.world_facts.proofs.Growths.{each-has}
 
 -- ---- the attempts that a log learned of
 
 abbrev pub learned : List Effect → List StampParts
 learned [] = []
 learned (effect.Learn s c ∷ l) = s ∷ learned l
-learned (effect.Put o x v ∷ l) = learned l
-learned (effect.Stretch o x ∷ l) = learned l
-learned (effect.Begin s d ∷ l) = learned l
-learned (effect.Decide s d ∷ l) = learned l
-learned (effect.Run n ∷ l) = learned l
-learned (effect.Act i h t n c b ∷ l) = learned l
-learned (effect.Try i s ∷ l) = learned l
-learned (effect.Got k v ∷ l) = learned l
-learned (effect.Acked k ∷ l) = learned l
-learned (effect.End i e ∷ l) = learned l
+learned (f ∷ l) = learned l
 
 pub stored-all : (l : List Effect) → length l ≡ stored-load stores l + length (learned l)
 stored-all [] = refl
-stored-all (effect.Learn s c ∷ l) = let k = stored-all l in omega (arith, k)
-stored-all (effect.Put o x v ∷ l) = let k = stored-all l in omega (arith, k)
-stored-all (effect.Stretch o x ∷ l) = let k = stored-all l in omega (arith, k)
-stored-all (effect.Begin s d ∷ l) = let k = stored-all l in omega (arith, k)
-stored-all (effect.Decide s d ∷ l) = let k = stored-all l in omega (arith, k)
-stored-all (effect.Run n ∷ l) = let k = stored-all l in omega (arith, k)
-stored-all (effect.Act i h t n c b ∷ l) = let k = stored-all l in omega (arith, k)
-stored-all (effect.Try i s ∷ l) = let k = stored-all l in omega (arith, k)
 stored-all (effect.Got k v ∷ l) = let j = stored-all l in omega (arith, j)
 stored-all (effect.Acked k ∷ l) = let j = stored-all l in omega (arith, j)
 stored-all (effect.End i e ∷ l) = let k = stored-all l in omega (arith, k)
+stored-all (f ∷ l) = let k = stored-all l in omega (arith, k)
 
 abbrev pub Single : List StampParts → Type 0
 Single [] = Unit {0}
@@ -95,15 +79,7 @@ has-known [] s h e = h
 has-known (effect.Learn p c ∷ l) s (inl q) e = learn-known l p c (subst (λ x. known (effect.Learn p c ∷ l) x ≡ None) (sym q) e)
 has-known (effect.Learn p c ∷ l) s (inr h) e = has-known l s h (known-before (effect.Learn p c) l s e)
 has-known (effect.Put o x v ∷ l) s h e = has-known l s h (known-before (effect.Put o x v) l s e)
-has-known (effect.Stretch o x ∷ l) s h e = has-known l s h (known-before (effect.Stretch o x) l s e)
-has-known (effect.Begin p d ∷ l) s h e = has-known l s h (known-before (effect.Begin p d) l s e)
-has-known (effect.Decide p d ∷ l) s h e = has-known l s h (known-before (effect.Decide p d) l s e)
-has-known (effect.Run n ∷ l) s h e = has-known l s h (known-before (effect.Run n) l s e)
-has-known (effect.Act i o t n c b ∷ l) s h e = has-known l s h (known-before (effect.Act i o t n c b) l s e)
-has-known (effect.Try i p ∷ l) s h e = has-known l s h (known-before (effect.Try i p) l s e)
-has-known (effect.Got k v ∷ l) s h e = has-known l s h (known-before (effect.Got k v) l s e)
-has-known (effect.Acked k ∷ l) s h e = has-known l s h (known-before (effect.Acked k) l s e)
-has-known (effect.End i o ∷ l) s h e = has-known l s h (known-before (effect.End i o) l s e)
+has-known (f ∷ l) s h e = has-known l s h (known-before f l s e)
 
 -- each attempt once
 learned-single : (r : ℕ) (l : List Effect) → IsTidy r l → Single (learned l)
@@ -113,27 +89,14 @@ learned-single r (effect.Put o x v ∷ l) t = learned-single r l t.2
 learned-single r (effect.Stretch o x ∷ l) t = learned-single r l t.1
 learned-single r (effect.Begin s d ∷ l) t = learned-single r l t.1
 learned-single r (effect.Decide s d ∷ l) t = learned-single r l t.2
-learned-single r (effect.Run n ∷ l) t = absurd t
-learned-single r (effect.Act i h k n c b ∷ l) t = absurd t
-learned-single r (effect.Try i s ∷ l) t = absurd t
-learned-single r (effect.Got k v ∷ l) t = absurd t
-learned-single r (effect.Acked k ∷ l) t = absurd t
-learned-single r (effect.End i e ∷ l) t = absurd t
+learned-single r (f ∷ l) t = absurd t
 
 has-learned : (l : List Effect) (s : StampParts) → Has s (learned l) → (c : Bool) × Has (effect.Learn s c) l
 has-learned [] s h = absurd h
 has-learned (effect.Learn p c ∷ l) s (inl q) = (c, inl (ap (λ x. effect.Learn x c) q))
 has-learned (effect.Learn p c ∷ l) s (inr h) = let k = has-learned l s h in (k.0, inr k.1)
 has-learned (effect.Put o x v ∷ l) s h = let k = has-learned l s h in (k.0, inr k.1)
-has-learned (effect.Stretch o x ∷ l) s h = let k = has-learned l s h in (k.0, inr k.1)
-has-learned (effect.Begin p d ∷ l) s h = let k = has-learned l s h in (k.0, inr k.1)
-has-learned (effect.Decide p d ∷ l) s h = let k = has-learned l s h in (k.0, inr k.1)
-has-learned (effect.Run n ∷ l) s h = let k = has-learned l s h in (k.0, inr k.1)
-has-learned (effect.Act i o t n c b ∷ l) s h = let k = has-learned l s h in (k.0, inr k.1)
-has-learned (effect.Try i p ∷ l) s h = let k = has-learned l s h in (k.0, inr k.1)
-has-learned (effect.Got m v ∷ l) s h = let k = has-learned l s h in (k.0, inr k.1)
-has-learned (effect.Acked m ∷ l) s h = let k = has-learned l s h in (k.0, inr k.1)
-has-learned (effect.End i o ∷ l) s h = let k = has-learned l s h in (k.0, inr k.1)
+has-learned (f ∷ l) s h = let k = has-learned l s h in (k.0, inr k.1)
 
 -- ---- as many messages
 
@@ -237,15 +200,15 @@ module _ (p : CalmPlace) where
   closed-named s decision.Withdrawn h = named-by s w.sendings s.broker s.home (message.Withdraw s) refl (subst (Has (record { from = broker s.broker; to = repository s.home; message = message.Withdraw s })) (facts-there p).models.ever h)
   closed-named s (decision.Expired d m) h = absurd ((facts-there p).models.ticked m h)
 
-  decided-named : (s : StampParts) (d : Decision) → Has (effect.Decide s d) (soft.seat (repository s.home)).gated → Named s w.sendings
+  decided-named : (s : StampParts) (d : Decision) → Has (effect.Decide s d) (soft.seat (repository s.home)).past → Named s w.sendings
   decided-named s d h = go (w.flags (repository s.home)).known refl
     where
       go : (c : Bool) → (w.flags (repository s.home)).known ≡ c → Named s w.sendings
       go true known =
           let m : Life = w.life (repository s.home) in
           let ok : NodeOk (node_facts base.script) (around soft) (repository s.home) (seat_of (w.life (repository s.home))) = node-there base w (calm-there p) (facts-there p) (repository s.home) known in
-          let here : Has (effect.Decide s d) (reverse (w.life (repository s.home)).gated) = subst (λ (x : SoftNode). Has (effect.Decide s d) x.gated) ((facts-there p).models.lives (repository s.home) known) h in
-          closed-named s d (each-in _ (reverse m.fresh ++ reverse m.gated) (effect.Decide s d) ok.proofs (has-right (reverse m.fresh) (reverse m.gated) (effect.Decide s d) here)).1
+          let here : Has (effect.Decide s d) (reverse (w.life (repository s.home)).gated) = subst (λ (x : SoftNode). Has (effect.Decide s d) x.past) ((facts-there p).models.lives (repository s.home) known) h in
+          closed-named s d (each-has _ (reverse m.fresh ++ reverse m.gated) (effect.Decide s d) ok.proofs (has-right (reverse m.fresh) (reverse m.gated) (effect.Decide s d) here)).1
       go false off = absurd (subst (Has (effect.Decide s d)) ((facts-there p).models.outside (repository s.home) off).0 h)
 
   module _ (n : ℕ) (known : (w.flags (repository n)).known ≡ true) where
@@ -265,7 +228,7 @@ module _ (p : CalmPlace) where
     learned-named s h =
         let k = has-learned (log_at p (repository n)) s h in
         let there : Has (effect.Learn s k.0) (reverse l.fresh ++ reverse l.gated) = subst (Has (effect.Learn s k.0)) all-log k.1 in
-        let cause = (each-in _ (reverse l.fresh ++ reverse l.gated) (effect.Learn s k.0) ok.proofs there).1 in
+        let cause = (each-has _ (reverse l.fresh ++ reverse l.gated) (effect.Learn s k.0) ok.proofs there).1 in
         decided-named s cause.0 cause.1
 
     few-learned : length (learned (log_at p (repository n))) ≤ all (g p.run) w.sendings

@@ -1,6 +1,6 @@
 -- How much a node has sent and owes, where each message has a weight; and what an entry leaves of a node, or gives it.
-use Rattle.std.proofs.Common.{◌≡◌, ℕ, ◌+◌, ◌≤◌, Bool, true, false, ◌&&◌, List, [], ◌∷◌, ◌++◌, map, reverse, refl, sym, ◌∙◌, ap, subst, if◌then◌else◌, append-nil, arith}
-use Rattle.std.proofs.lemmas.Bool.{false≢true, true≢false}
+use Rattle.std.proofs.Common.{◌≡◌, ℕ, ◌+◌, ◌≤◌, Bool, true, false, List, [], ◌∷◌, ◌++◌, map, reverse, refl, sym, ◌∙◌, ap, subst, if◌then◌else◌, append-nil, arith}
+use Rattle.std.proofs.lemmas.Bool.{false≢true}
 use Rattle.std.specs.List.{filter}
 use Rattle.pseudo_time.specs.StampParts.{StampParts}
 use Rattle.pseudo_time.specs.declared.nodes.NodeId.{NodeId}
@@ -20,7 +20,7 @@ use Rattle.world_core.specs.Walks.{Base, Flags, Life, Sending, World, flagged, g
 use Rattle.world_core.specs.Legal.{MayGate, MayGo, MayLearn, MayTake, Rule}
 use Rattle.pseudo_time.specs.Nodes.{is_broker}
 use Rattle.complete_law.specs.Calm.{CalmRun, IsQuiet}
-use Rattle.complete_law.proofs.Places.{CalmWorld, log_of}
+use Rattle.complete_law.proofs.Places.{CalmWorld, log_of, all-off, both-on}
 use Rattle.complete_law.proofs.Steps as steps
 use Rattle.complete_law.proofs.Steps.{Facts-at}
 
@@ -97,15 +97,6 @@ pub record Fed (w v : World) (n : NodeId) (l : Life) : Type 0 where
   pub known : (w.flags n).known ≡ true
   pub life : v.life n ≡ l
   pub sendings : v.sendings ≡ w.sendings
-
-both-on : {X : Type 0} (s c : Bool) (x z : X) → s ≡ true → c ≡ true → (if s && c then x else z) ≡ x
-both-on true true x z e q = refl
-both-on false c x z e q = absurd (false≢true e)
-both-on true false x z e q = absurd (false≢true q)
-
-all-off : {X : Type 0} (s c : Bool) (x z : X) → s ≡ false → (if s && c then x else z) ≡ z
-all-off false c x z e = refl
-all-off true c x z e = absurd (true≢false e)
 
 module _ (r : CalmRun) (w : World) (f : Facts-at r w) (c : CalmWorld (steps.b r) w) where
   abbrev b : Base
@@ -224,6 +215,4 @@ module _ (r : CalmRun) (w : World) (f : Facts-at r w) (c : CalmWorld (steps.b r)
     by-entry (entry.Learn m s d) n q rule cases = learn-case m s d n rule cases
     by-entry (entry.Hear m) n q rule cases = absurd (steps.no-moment r w m f rule)
     by-entry (entry.Gate m) n q rule cases = cases.kept (gate-left m n rule)
-    by-entry (entry.Crash m k) n q rule cases = absurd q
-    by-entry (entry.Down m k) n q rule cases = absurd q
-    by-entry (entry.Tick m) n q rule cases = absurd q
+    by-entry e n q rule cases = absurd q

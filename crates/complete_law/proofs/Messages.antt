@@ -1,13 +1,13 @@
 -- What is sent in a calm run: requests, as many answers, Asks, and as many Tells.
 use Rattle.std.proofs.Common.{◌≡◌, ℕ, zero, suc, ◌+◌, ◌*◌, ◌≤◌, ◌==◌, Bool, true, false, ◌&&◌, length, List, [], ◌∷◌, map, refl, ◌∙◌, ap, arith}
-use Rattle.std.proofs.lemmas.Grind.{common_steps}
+use Rattle.std.proofs.lemmas.Bool.{eq-eqb, false≢true}
 use Rattle.pseudo_time.specs.declared.nodes.NodeId.{NodeId}
 use Rattle.pseudo_time.specs.declared.nodes.NodeKind.{NodeKind}
 use Rattle.pseudo_time.specs.declared.nodes.NodeKind.TheVariants as kind
 use Rattle.message_form.specs.declared.messages.Message.{Message}
 use Rattle.message_form.specs.declared.messages.Message.TheVariants as message
 use Rattle.pseudo_time.specs.Nodes.{same_node}
-use Rattle.message_core.proofs.NodeLemmas.{same_is, same_node-refl}
+use Rattle.message_core.proofs.NodeLemmas.{same_is}
 use Rattle.repository_core.specs.Rows.{accepts}
 use Rattle.pseudo_time.specs.Nodes.{is_broker, is_repository}
 use Rattle.pseudo_time.specs.Nodes.{repository}
@@ -18,7 +18,7 @@ use Rattle.complete_law.proofs.BrokerLoads.{wt}
 use Rattle.complete_law.proofs.HandLoads.{Prices, price, price-if}
 use Rattle.complete_law.proofs.Loads.{if-from, issued, sent-load}
 use Rattle.complete_law.proofs.RepositoryLoads.{all, all-paid, all-priced, gain, gain-if, used-in, used-most}
-use Rattle.complete_law.proofs.Totals.{brokers-few, by-broker, gain-most, one-each, sum-has, sum-mono, sum-one, sum-plus, sum-to}
+use Rattle.complete_law.proofs.Totals.{brokers-few, by-broker, gain-most, one-each, sum-mono, sum-one, sum-plus, sum-to, from-kind, sent-total, sum-zero, top}
 
 -- ---- what each message counts as
 
@@ -76,38 +76,14 @@ telling = record {
 
 each : (m : Message) → answer-one m + (ask-one m + tell-one m) ≡ 1
 each (message.Ask s) = refl
-each (message.Tell s c) = refl
-each (message.Begin s t) = refl
-each (message.Read x o) = refl
-each (message.Write x o v) = refl
-each (message.Commit s) = refl
-each (message.Withdraw s) = refl
-each (message.Begun s) = refl
-each (message.Value x v) = refl
-each (message.Stored x) = refl
-each (message.LaterRead x e) = refl
-each (message.LaterVersion x y) = refl
-each (message.Ended x) = refl
-each (message.Decided s d) = refl
+each m = refl
 
 abbrev pub by-repository : (Message → ℕ) → Sending → ℕ
-by-repository v s = if-from (is_repository s.post.from.kind) (v s.post.message)
+by-repository = from-kind is_repository
 
 broker-one : (r : CalmRun) (m : Message) → wt 1 1 1 r m ≡ 1
 broker-one r (message.Begin s t) = refl
-broker-one r (message.Read x o) = refl
-broker-one r (message.Write x o v) = refl
-broker-one r (message.Commit s) = refl
-broker-one r (message.Withdraw s) = refl
-broker-one r (message.Begun s) = refl
-broker-one r (message.Value x v) = refl
-broker-one r (message.Stored x) = refl
-broker-one r (message.LaterRead x e) = refl
-broker-one r (message.LaterVersion x y) = refl
-broker-one r (message.Ended x) = refl
-broker-one r (message.Decided s d) = refl
-broker-one r (message.Ask s) = refl
-broker-one r (message.Tell s c) = refl
+broker-one r m = refl
 
 -- all that was sent
 sent-parts : (r : CalmRun) (ss : List Sending) → length (map (λ (s : Sending). s.post) ss) ≡ all (by-broker (wt 1 1 1 r)) ss + (all (by-repository answer-one) ss + (all (by-repository ask-one) ss + all (by-repository tell-one) ss))
@@ -123,25 +99,12 @@ sent-parts r (s ∷ ss) =
 
 -- ---- sums over repositories
 
-abbrev top : List Sending → ℕ
-top [] = 0
-top (s ∷ ss) = s.post.from.number + top ss
-
-sent-total : (v : Message → ℕ) (ss : List Sending) (n : ℕ) → top ss ≤ n → all (by-repository v) ss ≤ sum-to (λ i. sent-load v (repository i) ss) n
-sent-total v [] n h = omega arith
-sent-total v (s ∷ ss) n h =
-    let k = sent-total v ss n (omega (arith, h)) in
-    let p = sum-plus (λ i. if-from (same_node s.post.from (repository i)) (v s.post.message)) (λ i. sent-load v (repository i) ss) n in
-    let l : s.post.from.number ≤ n = omega (arith, h) in
-    let j = one s.post.from.kind s.post.from.number l in
-    omega (arith, k, p, j)
+repository-named : (n : NodeId) → is_repository n.kind ≡ true → n ≡ repository n.number
+repository-named n e = go n.kind n.number e
   where
-    one : (kd : NodeKind) (i : ℕ) → i ≤ n → if-from (is_repository kd) (v s.post.message) ≤ sum-to (λ k. if-from (same_node (record { kind = kd; number = i }) (repository k)) (v s.post.message)) n
-    one kind.Broker i l = omega arith
-    one kind.Repository i l =
-        let k = sum-has (λ k. if-from (same_node (repository i) (repository k)) (v s.post.message)) i n l in
-        let e : if-from (same_node (repository i) (repository i)) (v s.post.message) ≡ v s.post.message = ap (λ c. if-from c (v s.post.message)) (same_node-refl (repository i)) in
-        omega (arith, k, e)
+    go : (kd : NodeKind) (i : ℕ) → is_repository kd ≡ true → record { kind = kd; number = i } ≡ repository i
+    go kind.Repository i e = refl
+    go kind.Broker i e = absurd (false≢true e)
 
 -- a message brings something to one repository alone
 module _ (p : Prices) (r : CalmRun) (cap : Sending → ℕ) (most : (n : ℕ) (s : Sending) → gain p r n s ≤ cap s) where
@@ -152,19 +115,12 @@ module _ (p : Prices) (r : CalmRun) (cap : Sending → ℕ) (most : (n : ℕ) (s
       go false e h = omega arith
       go true e h =
           let at : s.post.to.number ≡ n = ap (λ (x : NodeId). x.number) (same_is s.post.to (repository n) e) in
-          let same : (n == n) ≡ true = self n in
+          let same : (n == n) ≡ true = eq-eqb n n refl in
           let k : if-from (s.post.to.number == n) (cap s) ≡ cap s = ap (λ m. if-from (m == n) (cap s)) at ∙ ap (λ c. if-from c (cap s)) same in
           omega (arith, h, k)
-        where
-          self : (n : ℕ) → (n == n) ≡ true
-          self n = grind (arith, common_steps)
 
   pub gains-total : (ss : List Sending) (n : ℕ) → sum-to (λ i. all (gain p r i) ss) n ≤ all cap ss
-  gains-total [] n = zeros n
-    where
-      zeros : (n : ℕ) → sum-to (λ i. 0) n ≤ 0
-      zeros zero = omega arith
-      zeros (suc n) = let k = zeros n in omega (arith, k)
+  gains-total [] n = sum-zero n
   gains-total (s ∷ ss) n =
       let k = gains-total ss n in
       let q = sum-plus (λ i. gain p r i s) (λ i. all (gain p r i) ss) n in
@@ -192,19 +148,7 @@ telling-most r n s = go (same_node s.post.to (repository n)) (asked s.post.messa
 
     asked : (m : Message) → price-if telling (accepts n s.post.from m) m ≤ if-from (is_repository s.post.from.kind) (ask-one m)
     asked (message.Ask q) = capped q (is_repository s.post.from.kind) (q.home == n)
-    asked (message.Begin q t) = free (message.Begin q t) (is_repository s.post.from.kind) (accepts n s.post.from (message.Begin q t)) 0 refl
-    asked (message.Read x o) = free (message.Read x o) (is_repository s.post.from.kind) (accepts n s.post.from (message.Read x o)) 0 refl
-    asked (message.Write x o v) = free (message.Write x o v) (is_repository s.post.from.kind) (accepts n s.post.from (message.Write x o v)) 0 refl
-    asked (message.Commit q) = free (message.Commit q) (is_repository s.post.from.kind) (accepts n s.post.from (message.Commit q)) 0 refl
-    asked (message.Withdraw q) = free (message.Withdraw q) (is_repository s.post.from.kind) (accepts n s.post.from (message.Withdraw q)) 0 refl
-    asked (message.Begun q) = free (message.Begun q) (is_repository s.post.from.kind) (accepts n s.post.from (message.Begun q)) 0 refl
-    asked (message.Value x v) = free (message.Value x v) (is_repository s.post.from.kind) (accepts n s.post.from (message.Value x v)) 0 refl
-    asked (message.Stored x) = free (message.Stored x) (is_repository s.post.from.kind) (accepts n s.post.from (message.Stored x)) 0 refl
-    asked (message.LaterRead x e) = free (message.LaterRead x e) (is_repository s.post.from.kind) (accepts n s.post.from (message.LaterRead x e)) 0 refl
-    asked (message.LaterVersion x y) = free (message.LaterVersion x y) (is_repository s.post.from.kind) (accepts n s.post.from (message.LaterVersion x y)) 0 refl
-    asked (message.Ended x) = free (message.Ended x) (is_repository s.post.from.kind) (accepts n s.post.from (message.Ended x)) 0 refl
-    asked (message.Decided q d) = free (message.Decided q d) (is_repository s.post.from.kind) (accepts n s.post.from (message.Decided q d)) 0 refl
-    asked (message.Tell q c) = free (message.Tell q c) (is_repository s.post.from.kind) (accepts n s.post.from (message.Tell q c)) 0 refl
+    asked m = free m (is_repository s.post.from.kind) (accepts n s.post.from m) 0 refl
 
     go : (c : Bool) → price-if telling (accepts n s.post.from s.post.message) s.post.message ≤ by-repository ask-one s → gain-if c (price-if telling (accepts n s.post.from s.post.message) s.post.message) ≤ by-repository ask-one s
     go true h = h
@@ -215,19 +159,7 @@ answers-each r m = one-each r m
 
 requests-each : (r : CalmRun) (m : Message) → price requesting m ≤ wt 0 1 0 r m
 requests-each r (message.Write x o v) = omega arith
-requests-each r (message.Begin q t) = omega arith
-requests-each r (message.Read x o) = omega arith
-requests-each r (message.Commit q) = omega arith
-requests-each r (message.Withdraw q) = omega arith
-requests-each r (message.Begun q) = omega arith
-requests-each r (message.Value x v) = omega arith
-requests-each r (message.Stored x) = omega arith
-requests-each r (message.LaterRead x e) = omega arith
-requests-each r (message.LaterVersion x y) = omega arith
-requests-each r (message.Ended x) = omega arith
-requests-each r (message.Decided q d) = omega arith
-requests-each r (message.Tell q c) = omega arith
-requests-each r (message.Ask q) = omega arith
+requests-each r m = omega arith
 
 module _ (p : CalmPlace) (most : ℕ) (asks : AskAtMost p.run most) where
   abbrev w : World
@@ -239,7 +171,7 @@ module _ (p : CalmPlace) (most : ℕ) (asks : AskAtMost p.run most) where
   -- what all repositories have sent of a kind, where each has its price
   paid-total : (q : Prices) (cap : Sending → ℕ) → ((n : ℕ) (s : Sending) → gain q p.run n s ≤ cap s) → all (by-repository q.wt) ss ≤ all cap ss
   paid-total q cap most' =
-      let a = sent-total q.wt ss (top ss) (omega arith) in
+      let a = sent-total is_repository repository repository-named q.wt ss (top ss) (omega arith) in
       let b = sum-mono (λ i. sent-load q.wt (repository i) ss) (λ i. all (gain q p.run i) ss) (top ss) (λ i. (let k = all-priced q p i in let j = used-most (gain q p.run i) 1 w.taken ss in omega (arith, k, j))) in
       let c = gains-total q p.run cap most' ss (top ss) in
       omega (arith, a, b, c)
@@ -255,7 +187,7 @@ module _ (p : CalmPlace) (most : ℕ) (asks : AskAtMost p.run most) where
       let b = brokers-few p most asks 1 1 1 in
       let a = paid-total answering (by-broker (wt 1 1 1 p.run)) (gain-most answering (wt 1 1 1 p.run) (answers-each p.run) refl p.run) in
       let t = paid-total telling (by-repository ask-one) (telling-most p.run) in
-      let k1 = sent-total ask-one ss (top ss) (omega arith) in
+      let k1 = sent-total is_repository repository repository-named ask-one ss (top ss) (omega arith) in
       let k2 = sum-mono (λ i. sent-load ask-one (repository i) ss) (λ i. all (gain requesting p.run i) ss) (top ss)
       (λ i. (let x = few i in let z = used-most (gain requesting p.run i) 1 w.taken ss in omega (arith, x, z))) in
       let k3 = gains-total requesting p.run (by-broker (wt 0 1 0 p.run)) (gain-most requesting (wt 0 1 0 p.run) (requests-each p.run) refl p.run) ss (top ss) in

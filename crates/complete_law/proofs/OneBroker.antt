@@ -64,20 +64,21 @@ use Rattle.world_core.specs.Legal.{MayGate, MayGo, MayLearn, MayTake, Rule, base
 use Rattle.world_facts.specs.Refines.{LogFacts, Refines, logs_at, seat_of}
 use Rattle.world_facts.specs.NodeRules.{kind_post, node_facts, node_turns}
 use Rattle.world_facts.specs.Soft.{NodeOk, around, happened}
-use Rattle.world_facts.proofs.Growths.{numbered-has}
+use Rattle.world_facts.proofs.Growths.{numbered-has, each-has, map-has}
 use Rattle.world_facts.proofs.NodeLaws.{node-laws}
 use Rattle.world_facts.proofs.Openings.{facts-of}
 use Rattle.world_facts.proofs.Steps.{sent-gate}
 use Rattle.complete_law.specs.Calm.{CalmPlace, IsQuiet, IsRefusal, WasRefused, book_at, log_at, sent_at, world_at}
-use Rattle.complete_law.proofs.BrokerMoves.{all-off, both-on, node-there, not-same, parted, turn-there}
-use Rattle.complete_law.proofs.GateEntries.{map-has}
-use Rattle.complete_law.proofs.Hearings.{asking-undecided, each-in, gated-same, says}
+use Rattle.complete_law.proofs.BrokerMoves.{node-there, not-same, parted, turn-there}
+use Rattle.complete_law.proofs.Hearings.{asking-undecided, gated-same, says}
 use Rattle.complete_law.proofs.Outcomes.{book-is, own-tries, unknown-book}
-use Rattle.complete_law.proofs.Places.{CalmWorld, IsBegun, IsDecided, desk_of, log_of, tasks_of}
-use Rattle.complete_law.proofs.Refusals.{ArePlain, IsNotRefused, IsRefusing, learn-plain, put-written, stretch-logged, take-plain}
+use Rattle.complete_law.proofs.Places.{CalmWorld, IsBegun, IsDecided, desk_of, log_of, tasks_of, all-off, both-on}
+use Rattle.complete_law.proofs.Refusals.{ArePlain, IsNotRefused, IsRefusing, learn-plain, put-written, take-plain}
 use Rattle.complete_law.proofs.RepositoryEntries.{life-hand}
-use Rattle.complete_law.proofs.Rising.{asked-before, falling, find-has, undecided-last}
+use Rattle.complete_law.proofs.Rising.{asked-before, falling, undecided-last}
 use Rattle.complete_law.proofs.Steps.{Facts-at, fates, always, calm-there, empty-life, facts-there, no-moment}
+use Rattle.serial_law.proofs.CauseLemmas.{stretch-logged}
+use Rattle.serial_law.proofs.Attempts.{found-in}
 
 -- no repository says, or owes, that a write is refused
 abbrev pub NoRefusal : World → Type 0
@@ -110,7 +111,7 @@ module _ (b : Base) (w : World) (calm : CalmWorld b w) (f : Refines (node_turns 
   unexpired from to s d m h = go from.kind from.number (says b w calm facts from to (message.Decided s (decision.Expired d m)) h)
     where
       go : (kd : NodeKind) (i : ℕ) → kind_post b.script (sent_by w) kd i (reverse (logs_at (λ n. []) w (record { kind = kd; number = i }))) (record { to = to; message = message.Decided s (decision.Expired d m) }) → ⊥
-      go kind.Repository i h = facts.ticked m (each-in _ (reverse (logs_at (λ n. []) w (repository i))) (effect.Decide s (decision.Expired d m)) (facts.proofs (repository i)) h).1
+      go kind.Repository i h = facts.ticked m (each-has _ (reverse (logs_at (λ n. []) w (repository i))) (effect.Decide s (decision.Expired d m)) (facts.proofs (repository i)) h).1
       go kind.Broker i h = h
 
   -- a broker that asked for something was opened
@@ -138,7 +139,7 @@ module _ (b : Base) (w : World) (calm : CalmWorld b w) (f : Refines (node_turns 
     rests : (x : Effect) → Has x log → (below : List Effect) × (node_facts b.script).Proof (around (happened (node_turns b.script) f.events)) (repository n) below x
     rests x h =
         let l : Life = w.life (repository n) in
-        each-in _ (reverse l.fresh ++ reverse l.gated) x (node-there b w calm f (repository n) opened).proofs (subst (Has x) (reverse-append l.gated l.fresh) h)
+        each-has _ (reverse l.fresh ++ reverse l.gated) x (node-there b w calm f (repository n) opened).proofs (subst (Has x) (reverse-append l.gated l.fresh) h)
 
     module _ (x : TimeParts) (o : ObjectId) (v : Value) (sent : Has (record { from = broker x.stamp.broker; to = repository n; message = message.Write x o v }) (sent_by w)) (here : o.repository ≡ n) where
       abbrev i : ℕ
@@ -205,13 +206,11 @@ module _ (b : Base) (w : World) (calm : CalmWorld b w) (f : Refines (node_turns 
             over e q = let no : Asks (ToWrite o v) ≡ Over e = sym asks ∙ q in cc no
 
             by : (c : Outcome) → EndsBy b.script t c → EndCame i (sent_by w) t c → ⊥
-            by outcome.Committed k came = over _ k
-            by (outcome.Withdrawn l) k came = over _ k
-            by (outcome.Failed l y) k came = over _ k
             by (outcome.LaterRead a e) k came = unsaid came.0 (broker i) (message.LaterRead _ e) tt came.1
             by (outcome.LaterVersion a e) k came = unsaid came.0 (broker i) (message.LaterVersion _ e) tt came.1
             by (outcome.Expired d m) k came = unexpired came.0 (broker i) t.stamp d m came.1
             by (outcome.Spent c) k came = k
+            by o k came = over _ k
 
             go : (e : Option Outcome) → t.end ≡ e → t.end ≡ None
             go None e = e
@@ -237,7 +236,7 @@ module _ (b : Base) (w : World) (calm : CalmWorld b w) (f : Refines (node_turns 
         last : (rest : List Try) × (B ≡ t ∷ rest)
         last =
             let k = undecided-last b.run (IsBegun w) (IsDecided w) (book blog).acts t (subst (λ (k : Book). Trail b.run (IsBegun w) (IsDecided w) k.acts) book-same (calm.sound i).trail)
-            (subst (Has t) own-book (find-has x.stamp B t ask.1)) undecided in
+            (subst (Has t) own-book (found-in x.stamp B t ask.1).0) undecided in
             (k.0, own-book ∙ k.1)
 
         below : (e : TimeParts) (q : Request) → IsAskOf b.script B e q → (lt e x ≡ true) ⊎ (e ≡ x)
@@ -339,13 +338,13 @@ module _ (b : Base) (w : World) (calm : CalmWorld b w) (f : Refines (node_turns 
     takes = refl
 
     here : (tw.life (repository i)).outs ≡ (w.life (repository i)).outs ++ h.outs
-    here = ap (λ (l : Life). l.outs) (both-on b w calm f (same_node (repository i) (repository i)) (w.flags (repository i)).known (lives_on b w (repository i) (w.life (repository i)) (entry.Take (repository i) k)) (w.life (repository i)) (same_node-refl (repository i)) opened
+    here = ap (λ (l : Life). l.outs) (both-on (same_node (repository i) (repository i)) (w.flags (repository i)).known (lives_on b w (repository i) (w.life (repository i)) (entry.Take (repository i) k)) (w.life (repository i)) (same_node-refl (repository i)) opened
         ∙ ap (took b (repository i) (w.life (repository i))) may.sent ∙ takes)
 
     lives : (r : ℕ) → (tw.life (repository r) ≡ w.life (repository r)) ⊎ ((tw.life (repository r)).outs ≡ (w.life (repository r)).outs ++ h.outs)
     lives r = elim (parted b w calm f (repository i) (repository r)) [
       | inl e ↦ inr (subst (λ z. (tw.life z).outs ≡ (w.life z).outs ++ h.outs) (sym e) here)
-      | inr ne ↦ inl (all-off b w calm f (same_node (repository i) (repository r)) (w.flags (repository r)).known (lives_on b w (repository r) (w.life (repository r)) (entry.Take (repository i) k)) (w.life (repository r)) (not-same b w calm f (repository i) (repository r) ne))
+      | inr ne ↦ inl (all-off (same_node (repository i) (repository r)) (w.flags (repository r)).known (lives_on b w (repository r) (w.life (repository r)) (entry.Take (repository i) k)) (w.life (repository r)) (not-same b w calm f (repository i) (repository r) ne))
     ]
 
     was-sent : Has (record { from = from0; to = repository i; message = m0 }) (sent_by w)
@@ -367,7 +366,7 @@ module _ (b : Base) (w : World) (calm : CalmWorld b w) (f : Refines (node_turns 
     where
       go : (kd : NodeKind) (i : ℕ) → MayTake fates w (record { kind = kd; number = i }) k → NoRefusal (step b w (entry.Take (record { kind = kd; number = i }) k))
       go kind.Broker i may = stays (entry.Take (broker i) k) [] refl
-          (λ r. inl (all-off b w calm f (same_node (broker i) (repository r)) (w.flags (repository r)).known (lives_on b w (repository r) (w.life (repository r)) (entry.Take (broker i) k)) (w.life (repository r)) (not-same b w calm f (broker i) (repository r) (not-broker i r)))) tt
+          (λ r. inl (all-off (same_node (broker i) (repository r)) (w.flags (repository r)).known (lives_on b w (repository r) (w.life (repository r)) (entry.Take (broker i) k)) (w.life (repository r)) (not-same b w calm f (broker i) (repository r) (not-broker i r)))) tt
       go kind.Repository i may = take-there i k fates may
 
   pub go-keeps : (n : NodeId) → MayGo w n → NoRefusal (step b w (entry.Go n))
@@ -376,7 +375,7 @@ module _ (b : Base) (w : World) (calm : CalmWorld b w) (f : Refines (node_turns 
       go : (kd : NodeKind) (i : ℕ) → MayGo w (record { kind = kd; number = i }) → NoRefusal (step b w (entry.Go (record { kind = kd; number = i })))
       go kind.Repository i may = absurd (false≢true may.broker)
       go kind.Broker i may = stays (entry.Go (broker i)) [] refl
-          (λ r. inl (all-off b w calm f (same_node (broker i) (repository r)) (w.flags (repository r)).known (lives_on b w (repository r) (w.life (repository r)) (entry.Go (broker i))) (w.life (repository r)) (not-same b w calm f (broker i) (repository r) (not-broker i r)))) tt
+          (λ r. inl (all-off (same_node (broker i) (repository r)) (w.flags (repository r)).known (lives_on b w (repository r) (w.life (repository r)) (entry.Go (broker i))) (w.life (repository r)) (not-same b w calm f (broker i) (repository r) (not-broker i r)))) tt
 
   module _ (i : ℕ) (s : StampParts) (c : Bool) (may : MayLearn w (repository i) s c) where
     abbrev learned-hand : Hand
@@ -393,12 +392,12 @@ module _ (b : Base) (w : World) (calm : CalmWorld b w) (f : Refines (node_turns 
     learns = refl
 
     learned-here : (lw.life (repository i)).outs ≡ (w.life (repository i)).outs ++ learned-hand.outs
-    learned-here = ap (λ (l : Life). l.outs) (both-on b w calm f (same_node (repository i) (repository i)) (w.flags (repository i)).known (lives_on b w (repository i) (w.life (repository i)) (entry.Learn (repository i) s c)) (w.life (repository i)) (same_node-refl (repository i)) up-there ∙ learns)
+    learned-here = ap (λ (l : Life). l.outs) (both-on (same_node (repository i) (repository i)) (w.flags (repository i)).known (lives_on b w (repository i) (w.life (repository i)) (entry.Learn (repository i) s c)) (w.life (repository i)) (same_node-refl (repository i)) up-there ∙ learns)
 
     learned-lives : (r : ℕ) → (lw.life (repository r) ≡ w.life (repository r)) ⊎ ((lw.life (repository r)).outs ≡ (w.life (repository r)).outs ++ learned-hand.outs)
     learned-lives r = elim (parted b w calm f (repository i) (repository r)) [
       | inl e ↦ inr (subst (λ z. (lw.life z).outs ≡ (w.life z).outs ++ learned-hand.outs) (sym e) learned-here)
-      | inr ne ↦ inl (all-off b w calm f (same_node (repository i) (repository r)) (w.flags (repository r)).known (lives_on b w (repository r) (w.life (repository r)) (entry.Learn (repository i) s c)) (w.life (repository r)) (not-same b w calm f (repository i) (repository r) ne))
+      | inr ne ↦ inl (all-off (same_node (repository i) (repository r)) (w.flags (repository r)).known (lives_on b w (repository r) (w.life (repository r)) (entry.Learn (repository i) s c)) (w.life (repository r)) (not-same b w calm f (repository i) (repository r) ne))
     ]
 
     learn-there : NoRefusal lw
@@ -419,9 +418,9 @@ module _ (b : Base) (w : World) (calm : CalmWorld b w) (f : Refines (node_turns 
 
       owes : Has o ((step b w (entry.Gate n)).life (repository r)).outs → ⊥
       owes h = elim (parted b w calm f n (repository r)) [
-        | inl e ↦ subst (λ (l : Life). Has o l.outs) (both-on b w calm f (same_node n (repository r)) (w.flags (repository r)).known (lives_on b w (repository r) (w.life (repository r)) (entry.Gate n)) (w.life (repository r))
+        | inl e ↦ subst (λ (l : Life). Has o l.outs) (both-on (same_node n (repository r)) (w.flags (repository r)).known (lives_on b w (repository r) (w.life (repository r)) (entry.Gate n)) (w.life (repository r))
             (subst (λ z. same_node n z ≡ true) (sym e) (same_node-refl n)) (subst (λ z. (w.flags z).known ≡ true) (sym e) mine)) h
-        | inr ne ↦ (none r o is).0 (subst (λ (l : Life). Has o l.outs) (all-off b w calm f (same_node n (repository r)) (w.flags (repository r)).known (lives_on b w (repository r) (w.life (repository r)) (entry.Gate n)) (w.life (repository r)) (not-same b w calm f n (repository r) ne)) h)
+        | inr ne ↦ (none r o is).0 (subst (λ (l : Life). Has o l.outs) (all-off (same_node n (repository r)) (w.flags (repository r)).known (lives_on b w (repository r) (w.life (repository r)) (entry.Gate n)) (w.life (repository r)) (not-same b w calm f n (repository r) ne)) h)
       ]
 
       leaving-is : leaving w n ≡ posts n (filter (leaves (all_effects (w.life n))) (w.life n).outs)
@@ -460,9 +459,7 @@ module _ (p : CalmPlace) (single : p.run.plan.brokers ≡ 1) where
   keeps w (entry.Learn n s d) f c q rule none = learn-keeps base w c f none (ones w f) n s d rule
   keeps w (entry.Hear n) f c q rule none = absurd (no-moment p.run w n f rule)
   keeps w (entry.Gate n) f c q rule none = gate-keeps base w c f none (ones w f) n rule
-  keeps w (entry.Crash n kept) f c q rule none = absurd q
-  keeps w (entry.Down n cause) f c q rule none = absurd q
-  keeps w (entry.Tick moment) f c q rule none = absurd q
+  keeps w e f c q rule none = absurd q
 
   begins : NoRefusal (start_world base)
   begins r o is = (λ h. subst (λ (l : Life). Has o l.outs) (empty-life p.run (repository r)) h, λ h. h)

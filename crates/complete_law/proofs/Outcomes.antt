@@ -1,7 +1,7 @@
 -- Of a broker that is done each act is over: no attempt expired, as no moment was ticked.
-use Rattle.std.proofs.Common.{◌≡◌, ℕ, ◌≤◌, ◌==◌, nat_lt, nat_le, Bool, true, false, ◌&&◌, length, List, [], ◌∷◌, ◌++◌, reverse, refl, sym, ◌∙◌, ap, subst, Option, Some, None, if◌then◌else◌, inl, inr, arith}
+use Rattle.std.proofs.Common.{◌≡◌, ℕ, ◌≤◌, ◌==◌, nat_lt, Bool, true, false, ◌&&◌, length, List, [], ◌∷◌, ◌++◌, reverse, refl, sym, ◌∙◌, ap, subst, Option, Some, None, if◌then◌else◌, inl, inr, arith}
 use Rattle.std.proofs.lemmas.Grind.{common_steps}
-use Rattle.std.proofs.lemmas.Bool.{false≢true}
+use Rattle.std.proofs.lemmas.Bool.{false≢true, ltb-false}
 use Rattle.pseudo_time.specs.Lists.{Every, Has}
 use Rattle.pseudo_time.proofs.ListLemmas.{every-append, every-left, every-right, every-has}
 use Rattle.pseudo_time.specs.StampParts.{StampParts}
@@ -34,37 +34,29 @@ use Rattle.world_facts.proofs.NodeLaws.{node-laws}
 use Rattle.world_facts.proofs.Openings.{facts-of}
 use Rattle.complete_law.specs.Calm.{CalmPlace, AllDone, HasOutcome, IsOver, book_at, log_at, tasks_at, world_at}
 use Rattle.complete_law.proofs.BrokerMoves.{turn-there}
-use Rattle.complete_law.proofs.Hearings.{each-in, says}
+use Rattle.complete_law.proofs.Hearings.{says}
 use Rattle.complete_law.proofs.Places.{desk_of, tasks_of}
 use Rattle.complete_law.proofs.Steps.{calm-there, facts-there}
+use Rattle.world_facts.proofs.Growths.{each-has}
+use Rattle.world_facts.proofs.Ranges.{in-range}
 
 -- ---- of plain books
 
 -- an End that an attempt may have where no moment was ticked
 abbrev IsFinal : Outcome → Type 0
-IsFinal outcome.Committed = Unit {0}
-IsFinal (outcome.Withdrawn l) = Unit {0}
-IsFinal (outcome.Failed l k) = Unit {0}
-IsFinal (outcome.LaterRead o e) = Unit {0}
-IsFinal (outcome.LaterVersion o x) = Unit {0}
 IsFinal (outcome.Expired d m) = ⊥
 IsFinal (outcome.Spent c) = ⊥
+IsFinal o = Unit {0}
 
 abbrev EndsFinal : Try → Type 0
 EndsFinal t = (o : Outcome) → t.end ≡ Some o → IsFinal o
 
--- no more attempts than these are allowed
-no-more : (n m : ℕ) → nat_lt n m ≡ false → m ≤ n
-no-more n m e = grind (arith, common_steps)
-
 over-by : (a : Act) (t : Try) (ts : List Try) (o : Outcome) → a.tries ≡ t ∷ ts → IsFinal o → (calls_again (Some o) && nat_lt (length (t ∷ ts)) a.task.tries) ≡ false → IsOver a o
-over-by a t ts outcome.Committed is f e = tt
-over-by a t ts (outcome.Withdrawn l) is f e = tt
-over-by a t ts (outcome.Failed l k) is f e = tt
-over-by a t ts (outcome.LaterRead o x) is f e = subst (λ us. a.task.tries ≤ length us) (sym is) (no-more (length (t ∷ ts)) a.task.tries e)
-over-by a t ts (outcome.LaterVersion o x) is f e = subst (λ us. a.task.tries ≤ length us) (sym is) (no-more (length (t ∷ ts)) a.task.tries e)
+over-by a t ts (outcome.LaterRead o x) is f e = subst (λ us. a.task.tries ≤ length us) (sym is) (ltb-false (length (t ∷ ts)) a.task.tries e)
+over-by a t ts (outcome.LaterVersion o x) is f e = subst (λ us. a.task.tries ≤ length us) (sym is) (ltb-false (length (t ∷ ts)) a.task.tries e)
 over-by a t ts (outcome.Expired d m) is f e = f
 over-by a t ts (outcome.Spent c) is f e = f
+over-by a t ts o is f e = tt
 
 act-over : (a : Act) → Every EndsFinal a.tries → has_outcome a ≡ true → HasOutcome a
 act-over a final e = by-spent a.spent refl e
@@ -127,7 +119,7 @@ module _ (p : CalmPlace) where
   unexpired from to s d m h = go from.kind from.number (says base w (calm-there p) facts from to (message.Decided s (decision.Expired d m)) h)
     where
       go : (kd : NodeKind) (i : ℕ) → kind_post base.script (sent_by w) kd i (reverse (logs_at (λ n. []) w (record { kind = kd; number = i }))) (record { to = to; message = message.Decided s (decision.Expired d m) }) → ⊥
-      go kind.Repository i h = facts.ticked m (each-in _ (reverse (logs_at (λ n. []) w (repository i))) (effect.Decide s (decision.Expired d m)) (facts.proofs (repository i)) h).1
+      go kind.Repository i h = facts.ticked m (each-has _ (reverse (logs_at (λ n. []) w (repository i))) (effect.Decide s (decision.Expired d m)) (facts.proofs (repository i)) h).1
       go kind.Broker i h = h
 
   -- so no attempt of a broker did
@@ -135,13 +127,9 @@ module _ (p : CalmPlace) where
   ends-final n t k c o e = go o (k.ends o e) (c.ends o e)
     where
       go : (o : Outcome) → EndsBy base.script t o → EndCame n (sent_by w) t o → IsFinal o
-      go outcome.Committed k c = tt
-      go (outcome.Withdrawn l) k c = tt
-      go (outcome.Failed l x) k c = tt
-      go (outcome.LaterRead o x) k c = tt
-      go (outcome.LaterVersion o x) k c = tt
       go (outcome.Expired d m) k c = unexpired c.0 (broker n) t.stamp d m c.1
       go (outcome.Spent x) k c = k
+      go o k c = tt
 
   -- the book of a broker that was opened is that of its log
   module _ (n : ℕ) (known : (w.flags (broker n)).known ≡ true) where
@@ -161,16 +149,7 @@ module _ (p : CalmPlace) where
         (both-final (tries (book (log_at p (broker n)))) (played base.script n (log_at p (broker n)) turn.desk.tidy) (proven base.script n (sent_by w) (log_at p (broker n)) turn.desk.tidy turn.desk.causes)))
 
     in-plan : InRange p.run.plan.brokers n
-    in-plan = within n p.run.plan.brokers (sym (p.run.legal.nodes.just (broker n)) ∙ sym ((facts-there p).models.known (broker n)) ∙ known)
-      where
-        low : (n most : ℕ) → (nat_le 1 n && nat_le n most) ≡ true → 1 ≤ n
-        low n most h = grind (arith, common_steps)
-
-        high : (n most : ℕ) → (nat_le 1 n && nat_le n most) ≡ true → n ≤ most
-        high n most h = grind (arith, common_steps)
-
-        within : (n most : ℕ) → (nat_le 1 n && nat_le n most) ≡ true → InRange most n
-        within n most h = (low n most h, high n most h)
+    in-plan = in-range n p.run.plan.brokers (sym (p.run.legal.nodes.just (broker n)) ∙ sym ((facts-there p).models.known (broker n)) ∙ known)
 
     known-outcomes : AllDone p → Every HasOutcome (book_at p n).acts
     known-outcomes all =

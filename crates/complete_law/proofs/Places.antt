@@ -1,5 +1,6 @@
 -- What always holds at a calm place: where each request that stands is, and what keeps it from being lost.
-use Rattle.std.proofs.Common.{◌≡◌, ◌⊎◌, ℕ, ◌≤◌, ◌==◌, Bool, true, false, List, [], reverse, Option, Some, None}
+use Rattle.std.proofs.Common.{◌≡◌, ◌⊎◌, ℕ, ◌≤◌, ◌==◌, Bool, true, false, List, [], reverse, Option, Some, None, ◌&&◌, if◌then◌else◌, refl}
+use Rattle.std.proofs.lemmas.Bool.{false≢true, true≢false}
 use Rattle.pseudo_time.specs.Lists.{Has}
 use Rattle.pseudo_time.specs.StampParts.{StampParts}
 use Rattle.pseudo_time.specs.TimeParts.{TimeParts}
@@ -31,6 +32,16 @@ use Rattle.repository_waits.specs.Waits.{Waits}
 use Rattle.complete_law.specs.AtRest.{DecidedAt, read_to, standing_at}
 use Rattle.repository_waits.specs.Waits.{ask_of, tell_of}
 use Rattle.broker_laws.proofs.BookTurns.{DeskSound}
+
+-- what an entry of a node changes, and what it leaves
+pub both-on : {X : Type 0} (s c : Bool) (x z : X) → s ≡ true → c ≡ true → (if s && c then x else z) ≡ x
+both-on true true x z e q = refl
+both-on false c x z e q = absurd (false≢true e)
+both-on true false x z e q = absurd (false≢true q)
+
+pub all-off : {X : Type 0} (s c : Bool) (x z : X) → s ≡ false → (if s && c then x else z) ≡ z
+all-off false c x z e = refl
+all-off true c x z e = absurd (true≢false e)
 
 -- a node's whole log, and its durable one, newest effect first
 abbrev pub log_of : World → NodeId → List Effect

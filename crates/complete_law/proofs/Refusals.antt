@@ -1,6 +1,6 @@
 -- A turn of a repository refuses nothing but the write that it takes, and this one only where its log says so.
-use Rattle.std.proofs.Common.{◌≡◌, Bool, true, false, ◌&&◌, ◌||◌, ℕ, List, [], ◌∷◌, refl, ◌∙◌, ap, subst, Option, Some, None, if◌then◌else◌, inl, inr}
-use Rattle.std.proofs.lemmas.Bool.{false≢true, true≢false}
+use Rattle.std.proofs.Common.{◌≡◌, Bool, true, false, ◌&&◌, ℕ, List, [], ◌∷◌, refl, ◌∙◌, ap, subst, Option, Some, None, if◌then◌else◌, inl, inr}
+use Rattle.std.proofs.lemmas.Bool.{true≢false, or_left, or_right}
 use Rattle.std.specs.Cmp.{signed_Decides}
 use Rattle.std.specs.Cmp.Lexicographic.{bytes_decides}
 use Rattle.pseudo_time.specs.Lists.{Every, Has}
@@ -43,38 +43,11 @@ pub put-marked : (l : List Effect) (o : ObjectId) (x : TimeParts) (v : Value) �
 put-marked [] o x v h = absurd h
 put-marked (effect.Put a y w ∷ l) o x v (inl q) = let e : a ≡ o = cc q in let f : y ≡ x = cc q in let g : w ≡ v = cc q in inl (ap (λ z. mark.Put z y w) e ∙ ap (λ z. mark.Put o z w) f ∙ ap (λ z. mark.Put o x z) g)
 put-marked (effect.Put a y w ∷ l) o x v (inr h) = inr (put-marked l o x v h)
-put-marked (effect.Stretch a y ∷ l) o x v (inl q) = absurd (cc q)
 put-marked (effect.Stretch a y ∷ l) o x v (inr h) = inr (put-marked l o x v h)
-put-marked (effect.Decide s d ∷ l) o x v (inl q) = absurd (cc q)
 put-marked (effect.Decide s d ∷ l) o x v (inr h) = inr (put-marked l o x v h)
-put-marked (effect.Learn s c ∷ l) o x v (inl q) = absurd (cc q)
 put-marked (effect.Learn s c ∷ l) o x v (inr h) = inr (put-marked l o x v h)
-put-marked (effect.Begin s d ∷ l) o x v (inl q) = absurd (cc q)
-put-marked (effect.Begin s d ∷ l) o x v (inr h) = put-marked l o x v h
-put-marked (effect.Run n ∷ l) o x v (inl q) = absurd (cc q)
-put-marked (effect.Run n ∷ l) o x v (inr h) = put-marked l o x v h
-put-marked (effect.Act i t m n k c ∷ l) o x v (inl q) = absurd (cc q)
-put-marked (effect.Act i t m n k c ∷ l) o x v (inr h) = put-marked l o x v h
-put-marked (effect.Try i s ∷ l) o x v (inl q) = absurd (cc q)
-put-marked (effect.Try i s ∷ l) o x v (inr h) = put-marked l o x v h
-put-marked (effect.Got k w ∷ l) o x v (inl q) = absurd (cc q)
-put-marked (effect.Got k w ∷ l) o x v (inr h) = put-marked l o x v h
-put-marked (effect.Acked k ∷ l) o x v (inl q) = absurd (cc q)
-put-marked (effect.Acked k ∷ l) o x v (inr h) = put-marked l o x v h
-put-marked (effect.End i e ∷ l) o x v (inl q) = absurd (cc q)
-put-marked (effect.End i e ∷ l) o x v (inr h) = put-marked l o x v h
-
-pub stretch-logged : (l : List Effect) (o : ObjectId) (x : TimeParts) → Has (mark.Stretch o x) (marks l) → Has (effect.Stretch o x) l
-stretch-logged [] o x h = absurd h
-stretch-logged (effect.Stretch a y ∷ l) o x (inl q) = let e : a ≡ o = cc q in let f : y ≡ x = cc q in inl (ap (λ z. effect.Stretch z y) e ∙ ap (λ z. effect.Stretch o z) f)
-stretch-logged (effect.Stretch a y ∷ l) o x (inr h) = inr (stretch-logged l o x h)
-stretch-logged (effect.Put a y w ∷ l) o x (inl q) = absurd (cc q)
-stretch-logged (effect.Put a y w ∷ l) o x (inr h) = inr (stretch-logged l o x h)
-stretch-logged (effect.Decide s d ∷ l) o x (inl q) = absurd (cc q)
-stretch-logged (effect.Decide s d ∷ l) o x (inr h) = inr (stretch-logged l o x h)
-stretch-logged (effect.Learn s c ∷ l) o x (inl q) = absurd (cc q)
-stretch-logged (effect.Learn s c ∷ l) o x (inr h) = inr (stretch-logged l o x h)
-stretch-logged (f ∷ l) o x h = inr (stretch-logged l o x h)
+put-marked (f ∷ l) o x v (inl q) = absurd (cc q)
+put-marked (f ∷ l) o x v (inr h) = put-marked l o x v h
 
 -- ---- a version that stands
 
@@ -84,22 +57,14 @@ same_value-self Nothing = refl
 same_value-self (Number a) = (signed_Decides a a).1 refl
 same_value-self (Text a) = (bytes_decides a a).1 refl
 
-or-left : (a b : Bool) → a ≡ true → (a || b) ≡ true
-or-left true b h = refl
-or-left false b h = absurd (false≢true h)
-
-or-right : (a b : Bool) → b ≡ true → (a || b) ≡ true
-or-right true b h = refl
-or-right false b h = h
-
 has_put-has : (o : ObjectId) (t : TimeParts) (v : Value) (m : List Mark) → Has (mark.Put o t v) m → has_put o t v m ≡ true
 unfolding has_put
 has_put-has o t v [] h = absurd h
 has_put-has o t v (mark.Put a x w ∷ m) (inl q) =
     let e : a ≡ o = cc q in let f : x ≡ t = cc q in let g : w ≡ v = cc q in
-    or-left (same_object a o && (same_time x t && same_value w v)) (has_put o t v m)
+    or_left (same_object a o && (same_time x t && same_value w v)) (has_put o t v m)
     (and-both (same_object a o) (same_time x t && same_value w v) (same_object-of a o e) (and-both (same_time x t) (same_value w v) (same_time-of x t f) (subst (λ z. same_value w z ≡ true) g (same_value-self w))))
-has_put-has o t v (mark.Put a x w ∷ m) (inr h) = or-right (same_object a o && (same_time x t && same_value w v)) (has_put o t v m) (has_put-has o t v m h)
+has_put-has o t v (mark.Put a x w ∷ m) (inr h) = or_right (same_object a o && (same_time x t && same_value w v)) (has_put o t v m) (has_put-has o t v m h)
 has_put-has o t v (mark.Stretch a x ∷ m) (inl q) = absurd (cc q)
 has_put-has o t v (mark.Stretch a x ∷ m) (inr h) = has_put-has o t v m h
 has_put-has o t v (mark.Settle s c ∷ m) (inl q) = absurd (cc q)
@@ -194,16 +159,4 @@ write-plain r log mind from t o v never = go (accepts r from (message.Write t o 
 pub take-plain : (r : ℕ) (log : List Effect) (mind : Mind) (from : NodeId) (m : Message) → ((t : TimeParts) (o : ObjectId) (v : Value) → m ≡ message.Write t o v → accepts r from m ≡ true → IsNotRefused log t o v) →
     ArePlain (on_message (hand_at r log mind) from m).outs
 take-plain r log mind from (message.Write t o v) never = write-plain r log mind from t o v (never t o v refl)
-take-plain r log mind from (message.Begin s d) never = other-plain r log mind from (message.Begin s d) tt
-take-plain r log mind from (message.Begun s) never = other-plain r log mind from (message.Begun s) tt
-take-plain r log mind from (message.Read t o) never = other-plain r log mind from (message.Read t o) tt
-take-plain r log mind from (message.Value t v) never = other-plain r log mind from (message.Value t v) tt
-take-plain r log mind from (message.Stored t) never = other-plain r log mind from (message.Stored t) tt
-take-plain r log mind from (message.LaterRead t e) never = other-plain r log mind from (message.LaterRead t e) tt
-take-plain r log mind from (message.LaterVersion t x) never = other-plain r log mind from (message.LaterVersion t x) tt
-take-plain r log mind from (message.Ended t) never = other-plain r log mind from (message.Ended t) tt
-take-plain r log mind from (message.Commit s) never = other-plain r log mind from (message.Commit s) tt
-take-plain r log mind from (message.Withdraw s) never = other-plain r log mind from (message.Withdraw s) tt
-take-plain r log mind from (message.Decided s d) never = other-plain r log mind from (message.Decided s d) tt
-take-plain r log mind from (message.Ask s) never = other-plain r log mind from (message.Ask s) tt
-take-plain r log mind from (message.Tell s c) never = other-plain r log mind from (message.Tell s c) tt
+take-plain r log mind from m never = other-plain r log mind from m tt

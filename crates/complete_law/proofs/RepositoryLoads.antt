@@ -28,13 +28,12 @@ use Rattle.world_core.specs.Nodes.Input.{Taking, Learning}
 use Rattle.world_core.specs.Walks.{Base, Life, Sending, World, leaving, numbered, sent_by, sendings_after, start_world, step, taken_after, after_input}
 use Rattle.world_core.specs.Walks as walks
 use Rattle.world_core.specs.Legal.{MayLearn, MayTake, Rule, times_taken}
-use Rattle.world_facts.proofs.Growths.{numbered-has}
+use Rattle.world_facts.proofs.Growths.{numbered-has, every-at}
 use Rattle.complete_law.specs.Calm.{CalmPlace, CalmRun, IsPlain, IsQuiet, world_at}
 use Rattle.complete_law.proofs.Frames.{grown-log}
 use Rattle.complete_law.proofs.HandLoads.{Prices, learnt, price-if, stored-load, taken, times}
 use Rattle.complete_law.proofs.Loads.{Fed, Kept, by-entry, issued, load, load-append, sent-load}
 use Rattle.complete_law.proofs.Places.{CalmWorld, log_of}
-use Rattle.complete_law.proofs.Ranges.{at-place}
 use Rattle.complete_law.proofs.RepositoryEntries.{life-hand}
 use Rattle.complete_law.proofs.Steps as steps
 use Rattle.complete_law.proofs.Steps.{Facts-at}
@@ -121,13 +120,11 @@ module _ (g : Sending → ℕ) where
 
   pub used-on : (b : Base) (w : World) (e : Entry) → used-in w ≤ used-in (step b w e)
   used-on b w (entry.Take m k) = used-grows 1 k w.taken w.sendings
-  used-on b w (entry.Go m) = omega arith
-  used-on b w (entry.Learn m s c) = omega arith
-  used-on b w (entry.Hear m) = omega arith
   used-on b w (entry.Gate m) = used-append 1 w.taken w.sendings (map (λ (p : Post). record { post = p; ticks = w.ticks }) (leaving w m))
   used-on b w (entry.Crash m k) = omega arith
   used-on b w (entry.Down m k) = omega arith
   used-on b w (entry.Tick m) = omega arith
+  used-on b w e = omega arith
 
 -- ---- one repository
 
@@ -193,7 +190,7 @@ module _ (v : Message → ℕ) (rest : List Effect → List (TimeParts × HeldRe
         where
           one : (m : ℕ) → numbered (steps.fates r) m ≡ Some may.fate → copies_of may.fate ≡ 1
           one zero e = absurd (cc e)
-          one (suc m) e = let x = at-place IsPlain (steps.fates r) m may.fate r.plain e in ap (λ k. min k 3) x.0
+          one (suc m) e = let x = every-at IsPlain (steps.fates r) m may.fate r.plain e in ap (λ k. min k 3) x.0
 
           zero-of : (x : ℕ) → copies_of may.fate ≡ 1 → x < copies_of may.fate → x ≡ 0
           zero-of x q h = let l : x < 1 = subst (λ m. x < m) q h in omega (arith, l)

@@ -50,24 +50,19 @@ use Rattle.world_core.specs.Legal.{MayTake, times_taken}
 use Rattle.world_facts.specs.Refines.{LogFacts, Refines, logs_at, seat_of}
 use Rattle.world_facts.specs.NodeRules.{kind_post, node_turns, node_facts}
 use Rattle.world_facts.specs.Soft.{NodeOk, SentOk, around, happened}
-use Rattle.world_facts.proofs.Growths.{numbered-has}
+use Rattle.world_facts.proofs.Growths.{numbered-has, each-has, every-of}
 use Rattle.world_facts.proofs.NodeLaws.{node-laws}
 use Rattle.world_facts.proofs.Openings.{facts-of}
 use Rattle.repository_waits.specs.Waits.{Waits}
 use Rattle.complete_law.specs.AtRest.{read_to}
 use Rattle.repository_waits.proofs.AskerSteps.{Askers, on-learn-askers, on-message-askers}
-use Rattle.complete_law.proofs.BrokerMoves.{all-off, both-on, node-there, not-same, other-copies, parted}
+use Rattle.complete_law.proofs.BrokerMoves.{node-there, not-same, other-copies, parted}
 use Rattle.complete_law.proofs.BrokerServices.{serves-broker}
 use Rattle.repository_waits.proofs.ReadSteps.{Asks, Keeps, begins, on-learn-keeps, on-message-keeps}
 use Rattle.repository_waits.specs.Waits.{ask_of, tell_of}
-use Rattle.complete_law.proofs.Places.{log_of, held_of, AskedFor, Flying, Heeds, IsBegun, Placed, standing_in, tasks_of, CalmWorld}
+use Rattle.complete_law.proofs.Places.{log_of, held_of, AskedFor, Flying, Heeds, IsBegun, Placed, standing_in, tasks_of, CalmWorld, all-off, both-on}
 use Rattle.repository_waits.proofs.AskServices.{ask-serves, has-record}
-use Rattle.complete_law.proofs.Hearings.{each-in}
 use Rattle.complete_law.proofs.RepositoryEntries.{Turned, broker-life, life-hand, log-here, owed-flies, turned-calm, waits-there}
-
-every-of : {X : Type 0} (P : X → Type 0) (xs : List X) → ((x : X) → Has x xs → P x) → Every P xs
-every-of P [] f = tt
-every-of P (x ∷ xs) f = (f x (inl refl), every-of P xs (λ y h. f y (inr h)))
 
 abbrev known-in : List Effect → StampParts → Option Bool
 known-in = known
@@ -88,7 +83,7 @@ begun-whole b w calm f r s u =
     let l : Life = w.life (repository r) in
     let ok : NodeOk (node_facts b.script) (around (happened (node_turns b.script) f.events)) (repository r) (seat_of (w.life (repository r))) = node-there b w calm f (repository r) (opened-so (w.flags (repository r)).known refl) in
     let put : Has (effect.Put e.0.1.object wait.start wait.value) (reverse l.fresh ++ reverse l.gated) = subst (Has (effect.Put e.0.1.object wait.start wait.value)) (reverse-append l.gated l.fresh) wait.put in
-    let cause = (each-in _ (reverse l.fresh ++ reverse l.gated) (effect.Put e.0.1.object wait.start wait.value) ok.proofs put).1 in
+    let cause = (each-has _ (reverse l.fresh ++ reverse l.gated) (effect.Put e.0.1.object wait.start wait.value) ok.proofs put).1 in
     let sent : Has (record { from = broker wait.start.stamp.broker; to = repository r; message = message.Write wait.start e.0.1.object wait.value }) (sent_by w) = subst (Has (record { from = broker wait.start.stamp.broker; to = repository r; message = message.Write wait.start e.0.1.object wait.value })) f.models.ever cause.0 in
     let begun : IsBegun w wait.start.stamp = calm.said wait.start.stamp.broker (record { to = repository r; message = message.Write wait.start e.0.1.object wait.value }) (inr sent) in
     let mine : IsBegun w s = subst (IsBegun w) (wait.own ∙ e.2) begun in
@@ -149,18 +144,18 @@ module _ (b : Base) (w : World) (calm : CalmWorld b w) (f : Refines (node_turns 
 
       learn-turned : Turned w lw n h (λ p. ⊥)
       learn-turned = record {
-        here = both-on b w calm f (same_node (repository n) (repository n)) (w.flags (repository n)).known (lives_on b w (repository n) (w.life (repository n)) (entry.Learn (repository n) s committed)) (w.life (repository n)) (same_node-refl (repository n)) opened ∙ learns;
+        here = both-on (same_node (repository n) (repository n)) (w.flags (repository n)).known (lives_on b w (repository n) (w.life (repository n)) (entry.Learn (repository n) s committed)) (w.life (repository n)) (same_node-refl (repository n)) opened ∙ learns;
         there = λ m. elim (parted b w calm f (repository n) m) [
           | inl e ↦ inl e
-          | inr ne ↦ inr (ne, all-off b w calm f (same_node (repository n) m) (w.flags m).known (lives_on b w m (w.life m) (entry.Learn (repository n) s committed)) (w.life m) (not-same b w calm f (repository n) m ne))
+          | inr ne ↦ inr (ne, all-off (same_node (repository n) m) (w.flags m).known (lives_on b w m (w.life m) (entry.Learn (repository n) s committed)) (w.life m) (not-same b w calm f (repository n) m ne))
         ];
         sendings = refl;
         ticks = refl;
         ups = λ m. one-up m (same_node (repository n) m && (w.flags m).known);
         knowns = λ m. one-known m (same_node (repository n) m && (w.flags m).known);
         mine = opened;
-        due = ap (λ (x : Flags). x.due) (both-on b w calm f (same_node (repository n) (repository n)) (w.flags (repository n)).known (flagged w.last (repository n).kind (w.flags (repository n)) (entry.Learn (repository n) s committed)) (w.flags (repository n)) (same_node-refl (repository n)) opened);
-        dues = λ m ne. ap (λ (x : Flags). x.due) (all-off b w calm f (same_node (repository n) m) (w.flags m).known (flagged w.last m.kind (w.flags m) (entry.Learn (repository n) s committed)) (w.flags m) (not-same b w calm f (repository n) m ne));
+        due = ap (λ (x : Flags). x.due) (both-on (same_node (repository n) (repository n)) (w.flags (repository n)).known (flagged w.last (repository n).kind (w.flags (repository n)) (entry.Learn (repository n) s committed)) (w.flags (repository n)) (same_node-refl (repository n)) opened);
+        dues = λ m ne. ap (λ (x : Flags). x.due) (all-off (same_node (repository n) m) (w.flags m).known (flagged w.last m.kind (w.flags m) (entry.Learn (repository n) s committed)) (w.flags m) (not-same b w calm f (repository n) m ne));
         gones = λ m. one-gone m (same_node (repository n) m && (w.flags m).known);
         copies = λ j x at z. inl z;
         untaken = calm.untaken;
@@ -215,19 +210,19 @@ module _ (b : Base) (w : World) (calm : CalmWorld b w) (f : Refines (node_turns 
 
       take-turned : Turned w tw n th Taken
       take-turned = record {
-        here = both-on b w calm f (same_node (repository n) (repository n)) (w.flags (repository n)).known (lives_on b w (repository n) (w.life (repository n)) (entry.Take (repository n) k)) (w.life (repository n)) (same_node-refl (repository n)) opened
+        here = both-on (same_node (repository n) (repository n)) (w.flags (repository n)).known (lives_on b w (repository n) (w.life (repository n)) (entry.Take (repository n) k)) (w.life (repository n)) (same_node-refl (repository n)) opened
             ∙ ap (took b (repository n) (w.life (repository n))) may.sent ∙ takes;
         there = λ m. elim (parted b w calm f (repository n) m) [
           | inl e ↦ inl e
-          | inr ne ↦ inr (ne, all-off b w calm f (same_node (repository n) m) (w.flags m).known (lives_on b w m (w.life m) (entry.Take (repository n) k)) (w.life m) (not-same b w calm f (repository n) m ne))
+          | inr ne ↦ inr (ne, all-off (same_node (repository n) m) (w.flags m).known (lives_on b w m (w.life m) (entry.Take (repository n) k)) (w.life m) (not-same b w calm f (repository n) m ne))
         ];
         sendings = refl;
         ticks = refl;
         ups = λ m. one-up m (same_node (repository n) m && (w.flags m).known);
         knowns = λ m. one-known m (same_node (repository n) m && (w.flags m).known);
         mine = opened;
-        due = ap (λ (x : Flags). x.due) (both-on b w calm f (same_node (repository n) (repository n)) (w.flags (repository n)).known (flagged w.last (repository n).kind (w.flags (repository n)) (entry.Take (repository n) k)) (w.flags (repository n)) (same_node-refl (repository n)) opened);
-        dues = λ m ne. ap (λ (x : Flags). x.due) (all-off b w calm f (same_node (repository n) m) (w.flags m).known (flagged w.last m.kind (w.flags m) (entry.Take (repository n) k)) (w.flags m) (not-same b w calm f (repository n) m ne));
+        due = ap (λ (x : Flags). x.due) (both-on (same_node (repository n) (repository n)) (w.flags (repository n)).known (flagged w.last (repository n).kind (w.flags (repository n)) (entry.Take (repository n) k)) (w.flags (repository n)) (same_node-refl (repository n)) opened);
+        dues = λ m ne. ap (λ (x : Flags). x.due) (all-off (same_node (repository n) m) (w.flags m).known (flagged w.last m.kind (w.flags m) (entry.Take (repository n) k)) (w.flags m) (not-same b w calm f (repository n) m ne));
         gones = λ m. one-gone m (same_node (repository n) m && (w.flags m).known);
         copies = λ j s at z. one j s at z (k == j) refl;
         untaken = none;

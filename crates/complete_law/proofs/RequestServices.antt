@@ -1,6 +1,6 @@
 -- A request that stands, when its repository takes it, is answered so that its broker heeds it, or it is a read that is held.
-use Rattle.std.proofs.Common.{◌≡◌, ℕ, ◌==◌, ◌&&◌, Bool, true, false, List, refl, sym, ◌∙◌, ap, subst, Option, Some, None, if◌then◌else◌}
-use Rattle.std.proofs.lemmas.Bool.{eq-eqb, false≢true}
+use Rattle.std.proofs.Common.{◌≡◌, ℕ, ◌==◌, true, List, refl, sym, ◌∙◌, ap, subst, Option, Some, None, if◌then◌else◌}
+use Rattle.std.proofs.lemmas.Bool.{eq-eqb, and_from}
 use Rattle.pseudo_time.specs.Lists.{Has}
 use Rattle.pseudo_time.specs.declared.decisions.Decision.{Decision}
 use Rattle.pseudo_time.specs.declared.decisions.Decision.TheVariants as decision
@@ -26,27 +26,14 @@ use Rattle.pseudo_time.specs.Nodes.{repository, broker}
 use Rattle.broker_laws.specs.Posts.{PostHolds}
 use Rattle.complete_law.proofs.Answering.{BeginAnswers, CloseAnswers, heeds-begun, heeds-close, heeds-commit, heeds-early, heeds-write, on-begin-answers, on-close-answers, on-write-answers}
 
-and-two : (a b : Bool) → a ≡ true → b ≡ true → (a && b) ≡ true
-and-two true true e q = refl
-and-two false b e q = absurd (false≢true e)
-and-two true false e q = absurd (false≢true q)
-
 -- the repository that a request goes to accepts it
 pub accepted : (script : List ℕ → Tree) (i n : ℕ) (ts : List Try) (m : Message) → PostHolds script i ts (repository n) m → accepts n (broker i) m ≡ true
-accepted script i n ts (message.Begin s d) h = and-two (i == s.broker) (s.home == n) (eq-eqb i s.broker (sym h.0)) (eq-eqb s.home n (sym (ap (λ (x : NodeId). x.number) h.1)))
-accepted script i n ts (message.Commit s) h = and-two (i == s.broker) (s.home == n) (eq-eqb i s.broker (sym h.0)) (eq-eqb s.home n (sym (ap (λ (x : NodeId). x.number) h.1)))
-accepted script i n ts (message.Withdraw s) h = and-two (i == s.broker) (s.home == n) (eq-eqb i s.broker (sym h.0)) (eq-eqb s.home n (sym (ap (λ (x : NodeId). x.number) h.1)))
-accepted script i n ts (message.Read x o) h = and-two (i == x.stamp.broker) (o.repository == n) (eq-eqb i x.stamp.broker (sym h.0)) (eq-eqb o.repository n (sym (ap (λ (x : NodeId). x.number) h.1)))
-accepted script i n ts (message.Write x o v) h = and-two (i == x.stamp.broker) (o.repository == n) (eq-eqb i x.stamp.broker (sym h.0)) (eq-eqb o.repository n (sym (ap (λ (x : NodeId). x.number) h.1)))
-accepted script i n ts (message.Begun s) h = absurd h
-accepted script i n ts (message.Value x v) h = absurd h
-accepted script i n ts (message.Stored x) h = absurd h
-accepted script i n ts (message.LaterRead x e) h = absurd h
-accepted script i n ts (message.LaterVersion x y) h = absurd h
-accepted script i n ts (message.Ended x) h = absurd h
-accepted script i n ts (message.Decided s d) h = absurd h
-accepted script i n ts (message.Ask s) h = absurd h
-accepted script i n ts (message.Tell s c) h = absurd h
+accepted script i n ts (message.Begin s d) h = and_from (i == s.broker) (s.home == n) (eq-eqb i s.broker (sym h.0)) (eq-eqb s.home n (sym (ap (λ (x : NodeId). x.number) h.1)))
+accepted script i n ts (message.Commit s) h = and_from (i == s.broker) (s.home == n) (eq-eqb i s.broker (sym h.0)) (eq-eqb s.home n (sym (ap (λ (x : NodeId). x.number) h.1)))
+accepted script i n ts (message.Withdraw s) h = and_from (i == s.broker) (s.home == n) (eq-eqb i s.broker (sym h.0)) (eq-eqb s.home n (sym (ap (λ (x : NodeId). x.number) h.1)))
+accepted script i n ts (message.Read x o) h = and_from (i == x.stamp.broker) (o.repository == n) (eq-eqb i x.stamp.broker (sym h.0)) (eq-eqb o.repository n (sym (ap (λ (x : NodeId). x.number) h.1)))
+accepted script i n ts (message.Write x o v) h = and_from (i == x.stamp.broker) (o.repository == n) (eq-eqb i x.stamp.broker (sym h.0)) (eq-eqb o.repository n (sym (ap (λ (x : NodeId). x.number) h.1)))
+accepted script i n ts m h = absurd h
 
 -- so it carries out its row
 pub carried : (h : Hand) (from : NodeId) (m : Message) → accepts h.number from m ≡ true → on_message h from m ≡ row h from m

@@ -1,7 +1,6 @@
 -- Of nodes at rest every broker is done: a read waits for a smaller stamp alone, so the broker of the least stamp that is waited for would have an answer due.
-use Rattle.std.proofs.Common.{◌≡◌, ◌≢◌, ◌⊎◌, ℕ, nat_lt, Bool, true, false, ◌&&◌, ◌||◌, List, [], ◌∷◌, ◌++◌, refl, sym, ◌∙◌, ap, subst, Option, Some, None, if◌then◌else◌, inl, inr, arith}
-use Rattle.std.proofs.lemmas.Grind.{common_steps}
-use Rattle.std.proofs.lemmas.Bool.{false≢true, eq-eqb}
+use Rattle.std.proofs.Common.{◌≡◌, ◌≢◌, ◌⊎◌, ℕ, nat_lt, Bool, true, false, ◌&&◌, ◌||◌, List, [], ◌∷◌, ◌++◌, refl, sym, ◌∙◌, ap, subst, Option, Some, None, if◌then◌else◌, inl, inr}
+use Rattle.std.proofs.lemmas.Bool.{false≢true, eq-eqb, or_right}
 use Rattle.pseudo_time.specs.Lists.{Every, Has}
 use Rattle.pseudo_time.specs.StampParts.{StampParts}
 use Rattle.pseudo_time.specs.TimeParts.{TimeParts}
@@ -37,6 +36,7 @@ use Rattle.broker_laws.proofs.Done.{rested-done}
 use Rattle.repository_waits.specs.Waits.{Waits}
 use Rattle.complete_law.specs.AtRest.{DecidedAt, standing_at, is_done, read_to, AtRest}
 use Rattle.complete_law.proofs.Descents.{Below, below, never}
+use Rattle.complete_law.proofs.Ranges.{same-run}
 
 -- ---- tries
 
@@ -58,11 +58,7 @@ every-unit (t ∷ ts) = (tt, every-unit ts)
 waiting : (es : List (TimeParts × HeldRead)) (e : TimeParts × HeldRead) → Has e es → waits_for e.1.waits es ≡ true
 waiting [] e h = absurd h
 waiting (x ∷ es) e (inl p) = subst (λ (y : TimeParts × HeldRead). (same_stamp y.1.waits e.1.waits || waits_for e.1.waits es) ≡ true) (sym p) (rw (same_stamp-self e.1.waits) refl)
-waiting (x ∷ es) e (inr h) = or-right (same_stamp x.1.waits e.1.waits) (waits_for e.1.waits es) (waiting es e h)
-  where
-    or-right : (a b : Bool) → b ≡ true → (a || b) ≡ true
-    or-right true b p = refl
-    or-right false b p = p
+waiting (x ∷ es) e (inr h) = or_right (same_stamp x.1.waits e.1.waits) (waits_for e.1.waits es) (waiting es e h)
 
 same-message : (a b : Out) → Some a ≡ Some b → a.message ≡ b.message
 same-message a b e = let k : a ≡ b = cc e in ap (λ (z : Out). z.message) k
@@ -78,9 +74,6 @@ module _ (script : List ℕ → Tree) (me run : ℕ) (acts : List Task) where
           (nat_lt b.run run ≡ false) × (by_stage me acts h b (stage script run b h) ≡ None)
       go true e w = cc
       go false e w = (e, w)
-
-  same-run : (m n : ℕ) → nat_lt m n ≡ false → nat_lt n m ≡ false → m ≡ n
-  same-run m n h k = grind (arith, common_steps)
 
   abbrev Sends : Stage → Type 0
   Sends st = (out : Out) × (standing st ≡ Some out)
@@ -158,7 +151,7 @@ module _ (script : List ℕ → Tree) (run : ℕ) (acts : ℕ → List Task) (mo
       let is : counted b ≡ book (k.brokers b) = counts b i in
       let last' : last_try (counted b) ≡ Some t = subst (λ z. last_try z ≡ Some t) (sym is) last in
       let rest = began script b run (acts b) (counted b) (k.heard b) (k.rested b i) in
-      let same : (counted b).run ≡ run = same-run script b run (acts b) (counted b).run run rest.0 (k.turns b i).ready.not_old in
+      let same : (counted b).run ≡ run = same-run (counted b).run run rest.0 (k.turns b i).ready.not_old in
       let in-run : stage script run (counted b) (k.heard b) ≡ stage_of script (k.heard b) (open_try (counted b)) (last_try (counted b)) =
       ap (λ c. if c then stage_of script (k.heard b) (open_try (counted b)) (last_try (counted b)) else Idle) (eq-eqb (counted b).run run same) in
       let s = last-sends script b run (acts b) (counted b) (k.heard b) t last' (λ n. last-is-open script b run (acts b) (k.brokers b) t same last' n) (λ c. undone (closed-decided c))

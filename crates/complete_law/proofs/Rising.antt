@@ -47,17 +47,12 @@ module _ (script : List ℕ → Tree) (me : ℕ) where
       subst Falling (sym w.2) (subst (λ (s : StampParts). Every (λ (u : Try). u.stamp.clock < s.clock) w.0) (sym (same t)) old.0, old.1)
 
   falling-close : (i : ℕ) (o : Outcome) (b : Book) → EndFits script i o b → Falling (tries b) → Falling (tries (close o b))
-  falling-close i outcome.Committed b h k = falling-open (finish outcome.Committed) (λ t. refl) b.acts b.past h.0 h.1 k
-  falling-close i (outcome.Withdrawn l) b h k = falling-open (finish (outcome.Withdrawn l)) (λ t. refl) b.acts b.past h.0 h.1 k
-  falling-close i (outcome.Failed l x) b h k = falling-open (finish (outcome.Failed l x)) (λ t. refl) b.acts b.past h.0 h.1 k
-  falling-close i (outcome.LaterRead o e) b h k = falling-open (finish (outcome.LaterRead o e)) (λ t. refl) b.acts b.past h.0 h.1 k
-  falling-close i (outcome.LaterVersion o x) b h k = falling-open (finish (outcome.LaterVersion o x)) (λ t. refl) b.acts b.past h.0 h.1 k
-  falling-close i (outcome.Expired d m) b h k = falling-open (finish (outcome.Expired d m)) (λ t. refl) b.acts b.past h.0 h.1 k
   falling-close i (outcome.Spent c) b h k = spent b.acts b.past k
     where
       spent : (acts past : List Act) → Falling (tries_of (acts ++ past)) → Falling (tries_of ((close (outcome.Spent c) (record b { acts = acts; past = past })).acts ++ past))
       spent [] past k = k
       spent (a ∷ acts) past k = k
+  falling-close i o b h k = falling-open (finish o) (λ t. refl) b.acts b.past h.0 h.1 k
 
   falling-kept : (b : Book) (f : Effect) → FitsBook script me b f → Clocks me b → Falling (tries b) → Falling (tries (enter f b))
   falling-kept b (effect.Run n) h c k = k
@@ -66,11 +61,7 @@ module _ (script : List ℕ → Tree) (me : ℕ) where
   falling-kept b (effect.Got n v) h c k = falling-open (gain (Got v)) (λ t. refl) b.acts b.past h.0 h.1 k
   falling-kept b (effect.Acked n) h c k = falling-open (gain Stored) (λ t. refl) b.acts b.past h.0 h.1 k
   falling-kept b (effect.End i o) h c k = falling-close i o b h k
-  falling-kept b (effect.Put o x v) h c k = absurd h
-  falling-kept b (effect.Stretch o x) h c k = absurd h
-  falling-kept b (effect.Begin s d) h c k = absurd h
-  falling-kept b (effect.Decide s d) h c k = absurd h
-  falling-kept b (effect.Learn s d) h c k = absurd h
+  falling-kept b f h c k = absurd h
 
   pub falling : (log : List Effect) → IsTidy script me log → Falling (tries (book log))
   unfolding book
@@ -92,14 +83,6 @@ undecided-last run B D (a ∷ done) t k i off = go a.tries k.1 i
       | inl x ↦ decided us all x
       | inr x ↦ decided (tries_of done) k.0 x
     ])
-
-pub find-has : (s : StampParts) (ts : List Try) (t : Try) → find s ts ≡ Some t → Has t ts
-find-has s [] t h = absurd (cc h)
-find-has s (u ∷ ts) t h = go (same_stamp u.stamp s) (find-has s ts t) h
-  where
-    go : (c : Bool) → (find s ts ≡ Some t → Has t ts) → (if c then Some u else find s ts) ≡ Some t → Has t (u ∷ ts)
-    go true more h = let e : u ≡ t = cc h in inl e
-    go false more h = inr (more h)
 
 -- ---- times
 

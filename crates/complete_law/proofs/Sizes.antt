@@ -84,13 +84,8 @@ module _ (script : List ℕ → Tree) (me run : ℕ) where
   more r x y e = omega (arith, e)
 
   close-size : (i : ℕ) (o : Outcome) (b : Book) → EndFits script i o b → size (close o b) ≡ size b + 1
-  close-size i outcome.Committed b f = more (begun-run run b) _ _ (finish-size outcome.Committed b.acts b.past f.0 f.1)
-  close-size i (outcome.Withdrawn l) b f = more (begun-run run b) _ _ (finish-size (outcome.Withdrawn l) b.acts b.past f.0 f.1)
-  close-size i (outcome.Failed l k) b f = more (begun-run run b) _ _ (finish-size (outcome.Failed l k) b.acts b.past f.0 f.1)
-  close-size i (outcome.LaterRead o e) b f = more (begun-run run b) _ _ (finish-size (outcome.LaterRead o e) b.acts b.past f.0 f.1)
-  close-size i (outcome.LaterVersion o x) b f = more (begun-run run b) _ _ (finish-size (outcome.LaterVersion o x) b.acts b.past f.0 f.1)
-  close-size i (outcome.Expired d m) b f = more (begun-run run b) _ _ (finish-size (outcome.Expired d m) b.acts b.past f.0 f.1)
   close-size i (outcome.Spent c) b f = more (begun-run run b) _ _ (spent-size i c b.acts b.past _ f)
+  close-size i o b f = more (begun-run run b) _ _ (finish-size o b.acts b.past f.0 f.1)
 
   run-before : (m n : ℕ) → m < n → one-if (m == n) ≡ 0
   run-before m n h = let k : (m == n) ≡ false = grind (arith, common_steps) in ap one-if k
@@ -111,11 +106,7 @@ module _ (script : List ℕ → Tree) (me run : ℕ) where
   enter-size b (effect.Got k v) f r = more (begun-run run b) _ _ (gain-size (Got v) b.acts b.past f.0 f.1)
   enter-size b (effect.Acked k) f r = more (begun-run run b) _ _ (gain-size Stored b.acts b.past f.0 f.1)
   enter-size b (effect.End i o) f r = close-size i o b f
-  enter-size b (effect.Put o x v) f r = absurd f
-  enter-size b (effect.Stretch o x) f r = absurd f
-  enter-size b (effect.Begin s d) f r = absurd f
-  enter-size b (effect.Decide s d) f r = absurd f
-  enter-size b (effect.Learn s d) f r = absurd f
+  enter-size b g f r = absurd f
 
   start-size : (n : ℕ) → 0 ≤ n
   start-size n = omega arith
@@ -160,13 +151,8 @@ module _ (script : List ℕ → Tree) (me : ℕ) where
       one (x ∷ ts) e = let k = more-tries a.task.tries (x ∷ ts) x e in let j : length (x ∷ (x ∷ ts)) ≡ length (x ∷ ts) + 1 = omega arith in omega (arith, k, j)
 
   spare-close : (i : ℕ) (o : Outcome) (b : Book) → EndFits script i o b → Every IsSpare (b.acts ++ b.past) → Every IsSpare ((close o b).acts ++ (close o b).past)
-  spare-close i outcome.Committed b f h = spare-on _ b.acts b.past h
-  spare-close i (outcome.Withdrawn l) b f h = spare-on _ b.acts b.past h
-  spare-close i (outcome.Failed l k) b f h = spare-on _ b.acts b.past h
-  spare-close i (outcome.LaterRead o e) b f h = spare-on _ b.acts b.past h
-  spare-close i (outcome.LaterVersion o x) b f h = spare-on _ b.acts b.past h
-  spare-close i (outcome.Expired d m) b f h = spare-on _ b.acts b.past h
   spare-close i (outcome.Spent c) b f h = spare-spent i c b.acts b.past _ f h
+  spare-close i o b f h = spare-on _ b.acts b.past h
 
   spare-enter : (b : Book) (f : Effect) → FitsBook script me b f → Every IsSpare (b.acts ++ b.past) → Every IsSpare ((enter f b).acts ++ (enter f b).past)
   spare-enter b (effect.Run n) f h = h
@@ -175,11 +161,7 @@ module _ (script : List ℕ → Tree) (me : ℕ) where
   spare-enter b (effect.Got k v) f h = spare-on (gain (Got v)) b.acts b.past h
   spare-enter b (effect.Acked k) f h = spare-on (gain Stored) b.acts b.past h
   spare-enter b (effect.End i o) f h = spare-close i o b f h
-  spare-enter b (effect.Put o x v) f h = absurd f
-  spare-enter b (effect.Stretch o x) f h = absurd f
-  spare-enter b (effect.Begin s d) f h = absurd f
-  spare-enter b (effect.Decide s d) f h = absurd f
-  spare-enter b (effect.Learn s d) f h = absurd f
+  spare-enter b g f h = absurd f
 
   pub spare : (log : List Effect) → IsTidy script me log → Every IsSpare ((book log).acts ++ (book log).past)
   unfolding book

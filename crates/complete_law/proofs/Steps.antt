@@ -125,9 +125,7 @@ module _ (r : CalmRun) where
   one-step w (entry.Learn n s d) f c q rule = learn-step w n s d f c rule
   one-step w (entry.Hear n) f c q rule = absurd (no-moment w n f rule)
   one-step w (entry.Gate n) f c q rule = gate-step w n f c rule
-  one-step w (entry.Crash n kept) f c q rule = absurd q
-  one-step w (entry.Down n cause) f c q rule = absurd q
-  one-step w (entry.Tick moment) f c q rule = absurd q
+  one-step w e f c q rule = absurd q
 
   quiet-tick : (e : Entry) → IsQuiet e → (t : ℕ) → e ≡ entry.Tick t → ⊥
   quiet-tick e q t is = subst IsQuiet is q

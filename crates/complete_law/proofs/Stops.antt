@@ -5,7 +5,7 @@ use Rattle.pseudo_time.proofs.ListLemmas.{every-append}
 use Rattle.pseudo_time.specs.declared.nodes.NodeId.{NodeId}
 use Rattle.stream_port.specs.declared.fates.Fate.{Fate}
 use Rattle.world_core.specs.declared.entries.Entry.{Entry}
-use Rattle.world_core.specs.declared.entries.Entry.TheVariants.{Take, Go, Learn, Hear, Gate, Crash, Down, Tick}
+use Rattle.world_core.specs.declared.entries.Entry.TheVariants.{Crash, Down, Tick}
 use Rattle.pseudo_time.specs.declared.down_causes.DownCause.TheVariants.{Medium, Damaged, Full}
 use Rattle.world_core.specs.Walks.{Base, World, start_world, step, walk_from}
 use Rattle.world_core.specs.Legal.{Meets, Rule, base_of, fates_of}
@@ -32,11 +32,6 @@ module _ (stuck : (p : CalmPlace) → IsIdleAt p → AllDone p) (few : (p : Calm
       (q, all-quiet (front ++ e ∷ []) rest (here ∙ sym (append_assoc front (e ∷ []) rest)) (every-append IsQuiet front (e ∷ []) quiet (q, tt)))
     where
       go : (e : Entry) (h : r.trace.entries ≡ front ++ e ∷ rest) → MayStop (most_effects r most) (place front (e ∷ rest) h quiet) e → IsQuiet e
-      go (Take n k) h m = tt
-      go (Go n) h m = tt
-      go (Learn n s c) h m = tt
-      go (Hear n) h m = tt
-      go (Gate n) h m = tt
       go (Crash n k) h m = m
       go (Down n (Full pages)) h m = too-much (length (log_at (place front (Down n (Full pages) ∷ rest) h quiet) n)) pages (most_effects r most) (few (place front (Down n (Full pages) ∷ rest) h quiet) most n asks) m.0 m.1
       go (Down n Medium) h m = m
@@ -45,6 +40,7 @@ module _ (stuck : (p : CalmPlace) → IsIdleAt p → AllDone p) (few : (p : Calm
           m (stuck (place front (Tick moment ∷ rest) h quiet)
           (meets-there (base_of r.script r.plan r.trace) (fates_of r.trace.sent) (start_world (base_of r.script r.plan r.trace)) front (Tick moment) rest
           (subst (Meets (base_of r.script r.plan r.trace) (fates_of r.trace.sent) (start_world (base_of r.script r.plan r.trace))) h r.legal.meets)).idle)
+      go e h m = tt
 
   pub nothing-stops : Every IsQuiet r.trace.entries
   nothing-stops = all-quiet [] r.trace.entries refl tt

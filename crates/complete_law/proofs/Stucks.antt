@@ -1,23 +1,16 @@
 -- No calm place is stuck, where what always holds holds there.
-use Rattle.std.proofs.Common.{◌≡◌, List, [], ◌∷◌, refl, ◌∙◌}
-use Rattle.pseudo_time.specs.declared.nodes.NodeId.{NodeId}
-use Rattle.world_core.specs.Walks.{Base, World, sent_by, start_world, step, walk_from}
-use Rattle.world_core.specs.declared.entries.Entry.{Entry}
+use Rattle.std.proofs.Common.{[], refl}
+use Rattle.world_core.specs.Walks.{Base, sent_by, start_world}
 use Rattle.world_core.specs.Legal.{base_of, fates_of}
 use Rattle.world_core.specs.Pasts.{OpenedWith}
 use Rattle.world_facts.specs.NodeRules.{node_turns, node_facts}
 use Rattle.world_facts.specs.Refines.{LogFacts, logs_at, Ticked}
 use Rattle.world_facts.proofs.NodeLaws.{node-laws, past-laws}
 use Rattle.world_facts.proofs.Openings.{legal-facts}
-use Rattle.world_facts.proofs.Steps.{step-known}
 use Rattle.complete_law.specs.Calm.{CalmPlace, IsIdleAt, AllDone, world_at}
 use Rattle.complete_law.proofs.Places.{CalmWorld}
 use Rattle.complete_law.proofs.Idles.{idle-done}
-
-walk-known : (b : Base) (w : World) (es : List Entry) (n : NodeId) → ((walk_from b w es).flags n).known ≡ (w.flags n).known
-unfolding walk_from
-walk-known b w [] n = refl
-walk-known b w (e ∷ es) n = walk-known b (step b w e) es n ∙ (step-known b w e n).0
+use Rattle.world_facts.proofs.Steps.{walk-known}
 
 module _ (p : CalmPlace) where
   abbrev base : Base

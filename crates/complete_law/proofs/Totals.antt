@@ -1,7 +1,8 @@
 -- What all brokers have sent together, and so what one repository has stored.
-use Rattle.std.proofs.Common.{◌≡◌, ℕ, zero, suc, ◌+◌, ◌*◌, ◌≤◌, ◌<◌, ◌==◌, Bool, true, false, ◌&&◌, List, [], ◌∷◌, refl, sym, ap, subst, if◌then◌else◌, arith}
+use Rattle.std.proofs.Common.{◌≡◌, ℕ, zero, suc, ◌+◌, ◌*◌, ◌≤◌, ◌<◌, ◌==◌, Bool, true, false, ◌&&◌, List, [], ◌∷◌, refl, sym, ap, subst, if◌then◌else◌, arith, ◌∙◌}
 use Rattle.std.proofs.lemmas.Grind.{common_steps}
 use Rattle.std.specs.List.{filter}
+use Rattle.std.proofs.lemmas.Bool.{false≢true}
 use Rattle.pseudo_time.specs.declared.nodes.NodeId.{NodeId}
 use Rattle.pseudo_time.specs.declared.nodes.NodeKind.{NodeKind}
 use Rattle.pseudo_time.specs.declared.nodes.NodeKind.TheVariants as kind
@@ -52,6 +53,10 @@ sum-times : (f : ℕ → ℕ) (m n : ℕ) → sum-to (λ k. f k * m) n ≡ sum-t
 sum-times f m zero = refl
 sum-times f m (suc n) = let k = sum-times f m n in let j = mul-plus (f (suc n)) (sum-to f n) m in omega (arith, k, j)
 
+pub sum-zero : (n : ℕ) → sum-to (λ i. 0) n ≤ 0
+sum-zero zero = omega arith
+sum-zero (suc n) = let k = sum-zero n in omega (arith, k)
+
 sum-none : (m k n : ℕ) → n < m → sum-to (λ i. if-from (m == i) k) n ≡ 0
 sum-none m k zero h = let e : (m == 0) ≡ false = grind (arith, common_steps) in ap (λ c. if-from c k) e
 sum-none m k (suc n) h =
@@ -74,11 +79,7 @@ sum-one m k (suc n) = go (m == suc n) refl (sum-one m k n)
 
 -- the acts are shared out among the brokers
 sum-tasks : (acts : List ActSpec) (n : ℕ) → sum-to (λ i. tries-given (tasks (filter (λ (a : ActSpec). a.broker == i) acts))) n ≤ tries_in acts
-sum-tasks [] n = zeros n
-  where
-    zeros : (n : ℕ) → sum-to (λ i. 0) n ≤ 0
-    zeros zero = omega arith
-    zeros (suc n) = let k = zeros n in omega (arith, k)
+sum-tasks [] n = sum-zero n
 sum-tasks (a ∷ acts) n =
     let f : ℕ → ℕ = λ i. tries-given (tasks (filter (λ (x : ActSpec). x.broker == i) acts)) in
     let k = sum-tasks acts n in
@@ -98,28 +99,42 @@ all-mono f g [] h = omega arith
 all-mono f g (s ∷ ss) h = let k = all-mono f g ss h in let j = h s in omega (arith, k, j)
 
 -- no sender has a greater number
-abbrev top : List Sending → ℕ
+abbrev pub top : List Sending → ℕ
 top [] = 0
 top (s ∷ ss) = s.post.from.number + top ss
 
-abbrev pub by-broker : (Message → ℕ) → Sending → ℕ
-by-broker w s = if-from (is_broker s.post.from.kind) (w s.post.message)
+-- what a message of a node of this kind counts
+abbrev pub from-kind : (NodeKind → Bool) → (Message → ℕ) → Sending → ℕ
+from-kind is v s = if-from (is s.post.from.kind) (v s.post.message)
 
-sent-total : (w : Message → ℕ) (ss : List Sending) (n : ℕ) → top ss ≤ n → all (by-broker w) ss ≤ sum-to (λ i. sent-load w (broker i) ss) n
-sent-total w [] n h = omega arith
-sent-total w (s ∷ ss) n h =
-    let k = sent-total w ss n (omega (arith, h)) in
-    let p = sum-plus (λ i. if-from (same_node s.post.from (broker i)) (w s.post.message)) (λ i. sent-load w (broker i) ss) n in
-    let l : s.post.from.number ≤ n = omega (arith, h) in
-    let j = one s.post.from.kind s.post.from.number l in
-    omega (arith, k, p, j)
+abbrev pub by-broker : (Message → ℕ) → Sending → ℕ
+by-broker = from-kind is_broker
+
+-- all that nodes of a kind sent, node by node
+module _ (is : NodeKind → Bool) (named : ℕ → NodeId) (same : (n : NodeId) → is n.kind ≡ true → n ≡ named n.number) (v : Message → ℕ) where
+  pub sent-total : (ss : List Sending) (n : ℕ) → top ss ≤ n → all (from-kind is v) ss ≤ sum-to (λ i. sent-load v (named i) ss) n
+  sent-total [] n h = omega arith
+  sent-total (s ∷ ss) n h =
+      let k = sent-total ss n (omega (arith, h)) in
+      let p = sum-plus (λ i. if-from (same_node s.post.from (named i)) (v s.post.message)) (λ i. sent-load v (named i) ss) n in
+      let l : s.post.from.number ≤ n = omega (arith, h) in
+      let j = one (is s.post.from.kind) refl l in
+      omega (arith, k, p, j)
+    where
+      one : (c : Bool) → is s.post.from.kind ≡ c → s.post.from.number ≤ n → if-from c (v s.post.message) ≤ sum-to (λ k. if-from (same_node s.post.from (named k)) (v s.post.message)) n
+      one false e l = omega arith
+      one true e l =
+          let k = sum-has (λ k. if-from (same_node s.post.from (named k)) (v s.post.message)) s.post.from.number n l in
+          let q : if-from (same_node s.post.from (named s.post.from.number)) (v s.post.message) ≡ v s.post.message =
+          ap (λ (x : NodeId). if-from (same_node s.post.from x) (v s.post.message)) (sym (same s.post.from e)) ∙ ap (λ c. if-from c (v s.post.message)) (same_node-refl s.post.from) in
+          omega (arith, k, q)
+
+broker-named : (n : NodeId) → is_broker n.kind ≡ true → n ≡ broker n.number
+broker-named n e = go n.kind n.number e
   where
-    one : (kd : NodeKind) (i : ℕ) → i ≤ n → if-from (is_broker kd) (w s.post.message) ≤ sum-to (λ k. if-from (same_node (record { kind = kd; number = i }) (broker k)) (w s.post.message)) n
-    one kind.Repository i l = omega arith
-    one kind.Broker i l =
-        let k = sum-has (λ k. if-from (same_node (broker i) (broker k)) (w s.post.message)) i n l in
-        let e : if-from (same_node (broker i) (broker i)) (w s.post.message) ≡ w s.post.message = ap (λ c. if-from c (w s.post.message)) (same_node-refl (broker i)) in
-        omega (arith, k, e)
+    go : (kd : NodeKind) (i : ℕ) → is_broker kd ≡ true → record { kind = kd; number = i } ≡ broker i
+    go kind.Broker i e = refl
+    go kind.Repository i e = absurd (false≢true e)
 
 module _ (p : CalmPlace) (most : ℕ) (asks : AskAtMost p.run most) where
   abbrev w : World
@@ -130,7 +145,7 @@ module _ (p : CalmPlace) (most : ℕ) (asks : AskAtMost p.run most) where
   brokers-few u v z =
       let n : ℕ = top w.sendings in
       let m : ℕ = u + (most * v + z) in
-      let a = sent-total (wt u v z p.run) w.sendings (top w.sendings) (omega arith) in
+      let a = sent-total is_broker broker broker-named (wt u v z p.run) w.sendings (top w.sendings) (omega arith) in
       let b = sum-mono (λ i. sent-load (wt u v z p.run) (broker i) w.sendings) (λ i. tries-given (tasks_of (steps.b p.run) i) * (u + (most * v + z))) (top w.sendings)
       (λ i. (let k = broker-issues u v z p most asks i in omega (arith, k))) in
       let c = sum-times (λ i. tries-given (tasks_of (steps.b p.run) i)) (u + (most * v + z)) (top w.sendings) in
@@ -186,13 +201,7 @@ module _ (p : Prices) (v : Message → ℕ) (most : (m : Message) → price p m 
   of-broker n from (message.Write t o a) = capped (message.Write t o a) (is_broker from.kind) (from.number == t.stamp.broker) (o.repository == n)
   of-broker n from (message.Ask s) = nothing (message.Ask s) (is_broker from.kind) (accepts n from (message.Ask s)) free
   of-broker n from (message.Tell s c) = nothing (message.Tell s c) (is_broker from.kind) (accepts n from (message.Tell s c)) refl
-  of-broker n from (message.Begun s) = omega arith
-  of-broker n from (message.Value t a) = omega arith
-  of-broker n from (message.Stored t) = omega arith
-  of-broker n from (message.LaterRead t e) = omega arith
-  of-broker n from (message.LaterVersion t x) = omega arith
-  of-broker n from (message.Ended t) = omega arith
-  of-broker n from (message.Decided s d) = omega arith
+  of-broker n from m = omega arith
 
   pub gain-most : (r : _) (n : ℕ) (s : Sending) → gain p r n s ≤ by-broker v s
   gain-most r n s = let k = of-broker n s.post.from s.post.message in go (same_node s.post.to (repository n)) k
@@ -203,19 +212,7 @@ module _ (p : Prices) (v : Message → ℕ) (most : (m : Message) → price p m 
 
 pub one-each : (r : _) (m : Message) → price stores m ≤ wt 1 1 1 r m
 one-each r (message.Begin s t) = omega arith
-one-each r (message.Commit s) = omega arith
-one-each r (message.Withdraw s) = omega arith
-one-each r (message.Read t o) = omega arith
-one-each r (message.Write t o a) = omega arith
-one-each r (message.Ask s) = omega arith
-one-each r (message.Tell s c) = omega arith
-one-each r (message.Begun s) = omega arith
-one-each r (message.Value t a) = omega arith
-one-each r (message.Stored t) = omega arith
-one-each r (message.LaterRead t e) = omega arith
-one-each r (message.LaterVersion t x) = omega arith
-one-each r (message.Ended t) = omega arith
-one-each r (message.Decided s d) = omega arith
+one-each r m = omega arith
 
 -- but for its Learns, a repository stores no more effects than brokers sent requests
 pub stored-few : (p : CalmPlace) (most : ℕ) → AskAtMost p.run most → (n : ℕ) → stored-load stores (log_at p (repository n)) ≤ tries_in p.run.plan.acts * (most + 2)

@@ -1,10 +1,11 @@
 -- Nodes' names, and the order that maps keep them in.
-use Rattle.std.proofs.Common.{rules, ◌≡◌, ℕ, ◌==◌, ◌&&◌, Bool, true, false, List, refl, ap, arith}
+use Rattle.std.proofs.Common.{rules, ◌≡◌, ℕ, ◌==◌, true, List, refl, ap, arith}
 use Rattle.std.specs.Map.{lookup}
 use Rattle.std.specs.BTreeMap.{is_at}
 use Rattle.std.proofs.Math.Path.{fun_ext}
 use Rattle.std.proofs.lemmas.Bool.Decides.{nat_tests}
 use Rattle.std.specs.Ordering.{is_eq, nat_cmp}
+use Rattle.std.proofs.lemmas.Bool.{eqb-true, and_parts}
 use Rattle.pseudo_time.specs.declared.nodes.NodeId.{NodeId}
 use Rattle.pseudo_time.specs.declared.nodes.NodeKind.{NodeKind}
 use Rattle.pseudo_time.specs.declared.nodes.NodeKind.TheVariants.{Repository, Broker}
@@ -24,9 +25,6 @@ named_so Broker Repository m n = refl
 pub finds_same : (a b : NodeId) → is_eq (order.cmp-value.it a b) ≡ same_node a b
 finds_same a b = named_so a.kind b.kind a.number b.number
 
-number_is : (m n : ℕ) → (m == n) ≡ true → m ≡ n
-number_is m n h = grind (arith, nat_tests)
-
 same_refl : (k : NodeKind) (n : ℕ) → same_node (record { kind = k; number = n }) (record { kind = k; number = n }) ≡ true
 same_refl Repository n = grind (arith, nat_tests)
 same_refl Broker n = grind (arith, nat_tests)
@@ -37,17 +35,12 @@ same_kind Broker Broker h = refl
 same_kind Repository Broker h = absurd (let never : ⊥ = cc h in never)
 same_kind Broker Repository h = absurd (let never : ⊥ = cc h in never)
 
-both : (a b : Bool) → (a && b) ≡ true → (a ≡ true) × (b ≡ true)
-both true true h = (refl, refl)
-both true false h = absurd (let never : ⊥ = cc h in never)
-both false b h = absurd (let never : ⊥ = cc h in never)
-
 -- nodes with the same name are the same
 pub same_is : (a b : NodeId) → same_node a b ≡ true → a ≡ b
 same_is a b is =
-    let h = both (kind_number a.kind == kind_number b.kind) (a.number == b.number) is in
+    let h = and_parts (kind_number a.kind == kind_number b.kind) (a.number == b.number) is in
     let k = same_kind a.kind b.kind h.0 in
-    let n : a.number ≡ b.number = number_is a.number b.number h.1 in
+    let n : a.number ≡ b.number = eqb-true a.number b.number h.1 in
     λ i. record { kind = k i; number = n i }
 
 pub same_node-refl : (a : NodeId) → same_node a a ≡ true

@@ -1,8 +1,9 @@
 -- The copies of a flight stay copies of messages that were sent to their nodes.
 use Rattle.std.proofs.Common.{◌≡◌, ℕ, zero, suc, ◌+◌, ◌-◌, ◌==◌, Bool, true, false, cond, List, [], ◌∷◌, ◌++◌, length, take, drop, map, replicate, refl, ap, ◌∙◌, subst, arith}
 use Rattle.std.specs.Prelude.{Option, Some, None, slice_get, if◌then◌else◌}
-use Rattle.std.specs.Option.{option_map, unwrap_or}
+use Rattle.std.specs.Option.{option_map}
 use Rattle.std.specs.List.{filter, list_any}
+use Rattle.std.proofs.lemmas.Option.{same_Some}
 use Rattle.pseudo_time.specs.declared.nodes.NodeId.{NodeId}
 use Rattle.stream_port.specs.declared.fates.Fate.{Fate}
 use Rattle.stream_port.specs.Fates.{copies_of}
@@ -175,9 +176,6 @@ sound_start nodes = record {
 
 -- ---- the front of a queue
 
-some_is : (a b : ℕ) → ◌≡◌ {A = Option ℕ} (Some a) (Some b) → a ≡ b
-some_is a b is = ap (λ (o : Option ℕ). unwrap_or o a) is
-
 pub front_went : (ls : List Letter) (node : NodeId) (queue : List ℕ) (k : ℕ) → AllWentTo ls node queue → slice_get queue 0 ≡ Some k → WentTo ls node k
 front_went ls node [] k went is = absurd (let never : ⊥ = cc is in never)
-front_went ls node (n ∷ queue) k went is = subst (WentTo ls node) (some_is n k is) went.0
+front_went ls node (n ∷ queue) k went is = subst (WentTo ls node) (same_Some n k is) went.0

@@ -6,6 +6,7 @@ use Rattle.std.specs.List.{filter, list_any}
 use Rattle.std.proofs.lemmas.Bool.Decides.{nat_tests}
 use Rattle.std.proofs.lemmas.List.{length-append}
 use Rattle.std.proofs.lemmas.Option.{slice_get_past}
+use Rattle.std.proofs.lemmas.Bool.{leb-true, le-leb}
 use Rattle.pseudo_time.specs.declared.nodes.NodeId.{NodeId}
 use Rattle.stream_port.specs.declared.fates.Fate.{Fate}
 use Rattle.stream_port.specs.Fates.{copies_of}
@@ -427,19 +428,13 @@ ripe-parts true true n h = (refl, refl, refl)
 ripe-parts true false n h = absurd (let never : ⊥ = omega (arith, h) in never)
 ripe-parts false b n h = absurd (let never : ⊥ = omega (arith, h) in never)
 
-le-true : (m n : ℕ) → nat_le m n ≡ true → m ≤ n
-le-true m n h = grind (arith, nat_tests)
-
-true-le : (m n : ℕ) → m ≤ n → nat_le m n ≡ true
-true-le m n h = grind (arith, nat_tests)
-
 module _ (s : State) (l : Tally) (t : Tallied s l) (n : NodeId) where
   -- what came to the node was sent to it, and its hold has passed
   came-due : (k : ℕ) (o : Option Posted) → numbered l.sendings k ≡ o → 1 ≤ came n s.ticks o → (x : Posted) × IsDue s l n k x × (came n s.ticks o ≡ copies_of x.fate) × (took n (count k l.taken) o ≡ count k l.taken)
   came-due k None is some = absurd (let never : ⊥ = omega (arith, some) in never)
   came-due k (Some x) is some =
       let p = ripe-parts (same_node x.to n) (nat_le (x.ticks + x.fate.hold) s.ticks) (copies_of x.fate) some in
-      (x, record { there = is; to = same_is x.to n p.0; ripe = le-true (x.ticks + x.fate.hold) s.ticks p.1 }, p.2, ap (λ b. cond b (count k l.taken) 0) p.0)
+      (x, record { there = is; to = same_is x.to n p.0; ripe = leb-true (x.ticks + x.fate.hold) s.ticks p.1 }, p.2, ap (λ b. cond b (count k l.taken) 0) p.0)
 
   front-one : (k : ℕ) (rest : List ℕ) → count k (k ∷ rest) ≡ 1 + count k rest
   front-one k rest = ap (λ b. cond b 1 0 + count k rest) (let e : (k == k) ≡ true = grind (arith, nat_tests) in e)
@@ -464,6 +459,6 @@ module _ (s : State) (l : Tally) (t : Tallied s l) (n : NodeId) where
       let here : same_node x.to n ≡ true = ap (λ z. same_node z n) is.to ∙ same_node-refl n in
       let both : came n s.ticks (numbered l.sendings k) ≡ copies_of x.fate =
       ap (came n s.ticks) is.there ∙ ap (λ b. cond (b && nat_le (x.ticks + x.fate.hold) s.ticks) (copies_of x.fate) 0) here
-      ∙ ap (λ b. cond b (copies_of x.fate) 0) (true-le (x.ticks + x.fate.hold) s.ticks is.ripe) in
+      ∙ ap (λ b. cond b (copies_of x.fate) 0) (le-leb (x.ticks + x.fate.hold) s.ticks is.ripe) in
       let own : took n (count k l.taken) (numbered l.sendings k) ≡ count k l.taken = ap (took n (count k l.taken)) is.there ∙ ap (λ b. cond b (count k l.taken) 0) here in
       omega (arith, d, both, own)

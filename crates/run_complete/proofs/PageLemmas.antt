@@ -7,6 +7,7 @@ use Rattle.std.proofs.lemmas.Bool.{eq-eqb}
 use Rattle.std.proofs.lemmas.Bool.Decides.{nat_tests}
 use Rattle.std.proofs.lemmas.List.{length-map, length-take-le}
 use Rattle.std.proofs.lemmas.List.Sums.{sum_by-cons}
+use Rattle.std.proofs.lemmas.Option.{same_Some}
 use Rattle.pseudo_time.specs.Lists.{Every}
 use Rattle.field_form.specs.Forms.{◌>>=◌}
 use Rattle.field_form.specs.Numbers.{byte_at, number_at, between, front_at}
@@ -22,12 +23,8 @@ use Rattle.version_store.specs.Entries.{Log, effects_of, back_in, same_back}
 use Rattle.version_store.specs.Filling.{StaysClean}
 use Rattle.version_store.specs.Storage.{Content, Reading, Going, Ended, Damaged, admitted, begun, content_of, effects_found, entries, finish, going_or_damaged, log_at, log_with, next, place_before, scan, storage, texts_of}
 use Rattle.broker_core.proofs.SoundLemmas.{and-both}
-
-some-same : {A : Type 0} {x y : A} → ◌≡◌ {A = Option A} (Some x) (Some y) → x ≡ y
-some-same e = cc
-
-ok-same : {A : Type 0} {x y : A} → ◌≡◌ {A = Result A ℕ} (Ok x) (Ok y) → x ≡ y
-ok-same e = cc
+use Rattle.value_form.proofs.ValueLaws.{ok_is}
+use Rattle.page_gate.proofs.TornPages.{blank_state}
 
 -- ---- the effects of a page
 
@@ -36,11 +33,11 @@ admitted-more log place (Err at) more h = absurd cc
 admitted-more log place (Ok found) more h = go (same_back found.0.1 (back_in log found.0.0)) h
   where
     go : (t : Bool) → (if t then Some (log ++ record { effect = found.0.0; place = place; back = found.0.1 } ∷ [], found.1) else None) ≡ Some more → length more.0 ≡ length log + 1
-    go true e = ap (λ (p : Log × List ℕ). length p.0) (sym (some-same e)) ∙ length-append log (record { effect = found.0.0; place = place; back = found.0.1 } ∷ [])
+    go true e = ap (λ (p : Log × List ℕ). length p.0) (sym (same_Some _ _ e)) ∙ length-append log (record { effect = found.0.0; place = place; back = found.0.1 } ∷ [])
     go false e = absurd cc
 
 log-more : (n : ℕ) (log : Log) (page end : ℕ) (bytes : List ℕ) (more : Log) → log_at n log page end bytes ≡ Some more → length log ≤ length more
-log-more n log page end [] more h = let e : length log ≡ length more = ap (λ (l : Log). length l) (some-same h) in omega (arith, e)
+log-more n log page end [] more h = let e : length log ≡ length more = ap (λ (l : Log). length l) (same_Some _ _ h) in omega (arith, e)
 log-more zero log page end (b ∷ bytes) more h = absurd cc
 log-more (suc n) log page end (b ∷ bytes) more h = go (λ l rest k. log-more n l page end rest more k) (admitted log (place_before page end (length (b ∷ bytes))) (effect_at (b ∷ bytes))) refl h
   where
@@ -67,7 +64,7 @@ between-least least most r s h = let f = bind_some r _ s h in by f.0 (nat_lt f.0
   where
     above : (x : ℕ × List ℕ) → nat_lt x.0 least ≡ false → (u : Bool) → (if u then None else Some x) ≡ Some s → least ≤ s.0
     above x e true k = absurd cc
-    above x e false k = let z : x ≡ s = some-same k in subst (λ (y : ℕ × List ℕ). least ≤ y.0) z (grind (arith, nat_tests))
+    above x e false k = let z : x ≡ s = same_Some _ _ k in subst (λ (y : ℕ × List ℕ). least ≤ y.0) z (grind (arith, nat_tests))
 
     by : (x : ℕ × List ℕ) (t : Bool) → nat_lt x.0 least ≡ t → (if t || nat_lt most x.0 then None else Some x) ≡ Some s → least ≤ s.0
     by x true e k = absurd cc
@@ -80,7 +77,7 @@ front-long count bytes f h = go (nat_lt (length bytes) count) refl h
     go true e k = absurd cc
     go false e k =
         let enough : count ≤ length bytes = grind (arith, nat_tests) in
-        ap (λ (p : List ℕ × List ℕ). length p.0) (sym (some-same k)) ∙ length-take-le count bytes enough
+        ap (λ (p : List ℕ × List ℕ). length p.0) (sym (same_Some _ _ k)) ∙ length-take-le count bytes enough
 
 texts-some : (body texts : List ℕ) → texts_of body ≡ Some texts → 1 ≤ length texts
 unfolding texts_of
@@ -113,15 +110,12 @@ fails page n pages log h = let z : finish (Damaged page) ≡ Ok log = sym (ap fi
 blank-more : (p : List ℕ) (pages : Image) → count_by is_blank (p ∷ pages) ≡ cond (is_blank p) 1 0 + count_by is_blank pages
 blank-more p pages = sum_by-cons (λ (q : List ℕ). cond (is_blank q) 1 0) p pages
 
-state-blank : (p : List ℕ) → is_blank p ≡ true → state_of p ≡ Blank
-state-blank p e = ap (λ (t : Bool). if t then Blank else if slice_index p 0 == 165 then Gated (drop 1 p) else Spoiled) e
-
 state-else : (p : List ℕ) → is_blank p ≡ false → state_of p ≡ (if slice_index p 0 == 165 then Gated (drop 1 p) else Spoiled)
 state-else p e = ap (λ (t : Bool). if t then Blank else if slice_index p 0 == 165 then Gated (drop 1 p) else Spoiled) e
 
 -- behind a blank page all are blank
 ended : (n : ℕ) (c : Content) (pages : Image) (log : Log) → finish (scan (Ended c) n pages) ≡ Ok log → (length pages ≤ count_by is_blank pages) × (c.log ≡ log)
-ended n c [] log h = (omega arith, ok-same h)
+ended n c [] log h = (omega arith, ok_is _ _ h)
 ended n c (p ∷ pages) log h = by (λ k. ended (n + 1) c pages log k) (is_blank p) refl
   where
     now : PageState → Type 0
@@ -129,7 +123,7 @@ ended n c (p ∷ pages) log h = by (λ k. ended (n + 1) c pages log k) (is_blank
 
     by : (finish (scan (Ended c) (n + 1) pages) ≡ Ok log → (length pages ≤ count_by is_blank pages) × (c.log ≡ log)) → (t : Bool) → is_blank p ≡ t → (length (p ∷ pages) ≤ count_by is_blank (p ∷ pages)) × (c.log ≡ log)
     by behind true e =
-        let rest = behind (subst now (state-blank p e) h) in
+        let rest = behind (subst now (blank_state p e) h) in
         let few = rest.0 in
         let one = blank-more p pages ∙ ap (λ (t : Bool). cond t 1 0 + count_by is_blank pages) e in
         (omega (arith, few, one), rest.1)
@@ -143,7 +137,7 @@ abbrev pub IsClean : List ℕ → Type 0
 IsClean page = state_of page ≢ Spoiled
 
 going : (n : ℕ) (c : Content) (pages : Image) (log : Log) → Every IsClean pages → finish (scan (Going c) n pages) ≡ Ok log → length pages + length c.log ≤ count_by is_blank pages + length log
-going n c [] log clean h = let e : length c.log ≡ length log = ap (λ (l : Log). length l) (ok-same h) in omega (arith, e)
+going n c [] log clean h = let e : length c.log ≡ length log = ap (λ (l : Log). length l) (ok_is _ _ h) in omega (arith, e)
 going n c (p ∷ pages) log clean h = by (λ more k. going (n + 1) (content_of more) pages log clean.1 k) (is_blank p) refl
   where
     now : PageState → Type 0
@@ -151,7 +145,7 @@ going n c (p ∷ pages) log clean h = by (λ more k. going (n + 1) (content_of m
 
     by : ((more : Log) → finish (scan (Going (content_of more)) (n + 1) pages) ≡ Ok log → length pages + length more ≤ count_by is_blank pages + length log) → (t : Bool) → is_blank p ≡ t → length (p ∷ pages) + length c.log ≤ count_by is_blank (p ∷ pages) + length log
     by next-page true e =
-        let rest = ended (n + 1) c pages log (subst now (state-blank p e) h) in
+        let rest = ended (n + 1) c pages log (subst now (blank_state p e) h) in
         let few = rest.0 in
         let same : length c.log ≡ length log = ap (λ (l : Log). length l) rest.1 in
         let one = blank-more p pages ∙ ap (λ (t : Bool). cond t 1 0 + count_by is_blank pages) e in
@@ -180,7 +174,7 @@ few-pages image log clean h = go (entries image) refl h
     go (Err page) e k = absurd cc
     go (Ok l) e k =
         let most = going 0 (content_of []) image l clean e in
-        let size : length (effects_of l) ≡ length log = ap (λ (es : List Effect). length es) (ok-same k) in
+        let size : length (effects_of l) ≡ length log = ap (λ (es : List Effect). length es) (ok_is _ _ k) in
         let same : length (effects_of l) ≡ length l = length-map l _ in
         omega (arith, most, size, same)
 
@@ -192,13 +186,13 @@ blank-all (b ∷ page) h = and-both (eq-eqb b 0 (h 0)) (blank-all page (λ at. h
 
 ended-blank : (n : ℕ) (c : Content) (pages : Image) → ((page at : ℕ) → slice_index_or (page_of pages page) at 0 ≡ 0) → scan (Ended c) n pages ≡ Ended c
 ended-blank n c [] h = refl
-ended-blank n c (p ∷ pages) h = ap (λ (s : PageState). scan (next (Ended c) n s) (n + 1) pages) (state-blank p (blank-all p (h 0))) ∙ ended-blank (n + 1) c pages (λ page at. h (suc page) at)
+ended-blank n c (p ∷ pages) h = ap (λ (s : PageState). scan (next (Ended c) n s) (n + 1) pages) (blank_state p (blank-all p (h 0))) ∙ ended-blank (n + 1) c pages (λ page at. h (suc page) at)
 
 -- a blank image has an empty log
 pub blank-none : (image : Image) → IsBlankImage image → storage image ≡ Ok []
 blank-none [] h = refl
 blank-none (p ∷ image) h =
-    ap (λ (r : Reading). effects_found (finish r)) (ap (λ (s : PageState). scan (next begun 0 s) 1 image) (state-blank p (blank-all p (h 0))) ∙ ended-blank 1 (content_of []) image (λ page at. h (suc page) at))
+    ap (λ (r : Reading). effects_found (finish r)) (ap (λ (s : PageState). scan (next begun 0 s) 1 image) (blank_state p (blank-all p (h 0))) ∙ ended-blank 1 (content_of []) image (λ page at. h (suc page) at))
 
 clean-each : (image : Image) → ((page : ℕ) → IsClean (page_of image page)) → Every IsClean image
 clean-each [] h = tt

@@ -1,8 +1,7 @@
 -- A smooth run is complete.
-use Rattle.std.proofs.Common.{◌≡◌, ◌⊎◌, ◌+◌, ◌*◌, ◌≤◌, ◌<◌, ◌∙◌, ◌++◌, ◌&&◌, ◌==◌, nat_le, ℕ, zero, suc, Bool, true, false, IsTrue, List, [], ◌∷◌, Option, Some, None, Ok, Err, is_some, length, map, reverse, slice_get, cond, inl, inr, refl, ap, sym, subst, arith, if◌then◌else◌}
+use Rattle.std.proofs.Common.{◌≡◌, ◌⊎◌, ◌+◌, ◌≤◌, ◌∙◌, ◌++◌, ◌&&◌, ◌==◌, ℕ, zero, suc, Bool, true, false, IsTrue, List, [], ◌∷◌, Option, Some, None, is_some, length, reverse, slice_get, cond, inl, inr, refl, ap, sym, subst, arith, if◌then◌else◌, ◌*◌, ◌<◌, Ok, Err, map}
 use Rattle.std.specs.List.{AllZip, count_by, list_any}
 use Rattle.std.proofs.lemmas.Bool.{eqb-true}
-use Rattle.std.proofs.lemmas.Bool.Decides.{nat_tests}
 use Rattle.std.proofs.lemmas.List.{append-nil, length-append, length-map, length-reverse}
 use Rattle.std.proofs.lemmas.List.Elements.{filter-append}
 use Rattle.pseudo_time.specs.Lists.{Every, Has}
@@ -29,12 +28,12 @@ use Rattle.broker_core.specs.Owed.{all_over, done}
 use Rattle.broker_core.specs.Readings.{reading}
 use Rattle.broker_core.specs.Stages.{stage, standing}
 use Rattle.broker_core.specs.declared.heards.Heard.{Heard}
-use Rattle.broker_core.proofs.SoundLemmas.{and-left, and-right}
+use Rattle.broker_core.proofs.SoundLemmas.{and-left}
 use Rattle.world_core.specs.declared.entries.Entry.{Entry}
-use Rattle.world_core.specs.declared.entries.Entry.TheVariants.{Take, Go, Learn, Hear, Gate, Crash, Down, Tick}
+use Rattle.world_core.specs.declared.entries.Entry.TheVariants.{Take, Crash, Down, Tick}
 use Rattle.world_core.specs.declared.traces.Trace.{Trace}
 use Rattle.world_core.specs.Walks.{Base, Life, all_effects, is_down, names, opened_log, own, sent_by, start_world, walk}
-use Rattle.world_core.specs.Legal.{Meets, base_of, fates_of, in_plan, is_within, post_of}
+use Rattle.world_core.specs.Legal.{Meets, base_of, fates_of, in_plan, post_of}
 use Rattle.world_core.specs.Pasts.{WasNotOpened}
 use Rattle.world_core.specs.Readings.{IsLegal, gated_log, life_after}
 use Rattle.report_writer.specs.declared.records.TryOutcome.{TryOutcome}
@@ -64,34 +63,24 @@ use Rattle.run_complete.specs.Smooth.{IsComplete, IsSmoothRun, WasRefused}
 use Rattle.run_complete.proofs.DownLemmas.{life-down}
 use Rattle.run_complete.proofs.PageLemmas.{blank-none, clean-over, few-pages}
 use Rattle.run_complete.proofs.StandingLemmas.{all-finished, all-tries}
-
-some-same : {A : Type 0} {x y : A} → ◌≡◌ {A = Option A} (Some x) (Some y) → x ≡ y
-some-same e = cc
+use Rattle.world_facts.proofs.Ranges.{in-range, within}
 
 -- ---- quiet entries
 
 -- no node is down
 pub none-down : (es : List Entry) → Every IsQuiet es → some_down es ≡ false
 none-down [] h = refl
-none-down (Take node number ∷ es) h = none-down es h.1
-none-down (Go node ∷ es) h = none-down es h.1
-none-down (Learn node stamp committed ∷ es) h = none-down es h.1
-none-down (Hear node ∷ es) h = none-down es h.1
-none-down (Gate node ∷ es) h = none-down es h.1
 none-down (Crash node kept ∷ es) h = absurd h.0
 none-down (Down node cause ∷ es) h = absurd h.0
 none-down (Tick moment ∷ es) h = absurd h.0
+none-down (e ∷ es) h = none-down es h.1
 
 no-cause : (n : NodeId) (es : List Entry) → Every IsQuiet es → down_cause n es ≡ None
 no-cause n [] h = refl
-no-cause n (Take node number ∷ es) h = no-cause n es h.1
-no-cause n (Go node ∷ es) h = no-cause n es h.1
-no-cause n (Learn node stamp committed ∷ es) h = no-cause n es h.1
-no-cause n (Hear node ∷ es) h = no-cause n es h.1
-no-cause n (Gate node ∷ es) h = no-cause n es h.1
 no-cause n (Crash node kept ∷ es) h = absurd h.0
 no-cause n (Down node cause ∷ es) h = absurd h.0
 no-cause n (Tick moment ∷ es) h = absurd h.0
+no-cause n (e ∷ es) h = no-cause n es h.1
 
 -- ---- costs
 
@@ -105,19 +94,6 @@ costs-one n front e rest is =
     omega (arith, c, d)
 
 -- ---- brokers that are done
-
-to-within : (most i : ℕ) → InRange most i → is_within i most ≡ true
-to-within most i h = both (nat_le 1 i) (nat_le i most) (let low = h.0 in grind (arith, nat_tests)) (let high = h.1 in grind (arith, nat_tests))
-  where
-    both : (x y : Bool) → x ≡ true → y ≡ true → (x && y) ≡ true
-    both true y a b = b
-    both false y a b = absurd cc
-
-from-within : (most i : ℕ) → is_within i most ≡ true → InRange most i
-from-within most i h =
-    let low = and-left (nat_le 1 i) (nat_le i most) h in
-    let high = and-right (nat_le 1 i) (nat_le i most) h in
-    (grind (arith, nat_tests), grind (arith, nat_tests))
 
 begun-by : (plan : Plan) (b : ℕ) (k : Book) (heard : Heard) → done (reading plan.acts) plan.run (tasks_of plan b) k heard ≡ true → AllBegun plan b k
 begun-by plan b k heard h = by (k.run == plan.run) refl (and-left (if k.run == plan.run then (length k.acts == length (tasks_of plan b)) && all_over k.acts else length (tasks_of plan b) == 0) _ h)
@@ -285,11 +261,6 @@ module _ {M : Type 0} (w : Media M) (told : IsTrue w.tells) (most_ticks enough m
       by (inr h) = absurd (no-unopened h)
 
   may-stop : (front : List Entry) (e : Entry) (rest : List Entry) (is : AtEntry front e rest) (quiet : Every IsQuiet front) → MayStop (most_effects run most) (place front e rest is quiet) e
-  may-stop front (Take node number) rest is quiet = tt
-  may-stop front (Go node) rest is quiet = tt
-  may-stop front (Learn node stamp committed) rest is quiet = tt
-  may-stop front (Hear node) rest is quiet = tt
-  may-stop front (Gate node) rest is quiet = tt
   may-stop front (Crash node kept) rest is quiet = dear front (Crash node kept) rest node is (same_node-refl node) (omega arith)
   may-stop front (Down node down.Medium) rest is quiet = dear front (Down node down.Medium) rest node is (same_node-refl node) (omega arith)
   may-stop front (Down node (down.Damaged page)) rest is quiet =
@@ -298,8 +269,9 @@ module _ {M : Type 0} (w : Media M) (told : IsTrue w.tells) (most_ticks enough m
   may-stop front (Down node (down.Full pages)) rest is quiet = absurd (unfilled front node pages rest is quiet)
   may-stop front (Tick moment) rest is quiet = λ all.
       let late = has-ended.wanted front moment rest is in
-      let z : true ≡ false = sym (all late.0 (from-within plan.brokers late.0 late.1)) ∙ late.2 in
+      let z : true ≡ false = sym (all late.0 (in-range late.0 plan.brokers late.1)) ∙ late.2 in
       cc z
+  may-stop front e rest is quiet = tt
 
   -- no Tick, Crash or Down stands
   whole-quiet : Every IsQuiet t.entries
@@ -310,15 +282,7 @@ module _ {M : Type 0} (w : Media M) (told : IsTrue w.tells) (most_ticks enough m
         where
           move : (x : Entry) → MayStop (most_effects run most) (place front e more (here ∙ ap (λ (es : List Entry). front ++ es) next) quiet) x → MayStop (most_effects run most) (record { run = run; front = front; rest = rest; here = here; quiet = quiet }) x
           move (Take node number) h = h
-          move (Go node) h = h
-          move (Learn node stamp committed) h = h
-          move (Hear node) h = h
-          move (Gate node) h = h
-          move (Crash node kept) h = h
-          move (Down node down.Medium) h = h
-          move (Down node (down.Damaged page)) h = h
-          move (Down node (down.Full pages)) h = h
-          move (Tick moment) h = h
+          move e h = h
 
       Stops : CalmRun → Type 0
       Stops r = (front rest : List Entry) (here : r.trace.entries ≡ front ++ rest) (quiet : Every IsQuiet front) (e : Entry) (more : List Entry) → rest ≡ e ∷ more → MayStop (most_effects run most) (record { run = r; front = front; rest = rest; here = here; quiet = quiet }) e
@@ -336,7 +300,7 @@ module _ {M : Type 0} (w : Media M) (told : IsTrue w.tells) (most_ticks enough m
     where
       by : (some_down t.entries ≡ true) ⊎ (ends.AllDone plan t ⊎ ((enough ≤ length t.sent) ⊎ ends.HasRunOut most_ticks plan t)) → AllDone end
       by (inl d) = absurd (let z : true ≡ false = sym d ∙ none-down t.entries whole-quiet in cc z)
-      by (inr (inl d)) = λ b within. d b (to-within plan.brokers b within)
+      by (inr (inl d)) = λ b inside. d b (within b plan.brokers inside)
       by (inr (inr (inl many))) = absurd (
           let few = few-messages end most smooth.asks in
           let bound = smooth.few in
@@ -346,9 +310,9 @@ module _ {M : Type 0} (w : Media M) (told : IsTrue w.tells) (most_ticks enough m
 
   -- nothing is open
   all-durable : (b : ℕ) → InRange plan.brokers b → book_at end b ≡ counted_by plan b (gated_log plan t (broker b))
-  all-durable b within =
+  all-durable b inside =
       let n = broker b in
-      let is : in_plan plan n ≡ true = to-within plan.brokers b within in
+      let is : in_plan plan n ≡ true = within b plan.brokers inside in
       let o = ran.logs.opened n is (all-opened n is) in
       let fresh = (o.3 told).up (no-cause n t.entries whole-quiet) in
       ap (λ (es : List Effect). book (keep (reading plan.acts) b plan.run (tasks_of plan b) (reverse ((life_after plan t n).gated ++ es)))) fresh

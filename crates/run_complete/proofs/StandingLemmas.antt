@@ -1,10 +1,10 @@
 -- Where its broker has begun all acts, and each has an outcome, an act is shown with its outcome.
-use Rattle.std.proofs.Common.{◌≡◌, ◌⊎◌, ◌+◌, ◌-◌, ◌≤◌, ◌<◌, ◌∙◌, ◌++◌, ◌&&◌, ◌==◌, nat_lt, nat_le, ℕ, zero, suc, Bool, true, false, List, [], ◌∷◌, Option, Some, None, length, map, reverse, slice_get, inl, inr, refl, ap, sym, subst, arith, if◌then◌else◌}
+use Rattle.std.proofs.Common.{◌≡◌, ◌+◌, ◌-◌, ◌≤◌, ◌<◌, ◌∙◌, ◌++◌, ◌==◌, nat_lt, ℕ, zero, suc, Bool, true, false, List, [], ◌∷◌, Option, Some, None, length, map, reverse, slice_get, inl, inr, refl, ap, sym, subst, arith, if◌then◌else◌, ◌&&◌, nat_le}
 use Rattle.std.specs.Prelude.{cond, filter}
 use Rattle.std.proofs.lemmas.Bool.{eq-eqb, eqb-true}
 use Rattle.std.proofs.lemmas.Bool.Decides.{nat_tests}
-use Rattle.std.proofs.lemmas.List.{length-append, length-map, length-reverse, map-append, reverse-append}
-use Rattle.std.proofs.lemmas.Option.{slice_get_within}
+use Rattle.std.proofs.lemmas.List.{length-append, length-map, length-reverse, map-append, reverse-append, reverse-reverse}
+use Rattle.std.proofs.lemmas.Option.{slice_get_within, same_Some}
 use Rattle.pseudo_time.specs.Lists.{Every, Has}
 use Rattle.pseudo_time.specs.Nodes.{broker}
 use Rattle.pseudo_time.specs.declared.nodes.NodeId.{NodeId}
@@ -29,77 +29,40 @@ use Rattle.report_writer.specs.declared.records.Standing.{Standing}
 use Rattle.report_writer.specs.declared.records.Standing.TheVariants as standing
 use Rattle.report_writer.specs.Standings.{count_of, last_outcome, outcome_in, same, standing_after, standing_of, standing_where}
 use Rattle.trace_report.specs.Acts.{act_begun, act_shown, act_with, acts_in, acts_shown, begun_acts, counted_by, shown_end, tasks_of, tries_shown, try_shown}
-use Rattle.repository_waits.proofs.HeldLemmas.{filter-has}
 use Rattle.complete_law.specs.Calm.{HasOutcome, IsOver}
-use Rattle.complete_law.proofs.GateEntries.{has-filter, has-map}
 use Rattle.run_complete.specs.Finished.{AllBegun}
 use Rattle.run_complete.specs.Smooth.{IsFinal, IsFinished}
-
-some-same : {A : Type 0} {x y : A} → ◌≡◌ {A = Option A} (Some x) (Some y) → x ≡ y
-some-same e = cc
+use Rattle.world_facts.proofs.Growths.{has-at, map-has, filter-has, has-filter, has-map}
+use Rattle.pseudo_time.proofs.ListLemmas.{every-has, has-reverse}
 
 -- ---- lists and places
 
-at-place : {A : Type 0} (xs : List A) (x : A) → Has x xs → (i : ℕ) × (slice_get xs i ≡ Some x)
-at-place [] x h = absurd h
-at-place (y ∷ xs) x (inl e) = (0, ap (λ z. Some z) e)
-at-place (y ∷ xs) x (inr h) = let k = at-place xs x h in (suc k.0, k.1)
-
 has-place : {A : Type 0} (xs : List A) (i : ℕ) (x : A) → slice_get xs i ≡ Some x → Has x xs
 has-place [] i x h = absurd cc
-has-place (y ∷ xs) zero x h = inl (some-same h)
+has-place (y ∷ xs) zero x h = inl (same_Some _ _ h)
 has-place (y ∷ xs) (suc i) x h = inr (has-place xs i x h)
-
-every-by : {A : Type 0} (P : A → Type 0) (xs : List A) → ((x : A) → Has x xs → P x) → Every P xs
-every-by P [] h = tt
-every-by P (x ∷ xs) h = (h x (inl refl), every-by P xs (λ y k. h y (inr k)))
-
-has-every : {A : Type 0} (P : A → Type 0) (xs : List A) (x : A) → Every P xs → Has x xs → P x
-has-every P [] x h k = absurd k
-has-every P (y ∷ xs) x h (inl e) = subst P e h.0
-has-every P (y ∷ xs) x h (inr k) = has-every P xs x h.1 k
-
-has-mapped : {A B : Type 0} (f : A → B) (xs : List A) (y : B) → Has y (map f xs) → (x : A) × Has x xs × (f x ≡ y)
-has-mapped f [] y h = absurd h
-has-mapped f (x ∷ xs) y (inl e) = (x, inl refl, e)
-has-mapped f (x ∷ xs) y (inr h) = let k = has-mapped f xs y h in (k.0, inr k.1, k.2)
 
 -- ---- lists the other way round
 
-split : {A : Type 0} (xs ys : List A) (x : A) → Has x (xs ++ ys) → Has x xs ⊎ Has x ys
-split [] ys x h = inr h
-split (z ∷ xs) ys x (inl e) = inl (inl e)
-split (z ∷ xs) ys x (inr h) = join (split xs ys x h)
-  where
-    join : Has x xs ⊎ Has x ys → Has x (z ∷ xs) ⊎ Has x ys
-    join (inl k) = inl (inr k)
-    join (inr k) = inr k
-
 unreversed : {A : Type 0} (xs : List A) (x : A) → Has x (reverse xs) → Has x xs
-unreversed [] x h = h
-unreversed (y ∷ xs) x h = by (λ k. unreversed xs x k) (split (reverse xs) (y ∷ []) x (subst (Has x) (reverse-append (y ∷ []) xs) h))
-  where
-    by : (Has x (reverse xs) → Has x xs) → Has x (reverse xs) ⊎ Has x (y ∷ []) → Has x (y ∷ xs)
-    by front (inl k) = inr (front k)
-    by front (inr (inl e)) = inl e
-    by front (inr (inr e)) = absurd e
+unreversed xs x h = subst (Has x) (reverse-reverse xs) (has-reverse (reverse xs) x h)
 
 -- ---- acts of a plan
 
 -- an act stands where its index says
 index-at : (repositories brokers n : ℕ) (acts : List ActSpec) (i : ℕ) (a : ActSpec) → EachAct repositories brokers n acts → slice_get acts i ≡ Some a → a.index ≡ n + i
 index-at repositories brokers n [] i a each h = absurd cc
-index-at repositories brokers n (x ∷ acts) zero a each h = let e : x.index ≡ a.index = ap (λ (y : ActSpec). y.index) (some-same h) in let k = each.0.index in omega (arith, e, k)
+index-at repositories brokers n (x ∷ acts) zero a each h = let e : x.index ≡ a.index = ap (λ (y : ActSpec). y.index) (same_Some _ _ h) in let k = each.0.index in omega (arith, e, k)
 index-at repositories brokers n (x ∷ acts) (suc i) a each h = let k = index-at repositories brokers (n + 1) acts i a each.1 h in omega (arith, k)
 
 one-index : (plan : Plan) → IsOfLanguage plan → (a b : ActSpec) → Has a plan.acts → Has b plan.acts → a.index ≡ b.index → a ≡ b
 one-index plan lang a b h k e =
-    let i = at-place plan.acts a h in
-    let j = at-place plan.acts b k in
+    let i = has-at plan.acts a h in
+    let j = has-at plan.acts b k in
     let x = index-at plan.repositories plan.brokers 1 plan.acts i.0 a lang.acts i.1 in
     let y = index-at plan.repositories plan.brokers 1 plan.acts j.0 b lang.acts j.1 in
     let z : i.0 ≡ j.0 = omega (arith, x, y, e) in
-    some-same (sym i.1 ∙ (ap (slice_get plan.acts) z ∙ j.1))
+    same_Some _ _ (sym i.1 ∙ (ap (slice_get plan.acts) z ∙ j.1))
 
 -- ---- acts that were begun
 
@@ -119,7 +82,7 @@ task-begun ts (x ∷ acts) i t s lt h = by (λ below. task-begun ts acts i t s.0
     by before false e =
         let high : length acts ≤ i = grind (arith, nat_tests) in
         let z : length acts ≡ i = omega (arith, high, lt) in
-        (x, inl refl, some-same (sym s.1 ∙ (ap (slice_get ts) z ∙ h)))
+        (x, inl refl, same_Some _ _ (sym s.1 ∙ (ap (slice_get ts) z ∙ h)))
 
 -- the first act with an index is there
 first-begun : (i : ℕ) (acts : List Act) (a : Act) → Has a acts → a.task.index ≡ i → (b : Act) × (act_begun i acts ≡ Some b) × Has b acts × (b.task.index ≡ i)
@@ -171,13 +134,11 @@ module _ (script : List ℕ → Tree) (a : ActSpec) (begun : Act) (allowed : beg
       by false e = refl
 
   final-after : (o : Outcome) → IsOver begun o → IsFinal (standing_after is_last (shown_end (Some o)))
-  final-after ended.Committed over = tt
-  final-after (ended.Withdrawn l) over = tt
-  final-after (ended.Failed l k) over = tt
   final-after (ended.LaterRead o e) over = subst (λ (t : Bool). IsFinal (if t then standing.Refused else standing.Open)) (sym (last-one over)) tt
   final-after (ended.LaterVersion o x) over = subst (λ (t : Bool). IsFinal (if t then standing.Refused else standing.Open)) (sym (last-one over)) tt
   final-after (ended.Expired d m) over = absurd over
   final-after (ended.Spent c) over = absurd over
+  final-after o over = tt
 
   finished-as : HasOutcome begun → IsFinished (act_with script a (Some begun))
   finished-as h = by begun.spent refl
@@ -230,11 +191,11 @@ module _ (plan : Plan) (lang : IsOfLanguage plan) (logs : NodeId → List Effect
       by (inr (run, count)) =
           let acts = (book_of b).acts in
           let started = (sound-kept (reading plan.acts) b plan.run ts (reverse (logs (broker b)))).started run in
-          let i = at-place ts (task_of a) there in
+          let i = has-at ts (task_of a) there in
           let within = slice_get_within ts i.0 (task_of a) i.1 in
           let k = task-begun ts acts i.0 (task_of a) started (omega (arith, within, count)) i.1 in
           let f = first-begun a.index acts k.0 k.1 (ap (λ (t : Task). t.index) k.2) in
-          let m = has-mapped task_of (acts_of b plan.acts) f.0.task (begun-task ts acts f.0 started f.2) in
+          let m = map-has task_of (acts_of b plan.acts) f.0.task (begun-task ts acts f.0 started f.2) in
           let one = one-index plan lang m.0 a (filter-has (λ (x : ActSpec). x.broker == b) plan.acts m.0 m.1) h (ap (λ (t : Task). t.index) m.2 ∙ f.3) in (
             f.0,
             record {
@@ -252,7 +213,7 @@ module _ (plan : Plan) (lang : IsOfLanguage plan) (logs : NodeId → List Effect
     all-finished = every-mapped IsFinished (act_shown plan logs) plan.acts (λ a h.
         let d = done a.broker (within a h) in
         let k = begun-as a h d.0 in
-        subst (λ (o : Option Act). IsFinished (act_with (reading plan.acts) a o)) (sym k.1.found) (finished-as (reading plan.acts) a k.0 k.1.tries (has-every HasOutcome (book_of a.broker).acts k.0 d.1 k.1.here)))
+        subst (λ (o : Option Act). IsFinished (act_with (reading plan.acts) a o)) (sym k.1.found) (finished-as (reading plan.acts) a k.0 k.1.tries (every-has HasOutcome (book_of a.broker).acts k.0 d.1 k.1.here)))
 
     -- what holds of each attempt of each act that was begun holds of each that is shown
     pub all-tries : (P : TryOutcome → Type 0) → ((b : ℕ) → InRange plan.brokers b → Every (λ (act : Act). Every (λ (t : Try). P (shown_end t.end)) act.tries) (book_of b).acts)
@@ -260,7 +221,7 @@ module _ (plan : Plan) (lang : IsOfLanguage plan) (logs : NodeId → List Effect
     all-tries P each = every-mapped _ (act_shown plan logs) plan.acts (λ a h.
         let k = begun-as a h (done a.broker (within a h)).0 in
         subst (λ (o : Option Act). Every (λ (t : TryReport). P t.outcome) (tries_shown (reading plan.acts) o)) (sym k.1.found)
-        (every-mapped (λ (t : TryReport). P t.outcome) (try_shown (reading plan.acts)) (reverse k.0.tries) (λ t is. has-every (λ (u : Try). P (shown_end u.end)) k.0.tries t (has-every (λ (act : Act). Every (λ (u : Try). P (shown_end u.end)) act.tries) (book_of a.broker).acts k.0 (each a.broker (within a h)) k.1.here) (unreversed k.0.tries t is))))
+        (every-mapped (λ (t : TryReport). P t.outcome) (try_shown (reading plan.acts)) (reverse k.0.tries) (λ t is. every-has (λ (u : Try). P (shown_end u.end)) k.0.tries t (every-has (λ (act : Act). Every (λ (u : Try). P (shown_end u.end)) act.tries) (book_of a.broker).acts k.0 (each a.broker (within a h)) k.1.here) (unreversed k.0.tries t is))))
 
 -- where all are finished none is open
 pub none-open : (acts : List ActReport) → Every IsFinished acts → count_of standing.Open acts ≡ 0
@@ -271,10 +232,6 @@ none-open (a ∷ acts) h = by (none-open acts h.1) (standing_of a) refl h.0
     skip rest e = ap (λ (t : Bool). length (cond t (a ∷ filter (λ (x : ActReport). same standing.Open (standing_of x)) acts) (filter (λ (x : ActReport). same standing.Open (standing_of x)) acts))) e ∙ rest
 
     by : count_of standing.Open acts ≡ 0 → (s : Standing) → standing_of a ≡ s → IsFinal s → count_of standing.Open (a ∷ acts) ≡ 0
-    by rest standing.Committed e f = skip rest (ap (same standing.Open) e)
-    by rest standing.Withdrawn e f = skip rest (ap (same standing.Open) e)
-    by rest standing.Failed e f = skip rest (ap (same standing.Open) e)
-    by rest standing.Refused e f = skip rest (ap (same standing.Open) e)
-    by rest standing.Spent e f = skip rest (ap (same standing.Open) e)
     by rest standing.Expired e f = absurd f
     by rest standing.Open e f = absurd f
+    by rest x e f = skip rest (ap (same standing.Open) e)

@@ -1,7 +1,7 @@
 -- Runs that agree in the logs of their repositories and in their tries are serial together.
 use Rattle.std.proofs.Common.{◌≡◌, ℕ, zero, suc, ◌≤◌, Bool, true, false, ◌&&◌, ◌||◌, nat_le, map, List, [], ◌∷◌, refl, sym, ◌∙◌, ap, subst, if◌then◌else◌, arith}
-use Rattle.std.proofs.lemmas.Grind.{common_steps}
 use Rattle.std.specs.FinMap as finite
+use Rattle.std.proofs.lemmas.Bool.{le-leb}
 use Rattle.pseudo_time.specs.StampParts.{StampParts}
 use Rattle.pseudo_time.specs.Order.{stamp_lt}
 use Rattle.pseudo_time.specs.Nodes.{repository}
@@ -22,9 +22,6 @@ use Rattle.broker_laws.proofs.TestLemmas.{and-both}
 abbrev run_with : ℕ → (NodeId → List Effect) → List Try → RunLogs
 run_with n logs tries = record { repositories = n; logs = logs; tries = tries }
 
-pub le-to : (a b : ℕ) → a ≤ b → nat_le a b ≡ true
-le-to a b h = grind (arith, common_steps)
-
 module _ (most : ℕ) (f g : NodeId → List Effect) (tries : List Try) (same : (r : ℕ) → (nat_le 1 r && nat_le r most) ≡ true → f (repository r) ≡ g (repository r)) where
   abbrev k : RunLogs
   k = run_with most f tries
@@ -33,7 +30,7 @@ module _ (most : ℕ) (f g : NodeId → List Effect) (tries : List Try) (same : 
   k' = run_with most g tries
 
   here : (r : ℕ) → suc r ≤ most → f (repository (suc r)) ≡ g (repository (suc r))
-  here r le = same (suc r) (and-both (le-to 1 (suc r) (omega arith)) (le-to (suc r) most le))
+  here r le = same (suc r) (and-both (le-leb 1 (suc r) (omega arith)) (le-leb (suc r) most le))
 
   -- ---- committed stamps
 

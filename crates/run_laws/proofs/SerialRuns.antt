@@ -1,11 +1,9 @@
 -- What the top call promises of serial runs, from the law of serial runs.
-use Rattle.std.proofs.Common.{◌≡◌, ◌⊎◌, inl, inr, ℕ, zero, suc, ◌≤◌, ◌==◌, nat_le, Bool, true, false, ◌&&◌, List, [], ◌∷◌, ◌++◌, append-nil, length, map, refl, sym, ◌∙◌, ap, subst, Option, Some, None, if◌then◌else◌, arith}
-use Rattle.std.proofs.lemmas.Bool.{eqb-true}
+use Rattle.std.proofs.Common.{◌≡◌, ◌⊎◌, inl, inr, ℕ, zero, suc, ◌≤◌, ◌==◌, nat_le, Bool, true, false, ◌&&◌, List, [], ◌∷◌, ◌++◌, append-nil, length, map, refl, sym, ◌∙◌, ap, subst, if◌then◌else◌, arith}
+use Rattle.std.proofs.lemmas.Bool.{eqb-true, le-leb}
 use Rattle.std.specs.Prelude.{reverse}
 use Rattle.pseudo_time.specs.Lists.{Every}
 use Rattle.pseudo_time.specs.declared.nodes.NodeId.{NodeId}
-use Rattle.pseudo_time.specs.declared.nodes.NodeKind.{NodeKind}
-use Rattle.pseudo_time.specs.declared.nodes.NodeKind.TheVariants.{Repository, Broker}
 use Rattle.value_form.specs.declared.acts.ActSpec.{ActSpec}
 use Rattle.value_form.specs.Mirror.{Block}
 use Rattle.effect_form.specs.declared.effects.Effect.{Effect}
@@ -19,11 +17,9 @@ use Rattle.broker_core.specs.Tasks.{Task, tasks, Scripted}
 use Rattle.broker_core.specs.Book as books
 use Rattle.broker_core.specs.Book.{Book, Act, tries_of}
 use Rattle.broker_core.specs.Sound.{Started, OfAct}
-use Rattle.world_core.specs.declared.entries.Entry.{Entry}
-use Rattle.world_core.specs.declared.entries.Entry.TheVariants.{Take, Go, Learn, Hear, Gate, Crash, Down, Tick}
 use Rattle.world_core.specs.declared.traces.Trace.{Trace}
 use Rattle.world_core.specs.Nodes.{acts_of}
-use Rattle.world_core.specs.Walks.{Base, World, Flags, names, flagged, went, learned, has_heard, step, walk_from, start_world}
+use Rattle.world_core.specs.Walks.{World, step, start_world}
 use Rattle.world_core.specs.Legal.{base_of, in_plan}
 use Rattle.world_core.specs.Deeds.{RunLogs, Try, attempt, book_tries, finals, run_tries}
 use Rattle.pseudo_time.specs.Nodes.{broker, repository}
@@ -51,40 +47,8 @@ use Rattle.broker_core.proofs.SoundLemmas.{sound-kept}
 use Rattle.broker_core.proofs.SameTurns.{book-same}
 use Rattle.world_core.proofs.SameWorlds.{Agree, agree-of, walk-same}
 use Rattle.world_core.proofs.OneReading.{common-reading, own-reading}
-use Rattle.run_laws.proofs.SameRuns.{finals-hold, le-to, serial-same}
-
--- ---- which nodes a walk knows
-
-went-known : (k : NodeKind) (f : Flags) → (went k f).known ≡ f.known
-went-known Repository f = refl
-went-known Broker f = refl
-
-learned-known : (k : NodeKind) (f : Flags) → (learned k f).known ≡ f.known
-learned-known Repository f = refl
-learned-known Broker f = refl
-
-heard-known : (o : Option ℕ) (f : Flags) → (has_heard o f).known ≡ f.known
-heard-known None f = refl
-heard-known (Some m) f = refl
-
-flagged-known : (o : Option ℕ) (k : NodeKind) (f : Flags) (e : Entry) → (flagged o k f e).known ≡ f.known
-flagged-known o k f (Take n i) = refl
-flagged-known o k f (Go n) = went-known k f
-flagged-known o k f (Learn n s c) = learned-known k f
-flagged-known o k f (Hear n) = heard-known o f
-flagged-known o k f (Gate n) = refl
-flagged-known o k f (Crash n i) = refl
-flagged-known o k f (Down n c) = refl
-flagged-known o k f (Tick m) = refl
-
-either-known : (b : Bool) (f g : Flags) → f.known ≡ g.known → (if b then f else g).known ≡ g.known
-either-known true f g e = e
-either-known false f g e = refl
-
-known-from : (b : Base) (w : World) (es : List Entry) (n : NodeId) → ((walk_from b w es).flags n).known ≡ (w.flags n).known
-unfolding walk_from
-known-from b w [] n = refl
-known-from b w (e ∷ es) n = known-from b (step b w e) es n ∙ either-known (names n e && (w.flags n).known) (flagged w.last n.kind (w.flags n) e) (w.flags n) (flagged-known w.last n.kind (w.flags n) e)
+use Rattle.run_laws.proofs.SameRuns.{finals-hold, serial-same}
+use Rattle.world_facts.proofs.Steps.{walk-known}
 
 -- ---- attempts by two readings
 
@@ -146,7 +110,7 @@ placed plan asked t w l logs left agrees =
     let own = own-reading plan w in
     let p : Position = record { script = r.0; plan = plan; asked = asked; trace = t; logs = logs; front = t.entries; rest = []; here = sym (append-nil t.entries); whole = w; past = (left.0, r.1, r.2); agrees = agrees; legal = r.3 } in
     let known : (n : NodeId) → in_plan plan n ≡ true → ((world_at p).flags n).known ≡ true =
-    λ n i. known-from (base_of r.0 plan t) (start_world (base_of r.0 plan t)) t.entries n ∙ l.nodes.just n ∙ i in
+    λ n i. walk-known (base_of r.0 plan t) (start_world (base_of r.0 plan t)) t.entries n ∙ l.nodes.just n ∙ i in
     let there : (n : NodeId) → in_plan plan n ≡ true → log_at p n ≡ reverse (gated_log plan t n) =
     λ n i. ap reverse (known-log ((world_at p).flags n).known _ _ (known n i) ∙ ap (λ (v : World). (v.life n).gated) (walk-same r.0 (reading plan.acts) plan r.3.scripted own t t.entries)) in
     record {
@@ -154,7 +118,7 @@ placed plan asked t w l logs left agrees =
       repositories = refl;
       logs = λ r i. there (repository r) i;
       tries = all-same r.0 (reading plan.acts) plan.run plan.acts r.3.scripted own (log_at p) (λ n. reverse (gated_log plan t n)) plan.brokers
-          (λ b low high. there (broker b) (and-both (le-to 1 b low) (le-to b plan.brokers high)));
+          (λ b low high. there (broker b) (and-both (le-leb 1 b low) (le-leb b plan.brokers high)));
       answered = λ x o v step. λ (a : AnsweredBefore p x o v step). by-run x o v step r.0 r.3.scripted own r.1 a;
       ticked = λ m h. h;
     }

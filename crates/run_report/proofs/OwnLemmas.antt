@@ -1,5 +1,5 @@
 -- The acts that a broker has begun are its own acts of the plan, and their texts are read as those acts' scripts.
-use Rattle.std.proofs.Common.{◌≡◌, inl, inr, ℕ, zero, suc, ◌+◌, ◌==◌, Bool, true, false, List, [], ◌∷◌, length, refl, sym, ◌∙◌, ap, subst, Option, Some, None, if◌then◌else◌, cond, arith}
+use Rattle.std.proofs.Common.{◌≡◌, inl, inr, ℕ, zero, suc, ◌+◌, ◌==◌, Bool, true, false, List, [], ◌∷◌, length, refl, sym, ◌∙◌, ap, Option, Some, None, if◌then◌else◌, cond, arith}
 use Rattle.std.specs.List.{slice_get, filter}
 use Rattle.std.proofs.lemmas.Bool.{eqb-true}
 use Rattle.pseudo_time.specs.declared.nodes.NodeId.{NodeId}
@@ -26,6 +26,7 @@ use Rattle.world_core.proofs.OneReading.{own-reading}
 use Rattle.trace_report.specs.Acts.{begun_acts, counted_by, tasks_of}
 use Rattle.trace_report.specs.Books.{begun_to}
 use Rattle.run_report.specs.Carried.{numbered, tree_at, tree_in}
+use Rattle.broker_core.proofs.ShapeLemmas.{every-get}
 
 -- ---- places
 
@@ -120,11 +121,6 @@ module _ (plan : Plan) (w : IsOfLanguage plan) (logs : NodeId → List Effect) w
 pub plan-scripts : (plan : Plan) → IsOfLanguage plan → Every (λ (a : ActSpec). IsScript a.script.lines) plan.acts
 plan-scripts plan w = of-whole (λ (a : ActSpec). IsScript a.script.lines) plan w (λ k a low high is. printable-range plan.repositories (block a.script.lines) is.script)
 
-get-every : (P : ActSpec → Type 0) (acts : List ActSpec) (p : ℕ) (a : ActSpec) → Every P acts → slice_get acts p ≡ Some a → P a
-get-every P [] p a h is = absurd (let e : ◌≡◌ {A = Option ActSpec} None (Some a) = is in cc)
-get-every P (x ∷ acts) zero a h is = let e : Some x ≡ Some a = is in let s : x ≡ a = cc in subst P s h.0
-get-every P (x ∷ acts) (suc p) a h is = get-every P acts p a h.1 is
-
 pub numbered-every : (P : ActSpec → Type 0) (acts : List ActSpec) (i : ℕ) (a : ActSpec) → Every P acts → numbered acts i ≡ Some a → P a
 numbered-every P acts zero a h is = absurd (let e : ◌≡◌ {A = Option ActSpec} None (Some a) = is in cc)
-numbered-every P acts (suc p) a h is = get-every P acts p a h is
+numbered-every P acts (suc p) a h is = every-get P acts p a h is

@@ -4,7 +4,7 @@ use Rattle.std.specs.Option.{option_map}
 use Rattle.std.specs.Ordering.{nat_cmp}
 use Rattle.std.specs.Map.{lookup}
 use Rattle.std.specs.BTreeMap.{is_at}
-use Rattle.std.proofs.lemmas.Bool.{eqb-true, true≢false}
+use Rattle.std.proofs.lemmas.Bool.{eqb-true, true≢false, eq-eqb}
 use Rattle.std.proofs.lemmas.Bool.Decides.{nat_tests}
 use Rattle.std.proofs.lemmas.List.{reverse-append, reverse-reverse, map-append}
 use Rattle.pseudo_time.specs.declared.nodes.NodeId.{NodeId}
@@ -82,11 +82,8 @@ none-if : (c : Bool) (a : Act) (o : Option Act) → (c ≡ true → ⊥) → o �
 none-if true a o h e = absurd (h refl)
 none-if false a o h e = e
 
-itself : (n : ℕ) → (n == n) ≡ true
-itself n = grind (arith, nat_tests)
-
 differs : (m b : ℕ) → (m == b) ≡ false → m ≡ b → ⊥
-differs m b e s = true≢false (sym (ap (λ k. k == b) s ∙ itself b) ∙ e)
+differs m b e s = true≢false (sym (ap (λ k. k == b) s ∙ eq-eqb b b refl) ∙ e)
 
 below : (n b : ℕ) → (suc n == b) ≡ false → b ≤ suc n → b ≤ n
 below n b e le = grind (arith, nat_tests)

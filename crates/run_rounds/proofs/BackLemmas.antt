@@ -1,9 +1,10 @@
 -- Media that are handed back where no run began, and the broker whose log refuses a plan.
-use Rattle.std.proofs.Common.{◌≡◌, ◌≢◌, ◌≤◌, ◌<◌, ◌+◌, ◌-◌, ◌⊎◌, inl, inr, nat_lt, ℕ, zero, suc, Bool, true, false, IsTrue, List, [], ◌∷◌, ◌++◌, length, map, Option, Some, None, Ok, Err, Result, is_none, slice_get, refl, ap, sym, subst, ◌∙◌, arith, if◌then◌else◌}
+use Rattle.std.proofs.Common.{◌≡◌, ◌<◌, ◌+◌, ◌-◌, inl, nat_lt, ℕ, zero, suc, Bool, true, false, IsTrue, List, [], ◌∷◌, ◌++◌, length, map, Option, Some, None, Ok, Err, Result, is_none, slice_get, refl, ap, sym, subst, ◌∙◌, arith, if◌then◌else◌, ◌≢◌, ◌⊎◌, inr}
 use Rattle.std.specs.Prelude.{All}
 use Rattle.std.specs.List.{AllZip}
 use Rattle.std.proofs.lemmas.List.Elements.{All-cons, All-nil}
 use Rattle.std.proofs.lemmas.Bool.Decides.{nat_tests}
+use Rattle.std.proofs.lemmas.Option.{same_Some}
 use Rattle.pseudo_time.specs.declared.nodes.NodeId.{NodeId}
 use Rattle.pseudo_time.specs.declared.nodes.NodeKind.{NodeKind}
 use Rattle.pseudo_time.specs.declared.nodes.NodeKind.TheVariants.{Repository, Broker}
@@ -28,6 +29,8 @@ use Rattle.run_media.proofs.OrderLemmas.{place-at, at-place, in-at}
 use Rattle.run_rounds.specs.Media.{Became, medium_at, inner}
 use Rattle.run_rounds.specs.Finishes.{IsKeptWhole}
 use Rattle.run_rounds.specs.Runs.{Shows, IsFirstFault}
+use Rattle.world_facts.proofs.Ranges.{in-range}
+use Rattle.run_starts.proofs.AlongLemmas.{zip-back}
 
 zip-mapped : {A B C : Type 0} (P : A → B → Type 0) (Q : A → C → Type 0) (f : B → C) → ((x : A) (y : B) → P x y → Q x (f y)) → (xs : List A) (ys : List B) → AllZip P xs ys → AllZip Q xs (map f ys)
 zip-mapped P Q f k [] [] h = tt
@@ -108,20 +111,6 @@ module _ {M : Type 0} {g : _} (w : Media M) where
 ok-same : {x y : List Effect} (r : Result (List Effect) ℕ) → r ≡ Ok x → r ≡ Ok y → x ≡ y
 ok-same r p q = cc
 
-low : (b most : ℕ) → is_within b most ≡ true → 1 ≤ b
-low zero most e = absurd cc
-low (suc b) most e = omega arith
-
-pair-at : {A B : Type 0} (P : A → B → Type 0) (xs : List A) (ys : List B) (i : ℕ) (y : B) → AllZip P xs ys → slice_get ys i ≡ Some y → (x : A) × (slice_get xs i ≡ Some x) × P x y
-pair-at P [] [] i y h e = absurd cc
-pair-at P [] (b ∷ ys) i y h e = absurd h
-pair-at P (a ∷ xs) [] i y h e = absurd h
-pair-at P (a ∷ xs) (b ∷ ys) zero y h e = (a, refl, subst (λ z. P a z) (some-is e) h.0)
-  where
-    some-is : {T : Type 0} {x y : T} → Some x ≡ Some y → x ≡ y
-    some-is e = cc
-pair-at P (a ∷ xs) (b ∷ ys) (suc i) y h e = pair-at P xs ys i y h.1 e
-
 -- a node that may go on shows no fault
 ready-fault : (plan : Plan) (n : NodeId) (log : List Effect) → IsReadyFor plan n log → fault_in plan n log ≡ None
 unfolding is_ready
@@ -150,10 +139,7 @@ module _ {M : Type 0} {g : _} where
   ready-at plan k [] i o h e = absurd cc
   ready-at plan k (x ∷ os) zero o h e =
       let n : k ≡ k + 0 = omega arith in
-      subst (λ (z : Opening M g). IsReadyFor plan (node_at plan (k + 0)) (log_in z) × (IsWanting z → ⊥)) (some-is e) (subst (λ (j : ℕ). IsReadyFor plan (node_at plan j) (log_in x) × (IsWanting x → ⊥)) n h.0)
-    where
-      some-is : {T : Type 0} {x y : T} → Some x ≡ Some y → x ≡ y
-      some-is e = cc
+      subst (λ (z : Opening M g). IsReadyFor plan (node_at plan (k + 0)) (log_in z) × (IsWanting z → ⊥)) (same_Some _ _ e) (subst (λ (j : ℕ). IsReadyFor plan (node_at plan j) (log_in x) × (IsWanting x → ⊥)) n h.0)
   ready-at plan k (x ∷ os) (suc i) o h e =
       let n : suc k + i ≡ k + suc i = omega arith in
       subst (λ (j : ℕ). IsReadyFor plan (node_at plan j) (log_in o) × (IsWanting o → ⊥)) n (ready-at plan (suc k) os i o h.1 e)
@@ -183,10 +169,7 @@ module _ {M : Type 0} {g : _} (w : Media M) (plan : Plan) (media : List (Option 
       let z : Some other ≡ None = sym shows ∙ (ap (fault_in plan n) e ∙ ready-fault plan n effects.items ready) in
       absurd cc
   failed-open n old new (Shut None cause) log other t h m ready wanting held shows = absurd h
-  failed-open n old new (Shut (Some x) down.Medium) log other t h m ready wanting held shows = subst (λ y. Rose (w.faults old) (w.faults y)) (some-is m) h.1
-    where
-      some-is : {T : Type 0} {x y : T} → Some x ≡ Some y → x ≡ y
-      some-is e = cc
+  failed-open n old new (Shut (Some x) down.Medium) log other t h m ready wanting held shows = subst (λ y. Rose (w.faults old) (w.faults y)) (same_Some _ _ m) h.1
   failed-open n old new (Shut (Some x) (down.Damaged page)) log other t h m ready wanting held shows =
       let z : Ok log ≡ Err page = sym held ∙ h.1 t in absurd cc
   failed-open n old new (Shut (Some x) (down.Full pages)) log other t h m ready wanting held shows = absurd h.1
@@ -221,32 +204,26 @@ module _ {M : Type 0} {g : _} (w : Media M) (plan : Plan) (media : List (Option 
     where
       shown : IsTrue w.tells → Shows w plan media (map medium_in os) at-broker.0 fault
       shown t =
-          let p = pair-at (HasOpened w) media os (length r.front) r.one opened here in
+          let p = zip-back (HasOpened w) media os (length r.front) r.one opened here in
           let m = held-open p.0 r.one p.2 r.refused.0 t in
           (m.0, ap (λ i. inner (slice_get media i)) place-is ∙ (ap inner p.1 ∙ m.1), log_in r.one, m.2, ap (λ n. fault_in plan n (log_in r.one)) (sym at-broker.1) ∙ r.refused.1)
 
       mapped : (f : Opening M g → Option M) (xs : List (Opening M g)) (i : ℕ) (x : Opening M g) → slice_get xs i ≡ Some x → slice_get (map f xs) i ≡ Some (f x)
       mapped f [] i x e = absurd cc
-      mapped f (y ∷ xs) zero x e = ap (λ z. Some (f z)) (some-is e)
-        where
-          some-is : {T : Type 0} {x y : T} → Some x ≡ Some y → x ≡ y
-          some-is e = cc
+      mapped f (y ∷ xs) zero x e = ap (λ z. Some (f z)) (same_Some _ _ e)
       mapped f (y ∷ xs) (suc i) x e = mapped f xs i x e
 
       early : IsTrue w.tells → (b : ℕ) (other : ResumeFault) → is_within b plan.brokers ≡ true → b < at-broker.0 → Shows w plan media (map medium_in os) b other → (old new : M) → Became plan media (map medium_in os) (broker b) old new → Rose (w.faults old) (w.faults new)
       early t b other i lt s old new became =
           let p = at-place plan (broker b) i in
-          let before : place_of plan (broker b) < length r.front = (let e = place-is in let some = low b plan.brokers i in omega (arith, e, lt, some)) in
+          let before : place_of plan (broker b) < length r.front = (let e = place-is in let some = (in-range b plan.brokers i).0 in omega (arith, e, lt, some)) in
           let o = front-at r.front r.back r.one (place_of plan (broker b)) before in
           let there : slice_get os (place_of plan (broker b)) ≡ Some o.0 = ap (λ l. slice_get l (place_of plan (broker b))) r.is ∙ o.2 in
-          let h = pair-at (HasOpened w) media os (place_of plan (broker b)) o.0 opened there in
+          let h = zip-back (HasOpened w) media os (place_of plan (broker b)) o.0 opened there in
           let ready = ready-at plan 0 r.front (place_of plan (broker b)) o.0 r.before o.1 in
           let n : 0 + place_of plan (broker b) ≡ place_of plan (broker b) = omega arith in
           let name : node_at plan (0 + place_of plan (broker b)) ≡ broker b = ap (node_at plan) n ∙ p.1 in
           let is-old : h.0 ≡ Some old = sym (ap inner h.1) ∙ became.0 in
           let is-new : medium_in o.0 ≡ Some new = sym (ap inner (mapped medium_in os (place_of plan (broker b)) o.0 there)) ∙ became.1 in
-          let same : old ≡ s.0 = some-is (sym became.0 ∙ s.1) in
+          let same : old ≡ s.0 = same_Some _ _ (sym became.0 ∙ s.1) in
           failed-open (broker b) old new o.0 s.2 other t (subst (λ x. HasOpened w x o.0) is-old h.2) is-new (subst (λ m. IsReadyFor plan m (log_in o.0)) name ready.0) ready.1 (subst (λ m. storage (w.reads m) ≡ Ok s.2) (sym same) s.3) s.4
-        where
-          some-is : {T : Type 0} {x y : T} → Some x ≡ Some y → x ≡ y
-          some-is e = cc

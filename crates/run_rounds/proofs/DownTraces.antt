@@ -1,8 +1,8 @@
 -- Entries that are just the Downs of nodes that can't be opened.
 use Rattle.std.proofs.Common.{◌≡◌, ◌≤◌, ◌+◌, ◌-◌, ◌==◌, ◌&&◌, ◌⊎◌, inl, inr, ◌∙◌, ◌++◌, ℕ, zero, suc, Bool, true, false, List, [], ◌∷◌, cond, eq-eqb, length, map, Option, Some, None, All, slice_get, refl, ap, sym, subst, arith, if◌then◌else◌}
-use Rattle.std.specs.Prelude.{filter}
 use Rattle.std.specs.Option.{unwrap_or}
 use Rattle.std.proofs.lemmas.Bool.Decides.{nat_tests}
+use Rattle.std.proofs.lemmas.Option.{same_Some}
 use Rattle.pseudo_time.specs.Lists.{Every, Has}
 use Rattle.pseudo_time.specs.Nodes.{same_node}
 use Rattle.pseudo_time.specs.declared.nodes.NodeId.{NodeId}
@@ -13,7 +13,7 @@ use Rattle.seat_lock.specs.Rule.{IsOneOf, total, same}
 use Rattle.seat_lock.specs.Story.{entries_of}
 use Rattle.seat_lock.specs.Words.{CarriesOn, knows}
 use Rattle.world_core.specs.declared.entries.Entry.{Entry}
-use Rattle.world_core.specs.declared.entries.Entry.TheVariants.{Take, Go, Learn, Hear, Gate, Crash, Down, Tick}
+use Rattle.world_core.specs.declared.entries.Entry.TheVariants.{Down}
 use Rattle.world_core.specs.Walks.{Base, Life, World, is_down, lives_on, names, opened_life, opened_log, own, start_world, step, walk, walk_from}
 use Rattle.wire_core.specs.Wires.{WireParts}
 use Rattle.wire_core.specs.Boards.{owner_for, owner_of}
@@ -26,39 +26,14 @@ use Rattle.run_media.specs.Places.{node_at}
 use Rattle.run_starts.specs.Seats.{Along}
 use Rattle.run_starts.specs.Starts.{HasFallen, downs_of}
 use Rattle.run_rounds.specs.Closings.{Pass}
+use Rattle.pseudo_time.proofs.ListLemmas.{every-has}
+use Rattle.world_facts.proofs.Growths.{every-of, has-filter, filter-has}
 
 -- ---- lists
-
-every-has : {A : Type 0} (P : A → Type 0) (xs : List A) (x : A) → Every P xs → Has x xs → P x
-every-has P [] x h i = absurd i
-every-has P (y ∷ xs) x h (inl e) = subst P e h.0
-every-has P (y ∷ xs) x h (inr r) = every-has P xs x h.1 r
-
-every-made : {A : Type 0} (P : A → Type 0) (xs : List A) → ((x : A) → Has x xs → P x) → Every P xs
-every-made P [] f = tt
-every-made P (x ∷ xs) f = (f x (inl refl), every-made P xs (λ y h. f y (inr h)))
 
 all-every : {A : Type 0} (P : A → Type 0) (xs : List A) → All P xs → Every P xs
 all-every P [] h = tt
 all-every P (x ∷ xs) h = (h 0 x (omega arith), all-every P xs (λ k d lt. h (suc k) d (omega (arith, lt))))
-
-has-filter : {A : Type 0} (test : A → Bool) (xs : List A) (x : A) → Has x xs → test x ≡ true → Has x (filter test xs)
-has-filter test [] x h e = h
-has-filter test (y ∷ xs) x (inl i) e = subst (λ (t : Bool). Has x (cond t (y ∷ filter test xs) (filter test xs))) (sym (ap test i ∙ e)) (inl i)
-has-filter test (y ∷ xs) x (inr r) e = go (test y) (has-filter test xs x r e)
-  where
-    go : (t : Bool) → Has x (filter test xs) → Has x (cond t (y ∷ filter test xs) (filter test xs))
-    go true h = inr h
-    go false h = h
-
-filter-has : {A : Type 0} (test : A → Bool) (xs : List A) (x : A) → Has x (filter test xs) → Has x xs
-filter-has test [] x h = h
-filter-has test (y ∷ xs) x h = go (filter-has test xs x) (test y) h
-  where
-    go : (Has x (filter test xs) → Has x xs) → (t : Bool) → Has x (cond t (y ∷ filter test xs) (filter test xs)) → Has x (y ∷ xs)
-    go rest true (inl e) = inl e
-    go rest true (inr r) = inr (rest r)
-    go rest false r = inr (rest r)
 
 -- what holds of each of these numbers holds of one of them
 one-of : (P : ℕ → Type 0) (owners : List ℕ) (o : ℕ) → IsOneOf owners o → Every P owners → P o
@@ -71,15 +46,12 @@ one-of P (x ∷ xs) o h all = go (λ more. one-of P xs o more all.1) (o == x) re
 
 -- what holds of the entries of each owner holds of all entries
 pub each-entry : (P : Entry → Type 0) (owners : List ℕ) (es : List Entry) → Every (λ o. Every P (entries_of owner_of o es)) owners → All (λ e. IsOneOf owners (owner_of e)) es → Every P es
-each-entry P owners es by among = every-made P es one
+each-entry P owners es by among = every-of P es one
   where
     one : (e : Entry) → Has e es → P e
     one e h =
         let o = every-has (λ x. IsOneOf owners (owner_of x)) es e (all-every (λ x. IsOneOf owners (owner_of x)) es among) h in
         every-has P (entries_of owner_of (owner_of e) es) e (one-of (λ x. Every P (entries_of owner_of x es)) owners (owner_of e) o by) (has-filter (λ x. owner_of x == owner_of e) es e h (eq-eqb (owner_of e) (owner_of e) refl))
-
-some-same : {T : Type 0} {x y : T} → Some x ≡ Some y → x ≡ y
-some-same e = cc
 
 down-node : {a b : NodeId} {x y : DownCause} → Down a x ≡ Down b y → a ≡ b
 down-node e = cc
@@ -90,18 +62,12 @@ down-cause e = cc
 -- ---- lives
 
 still-one : (b : Base) (w : World) (n : NodeId) (e : Entry) → is_down e ≡ true → (step b w e).life n ≡ w.life n
-still-one b w n (Take node number) h = absurd (cc h)
-still-one b w n (Go node) h = absurd (cc h)
-still-one b w n (Learn node stamp committed) h = absurd (cc h)
-still-one b w n (Hear node) h = absurd (cc h)
-still-one b w n (Gate node) h = absurd (cc h)
-still-one b w n (Crash node kept) h = absurd (cc h)
 still-one b w n (Down node cause) h = go (same_node node n && (w.flags n).known)
   where
     go : (t : Bool) → (if t then w.life n else w.life n) ≡ w.life n
     go true = refl
     go false = refl
-still-one b w n (Tick moment) h = absurd (cc h)
+still-one b w n e h = absurd (cc h)
 
 still-from : (b : Base) (w : World) (n : NodeId) (es : List Entry) → Every (λ e. is_down e ≡ true) es → (walk_from b w es).life n ≡ w.life n
 unfolding walk_from
@@ -160,7 +126,7 @@ module _ {M : Type 0} {g : _} (plan : Plan) (whole : List (Opening M g)) where
       let own : entries_of owner_of (owner_for (node_at plan k)) es ≡ downs_of (node_at plan k) x = subst (λ (q : ℕ). entries_of owner_of q es ≡ downs_of (node_at plan k) x) h.0.owner (car.own ∙ h.0.own) in
       let z : k ≡ k + 0 = omega arith in
       subst (λ (j : ℕ). entries_of owner_of (owner_for (node_at plan j)) es ≡ downs_of (node_at plan j) o) z
-      (subst (λ (y : Opening M g). entries_of owner_of (owner_for (node_at plan k)) es ≡ downs_of (node_at plan k) y) (some-same e) own)
+      (subst (λ (y : Opening M g). entries_of owner_of (owner_for (node_at plan k)) es ≡ downs_of (node_at plan k) y) (same_Some _ _ e) own)
   own-along w es k (x ∷ os) (p ∷ ps) h c (suc i) o e =
       let z : suc k + i ≡ k + suc i = omega arith in
       subst (λ (j : ℕ). entries_of owner_of (owner_for (node_at plan j)) es ≡ downs_of (node_at plan j) o) z (own-along w es (suc k) os ps h.1 (λ j d lt. c (suc j) d (omega (arith, lt))) i o e)
@@ -185,7 +151,7 @@ module _ {M : Type 0} {g : _} (plan : Plan) (whole : List (Opening M g)) where
       go : (down_cause n es ≡ Some c → Has (Down n c) es) → (t : Bool) → same_node (node_at plan f.0.place) n ≡ t → (if same_node (node_at plan f.0.place) n then Some f.0.cause else down_cause n es) ≡ Some c
           → Has (Down n c) (x ∷ es)
       go rest true s e =
-          let same : f.0.cause ≡ c = some-same (sym (ap (λ (b : Bool). if b then Some f.0.cause else down_cause n es) s) ∙ e) in
+          let same : f.0.cause ≡ c = same_Some _ _ (sym (ap (λ (b : Bool). if b then Some f.0.cause else down_cause n es) s) ∙ e) in
           inl (f.0.is ∙ (ap (λ m. Down m f.0.cause) (same_is (node_at plan f.0.place) n s) ∙ ap (Down n) same))
       go rest false s e = inr (rest (sym (ap (λ (b : Bool). if b then Some f.0.cause else down_cause n es) s) ∙ e))
 
@@ -199,7 +165,7 @@ module _ {M : Type 0} {g : _} (plan : Plan) (whole : List (Opening M g)) where
 
   module _ (es : List Entry) (falls : Every IsFall es) where
     pub all-downs : Every (λ e. is_down e ≡ true) es
-    all-downs = every-made (λ e. is_down e ≡ true) es (λ e h. ap is_down (every-has IsFall es e falls h).is)
+    all-downs = every-of (λ e. is_down e ≡ true) es (λ e h. ap is_down (every-has IsFall es e falls h).is)
 
     -- a Down is that of a node in a place
     pub fall-of : (n : NodeId) (c : DownCause) → Has (Down n c) es → (i : ℕ) × (m : Option M) × (slice_get whole i ≡ Some (Shut m c)) × (node_at plan i ≡ n)

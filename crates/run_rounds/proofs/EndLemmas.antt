@@ -1,5 +1,5 @@
 -- What a node's own story says of the whole list of a run.
-use Rattle.std.proofs.Common.{◌≡◌, ◌≤◌, ◌+◌, ◌==◌, ◌∙◌, ◌&&◌, ◌++◌, nat_le, ℕ, zero, suc, Bool, true, false, List, [], ◌∷◌, cond, length, length-append, map, inl, refl, ap, sym, subst, arith, if◌then◌else◌}
+use Rattle.std.proofs.Common.{◌≡◌, ◌≤◌, ◌+◌, ◌==◌, ◌∙◌, ◌++◌, ℕ, Bool, true, false, List, [], ◌∷◌, cond, length, length-append, map, inl, refl, ap, sym, subst, arith, if◌then◌else◌}
 use Rattle.std.specs.List.{list_any}
 use Rattle.std.proofs.lemmas.Bool.Decides.{nat_tests}
 use Rattle.std.proofs.lemmas.List.{length-map}
@@ -31,7 +31,9 @@ use Rattle.node_turn.specs.Costs.{costs}
 use Rattle.broker_node.specs.Logs.{is_over}
 use Rattle.node_rounds.specs.Reasons.{is_done_at}
 use Rattle.node_rounds.proofs.WantedLemmas.{life-whole}
-use Rattle.run_rounds.proofs.ListLemmas.{any-has, has-filter}
+use Rattle.run_rounds.proofs.ListLemmas.{any-has}
+use Rattle.world_facts.proofs.Growths.{filter-has}
+use Rattle.world_facts.proofs.Ranges.{in-range}
 
 -- ---- flags
 
@@ -59,7 +61,7 @@ enough-whole k o t most at car sent few =
 -- a node's last entry, its Down, stands in the whole list
 pub down-in : (k : Sight) (es before : List Entry) (n : NodeId) (cause : DownCause) → CarriesOn owner_of k es → k.own ≡ before ++ Down n cause ∷ [] → Has (Down n cause) es
 down-in k es before n cause car last =
-    has-filter (λ e. owner_of e == k.owner) es (Down n cause) (subst (Has (Down n cause)) (sym (car.own ∙ last)) (has-right before (Down n cause ∷ []) (Down n cause) (inl refl)))
+    filter-has (λ e. owner_of e == k.owner) es (Down n cause) (subst (Has (Down n cause)) (sym (car.own ∙ last)) (has-right before (Down n cause ∷ []) (Down n cause) (inl refl)))
 
 -- a node whose last entry is its Down is down in the run
 pub down-whole : (k : Sight) (es before : List Entry) (n : NodeId) (cause : DownCause) → CarriesOn owner_of k es → k.own ≡ before ++ Down n cause ∷ [] → list_any is_down es ≡ true
@@ -106,26 +108,14 @@ costs-whole k n es is car = subst (λ (l : List Entry). costs (own n es) ≤ cos
 
 -- ---- names
 
-within-low : (i most : ℕ) → is_within i most ≡ true → 1 ≤ i
-within-low zero most e = absurd cc
-within-low (suc i) most e = omega arith
-
-within-high : (i most : ℕ) → is_within i most ≡ true → i ≤ most
-within-high i most e = go (nat_le 1 i) (nat_le i most) refl e
-  where
-    go : (x y : Bool) → nat_le i most ≡ y → (x && y) ≡ true → i ≤ most
-    go true true f e = grind (arith, nat_tests)
-    go true false f e = absurd cc
-    go false y f e = absurd cc
-
 abbrev node_id : NodeKind → ℕ → NodeId
 node_id k number = record { kind = k; number = number }
 
 module _ (plan : Plan) (few : plan.repositories ≤ 16) where
   one-kind : (j k : NodeKind) (a b : ℕ) → is_within a (most_of plan j) ≡ true → is_within b (most_of plan k) ≡ true → owner_with j a ≡ owner_with k b → node_id j a ≡ node_id k b
   one-kind Repository Repository a b g h e = ap (node_id Repository) e
-  one-kind Repository Broker a b g h e = let low = within-low b plan.brokers h in let high = within-high a plan.repositories g in absurd (omega (arith, e, low, high, few))
-  one-kind Broker Repository a b g h e = let low = within-low a plan.brokers g in let high = within-high b plan.repositories h in absurd (omega (arith, e, low, high, few))
+  one-kind Repository Broker a b g h e = let low = (in-range b plan.brokers h).0 in let high = (in-range a plan.repositories g).1 in absurd (omega (arith, e, low, high, few))
+  one-kind Broker Repository a b g h e = let low = (in-range a plan.brokers g).0 in let high = (in-range b plan.repositories h).1 in absurd (omega (arith, e, low, high, few))
   one-kind Broker Broker a b g h e = let same : a ≡ b = omega (arith, e) in ap (node_id Broker) same
 
   -- each owner is that of one node of the plan
@@ -133,7 +123,7 @@ module _ (plan : Plan) (few : plan.repositories ≤ 16) where
   owner-one m n g h e = one-kind m.kind n.kind m.number n.number g h e
 
   owner-low : (k : NodeKind) (a : ℕ) → is_within a (most_of plan k) ≡ true → 1 ≤ owner_with k a
-  owner-low Repository a h = within-low a plan.repositories h
+  owner-low Repository a h = (in-range a plan.repositories h).0
   owner-low Broker a h = omega arith
 
   module _ (n : NodeId) (is : in_plan plan n ≡ true) where

@@ -1,5 +1,7 @@
 -- Nodes that went down: what the entries alone say of them.
 use Rattle.std.proofs.Common.{◌≡◌, ◌⊎◌, ◌∙◌, ◌++◌, ◌&&◌, Bool, true, false, List, [], ◌∷◌, Option, Some, None, is_some, if◌then◌else◌, inl, inr, refl, ap, sym, subst}
+use Rattle.std.proofs.lemmas.Option.{same_Some}
+use Rattle.std.proofs.lemmas.Bool.{and_from}
 use Rattle.pseudo_time.specs.Lists.{Every, Has}
 use Rattle.pseudo_time.specs.declared.nodes.NodeId.{NodeId}
 use Rattle.pseudo_time.specs.declared.down_causes.DownCause.{DownCause}
@@ -12,28 +14,18 @@ use Rattle.world_core.specs.Walks.{Base, Flags, World, flagged, is_down, names, 
 use Rattle.world_core.specs.Legal.{Meets, Rule}
 use Rattle.world_facts.proofs.Steps.{step-known}
 use Rattle.trace_report.specs.Counts.{down_cause}
-use Rattle.run_rounds.proofs.ListLemmas.{some-same}
-
-both-true : (a b : Bool) → a ≡ true → b ≡ true → (a && b) ≡ true
-both-true a b p q = ap (λ (t : Bool). t && b) p ∙ q
 
 -- ---- the first Down of a node
 
 -- an entry is no Down of the node, or its first
 pub cause-step : (n : NodeId) (e : Entry) (es : List Entry) → (down_cause n (e ∷ es) ≡ down_cause n es) ⊎ ((node : NodeId) × (cause : DownCause) × (e ≡ Down node cause) × (same_node node n ≡ true) × (down_cause n (e ∷ es) ≡ Some cause))
-cause-step n (Take node number) es = inl refl
-cause-step n (Go node) es = inl refl
-cause-step n (Learn node stamp committed) es = inl refl
-cause-step n (Hear node) es = inl refl
-cause-step n (Gate node) es = inl refl
-cause-step n (Crash node kept) es = inl refl
 cause-step n (Down node cause) es = go (same_node node n) refl
   where
     go : (t : Bool) → same_node node n ≡ t
         → (down_cause n (Down node cause ∷ es) ≡ down_cause n es) ⊎ ((m : NodeId) × (c : DownCause) × (Down node cause ≡ Down m c) × (same_node m n ≡ true) × (down_cause n (Down node cause ∷ es) ≡ Some c))
     go true is = inr (node, cause, refl, is, ap (λ (t : Bool). if t then Some cause else down_cause n es) is)
     go false is = inl (ap (λ (t : Bool). if t then Some cause else down_cause n es) is)
-cause-step n (Tick moment) es = inl refl
+cause-step n e es = inl refl
 
 here-told : (n : NodeId) (c : DownCause) (e : Entry) (es : List Entry) → e ≡ Down n c → down_cause n (e ∷ es) ≡ Some c
 here-told n c e es is = ap (λ (x : Entry). down_cause n (x ∷ es)) is ∙ ap (λ (t : Bool). if t then Some c else down_cause n es) (same_node-refl n)
@@ -67,7 +59,7 @@ module _ (b : Base) where
   stays-known w e n h = (step-known b w e n).0 ∙ h
 
   pub fell : (w : World) (n node : NodeId) (cause : DownCause) → same_node node n ≡ true → (w.flags n).known ≡ true → ((step b w (Down node cause)).flags n).up ≡ false
-  fell w n node cause is known = ap (λ (t : Bool). (if t then flagged w.last n.kind (w.flags n) (Down node cause) else w.flags n).up) (both-true (same_node node n) (w.flags n).known is known)
+  fell w n node cause is known = ap (λ (t : Bool). (if t then flagged w.last n.kind (w.flags n) (Down node cause) else w.flags n).up) (and_from (same_node node n) (w.flags n).known is known)
 
   fell-by : (w : World) (n node : NodeId) (cause : DownCause) (e : Entry) → e ≡ Down node cause → same_node node n ≡ true → (w.flags n).known ≡ true → ((step b w e).flags n).up ≡ false
   fell-by w n node cause e at is known = subst (λ (x : Entry). ((step b w x).flags n).up ≡ false) (sym at) (fell w n node cause is known)
@@ -85,14 +77,8 @@ module _ (b : Base) where
   -- ---- where nothing but Downs stand
 
   down-is : (e : Entry) → is_down e ≡ true → (node : NodeId) × (cause : DownCause) × (e ≡ Down node cause)
-  down-is (Take node number) h = absurd (cc h)
-  down-is (Go node) h = absurd (cc h)
-  down-is (Learn node stamp committed) h = absurd (cc h)
-  down-is (Hear node) h = absurd (cc h)
-  down-is (Gate node) h = absurd (cc h)
-  down-is (Crash node kept) h = absurd (cc h)
   down-is (Down node cause) h = (node, cause, refl)
-  down-is (Tick moment) h = absurd (cc h)
+  down-is e h = absurd (cc h)
 
   due-kept : (w : World) (n node : NodeId) (cause : DownCause) → ((step b w (Down node cause)).flags n).due ≡ (w.flags n).due
   due-kept w n node cause = go (same_node node n && (w.flags n).known)
@@ -124,7 +110,7 @@ module _ (b : Base) where
     pub one-down : (w : World) (es : List Entry) (n : NodeId) (c d : DownCause) → (w.flags n).known ≡ true → Meets b fates w es → down_cause n es ≡ Some c → Has (Down n d) es → c ≡ d
     unfolding Meets
     one-down w [] n c d known meets h has = absurd has
-    one-down w (e ∷ es) n c d known meets h (inl is) = some-same (sym h ∙ here-told n d e es is)
+    one-down w (e ∷ es) n c d known meets h (inl is) = same_Some _ _ (sym h ∙ here-told n d e es is)
     one-down w (e ∷ es) n c d known meets h (inr later) = go (λ same. one-down (step b w e) es n c d (stays-known w e n known) meets.1 (sym same ∙ h) later) (cause-step n e es)
       where
         go : (down_cause n (e ∷ es) ≡ down_cause n es → c ≡ d) → (down_cause n (e ∷ es) ≡ down_cause n es) ⊎ ((m : NodeId) × (x : DownCause) × (e ≡ Down m x) × (same_node m n ≡ true) × (down_cause n (e ∷ es) ≡ Some x)) → c ≡ d

@@ -1,13 +1,11 @@
 -- Lists, lists beside each other, and what holds of each element.
-use Rattle.std.proofs.Common.{◌≡◌, ◌≤◌, ◌<◌, ◌+◌, ◌++◌, ◌∙◌, ℕ, zero, suc, Bool, true, false, List, [], ◌∷◌, Option, Some, None, length, map, filter, cond, get_or, slice_get, ◌||◌, inl, inr, refl, ap, sym, subst, arith}
+use Rattle.std.proofs.Common.{◌≡◌, ◌<◌, ◌+◌, ◌++◌, ◌∙◌, ℕ, zero, suc, Bool, true, false, List, [], ◌∷◌, Some, length, map, get_or, slice_get, ◌||◌, inl, inr, refl, ap, subst, arith, ◌≤◌, Option, None, sym}
 use Rattle.std.specs.Prelude.{All, Any}
 use Rattle.std.specs.List.{AllZip, list_any}
 use Rattle.std.proofs.lemmas.List.Elements.{All-nil, All-cons}
+use Rattle.std.proofs.lemmas.Option.{same_Some}
 use Rattle.pseudo_time.specs.Lists.{Has}
 use Rattle.run_starts.specs.Seats.{Along}
-
-pub some-same : {A : Type 0} {x y : A} → Some x ≡ Some y → x ≡ y
-some-same e = cc
 
 -- ---- what holds of each element
 
@@ -35,15 +33,6 @@ one-of P xs i x all lt is = subst P is (all i x lt)
 
 -- ---- what stands in a list
 
-pub has-filter : {A : Type 0} (q : A → Bool) (xs : List A) (x : A) → Has x (filter q xs) → Has x xs
-has-filter q [] x h = h
-has-filter q (y ∷ ys) x h = go (has-filter q ys x) (q y) h
-  where
-    go : (Has x (filter q ys) → Has x ys) → (t : Bool) → Has x (cond t (y ∷ filter q ys) (filter q ys)) → Has x (y ∷ ys)
-    go rest true (inl is) = inl is
-    go rest true (inr later) = inr (rest later)
-    go rest false later = inr (rest later)
-
 pub any-has : {A : Type 0} (p : A → Bool) (xs : List A) (x : A) → Has x xs → p x ≡ true → list_any p xs ≡ true
 any-has p [] x h is = absurd h
 any-has p (y ∷ ys) x (inl e) is = ap (λ (t : Bool). t || list_any p ys) (ap p e ∙ is)
@@ -57,13 +46,8 @@ any-has p (y ∷ ys) x (inr later) is = ap (λ (t : Bool). p y || t) (any-has p 
 
 pub get-mapped : {A B : Type 0} (f : A → B) (xs : List A) (i : ℕ) (x : A) → slice_get xs i ≡ Some x → slice_get (map f xs) i ≡ Some (f x)
 get-mapped f [] i x e = absurd cc
-get-mapped f (y ∷ xs) zero x e = ap (λ z. Some (f z)) (some-same e)
+get-mapped f (y ∷ xs) zero x e = ap (λ z. Some (f z)) (same_Some _ _ e)
 get-mapped f (y ∷ xs) (suc i) x e = get-mapped f xs i x e
-
-pub some-at : {A : Type 0} (xs : List A) (i : ℕ) → i < length xs → (x : A) × (slice_get xs i ≡ Some x)
-some-at [] i lt = absurd (omega (arith, lt))
-some-at (x ∷ xs) zero lt = (x, refl)
-some-at (x ∷ xs) (suc i) lt = some-at xs i (omega (arith, lt))
 
 -- what stands beside each other in a place
 pub along-at : {A B : Type 0} (R : ℕ → A → B → Type 0) (i : ℕ) (xs : List A) (ys : List B) (k : ℕ) → Along R i xs ys → k < length xs
@@ -74,12 +58,6 @@ along-at R i (x ∷ xs) (y ∷ ys) zero h lt = (x, y, refl, refl, subst (λ (n :
 along-at R i (x ∷ xs) (y ∷ ys) (suc k) h lt =
     let r = along-at R (suc i) xs ys k h.1 (omega (arith, lt)) in
     (r.0, r.1, r.2, r.3, subst (λ (n : ℕ). R n r.0 r.1) (omega arith) r.4)
-
-pub along-long : {A B : Type 0} (R : ℕ → A → B → Type 0) (i : ℕ) (xs : List A) (ys : List B) → Along R i xs ys → length ys ≡ length xs
-along-long R i [] [] h = refl
-along-long R i [] (y ∷ ys) h = absurd h
-along-long R i (x ∷ xs) [] h = absurd h
-along-long R i (x ∷ xs) (y ∷ ys) h = ap suc (along-long R (suc i) xs ys h.1)
 
 -- from lists beside each other by their places to what is made of the second
 pub along-mapped : {A B C : Type 0} (R : ℕ → A → B → Type 0) (Q : A → C → Type 0) (f : B → C) → ((i : ℕ) (x : A) (y : B) → R i x y → Q x (f y)) → (i : ℕ) (xs : List A) (ys : List B) → Along R i xs ys → AllZip Q xs (map f ys)

@@ -1,6 +1,7 @@
 -- The logs of a run's trace are those of its media, before and after.
 use Rattle.std.proofs.Common.{◌≡◌, ◌∙◌, ℕ, true, IsTrue, List, [], Option, Some, None, Ok, ap, sym, subst}
 use Rattle.std.specs.Prelude.{All}
+use Rattle.std.proofs.lemmas.Option.{same_Some}
 use Rattle.pseudo_time.specs.declared.nodes.NodeId.{NodeId}
 use Rattle.medium_port.specs.Image.{Image}
 use Rattle.effect_form.specs.declared.effects.Effect.{Effect}
@@ -23,7 +24,6 @@ use Rattle.node_turn.specs.Nodes.{NodeParts, sight}
 use Rattle.node_rounds.specs.Reasons.{HasMemory}
 use Rattle.run_media.specs.Media.{Media}
 use Rattle.run_rounds.specs.Media.{RestoresLogs, KeepsLog}
-use Rattle.run_rounds.proofs.ListLemmas.{some-same}
 use Rattle.run_rounds.proofs.SeenLemmas.{Seen, are-back, left, of-seen, seen}
 use Rattle.run_rounds.proofs.KnownLemmas.{HaveStood, Known, life-end, log-end, none-open, origin, was-opened}
 
@@ -44,7 +44,7 @@ module _ {M Q A : Type 0} (w : Media M) (plan : Plan) (lock : LockTable WirePart
 
   keeps : (n : NodeId) (s : Stood n) → IsTrue w.tells → KeepsLog w first (left w plan (origin w plan lock t) (Known w plan lock t) first ps stood.along) plan t n s.old s.node.medium
   keeps n s told = record {
-    opened = λ log e. subst (λ (l : List Effect). storage (w.reads s.old) ≡ Ok l) (some-same (sym (log-end w plan lock t stood.same stood.opened n s.old s.node s.went) ∙ e)) (s.went.held told);
+    opened = λ log e. subst (λ (l : List Effect). storage (w.reads s.old) ≡ Ok l) (same_Some _ _ (sym (log-end w plan lock t stood.same stood.opened n s.old s.node s.went) ∙ e)) (s.went.held told);
     images = λ c leaves. subst (λ (l : Life). IsKept l c) (sym (life-end w plan lock t stood.same stood.opened n s.old s.node s.went))
         (subst (λ (m : NodeId). IsKept (life_at (sight s.node) m) c) s.went.name (s.went.rest.kept told c leaves));
     up = λ none. ap (λ (l : Life). l.fresh) (life-end w plan lock t stood.same stood.opened n s.old s.node s.went) ∙ none-open w plan lock t stood.same stood.opened n s.old s.node s.went (has-memory n s) told none;

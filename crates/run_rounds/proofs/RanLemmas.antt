@@ -48,7 +48,7 @@ use Rattle.run_rounds.specs.Closings.{ClosedAs, HasRun, HaveGone, IfRan, ListEnd
 use Rattle.run_rounds.specs.Ends.{AllDone, HasEnded, HasRunOut, TicksAreWanted, broker_done_after, some_down}
 use Rattle.run_rounds.specs.Finishes.{EndsAs, IsKeptWhole, account_of, tellers}
 use Rattle.run_rounds.specs.Runs.{IsTold, Ran}
-use Rattle.run_rounds.proofs.ListLemmas.{all-end, all-front, all-mapped, along-at, along-long, one-of}
+use Rattle.run_rounds.proofs.ListLemmas.{all-end, all-front, all-mapped, along-at, one-of}
 use Rattle.node_rounds.proofs.WantedLemmas.{story-ticks, tick-before, ticks-whole}
 use Rattle.run_rounds.proofs.EndLemmas.{down-whole, done-whole, enough-whole}
 use Rattle.run_rounds.proofs.SeenLemmas.{At, are-back, logs-of, none-own, went-along}
@@ -58,24 +58,19 @@ use Rattle.run_rounds.proofs.CountLemmas.{are-counted, have-causes}
 use Rattle.run_rounds.proofs.KeptLemmas.{all-kept}
 use Rattle.run_rounds.proofs.RangeLemmas.{ranges-of, ranges-opened}
 use Rattle.run_rounds.proofs.ToldLemmas.{is-told, nodes-told, ready-told}
+use Rattle.run_starts.proofs.AlongLemmas.{along-length}
 
 -- ---- memory
+
+up-memory : {c : Condition} → c ≡ condition.AtWork → c ≢ condition.Wanting
+up-memory e f = let z : condition.AtWork ≡ condition.Wanting = sym e ∙ f in absurd (cc z)
 
 -- in a run that doesn't end for want of memory no node wanted any
 memory-of : {M : Type 0} (tells : Bool) (limits : Limits) (why : Reason) (nodes : List (NodeParts M)) (k : _) → ListEnds tells limits why nodes k → why ≢ reason.Wanting → All HasMemory nodes
 memory-of tells limits reason.Down nodes k h memory = h.0
 memory-of tells limits reason.Done nodes k h memory = λ i d lt. up-memory (h.0 i d lt)
-  where
-    up-memory : {c : Condition} → c ≡ condition.AtWork → c ≢ condition.Wanting
-    up-memory e f = let z : condition.AtWork ≡ condition.Wanting = sym e ∙ f in absurd (cc z)
 memory-of tells limits reason.Enough nodes k h memory = λ i d lt. up-memory (h.0 i d lt)
-  where
-    up-memory : {c : Condition} → c ≡ condition.AtWork → c ≢ condition.Wanting
-    up-memory e f = let z : condition.AtWork ≡ condition.Wanting = sym e ∙ f in absurd (cc z)
 memory-of tells limits reason.RunOut nodes k h memory = λ i d lt. up-memory (h.0 i d lt)
-  where
-    up-memory : {c : Condition} → c ≡ condition.AtWork → c ≢ condition.Wanting
-    up-memory e f = let z : condition.AtWork ≡ condition.Wanting = sym e ∙ f in absurd (cc z)
 memory-of tells limits reason.Wanting nodes k h memory = absurd (memory refl)
 
 module _ {M Q A : Type 0} (w : Media M) (limits : Limits) (plan : Plan) (lock : LockTable WireParts (View WireParts Entry) (Founding WireParts) Q A) (t : Trace) (asked : List Asked) (answers : Option (List ℕ)) where
@@ -112,7 +107,7 @@ module _ {M Q A : Type 0} (w : Media M) (limits : Limits) (plan : Plan) (lock : 
       -- the node in a place is one of the plan
       at-name : (i : ℕ) (p : NodeParts M) → i < length gone.nodes → get_or gone.nodes i p ≡ p → in_plan plan p.node ≡ true
       at-name i p lt is =
-          let long = along-long (At w plan origin (Known w plan lock t)) 0 first gone.nodes stood.along in
+          let long = along-length (At w plan origin (Known w plan lock t)) 0 first gone.nodes stood.along in
           let count = stood.count in
           let h = along-at (At w plan origin (Known w plan lock t)) 0 first gone.nodes i stood.along (omega (arith, lt, long)) in
           let same : h.1 ≡ p = sym (get_or_from_slice_get gone.nodes i h.1 p h.3) ∙ is in

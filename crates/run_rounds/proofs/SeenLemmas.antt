@@ -4,7 +4,7 @@ use Rattle.std.specs.Prelude.{All, Any}
 use Rattle.std.specs.List.{AllZip}
 use Rattle.std.proofs.lemmas.Slice.Zip.{AllZip-long}
 use Rattle.std.proofs.lemmas.List.Elements.{All-map}
-use Rattle.std.proofs.lemmas.Option.{get_or_from_slice_get, slice_get_within}
+use Rattle.std.proofs.lemmas.Option.{get_or_from_slice_get, slice_get_within, same_Some}
 use Rattle.pseudo_time.specs.declared.nodes.NodeId.{NodeId}
 use Rattle.stream_port.specs.declared.fates.Asked.{Asked}
 use Rattle.stream_port.specs.Causes.{RoseBy, rose_by_none}
@@ -35,7 +35,7 @@ use Rattle.run_starts.specs.Seats.{Along, IsNewNode}
 use Rattle.run_starts.specs.Starts.{IsSetUp, fresh_for}
 use Rattle.run_rounds.specs.Closings.{Pass}
 use Rattle.run_rounds.specs.Media.{Became, inner, medium_at}
-use Rattle.run_rounds.proofs.ListLemmas.{all-first, all-mapped, all-rest, along-at, along-long, along-mapped, get-mapped, some-same}
+use Rattle.run_rounds.proofs.ListLemmas.{all-first, all-mapped, all-rest, along-at, along-mapped, get-mapped}
 
 -- ---- new passes
 
@@ -83,7 +83,7 @@ module _ {M : Type 0} (w : Media M) (plan : Plan) (o : Origin) (Q : Pass → Typ
     )
       where
         same : medium_of store ≡ b.medium
-        same = some-same new.medium
+        same = same_Some _ _ new.medium
 
         free : costs (sight b).own ≡ 0
         free = ap costs none
@@ -165,10 +165,10 @@ module _ {M : Type 0} (w : Media M) (plan : Plan) (o : Origin) (Q : Pass → Typ
     module _ (n : NodeId) (s : Seen n) where
       -- a medium that became another is the node's
       pub old-is : (old new : M) → Became plan first left n old new → s.old ≡ old
-      old-is old new became = some-same (sym s.before ∙ became.0)
+      old-is old new became = same_Some _ _ (sym s.before ∙ became.0)
 
       pub new-is : (old new : M) → Became plan first left n old new → s.node.medium ≡ new
-      new-is old new became = some-same (sym s.after ∙ became.1)
+      new-is old new became = same_Some _ _ (sym s.after ∙ became.1)
 
       -- what holds of all nodes holds of it
       pub of-seen : (P : NodeParts M → Type 0) → All P ps → P s.node

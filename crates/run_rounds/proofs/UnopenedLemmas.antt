@@ -3,7 +3,7 @@ use Rattle.std.proofs.Common.{◌≡◌, ◌≢◌, ◌≤◌, ◌<◌, ◌+◌,
 use Rattle.std.specs.List.{AllZip}
 use Rattle.std.specs.Option.{option_map, unwrap_or}
 use Rattle.std.proofs.Math.Seq.{take-length}
-use Rattle.std.proofs.lemmas.Option.{slice_get-map, slice_get_within}
+use Rattle.std.proofs.lemmas.Option.{slice_get-map, slice_get_within, same_Some}
 use Rattle.pseudo_time.specs.Lists.{Every, Has}
 use Rattle.pseudo_time.specs.declared.nodes.NodeId.{NodeId}
 use Rattle.pseudo_time.specs.declared.down_causes.DownCause.{DownCause}
@@ -46,7 +46,7 @@ use Rattle.run_media.proofs.OrderLemmas.{at-place, in-at, log-at, one-place, pla
 use Rattle.run_starts.specs.Seats.{Along}
 use Rattle.run_starts.specs.Starts.{HasFallen, IsSetUp, downs_of}
 use Rattle.run_starts.proofs.AlongLemmas.{zip-at, zip-back}
-use Rattle.run_starts.proofs.DealLemmas.{some-within, some-same}
+use Rattle.run_starts.proofs.DealLemmas.{some-within}
 use Rattle.run_starts.proofs.StartLemmas.{all-front, all-last}
 use Rattle.run_rounds.specs.declared.ends.End.{End}
 use Rattle.run_rounds.specs.declared.ends.End.TheVariants as end
@@ -71,15 +71,15 @@ module _ {M : Type 0} {g : _} (w : Media M) where
   shut-cause o a b y z p q = cc
 
   as-it-was : (old : M) (o : Opening M g) (new : M) → HasOpened w (Some old) o → medium_in o ≡ Some new → IsAsItWas w old new
-  as-it-was old (Open store effects) new h e = subst (IsAsItWas w old) (some-same e) h.same
+  as-it-was old (Open store effects) new h e = subst (IsAsItWas w old) (same_Some _ _ e) h.same
   as-it-was old (Shut None cause) new h e = absurd h
-  as-it-was old (Shut (Some x) cause) new h e = subst (IsAsItWas w old) (some-same e) h.0
-  as-it-was old (Wanting x) new h e = subst (IsAsItWas w old) (some-same e) h
+  as-it-was old (Shut (Some x) cause) new h e = subst (IsAsItWas w old) (same_Some _ _ e) h.0
+  as-it-was old (Wanting x) new h e = subst (IsAsItWas w old) (same_Some _ _ e) h
 
   shut-for : (old : M) (o : Opening M g) (m : Option M) (cause : DownCause) (new : M) → o ≡ Shut m cause → HasOpened w (Some old) o → medium_in o ≡ Some new → IsShutFor w cause old new
   shut-for old (Open store effects) m cause new is h e = absurd cc
   shut-for old (Shut None c) m cause new is h e = absurd h
-  shut-for old (Shut (Some x) c) m cause new is h e = subst (λ (y : DownCause). IsShutFor w y old new) (shut-cause (Shut (Some x) c) (Some x) m c cause refl is) (subst (IsShutFor w c old) (some-same e) h.1)
+  shut-for old (Shut (Some x) c) m cause new is h e = subst (λ (y : DownCause). IsShutFor w y old new) (shut-cause (Shut (Some x) c) (Some x) m c cause refl is) (subst (IsShutFor w c old) (same_Some _ _ e) h.1)
   shut-for old (Wanting x) m cause new is h e = absurd cc
 
   shut-missing : (o : Opening M g) → HasOpened w None o → (m : Option M) × (o ≡ Shut m down.Medium)
@@ -127,7 +127,7 @@ module _ {M : Type 0} {g : _} (w : Media M) where
     one-cause : (i : ℕ) (m : Option M) (c : DownCause) → slice_get os i ≡ Some (Shut m c) → (j : ℕ) (x : Option M) (d : DownCause) → slice_get os j ≡ Some (Shut x d) → node_at plan j ≡ node_at plan i → d ≡ c
     one-cause i m c there j x d e name =
         let same : j ≡ i = one-place plan j i name in
-        shut-cause (Shut x d) x m d c refl (some-same (sym e ∙ (ap (slice_get os) same ∙ there)))
+        shut-cause (Shut x d) x m d c refl (same_Some _ _ (sym e ∙ (ap (slice_get os) same ∙ there)))
 
     caused : (i : ℕ) (m : Option M) (c : DownCause) → slice_get os i ≡ Some (Shut m c) → down_cause (node_at plan i) t.entries ≡ Some c
     caused i m c there = cause-at plan os t.entries falls owned i m c there (one-cause i m c there)
@@ -141,7 +141,7 @@ module _ {M : Type 0} {g : _} (w : Media M) where
         let f = cause-of plan os t.entries falls n c e in
         let a = at-node n old new b in
         let p : place_of plan n ≡ f.0 = ap (place_of plan) (sym f.3) ∙ place-at plan f.0 in
-        let is : a.0 ≡ Shut f.1 c = some-same (sym a.1 ∙ (ap (slice_get os) p ∙ f.2)) in
+        let is : a.0 ≡ Shut f.1 c = same_Some _ _ (sym a.1 ∙ (ap (slice_get os) p ∙ f.2)) in
         (subst (WasNotOpened t.entries) f.3 (fallen f.0 f.1 c f.2), shut-for old a.0 f.1 c new is a.2 a.3)
 
     -- a node that was opened
@@ -166,8 +166,8 @@ module _ {M : Type 0} {g : _} (w : Media M) where
 
     keeps : (n : NodeId) (o : Opening M g) (old new : M) → IsOpen o → HasOpened w (Some old) o → medium_in o ≡ Some new → opened_log t.opened n ≡ Some (log_in o) → IsTrue w.tells → KeepsLog w first (map medium_in os) plan t n old new
     keeps n (Open store effects) old new opens h m log told = record {
-      opened = λ other e. subst (λ (l : List Effect). storage (w.reads old) ≡ Ok l) (some-same (sym log ∙ e)) (h.held told);
-      images = λ c leaves. kept c (h.left told c (subst (λ (x : M). w.may_leave x c) (sym (some-same m)) leaves));
+      opened = λ other e. subst (λ (l : List Effect). storage (w.reads old) ≡ Ok l) (same_Some _ _ (sym log ∙ e)) (h.held told);
+      images = λ c leaves. kept c (h.left told c (subst (λ (x : M). w.may_leave x c) (sym (same_Some _ _ m)) leaves));
       up = λ none. ap (λ (l : Life). l.fresh) (life-is n effects.items log);
     }
       where

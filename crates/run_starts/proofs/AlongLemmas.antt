@@ -3,26 +3,26 @@ use Rattle.std.proofs.Common.{◌≡◌, ◌<◌, ◌+◌, ◌*◌, ◌/◌, ◌
 use Rattle.std.specs.List.{AllZip}
 use Rattle.std.proofs.Math.Nat.{mod-lt, mod-eq_of_lt, mul-add-mod_self_right}
 use Rattle.std.proofs.lemmas.Nat.{div-mul-add}
-use Rattle.std.proofs.lemmas.Option.{slice_get-get_or, slice_get_within, get_or_from_slice_get}
+use Rattle.std.proofs.lemmas.Option.{slice_get-get_or, slice_get_within, get_or_from_slice_get, same_Some}
 use Rattle.std.proofs.lemmas.List.{take_more, length-take-le}
 use Rattle.std.specs.declared.vec.Vec.{Vec}
 use Rattle.run_starts.specs.Deals.{IsDealt}
 use Rattle.run_starts.specs.Seats.{Along}
-use Rattle.run_starts.proofs.DealLemmas.{all-at, some-within, some-same}
+use Rattle.run_starts.proofs.DealLemmas.{all-at, some-within}
 
 -- ---- lists beside each other
 
 pub zip-at : {A B : Type 0} (Q : A → B → Type 0) (xs : List A) (ys : List B) (i : ℕ) (x : A) → AllZip Q xs ys → slice_get xs i ≡ Some x → (y : B) × (slice_get ys i ≡ Some y) × Q x y
 zip-at Q [] ys i x h e = absurd cc
 zip-at Q (a ∷ xs) [] i x h e = absurd h
-zip-at Q (a ∷ xs) (b ∷ ys) zero x h e = (b, refl, subst (λ z. Q z b) (some-same e) h.0)
+zip-at Q (a ∷ xs) (b ∷ ys) zero x h e = (b, refl, subst (λ z. Q z b) (same_Some _ _ e) h.0)
 zip-at Q (a ∷ xs) (b ∷ ys) (suc i) x h e = zip-at Q xs ys i x h.1 e
 
 pub zip-back : {A B : Type 0} (Q : A → B → Type 0) (xs : List A) (ys : List B) (i : ℕ) (y : B) → AllZip Q xs ys → slice_get ys i ≡ Some y → (x : A) × (slice_get xs i ≡ Some x) × Q x y
 zip-back Q [] [] i y h e = absurd cc
 zip-back Q [] (b ∷ ys) i y h e = absurd h
 zip-back Q (a ∷ xs) [] i y h e = absurd h
-zip-back Q (a ∷ xs) (b ∷ ys) zero y h e = (a, refl, subst (λ z. Q a z) (some-same e) h.0)
+zip-back Q (a ∷ xs) (b ∷ ys) zero y h e = (a, refl, subst (λ z. Q a z) (same_Some _ _ e) h.0)
 zip-back Q (a ∷ xs) (b ∷ ys) (suc i) y h e = zip-back Q xs ys i y h.1 e
 
 pub zip-none : {A B : Type 0} (Q : A → B → Type 0) (xs : List A) (ys : List B) (i : ℕ) → AllZip Q xs ys → slice_get xs i ≡ None → slice_get ys i ≡ None
@@ -42,7 +42,7 @@ made {T} R P (x ∷ xs) k r f =
     (one.0 ∷ rest.0, (r (k + 0) x one.0 one.1, rest.1), at one rest.0 rest.2)
   where
     at : (one : (y : T) × P (k + 0) x y) (ys : List T) → ((i : ℕ) (a b : T) → slice_get xs i ≡ Some a → slice_get ys i ≡ Some b → P (suc k + i) a b) → (i : ℕ) (a b : T) → slice_get (x ∷ xs) i ≡ Some a → slice_get (one.0 ∷ ys) i ≡ Some b → P (k + i) a b
-    at one ys more zero a b e g = subst (λ z. P (k + 0) a z) (some-same g) (subst (λ z. P (k + 0) z one.0) (some-same e) one.1)
+    at one ys more zero a b e g = subst (λ z. P (k + 0) a z) (same_Some _ _ g) (subst (λ z. P (k + 0) z one.0) (same_Some _ _ e) one.1)
     at one ys more (suc i) a b e g = subst (λ (n : ℕ). P n a b) (omega arith) (more i a b e g)
 
 -- ---- shares
@@ -61,7 +61,7 @@ module _ {T A : Type 0} (W : ℕ) (pos : 0 < W) where
         let s = share-at old size i in
         let t = zip-at (λ (a b : Vec T A). AllZip R a.items b.items) old new (i % W) s.0 went s.1 in
         let y = zip-at R s.0.items t.0.items (i / W) x t.2 (d i s.0 s.1 ∙ e) in
-        (y.0, (y.2, λ u at. ap (λ (v : Vec T A). slice_get v.items (i / W)) (some-same (sym at ∙ t.1)) ∙ y.1))
+        (y.0, (y.2, λ u at. ap (λ (v : Vec T A). slice_get v.items (i / W)) (same_Some _ _ (sym at ∙ t.1)) ∙ y.1))
 
     pub dealt-along : (ys : List T) × IsDealt W ys new × AllZip R xs ys
     dealt-along =

@@ -5,7 +5,7 @@ use Rattle.std.proofs.lemmas.Bool.Decides.{nat_tests}
 use Rattle.std.proofs.Math.Nat.{div-add-mod, mod-lt, lt_of_mul-lt-mul_left, add-mul-div_right, mul-le-mul_left, add-mul-mod_self_right}
 use Rattle.std.proofs.lemmas.List.{length_push}
 use Rattle.std.specs.Vec.{vec_len, vec_capacity}
-use Rattle.std.proofs.lemmas.Option.{slice_get_past, slice_get_within, slice_get_read, get_or_from_slice_get}
+use Rattle.std.proofs.lemmas.Option.{slice_get_past, slice_get_within, slice_get_read, get_or_from_slice_get, same_Some}
 use Rattle.std.proofs.lemmas.List.Elements.{All-get_or}
 use Rattle.std.specs.declared.vec.Vec.{Vec}
 use Rattle.run_starts.specs.Deals.{IsDealt, HaveRoom}
@@ -50,9 +50,6 @@ pub some-within : {T : Type 0} (xs : List T) (i : ℕ) → i < length xs → (x 
 some-within [] i lt = absurd (omega (arith, lt))
 some-within (x ∷ xs) zero lt = (x, refl)
 some-within (x ∷ xs) (suc i) lt = some-within xs i (omega (arith, lt))
-
-pub some-same : {T : Type 0} {x y : T} → Some x ≡ Some y → x ≡ y
-some-same e = cc
 
 -- ---- rows
 
@@ -130,7 +127,7 @@ module _ {T A : Type 0} (W : ℕ) (pos : 0 < W) where
 
       here : i % W ≡ q % W → slice_get t.items (i / W) ≡ slice_get (xs ++ x ∷ []) i
       here same =
-          let e : t ≡ s' = some-same (sym got ∙ ap (λ n. slice_get (slice_set shares (q % W) s') n) same ∙ get-set-same shares (q % W) s s' at) in
+          let e : t ≡ s' = same_Some _ _ (sym got ∙ ap (λ n. slice_get (slice_set shares (q % W) s') n) same ∙ get-set-same shares (q % W) s s' at) in
           let items : t.items ≡ s.items ++ x ∷ [] = ap (λ (v : Vec T A). v.items) e ∙ more in
           ap (λ l. slice_get l (i / W)) items ∙ by-place (cases_lt i q)
         where
@@ -193,7 +190,7 @@ module _ {T A : Type 0} (W : ℕ) (pos : 0 < W) where
         let b = behind in
         let n : length s.items ≡ length ys + 1 = ap length e ∙ length_push ys y in
         let m : length ys ≡ length xs / W = omega (arith, w, b, n) in
-        (m, some-same (sym (get-last ys y (length xs / W) (sym m)) ∙ sym (ap (λ l. slice_get l (length xs / W)) e) ∙ there))
+        (m, same_Some _ _ (sym (get-last ys y (length xs / W) (sym m)) ∙ sym (ap (λ l. slice_get l (length xs / W)) e) ∙ there))
 
     pub some-there : s.items ≢ []
     some-there e = let w = slice_get_within s.items (length xs / W) x there in let n : length s.items ≡ 0 = ap length e in omega (arith, w, n)
@@ -210,7 +207,7 @@ module _ {T A : Type 0} (W : ℕ) (pos : 0 < W) where
 
         here : i % W ≡ q % W → slice_get t.items (i / W) ≡ slice_get xs i
         here same =
-            let v : t ≡ s' = some-same (sym got ∙ ap (λ n. slice_get (slice_set shares (q % W) s') n) same ∙ get-set-same shares (q % W) s s' at) in
+            let v : t ≡ s' = same_Some _ _ (sym got ∙ ap (λ n. slice_get (slice_set shares (q % W) s') n) same ∙ get-set-same shares (q % W) s s' at) in
             ap (λ (k : Vec T A). slice_get k.items (i / W)) v ∙ by-place (cases_lt i q)
           where
             by-place : (i < q) ⊎ (q ≤ i) → slice_get s'.items (i / W) ≡ slice_get xs i

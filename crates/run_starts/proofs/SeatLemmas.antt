@@ -6,6 +6,7 @@ use Rattle.pseudo_time.specs.declared.nodes.NodeKind.{NodeKind}
 use Rattle.value_form.specs.declared.acts.ActSpec.{ActSpec}
 use Rattle.std.specs.declared.vec.Vec.{Vec}
 use Rattle.std.specs.declared.alloc.Global.{Global}
+use Rattle.std.proofs.lemmas.Option.{same_Some}
 use Rattle.effect_form.specs.declared.effects.Effect.{Effect}
 use Rattle.version_store.specs.declared.stores.Store.{Store}
 use Rattle.stream_port.specs.declared.fates.Asked.{Asked}
@@ -75,10 +76,7 @@ module _ {M : Type 0} {g : _} where
   some-ready plan k [] i o h e = absurd cc
   some-ready plan k (x ∷ os) zero o h e =
       let z : k ≡ k + 0 = omega arith in
-      subst (λ (y : Opening M g). IsReadyFor plan (node_at plan (k + 0)) (log_in y)) (some-is e) (subst (λ (j : ℕ). IsReadyFor plan (node_at plan j) (log_in x)) z h.0.0)
-    where
-      some-is : {T : Type 0} {x y : T} → Some x ≡ Some y → x ≡ y
-      some-is e = cc
+      subst (λ (y : Opening M g). IsReadyFor plan (node_at plan (k + 0)) (log_in y)) (same_Some _ _ e) (subst (λ (j : ℕ). IsReadyFor plan (node_at plan j) (log_in x)) z h.0.0)
   some-ready plan k (x ∷ os) (suc i) o h e = let z : suc k + i ≡ k + suc i = omega arith in subst (λ (j : ℕ). IsReadyFor plan (node_at plan j) (log_in o)) z (some-ready plan (suc k) os i o h.1 e)
 
   -- a pass that has seen nothing, in its place

@@ -5,6 +5,7 @@ use Rattle.std.proofs.lemmas.Bool.Decides.{nat_tests}
 use Rattle.std.proofs.lemmas.List.{map-append, same_from_push, get_or_append_left, get_or_push, length_push}
 use Rattle.std.proofs.lemmas.List.Elements.{All-cons, All-nil, All-push}
 use Rattle.std.proofs.lemmas.List.Kept.{AllPairs-cons}
+use Rattle.std.proofs.lemmas.Option.{same_Some}
 use Rattle.pseudo_time.specs.declared.nodes.NodeId.{NodeId}
 use Rattle.pseudo_time.specs.Nodes.{repository, broker, same_node}
 use Rattle.effect_form.specs.declared.effects.Effect.{Effect}
@@ -81,11 +82,8 @@ module _ {M : Type 0} {g : _} where
       go : (opened_log (opened_from plan (suc k) os) n ≡ Some log → is_ready (reading plan.acts) plan.run plan.acts n log ≡ true)
           → (t : Bool) → same_node (node_at plan k) n ≡ t → (if t then Some (log_in o) else opened_log (opened_from plan (suc k) os) n) ≡ Some log → is_ready (reading plan.acts) plan.run plan.acts n log ≡ true
       go rest true s f =
-          let l : log_in o ≡ log = some-same f in
+          let l : log_in o ≡ log = same_Some _ _ f in
           subst (λ (m : NodeId). is_ready (reading plan.acts) plan.run plan.acts m log ≡ true) (same_is (node_at plan k) n s) (subst (λ (x : List Effect). is_ready (reading plan.acts) plan.run plan.acts (node_at plan k) x ≡ true) l ready.0.0)
-        where
-          some-same : {T : Type 0} {x y : T} → Some x ≡ Some y → x ≡ y
-          some-same e = cc
       go rest false s f = rest f
 
   -- what is set up is a run of the plan

@@ -16,6 +16,3 @@ mod visits;
 pub use locks::{LockTable, Pass, SeatLock, Visit};
 pub use stories::Storied;
 pub use views::{Founding, LockRule, Part, Stage, View};
-
-#[cfg(test)]
-mod tests;

@@ -1,7 +1,8 @@
 -- Each End that a trace added has its cause, over any logs.
 use Rattle.std.proofs.Common.{refl, ◌≡◌, ℕ, ◌≤◌, nat_lt, false, List, [], ◌∷◌, ◌++◌, length, sym, ◌∙◌, ap, subst, Some, arith, append_assoc}
-use Rattle.std.proofs.lemmas.Grind.{common_steps}
 use Rattle.std.proofs.lemmas.List.{append_cancel_right, length-append}
+use Rattle.std.proofs.lemmas.Bool.{ltb-false}
+use Rattle.std.proofs.lemmas.Option.{same_Some}
 use Rattle.pseudo_time.specs.Lists.{Has}
 use Rattle.pseudo_time.specs.TimeParts.{TimeParts}
 use Rattle.pseudo_time.specs.declared.nodes.NodeId.{NodeId}
@@ -121,27 +122,21 @@ module _ (p : AnyPlace) where
           let same = ap (λ (z : Book). z.run) (enters p.script b base.run acts (fresh ++ log) f g.1) in
           omega (arith, one, two, same)
 
-      at-most : (n m : ℕ) → nat_lt n m ≡ false → m ≤ n
-      at-most n m h = grind (h, arith, common_steps)
-
       -- a write at this pseudotime that broker b sent is what its open attempt asks for
       that-write : (t : Try) (g : ObjectId) (v : Value) (to : NodeId) (w : ObjectId) (u : Value) → nat_lt (at below).run base.run ≡ false → open_try (at below) ≡ Some t → IsWriting p.script t g v →
           Says p.script b base.run acts mine to (message.Write (time_of t) w u) → (g ≡ w) × (v ≡ u)
       that-write t g v to w u low stands writes says =
           let high : (at below).run ≤ base.run = (let r = rise below (late ++ (effect.End i o ∷ [])) since in let e = ap (λ l. (at l).run) whole in let s = says.run_is in omega (arith, r, e, s)) in
-          let run : (at below).run ≡ base.run = (let l = at-most (at below).run base.run low in omega (arith, l, high)) in
+          let run : (at below).run ≡ base.run = (let l = ltb-false (at below).run base.run low in omega (arith, l, high)) in
           let here : find t.stamp (own_tries p.script b base.run acts below) ≡ Some t = open-own p.script b base.run acts (at below) t stands in
           let l = later-through p.script b base.run acts below (late ++ (effect.End i o ∷ [])) t.stamp t since run here in
           let found : find t.stamp (own_tries p.script b base.run acts mine) ≡ Some l.1.0 = subst (λ z. find t.stamp (own_tries p.script b base.run acts z) ≡ Some l.1.0) whole l.1.1 in
           let ask : IsAskOf p.script (own_tries p.script b base.run acts mine) (time_of t) (ToWrite w u) = says.holds.2 in
-          let same : ask.0 ≡ l.1.0 = some-is ask.0 l.1.0 (sym ask.1 ∙ found) in
+          let same : ask.0 ≡ l.1.0 = same_Some ask.0 l.1.0 (sym ask.1 ∙ found) in
           let more = l.1.2.answers in
           let front : ask.2.0 ≡ t.answers = fronts ask.2.0 t.answers ask.2.1 more.0 (sym ask.2.2 ∙ ap (λ (z : Try). z.answers) same ∙ more.1) (let n = ask.2.3 in omega (arith, n)) in
           let task : ask.0.task ≡ t.task = ap (λ (z : Try). z.task) same ∙ l.1.2.task in
           one-write g w v u (sym writes ∙ ap (λ (z : Task). stop (p.script z.script) t.answers) (sym task) ∙ ap (λ z. stop (p.script ask.0.task.script) z) (sym front) ∙ ask.2.4)
-        where
-          some-is : (x y : Try) → Some x ≡ Some y → x ≡ y
-          some-is x y e = cc e
 
       -- what was sent holds
       sent-holds : (q : Post) → Has q ever → any_post p.script base.run base.acts ever q.from.kind q.from.number (any_log p q.from) (record { to = q.to; message = q.message })
@@ -194,9 +189,6 @@ module _ (p : AnyPlace) where
       by-outcome : (u : Outcome) → Rests p.script b base.run acts ever below (effect.End i u) → EndCause p b below i u
       by-outcome outcome.Committed r = tt
       by-outcome (outcome.Expired d m) r = tt
-      by-outcome (outcome.Withdrawn l) r = r.0
-      by-outcome (outcome.Failed l k) r = r.0
-      by-outcome (outcome.Spent c) r = r.0
       by-outcome (outcome.LaterRead w e) r =
           let t : Try = r.0.0 in
           let came : posts.HasCome b ever (message.LaterRead (time_of t) e) = subst (λ z. OfOpen z (λ x. posts.EndCame b ever x (outcome.LaterRead w e))) r.0.1 r.1 in
@@ -205,6 +197,7 @@ module _ (p : AnyPlace) where
           let t : Try = r.0.0 in
           let came : posts.HasCome b ever (message.LaterVersion (time_of t) x) = subst (λ z. OfOpen z (λ y. posts.EndCame b ever y (outcome.LaterVersion w x))) r.0.1 r.1 in
           version-cause t w r.0.2.1.0 r.2 r.0.1 r.0.2.1.1 x came.0.kind came.0.number (sent-holds (record { from = came.0; to = broker b; message = message.LaterVersion (time_of t) x }) came.1) came.1
+      by-outcome o r = r.0
 
       pub caused : EndCause p b below i o
       caused = by-outcome o rests

@@ -1,6 +1,6 @@
 -- The attempts of a run: each is a try of a broker's book, at the home that its act has in the plan.
-use Rattle.std.proofs.Common.{◌≡◌, ℕ, zero, suc, ◌≤◌, ◌==◌, Bool, true, false, List, [], ◌∷◌, ◌++◌, map, refl, sym, ◌∙◌, subst, Some, None, inl, inr, arith, if◌then◌else◌}
-use Rattle.std.proofs.lemmas.Grind.{common_steps}
+use Rattle.std.proofs.Common.{◌≡◌, ℕ, zero, suc, ◌≤◌, ◌==◌, Bool, true, false, List, [], ◌∷◌, ◌++◌, map, refl, sym, ◌∙◌, subst, Some, None, inl, inr, arith, if◌then◌else◌, ap}
+use Rattle.std.proofs.lemmas.Bool.{eqb-true}
 use Rattle.pseudo_time.specs.Lists.{Every, Has}
 use Rattle.pseudo_time.specs.Order.{same_stamp}
 use Rattle.pseudo_time.specs.StampParts.{StampParts}
@@ -45,13 +45,8 @@ homes-try g k acts h = homes-on (λ a. record a { tries = on_front g a.tries }) 
     fronts (t ∷ ts) h = (k t h.0, h.1)
 
 homes-close : (o : Outcome) (b : Book) → Every Homes b.acts → Every Homes (close o b).acts
-homes-close outcome.Committed b h = homes-try (finish outcome.Committed) (λ t p. p) b.acts h
-homes-close (outcome.Withdrawn l) b h = homes-try (finish (outcome.Withdrawn l)) (λ t p. p) b.acts h
-homes-close (outcome.Failed l k) b h = homes-try (finish (outcome.Failed l k)) (λ t p. p) b.acts h
-homes-close (outcome.LaterRead o e) b h = homes-try (finish (outcome.LaterRead o e)) (λ t p. p) b.acts h
-homes-close (outcome.LaterVersion o x) b h = homes-try (finish (outcome.LaterVersion o x)) (λ t p. p) b.acts h
-homes-close (outcome.Expired d m) b h = homes-try (finish (outcome.Expired d m)) (λ t p. p) b.acts h
 homes-close (outcome.Spent c) b h = homes-on (λ a. record a { spent = Some c }) (λ a p. p) b.acts h
+homes-close o b h = homes-try (finish o) (λ t p. p) b.acts h
 
 module _ (script : List ℕ → Tree) (me : ℕ) where
   homes-began : (i : ℕ) (s : StampParts) (clock : ℕ) (acts : List Act) → MayTry i acts (λ a. (s.broker ≡ me) × (s.home ≡ a.task.home) × (suc clock ≤ s.clock)) → Every Homes acts →
@@ -66,11 +61,7 @@ module _ (script : List ℕ → Tree) (me : ℕ) where
   homes-enter (effect.Got k v) b m h = homes-try (gain _) (λ t p. p) b.acts h
   homes-enter (effect.Acked k) b m h = homes-try (gain _) (λ t p. p) b.acts h
   homes-enter (effect.End i o) b m h = homes-close o b h
-  homes-enter (effect.Put o x v) b m h = h
-  homes-enter (effect.Stretch o x) b m h = h
-  homes-enter (effect.Begin s d) b m h = h
-  homes-enter (effect.Decide s d) b m h = h
-  homes-enter (effect.Learn s c) b m h = h
+  homes-enter f b m h = h
 
   all-homes : (log : List Effect) → IsTidy script me log → Every Homes (book log).acts
   unfolding book
@@ -114,6 +105,14 @@ found-try (u ∷ ts) t d (inr h) = past (same_stamp u.stamp t.stamp) refl (found
     past true e k = let no : None ≡ Some t = sym (subst (λ s. find s ts ≡ None) (same_stamp-is u.stamp t.stamp e) d.0) ∙ k in absurd (cc no)
     past false e k = k
 
+pub found-in : (s : StampParts) (ts : List Try) (t : Try) → find s ts ≡ Some t → Has t ts × (t.stamp ≡ s)
+found-in s [] t e = absurd (cc e)
+found-in s (x ∷ ts) t e = go (λ k. found-in s ts t k) (same_stamp x.stamp s) refl e
+  where
+    go : (find s ts ≡ Some t → Has t ts × (t.stamp ≡ s)) → (b : Bool) → same_stamp x.stamp s ≡ b → (if b then Some x else find s ts) ≡ Some t → Has t (x ∷ ts) × (t.stamp ≡ s)
+    go again true q e = let is : x ≡ t = cc e in (inl is, ap (λ (z : Try). z.stamp) (sym is) ∙ same_stamp-is x.stamp s q)
+    go again false q e = let k = again e in (inr k.0, k.1)
+
 -- ---- attempts
 
 -- an attempt of a run is this try of the book of this broker
@@ -131,14 +130,11 @@ mapped script [] a h = absurd h
 mapped script (t ∷ ts) a (inl e) = (t, inl refl, e)
 mapped script (t ∷ ts) a (inr h) = let r = mapped script ts a h in (r.0, inr r.1, r.2)
 
-same-number : (i j : ℕ) → (i == j) ≡ true → i ≡ j
-same-number i j h = grind (arith, common_steps)
-
 of-run : (script : List ℕ → Tree) (run : ℕ) (b : Book) (a : deeds.Try) → Has a (book_tries script run b) → (b.run ≡ run) × ((t : Try) × Has t (tries_of b.acts) × (attempt script t ≡ a))
 of-run script run b a h = go (b.run == run) refl h
   where
     go : (c : Bool) → (b.run == run) ≡ c → Has a (if c then map (attempt script) (tries_of b.acts) else []) → (b.run ≡ run) × ((t : Try) × Has t (tries_of b.acts) × (attempt script t ≡ a))
-    go true e h = (same-number b.run run e, mapped script (tries_of b.acts) a h)
+    go true e h = (eqb-true b.run run e, mapped script (tries_of b.acts) a h)
     go false e h = absurd h
 
 -- the attempts in whole logs

@@ -1,6 +1,6 @@
 -- the map after the deeds of the committed stamps
 use Rattle.std.proofs.Common.{◌≡◌, ◌+◌, ◌≤◌, length, Bool, true, false, List, [], ◌∷◌, ◌++◌, refl, sym, ◌∙◌, ap, subst, Option, Some, None, ◌⊎◌, inl, inr, ◌&&◌, ◌||◌, arith, if◌then◌else◌}
-use Rattle.std.proofs.lemmas.Bool.{false≢true, true≢false}
+use Rattle.std.proofs.lemmas.Bool.{false≢true, true≢false, or_left, or_right, or_cases}
 use Rattle.pseudo_time.specs.TimeParts.{TimeParts}
 use Rattle.pseudo_time.specs.StampParts.{StampParts}
 use Rattle.value_form.specs.declared.objects.ObjectId.{ObjectId}
@@ -137,26 +137,14 @@ pub record Far (k : RunLogs) (ok f : StampParts → Bool) (ss : List StampParts)
 abbrev allow : (StampParts → Bool) → StampParts → StampParts → Bool
 allow f s x = f x || same_stamp x s
 
-or-left : (p q : Bool) → p ≡ true → (p || q) ≡ true
-or-left true q h = refl
-or-left false q h = absurd (false≢true h)
-
-or-right : (p q : Bool) → q ≡ true → (p || q) ≡ true
-or-right true q h = refl
-or-right false q h = h
-
-or-cases : (a b : Bool) → (a || b) ≡ true → (a ≡ true) ⊎ (b ≡ true)
-or-cases true b h = inl refl
-or-cases false b h = inr h
-
 allowed : (f : StampParts → Bool) (s x : StampParts) → allow f s x ≡ true → (f x ≡ true) ⊎ (x ≡ s)
-allowed f s x h = elim (or-cases (f x) (same_stamp x s) h) [ inl e ↦ inl e | inr e ↦ inr (same_stamp-is x s e) ]
+allowed f s x h = elim (or_cases (f x) (same_stamp x s) h) [ inl e ↦ inl e | inr e ↦ inr (same_stamp-is x s e) ]
 
 grows : (k : RunLogs) (ok f : StampParts → Bool) (s : StampParts) (ss : List StampParts) → Far k ok f (s ∷ ss) → Grows f (allow f s) s
 grows k ok f s ss far = record {
   low = λ x h. far.low x s h (inl refl);
-  more = λ x h. or-left (f x) (same_stamp x s) h;
-  one = or-right (f s) (same_stamp s s) (same_stamp-of s s refl);
+  more = λ x h. or_left (f x) (same_stamp x s) h;
+  one = or_right (f s) (same_stamp s s) (same_stamp-of s s refl);
   only = λ x h n. elim (allowed f s x h) [ inl e ↦ e | inr e ↦ absurd (n e) ];
 }
 
@@ -167,8 +155,8 @@ farther k ok f s ss far = record {
   done = λ x h. elim (allowed f s x h) [ inl e ↦ far.done x e | inr e ↦ far.pass x (inl e) ];
   low = λ x y h j. elim (allowed f s x h) [ inl e ↦ far.low x y e (inr j) | inr e ↦ ap (λ z. stamp_lt z y) e ∙ far.rise.0 y j ];
   all = λ o x v p h. elim (far.all o x v p h) [
-    | inl e ↦ inl (or-left (f x.stamp) (same_stamp x.stamp s) e)
-    | inr (inl e) ↦ inl (or-right (f x.stamp) (same_stamp x.stamp s) (same_stamp-of x.stamp s e))
+    | inl e ↦ inl (or_left (f x.stamp) (same_stamp x.stamp s) e)
+    | inr (inl e) ↦ inl (or_right (f x.stamp) (same_stamp x.stamp s) (same_stamp-of x.stamp s e))
     | inr (inr j) ↦ inr j
   ];
   pass = λ y j. far.pass y (inr j);

@@ -17,7 +17,7 @@ use Rattle.repository_laws.proofs.Logs.{put-logged}
 stretch-path : (o p : ObjectId) (x y : TimeParts) → mark.Stretch p y ≡ mark.Stretch o x → effect.Stretch p y ≡ effect.Stretch o x
 stretch-path o p x y e = cc e
 
-stretch-logged : (l : List Effect) (o : ObjectId) (x : TimeParts) → Has (mark.Stretch o x) (marks l) → Has (effect.Stretch o x) l
+pub stretch-logged : (l : List Effect) (o : ObjectId) (x : TimeParts) → Has (mark.Stretch o x) (marks l) → Has (effect.Stretch o x) l
 stretch-logged [] o x h = absurd h
 stretch-logged (effect.Stretch p y ∷ l) o x (inl e) = inl (stretch-path o p x y e)
 stretch-logged (effect.Stretch p y ∷ l) o x (inr h) = inr (stretch-logged l o x h)
@@ -27,13 +27,7 @@ stretch-logged (effect.Decide s d ∷ l) o x (inl e) = absurd (cc e)
 stretch-logged (effect.Decide s d ∷ l) o x (inr h) = inr (stretch-logged l o x h)
 stretch-logged (effect.Learn s c ∷ l) o x (inl e) = absurd (cc e)
 stretch-logged (effect.Learn s c ∷ l) o x (inr h) = inr (stretch-logged l o x h)
-stretch-logged (effect.Begin s d ∷ l) o x h = inr (stretch-logged l o x h)
-stretch-logged (effect.Run n ∷ l) o x h = inr (stretch-logged l o x h)
-stretch-logged (effect.Act i j t n c z ∷ l) o x h = inr (stretch-logged l o x h)
-stretch-logged (effect.Try i s ∷ l) o x h = inr (stretch-logged l o x h)
-stretch-logged (effect.Got i w ∷ l) o x h = inr (stretch-logged l o x h)
-stretch-logged (effect.Acked i ∷ l) o x h = inr (stretch-logged l o x h)
-stretch-logged (effect.End i w ∷ l) o x h = inr (stretch-logged l o x h)
+stretch-logged (f ∷ l) o x h = inr (stretch-logged l o x h)
 
 pub once-read : (l : List Effect) (o : ObjectId) (t e : TimeParts) (v : Value) → Once (λ k. write_step (marks k) o t v ≡ write.LaterRead e) l → Has (effect.Stretch o e) l
 once-read [] o t e v h = stretch-logged [] o e (later-read (marks []) o t v e h).1

@@ -1,5 +1,6 @@
 -- A script that keeps to the repositories of its plan asks for objects of these alone.
 use Rattle.std.proofs.Common.{◌≡◌, ℕ, zero, suc, ◌^◌, nat_lt, Bool, true, false, List, [], ◌∷◌, ◌++◌, refl, subst, ap, Some, Result, Ok, Err, if◌then◌else◌, pos, negsuc}
+use Rattle.std.proofs.lemmas.Option.{same_Some}
 use Rattle.value_form.specs.declared.fail_kinds.FailKind.{FailKind}
 use Rattle.value_form.specs.declared.fail_kinds.FailKind.TheVariants as fails
 use Rattle.value_form.specs.declared.objects.ObjectId.{ObjectId}
@@ -38,14 +39,11 @@ inside-after n (Writes o a t) [] h = h
 inside-after n (Writes o a t) (Stored ∷ ans) h = inside-after n t ans h.1
 inside-after n (Writes o a t) (Got b ∷ ans) h = h
 
-same-some : (p q : Request) → Some p ≡ Some q → p ≡ q
-same-some p q e = cc e
-
 pub inside-asks : (n : ℕ) (t : Tree) (q : Request) → Inside n t → asks t ≡ Some q → InRange n (asked_of q).repository
 inside-asks n (Ends e) q h k = absurd (cc k)
 inside-asks n (Says a t) q h k = inside-asks n t q h k
-inside-asks n (Reads o f) q h k = subst (λ x. InRange n (asked_of x).repository) (same-some _ q k) h.0
-inside-asks n (Writes o a t) q h k = subst (λ x. InRange n (asked_of x).repository) (same-some _ q k) h.0
+inside-asks n (Reads o f) q h k = subst (λ x. InRange n (asked_of x).repository) (same_Some _ q k) h.0
+inside-asks n (Writes o a t) q h k = subst (λ x. InRange n (asked_of x).repository) (same_Some _ q k) h.0
 
 -- ---- objects
 

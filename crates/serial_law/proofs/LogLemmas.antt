@@ -1,7 +1,7 @@
 -- logs, their marks, and tests on them
 use Rattle.std.proofs.Common.{◌≡◌, ℕ, ◌≤◌, zero, suc, Bool, true, false, List, [], ◌∷◌, refl, sym, ◌∙◌, ap, Option, Some, None, ◌⊎◌, inl, inr, ◌||◌, ◌&&◌, not, subst, nat_le, arith, if◌then◌else◌}
 use Rattle.std.proofs.lemmas.Grind.{common_steps}
-use Rattle.std.proofs.lemmas.Bool.{false≢true}
+use Rattle.std.proofs.lemmas.Bool.{false≢true, or_left, or_right, or_cases, leb-true, le-leb}
 use Rattle.pseudo_time.specs.TimeParts.{TimeParts}
 use Rattle.pseudo_time.specs.StampParts.{StampParts}
 use Rattle.value_form.specs.declared.objects.ObjectId.{ObjectId}
@@ -71,23 +71,11 @@ settle-marks (effect.Learn t d ∷ log) s c h =
     ]
 settle-marks (f ∷ log) s c h = older f log s c (settle-marks log s c h)
 
-or-cases : (a b : Bool) → (a || b) ≡ true → (a ≡ true) ⊎ (b ≡ true)
-or-cases true b h = inl refl
-or-cases false b h = inr h
-
-or-left : (p q : Bool) → p ≡ true → (p || q) ≡ true
-or-left true q h = refl
-or-left false q h = absurd (false≢true h)
-
-or-right : (p q : Bool) → q ≡ true → (p || q) ≡ true
-or-right true q h = refl
-or-right false q h = h
-
 pub has-commit : (s : StampParts) (log : List Effect) → has_commit s log ≡ true → Has (effect.Decide s decision.Committed) log
 unfolding has_commit
 has-commit s [] h = absurd (false≢true h)
 has-commit s (effect.Decide t decision.Committed ∷ log) h =
-    elim (or-cases (same_stamp t s && not (knows log s)) (has_commit s log) h) [
+    elim (or_cases (same_stamp t s && not (knows log s)) (has_commit s log) h) [
       | inl e ↦ inl (decide-path s t decision.Committed (same_stamp-is t s (and-left (same_stamp t s) _ e)))
       | inr e ↦ inr (has-commit s log e)
     ]
@@ -109,18 +97,10 @@ pub knows-has : (log : List Effect) (s : StampParts) → knows log s ≡ true �
 unfolding knows
 knows-has [] s h = absurd (false≢true h)
 knows-has (effect.Decide t d ∷ log) s h =
-    elim (or-cases (same_stamp t s) (knows log s) h) [ inl e ↦ inl (d, inl (decide-path s t d (same_stamp-is t s e))) | inr e ↦ skip (effect.Decide t d) log s (knows-has log s e) ]
+    elim (or_cases (same_stamp t s) (knows log s) h) [ inl e ↦ inl (d, inl (decide-path s t d (same_stamp-is t s e))) | inr e ↦ skip (effect.Decide t d) log s (knows-has log s e) ]
 knows-has (effect.Learn t c ∷ log) s h =
-    elim (or-cases (same_stamp t s) (knows log s) h) [ inl e ↦ inr (c, inl (learn-path s t c c (same_stamp-is t s e) refl)) | inr e ↦ skip (effect.Learn t c) log s (knows-has log s e) ]
-knows-has (effect.Put o x v ∷ log) s h = skip (effect.Put o x v) log s (knows-has log s h)
-knows-has (effect.Stretch o x ∷ log) s h = skip (effect.Stretch o x) log s (knows-has log s h)
-knows-has (effect.Begin t d ∷ log) s h = skip (effect.Begin t d) log s (knows-has log s h)
-knows-has (effect.Run n ∷ log) s h = skip (effect.Run n) log s (knows-has log s h)
-knows-has (effect.Act i x t k c y ∷ log) s h = skip (effect.Act i x t k c y) log s (knows-has log s h)
-knows-has (effect.Try i t ∷ log) s h = skip (effect.Try i t) log s (knows-has log s h)
-knows-has (effect.Got k v ∷ log) s h = skip (effect.Got k v) log s (knows-has log s h)
-knows-has (effect.Acked k ∷ log) s h = skip (effect.Acked k) log s (knows-has log s h)
-knows-has (effect.End i o ∷ log) s h = skip (effect.End i o) log s (knows-has log s h)
+    elim (or_cases (same_stamp t s) (knows log s) h) [ inl e ↦ inr (c, inl (learn-path s t c c (same_stamp-is t s e) refl)) | inr e ↦ skip (effect.Learn t c) log s (knows-has log s e) ]
+knows-has (f ∷ log) s h = skip f log s (knows-has log s h)
 
 commits-only : (d : Decision) → is_commit d ≡ true → d ≡ decision.Committed
 commits-only decision.Committed h = refl
@@ -143,11 +123,11 @@ commit-has s (effect.Decide t decision.Committed ∷ log) o (inl e) = first (kno
     first : (b : Bool) → knows log s ≡ b → (Has (effect.Decide s decision.Committed) log → has_commit s log ≡ true) → ((same_stamp t s && not (knows log s)) || has_commit s log) ≡ true
     first true k rest =
         elim (knows-has log s k) [
-          | inl d ↦ or-right (same_stamp t s && not (knows log s)) (has_commit s log) (rest (subst (λ z. Has (effect.Decide s z) log) (commits-only d.0 (o.decides d.0 (inr d.1))) d.1))
+          | inl d ↦ or_right (same_stamp t s && not (knows log s)) (has_commit s log) (rest (subst (λ z. Has (effect.Decide s z) log) (commits-only d.0 (o.decides d.0 (inr d.1))) d.1))
           | inr c ↦ absurd (o.learns c.0 (inr c.1))
         ]
-    first false k rest = or-left (same_stamp t s && not (knows log s)) (has_commit s log) (and-both (same_stamp t s) (not (knows log s)) (same_stamp-of t s (same-decide s t decision.Committed decision.Committed e)) (ap not k))
-commit-has s (effect.Decide t decision.Committed ∷ log) o (inr h) = or-right (same_stamp t s && not (knows log s)) (has_commit s log) (commit-has s log (less-commits s (effect.Decide t decision.Committed) log o) h)
+    first false k rest = or_left (same_stamp t s && not (knows log s)) (has_commit s log) (and-both (same_stamp t s) (not (knows log s)) (same_stamp-of t s (same-decide s t decision.Committed decision.Committed e)) (ap not k))
+commit-has s (effect.Decide t decision.Committed ∷ log) o (inr h) = or_right (same_stamp t s && not (knows log s)) (has_commit s log) (commit-has s log (less-commits s (effect.Decide t decision.Committed) log o) h)
 commit-has s (f ∷ log) o (inl e) = absurd (cc e)
 commit-has s (f ∷ log) o (inr h) = commit-has s log (less-commits s f log o) h
 
@@ -155,7 +135,7 @@ pub has-learned : (s : StampParts) (log : List Effect) → has_learned s log ≡
 unfolding has_learned
 has-learned s [] h = absurd (false≢true h)
 has-learned s (effect.Learn t true ∷ log) h =
-    elim (or-cases (same_stamp t s && not (knows log s)) (has_learned s log) h) [
+    elim (or_cases (same_stamp t s && not (knows log s)) (has_learned s log) h) [
       | inl e ↦ inl (learn-path s t true true (same_stamp-is t s (and-left (same_stamp t s) _ e)) refl)
       | inr e ↦ inr (has-learned s log e)
     ]
@@ -181,31 +161,22 @@ learned-has s (effect.Learn t true ∷ log) o (inl e) = first (knows log s) refl
     first true k rest =
         elim (knows-has log s k) [
           | inl d ↦ absurd (o.decides d.0 (inr d.1))
-          | inr c ↦ or-right (same_stamp t s && not (knows log s)) (has_learned s log) (rest (subst (λ z. Has (effect.Learn s z) log) (o.learns c.0 (inr c.1)) c.1))
+          | inr c ↦ or_right (same_stamp t s && not (knows log s)) (has_learned s log) (rest (subst (λ z. Has (effect.Learn s z) log) (o.learns c.0 (inr c.1)) c.1))
         ]
-    first false k rest = or-left (same_stamp t s && not (knows log s)) (has_learned s log) (and-both (same_stamp t s) (not (knows log s)) (same_stamp-of t s (same-learn s t true true e)) (ap not k))
-learned-has s (effect.Learn t true ∷ log) o (inr h) = or-right (same_stamp t s && not (knows log s)) (has_learned s log) (learned-has s log (less-learns s (effect.Learn t true) log o) h)
+    first false k rest = or_left (same_stamp t s && not (knows log s)) (has_learned s log) (and-both (same_stamp t s) (not (knows log s)) (same_stamp-of t s (same-learn s t true true e)) (ap not k))
+learned-has s (effect.Learn t true ∷ log) o (inr h) = or_right (same_stamp t s && not (knows log s)) (has_learned s log) (learned-has s log (less-learns s (effect.Learn t true) log o) h)
 learned-has s (f ∷ log) o (inl e) = absurd (cc e)
 learned-has s (f ∷ log) o (inr h) = learned-has s log (less-learns s f log o) h
 
 -- repositories of the run
 pub in-low : (k : RunLogs) (r : ℕ) → in_run k r ≡ true → 1 ≤ r
-in-low k r h = le-from 1 r (and-left (nat_le 1 r) _ h)
-  where
-    le-from : (a b : ℕ) → nat_le a b ≡ true → a ≤ b
-    le-from a b h = grind (arith, common_steps)
+in-low k r h = leb-true 1 r (and-left (nat_le 1 r) _ h)
 
 pub in-high : (k : RunLogs) (r : ℕ) → in_run k r ≡ true → r ≤ k.repositories
-in-high k r h = le-from r k.repositories (and-right (nat_le 1 r) _ h)
-  where
-    le-from : (a b : ℕ) → nat_le a b ≡ true → a ≤ b
-    le-from a b h = grind (arith, common_steps)
+in-high k r h = leb-true r k.repositories (and-right (nat_le 1 r) _ h)
 
 pub in-both : (k : RunLogs) (r : ℕ) → 1 ≤ r → r ≤ k.repositories → in_run k r ≡ true
-in-both k r h j = and-both (nat_le 1 r) (nat_le r k.repositories) (le-to 1 r h) (le-to r k.repositories j)
-  where
-    le-to : (a b : ℕ) → a ≤ b → nat_le a b ≡ true
-    le-to a b h = grind (arith, common_steps)
+in-both k r h j = and-both (nat_le 1 r) (nat_le r k.repositories) (le-leb 1 r h) (le-leb r k.repositories j)
 
 pub le-cases : (r n : ℕ) → r ≤ suc n → (r ≡ suc n) ⊎ (r ≤ n)
 le-cases r n h = cases (nat_le r n) refl
@@ -219,15 +190,15 @@ unfolding some_of
 some-yes zero f r h j k = absurd (omega (arith, h, j))
 some-yes (suc n) f r h j k =
     elim (le-cases r n j) [
-      | inl e ↦ or-left (f (suc n)) (some_of n f) (ap f (sym e) ∙ k)
-      | inr e ↦ or-right (f (suc n)) (some_of n f) (some-yes n f r h e k)
+      | inl e ↦ or_left (f (suc n)) (some_of n f) (ap f (sym e) ∙ k)
+      | inr e ↦ or_right (f (suc n)) (some_of n f) (some-yes n f r h e k)
     ]
 
 pub some-is : (n : ℕ) (f : ℕ → Bool) → some_of n f ≡ true → (r : ℕ) × (1 ≤ r) × (r ≤ n) × (f r ≡ true)
 unfolding some_of
 some-is zero f h = absurd (false≢true h)
 some-is (suc n) f h =
-    elim (or-cases (f (suc n)) (some_of n f) h) [
+    elim (or_cases (f (suc n)) (some_of n f) h) [
       | inl e ↦ (suc n, omega arith, omega arith, e)
       | inr e ↦ let w = some-is n f e in (w.0, w.1, (let le = w.2 in omega (arith, le)), w.3)
     ]

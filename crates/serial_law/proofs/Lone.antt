@@ -1,6 +1,6 @@
 -- one try: the premises of the second part, and the value lemma
-use Rattle.std.proofs.Common.{◌≡◌, ◌+◌, ◌≤◌, ◌<◌, length, Bool, true, false, List, ◌∷◌, ◌++◌, refl, sym, ◌∙◌, ap, subst, Option, Some, None, inl, inr, ◌&&◌, ◌||◌, arith}
-use Rattle.std.proofs.lemmas.Bool.{false≢true, true≢false}
+use Rattle.std.proofs.Common.{◌≡◌, ◌+◌, ◌≤◌, ◌<◌, length, Bool, true, false, List, ◌∷◌, ◌++◌, refl, sym, ◌∙◌, ap, subst, Option, Some, None, inl, inr, ◌&&◌, arith}
+use Rattle.std.proofs.lemmas.Bool.{true≢false, or_left, or_right}
 use Rattle.pseudo_time.specs.TimeParts.{TimeParts}
 use Rattle.pseudo_time.specs.StampParts.{StampParts}
 use Rattle.value_form.specs.declared.objects.ObjectId.{ObjectId}
@@ -47,14 +47,6 @@ alive-sure None c h k = refl
 alive-sure (Some true) c h k = refl
 alive-sure (Some false) c h k = absurd (true≢false (sym k ∙ h refl))
 
-or-left : (p q : Bool) → p ≡ true → (p || q) ≡ true
-or-left true q h = refl
-or-left false q h = absurd (false≢true h)
-
-pub or-right : (p q : Bool) → q ≡ true → (p || q) ≡ true
-or-right true q h = refl
-or-right false q h = h
-
 both-values : (r : Option Seen) (v w : Value) → HasValue r v → HasValue r w → v ≡ w
 both-values None v w h k = h ∙ sym k
 both-values (Some q) v w h k = h ∙ sym k
@@ -79,7 +71,7 @@ own-case t ans s marks sure f pre y o v e r val st pas top p w l =
     let less : length p < length pre = longer p pre Stored l.0.0.0 l.0.0.1 in
     let shown : shows (marks o) (at s pre) (at s p) ≡ true =
     and-both (lt (at s p) (at s pre)) _ (lt-step s (length p + 1) (length pre + 1) (omega (arith, less)))
-    (or-right (alive (marks o) (at s p)) (same_stamp s s) (same_stamp-of s s refl)) in
+    (or_right (alive (marks o) (at s p)) (same_stamp s s) (same_stamp-of s s refl)) in
     own-end r val st pas (at-most (λ x. shows (marks o) (at s pre) x) o (at s p) w (marks o) r top put shown)
   where
     own-end : (r : Option Seen) → HasValue r v → Picked o (marks o) r → Passes (λ x. shows (marks o) (at s pre) x) r → AtMost r (at s p) → v ≡ w
@@ -133,7 +125,7 @@ value t ans s marks sure f m before pre post v o kinds e asked =
           (starts-all (λ x. low x ≡ true → ok x ≡ true) o (marks o) (λ x h.
           and-both (lt x (at s pre)) _
           (stamp-below x s (length pre + 1) (and-left (stamp_lt x.stamp s) _ h))
-          (or-left (alive (marks o) x) (same_stamp x.stamp s)
+          (or_left (alive (marks o) x) (same_stamp x.stamp s)
           (alive-sure (settle_of (marks o) x.stamp) (sure x.stamp) (f.no o x.stamp) (and-right (stamp_lt x.stamp s) _ h)))))
           (passes-low t ans s marks sure f pre o (views (marks o) o (at s pre)) w.1 (scan-passes ok o (marks o))
           (not-own t ans s marks sure f pre (Got v ∷ post) o e r.0 (views (marks o) o (at s pre)) (picked ok o (marks o)) (scan-passes ok o (marks o)))) in

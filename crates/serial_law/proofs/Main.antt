@@ -13,13 +13,14 @@ use Rattle.serial_law.proofs.Before.{whole, before-holds}
 use Rattle.serial_law.proofs.Lines.{puts-are-lines}
 use Rattle.script_meaning.specs.Meaning.{Over}
 use Rattle.world_core.specs.Deeds.{RunLogs, Try, before, committed, marks_at}
-use Rattle.serial_law.specs.Facts.{RunFacts, MayCommit}
+use Rattle.serial_law.specs.Facts.{RunFacts}
 use Rattle.serial_law.specs.Serial.{IsSerial, Serial, IsComplete}
 use Rattle.serial_model.specs.Questions.{Tree, talked, talked_alone}
 use Rattle.value_form.specs.Objects.{Objects}
 use Rattle.value_form.specs.declared.endings.Ending.{Ending}
 use Rattle.value_form.specs.declared.endings.Ending.TheVariants as ending
 use Rattle.pseudo_time.specs.Lists.{Has}
+use Rattle.broker_laws.specs.Posts.{MayCommit}
 
 whole-of : (t : Tree) (ans : List Answer) (m : Objects) (e : Ending) → Alike t ans m → (talked t ans).stop ≡ Over e → IsComplete (talked t ans) (talked_alone t m) e
 whole-of t ans m e h k = let s = h.whole e k in record { over = k; lines = s.0; ends = s.1 }

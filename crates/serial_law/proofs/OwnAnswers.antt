@@ -1,6 +1,8 @@
 -- Each answer comes from the repository of the object that was asked for; one pseudotime carries one request; a read shows the reader's own last write.
-use Rattle.std.proofs.Common.{◌≡◌, ℕ, ◌+◌, ◌≤◌, ◌<◌, Bool, true, false, ◌||◌, List, [], ◌∷◌, ◌++◌, length, refl, sym, ◌∙◌, ap, subst, Option, Some, None, arith, inl, inr, if◌then◌else◌}
+use Rattle.std.proofs.Common.{◌≡◌, ℕ, ◌+◌, ◌≤◌, ◌<◌, true, false, ◌||◌, List, [], ◌∷◌, ◌++◌, length, refl, sym, ◌∙◌, ap, subst, Option, Some, None, arith}
 use Rattle.std.proofs.lemmas.List.{length-append}
+use Rattle.std.proofs.lemmas.Bool.{or_right}
+use Rattle.std.proofs.lemmas.Option.{same_Some}
 use Rattle.pseudo_time.specs.Lists.{Every, Has}
 use Rattle.pseudo_time.specs.Order.{lt, same_stamp}
 use Rattle.pseudo_time.specs.StampParts.{StampParts}
@@ -37,13 +39,13 @@ use Rattle.world_facts.specs.NodeRules.{kind_post}
 use Rattle.serial_law.specs.Answers.{brings, IsAnsweredThere, StoredBefore}
 use Rattle.serial_law.specs.Facts.{asked_of}
 use Rattle.serial_law.specs.Runs.{Position, log_at, sent_before}
-use Rattle.serial_law.proofs.Attempts.{found-try}
+use Rattle.serial_law.proofs.Attempts.{found-try, found-in}
 use Rattle.serial_law.proofs.LogLemmas.{put-marks, marks-put}
-use Rattle.serial_law.proofs.Lone.{or-right}
 use Rattle.serial_law.proofs.Own.{front-short}
 use Rattle.serial_law.proofs.Puts.{Picked, at-most, picked}
 use Rattle.serial_law.proofs.Times.{inside, inside-high, inside-low}
 use Rattle.serial_law.proofs.Traces.{place-facts, broker-tidy, stamps-apart, answers-asked, answers-sent, requests-right, put-asked}
+use Rattle.world_facts.proofs.Growths.{every-of}
 
 read-same : (o p : ObjectId) → ToRead o ≡ ToRead p → o ≡ p
 read-same o p e = cc e
@@ -158,36 +160,22 @@ module _ (p : Position) where
         none [] = refl
         none (a ∷ xs) = ap (λ z. a ∷ z) (none xs)
 
-    every-of : {A : Type 0} → (P : A → Type 0) (xs : List A) → ((z : A) → Has z xs → P z) → Every P xs
-    every-of P [] h = tt
-    every-of P (z ∷ xs) h = (h z (inl refl), every-of P xs (λ y k. h y (inr k)))
-
     pub all-answered-there : Every (IsAnsweredThere p.script b ever) (tries_at b)
     all-answered-there = every-of (IsAnsweredThere p.script b ever) (tries_at b) answered-there
 
   -- ---- own writes
-
-  found-has : (s : StampParts) (ts : List Try) (t : Try) → find s ts ≡ Some t → Has t ts
-  found-has s [] t e = absurd (cc e)
-  found-has s (u ∷ ts) t e = go (λ k. found-has s ts t k) (same_stamp u.stamp s) e
-    where
-      go : (find s ts ≡ Some t → Has t ts) → (c : Bool) → (if c then Some u else find s ts) ≡ Some t → Has t (u ∷ ts)
-      go below true k = let same : u ≡ t = cc k in inl same
-      go below false k = inr (below k)
 
   -- a write that was asked for before a read of the same attempt was stored before it
   stored-first : (b : ℕ) (x y : TimeParts) (o u : ObjectId) (w : Value) → y.stamp ≡ x.stamp → y.step < x.step → IsAskOf p.script (tries_at b) x (ToRead u) → IsAskOf p.script (tries_at b) y (ToWrite o w) →
       WasSent ever (repository o.repository) (broker b) (message.Stored y)
   stored-first b x y o u w same less reads writes =
       let t : Try = writes.0 in
-      let one : t ≡ reads.0 = some-is t reads.0 (sym writes.1 ∙ ap (λ z. find z (tries_at b)) same ∙ reads.1) in
-      let has : Has t (tries_at b) = found-has y.stamp (tries_at b) t writes.1 in
+      let one : t ≡ reads.0 = same_Some t reads.0 (sym writes.1 ∙ ap (λ z. find z (tries_at b)) same ∙ reads.1) in
+      let has : Has t (tries_at b) = (found-in y.stamp (tries_at b) t writes.1).0 in
       let stamp : t.stamp ≡ y.stamp = (each-found (λ z. Unit {0}) y.stamp (tries_at b) t writes.1 (units (tries_at b))).1 in
       let long : length reads.2.0 ≤ length t.answers = front-short reads.2.0 reads.2.1 t.answers (ap (λ (z : Try). z.answers) one ∙ reads.2.2) in
       go t has stamp writes.2.0 writes.2.1 writes.2.2 writes.2.3 writes.2.4 (let a = reads.2.3 in let c = writes.2.3 in omega (arith, less, a, c, long))
     where
-      some-is : (c d : Try) → Some c ≡ Some d → c ≡ d
-      some-is c d e = cc e
 
       units : (ts : List Try) → Every (λ z. Unit {0}) ts
       units [] = tt
@@ -218,7 +206,7 @@ module _ (p : Position) where
       let sto = holds Repository r y.stamp.broker (message.Stored y) before.stored in
       let both : (sto.0 ≡ o) × (sto.1 ≡ w) = one-write y.stamp.broker (repository r) (repository r) y sto.0 o sto.1 w sto.2.0 before.asked in
       let put : Has (effect.Put o y w) (log_at p (repository r)) = subst (λ z. Has (effect.Put z y w) (log_at p (repository r))) both.0 (subst (λ z. Has (effect.Put sto.0 y z) (log_at p (repository r))) both.1 sto.3) in
-      let shown : shows l x y ≡ true = and-both (lt y x) (alive l y || same_stamp y.stamp x.stamp) before.below (or-right (alive l y) (same_stamp y.stamp x.stamp) (same_stamp-of y.stamp x.stamp before.same)) in
+      let shown : shows l x y ≡ true = and-both (lt y x) (alive l y || same_stamp y.stamp x.stamp) before.below (or_right (alive l y) (same_stamp y.stamp x.stamp) (same_stamp-of y.stamp x.stamp before.same)) in
       let most : AtMost (views l o x) y = at-most (λ z. shows l x z) o y w l (views l o x) (top-all (λ z. shows l x z) o l) (put-marks (log_at p (repository r)) o y w put) shown in
       sym viewed.0 ∙ ends (views l o x) most (scan-passes (λ z. shows l x z) o l) (picked (λ z. shows l x z) o l)
     where

@@ -1,5 +1,6 @@
 -- What the facts of a run say of one attempt.
 use Rattle.std.proofs.Common.{◌≡◌, ◌+◌, ◌≤◌, length, true, false, List, [], ◌∷◌, ◌++◌, refl, sym, ◌∙◌, ap, subst, Some, arith}
+use Rattle.std.proofs.lemmas.Option.{same_Some}
 use Rattle.pseudo_time.specs.TimeParts.{TimeParts}
 use Rattle.value_form.specs.declared.objects.ObjectId.{ObjectId}
 use Rattle.value_form.specs.declared.values.Value.{Value}
@@ -24,12 +25,6 @@ pub asked-here : (T : Try) (pre post : List Answer) (q : Request) → T.answers 
 asked-here T pre post q e h =
     let n : length pre + 1 ≡ length h.0 + 1 = h.3 in
     ap (λ x. asks (after T.script x)) (fronts pre h.0 post h.1 (sym e ∙ h.2) (omega (arith, n))) ∙ h.4
-
-same-some : (p q : Request) → Some p ≡ Some q → p ≡ q
-same-some p q e = cc e
-
-same-object : (o p : ObjectId) (v w : Value) → Some (ToWrite p v) ≡ Some (ToWrite o w) → p ≡ o
-same-object o p v w e = cc e
 
 got-viewed : (k : RunLogs) (ever : List Post) → RunFacts k ever → (T : Try) → Has T k.tries → (pre post : List Answer) (v : Value) →
     T.answers ≡ pre ++ (Got v ∷ post) → (o : ObjectId) × (asks (after T.script pre) ≡ Some (ToRead o)) × Viewed (marks_at k o) o (at T.stamp pre) v
@@ -64,7 +59,7 @@ pub write-stored : (k : RunLogs) (ever : List Post) → RunFacts k ever → (T :
     Written T.script T.answers o pre w → PutAt o (at T.stamp pre) w (marks_at k o)
 write-stored k ever f T a o w pre h =
     let s = acked-put k ever f T a pre h.0.0 h.0.1 in
-    let same : ToWrite s.0 s.1 ≡ ToWrite o w = same-some (ToWrite s.0 s.1) (ToWrite o w) (sym s.2 ∙ h.1) in
+    let same : ToWrite s.0 s.1 ≡ ToWrite o w = same_Some (ToWrite s.0 s.1) (ToWrite o w) (sym s.2 ∙ h.1) in
     moved s.0 o s.1 w (cc same) (cc same) s.3
   where
     moved : (p o : ObjectId) (v w : Value) → p ≡ o → v ≡ w → PutAt p (at T.stamp pre) v (marks_at k p) → PutAt o (at T.stamp pre) w (marks_at k o)

@@ -1,7 +1,6 @@
 -- What holds of all logs and messages of a legal run gives the facts that keep it serial.
-use Rattle.std.proofs.Common.{◌≡◌, ℕ, zero, suc, ◌+◌, ◌≤◌, Bool, true, false, List, [], ◌∷◌, ◌++◌, reverse, refl, sym, ◌∙◌, ap, subst, Option, Some, None, is_some, slice_get, inl, inr, if◌then◌else◌, ◌==◌}
+use Rattle.std.proofs.Common.{◌≡◌, ℕ, ◌+◌, ◌≤◌, true, List, [], ◌∷◌, ◌++◌, reverse, refl, sym, ◌∙◌, ap, subst, Some, is_some, inl, inr, ◌==◌}
 use Rattle.std.proofs.lemmas.List.{append-nil}
-use Rattle.std.specs.List.{filter}
 use Rattle.pseudo_time.specs.Lists.{Every, Has}
 use Rattle.pseudo_time.specs.StampParts.{StampParts}
 use Rattle.pseudo_time.specs.TimeParts.{TimeParts}
@@ -22,7 +21,6 @@ use Rattle.effect_form.specs.declared.outcomes.Outcome.{Outcome}
 use Rattle.effect_form.specs.declared.outcomes.Outcome.TheVariants as outcome
 use Rattle.message_form.specs.declared.messages.Message.{Message}
 use Rattle.message_form.specs.declared.messages.Message.TheVariants as message
-use Rattle.turn_form.specs.Growth.{Each}
 use Rattle.turn_form.specs.Posts.{Post, WasSent}
 use Rattle.object_history.specs.Views.{Viewed}
 use Rattle.script_meaning.specs.Meaning.{Got, Stored, Request, ToRead, ToWrite, Stop, Asks, Over}
@@ -39,7 +37,7 @@ use Rattle.broker_core.specs.Book.{book, tries, tries_of, find}
 use Rattle.pseudo_time.specs.Nodes.{broker, repository}
 use Rattle.broker_core.specs.Tasks.{Task, task_of, tasks, Scripted}
 use Rattle.broker_laws.specs.Fits as brokers
-use Rattle.broker_laws.specs.Posts.{IsAskOf, IsCommitOf, IsBelow, IsPlayed, IsProven, IsPlanned}
+use Rattle.broker_laws.specs.Posts.{IsAskOf, IsCommitOf, IsBelow, IsPlayed, IsProven, IsPlanned, MayCommit}
 use Rattle.broker_laws.specs.Posts as posts
 use Rattle.broker_laws.proofs.Found.{planned}
 use Rattle.broker_laws.proofs.Moves.{clocks, distinct}
@@ -50,7 +48,7 @@ use Rattle.world_facts.specs.NodeRules.{kind_post, node_facts}
 use Rattle.world_facts.specs.Refines as refines
 use Rattle.serial_law.specs.Causes.{HasReason, Causes}
 use Rattle.world_core.specs.Deeds.{Try, RunLogs, in_run}
-use Rattle.serial_law.specs.Facts.{Said, at, asks, request_at, asked_of, Asked, MayCommit, RunFacts}
+use Rattle.serial_law.specs.Facts.{Said, at, asks, request_at, asked_of, Asked, RunFacts}
 use Rattle.serial_law.specs.Runs.{attempt, run_of}
 use Rattle.broker_core.specs.Fits.{keep}
 use Rattle.broker_laws.proofs.Kept.{kept}
@@ -61,14 +59,9 @@ use Rattle.serial_law.proofs.CauseLemmas.{once-read, once-version}
 use Rattle.serial_law.proofs.Inside.{Inside, inside-after, inside-asks, inside-script}
 use Rattle.serial_law.proofs.LogLemmas.{in-both}
 use Rattle.serial_law.proofs.Premises.{asked-here}
+use Rattle.world_facts.proofs.Growths.{each-has, every-filter, every-at}
 
 -- ---- lists
-
--- an effect of a log, with the log below it
-pub each-has : (P : List Effect → Effect → Type 0) (log : List Effect) (f : Effect) → Each P log → Has f log → (below : List Effect) × P below f
-each-has P [] f h k = absurd k
-each-has P (g ∷ log) f h (inl e) = (log, subst (P log) e h.1)
-each-has P (g ∷ log) f h (inr k) = each-has P log f h.0 k
 
 pub said-of : (ever : List Post) (p : Post) → Has p ever → Said ever p.message
 said-of [] p h = absurd h
@@ -80,23 +73,10 @@ of-said [] m h = absurd h
 of-said (q ∷ ever) m (inl e) = (q, inl refl, e)
 of-said (q ∷ ever) m (inr h) = let r = of-said ever m h in (r.0, inr r.1, r.2)
 
-pub kept-every : {A : Type 0} → (P : A → Type 0) (test : A → Bool) (xs : List A) → Every P xs → Every P (filter test xs)
-kept-every P test [] h = tt
-kept-every P test (x ∷ xs) h = go (test x) (kept-every P test xs h.1)
-  where
-    go : (c : Bool) → Every P (filter test xs) → Every P (if c then x ∷ filter test xs else filter test xs)
-    go true k = (h.0, k)
-    go false k = k
-
-pub at-place : {A : Type 0} → (P : A → Type 0) (xs : List A) (n : ℕ) (x : A) → Every P xs → slice_get xs n ≡ Some x → P x
-at-place P [] n x h e = absurd (cc e)
-at-place P (y ∷ xs) zero x h e = let same : y ≡ x = cc e in subst P same h.0
-at-place P (y ∷ xs) (suc n) x h e = at-place P xs n x h.1 e
-
 -- ---- what the acts of a plan keep to
 
 -- its home is a repository of the run, and so are those of the objects that its script asks for
-abbrev IsKept : (List ℕ → Tree) → ℕ → Task → Type 0
+abbrev pub IsKept : (List ℕ → Tree) → ℕ → Task → Type 0
 IsKept script n task = InRange n task.home × Inside n (script task.script)
 
 pub kept-acts : (script : List ℕ → Tree) (n k first : ℕ) (acts : List ActSpec) → EachAct n k first acts → Scripted script acts → Every (λ a. IsKept script n (task_of a)) acts
@@ -112,16 +92,6 @@ kept-tasks script n (a ∷ acts) h = (h.0, kept-tasks script n acts h.1)
 
 asks-some : (s : Stop) (q : Request) → s ≡ Asks q → request_at s ≡ Some q
 asks-some s q e = ap request_at e
-
-may-commit : (o : Option Outcome) → posts.MayCommit o → MayCommit o
-may-commit None h = tt
-may-commit (Some outcome.Committed) h = tt
-may-commit (Some (outcome.Expired d m)) h = tt
-may-commit (Some (outcome.Withdrawn l)) h = absurd h
-may-commit (Some (outcome.Failed l k)) h = absurd h
-may-commit (Some (outcome.LaterRead o e)) h = absurd h
-may-commit (Some (outcome.LaterVersion o x)) h = absurd h
-may-commit (Some (outcome.Spent c)) h = absurd h
 
 module _ (script : List ℕ → Tree) (b : Base) (plan : Plan) (logs : NodeId → List Effect) (past sent : List Post) (May : ℕ → Type 0)
     (same_run : b.run ≡ plan.run) (same_acts : b.acts ≡ plan.acts) (whole : IsOfLanguage plan) (scripted : Scripted script plan.acts)
@@ -211,9 +181,9 @@ module _ (script : List ℕ → Tree) (b : Base) (plan : Plan) (logs : NodeId �
 
     its-task : IsKept script plan.repositories m.try.task
     its-task =
-        at-place (IsKept script plan.repositories) (tasks (acts_of me plan.acts)) its-plan.1.0 m.try.task
+        every-at (IsKept script plan.repositories) (tasks (acts_of me plan.acts)) its-plan.1.0 m.try.task
         (kept-tasks script plan.repositories (acts_of me plan.acts)
-        (kept-every (λ a. IsKept script plan.repositories (task_of a)) (λ (a : ActSpec). a.broker == me) plan.acts (kept-acts script plan.repositories plan.brokers 1 plan.acts whole.acts scripted)))
+        (every-filter (λ a. IsKept script plan.repositories (task_of a)) (λ (a : ActSpec). a.broker == me) plan.acts (kept-acts script plan.repositories plan.brokers 1 plan.acts whole.acts scripted)))
         its-plan.1.1
 
     its-home : InRange plan.repositories m.try.stamp.home
@@ -241,7 +211,7 @@ module _ (script : List ℕ → Tree) (b : Base) (plan : Plan) (logs : NodeId �
     its-commit i k h =
         let same : h.0 ≡ m.try = same-try m.try.stamp i h.0 refl k h.1 in (
           talked-stop (script m.try.task.script) m.try.answers ∙ subst (λ (y : books.Try). stop (script y.task.script) y.answers ≡ Over ending.Finished) same h.3,
-          may-commit m.try.end (subst (λ (y : books.Try). posts.MayCommit y.end) same h.2),
+          subst (λ (y : books.Try). MayCommit y.end) same h.2,
         )
 
   -- ---- what was asked
@@ -275,12 +245,7 @@ module _ (script : List ℕ → Tree) (b : Base) (plan : Plan) (logs : NodeId �
   own-put r (effect.Decide s d ∷ l) o x v h (inr k) = own-put r l o x v h.2 k
   own-put r (effect.Learn s c ∷ l) o x v h (inl e) = absurd (cc e)
   own-put r (effect.Learn s c ∷ l) o x v h (inr k) = own-put r l o x v h.2 k
-  own-put r (effect.Run n ∷ l) o x v h k = absurd h
-  own-put r (effect.Act i j t n c z ∷ l) o x v h k = absurd h
-  own-put r (effect.Try i s ∷ l) o x v h k = absurd h
-  own-put r (effect.Got i w ∷ l) o x v h k = absurd h
-  own-put r (effect.Acked i ∷ l) o x v h k = absurd h
-  own-put r (effect.End i w ∷ l) o x v h k = absurd h
+  own-put r (f ∷ l) o x v h k = absurd h
 
   -- ---- all together
 

@@ -1,7 +1,6 @@
 -- Stamps in their order, and times of one stamp.
-use Rattle.std.proofs.Common.{◌≡◌, ◌≢◌, ℕ, ◌≤◌, ◌<◌, true, false, refl, sym, ◌∙◌, ap, subst, nat_lt, arith}
-use Rattle.std.proofs.lemmas.Grind.{common_steps}
-use Rattle.std.proofs.lemmas.Bool.{false≢true, true≢false}
+use Rattle.std.proofs.Common.{◌≡◌, ◌≢◌, ℕ, ◌≤◌, ◌<◌, true, false, refl, sym, ◌∙◌, ap, subst}
+use Rattle.std.proofs.lemmas.Bool.{false≢true, true≢false, lt-ltb, ltb-true, ltb-false}
 use Rattle.std.specs.Ordering.{is_lt, is_eq, ordering_reverse}
 use Rattle.std.specs.declared.cmp.Ordering.{Ordering}
 use Rattle.std.specs.declared.cmp.Ordering.TheVariants.{Less, Equal, Greater}
@@ -40,26 +39,17 @@ not-lt-trans s q y h k = not-false (lt s y) (λ e. true≢false (sym (lt-split s
 
 -- ---- times of one stamp
 
-less-yes : (a b : ℕ) → a < b → nat_lt a b ≡ true
-less-yes a b h = grind (arith, common_steps)
-
-less-is : (a b : ℕ) → nat_lt a b ≡ true → a < b
-less-is a b h = grind (arith, common_steps)
-
-less-no : (a b : ℕ) → nat_lt a b ≡ false → b ≤ a
-less-no a b h = grind (arith, common_steps)
-
 pub lt-step : (s : StampParts) (a b : ℕ) → a < b → lt (time s a) (time s b) ≡ true
-lt-step s a b h = lt-steps s a b ∙ less-yes a b h
+lt-step s a b h = lt-steps s a b ∙ lt-ltb a b h
 
 pub inside : (q : TimeParts) (s : StampParts) (a b : ℕ) → lt q (time s a) ≡ false → lt q (time s b) ≡ true → q.stamp ≡ s
 inside q s a b h k = between (time s a) q (time s b) refl h k
 
 pub inside-low : (q : TimeParts) (s : StampParts) (a : ℕ) → lt q (time s a) ≡ false → q.stamp ≡ s → a ≤ q.step
-inside-low q s a h k = less-no q.step a (sym (lt-steps s q.step a) ∙ subst (λ z. lt (time z q.step) (time s a) ≡ false) k h)
+inside-low q s a h k = ltb-false q.step a (sym (lt-steps s q.step a) ∙ subst (λ z. lt (time z q.step) (time s a) ≡ false) k h)
 
 pub inside-high : (q : TimeParts) (s : StampParts) (b : ℕ) → lt q (time s b) ≡ true → q.stamp ≡ s → q.step < b
-inside-high q s b h k = less-is q.step b (sym (lt-steps s q.step b) ∙ subst (λ z. lt (time z q.step) (time s b) ≡ true) k h)
+inside-high q s b h k = ltb-true q.step b (sym (lt-steps s q.step b) ∙ subst (λ z. lt (time z q.step) (time s b) ≡ true) k h)
 
 pub below-stamp : (q : TimeParts) (s : StampParts) (b : ℕ) → lt q (time s b) ≡ true → q.stamp ≢ s → stamp_lt q.stamp s ≡ true
 below-stamp q s b h k = not-true (stamp_lt q.stamp s) (λ e. k (lt-own q (time s b) h e))

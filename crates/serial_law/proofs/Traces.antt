@@ -1,6 +1,6 @@
 -- The laws of legal traces, from the facts of their logs and messages.
-use Rattle.std.proofs.Common.{◌≡◌, inl, inr, ℕ, Bool, ◌≤◌, true, List, [], ◌∷◌, ◌++◌, refl, sym, ap, ◌∙◌, subst, is_some, nat_le, arith}
-use Rattle.std.proofs.lemmas.Grind.{common_steps}
+use Rattle.std.proofs.Common.{◌≡◌, inl, inr, ℕ, Bool, ◌≤◌, true, List, [], ◌∷◌, ◌++◌, refl, sym, ap, ◌∙◌, subst, is_some, nat_le}
+use Rattle.std.proofs.lemmas.Bool.{le-leb}
 use Rattle.pseudo_time.specs.Lists.{Every, Has}
 use Rattle.pseudo_time.specs.StampParts.{StampParts}
 use Rattle.pseudo_time.specs.TimeParts.{TimeParts}
@@ -52,8 +52,9 @@ use Rattle.world_facts.proofs.Openings.{legal-facts}
 use Rattle.world_facts.specs.NodeRules.{node_turns}
 use Rattle.serial_law.specs.Facts.{RunFacts}
 use Rattle.serial_law.specs.Runs.{Position, world_at, log_at, run_at, sent_before, TickedBefore, AnsweredIn, AnsweredBefore, Acknowledges, SeesStill}
-use Rattle.serial_law.proofs.RunFacts.{each-has, run-facts, run-causes}
+use Rattle.serial_law.proofs.RunFacts.{run-facts, run-causes}
 use Rattle.serial_law.specs.Causes.{Causes, IsSpent}
+use Rattle.world_facts.proofs.Growths.{each-has}
 
 module _ (p : Position) where
   -- all that holds of logs and messages there
@@ -64,10 +65,7 @@ module _ (p : Position) where
   ever = sent_before p
 
   brokers-opened : (k : ℕ) → 1 ≤ k → k ≤ p.plan.brokers → is_some (opened_log p.trace.opened (broker k)) ≡ true
-  brokers-opened k low high = p.legal.nodes.just (broker k) ∙ and-both (nat_le 1 k) (nat_le k p.plan.brokers) (le 1 k low) (le k p.plan.brokers high)
-    where
-      le : (a b : ℕ) → a ≤ b → nat_le a b ≡ true
-      le a b h = grind (arith, common_steps)
+  brokers-opened k low high = p.legal.nodes.just (broker k) ∙ and-both (nat_le 1 k) (nat_le k p.plan.brokers) (le-leb 1 k low) (le-leb k p.plan.brokers high)
 
   pub place-serial-facts : RunFacts (run_at p) ever
   place-serial-facts =
@@ -81,11 +79,6 @@ module _ (p : Position) where
   acknowledges Repository i log to (message.Value x v) h = (h.0, h.1.0, h.3)
   acknowledges Repository i log to (message.Decided s d) h = h
   acknowledges Repository i log to (message.Tell s c) h = h
-  acknowledges Repository i log to (message.Begun s) h = tt
-  acknowledges Repository i log to (message.LaterRead x e) h = tt
-  acknowledges Repository i log to (message.LaterVersion x y) h = tt
-  acknowledges Repository i log to (message.Ended x) h = tt
-  acknowledges Repository i log to (message.Ask s) h = tt
   acknowledges Repository i log to (message.Begin s d) h = absurd h
   acknowledges Repository i log to (message.Read x o) h = absurd h
   acknowledges Repository i log to (message.Write x o v) h = absurd h
@@ -96,15 +89,8 @@ module _ (p : Position) where
   acknowledges Broker i log to (message.Write x o v) h = tt
   acknowledges Broker i log to (message.Commit s) h = tt
   acknowledges Broker i log to (message.Withdraw s) h = tt
-  acknowledges Broker i log to (message.Stored x) h = absurd h
-  acknowledges Broker i log to (message.Value x v) h = absurd h
-  acknowledges Broker i log to (message.Decided s d) h = absurd h
-  acknowledges Broker i log to (message.Tell s c) h = absurd h
-  acknowledges Broker i log to (message.Begun s) h = absurd h
-  acknowledges Broker i log to (message.LaterRead x e) h = absurd h
-  acknowledges Broker i log to (message.LaterVersion x y) h = absurd h
-  acknowledges Broker i log to (message.Ended x) h = absurd h
-  acknowledges Broker i log to (message.Ask s) h = absurd h
+  acknowledges Repository i log to m h = tt
+  acknowledges Broker i log to m h = absurd h
 
   pub place-acknowledges : (q : Post) → Has q ever → Acknowledges ever q.from (log_at p q.from) q.message
   place-acknowledges q h = acknowledges q.from.kind q.from.number (log_at p q.from) q.to q.message (every-has _ ever q place-facts.sent_ok h)

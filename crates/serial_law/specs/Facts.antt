@@ -10,7 +10,6 @@ use Rattle.value_form.specs.declared.fail_kinds.FailKind.{FailKind}
 use Rattle.value_form.specs.declared.objects.ObjectId.{ObjectId}
 use Rattle.value_form.specs.declared.values.Value.{Value}
 use Rattle.effect_form.specs.declared.effects.Effect.TheVariants as effect
-use Rattle.effect_form.specs.declared.outcomes.Outcome.{Outcome}
 use Rattle.effect_form.specs.declared.outcomes.Outcome.TheVariants as outcome
 use Rattle.message_form.specs.declared.messages.Message.{Message}
 use Rattle.message_form.specs.declared.messages.Message.TheVariants as message
@@ -19,6 +18,7 @@ use Rattle.object_history.specs.Views.{Viewed, Distinct}
 use Rattle.script_meaning.specs.Meaning.{Answer, Got, Stored, Request, ToRead, ToWrite, Stop, Asks, Over}
 use Rattle.serial_model.specs.Questions.{Tree, after, first_stop, talked}
 use Rattle.repository_core.specs.Logs.{marks, is_commit}
+use Rattle.broker_laws.specs.Posts.{MayCommit}
 use Rattle.world_core.specs.Deeds.{Try, RunLogs, log_of, in_run}
 
 -- some node sent the message
@@ -45,13 +45,6 @@ asked_of (ToWrite o v) = o
 -- what a script asks at a pseudotime: after a front of the attempt's answers
 abbrev pub Asked : Try → TimeParts → Request → Type 0
 Asked try t q = (pre post : List Answer) × (try.answers ≡ pre ++ post) × (t.step ≡ length pre + 1) × (asks (after try.script pre) ≡ Some q)
-
--- the ends that an attempt may have of which a Commit was sent
-abbrev pub MayCommit : Option Outcome → Type 0
-MayCommit None = Unit {0}
-MayCommit (Some outcome.Committed) = Unit {0}
-MayCommit (Some (outcome.Expired d m)) = Unit {0}
-MayCommit (Some e) = ⊥
 
 pub record RunFacts (k : RunLogs) (ever : List Post) : Type 0 where
   -- A stamp is decided once, at its home, and what was learned agrees with that.

@@ -1,5 +1,5 @@
 -- What must succeed, succeeds: from what the shelf gave and got back to a complete run.
-use Rattle.std.proofs.Common.{◌≡◌, ◌+◌, ◌<◌, ◌≤◌, ◌==◌, ◌∙◌, nat_lt, ℕ, zero, suc, Bool, true, false, IsTrue, List, [], ◌∷◌, cond, length, Option, Some, None, Ok, slice_get, refl, ap, sym, subst, arith, if◌then◌else◌}
+use Rattle.std.proofs.Common.{◌≡◌, ◌+◌, ◌≤◌, ◌==◌, ◌∙◌, nat_lt, ℕ, zero, suc, Bool, true, false, IsTrue, List, [], ◌∷◌, cond, length, Option, Some, None, Ok, slice_get, refl, ap, sym, subst, arith, if◌then◌else◌}
 use Rattle.std.specs.List.{count_by}
 use Rattle.std.proofs.lemmas.Bool.Decides.{nat_tests}
 use Rattle.std.proofs.lemmas.List.Sums.{sum_by-cons}
@@ -37,6 +37,7 @@ use Rattle.swallow_top.specs.Shelves.{AreTaken, IsTaken, ShelfSight, WereTaken, 
 use Rattle.swallow_top.specs.Tellings.{status_of, status_with}
 use Rattle.swallow_top.specs.Written.{Sinking}
 use Rattle.swallow_top.proofs.ShelfLemmas.{kept-has}
+use Rattle.run_starts.proofs.DealLemmas.{some-within}
 
 -- the status of a complete run
 pub complete-status : (plan : Plan) (t : Trace) → IsComplete plan t → status_of plan t ≡ 0
@@ -70,11 +71,6 @@ module _ {M : Type 0} (w : Media M) (old new : ShelfSight) (plan : Plan) where
   none-missing (None ∷ media) place x none e = absurd (let c = sum_by-cons (λ (y : Option M). cond (is_missing y) 1 0) None media in omega (arith, c, none))
   none-missing (Some m ∷ media) zero x none e = (m, cc)
   none-missing (Some m ∷ media) (suc place) x none e = none-missing media place x (let c = sum_by-cons (λ (y : Option M). cond (is_missing y) 1 0) (Some m) media in omega (arith, c, none)) e
-
-  get-some : {A : Type 0} (xs : List A) (i : ℕ) → i < length xs → (x : A) × (slice_get xs i ≡ Some x)
-  get-some [] i lt = absurd (omega (arith, lt))
-  get-some (x ∷ xs) zero lt = (x, refl)
-  get-some (x ∷ xs) (suc i) lt = get-some xs i (omega (arith, lt))
 
   inner-some : (o : Option (Option M)) (m : M) → inner o ≡ Some m → o ≡ Some (Some m)
   inner-some None m e = absurd cc
@@ -116,7 +112,7 @@ module _ {M : Type 0} (w : Media M) (old new : ShelfSight) (plan : Plan) where
         had n is =
             let p = at-place plan n is in
             let lt = p.0 in
-            let x = get-some media (place_of plan n) (omega (arith, lt, full)) in
+            let x = some-within media (place_of plan n) (omega (arith, lt, full)) in
             let m = none-missing media (place_of plan n) x.0 all-there x.1 in
             (m.0, ap inner x.1 ∙ m.1)
 

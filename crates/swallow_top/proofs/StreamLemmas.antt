@@ -1,30 +1,19 @@
 -- Bytes that are written one piece after another.
-use Rattle.std.proofs.Common.{◌≡◌, ℕ, ◌+◌, ◌-◌, ◌≤◌, List, ◌++◌, length, take, drop, sym, ap, ◌∙◌, arith, None, Some, append_assoc, length-drop}
+use Rattle.std.proofs.Common.{◌≡◌, ℕ, ◌+◌, ◌-◌, ◌≤◌, List, length, take, drop, sym, arith, length-drop}
 use Rattle.std.specs.Prelude.{Option}
 use Rattle.std.specs.Io.KnownBytes.{Appends, Keeps}
 use Rattle.std.proofs.Math.Seq.{take-add, take-length}
 use Rattle.std.proofs.lemmas.List.{take-append-drop}
+use Rattle.std.proofs.KnownBytes.{Appends-trans, Appends-kept}
 use Rattle.swallow_top.specs.Written.{AppendsFront}
 
 pub take-drop_rest : (bytes : List ℕ) (n : ℕ) → take (length bytes - n) (drop n bytes) ≡ drop n bytes
 take-drop_rest bytes n = rw (← length-drop n bytes) (take-length (drop n bytes))
 
-Appends-append : (a b c : Option (List ℕ)) (xs ys : List ℕ) → Appends a b xs → Appends b c ys → Appends a c (xs ++ ys)
-Appends-append None b c xs ys p q = tt
-Appends-append (Some u) None c xs ys p q = absurd p
-Appends-append (Some u) (Some v) None xs ys p q = absurd q
-Appends-append (Some u) (Some v) (Some w) xs ys p q = q ∙ ap (λ t. t ++ ys) p ∙ append_assoc u xs ys
-
-Appends-kept : (a b c : Option (List ℕ)) (xs : List ℕ) → Appends a b xs → Keeps b c → Appends a c xs
-Appends-kept None b c xs p q = tt
-Appends-kept (Some u) None c xs p q = absurd p
-Appends-kept (Some u) (Some v) None xs p q = absurd q
-Appends-kept (Some u) (Some v) (Some w) xs p q = q ∙ p
-
 -- one piece more
 pub Appends-more : (a b c : Option (List ℕ)) (bytes : List ℕ) (at count : ℕ) → at ≤ length bytes → Appends a b (take at bytes) → Appends b c (take count (take (length bytes - at) (drop at bytes))) → Appends a c (take (at + count) bytes)
 Appends-more a b c bytes at count within p q =
-    rw take-add (Appends-append a b c (take at bytes) (take count (drop at bytes)) p (rw (take-drop_rest bytes at) at q))
+    rw take-add (Appends-trans a b c (take at bytes) (take count (drop at bytes)) p (rw (take-drop_rest bytes at) at q))
 
 -- a fault after some pieces
 pub AppendsFront-fault : (a b c : Option (List ℕ)) (bytes : List ℕ) (at : ℕ) → Appends a b (take at bytes) → Keeps b c → AppendsFront a c bytes

@@ -2,6 +2,7 @@
 use Rattle.std.proofs.Common.{◌≡◌, ℕ, zero, suc, ◌≤◌, ◌==◌, Bool, true, false, List, [], ◌∷◌, ◌++◌, append_assoc, append-nil, length, map, reverse, refl, sym, ◌∙◌, ap, subst, if◌then◌else◌, arith, Some}
 use Rattle.std.specs.Prelude.{◌-◌}
 use Rattle.std.proofs.lemmas.List.{length-reverse}
+use Rattle.std.proofs.lemmas.Bool.{cond-true, cond-false}
 use Rattle.pseudo_time.specs.declared.nodes.NodeId.{NodeId}
 use Rattle.pseudo_time.specs.declared.nodes.NodeKind.TheVariants.{Broker}
 use Rattle.pseudo_time.specs.Nodes.{broker}
@@ -57,13 +58,8 @@ spent-is c [] = refl
 spent-is c (a ∷ acts) = refl
 
 closed-is : (o : Outcome) (b : Book) → closed o (map act_parts b.acts) ≡ map act_parts (close o b).acts
-closed-is outcome.Committed b = ended-is outcome.Committed b.acts
-closed-is (outcome.Withdrawn l) b = ended-is (outcome.Withdrawn l) b.acts
-closed-is (outcome.Failed l k) b = ended-is (outcome.Failed l k) b.acts
-closed-is (outcome.LaterRead o e) b = ended-is (outcome.LaterRead o e) b.acts
-closed-is (outcome.LaterVersion o x) b = ended-is (outcome.LaterVersion o x) b.acts
-closed-is (outcome.Expired d m) b = ended-is (outcome.Expired d m) b.acts
 closed-is (outcome.Spent c) b = spent-is c b.acts
+closed-is o b = ended-is o b.acts
 
 entered-is : (b : Book) (f : Effect) → entered f (map act_parts b.acts) ≡ map act_parts (enter f b).acts
 entered-is b (effect.Run n) = refl
@@ -72,11 +68,7 @@ entered-is b (effect.Try i s) = tried-is s b.acts
 entered-is b (effect.Got k v) = gained-is (Got v) b.acts
 entered-is b (effect.Acked k) = gained-is Stored b.acts
 entered-is b (effect.End i o) = closed-is o b
-entered-is b (effect.Put o x v) = refl
-entered-is b (effect.Stretch o x) = refl
-entered-is b (effect.Begin s d) = refl
-entered-is b (effect.Decide s d) = refl
-entered-is b (effect.Learn s c) = refl
+entered-is b f = refl
 
 -- ---- the acts of this run
 
@@ -84,78 +76,58 @@ either : (c : Bool) → ◌≡◌ {A = List Act} (if c then [] else []) []
 either true = refl
 either false = refl
 
-on-true : {A : Type 0} (c : Bool) (x y : A) → c ≡ true → (if c then x else y) ≡ x
-on-true true x y e = refl
-on-true false x y e = cc
-
-on-false : {A : Type 0} (c : Bool) (x y : A) → c ≡ false → (if c then x else y) ≡ y
-on-false true x y e = cc
-on-false false x y e = refl
-
 module _ (script : List ℕ → Tree) (me run : ℕ) (plan : List Task) where
   abbrev now : Book → List Act
   now b = if b.run == run then b.acts else []
 
   enter-here : (b : Book) (f : Effect) → (b.run == run) ≡ true → now (enter f b) ≡ (enter f b).acts
   enter-here b (effect.Run n) h = either (n == run)
-  enter-here b (effect.Act i x t k c y) h = on-true (b.run == run) _ _ h
-  enter-here b (effect.Try i s) h = on-true (b.run == run) _ _ h
-  enter-here b (effect.Got k v) h = on-true (b.run == run) _ _ h
-  enter-here b (effect.Acked k) h = on-true (b.run == run) _ _ h
-  enter-here b (effect.End i o) h = on-true ((close o b).run == run) _ _ (ap (λ r. r == run) (closed-run o b) ∙ h)
-  enter-here b (effect.Put o x v) h = on-true (b.run == run) _ _ h
-  enter-here b (effect.Stretch o x) h = on-true (b.run == run) _ _ h
-  enter-here b (effect.Begin s d) h = on-true (b.run == run) _ _ h
-  enter-here b (effect.Decide s d) h = on-true (b.run == run) _ _ h
-  enter-here b (effect.Learn s c) h = on-true (b.run == run) _ _ h
+  enter-here b (effect.Act i x t k c y) h = cond-true (b.run == run) _ _ h
+  enter-here b (effect.Try i s) h = cond-true (b.run == run) _ _ h
+  enter-here b (effect.Got k v) h = cond-true (b.run == run) _ _ h
+  enter-here b (effect.Acked k) h = cond-true (b.run == run) _ _ h
+  enter-here b (effect.End i o) h = cond-true ((close o b).run == run) _ _ (ap (λ r. r == run) (closed-run o b) ∙ h)
+  enter-here b f h = cond-true (b.run == run) _ _ h
 
   enter-away : (b : Book) (f : Effect) → (b.run == run) ≡ false → now (enter f b) ≡ []
   enter-away b (effect.Run n) h = either (n == run)
-  enter-away b (effect.Act i x t k c y) h = on-false (b.run == run) _ _ h
-  enter-away b (effect.Try i s) h = on-false (b.run == run) _ _ h
-  enter-away b (effect.Got k v) h = on-false (b.run == run) _ _ h
-  enter-away b (effect.Acked k) h = on-false (b.run == run) _ _ h
-  enter-away b (effect.End i o) h = on-false ((close o b).run == run) _ _ (ap (λ r. r == run) (closed-run o b) ∙ h)
-  enter-away b (effect.Put o x v) h = on-false (b.run == run) _ _ h
-  enter-away b (effect.Stretch o x) h = on-false (b.run == run) _ _ h
-  enter-away b (effect.Begin s d) h = on-false (b.run == run) _ _ h
-  enter-away b (effect.Decide s d) h = on-false (b.run == run) _ _ h
-  enter-away b (effect.Learn s c) h = on-false (b.run == run) _ _ h
+  enter-away b (effect.Act i x t k c y) h = cond-false (b.run == run) _ _ h
+  enter-away b (effect.Try i s) h = cond-false (b.run == run) _ _ h
+  enter-away b (effect.Got k v) h = cond-false (b.run == run) _ _ h
+  enter-away b (effect.Acked k) h = cond-false (b.run == run) _ _ h
+  enter-away b (effect.End i o) h = cond-false ((close o b).run == run) _ _ (ap (λ r. r == run) (closed-run o b) ∙ h)
+  enter-away b f h = cond-false (b.run == run) _ _ h
 
   -- in this run what fits counts
   counts-here : (b : Book) (f : Effect) → (b.run == run) ≡ true → counts script me run plan b f ≡ fits script me plan b f
   counts-here b (effect.Run n) h = refl
-  counts-here b (effect.Act i x t k c y) h = on-true (b.run == run) _ _ h
-  counts-here b (effect.Try i s) h = on-true (b.run == run) _ _ h
-  counts-here b (effect.Got k v) h = on-true (b.run == run) _ _ h
-  counts-here b (effect.Acked k) h = on-true (b.run == run) _ _ h
-  counts-here b (effect.End i o) h = on-true (b.run == run) _ _ h
   counts-here b (effect.Put o x v) h = refl
   counts-here b (effect.Stretch o x) h = refl
   counts-here b (effect.Begin s d) h = refl
   counts-here b (effect.Decide s d) h = refl
   counts-here b (effect.Learn s c) h = refl
+  counts-here b f h = cond-true (b.run == run) _ _ h
 
   step-here : (log : List Effect) (f : Effect) (c : Bool) → ((book log).run == run) ≡ true →
       entered_if c f (map act_parts (now (book log))) ≡ map act_parts (now (book (add_if c f log)))
   unfolding book
   step-here log f true h =
-      ap (λ acts. entered f (map act_parts acts)) (on-true ((book log).run == run) _ _ h) ∙ entered-is (book log) f ∙ ap (map act_parts) (sym (enter-here (book log) f h))
+      ap (λ acts. entered f (map act_parts acts)) (cond-true ((book log).run == run) _ _ h) ∙ entered-is (book log) f ∙ ap (map act_parts) (sym (enter-here (book log) f h))
   step-here log f false h = refl
 
   step-away : (log : List Effect) (f : Effect) (c : Bool) → ((book log).run == run) ≡ false → map act_parts (now (book log)) ≡ map act_parts (now (book (add_if c f log)))
   unfolding book
-  step-away log f true h = ap (map act_parts) (on-false ((book log).run == run) _ _ h ∙ sym (enter-away (book log) f h))
+  step-away log f true h = ap (map act_parts) (cond-false ((book log).run == run) _ _ h ∙ sym (enter-away (book log) f h))
   step-away log f false h = refl
 
   step : (log : List Effect) (f : Effect) (c : Bool) → ((book log).run == run) ≡ c →
       entered_if (counts_now script me run plan (book log) f) f (map act_parts (now (book log))) ≡ map act_parts (now (book (add_if (counts script me run plan (book log) f) f log)))
   step log f true h =
-      ap (λ x. entered_if x f (map act_parts (now (book log)))) (on-true ((book log).run == run) _ _ h)
+      ap (λ x. entered_if x f (map act_parts (now (book log)))) (cond-true ((book log).run == run) _ _ h)
       ∙ step-here log f (fits script me plan (book log) f) h
       ∙ ap (λ x. map act_parts (now (book (add_if x f log)))) (sym (counts-here (book log) f h))
   step log f false h =
-      ap (λ x. entered_if x f (map act_parts (now (book log)))) (on-false ((book log).run == run) _ _ h)
+      ap (λ x. entered_if x f (map act_parts (now (book log)))) (cond-false ((book log).run == run) _ _ h)
       ∙ step-away log f (counts script me run plan (book log) f) h
 
   pub counted-read : (log : List Effect) → read_off (counting script me run plan log) log ≡ map act_parts (now (counted script me run plan log))

@@ -5,6 +5,7 @@ use Rattle.std.specs.List.{slice_get}
 use Rattle.std.specs.FinMap as finite
 use Rattle.std.proofs.lemmas.Grind.{common_steps}
 use Rattle.std.proofs.lemmas.List.{length-append}
+use Rattle.std.proofs.lemmas.Bool.{cond-true, cond-false}
 use Rattle.pseudo_time.specs.declared.nodes.NodeId.{NodeId}
 use Rattle.pseudo_time.specs.Nodes.{repository}
 use Rattle.pseudo_time.specs.StampParts.{StampParts}
@@ -96,24 +97,16 @@ learned-some s logs (said ∷ firsts) h =
 
 -- ---- both
 
-on-true : {A : Type 0} (c : Bool) (x y : A) → c ≡ true → (if c then x else y) ≡ x
-on-true true x y e = refl
-on-true false x y e = cc
-
-on-false : {A : Type 0} (c : Bool) (x y : A) → c ≡ false → (if c then x else y) ≡ y
-on-false true x y e = cc
-on-false false x y e = refl
-
 module _ (k : RunLogs) (firsts : List Said) (d : AreDecided k firsts) (s : StampParts) where
   pub committed-home : (said : Said) (r : Bool) → said_at firsts s.home ≡ Some said → r ≡ is_decided (finite.get said s) → r ≡ committed k s
   unfolding committed
   committed-home said r is h =
       let at = home-said k firsts s.home said d is in
       h ∙ ap is_decided (at.1 s) ∙ sym (commit-is (log_of k s.home) s)
-      ∙ sym (on-true (in_run k s.home) (has_commit s (log_of k s.home)) (some_of k.repositories (λ r. has_learned s (log_of k r))) at.0)
+      ∙ sym (cond-true (in_run k s.home) (has_commit s (log_of k s.home)) (some_of k.repositories (λ r. has_learned s (log_of k r))) at.0)
 
   pub committed-away : (r : Bool) → said_at firsts s.home ≡ None → r ≡ learned_in_some firsts s → r ≡ committed k s
   unfolding committed
   committed-away r is h =
       h ∙ learned-some s (log_of k) firsts d.each ∙ ap (λ n. some_of n (λ r. has_learned s (log_of k r))) d.count
-      ∙ sym (on-false (in_run k s.home) (has_commit s (log_of k s.home)) (some_of k.repositories (λ r. has_learned s (log_of k r))) (home-none k firsts s.home d is))
+      ∙ sym (cond-false (in_run k s.home) (has_commit s (log_of k s.home)) (some_of k.repositories (λ r. has_learned s (log_of k r))) (home-none k firsts s.home d is))

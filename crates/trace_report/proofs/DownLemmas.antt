@@ -1,11 +1,12 @@
 -- Nodes that are down, by the entries and by what the code gathers of them.
-use Rattle.std.proofs.Common.{◌≡◌, Some, if◌then◌else◌, List, [], ◌∷◌, ◌++◌, append_assoc, refl, sym, ◌∙◌, ap}
+use Rattle.std.proofs.Common.{◌≡◌, Some, if◌then◌else◌, List, [], ◌∷◌, ◌++◌, refl, sym, ◌∙◌, ap}
 use Rattle.std.specs.List.{flat_map}
+use Rattle.std.proofs.lemmas.Grind.{flat_map-append}
 use Rattle.pseudo_time.specs.declared.nodes.NodeId.{NodeId}
 use Rattle.pseudo_time.specs.Nodes.{same_node}
 use Rattle.pseudo_time.specs.declared.nodes.NodeKind.TheVariants.{Repository, Broker}
 use Rattle.world_core.specs.declared.entries.Entry.{Entry}
-use Rattle.world_core.specs.declared.entries.Entry.TheVariants.{Take, Go, Learn, Hear, Gate, Crash, Down, Tick}
+use Rattle.world_core.specs.declared.entries.Entry.TheVariants.{Down, Tick}
 use Rattle.world_core.specs.declared.traces.Trace.{Trace}
 use Rattle.plan_form.specs.declared.plans.Plan.{Plan}
 use Rattle.report_writer.specs.declared.records.Down.{Down as Fallen}
@@ -15,18 +16,9 @@ use Rattle.trace_report.specs.Downs.{fallen, cause_of, shown, nodes_of_kind}
 
 cause-is : (n : NodeId) (es : List Entry) → cause_of (fallen es) n ≡ down_cause n es
 cause-is n [] = refl
-cause-is n (Take node number ∷ es) = cause-is n es
-cause-is n (Go node ∷ es) = cause-is n es
-cause-is n (Learn node stamp committed ∷ es) = cause-is n es
-cause-is n (Hear node ∷ es) = cause-is n es
-cause-is n (Gate node ∷ es) = cause-is n es
-cause-is n (Crash node kept ∷ es) = cause-is n es
 cause-is n (Down node cause ∷ es) = ap (λ r. if same_node node n then Some cause else r) (cause-is n es)
 cause-is n (Tick moment ∷ es) = cause-is n es
-
-pub flat-append : {A B : Type 0} (f : A → List B) (xs ys : List A) → flat_map f (xs ++ ys) ≡ flat_map f xs ++ flat_map f ys
-flat-append f [] ys = refl
-flat-append f (x ∷ xs) ys = ap (λ z. f x ++ z) (flat-append f xs ys) ∙ sym (append_assoc (f x) (flat_map f xs) (flat_map f ys))
+cause-is n (e ∷ es) = cause-is n es
 
 shown-is : (es : List Entry) → ◌≡◌ {A = NodeId → List Fallen} (shown (fallen es)) (λ n. down_shown n (down_cause n es))
 shown-is es = λ i n. down_shown n (cause-is n es i)
@@ -35,5 +27,5 @@ pub downs-are : (plan : Plan) (t : Trace) (gathered : List Fallen) (first second
     second ≡ first ++ flat_map (shown gathered) (nodes_of_kind Broker plan.brokers) → second ≡ downs_shown plan t
 downs-are plan t gathered first second none g empty p q =
     q ∙ ap (λ z. z ++ flat_map (shown gathered) (nodes_of_kind Broker plan.brokers)) (p ∙ ap (λ z. z ++ flat_map (shown gathered) (nodes_of_kind Repository plan.repositories)) empty)
-    ∙ sym (flat-append (shown gathered) (nodes_of_kind Repository plan.repositories) (nodes_of_kind Broker plan.brokers))
+    ∙ sym (flat_map-append (shown gathered) (nodes_of_kind Repository plan.repositories) (nodes_of_kind Broker plan.brokers))
     ∙ ap (λ ds. flat_map (shown ds) (nodes_of plan)) g ∙ ap (λ f. flat_map f (nodes_of plan)) (shown-is t.entries)

@@ -29,17 +29,9 @@ unfolding first_of
 firsts-same said log f e h s = h s ∙ ap (λ z. first_said z (first_of log s) s) (sym e)
 
 pub nothing-said : (f : Effect) → ((t : StampParts) (d : Decision) → f ≡ effect.Decide t d → ⊥) → ((t : StampParts) (c : Bool) → f ≡ effect.Learn t c → ⊥) → said_by f ≡ None
-nothing-said (effect.Put o x v) h k = refl
-nothing-said (effect.Stretch o x) h k = refl
-nothing-said (effect.Begin t d) h k = refl
-nothing-said (effect.Run n) h k = refl
-nothing-said (effect.Act i o l n c b) h k = refl
-nothing-said (effect.Try i t) h k = refl
-nothing-said (effect.Got l v) h k = refl
-nothing-said (effect.Acked l) h k = refl
-nothing-said (effect.End i e) h k = refl
 nothing-said (effect.Decide t d) h k = absurd (h t d refl)
 nothing-said (effect.Learn t c) h k = absurd (k t c refl)
+nothing-said f h k = refl
 
 first_entry : (b : Bool) (x : First) (r u : Option First) → (b ≡ true → u ≡ None) → r ≡ u → cond b (Some x) r ≡ (if b then or_else u x else u)
 first_entry true x r u h e = ap (λ z. or_else z x) (sym (h refl))
@@ -74,17 +66,9 @@ known-step false x r = refl
 knows-is : (log : List Effect) (s : StampParts) → knows log s ≡ is_some (first_of log s)
 unfolding knows first_of
 knows-is [] s = refl
-knows-is (effect.Put o x v ∷ log) s = knows-is log s
-knows-is (effect.Stretch o x ∷ log) s = knows-is log s
-knows-is (effect.Begin t d ∷ log) s = knows-is log s
-knows-is (effect.Run n ∷ log) s = knows-is log s
-knows-is (effect.Act i h k n c b ∷ log) s = knows-is log s
-knows-is (effect.Try i t ∷ log) s = knows-is log s
-knows-is (effect.Got k v ∷ log) s = knows-is log s
-knows-is (effect.Acked k ∷ log) s = knows-is log s
-knows-is (effect.End i e ∷ log) s = knows-is log s
 knows-is (effect.Decide t d ∷ log) s = ap (λ z. same_stamp t s || z) (knows-is log s) ∙ known-step (same_stamp t s) (Decided (is_commit d)) (first_of log s)
 knows-is (effect.Learn t c ∷ log) s = ap (λ z. same_stamp t s || z) (knows-is log s) ∙ known-step (same_stamp t s) (Learned c) (first_of log s)
+knows-is (f ∷ log) s = knows-is log s
 
 commit-step : (b : Bool) (r : Option First) → ((b && not (is_some r)) || is_decided r) ≡ is_decided (if b then or_else r (Decided true) else r)
 commit-step true None = refl
@@ -99,20 +83,12 @@ not-commit false x r h = refl
 pub commit-is : (log : List Effect) (s : StampParts) → has_commit s log ≡ is_decided (first_of log s)
 unfolding has_commit first_of
 commit-is [] s = refl
-commit-is (effect.Put o x v ∷ log) s = commit-is log s
-commit-is (effect.Stretch o x ∷ log) s = commit-is log s
-commit-is (effect.Begin t d ∷ log) s = commit-is log s
-commit-is (effect.Run n ∷ log) s = commit-is log s
-commit-is (effect.Act i h k n c b ∷ log) s = commit-is log s
-commit-is (effect.Try i t ∷ log) s = commit-is log s
-commit-is (effect.Got k v ∷ log) s = commit-is log s
-commit-is (effect.Acked k ∷ log) s = commit-is log s
-commit-is (effect.End i e ∷ log) s = commit-is log s
 commit-is (effect.Decide t decision.Committed ∷ log) s =
     ap (λ z. (same_stamp t s && not z) || has_commit s log) (knows-is log s) ∙ ap (λ z. (same_stamp t s && not (is_some (first_of log s))) || z) (commit-is log s) ∙ commit-step (same_stamp t s) (first_of log s)
 commit-is (effect.Decide t decision.Withdrawn ∷ log) s = commit-is log s ∙ not-commit (same_stamp t s) (Decided false) (first_of log s) refl
 commit-is (effect.Decide t (decision.Expired d m) ∷ log) s = commit-is log s ∙ not-commit (same_stamp t s) (Decided false) (first_of log s) refl
 commit-is (effect.Learn t c ∷ log) s = commit-is log s ∙ not-commit (same_stamp t s) (Learned c) (first_of log s) refl
+commit-is (f ∷ log) s = commit-is log s
 
 learn-step : (b : Bool) (r : Option First) → ((b && not (is_some r)) || is_learned r) ≡ is_learned (if b then or_else r (Learned true) else r)
 learn-step true None = refl
@@ -127,16 +103,8 @@ not-learn false x r h = refl
 pub learned-is : (log : List Effect) (s : StampParts) → has_learned s log ≡ is_learned (first_of log s)
 unfolding has_learned first_of
 learned-is [] s = refl
-learned-is (effect.Put o x v ∷ log) s = learned-is log s
-learned-is (effect.Stretch o x ∷ log) s = learned-is log s
-learned-is (effect.Begin t d ∷ log) s = learned-is log s
-learned-is (effect.Run n ∷ log) s = learned-is log s
-learned-is (effect.Act i h k n c b ∷ log) s = learned-is log s
-learned-is (effect.Try i t ∷ log) s = learned-is log s
-learned-is (effect.Got k v ∷ log) s = learned-is log s
-learned-is (effect.Acked k ∷ log) s = learned-is log s
-learned-is (effect.End i e ∷ log) s = learned-is log s
 learned-is (effect.Decide t d ∷ log) s = learned-is log s ∙ not-learn (same_stamp t s) (Decided (is_commit d)) (first_of log s) refl
 learned-is (effect.Learn t true ∷ log) s =
     ap (λ z. (same_stamp t s && not z) || has_learned s log) (knows-is log s) ∙ ap (λ z. (same_stamp t s && not (is_some (first_of log s))) || z) (learned-is log s) ∙ learn-step (same_stamp t s) (first_of log s)
 learned-is (effect.Learn t false ∷ log) s = learned-is log s ∙ not-learn (same_stamp t s) (Learned false) (first_of log s) refl
+learned-is (f ∷ log) s = learned-is log s

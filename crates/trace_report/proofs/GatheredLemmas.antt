@@ -203,10 +203,4 @@ other-effect k made m d (effect.Put o x v) other h = absurd (other o x v refl)
 other-effect k made m d (effect.Stretch o x) other h = record { stamps = h.stamps; tries = h.tries; writes = h.writes }
 other-effect k made m d (effect.Decide s e) other h = record { stamps = h.stamps; tries = h.tries; writes = h.writes }
 other-effect k made m d (effect.Learn s c) other h = record { stamps = h.stamps; tries = h.tries; writes = h.writes }
-other-effect k made m d (effect.Begin s e) other h = h
-other-effect k made m d (effect.Run n) other h = h
-other-effect k made m d (effect.Act i o t n c b) other h = h
-other-effect k made m d (effect.Try i s) other h = h
-other-effect k made m d (effect.Got n v) other h = h
-other-effect k made m d (effect.Acked n) other h = h
-other-effect k made m d (effect.End i e) other h = h
+other-effect k made m d f other h = h

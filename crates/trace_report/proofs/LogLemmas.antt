@@ -1,6 +1,7 @@
 -- The logs of the nodes that were opened are the durable logs of the trace; every other node's is empty.
-use Rattle.std.proofs.Common.{◌≡◌, Bool, true, false, List, [], ◌∷◌, refl, sym, ◌∙◌, ap, Option, Some, None, ◌&&◌, if◌then◌else◌}
+use Rattle.std.proofs.Common.{◌≡◌, Bool, true, false, List, [], ◌∷◌, refl, sym, ◌∙◌, ap, Option, Some, None, if◌then◌else◌}
 use Rattle.std.specs.Option.{is_some, unwrap_or}
+use Rattle.std.proofs.lemmas.Bool.{and_right}
 use Rattle.pseudo_time.specs.declared.nodes.NodeId.{NodeId}
 use Rattle.pseudo_time.specs.Nodes.{same_node}
 use Rattle.effect_form.specs.declared.effects.Effect.{Effect}
@@ -18,15 +19,11 @@ use Rattle.trace_report.specs.Reports.{logs_by}
 
 -- ---- a node that isn't known stays as it is
 
-off : (c k : Bool) → k ≡ false → (c && k) ≡ false
-off true k h = h
-off false k h = refl
-
 unknown-flags : (b : Base) (w : World) (e : Entry) (n : NodeId) → (w.flags n).known ≡ false → ((step b w e).flags n).known ≡ false
-unknown-flags b w e n h = ap (λ z. (if z then flagged w.last n.kind (w.flags n) e else w.flags n).known) (off (names n e) (w.flags n).known h) ∙ h
+unknown-flags b w e n h = ap (λ z. (if z then flagged w.last n.kind (w.flags n) e else w.flags n).known) (and_right (names n e) (w.flags n).known h) ∙ h
 
 unknown-life : (b : Base) (w : World) (e : Entry) (n : NodeId) → (w.flags n).known ≡ false → (step b w e).life n ≡ w.life n
-unknown-life b w e n h = ap (λ z. if z then lives_on b w n (w.life n) e else w.life n) (off (names n e) (w.flags n).known h)
+unknown-life b w e n h = ap (λ z. if z then lives_on b w n (w.life n) e else w.life n) (and_right (names n e) (w.flags n).known h)
 
 unknown-stays : (b : Base) (w : World) (es : List Entry) (n : NodeId) → (w.flags n).known ≡ false → (walk_from b w es).life n ≡ w.life n
 unfolding walk_from

@@ -35,31 +35,21 @@ talked-front (Writes o w t) (Got v ∷ xs) ys a u = refl
 
 read-asked : (n : Next) (v : Value) → reads_now (stop_of n) ≡ true → IsAnswerTo (stop_of n) (Got v)
 read-asked (next.Read o) v h = tt
-read-asked (next.Write o w) v h = absurd (false≢true h)
-read-asked next.Finished v h = absurd (false≢true h)
-read-asked (next.Withdrawn l) v h = absurd (false≢true h)
-read-asked (next.Failed l k) v h = absurd (false≢true h)
+read-asked x v h = absurd (false≢true h)
 
 read-unasked : (n : Next) (v : Value) → reads_now (stop_of n) ≡ false → IsUnasked (stop_of n) (Got v)
 read-unasked (next.Read o) v h = absurd (true≢false h)
-read-unasked (next.Write o w) v h = tt
-read-unasked next.Finished v h = tt
-read-unasked (next.Withdrawn l) v h = tt
-read-unasked (next.Failed l k) v h = tt
+read-unasked x v h = tt
 
 write-asked : (n : Next) → writes_now (stop_of n) ≡ true → IsAnswerTo (stop_of n) Stored
 write-asked (next.Read o) h = absurd (false≢true h)
 write-asked (next.Write o w) h = tt
-write-asked next.Finished h = absurd (false≢true h)
-write-asked (next.Withdrawn l) h = absurd (false≢true h)
-write-asked (next.Failed l k) h = absurd (false≢true h)
+write-asked x h = absurd (false≢true h)
 
 write-unasked : (n : Next) → writes_now (stop_of n) ≡ false → IsUnasked (stop_of n) Stored
 write-unasked (next.Read o) h = tt
 write-unasked (next.Write o w) h = absurd (true≢false h)
-write-unasked next.Finished h = tt
-write-unasked (next.Withdrawn l) h = tt
-write-unasked (next.Failed l k) h = tt
+write-unasked x h = tt
 
 module _ (script : List Stmt) (ans : List Answer) (ls : List Line) (n : Next) (t : Tells script ans ls n) where
   pub asks-read : (v : Value) → reads_now (stop_of n) ≡ true → IsAnswerTo (stop (denote (block script)) ans) (Got v)

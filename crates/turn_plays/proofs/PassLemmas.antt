@@ -28,11 +28,11 @@ unfolding walk_from
 flags-new b n = refl
 
 module _ {Q A : Type 0} (lock : LockTable WireParts (View WireParts Entry) (Founding WireParts) Q A) (w : WireParts) (pass : Pass) (is : IsWirePass lock pass) (n : NodeId)
-    (new : knows pass ≡ fresh w (owner_for n)) (blank : w.origin.opened ≡ blank_three) (empty : opened_log blank_three n ≡ Some []) where
+    (new : knows pass ≡ fresh w (owner_for n)) (blanks : List Opened) (blank : w.origin.opened ≡ blanks) (empty : opened_log blanks n ≡ Some []) where
   opened-blank : opened_log w.origin.opened n ≡ Some []
   opened-blank = ap (λ (os : List Opened). opened_log os n) blank ∙ empty
 
-  at-start : IsAt lock n false false pass
+  pub at-start : IsAt lock n false false pass
   at-start = record {
     of_lock = is;
     own = ap (λ (k : Sight). k.owner) new;
@@ -48,15 +48,14 @@ module _ {Q A : Type 0} (lock : LockTable WireParts (View WireParts Entry) (Foun
     opened = ap (λ (k : Sight). opened_log (origin_at k).opened n) new ∙ opened-blank;
   }
 
--- four passes taken from the end of a list are its last ones
-popped : (ones twos threes fours : List Pass) (all : List Pass) (a b c d : Pass) (x y z v : Sight) → all ≡ ones ++ d ∷ [] → ones ≡ twos ++ c ∷ [] → twos ≡ threes ++ b ∷ [] → threes ≡ fours ++ a ∷ []
-    → map knows all ≡ x ∷ y ∷ z ∷ v ∷ [] → (knows a ≡ x) × (knows b ≡ y) × (knows c ≡ z) × (knows d ≡ v)
-popped ones twos threes fours all a b c d x y z v first second third fourth are =
-    let one = same_from_push (map knows ones) (x ∷ y ∷ z ∷ []) (knows d) v (sym (map-append knows ones (d ∷ [])) ∙ sym (ap (map knows) first) ∙ are) in
-    let two = same_from_push (map knows twos) (x ∷ y ∷ []) (knows c) z (sym (map-append knows twos (c ∷ [])) ∙ sym (ap (map knows) second) ∙ one.0) in
-    let three = same_from_push (map knows threes) (x ∷ []) (knows b) y (sym (map-append knows threes (b ∷ [])) ∙ sym (ap (map knows) third) ∙ two.0) in
-    let four = same_from_push (map knows fours) [] (knows a) x (sym (map-append knows fours (a ∷ [])) ∙ sym (ap (map knows) fourth) ∙ three.0) in
-    (four.1, three.1, two.1, one.1)
+-- A pass that is popped off is one of the lock's, as those are that are left, and knows what the last one did.
+module _ {Q A : Type 0} (lock : LockTable WireParts (View WireParts Entry) (Founding WireParts) Q A) where
+  pub popped : (all rest : List Pass) (r : Option Pass) (pass : Pass) (ks : List Sight) (k : Sight) → all ≡ rest ++ option_to_list r → r ≡ Some pass
+      → All (IsWirePass lock) all → map knows all ≡ ks ++ k ∷ [] → All (IsWirePass lock) rest × IsWirePass lock pass × (map knows rest ≡ ks) × (knows pass ≡ k)
+  popped all rest r pass ks k first some are know =
+      let both = All-pop (IsWirePass lock) all rest r first are in
+      let last = same_from_push (map knows rest) ks (knows pass) k (sym (map-append knows rest (pass ∷ [])) ∙ sym (ap (map knows) (first ∙ ap (λ o. rest ++ option_to_list o) some)) ∙ know) in
+      (both.0, subst (λ o. IfSome o (IsWirePass lock)) some both.1, last.0, last.1)
 
 -- so are four that are popped off those of a new run of two repositories and one broker
 module _ {Q A : Type 0} (lock : LockTable WireParts (View WireParts Entry) (Founding WireParts) Q A) (w : WireParts) where
@@ -64,17 +63,15 @@ module _ {Q A : Type 0} (lock : LockTable WireParts (View WireParts Entry) (Foun
       → r ≡ Some d → s ≡ Some c → t ≡ Some b → u ≡ Some a → All (IsWirePass lock) all → map knows all ≡ map (fresh w) (owners_for w.origin.opened) → w.origin.opened ≡ blank_three
       → IsFresh lock (repository 1) w.origin.start a × IsAt lock (repository 2) false false b × IsFresh lock (broker 1) w.origin.start c × IsWirePass lock d × (knows c ≡ fresh w 17)
   dealt all ones twos threes fours r s t u a b c d first second third fourth last later early front are known blank =
-      let one = All-pop (IsWirePass lock) all ones r first are in
-      let two = All-pop (IsWirePass lock) ones twos s second one.0 in
-      let three = All-pop (IsWirePass lock) twos threes t third two.0 in
-      let four = All-pop (IsWirePass lock) threes fours u fourth three.0 in
-      let own = popped ones twos threes fours all a b c d (fresh w 1) (fresh w 2) (fresh w 17) (fresh w 0) (first ∙ ap (λ o. ones ++ option_to_list o) last) (second ∙ ap (λ o. twos ++ option_to_list o) later)
-      (third ∙ ap (λ o. threes ++ option_to_list o) early) (fourth ∙ ap (λ o. fours ++ option_to_list o) front) (known ∙ ap (λ (os : List Opened). map (fresh w) (owners_for os)) blank) in (
-        fresh-start lock w a (subst (λ o. IfSome o (IsWirePass lock)) front four.1) (repository 1) own.0 blank refl,
-        at-start lock w b (subst (λ o. IfSome o (IsWirePass lock)) early three.1) (repository 2) own.1 blank refl,
-        fresh-start lock w c (subst (λ o. IfSome o (IsWirePass lock)) later two.1) (broker 1) own.2 blank refl,
-        subst (λ o. IfSome o (IsWirePass lock)) last one.1,
-        own.2,
+      let one = popped lock all ones r d (fresh w 1 ∷ fresh w 2 ∷ fresh w 17 ∷ []) (fresh w 0) first last are (known ∙ ap (λ (os : List Opened). map (fresh w) (owners_for os)) blank) in
+      let two = popped lock ones twos s c (fresh w 1 ∷ fresh w 2 ∷ []) (fresh w 17) second later one.0 one.2 in
+      let three = popped lock twos threes t b (fresh w 1 ∷ []) (fresh w 2) third early two.0 two.2 in
+      let four = popped lock threes fours u a [] (fresh w 1) fourth front three.0 three.2 in (
+        fresh-start lock w a four.1 (repository 1) four.3 blank_three blank refl,
+        at-start lock w b three.1 (repository 2) three.3 blank_three blank refl,
+        fresh-start lock w c two.1 (broker 1) two.3 blank_three blank refl,
+        one.1,
+        two.3,
       )
 
 -- a pass that was just made is of the run of its wire

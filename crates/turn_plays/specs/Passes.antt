@@ -11,10 +11,11 @@ use Rattle.seat_lock.specs.Words.{knows}
 use Rattle.world_core.specs.declared.entries.Entry.{Entry}
 use Rattle.world_core.specs.declared.traces.Opened.{Opened}
 use Rattle.world_core.specs.Walks.{opened_log}
+use Rattle.world_core.specs.Legal.{is_behind}
 use Rattle.wire_core.specs.Wires.{WireParts}
 use Rattle.wire_core.specs.declared.takens.Taken.{Taken}
 use Rattle.wire_core.specs.declared.takens.Taken.TheVariants.{Behind, Nothing, Arrived}
-use Rattle.wire_lock.specs.Sights.{IsWirePass, IsOf, flags_at, origin_at}
+use Rattle.wire_lock.specs.Sights.{IsWirePass, IsOf, flags_at, origin_at, world_at}
 use Rattle.node_turn.specs.Lives.{up_flags}
 
 -- two repositories and one broker, with empty logs
@@ -43,6 +44,6 @@ module _ {Q A : Type 0} where
 
   -- where the node is after this answer to its taking
   abbrev pub AfterTaking : LockTable WireParts (View WireParts Entry) (Founding WireParts) Q A → NodeId → Bool → Seat WireParts (View WireParts Entry) → Taken → Type 0
-  AfterTaking lock n gone pass Behind = IsAt lock n gone false pass
+  AfterTaking lock n gone pass Behind = IsAt lock n gone false pass × (is_behind (world_at (knows pass)) n ≡ true)
   AfterTaking lock n gone pass Nothing = IsAt lock n gone false pass
   AfterTaking lock n gone pass (Arrived a) = IsAt lock n gone true pass

@@ -45,8 +45,8 @@ pub fn sends(
     Ok(pass)
 }
 
-// The node takes. A broker has gone by then.
-fn takes(
+/// The node takes. A broker has gone by then.
+pub fn takes(
     rt: &impl Wait,
     wire: &TestShared,
     node: NodeId,

@@ -1,21 +1,20 @@
 //! Decisions on the board of a shared wire.
-ghost use Rattle.std.specs.Prelude.{◌≡◌, IfOk};
+ghost use Rattle.std.specs.Prelude.{◌≡◌, true, false, IfOk};
+ghost use Rattle.pseudo_time.specs.Nodes.{broker};
+ghost use Rattle.wire_lock.specs.Sights.{IsWirePass};
+ghost use Rattle.turn_plays.specs.Passes.{IsAt};
 
-use crate::passes::{Started, end, gates, goes, start};
-use crate::wires::BROKER;
+use crate::passes::{Started, end, start};
 use pseudo_time::Stamp;
 use std::alloc::{AllocError, Global};
 use std::sync::Wait;
 use std::test::*;
+use turn_plays::{BROKER, TestClosed, TestPass, TestShared, goes, sends, stamp_of};
 use wire_lock::{number_of, place_of};
 use world_core::Entry;
 
-fn stamp_at(clock: u64) -> Result<Stamp, AllocError> {
-    Stamp::new(clock, 1, 1).ok_or(AllocError)
-}
-
 /// The clock of a stamp, its word, whether it is committed, and its number.
-const NUMBERS: [(u64, u32, bool, u64); 4] = [
+const NUMBERS: &[(u64, u32, bool, u64)] = &[
     (1, 49, true, 0x0000_0000_0004_0405),
     (1, 49, false, 0x0000_0000_0004_0406),
     (4096, 48, true, 0x0000_0000_4000_0405),
@@ -25,7 +24,7 @@ const NUMBERS: [(u64, u32, bool, u64); 4] = [
 // Whether each decision has its word and its number.
 fn are_numbers(numbers: &[(u64, u32, bool, u64)]) -> Result<bool, AllocError> {
     for (clock, place, committed, number) in numbers {
-        let stamp = stamp_at(*clock)?;
+        let stamp = stamp_of(*clock)?;
         if place_of(stamp) != *place {
             return Ok(false);
         }
@@ -38,19 +37,19 @@ fn are_numbers(numbers: &[(u64, u32, bool, u64)]) -> Result<bool, AllocError> {
 
 #[test]
 fn numbers_of_decisions(rt: HostRuntime) -> Result<(), Fail> {
-    assert!(rt; are_numbers(&NUMBERS)?);
+    assert!(rt; are_numbers(NUMBERS)?);
     Ok(())
 }
 
 /// Decisions of two stamps that share a word.
-#[derive(Clone, Copy, Debug, PartialEq, Eq)]
+#[derive(Clone, Copy, PartialEq, Eq)]
 struct Pair {
     first: Option<bool>,
     later: Option<bool>,
 }
 
 /// What is posted, the first one first, and what the board tells then.
-const POSTED: [(Option<bool>, Option<bool>, Option<bool>, Option<bool>); 5] = [
+const POSTED: &[(Option<bool>, Option<bool>, Option<bool>, Option<bool>)] = &[
     (None, None, None, None),
     (Some(true), None, Some(true), None),
     (Some(false), None, Some(false), None),
@@ -62,44 +61,68 @@ const POSTED: [(Option<bool>, Option<bool>, Option<bool>, Option<bool>); 5] = [
 fn decides_of(alloc: Global, pair: Pair) -> Result<Vec<(Stamp, bool)>, AllocError> {
     let mut decides = Vec::new(alloc);
     if let Some(committed) = pair.first {
-        decides.push((stamp_at(1)?, committed))?;
+        decides.push((stamp_of(1)?, committed))?;
     }
     if let Some(committed) = pair.later {
-        decides.push((stamp_at(4097)?, committed))?;
+        decides.push((stamp_of(4097)?, committed))?;
     }
     Ok(decides)
 }
 
+// The broker goes, and its gate posts these.
+fn posts(
+    rt: &impl Wait,
+    wire: &TestShared,
+    pass: TestPass,
+    decides: &[(Stamp, bool)],
+) -> Result<TestPass, AllocError>
+    requires { IsAt wire.now.lock (broker 1) false false pass }
+    ensures { IfOk result (IsAt wire.now.lock (broker 1) true false) }
+{
+    let pass = goes(rt, wire, pass)?;
+    sends(rt, wire, BROKER, pass, &[], decides)
+}
+
+// What the board tells of these stamps.
+fn told_of(wire: &TestShared, pass: &mut TestPass, first: Stamp, later: Stamp) -> Pair
+    requires { IsWirePass wire.now.lock pass.old }
+    ensures { IsWirePass wire.now.lock pass.new }
+{
+    Pair {
+        first: wire.decided(pass, first),
+        later: wire.decided(pass, later),
+    }
+}
+
+// Whether the broker went and gated, and no more happened.
+fn went(closed: TestClosed) -> bool {
+    let entries = closed.told.trace().entries.as_slice();
+    closed.idle && entries == [Entry::Go { node: BROKER }, Entry::Gate { node: BROKER }].as_slice()
+}
+
 // Whether the board tells this, to the node that posted and to the other, after a gate of these.
 fn tells(rt: &impl Wait, alloc: Global, posted: Pair, told: Pair) -> Result<bool, AllocError> {
+    let first = stamp_of(1)?;
+    let later = stamp_of(4097)?;
+    let decides = decides_of(alloc, posted)?;
     let Started {
         wire,
         mut home,
         broker,
         conductor,
     } = start(alloc, Vec::new(alloc))?;
-    let before = wire.decided(&mut home, stamp_at(1)?);
-    let pass = goes(rt, &wire, broker)?;
-    let decides = decides_of(alloc, posted)?;
-    let mut pass = gates(rt, &wire, BROKER, pass, &[], decides.as_slice())?;
-    let here = Pair {
-        first: wire.decided(&mut pass, stamp_at(1)?),
-        later: wire.decided(&mut pass, stamp_at(4097)?),
-    };
-    let there = Pair {
-        first: wire.decided(&mut home, stamp_at(1)?),
-        later: wire.decided(&mut home, stamp_at(4097)?),
-    };
+    let before = wire.decided(&mut home, first);
+    let mut pass = posts(rt, &wire, broker, decides.as_slice())?;
+    let here = told_of(&wire, &mut pass, first, later);
+    let there = told_of(&wire, &mut home, first, later);
     let closed = end(alloc, wire, home, pass, conductor)?;
-    let entries = closed.told.trace().entries.as_slice();
-    let gone = entries == [Entry::Go { node: BROKER }, Entry::Gate { node: BROKER }].as_slice();
-    Ok(gone && closed.idle && before.is_none() && here == told && there == told)
+    Ok(went(closed) && before.is_none() && here == told && there == told)
 }
 
 #[test]
 fn decisions_that_share_a_word(rt: HostRuntime) -> Result<(), Fail> {
     let alloc = rt.alloc();
-    for (first, later, first_told, later_told) in &POSTED {
+    for (first, later, first_told, later_told) in POSTED {
         let posted = Pair {
             first: *first,
             later: *later,

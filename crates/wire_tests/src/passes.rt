@@ -1,27 +1,19 @@
 //! A run of one repository and one broker, what their passes may do, and its end.
 ghost use Rattle.std.specs.Prelude.{◌≡◌, true, false, length, IsTrue, IfOk};
 ghost use Rattle.pseudo_time.specs.Nodes.{repository, broker, is_broker};
-ghost use Rattle.turn_form.specs.Ranges.{AreOuts};
 ghost use Rattle.seat_lock.specs.Words.{base_of, knows};
 ghost use Rattle.world_core.specs.Legal.{is_behind};
 ghost use Rattle.wire_lock.specs.Sights.{IsWirePass, world_at};
-ghost use Rattle.wire_tests.specs.Passes.{AfterTaking, IsAt, IsConductors};
+ghost use Rattle.turn_plays.specs.Passes.{IsAt};
+ghost use Rattle.wire_tests.specs.Passes.{IsConductors};
 
-use crate::wires::{BROKER, HOME, TestWire, wire_of};
-use medium_port::FileMedium;
+use crate::wires::wire_of;
 use pseudo_time::{DownCause, NodeId, Stamp};
 use std::alloc::{AllocError, Global};
 use std::sync::Wait;
-use stream_port::{FateRule, FixedClock, MemoryFates};
-use turn_form::Out;
-use wire_core::Taken;
-use wire_lock::{Closed, SharedWire, WirePass};
-
-pub type TestShared = SharedWire<MemoryFates, FixedClock, FileMedium>;
-
-pub type TestPass = WirePass<MemoryFates, FixedClock, FileMedium>;
-
-pub type TestClosed = Closed<MemoryFates, FixedClock>;
+use stream_port::FateRule;
+use turn_plays::{HOME, TestClosed, TestPass, TestShared};
+use wire_lock::SharedWire;
 
 /// A run that begins.
 #[derive(Drop)]
@@ -74,49 +66,6 @@ pub fn end(
         Ok(closed) => Ok(closed),
         Err((_, _, failed)) => Err(failed),
     }
-}
-
-/// The broker goes.
-pub fn goes(rt: &impl Wait, wire: &TestShared, pass: TestPass) -> Result<TestPass, AllocError>
-    requires { IsAt wire.now.lock (broker 1) false false pass }
-    ensures { IfOk result (IsAt wire.now.lock (broker 1) true true) }
-{
-    let (pass, went) = wire.go(rt, BROKER, pass);
-    went?;
-    Ok(pass)
-}
-
-/// The node gates. A broker has gone by then.
-pub fn gates(
-    rt: &impl Wait,
-    wire: &TestShared,
-    node: NodeId,
-    pass: TestPass,
-    outs: &[Out],
-    decides: &[(Stamp, bool)],
-) -> Result<TestPass, AllocError>
-    requires at { IsAt wire.now.lock node (is_broker node.kind) true pass }
-    requires outs { AreOuts outs.now }
-    ensures { IfOk result (IsAt wire.now.lock node (is_broker node.kind) false) }
-{
-    let (pass, gated) = wire.gate(rt, node, pass, outs, decides);
-    gated?;
-    Ok(pass)
-}
-
-/// The node takes. A broker has gone by then.
-pub fn takes(
-    rt: &impl Wait,
-    wire: &TestShared,
-    node: NodeId,
-    pass: TestPass,
-) -> Result<(TestPass, Taken), AllocError>
-    requires { IsAt wire.now.lock node (is_broker node.kind) false pass }
-    ensures { IfOk result (λ r. AfterTaking wire.now.lock node (is_broker node.kind) r.0 r.1) }
-{
-    let (pass, taken) = wire.take(rt, node, pass);
-    let taken = taken?;
-    Ok((pass, taken))
 }
 
 /// The node hears the last tick, which it hasn't heard.

@@ -2,17 +2,20 @@
 ghost use Rattle.std.specs.Prelude.{◌≡◌, true, false, Some, IsTrue, IfOk, IfSome};
 ghost use Rattle.pseudo_time.specs.Nodes.{repository, broker};
 ghost use Rattle.wire_lock.specs.Sights.{IsWirePass};
-ghost use Rattle.wire_tests.specs.Passes.{IsAt};
+ghost use Rattle.turn_plays.specs.Passes.{IsAt};
 
-use crate::passes::{Started, TestClosed, TestPass, TestShared, end, gates, goes, start, takes};
-use crate::wires::{BROKER, HOME, message_of, outs_of, stamp_of};
+use crate::passes::{Started, end, start};
+use crate::wires::outs_of;
 use pseudo_time::{NodeId, NodeKind, Stamp};
 use std::alloc::{AllocError, Global};
 use std::sync::Wait;
 use std::test::*;
 use std::thread::{self, Threads, join};
+use turn_plays::{
+    BROKER, ENTRIES, HOME, TestClosed, TestPass, TestShared, goes, message_of, sends, stamp_of,
+    takes,
+};
 use wire_core::Taken;
-use world_core::Entry;
 
 /// What a thread owns, and works on beside what it shares with the other.
 trait Turns<L> {
@@ -63,7 +66,8 @@ struct Hand {
 impl Turns<TestShared> for Hand {
     ghost use Rattle.std.specs.Prelude.{◌≡◌, false, IfSome};
     ghost use Rattle.wire_lock.specs.Sights.{IsWirePass};
-    ghost use Rattle.wire_tests.specs.Passes.{IsAt, IsOne};
+    ghost use Rattle.turn_plays.specs.Passes.{IsAt};
+    ghost use Rattle.wire_tests.specs.Passes.{IsOne};
 
     ghost ready = { λ wire h. IsOne h.node × IfSome h.pass (IsAt wire.lock h.node false false) };
 
@@ -112,13 +116,13 @@ fn answers(
 {
     let pass = awaits(rt, wire, pass)?;
     let outs = outs_of(alloc, BROKER, 2, 1)?;
-    gates(
+    sends(
         rt,
         wire,
         HOME,
         pass,
         outs.as_slice(),
-        &[(stamp_of()?, true)],
+        &[(stamp_of(1)?, true)],
     )
 }
 
@@ -149,8 +153,8 @@ fn asks(
 {
     let pass = goes(rt, wire, pass)?;
     let outs = outs_of(alloc, HOME, 1, 1)?;
-    let pass = gates(rt, wire, BROKER, pass, outs.as_slice(), &[])?;
-    let pass = tests(rt, wire, pass, stamp_of()?);
+    let pass = sends(rt, wire, BROKER, pass, outs.as_slice(), &[])?;
+    let pass = tests(rt, wire, pass, stamp_of(1)?);
     // The decision was posted after the repository's gate: the answer is due by now.
     let (pass, taken) = takes(rt, wire, BROKER, pass)?;
     let Taken::Arrived(arrival) = taken else {
@@ -159,7 +163,7 @@ fn asks(
     if arrival.message != message_of(2)? {
         return Err(AllocError);
     }
-    gates(rt, wire, BROKER, pass, &[], &[])
+    sends(rt, wire, BROKER, pass, &[], &[])
 }
 
 fn two_nodes<R: Threads + Wait + Sync>(rt: &R, alloc: Global) -> Result<TestClosed, Fail> {
@@ -183,27 +187,12 @@ fn two_nodes<R: Threads + Wait + Sync>(rt: &R, alloc: Global) -> Result<TestClos
     Ok(end(alloc, wire, home, broker, conductor)?)
 }
 
-/// However the threads take turns, this is what happens.
-const ENTRIES: [Entry; 6] = [
-    Entry::Go { node: BROKER },
-    Entry::Gate { node: BROKER },
-    Entry::Take {
-        node: HOME,
-        number: 1,
-    },
-    Entry::Gate { node: HOME },
-    Entry::Take {
-        node: BROKER,
-        number: 2,
-    },
-    Entry::Gate { node: BROKER },
-];
-
 #[test]
 fn two_threads_take_gate_and_test(rt: HostRuntime) -> Result<(), Fail> {
     let closed = two_nodes(&rt, rt.alloc())?;
     let trace = closed.told.trace();
-    assert!(rt; trace.entries.as_slice() == ENTRIES.as_slice());
+    // However the threads take turns, this is what happens.
+    assert!(rt; trace.entries.as_slice() == &ENTRIES[..6]);
     assert_eq!(rt; trace.sent.as_slice().len(), 2);
     assert!(rt; closed.idle);
     Ok(())

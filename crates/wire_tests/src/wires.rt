@@ -1,40 +1,21 @@
 //! The wire alone, over media that tell nothing.
 ghost use Rattle.std.specs.Prelude.{◌≡◌, true, IsTrue, IfOk};
-ghost use Rattle.message_form.specs.Messages.{IsMessage};
 ghost use Rattle.turn_form.specs.Ranges.{AreOuts};
 ghost use Rattle.world_core.specs.Legal.{HasGone, is_behind};
 ghost use Rattle.wire_core.specs.Wires.{world_of, IsNew};
 ghost use Rattle.wire_tests.specs.Passes.{blank_two};
 
-use medium_port::{FileMedium, Medium};
-use message_form::Message;
-use pseudo_time::{Decision, DownCause, NodeId, NodeKind, PseudoTime, Stamp};
+use medium_port::Medium;
+use pseudo_time::{DownCause, NodeId, NodeKind};
 use seat_lock::{Pass, SeatLock};
 use std::alloc::{AllocError, Global};
 use std::test::*;
 use stream_port::{Clock, Fate, FateRule, Fates, FixedClock, MemoryFates};
 use turn_form::Out;
-use value_form::{Items, ObjectId, Value};
+use turn_plays::{BROKER, ENTRIES, HOME, TestWire, add_out, message_of};
+use value_form::Items;
 use wire_core::{Taken, Wire};
-use world_core::{Entry, Opened, Sent, Trace};
-
-/// Its media tell nothing, so that a test may send what it likes.
-pub type TestWire = Wire<MemoryFates, FixedClock, FileMedium>;
-
-pub const HOME: NodeId = NodeId {
-    kind: NodeKind::Repository,
-    number: 1,
-};
-
-pub const BROKER: NodeId = NodeId {
-    kind: NodeKind::Broker,
-    number: 1,
-};
-
-const OBJECT: ObjectId = ObjectId {
-    repository: 1,
-    number: 7,
-};
+use world_core::{Opened, Sent, Trace};
 
 /// What is done with a wire.
 #[derive(Clone, Copy)]
@@ -57,46 +38,6 @@ enum Deed {
     Busy,
 }
 
-pub fn stamp_of() -> Result<Stamp, AllocError> {
-    Stamp::new(1, 1, 1).ok_or(AllocError)
-}
-
-fn time_of(step: u32) -> Result<PseudoTime, AllocError> {
-    PseudoTime::new(stamp_of()?, step).ok_or(AllocError)
-}
-
-/// The message with this number: those of an act that writes an object and reads it.
-pub fn message_of(number: u32) -> Result<Message, AllocError>
-    ensures { IfOk result IsMessage }
-{
-    match number {
-        1 => Ok(Message::Begin {
-            stamp: stamp_of()?,
-            timeout: 5,
-        }),
-        2 => Ok(Message::Begun { stamp: stamp_of()? }),
-        3 => Ok(Message::Write {
-            at: time_of(1)?,
-            object: OBJECT,
-            value: Value::Number(10),
-        }),
-        4 => Ok(Message::Stored { at: time_of(1)? }),
-        5 => Ok(Message::Read {
-            at: time_of(2)?,
-            object: OBJECT,
-        }),
-        6 => Ok(Message::Value {
-            at: time_of(2)?,
-            value: Value::Number(10),
-        }),
-        7 => Ok(Message::Commit { stamp: stamp_of()? }),
-        _ => Ok(Message::Decided {
-            stamp: stamp_of()?,
-            decision: Decision::Committed,
-        }),
-    }
-}
-
 fn other(node: NodeId) -> NodeId {
     match node.kind {
         NodeKind::Repository => BROKER,
@@ -110,8 +51,7 @@ pub fn outs_of(alloc: Global, to: NodeId, first: u32, count: u32) -> Result<Vec<
 {
     let mut outs = Vec::new(alloc);
     for more in 0..count {
-        let message = message_of(first.saturating_add(more))?;
-        outs.push(Out { to, message })?;
+        add_out(&mut outs, to, message_of(first.saturating_add(more))?)?;
     }
     Ok(outs)
 }
@@ -294,7 +234,7 @@ pub fn wire_of(alloc: Global, rules: Vec<FateRule>) -> Result<TestWire, AllocErr
     }
 }
 
-const ACT: [Deed; 27] = [
+const ACT: &[Deed] = &[
     Deed::Busy,
     Deed::Go(BROKER),
     Deed::Busy,
@@ -322,52 +262,6 @@ const ACT: [Deed; 27] = [
     Deed::Gate(BROKER, 0),
     Deed::Nothing(HOME),
     Deed::Nothing(BROKER),
-];
-
-/// What happened then.
-const ENTRIES: [Entry; 18] = [
-    Entry::Go { node: BROKER },
-    Entry::Gate { node: BROKER },
-    Entry::Take {
-        node: HOME,
-        number: 1,
-    },
-    Entry::Gate { node: HOME },
-    Entry::Take {
-        node: BROKER,
-        number: 2,
-    },
-    Entry::Gate { node: BROKER },
-    Entry::Take {
-        node: HOME,
-        number: 3,
-    },
-    Entry::Gate { node: HOME },
-    Entry::Take {
-        node: BROKER,
-        number: 4,
-    },
-    Entry::Gate { node: BROKER },
-    Entry::Take {
-        node: HOME,
-        number: 5,
-    },
-    Entry::Gate { node: HOME },
-    Entry::Take {
-        node: BROKER,
-        number: 6,
-    },
-    Entry::Gate { node: BROKER },
-    Entry::Take {
-        node: HOME,
-        number: 7,
-    },
-    Entry::Gate { node: HOME },
-    Entry::Take {
-        node: BROKER,
-        number: 8,
-    },
-    Entry::Gate { node: BROKER },
 ];
 
 const PLAIN: Fate = Fate {
@@ -409,17 +303,17 @@ fn is_act(trace: &Trace) -> Result<bool, AllocError> {
 fn trace_of_one_act(rt: HostRuntime) -> Result<(), Fail> {
     let alloc = rt.alloc();
     let mut wire = wire_of(alloc, Vec::new(alloc))?;
-    assert!(rt; plays(alloc, &mut wire, &ACT)?);
+    assert!(rt; matches!(plays(alloc, &mut wire, ACT), Ok(true)));
     assert!(rt; wire.idle());
     assert!(rt; wire.sent() == 8 && wire.start() == 0);
     let (trace, fates, clock) = wire.finish();
-    assert!(rt; is_act(&trace)?);
+    assert!(rt; matches!(is_act(&trace), Ok(true)));
     assert!(rt; fates.asked().len() == 8 && clock.calls() == 1);
     Ok(())
 }
 
 /// The first message is held, the second comes twice, the third overtakes a copy, the fourth is lost.
-const STORM_FATES: [(u8, u8, u32, u32); 4] = [
+const STORM_FATES: &[(u8, u8, u32, u32)] = &[
     (1, 1, 0, 1),
     (2, 2, 0, 0),
     (5, 1, 1, 0),
@@ -443,7 +337,7 @@ fn rules_of(alloc: Global, fates: &[(u8, u8, u32, u32)]) -> Result<Vec<FateRule>
     Ok(rules)
 }
 
-const STORM: [Deed; 34] = [
+const STORM: &[Deed] = &[
     Deed::Go(BROKER),
     Deed::Gate(BROKER, 4),
     Deed::Busy,
@@ -483,8 +377,8 @@ const STORM: [Deed; 34] = [
 #[test]
 fn held_doubled_overtaking_and_lost_copies(rt: HostRuntime) -> Result<(), Fail> {
     let alloc = rt.alloc();
-    let mut wire = wire_of(alloc, rules_of(alloc, &STORM_FATES)?)?;
-    assert!(rt; plays(alloc, &mut wire, &STORM)?);
+    let mut wire = wire_of(alloc, rules_of(alloc, STORM_FATES)?)?;
+    assert!(rt; matches!(plays(alloc, &mut wire, STORM), Ok(true)));
     assert!(rt; wire.idle());
     let (trace, fates, clock) = wire.finish();
     assert!(rt; trace.entries.as_slice().len() == 25);

@@ -1,5 +1,5 @@
 -- Logs that grow, lists, and functions that change at one node.
-use Rattle.std.proofs.Common.{◌≡◌, ℕ, zero, suc, ◌-◌, Bool, true, false, List, [], ◌∷◌, ◌++◌, length, drop, take, reverse, map, cond, if◌then◌else◌, refl, sym, ◌∙◌, ap, subst, Some, arith, inl, inr}
+use Rattle.std.proofs.Common.{◌≡◌, ℕ, zero, suc, ◌-◌, Bool, true, false, List, [], ◌∷◌, ◌++◌, length, drop, take, reverse, map, cond, if◌then◌else◌, refl, sym, ◌∙◌, ap, subst, Some, arith, inl, inr, slice_get}
 use Rattle.std.specs.List.{filter}
 use Rattle.std.proofs.lemmas.List.{take-append-drop, reverse-append, length-append}
 use Rattle.pseudo_time.specs.Lists.{Every, Has}
@@ -22,6 +22,12 @@ each-drop P log zero fresh k = k
 each-drop P log (suc n) [] k = k
 each-drop P log (suc n) (f ∷ fresh) k = each-drop P log n fresh k.0
 
+-- an effect of a log, with the log below it
+pub each-has : (P : List Effect → Effect → Type 0) (log : List Effect) (f : Effect) → Each P log → Has f log → (below : List Effect) × P below f
+each-has P [] f h k = absurd k
+each-has P (g ∷ log) f h (inl e) = (log, subst (P log) e h.1)
+each-has P (g ∷ log) f h (inr k) = each-has P log f h.0 k
+
 -- ---- lists
 
 module _ {X : Type 0} where
@@ -37,6 +43,39 @@ module _ {X : Type 0} where
       go : (b : Bool) → Every P (filter test xs) → Every P (cond b (x ∷ filter test xs) (filter test xs))
       go true rest = (h.0, rest)
       go false rest = rest
+
+  pub every-of : (P : X → Type 0) (xs : List X) → ((x : X) → Has x xs → P x) → Every P xs
+  every-of P [] f = tt
+  every-of P (x ∷ xs) f = (f x (inl refl), every-of P xs (λ y h. f y (inr h)))
+
+  pub every-at : (P : X → Type 0) (xs : List X) (n : ℕ) (x : X) → Every P xs → slice_get xs n ≡ Some x → P x
+  every-at P [] n x h e = absurd (cc e)
+  every-at P (y ∷ xs) zero x h e = let same : y ≡ x = cc e in subst P same h.0
+  every-at P (y ∷ xs) (suc n) x h e = every-at P xs n x h.1 e
+
+  -- what stands in a list has a place there
+  pub has-at : (xs : List X) (x : X) → Has x xs → (k : ℕ) × (slice_get xs k ≡ Some x)
+  has-at [] x h = absurd h
+  has-at (y ∷ xs) x (inl e) = (0, ap (λ z. Some z) e)
+  has-at (y ∷ xs) x (inr h) = let k = has-at xs x h in (suc k.0, k.1)
+
+  pub has-filter : (test : X → Bool) (xs : List X) (x : X) → Has x xs → test x ≡ true → Has x (filter test xs)
+  has-filter test [] x h e = h
+  has-filter test (y ∷ xs) x (inl i) e = subst (λ (t : Bool). Has x (cond t (y ∷ filter test xs) (filter test xs))) (sym (ap test i ∙ e)) (inl i)
+  has-filter test (y ∷ xs) x (inr r) e = go (test y) (has-filter test xs x r e)
+    where
+      go : (t : Bool) → Has x (filter test xs) → Has x (cond t (y ∷ filter test xs) (filter test xs))
+      go true h = inr h
+      go false h = h
+
+  pub filter-has : (test : X → Bool) (xs : List X) (x : X) → Has x (filter test xs) → Has x xs
+  filter-has test [] x h = h
+  filter-has test (y ∷ xs) x h = go (filter-has test xs x) (test y) h
+    where
+      go : (Has x (filter test xs) → Has x xs) → (t : Bool) → Has x (cond t (y ∷ filter test xs) (filter test xs)) → Has x (y ∷ xs)
+      go rest true (inl e) = inl e
+      go rest true (inr r) = inr (rest r)
+      go rest false r = inr (rest r)
 
   pub none-has : (xs : List X) (x : X) → xs ≡ [] → Has x xs → ⊥
   none-has [] x e h = h
@@ -65,6 +104,16 @@ module _ {X Y : Type 0} where
   pub every-of-map : (P : Y → Type 0) (f : X → Y) (xs : List X) → Every (λ x. P (f x)) xs → Every P (map f xs)
   every-of-map P f [] h = tt
   every-of-map P f (x ∷ xs) h = (h.0, every-of-map P f xs h.1)
+
+  pub has-map : (f : X → Y) (xs : List X) (x : X) → Has x xs → Has (f x) (map f xs)
+  has-map f [] x h = h
+  has-map f (y ∷ xs) x (inl e) = inl (ap f e)
+  has-map f (y ∷ xs) x (inr h) = inr (has-map f xs x h)
+
+  pub map-has : (f : X → Y) (xs : List X) (y : Y) → Has y (map f xs) → (x : X) × Has x xs × (f x ≡ y)
+  map-has f [] y h = absurd h
+  map-has f (x ∷ xs) y (inl e) = (x, inl refl, e)
+  map-has f (x ∷ xs) y (inr h) = let k = map-has f xs y h in (k.0, inr k.1, k.2)
 
   pub numbered-has : (f : X → Y) (xs : List X) (k : ℕ) (x : X) → numbered xs k ≡ Some x → Has (f x) (map f xs)
   numbered-has f xs zero x e = absurd (cc e)

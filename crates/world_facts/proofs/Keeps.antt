@@ -37,10 +37,10 @@ module _ (script : List ℕ → Tree) (turns : Turns) (F : NodeFacts) (laws : No
   node-later w v l n x h = record {
     tidy = h.tidy;
     grew = h.grew;
-    proofs = each-map (F.Proof w n) (F.Proof v n) (λ log f. laws.later w v n log f l) (x.fresh ++ x.gated) h.proofs;
+    proofs = each-map (F.Proof w n) (F.Proof v n) (λ log f. laws.later w v n log f l) (x.added ++ x.past) h.proofs;
     mind_ok = subst (λ e. F.MindOk e n x.mind) (sym l.ever) (laws.more_mind w.ever l.more n x.mind h.mind_ok);
-    outs = subst (λ e. Every (F.PostOk e n (x.fresh ++ x.gated)) x.outs) (sym l.ever)
-        (every-map (F.PostOk w.ever n (x.fresh ++ x.gated)) (F.PostOk (w.ever ++ l.more) n (x.fresh ++ x.gated)) (λ out p. laws.more_posts w.ever l.more n (x.fresh ++ x.gated) out p) x.outs h.outs);
+    outs = subst (λ e. Every (F.PostOk e n (x.added ++ x.past)) x.outs) (sym l.ever)
+        (every-map (F.PostOk w.ever n (x.added ++ x.past)) (F.PostOk (w.ever ++ l.more) n (x.added ++ x.past)) (λ out p. laws.more_posts w.ever l.more n (x.added ++ x.past) out p) x.outs h.outs);
   }
 
   -- ---- an input
@@ -50,11 +50,11 @@ module _ (script : List ℕ → Tree) (turns : Turns) (F : NodeFacts) (laws : No
   turn-given s run acts n inv ready =
       let x : SoftNode = s.seat n in
       let h : NodeOk F (around s) n (s.seat n) = inv.nodes n in
-      record { tidy = tidy-grown n x.gated x.fresh h.grew h.tidy; proofs = h.proofs; mind_ok = h.mind_ok; ready = ready; fresh = x.fresh; own = refl; grew = h.grew }
+      record { tidy = tidy-grown n x.past x.added h.grew h.tidy; proofs = h.proofs; mind_ok = h.mind_ok; ready = ready; fresh = x.added; own = refl; grew = h.grew }
 
   sender-ok : (s : Soft) (n : NodeId) (input : Input) → Inv F s → MayInput (around s) n input → SenderOk F (around s) n input
   sender-ok s n Going inv may = tt
-  sender-ok s n (Taking from m) inv may = every-has (SentOk F s.ever (λ k. (s.seat k).gated)) s.ever (post from (record { to = n; message = m })) inv.sent may
+  sender-ok s n (Taking from m) inv may = every-has (SentOk F s.ever (λ k. (s.seat k).past)) s.ever (post from (record { to = n; message = m })) inv.sent may
   sender-ok s n (Learning stamp committed) inv may = tt
   sender-ok s n (Hearing t) inv may = tt
 
@@ -64,13 +64,13 @@ module _ (script : List ℕ → Tree) (turns : Turns) (F : NodeFacts) (laws : No
       laws.turn (around s) run acts n (whole (s.seat n)) (s.seat n).mind input (turn-given s run acts n inv ready) may (sender-ok s n input inv may)
 
   turned : (w : Around) (run : ℕ) (acts : List ActSpec) (n : NodeId) (x : SoftNode) (g : Given) → NodeOk F w n x → TurnGives F w run acts n (whole x) g →
-      NodeOk F w n (record { gated = x.gated; fresh = g.effects ++ x.fresh; outs = x.outs ++ g.outs; mind = g.mind })
+      NodeOk F w n (record { past = x.past; added = g.effects ++ x.added; outs = x.outs ++ g.outs; mind = g.mind })
   turned w run acts n x g h gives =
-      let e : g.effects ++ (x.fresh ++ x.gated) ≡ (g.effects ++ x.fresh) ++ x.gated = sym (append_assoc g.effects x.fresh x.gated) in
-      let tidy : F.Tidy n (whole x) = tidy-grown n x.gated x.fresh h.grew h.tidy in
+      let e : g.effects ++ (x.added ++ x.past) ≡ (g.effects ++ x.added) ++ x.past = sym (append_assoc g.effects x.added x.past) in
+      let tidy : F.Tidy n (whole x) = tidy-grown n x.past x.added h.grew h.tidy in
       record {
         tidy = h.tidy;
-        grew = grew_on (F.Fits n) x.gated x.fresh g.effects h.grew gives.grew;
+        grew = grew_on (F.Fits n) x.past x.added g.effects h.grew gives.grew;
         proofs = subst (λ l. Each (F.Proof w n) l) e (each_grew (F.Proof w n) (whole x) g.effects h.proofs gives.proofs);
         mind_ok = gives.mind_ok;
         outs = subst (λ l. Every (F.PostOk w.ever n l) (x.outs ++ g.outs)) e
@@ -87,54 +87,54 @@ module _ (script : List ℕ → Tree) (turns : Turns) (F : NodeFacts) (laws : No
   -- ---- one node changed: its durable log grew by `late`, and `new` messages left it
 
   changed : (s : Soft) (n : NodeId) (y : SoftNode) (late : List Effect) (ever new : List Post) → Inv F s → NodeOk F (around s) n y →
-      Grew (F.Fits n) (s.seat n).gated late → y.gated ≡ late ++ (s.seat n).gated → ever ≡ s.ever ++ new →
-      Every (SentOk F s.ever (λ k. (put n y s.seat k).gated)) new → Inv F (record { seat = put n y s.seat; ever = ever; ticks = s.ticks })
+      Grew (F.Fits n) (s.seat n).past late → y.past ≡ late ++ (s.seat n).past → ever ≡ s.ever ++ new →
+      Every (SentOk F s.ever (λ k. (put n y s.seat k).past)) new → Inv F (record { seat = put n y s.seat; ever = ever; ticks = s.ticks })
   changed s n y late ever new inv ok grew own sent news =
       let v : Soft = record { seat = put n y s.seat; ever = ever; ticks = s.ticks } in
       let l : Later (around s) (around v) = record {
         more = new;
         ever = sent;
-        homes = λ t d. put-all (λ k z. Has (effect.Decide t d) (s.seat k).gated → Has (effect.Decide t d) z.gated) n y s.seat
-            (λ c. subst (Has (effect.Decide t d)) (sym own) (has-right late (s.seat n).gated (effect.Decide t d) c))
+        homes = λ t d. put-all (λ k z. Has (effect.Decide t d) (s.seat k).past → Has (effect.Decide t d) z.past) n y s.seat
+            (λ c. subst (Has (effect.Decide t d)) (sym own) (has-right late (s.seat n).past (effect.Decide t d) c))
             (λ k c. c) (repository t.home);
         ticks = λ t c. c;
       } in
-      let old : (p : Post) → SentOk F s.ever (λ k. (s.seat k).gated) p → SentOk F s.ever (λ k. (put n y s.seat k).gated) p =
-      λ p. put-all (λ k z. F.PostOk s.ever k (s.seat k).gated (record { to = p.to; message = p.message }) → F.PostOk s.ever k z.gated (record { to = p.to; message = p.message })) n y s.seat
+      let old : (p : Post) → SentOk F s.ever (λ k. (s.seat k).past) p → SentOk F s.ever (λ k. (put n y s.seat k).past) p =
+      λ p. put-all (λ k z. F.PostOk s.ever k (s.seat k).past (record { to = p.to; message = p.message }) → F.PostOk s.ever k z.past (record { to = p.to; message = p.message })) n y s.seat
       (λ q. subst (λ g. F.PostOk s.ever n g (record { to = p.to; message = p.message })) (sym own)
-      (post-grown s.ever n (record { to = p.to; message = p.message }) (s.seat n).gated late grew (inv.nodes n).tidy q))
+      (post-grown s.ever n (record { to = p.to; message = p.message }) (s.seat n).past late grew (inv.nodes n).tidy q))
       (λ k q. q) p.from in
       record {
         nodes = put-all (λ k z. NodeOk F (around v) k z) n y s.seat (node-later (around s) (around v) l n y ok) (λ k. node-later (around s) (around v) l k (s.seat k) (inv.nodes k));
-        sent = subst (λ e. Every (SentOk F e (λ k. (put n y s.seat k).gated)) e) (sym sent)
-            (every-map (SentOk F s.ever (λ k. (put n y s.seat k).gated)) (SentOk F (s.ever ++ new) (λ k. (put n y s.seat k).gated))
-            (λ p q. laws.more_posts s.ever new p.from (put n y s.seat p.from).gated (record { to = p.to; message = p.message }) q)
+        sent = subst (λ e. Every (SentOk F e (λ k. (put n y s.seat k).past)) e) (sym sent)
+            (every-map (SentOk F s.ever (λ k. (put n y s.seat k).past)) (SentOk F (s.ever ++ new) (λ k. (put n y s.seat k).past))
+            (λ p q. laws.more_posts s.ever new p.from (put n y s.seat p.from).past (record { to = p.to; message = p.message }) q)
             (s.ever ++ new)
-            (every-append (SentOk F s.ever (λ k. (put n y s.seat k).gated)) s.ever new
-            (every-map (SentOk F s.ever (λ k. (s.seat k).gated)) (SentOk F s.ever (λ k. (put n y s.seat k).gated)) old s.ever inv.sent)
+            (every-append (SentOk F s.ever (λ k. (put n y s.seat k).past)) s.ever new
+            (every-map (SentOk F s.ever (λ k. (s.seat k).past)) (SentOk F s.ever (λ k. (put n y s.seat k).past)) old s.ever inv.sent)
             news));
       }
 
   gate-ok : (w : Around) (n : NodeId) (x : SoftNode) → NodeOk F w n x → NodeOk F w n (gate x)
-  gate-ok w n x h = record { tidy = tidy-grown n x.gated x.fresh h.grew h.tidy; grew = tt; proofs = h.proofs; mind_ok = h.mind_ok; outs = tt }
+  gate-ok w n x h = record { tidy = tidy-grown n x.past x.added h.grew h.tidy; grew = tt; proofs = h.proofs; mind_ok = h.mind_ok; outs = tt }
 
   crash-ok : (w : Around) (n : NodeId) (kept start : ℕ) (x : SoftNode) → NodeOk F w n x → NodeOk F w n (crash kept start x)
   crash-ok w n kept start x h = record {
-    tidy = tidy-grown n x.gated (keep kept x.fresh) (grew_drop (F.Fits n) x.gated (length x.fresh - kept) x.fresh h.grew) h.tidy;
+    tidy = tidy-grown n x.past (keep kept x.added) (grew_drop (F.Fits n) x.past (length x.added - kept) x.added h.grew) h.tidy;
     grew = tt;
-    proofs = each-drop (F.Proof w n) x.gated (length x.fresh - kept) x.fresh h.proofs;
+    proofs = each-drop (F.Proof w n) x.past (length x.added - kept) x.added h.proofs;
     mind_ok = laws.opened w.ever n start;
     outs = tt;
   }
 
   -- what leaves at a gate has its fact at the new durable log
-  gate-news : (s : Soft) (n : NodeId) (which : Out → Bool) → Inv F s → Every (SentOk F s.ever (λ k. (put n (gate (s.seat n)) s.seat k).gated)) (posts n (filter which (s.seat n).outs))
+  gate-news : (s : Soft) (n : NodeId) (which : Out → Bool) → Inv F s → Every (SentOk F s.ever (λ k. (put n (gate (s.seat n)) s.seat k).past)) (posts n (filter which (s.seat n).outs))
   gate-news s n which inv =
       let y : SoftNode = gate (s.seat n) in
-      let At : Post → Type 0 = SentOk F s.ever (λ k. (put n y s.seat k).gated) in
+      let At : Post → Type 0 = SentOk F s.ever (λ k. (put n y s.seat k).past) in
       every-of-map At (post n) (filter which (s.seat n).outs)
       (every-map (F.PostOk s.ever n (whole (s.seat n))) (λ out. At (post n out))
-      (λ out p. subst (λ (z : SoftNode). F.PostOk s.ever n z.gated (record { to = out.to; message = out.message })) (sym (put-here n y s.seat)) p)
+      (λ out p. subst (λ (z : SoftNode). F.PostOk s.ever n z.past (record { to = out.to; message = out.message })) (sym (put-here n y s.seat)) p)
       (filter which (s.seat n).outs)
       (every-filter (F.PostOk s.ever n (whole (s.seat n))) which (s.seat n).outs (inv.nodes n).outs))
 
@@ -163,11 +163,11 @@ module _ (script : List ℕ → Tree) (turns : Turns) (F : NodeFacts) (laws : No
   inv-reached (Gate n which ∷ es) may =
       let s : Soft = happened turns es in
       let inv : Inv F (happened turns es) = inv-reached es may in
-      changed s n (gate (s.seat n)) (s.seat n).fresh (s.ever ++ posts n (filter which (s.seat n).outs)) (posts n (filter which (s.seat n).outs)) inv
+      changed s n (gate (s.seat n)) (s.seat n).added (s.ever ++ posts n (filter which (s.seat n).outs)) (posts n (filter which (s.seat n).outs)) inv
       (gate-ok (around s) n (s.seat n) (inv.nodes n)) (inv.nodes n).grew refl refl (gate-news s n which inv)
   inv-reached (Crash n kept start ∷ es) may =
       let s : Soft = happened turns es in
       let inv : Inv F (happened turns es) = inv-reached es may in
-      changed s n (crash kept start (s.seat n)) (keep kept (s.seat n).fresh) s.ever [] inv (crash-ok (around s) n kept start (s.seat n) (inv.nodes n))
-      (grew_drop (F.Fits n) (s.seat n).gated (length (s.seat n).fresh - kept) (s.seat n).fresh (inv.nodes n).grew) refl (sym (append-nil s.ever)) tt
+      changed s n (crash kept start (s.seat n)) (keep kept (s.seat n).added) s.ever [] inv (crash-ok (around s) n kept start (s.seat n) (inv.nodes n))
+      (grew_drop (F.Fits n) (s.seat n).past (length (s.seat n).added - kept) (s.seat n).added (inv.nodes n).grew) refl (sym (append-nil s.ever)) tt
   inv-reached (Tick t ∷ es) may = inv-tick (happened turns es) t (inv-reached es may)

@@ -53,13 +53,9 @@ module _ (script : List ℕ → Tree) where
   turns-are : (run : ℕ) (acts : List ActSpec) (k : NodeKind) (i : ℕ) (log : List Effect) (mind : Mind) (input : Input) → kind_gives script run acts k i log mind input ≡ forward (kind_turn script run acts k i (reverse log) mind input)
   unfolding hands.gives
   turns-are run acts Repository i log mind Going = refl
-  turns-are run acts Repository i log mind (Taking from m) = refl
-  turns-are run acts Repository i log mind (Learning s committed) = refl
-  turns-are run acts Repository i log mind (Hearing t) = refl
   turns-are run acts Broker i log mind Going = refl
-  turns-are run acts Broker i log mind (Taking from m) = refl
-  turns-are run acts Broker i log mind (Learning s committed) = refl
-  turns-are run acts Broker i log mind (Hearing t) = refl
+  turns-are run acts Repository i log mind x = refl
+  turns-are run acts Broker i log mind x = refl
 
   pub gives-are : (run : ℕ) (acts : List ActSpec) (n : NodeId) (log : List Effect) (mind : Mind) (input : Input) → gives script run acts n log mind input ≡ forward (node_turns script run acts n (reverse log) mind input)
   unfolding gives
@@ -98,13 +94,7 @@ module _ (script : List ℕ → Tree) where
   repository-later w v r (effect.Decide s (decision.Expired d m)) l p = l.ticks m p
   repository-later w v r (effect.Learn s c) l p = (p.0, l.homes s p.0 p.1, p.2)
   repository-later w v r (effect.Stretch o x) l p = (subst (Has _) (sym l.ever) (has-left w.ever l.more _ p.0), p.1)
-  repository-later w v r (effect.Begin s d) l p = p
-  repository-later w v r (effect.Run n) l p = p
-  repository-later w v r (effect.Act i h t n c b) l p = p
-  repository-later w v r (effect.Try i s) l p = p
-  repository-later w v r (effect.Got k x) l p = p
-  repository-later w v r (effect.Acked k) l p = p
-  repository-later w v r (effect.End i e) l p = p
+  repository-later w v r f l p = p
 
   later-kind : (w v : Around) (k : NodeKind) (i : ℕ) (log : List Effect) (f : Effect) → Later w v → kind_cause script w k i log f → kind_cause script v k i log f
   later-kind w v Repository i log f l p = repository-later w v i f l p

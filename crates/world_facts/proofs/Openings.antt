@@ -38,8 +38,8 @@ kept-again : (kept start : ℕ) (log : List Effect) → kept_log kept (opened_se
 kept-again kept start log = ap (λ l. l ++ log) (drop-none (0 - kept) [] refl)
 
 -- where nothing is open, all of the log is kept
-kept-all : (kept : ℕ) (x : SoftNode) → x.fresh ≡ [] → kept_log kept x ≡ x.gated
-kept-all kept x e = ap (λ l. l ++ x.gated) (drop-none (length x.fresh - kept) x.fresh e)
+kept-all : (kept : ℕ) (x : SoftNode) → x.added ≡ [] → kept_log kept x ≡ x.past
+kept-all kept x e = ap (λ l. l ++ x.past) (drop-none (length x.added - kept) x.added e)
 
 -- what is left of a life, turned round
 kept-left : (kept : ℕ) (l : Life) → kept_log kept (seat_of l) ≡ reverse (l.gated ++ take kept l.fresh)
@@ -120,7 +120,7 @@ module _ (script : List ℕ → Tree) (turns : Turns) (F : NodeFacts) (laws : No
           known = λ n. refl;
           ups = λ n up. up;
           lives = λ n e. c.crashed.inside n e ∙ ap (λ l. opened_seat l b.start) (is n ∙ ap reverse (sym (found-log logs n (opened_log b.opened n) (agrees n) e)));
-          outside = λ n e. (ap (λ (x : SoftNode). x.gated) (c.crashed.outside n e) ∙ left.gated n, ap (λ (x : SoftNode). x.fresh) (c.crashed.outside n e) ∙ left.fresh n);
+          outside = λ n e. (ap (λ (x : SoftNode). x.past) (c.crashed.outside n e) ∙ left.gated n, ap (λ (x : SoftNode). x.added) (c.crashed.outside n e) ∙ left.fresh n);
           unknown = λ n e. no-log (opened_log b.opened n) e;
           ever = c.ever ∙ left.ever ∙ sym (append-nil sent);
           ticks = λ t e. absurd (cc e);
@@ -145,14 +145,14 @@ module _ (script : List ℕ → Tree) (turns : Turns) (F : NodeFacts) (laws : No
       }
     where
       go : (c : AllCrashed kept 0 turns F b.opened r.events) (n : NodeId) (t : Bool) → is_some (opened_log b.opened n) ≡ t →
-          (((happened turns c.events).seat n).gated ≡ reverse (after n)) × (((happened turns c.events).seat n).fresh ≡ [])
+          (((happened turns c.events).seat n).past ≡ reverse (after n)) × (((happened turns c.events).seat n).added ≡ [])
       go c n true e = (
-        ap (λ (x : SoftNode). x.gated) (c.crashed.inside n e) ∙ ap (kept_log (kept n)) (r.models.lives n (r.models.known n ∙ e)) ∙ kept-left (kept n) (w.life n) ∙ ap reverse (sym (inside n e)),
-        ap (λ (x : SoftNode). x.fresh) (c.crashed.inside n e),
+        ap (λ (x : SoftNode). x.past) (c.crashed.inside n e) ∙ ap (kept_log (kept n)) (r.models.lives n (r.models.known n ∙ e)) ∙ kept-left (kept n) (w.life n) ∙ ap reverse (sym (inside n e)),
+        ap (λ (x : SoftNode). x.added) (c.crashed.inside n e),
       )
       go c n false e = (
-        ap (λ (x : SoftNode). x.gated) (c.crashed.outside n e) ∙ (r.models.outside n (r.models.known n ∙ e)).0 ∙ ap reverse (sym (outside n e)),
-        ap (λ (x : SoftNode). x.fresh) (c.crashed.outside n e) ∙ (r.models.outside n (r.models.known n ∙ e)).1,
+        ap (λ (x : SoftNode). x.past) (c.crashed.outside n e) ∙ (r.models.outside n (r.models.known n ∙ e)).0 ∙ ap reverse (sym (outside n e)),
+        ap (λ (x : SoftNode). x.added) (c.crashed.outside n e) ∙ (r.models.outside n (r.models.known n ∙ e)).1,
       )
 
   pub left-nothing : PastLaws script F → Left turns F (λ n. []) [] (PastTick [])
@@ -185,11 +185,11 @@ module _ (script : List ℕ → Tree) (turns : Turns) (F : NodeFacts) (laws : No
 
   -- the durable logs of both worlds are one
   gated-same : (b : Base) (logs : NodeId → List Effect) (old : List Post) (May : ℕ → Type 0) (w : World) (r : Refines turns F b logs old May w) (n : NodeId)
-      → ((happened turns r.events).seat n).gated ≡ reverse (logs_at logs w n)
+      → ((happened turns r.events).seat n).past ≡ reverse (logs_at logs w n)
   gated-same b logs old May w r n = go (w.flags n).known refl
     where
-      go : (t : Bool) → (w.flags n).known ≡ t → ((happened turns r.events).seat n).gated ≡ reverse (logs_at logs w n)
-      go true e = ap (λ (x : SoftNode). x.gated) (r.models.lives n e) ∙ ap reverse (sym (ap (λ t. if t then (w.life n).gated else logs n) e))
+      go : (t : Bool) → (w.flags n).known ≡ t → ((happened turns r.events).seat n).past ≡ reverse (logs_at logs w n)
+      go true e = ap (λ (x : SoftNode). x.past) (r.models.lives n e) ∙ ap reverse (sym (ap (λ t. if t then (w.life n).gated else logs n) e))
       go false e = (r.models.outside n e).0 ∙ ap reverse (sym (ap (λ t. if t then (w.life n).gated else logs n) e))
 
   abbrev around_at : (logs : NodeId → List Effect) (old : List Post) (w : World) (ticks : List ℕ) → Around
@@ -208,21 +208,21 @@ module _ (script : List ℕ → Tree) (turns : Turns) (F : NodeFacts) (laws : No
   facts-of b logs old May w r =
       let s : Soft = happened turns r.events in
       let inv : Inv F s = inv-reached script turns F laws r.events r.may in
-      let same : (n : NodeId) → (s.seat n).gated ≡ reverse (logs_at logs w n) = gated-same b logs old May w r in
+      let same : (n : NodeId) → (s.seat n).past ≡ reverse (logs_at logs w n) = gated-same b logs old May w r in
       record {
         ticks = s.ticks;
         ticked = r.models.ticked;
         tidy = λ n. subst (F.Tidy n) (same n) (inv.nodes n).tidy;
         proofs = λ n. each-map (F.Proof (around s) n) (F.Proof (around_at logs old w s.ticks) n)
             (λ log f. laws.later (around s) (around_at logs old w s.ticks) n log f (later-same b logs old May w r)) (reverse (logs_at logs w n))
-            (subst (Each (F.Proof (around s) n)) (same n) (each_below (F.Proof (around s) n) (s.seat n).gated (s.seat n).fresh (inv.nodes n).proofs));
+            (subst (Each (F.Proof (around s) n)) (same n) (each_below (F.Proof (around s) n) (s.seat n).past (s.seat n).added (inv.nodes n).proofs));
         sent_ok = subst (λ e. Every (SentOk F e (λ k. reverse (logs_at logs w k))) e) r.models.ever
-            (every-map (SentOk F s.ever (λ n. (s.seat n).gated)) (SentOk F s.ever (λ k. reverse (logs_at logs w k)))
+            (every-map (SentOk F s.ever (λ n. (s.seat n).past)) (SentOk F s.ever (λ k. reverse (logs_at logs w k)))
             (λ p q. subst (λ g. F.PostOk s.ever p.from g (record { to = p.to; message = p.message })) (same p.from) q) s.ever inv.sent);
         ready = λ n e.
             let known : (w.flags n).known ≡ true = r.models.known n ∙ e in
             subst (F.Ready b.run b.acts n) (same n)
-            (ready-gated script turns F laws b.run b.acts n (s.seat n).gated (s.seat n).fresh (inv.nodes n).tidy (inv.nodes n).grew
+            (ready-gated script turns F laws b.run b.acts n (s.seat n).past (s.seat n).added (inv.nodes n).tidy (inv.nodes n).grew
             (subst (λ x. F.Ready b.run b.acts n (whole x)) (sym (r.models.lives n known)) (r.models.ready n known)));
       }
 

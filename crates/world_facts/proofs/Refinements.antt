@@ -2,6 +2,7 @@
 use Rattle.std.proofs.Common.{◌≡◌, ℕ, zero, suc, ◌-◌, Bool, true, false, List, [], ◌∷◌, ◌++◌, drop, length, reverse, if◌then◌else◌, refl, sym, ◌∙◌, ap, subst, Option, Some, None, is_some, append_assoc, inl, inr}
 use Rattle.std.specs.List.{filter}
 use Rattle.std.proofs.lemmas.List.{append-nil}
+use Rattle.std.proofs.lemmas.Option.{same_Some}
 use Rattle.pseudo_time.specs.Lists.{Has}
 use Rattle.pseudo_time.specs.StampParts.{StampParts}
 use Rattle.pseudo_time.specs.declared.nodes.NodeId.{NodeId}
@@ -41,7 +42,7 @@ module _ (script : List ℕ → Tree) (turns : Turns) (F : NodeFacts) (laws : No
       F.Ready run acts n (whole (react turns run acts n (s.seat n) input))
   react-ready s run acts n input inv may ready =
       let g : TurnGives F (around s) run acts n (whole (s.seat n)) (turns run acts n (whole (s.seat n)) (s.seat n).mind input) = turn-gives script turns F laws s run acts n input inv may ready in
-      subst (F.Ready run acts n) (sym (append_assoc (turns run acts n (whole (s.seat n)) (s.seat n).mind input).effects (s.seat n).fresh (s.seat n).gated)) g.ready
+      subst (F.Ready run acts n) (sym (append_assoc (turns run acts n (whole (s.seat n)) (s.seat n).mind input).effects (s.seat n).added (s.seat n).past)) g.ready
 
   -- and so does a crash
   ready-cut : (run : ℕ) (acts : List ActSpec) (n : NodeId) (log : List Effect) (i : ℕ) (fresh : List Effect) → F.Tidy n log → Grew (F.Fits n) log fresh →
@@ -67,7 +68,7 @@ module _ (script : List ℕ → Tree) (turns : Turns) (F : NodeFacts) (laws : No
       known = λ k. (step-known b w e k).0 ∙ h.known k;
       ups = λ k up. (step-known b w e k).0 ∙ h.ups k ((step-known b w e k).1 up);
       lives = λ k kn. (both-changed b w e n y s.seat (λ k x l. ((w.flags k).known ≡ true) → x ≡ seat_of l) own known (λ u. is) h.lives k) (sym (step-known b w e k).0 ∙ kn);
-      outside = λ k kn. (put-all (λ k x. ((w.flags k).known ≡ false) → (x.gated ≡ reverse (others k)) × (x.fresh ≡ [])) n y s.seat (λ u. absurd (not-both (w.flags n).known known u)) h.outside k) (sym (step-known b w e k).0 ∙ kn);
+      outside = λ k kn. (put-all (λ k x. ((w.flags k).known ≡ false) → (x.past ≡ reverse (others k)) × (x.added ≡ [])) n y s.seat (λ u. absurd (not-both (w.flags n).known known u)) h.outside k) (sym (step-known b w e k).0 ∙ kn);
       unknown = λ k kn. let u : (w.flags k).known ≡ false = sym (step-known b w e k).0 ∙ kn in ap (λ (l : Life). l.gated) (unknown-stays b w e k u) ∙ h.unknown k u;
       ever = grew ∙ ap (λ z. z ++ new) h.ever ∙ append_assoc old (sent_by w) new ∙ ap (λ z. old ++ z) (sym sends);
       ticks = λ t at. h.ticks t (sym last ∙ at);
@@ -97,8 +98,8 @@ module _ (script : List ℕ → Tree) (turns : Turns) (F : NodeFacts) (laws : No
     decided-there : (s : Soft) (w : World) (t : StampParts) (committed : Bool) → Models turns F b others old May s w → IsDecidedAs w t committed → IsDecided (around s) t committed
     decided-there s w t committed h d = (d.0, go (w.flags (repository t.home)).known refl, d.2)
       where
-        go : (k : Bool) → (w.flags (repository t.home)).known ≡ k → Has (effect.Decide t d.0) (s.seat (repository t.home)).gated
-        go true e = subst (λ (x : SoftNode). Has (effect.Decide t d.0) x.gated) (sym (h.lives (repository t.home) e)) (has-reverse (w.life (repository t.home)).gated (effect.Decide t d.0) d.1)
+        go : (k : Bool) → (w.flags (repository t.home)).known ≡ k → Has (effect.Decide t d.0) (s.seat (repository t.home)).past
+        go true e = subst (λ (x : SoftNode). Has (effect.Decide t d.0) x.past) (sym (h.lives (repository t.home) e)) (has-reverse (w.life (repository t.home)).gated (effect.Decide t d.0) d.1)
         go false e = absurd (none-has (w.life (repository t.home)).gated (effect.Decide t d.0) (h.unknown (repository t.home) e) d.1)
 
     take-refines : (fates : List Fate) (w : World) (n : NodeId) (number : ℕ) → Refines turns F b others old May w → MayTake fates w n number → Refines turns F b others old May (step b w (entry.Take n number))
@@ -144,7 +145,7 @@ module _ (script : List ℕ → Tree) (turns : Turns) (F : NodeFacts) (laws : No
           may = r.may;
           models = one-changed s w (entry.Crash n kept) n (crash kept b.start (s.seat n)) s.ever [] r.models (λ k. refl) known
               (ap (crash kept b.start) at ∙ crashed-seat b.start kept (w.life n))
-              (ready-cut b.run b.acts n (s.seat n).gated (length (s.seat n).fresh - kept) (s.seat n).fresh (inv.nodes n).tidy (inv.nodes n).grew
+              (ready-cut b.run b.acts n (s.seat n).past (length (s.seat n).added - kept) (s.seat n).added (inv.nodes n).tidy (inv.nodes n).grew
               (subst (λ x. F.Ready b.run b.acts n (whole x)) (sym at) (r.models.ready n known)))
               (sym (append-nil s.ever)) (sym (append-nil (sent_by w))) refl;
         }
@@ -175,9 +176,6 @@ module _ (script : List ℕ → Tree) (turns : Turns) (F : NodeFacts) (laws : No
         now t (inl e) = subst May e may
         now t (inr k) = h.ticked t k
 
-    some-is : (a c : ℕ) → Some a ≡ Some c → a ≡ c
-    some-is a c e = cc e
-
     pub step-refines : (fates : List Fate) (w : World) (e : Entry) → ((t : ℕ) → e ≡ entry.Tick t → May t) → Refines turns F b others old May w → Rule b fates w e → Refines turns F b others old May (step b w e)
     step-refines fates w (entry.Take n number) may r rule = take-refines fates w n number r rule
     step-refines fates w (entry.Go n) may r rule = input-refines w (entry.Go n) n Going r (λ k. refl) (r.models.ups n rule.up) tt refl refl refl
@@ -189,7 +187,7 @@ module _ (script : List ℕ → Tree) (turns : Turns) (F : NodeFacts) (laws : No
     step-refines fates w (entry.Down n cause) may r rule = still-refines w (entry.Down n cause) r.events r.may r.models (all-stay b w (entry.Down n cause) (λ k. refl)) refl r.models.ticks
     step-refines fates w (entry.Tick moment) may r rule =
         still-refines w (entry.Tick moment) (Tick moment ∷ r.events) r.may (ticked w moment (happened turns r.events) (may moment refl) r.models) (all-stay b w (entry.Tick moment) (λ k. refl)) refl
-        (λ t at. inl (some-is moment t at))
+        (λ t at. inl (same_Some moment t at))
 
     pub walk-refines : (fates : List Fate) (w : World) (es : List Entry) → ((t : ℕ) → Has (entry.Tick t) es → May t) → Refines turns F b others old May w → Meets b fates w es → Refines turns F b others old May (walk_from b w es)
     unfolding walk_from Meets

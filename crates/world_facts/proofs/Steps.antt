@@ -9,10 +9,10 @@ use Rattle.pseudo_time.specs.Nodes.{same_node}
 use Rattle.message_core.proofs.NodeLemmas.{same_is}
 use Rattle.serial_model.specs.Questions.{Tree}
 use Rattle.world_core.specs.declared.entries.Entry.{Entry}
-use Rattle.world_core.specs.declared.entries.Entry.TheVariants.{Take, Go, Learn, Hear, Gate, Crash, Down, Tick}
+use Rattle.world_core.specs.declared.entries.Entry.TheVariants.{Go, Learn, Hear, Gate, Down}
 use Rattle.world_core.specs.Nodes.{Input, Given, gives}
 use Rattle.world_core.specs.Walks as walks
-use Rattle.world_core.specs.Walks.{Base, Life, Flags, Sending, World, names, step, after_input, lives_on, gated_life, crashed_life, flagged, went, learned, has_heard, leaving, sent_by, sendings_after, with_given}
+use Rattle.world_core.specs.Walks.{Base, Life, Flags, Sending, World, names, step, after_input, lives_on, gated_life, crashed_life, flagged, went, learned, has_heard, leaving, sent_by, with_given, walk_from, sendings_after}
 use Rattle.world_facts.specs.Rules.{NodeFacts, Turns, forward, NodeLaws}
 use Rattle.world_facts.specs.Soft.{SoftNode, whole, put, gate, crash, react, with_turn, opened_seat}
 use Rattle.world_facts.specs.Refines.{seat_of}
@@ -33,14 +33,11 @@ heard-known None f = (refl, refl)
 heard-known (Some moment) f = (refl, refl)
 
 flagged-known : (last : Option ℕ) (k : NodeKind) (f : Flags) (e : Entry) → ((flagged last k f e).known ≡ f.known) × ((flagged last k f e).up ≡ true → f.up ≡ true)
-flagged-known last k f (Take n number) = (refl, λ u. u)
 flagged-known last k f (Go n) = let w = went-known k f in (w.0, λ u. sym w.1 ∙ u)
 flagged-known last k f (Learn n stamp committed) = let w = learned-known k f in (w.0, λ u. sym w.1 ∙ u)
 flagged-known last k f (Hear n) = let w = heard-known last f in (w.0, λ u. sym w.1 ∙ u)
-flagged-known last k f (Gate n) = (refl, λ u. u)
-flagged-known last k f (Crash n kept) = (refl, λ u. u)
 flagged-known last k f (Down n cause) = (refl, λ u. absurd (cc u))
-flagged-known last k f (Tick moment) = (refl, λ u. u)
+flagged-known last k f e = (refl, λ u. u)
 
 pub step-known : (b : Base) (w : World) (e : Entry) (n : NodeId) → (((step b w e).flags n).known ≡ (w.flags n).known) × (((step b w e).flags n).up ≡ true → (w.flags n).up ≡ true)
 step-known b w e n = go (names n e && (w.flags n).known)
@@ -48,6 +45,11 @@ step-known b w e n = go (names n e && (w.flags n).known)
     go : (t : Bool) → ((if t then flagged w.last n.kind (w.flags n) e else w.flags n).known ≡ (w.flags n).known) × ((if t then flagged w.last n.kind (w.flags n) e else w.flags n).up ≡ true → (w.flags n).up ≡ true)
     go true = flagged-known w.last n.kind (w.flags n) e
     go false = (refl, λ u. u)
+
+pub walk-known : (b : Base) (w : World) (es : List Entry) (n : NodeId) → ((walk_from b w es).flags n).known ≡ (w.flags n).known
+unfolding walk_from
+walk-known b w [] n = refl
+walk-known b w (e ∷ es) n = walk-known b (step b w e) es n ∙ (step-known b w e n).0
 
 -- ---- lives
 
@@ -82,7 +84,7 @@ unknown-stays b w e k h = ap (λ t. if names k e && t then lives_on b w k (w.lif
 -- ---- a seat is a life turned round
 
 pub gated-seat : (l : Life) → gate (seat_of l) ≡ seat_of (gated_life l)
-gated-seat l = ap (λ g. let x : SoftNode = record { gated = g; fresh = []; outs = []; mind = l.mind } in x) (sym (reverse-append l.gated l.fresh))
+gated-seat l = ap (λ g. let x : SoftNode = record { past = g; added = []; outs = []; mind = l.mind } in x) (sym (reverse-append l.gated l.fresh))
 
 pub crashed-seat : (start kept : ℕ) (l : Life) → crash kept start (seat_of l) ≡ seat_of (crashed_life start kept l)
 crashed-seat start kept l = ap (λ g. opened_seat g start)
@@ -100,7 +102,7 @@ module _ (script : List ℕ → Tree) (turns : Turns) (F : NodeFacts) (laws : No
       with-seat l g ∙ ap (λ z. seat_of (with_given l z)) (sym is)
     where
       with-seat : (l : Life) (g : Given) → with_turn (seat_of l) g ≡ seat_of (with_given l (forward g))
-      with-seat l g = ap (λ f. let x : SoftNode = record { gated = reverse l.gated; fresh = f; outs = l.outs ++ g.outs; mind = g.mind } in x)
+      with-seat l g = ap (λ f. let x : SoftNode = record { past = reverse l.gated; added = f; outs = l.outs ++ g.outs; mind = g.mind } in x)
           (ap (λ z. z ++ reverse l.fresh) (sym (reverse-reverse g.effects)) ∙ sym (reverse-append l.fresh (reverse g.effects)))
 
 -- ---- messages

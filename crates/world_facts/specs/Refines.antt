@@ -16,7 +16,7 @@ use Rattle.world_facts.specs.Soft.{NodeOk, SoftNode, whole, Soft, SoftEvent, hap
 
 -- a life, newest first
 abbrev pub seat_of : Life → SoftNode
-seat_of l = record { gated = reverse l.gated; fresh = reverse l.fresh; outs = l.outs; mind = l.mind }
+seat_of l = record { past = reverse l.gated; added = reverse l.fresh; outs = l.outs; mind = l.mind }
 
 -- ---- what earlier runs sent and ticked; the last run first
 
@@ -43,7 +43,7 @@ module _ (turns : Turns) (F : NodeFacts) (b : Base) (others : NodeId → List Ef
     pub known : (n : NodeId) → (w.flags n).known ≡ is_some (opened_log b.opened n)
     pub ups : (n : NodeId) → (w.flags n).up ≡ true → (w.flags n).known ≡ true
     pub lives : (n : NodeId) → (w.flags n).known ≡ true → s.seat n ≡ seat_of (w.life n)
-    pub outside : (n : NodeId) → (w.flags n).known ≡ false → ((s.seat n).gated ≡ reverse (others n)) × ((s.seat n).fresh ≡ [])
+    pub outside : (n : NodeId) → (w.flags n).known ≡ false → ((s.seat n).past ≡ reverse (others n)) × ((s.seat n).added ≡ [])
     pub unknown : (n : NodeId) → (w.flags n).known ≡ false → (w.life n).gated ≡ []
     pub ever : s.ever ≡ old ++ sent_by w
     pub ticks : (t : ℕ) → w.last ≡ Some t → Has t s.ticks
@@ -59,8 +59,8 @@ module _ (turns : Turns) (F : NodeFacts) (b : Base) (others : NodeId → List Ef
 pub record Left (turns : Turns) (F : NodeFacts) (logs : NodeId → List Effect) (old : List Post) (May : ℕ → Type 0) : Type 0 where
   pub events : List SoftEvent
   pub may : Mays F turns events
-  pub gated : (n : NodeId) → ((happened turns events).seat n).gated ≡ reverse (logs n)
-  pub fresh : (n : NodeId) → ((happened turns events).seat n).fresh ≡ []
+  pub gated : (n : NodeId) → ((happened turns events).seat n).past ≡ reverse (logs n)
+  pub fresh : (n : NodeId) → ((happened turns events).seat n).added ≡ []
   pub ever : (happened turns events).ever ≡ old
   pub ticked : (t : ℕ) → Has t (happened turns events).ticks → May t
 

@@ -13,30 +13,31 @@ use Rattle.pseudo_time.specs.Nodes.{same_node}
 use Rattle.world_core.specs.Nodes.{Mind, opened_mind, Input, Given}
 use Rattle.world_facts.specs.Rules.{Around, NodeFacts, Turns, MayInput}
 
+-- a node with its log turned round: its durable effects and those that wait for the next gate, both newest first
 pub record SoftNode : Type 0 where
-  pub gated : List Effect
-  pub fresh : List Effect
+  pub past : List Effect
+  pub added : List Effect
   pub outs : List Out
   pub mind : Mind
 
 abbrev pub whole : SoftNode → List Effect
-whole x = x.fresh ++ x.gated
+whole x = x.added ++ x.past
 
 abbrev pub opened_seat : List Effect → ℕ → SoftNode
-opened_seat log start = record { gated = log; fresh = []; outs = []; mind = opened_mind start }
+opened_seat log start = record { past = log; added = []; outs = []; mind = opened_mind start }
 
 abbrev pub with_turn : SoftNode → Given → SoftNode
-with_turn x g = record { gated = x.gated; fresh = g.effects ++ x.fresh; outs = x.outs ++ g.outs; mind = g.mind }
+with_turn x g = record { past = x.past; added = g.effects ++ x.added; outs = x.outs ++ g.outs; mind = g.mind }
 
 abbrev pub gate : SoftNode → SoftNode
-gate x = record { gated = whole x; fresh = []; outs = []; mind = x.mind }
+gate x = record { past = whole x; added = []; outs = []; mind = x.mind }
 
 -- the first `kept` new effects, which stand last
 abbrev pub keep : ℕ → List Effect → List Effect
-keep kept fresh = drop (length fresh - kept) fresh
+keep kept added = drop (length added - kept) added
 
 abbrev pub kept_log : ℕ → SoftNode → List Effect
-kept_log kept x = keep kept x.fresh ++ x.gated
+kept_log kept x = keep kept x.added ++ x.past
 
 abbrev pub crash : ℕ → ℕ → SoftNode → SoftNode
 crash kept start x = opened_seat (kept_log kept x) start
@@ -51,7 +52,7 @@ abbrev pub put : {X : Type 0} → NodeId → X → (NodeId → X) → NodeId →
 put n x s k = if same_node n k then x else s k
 
 abbrev pub around : Soft → Around
-around w = record { ever = w.ever; logs = λ n. (w.seat n).gated; ticks = w.ticks }
+around w = record { ever = w.ever; logs = λ n. (w.seat n).past; ticks = w.ticks }
 
 -- `Start` puts logs in place, before all else
 pub data SoftEvent : Type 0 where
@@ -100,11 +101,11 @@ module _ (F : NodeFacts) where
   -- ---- what always holds
 
   pub record NodeOk (w : Around) (n : NodeId) (x : SoftNode) : Type 0 where
-    pub tidy : F.Tidy n x.gated
-    pub grew : Grew (F.Fits n) x.gated x.fresh
-    pub proofs : Each (F.Proof w n) (x.fresh ++ x.gated)
+    pub tidy : F.Tidy n x.past
+    pub grew : Grew (F.Fits n) x.past x.added
+    pub proofs : Each (F.Proof w n) (x.added ++ x.past)
     pub mind_ok : F.MindOk w.ever n x.mind
-    pub outs : Every (F.PostOk w.ever n (x.fresh ++ x.gated)) x.outs
+    pub outs : Every (F.PostOk w.ever n (x.added ++ x.past)) x.outs
 
   -- the fact of a message that was sent holds of its sender's durable log
   abbrev pub SentOk : List Post → (NodeId → List Effect) → Post → Type 0
@@ -112,4 +113,4 @@ module _ (F : NodeFacts) where
 
   pub record Inv (w : Soft) : Type 0 where
     pub nodes : (n : NodeId) → NodeOk (around w) n (w.seat n)
-    pub sent : Every (SentOk w.ever (λ n. (w.seat n).gated)) w.ever
+    pub sent : Every (SentOk w.ever (λ n. (w.seat n).past)) w.ever

@@ -12,12 +12,13 @@ use Rattle.run_rounds.specs.Closings.{Pass}
 use Rattle.run_rounds.specs.Finishes.{EndsAs, tellers}
 use Rattle.run_rounds.proofs.BackLemmas.{opened-back, opened-kept}
 use Rattle.run_rounds.proofs.CloseLemmas.{new-conductor}
-use Rattle.run_rounds.proofs.ListLemmas.{all-mapped, along-long}
+use Rattle.run_rounds.proofs.ListLemmas.{all-mapped}
 use Rattle.run_rounds.proofs.PlaceLemmas.{pass-count, seats-count}
 use Rattle.run_rounds.proofs.RanLemmas.{ends-as}
 use Rattle.run_rounds.proofs.SeenLemmas.{none-own}
 use Rattle.run_rounds.proofs.SoundLemmas.{can-seat, open-of, ready-nodes}
 use Rattle.run_rounds.proofs.runs.with_nodes.Goals as goal
+use Rattle.run_starts.proofs.AlongLemmas.{along-length}
 
 pub stopped-requires-clause-all : goal.stopped-requires-clause-all
 stopped-requires-clause-all g c =
@@ -140,7 +141,7 @@ run_nodes-requires-clause-share_room g c κs within =
     let shares = c.in-Ok-Ok.shares.items in
     let whole = c.if-not-is_whole.false in
     let o = c.open_nodes-nodes in
-    let long = along-long (IsNewNode c.args.plan.now) 0 c.args.openings.items o.result.nodes.items (o.ensures.new whole) in
+    let long = along-length (IsNewNode c.args.plan.now) 0 c.args.openings.items o.result.nodes.items (o.ensures.new whole) in
     (c.len-count.result, omega (arith, long, c.len-count.ensures, c.args.openings.ok, o.result.nodes.ok), subst (λ n. HaveRoom n c.len-count.result shares) (sym c.in-Ok-Ok.ensures'.count) c.in-Ok-Ok.ensures'.room)
 
 pub run_nodes-requires-clause-empty : goal.run_nodes-requires-clause-empty
@@ -150,7 +151,7 @@ pub run_nodes-requires-clause-room : goal.run_nodes-requires-clause-room
 run_nodes-requires-clause-room g c κs within =
     let o = c.open_nodes-nodes in
     let passes = c.args.begun.passes in
-    let long = along-long (IsNewNode c.args.plan.now) 0 c.args.openings.items o.result.nodes.items (o.ensures.new c.if-not-is_whole.false) in
+    let long = along-length (IsNewNode c.args.plan.now) 0 c.args.openings.items o.result.nodes.items (o.ensures.new c.if-not-is_whole.false) in
     let n = seats-count c.args.plan.now c.args.openings.items _ _ (base_of c.args.begun.wire.lock) c.requires.set_up passes.items c.requires.fresh in (
       omega (arith, long, o.result.nodes.ok, c.args.openings.ok, c.requires.room, o.ensures.room.0),
       omega (arith, long, n, o.result.nodes.ok, passes.ok, c.requires.pass_room, o.ensures.room.1),

@@ -1,6 +1,6 @@
 use Rattle.std.proofs.Common.{false}
 use Rattle.pseudo_time.specs.Nodes.{repository}
-use Rattle.wire_tests.specs.Passes.{IsAt}
+use Rattle.turn_plays.specs.Passes.{IsAt}
 use Rattle.wire_tests.proofs.threads.awaits.Given as goal
 
 -- the repository has taken nothing yet

@@ -1,6 +1,6 @@
 use Rattle.std.proofs.Common.{true, false}
 use Rattle.pseudo_time.specs.Nodes.{broker}
-use Rattle.wire_tests.specs.Passes.{IsAt}
+use Rattle.turn_plays.specs.Passes.{IsAt}
 use Rattle.wire_tests.proofs.threads.tests.Given as goal
 
 -- the broker has gone, and waits

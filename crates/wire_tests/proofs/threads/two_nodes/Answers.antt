@@ -2,8 +2,8 @@ use denote.Exit.{no}
 use denote.Param.Send.{IsSend, IsSync, param_send, param_sync, arg_send, arg_sync}
 use denote.Param.SendFields.{declared_send}
 use Rattle.std.proofs.option.Option.TheSendSync as option
-use Rattle.medium_port.specs.contracts.file_media.FileMedium as FileMedium
-use Rattle.medium_port.specs.contracts.file_media.FileMediumMedium.TheImpl as media
+use Rattle.turn_plays.specs.contracts.media.QuietMedium as QuietMedium
+use Rattle.turn_plays.specs.contracts.media.QuietMediumMedium.TheImpl as media
 use Rattle.stream_port.specs.contracts.fixed_clocks.FixedClock as FixedClock
 use Rattle.stream_port.specs.contracts.fixed_clocks.FixedClockClock.TheImpl as clocks
 use Rattle.stream_port.specs.contracts.memory_fates.MemoryFates as MemoryFates
@@ -18,10 +18,10 @@ use Rattle.wire_tests.specs.contracts.threads.Hand as Hand
 use Rattle.wire_tests.proofs.threads.two_nodes.Goals as goal
 
 hand_send : IsSend Hand.the_row
-hand_send = declared_send Hand.the_type (node.the_send, (option.the_send _ (pass_send MemoryFates.the_row FixedClock.the_row FileMedium.the_row fates.ghosts clocks.ghosts media.ghosts memory_fates.the_send fixed_clock.the_send), tt))
+hand_send = declared_send Hand.the_type (node.the_send, (option.the_send _ (pass_send MemoryFates.the_row FixedClock.the_row QuietMedium.the_row fates.ghosts clocks.ghosts media.ghosts memory_fates.the_send fixed_clock.the_send), tt))
 
-test_sync : IsSync (SharedWire.the_row MemoryFates.the_row FixedClock.the_row FileMedium.the_row fates.ghosts clocks.ghosts media.ghosts)
-test_sync = shared_sync MemoryFates.the_row FixedClock.the_row FileMedium.the_row fates.ghosts clocks.ghosts media.ghosts memory_fates.the_send fixed_clock.the_send
+test_sync : IsSync (SharedWire.the_row MemoryFates.the_row FixedClock.the_row QuietMedium.the_row fates.ghosts clocks.ghosts media.ghosts)
+test_sync = shared_sync MemoryFates.the_row FixedClock.the_row QuietMedium.the_row fates.ghosts clocks.ghosts media.ghosts memory_fates.the_send fixed_clock.the_send
 
 pub by_two-home-requires-send-S : goal.by_two-home-requires-send-S
 by_two-home-requires-send-S g c κs within = param_send 1 _ (arg_send _ no _ hand_send)
