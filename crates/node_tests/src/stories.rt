@@ -303,10 +303,9 @@ pub fn opened(
     clock: u64,
     log: &[Added],
 ) -> Result<Broker, ResumeFault> {
-    let act = act_of(alloc, 1, program, clock)?;
     let effects = log_of(alloc, program, log)?;
-    let broker = Broker::open(alloc, 1, 1, &[act], effects.as_slice())?;
-    Ok(broker)
+    let act = act_of(alloc, 1, program, clock)?;
+    Broker::open(alloc, 1, 1, &[act], effects.as_slice())
 }
 
 pub fn decided(clock: u64, decision: Decision) -> Result<Message, AllocError>
@@ -451,7 +450,7 @@ pub fn is_turn(turn: &Turn, added: &[Added; 3], sent: Sent) -> bool {
 }
 
 // Whether the broker does just this.
-pub fn does(broker: &mut Broker, story: &[Step]) -> Result<bool, AllocError> {
+pub fn does(broker: &mut Broker, story: &[Step]) -> Result<bool, ResumeFault> {
     for step in story {
         let (told, added, sent) = step;
         let turn = turn_of(broker, *told)?;
@@ -462,6 +461,12 @@ pub fn does(broker: &mut Broker, story: &[Step]) -> Result<bool, AllocError> {
     Ok(true)
 }
 
+// The same, and whether it is done then.
+pub fn is_done_by(broker: &mut Broker, story: &[Step]) -> Result<bool, ResumeFault> {
+    let does = does(broker, story)?;
+    Ok(does && broker.done())
+}
+
 // Whether the broker of one act does just this over a log.
 pub fn goes(
     alloc: Global,
@@ -470,8 +475,7 @@ pub fn goes(
     story: &[Step],
 ) -> Result<bool, ResumeFault> {
     let mut broker = opened(alloc, program, 1, log)?;
-    let does = does(&mut broker, story)?;
-    Ok(does)
+    does(&mut broker, story)
 }
 
 // The same, and whether it is done then.
@@ -482,8 +486,7 @@ pub fn ends(
     story: &[Step],
 ) -> Result<bool, ResumeFault> {
     let mut broker = opened(alloc, program, 1, log)?;
-    let does = does(&mut broker, story)?;
-    Ok(does && broker.done())
+    is_done_by(&mut broker, story)
 }
 
 pub const TRIED: [Added; 3] = [Added::Run(1), Added::Act(1), Added::Try(1, 1)];
