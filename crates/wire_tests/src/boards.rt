@@ -1,7 +1,10 @@
 //! Decisions on the board of a shared wire.
-ghost use Rattle.std.specs.Prelude.{◌≡◌, IfOk};
+ghost use Rattle.std.specs.Prelude.{◌≡◌, true, false, IfOk};
+ghost use Rattle.pseudo_time.specs.Nodes.{broker};
+ghost use Rattle.wire_lock.specs.Sights.{IsWirePass};
+ghost use Rattle.wire_tests.specs.Passes.{IsAt};
 
-use crate::passes::{Started, end, gates, goes, start};
+use crate::passes::{Started, TestClosed, TestPass, TestShared, end, gates, goes, start};
 use crate::wires::BROKER;
 use pseudo_time::Stamp;
 use std::alloc::{AllocError, Global};
@@ -15,7 +18,7 @@ fn stamp_at(clock: u64) -> Result<Stamp, AllocError> {
 }
 
 /// The clock of a stamp, its word, whether it is committed, and its number.
-const NUMBERS: [(u64, u32, bool, u64); 4] = [
+const NUMBERS: &[(u64, u32, bool, u64)] = &[
     (1, 49, true, 0x0000_0000_0004_0405),
     (1, 49, false, 0x0000_0000_0004_0406),
     (4096, 48, true, 0x0000_0000_4000_0405),
@@ -38,7 +41,7 @@ fn are_numbers(numbers: &[(u64, u32, bool, u64)]) -> Result<bool, AllocError> {
 
 #[test]
 fn numbers_of_decisions(rt: HostRuntime) -> Result<(), Fail> {
-    assert!(rt; are_numbers(&NUMBERS)?);
+    assert!(rt; are_numbers(NUMBERS)?);
     Ok(())
 }
 
@@ -50,7 +53,7 @@ struct Pair {
 }
 
 /// What is posted, the first one first, and what the board tells then.
-const POSTED: [(Option<bool>, Option<bool>, Option<bool>, Option<bool>); 5] = [
+const POSTED: &[(Option<bool>, Option<bool>, Option<bool>, Option<bool>)] = &[
     (None, None, None, None),
     (Some(true), None, Some(true), None),
     (Some(false), None, Some(false), None),
@@ -70,36 +73,60 @@ fn decides_of(alloc: Global, pair: Pair) -> Result<Vec<(Stamp, bool)>, AllocErro
     Ok(decides)
 }
 
+// The broker goes, and its gate posts these.
+fn posts(
+    rt: &impl Wait,
+    wire: &TestShared,
+    pass: TestPass,
+    decides: &[(Stamp, bool)],
+) -> Result<TestPass, AllocError>
+    requires { IsAt wire.now.lock (broker 1) false false pass }
+    ensures { IfOk result (IsAt wire.now.lock (broker 1) true false) }
+{
+    let pass = goes(rt, wire, pass)?;
+    gates(rt, wire, BROKER, pass, &[], decides)
+}
+
+// What the board tells of these stamps.
+fn told_of(wire: &TestShared, pass: &mut TestPass, first: Stamp, later: Stamp) -> Pair
+    requires { IsWirePass wire.now.lock pass.old }
+    ensures { IsWirePass wire.now.lock pass.new }
+{
+    Pair {
+        first: wire.decided(pass, first),
+        later: wire.decided(pass, later),
+    }
+}
+
+// Whether the broker went and gated, and no more happened.
+fn went(closed: TestClosed) -> bool {
+    let entries = closed.told.trace().entries.as_slice();
+    closed.idle && entries == [Entry::Go { node: BROKER }, Entry::Gate { node: BROKER }].as_slice()
+}
+
 // Whether the board tells this, to the node that posted and to the other, after a gate of these.
 fn tells(rt: &impl Wait, alloc: Global, posted: Pair, told: Pair) -> Result<bool, AllocError> {
+    let first = stamp_at(1)?;
+    let later = stamp_at(4097)?;
+    let decides = decides_of(alloc, posted)?;
     let Started {
         wire,
         mut home,
         broker,
         conductor,
     } = start(alloc, Vec::new(alloc))?;
-    let before = wire.decided(&mut home, stamp_at(1)?);
-    let pass = goes(rt, &wire, broker)?;
-    let decides = decides_of(alloc, posted)?;
-    let mut pass = gates(rt, &wire, BROKER, pass, &[], decides.as_slice())?;
-    let here = Pair {
-        first: wire.decided(&mut pass, stamp_at(1)?),
-        later: wire.decided(&mut pass, stamp_at(4097)?),
-    };
-    let there = Pair {
-        first: wire.decided(&mut home, stamp_at(1)?),
-        later: wire.decided(&mut home, stamp_at(4097)?),
-    };
+    let before = wire.decided(&mut home, first);
+    let mut pass = posts(rt, &wire, broker, decides.as_slice())?;
+    let here = told_of(&wire, &mut pass, first, later);
+    let there = told_of(&wire, &mut home, first, later);
     let closed = end(alloc, wire, home, pass, conductor)?;
-    let entries = closed.told.trace().entries.as_slice();
-    let gone = entries == [Entry::Go { node: BROKER }, Entry::Gate { node: BROKER }].as_slice();
-    Ok(gone && closed.idle && before.is_none() && here == told && there == told)
+    Ok(went(closed) && before.is_none() && here == told && there == told)
 }
 
 #[test]
 fn decisions_that_share_a_word(rt: HostRuntime) -> Result<(), Fail> {
     let alloc = rt.alloc();
-    for (first, later, first_told, later_told) in &POSTED {
+    for (first, later, first_told, later_told) in POSTED {
         let posted = Pair {
             first: *first,
             later: *later,

@@ -2,21 +2,62 @@
 ghost use Rattle.std.specs.Prelude.{◌≡◌, true, false, IfOk};
 ghost use Rattle.pseudo_time.specs.Nodes as nodes;
 ghost use Rattle.pseudo_time.specs.Nodes.{is_broker};
+ghost use Rattle.wire_lock.specs.Sights.{IsWirePass};
 ghost use Rattle.wire_tests.specs.Passes.{IsAt, IsConductors};
 
 use crate::passes::{
     Started, TestClosed, TestPass, TestShared, end, falls, gates, goes, hears, learns, start, takes,
 };
 use crate::wires::{BROKER, HOME, message_of, outs_of, stamp_of};
-use pseudo_time::{DownCause, NodeId};
-use std::alloc::Global;
+use message_core::Arrival;
+use pseudo_time::{DownCause, NodeId, Stamp};
+use std::alloc::{AllocError, Global};
 use std::sync::Wait;
 use std::test::*;
 use wire_core::Taken;
 use wire_lock::{Seen, Told};
 use world_core::Entry;
 
-// The broker sends the first message, and the repository takes it and says how it decided.
+// The broker goes, and sends the first message.
+fn asks(
+    rt: &impl Wait,
+    alloc: Global,
+    wire: &TestShared,
+    broker: TestPass,
+) -> Result<TestPass, AllocError>
+    requires { IsAt wire.now.lock (nodes.broker 1) false false broker }
+    ensures { IfOk result (IsAt wire.now.lock (nodes.broker 1) true false) }
+{
+    let outs = outs_of(alloc, HOME, 1, 1)?;
+    let broker = goes(rt, wire, broker)?;
+    gates(rt, wire, BROKER, broker, outs.as_slice(), &[])
+}
+
+// Whether it is the first message, from the broker.
+fn is_first(arrival: Arrival) -> Result<bool, AllocError> {
+    let same = arrival.message == message_of(1)?;
+    Ok(same && arrival.number == 1 && arrival.from == BROKER)
+}
+
+// The repository takes the first message, and says how it decided.
+fn answers(rt: &impl Wait, wire: &TestShared, home: TestPass) -> Result<TestPass, Fail>
+    requires { IsAt wire.now.lock (nodes.repository 1) false false home }
+    ensures { IfOk result (IsAt wire.now.lock (nodes.repository 1) false false) }
+{
+    let stamp = stamp_of()?;
+    let (home, taken) = takes(rt, wire, HOME, home)?;
+    let Taken::Arrived(arrival) = taken else {
+        return Err("a copy".into());
+    };
+    if !is_first(arrival)? {
+        return Err("the copy".into());
+    }
+    let home = gates(rt, wire, HOME, home, &[], &[(stamp, true)])?;
+    Ok(home)
+}
+
+// The broker sends the first message, and the repository takes it and says how it decided. Nothing is
+// due for either then.
 fn exchange(
     rt: &impl Wait,
     alloc: Global,
@@ -29,18 +70,10 @@ fn exchange(
     ensures home { IfOk result (λ r. IsAt wire.now.lock (nodes.repository 1) false false r.0) }
     ensures broker { IfOk result (λ r. IsAt wire.now.lock (nodes.broker 1) true false r.1) }
 {
-    let broker = goes(rt, wire, broker)?;
-    let outs = outs_of(alloc, HOME, 1, 1)?;
-    let broker = gates(rt, wire, BROKER, broker, outs.as_slice(), &[])?;
-    let (home, taken) = takes(rt, wire, HOME, home)?;
-    let Taken::Arrived(arrival) = taken else {
-        return Err("a copy".into());
-    };
-    let same = arrival.message == message_of(1)?;
-    if !same || arrival.number != 1 || arrival.from != BROKER {
-        return Err("the copy".into());
-    }
-    let home = gates(rt, wire, HOME, home, &[], &[(stamp_of()?, true)])?;
+    let broker = asks(rt, alloc, wire, broker)?;
+    let home = answers(rt, wire, home)?;
+    let home = rests(rt, wire, HOME, home)?;
+    let broker = rests(rt, wire, BROKER, broker)?;
     Ok((home, broker))
 }
 
@@ -101,6 +134,34 @@ fn catches_up(
     Ok(pass)
 }
 
+// The node hears this moment, and has nothing to send.
+fn goes_on(
+    rt: &impl Wait,
+    wire: &TestShared,
+    node: NodeId,
+    pass: TestPass,
+    moment: u64,
+) -> Result<TestPass, Fail>
+    requires { IsAt wire.now.lock node (is_broker node.kind) false pass }
+    ensures { IfOk result (IsAt wire.now.lock node (is_broker node.kind) false) }
+{
+    let pass = catches_up(rt, wire, node, pass, moment)?;
+    let pass = gates(rt, wire, node, pass, &[], &[])?;
+    Ok(pass)
+}
+
+// The repository hears this moment, learns how the attempt was decided, and stops for good.
+fn leaves(rt: &impl Wait, wire: &TestShared, home: TestPass, moment: u64) -> Result<TestPass, Fail>
+    requires { IsAt wire.now.lock (nodes.repository 1) false false home }
+    ensures { IfOk result (IsWirePass wire.now.lock) }
+{
+    let stamp = stamp_of()?;
+    let home = catches_up(rt, wire, HOME, home, moment)?;
+    let home = learns(rt, wire, home, stamp, true)?;
+    let home = falls(rt, wire, home)?;
+    Ok(home)
+}
+
 // Nothing is due for the node.
 fn rests(rt: &impl Wait, wire: &TestShared, node: NodeId, pass: TestPass) -> Result<TestPass, Fail>
     requires { IsAt wire.now.lock node (is_broker node.kind) false pass }
@@ -113,6 +174,49 @@ fn rests(rt: &impl Wait, wire: &TestShared, node: NodeId, pass: TestPass) -> Res
     Ok(pass)
 }
 
+// The conductor sees this, and then it is this moment, or no time passes.
+fn looks(
+    rt: &impl Wait,
+    wire: &TestShared,
+    conductor: TestPass,
+    sent: u32,
+    idle: bool,
+    moment: Option<u64>,
+) -> Result<TestPass, Fail>
+    requires { IsConductors wire.now.lock conductor }
+    ensures { IfOk result (IsConductors wire.now.lock) }
+{
+    let conductor = sees(rt, wire, conductor, sent, idle)?;
+    ticks(rt, wire, conductor, moment)
+}
+
+// The passes of the repository, of the broker and of the conductor, behind a run in which each visit comes.
+fn visits(
+    rt: &impl Wait,
+    alloc: Global,
+    wire: &TestShared,
+    home: TestPass,
+    broker: TestPass,
+    conductor: TestPass,
+) -> Result<(TestPass, TestPass, TestPass), Fail>
+    requires home { IsAt wire.now.lock (nodes.repository 1) false false home }
+    requires broker { IsAt wire.now.lock (nodes.broker 1) false false broker }
+    requires conductor { IsConductors wire.now.lock conductor }
+    ensures home { IfOk result (λ r. IsWirePass wire.now.lock r.0) }
+    ensures broker { IfOk result (λ r. IsWirePass wire.now.lock r.1) }
+    ensures conductor { IfOk result (λ r. IsWirePass wire.now.lock r.2) }
+{
+    let conductor = looks(rt, wire, conductor, 0, false, None)?;
+    let (home, broker) = exchange(rt, alloc, wire, home, broker)?;
+    let conductor = looks(rt, wire, conductor, 1, true, Some(1))?;
+    let home = goes_on(rt, wire, HOME, home, 1)?;
+    let broker = goes_on(rt, wire, BROKER, broker, 1)?;
+    let mut conductor = ticks(rt, wire, conductor, Some(2))?;
+    let mut home = leaves(rt, wire, home, 2)?;
+    wire.meet(&mut conductor, &mut home);
+    Ok((home, broker, conductor))
+}
+
 // A run in which each visit comes.
 fn whole(rt: &impl Wait, alloc: Global) -> Result<TestClosed, Fail> {
     let Started {
@@ -121,27 +225,13 @@ fn whole(rt: &impl Wait, alloc: Global) -> Result<TestClosed, Fail> {
         broker,
         conductor,
     } = start(alloc, Vec::new(alloc))?;
-    let conductor = sees(rt, &wire, conductor, 0, false)?;
-    let conductor = ticks(rt, &wire, conductor, None)?;
-    let (home, broker) = exchange(rt, alloc, &wire, home, broker)?;
-    let home = rests(rt, &wire, HOME, home)?;
-    let broker = rests(rt, &wire, BROKER, broker)?;
-    let conductor = sees(rt, &wire, conductor, 1, true)?;
-    let conductor = ticks(rt, &wire, conductor, Some(1))?;
-    let home = catches_up(rt, &wire, HOME, home, 1)?;
-    let home = gates(rt, &wire, HOME, home, &[], &[])?;
-    let broker = catches_up(rt, &wire, BROKER, broker, 1)?;
-    let broker = gates(rt, &wire, BROKER, broker, &[], &[])?;
-    let mut conductor = ticks(rt, &wire, conductor, Some(2))?;
-    let home = catches_up(rt, &wire, HOME, home, 2)?;
-    let home = learns(rt, &wire, home, stamp_of()?, true)?;
-    let mut home = falls(rt, &wire, home)?;
-    wire.meet(&mut conductor, &mut home);
-    Ok(end(alloc, wire, home, broker, conductor)?)
+    let (home, broker, conductor) = visits(rt, alloc, &wire, home, broker, conductor)?;
+    let closed = end(alloc, wire, home, broker, conductor)?;
+    Ok(closed)
 }
 
 /// What happened before the repository learned.
-const BEFORE: [Entry; 11] = [
+const BEFORE: &[Entry] = &[
     Entry::Go { node: BROKER },
     Entry::Gate { node: BROKER },
     Entry::Take {
@@ -159,7 +249,7 @@ const BEFORE: [Entry; 11] = [
 ];
 
 /// What happened after.
-const AFTER: [Entry; 2] = [
+const AFTER: &[Entry] = &[
     Entry::Crash {
         node: HOME,
         kept: 0,
@@ -170,24 +260,28 @@ const AFTER: [Entry; 2] = [
     },
 ];
 
-// Whether these are its entries.
-fn is_whole(entries: &[Entry]) -> Result<bool, Fail> {
+// Whether these are its entries, where this is the attempt.
+fn is_whole(entries: &[Entry], stamp: Stamp) -> bool {
     let learned = Entry::Learn {
         node: HOME,
-        stamp: stamp_of()?,
+        stamp,
         committed: true,
     };
-    let (before, rest) = entries.split_at_checked(11).ok_or("eleven entries")?;
-    let (one, after) = rest.split_first().ok_or("a twelfth")?;
-    Ok(before == BEFORE.as_slice() && *one == learned && after == AFTER.as_slice())
+    let Some((before, rest)) = entries.split_at_checked(11) else {
+        return false;
+    };
+    let Some((one, after)) = rest.split_first() else {
+        return false;
+    };
+    before == BEFORE && *one == learned && after == AFTER
 }
 
 #[test]
 fn visits_of_a_run(rt: HostRuntime) -> Result<(), Fail> {
-    let alloc = rt.alloc();
-    let closed = whole(&rt, alloc)?;
+    let stamp = stamp_of()?;
+    let closed = whole(&rt, rt.alloc())?;
     let trace = closed.told.trace();
-    assert!(rt; is_whole(trace.entries.as_slice())?);
+    assert!(rt; is_whole(trace.entries.as_slice(), stamp));
     assert_eq!(rt; trace.sent.as_slice().len(), 1);
     assert!(rt; !closed.idle);
     assert!(rt; closed.fates.asked().len() == 1 && closed.clock.calls() == 3);
