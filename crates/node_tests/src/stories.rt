@@ -23,7 +23,7 @@ use turn_form::{Out, Turn};
 use value_form::{ActSpec, FailKind, ObjectId, Script, Value};
 
 /// The scripts of the rows.
-#[derive(Clone, Copy, Debug, PartialEq, Eq)]
+#[derive(Clone, Copy)]
 pub enum Program {
     /// `write 1.7 10`, `read x 1.7` and `print x`.
     Row,
@@ -37,7 +37,7 @@ pub enum Program {
 }
 
 /// How a try ends, or that the act is spent at a clock.
-#[derive(Clone, Copy, Debug, PartialEq, Eq)]
+#[derive(Clone, Copy, PartialEq, Eq)]
 pub enum How {
     Committed,
     Withdrawn,
@@ -51,7 +51,7 @@ pub enum How {
 }
 
 /// An effect, with the clock of a try and the number of a value.
-#[derive(Clone, Copy, Debug, PartialEq, Eq)]
+#[derive(Clone, Copy, PartialEq, Eq)]
 pub enum Added {
     None,
     Run(u32),
@@ -64,7 +64,7 @@ pub enum Added {
 }
 
 /// A message to a repository, with the clock of its try, and its step.
-#[derive(Clone, Copy, Debug, PartialEq, Eq)]
+#[derive(Clone, Copy, PartialEq, Eq)]
 pub enum Sent {
     None,
     Begin(u64),
@@ -76,7 +76,7 @@ pub enum Sent {
 }
 
 /// What a broker is told, with the clock of the try, and the step.
-#[derive(Clone, Copy, Debug, PartialEq, Eq)]
+#[derive(Clone, Copy)]
 pub enum Told {
     Go,
     Tick,

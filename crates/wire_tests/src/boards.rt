@@ -46,7 +46,7 @@ fn numbers_of_decisions(rt: HostRuntime) -> Result<(), Fail> {
 }
 
 /// Decisions of two stamps that share a word.
-#[derive(Clone, Copy, Debug, PartialEq, Eq)]
+#[derive(Clone, Copy, PartialEq, Eq)]
 struct Pair {
     first: Option<bool>,
     later: Option<bool>,
