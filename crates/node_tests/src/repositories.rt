@@ -229,7 +229,7 @@ fn effect_of(added: Added) -> Option<Effect> {
     }
 }
 
-/// The message that a step expects, where it is about an attempt, or to its broker.
+/// The message that a step expects.
 fn reply_of(owed: Owed) -> Option<Message> {
     match owed {
         Owed::Begun(name) => about(Kind::Begun, name),
@@ -256,7 +256,7 @@ fn reply_of(owed: Owed) -> Option<Message> {
     }
 }
 
-/// The answer to a read.
+/// A value, as the answer to a read.
 fn valued(at: Time, value: Value) -> Option<Message> {
     match time(at) {
         Some(at) => Some(Message::Value { at, value }),
