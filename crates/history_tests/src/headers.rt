@@ -317,13 +317,21 @@ fn call_of(seed: u64) -> Call {
     }
 }
 
+// Whether a read with this answer stretches what it saw.
+fn stretches(said: Said) -> bool {
+    match said {
+        Said::Value(_, stretch) => stretch,
+        Said::Nothing(stretch) => stretch,
+        _ => false,
+    }
+}
+
 // The effect of a call with this answer, if it has one.
 fn row_of(call: Call, said: Said, settled: bool) -> Option<Row> {
-    match (call, said) {
-        (Call::Write(at, number), Said::Put) => Some(Row::Put(at, number)),
-        (Call::Read(at), Said::Value(_, true)) => Some(Row::Stretch(at)),
-        (Call::Read(at), Said::Nothing(true)) => Some(Row::Stretch(at)),
-        (Call::Settle(clock, _, committed), Said::Done) if !settled => {
+    match call {
+        Call::Write(at, number) if said == Said::Put => Some(Row::Put(at, number)),
+        Call::Read(at) if stretches(said) => Some(Row::Stretch(at)),
+        Call::Settle(clock, _, committed) if !settled && said == Said::Done => {
             Some(Row::Learn(clock, committed))
         }
         _ => None,
