@@ -1,4 +1,6 @@
-use effect_form::{Effect, EffectFault, read, write};
+ghost use Rattle.effect_form.specs.Effects.{IsWritten};
+
+use effect_form::{Effect, EffectFault, Place, read, write};
 use pseudo_time::Stamp;
 use std::alloc::{AllocError, Global};
 use std::test::*;
@@ -99,27 +101,62 @@ const EFFECTS: &[(&[u8], &str)] = &[
     ),
 ];
 
+// Where the bytes are at fault. None where an effect is read.
+fn fault_at(alloc: Global, bytes: &[u8]) -> Option<usize> {
+    match read(alloc, bytes) {
+        Err(EffectFault::Form { at }) => Some(at),
+        _ => None,
+    }
+}
+
 // No beginning of the bytes is an effect.
 fn faults_when_cut(alloc: Global, bytes: &[u8]) -> bool {
     for cut in 0..bytes.len() {
-        if !matches!(read(alloc, &bytes[..cut]), Err(EffectFault::Form { .. })) {
+        if fault_at(alloc, &bytes[..cut]).is_none() {
             return false;
         }
     }
     true
 }
 
+// Whether the effect is written as these bytes, and its copy is equal.
+fn is_written_so(
+    alloc: Global,
+    effect: &Effect,
+    back: Option<Place>,
+    bytes: &[u8],
+) -> Result<bool, AllocError>
+    requires { IsWritten (effect.now, back) }
+{
+    let mut out = Vec::new(alloc);
+    write(alloc, effect, back, &mut out)?;
+    let copy = effect.copy(alloc)?;
+    Ok(out.as_slice() == bytes && copy == *effect)
+}
+
+// What `Debug` says of the effect and of its back place, where it is written as these bytes.
+fn told_of(
+    alloc: Global,
+    effect: &Effect,
+    back: Option<Place>,
+    bytes: &[u8],
+) -> Result<Option<String>, EffectFault>
+    requires { IsWritten (effect.now, back) }
+{
+    if !is_written_so(alloc, effect, back, bytes)? {
+        return Ok(None);
+    }
+    Ok(Some(format!(in alloc; "{effect:?} {back:?}")?))
+}
+
 // The effect that the bytes before the last are is written as them, and its copy is equal. What `Debug`
 // says of it and of its back place.
 fn told(alloc: Global, bytes: &[u8]) -> Result<Option<String>, EffectFault> {
     let (effect, back, size) = read(alloc, bytes)?;
-    let mut out = Vec::new(alloc);
-    write(alloc, &effect, back, &mut out)?;
-    let copy = effect.copy(alloc)?;
-    if out.as_slice() != &bytes[..size] || size.saturating_add(1) != bytes.len() || copy != effect {
+    if size.saturating_add(1) != bytes.len() {
         return Ok(None);
     }
-    Ok(Some(format!(in alloc; "{effect:?} {back:?}")?))
+    told_of(alloc, &effect, back, &bytes[..size])
 }
 
 #[test]
@@ -198,7 +235,7 @@ const FAULTS: &[(&[u8], usize)] = &[
 fn places_of_faults(rt: HostRuntime) {
     let alloc = rt.alloc();
     for (bytes, at) in FAULTS {
-        assert!(rt; read(alloc, bytes) == Err(EffectFault::Form { at: *at }));
+        assert_eq!(rt; fault_at(alloc, bytes), Some(*at));
     }
 }
 

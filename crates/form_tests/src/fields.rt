@@ -5,14 +5,20 @@ use field_form::{
 use pseudo_time::{Decision, PseudoTime, Stamp};
 use std::test::*;
 
+// What was read, and how many bytes are left.
+fn sized<T>(found: Option<(T, &[u8])>) -> Option<(T, usize)> {
+    let (read, rest) = found?;
+    Some((read, rest.len()))
+}
+
 #[test]
 fn numbers(rt: HostRuntime) {
     let bytes = [0x80u8, 1, 2, 3, 4, 5, 6, 7, 9];
-    assert!(rt; byte_of(&bytes).map(|p| (p.0, p.1.len())) == Some((128, 8)));
-    assert!(rt; u16_of(&bytes).map(|p| (p.0, p.1.len())) == Some((32_769, 7)));
-    assert!(rt; u32_of(&bytes).map(|p| (p.0, p.1.len())) == Some((2_147_549_699, 5)));
-    assert!(rt; u64_of(&bytes).map(|p| (p.0, p.1.len())) == Some((9_223_655_723_807_081_991, 1)));
-    assert!(rt; i64_of(&bytes).map(|p| (p.0, p.1.len())) == Some((-9_223_088_349_902_469_625, 1)));
+    assert!(rt; sized(byte_of(&bytes)) == Some((128, 8)));
+    assert!(rt; sized(u16_of(&bytes)) == Some((32_769, 7)));
+    assert!(rt; sized(u32_of(&bytes)) == Some((2_147_549_699, 5)));
+    assert!(rt; sized(u64_of(&bytes)) == Some((9_223_655_723_807_081_991, 1)));
+    assert!(rt; sized(i64_of(&bytes)) == Some((-9_223_088_349_902_469_625, 1)));
     assert!(rt; front_of(2, &bytes).map(|p| (p.0.len(), p.1.len())) == Some((2, 7)));
     assert!(rt; byte_of(&[]).is_none() && u16_of(&[1]).is_none() && u32_of(&[1; 3]).is_none());
     assert!(rt;
@@ -34,6 +40,15 @@ fn is_time(bytes: &[u8], time: PseudoTime, left: usize) -> bool {
     }
 }
 
+/// Bytes that are no pseudotime.
+const NO_TIMES: &[&[u8]] = &[
+    &[0, 0, 0, 0, 0, 0, 0, 0, 2, 1, 0, 0, 0, 1],
+    &[0, 0, 1, 0, 0, 0, 0, 0, 2, 1, 0, 0, 0, 1],
+    &[0, 0, 0, 0, 0, 0, 0, 1, 17, 1, 0, 0, 0, 1],
+    &[0, 0, 0, 0, 0, 0, 0, 1, 2, 0, 0, 0, 0, 1],
+    &[0, 0, 0, 0, 0, 0, 0, 1, 2, 1, 0, 0, 0, 0],
+];
+
 #[test]
 fn times(rt: HostRuntime) -> Result<(), Fail> {
     let alloc = rt.alloc();
@@ -47,38 +62,34 @@ fn times(rt: HostRuntime) -> Result<(), Fail> {
     ];
     assert_eq!(rt; out.as_slice(), bytes.as_slice());
     assert!(rt; is_stamp(&bytes, stamp, 14) && is_time(&bytes[10..], time, 0));
-    for wrong in [
-        [0u8, 0, 0, 0, 0, 0, 0, 0, 2, 1, 0, 0, 0, 1],
-        [0, 0, 1, 0, 0, 0, 0, 0, 2, 1, 0, 0, 0, 1],
-        [0, 0, 0, 0, 0, 0, 0, 1, 17, 1, 0, 0, 0, 1],
-        [0, 0, 0, 0, 0, 0, 0, 1, 2, 0, 0, 0, 0, 1],
-        [0, 0, 0, 0, 0, 0, 0, 1, 2, 1, 0, 0, 0, 0],
-    ] {
-        assert!(rt; time_of(&wrong).is_none());
+    for wrong in NO_TIMES {
+        assert!(rt; time_of(wrong).is_none());
     }
     assert!(rt; time_of(&bytes[..13]).is_none() && stamp_of(&bytes[..9]).is_none());
     Ok(())
 }
 
+/// Decisions, and their bytes.
+const DECISIONS: &[(Decision, &[u8])] = &[
+    (Decision::Committed, &[1]),
+    (Decision::Withdrawn, &[2]),
+    (
+        Decision::Expired {
+            deadline: 5,
+            moment: 256,
+        },
+        &[3, 0, 0, 0, 0, 0, 0, 0, 5, 0, 0, 0, 0, 0, 0, 1, 0],
+    ),
+];
+
 #[test]
 fn decisions(rt: HostRuntime) -> Result<(), Fail> {
     let alloc = rt.alloc();
-    let expired = Decision::Expired {
-        deadline: 5,
-        moment: 256,
-    };
-    for (decision, bytes) in [
-        (Decision::Committed, [1u8].as_slice()),
-        (Decision::Withdrawn, [2].as_slice()),
-        (
-            expired,
-            [3, 0, 0, 0, 0, 0, 0, 0, 5, 0, 0, 0, 0, 0, 0, 1, 0].as_slice(),
-        ),
-    ] {
+    for (decision, bytes) in DECISIONS {
         let mut out = Vec::new(alloc);
-        push_decision(&mut out, decision)?;
-        assert_eq!(rt; out.as_slice(), bytes);
-        assert!(rt; decision_of(bytes).map(|p| (p.0, p.1.len())) == Some((decision, 0)));
+        push_decision(&mut out, *decision)?;
+        assert_eq!(rt; out.as_slice(), *bytes);
+        assert!(rt; sized(decision_of(bytes)) == Some((*decision, 0)));
         let cut = bytes.len().saturating_sub(1);
         assert!(rt; decision_of(&bytes[..cut]).is_none());
     }

@@ -1,3 +1,5 @@
+ghost use Rattle.message_form.specs.Messages.{IsMessage};
+
 use message_form::{Message, MessageFault, read, write};
 use pseudo_time::Stamp;
 use std::alloc::{AllocError, Global};
@@ -160,27 +162,49 @@ fn place(cut: usize, second: usize, third: usize) -> usize {
     }
 }
 
+// Where the bytes are at fault. None where they are a message.
+fn fault_at(alloc: Global, bytes: &[u8]) -> Option<usize> {
+    match read(alloc, bytes) {
+        Err(MessageFault::Form { at }) => Some(at),
+        _ => None,
+    }
+}
+
 // Each beginning of the bytes is at fault where the field begins that is cut.
 fn faults_when_cut(alloc: Global, bytes: &[u8], second: usize, third: usize) -> bool {
     for cut in 0..bytes.len() {
         let at = place(cut, second, third);
-        if read(alloc, &bytes[..cut]) != Err(MessageFault::Form { at }) {
+        if fault_at(alloc, &bytes[..cut]) != Some(at) {
             return false;
         }
     }
     true
 }
 
-// The message that the bytes are is written as them, and its copy is equal. What `Debug` says of it.
-fn told(alloc: Global, bytes: &[u8]) -> Result<Option<String>, MessageFault> {
-    let message = read(alloc, bytes)?;
+// Whether the message is written as these bytes, and its copy is equal.
+fn is_written_so(alloc: Global, message: &Message, bytes: &[u8]) -> Result<bool, AllocError>
+    requires { IsMessage message.now }
+{
     let mut out = Vec::new(alloc);
-    write(alloc, &message, &mut out)?;
+    write(alloc, message, &mut out)?;
     let copy = message.copy(alloc)?;
-    if out.as_slice() != bytes || copy != message {
+    Ok(out.as_slice() == bytes && copy == *message)
+}
+
+// What `Debug` says of the message, where it is written as these bytes.
+fn told_of(alloc: Global, message: &Message, bytes: &[u8]) -> Result<Option<String>, MessageFault>
+    requires { IsMessage message.now }
+{
+    if !is_written_so(alloc, message, bytes)? {
         return Ok(None);
     }
     Ok(Some(format!(in alloc; "{message:?}")?))
+}
+
+// The message that the bytes are is written as them, and its copy is equal. What `Debug` says of it.
+fn told(alloc: Global, bytes: &[u8]) -> Result<Option<String>, MessageFault> {
+    let message = read(alloc, bytes)?;
+    told_of(alloc, &message, bytes)
 }
 
 #[test]
@@ -195,8 +219,7 @@ fn messages_with_their_bytes(rt: HostRuntime) -> Result<(), Fail> {
         assert_eq!(rt; found.as_str(), *text);
         let mut longer = bytes.to_vec(alloc)?;
         longer.push(0)?;
-        let at = bytes.len();
-        assert!(rt; read(alloc, longer.as_slice()) == Err(MessageFault::Form { at }));
+        assert_eq!(rt; fault_at(alloc, longer.as_slice()), Some(bytes.len()));
     }
     Ok(())
 }
@@ -227,7 +250,7 @@ const FAULTS: &[(&[u8], usize)] = &[
 fn places_of_faults(rt: HostRuntime) {
     let alloc = rt.alloc();
     for (bytes, at) in FAULTS {
-        assert!(rt; read(alloc, bytes) == Err(MessageFault::Form { at: *at }));
+        assert_eq!(rt; fault_at(alloc, bytes), Some(*at));
     }
 }
 

@@ -259,11 +259,8 @@ const TIGHT: &[u8] =
 fn plans_with_their_text(rt: HostRuntime) -> Result<(), Fail> {
     let alloc = rt.alloc();
     for bytes in [LOOSE, TIGHT] {
-        let found = canonical(alloc, bytes);
-        assert!(rt; matches!(found, Ok(_)));
-        if let Ok(found) = found {
-            assert_eq!(rt; found.as_slice(), TIGHT);
-        }
+        let found = canonical(alloc, bytes).ok().ok_or("a plan")?;
+        assert_eq!(rt; found.as_slice(), TIGHT);
     }
     Ok(())
 }
@@ -274,17 +271,19 @@ fn plans_with_their_text(rt: HostRuntime) -> Result<(), Fail> {
 const MADE: &[u8] =
     b"swallow plan 1\nrun 1\nrepositories 8\nbrokers 8\nact broker 2 home 7 timeout 100000 tries 100\nread a 8.8\nread b 7.2\nif given(a, 1000) >= 14\nwrite 8.8 given(a, 1000) - 14\nwrite 7.2 given(b, 1000) + 14\nend\ndone\nact broker 3 home 2 timeout 100000 tries 100\nread a 1.4\nread b 6.1\nif given(a, 1000) >= 5\nwrite 1.4 given(a, 1000) - 5\nwrite 6.1 given(b, 1000) + 5\nend\ndone\nact broker 4 home 4 timeout 100000 tries 100\nread a 7.7\nread b 1.4\nif given(a, 1000) >= 16\nwrite 7.7 given(a, 1000) - 16\nwrite 1.4 given(b, 1000) + 16\nend\ndone\nact broker 1 home 1 timeout 100000 tries 100\nlet k = 1\nlet s = 0\nrepeat 8\nread v 1[k]\nlet s = s + given(v, 1000)\nread v 2[k]\nlet s = s + given(v, 1000)\nread v 3[k]\nlet s = s + given(v, 1000)\nread v 4[k]\nlet s = s + given(v, 1000)\nread v 5[k]\nlet s = s + given(v, 1000)\nread v 6[k]\nlet s = s + given(v, 1000)\nread v 7[k]\nlet s = s + given(v, 1000)\nread v 8[k]\nlet s = s + given(v, 1000)\nlet k = k + 1\nend\nprint s\ndone\n";
 
+// The text of the plan that is made of three acts from seed 7.
+fn made(alloc: Global) -> Result<Vec<u8>, Fail> {
+    let plan = make(alloc, 7, 3)?;
+    let text = print(alloc, &plan)?;
+    Ok(text.into_vec())
+}
+
 #[test]
 fn made_plans(rt: HostRuntime) -> Result<(), Fail> {
     let alloc = rt.alloc();
-    let plan = make(alloc, 7, 3)?;
-    let text = print(alloc, &plan)?;
-    assert_eq!(rt; text.as_slice(), MADE);
-    let again = canonical(alloc, MADE);
-    assert!(rt; matches!(again, Ok(_)));
-    if let Ok(again) = again {
-        assert_eq!(rt; again.as_slice(), MADE);
-    }
+    assert_eq!(rt; made(alloc)?.as_slice(), MADE);
+    let again = canonical(alloc, MADE).ok().ok_or("a plan")?;
+    assert_eq!(rt; again.as_slice(), MADE);
     assert_eq!(rt; step(7), 9_098_160_460_397_411_210);
     Ok(())
 }

@@ -51,16 +51,10 @@ const SCRIPTS: &[(&[u8], &[u8])] = &[
 fn scripts_with_their_text(rt: HostRuntime) -> Result<(), Fail> {
     let alloc = rt.alloc();
     for (bytes, text) in SCRIPTS {
-        let once = canonical(alloc, bytes);
-        assert!(rt; matches!(once, Ok(_)));
-        if let Ok(once) = once {
-            assert_eq!(rt; once.as_slice(), *text);
-        }
-        let twice = canonical(alloc, text);
-        assert!(rt; matches!(twice, Ok(_)));
-        if let Ok(twice) = twice {
-            assert_eq!(rt; twice.as_slice(), *text);
-        }
+        let once = canonical(alloc, bytes).ok().ok_or("a script")?;
+        assert_eq!(rt; once.as_slice(), *text);
+        let twice = canonical(alloc, text).ok().ok_or("a script")?;
+        assert_eq!(rt; twice.as_slice(), *text);
     }
     Ok(())
 }
@@ -95,35 +89,51 @@ fn faults_of_scripts(rt: HostRuntime) -> Result<(), Fail> {
     Ok(())
 }
 
+/// A line, how often it stands, and the fault of that script.
+const LARGE: &[(&[u8], usize, Option<ParseFault>)] = &[
+    (b"\n", 200, None),
+    (b"\n", 201, Some(SIZE)),
+    (b"#\n", 201, Some(SIZE)),
+    (b"print 1\n", 201, Some(SIZE)),
+    // 100 lines of 39 bytes are 3,900 bytes.
+    (b"print 10000000000000000 + 200000000000\n", 100, None),
+    (
+        b"print 10000000000000000 + 2000000000000\n",
+        100,
+        Some(ParseFault::Fault {
+            line: 98,
+            kind: ParseKind::Size,
+        }),
+    ),
+    (
+        b"if 1\n",
+        17,
+        Some(ParseFault::Fault {
+            line: 17,
+            kind: ParseKind::Depth,
+        }),
+    ),
+    (
+        b"(",
+        100_000,
+        Some(ParseFault::Fault {
+            line: 1,
+            kind: ParseKind::Syntax,
+        }),
+    ),
+];
+
+const SIZE: ParseFault = ParseFault::Fault {
+    line: 201,
+    kind: ParseKind::Size,
+};
+
 #[test]
 fn large_scripts(rt: HostRuntime) -> Result<(), Fail> {
     let alloc = rt.alloc();
-    let empty = repeated(alloc, b"\n", 200)?;
-    assert!(rt; fault_of(alloc, empty.as_slice()) == None);
-    let size = |line| Some(ParseFault::Fault {
-        line,
-        kind: ParseKind::Size,
-    });
-    for line in [b"\n".as_slice(), b"#\n", b"print 1\n"] {
-        let more = repeated(alloc, line, 201)?;
-        assert!(rt; fault_of(alloc, more.as_slice()) == size(201));
+    for (line, count, fault) in LARGE {
+        let script = repeated(alloc, line, *count)?;
+        assert!(rt; fault_of(alloc, script.as_slice()) == *fault);
     }
-    // 100 lines of 39 bytes are 3,900 bytes.
-    let most = repeated(alloc, b"print 10000000000000000 + 200000000000\n", 100)?;
-    assert!(rt; fault_of(alloc, most.as_slice()) == None);
-    let long = repeated(alloc, b"print 10000000000000000 + 2000000000000\n", 100)?;
-    assert!(rt; fault_of(alloc, long.as_slice()) == size(98));
-    let deep = repeated(alloc, b"if 1\n", 17)?;
-    let depth = Some(ParseFault::Fault {
-        line: 17,
-        kind: ParseKind::Depth,
-    });
-    assert!(rt; fault_of(alloc, deep.as_slice()) == depth);
-    let groups = repeated(alloc, b"(", 100_000)?;
-    let syntax = Some(ParseFault::Fault {
-        line: 1,
-        kind: ParseKind::Syntax,
-    });
-    assert!(rt; fault_of(alloc, groups.as_slice()) == syntax);
     Ok(())
 }

@@ -1,5 +1,5 @@
 use expression_form::ReadFault;
-use statement_form::{BlockFault, Builder, print_row, print_script, read_row};
+use statement_form::{BlockFault, Builder, Flat, print_row, print_script, read_row};
 use std::alloc::Global;
 use std::test::*;
 use token_form::tokens_of;
@@ -17,33 +17,44 @@ fn answer(alloc: Global, line: &[u8]) -> Result<Vec<u8>, Fail> {
     Ok(out)
 }
 
-// The canonical text of the script that the lines are, where the first is on the line that is given
-// and each other two lines on, or `block`, `depth` or `open`.
-fn script(alloc: Global, lines: &[&[u8]], first: u16) -> Result<Vec<u8>, Fail> {
-    let mut builder = Builder::new(alloc);
-    let mut at = first;
-    let mut out = Vec::new(alloc);
-    for line in lines {
-        let tokens = tokens_of(alloc, line, 16).ok().ok_or("tokens")?;
-        let flat = read_row(alloc, tokens.as_slice()).ok().ok_or("row")?;
-        match builder.feed(alloc, at, flat) {
-            Ok(fed) => builder = fed,
-            Err(fault) => {
-                out.extend_from_slice(match fault {
-                    BlockFault::Block => b"block".as_slice(),
-                    BlockFault::Depth => b"depth".as_slice(),
-                    BlockFault::NoMemory => b"memory".as_slice(),
-                })?;
-                return Ok(out);
-            }
-        }
-        at = at.saturating_add(2);
+// What stands on a line.
+fn row_of(alloc: Global, line: &[u8]) -> Result<Flat, Fail> {
+    let tokens = tokens_of(alloc, line, 16).ok().ok_or("tokens")?;
+    Ok(read_row(alloc, tokens.as_slice()).ok().ok_or("row")?)
+}
+
+fn word_of(fault: BlockFault) -> &'static [u8] {
+    match fault {
+        BlockFault::Block => b"block".as_slice(),
+        BlockFault::Depth => b"depth",
+        BlockFault::NoMemory => b"memory",
     }
+}
+
+// The canonical text of the script that was fed, or `open`.
+fn text_of(alloc: Global, builder: Builder) -> Result<Vec<u8>, Fail> {
+    let mut out = Vec::new(alloc);
     match builder.end() {
         Some(script) => print_script(alloc, &mut out, &script)?,
         None => out.extend_from_slice(b"open")?,
     }
     Ok(out)
+}
+
+// The canonical text of the script that the lines are, where the first is on the line that is given
+// and each other two lines on, or `block`, `depth` or `open`.
+fn script(alloc: Global, lines: &[&[u8]], first: u16) -> Result<Vec<u8>, Fail> {
+    let mut builder = Builder::new(alloc);
+    let mut at = first;
+    for line in lines {
+        let row = row_of(alloc, line)?;
+        match builder.feed(alloc, at, row) {
+            Ok(fed) => builder = fed,
+            Err(fault) => return Ok(word_of(fault).to_vec(alloc)?),
+        }
+        at = at.saturating_add(2);
+    }
+    text_of(alloc, builder)
 }
 
 /// Lines, and the canonical text of what stands on each.

@@ -20,24 +20,8 @@ fn copied(alloc: Global, tokens: &[Token]) -> Result<Vec<Token>, Fail> {
     Ok(copies)
 }
 
-fn repeated(alloc: Global, byte: u8, count: usize) -> Result<Vec<u8>, Fail> {
-    let mut bytes = Vec::new(alloc);
-    for _ in 0..count {
-        bytes.push(byte)?;
-    }
-    Ok(bytes)
-}
-
-fn quoted(alloc: Global, byte: u8, count: usize) -> Result<Vec<u8>, Fail> {
-    let mut bytes = repeated(alloc, b'"', 1)?;
-    let inside = repeated(alloc, byte, count)?;
-    bytes.extend_from_slice(inside.as_slice())?;
-    bytes.push(b'"')?;
-    Ok(bytes)
-}
-
-fn count_of(alloc: Global, line: &[u8]) -> Result<usize, LineFault> {
-    let tokens = tokens_of(alloc, line, 16)?;
+fn count_of(alloc: Global, line: &[u8], repositories: u8) -> Result<usize, LineFault> {
+    let tokens = tokens_of(alloc, line, repositories)?;
     Ok(tokens.len())
 }
 
@@ -114,30 +98,54 @@ const FAULTS: &[(&[u8], LineFault)] = &[
 fn faults_of_lines(rt: HostRuntime) {
     let alloc = rt.alloc();
     for (line, fault) in FAULTS {
-        assert!(rt; tokens_of(alloc, line, 16) == Err(*fault));
+        assert!(rt; count_of(alloc, line, 16) == Err(*fault));
     }
-    assert!(rt; tokens_of(alloc, b"read x 5.1", 4) == Err(LineFault::Range));
-    assert!(rt; count_of(alloc, b"read x 5.1") == Ok(5));
+    assert!(rt; count_of(alloc, b"read x 5.1", 4) == Err(LineFault::Range));
+    assert!(rt; count_of(alloc, b"read x 5.1", 16) == Ok(5));
 }
+
+// A line that begins so, has so many of one byte, and ends so.
+fn long_line(
+    alloc: Global,
+    front: &[u8],
+    byte: u8,
+    count: usize,
+    end: &[u8],
+) -> Result<Vec<u8>, AllocError> {
+    let mut line = front.to_vec(alloc)?;
+    for _ in 0..count {
+        line.push(byte)?;
+    }
+    line.extend_from_slice(end)?;
+    Ok(line)
+}
+
+/// How a line begins, a byte and how often it follows, how the line ends, and how many tokens it has.
+const LONG_LINES: &[(&[u8], u8, usize, &[u8], usize)] = &[
+    (b"", b'(', 1_000_000, b"", 1_000_000),
+    (b"", b' ', 1_000_000, b"", 0),
+    (b"", b'0', 1_000_000, b"", 1_000_000),
+    (b"\"", b'~', 1_000, b"\"", 1),
+];
+
+/// The same of lines with a fault, and the fault.
+const LONG_FAULTS: &[(&[u8], u8, usize, &[u8], LineFault)] = &[
+    (b"", b'9', 1_000_000, b"", LineFault::Range),
+    (b"", b'a', 1_000_000, b"", LineFault::Range),
+    (b"", b'"', 999_999, b"", LineFault::Token),
+    (b"\"", b'~', 1_001, b"\"", LineFault::Range),
+];
 
 #[test]
 fn long_lines(rt: HostRuntime) -> Result<(), Fail> {
     let alloc = rt.alloc();
-    let groups = repeated(alloc, b'(', 1_000_000)?;
-    assert!(rt; count_of(alloc, groups.as_slice()) == Ok(1_000_000));
-    let spaces = repeated(alloc, b' ', 1_000_000)?;
-    assert!(rt; count_of(alloc, spaces.as_slice()) == Ok(0));
-    let zeros = repeated(alloc, b'0', 1_000_000)?;
-    assert!(rt; count_of(alloc, zeros.as_slice()) == Ok(1_000_000));
-    for byte in [b'9', b'a'] {
-        let long = repeated(alloc, byte, 1_000_000)?;
-        assert!(rt; count_of(alloc, long.as_slice()) == Err(LineFault::Range));
+    for (front, byte, count, end, tokens) in LONG_LINES {
+        let line = long_line(alloc, front, *byte, *count, end)?;
+        assert!(rt; count_of(alloc, line.as_slice(), 16) == Ok(*tokens));
     }
-    let open = repeated(alloc, b'"', 999_999)?;
-    assert!(rt; count_of(alloc, open.as_slice()) == Err(LineFault::Token));
-    let longest = quoted(alloc, b'~', 1_000)?;
-    assert!(rt; count_of(alloc, longest.as_slice()) == Ok(1));
-    let too_long = quoted(alloc, b'~', 1_001)?;
-    assert!(rt; count_of(alloc, too_long.as_slice()) == Err(LineFault::Range));
+    for (front, byte, count, end, fault) in LONG_FAULTS {
+        let line = long_line(alloc, front, *byte, *count, end)?;
+        assert!(rt; count_of(alloc, line.as_slice(), 16) == Err(*fault));
+    }
     Ok(())
 }

@@ -1,32 +1,58 @@
 use effect_form::Effect;
 use message_form::Message;
 use pseudo_time::{NodeId, NodeKind, Stamp};
+use std::alloc::{AllocError, Global};
 use std::test::*;
 use turn_form::{Out, Turn};
 
-#[test]
-fn a_turn(rt: HostRuntime) -> Result<(), Fail> {
-    let alloc = rt.alloc();
-    let stamp = Stamp::new(1, 1, 1).ok_or("in range")?;
+fn out_of(stamp: Stamp) -> Out {
     let to = NodeId {
         kind: NodeKind::Broker,
         number: 1,
     };
-    let out = Out {
+    Out {
         to,
         message: Message::Begun { stamp },
-    };
-    let copy = out.copy(alloc)?;
+    }
+}
+
+#[test]
+fn a_copied_message(rt: HostRuntime) -> Result<(), Fail> {
+    let out = out_of(Stamp::new(1, 1, 1).ok_or("in range")?);
+    let copy = out.copy(rt.alloc())?;
     assert!(rt; copy == out);
+    Ok(())
+}
+
+// A turn with an effect and a message.
+fn turn_of(alloc: Global, stamp: Stamp) -> Result<Turn, AllocError> {
     let mut effects = Vec::new(alloc);
     effects.push(Effect::Begin { stamp, deadline: 5 })?;
     let mut outs = Vec::new(alloc);
-    outs.push(out)?;
-    let turn = Turn::of(effects, outs);
-    assert!(rt; turn.effects.as_slice() == [Effect::Begin { stamp, deadline: 5 }].as_slice());
-    assert!(rt; turn.outs.as_slice() == [copy].as_slice());
-    let quiet = Turn::quiet(alloc);
+    outs.push(out_of(stamp))?;
+    Ok(Turn::of(effects, outs))
+}
+
+fn is_begin(effects: &[Effect], stamp: Stamp) -> bool {
+    effects == [Effect::Begin { stamp, deadline: 5 }].as_slice()
+}
+
+fn is_out(outs: &[Out], stamp: Stamp) -> bool {
+    outs == [out_of(stamp)].as_slice()
+}
+
+#[test]
+fn a_turn(rt: HostRuntime) -> Result<(), Fail> {
+    let stamp = Stamp::new(1, 1, 1).ok_or("in range")?;
+    let turn = turn_of(rt.alloc(), stamp)?;
+    assert!(rt; is_begin(turn.effects.as_slice(), stamp));
+    assert!(rt; is_out(turn.outs.as_slice(), stamp));
+    Ok(())
+}
+
+#[test]
+fn a_quiet_turn(rt: HostRuntime) {
+    let quiet = Turn::quiet(rt.alloc());
     assert!(rt; quiet.effects.as_slice().is_empty());
     assert!(rt; quiet.outs.as_slice().is_empty());
-    Ok(())
 }

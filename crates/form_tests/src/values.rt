@@ -1,3 +1,5 @@
+ghost use Rattle.value_form.specs.ValueBytes.{IsValue};
+
 use std::alloc::{AllocError, Global};
 use std::test::*;
 use value_form::{Bytes, Items, Line, ObjectId, Value, ValueFault};
@@ -23,19 +25,36 @@ const VALUES: &[(&[u8], &[u8])] = &[
     (&[2, 0, 0], b"\"\""),
 ];
 
+// Whether the value is written as these bytes, and its copy is equal.
+fn is_written_so(alloc: Global, value: &Value, bytes: &[u8]) -> Result<bool, AllocError>
+    requires { IsValue value.now }
+{
+    let mut out = Vec::new(alloc);
+    value.write(alloc, &mut out)?;
+    let copy = value.copy(alloc)?;
+    Ok(out.as_slice() == bytes && copy == *value)
+}
+
+// The value as it is printed, where it is written as these bytes.
+fn printed_of(alloc: Global, value: &Value, bytes: &[u8]) -> Result<Option<Vec<u8>>, ValueFault>
+    requires { IsValue value.now }
+{
+    if !is_written_so(alloc, value, bytes)? {
+        return Ok(None);
+    }
+    let mut text = Vec::new(alloc);
+    value.print(alloc, &mut text)?;
+    Ok(Some(text))
+}
+
 // The value that the bytes before the last are is written as them, and its copy is equal. The value as it
 // is printed.
 fn printed(alloc: Global, bytes: &[u8]) -> Result<Option<Vec<u8>>, ValueFault> {
     let (value, size) = Value::read(alloc, bytes)?;
-    let mut out = Vec::new(alloc);
-    value.write(alloc, &mut out)?;
-    let copy = value.copy(alloc)?;
-    if out.as_slice() != &bytes[..size] || size.saturating_add(1) != bytes.len() || copy != value {
+    if size.saturating_add(1) != bytes.len() {
         return Ok(None);
     }
-    let mut text = Vec::new(alloc);
-    copy.print(alloc, &mut text)?;
-    Ok(Some(text))
+    printed_of(alloc, &value, &bytes[..size])
 }
 
 #[test]
@@ -85,11 +104,19 @@ const FAULTS: &[(&[u8], usize)] = &[
     (&[2, 0, 2, 1], 3),
 ];
 
+// Where the bytes are at fault. None where a value is read.
+fn fault_at(alloc: Global, bytes: &[u8]) -> Option<usize> {
+    match Value::read(alloc, bytes) {
+        Err(ValueFault::Form(at)) => Some(at),
+        _ => None,
+    }
+}
+
 #[test]
 fn places_of_value_faults(rt: HostRuntime) {
     let alloc = rt.alloc();
     for (bytes, at) in FAULTS {
-        assert!(rt; Value::read(alloc, bytes) == Err(ValueFault::Form(*at)));
+        assert_eq!(rt; fault_at(alloc, bytes), Some(*at));
     }
 }
 
@@ -123,6 +150,12 @@ fn written_values(rt: HostRuntime) -> Result<(), Fail> {
     Ok(())
 }
 
+// Whether a copy of the line is equal.
+fn is_copied(alloc: Global, line: Line) -> Result<bool, AllocError> {
+    let copy = line.copy(alloc)?;
+    Ok(copy == line)
+}
+
 #[test]
 fn copied_lines(rt: HostRuntime) -> Result<(), Fail> {
     let alloc = rt.alloc();
@@ -130,12 +163,9 @@ fn copied_lines(rt: HostRuntime) -> Result<(), Fail> {
         repository: 1,
         number: 7,
     };
-    for line in [
-        Line::Read(object, Value::Nothing),
-        Line::Wrote(object, Value::Number(10)),
-        Line::Print(Value::Text(Bytes::of(b"a".as_slice().to_vec(alloc)?))),
-    ] {
-        assert!(rt; line.copy(alloc)? == line);
-    }
+    assert!(rt; is_copied(alloc, Line::Read(object, Value::Nothing))?);
+    assert!(rt; is_copied(alloc, Line::Wrote(object, Value::Number(10)))?);
+    let text = Bytes::of(b"a".as_slice().to_vec(alloc)?);
+    assert!(rt; is_copied(alloc, Line::Print(Value::Text(text)))?);
     Ok(())
 }

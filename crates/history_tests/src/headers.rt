@@ -3,9 +3,9 @@ ghost use Rattle.effect_form.specs.Effects.{IsEffect, AreEffects};
 ghost use Rattle.object_header.specs.Tables.{ledger_of, store_of};
 ghost use Rattle.version_store.specs.StoreWords.{medium_of};
 
-use crate::histories::{ANSWERS, Call, OBJECT, Said, Time, asked, time};
+use crate::histories::{ANSWERS, Call, OBJECT, OF_UNRULY, Said, Time, asked, differ, time};
 use effect_form::Effect;
-use medium_port::{FileShelf, Medium, MemoryMedium, Shelf, Stop, StopAt};
+use medium_port::{FileMedium, FileShelf, Medium, MemoryMedium, Shelf, Stop, StopAt};
 use object_header::{HeaderTable, late_marks};
 use object_history::{Histories, HistoryFault, PlainHistories, WriteStep};
 use pseudo_time::{Decision, NodeKind};
@@ -129,25 +129,27 @@ fn in_memory(
 /// A call that no test comes to.
 const NEVER: u64 = 1_000_000;
 
-// The table of answers, over a store that is empty: what stands above it is late.
+// What an empty table answers otherwise than it should.
+fn differs_in_memory(
+    alloc: Global,
+    story: &[(Call, Said)],
+) -> Result<Option<(usize, Said)>, HistoryFault> {
+    let table = in_memory(alloc, NEVER, &[], &[])?;
+    Ok(differ(table, story))
+}
+
+// The stories of answers, over a store that is empty: what stands above it is late.
 #[test]
-fn answers(rt: HostRuntime) -> Result<(), Fail> {
+fn answers(rt: HostRuntime) {
     let alloc = rt.alloc();
-    let table = in_memory(alloc, NEVER, &[], &[]);
-    let mut table = table.ok().ok_or("in memory")?;
-    for (call, want) in ANSWERS {
-        if let Call::New = call {
-            table = in_memory(alloc, NEVER, &[], &[]).ok().ok_or("in memory")?;
-        }
-        let got = asked(&mut table, call).unwrap_or(Said::Fault);
-        assert_eq!(rt; got, want);
+    for story in ANSWERS {
+        assert_eq!(rt; differs_in_memory(alloc, story), Ok(None));
     }
-    Ok(())
 }
 
 // Three committed versions: the one in the middle has a committed one above it, so its read stretches
 // nothing. The newest one is read, and stretched.
-const THREE: [Row; 9] = [
+const THREE: &[Row] = &[
     Row::Begin(1),
     Row::Put((1, 1, 1), 1),
     Row::Decide(1, true),
@@ -159,7 +161,7 @@ const THREE: [Row; 9] = [
     Row::Decide(3, true),
 ];
 
-const OF_THREE: [(Call, Said); 5] = [
+const OF_THREE: &[(Call, Said)] = &[
     (Call::Read((2, 1, 1)), Said::Value(1, false)),
     (Call::Read((3, 1, 1)), Said::Value(2, false)),
     (Call::Read((9, 1, 1)), Said::Value(3, true)),
@@ -168,13 +170,13 @@ const OF_THREE: [(Call, Said); 5] = [
 ];
 
 // The newest version was aborted, and one below it is still undecided: the starts don't rise.
-const DEAD: [Row; 3] = [
+const DEAD: &[Row] = &[
     Row::Put((5, 1, 1), 5),
     Row::Learn(5, false),
     Row::Put((3, 1, 1), 3),
 ];
 
-const OF_DEAD: [(Call, Said); 4] = [
+const OF_DEAD: &[(Call, Said)] = &[
     (Call::Read((6, 1, 1)), Said::Wait(3, 1)),
     (Call::Stands((5, 1, 1), 5), Said::Stands(false)),
     (Call::Settle(3, 1, true), Said::Done),
@@ -182,7 +184,7 @@ const OF_DEAD: [(Call, Said); 4] = [
 ];
 
 // Two versions of which the later one was put first: no calls of ours put them so.
-const AGAINST: [Row; 6] = [
+const AGAINST: &[Row] = &[
     Row::Begin(2),
     Row::Begin(5),
     Row::Put((5, 1, 1), 1),
@@ -191,7 +193,7 @@ const AGAINST: [Row; 6] = [
     Row::Decide(2, true),
 ];
 
-const OF_AGAINST: [(Call, Said); 3] = [
+const OF_AGAINST: &[(Call, Said)] = &[
     (Call::Read((3, 1, 1)), Said::Value(2, false)),
     (Call::Read((9, 1, 1)), Said::Value(1, true)),
     (Call::Write((8, 1, 1), 4), Said::LaterRead((9, 1, 1))),
@@ -199,21 +201,12 @@ const OF_AGAINST: [(Call, Said); 3] = [
 
 // The first decision of an attempt counts, and of versions with one start the newest is seen. The
 // Stretch fell on the other one.
-const UNRULY: [Row; 5] = [
+const UNRULY: &[Row] = &[
     Row::Put((1, 1, 1), 7),
     Row::Stretch((2, 1, 1)),
     Row::Put((1, 1, 1), 8),
     Row::Learn(1, true),
     Row::Learn(1, false),
-];
-
-const OF_UNRULY: [(Call, Said); 6] = [
-    (Call::Settled(1, 1), Said::Settled(Some(true))),
-    (Call::Stands((1, 1, 1), 7), Said::Stands(true)),
-    (Call::Stands((1, 1, 1), 8), Said::Stands(true)),
-    (Call::Write((1, 2, 1), 9), Said::Put),
-    (Call::Settle(1, 2, false), Said::Done),
-    (Call::Read((2, 1, 1)), Said::Value(8, true)),
 ];
 
 // A table whose marks all stand in the store has nothing to add to it.
@@ -226,51 +219,65 @@ fn flushed(table: HeaderTable<MemoryMedium>) -> Result<HeaderTable<MemoryMedium>
     }
 }
 
-// Whether a table of these rows answers so.
-fn says(alloc: Global, rows: &[Row], answers: &[(Call, Said)]) -> Result<bool, HistoryFault> {
+// What a table of these rows answers otherwise than it should.
+fn differs_stored(
+    alloc: Global,
+    rows: &[Row],
+    answers: &[(Call, Said)],
+) -> Result<Option<(usize, Said)>, HistoryFault> {
     let table = in_memory(alloc, NEVER, rows, &[])?;
-    let mut table = flushed(table)?;
-    for (call, want) in answers {
-        if asked(&mut table, *call)? != *want {
-            return Ok(false);
-        }
-    }
-    Ok(true)
+    let table = flushed(table)?;
+    Ok(differ(table, answers))
 }
 
 #[test]
-fn stored_versions(rt: HostRuntime) -> Result<(), Fail> {
+fn stored_versions(rt: HostRuntime) {
     let alloc = rt.alloc();
-    assert_eq!(rt; says(alloc, &THREE, &OF_THREE), Ok(true));
-    assert_eq!(rt; says(alloc, &DEAD, &OF_DEAD), Ok(true));
-    assert_eq!(rt; says(alloc, &AGAINST, &OF_AGAINST), Ok(true));
-    assert_eq!(rt; says(alloc, &UNRULY, &OF_UNRULY), Ok(true));
-    Ok(())
+    assert_eq!(rt; differs_stored(alloc, THREE, OF_THREE), Ok(None));
+    assert_eq!(rt; differs_stored(alloc, DEAD, OF_DEAD), Ok(None));
+    assert_eq!(rt; differs_stored(alloc, AGAINST, OF_AGAINST), Ok(None));
+    assert_eq!(rt; differs_stored(alloc, UNRULY, OF_UNRULY), Ok(None));
 }
 
 // One committed write.
-const BEGUN: [Row; 1] = [Row::Begin(1)];
+const BEGUN: &[Row] = &[Row::Begin(1)];
 
-const WRITTEN: [Row; 2] = [Row::Put((1, 1, 1), 10), Row::Decide(1, true)];
+const WRITTEN: &[Row] = &[Row::Put((1, 1, 1), 10), Row::Decide(1, true)];
+
+// What histories that are not wanted any more say to a last call.
+fn said_last<H: Histories + Drop>(histories: H, call: Call) -> Result<Said, HistoryFault> {
+    let mut histories = histories;
+    asked(&mut histories, call)
+}
+
+// What the table of one write says to a read where the call of its medium with this number stops. None
+// where it can't be made.
+fn read_at_stop(alloc: Global, stops: u64) -> Option<Result<Said, HistoryFault>> {
+    let Ok(table) = in_memory(alloc, stops, BEGUN, WRITTEN) else {
+        return None;
+    };
+    Some(said_last(table, Call::Read((2, 1, 1))))
+}
 
 // An opening is a sync and a read of each page, and an append two writes and two syncs: the table is
 // made by eighteen calls. Its first read is a call of the medium, since no value is kept in memory.
 #[test]
-fn the_next_call_stops(rt: HostRuntime) -> Result<(), Fail> {
+fn the_next_call_stops(rt: HostRuntime) {
     let alloc = rt.alloc();
-    let read = Call::Read((2, 1, 1));
-    for (stops, want) in [
-        (NEVER, Ok(Said::Value(10, true))),
-        (19, Err(HistoryFault::Medium)),
-        (20, Ok(Said::Value(10, true))),
-    ] {
-        let table = in_memory(alloc, stops, &BEGUN, &WRITTEN);
-        let mut table = table.ok().ok_or("made")?;
-        assert_eq!(rt; asked(&mut table, read), want);
-    }
-    let unmade = in_memory(alloc, 18, &BEGUN, &WRITTEN).is_err();
-    assert!(rt; unmade);
-    Ok(())
+    assert_eq!(rt; read_at_stop(alloc, NEVER), Some(Ok(Said::Value(10, true))));
+    assert_eq!(rt; read_at_stop(alloc, 19), Some(Err(HistoryFault::Medium)));
+    assert_eq!(rt; read_at_stop(alloc, 20), Some(Ok(Said::Value(10, true))));
+    assert_eq!(rt; read_at_stop(alloc, 18), None);
+}
+
+// The table of one write over a file of this folder.
+fn in_file(alloc: Global, rt: &HostRuntime, folder: &str) -> Result<HeaderTable<FileMedium>, Fail> {
+    let mut shelf = FileShelf::new(alloc, rt, rt.stderr(), folder)?;
+    let Ok(medium) = shelf.take(NodeKind::Repository, 1, 0) else {
+        return Err("a file".into());
+    };
+    let table = stored(alloc, medium, BEGUN, WRITTEN)?;
+    Ok(table)
 }
 
 // After the table is made, all bytes of the file become 0: the page of the version is damaged.
@@ -278,16 +285,12 @@ fn the_next_call_stops(rt: HostRuntime) -> Result<(), Fail> {
 fn a_file_overwritten(rt: HostRuntime) -> Result<(), Fail> {
     let alloc = rt.alloc();
     let folder = format!(in alloc; "/tmp/swallow-headers-{}", process::id(rt.process()))?;
-    let mut shelf = FileShelf::new(alloc, rt, rt.stderr(), folder.as_str())?;
-    let medium = shelf.take(NodeKind::Repository, 1, 0);
-    let medium = medium.ok().ok_or("a file")?;
-    let table = stored(alloc, medium, &BEGUN, &WRITTEN);
-    let mut table = table.ok().ok_or("made")?;
     let path = format!(in alloc; "{}/repository-1-0", folder.as_str())?;
+    let table = in_file(alloc, &rt, folder.as_str())?;
     let zeros = [0u8; 16384];
     let written = fs::write(&rt, path.as_str(), &zeros).is_ok();
     assert!(rt; written);
-    let got = asked(&mut table, Call::Read((2, 1, 1)));
+    let got = said_last(table, Call::Read((2, 1, 1)));
     assert_eq!(rt; got, Err(HistoryFault::Damaged { page: 1 }));
     let removed = fs::remove_file(&rt, path.as_str()).is_ok();
     assert!(rt; removed);
@@ -314,13 +317,21 @@ fn call_of(seed: u64) -> Call {
     }
 }
 
+// Whether a read with this answer stretches what it saw.
+fn stretches(said: Said) -> bool {
+    match said {
+        Said::Value(_, stretch) => stretch,
+        Said::Nothing(stretch) => stretch,
+        _ => false,
+    }
+}
+
 // The effect of a call with this answer, if it has one.
 fn row_of(call: Call, said: Said, settled: bool) -> Option<Row> {
-    match (call, said) {
-        (Call::Write(at, number), Said::Put) => Some(Row::Put(at, number)),
-        (Call::Read(at), Said::Value(_, true)) => Some(Row::Stretch(at)),
-        (Call::Read(at), Said::Nothing(true)) => Some(Row::Stretch(at)),
-        (Call::Settle(clock, _, committed), Said::Done) if !settled => {
+    match call {
+        Call::Write(at, number) if said == Said::Put => Some(Row::Put(at, number)),
+        Call::Read(at) if stretches(said) => Some(Row::Stretch(at)),
+        Call::Settle(clock, _, committed) if !settled && said == Said::Done => {
             Some(Row::Learn(clock, committed))
         }
         _ => None,
@@ -338,40 +349,64 @@ fn is_settled(plain: &mut PlainHistories, call: Call) -> Result<bool, HistoryFau
     }
 }
 
-// So many calls of plain histories, of which the first ones are stored; a table of these goes on with
-// the others. Whether it answers them as plain histories do.
-fn alike(alloc: Global, seed: u64, stored: usize, more: usize) -> Result<bool, HistoryFault> {
-    let mut plain = PlainHistories::new(alloc);
+// The effects of so many calls of plain histories, and the number behind those of the calls.
+fn rows_of(
+    alloc: Global,
+    plain: &mut PlainHistories,
+    seed: u64,
+    calls: usize,
+) -> Result<(Vec<Row>, u64), HistoryFault> {
     let mut rows = Vec::new(alloc);
     let mut seed = seed;
-    for _ in 0..stored {
+    for _ in 0..calls {
         seed = next(seed);
         let call = call_of(seed);
-        let settled = is_settled(&mut plain, call)?;
-        let said = asked(&mut plain, call)?;
+        let settled = is_settled(plain, call)?;
+        let said = asked(plain, call)?;
         if let Some(row) = row_of(call, said, settled) {
             rows.push(row)?;
         }
     }
-    let mut table = in_memory(alloc, NEVER, &rows, &[])?;
-    for _ in 0..more {
+    Ok((rows, seed))
+}
+
+// Whether both histories answer so many calls alike.
+fn agree<H: Histories + Drop, G: Histories + Drop>(
+    histories: H,
+    others: G,
+    seed: u64,
+    calls: usize,
+) -> Result<bool, HistoryFault> {
+    let mut histories = histories;
+    let mut others = others;
+    let mut seed = seed;
+    for _ in 0..calls {
         seed = next(seed);
         let call = call_of(seed);
-        if asked(&mut plain, call)? != asked(&mut table, call)? {
+        if asked(&mut histories, call)? != asked(&mut others, call)? {
             return Ok(false);
         }
     }
     Ok(true)
 }
 
+// So many calls of plain histories, of which the first ones are stored; a table of these goes on with
+// the others. Whether it answers them as plain histories do.
+fn alike(alloc: Global, seed: u64, stored: usize, more: usize) -> Result<bool, HistoryFault> {
+    let mut plain = PlainHistories::new(alloc);
+    let (rows, seed) = rows_of(alloc, &mut plain, seed, stored)?;
+    let table = in_memory(alloc, NEVER, rows.as_slice(), &[])?;
+    agree(plain, table, seed, more)
+}
+
 #[test]
-fn tables_and_plain_histories(rt: HostRuntime) -> Result<(), Fail> {
+fn tables_and_plain_histories(rt: HostRuntime) {
     let alloc = rt.alloc();
     for seed in 1..40 {
         assert_eq!(rt; alike(alloc, seed, 60, 60), Ok(true));
     }
-    Ok(())
 }
+
 // A version that is put on the object of the rows, and is stored at once: what each call of histories
 // says is enough for that.
 fn put_and_stored<M: Medium>(
@@ -405,34 +440,32 @@ fn put_and_stored<M: Medium>(
 }
 
 // Two versions above the three.
-const OF_TWO_MORE: [(Call, Said); 4] = [
+const OF_TWO_MORE: &[(Call, Said)] = &[
     (Call::Read((4, 1, 1)), Said::Value(3, true)),
     (Call::Stands((7, 1, 1), 4), Said::Stands(true)),
     (Call::Stands((7, 1, 1), 5), Said::Stands(false)),
     (Call::Read((9, 1, 1)), Said::Wait(8, 1)),
 ];
 
-// Whether two versions that are put above three stored ones, and stored, stand there; or in the table
-// that their medium then gives.
-fn says_two_more(alloc: Global, opened: bool) -> Result<bool, HistoryFault> {
-    let table = in_memory(alloc, NEVER, &THREE, &[])?;
+// What a table answers otherwise than it should, where two versions are put above three stored ones, and
+// stored; or the table that its medium then gives.
+fn differs_with_two_more(
+    alloc: Global,
+    opened: bool,
+) -> Result<Option<(usize, Said)>, HistoryFault> {
+    let table = in_memory(alloc, NEVER, THREE, &[])?;
     let table = put_and_stored(table, (7, 1, 1), 4)?;
-    let mut table = put_and_stored(table, (8, 1, 1), 5)?;
-    if opened {
-        table = stored(alloc, table.release(), &[], &[])?;
+    let table = put_and_stored(table, (8, 1, 1), 5)?;
+    if !opened {
+        return Ok(differ(table, OF_TWO_MORE));
     }
-    for (call, want) in OF_TWO_MORE {
-        if asked(&mut table, call)? != want {
-            return Ok(false);
-        }
-    }
-    Ok(true)
+    let table = stored(alloc, table.release(), &[], &[])?;
+    Ok(differ(table, OF_TWO_MORE))
 }
 
 #[test]
-fn versions_are_stored(rt: HostRuntime) -> Result<(), Fail> {
+fn versions_are_stored(rt: HostRuntime) {
     let alloc = rt.alloc();
-    assert_eq!(rt; says_two_more(alloc, false), Ok(true));
-    assert_eq!(rt; says_two_more(alloc, true), Ok(true));
-    Ok(())
+    assert_eq!(rt; differs_with_two_more(alloc, false), Ok(None));
+    assert_eq!(rt; differs_with_two_more(alloc, true), Ok(None));
 }

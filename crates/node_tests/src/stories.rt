@@ -23,7 +23,7 @@ use turn_form::{Out, Turn};
 use value_form::{ActSpec, FailKind, ObjectId, Script, Value};
 
 /// The scripts of the rows.
-#[derive(Clone, Copy, Debug, PartialEq, Eq)]
+#[derive(Clone, Copy)]
 pub enum Program {
     /// `write 1.7 10`, `read x 1.7` and `print x`.
     Row,
@@ -37,7 +37,7 @@ pub enum Program {
 }
 
 /// How a try ends, or that the act is spent at a clock.
-#[derive(Clone, Copy, Debug, PartialEq, Eq)]
+#[derive(Clone, Copy, PartialEq, Eq)]
 pub enum How {
     Committed,
     Withdrawn,
@@ -51,7 +51,7 @@ pub enum How {
 }
 
 /// An effect, with the clock of a try and the number of a value.
-#[derive(Clone, Copy, Debug, PartialEq, Eq)]
+#[derive(Clone, Copy, PartialEq, Eq)]
 pub enum Added {
     None,
     Run(u32),
@@ -64,7 +64,7 @@ pub enum Added {
 }
 
 /// A message to a repository, with the clock of its try, and its step.
-#[derive(Clone, Copy, Debug, PartialEq, Eq)]
+#[derive(Clone, Copy, PartialEq, Eq)]
 pub enum Sent {
     None,
     Begin(u64),
@@ -76,7 +76,7 @@ pub enum Sent {
 }
 
 /// What a broker is told, with the clock of the try, and the step.
-#[derive(Clone, Copy, Debug, PartialEq, Eq)]
+#[derive(Clone, Copy)]
 pub enum Told {
     Go,
     Tick,
@@ -303,10 +303,9 @@ pub fn opened(
     clock: u64,
     log: &[Added],
 ) -> Result<Broker, ResumeFault> {
-    let act = act_of(alloc, 1, program, clock)?;
     let effects = log_of(alloc, program, log)?;
-    let broker = Broker::open(alloc, 1, 1, &[act], effects.as_slice())?;
-    Ok(broker)
+    let act = act_of(alloc, 1, program, clock)?;
+    Broker::open(alloc, 1, 1, &[act], effects.as_slice())
 }
 
 pub fn decided(clock: u64, decision: Decision) -> Result<Message, AllocError>
@@ -451,7 +450,7 @@ pub fn is_turn(turn: &Turn, added: &[Added; 3], sent: Sent) -> bool {
 }
 
 // Whether the broker does just this.
-pub fn does(broker: &mut Broker, story: &[Step]) -> Result<bool, AllocError> {
+pub fn does(broker: &mut Broker, story: &[Step]) -> Result<bool, ResumeFault> {
     for step in story {
         let (told, added, sent) = step;
         let turn = turn_of(broker, *told)?;
@@ -462,6 +461,12 @@ pub fn does(broker: &mut Broker, story: &[Step]) -> Result<bool, AllocError> {
     Ok(true)
 }
 
+// The same, and whether it is done then.
+pub fn is_done_by(broker: &mut Broker, story: &[Step]) -> Result<bool, ResumeFault> {
+    let does = does(broker, story)?;
+    Ok(does && broker.done())
+}
+
 // Whether the broker of one act does just this over a log.
 pub fn goes(
     alloc: Global,
@@ -470,8 +475,7 @@ pub fn goes(
     story: &[Step],
 ) -> Result<bool, ResumeFault> {
     let mut broker = opened(alloc, program, 1, log)?;
-    let does = does(&mut broker, story)?;
-    Ok(does)
+    does(&mut broker, story)
 }
 
 // The same, and whether it is done then.
@@ -482,8 +486,7 @@ pub fn ends(
     story: &[Step],
 ) -> Result<bool, ResumeFault> {
     let mut broker = opened(alloc, program, 1, log)?;
-    let does = does(&mut broker, story)?;
-    Ok(does && broker.done())
+    is_done_by(&mut broker, story)
 }
 
 pub const TRIED: [Added; 3] = [Added::Run(1), Added::Act(1), Added::Try(1, 1)];

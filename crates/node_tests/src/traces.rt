@@ -204,8 +204,7 @@ fn logs_after(alloc: Global, steps: &[Step]) -> Result<Vec<Opened>, AllocError> 
         sent: Items::of(Vec::new(alloc)),
         entries: Items::of(entries),
     };
-    let logs = logs(alloc, 1, &[act], &trace)?;
-    Ok(logs)
+    logs(alloc, 1, &[act], &trace)
 }
 
 fn is_home_log(effects: &[Effect], count: usize) -> Result<bool, AllocError> {
@@ -246,7 +245,7 @@ fn goes(alloc: Global, steps: &[Step]) -> Result<bool, AllocError> {
 }
 
 // The act is begun, and writes and reads.
-const FRONT: [Step; 15] = [
+const FRONT: &[Step] = &[
     (Next::Go(BROKER), 0, 0),
     (Next::Gate(BROKER), 0, 3),
     (Next::Take(HOME, 1), 0, 3),
@@ -265,14 +264,14 @@ const FRONT: [Step; 15] = [
 ];
 
 // It is carried out, and nothing is lost.
-const WHOLE: [Step; 3] = [
+const WHOLE: &[Step] = &[
     (Next::Gate(HOME), 4, 5),
     (Next::Take(BROKER, 8), 4, 5),
     (Next::Gate(BROKER), 4, 6),
 ];
 
 // The repository stops where it adds its Decide, and the Commit is sent again at the next tick.
-const STOPPED: [Step; 10] = [
+const STOPPED: &[Step] = &[
     (Next::Crash(HOME, 0), 3, 5),
     (Next::Tick(1), 3, 5),
     (Next::Hear(HOME), 3, 5),
@@ -287,13 +286,13 @@ const STOPPED: [Step; 10] = [
 
 // After each step of the front and of this rest the logs are as it says.
 fn goes_on(alloc: Global, rest: &[Step]) -> Result<bool, AllocError> {
-    let mut steps = FRONT.as_slice().to_vec(alloc)?;
+    let mut steps = FRONT.to_vec(alloc)?;
     steps.extend_from_slice(rest)?;
     goes(alloc, steps.as_slice())
 }
 
 // Entries that no legal trace has, and that give nothing; and a crash that keeps more than there is.
-const IDLE: [Step; 14] = [
+const IDLE: &[Step] = &[
     (Next::Go(BROKER), 0, 0),
     (Next::Hear(BROKER), 0, 0),
     (Next::Go(HOME), 0, 0),
@@ -313,8 +312,8 @@ const IDLE: [Step; 14] = [
 #[test]
 fn logs_after_each_entry(rt: HostRuntime) -> Result<(), Fail> {
     let alloc = rt.alloc();
-    assert!(rt; goes_on(alloc, &WHOLE)?);
-    assert!(rt; goes_on(alloc, &STOPPED)?);
-    assert!(rt; goes(alloc, &IDLE)?);
+    assert!(rt; goes_on(alloc, WHOLE)?);
+    assert!(rt; goes_on(alloc, STOPPED)?);
+    assert!(rt; goes(alloc, IDLE)?);
     Ok(())
 }

@@ -181,23 +181,38 @@ impl Room {
     }
 }
 
+/// Whether what a step expects was given next. None where it expects nothing of what was given.
+fn is_given(given: &mut Given, step: Step) -> Option<bool> {
+    if let Some(effect) = effect_of(step) {
+        return Some(given.adds(&effect));
+    }
+    let out = out_of(step)?;
+    Some(given.owes(&out))
+}
+
+/// Whether a poll holds what a step says, or the step is a call, of which this is given then. Nothing
+/// else may be left of what was given.
+fn goes(room: &mut Room, given: &mut Given, step: Step) -> Result<bool, AllocError> {
+    if !given.is_empty() {
+        return Ok(false);
+    }
+    if let Step::Holds(poll, held) = step {
+        return Ok(room.held(poll) == held);
+    }
+    let Some(turn) = room.call(step)? else {
+        return Ok(false);
+    };
+    *given = Given::of(turn);
+    Ok(true)
+}
+
 /// The first step that goes otherwise; the number of steps where none does.
 fn steps_of(room: &mut Room, given: Given, steps: &[Step]) -> Result<usize, AllocError> {
     let mut given = given;
     for (place, step) in steps.iter().enumerate() {
-        let right = if let Some(effect) = effect_of(*step) {
-            given.adds(&effect)
-        } else if let Some(out) = out_of(*step) {
-            given.owes(&out)
-        } else if let Step::Holds(poll, held) = *step {
-            given.is_empty() && room.held(poll) == held
-        } else if !given.is_empty() {
-            false
-        } else if let Some(turn) = room.call(*step)? {
-            given = Given::of(turn);
-            true
-        } else {
-            false
+        let right = match is_given(&mut given, *step) {
+            Some(right) => right,
+            None => goes(room, &mut given, *step)?,
         };
         if !right {
             return Ok(place);
@@ -210,12 +225,18 @@ fn steps_of(room: &mut Room, given: Given, steps: &[Step]) -> Result<usize, Allo
     }
 }
 
+/// The steps of a script in a room, of which nothing was given yet.
+fn plays(alloc: Global, room: Room, steps: &[Step]) -> Result<usize, AllocError> {
+    let mut room = room;
+    let given = Given::of(Turn::quiet(alloc));
+    steps_of(&mut room, given, steps)
+}
+
 /// The steps of a script in a room where nothing has happened.
 fn run(alloc: Global, steps: &[Step]) -> Result<usize, Fail> {
     let stamp = Stamp::new(1, 1, 1).ok_or("in range")?;
-    let mut room = Room::new(alloc, stamp)?;
-    let given = Given::of(Turn::quiet(alloc));
-    Ok(steps_of(&mut room, given, steps)?)
+    let room = Room::new(alloc, stamp)?;
+    Ok(plays(alloc, room, steps)?)
 }
 
 /// How many messages a script sends.
@@ -250,7 +271,7 @@ const NO: Word = Word::Decided(Decision::Withdrawn);
 const BEGIN: Word = Word::Begin(5);
 
 // A poll that commits: twelve messages. It holds the decision as soon as two members have voted so.
-const ONE_POLL: [Step; 33] = [
+const ONE_POLL: &[Step] = &[
     Step::Goes(1),
     Step::Sends(MEMBER_ONE, FIRST, BEGIN),
     Step::Sends(MEMBER_TWO, FIRST, BEGIN),
@@ -288,14 +309,14 @@ const ONE_POLL: [Step; 33] = [
 
 #[test]
 fn one_poll(rt: HostRuntime) -> Result<(), Fail> {
-    assert_eq!(rt; run(rt.alloc(), &ONE_POLL)?, ONE_POLL.len());
-    assert_eq!(rt; messages(&ONE_POLL), 12);
+    assert_eq!(rt; run(rt.alloc(), ONE_POLL)?, ONE_POLL.len());
+    assert_eq!(rt; messages(ONE_POLL), 12);
     Ok(())
 }
 
 // The third Begin is lost: nine messages, and the poll holds the decision all the same. It asks nobody
 // then, at a moment neither.
-const A_LOST_BEGIN: [Step; 24] = [
+const A_LOST_BEGIN: &[Step] = &[
     Step::Goes(1),
     Step::Sends(MEMBER_ONE, FIRST, BEGIN),
     Step::Sends(MEMBER_TWO, FIRST, BEGIN),
@@ -324,15 +345,15 @@ const A_LOST_BEGIN: [Step; 24] = [
 
 #[test]
 fn a_lost_begin(rt: HostRuntime) -> Result<(), Fail> {
-    assert_eq!(rt; run(rt.alloc(), &A_LOST_BEGIN)?, A_LOST_BEGIN.len());
-    assert_eq!(rt; messages(&A_LOST_BEGIN), 9);
+    assert_eq!(rt; run(rt.alloc(), A_LOST_BEGIN)?, A_LOST_BEGIN.len());
+    assert_eq!(rt; messages(A_LOST_BEGIN), 9);
     Ok(())
 }
 
 // Before a poll holds a decision, what is outstanding is sent again at a moment: Begin to who hasn't
 // answered, the wish to who has begun, nothing to who has voted. What is no answer of a member of this
 // stamp is ignored, and so is a second Begun, and a second vote.
-const WHAT_IS_OUTSTANDING: [Step; 19] = [
+const WHAT_IS_OUTSTANDING: &[Step] = &[
     Step::Takes(POLL_ONE, MEMBER_ONE, FIRST, Word::Begun),
     Step::Sends(MEMBER_ONE, FIRST, Word::Commit),
     Step::Takes(POLL_ONE, MEMBER_ONE, FIRST, Word::Begun),
@@ -357,7 +378,7 @@ const WHAT_IS_OUTSTANDING: [Step; 19] = [
 #[test]
 fn what_is_outstanding(rt: HostRuntime) -> Result<(), Fail> {
     assert_eq!(rt;
-        run(rt.alloc(), &WHAT_IS_OUTSTANDING)?,
+        run(rt.alloc(), WHAT_IS_OUTSTANDING)?,
         WHAT_IS_OUTSTANDING.len()
     );
     Ok(())
@@ -365,7 +386,7 @@ fn what_is_outstanding(rt: HostRuntime) -> Result<(), Fail> {
 
 // Two polls of one stamp, one that commits and one that withdraws: each member votes once, as the first
 // says, and both polls hold that it is committed. Twenty-four messages.
-const TWO_POLLS: [Step; 65] = [
+const TWO_POLLS: &[Step] = &[
     Step::Goes(1),
     Step::Sends(MEMBER_ONE, FIRST, BEGIN),
     Step::Sends(MEMBER_TWO, FIRST, BEGIN),
@@ -435,8 +456,8 @@ const TWO_POLLS: [Step; 65] = [
 
 #[test]
 fn two_polls(rt: HostRuntime) -> Result<(), Fail> {
-    assert_eq!(rt; run(rt.alloc(), &TWO_POLLS)?, TWO_POLLS.len());
-    assert_eq!(rt; messages(&TWO_POLLS), 24);
+    assert_eq!(rt; run(rt.alloc(), TWO_POLLS)?, TWO_POLLS.len());
+    assert_eq!(rt; messages(TWO_POLLS), 24);
     Ok(())
 }
 
@@ -452,7 +473,7 @@ const EXPIRED_SECOND: Decision = Decision::Expired {
     moment: 6,
 };
 
-const TWO_EXPIRE: [Step; 15] = [
+const TWO_EXPIRE: &[Step] = &[
     Step::Takes(MEMBER_ONE, MEMBER_TWO, SECOND, BEGIN),
     Step::Takes(MEMBER_ONE, POLL_TWO, SECOND, Word::Begin(3)),
     Step::Begins(SECOND, 3),
@@ -472,13 +493,13 @@ const TWO_EXPIRE: [Step; 15] = [
 
 #[test]
 fn two_expire(rt: HostRuntime) -> Result<(), Fail> {
-    assert_eq!(rt; run(rt.alloc(), &TWO_EXPIRE)?, TWO_EXPIRE.len());
+    assert_eq!(rt; run(rt.alloc(), TWO_EXPIRE)?, TWO_EXPIRE.len());
     Ok(())
 }
 
 // A member whose medium was a repository's of a run: its Begins and Decides count, a Learn doesn't. The
 // deadlines of what begins now are counted from the moment at which it opened.
-const ANOTHERS_LOG: [Step; 10] = [
+const ANOTHERS_LOG: &[Step] = &[
     Step::Takes(MEMBER_ONE, POLL_ONE, FIRST, BEGIN),
     Step::Sends(POLL_ONE, FIRST, YES),
     Step::Takes(MEMBER_ONE, POLL_TWO, FIRST, Word::Withdraw),
@@ -491,10 +512,8 @@ const ANOTHERS_LOG: [Step; 10] = [
     Step::Sends(POLL_ONE, SECOND, NO),
 ];
 
-#[test]
-fn anothers_log(rt: HostRuntime) -> Result<(), Fail> {
-    let one = Stamp::new(1, 1, 1).ok_or("in range")?;
-    let two = Stamp::new(2, 1, 1).ok_or("in range")?;
+// A room whose first member opens over such a log.
+fn room_over_a_log(alloc: Global, one: Stamp, two: Stamp) -> Result<Room, AllocError> {
     let log = [
         Effect::Begin {
             stamp: one,
@@ -509,9 +528,15 @@ fn anothers_log(rt: HostRuntime) -> Result<(), Fail> {
             decision: Decision::Committed,
         },
     ];
-    let mut room = Room::over(rt.alloc(), one, &log)?;
-    let given = Given::of(Turn::quiet(rt.alloc()));
-    let place = steps_of(&mut room, given, &ANOTHERS_LOG)?;
-    assert_eq!(rt; place, ANOTHERS_LOG.len());
+    Room::over(alloc, one, &log)
+}
+
+#[test]
+fn anothers_log(rt: HostRuntime) -> Result<(), Fail> {
+    let alloc = rt.alloc();
+    let one = Stamp::new(1, 1, 1).ok_or("in range")?;
+    let two = Stamp::new(2, 1, 1).ok_or("in range")?;
+    let room = room_over_a_log(alloc, one, two)?;
+    assert_eq!(rt; plays(alloc, room, ANOTHERS_LOG)?, ANOTHERS_LOG.len());
     Ok(())
 }

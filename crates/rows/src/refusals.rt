@@ -1,8 +1,10 @@
 //! Plans that are refused, each with its line, and streams that fail at each call.
-use crate::rows::FIRST;
-use row_calls::{Row, call};
+use crate::rows::{FIRST, told};
+use row_calls::Row;
 use std::alloc::{AllocError, Global};
+use std::sync::Wait;
 use std::test::*;
+use std::thread::Threads;
 
 /// Behind the head of a plan, or from its first line on, and the line that refuses it.
 const PLANS: &[(&[u8], &str)] = &[
@@ -39,6 +41,12 @@ const SCRIPTS: &[(&[u8], &str)] = &[
     ),
 ];
 
+/// How many acts a plan has, how many lines each of them, each of this text, and the line that refuses it.
+const LONG_PLANS: &[(u32, u32, &[u8], &str)] = &[
+    (1, 201, b"print 1\n", "swallow: plan line 206 script size\n"),
+    (10_001, 0, b"", "swallow: plan line 20005 acts\n"),
+];
+
 const HEAD: &[u8] = b"swallow plan 1\nrun 1\nrepositories 1\nbrokers 1\n";
 
 const ACT: &[u8] = b"act broker 1 home 1 timeout 5 tries 3\n";
@@ -56,9 +64,13 @@ fn plan_of(alloc: Global, acts: u32, lines: u32, line: &[u8]) -> Result<Vec<u8>,
     Ok(text)
 }
 
-// A plan that is refused with this line.
-fn refused<'a>(plan: &'a [u8], text: &'a str) -> Row<'a> {
-    Row {
+// The status and the text where this is the plan.
+fn answer<R: Threads + Wait + Sync>(
+    rt: &R,
+    alloc: Global,
+    plan: &[u8],
+) -> Result<(u8, Vec<u8>), Fail> {
+    let row = Row {
         words: &["run"],
         plan,
         rules: &[],
@@ -67,36 +79,41 @@ fn refused<'a>(plan: &'a [u8], text: &'a str) -> Row<'a> {
         sink: (4096, 0),
         again: false,
         status: 2,
-        text,
-    }
+        text: "",
+    };
+    told(rt, alloc, &row)
+}
+
+// The same of a plan of so many acts, each of so many lines of this text.
+fn answer_to<R: Threads + Wait + Sync>(
+    rt: &R,
+    alloc: Global,
+    acts: u32,
+    lines: u32,
+    line: &[u8],
+) -> Result<(u8, Vec<u8>), Fail> {
+    let plan = plan_of(alloc, acts, lines, line)?;
+    answer(rt, alloc, plan.as_slice())
 }
 
 #[test]
 fn plans_are_refused_with_their_lines(rt: HostRuntime) -> Result<(), Fail> {
     let alloc = rt.alloc();
     for (plan, line) in PLANS {
-        let called = call(&rt, alloc, &refused(plan, line), Vec::new(alloc))?;
-        assert_eq!(rt; called.text.as_slice(), line.as_bytes());
-        assert_eq!(rt; called.finish.status, 2);
+        let (status, text) = answer(&rt, alloc, plan)?;
+        assert_eq!(rt; text.as_slice(), line.as_bytes());
+        assert_eq!(rt; status, 2);
     }
     for (script, line) in SCRIPTS {
-        let plan = plan_of(alloc, 1, 1, script)?;
-        let called = call(&rt, alloc, &refused(plan.as_slice(), line), Vec::new(alloc))?;
-        assert_eq!(rt; called.text.as_slice(), line.as_bytes());
-        assert_eq!(rt; called.finish.status, 2);
+        let (status, text) = answer_to(&rt, alloc, 1, 1, script)?;
+        assert_eq!(rt; text.as_slice(), line.as_bytes());
+        assert_eq!(rt; status, 2);
     }
-    let long = plan_of(alloc, 1, 201, b"print 1\n")?;
-    let called = call(&rt, alloc, &refused(long.as_slice(), ""), Vec::new(alloc))?;
-    assert_eq!(rt;
-        called.text.as_slice(),
-        b"swallow: plan line 206 script size\n".as_slice()
-    );
-    let many = plan_of(alloc, 10_001, 0, b"")?;
-    let called = call(&rt, alloc, &refused(many.as_slice(), ""), Vec::new(alloc))?;
-    assert_eq!(rt;
-        called.text.as_slice(),
-        b"swallow: plan line 20005 acts\n".as_slice()
-    );
+    for (acts, lines, text, line) in LONG_PLANS {
+        let (status, text) = answer_to(&rt, alloc, *acts, *lines, text)?;
+        assert_eq!(rt; text.as_slice(), line.as_bytes());
+        assert_eq!(rt; status, 2);
+    }
     Ok(())
 }
 
@@ -110,9 +127,9 @@ fn streams_fail_at_each_call(rt: HostRuntime) -> Result<(), Fail> {
             source: (7, at),
             ..FIRST
         };
-        let called = call(&rt, alloc, &row, Vec::new(alloc))?;
-        assert_eq!(rt; called.finish.status, 3);
-        assert_eq!(rt; called.text.as_slice(), b"swallow: source\n".as_slice());
+        let (status, text) = told(&rt, alloc, &row)?;
+        assert_eq!(rt; status, 3);
+        assert_eq!(rt; text.as_slice(), b"swallow: source\n".as_slice());
     }
     for at in 0..33u64 {
         let row = Row {
@@ -120,13 +137,10 @@ fn streams_fail_at_each_call(rt: HostRuntime) -> Result<(), Fail> {
             sink: (7, at + 1),
             ..FIRST
         };
-        let called = call(&rt, alloc, &row, Vec::new(alloc))?;
-        assert_eq!(rt; called.finish.status, 4);
-        assert_eq!(rt; called.text.len() as u64, 7 * at);
-        assert_eq!(rt;
-            FIRST.text.as_bytes().starts_with(called.text.as_slice()),
-            true
-        );
+        let (status, text) = told(&rt, alloc, &row)?;
+        assert_eq!(rt; status, 4);
+        assert_eq!(rt; text.len() as u64, 7 * at);
+        assert_eq!(rt; FIRST.text.as_bytes().starts_with(text.as_slice()), true);
     }
     Ok(())
 }

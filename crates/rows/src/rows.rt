@@ -1,7 +1,10 @@
 use medium_port::{Stop, StopAt};
 use pseudo_time::NodeKind;
-use row_calls::{Row, Stopped, call};
+use row_calls::{Row, Stopped, call, parts};
+use std::alloc::Global;
+use std::sync::Wait;
 use std::test::*;
+use std::thread::Threads;
 use stream_port::{Fate, FateRule};
 
 /// One act from words to report.
@@ -646,6 +649,16 @@ const ROWS: [Row<'static>; 41] = [
     },
 ];
 
+/// The status and the text of a row's call over blank media.
+pub fn told<R: Threads + Wait + Sync>(
+    rt: &R,
+    alloc: Global,
+    row: &Row<'_>,
+) -> Result<(u8, Vec<u8>), Fail> {
+    let (status, text, _) = parts(call(rt, alloc, row, Vec::new(alloc))?);
+    Ok((status, text))
+}
+
 #[test]
 fn rows_have_their_statuses_and_texts(rt: HostRuntime) -> Result<(), Fail> {
     let alloc = rt.alloc();
@@ -654,10 +667,10 @@ fn rows_have_their_statuses_and_texts(rt: HostRuntime) -> Result<(), Fail> {
         if !row.again {
             left = Vec::new(alloc);
         }
-        let called = call(&rt, alloc, row, left)?;
-        assert_eq!(rt; called.text.as_slice(), row.text.as_bytes());
-        assert_eq!(rt; called.finish.status, row.status);
-        left = called.finish.media.into_vec();
+        let (status, text, media) = parts(call(&rt, alloc, row, left)?);
+        assert_eq!(rt; text.as_slice(), row.text.as_bytes());
+        assert_eq!(rt; status, row.status);
+        left = media;
     }
     Ok(())
 }
@@ -668,21 +681,33 @@ fn acts_of<'a>(row: &Row<'a>) -> Option<&'a [u8]> {
     row.text.as_bytes().get(..at)
 }
 
+/// The rows that are run by four workers.
+const BY_FOUR: [Row<'static>; 4] = [FIRST, LATER_READ, TORN_GATE, TORN_END];
+
+// The status and the text of the row's call with four workers.
+fn told_by_four<R: Threads + Wait + Sync>(
+    rt: &R,
+    alloc: Global,
+    row: &Row<'_>,
+) -> Result<(u8, Vec<u8>), Fail> {
+    let four = Row {
+        words: &["run", "--workers", "4"],
+        ..*row
+    };
+    told(rt, alloc, &four)
+}
+
 // Nodes on four workers may send their messages in another order, and no other act or final comes of it.
 #[test]
 fn four_workers_give_the_same_acts(rt: HostRuntime) -> Result<(), Fail> {
     let alloc = rt.alloc();
-    for row in [FIRST, LATER_READ, TORN_GATE, TORN_END].as_slice() {
-        let four = Row {
-            words: &["run", "--workers", "4"],
-            ..*row
-        };
-        let called = call(&rt, alloc, &four, Vec::new(alloc))?;
+    for row in BY_FOUR.as_slice() {
         let Some(acts) = acts_of(row) else {
             return Err("a line of the wire".into());
         };
-        assert_eq!(rt; called.text.as_slice().starts_with(acts), true);
-        assert_eq!(rt; called.finish.status, row.status);
+        let (status, text) = told_by_four(&rt, alloc, row)?;
+        assert_eq!(rt; text.as_slice().starts_with(acts), true);
+        assert_eq!(rt; status, row.status);
     }
     Ok(())
 }

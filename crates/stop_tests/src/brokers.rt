@@ -27,7 +27,7 @@ use turn_plays::{
 };
 use value_form::{ActSpec, Script, Value};
 use version_store::Store;
-use world_core::Entry;
+use world_core::{Entry, Trace};
 
 type BrokerPlay = Play<BrokerCore<QuietMedium>>;
 
@@ -119,6 +119,7 @@ fn begin_broker(alloc: Global, pages: u32, stops: &[Stop]) -> Result<BrokerPlay,
     requires most { pages ≤ 1048576 }
     ensures { IfOk result (GoesOn false) }
 {
+    let medium = medium_of(alloc, pages, stops)?;
     let (started, act) = ready(alloc)?;
     let Started {
         wire,
@@ -128,7 +129,6 @@ fn begin_broker(alloc: Global, pages: u32, stops: &[Stop]) -> Result<BrokerPlay,
         broker,
         conductor,
     } = started;
-    let medium = medium_of(alloc, pages, stops)?;
     let node = broker_on(alloc, &wire, start, act, medium, broker)?;
     Ok(Play {
         wire,
@@ -156,19 +156,45 @@ fn answered<K: StoredCore<QuietMedium>>(
     play.answer(rt, alloc, 7)
 }
 
+// A run that goes on, unless this is wrong with it.
+fn unless<K: StoredCore<QuietMedium>>(
+    play: Play<K>,
+    wrong: bool,
+    wanted: &'static str,
+) -> Result<Play<K>, Fail>
+    requires { GoesOn false play }
+    ensures { IfOk result (GoesOn false) }
+{
+    if wrong {
+        return Err(wanted.into());
+    }
+    Ok(play)
+}
+
 // The broker is done after this turn, and no sooner.
 fn completes(rt: &impl Wait, play: BrokerPlay) -> Result<BrokerPlay, Fail>
     requires { GoesOn false play }
     ensures { IfOk result (GoesOn false) }
 {
-    if is_done(&play.node) {
-        return Err("an answer to take".into());
-    }
+    let early = is_done(&play.node);
+    let play = unless(play, early, "an answer to take")?;
     let play = play.turn(rt, Turned::Worked)?;
-    if !is_done(&play.node) {
-        return Err("a broker that is done".into());
-    }
-    Ok(play)
+    let late = !is_done(&play.node);
+    unless(play, late, "a broker that is done")
+}
+
+// The node's last turn, which comes to this, and the end of the run.
+fn ends<K: StoredCore<QuietMedium>>(
+    rt: &impl Wait,
+    alloc: Global,
+    play: Play<K>,
+    last: Turned,
+) -> Result<(TestClosed, QuietMedium), Fail>
+    requires { GoesOn false play }
+{
+    let play = play.turn(rt, last)?;
+    let ended = play.finish(alloc)?;
+    Ok(ended)
 }
 
 // The act, and a turn after it.
@@ -176,16 +202,24 @@ fn whole(rt: &impl Wait, alloc: Global) -> Result<(TestClosed, QuietMedium), Fai
     let play = begin_broker(alloc, 8, &[])?;
     let play = answered(rt, alloc, play)?;
     let play = completes(rt, play)?;
-    let play = play.turn(rt, Turned::Quiet)?;
-    let ended = play.finish(alloc)?;
-    Ok(ended)
+    ends(rt, alloc, play, Turned::Quiet)
 }
 
-fn try_effect() -> Result<Effect, AllocError> {
-    Ok(Effect::Try {
-        index: 1,
-        stamp: stamp_of(1)?,
-    })
+// Whether all went as it goes where nothing fails, and nothing is left to do.
+fn is_whole(closed: TestClosed) -> bool {
+    let trace = closed.told.trace();
+    trace.entries.as_slice() == ENTRIES.as_slice()
+        && trace.sent.as_slice().len() == 8
+        && closed.idle
+}
+
+// Whether the effect is that of the first try.
+fn is_try(effect: &Effect) -> Result<bool, AllocError> {
+    let first = stamp_of(1)?;
+    match effect {
+        Effect::Try { index: 1, stamp } => Ok(*stamp == first),
+        _ => Ok(false),
+    }
 }
 
 // Whether the broker's log is that of the act.
@@ -193,14 +227,25 @@ fn is_log(effects: &[Effect]) -> Result<bool, AllocError> {
     let [run, _, attempt, acked, got, end] = effects else {
         return Ok(false);
     };
-    let value = Value::Number(10);
-    let outcome = Outcome::Committed;
+    let tried = is_try(attempt)?;
     Ok(
-        *run == (Effect::Run { number: 1 })
-            && *attempt == try_effect()?
-            && *acked == (Effect::Acked { step: 1 })
-            && *got == (Effect::Got { step: 2, value })
-            && *end == (Effect::End { index: 1, outcome }),
+        tried
+            && matches!(run, Effect::Run { number: 1 })
+            && matches!(acked, Effect::Acked { step: 1 })
+            && matches!(
+                got,
+                Effect::Got {
+                    step: 2,
+                    value: Value::Number(10)
+                }
+            )
+            && matches!(
+                end,
+                Effect::End {
+                    index: 1,
+                    outcome: Outcome::Committed
+                }
+            ),
     )
 }
 
@@ -208,10 +253,7 @@ fn is_log(effects: &[Effect]) -> Result<bool, AllocError> {
 fn turns_of_a_broker(rt: HostRuntime) -> Result<(), Fail> {
     let alloc = rt.alloc();
     let (closed, medium) = whole(&rt, alloc)?;
-    let trace = closed.told.trace();
-    assert!(rt; trace.entries.as_slice() == ENTRIES.as_slice());
-    assert_eq!(rt; trace.sent.as_slice().len(), 8);
-    assert!(rt; closed.idle);
+    assert!(rt; is_whole(closed));
     let (effects, left) = found(alloc, medium)?;
     assert!(rt; is_log(effects.as_slice())?);
     // What Begun brings adds nothing to the log.
@@ -229,7 +271,7 @@ struct Row {
 }
 
 // The calls are those of a repository's turn.
-const ROWS: [Row; 6] = [
+const ROWS: &[Row] = &[
     Row {
         call: 6,
         keep: 0,
@@ -271,76 +313,88 @@ fn stopped(rt: &impl Wait, alloc: Global, row: Row) -> Result<(TestClosed, Quiet
     };
     let play = begin_broker(alloc, 4, &[stop])?;
     let play = play.turn(rt, Turned::Worked)?;
-    let play = play.turn(rt, Turned::Worked)?;
-    let ended = play.finish(alloc)?;
-    Ok(ended)
+    ends(rt, alloc, play, Turned::Worked)
 }
 
-// Whether the broker crashed with what was found, went again, and sent its first message once.
-fn holds(rt: &impl Wait, alloc: Global, row: Row) -> Result<bool, Fail> {
-    let (closed, medium) = stopped(rt, alloc, row)?;
-    let trace = closed.told.trace();
+// Whether the broker crashed with so many effects, went again, and sent its first message once.
+fn goes_again(trace: &Trace, kept: u32) -> Result<bool, AllocError> {
     let expected = [
         Entry::Go { node: BROKER },
-        Entry::Crash {
-            node: BROKER,
-            kept: row.found,
-        },
+        Entry::Crash { node: BROKER, kept },
         Entry::Go { node: BROKER },
         Entry::Gate { node: BROKER },
     ];
-    let sent = trace.sent.as_slice();
-    let first = sent.get(0).ok_or("a message")?;
+    let [first] = trace.sent.as_slice() else {
+        return Ok(false);
+    };
+    let same = first.message == message_of(1)?;
+    Ok(same && trace.entries.as_slice() == expected.as_slice())
+}
+
+fn went_again(closed: TestClosed, kept: u32) -> Result<bool, AllocError> {
+    goes_again(closed.told.trace(), kept)
+}
+
+// The same where what was found is what it kept, and whether its log has the effects of its turn then.
+fn holds(rt: &impl Wait, alloc: Global, row: Row) -> Result<bool, Fail> {
+    let (closed, medium) = stopped(rt, alloc, row)?;
+    let went = went_again(closed, row.found);
     let (effects, _) = found(alloc, medium)?;
-    Ok(
-        trace.entries.as_slice() == expected.as_slice()
-            && sent.len() == 1
-            && first.message == message_of(1)?
-            && effects.len() == 3,
-    )
+    Ok(went? && effects.len() == 3)
 }
 
 #[test]
 fn stop_at_each_call_of_a_first_turn(rt: HostRuntime) -> Result<(), Fail> {
     let alloc = rt.alloc();
     for row in ROWS {
-        assert!(rt; holds(&rt, alloc, row)?);
+        assert!(rt; holds(&rt, alloc, *row)?);
     }
     Ok(())
+}
+
+// Two messages are answered, and the turn after them finds no page.
+fn fills<K: StoredCore<QuietMedium>>(
+    rt: &impl Wait,
+    alloc: Global,
+    play: Play<K>,
+) -> Result<(TestClosed, QuietMedium), Fail>
+    requires { GoesOn false play }
+{
+    let play = play.answer(rt, alloc, 1)?;
+    let play = play.answer(rt, alloc, 3)?;
+    ends(rt, alloc, play, Turned::Stopped)
 }
 
 // On a medium of one page the answer to the write, which is to be logged, finds no page.
 fn full(rt: &impl Wait, alloc: Global) -> Result<(TestClosed, QuietMedium), Fail> {
     let play = begin_broker(alloc, 1, &[])?;
-    let play = play.answer(rt, alloc, 1)?;
-    let play = play.answer(rt, alloc, 3)?;
-    let play = play.turn(rt, Turned::Stopped)?;
-    let ended = play.finish(alloc)?;
-    Ok(ended)
+    fills(rt, alloc, play)
+}
+
+// Whether all went as it goes where nothing fails, until the broker took that answer and was down.
+fn goes_down(trace: &Trace) -> bool {
+    let down = Entry::Down {
+        node: BROKER,
+        cause: DownCause::Full { pages: 1 },
+    };
+    let Some((last, before)) = trace.entries.as_slice().split_last() else {
+        return false;
+    };
+    *last == down
+        && before.len() == 9
+        && ENTRIES.as_slice().starts_with(before)
+        && trace.sent.as_slice().len() == 4
+}
+
+fn went_down(closed: TestClosed) -> bool {
+    goes_down(closed.told.trace())
 }
 
 #[test]
 fn full_medium_brings_a_broker_down(rt: HostRuntime) -> Result<(), Fail> {
     let alloc = rt.alloc();
     let (closed, medium) = full(&rt, alloc)?;
-    let trace = closed.told.trace();
-    // All went as it goes where nothing fails, until the broker took that answer.
-    let (expected, _) = ENTRIES
-        .as_slice()
-        .split_at_checked(9)
-        .ok_or("nine entries")?;
-    let (before, last) = trace
-        .entries
-        .as_slice()
-        .split_at_checked(9)
-        .ok_or("nine entries")?;
-    let down = [Entry::Down {
-        node: BROKER,
-        cause: DownCause::Full { pages: 1 },
-    }];
-    assert!(rt; before == expected);
-    assert!(rt; last == down.as_slice());
-    assert_eq!(rt; trace.sent.as_slice().len(), 4);
+    assert!(rt; went_down(closed));
     let (effects, left) = found(alloc, medium)?;
     assert!(rt; effects.len() == 3 && left == 0);
     Ok(())

@@ -1,12 +1,17 @@
 //! A stop at each medium call of one turn of a repository, and a medium that is full.
+ghost use Rattle.std.specs.Prelude.{true};
+ghost use Rattle.turn_plays.specs.Plays.{GoesOn};
+
 use medium_port::{Stop, StopAt};
-use node_turn::Turned;
+use node_turn::{StoredCore, Turned};
 use pseudo_time::DownCause;
 use std::alloc::Global;
 use std::sync::Wait;
 use std::test::*;
-use turn_plays::{BROKER, HOME, QuietMedium, TestClosed, begin_repository, found, message_of};
-use world_core::Entry;
+use turn_plays::{
+    BROKER, HOME, Play, QuietMedium, TestClosed, begin_repository, found, message_of,
+};
+use world_core::{Entry, Trace};
 
 /// A stop at a call of the medium, counted from 1. Of what was written and not synced it keeps so many
 /// bytes of each range, and the others are `fill`; and so many of the turn's effects are found then.
@@ -20,7 +25,7 @@ struct Row {
 
 // The medium has four pages, so that the store's opening makes the calls 1 to 5: a sync and four reads. An append
 // of one page writes its body (6), syncs (7), writes its gate (8) and syncs (9). The gate is the one byte 0xA5.
-const ROWS: [Row; 10] = [
+const ROWS: &[Row] = &[
     Row {
         call: 6,
         keep: 0,
@@ -83,6 +88,23 @@ const ROWS: [Row; 10] = [
     },
 ];
 
+// The node is sent a message. Two turns of it come to this, and the run ends.
+fn ends<K: StoredCore<QuietMedium>>(
+    rt: &impl Wait,
+    alloc: Global,
+    play: Play<K>,
+    first: Turned,
+    second: Turned,
+) -> Result<(TestClosed, QuietMedium), Fail>
+    requires { GoesOn true play }
+{
+    let play = play.say(rt, alloc, message_of(1)?)?;
+    let play = play.turn(rt, first)?;
+    let play = play.turn(rt, second)?;
+    let ended = play.finish(alloc)?;
+    Ok(ended)
+}
+
 // A turn for one message on a medium with these stops, and the turn after it.
 fn stopped(
     rt: &impl Wait,
@@ -92,15 +114,11 @@ fn stopped(
     second: Turned,
 ) -> Result<(TestClosed, QuietMedium), Fail> {
     let play = begin_repository(rt, alloc, 4, stops)?;
-    let play = play.say(rt, alloc, message_of(1)?)?;
-    let play = play.turn(rt, first)?;
-    let play = play.turn(rt, second)?;
-    let ended = play.finish(alloc)?;
-    Ok(ended)
+    ends(rt, alloc, play, first, second)
 }
 
-// Whether the node took the message, and ended its turn so.
-fn ends_so(entries: &[Entry], last: Entry) -> bool {
+// Whether the node took the message and ended its turn so, and so many messages were sent.
+fn ends_so(trace: &Trace, last: Entry, sent: usize) -> bool {
     let expected = [
         Entry::Go { node: BROKER },
         Entry::Gate { node: BROKER },
@@ -110,7 +128,11 @@ fn ends_so(entries: &[Entry], last: Entry) -> bool {
         },
         last,
     ];
-    entries == expected.as_slice()
+    trace.entries.as_slice() == expected.as_slice() && trace.sent.as_slice().len() == sent
+}
+
+fn ended_so(closed: TestClosed, last: Entry, sent: usize) -> bool {
+    ends_so(closed.told.trace(), last, sent)
 }
 
 fn stop_at(call: u64, keep: u16, fill: u8) -> Stop {
@@ -125,24 +147,20 @@ fn stop_at(call: u64, keep: u16, fill: u8) -> Stop {
 fn holds(rt: &impl Wait, alloc: Global, row: Row) -> Result<bool, Fail> {
     let stops = [stop_at(row.call, row.keep, row.fill)];
     let (closed, medium) = stopped(rt, alloc, &stops, Turned::Worked, Turned::Quiet)?;
-    let trace = closed.told.trace();
     let crash = Entry::Crash {
         node: HOME,
         kept: row.found,
     };
+    let crashed = ended_so(closed, crash, 1);
     let (effects, _) = found(alloc, medium)?;
-    Ok(
-        ends_so(trace.entries.as_slice(), crash)
-            && trace.sent.as_slice().len() == 1
-            && effects.len() == row.found as usize,
-    )
+    Ok(crashed && effects.len() == row.found as usize)
 }
 
 #[test]
 fn stop_at_each_call_of_a_turn(rt: HostRuntime) -> Result<(), Fail> {
     let alloc = rt.alloc();
     for row in ROWS {
-        assert!(rt; holds(&rt, alloc, row)?);
+        assert!(rt; holds(&rt, alloc, *row)?);
     }
     Ok(())
 }
@@ -152,9 +170,7 @@ fn no_call_behind_the_last(rt: HostRuntime) -> Result<(), Fail> {
     let alloc = rt.alloc();
     let stops = [stop_at(10, 0, 0)];
     let (closed, _) = stopped(&rt, alloc, &stops, Turned::Worked, Turned::Quiet)?;
-    let trace = closed.told.trace();
-    assert!(rt; ends_so(trace.entries.as_slice(), Entry::Gate { node: HOME }));
-    assert_eq!(rt; trace.sent.as_slice().len(), 2);
+    assert!(rt; ended_so(closed, Entry::Gate { node: HOME }, 2));
     Ok(())
 }
 
@@ -165,12 +181,11 @@ const SECOND: [u64; 3] = [7, 8, 9];
 fn falls(rt: &impl Wait, alloc: Global, call: u64) -> Result<bool, Fail> {
     let stops = [stop_at(6, 0, 0), stop_at(call, 0, 0)];
     let (closed, _) = stopped(rt, alloc, &stops, Turned::Stopped, Turned::Stopped)?;
-    let trace = closed.told.trace();
     let down = Entry::Down {
         node: HOME,
         cause: DownCause::Medium,
     };
-    Ok(ends_so(trace.entries.as_slice(), down) && trace.sent.as_slice().len() == 1)
+    Ok(ended_so(closed, down, 1))
 }
 
 #[test]
@@ -182,9 +197,14 @@ fn second_stop_brings_a_node_down(rt: HostRuntime) -> Result<(), Fail> {
     Ok(())
 }
 
-// On a medium of one page the second message finds no page.
-fn full(rt: &impl Wait, alloc: Global) -> Result<(TestClosed, QuietMedium), Fail> {
-    let play = begin_repository(rt, alloc, 1, &[])?;
+// Two messages are sent, of which the second finds no page.
+fn fills<K: StoredCore<QuietMedium>>(
+    rt: &impl Wait,
+    alloc: Global,
+    play: Play<K>,
+) -> Result<(TestClosed, QuietMedium), Fail>
+    requires { GoesOn true play }
+{
     let play = play.ask(rt, alloc, 1)?;
     let play = play.say(rt, alloc, message_of(3)?)?;
     let play = play.turn(rt, Turned::Stopped)?;
@@ -192,8 +212,14 @@ fn full(rt: &impl Wait, alloc: Global) -> Result<(TestClosed, QuietMedium), Fail
     Ok(ended)
 }
 
+// On a medium of one page the second message finds no page.
+fn full(rt: &impl Wait, alloc: Global) -> Result<(TestClosed, QuietMedium), Fail> {
+    let play = begin_repository(rt, alloc, 1, &[])?;
+    fills(rt, alloc, play)
+}
+
 /// What became of the second message.
-const FULL: [Entry; 2] = [
+const FULL: &[Entry] = &[
     Entry::Take {
         node: HOME,
         number: 3,
@@ -204,18 +230,18 @@ const FULL: [Entry; 2] = [
     },
 ];
 
+// Whether this is what became of it behind six entries, and three messages were sent.
+fn is_full(closed: TestClosed) -> bool {
+    let trace = closed.told.trace();
+    let entries = trace.entries.as_slice();
+    entries.len() == 8 && entries.ends_with(FULL) && trace.sent.as_slice().len() == 3
+}
+
 #[test]
 fn full_medium_brings_a_node_down(rt: HostRuntime) -> Result<(), Fail> {
     let alloc = rt.alloc();
     let (closed, medium) = full(&rt, alloc)?;
-    let trace = closed.told.trace();
-    let (_, last) = trace
-        .entries
-        .as_slice()
-        .split_at_checked(6)
-        .ok_or("six entries")?;
-    assert!(rt; last == FULL.as_slice());
-    assert_eq!(rt; trace.sent.as_slice().len(), 3);
+    assert!(rt; is_full(closed));
     let (effects, left) = found(alloc, medium)?;
     assert!(rt; effects.len() == 1 && left == 0);
     Ok(())

@@ -144,18 +144,39 @@ fn carried_out(alloc: Global, broker: &mut Broker, most: u64) -> Result<Vec<Effe
     Ok(log)
 }
 
+// The log of the broker that carries these acts out, and whether it is done.
+fn log_of(alloc: Global, broker: &mut Broker) -> Result<(Vec<Effect>, bool), ResumeFault>
+    ensures { IfOk result (λ r. AreEffects r.0.items) }
+{
+    let log = carried_out(alloc, broker, u64::MAX)?;
+    Ok((log, broker.done()))
+}
+
+// The same of the broker of these acts.
+fn log_of_acts(alloc: Global, acts: &[ActSpec]) -> Result<(Vec<Effect>, bool), ResumeFault>
+    requires { AreActs acts.now }
+    ensures { IfOk result (λ r. AreEffects r.0.items) }
+{
+    let mut broker = Broker::open(alloc, 1, 1, acts, &[])?;
+    log_of(alloc, &mut broker)
+}
+
+// Whether the broker of these acts is done where it is opened over this log.
+fn is_done_over(alloc: Global, acts: &[ActSpec], log: &[Effect]) -> Result<bool, ResumeFault>
+    requires acts { AreActs acts.now }
+    requires log { AreEffects log.now }
+{
+    let broker = Broker::open(alloc, 1, 1, acts, log)?;
+    Ok(broker.done())
+}
+
 // Carries the acts out and opens the log again. Gives the number of effects, or 0 where the broker
 // isn't done.
 fn run(alloc: Global, count: u32, turns: u32, writes: u32) -> Result<usize, ResumeFault> {
     let acts = acts(alloc, count, turns, writes)?;
-    let mut broker = Broker::open(alloc, 1, 1, acts.as_slice(), &[])?;
-    let log = carried_out(alloc, &mut broker, u64::MAX)?;
-    let again = Broker::open(alloc, 1, 1, acts.as_slice(), log.as_slice())?;
-    if broker.done() && again.done() {
-        Ok(log.len())
-    } else {
-        Ok(0)
-    }
+    let (log, done) = log_of_acts(alloc, acts.as_slice())?;
+    let again = is_done_over(alloc, acts.as_slice(), log.as_slice())?;
+    Ok(if done && again { log.len() } else { 0 })
 }
 
 pub fn timed(alloc: Global, words: &[String]) -> Result<String, Fault> {

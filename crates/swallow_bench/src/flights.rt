@@ -66,23 +66,28 @@ fn take_all(flight: &mut Flight, node: NodeId, most: u32) -> Result<usize, Alloc
     Ok(taken)
 }
 
+// Sends so many messages, and takes what is left when time has passed. How many copies were taken.
+fn flown(flight: &mut Flight, messages: u32) -> Result<usize, AllocError> {
+    let mut taken = 0usize;
+    for index in 0..messages {
+        taken = taken.saturating_add(send_one(flight, index)?);
+    }
+    for _ in 0..4 {
+        flight.pass()?;
+    }
+    for index in 0..NODES {
+        taken = taken.saturating_add(take_all(flight, node(index), messages)?);
+    }
+    Ok(taken)
+}
+
 fn run(alloc: Global, messages: u32) -> Result<usize, AllocError> {
     let mut nodes = Vec::new(alloc);
     for index in 0..NODES {
         nodes.push(node(index))?;
     }
     let mut flight = Flight::new(alloc, nodes.as_slice())?;
-    let mut taken = 0usize;
-    for index in 0..messages {
-        taken = taken.saturating_add(send_one(&mut flight, index)?);
-    }
-    for _ in 0..4 {
-        flight.pass()?;
-    }
-    for index in 0..NODES {
-        taken = taken.saturating_add(take_all(&mut flight, node(index), messages)?);
-    }
-    Ok(taken)
+    flown(&mut flight, messages)
 }
 
 pub fn timed(alloc: Global, words: &[String]) -> Result<String, Fault> {

@@ -142,9 +142,10 @@ fn logs(alloc: Global, plan: &Plan) -> Result<Vec<Opened>, Fault> {
     Ok(logs)
 }
 
-fn told(alloc: Global, count: u32, times: u32) -> Result<usize, Fault> {
-    let plan = plan(alloc, count)?;
-    let logs = logs(alloc, &plan)?;
+// How many bytes the report of these logs has, which is told so often.
+fn size_of(alloc: Global, plan: &Plan, logs: &[Opened], times: u32) -> Result<usize, Fault>
+    requires { IsOfLanguage plan.now }
+{
     let trace = Trace {
         start: 0,
         opened: Items::of(Vec::new(alloc)),
@@ -153,12 +154,15 @@ fn told(alloc: Global, count: u32, times: u32) -> Result<usize, Fault> {
     };
     let mut bytes = 0;
     for _time in 0..times {
-        bytes = report_by(alloc, &plan, logs.as_slice(), &trace)?
-            .text
-            .as_slice()
-            .len();
+        bytes = report_by(alloc, plan, logs, &trace)?.text.as_slice().len();
     }
     Ok(bytes)
+}
+
+fn told(alloc: Global, count: u32, times: u32) -> Result<usize, Fault> {
+    let plan = plan(alloc, count)?;
+    let logs = logs(alloc, &plan)?;
+    size_of(alloc, &plan, logs.as_slice(), times)
 }
 
 pub fn timed(alloc: Global, words: &[String]) -> Result<String, Fault> {

@@ -56,6 +56,20 @@ fn script_of(alloc: Global, hundreds: u64) -> Result<Script, AllocError>
     })
 }
 
+// Whether the run comes to its end.
+fn is_finished(alloc: Global, run: &mut Run) -> Result<bool, AllocError> {
+    let next = run.next(alloc)?;
+    Ok(matches!(next, Next::Finished))
+}
+
+// Whether the script comes to its end.
+fn finishes(alloc: Global, script: &Script) -> Result<bool, AllocError>
+    requires { IsScript script.now.lines }
+{
+    let mut run = Run::start(alloc, script)?;
+    is_finished(alloc, &mut run)
+}
+
 // Carries out the script so often. How often it came to its end.
 fn carry_out(alloc: Global, hundreds: u64, times: u32) -> Result<u32, AllocError>
     requires { hundreds ≤ 100 }
@@ -63,8 +77,7 @@ fn carry_out(alloc: Global, hundreds: u64, times: u32) -> Result<u32, AllocError
     let script = script_of(alloc, hundreds)?;
     let mut finished = 0;
     for _ in 0..times {
-        let mut run = Run::start(alloc, &script)?;
-        if run.next(alloc)? == Next::Finished {
+        if finishes(alloc, &script)? {
             finished += 1;
         }
     }

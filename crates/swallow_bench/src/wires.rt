@@ -160,17 +160,22 @@ fn round(alloc: Global, wire: &mut TimedWire) -> Result<(), AllocError> {
     Ok(())
 }
 
-fn run(alloc: Global, ticks: u32) -> Result<u32, AllocError> {
-    let mut wire = wire_of(alloc)?;
+// Each broker goes, and then so many ticks pass. How many messages were sent.
+fn sent(alloc: Global, wire: &mut TimedWire, ticks: u32) -> Result<u32, AllocError> {
     let nothing = none(alloc);
     for number in 1..=PAIRS {
-        go(&mut wire, number)?;
-        gate(&mut wire, NodeId::broker(number), nothing.as_slice())?;
+        go(wire, number)?;
+        gate(wire, NodeId::broker(number), nothing.as_slice())?;
     }
     for _ in 0..ticks {
-        round(alloc, &mut wire)?;
+        round(alloc, wire)?;
     }
     Ok(wire.sent())
+}
+
+fn run(alloc: Global, ticks: u32) -> Result<u32, AllocError> {
+    let mut wire = wire_of(alloc)?;
+    sent(alloc, &mut wire, ticks)
 }
 
 pub fn timed(alloc: Global, words: &[String]) -> Result<String, Fault> {
