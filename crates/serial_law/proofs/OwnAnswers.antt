@@ -176,7 +176,6 @@ module _ (p : Position) where
       let long : length reads.2.0 ≤ length t.answers = front-short reads.2.0 reads.2.1 t.answers (ap (λ (z : Try). z.answers) one ∙ reads.2.2) in
       go t has stamp writes.2.0 writes.2.1 writes.2.2 writes.2.3 writes.2.4 (let a = reads.2.3 in let c = writes.2.3 in omega (arith, less, a, c, long))
     where
-
       units : (ts : List Try) → Every (λ z. Unit {0}) ts
       units [] = tt
       units (t ∷ ts) = (tt, units ts)
