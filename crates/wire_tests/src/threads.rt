@@ -184,7 +184,7 @@ fn two_nodes<R: Threads + Wait + Sync>(rt: &R, alloc: Global) -> Result<TestClos
 }
 
 /// However the threads take turns, this is what happens.
-const ENTRIES: &[Entry] = &[
+const ENTRIES: [Entry; 6] = [
     Entry::Go { node: BROKER },
     Entry::Gate { node: BROKER },
     Entry::Take {
@@ -203,7 +203,7 @@ const ENTRIES: &[Entry] = &[
 fn two_threads_take_gate_and_test(rt: HostRuntime) -> Result<(), Fail> {
     let closed = two_nodes(&rt, rt.alloc())?;
     let trace = closed.told.trace();
-    assert!(rt; trace.entries.as_slice() == ENTRIES);
+    assert!(rt; trace.entries.as_slice() == ENTRIES.as_slice());
     assert_eq!(rt; trace.sent.as_slice().len(), 2);
     assert!(rt; closed.idle);
     Ok(())

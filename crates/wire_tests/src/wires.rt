@@ -325,7 +325,7 @@ const ACT: &[Deed] = &[
 ];
 
 /// What happened then.
-const ENTRIES: &[Entry] = &[
+const ENTRIES: [Entry; 18] = [
     Entry::Go { node: BROKER },
     Entry::Gate { node: BROKER },
     Entry::Take {
@@ -400,7 +400,7 @@ fn is_act(trace: &Trace) -> Result<bool, AllocError> {
     Ok(
         trace.start == 0
             && opened.len() == 2
-            && trace.entries.as_slice() == ENTRIES
+            && trace.entries.as_slice() == ENTRIES.as_slice()
             && are_sent(trace.sent.as_slice())?,
     )
 }
