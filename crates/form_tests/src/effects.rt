@@ -159,15 +159,20 @@ fn told(alloc: Global, bytes: &[u8]) -> Result<Option<String>, EffectFault> {
     told_of(alloc, &effect, back, &bytes[..size])
 }
 
+// What is told of the effect of these bytes, where one more byte follows.
+fn text_of(alloc: Global, bytes: &[u8]) -> Result<String, Fail> {
+    let mut longer = bytes.to_vec(alloc)?;
+    longer.push(1)?;
+    let found = told(alloc, longer.as_slice()).ok().ok_or("an effect")?;
+    Ok(found.ok_or("the same bytes")?)
+}
+
 #[test]
 fn effects_with_their_bytes(rt: HostRuntime) -> Result<(), Fail> {
     let alloc = rt.alloc();
     for (bytes, text) in EFFECTS {
         assert!(rt; faults_when_cut(alloc, bytes));
-        let mut longer = bytes.to_vec(alloc)?;
-        longer.push(1)?;
-        let found = told(alloc, longer.as_slice()).ok().ok_or("an effect")?;
-        assert_eq!(rt; found.ok_or("the same bytes")?.as_str(), *text);
+        assert_eq!(rt; text_of(alloc, bytes)?.as_str(), *text);
     }
     Ok(())
 }
@@ -239,21 +244,24 @@ fn places_of_faults(rt: HostRuntime) {
     }
 }
 
+fn write_begin(alloc: Global, stamp: Stamp, out: &mut Vec<u8>) -> Result<(), AllocError> {
+    write(alloc, &Effect::Begin { stamp, deadline: 5 }, None, out)
+}
+
 // The bytes that a Begin writes after one other byte.
 fn written(alloc: Global, stamp: Stamp) -> Result<Vec<u8>, AllocError> {
     let mut out = Vec::new(alloc);
     out.push(9)?;
-    write(alloc, &Effect::Begin { stamp, deadline: 5 }, None, &mut out)?;
+    write_begin(alloc, stamp, &mut out)?;
     Ok(out)
 }
+
+const WRITTEN: &[u8] = &[9, 3, 0, 0, 0, 0, 0, 0, 0, 1, 1, 1, 0, 0, 0, 0, 0, 0, 0, 5];
 
 #[test]
 fn a_written_effect(rt: HostRuntime) -> Result<(), Fail> {
     let stamp = Stamp::new(1, 1, 1).ok_or("in range")?;
     let out = written(rt.alloc(), stamp)?;
-    assert_eq!(rt;
-        out.as_slice(),
-        [9u8, 3, 0, 0, 0, 0, 0, 0, 0, 1, 1, 1, 0, 0, 0, 0, 0, 0, 0, 5].as_slice()
-    );
+    assert_eq!(rt; out.as_slice(), WRITTEN);
     Ok(())
 }

@@ -207,19 +207,26 @@ fn told(alloc: Global, bytes: &[u8]) -> Result<Option<String>, MessageFault> {
     told_of(alloc, &message, bytes)
 }
 
+// What is told of the message of these bytes.
+fn text_of(alloc: Global, bytes: &[u8]) -> Result<String, Fail> {
+    let found = told(alloc, bytes).ok().ok_or("a message")?;
+    Ok(found.ok_or("the same bytes")?)
+}
+
+// Where the bytes are at fault when one more byte follows.
+fn fault_with_more(alloc: Global, bytes: &[u8]) -> Result<Option<usize>, AllocError> {
+    let mut longer = bytes.to_vec(alloc)?;
+    longer.push(0)?;
+    Ok(fault_at(alloc, longer.as_slice()))
+}
+
 #[test]
 fn messages_with_their_bytes(rt: HostRuntime) -> Result<(), Fail> {
     let alloc = rt.alloc();
     for (bytes, second, third, text) in MESSAGES {
         assert!(rt; faults_when_cut(alloc, bytes, *second, *third));
-        let found = told(alloc, bytes)
-            .ok()
-            .ok_or("a message")?
-            .ok_or("the same bytes")?;
-        assert_eq!(rt; found.as_str(), *text);
-        let mut longer = bytes.to_vec(alloc)?;
-        longer.push(0)?;
-        assert_eq!(rt; fault_at(alloc, longer.as_slice()), Some(bytes.len()));
+        assert_eq!(rt; text_of(alloc, bytes)?.as_str(), *text);
+        assert_eq!(rt; fault_with_more(alloc, bytes)?, Some(bytes.len()));
     }
     Ok(())
 }
@@ -254,21 +261,24 @@ fn places_of_faults(rt: HostRuntime) {
     }
 }
 
+fn write_begin(alloc: Global, stamp: Stamp, out: &mut Vec<u8>) -> Result<(), AllocError> {
+    write(alloc, &Message::Begin { stamp, timeout: 5 }, out)
+}
+
 // The bytes that a Begin writes after one other byte.
 fn written(alloc: Global, stamp: Stamp) -> Result<Vec<u8>, AllocError> {
     let mut out = Vec::new(alloc);
     out.push(9)?;
-    write(alloc, &Message::Begin { stamp, timeout: 5 }, &mut out)?;
+    write_begin(alloc, stamp, &mut out)?;
     Ok(out)
 }
+
+const WRITTEN: &[u8] = &[9, 1, 0, 0, 0, 0, 0, 0, 0, 1, 1, 1, 0, 0, 0, 5];
 
 #[test]
 fn a_written_message(rt: HostRuntime) -> Result<(), Fail> {
     let stamp = Stamp::new(1, 1, 1).ok_or("in range")?;
     let out = written(rt.alloc(), stamp)?;
-    assert_eq!(rt;
-        out.as_slice(),
-        [9u8, 1, 0, 0, 0, 0, 0, 0, 0, 1, 1, 1, 0, 0, 0, 5].as_slice()
-    );
+    assert_eq!(rt; out.as_slice(), WRITTEN);
     Ok(())
 }

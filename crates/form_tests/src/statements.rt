@@ -1,20 +1,29 @@
 use expression_form::ReadFault;
 use statement_form::{BlockFault, Builder, Flat, print_row, print_script, read_row};
-use std::alloc::Global;
+use std::alloc::{AllocError, Global};
 use std::test::*;
 use token_form::tokens_of;
+
+fn text_of_row(alloc: Global, flat: &Flat) -> Result<Vec<u8>, AllocError> {
+    let mut out = Vec::new(alloc);
+    print_row(alloc, &mut out, flat)?;
+    Ok(out)
+}
+
+// What reading a row gave, as it is told.
+fn told(alloc: Global, read: Result<Flat, ReadFault>) -> Result<Vec<u8>, AllocError> {
+    match read {
+        Ok(flat) => text_of_row(alloc, &flat),
+        Err(ReadFault::Syntax) => b"syntax".as_slice().to_vec(alloc),
+        Err(ReadFault::Depth) => b"depth".as_slice().to_vec(alloc),
+        Err(ReadFault::NoMemory) => b"memory".as_slice().to_vec(alloc),
+    }
+}
 
 // The canonical text of what stands on a line, or `syntax` or `depth`.
 fn answer(alloc: Global, line: &[u8]) -> Result<Vec<u8>, Fail> {
     let tokens = tokens_of(alloc, line, 16).ok().ok_or("tokens")?;
-    let mut out = Vec::new(alloc);
-    match read_row(alloc, tokens.as_slice()) {
-        Ok(flat) => print_row(alloc, &mut out, &flat)?,
-        Err(ReadFault::Syntax) => out.extend_from_slice(b"syntax")?,
-        Err(ReadFault::Depth) => out.extend_from_slice(b"depth")?,
-        Err(ReadFault::NoMemory) => out.extend_from_slice(b"memory")?,
-    }
-    Ok(out)
+    Ok(told(alloc, read_row(alloc, tokens.as_slice()))?)
 }
 
 // What stands on a line.

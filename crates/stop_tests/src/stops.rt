@@ -219,7 +219,7 @@ fn full(rt: &impl Wait, alloc: Global) -> Result<(TestClosed, QuietMedium), Fail
 }
 
 /// What became of the second message.
-const FULL: &[Entry] = &[
+const FULL: [Entry; 2] = [
     Entry::Take {
         node: HOME,
         number: 3,
@@ -234,7 +234,7 @@ const FULL: &[Entry] = &[
 fn is_full(closed: TestClosed) -> bool {
     let trace = closed.told.trace();
     let entries = trace.entries.as_slice();
-    entries.len() == 8 && entries.ends_with(FULL) && trace.sent.as_slice().len() == 3
+    entries.len() == 8 && entries.ends_with(FULL.as_slice()) && trace.sent.as_slice().len() == 3
 }
 
 #[test]

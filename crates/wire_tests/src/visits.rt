@@ -233,7 +233,7 @@ fn whole(rt: &impl Wait, alloc: Global) -> Result<TestClosed, Fail> {
 }
 
 /// What happened before the repository learned.
-const BEFORE: &[Entry] = &[
+const BEFORE: [Entry; 11] = [
     Entry::Go { node: BROKER },
     Entry::Gate { node: BROKER },
     Entry::Take {
@@ -251,7 +251,7 @@ const BEFORE: &[Entry] = &[
 ];
 
 /// What happened after.
-const AFTER: &[Entry] = &[
+const AFTER: [Entry; 2] = [
     Entry::Crash {
         node: HOME,
         kept: 0,
@@ -275,7 +275,7 @@ fn is_whole(entries: &[Entry], stamp: Stamp) -> bool {
     let Some((one, after)) = rest.split_first() else {
         return false;
     };
-    before == BEFORE && *one == learned && after == AFTER
+    before == BEFORE.as_slice() && *one == learned && after == AFTER.as_slice()
 }
 
 #[test]
