@@ -24,7 +24,6 @@ use Rattle.version_store.specs.Filling.{StaysClean}
 use Rattle.version_store.specs.Storage.{Content, Reading, Going, Ended, Damaged, admitted, begun, content_of, effects_found, entries, finish, going_or_damaged, log_at, log_with, next, place_before, scan, storage, texts_of}
 use Rattle.broker_core.proofs.SoundLemmas.{and-both}
 use Rattle.value_form.proofs.ValueLaws.{ok_is}
-use Rattle.page_gate.proofs.TornPages.{blank_state}
 
 -- ---- the effects of a page
 
@@ -110,6 +109,9 @@ fails page n pages log h = let z : finish (Damaged page) ≡ Ok log = sym (ap fi
 blank-more : (p : List ℕ) (pages : Image) → count_by is_blank (p ∷ pages) ≡ cond (is_blank p) 1 0 + count_by is_blank pages
 blank-more p pages = sum_by-cons (λ (q : List ℕ). cond (is_blank q) 1 0) p pages
 
+state-blank : (p : List ℕ) → is_blank p ≡ true → state_of p ≡ Blank
+state-blank p e = ap (λ (t : Bool). if t then Blank else if slice_index p 0 == 165 then Gated (drop 1 p) else Spoiled) e
+
 state-else : (p : List ℕ) → is_blank p ≡ false → state_of p ≡ (if slice_index p 0 == 165 then Gated (drop 1 p) else Spoiled)
 state-else p e = ap (λ (t : Bool). if t then Blank else if slice_index p 0 == 165 then Gated (drop 1 p) else Spoiled) e
 
@@ -123,7 +125,7 @@ ended n c (p ∷ pages) log h = by (λ k. ended (n + 1) c pages log k) (is_blank
 
     by : (finish (scan (Ended c) (n + 1) pages) ≡ Ok log → (length pages ≤ count_by is_blank pages) × (c.log ≡ log)) → (t : Bool) → is_blank p ≡ t → (length (p ∷ pages) ≤ count_by is_blank (p ∷ pages)) × (c.log ≡ log)
     by behind true e =
-        let rest = behind (subst now (blank_state p e) h) in
+        let rest = behind (subst now (state-blank p e) h) in
         let few = rest.0 in
         let one = blank-more p pages ∙ ap (λ (t : Bool). cond t 1 0 + count_by is_blank pages) e in
         (omega (arith, few, one), rest.1)
@@ -145,7 +147,7 @@ going n c (p ∷ pages) log clean h = by (λ more k. going (n + 1) (content_of m
 
     by : ((more : Log) → finish (scan (Going (content_of more)) (n + 1) pages) ≡ Ok log → length pages + length more ≤ count_by is_blank pages + length log) → (t : Bool) → is_blank p ≡ t → length (p ∷ pages) + length c.log ≤ count_by is_blank (p ∷ pages) + length log
     by next-page true e =
-        let rest = ended (n + 1) c pages log (subst now (blank_state p e) h) in
+        let rest = ended (n + 1) c pages log (subst now (state-blank p e) h) in
         let few = rest.0 in
         let same : length c.log ≡ length log = ap (λ (l : Log). length l) rest.1 in
         let one = blank-more p pages ∙ ap (λ (t : Bool). cond t 1 0 + count_by is_blank pages) e in
@@ -186,13 +188,13 @@ blank-all (b ∷ page) h = and-both (eq-eqb b 0 (h 0)) (blank-all page (λ at. h
 
 ended-blank : (n : ℕ) (c : Content) (pages : Image) → ((page at : ℕ) → slice_index_or (page_of pages page) at 0 ≡ 0) → scan (Ended c) n pages ≡ Ended c
 ended-blank n c [] h = refl
-ended-blank n c (p ∷ pages) h = ap (λ (s : PageState). scan (next (Ended c) n s) (n + 1) pages) (blank_state p (blank-all p (h 0))) ∙ ended-blank (n + 1) c pages (λ page at. h (suc page) at)
+ended-blank n c (p ∷ pages) h = ap (λ (s : PageState). scan (next (Ended c) n s) (n + 1) pages) (state-blank p (blank-all p (h 0))) ∙ ended-blank (n + 1) c pages (λ page at. h (suc page) at)
 
 -- a blank image has an empty log
 pub blank-none : (image : Image) → IsBlankImage image → storage image ≡ Ok []
 blank-none [] h = refl
 blank-none (p ∷ image) h =
-    ap (λ (r : Reading). effects_found (finish r)) (ap (λ (s : PageState). scan (next begun 0 s) 1 image) (blank_state p (blank-all p (h 0))) ∙ ended-blank 1 (content_of []) image (λ page at. h (suc page) at))
+    ap (λ (r : Reading). effects_found (finish r)) (ap (λ (s : PageState). scan (next begun 0 s) 1 image) (state-blank p (blank-all p (h 0))) ∙ ended-blank 1 (content_of []) image (λ page at. h (suc page) at))
 
 clean-each : (image : Image) → ((page : ℕ) → IsClean (page_of image page)) → Every IsClean image
 clean-each [] h = tt
