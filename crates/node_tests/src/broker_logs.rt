@@ -16,21 +16,21 @@ const EXPIRED_LOG: &[Added] = &[
 // A try of an earlier run, of an act that this plan doesn't have.
 const EARLIER_LOG: &[Added] = &[Added::Act(9), Added::Try(9, 5)];
 
-const RESUMES: &[Step] = &[(Told::Go, NONE, Sent::Commit(1))];
+const RESUMES: [Step; 1] = [(Told::Go, NONE, Sent::Commit(1))];
 
-const FIRST_TRY: &[Step] = &[(
+const FIRST_TRY: [Step; 1] = [(
     Told::Go,
     [Added::Try(1, 1), Added::None, Added::None],
     Sent::Begin(1),
 )];
 
-const SECOND_TRY: &[Step] = &[(
+const SECOND_TRY: [Step; 1] = [(
     Told::Go,
     [Added::Try(1, 2), Added::None, Added::None],
     Sent::Begin(2),
 )];
 
-const LATER_TRY: &[Step] = &[
+const LATER_TRY: [Step; 2] = [
     (Told::Tick, NONE, Sent::None),
     (
         Told::Go,
@@ -41,10 +41,10 @@ const LATER_TRY: &[Step] = &[
 
 #[test]
 fn logs_that_go_on(rt: HostRuntime) -> Result<(), Fail> {
-    assert!(rt; goes(rt.alloc(), Program::Row, &ROW_LOG[..5], RESUMES)?);
-    assert!(rt; goes(rt.alloc(), Program::Row, BEGUN_ACT, FIRST_TRY)?);
-    assert!(rt; goes(rt.alloc(), Program::Row, EXPIRED_LOG, SECOND_TRY)?);
-    assert!(rt; goes(rt.alloc(), Program::Row, EARLIER_LOG, LATER_TRY)?);
+    assert!(rt; goes(rt.alloc(), Program::Row, &ROW_LOG[..5], &RESUMES)?);
+    assert!(rt; goes(rt.alloc(), Program::Row, BEGUN_ACT, &FIRST_TRY)?);
+    assert!(rt; goes(rt.alloc(), Program::Row, EXPIRED_LOG, &SECOND_TRY)?);
+    assert!(rt; goes(rt.alloc(), Program::Row, EARLIER_LOG, &LATER_TRY)?);
     Ok(())
 }
 
@@ -145,7 +145,7 @@ const SPENT_LOG: &[Added] = &[
     Added::End(1, How::Committed),
 ];
 
-const NEXT_ACT: &[Step] = &[
+const NEXT_ACT: [Step; 3] = [
     (Told::Tick, NONE, Sent::None),
     (
         Told::Go,
@@ -169,6 +169,6 @@ fn a_spent_act(rt: HostRuntime) -> Result<(), Fail> {
     assert!(rt; ends(rt.alloc(), Program::Row, SPENT_LOG, &idle)?);
     let mut broker = after_a_spent_act(rt.alloc())?;
     assert!(rt; !broker.done());
-    assert_eq!(rt; does(&mut broker, NEXT_ACT), Ok(true));
+    assert_eq!(rt; does(&mut broker, &NEXT_ACT), Ok(true));
     Ok(())
 }

@@ -5,7 +5,7 @@ use std::alloc::Global;
 use std::test::*;
 
 // Each request in turn, each with an answer that is ignored before its own.
-const ROW: &[Step] = &[
+const ROW: [Step; 9] = [
     (Told::Go, TRIED, Sent::Begin(1)),
     (Told::Stored(1, 1), NONE, Sent::None),
     (Told::Begun(1), NONE, Sent::Write(1, 1)),
@@ -33,12 +33,12 @@ const ROW: &[Step] = &[
 fn a_row(rt: HostRuntime) -> Result<(), Fail> {
     let mut broker = opened(rt.alloc(), Program::Row, 1, &[])?;
     assert!(rt; !broker.done());
-    assert_eq!(rt; is_done_by(&mut broker, ROW), Ok(true));
+    assert_eq!(rt; is_done_by(&mut broker, &ROW), Ok(true));
     Ok(())
 }
 
 // A tick sends each request again, and what no broker waits for is ignored.
-const TICKS: &[Step] = &[
+const TICKS: [Step; 5] = [
     (Told::Tick, NONE, Sent::None),
     (Told::Go, TRIED, Sent::Begin(1)),
     (Told::Tick, NONE, Sent::Begin(1)),
@@ -48,13 +48,13 @@ const TICKS: &[Step] = &[
 
 #[test]
 fn ticks(rt: HostRuntime) -> Result<(), Fail> {
-    assert!(rt; goes(rt.alloc(), Program::Row, &[], TICKS)?);
+    assert!(rt; goes(rt.alloc(), Program::Row, &[], &TICKS)?);
     Ok(())
 }
 
 // A refusal by a later read: the try ends, is withdrawn, and the next one has a clock above what was
 // shown. Ended is followed by Withdraw, and that by a decision. The third try is the last.
-const REFUSALS: &[Step] = &[
+const REFUSALS: [Step; 12] = [
     (Told::Go, TRIED, Sent::Begin(1)),
     (Told::Begun(1), NONE, Sent::Write(1, 1)),
     (
@@ -91,12 +91,12 @@ const REFUSALS: &[Step] = &[
 
 #[test]
 fn refusals(rt: HostRuntime) -> Result<(), Fail> {
-    assert!(rt; ends(rt.alloc(), Program::Writes, &[], REFUSALS)?);
+    assert!(rt; ends(rt.alloc(), Program::Writes, &[], &REFUSALS)?);
     Ok(())
 }
 
 // What else is heard: Expired at Begin and at Commit, Ended at a read, Committed where Ended was heard.
-const DECISIONS: &[Step] = &[
+const DECISIONS: [Step; 11] = [
     (Told::Go, TRIED, Sent::Begin(1)),
     (Told::Committed(1), NONE, Sent::None),
     (
@@ -130,7 +130,7 @@ const DECISIONS: &[Step] = &[
     ),
 ];
 
-const LAST_DECISIONS: &[Step] = &[
+const LAST_DECISIONS: [Step; 2] = [
     (Told::Withdrawn(3), NONE, Sent::None),
     (
         Told::Expired(3),
@@ -142,13 +142,13 @@ const LAST_DECISIONS: &[Step] = &[
 #[test]
 fn decisions(rt: HostRuntime) -> Result<(), Fail> {
     let mut broker = opened(rt.alloc(), Program::Row, 1, &[])?;
-    assert_eq!(rt; does(&mut broker, DECISIONS), Ok(true));
+    assert_eq!(rt; does(&mut broker, &DECISIONS), Ok(true));
     assert!(rt; !broker.done());
-    assert_eq!(rt; is_done_by(&mut broker, LAST_DECISIONS), Ok(true));
+    assert_eq!(rt; is_done_by(&mut broker, &LAST_DECISIONS), Ok(true));
     Ok(())
 }
 
-const PRINTS: &[Step] = &[
+const PRINTS: [Step; 2] = [
     (Told::Go, NONE, Sent::Begin(1)),
     (
         Told::Committed(1),
@@ -157,7 +157,7 @@ const PRINTS: &[Step] = &[
     ),
 ];
 
-const WITHDRAWS: &[Step] = &[
+const WITHDRAWS: [Step; 4] = [
     (Told::Go, NONE, Sent::Begin(1)),
     (
         Told::Begun(1),
@@ -168,7 +168,7 @@ const WITHDRAWS: &[Step] = &[
     (Told::Go, NONE, Sent::None),
 ];
 
-const FAILS: &[Step] = &[
+const FAILS: [Step; 3] = [
     (Told::Go, NONE, Sent::Begin(1)),
     (
         Told::Begun(1),
@@ -181,14 +181,14 @@ const FAILS: &[Step] = &[
 // The three begin at a log of a run, an act and a try.
 #[test]
 fn scripts_without_requests(rt: HostRuntime) -> Result<(), Fail> {
-    assert!(rt; ends(rt.alloc(), Program::Prints, &TRIED, PRINTS)?);
-    assert!(rt; ends(rt.alloc(), Program::Withdraws, &TRIED, WITHDRAWS)?);
-    assert!(rt; ends(rt.alloc(), Program::Fails, &TRIED, FAILS)?);
+    assert!(rt; ends(rt.alloc(), Program::Prints, &TRIED, &PRINTS)?);
+    assert!(rt; ends(rt.alloc(), Program::Withdraws, &TRIED, &WITHDRAWS)?);
+    assert!(rt; ends(rt.alloc(), Program::Fails, &TRIED, &FAILS)?);
     Ok(())
 }
 
 // No clock is left for the second act.
-const SPENT: &[Step] = &[
+const SPENT: [Step; 3] = [
     (
         Told::Go,
         [Added::Run(1), Added::Act(1), Added::Try(1, LAST_CLOCK)],
@@ -216,6 +216,6 @@ fn with_the_last_clock(alloc: Global) -> Result<Broker, ResumeFault> {
 #[test]
 fn no_clock_left(rt: HostRuntime) -> Result<(), Fail> {
     let mut broker = with_the_last_clock(rt.alloc())?;
-    assert_eq!(rt; is_done_by(&mut broker, SPENT), Ok(true));
+    assert_eq!(rt; is_done_by(&mut broker, &SPENT), Ok(true));
     Ok(())
 }
