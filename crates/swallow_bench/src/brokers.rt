@@ -154,7 +154,7 @@ fn log_of(alloc: Global, broker: &mut Broker) -> Result<(Vec<Effect>, bool), Res
 
 // The same of the broker of these acts.
 fn log_of_acts(alloc: Global, acts: &[ActSpec]) -> Result<(Vec<Effect>, bool), ResumeFault>
-    requires { AreActs acts.now }
+    requires { AreBrokerActs acts.now }
     ensures { IfOk result (λ r. AreEffects r.0.items) }
 {
     let mut broker = Broker::open(alloc, 1, 1, acts, &[])?;
@@ -163,7 +163,7 @@ fn log_of_acts(alloc: Global, acts: &[ActSpec]) -> Result<(Vec<Effect>, bool), R
 
 // Whether the broker of these acts is done where it is opened over this log.
 fn is_done_over(alloc: Global, acts: &[ActSpec], log: &[Effect]) -> Result<bool, ResumeFault>
-    requires acts { AreActs acts.now }
+    requires acts { AreBrokerActs acts.now }
     requires log { AreEffects log.now }
 {
     let broker = Broker::open(alloc, 1, 1, acts, log)?;
