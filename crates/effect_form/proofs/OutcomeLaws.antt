@@ -18,7 +18,7 @@ use Rattle.value_form.specs.declared.fail_kinds.FailKind.{FailKind}
 use Rattle.value_form.specs.declared.fail_kinds.FailKind.TheVariants as kind
 use Rattle.effect_form.specs.declared.outcomes.Outcome.{Outcome}
 use Rattle.effect_form.specs.declared.outcomes.Outcome.TheVariants.{Committed, Withdrawn, Failed, LaterRead, LaterVersion, Expired, Spent}
-use Rattle.effect_form.specs.Outcomes.{kind_number, kind_from, kind_at, line_at, clock_at, outcome_bytes, IsOutcome, outcome_of_tag, outcome_at}
+use Rattle.effect_form.specs.Outcomes.{fail_number, fail_from, fail_at, line_at, clock_at, outcome_bytes, IsOutcome, outcome_of_tag, outcome_at}
 use Rattle.effect_form.specs.Sequences.{part_one, part_two}
 use Rattle.effect_form.proofs.SequenceLaws.{part_one-takes, part_one-again, part_two-takes, part_two-again}
 
@@ -34,8 +34,8 @@ IsLong n = n < 2 ^ 64
 abbrev AnyKind : FailKind → Type 0
 AnyKind k = Unit {0}
 
-abbrev kind_bytes : FailKind → List ℕ
-kind_bytes k = kind_number k ∷ []
+abbrev fail_bytes : FailKind → List ℕ
+fail_bytes k = fail_number k ∷ []
 
 line_form : IsForm (to_be_bytes w16) IsLine line_at
 line_form = between_form 1 200 u16_form
@@ -43,22 +43,22 @@ line_form = between_form 1 200 u16_form
 pub clock_form : IsForm (to_be_bytes w64) IsClock clock_at
 clock_form = between_form 1 1099511627775 u64_form
 
-kind_from-takes : (n : ℕ) (k : FailKind) → kind_from n ≡ Some k → n ≡ kind_number k
-kind_from-takes n k e =
+fail_from-takes : (n : ℕ) (k : FailKind) → fail_from n ≡ Some k → n ≡ fail_number k
+fail_from-takes n k e =
     elim (chosen (n == 1) (Some kind.Overflow) (cond (n == 2) (Some kind.Division) (cond (n == 3) (Some kind.Kind) (cond (n == 4) (Some kind.Long) (cond (n == 5) (Some kind.Object) (cond (n == 6) (Some kind.Count) (cond (n == 7) (Some kind.Budget) None)))))) (Some k) e) [
-      | inl h ↦ let t = h.0 in let is : n ≡ 1 = grind (arith, nat_tests) in is ∙ ap kind_number (some_is kind.Overflow k h.1)
+      | inl h ↦ let t = h.0 in let is : n ≡ 1 = grind (arith, nat_tests) in is ∙ ap fail_number (some_is kind.Overflow k h.1)
       | inr h0 ↦ elim (chosen (n == 2) (Some kind.Division) (cond (n == 3) (Some kind.Kind) (cond (n == 4) (Some kind.Long) (cond (n == 5) (Some kind.Object) (cond (n == 6) (Some kind.Count) (cond (n == 7) (Some kind.Budget) None))))) (Some k) h0.1) [
-        | inl h ↦ let t = h.0 in let is : n ≡ 2 = grind (arith, nat_tests) in is ∙ ap kind_number (some_is kind.Division k h.1)
+        | inl h ↦ let t = h.0 in let is : n ≡ 2 = grind (arith, nat_tests) in is ∙ ap fail_number (some_is kind.Division k h.1)
         | inr h1 ↦ elim (chosen (n == 3) (Some kind.Kind) (cond (n == 4) (Some kind.Long) (cond (n == 5) (Some kind.Object) (cond (n == 6) (Some kind.Count) (cond (n == 7) (Some kind.Budget) None)))) (Some k) h1.1) [
-          | inl h ↦ let t = h.0 in let is : n ≡ 3 = grind (arith, nat_tests) in is ∙ ap kind_number (some_is kind.Kind k h.1)
+          | inl h ↦ let t = h.0 in let is : n ≡ 3 = grind (arith, nat_tests) in is ∙ ap fail_number (some_is kind.Kind k h.1)
           | inr h2 ↦ elim (chosen (n == 4) (Some kind.Long) (cond (n == 5) (Some kind.Object) (cond (n == 6) (Some kind.Count) (cond (n == 7) (Some kind.Budget) None))) (Some k) h2.1) [
-            | inl h ↦ let t = h.0 in let is : n ≡ 4 = grind (arith, nat_tests) in is ∙ ap kind_number (some_is kind.Long k h.1)
+            | inl h ↦ let t = h.0 in let is : n ≡ 4 = grind (arith, nat_tests) in is ∙ ap fail_number (some_is kind.Long k h.1)
             | inr h3 ↦ elim (chosen (n == 5) (Some kind.Object) (cond (n == 6) (Some kind.Count) (cond (n == 7) (Some kind.Budget) None)) (Some k) h3.1) [
-              | inl h ↦ let t = h.0 in let is : n ≡ 5 = grind (arith, nat_tests) in is ∙ ap kind_number (some_is kind.Object k h.1)
+              | inl h ↦ let t = h.0 in let is : n ≡ 5 = grind (arith, nat_tests) in is ∙ ap fail_number (some_is kind.Object k h.1)
               | inr h4 ↦ elim (chosen (n == 6) (Some kind.Count) (cond (n == 7) (Some kind.Budget) None) (Some k) h4.1) [
-                | inl h ↦ let t = h.0 in let is : n ≡ 6 = grind (arith, nat_tests) in is ∙ ap kind_number (some_is kind.Count k h.1)
+                | inl h ↦ let t = h.0 in let is : n ≡ 6 = grind (arith, nat_tests) in is ∙ ap fail_number (some_is kind.Count k h.1)
                 | inr h5 ↦ elim (chosen (n == 7) (Some kind.Budget) None (Some k) h5.1) [
-                  | inl h ↦ let t = h.0 in let is : n ≡ 7 = grind (arith, nat_tests) in is ∙ ap kind_number (some_is kind.Budget k h.1)
+                  | inl h ↦ let t = h.0 in let is : n ≡ 7 = grind (arith, nat_tests) in is ∙ ap fail_number (some_is kind.Budget k h.1)
                   | inr h6 ↦ absurd (let t = h6.1 in cc)
                 ]
               ]
@@ -68,43 +68,43 @@ kind_from-takes n k e =
       ]
     ]
 
-kind_from-again : (k : FailKind) → kind_from (kind_number k) ≡ Some k
-kind_from-again kind.Overflow = refl
-kind_from-again kind.Division = refl
-kind_from-again kind.Kind = refl
-kind_from-again kind.Long = refl
-kind_from-again kind.Object = refl
-kind_from-again kind.Count = refl
-kind_from-again kind.Budget = refl
+fail_from-again : (k : FailKind) → fail_from (fail_number k) ≡ Some k
+fail_from-again kind.Overflow = refl
+fail_from-again kind.Division = refl
+fail_from-again kind.Kind = refl
+fail_from-again kind.Long = refl
+fail_from-again kind.Object = refl
+fail_from-again kind.Count = refl
+fail_from-again kind.Budget = refl
 
-kind_takes : (bytes : List ℕ) (k : FailKind) (rest : List ℕ) → IsBytes bytes → kind_at bytes ≡ Some (k, rest) → Begins bytes (kind_bytes k) rest × AnyKind k
-kind_takes bytes k rest fits e =
-    let a = bind_some (byte_at bytes) (λ b. form.◌>>=◌ (kind_from b.0) (λ k. Some (k, b.1))) (k, rest) e in
-    let b = bind_some (kind_from a.0.0) (λ k. Some (k, a.0.1)) (k, rest) a.2 in
+fail_takes : (bytes : List ℕ) (k : FailKind) (rest : List ℕ) → IsBytes bytes → fail_at bytes ≡ Some (k, rest) → Begins bytes (fail_bytes k) rest × AnyKind k
+fail_takes bytes k rest fits e =
+    let a = bind_some (byte_at bytes) (λ b. form.◌>>=◌ (fail_from b.0) (λ k. Some (k, b.1))) (k, rest) e in
+    let b = bind_some (fail_from a.0.0) (λ k. Some (k, a.0.1)) (k, rest) a.2 in
     let made : FailKind × List ℕ = (b.0, a.0.1) in
     let t = byte_form.takes bytes a.0.0 a.0.1 fits a.1 in
-    let front : Begins bytes (kind_bytes b.0) a.0.1 = subst (λ (n : ℕ). Begins bytes (n ∷ []) a.0.1) (kind_from-takes a.0.0 b.0 b.1) t.0 in
-    subst (λ (y : FailKind × List ℕ). Begins bytes (kind_bytes y.0) y.1 × AnyKind y.0) (some_is made (k, rest) b.2) (front, tt)
+    let front : Begins bytes (fail_bytes b.0) a.0.1 = subst (λ (n : ℕ). Begins bytes (n ∷ []) a.0.1) (fail_from-takes a.0.0 b.0 b.1) t.0 in
+    subst (λ (y : FailKind × List ℕ). Begins bytes (fail_bytes y.0) y.1 × AnyKind y.0) (some_is made (k, rest) b.2) (front, tt)
 
-kind_again : (k : FailKind) (rest : List ℕ) → AnyKind k → kind_at (kind_bytes k ++ rest) ≡ Some (k, rest)
-kind_again k rest h = rw (kind_from-again k) refl
+fail_again : (k : FailKind) (rest : List ℕ) → AnyKind k → fail_at (fail_bytes k ++ rest) ≡ Some (k, rest)
+fail_again k rest h = rw (fail_from-again k) refl
 
-kind_form : IsForm kind_bytes AnyKind kind_at
-kind_form = record { takes = kind_takes; again = kind_again }
+fail_form : IsForm fail_bytes AnyKind fail_at
+fail_form = record { takes = fail_takes; again = fail_again }
 
 outcome_of_tag-takes : (bytes after : List ℕ) (tag : ℕ) (o : Outcome) (rest : List ℕ) → Begins bytes (tag ∷ []) after → outcome_of_tag tag after ≡ Some (o, rest) → Begins bytes (outcome_bytes o) rest × IsOutcome o
 unfolding outcome_of_tag
 outcome_of_tag-takes bytes after tag o rest front e =
-    elim (chosen (tag == 1) (Some (Committed, after)) (cond (tag == 2) (part_one Withdrawn line_at after) (cond (tag == 3) (part_two Failed line_at kind_at after) (cond (tag == 4) (part_two LaterRead object_bytes_at time_at after) (cond (tag == 5) (part_two LaterVersion object_bytes_at time_at after) (cond (tag == 6) (part_two Expired (number_at w64) (number_at w64) after) (cond (tag == 7) (part_one Spent clock_at after) None)))))) (Some (o, rest)) e) [
+    elim (chosen (tag == 1) (Some (Committed, after)) (cond (tag == 2) (part_one Withdrawn line_at after) (cond (tag == 3) (part_two Failed line_at fail_at after) (cond (tag == 4) (part_two LaterRead object_bytes_at time_at after) (cond (tag == 5) (part_two LaterVersion object_bytes_at time_at after) (cond (tag == 6) (part_two Expired (number_at w64) (number_at w64) after) (cond (tag == 7) (part_one Spent clock_at after) None)))))) (Some (o, rest)) e) [
       | inl h ↦ let t = h.0 in let is : tag ≡ 1 = grind (arith, nat_tests) in let tagged : Begins bytes (1 ∷ []) after = subst (λ (k : ℕ). Begins bytes (k ∷ []) after) is front in subst (λ (y : Outcome × List ℕ). Begins bytes (outcome_bytes y.0) y.1 × IsOutcome y.0) (some_is (Committed, after) (o, rest) h.1) (tagged, tt)
-      | inr h0 ↦ elim (chosen (tag == 2) (part_one Withdrawn line_at after) (cond (tag == 3) (part_two Failed line_at kind_at after) (cond (tag == 4) (part_two LaterRead object_bytes_at time_at after) (cond (tag == 5) (part_two LaterVersion object_bytes_at time_at after) (cond (tag == 6) (part_two Expired (number_at w64) (number_at w64) after) (cond (tag == 7) (part_one Spent clock_at after) None))))) (Some (o, rest)) h0.1) [
+      | inr h0 ↦ elim (chosen (tag == 2) (part_one Withdrawn line_at after) (cond (tag == 3) (part_two Failed line_at fail_at after) (cond (tag == 4) (part_two LaterRead object_bytes_at time_at after) (cond (tag == 5) (part_two LaterVersion object_bytes_at time_at after) (cond (tag == 6) (part_two Expired (number_at w64) (number_at w64) after) (cond (tag == 7) (part_one Spent clock_at after) None))))) (Some (o, rest)) h0.1) [
         | inl h ↦ let t = h.0 in let is : tag ≡ 2 = grind (arith, nat_tests) in let tagged : Begins bytes (2 ∷ []) after = subst (λ (k : ℕ). Begins bytes (k ∷ []) after) is front in
             let x = part_one-takes (to_be_bytes w16) IsLine line_at line_form Withdrawn after o rest front.rest_is_bytes h.1 in
             subst (λ (y : Outcome). Begins bytes (outcome_bytes y) rest × IsOutcome y) x.1 (Begins-then bytes (2 ∷ []) after (to_be_bytes w16 x.0) rest tagged x.2, x.3)
-        | inr h1 ↦ elim (chosen (tag == 3) (part_two Failed line_at kind_at after) (cond (tag == 4) (part_two LaterRead object_bytes_at time_at after) (cond (tag == 5) (part_two LaterVersion object_bytes_at time_at after) (cond (tag == 6) (part_two Expired (number_at w64) (number_at w64) after) (cond (tag == 7) (part_one Spent clock_at after) None)))) (Some (o, rest)) h1.1) [
+        | inr h1 ↦ elim (chosen (tag == 3) (part_two Failed line_at fail_at after) (cond (tag == 4) (part_two LaterRead object_bytes_at time_at after) (cond (tag == 5) (part_two LaterVersion object_bytes_at time_at after) (cond (tag == 6) (part_two Expired (number_at w64) (number_at w64) after) (cond (tag == 7) (part_one Spent clock_at after) None)))) (Some (o, rest)) h1.1) [
           | inl h ↦ let t = h.0 in let is : tag ≡ 3 = grind (arith, nat_tests) in let tagged : Begins bytes (3 ∷ []) after = subst (λ (k : ℕ). Begins bytes (k ∷ []) after) is front in
-              let x = part_two-takes (to_be_bytes w16) IsLine line_at line_form kind_bytes AnyKind kind_at kind_form Failed after o rest front.rest_is_bytes h.1 in
-              subst (λ (y : Outcome). Begins bytes (outcome_bytes y) rest × IsOutcome y) x.2 (Begins-then bytes (3 ∷ []) after (to_be_bytes w16 x.0 ++ kind_bytes x.1) rest tagged x.3, (x.4, x.5))
+              let x = part_two-takes (to_be_bytes w16) IsLine line_at line_form fail_bytes AnyKind fail_at fail_form Failed after o rest front.rest_is_bytes h.1 in
+              subst (λ (y : Outcome). Begins bytes (outcome_bytes y) rest × IsOutcome y) x.2 (Begins-then bytes (3 ∷ []) after (to_be_bytes w16 x.0 ++ fail_bytes x.1) rest tagged x.3, (x.4, x.5))
           | inr h2 ↦ elim (chosen (tag == 4) (part_two LaterRead object_bytes_at time_at after) (cond (tag == 5) (part_two LaterVersion object_bytes_at time_at after) (cond (tag == 6) (part_two Expired (number_at w64) (number_at w64) after) (cond (tag == 7) (part_one Spent clock_at after) None))) (Some (o, rest)) h2.1) [
             | inl h ↦ let t = h.0 in let is : tag ≡ 4 = grind (arith, nat_tests) in let tagged : Begins bytes (4 ∷ []) after = subst (λ (k : ℕ). Begins bytes (k ∷ []) after) is front in
                 let x = part_two-takes object_bytes IsObject object_bytes_at object_form time_bytes IsTime time_at time_form LaterRead after o rest front.rest_is_bytes h.1 in
@@ -140,7 +140,7 @@ outcome_again : (o : Outcome) (rest : List ℕ) → IsOutcome o → outcome_at (
 unfolding outcome_at outcome_of_tag
 outcome_again Committed rest h = refl
 outcome_again (Withdrawn line) rest h = part_one-again (to_be_bytes w16) IsLine line_at line_form Withdrawn line rest h
-outcome_again (Failed line k) rest h = part_two-again (to_be_bytes w16) IsLine line_at line_form kind_bytes AnyKind kind_at kind_form Failed line k rest h.0 h.1
+outcome_again (Failed line k) rest h = part_two-again (to_be_bytes w16) IsLine line_at line_form fail_bytes AnyKind fail_at fail_form Failed line k rest h.0 h.1
 outcome_again (LaterRead object end) rest h = part_two-again object_bytes IsObject object_bytes_at object_form time_bytes IsTime time_at time_form LaterRead object end rest h.0 h.1
 outcome_again (LaterVersion object start) rest h = part_two-again object_bytes IsObject object_bytes_at object_form time_bytes IsTime time_at time_form LaterVersion object start rest h.0 h.1
 outcome_again (Expired deadline moment) rest h = part_two-again (to_be_bytes w64) IsLong (number_at w64) u64_form (to_be_bytes w64) IsLong (number_at w64) u64_form Expired deadline moment rest h.0 h.1

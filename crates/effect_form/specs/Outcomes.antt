@@ -14,17 +14,17 @@ use Rattle.effect_form.specs.declared.outcomes.Outcome.TheVariants.{Committed, W
 use Rattle.effect_form.specs.Sequences.{part_one, part_two}
 
 -- the number of a kind of failure
-abbrev pub kind_number : FailKind → ℕ
-kind_number kind.Overflow = 1
-kind_number kind.Division = 2
-kind_number kind.Kind = 3
-kind_number kind.Long = 4
-kind_number kind.Object = 5
-kind_number kind.Count = 6
-kind_number kind.Budget = 7
+abbrev pub fail_number : FailKind → ℕ
+fail_number kind.Overflow = 1
+fail_number kind.Division = 2
+fail_number kind.Kind = 3
+fail_number kind.Long = 4
+fail_number kind.Object = 5
+fail_number kind.Count = 6
+fail_number kind.Budget = 7
 
-abbrev pub kind_from : ℕ → Option FailKind
-kind_from n =
+abbrev pub fail_from : ℕ → Option FailKind
+fail_from n =
     if n == 1 then Some kind.Overflow
     else if n == 2 then Some kind.Division
     else if n == 3 then Some kind.Kind
@@ -34,8 +34,8 @@ kind_from n =
     else if n == 7 then Some kind.Budget
     else None
 
-abbrev pub kind_at : List ℕ → Option (FailKind × List ℕ)
-kind_at bytes = form.◌>>=◌ (byte_at bytes) (λ b. form.◌>>=◌ (kind_from b.0) (λ k. Some (k, b.1)))
+abbrev pub fail_at : List ℕ → Option (FailKind × List ℕ)
+fail_at bytes = form.◌>>=◌ (byte_at bytes) (λ b. form.◌>>=◌ (fail_from b.0) (λ k. Some (k, b.1)))
 
 -- lines are 1 to 200
 abbrev pub line_at : List ℕ → Option (ℕ × List ℕ)
@@ -49,7 +49,7 @@ clock_at bytes = between 1 1099511627775 (number_at w64 bytes)
 abbrev pub outcome_bytes : Outcome → List ℕ
 outcome_bytes Committed = 1 ∷ []
 outcome_bytes (Withdrawn line) = 2 ∷ to_be_bytes w16 line
-outcome_bytes (Failed line k) = 3 ∷ (to_be_bytes w16 line ++ kind_number k ∷ [])
+outcome_bytes (Failed line k) = 3 ∷ (to_be_bytes w16 line ++ fail_number k ∷ [])
 outcome_bytes (LaterRead object end) = 4 ∷ (object_bytes object ++ time_bytes end)
 outcome_bytes (LaterVersion object start) = 5 ∷ (object_bytes object ++ time_bytes start)
 outcome_bytes (Expired deadline moment) = 6 ∷ (to_be_bytes w64 deadline ++ to_be_bytes w64 moment)
@@ -69,7 +69,7 @@ unfoldable pub outcome_of_tag : ℕ → List ℕ → Option (Outcome × List ℕ
 outcome_of_tag tag rest =
     if tag == 1 then Some (Committed, rest)
     else if tag == 2 then part_one Withdrawn line_at rest
-    else if tag == 3 then part_two Failed line_at kind_at rest
+    else if tag == 3 then part_two Failed line_at fail_at rest
     else if tag == 4 then part_two LaterRead object_bytes_at time_at rest
     else if tag == 5 then part_two LaterVersion object_bytes_at time_at rest
     else if tag == 6 then part_two Expired (number_at w64) (number_at w64) rest

@@ -5,7 +5,7 @@ ghost use Rattle.std.specs.Int.{w64};
 ghost use Rattle.field_form.specs.Numbers.{number_at};
 ghost use Rattle.field_form.specs.Times.{time_at};
 ghost use Rattle.value_form.specs.ObjectBytes.{object_bytes, object_bytes_at};
-ghost use Rattle.effect_form.specs.Outcomes.{kind_number, kind_from, kind_at, line_at, clock_at, outcome_bytes, outcome_of_tag, outcome_at};
+ghost use Rattle.effect_form.specs.Outcomes.{fail_number, fail_from, fail_at, line_at, clock_at, outcome_bytes, outcome_of_tag, outcome_at};
 ghost use Rattle.effect_form.specs.Sequences.{part_two};
 ghost use Rattle.effect_form.specs.declared.outcomes.Outcome.TheVariants as variant;
 
@@ -23,7 +23,7 @@ const LAST_CLOCK: u64 = 1_099_511_627_775;
 
 // The number of a kind of failure, from 1 to 7.
 fn number_of(kind: FailKind) -> u8
-    ensures { result ≡ kind_number kind }
+    ensures { result ≡ fail_number kind }
 {
     match kind {
         FailKind::Overflow => 1,
@@ -38,7 +38,7 @@ fn number_of(kind: FailKind) -> u8
 
 // The kind of failure with this number.
 fn kind_of(number: u8) -> Option<FailKind>
-    ensures { result ≡ kind_from number }
+    ensures { result ≡ fail_from number }
 {
     match number {
         1 => Some(FailKind::Overflow),
@@ -53,7 +53,7 @@ fn kind_of(number: u8) -> Option<FailKind>
 }
 
 fn kind_field(bytes: &[u8]) -> Option<(FailKind, &[u8])>
-    ensures { option_map (λ p. (p.0, p.1.now)) result ≡ kind_at bytes.now }
+    ensures { option_map (λ p. (p.0, p.1.now)) result ≡ fail_at bytes.now }
 {
     let Some((number, rest)) = byte_of(bytes) else {
         return None;
@@ -77,7 +77,7 @@ fn clock_field(bytes: &[u8]) -> Option<(u64, &[u8])>
 }
 
 fn failed(bytes: &[u8]) -> Option<(Outcome, &[u8])>
-    ensures { option_map (λ p. (p.0, p.1.now)) result ≡ part_two variant.Failed line_at kind_at bytes.now }
+    ensures { option_map (λ p. (p.0, p.1.now)) result ≡ part_two variant.Failed line_at fail_at bytes.now }
 {
     let Some((line, rest)) = line_field(bytes) else {
         return None;
