@@ -1,9 +1,9 @@
-ghost use Rattle.std.specs.Prelude.{◌≡◌, ◌≤◌, ◌<◌, ◌^◌, IfSome, SomeIff};
-ghost use Rattle.std.specs.Char.{is_ascii_digit};
+ghost use Rattle.std.specs.Prelude.{◌≡◌, ◌≤◌, ◌<◌, ◌^◌, IfSome};
 ghost use Rattle.std.specs.Option.{option_map, option_copied};
-ghost use Rattle.token_form.specs.Tokens.{AllPass, number_from};
 ghost use Rattle.plan_form.specs.Plans.{InRange};
 ghost use Rattle.plan_form.specs.Reading as spec;
+
+use token_form::number_of;
 
 // The digits at the front, as many as there are, and what follows.
 fn split_digits(bytes: &[u8]) -> (&[u8], &[u8])
@@ -27,22 +27,6 @@ fn is_numeral(digits: &[u8]) -> bool
         [_] => true,
         [first, ..] => *first != b'0',
     }
-}
-
-// The number that the digits write; None exactly where it is 2^63 or more.
-fn number_of(digits: &[u8]) -> Option<u64>
-    requires { AllPass is_ascii_digit digits.now }
-    ensures { SomeIff result (number_from 0 digits.now < 2 ^ 63) (number_from 0 digits.now) }
-{
-    let mut number: u64 = 0;
-    for digit in digits {
-        let longer = number as u128 * 10 + (*digit - b'0') as u128;
-        if longer >= 1 << 63 {
-            return None;
-        }
-        number = longer as u64;
-    }
-    Some(number)
 }
 
 // The number at the front where it is from 1 to the greatest, and what follows it.

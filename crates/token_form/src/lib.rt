@@ -14,4 +14,5 @@ mod words;
 
 pub use line_faults::LineFault;
 pub use lines::{one_list, printed_is_spelled, tokens_of};
+pub use numbers::number_of;
 pub use tokens::{Sign, Token, Word};
