@@ -3,6 +3,7 @@ use Rattle.std.specs.Prelude.{ℕ, ◌+◌, ◌^◌, ◌==◌, ℤ, pos, negsuc,
 use Rattle.std.specs.Ordering.{nat_cmp, int_cmp, int_eq, is_lt, is_le, is_gt, is_ge}
 use Rattle.std.specs.declared.cmp.Ordering.{Ordering}
 use Rattle.std.specs.Cmp.Lexicographic.{pointwise, slice_cmp}
+use Rattle.value_form.specs.ValueBytes.{most_text}
 use Rattle.value_form.specs.declared.objects.ObjectId.{ObjectId}
 use Rattle.value_form.specs.declared.values.Value.{Value}
 use Rattle.value_form.specs.declared.values.Value.TheVariants as v
@@ -106,9 +107,9 @@ compared c a b = order a b >>= λ o. Ok (v.Number (truth (holds c o)))
 
 -- ---- texts
 
--- at most 1,000 bytes
+-- where a text may have so many bytes
 abbrev pub texts_joined : List ℕ → List ℕ → Result Value FailKind
-texts_joined s t = if nat_le (length s + length t) 1000 then Ok (v.Text (s ++ t)) else Err fails.Long
+texts_joined s t = if nat_le (length s + length t) most_text then Ok (v.Text (s ++ t)) else Err fails.Long
 
 abbrev pub joined : Value → Value → Result Value FailKind
 joined a b = text_in a >>= λ s. text_in b >>= λ t. texts_joined s t

@@ -6,10 +6,7 @@ use crate::numbers::{
 };
 use std::alloc::{AllocError, Global};
 use std::cmp::Ordering;
-use value_form::{Bytes, Call, FailKind, Infix, ObjectId, Prefix, Value};
-
-/// The most bytes of a text.
-const TEXT_BYTES: usize = 1_000;
+use value_form::{Bytes, Call, FailKind, Infix, MOST_TEXT_BYTES, ObjectId, Prefix, Value};
 
 // Whether two values are equal.
 fn is_same(left: &Value, right: &Value) -> bool
@@ -75,7 +72,8 @@ fn texts_joined(
 ) -> Result<Result<Value, FailKind>, AllocError>
     ensures { IfOk result (λ r. r ≡ spec.texts_joined left.now right.now) }
 {
-    if left.len() > TEXT_BYTES || right.len() > TEXT_BYTES - left.len() {
+    let most = MOST_TEXT_BYTES as usize;
+    if left.len() > most || right.len() > most - left.len() {
         return Ok(Err(FailKind::Long));
     }
     let mut bytes = left.to_vec(alloc)?;

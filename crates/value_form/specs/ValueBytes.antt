@@ -7,11 +7,15 @@ use Rattle.field_form.specs.Numbers.{byte_at, number_at, signed_at, front_at}
 use Rattle.value_form.specs.declared.values.Value.{Value}
 use Rattle.value_form.specs.declared.values.Value.TheVariants.{Nothing, Number, Text}
 
--- which values have bytes: a text has at most 1,000
+-- the most bytes of a text
+abbrev pub most_text : ℕ
+most_text = 1000
+
+-- which values have bytes
 abbrev pub IsValue : Value → Type 0
 IsValue Nothing = Unit {0}
 IsValue (Number z) = FitsSigned w64 z
-IsValue (Text bytes) = (length bytes ≤ 1000) × IsBytes bytes
+IsValue (Text bytes) = (length bytes ≤ most_text) × IsBytes bytes
 
 -- a tag, then the number in eight bytes, or the length of the text in two and the text
 abbrev pub value_bytes : Value → List ℕ
@@ -31,9 +35,9 @@ abbrev pub field : {A : Type 0} → ℕ → Option A → Result A ℕ
 field at None = Err at
 field at (Some x) = Ok x
 
--- the length of a text, at most 1,000
+-- the length of a text
 abbrev pub length_at : List ℕ → Option (ℕ × List ℕ)
-length_at bytes = form.◌>>=◌ (number_at w16 bytes) (λ n. if nat_le n.0 1000 then Some n else None)
+length_at bytes = form.◌>>=◌ (number_at w16 bytes) (λ n. if nat_le n.0 most_text then Some n else None)
 
 unfoldable pub number_value_at : List ℕ → Result (Value × List ℕ) ℕ
 number_value_at bytes = do

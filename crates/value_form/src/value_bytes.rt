@@ -1,7 +1,7 @@
 ghost use Rattle.std.specs.Prelude.{◌≡◌, ◌++◌, ◌≤◌, Ok, List, ℕ, length, drop, take, OnOk, OnErr, IfOk};
 ghost use Rattle.std.specs.Option.{option_map};
 ghost use Rattle.field_form.specs.Forms.{IsBytes};
-ghost use Rattle.value_form.specs.ValueBytes.{IsValue, value_bytes, value_at, number_value_at, text_value_at, length_at};
+ghost use Rattle.value_form.specs.ValueBytes.{IsValue, most_text, value_bytes, value_at, number_value_at, text_value_at, length_at};
 ghost use Rattle.value_form.specs.ValueReads.{Gives, GivesCount};
 ghost use Rattle.value_form.specs.declared.values.Value.{Value};
 ghost use Rattle.value_form.specs.declared.values.Value.TheVariants.{Number, Text};
@@ -13,7 +13,7 @@ use field_form::{byte_of, front_of, i64_of, u16_of};
 use std::alloc::{AllocError, Global};
 
 /// The most bytes of a text.
-const TEXT_BYTES: u16 = 1_000;
+pub const MOST_TEXT_BYTES: u16 = 1_000;
 
 // The length of a text.
 fn length_of(bytes: &[u8]) -> Option<(u16, &[u8])>
@@ -22,7 +22,7 @@ fn length_of(bytes: &[u8]) -> Option<(u16, &[u8])>
     let Some((length, rest)) = u16_of(bytes) else {
         return None;
     };
-    if length > TEXT_BYTES {
+    if length > MOST_TEXT_BYTES {
         return None;
     }
     Some((length, rest))
@@ -82,7 +82,7 @@ fn counted(alloc: Global, bytes: &[u8]) -> Result<(Value, usize), ValueFault>
 
 // The bytes of a text: the tag, the length and the text.
 fn text_bytes(alloc: Global, text: &[u8]) -> Result<Vec<u8>, AllocError>
-    requires { length text.now ≤ 1000 }
+    requires { length text.now ≤ most_text }
     ensures { IfOk result (λ v. v.items ≡ value_bytes (Text text.now)) }
 {
     let mut bytes = Vec::new(alloc);
