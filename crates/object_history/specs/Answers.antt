@@ -12,7 +12,7 @@ use Rattle.object_history.specs.declared.steps.ReadStep.TheVariants as read
 use Rattle.object_history.specs.declared.steps.WriteStep.{WriteStep}
 use Rattle.object_history.specs.declared.steps.WriteStep.TheVariants as write
 use Rattle.object_history.specs.Objects.{same_object, same_value}
-use Rattle.object_history.specs.History.{Seen, settle_of, is_settled, is_committed, alive, sees, newest, reach}
+use Rattle.object_history.specs.History.{Seen, at_put, settle_of, is_settled, is_committed, alive, sees, newest, reach}
 
 -- ---- reads
 
@@ -27,9 +27,7 @@ is_over (Some q) y = lt q.start y
 -- the object has a version whose start passes
 unfoldable pub some_put : (TimeParts → Bool) → ObjectId → List Mark → Bool
 some_put ok o [] = false
-some_put ok o (mark.Put a x v ∷ m) = (same_object a o && ok x) || some_put ok o m
-some_put ok o (mark.Stretch a x ∷ m) = some_put ok o m
-some_put ok o (mark.Settle s c ∷ m) = some_put ok o m
+some_put ok o (f ∷ m) = at_put (λ a x v below. (same_object a o && ok x) || below) f (some_put ok o m)
 
 -- a committed version starts above what is seen
 abbrev pub settled_over : List Mark → ObjectId → Option Seen → Bool
@@ -59,9 +57,7 @@ after_read m o t (read.Wait s) = m
 
 unfoldable pub has_put : ObjectId → TimeParts → Value → List Mark → Bool
 has_put o t v [] = false
-has_put o t v (mark.Put a x w ∷ m) = (same_object a o && (same_time x t && same_value w v)) || has_put o t v m
-has_put o t v (mark.Stretch a x ∷ m) = has_put o t v m
-has_put o t v (mark.Settle s c ∷ m) = has_put o t v m
+has_put o t v (f ∷ m) = at_put (λ a x w below. (same_object a o && (same_time x t && same_value w v)) || below) f (has_put o t v m)
 
 -- a version that isn't dead has this start and value
 abbrev pub stands_written : List Mark → ObjectId → TimeParts → Value → Bool

@@ -10,6 +10,14 @@ use Rattle.object_history.specs.declared.marks.Mark.{Mark}
 use Rattle.object_history.specs.declared.marks.Mark.TheVariants.{Put, Stretch, Settle}
 use Rattle.object_history.specs.Objects.{same_object}
 
+-- ---- one mark
+
+-- what a Put makes, by this rule, of what is said below it; the other marks leave that as it is
+abbrev pub at_put : {A : Type 0} → (ObjectId → TimeParts → Value → A → A) → Mark → A → A
+at_put rule (Put o x v) below = rule o x v below
+at_put rule (Stretch o x) below = below
+at_put rule (Settle s c) below = below
+
 -- ---- settled stamps
 
 abbrev pub or_else : {A : Type 0} → Option A → A → Option A
@@ -44,9 +52,7 @@ alive m x = is_alive (settle_of m x.stamp)
 -- how many versions the object has, dead or not
 unfoldable pub version_count : ObjectId → List Mark → ℕ
 version_count o [] = 0
-version_count o (Put a x v ∷ m) = if same_object a o then version_count o m + 1 else version_count o m
-version_count o (Stretch a x ∷ m) = version_count o m
-version_count o (Settle s c ∷ m) = version_count o m
+version_count o (f ∷ m) = at_put (λ a x v below. if same_object a o then below + 1 else below) f (version_count o m)
 
 -- a version, with its place: how many versions of its object were put before it
 pub record Seen : Type 0 where
@@ -65,9 +71,8 @@ pick passes p other = if passes && not (starts_above other p.start) then Some p 
 -- of the object's versions whose start passes the test, that with the greatest start; of equal starts the newest
 unfoldable pub scan : (TimeParts → Bool) → ObjectId → List Mark → Option Seen
 scan ok o [] = None
-scan ok o (Put a x v ∷ m) = pick (same_object a o && ok x) (record { place = version_count o m; start = x; value = v }) (scan ok o m)
-scan ok o (Stretch a x ∷ m) = scan ok o m
-scan ok o (Settle s c ∷ m) = scan ok o m
+scan ok o (f ∷ m) =
+    at_put (λ a x v below. pick (same_object a o && ok x) (record { place = version_count o m; start = x; value = v }) below) f (scan ok o m)
 
 -- what a read at t sees: the last version below t that isn't dead, or the origin
 abbrev pub sees : List Mark → ObjectId → TimeParts → Option Seen

@@ -9,13 +9,12 @@ use Rattle.value_form.specs.declared.values.Value.{Value}
 use Rattle.value_form.specs.declared.values.Value.TheVariants.{Nothing}
 use Rattle.value_form.specs.Objects.{object_cmp}
 use Rattle.object_history.specs.declared.marks.Mark.{Mark}
-use Rattle.object_history.specs.declared.marks.Mark.TheVariants.{Put, Stretch, Settle}
 use Rattle.object_history.specs.declared.versions.Version.{Version}
 use Rattle.object_history.specs.declared.steps.ReadStep.{ReadStep}
 use Rattle.object_history.specs.declared.steps.ReadStep.TheVariants.{Answer, Wait}
 use Rattle.object_history.specs.Objects.{same_object}
 use Rattle.object_history.specs.Ranges.{AreMarks}
-use Rattle.object_history.specs.History.{Seen, settle_of, is_alive, is_settled, is_committed, version_count, top, stretched}
+use Rattle.object_history.specs.History.{Seen, at_put, settle_of, is_alive, is_settled, is_committed, version_count, top, stretched}
 
 -- ---- what is kept
 
@@ -58,11 +57,10 @@ track_at tracks o = unwrap_or (finite.get tracks o) empty_track
 -- the versions of an object among the marks m, each with the number of marks under its own, and the last Stretch of all marks on it
 unfoldable pub versions_in : List Mark → ObjectId → List Mark → List Version
 versions_in all o [] = []
-versions_in all o (Put a x v ∷ m) =
-    if same_object a o then record { place = version_count o m; mark = length m; start = x; end = stretched all o (Some (version_count o m)) } ∷ versions_in all o m
-    else versions_in all o m
-versions_in all o (Stretch a x ∷ m) = versions_in all o m
-versions_in all o (Settle s c ∷ m) = versions_in all o m
+versions_in all o (f ∷ m) =
+    at_put (λ a x v below. if same_object a o
+    then record { place = version_count o m; mark = length m; start = x; end = stretched all o (Some (version_count o m)) } ∷ below
+    else below) f (versions_in all o m)
 
 abbrev pub track_of : List Mark → ObjectId → TrackParts
 track_of m o = record { origin = stretched m o None; versions = versions_in m o m }
@@ -93,9 +91,7 @@ rising (v ∷ vs) = tops vs v.start && rising vs
 
 -- the value of a Put
 abbrev pub value_put : Mark → Value
-value_put (Put o x v) = v
-value_put (Stretch o x) = Nothing
-value_put (Settle s c) = Nothing
+value_put f = at_put (λ o x v below. v) f Nothing
 
 -- the value of the Put that has so many marks under it
 abbrev pub value_under : List Mark → ℕ → Value

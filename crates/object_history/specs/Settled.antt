@@ -7,7 +7,7 @@ use Rattle.object_history.specs.declared.marks.Mark.{Mark}
 use Rattle.object_history.specs.declared.marks.Mark.TheVariants.{Put, Stretch, Settle}
 use Rattle.object_history.specs.declared.steps.WriteStep.TheVariants as write
 use Rattle.object_history.specs.Objects.{same_object}
-use Rattle.object_history.specs.History.{Seen, settle_of, is_settled, is_committed, version_count}
+use Rattle.object_history.specs.History.{Seen, at_put, settle_of, is_settled, is_committed, version_count}
 use Rattle.object_history.specs.Answers.{some_put, write_step}
 
 -- into a list of rising starts, after those with an equal start
@@ -18,10 +18,8 @@ insert q (p ∷ more) = if lt q.start p.start then q ∷ p ∷ more else p ∷ i
 -- the versions of the object whose start passes, in rising start
 unfoldable pub listed : (TimeParts → Bool) → ObjectId → List Mark → List Seen
 listed ok o [] = []
-listed ok o (Put a x v ∷ m) =
-    if same_object a o && ok x then insert (record { place = version_count o m; start = x; value = v }) (listed ok o m) else listed ok o m
-listed ok o (Stretch a x ∷ m) = listed ok o m
-listed ok o (Settle s c ∷ m) = listed ok o m
+listed ok o (f ∷ m) =
+    at_put (λ a x v below. if same_object a o && ok x then insert (record { place = version_count o m; start = x; value = v }) below else below) f (listed ok o m)
 
 -- an undecided version of the object isn't above x
 abbrev pub is_blocked : List Mark → ObjectId → TimeParts → Bool
