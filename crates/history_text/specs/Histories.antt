@@ -8,9 +8,8 @@ use Rattle.value_form.specs.declared.values.Value.{Value}
 use Rattle.value_form.specs.ValueText.{value_text}
 use Rattle.effect_form.specs.declared.effects.Effect.{Effect}
 use Rattle.object_history.specs.declared.marks.Mark.{Mark}
-use Rattle.object_history.specs.declared.marks.Mark.TheVariants.{Put, Stretch, Settle}
 use Rattle.object_history.specs.Objects.{same_object}
-use Rattle.object_history.specs.History.{Seen, settle_of, version_count, reach}
+use Rattle.object_history.specs.History.{Seen, at_put, settle_of, version_count, reach}
 use Rattle.repository_log.specs.Logs.{marks}
 use Rattle.report_writer.specs.Parts.{object_text, time_text}
 
@@ -24,9 +23,8 @@ version_in q (p ∷ ps) = if lt q.start p.start then p ∷ version_in q ps else 
 -- the object's versions, dead or not, the last start first; of equal starts the newest first
 unfoldable pub falling : ObjectId → List Mark → List Seen
 falling o [] = []
-falling o (Put a x v ∷ m) = if same_object a o then version_in (record { place = version_count o m; start = x; value = v }) (falling o m) else falling o m
-falling o (Stretch a x ∷ m) = falling o m
-falling o (Settle s c ∷ m) = falling o m
+falling o (f ∷ m) =
+    at_put (λ a x v below. if same_object a o then version_in (record { place = version_count o m; start = x; value = v }) below else below) f (falling o m)
 
 -- in rising order of start; of equal starts the log's order counts
 abbrev pub versions : ObjectId → List Mark → List Seen

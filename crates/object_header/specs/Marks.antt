@@ -7,7 +7,7 @@ use Rattle.effect_form.specs.declared.effects.Effect.{Effect}
 use Rattle.effect_form.specs.declared.effects.Effect.TheVariants.{Put, Stretch, Begin, Decide, Learn, Run, Act, Try, Got, Acked, End}
 use Rattle.effect_form.specs.declared.effects.Place.{Place}
 use Rattle.object_history.specs.declared.marks.Mark.{Mark}
-use Rattle.object_history.specs.declared.marks.Mark.TheVariants as mark
+use Rattle.object_history.specs.History.{at_put}
 use Rattle.version_store.specs.Entries.{Log, effects_of, last_put, number_of}
 use Rattle.value_form.specs.declared.objects.ObjectId.{ObjectId}
 use Rattle.object_history.specs.Objects.{same_object}
@@ -34,15 +34,11 @@ put_found ok (End i e) = None
 
 -- a mark is a version of the object whose start passes
 abbrev pub is_here : (TimeParts → Bool) → ObjectId → Mark → Bool
-is_here ok o (mark.Put a x v) = same_object a o && ok x
-is_here ok o (mark.Stretch a x) = false
-is_here ok o (mark.Settle s c) = false
+is_here ok o f = at_put (λ a x v below. same_object a o && ok x) f false
 
 -- the start and the value of a version
 abbrev pub mark_put : Mark → Option (TimeParts × Value)
-mark_put (mark.Put a x v) = Some (x, v)
-mark_put (mark.Stretch a x) = None
-mark_put (mark.Settle s c) = None
+mark_put f = at_put (λ a x v below. Some (x, v)) f None
 
 -- how far a place is from the front of the pages
 abbrev pub depth : Option Place → ℕ

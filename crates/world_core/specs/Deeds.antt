@@ -13,7 +13,7 @@ use Rattle.effect_form.specs.declared.effects.Effect.{Effect}
 use Rattle.effect_form.specs.declared.effects.Effect.TheVariants as effect
 use Rattle.effect_form.specs.declared.outcomes.Outcome.{Outcome}
 use Rattle.object_history.specs.declared.marks.Mark.{Mark}
-use Rattle.object_history.specs.declared.marks.Mark.TheVariants.{Put, Stretch, Settle}
+use Rattle.object_history.specs.History.{at_put}
 use Rattle.script_meaning.specs.Meaning.{Answer}
 use Rattle.serial_model.specs.Questions.{Tree}
 pub use Rattle.serial_model.specs.Deeds.{Version, Deed, after_deed, after_deeds, set_all}
@@ -78,9 +78,8 @@ marks_at k o = if in_run k o.repository then marks (log_of k o.repository) else 
 
 unfoldable pub puts_of : StampParts → List Mark → List Version → List Version
 puts_of s [] ps = ps
-puts_of s (Put o x v ∷ m) ps = if same_stamp x.stamp s then put_in (record { object = o; start = x; value = v }) (puts_of s m ps) else puts_of s m ps
-puts_of s (Stretch o x ∷ m) ps = puts_of s m ps
-puts_of s (Settle t c ∷ m) ps = puts_of s m ps
+puts_of s (f ∷ m) ps =
+    at_put (λ o x v below. if same_stamp x.stamp s then put_in (record { object = o; start = x; value = v }) below else below) f (puts_of s m ps)
 
 unfoldable pub puts_to : RunLogs → StampParts → ℕ → List Version
 puts_to k s zero = []
@@ -110,9 +109,7 @@ deed k s = deed_of (find s k.tries) (written k s)
 
 unfoldable pub put_stamps : (StampParts → Bool) → List Mark → List StampParts → List StampParts
 put_stamps ok [] ss = ss
-put_stamps ok (Put o x v ∷ m) ss = stamp_if (ok x.stamp) x.stamp (put_stamps ok m ss)
-put_stamps ok (Stretch o x ∷ m) ss = put_stamps ok m ss
-put_stamps ok (Settle t c ∷ m) ss = put_stamps ok m ss
+put_stamps ok (f ∷ m) ss = at_put (λ o x v below. stamp_if (ok x.stamp) x.stamp below) f (put_stamps ok m ss)
 
 unfoldable pub log_stamps : RunLogs → (StampParts → Bool) → ℕ → List StampParts → List StampParts
 log_stamps k ok zero ss = ss
