@@ -36,9 +36,9 @@ use Rattle.broker_core.proofs.DoneLemmas.{knows-of}
 use Rattle.broker_core.proofs.GoodLemmas.{RunIs, counted}
 use Rattle.broker_core.proofs.TurnLemmas.{At, Led, settle-led, knows, state-note, not-later}
 
-send-fresh : (o : Option Out) (d : Desk) → (send o d).fresh ≡ d.fresh
-send-fresh None d = refl
-send-fresh (Some x) d = refl
+send-added : (o : Option Out) (d : Desk) → (send o d).added ≡ d.added
+send-added None d = refl
+send-added (Some x) d = refl
 
 send-heard : (o : Option Out) (d : Desk) → (send o d).heard ≡ d.heard
 send-heard None d = refl
@@ -50,7 +50,7 @@ send-outs (Some x) d e = ap (λ (xs : List Out). xs ++ x ∷ []) e
 
 -- the desk has these effects and messages, and these notes are where the log then leads
 record Leads (script : List ℕ → Tree) (desk : Desk) (added : List Effect) (sent : List Out) (new : BrokerParts) (n : Notes) (answers : List Given) : Type 0 where
-  pub effects : added ≡ reverse desk.fresh
+  pub effects : added ≡ reverse desk.added
   pub outs : sent ≡ desk.outs
   pub heard : new.heard ≡ desk.heard
   pub stands : IsLedTo script new n answers
@@ -70,7 +70,7 @@ module _ (script : List ℕ → Tree) (me run : ℕ) (acts : List ActSpec) where
   run-is f h = tt
 
   -- what follows on a desk
-  finished : Scripted script acts → (log fresh : List Effect) (d : Desk) (h : Heard) (n : Notes) (raw : List Given) → d.base ≡ reverse log → d.outs ≡ [] → d.heard ≡ h → d.fresh ≡ fresh → At script me run acts n raw d →
+  finished : Scripted script acts → (log fresh : List Effect) (d : Desk) (h : Heard) (n : Notes) (raw : List Given) → d.past ≡ reverse log → d.outs ≡ [] → d.heard ≡ h → d.added ≡ fresh → At script me run acts n raw d →
       (l : LedgerParts) (p : Phase) (effects : List Effect) (outs : List Out) → l ≡ record { number = me; run = run; acts = acts; notes = (settled me run acts raw h (most_steps acts) fresh n).1; answers = raw } →
       reverse effects ≡ (settled me run acts raw h (most_steps acts) fresh n).0 → p ≡ phase_in l h → outs ≡ listed (standing_at l.acts l.notes p) →
       Leads script (say script me run (tasks acts) (settle_up script me run (tasks acts) (fuel (tasks acts)) d)) effects outs (parts_of l h (log ++ effects)) l.notes (kept l.notes l.answers)
@@ -78,13 +78,13 @@ module _ (script : List ℕ → Tree) (me run : ℕ) (acts : List ActSpec) where
       let s : Settled = settled me run acts raw h (most_steps acts) fresh n in
       let d2 : Desk = settle_up script me run (tasks acts) (fuel (tasks acts)) d in
       let steps : fuel (tasks acts) ≡ most_steps acts = ap (λ (x : ℕ). 3 * x + 3) (length-map acts task_of) in
-      let led1 : Led script me run acts (settled me run acts raw d.heard (fuel (tasks acts)) d.fresh n) raw d d2 = settle-led script me run acts m (fuel (tasks acts)) n raw d at in
-      let led2 = subst (λ (x : Heard). Led script me run acts (settled me run acts raw x (fuel (tasks acts)) d.fresh n) raw d d2) heard led1 in
+      let led1 : Led script me run acts (settled me run acts raw d.heard (fuel (tasks acts)) d.added n) raw d d2 = settle-led script me run acts m (fuel (tasks acts)) n raw d at in
+      let led2 = subst (λ (x : Heard). Led script me run acts (settled me run acts raw x (fuel (tasks acts)) d.added n) raw d d2) heard led1 in
       let led3 = subst (λ (xs : List Effect). Led script me run acts (settled me run acts raw h (fuel (tasks acts)) xs n) raw d d2) fresh-is led2 in
       let led : Led script me run acts s raw d d2 = subst (λ (k : ℕ). Led script me run acts (settled me run acts raw h k fresh n) raw d d2) steps led3 in
       let o : Option Out = standing (stage script run (state script me run (tasks acts) d2) d2.heard) in
       let l1 : LedgerParts = record { number = me; run = run; acts = acts; notes = s.1; answers = raw } in
-      let back : reverse effects ≡ d2.fresh = effects-are ∙ sym led.fresh in
+      let back : reverse effects ≡ d2.added = effects-are ∙ sym led.added in
       let heard2 : d2.heard ≡ h = led.heard ∙ heard in
       let k : Knows script run acts s.1 (kept s.1 raw) (state script me run (tasks acts) d2) = knows script me run acts m s.1 raw d2 led.at in
       let p1 : p ≡ phase_in l1 h = subst (λ (x : LedgerParts). p ≡ phase_in x h) l-is p-is in
@@ -94,9 +94,9 @@ module _ (script : List ℕ → Tree) (me run : ℕ) (acts : List ActSpec) where
       ∙ (standing-any script run acts s.1 (kept s.1 raw) (state script me run (tasks acts) d2) h k
       ∙ ap (λ (x : Heard). standing (stage script run (state script me run (tasks acts) d2) x)) (sym heard2))) in
       let log-is : all_effects d2 ≡ reverse (log ++ effects) =
-      ap (λ (xs : List Effect). xs ++ d2.base) (sym back) ∙ (ap (λ (xs : List Effect). reverse effects ++ xs) (led.base ∙ base) ∙ sym (reverse-append log effects)) in
+      ap (λ (xs : List Effect). xs ++ d2.past) (sym back) ∙ (ap (λ (xs : List Effect). reverse effects ++ xs) (led.past ∙ base) ∙ sym (reverse-append log effects)) in
       record {
-        effects = sym (reverse-reverse effects) ∙ ap reverse (back ∙ sym (send-fresh o d2));
+        effects = sym (reverse-reverse effects) ∙ ap reverse (back ∙ sym (send-added o d2));
         outs = outs-are ∙ (ap listed stands1 ∙ sym (send-outs o d2 (led.outs ∙ outs-none)));
         heard = sym heard2 ∙ sym (send-heard o d2);
         stands = subst (λ (x : LedgerParts). IsLedTo script (parts_of x h (log ++ effects)) x.notes (kept x.notes x.answers)) (sym l-is) (record {

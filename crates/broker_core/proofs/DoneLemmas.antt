@@ -94,7 +94,7 @@ send-alone : (o : Option Out) (log : List Effect) (h : Heard) → (send o (desk_
 send-alone None log h = refl
 send-alone (Some x) log h = refl
 
-send-quiet : (o : Option Out) (log : List Effect) (h : Heard) → (send o (desk_at log h)).fresh ≡ []
+send-quiet : (o : Option Out) (log : List Effect) (h : Heard) → (send o (desk_at log h)).added ≡ []
 send-quiet None log h = refl
 send-quiet (Some x) log h = refl
 
@@ -102,7 +102,7 @@ send-same : (o : Option Out) (log : List Effect) (h : Heard) → (send o (desk_a
 send-same None log h = refl
 send-same (Some x) log h = refl
 
-still-gives : (b : BrokerParts) (d : Desk) (turn : Turn) (outs : List Out) → d.fresh ≡ [] → d.outs ≡ outs → d.heard ≡ b.heard → turn.effects ≡ [] → turn.outs ≡ outs → Gives d turn b b
+still-gives : (b : BrokerParts) (d : Desk) (turn : Turn) (outs : List Out) → d.added ≡ [] → d.outs ≡ outs → d.heard ≡ b.heard → turn.effects ≡ [] → turn.outs ≡ outs → Gives d turn b b
 still-gives b d turn outs f o h te to = record {
   effects = te ∙ sym (ap reverse f);
   outs = to ∙ sym o;
@@ -111,7 +111,7 @@ still-gives b d turn outs f o h te to = record {
 
 -- a message that is ignored
 pub ignored-gives : (b : BrokerParts) (d : Desk) (turn : Turn) → d ≡ desk_at (reverse b.log) b.heard → turn.effects ≡ [] → turn.outs ≡ [] → Gives d turn b b
-ignored-gives b d turn e none nothing = still-gives b d turn [] (ap (λ (x : Desk). x.fresh) e) (ap (λ (x : Desk). x.outs) e) (ap (λ (x : Desk). x.heard) e) none nothing
+ignored-gives b d turn e none nothing = still-gives b d turn [] (ap (λ (x : Desk). x.added) e) (ap (λ (x : Desk). x.outs) e) (ap (λ (x : Desk). x.heard) e) none nothing
 
 -- a moment that is heard
 pub hear-gives : (script : List ℕ → Tree) (l : LedgerParts) (h : Heard) (p : Phase) (log : List Effect) (b : BrokerParts) (moment : ℕ) (out : Option Out) (turn : Turn) → parts_of l h log ≡ b → IsBroker l h p log →

@@ -96,8 +96,8 @@ module _ (script : List ℕ → Tree) (me run : ℕ) (acts : List ActSpec) where
     pub not_old : (state script me run (tasks acts) d).run ≤ run
 
   pub record Led (s : Settled) (raw : List Given) (d e : Desk) : Type 0 where
-    pub fresh : e.fresh ≡ s.0
-    pub base : e.base ≡ d.base
+    pub added : e.added ≡ s.0
+    pub past : e.past ≡ d.past
     pub outs : e.outs ≡ d.outs
     pub heard : e.heard ≡ d.heard
     pub at : At s.1 raw e
@@ -119,20 +119,20 @@ module _ (script : List ℕ → Tree) (me run : ℕ) (acts : List ActSpec) where
   same-run n raw d a = still n.run (state script me run (tasks acts) d).run a.shows.run_is a.not_old
 
   settle-step : Scripted script acts → (k : ℕ) (n : Notes) (raw : List Given) (d : Desk) →
-      ((n' : Notes) (d' : Desk) → At n' raw d' → Led (settled me run acts raw d'.heard k d'.fresh n') raw d' (settle_up script me run (tasks acts) k d')) →
+      ((n' : Notes) (d' : Desk) → At n' raw d' → Led (settled me run acts raw d'.heard k d'.added n') raw d' (settle_up script me run (tasks acts) k d')) →
       At n raw d → (o : Option Effect) → owed script me run (tasks acts) (state script me run (tasks acts) d) d.heard ≡ o →
-      Led (settle_on me run acts raw d.heard (settled me run acts raw d.heard k) o d.fresh n) raw d (note_if (settle_up script me run (tasks acts) k) o d)
-  settle-step m k n raw d next a None e = record { fresh = refl; base = refl; outs = refl; heard = refl; at = a }
+      Led (settle_on me run acts raw d.heard (settled me run acts raw d.heard k) o d.added n) raw d (note_if (settle_up script me run (tasks acts) k) o d)
+  settle-step m k n raw d next a None e = record { added = refl; past = refl; outs = refl; heard = refl; at = a }
   settle-step m k n raw d next a (Some f) e =
       let l = next (changed acts f n) (note f d) (after-owed m n raw d f a e) in
-      record { fresh = l.fresh; base = l.base; outs = l.outs; heard = l.heard; at = l.at }
+      record { added = l.added; past = l.past; outs = l.outs; heard = l.heard; at = l.at }
 
   pub settle-led : Scripted script acts → (k : ℕ) (n : Notes) (raw : List Given) (d : Desk) → At n raw d →
-      Led (settled me run acts raw d.heard k d.fresh n) raw d (settle_up script me run (tasks acts) k d)
+      Led (settled me run acts raw d.heard k d.added n) raw d (settle_up script me run (tasks acts) k d)
   unfolding settled settle_up
-  settle-led m zero n raw d a = record { fresh = refl; base = refl; outs = refl; heard = refl; at = a }
+  settle-led m zero n raw d a = record { added = refl; past = refl; outs = refl; heard = refl; at = a }
   settle-led m (suc k) n raw d a =
       let b : Book = state script me run (tasks acts) d in
-      subst (λ (o : Option Effect). Led (settle_on me run acts raw d.heard (settled me run acts raw d.heard k) o d.fresh n) raw d (note_if (settle_up script me run (tasks acts) k) (owed script me run (tasks acts) b d.heard) d))
+      subst (λ (o : Option Effect). Led (settle_on me run acts raw d.heard (settled me run acts raw d.heard k) o d.added n) raw d (note_if (settle_up script me run (tasks acts) k) (owed script me run (tasks acts) b d.heard) d))
       (sym (owed-any script run acts me n (kept n raw) b d.heard (knows m n raw d a) (same-run n raw d a)))
       (settle-step m k n raw d (λ n' d' a'. settle-led m k n' raw d' a') a (owed script me run (tasks acts) b d.heard) refl)

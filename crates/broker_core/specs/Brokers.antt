@@ -16,7 +16,7 @@ pub use Rattle.broker_core.specs.Parts.{BrokerParts, opened_broker, book_of}
 
 -- the turn has the effects and the messages of the desk, and the broker goes on from there
 pub record Gives (desk : Desk) (turn : Turn) (old new : BrokerParts) : Type 0 where
-  pub effects : turn.effects ≡ reverse desk.fresh
+  pub effects : turn.effects ≡ reverse desk.added
   pub outs : turn.outs ≡ desk.outs
   pub broker : new ≡ record old { log = old.log ++ turn.effects; heard = desk.heard }
 

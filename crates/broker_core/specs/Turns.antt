@@ -17,19 +17,19 @@ use Rattle.broker_core.specs.Owed.{owed}
 
 -- a broker at work: its log, its new effects (newest first), its new messages (oldest first), and what it heard
 pub record Desk : Type 0 where
-  pub base : List Effect
-  pub fresh : List Effect
+  pub past : List Effect
+  pub added : List Effect
   pub outs : List Out
   pub heard : Heard
 
 abbrev pub desk_at : List Effect → Heard → Desk
-desk_at log h = record { base = log; fresh = []; outs = []; heard = h }
+desk_at log h = record { past = log; added = []; outs = []; heard = h }
 
 abbrev pub all_effects : Desk → List Effect
-all_effects d = d.fresh ++ d.base
+all_effects d = d.added ++ d.past
 
 abbrev pub note : Effect → Desk → Desk
-note f d = record d { fresh = f ∷ d.fresh }
+note f d = record d { added = f ∷ d.added }
 
 abbrev pub hears : Heard → Desk → Desk
 hears h d = record d { heard = h }

@@ -268,12 +268,12 @@ module _ (script : List ℕ → Tree) (me run : ℕ) (acts : List Task) where
         (stage-ok script me run acts b d.heard) (news-came script me run acts ever m (from, h))) (λ f e. row-in-run b d.heard (news m) f e) k
 
   -- a try stays the same try through any growth by what counts
-  pub later-through : (log fresh : List Effect) (s : StampParts) (t : Try) → Grew (Joins script me run acts) log fresh → (counted script me run acts log).run ≡ run → find s (own_tries script me run acts log) ≡ Some t →
-      ((counted script me run acts (fresh ++ log)).run ≡ run) × ((u : Try) × (find s (own_tries script me run acts (fresh ++ log)) ≡ Some u) × IsLater t u)
+  pub later-through : (log added : List Effect) (s : StampParts) (t : Try) → Grew (Joins script me run acts) log added → (counted script me run acts log).run ≡ run → find s (own_tries script me run acts log) ≡ Some t →
+      ((counted script me run acts (added ++ log)).run ≡ run) × ((u : Try) × (find s (own_tries script me run acts (added ++ log)) ≡ Some u) × IsLater t u)
   later-through log [] s t g r h = (r, (t, h, record { task = refl; stamp = refl; answers = ([], sym (append-nil t.answers)); ended = λ o e. e }))
-  later-through log (f ∷ fresh) s t g r h =
-      let one = later-through log fresh s t g.0 r h in
-      let two = later-on (fresh ++ log) f s one.1.0 g.1 one.0 one.1.1 in
+  later-through log (f ∷ added) s t g r h =
+      let one = later-through log added s t g.0 r h in
+      let two = later-on (added ++ log) f s one.1.0 g.1 one.0 one.1.1 in
       (two.0, (two.1.0, two.1.1, later-later t one.1.0 two.1.0 one.1.2 two.1.2))
     where
       later-later : (a b c : Try) → IsLater a b → IsLater b c → IsLater a c

@@ -362,7 +362,7 @@ module _ (script : List ℕ → Tree) (me run : ℕ) (acts : List Task) where
     Turn d = TurnHolds script me run acts ever d
 
     tidy-whole : (d : Desk) → Turn d → IsTidy script me (all_effects d)
-    tidy-whole d k = grown script me d.base d.fresh k.desk.tidy k.desk.grew
+    tidy-whole d k = grown script me d.past d.added k.desk.tidy k.desk.grew
 
     whole-kept : (d : Desk) → Turn d → keep script me run acts (all_effects d) ≡ all_effects d
     whole-kept d k = kept script me run acts (all_effects d) (tidy-whole d k) k.ready.same_plan

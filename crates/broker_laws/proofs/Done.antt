@@ -189,7 +189,7 @@ module _ (script : List ℕ → Tree) (me : ℕ) where
         standing (stage script run (state script me run acts d) d.heard) ≡ None → done script run acts (state script me run acts d) d.heard ≡ true
     unfolding AllDone
     rested-done ever d k r s =
-        let tidy : IsTidy script me (all_effects d) = grown script me d.base d.fresh k.desk.tidy k.desk.grew in
+        let tidy : IsTidy script me (all_effects d) = grown script me d.past d.added k.desk.tidy k.desk.grew in
         let e : Rattle.broker_core.specs.Fits.keep script me run acts (all_effects d) ≡ all_effects d = kept script me run acts (all_effects d) tidy k.ready.same_plan in
         let b : Book = state script me run acts d in
         let w = ran b d.heard r in

@@ -253,17 +253,17 @@ module _ (script : List ℕ → Tree) (me : ℕ) where
   post-kept log f to m tidy fits h = post-moved (moved (book log) f (clocks log tidy) fits) to m h
 
   -- growth
-  pub grown : (log fresh : List Effect) → IsTidy script me log → Grew (FitsLog script me) log fresh → IsTidy script me (fresh ++ log)
+  pub grown : (log added : List Effect) → IsTidy script me log → Grew (FitsLog script me) log added → IsTidy script me (added ++ log)
   grown log [] t g = t
-  grown log (f ∷ fresh) t g = (grown log fresh t g.0, g.1)
+  grown log (f ∷ added) t g = (grown log added t g.0, g.1)
 
-  pub post-grown : (log fresh : List Effect) (to : NodeId) (m : Message) → IsTidy script me log → Grew (FitsLog script me) log fresh →
-      PostHolds script me (tries (book log)) to m → PostHolds script me (tries (book (fresh ++ log))) to m
+  pub post-grown : (log added : List Effect) (to : NodeId) (m : Message) → IsTidy script me log → Grew (FitsLog script me) log added →
+      PostHolds script me (tries (book log)) to m → PostHolds script me (tries (book (added ++ log))) to m
   post-grown log [] to m t g h = h
-  post-grown log (f ∷ fresh) to m t g h =
-      post-kept (fresh ++ log) f to m (grown log fresh t g.0) g.1 (post-grown log fresh to m t g.0 h)
+  post-grown log (f ∷ added) to m t g h =
+      post-kept (added ++ log) f to m (grown log added t g.0) g.1 (post-grown log added to m t g.0 h)
 
   -- a crash keeps the older part
-  pub cut : (log late fresh : List Effect) → Grew (FitsLog script me) log (late ++ fresh) → Grew (FitsLog script me) log fresh
-  cut log [] fresh g = g
-  cut log (f ∷ late) fresh g = cut log late fresh g.0
+  pub cut : (log late added : List Effect) → Grew (FitsLog script me) log (late ++ added) → Grew (FitsLog script me) log added
+  cut log [] added g = g
+  cut log (f ∷ late) added g = cut log late added g.0

@@ -487,7 +487,7 @@ module _ (script : List ℕ → Tree) (me : ℕ) where
     unfolding alone
     new-request ever d from m k n o e w =
         let b : Book = state script me run acts d in
-        let tidy : IsTidy script me (all_effects d) = grown script me d.base d.fresh k.desk.tidy k.desk.grew in
+        let tidy : IsTidy script me (all_effects d) = grown script me d.past d.added k.desk.tidy k.desk.grew in
         let eq : keep script me run acts (all_effects d) ≡ all_effects d = kept script me run acts (all_effects d) tidy k.ready.same_plan in
         let c : Clocks me b = subst (λ l. Clocks me (book l)) (sym eq) (clocks script me (all_effects d) tidy) in
         let st : Stage = stage script run b d.heard in

@@ -17,16 +17,16 @@ use Rattle.serial_model.specs.Questions.{Tree}
 
 module _ (script : List ℕ → Tree) (me run : ℕ) (acts : List Task) where
   -- x began at the whole log of d
-  same-state : (d x : Desk) → x.base ≡ all_effects d → state script me run acts (joined d x) ≡ state script me run acts x
+  same-state : (d x : Desk) → x.past ≡ all_effects d → state script me run acts (joined d x) ≡ state script me run acts x
   same-state d x b =
-      ap (λ l. book (keep script me run acts l)) (append_assoc x.fresh d.fresh d.base ∙ ap (λ l. x.fresh ++ l) (sym b))
+      ap (λ l. book (keep script me run acts l)) (append_assoc x.added d.added d.past ∙ ap (λ l. x.added ++ l) (sym b))
 
-  settle-base : (n : ℕ) (x : Desk) → (settle_up script me run acts n x).base ≡ x.base
+  settle-past : (n : ℕ) (x : Desk) → (settle_up script me run acts n x).past ≡ x.past
   unfolding settle_up
-  settle-base zero x = refl
-  settle-base (suc n) x = by (owed script me run acts (state script me run acts x) x.heard) (λ y. settle-base n y)
+  settle-past zero x = refl
+  settle-past (suc n) x = by (owed script me run acts (state script me run acts x) x.heard) (λ y. settle-past n y)
     where
-      by : (o : Option Effect) → ((y : Desk) → (settle_up script me run acts n y).base ≡ y.base) → (note_if (settle_up script me run acts n) o x).base ≡ x.base
+      by : (o : Option Effect) → ((y : Desk) → (settle_up script me run acts n y).past ≡ y.past) → (note_if (settle_up script me run acts n) o x).past ≡ x.past
       by None k = refl
       by (Some f) k = k (note f x)
 
@@ -35,7 +35,7 @@ module _ (script : List ℕ → Tree) (me run : ℕ) (acts : List Task) where
   joined-if next d x None k = refl
   joined-if next d x (Some f) k = k f
 
-  settle-joined : (n : ℕ) (d x : Desk) → x.base ≡ all_effects d → settle_up script me run acts n (joined d x) ≡ joined d (settle_up script me run acts n x)
+  settle-joined : (n : ℕ) (d x : Desk) → x.past ≡ all_effects d → settle_up script me run acts n (joined d x) ≡ joined d (settle_up script me run acts n x)
   unfolding settle_up
   settle-joined zero d x b = refl
   settle-joined (suc n) d x b =
@@ -47,25 +47,25 @@ module _ (script : List ℕ → Tree) (me run : ℕ) (acts : List Task) where
   send-joined : (d x : Desk) (o : Option Out) → send o (joined d x) ≡ joined d (send o x)
   send-joined d x None = refl
   send-joined d x (Some o) =
-      ap (λ os. record { base = d.base; fresh = x.fresh ++ d.fresh; outs = os; heard = x.heard }) (append_assoc d.outs x.outs (o ∷ []))
+      ap (λ os. record { past = d.past; added = x.added ++ d.added; outs = os; heard = x.heard }) (append_assoc d.outs x.outs (o ∷ []))
 
-  say-joined : (d x : Desk) → x.base ≡ all_effects d → say script me run acts (joined d x) ≡ joined d (say script me run acts x)
+  say-joined : (d x : Desk) → x.past ≡ all_effects d → say script me run acts (joined d x) ≡ joined d (say script me run acts x)
   say-joined d x b =
       subst (λ s. send (standing (stage script run s x.heard)) (joined d x) ≡ joined d (say script me run acts x))
       (sym (same-state d x b)) (send-joined d x _)
 
-  both-joined : (d x : Desk) → x.base ≡ all_effects d →
+  both-joined : (d x : Desk) → x.past ≡ all_effects d →
       say script me run acts (settle_up script me run acts (fuel acts) (joined d x)) ≡ joined d (say script me run acts (settle_up script me run acts (fuel acts) x))
   both-joined d x b =
       subst (λ y. say script me run acts y ≡ joined d (say script me run acts (settle_up script me run acts (fuel acts) x)))
       (sym (settle-joined (fuel acts) d x b))
-      (say-joined d (settle_up script me run acts (fuel acts) x) (settle-base (fuel acts) x ∙ b))
+      (say-joined d (settle_up script me run acts (fuel acts) x) (settle-past (fuel acts) x ∙ b))
 
-  same-outs : (d : Desk) (h : Heard) → record { base = d.base; fresh = d.fresh; outs = d.outs; heard = h } ≡ joined d (record { base = all_effects d; fresh = []; outs = []; heard = h })
-  same-outs d h = ap (λ os. record { base = d.base; fresh = d.fresh; outs = os; heard = h }) (sym (append-nil d.outs))
+  same-outs : (d : Desk) (h : Heard) → record { past = d.past; added = d.added; outs = d.outs; heard = h } ≡ joined d (record { past = all_effects d; added = []; outs = []; heard = h })
+  same-outs d h = ap (λ os. record { past = d.past; added = d.added; outs = os; heard = h }) (sym (append-nil d.outs))
 
   added-outs : (d : Desk) (f : Effect) → note f d ≡ joined d (note f (afresh d))
-  added-outs d f = ap (λ os. record { base = d.base; fresh = f ∷ d.fresh; outs = os; heard = d.heard }) (sym (append-nil d.outs))
+  added-outs d f = ap (λ os. record { past = d.past; added = f ∷ d.added; outs = os; heard = d.heard }) (sym (append-nil d.outs))
 
   reply-joined : (d : Desk) (r : Reply) → reply script me run acts d r ≡ joined d (reply script me run acts (afresh d) r)
   reply-joined d Ignored = same-outs d d.heard

@@ -72,53 +72,53 @@ module _ (script : List ℕ → Tree) (me : ℕ) where
     effs-cut ever (f ∷ late) log h = effs-cut ever late log h.0
 
     pub opened-ok : (ever : List Post) (log : List Effect) → IsTidy script me log → HaveCauses me ever log → IsReady script me run acts log →
-        TurnHolds script me run acts ever (record { base = log; fresh = []; outs = []; heard = nothing_heard })
+        TurnHolds script me run acts ever (record { past = log; added = []; outs = []; heard = nothing_heard })
     opened-ok ever log t v r = record { desk = record { tidy = t; grew = tt; causes = v; outs = tt }; ready = r }
 
     none-below : (n : ℕ) → nat_lt n 0 ≡ false
     none-below n = grind (arith, common_steps)
 
-    pub blank-ok : (ever : List Post) → TurnHolds script me run acts ever (record { base = []; fresh = []; outs = []; heard = nothing_heard })
+    pub blank-ok : (ever : List Post) → TurnHolds script me run acts ever (record { past = []; added = []; outs = []; heard = nothing_heard })
     unfolding other_plan keep book
     blank-ok ever = opened-ok ever [] tt tt (record { not_old = none-below run; same_plan = refl })
 
     -- gate and crash
     pub gate-ok : (ever : List Post) (d : Desk) → TurnHolds script me run acts ever d → TurnHolds script me run acts ever (gate d)
     gate-ok ever d k = record {
-      desk = record { tidy = grown script me d.base d.fresh k.desk.tidy k.desk.grew; grew = tt; causes = k.desk.causes; outs = tt };
+      desk = record { tidy = grown script me d.past d.added k.desk.tidy k.desk.grew; grew = tt; causes = k.desk.causes; outs = tt };
       ready = k.ready;
     }
 
     pub crash-ok : (ever : List Post) (kept : ℕ) (d : Desk) → TurnHolds script me run acts ever d → TurnHolds script me run acts ever (crash kept d)
     crash-ok ever kept d k =
-        let n : ℕ = length d.fresh - kept in
-        let split : take n d.fresh ++ drop n d.fresh ≡ d.fresh = take-append-drop n d.fresh in
-        let g : Grew (FitsLog script me) d.base (drop n d.fresh) =
-        cut script me d.base (take n d.fresh) (drop n d.fresh) (subst (λ xs. Grew (FitsLog script me) d.base xs) (sym split) k.desk.grew) in
-        let all : d.fresh ++ d.base ≡ take n d.fresh ++ (drop n d.fresh ++ d.base) =
-        ap (λ xs. xs ++ d.base) (sym split) ∙ append_assoc (take n d.fresh) (drop n d.fresh) d.base in
+        let n : ℕ = length d.added - kept in
+        let split : take n d.added ++ drop n d.added ≡ d.added = take-append-drop n d.added in
+        let g : Grew (FitsLog script me) d.past (drop n d.added) =
+        cut script me d.past (take n d.added) (drop n d.added) (subst (λ xs. Grew (FitsLog script me) d.past xs) (sym split) k.desk.grew) in
+        let all : d.added ++ d.past ≡ take n d.added ++ (drop n d.added ++ d.past) =
+        ap (λ xs. xs ++ d.past) (sym split) ∙ append_assoc (take n d.added) (drop n d.added) d.past in
         record {
           desk = record {
-            tidy = grown script me d.base (drop n d.fresh) k.desk.tidy g;
+            tidy = grown script me d.past (drop n d.added) k.desk.tidy g;
             grew = tt;
-            causes = effs-cut ever (take n d.fresh) _ (subst (λ xs. HaveCauses me ever xs) all k.desk.causes);
+            causes = effs-cut ever (take n d.added) _ (subst (λ xs. HaveCauses me ever xs) all k.desk.causes);
             outs = tt;
           };
-          ready = ready-cut (take n d.fresh) _
-              (subst (λ xs. IsTidy script me xs) all (grown script me d.base d.fresh k.desk.tidy k.desk.grew))
+          ready = ready-cut (take n d.added) _
+              (subst (λ xs. IsTidy script me xs) all (grown script me d.past d.added k.desk.tidy k.desk.grew))
               (subst (λ xs. IsReady script me run acts xs) all k.ready);
         }
 
     -- a turn over any log: what it adds counts
     added-refl : (d : Desk) → Added script me run acts d d
-    added-refl d = record { base = refl; more = []; fresh = refl; count = refl }
+    added-refl d = record { past = refl; more = []; added = refl; count = refl }
 
     added-one : (d x : Desk) (f : Effect) → keep script me run acts (all_effects (note f d)) ≡ f ∷ keep script me run acts (all_effects d) →
         Added script me run acts (note f d) x → Added script me run acts d x
     added-one d x f e h = record {
-      base = h.base;
+      past = h.past;
       more = h.more ++ (f ∷ []);
-      fresh = h.fresh ∙ sym (append_assoc h.more (f ∷ []) d.fresh);
+      added = h.added ∙ sym (append_assoc h.more (f ∷ []) d.added);
       count = h.count ∙ ap (λ l. h.more ++ l) e ∙ sym (append_assoc h.more (f ∷ []) (keep script me run acts (all_effects d)));
     }
 
@@ -135,10 +135,10 @@ module _ (script : List ℕ → Tree) (me : ℕ) where
 
     send-added : (d x : Desk) (o : Option Out) → Added script me run acts d x → Added script me run acts d (send o x)
     send-added d x None h = h
-    send-added d x (Some o) h = record { base = h.base; more = h.more; fresh = h.fresh; count = h.count }
+    send-added d x (Some o) h = record { past = h.past; more = h.more; added = h.added; count = h.count }
 
     hears-added : (d x : Desk) (h : Heard) → Added script me run acts (hears h d) x → Added script me run acts d x
-    hears-added d x h k = record { base = k.base; more = k.more; fresh = k.fresh; count = k.count }
+    hears-added d x h k = record { past = k.past; more = k.more; added = k.added; count = k.count }
 
     say-added : (d : Desk) → Added script me run acts d (say script me run acts (settle_up script me run acts (fuel acts) d))
     say-added d = send-added d _ _ (settle-added (fuel acts) d)

@@ -33,6 +33,6 @@ module _ (script : List ℕ → Tree) (me run : ℕ) (acts : List Task) (ever : 
       OutSound run (BegunCame me ever) (DecidedCame me ever) (state script me run acts d) o.message
   standing-waits d o w e = standing-sound script me run acts (BegunCame me ever) (DecidedCame me ever) d o w e
 
-  pub empty-waits : Waits script me run acts ever (record { base = []; fresh = []; outs = []; heard = nothing_heard })
+  pub empty-waits : Waits script me run acts ever (record { past = []; added = []; outs = []; heard = nothing_heard })
   unfolding keep book
   empty-waits = record { past = refl; early = λ e. refl; trail = tt; settled = tt; started = tt; ended = refl; begun = λ s e. absurd (cc e); closed = λ s e. absurd (cc e) }

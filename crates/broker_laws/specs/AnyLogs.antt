@@ -39,6 +39,6 @@ module _ (script : List ℕ → Tree) (me run : ℕ) (acts : List Task) where
 
   -- each new effect counts and has its cause, and each message of the turn says what holds
   pub record GoesOn (ever : List Post) (d : Desk) : Type 0 where
-    pub joins : Grew Joins d.base d.fresh
-    pub rests : Grew (Rests ever) d.base d.fresh
+    pub joins : Grew Joins d.past d.added
+    pub rests : Grew (Rests ever) d.past d.added
     pub outs : Every (λ o. Says (all_effects d) o.to o.message) d.outs

@@ -19,24 +19,24 @@ use Rattle.broker_laws.specs.Posts.{PostHolds, HaveCauses}
 
 -- its log grows by effects that fit, each with its cause, and each open message says what holds
 pub record DeskHolds (script : List ℕ → Tree) (me : ℕ) (ever : List Post) (d : Desk) : Type 0 where
-  pub tidy : IsTidy script me d.base
-  pub grew : Grew (FitsLog script me) d.base d.fresh
+  pub tidy : IsTidy script me d.past
+  pub grew : Grew (FitsLog script me) d.past d.added
   pub causes : HaveCauses me ever (all_effects d)
   pub outs : Every (λ o. PostHolds script me (tries (book (all_effects d))) o.to o.message) d.outs
 
 -- the new effects are durable, and the open messages leave
 abbrev pub gate : Desk → Desk
-gate d = record { base = all_effects d; fresh = []; outs = []; heard = d.heard }
+gate d = record { past = all_effects d; added = []; outs = []; heard = d.heard }
 
 -- the first `kept` new effects were found
 abbrev pub crash : ℕ → Desk → Desk
-crash kept d = record { base = drop (length d.fresh - kept) d.fresh ++ d.base; fresh = []; outs = []; heard = nothing_heard }
+crash kept d = record { past = drop (length d.added - kept) d.added ++ d.past; added = []; outs = []; heard = nothing_heard }
 
 -- one is the other with more new effects, and all of these count
 pub record Added (script : List ℕ → Tree) (me run : ℕ) (acts : List Task) (old new : Desk) : Type 0 where
-  pub base : new.base ≡ old.base
+  pub past : new.past ≡ old.past
   pub more : List Effect
-  pub fresh : new.fresh ≡ more ++ old.fresh
+  pub added : new.added ≡ more ++ old.added
   pub count : keep script me run acts (all_effects new) ≡ more ++ keep script me run acts (all_effects old)
 
 -- what a turn needs and keeps
@@ -61,12 +61,12 @@ MayInput me ever (Take from m) = WasSent ever from (broker me) m
 
 -- a turn begins with nothing new, over the whole log
 abbrev pub afresh : Desk → Desk
-afresh d = record { base = all_effects d; fresh = []; outs = []; heard = d.heard }
+afresh d = record { past = all_effects d; added = []; outs = []; heard = d.heard }
 
 -- what a turn gave is added
 abbrev pub joined : Desk → Desk → Desk
-joined d x = record { base = d.base; fresh = x.fresh ++ d.fresh; outs = d.outs ++ x.outs; heard = x.heard }
+joined d x = record { past = d.past; added = x.added ++ d.added; outs = d.outs ++ x.outs; heard = x.heard }
 
 -- it is ready with any beginning of its new effects
 abbrev pub AlwaysReady : (List ℕ → Tree) → ℕ → ℕ → List Task → Desk → Type 0
-AlwaysReady script me run acts d = (n : ℕ) → IsReady script me run acts (drop n d.fresh ++ d.base)
+AlwaysReady script me run acts d = (n : ℕ) → IsReady script me run acts (drop n d.added ++ d.past)

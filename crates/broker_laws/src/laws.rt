@@ -39,8 +39,8 @@ pub fn messages_stay_true()
         (u : Try) × (find s (tries (book (f ∷ log))) ≡ Some u) × IsLater t u }
     ensures kept { (script : List ℕ → Tree) (me : ℕ) (log : List Effect) (f : Effect) (to : NodeId) (m : Message) →
         IsTidy script me log → FitsBook script me (book log) f → PostHolds script me (tries (book log)) to m → PostHolds script me (tries (book (f ∷ log))) to m }
-    ensures grown { (script : List ℕ → Tree) (me : ℕ) (log fresh : List Effect) (to : NodeId) (m : Message) →
-        IsTidy script me log → Grew (FitsLog script me) log fresh → PostHolds script me (tries (book log)) to m → PostHolds script me (tries (book (fresh ++ log))) to m }
+    ensures grown { (script : List ℕ → Tree) (me : ℕ) (log added : List Effect) (to : NodeId) (m : Message) →
+        IsTidy script me log → Grew (FitsLog script me) log added → PostHolds script me (tries (book log)) to m → PostHolds script me (tries (book (added ++ log))) to m }
 {}
 
 /// All Reads and Writes that a broker sends with one pseudotime are equal.

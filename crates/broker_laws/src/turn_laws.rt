@@ -58,9 +58,9 @@ pub fn nothing_stays_owed()
 pub fn opened_brokers()
     ensures any { (script : List ℕ → Tree) (me run : ℕ) (acts : List Task) (ever : List Post) (log : List Effect) →
         IsTidy script me log → HaveCauses me ever log → IsReady script me run acts log →
-        TurnHolds script me run acts ever (record { base = log; fresh = []; outs = []; heard = nothing_heard }) }
+        TurnHolds script me run acts ever (record { past = log; added = []; outs = []; heard = nothing_heard }) }
     ensures empty { (script : List ℕ → Tree) (me run : ℕ) (acts : List Task) (ever : List Post) →
-        TurnHolds script me run acts ever (record { base = []; fresh = []; outs = []; heard = nothing_heard }) }
+        TurnHolds script me run acts ever (record { past = []; added = []; outs = []; heard = nothing_heard }) }
 {}
 
 /// Where nothing is owed and no request is outstanding, each act has its outcome.
@@ -101,7 +101,7 @@ pub fn brokers_ask_nobody()
 /// it has come, a request of a try stands only after a Begun or a Decided of its stamp has come, and a
 /// Withdraw only after the try has its End.
 pub fn requests_wait_for_answers()
-    ensures empty { (script : List ℕ → Tree) (me run : ℕ) (acts : List Task) (ever : List Post) → Waits script me run acts ever (record { base = []; fresh = []; outs = []; heard = nothing_heard }) }
+    ensures empty { (script : List ℕ → Tree) (me run : ℕ) (acts : List Task) (ever : List Post) → Waits script me run acts ever (record { past = []; added = []; outs = []; heard = nothing_heard }) }
     ensures turn { (script : List ℕ → Tree) (me run : ℕ) (acts : List Task) (ever : List Post) (d : Desk) (i : Input) →
         MayInput me ever i → IsCalm i → Waits script me run acts ever d → Waits script me run acts ever (desk_turn script me run acts d i) }
     ensures standing { (script : List ℕ → Tree) (me run : ℕ) (acts : List Task) (ever : List Post) (d : Desk) (o : Out) → Waits script me run acts ever d →

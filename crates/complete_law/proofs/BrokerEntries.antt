@@ -213,11 +213,11 @@ module _ (b : Base) (w w' : World) (n : ℕ) (d : Desk) (from0 : NodeId) (m0 : M
   abbrev Ended : StampParts → List Effect → Type 0
   Ended s l = (t : Try) × (find s (tries (book l)) ≡ Some t) × (is_none t.end ≡ false)
 
-  module _ (base-is : d.base ≡ log_of w (broker n)) (tidy : IsTidy b.script n d.base) (grew : Grew (FitsLog b.script n) d.base d.fresh) (sound : DeskSound b.script n b.run (tasks_of b n) (IsBegun w) (IsDecided w) d)
+  module _ (base-is : d.past ≡ log_of w (broker n)) (tidy : IsTidy b.script n d.past) (grew : Grew (FitsLog b.script n) d.past d.added) (sound : DeskSound b.script n b.run (tasks_of b n) (IsBegun w) (IsDecided w) d)
       (counts : state b.script n b.run (tasks_of b n) d ≡ book (desks.all_effects d)) where
     ended-more : (s : StampParts) (i : ℕ) → Ended s (log_of w (broker i)) → Ended s (log_of w' (broker i))
     ended-more s = for-brokers (λ i l h. Ended s (log_of w (broker i)) → Ended s l)
-        (λ e. found-ended b.script n d.base d.fresh s e.0 tidy grew (subst (λ l. find s (tries (book l)) ≡ Some e.0) (sym base-is) e.1) e.2)
+        (λ e. found-ended b.script n d.past d.added s e.0 tidy grew (subst (λ l. find s (tries (book l)) ≡ Some e.0) (sym base-is) e.1) e.2)
         (λ i o e. e)
 
     said-more : (i : ℕ) (m : Message) → SaidOf b w i m → SaidOf b w' i m

@@ -155,7 +155,7 @@ module _ (b : Base) (w : World) (calm : CalmWorld b w) (f : Refines (node_turns 
     turn1 = desk-ok b.script n b.run (tasks_of b n) (sent_by w) d0 (desks.Take from0 m0) turn0 was-sent
 
     counted : (x : Desk) → TurnHolds b.script n b.run (tasks_of b n) (sent_by w) x → state b.script n b.run (tasks_of b n) x ≡ book (desks.all_effects x)
-    counted x t = ap book (kept b.script n b.run (tasks_of b n) (desks.all_effects x) (grown b.script n x.base x.fresh t.desk.tidy t.desk.grew) t.ready.same_plan)
+    counted x t = ap book (kept b.script n b.run (tasks_of b n) (desks.all_effects x) (grown b.script n x.past x.added t.desk.tidy t.desk.grew) t.ready.same_plan)
 
     gated-known : reverse (logs_at (λ n. []) w (broker n)) ≡ reverse (w.life (broker n)).gated
     gated-known = ap (λ c. reverse (if c then (w.life (broker n)).gated else [])) mine
@@ -205,7 +205,7 @@ module _ (b : Base) (w : World) (calm : CalmWorld b w) (f : Refines (node_turns 
       untaken = untaken1;
       rested = moved-rested b w w' n d from0 m0 take-moved calm log-there (turn-rests b.script n b.run (tasks_of b n) d0 (desks.Take from0 m0) (calm.rested n gone));
       sound = moved-sound b w w' n d from0 m0 take-moved calm log-there sound1;
-      said = moved-said b w w' n d from0 m0 take-moved calm log-there ((turn-added b.script n b.run (tasks_of b n) d0 (desks.Take from0 m0)).base) turn1.desk.tidy turn1.desk.grew sound1 (counted d turn1)
+      said = moved-said b w w' n d from0 m0 take-moved calm log-there ((turn-added b.script n b.run (tasks_of b n) d0 (desks.Take from0 m0)).past) turn1.desk.tidy turn1.desk.grew sound1 (counted d turn1)
           (λ o h. take-stands b.script n b.run (tasks_of b n) (IsBegun w) (IsDecided w) d0 from0 m0 o refl h);
       placed = moved-placed b w w' n d from0 m0 take-moved calm log-there placed1;
       waits = moved-waits b w w' n d from0 m0 take-moved calm log-there;
@@ -268,7 +268,7 @@ module _ (b : Base) (w : World) (calm : CalmWorld b w) (f : Refines (node_turns 
     g-turn1 = desk-ok b.script n b.run (tasks_of b n) (sent_by w) g0 desks.Go g-turn0 tt
 
     g-counted : state b.script n b.run (tasks_of b n) gd ≡ book (desks.all_effects gd)
-    g-counted = ap book (kept b.script n b.run (tasks_of b n) (desks.all_effects gd) (grown b.script n gd.base gd.fresh g-turn1.desk.tidy g-turn1.desk.grew) g-turn1.ready.same_plan)
+    g-counted = ap book (kept b.script n b.run (tasks_of b n) (desks.all_effects gd) (grown b.script n gd.past gd.added g-turn1.desk.tidy g-turn1.desk.grew) g-turn1.ready.same_plan)
 
     g-sound : DeskSound b.script n b.run (tasks_of b n) (IsBegun w) (IsDecided w) gd
     g-sound = go-sound b.script n b.run (tasks_of b n) (IsBegun w) (IsDecided w) g0 (calm.sound n)
@@ -285,7 +285,7 @@ module _ (b : Base) (w : World) (calm : CalmWorld b w) (f : Refines (node_turns 
       untaken = calm.untaken;
       rested = moved-rested b w gw n gd (broker n) nowhere go-moved calm g-log (go-rests b.script n b.run (tasks_of b n) g0);
       sound = moved-sound b w gw n gd (broker n) nowhere go-moved calm g-log g-sound;
-      said = moved-said b w gw n gd (broker n) nowhere go-moved calm g-log ((turn-added b.script n b.run (tasks_of b n) g0 desks.Go).base) g-turn1.desk.tidy g-turn1.desk.grew g-sound g-counted
+      said = moved-said b w gw n gd (broker n) nowhere go-moved calm g-log ((turn-added b.script n b.run (tasks_of b n) g0 desks.Go).past) g-turn1.desk.tidy g-turn1.desk.grew g-sound g-counted
           (λ o h. go-stands b.script n b.run (tasks_of b n) (IsBegun w) (IsDecided w) g0 o refl h);
       placed = moved-placed b w gw n gd (broker n) nowhere go-moved calm g-log
           (λ o g e. owed-placed b w gw n gd (broker n) nowhere go-moved calm g-log o (go-says b.script n b.run (tasks_of b n) (IsBegun w) (IsDecided w) g0 o e));

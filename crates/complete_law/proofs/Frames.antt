@@ -24,7 +24,7 @@ module _ (b : Base) where
   turned w n i = desks.desk_turn b.script n b.run (tasks_of b n) (desk_of b w n) i
 
   abbrev pub life-with : Life → Desk → Life
-  life-with l d = record { gated = l.gated; fresh = l.fresh ++ reverse d.fresh; outs = l.outs ++ d.outs; mind = record { hands = l.mind.hands; heard = d.heard } }
+  life-with l d = record { gated = l.gated; fresh = l.fresh ++ reverse d.added; outs = l.outs ++ d.outs; mind = record { hands = l.mind.hands; heard = d.heard } }
 
   pub takes : (w : World) (n : ℕ) (from : NodeId) (m : Message) → after_input b (broker n) (w.life (broker n)) (Taking from m) ≡ life-with (w.life (broker n)) (turned w n (desks.Take from m))
   unfolding gives
@@ -40,5 +40,5 @@ module _ (b : Base) where
   desk-after w n i =
       let l : Life = w.life (broker n) in
       let d : Desk = turned w n i in
-      let base : d.base ≡ log_of w (broker n) = (turn-added b.script n b.run (tasks_of b n) (desk_of b w n) i).base in
-      (grown-log l.gated l.fresh d.fresh ∙ ap (λ z. d.fresh ++ z) (sym base), refl)
+      let base : d.past ≡ log_of w (broker n) = (turn-added b.script n b.run (tasks_of b n) (desk_of b w n) i).past in
+      (grown-log l.gated l.fresh d.added ∙ ap (λ z. d.added ++ z) (sym base), refl)

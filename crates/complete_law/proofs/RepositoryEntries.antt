@@ -45,7 +45,7 @@ use Rattle.complete_law.proofs.Places.{log_of, held_of, IsBegun, IsDecided, Flyi
 
 -- a life after a repository's turn
 abbrev pub life-hand : Life → Hand → Life
-life-hand l h = record { gated = l.gated; fresh = l.fresh ++ reverse h.fresh; outs = l.outs ++ h.outs; mind = record { hands = mind_of h; heard = l.mind.heard } }
+life-hand l h = record { gated = l.gated; fresh = l.fresh ++ reverse h.added; outs = l.outs ++ h.outs; mind = record { hands = mind_of h; heard = l.mind.heard } }
 
 -- one repository's turn: `h` is its hand after it, and of a message that it took `Taken` holds
 pub record Turned (w w' : World) (n : ℕ) (h : Hand) (Taken : Post → Type 0) : Type 0 where
@@ -62,7 +62,7 @@ pub record Turned (w w' : World) (n : ℕ) (h : Hand) (Taken : Post → Type 0) 
   pub copies : (k : ℕ) (s : Sending) → numbered w.sendings k ≡ Some s → times_taken w k ≡ 0 → (times_taken w' k ≡ 0) ⊎ Taken s.post
   pub untaken : (k : ℕ) → numbered w'.sendings k ≡ None → times_taken w' k ≡ 0
   -- the hand's log is the log with its effects
-  pub base : h.base ≡ log_of w (repository n)
+  pub past : h.past ≡ log_of w (repository n)
   pub number : h.number ≡ n
 
 message-same : (x y : Out) → Some x ≡ Some y → x.message ≡ y.message
@@ -88,8 +88,8 @@ module _ (b : Base) (w w' : World) (n : ℕ) (h : Hand) (Taken : Post → Type 0
   pub log-here : log_of w' (repository n) ≡ now h
   log-here =
       let l : Life = w.life (repository n) in
-      ap (λ (x : Life). reverse (all_effects x)) mv.here ∙ ap reverse (sym (append_assoc l.gated l.fresh (reverse h.fresh))) ∙ reverse-append (l.gated ++ l.fresh) (reverse h.fresh)
-      ∙ ap (λ z. z ++ reverse (l.gated ++ l.fresh)) (reverse-reverse h.fresh) ∙ ap (λ z. h.fresh ++ z) (sym mv.base)
+      ap (λ (x : Life). reverse (all_effects x)) mv.here ∙ ap reverse (sym (append_assoc l.gated l.fresh (reverse h.added))) ∙ reverse-append (l.gated ++ l.fresh) (reverse h.added)
+      ∙ ap (λ z. z ++ reverse (l.gated ++ l.fresh)) (reverse-reverse h.added) ∙ ap (λ z. h.added ++ z) (sym mv.past)
 
   gated-same : (m : NodeId) → (w'.life m).gated ≡ (w.life m).gated
   gated-same m = elim (mv.there m) [

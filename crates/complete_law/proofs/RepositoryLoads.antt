@@ -169,18 +169,18 @@ module _ (v : Message → ℕ) (rest : List Effect → List (TimeParts × HeldRe
           omega (arith, k, x, y, z, u)
 
       -- a turn
-      turn-paid : (h : Hand) (most : ℕ) (l : Life) → l ≡ life-hand (w.life (repository n)) h → h.base ≡ log_of w (repository n) → Fed w w' (repository n) l → load-of h ≤ load-of hand0 + most →
+      turn-paid : (h : Hand) (most : ℕ) (l : Life) → l ≡ life-hand (w.life (repository n)) h → h.past ≡ log_of w (repository n) → Fed w w' (repository n) l → load-of h ≤ load-of hand0 + most →
           used-in (gain p r n) w + most ≤ used-in (gain p r n) w' → IsPaidFor w' n
       turn-paid h most l is base fed costs more =
           let now' : w'.life (repository n) ≡ life-hand (w.life (repository n)) h = fed.life ∙ is in
           let x : load v (w'.life (repository n)).outs ≡ load v ((w.life (repository n)).outs ++ h.outs) = ap (λ (y : Life). load v y.outs) now' in
           let y = load-append v (w.life (repository n)).outs h.outs in
           let s : sent-load v (repository n) w'.sendings ≡ sent-load v (repository n) w.sendings = ap (sent-load v (repository n)) fed.sendings in
-          let log : log_of w' (repository n) ≡ h.fresh ++ log_of w (repository n) =
-          ap (λ (y : Life). reverse (walks.all_effects y)) now' ∙ grown-log (w.life (repository n)).gated (w.life (repository n)).fresh h.fresh in
+          let log : log_of w' (repository n) ≡ h.added ++ log_of w (repository n) =
+          ap (λ (y : Life). reverse (walks.all_effects y)) now' ∙ grown-log (w.life (repository n)).gated (w.life (repository n)).fresh h.added in
           let t : rest (log_of w' (repository n)) (w'.life (repository n)).mind.hands.held (w'.life (repository n)).mind.hands.askers
           ≡ rest (now h) (w'.life (repository n)).mind.hands.held (w'.life (repository n)).mind.hands.askers =
-          ap (λ z. rest z (w'.life (repository n)).mind.hands.held (w'.life (repository n)).mind.hands.askers) (log ∙ ap (λ z. h.fresh ++ z) (sym base)) in
+          ap (λ z. rest z (w'.life (repository n)).mind.hands.held (w'.life (repository n)).mind.hands.askers) (log ∙ ap (λ z. h.added ++ z) (sym base)) in
           let m : rest (now h) (w'.life (repository n)).mind.hands.held (w'.life (repository n)).mind.hands.askers ≡ rest (now h) h.held h.askers =
           ap (λ (y : Life). rest (now h) y.mind.hands.held y.mind.hands.askers) now' in
           omega (arith, k, costs, more, x, y, s, t, m)
@@ -218,7 +218,7 @@ module _ (v : Message → ℕ) (rest : List Effect → List (TimeParts × HeldRe
           let m0 : Message = may.sending.post.message in
           let sent : Has (record { from = may.sending.post.from; to = repository n; message = may.sending.post.message }) (sent_by w) =
           subst (λ z'. Has (record { from = may.sending.post.from; to = z'; message = may.sending.post.message }) (sent_by w)) may.to (numbered-has (λ (x : Sending). x.post) w.sendings number may.sending may.sent) in
-          let base = (take-fine (sent_by w) n (log_of w (repository n)) hand0 may.sending.post.from may.sending.post.message sent (begun-fine (sent_by w) n (log_of w (repository n)) (w.life (repository n)).mind.hands)).base in
+          let base = (take-fine (sent_by w) n (log_of w (repository n)) hand0 may.sending.post.from may.sending.post.message sent (begun-fine (sent_by w) n (log_of w (repository n)) (w.life (repository n)).mind.hands)).past in
           let to : same_node may.sending.post.to (repository n) ≡ true = subst (λ z'. same_node z' (repository n) ≡ true) (sym may.to) (same_node-refl (repository n)) in
           let worth : gain p r n may.sending ≡ price-if p (accepts n may.sending.post.from may.sending.post.message) may.sending.post.message =
           ap (λ t. gain-if t (price-if p (accepts n may.sending.post.from may.sending.post.message) may.sending.post.message)) to in
@@ -230,7 +230,7 @@ module _ (v : Message → ℕ) (rest : List Effect → List (TimeParts × HeldRe
 
       learn-case : (s : StampParts) (d : Bool) → MayLearn w (repository n) s d → Fed w w' (repository n) (after_input b (repository n) (w.life (repository n)) (Learning s d)) → IsPaidFor w' n
       learn-case s d may fed =
-          let base = (on-learn-fine (sent_by w) n (log_of w (repository n)) hand0 s d (begun-fine (sent_by w) n (log_of w (repository n)) (w.life (repository n)).mind.hands)).base in
+          let base = (on-learn-fine (sent_by w) n (log_of w (repository n)) hand0 s d (begun-fine (sent_by w) n (log_of w (repository n)) (w.life (repository n)).mind.hands)).past in
           let u = used-on (gain p r n) b w e in
           let l = learns hand0 s d in
           turn-paid (on_learn hand0 s d) 0 (after_input b (repository n) (w.life (repository n)) (Learning s d)) (hand-learns s d) base fed (omega (arith, l)) (omega (arith, u))

@@ -159,7 +159,7 @@ module _ (b : Base) (w : World) (calm : CalmWorld b w) (f : Refines (node_turns 
         gones = λ m. one-gone m (same_node (repository n) m && (w.flags m).known);
         copies = λ j x at z. inl z;
         untaken = calm.untaken;
-        base = fine.base;
+        past = fine.past;
         number = fine.number;
       }
         where
@@ -226,7 +226,7 @@ module _ (b : Base) (w : World) (calm : CalmWorld b w) (f : Refines (node_turns 
         gones = λ m. one-gone m (same_node (repository n) m && (w.flags m).known);
         copies = λ j s at z. one j s at z (k == j) refl;
         untaken = none;
-        base = t-fine.base;
+        past = t-fine.past;
         number = t-fine.number;
       }
         where

@@ -68,22 +68,22 @@ knows-reverse (f ∷ log) s h =
 
 -- the same log below, and more new effects
 pub record Longer (h g : Hand) : Type 0 where
-  pub base : g.base ≡ h.base
+  pub past : g.past ≡ h.past
   pub more : List Effect
-  pub fresh : g.fresh ≡ more ++ h.fresh
+  pub added : g.added ≡ more ++ h.added
 
-longer-none : (h g : Hand) → g.base ≡ h.base → g.fresh ≡ h.fresh → Longer h g
-longer-none h g b f = record { base = b; more = []; fresh = f }
+longer-none : (h g : Hand) → g.past ≡ h.past → g.added ≡ h.added → Longer h g
+longer-none h g b f = record { past = b; more = []; added = f }
 
 longer-joins : (a b c : Hand) → Longer a b → Longer b c → Longer a c
-longer-joins a b c p q = record { base = q.base ∙ p.base; more = q.more ++ p.more; fresh = q.fresh ∙ (ap (λ l. q.more ++ l) p.fresh ∙ sym (append_assoc q.more p.more a.fresh)) }
+longer-joins a b c p q = record { past = q.past ∙ p.past; more = q.more ++ p.more; added = q.added ∙ (ap (λ l. q.more ++ l) p.added ∙ sym (append_assoc q.more p.more a.added)) }
 
 longer-asks : (t : Bool) (h g k : Hand) → Longer h g → Longer h k → Longer h (if t then g else k)
 longer-asks true h g k p q = p
 longer-asks false h g k p q = q
 
 longer-read : (before : List (TimeParts × HeldRead)) (h : Hand) (from : NodeId) (t : TimeParts) (o : ObjectId) (r : ReadStep) → Longer h (read_as before h from t o r)
-longer-read before h from t o (read.Answer v true) = record { base = refl; more = effect.Stretch o t ∷ []; fresh = refl }
+longer-read before h from t o (read.Answer v true) = record { past = refl; more = effect.Stretch o t ∷ []; added = refl }
 longer-read before h from t o (read.Answer v false) = longer-none h (read_as before h from t o (read.Answer v false)) refl refl
 longer-read before h from t o (read.Wait w) = longer-asks ((w.home == h.number) || waits_for w before) h _ _ (longer-none h _ refl refl) (longer-none h _ refl refl)
 
@@ -106,7 +106,7 @@ longer-release s h = longer-joins h (record h { held = filter (λ e. not (same_s
 
 knows-longer : (h g : Hand) (s : StampParts) → Longer h g → knows (now h) s ≡ true → knows (now g) s ≡ true
 knows-longer h g s l k =
-    let e : now g ≡ l.more ++ now h = ap (λ x. x ++ g.base) l.fresh ∙ (ap (λ x. (l.more ++ h.fresh) ++ x) l.base ∙ append_assoc l.more h.fresh h.base) in
+    let e : now g ≡ l.more ++ now h = ap (λ x. x ++ g.past) l.added ∙ (ap (λ x. (l.more ++ h.added) ++ x) l.past ∙ append_assoc l.more h.added h.past) in
     subst (λ x. knows x s ≡ true) (sym e) (knows-later l.more (now h) s k)
 
 -- after it was learned
@@ -115,7 +115,7 @@ learnt h s c (Some d) e = (longer-none h h refl refl, sym (knows-known (now h) s
 learnt h s c None e =
     let n : Hand = note (effect.Learn s c) h in
     let r : Longer n (release s n) = longer-release s n in (
-      longer-joins h n (release s n) (record { base = refl; more = effect.Learn s c ∷ []; fresh = refl }) r,
+      longer-joins h n (release s n) (record { past = refl; more = effect.Learn s c ∷ []; added = refl }) r,
       knows-longer n (release s n) s r (knows-first (effect.Learn s c ∷ []) (now h) s (knows-one (effect.Learn s c) s (same_stamp-self s))),
     )
 
@@ -129,7 +129,7 @@ hand-knows r log mind s c =
     let h : Hand = hands.hand_at r (reverse log) mind in
     let g : Hand = on_learn h s c in
     let k : Longer h g × (knows (now g) s ≡ true) = learnt-now h s c in
-    let e : reverse (now g) ≡ log ++ reverse g.fresh = reverse-append g.fresh g.base ∙ (ap (λ l. reverse l ++ reverse g.fresh) k.0.base ∙ ap (λ l. l ++ reverse g.fresh) (reverse-reverse log)) in
+    let e : reverse (now g) ≡ log ++ reverse g.added = reverse-append g.added g.past ∙ (ap (λ l. reverse l ++ reverse g.added) k.0.past ∙ ap (λ l. l ++ reverse g.added) (reverse-reverse log)) in
     subst (λ l. knows l s ≡ true) e (knows-reverse (now g) s k.1)
 
 kind-knows : (script : List ℕ → Tree) (run : ℕ) (acts : List ActSpec) (k : NodeKind) (i : ℕ) (log : List Effect) (mind : Mind) (s : StampParts) (c : Bool)

@@ -65,16 +65,16 @@ module _ (script : List ℕ → Tree) (run : ℕ) (acts : List ActSpec) (i : ℕ
   desk-of log mind input = desks.desk_turn script i run (tasks (acts_of i acts)) (desks.desk_at (reverse log) mind.heard) input
 
   -- with any beginning of what a turn of a broker adds
-  ready-desk : (log : List Effect) (mind : Mind) (input : desks.Input) (kept : ℕ) → broker_ready script run acts i log ≡ true → broker_ready script run acts i (log ++ take kept (reverse (desk-of log mind input).fresh)) ≡ true
+  ready-desk : (log : List Effect) (mind : Mind) (input : desks.Input) (kept : ℕ) → broker_ready script run acts i log ≡ true → broker_ready script run acts i (log ++ take kept (reverse (desk-of log mind input).added)) ≡ true
   ready-desk log mind input kept h =
       let d : desks.Desk = desk-of log mind input in
       let always : AlwaysReady script i run (tasks (acts_of i acts)) d = turn-always script i run (tasks (acts_of i acts)) (desks.desk_at (reverse log) mind.heard) input
       (λ n. subst (λ l. brokers.IsReady script i run (tasks (acts_of i acts)) (l ++ reverse log)) (sym (drop-none n)) (is-ready log h)) in
-      let base : d.base ≡ reverse log = (turn-added script i run (tasks (acts_of i acts)) (desks.desk_at (reverse log) mind.heard) input).base in
-      let t : (n : ℕ) × (take kept (reverse d.fresh) ≡ reverse (drop n d.fresh)) = take-reverse kept d.fresh in
-      let e : reverse (log ++ take kept (reverse d.fresh)) ≡ drop t.0 d.fresh ++ d.base =
-      reverse-append log (take kept (reverse d.fresh)) ∙ (ap (λ l. reverse l ++ reverse log) t.1 ∙ (ap (λ l. l ++ reverse log) (reverse-reverse (drop t.0 d.fresh)) ∙ ap (λ l. drop t.0 d.fresh ++ l) (sym base))) in
-      so-ready (log ++ take kept (reverse d.fresh)) (subst (brokers.IsReady script i run (tasks (acts_of i acts))) (sym e) (always t.0))
+      let base : d.past ≡ reverse log = (turn-added script i run (tasks (acts_of i acts)) (desks.desk_at (reverse log) mind.heard) input).past in
+      let t : (n : ℕ) × (take kept (reverse d.added) ≡ reverse (drop n d.added)) = take-reverse kept d.added in
+      let e : reverse (log ++ take kept (reverse d.added)) ≡ drop t.0 d.added ++ d.past =
+      reverse-append log (take kept (reverse d.added)) ∙ (ap (λ l. reverse l ++ reverse log) t.1 ∙ (ap (λ l. l ++ reverse log) (reverse-reverse (drop t.0 d.added)) ∙ ap (λ l. drop t.0 d.added ++ l) (sym base))) in
+      so-ready (log ++ take kept (reverse d.added)) (subst (brokers.IsReady script i run (tasks (acts_of i acts))) (sym e) (always t.0))
 
   ready-none : (log : List Effect) (kept : ℕ) → broker_ready script run acts i log ≡ true → broker_ready script run acts i (log ++ take kept []) ≡ true
   ready-none log kept h = subst (λ l. broker_ready script run acts i (log ++ l) ≡ true) (sym (none kept)) (subst (λ l. broker_ready script run acts i l ≡ true) (sym (append-nil log)) h)

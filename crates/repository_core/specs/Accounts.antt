@@ -30,7 +30,7 @@ AreOfOneCall old new = new.first.value ≡ old.first.value
 
 -- between two calls: nothing is added and nothing owed, and what the books look up agrees with the log
 abbrev pub IsOpen : {H : Type 0} {g : _} → (H → List Mark) → Hand → Books H g → Type 0
-IsOpen content h b = (h.fresh ≡ []) × (h.outs ≡ []) × AgreeWith content h.base b
+IsOpen content h b = (h.added ≡ []) × (h.outs ≡ []) × AgreeWith content h.past b
 
 -- what was pending still is, and beside it they still agree
 abbrev pub StillAgree : {H T E : Type 0} {g k : _} → (H → List Mark) → List Effect → Books H g → List Effect → Books H k → Result T E → Type 0

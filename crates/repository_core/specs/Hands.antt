@@ -19,12 +19,12 @@ pub record Mind : Type 0 where
   pub askers : List Asker
   pub moment : ℕ
 
--- `base` is the log as the turn began, and `fresh` the effects of the turn, both newest first; `outs` are the messages
+-- `past` is the log as the turn began, and `added` the effects of the turn, both newest first; `outs` are the messages
 -- of the turn, in the order in which they are sent.
 pub record Hand : Type 0 where
   pub number : ℕ
-  pub base : List Effect
-  pub fresh : List Effect
+  pub past : List Effect
+  pub added : List Effect
   pub outs : List Out
   pub held : List (TimeParts × HeldRead)
   pub askers : List Asker
@@ -32,11 +32,11 @@ pub record Hand : Type 0 where
 
 -- the log with the effects of the turn
 abbrev pub now : Hand → List Effect
-now h = h.fresh ++ h.base
+now h = h.added ++ h.past
 
 -- an effect is added
 abbrev pub note : Effect → Hand → Hand
-note f h = record h { fresh = f ∷ h.fresh }
+note f h = record h { added = f ∷ h.added }
 
 -- a message is owed
 abbrev pub send : NodeId → Message → Hand → Hand
@@ -48,4 +48,4 @@ asker_cmp a b = ordering_then (nat_cmp a.repository b.repository) (stamp_cmp a.s
 
 -- the repository is the same, and so is its log as the turn began
 abbrev pub HasSameLog : Hand → Hand → Type 0
-HasSameLog old new = (new.number ≡ old.number) × (new.base ≡ old.base)
+HasSameLog old new = (new.number ≡ old.number) × (new.past ≡ old.past)

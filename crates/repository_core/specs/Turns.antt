@@ -21,7 +21,7 @@ opened_mind start = record { held = []; askers = []; moment = start }
 
 -- a turn begins with nothing added and nothing owed; here the log stands newest first
 abbrev pub hand_at : ℕ → List Effect → Mind → Hand
-hand_at n log mind = record { number = n; base = log; fresh = []; outs = []; held = mind.held; askers = mind.askers; moment = mind.moment }
+hand_at n log mind = record { number = n; past = log; added = []; outs = []; held = mind.held; askers = mind.askers; moment = mind.moment }
 
 abbrev pub hand_turn : Hand → Input → Hand
 hand_turn h (Taking from m) = on_message h from m
@@ -41,4 +41,4 @@ mind_of h = record { held = h.held; askers = h.askers; moment = h.moment }
 unfoldable pub gives : ℕ → List Effect → Mind → Input → Given
 gives n log mind input =
     let h : Hand = hand_turn (hand_at n (reverse log) mind) input in
-    record { effects = reverse h.fresh; outs = h.outs; mind = mind_of h }
+    record { effects = reverse h.added; outs = h.outs; mind = mind_of h }

@@ -46,8 +46,8 @@ impl Model for Draft {
 
     ghost view = { λ d. record {
       number = d.number;
-      base = reverse (map (λ s. s.value) d.log.items);
-      fresh = reverse d.effects.items;
+      past = reverse (map (λ s. s.value) d.log.items);
+      added = reverse d.effects.items;
       outs = d.outs.items;
       held = d.held.entries;
       askers = d.askers.keys;
@@ -61,7 +61,7 @@ impl Draft {
     /// The draft of a repository that was just opened, with an empty log.
     pub fn new(alloc: Global, number: u8, moment: u64) -> Draft
         requires { moment ≤ 2 ^ 63 }
-        ensures { result ≡ record { number = number; base = []; fresh = []; outs = []; held = []; askers = []; moment = moment } }
+        ensures { result ≡ record { number = number; past = []; added = []; outs = []; held = []; askers = []; moment = moment } }
     {
         Draft {
             alloc,
@@ -77,7 +77,7 @@ impl Draft {
 
     /// The log has one effect more, the newest.
     pub fn log(&mut self, effect: &Effect) -> Result<(), AllocError>
-        ensures { OnOk result (self.new ≡ record self.old { base = effect.now ∷ self.old.base }) }
+        ensures { OnOk result (self.new ≡ record self.old { past = effect.now ∷ self.old.past }) }
     {
         self.log.push(Snapshot::of(effect))?;
         Ok(())
@@ -226,16 +226,16 @@ impl Draft {
 
     // The effects of the turn stand in the log.
     fn log_effects(&mut self) -> Result<(), AllocError>
-        ensures { OnOk result (self.new ≡ record self.old { base = hands.now self.old }) }
+        ensures { OnOk result (self.new ≡ record self.old { past = hands.now self.old }) }
     {
         log_all(&mut self.log, self.effects.as_slice())
     }
 
     // The effects and messages of the turn are handed out.
     fn take(&mut self) -> Turn
-        ensures effects { result.effects ≡ reverse self.old.fresh }
+        ensures effects { result.effects ≡ reverse self.old.added }
         ensures outs { result.outs ≡ self.old.outs }
-        ensures closed { self.new ≡ record self.old { fresh = []; outs = [] } }
+        ensures closed { self.new ≡ record self.old { added = []; outs = [] } }
         ensures in_range { AreEffects result.effects × AreOuts result.outs }
     {
         let effects = replace(&mut self.effects, Vec::new(self.alloc));
@@ -245,9 +245,9 @@ impl Draft {
 
     /// Ends the turn: its effects stand in the log.
     pub fn close(&mut self) -> Result<Turn, AllocError>
-        ensures effects { IfOk result (λ t. t.effects ≡ reverse self.old.fresh) }
+        ensures effects { IfOk result (λ t. t.effects ≡ reverse self.old.added) }
         ensures outs { IfOk result (λ t. t.outs ≡ self.old.outs) }
-        ensures closed { OnOk result (self.new ≡ record self.old { base = hands.now self.old; fresh = []; outs = [] }) }
+        ensures closed { OnOk result (self.new ≡ record self.old { past = hands.now self.old; added = []; outs = [] }) }
         ensures in_range { IfOk result (λ t. AreEffects t.effects × AreOuts t.outs) }
     {
         self.log_effects()?;

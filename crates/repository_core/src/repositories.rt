@@ -41,7 +41,7 @@ impl<H: Histories> Model for Repository<H> {
 
     ghost view = { λ r. record {
       number = r.work.draft.number;
-      log = reverse r.work.draft.base;
+      log = reverse r.work.draft.past;
       mind = mind_of r.work.draft;
       is_failed = r.is_failed;
       histories = r.work.books.histories;
@@ -194,12 +194,12 @@ impl Model for RepositoryRest {
 
     ghost view = { λ r. record {
       number = r.draft.number;
-      log = reverse r.draft.base;
+      log = reverse r.draft.past;
       mind = mind_of r.draft;
       is_failed = r.is_failed;
     } };
 
-    ghost invariant = { λ r. r.is_failed ≡ false → (r.draft.fresh ≡ []) × (r.draft.outs ≡ []) × BooksShow [] r.draft.base (marks r.draft.base) r.records r.early.entries };
+    ghost invariant = { λ r. r.is_failed ≡ false → (r.draft.added ≡ []) × (r.draft.outs ≡ []) × BooksShow [] r.draft.past (marks r.draft.past) r.records r.early.entries };
 }
 
 impl RepositoryRest {

@@ -61,21 +61,21 @@ module _ (ever : List Post) (r : ℕ) (log : List Effect) where
   note-fine : (h : Hand) (f : Effect) → Fine h → Fine (note f h)
   note-fine h f k = record {
     number = k.number;
-    base = k.base;
+    past = k.past;
     outs = every-map (λ o. Refuses ever r (now h) o.to o.message) (λ o. Refuses ever r (f ∷ now h) o.to o.message) (λ o p. refuses-on ever r (now h) f o.to o.message p) h.outs k.outs;
   }
 
   send-fine : (h : Hand) (to : NodeId) (m : Message) → Refuses ever r (now h) to m → Fine h → Fine (send to m h)
-  send-fine h to m p k = record { number = k.number; base = k.base; outs = every-append (λ o. Refuses ever r (now h) o.to o.message) h.outs (record { to = to; message = m } ∷ []) k.outs (p, tt) }
+  send-fine h to m p k = record { number = k.number; past = k.past; outs = every-append (λ o. Refuses ever r (now h) o.to o.message) h.outs (record { to = to; message = m } ∷ []) k.outs (p, tt) }
 
   held-fine : (h : Hand) (xs : List (TimeParts × HeldRead)) → Fine h → Fine (record h { held = xs })
-  held-fine h xs k = record { number = k.number; base = k.base; outs = k.outs }
+  held-fine h xs k = record { number = k.number; past = k.past; outs = k.outs }
 
   askers-fine : (h : Hand) (xs : List Asker) → Fine h → Fine (record h { askers = xs })
-  askers-fine h xs k = record { number = k.number; base = k.base; outs = k.outs }
+  askers-fine h xs k = record { number = k.number; past = k.past; outs = k.outs }
 
   moment-fine : (h : Hand) (m : ℕ) → Fine h → Fine (record h { moment = m })
-  moment-fine h m k = record { number = k.number; base = k.base; outs = k.outs }
+  moment-fine h m k = record { number = k.number; past = k.past; outs = k.outs }
 
   if-fine : (b : Bool) (x y : Hand) → Fine x → Fine y → Fine (if b then x else y)
   if-fine true x y p q = p
@@ -90,7 +90,7 @@ module _ (ever : List Post) (r : ℕ) (log : List Effect) where
       if-fine ((w.home == h.number) || waits_for w before) x (send (repository w.home) (message.Ask w) x) p (send-fine x (repository w.home) (message.Ask w) tt p)
 
   unhold-fine : (h : Hand) (t : TimeParts) → Fine h → Fine (unhold t h)
-  unhold-fine h t k = record { number = k.number; base = k.base; outs = k.outs }
+  unhold-fine h t k = record { number = k.number; past = k.past; outs = k.outs }
 
   read-known-fine : (h : Hand) (from : NodeId) (t : TimeParts) (o : ObjectId) (u : Option Bool) → Fine h → Fine (read_known h from t o u)
   read-known-fine h from t o (Some false) k = send-fine (unhold t h) from (message.Ended t) tt (unhold-fine h t k)
@@ -157,7 +157,7 @@ module _ (ever : List Post) (r : ℕ) (log : List Effect) where
 
   ask-as-fine : (h : Hand) (from : NodeId) (s : StampParts) (u : Option RecordState) → Fine h → Fine (ask_as h from s u)
   ask-as-fine h from s None k = k
-  ask-as-fine h from s (Some (Unknown d)) k = record { number = k.number; base = k.base; outs = k.outs }
+  ask-as-fine h from s (Some (Unknown d)) k = record { number = k.number; past = k.past; outs = k.outs }
   ask-as-fine h from s (Some (Decided d)) k = send-fine h from (message.Tell s (is_commit d)) tt k
 
   on-ask-fine : (h : Hand) (from : NodeId) (s : StampParts) → Fine h → Fine (on_ask h from s)
@@ -221,4 +221,4 @@ module _ (ever : List Post) (r : ℕ) (log : List Effect) where
 
   -- a turn begins
   pub begun-fine : (mind : Mind) → Fine (hand_at r log mind)
-  begun-fine mind = record { number = refl; base = refl; outs = tt }
+  begun-fine mind = record { number = refl; past = refl; outs = tt }

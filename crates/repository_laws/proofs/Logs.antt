@@ -95,8 +95,8 @@ tidy-kept r l (Decide s d) k t = (k.0, k.1, t)
 tidy-kept r l (Learn s c) k t = (k.0, k.1, t)
 tidy-kept r l f k t = absurd k
 
-pub tidy-through : (r : ℕ) (l fresh : List Effect) → Grew (FitsLog r) l fresh → IsTidy r l → IsTidy r (fresh ++ l)
-tidy-through r l fresh g t = grew_keeps (FitsLog r) (λ k. IsTidy r k) (λ k f u fit. tidy-kept r k f fit u) l fresh g t
+pub tidy-through : (r : ℕ) (l added : List Effect) → Grew (FitsLog r) l added → IsTidy r l → IsTidy r (added ++ l)
+tidy-through r l added g t = grew_keeps (FitsLog r) (λ k. IsTidy r k) (λ k f u fit. tidy-kept r k f fit u) l added g t
 
 pub tidy-distinct : (r : ℕ) (l : List Effect) → IsTidy r l → Distinct (marks l)
 tidy-distinct r [] t = tt

@@ -30,9 +30,9 @@ post-stays ever r l f to (message.Ask s) k p = tt
 post-stays ever r l f to m k p = absurd p
 
 -- and a whole turn, or the part of it that a crash keeps
-pub post-stays-through : (ever : List Post) (r : ℕ) (l fresh : List Effect) (to : NodeId) (m : Message) → Grew (FitsLog r) l fresh →
-    PostHolds ever r l to m → PostHolds ever r (fresh ++ l) to m
-post-stays-through ever r l fresh to m g p = grew_keeps (FitsLog r) (λ k. PostHolds ever r k to m) (λ k f q fit. post-stays ever r k f to m fit q) l fresh g p
+pub post-stays-through : (ever : List Post) (r : ℕ) (l added : List Effect) (to : NodeId) (m : Message) → Grew (FitsLog r) l added →
+    PostHolds ever r l to m → PostHolds ever r (added ++ l) to m
+post-stays-through ever r l added to m g p = grew_keeps (FitsLog r) (λ k. PostHolds ever r k to m) (λ k f q fit. post-stays ever r k f to m fit q) l added g p
 
 -- more messages
 pub post-more : (ever more : List Post) (r : ℕ) (l : List Effect) (to : NodeId) (m : Message) → PostHolds ever r l to m → PostHolds (ever ++ more) r l to m

@@ -81,7 +81,7 @@ module _ (ever : List Post) (homes : ℕ → List Effect) (ticks : List ℕ) (r 
   note-ok : (h : Hand) (f : Effect) → FitsLog r (now h) f → RestsOn ever homes ticks r f → Fine h → Fine (note f h)
   note-ok h f fits came ok = record {
     number = ok.number;
-    base = ok.base;
+    past = ok.past;
     tidy = ok.tidy;
     grew = (ok.grew, fits);
     causes = (came, ok.causes);
@@ -93,7 +93,7 @@ module _ (ever : List Post) (homes : ℕ → List Effect) (ticks : List ℕ) (r 
   send-ok : (h : Hand) (to : NodeId) (m : Message) → PostHolds ever r (now h) to m → Fine h → Fine (send to m h)
   send-ok h to m post ok = record {
     number = ok.number;
-    base = ok.base;
+    past = ok.past;
     tidy = ok.tidy;
     grew = ok.grew;
     causes = ok.causes;
@@ -102,20 +102,20 @@ module _ (ever : List Post) (homes : ℕ → List Effect) (ticks : List ℕ) (r 
   }
 
   held-ok : (h : Hand) (xs : List (TimeParts × HeldRead)) → Every (HeldHolds ever r) xs → Fine h → Fine (record h { held = xs })
-  held-ok h xs k ok = record { number = ok.number; base = ok.base; tidy = ok.tidy; grew = ok.grew; causes = ok.causes; held = k; outs = ok.outs }
+  held-ok h xs k ok = record { number = ok.number; past = ok.past; tidy = ok.tidy; grew = ok.grew; causes = ok.causes; held = k; outs = ok.outs }
 
   askers-ok : (h : Hand) (xs : List Asker) → Fine h → Fine (record h { askers = xs })
-  askers-ok h xs ok = record { number = ok.number; base = ok.base; tidy = ok.tidy; grew = ok.grew; causes = ok.causes; held = ok.held; outs = ok.outs }
+  askers-ok h xs ok = record { number = ok.number; past = ok.past; tidy = ok.tidy; grew = ok.grew; causes = ok.causes; held = ok.held; outs = ok.outs }
 
   moment-ok : (h : Hand) (m : ℕ) → Fine h → Fine (record h { moment = m })
-  moment-ok h m ok = record { number = ok.number; base = ok.base; tidy = ok.tidy; grew = ok.grew; causes = ok.causes; held = ok.held; outs = ok.outs }
+  moment-ok h m ok = record { number = ok.number; past = ok.past; tidy = ok.tidy; grew = ok.grew; causes = ok.causes; held = ok.held; outs = ok.outs }
 
   if-ok : (b : Bool) (x y : Hand) → Fine x → Fine y → Fine (if b then x else y)
   if-ok true x y p q = p
   if-ok false x y p q = q
 
   tidy-now : (h : Hand) → Fine h → IsTidy r (now h)
-  tidy-now h ok = tidy-through r h.base h.fresh ok.grew ok.tidy
+  tidy-now h ok = tidy-through r h.past h.added ok.grew ok.tidy
 
   read-as-ok : (before : List (TimeParts × HeldRead)) (h : Hand) (from : NodeId) (t : TimeParts) (o : ObjectId) (s : ReadStep) →
       read_step (marks (now h)) o t ≡ s → settle_of (marks (now h)) t.stamp ≢ Some false →
@@ -248,8 +248,8 @@ module _ (ever : List Post) (homes : ℕ → List Effect) (ticks : List ℕ) (r 
   abroad : (h : Hand) (s : StampParts) (c : Bool) → homes r ≡ gated → IsDecidedAt homes s c → settle_of (marks (now h)) s ≡ None → Fine h → s.home ≢ r
   abroad h s c here came e ok home =
       let at_home : Has (effect.Decide s came.0) (homes r) = subst (λ n. Has (effect.Decide s came.0) (homes n)) home came.1 in
-      let at_base : Has (effect.Decide s came.0) h.base = subst (λ l. Has (effect.Decide s came.0) l) (here ∙ sym ok.base) at_home in
-      let k = decide-settles (now h) s came.0 (has-right h.fresh h.base (effect.Decide s came.0) at_base) in
+      let at_base : Has (effect.Decide s came.0) h.past = subst (λ l. Has (effect.Decide s came.0) l) (here ∙ sym ok.past) at_home in
+      let k = decide-settles (now h) s came.0 (has-right h.added h.past (effect.Decide s came.0) at_base) in
       let clash : Some k.0 ≡ None = sym k.1 ∙ e in cc
 
   learn-as-ok : (h : Hand) (s : StampParts) (c : Bool) (u : Option Bool) → settle_of (marks (now h)) s ≡ u → homes r ≡ gated → IsDecidedAt homes s c →

@@ -51,23 +51,23 @@ module _ (ever : List Post) (homes : ℕ → List Effect) (ticks : List ℕ) (r 
   cause-back below (effect.Acked k) fits p = p
   cause-back below (effect.End i e) fits p = p
 
-  causes-back : (fresh : List Effect) → Grew (FitsLog r) log fresh → Every (RestsOn ever there ticks r) fresh → Grew (λ l f. RestsOn ever homes ticks r f) log fresh
+  causes-back : (added : List Effect) → Grew (FitsLog r) log added → Every (RestsOn ever there ticks r) added → Grew (λ l f. RestsOn ever homes ticks r f) log added
   causes-back [] g p = tt
-  causes-back (f ∷ fresh) g p = (causes-back fresh g.0 p.1, cause-back (fresh ++ log) f g.1 p.0)
+  causes-back (f ∷ added) g p = (causes-back added g.0 p.1, cause-back (added ++ log) f g.1 p.0)
 
   gives : (h : Hand) → HandHolds ever there ticks r log h → Gives ever homes ticks r log h
   gives h ok =
-      let grew : Grew (FitsLog r) log h.fresh = subst (λ l. Grew (FitsLog r) l h.fresh) ok.base ok.grew in
+      let grew : Grew (FitsLog r) log h.added = subst (λ l. Grew (FitsLog r) l h.added) ok.past ok.grew in
       record {
         grew = grew;
-        causes = causes-back h.fresh grew ok.causes;
+        causes = causes-back h.added grew ok.causes;
         held = ok.held;
-        outs = subst (λ l. Every (λ p. PostHolds ever r (h.fresh ++ l) p.to p.message) h.outs) ok.base ok.outs;
+        outs = subst (λ l. Every (λ p. PostHolds ever r (h.added ++ l) p.to p.message) h.outs) ok.past ok.outs;
       }
 
   module _ (mind : Mind) (g : IsGiven ever homes r log mind) where
     given-ok : HandHolds ever there ticks r log (hand_at r log mind)
-    given-ok = record { number = refl; base = refl; tidy = g.tidy; grew = tt; causes = tt; held = g.held; outs = tt }
+    given-ok = record { number = refl; past = refl; tidy = g.tidy; grew = tt; causes = tt; held = g.held; outs = tt }
 
     -- what stands at home stands in the whole log
     decided-there : (s : StampParts) (c : Bool) → IsDecidedAt homes s c → IsDecidedAt there s c
@@ -75,7 +75,7 @@ module _ (ever : List Post) (homes : ℕ → List Effect) (ticks : List ℕ) (r 
     decided-there s c h = (h.0, go (s.home == r) refl, h.2)
       where
         go : (b : Bool) → (s.home == r) ≡ b → Has (effect.Decide s h.0) (if b then log else homes s.home)
-        go true e = subst (Has (effect.Decide s h.0)) (sym g.own) (has-right g.fresh (homes r) (effect.Decide s h.0) (subst (λ i. Has (effect.Decide s h.0) (homes i)) (eq-from s.home r e) h.1))
+        go true e = subst (Has (effect.Decide s h.0)) (sym g.own) (has-right g.added (homes r) (effect.Decide s h.0) (subst (λ i. Has (effect.Decide s h.0) (homes i)) (eq-from s.home r e) h.1))
         go false e = h.1
 
     backed-there : (k : NodeKind) (i : ℕ) (m : Message) → IsBacked ever homes k i (repository r) m → IsBacked ever there k i (repository r) m
@@ -84,8 +84,8 @@ module _ (ever : List Post) (homes : ℕ → List Effect) (ticks : List ℕ) (r 
       where
         go : (b : Bool) → (i == r) ≡ b → PostHolds ever i (if b then log else homes i) (repository r) m
         go true e = subst (λ l. PostHolds ever i l (repository r) m) (sym g.own)
-            (post-stays-through ever i (homes r) g.fresh (repository r) m
-            (subst (λ j. Grew (FitsLog j) (homes r) g.fresh) (sym (eq-from i r e)) g.grew)
+            (post-stays-through ever i (homes r) g.added (repository r) m
+            (subst (λ j. Grew (FitsLog j) (homes r) g.added) (sym (eq-from i r e)) g.grew)
             (subst (λ j. PostHolds ever i (homes j) (repository r) m) (eq-from i r e) p))
         go false e = p
     backed-there Broker i m p = tt

@@ -25,5 +25,5 @@ Refuses ever r log to _ = Unit {0}
 -- a turn over this log refuses rightly
 pub record RefusesRightly (ever : List Post) (r : ℕ) (log : List Effect) (h : Hand) : Type 0 where
   pub number : h.number ≡ r
-  pub base : h.base ≡ log
+  pub past : h.past ≡ log
   pub outs : Every (λ o. Refuses ever r (now h) o.to o.message) h.outs

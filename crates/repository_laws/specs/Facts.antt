@@ -137,10 +137,10 @@ HeldHolds ever r e = ReadSent ever r e.0 e.1.object × (e.1.from ≡ broker e.0.
 -- what holds of a turn in hand of repository r over its durable log
 pub record HandHolds (ever : List Post) (homes : ℕ → List Effect) (ticks : List ℕ) (r : ℕ) (gated : List Effect) (h : Hand) : Type 0 where
   pub number : h.number ≡ r
-  pub base : h.base ≡ gated
-  pub tidy : IsTidy r h.base
-  pub grew : Grew (FitsLog r) h.base h.fresh
-  pub causes : Every (RestsOn ever homes ticks r) h.fresh
+  pub past : h.past ≡ gated
+  pub tidy : IsTidy r h.past
+  pub grew : Grew (FitsLog r) h.past h.added
+  pub causes : Every (RestsOn ever homes ticks r) h.added
   pub held : Every (HeldHolds ever r) h.held
   pub outs : Every (λ p. PostHolds ever r (now h) p.to p.message) h.outs
 

@@ -11,13 +11,13 @@ use Rattle.repository_laws.specs.Facts.{FitsLog, IsTidy, PostHolds, RestsOn, Hel
 pub record IsGiven (ever : List Post) (homes : ℕ → List Effect) (r : ℕ) (log : List Effect) (mind : Mind) : Type 0 where
   pub tidy : IsTidy r log
   pub held : Every (HeldHolds ever r) mind.held
-  pub fresh : List Effect
-  pub own : log ≡ fresh ++ homes r
-  pub grew : Grew (FitsLog r) (homes r) fresh
+  pub added : List Effect
+  pub own : log ≡ added ++ homes r
+  pub grew : Grew (FitsLog r) (homes r) added
 
 -- after the turn: its effects fit, one by one, each with its cause, and what its messages say holds of the log with them
 pub record Gives (ever : List Post) (homes : ℕ → List Effect) (ticks : List ℕ) (r : ℕ) (log : List Effect) (h : Hand) : Type 0 where
-  pub grew : Grew (FitsLog r) log h.fresh
-  pub causes : Grew (λ l f. RestsOn ever homes ticks r f) log h.fresh
+  pub grew : Grew (FitsLog r) log h.added
+  pub causes : Grew (λ l f. RestsOn ever homes ticks r f) log h.added
   pub held : Every (HeldHolds ever r) h.held
-  pub outs : Every (λ p. PostHolds ever r (h.fresh ++ log) p.to p.message) h.outs
+  pub outs : Every (λ p. PostHolds ever r (h.added ++ log) p.to p.message) h.outs

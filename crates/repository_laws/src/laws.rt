@@ -27,7 +27,7 @@ ghost use Rattle.repository_laws.specs.Givens.{IsGiven, Gives};
 pub fn tidy_stays()
     ensures empty { (r : ℕ) → IsTidy r [] }
     ensures kept { (r : ℕ) (log : List Effect) (f : Effect) → FitsLog r log f → IsTidy r log → IsTidy r (f ∷ log) }
-    ensures through { (r : ℕ) (log fresh : List Effect) → Grew (FitsLog r) log fresh → IsTidy r log → IsTidy r (fresh ++ log) }
+    ensures through { (r : ℕ) (log added : List Effect) → Grew (FitsLog r) log added → IsTidy r log → IsTidy r (added ++ log) }
     ensures distinct { (r : ℕ) (log : List Effect) → IsTidy r log → Distinct (marks log) }
 {}
 
@@ -44,7 +44,7 @@ pub fn decided_once()
 /// or the part of it that a crash keeps, and as more messages are sent.
 pub fn messages_stay_true()
     ensures step { (ever : List Post) (r : ℕ) (log : List Effect) (f : Effect) (to : NodeId) (m : Message) → FitsLog r log f → PostHolds ever r log to m → PostHolds ever r (f ∷ log) to m }
-    ensures through { (ever : List Post) (r : ℕ) (log fresh : List Effect) (to : NodeId) (m : Message) → Grew (FitsLog r) log fresh → PostHolds ever r log to m → PostHolds ever r (fresh ++ log) to m }
+    ensures through { (ever : List Post) (r : ℕ) (log added : List Effect) (to : NodeId) (m : Message) → Grew (FitsLog r) log added → PostHolds ever r log to m → PostHolds ever r (added ++ log) to m }
     ensures more { (ever more : List Post) (r : ℕ) (log : List Effect) (to : NodeId) (m : Message) → PostHolds ever r log to m → PostHolds (ever ++ more) r log to m }
 {}
 

@@ -59,7 +59,7 @@ module _ (b : Base) (n : NodeId) (log : List Effect) (mind : Mind) where
   broker-gave p q t i s g =
       let e : turn_of b.script p i ≡ desk_after b.script b.run b.acts n.number log mind i =
       λ j. desks.desk_turn b.script (s.number j) (s.run j) (tasks (s.acts j)) (desks.desk_at (reverse (s.log j)) (s.heard j)) i in
-      let f : t.effects ≡ reverse (desk_after b.script b.run b.acts n.number log mind i).fresh = g.effects ∙ ap (λ d. reverse d.fresh) e in
+      let f : t.effects ≡ reverse (desk_after b.script b.run b.acts n.number log mind i).added = g.effects ∙ ap (λ d. reverse d.added) e in
       let acts : q.acts ≡ p.acts = ap (λ (x : BrokerParts). x.acts) g.broker in
       record {
         effects = f;

@@ -66,7 +66,7 @@ abbrev pub acts_of : ℕ → List ActSpec → List ActSpec
 acts_of b acts = filter (λ (a : ActSpec). a.broker == b) acts
 
 abbrev pub with_desk : Mind → desks.Desk → Given
-with_desk mind d = record { effects = reverse d.fresh; outs = d.outs; mind = record { hands = mind.hands; heard = d.heard } }
+with_desk mind d = record { effects = reverse d.added; outs = d.outs; mind = record { hands = mind.hands; heard = d.heard } }
 
 module _ (script : List ℕ → Tree) (run : ℕ) (acts : List ActSpec) (b : ℕ) where
   abbrev pub desk_after : List Effect → Mind → desks.Input → desks.Desk

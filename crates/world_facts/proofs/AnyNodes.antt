@@ -79,10 +79,10 @@ module _ (script : List ℕ → Tree) (run : ℕ) (acts : List ActSpec) (own : N
 
   hand-gives : (w : Around) (r : ℕ) (log : List Effect) (mind : Mind) (h : Hand) → RefusesRightly w.ever r log h → TurnGives F w run acts (repository r) log (of_hand mind h)
   hand-gives w r log mind h k = record {
-    grew = grew-any (λ l f. Unit {0}) (λ l f. tt) log h.fresh;
-    proofs = grew-any (λ l f. length (own (repository r)) ≤ length l → Unit {0}) (λ l f big. tt) log h.fresh;
+    grew = grew-any (λ l f. Unit {0}) (λ l f. tt) log h.added;
+    proofs = grew-any (λ l f. length (own (repository r)) ≤ length l → Unit {0}) (λ l f big. tt) log h.added;
     mind_ok = tt;
-    outs = subst (λ l. Every (λ o. Refuses w.ever r (h.fresh ++ l) o.to o.message) h.outs) k.base k.outs;
+    outs = subst (λ l. Every (λ o. Refuses w.ever r (h.added ++ l) o.to o.message) h.outs) k.past k.outs;
     ready = (refl, refl);
   }
 
@@ -92,13 +92,13 @@ module _ (script : List ℕ → Tree) (run : ℕ) (acts : List ActSpec) (own : N
       let d : desks.Desk = desks.desk_turn script b run (tasks_of script run acts b) (desks.desk_at log mind.heard) i in
       let k : GoesOn script b run (tasks_of script run acts b) w.ever (desks.desk_turn script b run (tasks_of script run acts b) (desks.desk_at log mind.heard) i) =
       turn-on script b run (tasks_of script run acts b) w.ever (desks.desk_at log mind.heard) i may (record { joins = tt; rests = tt; outs = tt }) in
-      let base : d.base ≡ log = (turn-added script b run (tasks_of script run acts b) (desks.desk_at log mind.heard) i).base in
+      let base : d.past ≡ log = (turn-added script b run (tasks_of script run acts b) (desks.desk_at log mind.heard) i).past in
       record {
-        grew = subst (λ l. Grew (Joins script b run (tasks_of script run acts b)) l d.fresh) base k.joins;
+        grew = subst (λ l. Grew (Joins script b run (tasks_of script run acts b)) l d.added) base k.joins;
         proofs = grew_map (Rests script b run (tasks_of script run acts b) w.ever) (λ l f. length (own (record { kind = Broker; number = b })) ≤ length l → Rests script b run (tasks_of script run acts b) w.ever l f)
-            (λ l f r big. r) log d.fresh (subst (λ l. Grew (Rests script b run (tasks_of script run acts b) w.ever) l d.fresh) base k.rests);
+            (λ l f r big. r) log d.added (subst (λ l. Grew (Rests script b run (tasks_of script run acts b) w.ever) l d.added) base k.rests);
         mind_ok = tt;
-        outs = subst (λ l. Every (λ o. Says script b run (tasks_of script run acts b) (d.fresh ++ l) o.to o.message) d.outs) base k.outs;
+        outs = subst (λ l. Every (λ o. Says script b run (tasks_of script run acts b) (d.added ++ l) o.to o.message) d.outs) base k.outs;
         ready = (refl, refl);
       }
 

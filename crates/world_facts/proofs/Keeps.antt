@@ -50,7 +50,7 @@ module _ (script : List ℕ → Tree) (turns : Turns) (F : NodeFacts) (laws : No
   turn-given s run acts n inv ready =
       let x : SoftNode = s.seat n in
       let h : NodeOk F (around s) n (s.seat n) = inv.nodes n in
-      record { tidy = tidy-grown n x.past x.added h.grew h.tidy; proofs = h.proofs; mind_ok = h.mind_ok; ready = ready; fresh = x.added; own = refl; grew = h.grew }
+      record { tidy = tidy-grown n x.past x.added h.grew h.tidy; proofs = h.proofs; mind_ok = h.mind_ok; ready = ready; added = x.added; own = refl; grew = h.grew }
 
   sender-ok : (s : Soft) (n : NodeId) (input : Input) → Inv F s → MayInput (around s) n input → SenderOk F (around s) n input
   sender-ok s n Going inv may = tt

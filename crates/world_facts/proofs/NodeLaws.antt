@@ -127,7 +127,7 @@ module _ (script : List ℕ → Tree) where
 
   is-given : (w : Around) (run : ℕ) (acts : List ActSpec) (r : ℕ) (log : List Effect) (mind : Mind) → TurnGiven (node_facts script) w run acts (repository r) log mind →
       IsGiven w.ever (λ k. w.logs (repository k)) r log mind.hands
-  is-given w run acts r log mind g = record { tidy = g.tidy; held = g.mind_ok; fresh = g.fresh; own = g.own; grew = g.grew }
+  is-given w run acts r log mind g = record { tidy = g.tidy; held = g.mind_ok; added = g.added; own = g.own; grew = g.grew }
 
   hand-gives : (w : Around) (run : ℕ) (acts : List ActSpec) (r : ℕ) (log : List Effect) (mind : Mind) (h : Hand) → Gives w.ever (λ k. w.logs (repository k)) w.ticks r log h →
       TurnGives (node_facts script) w run acts (repository r) log (of_hand mind h)
@@ -142,13 +142,13 @@ module _ (script : List ℕ → Tree) where
     desk-gives i may =
         let d : desks.Desk = desks.desk_turn script b run (tasks (acts_of b acts)) (desks.desk_at log mind.heard) i in
         let k : TurnHolds script b run (tasks (acts_of b acts)) w.ever d = desk-ok script b run (tasks (acts_of b acts)) w.ever (desks.desk_at log mind.heard) i desk-given may in
-        let base : d.base ≡ log = (turn-added script b run (tasks (acts_of b acts)) (desks.desk_at log mind.heard) i).base in
+        let base : d.past ≡ log = (turn-added script b run (tasks (acts_of b acts)) (desks.desk_at log mind.heard) i).past in
         record {
-          grew = subst (λ l. Grew (brokers.FitsLog script b) l d.fresh) base k.desk.grew;
-          proofs = new-have (λ l f. broker_posts.RestsOn b w.ever (book l) f) log d.fresh (subst (λ l. broker_posts.HaveCauses b w.ever (d.fresh ++ l)) base k.desk.causes);
+          grew = subst (λ l. Grew (brokers.FitsLog script b) l d.added) base k.desk.grew;
+          proofs = new-have (λ l f. broker_posts.RestsOn b w.ever (book l) f) log d.added (subst (λ l. broker_posts.HaveCauses b w.ever (d.added ++ l)) base k.desk.causes);
           mind_ok = tt;
-          outs = subst (λ l. Every (λ o. broker_posts.PostHolds script b (tries (book (d.fresh ++ l))) o.to o.message) d.outs) base k.desk.outs;
-          ready = subst (λ l. brokers.IsReady script b run (tasks (acts_of b acts)) (d.fresh ++ l)) base k.ready;
+          outs = subst (λ l. Every (λ o. broker_posts.PostHolds script b (tries (book (d.added ++ l))) o.to o.message) d.outs) base k.desk.outs;
+          ready = subst (λ l. brokers.IsReady script b run (tasks (acts_of b acts)) (d.added ++ l)) base k.ready;
         }
 
   turn-kind : (w : Around) (run : ℕ) (acts : List ActSpec) (k : NodeKind) (i : ℕ) (log : List Effect) (mind : Mind) (input : Input) →

@@ -23,7 +23,7 @@ use Rattle.world_facts.specs.Rules.{Around, NodeFacts, Turns}
 -- ---- turns
 
 abbrev pub of_hand : Mind → Hand → Given
-of_hand mind h = record { effects = h.fresh; outs = h.outs; mind = record { hands = hands.mind_of h; heard = mind.heard } }
+of_hand mind h = record { effects = h.added; outs = h.outs; mind = record { hands = hands.mind_of h; heard = mind.heard } }
 
 abbrev pub repository_turn : ℕ → List Effect → Mind → Input → Given
 repository_turn r log mind Going = nothing_given mind
@@ -32,7 +32,7 @@ repository_turn r log mind (Learning s committed) = of_hand mind (hands.hand_tur
 repository_turn r log mind (Hearing t) = of_hand mind (hands.hand_turn (hands.hand_at r log mind.hands) (hands.Hearing t))
 
 abbrev pub of_desk : Mind → desks.Desk → Given
-of_desk mind d = record { effects = d.fresh; outs = d.outs; mind = record { hands = mind.hands; heard = d.heard } }
+of_desk mind d = record { effects = d.added; outs = d.outs; mind = record { hands = mind.hands; heard = d.heard } }
 
 module _ (script : List ℕ → Tree) where
   abbrev pub broker_turn : ℕ → List ActSpec → ℕ → List Effect → Mind → Input → Given

@@ -70,9 +70,9 @@ module _ (F : NodeFacts) where
     pub proofs : Each (F.Proof w n) log
     pub mind_ok : F.MindOk w.ever n mind
     pub ready : F.Ready run acts n log
-    pub fresh : List Effect
-    pub own : log ≡ fresh ++ w.logs n
-    pub grew : Grew (F.Fits n) (w.logs n) fresh
+    pub added : List Effect
+    pub own : log ≡ added ++ w.logs n
+    pub grew : Grew (F.Fits n) (w.logs n) added
 
   -- and what it has to give
   pub record TurnGives (w : Around) (run : ℕ) (acts : List ActSpec) (n : NodeId) (log : List Effect) (g : Given) : Type 0 where

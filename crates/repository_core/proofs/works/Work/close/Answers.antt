@@ -21,7 +21,7 @@ pub returns-clause-log : goal.returns-clause-log
 returns-clause-log g c =
     let t = tell-log c.args.stamp c.is_commit.result c.decided.new.self in (
       c.in_ok-release.ensures.log.0 ∙ ap (λ (h : Hand). h.number) c.in_ok-tell_askers.ensures ∙ t.0 ∙ ap (λ (h : Hand). h.number) c.in_ok-decided.ensures ∙ c.in_ok-decide.ensures.log.0,
-      c.in_ok-release.ensures.log.1 ∙ ap (λ (h : Hand). h.base) c.in_ok-tell_askers.ensures ∙ t.1 ∙ ap (λ (h : Hand). h.base) c.in_ok-decided.ensures ∙ c.in_ok-decide.ensures.log.1,
+      c.in_ok-release.ensures.log.1 ∙ ap (λ (h : Hand). h.past) c.in_ok-tell_askers.ensures ∙ t.1 ∙ ap (λ (h : Hand). h.past) c.in_ok-decided.ensures ∙ c.in_ok-decide.ensures.log.1,
     )
 
 pub returns-clause-gives : goal.returns-clause-gives

@@ -31,7 +31,7 @@ pub returns-clause-log : goal.returns-clause-log
 returns-clause-log g c =
     let t = tell-log c.args.stamp false (note (effect.Decide c.args.stamp c.args.decision) c.args.self.now.draft) in (
       c.in_ok-release.ensures.log.0 ∙ ap (λ (h : Hand). h.number) c.in_ok-expire-2.ensures ∙ t.0,
-      c.in_ok-release.ensures.log.1 ∙ ap (λ (h : Hand). h.base) c.in_ok-expire-2.ensures ∙ t.1,
+      c.in_ok-release.ensures.log.1 ∙ ap (λ (h : Hand). h.past) c.in_ok-expire-2.ensures ∙ t.1,
     )
 
 pub returns-clause-gives : goal.returns-clause-gives

@@ -16,7 +16,7 @@ pub returns-clause-log : goal.returns-clause-log
 returns-clause-log g c =
     let a = again-log c.expire_all.new.self.draft in (
       ap (λ (h : Hand). h.number) c.in_ok-ask_again.ensures ∙ a.0 ∙ c.in_ok-expire_all.ensures.log.0 ∙ ap (λ (h : Hand). h.number) c.hear.ensures,
-      ap (λ (h : Hand). h.base) c.in_ok-ask_again.ensures ∙ a.1 ∙ c.in_ok-expire_all.ensures.log.1 ∙ ap (λ (h : Hand). h.base) c.hear.ensures,
+      ap (λ (h : Hand). h.past) c.in_ok-ask_again.ensures ∙ a.1 ∙ c.in_ok-expire_all.ensures.log.1 ∙ ap (λ (h : Hand). h.past) c.hear.ensures,
     )
 
 pub returns-clause-gives : goal.returns-clause-gives
