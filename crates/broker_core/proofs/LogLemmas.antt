@@ -17,7 +17,7 @@ use Rattle.broker_core.specs.Fits.{fits, counts, add_if, keep, unfit_act, first_
 use Rattle.broker_core.specs.Counted.{counts_now, counting}
 use Rattle.broker_core.specs.Notes.{Shows, noted, passed, run_begun, fits_at}
 use Rattle.broker_core.specs.Ledgers.{LedgerParts, kept, answers_noted}
-use Rattle.broker_core.specs.Replays.{fresh_ledger, fits_now, added, logged, unfit_index, unfit_at, led, other_at, counts_at, counts_led}
+use Rattle.broker_core.specs.TakenUp.{fresh_ledger, fits_now, added, logged, unfit_index, unfit_at, led, other_at, counts_at, counts_led}
 use Rattle.broker_core.specs.Inputs.{fault_of}
 use Rattle.broker_core.proofs.SoundLemmas.{sound-kept, closed-run}
 use Rattle.broker_core.proofs.FitLemmas.{fits-is}

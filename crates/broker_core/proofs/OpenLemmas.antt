@@ -12,7 +12,7 @@ use Rattle.broker_core.specs.Fits.{keep, resume_fault}
 use Rattle.broker_core.specs.Stages.{nothing_heard}
 use Rattle.broker_core.specs.Notes.{Shows, passed}
 use Rattle.broker_core.specs.Ledgers.{LedgerParts, kept}
-use Rattle.broker_core.specs.Replays.{fresh_ledger, fits_now, added, led, other_at}
+use Rattle.broker_core.specs.TakenUp.{fresh_ledger, fits_now, added, led, other_at}
 use Rattle.broker_core.specs.Inputs.{fault_of}
 use Rattle.broker_core.specs.Parts.{IsLedTo, opened_broker, parts_of}
 use Rattle.broker_core.specs.Brokers.{Opens}

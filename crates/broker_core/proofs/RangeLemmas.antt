@@ -53,7 +53,7 @@ use Rattle.broker_core.specs.Rows.{when}
 use Rattle.broker_core.specs.Notes.{act_at, answered_in, answers_given, another_at, changed, fits_try_at, end_noted, home_of, index_of, most_of, open_last, passed, run_begun, shown_by, stop_at, time_at, timeout_of, tree_of, unended}
 use Rattle.broker_core.specs.Phases.{phase_of, phase_by_last, phase_by_stop, phase_by_open, phase_at, closed_at, closed_in, standing_for, standing_by, standing_at, ends_at, commit_answered, early_answered, opening_row, ended_row, reading_row, writing_row, decided_of, decision_row, reply_for, reply_by, reply_at, start_at, shown_at, by_clock_at, try_or_spent_at, after_tries_at, due_at, by_phase}
 use Rattle.broker_core.specs.Ledgers.{IsBrokerAct, AreBrokerActs, AreNotes, LedgerParts, Settled, kept, owed_now, settle_on, settled, most_steps}
-use Rattle.broker_core.specs.Replays.{fits_now, added, logged, led, fresh_ledger}
+use Rattle.broker_core.specs.TakenUp.{fits_now, added, logged, led, fresh_ledger}
 use Rattle.broker_core.specs.Inputs.{listed, phase_in, effects_from, ledger_from}
 use Rattle.broker_core.specs.Ranges.{GivenInRange, HasStamp, IsHeard, FirstInRange, AreInRange, Ranged}
 use Rattle.script_ranges.proofs.ScriptRangeLemmas.{printable-InRange}

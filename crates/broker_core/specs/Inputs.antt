@@ -13,7 +13,7 @@ use Rattle.broker_core.specs.declared.notes.Notes.{Notes}
 use Rattle.broker_core.specs.declared.phases.Phase.{Phase}
 use Rattle.broker_core.specs.Phases.{phase_at}
 use Rattle.broker_core.specs.Ledgers.{LedgerParts, MayAdd, Settled, kept, settled, most_steps}
-use Rattle.broker_core.specs.Replays.{added}
+use Rattle.broker_core.specs.TakenUp.{added}
 
 abbrev pub listed : Option Out → List Out
 listed None = []

@@ -10,10 +10,10 @@ pub mod Parts
 pub mod Phases
 pub mod Ranges
 pub mod Readings
-pub mod Replays
 pub mod Rows
 pub mod Sound
 pub mod Stages
+pub mod TakenUp
 pub mod Tasks
 pub mod Tests
 pub mod Turns

@@ -9,14 +9,13 @@ ghost use Rattle.broker_core.specs.Turns.{Go, Hear, Take};
 ghost use Rattle.broker_core.specs.Phases as phases;
 ghost use Rattle.broker_core.specs.Ledgers as ledgers;
 ghost use Rattle.broker_core.specs.Inputs as inputs;
-ghost use Rattle.broker_core.specs.Replays as replays;
 ghost use Rattle.broker_core.specs.Brokers as spec;
 ghost use Rattle.broker_core.specs.Ranges as ranges;
 ghost use Rattle.message_form.specs.Messages.{IsMessage};
 ghost use Rattle.turn_form.specs.Ranges.{AreEffects, AreOuts};
 
 use crate::heards::Heard;
-use crate::ledgers::Replay;
+use crate::ledgers::Ledger;
 use crate::logs::take_up_all;
 use crate::owed::settle;
 use crate::phases::{Phase, phase_now, standing};
@@ -35,7 +34,7 @@ use value_form::ActSpec;
 /// A call that answers an error found no memory, and the broker is as before.
 #[derive(Drop)]
 pub struct Broker {
-    ledger: Replay,
+    ledger: Ledger,
     heard: Heard,
     /// The stage of the last try.
     phase: Phase,
@@ -78,7 +77,7 @@ fn listed(alloc: Global, out: Option<Out>) -> Result<Vec<Out>, AllocError>
 
 // Adds the effect to the ledger, if there is one, and to the list.
 fn add_first(
-    ledger: &mut Replay,
+    ledger: &mut Ledger,
     effects: &mut Vec<Effect>,
     first: Option<Effect>,
 ) -> Result<(), AllocError>
@@ -102,7 +101,7 @@ fn add_first(
 
 // Adds the effect, and those that are owed after it, and says what is to be sent.
 fn yielded(
-    ledger: &mut Replay,
+    ledger: &mut Ledger,
     log: &mut SnapshotLog,
     first: Option<Effect>,
     heard: &Heard,
@@ -136,7 +135,7 @@ fn yielded(
 
 // Why the broker can't go on from a log that led to these notes: `other` is the index of the first act
 // that isn't the plan's.
-fn resume_fault(ledger: &Replay, other: Option<u32>) -> Option<ResumeFault>
+fn resume_fault(ledger: &Ledger, other: Option<u32>) -> Option<ResumeFault>
     ensures fault { result ≡ inputs.fault_of ledger.now other }
     ensures are_notes { ledgers.AreNotes ledger.now.acts ledger.now.notes ledger.now.answers }
 {
@@ -151,7 +150,7 @@ fn resume_fault(ledger: &Replay, other: Option<u32>) -> Option<ResumeFault>
 }
 
 // Whether each act of the plan has its outcome.
-fn is_over(ledger: &Replay) -> bool
+fn is_over(ledger: &Ledger) -> bool
     ensures { result ≡ inputs.over_by ledger.now.run ledger.now.acts ledger.now.notes }
 {
     if !ledger.is_here() {
@@ -186,7 +185,7 @@ impl Broker {
         ensures opens { (script : List ℕ → Tree) → Scripted script acts.now → spec.Opens script number run acts.now effects.now result }
         ensures fresh { IfOk result (λ b. b ≡ spec.opened_broker number run acts.now effects.now) }
     {
-        let mut ledger = Replay::new(alloc, number, run, acts)?;
+        let mut ledger = Ledger::new(alloc, number, run, acts)?;
         let other = take_up_all(&mut ledger, effects)?;
         if let Some(fault) = resume_fault(&ledger, other) {
             return Err(fault);

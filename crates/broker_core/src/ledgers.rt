@@ -16,7 +16,7 @@ use value_form::ActSpec;
 /// What a log comes to for a broker in a run of a plan. Contracts see the plan's acts, the notes and
 /// the answers of the last try.
 #[derive(Drop)]
-pub struct Replay {
+pub struct Ledger {
     alloc: Global,
     number: u8,
     run: u32,
@@ -28,7 +28,7 @@ pub struct Replay {
     stepper: Option<Run>,
 }
 
-impl Model for Replay {
+impl Model for Ledger {
     ghost use Rattle.std.specs.Coded.{codes};
     ghost use Rattle.value_form.specs.contracts.scripts.Stmt as stmt;
     ghost use Rattle.broker_core.specs.Ledgers.{LedgerParts, IsLedger};
@@ -53,16 +53,16 @@ fn copy_acts(alloc: Global, acts: &[ActSpec]) -> Result<Vec<ActSpec>, AllocError
     Ok(copies)
 }
 
-impl Replay {
+impl Ledger {
     /// Of an empty log.
-    pub fn new(alloc: Global, number: u8, run: u32, acts: &[ActSpec]) -> Result<Replay, AllocError>
+    pub fn new(alloc: Global, number: u8, run: u32, acts: &[ActSpec]) -> Result<Ledger, AllocError>
         requires low { 1 ≤ number }
         requires high { number ≤ 16 }
         requires acts { spec.AreBrokerActs acts.now }
         ensures { IfOk result (λ l. l ≡ record { number = number; run = run; acts = acts.now; notes = notes.blank_notes; answers = [] }) }
     {
         let acts = copy_acts(alloc, acts)?;
-        Ok(Replay {
+        Ok(Ledger {
             alloc,
             number,
             run,

@@ -11,9 +11,9 @@ ghost use Rattle.broker_core.specs.Tests as tests;
 ghost use Rattle.broker_core.specs.Fits as fits;
 ghost use Rattle.broker_core.specs.Notes as notes;
 ghost use Rattle.broker_core.specs.Ledgers as ledgers;
-ghost use Rattle.broker_core.specs.Replays as spec;
+ghost use Rattle.broker_core.specs.TakenUp as spec;
 
-use crate::ledgers::Replay;
+use crate::ledgers::Ledger;
 use effect_form::{Effect, Outcome};
 use pseudo_time::Stamp;
 use script_form::print;
@@ -55,7 +55,7 @@ fn is_act(
     )
 }
 
-fn fits_try(ledger: &Replay, index: u32, stamp: Stamp) -> bool
+fn fits_try(ledger: &Ledger, index: u32, stamp: Stamp) -> bool
     ensures { result ≡ notes.fits_try_at ledger.now.number (notes.act_at ledger.now.acts ledger.now.notes) index stamp ledger.now.notes }
 {
     let Some(act) = ledger.last_act() else {
@@ -71,7 +71,7 @@ fn fits_try(ledger: &Replay, index: u32, stamp: Stamp) -> bool
 }
 
 // Whether this is the step of the open try's current request.
-fn fits_step(ledger: &Replay, step: u32) -> bool
+fn fits_step(ledger: &Ledger, step: u32) -> bool
     ensures fits { result ≡ notes.fits_step_at step (notes.open_last ledger.now.notes) }
     ensures tried { result ≡ true → ledger.now.notes.tries ≢ 0 }
 {
@@ -87,7 +87,7 @@ fn is_spent(outcome: &Outcome) -> bool
     matches!(outcome, Outcome::Spent { .. })
 }
 
-fn fits_end(ledger: &Replay, index: u32, outcome: &Outcome) -> bool
+fn fits_end(ledger: &Ledger, index: u32, outcome: &Outcome) -> bool
     ensures { result ≡ notes.fits_at ledger.now.number ledger.now.acts ledger.now.notes (ledgers.kept ledger.now.notes ledger.now.answers) (effect.End index outcome.now) }
 {
     let Some(act) = ledger.last_act() else {
@@ -100,7 +100,7 @@ fn fits_end(ledger: &Replay, index: u32, outcome: &Outcome) -> bool
     index == act.index && notes.open().is_some()
 }
 
-fn reads(ledger: &mut Replay) -> Result<bool, AllocError>
+fn reads(ledger: &mut Ledger) -> Result<bool, AllocError>
     requires { ledger.old.notes.tries ≢ 0 }
     ensures same { ledger.new ≡ ledger.old }
     ensures reads { IfOk result (λ r. r ≡ fits.reads_now (notes.stop_at ledger.old.acts ledger.old.notes (ledgers.kept ledger.old.notes ledger.old.answers))) }
@@ -109,7 +109,7 @@ fn reads(ledger: &mut Replay) -> Result<bool, AllocError>
     Ok(matches!(next, Next::Read(_)))
 }
 
-fn writes(ledger: &mut Replay) -> Result<bool, AllocError>
+fn writes(ledger: &mut Ledger) -> Result<bool, AllocError>
     requires { ledger.old.notes.tries ≢ 0 }
     ensures same { ledger.new ≡ ledger.old }
     ensures writes { IfOk result (λ r. r ≡ fits.writes_now (notes.stop_at ledger.old.acts ledger.old.notes (ledgers.kept ledger.old.notes ledger.old.answers))) }
@@ -119,7 +119,7 @@ fn writes(ledger: &mut Replay) -> Result<bool, AllocError>
 }
 
 // Whether an effect fits, in this run.
-fn does_fit(ledger: &mut Replay, effect: &Effect) -> Result<bool, AllocError>
+fn does_fit(ledger: &mut Ledger, effect: &Effect) -> Result<bool, AllocError>
     ensures same { ledger.new ≡ ledger.old }
     ensures fits { IfOk result (λ r. r ≡ spec.fits_now ledger.old effect.now) }
 {
@@ -175,7 +175,7 @@ fn unfit_index(fits: bool, effect: &Effect) -> Option<u32>
 }
 
 // Takes an effect of the log up. Gives whether it is of this run and counts.
-fn count(ledger: &mut Replay, effect: &Effect) -> Result<bool, AllocError>
+fn count(ledger: &mut Ledger, effect: &Effect) -> Result<bool, AllocError>
     ensures logged { OnOk result (ledger.new ≡ spec.logged ledger.old effect.now) }
     ensures counts { IfOk result (λ c. c ≡ spec.counts_at ledger.old effect.now) }
 {
@@ -191,7 +191,7 @@ fn count(ledger: &mut Replay, effect: &Effect) -> Result<bool, AllocError>
 }
 
 // Takes an effect of the log up. Gives the index of an act of this run that doesn't fit.
-fn take_up(ledger: &mut Replay, effect: &Effect) -> Result<Option<u32>, AllocError>
+fn take_up(ledger: &mut Ledger, effect: &Effect) -> Result<Option<u32>, AllocError>
     ensures logged { OnOk result (ledger.new ≡ spec.logged ledger.old effect.now) }
     ensures unfit { IfOk result (λ i. i ≡ spec.unfit_at ledger.old effect.now) }
 {
@@ -204,7 +204,7 @@ fn take_up(ledger: &mut Replay, effect: &Effect) -> Result<Option<u32>, AllocErr
 }
 
 /// Takes a log up. Gives the index of the first act of this run that doesn't fit.
-pub fn take_up_all(ledger: &mut Replay, effects: &[Effect]) -> Result<Option<u32>, AllocError>
+pub fn take_up_all(ledger: &mut Ledger, effects: &[Effect]) -> Result<Option<u32>, AllocError>
     ensures led { OnOk result (ledger.new ≡ spec.led ledger.old (reverse effects.now)) }
     ensures other { IfOk result (λ i. i ≡ spec.other_at ledger.old (reverse effects.now)) }
 {
@@ -230,7 +230,7 @@ pub fn counted_effects(
     requires acts { ledgers.AreBrokerActs acts.now }
     ensures { (script : List ℕ → Tree) → Scripted script acts.now → IfOk result (λ flags. reverse flags.items ≡ counting script number run (tasks.tasks acts.now) (reverse effects.now)) }
 {
-    let mut ledger = Replay::new(alloc, number, run, acts)?;
+    let mut ledger = Ledger::new(alloc, number, run, acts)?;
     let mut flags = Vec::new(alloc);
     for effect in effects {
         let counts = count(&mut ledger, effect)?;

@@ -5,7 +5,7 @@ ghost use Rattle.broker_core.specs.Ledgers as ledgers;
 ghost use Rattle.broker_core.specs.Phases as spec;
 
 use crate::heards::Heard;
-use crate::ledgers::Replay;
+use crate::ledgers::Ledger;
 use crate::phases::{Phase, phase_now};
 use effect_form::{Effect, Outcome};
 use pseudo_time::{Stamp, next_clock};
@@ -32,7 +32,7 @@ fn start(alloc: Global, act: Option<&ActSpec>) -> Result<Option<Effect>, AllocEr
 }
 
 // A further try of the last act, or that it is spent.
-fn try_or_spent(ledger: &Replay) -> Effect
+fn try_or_spent(ledger: &Ledger) -> Effect
     requires { ledger.now.notes.started ≢ 0 }
     ensures { result ≡ spec.try_or_spent_at ledger.now.number (notes.act_at ledger.now.acts ledger.now.notes) ledger.now.notes }
 {
@@ -59,7 +59,7 @@ fn try_or_spent(ledger: &Replay) -> Effect
 }
 
 // What the last act owes, where it isn't spent.
-fn after_tries(ledger: &Replay, heard: &Heard) -> Result<Option<Effect>, AllocError>
+fn after_tries(ledger: &Ledger, heard: &Heard) -> Result<Option<Effect>, AllocError>
     requires { ledger.now.notes.started ≢ 0 }
     ensures { IfOk result (λ e. e ≡ spec.after_tries_at ledger.now.number ledger.now.acts heard.now ledger.now.notes) }
 {
@@ -76,7 +76,7 @@ fn after_tries(ledger: &Replay, heard: &Heard) -> Result<Option<Effect>, AllocEr
 }
 
 // A further try, or the next act.
-fn due(ledger: &Replay, heard: &Heard) -> Result<Option<Effect>, AllocError>
+fn due(ledger: &Ledger, heard: &Heard) -> Result<Option<Effect>, AllocError>
     ensures { IfOk result (λ e. e ≡ spec.due_at ledger.now.number ledger.now.acts heard.now ledger.now.notes) }
 {
     let notes = ledger.notes();
@@ -89,7 +89,7 @@ fn due(ledger: &Replay, heard: &Heard) -> Result<Option<Effect>, AllocError>
 }
 
 // The next effect that is owed at this stage.
-fn owed(ledger: &Replay, heard: &Heard, phase: &Phase) -> Result<Option<Effect>, AllocError>
+fn owed(ledger: &Ledger, heard: &Heard, phase: &Phase) -> Result<Option<Effect>, AllocError>
     ensures { IfOk result (λ e. e ≡ spec.owed_at ledger.now.number ledger.now.acts ledger.now.run ledger.now.notes heard.now phase.now) }
 {
     if ledger.notes().run < ledger.run() {
@@ -111,7 +111,7 @@ fn owed(ledger: &Replay, heard: &Heard, phase: &Phase) -> Result<Option<Effect>,
 
 /// Adds the effects that are owed, one after another, and gives the stage that this leads to.
 pub fn settle(
-    ledger: &mut Replay,
+    ledger: &mut Ledger,
     heard: &Heard,
     effects: &mut Vec<Effect>,
 ) -> Result<Phase, AllocError>

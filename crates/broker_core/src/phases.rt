@@ -9,7 +9,7 @@ ghost use Rattle.broker_core.specs.Phases as spec;
 ghost use Rattle.pseudo_time.specs.Nodes as nodes;
 
 use crate::heards::Heard;
-use crate::ledgers::Replay;
+use crate::ledgers::Ledger;
 use crate::notes::{Last, Notes};
 use effect_form::Outcome;
 use message_form::Message;
@@ -137,7 +137,7 @@ fn is_asking(next: &Next) -> bool
 }
 
 // The stage of the open try.
-fn phase_by_open(ledger: &mut Replay, heard: &Heard, last: Last) -> Result<Phase, AllocError>
+fn phase_by_open(ledger: &mut Ledger, heard: &Heard, last: Last) -> Result<Phase, AllocError>
     requires tried { ledger.old.notes.tries ≢ 0 }
     requires few { last.answered ≤ 10000 }
     ensures same { ledger.new ≡ ledger.old }
@@ -159,7 +159,7 @@ fn phase_by_open(ledger: &mut Replay, heard: &Heard, last: Last) -> Result<Phase
 }
 
 /// The stage of the last try of this run.
-pub fn phase_now(ledger: &mut Replay, heard: &Heard) -> Result<Phase, AllocError>
+pub fn phase_now(ledger: &mut Ledger, heard: &Heard) -> Result<Phase, AllocError>
     ensures same { ledger.new ≡ ledger.old }
     ensures phase { IfOk result (λ p. p ≡ spec.phase_at ledger.old.acts ledger.old.run ledger.old.notes (kept ledger.old.notes ledger.old.answers) heard.now) }
 {
@@ -226,7 +226,7 @@ fn standing_for(
 }
 
 /// The outstanding request at this stage.
-pub fn standing(ledger: &Replay, phase: &Phase) -> Result<Option<Out>, AllocError>
+pub fn standing(ledger: &Ledger, phase: &Phase) -> Result<Option<Out>, AllocError>
     ensures standing { IfOk result (λ o. o ≡ spec.standing_at ledger.now.acts ledger.now.notes phase.now) }
     ensures are_notes { AreNotes ledger.now.acts ledger.now.notes ledger.now.answers }
 {

@@ -7,7 +7,7 @@ ghost use Rattle.broker_core.specs.Ledgers.{kept};
 ghost use Rattle.script_run.specs.RunParts.{stop_of};
 
 use crate::heards::Heard;
-use crate::ledgers::Replay;
+use crate::ledgers::Ledger;
 use crate::notes::Last;
 use crate::phases::Phase;
 use effect_form::{Effect, Outcome};
@@ -194,7 +194,7 @@ fn while_deciding(index: u32, last: &Last, phase: &Phase, heard: &Heard, message
 }
 
 // Whether the script is finished, where the message is a decision that asks for it.
-fn is_finished_for(ledger: &mut Replay, message: &Message) -> Result<bool, AllocError>
+fn is_finished_for(ledger: &mut Ledger, message: &Message) -> Result<bool, AllocError>
     requires { ledger.old.notes.tries ≢ 0 }
     ensures same { ledger.new ≡ ledger.old }
     ensures finished { IfOk result (λ f. f ≡ spec.finished_for message.now (notes.stop_at ledger.old.acts ledger.old.notes (kept ledger.old.notes ledger.old.answers))) }
@@ -210,7 +210,7 @@ fn is_finished_for(ledger: &mut Replay, message: &Message) -> Result<bool, Alloc
 
 /// What a message comes to at the stage of the last try.
 pub fn reply_to(
-    ledger: &mut Replay,
+    ledger: &mut Ledger,
     phase: &Phase,
     heard: &Heard,
     message: &Message,

@@ -19,8 +19,8 @@ use Rattle.broker_core.proofs.heards.Heard.TheSendSync as heard
 use Rattle.broker_core.proofs.phases.Phase.TheSendSync as phase
 use Rattle.broker_core.proofs.notes.Notes.TheSendSync as notes
 use Rattle.broker_core.proofs.givens.Given.TheSendSync as given
-use Rattle.broker_core.specs.contracts.ledgers.Replay as Replay
-use Rattle.broker_core.specs.contracts.ledgers.Replay.TheInside as ReplayInside
+use Rattle.broker_core.specs.contracts.ledgers.Ledger as Ledger
+use Rattle.broker_core.specs.contracts.ledgers.Ledger.TheInside as LedgerInside
 use Rattle.broker_core.specs.contracts.brokers.Broker as Broker
 use Rattle.broker_core.specs.contracts.brokers.Broker.TheInside as BrokerInside
 use Rattle.broker_node.specs.contracts.acts.OwnActs as OwnActs
@@ -34,14 +34,14 @@ n8 = search sendable depth 20
 run_send : IsSend Run.the_row
 run_send = view_send _ _ _ _ _ (declared_send RunInside.the_type (script_send, (machine.the_send, (option.the_send _ bytes.the_send, (option.the_send _ halt.the_send, tt)))))
 
-replay_send : IsSend Replay.the_row
-replay_send = view_send _ _ _ _ _ (declared_send ReplayInside.the_type (send, (n8, (n32, (Vec-send _ act_send, (notes.the_send, (Vec-send _ given.the_send, (option.the_send _ run_send, tt))))))))
+ledger_send : IsSend Ledger.the_row
+ledger_send = view_send _ _ _ _ _ (declared_send LedgerInside.the_type (send, (n8, (n32, (Vec-send _ act_send, (notes.the_send, (Vec-send _ given.the_send, (option.the_send _ run_send, tt))))))))
 
 pub log_send : IsSend SnapshotLog.the_row
 log_send = view_send _ _ _ _ _ (declared_send SnapshotLogInside.the_type (Vec-send _ (search sendable depth 20), tt))
 
 broker_send : IsSend Broker.the_row
-broker_send = view_send _ _ _ _ _ (declared_send BrokerInside.the_type (replay_send, (heard.the_send, (phase.the_send, (log_send, tt)))))
+broker_send = view_send _ _ _ _ _ (declared_send BrokerInside.the_type (ledger_send, (heard.the_send, (phase.the_send, (log_send, tt)))))
 
 acts_send : IsSend OwnActs.the_row
 acts_send = view_send _ _ _ _ _ (declared_send OwnActsInside.the_type (Vec-send _ act_send, tt))

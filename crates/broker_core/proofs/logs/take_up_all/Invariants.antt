@@ -1,5 +1,5 @@
 use Rattle.std.proofs.Common.{◌≡◌, reverse, take}
-use Rattle.broker_core.specs.Replays as spec
+use Rattle.broker_core.specs.TakenUp as spec
 use Rattle.broker_core.proofs.logs.take_up_all.Given as goal
 
 -- the effects so far were taken up

@@ -3,8 +3,8 @@ use Rattle.broker_core.specs.declared.givens.Given.{Given}
 use Rattle.broker_core.specs.Notes.{answer_noted}
 use Rattle.broker_core.specs.Ledgers.{IsLedger, kept}
 use Rattle.broker_core.proofs.CountLemmas.{asked-viewed, ledger-run, ledger-none}
-use Rattle.broker_core.proofs.ledgers.Replay.add_answer.Goals as goal
-use Rattle.broker_core.proofs.ledgers.Replay.add_answer.Goals.{in-Some+in_ok-give, in_default}
+use Rattle.broker_core.proofs.ledgers.Ledger.add_answer.Goals as goal
+use Rattle.broker_core.proofs.ledgers.Ledger.add_answer.Goals.{in-Some+in_ok-give, in_default}
 
 pub invariant_of-self-2 : goal.invariant_of-self-2
 invariant_of-self-2 c =

@@ -1,5 +1,5 @@
 use Rattle.broker_core.proofs.StopLemmas.{stepped, renewed}
-use Rattle.broker_core.proofs.ledgers.Replay.stop.Goals as goal
+use Rattle.broker_core.proofs.ledgers.Ledger.stop.Goals as goal
 
 pub returns-in-Some-clause-stop : goal.returns-in-Some-clause-stop
 returns-in-Some-clause-stop c =

@@ -1,6 +1,6 @@
 use Rattle.value_form.specs.Mirror.{block}
 use Rattle.script_form.proofs.RangeLemmas.{printable-range}
-use Rattle.broker_core.proofs.ledgers.Replay.resumed.Goals as goal
+use Rattle.broker_core.proofs.ledgers.Ledger.resumed.Goals as goal
 
 -- a script of the language is in range
 pub resumed-requires-clause-script : goal.resumed-requires-clause-script

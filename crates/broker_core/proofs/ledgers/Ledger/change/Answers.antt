@@ -2,7 +2,7 @@ use Rattle.std.proofs.Common.{sym, subst}
 use Rattle.broker_core.specs.declared.notes.Notes.{Notes}
 use Rattle.broker_core.specs.Ledgers.{AreNotes}
 use Rattle.broker_core.proofs.CountLemmas.{try-are, may-above}
-use Rattle.broker_core.proofs.ledgers.Replay.change.Goals as goal
+use Rattle.broker_core.proofs.ledgers.Ledger.change.Goals as goal
 
 pub invariant_of-self-in-Try : goal.invariant_of-self-in-Try
 invariant_of-self-in-Try c = record {
