@@ -37,7 +37,7 @@ use Rattle.repository_core.specs.contracts.books.Books as Books
 use Rattle.repository_core.specs.contracts.works.Work as Work
 use Rattle.repository_core.specs.contracts.repositories.Repository as Repository
 use Rattle.repository_core.specs.contracts.repositories.Repository.TheInside as RepositoryInside
-use Rattle.repository_node.specs.contracts.books.Book as Book
+use Rattle.repository_node.specs.contracts.kept_cores.KeptCore as KeptCore
 use Rattle.repository_node.specs.contracts.cores.RepositoryCore as RepositoryCore
 
 n8 : IsSend (as_row u8-field)
@@ -87,8 +87,8 @@ module _ (M : RattleType) (m : medium.Ghosts M.Denot) (sm : IsSend M) where
   table_send : IsSend (HeaderTable.the_row M m)
   table_send = declared_send (HeaderTable.the_type M m) (send, (ledger_send, (store.the_send M m sm, (flag, tt))))
 
-  book_send : IsSend (Book.the_row M m)
-  book_send = variants_send (Book.enum M m) ((repository_send (HeaderTable.the_row M m) Beneath.the_row (table.ghosts M m table.no_dict table.no_dict) table_send, tt), ((as_row_send (row_field M) sm, tt), tt))
+  kept_send : IsSend (KeptCore.the_row M m)
+  kept_send = variants_send (KeptCore.enum M m) ((repository_send (HeaderTable.the_row M m) Beneath.the_row (table.ghosts M m table.no_dict table.no_dict) table_send, tt), ((as_row_send (row_field M) sm, tt), tt))
 
   pub core_send : IsSend (RepositoryCore.the_row M m)
-  core_send = declared_send (RepositoryCore.the_type M m) (n8, (n64, (book_send, tt)))
+  core_send = declared_send (RepositoryCore.the_type M m) (n8, (n64, (kept_send, tt)))

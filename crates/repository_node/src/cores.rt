@@ -6,9 +6,9 @@ ghost use Rattle.repository_core.specs.Turns.{opened_mind};
 ghost use Rattle.version_store.specs.StoreWords.{medium_of, effects_in};
 ghost use Rattle.object_header.specs.Ledgers.{content};
 ghost use Rattle.object_header.specs.Tables.{ledger_of, store_of};
-ghost use Rattle.repository_node.specs.Books.{HasMarksOfLog, medium_in};
+ghost use Rattle.repository_node.specs.KeptCores.{HasMarksOfLog, medium_in};
 
-use crate::books::Book;
+use crate::kept_cores::KeptCore;
 use effect_form::Effect;
 use medium_port::Medium;
 use message_form::Message;
@@ -27,23 +27,23 @@ pub struct RepositoryCore<M: Medium> {
     pub(crate) number: u8,
     /// The moment at which the run began.
     pub(crate) start: u64,
-    pub(crate) book: Book<M>,
+    pub(crate) kept: KeptCore<M>,
     ghost moment: { start ≤ 2 ^ 62 },
-    ghost marked: { HasMarksOfLog book },
+    ghost marked: { HasMarksOfLog kept },
 }
 
 impl<M: Medium> StoredCore<M> for RepositoryCore<M> {
     ghost use Rattle.std.specs.Prelude.{◌≡◌};
     ghost use Rattle.pseudo_time.specs.Nodes.{repository};
-    ghost use Rattle.repository_node.specs.Books.{is_able, medium_in, HasLife, Owes};
+    ghost use Rattle.repository_node.specs.KeptCores.{is_able, medium_in, HasLife, Owes};
 
-    ghost parts = { λ c. record { node = repository c.number; able = is_able c.book; medium = medium_in c.book } };
+    ghost parts = { λ c. record { node = repository c.number; able = is_able c.kept; medium = medium_in c.kept } };
 
     ghost fits = { λ b c. b.start ≡ c.start };
 
-    ghost lives = { λ b c l. HasLife c.book (repository c.number) l };
+    ghost lives = { λ b c l. HasLife c.kept (repository c.number) l };
 
-    ghost owes = { λ c effects. Owes c.book effects };
+    ghost owes = { λ c effects. Owes c.kept effects };
 
     fn node(&self) -> NodeId {
         NodeId::repository(self.number)
@@ -55,30 +55,30 @@ impl<M: Medium> StoredCore<M> for RepositoryCore<M> {
     }
 
     fn take(&mut self, from: NodeId, message: &Message) -> Result<Turn, HistoryFault> {
-        match &mut self.book {
-            Book::Open(core) => core.take(from, message),
-            Book::Shut(_) => Err(HistoryFault::NoMemory),
+        match &mut self.kept {
+            KeptCore::Open(core) => core.take(from, message),
+            KeptCore::Shut(_) => Err(HistoryFault::NoMemory),
         }
     }
 
     fn learn(&mut self, stamp: Stamp, committed: bool) -> Result<Turn, HistoryFault> {
-        match &mut self.book {
-            Book::Open(core) => core.learn(stamp, committed),
-            Book::Shut(_) => Err(HistoryFault::NoMemory),
+        match &mut self.kept {
+            KeptCore::Open(core) => core.learn(stamp, committed),
+            KeptCore::Shut(_) => Err(HistoryFault::NoMemory),
         }
     }
 
     fn hear(&mut self, moment: u64) -> Result<Turn, HistoryFault> {
-        match &mut self.book {
-            Book::Open(core) => core.hear(moment),
-            Book::Shut(_) => Err(HistoryFault::NoMemory),
+        match &mut self.kept {
+            KeptCore::Open(core) => core.hear(moment),
+            KeptCore::Shut(_) => Err(HistoryFault::NoMemory),
         }
     }
 
     fn knows(&self, stamp: Stamp) -> bool {
-        match &self.book {
-            Book::Open(core) => core.known(stamp).is_some(),
-            Book::Shut(_) => false,
+        match &self.kept {
+            KeptCore::Open(core) => core.known(stamp).is_some(),
+            KeptCore::Shut(_) => false,
         }
     }
 
@@ -86,25 +86,25 @@ impl<M: Medium> StoredCore<M> for RepositoryCore<M> {
         let RepositoryCore {
             number,
             start,
-            book,
+            kept,
         } = self;
-        match book {
-            Book::Shut(medium) => {
+        match kept {
+            KeptCore::Shut(medium) => {
                 let core = RepositoryCore {
                     number,
                     start,
-                    book: Book::Shut(medium),
+                    kept: KeptCore::Shut(medium),
                 };
                 (core, Err(StoreFault::NoMemory))
             }
-            Book::Open(core) => {
+            KeptCore::Open(core) => {
                 let (rest, table) = core.part();
                 match table.flush(effects) {
                     Ok(table) => {
                         let core = RepositoryCore {
                             number,
                             start,
-                            book: Book::Open(rest.join(table)),
+                            kept: KeptCore::Open(rest.join(table)),
                         };
                         (core, Ok(()))
                     }
@@ -112,7 +112,7 @@ impl<M: Medium> StoredCore<M> for RepositoryCore<M> {
                         let core = RepositoryCore {
                             number,
                             start,
-                            book: Book::Shut(medium),
+                            kept: KeptCore::Shut(medium),
                         };
                         (core, Err(fault))
                     }
@@ -125,14 +125,14 @@ impl<M: Medium> StoredCore<M> for RepositoryCore<M> {
         let RepositoryCore {
             number,
             start,
-            book,
+            kept,
         } = self;
-        match open_again(alloc, medium_from(book)) {
+        match open_again(alloc, medium_from(kept)) {
             Err((medium, fault)) => {
                 let core = RepositoryCore {
                     number,
                     start,
-                    book: Book::Shut(medium),
+                    kept: KeptCore::Shut(medium),
                 };
                 (core, Err(fault))
             },
@@ -147,7 +147,7 @@ impl<M: Medium> StoredCore<M> for RepositoryCore<M> {
                     let core = RepositoryCore {
                         number,
                         start,
-                        book: Book::Shut(medium),
+                        kept: KeptCore::Shut(medium),
                     };
                     (core, Err(OpenFault::NoMemory))
                 },
@@ -155,7 +155,7 @@ impl<M: Medium> StoredCore<M> for RepositoryCore<M> {
                     let core = RepositoryCore {
                         number,
                         start,
-                        book: Book::Open(core),
+                        kept: KeptCore::Open(core),
                     };
                     (core, Ok(effects.len()))
                 }
@@ -167,22 +167,22 @@ impl<M: Medium> StoredCore<M> for RepositoryCore<M> {
         let RepositoryCore {
             number: _,
             start: _,
-            book,
+            kept,
         } = self;
-        medium_from(book)
+        medium_from(kept)
     }
 }
 
 // The medium.
-fn medium_from<M: Medium>(book: Book<M>) -> M
-    ensures { result ≡ medium_in book }
+fn medium_from<M: Medium>(kept: KeptCore<M>) -> M
+    ensures { result ≡ medium_in kept }
 {
-    match book {
-        Book::Open(core) => {
+    match kept {
+        KeptCore::Open(core) => {
             let (_, table) = core.part();
             table.release()
         }
-        Book::Shut(medium) => medium,
+        KeptCore::Shut(medium) => medium,
     }
 }
 

@@ -1,8 +1,8 @@
 //! A repository at work: its core over headers in version storage, and its pass.
 #![tactic(auto)]
 
-mod books;
 mod cores;
+mod kept_cores;
 mod nodes;
 
 pub use cores::RepositoryCore;

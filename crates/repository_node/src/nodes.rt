@@ -8,8 +8,8 @@ ghost use Rattle.world_core.specs.Walks.{opened_log};
 ghost use Rattle.wire_lock.specs.Sights.{IsOf, origin_at};
 ghost use Rattle.node_turn.specs.Nodes.{new_node};
 
-use crate::books::Book;
 use crate::cores::{RepositoryCore, open_core};
+use crate::kept_cores::KeptCore;
 use effect_form::Effect;
 use medium_port::Medium;
 use node_turn::Node;
@@ -45,11 +45,11 @@ pub fn open_repository<F: Fates, C: Clock, M: Medium>(
     match open_core(alloc, number, start, store, effects) {
         Err(medium) => Err((medium, pass, AllocError)),
         Ok(core) => {
-            let book = Book::Open(core);
+            let kept = KeptCore::Open(core);
             let core = RepositoryCore {
                 number,
                 start,
-                book,
+                kept,
             };
             let name = NodeId::repository(number);
             let node = Node::new(alloc, name, effects.len(), core, pass);

@@ -9,7 +9,7 @@ use Rattle.object_header.specs.Ledgers.{content}
 use Rattle.object_header.specs.Tables.{ledger_of, store_of}
 use Rattle.object_header.proofs.LedgerLemmas.{late-of_log}
 use Rattle.node_turn.proofs.MediumLemmas.{AppendsTo, appended, appends-all, appends-none}
-use Rattle.repository_node.specs.Books.{is_able, medium_in, HasLife, HasMarksOfLog, Owes}
+use Rattle.repository_node.specs.KeptCores.{is_able, medium_in, HasLife, HasMarksOfLog, Owes}
 use Rattle.repository_node.proofs.CoreLemmas.{joined, joined-repository, parted}
 use Rattle.repository_node.proofs.cores.RepositoryCoreStoredCore.append.Goals as goal
 

@@ -8,7 +8,7 @@ use Rattle.object_header.specs.Tables.{ledger_of, store_of}
 use Rattle.repository_core.specs.Turns as turns
 use Rattle.world_core.specs.Nodes.Input.{Learning}
 use Rattle.node_turn.proofs.MediumLemmas.{none-new}
-use Rattle.repository_node.specs.Books.{medium_in, HasLife, Owes}
+use Rattle.repository_node.specs.KeptCores.{medium_in, HasLife, Owes}
 use Rattle.repository_node.proofs.CoreLemmas.{able-called, gave-repository, owed-more, told-same}
 use Rattle.repository_node.proofs.cores.RepositoryCoreStoredCore.learn.Goals as goal
 

@@ -9,38 +9,38 @@ use Rattle.object_header.specs.Tables.{ledger_of, store_of}
 use Rattle.repository_core.specs.Cores.{HasMarks}
 use Rattle.world_core.specs.Cores.{IsRepository}
 use Rattle.world_core.specs.Walks.{Life, all_effects}
-use Rattle.repository_node.specs.declared.books.Book.{Book}
-use Rattle.repository_node.specs.declared.books.Book.TheVariants.{Open, Shut}
+use Rattle.repository_node.specs.declared.kept_cores.KeptCore.{KeptCore}
+use Rattle.repository_node.specs.declared.kept_cores.KeptCore.TheVariants.{Open, Shut}
 
 -- no call of its core has failed
-abbrev pub is_able : {M : Type 0} {g : _} → Book M g → Bool
+abbrev pub is_able : {M : Type 0} {g : _} → KeptCore M g → Bool
 is_able (Open core) = not core.is_failed
 is_able (Shut medium) = false
 
-abbrev pub medium_in : {M : Type 0} {g : _} → Book M g → M
+abbrev pub medium_in : {M : Type 0} {g : _} → KeptCore M g → M
 medium_in (Open core) = medium_of (store_of core.histories)
 medium_in (Shut medium) = medium
 
 -- the core has this life, and its store the life's durable log
-abbrev pub HasLife : {M : Type 0} {g : _} → Book M g → NodeId → Life → Type 0
+abbrev pub HasLife : {M : Type 0} {g : _} → KeptCore M g → NodeId → Life → Type 0
 HasLife (Open core) n l = IsRepository n (all_effects l) l.mind core × ((ledger_of core.histories).log ≡ l.gated)
 HasLife (Shut medium) n l = ⊥
 
 -- of the core's log, these effects aren't in its store yet
-abbrev pub Owes : {M : Type 0} {g : _} → Book M g → List Effect → Type 0
+abbrev pub Owes : {M : Type 0} {g : _} → KeptCore M g → List Effect → Type 0
 Owes (Open core) effects = core.log ≡ (ledger_of core.histories).log ++ effects
 Owes (Shut medium) effects = ⊥
 
 -- the marks of its histories, newest first
-abbrev pub marks_in : {M : Type 0} {g : _} → Book M g → List Mark
+abbrev pub marks_in : {M : Type 0} {g : _} → KeptCore M g → List Mark
 marks_in (Open core) = content (ledger_of core.histories)
 marks_in (Shut medium) = []
 
 -- the log of its core, oldest first
-abbrev pub log_in : {M : Type 0} {g : _} → Book M g → List Effect
+abbrev pub log_in : {M : Type 0} {g : _} → KeptCore M g → List Effect
 log_in (Open core) = core.log
 log_in (Shut medium) = []
 
 -- where no call of its core has failed, the histories have the marks of the core's log
-abbrev pub HasMarksOfLog : {M : Type 0} {g : _} → Book M g → Type 0
-HasMarksOfLog book = is_able book ≡ true → HasMarks (marks_in book) (log_in book)
+abbrev pub HasMarksOfLog : {M : Type 0} {g : _} → KeptCore M g → Type 0
+HasMarksOfLog kept = is_able kept ≡ true → HasMarks (marks_in kept) (log_in kept)

@@ -5,7 +5,7 @@ use repository_core::Repository;
 /// Where a repository's core stands: over its headers in a store, or, after a fault, there is only a
 /// medium that is to be opened anew.
 #[derive(Drop)]
-pub enum Book<M: Medium> {
+pub enum KeptCore<M: Medium> {
     Open(Repository<HeaderTable<M>>),
     Shut(M),
 }
