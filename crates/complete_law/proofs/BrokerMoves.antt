@@ -34,7 +34,7 @@ use Rattle.message_core.specs.Tallies.{count}
 use Rattle.world_core.specs.declared.entries.Entry.TheVariants as entry
 use Rattle.world_core.specs.Walks.{Base, Flags, Life, Sending, World, flagged, lives_on, numbered, sent_by, step, took, went, all_effects}
 use Rattle.world_core.specs.Legal.{MayTake, MayGo, times_taken}
-use Rattle.world_facts.specs.Refines.{Refines, logs_at, seat_of}
+use Rattle.world_facts.specs.Refines.{Refines, logs_at, soft_of}
 use Rattle.world_facts.specs.NodeRules.{node_turns, node_facts}
 use Rattle.world_facts.specs.Soft.{NodeOk, around, happened}
 use Rattle.world_facts.proofs.Growths.{numbered-has}
@@ -58,7 +58,7 @@ ignored-or (Hears h) = inr (λ e. absurd (cc e))
 ignored-or (Adds x) = inr (λ e. absurd (cc e))
 
 module _ (b : Base) (w : World) (calm : CalmWorld b w) (f : Refines (node_turns b.script) (node_facts b.script) b (λ n. []) [] (λ t. ⊥) w) where
-  pub node-there : (n : NodeId) → (w.flags n).known ≡ true → NodeOk (node_facts b.script) (around (happened (node_turns b.script) f.events)) n (seat_of (w.life n))
+  pub node-there : (n : NodeId) → (w.flags n).known ≡ true → NodeOk (node_facts b.script) (around (happened (node_turns b.script) f.events)) n (soft_of (w.life n))
   node-there n known = subst (λ x. NodeOk (node_facts b.script) (around (happened (node_turns b.script) f.events)) n x) (f.models.lives n known)
       ((inv-reached b.script (node_turns b.script) (node_facts b.script) (node-laws b.script) f.events f.may).nodes n)
 
@@ -66,7 +66,7 @@ module _ (b : Base) (w : World) (calm : CalmWorld b w) (f : Refines (node_turns 
   pub turn-there : (n : ℕ) → (w.flags (broker n)).known ≡ true → TurnHolds b.script n b.run (tasks_of b n) (sent_by w) (desk_of b w n)
   turn-there n known =
       let l : Life = w.life (broker n) in
-      let ok : NodeOk (node_facts b.script) (around (happened (node_turns b.script) f.events)) (broker n) (seat_of (w.life (broker n))) = node-there (broker n) known in
+      let ok : NodeOk (node_facts b.script) (around (happened (node_turns b.script) f.events)) (broker n) (soft_of (w.life (broker n))) = node-there (broker n) known in
       let all : reverse (all_effects l) ≡ reverse l.fresh ++ reverse l.gated = reverse-append l.gated l.fresh in
       record {
         desk = record {
@@ -163,7 +163,7 @@ module _ (b : Base) (w : World) (calm : CalmWorld b w) (f : Refines (node_turns 
     pub tells : Tells b.script n b.run (tasks_of b n) (IsBegun w) (IsDecided w) (state b.script n b.run (tasks_of b n) d0) (news m0)
     tells =
         let l : Life = w.life (broker n) in
-        let ok : NodeOk (node_facts b.script) (around (happened (node_turns b.script) f.events)) (broker n) (seat_of (w.life (broker n))) = node-there (broker n) mine in
+        let ok : NodeOk (node_facts b.script) (around (happened (node_turns b.script) f.events)) (broker n) (soft_of (w.life (broker n))) = node-there (broker n) mine in
         tells-so b w calm (facts-of b.script (node_turns b.script) (node_facts b.script) (node-laws b.script) b (λ n. []) [] (λ t. ⊥) w f) n
         (subst (IsTidy b.script n) (sym gated-known) ok.tidy) (reverse l.fresh) (reverse-append l.gated l.fresh ∙ ap (λ z. reverse l.fresh ++ z) (sym gated-known))
         (subst (λ z. Grew (FitsLog b.script n) z (reverse l.fresh)) (sym gated-known) ok.grew) (tasks_of b n) (state b.script n b.run (tasks_of b n) d0) (counted d0 turn0) from0 m0 was-sent

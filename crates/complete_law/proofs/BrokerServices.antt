@@ -40,7 +40,7 @@ use Rattle.broker_laws.proofs.Found.{each-found}
 use Rattle.broker_laws.proofs.Kept.{kept}
 use Rattle.broker_laws.proofs.Moves.{clocks}
 use Rattle.world_core.specs.Walks.{Base, Life, World, sent_by, all_effects}
-use Rattle.world_facts.specs.Refines.{Refines, logs_at, seat_of}
+use Rattle.world_facts.specs.Refines.{Refines, logs_at, soft_of}
 use Rattle.world_facts.specs.NodeRules.{node_turns, node_facts}
 use Rattle.world_facts.specs.Soft.{NodeOk, around, happened}
 use Rattle.world_facts.proofs.NodeLaws.{node-laws}
@@ -109,7 +109,7 @@ module _ (b : Base) (w : World) (calm : CalmWorld b w) (f : Refines (node_turns 
   accept : accepts n (broker i) o.message ≡ true
   accept = accepted b.script i n (tries the-book) o.message holds
 
-  node-n : NodeOk (node_facts b.script) (around (happened (node_turns b.script) f.events)) (repository n) (seat_of (w.life (repository n)))
+  node-n : NodeOk (node_facts b.script) (around (happened (node_turns b.script) f.events)) (repository n) (soft_of (w.life (repository n)))
   node-n = node-there b w calm f (repository n) known-n
 
   abbrev ln : Life
@@ -134,7 +134,7 @@ module _ (b : Base) (w : World) (calm : CalmWorld b w) (f : Refines (node_turns 
       let cause = (each-has _ (reverse ln.fresh ++ reverse ln.gated) (effect.Decide t.stamp d) node-n.proofs (subst (Has (effect.Decide t.stamp d)) split-n here)).1 in
       let closed : repositories.WasClosed (sent_by w) (happened (node_turns b.script) f.events).ticks n t.stamp d = subst (λ ever. repositories.WasClosed ever (happened (node_turns b.script) f.events).ticks n t.stamp d) f.models.ever cause in
       let l : Life = w.life (broker i) in
-      let node-i : NodeOk (node_facts b.script) (around (happened (node_turns b.script) f.events)) (broker i) (seat_of (w.life (broker i))) = node-there b w calm f (broker i) known-i in
+      let node-i : NodeOk (node_facts b.script) (around (happened (node_turns b.script) f.events)) (broker i) (soft_of (w.life (broker i))) = node-there b w calm f (broker i) known-i in
       let gated-known : reverse (logs_at (λ n. []) w (broker i)) ≡ reverse l.gated = ap (λ c. reverse (if c then (w.life (broker i)).gated else [])) known-i in
       let r = open-closed b w calm (facts-of b.script (node_turns b.script) (node_facts b.script) (node-laws b.script) b (λ n. []) [] (λ t. ⊥) w f) i
       (subst (IsTidy b.script i) (sym gated-known) node-i.tidy) (reverse l.fresh) (reverse-append l.gated l.fresh ∙ ap (λ z. reverse l.fresh ++ z) (sym gated-known))

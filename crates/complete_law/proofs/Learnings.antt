@@ -35,7 +35,7 @@ use Rattle.complete_law.proofs.Steps.{calm-there, facts-there}
 use Rattle.repository_laws.specs.Facts as repositories
 use Rattle.world_core.specs.Walks as walks
 use Rattle.world_facts.specs.NodeRules.{node_turns, node_facts}
-use Rattle.world_facts.specs.Refines.{seat_of}
+use Rattle.world_facts.specs.Refines.{soft_of}
 use Rattle.world_facts.specs.Soft.{NodeOk, SoftNode, Soft, around, happened}
 use Rattle.world_facts.proofs.Growths.{each-has}
 
@@ -200,13 +200,13 @@ module _ (p : CalmPlace) where
   closed-named s decision.Withdrawn h = named-by s w.sendings s.broker s.home (message.Withdraw s) refl (subst (Has (record { from = broker s.broker; to = repository s.home; message = message.Withdraw s })) (facts-there p).models.ever h)
   closed-named s (decision.Expired d m) h = absurd ((facts-there p).models.ticked m h)
 
-  decided-named : (s : StampParts) (d : Decision) → Has (effect.Decide s d) (soft.seat (repository s.home)).past → Named s w.sendings
+  decided-named : (s : StampParts) (d : Decision) → Has (effect.Decide s d) (soft.node (repository s.home)).past → Named s w.sendings
   decided-named s d h = go (w.flags (repository s.home)).known refl
     where
       go : (c : Bool) → (w.flags (repository s.home)).known ≡ c → Named s w.sendings
       go true known =
           let m : Life = w.life (repository s.home) in
-          let ok : NodeOk (node_facts base.script) (around soft) (repository s.home) (seat_of (w.life (repository s.home))) = node-there base w (calm-there p) (facts-there p) (repository s.home) known in
+          let ok : NodeOk (node_facts base.script) (around soft) (repository s.home) (soft_of (w.life (repository s.home))) = node-there base w (calm-there p) (facts-there p) (repository s.home) known in
           let here : Has (effect.Decide s d) (reverse (w.life (repository s.home)).gated) = subst (λ (x : SoftNode). Has (effect.Decide s d) x.past) ((facts-there p).models.lives (repository s.home) known) h in
           closed-named s d (each-has _ (reverse m.fresh ++ reverse m.gated) (effect.Decide s d) ok.proofs (has-right (reverse m.fresh) (reverse m.gated) (effect.Decide s d) here)).1
       go false off = absurd (subst (Has (effect.Decide s d)) ((facts-there p).models.outside (repository s.home) off).0 h)
@@ -215,7 +215,7 @@ module _ (p : CalmPlace) where
     abbrev l : Life
     l = w.life (repository n)
 
-    ok : NodeOk (node_facts base.script) (around soft) (repository n) (seat_of (w.life (repository n)))
+    ok : NodeOk (node_facts base.script) (around soft) (repository n) (soft_of (w.life (repository n)))
     ok = node-there base w (calm-there p) (facts-there p) (repository n) known
 
     all-log : log_at p (repository n) ≡ reverse l.fresh ++ reverse l.gated

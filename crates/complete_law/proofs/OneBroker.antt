@@ -61,7 +61,7 @@ use Rattle.world_core.specs.Nodes.{gives, leaves}
 use Rattle.world_core.specs.Nodes.Input.{Learning, Taking}
 use Rattle.world_core.specs.Walks.{Base, Life, Sending, World, after_input, all_effects, leaving, lives_on, sent_by, start_world, step, took}
 use Rattle.world_core.specs.Legal.{MayGate, MayGo, MayLearn, MayTake, Rule, base_of}
-use Rattle.world_facts.specs.Refines.{LogFacts, Refines, logs_at, seat_of}
+use Rattle.world_facts.specs.Refines.{LogFacts, Refines, logs_at, soft_of}
 use Rattle.world_facts.specs.NodeRules.{kind_post, node_facts, node_turns}
 use Rattle.world_facts.specs.Soft.{NodeOk, around, happened}
 use Rattle.world_facts.proofs.Growths.{numbered-has, each-has, map-has}
@@ -127,7 +127,7 @@ module _ (b : Base) (w : World) (calm : CalmWorld b w) (f : Refines (node_turns 
   now-holds : (i : ℕ) → (w.flags (broker i)).known ≡ true → (to : NodeId) (m : Message) → Has (record { from = broker i; to = to; message = m }) (sent_by w) → PostHolds b.script i (tries (book (log_of w (broker i)))) to m
   now-holds i e to m h =
       let l : Life = w.life (broker i) in
-      let ok : NodeOk (node_facts b.script) (around (happened (node_turns b.script) f.events)) (broker i) (seat_of (w.life (broker i))) = node-there b w calm f (broker i) e in
+      let ok : NodeOk (node_facts b.script) (around (happened (node_turns b.script) f.events)) (broker i) (soft_of (w.life (broker i))) = node-there b w calm f (broker i) e in
       subst (λ z. PostHolds b.script i (tries (book z)) to m) (sym (reverse-append l.gated l.fresh))
       (post-grown b.script i (reverse l.gated) (reverse l.fresh) to m ok.tidy ok.grew (subst (λ z. PostHolds b.script i (tries (book z)) to m) (durable (broker i) e) (says b w calm facts (broker i) to m h)))
 
@@ -219,7 +219,7 @@ module _ (b : Base) (w : World) (calm : CalmWorld b w) (f : Refines (node_turns 
         undecided : IsDecided w t.stamp → ⊥
         undecided (d, h) =
             let l : Life = w.life (broker i) in
-            let ok : NodeOk (node_facts b.script) (around (happened (node_turns b.script) f.events)) (broker i) (seat_of (w.life (broker i))) = node-there b w calm f (broker i) known-i in
+            let ok : NodeOk (node_facts b.script) (around (happened (node_turns b.script) f.events)) (broker i) (soft_of (w.life (broker i))) = node-there b w calm f (broker i) known-i in
             let same : reverse l.gated ≡ reverse (logs_at (λ n. []) w (broker i)) = sym (durable (broker i) known-i) in
             asking-undecided b w calm facts i (subst (IsTidy b.script i) same ok.tidy) (reverse l.fresh) (reverse-append l.gated l.fresh ∙ ap (λ z. reverse l.fresh ++ z) same)
             (subst (λ z. Grew (FitsLog b.script i) z (reverse (w.life (broker i)).fresh)) same ok.grew) t (ToWrite o v) (subst (λ s. find s B ≡ Some t) (sym plays.1) ask.1) open-end asks (ap (λ (s : StampParts). s.broker) plays.1)

@@ -47,7 +47,7 @@ use Rattle.world_core.specs.Nodes.{gives}
 use Rattle.world_core.specs.Nodes.Input.{Learning, Taking}
 use Rattle.world_core.specs.Walks.{Base, Flags, Life, Sending, World, flagged, learned, lives_on, numbered, sent_by, step, after_input, took, all_effects}
 use Rattle.world_core.specs.Legal.{MayTake, times_taken}
-use Rattle.world_facts.specs.Refines.{LogFacts, Refines, logs_at, seat_of}
+use Rattle.world_facts.specs.Refines.{LogFacts, Refines, logs_at, soft_of}
 use Rattle.world_facts.specs.NodeRules.{kind_post, node_turns, node_facts}
 use Rattle.world_facts.specs.Soft.{NodeOk, SentOk, around, happened}
 use Rattle.world_facts.proofs.Growths.{numbered-has, each-has, every-of}
@@ -81,7 +81,7 @@ begun-whole b w calm f r s u =
     let e = waits-has s (held_of w r) u in
     let wait : Waits (log_of w (repository r)) e.0 = calm.waits r e.0 e.1 in
     let l : Life = w.life (repository r) in
-    let ok : NodeOk (node_facts b.script) (around (happened (node_turns b.script) f.events)) (repository r) (seat_of (w.life (repository r))) = node-there b w calm f (repository r) (opened-so (w.flags (repository r)).known refl) in
+    let ok : NodeOk (node_facts b.script) (around (happened (node_turns b.script) f.events)) (repository r) (soft_of (w.life (repository r))) = node-there b w calm f (repository r) (opened-so (w.flags (repository r)).known refl) in
     let put : Has (effect.Put e.0.1.object wait.start wait.value) (reverse l.fresh ++ reverse l.gated) = subst (Has (effect.Put e.0.1.object wait.start wait.value)) (reverse-append l.gated l.fresh) wait.put in
     let cause = (each-has _ (reverse l.fresh ++ reverse l.gated) (effect.Put e.0.1.object wait.start wait.value) ok.proofs put).1 in
     let sent : Has (record { from = broker wait.start.stamp.broker; to = repository r; message = message.Write wait.start e.0.1.object wait.value }) (sent_by w) = subst (Has (record { from = broker wait.start.stamp.broker; to = repository r; message = message.Write wait.start e.0.1.object wait.value })) f.models.ever cause.0 in

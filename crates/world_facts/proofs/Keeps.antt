@@ -16,7 +16,7 @@ use Rattle.serial_model.specs.Questions.{Tree}
 use Rattle.world_core.specs.Nodes.{Input, Given, repository}
 use Rattle.world_core.specs.Nodes.Input.{Going, Taking, Learning, Hearing}
 use Rattle.world_facts.specs.Rules.{Around, Later, NodeFacts, Turns, MayInput, SenderOk, TurnGiven, TurnGives, NodeLaws}
-use Rattle.world_facts.specs.Soft.{SoftNode, whole, keep, gate, crash, Soft, put, around, SoftEvent, react, happens, nothing, happened, May, Mays, NodeOk, SentOk, Inv}
+use Rattle.world_facts.specs.Soft.{SoftNode, all_effects, keep, gate, crash, Soft, put, around, SoftEvent, react, happens, nothing, happened, May, Mays, NodeOk, SentOk, Inv}
 use Rattle.world_facts.specs.Soft.SoftEvent.{Start, React, Gate, Crash, Tick}
 use Rattle.world_facts.proofs.Growths.{each-map, each-drop, every-filter, every-of-map, put-all, put-here}
 
@@ -45,73 +45,73 @@ module _ (script : List ℕ → Tree) (turns : Turns) (F : NodeFacts) (laws : No
 
   -- ---- an input
 
-  pub turn-given : (s : Soft) (run : ℕ) (acts : List ActSpec) (n : NodeId) → Inv F s → F.Ready run acts n (whole (s.seat n)) →
-      TurnGiven F (around s) run acts n (whole (s.seat n)) (s.seat n).mind
+  pub turn-given : (s : Soft) (run : ℕ) (acts : List ActSpec) (n : NodeId) → Inv F s → F.Ready run acts n (all_effects (s.node n)) →
+      TurnGiven F (around s) run acts n (all_effects (s.node n)) (s.node n).mind
   turn-given s run acts n inv ready =
-      let x : SoftNode = s.seat n in
-      let h : NodeOk F (around s) n (s.seat n) = inv.nodes n in
+      let x : SoftNode = s.node n in
+      let h : NodeOk F (around s) n (s.node n) = inv.nodes n in
       record { tidy = tidy-grown n x.past x.added h.grew h.tidy; proofs = h.proofs; mind_ok = h.mind_ok; ready = ready; added = x.added; own = refl; grew = h.grew }
 
   sender-ok : (s : Soft) (n : NodeId) (input : Input) → Inv F s → MayInput (around s) n input → SenderOk F (around s) n input
   sender-ok s n Going inv may = tt
-  sender-ok s n (Taking from m) inv may = every-has (SentOk F s.ever (λ k. (s.seat k).past)) s.ever (post from (record { to = n; message = m })) inv.sent may
+  sender-ok s n (Taking from m) inv may = every-has (SentOk F s.ever (λ k. (s.node k).past)) s.ever (post from (record { to = n; message = m })) inv.sent may
   sender-ok s n (Learning stamp committed) inv may = tt
   sender-ok s n (Hearing t) inv may = tt
 
-  pub turn-gives : (s : Soft) (run : ℕ) (acts : List ActSpec) (n : NodeId) (input : Input) → Inv F s → MayInput (around s) n input → F.Ready run acts n (whole (s.seat n)) →
-      TurnGives F (around s) run acts n (whole (s.seat n)) (turns run acts n (whole (s.seat n)) (s.seat n).mind input)
+  pub turn-gives : (s : Soft) (run : ℕ) (acts : List ActSpec) (n : NodeId) (input : Input) → Inv F s → MayInput (around s) n input → F.Ready run acts n (all_effects (s.node n)) →
+      TurnGives F (around s) run acts n (all_effects (s.node n)) (turns run acts n (all_effects (s.node n)) (s.node n).mind input)
   turn-gives s run acts n input inv may ready =
-      laws.turn (around s) run acts n (whole (s.seat n)) (s.seat n).mind input (turn-given s run acts n inv ready) may (sender-ok s n input inv may)
+      laws.turn (around s) run acts n (all_effects (s.node n)) (s.node n).mind input (turn-given s run acts n inv ready) may (sender-ok s n input inv may)
 
-  turned : (w : Around) (run : ℕ) (acts : List ActSpec) (n : NodeId) (x : SoftNode) (g : Given) → NodeOk F w n x → TurnGives F w run acts n (whole x) g →
+  turned : (w : Around) (run : ℕ) (acts : List ActSpec) (n : NodeId) (x : SoftNode) (g : Given) → NodeOk F w n x → TurnGives F w run acts n (all_effects x) g →
       NodeOk F w n (record { past = x.past; added = g.effects ++ x.added; outs = x.outs ++ g.outs; mind = g.mind })
   turned w run acts n x g h gives =
       let e : g.effects ++ (x.added ++ x.past) ≡ (g.effects ++ x.added) ++ x.past = sym (append_assoc g.effects x.added x.past) in
-      let tidy : F.Tidy n (whole x) = tidy-grown n x.past x.added h.grew h.tidy in
+      let tidy : F.Tidy n (all_effects x) = tidy-grown n x.past x.added h.grew h.tidy in
       record {
         tidy = h.tidy;
         grew = grew_on (F.Fits n) x.past x.added g.effects h.grew gives.grew;
-        proofs = subst (λ l. Each (F.Proof w n) l) e (each_grew (F.Proof w n) (whole x) g.effects h.proofs gives.proofs);
+        proofs = subst (λ l. Each (F.Proof w n) l) e (each_grew (F.Proof w n) (all_effects x) g.effects h.proofs gives.proofs);
         mind_ok = gives.mind_ok;
         outs = subst (λ l. Every (F.PostOk w.ever n l) (x.outs ++ g.outs)) e
-            (every-append (F.PostOk w.ever n (g.effects ++ whole x)) x.outs g.outs
-            (every-map (F.PostOk w.ever n (whole x)) (F.PostOk w.ever n (g.effects ++ whole x)) (λ out p. post-grown w.ever n out (whole x) g.effects gives.grew tidy p) x.outs h.outs)
+            (every-append (F.PostOk w.ever n (g.effects ++ all_effects x)) x.outs g.outs
+            (every-map (F.PostOk w.ever n (all_effects x)) (F.PostOk w.ever n (g.effects ++ all_effects x)) (λ out p. post-grown w.ever n out (all_effects x) g.effects gives.grew tidy p) x.outs h.outs)
             gives.outs);
       }
 
-  pub react-ok : (s : Soft) (run : ℕ) (acts : List ActSpec) (n : NodeId) (input : Input) → Inv F s → MayInput (around s) n input → F.Ready run acts n (whole (s.seat n)) →
-      NodeOk F (around s) n (react turns run acts n (s.seat n) input)
+  pub react-ok : (s : Soft) (run : ℕ) (acts : List ActSpec) (n : NodeId) (input : Input) → Inv F s → MayInput (around s) n input → F.Ready run acts n (all_effects (s.node n)) →
+      NodeOk F (around s) n (react turns run acts n (s.node n) input)
   react-ok s run acts n input inv may ready =
-      turned (around s) run acts n (s.seat n) (turns run acts n (whole (s.seat n)) (s.seat n).mind input) (inv.nodes n) (turn-gives s run acts n input inv may ready)
+      turned (around s) run acts n (s.node n) (turns run acts n (all_effects (s.node n)) (s.node n).mind input) (inv.nodes n) (turn-gives s run acts n input inv may ready)
 
   -- ---- one node changed: its durable log grew by `late`, and `new` messages left it
 
   changed : (s : Soft) (n : NodeId) (y : SoftNode) (late : List Effect) (ever new : List Post) → Inv F s → NodeOk F (around s) n y →
-      Grew (F.Fits n) (s.seat n).past late → y.past ≡ late ++ (s.seat n).past → ever ≡ s.ever ++ new →
-      Every (SentOk F s.ever (λ k. (put n y s.seat k).past)) new → Inv F (record { seat = put n y s.seat; ever = ever; ticks = s.ticks })
+      Grew (F.Fits n) (s.node n).past late → y.past ≡ late ++ (s.node n).past → ever ≡ s.ever ++ new →
+      Every (SentOk F s.ever (λ k. (put n y s.node k).past)) new → Inv F (record { node = put n y s.node; ever = ever; ticks = s.ticks })
   changed s n y late ever new inv ok grew own sent news =
-      let v : Soft = record { seat = put n y s.seat; ever = ever; ticks = s.ticks } in
+      let v : Soft = record { node = put n y s.node; ever = ever; ticks = s.ticks } in
       let l : Later (around s) (around v) = record {
         more = new;
         ever = sent;
-        homes = λ t d. put-all (λ k z. Has (effect.Decide t d) (s.seat k).past → Has (effect.Decide t d) z.past) n y s.seat
-            (λ c. subst (Has (effect.Decide t d)) (sym own) (has-right late (s.seat n).past (effect.Decide t d) c))
+        homes = λ t d. put-all (λ k z. Has (effect.Decide t d) (s.node k).past → Has (effect.Decide t d) z.past) n y s.node
+            (λ c. subst (Has (effect.Decide t d)) (sym own) (has-right late (s.node n).past (effect.Decide t d) c))
             (λ k c. c) (repository t.home);
         ticks = λ t c. c;
       } in
-      let old : (p : Post) → SentOk F s.ever (λ k. (s.seat k).past) p → SentOk F s.ever (λ k. (put n y s.seat k).past) p =
-      λ p. put-all (λ k z. F.PostOk s.ever k (s.seat k).past (record { to = p.to; message = p.message }) → F.PostOk s.ever k z.past (record { to = p.to; message = p.message })) n y s.seat
+      let old : (p : Post) → SentOk F s.ever (λ k. (s.node k).past) p → SentOk F s.ever (λ k. (put n y s.node k).past) p =
+      λ p. put-all (λ k z. F.PostOk s.ever k (s.node k).past (record { to = p.to; message = p.message }) → F.PostOk s.ever k z.past (record { to = p.to; message = p.message })) n y s.node
       (λ q. subst (λ g. F.PostOk s.ever n g (record { to = p.to; message = p.message })) (sym own)
-      (post-grown s.ever n (record { to = p.to; message = p.message }) (s.seat n).past late grew (inv.nodes n).tidy q))
+      (post-grown s.ever n (record { to = p.to; message = p.message }) (s.node n).past late grew (inv.nodes n).tidy q))
       (λ k q. q) p.from in
       record {
-        nodes = put-all (λ k z. NodeOk F (around v) k z) n y s.seat (node-later (around s) (around v) l n y ok) (λ k. node-later (around s) (around v) l k (s.seat k) (inv.nodes k));
-        sent = subst (λ e. Every (SentOk F e (λ k. (put n y s.seat k).past)) e) (sym sent)
-            (every-map (SentOk F s.ever (λ k. (put n y s.seat k).past)) (SentOk F (s.ever ++ new) (λ k. (put n y s.seat k).past))
-            (λ p q. laws.more_posts s.ever new p.from (put n y s.seat p.from).past (record { to = p.to; message = p.message }) q)
+        nodes = put-all (λ k z. NodeOk F (around v) k z) n y s.node (node-later (around s) (around v) l n y ok) (λ k. node-later (around s) (around v) l k (s.node k) (inv.nodes k));
+        sent = subst (λ e. Every (SentOk F e (λ k. (put n y s.node k).past)) e) (sym sent)
+            (every-map (SentOk F s.ever (λ k. (put n y s.node k).past)) (SentOk F (s.ever ++ new) (λ k. (put n y s.node k).past))
+            (λ p q. laws.more_posts s.ever new p.from (put n y s.node p.from).past (record { to = p.to; message = p.message }) q)
             (s.ever ++ new)
-            (every-append (SentOk F s.ever (λ k. (put n y s.seat k).past)) s.ever new
-            (every-map (SentOk F s.ever (λ k. (s.seat k).past)) (SentOk F s.ever (λ k. (put n y s.seat k).past)) old s.ever inv.sent)
+            (every-append (SentOk F s.ever (λ k. (put n y s.node k).past)) s.ever new
+            (every-map (SentOk F s.ever (λ k. (s.node k).past)) (SentOk F s.ever (λ k. (put n y s.node k).past)) old s.ever inv.sent)
             news));
       }
 
@@ -128,21 +128,21 @@ module _ (script : List ℕ → Tree) (turns : Turns) (F : NodeFacts) (laws : No
   }
 
   -- what leaves at a gate has its fact at the new durable log
-  gate-news : (s : Soft) (n : NodeId) (which : Out → Bool) → Inv F s → Every (SentOk F s.ever (λ k. (put n (gate (s.seat n)) s.seat k).past)) (posts n (filter which (s.seat n).outs))
+  gate-news : (s : Soft) (n : NodeId) (which : Out → Bool) → Inv F s → Every (SentOk F s.ever (λ k. (put n (gate (s.node n)) s.node k).past)) (posts n (filter which (s.node n).outs))
   gate-news s n which inv =
-      let y : SoftNode = gate (s.seat n) in
-      let At : Post → Type 0 = SentOk F s.ever (λ k. (put n y s.seat k).past) in
-      every-of-map At (post n) (filter which (s.seat n).outs)
-      (every-map (F.PostOk s.ever n (whole (s.seat n))) (λ out. At (post n out))
-      (λ out p. subst (λ (z : SoftNode). F.PostOk s.ever n z.past (record { to = out.to; message = out.message })) (sym (put-here n y s.seat)) p)
-      (filter which (s.seat n).outs)
-      (every-filter (F.PostOk s.ever n (whole (s.seat n))) which (s.seat n).outs (inv.nodes n).outs))
+      let y : SoftNode = gate (s.node n) in
+      let At : Post → Type 0 = SentOk F s.ever (λ k. (put n y s.node k).past) in
+      every-of-map At (post n) (filter which (s.node n).outs)
+      (every-map (F.PostOk s.ever n (all_effects (s.node n))) (λ out. At (post n out))
+      (λ out p. subst (λ (z : SoftNode). F.PostOk s.ever n z.past (record { to = out.to; message = out.message })) (sym (put-here n y s.node)) p)
+      (filter which (s.node n).outs)
+      (every-filter (F.PostOk s.ever n (all_effects (s.node n))) which (s.node n).outs (inv.nodes n).outs))
 
-  inv-tick : (s : Soft) (t : ℕ) → Inv F s → Inv F (record { seat = s.seat; ever = s.ever; ticks = t ∷ s.ticks })
+  inv-tick : (s : Soft) (t : ℕ) → Inv F s → Inv F (record { node = s.node; ever = s.ever; ticks = t ∷ s.ticks })
   inv-tick s t inv =
-      let v : Soft = record { seat = s.seat; ever = s.ever; ticks = t ∷ s.ticks } in
+      let v : Soft = record { node = s.node; ever = s.ever; ticks = t ∷ s.ticks } in
       let l : Later (around s) (around v) = record { more = []; ever = sym (append-nil s.ever); homes = λ x d c. c; ticks = λ x c. inr c } in
-      record { nodes = λ k. node-later (around s) (around v) l k (s.seat k) (inv.nodes k); sent = inv.sent }
+      record { nodes = λ k. node-later (around s) (around v) l k (s.node k) (inv.nodes k); sent = inv.sent }
 
   -- ---- one event, and all
 
@@ -159,15 +159,15 @@ module _ (script : List ℕ → Tree) (turns : Turns) (F : NodeFacts) (laws : No
   inv-reached (React n run acts input ∷ es) may =
       let s : Soft = happened turns es in
       let inv : Inv F (happened turns es) = inv-reached es may.0 in
-      changed s n (react turns run acts n (s.seat n) input) [] s.ever [] inv (react-ok s run acts n input inv may.1.0 may.1.1) tt refl (sym (append-nil s.ever)) tt
+      changed s n (react turns run acts n (s.node n) input) [] s.ever [] inv (react-ok s run acts n input inv may.1.0 may.1.1) tt refl (sym (append-nil s.ever)) tt
   inv-reached (Gate n which ∷ es) may =
       let s : Soft = happened turns es in
       let inv : Inv F (happened turns es) = inv-reached es may in
-      changed s n (gate (s.seat n)) (s.seat n).added (s.ever ++ posts n (filter which (s.seat n).outs)) (posts n (filter which (s.seat n).outs)) inv
-      (gate-ok (around s) n (s.seat n) (inv.nodes n)) (inv.nodes n).grew refl refl (gate-news s n which inv)
+      changed s n (gate (s.node n)) (s.node n).added (s.ever ++ posts n (filter which (s.node n).outs)) (posts n (filter which (s.node n).outs)) inv
+      (gate-ok (around s) n (s.node n) (inv.nodes n)) (inv.nodes n).grew refl refl (gate-news s n which inv)
   inv-reached (Crash n kept start ∷ es) may =
       let s : Soft = happened turns es in
       let inv : Inv F (happened turns es) = inv-reached es may in
-      changed s n (crash kept start (s.seat n)) (keep kept (s.seat n).added) s.ever [] inv (crash-ok (around s) n kept start (s.seat n) (inv.nodes n))
-      (grew_drop (F.Fits n) (s.seat n).past (length (s.seat n).added - kept) (s.seat n).added (inv.nodes n).grew) refl (sym (append-nil s.ever)) tt
+      changed s n (crash kept start (s.node n)) (keep kept (s.node n).added) s.ever [] inv (crash-ok (around s) n kept start (s.node n) (inv.nodes n))
+      (grew_drop (F.Fits n) (s.node n).past (length (s.node n).added - kept) (s.node n).added (inv.nodes n).grew) refl (sym (append-nil s.ever)) tt
   inv-reached (Tick t ∷ es) may = inv-tick (happened turns es) t (inv-reached es may)

@@ -25,16 +25,16 @@ use Rattle.world_core.specs.Legal.{Meets, AllReady, Legal, base_of, fates_of}
 use Rattle.world_core.specs.Pasts.{Call, log_left, logs_after, OpenedWith, AreCalls, HasPast}
 use Rattle.world_core.proofs.Rules.{meets-front}
 use Rattle.world_facts.specs.Rules.{Around, Later, NodeFacts, Turns, NodeLaws, PastLaws}
-use Rattle.world_facts.specs.Soft.{SoftNode, whole, put, crash, kept_log, opened_seat, Soft, around, SoftEvent, happened, Mays, NodeOk, SentOk, Inv}
+use Rattle.world_facts.specs.Soft.{SoftNode, all_effects, put, crash, kept_log, opened_soft, Soft, around, SoftEvent, happened, Mays, NodeOk, SentOk, Inv}
 use Rattle.world_facts.specs.Soft.SoftEvent.{Crash}
-use Rattle.world_facts.specs.Refines.{seat_of, past_sent, PastTick, Ticked, Refines, Left, LivesOk, logs_at, LogFacts}
+use Rattle.world_facts.specs.Refines.{soft_of, past_sent, PastTick, Ticked, Refines, Left, LivesOk, logs_at, LogFacts}
 use Rattle.world_facts.proofs.Growths.{each-map, drop-none, length-reverse, take-back}
 use Rattle.world_facts.proofs.Keeps.{inv-reached}
 use Rattle.world_facts.proofs.Refinements.{ready-gated, walk-refines}
 
 -- ---- each node of a list crashes
 
-kept-again : (kept start : ℕ) (log : List Effect) → kept_log kept (opened_seat log start) ≡ log
+kept-again : (kept start : ℕ) (log : List Effect) → kept_log kept (opened_soft log start) ≡ log
 kept-again kept start log = ap (λ l. l ++ log) (drop-none (0 - kept) [] refl)
 
 -- where nothing is open, all of the log is kept
@@ -42,12 +42,12 @@ kept-all : (kept : ℕ) (x : SoftNode) → x.added ≡ [] → kept_log kept x �
 kept-all kept x e = ap (λ l. l ++ x.past) (drop-none (length x.added - kept) x.added e)
 
 -- what is left of a life, turned round
-kept-left : (kept : ℕ) (l : Life) → kept_log kept (seat_of l) ≡ reverse (l.gated ++ take kept l.fresh)
+kept-left : (kept : ℕ) (l : Life) → kept_log kept (soft_of l) ≡ reverse (l.gated ++ take kept l.fresh)
 kept-left kept l = ap (λ n. drop (n - kept) (reverse l.fresh) ++ reverse l.gated) (length-reverse l.fresh) ∙ ap (λ x. x ++ reverse l.gated) (sym (take-back kept l.fresh)) ∙ sym (reverse-append l.gated (take kept l.fresh))
 
 module _ (kept : NodeId → ℕ) (start : ℕ) where
   pub record Crashed (os : List Opened) (old new : NodeId → SoftNode) : Type 0 where
-    pub inside : (n : NodeId) → is_some (opened_log os n) ≡ true → new n ≡ opened_seat (kept_log (kept n) (old n)) start
+    pub inside : (n : NodeId) → is_some (opened_log os n) ≡ true → new n ≡ opened_soft (kept_log (kept n) (old n)) start
     pub outside : (n : NodeId) → is_some (opened_log os n) ≡ false → new n ≡ old n
 
   crash-here : (o : Opened) (os : List Opened) (old new : NodeId → SoftNode) → Crashed os old new → kept_log (kept o.node) (new o.node) ≡ kept_log (kept o.node) (old o.node)
@@ -61,8 +61,8 @@ module _ (kept : NodeId → ℕ) (start : ℕ) where
   crash-one o os old new h = record { inside = λ n. within n (same_node o.node n) refl; outside = λ n. without n (same_node o.node n) refl }
     where
       within : (n : NodeId) (t : Bool) → same_node o.node n ≡ t → is_some (if t then Some o.effects else opened_log os n) ≡ true →
-          (if t then crash (kept o.node) start (new o.node) else new n) ≡ opened_seat (kept_log (kept n) (old n)) start
-      within n true q e = subst (λ z. crash (kept o.node) start (new o.node) ≡ opened_seat (kept_log (kept z) (old z)) start) (same_is o.node n q) (ap (λ l. opened_seat l start) (crash-here o os old new h))
+          (if t then crash (kept o.node) start (new o.node) else new n) ≡ opened_soft (kept_log (kept n) (old n)) start
+      within n true q e = subst (λ z. crash (kept o.node) start (new o.node) ≡ opened_soft (kept_log (kept z) (old z)) start) (same_is o.node n q) (ap (λ l. opened_soft l start) (crash-here o os old new h))
       within n false q e = h.inside n e
 
       without : (n : NodeId) (t : Bool) → same_node o.node n ≡ t → is_some (if t then Some o.effects else opened_log os n) ≡ false →
@@ -74,7 +74,7 @@ module _ (kept : NodeId → ℕ) (start : ℕ) where
     pub record AllCrashed (os : List Opened) (es : List SoftEvent) : Type 0 where
       pub events : List SoftEvent
       pub may : Mays F turns events
-      pub crashed : Crashed os (happened turns es).seat (happened turns events).seat
+      pub crashed : Crashed os (happened turns es).node (happened turns events).node
       pub ever : (happened turns events).ever ≡ (happened turns es).ever
       pub ticks : (happened turns events).ticks ≡ (happened turns es).ticks
 
@@ -85,7 +85,7 @@ module _ (kept : NodeId → ℕ) (start : ℕ) where
         record {
           events = Crash o.node (kept o.node) start ∷ r.events;
           may = r.may;
-          crashed = crash-one o os (happened turns es).seat (happened turns r.events).seat r.crashed;
+          crashed = crash-one o os (happened turns es).node (happened turns r.events).node r.crashed;
           ever = r.ever;
           ticks = r.ticks;
         }
@@ -111,15 +111,15 @@ module _ (script : List ℕ → Tree) (turns : Turns) (F : NodeFacts) (laws : No
       ((n : NodeId) → is_some (opened_log b.opened n) ≡ true → F.Ready b.run b.acts n (reverse (unwrap_or (opened_log b.opened n) []))) → Refines turns F b logs old May (start_world b)
   opens b logs sent Before May wider left agrees ready =
       let c : AllCrashed (λ n. 0) b.start turns F b.opened left.events = crash-all (λ n. 0) b.start turns F b.opened left.events left.may in
-      let old : NodeId → SoftNode = (happened turns left.events).seat in
-      let is : (n : NodeId) → kept_log 0 ((happened turns left.events).seat n) ≡ reverse (logs n) = λ n. kept-all 0 ((happened turns left.events).seat n) (left.fresh n) ∙ left.gated n in
+      let old : NodeId → SoftNode = (happened turns left.events).node in
+      let is : (n : NodeId) → kept_log 0 ((happened turns left.events).node n) ≡ reverse (logs n) = λ n. kept-all 0 ((happened turns left.events).node n) (left.fresh n) ∙ left.gated n in
       record {
         events = c.events;
         may = c.may;
         models = record {
           known = λ n. refl;
           ups = λ n up. up;
-          lives = λ n e. c.crashed.inside n e ∙ ap (λ l. opened_seat l b.start) (is n ∙ ap reverse (sym (found-log logs n (opened_log b.opened n) (agrees n) e)));
+          lives = λ n e. c.crashed.inside n e ∙ ap (λ l. opened_soft l b.start) (is n ∙ ap reverse (sym (found-log logs n (opened_log b.opened n) (agrees n) e)));
           outside = λ n e. (ap (λ (x : SoftNode). x.past) (c.crashed.outside n e) ∙ left.gated n, ap (λ (x : SoftNode). x.added) (c.crashed.outside n e) ∙ left.fresh n);
           unknown = λ n e. no-log (opened_log b.opened n) e;
           ever = c.ever ∙ left.ever ∙ sym (append-nil sent);
@@ -145,7 +145,7 @@ module _ (script : List ℕ → Tree) (turns : Turns) (F : NodeFacts) (laws : No
       }
     where
       go : (c : AllCrashed kept 0 turns F b.opened r.events) (n : NodeId) (t : Bool) → is_some (opened_log b.opened n) ≡ t →
-          (((happened turns c.events).seat n).past ≡ reverse (after n)) × (((happened turns c.events).seat n).added ≡ [])
+          (((happened turns c.events).node n).past ≡ reverse (after n)) × (((happened turns c.events).node n).added ≡ [])
       go c n true e = (
         ap (λ (x : SoftNode). x.past) (c.crashed.inside n e) ∙ ap (kept_log (kept n)) (r.models.lives n (r.models.known n ∙ e)) ∙ kept-left (kept n) (w.life n) ∙ ap reverse (sym (inside n e)),
         ap (λ (x : SoftNode). x.added) (c.crashed.inside n e),
@@ -185,10 +185,10 @@ module _ (script : List ℕ → Tree) (turns : Turns) (F : NodeFacts) (laws : No
 
   -- the durable logs of both worlds are one
   gated-same : (b : Base) (logs : NodeId → List Effect) (old : List Post) (May : ℕ → Type 0) (w : World) (r : Refines turns F b logs old May w) (n : NodeId)
-      → ((happened turns r.events).seat n).past ≡ reverse (logs_at logs w n)
+      → ((happened turns r.events).node n).past ≡ reverse (logs_at logs w n)
   gated-same b logs old May w r n = go (w.flags n).known refl
     where
-      go : (t : Bool) → (w.flags n).known ≡ t → ((happened turns r.events).seat n).past ≡ reverse (logs_at logs w n)
+      go : (t : Bool) → (w.flags n).known ≡ t → ((happened turns r.events).node n).past ≡ reverse (logs_at logs w n)
       go true e = ap (λ (x : SoftNode). x.past) (r.models.lives n e) ∙ ap reverse (sym (ap (λ t. if t then (w.life n).gated else logs n) e))
       go false e = (r.models.outside n e).0 ∙ ap reverse (sym (ap (λ t. if t then (w.life n).gated else logs n) e))
 
@@ -208,22 +208,22 @@ module _ (script : List ℕ → Tree) (turns : Turns) (F : NodeFacts) (laws : No
   facts-of b logs old May w r =
       let s : Soft = happened turns r.events in
       let inv : Inv F s = inv-reached script turns F laws r.events r.may in
-      let same : (n : NodeId) → (s.seat n).past ≡ reverse (logs_at logs w n) = gated-same b logs old May w r in
+      let same : (n : NodeId) → (s.node n).past ≡ reverse (logs_at logs w n) = gated-same b logs old May w r in
       record {
         ticks = s.ticks;
         ticked = r.models.ticked;
         tidy = λ n. subst (F.Tidy n) (same n) (inv.nodes n).tidy;
         proofs = λ n. each-map (F.Proof (around s) n) (F.Proof (around_at logs old w s.ticks) n)
             (λ log f. laws.later (around s) (around_at logs old w s.ticks) n log f (later-same b logs old May w r)) (reverse (logs_at logs w n))
-            (subst (Each (F.Proof (around s) n)) (same n) (each_below (F.Proof (around s) n) (s.seat n).past (s.seat n).added (inv.nodes n).proofs));
+            (subst (Each (F.Proof (around s) n)) (same n) (each_below (F.Proof (around s) n) (s.node n).past (s.node n).added (inv.nodes n).proofs));
         sent_ok = subst (λ e. Every (SentOk F e (λ k. reverse (logs_at logs w k))) e) r.models.ever
-            (every-map (SentOk F s.ever (λ n. (s.seat n).past)) (SentOk F s.ever (λ k. reverse (logs_at logs w k)))
+            (every-map (SentOk F s.ever (λ n. (s.node n).past)) (SentOk F s.ever (λ k. reverse (logs_at logs w k)))
             (λ p q. subst (λ g. F.PostOk s.ever p.from g (record { to = p.to; message = p.message })) (same p.from) q) s.ever inv.sent);
         ready = λ n e.
             let known : (w.flags n).known ≡ true = r.models.known n ∙ e in
             subst (F.Ready b.run b.acts n) (same n)
-            (ready-gated script turns F laws b.run b.acts n (s.seat n).past (s.seat n).added (inv.nodes n).tidy (inv.nodes n).grew
-            (subst (λ x. F.Ready b.run b.acts n (whole x)) (sym (r.models.lives n known)) (r.models.ready n known)));
+            (ready-gated script turns F laws b.run b.acts n (s.node n).past (s.node n).added (inv.nodes n).tidy (inv.nodes n).grew
+            (subst (λ x. F.Ready b.run b.acts n (all_effects x)) (sym (r.models.lives n known)) (r.models.ready n known)));
       }
 
   -- what holds of a node holds of its life in the walk
@@ -233,16 +233,16 @@ module _ (script : List ℕ → Tree) (turns : Turns) (F : NodeFacts) (laws : No
     tidy = h.tidy;
     grew = h.grew;
     proofs = each-map (F.Proof (around (happened turns r.events)) n) (F.Proof (around_at logs old w (happened turns r.events).ticks) n)
-        (λ log f. laws.later (around (happened turns r.events)) (around_at logs old w (happened turns r.events).ticks) n log f (later-same b logs old May w r)) (whole x) h.proofs;
+        (λ log f. laws.later (around (happened turns r.events)) (around_at logs old w (happened turns r.events).ticks) n log f (later-same b logs old May w r)) (all_effects x) h.proofs;
     mind_ok = subst (λ e. F.MindOk e n x.mind) r.models.ever h.mind_ok;
-    outs = subst (λ e. Every (F.PostOk e n (whole x)) x.outs) r.models.ever h.outs;
+    outs = subst (λ e. Every (F.PostOk e n (all_effects x)) x.outs) r.models.ever h.outs;
   }
 
   pub lives-of : (b : Base) (logs : NodeId → List Effect) (old : List Post) (May : ℕ → Type 0) (w : World) → Refines turns F b logs old May w → LivesOk F b (logs_at logs w) old May w
   lives-of b logs old May w r = record {
     ticks = (happened turns r.events).ticks;
     ticked = r.models.ticked;
-    nodes = λ n known. life-ok b logs old May w r n (seat_of (w.life n))
+    nodes = λ n known. life-ok b logs old May w r n (soft_of (w.life n))
         (subst (λ x. NodeOk F (around (happened turns r.events)) n x) (r.models.lives n known) ((inv-reached script turns F laws r.events r.may).nodes n));
     ready = r.models.ready;
   }

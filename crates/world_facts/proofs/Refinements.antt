@@ -24,12 +24,12 @@ use Rattle.world_core.specs.Walks.{Base, Life, Sending, World, opened_log, numbe
 use Rattle.world_core.specs.Walks as walks
 use Rattle.world_core.specs.Legal.{MayTake, MayHear, MayGate, MayCrash, IsDecidedAs, Rule, Meets}
 use Rattle.world_facts.specs.Rules.{IsDecided, NodeFacts, Turns, MayInput, TurnGives, NodeLaws}
-use Rattle.world_facts.specs.Soft.{SoftNode, whole, put, gate, crash, Soft, around, SoftEvent, react, happened, Mays, Inv}
+use Rattle.world_facts.specs.Soft.{SoftNode, all_effects, put, gate, crash, Soft, around, SoftEvent, react, happened, Mays, Inv}
 use Rattle.world_facts.specs.Soft.SoftEvent.{React, Gate, Crash, Tick}
-use Rattle.world_facts.specs.Refines.{seat_of, Models, Refines}
+use Rattle.world_facts.specs.Refines.{soft_of, Models, Refines}
 use Rattle.world_facts.proofs.Growths.{none-has, numbered-has, put-all}
 use Rattle.world_facts.proofs.Keeps.{tidy-grown, turn-gives, inv-reached}
-use Rattle.world_facts.proofs.Steps.{step-known, both-changed, all-stay, unknown-stays, gated-seat, crashed-seat, told-seat, sent-gate}
+use Rattle.world_facts.proofs.Steps.{step-known, both-changed, all-stay, unknown-stays, gated-soft, crashed-soft, told-soft, sent-gate}
 
 not-both : (t : Bool) → t ≡ true → t ≡ false → ⊥
 not-both t h k = let no : true ≡ false = sym h ∙ k in cc no
@@ -38,11 +38,11 @@ module _ (script : List ℕ → Tree) (turns : Turns) (F : NodeFacts) (laws : No
   -- ---- ready logs
 
   -- a turn keeps a log ready
-  react-ready : (s : Soft) (run : ℕ) (acts : List ActSpec) (n : NodeId) (input : Input) → Inv F s → MayInput (around s) n input → F.Ready run acts n (whole (s.seat n)) →
-      F.Ready run acts n (whole (react turns run acts n (s.seat n) input))
+  react-ready : (s : Soft) (run : ℕ) (acts : List ActSpec) (n : NodeId) (input : Input) → Inv F s → MayInput (around s) n input → F.Ready run acts n (all_effects (s.node n)) →
+      F.Ready run acts n (all_effects (react turns run acts n (s.node n) input))
   react-ready s run acts n input inv may ready =
-      let g : TurnGives F (around s) run acts n (whole (s.seat n)) (turns run acts n (whole (s.seat n)) (s.seat n).mind input) = turn-gives script turns F laws s run acts n input inv may ready in
-      subst (F.Ready run acts n) (sym (append_assoc (turns run acts n (whole (s.seat n)) (s.seat n).mind input).effects (s.seat n).added (s.seat n).past)) g.ready
+      let g : TurnGives F (around s) run acts n (all_effects (s.node n)) (turns run acts n (all_effects (s.node n)) (s.node n).mind input) = turn-gives script turns F laws s run acts n input inv may ready in
+      subst (F.Ready run acts n) (sym (append_assoc (turns run acts n (all_effects (s.node n)) (s.node n).mind input).effects (s.node n).added (s.node n).past)) g.ready
 
   -- and so does a crash
   ready-cut : (run : ℕ) (acts : List ActSpec) (n : NodeId) (log : List Effect) (i : ℕ) (fresh : List Effect) → F.Tidy n log → Grew (F.Fits n) log fresh →
@@ -62,19 +62,19 @@ module _ (script : List ℕ → Tree) (turns : Turns) (F : NodeFacts) (laws : No
 
     -- one node changed on both sides
     one-changed : (s : Soft) (w : World) (e : Entry) (n : NodeId) (y : SoftNode) (ever new : List Post) → Models turns F b others old May s w → ((k : NodeId) → names k e ≡ same_node n k) →
-        (w.flags n).known ≡ true → y ≡ seat_of (lives_on b w n (w.life n) e) → F.Ready b.run b.acts n (whole y) → ever ≡ s.ever ++ new →
-        sent_by (step b w e) ≡ sent_by w ++ new → last_after w.last e ≡ w.last → Models turns F b others old May (record { seat = put n y s.seat; ever = ever; ticks = s.ticks }) (step b w e)
+        (w.flags n).known ≡ true → y ≡ soft_of (lives_on b w n (w.life n) e) → F.Ready b.run b.acts n (all_effects y) → ever ≡ s.ever ++ new →
+        sent_by (step b w e) ≡ sent_by w ++ new → last_after w.last e ≡ w.last → Models turns F b others old May (record { node = put n y s.node; ever = ever; ticks = s.ticks }) (step b w e)
     one-changed s w e n y ever new h own known is ready grew sends last = record {
       known = λ k. (step-known b w e k).0 ∙ h.known k;
       ups = λ k up. (step-known b w e k).0 ∙ h.ups k ((step-known b w e k).1 up);
-      lives = λ k kn. (both-changed b w e n y s.seat (λ k x l. ((w.flags k).known ≡ true) → x ≡ seat_of l) own known (λ u. is) h.lives k) (sym (step-known b w e k).0 ∙ kn);
-      outside = λ k kn. (put-all (λ k x. ((w.flags k).known ≡ false) → (x.past ≡ reverse (others k)) × (x.added ≡ [])) n y s.seat (λ u. absurd (not-both (w.flags n).known known u)) h.outside k) (sym (step-known b w e k).0 ∙ kn);
+      lives = λ k kn. (both-changed b w e n y s.node (λ k x l. ((w.flags k).known ≡ true) → x ≡ soft_of l) own known (λ u. is) h.lives k) (sym (step-known b w e k).0 ∙ kn);
+      outside = λ k kn. (put-all (λ k x. ((w.flags k).known ≡ false) → (x.past ≡ reverse (others k)) × (x.added ≡ [])) n y s.node (λ u. absurd (not-both (w.flags n).known known u)) h.outside k) (sym (step-known b w e k).0 ∙ kn);
       unknown = λ k kn. let u : (w.flags k).known ≡ false = sym (step-known b w e k).0 ∙ kn in ap (λ (l : Life). l.gated) (unknown-stays b w e k u) ∙ h.unknown k u;
       ever = grew ∙ ap (λ z. z ++ new) h.ever ∙ append_assoc old (sent_by w) new ∙ ap (λ z. old ++ z) (sym sends);
       ticks = λ t at. h.ticks t (sym last ∙ at);
       ticked = h.ticked;
-      ready = λ k kn. (both-changed b w e n y s.seat (λ k x l. ((w.flags k).known ≡ true) → F.Ready b.run b.acts k (whole (seat_of l))) own known
-          (λ u. subst (λ x. F.Ready b.run b.acts n (whole x)) is ready) h.ready k) (sym (step-known b w e k).0 ∙ kn);
+      ready = λ k kn. (both-changed b w e n y s.node (λ k x l. ((w.flags k).known ≡ true) → F.Ready b.run b.acts k (all_effects (soft_of l))) own known
+          (λ u. subst (λ x. F.Ready b.run b.acts n (all_effects x)) is ready) h.ready k) (sym (step-known b w e k).0 ∙ kn);
     }
 
     -- an input of a node that was opened
@@ -84,13 +84,13 @@ module _ (script : List ℕ → Tree) (turns : Turns) (F : NodeFacts) (laws : No
     input-refines w e n input r own known may is sends last =
         let s : Soft = happened turns r.events in
         let inv : Inv F s = inv-reached script turns F laws r.events r.may in
-        let at : s.seat n ≡ seat_of (w.life n) = r.models.lives n known in
-        let ready : F.Ready b.run b.acts n (whole (s.seat n)) = subst (λ x. F.Ready b.run b.acts n (whole x)) (sym at) (r.models.ready n known) in
+        let at : s.node n ≡ soft_of (w.life n) = r.models.lives n known in
+        let ready : F.Ready b.run b.acts n (all_effects (s.node n)) = subst (λ x. F.Ready b.run b.acts n (all_effects x)) (sym at) (r.models.ready n known) in
         record {
           events = React n b.run b.acts input ∷ r.events;
           may = (r.may, (may, ready));
-          models = one-changed s w e n (react turns b.run b.acts n (s.seat n) input) s.ever [] r.models own known
-              (ap (λ x. react turns b.run b.acts n x input) at ∙ told-seat script turns F laws b n (w.life n) input same ∙ ap seat_of (sym is))
+          models = one-changed s w e n (react turns b.run b.acts n (s.node n) input) s.ever [] r.models own known
+              (ap (λ x. react turns b.run b.acts n x input) at ∙ told-soft script turns F laws b n (w.life n) input same ∙ ap soft_of (sym is))
               (react-ready s b.run b.acts n input inv may ready) (sym (append-nil s.ever)) (sends ∙ sym (append-nil (sent_by w))) last;
         }
 
@@ -98,7 +98,7 @@ module _ (script : List ℕ → Tree) (turns : Turns) (F : NodeFacts) (laws : No
     decided-there : (s : Soft) (w : World) (t : StampParts) (committed : Bool) → Models turns F b others old May s w → IsDecidedAs w t committed → IsDecided (around s) t committed
     decided-there s w t committed h d = (d.0, go (w.flags (repository t.home)).known refl, d.2)
       where
-        go : (k : Bool) → (w.flags (repository t.home)).known ≡ k → Has (effect.Decide t d.0) (s.seat (repository t.home)).past
+        go : (k : Bool) → (w.flags (repository t.home)).known ≡ k → Has (effect.Decide t d.0) (s.node (repository t.home)).past
         go true e = subst (λ (x : SoftNode). Has (effect.Decide t d.0) x.past) (sym (h.lives (repository t.home) e)) (has-reverse (w.life (repository t.home)).gated (effect.Decide t d.0) d.1)
         go false e = absurd (none-has (w.life (repository t.home)).gated (effect.Decide t d.0) (h.unknown (repository t.home) e) d.1)
 
@@ -122,15 +122,15 @@ module _ (script : List ℕ → Tree) (turns : Turns) (F : NodeFacts) (laws : No
     gate-refines w n r rule =
         let s : Soft = happened turns r.events in
         let known : (w.flags n).known ≡ true = r.models.ups n rule.up in
-        let at : s.seat n ≡ seat_of (w.life n) = r.models.lives n known in
+        let at : s.node n ≡ soft_of (w.life n) = r.models.lives n known in
         let which : Out → Bool = leaves (walks.all_effects (w.life n)) in
-        let left : leaving w n ≡ posts n (filter which (s.seat n).outs) =
+        let left : leaving w n ≡ posts n (filter which (s.node n).outs) =
         ap (λ t. if t then posts n (filter which (w.life n).outs) else []) known ∙ ap (λ (x : SoftNode). posts n (filter which x.outs)) (sym at) in
         record {
           events = Gate n which ∷ r.events;
           may = r.may;
-          models = one-changed s w (entry.Gate n) n (gate (s.seat n)) (s.ever ++ posts n (filter which (s.seat n).outs)) (posts n (filter which (s.seat n).outs)) r.models (λ k. refl) known
-              (ap gate at ∙ gated-seat (w.life n)) (subst (λ x. F.Ready b.run b.acts n (whole x)) (sym at) (r.models.ready n known)) refl
+          models = one-changed s w (entry.Gate n) n (gate (s.node n)) (s.ever ++ posts n (filter which (s.node n).outs)) (posts n (filter which (s.node n).outs)) r.models (λ k. refl) known
+              (ap gate at ∙ gated-soft (w.life n)) (subst (λ x. F.Ready b.run b.acts n (all_effects x)) (sym at) (r.models.ready n known)) refl
               (sent-gate b w n ∙ ap (λ z. sent_by w ++ z) left) refl;
         }
 
@@ -139,14 +139,14 @@ module _ (script : List ℕ → Tree) (turns : Turns) (F : NodeFacts) (laws : No
         let s : Soft = happened turns r.events in
         let inv : Inv F s = inv-reached script turns F laws r.events r.may in
         let known : (w.flags n).known ≡ true = r.models.ups n rule.up in
-        let at : s.seat n ≡ seat_of (w.life n) = r.models.lives n known in
+        let at : s.node n ≡ soft_of (w.life n) = r.models.lives n known in
         record {
           events = Crash n kept b.start ∷ r.events;
           may = r.may;
-          models = one-changed s w (entry.Crash n kept) n (crash kept b.start (s.seat n)) s.ever [] r.models (λ k. refl) known
-              (ap (crash kept b.start) at ∙ crashed-seat b.start kept (w.life n))
-              (ready-cut b.run b.acts n (s.seat n).past (length (s.seat n).added - kept) (s.seat n).added (inv.nodes n).tidy (inv.nodes n).grew
-              (subst (λ x. F.Ready b.run b.acts n (whole x)) (sym at) (r.models.ready n known)))
+          models = one-changed s w (entry.Crash n kept) n (crash kept b.start (s.node n)) s.ever [] r.models (λ k. refl) known
+              (ap (crash kept b.start) at ∙ crashed-soft b.start kept (w.life n))
+              (ready-cut b.run b.acts n (s.node n).past (length (s.node n).added - kept) (s.node n).added (inv.nodes n).tidy (inv.nodes n).grew
+              (subst (λ x. F.Ready b.run b.acts n (all_effects x)) (sym at) (r.models.ready n known)))
               (sym (append-nil s.ever)) (sym (append-nil (sent_by w))) refl;
         }
 
@@ -159,17 +159,17 @@ module _ (script : List ℕ → Tree) (turns : Turns) (F : NodeFacts) (laws : No
       models = record {
         known = λ k. (step-known b w e k).0 ∙ h.known k;
         ups = λ k up. (step-known b w e k).0 ∙ h.ups k ((step-known b w e k).1 up);
-        lives = λ k kn. h.lives k (sym (step-known b w e k).0 ∙ kn) ∙ ap seat_of (sym (stays k));
+        lives = λ k kn. h.lives k (sym (step-known b w e k).0 ∙ kn) ∙ ap soft_of (sym (stays k));
         outside = λ k kn. h.outside k (sym (step-known b w e k).0 ∙ kn);
         unknown = λ k kn. ap (λ (l : Life). l.gated) (stays k) ∙ h.unknown k (sym (step-known b w e k).0 ∙ kn);
         ever = h.ever ∙ ap (λ z. old ++ z) (sym sends);
         ticks = ticks;
         ticked = h.ticked;
-        ready = λ k kn. subst (λ l. F.Ready b.run b.acts k (whole (seat_of l))) (sym (stays k)) (h.ready k (sym (step-known b w e k).0 ∙ kn));
+        ready = λ k kn. subst (λ l. F.Ready b.run b.acts k (all_effects (soft_of l))) (sym (stays k)) (h.ready k (sym (step-known b w e k).0 ∙ kn));
       };
     }
 
-    ticked : (w : World) (moment : ℕ) (s : Soft) → May moment → Models turns F b others old May s w → Models turns F b others old May (record { seat = s.seat; ever = s.ever; ticks = moment ∷ s.ticks }) w
+    ticked : (w : World) (moment : ℕ) (s : Soft) → May moment → Models turns F b others old May s w → Models turns F b others old May (record { node = s.node; ever = s.ever; ticks = moment ∷ s.ticks }) w
     ticked w moment s may h = record { known = h.known; ups = h.ups; lives = h.lives; outside = h.outside; unknown = h.unknown; ever = h.ever; ticks = λ t at. inr (h.ticks t at); ticked = λ t. now t; ready = h.ready }
       where
         now : (t : ℕ) → Has t (moment ∷ s.ticks) → May t

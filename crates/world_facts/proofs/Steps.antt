@@ -14,8 +14,8 @@ use Rattle.world_core.specs.Nodes.{Input, Given, gives}
 use Rattle.world_core.specs.Walks as walks
 use Rattle.world_core.specs.Walks.{Base, Life, Flags, Sending, World, names, step, after_input, lives_on, gated_life, crashed_life, flagged, went, learned, has_heard, leaving, sent_by, with_given, walk_from, sendings_after}
 use Rattle.world_facts.specs.Rules.{NodeFacts, Turns, forward, NodeLaws}
-use Rattle.world_facts.specs.Soft.{SoftNode, whole, put, gate, crash, react, with_turn, opened_seat}
-use Rattle.world_facts.specs.Refines.{seat_of}
+use Rattle.world_facts.specs.Soft.{SoftNode, all_effects, put, gate, crash, react, with_turn, opened_soft}
+use Rattle.world_facts.specs.Refines.{soft_of}
 use Rattle.world_facts.proofs.Growths.{take-back, length-reverse}
 
 -- ---- flags
@@ -81,28 +81,28 @@ unknown-stays b w e k h = ap (λ t. if names k e && t then lives_on b w k (w.lif
     go true = refl
     go false = refl
 
--- ---- a seat is a life turned round
+-- ---- a soft node is a life turned round
 
-pub gated-seat : (l : Life) → gate (seat_of l) ≡ seat_of (gated_life l)
-gated-seat l = ap (λ g. let x : SoftNode = record { past = g; added = []; outs = []; mind = l.mind } in x) (sym (reverse-append l.gated l.fresh))
+pub gated-soft : (l : Life) → gate (soft_of l) ≡ soft_of (gated_life l)
+gated-soft l = ap (λ g. let x : SoftNode = record { past = g; added = []; outs = []; mind = l.mind } in x) (sym (reverse-append l.gated l.fresh))
 
-pub crashed-seat : (start kept : ℕ) (l : Life) → crash kept start (seat_of l) ≡ seat_of (crashed_life start kept l)
-crashed-seat start kept l = ap (λ g. opened_seat g start)
+pub crashed-soft : (start kept : ℕ) (l : Life) → crash kept start (soft_of l) ≡ soft_of (crashed_life start kept l)
+crashed-soft start kept l = ap (λ g. opened_soft g start)
     (ap (λ n. drop (n - kept) (reverse l.fresh) ++ reverse l.gated) (length-reverse l.fresh)
     ∙ ap (λ x. x ++ reverse l.gated) (sym (take-back kept l.fresh))
     ∙ sym (reverse-append l.gated (take kept l.fresh)))
 
 module _ (script : List ℕ → Tree) (turns : Turns) (F : NodeFacts) (laws : NodeLaws script turns F) where
-  pub told-seat : (b : Base) (n : NodeId) (l : Life) (input : Input) → b.script ≡ script → react turns b.run b.acts n (seat_of l) input ≡ seat_of (after_input b n l input)
-  told-seat b n l input same =
-      let g : Given = turns b.run b.acts n (whole (seat_of l)) l.mind input in
-      let all : reverse (walks.all_effects l) ≡ whole (seat_of l) = reverse-append l.gated l.fresh in
-      let is : gives b.script b.run b.acts n (walks.all_effects l) l.mind input ≡ forward (turns b.run b.acts n (whole (seat_of l)) l.mind input) =
+  pub told-soft : (b : Base) (n : NodeId) (l : Life) (input : Input) → b.script ≡ script → react turns b.run b.acts n (soft_of l) input ≡ soft_of (after_input b n l input)
+  told-soft b n l input same =
+      let g : Given = turns b.run b.acts n (all_effects (soft_of l)) l.mind input in
+      let all : reverse (walks.all_effects l) ≡ all_effects (soft_of l) = reverse-append l.gated l.fresh in
+      let is : gives b.script b.run b.acts n (walks.all_effects l) l.mind input ≡ forward (turns b.run b.acts n (all_effects (soft_of l)) l.mind input) =
       ap (λ z. gives z b.run b.acts n (walks.all_effects l) l.mind input) same ∙ laws.turns_are b.run b.acts n (walks.all_effects l) l.mind input ∙ ap (λ z. forward (turns b.run b.acts n z l.mind input)) all in
-      with-seat l g ∙ ap (λ z. seat_of (with_given l z)) (sym is)
+      with-soft l g ∙ ap (λ z. soft_of (with_given l z)) (sym is)
     where
-      with-seat : (l : Life) (g : Given) → with_turn (seat_of l) g ≡ seat_of (with_given l (forward g))
-      with-seat l g = ap (λ f. let x : SoftNode = record { past = reverse l.gated; added = f; outs = l.outs ++ g.outs; mind = g.mind } in x)
+      with-soft : (l : Life) (g : Given) → with_turn (soft_of l) g ≡ soft_of (with_given l (forward g))
+      with-soft l g = ap (λ f. let x : SoftNode = record { past = reverse l.gated; added = f; outs = l.outs ++ g.outs; mind = g.mind } in x)
           (ap (λ z. z ++ reverse l.fresh) (sym (reverse-reverse g.effects)) ∙ sym (reverse-append l.fresh (reverse g.effects)))
 
 -- ---- messages

@@ -12,11 +12,11 @@ use Rattle.world_core.specs.Walks.{Base, Life, World, opened_log, sent_by, walk}
 use Rattle.world_core.specs.Legal.{base_of}
 use Rattle.world_core.specs.Pasts.{Call}
 use Rattle.world_facts.specs.Rules.{NodeFacts, Turns}
-use Rattle.world_facts.specs.Soft.{NodeOk, SoftNode, whole, Soft, SoftEvent, happened, Mays, SentOk}
+use Rattle.world_facts.specs.Soft.{NodeOk, SoftNode, all_effects, Soft, SoftEvent, happened, Mays, SentOk}
 
 -- a life, newest first
-abbrev pub seat_of : Life → SoftNode
-seat_of l = record { past = reverse l.gated; added = reverse l.fresh; outs = l.outs; mind = l.mind }
+abbrev pub soft_of : Life → SoftNode
+soft_of l = record { past = reverse l.gated; added = reverse l.fresh; outs = l.outs; mind = l.mind }
 
 -- ---- what earlier runs sent and ticked; the last run first
 
@@ -42,13 +42,13 @@ module _ (turns : Turns) (F : NodeFacts) (b : Base) (others : NodeId → List Ef
   pub record Models (s : Soft) (w : World) : Type 0 where
     pub known : (n : NodeId) → (w.flags n).known ≡ is_some (opened_log b.opened n)
     pub ups : (n : NodeId) → (w.flags n).up ≡ true → (w.flags n).known ≡ true
-    pub lives : (n : NodeId) → (w.flags n).known ≡ true → s.seat n ≡ seat_of (w.life n)
-    pub outside : (n : NodeId) → (w.flags n).known ≡ false → ((s.seat n).past ≡ reverse (others n)) × ((s.seat n).added ≡ [])
+    pub lives : (n : NodeId) → (w.flags n).known ≡ true → s.node n ≡ soft_of (w.life n)
+    pub outside : (n : NodeId) → (w.flags n).known ≡ false → ((s.node n).past ≡ reverse (others n)) × ((s.node n).added ≡ [])
     pub unknown : (n : NodeId) → (w.flags n).known ≡ false → (w.life n).gated ≡ []
     pub ever : s.ever ≡ old ++ sent_by w
     pub ticks : (t : ℕ) → w.last ≡ Some t → Has t s.ticks
     pub ticked : (t : ℕ) → Has t s.ticks → May t
-    pub ready : (n : NodeId) → (w.flags n).known ≡ true → F.Ready b.run b.acts n (whole (seat_of (w.life n)))
+    pub ready : (n : NodeId) → (w.flags n).known ≡ true → F.Ready b.run b.acts n (all_effects (soft_of (w.life n)))
 
   pub record Refines (w : World) : Type 0 where
     pub events : List SoftEvent
@@ -59,8 +59,8 @@ module _ (turns : Turns) (F : NodeFacts) (b : Base) (others : NodeId → List Ef
 pub record Left (turns : Turns) (F : NodeFacts) (logs : NodeId → List Effect) (old : List Post) (May : ℕ → Type 0) : Type 0 where
   pub events : List SoftEvent
   pub may : Mays F turns events
-  pub gated : (n : NodeId) → ((happened turns events).seat n).past ≡ reverse (logs n)
-  pub fresh : (n : NodeId) → ((happened turns events).seat n).added ≡ []
+  pub gated : (n : NodeId) → ((happened turns events).node n).past ≡ reverse (logs n)
+  pub fresh : (n : NodeId) → ((happened turns events).node n).added ≡ []
   pub ever : (happened turns events).ever ≡ old
   pub ticked : (t : ℕ) → Has t (happened turns events).ticks → May t
 
@@ -82,5 +82,5 @@ pub record LogFacts (F : NodeFacts) (b : Base) (logs : NodeId → List Effect) (
 pub record LivesOk (F : NodeFacts) (b : Base) (logs : NodeId → List Effect) (past : List Post) (May : ℕ → Type 0) (w : World) : Type 0 where
   pub ticks : List ℕ
   pub ticked : (t : ℕ) → Has t ticks → May t
-  pub nodes : (n : NodeId) → (w.flags n).known ≡ true → NodeOk F (record { ever = past ++ sent_by w; logs = λ k. reverse (logs k); ticks = ticks }) n (seat_of (w.life n))
-  pub ready : (n : NodeId) → (w.flags n).known ≡ true → F.Ready b.run b.acts n (whole (seat_of (w.life n)))
+  pub nodes : (n : NodeId) → (w.flags n).known ≡ true → NodeOk F (record { ever = past ++ sent_by w; logs = λ k. reverse (logs k); ticks = ticks }) n (soft_of (w.life n))
+  pub ready : (n : NodeId) → (w.flags n).known ≡ true → F.Ready b.run b.acts n (all_effects (soft_of (w.life n)))

@@ -20,17 +20,17 @@ pub record SoftNode : Type 0 where
   pub outs : List Out
   pub mind : Mind
 
-abbrev pub whole : SoftNode → List Effect
-whole x = x.added ++ x.past
+abbrev pub all_effects : SoftNode → List Effect
+all_effects x = x.added ++ x.past
 
-abbrev pub opened_seat : List Effect → ℕ → SoftNode
-opened_seat log start = record { past = log; added = []; outs = []; mind = opened_mind start }
+abbrev pub opened_soft : List Effect → ℕ → SoftNode
+opened_soft log start = record { past = log; added = []; outs = []; mind = opened_mind start }
 
 abbrev pub with_turn : SoftNode → Given → SoftNode
 with_turn x g = record { past = x.past; added = g.effects ++ x.added; outs = x.outs ++ g.outs; mind = g.mind }
 
 abbrev pub gate : SoftNode → SoftNode
-gate x = record { past = whole x; added = []; outs = []; mind = x.mind }
+gate x = record { past = all_effects x; added = []; outs = []; mind = x.mind }
 
 -- the first `kept` new effects, which stand last
 abbrev pub keep : ℕ → List Effect → List Effect
@@ -40,10 +40,10 @@ abbrev pub kept_log : ℕ → SoftNode → List Effect
 kept_log kept x = keep kept x.added ++ x.past
 
 abbrev pub crash : ℕ → ℕ → SoftNode → SoftNode
-crash kept start x = opened_seat (kept_log kept x) start
+crash kept start x = opened_soft (kept_log kept x) start
 
 pub record Soft : Type 0 where
-  pub seat : NodeId → SoftNode
+  pub node : NodeId → SoftNode
   pub ever : List Post
   pub ticks : List ℕ
 
@@ -52,7 +52,7 @@ abbrev pub put : {X : Type 0} → NodeId → X → (NodeId → X) → NodeId →
 put n x s k = if same_node n k then x else s k
 
 abbrev pub around : Soft → Around
-around w = record { ever = w.ever; logs = λ n. (w.seat n).past; ticks = w.ticks }
+around w = record { ever = w.ever; logs = λ n. (w.node n).past; ticks = w.ticks }
 
 -- `Start` puts logs in place, before all else
 pub data SoftEvent : Type 0 where
@@ -64,17 +64,17 @@ pub data SoftEvent : Type 0 where
 
 module _ (turns : Turns) where
   abbrev pub react : ℕ → List ActSpec → NodeId → SoftNode → Input → SoftNode
-  react run acts n x input = with_turn x (turns run acts n (whole x) x.mind input)
+  react run acts n x input = with_turn x (turns run acts n (all_effects x) x.mind input)
 
   abbrev pub happens : Soft → SoftEvent → Soft
-  happens w (Start logs) = record { seat = λ n. opened_seat (logs n) 0; ever = []; ticks = [] }
-  happens w (React n run acts input) = record { seat = put n (react run acts n (w.seat n) input) w.seat; ever = w.ever; ticks = w.ticks }
-  happens w (Gate n which) = record { seat = put n (gate (w.seat n)) w.seat; ever = w.ever ++ posts n (filter which (w.seat n).outs); ticks = w.ticks }
-  happens w (Crash n kept start) = record { seat = put n (crash kept start (w.seat n)) w.seat; ever = w.ever; ticks = w.ticks }
-  happens w (Tick t) = record { seat = w.seat; ever = w.ever; ticks = t ∷ w.ticks }
+  happens w (Start logs) = record { node = λ n. opened_soft (logs n) 0; ever = []; ticks = [] }
+  happens w (React n run acts input) = record { node = put n (react run acts n (w.node n) input) w.node; ever = w.ever; ticks = w.ticks }
+  happens w (Gate n which) = record { node = put n (gate (w.node n)) w.node; ever = w.ever ++ posts n (filter which (w.node n).outs); ticks = w.ticks }
+  happens w (Crash n kept start) = record { node = put n (crash kept start (w.node n)) w.node; ever = w.ever; ticks = w.ticks }
+  happens w (Tick t) = record { node = w.node; ever = w.ever; ticks = t ∷ w.ticks }
 
 abbrev pub nothing : Soft
-nothing = record { seat = λ n. opened_seat [] 0; ever = []; ticks = [] }
+nothing = record { node = λ n. opened_soft [] 0; ever = []; ticks = [] }
 
 -- events stand newest first
 abbrev pub happened : Turns → List SoftEvent → Soft
@@ -85,7 +85,7 @@ module _ (F : NodeFacts) where
   -- a node reacts to an input that may come, where its log is ready
   abbrev pub May : Soft → SoftEvent → Type 0
   May w (Start logs) = (n : NodeId) → F.Tidy n (logs n) × Each (F.Proof (record { ever = []; logs = logs; ticks = [] }) n) (logs n)
-  May w (React n run acts input) = MayInput (around w) n input × F.Ready run acts n (whole (w.seat n))
+  May w (React n run acts input) = MayInput (around w) n input × F.Ready run acts n (all_effects (w.node n))
   May w (Gate n which) = Unit {0}
   May w (Crash n kept start) = Unit {0}
   May w (Tick t) = Unit {0}
@@ -112,5 +112,5 @@ module _ (F : NodeFacts) where
   SentOk ever logs p = F.PostOk ever p.from (logs p.from) (record { to = p.to; message = p.message })
 
   pub record Inv (w : Soft) : Type 0 where
-    pub nodes : (n : NodeId) → NodeOk (around w) n (w.seat n)
-    pub sent : Every (SentOk w.ever (λ n. (w.seat n).past)) w.ever
+    pub nodes : (n : NodeId) → NodeOk (around w) n (w.node n)
+    pub sent : Every (SentOk w.ever (λ n. (w.node n).past)) w.ever
