@@ -39,6 +39,7 @@ use Rattle.repository_core.specs.contracts.repositories.Repository as Repository
 use Rattle.repository_core.specs.contracts.repositories.Repository.TheInside as RepositoryInside
 use Rattle.repository_node.specs.contracts.kept_cores.KeptCore as KeptCore
 use Rattle.repository_node.specs.contracts.cores.RepositoryCore as RepositoryCore
+use Rattle.node_rounds.proofs.BrokerCrosses.{log_send}
 
 n8 : IsSend (as_row u8-field)
 n8 = search sendable depth 20
@@ -57,7 +58,7 @@ draft_send = view_send _ _ _ _ _ (declared_send DraftInside.the_type (
     (
       n64,
       (
-        Vec-send _ (search sendable depth 20),
+        log_send,
         (
           Vec-send _ effect.the_send,
           (
@@ -81,7 +82,7 @@ module _ (H B : RattleType) (h : histories.Ghosts H.Denot B.Denot) (sh : IsSend 
   repository_send = view_send _ _ _ _ _ (declared_send (RepositoryInside.the_type H B h) (work_send, (flag, tt)))
 
 ledger_send : IsSend Ledger.the_row
-ledger_send = view_send _ _ _ _ _ (declared_send LedgerInside.the_type (send, (Vec-send _ (search sendable depth 20), (Vec-send _ mark.the_send, (index.the_send, (flag, (Vec-send _ mark.the_send, tt)))))))
+ledger_send = view_send _ _ _ _ _ (declared_send LedgerInside.the_type (send, (log_send, (Vec-send _ mark.the_send, (index.the_send, (flag, (Vec-send _ mark.the_send, tt)))))))
 
 module _ (M : RattleType) (m : medium.Ghosts M.Denot) (sm : IsSend M) where
   table_send : IsSend (HeaderTable.the_row M m)

@@ -1,17 +1,15 @@
 -- A ledger after a change.
-use Rattle.std.proofs.Common.{◌≡◌, ℕ, Bool, true, false, List, [], ◌∷◌, ◌++◌, length, reverse, map, take, ◌+◌, ◌-◌, length-append, refl, sym, ◌∙◌, ap, subst, Option, Some, None, ◌==◌, ◌&&◌, if◌then◌else◌, arith}
+use Rattle.std.proofs.Common.{◌≡◌, ℕ, Bool, true, false, List, [], ◌∷◌, ◌++◌, length, reverse, map, take, ◌+◌, ◌-◌, length-append, refl, sym, ◌∙◌, ap, subst, Option, None, ◌==◌, ◌&&◌, if◌then◌else◌, arith}
 use Rattle.std.specs.List.{push}
-use Rattle.std.specs.Option.{is_some}
 use Rattle.std.specs.Ordering.{nat_cmp, ordering_then, is_eq}
 use Rattle.std.specs.declared.cmp.Ordering.{Ordering}
 use Rattle.std.specs.declared.cmp.Ordering.TheVariants.{Less, Equal, Greater}
 use Rattle.std.proofs.lemmas.Grind.{common_steps}
-use Rattle.std.proofs.lemmas.List.{reverse-append, take_at, map-append, append_cancel_right}
-use Rattle.std.proofs.lemmas.Bool.{false≢true, true≢false}
+use Rattle.std.proofs.lemmas.List.{reverse-append, take_at, append_cancel_right}
+use Rattle.std.proofs.lemmas.Bool.{false≢true}
 use Rattle.pseudo_time.specs.TimeParts.{TimeParts}
 use Rattle.value_form.specs.declared.objects.ObjectId.{ObjectId}
 use Rattle.value_form.specs.declared.values.Value.{Value}
-use Rattle.value_form.specs.Objects.{object_cmp}
 use Rattle.effect_form.specs.declared.effects.Effect.{Effect}
 use Rattle.object_history.specs.declared.marks.Mark.{Mark}
 use Rattle.object_history.specs.declared.marks.Mark.TheVariants.{Put, Stretch, Settle}
@@ -170,9 +168,6 @@ late-done ok o (f ∷ rest) all none is = absurd (omega (arith, none))
 
 pub late-range : (f : Mark) (rest left : List Mark) → rest ≡ push left f → AreMarks (reverse rest) → IsMark f × AreMarks (reverse left)
 late-range f rest left is fine = subst (λ z. AreMarks z) (ap reverse is ∙ reverse-push left f) fine
-
-pub map-pushed : {S T : Type 0} (value : S → T) (xs ys : List S) (s : S) (t : T) → ys ≡ xs ++ s ∷ [] → value s ≡ t → map value ys ≡ map value xs ++ t ∷ []
-map-pushed value xs ys s t pushed is = ap (map value) pushed ∙ map-append value xs (s ∷ []) ∙ ap (λ z. map value xs ++ z ∷ []) is
 
 -- what is flushed stays in the histories
 pub content-flushed : (old new : LedgerParts) (effects : List Effect) → marks (reverse effects) ≡ old.late → new.log ≡ old.log ++ effects → new.late ≡ [] → content new ≡ content old

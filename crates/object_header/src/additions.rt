@@ -1,4 +1,4 @@
-ghost use Rattle.std.specs.Prelude.{◌≡◌, ◌++◌, List, OnOk, IfOk, IfSome, map};
+ghost use Rattle.std.specs.Prelude.{◌≡◌, List, OnOk, IfOk, IfSome};
 ghost use Rattle.value_form.specs.ValueBytes.{IsValue};
 ghost use Rattle.object_history.specs.Ranges.{IsMark};
 ghost use Rattle.object_header.specs.Spans.{passes};
@@ -17,7 +17,6 @@ use object_history::{Mark, Settles, is_same_value};
 use pseudo_time::PseudoTime;
 use repository_log::is_commit;
 use std::alloc::{AllocError, Global};
-use std::snapshot::Snapshot;
 use value_form::{ObjectId, Value};
 
 pub fn is_same_object(a: ObjectId, b: ObjectId) -> bool
@@ -73,14 +72,4 @@ pub fn add_effect(index: &mut Index, effect: &Effect) -> Result<(), AllocError>
         Effect::Learn { stamp, committed } => index.settle(*stamp, *committed),
         _ => Ok(()),
     }
-}
-
-/// The log has these effects more, the newest last.
-pub fn log_all(log: &mut Vec<Snapshot<Effect>>, effects: &[Effect]) -> Result<(), AllocError>
-    ensures { OnOk result (map (λ s. s.value) log.new.items ≡ map (λ s. s.value) log.old.items ++ effects.now) }
-{
-    for effect in effects {
-        log.push(Snapshot::of(effect))?;
-    }
-    Ok(())
 }

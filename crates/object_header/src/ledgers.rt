@@ -1,4 +1,4 @@
-ghost use Rattle.std.specs.Prelude.{◌≡◌, [], ◌∷◌, ◌++◌, true, false, List, OnOk, OnErr, IfOk, IfSome, reverse};
+ghost use Rattle.std.specs.Prelude.{◌≡◌, [], ◌∷◌, ◌++◌, true, false, OnOk, OnErr, IfOk, IfSome, reverse};
 ghost use Rattle.pseudo_time.specs.Order.{lt};
 ghost use Rattle.value_form.specs.declared.values.Value.{Value};
 ghost use Rattle.value_form.specs.ObjectBytes.{IsObject};
@@ -18,7 +18,7 @@ ghost use Rattle.repository_log.specs.Logs as logs;
 ghost use Rattle.object_header.specs.Plans.{answer_first, is_written, PlansRead, IsReadPlan};
 ghost use Rattle.object_header.specs.declared.limits.Limit.TheVariants as limit;
 
-use crate::additions::{add_effect, copy_put, is_here, log_all};
+use crate::additions::{add_effect, copy_put, is_here};
 use crate::indexes::Index;
 use crate::keeping::{keep_effects, keep_marks};
 use crate::limits::Limit;
@@ -28,7 +28,8 @@ use object_history::{Histories, Mark, PlainHistories, ReadStep, Settles, WriteSt
 use pseudo_time::{PseudoTime, Stamp};
 use std::alloc::{AllocError, Global};
 use std::marker::Model;
-use std::snapshot::Snapshot;
+use std::slice::from_ref;
+use turn_form::SnapshotLog;
 use value_form::{ObjectId, Value};
 
 /// What a table knows of its histories beside the store. Contracts see the log that stands in the
@@ -36,8 +37,7 @@ use value_form::{ObjectId, Value};
 #[derive(Drop)]
 pub struct Ledger {
     alloc: Global,
-    /// The log, oldest first, for contracts alone: a snapshot has no bytes.
-    log: Vec<Snapshot<Effect>>,
+    log: SnapshotLog,
     /// Oldest first.
     late: Vec<Mark>,
     index: Index,
@@ -47,7 +47,7 @@ pub struct Ledger {
 }
 
 impl Model for Ledger {
-    ghost use Rattle.std.specs.Prelude.{reverse, map};
+    ghost use Rattle.std.specs.Prelude.{reverse};
     ghost use Rattle.std.specs.Coded.{codes};
     ghost use Rattle.object_history.specs.contracts.maps.Settles as settles;
     ghost use Rattle.object_header.specs.contracts.maps.Heads as heads;
@@ -58,7 +58,7 @@ impl Model for Ledger {
     ghost coded = { Prim.hlevel (codes, settles.the_row.coded, heads.the_row.coded) };
 
     ghost view = { λ l. record {
-      log = map (λ s. s.value) l.log.items;
+      log = l.log;
       late = reverse l.late.items;
       settles = l.index.settles;
       heads = l.index.heads;
@@ -67,7 +67,7 @@ impl Model for Ledger {
     } };
 
     ghost invariant = { λ l. IsLedger (record {
-      log = map (λ s. s.value) l.log.items;
+      log = l.log;
       late = reverse l.late.items;
       settles = l.index.settles;
       heads = l.index.heads;
@@ -84,7 +84,7 @@ impl Ledger {
     {
         Ledger {
             alloc,
-            log: Vec::new(alloc),
+            log: SnapshotLog::new(alloc),
             late: Vec::new(alloc),
             index: Index::new(alloc),
             whole: false,
@@ -106,7 +106,7 @@ impl Ledger {
             whole: _,
             kept: _,
         } = self;
-        log.push(Snapshot::of(effect))?;
+        log.add(alloc, from_ref(effect))?;
         add_effect(&mut index, effect)?;
         Ok(Ledger {
             alloc,
@@ -284,7 +284,7 @@ impl Ledger {
             whole,
             mut kept,
         } = self;
-        log_all(&mut log, effects)?;
+        log.add(alloc, effects)?;
         if whole {
             keep_marks(alloc, &index.heads, &mut kept, &late)?;
         }

@@ -1,4 +1,4 @@
-ghost use Rattle.std.specs.Prelude.{◌≡◌, ◌+◌, ◌≤◌, ◌^◌, not, List, [], ◌∷◌, ◌++◌, map, reverse, IfOk, OnOk};
+ghost use Rattle.std.specs.Prelude.{◌≡◌, ◌+◌, ◌≤◌, ◌^◌, not, [], ◌++◌, reverse, IfOk, OnOk};
 ghost use Rattle.std.specs.List.{filter};
 ghost use Rattle.std.specs.BTreeSet.{insert_key};
 ghost use Rattle.pseudo_time.specs.Order.{same_stamp};
@@ -18,8 +18,7 @@ use std::alloc::{AllocError, Global};
 use std::collections::{BTreeMap, BTreeSet};
 use std::marker::Model;
 use std::mem::replace;
-use std::snapshot::Snapshot;
-use turn_form::{Out, Turn};
+use turn_form::{Out, SnapshotLog, Turn};
 
 /// A turn while it is in hand, with what the repository remembers beside its log. Contracts see a
 /// hand. A call that answers an error found no memory; the draft is then of no use.
@@ -28,8 +27,7 @@ pub struct Draft {
     alloc: Global,
     number: u8,
     moment: u64,
-    /// The log, oldest first, for contracts alone: a snapshot has no bytes.
-    log: Vec<Snapshot<Effect>>,
+    log: SnapshotLog,
     effects: Vec<Effect>,
     outs: Vec<Out>,
     held: BTreeMap<PseudoTime, HeldRead>,
@@ -37,7 +35,7 @@ pub struct Draft {
 }
 
 impl Model for Draft {
-    ghost use Rattle.std.specs.Prelude.{◌≤◌, ◌^◌, reverse, map};
+    ghost use Rattle.std.specs.Prelude.{◌≤◌, ◌^◌, reverse};
     ghost use Rattle.repository_core.specs.Hands.{Hand};
     ghost use Rattle.repository_core.specs.Ranges.{AreHeld};
     ghost use Rattle.turn_form.specs.Ranges.{AreEffects, AreOuts};
@@ -46,7 +44,7 @@ impl Model for Draft {
 
     ghost view = { λ d. record {
       number = d.number;
-      past = reverse (map (λ s. s.value) d.log.items);
+      past = reverse d.log;
       added = reverse d.effects.items;
       outs = d.outs.items;
       held = d.held.entries;
@@ -67,7 +65,7 @@ impl Draft {
             alloc,
             number,
             moment,
-            log: Vec::new(alloc),
+            log: SnapshotLog::new(alloc),
             effects: Vec::new(alloc),
             outs: Vec::new(alloc),
             held: BTreeMap::new(alloc),
@@ -75,12 +73,11 @@ impl Draft {
         }
     }
 
-    /// The log has one effect more, the newest.
-    pub fn log(&mut self, effect: &Effect) -> Result<(), AllocError>
-        ensures { OnOk result (self.new ≡ record self.old { past = effect.now ∷ self.old.past }) }
+    /// The log has these effects more, the newest last.
+    pub fn log(&mut self, effects: &[Effect]) -> Result<(), AllocError>
+        ensures { OnOk result (self.new ≡ record self.old { past = reverse effects.now ++ self.old.past }) }
     {
-        self.log.push(Snapshot::of(effect))?;
-        Ok(())
+        self.log.add(self.alloc, effects)
     }
 
     /// Adds an effect.
@@ -228,7 +225,7 @@ impl Draft {
     fn log_effects(&mut self) -> Result<(), AllocError>
         ensures { OnOk result (self.new ≡ record self.old { past = hands.now self.old }) }
     {
-        log_all(&mut self.log, self.effects.as_slice())
+        self.log.add(self.alloc, self.effects.as_slice())
     }
 
     // The effects and messages of the turn are handed out.
@@ -254,14 +251,4 @@ impl Draft {
         let turn = self.take();
         Ok(turn)
     }
-}
-
-// The log has these effects more, the newest last.
-fn log_all(log: &mut Vec<Snapshot<Effect>>, effects: &[Effect]) -> Result<(), AllocError>
-    ensures { OnOk result (map (λ s. s.value) log.new.items ≡ map (λ s. s.value) log.old.items ++ effects.now) }
-{
-    for effect in effects {
-        log.push(Snapshot::of(effect))?;
-    }
-    Ok(())
 }

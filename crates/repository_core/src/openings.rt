@@ -37,8 +37,6 @@ fn open_draft(
     ensures { IfOk result (λ d. d ≡ record { number = number; past = reverse effects.now; added = []; outs = []; held = []; askers = []; moment = moment }) }
 {
     let mut draft = Draft::new(alloc, number, moment);
-    for effect in effects {
-        draft.log(effect)?;
-    }
+    draft.log(effects)?;
     Ok(draft)
 }
