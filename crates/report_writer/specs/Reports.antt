@@ -12,8 +12,8 @@ use Rattle.report_writer.specs.declared.records.TryOutcome.{TryOutcome}
 use Rattle.report_writer.specs.declared.records.TryOutcome.TheVariants as outcome
 use Rattle.report_writer.specs.declared.records.TryReport.{TryReport}
 use Rattle.report_writer.specs.declared.records.ActReport.{ActReport}
-use Rattle.report_writer.specs.declared.records.Standing.{Standing}
-use Rattle.report_writer.specs.declared.records.Standing.TheVariants as standing
+use Rattle.report_writer.specs.declared.records.ActOutcome.{ActOutcome}
+use Rattle.report_writer.specs.declared.records.ActOutcome.TheVariants as standing
 use Rattle.report_writer.specs.declared.records.Final.{Final}
 use Rattle.report_writer.specs.declared.records.Down.{Down}
 use Rattle.pseudo_time.specs.declared.down_causes.DownCause.{DownCause}
@@ -90,7 +90,7 @@ down_text d = codes "down " ++ (named (kind_word d.node.kind) d.node.number ++ 3
 -- ---- totals
 
 -- a word, and how many acts stand so
-abbrev pub count_text : List ℕ → Standing → List ActReport → List ℕ
+abbrev pub count_text : List ℕ → ActOutcome → List ActReport → List ℕ
 count_text word which acts = named word (count_of which acts)
 
 -- acts that their scripts ended

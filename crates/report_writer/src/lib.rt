@@ -7,6 +7,6 @@ mod totals;
 mod writing;
 
 pub use pieces::{push_named, push_object, push_time};
-pub use records::{ActReport, Down, Final, Report, Standing, TryOutcome, TryReport, Wire};
+pub use records::{ActOutcome, ActReport, Down, Final, Report, TryOutcome, TryReport, Wire};
 pub use totals::count_of;
 pub use writing::{push_downs, write_report};

@@ -47,7 +47,7 @@ pub struct ActReport {
 /// How an act stands at the end of a run. A refused or expired attempt ends its act only where it was
 /// the last one allowed.
 #[derive(Clone, Copy, Debug, PartialEq, Eq)]
-pub enum Standing {
+pub enum ActOutcome {
     Committed,
     Withdrawn,
     Failed,

@@ -1,7 +1,7 @@
 ghost use Rattle.std.specs.Prelude.{◌≡◌, length};
 ghost use Rattle.report_writer.specs.Standings as spec;
 
-use crate::records::{ActReport, Standing, TryOutcome, TryReport};
+use crate::records::{ActOutcome, ActReport, TryOutcome, TryReport};
 
 // The outcome of the last attempt.
 fn last_outcome(tries: &[TryReport]) -> TryOutcome
@@ -14,19 +14,19 @@ fn last_outcome(tries: &[TryReport]) -> TryOutcome
 }
 
 // What an attempt's outcome makes of its act.
-fn standing_after(last: bool, outcome: TryOutcome) -> Standing
+fn standing_after(last: bool, outcome: TryOutcome) -> ActOutcome
     ensures { result ≡ spec.standing_after last outcome }
 {
     match outcome {
-        TryOutcome::Open => Standing::Open,
-        TryOutcome::Committed => Standing::Committed,
-        TryOutcome::Withdrawn { line: _ } => Standing::Withdrawn,
-        TryOutcome::Failed { line: _, kind: _ } => Standing::Failed,
+        TryOutcome::Open => ActOutcome::Open,
+        TryOutcome::Committed => ActOutcome::Committed,
+        TryOutcome::Withdrawn { line: _ } => ActOutcome::Withdrawn,
+        TryOutcome::Failed { line: _, kind: _ } => ActOutcome::Failed,
         TryOutcome::LaterRead { object: _, end: _ } => {
             if last {
-                Standing::Refused
+                ActOutcome::Refused
             } else {
-                Standing::Open
+                ActOutcome::Open
             }
         }
         TryOutcome::LaterVersion {
@@ -34,9 +34,9 @@ fn standing_after(last: bool, outcome: TryOutcome) -> Standing
             start: _,
         } => {
             if last {
-                Standing::Refused
+                ActOutcome::Refused
             } else {
-                Standing::Open
+                ActOutcome::Open
             }
         }
         TryOutcome::Expired {
@@ -44,9 +44,9 @@ fn standing_after(last: bool, outcome: TryOutcome) -> Standing
             moment: _,
         } => {
             if last {
-                Standing::Expired
+                ActOutcome::Expired
             } else {
-                Standing::Open
+                ActOutcome::Open
             }
         }
     }
@@ -54,11 +54,11 @@ fn standing_after(last: bool, outcome: TryOutcome) -> Standing
 
 impl ActReport {
     /// How the act stands.
-    pub fn standing(&self) -> Standing
+    pub fn standing(&self) -> ActOutcome
         ensures { result ≡ spec.standing_of self.now }
     {
         match self.spent {
-            Some(_) => Standing::Spent,
+            Some(_) => ActOutcome::Spent,
             None => {
                 let tries = self.tries.as_slice();
                 let last = tries.len() >= self.allowed as usize;
@@ -69,7 +69,7 @@ impl ActReport {
 }
 
 /// How many acts stand so.
-pub fn count_of(which: Standing, acts: &[ActReport]) -> usize
+pub fn count_of(which: ActOutcome, acts: &[ActReport]) -> usize
     ensures { result ≡ spec.count_of which acts.now }
 {
     let mut count = 0;

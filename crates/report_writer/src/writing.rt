@@ -7,7 +7,7 @@ use crate::pieces::{
     push_access, push_kind, push_line, push_named, push_numbered, push_refusal, push_stamp,
     push_two,
 };
-use crate::records::{ActReport, Down, Final, Report, Standing, TryOutcome, TryReport, Wire};
+use crate::records::{ActOutcome, ActReport, Down, Final, Report, TryOutcome, TryReport, Wire};
 use crate::totals::count_of;
 use pseudo_time::{DownCause, NodeKind};
 use std::alloc::{AllocError, Global};
@@ -180,7 +180,7 @@ fn push_count(
     alloc: Global,
     out: &mut Vec<u8>,
     word: &[u8],
-    which: Standing,
+    which: ActOutcome,
     acts: &[ActReport],
 ) -> Result<(), AllocError>
     ensures { OnOk result (out.new.items ≡ out.old.items ++ count_text word.now which acts.now) }
@@ -192,19 +192,19 @@ fn push_count(
 fn push_ended(alloc: Global, out: &mut Vec<u8>, acts: &[ActReport]) -> Result<(), AllocError>
     ensures { OnOk result (out.new.items ≡ out.old.items ++ ended_text acts.now) }
 {
-    push_count(alloc, out, b" committed ", Standing::Committed, acts)?;
-    push_count(alloc, out, b" withdrawn ", Standing::Withdrawn, acts)?;
-    push_count(alloc, out, b" failed ", Standing::Failed, acts)
+    push_count(alloc, out, b" committed ", ActOutcome::Committed, acts)?;
+    push_count(alloc, out, b" withdrawn ", ActOutcome::Withdrawn, acts)?;
+    push_count(alloc, out, b" failed ", ActOutcome::Failed, acts)
 }
 
 // Appends how many acts were kept from their end.
 fn push_kept(alloc: Global, out: &mut Vec<u8>, acts: &[ActReport]) -> Result<(), AllocError>
     ensures { OnOk result (out.new.items ≡ out.old.items ++ kept_text acts.now) }
 {
-    push_count(alloc, out, b" refused ", Standing::Refused, acts)?;
-    push_count(alloc, out, b" expired ", Standing::Expired, acts)?;
-    push_count(alloc, out, b" spent ", Standing::Spent, acts)?;
-    push_count(alloc, out, b" open ", Standing::Open, acts)
+    push_count(alloc, out, b" refused ", ActOutcome::Refused, acts)?;
+    push_count(alloc, out, b" expired ", ActOutcome::Expired, acts)?;
+    push_count(alloc, out, b" spent ", ActOutcome::Spent, acts)?;
+    push_count(alloc, out, b" open ", ActOutcome::Open, acts)
 }
 
 // Appends the line of totals.

@@ -25,8 +25,8 @@ use Rattle.world_core.specs.Nodes.{acts_of}
 use Rattle.report_writer.specs.declared.records.ActReport.{ActReport}
 use Rattle.report_writer.specs.declared.records.TryReport.{TryReport}
 use Rattle.report_writer.specs.declared.records.TryOutcome.{TryOutcome}
-use Rattle.report_writer.specs.declared.records.Standing.{Standing}
-use Rattle.report_writer.specs.declared.records.Standing.TheVariants as standing
+use Rattle.report_writer.specs.declared.records.ActOutcome.{ActOutcome}
+use Rattle.report_writer.specs.declared.records.ActOutcome.TheVariants as standing
 use Rattle.report_writer.specs.Standings.{count_of, last_outcome, outcome_in, same, standing_after, standing_of, standing_where}
 use Rattle.trace_report.specs.Acts.{act_begun, act_shown, act_with, acts_in, acts_shown, begun_acts, counted_by, shown_end, tasks_of, tries_shown, try_shown}
 use Rattle.complete_law.specs.Calm.{HasOutcome, IsOver}
@@ -231,7 +231,7 @@ none-open (a ∷ acts) h = by (none-open acts h.1) (standing_of a) refl h.0
     skip : count_of standing.Open acts ≡ 0 → same standing.Open (standing_of a) ≡ false → count_of standing.Open (a ∷ acts) ≡ 0
     skip rest e = ap (λ (t : Bool). length (cond t (a ∷ filter (λ (x : ActReport). same standing.Open (standing_of x)) acts) (filter (λ (x : ActReport). same standing.Open (standing_of x)) acts))) e ∙ rest
 
-    by : count_of standing.Open acts ≡ 0 → (s : Standing) → standing_of a ≡ s → IsFinal s → count_of standing.Open (a ∷ acts) ≡ 0
+    by : count_of standing.Open acts ≡ 0 → (s : ActOutcome) → standing_of a ≡ s → IsFinal s → count_of standing.Open (a ∷ acts) ≡ 0
     by rest standing.Expired e f = absurd f
     by rest standing.Open e f = absurd f
     by rest x e f = skip rest (ap (same standing.Open) e)

@@ -15,8 +15,8 @@ use Rattle.report_writer.specs.declared.records.ActReport.{ActReport}
 use Rattle.report_writer.specs.declared.records.TryReport.{TryReport}
 use Rattle.report_writer.specs.declared.records.TryOutcome.{TryOutcome}
 use Rattle.report_writer.specs.declared.records.TryOutcome.TheVariants as outcome
-use Rattle.report_writer.specs.declared.records.Standing.{Standing}
-use Rattle.report_writer.specs.declared.records.Standing.TheVariants as standing
+use Rattle.report_writer.specs.declared.records.ActOutcome.{ActOutcome}
+use Rattle.report_writer.specs.declared.records.ActOutcome.TheVariants as standing
 use Rattle.report_writer.specs.Standings.{standing_of}
 use Rattle.trace_report.specs.Acts.{acts_shown}
 use Rattle.run_media.specs.Media.{Media}
@@ -51,7 +51,7 @@ pub record IsSmoothRun {M : Type 0} (w : Media M) (most enough : ℕ) (plan : Pl
 -- ---- what it comes to
 
 -- the act has its outcome, and not for want of time
-abbrev pub IsFinal : Standing → Type 0
+abbrev pub IsFinal : ActOutcome → Type 0
 IsFinal standing.Committed = Unit {0}
 IsFinal standing.Withdrawn = Unit {0}
 IsFinal standing.Failed = Unit {0}

@@ -11,7 +11,7 @@ use Rattle.report_writer.specs.declared.records.ActReport.{ActReport}
 use Rattle.report_writer.specs.declared.records.Down.{Down}
 use Rattle.report_writer.specs.declared.records.Final.{Final}
 use Rattle.report_writer.specs.declared.records.Report.{Report}
-use Rattle.report_writer.specs.declared.records.Standing.TheVariants.{Open}
+use Rattle.report_writer.specs.declared.records.ActOutcome.TheVariants.{Open}
 use Rattle.report_writer.specs.declared.records.Wire.{Wire}
 use Rattle.report_writer.specs.Reports.{down_text}
 use Rattle.report_writer.specs.Standings.{count_of}

@@ -2,14 +2,14 @@ ghost use Rattle.std.specs.Prelude.{◌≡◌, ◌≤◌, ◌^◌, Some, IfOk};
 ghost use Rattle.pseudo_time.specs.Lists.{Every};
 ghost use Rattle.plan_form.specs.PlanTexts.{IsOfLanguage};
 ghost use Rattle.report_writer.specs.Standings.{count_of};
-ghost use Rattle.report_writer.specs.declared.records.Standing.TheVariants.{Open};
+ghost use Rattle.report_writer.specs.declared.records.ActOutcome.TheVariants.{Open};
 ghost use Rattle.trace_logs.specs.Replays.{IsOpened, IsOnce, IsMoment};
 ghost use Rattle.trace_report.specs.Reports.{logs_by, open_acts, open_by, run_text, run_text_by};
 
 use crate::finals::finals_of;
 use crate::shown::acts_of_plan;
 use plan_form::Plan;
-use report_writer::{ActReport, Report, Standing, count_of, write_report};
+use report_writer::{ActOutcome, ActReport, Report, count_of, write_report};
 use std::alloc::{AllocError, Global};
 use trace_logs::logs;
 use trace_report::{begun_in, downs_of, wire_of};
@@ -27,7 +27,7 @@ pub struct Reported {
 pub(crate) fn unfinished_of(acts: &[ActReport]) -> u64
     ensures { result ≡ count_of Open acts.now }
 {
-    count_of(Standing::Open, acts) as u64
+    count_of(ActOutcome::Open, acts) as u64
 }
 
 /// The report of a run by the durable logs of its nodes, each the first effect first, and by its

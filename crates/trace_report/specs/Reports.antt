@@ -24,7 +24,7 @@ use Rattle.report_writer.specs.declared.records.TryOutcome.{TryOutcome}
 use Rattle.report_writer.specs.declared.records.TryOutcome.TheVariants as outcome
 use Rattle.report_writer.specs.declared.records.TryReport.{TryReport}
 use Rattle.report_writer.specs.declared.records.ActReport.{ActReport}
-use Rattle.report_writer.specs.declared.records.Standing.TheVariants.{Open}
+use Rattle.report_writer.specs.declared.records.ActOutcome.TheVariants.{Open}
 use Rattle.report_writer.specs.declared.records.Final.{Final}
 use Rattle.report_writer.specs.declared.records.Down.{Down}
 use Rattle.report_writer.specs.declared.records.Report.{Report}

@@ -1,7 +1,7 @@
 use Rattle.std.proofs.Common.{◌≡◌, ap, ◌∙◌, subst}
 use Rattle.report_writer.specs.Reports.{report_text}
 use Rattle.report_writer.specs.Standings.{count_of}
-use Rattle.report_writer.specs.declared.records.Standing.TheVariants.{Open}
+use Rattle.report_writer.specs.declared.records.ActOutcome.TheVariants.{Open}
 use Rattle.trace_report.specs.Begun.{kept}
 use Rattle.trace_report.specs.Reports.{logs_by}
 use Rattle.run_report.proofs.TextLemmas.{report-is}
