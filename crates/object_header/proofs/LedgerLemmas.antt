@@ -109,9 +109,9 @@ late-same log xs ys settled new heads next whole kept is same odd more =
       kept_in_range = is.kept_in_range;
     })
 
-pub late-none : {T : Type 0} (value : T → Effect) (xs : List T) (ys zs : List Mark) (settled : Settled) (heads : Headed) → xs ≡ [] → ys ≡ [] → zs ≡ [] → IsIndexed [] settled heads → IsLedger (parts (map value xs) (reverse ys) settled heads false (reverse zs))
-late-none value xs ys zs settled heads none empty bare is =
-    subst (λ z. IsLedger (parts (map value z) (reverse ys) settled heads false (reverse zs))) (sym none)
+pub late-none : (log : List Effect) (ys zs : List Mark) (settled : Settled) (heads : Headed) → log ≡ [] → ys ≡ [] → zs ≡ [] → IsIndexed [] settled heads → IsLedger (parts log (reverse ys) settled heads false (reverse zs))
+late-none log ys zs settled heads none empty bare is =
+    subst (λ z. IsLedger (parts z (reverse ys) settled heads false (reverse zs))) (sym none)
     (subst (λ z. IsLedger (parts [] (reverse z) settled heads false (reverse zs))) (sym empty)
     (subst (λ z. IsLedger (parts [] [] settled heads false (reverse z))) (sym bare) (record { indexed = is; in_range = tt; kept = λ w. absurd (false≢true w); kept_in_range = tt })))
 
