@@ -206,7 +206,8 @@ impl Broker {
     fn advance(&mut self, first: Option<Effect>, heard: Heard) -> Result<Turn, AllocError>
         requires fits { (script : List ℕ → Tree) → Scripted script self.old.acts → spec.FirstFits script self.old first }
         requires in_range { ranges.FirstInRange first }
-        ensures gives { (script : List ℕ → Tree) → Scripted script self.old.acts → IfOk result (λ t. spec.Gives (spec.follows script self.old first heard) t self.old self.new) }
+        ensures gives { (script : List ℕ → Tree) → Scripted script self.old.acts →
+            IfOk result (λ t. spec.Gives (spec.follows script self.old first heard) t self.old self.new) }
         ensures in_range { IfOk result (λ t. AreEffects t.effects × AreOuts t.outs) }
         ensures err { OnErr result (self.new ≡ self.old) }
     {
@@ -232,7 +233,8 @@ impl Broker {
 
     /// The broker goes: what is owed is done, and the outstanding request is sent.
     pub fn go(&mut self) -> Result<Turn, AllocError>
-        ensures gives { (script : List ℕ → Tree) → Scripted script self.old.acts → IfOk result (λ t. spec.Gives (spec.turn_of script self.old Go) t self.old self.new) }
+        ensures gives { (script : List ℕ → Tree) → Scripted script self.old.acts →
+            IfOk result (λ t. spec.Gives (spec.turn_of script self.old Go) t self.old self.new) }
         ensures in_range { IfOk result (λ t. AreEffects t.effects × AreOuts t.outs) }
         ensures err { OnErr result (self.new ≡ self.old) }
     {
@@ -249,7 +251,8 @@ impl Broker {
     /// request has its stamp and step, so who sent the answer doesn't matter.
     pub fn take(&mut self, from: NodeId, message: &Message) -> Result<Turn, AllocError>
         requires message { IsMessage message.now }
-        ensures gives { (script : List ℕ → Tree) → Scripted script self.old.acts → IfOk result (λ t. spec.Gives (spec.turn_of script self.old (Take from message.now)) t self.old self.new) }
+        ensures gives { (script : List ℕ → Tree) → Scripted script self.old.acts →
+            IfOk result (λ t. spec.Gives (spec.turn_of script self.old (Take from message.now)) t self.old self.new) }
         ensures in_range { IfOk result (λ t. AreEffects t.effects × AreOuts t.outs) }
         ensures err { OnErr result (self.new ≡ self.old) }
     {
@@ -269,7 +272,8 @@ impl Broker {
 
     /// A moment is heard, whichever it is, and the outstanding request is sent again.
     pub fn hear(&mut self, moment: u64) -> Result<Turn, AllocError>
-        ensures gives { (script : List ℕ → Tree) → Scripted script self.old.acts → IfOk result (λ t. spec.Gives (spec.turn_of script self.old (Hear moment)) t self.old self.new) }
+        ensures gives { (script : List ℕ → Tree) → Scripted script self.old.acts →
+            IfOk result (λ t. spec.Gives (spec.turn_of script self.old (Hear moment)) t self.old self.new) }
         ensures in_range { IfOk result (λ t. AreEffects t.effects × AreOuts t.outs) }
         ensures err { OnErr result (self.new ≡ self.old) }
     {

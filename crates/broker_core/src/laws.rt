@@ -18,7 +18,8 @@ ghost use Rattle.broker_core.specs.Turns.{Desk, Input, desk_turn};
 pub fn law_of_readings()
     ensures apart { (n m : ℕ) (a b : Block) → IsPrintable n a → IsPrintable m b → script_text a ≡ script_text b → a ≡ b }
     ensures own { (acts : List ActSpec) → Every IsBrokerAct acts → Scripted (reading acts) acts }
-    ensures among { (all acts : List ActSpec) → Every IsBrokerAct all → Every IsBrokerAct acts → ((a : ActSpec) → Has a acts → Has a all) → Scripted (reading all) acts }
+    ensures among { (all acts : List ActSpec) → Every IsBrokerAct all → Every IsBrokerAct acts → ((a : ActSpec) → Has a acts → Has a all) →
+        Scripted (reading all) acts }
 {}
 
 /// Two readings that agree on the texts of a broker's acts give the same turns, count the same of a

@@ -164,7 +164,9 @@ impl Ledger {
     // The script of the last act, with the answers of its try. None where no act was begun.
     fn resumed(&self) -> Result<Option<Run>, AllocError>
         requires { self.now.notes.tries ≢ 0 }
-        ensures { IfOk result (λ o. MatchOption o (notes.act_at self.now.acts self.now.notes ≡ None) (λ r. (r.script ≡ spec.lines_of (notes.act_at self.now.acts self.now.notes)) × (r.answers ≡ notes.answers_given (spec.kept self.now.notes self.now.answers)))) }
+        ensures { IfOk result (λ o. MatchOption o (notes.act_at self.now.acts self.now.notes ≡ None)
+            (λ r. (r.script ≡ spec.lines_of (notes.act_at self.now.acts self.now.notes)) ×
+            (r.answers ≡ notes.answers_given (spec.kept self.now.notes self.now.answers)))) }
     {
         let Some(act) = self.last_act() else {
             return Ok(None);
@@ -195,7 +197,8 @@ impl Ledger {
     // The last try got an answer.
     fn add_answer(&mut self, given: Given) -> Result<(), AllocError>
         requires { spec.IsAskedFor self.old.acts self.old.notes (spec.kept self.old.notes self.old.answers) given }
-        ensures ok { OnOk result (self.new ≡ record self.old { notes = notes.answer_noted self.old.notes; answers = spec.kept self.old.notes self.old.answers ++ given ∷ [] }) }
+        ensures ok { OnOk result (self.new ≡
+            record self.old { notes = notes.answer_noted self.old.notes; answers = spec.kept self.old.notes self.old.answers ++ given ∷ [] }) }
         ensures notes { OnErr result (self.new.notes ≡ self.old.notes) }
         ensures kept { spec.kept self.old.notes self.new.answers ≡ spec.kept self.old.notes self.old.answers }
         ensures number { self.new.number ≡ self.old.number }
@@ -239,7 +242,10 @@ impl Ledger {
     /// Adds an effect of this run that counts.
     pub fn note(&mut self, effect: &Effect) -> Result<(), AllocError>
         requires { spec.MayAdd self.old.acts self.old.notes (spec.kept self.old.notes self.old.answers) effect.now }
-        ensures ok { OnOk result (self.new ≡ record self.old { notes = notes.noted self.old.acts effect.now self.old.notes; answers = spec.answers_noted effect.now self.old.notes self.old.answers }) }
+        ensures ok { OnOk result (self.new ≡ record self.old {
+          notes = notes.noted self.old.acts effect.now self.old.notes;
+          answers = spec.answers_noted effect.now self.old.notes self.old.answers;
+        }) }
         ensures notes { OnErr result (self.new.notes ≡ self.old.notes) }
         ensures kept { spec.kept self.old.notes self.new.answers ≡ spec.kept self.old.notes self.old.answers }
         ensures number { self.new.number ≡ self.old.number }

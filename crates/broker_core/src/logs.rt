@@ -38,7 +38,8 @@ fn is_act(
     terms: Terms,
     script: &Bytes,
 ) -> Result<bool, AllocError>
-    ensures { IfOk result (λ r. r ≡ tests.is_task (option_map tasks.task_of (option_copied act.entry)) (tasks.task_with terms.index terms.home terms.timeout terms.tries terms.clock script.now)) }
+    ensures { IfOk result (λ r. r ≡ tests.is_task (option_map tasks.task_of (option_copied act.entry))
+        (tasks.task_with terms.index terms.home terms.timeout terms.tries terms.clock script.now)) }
 {
     let Some(act) = act else {
         return Ok(false);
@@ -88,7 +89,8 @@ fn is_spent(outcome: &Outcome) -> bool
 }
 
 fn fits_end(ledger: &Ledger, index: u32, outcome: &Outcome) -> bool
-    ensures { result ≡ notes.fits_at ledger.now.number ledger.now.acts ledger.now.notes (ledgers.kept ledger.now.notes ledger.now.answers) (effect.End index outcome.now) }
+    ensures { result ≡ notes.fits_at ledger.now.number ledger.now.acts ledger.now.notes (ledgers.kept ledger.now.notes ledger.now.answers)
+        (effect.End index outcome.now) }
 {
     let Some(act) = ledger.last_act() else {
         return false;
@@ -112,7 +114,8 @@ fn reads(ledger: &mut Ledger) -> Result<bool, AllocError>
 fn writes(ledger: &mut Ledger) -> Result<bool, AllocError>
     requires { ledger.old.notes.tries ≢ 0 }
     ensures same { ledger.new ≡ ledger.old }
-    ensures writes { IfOk result (λ r. r ≡ fits.writes_now (notes.stop_at ledger.old.acts ledger.old.notes (ledgers.kept ledger.old.notes ledger.old.answers))) }
+    ensures writes { IfOk result (λ r. r ≡
+        fits.writes_now (notes.stop_at ledger.old.acts ledger.old.notes (ledgers.kept ledger.old.notes ledger.old.answers))) }
 {
     let next = ledger.stop()?;
     Ok(matches!(next, Next::Write(_, _)))
@@ -228,7 +231,8 @@ pub fn counted_effects(
     requires low { 1 ≤ number }
     requires high { number ≤ 16 }
     requires acts { ledgers.AreBrokerActs acts.now }
-    ensures { (script : List ℕ → Tree) → Scripted script acts.now → IfOk result (λ flags. reverse flags.items ≡ counting script number run (tasks.tasks acts.now) (reverse effects.now)) }
+    ensures { (script : List ℕ → Tree) → Scripted script acts.now →
+        IfOk result (λ flags. reverse flags.items ≡ counting script number run (tasks.tasks acts.now) (reverse effects.now)) }
 {
     let mut ledger = Ledger::new(alloc, number, run, acts)?;
     let mut flags = Vec::new(alloc);

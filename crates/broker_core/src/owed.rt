@@ -115,8 +115,10 @@ pub fn settle(
     heard: &Heard,
     effects: &mut Vec<Effect>,
 ) -> Result<Phase, AllocError>
-    ensures settled { OnOk result (ledgers.settled ledger.old.number ledger.old.run ledger.old.acts ledger.old.answers heard.now (ledgers.most_steps ledger.old.acts) (reverse effects.old.items) ledger.old.notes ≡ (reverse effects.new.items, ledger.new.notes)) }
-    ensures phase { IfOk result (λ p. p ≡ spec.phase_at ledger.new.acts ledger.new.run ledger.new.notes (ledgers.kept ledger.new.notes ledger.new.answers) heard.now) }
+    ensures settled { OnOk result (ledgers.settled ledger.old.number ledger.old.run ledger.old.acts ledger.old.answers heard.now
+        (ledgers.most_steps ledger.old.acts) (reverse effects.old.items) ledger.old.notes ≡ (reverse effects.new.items, ledger.new.notes)) }
+    ensures phase { IfOk result (λ p. p ≡
+        spec.phase_at ledger.new.acts ledger.new.run ledger.new.notes (ledgers.kept ledger.new.notes ledger.new.answers) heard.now) }
     ensures answers { ledger.new.answers ≡ ledger.old.answers }
     ensures number { ledger.new.number ≡ ledger.old.number }
     ensures run { ledger.new.run ≡ ledger.old.run }

@@ -197,7 +197,8 @@ fn while_deciding(index: u32, last: &Last, phase: &Phase, heard: &Heard, message
 fn is_finished_for(ledger: &mut Ledger, message: &Message) -> Result<bool, AllocError>
     requires { ledger.old.notes.tries ≢ 0 }
     ensures same { ledger.new ≡ ledger.old }
-    ensures finished { IfOk result (λ f. f ≡ spec.finished_for message.now (notes.stop_at ledger.old.acts ledger.old.notes (kept ledger.old.notes ledger.old.answers))) }
+    ensures finished { IfOk result (λ f.
+        f ≡ spec.finished_for message.now (notes.stop_at ledger.old.acts ledger.old.notes (kept ledger.old.notes ledger.old.answers))) }
 {
     match message {
         Message::Decided { .. } => {
@@ -217,7 +218,8 @@ pub fn reply_to(
 ) -> Result<Reply, AllocError>
     requires { phase.now ≡ spec.phase_at ledger.old.acts ledger.old.run ledger.old.notes (kept ledger.old.notes ledger.old.answers) heard.now }
     ensures same { ledger.new ≡ ledger.old }
-    ensures reply { IfOk result (λ r. r ≡ spec.reply_at ledger.old.acts ledger.old.notes (kept ledger.old.notes ledger.old.answers) phase.now heard.now message.now) }
+    ensures reply { IfOk result (λ r. r ≡
+        spec.reply_at ledger.old.acts ledger.old.notes (kept ledger.old.notes ledger.old.answers) phase.now heard.now message.now) }
 {
     let Some(last) = ledger.notes().last else {
         return Ok(Reply::Ignored);

@@ -38,9 +38,11 @@ pub fn messages_stay_true()
         IsTidy script me log → FitsBook script me (book log) f → find s (tries (book log)) ≡ Some t →
         (u : Try) × (find s (tries (book (f ∷ log))) ≡ Some u) × IsLater t u }
     ensures kept { (script : List ℕ → Tree) (me : ℕ) (log : List Effect) (f : Effect) (to : NodeId) (m : Message) →
-        IsTidy script me log → FitsBook script me (book log) f → PostHolds script me (tries (book log)) to m → PostHolds script me (tries (book (f ∷ log))) to m }
+        IsTidy script me log → FitsBook script me (book log) f → PostHolds script me (tries (book log)) to m →
+        PostHolds script me (tries (book (f ∷ log))) to m }
     ensures grown { (script : List ℕ → Tree) (me : ℕ) (log added : List Effect) (to : NodeId) (m : Message) →
-        IsTidy script me log → Grew (FitsLog script me) log added → PostHolds script me (tries (book log)) to m → PostHolds script me (tries (book (added ++ log))) to m }
+        IsTidy script me log → Grew (FitsLog script me) log added → PostHolds script me (tries (book log)) to m →
+        PostHolds script me (tries (book (added ++ log))) to m }
 {}
 
 /// All Reads and Writes that a broker sends with one pseudotime are equal.
@@ -83,5 +85,6 @@ pub fn limits_hold()
 
 /// A log is ready exactly where opening it gives no fault.
 pub fn ready_is_no_fault()
-    ensures { (script : List ℕ → Tree) (me run : ℕ) (acts : List Task) (log : List Effect) → IsReady script me run acts log ↔ (resume_fault script me run acts log ≡ None) }
+    ensures { (script : List ℕ → Tree) (me run : ℕ) (acts : List Task) (log : List Effect) →
+        IsReady script me run acts log ↔ (resume_fault script me run acts log ≡ None) }
 {}

@@ -43,7 +43,8 @@ pub fn turns_add_what_counts()
 /// Over every log that shows no later run and no other plan, none shows with any beginning of the
 /// effects that a turn adds: a broker that is opened again after a crash never finds another plan.
 pub fn always_ready()
-    ensures { (script : List ℕ → Tree) (me run : ℕ) (acts : List Task) (d : Desk) (i : Input) → AlwaysReady script me run acts d → AlwaysReady script me run acts (desk_turn script me run acts d i) }
+    ensures { (script : List ℕ → Tree) (me run : ℕ) (acts : List Task) (d : Desk) (i : Input) → AlwaysReady script me run acts d →
+        AlwaysReady script me run acts (desk_turn script me run acts d i) }
 {}
 
 /// Over every log, nothing is owed after a go, and so it stays.
@@ -72,7 +73,8 @@ pub fn rested_is_done()
 
 /// A turn looks at the whole log and at what was heard alone, and what it gives is added.
 pub fn turns_look_at_the_log()
-    ensures { (script : List ℕ → Tree) (me run : ℕ) (acts : List Task) (d : Desk) (i : Input) → desk_turn script me run acts d i ≡ joined d (desk_turn script me run acts (afresh d) i) }
+    ensures { (script : List ℕ → Tree) (me run : ℕ) (acts : List Task) (d : Desk) (i : Input) →
+        desk_turn script me run acts d i ≡ joined d (desk_turn script me run acts (afresh d) i) }
 {}
 
 /// After a message that was heard, the request that is outstanding isn't the one that was before.
@@ -81,7 +83,8 @@ pub fn new_request_differs()
         TurnHolds script me run acts ever d →
         (row script (stage script run (state script me run acts d) d.heard) d.heard (news m) ≡ Ignored → ⊥) →
         (o : Out) → standing (stage script run (state script me run acts d) d.heard) ≡ Some o →
-        standing (stage script run (state script me run acts (desk_turn script me run acts d (Take from m))) (desk_turn script me run acts d (Take from m)).heard) ≡ Some o → ⊥ }
+        standing (stage script run (state script me run acts (desk_turn script me run acts d (Take from m)))
+        (desk_turn script me run acts d (Take from m)).heard) ≡ Some o → ⊥ }
 {}
 
 /// Over every log, also over one that no calls could have left, what a turn adds counts and fits, each
@@ -101,9 +104,11 @@ pub fn brokers_ask_nobody()
 /// it has come, a request of a try stands only after a Begun or a Decided of its stamp has come, and a
 /// Withdraw only after the try has its End.
 pub fn requests_wait_for_answers()
-    ensures empty { (script : List ℕ → Tree) (me run : ℕ) (acts : List Task) (ever : List Post) → Waits script me run acts ever (record { past = []; added = []; outs = []; heard = nothing_heard }) }
+    ensures empty { (script : List ℕ → Tree) (me run : ℕ) (acts : List Task) (ever : List Post) →
+        Waits script me run acts ever (record { past = []; added = []; outs = []; heard = nothing_heard }) }
     ensures turn { (script : List ℕ → Tree) (me run : ℕ) (acts : List Task) (ever : List Post) (d : Desk) (i : Input) →
         MayInput me ever i → IsCalm i → Waits script me run acts ever d → Waits script me run acts ever (desk_turn script me run acts d i) }
     ensures standing { (script : List ℕ → Tree) (me run : ℕ) (acts : List Task) (ever : List Post) (d : Desk) (o : Out) → Waits script me run acts ever d →
-        standing (stage script run (state script me run acts d) d.heard) ≡ Some o → OutSound run (BegunCame me ever) (DecidedCame me ever) (state script me run acts d) o.message }
+        standing (stage script run (state script me run acts d) d.heard) ≡ Some o →
+        OutSound run (BegunCame me ever) (DecidedCame me ever) (state script me run acts d) o.message }
 {}

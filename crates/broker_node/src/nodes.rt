@@ -46,7 +46,8 @@ pub fn open_broker<F: Fates, C: Clock, M: Medium>(
     requires low { 1 ≤ number }
     requires high { number ≤ 16 }
     requires runs { (1 ≤ run) × (run ≡ (origin_at (knows pass)).run) }
-    requires acts { AreBrokerActs acts.items × (acts.items ≡ acts_of number (origin_at (knows pass)).acts) × Scripted (base_at (knows pass)).script acts.items }
+    requires acts { AreBrokerActs acts.items × (acts.items ≡ acts_of number (origin_at (knows pass)).acts) ×
+        Scripted (base_at (knows pass)).script acts.items }
     requires open { M.is_failed (medium_of store) ≡ false }
     requires log { IsTrue M.tells → effects_in M.reads store ≡ effects.now }
     requires ranges { AreEffects effects.now }
@@ -76,7 +77,8 @@ pub fn open_broker<F: Fates, C: Clock, M: Medium>(
 /// Whether each act of the broker has its outcome and no request is outstanding, as far as its pass,
 /// which is its own, has seen. Takes no memory.
 pub fn is_done<F: Fates, C: Clock, M: Medium>(node: &BrokerNode<F, C, M>) -> bool
-    ensures over { IsTrue M.tells → node.now.condition ≡ Condition.AtWork → result ≡ is_over (base_at (sight node.now)) node.now.node.number (life_at (sight node.now) node.now.node) }
+    ensures over { IsTrue M.tells → node.now.condition ≡ Condition.AtWork →
+        result ≡ is_over (base_at (sight node.now)) node.now.node.number (life_at (sight node.now) node.now.node) }
     ensures own { node.now.condition ≡ Condition.AtWork → IsOf node.now.node (sight node.now) }
 {
     node.core().is_done()

@@ -35,7 +35,8 @@ pub enum Command {
 
 // A load: its seed, its count and its options.
 fn load(words: &[&str]) -> Option<Command>
-    ensures { MatchOption result ((seed count : ℕ) (o : Options) → IsLoad seed count o (codes "load" ∷ said words.now) → ⊥) (λ c. AreWords c (codes "load" ∷ said words.now)) }
+    ensures { MatchOption result ((seed count : ℕ) (o : Options) → IsLoad seed count o (codes "load" ∷ said words.now) → ⊥)
+        (λ c. AreWords c (codes "load" ∷ said words.now)) }
 {
     let [seed, count, more @ ..] = words else {
         return None;

@@ -87,7 +87,8 @@ fn fault_of(error: &Error) -> LabFault
 // The number of an option that is given.
 fn number(matches: &ArgMatches<'_>, name: &str) -> u32
     requires given { (least most : ℕ) × (most < 2 ^ 32) × HasText (found_of matches.now) name.now least most }
-    ensures { (least most : ℕ) → most < 2 ^ 32 → HasText (found_of matches.now) name.now least most → spec.HasNumber (rows_of (found_of matches.now)) name.now least most result }
+    ensures { (least most : ℕ) → most < 2 ^ 32 → HasText (found_of matches.now) name.now least most →
+        spec.HasNumber (rows_of (found_of matches.now)) name.now least most result }
 {
     match matches.get_one::<u32>(name) {
         Some(number) => number,

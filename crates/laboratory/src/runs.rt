@@ -58,7 +58,18 @@ fn over<D: Divisor + Send, I: Source, O: Sink, R: Threads + Wait + Sync>(
     requires words { said words.now ≡ spec.cut (string_bytes lab.now.text) }
     requires shelf { IsLabShelf lab.now shelf }
     requires lose { lab.now.lose ≡ D.divisor }
-    ensures { spec.RanAs (record { status = result.status; input = I.left source.old; left = I.left source.new; faults_before = I.faults source.old; faults = I.faults source.new; sink = (sinking (O.taken sink.old) (O.taken sink.new) (O.faults sink.old) (O.faults sink.new)); trace = result.trace; media = result.media; fates = result.fates; clock = result.clock }) lab.now }
+    ensures { spec.RanAs (record {
+      status = result.status;
+      input = I.left source.old;
+      left = I.left source.new;
+      faults_before = I.faults source.old;
+      faults = I.faults source.new;
+      sink = (sinking (O.taken sink.old) (O.taken sink.new) (O.faults sink.old) (O.faults sink.new));
+      trace = result.trace;
+      media = result.media;
+      fates = result.fates;
+      clock = result.clock;
+    }) lab.now }
 {
     let mut shelf = shelf;
     let fates: TiedFates<D> = TiedFates {
@@ -89,7 +100,29 @@ fn run<D: Divisor + Send, I: Source, O: Sink, R: Threads + Wait + Sync>(
     requires some { 1 ≤ lab.now.pages }
     requires most { lab.now.pages ≤ 1048576 }
     requires lose { lab.now.lose ≡ D.divisor }
-    ensures { spec.IsStarved (record { status = result.status; input = I.left source.old; left = I.left source.new; faults_before = I.faults source.old; faults = I.faults source.new; sink = (sinking (O.taken sink.old) (O.taken sink.new) (O.faults sink.old) (O.faults sink.new)); trace = result.trace; media = result.media; fates = result.fates; clock = result.clock }) ⊎ spec.RanAs (record { status = result.status; input = I.left source.old; left = I.left source.new; faults_before = I.faults source.old; faults = I.faults source.new; sink = (sinking (O.taken sink.old) (O.taken sink.new) (O.faults sink.old) (O.faults sink.new)); trace = result.trace; media = result.media; fates = result.fates; clock = result.clock }) lab.now }
+    ensures { spec.IsStarved (record {
+      status = result.status;
+      input = I.left source.old;
+      left = I.left source.new;
+      faults_before = I.faults source.old;
+      faults = I.faults source.new;
+      sink = (sinking (O.taken sink.old) (O.taken sink.new) (O.faults sink.old) (O.faults sink.new));
+      trace = result.trace;
+      media = result.media;
+      fates = result.fates;
+      clock = result.clock;
+    }) ⊎ spec.RanAs (record {
+      status = result.status;
+      input = I.left source.old;
+      left = I.left source.new;
+      faults_before = I.faults source.old;
+      faults = I.faults source.new;
+      sink = (sinking (O.taken sink.old) (O.taken sink.new) (O.faults sink.old) (O.faults sink.new));
+      trace = result.trace;
+      media = result.media;
+      fates = result.fates;
+      clock = result.clock;
+    }) lab.now }
 {
     let Ok(words) = cut(alloc, lab.text.as_str()) else {
         return quiet(alloc, 7);
@@ -114,7 +147,18 @@ pub fn lab<I: Source, O: Sink, R: Threads + Wait + Sync>(
     source: &mut I,
     sink: &mut O,
 ) -> Finish<MemoryMedium, LabFates, FixedClock>
-    ensures promise { spec.LabPromise (record { status = result.status; input = I.left source.old; left = I.left source.new; faults_before = I.faults source.old; faults = I.faults source.new; sink = (sinking (O.taken sink.old) (O.taken sink.new) (O.faults sink.old) (O.faults sink.new)); trace = result.trace; media = result.media; fates = result.fates; clock = result.clock }) (said words.now) }
+    ensures promise { spec.LabPromise (record {
+      status = result.status;
+      input = I.left source.old;
+      left = I.left source.new;
+      faults_before = I.faults source.old;
+      faults = I.faults source.new;
+      sink = (sinking (O.taken sink.old) (O.taken sink.new) (O.faults sink.old) (O.faults sink.new));
+      trace = result.trace;
+      media = result.media;
+      fates = result.fates;
+      clock = result.clock;
+    }) (said words.now) }
 {
     match lab_words(alloc, words) {
         Ok(lab) => run::<Brand, I, O, R>(rt, alloc, &lab, source, sink),

@@ -57,7 +57,8 @@ fn keep_write(
     at: u16,
     bytes: &[u8],
 ) -> bool
-    ensures events { MatchBool result (happened events.new.items ≡ happened events.old.items ++ Wrote page at bytes.now ∷ []) (events.new.items ≡ events.old.items) }
+    ensures events { MatchBool result (happened events.new.items ≡ happened events.old.items ++ Wrote page at bytes.now ∷ []) (events.new.items ≡
+        events.old.items) }
     ensures unsynced { MatchBool result (unsynced.new.items ≡ unsynced.old.items ++ Wrote page at bytes.now ∷ []) (unsynced.new.items ≡ unsynced.old.items) }
 {
     match WrittenBytes::copy_of(alloc, bytes) {
@@ -158,7 +159,8 @@ impl Past {
 
     // Whether there was memory to reopen, after this stop.
     pub fn reopen(&mut self, stop: Option<Stop>) -> bool
-        ensures reads { MatchBool result (self.new.held.items ≡ after_stop stop (unsynced_in self.old) self.old.held.items) (self.new.held.items ≡ self.old.held.items) }
+        ensures reads { MatchBool result (self.new.held.items ≡ after_stop stop (unsynced_in self.old) self.old.held.items) (self.new.held.items ≡
+            self.old.held.items) }
         ensures unsynced { unsynced_in self.new ≡ unsynced_in self.old }
         ensures one { result ≡ true → left_now self.old self.new.held.items }
         ensures crash { NoMore (left_now self.old) (left_now self.new) }

@@ -56,8 +56,12 @@ fn place(
     copy: HeldCopy,
     fate: Fate,
 ) -> Result<(), AllocError>
-    ensures queued { OnOk result ((n : NodeId) → queue_in queues.new.entries n ≡ (if (fate.hold == 0) && same_node copy.to n then option_map (puts (copies_of fate) copy.number fate.overtake) (queue_in queues.old.entries n) else queue_in queues.old.entries n)) }
-    ensures waiting { OnOk result ((d : ℕ) → held_in held.new.entries d ≡ (if not (fate.hold == 0) && (ticks + fate.hold == d) then held_in held.old.entries d ++ replicate (copies_of fate) copy else held_in held.old.entries d)) }
+    ensures queued { OnOk result ((n : NodeId) →
+        queue_in queues.new.entries n ≡ (if (fate.hold == 0) && same_node copy.to n then option_map (puts (copies_of fate) copy.number fate.overtake)
+        (queue_in queues.old.entries n) else queue_in queues.old.entries n)) }
+    ensures waiting { OnOk result ((d : ℕ) →
+        held_in held.new.entries d ≡ (if not (fate.hold == 0) && (ticks + fate.hold == d) then held_in held.old.entries d ++
+        replicate (copies_of fate) copy else held_in held.old.entries d)) }
     ensures err { OnErr result ((n : NodeId) → queue_in queues.new.entries n ≡ queue_in queues.old.entries n) }
     ensures err_held { OnErr result ((d : ℕ) → held_in held.new.entries d ≡ held_in held.old.entries d) }
 {

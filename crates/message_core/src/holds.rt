@@ -16,7 +16,8 @@ pub fn hold_until(
     copy: HeldCopy,
     copies: u8,
 ) -> Result<(), AllocError>
-    ensures ok { OnOk result ((d : ℕ) → held_in held.new.entries d ≡ (if due == d then held_in held.old.entries d ++ replicate copies copy else held_in held.old.entries d)) }
+    ensures ok { OnOk result ((d : ℕ) → held_in held.new.entries d ≡
+        (if due == d then held_in held.old.entries d ++ replicate copies copy else held_in held.old.entries d)) }
     ensures err { OnErr result ((d : ℕ) → held_in held.new.entries d ≡ held_in held.old.entries d) }
 {
     if let Some(waiting) = held.get_mut(&due) {

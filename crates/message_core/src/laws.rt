@@ -21,8 +21,10 @@ use message_form::messages_apart;
 pub fn copies_counted()
     ensures start { (nodes : List NodeId) → Tallied (start nodes) blank_tally }
     ensures step { (s : State) (l : Tally) (call : Call) → Tallied s l → Tallied (step s call) (noted s l call) }
-    ensures front { (s : State) (l : Tally) → Tallied s l → (n : NodeId) (k : ℕ) (rest : List ℕ) → waiting s n ≡ k ∷ rest → (x : Posted) × IsDue s l n k x × (count k l.taken < copies_of x.fate) }
-    ensures empty { (s : State) (l : Tally) → Tallied s l → (n : NodeId) (k : ℕ) (x : Posted) → s.queues n ≡ Some [] → IsDue s l n k x → count k l.taken ≡ copies_of x.fate }
+    ensures front { (s : State) (l : Tally) → Tallied s l → (n : NodeId) (k : ℕ) (rest : List ℕ) → waiting s n ≡ k ∷ rest → (x : Posted) × IsDue s l n k x ×
+        (count k l.taken < copies_of x.fate) }
+    ensures empty { (s : State) (l : Tally) → Tallied s l → (n : NodeId) (k : ℕ) (x : Posted) → s.queues n ≡ Some [] → IsDue s l n k x →
+        count k l.taken ≡ copies_of x.fate }
     ensures whole { (nodes : List NodeId) (calls : List Call) → Tallied (flown (start nodes) calls) (all_noted (start nodes) blank_tally calls) }
 {}
 

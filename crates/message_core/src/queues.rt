@@ -64,7 +64,9 @@ pub fn put_in(
     copies: u8,
     overtake: u32,
 ) -> Result<(), AllocError>
-    ensures ok { OnOk result ((n : NodeId) → queue_in queues.new.entries n ≡ (if same_node to n then option_map (puts copies number overtake) (queue_in queues.old.entries n) else queue_in queues.old.entries n)) }
+    ensures ok { OnOk result ((n : NodeId) →
+        queue_in queues.new.entries n ≡ (if same_node to n then option_map (puts copies number overtake)
+        (queue_in queues.old.entries n) else queue_in queues.old.entries n)) }
     ensures err { OnErr result ((n : NodeId) → queue_in queues.new.entries n ≡ queue_in queues.old.entries n) }
 {
     let Some(queue) = queues.get_mut(&to) else {
@@ -93,7 +95,8 @@ fn drop_last(queue: &mut VecDeque<u32>)
 
 // Takes the copy at the end of its queue away again.
 fn take_back(queues: &mut Queues, copy: HeldCopy)
-    ensures { (before : NodeId → Option (List ℕ)) (earlier : List HeldCopy) → Grew (earlier ++ copy ∷ []) before (queue_in queues.old.entries) → Grew earlier before (queue_in queues.new.entries) }
+    ensures { (before : NodeId → Option (List ℕ)) (earlier : List HeldCopy) → Grew (earlier ++ copy ∷ []) before (queue_in queues.old.entries) →
+        Grew earlier before (queue_in queues.new.entries) }
 {
     if let Some(queue) = queues.get_mut(&copy.to) {
         drop_last(queue);
@@ -152,7 +155,8 @@ pub fn front_of(queues: &Queues, node: NodeId) -> Option<u32>
 
 // The front copy of a node leaves its queue.
 pub fn drop_front(queues: &mut Queues, node: NodeId)
-    ensures { (n : NodeId) → queue_in queues.new.entries n ≡ (if same_node node n then option_map (drop 1) (queue_in queues.old.entries n) else queue_in queues.old.entries n) }
+    ensures { (n : NodeId) → queue_in queues.new.entries n ≡
+        (if same_node node n then option_map (drop 1) (queue_in queues.old.entries n) else queue_in queues.old.entries n) }
 {
     if let Some(queue) = queues.get_mut(&node) {
         queue.pop_front();

@@ -173,7 +173,8 @@ fn go_round<
     ensures went { EachPlace (GoesOn M.tells M.faults M.reads) shares.items result.0.items }
     ensures all { EachNode (HasAllOf (knows result.1).story) result.0.items }
     ensures next { Follows M.tells limits result.2 result.0.items (knows pass) (knows result.1) }
-    ensures wanted { IsTrue M.tells → TicksAreWanted (base_from (base_of wire.now.lock).origin) (knows pass).story shares.items → TicksAreWanted (base_from (base_of wire.now.lock).origin) (knows result.1).story result.0.items }
+    ensures wanted { IsTrue M.tells → TicksAreWanted (base_from (base_of wire.now.lock).origin) (knows pass).story shares.items →
+        TicksAreWanted (base_from (base_of wire.now.lock).origin) (knows result.1).story result.0.items }
 {
     let mut shares = round(rt, wire, shares);
     let mut pass = pass;

@@ -56,7 +56,8 @@ pub fn round<L: Sync, S: Turns<L> + Drop + Send, R: Threads + Wait + Sync>(
         { share(rt, shared, last) },
         || -> Vec<Vec<S>>
             requires { All (λ nodes. All (S.ready shared.now) nodes.items) shares.items }
-            ensures { AllZip (λ old new. AllZip (S.does shared.entry.now) old.items new.items) shares.items result.items × (vec_len result ≡ vec_len shares) × (vec_capacity result ≡ vec_capacity shares) }
+            ensures { AllZip (λ old new. AllZip (S.does shared.entry.now) old.items new.items) shares.items result.items × (vec_len result ≡ vec_len shares) ×
+                (vec_capacity result ≡ vec_capacity shares) }
         { round(rt, shared, shares) },
     );
     shares.push_reserved(last);

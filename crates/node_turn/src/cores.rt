@@ -43,7 +43,8 @@ pub trait StoredCore<M: Medium>: Drop {
     /// A broker goes. Nothing is said of another node's.
     fn go(&mut self) -> Result<Turn, HistoryFault>
         requires able { (parts self.old).able ≡ true }
-        ensures given { is_broker (parts self.old).node.kind ≡ true → IsGiven M.tells parts fits lives owes M.faults M.page_count M.reads M.may_leave self.old self.new Going result };
+        ensures given { is_broker (parts self.old).node.kind ≡ true →
+            IsGiven M.tells parts fits lives owes M.faults M.page_count M.reads M.may_leave self.old self.new Going result };
 
     /// Takes a message from a node.
     fn take(&mut self, from: NodeId, message: &Message) -> Result<Turn, HistoryFault>
@@ -54,7 +55,8 @@ pub trait StoredCore<M: Medium>: Drop {
     /// A repository learns how an attempt was decided. Nothing is said of another node's.
     fn learn(&mut self, stamp: Stamp, committed: bool) -> Result<Turn, HistoryFault>
         requires able { (parts self.old).able ≡ true }
-        ensures given { is_broker (parts self.old).node.kind ≡ false → IsGiven M.tells parts fits lives owes M.faults M.page_count M.reads M.may_leave self.old self.new (Learning stamp committed) result };
+        ensures given { is_broker (parts self.old).node.kind ≡ false →
+            IsGiven M.tells parts fits lives owes M.faults M.page_count M.reads M.may_leave self.old self.new (Learning stamp committed) result };
 
     /// Hears a moment of at most 2^63.
     fn hear(&mut self, moment: u64) -> Result<Turn, HistoryFault>
@@ -66,7 +68,8 @@ pub trait StoredCore<M: Medium>: Drop {
     /// node's.
     fn knows(&self, stamp: Stamp) -> bool
         requires able { (parts self.now).able ≡ true }
-        ensures { is_broker (parts self.now).node.kind ≡ false → IsTrue M.tells → (b : Base) (l : Life) → lives b self.now l → result ≡ knows (all_effects l) stamp };
+        ensures { is_broker (parts self.now).node.kind ≡ false → IsTrue M.tells → (b : Base) (l : Life) → lives b self.now l →
+            result ≡ knows (all_effects l) stamp };
 
     /// Adds the effects that it gave since its last append to the log on its medium.
     fn append(self, effects: &[Effect]) -> (Self, Result<(), StoreFault>)

@@ -24,7 +24,8 @@ use wire_lock::{SharedWire, WirePass};
 
 // Adds what the core gave.
 pub fn added(draft: &mut Draft, gave: Result<Turn, HistoryFault>) -> Result<(), HistoryFault>
-    ensures ok { OnOk result (IfOk gave (λ turn. draft.new ≡ record { durable = draft.old.durable; effects = draft.old.effects ++ turn.effects; outs = draft.old.outs ++ turn.outs })) }
+    ensures ok { OnOk result (IfOk gave (λ turn.
+        draft.new ≡ record { durable = draft.old.durable; effects = draft.old.effects ++ turn.effects; outs = draft.old.outs ++ turn.outs })) }
     ensures err { IfErr gave (λ f. result ≡ Err f) }
     ensures wanting { IfOk gave (λ turn. IfErr result (λ f. f ≡ HistoryFault.NoMemory)) }
     ensures durable { draft.new.durable ≡ draft.old.durable }
@@ -49,9 +50,11 @@ fn go<K: StoredCore<M>, F: Fates, C: Clock, M: Medium, R: Wait>(
     requires up { IsUp M.tells K.parts K.fits K.lives K.owes M.page_count M.reads M.may_leave core.old (knows pass) node false false draft.old }
     requires broker { is_broker node.kind ≡ true }
     ensures pass { IsWirePass wire.now.lock result.0 }
-    ensures up { OnOk result.1 (IsUp M.tells K.parts K.fits K.lives K.owes M.page_count M.reads M.may_leave core.new (knows result.0) node true true draft.new) }
+    ensures up { OnOk result.1 (IsUp M.tells K.parts K.fits K.lives K.owes M.page_count M.reads M.may_leave core.new
+        (knows result.0) node true true draft.new) }
     ensures grew { OnOk result.1 (Grew (knows pass).own (knows result.0).own) }
-    ensures err { IfErr result.1 (λ f. IsAfter M.tells K.parts K.fits K.lives K.owes M.page_count M.reads M.may_leave f core.new (knows result.0) node draft.old.durable) }
+    ensures err { IfErr result.1 (λ f. IsAfter M.tells K.parts K.fits K.lives K.owes M.page_count M.reads M.may_leave f core.new
+        (knows result.0) node draft.old.durable) }
     ensures trail { Trail node (knows pass) (knows result.0) [] [] [] 0 }
     ensures unwritten { IsUnwritten M.tells M.faults M.reads (K.parts core.old).medium (K.parts core.new).medium }
     ensures cause { IsErrOf result.1 fault.Medium → Rose (M.faults (K.parts core.old).medium) (M.faults (K.parts core.new).medium) }
@@ -80,9 +83,11 @@ fn hear<K: StoredCore<M>, F: Fates, C: Clock, M: Medium, R: Wait>(
     requires up { IsUp M.tells K.parts K.fits K.lives K.owes M.page_count M.reads M.may_leave core.old (knows pass) node gone false draft.old }
     requires behind { is_behind (world_at (knows pass)) node ≡ true }
     ensures pass { IsWirePass wire.now.lock result.0 }
-    ensures up { OnOk result.1 (IsUp M.tells K.parts K.fits K.lives K.owes M.page_count M.reads M.may_leave core.new (knows result.0) node gone true draft.new) }
+    ensures up { OnOk result.1 (IsUp M.tells K.parts K.fits K.lives K.owes M.page_count M.reads M.may_leave core.new
+        (knows result.0) node gone true draft.new) }
     ensures grew { OnOk result.1 (Grew (knows pass).own (knows result.0).own) }
-    ensures err { IfErr result.1 (λ f. IsAfter M.tells K.parts K.fits K.lives K.owes M.page_count M.reads M.may_leave f core.new (knows result.0) node draft.old.durable) }
+    ensures err { IfErr result.1 (λ f. IsAfter M.tells K.parts K.fits K.lives K.owes M.page_count M.reads M.may_leave f core.new
+        (knows result.0) node draft.old.durable) }
     ensures trail { Trail node (knows pass) (knows result.0) [] [] [] 0 }
     ensures unwritten { IsUnwritten M.tells M.faults M.reads (K.parts core.old).medium (K.parts core.new).medium }
     ensures cause { IsErrOf result.1 fault.Medium → Rose (M.faults (K.parts core.old).medium) (M.faults (K.parts core.new).medium) }
@@ -120,9 +125,11 @@ fn take<K: StoredCore<M>, F: Fates, C: Clock, M: Medium, R: Wait>(
     requires up { IsUp M.tells K.parts K.fits K.lives K.owes M.page_count M.reads M.may_leave core.old (knows pass) node gone due draft.old }
     requires gone { is_broker node.kind ≡ true → gone ≡ true }
     ensures pass { IsWirePass wire.now.lock result.0 }
-    ensures up { IfOk result.1 (λ came. IsUp M.tells K.parts K.fits K.lives K.owes M.page_count M.reads M.may_leave core.new (knows result.0) node gone (arrived came || due) draft.new) }
+    ensures up { IfOk result.1 (λ came. IsUp M.tells K.parts K.fits K.lives K.owes M.page_count M.reads M.may_leave core.new (knows result.0) node gone
+        (arrived came || due) draft.new) }
     ensures came { IfOk result.1 (Took node (knows pass) (knows result.0)) }
-    ensures err { IfErr result.1 (λ f. IsAfter M.tells K.parts K.fits K.lives K.owes M.page_count M.reads M.may_leave f core.new (knows result.0) node draft.old.durable) }
+    ensures err { IfErr result.1 (λ f. IsAfter M.tells K.parts K.fits K.lives K.owes M.page_count M.reads M.may_leave f core.new
+        (knows result.0) node draft.old.durable) }
     ensures draft { IfOk result.1 (λ came. arrived came ≡ false → draft.new ≡ draft.old) }
     ensures durable { draft.new.durable ≡ draft.old.durable }
     ensures trail { Trail node (knows pass) (knows result.0) [] [] [] 0 }
@@ -159,10 +166,13 @@ pub fn begin<K: StoredCore<M>, F: Fates, C: Clock, M: Medium, R: Wait>(
     requires pass { IsWirePass wire.now.lock pass }
     requires up { IsUp M.tells K.parts K.fits K.lives K.owes M.page_count M.reads M.may_leave core.old (knows pass) node gone false draft.old }
     ensures pass { IsWirePass wire.now.lock result.0 }
-    ensures up { IfOk result.1 (λ begun. IsUp M.tells K.parts K.fits K.lives K.owes M.page_count M.reads M.may_leave core.new (knows result.0) node (gone || is_broker node.kind) begun draft.new) }
+    ensures up { IfOk result.1 (λ begun.
+        IsUp M.tells K.parts K.fits K.lives K.owes M.page_count M.reads M.may_leave core.new (knows result.0) node
+        (gone || is_broker node.kind) begun draft.new) }
     ensures grew { result.1 ≡ Ok true → Grew (knows pass).own (knows result.0).own }
     ensures quiet { result.1 ≡ Ok false → IsQuiet node (knows pass) (knows result.0) × (draft.new ≡ draft.old) }
-    ensures err { IfErr result.1 (λ f. IsAfter M.tells K.parts K.fits K.lives K.owes M.page_count M.reads M.may_leave f core.new (knows result.0) node draft.old.durable) }
+    ensures err { IfErr result.1 (λ f. IsAfter M.tells K.parts K.fits K.lives K.owes M.page_count M.reads M.may_leave f core.new
+        (knows result.0) node draft.old.durable) }
     ensures trail { Trail node (knows pass) (knows result.0) [] [] [] 0 }
     ensures unwritten { IsUnwritten M.tells M.faults M.reads (K.parts core.old).medium (K.parts core.new).medium }
     ensures cause { IsErrOf result.1 fault.Medium → Rose (M.faults (K.parts core.old).medium) (M.faults (K.parts core.new).medium) }
@@ -203,8 +213,10 @@ pub fn take_more<K: StoredCore<M>, F: Fates, C: Clock, M: Medium, R: Wait>(
     requires up { IsUp M.tells K.parts K.fits K.lives K.owes M.page_count M.reads M.may_leave core.old (knows pass) node gone true draft.old }
     requires gone { is_broker node.kind ≡ true → gone ≡ true }
     ensures pass { IsWirePass wire.now.lock result.0 }
-    ensures up { OnOk result.1 (IsUp M.tells K.parts K.fits K.lives K.owes M.page_count M.reads M.may_leave core.new (knows result.0) node gone true draft.new) }
-    ensures err { IfErr result.1 (λ f. IsAfter M.tells K.parts K.fits K.lives K.owes M.page_count M.reads M.may_leave f core.new (knows result.0) node draft.old.durable) }
+    ensures up { OnOk result.1 (IsUp M.tells K.parts K.fits K.lives K.owes M.page_count M.reads M.may_leave core.new
+        (knows result.0) node gone true draft.new) }
+    ensures err { IfErr result.1 (λ f. IsAfter M.tells K.parts K.fits K.lives K.owes M.page_count M.reads M.may_leave f core.new
+        (knows result.0) node draft.old.durable) }
     ensures durable { draft.new.durable ≡ draft.old.durable }
     ensures trail { Trail node (knows pass) (knows result.0) [] [] [] 0 }
     ensures unwritten { IsUnwritten M.tells M.faults M.reads (K.parts core.old).medium (K.parts core.new).medium }

@@ -42,7 +42,8 @@ impl<K: StoredCore<M>, F: Fates, C: Clock, M: Medium> Model for Node<K, F, C, M>
 
     ghost view = { λ n. record { node = n.node; condition = n.hand.condition; pass = n.pass; medium = (K.parts n.hand.core).medium } };
 
-    ghost invariant = { λ n. Keeps M.tells K.parts K.fits K.lives K.owes M.page_count M.reads M.may_leave n.hand.condition n.hand.core (knows n.pass) n.node n.hand.gone n.hand.durable };
+    ghost invariant = { λ n. Keeps M.tells K.parts K.fits K.lives K.owes M.page_count M.reads M.may_leave
+        n.hand.condition n.hand.core (knows n.pass) n.node n.hand.gone n.hand.durable };
 }
 
 // What a turn answers, by how the node stands after it.
@@ -138,7 +139,8 @@ impl<K: StoredCore<M>, F: Fates, C: Clock, M: Medium> Node<K, F, C, M> {
         ensures medium { (K.parts result.now).medium ≡ self.now.medium }
         ensures node { (K.parts result.now).node ≡ self.now.node }
         ensures own { self.now.condition ≡ Condition.AtWork → IsOf self.now.node (sight self.now) }
-        ensures life { IsTrue M.tells → self.now.condition ≡ Condition.AtWork → K.fits (base_at (sight self.now)) result.now × K.lives (base_at (sight self.now)) result.now (life_at (sight self.now) self.now.node) }
+        ensures life { IsTrue M.tells → self.now.condition ≡ Condition.AtWork → K.fits (base_at (sight self.now)) result.now ×
+            K.lives (base_at (sight self.now)) result.now (life_at (sight self.now) self.now.node) }
     {
         &self.hand.core
     }

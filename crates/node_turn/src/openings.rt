@@ -22,7 +22,8 @@ pub fn open_again<M: Medium>(
     ensures effects { IsTrue M.tells → IfOk result (λ r. effects_in M.reads r.0 ≡ r.1.items) }
     ensures only { IsTrue M.tells → IfOk result (λ r. Only (M.reads (medium_of r.0)) (M.may_leave (medium_of r.0))) }
     ensures images { IsTrue M.tells → NoMore (M.may_leave medium) (M.may_leave (opened result)) }
-    ensures damaged { IsTrue M.tells → IfErr result (λ e. (page : ℕ) → e.1 ≡ OpenFault.Damaged page → (image : Image) × M.may_leave medium image × (storage image ≡ Err page)) }
+    ensures damaged { IsTrue M.tells → IfErr result
+        (λ e. (page : ℕ) → e.1 ≡ OpenFault.Damaged page → (image : Image) × M.may_leave medium image × (storage image ≡ Err page)) }
     ensures ranges { IfOk result (λ r. AreEffects r.1.items) }
     ensures sound { IfOk result (λ r. M.is_failed (medium_of r.0) ≡ false) }
     ensures later { M.faults medium ≤ M.faults (opened result) }

@@ -42,9 +42,11 @@ fn give_up<K: StoredCore<M>, F: Fates, C: Clock, M: Medium, R: Wait>(
     requires pass { IsWirePass wire.now.lock pass }
     requires after { IsAfter M.tells K.parts K.fits K.lives K.owes M.page_count M.reads M.may_leave fault core (knows pass) node durable }
     ensures pass { IsWirePass wire.now.lock result.0 }
-    ensures keeps { Keeps M.tells K.parts K.fits K.lives K.owes M.page_count M.reads M.may_leave result.1.condition result.1.core (knows result.0) node result.1.gone result.1.durable }
+    ensures keeps { Keeps M.tells K.parts K.fits K.lives K.owes M.page_count M.reads M.may_leave result.1.condition result.1.core
+        (knows result.0) node result.1.gone result.1.durable }
     ensures trail { (cost : ℕ) × Trail node (knows pass) (knows result.0) [] [] [] cost }
-    ensures paid { (before : ℕ) → (fault ≡ HistoryFault.Medium → Rose before (M.faults (K.parts core).medium)) → before ≤ M.faults (K.parts core).medium → PaysFor (costs (knows pass).own) before (costs (knows result.0).own) (M.faults (K.parts result.1.core).medium) }
+    ensures paid { (before : ℕ) → (fault ≡ HistoryFault.Medium → Rose before (M.faults (K.parts core).medium)) → before ≤ M.faults (K.parts core).medium →
+        PaysFor (costs (knows pass).own) before (costs (knows result.0).own) (M.faults (K.parts result.1.core).medium) }
     ensures dear { IsTrue M.tells → result.1.condition ≢ Condition.Wanting → costs (knows pass).own < costs (knows result.0).own }
     ensures grew { result.1.condition ≡ Condition.AtWork → Grew (knows pass).own (knows result.0).own }
 {
@@ -89,10 +91,13 @@ fn end<K: StoredCore<M>, F: Fates, C: Clock, M: Medium, R: Wait>(
     requires pass { IsWirePass wire.now.lock pass }
     requires up { IsUp M.tells K.parts K.fits K.lives K.owes M.page_count M.reads M.may_leave core (knows pass) node gone true draft.now }
     ensures pass { IsWirePass wire.now.lock result.0 }
-    ensures keeps { Keeps M.tells K.parts K.fits K.lives K.owes M.page_count M.reads M.may_leave result.1.condition result.1.core (knows result.0) node result.1.gone result.1.durable }
-    ensures sends { (sent : List _) × (cost : ℕ) × Trail node (knows pass) (knows result.0) sent [] [] cost × (IsTrue M.tells → (out : _) → Has out sent → Has out (owed (world_at (knows pass)) node)) }
+    ensures keeps { Keeps M.tells K.parts K.fits K.lives K.owes M.page_count M.reads M.may_leave result.1.condition result.1.core
+        (knows result.0) node result.1.gone result.1.durable }
+    ensures sends { (sent : List _) × (cost : ℕ) × Trail node (knows pass) (knows result.0) sent [] [] cost ×
+        (IsTrue M.tells → (out : _) → Has out sent → Has out (owed (world_at (knows pass)) node)) }
     ensures paid { PaysFor (costs (knows pass).own) (M.faults (K.parts core).medium) (costs (knows result.0).own) (M.faults (K.parts result.1.core).medium) }
-    ensures whole { IsTrue M.tells → result.1.condition ≢ Condition.Wanting → StaysWhole (costs (knows pass).own) (costs (knows result.0).own) (M.reads (K.parts core).medium) (M.reads (K.parts result.1.core).medium) }
+    ensures whole { IsTrue M.tells → result.1.condition ≢ Condition.Wanting →
+        StaysWhole (costs (knows pass).own) (costs (knows result.0).own) (M.reads (K.parts core).medium) (M.reads (K.parts result.1.core).medium) }
 {
     let durable = draft.durable();
     let (pass, core, closed) = close(alloc, rt, wire, node, gone, core, draft, pass);
@@ -149,9 +154,11 @@ fn go_on<K: StoredCore<M>, F: Fates, C: Clock, M: Medium, R: Wait>(
     requires up { IsUp M.tells K.parts K.fits K.lives K.owes M.page_count M.reads M.may_leave core (knows pass) node gone true draft }
     requires gone { is_broker node.kind ≡ true → gone ≡ true }
     ensures pass { IsWirePass wire.now.lock result.0 }
-    ensures keeps { Keeps M.tells K.parts K.fits K.lives K.owes M.page_count M.reads M.may_leave result.1.condition result.1.core (knows result.0) node result.1.gone result.1.durable }
+    ensures keeps { Keeps M.tells K.parts K.fits K.lives K.owes M.page_count M.reads M.may_leave result.1.condition result.1.core
+        (knows result.0) node result.1.gone result.1.durable }
     ensures paid { PaysFor (costs (knows pass).own) (M.faults (K.parts core).medium) (costs (knows result.0).own) (M.faults (K.parts result.1.core).medium) }
-    ensures whole { IsTrue M.tells → result.1.condition ≢ Condition.Wanting → StaysWhole (costs (knows pass).own) (costs (knows result.0).own) (M.reads (K.parts core).medium) (M.reads (K.parts result.1.core).medium) }
+    ensures whole { IsTrue M.tells → result.1.condition ≢ Condition.Wanting →
+        StaysWhole (costs (knows pass).own) (costs (knows result.0).own) (M.reads (K.parts core).medium) (M.reads (K.parts result.1.core).medium) }
     ensures tested { IsTrue M.tells → is_broker node.kind ≡ false → HasTested node (knows pass) (knows result.0) }
     ensures adds { Adds (knows pass).own (knows result.0).own }
 {
@@ -186,14 +193,19 @@ pub fn work<K: StoredCore<M>, F: Fates, C: Clock, M: Medium, R: Wait>(
     pass: WirePass<F, C, M>,
 ) -> (WirePass<F, C, M>, Hand<K>, bool)
     requires pass { IsWirePass wire.now.lock pass }
-    requires up { IsUp M.tells K.parts K.fits K.lives K.owes M.page_count M.reads M.may_leave hand.core (knows pass) node hand.gone false (no_draft hand.durable) }
+    requires up { IsUp M.tells K.parts K.fits K.lives K.owes M.page_count M.reads M.may_leave hand.core (knows pass) node hand.gone false
+        (no_draft hand.durable) }
     ensures pass { IsWirePass wire.now.lock result.0 }
-    ensures keeps { Keeps M.tells K.parts K.fits K.lives K.owes M.page_count M.reads M.may_leave result.1.condition result.1.core (knows result.0) node result.1.gone result.1.durable }
-    ensures paid { PaysFor (costs (knows pass).own) (M.faults (K.parts hand.core).medium) (costs (knows result.0).own) (M.faults (K.parts result.1.core).medium) }
-    ensures whole { IsTrue M.tells → result.1.condition ≢ Condition.Wanting → StaysWhole (costs (knows pass).own) (costs (knows result.0).own) (M.reads (K.parts hand.core).medium) (M.reads (K.parts result.1.core).medium) }
+    ensures keeps { Keeps M.tells K.parts K.fits K.lives K.owes M.page_count M.reads M.may_leave result.1.condition result.1.core
+        (knows result.0) node result.1.gone result.1.durable }
+    ensures paid { PaysFor (costs (knows pass).own) (M.faults (K.parts hand.core).medium) (costs (knows result.0).own)
+        (M.faults (K.parts result.1.core).medium) }
+    ensures whole { IsTrue M.tells → result.1.condition ≢ Condition.Wanting →
+        StaysWhole (costs (knows pass).own) (costs (knows result.0).own) (M.reads (K.parts hand.core).medium) (M.reads (K.parts result.1.core).medium) }
     ensures tested { IsTrue M.tells → is_broker node.kind ≡ false → HasTested node (knows pass) (knows result.0) }
     ensures adds { Adds (knows pass).own (knows result.0).own }
-    ensures quiet { MatchBool result.2 (IsQuiet node (knows pass) (knows result.0) × (result.1.condition ≡ Condition.AtWork)) (result.1.condition ≡ Condition.AtWork → Grew (knows pass).own (knows result.0).own) }
+    ensures quiet { MatchBool result.2 (IsQuiet node (knows pass) (knows result.0) ×
+        (result.1.condition ≡ Condition.AtWork)) (result.1.condition ≡ Condition.AtWork → Grew (knows pass).own (knows result.0).own) }
 {
     let Hand {
         mut core,

@@ -63,7 +63,8 @@ pub fn copy_put(alloc: Global, mark: &Mark) -> Result<Option<(PseudoTime, Value)
 
 /// Adds the mark of an effect, if it is one.
 pub fn add_effect(index: &mut Index, effect: &Effect) -> Result<(), AllocError>
-    ensures ok { (m : List Mark) → IsIndexed m index.old.settles index.old.heads → OnOk result (IsIndexed (marks.added (logs.mark_of effect.now) m) index.new.settles index.new.heads) }
+    ensures ok { (m : List Mark) → IsIndexed m index.old.settles index.old.heads →
+        OnOk result (IsIndexed (marks.added (logs.mark_of effect.now) m) index.new.settles index.new.heads) }
 {
     match effect {
         Effect::Put { object, start, .. } => index.put_any(*object, *start),

@@ -87,13 +87,18 @@ impl<M: Medium> HeaderTable<M> {
 
         // Each image that is left has a prefix, at every moment, and only blank pages are written.
         ensures images { IsTrue M.tells → (c : Image) → M.may_leave (handed_back result) c → HasPrefix (ledger_of self).log effects.now c }
-        ensures any_moment { IsTrue M.tells → LeavesOnly M.moment M.left_since (medium_of (store_of self)) (handed_back result) (HasPrefix (ledger_of self).log effects.now) }
-        ensures kept { IsTrue M.tells → LeavesOnly M.moment M.left_since (medium_of (store_of self)) (handed_back result) (KeepsPages (M.reads (medium_of (store_of self)))) }
+        ensures any_moment { IsTrue M.tells →
+            LeavesOnly M.moment M.left_since (medium_of (store_of self)) (handed_back result) (HasPrefix (ledger_of self).log effects.now) }
+        ensures kept { IsTrue M.tells → LeavesOnly M.moment M.left_since (medium_of (store_of self)) (handed_back result)
+            (KeepsPages (M.reads (medium_of (store_of self)))) }
         ensures clean { IsTrue M.tells → IfOk result (λ t. StaysClean (M.reads (medium_of (store_of self))) (M.reads (medium_of (store_of t)))) }
 
         // Full comes only where the pages aren't there, and any fault but Medium before all writing.
-        ensures full { IfErr result (λ e. (pages : ℕ) → e.1 ≡ StoreFault.Full pages → (pages ≡ M.page_count (medium_of (store_of self))) × (left_in (store_of self) < length (filling effects.now))) }
-        ensures full_blank { IsTrue M.tells → IfErr result (λ e. (pages : ℕ) → e.1 ≡ StoreFault.Full pages → count_by is_blank (M.reads (medium_of (store_of self))) < length (filling effects.now)) }
+        ensures full { IfErr result (λ e. (pages : ℕ) → e.1 ≡ StoreFault.Full pages → (pages ≡ M.page_count (medium_of (store_of self))) ×
+            (left_in (store_of self) < length (filling effects.now))) }
+        ensures full_blank { IsTrue M.tells →
+            IfErr result (λ e. (pages : ℕ) → e.1 ≡ StoreFault.Full pages →
+            count_by is_blank (M.reads (medium_of (store_of self))) < length (filling effects.now)) }
         ensures nothing { IfErr result (λ e. e.1 ≢ StoreFault.Medium → e.0 ≡ medium_of (store_of self)) }
 
         ensures damage { IfOk result (λ t. damage_in (store_of t) ≡ damage_in (store_of self)) }
@@ -144,13 +149,15 @@ impl<M: Medium> HeaderTable<M> {
         object: ObjectId,
         limit: &Limit,
     ) -> Result<Option<(PseudoTime, Value)>, HistoryFault>
-        ensures found { IsTrue M.tells → IfOk result (λ r. r ≡ first_put (passes (ledger_of self.old).settles limit.now) object (content (ledger_of self.old))) }
+        ensures found { IsTrue M.tells →
+            IfOk result (λ r. r ≡ first_put (passes (ledger_of self.old).settles limit.now) object (content (ledger_of self.old))) }
         ensures in_range { IfOk result (λ r. IfSome r (λ f. IsValue f.1)) }
         ensures sound { IsTrue M.tells → IfErr result IsNotDamage }
         ensures ledger { ledger_of self.new ≡ ledger_of self.old }
         ensures left { left_in (store_of self.new) ≡ left_in (store_of self.old) }
         ensures image { told_image M.tells (M.reads (medium_of (store_of self.new))) ≡ told_image M.tells (M.reads (medium_of (store_of self.old))) }
-        ensures cause { HasHistoryCause (M.faults (medium_of (store_of self.old))) (M.faults (medium_of (store_of self.new))) (damage_in (store_of self.old)) (damage_in (store_of self.new)) result }
+        ensures cause { HasHistoryCause (M.faults (medium_of (store_of self.old))) (M.faults (medium_of (store_of self.new))) (damage_in (store_of self.old))
+            (damage_in (store_of self.new)) result }
     {
         if let Some(found) = self.ledger.first_late(object, limit)? {
             return Ok(Some(found));
@@ -182,7 +189,8 @@ impl<M: Medium> HeaderTable<M> {
         ensures ledger { ledger_of self.new ≡ ledger_of self.old }
         ensures left { left_in (store_of self.new) ≡ left_in (store_of self.old) }
         ensures image { told_image M.tells (M.reads (medium_of (store_of self.new))) ≡ told_image M.tells (M.reads (medium_of (store_of self.old))) }
-        ensures cause { HasHistoryCause (M.faults (medium_of (store_of self.old))) (M.faults (medium_of (store_of self.new))) (damage_in (store_of self.old)) (damage_in (store_of self.new)) result }
+        ensures cause { HasHistoryCause (M.faults (medium_of (store_of self.old))) (M.faults (medium_of (store_of self.new))) (damage_in (store_of self.old))
+            (damage_in (store_of self.new)) result }
     {
         if self.ledger.is_odd(object) {
             let step = self.ledger.read_odd(object, at)?;
@@ -211,7 +219,8 @@ impl<M: Medium> HeaderTable<M> {
         ensures ledger { ledger_of self.new ≡ ledger_of self.old }
         ensures left { left_in (store_of self.new) ≡ left_in (store_of self.old) }
         ensures image { told_image M.tells (M.reads (medium_of (store_of self.new))) ≡ told_image M.tells (M.reads (medium_of (store_of self.old))) }
-        ensures cause { HasHistoryCause (M.faults (medium_of (store_of self.old))) (M.faults (medium_of (store_of self.new))) (damage_in (store_of self.old)) (damage_in (store_of self.new)) result }
+        ensures cause { HasHistoryCause (M.faults (medium_of (store_of self.old))) (M.faults (medium_of (store_of self.new))) (damage_in (store_of self.old))
+            (damage_in (store_of self.new)) result }
     {
         if self.ledger.is_odd(object) {
             let stands = self.ledger.stands_odd(object, start, value)?;

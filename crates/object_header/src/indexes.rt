@@ -52,7 +52,9 @@ impl Index {
 
     /// Adds a version, which lies above every living one of its object, unless that is odd.
     pub fn put(&mut self, object: ObjectId, start: PseudoTime) -> Result<(), AllocError>
-        ensures ok { (m : List Mark) (v : Value) → IsIndexed m self.old.settles self.old.heads → ((head_at self.old.heads object).odd ≡ false → Starts (λ y. is_living self.old.settles y ≡ true → lt y start ≡ true) object m) → OnOk result (IsIndexed (mark.Put object start v ∷ m) self.new.settles self.new.heads) }
+        ensures ok { (m : List Mark) (v : Value) → IsIndexed m self.old.settles self.old.heads →
+            ((head_at self.old.heads object).odd ≡ false → Starts (λ y. is_living self.old.settles y ≡ true → lt y start ≡ true) object m) →
+            OnOk result (IsIndexed (mark.Put object start v ∷ m) self.new.settles self.new.heads) }
         ensures err { (m : List Mark) → IsIndexed m self.old.settles self.old.heads → OnErr result (IsIndexed m self.new.settles self.new.heads) }
         ensures same_odd { (o : ObjectId) → (head_at self.new.heads o).odd ≡ (head_at self.old.heads o).odd }
     {
@@ -62,7 +64,8 @@ impl Index {
     /// Adds a version that may lie anywhere: where it isn't above every living one of its object,
     /// that is kept whole from now on.
     pub fn put_any(&mut self, object: ObjectId, start: PseudoTime) -> Result<(), AllocError>
-        ensures ok { (m : List Mark) (v : Value) → IsIndexed m self.old.settles self.old.heads → OnOk result (IsIndexed (mark.Put object start v ∷ m) self.new.settles self.new.heads) }
+        ensures ok { (m : List Mark) (v : Value) → IsIndexed m self.old.settles self.old.heads →
+            OnOk result (IsIndexed (mark.Put object start v ∷ m) self.new.settles self.new.heads) }
     {
         self.test_put(object, start)?;
         self.put(object, start)?;
@@ -71,7 +74,9 @@ impl Index {
 
     // Where a version with this start isn't above every living one of its object, that is odd.
     fn test_put(&mut self, object: ObjectId, start: PseudoTime) -> Result<(), AllocError>
-        ensures ok { (m : List Mark) → IsIndexed m self.old.settles self.old.heads → OnOk result (IsIndexed m self.new.settles self.new.heads × ((head_at self.new.heads object).odd ≡ false → Starts (λ y. is_living self.new.settles y ≡ true → lt y start ≡ true) object m)) }
+        ensures ok { (m : List Mark) → IsIndexed m self.old.settles self.old.heads →
+            OnOk result (IsIndexed m self.new.settles self.new.heads ×
+            ((head_at self.new.heads object).odd ≡ false → Starts (λ y. is_living self.new.settles y ≡ true → lt y start ≡ true) object m)) }
     {
         match self.heads.look(&self.settles, object, &Limit::All) {
             Look::Shown(span) => {
@@ -87,7 +92,8 @@ impl Index {
 
     /// Adds a Stretch.
     pub fn stretch(&mut self, object: ObjectId, at: PseudoTime) -> Result<(), AllocError>
-        ensures ok { (m : List Mark) → IsIndexed m self.old.settles self.old.heads → OnOk result (IsIndexed (mark.Stretch object at ∷ m) self.new.settles self.new.heads) }
+        ensures ok { (m : List Mark) → IsIndexed m self.old.settles self.old.heads →
+            OnOk result (IsIndexed (mark.Stretch object at ∷ m) self.new.settles self.new.heads) }
         ensures err { (m : List Mark) → IsIndexed m self.old.settles self.old.heads → OnErr result (IsIndexed m self.new.settles self.new.heads) }
         ensures same_odd { (o : ObjectId) → (head_at self.new.heads o).odd ≡ (head_at self.old.heads o).odd }
     {
@@ -96,7 +102,8 @@ impl Index {
 
     /// Adds a Settle, which counts where it is the first of its stamp.
     pub fn settle(&mut self, stamp: Stamp, committed: bool) -> Result<(), AllocError>
-        ensures ok { (m : List Mark) → IsIndexed m self.old.settles self.old.heads → OnOk result (IsIndexed (mark.Settle stamp committed ∷ m) self.new.settles self.new.heads) }
+        ensures ok { (m : List Mark) → IsIndexed m self.old.settles self.old.heads →
+            OnOk result (IsIndexed (mark.Settle stamp committed ∷ m) self.new.settles self.new.heads) }
         ensures err { (m : List Mark) → IsIndexed m self.old.settles self.old.heads → OnErr result (IsIndexed m self.new.settles self.new.heads) }
         ensures same_odd { (o : ObjectId) → (head_at self.new.heads o).odd ≡ (head_at self.old.heads o).odd }
     {
@@ -157,7 +164,8 @@ impl Index {
     /// What a write answers that doesn't stand yet.
     pub fn new_write(&self, object: ObjectId, at: PseudoTime) -> WriteStep
         requires headed { (head_at self.now.heads object).odd ≡ false }
-        ensures { (m : List Mark) → IsIndexed m self.now.settles self.now.heads → result ≡ write_newest at (newest m object) (reach m object (newest m object)) }
+        ensures { (m : List Mark) → IsIndexed m self.now.settles self.now.heads →
+            result ≡ write_newest at (newest m object) (reach m object (newest m object)) }
     {
         match self.heads.look(&self.settles, object, &Limit::All) {
             Look::Shown(span) => {

@@ -190,14 +190,16 @@ impl Ledger {
     /// A version with this start and value stands where the newest one up to that time has both.
     pub fn stands_first(&self, object: ObjectId, at: PseudoTime)
         requires headed { is_odd self.now object ≡ false }
-        ensures { (v : Value) → stands_written (content self.now) object at v ≡ is_written at v (first_put (passes self.now.settles (limit.UpTo at)) object (content self.now)) }
+        ensures { (v : Value) → stands_written (content self.now) object at v ≡
+            is_written at v (first_put (passes self.now.settles (limit.UpTo at)) object (content self.now)) }
     {
         let _in_range = self.late.len();
     }
 
     /// A new write that is put lies above every living version.
     pub fn puts_rise(&self, object: ObjectId, at: PseudoTime)
-        ensures { write_newest at (newest (content self.now) object) (reach (content self.now) object (newest (content self.now) object)) ≡ write.Put → Starts (λ y. is_living self.now.settles y ≡ true → lt y at ≡ true) object (content self.now) }
+        ensures { write_newest at (newest (content self.now) object) (reach (content self.now) object (newest (content self.now) object)) ≡ write.Put →
+            Starts (λ y. is_living self.now.settles y ≡ true → lt y at ≡ true) object (content self.now) }
     {
         let _in_range = self.late.len();
     }

@@ -89,7 +89,8 @@ impl Heads {
         object: ObjectId,
         start: PseudoTime,
     ) -> Result<(), AllocError>
-        ensures ok { OnOk result ((o : ObjectId) → AreAlike settles.now (head_at self.new o) (if same_object object o then with_version start (head_at self.old o) else head_at self.old o)) }
+        ensures ok { OnOk result ((o : ObjectId) →
+            AreAlike settles.now (head_at self.new o) (if same_object object o then with_version start (head_at self.old o) else head_at self.old o)) }
         ensures err { OnErr result ((o : ObjectId) → AreAlike settles.now (head_at self.new o) (head_at self.old o)) }
     {
         match self.entries.get_mut(&object) {
@@ -111,7 +112,8 @@ impl Heads {
         object: ObjectId,
         time: PseudoTime,
     ) -> Result<(), AllocError>
-        ensures ok { OnOk result ((o : ObjectId) → head_at self.new o ≡ (if same_object object o then with_end settles.now time (head_at self.old o) else head_at self.old o)) }
+        ensures ok { OnOk result ((o : ObjectId) →
+            head_at self.new o ≡ (if same_object object o then with_end settles.now time (head_at self.old o) else head_at self.old o)) }
         ensures err { OnErr result ((o : ObjectId) → head_at self.new o ≡ head_at self.old o) }
     {
         match self.entries.get_mut(&object) {

@@ -36,10 +36,14 @@ pub fn starts_stay_distinct()
 /// one. Where every mark fitted those before it, it isn't below the reach of any version that isn't
 /// dead, nor of the origin.
 pub fn writes_go_on_top()
-    ensures versions { (m : List Mark) (o : ObjectId) (x : TimeParts) (v : Value) → write_step m o x v ≡ write.Put → Starts (λ y. alive m y ≡ true → lt y x ≡ true) o m }
-    ensures reach { (m : List Mark) (o : ObjectId) (x : TimeParts) (v : Value) (e : TimeParts) → write_step m o x v ≡ write.Put → reach m o (newest m o) ≡ Some e → lt x e ≡ false }
-    ensures every_reach { (m : List Mark) (o : ObjectId) (x : TimeParts) (v : Value) (q : Seen) (e : TimeParts) → Grown m → write_step m o x v ≡ write.Put → IsVersion o m q → alive m q.start ≡ true → reach m o (Some q) ≡ Some e → lt x e ≡ false }
-    ensures origin { (m : List Mark) (o : ObjectId) (x : TimeParts) (v : Value) (e : TimeParts) → Grown m → write_step m o x v ≡ write.Put → reach m o None ≡ Some e → lt x e ≡ false }
+    ensures versions { (m : List Mark) (o : ObjectId) (x : TimeParts) (v : Value) → write_step m o x v ≡ write.Put →
+        Starts (λ y. alive m y ≡ true → lt y x ≡ true) o m }
+    ensures reach { (m : List Mark) (o : ObjectId) (x : TimeParts) (v : Value) (e : TimeParts) → write_step m o x v ≡ write.Put →
+        reach m o (newest m o) ≡ Some e → lt x e ≡ false }
+    ensures every_reach { (m : List Mark) (o : ObjectId) (x : TimeParts) (v : Value) (q : Seen) (e : TimeParts) → Grown m → write_step m o x v ≡ write.Put →
+        IsVersion o m q → alive m q.start ≡ true → reach m o (Some q) ≡ Some e → lt x e ≡ false }
+    ensures origin { (m : List Mark) (o : ObjectId) (x : TimeParts) (v : Value) (e : TimeParts) → Grown m → write_step m o x v ≡ write.Put →
+        reach m o None ≡ Some e → lt x e ≡ false }
 {}
 
 /// What an answered read viewed, no fitting mark changes.
@@ -49,7 +53,8 @@ pub fn answer_stays()
 
 /// A read that is answered is viewed, with its Stretch.
 pub fn answer_is_viewed()
-    ensures { (m : List Mark) (o : ObjectId) (t : TimeParts) (v : Value) (stretch : Bool) → settle_of m t.stamp ≢ Some false → read_step m o t ≡ read.Answer v stretch → Viewed (after_read m o t (read.Answer v stretch)) o t v }
+    ensures { (m : List Mark) (o : ObjectId) (t : TimeParts) (v : Value) (stretch : Bool) → settle_of m t.stamp ≢ Some false →
+        read_step m o t ≡ read.Answer v stretch → Viewed (after_read m o t (read.Answer v stretch)) o t v }
 {}
 
 /// What a reader views is what a read sees, unless its attempt was aborted.
@@ -60,8 +65,10 @@ pub fn view_is_sight()
 /// What the answers of a write say of the marks.
 pub fn write_answers()
     ensures again { (m : List Mark) (o : ObjectId) (t : TimeParts) (v : Value) → write_step m o t v ≡ write.Again → Has (mark.Put o t v) m }
-    ensures later_read { (m : List Mark) (o : ObjectId) (t : TimeParts) (v : Value) (e : TimeParts) → write_step m o t v ≡ write.LaterRead e → (lt t e ≡ true) × Has (mark.Stretch o e) m }
-    ensures later_version { (m : List Mark) (o : ObjectId) (t : TimeParts) (v : Value) (x : TimeParts) → write_step m o t v ≡ write.LaterVersion x → (lt x t ≡ false) × ((w : Value) × Has (mark.Put o x w) m) }
+    ensures later_read { (m : List Mark) (o : ObjectId) (t : TimeParts) (v : Value) (e : TimeParts) → write_step m o t v ≡ write.LaterRead e →
+        (lt t e ≡ true) × Has (mark.Stretch o e) m }
+    ensures later_version { (m : List Mark) (o : ObjectId) (t : TimeParts) (v : Value) (x : TimeParts) → write_step m o t v ≡ write.LaterVersion x →
+        (lt x t ≡ false) × ((w : Value) × Has (mark.Put o x w) m) }
 {}
 
 /// Each call of histories leaves the settled versions of an object a prefix of the new ones.

@@ -148,7 +148,8 @@ impl PlainHistories {
 
     // The object's last version that isn't dead, of those that start below the end, if there is one.
     fn last(&self, object: ObjectId, end: &Option<PseudoTime>) -> Option<&Version>
-        ensures seen { option_map (seen_in self.now) (option_copied result) ≡ history.scan (λ x. is_below end.now x && history.alive self.now x) object self.now }
+        ensures seen { option_map (seen_in self.now) (option_copied result) ≡ history.scan
+            (λ x. is_below end.now x && history.alive self.now x) object self.now }
         ensures end { HasEnd self.now object (option_copied result) }
     {
         self.tracks.get(object)?.last(&self.settles, end)

@@ -74,7 +74,9 @@ fn write_through<M: Medium>(
     requires open { M.is_failed medium.old ≡ false }
     ensures written { IsTrue M.tells → OnOk result (Written page at bytes.now (M.reads medium.old) (M.reads medium.new)) }
     ensures durable { IsTrue M.tells → OnOk result (Only (M.reads medium.new) (M.may_leave medium.new)) }
-    ensures any_moment { IsTrue M.tells → LeavesOnly M.moment M.left_since medium.old medium.new (λ c. M.may_leave medium.old c ⊎ ((from : Image) × M.may_leave medium.old from × Torn page at (length bytes.now) from c)) }
+    ensures any_moment { IsTrue M.tells →
+        LeavesOnly M.moment M.left_since medium.old medium.new
+        (λ c. M.may_leave medium.old c ⊎ ((from : Image) × M.may_leave medium.old from × Torn page at (length bytes.now) from c)) }
     ensures last { M.last_page medium.new ≡ M.last_page medium.old }
     ensures size { M.page_count medium.new ≡ M.page_count medium.old }
     ensures failed { M.is_failed medium.new ≡ is_err result }

@@ -22,7 +22,8 @@ pub fn fault(line: u32, kind: PlanKind) -> PlanFault
 }
 
 fn after_title(bytes: &[u8]) -> Option<&[u8]>
-    ensures { MatchOption result (Lacks (λ l. l ≡ title) (lines bytes.now)) (λ rest. (lines bytes.now ≡ title ∷ lines rest.now) × (length rest.now < length bytes.now)) }
+    ensures { MatchOption result (Lacks (λ l. l ≡ title) (lines bytes.now))
+        (λ rest. (lines bytes.now ≡ title ∷ lines rest.now) × (length rest.now < length bytes.now)) }
 {
     let Some((line, rest)) = next_line(bytes) else {
         return None;

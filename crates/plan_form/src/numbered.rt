@@ -20,7 +20,8 @@ pub fn next_line(bytes: &[u8]) -> Option<(&[u8], &[u8])>
 // The number of a line that is a word and a number from 1 to the greatest.
 fn number_line(line: &[u8], word: &[u8], greatest: u64) -> Option<u64>
     requires { greatest < 2 ^ 63 }
-    ensures { MatchOption result (IsNumbered (λ n. word.now ++ decimal n) greatest line.now → ⊥) (λ n. InRange greatest n × (line.now ≡ word.now ++ decimal n)) }
+    ensures { MatchOption result (IsNumbered (λ n. word.now ++ decimal n) greatest line.now → ⊥)
+        (λ n. InRange greatest n × (line.now ≡ word.now ++ decimal n)) }
 {
     number_alone(line, word, greatest)
 }
@@ -29,7 +30,8 @@ fn number_line(line: &[u8], word: &[u8], greatest: u64) -> Option<u64>
 /// the line.
 pub fn next_number<'a>(bytes: &'a [u8], word: &[u8], greatest: u64) -> Option<(u64, &'a [u8])>
     requires { greatest < 2 ^ 63 }
-    ensures { MatchOption result (Lacks (IsNumbered (λ n. word.now ++ decimal n) greatest) (lines bytes.now)) (λ p. InRange greatest p.0 × (lines bytes.now ≡ (word.now ++ decimal p.0) ∷ lines p.1.now) × (length p.1.now < length bytes.now)) }
+    ensures { MatchOption result (Lacks (IsNumbered (λ n. word.now ++ decimal n) greatest) (lines bytes.now))
+        (λ p. InRange greatest p.0 × (lines bytes.now ≡ (word.now ++ decimal p.0) ∷ lines p.1.now) × (length p.1.now < length bytes.now)) }
 {
     let Some((line, rest)) = next_line(bytes) else {
         return None;

@@ -45,7 +45,8 @@ impl<H: Histories> Books<H> {
         requires since { AreSince H.content H.below H.faults H.damage self.old }
         ensures answer { IsTrue H.tells → IfOk result (λ s. s ≡ read_step (H.content self.old.histories) object at) }
         ensures in_range { IfOk result IsReadStep }
-        ensures agree { (pending : List (StampParts × Decision)) (log : List Effect) → AgreeBut H.content pending log self.old → IfOk result (λ s. AgreeBut H.content pending (read_by log object at s) self.new) }
+        ensures agree { (pending : List (StampParts × Decision)) (log : List Effect) → AgreeBut H.content pending log self.old →
+            IfOk result (λ s. AgreeBut H.content pending (read_by log object at s) self.new) }
         ensures since { AreSince H.content H.below H.faults H.damage self.new }
         ensures fault { IfErr result (HaveFault H.tells H.faults H.damage self.new) }
         ensures call { AreOfOneCall self.old self.new }
@@ -65,7 +66,8 @@ impl<H: Histories> Books<H> {
         requires value { IsValue value.now }
         requires since { AreSince H.content H.below H.faults H.damage self.old }
         ensures answer { IsTrue H.tells → IfOk result (λ s. s ≡ write_step (H.content self.old.histories) object at value.now) }
-        ensures agree { (pending : List (StampParts × Decision)) (log : List Effect) → AgreeBut H.content pending log self.old → IfOk result (λ s. AgreeBut H.content pending (wrote log object at value.now s) self.new) }
+        ensures agree { (pending : List (StampParts × Decision)) (log : List Effect) → AgreeBut H.content pending log self.old →
+            IfOk result (λ s. AgreeBut H.content pending (wrote log object at value.now s) self.new) }
         ensures since { AreSince H.content H.below H.faults H.damage self.new }
         ensures fault { IfErr result (HaveFault H.tells H.faults H.damage self.new) }
         ensures call { AreOfOneCall self.old self.new }
@@ -85,7 +87,8 @@ impl<H: Histories> Books<H> {
         requires value { IsValue value.now }
         requires since { AreSince H.content H.below H.faults H.damage self.old }
         ensures answer { IsTrue H.tells → IfOk result (λ b. b ≡ stands_written (H.content self.old.histories) object at value.now) }
-        ensures agree { (pending : List (StampParts × Decision)) (log : List Effect) → AgreeBut H.content pending log self.old → AgreeBut H.content pending log self.new }
+        ensures agree { (pending : List (StampParts × Decision)) (log : List Effect) → AgreeBut H.content pending log self.old →
+            AgreeBut H.content pending log self.new }
         ensures since { AreSince H.content H.below H.faults H.damage self.new }
         ensures fault { IfErr result (HaveFault H.tells H.faults H.damage self.new) }
         ensures call { AreOfOneCall self.old self.new }
@@ -153,7 +156,8 @@ impl<H: Histories> Books<H> {
     // A record that just began is decided, if its attempt was settled before.
     fn restore(&mut self, stamp: Stamp, early: Option<Decision>)
         ensures records { self.new.records ≡ restored early self.old.records stamp }
-        ensures rest { (self.new.histories ≡ self.old.histories) × (self.new.first.value ≡ self.old.first.value) × (self.new.early.entries ≡ self.old.early.entries) }
+        ensures rest { (self.new.histories ≡ self.old.histories) × (self.new.first.value ≡ self.old.first.value) ×
+            (self.new.early.entries ≡ self.old.early.entries) }
     {
         if let Some(decision) = early {
             self.records.restore(stamp, decision);
@@ -164,7 +168,8 @@ impl<H: Histories> Books<H> {
     pub fn decide(&mut self, stamp: Stamp, decision: Decision) -> Result<(), HistoryFault>
         requires unsettled { settle_of (H.content self.old.histories) stamp ≡ None }
         requires since { AreSince H.content H.below H.faults H.damage self.old }
-        ensures agree { (log : List Effect) (t : ℕ) → AgreeWith H.content log self.old → record_of log stamp ≡ Some (record_state.Unknown t) → OnOk result (AgreeWith H.content (effect.Decide stamp decision ∷ log) self.new) }
+        ensures agree { (log : List Effect) (t : ℕ) → AgreeWith H.content log self.old → record_of log stamp ≡ Some (record_state.Unknown t) →
+            OnOk result (AgreeWith H.content (effect.Decide stamp decision ∷ log) self.new) }
         ensures since { AreSince H.content H.below H.faults H.damage self.new }
         ensures fault { IfErr result (HaveFault H.tells H.faults H.damage self.new) }
         ensures call { AreOfOneCall self.old self.new }
@@ -178,7 +183,8 @@ impl<H: Histories> Books<H> {
     pub fn learn(&mut self, stamp: Stamp, committed: bool) -> Result<(), HistoryFault>
         requires unsettled { settle_of (H.content self.old.histories) stamp ≡ None }
         requires since { AreSince H.content H.below H.faults H.damage self.old }
-        ensures agree { (log : List Effect) → AgreeWith H.content log self.old → OnOk result (AgreeWith H.content (effect.Learn stamp committed ∷ log) self.new) }
+        ensures agree { (log : List Effect) → AgreeWith H.content log self.old →
+            OnOk result (AgreeWith H.content (effect.Learn stamp committed ∷ log) self.new) }
         ensures since { AreSince H.content H.below H.faults H.damage self.new }
         ensures fault { IfErr result (HaveFault H.tells H.faults H.damage self.new) }
         ensures call { AreOfOneCall self.old self.new }
@@ -202,7 +208,9 @@ impl<H: Histories> Books<H> {
     pub fn expire(&mut self, stamp: Stamp, decision: Decision) -> Result<(), HistoryFault>
         requires unsettled { settle_of (H.content self.old.histories) stamp ≡ None }
         requires since { AreSince H.content H.below H.faults H.damage self.old }
-        ensures agree { (rest : List (StampParts × Decision)) (log : List Effect) (t : ℕ) → AgreeBut H.content ((stamp, decision) ∷ rest) log self.old → record_of log stamp ≡ Some (record_state.Unknown t) → listed_at rest stamp ≡ None → OnOk result (AgreeBut H.content rest (effect.Decide stamp decision ∷ log) self.new) }
+        ensures agree { (rest : List (StampParts × Decision)) (log : List Effect) (t : ℕ) → AgreeBut H.content ((stamp, decision) ∷ rest) log self.old →
+            record_of log stamp ≡ Some (record_state.Unknown t) → listed_at rest stamp ≡ None →
+            OnOk result (AgreeBut H.content rest (effect.Decide stamp decision ∷ log) self.new) }
         ensures since { AreSince H.content H.below H.faults H.damage self.new }
         ensures fault { IfErr result (HaveFault H.tells H.faults H.damage self.new) }
         ensures call { AreOfOneCall self.old self.new }

@@ -202,7 +202,8 @@ impl Draft {
 
     /// Keeps an asker, once.
     pub fn add_asker(&mut self, repository: u8, stamp: Stamp) -> Result<(), AllocError>
-        ensures { OnOk result (self.new ≡ record self.old { askers = insert_key hands.asker_cmp self.old.askers (record { repository = repository; stamp = stamp }) }) }
+        ensures { OnOk result (self.new ≡
+            record self.old { askers = insert_key hands.asker_cmp self.old.askers (record { repository = repository; stamp = stamp }) }) }
     {
         self.askers.insert(Asker { repository, stamp })?;
         Ok(())

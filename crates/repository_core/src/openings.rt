@@ -18,7 +18,8 @@ pub fn open_books(
     effects: &[Effect],
 ) -> Result<(Draft, Records, BTreeMap<Stamp, Decision>), AllocError>
     requires { moment ≤ 2 ^ 63 }
-    ensures draft { IfOk result (λ r. r.0 ≡ record { number = number; past = reverse effects.now; added = []; outs = []; held = []; askers = []; moment = moment }) }
+    ensures draft { IfOk result (λ r. r.0 ≡
+        record { number = number; past = reverse effects.now; added = []; outs = []; held = []; askers = []; moment = moment }) }
     ensures agreed { IfOk result (λ r. BooksShow [] (reverse effects.now) (marks (reverse effects.now)) r.1 r.2.entries) }
 {
     let draft = open_draft(alloc, number, moment, effects)?;

@@ -65,7 +65,8 @@ impl Draft {
     ) -> Result<(), AllocError>
         requires object { IsObject object }
         requires value { IsValue value }
-        ensures { (before : List (TimeParts × HeldRead)) → OnOk result (self.new ≡ rows.read_as before (rows.unhold at self.old) from at object (read_step.Answer value stretch)) }
+        ensures { (before : List (TimeParts × HeldRead)) →
+            OnOk result (self.new ≡ rows.read_as before (rows.unhold at self.old) from at object (read_step.Answer value stretch)) }
     {
         let _in_range = at.stamp();
         self.unhold(at);

@@ -199,7 +199,8 @@ impl Model for RepositoryRest {
       is_failed = r.is_failed;
     } };
 
-    ghost invariant = { λ r. r.is_failed ≡ false → (r.draft.added ≡ []) × (r.draft.outs ≡ []) × BooksShow [] r.draft.past (marks r.draft.past) r.records r.early.entries };
+    ghost invariant = { λ r. r.is_failed ≡ false → (r.draft.added ≡ []) × (r.draft.outs ≡ []) ×
+        BooksShow [] r.draft.past (marks r.draft.past) r.records r.early.entries };
 }
 
 impl RepositoryRest {

@@ -45,7 +45,8 @@ impl<H: Histories> Work<H> {
         ensures histories { self.new.books.histories ≡ self.old.books.histories }
         ensures since { AreSince H.content H.below H.faults H.damage self.new.books }
         ensures first { self.new.books.first.value ≡ self.old.books.histories }
-        ensures agreed { (pending : List (StampParts × Decision)) (log : List Effect) → AgreeBut H.content pending log self.old.books → AgreeBut H.content pending log self.new.books }
+        ensures agreed { (pending : List (StampParts × Decision)) (log : List Effect) → AgreeBut H.content pending log self.old.books →
+            AgreeBut H.content pending log self.new.books }
     {
         self.books.first = Snapshot::of(&self.books.histories);
     }
@@ -58,7 +59,9 @@ impl<H: Histories> Work<H> {
         ensures records { OnOk result (HasSameRecords (now self.old.draft) (now self.new.draft)) }
         ensures went { HaveGoneOn H.tells H.content H.below H.faults H.damage self.old.books self.new.books result }
         ensures log { OnOk result (HasSameLog self.old.draft self.new.draft) }
-        ensures gives { IsTrue H.tells → (pending : List (StampParts × Decision)) → AgreeBut H.content pending (now self.old.draft) self.old.books → OnOk result (self.new.draft ≡ rows.read_as self.old.draft.held (rows.unhold at self.old.draft) from at object (read_step (marks (now self.old.draft)) object at)) }
+        ensures gives { IsTrue H.tells → (pending : List (StampParts × Decision)) → AgreeBut H.content pending (now self.old.draft) self.old.books →
+            OnOk result (self.new.draft ≡
+            rows.read_as self.old.draft.held (rows.unhold at self.old.draft) from at object (read_step (marks (now self.old.draft)) object at)) }
     {
         let step = self.books.read(object, at)?;
         self.draft.read_as(from, at, object, step)?;
@@ -79,7 +82,8 @@ impl<H: Histories> Work<H> {
         ensures records { OnOk result (HasSameRecords (now self.old.draft) (now self.new.draft)) }
         ensures went { HaveGoneOn H.tells H.content H.below H.faults H.damage self.old.books self.new.books result }
         ensures log { OnOk result (HasSameLog self.old.draft self.new.draft) }
-        ensures gives { IsTrue H.tells → (pending : List (StampParts × Decision)) → AgreeBut H.content pending (now self.old.draft) self.old.books → OnOk result (self.new.draft ≡ rows.on_read self.old.draft from at object) }
+        ensures gives { IsTrue H.tells → (pending : List (StampParts × Decision)) → AgreeBut H.content pending (now self.old.draft) self.old.books →
+            OnOk result (self.new.draft ≡ rows.on_read self.old.draft from at object) }
     {
         match self.books.known(at.stamp()) {
             Some(false) => self.draft.end_read(from, at)?,
@@ -97,7 +101,8 @@ impl<H: Histories> Work<H> {
         ensures records { OnOk result (HasSameRecords (now self.old.draft) (now self.new.draft)) }
         ensures went { HaveGoneOn H.tells H.content H.below H.faults H.damage self.old.books self.new.books result }
         ensures log { OnOk result (HasSameLog self.old.draft self.new.draft) }
-        ensures gives { IsTrue H.tells → (pending : List (StampParts × Decision)) → AgreeBut H.content pending (now self.old.draft) self.old.books → OnOk result (self.new.draft ≡ rows.release stamp self.old.draft) }
+        ensures gives { IsTrue H.tells → (pending : List (StampParts × Decision)) → AgreeBut H.content pending (now self.old.draft) self.old.books →
+            OnOk result (self.new.draft ≡ rows.release stamp self.old.draft) }
     {
         let released = self.draft.release(stamp)?;
         for (at, held) in &released {
@@ -121,7 +126,10 @@ impl<H: Histories> Work<H> {
         ensures agreed { OnOk result (AgreeWith H.content (now self.new.draft) self.new.books) }
         ensures went { HaveGoneOn H.tells H.content H.below H.faults H.damage self.old.books self.new.books result }
         ensures log { OnOk result (HasSameLog self.old.draft self.new.draft) }
-        ensures gives { IsTrue H.tells → OnOk result (self.new.draft ≡ rows.write_as self.old.draft from at object value.now (stands_written (marks (now self.old.draft)) object at value.now) true (write_step (marks (now self.old.draft)) object at value.now)) }
+        ensures gives { IsTrue H.tells →
+            OnOk result (self.new.draft ≡
+            rows.write_as self.old.draft from at object value.now (stands_written (marks (now self.old.draft)) object at value.now) true
+            (write_step (marks (now self.old.draft)) object at value.now)) }
     {
         let stands = self.books.stands(object, at, value)?;
         self.draft.write_known(from, at, stands)?;
@@ -143,7 +151,10 @@ impl<H: Histories> Work<H> {
         ensures agreed { OnOk result (AgreeWith H.content (now self.new.draft) self.new.books) }
         ensures went { HaveGoneOn H.tells H.content H.below H.faults H.damage self.old.books self.new.books result }
         ensures log { OnOk result (HasSameLog self.old.draft self.new.draft) }
-        ensures gives { IsTrue H.tells → OnOk result (self.new.draft ≡ rows.write_as self.old.draft from at object value.now (stands_written (marks (now self.old.draft)) object at value.now) false (write_step (marks (now self.old.draft)) object at value.now)) }
+        ensures gives { IsTrue H.tells →
+            OnOk result (self.new.draft ≡
+            rows.write_as self.old.draft from at object value.now (stands_written (marks (now self.old.draft)) object at value.now) false
+            (write_step (marks (now self.old.draft)) object at value.now)) }
     {
         let copy = value.copy(self.alloc)?;
         let step = self.books.write(object, at, value)?;
@@ -220,7 +231,10 @@ impl<H: Histories> Work<H> {
         ensures agreed { OnOk result (AgreeWith H.content (now self.new.draft) self.new.books) }
         ensures went { HaveGoneOn H.tells H.content H.below H.faults H.damage self.old.books self.new.books result }
         ensures log { OnOk result (HasSameLog self.old.draft self.new.draft) }
-        ensures gives { IsTrue H.tells → OnOk result (self.new.draft ≡ rows.release stamp (rows.tell_askers stamp (is_commit decision) (send from (message.Decided stamp decision) (note (effect.Decide stamp decision) self.old.draft)))) }
+        ensures gives { IsTrue H.tells →
+            OnOk result (self.new.draft ≡
+            rows.release stamp (rows.tell_askers stamp (is_commit decision)
+            (send from (message.Decided stamp decision) (note (effect.Decide stamp decision) self.old.draft)))) }
     {
         self.decide(stamp, decision)?;
         self.draft.decided(from, stamp, decision)?;
@@ -350,11 +364,15 @@ impl<H: Histories> Work<H> {
     fn expire(&mut self, stamp: Stamp, decision: Decision) -> Result<(), HistoryFault>
         requires unsettled { settle_of (H.content self.old.books.histories) stamp ≡ None }
         requires since { AreSince H.content H.below H.faults H.damage self.old.books }
-        ensures agreed { (rest : List (StampParts × Decision)) → IsUnknown (now self.old.draft) stamp → listed_at rest stamp ≡ None → AgreeBut H.content ((stamp, decision) ∷ rest) (now self.old.draft) self.old.books → OnOk result (AgreeBut H.content rest (now self.new.draft) self.new.books) }
+        ensures agreed { (rest : List (StampParts × Decision)) → IsUnknown (now self.old.draft) stamp → listed_at rest stamp ≡ None →
+            AgreeBut H.content ((stamp, decision) ∷ rest) (now self.old.draft) self.old.books →
+            OnOk result (AgreeBut H.content rest (now self.new.draft) self.new.books) }
         ensures records { OnOk result ((s : StampParts) → record_of (now self.new.draft) s ≡ record_of (effect.Decide stamp decision ∷ now self.old.draft) s) }
         ensures went { HaveGoneOn H.tells H.content H.below H.faults H.damage self.old.books self.new.books result }
         ensures log { OnOk result (HasSameLog self.old.draft self.new.draft) }
-        ensures gives { (rest : List (StampParts × Decision)) → IsTrue H.tells → IsUnknown (now self.old.draft) stamp → listed_at rest stamp ≡ None → AgreeBut H.content ((stamp, decision) ∷ rest) (now self.old.draft) self.old.books → OnOk result (self.new.draft ≡ rows.release stamp (rows.tell_askers stamp false (note (effect.Decide stamp decision) self.old.draft))) }
+        ensures gives { (rest : List (StampParts × Decision)) → IsTrue H.tells → IsUnknown (now self.old.draft) stamp → listed_at rest stamp ≡ None →
+            AgreeBut H.content ((stamp, decision) ∷ rest) (now self.old.draft) self.old.books →
+            OnOk result (self.new.draft ≡ rows.release stamp (rows.tell_askers stamp false (note (effect.Decide stamp decision) self.old.draft))) }
     {
         self.books.expire(stamp, decision)?;
         self.draft.expire(stamp, decision)?;

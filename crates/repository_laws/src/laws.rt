@@ -35,17 +35,23 @@ pub fn tidy_stays()
 /// and it is learned elsewhere alone.
 pub fn decided_once()
     ensures home { (r : ℕ) (log : List Effect) (s : StampParts) (d : Decision) → IsTidy r log → Has (effect.Decide s d) log → s.home ≡ r }
-    ensures cause { (r : ℕ) (log : List Effect) (s : StampParts) (d : Decision) → IsTidy r log → Has (effect.Decide s d) log → (t : ℕ) × Has (effect.Begin s t) log × IsTimely t d }
-    ensures once { (r : ℕ) (log : List Effect) (s : StampParts) (d e : Decision) → IsTidy r log → Has (effect.Decide s d) log → Has (effect.Decide s e) log → d ≡ e }
-    ensures elsewhere { (r : ℕ) (log : List Effect) (s : StampParts) (d : Decision) (c : Bool) → IsTidy r log → Has (effect.Decide s d) log → Has (effect.Learn s c) log → ⊥ }
+    ensures cause { (r : ℕ) (log : List Effect) (s : StampParts) (d : Decision) → IsTidy r log → Has (effect.Decide s d) log → (t : ℕ) ×
+        Has (effect.Begin s t) log × IsTimely t d }
+    ensures once { (r : ℕ) (log : List Effect) (s : StampParts) (d e : Decision) → IsTidy r log → Has (effect.Decide s d) log →
+        Has (effect.Decide s e) log → d ≡ e }
+    ensures elsewhere { (r : ℕ) (log : List Effect) (s : StampParts) (d : Decision) (c : Bool) → IsTidy r log → Has (effect.Decide s d) log →
+        Has (effect.Learn s c) log → ⊥ }
 {}
 
 /// What a message said of its sender's log stays true: under each effect that fits, under a whole turn
 /// or the part of it that a crash keeps, and as more messages are sent.
 pub fn messages_stay_true()
-    ensures step { (ever : List Post) (r : ℕ) (log : List Effect) (f : Effect) (to : NodeId) (m : Message) → FitsLog r log f → PostHolds ever r log to m → PostHolds ever r (f ∷ log) to m }
-    ensures through { (ever : List Post) (r : ℕ) (log added : List Effect) (to : NodeId) (m : Message) → Grew (FitsLog r) log added → PostHolds ever r log to m → PostHolds ever r (added ++ log) to m }
-    ensures more { (ever more : List Post) (r : ℕ) (log : List Effect) (to : NodeId) (m : Message) → PostHolds ever r log to m → PostHolds (ever ++ more) r log to m }
+    ensures step { (ever : List Post) (r : ℕ) (log : List Effect) (f : Effect) (to : NodeId) (m : Message) → FitsLog r log f → PostHolds ever r log to m →
+        PostHolds ever r (f ∷ log) to m }
+    ensures through { (ever : List Post) (r : ℕ) (log added : List Effect) (to : NodeId) (m : Message) → Grew (FitsLog r) log added →
+        PostHolds ever r log to m → PostHolds ever r (added ++ log) to m }
+    ensures more { (ever more : List Post) (r : ℕ) (log : List Effect) (to : NodeId) (m : Message) → PostHolds ever r log to m →
+        PostHolds (ever ++ more) r log to m }
 {}
 
 /// The causes of effects and of held reads stay, as more is sent, more ticks pass and the logs grow.
@@ -71,9 +77,12 @@ pub fn turns_keep_facts()
 /// Over every log, also over one that no calls could have left, a turn refuses a write only where the
 /// log says so.
 pub fn refusals_are_right()
-    ensures taking { (ever : List Post) (r : ℕ) (log : List Effect) (mind : Mind) (from : NodeId) (m : Message) → WasSent ever from (repository r) m → RefusesRightly ever r log (hand_turn (hand_at r log mind) (Taking from m)) }
-    ensures learning { (ever : List Post) (r : ℕ) (log : List Effect) (mind : Mind) (s : StampParts) (c : Bool) → RefusesRightly ever r log (hand_turn (hand_at r log mind) (Learning s c)) }
-    ensures hearing { (ever : List Post) (r : ℕ) (log : List Effect) (mind : Mind) (m : ℕ) → RefusesRightly ever r log (hand_turn (hand_at r log mind) (Hearing m)) }
+    ensures taking { (ever : List Post) (r : ℕ) (log : List Effect) (mind : Mind) (from : NodeId) (m : Message) → WasSent ever from (repository r) m →
+        RefusesRightly ever r log (hand_turn (hand_at r log mind) (Taking from m)) }
+    ensures learning { (ever : List Post) (r : ℕ) (log : List Effect) (mind : Mind) (s : StampParts) (c : Bool) →
+        RefusesRightly ever r log (hand_turn (hand_at r log mind) (Learning s c)) }
+    ensures hearing { (ever : List Post) (r : ℕ) (log : List Effect) (mind : Mind) (m : ℕ) →
+        RefusesRightly ever r log (hand_turn (hand_at r log mind) (Hearing m)) }
 {}
 
 /// A request that isn't ignored is answered in the turn that takes it, or, a read that waits for an

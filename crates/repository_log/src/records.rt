@@ -75,7 +75,8 @@ fn add_decision(
     effect: &Effect,
 ) -> Result<(), AllocError>
     ensures records { (whole part : List Effect) → AreDecided whole part records.old → OnOk result (AreDecided whole (effect.now ∷ part) records.new) }
-    ensures early { (whole part : List Effect) → AreDecided whole part records.old → AreKept whole part early.old.entries → OnOk result (AreKept whole (effect.now ∷ part) early.new.entries) }
+    ensures early { (whole part : List Effect) → AreDecided whole part records.old → AreKept whole part early.old.entries →
+        OnOk result (AreKept whole (effect.now ∷ part) early.new.entries) }
 {
     match decided_by(effect) {
         None => Ok(()),
@@ -94,7 +95,8 @@ fn decide_record(
     decision: Decision,
 ) -> Result<(), AllocError>
     ensures records { OnOk result (records.new ≡ settled records.old stamp decision) }
-    ensures early { OnOk result ((q : StampParts) → listed_at early.new.entries q ≡ kept_after (finite.get records.old stamp) stamp decision (listed_at early.old.entries q) q) }
+    ensures early { OnOk result ((q : StampParts) →
+        listed_at early.new.entries q ≡ kept_after (finite.get records.old stamp) stamp decision (listed_at early.old.entries q) q) }
 {
     if records.restore(stamp, decision).is_some() {
         return Ok(());

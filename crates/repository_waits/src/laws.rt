@@ -18,7 +18,8 @@ ghost use Rattle.repository_waits.specs.Waits.{Waits, AreOf, IsOf, KeepsReads, A
 /// below it whose attempt isn't decided, and the home of that attempt was asked. Each pseudotime asks
 /// for one object, and one broker asks.
 pub fn held_reads_wait()
-    ensures { (asked : TimeParts → ObjectId × NodeId) (h : Hand) (i : Input) → AreOf asked h.held → IsOf asked i → Every (Waits (now h)) h.held → KeepsReads asked h (hand_turn h i) }
+    ensures { (asked : TimeParts → ObjectId × NodeId) (h : Hand) (i : Input) → AreOf asked h.held → IsOf asked i → Every (Waits (now h)) h.held →
+        KeepsReads asked h (hand_turn h i) }
 {}
 
 /// In every turn a repository that asked how an attempt is decided is kept while it isn't, and then

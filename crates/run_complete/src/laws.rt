@@ -20,12 +20,15 @@ ghost use Rattle.run_complete.specs.Smooth.{IsFinished};
 /// An image without a spoiled page has no more pages that aren't blank than effects: each holds one
 /// or more.
 pub fn law_few_pages()
-    ensures { (image : Image) (log : List Effect) → Every (λ (page : List ℕ). state_of page ≢ Spoiled) image → storage image ≡ Ok log → length image ≤ count_by is_blank image + length log }
+    ensures { (image : Image) (log : List Effect) → Every (λ (page : List ℕ). state_of page ≢ Spoiled) image → storage image ≡ Ok log →
+        length image ≤ count_by is_blank image + length log }
 {}
 
 /// Where the durable log of each broker has begun all acts of the broker, and each of these has its
 /// outcome, each act of the plan is shown with an outcome.
 pub fn law_done_is_finished()
     ensures { (plan : Plan) (logs : NodeId → List Effect) → IsOfLanguage plan →
-        ((b : ℕ) → InRange plan.brokers b → AllBegun plan b (counted_by plan b (logs (broker b))) × Every HasOutcome (counted_by plan b (logs (broker b))).acts) → Every IsFinished (acts_shown plan logs) }
+        ((b : ℕ) → InRange plan.brokers b →
+        AllBegun plan b (counted_by plan b (logs (broker b))) × Every HasOutcome (counted_by plan b (logs (broker b))).acts) →
+        Every IsFinished (acts_shown plan logs) }
 {}

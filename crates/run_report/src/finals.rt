@@ -120,7 +120,8 @@ pub fn finals_of(
     begun: &[BegunAct],
 ) -> Result<Vec<Final>, AllocError>
     requires { IsOfLanguage plan.now }
-    ensures { kept begun.now ≡ map act_parts (begun_to plan.now (logs_by logs.now) plan.now.brokers) → IfOk result (λ finals. finals.items ≡ finals_shown plan.now (logs_by logs.now)) }
+    ensures { kept begun.now ≡ map act_parts (begun_to plan.now (logs_by logs.now) plan.now.brokers) →
+        IfOk result (λ finals. finals.items ≡ finals_shown plan.now (logs_by logs.now)) }
 {
     let deeds = deeds_of(alloc, plan.repositories, logs, begun)?;
     let objects = carry_out_all(alloc, plan.acts.as_slice(), &deeds)?;

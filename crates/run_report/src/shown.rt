@@ -90,7 +90,14 @@ fn tries_of(
 
 // An act with these attempts.
 fn act_with(act: &ActSpec, tries: Vec<TryReport>, spent: Option<u64>) -> ActReport
-    ensures { result ≡ record { index = act.now.index; broker = act.now.broker; home = act.now.home; allowed = act.now.tries; tries = tries.items; spent = spent } }
+    ensures { result ≡ record {
+      index = act.now.index;
+      broker = act.now.broker;
+      home = act.now.home;
+      allowed = act.now.tries;
+      tries = tries.items;
+      spent = spent;
+    } }
 {
     ActReport {
         index: act.index,
@@ -155,7 +162,8 @@ pub fn acts_of_plan(
     begun: Vec<BegunAct>,
 ) -> Result<Vec<ActReport>, AllocError>
     requires { IsOfLanguage plan.now }
-    ensures { (logs : NodeId → List Effect) → kept begun.items ≡ map act_parts (begun_to plan.now logs plan.now.brokers) → IfOk result (λ shown. shown.items ≡ acts_shown plan.now logs) }
+    ensures { (logs : NodeId → List Effect) → kept begun.items ≡ map act_parts (begun_to plan.now logs plan.now.brokers) →
+        IfOk result (λ shown. shown.items ≡ acts_shown plan.now logs) }
 {
     told_acts(alloc, plan.acts.as_slice(), begun)
 }

@@ -42,7 +42,8 @@ pub fn rounds<
     requires empty { (media.items ≡ []) × (passes.items ≡ []) }
     requires room { (vec_len nodes ≤ vec_capacity media) × (vec_len nodes < vec_capacity passes) }
     ensures passes { All (IsWirePass wire.now.lock) result.passes.items }
-    ensures gone { HaveGone (media_with M.tells M.reads M.may_leave M.page_count M.faults M.is_failed) limits nodes.items result.reason result.media.items result.passes.items }
+    ensures gone { HaveGone (media_with M.tells M.reads M.may_leave M.page_count M.faults M.is_failed) limits nodes.items result.reason result.media.items
+        result.passes.items }
 {
     let count = nodes.len();
     let (nodes, shares) = deal(nodes, shares);

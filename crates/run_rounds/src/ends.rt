@@ -58,7 +58,8 @@ pub fn closed_run<F: Fates, C: Clock, M: Medium>(
 ) -> Finished<F, C, M>
     requires passes { All (IsWirePass wire.lock) ended.passes.items }
     requires all { vec_len ended.passes ≡ length (base_of wire.lock).origin.opened + 1 }
-    ensures closed { IfRan result.end (λ t. ClosedAs M.tells (base_of wire.lock).origin ended.passes.items ended.reason t (F.asked result.fates) (C.answers result.clock)) }
+    ensures closed { IfRan result.end (λ t.
+        ClosedAs M.tells (base_of wire.lock).origin ended.passes.items ended.reason t (F.asked result.fates) (C.answers result.clock)) }
     ensures media { result.media ≡ ended.media.items }
 {
     let Ended {

@@ -77,7 +77,8 @@ fn with_nodes<
     media: Vec<Option<M>>,
 ) -> Finished<F, C, M>
     requires plan { IsOfLanguage plan.now }
-    requires set_up { IsSetUp plan.now openings.items (base_of begun.wire.lock).origin.asked (base_of begun.wire.lock).origin.answers (base_of begun.wire.lock).origin }
+    requires set_up { IsSetUp plan.now openings.items (base_of begun.wire.lock).origin.asked (base_of begun.wire.lock).origin.answers
+        (base_of begun.wire.lock).origin }
     requires start { begun.start ≡ (base_of begun.wire.lock).origin.start }
     requires passes { All (IsWirePass begun.wire.lock) begun.passes.items }
     requires fresh { map knows begun.passes.items ≡ fresh_for (base_of begun.wire.lock) (base_of begun.wire.lock).origin.opened }
@@ -89,7 +90,10 @@ fn with_nodes<
     requires room { vec_len openings ≤ vec_capacity media }
     requires workers { 1 ≤ limits.workers }
     requires sound { All (IsSound (media_with M.tells M.reads M.may_leave M.page_count M.faults M.is_failed)) openings.items }
-    ensures { (first : List (Option M)) → AllZip (HasOpened (media_with M.tells M.reads M.may_leave M.page_count M.faults M.is_failed)) first openings.items → EndsAs (media_with M.tells M.reads M.may_leave M.page_count M.faults M.is_failed) limits.ticks limits.messages plan.now (tellers (base_of begun.wire.lock).origin.asked (F.asked result.fates) (base_of begun.wire.lock).origin.answers (C.answers result.clock)) first result.media result.end }
+    ensures { (first : List (Option M)) → AllZip (HasOpened (media_with M.tells M.reads M.may_leave M.page_count M.faults M.is_failed)) first openings.items →
+        EndsAs (media_with M.tells M.reads M.may_leave M.page_count M.faults M.is_failed) limits.ticks limits.messages plan.now
+        (tellers (base_of begun.wire.lock).origin.asked (F.asked result.fates) (base_of begun.wire.lock).origin.answers
+        (C.answers result.clock)) first result.media result.end }
 {
     let Begun {
         wire,
@@ -140,7 +144,8 @@ fn run_nodes<
     requires pass { IsWirePass wire.lock conductor × ((knows conductor).owner ≡ 0) × (tick_count (knows conductor).own ≡ 0) }
     requires empty { (media.items ≡ []) × (passes.items ≡ []) }
     requires room { (vec_len nodes ≤ vec_capacity media) × (vec_len nodes < vec_capacity passes) }
-    ensures { HasRun (media_with M.tells M.reads M.may_leave M.page_count M.faults M.is_failed) wire.lock limits nodes.items result.media result.end (F.asked result.fates) (C.answers result.clock) }
+    ensures { HasRun (media_with M.tells M.reads M.may_leave M.page_count M.faults M.is_failed) wire.lock limits nodes.items result.media result.end
+        (F.asked result.fates) (C.answers result.clock) }
 {
     let ended = rounds(rt, &wire, limits, nodes, shares, conductor, media, passes);
     closed_run(wire, ended)
@@ -180,7 +185,8 @@ fn without_nodes<F: Fates, C: Clock, M: Medium, R: Wait>(
     media: Vec<Option<M>>,
 ) -> Finished<F, C, M>
     requires plan { IsOfLanguage plan.now }
-    requires set_up { IsSetUp plan.now openings.items (base_of begun.wire.lock).origin.asked (base_of begun.wire.lock).origin.answers (base_of begun.wire.lock).origin }
+    requires set_up { IsSetUp plan.now openings.items (base_of begun.wire.lock).origin.asked (base_of begun.wire.lock).origin.answers
+        (base_of begun.wire.lock).origin }
     requires start { begun.start ≡ (base_of begun.wire.lock).origin.start }
     requires passes { All (IsWirePass begun.wire.lock) begun.passes.items }
     requires fresh { map knows begun.passes.items ≡ fresh_for (base_of begun.wire.lock) (base_of begun.wire.lock).origin.opened }
@@ -191,7 +197,11 @@ fn without_nodes<F: Fates, C: Clock, M: Medium, R: Wait>(
     requires empty { media.items ≡ [] }
     requires room { vec_len openings ≤ vec_capacity media }
     requires shut { (place : _) × (opening : _) × (slice_get openings.items place ≡ Some opening) × (IsOpen opening → ⊥) }
-    ensures { (most_ticks enough : ℕ) (first : List (Option M)) → AllZip (HasOpened (media_with M.tells M.reads M.may_leave M.page_count M.faults M.is_failed)) first openings.items → EndsAs (media_with M.tells M.reads M.may_leave M.page_count M.faults M.is_failed) most_ticks enough plan.now (tellers (base_of begun.wire.lock).origin.asked (F.asked result.fates) (base_of begun.wire.lock).origin.answers (C.answers result.clock)) first result.media result.end }
+    ensures { (most_ticks enough : ℕ) (first : List (Option M)) →
+        AllZip (HasOpened (media_with M.tells M.reads M.may_leave M.page_count M.faults M.is_failed)) first openings.items →
+        EndsAs (media_with M.tells M.reads M.may_leave M.page_count M.faults M.is_failed) most_ticks enough plan.now
+        (tellers (base_of begun.wire.lock).origin.asked (F.asked result.fates) (base_of begun.wire.lock).origin.answers
+        (C.answers result.clock)) first result.media result.end }
 {
     let Begun {
         wire,
@@ -233,7 +243,8 @@ pub fn run<
     requires count { length media.items ≡ node_count plan.now }
     requires usable { All (IsUsable (media_with M.tells M.reads M.may_leave M.page_count M.faults M.is_failed)) media.items }
     requires workers { 1 ≤ limits.workers }
-    ensures { EndsAs (media_with M.tells M.reads M.may_leave M.page_count M.faults M.is_failed) limits.ticks limits.messages plan.now (tellers (F.asked fates) (F.asked result.fates) (C.answers clock) (C.answers result.clock)) media.items result.media result.end }
+    ensures { EndsAs (media_with M.tells M.reads M.may_leave M.page_count M.faults M.is_failed) limits.ticks limits.messages plan.now
+        (tellers (F.asked fates) (F.asked result.fates) (C.answers clock) (C.answers result.clock)) media.items result.media result.end }
 {
     let Ok(room) = Vec::with_capacity(alloc, media.len()) else {
         return Finished {

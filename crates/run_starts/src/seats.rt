@@ -127,13 +127,18 @@ fn seat<F: Fates, C: Clock, M: Medium>(
     requires plan { IsOfLanguage plan.now }
     requires place { place < order.node_count plan.now }
     requires can { CanSeat (media_with M.tells M.reads M.may_leave M.page_count M.faults M.is_failed) plan.now start place opening pass }
-    requires whole { seated.is_whole ≡ true → (vec_len seated.nodes ≡ place) × (vec_len seated.nodes < vec_capacity seated.nodes) × (seated.media.items ≡ []) × (seated.passes.items ≡ []) }
+    requires whole { seated.is_whole ≡ true → (vec_len seated.nodes ≡ place) × (vec_len seated.nodes < vec_capacity seated.nodes) ×
+        (seated.media.items ≡ []) × (seated.passes.items ≡ []) }
     requires back { seated.is_whole ≡ false → (vec_len seated.media ≡ place) × (vec_len seated.passes ≡ place) }
     requires room { (place < vec_capacity seated.media) × (place < vec_capacity seated.passes) }
-    ensures new { result.is_whole ≡ true → (seated.is_whole ≡ true) × ((n : _) × (result.nodes.items ≡ seated.nodes.items ++ n ∷ []) × IsNewNode plan.now place opening n × (n.pass ≡ pass)) }
+    ensures new { result.is_whole ≡ true → (seated.is_whole ≡ true) ×
+        ((n : _) × (result.nodes.items ≡ seated.nodes.items ++ n ∷ []) × IsNewNode plan.now place opening n × (n.pass ≡ pass)) }
     ensures emptied { result.is_whole ≡ true → (result.media.items ≡ []) × (result.passes.items ≡ []) }
-    ensures back { result.is_whole ≡ false → seated.is_whole ≡ true → (result.media.items ≡ map (λ n. Some n.medium) seated.nodes.items ++ medium_in opening ∷ []) × (result.passes.items ≡ map (λ n. n.pass) seated.nodes.items ++ pass ∷ []) }
-    ensures more { result.is_whole ≡ false → seated.is_whole ≡ false → (result.media.items ≡ seated.media.items ++ medium_in opening ∷ []) × (result.passes.items ≡ seated.passes.items ++ pass ∷ []) }
+    ensures back { result.is_whole ≡ false → seated.is_whole ≡ true →
+        (result.media.items ≡ map (λ n. Some n.medium) seated.nodes.items ++ medium_in opening ∷ []) ×
+        (result.passes.items ≡ map (λ n. n.pass) seated.nodes.items ++ pass ∷ []) }
+    ensures more { result.is_whole ≡ false → seated.is_whole ≡ false → (result.media.items ≡ seated.media.items ++ medium_in opening ∷ []) ×
+        (result.passes.items ≡ seated.passes.items ++ pass ∷ []) }
     ensures room { (vec_capacity result.media ≡ vec_capacity seated.media) × (vec_capacity result.passes ≡ vec_capacity seated.passes) }
     ensures room_left { result.is_whole ≡ true → vec_capacity result.nodes ≡ vec_capacity seated.nodes }
 {

@@ -23,7 +23,8 @@ pub fn law_of_lines()
 /// What is parsed, printed and parsed again is the script that it was: for the text that `print` gives
 /// of a script that `parse` gave, `parse` gives just that script, or memory is wanting.
 pub fn law_of_reading_again()
-    ensures { (greatest : ℕ) (ls : List (List ℕ)) (script : Script) (result : Result Script ParseFault) → Parses greatest ls (Ok script) → Parses greatest (lines (script_text (block script.lines))) result → GivesAgain script result }
+    ensures { (greatest : ℕ) (ls : List (List ℕ)) (script : Script) (result : Result Script ParseFault) → Parses greatest ls (Ok script) →
+        Parses greatest (lines (script_text (block script.lines))) result → GivesAgain script result }
 {}
 
 /// The first lines of a script begin a script, and so a fault says that the lines are none: those up
@@ -31,8 +32,12 @@ pub fn law_of_reading_again()
 /// script.
 pub fn law_of_faults()
     ensures begin { (greatest : ℕ) (ls more : List (List ℕ)) (script : Block) → IsScriptLines greatest (ls ++ more) script → BeginScript greatest ls }
-    ensures there { (greatest : ℕ) (ls : List (List ℕ)) (line : ℕ) (what : ParseKind) → FaultAt greatest ls line what → BeginScript greatest (take line ls) → ⊥ }
-    ensures first { (greatest : ℕ) (ls : List (List ℕ)) (line : ℕ) (what : ParseKind) → FaultAt greatest ls line what → (m : ℕ) → m < line → BeginScript greatest (take m ls) }
-    ensures none { (greatest : ℕ) (ls : List (List ℕ)) (line : ℕ) (what : ParseKind) (script : Block) → FaultAt greatest ls line what → IsScriptLines greatest ls script → ⊥ }
-    ensures open_block { (greatest : ℕ) (ls : List (List ℕ)) (line : ℕ) (what : ParseKind) (script : Block) → FaultBehind greatest ls line what → IsScriptLines greatest ls script → ⊥ }
+    ensures there { (greatest : ℕ) (ls : List (List ℕ)) (line : ℕ) (what : ParseKind) → FaultAt greatest ls line what →
+        BeginScript greatest (take line ls) → ⊥ }
+    ensures first { (greatest : ℕ) (ls : List (List ℕ)) (line : ℕ) (what : ParseKind) → FaultAt greatest ls line what → (m : ℕ) → m < line →
+        BeginScript greatest (take m ls) }
+    ensures none { (greatest : ℕ) (ls : List (List ℕ)) (line : ℕ) (what : ParseKind) (script : Block) → FaultAt greatest ls line what →
+        IsScriptLines greatest ls script → ⊥ }
+    ensures open_block { (greatest : ℕ) (ls : List (List ℕ)) (line : ℕ) (what : ParseKind) (script : Block) → FaultBehind greatest ls line what →
+        IsScriptLines greatest ls script → ⊥ }
 {}

@@ -33,7 +33,8 @@ impl Machine {
     pub fn enter(&mut self, part: Part) -> Result<(), AllocError>
         requires left { 0 < self.old.left }
         requires at { self.old.at + 1 < 2 ^ 64 }
-        ensures ok { OnOk result (self.new ≡ record self.old { left = self.old.left - 1; at = 0; path = (record { after = self.old.at + 1; part = part }) ∷ self.old.path }) }
+        ensures ok { OnOk result (self.new ≡
+            record self.old { left = self.old.left - 1; at = 0; path = (record { after = self.old.at + 1; part = part }) ∷ self.old.path }) }
         ensures err { OnErr result (self.new ≡ self.old) }
     {
         let frame = Frame {

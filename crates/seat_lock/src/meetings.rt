@@ -14,7 +14,8 @@ impl<T: Storied> SeatLock<T> {
         ensures pass { IsPassOf self.now one.new × IsPassOf self.now other.new }
         ensures other { other.new.me ≡ other.old.me }
         ensures one { one.new.me.0 ≡ record one.old.me.0 { story = longer one.old.me.0.story other.old.me.0.story; heard = one.new.me.0.heard } }
-        ensures learned { Begins one.old.me.0.story one.new.me.0.story × Begins other.old.me.0.story one.new.me.0.story × HasOwn T.owner one.old.me.0.parts one.new.me.0.story }
+        ensures learned { Begins one.old.me.0.story one.new.me.0.story × Begins other.old.me.0.story one.new.me.0.story ×
+            HasOwn T.owner one.old.me.0.parts one.new.me.0.story }
     {
         let shared = &self.table.shared;
         let note = shared.split_seat::<Tell>(other);

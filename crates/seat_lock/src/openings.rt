@@ -54,7 +54,8 @@ impl<T: Storied> SeatLock<T> {
         requires owners { (0 < length owners.now) × AllPairs (λ a b. a ≢ b) owners.now }
         requires state { T.stands state state × (T.story state ≡ []) }
         ensures lock { IfOk result (λ r. (owners_of r.0 ≡ owners.now) × (base_of r.0 ≡ state) × (board_size r.0 ≡ words)) }
-        ensures seat { IfOk result (λ r. (r.1.table_id ≡ r.0.table.shared.table_id) × ((b : Snapshot T) × (b.value ≡ state) × (r.1.me ≡ (founder b owners.now, [])))) }
+        ensures seat { IfOk result (λ r. (r.1.table_id ≡ r.0.table.shared.table_id) ×
+            ((b : Snapshot T) × (b.value ≡ state) × (r.1.me ≡ (founder b owners.now, [])))) }
         ensures err { IfErr result (λ e. e.0 ≡ state) }
     {
         let Ok(names) = Vec::from_slice(alloc, owners) else {

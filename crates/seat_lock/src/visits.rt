@@ -18,7 +18,10 @@ impl<T: Storied> Visit<'_, T> {
         ensures lock { lock_of self.new ≡ lock_of self.old }
         ensures inside { (x : T) → IsInside self.old x → IsInside self.new x }
         ensures noted { has_noted self.new ≡ true }
-        ensures sees { sees self.new ≡ record (sees self.old) { story = (sees self.old).story ++ entry.now ∷ []; own = (sees self.old).own ++ entry.now ∷ [] } }
+        ensures sees { sees self.new ≡ record (sees self.old) {
+          story = (sees self.old).story ++ entry.now ∷ [];
+          own = (sees self.old).own ++ entry.now ∷ [];
+        } }
     {
         let _ = entry;
         self.lock

@@ -49,7 +49,8 @@ pub fn law_before()
 /// Whatever was sent before a place, in the trace or in the past, the log of its sender agrees with there.
 /// What a read was answered, a read at that time would see there still, unless its attempt was aborted.
 pub fn law_acknowledged()
-    ensures sight { (p : Position) (r : ℕ) (to : NodeId) (t : TimeParts) (v : Value) → Has (record { from = repository r; to = to; message = message.Value t v }) (sent_before p)
+    ensures sight { (p : Position) (r : ℕ) (to : NodeId) (t : TimeParts) (v : Value) →
+        Has (record { from = repository r; to = to; message = message.Value t v }) (sent_before p)
         → (o : ObjectId) × SeesStill (marks (log_at p (repository r))) o t v }
     ensures logs { (p : Position) (q : Post) → Has q (sent_before p) → Acknowledges (sent_before p) q.from (log_at p q.from) q.message }
 {}
@@ -64,8 +65,10 @@ pub fn law_acknowledged()
 /// script, or that no clock was left.
 pub fn law_causes()
     ensures ends { (p : Position) → Causes (run_at p) (TickedBefore p) (AnsweredBefore p) }
-    ensures spent { (p : Position) (b i c : ℕ) (late early : List Effect) → log_at p (broker b) ≡ late ++ (effect.End i (outcome.Spent c) ∷ early) → MayTry i (book early).acts (IsSpent (book early) c) }
+    ensures spent { (p : Position) (b i c : ℕ) (late early : List Effect) → log_at p (broker b) ≡ late ++ (effect.End i (outcome.Spent c) ∷ early) →
+        MayTry i (book early).acts (IsSpent (book early) c) }
     ensures limits { (p : Position) (b : ℕ) → Every IsWithinLimits (book (log_at p (broker b))).acts }
-    ensures added { (p : AnyPlace) (b i : ℕ) (o : Outcome) (late early : List Effect) → any_log p (broker b) ≡ late ++ (effect.End i o ∷ (early ++ log_before p.trace (broker b))) →
+    ensures added { (p : AnyPlace) (b i : ℕ) (o : Outcome) (late early : List Effect) →
+        any_log p (broker b) ≡ late ++ (effect.End i o ∷ (early ++ log_before p.trace (broker b))) →
         EndCause p b (early ++ log_before p.trace (broker b)) i o }
 {}

@@ -16,7 +16,11 @@ ghost use Rattle.serial_model.specs.Questions.{Tree, denote, walk, talked_alone,
 
 /// A script alone, and a script with a list of answers, are what its tree of questions says.
 pub fn law_of_questions()
-    ensures alone { (script : Block) (m : Objects) → meaning.perform script m ≡ (record { stop = (talked_alone (denote script) m).stop; lines = (talked_alone (denote script) m).lines; world = left_by (denote script) m }) }
+    ensures alone { (script : Block) (m : Objects) → meaning.perform script m ≡ (record {
+      stop = (talked_alone (denote script) m).stop;
+      lines = (talked_alone (denote script) m).lines;
+      world = left_by (denote script) m;
+    }) }
     ensures answered { (script : Block) (ans : List Answer) → IsTalkOf (talked (denote script) ans) (meaning.talk script ans) }
     ensures stops { (t : Tree) (ans : List Answer) → (talked t ans).stop ≡ stop t ans }
 {}
@@ -25,9 +29,13 @@ pub fn law_of_questions()
 /// of its transcript, and stops at the request of the next line that is no print; and more answers
 /// only extend a transcript.
 pub fn law_of_answers()
-    ensures whole { (script : Block) (m : Objects) → IsTalkOf (talked_alone (denote script) m) (meaning.talk script (answers_of (meaning.perform script m).lines)) }
-    ensures front { (script : Block) (m : Objects) (before rest : List Line) (l : Line) (q : Request) → (meaning.perform script m).lines ≡ before ++ (l ∷ rest) → request_of l ≡ Some q → IsTalkOf (record { lines = before; stop = Asks q }) (meaning.talk script (answers_of before)) }
-    ensures fronts { (lines : List Line) (pre post : List Answer) (a : Answer) → answers_of lines ≡ pre ++ (a ∷ post) → (before : List Line) × (l : Line) × (rest : List Line) × (q : Request) × (lines ≡ before ++ (l ∷ rest)) × (request_of l ≡ Some q) × (answers_of before ≡ pre) }
+    ensures whole { (script : Block) (m : Objects) →
+        IsTalkOf (talked_alone (denote script) m) (meaning.talk script (answers_of (meaning.perform script m).lines)) }
+    ensures front { (script : Block) (m : Objects) (before rest : List Line) (l : Line) (q : Request) →
+        (meaning.perform script m).lines ≡ before ++ (l ∷ rest) → request_of l ≡ Some q →
+        IsTalkOf (record { lines = before; stop = Asks q }) (meaning.talk script (answers_of before)) }
+    ensures fronts { (lines : List Line) (pre post : List Answer) (a : Answer) → answers_of lines ≡ pre ++ (a ∷ post) → (before : List Line) × (l : Line) ×
+        (rest : List Line) × (q : Request) × (lines ≡ before ++ (l ∷ rest)) × (request_of l ≡ Some q) × (answers_of before ≡ pre) }
     ensures more { (script : Block) (ans more : List Answer) → IsFrontOf (meaning.talk script ans).lines (meaning.talk script (ans ++ more)).lines }
 {}
 
@@ -37,10 +45,14 @@ pub fn law_of_answers()
 /// those that it has alone over the map.
 pub fn law_of_agreement()
     ensures begins { (t : Tree) (m : Objects) → AnswersOf t [] m × (left_after t [] m ≡ m) }
-    ensures read { (t : Tree) (ans : List Answer) (m : Objects) (o : ObjectId) → AnswersOf t ans m → stop t ans ≡ Asks (ToRead o) → AnswersOf t (ans ++ Got (value_at (left_after t ans m) o) ∷ []) m × (left_after t (ans ++ Got (value_at (left_after t ans m) o) ∷ []) m ≡ left_after t ans m) }
-    ensures write { (t : Tree) (ans : List Answer) (m : Objects) (o : ObjectId) (a : Value) → AnswersOf t ans m → stop t ans ≡ Asks (ToWrite o a) → AnswersOf t (ans ++ Stored ∷ []) m × (left_after t (ans ++ Stored ∷ []) m ≡ finite.insert (left_after t ans m) o a) }
+    ensures read { (t : Tree) (ans : List Answer) (m : Objects) (o : ObjectId) → AnswersOf t ans m → stop t ans ≡ Asks (ToRead o) →
+        AnswersOf t (ans ++ Got (value_at (left_after t ans m) o) ∷ []) m ×
+        (left_after t (ans ++ Got (value_at (left_after t ans m) o) ∷ []) m ≡ left_after t ans m) }
+    ensures write { (t : Tree) (ans : List Answer) (m : Objects) (o : ObjectId) (a : Value) → AnswersOf t ans m → stop t ans ≡ Asks (ToWrite o a) →
+        AnswersOf t (ans ++ Stored ∷ []) m × (left_after t (ans ++ Stored ∷ []) m ≡ finite.insert (left_after t ans m) o a) }
     ensures few { (script : Block) (ans : List Answer) (m : Objects) → AnswersOf (denote script) ans m → length ans ≤ 10000 }
-    ensures whole { (t : Tree) (ans : List Answer) (m : Objects) (e : Ending) → AnswersOf t ans m → stop t ans ≡ Over e → (talked_alone t m ≡ talked t ans) × (left_by t m ≡ left_after t ans m) }
+    ensures whole { (t : Tree) (ans : List Answer) (m : Objects) (e : Ending) → AnswersOf t ans m → stop t ans ≡ Over e → (talked_alone t m ≡ talked t ans) ×
+        (left_by t m ≡ left_after t ans m) }
 {}
 
 /// Answers of which each is to what the script asks after those before it: one more may follow where
@@ -57,7 +69,8 @@ pub fn law_of_asking()
 /// a line that an outcome can say.
 pub fn law_of_requests()
     ensures requests { (script : Block) → BlockInRange script → AsksInRange (denote script) }
-    ensures stops { (script : Block) (answers : List Answer) → BlockInRange script → Every AnswerHasBytes answers → StopInRange (meaning.talk script answers).stop }
+    ensures stops { (script : Block) (answers : List Answer) → BlockInRange script → Every AnswerHasBytes answers →
+        StopInRange (meaning.talk script answers).stop }
     ensures after { (t : Tree) (answers : List Answer) → AsksInRange t → Every AnswerHasBytes answers → StopInRange (stop t answers) }
 {}
 

@@ -64,7 +64,8 @@ fn write(
     work: &mut Work,
 ) -> Result<Option<Ending>, AllocError>
     requires { IsSpot (spot place.now) × IsTerm (term expression.now) }
-    ensures { IfOk result (λ r. meaning.begun meaning.over_objects (Write line (spot place.now) (term expression.now)) (state_of work.old) ≡ came_to r work.new) }
+    ensures { IfOk result (λ r. meaning.begun meaning.over_objects (Write line (spot place.now) (term expression.now)) (state_of work.old) ≡
+        came_to r work.new) }
 {
     match object_at(alloc, &work.names, place)? {
         Ok(object) => match evaluate(alloc, &work.names, expression)? {
@@ -122,7 +123,8 @@ fn turns(
     work: &mut Work,
 ) -> Result<Option<Ending>, AllocError>
     requires { IsBlock (block part.now) }
-    ensures { IfOk result (λ r. meaning.turns meaning.over_objects count (meaning.all_done meaning.over_objects (block part.now)) (state_of work.old) ≡ came_to r work.new) }
+    ensures { IfOk result (λ r. meaning.turns meaning.over_objects count (meaning.all_done meaning.over_objects (block part.now)) (state_of work.old) ≡
+        came_to r work.new) }
 {
     'turns: for _turn in 0..count {
         match all(alloc, part, work)? {

@@ -8,7 +8,8 @@ use value_form::{Bytes, ObjectId};
 
 /// The name at the front, and what is behind it.
 pub fn name_of(tokens: &[Token]) -> Option<(&Bytes, &[Token])>
-    ensures { MatchOption result ((name : List ℕ) (rest : List Token) → tokens.now ≡ Token.Name name ∷ rest → ⊥) (λ p. tokens.now ≡ Token.Name p.0.now ∷ p.1.now) }
+    ensures { MatchOption result ((name : List ℕ) (rest : List Token) → tokens.now ≡ Token.Name name ∷ rest → ⊥)
+        (λ p. tokens.now ≡ Token.Name p.0.now ∷ p.1.now) }
 {
     match tokens.split_first() {
         Some((Token::Name(name), rest)) => Some((name, rest)),
@@ -18,7 +19,8 @@ pub fn name_of(tokens: &[Token]) -> Option<(&Bytes, &[Token])>
 
 /// What is behind an `=` at the front.
 pub fn behind_equal(tokens: &[Token]) -> Option<&[Token]>
-    ensures { MatchOption result ((rest : List Token) → tokens.now ≡ Token.Sign Sign.Equal ∷ rest → ⊥) (λ rest. tokens.now ≡ Token.Sign Sign.Equal ∷ rest.now) }
+    ensures { MatchOption result ((rest : List Token) → tokens.now ≡ Token.Sign Sign.Equal ∷ rest → ⊥)
+        (λ rest. tokens.now ≡ Token.Sign Sign.Equal ∷ rest.now) }
 {
     match tokens.split_first() {
         Some((Token::Sign(Sign::Equal), rest)) => Some(rest),

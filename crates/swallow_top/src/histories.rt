@@ -69,7 +69,10 @@ pub fn tell_history<O: Sink, S: Shelf>(
     sink: &mut O,
     shelf: &mut S,
 ) -> (u8, Vec<Kept<S::Medium>>)
-    ensures { TellsHistory (media_with S.Medium.tells S.Medium.reads S.Medium.may_leave S.Medium.page_count S.Medium.faults S.Medium.is_failed) (shelf_sight (S.holds shelf.old) (S.may_hold shelf.old) (S.medium_faults shelf.old) (S.is_taken shelf.old) (S.faults shelf.old)) (shelf_sight (S.holds shelf.new) (S.may_hold shelf.new) (S.medium_faults shelf.new) (S.is_taken shelf.new) (S.faults shelf.new)) object result.1.items (sinking (O.taken sink.old) (O.taken sink.new) (O.faults sink.old) (O.faults sink.new)) result.0 }
+    ensures { TellsHistory (media_with S.Medium.tells S.Medium.reads S.Medium.may_leave S.Medium.page_count S.Medium.faults S.Medium.is_failed)
+        (shelf_sight (S.holds shelf.old) (S.may_hold shelf.old) (S.medium_faults shelf.old) (S.is_taken shelf.old) (S.faults shelf.old))
+        (shelf_sight (S.holds shelf.new) (S.may_hold shelf.new) (S.medium_faults shelf.new) (S.is_taken shelf.new) (S.faults shelf.new)) object result.1.items
+        (sinking (O.taken sink.old) (O.taken sink.new) (O.faults sink.old) (O.faults sink.new)) result.0 }
 {
     let Ok(kept) = Vec::with_capacity(alloc, 1) else {
         return (7, Vec::new(alloc));

@@ -13,7 +13,9 @@ use run_media::node_at;
 
 /// Takes the medium of a node. None where the shelf gives none.
 pub fn take_one<S: Shelf>(shelf: &mut S, node: NodeId) -> Option<S::Medium>
-    ensures { TakesOne (media_with S.Medium.tells S.Medium.reads S.Medium.may_leave S.Medium.page_count S.Medium.faults S.Medium.is_failed) (shelf_sight (S.holds shelf.old) (S.may_hold shelf.old) (S.medium_faults shelf.old) (S.is_taken shelf.old) (S.faults shelf.old)) (shelf_sight (S.holds shelf.new) (S.may_hold shelf.new) (S.medium_faults shelf.new) (S.is_taken shelf.new) (S.faults shelf.new)) node result }
+    ensures { TakesOne (media_with S.Medium.tells S.Medium.reads S.Medium.may_leave S.Medium.page_count S.Medium.faults S.Medium.is_failed)
+        (shelf_sight (S.holds shelf.old) (S.may_hold shelf.old) (S.medium_faults shelf.old) (S.is_taken shelf.old) (S.faults shelf.old))
+        (shelf_sight (S.holds shelf.new) (S.may_hold shelf.new) (S.medium_faults shelf.new) (S.is_taken shelf.new) (S.faults shelf.new)) node result }
 {
     match shelf.take(node.kind, node.number, 0) {
         Ok(medium) => Some(medium),
@@ -32,7 +34,10 @@ pub fn take_all<S: Shelf>(
     requires within { count ≤ order.node_count plan.now }
     requires empty { media.items ≡ [] }
     requires room { count ≤ vec_capacity media }
-    ensures taken { WereTaken (media_with S.Medium.tells S.Medium.reads S.Medium.may_leave S.Medium.page_count S.Medium.faults S.Medium.is_failed) (shelf_sight (S.holds shelf.old) (S.may_hold shelf.old) (S.medium_faults shelf.old) (S.is_taken shelf.old) (S.faults shelf.old)) (shelf_sight (S.holds shelf.new) (S.may_hold shelf.new) (S.medium_faults shelf.new) (S.is_taken shelf.new) (S.faults shelf.new)) plan.now result.items }
+    ensures taken { WereTaken (media_with S.Medium.tells S.Medium.reads S.Medium.may_leave S.Medium.page_count S.Medium.faults S.Medium.is_failed)
+        (shelf_sight (S.holds shelf.old) (S.may_hold shelf.old) (S.medium_faults shelf.old) (S.is_taken shelf.old) (S.faults shelf.old))
+        (shelf_sight (S.holds shelf.new) (S.may_hold shelf.new) (S.medium_faults shelf.new) (S.is_taken shelf.new)
+        (S.faults shelf.new)) plan.now result.items }
     ensures count { vec_len result ≡ count }
     ensures room { vec_capacity result ≡ vec_capacity media }
 {

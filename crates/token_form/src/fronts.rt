@@ -69,7 +69,8 @@ fn read_number(bytes: &[u8]) -> (Option<Token>, &[u8])
 }
 
 fn read_text(alloc: Global, after: &[u8]) -> Result<Option<(Option<Token>, &[u8])>, AllocError>
-    ensures found { IfOk result (λ o. MatchOption o (reading.text_at after.now ≡ None) (λ found. reading.read_then (reading.text_at after.now) ≡ Some (found.0, found.1.now))) }
+    ensures found { IfOk result (λ o. MatchOption o (reading.text_at after.now ≡ None)
+        (λ found. reading.read_then (reading.text_at after.now) ≡ Some (found.0, found.1.now))) }
     ensures shorter { IfOk result (λ o. IfSome o (λ found. length found.1.now ≤ length after.now)) }
 {
     let Some((content, rest)) = text_at(alloc, after)? else {
@@ -79,7 +80,8 @@ fn read_text(alloc: Global, after: &[u8]) -> Result<Option<(Option<Token>, &[u8]
 }
 
 fn read_sign(first: u8, after: &[u8]) -> Option<(Option<Token>, &[u8])>
-    ensures found { MatchOption result (reading.sign_token first after.now ≡ None) (λ found. reading.read_then (reading.sign_token first after.now) ≡ Some (found.0, found.1.now)) }
+    ensures found { MatchOption result (reading.sign_token first after.now ≡ None)
+        (λ found. reading.read_then (reading.sign_token first after.now) ≡ Some (found.0, found.1.now)) }
     ensures shorter { IfSome result (λ found. length found.1.now ≤ length after.now) }
 {
     let Some((sign, rest)) = sign_at(first, after) else {
@@ -91,7 +93,8 @@ fn read_sign(first: u8, after: &[u8]) -> Option<(Option<Token>, &[u8])>
 // The longest token at the front, and what follows it. In place of a token that passes a limit
 // stands None.
 pub fn read_token(alloc: Global, bytes: &[u8]) -> Result<Option<(Option<Token>, &[u8])>, AllocError>
-    ensures found { IfOk result (λ o. MatchOption o (reading.read_token bytes.now ≡ None) (λ found. reading.read_token bytes.now ≡ Some (found.0, found.1.now))) }
+    ensures found { IfOk result (λ o. MatchOption o (reading.read_token bytes.now ≡ None)
+        (λ found. reading.read_token bytes.now ≡ Some (found.0, found.1.now))) }
     ensures shorter { IfOk result (λ o. IfSome o (λ found. length found.1.now < length bytes.now)) }
 {
     let Some((first, after)) = bytes.split_first() else {

@@ -85,7 +85,8 @@ fn piece_of(spot: Spot, byte: u8) -> Piece
 // The content of a text whose opening quote stands before these bytes, and what follows its
 // closing quote. None where no text stands there.
 pub fn text_at(alloc: Global, bytes: &[u8]) -> Result<Option<(Bytes, &[u8])>, AllocError>
-    ensures found { IfOk result (λ o. MatchOption o (reading.inside Spot.Plain [] bytes.now ≡ None) (λ found. reading.inside Spot.Plain [] bytes.now ≡ Some (found.0, found.1.now))) }
+    ensures found { IfOk result (λ o. MatchOption o (reading.inside Spot.Plain [] bytes.now ≡ None)
+        (λ found. reading.inside Spot.Plain [] bytes.now ≡ Some (found.0, found.1.now))) }
     ensures shorter { IfOk result (λ o. IfSome o (λ found. length found.1.now ≤ length bytes.now)) }
 {
     let mut content = Vec::new(alloc);

@@ -18,7 +18,8 @@ pub fn firsts_of(
     repositories: u8,
     logs: &[Opened],
 ) -> Result<Vec<Firsts>, AllocError>
-    ensures { (k : RunLogs) → k.repositories ≡ repositories → ((n : NodeId) → k.logs n ≡ reverse (logs_by logs.now n)) → IfOk result (λ firsts. AreDecided k firsts.items) }
+    ensures { (k : RunLogs) → k.repositories ≡ repositories → ((n : NodeId) → k.logs n ≡ reverse (logs_by logs.now n)) →
+        IfOk result (λ firsts. AreDecided k firsts.items) }
 {
     let mut firsts = Vec::new(alloc);
     for below in 0..repositories {

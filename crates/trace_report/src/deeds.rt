@@ -72,7 +72,9 @@ fn add_write(
     writes: &mut BTreeMap<Stamp, Vec<Write>>,
     write: Write,
 ) -> Result<(), AllocError>
-    ensures { OnOk result ((s : StampParts) → spec.written_at writes.new.entries s ≡ (if same_stamp write.start.stamp s then put_in (version_of write) (spec.written_at writes.old.entries s) else spec.written_at writes.old.entries s)) }
+    ensures { OnOk result ((s : StampParts) →
+        spec.written_at writes.new.entries s ≡
+        (if same_stamp write.start.stamp s then put_in (version_of write) (spec.written_at writes.old.entries s) else spec.written_at writes.old.entries s)) }
 {
     let stamp = write.start.stamp();
     match writes.get_mut(&stamp) {
@@ -103,7 +105,8 @@ impl Deeds {
 
     // An attempt at the act with this index.
     fn add_try(&mut self, firsts: &[Firsts], index: u32, stamp: Stamp) -> Result<(), AllocError>
-        ensures { (k : RunLogs) (made : Made) → AreDecided k firsts.now → AreDeeds k made [] self.old → OnOk result (AreDeeds k ((stamp, index) ∷ made) [] self.new) }
+        ensures { (k : RunLogs) (made : Made) → AreDecided k firsts.now → AreDeeds k made [] self.old →
+            OnOk result (AreDeeds k ((stamp, index) ∷ made) [] self.new) }
     {
         if is_committed(firsts, stamp) {
             self.stamps.insert(stamp)?;
@@ -119,7 +122,8 @@ impl Deeds {
         index: u32,
         tries: &[BegunTry],
     ) -> Result<(), AllocError>
-        ensures { (k : RunLogs) (made : Made) → AreDecided k firsts.now → AreDeeds k made [] self.old → OnOk result (AreDeeds k (made_at index (kept_tries tries.now) ++ made) [] self.new) }
+        ensures { (k : RunLogs) (made : Made) → AreDecided k firsts.now → AreDeeds k made [] self.old →
+            OnOk result (AreDeeds k (made_at index (kept_tries tries.now) ++ made) [] self.new) }
     {
         for attempt in tries {
             self.add_try(firsts, index, attempt.stamp)?;
@@ -139,7 +143,8 @@ impl Deeds {
 
     // A put. That of an attempt of the run is done by its script.
     fn add_put(&mut self, alloc: Global, firsts: &[Firsts], write: Write) -> Result<(), AllocError>
-        ensures { (k : RunLogs) (made : Made) (m : List Mark) → AreDecided k firsts.now → AreDeeds k made m self.old → OnOk result (AreDeeds k made (mark.Put write.object write.start write.value ∷ m) self.new) }
+        ensures { (k : RunLogs) (made : Made) (m : List Mark) → AreDecided k firsts.now → AreDeeds k made m self.old →
+            OnOk result (AreDeeds k made (mark.Put write.object write.start write.value ∷ m) self.new) }
     {
         let stamp = write.start.stamp();
         if !is_committed(firsts, stamp) {
@@ -159,7 +164,8 @@ impl Deeds {
         firsts: &[Firsts],
         effect: &Effect,
     ) -> Result<(), AllocError>
-        ensures { (k : RunLogs) (made : Made) (m : List Mark) → AreDecided k firsts.now → AreDeeds k made m self.old → OnOk result (AreDeeds k made (option_to_list (mark_of effect.now) ++ m) self.new) }
+        ensures { (k : RunLogs) (made : Made) (m : List Mark) → AreDecided k firsts.now → AreDeeds k made m self.old →
+            OnOk result (AreDeeds k made (option_to_list (mark_of effect.now) ++ m) self.new) }
     {
         match effect {
             Effect::Put {
@@ -189,7 +195,8 @@ impl Deeds {
         firsts: &[Firsts],
         effects: &[Effect],
     ) -> Result<(), AllocError>
-        ensures { (k : RunLogs) (made : Made) (m : List Mark) → AreDecided k firsts.now → AreDeeds k made m self.old → OnOk result (AreDeeds k made (marks (reverse effects.now) ++ m) self.new) }
+        ensures { (k : RunLogs) (made : Made) (m : List Mark) → AreDecided k firsts.now → AreDeeds k made m self.old →
+            OnOk result (AreDeeds k made (marks (reverse effects.now) ++ m) self.new) }
     {
         for effect in effects {
             self.add_effect(alloc, firsts, effect)?;
@@ -205,7 +212,8 @@ impl Deeds {
         repositories: u8,
         logs: &[Opened],
     ) -> Result<(), AllocError>
-        ensures { (k : RunLogs) (made : Made) → ((n : NodeId) → k.logs n ≡ reverse (logs_by logs.now n)) → AreDecided k firsts.now → AreDeeds k made [] self.old → OnOk result (AreDeeds k made (marks_to k repositories) self.new) }
+        ensures { (k : RunLogs) (made : Made) → ((n : NodeId) → k.logs n ≡ reverse (logs_by logs.now n)) → AreDecided k firsts.now →
+            AreDeeds k made [] self.old → OnOk result (AreDeeds k made (marks_to k repositories) self.new) }
     {
         for below in 0..repositories {
             let log = log_of(logs, NodeId::repository(below + 1));
@@ -222,7 +230,8 @@ pub fn deeds_of(
     logs: &[Opened],
     begun: &[BegunAct],
 ) -> Result<Deeds, AllocError>
-    ensures { (k : RunLogs) → k.repositories ≡ repositories → ((n : NodeId) → k.logs n ≡ reverse (logs_by logs.now n)) → IfOk result (λ deeds. AreDeeds k (made_in (kept begun.now)) (marks_to k repositories) deeds) }
+    ensures { (k : RunLogs) → k.repositories ≡ repositories → ((n : NodeId) → k.logs n ≡ reverse (logs_by logs.now n)) →
+        IfOk result (λ deeds. AreDeeds k (made_in (kept begun.now)) (marks_to k repositories) deeds) }
 {
     let firsts = firsts_of(alloc, repositories, logs)?;
     let mut deeds = Deeds::new(alloc);

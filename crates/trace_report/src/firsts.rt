@@ -87,7 +87,8 @@ impl Firsts {
 
     // This is said of the attempt. What was said first counts.
     fn say(&mut self, stamp: Stamp, first: First) -> Result<(), AllocError>
-        ensures { (log : List Effect) (f : Effect) → spec.said_by f ≡ Some (stamp, first) → AreFirsts log self.old → OnOk result (AreFirsts (f ∷ log) self.new) }
+        ensures { (log : List Effect) (f : Effect) → spec.said_by f ≡ Some (stamp, first) → AreFirsts log self.old →
+            OnOk result (AreFirsts (f ∷ log) self.new) }
     {
         if self.get(stamp).is_none() {
             self.put(stamp, first)?;

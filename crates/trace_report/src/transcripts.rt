@@ -73,7 +73,8 @@ fn give(alloc: Global, run: &mut Run, answer: &Answered) -> Result<bool, AllocEr
 // Gives the run answers, up to the first that it doesn't ask for.
 fn give_all(alloc: Global, run: &mut Run, answers: &[Answered]) -> Result<(), AllocError>
     ensures script { OnOk result (run.new.script ≡ run.old.script) }
-    ensures talked { OnOk result (talked (denote (block run.old.script)) run.new.answers ≡ talked (denote (block run.old.script)) (run.old.answers ++ answers_of answers.now)) }
+    ensures talked { OnOk result (talked (denote (block run.old.script)) run.new.answers ≡
+        talked (denote (block run.old.script)) (run.old.answers ++ answers_of answers.now)) }
 {
     for answer in answers {
         let gave = give(alloc, run, answer)?;

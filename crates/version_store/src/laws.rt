@@ -12,15 +12,19 @@ ghost use Rattle.version_store.specs.Storage.{log_of, storage};
 /// A law: what is read of an image that a crash of an append left is the log with a prefix of the
 /// call's effects, and how many these are is the number of effects read less those of the log.
 pub fn prefix_is_found()
-    ensures found { (log effects found : List Effect) (image : Image) → storage image ≡ Ok found → (has : HasPrefix log effects image) → found ≡ log ++ take has.kept effects }
-    ensures kept { (log effects found : List Effect) (image : Image) → storage image ≡ Ok found → (has : HasPrefix log effects image) → length log + has.kept ≡ length found }
+    ensures found { (log effects found : List Effect) (image : Image) → storage image ≡ Ok found → (has : HasPrefix log effects image) →
+        found ≡ log ++ take has.kept effects }
+    ensures kept { (log effects found : List Effect) (image : Image) → storage image ≡ Ok found → (has : HasPrefix log effects image) →
+        length log + has.kept ≡ length found }
 {}
 
 /// A law: in the log of an image the back place of an effect is the place of its object's last Put
 /// before it, and comes before its own place, which is on a page of the image.
 pub fn back_places_come_before()
-    ensures back { (n : ℕ) (image : Image) (e : Entry) (i : ℕ) → IsImage n image → IsIn (log_of image) e i → e.back ≡ back_in (take i (log_of image)) e.effect }
-    ensures before { (n : ℕ) (image : Image) (e : Entry) (i : ℕ) → IsImage n image → IsIn (log_of image) e i → IfSome e.back (λ (b : Place). IsBefore b e.place) }
+    ensures back { (n : ℕ) (image : Image) (e : Entry) (i : ℕ) → IsImage n image → IsIn (log_of image) e i →
+        e.back ≡ back_in (take i (log_of image)) e.effect }
+    ensures before { (n : ℕ) (image : Image) (e : Entry) (i : ℕ) → IsImage n image → IsIn (log_of image) e i →
+        IfSome e.back (λ (b : Place). IsBefore b e.place) }
     ensures within { (n : ℕ) (image : Image) (e : Entry) (i : ℕ) → IsImage n image → IsIn (log_of image) e i → e.place.page < n }
 {}
 

@@ -53,9 +53,11 @@ fn add(
     requires bytes { IsEffect effect.now }
     requires room { length texts.old.items + size_of effect.now ≤ 4092 }
     requires places { ArePlaces heads.old }
-    ensures texts { (log : Log) → HeadsFit heads.old log → OnOk result (texts.new.items ≡ texts.old.items ++ effect_bytes (effect.now, back_in log effect.now)) }
+    ensures texts { (log : Log) → HeadsFit heads.old log →
+        OnOk result (texts.new.items ≡ texts.old.items ++ effect_bytes (effect.now, back_in log effect.now)) }
     ensures size { OnOk result (length texts.new.items ≡ length texts.old.items + size_of effect.now) }
-    ensures heads { (log : Log) → HeadsFit heads.old log → OnOk result (HeadsFit heads.new (log ++ entry_at log (place_after page (length texts.old.items)) effect.now ∷ [])) }
+    ensures heads { (log : Log) → HeadsFit heads.old log →
+        OnOk result (HeadsFit heads.new (log ++ entry_at log (place_after page (length texts.old.items)) effect.now ∷ [])) }
     ensures places { OnOk result (ArePlaces heads.new) }
     ensures below { (limit : ℕ) → page < limit → AreBelow limit heads.old → OnOk result (AreBelow limit heads.new) }
 {

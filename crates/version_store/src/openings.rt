@@ -39,7 +39,9 @@ fn add_state(
 ) -> Result<bool, AllocError>
     requires page { page < 1048576 }
     requires places { ArePlaces found.old.heads }
-    ensures found { (c : Content) → IsFound found.old.heads found.old.effects.items c.log → IfOk result (λ b. MatchBool b ((more : Content) × (next (reading_of found.old.ended c) page state.now ≡ reading_of found.new.ended more) × IsFound found.new.heads found.new.effects.items more.log) (next (reading_of found.old.ended c) page state.now ≡ Damaged page)) }
+    ensures found { (c : Content) → IsFound found.old.heads found.old.effects.items c.log →
+        IfOk result (λ b. MatchBool b ((more : Content) × (next (reading_of found.old.ended c) page state.now ≡ reading_of found.new.ended more) ×
+        IsFound found.new.heads found.new.effects.items more.log) (next (reading_of found.old.ended c) page state.now ≡ Damaged page)) }
     ensures next { IfOk result (λ b. b ≡ true → found.new.next ≡ (if found.new.ended then found.old.next else page + 1)) }
     ensures marked { IfOk result (λ b. b ≡ false → state.now ≢ Blank) }
     ensures places { OnOk result (ArePlaces found.new.heads) }
@@ -74,9 +76,12 @@ pub fn read_pages<M: Medium>(alloc: Global, medium: &mut M, pages: u32) -> Resul
     requires pages { pages ≡ M.page_count medium.old }
     requires most { pages ≤ 1048576 }
     requires open { M.is_failed medium.old ≡ false }
-    ensures found { IsTrue M.tells → length (M.reads medium.old) ≡ pages → IfOk result (λ f. Reached (M.reads medium.old) pages f.heads f.effects.items f.next f.ended) }
-    ensures damaged { IsTrue M.tells → length (M.reads medium.old) ≡ pages → IfErr result (λ e. (page : ℕ) → e ≡ OpenFault.Damaged page → scan begun 0 (M.reads medium.old) ≡ Damaged page) }
-    ensures shown { IfErr result (λ e. (page : ℕ) → e ≡ OpenFault.Damaged page → (bytes : List ℕ) × (M.last_page medium.new ≡ Some (page, bytes)) × (is_blank bytes ≡ false)) }
+    ensures found { IsTrue M.tells → length (M.reads medium.old) ≡ pages →
+        IfOk result (λ f. Reached (M.reads medium.old) pages f.heads f.effects.items f.next f.ended) }
+    ensures damaged { IsTrue M.tells → length (M.reads medium.old) ≡ pages →
+        IfErr result (λ e. (page : ℕ) → e ≡ OpenFault.Damaged page → scan begun 0 (M.reads medium.old) ≡ Damaged page) }
+    ensures shown { IfErr result (λ e. (page : ℕ) → e ≡ OpenFault.Damaged page → (bytes : List ℕ) × (M.last_page medium.new ≡ Some (page, bytes)) ×
+        (is_blank bytes ≡ false)) }
     ensures within { IfOk result (λ f. f.next ≤ pages) }
     ensures places { IfOk result (λ f. ArePlaces f.heads) }
     ensures below { IfOk result (λ f. AreBelow pages f.heads) }

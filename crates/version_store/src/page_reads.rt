@@ -43,7 +43,9 @@ fn add_effect<'a>(
 ) -> Result<Option<&'a [u8]>, AllocError>
     requires place { IsPlace place }
     requires places { ArePlaces heads.old }
-    ensures found { (log : Log) → IsFound heads.old effects.old.items log → IfOk result (λ o. MatchOption o (admitted log place (effect_at bytes.now) ≡ None) (λ rest. (more : Log) × (admitted log place (effect_at bytes.now) ≡ Some (more, rest.now)) × IsFound heads.new effects.new.items more)) }
+    ensures found { (log : Log) → IsFound heads.old effects.old.items log →
+        IfOk result (λ o. MatchOption o (admitted log place (effect_at bytes.now) ≡ None)
+        (λ rest. (more : Log) × (admitted log place (effect_at bytes.now) ≡ Some (more, rest.now)) × IsFound heads.new effects.new.items more)) }
     ensures less { IfOk result (λ o. MatchOption o (Unit {0}) (λ rest. length rest.now ≤ length bytes.now)) }
     ensures places { OnOk result (ArePlaces heads.new) }
     ensures below { (limit : ℕ) → place.page < limit → AreBelow limit heads.old → OnOk result (AreBelow limit heads.new) }
@@ -74,7 +76,9 @@ fn add_effects(
     requires page { page < 1048576 }
     requires most { length texts.now ≤ 4092 }
     requires places { ArePlaces heads.old }
-    ensures found { (log : Log) → IsFound heads.old effects.old.items log → IfOk result (λ b. MatchBool b ((more : Log) × (log_at (length texts.now) log page (4 + length texts.now) texts.now ≡ Some more) × IsFound heads.new effects.new.items more) (log_at (length texts.now) log page (4 + length texts.now) texts.now ≡ None)) }
+    ensures found { (log : Log) → IsFound heads.old effects.old.items log →
+        IfOk result (λ b. MatchBool b ((more : Log) × (log_at (length texts.now) log page (4 + length texts.now) texts.now ≡ Some more) ×
+        IsFound heads.new effects.new.items more) (log_at (length texts.now) log page (4 + length texts.now) texts.now ≡ None)) }
     ensures places { OnOk result (ArePlaces heads.new) }
     ensures below { (limit : ℕ) → page < limit → AreBelow limit heads.old → OnOk result (AreBelow limit heads.new) }
     ensures ranges { AreEffects effects.old.items → OnOk result (AreEffects effects.new.items) }
@@ -107,7 +111,9 @@ pub fn add_page(
 ) -> Result<bool, AllocError>
     requires page { page < 1048576 }
     requires places { ArePlaces heads.old }
-    ensures found { (c : Content) → IsFound heads.old effects.old.items c.log → IfOk result (λ b. MatchBool b ((more : Content) × (next (Going c) page (Gated body.now) ≡ Going more) × IsFound heads.new effects.new.items more.log) (next (Going c) page (Gated body.now) ≡ Damaged page)) }
+    ensures found { (c : Content) → IsFound heads.old effects.old.items c.log →
+        IfOk result (λ b. MatchBool b ((more : Content) × (next (Going c) page (Gated body.now) ≡ Going more) ×
+        IsFound heads.new effects.new.items more.log) (next (Going c) page (Gated body.now) ≡ Damaged page)) }
     ensures places { OnOk result (ArePlaces heads.new) }
     ensures below { (limit : ℕ) → page < limit → AreBelow limit heads.old → OnOk result (AreBelow limit heads.new) }
     ensures ranges { AreEffects effects.old.items → OnOk result (AreEffects effects.new.items) }

@@ -74,7 +74,8 @@ impl<M: Medium> Store<M> {
 
         // The first damaged page is told; over every medium it was read last and isn't blank.
         ensures damaged { IsTrue M.tells → IfErr result (λ e. (page : ℕ) → e.1 ≡ OpenFault.Damaged page → storage (M.reads medium) ≡ Err page) }
-        ensures shown { IfErr result (λ e. (page : ℕ) → e.1 ≡ OpenFault.Damaged page → (bytes : List ℕ) × (M.last_page e.0 ≡ Some (page, bytes)) × (is_blank bytes ≡ false)) }
+        ensures shown { IfErr result (λ e. (page : ℕ) → e.1 ≡ OpenFault.Damaged page → (bytes : List ℕ) × (M.last_page e.0 ≡ Some (page, bytes)) ×
+            (is_blank bytes ≡ false)) }
 
         // No image is new at any moment.
         ensures images { IsTrue M.tells → NoMore (M.may_leave medium) (M.may_leave (opened result)) }
@@ -135,7 +136,8 @@ impl<M: Medium> Store<M> {
 
         // Each image that is left has a prefix, at every moment.
         ensures images { IsTrue M.tells → (c : Image) → M.may_leave (handed result) c → HasPrefix (effects_in M.reads self) effects.now c }
-        ensures any_moment { IsTrue M.tells → LeavesOnly M.moment M.left_since (medium_of self) (handed result) (HasPrefix (effects_in M.reads self) effects.now) }
+        ensures any_moment { IsTrue M.tells →
+            LeavesOnly M.moment M.left_since (medium_of self) (handed result) (HasPrefix (effects_in M.reads self) effects.now) }
 
         // Only pages that read blank are written, at every moment, and after Ok none of these reads spoiled.
         ensures kept { IsTrue M.tells → (c : Image) → M.may_leave (handed result) c → KeepsPages (M.reads (medium_of self)) c }
@@ -143,8 +145,10 @@ impl<M: Medium> Store<M> {
         ensures clean { IsTrue M.tells → IfOk result (λ s. StaysClean (M.reads (medium_of self)) (M.reads (medium_of s))) }
 
         // Full comes exactly where the pages aren't there, and any fault but Medium before all writing.
-        ensures full { IfErr result (λ e. (pages : ℕ) → e.1 ≡ StoreFault.Full pages → (pages ≡ M.page_count (medium_of self)) × (left_in self < length (filling effects.now))) }
-        ensures full_blank { IsTrue M.tells → IfErr result (λ e. (pages : ℕ) → e.1 ≡ StoreFault.Full pages → count_by is_blank (M.reads (medium_of self)) < length (filling effects.now)) }
+        ensures full { IfErr result (λ e. (pages : ℕ) → e.1 ≡ StoreFault.Full pages → (pages ≡ M.page_count (medium_of self)) ×
+            (left_in self < length (filling effects.now))) }
+        ensures full_blank { IsTrue M.tells →
+            IfErr result (λ e. (pages : ℕ) → e.1 ≡ StoreFault.Full pages → count_by is_blank (M.reads (medium_of self)) < length (filling effects.now)) }
         ensures fits { left_in self < length (filling effects.now) → result ≡ Err (medium_of self, StoreFault.Full (M.page_count (medium_of self))) }
         ensures nothing { IfErr result (λ e. e.1 ≢ StoreFault.Medium → e.0 ≡ medium_of self) }
         ensures idle { effects.now ≡ [] → result ≡ Ok self }
@@ -198,13 +202,15 @@ impl<M: Medium> Store<M> {
         requires here { IsTrue M.tells → StandsAt (log_in M.reads self.old) place }
 
         // It is the log's.
-        ensures found { IsTrue M.tells → (e : Entry) (i : ℕ) → IsIn (log_in M.reads self.old) e i → e.place ≡ place → IfOk result (λ r. (r.0 ≡ e.effect) × (r.1 ≡ e.back)) }
+        ensures found { IsTrue M.tells → (e : Entry) (i : ℕ) → IsIn (log_in M.reads self.old) e i → e.place ≡ place →
+            IfOk result (λ r. (r.0 ≡ e.effect) × (r.1 ≡ e.back)) }
         ensures back { IsTrue M.tells → IfOk result (λ r. BackStands (log_in M.reads self.new) (r.0, r.1)) }
         ensures sound { IsTrue M.tells → IfErr result (λ f. (page : ℕ) → f ≢ FetchFault.Damaged page) }
 
         // Over every medium it is what the page shows that was read, and Damaged says that this is none.
         ensures shown { IfOk result (λ r. LastShows (M.last_page (medium_of self.new)) place (Some (r.0, r.1))) }
-        ensures damaged { IfErr result (λ f. (page : ℕ) → f ≡ FetchFault.Damaged page → (page ≡ place.page) × LastShows (M.last_page (medium_of self.new)) place None) }
+        ensures damaged { IfErr result (λ f. (page : ℕ) → f ≡ FetchFault.Damaged page → (page ≡ place.page) ×
+            LastShows (M.last_page (medium_of self.new)) place None) }
         ensures before { IfOk result (λ r. IfSome r.1 (λ b. IsBefore b place × (b.page < M.page_count (medium_of self.new)))) }
         // It can be stored again.
         ensures in_range { IfOk result (λ r. IsWritten r) }

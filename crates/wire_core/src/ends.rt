@@ -44,7 +44,8 @@ impl<F: Fates, C: Clock, M: Medium> Wire<F, C, M> {
     /// A law: what holds of each wire at each moment. Where media tell their content its trace is
     /// legal.
     pub fn stands(&self)
-        ensures legal { IsTrue M.tells → (plan : Plan) → IsRunOf plan self.now.origin → IsLegal plan (self.now.origin.asked ++ map asked_of self.now.sent) (trace_of self.now) }
+        ensures legal { IsTrue M.tells → (plan : Plan) → IsRunOf plan self.now.origin →
+            IsLegal plan (self.now.origin.asked ++ map asked_of self.now.sent) (trace_of self.now) }
         ensures sent { IsTrue M.tells → map post_of self.now.sent ≡ sent_by (world_of self.now) }
         ensures numbers { Numbered 1 self.now.sent }
         ensures moments { Every (λ moment. moment < 2 ^ 63) (tick_moments self.now.entries) }

@@ -49,9 +49,14 @@ impl<F: Fates, C: Clock, M: Medium> Model for Wire<F, C, M> {
 
     ghost coded = { Prim.hlevel (codes, stmt.the_row.coded) };
 
-    ghost view = { λ w. parts_with (origin_with w.run w.acts.items w.start w.opened.items (F.asked w.first_fates.value) (C.answers w.first_clock.value)) w.story w.sent.items (F.asked w.fates) (C.answers w.clock) w.flight w.broken };
+    ghost view = { λ w. parts_with
+        (origin_with w.run w.acts.items w.start w.opened.items (F.asked w.first_fates.value) (C.answers w.first_clock.value))
+        w.story w.sent.items (F.asked w.fates) (C.answers w.clock) w.flight w.broken };
 
-    ghost invariant = { λ w. IsSound M.tells (parts_with (origin_with w.run w.acts.items w.start w.opened.items (F.asked w.first_fates.value) (C.answers w.first_clock.value)) w.story w.sent.items (F.asked w.fates) (C.answers w.clock) w.flight w.broken) w.story.nodes.entries w.story.ticks w.story.last };
+    ghost invariant = { λ w. IsSound M.tells (parts_with
+        (origin_with w.run w.acts.items w.start w.opened.items (F.asked w.first_fates.value) (C.answers w.first_clock.value))
+        w.story w.sent.items (F.asked w.fates) (C.answers w.clock) w.flight w.broken)
+        w.story.nodes.entries w.story.ticks w.story.last };
 }
 
 impl<F: Fates, C: Clock, M: Medium> Wire<F, C, M> {
@@ -65,7 +70,14 @@ impl<F: Fates, C: Clock, M: Medium> Wire<F, C, M> {
         fates: F,
         clock: C,
     ) -> Result<Wire<F, C, M>, (F, C, AllocError)>
-        ensures origin { IfOk result (λ w. w.origin ≡ record { run = run; acts = acts.items; start = w.origin.start; opened = opened.items; asked = F.asked fates; answers = C.answers clock }) }
+        ensures origin { IfOk result (λ w. w.origin ≡ record {
+          run = run;
+          acts = acts.items;
+          start = w.origin.start;
+          opened = opened.items;
+          asked = F.asked fates;
+          answers = C.answers clock;
+        }) }
         ensures empty { IfOk result IsNew }
         ensures start { IfOk result (λ w. w.origin.start ≤ 2 ^ 62) }
         ensures err { IfErr result (λ e. F.asked e.0 ≡ F.asked fates) }

@@ -22,7 +22,8 @@ pub fn law_of_lives()
 
 /// A durable log only grows.
 pub fn gated_logs_grow()
-    ensures { (b : Base) (es more : List Entry) (n : NodeId) → (late : List Effect) × (((walk b (es ++ more)).life n).gated ≡ ((walk b es).life n).gated ++ late) }
+    ensures { (b : Base) (es more : List Entry) (n : NodeId) → (late : List Effect) ×
+        (((walk b (es ++ more)).life n).gated ≡ ((walk b es).life n).gated ++ late) }
 {}
 
 /// What was sent stays sent, with its number.
@@ -38,7 +39,8 @@ pub fn more_fates_change_nothing()
 /// What stands before a place of a legal trace is legal, with the messages that were sent and the
 /// fates that were asked for before it.
 pub fn legal_before()
-    ensures { (script : List ℕ → Tree) (plan : Plan) (asked : List Asked) (t : Trace) (front rest : List Entry) → Legal script plan asked t → t.entries ≡ front ++ rest
+    ensures { (script : List ℕ → Tree) (plan : Plan) (asked : List Asked) (t : Trace) (front rest : List Entry) → Legal script plan asked t →
+        t.entries ≡ front ++ rest
         → (sent later : List Sent) × (older : List Asked) × (t.sent ≡ sent ++ later) × (asked ≡ older ++ map asked_of later)
         × Legal script plan older (record { start = t.start; opened = t.opened; sent = sent; entries = front }) }
 {}
@@ -48,7 +50,8 @@ pub fn legal_before()
 pub fn legal_goes_on()
     ensures { (script : List ℕ → Tree) (plan : Plan) (asked : List Asked) (t : Trace) (e : Entry) (new : List Sent) → Legal script plan asked t
         → Rule (base_of script plan t) (fates_of t.sent) (walk (base_of script plan t) t.entries) e
-        → sent_by (step (base_of script plan t) (walk (base_of script plan t) t.entries) e) ≡ sent_by (walk (base_of script plan t) t.entries) ++ map post_of new
+        → sent_by (step (base_of script plan t) (walk (base_of script plan t) t.entries) e) ≡
+        sent_by (walk (base_of script plan t) t.entries) ++ map post_of new
         → Numbered (length t.sent + 1) new
         → Legal script plan (asked ++ map asked_of new) (record { start = t.start; opened = t.opened; sent = t.sent ++ new; entries = t.entries ++ e ∷ [] }) }
 {}
@@ -57,5 +60,6 @@ pub fn legal_goes_on()
 pub fn past_goes_on()
     ensures none { (script : List ℕ → Tree) → HasPast script (λ n. []) }
     ensures more { (script : List ℕ → Tree) (logs after : NodeId → List Effect) (c : Call) → HasPast script logs → IsCall script logs c
-        → ((n : NodeId) → in_plan c.plan n ≡ true → after n ≡ log_left script c n) → ((n : NodeId) → in_plan c.plan n ≡ false → after n ≡ logs n) → HasPast script after }
+        → ((n : NodeId) → in_plan c.plan n ≡ true → after n ≡ log_left script c n) → ((n : NodeId) → in_plan c.plan n ≡ false → after n ≡ logs n) →
+        HasPast script after }
 {}

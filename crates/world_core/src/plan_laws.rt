@@ -35,8 +35,10 @@ pub fn law_of_plans_in_range()
 /// Two readings that both read a plan's scripts give the same walk of its traces, and the same traces
 /// are legal by them.
 pub fn readings_walk_alike()
-    ensures walks { (s s' : List ℕ → Tree) (plan : Plan) (t : Trace) (es : List Entry) → Scripted s plan.acts → Scripted s' plan.acts → walk (base_of s plan t) es ≡ walk (base_of s' plan t) es }
-    ensures legal { (s s' : List ℕ → Tree) (plan : Plan) (asked : List Asked) (t : Trace) → Scripted s plan.acts → Scripted s' plan.acts → Legal s plan asked t → Legal s' plan asked t }
+    ensures walks { (s s' : List ℕ → Tree) (plan : Plan) (t : Trace) (es : List Entry) → Scripted s plan.acts → Scripted s' plan.acts →
+        walk (base_of s plan t) es ≡ walk (base_of s' plan t) es }
+    ensures legal { (s s' : List ℕ → Tree) (plan : Plan) (asked : List Asked) (t : Trace) → Scripted s plan.acts → Scripted s' plan.acts →
+        Legal s plan asked t → Legal s' plan asked t }
 {}
 
 /// Where earlier runs left these logs, each legal by its own plan, there is one reading of scripts by

@@ -21,7 +21,8 @@ ghost use Rattle.world_facts.specs.AnyRules.{any_facts, log_opened, log_before};
 pub fn facts_of_legal_traces()
     ensures { (script : List ℕ → Tree) (plan : Plan) (asked : List Asked) (t : Trace) (logs : NodeId → List Effect) (front rest : List Entry) →
         (past : HasPast script logs) → OpenedWith t.opened logs → Legal script plan asked t → t.entries ≡ front ++ rest →
-        LogFacts (node_facts script) (base_of script plan t) (logs_at logs (walk (base_of script plan t) front)) (past_sent script past.0) (sent_by (walk (base_of script plan t) front)) (Ticked past.0 front) }
+        LogFacts (node_facts script) (base_of script plan t) (logs_at logs (walk (base_of script plan t) front)) (past_sent script past.0)
+        (sent_by (walk (base_of script plan t) front)) (Ticked past.0 front) }
 {}
 
 /// The same of the whole lives of the nodes there, with the effects, messages and minds that no gate has
@@ -29,14 +30,17 @@ pub fn facts_of_legal_traces()
 pub fn facts_of_whole_lives()
     ensures { (script : List ℕ → Tree) (plan : Plan) (asked : List Asked) (t : Trace) (logs : NodeId → List Effect) (front rest : List Entry) →
         (past : HasPast script logs) → OpenedWith t.opened logs → Legal script plan asked t → t.entries ≡ front ++ rest →
-        LivesOk (node_facts script) (base_of script plan t) (logs_at logs (walk (base_of script plan t) front)) (past_sent script past.0) (Ticked past.0 front) (walk (base_of script plan t) front) }
+        LivesOk (node_facts script) (base_of script plan t) (logs_at logs (walk (base_of script plan t) front)) (past_sent script past.0)
+        (Ticked past.0 front) (walk (base_of script plan t) front) }
 {}
 
 /// At each place of a legal trace over any logs, also over logs that no calls could have left: what each
 /// broker added counts and has its cause, a repository refused writes as its log says, and what a broker
 /// sent is what its attempts of this run ask for.
 pub fn facts_of_any_trace()
-    ensures { (script : List ℕ → Tree) (plan : Plan) (asked : List Asked) (t : Trace) (front rest : List Entry) → Legal script plan asked t → t.entries ≡ front ++ rest →
-        LogFacts (any_facts script (base_of script plan t).run (base_of script plan t).acts (log_before t)) (base_of script plan t) (logs_at (log_opened t) (walk (base_of script plan t) front)) [] (sent_by (walk (base_of script plan t) front))
+    ensures { (script : List ℕ → Tree) (plan : Plan) (asked : List Asked) (t : Trace) (front rest : List Entry) → Legal script plan asked t →
+        t.entries ≡ front ++ rest →
+        LogFacts (any_facts script (base_of script plan t).run (base_of script plan t).acts (log_before t)) (base_of script plan t)
+        (logs_at (log_opened t) (walk (base_of script plan t) front)) [] (sent_by (walk (base_of script plan t) front))
         (λ moment. Has (Tick moment) front) }
 {}
