@@ -63,6 +63,8 @@ module _ (script : List ℕ → Tree) (me run : ℕ) (acts : List ActSpec) where
   fit-counts b (effect.Begin t d) h = absurd (false≢true h)
   fit-counts b (effect.Decide t d) h = absurd (false≢true h)
   fit-counts b (effect.Learn t d) h = absurd (false≢true h)
+  fit-counts b (effect.Mark at) h = absurd (false≢true h)
+  fit-counts b effect.Whole h = absurd (false≢true h)
   fit-counts b f h = counted (b.run == run) _ h
 
   run-is : (f : Effect) → NoRun f → RunIs script me run (tasks acts) f

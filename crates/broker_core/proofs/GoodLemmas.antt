@@ -225,7 +225,7 @@ module _ (script : List ℕ → Tree) (me run : ℕ) (plan : List Task) where
   reading-row b t o h e q (message.Value x v') = when-good b (same_time (time_of t) x) _ (λ k. (got-good b t o x v' e q k, tt))
   reading-row b t o h e q (message.Write x o' v') = tt
   reading-row b t o h e q (message.Stored x) = tt
-  reading-row b t o h e q (message.LaterRead x e') = tt
+  reading-row b t o h e q (message.LaterRead x e') = when-good b (same_time (time_of t) x) _ (λ k. (end-here b t e, tt))
   reading-row b t o h e q (message.LaterVersion x y) = tt
   reading-row b t o h e q (message.Ended x) = when-good b (same_time (time_of t) x) _ (λ k. tt)
   reading-row b t o h e q m = tt

@@ -54,6 +54,8 @@ module _ (script : List ℕ → Tree) (me run : ℕ) (acts : List ActSpec) where
   counts-here b (effect.Begin t d) e = refl
   counts-here b (effect.Decide t d) e = refl
   counts-here b (effect.Learn t d) e = refl
+  counts-here b (effect.Mark at) e = refl
+  counts-here b effect.Whole e = refl
   counts-here b f e = cond (b.run == run) _ e
 
   kept-shows : (n : Notes) (answers : List Given) (log : List Effect) (f : Effect) (c : Bool) → (c ≡ true → Shows run n answers (enter f (book (keep script me run (tasks acts) log)))) →

@@ -463,10 +463,11 @@ module _ (acts : List ActSpec) (each : Every IsBrokerAct acts) where
   positive : (x : TimeParts) → IsTime x → (x.step < 2 ^ 32) × (1 ≤ x.step) × (x.step ≤ 4294967295)
   positive x h = (h.step_high, h.step_low, let k = h.step_high in omega arith)
 
-  reading-fits : (l : Last) (h : Heard) (m : Message) → IsMessage m → ReplyFits (reading_row l h m)
-  reading-fits l h (message.Value x v) k = when-fits (same_time (time_at l) x) (Adds (effect.Got x.step v)) (((positive x k.0, k.1), refl), tt)
-  reading-fits l h (message.Ended x) k = ended-fits l h x
-  reading-fits l h _ k = tt
+  reading-fits : (i : ℕ) (o : _) (l : Last) (h : Heard) (m : Message) → IsIndex i → IsObject o → IsMessage m → ReplyFits (reading_row i o l h m)
+  reading-fits i o l h (message.Value x v) j ob k = when-fits (same_time (time_at l) x) (Adds (effect.Got x.step v)) (((positive x k.0, k.1), refl), tt)
+  reading-fits i o l h (message.LaterRead x e) j ob k = when-fits (same_time (time_at l) x) (ends_at i (outcome.LaterRead o e)) (((j, (ob, k.1)), refl), tt)
+  reading-fits i o l h (message.Ended x) j ob k = ended-fits l h x
+  reading-fits i o l h _ j ob k = tt
 
   writing-fits : (i : ℕ) (o : _) (l : Last) (h : Heard) (m : Message) → IsIndex i → IsObject o → IsMessage m → ReplyFits (writing_row i o l h m)
   writing-fits i o l h (message.Stored x) j ob k = when-fits (same_time (time_at l) x) (Adds (effect.Acked x.step)) ((positive x k, refl), tt)
@@ -492,7 +493,7 @@ module _ (acts : List ActSpec) (each : Every IsBrokerAct acts) where
 
   reply-for : (n : Notes) (s : Stop) (l : Last) (p : Phase) (h : Heard) (m : Message) → n.started ≤ length acts → PhaseFits n p → IsMessage m → ReplyFits (reply_for (index_of (act_at acts n)) s l p h m)
   reply-for n s l phase.Opening h m started k is = opening-fits (index_of (act_at acts n)) _ l h m (index-there (act_at acts n) (act-there n k started)) is
-  reply-for n s l (phase.Reading o) h m started k is = reading-fits l h m is
+  reply-for n s l (phase.Reading o) h m started k is = reading-fits (index_of (act_at acts n)) o l h m (index-there (act_at acts n) (act-there n k.0 started)) k.1 is
   reply-for n s l (phase.Writing o v) h m started k is = writing-fits (index_of (act_at acts n)) o l h m (index-there (act_at acts n) (act-there n k.0 started)) k.1 is
   reply-for n s l x h m started k is = decision-fits n l x h (decided_of l.stamp m) started k (decided-fits l.stamp m is)
 

@@ -74,7 +74,7 @@ module _ (script : List ℕ → Tree) where
   opening-is t h (message.Tell s c) = refl
   opening-is t h m = refl
 
-  reading-is : (t : Try) (o : ObjectId) (h : Heard) (m : Message) → reading_row (last_of t) h m ≡ row script (Asking t (ToRead o)) h (news m)
+  reading-is : (t : Try) (o : ObjectId) (h : Heard) (m : Message) → reading_row t.task.index o (last_of t) h m ≡ row script (Asking t (ToRead o)) h (news m)
   reading-is t o h (message.Begin s n) = refl
   reading-is t o h m = refl
 
@@ -123,7 +123,9 @@ module _ (script : List ℕ → Tree) (run : ℕ) (acts : List ActSpec) where
       ∙ (ap (λ (i : ℕ). opening_row i (finished_for m (stop_at acts (notes_of b) answers)) (last_of t) h m) (index-is b t answers k e)
       ∙ (ap (λ (s : Stop). opening_row t.task.index (finished_for m s) (last_of t) h m) (stop-is acts script run b t answers k.scripted k.sound k.here e k.answers_are)
       ∙ opening-is script t h m))
-  reply-shown b answers (Asking t (ToRead o)) h m k e = at-last-try b t _ _ (phase.Reading o) h m (open-is-last b t e.0) ∙ reading-is script t o h m
+  reply-shown b answers (Asking t (ToRead o)) h m k e =
+      at-last-try b t _ _ (phase.Reading o) h m (open-is-last b t e.0)
+      ∙ (ap (λ (i : ℕ). reading_row i o (last_of t) h m) (index-is b t answers k e.0) ∙ reading-is script t o h m)
   reply-shown b answers (Asking t (ToWrite o v)) h m k e =
       at-last-try b t _ _ (phase.Writing o v) h m (open-is-last b t e.0)
       ∙ (ap (λ (i : ℕ). writing_row i o (last_of t) h m) (index-is b t answers k e.0) ∙ writing-is script t o v h m)

@@ -79,6 +79,8 @@ enter (effect.Try i s) b = record b { clock = max b.clock s.clock; acts = on_act
 enter (effect.Got k v) b = record b { acts = on_try (gain (Got v)) b.acts }
 enter (effect.Acked k) b = record b { acts = on_try (gain Stored) b.acts }
 enter (effect.End i o) b = close o b
+enter (effect.Mark at) b = b
+enter effect.Whole b = b
 enter (effect.Put o x v) b = b
 enter (effect.Stretch o x) b = b
 enter (effect.Begin s d) b = b

@@ -137,6 +137,8 @@ module _ (script : List ℕ → Tree) (me : ℕ) where
   fits acts b (effect.Got k v) = fits_got script k (open_try b)
   fits acts b (effect.Acked k) = fits_acked script k (open_try b)
   fits acts b (effect.End i o) = fits_outcome i o b
+  fits acts b (effect.Mark at) = false
+  fits acts b effect.Whole = false
   fits acts b (effect.Put o x v) = false
   fits acts b (effect.Stretch o x) = false
   fits acts b (effect.Begin s d) = false
@@ -151,6 +153,8 @@ module _ (script : List ℕ → Tree) (me : ℕ) where
   counts run acts b (effect.Got k v) = if b.run == run then fits acts b (effect.Got k v) else true
   counts run acts b (effect.Acked k) = if b.run == run then fits acts b (effect.Acked k) else true
   counts run acts b (effect.End i o) = if b.run == run then fits acts b (effect.End i o) else true
+  counts run acts b (effect.Mark at) = false
+  counts run acts b effect.Whole = false
   counts run acts b (effect.Put o x v) = false
   counts run acts b (effect.Stretch o x) = false
   counts run acts b (effect.Begin s d) = false
@@ -172,6 +176,8 @@ module _ (script : List ℕ → Tree) (me : ℕ) where
   unfit_act run acts b (effect.Got k v) = None
   unfit_act run acts b (effect.Acked k) = None
   unfit_act run acts b (effect.End i o) = None
+  unfit_act run acts b (effect.Mark at) = None
+  unfit_act run acts b effect.Whole = None
   unfit_act run acts b (effect.Put o x v) = None
   unfit_act run acts b (effect.Stretch o x) = None
   unfit_act run acts b (effect.Begin s d) = None

@@ -190,6 +190,8 @@ module _ (me : ℕ) (acts : List ActSpec) where
   fits_at n answers (effect.Got k v) = fits_step_at k (open_last n) && reads_now (stop_at acts n answers)
   fits_at n answers (effect.Acked k) = fits_step_at k (open_last n) && writes_now (stop_at acts n answers)
   fits_at n answers (effect.End i o) = if is_spent o then fits_spent_at (act_at acts n) i n else fits_end_at (act_at acts n) i (open_last n)
+  fits_at n answers (effect.Mark at) = false
+  fits_at n answers effect.Whole = false
   fits_at n answers (effect.Put o x v) = false
   fits_at n answers (effect.Stretch o x) = false
   fits_at n answers (effect.Begin s d) = false
@@ -233,6 +235,8 @@ module _ (acts : List ActSpec) where
   changed (effect.Got k v) n = n
   changed (effect.Acked k) n = n
   changed (effect.End i o) n = end_noted o n
+  changed (effect.Mark at) n = n
+  changed effect.Whole n = n
   changed (effect.Put o x v) n = n
   changed (effect.Stretch o x) n = n
   changed (effect.Begin s d) n = n
@@ -253,6 +257,8 @@ passed (effect.Try i s) n = record n { clock = max n.clock s.clock }
 passed (effect.Got k v) n = n
 passed (effect.Acked k) n = n
 passed (effect.End i o) n = n
+passed (effect.Mark at) n = n
+passed effect.Whole n = n
 passed (effect.Put o x v) n = n
 passed (effect.Stretch o x) n = n
 passed (effect.Begin s d) n = n

@@ -116,10 +116,11 @@ abbrev pub ended_row : Last → Heard → TimeParts → Reply
 ended_row l h x = when (same_time (time_at l) x) (Hears (record h { ended = Some (time_at l) }))
 
 -- while a Read stands
-abbrev pub reading_row : Last → Heard → Message → Reply
-reading_row l h (message.Value x v) = when (same_time (time_at l) x) (Adds (effect.Got x.step v))
-reading_row l h (message.Ended x) = ended_row l h x
-reading_row l h _ = Ignored
+abbrev pub reading_row : ℕ → ObjectId → Last → Heard → Message → Reply
+reading_row i o l h (message.Value x v) = when (same_time (time_at l) x) (Adds (effect.Got x.step v))
+reading_row i o l h (message.LaterRead x e) = when (same_time (time_at l) x) (ends_at i (outcome.LaterRead o e))
+reading_row i o l h (message.Ended x) = ended_row l h x
+reading_row i o l h _ = Ignored
 
 -- while a Write stands
 abbrev pub writing_row : ℕ → ObjectId → Last → Heard → Message → Reply
@@ -154,7 +155,7 @@ finished_for m s = is_decided m && is_finished s
 -- `i` is the index of the act, `s` where its script stops
 abbrev pub reply_for : ℕ → Stop → Last → Phase → Heard → Message → Reply
 reply_for i s l phase.Opening h m = opening_row i (finished_for m s) l h m
-reply_for i s l (phase.Reading o) h m = reading_row l h m
+reply_for i s l (phase.Reading o) h m = reading_row i o l h m
 reply_for i s l (phase.Writing o v) h m = writing_row i o l h m
 reply_for i s l p h m = deciding_row i l p h m
 

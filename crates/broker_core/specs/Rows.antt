@@ -69,6 +69,7 @@ module _ (script : List ℕ → Tree) where
   row (Opening t) h (Begun s) = when (same_stamp t.stamp s) (Hears (record h { begun = Some t.stamp }))
   row (Opening t) h (Decided s d) = when (same_stamp t.stamp s) (decided_early (is_finished (stop_of script t)) t d)
   row (Asking t (ToRead o)) h (Answered x (meaning.Got v)) = when (same_time (time_of t) x) (Adds (effect.Got x.step v))
+  row (Asking t (ToRead o)) h (Refusal x e true) = when (same_time (time_of t) x) (ends t (outcome.LaterRead o e))
   row (Asking t (ToWrite o v)) h (Answered x meaning.Stored) = when (same_time (time_of t) x) (Adds (effect.Acked x.step))
   row (Asking t (ToWrite o v)) h (Refusal x e true) = when (same_time (time_of t) x) (ends t (outcome.LaterRead o e))
   row (Asking t (ToWrite o v)) h (Refusal x e false) = when (same_time (time_of t) x) (ends t (outcome.LaterVersion o e))

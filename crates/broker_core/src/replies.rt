@@ -107,12 +107,14 @@ fn over_there(last: &Last, heard: &Heard, at: PseudoTime) -> Reply
 
 fn while_reading(
     alloc: Global,
+    index: u32,
+    object: ObjectId,
     last: &Last,
     heard: &Heard,
     message: &Message,
 ) -> Result<Reply, AllocError>
     requires { last.now.answered ≤ 10000 }
-    ensures { IfOk result (λ r. r ≡ spec.reading_row last.now heard.now message.now) }
+    ensures { IfOk result (λ r. r ≡ spec.reading_row index object last.now heard.now message.now) }
 {
     match message {
         Message::Value { at, value } => {
@@ -123,6 +125,10 @@ fn while_reading(
                 Reply::Adds(Effect::Got { step, value }),
             ))
         }
+        Message::LaterRead { at, end } => Ok(when(
+            last.time().is_same(*at),
+            ends(index, Outcome::LaterRead { object, end: *end }),
+        )),
         Message::Ended { at } => Ok(over_there(last, heard, *at)),
         _ => Ok(Reply::Ignored),
     }
@@ -230,8 +236,9 @@ pub fn reply_to(
             let finished = is_finished_for(ledger, message)?;
             Ok(while_opening(index, finished, &last, heard, message))
         }
-        Phase::Reading(_) => {
-            let reply = while_reading(ledger.alloc(), &last, heard, message)?;
+        Phase::Reading(object) => {
+            let reply =
+                while_reading(ledger.alloc(), index, *object, &last, heard, message)?;
             Ok(reply)
         }
         Phase::Writing(object, _) => {

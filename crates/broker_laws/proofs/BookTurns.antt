@@ -197,6 +197,8 @@ module _ (script : List ℕ → Tree) (me run : ℕ) (acts : List Task) (IsBegun
       when-sound h b (same_stamp t.stamp s) _ (λ e. early-sound h b (is_finished (stop_of script t)) t d n ok (subst IsBegun (sym (same_stamp-is t.stamp s e)) tells.1) (subst IsDecided (sym (same_stamp-is t.stamp s e)) tells.0))
   row-sound h b (Asking t (ToRead o)) (Answered x (Got v)) n ok of k tells = when-sound h b (same_time (time_of t) x) _ (λ e. (n, newest-begun b t ok.0 of))
   row-sound h b (Asking t (ToWrite o v)) (Answered x Stored) n ok of k tells = when-sound h b (same_time (time_of t) x) _ (λ e. (n, newest-begun b t ok.0 of))
+  row-sound h b (Asking t (ToRead o)) (Refusal x e true) n ok of k tells =
+      when-sound h b (same_time (time_of t) x) _ (λ q. (n, end-allowed b t (outcome.LaterRead o e) ok.0 of (λ s. absurd (false≢true s))))
   row-sound h b (Asking t (ToWrite o v)) (Refusal x e true) n ok of k tells =
       when-sound h b (same_time (time_of t) x) _ (λ q. (n, end-allowed b t (outcome.LaterRead o e) ok.0 of (λ s. absurd (false≢true s))))
   row-sound h b (Asking t (ToWrite o v)) (Refusal x e false) n ok of k tells =

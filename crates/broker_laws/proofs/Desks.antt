@@ -1,5 +1,5 @@
 -- each turn of a broker adds fitting effects with their evidence and right messages; and it leaves nothing owed
-use Rattle.std.proofs.Common.{◌≡◌, ℕ, zero, suc, ◌+◌, ◌<◌, ◌==◌, max, nat_lt, Bool, true, false, ◌&&◌, ◌||◌, length, List, [], ◌∷◌, ◌++◌, refl, sym, ap, subst, Option, Some, None, if◌then◌else◌, arith, append-nil}
+use Rattle.std.proofs.Common.{◌≡◌, ℕ, zero, suc, ◌+◌, ◌<◌, ◌==◌, max, nat_lt, Bool, true, false, ◌&&◌, ◌||◌, length, List, [], ◌∷◌, ◌++◌, refl, sym, ap, subst, Option, Some, None, inl, inr, if◌then◌else◌, arith, append-nil}
 use Rattle.std.proofs.lemmas.Bool.{ltb-true}
 use Rattle.std.proofs.lemmas.Grind.{common_steps}
 use Rattle.std.specs.List.{slice_get}
@@ -220,8 +220,11 @@ module _ (script : List ℕ → Tree) (me run : ℕ) (acts : List Task) where
           planned = refl;
           run_stays = λ y. y;
         })
+    row-ok b (Asking t (ToRead o)) h (Refusal x e true) ok came =
+        when-ok b (same_time (time_of t) x) _ (λ k. good-end b t (outcome.LaterRead o e) ok.0 (inl ok.1)
+        (later-came t (λ y. message.LaterRead y e) x (same_time-is (time_of t) x k) came))
     row-ok b (Asking t (ToWrite o v)) h (Refusal x e true) ok came =
-        when-ok b (same_time (time_of t) x) _ (λ k. good-end b t (outcome.LaterRead o e) ok.0 (v, ok.1)
+        when-ok b (same_time (time_of t) x) _ (λ k. good-end b t (outcome.LaterRead o e) ok.0 (inr (v, ok.1))
         (later-came t (λ y. message.LaterRead y e) x (same_time-is (time_of t) x k) came))
     row-ok b (Asking t (ToWrite o v)) h (Refusal x e false) ok came =
         when-ok b (same_time (time_of t) x) _ (λ k. good-end b t (outcome.LaterVersion o e) ok.0 (v, ok.1)

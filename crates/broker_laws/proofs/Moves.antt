@@ -219,7 +219,8 @@ module _ (script : List ℕ → Tree) (me : ℕ) where
   quiet n t outcome.Committed e h f = tt
   quiet n t (outcome.Withdrawn l) e h f = let b : Over (ending.Withdrawn l) ≡ Over ending.Finished = sym h ∙ ap (λ y. stop_of script y) e ∙ f in cc
   quiet n t (outcome.Failed l k) e h f = let b : Over (ending.Failed l k) ≡ Over ending.Finished = sym h ∙ ap (λ y. stop_of script y) e ∙ f in cc
-  quiet n t (outcome.LaterRead o x) e h f = finished n t _ e h.1 f
+  quiet n t (outcome.LaterRead o x) e (inl h) f = finished n t _ e h f
+  quiet n t (outcome.LaterRead o x) e (inr h) f = finished n t _ e h.1 f
   quiet n t (outcome.LaterVersion o x) e h f = finished n t _ e h.1 f
   quiet n t (outcome.Expired d m) e h f = tt
   quiet n t (outcome.Spent c) e h f = h

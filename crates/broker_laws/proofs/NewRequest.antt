@@ -426,6 +426,9 @@ module _ (script : List ℕ → Tree) (me : ℕ) where
         when-blocks (Asking t (ToRead o)) h b (same_time (time_of t) x) _ (inr (open-clock b t c ok.0, gained (Got v) b t ok.0))
     row-blocks b h (Asking t (ToWrite o v)) (Answered x Stored) ok sa c =
         when-blocks (Asking t (ToWrite o v)) h b (same_time (time_of t) x) _ (inr (open-clock b t c ok.0, gained Stored b t ok.0))
+    row-blocks b h (Asking t (ToRead o)) (Refusal x e true) ok sa c =
+        when-blocks (Asking t (ToRead o)) h b (same_time (time_of t) x) _
+        (inr (open-clock b t c ok.0, gone (λ n. length t.answers + 1 ≤ n) (outcome.LaterRead o e) t.stamp b))
     row-blocks b h (Asking t (ToWrite o v)) (Refusal x e true) ok sa c =
         when-blocks (Asking t (ToWrite o v)) h b (same_time (time_of t) x) _
         (inr (open-clock b t c ok.0, gone (λ n. length t.answers + 1 ≤ n) (outcome.LaterRead o e) t.stamp b))

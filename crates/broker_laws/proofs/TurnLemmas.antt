@@ -40,6 +40,8 @@ module _ (script : List ℕ → Tree) (me : ℕ) where
 
   pub runs-rise : (b : Book) (f : Effect) → FitsBook script me b f → b.run ≤ (enter f b).run
   runs-rise b (effect.End i o) h = run-close o b
+  runs-rise b (effect.Mark at) h = omega arith
+  runs-rise b effect.Whole h = omega arith
   runs-rise b (effect.Put o x v) h = omega arith
   runs-rise b (effect.Stretch o x) h = omega arith
   runs-rise b (effect.Begin s d) h = omega arith

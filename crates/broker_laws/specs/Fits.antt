@@ -1,5 +1,5 @@
 -- Which effects fit a broker's log in every run, whatever its plan was. Logs stand newest first.
-use Rattle.std.specs.Prelude.{◌≡◌, ℕ, max, ◌+◌, ◌<◌, nat_lt, Bool, true, false, length, List, [], ◌∷◌, Some, None}
+use Rattle.std.specs.Prelude.{◌≡◌, ◌⊎◌, ℕ, max, ◌+◌, ◌<◌, nat_lt, Bool, true, false, length, List, [], ◌∷◌, Some, None}
 use Rattle.value_form.specs.declared.endings.Ending.TheVariants.{Finished, Withdrawn, Failed}
 use Rattle.value_form.specs.declared.objects.ObjectId.{ObjectId}
 use Rattle.value_form.specs.declared.values.Value.{Value}
@@ -45,7 +45,7 @@ module _ (script : List ℕ → Tree) where
   EndsBy t outcome.Committed = stop_of script t ≡ Over Finished
   EndsBy t (outcome.Withdrawn l) = stop_of script t ≡ Over (Withdrawn l)
   EndsBy t (outcome.Failed l k) = stop_of script t ≡ Over (Failed l k)
-  EndsBy t (outcome.LaterRead o e) = (v : Value) × IsWriting t o v
+  EndsBy t (outcome.LaterRead o e) = IsReading t o ⊎ ((v : Value) × IsWriting t o v)
   EndsBy t (outcome.LaterVersion o x) = (v : Value) × IsWriting t o v
   EndsBy t (outcome.Expired d m) = Unit {0}
   EndsBy t (outcome.Spent c) = ⊥
@@ -73,6 +73,8 @@ module _ (script : List ℕ → Tree) (me : ℕ) where
   FitsBook b (effect.Got k v) = OpenAt b (λ t. (k ≡ length t.answers + 1) × IsAsked script t (Got v))
   FitsBook b (effect.Acked k) = OpenAt b (λ t. (k ≡ length t.answers + 1) × IsAsked script t Stored)
   FitsBook b (effect.End i o) = EndFits script i o b
+  FitsBook b (effect.Mark at) = ⊥
+  FitsBook b effect.Whole = ⊥
   FitsBook b (effect.Put o x v) = ⊥
   FitsBook b (effect.Stretch o x) = ⊥
   FitsBook b (effect.Begin s d) = ⊥

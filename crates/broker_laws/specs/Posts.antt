@@ -103,6 +103,8 @@ module _ (me : ℕ) where
   RestsOn ever b (effect.Got k v) = OfOpen (open_try b) (λ t. AnswerCame ever (at t.stamp k) (Got v))
   RestsOn ever b (effect.Acked k) = OfOpen (open_try b) (λ t. AnswerCame ever (at t.stamp k) Stored)
   RestsOn ever b (effect.End i o) = OfOpen (open_try b) (λ t. EndCame ever t o)
+  RestsOn ever b (effect.Mark at) = Unit {0}
+  RestsOn ever b effect.Whole = Unit {0}
   RestsOn ever b (effect.Run n) = Unit {0}
   RestsOn ever b (effect.Act i h t k c x) = Unit {0}
   RestsOn ever b (effect.Try i s) = Unit {0}

@@ -106,7 +106,8 @@ when-not false r e n q = absurd (false≢true e)
 module _ (script : List ℕ → Tree) where
   pub heeds-read : (t : Try) (o : ObjectId) (h : Heard) (m : Message) → Answers (time_of t) m → row script (Asking t (ToRead o)) h (news m) ≡ Ignored → ⊥
   heeds-read t o h m (inl (v, e)) q = when-not (same_time (time_of t) (time_of t)) _ (same_time-of (time_of t) (time_of t) refl) (adds-not _) (subst (λ z. row script (Asking t (ToRead o)) h (news z) ≡ Ignored) e q)
-  heeds-read t o h m (inr e) q = when-not (same_time (time_of t) (time_of t)) _ (same_time-of (time_of t) (time_of t) refl) (hears-not _) (subst (λ z. row script (Asking t (ToRead o)) h (news z) ≡ Ignored) e q)
+  heeds-read t o h m (inr (inl e)) q = when-not (same_time (time_of t) (time_of t)) _ (same_time-of (time_of t) (time_of t) refl) (hears-not _) (subst (λ z. row script (Asking t (ToRead o)) h (news z) ≡ Ignored) e q)
+  heeds-read t o h m (inr (inr (x, e))) q = when-not (same_time (time_of t) (time_of t)) _ (same_time-of (time_of t) (time_of t) refl) (adds-not _) (subst (λ z. row script (Asking t (ToRead o)) h (news z) ≡ Ignored) e q)
 
   pub heeds-write : (t : Try) (o : ObjectId) (v : Value) (h : Heard) (m : Message) → WriteAnswers (time_of t) m → row script (Asking t (ToWrite o v)) h (news m) ≡ Ignored → ⊥
   heeds-write t o v h m (inl e) q = when-not (same_time (time_of t) (time_of t)) _ (same_time-of (time_of t) (time_of t) refl) (adds-not _) (subst (λ z. row script (Asking t (ToWrite o v)) h (news z) ≡ Ignored) e q)

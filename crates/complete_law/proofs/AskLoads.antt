@@ -61,6 +61,7 @@ requesting = record {
   pw = 1;
   value = λ t v o. omega arith;
   ended = λ t. omega arith;
+  read-later = λ t e. omega arith;
   asks = λ s. refl;
   tells = λ s c. omega arith;
   learns = λ s c. refl;
@@ -222,6 +223,8 @@ note-free (effect.Try i s) h = let m = total-mono (unasked (effect.Try i s ∷ n
 note-free (effect.Got a v) h = let m = total-mono (unasked (effect.Got a v ∷ now h) h.held) (unasked (now h) h.held) (putters (now h)) (unasked-more (effect.Got a v) (now h) h.held) in omega (arith, m)
 note-free (effect.Acked a) h = let m = total-mono (unasked (effect.Acked a ∷ now h) h.held) (unasked (now h) h.held) (putters (now h)) (unasked-more (effect.Acked a) (now h) h.held) in omega (arith, m)
 note-free (effect.End i e) h = let m = total-mono (unasked (effect.End i e ∷ now h) h.held) (unasked (now h) h.held) (putters (now h)) (unasked-more (effect.End i e) (now h) h.held) in omega (arith, m)
+note-free (effect.Mark at) h = let m = total-mono (unasked (effect.Mark at ∷ now h) h.held) (unasked (now h) h.held) (putters (now h)) (unasked-more (effect.Mark at) (now h) h.held) in omega (arith, m)
+note-free effect.Whole h = let m = total-mono (unasked (effect.Whole ∷ now h) h.held) (unasked (now h) h.held) (putters (now h)) (unasked-more effect.Whole (now h) h.held) in omega (arith, m)
 
 -- ---- held reads
 
@@ -365,6 +368,7 @@ asks-read-as before h from t o (read.Answer v true) e less =
     let j = note-less (effect.Stretch o t) h refl in
     omega (arith, k, j)
 asks-read-as before h from t o (read.Answer v false) e less = let k = plain-send h from (message.Value t v) refl in omega (arith, k)
+asks-read-as before h from t o (read.LaterRead x) e less = let k = plain-send h from (message.LaterRead t x) refl in omega (arith, k)
 asks-read-as before h from t o (read.Wait w) e less = hold-free before h t (record { from = from; object = o; waits = w }) (read-waits (now h) from t o w e) less
 
 asks-read-known : (h : Hand) (from : NodeId) (t : TimeParts) (o : ObjectId) (u : Option Bool) → ask-measure (read_known h from t o u) ≤ ask-measure h + 1

@@ -1,5 +1,5 @@
 -- What a broker has sent and owes is paid by its attempts, and those have no more than the plan allows.
-use Rattle.std.proofs.Common.{◌≡◌, ℕ, ◌+◌, ◌*◌, ◌≤◌, max, Bool, true, false, length, List, [], ◌∷◌, ◌++◌, reverse, refl, sym, ◌∙◌, ap, Option, Some, None, if◌then◌else◌, arith}
+use Rattle.std.proofs.Common.{◌≡◌, ℕ, ◌+◌, ◌*◌, ◌≤◌, max, Bool, true, false, length, List, [], ◌∷◌, ◌++◌, reverse, refl, sym, ◌∙◌, ap, Option, Some, None, inl, inr, if◌then◌else◌, arith}
 use Rattle.std.proofs.lemmas.Bool.{true≢false}
 use Rattle.pseudo_time.specs.Lists.{Every}
 use Rattle.effect_form.specs.declared.effects.Effect.{Effect}
@@ -15,7 +15,7 @@ use Rattle.broker_core.specs.Fits.{keep, stop_of}
 use Rattle.pseudo_time.specs.Nodes.{broker}
 use Rattle.broker_core.specs.Turns as desks
 use Rattle.broker_core.specs.Turns.{Desk, desk_at, desk_turn, state}
-use Rattle.script_meaning.specs.Meaning.{ToWrite}
+use Rattle.script_meaning.specs.Meaning.{ToRead, ToWrite}
 use Rattle.broker_laws.specs.Fits.{EndsBy}
 use Rattle.broker_laws.specs.Posts.{IsPlayed}
 use Rattle.world_core.specs.declared.entries.Entry.{Entry}
@@ -152,7 +152,8 @@ module _ (u v z most : ℕ) (script : List ℕ → Tree) where
       asked q e = let k = ac-is t.answers in let j : asking-one (stop_of script t) ≡ 1 = ap asking-one e in let m = requests-fee (length t.answers) 1 (omega (arith, h, j)) in omega (arith, k, m)
 
       go : (o : Outcome) → EndsBy script t o → ac u v z script t.answers + refused u v z script o ≤ most * v
-      go (outcome.LaterRead o x) k = asked (ToWrite o k.0) k.1
+      go (outcome.LaterRead o x) (inl k) = asked (ToRead o) k
+      go (outcome.LaterRead o x) (inr k) = asked (ToWrite o k.0) k.1
       go (outcome.LaterVersion o x) k = asked (ToWrite o k.0) k.1
       go (outcome.Expired d m) k = plain
       go (outcome.Spent x) k = plain

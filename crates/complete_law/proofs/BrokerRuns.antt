@@ -117,6 +117,7 @@ module _ (script : List ℕ → Tree) (me run : ℕ) (acts : List Task) where
   row-of (Opening t) h (Begun s) = when-of (same_stamp t.stamp s) (Hears (record h { begun = Some t.stamp })) tt
   row-of (Opening t) h (Decided s d) = when-of (same_stamp t.stamp s) (decided_early (is_finished (stop_of script t)) t d) (early-of (is_finished (stop_of script t)) t d)
   row-of (Asking t (ToRead o)) h (Answered x (Got v)) = when-of (same_time (time_of t) x) (Adds (effect.Got x.step v)) tt
+  row-of (Asking t (ToRead o)) h (Refusal x e true) = when-of (same_time (time_of t) x) (ends t (outcome.LaterRead o e)) tt
   row-of (Asking t (ToWrite o v)) h (Answered x Stored) = when-of (same_time (time_of t) x) (Adds (effect.Acked x.step)) tt
   row-of (Asking t (ToWrite o v)) h (Refusal x e true) = when-of (same_time (time_of t) x) (ends t (outcome.LaterRead o e)) tt
   row-of (Asking t (ToWrite o v)) h (Refusal x e false) = when-of (same_time (time_of t) x) (ends t (outcome.LaterVersion o e)) tt

@@ -508,6 +508,8 @@ module _ (u v z : ℕ) (script : List ℕ → Tree) where
       row-room c h b (Opening t) (Decided s d) st ok sound tells k =
           when-room c h b (same_stamp t.stamp s) (decided_early (is_finished (stop_of script t)) t d) (early-room c h b (is_finished (stop_of script t)) t d ok (fresh-most h b t st ok) k)
       row-room c h b (Asking t (ToRead o)) (Answered x (Got y)) st ok sound tells k = when-room c h b (same_time (time_of t) x) (Adds (effect.Got x.step y)) (gain-room c h b t (ToRead o) (Got y) sound.ended ok.0 ok.1 k)
+      row-room c h b (Asking t (ToRead o)) (Refusal x e true) st ok sound tells k =
+          when-room c h b (same_time (time_of t) x) (ends t (outcome.LaterRead o e)) (refused-room c h b t (ToRead o) (outcome.LaterRead o e) ok.0 ok.1 refl k)
       row-room c h b (Asking t (ToWrite o a)) (Answered x Stored) st ok sound tells k = when-room c h b (same_time (time_of t) x) (Adds (effect.Acked x.step)) (gain-room c h b t (ToWrite o a) Stored sound.ended ok.0 ok.1 k)
       row-room c h b (Asking t (ToWrite o a)) (Refusal x e true) st ok sound tells k =
           when-room c h b (same_time (time_of t) x) (ends t (outcome.LaterRead o e)) (refused-room c h b t (ToWrite o a) (outcome.LaterRead o e) ok.0 ok.1 refl k)

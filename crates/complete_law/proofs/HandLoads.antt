@@ -88,6 +88,7 @@ pub record Prices : Type 0 where
   pub pw : ℕ
   pub value : (t : TimeParts) (v : Value) (o : ObjectId) → wt (message.Value t v) + we (effect.Stretch o t) ≤ kh
   pub ended : (t : TimeParts) → wt (message.Ended t) ≤ kh
+  pub read-later : (t e : TimeParts) → wt (message.LaterRead t e) ≤ kh
   pub asks : (s : StampParts) → wt (message.Ask s) ≡ 0
   pub tells : (s : StampParts) (c : Bool) → wt (message.Tell s c) ≤ ka
   pub learns : (s : StampParts) (c : Bool) → we (effect.Learn s c) ≡ 0
@@ -128,6 +129,7 @@ module _ (p : Prices) where
   reads-as : (before : List (TimeParts × HeldRead)) (h : Hand) (from : NodeId) (t : TimeParts) (o : ObjectId) (s : ReadStep) → measure (read_as before h from t o s) ≤ measure h + p.kh
   reads-as before h from t o (read.Answer v true) = let k = sends (note (effect.Stretch o t) h) from (message.Value t v) in let j = p.value t v o in omega (arith, k, j)
   reads-as before h from t o (read.Answer v false) = let k = sends h from (message.Value t v) in let j = p.value t v o in omega (arith, k, j)
+  reads-as before h from t o (read.LaterRead e) = let k = sends h from (message.LaterRead t e) in let j = p.read-later t e in omega (arith, k, j)
   reads-as before h from t o (read.Wait w) =
       let x : HeldRead = record { from = from; object = o; waits = w } in
       let k = asks-for before w (hold t (record { from = from; object = o; waits = w }) h) in

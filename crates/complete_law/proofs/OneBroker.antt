@@ -33,6 +33,8 @@ use Rattle.script_meaning.specs.Meaning.{Answer, Asks, Got, Over, Request, Store
 use Rattle.serial_model.specs.Questions.{stop}
 use Rattle.object_history.specs.declared.steps.WriteStep.{WriteStep}
 use Rattle.object_history.specs.declared.steps.WriteStep.TheVariants as write
+use Rattle.object_history.specs.declared.marks.Mark.TheVariants as mark
+use Rattle.object_history.specs.History.{floor_of}
 use Rattle.object_history.specs.Answers.{stands_written, write_step}
 use Rattle.object_history.proofs.AnswerLemmas.{later-read, later-version}
 use Rattle.object_history.proofs.BoolLemmas.{and-left, and-right}
@@ -42,7 +44,8 @@ use Rattle.repository_core.specs.Rows.{accepts, is_broker_of, on_learn, on_messa
 use Rattle.repository_core.specs.Turns as hands
 use Rattle.repository_core.specs.Turns.{hand_at}
 use Rattle.repository_log.specs.Logs.{known, marks}
-use Rattle.repository_laws.proofs.Logs.{put-logged}
+use Rattle.repository_laws.specs.Facts as repositories
+use Rattle.repository_laws.proofs.Logs.{put-logged, tidy-floor, tidy-marks, tidy-through}
 use Rattle.repository_laws.proofs.Turns.{broker-is}
 use Rattle.repository_waits.proofs.HeldLemmas.{filter-has}
 use Rattle.broker_core.specs.Book.{Book, Try, book, find, tries, tries_of}
@@ -134,6 +137,12 @@ module _ (b : Base) (w : World) (calm : CalmWorld b w) (f : Refines (node_turns 
   module _ (n : ℕ) (opened : (w.flags (repository n)).known ≡ true) where
     abbrev log : List Effect
     log = log_of w (repository n)
+
+    log-tidy : repositories.IsTidy n log
+    log-tidy =
+        let l : Life = w.life (repository n) in
+        let ok : NodeOk (node_facts b.script) (around (happened (node_turns b.script) f.events)) (repository n) (soft_of (w.life (repository n))) = node-there b w calm f (repository n) opened in
+        subst (repositories.IsTidy n) (sym (reverse-append l.gated l.fresh)) (tidy-through n (reverse l.gated) (reverse l.fresh) ok.grew ok.tidy)
 
     -- what an effect of the repository rests on
     rests : (x : Effect) → Has x log → (below : List Effect) × (node_facts b.script).Proof (around (happened (node_turns b.script) f.events)) (repository n) below x
@@ -257,7 +266,11 @@ module _ (b : Base) (w : World) (calm : CalmWorld b w) (f : Refines (node_turns 
         no-later-read : (e : TimeParts) → write_step (marks log) o x v ≡ write.LaterRead e → ⊥
         no-later-read e h =
             let k = later-read (marks log) o x v e h in
-            let read = (rests (effect.Stretch o e) (stretch-logged log o e k.1)).1 in
+            let stretched : Has (mark.Stretch o e) (marks log) = elim k.1 [
+              | inl s ↦ s
+              | inr g ↦ absurd (tidy-marks n log e log-tidy g)
+            ] in
+            let read = (rests (effect.Stretch o e) (stretch-logged log o e stretched)).1 in
             elim (below e (ToRead o) (asked e (message.Read e o) (ToRead o) (sent-before _ read.0) (λ j p. p.2) (λ j p. p.2))) [
               | inl l ↦ true≢false (sym l ∙ lt-asymmetric x e k.0)
               | inr s ↦ true≢false (sym k.0 ∙ subst (λ z. lt x z ≡ false) (sym s) (lt-irreflexive x))
@@ -296,6 +309,9 @@ module _ (b : Base) (w : World) (calm : CalmWorld b w) (f : Refines (node_turns 
           go [] all =
               let same : t.answers ≡ ask.2.0 = all ∙ append-nil ask.2.0 in
               current (subst (λ z. stop (b.script t.task.script) z ≡ Asks (ToWrite o v)) (sym same) ask.2.4) (ask.2.3 ∙ ap (λ (z : List Answer). length z + 1) (sym same))
+
+  no-floor : (n : ℕ) → (w.flags (repository n)).known ≡ true → floor_of (marks (log_of w (repository n))) ≡ None
+  no-floor n opened = tidy-floor n (log_of w (repository n)) (log-tidy n opened)
 
   -- ---- entries
 
@@ -359,7 +375,7 @@ module _ (b : Base) (w : World) (calm : CalmWorld b w) (f : Refines (node_turns 
         (eq-from o.repository i (and-right (is_broker_of x.stamp.broker from0) (o.repository == i) accepted))
 
     take-there : NoRefusal tw
-    take-there = stays (entry.Take (repository i) k) h.outs refl lives (take-plain i (log_of w (repository i)) (w.life (repository i)).mind.hands from0 m0 never)
+    take-there = stays (entry.Take (repository i) k) h.outs refl lives (take-plain i (log_of w (repository i)) (w.life (repository i)).mind.hands (no-floor i opened) from0 m0 never)
 
   pub take-keeps : (n : NodeId) (k : ℕ) (fates : List Fate) → MayTake fates w n k → NoRefusal (step b w (entry.Take n k))
   take-keeps n k fates may = go n.kind n.number may
@@ -401,7 +417,7 @@ module _ (b : Base) (w : World) (calm : CalmWorld b w) (f : Refines (node_turns 
     ]
 
     learn-there : NoRefusal lw
-    learn-there = stays (entry.Learn (repository i) s c) learned-hand.outs refl learned-lives (learn-plain i (log_of w (repository i)) (w.life (repository i)).mind.hands s c)
+    learn-there = stays (entry.Learn (repository i) s c) learned-hand.outs refl learned-lives (learn-plain i (log_of w (repository i)) (w.life (repository i)).mind.hands (no-floor i up-there) s c)
 
   pub learn-keeps : (n : NodeId) (s : StampParts) (c : Bool) → MayLearn w n s c → NoRefusal (step b w (entry.Learn n s c))
   learn-keeps n s c may = go n.kind n.number may

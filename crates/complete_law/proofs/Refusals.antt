@@ -1,5 +1,5 @@
 -- A turn of a repository refuses nothing but the write that it takes, and this one only where its log says so.
-use Rattle.std.proofs.Common.{◌≡◌, Bool, true, false, ◌&&◌, ℕ, List, [], ◌∷◌, refl, ◌∙◌, ap, subst, Option, Some, None, if◌then◌else◌, inl, inr}
+use Rattle.std.proofs.Common.{◌≡◌, Bool, true, false, ◌&&◌, ℕ, List, [], ◌∷◌, refl, sym, ◌∙◌, ap, subst, Option, Some, None, if◌then◌else◌, inl, inr}
 use Rattle.std.proofs.lemmas.Bool.{true≢false, or_left, or_right}
 use Rattle.std.specs.Cmp.{signed_Decides}
 use Rattle.std.specs.Cmp.Lexicographic.{bytes_decides}
@@ -7,7 +7,7 @@ use Rattle.pseudo_time.specs.Lists.{Every, Has}
 use Rattle.pseudo_time.proofs.ListLemmas.{every-append, every-map}
 use Rattle.pseudo_time.specs.StampParts.{StampParts}
 use Rattle.pseudo_time.specs.TimeParts.{TimeParts}
-use Rattle.pseudo_time.specs.Order.{same_time}
+use Rattle.pseudo_time.specs.Order.{lt, same_time}
 use Rattle.pseudo_time.proofs.OrderLemmas.{same_time-of}
 use Rattle.pseudo_time.specs.declared.nodes.NodeId.{NodeId}
 use Rattle.value_form.specs.declared.objects.ObjectId.{ObjectId}
@@ -18,23 +18,23 @@ use Rattle.effect_form.specs.declared.effects.Effect.TheVariants as effect
 use Rattle.message_form.specs.declared.messages.Message.{Message}
 use Rattle.message_form.specs.declared.messages.Message.TheVariants as message
 use Rattle.turn_form.specs.declared.turns.Out.{Out}
-use Rattle.turn_form.specs.Posts.{Post}
 use Rattle.object_history.specs.declared.marks.Mark.{Mark}
 use Rattle.object_history.specs.declared.marks.Mark.TheVariants as mark
+use Rattle.object_history.specs.declared.steps.ReadStep.TheVariants as read
 use Rattle.object_history.specs.declared.steps.WriteStep.{WriteStep}
 use Rattle.object_history.specs.declared.steps.WriteStep.TheVariants as write
-use Rattle.object_history.specs.Answers.{has_put, stands_written, write_step}
-use Rattle.object_history.specs.History.{alive, is_alive, is_settled}
+use Rattle.object_history.specs.Answers.{has_put, read_step, stands_written, write_step}
+use Rattle.object_history.specs.History.{alive, floor_of, is_alive, is_settled}
 use Rattle.object_history.specs.Objects.{same_object, same_value}
 use Rattle.object_history.proofs.ObjectLemmas.{same_object-of}
 use Rattle.object_history.proofs.BoolLemmas.{and-both}
-use Rattle.repository_core.specs.Hands.{Hand, Mind, note, now, send}
+use Rattle.repository_core.specs.Hands.{Hand, Mind, note, send}
 use Rattle.repository_core.specs.Rows.{accepts, on_learn, on_message, on_write, write_as}
 use Rattle.repository_core.specs.Turns.{hand_at}
 use Rattle.repository_log.specs.Logs.{known, marks}
-use Rattle.pseudo_time.specs.Nodes.{repository}
-use Rattle.repository_laws.specs.AnyLogs.{Refuses}
-use Rattle.repository_laws.proofs.AnyTurns.{begun-fine, on-learn-fine, take-fine}
+use Rattle.repository_core.specs.declared.waits.HeldRead.{HeldRead}
+use Rattle.world_core.proofs.Refusals.{Ok, OfRequest, OnFloor, Says, on-learn, on-message, refused-under}
+use Rattle.world_facts.proofs.Growths.{every-of}
 use Rattle.complete_law.specs.Calm.{IsRefusal}
 
 -- ---- marks of a log
@@ -46,6 +46,7 @@ put-marked (effect.Put a y w ∷ l) o x v (inr h) = inr (put-marked l o x v h)
 put-marked (effect.Stretch a y ∷ l) o x v (inr h) = inr (put-marked l o x v h)
 put-marked (effect.Decide s d ∷ l) o x v (inr h) = inr (put-marked l o x v h)
 put-marked (effect.Learn s c ∷ l) o x v (inr h) = inr (put-marked l o x v h)
+put-marked (effect.Mark at ∷ l) o x v (inr h) = inr (put-marked l o x v h)
 put-marked (f ∷ l) o x v (inl q) = absurd (cc q)
 put-marked (f ∷ l) o x v (inr h) = put-marked l o x v h
 
@@ -69,6 +70,8 @@ has_put-has o t v (mark.Stretch a x ∷ m) (inl q) = absurd (cc q)
 has_put-has o t v (mark.Stretch a x ∷ m) (inr h) = has_put-has o t v m h
 has_put-has o t v (mark.Settle s c ∷ m) (inl q) = absurd (cc q)
 has_put-has o t v (mark.Settle s c ∷ m) (inr h) = has_put-has o t v m h
+has_put-has o t v (mark.Floor at ∷ m) (inl q) = absurd (cc q)
+has_put-has o t v (mark.Floor at ∷ m) (inr h) = has_put-has o t v m h
 
 -- a Put of an attempt that isn't known stands
 pub put-written : (l : List Effect) (o : ObjectId) (t : TimeParts) (v : Value) → known l t.stamp ≡ None → Has (effect.Put o t v) l → stands_written (marks l) o t v ≡ true
@@ -91,36 +94,40 @@ abbrev IsNoWrite : Message → Type 0
 IsNoWrite (message.Write t o v) = ⊥
 IsNoWrite _ = Unit {0}
 
--- the refusal of a write that wasn't sent
-unsent : (r : ℕ) (l : List Effect) (to : NodeId) (x : Message) → Refuses [] r l to x → IsRefusal x → ⊥
-unsent r l to (message.LaterRead t e) h i = h.2.0
-unsent r l to (message.LaterVersion t e) h i = h.2.0
-unsent r l to _ h i = i
+-- a step that refuses nothing
+abbrev IsPlainStep : TimeParts → WriteStep → Type 0
+IsPlainStep t w = IsRefusing w → ⊥
 
--- nor of one that was, where the one message that was sent is no Write
-other-sent : (p : Post) (r : ℕ) (l : List Effect) (to : NodeId) (x : Message) → IsNoWrite p.message → Refuses (p ∷ []) r l to x → IsRefusal x → ⊥
-other-sent p r l to (message.LaterRead t e) plain h i = elim h.2.0 [
-  | inl q ↦ subst (λ (y : Post). IsNoWrite y.message) q plain
-  | inr n ↦ n
-]
-other-sent p r l to (message.LaterVersion t e) plain h i = elim h.2.0 [
-  | inl q ↦ subst (λ (y : Post). IsNoWrite y.message) q plain
-  | inr n ↦ n
-]
-other-sent p r l to _ plain h i = i
+said-plain : (m : Message) → Says IsPlainStep m → IsRefusal m → ⊥
+said-plain (message.LaterRead t e) h i = h tt
+said-plain (message.LaterVersion t x) h i = h tt
+said-plain _ h i = i
 
-pub learn-plain : (r : ℕ) (log : List Effect) (mind : Mind) (s : StampParts) (c : Bool) → ArePlain (on_learn (hand_at r log mind) s c).outs
-learn-plain r log mind s c =
-    let h : Hand = on_learn (hand_at r log mind) s c in
-    every-map (λ (o : Out). Refuses [] r (now h) o.to o.message) (λ (o : Out). IsRefusal o.message → ⊥) (λ o k. unsent r (now h) o.to o.message k) h.outs
-    (on-learn-fine [] r log (hand_at r log mind) s c (begun-fine [] r log mind)).outs
+-- where there is no floor, all stand on it
+on-none : (f : Option TimeParts) (t : TimeParts) → f ≡ None → (e : TimeParts) → f ≡ Some e → lt t e ≡ false
+on-none f t none e q = let no : None ≡ Some e = sym none ∙ q in cc no
 
-other-plain : (r : ℕ) (log : List Effect) (mind : Mind) (from : NodeId) (m : Message) → IsNoWrite m → ArePlain (on_message (hand_at r log mind) from m).outs
-other-plain r log mind from m other =
-    let p : Post = record { from = from; to = repository r; message = m } in
-    let h : Hand = on_message (hand_at r log mind) from m in
-    every-map (λ (o : Out). Refuses (p ∷ []) r (now h) o.to o.message) (λ (o : Out). IsRefusal o.message → ⊥) (λ o k. other-sent p r (now h) o.to o.message other k) h.outs
-    (take-fine (p ∷ []) r log (hand_at r log mind) from m (inl refl) (begun-fine (p ∷ []) r log mind)).outs
+module _ (r : ℕ) (log : List Effect) (mind : Mind) (none : floor_of (marks log) ≡ None) where
+  begun-plain : Ok IsPlainStep log (hand_at r log mind)
+  begun-plain = record { past = refl; outs = tt; held = every-of (λ (e : TimeParts × HeldRead). OnFloor IsPlainStep log e.0) mind.held (λ e h. on-none (floor_of (marks log)) e.0 none); floors = refl }
+
+  outs-plain : (h : Hand) → Ok IsPlainStep log h → ArePlain h.outs
+  outs-plain h k = every-map (λ (o : Out). Says IsPlainStep o.message) (λ (o : Out). IsRefusal o.message → ⊥) (λ o s. said-plain o.message s) h.outs k.outs
+
+  pub learn-plain : (s : StampParts) (c : Bool) → ArePlain (on_learn (hand_at r log mind) s c).outs
+  learn-plain s c = outs-plain (on_learn (hand_at r log mind) s c) (on-learn IsPlainStep log (hand_at r log mind) s c begun-plain)
+
+  -- no read is refused
+  no-read : (t : TimeParts) (o : ObjectId) (e : TimeParts) → read_step (marks log) o t ≡ read.LaterRead e → ⊥
+  no-read t o e q = refused-under (floor_of (marks log)) (marks log) o t e q (on-none (floor_of (marks log)) t none)
+
+  of-other : (m : Message) → IsNoWrite m → OfRequest IsPlainStep log log m
+  of-other (message.Write t o v) n = absurd n
+  of-other (message.Read t o) n = λ e q. absurd (no-read t o e q)
+  of-other _ n = tt
+
+  other-plain : (from : NodeId) (m : Message) → IsNoWrite m → ArePlain (on_message (hand_at r log mind) from m).outs
+  other-plain from m other = outs-plain (on_message (hand_at r log mind) from m) (on-message IsPlainStep log (hand_at r log mind) from m begun-plain (λ a. of-other m other))
 
 send-plain : (h : Hand) (to : NodeId) (m : Message) → (IsRefusal m → ⊥) → ArePlain h.outs → ArePlain (send to m h).outs
 send-plain h to m plain k = every-append (λ (o : Out). IsRefusal o.message → ⊥) h.outs (record { to = to; message = m } ∷ []) k (plain, tt)
@@ -156,7 +163,7 @@ write-plain r log mind from t o v never = go (accepts r from (message.Write t o 
     go true n = on-write-plain r log mind from t o v (n refl)
     go false n = tt
 
-pub take-plain : (r : ℕ) (log : List Effect) (mind : Mind) (from : NodeId) (m : Message) → ((t : TimeParts) (o : ObjectId) (v : Value) → m ≡ message.Write t o v → accepts r from m ≡ true → IsNotRefused log t o v) →
+pub take-plain : (r : ℕ) (log : List Effect) (mind : Mind) → floor_of (marks log) ≡ None → (from : NodeId) (m : Message) → ((t : TimeParts) (o : ObjectId) (v : Value) → m ≡ message.Write t o v → accepts r from m ≡ true → IsNotRefused log t o v) →
     ArePlain (on_message (hand_at r log mind) from m).outs
-take-plain r log mind from (message.Write t o v) never = write-plain r log mind from t o v (never t o v refl)
-take-plain r log mind from m never = other-plain r log mind from m tt
+take-plain r log mind none from (message.Write t o v) never = write-plain r log mind from t o v (never t o v refl)
+take-plain r log mind none from m never = other-plain r log mind none from m tt

@@ -2,7 +2,7 @@
 use Rattle.std.proofs.Common.{◌≡◌, ℕ, zero, suc, ◌+◌, ◌≤◌, ◌<◌, ◌==◌, min, Bool, true, false, List, [], ◌∷◌, ◌++◌, map, reverse, cond, refl, sym, ◌∙◌, ap, subst, Some, if◌then◌else◌, arith, slice_get}
 use Rattle.std.proofs.lemmas.Grind.{common_steps}
 use Rattle.std.proofs.lemmas.Bool.{false≢true}
-use Rattle.pseudo_time.specs.Lists.{Has}
+use Rattle.pseudo_time.specs.Lists.{Every, Has}
 use Rattle.pseudo_time.specs.StampParts.{StampParts}
 use Rattle.pseudo_time.specs.declared.nodes.NodeId.{NodeId}
 use Rattle.effect_form.specs.declared.effects.Effect.{Effect}
@@ -18,6 +18,7 @@ use Rattle.pseudo_time.specs.TimeParts.{TimeParts}
 use Rattle.repository_core.specs.Turns as hands
 use Rattle.repository_core.specs.Turns.{hand_at}
 use Rattle.repository_core.specs.Rows.{accepts, on_learn, on_message}
+use Rattle.repository_laws.specs.Facts.{HeldHolds}
 use Rattle.repository_laws.proofs.AnyTurns.{begun-fine, on-learn-fine, take-fine}
 use Rattle.pseudo_time.specs.Nodes.{repository}
 use Rattle.message_core.specs.Tallies.{count}
@@ -30,6 +31,7 @@ use Rattle.world_core.specs.Walks as walks
 use Rattle.world_core.specs.Legal.{MayLearn, MayTake, Rule, times_taken}
 use Rattle.world_facts.proofs.Growths.{numbered-has, every-at}
 use Rattle.complete_law.specs.Calm.{CalmPlace, CalmRun, IsPlain, IsQuiet, world_at}
+use Rattle.complete_law.proofs.BrokerMoves.{node-there}
 use Rattle.complete_law.proofs.Frames.{grown-log}
 use Rattle.complete_law.proofs.HandLoads.{Prices, learnt, price-if, stored-load, taken, times}
 use Rattle.complete_law.proofs.Loads.{Fed, Kept, by-entry, issued, load, load-append, sent-load}
@@ -156,6 +158,10 @@ module _ (v : Message → ℕ) (rest : List Effect → List (TimeParts × HeldRe
       abbrev hand0 : Hand
       hand0 = hand_at n (log_of w (repository n)) (w.life (repository n)).mind.hands
 
+      -- what it holds was sent by those who are to be answered
+      reads : (w.flags (repository n)).up ≡ true → Every (HeldHolds (sent_by w) n) (w.life (repository n)).mind.hands.held
+      reads up = subst (λ ever. Every (HeldHolds ever n) (w.life (repository n)).mind.hands.held) f.models.ever (node-there b w c f (repository n) (sym (c.ups (repository n)) ∙ up)).mind_ok
+
       kept-paid : Kept w w' (repository n) → IsPaidFor w' n
       kept-paid same =
           let x = same.issued v in
@@ -218,7 +224,7 @@ module _ (v : Message → ℕ) (rest : List Effect → List (TimeParts × HeldRe
           let m0 : Message = may.sending.post.message in
           let sent : Has (record { from = may.sending.post.from; to = repository n; message = may.sending.post.message }) (sent_by w) =
           subst (λ z'. Has (record { from = may.sending.post.from; to = z'; message = may.sending.post.message }) (sent_by w)) may.to (numbered-has (λ (x : Sending). x.post) w.sendings number may.sending may.sent) in
-          let base = (take-fine (sent_by w) n (log_of w (repository n)) hand0 may.sending.post.from may.sending.post.message sent (begun-fine (sent_by w) n (log_of w (repository n)) (w.life (repository n)).mind.hands)).past in
+          let base = (take-fine (sent_by w) n (log_of w (repository n)) hand0 may.sending.post.from may.sending.post.message sent (begun-fine (sent_by w) n (log_of w (repository n)) (w.life (repository n)).mind.hands (reads may.up))).past in
           let to : same_node may.sending.post.to (repository n) ≡ true = subst (λ z'. same_node z' (repository n) ≡ true) (sym may.to) (same_node-refl (repository n)) in
           let worth : gain p r n may.sending ≡ price-if p (accepts n may.sending.post.from may.sending.post.message) may.sending.post.message =
           ap (λ t. gain-if t (price-if p (accepts n may.sending.post.from may.sending.post.message) may.sending.post.message)) to in
@@ -230,7 +236,7 @@ module _ (v : Message → ℕ) (rest : List Effect → List (TimeParts × HeldRe
 
       learn-case : (s : StampParts) (d : Bool) → MayLearn w (repository n) s d → Fed w w' (repository n) (after_input b (repository n) (w.life (repository n)) (Learning s d)) → IsPaidFor w' n
       learn-case s d may fed =
-          let base = (on-learn-fine (sent_by w) n (log_of w (repository n)) hand0 s d (begun-fine (sent_by w) n (log_of w (repository n)) (w.life (repository n)).mind.hands)).past in
+          let base = (on-learn-fine (sent_by w) n (log_of w (repository n)) hand0 s d (begun-fine (sent_by w) n (log_of w (repository n)) (w.life (repository n)).mind.hands (reads may.up))).past in
           let u = used-on (gain p r n) b w e in
           let l = learns hand0 s d in
           turn-paid (on_learn hand0 s d) 0 (after_input b (repository n) (w.life (repository n)) (Learning s d)) (hand-learns s d) base fed (omega (arith, l)) (omega (arith, u))

@@ -140,7 +140,7 @@ module _ (b : Base) (w : World) (calm : CalmWorld b w) (f : Refines (node_turns 
       learns = refl
 
       fine : RefusesRightly (sent_by w) n (log_of w (repository n)) h
-      fine = on-learn-fine (sent_by w) n (log_of w (repository n)) old s committed (begun-fine (sent_by w) n (log_of w (repository n)) (w.life (repository n)).mind.hands)
+      fine = on-learn-fine (sent_by w) n (log_of w (repository n)) old s committed (begun-fine (sent_by w) n (log_of w (repository n)) (w.life (repository n)).mind.hands reads)
 
       learn-turned : Turned w lw n h (λ p. ⊥)
       learn-turned = record {
@@ -206,7 +206,7 @@ module _ (b : Base) (w : World) (calm : CalmWorld b w) (f : Refines (node_turns 
       was-sent = subst (λ z. Has (record { from = from0; to = z; message = m0 }) (sent_by w)) may.to (numbered-has (λ (x : Sending). x.post) w.sendings k may.sending may.sent)
 
       t-fine : RefusesRightly (sent_by w) n (log_of w (repository n)) th
-      t-fine = take-fine (sent_by w) n (log_of w (repository n)) old from0 m0 was-sent (begun-fine (sent_by w) n (log_of w (repository n)) (w.life (repository n)).mind.hands)
+      t-fine = take-fine (sent_by w) n (log_of w (repository n)) old from0 m0 was-sent (begun-fine (sent_by w) n (log_of w (repository n)) (w.life (repository n)).mind.hands reads)
 
       take-turned : Turned w tw n th Taken
       take-turned = record {

@@ -170,6 +170,7 @@ stores = record {
   pw = 1;
   value = λ t v o. omega arith;
   ended = λ t. omega arith;
+  read-later = λ t e. omega arith;
   asks = λ s. refl;
   tells = λ s c. omega arith;
   learns = λ s c. refl;

@@ -20,7 +20,7 @@ use Rattle.value_form.specs.ObjectBytes.{IsObject, object_bytes, object_bytes_at
 use Rattle.value_form.specs.ValueBytes.{IsValue, value_bytes, value_at, found, ◌>>=◌, field}
 use Rattle.value_form.proofs.ValueLaws.{field_ok, ok_is, object_form, value_form}
 use Rattle.effect_form.specs.declared.effects.Effect.{Effect}
-use Rattle.effect_form.specs.declared.effects.Effect.TheVariants.{Put, Stretch, Begin, Decide, Learn, Run, Act, Try, Got, Acked, End}
+use Rattle.effect_form.specs.declared.effects.Effect.TheVariants.{Put, Stretch, Begin, Decide, Learn, Run, Act, Try, Got, Acked, End, Mark, Whole}
 use Rattle.effect_form.specs.declared.effects.Place.{Place}
 use Rattle.effect_form.specs.Outcomes.{IsOutcome, outcome_bytes, outcome_at, clock_at}
 use Rattle.effect_form.specs.Sequences.{whole_one, whole_two}
@@ -242,47 +242,57 @@ act_again index home timeout tries clock script rest h =
 effect_of_tag-takes : (bytes after : List ℕ) (tag : ℕ) (w : Written) (rest : List ℕ) → Begins bytes (tag ∷ []) after → effect_of_tag tag after ≡ Ok (w, rest) → Begins bytes (effect_bytes w) rest × IsWritten w
 unfolding effect_of_tag
 effect_of_tag-takes bytes after tag w rest front e =
-    elim (chosen (tag == 1) (put_at after) (cond (tag == 2) (whole_two 1 6 (λ object at. (Stretch object at, None)) object_bytes_at time_at after) (cond (tag == 3) (whole_two 1 11 (λ stamp deadline. (Begin stamp deadline, None)) stamp_at (number_at w64) after) (cond (tag == 4) (whole_two 1 11 (λ stamp decision. (Decide stamp decision, None)) stamp_at decision_at after) (cond (tag == 5) (whole_two 1 11 (λ stamp committed. (Learn stamp committed, None)) stamp_at learned_at after) (cond (tag == 6) (whole_one 1 (λ number. (Run number, None)) positive_at after) (cond (tag == 7) (act_at after) (cond (tag == 8) (whole_two 1 5 (λ index stamp. (Try index stamp, None)) index_at stamp_at after) (cond (tag == 9) (whole_two 1 5 (λ step v. (Got step v, None)) positive_at value_found after) (cond (tag == 10) (whole_one 1 (λ step. (Acked step, None)) positive_at after) (cond (tag == 11) (whole_two 1 5 (λ index outcome. (End index outcome, None)) index_at outcome_at after) (Err 0))))))))))) (Ok (w, rest)) e) [
+    elim (chosen (tag == 1) (put_at after) (cond (tag == 2) (whole_two 1 6 (λ object at. (Stretch object at, None)) object_bytes_at time_at after) (cond (tag == 3) (whole_two 1 11 (λ stamp deadline. (Begin stamp deadline, None)) stamp_at (number_at w64) after) (cond (tag == 4) (whole_two 1 11 (λ stamp decision. (Decide stamp decision, None)) stamp_at decision_at after) (cond (tag == 5) (whole_two 1 11 (λ stamp committed. (Learn stamp committed, None)) stamp_at learned_at after) (cond (tag == 6) (whole_one 1 (λ number. (Run number, None)) positive_at after) (cond (tag == 7) (act_at after) (cond (tag == 8) (whole_two 1 5 (λ index stamp. (Try index stamp, None)) index_at stamp_at after) (cond (tag == 9) (whole_two 1 5 (λ step v. (Got step v, None)) positive_at value_found after) (cond (tag == 10) (whole_one 1 (λ step. (Acked step, None)) positive_at after) (cond (tag == 11) (whole_two 1 5 (λ index outcome. (End index outcome, None)) index_at outcome_at after) (cond (tag == 12) (whole_one 1 (λ at. (Mark at, None)) time_at after) (cond (tag == 13) (Ok ((Whole, None), after)) (Err 0))))))))))))) (Ok (w, rest)) e) [
       | inl h ↦ let t = h.0 in let is : tag ≡ 1 = grind (arith, nat_tests) in let tagged : Begins bytes (1 ∷ []) after = subst (λ (k : ℕ). Begins bytes (k ∷ []) after) is front in put_takes bytes after w rest tagged h.1
-      | inr h0 ↦ elim (chosen (tag == 2) (whole_two 1 6 (λ object at. (Stretch object at, None)) object_bytes_at time_at after) (cond (tag == 3) (whole_two 1 11 (λ stamp deadline. (Begin stamp deadline, None)) stamp_at (number_at w64) after) (cond (tag == 4) (whole_two 1 11 (λ stamp decision. (Decide stamp decision, None)) stamp_at decision_at after) (cond (tag == 5) (whole_two 1 11 (λ stamp committed. (Learn stamp committed, None)) stamp_at learned_at after) (cond (tag == 6) (whole_one 1 (λ number. (Run number, None)) positive_at after) (cond (tag == 7) (act_at after) (cond (tag == 8) (whole_two 1 5 (λ index stamp. (Try index stamp, None)) index_at stamp_at after) (cond (tag == 9) (whole_two 1 5 (λ step v. (Got step v, None)) positive_at value_found after) (cond (tag == 10) (whole_one 1 (λ step. (Acked step, None)) positive_at after) (cond (tag == 11) (whole_two 1 5 (λ index outcome. (End index outcome, None)) index_at outcome_at after) (Err 0)))))))))) (Ok (w, rest)) h0.1) [
+      | inr h0 ↦ elim (chosen (tag == 2) (whole_two 1 6 (λ object at. (Stretch object at, None)) object_bytes_at time_at after) (cond (tag == 3) (whole_two 1 11 (λ stamp deadline. (Begin stamp deadline, None)) stamp_at (number_at w64) after) (cond (tag == 4) (whole_two 1 11 (λ stamp decision. (Decide stamp decision, None)) stamp_at decision_at after) (cond (tag == 5) (whole_two 1 11 (λ stamp committed. (Learn stamp committed, None)) stamp_at learned_at after) (cond (tag == 6) (whole_one 1 (λ number. (Run number, None)) positive_at after) (cond (tag == 7) (act_at after) (cond (tag == 8) (whole_two 1 5 (λ index stamp. (Try index stamp, None)) index_at stamp_at after) (cond (tag == 9) (whole_two 1 5 (λ step v. (Got step v, None)) positive_at value_found after) (cond (tag == 10) (whole_one 1 (λ step. (Acked step, None)) positive_at after) (cond (tag == 11) (whole_two 1 5 (λ index outcome. (End index outcome, None)) index_at outcome_at after) (cond (tag == 12) (whole_one 1 (λ at. (Mark at, None)) time_at after) (cond (tag == 13) (Ok ((Whole, None), after)) (Err 0)))))))))))) (Ok (w, rest)) h0.1) [
         | inl h ↦ let t = h.0 in let is : tag ≡ 2 = grind (arith, nat_tests) in let tagged : Begins bytes (2 ∷ []) after = subst (λ (k : ℕ). Begins bytes (k ∷ []) after) is front in
             let x = whole_two-takes object_bytes IsObject object_bytes_at object_form time_bytes IsTime time_at time_form (λ object at. (Stretch object at, None)) 1 6 after w rest front.rest_is_bytes h.1 in
             subst (λ (y : Written). Begins bytes (effect_bytes y) rest × IsWritten y) x.2 (Begins-then bytes (2 ∷ []) after (object_bytes x.0 ++ time_bytes x.1) rest tagged x.3, ((x.4, x.5), refl))
-        | inr h1 ↦ elim (chosen (tag == 3) (whole_two 1 11 (λ stamp deadline. (Begin stamp deadline, None)) stamp_at (number_at w64) after) (cond (tag == 4) (whole_two 1 11 (λ stamp decision. (Decide stamp decision, None)) stamp_at decision_at after) (cond (tag == 5) (whole_two 1 11 (λ stamp committed. (Learn stamp committed, None)) stamp_at learned_at after) (cond (tag == 6) (whole_one 1 (λ number. (Run number, None)) positive_at after) (cond (tag == 7) (act_at after) (cond (tag == 8) (whole_two 1 5 (λ index stamp. (Try index stamp, None)) index_at stamp_at after) (cond (tag == 9) (whole_two 1 5 (λ step v. (Got step v, None)) positive_at value_found after) (cond (tag == 10) (whole_one 1 (λ step. (Acked step, None)) positive_at after) (cond (tag == 11) (whole_two 1 5 (λ index outcome. (End index outcome, None)) index_at outcome_at after) (Err 0))))))))) (Ok (w, rest)) h1.1) [
+        | inr h1 ↦ elim (chosen (tag == 3) (whole_two 1 11 (λ stamp deadline. (Begin stamp deadline, None)) stamp_at (number_at w64) after) (cond (tag == 4) (whole_two 1 11 (λ stamp decision. (Decide stamp decision, None)) stamp_at decision_at after) (cond (tag == 5) (whole_two 1 11 (λ stamp committed. (Learn stamp committed, None)) stamp_at learned_at after) (cond (tag == 6) (whole_one 1 (λ number. (Run number, None)) positive_at after) (cond (tag == 7) (act_at after) (cond (tag == 8) (whole_two 1 5 (λ index stamp. (Try index stamp, None)) index_at stamp_at after) (cond (tag == 9) (whole_two 1 5 (λ step v. (Got step v, None)) positive_at value_found after) (cond (tag == 10) (whole_one 1 (λ step. (Acked step, None)) positive_at after) (cond (tag == 11) (whole_two 1 5 (λ index outcome. (End index outcome, None)) index_at outcome_at after) (cond (tag == 12) (whole_one 1 (λ at. (Mark at, None)) time_at after) (cond (tag == 13) (Ok ((Whole, None), after)) (Err 0))))))))))) (Ok (w, rest)) h1.1) [
           | inl h ↦ let t = h.0 in let is : tag ≡ 3 = grind (arith, nat_tests) in let tagged : Begins bytes (3 ∷ []) after = subst (λ (k : ℕ). Begins bytes (k ∷ []) after) is front in
               let x = whole_two-takes stamp_bytes IsStamp stamp_at stamp_form (to_be_bytes w64) IsLong (number_at w64) u64_form (λ stamp deadline. (Begin stamp deadline, None)) 1 11 after w rest front.rest_is_bytes h.1 in
               subst (λ (y : Written). Begins bytes (effect_bytes y) rest × IsWritten y) x.2 (Begins-then bytes (3 ∷ []) after (stamp_bytes x.0 ++ to_be_bytes w64 x.1) rest tagged x.3, ((x.4, x.5), refl))
-          | inr h2 ↦ elim (chosen (tag == 4) (whole_two 1 11 (λ stamp decision. (Decide stamp decision, None)) stamp_at decision_at after) (cond (tag == 5) (whole_two 1 11 (λ stamp committed. (Learn stamp committed, None)) stamp_at learned_at after) (cond (tag == 6) (whole_one 1 (λ number. (Run number, None)) positive_at after) (cond (tag == 7) (act_at after) (cond (tag == 8) (whole_two 1 5 (λ index stamp. (Try index stamp, None)) index_at stamp_at after) (cond (tag == 9) (whole_two 1 5 (λ step v. (Got step v, None)) positive_at value_found after) (cond (tag == 10) (whole_one 1 (λ step. (Acked step, None)) positive_at after) (cond (tag == 11) (whole_two 1 5 (λ index outcome. (End index outcome, None)) index_at outcome_at after) (Err 0)))))))) (Ok (w, rest)) h2.1) [
+          | inr h2 ↦ elim (chosen (tag == 4) (whole_two 1 11 (λ stamp decision. (Decide stamp decision, None)) stamp_at decision_at after) (cond (tag == 5) (whole_two 1 11 (λ stamp committed. (Learn stamp committed, None)) stamp_at learned_at after) (cond (tag == 6) (whole_one 1 (λ number. (Run number, None)) positive_at after) (cond (tag == 7) (act_at after) (cond (tag == 8) (whole_two 1 5 (λ index stamp. (Try index stamp, None)) index_at stamp_at after) (cond (tag == 9) (whole_two 1 5 (λ step v. (Got step v, None)) positive_at value_found after) (cond (tag == 10) (whole_one 1 (λ step. (Acked step, None)) positive_at after) (cond (tag == 11) (whole_two 1 5 (λ index outcome. (End index outcome, None)) index_at outcome_at after) (cond (tag == 12) (whole_one 1 (λ at. (Mark at, None)) time_at after) (cond (tag == 13) (Ok ((Whole, None), after)) (Err 0)))))))))) (Ok (w, rest)) h2.1) [
             | inl h ↦ let t = h.0 in let is : tag ≡ 4 = grind (arith, nat_tests) in let tagged : Begins bytes (4 ∷ []) after = subst (λ (k : ℕ). Begins bytes (k ∷ []) after) is front in
                 let x = whole_two-takes stamp_bytes IsStamp stamp_at stamp_form decision_text IsDecision decision_at decision_form (λ stamp decision. (Decide stamp decision, None)) 1 11 after w rest front.rest_is_bytes h.1 in
                 subst (λ (y : Written). Begins bytes (effect_bytes y) rest × IsWritten y) x.2 (Begins-then bytes (4 ∷ []) after (stamp_bytes x.0 ++ decision_text x.1) rest tagged x.3, ((x.4, x.5), refl))
-            | inr h3 ↦ elim (chosen (tag == 5) (whole_two 1 11 (λ stamp committed. (Learn stamp committed, None)) stamp_at learned_at after) (cond (tag == 6) (whole_one 1 (λ number. (Run number, None)) positive_at after) (cond (tag == 7) (act_at after) (cond (tag == 8) (whole_two 1 5 (λ index stamp. (Try index stamp, None)) index_at stamp_at after) (cond (tag == 9) (whole_two 1 5 (λ step v. (Got step v, None)) positive_at value_found after) (cond (tag == 10) (whole_one 1 (λ step. (Acked step, None)) positive_at after) (cond (tag == 11) (whole_two 1 5 (λ index outcome. (End index outcome, None)) index_at outcome_at after) (Err 0))))))) (Ok (w, rest)) h3.1) [
+            | inr h3 ↦ elim (chosen (tag == 5) (whole_two 1 11 (λ stamp committed. (Learn stamp committed, None)) stamp_at learned_at after) (cond (tag == 6) (whole_one 1 (λ number. (Run number, None)) positive_at after) (cond (tag == 7) (act_at after) (cond (tag == 8) (whole_two 1 5 (λ index stamp. (Try index stamp, None)) index_at stamp_at after) (cond (tag == 9) (whole_two 1 5 (λ step v. (Got step v, None)) positive_at value_found after) (cond (tag == 10) (whole_one 1 (λ step. (Acked step, None)) positive_at after) (cond (tag == 11) (whole_two 1 5 (λ index outcome. (End index outcome, None)) index_at outcome_at after) (cond (tag == 12) (whole_one 1 (λ at. (Mark at, None)) time_at after) (cond (tag == 13) (Ok ((Whole, None), after)) (Err 0))))))))) (Ok (w, rest)) h3.1) [
               | inl h ↦ let t = h.0 in let is : tag ≡ 5 = grind (arith, nat_tests) in let tagged : Begins bytes (5 ∷ []) after = subst (λ (k : ℕ). Begins bytes (k ∷ []) after) is front in
                   let x = whole_two-takes stamp_bytes IsStamp stamp_at stamp_form learned_bytes AnyAnswer learned_at learned_form (λ stamp committed. (Learn stamp committed, None)) 1 11 after w rest front.rest_is_bytes h.1 in
                   subst (λ (y : Written). Begins bytes (effect_bytes y) rest × IsWritten y) x.2 (Begins-then bytes (5 ∷ []) after (stamp_bytes x.0 ++ learned_bytes x.1) rest tagged x.3, ((x.4, x.5), refl))
-              | inr h4 ↦ elim (chosen (tag == 6) (whole_one 1 (λ number. (Run number, None)) positive_at after) (cond (tag == 7) (act_at after) (cond (tag == 8) (whole_two 1 5 (λ index stamp. (Try index stamp, None)) index_at stamp_at after) (cond (tag == 9) (whole_two 1 5 (λ step v. (Got step v, None)) positive_at value_found after) (cond (tag == 10) (whole_one 1 (λ step. (Acked step, None)) positive_at after) (cond (tag == 11) (whole_two 1 5 (λ index outcome. (End index outcome, None)) index_at outcome_at after) (Err 0)))))) (Ok (w, rest)) h4.1) [
+              | inr h4 ↦ elim (chosen (tag == 6) (whole_one 1 (λ number. (Run number, None)) positive_at after) (cond (tag == 7) (act_at after) (cond (tag == 8) (whole_two 1 5 (λ index stamp. (Try index stamp, None)) index_at stamp_at after) (cond (tag == 9) (whole_two 1 5 (λ step v. (Got step v, None)) positive_at value_found after) (cond (tag == 10) (whole_one 1 (λ step. (Acked step, None)) positive_at after) (cond (tag == 11) (whole_two 1 5 (λ index outcome. (End index outcome, None)) index_at outcome_at after) (cond (tag == 12) (whole_one 1 (λ at. (Mark at, None)) time_at after) (cond (tag == 13) (Ok ((Whole, None), after)) (Err 0)))))))) (Ok (w, rest)) h4.1) [
                 | inl h ↦ let t = h.0 in let is : tag ≡ 6 = grind (arith, nat_tests) in let tagged : Begins bytes (6 ∷ []) after = subst (λ (k : ℕ). Begins bytes (k ∷ []) after) is front in
                     let x = whole_one-takes (to_be_bytes w32) IsPositive positive_at positive_form (λ number. (Run number, None)) 1 after w rest front.rest_is_bytes h.1 in
                     subst (λ (y : Written). Begins bytes (effect_bytes y) rest × IsWritten y) x.1 (Begins-then bytes (6 ∷ []) after (to_be_bytes w32 x.0) rest tagged x.2, (x.3, refl))
-                | inr h5 ↦ elim (chosen (tag == 7) (act_at after) (cond (tag == 8) (whole_two 1 5 (λ index stamp. (Try index stamp, None)) index_at stamp_at after) (cond (tag == 9) (whole_two 1 5 (λ step v. (Got step v, None)) positive_at value_found after) (cond (tag == 10) (whole_one 1 (λ step. (Acked step, None)) positive_at after) (cond (tag == 11) (whole_two 1 5 (λ index outcome. (End index outcome, None)) index_at outcome_at after) (Err 0))))) (Ok (w, rest)) h5.1) [
+                | inr h5 ↦ elim (chosen (tag == 7) (act_at after) (cond (tag == 8) (whole_two 1 5 (λ index stamp. (Try index stamp, None)) index_at stamp_at after) (cond (tag == 9) (whole_two 1 5 (λ step v. (Got step v, None)) positive_at value_found after) (cond (tag == 10) (whole_one 1 (λ step. (Acked step, None)) positive_at after) (cond (tag == 11) (whole_two 1 5 (λ index outcome. (End index outcome, None)) index_at outcome_at after) (cond (tag == 12) (whole_one 1 (λ at. (Mark at, None)) time_at after) (cond (tag == 13) (Ok ((Whole, None), after)) (Err 0))))))) (Ok (w, rest)) h5.1) [
                   | inl h ↦ let t = h.0 in let is : tag ≡ 7 = grind (arith, nat_tests) in let tagged : Begins bytes (7 ∷ []) after = subst (λ (k : ℕ). Begins bytes (k ∷ []) after) is front in act_takes bytes after w rest tagged h.1
-                  | inr h6 ↦ elim (chosen (tag == 8) (whole_two 1 5 (λ index stamp. (Try index stamp, None)) index_at stamp_at after) (cond (tag == 9) (whole_two 1 5 (λ step v. (Got step v, None)) positive_at value_found after) (cond (tag == 10) (whole_one 1 (λ step. (Acked step, None)) positive_at after) (cond (tag == 11) (whole_two 1 5 (λ index outcome. (End index outcome, None)) index_at outcome_at after) (Err 0)))) (Ok (w, rest)) h6.1) [
+                  | inr h6 ↦ elim (chosen (tag == 8) (whole_two 1 5 (λ index stamp. (Try index stamp, None)) index_at stamp_at after) (cond (tag == 9) (whole_two 1 5 (λ step v. (Got step v, None)) positive_at value_found after) (cond (tag == 10) (whole_one 1 (λ step. (Acked step, None)) positive_at after) (cond (tag == 11) (whole_two 1 5 (λ index outcome. (End index outcome, None)) index_at outcome_at after) (cond (tag == 12) (whole_one 1 (λ at. (Mark at, None)) time_at after) (cond (tag == 13) (Ok ((Whole, None), after)) (Err 0)))))) (Ok (w, rest)) h6.1) [
                     | inl h ↦ let t = h.0 in let is : tag ≡ 8 = grind (arith, nat_tests) in let tagged : Begins bytes (8 ∷ []) after = subst (λ (k : ℕ). Begins bytes (k ∷ []) after) is front in
                         let x = whole_two-takes (to_be_bytes w32) IsIndex index_at index_form stamp_bytes IsStamp stamp_at stamp_form (λ index stamp. (Try index stamp, None)) 1 5 after w rest front.rest_is_bytes h.1 in
                         subst (λ (y : Written). Begins bytes (effect_bytes y) rest × IsWritten y) x.2 (Begins-then bytes (8 ∷ []) after (to_be_bytes w32 x.0 ++ stamp_bytes x.1) rest tagged x.3, ((x.4, x.5), refl))
-                    | inr h7 ↦ elim (chosen (tag == 9) (whole_two 1 5 (λ step v. (Got step v, None)) positive_at value_found after) (cond (tag == 10) (whole_one 1 (λ step. (Acked step, None)) positive_at after) (cond (tag == 11) (whole_two 1 5 (λ index outcome. (End index outcome, None)) index_at outcome_at after) (Err 0))) (Ok (w, rest)) h7.1) [
+                    | inr h7 ↦ elim (chosen (tag == 9) (whole_two 1 5 (λ step v. (Got step v, None)) positive_at value_found after) (cond (tag == 10) (whole_one 1 (λ step. (Acked step, None)) positive_at after) (cond (tag == 11) (whole_two 1 5 (λ index outcome. (End index outcome, None)) index_at outcome_at after) (cond (tag == 12) (whole_one 1 (λ at. (Mark at, None)) time_at after) (cond (tag == 13) (Ok ((Whole, None), after)) (Err 0))))) (Ok (w, rest)) h7.1) [
                       | inl h ↦ let t = h.0 in let is : tag ≡ 9 = grind (arith, nat_tests) in let tagged : Begins bytes (9 ∷ []) after = subst (λ (k : ℕ). Begins bytes (k ∷ []) after) is front in
                           let x = whole_two-takes (to_be_bytes w32) IsPositive positive_at positive_form value_bytes IsValue value_found value_form (λ step v. (Got step v, None)) 1 5 after w rest front.rest_is_bytes h.1 in
                           subst (λ (y : Written). Begins bytes (effect_bytes y) rest × IsWritten y) x.2 (Begins-then bytes (9 ∷ []) after (to_be_bytes w32 x.0 ++ value_bytes x.1) rest tagged x.3, ((x.4, x.5), refl))
-                      | inr h8 ↦ elim (chosen (tag == 10) (whole_one 1 (λ step. (Acked step, None)) positive_at after) (cond (tag == 11) (whole_two 1 5 (λ index outcome. (End index outcome, None)) index_at outcome_at after) (Err 0)) (Ok (w, rest)) h8.1) [
+                      | inr h8 ↦ elim (chosen (tag == 10) (whole_one 1 (λ step. (Acked step, None)) positive_at after) (cond (tag == 11) (whole_two 1 5 (λ index outcome. (End index outcome, None)) index_at outcome_at after) (cond (tag == 12) (whole_one 1 (λ at. (Mark at, None)) time_at after) (cond (tag == 13) (Ok ((Whole, None), after)) (Err 0)))) (Ok (w, rest)) h8.1) [
                         | inl h ↦ let t = h.0 in let is : tag ≡ 10 = grind (arith, nat_tests) in let tagged : Begins bytes (10 ∷ []) after = subst (λ (k : ℕ). Begins bytes (k ∷ []) after) is front in
                             let x = whole_one-takes (to_be_bytes w32) IsPositive positive_at positive_form (λ step. (Acked step, None)) 1 after w rest front.rest_is_bytes h.1 in
                             subst (λ (y : Written). Begins bytes (effect_bytes y) rest × IsWritten y) x.1 (Begins-then bytes (10 ∷ []) after (to_be_bytes w32 x.0) rest tagged x.2, (x.3, refl))
-                        | inr h9 ↦ elim (chosen (tag == 11) (whole_two 1 5 (λ index outcome. (End index outcome, None)) index_at outcome_at after) (Err 0) (Ok (w, rest)) h9.1) [
+                        | inr h9 ↦ elim (chosen (tag == 11) (whole_two 1 5 (λ index outcome. (End index outcome, None)) index_at outcome_at after) (cond (tag == 12) (whole_one 1 (λ at. (Mark at, None)) time_at after) (cond (tag == 13) (Ok ((Whole, None), after)) (Err 0))) (Ok (w, rest)) h9.1) [
                           | inl h ↦ let t = h.0 in let is : tag ≡ 11 = grind (arith, nat_tests) in let tagged : Begins bytes (11 ∷ []) after = subst (λ (k : ℕ). Begins bytes (k ∷ []) after) is front in
                               let x = whole_two-takes (to_be_bytes w32) IsIndex index_at index_form outcome_bytes IsOutcome outcome_at outcome_form (λ index outcome. (End index outcome, None)) 1 5 after w rest front.rest_is_bytes h.1 in
                               subst (λ (y : Written). Begins bytes (effect_bytes y) rest × IsWritten y) x.2 (Begins-then bytes (11 ∷ []) after (to_be_bytes w32 x.0 ++ outcome_bytes x.1) rest tagged x.3, ((x.4, x.5), refl))
-                          | inr h10 ↦ absurd (let t = h10.1 in cc)
+                          | inr h10 ↦ elim (chosen (tag == 12) (whole_one 1 (λ at. (Mark at, None)) time_at after) (cond (tag == 13) (Ok ((Whole, None), after)) (Err 0)) (Ok (w, rest)) h10.1) [
+                            | inl h ↦ let t = h.0 in let is : tag ≡ 12 = grind (arith, nat_tests) in let tagged : Begins bytes (12 ∷ []) after = subst (λ (k : ℕ). Begins bytes (k ∷ []) after) is front in
+                                let x = whole_one-takes time_bytes IsTime time_at time_form (λ at. (Mark at, None)) 1 after w rest front.rest_is_bytes h.1 in
+                                subst (λ (y : Written). Begins bytes (effect_bytes y) rest × IsWritten y) x.1 (Begins-then bytes (12 ∷ []) after (time_bytes x.0) rest tagged x.2, (x.3, refl))
+                            | inr h11 ↦ elim (chosen (tag == 13) (Ok ((Whole, None), after)) (Err 0) (Ok (w, rest)) h11.1) [
+                              | inl h ↦ let t = h.0 in let is : tag ≡ 13 = grind (arith, nat_tests) in let tagged : Begins bytes (13 ∷ []) after = subst (λ (k : ℕ). Begins bytes (k ∷ []) after) is front in
+                                  let made : Written × List ℕ = ((Whole, None), after) in
+                                  subst (λ (y : Written × List ℕ). Begins bytes (effect_bytes y.0) y.1 × IsWritten y.0) (ok_is made (w, rest) h.1) (tagged, (tt, refl))
+                              | inr h12 ↦ absurd (let t = h12.1 in cc)
+                            ]
+                          ]
                         ]
                       ]
                     ]
@@ -314,3 +324,5 @@ effect_again (Try index stamp, back) rest h = whole_two-again (to_be_bytes w32) 
 effect_again (Got step v, back) rest h = whole_two-again (to_be_bytes w32) IsPositive positive_at positive_form value_bytes IsValue value_found value_form (λ step v. (Got step v, None)) 1 5 step v rest h.0.0 h.0.1 ∙ ap (λ (b : Option Place). Ok ((Got step v, b), rest)) (sym h.1)
 effect_again (Acked step, back) rest h = whole_one-again (to_be_bytes w32) IsPositive positive_at positive_form (λ step. (Acked step, None)) 1 step rest h.0 ∙ ap (λ (b : Option Place). Ok ((Acked step, b), rest)) (sym h.1)
 effect_again (End index outcome, back) rest h = whole_two-again (to_be_bytes w32) IsIndex index_at index_form outcome_bytes IsOutcome outcome_at outcome_form (λ index outcome. (End index outcome, None)) 1 5 index outcome rest h.0.0 h.0.1 ∙ ap (λ (b : Option Place). Ok ((End index outcome, b), rest)) (sym h.1)
+effect_again (Mark at, back) rest h = whole_one-again time_bytes IsTime time_at time_form (λ at. (Mark at, None)) 1 at rest h.0 ∙ ap (λ (b : Option Place). Ok ((Mark at, b), rest)) (sym h.1)
+effect_again (Whole, back) rest h = ap (λ (b : Option Place). Ok ((Whole, b), rest)) (sym h.1)

@@ -9,7 +9,7 @@ use Rattle.value_form.proofs.ValueLaws.{value_takes, ok_is}
 use Rattle.pseudo_time.specs.TimeParts.{time_bytes}
 use Rattle.value_form.specs.ObjectBytes.{object_bytes}
 use Rattle.effect_form.specs.declared.effects.Effect.{Effect}
-use Rattle.effect_form.specs.declared.effects.Effect.TheVariants.{Put, Stretch, Begin, Decide, Learn, Run, Act, Try, Got, Acked, End}
+use Rattle.effect_form.specs.declared.effects.Effect.TheVariants.{Put, Stretch, Begin, Decide, Learn, Run, Act, Try, Got, Acked, End, Mark, Whole}
 use Rattle.effect_form.specs.declared.effects.Place.{Place}
 use Rattle.effect_form.specs.declared.faults.EffectFault.{EffectFault}
 use Rattle.effect_form.specs.Effects.{Written, IsWritten, back_bytes, effect_bytes, effect_at}
@@ -66,3 +66,5 @@ length-effect_bytes (Try index stamp) a b = refl
 length-effect_bytes (Got step v) a b = refl
 length-effect_bytes (Acked step) a b = refl
 length-effect_bytes (End index outcome) a b = refl
+length-effect_bytes (Mark at) a b = refl
+length-effect_bytes Whole a b = refl

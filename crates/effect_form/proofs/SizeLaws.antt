@@ -7,7 +7,7 @@ use Rattle.value_form.specs.declared.values.Value.{Value}
 use Rattle.value_form.specs.declared.values.Value.TheVariants.{Nothing, Number, Text}
 use Rattle.value_form.specs.ValueBytes.{IsValue, value_bytes}
 use Rattle.effect_form.specs.declared.effects.Effect.{Effect}
-use Rattle.effect_form.specs.declared.effects.Effect.TheVariants.{Put, Stretch, Begin, Decide, Learn, Run, Act, Try, Got, Acked, End}
+use Rattle.effect_form.specs.declared.effects.Effect.TheVariants.{Put, Stretch, Begin, Decide, Learn, Run, Act, Try, Got, Acked, End, Mark, Whole}
 use Rattle.effect_form.specs.declared.effects.Place.{Place}
 use Rattle.effect_form.specs.declared.outcomes.Outcome.{Outcome}
 use Rattle.effect_form.specs.declared.outcomes.Outcome.TheVariants.{Committed, Withdrawn, Failed, LaterRead, LaterVersion, Expired, Spent}
@@ -27,6 +27,8 @@ effect_cons (Try index stamp, back) = (_, _, refl)
 effect_cons (Got step v, back) = (_, _, refl)
 effect_cons (Acked step, back) = (_, _, refl)
 effect_cons (End index outcome, back) = (_, _, refl)
+effect_cons (Mark at, back) = (_, _, refl)
+effect_cons (Whole, back) = (_, _, refl)
 
 pub size_some : (e : Effect) → 1 ≤ size_of e
 size_some e = let first = effect_cons (e, None) in omega (arith, ap length first.2)
@@ -63,6 +65,8 @@ size_most (Try index stamp) h = omega arith
 size_most (Got step v) h = let most = value_most v h.0.1 in omega (arith, most)
 size_most (Acked step) h = omega arith
 size_most (End index outcome) h = let most = outcome_most outcome in omega (arith, most)
+size_most (Mark at) h = omega arith
+size_most Whole h = omega arith
 
 -- an effect that is in range with a back place is in range without one
 pub without_back : (e : Effect) (back : Option Place) → IsWritten (e, back) → IsEffect e
@@ -77,3 +81,5 @@ without_back (Try index stamp) back h = (h.0, refl)
 without_back (Got step v) back h = (h.0, refl)
 without_back (Acked step) back h = (h.0, refl)
 without_back (End index outcome) back h = (h.0, refl)
+without_back (Mark at) back h = (h.0, refl)
+without_back Whole back h = (h.0, refl)

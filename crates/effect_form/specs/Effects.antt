@@ -12,7 +12,7 @@ use Rattle.field_form.specs.Times.{stamp_at, time_at}
 use Rattle.value_form.specs.ObjectBytes.{IsObject, object_bytes, object_bytes_at}
 use Rattle.value_form.specs.ValueBytes.{IsValue, value_bytes, value_at, found, ◌>>=◌, field}
 use Rattle.effect_form.specs.declared.effects.Effect.{Effect}
-use Rattle.effect_form.specs.declared.effects.Effect.TheVariants.{Put, Stretch, Begin, Decide, Learn, Run, Act, Try, Got, Acked, End}
+use Rattle.effect_form.specs.declared.effects.Effect.TheVariants.{Put, Stretch, Begin, Decide, Learn, Run, Act, Try, Got, Acked, End, Mark, Whole}
 use Rattle.effect_form.specs.declared.effects.Place.{Place}
 use Rattle.effect_form.specs.Outcomes.{IsOutcome, outcome_bytes, outcome_at, clock_at}
 use Rattle.effect_form.specs.Sequences.{whole_one, whole_two}
@@ -99,6 +99,8 @@ effect_bytes (Try index stamp, back) = 8 ∷ (to_be_bytes w32 index ++ stamp_byt
 effect_bytes (Got step v, back) = 9 ∷ (to_be_bytes w32 step ++ value_bytes v)
 effect_bytes (Acked step, back) = 10 ∷ to_be_bytes w32 step
 effect_bytes (End index outcome, back) = 11 ∷ (to_be_bytes w32 index ++ outcome_bytes outcome)
+effect_bytes (Mark at, back) = 12 ∷ time_bytes at
+effect_bytes (Whole, back) = 13 ∷ []
 
 -- the ranges of an act's fields
 pub record IsActEffect (index home timeout tries clock : ℕ) (script : List ℕ) : Type 0 where
@@ -123,6 +125,8 @@ IsWritten (Try index stamp, back) = (IsIndex index × IsStamp stamp) × (back �
 IsWritten (Got step v, back) = (IsPositive step × IsValue v) × (back ≡ None)
 IsWritten (Acked step, back) = IsPositive step × (back ≡ None)
 IsWritten (End index outcome, back) = (IsIndex index × IsOutcome outcome) × (back ≡ None)
+IsWritten (Mark at, back) = IsTime at × (back ≡ None)
+IsWritten (Whole, back) = Unit {0} × (back ≡ None)
 
 -- an effect that has bytes: its fields are in their ranges
 abbrev pub IsEffect : Effect → Type 0
@@ -169,6 +173,8 @@ effect_of_tag tag rest =
     else if tag == 9 then whole_two 1 5 (λ step v. (Got step v, None)) positive_at (λ bytes. found (value_at bytes)) rest
     else if tag == 10 then whole_one 1 (λ step. (Acked step, None)) positive_at rest
     else if tag == 11 then whole_two 1 5 (λ index outcome. (End index outcome, None)) index_at outcome_at rest
+    else if tag == 12 then whole_one 1 (λ at. (Mark at, None)) time_at rest
+    else if tag == 13 then Ok ((Whole, None), rest)
     else Err 0
 
 -- the effect at the front with its back place, and what follows it

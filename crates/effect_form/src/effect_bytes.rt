@@ -249,6 +249,15 @@ fn acked_of(bytes: &[u8]) -> Result<Found<'_>, EffectFault>
     Ok(((Effect::Acked { step }, None), rest))
 }
 
+fn mark_of(bytes: &[u8]) -> Result<Found<'_>, EffectFault>
+    ensures { Gives (λ p. (p.0, p.1.now)) result (whole_one 1 (λ at. (variant.Mark at, None)) time_at bytes.now) }
+{
+    let Some((at, rest)) = time_of(bytes) else {
+        return Err(EffectFault::Form { at: 1 });
+    };
+    Ok(((Effect::Mark { at }, None), rest))
+}
+
 // What follows a tag.
 #[tactic(auto, unfolding(crate::specs::Effects::effect_of_tag))]
 fn tagged(alloc: Global, tag: u8, rest: &[u8]) -> Result<Found<'_>, EffectFault>
@@ -266,6 +275,8 @@ fn tagged(alloc: Global, tag: u8, rest: &[u8]) -> Result<Found<'_>, EffectFault>
         9 => got_of(alloc, rest),
         10 => acked_of(rest),
         11 => end_of(rest),
+        12 => mark_of(rest),
+        13 => Ok(((Effect::Whole, None), rest)),
         _ => Err(EffectFault::Form { at: 0 }),
     }
 }

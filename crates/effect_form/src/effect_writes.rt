@@ -121,6 +121,14 @@ fn push_end(out: &mut Vec<u8>, index: u32, outcome: Outcome) -> Result<(), Alloc
     Ok(())
 }
 
+fn push_mark(out: &mut Vec<u8>, at: PseudoTime) -> Result<(), AllocError>
+    ensures { OnOk result (out.new.items ≡ out.old.items ++ effect_bytes (variant.Mark at, None)) }
+{
+    out.push(12)?;
+    push_time(out, at)?;
+    Ok(())
+}
+
 /// The fields of an act before its script.
 #[derive(Clone, Copy)]
 struct ActHead {
@@ -185,6 +193,8 @@ fn bytes_of(alloc: Global, effect: &Effect, back: Option<Place>) -> Result<Vec<u
         Effect::Got { step, value } => push_got(alloc, &mut out, *step, value)?,
         Effect::Acked { step } => push_numbered(&mut out, 10, *step)?,
         Effect::End { index, outcome } => push_end(&mut out, *index, *outcome)?,
+        Effect::Mark { at } => push_mark(&mut out, *at)?,
+        Effect::Whole => out.push(13)?,
     }
     Ok(out)
 }

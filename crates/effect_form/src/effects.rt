@@ -75,6 +75,12 @@ pub enum Effect {
         index: u32,
         outcome: Outcome,
     },
+    /// A retirement read every object at this pseudotime, and versions below it were given up.
+    Mark {
+        at: PseudoTime,
+    },
+    /// What a retirement kept stands whole before it.
+    Whole,
 }
 
 impl Effect {
@@ -143,6 +149,8 @@ impl Effect {
                 index: *index,
                 outcome: *outcome,
             }),
+            Effect::Mark { at } => Ok(Effect::Mark { at: *at }),
+            Effect::Whole => Ok(Effect::Whole),
         }
     }
 }

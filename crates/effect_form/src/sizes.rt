@@ -64,5 +64,7 @@ pub fn effect_size(effect: &Effect) -> usize
         Effect::Try { .. } => 15,
         Effect::Got { value, .. } => 5 + value_size(value),
         Effect::End { outcome, .. } => 5 + outcome_size(*outcome),
+        Effect::Mark { .. } => 15,
+        Effect::Whole => 1,
     }
 }

@@ -99,6 +99,11 @@ const EFFECTS: &[(&[u8], &str)] = &[
         &[11, 0, 0, 0, 2, 7, 0, 0, 0, 255, 255, 255, 255, 255],
         "End { index: 2, outcome: Spent { clock: 1099511627775 } } None",
     ),
+    (
+        &[12, 0, 0, 0, 0, 0, 0, 0, 3, 1, 1, 0, 0, 0, 1],
+        "Mark { at: PseudoTime { stamp: Stamp { clock: 3, broker: 1, home: 1 }, step: 1 } } None",
+    ),
+    (&[13], "Whole None"),
 ];
 
 // Where the bytes are at fault. None where an effect is read.
@@ -181,7 +186,8 @@ fn effects_with_their_bytes(rt: HostRuntime) -> Result<(), Fail> {
 const FAULTS: &[(&[u8], usize)] = &[
     (&[255], 0),
     (&[], 0),
-    (&[12], 0),
+    (&[12], 1),
+    (&[14], 0),
     (&[1, 17, 0, 0, 0, 1], 1),
     (&[1, 1, 0, 0, 0, 7, 0], 6),
     (

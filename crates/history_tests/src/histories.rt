@@ -70,6 +70,7 @@ fn said_of_read(step: &ReadStep) -> Said {
     match step {
         ReadStep::Answer { value, stretch } => said_of_value(value, *stretch),
         ReadStep::Wait { stamp } => Said::Wait(stamp.clock(), stamp.broker()),
+        ReadStep::LaterRead { end } => Said::LaterRead(parts(*end)),
     }
 }
 
@@ -262,6 +263,34 @@ fn marks_without_a_past(rt: HostRuntime) -> Result<(), Fail> {
     Ok(())
 }
 
+// A committed version, and two floors above it.
+fn floored(alloc: Global) -> Result<PlainHistories, HistoryFault> {
+    let start = time((1, 1, 1))?;
+    let mut marks = Vec::new(alloc);
+    marks.push(Mark::Put(OBJECT, start, Value::Number(7)))?;
+    marks.push(Mark::Settle(start.stamp(), true))?;
+    marks.push(Mark::Floor(time((3, 1, 1))?))?;
+    marks.push(Mark::Floor(time((2, 1, 1))?))?;
+    Ok(PlainHistories::of(alloc, marks.as_slice())?)
+}
+
+/// The greatest floor counts: reads below it are refused, and it is the reach of the version.
+pub const OF_FLOORED: &[(Call, Said)] = &[
+    (Call::Read((2, 9, 1)), Said::LaterRead((3, 1, 1))),
+    (Call::Write((2, 9, 1), 8), Said::LaterRead((3, 1, 1))),
+    (Call::Read((3, 1, 1)), Said::Value(7, false)),
+    (Call::Read((3, 2, 1)), Said::Value(7, true)),
+    (Call::Write((3, 1, 2), 8), Said::LaterRead((3, 2, 1))),
+    (Call::Write((4, 1, 1), 8), Said::Put),
+];
+
+#[test]
+fn reads_below_a_floor(rt: HostRuntime) -> Result<(), Fail> {
+    let histories = floored(rt.alloc())?;
+    assert_eq!(rt; differ(histories, OF_FLOORED), None);
+    Ok(())
+}
+
 /// Histories that tell nothing: they answer another value than was written, take no write, and
 /// stand on something.
 #[derive(Drop)]
@@ -330,6 +359,7 @@ fn other_value(step: &ReadStep) -> ReadStep
             stretch: *stretch,
         },
         ReadStep::Wait { stamp } => ReadStep::Wait { stamp: *stamp },
+        ReadStep::LaterRead { end } => ReadStep::LaterRead { end: *end },
     }
 }
 

@@ -9,7 +9,7 @@ use Rattle.pseudo_time.proofs.OrderLemmas.{lt-asymmetric, lt-fall}
 use Rattle.pseudo_time.proofs.ListLemmas.{every-map}
 use Rattle.value_form.specs.declared.objects.ObjectId.{ObjectId}
 use Rattle.object_history.specs.declared.marks.Mark.{Mark}
-use Rattle.object_history.specs.declared.marks.Mark.TheVariants.{Put, Stretch, Settle}
+use Rattle.object_history.specs.declared.marks.Mark.TheVariants.{Put, Stretch, Settle, Floor}
 use Rattle.object_history.specs.Objects.{same_object}
 use Rattle.object_history.specs.History.{Seen, version_count, starts_above, pick, scan, place_of, same_place}
 use Rattle.object_history.proofs.BoolLemmas.{not-false}
@@ -62,6 +62,7 @@ falls o [] = tt
 falls o (Put a x v ∷ m) = falls-cond (same_object a o) (record { place = version_count o m; start = x; value = v }) (falling o m) (falls o m)
 falls o (Stretch a x ∷ m) = falls o m
 falls o (Settle s c ∷ m) = falls o m
+falls o (Floor z ∷ m) = falls o m
 
 -- ---- the first that passes
 
@@ -117,6 +118,7 @@ scan-first ok o [] = refl
 scan-first ok o (Put a x v ∷ m) = scan-if (same_object a o) ok (record { place = version_count o m; start = x; value = v }) (falling o m) (scan ok o m) (falls o m) (scan-first ok o m)
 scan-first ok o (Stretch a x ∷ m) = scan-first ok o m
 scan-first ok o (Settle s c ∷ m) = scan-first ok o m
+scan-first ok o (Floor z ∷ m) = scan-first ok o m
 
 -- ---- places
 
@@ -157,6 +159,7 @@ under o [] = tt
 under o (Put a x v ∷ m) = under-if (same_object a o) (version_count o m) (record { place = version_count o m; start = x; value = v }) (falling o m) (next (version_count o m)) (under o m)
 under o (Stretch a x ∷ m) = under o m
 under o (Settle s c ∷ m) = under o m
+under o (Floor z ∷ m) = under o m
 
 differs : (n k : ℕ) → k < n → (n == k) ≡ false
 differs n k h = grind (arith, common_steps)
@@ -173,6 +176,7 @@ apart o (Put a x v ∷ m) =
     (every-map (λ (r : Seen). r.place < version_count o m) (Differ q) (λ r k. (differs (version_count o m) r.place k, differs-too (version_count o m) r.place k)) (falling o m) (under o m)) (apart o m)
 apart o (Stretch a x ∷ m) = apart o m
 apart o (Settle s c ∷ m) = apart o m
+apart o (Floor z ∷ m) = apart o m
 
 -- the first that passes has another place than one that differs from all
 place-if : (b : Bool) (q p : Seen) (r : Option Seen) → Differ q p → same_place (place_of r) (Some q.place) ≡ false → same_place (place_of (if b then Some p else r)) (Some q.place) ≡ false

@@ -15,7 +15,7 @@ use Rattle.pseudo_time.proofs.OrderLemmas.{stamp_cmp-total, same_stamp-is}
 use Rattle.value_form.specs.declared.objects.ObjectId.{ObjectId}
 use Rattle.value_form.specs.declared.values.Value.{Value}
 use Rattle.object_history.specs.declared.marks.Mark.{Mark}
-use Rattle.object_history.specs.declared.marks.Mark.TheVariants.{Put, Stretch, Settle}
+use Rattle.object_history.specs.declared.marks.Mark.TheVariants.{Put, Stretch, Settle, Floor}
 use Rattle.object_history.specs.Objects.{same_object}
 use Rattle.object_history.specs.History.{Seen, or_else, settle_of, is_alive, alive, version_count, sees, place_of, same_place, top, stretched}
 use Rattle.object_history.specs.Kept.{Settled}
@@ -244,6 +244,12 @@ holds-apart o m origin vs settled a x other h =
       versions_are = h.versions_are ∙ told-same m (Stretch a x ∷ m) o (falling o m) same;
       settles = h.settles;
     }
+
+-- ---- a Floor
+
+pub holds-floor : (o : ObjectId) (m : List Mark) (origin : Option TimeParts) (vs : List Version) (settled : Settled) (z : TimeParts) → Holds o m origin vs settled → Holds o (Floor z ∷ m) origin vs settled
+unfolding settle_of stretched falling
+holds-floor o m origin vs settled z h = record { origin_is = h.origin_is; versions_are = h.versions_are; settles = h.settles }
 
 -- ---- a Settle
 

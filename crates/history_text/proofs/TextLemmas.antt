@@ -6,7 +6,7 @@ use Rattle.value_form.specs.declared.objects.ObjectId.{ObjectId}
 use Rattle.pseudo_time.specs.TimeParts.{TimeParts}
 use Rattle.std.specs.Prelude.{ℕ, Option}
 use Rattle.object_history.specs.declared.marks.Mark.{Mark}
-use Rattle.object_history.specs.History.{Seen, top, stretched}
+use Rattle.object_history.specs.History.{Seen, top, floor_of, latest, stretched}
 use Rattle.object_history.specs.Kept.{Settled}
 use Rattle.history_text.specs.declared.versions.Version.{Version}
 use Rattle.history_text.specs.Histories.{falling, version_line, version_text, versions, head_text, marks_text}
@@ -22,13 +22,17 @@ reverse-map f (x ∷ xs) =
     reverse-append (f x ∷ []) (map f xs) ∙ ap (λ z. z ++ f x ∷ []) (reverse-map f xs) ∙ sym (map-append f (reverse xs) (x ∷ [])) ∙ ap (map f) (sym (reverse-append (x ∷ []) xs))
 
 lines-map : (o : ObjectId) (m : List Mark) (settled : Settled) (origin : Option TimeParts) (vs : List Version) → Holds o m origin vs settled → (ps : List Seen) →
-    flat_map (told_line settled) (map (told_of m o) ps) ≡ flat_map (version_text o m) ps
+    flat_map (told_line settled (floor_of m)) (map (told_of m o) ps) ≡ flat_map (version_text o m) ps
 lines-map o m settled origin vs h [] = refl
-lines-map o m settled origin vs h (p ∷ ps) = λ i. version_line p.start (h.settles p.start.stamp i) p.value (top p.start (stretched m o (Some p.place))) ++ lines-map o m settled origin vs h ps i
+lines-map o m settled origin vs h (p ∷ ps) =
+    λ i. version_line p.start (h.settles p.start.stamp i) p.value (latest (floor_of m) (top p.start (stretched m o (Some p.place)))) ++ lines-map o m settled origin vs h ps i
 
-pub text-is : (o : ObjectId) (m : List Mark) (settled : Settled) (origin : Option TimeParts) (vs : List Version) (head all : List ℕ) → Holds o m origin vs settled → head ≡ [] ++ head_text o origin →
-    all ≡ head ++ flat_map (told_line settled) (reverse vs) → all ≡ marks_text o m
-text-is o m settled origin vs head all h front is =
-    is ∙ ap (λ z. z ++ flat_map (told_line settled) (reverse vs)) front ∙ ap (λ e. head_text o e ++ flat_map (told_line settled) (reverse vs)) h.origin_is
-    ∙ ap (λ ws. head_text o (stretched m o None) ++ flat_map (told_line settled) ws) (ap reverse h.versions_are ∙ reverse-map (told_of m o) (falling o m))
-    ∙ ap (λ t. head_text o (stretched m o None) ++ t) (lines-map o m settled origin vs h (versions o m))
+-- told over the floor of the marks
+pub text-is : (o : ObjectId) (m : List Mark) (settled : Settled) (origin end floor : Option TimeParts) (vs : List Version) (head all : List ℕ) → Holds o m origin vs settled → floor ≡ floor_of m → end ≡ latest floor origin →
+    head ≡ [] ++ head_text o end → all ≡ head ++ flat_map (told_line settled floor) (reverse vs) → all ≡ marks_text o m
+text-is o m settled origin end floor vs head all h floors ends front is =
+    let origin_end : end ≡ latest (floor_of m) (stretched m o None) = ends ∙ ap (λ f. latest f origin) floors ∙ ap (latest (floor_of m)) h.origin_is in
+    is ∙ ap (λ f. head ++ flat_map (told_line settled f) (reverse vs)) floors
+    ∙ ap (λ z. z ++ flat_map (told_line settled (floor_of m)) (reverse vs)) front ∙ ap (λ e. head_text o e ++ flat_map (told_line settled (floor_of m)) (reverse vs)) origin_end
+    ∙ ap (λ ws. head_text o (latest (floor_of m) (stretched m o None)) ++ flat_map (told_line settled (floor_of m)) ws) (ap reverse h.versions_are ∙ reverse-map (told_of m o) (falling o m))
+    ∙ ap (λ t. head_text o (latest (floor_of m) (stretched m o None)) ++ t) (lines-map o m settled origin vs h (versions o m))

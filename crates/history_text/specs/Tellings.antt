@@ -7,7 +7,7 @@ use Rattle.pseudo_time.specs.TimeParts.{TimeParts}
 use Rattle.pseudo_time.specs.Order.{lt}
 use Rattle.value_form.specs.declared.objects.ObjectId.{ObjectId}
 use Rattle.object_history.specs.declared.marks.Mark.{Mark}
-use Rattle.object_history.specs.History.{Seen, settle_of, is_alive, top, stretched}
+use Rattle.object_history.specs.History.{Seen, settle_of, is_alive, top, latest, stretched}
 use Rattle.object_history.specs.Kept.{Settled}
 use Rattle.history_text.specs.declared.versions.Version.{Version}
 use Rattle.history_text.specs.declared.tellings.Telling.{Telling}
@@ -40,6 +40,6 @@ pub record Holds (o : ObjectId) (m : List Mark) (origin : Option TimeParts) (ver
 abbrev pub Tells : List Mark → Telling → Type 0
 Tells m h = Holds h.object m h.origin h.versions.items h.settles
 
--- the line of a version
-abbrev pub told_line : Settled → Version → List ℕ
-told_line settled v = version_line v.start (finite.get settled v.start.stamp) v.value (top v.start v.end)
+-- the line of a version, over this floor
+abbrev pub told_line : Settled → Option TimeParts → Version → List ℕ
+told_line settled floor v = version_line v.start (finite.get settled v.start.stamp) v.value (latest floor (top v.start v.end))

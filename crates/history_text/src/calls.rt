@@ -1,6 +1,7 @@
 ghost use Rattle.std.specs.Prelude.{◌≡◌, IfOk};
 ghost use Rattle.history_text.specs.Histories.{history_text};
 
+use crate::floors::{floor_of, latest};
 use crate::tellings::telling_of;
 use crate::writing::{push_head, push_versions};
 use effect_form::Effect;
@@ -18,12 +19,15 @@ pub fn history(alloc: Global, object: ObjectId, effects: &[Effect]) -> Result<By
 {
     let mut telling = telling_of(alloc, object, effects)?;
     telling.versions.reverse();
+    let floor = floor_of(effects);
+    let origin = latest(&floor, telling.origin);
     let mut out = Vec::new(alloc);
-    push_head(alloc, &mut out, object, &telling.origin)?;
+    push_head(alloc, &mut out, object, &origin)?;
     push_versions(
         alloc,
         &mut out,
         &telling.settles,
+        &floor,
         telling.versions.as_slice(),
     )?;
     Ok(Bytes::of(out))

@@ -3,6 +3,7 @@
 #![tactic(auto)]
 
 mod calls;
+mod floors;
 mod tellings;
 mod versions;
 mod writing;

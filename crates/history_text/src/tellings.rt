@@ -103,6 +103,7 @@ impl Telling {
             }
             Effect::Decide { stamp, decision } => self.settle(*stamp, is_commit(*decision)),
             Effect::Learn { stamp, committed } => self.settle(*stamp, *committed),
+            Effect::Mark { .. } => Ok(()),
             _ => Ok(()),
         }
     }

@@ -3,8 +3,9 @@ ghost use Rattle.std.specs.List.{flat_map};
 ghost use Rattle.history_text.specs.Histories.{state_text, end_text, head_text};
 ghost use Rattle.history_text.specs.Tellings.{told_line};
 
+use crate::floors::reach;
 use crate::versions::Version;
-use object_history::{Settles, later};
+use object_history::Settles;
 use pseudo_time::PseudoTime;
 use report_writer::{push_object, push_time};
 use std::alloc::{AllocError, Global};
@@ -56,9 +57,10 @@ fn push_version(
     alloc: Global,
     out: &mut Vec<u8>,
     settles: &Settles,
+    floor: &Option<PseudoTime>,
     version: &Version,
 ) -> Result<(), AllocError>
-    ensures { OnOk result (out.new.items ≡ out.old.items ++ told_line settles.now version.now) }
+    ensures { OnOk result (out.new.items ≡ out.old.items ++ told_line settles.now floor.now version.now) }
 {
     out.extend_from_slice(b"version ")?;
     push_time(alloc, out, version.start)?;
@@ -66,7 +68,7 @@ fn push_version(
     push_state(out, settles.get(version.start.stamp()))?;
     out.push(b' ')?;
     version.value.print(alloc, out)?;
-    let end = Some(later(version.start, &version.end));
+    let end = reach(floor, version);
     push_end(alloc, out, &end)
 }
 
@@ -75,12 +77,13 @@ pub fn push_versions(
     alloc: Global,
     out: &mut Vec<u8>,
     settles: &Settles,
+    floor: &Option<PseudoTime>,
     versions: &[Version],
 ) -> Result<(), AllocError>
-    ensures { OnOk result (out.new.items ≡ out.old.items ++ flat_map (told_line settles.now) versions.now) }
+    ensures { OnOk result (out.new.items ≡ out.old.items ++ flat_map (told_line settles.now floor.now) versions.now) }
 {
     for version in versions {
-        push_version(alloc, out, settles, version)?;
+        push_version(alloc, out, settles, floor, version)?;
     }
     Ok(())
 }

@@ -85,6 +85,7 @@ longer-asks false h g k p q = q
 longer-read : (before : List (TimeParts × HeldRead)) (h : Hand) (from : NodeId) (t : TimeParts) (o : ObjectId) (r : ReadStep) → Longer h (read_as before h from t o r)
 longer-read before h from t o (read.Answer v true) = record { past = refl; more = effect.Stretch o t ∷ []; added = refl }
 longer-read before h from t o (read.Answer v false) = longer-none h (read_as before h from t o (read.Answer v false)) refl refl
+longer-read before h from t o (read.LaterRead e) = longer-none h (read_as before h from t o (read.LaterRead e)) refl refl
 longer-read before h from t o (read.Wait w) = longer-asks ((w.home == h.number) || waits_for w before) h _ _ (longer-none h _ refl refl) (longer-none h _ refl refl)
 
 longer-known : (h : Hand) (from : NodeId) (t : TimeParts) (o : ObjectId) (u : Option Bool) → Longer h (read_known h from t o u)

@@ -10,15 +10,15 @@ use Rattle.value_form.specs.declared.objects.ObjectId.{ObjectId}
 use Rattle.value_form.specs.declared.values.Value.{Value}
 use Rattle.value_form.specs.declared.values.Value.TheVariants.{Nothing}
 use Rattle.object_history.specs.declared.marks.Mark.{Mark}
-use Rattle.object_history.specs.declared.marks.Mark.TheVariants.{Put, Stretch, Settle}
+use Rattle.object_history.specs.declared.marks.Mark.TheVariants.{Put, Stretch, Settle, Floor}
 use Rattle.object_history.specs.declared.steps.ReadStep.TheVariants as read
 use Rattle.object_history.specs.declared.steps.WriteStep.{WriteStep}
 use Rattle.object_history.specs.declared.steps.WriteStep.TheVariants as write
 use Rattle.object_history.specs.Objects.{same_object, same_value}
-use Rattle.object_history.specs.History.{is_alive, is_settled, is_committed, settle_of, alive, Seen, scan, sees, newest, top, stretched, reach}
-use Rattle.object_history.specs.Answers.{is_above, is_over, some_put, settled_over, needs_stretch, read_seen, read_step, has_put, stands_written, write_reach, write_newest, write_step}
+use Rattle.object_history.specs.History.{is_alive, is_settled, is_committed, settle_of, alive, Seen, scan, sees, newest, top, stretched, floor_of, latest, reach}
+use Rattle.object_history.specs.Answers.{is_above, is_over, some_put, settled_over, needs_stretch, read_seen, read_from, read_step, has_put, stands_written, write_reach, write_newest, write_step}
 use Rattle.object_history.specs.Kept.{Settled}
-use Rattle.object_history.specs.Views.{Starts}
+use Rattle.object_history.specs.Views.{Starts, IsOnFloor}
 use Rattle.object_history.proofs.Words.{Passes, Low}
 use Rattle.object_history.proofs.StableLemmas.{scan-passes, low-all}
 use Rattle.object_history.proofs.ObjectLemmas.{same_object-is}
@@ -46,6 +46,7 @@ some_put-same f g o [] h = refl
 some_put-same f g o (Put a x v ∷ m) h = ap (λ b. b || some_put f o m) (same_and (same_object a o) (f x) (g x) (h x)) ∙ ap (λ b. (same_object a o && g x) || b) (some_put-same f g o m h)
 some_put-same f g o (Stretch a x ∷ m) h = some_put-same f g o m h
 some_put-same f g o (Settle s c ∷ m) h = some_put-same f g o m h
+some_put-same f g o (Floor z ∷ m) h = some_put-same f g o m h
 
 turned : (b c : Bool) → (c ≡ false → b ≡ false) → b ≡ true → c ≡ true
 turned b true h is = refl
@@ -77,6 +78,18 @@ not_parts false b h = absurd (false≢true h)
 and_is : (a b c d : Bool) → a ≡ c → b ≡ d → (a && b) ≡ (c && d)
 and_is a b c d h k = ap (λ z. z && b) h ∙ ap (λ z. c && z) k
 
+-- ---- reads over the floor
+
+pub read-over : (m : List Mark) (o : ObjectId) (t : TimeParts) → IsOnFloor m t → read_step m o t ≡ read_seen m o t (sees m o t)
+read-over m o t on = over (floor_of m) on
+  where
+    over : (f : Option TimeParts) → ((e : TimeParts) → f ≡ Some e → lt t e ≡ false) → read_from f m o t ≡ read_seen m o t (sees m o t)
+    over None on = refl
+    over (Some e) on = ap (λ b. if b then read.LaterRead e else read_seen m o t (sees m o t)) (on e refl)
+
+pub read-under : (m : List Mark) (o : ObjectId) (t e : TimeParts) → Some e ≡ floor_of m → lt t e ≡ true → read_step m o t ≡ read.LaterRead e
+read-under m o t e is below = ap (λ f. read_from f m o t) (sym is) ∙ ap (λ b. if b then read.LaterRead e else read_seen m o t (sees m o t)) below
+
 both_true : (a b : Bool) → a ≡ true → b ≡ true → (a && b) ≡ true
 both_true true b h k = k
 both_true false b h k = absurd (false≢true h)
@@ -98,9 +111,9 @@ module _ (settled : Settled) (m : List Mark) (o : ObjectId) (h : HeadParts) (fit
       turn false b true e = ap (λ z. if z then read.Answer q.value (needs_stretch m o t (Some q)) else read.Wait q.start.stamp) e
       turn false b false e = ap (λ z. if z then read.Answer q.value (needs_stretch m o t (Some q)) else read.Wait q.start.stamp) e
 
-  pub read-first : (t : TimeParts) (stretch : Bool) → needs_stretch m o t (sees m o t) ≡ stretch → read_step m o t ≡ answer_first settled t stretch (first_put (passes settled (limit.Below t)) o m)
-  read-first t stretch need =
-      seen_first t stretch (sees m o t) need
+  pub read-first : (t : TimeParts) (stretch : Bool) → IsOnFloor m t → needs_stretch m o t (sees m o t) ≡ stretch → read_step m o t ≡ answer_first settled t stretch (first_put (passes settled (limit.Below t)) o m)
+  read-first t stretch on need =
+      read-over m o t on ∙ seen_first t stretch (sees m o t) need
       ∙ ap (λ r. answer_first settled t stretch (shown r)) (sees-is m settled o t fits)
       ∙ sym (ap (answer_first settled t stretch) (first-scan settled (passes settled (limit.Below t)) o m (passes-lives settled (limit.Below t)) rising))
 
@@ -111,18 +124,19 @@ module _ (settled : Settled) (m : List Mark) (o : ObjectId) (h : HeadParts) (fit
       one true b e = e
       one false b e = e
 
-  pub stretch-origin : (t : TimeParts) → look settled (limit.Below t) h.spans ≡ found.Origin → (sees m o t ≡ None) × (needs_stretch m o t (sees m o t) ≡ is_above t h.origin)
+  pub stretch-origin : (t : TimeParts) → look settled (limit.Below t) h.spans ≡ found.Origin → (sees m o t ≡ None) × (needs_stretch m o t (sees m o t) ≡ is_above t (latest (floor_of m) h.origin))
   stretch-origin t at =
       let s = subst (Says settled (limit.Below t) m o m) at (says (limit.Below t)) in
       let none : sees m o t ≡ None = sees-is m settled o t fits ∙ s.0 in (
         none,
-        ap (needs_stretch m o t) none ∙ and_none (is_above t (stretched m o None)) (settled_over m o None) (over_none s.1) ∙ ap (is_above t) (sym (is.origin s.1)),
+        ap (needs_stretch m o t) none ∙ and_none (is_above t (latest (floor_of m) (stretched m o None))) (settled_over m o None) (over_none s.1)
+            ∙ ap (λ e. is_above t (latest (floor_of m) e)) (sym (is.origin s.1)),
       )
 
-  pub read-origin : (t : TimeParts) → look settled (limit.Below t) h.spans ≡ found.Origin → read_step m o t ≡ read.Answer Nothing (is_above t h.origin)
-  read-origin t at = let s = stretch-origin t at in ap (read_seen m o t) s.0 ∙ ap (λ b. read.Answer Nothing b) (sym (ap (needs_stretch m o t) s.0) ∙ s.1)
+  pub read-origin : (t : TimeParts) → IsOnFloor m t → look settled (limit.Below t) h.spans ≡ found.Origin → read_step m o t ≡ read.Answer Nothing (is_above t (latest (floor_of m) h.origin))
+  read-origin t on at = let s = stretch-origin t at in read-over m o t on ∙ ap (read_seen m o t) s.0 ∙ ap (λ b. read.Answer Nothing b) (sym (ap (needs_stretch m o t) s.0) ∙ s.1)
 
-  pub stretch-shown : (t : TimeParts) (s : Span) → look settled (limit.Below t) h.spans ≡ found.Shown s → (q : Seen) × (sees m o t ≡ Some q) × (s.start ≡ q.start) × (needs_stretch m o t (sees m o t) ≡ is_above t (top s.start s.end))
+  pub stretch-shown : (t : TimeParts) (s : Span) → look settled (limit.Below t) h.spans ≡ found.Shown s → (q : Seen) × (sees m o t ≡ Some q) × (s.start ≡ q.start) × (needs_stretch m o t (sees m o t) ≡ is_above t (latest (floor_of m) (top s.start s.end)))
   stretch-shown t s at =
       let k = subst (Says settled (limit.Below t) m o m) at (says (limit.Below t)) in
       let some : sees m o t ≡ Some k.0 = sees-is m settled o t fits ∙ k.1 in (
@@ -131,15 +145,15 @@ module _ (settled : Settled) (m : List Mark) (o : ObjectId) (h : HeadParts) (fit
         k.2,
         ap (needs_stretch m o t) some
             ∙ and_none (is_above t (reach m o (Some k.0))) (settled_over m o (Some k.0)) (some_put-same (λ y. is_committed (settle_of m y.stamp) && lt k.0.start y) (λ y. is_firm settled y && lt k.0.start y) o m (λ y. and_is (is_committed (settle_of m y.stamp)) (lt k.0.start y) (is_firm settled y) (lt k.0.start y) (sym (firm-is m settled y fits)) refl) ∙ k.4)
-            ∙ ap (λ x. is_above t (top x (stretched m o (Some k.0.place)))) (sym k.2) ∙ ap (λ e. is_above t (top s.start e)) (sym k.3),
+            ∙ ap (λ x. is_above t (latest (floor_of m) (top x (stretched m o (Some k.0.place))))) (sym k.2) ∙ ap (λ e. is_above t (latest (floor_of m) (top s.start e))) (sym k.3),
       )
 
   -- a version of another stamp that isn't settled is waited for
-  pub read-waits : (t : TimeParts) (s : Span) → look settled (limit.Below t) h.spans ≡ found.Shown s → waits settled t.stamp s.start.stamp ≡ true → read_step m o t ≡ read.Wait s.start.stamp
-  read-waits t s at wait =
+  pub read-waits : (t : TimeParts) (s : Span) → IsOnFloor m t → look settled (limit.Below t) h.spans ≡ found.Shown s → waits settled t.stamp s.start.stamp ≡ true → read_step m o t ≡ read.Wait s.start.stamp
+  read-waits t s on at wait =
       let k = stretch-shown t s at in
       let w : waits settled t.stamp k.0.start.stamp ≡ true = ap (λ x. waits settled t.stamp x.stamp) (sym k.2) ∙ wait in
-      ap (read_seen m o t) k.1 ∙ seen_first t (needs_stretch m o t (Some k.0)) (Some k.0) refl
+      read-over m o t on ∙ ap (read_seen m o t) k.1 ∙ seen_first t (needs_stretch m o t (Some k.0)) (Some k.0) refl
       ∙ ap (λ b. if b then read.Wait k.0.start.stamp else read.Answer k.0.value (needs_stretch m o t (Some k.0))) w ∙ ap (λ x. read.Wait x.stamp) (sym k.2)
 
   pub stretch-under : (t : TimeParts) → look settled (limit.Below t) h.spans ≡ found.Under → needs_stretch m o t (sees m o t) ≡ false
@@ -162,16 +176,16 @@ module _ (settled : Settled) (m : List Mark) (o : ObjectId) (h : HeadParts) (fit
 
   -- ---- writes
 
-  pub write-origin : (t : TimeParts) → look settled limit.All h.spans ≡ found.Origin → write_reach t h.origin ≡ write_newest t (newest m o) (reach m o (newest m o))
+  pub write-origin : (t : TimeParts) → look settled limit.All h.spans ≡ found.Origin → write_reach t (latest (floor_of m) h.origin) ≡ write_newest t (newest m o) (reach m o (newest m o))
   write-origin t at =
       let k = subst (Says settled limit.All m o m) at (says limit.All) in
-      ap (write_reach t) (is.origin k.1) ∙ sym (ap (λ r. write_newest t r (reach m o r)) (newest-is m settled o fits ∙ k.0))
+      ap (λ e. write_reach t (latest (floor_of m) e)) (is.origin k.1) ∙ sym (ap (λ r. write_newest t r (reach m o r)) (newest-is m settled o fits ∙ k.0))
 
-  pub write-shown : (t : TimeParts) (s : Span) → look settled limit.All h.spans ≡ found.Shown s → (if lt s.start t then write_reach t (top s.start s.end) else write.LaterVersion s.start) ≡ write_newest t (newest m o) (reach m o (newest m o))
+  pub write-shown : (t : TimeParts) (s : Span) → look settled limit.All h.spans ≡ found.Shown s → (if lt s.start t then write_reach t (latest (floor_of m) (top s.start s.end)) else write.LaterVersion s.start) ≡ write_newest t (newest m o) (reach m o (newest m o))
   write-shown t s at =
       let k = subst (Says settled limit.All m o m) at (says limit.All) in
-      ap (λ x. if lt x t then write_reach t (top x s.end) else write.LaterVersion x) k.2
-      ∙ ap (λ e. if lt k.0.start t then write_reach t (top k.0.start e) else write.LaterVersion k.0.start) k.3
+      ap (λ x. if lt x t then write_reach t (latest (floor_of m) (top x s.end)) else write.LaterVersion x) k.2
+      ∙ ap (λ e. if lt k.0.start t then write_reach t (latest (floor_of m) (top k.0.start e)) else write.LaterVersion k.0.start) k.3
       ∙ sym (ap (λ r. write_newest t r (reach m o r)) (newest-is m settled o fits ∙ k.1))
 
   never : (b c : Bool) (s : Span) (rest : Look) → (rest ≡ found.Under → ⊥) → looked b true c s rest ≡ found.Under → ⊥
@@ -211,6 +225,7 @@ no-more settled o t y v (Put a x w ∷ m) low living above = at (same_object a o
     at false c e f again = again
 no-more settled o t y v (Stretch a x ∷ m) low living above = no-more settled o t y v m low living above
 no-more settled o t y v (Settle s c ∷ m) low living above = no-more settled o t y v m low living above
+no-more settled o t y v (Floor z ∷ m) low living above = no-more settled o t y v m low living above
 
 or_false : (a b : Bool) → b ≡ false → (a || b) ≡ a
 or_false true b h = refl
@@ -254,6 +269,7 @@ stands-first settled o t v (Put a x w ∷ m) rising = own (same_object a o) (pas
         dead false false h k = refl
 stands-first settled o t v (Stretch a x ∷ m) rising = stands-first settled o t v m rising
 stands-first settled o t v (Settle s c ∷ m) rising = stands-first settled o t v m rising
+stands-first settled o t v (Floor z ∷ m) rising = stands-first settled o t v m rising
 
 pub stands-is : (settled : Settled) (m : List Mark) (o : ObjectId) (t : TimeParts) (v : Value) → Fits m settled → Rising settled o m → stands_written m o t v ≡ is_written t v (first_put (passes settled (limit.UpTo t)) o m)
 stands-is settled m o t v fits rising = ap (λ b. b && has_put o t v m) (sym (living-is m settled t fits)) ∙ stands-first settled o t v m rising
@@ -290,6 +306,7 @@ first-append ok o (Put c x v ∷ a) b = one (same_object c o && ok x) (first-app
     one false again = again
 first-append ok o (Stretch c x ∷ a) b = first-append ok o a b
 first-append ok o (Settle s c ∷ a) b = first-append ok o a b
+first-append ok o (Floor z ∷ a) b = first-append ok o a b
 
 pub late-hit : (ok : TimeParts → Bool) (o : ObjectId) (a b : List Mark) (r : Option (TimeParts × Value)) (f : TimeParts × Value) → r ≡ first_put ok o a → r ≡ Some f → Some f ≡ first_put ok o (a ++ b)
 late-hit ok o a b r f is some = sym (first-append ok o a b ∙ ap (λ z. first z (first_put ok o b)) (sym is ∙ some))

@@ -7,7 +7,7 @@ use Rattle.pseudo_time.proofs.ListLemmas.{every-reverse}
 use Rattle.value_form.specs.declared.objects.ObjectId.{ObjectId}
 use Rattle.effect_form.specs.declared.effects.Effect.{Effect}
 use Rattle.object_history.specs.declared.marks.Mark.{Mark}
-use Rattle.object_history.specs.declared.marks.Mark.TheVariants.{Put, Stretch, Settle}
+use Rattle.object_history.specs.declared.marks.Mark.TheVariants.{Put, Stretch, Settle, Floor}
 use Rattle.object_history.specs.Ranges.{AreMarks, IsMark}
 use Rattle.object_header.specs.Odd.{kept_of, is_kept}
 use Rattle.repository_log.specs.Logs.{marks, mark_of}
@@ -19,6 +19,7 @@ unfolding kept_of
 kept-one odd (Put a x v) = refl
 kept-one odd (Stretch a x) = refl
 kept-one odd (Settle s c) = refl
+kept-one odd (Floor z) = refl
 
 pub keep-no : (odd : ObjectId → Bool) (f : Mark) (rest : List Mark) → is_kept odd f ≡ false → rest ≡ kept_of odd (f ∷ []) ++ rest
 keep-no odd f rest off = sym (ap (λ k. k ++ rest) (kept-one odd f ∙ ap (λ b. if b then f ∷ [] else []) off))

@@ -7,13 +7,15 @@ use Rattle.std.specs.declared.cmp.Ordering.TheVariants.{Less, Equal, Greater}
 use Rattle.std.proofs.lemmas.Grind.{common_steps}
 use Rattle.std.proofs.lemmas.List.{reverse-append, take_at, append_cancel_right}
 use Rattle.std.proofs.lemmas.Bool.{false≢true}
+use Rattle.pseudo_time.specs.StampParts.{StampParts}
 use Rattle.pseudo_time.specs.TimeParts.{TimeParts}
 use Rattle.value_form.specs.declared.objects.ObjectId.{ObjectId}
 use Rattle.value_form.specs.declared.values.Value.{Value}
 use Rattle.effect_form.specs.declared.effects.Effect.{Effect}
 use Rattle.object_history.specs.declared.marks.Mark.{Mark}
-use Rattle.object_history.specs.declared.marks.Mark.TheVariants.{Put, Stretch, Settle}
+use Rattle.object_history.specs.declared.marks.Mark.TheVariants.{Put, Stretch, Settle, Floor}
 use Rattle.object_history.specs.Objects.{same_object}
+use Rattle.object_history.specs.History.{floor_of}
 use Rattle.object_history.specs.Kept.{Settled}
 use Rattle.object_history.specs.Ranges.{AreMarks, IsMark}
 use Rattle.object_header.specs.Odd.{kept_of}
@@ -53,6 +55,7 @@ kept-pointwise f g [] h = refl
 kept-pointwise f g (Put a x v ∷ m) h = ap (λ b. if b then Put a x v ∷ kept_of f m else kept_of f m) (h a) ∙ ap (λ k. if g a then Put a x v ∷ k else k) (kept-pointwise f g m h)
 kept-pointwise f g (Stretch a x ∷ m) h = ap (λ b. if b then Stretch a x ∷ kept_of f m else kept_of f m) (h a) ∙ ap (λ k. if g a then Stretch a x ∷ k else k) (kept-pointwise f g m h)
 kept-pointwise f g (Settle s c ∷ m) h = ap (λ k. Settle s c ∷ k) (kept-pointwise f g m h)
+kept-pointwise f g (Floor z ∷ m) h = ap (λ k. Floor z ∷ k) (kept-pointwise f g m h)
 
 append_if : (b : Bool) (f : Mark) (k n : List Mark) → (if b then f ∷ (k ++ n) else k ++ n) ≡ (if b then f ∷ k else k) ++ n
 append_if true f k n = refl
@@ -64,6 +67,7 @@ kept-append odd [] b = refl
 kept-append odd (Put c x v ∷ a) b = ap (λ k. if odd c then Put c x v ∷ k else k) (kept-append odd a b) ∙ append_if (odd c) (Put c x v) (kept_of odd a) (kept_of odd b)
 kept-append odd (Stretch c x ∷ a) b = ap (λ k. if odd c then Stretch c x ∷ k else k) (kept-append odd a b) ∙ append_if (odd c) (Stretch c x) (kept_of odd a) (kept_of odd b)
 kept-append odd (Settle s c ∷ a) b = ap (λ k. Settle s c ∷ k) (kept-append odd a b)
+kept-append odd (Floor z ∷ a) b = ap (λ k. Floor z ∷ k) (kept-append odd a b)
 
 twice_put : (b : Bool) (odd : ObjectId → Bool) (f : Mark) (k : List Mark) → (b ≡ true → kept_of odd (f ∷ k) ≡ f ∷ kept_of odd k) → kept_of odd k ≡ k → kept_of odd (if b then f ∷ k else k) ≡ (if b then f ∷ k else k)
 twice_put true odd f k at is = at refl ∙ ap (λ z. f ∷ z) is
@@ -76,6 +80,7 @@ kept-twice odd [] = refl
 kept-twice odd (Put a x v ∷ m) = twice_put (odd a) odd (Put a x v) (kept_of odd m) (λ e. ap (λ b. if b then Put a x v ∷ kept_of odd (kept_of odd m) else kept_of odd (kept_of odd m)) e) (kept-twice odd m)
 kept-twice odd (Stretch a x ∷ m) = twice_put (odd a) odd (Stretch a x) (kept_of odd m) (λ e. ap (λ b. if b then Stretch a x ∷ kept_of odd (kept_of odd m) else kept_of odd (kept_of odd m)) e) (kept-twice odd m)
 kept-twice odd (Settle s c ∷ m) = ap (λ k. Settle s c ∷ k) (kept-twice odd m)
+kept-twice odd (Floor z ∷ m) = ap (λ k. Floor z ∷ k) (kept-twice odd m)
 
 reverse-snoc : (xs ys : List Mark) (f : Mark) → ys ≡ xs ++ f ∷ [] → reverse ys ≡ f ∷ reverse xs
 reverse-snoc xs ys f is = ap reverse is ∙ reverse-append xs (f ∷ [])
@@ -145,6 +150,44 @@ late-logged log more e xs ys zs settled new heads next whole kept is longer same
 pub late-whole : (log : List Effect) (xs : List Mark) (settled : Settled) (heads : Headed) (whole : Bool) (kept next : List Mark) → IsLedger (parts log (reverse xs) settled heads whole kept) → next ≡ kept_of (odd_in heads) (marks (reverse log)) → AreMarks next → IsLedger (parts log (reverse xs) settled heads true next)
 late-whole log xs settled heads whole kept next is keeps fine = record { indexed = is.indexed; in_range = is.in_range; kept = λ w. keeps; kept_in_range = fine }
 
+-- ---- the floor
+
+pub floor-put : (o : ObjectId) (x : TimeParts) (v : Value) (m : List Mark) → floor_of (Put o x v ∷ m) ≡ floor_of m
+unfolding floor_of
+floor-put o x v m = refl
+
+pub floor-stretch : (o : ObjectId) (x : TimeParts) (m : List Mark) → floor_of (Stretch o x ∷ m) ≡ floor_of m
+unfolding floor_of
+floor-stretch o x m = refl
+
+pub floor-settle : (s : StampParts) (c : Bool) (m : List Mark) → floor_of (Settle s c ∷ m) ≡ floor_of m
+unfolding floor_of
+floor-settle s c m = refl
+
+-- one late mark more that is no Floor
+pub floor-more : (log : List Effect) (xs ys : List Mark) (f : Mark) (floor : Option TimeParts) → ((m : List Mark) → floor_of (f ∷ m) ≡ floor_of m) → ys ≡ xs ++ f ∷ [] → floor ≡ floor_of (reverse xs ++ marks (reverse log)) →
+    floor ≡ floor_of (reverse ys ++ marks (reverse log))
+floor-more log xs ys f floor none pushed is = is ∙ sym (ap (λ z. floor_of (z ++ marks (reverse log))) (reverse-snoc xs ys f pushed) ∙ none (reverse xs ++ marks (reverse log)))
+
+pub floor-same : (log : List Effect) (xs ys : List Mark) (floor : Option TimeParts) → ys ≡ xs → floor ≡ floor_of (reverse xs ++ marks (reverse log)) → floor ≡ floor_of (reverse ys ++ marks (reverse log))
+floor-same log xs ys floor same is = is ∙ ap (λ z. floor_of (reverse z ++ marks (reverse log))) (sym same)
+
+pub floor-none : (log : List Effect) (ys : List Mark) → log ≡ [] → ys ≡ [] → None ≡ floor_of (reverse ys ++ marks (reverse log))
+unfolding floor_of
+floor-none log ys none empty = sym (ap (λ z. floor_of (reverse z ++ marks (reverse log))) empty ∙ ap (λ l. floor_of (marks (reverse l))) none)
+
+pub floor-flushed : (log more effects : List Effect) (xs ys : List Mark) (floor : Option TimeParts) → more ≡ log ++ effects → ys ≡ [] → marks (reverse effects) ≡ reverse xs → floor ≡ floor_of (reverse xs ++ marks (reverse log)) →
+    floor ≡ floor_of (reverse ys ++ marks (reverse more))
+floor-flushed log more effects xs ys floor longer empty same is =
+    is
+    ∙ ap floor_of (sym (ap (λ z. reverse z ++ marks (reverse more)) empty ∙ ap (λ l. marks (reverse l)) longer ∙ marks-more log effects ∙ ap (λ z. z ++ marks (reverse log)) same))
+
+pub floor-logged : (log more : List Effect) (e : Effect) (ys : List Mark) (floor new : Option TimeParts) → more ≡ log ++ e ∷ [] → reverse ys ≡ [] → floor ≡ floor_of (reverse ys ++ marks (reverse log)) →
+    ((l : List Effect) → floor ≡ floor_of (marks l) → new ≡ floor_of (marks (e ∷ l))) → new ≡ floor_of (reverse ys ++ marks (reverse more))
+floor-logged log more e ys floor new longer empty is with_e =
+    with_e (reverse log) (is ∙ ap (λ z. floor_of (z ++ marks (reverse log))) empty)
+    ∙ ap floor_of (sym (ap (λ z. z ++ marks (reverse more)) empty ∙ ap (λ l. marks (reverse l)) longer ∙ ap marks (reverse-append log (e ∷ []))))
+
 -- ---- looking through the late marks
 
 first_cons : (ok : TimeParts → Bool) (o : ObjectId) (f : Mark) (m : List Mark) → first_put ok o (f ∷ m) ≡ (if is_here ok o f then mark_put f else first_put ok o m)
@@ -152,6 +195,7 @@ unfolding first_put
 first_cons ok o (Put a x v) m = refl
 first_cons ok o (Stretch a x) m = refl
 first_cons ok o (Settle s c) m = refl
+first_cons ok o (Floor z) m = refl
 
 reverse-push : (ms : List Mark) (f : Mark) → reverse (push ms f) ≡ f ∷ reverse ms
 reverse-push ms f = reverse-append ms (f ∷ [])

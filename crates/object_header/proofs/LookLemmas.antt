@@ -9,7 +9,7 @@ use Rattle.pseudo_time.proofs.OrderLemmas.{lt-irreflexive}
 use Rattle.value_form.specs.declared.objects.ObjectId.{ObjectId}
 use Rattle.value_form.specs.declared.values.Value.{Value}
 use Rattle.object_history.specs.declared.marks.Mark.{Mark}
-use Rattle.object_history.specs.declared.marks.Mark.TheVariants.{Put, Stretch, Settle}
+use Rattle.object_history.specs.declared.marks.Mark.TheVariants.{Put, Stretch, Settle, Floor}
 use Rattle.object_history.specs.Objects.{same_object}
 use Rattle.object_history.specs.History.{is_alive, settle_of, alive, version_count, Seen, scan, sees, newest, stretched}
 use Rattle.object_history.specs.Answers.{some_put}
@@ -134,6 +134,7 @@ look-says settled l all o (Put a y v ∷ m) rising = own (same_object a o) refl 
     own false other says = says-over settled l all o a y v m (look settled l (spans_in all o m)) (ap (λ b. b && passes settled l y) other) (ap (λ b. b && is_firm settled y) other) says
 look-says settled l all o (Stretch a y ∷ m) rising = look-says settled l all o m rising
 look-says settled l all o (Settle s c ∷ m) rising = look-says settled l all o m rising
+look-says settled l all o (Floor z ∷ m) rising = look-says settled l all o m rising
 
 -- ---- what reads and writes see
 

@@ -9,7 +9,7 @@ use Rattle.pseudo_time.specs.Order.{lt}
 use Rattle.value_form.specs.declared.objects.ObjectId.{ObjectId}
 use Rattle.value_form.specs.declared.values.Value.{Value}
 use Rattle.object_history.specs.declared.marks.Mark.{Mark}
-use Rattle.object_history.specs.declared.marks.Mark.TheVariants.{Put, Stretch, Settle}
+use Rattle.object_history.specs.declared.marks.Mark.TheVariants.{Put, Stretch, Settle, Floor}
 use Rattle.object_history.specs.Objects.{same_object}
 use Rattle.object_history.specs.History.{is_alive, settle_of, alive, version_count, Seen, scan, sees, place_of, same_place, top, stretched}
 use Rattle.object_history.specs.Answers.{some_put}
@@ -39,6 +39,7 @@ spans-under all more o (Put a x v ∷ m) h = own (same_object a o) h (spans-unde
     own false k again = again k
 spans-under all more o (Stretch a x ∷ m) h = spans-under all more o m h
 spans-under all more o (Settle s c ∷ m) h = spans-under all more o m h
+spans-under all more o (Floor z ∷ m) h = spans-under all more o m h
 
 stretched-own : (m : List Mark) (o : ObjectId) (x : TimeParts) (p : Option ℕ) → stretched (Stretch o x ∷ m) o p ≡ (if same_place (place_of (sees m o x)) p then top x (stretched m o p) else stretched m o p)
 unfolding stretched
@@ -122,6 +123,7 @@ module _ (settled : Settled) (all : List Mark) (o : ObjectId) (x : TimeParts) wh
       own false same again = again (seen ∙ scan-over ok o a y v m (ap (λ b. b && ok y) same))
   spans-marked (Stretch a y ∷ m) rising seen = spans-marked m rising seen
   spans-marked (Settle s c ∷ m) rising seen = spans-marked m rising seen
+  spans-marked (Floor z ∷ m) rising seen = spans-marked m rising seen
 
 -- ---- the header
 

@@ -9,6 +9,7 @@ use Rattle.value_form.specs.declared.objects.ObjectId.{ObjectId}
 use Rattle.value_form.specs.declared.values.Value.{Value}
 use Rattle.effect_form.specs.declared.effects.Effect.{Effect}
 use Rattle.effect_form.specs.declared.effects.Effect.TheVariants.{Put, Stretch, Begin, Decide, Learn, Run, Act, Try, Got, Acked, End}
+use Rattle.effect_form.specs.declared.effects.Effect.TheVariants as effect
 use Rattle.effect_form.specs.declared.effects.Place.{Place}
 use Rattle.object_history.specs.declared.marks.Mark.{Mark}
 use Rattle.object_history.specs.declared.marks.Mark.TheVariants as mark
@@ -47,6 +48,8 @@ put_is (Try i s) o h = absurd (false≢true h)
 put_is (Got k v) o h = absurd (false≢true h)
 put_is (Acked k) o h = absurd (false≢true h)
 put_is (End i e) o h = absurd (false≢true h)
+put_is (effect.Mark at) o h = absurd (false≢true h)
+put_is effect.Whole o h = absurd (false≢true h)
 
 module _ (ok : TimeParts → Bool) (o : ObjectId) where
   first_other : (f : Effect) (m : List Mark) → is_object (put_object f) o ≡ false → first_put ok o (added (mark_of f) m) ≡ first_put ok o m
@@ -62,6 +65,8 @@ module _ (ok : TimeParts → Bool) (o : ObjectId) where
   first_other (Got k v) m h = refl
   first_other (Acked k) m h = refl
   first_other (End i e) m h = refl
+  first_other (effect.Mark at) m h = refl
+  first_other effect.Whole m h = refl
 
   first_if : (b : Bool) (x : TimeParts) (v : Value) (r : Option (TimeParts × Value)) → (if b then Some (x, v) else r) ≡ first (if b then Some (x, v) else None) r
   first_if true x v r = refl

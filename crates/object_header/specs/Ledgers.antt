@@ -2,10 +2,12 @@
 use Rattle.std.specs.Prelude.{◌≡◌, ℕ, Bool, true, false, List, [], ◌∷◌, ◌++◌, Option, Some, None, reverse, if◌then◌else◌}
 use Rattle.std.specs.FinMap as finite
 use Rattle.pseudo_time.specs.StampParts.{StampParts}
+use Rattle.pseudo_time.specs.TimeParts.{TimeParts}
 use Rattle.value_form.specs.declared.objects.ObjectId.{ObjectId}
 use Rattle.medium_port.specs.Image.{Image}
 use Rattle.effect_form.specs.declared.effects.Effect.{Effect}
 use Rattle.object_history.specs.declared.marks.Mark.{Mark}
+use Rattle.object_history.specs.History.{floor_of}
 use Rattle.object_history.specs.Kept.{Settled}
 use Rattle.object_history.specs.Ranges.{AreMarks}
 use Rattle.object_header.specs.Spans.{HeadParts}
@@ -47,6 +49,11 @@ pub record IsLedger (l : LedgerParts) : Type 0 where
   pub in_range : AreMarks l.late
   pub kept : l.whole ≡ true → l.kept ≡ kept_of (is_odd l) (stored l)
   pub kept_in_range : AreMarks l.kept
+
+-- the greatest Floor of the marks is kept beside it
+pub record IsFloored (l : LedgerParts) (floor : Option TimeParts) : Type 0 where
+  pub ledger : IsLedger l
+  pub floors : floor ≡ floor_of (content l)
 
 -- what lies below: the store's log, oldest first, the number of pages left, and what its medium reads, where that is told
 pub record BeneathParts : Type 0 where

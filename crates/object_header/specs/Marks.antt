@@ -5,6 +5,7 @@ use Rattle.pseudo_time.specs.TimeParts.{TimeParts}
 use Rattle.value_form.specs.declared.values.Value.{Value}
 use Rattle.effect_form.specs.declared.effects.Effect.{Effect}
 use Rattle.effect_form.specs.declared.effects.Effect.TheVariants.{Put, Stretch, Begin, Decide, Learn, Run, Act, Try, Got, Acked, End}
+use Rattle.effect_form.specs.declared.effects.Effect.TheVariants as effect
 use Rattle.effect_form.specs.declared.effects.Place.{Place}
 use Rattle.object_history.specs.declared.marks.Mark.{Mark}
 use Rattle.object_history.specs.History.{at_put}
@@ -31,6 +32,8 @@ put_found ok (Try i s) = None
 put_found ok (Got k v) = None
 put_found ok (Acked k) = None
 put_found ok (End i e) = None
+put_found ok (effect.Mark at) = None
+put_found ok effect.Whole = None
 
 -- a mark is a version of the object whose start passes
 abbrev pub is_here : (TimeParts → Bool) → ObjectId → Mark → Bool

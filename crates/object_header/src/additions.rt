@@ -71,6 +71,10 @@ pub fn add_effect(index: &mut Index, effect: &Effect) -> Result<(), AllocError>
         Effect::Stretch { object, at } => index.stretch(*object, *at),
         Effect::Decide { stamp, decision } => index.settle(*stamp, is_commit(*decision)),
         Effect::Learn { stamp, committed } => index.settle(*stamp, *committed),
+        Effect::Mark { at } => {
+            index.keeps_floor(*at);
+            Ok(())
+        }
         _ => Ok(()),
     }
 }

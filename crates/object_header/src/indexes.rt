@@ -5,8 +5,9 @@ ghost use Rattle.value_form.specs.declared.objects.ObjectId.{ObjectId};
 ghost use Rattle.value_form.specs.declared.values.Value.{Value};
 ghost use Rattle.object_history.specs.declared.marks.Mark.{Mark};
 ghost use Rattle.object_history.specs.declared.marks.Mark.TheVariants as mark;
-ghost use Rattle.object_history.specs.Views.{Starts};
-ghost use Rattle.object_history.specs.History.{settle_of, newest, reach};
+ghost use Rattle.object_history.specs.Views.{Starts, IsOnFloor};
+ghost use Rattle.object_history.specs.History as history;
+ghost use Rattle.object_history.specs.History.{settle_of, newest, floor_of, reach};
 ghost use Rattle.object_history.specs.Answers.{is_above, stands_written, write_reach, write_newest};
 ghost use Rattle.object_header.specs.Spans.{is_living};
 ghost use Rattle.object_header.specs.Heads.{head_at};
@@ -113,6 +114,12 @@ impl Index {
         self.settles.put(stamp, committed)
     }
 
+    /// A Floor touches no header.
+    pub fn keeps_floor(&self, at: PseudoTime)
+        ensures { (m : List Mark) → IsIndexed m self.now.settles self.now.heads → IsIndexed (mark.Floor at ∷ m) self.now.settles self.now.heads }
+    {
+    }
+
     /// How the attempt was settled.
     pub fn settled(&self, stamp: Stamp) -> Option<bool>
         ensures { (m : List Mark) → IsIndexed m self.now.settles self.now.heads → result ≡ settle_of m stamp }
@@ -127,28 +134,35 @@ impl Index {
         !(writer.is_same(reader) || self.settles.get(writer).is_some())
     }
 
-    /// What the header says of a read.
-    pub fn plan_read(&self, object: ObjectId, at: PseudoTime) -> ReadPlan
+    /// What the header says of a read that isn't below the floor.
+    pub fn plan_read(
+        &self,
+        floor: Option<PseudoTime>,
+        object: ObjectId,
+        at: PseudoTime,
+    ) -> ReadPlan
         requires headed { (head_at self.now.heads object).odd ≡ false }
-        ensures plan { (m : List Mark) → IsIndexed m self.now.settles self.now.heads → PlansRead self.now.settles m object at result }
+        ensures plan { (m : List Mark) → IsIndexed m self.now.settles self.now.heads → floor ≡ floor_of m → IsOnFloor m at →
+            PlansRead self.now.settles m object at result }
         ensures in_range { IsReadPlan result }
     {
         match self.heads.look(&self.settles, object, &Limit::Below(at)) {
             Look::Origin => {
-                let stretch = is_past(at, &self.heads.origin(object));
+                let end = latest(floor, self.heads.origin(object));
+                let stretch = is_past(at, &end);
                 ReadPlan::Known(ReadStep::Answer {
                     value: Value::Nothing,
                     stretch,
                 })
             }
-            Look::Shown(span) => self.plan_shown(at, span),
+            Look::Shown(span) => self.plan_shown(floor, at, span),
             Look::Under => ReadPlan::Find { stretch: false },
         }
     }
 
     // What a read answers that sees this version.
-    fn plan_shown(&self, at: PseudoTime, span: Span) -> ReadPlan
-        ensures plan { result ≡ plan_span self.now.settles at span }
+    fn plan_shown(&self, floor: Option<PseudoTime>, at: PseudoTime, span: Span) -> ReadPlan
+        ensures plan { result ≡ plan_span self.now.settles floor at span }
         ensures in_range { IsReadPlan result }
     {
         if self.is_waiting(at.stamp(), span.start.stamp()) {
@@ -156,26 +170,32 @@ impl Index {
                 stamp: span.start.stamp(),
             });
         }
+        let end = span_end(floor, span);
         ReadPlan::Find {
-            stretch: later(span.start, &span.end).is_before(at),
+            stretch: is_past(at, &end),
         }
     }
 
     /// What a write answers that doesn't stand yet.
-    pub fn new_write(&self, object: ObjectId, at: PseudoTime) -> WriteStep
+    pub fn new_write(
+        &self,
+        floor: Option<PseudoTime>,
+        object: ObjectId,
+        at: PseudoTime,
+    ) -> WriteStep
         requires headed { (head_at self.now.heads object).odd ≡ false }
-        ensures { (m : List Mark) → IsIndexed m self.now.settles self.now.heads →
+        ensures { (m : List Mark) → IsIndexed m self.now.settles self.now.heads → floor ≡ floor_of m →
             result ≡ write_newest at (newest m object) (reach m object (newest m object)) }
     {
         match self.heads.look(&self.settles, object, &Limit::All) {
             Look::Shown(span) => {
                 if span.start.is_before(at) {
-                    by_reach(at, &Some(later(span.start, &span.end)))
+                    by_reach(at, &span_end(floor, span))
                 } else {
                     WriteStep::LaterVersion { start: span.start }
                 }
             }
-            _ => by_reach(at, &self.heads.origin(object)),
+            _ => by_reach(at, &latest(floor, self.heads.origin(object))),
         }
     }
 
@@ -193,6 +213,23 @@ impl Index {
             Look::Under => true,
         }
     }
+}
+
+// The later of two ends, if there are any.
+fn latest(a: Option<PseudoTime>, b: Option<PseudoTime>) -> Option<PseudoTime>
+    ensures { result ≡ history.latest a b }
+{
+    match a {
+        Some(a) => Some(later(a, &b)),
+        None => b,
+    }
+}
+
+// The reach of a version over this floor.
+fn span_end(floor: Option<PseudoTime>, span: Span) -> Option<PseudoTime>
+    ensures { result ≡ history.latest floor (history.top span.start span.end) }
+{
+    latest(floor, Some(later(span.start, &span.end)))
 }
 
 // Whether a time is above an end, if there is one.

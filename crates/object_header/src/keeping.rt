@@ -24,17 +24,18 @@ fn copy_mark(alloc: Global, mark: &Mark) -> Result<Mark, AllocError>
         }
         Mark::Stretch(object, at) => Ok(Mark::Stretch(*object, *at)),
         Mark::Settle(stamp, committed) => Ok(Mark::Settle(*stamp, *committed)),
+        Mark::Floor(at) => Ok(Mark::Floor(*at)),
     }
 }
 
-// Whether a mark is an odd object's, or settles an attempt.
+// Whether a mark is an odd object's, settles an attempt, or is a floor.
 fn is_kept(heads: &Heads, mark: &Mark) -> bool
     ensures { result ≡ odd.is_kept (odd_in heads.now) mark.now }
 {
     match mark {
         Mark::Put(object, ..) => heads.is_odd(*object),
         Mark::Stretch(object, _) => heads.is_odd(*object),
-        Mark::Settle(..) => true,
+        Mark::Settle(..) | Mark::Floor(_) => true,
     }
 }
 
@@ -56,7 +57,7 @@ fn keep_mark(
     Ok(())
 }
 
-/// Keeps copies of the marks of odd objects and of how stamps are settled.
+/// Keeps copies of the marks of odd objects, of how stamps are settled, and of the floors.
 pub fn keep_marks(
     alloc: Global,
     heads: &Heads,

@@ -26,6 +26,7 @@ use crate::plans::ReadPlan;
 use effect_form::Effect;
 use object_history::{Histories, Mark, PlainHistories, ReadStep, Settles, WriteStep};
 use pseudo_time::{PseudoTime, Stamp};
+use repository_log::floor_with;
 use std::alloc::{AllocError, Global};
 use std::marker::Model;
 use std::slice::from_ref;
@@ -41,6 +42,8 @@ pub struct Ledger {
     /// Oldest first.
     late: Vec<Mark>,
     index: Index,
+    /// The greatest Floor.
+    floor: Option<PseudoTime>,
     /// Odd objects can be answered, by the marks kept here of the store, oldest first.
     whole: bool,
     kept: Vec<Mark>,
@@ -51,7 +54,7 @@ impl Model for Ledger {
     ghost use Rattle.std.specs.Coded.{codes};
     ghost use Rattle.object_history.specs.contracts.maps.Settles as settles;
     ghost use Rattle.object_header.specs.contracts.maps.Heads as heads;
-    ghost use Rattle.object_header.specs.Ledgers.{LedgerParts, IsLedger};
+    ghost use Rattle.object_header.specs.Ledgers.{LedgerParts, IsFloored};
 
     ghost Value = { LedgerParts };
 
@@ -66,14 +69,14 @@ impl Model for Ledger {
       kept = reverse l.kept.items;
     } };
 
-    ghost invariant = { λ l. IsLedger (record {
+    ghost invariant = { λ l. IsFloored (record {
       log = l.log;
       late = reverse l.late.items;
       settles = l.index.settles;
       heads = l.index.heads;
       whole = l.whole;
       kept = reverse l.kept.items;
-    }) };
+    }) l.floor };
 }
 
 impl Ledger {
@@ -87,6 +90,7 @@ impl Ledger {
             log: SnapshotLog::new(alloc),
             late: Vec::new(alloc),
             index: Index::new(alloc),
+            floor: None,
             whole: false,
             kept: Vec::new(alloc),
         }
@@ -103,6 +107,7 @@ impl Ledger {
             mut log,
             late,
             mut index,
+            floor,
             whole: _,
             kept: _,
         } = self;
@@ -113,6 +118,7 @@ impl Ledger {
             log,
             late,
             index,
+            floor: floor_with(floor, effect),
             whole: false,
             kept: Vec::new(alloc),
         })
@@ -139,13 +145,16 @@ impl Ledger {
         self.index.is_odd(object)
     }
 
-    /// What the header says of a read.
+    /// What is known of a read: below the floor it is refused; else it is what the header says.
     pub fn plan_read(&self, object: ObjectId, at: PseudoTime) -> ReadPlan
         requires headed { is_odd self.now object ≡ false }
         ensures plan { PlansRead self.now.settles (content self.now) object at result }
         ensures in_range { IsReadPlan result }
     {
-        self.index.plan_read(object, at)
+        match self.floor {
+            Some(end) if at.is_before(end) => ReadPlan::Known(ReadStep::LaterRead { end }),
+            _ => self.index.plan_read(self.floor, object, at),
+        }
     }
 
     /// What a read answers that sees this version, or the origin.
@@ -176,7 +185,7 @@ impl Ledger {
         requires headed { is_odd self.now object ≡ false }
         ensures { result ≡ write_newest at (newest (content self.now) object) (reach (content self.now) object (newest (content self.now) object)) }
     {
-        self.index.new_write(object, at)
+        self.index.new_write(self.floor, object, at)
     }
 
     /// Whether a version with this start may stand, so that it has to be looked for.
@@ -283,6 +292,7 @@ impl Ledger {
             mut log,
             late,
             index,
+            floor,
             whole,
             mut kept,
         } = self;
@@ -295,6 +305,7 @@ impl Ledger {
             log,
             late: Vec::new(alloc),
             index,
+            floor,
             whole,
             kept,
         })
@@ -315,6 +326,7 @@ impl Ledger {
             log,
             late,
             index,
+            floor,
             whole: _,
             kept: _,
         } = self;
@@ -324,6 +336,7 @@ impl Ledger {
             log,
             late,
             index,
+            floor,
             whole: true,
             kept,
         })

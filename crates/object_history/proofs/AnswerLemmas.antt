@@ -6,25 +6,25 @@ use Rattle.pseudo_time.specs.TimeParts.{TimeParts}
 use Rattle.value_form.specs.declared.objects.ObjectId.{ObjectId}
 use Rattle.value_form.specs.declared.values.Value.{Value}
 use Rattle.object_history.specs.declared.marks.Mark.{Mark}
-use Rattle.object_history.specs.declared.marks.Mark.TheVariants.{Put, Stretch, Settle}
+use Rattle.object_history.specs.declared.marks.Mark.TheVariants.{Put, Stretch, Settle, Floor}
 use Rattle.pseudo_time.specs.Order.{same_stamp, same_time, lt}
 use Rattle.object_history.specs.Objects.{same_object, same_value}
-use Rattle.object_history.specs.History.{Seen, settle_of, is_alive, is_settled, is_committed, alive, scan, sees, newest, place_of, same_place, top, stretched, reach}
+use Rattle.object_history.specs.History.{Seen, settle_of, is_alive, is_settled, is_committed, alive, scan, sees, newest, place_of, same_place, top, stretched, floor_of, latest, read_to, reach}
 use Rattle.object_history.specs.Answers.{is_above, some_put, is_over, settled_over, needs_stretch}
-use Rattle.object_history.specs.Views.{Starts, HasPut, views, Covers, Firm, Shut, value_of, Viewed}
+use Rattle.object_history.specs.Views.{Starts, HasPut, views, Covers, Firm, IsOnFloor, Shut, value_of, Viewed}
 use Rattle.object_history.proofs.Words.{Passes, AtMost}
 use Rattle.object_history.proofs.BoolLemmas.{and-both, and-left, and-right}
 use Rattle.pseudo_time.proofs.OrderLemmas.{same_stamp-is, same_time-is, lt-trans, lt-irreflexive}
 use Rattle.object_history.proofs.ObjectLemmas.{eqb-yes, same_object-is, same_object-of}
 use Rattle.value_form.specs.declared.values.Value.TheVariants.{Nothing}
-use Rattle.object_history.specs.declared.steps.ReadStep.TheVariants.{Answer, Wait}
+use Rattle.object_history.specs.declared.steps.ReadStep.TheVariants.{Answer, Wait, LaterRead}
 use Rattle.object_history.specs.declared.steps.WriteStep.{WriteStep}
 use Rattle.object_history.specs.declared.steps.WriteStep.TheVariants as write
-use Rattle.object_history.specs.Answers.{read_seen, read_step, write_reach, write_newest, write_step, stands_written, has_put, after_read}
+use Rattle.object_history.specs.Answers.{read_seen, read_from, read_step, write_reach, write_newest, write_step, stands_written, has_put, after_read}
 use Rattle.pseudo_time.specs.Lists.{Has}
 use Rattle.object_history.proofs.ObjectLemmas.{same_value-is}
 use Rattle.object_history.proofs.StableLemmas.{scan-passes}
-use Rattle.object_history.proofs.ViewLemmas.{sees-views, settled-true, top-all, has-with, covers-first, covers-rest, firm-kept}
+use Rattle.object_history.proofs.ViewLemmas.{sees-views, settled-true, top-all, has-with, covers-first, covers-rest, covers-read, firm-kept}
 use Rattle.object_history.proofs.ScanLemmas.{standing, Standing, stands-has}
 
 -- ---- an answered read is viewed
@@ -34,7 +34,7 @@ abbrev Answered : List Mark → TimeParts → Option Seen → Type 0
 Answered m t None = Unit {0}
 Answered m t (Some q) = (q.start.stamp ≡ t.stamp) ⊎ (settle_of m q.start.stamp ≢ None)
 
-same-same : (r : Option ℕ) → same_place r r ≡ true
+pub same-same : (r : Option ℕ) → same_place r r ≡ true
 same-same None = refl
 same-same (Some p) = eqb-yes p p refl
 
@@ -100,6 +100,7 @@ some-has ok o (Put a x v ∷ m) h = elim (or-cases (same_object a o && ok x) (so
 ]
 some-has ok o (Stretch a x ∷ m) h = some-has ok o m h
 some-has ok o (Settle s c ∷ m) h = some-has ok o m h
+some-has ok o (Floor z ∷ m) h = some-has ok o m h
 
 quiet : (a b : Bool) → (a && not b) ≡ false → (a ≡ false) ⊎ (b ≡ true)
 quiet true true h = inr refl
@@ -125,18 +126,28 @@ covers-if true t e h = covers-first t e t (lt-irreflexive t)
 covers-if false t e h = absurd (false≢true h)
 
 reach-now : (m : List Mark) (o : ObjectId) (t : TimeParts) (r : Option Seen) → sees m o t ≡ r → Covers (reach (Stretch o t ∷ m) o r) t
-unfolding stretched
+unfolding stretched floor_of
 reach-now m o t None e =
-    covers-if (same_object o o && same_place (place_of (sees m o t)) None) t (stretched m o None)
-    (and-both (same_object o o) _ (same_object-of o o refl) (subst (λ r. same_place (place_of (sees m o t)) (place_of r) ≡ true) e (same-same (place_of (sees m o t)))))
-reach-now m o t (Some q) e =
-    covers-rest q.start (if same_object o o && same_place (place_of (sees m o t)) (Some q.place) then top t (stretched m o (Some q.place)) else stretched m o (Some q.place)) t
-    (covers-if (same_object o o && same_place (place_of (sees m o t)) (Some q.place)) t (stretched m o (Some q.place))
+    covers-read (floor_of m) _ t (covers-if (same_object o o && same_place (place_of (sees m o t)) None) t (stretched m o None)
     (and-both (same_object o o) _ (same_object-of o o refl) (subst (λ r. same_place (place_of (sees m o t)) (place_of r) ≡ true) e (same-same (place_of (sees m o t))))))
+reach-now m o t (Some q) e =
+    covers-read (floor_of m) _ t (covers-rest q.start (if same_object o o && same_place (place_of (sees m o t)) (Some q.place) then top t (stretched m o (Some q.place)) else stretched m o (Some q.place)) t
+    (covers-if (same_object o o && same_place (place_of (sees m o t)) (Some q.place)) t (stretched m o (Some q.place))
+    (and-both (same_object o o) _ (same_object-of o o refl) (subst (λ r. same_place (place_of (sees m o t)) (place_of r) ≡ true) e (same-same (place_of (sees m o t)))))))
+
+-- a read that is answered isn't below the floor
+answer-from : (f : Option TimeParts) (m : List Mark) (o : ObjectId) (t : TimeParts) (v : Value) (st : Bool) → read_from f m o t ≡ Answer v st → read_seen m o t (sees m o t) ≡ Answer v st
+answer-from None m o t v st h = h
+answer-from (Some e) m o t v st h = choice (lt t e) h
+  where
+    choice : (b : Bool) → (if b then LaterRead e else read_seen m o t (sees m o t)) ≡ Answer v st → read_seen m o t (sees m o t) ≡ Answer v st
+    choice true h = absurd (cc h)
+    choice false h = h
 
 still-viewed : (m : List Mark) (o : ObjectId) (t : TimeParts) (v : Value) (st : Bool) → alive m t ≡ true → read_step m o t ≡ Answer v st →
     st ≡ false → Viewed m o t v
-still-viewed m o t v st live h e =
+still-viewed m o t v st live k e =
+    let h : read_seen m o t (sees m o t) ≡ Answer v st = answer-from (floor_of m) m o t v st k in
     let P : Option Seen → Type 0 = λ r. (value_of r ≡ v) × Firm m t r × Shut m o t r in
     subst P (sees-views m o t live) (
       read-value m o t (sees m o t) v st h,
@@ -147,7 +158,8 @@ still-viewed m o t v st live h e =
 stretch-viewed : (m : List Mark) (o : ObjectId) (t : TimeParts) (v : Value) (st : Bool) → alive m t ≡ true → read_step m o t ≡ Answer v st →
     Viewed (Stretch o t ∷ m) o t v
 unfolding scan settle_of
-stretch-viewed m o t v st live h =
+stretch-viewed m o t v st live w =
+    let h : read_seen m o t (sees m o t) ≡ Answer v st = answer-from (floor_of m) m o t v st w in
     let P : Option Seen → Type 0 = λ r. (value_of r ≡ v) × Firm m t r × Covers (reach (Stretch o t ∷ m) o r) t in
     let k : P (views m o t) = subst P (sees-views m o t live) (
       read-value m o t (sees m o t) v st h,
@@ -156,7 +168,7 @@ stretch-viewed m o t v st live h =
     ) in
     (k.0, firm-kept m (Stretch o t) t (views m o t) k.1, inl k.2)
 
-not-dead : (u : Option Bool) → u ≢ Some false → is_alive u ≡ true
+pub not-dead : (u : Option Bool) → u ≢ Some false → is_alive u ≡ true
 not-dead None h = refl
 not-dead (Some true) h = refl
 not-dead (Some false) h = absurd (h refl)
@@ -203,6 +215,7 @@ put-stands o t v (Put a x w ∷ m) h = elim (or-cases (same_object a o && (same_
 ]
 put-stands o t v (Stretch a x ∷ m) h = inr (put-stands o t v m h)
 put-stands o t v (Settle s c ∷ m) h = inr (put-stands o t v m h)
+put-stands o t v (Floor z ∷ m) h = inr (put-stands o t v m h)
 
 pub again-stands : (m : List Mark) (o : ObjectId) (t : TimeParts) (v : Value) → write_step m o t v ≡ write.Again → Has (Put o t v) m
 again-stands m o t v h =
@@ -241,6 +254,7 @@ unfolding stretched
 stretch-stands [] o r e h = cc h
 stretch-stands (Put a x v ∷ m) o r e h = inr (stretch-stands m o r e h)
 stretch-stands (Settle s c ∷ m) o r e h = inr (stretch-stands m o r e h)
+stretch-stands (Floor z ∷ m) o r e h = inr (stretch-stands m o r e h)
 stretch-stands (Stretch a x ∷ m) o r e h =
     stretch-if (same_object a o && same_place (place_of (sees m o x)) r) a o x e (stretched m o r) m (λ k. same_object-is a o (and-left (same_object a o) _ k)) (stretch-stands m o r e) h
 
@@ -252,15 +266,84 @@ top-rest x e t (Some y) l g h = choice (lt x y) h
     choice true h = h
     choice false h = let p : x ≡ e = cc h in absurd (true≢false (sym (lt-trans x t x l (subst (λ z. lt t z ≡ true) (sym p) g)) ∙ lt-irreflexive x))
 
-later-of : (m : List Mark) (o : ObjectId) (t e : TimeParts) (r : Option Seen) → write_newest t r (reach m o r) ≡ write.LaterRead e → (lt t e ≡ true) × Has (Stretch o e) m
-later-of m o t e None h = let k = read-reach t (stretched m o None) e h in (k.0, stretch-stands m o None e k.1)
+-- a floor stands
+pub floor-stands : (m : List Mark) (e : TimeParts) → floor_of m ≡ Some e → Has (Floor e) m
+unfolding floor_of
+floor-stands [] e h = cc h
+floor-stands (Put a x v ∷ m) e h = inr (floor-stands m e h)
+floor-stands (Stretch a x ∷ m) e h = inr (floor-stands m e h)
+floor-stands (Settle s c ∷ m) e h = inr (floor-stands m e h)
+floor-stands (Floor x ∷ m) e h = either (floor_of m) (floor-stands m e) h
+  where
+    choice : (y : TimeParts) (c : Bool) → (Some y ≡ Some e → Has (Floor e) m) → (if c then Some y else Some x) ≡ Some e → Has (Floor e) (Floor x ∷ m)
+    choice y true g h = inr (g h)
+    choice y false g h = let p : x ≡ e = cc h in inl (ap (λ z. Floor z) p)
+
+    either : (f : Option TimeParts) → (f ≡ Some e → Has (Floor e) m) → top x f ≡ Some e → Has (Floor e) (Floor x ∷ m)
+    either None g h = let p : x ≡ e = cc h in inl (ap (λ z. Floor z) p)
+    either (Some y) g h = choice y (lt x y) g h
+
+-- ---- reads and the floor
+
+-- what is seen refuses no read
+never-later : (m : List Mark) (o : ObjectId) (t : TimeParts) (r : Option Seen) (e : TimeParts) → read_seen m o t r ≡ LaterRead e → ⊥
+never-later m o t None e h = cc h
+never-later m o t (Some q) e h = choice (same_stamp q.start.stamp t.stamp || is_settled (settle_of m q.start.stamp)) h
+  where
+    choice : (b : Bool) → (if b then Answer q.value (needs_stretch m o t (Some q)) else Wait q.start.stamp) ≡ LaterRead e → ⊥
+    choice true k = cc k
+    choice false k = cc k
+
+refused-from : (f : Option TimeParts) (m : List Mark) (o : ObjectId) (t e : TimeParts) → read_from f m o t ≡ LaterRead e → (lt t e ≡ true) × (f ≡ Some e)
+refused-from None m o t e h = absurd (never-later m o t (sees m o t) e h)
+refused-from (Some x) m o t e h = choice (lt t x) refl h
+  where
+    choice : (b : Bool) → lt t x ≡ b → (if b then LaterRead x else read_seen m o t (sees m o t)) ≡ LaterRead e → (lt t e ≡ true) × (Some x ≡ Some e)
+    choice true l k = let p : x ≡ e = cc k in (subst (λ z. lt t z ≡ true) p l, ap (λ z. Some z) p)
+    choice false l k = absurd (never-later m o t (sees m o t) e k)
+
+pub read-below : (m : List Mark) (o : ObjectId) (t e : TimeParts) → read_step m o t ≡ LaterRead e → (lt t e ≡ true) × Has (Floor e) m
+read-below m o t e h = let k = refused-from (floor_of m) m o t e h in (k.0, floor-stands m e k.1)
+
+on-floor : (f : Option TimeParts) (m : List Mark) (o : ObjectId) (t : TimeParts) (v : Value) (st : Bool) → read_from f m o t ≡ Answer v st → (e : TimeParts) → f ≡ Some e → lt t e ≡ false
+on-floor None m o t v st h e k = cc k
+on-floor (Some x) m o t v st h e k = choice (lt t x) refl h
+  where
+    choice : (b : Bool) → lt t x ≡ b → (if b then LaterRead x else read_seen m o t (sees m o t)) ≡ Answer v st → lt t e ≡ false
+    choice true l w = absurd (cc w)
+    choice false l w = let p : x ≡ e = cc k in subst (λ z. lt t z ≡ false) p l
+
+pub answer-on-floor : (m : List Mark) (o : ObjectId) (t : TimeParts) (v : Value) (st : Bool) → read_step m o t ≡ Answer v st → IsOnFloor m t
+answer-on-floor m o t v st h = on-floor (floor_of m) m o t v st h
+
+-- ---- a write that is refused
+
+either-end : (f s : Option TimeParts) (e : TimeParts) → latest f s ≡ Some e → (f ≡ Some e) ⊎ (s ≡ Some e)
+either-end None s e h = inr h
+either-end (Some x) None e h = inl h
+either-end (Some x) (Some y) e h = choice (lt x y) h
+  where
+    choice : (c : Bool) → (if c then Some y else Some x) ≡ Some e → (Some x ≡ Some e) ⊎ (Some y ≡ Some e)
+    choice true h = inr h
+    choice false h = inl h
+
+later-of : (m : List Mark) (o : ObjectId) (t e : TimeParts) (r : Option Seen) → write_newest t r (reach m o r) ≡ write.LaterRead e → (lt t e ≡ true) × (Has (Stretch o e) m ⊎ Has (Floor e) m)
+later-of m o t e None h =
+    let k = read-reach t (reach m o None) e h in
+    (k.0, elim (either-end (floor_of m) (stretched m o None) e k.1) [
+      | inl f ↦ inr (floor-stands m e f)
+      | inr s ↦ inl (stretch-stands m o None e s)
+    ])
 later-of m o t e (Some q) h =
     let g = newest-later t (lt q.start t) q (reach m o (Some q)) e refl h in
     let k = read-reach t (reach m o (Some q)) e g.1 in
-    (k.0, stretch-stands m o (Some q.place) e (top-rest q.start e t (stretched m o (Some q.place)) g.0 k.0 k.1))
+    (k.0, elim (either-end (floor_of m) (top q.start (stretched m o (Some q.place))) e k.1) [
+      | inl f ↦ inr (floor-stands m e f)
+      | inr s ↦ inl (stretch-stands m o (Some q.place) e (top-rest q.start e t (stretched m o (Some q.place)) g.0 k.0 s))
+    ])
 
 pub later-read : (m : List Mark) (o : ObjectId) (t : TimeParts) (v : Value) (e : TimeParts) → write_step m o t v ≡ write.LaterRead e →
-    (lt t e ≡ true) × Has (Stretch o e) m
+    (lt t e ≡ true) × (Has (Stretch o e) m ⊎ Has (Floor e) m)
 later-read m o t v e h =
     later-of m o t e (newest m o) (step-not-again (stands_written m o t v) (write_newest t (newest m o) (reach m o (newest m o))) (write.LaterRead e) (λ k. cc k) h)
 

@@ -11,7 +11,7 @@ use Rattle.std.proofs.lemmas.Cmp.{eq_by_cmp_equiv}
 use Rattle.std.proofs.lemmas.Grind.{common_steps}
 use Rattle.pseudo_time.specs.StampParts.{StampParts, stamp_cmp}
 use Rattle.pseudo_time.specs.TimeParts.{TimeParts}
-use Rattle.pseudo_time.specs.Order.{same_stamp}
+use Rattle.pseudo_time.specs.Order.{same_stamp, lt}
 use Rattle.pseudo_time.proofs.OrderLemmas.{stamp_cmp-total, same_stamp-is}
 use Rattle.value_form.specs.declared.objects.ObjectId.{ObjectId}
 use Rattle.value_form.specs.declared.values.Value.{Value}
@@ -19,11 +19,14 @@ use Rattle.value_form.specs.Objects.{object_cmp}
 use Rattle.value_form.specs.ObjectBytes.{IsObject}
 use Rattle.value_form.specs.ValueBytes.{IsValue}
 use Rattle.object_history.specs.declared.marks.Mark.{Mark}
-use Rattle.object_history.specs.declared.marks.Mark.TheVariants.{Put, Stretch, Settle}
+use Rattle.object_history.specs.declared.marks.Mark.TheVariants.{Put, Stretch, Settle, Floor}
 use Rattle.object_history.specs.declared.versions.Version.{Version}
 use Rattle.object_history.specs.Objects.{same_object}
-use Rattle.object_history.specs.History.{or_else, settle_of, version_count, Seen, starts_above, pick, scan, sees, place_of, same_place, top, stretched}
-use Rattle.object_history.specs.Kept.{Settled, TrackParts, Tracked, empty_track, track_at, IsKept, with_version, read_up_to, ended_at, with_end, versions_in, track_of, Keeps}
+use Rattle.object_history.specs.History.{or_else, settle_of, version_count, Seen, starts_above, pick, scan, sees, place_of, same_place, top, floor_of, latest, read_to, reach, stretched}
+use Rattle.object_history.specs.declared.steps.ReadStep.{ReadStep}
+use Rattle.object_history.specs.declared.steps.ReadStep.TheVariants.{LaterRead}
+use Rattle.object_history.specs.Answers.{read_seen, read_from, read_step}
+use Rattle.object_history.specs.Kept.{Settled, TrackParts, Tracked, empty_track, track_at, IsKept, IsWhole, with_version, read_up_to, ended_at, with_end, versions_in, track_of, Keeps}
 use Rattle.object_history.proofs.ObjectLemmas.{same_object-is}
 
 -- ---- places
@@ -48,6 +51,7 @@ scan-under ok o [] = tt
 scan-under ok o (Put a x v ∷ m) = under-pick (same_object a o) (ok x) (starts_above (scan ok o m) x) (version_count o m) (record { place = version_count o m; start = x; value = v }) (scan ok o m) refl (scan-under ok o m)
 scan-under ok o (Stretch a x ∷ m) = scan-under ok o m
 scan-under ok o (Settle s c ∷ m) = scan-under ok o m
+scan-under ok o (Floor z ∷ m) = scan-under ok o m
 
 not_there : (r : Option Seen) (n k : ℕ) → Under r n → n ≤ k → same_place (place_of r) (Some k) ≡ false
 not_there None n k h le = refl
@@ -67,6 +71,7 @@ unfolding stretched version_count
 stretched-new o [] k le = refl
 stretched-new o (Put a x v ∷ m) k le = stretched-new o m k (count_less (same_object a o) (version_count o m) k le)
 stretched-new o (Settle s c ∷ m) k le = stretched-new o m k le
+stretched-new o (Floor z ∷ m) k le = stretched-new o m k le
 stretched-new o (Stretch a x ∷ m) k le =
     ap (λ b. if b then top x (stretched m o (Some k)) else stretched m o (Some k))
     (and_false (same_object a o) (same_place (place_of (sees m o x)) (Some k)) (not_there (sees m o x) (version_count o m) k (scan-under _ o m) le))
@@ -84,6 +89,7 @@ length-versions all o [] = refl
 length-versions all o (Put a x v ∷ m) = length-if (same_object a o) _ (versions_in all o m) (version_count o m) (length-versions all o m)
 length-versions all o (Stretch a x ∷ m) = length-versions all o m
 length-versions all o (Settle s c ∷ m) = length-versions all o m
+length-versions all o (Floor z ∷ m) = length-versions all o m
 
 abbrev version_of : ℕ → ℕ → TimeParts → Option TimeParts → Version
 version_of p k x e = record { place = p; mark = k; start = x; end = e }
@@ -96,6 +102,7 @@ versions-same all more o (Put a x v ∷ m) h =
     ∙ ap (λ vs. if same_object a o then version_of (version_count o m) (length m) x (stretched more o (Some (version_count o m))) ∷ vs else vs) (versions-same all more o m h)
 versions-same all more o (Stretch a x ∷ m) h = versions-same all more o m h
 versions-same all more o (Settle s c ∷ m) h = versions-same all more o m h
+versions-same all more o (Floor z ∷ m) h = versions-same all more o m h
 
 ended_head : (b : Bool) (p k : ℕ) (x y : TimeParts) (e f : Option TimeParts) → f ≡ (if b then top x e else e) → (if b then read_up_to x (version_of p k y e) else version_of p k y e) ≡ version_of p k y f
 ended_head true p k x y e f h = ap (version_of p k y) (sym h)
@@ -119,6 +126,7 @@ versions-ended all more o i x (Put a y v ∷ m) h =
     ∙ ap (λ w. if same_object a o then w ∷ versions_in more o m else versions_in more o m) (ended_head (i == n) n (length m) x y e (stretched more o (Some n)) (h n))
 versions-ended all more o i x (Stretch a y ∷ m) h = versions-ended all more o i x m h
 versions-ended all more o i x (Settle s c ∷ m) h = versions-ended all more o i x m h
+versions-ended all more o i x (Floor z ∷ m) h = versions-ended all more o i x m h
 
 -- ---- a Settle
 
@@ -279,3 +287,64 @@ pub push-stretch : (xs ys m : List Mark) (settled : Settled) (tracks new : Track
     ((o : ObjectId) → track_at new o ≡ (if same_object a o then with_end p x (track_at tracks o) else track_at tracks o)) → IsKept (reverse ys) settled new
 push-stretch xs ys m settled tracks new a x p k is object view at h =
     subst (KeptIn settled new) (sym (pushed xs ys (Stretch a x) is)) (kept-stretch (reverse xs) settled tracks new a x p k object (at ∙ ap (λ z. place_of (sees z a x)) (sym view)) h)
+
+-- ---- the floor
+
+pub floor-pushed : (xs ys : List Mark) (f : Mark) (floor : Option TimeParts) → floor ≡ floor_of (reverse xs) → ys ≡ xs ++ f ∷ [] → floor_of (f ∷ reverse xs) ≡ floor_of (reverse xs) → floor ≡ floor_of (reverse ys)
+floor-pushed xs ys f floor is more same = is ∙ sym same ∙ ap floor_of (sym (pushed xs ys f more))
+
+pub whole-put : (xs ys : List Mark) (settled : Settled) (tracks : Tracked) (a : ObjectId) (x : TimeParts) (v : Value) (floor : Option TimeParts) → floor ≡ floor_of (reverse xs) → ys ≡ xs ++ Put a x v ∷ [] → IsKept (reverse ys) settled tracks → IsWhole (reverse ys) settled tracks floor
+unfolding floor_of
+whole-put xs ys settled tracks a x v floor is more k = record { kept = k; floors = floor-pushed xs ys (Put a x v) floor is more refl }
+
+pub whole-stretch : (xs ys : List Mark) (settled : Settled) (tracks : Tracked) (a : ObjectId) (x : TimeParts) (floor : Option TimeParts) → floor ≡ floor_of (reverse xs) → ys ≡ xs ++ Stretch a x ∷ [] → IsKept (reverse ys) settled tracks → IsWhole (reverse ys) settled tracks floor
+unfolding floor_of
+whole-stretch xs ys settled tracks a x floor is more k = record { kept = k; floors = floor-pushed xs ys (Stretch a x) floor is more refl }
+
+pub whole-settle : (xs ys : List Mark) (settled : Settled) (tracks : Tracked) (s : StampParts) (c : Bool) (floor : Option TimeParts) → floor ≡ floor_of (reverse xs) → ys ≡ xs ++ Settle s c ∷ [] → IsKept (reverse ys) settled tracks → IsWhole (reverse ys) settled tracks floor
+unfolding floor_of
+whole-settle xs ys settled tracks s c floor is more k = record { kept = k; floors = floor-pushed xs ys (Settle s c) floor is more refl }
+
+keeps-floor : (m : List Mark) (settled : Settled) (tracks : Tracked) (x : TimeParts) → Keeps m settled tracks → Keeps (Floor x ∷ m) settled tracks
+unfolding settle_of stretched versions_in
+keeps-floor m settled tracks x k = record { settles = k.settles; objects = λ o. k.objects o ∙ same o }
+  where
+    same : (o : ObjectId) → track_of m o ≡ track_of (Floor x ∷ m) o
+    same o = ap (λ vs. record { origin = stretched m o None; versions = vs }) (versions-same m (Floor x ∷ m) o m (λ p. refl))
+
+pub push-floor : (xs ys : List Mark) (settled : Settled) (tracks : Tracked) (x new : TimeParts) (floor : Option TimeParts) → IsWhole (reverse xs) settled tracks floor → ys ≡ xs ++ Floor x ∷ [] → Some new ≡ top x floor → IsWhole (reverse ys) settled tracks (Some new)
+unfolding floor_of
+push-floor xs ys settled tracks x new floor k more is = record {
+  kept = subst (KeptIn settled tracks) (sym (pushed xs ys (Floor x) more)) (record { keeps = keeps-floor (reverse xs) settled tracks x k.kept.keeps; in_range = (tt, k.kept.in_range) });
+  floors = is ∙ ap (λ f. top x f) k.floors ∙ ap floor_of (sym (pushed xs ys (Floor x) more));
+}
+
+pub whole-new : (items : List Mark) (settled : Settled) (tracks : Tracked) → items ≡ [] → IsKept (reverse items) settled tracks → IsWhole (reverse items) settled tracks None
+unfolding floor_of
+whole-new items settled tracks none k = record { kept = k; floors = ap (λ z. floor_of (reverse z)) (sym none) }
+
+floor-is : (items m : List Mark) (floor f : Option TimeParts) → floor ≡ floor_of (reverse items) → reverse items ≡ m → floor ≡ f → f ≡ floor_of m
+floor-is items m floor f whole view is = sym is ∙ whole ∙ ap floor_of view
+
+pub reach-some : (items m : List Mark) (floor : Option TimeParts) (o : ObjectId) (r : Option Seen) (x new : TimeParts) (read : Option TimeParts) → floor ≡ floor_of (reverse items) → reverse items ≡ m → floor ≡ Some x → Some new ≡ top x read → read ≡ read_to m o r → Some new ≡ reach m o r
+reach-some items m floor o r x new read whole view is h same = h ∙ ap (top x) same ∙ ap (λ f. latest f (read_to m o r)) (floor-is items m floor (Some x) whole view is)
+
+pub reach-none : (items m : List Mark) (floor : Option TimeParts) (o : ObjectId) (r : Option Seen) (read : Option TimeParts) → floor ≡ floor_of (reverse items) → reverse items ≡ m → floor ≡ None → read ≡ read_to m o r → read ≡ reach m o r
+reach-none items m floor o r read whole view is same = same ∙ ap (λ f. latest f (read_to m o r)) (floor-is items m floor None whole view is)
+
+if-below : (b : Bool) (e : TimeParts) (s : ReadStep) → b ≡ true → LaterRead e ≡ (if b then LaterRead e else s)
+if-below true e s h = refl
+if-below false e s h = absurd (false≢true h)
+
+if-above : (b : Bool) (e : TimeParts) (s : ReadStep) → b ≡ false → s ≡ (if b then LaterRead e else s)
+if-above true e s h = absurd (true≢false h)
+if-above false e s h = refl
+
+pub answer-below : (items m : List Mark) (floor : Option TimeParts) (o : ObjectId) (t e : TimeParts) → floor ≡ floor_of (reverse items) → reverse items ≡ m → floor ≡ Some e → lt t e ≡ true → LaterRead e ≡ read_step m o t
+answer-below items m floor o t e whole view is l = if-below (lt t e) e (read_seen m o t (sees m o t)) l ∙ ap (λ f. read_from f m o t) (floor-is items m floor (Some e) whole view is)
+
+pub answer-above : (items m : List Mark) (floor : Option TimeParts) (o : ObjectId) (t e : TimeParts) → floor ≡ floor_of (reverse items) → reverse items ≡ m → floor ≡ Some e → lt t e ≡ false → read_seen m o t (sees m o t) ≡ read_step m o t
+answer-above items m floor o t e whole view is l = if-above (lt t e) e (read_seen m o t (sees m o t)) l ∙ ap (λ f. read_from f m o t) (floor-is items m floor (Some e) whole view is)
+
+pub answer-none : (items m : List Mark) (floor : Option TimeParts) (o : ObjectId) (t : TimeParts) → floor ≡ floor_of (reverse items) → reverse items ≡ m → floor ≡ None → read_seen m o t (sees m o t) ≡ read_step m o t
+answer-none items m floor o t whole view is = ap (λ f. read_from f m o t) (floor-is items m floor None whole view is)

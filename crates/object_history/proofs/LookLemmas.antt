@@ -19,14 +19,14 @@ use Rattle.value_form.specs.declared.values.Value.{Value}
 use Rattle.value_form.specs.declared.values.Value.TheVariants.{Nothing}
 use Rattle.value_form.specs.ValueBytes.{IsValue}
 use Rattle.object_history.specs.declared.marks.Mark.{Mark}
-use Rattle.object_history.specs.declared.marks.Mark.TheVariants.{Put, Stretch, Settle}
+use Rattle.object_history.specs.declared.marks.Mark.TheVariants.{Put, Stretch, Settle, Floor}
 use Rattle.object_history.specs.declared.versions.Version.{Version}
 use Rattle.object_history.specs.Objects.{same_object, same_value}
-use Rattle.object_history.specs.History.{settle_of, is_alive, is_settled, is_committed, alive, version_count, Seen, starts_above, pick, scan, sees, stretched}
-use Rattle.object_history.specs.Answers.{is_over, some_put, settled_over, needs_stretch, read_seen, read_step, has_put}
+use Rattle.object_history.specs.History.{settle_of, is_alive, is_settled, is_committed, alive, version_count, Seen, starts_above, pick, scan, sees, floor_of, stretched}
+use Rattle.object_history.specs.Answers.{is_over, some_put, settled_over, needs_stretch, read_seen, read_from, read_step, has_put}
 use Rattle.object_history.specs.Views.{value_of}
 use Rattle.object_history.specs.Ranges.{IsMark, AreMarks, IsReadStep}
-use Rattle.object_history.specs.declared.steps.ReadStep.TheVariants.{Answer, Wait}
+use Rattle.object_history.specs.declared.steps.ReadStep.TheVariants.{Answer, Wait, LaterRead}
 use Rattle.object_history.specs.Kept.{Settled, Tracked, TrackParts, empty_track, IsKept, versions_in, value_put, value_under, seen_in, takes_over, joined, last_of, is_below, is_living, is_past, is_firm, some_version, HasEnd}
 use Rattle.object_history.proofs.BoolLemmas.{not-false}
 use Rattle.object_history.proofs.ObjectLemmas.{eqb-yes, eq-from}
@@ -86,6 +86,7 @@ scan-last all ok o (Put a x v ∷ m) h =
     (ap (λ z. record { place = version_count o m; start = x; value = z }) h.0) (scan-last all ok o m h.1)
 scan-last all ok o (Stretch a x ∷ m) h = scan-last all ok o m h.1
 scan-last all ok o (Settle s c ∷ m) h = scan-last all ok o m h.1
+scan-last all ok o (Floor z ∷ m) h = scan-last all ok o m h.1
 
 end-joined : (all : List Mark) (o : ObjectId) (p r : Option Version) → HasEnd all o p → HasEnd all o r → HasEnd all o (joined p r)
 end-joined all o None r h k = k
@@ -112,6 +113,7 @@ end-last all ok o (Put a x v ∷ m) =
     end-versions all o ok (same_object a o) (record { place = version_count o m; mark = length m; start = x; end = stretched all o (Some (version_count o m)) }) (versions_in all o m) refl (end-last all ok o m)
 end-last all ok o (Stretch a x ∷ m) = end-last all ok o m
 end-last all ok o (Settle s c ∷ m) = end-last all ok o m
+end-last all ok o (Floor z ∷ m) = end-last all ok o m
 
 -- the order of joining doesn't matter
 joined_three : (u v : Version) (r : Option Version) → joined (joined (Some u) (Some v)) r ≡ joined (Some u) (joined (Some v) r)
@@ -197,6 +199,7 @@ some-versions all ok o (Put a x v ∷ m) =
     some_if (same_object a o) (ok x) (λ v. ok v.start) (record { place = version_count o m; mark = length m; start = x; end = stretched all o (Some (version_count o m)) }) (versions_in all o m) (some_put ok o m) refl (some-versions all ok o m)
 some-versions all ok o (Stretch a x ∷ m) = some-versions all ok o m
 some-versions all ok o (Settle s c ∷ m) = some-versions all ok o m
+some-versions all ok o (Floor z ∷ m) = some-versions all ok o m
 
 abbrev pub is_written : List Mark → TimeParts → Value → Version → Bool
 is_written all t w v = same_time v.start t && same_value (value_under all v.mark) w
@@ -209,6 +212,7 @@ has-versions all o t w (Put a x v ∷ m) h =
     (ap (λ z. same_time x t && same_value z w) h.0) (has-versions all o t w m h.1)
 has-versions all o t w (Stretch a x ∷ m) h = has-versions all o t w m h.1
 has-versions all o t w (Settle s c ∷ m) h = has-versions all o t w m h.1
+has-versions all o t w (Floor z ∷ m) h = has-versions all o t w m h.1
 
 -- ---- the value of a mark
 
@@ -355,4 +359,15 @@ pub value-in_range : (m : List Mark) (ok : TimeParts → Bool) (o : ObjectId) (v
 value-in_range m ok o v all is = subst IsValue (sym is) (seen-in_range o m (scan ok o m) all (standing ok o m))
 
 pub read-in_range : (m : List Mark) (o : ObjectId) (t : TimeParts) → AreMarks m → IsReadStep (read_step m o t)
-read-in_range m o t all = answer-in_range m o t (sees m o t) (seen-in_range o m (sees m o t) all (standing (λ x. lt x t && alive m x) o m))
+read-in_range m o t all = go (floor_of m)
+  where
+    seen : IsReadStep (read_seen m o t (sees m o t))
+    seen = answer-in_range m o t (sees m o t) (seen-in_range o m (sees m o t) all (standing (λ x. lt x t && alive m x) o m))
+
+    either : (b : Bool) (e : TimeParts) → IsReadStep (if b then LaterRead e else read_seen m o t (sees m o t))
+    either true e = tt
+    either false e = seen
+
+    go : (f : Option TimeParts) → IsReadStep (read_from f m o t)
+    go None = seen
+    go (Some e) = either (lt t e) e

@@ -8,10 +8,10 @@ use Rattle.pseudo_time.proofs.OrderLemmas.{lt-irreflexive, lt-asymmetric, lt-tot
 use Rattle.value_form.specs.declared.objects.ObjectId.{ObjectId}
 use Rattle.value_form.specs.declared.values.Value.{Value}
 use Rattle.object_history.specs.declared.marks.Mark.{Mark}
-use Rattle.object_history.specs.declared.marks.Mark.TheVariants.{Put, Stretch, Settle}
+use Rattle.object_history.specs.declared.marks.Mark.TheVariants.{Put, Stretch, Settle, Floor}
 use Rattle.object_history.specs.declared.steps.WriteStep.TheVariants as write
 use Rattle.object_history.specs.Objects.{same_object}
-use Rattle.object_history.specs.History.{Seen, settle_of, alive, version_count, sees, newest, place_of, same_place, top, stretched, reach}
+use Rattle.object_history.specs.History.{Seen, settle_of, alive, version_count, sees, newest, place_of, same_place, top, stretched, floor_of, latest, reach}
 use Rattle.object_history.specs.Answers.{write_step}
 use Rattle.object_history.specs.Views.{Starts, IsVersion, Distinct, Fits, Grown}
 use Rattle.object_history.proofs.Words.{Passes, Ends, Low, AtMost}
@@ -38,6 +38,7 @@ stands-under o (Put a x v ∷ m) q (inl s) = here (same_object a o) (same_object
 stands-under o (Put a x v ∷ m) q (inr s) = more (same_object a o) q.place (version_count o m) (stands-under o m q s)
 stands-under o (Stretch a x ∷ m) q s = stands-under o m q s
 stands-under o (Settle t c ∷ m) q s = stands-under o m q s
+stands-under o (Floor z ∷ m) q s = stands-under o m q s
 
 clash : (o : ObjectId) (m : List Mark) (p q : Seen) (x : TimeParts) (v : Value) → record { place = version_count o m; start = x; value = v } ≡ p → IsVersion o m q → p.place ≡ q.place → p ≡ q
 clash o m p q x v is s same =
@@ -53,6 +54,7 @@ one-place o (Put a x v ∷ m) p q (inr s) (inl t) e = sym (clash o m q p x v t.1
 one-place o (Put a x v ∷ m) p q (inr s) (inr t) e = one-place o m p q s t e
 one-place o (Stretch a x ∷ m) p q s t e = one-place o m p q s t e
 one-place o (Settle u c ∷ m) p q s t e = one-place o m p q s t e
+one-place o (Floor z ∷ m) p q s t e = one-place o m p q s t e
 
 -- ---- ends
 
@@ -71,6 +73,26 @@ ends-rest a y (Some e) h = either (lt a e) refl h
     either : (b : Bool) → lt a e ≡ b → Ends (if b then Some e else Some a) y → lt y e ≡ false
     either true l k = k
     either false l k = not-false (lt y e) (λ n. true≢false (sym (lt-split y a e n l) ∙ k))
+
+ends-first : (a y : TimeParts) (s : Option TimeParts) → Ends (top a s) y → lt y a ≡ false
+ends-first a y None h = h
+ends-first a y (Some e) h = either (lt a e) refl h
+  where
+    either : (b : Bool) → lt a e ≡ b → Ends (if b then Some e else Some a) y → lt y a ≡ false
+    either true l k = not-false (lt y a) (λ n. true≢false (sym (lt-trans y a e n l) ∙ k))
+    either false l k = k
+
+pub ends-floor : (f e : Option TimeParts) (y : TimeParts) → Ends (latest f e) y → Ends f y
+ends-floor None e y h = tt
+ends-floor (Some x) e y h = ends-first x y e h
+
+ends-read : (f e : Option TimeParts) (y : TimeParts) → Ends (latest f e) y → Ends e y
+ends-read None e y h = h
+ends-read (Some x) e y h = ends-rest x y e h
+
+ends-latest : (f e : Option TimeParts) (y : TimeParts) → Ends f y → Ends e y → Ends (latest f e) y
+ends-latest None e y h k = k
+ends-latest (Some x) e y h k = ends-top x y e h k
 
 ends-if : (b : Bool) (x y : TimeParts) (s : Option TimeParts) → (b ≡ true → lt y x ≡ false) → Ends s y → Ends (if b then top x s else s) y
 ends-if true x y s h k = ends-top x y s (h refl) k
@@ -119,7 +141,7 @@ above-all o m x v ordered d put =
 -- ---- each mark keeps the order
 
 ordered-put : (o : ObjectId) (m : List Mark) (a : ObjectId) (x : TimeParts) (v : Value) → Ordered o m → Distinct m → write_step m a x v ≡ write.Put → Ordered o (Put a x v ∷ m)
-unfolding stretched settle_of
+unfolding stretched settle_of floor_of
 ordered-put o m a x v ordered d put = record { origin = origin; versions = versions }
   where
     here : a ≡ o → Ends (reach m o None) x × ((q : Seen) → Living o m q → Ends (reach m o (Some q)) x)
@@ -139,7 +161,7 @@ ordered-put o m a x v ordered d put = record { origin = origin; versions = versi
     versions q r (inr s, l) (inr t, k) h = ordered.versions q r (s, l) (t, k) h
 
 ordered-settle : (o : ObjectId) (m : List Mark) (s : StampParts) (c : Bool) → Ordered o m → settle_of m s ≡ None → Ordered o (Settle s c ∷ m)
-unfolding stretched
+unfolding stretched floor_of
 ordered-settle o m s c ordered none = record {
   origin = λ r l. ordered.origin r (l.0, alive-fewer m s c r.start none l.1);
   versions = λ q r l k h. ordered.versions q r (l.0, alive-fewer m s c q.start none l.1) (k.0, alive-fewer m s c r.start none k.1) h;
@@ -159,7 +181,7 @@ not-below-seen o m x (Some n) s h q r k l b e =
     ∙ stands-starts (λ y. (lt y x && alive m y) ≡ true → lt n.start y ≡ false) o m r h l.0 (and-both (lt r.start x) (alive m r.start) u l.1)))
 
 ordered-stretch : (o : ObjectId) (m : List Mark) (a : ObjectId) (x : TimeParts) → Ordered o m → Ordered o (Stretch a x ∷ m)
-unfolding stretched settle_of
+unfolding stretched settle_of floor_of
 ordered-stretch o m a x ordered = record { origin = origin; versions = versions }
   where
     ok : TimeParts → Bool
@@ -171,21 +193,22 @@ ordered-stretch o m a x ordered = record { origin = origin; versions = versions 
     most : Starts (λ y. (lt y x && alive m y) ≡ true → AtMost (sees m o x) y) o m
     most = top-all (λ y. lt y x && alive m y) o m
 
-    origin : (r : Seen) → Living o m r → Ends (if same_object a o && same_place (place_of (sees m o x)) None then top x (stretched m o None) else stretched m o None) r.start
-    origin r l = ends-if (same_object a o && same_place (place_of (sees m o x)) None) x r.start (stretched m o None)
-        (λ e. not-below-origin o m x (sees m o x) most r l (and-right (same_object a o) _ e)) (ordered.origin r l)
+    origin : (r : Seen) → Living o m r → Ends (latest (floor_of m) (if same_object a o && same_place (place_of (sees m o x)) None then top x (stretched m o None) else stretched m o None)) r.start
+    origin r l = ends-latest (floor_of m) _ r.start (ends-floor (floor_of m) (stretched m o None) r.start (ordered.origin r l)) (ends-if (same_object a o && same_place (place_of (sees m o x)) None) x r.start (stretched m o None)
+        (λ e. not-below-origin o m x (sees m o x) most r l (and-right (same_object a o) _ e)) (ends-read (floor_of m) (stretched m o None) r.start (ordered.origin r l)))
 
     versions : (q r : Seen) → Living o m q → Living o m r → lt q.start r.start ≡ true →
-        Ends (top q.start (if same_object a o && same_place (place_of (sees m o x)) (Some q.place) then top x (stretched m o (Some q.place)) else stretched m o (Some q.place))) r.start
-    versions q r k l b = ends-top q.start r.start _ (lt-asymmetric q.start r.start b)
+        Ends (latest (floor_of m) (top q.start (if same_object a o && same_place (place_of (sees m o x)) (Some q.place) then top x (stretched m o (Some q.place)) else stretched m o (Some q.place)))) r.start
+    versions q r k l b = ends-latest (floor_of m) _ r.start (ends-floor (floor_of m) (top q.start (stretched m o (Some q.place))) r.start (ordered.versions q r k l b)) (ends-top q.start r.start _ (lt-asymmetric q.start r.start b)
         (ends-if (same_object a o && same_place (place_of (sees m o x)) (Some q.place)) x r.start (stretched m o (Some q.place))
         (λ e. not-below-seen o m x (sees m o x) at most q r k l b (and-right (same_object a o) _ e))
-        (ends-rest q.start r.start (stretched m o (Some q.place)) (ordered.versions q r k l b)))
+        (ends-rest q.start r.start (stretched m o (Some q.place)) (ends-read (floor_of m) (top q.start (stretched m o (Some q.place))) r.start (ordered.versions q r k l b)))))
 
 ordered-fits : (o : ObjectId) (m : List Mark) (f : Mark) → Fits m f → Distinct m → Ordered o m → Ordered o (f ∷ m)
 ordered-fits o m (Put a x v) fits d h = ordered-put o m a x v h d fits.1
 ordered-fits o m (Stretch a x) fits d h = ordered-stretch o m a x h
 ordered-fits o m (Settle s c) fits d h = ordered-settle o m s c h fits
+ordered-fits o m (Floor z) fits d h = absurd fits
 
 pub grown-distinct : (m : List Mark) → Grown m → Distinct m
 grown-distinct [] g = tt

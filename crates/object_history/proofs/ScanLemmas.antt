@@ -6,7 +6,7 @@ use Rattle.pseudo_time.specs.TimeParts.{TimeParts}
 use Rattle.value_form.specs.declared.objects.ObjectId.{ObjectId}
 use Rattle.value_form.specs.declared.values.Value.{Value}
 use Rattle.object_history.specs.declared.marks.Mark.{Mark}
-use Rattle.object_history.specs.declared.marks.Mark.TheVariants.{Put, Stretch, Settle}
+use Rattle.object_history.specs.declared.marks.Mark.TheVariants.{Put, Stretch, Settle, Floor}
 use Rattle.pseudo_time.specs.Order.{lt}
 use Rattle.object_history.specs.Objects.{same_object}
 use Rattle.object_history.specs.History.{version_count, newest, reach, Seen, settle_of, is_alive, alive, starts_above, pick, scan}
@@ -46,6 +46,7 @@ standing ok o [] = tt
 standing ok o (Put a x v ∷ m) = standing-pick (same_object a o) (ok x) (starts_above (scan ok o m) x) a o x v m (scan ok o m) (same_object-is a o) (standing ok o m)
 standing ok o (Stretch a x ∷ m) = standing ok o m
 standing ok o (Settle s c ∷ m) = standing ok o m
+standing ok o (Floor z ∷ m) = standing ok o m
 
 found-of : (ok : TimeParts → Bool) (o : ObjectId) (m : List Mark) (r : Option Seen) → Standing o m r → Passes ok r →
     Starts (λ y. ok y ≡ true → AtMost r y) o m → Found ok o m r
@@ -69,6 +70,7 @@ same-scan f g o (Put a x v ∷ m) h =
     ∙ ap (λ r. pick (same_object a o && g x) s r) (same-scan f g o m h.1)
 same-scan f g o (Stretch a x ∷ m) h = same-scan f g o m h
 same-scan f g o (Settle s c ∷ m) h = same-scan f g o m h
+same-scan f g o (Floor z ∷ m) h = same-scan f g o m h
 
 -- a put of another object, or that doesn't pass, or lies below, changes nothing
 pub scan-kept : (ok : TimeParts → Bool) (o a : ObjectId) (x : TimeParts) (v : Value) (m : List Mark) →
@@ -83,6 +85,7 @@ stands-starts P o (Put a x v ∷ m) q h (inl s) = subst (λ z. P z.start) s.1 (h
 stands-starts P o (Put a x v ∷ m) q h (inr s) = stands-starts P o m q h.1 s
 stands-starts P o (Stretch a x ∷ m) q h s = stands-starts P o m q h s
 stands-starts P o (Settle t c ∷ m) q h s = stands-starts P o m q h s
+stands-starts P o (Floor z ∷ m) q h s = stands-starts P o m q h s
 
 clear : (a o : ObjectId) (x : TimeParts) (m : List Mark) (p : Seen) → a ≡ o → Starts (λ y. y ≢ x) a m → IsVersion o m p → p.start ≢ x
 clear a o x m p e h s = stands-starts (λ y. y ≢ x) o m p (subst (λ z. Starts (λ y. y ≢ x) z m) e h) s
@@ -95,6 +98,7 @@ one-version o (Put a x v ∷ m) p q d (inr s) (inl t) e = absurd (clear a o x m 
 one-version o (Put a x v ∷ m) p q d (inr s) (inr t) e = one-version o m p q d.1 s t e
 one-version o (Stretch a x ∷ m) p q d s t e = one-version o m p q d s t e
 one-version o (Settle u c ∷ m) p q d s t e = one-version o m p q d s t e
+one-version o (Floor z ∷ m) p q d s t e = one-version o m p q d s t e
 
 -- ---- what fitting marks leave as it was
 
@@ -103,6 +107,7 @@ unfolding settle_of
 settled-kept m (Put o x v) s c h = h
 settled-kept m (Stretch o x) s c h = h
 settled-kept m (Settle t d) s c h = settled-stays m t s d c h
+settled-kept m (Floor z) s c h = h
 
 -- an accepted write lies above every version that isn't dead
 pub puts-below : (m : List Mark) (o : ObjectId) (x : TimeParts) (v : Value) → write_step m o x v ≡ write.Put → Starts (λ y. alive m y ≡ true → lt y x ≡ true) o m
@@ -126,6 +131,7 @@ pub distinct-kept : (m : List Mark) (f : Mark) → Fits m f → Distinct m → D
 distinct-kept m (Put o x v) fits d = (new-start m o x v fits, d)
 distinct-kept m (Stretch o x) fits d = d
 distinct-kept m (Settle s c) fits d = d
+distinct-kept m (Floor z) fits d = absurd fits
 
 pub stands-has : (o : ObjectId) (m : List Mark) (q : Seen) → IsVersion o m q → Has (Put o q.start q.value) m
 stands-has o [] q s = absurd s
@@ -133,3 +139,4 @@ stands-has o (Put a x v ∷ m) q (inl s) = inl (ap (λ z. Put z x v) s.0 ∙ ap 
 stands-has o (Put a x v ∷ m) q (inr s) = inr (stands-has o m q s)
 stands-has o (Stretch a x ∷ m) q s = inr (stands-has o m q s)
 stands-has o (Settle t c ∷ m) q s = inr (stands-has o m q s)
+stands-has o (Floor z ∷ m) q s = inr (stands-has o m q s)

@@ -6,7 +6,7 @@ use Rattle.pseudo_time.specs.TimeParts.{TimeParts}
 use Rattle.value_form.specs.declared.objects.ObjectId.{ObjectId}
 use Rattle.value_form.specs.declared.values.Value.{Value}
 use Rattle.object_history.specs.declared.marks.Mark.{Mark}
-use Rattle.object_history.specs.declared.marks.Mark.TheVariants.{Put, Stretch, Settle}
+use Rattle.object_history.specs.declared.marks.Mark.TheVariants.{Put, Stretch, Settle, Floor}
 use Rattle.pseudo_time.specs.Order.{lt}
 use Rattle.object_history.specs.Objects.{same_object}
 use Rattle.object_history.specs.History.{version_count, Seen, settle_of, is_alive, is_settled, is_committed, alive}
@@ -79,6 +79,7 @@ listed-passes Q f o (Put a x v ∷ m) s =
     (listed-passes Q f o m s.1)
 listed-passes Q f o (Stretch a x ∷ m) s = listed-passes Q f o m s
 listed-passes Q f o (Settle t c ∷ m) s = listed-passes Q f o m s
+listed-passes Q f o (Floor z ∷ m) s = listed-passes Q f o m s
 
 -- a larger test whose new puts lie above all of the smaller one only adds at the end
 module _ (Q : TimeParts → Type 0) (f g : TimeParts → Bool) (o : ObjectId)
@@ -118,6 +119,7 @@ module _ (Q : TimeParts → Type 0) (f g : TimeParts → Bool) (o : ObjectId)
       (λ e. s.0 (same_object-is a o e)) refl refl (listed-passes Q f o m s.1) (listed-longer m s.1)
   listed-longer (Stretch a x ∷ m) s = listed-longer m s
   listed-longer (Settle t c ∷ m) s = listed-longer m s
+  listed-longer (Floor z ∷ m) s = listed-longer m s
 
 -- ---- blocked
 
@@ -130,6 +132,7 @@ here-all o [] = tt
 here-all o (Put a x v ∷ m) = ((λ e. inl (e, refl)), starts-map (λ y. Here o m y) (λ y. Here o (Put a x v ∷ m) y) o m (λ y h. inr h) (here-all o m))
 here-all o (Stretch a x ∷ m) = here-all o m
 here-all o (Settle s c ∷ m) = here-all o m
+here-all o (Floor z ∷ m) = here-all o m
 
 has-at : (P : TimeParts → Type 0) (o : ObjectId) (m : List Mark) → HasPut P o m → (z : TimeParts) × Here o m z × P z
 has-at P o [] h = absurd h
@@ -137,6 +140,7 @@ has-at P o (Put a x v ∷ m) (inl h) = (x, inl (h.0, refl), h.1)
 has-at P o (Put a x v ∷ m) (inr h) = let k = has-at P o m h in (k.0, inr k.1, k.2)
 has-at P o (Stretch a x ∷ m) h = has-at P o m h
 has-at P o (Settle s c ∷ m) h = has-at P o m h
+has-at P o (Floor z ∷ m) h = has-at P o m h
 
 at-start : (P : TimeParts → Type 0) (o : ObjectId) (m : List Mark) (x : TimeParts) → Starts P o m → Here o m x → P x
 at-start P o [] x s h = absurd h
@@ -144,6 +148,7 @@ at-start P o (Put a y v ∷ m) x s (inl h) = subst (λ z. P z) h.1 (s.0 h.0)
 at-start P o (Put a y v ∷ m) x s (inr h) = at-start P o m x s.1 h
 at-start P o (Stretch a y ∷ m) x s h = at-start P o m x s h
 at-start P o (Settle t c ∷ m) x s h = at-start P o m x s h
+at-start P o (Floor z ∷ m) x s h = at-start P o m x s h
 
 or-none : (a b : Bool) → (a || b) ≡ false → (a ≡ false) × (b ≡ false)
 or-none true b h = absurd (true≢false h)
@@ -161,6 +166,7 @@ none-starts ok o (Put a x v ∷ m) h =
     ((λ e. not-false (ok x) (λ t. true≢false (sym (and-both (same_object a o) (ok x) (same_object-of a o e) t) ∙ k.0))), none-starts ok o m k.1)
 none-starts ok o (Stretch a x ∷ m) h = none-starts ok o m h
 none-starts ok o (Settle s c ∷ m) h = none-starts ok o m h
+none-starts ok o (Floor z ∷ m) h = none-starts ok o m h
 
 starts-none : (ok : TimeParts → Bool) (o : ObjectId) (m : List Mark) → Starts (λ y. ok y ≡ false) o m → some_put ok o m ≡ false
 unfolding some_put
@@ -171,6 +177,7 @@ starts-none ok o (Put a x v ∷ m) s =
     (starts-none ok o m s.1)
 starts-none ok o (Stretch a x ∷ m) s = starts-none ok o m s
 starts-none ok o (Settle t c ∷ m) s = starts-none ok o m s
+starts-none ok o (Floor z ∷ m) s = starts-none ok o m s
 
 not-yes : (b : Bool) → not b ≡ true → b ≡ false
 not-yes true h = absurd (false≢true h)
@@ -308,3 +315,4 @@ unfolding listed settle_of some_put
 settled-prefix m (Put a x v) o h = put-prefix m a o x v h
 settled-prefix m (Stretch a x) o h = ([], append-none (settled_versions m o))
 settled-prefix m (Settle s c) o h = settle-prefix m s c o
+settled-prefix m (Floor z) o h = absurd h

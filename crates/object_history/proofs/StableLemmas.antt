@@ -6,7 +6,7 @@ use Rattle.pseudo_time.specs.TimeParts.{TimeParts}
 use Rattle.value_form.specs.declared.objects.ObjectId.{ObjectId}
 use Rattle.value_form.specs.declared.values.Value.{Value}
 use Rattle.object_history.specs.declared.marks.Mark.{Mark}
-use Rattle.object_history.specs.declared.marks.Mark.TheVariants.{Put, Stretch, Settle}
+use Rattle.object_history.specs.declared.marks.Mark.TheVariants.{Put, Stretch, Settle, Floor}
 use Rattle.pseudo_time.specs.Order.{same_stamp, lt}
 use Rattle.object_history.specs.Objects.{same_object}
 use Rattle.object_history.specs.History.{version_count, Seen, or_else, settle_of, is_alive, alive, starts_above, pick, scan, newest, reach}
@@ -25,12 +25,14 @@ starts-all P o [] h = tt
 starts-all P o (Put a x v ∷ m) h = (λ e. h x, starts-all P o m h)
 starts-all P o (Stretch a x ∷ m) h = starts-all P o m h
 starts-all P o (Settle s c ∷ m) h = starts-all P o m h
+starts-all P o (Floor z ∷ m) h = starts-all P o m h
 
 pub starts-map : (P Q : TimeParts → Type 0) (o : ObjectId) (m : List Mark) → ((x : TimeParts) → P x → Q x) → Starts P o m → Starts Q o m
 starts-map P Q o [] h k = tt
 starts-map P Q o (Put a x v ∷ m) h k = (λ e. h x (k.0 e), starts-map P Q o m h k.1)
 starts-map P Q o (Stretch a x ∷ m) h k = starts-map P Q o m h k
 starts-map P Q o (Settle s c ∷ m) h k = starts-map P Q o m h k
+starts-map P Q o (Floor z ∷ m) h k = starts-map P Q o m h k
 
 pub meets : (P Q : TimeParts → Type 0) (o : ObjectId) (m : List Mark) → ((x : TimeParts) → P x → Q x → ⊥) → Starts P o m → HasPut Q o m → ⊥
 meets P Q o [] h k j = j
@@ -38,6 +40,7 @@ meets P Q o (Put a x v ∷ m) h k (inl j) = h x (k.0 j.0) j.1
 meets P Q o (Put a x v ∷ m) h k (inr j) = meets P Q o m h k.1 j
 meets P Q o (Stretch a x ∷ m) h k j = meets P Q o m h k j
 meets P Q o (Settle s c ∷ m) h k j = meets P Q o m h k j
+meets P Q o (Floor z ∷ m) h k j = meets P Q o m h k j
 
 -- what is picked passes its test
 picked : (ok : TimeParts → Bool) (b c e : Bool) (s : Seen) (r : Option Seen) → b ≡ ok s.start → Passes ok r →
@@ -54,6 +57,7 @@ scan-passes ok o (Put a x v ∷ m) =
     picked ok (ok x) (starts_above (scan ok o m) x) (same_object a o) (record { place = version_count o m; start = x; value = v }) (scan ok o m) refl (scan-passes ok o m)
 scan-passes ok o (Stretch a x ∷ m) = scan-passes ok o m
 scan-passes ok o (Settle s c ∷ m) = scan-passes ok o m
+scan-passes ok o (Floor z ∷ m) = scan-passes ok o m
 
 -- every put that passes is below x, if the picked one is
 low-one : (b : Bool) (c : Bool) (s : Seen) (r : Option Seen) (x : TimeParts) → starts_above r s.start ≡ c →
@@ -73,6 +77,7 @@ low-all ok o (Put a y v ∷ m) x k =
     (λ e h. both.0 (and-both (same_object a o) (ok y) (same_object-of a o e) h), low-all ok o m x both.1)
 low-all ok o (Stretch a y ∷ m) x k = low-all ok o m x k
 low-all ok o (Settle s c ∷ m) x k = low-all ok o m x k
+low-all ok o (Floor z ∷ m) x k = low-all ok o m x k
 
 -- a settle makes no put alive
 fewer : (b c : Bool) (u : Option Bool) → (b ≡ true → u ≡ None) → is_alive (if b then or_else u c else u) ≡ true → is_alive u ≡ true
@@ -211,3 +216,4 @@ unfolding scan settle_of
 view-kept m (Put a x v) o t fits firm shut = view-put m a x v o t fits firm shut
 view-kept m (Stretch a x) o t fits firm shut = refl
 view-kept m (Settle s c) o t fits firm shut = view-settle m s c o t fits firm
+view-kept m (Floor z) o t fits firm shut = absurd fits

@@ -4,7 +4,7 @@ use Rattle.std.proofs.lemmas.Bool.{false≢true, true≢false}
 use Rattle.pseudo_time.specs.TimeParts.{TimeParts}
 use Rattle.value_form.specs.declared.objects.ObjectId.{ObjectId}
 use Rattle.object_history.specs.declared.marks.Mark.{Mark}
-use Rattle.object_history.specs.declared.marks.Mark.TheVariants.{Put, Stretch, Settle}
+use Rattle.object_history.specs.declared.marks.Mark.TheVariants.{Put, Stretch, Settle, Floor}
 use Rattle.pseudo_time.specs.Order.{lt}
 use Rattle.object_history.specs.Objects.{same_object}
 use Rattle.object_history.specs.History.{version_count, Seen, starts_above, pick, scan}
@@ -96,6 +96,7 @@ above-mono f g o (Put a y v ∷ m) x h k =
     (sym (above-pick (same_object a o && g y) (record { place = version_count o m; start = y; value = v }) (scan g o m) x) ∙ k)
 above-mono f g o (Stretch a y ∷ m) x h k = above-mono f g o m x h k
 above-mono f g o (Settle s c ∷ m) x h k = above-mono f g o m x h k
+above-mono f g o (Floor z ∷ m) x h k = above-mono f g o m x h k
 
 pub two-tests : (f g : TimeParts → Bool) (o : ObjectId) (m : List Mark) →
     Starts (λ x. g x ≡ true → f x ≡ true) o m → Passes g (scan f o m) → scan g o m ≡ scan f o m
@@ -112,3 +113,4 @@ two-tests f g o (Put a x v ∷ m) h p =
     (passes-left ((same_object a o && f x) && not (starts_above (scan f o m) x)) g (record { place = version_count o m; start = x; value = v }) (scan f o m) p e))
 two-tests f g o (Stretch a x ∷ m) h p = two-tests f g o m h p
 two-tests f g o (Settle s c ∷ m) h p = two-tests f g o m h p
+two-tests f g o (Floor z ∷ m) h p = two-tests f g o m h p

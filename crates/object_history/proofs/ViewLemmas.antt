@@ -5,10 +5,10 @@ use Rattle.pseudo_time.specs.TimeParts.{TimeParts}
 use Rattle.value_form.specs.declared.objects.ObjectId.{ObjectId}
 use Rattle.value_form.specs.declared.values.Value.{Value}
 use Rattle.object_history.specs.declared.marks.Mark.{Mark}
-use Rattle.object_history.specs.declared.marks.Mark.TheVariants.{Put, Stretch, Settle}
+use Rattle.object_history.specs.declared.marks.Mark.TheVariants.{Put, Stretch, Settle, Floor}
 use Rattle.pseudo_time.specs.Order.{same_stamp, lt}
 use Rattle.object_history.specs.Objects.{same_object}
-use Rattle.object_history.specs.History.{version_count, Seen, settle_of, is_alive, alive, starts_above, pick, scan, sees, place_of, same_place, top, stretched, reach}
+use Rattle.object_history.specs.History.{version_count, Seen, settle_of, is_alive, alive, starts_above, pick, scan, sees, place_of, same_place, top, stretched, floor_of, latest, read_to, reach}
 use Rattle.object_history.specs.Views.{Starts, HasPut, shows, views, Covers, Firm, Shut, value_of, Viewed, Fits}
 use Rattle.object_history.proofs.Words.{Passes, AtMost}
 use Rattle.object_history.proofs.BoolLemmas.{and-both, not-false}
@@ -17,12 +17,13 @@ use Rattle.object_history.proofs.ObjectLemmas.{same_object-of}
 use Rattle.object_history.proofs.TestLemmas.{two-tests}
 use Rattle.object_history.proofs.StableLemmas.{view-kept, settled-stays, starts-map, scan-passes, starts-all}
 
-has-map : (P Q : TimeParts → Type 0) (o : ObjectId) (m : List Mark) → ((x : TimeParts) → P x → Q x) → HasPut P o m → HasPut Q o m
+pub has-map : (P Q : TimeParts → Type 0) (o : ObjectId) (m : List Mark) → ((x : TimeParts) → P x → Q x) → HasPut P o m → HasPut Q o m
 has-map P Q o [] h j = j
 has-map P Q o (Put a x v ∷ m) h (inl j) = inl (j.0, h x j.1)
 has-map P Q o (Put a x v ∷ m) h (inr j) = inr (has-map P Q o m h j)
 has-map P Q o (Stretch a x ∷ m) h j = has-map P Q o m h j
 has-map P Q o (Settle s c ∷ m) h j = has-map P Q o m h j
+has-map P Q o (Floor z ∷ m) h j = has-map P Q o m h j
 
 -- the greater of two ends covers what one of them covers
 later-left : (b : Bool) (x e t : TimeParts) → lt x e ≡ b → lt x t ≡ false → Covers (if b then Some e else Some x) t
@@ -45,11 +46,11 @@ pub covers-rest : (x : TimeParts) (e : Option TimeParts) (t : TimeParts) → Cov
 covers-rest x None t c = absurd c
 covers-rest x (Some e) t c = later-right (lt x e) x e t refl c
 
-covers-either : (x : TimeParts) (e : Option TimeParts) (t : TimeParts) → Covers (top x e) t → (lt x t ≡ false) ⊎ Covers e t
+pub covers-either : (x : TimeParts) (e : Option TimeParts) (t : TimeParts) → Covers (top x e) t → (lt x t ≡ false) ⊎ Covers e t
 covers-either x None t c = inl c
 covers-either x (Some e) t c = later-either (lt x e) x e t c
 
-covers-top : (b : Bool) (x t : TimeParts) (e : Option TimeParts) → Covers e t → Covers (if b then top x e else e) t
+pub covers-top : (b : Bool) (x t : TimeParts) (e : Option TimeParts) → Covers e t → Covers (if b then top x e else e) t
 covers-top true x t e c = covers-rest x e t c
 covers-top false x t e c = c
 
@@ -60,19 +61,52 @@ covers-reach b s x t e c = elim (covers-either s e t c) [
 ]
 
 -- a Stretch only raises a reach
+pub covers-which : (f e : Option TimeParts) (t : TimeParts) → Covers (latest f e) t → Covers f t ⊎ Covers e t
+covers-which None e t c = inr c
+covers-which (Some x) e t c = covers-either x e t c
+
+pub covers-floor : (f e : Option TimeParts) (t : TimeParts) → Covers f t → Covers (latest f e) t
+covers-floor None e t c = absurd c
+covers-floor (Some x) e t c = covers-first x e t c
+
+pub covers-read : (f e : Option TimeParts) (t : TimeParts) → Covers e t → Covers (latest f e) t
+covers-read None e t c = c
+covers-read (Some x) e t c = covers-rest x e t c
+
+covers-latest : (f e g : Option TimeParts) (t : TimeParts) → (Covers e t → Covers g t) → Covers (latest f e) t → Covers (latest f g) t
+covers-latest f e g t h c = elim (covers-which f e t c) [
+  | inl k ↦ covers-floor f g t k
+  | inr k ↦ covers-read f g t (h k)
+]
+
+-- a higher floor
+covers-higher : (x : TimeParts) (f e : Option TimeParts) (t : TimeParts) → Covers (latest f e) t → Covers (latest (top x f) e) t
+covers-higher x f e t c = elim (covers-which f e t c) [
+  | inl k ↦ covers-floor (top x f) e t (covers-rest x f t k)
+  | inr k ↦ covers-read (top x f) e t k
+]
+
+read-rises : (m : List Mark) (a : ObjectId) (x : TimeParts) (o : ObjectId) (t : TimeParts) (r : Option Seen) →
+    Covers (read_to m o r) t → Covers (read_to (Stretch a x ∷ m) o r) t
+unfolding stretched
+read-rises m a x o t None c = covers-top (same_object a o && same_place (place_of (sees m o x)) None) x t (stretched m o None) c
+read-rises m a x o t (Some q) c = covers-reach (same_object a o && same_place (place_of (sees m o x)) (Some q.place)) q.start x t (stretched m o (Some q.place)) c
+
 pub reach-rises : (m : List Mark) (a : ObjectId) (x : TimeParts) (o : ObjectId) (t : TimeParts) (r : Option Seen) →
     Covers (reach m o r) t → Covers (reach (Stretch a x ∷ m) o r) t
-unfolding stretched
-reach-rises m a x o t None c = covers-top (same_object a o && same_place (place_of (sees m o x)) None) x t (stretched m o None) c
-reach-rises m a x o t (Some q) c = covers-reach (same_object a o && same_place (place_of (sees m o x)) (Some q.place)) q.start x t (stretched m o (Some q.place)) c
+unfolding floor_of
+reach-rises m a x o t r c =
+    covers-latest (floor_of m) (read_to m o r) (read_to (Stretch a x ∷ m) o r) t (read-rises m a x o t r) c
 
 pub reach-stays : (m : List Mark) (f : Mark) (o : ObjectId) (r : Option Seen) (t : TimeParts) → Covers (reach m o r) t → Covers (reach (f ∷ m) o r) t
-unfolding stretched
+unfolding stretched floor_of
 reach-stays m (Put a x v) o None t c = c
 reach-stays m (Put a x v) o (Some q) t c = c
 reach-stays m (Stretch a x) o r t c = reach-rises m a x o t r c
 reach-stays m (Settle s d) o None t c = c
+reach-stays m (Floor z) o None t c = covers-higher z (floor_of m) (read_to m o None) t c
 reach-stays m (Settle s d) o (Some q) t c = c
+reach-stays m (Floor z) o (Some q) t c = covers-higher z (floor_of m) (read_to m o (Some q)) t c
 
 pub firm-kept : (m : List Mark) (f : Mark) (t : TimeParts) (r : Option Seen) → Firm m t r → Firm (f ∷ m) t r
 unfolding settle_of
@@ -81,9 +115,10 @@ firm-kept m f t (Some q) (inl own) = inl own
 firm-kept m (Put a x v) t (Some q) (inr set) = inr set
 firm-kept m (Stretch a x) t (Some q) (inr set) = inr set
 firm-kept m (Settle s c) t (Some q) (inr set) = inr (settled-stays m s q.start.stamp c true set)
+firm-kept m (Floor z) t (Some q) (inr set) = inr set
 
 shut-kept : (m : List Mark) (f : Mark) (o : ObjectId) (t : TimeParts) (r : Option Seen) → Shut m o t r → Shut (f ∷ m) o t r
-unfolding settle_of stretched
+unfolding settle_of stretched floor_of
 shut-kept m (Put a x v) o t None (inl c) = inl c
 shut-kept m (Put a x v) o t (Some q) (inl c) = inl c
 shut-kept m (Put a x v) o t r (inr j) = inr (inr j)
@@ -94,6 +129,8 @@ shut-kept m (Settle s c) o t (Some q) (inl w) = inl w
 shut-kept m (Settle s c) o t r (inr j) =
     inr (has-map (λ y. (settle_of m y.stamp ≡ Some true) × (lt y t ≡ false)) (λ y. (settle_of (Settle s c ∷ m) y.stamp ≡ Some true) × (lt y t ≡ false)) o m
     (λ y w. (settled-stays m s y.stamp c true w.0, w.1)) j)
+shut-kept m (Floor z) o t r (inl c) = inl (reach-stays m (Floor z) o r t c)
+shut-kept m (Floor z) o t r (inr j) = inr j
 
 -- what is viewed stays viewed under each mark that fits
 pub viewed-kept : (m : List Mark) (f : Mark) (o : ObjectId) (t : TimeParts) (v : Value) → Fits m f → Viewed m o t v → Viewed (f ∷ m) o t v
@@ -108,6 +145,7 @@ has-with S P Q o (Put a x v ∷ m) h k (inl j) = inl (j.0, h x (k.0 j.0) j.1)
 has-with S P Q o (Put a x v ∷ m) h k (inr j) = inr (has-with S P Q o m h k.1 j)
 has-with S P Q o (Stretch a x ∷ m) h k j = has-with S P Q o m h k j
 has-with S P Q o (Settle s c ∷ m) h k j = has-with S P Q o m h k j
+has-with S P Q o (Floor z ∷ m) h k j = has-with S P Q o m h k j
 
 -- the pick is at or above the rest, and at or above the put where it passes
 top-rest : (b c : Bool) (s : Seen) (r : Option Seen) (y : TimeParts) → starts_above r s.start ≡ c → AtMost r y →
@@ -135,6 +173,7 @@ top-all ok o (Put a x v ∷ m) =
     )
 top-all ok o (Stretch a x ∷ m) = top-all ok o m
 top-all ok o (Settle s c ∷ m) = top-all ok o m
+top-all ok o (Floor z ∷ m) = top-all ok o m
 
 -- a reader that isn't known aborted sees its view
 own-alive : (a p q : Bool) → (q ≡ true → p ≡ true) → (a && (p || q)) ≡ true → (a && p) ≡ true

@@ -12,7 +12,7 @@ use Rattle.object_history.specs.declared.steps.ReadStep.TheVariants as read
 use Rattle.object_history.specs.declared.steps.WriteStep.{WriteStep}
 use Rattle.object_history.specs.declared.steps.WriteStep.TheVariants as write
 use Rattle.object_history.specs.Objects.{same_object, same_value}
-use Rattle.object_history.specs.History.{Seen, at_put, settle_of, is_settled, is_committed, alive, sees, newest, reach}
+use Rattle.object_history.specs.History.{Seen, at_put, settle_of, is_settled, is_committed, alive, sees, newest, floor_of, reach}
 
 -- ---- reads
 
@@ -44,14 +44,20 @@ read_seen m o t (Some q) =
     if same_stamp q.start.stamp t.stamp || is_settled (settle_of m q.start.stamp)
     then read.Answer q.value (needs_stretch m o t (Some q)) else read.Wait q.start.stamp
 
--- what a read at t answers
+-- the same, over this floor
+abbrev pub read_from : Option TimeParts → List Mark → ObjectId → TimeParts → ReadStep
+read_from None m o t = read_seen m o t (sees m o t)
+read_from (Some e) m o t = if lt t e then read.LaterRead e else read_seen m o t (sees m o t)
+
+-- what a read at t answers: below the floor it is refused
 abbrev pub read_step : List Mark → ObjectId → TimeParts → ReadStep
-read_step m o t = read_seen m o t (sees m o t)
+read_step m o t = read_from (floor_of m) m o t
 
 -- the marks after a read that is answered so
 abbrev pub after_read : List Mark → ObjectId → TimeParts → ReadStep → List Mark
 after_read m o t (read.Answer v stretch) = if stretch then mark.Stretch o t ∷ m else m
 after_read m o t (read.Wait s) = m
+after_read m o t (read.LaterRead e) = m
 
 -- ---- writes
 

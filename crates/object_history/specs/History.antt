@@ -7,7 +7,7 @@ use Rattle.pseudo_time.specs.Order.{same_stamp, lt}
 use Rattle.value_form.specs.declared.objects.ObjectId.{ObjectId}
 use Rattle.value_form.specs.declared.values.Value.{Value}
 use Rattle.object_history.specs.declared.marks.Mark.{Mark}
-use Rattle.object_history.specs.declared.marks.Mark.TheVariants.{Put, Stretch, Settle}
+use Rattle.object_history.specs.declared.marks.Mark.TheVariants.{Put, Stretch, Settle, Floor}
 use Rattle.object_history.specs.Objects.{same_object}
 
 -- ---- one mark
@@ -17,6 +17,7 @@ abbrev pub at_put : {A : Type 0} → (ObjectId → TimeParts → Value → A →
 at_put rule (Put o x v) below = rule o x v below
 at_put rule (Stretch o x) below = below
 at_put rule (Settle s c) below = below
+at_put rule (Floor z) below = below
 
 -- ---- settled stamps
 
@@ -30,6 +31,7 @@ settle_of [] s = None
 settle_of (Put o x v ∷ m) s = settle_of m s
 settle_of (Stretch o x ∷ m) s = settle_of m s
 settle_of (Settle p c ∷ m) s = if same_stamp p s then or_else (settle_of m s) c else settle_of m s
+settle_of (Floor z ∷ m) s = settle_of m s
 
 abbrev pub is_alive : Option Bool → Bool
 is_alive None = true
@@ -104,9 +106,26 @@ unfoldable pub stretched : List Mark → ObjectId → Option ℕ → Option Time
 stretched [] o p = None
 stretched (Put a x v ∷ m) o p = stretched m o p
 stretched (Settle s c ∷ m) o p = stretched m o p
+stretched (Floor z ∷ m) o p = stretched m o p
 stretched (Stretch a x ∷ m) o p = if same_object a o && same_place (place_of (sees m o x)) p then top x (stretched m o p) else stretched m o p
 
--- the reach of a version, which is at least its start, or of the origin
+-- the greatest Floor
+unfoldable pub floor_of : List Mark → Option TimeParts
+floor_of [] = None
+floor_of (Put o x v ∷ m) = floor_of m
+floor_of (Stretch o x ∷ m) = floor_of m
+floor_of (Settle s c ∷ m) = floor_of m
+floor_of (Floor x ∷ m) = top x (floor_of m)
+
+abbrev pub latest : Option TimeParts → Option TimeParts → Option TimeParts
+latest None e = e
+latest (Some x) e = top x e
+
+-- how far a version was read, which is at least its start, or the origin
+abbrev pub read_to : List Mark → ObjectId → Option Seen → Option TimeParts
+read_to m o None = stretched m o None
+read_to m o (Some q) = top q.start (stretched m o (Some q.place))
+
+-- the reach of a version, or of the origin: how far it was read, and at least the floor
 abbrev pub reach : List Mark → ObjectId → Option Seen → Option TimeParts
-reach m o None = stretched m o None
-reach m o (Some q) = top q.start (stretched m o (Some q.place))
+reach m o r = latest (floor_of m) (read_to m o r)

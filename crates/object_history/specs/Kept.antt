@@ -11,10 +11,10 @@ use Rattle.value_form.specs.Objects.{object_cmp}
 use Rattle.object_history.specs.declared.marks.Mark.{Mark}
 use Rattle.object_history.specs.declared.versions.Version.{Version}
 use Rattle.object_history.specs.declared.steps.ReadStep.{ReadStep}
-use Rattle.object_history.specs.declared.steps.ReadStep.TheVariants.{Answer, Wait}
+use Rattle.object_history.specs.declared.steps.ReadStep.TheVariants.{Answer, Wait, LaterRead}
 use Rattle.object_history.specs.Objects.{same_object}
 use Rattle.object_history.specs.Ranges.{AreMarks}
-use Rattle.object_history.specs.History.{Seen, at_put, settle_of, is_alive, is_settled, is_committed, version_count, top, stretched}
+use Rattle.object_history.specs.History.{Seen, at_put, floor_of, settle_of, is_alive, is_settled, is_committed, version_count, top, stretched}
 
 -- ---- what is kept
 
@@ -74,6 +74,11 @@ pub record Keeps (m : List Mark) (settled : Settled) (tracks : Tracked) : Type 0
 pub record IsKept (m : List Mark) (settled : Settled) (tracks : Tracked) : Type 0 where
   pub keeps : Keeps m settled tracks
   pub in_range : AreMarks m
+
+-- and so is the floor that they keep
+pub record IsWhole (m : List Mark) (settled : Settled) (tracks : Tracked) (floor : Option TimeParts) : Type 0 where
+  pub kept : IsKept m settled tracks
+  pub floors : floor ≡ floor_of m
 
 -- ---- versions that rise
 
@@ -153,3 +158,4 @@ waits_for m s (Some v) = if same_stamp v.start.stamp s || is_settled (settle_of 
 abbrev pub has_stretched : ReadStep → Bool
 has_stretched (Answer v stretch) = stretch
 has_stretched (Wait s) = false
+has_stretched (LaterRead e) = false

@@ -4,7 +4,7 @@ use Rattle.pseudo_time.specs.TimeParts.{TimeParts}
 use Rattle.pseudo_time.specs.Order.{lt}
 use Rattle.value_form.specs.declared.objects.ObjectId.{ObjectId}
 use Rattle.object_history.specs.declared.marks.Mark.{Mark}
-use Rattle.object_history.specs.declared.marks.Mark.TheVariants.{Put, Stretch, Settle}
+use Rattle.object_history.specs.declared.marks.Mark.TheVariants.{Put, Stretch, Settle, Floor}
 use Rattle.object_history.specs.declared.steps.WriteStep.TheVariants as write
 use Rattle.object_history.specs.Objects.{same_object}
 use Rattle.object_history.specs.History.{Seen, at_put, settle_of, is_settled, is_committed, version_count}
@@ -34,3 +34,4 @@ abbrev pub Adds : List Mark → Mark → Type 0
 Adds m (Put o x v) = write_step m o x v ≡ write.Put
 Adds m (Stretch o x) = Unit {0}
 Adds m (Settle s c) = settle_of m s ≡ None
+Adds m (Floor z) = ⊥

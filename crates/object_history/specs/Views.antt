@@ -6,9 +6,9 @@ use Rattle.value_form.specs.declared.objects.ObjectId.{ObjectId}
 use Rattle.value_form.specs.declared.values.Value.{Value}
 use Rattle.value_form.specs.declared.values.Value.TheVariants.{Nothing}
 use Rattle.object_history.specs.declared.marks.Mark.{Mark}
-use Rattle.object_history.specs.declared.marks.Mark.TheVariants.{Put, Stretch, Settle}
+use Rattle.object_history.specs.declared.marks.Mark.TheVariants.{Put, Stretch, Settle, Floor}
 use Rattle.object_history.specs.declared.steps.WriteStep.TheVariants as write
-use Rattle.object_history.specs.History.{Seen, settle_of, alive, version_count, scan, reach}
+use Rattle.object_history.specs.History.{Seen, settle_of, alive, version_count, scan, floor_of, reach}
 use Rattle.object_history.specs.Answers.{write_step}
 
 -- ---- the versions of an object
@@ -19,6 +19,7 @@ Starts P o [] = Unit {0}
 Starts P o (Put a x v ∷ m) = (a ≡ o → P x) × Starts P o m
 Starts P o (Stretch a x ∷ m) = Starts P o m
 Starts P o (Settle s c ∷ m) = Starts P o m
+Starts P o (Floor z ∷ m) = Starts P o m
 
 -- the start of some version of the object has P
 abbrev pub HasPut : (TimeParts → Type 0) → ObjectId → List Mark → Type 0
@@ -26,6 +27,7 @@ HasPut P o [] = ⊥
 HasPut P o (Put a x v ∷ m) = ((a ≡ o) × P x) ⊎ HasPut P o m
 HasPut P o (Stretch a x ∷ m) = HasPut P o m
 HasPut P o (Settle s c ∷ m) = HasPut P o m
+HasPut P o (Floor z ∷ m) = HasPut P o m
 
 -- this is a version of the object
 abbrev pub IsVersion : ObjectId → List Mark → Seen → Type 0
@@ -33,6 +35,7 @@ IsVersion o [] q = ⊥
 IsVersion o (Put a x v ∷ m) q = ((a ≡ o) × (record { place = version_count o m; start = x; value = v } ≡ q)) ⊎ IsVersion o m q
 IsVersion o (Stretch a x ∷ m) q = IsVersion o m q
 IsVersion o (Settle s c ∷ m) q = IsVersion o m q
+IsVersion o (Floor z ∷ m) q = IsVersion o m q
 
 -- no two versions of an object have one start
 abbrev pub Distinct : List Mark → Type 0
@@ -40,6 +43,7 @@ Distinct [] = Unit {0}
 Distinct (Put o x v ∷ m) = Starts (λ y. y ≢ x) o m × Distinct m
 Distinct (Stretch o x ∷ m) = Distinct m
 Distinct (Settle s c ∷ m) = Distinct m
+Distinct (Floor z ∷ m) = Distinct m
 
 -- ---- the reader's view
 
@@ -69,6 +73,10 @@ abbrev pub value_of : Option Seen → Value
 value_of None = Nothing
 value_of (Some q) = q.value
 
+-- a reader at t isn't below the floor
+abbrev pub IsOnFloor : List Mark → TimeParts → Type 0
+IsOnFloor m t = (e : TimeParts) → floor_of m ≡ Some e → lt t e ≡ false
+
 -- the reader's view at t has this value, and is firm and shut
 abbrev pub Viewed : List Mark → ObjectId → TimeParts → Value → Type 0
 Viewed m o t v = (value_of (views m o t) ≡ v) × Firm m t (views m o t) × Shut m o t (views m o t)
@@ -78,6 +86,7 @@ abbrev pub Fits : List Mark → Mark → Type 0
 Fits m (Put o x v) = (settle_of m x.stamp ≡ None) × (write_step m o x v ≡ write.Put)
 Fits m (Stretch o x) = Unit {0}
 Fits m (Settle s c) = settle_of m s ≡ None
+Fits m (Floor z) = ⊥
 
 -- each mark fits those below it
 abbrev pub Grown : List Mark → Type 0

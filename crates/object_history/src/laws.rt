@@ -1,5 +1,5 @@
 // Each law holds for every list of marks, newest first.
-ghost use Rattle.std.specs.Prelude.{◌≡◌, ◌≢◌, Bool, true, false, List, ◌∷◌, ◌++◌, Option, Some, None};
+ghost use Rattle.std.specs.Prelude.{◌≡◌, ◌≢◌, ◌⊎◌, Bool, true, false, List, ◌∷◌, ◌++◌, Option, Some, None};
 ghost use Rattle.pseudo_time.specs.StampParts.{StampParts};
 ghost use Rattle.pseudo_time.specs.TimeParts.{TimeParts};
 ghost use Rattle.pseudo_time.specs.Lists.{Has};
@@ -12,7 +12,7 @@ ghost use Rattle.object_history.specs.declared.steps.ReadStep.TheVariants as rea
 ghost use Rattle.object_history.specs.declared.steps.WriteStep.TheVariants as write;
 ghost use Rattle.object_history.specs.History.{Seen, settle_of, alive, sees, newest, reach};
 ghost use Rattle.object_history.specs.Answers.{read_step, after_read, write_step};
-ghost use Rattle.object_history.specs.Views.{views, Starts, IsVersion, Distinct, Covers, Viewed, Fits, Grown};
+ghost use Rattle.object_history.specs.Views.{views, Starts, IsVersion, Distinct, Covers, IsOnFloor, Viewed, Fits, Grown};
 ghost use Rattle.object_history.specs.Settled.{settled_versions, Adds};
 
 /// What is settled stays settled, and as it was.
@@ -57,6 +57,12 @@ pub fn answer_is_viewed()
         read_step m o t ≡ read.Answer v stretch → Viewed (after_read m o t (read.Answer v stretch)) o t v }
 {}
 
+/// A read is refused below the floor alone, with the floor, and one that is answered isn't below it.
+pub fn floor_refuses_reads()
+    ensures refused { (m : List Mark) (o : ObjectId) (t e : TimeParts) → read_step m o t ≡ read.LaterRead e → (lt t e ≡ true) × Has (mark.Floor e) m }
+    ensures answered { (m : List Mark) (o : ObjectId) (t : TimeParts) (v : Value) (stretch : Bool) → read_step m o t ≡ read.Answer v stretch → IsOnFloor m t }
+{}
+
 /// What a reader views is what a read sees, unless its attempt was aborted.
 pub fn view_is_sight()
     ensures { (m : List Mark) (o : ObjectId) (t : TimeParts) → alive m t ≡ true → sees m o t ≡ views m o t }
@@ -66,7 +72,7 @@ pub fn view_is_sight()
 pub fn write_answers()
     ensures again { (m : List Mark) (o : ObjectId) (t : TimeParts) (v : Value) → write_step m o t v ≡ write.Again → Has (mark.Put o t v) m }
     ensures later_read { (m : List Mark) (o : ObjectId) (t : TimeParts) (v : Value) (e : TimeParts) → write_step m o t v ≡ write.LaterRead e →
-        (lt t e ≡ true) × Has (mark.Stretch o e) m }
+        (lt t e ≡ true) × (Has (mark.Stretch o e) m ⊎ Has (mark.Floor e) m) }
     ensures later_version { (m : List Mark) (o : ObjectId) (t : TimeParts) (v : Value) (x : TimeParts) → write_step m o t v ≡ write.LaterVersion x →
         (lt x t ≡ false) × ((w : Value) × Has (mark.Put o x w) m) }
 {}

@@ -12,8 +12,9 @@ mod versions;
 
 pub use calls::Histories;
 pub use laws::{
-    answer_is_viewed, answer_stays, reach_rises, settled_stays, settled_versions_only_grow,
-    starts_stay_distinct, view_is_sight, write_answers, writes_go_on_top,
+    answer_is_viewed, answer_stays, floor_refuses_reads, reach_rises, settled_stays,
+    settled_versions_only_grow, starts_stay_distinct, view_is_sight, write_answers,
+    writes_go_on_top,
 };
 pub use maps::Settles;
 pub use marks::Mark;

@@ -10,4 +10,6 @@ pub enum Mark {
     Stretch(ObjectId, PseudoTime),
     /// The attempt is committed, or else aborted. The first Settle of a stamp counts.
     Settle(Stamp, bool),
+    /// Versions below it were given up, and no read below it is answered any more.
+    Floor(PseudoTime),
 }

@@ -33,6 +33,8 @@ pub struct PlainHistories {
     marks: Vec<Mark>,
     settles: Settles,
     tracks: Tracks,
+    // The greatest Floor.
+    floor: Option<PseudoTime>,
     alloc: Global,
 }
 
@@ -41,7 +43,7 @@ impl Model for PlainHistories {
     ghost use Rattle.std.specs.Coded.{coded_list};
     ghost use Rattle.object_history.specs.declared.marks.Mark.{Mark};
     ghost use Rattle.object_history.specs.contracts.marks.Mark as mark;
-    ghost use Rattle.object_history.specs.Kept.{IsKept};
+    ghost use Rattle.object_history.specs.Kept.{IsWhole};
 
     ghost Value = { List Mark };
 
@@ -49,7 +51,7 @@ impl Model for PlainHistories {
 
     ghost view = { λ h. reverse h.marks.items };
 
-    ghost invariant = { λ h. IsKept (reverse h.marks.items) h.settles h.tracks };
+    ghost invariant = { λ h. IsWhole (reverse h.marks.items) h.settles h.tracks h.floor };
 }
 
 impl PlainHistories {
@@ -61,6 +63,7 @@ impl PlainHistories {
             marks: Vec::new(alloc),
             settles: Settles::new(alloc),
             tracks: Tracks::new(alloc),
+            floor: None,
             alloc,
         }
     }
@@ -89,6 +92,7 @@ impl PlainHistories {
             }
             Mark::Stretch(object, at) => self.add_stretch(*object, *at),
             Mark::Settle(stamp, committed) => self.add_settle(*stamp, *committed),
+            Mark::Floor(at) => self.add_floor(*at),
         }
     }
 
@@ -146,6 +150,16 @@ impl PlainHistories {
         Ok(())
     }
 
+    // Adds a Floor. Where memory is wanting, all is as before.
+    fn add_floor(&mut self, at: PseudoTime) -> Result<(), AllocError>
+        ensures ok { OnOk result (self.new ≡ mark.Floor at ∷ self.old) }
+        ensures err { OnErr result (self.new ≡ self.old) }
+    {
+        self.marks.push(Mark::Floor(at))?;
+        self.floor = Some(later(at, &self.floor));
+        Ok(())
+    }
+
     // The object's last version that isn't dead, of those that start below the end, if there is one.
     fn last(&self, object: ObjectId, end: &Option<PseudoTime>) -> Option<&Version>
         ensures seen { option_map (seen_in self.now) (option_copied result) ≡ history.scan
@@ -167,6 +181,18 @@ impl PlainHistories {
     fn reach(&self, object: ObjectId, seen: Option<&Version>) -> Option<PseudoTime>
         requires { HasEnd self.now object (option_copied seen) }
         ensures { result ≡ history.reach self.now object (option_map (seen_in self.now) (option_copied seen.entry)) }
+    {
+        let read = self.read_to(object, seen);
+        match self.floor {
+            Some(floor) => Some(later(floor, &read)),
+            None => read,
+        }
+    }
+
+    // How far a version, or the origin, was read, the floor aside.
+    fn read_to(&self, object: ObjectId, seen: Option<&Version>) -> Option<PseudoTime>
+        requires { HasEnd self.now object (option_copied seen) }
+        ensures { result ≡ history.read_to self.now object (option_map (seen_in self.now) (option_copied seen.entry)) }
     {
         match seen {
             Some(version) => Some(later(version.start, &version.end)),
@@ -271,6 +297,17 @@ impl PlainHistories {
         ensures step { IfOk result (λ s. s ≡ answers.read_step self.now object at) }
         ensures in_range { IfOk result IsReadStep }
     {
+        match self.floor {
+            Some(end) if at.is_before(end) => Ok(ReadStep::LaterRead { end }),
+            _ => self.answer_seen(object, at),
+        }
+    }
+
+    // What a read answers that isn't below the floor.
+    fn answer_seen(&self, object: ObjectId, at: PseudoTime) -> Result<ReadStep, AllocError>
+        ensures step { IfOk result (λ s. s ≡ answers.read_seen self.now object at (history.sees self.now object at)) }
+        ensures in_range { IfOk result IsReadStep }
+    {
         let _in_range = self.marks.len();
         let seen = self.last(object, &Some(at));
         if let Some(stamp) = self.waits_for(at.stamp(), seen) {
@@ -339,7 +376,7 @@ pub fn has_stretched(step: &ReadStep) -> bool
 {
     match step {
         ReadStep::Answer { stretch, .. } => *stretch,
-        ReadStep::Wait { .. } => false,
+        ReadStep::Wait { .. } | ReadStep::LaterRead { .. } => false,
     }
 }
 

@@ -10,6 +10,8 @@ pub enum ReadStep {
     Answer { value: Value, stretch: bool },
     /// A version of this attempt is seen, which is still undecided.
     Wait { stamp: Stamp },
+    /// It lies below the floor, which is this end.
+    LaterRead { end: PseudoTime },
 }
 
 /// What came of a write.

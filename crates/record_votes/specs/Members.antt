@@ -29,6 +29,8 @@ own (effect.Try i s ∷ l) = own l
 own (effect.Got k v ∷ l) = own l
 own (effect.Acked k ∷ l) = own l
 own (effect.End i e ∷ l) = own l
+own (effect.Mark at ∷ l) = own l
+own (effect.Whole ∷ l) = own l
 
 -- those of a log that stands oldest first, newest first
 abbrev pub book : List Effect → List Effect

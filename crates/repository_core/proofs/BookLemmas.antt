@@ -30,6 +30,7 @@ begins-read : (a b : List Mark) (o : ObjectId) (t : TimeParts) (s : ReadStep) �
 begins-read a b o t (read.Answer v true) h = begins-with a b (mark.Stretch o t) h
 begins-read a b o t (read.Answer v false) h = h
 begins-read a b o t (read.Wait s) h = h
+begins-read a b o t (read.LaterRead e) h = h
 
 begins-write : (a b : List Mark) (o : ObjectId) (t : TimeParts) (v : Value) (s : WriteStep) → Begins a b → Begins a (after_write b o t v s)
 begins-write a b o t v write.Put h = begins-with a b (mark.Put o t v) h
@@ -84,6 +85,7 @@ pub agree-read : (p : List (StampParts × Decision)) (l : List Effect) (m : List
 agree-read p l m r e o t (read.Answer v true) a = agree-stretch p l m r e o t a
 agree-read p l m r e o t (read.Answer v false) a = a
 agree-read p l m r e o t (read.Wait s) a = a
+agree-read p l m r e o t (read.LaterRead x) a = a
 
 pub agree-write : (p : List (StampParts × Decision)) (l : List Effect) (m : List Mark) (r : States) (e : List (StampParts × Decision)) (o : ObjectId) (t : TimeParts) (v : Value) (s : WriteStep) → BooksShow p l m r e → BooksShow p (wrote l o t v s) (after_write m o t v s) r e
 agree-write p l m r e o t v write.Put a = agree-put p l m r e o t v a

@@ -36,12 +36,14 @@ now-read before h from t o (read.Answer v false) = refl
 now-read before h from t o (read.Wait w) =
     let g : Hand = hold t (record { from = from; object = o; waits = w }) (unhold t h) in
     now-if ((w.home == h.number) || waits_for w before) g (send (repository w.home) (message.Ask w) g) (now h) refl refl
+now-read before h from t o (read.LaterRead e) = refl
 
 pub record-by : (l : List Effect) (o : ObjectId) (t : TimeParts) (s : ReadStep) → HasSameRecords l (read_by l o t s)
 unfolding first_begin decision_of
 record-by l o t (read.Answer v true) = λ q. refl
 record-by l o t (read.Answer v false) = λ q. refl
 record-by l o t (read.Wait w) = λ q. refl
+record-by l o t (read.LaterRead e) = λ q. refl
 
 pub now-write : (h : Hand) (from : NodeId) (t : TimeParts) (o : ObjectId) (v : Value) (s : WriteStep) → now (write_as h from t o v false false s) ≡ wrote (now h) o t v s
 now-write h from t o v write.Put = refl

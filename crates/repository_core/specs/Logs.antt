@@ -17,6 +17,7 @@ abbrev pub read_by : List Effect → ObjectId → TimeParts → ReadStep → Lis
 read_by l o t (read.Answer v true) = Stretch o t ∷ l
 read_by l o t (read.Answer v false) = l
 read_by l o t (read.Wait s) = l
+read_by l o t (read.LaterRead e) = l
 
 -- the log after a write that is answered so
 abbrev pub wrote : List Effect → ObjectId → TimeParts → Value → WriteStep → List Effect

@@ -46,11 +46,12 @@ waits_for s (e ∷ more) = same_stamp e.1.waits s || waits_for s more
 abbrev pub ask_for : List (TimeParts × HeldRead) → StampParts → Hand → Hand
 ask_for before w h = if (w.home == h.number) || waits_for w before then h else send (repository w.home) (message.Ask w) h
 
--- by what the histories answer: a value, stretched where they say so; or the read is held
+-- by what the histories answer: a value, stretched where they say so; or the read is held; or below the floor it is refused
 abbrev pub read_as : List (TimeParts × HeldRead) → Hand → NodeId → TimeParts → ObjectId → ReadStep → Hand
 read_as before h from t o (read.Answer v true) = send from (message.Value t v) (note (effect.Stretch o t) h)
 read_as before h from t o (read.Answer v false) = send from (message.Value t v) h
 read_as before h from t o (read.Wait w) = ask_for before w (hold t (record { from = from; object = o; waits = w }) h)
+read_as before h from t o (read.LaterRead e) = send from (message.LaterRead t e) h
 
 -- the read of an attempt that is known aborted has ended
 abbrev pub read_known : Hand → NodeId → TimeParts → ObjectId → Option Bool → Hand

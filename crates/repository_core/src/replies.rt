@@ -36,7 +36,7 @@ impl Draft {
         self.send(from, Message::Ended { at })
     }
 
-    /// A read is answered, or held.
+    /// A read is answered, held, or refused.
     pub fn read_as(
         &mut self,
         from: NodeId,
@@ -51,7 +51,23 @@ impl Draft {
         match step {
             ReadStep::Answer { value, stretch } => self.answer(from, at, object, value, stretch),
             ReadStep::Wait { stamp } => self.hold(from, at, object, stamp),
+            ReadStep::LaterRead { end } => self.refuse(from, at, end),
         }
+    }
+
+    // A read below the floor is refused.
+    fn refuse(
+        &mut self,
+        from: NodeId,
+        at: PseudoTime,
+        end: PseudoTime,
+    ) -> Result<(), AllocError>
+        ensures { OnOk result (self.new ≡ hands.send from (message.LaterRead at end) (rows.unhold at self.old)) }
+    {
+        let _at_in_range = at.stamp();
+        let _end_in_range = end.stamp();
+        self.unhold(at);
+        self.send(from, Message::LaterRead { at, end })
     }
 
     // A read is answered. Where `stretch` holds, that is an effect.

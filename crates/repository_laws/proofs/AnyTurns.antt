@@ -1,9 +1,12 @@
--- A turn over any log refuses a write only where its log says so.
-use Rattle.std.proofs.Common.{◌≡◌, ℕ, ◌+◌, Bool, true, false, List, [], ◌∷◌, ◌++◌, refl, ◌∙◌, Option, Some, None, ◌==◌, ◌||◌, not, nat_le, if◌then◌else◌, inr}
+-- A turn over any log refuses a request only where its log says so.
+use Rattle.std.proofs.Common.{◌≡◌, ℕ, ◌+◌, Bool, true, false, List, [], ◌∷◌, ◌++◌, refl, ◌∙◌, Option, Some, None, ◌==◌, ◌||◌, not, nat_le, if◌then◌else◌, inl, inr}
 use Rattle.std.proofs.lemmas.Bool.{false≢true}
 use Rattle.std.specs.List.{filter}
+use Rattle.std.specs.Map.{remove_entry}
+use Rattle.std.specs.BTreeMap.{insert_entry, is_at}
 use Rattle.pseudo_time.specs.StampParts.{StampParts}
-use Rattle.pseudo_time.specs.TimeParts.{TimeParts}
+use Rattle.pseudo_time.specs.TimeParts.{TimeParts, time_cmp}
+use Rattle.pseudo_time.specs.Lists.{Every}
 use Rattle.pseudo_time.specs.Order.{same_stamp}
 use Rattle.pseudo_time.specs.declared.decisions.Decision.{Decision}
 use Rattle.pseudo_time.specs.declared.decisions.Decision.TheVariants as decision
@@ -19,16 +22,17 @@ use Rattle.turn_form.specs.Posts.{Post, WasSent}
 use Rattle.commit_record.specs.declared.states.RecordState.{RecordState}
 use Rattle.commit_record.specs.declared.states.RecordState.TheVariants.{Unknown, Decided}
 use Rattle.object_history.specs.declared.steps.ReadStep.{ReadStep}
-use Rattle.object_history.specs.declared.steps.ReadStep.TheVariants.{Answer, Wait}
+use Rattle.object_history.specs.declared.steps.ReadStep.TheVariants.{Answer, Wait, LaterRead}
 use Rattle.object_history.specs.declared.steps.WriteStep.{WriteStep}
 use Rattle.object_history.specs.declared.steps.WriteStep.TheVariants as write
 use Rattle.object_history.specs.Answers.{read_step, stands_written, write_step}
 use Rattle.object_history.specs.History.{is_settled}
-use Rattle.object_history.proofs.AnswerLemmas.{later-read, later-version}
+use Rattle.object_history.proofs.AnswerLemmas.{read-below, later-read, later-version}
 use Rattle.object_history.proofs.BoolLemmas.{and-left, and-right}
 use Rattle.object_history.proofs.ObjectLemmas.{eq-from}
 use Rattle.repository_core.specs.declared.waits.HeldRead.{HeldRead}
 use Rattle.repository_core.specs.declared.waits.Asker.{Asker}
+use Rattle.repository_core.proofs.HeldLemmas.{every-filter, every-remove, every-put}
 use Rattle.repository_core.specs.Hands.{Hand, Mind, note, now, send}
 use Rattle.pseudo_time.specs.Nodes.{broker, repository}
 use Rattle.repository_core.specs.Hearing.{ask_again, asks, expire, expire_all, expire_as, on_moment, waited}
@@ -37,18 +41,19 @@ use Rattle.repository_core.specs.Logs.{is_commit, known, marks, record_of}
 use Rattle.repository_core.specs.Rows.{accepts, ask_as, begin_as, close_as, hold, is_broker_of, learn_as, on_ask, on_begin, on_close, on_learn, on_message, on_read, on_write, read_as, read_known, release, reread, row, tell_askers, tells, unhold, waits_for, write_as}
 use Rattle.repository_core.specs.Turns.{hand_at}
 use Rattle.repository_laws.specs.AnyLogs.{Refuses, RefusesRightly}
-use Rattle.repository_laws.specs.Facts.{WriteSent}
+use Rattle.repository_laws.specs.Facts.{ReadSent, WriteSent, HeldHolds}
+use Rattle.repository_laws.proofs.Posts.{later-stays, later-more, held-more}
 use Rattle.repository_laws.proofs.Turns.{broker-is, once-now, sent-by}
 
 -- ---- a refusal stays true
 
 pub refuses-on : (ever : List Post) (r : ℕ) (log : List Effect) (f : Effect) (to : NodeId) (m : Message) → Refuses ever r log to m → Refuses ever r (f ∷ log) to m
-refuses-on ever r log f to (message.LaterRead t e) h = (h.0, h.1, h.2, h.3, h.4, inr h.5)
+refuses-on ever r log f to (message.LaterRead t e) h = (h.0, h.1, h.2, later-stays ever r log f h.0 t e h.3)
 refuses-on ever r log f to (message.LaterVersion t x) h = (h.0, h.1, h.2, h.3, h.4, inr h.5)
 refuses-on ever r log f to _ h = tt
 
 pub refuses-more : (ever more : List Post) (r : ℕ) (log : List Effect) (to : NodeId) (m : Message) → Refuses ever r log to m → Refuses (ever ++ more) r log to m
-refuses-more ever more r log to (message.LaterRead t e) h = (h.0, h.1, (has-left ever more _ h.2.0, h.2.1), h.3, h.4, h.5)
+refuses-more ever more r log to (message.LaterRead t e) h = (h.0, h.1, h.2, later-more ever more r log h.0 t e h.3)
 refuses-more ever more r log to (message.LaterVersion t x) h = (h.0, h.1, (has-left ever more _ h.2.0, h.2.1), h.3, h.4, h.5)
 refuses-more ever more r log to _ h = tt
 
@@ -62,52 +67,60 @@ module _ (ever : List Post) (r : ℕ) (log : List Effect) where
   note-fine h f k = record {
     number = k.number;
     past = k.past;
+    held = k.held;
     outs = every-map (λ o. Refuses ever r (now h) o.to o.message) (λ o. Refuses ever r (f ∷ now h) o.to o.message) (λ o p. refuses-on ever r (now h) f o.to o.message p) h.outs k.outs;
   }
 
   send-fine : (h : Hand) (to : NodeId) (m : Message) → Refuses ever r (now h) to m → Fine h → Fine (send to m h)
-  send-fine h to m p k = record { number = k.number; past = k.past; outs = every-append (λ o. Refuses ever r (now h) o.to o.message) h.outs (record { to = to; message = m } ∷ []) k.outs (p, tt) }
+  send-fine h to m p k = record { number = k.number; past = k.past; held = k.held; outs = every-append (λ o. Refuses ever r (now h) o.to o.message) h.outs (record { to = to; message = m } ∷ []) k.outs (p, tt) }
 
-  held-fine : (h : Hand) (xs : List (TimeParts × HeldRead)) → Fine h → Fine (record h { held = xs })
-  held-fine h xs k = record { number = k.number; past = k.past; outs = k.outs }
+  held-fine : (h : Hand) (xs : List (TimeParts × HeldRead)) → Every (HeldHolds ever r) xs → Fine h → Fine (record h { held = xs })
+  held-fine h xs held k = record { number = k.number; past = k.past; held = held; outs = k.outs }
 
   askers-fine : (h : Hand) (xs : List Asker) → Fine h → Fine (record h { askers = xs })
-  askers-fine h xs k = record { number = k.number; past = k.past; outs = k.outs }
+  askers-fine h xs k = record { number = k.number; past = k.past; held = k.held; outs = k.outs }
 
   moment-fine : (h : Hand) (m : ℕ) → Fine h → Fine (record h { moment = m })
-  moment-fine h m k = record { number = k.number; past = k.past; outs = k.outs }
+  moment-fine h m k = record { number = k.number; past = k.past; held = k.held; outs = k.outs }
 
   if-fine : (b : Bool) (x y : Hand) → Fine x → Fine y → Fine (if b then x else y)
   if-fine true x y p q = p
   if-fine false x y p q = q
 
-  read-as-fine : (before : List (TimeParts × HeldRead)) (h : Hand) (from : NodeId) (t : TimeParts) (o : ObjectId) (s : ReadStep) → Fine h → Fine (read_as before h from t o s)
-  read-as-fine before h from t o (Answer v true) k = send-fine (note (effect.Stretch o t) h) from (message.Value t v) tt (note-fine h (effect.Stretch o t) k)
-  read-as-fine before h from t o (Answer v false) k = send-fine h from (message.Value t v) tt k
-  read-as-fine before h from t o (Wait w) k =
-      let x : Hand = hold t (record { from = from; object = o; waits = w }) h in
-      let p : Fine x = held-fine h x.held k in
+  read-as-fine : (before : List (TimeParts × HeldRead)) (h : Hand) (from : NodeId) (t : TimeParts) (o : ObjectId) (s : ReadStep) →
+      read_step (marks (now h)) o t ≡ s → ReadSent ever r t o → from ≡ broker t.stamp.broker → Fine h → Fine (read_as before h from t o s)
+  read-as-fine before h from t o (Answer v true) e sent own k = send-fine (note (effect.Stretch o t) h) from (message.Value t v) tt (note-fine h (effect.Stretch o t) k)
+  read-as-fine before h from t o (Answer v false) e sent own k = send-fine h from (message.Value t v) tt k
+  read-as-fine before h from t o (Wait w) e sent own k =
+      let y : HeldRead = record { from = from; object = o; waits = w } in
+      let x : Hand = hold t y h in
+      let p : Fine x = held-fine h (insert_entry time_cmp h.held t y) (every-put (HeldHolds ever r) t y h.held (sent, own) k.held) k in
       if-fine ((w.home == h.number) || waits_for w before) x (send (repository w.home) (message.Ask w) x) p (send-fine x (repository w.home) (message.Ask w) tt p)
+  read-as-fine before h from t o (LaterRead x) e sent own k =
+      send-fine h from (message.LaterRead t x) (o, own, (read-below (marks (now h)) o t x e).0, inl (sent, once-now (λ l. read_step (marks l) o t ≡ LaterRead x) (now h) e)) k
 
   unhold-fine : (h : Hand) (t : TimeParts) → Fine h → Fine (unhold t h)
-  unhold-fine h t k = record { number = k.number; past = k.past; outs = k.outs }
+  unhold-fine h t k = held-fine h (remove_entry (is_at (time_cmp t)) h.held) (every-remove (HeldHolds ever r) (is_at (time_cmp t)) h.held k.held) k
 
-  read-known-fine : (h : Hand) (from : NodeId) (t : TimeParts) (o : ObjectId) (u : Option Bool) → Fine h → Fine (read_known h from t o u)
-  read-known-fine h from t o (Some false) k = send-fine (unhold t h) from (message.Ended t) tt (unhold-fine h t k)
-  read-known-fine h from t o (Some true) k = read-as-fine h.held (unhold t h) from t o (read_step (marks (now h)) o t) (unhold-fine h t k)
-  read-known-fine h from t o None k = read-as-fine h.held (unhold t h) from t o (read_step (marks (now h)) o t) (unhold-fine h t k)
+  read-known-fine : (h : Hand) (from : NodeId) (t : TimeParts) (o : ObjectId) (u : Option Bool) → ReadSent ever r t o → from ≡ broker t.stamp.broker → Fine h → Fine (read_known h from t o u)
+  read-known-fine h from t o (Some false) sent own k = send-fine (unhold t h) from (message.Ended t) tt (unhold-fine h t k)
+  read-known-fine h from t o (Some true) sent own k = read-as-fine h.held (unhold t h) from t o (read_step (marks (now h)) o t) refl sent own (unhold-fine h t k)
+  read-known-fine h from t o None sent own k = read-as-fine h.held (unhold t h) from t o (read_step (marks (now h)) o t) refl sent own (unhold-fine h t k)
 
-  on-read-fine : (h : Hand) (from : NodeId) (t : TimeParts) (o : ObjectId) → Fine h → Fine (on_read h from t o)
+  on-read-fine : (h : Hand) (from : NodeId) (t : TimeParts) (o : ObjectId) → ReadSent ever r t o → from ≡ broker t.stamp.broker → Fine h → Fine (on_read h from t o)
   unfolding on_read
-  on-read-fine h from t o k = read-known-fine h from t o (known (now h) t.stamp) k
+  on-read-fine h from t o sent own k = read-known-fine h from t o (known (now h) t.stamp) sent own k
 
-  reread-fine : (xs : List (TimeParts × HeldRead)) (h : Hand) → Fine h → Fine (reread xs h)
-  reread-fine [] h k = k
-  reread-fine (e ∷ xs) h k = reread-fine xs (on_read h e.1.from e.0 e.1.object) (on-read-fine h e.1.from e.0 e.1.object k)
+  reread-fine : (xs : List (TimeParts × HeldRead)) (h : Hand) → Every (HeldHolds ever r) xs → Fine h → Fine (reread xs h)
+  reread-fine [] h held k = k
+  reread-fine (e ∷ xs) h held k = reread-fine xs (on_read h e.1.from e.0 e.1.object) held.1 (on-read-fine h e.1.from e.0 e.1.object held.0.0 held.0.1 k)
 
   release-fine : (s : StampParts) (h : Hand) → Fine h → Fine (release s h)
   unfolding release
-  release-fine s h k = reread-fine (filter (λ e. same_stamp e.1.waits s) h.held) (record h { held = filter (λ e. not (same_stamp e.1.waits s)) h.held }) (held-fine h (filter (λ e. not (same_stamp e.1.waits s)) h.held) k)
+  release-fine s h k =
+      reread-fine (filter (λ e. same_stamp e.1.waits s) h.held) (record h { held = filter (λ e. not (same_stamp e.1.waits s)) h.held })
+      (every-filter (HeldHolds ever r) (λ e. same_stamp e.1.waits s) h.held k.held)
+      (held-fine h (filter (λ e. not (same_stamp e.1.waits s)) h.held) (every-filter (HeldHolds ever r) (λ e. not (same_stamp e.1.waits s)) h.held k.held) k)
 
   tells-fine : (xs : List Asker) (s : StampParts) (c : Bool) (h : Hand) → Fine h → Fine (tells xs s c h)
   tells-fine [] s c h k = k
@@ -139,7 +152,6 @@ module _ (ever : List Post) (r : ℕ) (log : List Effect) where
   unfolding on_close
   on-close-fine h from s d k = close-as-fine h from s d (record_of (now h) s) k
 
-  -- the one row that refuses
   write-as-fine : (h : Hand) (from : NodeId) (t : TimeParts) (o : ObjectId) (v : Value) (stands is_known : Bool) (s : WriteStep) → write_step (marks (now h)) o t v ≡ s → WriteSent ever r t o v → from ≡ broker t.stamp.broker → Fine h →
       Fine (write_as h from t o v stands is_known s)
   write-as-fine h from t o v true known s e sent own k = send-fine h from (message.Stored t) tt k
@@ -149,7 +161,7 @@ module _ (ever : List Post) (r : ℕ) (log : List Effect) where
   write-as-fine h from t o v false false (write.LaterVersion x) e sent own k =
       send-fine h from (message.LaterVersion t x) (o, v, sent, own, (later-version (marks (now h)) o t v x e).0, once-now (λ l. write_step (marks l) o t v ≡ write.LaterVersion x) (now h) e) k
   write-as-fine h from t o v false false (write.LaterRead x) e sent own k =
-      send-fine h from (message.LaterRead t x) (o, v, sent, own, (later-read (marks (now h)) o t v x e).0, once-now (λ l. write_step (marks l) o t v ≡ write.LaterRead x) (now h) e) k
+      send-fine h from (message.LaterRead t x) (o, own, (later-read (marks (now h)) o t v x e).0, inr (v, sent, once-now (λ l. write_step (marks l) o t v ≡ write.LaterRead x) (now h) e)) k
 
   on-write-fine : (h : Hand) (from : NodeId) (t : TimeParts) (o : ObjectId) (v : Value) → WriteSent ever r t o v → from ≡ broker t.stamp.broker → Fine h → Fine (on_write h from t o v)
   unfolding on_write
@@ -157,7 +169,7 @@ module _ (ever : List Post) (r : ℕ) (log : List Effect) where
 
   ask-as-fine : (h : Hand) (from : NodeId) (s : StampParts) (u : Option RecordState) → Fine h → Fine (ask_as h from s u)
   ask-as-fine h from s None k = k
-  ask-as-fine h from s (Some (Unknown d)) k = record { number = k.number; past = k.past; outs = k.outs }
+  ask-as-fine h from s (Some (Unknown d)) k = record { number = k.number; past = k.past; held = k.held; outs = k.outs }
   ask-as-fine h from s (Some (Decided d)) k = send-fine h from (message.Tell s (is_commit d)) tt k
 
   on-ask-fine : (h : Hand) (from : NodeId) (s : StampParts) → Fine h → Fine (on_ask h from s)
@@ -202,7 +214,10 @@ module _ (ever : List Post) (r : ℕ) (log : List Effect) where
   row-fine h from (message.Begin s timeout) g came k = on-begin-fine h from s timeout k
   row-fine h from (message.Commit s) g came k = on-close-fine h from s decision.Committed k
   row-fine h from (message.Withdraw s) g came k = on-close-fine h from s decision.Withdrawn k
-  row-fine h from (message.Read t o) g came k = on-read-fine h from t o k
+  row-fine h from (message.Read t o) g came k =
+      on-read-fine h from t o
+      (sent-by ever (λ i. []) [] r log from t.stamp.broker (message.Read t o) (o.repository == h.number) g came, eq-from o.repository h.number (and-right (is_broker_of t.stamp.broker from) (o.repository == h.number) g) ∙ k.number)
+      (broker-is t.stamp.broker from (and-left (is_broker_of t.stamp.broker from) _ g)) k
   row-fine h from (message.Write t o v) g came k =
       on-write-fine h from t o v
       (sent-by ever (λ i. []) [] r log from t.stamp.broker (message.Write t o v) (o.repository == h.number) g came, eq-from o.repository h.number (and-right (is_broker_of t.stamp.broker from) (o.repository == h.number) g) ∙ k.number)
@@ -220,5 +235,5 @@ module _ (ever : List Post) (r : ℕ) (log : List Effect) where
   take-fine h from m came k = take-if (accepts h.number from m) h from m refl came k
 
   -- a turn begins
-  pub begun-fine : (mind : Mind) → Fine (hand_at r log mind)
-  begun-fine mind = record { number = refl; past = refl; outs = tt }
+  pub begun-fine : (mind : Mind) → Every (HeldHolds ever r) mind.held → Fine (hand_at r log mind)
+  begun-fine mind held = record { number = refl; past = refl; held = held; outs = tt }

@@ -7,19 +7,22 @@ use Rattle.value_form.specs.declared.objects.ObjectId.{ObjectId}
 use Rattle.value_form.specs.declared.values.Value.{Value}
 use Rattle.pseudo_time.specs.declared.decisions.Decision.{Decision}
 use Rattle.effect_form.specs.declared.effects.Effect.{Effect}
-use Rattle.effect_form.specs.declared.effects.Effect.TheVariants.{Put, Stretch, Begin, Decide, Learn, Run, Act, Try, Got, Acked, End}
+use Rattle.effect_form.specs.declared.effects.Effect.TheVariants.{Put, Stretch, Begin, Decide, Learn, Run, Act, Try, Got, Acked, End, Mark, Whole}
 use Rattle.object_history.specs.declared.marks.Mark.TheVariants as mark
 use Rattle.commit_record.specs.declared.states.RecordState.TheVariants.{Unknown, Decided}
 use Rattle.object_history.proofs.ScanLemmas.{new-start, settled-kept}
 use Rattle.object_history.proofs.ViewLemmas.{viewed-kept}
-use Rattle.object_history.specs.History.{or_else, settle_of}
+use Rattle.object_history.specs.declared.steps.ReadStep.TheVariants as read
+use Rattle.object_history.specs.History.{or_else, settle_of, floor_of}
+use Rattle.object_history.specs.Answers.{read_step}
+use Rattle.object_history.proofs.AnswerLemmas.{read-below}
 use Rattle.object_history.specs.Views.{Distinct, Viewed}
 use Rattle.pseudo_time.proofs.OrderLemmas.{same_stamp-is, same_stamp-of}
 use Rattle.pseudo_time.specs.Lists.{Has}
 use Rattle.pseudo_time.specs.Order.{same_stamp}
 use Rattle.repository_log.proofs.LogLemmas.{undecided, from-begin, from-decided, unknown-unsettled}
 use Rattle.repository_core.specs.Logs.{decision_of, first_begin, is_commit, marks, record_of, as_decision}
-use Rattle.repository_laws.specs.Facts.{FitsLog, IsTidy, IsTimely}
+use Rattle.repository_laws.specs.Facts.{FitsLog, IsTidy, IsTimely, Once}
 use Rattle.turn_form.proofs.GrowthLemmas.{grew_keeps}
 use Rattle.turn_form.specs.Growth.{Grew}
 
@@ -63,6 +66,8 @@ Homed r (Try i s) = ⊥
 Homed r (Got k v) = ⊥
 Homed r (Acked k) = ⊥
 Homed r (End i e) = ⊥
+Homed r (Mark at) = ⊥
+Homed r Whole = ⊥
 
 homed-head : (r : ℕ) (f : Effect) (l : List Effect) → IsTidy r (f ∷ l) → Homed r f
 homed-head r (Put o x v) l t = t.0
@@ -86,6 +91,9 @@ decide-home r l s d t h = homed r (Decide s d) l t h
 pub learn-home : (r : ℕ) (l : List Effect) (s : StampParts) (c : Bool) → IsTidy r l → Has (Learn s c) l → s.home ≢ r
 learn-home r l s c t h = homed r (Learn s c) l t h
 
+pub no-mark : (r : ℕ) (l : List Effect) (at : TimeParts) → IsTidy r l → Has (Mark at) l → ⊥
+no-mark r l at t h = homed r (Mark at) l t h
+
 -- 4.4
 pub tidy-kept : (r : ℕ) (l : List Effect) (f : Effect) → FitsLog r l f → IsTidy r l → IsTidy r (f ∷ l)
 tidy-kept r l (Put o x v) k t = (k.0, new-start (marks l) o x v k.1, t)
@@ -97,6 +105,40 @@ tidy-kept r l f k t = absurd k
 
 pub tidy-through : (r : ℕ) (l added : List Effect) → Grew (FitsLog r) l added → IsTidy r l → IsTidy r (added ++ l)
 tidy-through r l added g t = grew_keeps (FitsLog r) (λ k. IsTidy r k) (λ k f u fit. tidy-kept r k f fit u) l added g t
+
+-- no turn adds a Mark, so there is no floor
+pub tidy-floor : (r : ℕ) (l : List Effect) → IsTidy r l → floor_of (marks l) ≡ None
+unfolding floor_of
+tidy-floor r [] t = refl
+tidy-floor r (Put o x v ∷ l) t = tidy-floor r l t.2
+tidy-floor r (Stretch o x ∷ l) t = tidy-floor r l t.1
+tidy-floor r (Begin s d ∷ l) t = tidy-floor r l t.1
+tidy-floor r (Decide s d ∷ l) t = tidy-floor r l t.2
+tidy-floor r (Learn s c ∷ l) t = tidy-floor r l t.2
+tidy-floor r (f ∷ l) t = absurd t
+
+-- and no Floor among its marks
+pub tidy-marks : (r : ℕ) (l : List Effect) (e : TimeParts) → IsTidy r l → Has (mark.Floor e) (marks l) → ⊥
+tidy-marks r [] e t h = h
+tidy-marks r (Put o x v ∷ l) e t (inl q) = absurd (cc q)
+tidy-marks r (Put o x v ∷ l) e t (inr h) = tidy-marks r l e t.2 h
+tidy-marks r (Stretch o x ∷ l) e t (inl q) = absurd (cc q)
+tidy-marks r (Stretch o x ∷ l) e t (inr h) = tidy-marks r l e t.1 h
+tidy-marks r (Begin s d ∷ l) e t h = tidy-marks r l e t.1 h
+tidy-marks r (Decide s d ∷ l) e t (inl q) = absurd (cc q)
+tidy-marks r (Decide s d ∷ l) e t (inr h) = tidy-marks r l e t.2 h
+tidy-marks r (Learn s c ∷ l) e t (inl q) = absurd (cc q)
+tidy-marks r (Learn s c ∷ l) e t (inr h) = tidy-marks r l e t.2 h
+tidy-marks r (f ∷ l) e t h = absurd t
+
+-- so no read of it was refused
+pub tidy-reads : (r : ℕ) (l : List Effect) (o : ObjectId) (t e : TimeParts) → IsTidy r l → read_step (marks l) o t ≡ read.LaterRead e → ⊥
+tidy-reads r l o t e tidy h = tidy-marks r l e tidy (read-below (marks l) o t e h).1
+
+pub tidy-once : (r : ℕ) (l : List Effect) (o : ObjectId) (t e : TimeParts) → IsTidy r l → Once (λ k. read_step (marks k) o t ≡ read.LaterRead e) l → ⊥
+tidy-once r [] o t e tidy h = tidy-reads r [] o t e tidy h
+tidy-once r (f ∷ l) o t e tidy (inl h) = tidy-reads r (f ∷ l) o t e tidy h
+tidy-once r (f ∷ l) o t e tidy (inr h) = tidy-once r l o t e (tidy-tail r f l tidy) h
 
 pub tidy-distinct : (r : ℕ) (l : List Effect) → IsTidy r l → Distinct (marks l)
 tidy-distinct r [] t = tt
@@ -213,4 +255,6 @@ put-logged (Decide s d ∷ l) o x v (inl q) = absurd (cc q)
 put-logged (Decide s d ∷ l) o x v (inr h) = inr (put-logged l o x v h)
 put-logged (Learn s c ∷ l) o x v (inl q) = absurd (cc q)
 put-logged (Learn s c ∷ l) o x v (inr h) = inr (put-logged l o x v h)
+put-logged (Mark at ∷ l) o x v (inl q) = absurd (cc q)
+put-logged (Mark at ∷ l) o x v (inr h) = inr (put-logged l o x v h)
 put-logged (f ∷ l) o x v h = inr (put-logged l o x v h)

@@ -1,5 +1,5 @@
 -- the facts of messages, of evidence and of held reads only grow
-use Rattle.std.proofs.Common.{ℕ, List, ◌∷◌, ◌++◌, inr}
+use Rattle.std.proofs.Common.{ℕ, List, ◌∷◌, ◌++◌, inl, inr}
 use Rattle.pseudo_time.specs.declared.decisions.Decision.TheVariants as decision
 use Rattle.effect_form.specs.declared.effects.Effect.{Effect}
 use Rattle.effect_form.specs.declared.effects.Effect.TheVariants.{Put, Stretch, Decide, Learn}
@@ -8,20 +8,29 @@ use Rattle.message_form.specs.declared.messages.Message.TheVariants as message
 use Rattle.pseudo_time.specs.declared.nodes.NodeId.{NodeId}
 use Rattle.turn_form.specs.Posts.{Post}
 use Rattle.pseudo_time.specs.TimeParts.{TimeParts}
+use Rattle.value_form.specs.declared.objects.ObjectId.{ObjectId}
 use Rattle.repository_core.specs.declared.waits.HeldRead.{HeldRead}
 use Rattle.repository_laws.proofs.Logs.{settled-log, viewed-log}
 use Rattle.pseudo_time.proofs.ListLemmas.{has-left}
 use Rattle.pseudo_time.specs.Lists.{Has}
-use Rattle.repository_laws.specs.Facts.{FitsLog, RestsOn, HeldHolds, PostHolds}
+use Rattle.repository_laws.specs.Facts.{FitsLog, RestsOn, HeldHolds, WasReadLater, PostHolds}
 use Rattle.turn_form.proofs.GrowthLemmas.{grew_keeps}
 use Rattle.turn_form.specs.Growth.{Grew}
+
+pub later-stays : (ever : List Post) (r : ℕ) (l : List Effect) (f : Effect) (o : ObjectId) (t e : TimeParts) → WasReadLater ever r l o t e → WasReadLater ever r (f ∷ l) o t e
+later-stays ever r l f o t e (inl p) = inl (p.0, inr p.1)
+later-stays ever r l f o t e (inr p) = inr (p.0, p.1, inr p.2)
+
+pub later-more : (ever more : List Post) (r : ℕ) (l : List Effect) (o : ObjectId) (t e : TimeParts) → WasReadLater ever r l o t e → WasReadLater (ever ++ more) r l o t e
+later-more ever more r l o t e (inl p) = inl ((has-left ever more _ p.0.0, p.0.1), p.1)
+later-more ever more r l o t e (inr p) = inr (p.0, (has-left ever more _ p.1.0, p.1.1), p.2)
 
 -- one more fitting effect
 pub post-stays : (ever : List Post) (r : ℕ) (l : List Effect) (f : Effect) (to : NodeId) (m : Message) → FitsLog r l f → PostHolds ever r l to m → PostHolds ever r (f ∷ l) to m
 post-stays ever r l f to (message.Begun s) k p = (p.0, inr p.1)
 post-stays ever r l f to (message.Value t v) k p = (p.0, p.1, p.2, viewed-log r l f p.0 t v k p.3)
 post-stays ever r l f to (message.Stored t) k p = (p.0, p.1, p.2, inr p.3)
-post-stays ever r l f to (message.LaterRead t e) k p = (p.0, p.1, p.2, p.3, inr p.4)
+post-stays ever r l f to (message.LaterRead t e) k p = (p.0, p.1, later-stays ever r l f p.0 t e p.2)
 post-stays ever r l f to (message.LaterVersion t x) k p = (p.0, p.1, p.2, p.3, inr p.4)
 post-stays ever r l f to (message.Ended t) k p = (p.0, settled-log l f t.stamp p.0 p.1)
 post-stays ever r l f to (message.Decided s d) k p = inr p
@@ -39,7 +48,7 @@ pub post-more : (ever more : List Post) (r : ℕ) (l : List Effect) (to : NodeId
 post-more ever more r l to (message.Begun s) p = p
 post-more ever more r l to (message.Value t v) p = (p.0, (has-left ever more _ p.1.0, p.1.1), p.2, p.3)
 post-more ever more r l to (message.Stored t) p = (p.0, p.1, (has-left ever more _ p.2.0, p.2.1), p.3)
-post-more ever more r l to (message.LaterRead t e) p = (p.0, p.1, (has-left ever more _ p.2.0, p.2.1), p.3, p.4)
+post-more ever more r l to (message.LaterRead t e) p = (p.0, p.1, later-more ever more r l p.0 t e p.2)
 post-more ever more r l to (message.LaterVersion t x) p = (p.0, p.1, (has-left ever more _ p.2.0, p.2.1), p.3, p.4)
 post-more ever more r l to (message.Ended t) p = p
 post-more ever more r l to (message.Decided s d) p = p

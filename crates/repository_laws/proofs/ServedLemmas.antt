@@ -19,7 +19,7 @@ use Rattle.turn_form.specs.declared.turns.Out.{Out}
 use Rattle.commit_record.specs.declared.states.RecordState.{RecordState}
 use Rattle.commit_record.specs.declared.states.RecordState.TheVariants as state
 use Rattle.object_history.specs.declared.steps.ReadStep.{ReadStep}
-use Rattle.object_history.specs.declared.steps.ReadStep.TheVariants.{Answer, Wait}
+use Rattle.object_history.specs.declared.steps.ReadStep.TheVariants.{Answer, Wait, LaterRead}
 use Rattle.object_history.specs.declared.steps.WriteStep.{WriteStep}
 use Rattle.object_history.specs.declared.steps.WriteStep.TheVariants as write
 use Rattle.object_history.specs.History.{is_settled}
@@ -46,6 +46,7 @@ sent-here h to m = has-right h.outs (record { to = to; message = m } ∷ []) (re
 pub read-as-grows : (before : List (TimeParts × HeldRead)) (h : Hand) (from : NodeId) (t : TimeParts) (o : ObjectId) (s : ReadStep) → Grows h (read_as before h from t o s)
 read-as-grows before h from t o (Answer v true) x i = has-left h.outs (record { to = from; message = message.Value t v } ∷ []) x i
 read-as-grows before h from t o (Answer v false) x i = has-left h.outs (record { to = from; message = message.Value t v } ∷ []) x i
+read-as-grows before h from t o (LaterRead e) x i = has-left h.outs (record { to = from; message = message.LaterRead t e } ∷ []) x i
 read-as-grows before h from t o (Wait w) x i = go ((w.home == h.number) || waits_for w before)
   where
     j : Hand
@@ -117,8 +118,9 @@ close-gets h from s d = close-as-gets h from s d (record_of (now h) s)
 
 read-as-gets : (before : List (TimeParts × HeldRead)) (h : Hand) (from : NodeId) (t : TimeParts) (o : ObjectId) (s : ReadStep) →
     GetsAnswer (read_as before h from t o s) from (message.Read t o) ⊎ IsHeld (read_as before h from t o s) from t o
-read-as-gets before h from t o (Answer v true) = inl (gets (note (effect.Stretch o t) h) from (message.Read t o) (message.Value t v) (inr (v, refl)))
-read-as-gets before h from t o (Answer v false) = inl (gets h from (message.Read t o) (message.Value t v) (inr (v, refl)))
+read-as-gets before h from t o (Answer v true) = inl (gets (note (effect.Stretch o t) h) from (message.Read t o) (message.Value t v) (inr (inl (v, refl))))
+read-as-gets before h from t o (Answer v false) = inl (gets h from (message.Read t o) (message.Value t v) (inr (inl (v, refl))))
+read-as-gets before h from t o (LaterRead e) = inl (gets h from (message.Read t o) (message.LaterRead t e) (inr (inr (e, refl))))
 read-as-gets before h from t o (Wait w) = inr (w, go ((w.home == h.number) || waits_for w before))
   where
     held : Has (t, record { from = from; object = o; waits = w }) (hold t (record { from = from; object = o; waits = w }) h).held

@@ -1,5 +1,5 @@
 -- each function of the hand keeps what holds of a hand
-use Rattle.std.proofs.Common.{◌≡◌, ◌≢◌, ℕ, ◌+◌, ◌≤◌, Bool, true, false, List, [], ◌∷◌, ◌++◌, refl, sym, ◌∙◌, ap, subst, Option, Some, None, ◌==◌, ◌&&◌, ◌||◌, not, nat_le, if◌then◌else◌, inl, arith}
+use Rattle.std.proofs.Common.{◌≡◌, ◌≢◌, ℕ, ◌+◌, ◌≤◌, Bool, true, false, List, [], ◌∷◌, ◌++◌, refl, sym, ◌∙◌, ap, subst, Option, Some, None, ◌==◌, ◌&&◌, ◌||◌, not, nat_le, if◌then◌else◌, inl, inr, arith}
 use Rattle.std.proofs.lemmas.Grind.{common_steps}
 use Rattle.std.proofs.lemmas.Bool.{false≢true}
 use Rattle.pseudo_time.specs.StampParts.{StampParts}
@@ -19,14 +19,14 @@ use Rattle.turn_form.specs.Posts.{Post, WasSent}
 use Rattle.commit_record.specs.declared.states.RecordState.{RecordState}
 use Rattle.commit_record.specs.declared.states.RecordState.TheVariants.{Unknown, Decided}
 use Rattle.object_history.specs.declared.steps.ReadStep.{ReadStep}
-use Rattle.object_history.specs.declared.steps.ReadStep.TheVariants.{Answer, Wait}
+use Rattle.object_history.specs.declared.steps.ReadStep.TheVariants.{Answer, Wait, LaterRead}
 use Rattle.object_history.specs.declared.steps.WriteStep.{WriteStep}
 use Rattle.object_history.specs.declared.steps.WriteStep.TheVariants as write
 use Rattle.repository_core.specs.declared.waits.HeldRead.{HeldRead}
 use Rattle.repository_core.specs.declared.waits.Asker.{Asker}
 use Rattle.repository_laws.proofs.Logs.{unknown-begun, decided-stands, tidy-through, begin-home, decide-settles, put-logged}
 use Rattle.repository_laws.proofs.Posts.{post-stays}
-use Rattle.object_history.proofs.AnswerLemmas.{put-stands, again-stands, answer-viewed, later-read, later-version}
+use Rattle.object_history.proofs.AnswerLemmas.{put-stands, again-stands, answer-viewed, read-below, later-read, later-version}
 use Rattle.object_history.proofs.BoolLemmas.{and-left, and-right}
 use Rattle.object_history.proofs.ObjectLemmas.{eq-from}
 use Rattle.object_history.specs.Answers.{read_step, stands_written, write_step}
@@ -130,6 +130,12 @@ module _ (ever : List Post) (homes : ℕ → List Effect) (ticks : List ℕ) (r 
       let k : Fine (hold t x h) = held-ok h (insert_entry time_cmp h.held t x) (every-put (HeldHolds ever r) t x h.held (sent, own) ok.held) ok in
       if-ok ((w.home == h.number) || waits_for w before) (hold t x h) (send (repository w.home) (message.Ask w) (hold t x h)) k
       (send-ok (hold t x h) (repository w.home) (message.Ask w) tt k)
+  read-as-ok before h from t o (LaterRead x) e alive sent own ok =
+      send-ok h from (message.LaterRead t x) (
+        o,
+        (read-below (marks (now h)) o t x e).0,
+        inl (sent, once-now (λ k. read_step (marks k) o t ≡ LaterRead x) (now h) e),
+      ) ok
 
   unhold-ok : (h : Hand) (t : TimeParts) → Fine h → Fine (unhold t h)
   unhold-ok h t ok = held-ok h (remove_entry (is_at (time_cmp t)) h.held) (every-remove (HeldHolds ever r) (is_at (time_cmp t)) h.held ok.held) ok
@@ -224,10 +230,8 @@ module _ (ever : List Post) (homes : ℕ → List Effect) (ticks : List ℕ) (r 
   write-as-ok h from t o v false None (write.LaterRead x) f g e sent ok =
       send-ok h from (message.LaterRead t x) (
         o,
-        v,
-        sent,
         (later-read (marks (now h)) o t v x e).0,
-        once-now (λ k. write_step (marks k) o t v ≡ write.LaterRead x) (now h) e,
+        inr (v, sent, once-now (λ k. write_step (marks k) o t v ≡ write.LaterRead x) (now h) e),
       ) ok
 
   on-write-ok : (h : Hand) (from : NodeId) (t : TimeParts) (o : ObjectId) (v : Value) → WriteSent ever r t o v → Fine h → Fine (on_write h from t o v)

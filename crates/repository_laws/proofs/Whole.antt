@@ -50,6 +50,8 @@ module _ (ever : List Post) (homes : ℕ → List Effect) (ticks : List ℕ) (r 
   cause-back below (effect.Got k v) fits p = p
   cause-back below (effect.Acked k) fits p = p
   cause-back below (effect.End i e) fits p = p
+  cause-back below (effect.Mark at) fits p = p
+  cause-back below effect.Whole fits p = p
 
   causes-back : (added : List Effect) → Grew (FitsLog r) log added → Every (RestsOn ever there ticks r) added → Grew (λ l f. RestsOn ever homes ticks r f) log added
   causes-back [] g p = tt

@@ -12,15 +12,16 @@ use Rattle.pseudo_time.specs.declared.nodes.NodeKind.TheVariants.{Repository, Br
 use Rattle.value_form.specs.declared.objects.ObjectId.{ObjectId}
 use Rattle.value_form.specs.declared.values.Value.{Value}
 use Rattle.effect_form.specs.declared.effects.Effect.{Effect}
-use Rattle.effect_form.specs.declared.effects.Effect.TheVariants.{Put, Stretch, Begin, Decide, Learn, Run, Act, Try, Got, Acked, End}
+use Rattle.effect_form.specs.declared.effects.Effect.TheVariants.{Put, Stretch, Begin, Decide, Learn, Run, Act, Try, Got, Acked, End, Mark, Whole}
 use Rattle.message_form.specs.declared.messages.Message.{Message}
 use Rattle.message_form.specs.declared.messages.Message.TheVariants as message
 use Rattle.turn_form.specs.Posts.{Post, WasSent}
 use Rattle.turn_form.specs.Growth.{Grew}
 use Rattle.commit_record.specs.declared.states.RecordState.TheVariants.{Unknown}
 use Rattle.object_history.specs.declared.marks.Mark.TheVariants as mark
+use Rattle.object_history.specs.declared.steps.ReadStep.TheVariants as read
 use Rattle.object_history.specs.declared.steps.WriteStep.TheVariants as write
-use Rattle.object_history.specs.Answers.{write_step}
+use Rattle.object_history.specs.Answers.{read_step, write_step}
 use Rattle.object_history.specs.Views.{Starts, Viewed, Fits}
 use Rattle.repository_core.specs.declared.waits.HeldRead.{HeldRead}
 use Rattle.repository_core.specs.Logs.{is_commit, marks, known, record_of}
@@ -60,6 +61,8 @@ FitsLog r l (Try i s) = ⊥
 FitsLog r l (Got k v) = ⊥
 FitsLog r l (Acked k) = ⊥
 FitsLog r l (End i e) = ⊥
+FitsLog r l (Mark at) = ⊥
+FitsLog r l Whole = ⊥
 
 -- what is left of that in a log of such effects
 abbrev pub IsTidy : ℕ → List Effect → Type 0
@@ -75,6 +78,8 @@ IsTidy r (Try i s ∷ l) = ⊥
 IsTidy r (Got k v ∷ l) = ⊥
 IsTidy r (Acked k ∷ l) = ⊥
 IsTidy r (End i e ∷ l) = ⊥
+IsTidy r (Mark at ∷ l) = ⊥
+IsTidy r (Whole ∷ l) = ⊥
 
 -- ---- messages
 
@@ -85,12 +90,17 @@ ReadSent ever r t o = WasSent ever (broker t.stamp.broker) (repository r) (messa
 abbrev pub WriteSent : List Post → ℕ → TimeParts → ObjectId → Value → Type 0
 WriteSent ever r t o v = WasSent ever (broker t.stamp.broker) (repository r) (message.Write t o v) × (o.repository ≡ r)
 
+-- a request of the object at t was refused, since it was read up to e: a Read below the floor, or a Write
+abbrev pub WasReadLater : List Post → ℕ → List Effect → ObjectId → TimeParts → TimeParts → Type 0
+WasReadLater ever r l o t e = (ReadSent ever r t o × Once (λ k. read_step (marks k) o t ≡ read.LaterRead e) l)
+    ⊎ ((v : Value) × WriteSent ever r t o v × Once (λ k. write_step (marks k) o t v ≡ write.LaterRead e) l)
+
 -- what a message that repository r sends says of its log
 abbrev pub PostHolds : List Post → ℕ → List Effect → NodeId → Message → Type 0
 PostHolds ever r l to (message.Begun s) = HasBegun s l
 PostHolds ever r l to (message.Value t v) = (o : ObjectId) × ReadSent ever r t o × (to ≡ broker t.stamp.broker) × Viewed (marks l) o t v
 PostHolds ever r l to (message.Stored t) = (o : ObjectId) × (v : Value) × WriteSent ever r t o v × Has (Put o t v) l
-PostHolds ever r l to (message.LaterRead t e) = (o : ObjectId) × (v : Value) × WriteSent ever r t o v × (lt t e ≡ true) × Once (λ k. write_step (marks k) o t v ≡ write.LaterRead e) l
+PostHolds ever r l to (message.LaterRead t e) = (o : ObjectId) × (lt t e ≡ true) × WasReadLater ever r l o t e
 PostHolds ever r l to (message.LaterVersion t x) = (o : ObjectId) × (v : Value) × WriteSent ever r t o v × (lt x t ≡ false) × Once (λ k. write_step (marks k) o t v ≡ write.LaterVersion x) l
 PostHolds ever r l to (message.Ended t) = (c : Bool) × (known l t.stamp ≡ Some c)
 PostHolds ever r l to (message.Decided s d) = Has (Decide s d) l
@@ -127,6 +137,8 @@ RestsOn ever homes ticks r (Try i s) = Unit {0}
 RestsOn ever homes ticks r (Got k v) = Unit {0}
 RestsOn ever homes ticks r (Acked k) = Unit {0}
 RestsOn ever homes ticks r (End i e) = Unit {0}
+RestsOn ever homes ticks r (Mark at) = Unit {0}
+RestsOn ever homes ticks r Whole = Unit {0}
 
 -- a held read was sent by the broker that is to be answered
 abbrev pub HeldHolds : List Post → ℕ → TimeParts × HeldRead → Type 0

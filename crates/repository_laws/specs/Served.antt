@@ -15,7 +15,7 @@ use Rattle.repository_core.specs.Hands.{Hand, now}
 -- the second message is an answer to the first
 abbrev pub IsAnswer : Message → Message → Type 0
 IsAnswer (message.Begin s timeout) a = (a ≡ message.Begun s) ⊎ ((d : Decision) × (a ≡ message.Decided s d))
-IsAnswer (message.Read t o) a = (a ≡ message.Ended t) ⊎ ((v : Value) × (a ≡ message.Value t v))
+IsAnswer (message.Read t o) a = (a ≡ message.Ended t) ⊎ (((v : Value) × (a ≡ message.Value t v)) ⊎ ((e : TimeParts) × (a ≡ message.LaterRead t e)))
 IsAnswer (message.Write t o v) a = (a ≡ message.Stored t) ⊎ ((a ≡ message.Ended t) ⊎ (((e : TimeParts) × (a ≡ message.LaterRead t e)) ⊎ ((x : TimeParts) × (a ≡ message.LaterVersion t x))))
 IsAnswer (message.Commit s) a = (d : Decision) × (a ≡ message.Decided s d)
 IsAnswer (message.Withdraw s) a = (d : Decision) × (a ≡ message.Decided s d)

@@ -1,6 +1,6 @@
 // Logs stand newest first.
-ghost use Rattle.std.specs.Prelude.{◌≡◌, ℕ, Bool, true, List, [], ◌∷◌, ◌++◌};
-ghost use Rattle.pseudo_time.specs.Lists.{Has};
+ghost use Rattle.std.specs.Prelude.{◌≡◌, ℕ, Bool, true, List, [], ◌∷◌, ◌++◌, None};
+ghost use Rattle.pseudo_time.specs.Lists.{Every, Has};
 ghost use Rattle.pseudo_time.specs.StampParts.{StampParts};
 ghost use Rattle.pseudo_time.specs.TimeParts.{TimeParts};
 ghost use Rattle.pseudo_time.specs.declared.decisions.Decision.{Decision};
@@ -10,6 +10,7 @@ ghost use Rattle.effect_form.specs.declared.effects.Effect.TheVariants as effect
 ghost use Rattle.message_form.specs.declared.messages.Message.{Message};
 ghost use Rattle.turn_form.specs.Posts.{Post, WasSent};
 ghost use Rattle.turn_form.specs.Growth.{Grew};
+ghost use Rattle.object_history.specs.History.{floor_of};
 ghost use Rattle.object_history.specs.Views.{Distinct};
 ghost use Rattle.repository_core.specs.declared.waits.HeldRead.{HeldRead};
 ghost use Rattle.repository_core.specs.Logs.{marks};
@@ -23,12 +24,14 @@ ghost use Rattle.repository_core.specs.Rows.{accepts, on_message};
 ghost use Rattle.repository_laws.specs.Served.{IsServed};
 ghost use Rattle.repository_laws.specs.Givens.{IsGiven, Gives};
 
-/// Effects that fit leave a tidy log tidy, and no two versions of an object in it have one start.
+/// Effects that fit leave a tidy log tidy; no two versions of an object in it have one start, and it
+/// has no floor.
 pub fn tidy_stays()
     ensures empty { (r : ℕ) → IsTidy r [] }
     ensures kept { (r : ℕ) (log : List Effect) (f : Effect) → FitsLog r log f → IsTidy r log → IsTidy r (f ∷ log) }
     ensures through { (r : ℕ) (log added : List Effect) → Grew (FitsLog r) log added → IsTidy r log → IsTidy r (added ++ log) }
     ensures distinct { (r : ℕ) (log : List Effect) → IsTidy r log → Distinct (marks log) }
+    ensures no_floor { (r : ℕ) (log : List Effect) → IsTidy r log → floor_of (marks log) ≡ None }
 {}
 
 /// An attempt is decided at its home, once, after its Begin, not before its deadline where it expired,
@@ -74,14 +77,15 @@ pub fn turns_keep_facts()
         IsGiven ever homes r log mind → Has m ticks → Gives ever homes ticks r log (hand_turn (hand_at r log mind) (Hearing m)) }
 {}
 
-/// Over every log, also over one that no calls could have left, a turn refuses a write only where the
-/// log says so.
+/// Over every log, also over one that no calls could have left, a turn refuses a request only where the
+/// log says so, if the reads that it holds were sent by those who are to be answered; and so they were
+/// after it.
 pub fn refusals_are_right()
-    ensures taking { (ever : List Post) (r : ℕ) (log : List Effect) (mind : Mind) (from : NodeId) (m : Message) → WasSent ever from (repository r) m →
-        RefusesRightly ever r log (hand_turn (hand_at r log mind) (Taking from m)) }
-    ensures learning { (ever : List Post) (r : ℕ) (log : List Effect) (mind : Mind) (s : StampParts) (c : Bool) →
+    ensures taking { (ever : List Post) (r : ℕ) (log : List Effect) (mind : Mind) (from : NodeId) (m : Message) → Every (HeldHolds ever r) mind.held →
+        WasSent ever from (repository r) m → RefusesRightly ever r log (hand_turn (hand_at r log mind) (Taking from m)) }
+    ensures learning { (ever : List Post) (r : ℕ) (log : List Effect) (mind : Mind) (s : StampParts) (c : Bool) → Every (HeldHolds ever r) mind.held →
         RefusesRightly ever r log (hand_turn (hand_at r log mind) (Learning s c)) }
-    ensures hearing { (ever : List Post) (r : ℕ) (log : List Effect) (mind : Mind) (m : ℕ) →
+    ensures hearing { (ever : List Post) (r : ℕ) (log : List Effect) (mind : Mind) (m : ℕ) → Every (HeldHolds ever r) mind.held →
         RefusesRightly ever r log (hand_turn (hand_at r log mind) (Hearing m)) }
 {}
 

@@ -1,14 +1,16 @@
 -- The marks of a log, part by part.
-use Rattle.std.proofs.Common.{◌≡◌, ℕ, Bool, true, false, ◌||◌, ◌+◌, ◌<◌, List, [], ◌∷◌, ◌++◌, length, take, get_or, reverse, refl, sym, ◌∙◌, ap}
+use Rattle.std.proofs.Common.{◌≡◌, ◌≢◌, ℕ, Bool, true, false, ◌||◌, ◌+◌, ◌<◌, List, [], ◌∷◌, ◌++◌, length, take, get_or, reverse, refl, sym, ◌∙◌, ap}
 use Rattle.std.specs.Prelude.{Option, Some, None, is_some, if◌then◌else◌}
 use Rattle.pseudo_time.specs.StampParts.{StampParts}
+use Rattle.pseudo_time.specs.TimeParts.{TimeParts}
 use Rattle.pseudo_time.specs.Order.{same_stamp}
 use Rattle.std.specs.Option.{option_to_list}
 use Rattle.std.proofs.lemmas.List.{append_assoc, reverse-append, take_more}
 use Rattle.effect_form.specs.declared.effects.Effect.{Effect}
 use Rattle.effect_form.specs.declared.effects.Effect.TheVariants.{Put, Stretch, Begin, Decide, Learn, Run, Act, Try, Got, Acked, End}
+use Rattle.effect_form.specs.declared.effects.Effect.TheVariants as effect
 use Rattle.object_history.specs.declared.marks.Mark.{Mark}
-use Rattle.object_history.specs.History.{or_else, settle_of}
+use Rattle.object_history.specs.History.{or_else, settle_of, top, floor_of}
 use Rattle.object_history.specs.Ranges.{AreMarks}
 use Rattle.turn_form.specs.Ranges.{AreEffects}
 use Rattle.repository_log.specs.Logs.{mark_of, marks, known, knows}
@@ -41,6 +43,8 @@ marks-in-range (Try i s ∷ l) h = marks-in-range l h.1
 marks-in-range (Got k v ∷ l) h = marks-in-range l h.1
 marks-in-range (Acked k ∷ l) h = marks-in-range l h.1
 marks-in-range (End i e ∷ l) h = marks-in-range l h.1
+marks-in-range (effect.Mark at ∷ l) h = (tt, marks-in-range l h.1)
+marks-in-range (effect.Whole ∷ l) h = marks-in-range l h.1
 
 -- with those of one effect more
 pub marks-next : (l : List Effect) (i : ℕ) (f : Effect) (old new : List Mark) → i < length l → f ≡ get_or l i f → old ≡ marks (take i l) → new ≡ old ++ option_to_list (mark_of f) → new ≡ marks (take (i + 1) l)
@@ -52,6 +56,28 @@ marks-next l i f old new lt at h n =
     nothing-after : {X : Type 0} (xs : List X) → xs ≡ xs ++ []
     nothing-after [] = refl
     nothing-after (x ∷ xs) = ap (λ z. x ∷ z) (nothing-after xs)
+
+-- ---- the floor
+
+pub floor-mark : (f : Effect) (at : TimeParts) (l : List Effect) (floor new : Option TimeParts) → f ≡ effect.Mark at → new ≡ top at floor → floor ≡ floor_of (marks l) → new ≡ floor_of (marks (f ∷ l))
+unfolding floor_of
+floor-mark f at l floor new is put h = put ∙ ap (top at) h ∙ ap (λ g. floor_of (marks (g ∷ l))) (sym is)
+
+pub floor-other : (f : Effect) (l : List Effect) (floor : Option TimeParts) → ((at : TimeParts) → f ≢ effect.Mark at) → floor ≡ floor_of (marks l) → floor ≡ floor_of (marks (f ∷ l))
+unfolding floor_of
+floor-other (Put o x v) l floor other h = h
+floor-other (Stretch o x) l floor other h = h
+floor-other (Decide s d) l floor other h = h
+floor-other (Learn s c) l floor other h = h
+floor-other (Begin s d) l floor other h = h
+floor-other (Run n) l floor other h = h
+floor-other (Act i k t n c b) l floor other h = h
+floor-other (Try i s) l floor other h = h
+floor-other (Got k v) l floor other h = h
+floor-other (Acked k) l floor other h = h
+floor-other (End i e) l floor other h = h
+floor-other (effect.Mark at) l floor other h = absurd (other at refl)
+floor-other effect.Whole l floor other h = h
 
 -- ---- known stamps
 

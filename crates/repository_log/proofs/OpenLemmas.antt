@@ -13,7 +13,7 @@ use Rattle.pseudo_time.specs.Order.{same_stamp}
 use Rattle.pseudo_time.proofs.OrderLemmas.{stamp_cmp-total, same_stamp-is}
 use Rattle.pseudo_time.specs.declared.decisions.Decision.{Decision}
 use Rattle.effect_form.specs.declared.effects.Effect.{Effect}
-use Rattle.effect_form.specs.declared.effects.Effect.TheVariants.{Put, Stretch, Begin, Decide, Learn, Run, Act, Try, Got, Acked, End}
+use Rattle.effect_form.specs.declared.effects.Effect.TheVariants.{Put, Stretch, Begin, Decide, Learn, Run, Act, Try, Got, Acked, End, Mark, Whole}
 use Rattle.commit_record.specs.declared.states.RecordState.{RecordState}
 use Rattle.commit_record.specs.declared.states.RecordState.TheVariants.{Unknown, Decided}
 use Rattle.commit_record.specs.States.{States, begun, begun_at, settled, settled_at, listed_at}
@@ -43,6 +43,8 @@ none-begun (Try i s) l q h = refl
 none-begun (Got k v) l q h = refl
 none-begun (Acked k) l q h = refl
 none-begun (End i e) l q h = refl
+none-begun (Mark at) l q h = refl
+none-begun Whole l q h = refl
 
 some-begun : (f : Effect) (l : List Effect) (s q : StampParts) (d : ℕ) → begun_by f ≡ Some (s, d) → first_begin (f ∷ l) q ≡ (if same_stamp s q then or_else (first_begin l q) d else first_begin l q)
 unfolding first_begin
@@ -58,6 +60,8 @@ some-begun (Try i p) l s q d h = absurd (cc h)
 some-begun (Got k v) l s q d h = absurd (cc h)
 some-begun (Acked k) l s q d h = absurd (cc h)
 some-begun (End i e) l s q d h = absurd (cc h)
+some-begun (Mark at) l s q d h = absurd (cc h)
+some-begun Whole l s q d h = absurd (cc h)
 
 none-decided : (f : Effect) (l : List Effect) (q : StampParts) → decided_by f ≡ None → decision_of (f ∷ l) q ≡ decision_of l q
 unfolding decision_of
@@ -72,6 +76,8 @@ none-decided (Try i s) l q h = refl
 none-decided (Got k v) l q h = refl
 none-decided (Acked k) l q h = refl
 none-decided (End i e) l q h = refl
+none-decided (Mark at) l q h = refl
+none-decided Whole l q h = refl
 
 some-decided : (f : Effect) (l : List Effect) (s q : StampParts) (x : Decision) → decided_by f ≡ Some (s, x) → decision_of (f ∷ l) q ≡ (if same_stamp s q then or_else (decision_of l q) x else decision_of l q)
 unfolding decision_of
@@ -88,6 +94,8 @@ some-decided (Try i p) l s q x h = absurd (cc h)
 some-decided (Got k v) l s q x h = absurd (cc h)
 some-decided (Acked k) l s q x h = absurd (cc h)
 some-decided (End i e) l s q x h = absurd (cc h)
+some-decided (Mark at) l s q x h = absurd (cc h)
+some-decided Whole l s q x h = absurd (cc h)
 
 -- ---- the records
 

@@ -8,6 +8,7 @@ use Rattle.pseudo_time.specs.declared.decisions.Decision.{Decision}
 use Rattle.pseudo_time.specs.declared.decisions.Decision.TheVariants as decision
 use Rattle.effect_form.specs.declared.effects.Effect.{Effect}
 use Rattle.effect_form.specs.declared.effects.Effect.TheVariants.{Put, Stretch, Begin, Decide, Learn, Run, Act, Try, Got, Acked, End}
+use Rattle.effect_form.specs.declared.effects.Effect.TheVariants as effect
 use Rattle.commit_record.specs.declared.states.RecordState.{RecordState}
 use Rattle.commit_record.specs.declared.states.RecordState.TheVariants as state
 use Rattle.object_history.specs.declared.marks.Mark.{Mark}
@@ -27,7 +28,7 @@ as_decision false = decision.Withdrawn
 
 -- ---- what one effect says
 
--- what it adds to the histories: a Put, a Stretch, and a Settle for a Decide and for a Learn
+-- what it adds to the histories: a Put, a Stretch, a Settle for a Decide and for a Learn, and a Floor for a Mark
 abbrev pub mark_of : Effect → Option Mark
 mark_of (Put o x v) = Some (mark.Put o x v)
 mark_of (Stretch o x) = Some (mark.Stretch o x)
@@ -40,6 +41,8 @@ mark_of (Try i s) = None
 mark_of (Got k v) = None
 mark_of (Acked k) = None
 mark_of (End i e) = None
+mark_of (effect.Mark at) = Some (mark.Floor at)
+mark_of effect.Whole = None
 
 -- the attempt whose record it begins, with the deadline
 abbrev pub begun_by : Effect → Option (StampParts × ℕ)
@@ -54,6 +57,8 @@ begun_by (Try i s) = None
 begun_by (Got k v) = None
 begun_by (Acked k) = None
 begun_by (End i e) = None
+begun_by (effect.Mark at) = None
+begun_by effect.Whole = None
 
 -- the attempt that it decides, with the decision
 abbrev pub decided_by : Effect → Option (StampParts × Decision)
@@ -68,6 +73,8 @@ decided_by (Try i s) = None
 decided_by (Got k v) = None
 decided_by (Acked k) = None
 decided_by (End i e) = None
+decided_by (effect.Mark at) = None
+decided_by effect.Whole = None
 
 -- ---- histories
 

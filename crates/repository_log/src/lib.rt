@@ -7,5 +7,5 @@ mod marks;
 mod records;
 
 pub use laws::marks_of_parts;
-pub use marks::{histories_of, mark_of, marks_of};
+pub use marks::{floor_with, histories_of, mark_of, marks_of};
 pub use records::{begun_by, decided_by, is_commit, learned, records_of};

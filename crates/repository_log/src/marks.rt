@@ -1,5 +1,7 @@
-ghost use Rattle.std.specs.Prelude.{◌≡◌, [], ◌∷◌, ◌++◌, IfOk, IfSome, OnOk};
+ghost use Rattle.std.specs.Prelude.{◌≡◌, List, [], ◌∷◌, ◌++◌, IfOk, IfSome, OnOk};
 ghost use Rattle.std.specs.Option.{option_to_list};
+ghost use Rattle.effect_form.specs.declared.effects.Effect.{Effect};
+ghost use Rattle.object_history.specs.History.{floor_of};
 ghost use Rattle.object_history.specs.Ranges.{IsMark, AreMarks};
 ghost use Rattle.turn_form.specs.Ranges.{IsEffect, AreEffects};
 ghost use Rattle.repository_log.specs.Logs as logs;
@@ -7,7 +9,8 @@ ghost use Rattle.repository_log.specs.Logs.{HasMarks};
 
 use crate::records::is_commit;
 use effect_form::Effect;
-use object_history::{Mark, PlainHistories};
+use object_history::{Mark, PlainHistories, later};
+use pseudo_time::PseudoTime;
 use std::alloc::{AllocError, Global};
 
 /// What an effect adds to histories. None where it says nothing of an object or of a decision.
@@ -27,6 +30,7 @@ pub fn mark_of(alloc: Global, effect: &Effect) -> Result<Option<Mark>, AllocErro
         Effect::Stretch { object, at } => Ok(Some(Mark::Stretch(*object, *at))),
         Effect::Decide { stamp, decision } => Ok(Some(Mark::Settle(*stamp, is_commit(*decision)))),
         Effect::Learn { stamp, committed } => Ok(Some(Mark::Settle(*stamp, *committed))),
+        Effect::Mark { at } => Ok(Some(Mark::Floor(*at))),
         _ => Ok(None),
     }
 }
@@ -61,4 +65,14 @@ pub fn histories_of(alloc: Global, effects: &[Effect]) -> Result<PlainHistories,
     let marks = marks_of(alloc, effects)?;
     let histories = PlainHistories::of(alloc, marks.as_slice())?;
     Ok(histories)
+}
+
+/// The floor of a log, with one effect more.
+pub fn floor_with(floor: Option<PseudoTime>, effect: &Effect) -> Option<PseudoTime>
+    ensures { (log : List Effect) → floor ≡ floor_of (logs.marks log) → result ≡ floor_of (logs.marks (effect.now ∷ log)) }
+{
+    match effect {
+        Effect::Mark { at } => Some(later(*at, &floor)),
+        _ => floor,
+    }
 }

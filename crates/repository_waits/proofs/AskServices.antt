@@ -49,6 +49,8 @@ begins-first (effect.Try i p ∷ l) s d (inr h) n = begins-first l s d h n
 begins-first (effect.Got k v ∷ l) s d (inr h) n = begins-first l s d h n
 begins-first (effect.Acked k ∷ l) s d (inr h) n = begins-first l s d h n
 begins-first (effect.End i e ∷ l) s d (inr h) n = begins-first l s d h n
+begins-first (effect.Mark at ∷ l) s d (inr h) n = begins-first l s d h n
+begins-first (effect.Whole ∷ l) s d (inr h) n = begins-first l s d h n
 begins-first (effect.Put o x v ∷ l) s d (inl e) n = absurd (cc e)
 begins-first (effect.Stretch o x ∷ l) s d (inl e) n = absurd (cc e)
 begins-first (effect.Decide p x ∷ l) s d (inl e) n = absurd (cc e)
@@ -59,6 +61,8 @@ begins-first (effect.Try i p ∷ l) s d (inl e) n = absurd (cc e)
 begins-first (effect.Got k v ∷ l) s d (inl e) n = absurd (cc e)
 begins-first (effect.Acked k ∷ l) s d (inl e) n = absurd (cc e)
 begins-first (effect.End i x ∷ l) s d (inl e) n = absurd (cc e)
+begins-first (effect.Mark at ∷ l) s d (inl e) n = absurd (cc e)
+begins-first (effect.Whole ∷ l) s d (inl e) n = absurd (cc e)
 
 pub has-record : (l : List Effect) (s : StampParts) (d : ℕ) → Has (effect.Begin s d) l → record_of l s ≡ None → ⊥
 has-record l s d h n = go (first_begin l s) refl (decision_of l s) n

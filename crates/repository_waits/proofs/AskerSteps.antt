@@ -26,7 +26,7 @@ use Rattle.message_form.specs.declared.messages.Message.{Message}
 use Rattle.message_form.specs.declared.messages.Message.TheVariants as message
 use Rattle.turn_form.specs.declared.turns.Out.{Out}
 use Rattle.object_history.specs.declared.steps.ReadStep.{ReadStep}
-use Rattle.object_history.specs.declared.steps.ReadStep.TheVariants.{Answer, Wait}
+use Rattle.object_history.specs.declared.steps.ReadStep.TheVariants.{Answer, Wait, LaterRead}
 use Rattle.object_history.specs.declared.steps.WriteStep.{WriteStep}
 use Rattle.object_history.specs.declared.steps.WriteStep.TheVariants as write
 use Rattle.object_history.specs.History.{is_settled}
@@ -80,6 +80,7 @@ note-still h f never = record {
 read-as-still : (before : List (TimeParts × HeldRead)) (h : Hand) (from : NodeId) (t : TimeParts) (o : ObjectId) (s : ReadStep) → Still h (read_as before h from t o s)
 read-as-still before h from t o (Answer v true) = then-still h (note (effect.Stretch o t) h) (send from (message.Value t v) (note (effect.Stretch o t) h)) (note-still h (effect.Stretch o t) (λ s d e. absurd (cc e))) (send-still (note (effect.Stretch o t) h) from (message.Value t v))
 read-as-still before h from t o (Answer v false) = send-still h from (message.Value t v)
+read-as-still before h from t o (LaterRead e) = send-still h from (message.LaterRead t e)
 read-as-still before h from t o (Wait w) = go ((w.home == h.number) || waits_for w before)
   where
     go : (b : Bool) → Still h (if b then hold t (record { from = from; object = o; waits = w }) h else send (repository w.home) (message.Ask w) (hold t (record { from = from; object = o; waits = w }) h))

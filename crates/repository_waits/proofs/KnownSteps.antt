@@ -12,7 +12,7 @@ use Rattle.effect_form.specs.declared.effects.Effect.{Effect}
 use Rattle.effect_form.specs.declared.effects.Effect.TheVariants as effect
 use Rattle.message_form.specs.declared.messages.Message.TheVariants as message
 use Rattle.object_history.specs.declared.steps.ReadStep.{ReadStep}
-use Rattle.object_history.specs.declared.steps.ReadStep.TheVariants.{Answer, Wait}
+use Rattle.object_history.specs.declared.steps.ReadStep.TheVariants.{Answer, Wait, LaterRead}
 use Rattle.object_history.specs.History.{or_else, settle_of}
 use Rattle.object_history.specs.Answers.{read_step}
 use Rattle.repository_core.specs.declared.waits.HeldRead.{HeldRead}
@@ -26,6 +26,7 @@ module _ (s : StampParts) where
   read-as-known : (before : List (TimeParts × HeldRead)) (h : Hand) (from : NodeId) (t : TimeParts) (o : ObjectId) (r : ReadStep) → known (now (read_as before h from t o r)) s ≡ known (now h) s
   read-as-known before h from t o (Answer v true) = known-stretch (now h) o t s
   read-as-known before h from t o (Answer v false) = refl
+  read-as-known before h from t o (LaterRead e) = refl
   read-as-known before h from t o (Wait w) = go ((w.home == h.number) || waits_for w before)
     where
       go : (b : Bool) → known (now (if b then hold t (record { from = from; object = o; waits = w }) h else send (repository w.home) (message.Ask w) (hold t (record { from = from; object = o; waits = w }) h))) s ≡ known (now h) s

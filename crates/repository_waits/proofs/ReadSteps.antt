@@ -24,11 +24,12 @@ use Rattle.message_form.specs.declared.messages.Message.{Message}
 use Rattle.message_form.specs.declared.messages.Message.TheVariants as message
 use Rattle.turn_form.specs.declared.turns.Out.{Out}
 use Rattle.object_history.specs.declared.steps.ReadStep.{ReadStep}
-use Rattle.object_history.specs.declared.steps.ReadStep.TheVariants.{Answer, Wait}
+use Rattle.object_history.specs.declared.steps.ReadStep.TheVariants.{Answer, Wait, LaterRead}
 use Rattle.object_history.specs.declared.steps.WriteStep.{WriteStep}
 use Rattle.object_history.specs.declared.steps.WriteStep.TheVariants as write
-use Rattle.object_history.specs.History.{or_else, Seen, settle_of, is_settled, alive, sees}
-use Rattle.object_history.specs.Answers.{read_seen, read_step, needs_stretch, stands_written, write_step}
+use Rattle.object_history.specs.declared.marks.Mark.{Mark}
+use Rattle.object_history.specs.History.{or_else, Seen, settle_of, is_settled, alive, sees, floor_of}
+use Rattle.object_history.specs.Answers.{read_seen, read_from, read_step, needs_stretch, stands_written, write_step}
 use Rattle.object_history.proofs.ScanLemmas.{standing, Standing, stands-has}
 use Rattle.object_history.proofs.StableLemmas.{scan-passes}
 use Rattle.object_history.proofs.Words.{Passes}
@@ -47,8 +48,17 @@ use Rattle.repository_core.proofs.HeldLemmas.{put-in, every-remove, every-put}
 use Rattle.repository_waits.proofs.HeldLemmas.{or-split, has-split, every-passing, gone-or, kept-or, waits-put, waits-remove, waits-filter}
 
 -- a read that has to wait
+-- a read that waits isn't below the floor
+waits-from : (f : Option TimeParts) (m : List Mark) (o : ObjectId) (t : TimeParts) (w : StampParts) → read_from f m o t ≡ Wait w → read_seen m o t (sees m o t) ≡ Wait w
+waits-from None m o t w h = h
+waits-from (Some e) m o t w h = choice (lt t e) h
+  where
+    choice : (b : Bool) → (if b then LaterRead e else read_seen m o t (sees m o t)) ≡ Wait w → read_seen m o t (sees m o t) ≡ Wait w
+    choice true h = absurd (cc h)
+    choice false h = h
+
 pub read-waits : (l : List Effect) (from : NodeId) (t : TimeParts) (o : ObjectId) (w : StampParts) → read_step (marks l) o t ≡ Wait w → Waits l (t, record { from = from; object = o; waits = w })
-read-waits l from t o w h = go (sees (marks l) o t) (standing (λ x. lt x t && alive (marks l) x) o (marks l)) (scan-passes (λ x. lt x t && alive (marks l) x) o (marks l)) h
+read-waits l from t o w h = go (sees (marks l) o t) (standing (λ x. lt x t && alive (marks l) x) o (marks l)) (scan-passes (λ x. lt x t && alive (marks l) x) o (marks l)) (waits-from (floor_of (marks l)) (marks l) o t w h)
   where
     go : (r : Option Seen) → Standing o (marks l) r → Passes (λ x. lt x t && alive (marks l) x) r → read_seen (marks l) o t r ≡ Wait w → Waits l (t, record { from = from; object = o; waits = w })
     go None st p h = absurd (cc h)
@@ -100,7 +110,7 @@ known-learn l s c w n = settled-other s w c (settle_of (marks l) w) n
 
 -- the answers to a read
 abbrev pub Answers : TimeParts → Message → Type 0
-Answers t m = ((v : Value) × (m ≡ message.Value t v)) ⊎ (m ≡ message.Ended t)
+Answers t m = ((v : Value) × (m ≡ message.Value t v)) ⊎ ((m ≡ message.Ended t) ⊎ ((e : TimeParts) × (m ≡ message.LaterRead t e)))
 
 -- the read is held, or its answer is owed
 abbrev pub Serves : Hand → TimeParts → ObjectId → NodeId → Type 0
@@ -298,6 +308,10 @@ module _ (R : TimeParts → ObjectId → NodeId → Type 0) (agree : (t : TimePa
     read-as-keeps gap off before h from t o (Answer v false) e r earlier k =
         let served : Serves (send from (message.Value t v) h) t o from = inr (message.Value t v, inl (v, refl), has-right h.outs (record { to = from; message = message.Value t v } ∷ []) (record { to = from; message = message.Value t v }) (inl refl)) in
         (closed gap off (send from (message.Value t v) h) t o from r served (send-keeps (At t gap) off h from (message.Value t v) k), served)
+    read-as-keeps gap off before h from t o (LaterRead x) e r earlier k =
+        let served : Serves (send from (message.LaterRead t x) h) t o from =
+        inr (message.LaterRead t x, inr (inr (x, refl)), has-right h.outs (record { to = from; message = message.LaterRead t x } ∷ []) (record { to = from; message = message.LaterRead t x }) (inl refl)) in
+        (closed gap off (send from (message.LaterRead t x) h) t o from r served (send-keeps (At t gap) off h from (message.LaterRead t x) k), served)
     read-as-keeps gap off before h from t o (Wait w) e r earlier k =
         (hold-keeps gap off before h from t o w r (read-waits (now h) from t o w e) earlier k, inl (w, go ((w.home == h.number) || waits_for w before)))
       where
@@ -316,7 +330,7 @@ module _ (R : TimeParts → ObjectId → NodeId → Type 0) (agree : (t : TimePa
         R t o from → Keeps old (At t gap) off h → Keeps old gap off (read_known h from t o u) × Serves (read_known h from t o u) t o from
     read-known-keeps gap off h from t o (Some false) r k =
         let j : Hand = unhold t h in
-        let served : Serves (send from (message.Ended t) j) t o from = inr (message.Ended t, inr refl, has-right j.outs (record { to = from; message = message.Ended t } ∷ []) (record { to = from; message = message.Ended t }) (inl refl)) in (
+        let served : Serves (send from (message.Ended t) j) t o from = inr (message.Ended t, inr (inl refl), has-right j.outs (record { to = from; message = message.Ended t } ∷ []) (record { to = from; message = message.Ended t }) (inl refl)) in (
           closed gap off (send from (message.Ended t) j) t o from r served
               (send-keeps (At t gap) off j from (message.Ended t) (wider-gap (At t (At t gap)) (At t gap) off j (same-gap gap t) (unhold-keeps (At t gap) off h t k))),
           served,

@@ -50,8 +50,9 @@ module _ (asked : TimeParts → ObjectId × NodeId) where
 
   is-served : (old new : Hand) (t : TimeParts) (o : ObjectId) (from : NodeId) → Serves new t o from → IsServed old new from (message.Read t o)
   is-served old new t o from (inl a) = inr a
-  is-served old new t o from (inr (m, inl v, i)) = inl (m, inr v, i)
-  is-served old new t o from (inr (m, inr e, i)) = inl (m, inl e, i)
+  is-served old new t o from (inr (m, inl v, i)) = inl (m, inr (inl v), i)
+  is-served old new t o from (inr (m, inr (inl e), i)) = inl (m, inl e, i)
+  is-served old new t o from (inr (m, inr (inr l), i)) = inl (m, inr (inr l), i)
 
   pub turn-reads : (h : Hand) (i : Input) → AreOf asked h.held → IsOf asked i → Every (Waits (now h)) h.held → KeepsReads asked h (hand_turn h i)
   turn-reads h i are of waits =

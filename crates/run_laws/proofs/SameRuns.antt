@@ -10,7 +10,7 @@ use Rattle.value_form.specs.declared.objects.ObjectId.{ObjectId}
 use Rattle.value_form.specs.Objects.{Objects, value_at}
 use Rattle.effect_form.specs.declared.effects.Effect.{Effect}
 use Rattle.object_history.specs.declared.marks.Mark.{Mark}
-use Rattle.object_history.specs.declared.marks.Mark.TheVariants.{Put, Stretch, Settle}
+use Rattle.object_history.specs.declared.marks.Mark.TheVariants.{Put, Stretch, Settle, Floor}
 use Rattle.object_history.specs.History.{scan}
 use Rattle.repository_core.specs.Logs.{marks}
 use Rattle.serial_model.specs.Questions.{talked, talked_alone}
@@ -68,6 +68,7 @@ module _ (most : ℕ) (f g : NodeId → List Effect) (tries : List Try) (same : 
   marks-stamps ok ok' e (Put o x v ∷ m) ss = λ i. stamp_if (e x.stamp i) x.stamp (marks-stamps ok ok' e m ss i)
   marks-stamps ok ok' e (Stretch o x ∷ m) ss = marks-stamps ok ok' e m ss
   marks-stamps ok ok' e (Settle t c ∷ m) ss = marks-stamps ok ok' e m ss
+  marks-stamps ok ok' e (Floor at ∷ m) ss = marks-stamps ok ok' e m ss
 
   tries-stamps : (ok ok' : StampParts → Bool) → ((s : StampParts) → ok s ≡ ok' s) → (ts : List Try) → try_stamps ok ts ≡ try_stamps ok' ts
   unfolding try_stamps

@@ -10,7 +10,7 @@ use Rattle.pseudo_time.specs.Lists.{Every}
 use Rattle.value_form.specs.declared.acts.ActSpec.{ActSpec}
 use Rattle.effect_form.specs.declared.effects.Effect.{Effect}
 use Rattle.object_history.specs.declared.marks.Mark.{Mark}
-use Rattle.object_history.specs.declared.marks.Mark.TheVariants.{Put, Stretch, Settle}
+use Rattle.object_history.specs.declared.marks.Mark.TheVariants.{Put, Stretch, Settle, Floor}
 use Rattle.repository_log.specs.Logs.{marks}
 use Rattle.serial_model.specs.Deeds.{Version, Deed, after_deeds, put_in, stamp_if, stamp_in}
 use Rattle.serial_model.specs.Deeds.Deed.{Alone, Given}
@@ -101,6 +101,7 @@ stamps-append ok [] m' ss = refl
 stamps-append ok (Put o x v ∷ m) m' ss = ap (stamp_if (ok x.stamp) x.stamp) (stamps-append ok m m' ss)
 stamps-append ok (Stretch o x ∷ m) m' ss = stamps-append ok m m' ss
 stamps-append ok (Settle t c ∷ m) m' ss = stamps-append ok m m' ss
+stamps-append ok (Floor at ∷ m) m' ss = stamps-append ok m m' ss
 
 pub logs-stamps : (k : RunLogs) (ok : StampParts → Bool) (n : ℕ) (ss : List StampParts) → log_stamps k ok n ss ≡ put_stamps ok (marks_to k n) ss
 unfolding log_stamps put_stamps
@@ -113,6 +114,7 @@ puts-append s [] m' ps = refl
 puts-append s (Put o x v ∷ m) m' ps = ap (λ z. if same_stamp x.stamp s then put_in (record { object = o; start = x; value = v }) z else z) (puts-append s m m' ps)
 puts-append s (Stretch o x ∷ m) m' ps = puts-append s m m' ps
 puts-append s (Settle t c ∷ m) m' ps = puts-append s m m' ps
+puts-append s (Floor at ∷ m) m' ps = puts-append s m m' ps
 
 pub logs-puts : (k : RunLogs) (s : StampParts) (n : ℕ) → puts_to k s n ≡ puts_of s (marks_to k n) []
 unfolding puts_to puts_of
@@ -143,6 +145,7 @@ stamps-pass ok [] ss h = h
 stamps-pass ok (Put o x v ∷ m) ss h = every-stamp (λ s. ok s ≡ true) (ok x.stamp) x.stamp (put_stamps ok m ss) (λ e. e) (stamps-pass ok m ss h)
 stamps-pass ok (Stretch o x ∷ m) ss h = stamps-pass ok m ss h
 stamps-pass ok (Settle t c ∷ m) ss h = stamps-pass ok m ss h
+stamps-pass ok (Floor at ∷ m) ss h = stamps-pass ok m ss h
 
 pub made-pass : (ok : StampParts → Bool) (made : Made) → Every (λ s. ok s ≡ true) (made_stamps ok made)
 unfolding made_stamps

@@ -1,10 +1,11 @@
 -- Each End that a trace added has its cause, over any logs.
-use Rattle.std.proofs.Common.{refl, ◌≡◌, ℕ, ◌≤◌, nat_lt, false, List, [], ◌∷◌, ◌++◌, length, sym, ◌∙◌, ap, subst, Some, arith, append_assoc}
+use Rattle.std.proofs.Common.{refl, ◌≡◌, ℕ, ◌≤◌, nat_lt, true, false, inl, inr, List, [], ◌∷◌, ◌++◌, length, sym, ◌∙◌, ap, subst, Some, arith, append_assoc}
 use Rattle.std.proofs.lemmas.List.{append_cancel_right, length-append}
 use Rattle.std.proofs.lemmas.Bool.{ltb-false}
 use Rattle.std.proofs.lemmas.Option.{same_Some}
 use Rattle.pseudo_time.specs.Lists.{Has}
 use Rattle.pseudo_time.specs.TimeParts.{TimeParts}
+use Rattle.pseudo_time.specs.Order.{lt}
 use Rattle.pseudo_time.specs.declared.nodes.NodeId.{NodeId}
 use Rattle.pseudo_time.specs.declared.nodes.NodeKind.{NodeKind}
 use Rattle.pseudo_time.specs.declared.nodes.NodeKind.TheVariants.{Repository, Broker}
@@ -22,39 +23,43 @@ use Rattle.turn_form.proofs.GrowthLemmas.{each_below}
 use Rattle.object_history.specs.declared.steps.WriteStep.{WriteStep}
 use Rattle.object_history.specs.declared.steps.WriteStep.TheVariants as write
 use Rattle.object_history.specs.Answers.{write_step}
-use Rattle.script_meaning.specs.Meaning.{Asks, ToWrite}
+use Rattle.script_meaning.specs.Meaning.{Asks, Request, ToRead, ToWrite}
 use Rattle.serial_model.specs.Questions.{stop}
 use Rattle.repository_core.specs.Logs.{marks}
 use Rattle.repository_laws.specs.Facts as repositories
 use Rattle.repository_laws.specs.Facts.{Once}
 use Rattle.broker_core.specs.Tasks.{Task}
 use Rattle.broker_core.specs.Book.{Book, Try, find, open_try, time_of}
+use Rattle.broker_core.specs.Fits.{stop_of}
 use Rattle.pseudo_time.specs.Nodes.{broker, repository}
 use Rattle.broker_core.specs.Counted.{counted, own_tries}
 use Rattle.broker_laws.specs.AnyLogs.{Joins, Rests, Says}
-use Rattle.broker_laws.specs.Fits.{IsWriting}
+use Rattle.broker_laws.specs.Fits.{IsReading, IsWriting}
 use Rattle.broker_laws.specs.Posts as posts
 use Rattle.broker_laws.specs.Posts.{IsAskOf, IsLater, OfOpen}
 use Rattle.broker_laws.proofs.AnyDesks.{later-through, enters, open-own}
 use Rattle.broker_laws.proofs.TurnLemmas.{runs-rise}
-use Rattle.world_core.specs.Answered.{WasAnswered}
+use Rattle.world_core.specs.Answered.{WasAnswered, WasRefused}
 use Rattle.world_core.specs.Walks.{Base, sent_by, walk, start_world}
 use Rattle.world_core.specs.Legal.{Meets, base_of, fates_of}
-use Rattle.world_core.proofs.Answered.{Reason, meets-front, post-answered, write-sent}
+use Rattle.world_core.proofs.Answered.{Reason, meets-front, post-answered, write-sent, read-sent}
 use Rattle.world_core.specs.declared.entries.Entry.TheVariants.{Tick}
 use Rattle.world_facts.specs.Refines as refines
 use Rattle.world_facts.specs.Refines.{logs_at}
 use Rattle.world_facts.specs.Soft.{SentOk}
 use Rattle.world_facts.specs.AnyRules.{GrownFrom, any_facts, any_post, tasks_of, log_opened, log_before}
 use Rattle.world_facts.proofs.AnyNodes.{any-trace}
-use Rattle.serial_law.specs.Added.{AnyPlace, any_log, AnsweredThere, EndCause}
-use Rattle.serial_law.proofs.CauseLemmas.{once-read, once-version}
+use Rattle.serial_law.specs.Added.{AnyPlace, any_log, AnsweredThere, RefusedThere, EndCause}
+use Rattle.serial_law.proofs.CauseLemmas.{once-read, once-refused, once-version}
 use Rattle.serial_law.proofs.Own.{fronts}
 
 -- the later part of what a log grew by
 grew-late : (P : List Effect → Effect → Type 0) (log first late : List Effect) → Grew P log (late ++ first) → Grew P (first ++ log) late
 grew-late P log first [] g = tt
 grew-late P log first (f ∷ late) g = (grew-late P log first late g.0, subst (λ l. P l f) (append_assoc late first log) g.1)
+
+one-read : (o o' : ObjectId) → Asks (ToRead o) ≡ Asks (ToRead o') → o ≡ o'
+one-read o o' e = cc e
 
 one-write : (o o' : ObjectId) (v v' : Value) → Asks (ToWrite o v) ≡ Asks (ToWrite o' v') → (o ≡ o') × (v ≡ v')
 one-write o o' v v' e = (cc e, cc e)
@@ -122,21 +127,28 @@ module _ (p : AnyPlace) where
           let same = ap (λ (z : Book). z.run) (enters p.script b base.run acts (fresh ++ log) f g.1) in
           omega (arith, one, two, same)
 
-      -- a write at this pseudotime that broker b sent is what its open attempt asks for
-      that-write : (t : Try) (g : ObjectId) (v : Value) (to : NodeId) (w : ObjectId) (u : Value) → nat_lt (at below).run base.run ≡ false → open_try (at below) ≡ Some t → IsWriting p.script t g v →
-          Says p.script b base.run acts mine to (message.Write (time_of t) w u) → (g ≡ w) × (v ≡ u)
-      that-write t g v to w u low stands writes says =
-          let high : (at below).run ≤ base.run = (let r = rise below (late ++ (effect.End i o ∷ [])) since in let e = ap (λ l. (at l).run) whole in let s = says.run_is in omega (arith, r, e, s)) in
+      -- what broker b was asked for at this pseudotime is what its open attempt asks for
+      that-asks : (t : Try) (q s : Request) → nat_lt (at below).run base.run ≡ false → open_try (at below) ≡ Some t → stop_of p.script t ≡ Asks q →
+          (at mine).run ≡ base.run → IsAskOf p.script (own_tries p.script b base.run acts mine) (time_of t) s → Asks q ≡ Asks s
+      that-asks t q s low stands asked now ask =
+          let high : (at below).run ≤ base.run = (let r = rise below (late ++ (effect.End i o ∷ [])) since in let e = ap (λ l. (at l).run) whole in omega (arith, r, e, now)) in
           let run : (at below).run ≡ base.run = (let l = ltb-false (at below).run base.run low in omega (arith, l, high)) in
           let here : find t.stamp (own_tries p.script b base.run acts below) ≡ Some t = open-own p.script b base.run acts (at below) t stands in
           let l = later-through p.script b base.run acts below (late ++ (effect.End i o ∷ [])) t.stamp t since run here in
           let found : find t.stamp (own_tries p.script b base.run acts mine) ≡ Some l.1.0 = subst (λ z. find t.stamp (own_tries p.script b base.run acts z) ≡ Some l.1.0) whole l.1.1 in
-          let ask : IsAskOf p.script (own_tries p.script b base.run acts mine) (time_of t) (ToWrite w u) = says.holds.2 in
           let same : ask.0 ≡ l.1.0 = same_Some ask.0 l.1.0 (sym ask.1 ∙ found) in
           let more = l.1.2.answers in
           let front : ask.2.0 ≡ t.answers = fronts ask.2.0 t.answers ask.2.1 more.0 (sym ask.2.2 ∙ ap (λ (z : Try). z.answers) same ∙ more.1) (let n = ask.2.3 in omega (arith, n)) in
           let task : ask.0.task ≡ t.task = ap (λ (z : Try). z.task) same ∙ l.1.2.task in
-          one-write g w v u (sym writes ∙ ap (λ (z : Task). stop (p.script z.script) t.answers) (sym task) ∙ ap (λ z. stop (p.script ask.0.task.script) z) (sym front) ∙ ask.2.4)
+          sym asked ∙ ap (λ (z : Task). stop (p.script z.script) t.answers) (sym task) ∙ ap (λ z. stop (p.script ask.0.task.script) z) (sym front) ∙ ask.2.4
+
+      that-write : (t : Try) (g : ObjectId) (v : Value) (to : NodeId) (w : ObjectId) (u : Value) → nat_lt (at below).run base.run ≡ false → open_try (at below) ≡ Some t → IsWriting p.script t g v →
+          Says p.script b base.run acts mine to (message.Write (time_of t) w u) → (g ≡ w) × (v ≡ u)
+      that-write t g v to w u low stands writes says = one-write g w v u (that-asks t (ToWrite g v) (ToWrite w u) low stands writes says.run_is says.holds.2)
+
+      that-read : (t : Try) (g : ObjectId) (to : NodeId) (w : ObjectId) → nat_lt (at below).run base.run ≡ false → open_try (at below) ≡ Some t → IsReading p.script t g →
+          Says p.script b base.run acts mine to (message.Read (time_of t) w) → g ≡ w
+      that-read t g to w low stands reads says = one-read g w (that-asks t (ToRead g) (ToRead w) low stands reads says.run_is says.holds.2)
 
       -- what was sent holds
       sent-holds : (q : Post) → Has q ever → any_post p.script base.run base.acts ever q.from.kind q.from.number (any_log p q.from) (record { to = q.to; message = q.message })
@@ -156,8 +168,16 @@ module _ (p : AnyPlace) where
         OnceThere step = Once (λ l. write_step (marks l) o' (time_of t) v ≡ step) (any_log p (repository o'.repository))
 
         -- it took the write, and answered so
+        -- no read was
+        no-read : (r : ℕ) (w : ObjectId) → broker b ≡ broker t.stamp.broker → Has (record { from = broker t.stamp.broker; to = repository r; message = message.Read (time_of t) w }) ever → ⊥
+        no-read r w own sent =
+            let mine_sent = subst (λ z. Has (record { from = z; to = repository r; message = message.Read (time_of t) w }) ever) (sym own) sent in
+            let says = sent-holds (record { from = broker b; to = repository r; message = message.Read (time_of t) w }) mine_sent in
+            let same : Asks (ToWrite o' v) ≡ Asks (ToRead w) = that-asks t (ToWrite o' v) (ToRead w) low stands writes says.run_is says.holds.2 in cc
+
         taken : (step : WriteStep) (r : ℕ) → broker b ≡ broker t.stamp.broker → Reason base p.front r (time_of t) step → AnsweredThere p (time_of t) o' v step
-        taken step r own (w, u, rep, a) =
+        taken step r own (inr (w, e, is, rep, a)) = absurd (no-read r w own (subst (λ k. Has (record { from = broker t.stamp.broker; to = repository k; message = message.Read (time_of t) w }) ever) rep (read-sent base p.front (time_of t) w e a)))
+        taken step r own (inl (w, u, rep, a)) =
             let sent : repositories.WriteSent ever r (time_of t) w u = (subst (λ k. Has (record { from = broker t.stamp.broker; to = repository k; message = message.Write (time_of t) w u }) ever) rep (write-sent base p.front (time_of t) w u step a), rep) in
             let same = the-same r w u sent own in
             subst (λ z. WasAnswered base p.front (time_of t) z v step) (sym same.0) (subst (λ z. WasAnswered base p.front (time_of t) w z step) (sym same.1) a)
@@ -168,13 +188,19 @@ module _ (p : AnyPlace) where
             (subst (λ z. Once (λ l. write_step (marks l) o' (time_of t) z ≡ step) (any_log p (repository r))) (sym same.1)
             (subst (λ z. Once (λ l. write_step (marks l) z (time_of t) u ≡ step) (any_log p (repository r))) (sym same.0) once))
 
+        read-by : (e : TimeParts) (r : ℕ) (w : ObjectId) → broker b ≡ broker t.stamp.broker → lt (time_of t) e ≡ true → repositories.WasReadLater ever r (any_log p (repository r)) w (time_of t) e →
+            Reason base p.front r (time_of t) (write.LaterRead e) → EndCause p b below i (outcome.LaterRead o' e)
+        read-by e r w own less (inl q) reason = absurd (no-read r w own q.0.0)
+        read-by e r w own less (inr q) reason =
+            let same = the-same r w q.0 q.1 own in
+            let told : AnsweredThere p (time_of t) o' v (write.LaterRead e) = taken (write.LaterRead e) r own reason in
+            let once : OnceThere (write.LaterRead e) = moved (write.LaterRead e) r w q.0 same q.2 in
+            inl (t, stands, (v, writes, (less, once-read (any_log p (repository o'.repository)) o' (time_of t) e v once, told)))
+
         read-cause : (e : TimeParts) (k : NodeKind) (n : ℕ) → any_post p.script base.run base.acts ever k n (any_log p (record { kind = k; number = n })) (record { to = broker b; message = message.LaterRead (time_of t) e }) →
             Has (record { from = record { kind = k; number = n }; to = broker b; message = message.LaterRead (time_of t) e }) ever → EndCause p b below i (outcome.LaterRead o' e)
         read-cause e Repository r says h =
-            let same = the-same r says.0 says.1 says.2 says.3 in
-            let told : AnsweredThere p (time_of t) o' v (write.LaterRead e) = taken (write.LaterRead e) r says.3 (post-answered base (fates_of p.trace.sent) p.front meets (record { from = repository r; to = broker b; message = message.LaterRead (time_of t) e }) h r refl) in
-            let once : OnceThere (write.LaterRead e) = moved (write.LaterRead e) r says.0 says.1 same says.5 in
-            (t, stands, (v, writes, (says.4, once-read (any_log p (repository o'.repository)) o' (time_of t) e v once, told)))
+            read-by e r says.0 says.1 says.2 says.3 (post-answered base (fates_of p.trace.sent) p.front meets (record { from = repository r; to = broker b; message = message.LaterRead (time_of t) e }) h r refl)
         read-cause e Broker n says h = absurd says.holds
 
         version-cause : (x : TimeParts) (k : NodeKind) (n : ℕ) → any_post p.script base.run base.acts ever k n (any_log p (record { kind = k; number = n })) (record { to = broker b; message = message.LaterVersion (time_of t) x }) →
@@ -186,13 +212,53 @@ module _ (p : AnyPlace) where
             (t, stands, (v, writes, (says.4, once-version (any_log p (repository o'.repository)) o' (time_of t) x v once, told)))
         version-cause x Broker n says h = absurd says.holds
 
+      -- the same of a read
+      module _ (t : Try) (o' : ObjectId) (low : nat_lt (at below).run base.run ≡ false) (stands : open_try (at below) ≡ Some t) (reads : IsReading p.script t o') where
+        no-write : (r : ℕ) (w : ObjectId) (u : Value) → broker b ≡ broker t.stamp.broker → Has (record { from = broker t.stamp.broker; to = repository r; message = message.Write (time_of t) w u }) ever → ⊥
+        no-write r w u own sent =
+            let mine_sent = subst (λ z. Has (record { from = z; to = repository r; message = message.Write (time_of t) w u }) ever) (sym own) sent in
+            let says = sent-holds (record { from = broker b; to = repository r; message = message.Write (time_of t) w u }) mine_sent in
+            let same : Asks (ToRead o') ≡ Asks (ToWrite w u) = that-asks t (ToRead o') (ToWrite w u) low stands reads says.run_is says.holds.2 in cc
+
+        same-read : (r : ℕ) (w : ObjectId) → broker b ≡ broker t.stamp.broker → Has (record { from = broker t.stamp.broker; to = repository r; message = message.Read (time_of t) w }) ever → o' ≡ w
+        same-read r w own sent =
+            let mine_sent = subst (λ z. Has (record { from = z; to = repository r; message = message.Read (time_of t) w }) ever) (sym own) sent in
+            that-read t o' (repository r) w low stands reads (sent-holds (record { from = broker b; to = repository r; message = message.Read (time_of t) w }) mine_sent)
+
+        refused-there : (e : TimeParts) (r : ℕ) → broker b ≡ broker t.stamp.broker → Reason base p.front r (time_of t) (write.LaterRead e) → RefusedThere p (time_of t) o' e
+        refused-there e r own (inl (w, u, rep, a)) =
+            absurd (no-write r w u own (subst (λ k. Has (record { from = broker t.stamp.broker; to = repository k; message = message.Write (time_of t) w u }) ever) rep (write-sent base p.front (time_of t) w u (write.LaterRead e) a)))
+        refused-there e r own (inr (w, x, is, rep, a)) =
+            let same : o' ≡ w = same-read r w own (subst (λ k. Has (record { from = broker t.stamp.broker; to = repository k; message = message.Read (time_of t) w }) ever) rep (read-sent base p.front (time_of t) w x a)) in
+            let end : x ≡ e = cc (sym is) in
+            subst (λ z. WasRefused base p.front (time_of t) z e) (sym same) (subst (λ z. WasRefused base p.front (time_of t) w z) end a)
+
+        read-ended : (e : TimeParts) (r : ℕ) (w : ObjectId) → broker b ≡ broker t.stamp.broker → lt (time_of t) e ≡ true → repositories.WasReadLater ever r (any_log p (repository r)) w (time_of t) e →
+            Reason base p.front r (time_of t) (write.LaterRead e) → EndCause p b below i (outcome.LaterRead o' e)
+        read-ended e r w own less (inr q) reason = absurd (no-write r w q.0 own q.1.0)
+        read-ended e r w own less (inl q) reason =
+            let same : o' ≡ w = same-read r w own q.0.0 in
+            let here : r ≡ o'.repository = sym q.0.1 ∙ ap (λ (z : ObjectId). z.repository) (sym same) in
+            let marked : Has (effect.Mark e) (any_log p (repository o'.repository)) = subst (λ k. Has (effect.Mark e) (any_log p (repository k))) here (once-refused (any_log p (repository r)) w (time_of t) e q.1) in
+            inr (t, stands, reads, (less, marked, refused-there e r own reason))
+
+        reading-cause : (e : TimeParts) (k : NodeKind) (n : ℕ) → any_post p.script base.run base.acts ever k n (any_log p (record { kind = k; number = n })) (record { to = broker b; message = message.LaterRead (time_of t) e }) →
+            Has (record { from = record { kind = k; number = n }; to = broker b; message = message.LaterRead (time_of t) e }) ever → EndCause p b below i (outcome.LaterRead o' e)
+        reading-cause e Repository r says h =
+            read-ended e r says.0 says.1 says.2 says.3 (post-answered base (fates_of p.trace.sent) p.front meets (record { from = repository r; to = broker b; message = message.LaterRead (time_of t) e }) h r refl)
+        reading-cause e Broker n says h = absurd says.holds
+
       by-outcome : (u : Outcome) → Rests p.script b base.run acts ever below (effect.End i u) → EndCause p b below i u
       by-outcome outcome.Committed r = tt
       by-outcome (outcome.Expired d m) r = tt
       by-outcome (outcome.LaterRead w e) r =
           let t : Try = r.0.0 in
           let came : posts.HasCome b ever (message.LaterRead (time_of t) e) = subst (λ z. OfOpen z (λ x. posts.EndCame b ever x (outcome.LaterRead w e))) r.0.1 r.1 in
-          read-cause t w r.0.2.1.0 r.2 r.0.1 r.0.2.1.1 e came.0.kind came.0.number (sent-holds (record { from = came.0; to = broker b; message = message.LaterRead (time_of t) e }) came.1) came.1
+          let holds = sent-holds (record { from = came.0; to = broker b; message = message.LaterRead (time_of t) e }) came.1 in
+          elim r.0.2.1 [
+            | inl reads ↦ reading-cause t w r.2 r.0.1 reads e came.0.kind came.0.number holds came.1
+            | inr writes ↦ read-cause t w writes.0 r.2 r.0.1 writes.1 e came.0.kind came.0.number holds came.1
+          ]
       by-outcome (outcome.LaterVersion w x) r =
           let t : Try = r.0.0 in
           let came : posts.HasCome b ever (message.LaterVersion (time_of t) x) = subst (λ z. OfOpen z (λ y. posts.EndCame b ever y (outcome.LaterVersion w x))) r.0.1 r.1 in

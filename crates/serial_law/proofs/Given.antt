@@ -6,7 +6,7 @@ use Rattle.pseudo_time.specs.StampParts.{StampParts}
 use Rattle.value_form.specs.declared.objects.ObjectId.{ObjectId}
 use Rattle.value_form.specs.declared.values.Value.{Value}
 use Rattle.object_history.specs.declared.marks.Mark.{Mark}
-use Rattle.object_history.specs.declared.marks.Mark.TheVariants.{Put, Stretch, Settle}
+use Rattle.object_history.specs.declared.marks.Mark.TheVariants.{Put, Stretch, Settle, Floor}
 use Rattle.turn_form.specs.Posts.{Post}
 use Rattle.serial_law.proofs.LogLemmas.{le-cases, in-low, in-high, in-both, marks-put, marks-in, marks-cases, put-marks}
 use Rattle.serial_law.proofs.Fold.{Deed, Deed_at, on}
@@ -114,6 +114,7 @@ sorted-of s (Put o x v ∷ m) ps h =
     sorted-if (same_stamp x.stamp s) (record { object = o; start = x; value = v }) (puts_of s m ps) (sorted-of s m ps h)
 sorted-of s (Stretch o x ∷ m) ps h = sorted-of s m ps h
 sorted-of s (Settle t c ∷ m) ps h = sorted-of s m ps h
+sorted-of s (Floor z ∷ m) ps h = sorted-of s m ps h
 
 pub sorted-to : (k : RunLogs) (s : StampParts) (n : ℕ) → Sorted (puts_to k s n)
 unfolding puts_to
@@ -139,6 +140,7 @@ in-of s [] ps v j = inr j
 in-of s (Put o x w ∷ m) ps v j = of-if (same_stamp x.stamp s) s o x w m ps (puts_of s m ps) v refl j (in-of s m ps v)
 in-of s (Stretch o x ∷ m) ps v j = in-of s m ps v j
 in-of s (Settle t c ∷ m) ps v j = in-of s m ps v j
+in-of s (Floor z ∷ m) ps v j = in-of s m ps v j
 
 old-if : (b : Bool) (w : Version) (qs : List Version) (v : Version) → In qs v → In (if b then put_in w qs else qs) v
 old-if true w qs v j = put-old w qs v j
@@ -150,6 +152,7 @@ old-of s [] ps v j = j
 old-of s (Put o x w ∷ m) ps v j = old-if (same_stamp x.stamp s) (record { object = o; start = x; value = w }) (puts_of s m ps) v (old-of s m ps v j)
 old-of s (Stretch o x ∷ m) ps v j = old-of s m ps v j
 old-of s (Settle t c ∷ m) ps v j = old-of s m ps v j
+old-of s (Floor z ∷ m) ps v j = old-of s m ps v j
 
 new-if : (b : Bool) (w : Version) (qs : List Version) → b ≡ true → In (if b then put_in w qs else qs) w
 new-if true w qs h = put-in w qs
@@ -172,6 +175,7 @@ of-in s (Put a y w ∷ m) ps o x v (inr h) e =
     old-if (same_stamp y.stamp s) (record { object = a; start = y; value = w }) (puts_of s m ps) (record { object = o; start = x; value = v }) (of-in s m ps o x v h e)
 of-in s (Stretch a y ∷ m) ps o x v h e = of-in s m ps o x v h e
 of-in s (Settle t c ∷ m) ps o x v h e = of-in s m ps o x v h e
+of-in s (Floor z ∷ m) ps o x v h e = of-in s m ps o x v h e
 
 pub in-to : (k : RunLogs) (s : StampParts) (n : ℕ) (v : Version) → In (puts_to k s n) v → (r : ℕ) × (1 ≤ r) × (r ≤ n) × Of s (marks (log_of k r)) v
 unfolding puts_to
@@ -249,6 +253,7 @@ one-value (Put a y u ∷ m) o x v w d (inr h) (inl j) = absurd (starts-at (λ z.
 one-value (Put a y u ∷ m) o x v w d (inr h) (inr j) = one-value m o x v w d.1 h j
 one-value (Stretch a y ∷ m) o x v w d h j = one-value m o x v w d h j
 one-value (Settle t c ∷ m) o x v w d h j = one-value m o x v w d h j
+one-value (Floor z ∷ m) o x v w d h j = one-value m o x v w d h j
 
 pub distinct-at : (k : RunLogs) (ever : List Post) → RunFacts k ever → (o : ObjectId) → Distinct (marks_at k o)
 distinct-at k ever f o = marks-cases k o (λ m. Distinct m) (λ i. f.distinct o.repository i) tt

@@ -6,7 +6,7 @@ use Rattle.pseudo_time.specs.StampParts.{StampParts}
 use Rattle.value_form.specs.declared.objects.ObjectId.{ObjectId}
 use Rattle.value_form.specs.declared.values.Value.{Value}
 use Rattle.object_history.specs.declared.marks.Mark.{Mark}
-use Rattle.object_history.specs.declared.marks.Mark.TheVariants.{Put, Stretch, Settle}
+use Rattle.object_history.specs.declared.marks.Mark.TheVariants.{Put, Stretch, Settle, Floor}
 use Rattle.turn_form.specs.Posts.{Post}
 use Rattle.serial_law.proofs.LogLemmas.{marks-put, in-both}
 use Rattle.serial_law.proofs.Own.{Kinds, Written, fronts, no-split, tail_of}
@@ -186,6 +186,7 @@ strict-of s (Put o x v ∷ m) ps d h k j =
     ])
 strict-of s (Stretch a y ∷ m) ps d h k j = strict-of s m ps d h k j
 strict-of s (Settle t c ∷ m) ps d h k j = strict-of s m ps d h k j
+strict-of s (Floor z ∷ m) ps d h k j = strict-of s m ps d h k j
 
 -- a put of the try's stamp in a log of the run: what its script asks there
 one-log : (k : RunLogs) (ever : List Post) → RunFacts k ever → (T : Try) → Has T k.tries → (r q : ℕ) → in_run k r ≡ true → in_run k q ≡ true →

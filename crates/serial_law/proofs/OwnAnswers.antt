@@ -1,5 +1,5 @@
 -- Each answer comes from the repository of the object that was asked for; one pseudotime carries one request; a read shows the reader's own last write.
-use Rattle.std.proofs.Common.{◌≡◌, ℕ, ◌+◌, ◌≤◌, ◌<◌, true, false, ◌||◌, List, [], ◌∷◌, ◌++◌, length, refl, sym, ◌∙◌, ap, subst, Option, Some, None, arith}
+use Rattle.std.proofs.Common.{◌≡◌, inl, inr, ℕ, ◌+◌, ◌≤◌, ◌<◌, true, false, ◌||◌, List, [], ◌∷◌, ◌++◌, length, refl, sym, ◌∙◌, ap, subst, Option, Some, None, arith}
 use Rattle.std.proofs.lemmas.List.{length-append}
 use Rattle.std.proofs.lemmas.Bool.{or_right}
 use Rattle.std.proofs.lemmas.Option.{same_Some}
@@ -123,8 +123,12 @@ module _ (p : Position) where
     stored-there Repository i h = let r = holds Repository i b (message.Stored x) h in from-there i (message.Stored x) (write-is i r.0 r.1 r.2) h
     stored-there Broker i h = absurd (holds Broker i b (message.Stored x) h)
 
+    later-is : (i : ℕ) (o : ObjectId) (e : TimeParts) → repositories.WasReadLater ever i (log_at p (repository i)) o x e → i ≡ (asked_of q).repository
+    later-is i o e (inl r) = read-is i o r.0
+    later-is i o e (inr r) = write-is i o r.0 r.1
+
     read-there : (k : NodeKind) (i : ℕ) (e : TimeParts) → Sent k i b (message.LaterRead x e) → There (message.LaterRead x e)
-    read-there Repository i e h = let r = holds Repository i b (message.LaterRead x e) h in from-there i (message.LaterRead x e) (write-is i r.0 r.1 r.2) h
+    read-there Repository i e h = let r = holds Repository i b (message.LaterRead x e) h in from-there i (message.LaterRead x e) (later-is i r.0 e r.2) h
     read-there Broker i e h = absurd (holds Broker i b (message.LaterRead x e) h)
 
     version-there : (k : NodeKind) (i : ℕ) (y : TimeParts) → Sent k i b (message.LaterVersion x y) → There (message.LaterVersion x y)
@@ -149,8 +153,11 @@ module _ (p : Position) where
         record {
           answers = λ pre post a q e asks. answer-there b t mine found pre (a ∷ post) e q asks a proven post e;
           read = λ o e is.
-              let w = played.ends (outcome.LaterRead o e) is in let k = proven.ends (outcome.LaterRead o e) is in
-              read-there b t mine found t.answers [] all (ToWrite o w.0) w.1 k.0.kind k.0.number e k.1;
+              let k = proven.ends (outcome.LaterRead o e) is in
+              elim (played.ends (outcome.LaterRead o e) is) [
+                | inl w ↦ read-there b t mine found t.answers [] all (ToRead o) w k.0.kind k.0.number e k.1
+                | inr w ↦ read-there b t mine found t.answers [] all (ToWrite o w.0) w.1 k.0.kind k.0.number e k.1
+              ];
           version = λ o y is.
               let w = played.ends (outcome.LaterVersion o y) is in let k = proven.ends (outcome.LaterVersion o y) is in
               version-there b t mine found t.answers [] all (ToWrite o w.0) w.1 k.0.kind k.0.number y k.1;

@@ -4,7 +4,7 @@ use Rattle.pseudo_time.specs.TimeParts.{TimeParts}
 use Rattle.value_form.specs.declared.objects.ObjectId.{ObjectId}
 use Rattle.value_form.specs.declared.values.Value.{Value}
 use Rattle.object_history.specs.declared.marks.Mark.{Mark}
-use Rattle.object_history.specs.declared.marks.Mark.TheVariants.{Put, Stretch, Settle}
+use Rattle.object_history.specs.declared.marks.Mark.TheVariants.{Put, Stretch, Settle, Floor}
 use Rattle.object_history.specs.History.{Seen, scan}
 use Rattle.object_history.specs.Views.{Starts, IsVersion}
 use Rattle.object_history.proofs.Words.{AtMost}
@@ -16,6 +16,7 @@ PutAt o x w [] = ⊥
 PutAt o x w (Put a y v ∷ m) = ((a ≡ o) × (y ≡ x) × (v ≡ w)) ⊎ PutAt o x w m
 PutAt o x w (Stretch a y ∷ m) = PutAt o x w m
 PutAt o x w (Settle s c ∷ m) = PutAt o x w m
+PutAt o x w (Floor z ∷ m) = PutAt o x w m
 
 -- a fact of each put, as a fact of each start
 pub starts-of : (P : TimeParts → Type 0) (o : ObjectId) (m : List Mark) → ((x : TimeParts) (v : Value) → PutAt o x v m → P x) → Starts P o m
@@ -23,6 +24,7 @@ starts-of P o [] h = tt
 starts-of P o (Put a x v ∷ m) h = (λ e. h x v (inl (e, refl, refl)), starts-of P o m (λ y w k. h y w (inr k)))
 starts-of P o (Stretch a x ∷ m) h = starts-of P o m h
 starts-of P o (Settle s c ∷ m) h = starts-of P o m h
+starts-of P o (Floor z ∷ m) h = starts-of P o m h
 
 -- and back
 pub starts-at : (P : TimeParts → Type 0) (o : ObjectId) (x : TimeParts) (w : Value) (m : List Mark) → Starts P o m → PutAt o x w m → P x
@@ -31,6 +33,7 @@ starts-at P o x w (Put a y v ∷ m) h (inl j) = subst P j.1 (h.0 j.0)
 starts-at P o x w (Put a y v ∷ m) h (inr j) = starts-at P o x w m h.1 j
 starts-at P o x w (Stretch a y ∷ m) h j = starts-at P o x w m h j
 starts-at P o x w (Settle s c ∷ m) h j = starts-at P o x w m h j
+starts-at P o x w (Floor z ∷ m) h j = starts-at P o x w m h j
 
 put-of : (o : ObjectId) (m : List Mark) (q : Seen) → IsVersion o m q → PutAt o q.start q.value m
 put-of o [] q s = absurd s
@@ -38,6 +41,7 @@ put-of o (Put a x v ∷ m) q (inl s) = inl (s.0, ap (λ (z : Seen). z.start) s.1
 put-of o (Put a x v ∷ m) q (inr s) = inr (put-of o m q s)
 put-of o (Stretch a x ∷ m) q s = put-of o m q s
 put-of o (Settle t c ∷ m) q s = put-of o m q s
+put-of o (Floor z ∷ m) q s = put-of o m q s
 
 -- what is picked is a put
 unfoldable pub Picked : ObjectId → List Mark → Option Seen → Type 0

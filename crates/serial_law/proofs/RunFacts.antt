@@ -1,5 +1,5 @@
 -- What holds of all logs and messages of a legal run gives the facts that keep it serial.
-use Rattle.std.proofs.Common.{◌≡◌, ℕ, ◌+◌, ◌≤◌, true, List, [], ◌∷◌, ◌++◌, reverse, refl, sym, ◌∙◌, ap, subst, Some, is_some, inl, inr, ◌==◌}
+use Rattle.std.proofs.Common.{◌≡◌, ◌⊎◌, ℕ, ◌+◌, ◌≤◌, true, List, [], ◌∷◌, ◌++◌, reverse, refl, sym, ◌∙◌, ap, subst, Some, is_some, inl, inr, ◌==◌}
 use Rattle.std.proofs.lemmas.List.{append-nil}
 use Rattle.pseudo_time.specs.Lists.{Every, Has}
 use Rattle.pseudo_time.specs.StampParts.{StampParts}
@@ -31,7 +31,8 @@ use Rattle.plan_form.specs.Plans.{InRange}
 use Rattle.plan_form.specs.PlanTexts.{EachAct, IsOfLanguage}
 use Rattle.repository_core.specs.Logs.{is_commit, marks}
 use Rattle.repository_laws.specs.Facts as repositories
-use Rattle.repository_laws.proofs.Logs.{tidy-distinct, learn-home, decide-home, decided-once, decide-cause}
+use Rattle.repository_laws.specs.Facts.{Once}
+use Rattle.repository_laws.proofs.Logs.{tidy-distinct, tidy-once, no-mark, learn-home, decide-home, decided-once, decide-cause}
 use Rattle.broker_core.specs.Book as books
 use Rattle.broker_core.specs.Book.{book, tries, tries_of, find}
 use Rattle.pseudo_time.specs.Nodes.{broker, repository}
@@ -54,6 +55,9 @@ use Rattle.broker_core.specs.Fits.{keep}
 use Rattle.broker_laws.proofs.Kept.{kept}
 use Rattle.serial_law.proofs.Attempts.{IsTryOf, try-of, tries-kept, try-home, of-book, found-try}
 use Rattle.object_history.specs.declared.steps.WriteStep.{WriteStep}
+use Rattle.object_history.specs.declared.steps.WriteStep.TheVariants as write
+use Rattle.object_history.specs.Answers.{write_step}
+use Rattle.pseudo_time.specs.Order.{lt}
 use Rattle.world_core.proofs.Refusals.{Says}
 use Rattle.serial_law.proofs.CauseLemmas.{once-read, once-version}
 use Rattle.serial_law.proofs.Inside.{Inside, inside-after, inside-asks, inside-script}
@@ -72,6 +76,12 @@ pub of-said : (ever : List Post) (m : Message) → Said ever m → (p : Post) ×
 of-said [] m h = absurd h
 of-said (q ∷ ever) m (inl e) = (q, inl refl, e)
 of-said (q ∷ ever) m (inr h) = let r = of-said ever m h in (r.0, inr r.1, r.2)
+
+-- ---- requests that were answered
+
+-- a write to repository r that was sent, of which `Told` holds, or a read
+abbrev pub ToldRequest : List Post → ℕ → (TimeParts → ObjectId → Value → WriteStep → Type 0) → TimeParts → WriteStep → Type 0
+ToldRequest sent r Told x step = ((o : ObjectId) × (v : Value) × repositories.WriteSent sent r x o v × Told x o v step) ⊎ ((o : ObjectId) × repositories.ReadSent sent r x o)
 
 -- ---- what the acts of a plan keep to
 
@@ -308,9 +318,9 @@ module _ (script : List ℕ → Tree) (b : Base) (plan : Plan) (logs : NodeId �
         subst (λ x. Has (record { from = r.0.from; to = r.0.to; message = x }) ever) r.2 r.1,
       )
 
-  -- `Told` holds of what a repository answered to a write that it took
+  -- `Told` holds of what a repository answered to a write that it took, unless it was a read
   abbrev TellsOf : (TimeParts → ObjectId → Value → WriteStep → Type 0) → Type 0
-  TellsOf Told = (r : ℕ) (q : Post) → Has q ever → q.from ≡ repository r → Says (λ x step. (o : ObjectId) × (v : Value) × repositories.WriteSent ever r x o v × Told x o v step) q.message
+  TellsOf Told = (r : ℕ) (q : Post) → Has q ever → q.from ≡ repository r → Says (ToldRequest ever r Told) q.message
 
   module _ (Told : TimeParts → ObjectId → Value → WriteStep → Type 0) (tells : TellsOf Told) (a : Try) (m : Mine a) where
     abbrev mine-try : Try
@@ -327,25 +337,60 @@ module _ (script : List ℕ → Tree) (b : Base) (plan : Plan) (logs : NodeId �
         let here : asks (after (script m.try.task.script) m.try.answers) ≡ Some (ToWrite p w) = asked-here mine-try m.try.answers [] (ToWrite p w) (sym (append-nil m.try.answers)) said in
         (same-write p o w v (sym (some-asks _ (ToWrite p w) here) ∙ e), here)
 
-    refused-read : (o : ObjectId) (e : TimeParts) → ((v : Value) × (stop (script m.try.task.script) m.try.answers ≡ Asks (ToWrite o v))) → PostedFrom (message.LaterRead time e) → HasReason run May Told mine-try (outcome.LaterRead o e)
-    refused-read o e asks-it (Broker, i, to, h, s) = absurd h
-    refused-read o e asks-it (Repository, i, to, h, s) =
-        let a = tells i (record { from = repository i; to = to; message = message.LaterRead time e }) s refl in
-        let r = asked-now i o h.0 asks-it.0 h.1 h.2 asks-it.1 in
-        let q = asked-now i o a.0 asks-it.0 a.1 a.2 asks-it.1 in
-        let there = once-read (log (repository i)) h.0 time e h.1 h.4 in
+    -- what the script asks at this pseudotime
+    abbrev Stands : Request → Type 0
+    Stands q = stop (script m.try.task.script) m.try.answers ≡ Asks q
+
+    -- nor was a read of it sent where it asks to write, or a write where it asks to read
+    no-read : (r : ℕ) (o p : ObjectId) (v : Value) → repositories.ReadSent ever r time p → Stands (ToWrite o v) → ⊥
+    no-read r o p v sent e =
+        let said : Asked mine-try time (ToRead p) = read-said a m time p (posted (message.Read time p) (was-said _ _ _ sent.0)) refl in
+        let here : asks (after (script m.try.task.script) m.try.answers) ≡ Some (ToRead p) = asked-here mine-try m.try.answers [] (ToRead p) (sym (append-nil m.try.answers)) said in
+        let both : Asks (ToRead p) ≡ Asks (ToWrite o v) = sym (some-asks _ (ToRead p) here) ∙ e in cc
+
+    no-write : (r : ℕ) (o p : ObjectId) (v : Value) → repositories.WriteSent ever r time p v → Stands (ToRead o) → ⊥
+    no-write r o p v sent e =
+        let said : Asked mine-try time (ToWrite p v) = write-said a m time p v (posted (message.Write time p v) (was-said _ _ _ sent.0)) refl in
+        let here : asks (after (script m.try.task.script) m.try.answers) ≡ Some (ToWrite p v) = asked-here mine-try m.try.answers [] (ToWrite p v) (sym (append-nil m.try.answers)) said in
+        let both : Asks (ToWrite p v) ≡ Asks (ToRead o) = sym (some-asks _ (ToWrite p v) here) ∙ e in cc
+
+    -- in a log of a run there is no floor
+    stretched-there : (i : ℕ) (o : ObjectId) (e : TimeParts) → Has (effect.Stretch o e) (log (repository i)) ⊎ Has (effect.Mark e) (log (repository i)) → Has (effect.Stretch o e) (log (repository i))
+    stretched-there i o e (inl h) = h
+    stretched-there i o e (inr h) = absurd (no-mark i (log (repository i)) e (f.tidy (repository i)) h)
+
+    refused-write : (i : ℕ) (o p : ObjectId) (e : TimeParts) (v w : Value) → lt time e ≡ true → Stands (ToWrite o v) → repositories.WriteSent ever i time p w → Once (λ k. write_step (marks k) p time w ≡ write.LaterRead e) (log (repository i)) →
+        ToldRequest ever i Told time (write.LaterRead e) → HasReason run May Told mine-try (outcome.LaterRead o e)
+    refused-write i o p e v w less stands sent once (inr r) = absurd (no-read i o r.0 v r.1 stands)
+    refused-write i o p e v w less stands sent once (inl t) =
+        let r = asked-now i o p v w sent stands in
+        let q = asked-now i o t.0 v t.1 t.2 stands in
+        let there = stretched-there i p e (once-read (log (repository i)) p time e w once) in
         subst (λ y. HasReason run May Told mine-try (outcome.LaterRead y e)) q.0
-        (a.1, q.1, h.3, subst (λ y. Has (effect.Stretch y e) (log (repository y.repository))) (r.0 ∙ sym q.0) (subst (λ j. Has (effect.Stretch h.0 e) (log (repository j))) (sym h.2.1) there), a.3)
+        (t.1, q.1, less, subst (λ y. Has (effect.Stretch y e) (log (repository y.repository))) (r.0 ∙ sym q.0) (subst (λ j. Has (effect.Stretch p e) (log (repository j))) (sym sent.1) there), t.3)
+
+    refused-by : (i : ℕ) (o p : ObjectId) (e : TimeParts) → lt time e ≡ true → Stands (ToRead o) ⊎ ((v : Value) × Stands (ToWrite o v)) → repositories.WasReadLater ever i (log (repository i)) p time e →
+        ToldRequest ever i Told time (write.LaterRead e) → HasReason run May Told mine-try (outcome.LaterRead o e)
+    refused-by i o p e less stands (inl r) told = absurd (tidy-once i (log (repository i)) p time e (f.tidy (repository i)) r.1)
+    refused-by i o p e less (inl reads) (inr r) told = absurd (no-write i o p r.0 r.1 reads)
+    refused-by i o p e less (inr writes) (inr r) told = refused-write i o p e writes.0 r.0 less writes.1 r.1 r.2 told
+
+    refused-read : (o : ObjectId) (e : TimeParts) → Stands (ToRead o) ⊎ ((v : Value) × Stands (ToWrite o v)) → PostedFrom (message.LaterRead time e) → HasReason run May Told mine-try (outcome.LaterRead o e)
+    refused-read o e stands (Broker, i, to, h, s) = absurd h
+    refused-read o e stands (Repository, i, to, h, s) = refused-by i o h.0 e h.1 stands h.2 (tells i (record { from = repository i; to = to; message = message.LaterRead time e }) s refl)
 
     refused-version : (o : ObjectId) (x : TimeParts) → ((v : Value) × (stop (script m.try.task.script) m.try.answers ≡ Asks (ToWrite o v))) → PostedFrom (message.LaterVersion time x) → HasReason run May Told mine-try (outcome.LaterVersion o x)
     refused-version o x asks-it (Broker, i, to, h, s) = absurd h
-    refused-version o x asks-it (Repository, i, to, h, s) =
-        let a = tells i (record { from = repository i; to = to; message = message.LaterVersion time x }) s refl in
-        let r = asked-now i o h.0 asks-it.0 h.1 h.2 asks-it.1 in
-        let q = asked-now i o a.0 asks-it.0 a.1 a.2 asks-it.1 in
-        let there = once-version (log (repository i)) h.0 time x h.1 h.4 in
-        subst (λ y. HasReason run May Told mine-try (outcome.LaterVersion y x)) q.0
-        (a.1, q.1, h.3, subst (λ y. (w : Value) × Has (effect.Put y x w) (log (repository y.repository))) (r.0 ∙ sym q.0) (subst (λ j. (w : Value) × Has (effect.Put h.0 x w) (log (repository j))) (sym h.2.1) there), a.3)
+    refused-version o x asks-it (Repository, i, to, h, s) = by (tells i (record { from = repository i; to = to; message = message.LaterVersion time x }) s refl)
+      where
+        by : ToldRequest ever i Told time (write.LaterVersion x) → HasReason run May Told mine-try (outcome.LaterVersion o x)
+        by (inr g) = absurd (no-read i o g.0 asks-it.0 g.1 asks-it.1)
+        by (inl a) =
+            let r = asked-now i o h.0 asks-it.0 h.1 h.2 asks-it.1 in
+            let q = asked-now i o a.0 asks-it.0 a.1 a.2 asks-it.1 in
+            let there = once-version (log (repository i)) h.0 time x h.1 h.4 in
+            subst (λ y. HasReason run May Told mine-try (outcome.LaterVersion y x)) q.0
+            (a.1, q.1, h.3, subst (λ y. (w : Value) × Has (effect.Put y x w) (log (repository y.repository))) (r.0 ∙ sym q.0) (subst (λ j. (w : Value) × Has (effect.Put h.0 x w) (log (repository j))) (sym h.2.1) there), a.3)
 
     try-cause : (o : Outcome) → m.try.end ≡ Some o → HasReason run May Told mine-try o
     try-cause outcome.Committed e = decided-said m.try.stamp decision.Committed (posted _ (came m.number _ ((its-proof a m).ends outcome.Committed e)))

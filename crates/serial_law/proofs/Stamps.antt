@@ -6,7 +6,7 @@ use Rattle.pseudo_time.specs.StampParts.{StampParts}
 use Rattle.value_form.specs.declared.objects.ObjectId.{ObjectId}
 use Rattle.value_form.specs.declared.values.Value.{Value}
 use Rattle.object_history.specs.declared.marks.Mark.{Mark}
-use Rattle.object_history.specs.declared.marks.Mark.TheVariants.{Put, Stretch, Settle}
+use Rattle.object_history.specs.declared.marks.Mark.TheVariants.{Put, Stretch, Settle, Floor}
 use Rattle.serial_law.proofs.LogLemmas.{le-cases, in-low, in-high, put-marks}
 use Rattle.serial_law.proofs.Premises.{put-at}
 use Rattle.pseudo_time.specs.Order.{same_stamp, stamp_lt}
@@ -106,6 +106,7 @@ rising-puts ok [] ss h = h
 rising-puts ok (Put o x v ∷ m) ss h = rising-if (ok x.stamp) x.stamp (put_stamps ok m ss) (rising-puts ok m ss h)
 rising-puts ok (Stretch o x ∷ m) ss h = rising-puts ok m ss h
 rising-puts ok (Settle t c ∷ m) ss h = rising-puts ok m ss h
+rising-puts ok (Floor z ∷ m) ss h = rising-puts ok m ss h
 
 rising-logs : (k : RunLogs) (ok : StampParts → Bool) (n : ℕ) (ss : List StampParts) → Rising ss → Rising (log_stamps k ok n ss)
 unfolding log_stamps
@@ -126,6 +127,7 @@ pass-puts ok [] ss h = h
 pass-puts ok (Put o x v ∷ m) ss h = pass-if ok (ok x.stamp) x.stamp (put_stamps ok m ss) refl (pass-puts ok m ss h)
 pass-puts ok (Stretch o x ∷ m) ss h = pass-puts ok m ss h
 pass-puts ok (Settle t c ∷ m) ss h = pass-puts ok m ss h
+pass-puts ok (Floor z ∷ m) ss h = pass-puts ok m ss h
 
 pass-logs : (k : RunLogs) (ok : StampParts → Bool) (n : ℕ) (ss : List StampParts) → All_pass ok ss → All_pass ok (log_stamps k ok n ss)
 unfolding log_stamps
@@ -146,6 +148,7 @@ keep-puts ok [] ss x j = j
 keep-puts ok (Put o y v ∷ m) ss x j = old-if (ok y.stamp) y.stamp (put_stamps ok m ss) x (keep-puts ok m ss x j)
 keep-puts ok (Stretch o y ∷ m) ss x j = keep-puts ok m ss x j
 keep-puts ok (Settle t c ∷ m) ss x j = keep-puts ok m ss x j
+keep-puts ok (Floor z ∷ m) ss x j = keep-puts ok m ss x j
 
 here-puts : (ok : StampParts → Bool) (m : List Mark) (ss : List StampParts) (o : ObjectId) (x : TimeParts) (v : Value) → PutAt o x v m → ok x.stamp ≡ true →
     InS (put_stamps ok m ss) x.stamp
@@ -157,6 +160,7 @@ here-puts ok (Put a y w ∷ m) ss o x v (inl h) e =
 here-puts ok (Put a y w ∷ m) ss o x v (inr h) e = old-if (ok y.stamp) y.stamp (put_stamps ok m ss) x.stamp (here-puts ok m ss o x v h e)
 here-puts ok (Stretch a y ∷ m) ss o x v h e = here-puts ok m ss o x v h e
 here-puts ok (Settle t c ∷ m) ss o x v h e = here-puts ok m ss o x v h e
+here-puts ok (Floor z ∷ m) ss o x v h e = here-puts ok m ss o x v h e
 
 here-logs : (k : RunLogs) (ok : StampParts → Bool) (n r : ℕ) (ss : List StampParts) (o : ObjectId) (x : TimeParts) (v : Value) → 1 ≤ r → r ≤ n →
     PutAt o x v (marks (log_of k r)) → ok x.stamp ≡ true → InS (log_stamps k ok n ss) x.stamp

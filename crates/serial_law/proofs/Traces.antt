@@ -43,7 +43,7 @@ use Rattle.world_core.specs.Walks.{Base, opened_log, sent_by, start_world, walk}
 use Rattle.world_core.specs.Legal.{Meets, base_of, fates_of}
 use Rattle.world_core.specs.Pasts.{Call, AreCalls}
 use Rattle.world_core.proofs.Refusals.{Says, says-map}
-use Rattle.world_core.proofs.Answered.{Reason, meets-front, post-answered, write-sent}
+use Rattle.world_core.proofs.Answered.{Reason, meets-front, post-answered, write-sent, read-sent}
 use Rattle.world_facts.specs.NodeRules.{kind_post, node_facts}
 use Rattle.world_facts.specs.Refines as refines
 use Rattle.world_facts.specs.Refines.{logs_at, past_sent, Ticked}
@@ -52,7 +52,7 @@ use Rattle.world_facts.proofs.Openings.{legal-facts}
 use Rattle.world_facts.specs.NodeRules.{node_turns}
 use Rattle.serial_law.specs.Facts.{RunFacts}
 use Rattle.serial_law.specs.Runs.{Position, world_at, log_at, run_at, sent_before, TickedBefore, AnsweredIn, AnsweredBefore, Acknowledges, SeesStill}
-use Rattle.serial_law.proofs.RunFacts.{run-facts, run-causes}
+use Rattle.serial_law.proofs.RunFacts.{run-facts, run-causes, ToldRequest}
 use Rattle.serial_law.specs.Causes.{Causes, IsSpent}
 use Rattle.world_facts.proofs.Growths.{each-has}
 
@@ -103,29 +103,35 @@ module _ (p : Position) where
       → (o : ObjectId) × SeesStill (marks (log_at p (repository r))) o t v
   place-sees r to t v h = let a = place-acknowledges (record { from = repository r; to = to; message = message.Value t v }) h in (a.0, sees-still (marks (log_at p (repository r))) a.0 t v a.2)
 
-  -- a write to repository r that was sent, of which `Told` holds
-  abbrev ToldWrite : List Post → ℕ → (TimeParts → ObjectId → Value → WriteStep → Type 0) → TimeParts → WriteStep → Type 0
-  ToldWrite sent r Told x step = (o : ObjectId) × (v : Value) × repositories.WriteSent sent r x o v × Told x o v step
-
   -- of a message that was sent later too
   left-told : (xs ys : List Post) (r : ℕ) (Told More : TimeParts → ObjectId → Value → WriteStep → Type 0) → ((x : TimeParts) (o : ObjectId) (v : Value) (s : WriteStep) → Told x o v s → More x o v s) →
-      (m : Message) → Says (ToldWrite xs r Told) m → Says (ToldWrite (xs ++ ys) r More) m
-  left-told xs ys r Told More f m h = says-map (ToldWrite xs r Told) (ToldWrite (xs ++ ys) r More) (λ x s z. (z.0, z.1, (has-left xs ys _ z.2.0, z.2.1), f x z.0 z.1 s z.3)) m h
+      (m : Message) → Says (ToldRequest xs r Told) m → Says (ToldRequest (xs ++ ys) r More) m
+  left-told xs ys r Told More f m h = says-map (ToldRequest xs r Told) (ToldRequest (xs ++ ys) r More) one m h
+    where
+      one : (x : TimeParts) (s : WriteStep) → ToldRequest xs r Told x s → ToldRequest (xs ++ ys) r More x s
+      one x s (inl z) = inl (z.0, z.1, (has-left xs ys _ z.2.0, z.2.1), f x z.0 z.1 s z.3)
+      one x s (inr z) = inr (z.0, (has-left xs ys _ z.1.0, z.1.1))
 
   right-told : (xs ys : List Post) (r : ℕ) (Told More : TimeParts → ObjectId → Value → WriteStep → Type 0) → ((x : TimeParts) (o : ObjectId) (v : Value) (s : WriteStep) → Told x o v s → More x o v s) →
-      (m : Message) → Says (ToldWrite ys r Told) m → Says (ToldWrite (xs ++ ys) r More) m
-  right-told xs ys r Told More f m h = says-map (ToldWrite ys r Told) (ToldWrite (xs ++ ys) r More) (λ x s z. (z.0, z.1, (has-right xs ys _ z.2.0, z.2.1), f x z.0 z.1 s z.3)) m h
+      (m : Message) → Says (ToldRequest ys r Told) m → Says (ToldRequest (xs ++ ys) r More) m
+  right-told xs ys r Told More f m h = says-map (ToldRequest ys r Told) (ToldRequest (xs ++ ys) r More) one m h
+    where
+      one : (x : TimeParts) (s : WriteStep) → ToldRequest ys r Told x s → ToldRequest (xs ++ ys) r More x s
+      one x s (inl z) = inl (z.0, z.1, (has-right xs ys _ z.2.0, z.2.1), f x z.0 z.1 s z.3)
+      one x s (inr z) = inr (z.0, (has-right xs ys _ z.1.0, z.1.1))
 
   -- what a repository refused in a run
   here-told : (b : Base) (fates : List Fate) (es : List Entry) → Meets b fates (start_world b) es → (r : ℕ) (q : Post) → Has q (sent_by (walk b es)) → q.from ≡ repository r →
-      Says (ToldWrite (sent_by (walk b es)) r (WasAnswered b es)) q.message
-  here-told b fates es meets r q h e =
-      says-map (Reason b es r) (ToldWrite (sent_by (walk b es)) r (WasAnswered b es))
-      (λ x s z. (z.0, z.1, (subst (λ j. Has (record { from = broker x.stamp.broker; to = repository j; message = message.Write x z.0 z.1 }) (sent_by (walk b es))) z.2 (write-sent b es x z.0 z.1 s z.3), z.2), z.3))
-      q.message (post-answered b fates es meets q h r e)
+      Says (ToldRequest (sent_by (walk b es)) r (WasAnswered b es)) q.message
+  here-told b fates es meets r q h e = says-map (Reason b es r) (ToldRequest (sent_by (walk b es)) r (WasAnswered b es)) one q.message (post-answered b fates es meets q h r e)
+    where
+      one : (x : TimeParts) (s : WriteStep) → Reason b es r x s → ToldRequest (sent_by (walk b es)) r (WasAnswered b es) x s
+      one x s (inl z) =
+          inl (z.0, z.1, (subst (λ j. Has (record { from = broker x.stamp.broker; to = repository j; message = message.Write x z.0 z.1 }) (sent_by (walk b es))) z.2 (write-sent b es x z.0 z.1 s z.3), z.2), z.3)
+      one x s (inr z) = inr (z.0, (subst (λ j. Has (record { from = broker x.stamp.broker; to = repository j; message = message.Read x z.0 }) (sent_by (walk b es))) z.3 (read-sent b es x z.0 z.1 z.4), z.3))
 
   -- in a run of the past
-  past-told : (cs : List Call) → AreCalls p.script cs → (r : ℕ) (q : Post) → Has q (past_sent p.script cs) → q.from ≡ repository r → Says (ToldWrite (past_sent p.script cs) r (AnsweredIn p.script cs)) q.message
+  past-told : (cs : List Call) → AreCalls p.script cs → (r : ℕ) (q : Post) → Has q (past_sent p.script cs) → q.from ≡ repository r → Says (ToldRequest (past_sent p.script cs) r (AnsweredIn p.script cs)) q.message
   past-told [] c r q h e = absurd h
   past-told (c ∷ cs) calls r q h e =
       let b : Base = base_of p.script c.plan c.trace in
@@ -135,7 +141,7 @@ module _ (p : Position) where
             (here-told b (fates_of c.trace.sent) c.trace.entries calls.1.legal.meets r q k e)
       ]
 
-  tells : (r : ℕ) (q : Post) → Has q ever → q.from ≡ repository r → Says (ToldWrite ever r (AnsweredBefore p)) q.message
+  tells : (r : ℕ) (q : Post) → Has q ever → q.from ≡ repository r → Says (ToldRequest ever r (AnsweredBefore p)) q.message
   tells r q h e =
       let b : Base = base_of p.script p.plan p.trace in
       let meets = meets-front b (fates_of p.trace.sent) (start_world b) p.front p.rest (subst (Meets b (fates_of p.trace.sent) (start_world b)) p.here p.legal.meets) in

@@ -7,7 +7,7 @@ use Rattle.pseudo_time.specs.StampParts.{StampParts}
 use Rattle.pseudo_time.specs.Order.{same_stamp}
 use Rattle.pseudo_time.specs.declared.decisions.Decision.{Decision}
 use Rattle.effect_form.specs.declared.effects.Effect.{Effect}
-use Rattle.effect_form.specs.declared.effects.Effect.TheVariants.{Put, Stretch, Begin, Decide, Learn, Run, Act, Try, Got, Acked, End}
+use Rattle.effect_form.specs.declared.effects.Effect.TheVariants.{Put, Stretch, Begin, Decide, Learn, Run, Act, Try, Got, Acked, End, Mark, Whole}
 use Rattle.repository_log.specs.Logs.{knows}
 
 with-false : (a b : Bool) → (a || b) ≡ ((a || false) || b)
@@ -27,6 +27,8 @@ knows-one (Try i p) l s = refl
 knows-one (Got k v) l s = refl
 knows-one (Acked k) l s = refl
 knows-one (End i e) l s = refl
+knows-one (Mark at) l s = refl
+knows-one Whole l s = refl
 
 pub knows-append : (l m : List Effect) (s : StampParts) → knows (l ++ m) s ≡ (knows l s || knows m s)
 unfolding knows
@@ -76,6 +78,8 @@ knows-other (Try i p) s h k = refl
 knows-other (Got m v) s h k = refl
 knows-other (Acked m) s h k = refl
 knows-other (End i e) s h k = refl
+knows-other (Mark at) s h k = refl
+knows-other Whole s h k = refl
 
 or-right : (a b : Bool) → b ≡ true → (a || b) ≡ true
 or-right true b h = refl

@@ -23,7 +23,7 @@ use Rattle.statement_form.specs.RowTexts.{script_text}
 use Rattle.serial_model.specs.Questions.{Tree, denote}
 use Rattle.plan_form.specs.declared.plans.Plan.{Plan}
 use Rattle.object_history.specs.Answers.{some_put, has_put}
-use Rattle.object_history.specs.History.{settle_of, version_count, pick, scan, stretched}
+use Rattle.object_history.specs.History.{settle_of, version_count, pick, scan, stretched, floor_of}
 use Rattle.object_history.specs.Objects.{same_object, same_value}
 use Rattle.repository_core.specs.Logs.{first_begin, decision_of}
 use Rattle.repository_core.specs.Rows.{on_message, on_begin, on_close, on_read, on_write, release, tell_askers}
@@ -175,7 +175,7 @@ begun-given = refl
 
 pub write-given : after_input base home (keeps (effect.Begin stamp 5 ∷ []) [] []) (Taking desk (message.Write (at 1) object ten))
     ≡ keeps (effect.Begin stamp 5 ∷ []) (effect.Put object (at 1) ten ∷ []) (to_desk (message.Stored (at 1)))
-unfolding gives turns.gives on_message on_write has_put some_put settle_of version_count pick scan stretched same_object same_value same_stamp lt
+unfolding gives turns.gives on_message on_write has_put some_put settle_of version_count pick scan stretched floor_of same_object same_value same_stamp lt
 write-given = refl
 
 pub stored-given : given_for task (works began begins [] []) (desks.Take home (message.Stored (at 1))) ≡ works began begins (effect.Acked 1 ∷ []) (to_home (message.Read (at 2) object))
@@ -184,7 +184,7 @@ stored-given = refl
 
 pub read-given : after_input base home (keeps (effect.Begin stamp 5 ∷ effect.Put object (at 1) ten ∷ []) [] []) (Taking desk (message.Read (at 2) object))
     ≡ keeps (effect.Begin stamp 5 ∷ effect.Put object (at 1) ten ∷ []) (effect.Stretch object (at 2) ∷ []) (to_desk (message.Value (at 2) ten))
-unfolding gives turns.gives on_message on_read has_put some_put settle_of version_count pick scan stretched same_object same_value same_stamp lt
+unfolding gives turns.gives on_message on_read has_put some_put settle_of version_count pick scan stretched floor_of same_object same_value same_stamp lt
 read-given = refl
 
 pub value-given : given_for task (works began (begins ++ effect.Acked 1 ∷ []) [] []) (desks.Take home (message.Value (at 2) ten)) ≡ works began (begins ++ effect.Acked 1 ∷ []) (effect.Got 2 ten ∷ []) (to_home (message.Commit stamp))

@@ -106,6 +106,8 @@ module _ (script : List ℕ → Tree) (me run : ℕ) (plan : List Task) where
   counts-here b (effect.Begin s d) h = refl
   counts-here b (effect.Decide s d) h = refl
   counts-here b (effect.Learn s c) h = refl
+  counts-here b (effect.Mark at) h = refl
+  counts-here b effect.Whole h = refl
   counts-here b f h = cond-true (b.run == run) _ _ h
 
   step-here : (log : List Effect) (f : Effect) (c : Bool) → ((book log).run == run) ≡ true →

@@ -203,4 +203,5 @@ other-effect k made m d (effect.Put o x v) other h = absurd (other o x v refl)
 other-effect k made m d (effect.Stretch o x) other h = record { stamps = h.stamps; tries = h.tries; writes = h.writes }
 other-effect k made m d (effect.Decide s e) other h = record { stamps = h.stamps; tries = h.tries; writes = h.writes }
 other-effect k made m d (effect.Learn s c) other h = record { stamps = h.stamps; tries = h.tries; writes = h.writes }
+other-effect k made m d (effect.Mark at) other h = record { stamps = h.stamps; tries = h.tries; writes = h.writes }
 other-effect k made m d f other h = h

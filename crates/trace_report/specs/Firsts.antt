@@ -23,6 +23,8 @@ said_by (effect.Try i s) = None
 said_by (effect.Got k v) = None
 said_by (effect.Acked k) = None
 said_by (effect.End i e) = None
+said_by (effect.Mark at) = None
+said_by effect.Whole = None
 
 unfoldable pub first_of : List Effect → StampParts → Option First
 first_of [] s = None

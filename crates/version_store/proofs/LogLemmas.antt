@@ -8,7 +8,7 @@ use Rattle.field_form.proofs.FormLaws.{some_is}
 use Rattle.value_form.specs.declared.objects.ObjectId.{ObjectId}
 use Rattle.value_form.specs.Objects.{object_cmp}
 use Rattle.effect_form.specs.declared.effects.Effect.{Effect}
-use Rattle.effect_form.specs.declared.effects.Effect.TheVariants.{Put, Stretch, Begin, Decide, Learn, Run, Act, Try, Got, Acked, End}
+use Rattle.effect_form.specs.declared.effects.Effect.TheVariants.{Put, Stretch, Begin, Decide, Learn, Run, Act, Try, Got, Acked, End, Mark, Whole}
 use Rattle.effect_form.specs.declared.effects.Place.{Place}
 use Rattle.effect_form.specs.Effects.{IsBack, IsWritten, IsEffect}
 use Rattle.version_store.specs.Entries.{Entry, Log, effects_of, put_object, is_object, last_from}
@@ -50,6 +50,8 @@ has_back (Try index stamp) back h good other = (h.0, other refl)
 has_back (Got step v) back h good other = (h.0, other refl)
 has_back (Acked step) back h good other = (h.0, other refl)
 has_back (End index outcome) back h good other = (h.0, other refl)
+has_back (Mark at) back h good other = (h.0, other refl)
+has_back Whole back h good other = (h.0, other refl)
 
 pub effects_of-append : (a b : Log) → effects_of (a ++ b) ≡ effects_of a ++ effects_of b
 effects_of-append a b = map-append (λ (e : Entry). e.effect) a b

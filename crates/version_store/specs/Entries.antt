@@ -4,7 +4,7 @@ use Rattle.std.specs.Ordering.{is_eq}
 use Rattle.value_form.specs.declared.objects.ObjectId.{ObjectId}
 use Rattle.value_form.specs.Objects.{object_cmp}
 use Rattle.effect_form.specs.declared.effects.Effect.{Effect}
-use Rattle.effect_form.specs.declared.effects.Effect.TheVariants.{Put, Stretch, Begin, Decide, Learn, Run, Act, Try, Got, Acked, End}
+use Rattle.effect_form.specs.declared.effects.Effect.TheVariants.{Put, Stretch, Begin, Decide, Learn, Run, Act, Try, Got, Acked, End, Mark, Whole}
 use Rattle.effect_form.specs.declared.effects.Place.{Place}
 
 -- an effect, where it stands, and the back place that it has there
@@ -38,6 +38,8 @@ put_object (Try index stamp) = None
 put_object (Got step v) = None
 put_object (Acked step) = None
 put_object (End index outcome) = None
+put_object (Mark at) = None
+put_object Whole = None
 
 abbrev pub is_object : Option ObjectId → ObjectId → Bool
 is_object None object = false

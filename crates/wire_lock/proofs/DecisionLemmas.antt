@@ -112,6 +112,8 @@ in-one n log (effect.Try index stamp) has = tt
 in-one n log (effect.Got step value) has = tt
 in-one n log (effect.Acked step) has = tt
 in-one n log (effect.End index outcome) has = tt
+in-one n log (effect.Mark at) has = tt
+in-one n log effect.Whole has = tt
 
 in-all : (n : NodeId) (log es : List Effect) → ((e : Effect) → Has e es → Has e log) → Every (InLog n log) (decided_by n es)
 in-all n log [] within = tt

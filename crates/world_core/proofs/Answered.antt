@@ -1,7 +1,8 @@
--- In a legal trace each refusal of a write that was sent answers a Take of that write.
+-- In a legal trace each refusal that was sent answers a Take of that write, or of that read.
 use Rattle.std.proofs.Common.{slice_get, suc, zero, inr, inl, ◌≡◌, ℕ, ◌==◌, Bool, true, false, ◌&&◌, List, [], ◌∷◌, ◌++◌, append-nil, append_assoc, map, refl, sym, ◌∙◌, ap, subst, Option, Some, None, if◌then◌else◌}
 use Rattle.std.proofs.lemmas.Bool.{eqb-true}
-use Rattle.std.specs.Prelude.{reverse}
+use Rattle.std.specs.Prelude.{◌⊎◌, reverse}
+use Rattle.std.proofs.lemmas.List.{reverse-append}
 use Rattle.std.specs.List.{filter}
 use Rattle.pseudo_time.specs.Lists.{Every, Has}
 use Rattle.pseudo_time.proofs.ListLemmas.{every-append, every-map, every-has, has-left}
@@ -21,20 +22,25 @@ use Rattle.stream_port.specs.declared.fates.Fate.{Fate}
 use Rattle.pseudo_time.specs.Nodes.{same_node, kind_number, is_broker}
 use Rattle.object_history.specs.declared.steps.WriteStep.{WriteStep}
 use Rattle.object_history.specs.declared.steps.WriteStep.TheVariants as write
-use Rattle.object_history.specs.Answers.{write_step}
+use Rattle.object_history.specs.History.{floor_of}
+use Rattle.object_history.specs.Answers.{read_step, write_step}
+use Rattle.object_history.specs.declared.steps.ReadStep.TheVariants as read
+use Rattle.object_history.specs.Views.{IsOnFloor}
 use Rattle.serial_model.specs.Questions.{Tree}
 use Rattle.repository_core.specs.Logs.{marks}
 use Rattle.repository_core.specs.Rows.{accepts, is_broker_of}
 use Rattle.repository_core.specs.Turns as turns
+use Rattle.repository_core.specs.Hands.{Hand, now}
+use Rattle.repository_core.specs.declared.waits.HeldRead.{HeldRead}
 use Rattle.world_core.specs.declared.entries.Entry.{Entry}
 use Rattle.world_core.specs.declared.entries.Entry.TheVariants.{Take, Go, Learn, Hear, Gate, Crash, Down, Tick}
-use Rattle.world_core.specs.Nodes.{Mind, Input, gives, repository, broker, leaves}
+use Rattle.world_core.specs.Nodes.{Mind, Input, Given, gives, repository, broker, leaves}
 use Rattle.world_core.specs.Nodes.Input.{Going, Taking, Learning, Hearing}
 use Rattle.world_core.specs.Walks.{Base, Life, World, Sending, numbered, all_effects, after_input, took, hears, lives_on, life_after, names, leaving, sendings_after, step, start_world, walk_from, walk, sent_by}
 use Rattle.world_core.specs.Legal.{Rule, Meets}
-use Rattle.world_core.specs.Answered.{WasAnswered}
+use Rattle.world_core.specs.Answered.{WasAnswered, WasRefused}
 use Rattle.world_core.proofs.Lives.{sent-grows}
-use Rattle.world_core.proofs.Refusals.{Says, Fine, OfWrite, on-message, on-learn, on-moment}
+use Rattle.world_core.proofs.Refusals.{Says, Fine, OfRequest, Ok, on-message, on-learn, on-moment}
 
 -- ---- nodes
 
@@ -64,28 +70,48 @@ broker-of n Broker i h = ap broker (eqb-true i n h)
 
 -- ---- what a repository gives
 
+reverse-twice : (xs : List Effect) → reverse (reverse xs) ≡ xs
+reverse-twice [] = refl
+reverse-twice (x ∷ xs) = ap reverse (reverse-append (x ∷ []) xs) ∙ reverse-append (reverse xs) (x ∷ []) ∙ ap (λ z. x ∷ z) (reverse-twice xs)
+
 module _ (P : TimeParts → WriteStep → Type 0) (script : List ℕ → Tree) (run : ℕ) (acts : List ActSpec) (r : ℕ) where
-  -- of a write that is taken the answer has P
+  -- of a request that is taken the answer has P
   abbrev MayTell : List Effect → Input → Type 0
   MayTell log Going = Unit {0}
-  MayTell log (Taking from m) = accepts r from m ≡ true → OfWrite P (reverse log) m
+  MayTell log (Taking from m) = accepts r from m ≡ true → OfRequest P (reverse log) (reverse log) m
   MayTell log (Learning s c) = Unit {0}
   MayTell log (Hearing t) = Unit {0}
 
-  gives-fine : (log : List Effect) (mind : Mind) (input : Input) → MayTell log input → Fine P (gives script run acts (repository r) log mind input).outs
+  -- what it holds isn't below the floor of its log
+  abbrev pub Over : List Effect → Mind → Type 0
+  Over log mind = Every (λ (e : TimeParts × HeldRead). IsOnFloor (marks (reverse log)) e.0) mind.hands.held
+
+  started : (log : List Effect) (mind : Mind) → Over log mind → Ok P (reverse log) (turns.hand_at r (reverse log) mind.hands)
+  started log mind over = record { past = refl; outs = tt; held = over; floors = refl }
+
+  -- what a turn leaves
+  ended : (log : List Effect) (h : Hand) → Ok P (reverse log) h → Fine P h.outs × Every (λ (e : TimeParts × HeldRead). IsOnFloor (marks (reverse (log ++ reverse h.added))) e.0) h.held
+  ended log h k =
+      let whole : reverse (log ++ reverse h.added) ≡ now h = reverse-append log (reverse h.added) ∙ ap (λ l. l ++ reverse log) (reverse-twice h.added) ∙ ap (λ l. h.added ++ l) (sym k.past) in
+      (k.outs, every-map (λ (e : TimeParts × HeldRead). IsOnFloor (marks (reverse log)) e.0) (λ (e : TimeParts × HeldRead). IsOnFloor (marks (reverse (log ++ reverse h.added))) e.0)
+      (λ e on x f. on x (k.floors ∙ ap (λ l. floor_of (marks l)) (sym whole) ∙ f)) h.held k.held)
+
+  gives-fine : (log : List Effect) (mind : Mind) (input : Input) → Over log mind → MayTell log input →
+      Fine P (gives script run acts (repository r) log mind input).outs × Over (log ++ (gives script run acts (repository r) log mind input).effects) (gives script run acts (repository r) log mind input).mind
   unfolding gives turns.gives
-  gives-fine log mind Going k = tt
-  gives-fine log mind (Taking from m) k = on-message P (turns.hand_at r (reverse log) mind.hands) from m tt k
-  gives-fine log mind (Learning s c) k = on-learn P (turns.hand_at r (reverse log) mind.hands) s c tt
-  gives-fine log mind (Hearing t) k = on-moment P (turns.hand_at r (reverse log) mind.hands) t tt
+  gives-fine log mind Going over k = (tt, subst (λ l. Over l mind) (sym (append-nil log)) over)
+  gives-fine log mind (Taking from m) over k = ended log _ (on-message P (reverse log) (turns.hand_at r (reverse log) mind.hands) from m (started log mind over) k)
+  gives-fine log mind (Learning s c) over k = ended log _ (on-learn P (reverse log) (turns.hand_at r (reverse log) mind.hands) s c (started log mind over))
+  gives-fine log mind (Hearing t) over k = ended log _ (on-moment P (reverse log) (turns.hand_at r (reverse log) mind.hands) t (started log mind over))
 
 module _ (b : Base) where
-  -- the repository answered so to a write that it took
+  -- the repository answered so to a write that it took, or so refused a read that it took
   abbrev pub Reason : List Entry → ℕ → TimeParts → WriteStep → Type 0
-  Reason es r x step = (o : ObjectId) × (v : Value) × (o.repository ≡ r) × WasAnswered b es x o v step
+  Reason es r x step = ((o : ObjectId) × (v : Value) × (o.repository ≡ r) × WasAnswered b es x o v step)
+      ⊎ ((o : ObjectId) × (e : TimeParts) × (step ≡ write.LaterRead e) × (o.repository ≡ r) × WasRefused b es x o e)
 
   reason-more : (es : List Entry) (e : Entry) (r : ℕ) (x : TimeParts) (s : WriteStep) → Reason es r x s → Reason (es ++ e ∷ []) r x s
-  reason-more es e r x s (o, v, q, a) = (
+  reason-more es e r x s (inl (o, v, q, a)) = inl (
     o,
     v,
     q,
@@ -97,6 +123,22 @@ module _ (b : Base) where
       here = ap (λ l. l ++ e ∷ []) a.here ∙ append_assoc a.before (Take (repository o.repository) a.number ∷ a.after) (e ∷ []);
       sent = a.sent;
       is_write = a.is_write;
+      answer = a.answer;
+    },
+  )
+  reason-more es e r x s (inr (o, end, is, q, a)) = inr (
+    o,
+    end,
+    is,
+    q,
+    record {
+      before = a.before;
+      number = a.number;
+      after = a.after ++ e ∷ [];
+      sending = a.sending;
+      here = ap (λ l. l ++ e ∷ []) a.here ∙ append_assoc a.before (Take (repository o.repository) a.number ∷ a.after) (e ∷ []);
+      sent = a.sent;
+      is_read = a.is_read;
       answer = a.answer;
     },
   )
@@ -124,21 +166,26 @@ module _ (b : Base) where
   abbrev pub FineSent : List Entry → Sending → Type 0
   FineSent es s = (r : ℕ) → s.post.from ≡ repository r → Says (Reason es r) s.post.message
 
+  -- what a repository holds isn't below the floor of its log
+  abbrev pub Held : Life → Type 0
+  Held l = Every (λ (e : TimeParts × HeldRead). IsOnFloor (marks (reverse (all_effects l))) e.0) l.mind.hands.held
+
   pub record Inv (es : List Entry) (w : World) : Type 0 where
     pub outs : (r : ℕ) → Fine (Reason es r) (w.life (repository r)).outs
+    pub held : (r : ℕ) → Held (w.life (repository r))
     pub sent : Every (FineSent es) w.sendings
 
   -- ---- one entry
 
   module _ (fates : List Fate) (es : List Entry) (w : World) (at : w ≡ walk b es) (inv : Inv es w) where
-    -- a write that the repository takes now
-    of-write : (r number : ℕ) (s : Sending) (from : NodeId) (m : Message) → numbered w.sendings number ≡ Some s → s.post.from ≡ from → s.post.to ≡ repository r → s.post.message ≡ m →
-        accepts r from m ≡ true → OfWrite (Reason (es ++ Take (repository r) number ∷ []) r) (reverse (all_effects (w.life (repository r)))) m
-    of-write r number s from (message.Write t o v) n f to is a =
+    -- a request that the repository takes now
+    of-request : (r number : ℕ) (s : Sending) (from : NodeId) (m : Message) → numbered w.sendings number ≡ Some s → s.post.from ≡ from → s.post.to ≡ repository r → s.post.message ≡ m →
+        accepts r from m ≡ true → OfRequest (Reason (es ++ Take (repository r) number ∷ []) r) (reverse (all_effects (w.life (repository r)))) (reverse (all_effects (w.life (repository r)))) m
+    of-request r number s from (message.Write t o v) n f to is a =
         let rep : o.repository ≡ r = eqb-true o.repository r (and-right (is_broker_of t.stamp.broker from) (o.repository == r) a) in
         let fr : from ≡ broker t.stamp.broker = broker-of t.stamp.broker from.kind from.number (and-left (is_broker_of t.stamp.broker from) (o.repository == r) a) in
         let to' : s.post.to ≡ repository o.repository = to ∙ ap repository (sym rep) in
-        let here' : es ++ Take (repository r) number ∷ [] ≡ es ++ Take (repository o.repository) number ∷ [] = ap (λ k. es ++ Take (repository k) number ∷ []) (sym rep) in (
+        let here' : es ++ Take (repository r) number ∷ [] ≡ es ++ Take (repository o.repository) number ∷ [] = ap (λ k. es ++ Take (repository k) number ∷ []) (sym rep) in inl (
           o,
           v,
           rep,
@@ -153,64 +200,90 @@ module _ (b : Base) where
             answer = ap (λ (u : World). write_step (marks (reverse (all_effects (u.life (repository o.repository))))) o t v) (sym at) ∙ ap (λ k. write_step (marks (reverse (all_effects (w.life (repository k))))) o t v) rep;
           },
         )
-    of-write r number s from (message.Begin x t) n f to is a = tt
-    of-write r number s from (message.Begun x) n f to is a = tt
-    of-write r number s from (message.Read t o) n f to is a = tt
-    of-write r number s from (message.Value t v) n f to is a = tt
-    of-write r number s from (message.Stored t) n f to is a = tt
-    of-write r number s from (message.LaterRead t x) n f to is a = tt
-    of-write r number s from (message.LaterVersion t x) n f to is a = tt
-    of-write r number s from (message.Ended t) n f to is a = tt
-    of-write r number s from (message.Commit x) n f to is a = tt
-    of-write r number s from (message.Withdraw x) n f to is a = tt
-    of-write r number s from (message.Decided x d) n f to is a = tt
-    of-write r number s from (message.Ask x) n f to is a = tt
-    of-write r number s from (message.Tell x c) n f to is a = tt
+    of-request r number s from (message.Begin x t) n f to is a = tt
+    of-request r number s from (message.Begun x) n f to is a = tt
+    of-request r number s from (message.Read t o) n f to is a = λ x refused.
+        let rep : o.repository ≡ r = eqb-true o.repository r (and-right (is_broker_of t.stamp.broker from) (o.repository == r) a) in
+        let fr : from ≡ broker t.stamp.broker = broker-of t.stamp.broker from.kind from.number (and-left (is_broker_of t.stamp.broker from) (o.repository == r) a) in
+        let to' : s.post.to ≡ repository o.repository = to ∙ ap repository (sym rep) in
+        let here' : es ++ Take (repository r) number ∷ [] ≡ es ++ Take (repository o.repository) number ∷ [] = ap (λ k. es ++ Take (repository k) number ∷ []) (sym rep) in inr (
+          o,
+          x,
+          refl,
+          rep,
+          record {
+            before = es;
+            number = number;
+            after = [];
+            sending = s;
+            here = here';
+            sent = ap (λ (u : World). numbered u.sendings number) (sym at) ∙ n;
+            is_read = λ i. record { from = (f ∙ fr) i; to = to' i; message = is i };
+            answer = ap (λ (u : World). read_step (marks (reverse (all_effects (u.life (repository o.repository))))) o t) (sym at) ∙ ap (λ k. read_step (marks (reverse (all_effects (w.life (repository k))))) o t) rep ∙ refused;
+          },
+        )
+    of-request r number s from (message.Value t v) n f to is a = tt
+    of-request r number s from (message.Stored t) n f to is a = tt
+    of-request r number s from (message.LaterRead t x) n f to is a = tt
+    of-request r number s from (message.LaterVersion t x) n f to is a = tt
+    of-request r number s from (message.Ended t) n f to is a = tt
+    of-request r number s from (message.Commit x) n f to is a = tt
+    of-request r number s from (message.Withdraw x) n f to is a = tt
+    of-request r number s from (message.Decided x d) n f to is a = tt
+    of-request r number s from (message.Ask x) n f to is a = tt
+    of-request r number s from (message.Tell x c) n f to is a = tt
 
     -- ---- lives
 
     abbrev Then : Entry → ℕ → TimeParts → WriteStep → Type 0
     Then e r = Reason (es ++ e ∷ []) r
 
-    told-fine : (e : Entry) (r : ℕ) (l : Life) (input : Input) → Fine (Then e r) l.outs → MayTell (Then e r) b.script b.run b.acts r (all_effects l) input → Fine (Then e r) (after_input b (repository r) l input).outs
-    told-fine e r l input k m =
-        every-append (λ (o : Out). Says (Then e r) o.message) l.outs (gives b.script b.run b.acts (repository r) (all_effects l) l.mind input).outs k
-        (gives-fine (Then e r) b.script b.run b.acts r (all_effects l) l.mind input m)
+    -- its messages have reasons, and what it holds isn't below the floor
+    abbrev Well : Entry → ℕ → Life → Type 0
+    Well e r l = Fine (Then e r) l.outs × Held l
 
-    hears-fine : (e : Entry) (r : ℕ) (l : Life) (o : Option ℕ) → Fine (Then e r) l.outs → Fine (Then e r) (hears b (repository r) l o).outs
-    hears-fine e r l None k = k
-    hears-fine e r l (Some m) k = told-fine e r l (Hearing m) k tt
+    told-well : (e : Entry) (r : ℕ) (l : Life) (input : Input) → Well e r l → MayTell (Then e r) b.script b.run b.acts r (all_effects l) input → Well e r (after_input b (repository r) l input)
+    told-well e r l input k m =
+        let g : Given = gives b.script b.run b.acts (repository r) (all_effects l) l.mind input in
+        let both = gives-fine (Then e r) b.script b.run b.acts r (all_effects l) l.mind input k.1 m in (
+          every-append (λ (o : Out). Says (Then e r) o.message) l.outs g.outs k.0 both.0,
+          subst (λ z. Every (λ (x : TimeParts × HeldRead). IsOnFloor (marks (reverse z)) x.0) g.mind.hands.held) (append_assoc l.gated l.fresh g.effects) both.1,
+        )
 
-    took-fine : (r number : ℕ) (s : Sending) → numbered w.sendings number ≡ Some s → s.post.to ≡ repository r →
-        Fine (Then (Take (repository r) number) r) (w.life (repository r)).outs → Fine (Then (Take (repository r) number) r) (took b (repository r) (w.life (repository r)) (Some s)).outs
-    took-fine r number s n to k =
-        told-fine (Take (repository r) number) r (w.life (repository r)) (Taking s.post.from s.post.message) k (of-write r number s s.post.from s.post.message n refl to refl)
+    hears-well : (e : Entry) (r : ℕ) (l : Life) (o : Option ℕ) → Well e r l → Well e r (hears b (repository r) l o)
+    hears-well e r l None k = k
+    hears-well e r l (Some m) k = told-well e r l (Hearing m) k tt
 
-    lives-fine : (r : ℕ) (e : Entry) → names (repository r) e ≡ true → Rule b fates w e → Fine (Then e r) (w.life (repository r)).outs → Fine (Then e r) (lives_on b w (repository r) (w.life (repository r)) e).outs
-    lives-fine r (Take node number) h rule k =
+    took-well : (r number : ℕ) (s : Sending) → numbered w.sendings number ≡ Some s → s.post.to ≡ repository r → Well (Take (repository r) number) r (w.life (repository r)) →
+        Well (Take (repository r) number) r (took b (repository r) (w.life (repository r)) (Some s))
+    took-well r number s n to k =
+        told-well (Take (repository r) number) r (w.life (repository r)) (Taking s.post.from s.post.message) k (of-request r number s s.post.from s.post.message n refl to refl)
+
+    lives-well : (r : ℕ) (e : Entry) → names (repository r) e ≡ true → Rule b fates w e → Well e r (w.life (repository r)) → Well e r (lives_on b w (repository r) (w.life (repository r)) e)
+    lives-well r (Take node number) h rule k =
         let is : node ≡ repository r = node-is node (repository r) h in
-        subst (λ (n : NodeId). Fine (Then (Take n number) r) (took b (repository r) (w.life (repository r)) (numbered w.sendings number)).outs) (sym is)
-        (subst (λ (o : Option Sending). Fine (Then (Take (repository r) number) r) (took b (repository r) (w.life (repository r)) o).outs) (sym rule.sent)
-        (took-fine r number rule.sending rule.sent (rule.to ∙ is) (subst (λ (n : NodeId). Fine (Then (Take n number) r) (w.life (repository r)).outs) is k)))
-    lives-fine r (Go node) h rule k = told-fine (Go node) r (w.life (repository r)) Going k tt
-    lives-fine r (Learn node x c) h rule k = told-fine (Learn node x c) r (w.life (repository r)) (Learning x c) k tt
-    lives-fine r (Hear node) h rule k = hears-fine (Hear node) r (w.life (repository r)) w.last k
-    lives-fine r (Gate node) h rule k = tt
-    lives-fine r (Crash node kept) h rule k = tt
-    lives-fine r (Down node cause) h rule k = k
-    lives-fine r (Tick m) h rule k = k
+        subst (λ (n : NodeId). Well (Take n number) r (took b (repository r) (w.life (repository r)) (numbered w.sendings number))) (sym is)
+        (subst (λ (o : Option Sending). Well (Take (repository r) number) r (took b (repository r) (w.life (repository r)) o)) (sym rule.sent)
+        (took-well r number rule.sending rule.sent (rule.to ∙ is) (subst (λ (n : NodeId). Well (Take n number) r (w.life (repository r))) is k)))
+    lives-well r (Go node) h rule k = told-well (Go node) r (w.life (repository r)) Going k tt
+    lives-well r (Learn node x c) h rule k = told-well (Learn node x c) r (w.life (repository r)) (Learning x c) k tt
+    lives-well r (Hear node) h rule k = hears-well (Hear node) r (w.life (repository r)) w.last k
+    lives-well r (Gate node) h rule k = (tt, subst (λ z. Every (λ (x : TimeParts × HeldRead). IsOnFloor (marks (reverse z)) x.0) (w.life (repository r)).mind.hands.held) (sym (append-nil (all_effects (w.life (repository r))))) k.1)
+    lives-well r (Crash node kept) h rule k = (tt, tt)
+    lives-well r (Down node cause) h rule k = k
+    lives-well r (Tick m) h rule k = k
 
     old-fine : (e : Entry) (r : ℕ) → Fine (Then e r) (w.life (repository r)).outs
     old-fine e r = fine-more es e r (w.life (repository r)).outs (inv.outs r)
 
-    life-fine : (e : Entry) → Rule b fates w e → (r : ℕ) → Fine (Then e r) (life_after b w e (repository r)).outs
-    life-fine e rule r = by (names (repository r) e) (w.flags (repository r)).known (λ h. lives-fine r e h rule (old-fine e r))
+    life-well : (e : Entry) → Rule b fates w e → (r : ℕ) → Well e r (life_after b w e (repository r))
+    life-well e rule r = by (names (repository r) e) (w.flags (repository r)).known (λ h. lives-well r e h rule (old-fine e r, inv.held r))
       where
-        by : (c d : Bool) → (c ≡ true → Fine (Then e r) (lives_on b w (repository r) (w.life (repository r)) e).outs) →
-            Fine (Then e r) (if c && d then lives_on b w (repository r) (w.life (repository r)) e else w.life (repository r)).outs
+        by : (c d : Bool) → (c ≡ true → Well e r (lives_on b w (repository r) (w.life (repository r)) e)) →
+            Well e r (if c && d then lives_on b w (repository r) (w.life (repository r)) e else w.life (repository r))
         by true true h = h refl
-        by true false h = old-fine e r
-        by false d h = old-fine e r
+        by true false h = (old-fine e r, inv.held r)
+        by false d h = (old-fine e r, inv.held r)
 
     -- ---- messages
 
@@ -251,7 +324,7 @@ module _ (b : Base) where
     sent-fine (Tick m) = old-sent (Tick m)
 
     step-inv : (e : Entry) → Rule b fates w e → Inv (es ++ e ∷ []) (step b w e)
-    step-inv e rule = record { outs = life-fine e rule; sent = sent-fine e }
+    step-inv e rule = record { outs = λ r. (life-well e rule r).0; held = λ r. (life-well e rule r).1; sent = sent-fine e }
 
   -- ---- a whole walk
 
@@ -273,7 +346,7 @@ module _ (b : Base) where
       (inv-from fates (front ++ e ∷ []) (step b w e) es next (step-inv fates front w at inv e m.0) m.1)
 
   start-inv : Inv [] (start_world b)
-  start-inv = record { outs = λ r. tt; sent = tt }
+  start-inv = record { outs = λ r. tt; held = λ r. tt; sent = tt }
 
   here-at : start_world b ≡ walk b []
   unfolding walk_from
@@ -328,4 +401,14 @@ write-sent b es x o v step a =
     let g = sent-grows b a.before rest in
     let here : Has a.sending.post (sent_by (walk b a.before)) = map-has (λ (s : Sending). s.post) (walk b a.before).sendings a.sending (numbered-has (walk b a.before).sendings a.number a.sending a.sent) in
     subst (λ (z : Post). Has z (sent_by (walk b es))) a.is_write
+    (subst (λ l. Has a.sending.post (sent_by (walk b l))) (sym a.here) (subst (Has a.sending.post) (sym g.1) (has-left (sent_by (walk b a.before)) g.0 a.sending.post here)))
+
+-- and so was a read that was refused
+pub read-sent : (b : Base) (es : List Entry) (x : TimeParts) (o : ObjectId) (end : TimeParts) → WasRefused b es x o end →
+    Has (record { from = broker x.stamp.broker; to = repository o.repository; message = message.Read x o }) (sent_by (walk b es))
+read-sent b es x o end a =
+    let rest = Take (repository o.repository) a.number ∷ a.after in
+    let g = sent-grows b a.before rest in
+    let here : Has a.sending.post (sent_by (walk b a.before)) = map-has (λ (s : Sending). s.post) (walk b a.before).sendings a.sending (numbered-has (walk b a.before).sendings a.number a.sending a.sent) in
+    subst (λ (z : Post). Has z (sent_by (walk b es))) a.is_read
     (subst (λ l. Has a.sending.post (sent_by (walk b l))) (sym a.here) (subst (Has a.sending.post) (sym g.1) (has-left (sent_by (walk b a.before)) g.0 a.sending.post here)))

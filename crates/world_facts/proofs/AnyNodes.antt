@@ -2,6 +2,7 @@
 use Rattle.std.proofs.Common.{◌≡◌, ℕ, ◌≤◌, length, List, [], ◌∷◌, ◌++◌, reverse, refl, sym, ap, subst, arith}
 use Rattle.std.specs.Option.{unwrap_or}
 use Rattle.pseudo_time.specs.Lists.{Every, Has}
+use Rattle.pseudo_time.proofs.ListLemmas.{every-map}
 use Rattle.pseudo_time.specs.declared.nodes.NodeId.{NodeId}
 use Rattle.pseudo_time.specs.declared.nodes.NodeKind.{NodeKind}
 use Rattle.pseudo_time.specs.declared.nodes.NodeKind.TheVariants.{Repository, Broker}
@@ -16,7 +17,9 @@ use Rattle.serial_model.specs.Questions.{Tree}
 use Rattle.plan_form.specs.declared.plans.Plan.{Plan}
 use Rattle.repository_core.specs.Hands.{Hand}
 use Rattle.repository_core.specs.Turns as hands
+use Rattle.repository_laws.specs.Facts.{HeldHolds}
 use Rattle.repository_laws.specs.AnyLogs.{Refuses, RefusesRightly}
+use Rattle.repository_laws.proofs.Posts.{held-more}
 use Rattle.repository_laws.proofs.AnyTurns.{refuses-on, refuses-more, take-fine, on-learn-fine, hear-fine, begun-fine}
 use Rattle.broker_core.specs.Turns as desks
 use Rattle.broker_core.specs.Counted.{counted}
@@ -28,7 +31,7 @@ use Rattle.broker_laws.proofs.TurnLemmas.{turn-added, cause-more}
 use Rattle.world_core.specs.declared.entries.Entry.{Entry}
 use Rattle.world_core.specs.declared.entries.Entry.TheVariants.{Tick}
 use Rattle.world_core.specs.declared.traces.Trace.{Trace}
-use Rattle.world_core.specs.Nodes.{Mind, Input, repository}
+use Rattle.world_core.specs.Nodes.{Mind, opened_mind, Input, repository}
 use Rattle.world_core.specs.Nodes.Input.{Going, Taking, Learning, Hearing}
 use Rattle.world_core.specs.Walks.{Base, sent_by, start_world, walk}
 use Rattle.world_core.specs.Legal.{Meets, Legal, base_of, fates_of}
@@ -38,7 +41,7 @@ use Rattle.world_facts.specs.Rules.{Around, Later, NodeFacts, MayInput, TurnGive
 use Rattle.world_facts.specs.Soft.SoftEvent.{Start}
 use Rattle.world_facts.specs.Refines.{Left, LogFacts, logs_at}
 use Rattle.world_facts.specs.NodeRules.{of_hand, of_desk, kind_turn, node_turns}
-use Rattle.world_facts.specs.AnyRules.{tasks_of, any_fits, any_post, any_cause, any_facts, log_opened, log_before}
+use Rattle.world_facts.specs.AnyRules.{tasks_of, any_fits, any_post, any_cause, any_mind, any_facts, log_opened, log_before}
 use Rattle.world_facts.proofs.NodeLaws.{gives-are}
 use Rattle.world_facts.proofs.Openings.{opens, facts-of}
 use Rattle.world_facts.proofs.Refinements.{walk-refines}
@@ -67,6 +70,14 @@ module _ (script : List ℕ → Tree) (run : ℕ) (acts : List ActSpec) (own : N
   post-more ever more Repository i log out h = refuses-more ever more i log out.to out.message h
   post-more ever more Broker i log out h = h
 
+  mind-more : (ever more : List Post) (k : NodeKind) (i : ℕ) (mind : Mind) → any_mind script run acts ever k i mind → any_mind script run acts (ever ++ more) k i mind
+  mind-more ever more Repository i mind h = every-map (HeldHolds ever i) (HeldHolds (ever ++ more) i) (λ e p. held-more ever more i e p) mind.hands.held h
+  mind-more ever more Broker i mind h = tt
+
+  opened-mind : (ever : List Post) (k : NodeKind) (i start : ℕ) → any_mind script run acts ever k i (opened_mind start)
+  opened-mind ever Repository i start = tt
+  opened-mind ever Broker i start = tt
+
   cause-later : (w v : Around) (k : NodeKind) (i : ℕ) (log : List Effect) (f : Effect) → Later w v → any_cause script run acts w.ever k i log f → any_cause script run acts v.ever k i log f
   cause-later w v Repository i log f l h = h
   cause-later w v Broker i log f l h =
@@ -74,14 +85,14 @@ module _ (script : List ℕ → Tree) (run : ℕ) (acts : List ActSpec) (own : N
 
   -- ---- turns
 
-  nothing-gives : (w : Around) (n : NodeId) (log : List Effect) (mind : Mind) → TurnGives F w run acts n log (record { effects = []; outs = []; mind = mind })
-  nothing-gives w n log mind = record { grew = tt; proofs = tt; mind_ok = tt; outs = tt; ready = (refl, refl) }
+  nothing-gives : (w : Around) (n : NodeId) (log : List Effect) (mind : Mind) → F.MindOk w.ever n mind → TurnGives F w run acts n log (record { effects = []; outs = []; mind = mind })
+  nothing-gives w n log mind ok = record { grew = tt; proofs = tt; mind_ok = ok; outs = tt; ready = (refl, refl) }
 
   hand-gives : (w : Around) (r : ℕ) (log : List Effect) (mind : Mind) (h : Hand) → RefusesRightly w.ever r log h → TurnGives F w run acts (repository r) log (of_hand mind h)
   hand-gives w r log mind h k = record {
     grew = grew-any (λ l f. Unit {0}) (λ l f. tt) log h.added;
     proofs = grew-any (λ l f. length (own (repository r)) ≤ length l → Unit {0}) (λ l f big. tt) log h.added;
-    mind_ok = tt;
+    mind_ok = k.held;
     outs = subst (λ l. Every (λ o. Refuses w.ever r (h.added ++ l) o.to o.message) h.outs) k.past k.outs;
     ready = (refl, refl);
   }
@@ -102,22 +113,22 @@ module _ (script : List ℕ → Tree) (run : ℕ) (acts : List ActSpec) (own : N
         ready = (refl, refl);
       }
 
-  turn-kind : (w : Around) (k : NodeKind) (i : ℕ) (log : List Effect) (mind : Mind) (input : Input) → MayInput w (record { kind = k; number = i }) input →
+  turn-kind : (w : Around) (k : NodeKind) (i : ℕ) (log : List Effect) (mind : Mind) (input : Input) → any_mind script run acts w.ever k i mind → MayInput w (record { kind = k; number = i }) input →
       TurnGives F w run acts (record { kind = k; number = i }) log (kind_turn script run acts k i log mind input)
-  turn-kind w Repository i log mind Going may = nothing-gives w (repository i) log mind
-  turn-kind w Repository i log mind (Taking from m) may = hand-gives w i log mind _ (take-fine w.ever i log (hands.hand_at i log mind.hands) from m may (begun-fine w.ever i log mind.hands))
-  turn-kind w Repository i log mind (Learning s committed) may = hand-gives w i log mind _ (on-learn-fine w.ever i log (hands.hand_at i log mind.hands) s committed (begun-fine w.ever i log mind.hands))
-  turn-kind w Repository i log mind (Hearing t) may = hand-gives w i log mind _ (hear-fine w.ever i log (hands.hand_at i log mind.hands) t (begun-fine w.ever i log mind.hands))
-  turn-kind w Broker i log mind Going may = desk-gives w i log mind desks.Go tt
-  turn-kind w Broker i log mind (Taking from m) may = desk-gives w i log mind (desks.Take from m) may
-  turn-kind w Broker i log mind (Learning s committed) may = nothing-gives w (record { kind = Broker; number = i }) log mind
-  turn-kind w Broker i log mind (Hearing t) may = desk-gives w i log mind (desks.Hear t) tt
+  turn-kind w Repository i log mind Going ok may = nothing-gives w (repository i) log mind ok
+  turn-kind w Repository i log mind (Taking from m) ok may = hand-gives w i log mind _ (take-fine w.ever i log (hands.hand_at i log mind.hands) from m may (begun-fine w.ever i log mind.hands ok))
+  turn-kind w Repository i log mind (Learning s committed) ok may = hand-gives w i log mind _ (on-learn-fine w.ever i log (hands.hand_at i log mind.hands) s committed (begun-fine w.ever i log mind.hands ok))
+  turn-kind w Repository i log mind (Hearing t) ok may = hand-gives w i log mind _ (hear-fine w.ever i log (hands.hand_at i log mind.hands) t (begun-fine w.ever i log mind.hands ok))
+  turn-kind w Broker i log mind Going ok may = desk-gives w i log mind desks.Go tt
+  turn-kind w Broker i log mind (Taking from m) ok may = desk-gives w i log mind (desks.Take from m) may
+  turn-kind w Broker i log mind (Learning s committed) ok may = nothing-gives w (record { kind = Broker; number = i }) log mind tt
+  turn-kind w Broker i log mind (Hearing t) ok may = desk-gives w i log mind (desks.Hear t) tt
 
-  turn-same : (w : Around) (r : ℕ) (a : List ActSpec) (n : NodeId) (log : List Effect) (mind : Mind) (input : Input) → r ≡ run → a ≡ acts → MayInput w n input →
+  turn-same : (w : Around) (r : ℕ) (a : List ActSpec) (n : NodeId) (log : List Effect) (mind : Mind) (input : Input) → r ≡ run → a ≡ acts → F.MindOk w.ever n mind → MayInput w n input →
       TurnGives F w r a n log (node_turns script r a n log mind input)
-  turn-same w r a n log mind input same these may =
+  turn-same w r a n log mind input same these ok may =
       subst (λ z. TurnGives F w z a n log (node_turns script z a n log mind input)) (sym same)
-      (subst (λ z. TurnGives F w run z n log (node_turns script run z n log mind input)) (sym these) (turn-kind w n.kind n.number log mind input may))
+      (subst (λ z. TurnGives F w run z n log (node_turns script run z n log mind input)) (sym these) (turn-kind w n.kind n.number log mind input ok may))
 
   any-laws : NodeLaws script (node_turns script) F
   any-laws = record {
@@ -125,10 +136,10 @@ module _ (script : List ℕ → Tree) (run : ℕ) (acts : List ActSpec) (own : N
     tidied = grown-on;
     stays = λ ever n log f out tidy fits h. post-on ever n.kind n.number log f out fits h;
     more_posts = λ ever more n log out h. post-more ever more n.kind n.number log out h;
-    more_mind = λ ever more n mind h. tt;
+    more_mind = λ ever more n mind h. mind-more ever more n.kind n.number mind h;
     later = λ w v n log f l p big. cause-later w v n.kind n.number log f l (p big);
-    opened = λ ever n start. tt;
-    turn = λ w r a n log mind input g may sender. turn-same w r a n log mind input g.ready.0 g.ready.1 may;
+    opened = λ ever n start. opened-mind ever n.kind n.number start;
+    turn = λ w r a n log mind input g may sender. turn-same w r a n log mind input g.ready.0 g.ready.1 g.mind_ok may;
     ready_below = λ r a n log f tidy fits ready. ready;
   }
 

@@ -1,6 +1,7 @@
 -- What the rules of repositories and of brokers keep over any logs, also over logs that no calls could have left. Logs stand newest first.
 use Rattle.std.specs.Prelude.{◌≡◌, ℕ, ◌≤◌, length, reverse, List, [], ◌++◌}
 use Rattle.std.specs.Option.{unwrap_or}
+use Rattle.pseudo_time.specs.Lists.{Every}
 use Rattle.pseudo_time.specs.declared.nodes.NodeId.{NodeId}
 use Rattle.pseudo_time.specs.declared.nodes.NodeKind.{NodeKind}
 use Rattle.pseudo_time.specs.declared.nodes.NodeKind.TheVariants.{Repository, Broker}
@@ -10,11 +11,12 @@ use Rattle.turn_form.specs.declared.turns.Out.{Out}
 use Rattle.turn_form.specs.Growth.{Grew}
 use Rattle.turn_form.specs.Posts.{Post}
 use Rattle.serial_model.specs.Questions.{Tree}
+use Rattle.repository_laws.specs.Facts.{HeldHolds}
 use Rattle.repository_laws.specs.AnyLogs.{Refuses}
 use Rattle.broker_core.specs.Tasks.{Task, tasks}
 use Rattle.broker_laws.specs.AnyLogs.{Joins, Rests, Says}
 use Rattle.world_core.specs.declared.traces.Trace.{Trace}
-use Rattle.world_core.specs.Nodes.{acts_of}
+use Rattle.world_core.specs.Nodes.{Mind, acts_of}
 use Rattle.world_core.specs.Walks.{opened_log}
 use Rattle.world_facts.specs.Rules.{NodeFacts}
 
@@ -44,6 +46,11 @@ module _ (script : List ℕ → Tree) (run : ℕ) (acts : List ActSpec) where
   any_cause ever Repository i log f = Unit {0}
   any_cause ever Broker i log f = Rests script i run (tasks_of i) ever log f
 
+  -- what a repository holds was sent by those who are to be answered
+  abbrev pub any_mind : List Post → NodeKind → ℕ → Mind → Type 0
+  any_mind ever Repository i mind = Every (HeldHolds ever i) mind.hands.held
+  any_mind ever Broker i mind = Unit {0}
+
   -- the logs were these when the run began
   abbrev pub any_facts : (NodeId → List Effect) → NodeFacts
   any_facts own = record {
@@ -51,7 +58,7 @@ module _ (script : List ℕ → Tree) (run : ℕ) (acts : List ActSpec) where
     Tidy = λ n. GrownFrom (any_fits n.kind n.number) (own n);
     PostOk = λ ever n log out. any_post ever n.kind n.number log out;
     Proof = λ w n log f. length (own n) ≤ length log → any_cause w.ever n.kind n.number log f;
-    MindOk = λ ever n mind. Unit {0};
+    MindOk = λ ever n mind. any_mind ever n.kind n.number mind;
     Ready = λ r a n log. (r ≡ run) × (a ≡ acts);
   }
 

@@ -4,4 +4,4 @@ use Rattle.history_text.specs.Tellings.{told_line}
 use Rattle.history_text.proofs.writing.push_versions.Given as goal
 
 abbrev pub invariant-loop-version : goal.invariant-loop-version
-invariant-loop-version l = l.out.items ≡ l.initial.out.items ++ flat_map (told_line l.settles) (take l.version-index l.versions)
+invariant-loop-version l = l.out.items ≡ l.initial.out.items ++ flat_map (told_line l.settles l.floor) (take l.version-index l.versions)

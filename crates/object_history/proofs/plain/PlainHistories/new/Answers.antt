@@ -1,5 +1,5 @@
-use Rattle.object_history.proofs.KeptLemmas.{kept-new}
+use Rattle.object_history.proofs.KeptLemmas.{whole-new, kept-new}
 use Rattle.object_history.proofs.plain.PlainHistories.new.Goals as goal
 
 pub invariant_of-result : goal.invariant_of-result
-invariant_of-result c = kept-new c.new.result.items c.new-2.result c.new-3.result c.new.ensures.items c.new-2.ensures c.new-3.ensures
+invariant_of-result c = whole-new c.new.result.items c.new-2.result c.new-3.result c.new.ensures.items (kept-new c.new.result.items c.new-2.result c.new-3.result c.new.ensures.items c.new-2.ensures c.new-3.ensures)

@@ -1,0 +1,7 @@
+//! What a retirement at a mark keeps of histories: which versions it gives up, and what a reader was
+//! answered once (Reed 1978).
+#![tactic(auto)]
+
+mod laws;
+
+pub use laws::{answers_last, retirement_gives_up, retirement_keeps_views};
