@@ -13,8 +13,11 @@ pub mod Own
 pub mod OwnAnswers
 pub mod Premises
 pub mod Puts
+pub mod ReasonRuns
 pub mod RefusedRuns
 pub mod RunFacts
+pub mod SameRuns
+pub mod SerialRuns
 pub mod Settled
 pub mod Stamps
 pub mod Talking

@@ -28,10 +28,10 @@ use Rattle.run_rounds.specs.Ends.{some_down}
 use Rattle.run_rounds.specs.Finishes.{Tellers, account_of}
 use Rattle.run_rounds.specs.Media.{Became, inner, medium_at}
 use Rattle.run_rounds.specs.Runs.{IsFirstFault, Ran}
-use Rattle.run_complete.specs.Smooth.{IsComplete, IsSmoothRun, pages_for}
-use Rattle.run_complete.proofs.PageLemmas.{blank-none}
-use Rattle.run_complete.proofs.SmoothLemmas.{complete, none-down}
-use Rattle.run_complete.proofs.StandingLemmas.{none-open}
+use Rattle.swallow_top.specs.Smooth.{IsComplete, IsSmoothRun, pages_for}
+use Rattle.swallow_top.proofs.PageLemmas.{blank-none}
+use Rattle.swallow_top.proofs.SmoothLemmas.{complete, none-down}
+use Rattle.swallow_top.proofs.StandingLemmas.{none-open}
 use Rattle.swallow_top.specs.Contract.{IsSmooth}
 use Rattle.swallow_top.specs.Shelves.{AreTaken, IsTaken, ShelfSight, WereTaken, is_missing, kept_from, medium_name}
 use Rattle.swallow_top.specs.Tellings.{status_of, status_with}

@@ -16,8 +16,8 @@ use Rattle.run_rounds.specs.declared.ends.End.{End}
 use Rattle.run_rounds.specs.declared.ends.End.TheVariants as end
 use Rattle.run_rounds.specs.Runs.{Ran, HasRanges}
 use Rattle.run_rounds.specs.Finishes.{EndsAs, Tellers, account_of}
-use Rattle.run_laws.specs.Serials.{HoldsFinals, IsSerialOver}
-use Rattle.run_laws.specs.Reasons.{HaveReasons}
+use Rattle.serial_law.specs.Serials.{HoldsFinals, IsSerialOver}
+use Rattle.serial_law.specs.Reasons.{HaveReasons}
 use Rattle.swallow_top.specs.declared.media.Kept.{Kept}
 use Rattle.swallow_top.specs.declared.reports.Wanted.{Wanted}
 use Rattle.swallow_top.specs.Contract.{AllKept, CameOf, Completes, HasNoRun, LosesNothing, RanOver, RunsPlan}

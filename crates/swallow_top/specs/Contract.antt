@@ -18,10 +18,10 @@ use Rattle.command_words.specs.declared.commands.Options.{Options}
 use Rattle.run_media.specs.Media.{Media, IsLeftAlone}
 use Rattle.run_rounds.specs.Runs.{Account, Ran, IsFirstFault}
 use Rattle.run_rounds.specs.Finishes.{IsKeptWhole}
-use Rattle.run_laws.specs.Serials.{HoldsFinals, IsSerialOver}
-use Rattle.run_laws.specs.Reasons.{HaveReasons}
+use Rattle.serial_law.specs.Serials.{HoldsFinals, IsSerialOver}
+use Rattle.serial_law.specs.Reasons.{HaveReasons}
 use Rattle.complete_law.specs.Calm.{IsPlain}
-use Rattle.run_complete.specs.Smooth.{AskAtMost, IsComplete, messages_for, pages_for}
+use Rattle.swallow_top.specs.Smooth.{AskAtMost, IsComplete, messages_for, pages_for}
 use Rattle.swallow_top.specs.declared.media.Kept.{Kept}
 use Rattle.swallow_top.specs.declared.reports.Wanted.{Wanted}
 use Rattle.swallow_top.specs.declared.stops.Stop.{Stop}
