@@ -6,7 +6,7 @@ use Rattle.std.specs.String.{string_bytes}
 use Rattle.stream_port.specs.declared.fates.Asked.{Asked}
 use Rattle.medium_port.specs.declared.memory_media.MemoryMedium.{MemoryMedium}
 use Rattle.medium_port.specs.declared.memory_shelves.MemoryShelf.{MemoryShelf}
-use Rattle.run_rounds.specs.Finishes.{account_of, tellers}
+use Rattle.swallow_top.specs.Finishes.{account_of, tellers}
 use Rattle.swallow_top.specs.Promise.{Call, Promise}
 use Rattle.laboratory.specs.Calls.{IsStarved, LabPromise, RanAs, call_made, cut}
 use Rattle.laboratory.specs.Fates.{asked_of, divisor_of, fates_are}

@@ -8,7 +8,7 @@ use Rattle.medium_port.specs.declared.memory_media.MemoryMedium.{MemoryMedium}
 use Rattle.medium_port.specs.declared.memory_shelves.MemoryShelf.{MemoryShelf}
 use Rattle.wire_lock.specs.Stories.{no_trace}
 use Rattle.run_media.specs.Media.{Media, media_with}
-use Rattle.run_rounds.specs.Finishes.{account_of, tellers}
+use Rattle.swallow_top.specs.Finishes.{account_of, tellers}
 use Rattle.swallow_top.specs.Promise.{Call, Promise}
 use Rattle.swallow_top.specs.Shelves.{ShelfSight, shelf_sight}
 use Rattle.swallow_top.specs.Written.{Sinking, GotLine}

@@ -24,3 +24,5 @@ pub mod Talking
 pub mod Times
 pub mod Traces
 pub mod WorkedRuns
+pub use Rattle.world_facts.proofs.Growths
+pub use Rattle.world_facts.proofs.Ranges

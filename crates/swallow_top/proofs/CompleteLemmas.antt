@@ -37,7 +37,7 @@ use Rattle.swallow_top.specs.Shelves.{AreTaken, IsTaken, ShelfSight, WereTaken, 
 use Rattle.swallow_top.specs.Tellings.{status_of, status_with}
 use Rattle.swallow_top.specs.Written.{Sinking}
 use Rattle.swallow_top.proofs.ShelfLemmas.{kept-has}
-use Rattle.run_starts.proofs.DealLemmas.{some-within}
+use Rattle.run_rounds.proofs.DealLemmas.{some-within}
 
 -- the status of a complete run
 pub complete-status : (plan : Plan) (t : Trace) → IsComplete plan t → status_of plan t ≡ 0

@@ -8,7 +8,7 @@ use Rattle.plan_form.specs.PlanTexts.{IsOfLanguage}
 use Rattle.world_core.specs.declared.traces.Trace.{Trace}
 use Rattle.world_core.specs.Legal.{JustNodes}
 use Rattle.world_core.specs.Readings.{IsLegal}
-use Rattle.wire_lock.specs.Stories.{no_trace}
+use Rattle.run_rounds.specs.Stories.{no_trace}
 use Rattle.command_words.specs.declared.commands.Options.{Options}
 use Rattle.run_media.specs.Media.{Media, AreBack, IsBack}
 use Rattle.run_media.specs.Places.{node_count}

@@ -39,12 +39,12 @@ use Rattle.world_core.specs.Readings.{IsLegal, gated_log, life_after}
 use Rattle.report_writer.specs.declared.records.TryOutcome.{TryOutcome}
 use Rattle.trace_report.specs.Acts.{acts_shown, counted_by, shown_end, tasks_of}
 use Rattle.trace_report.specs.Counts.{down_cause}
-use Rattle.node_turn.specs.Costs.{cost_of, costs}
-use Rattle.node_turn.specs.Lives.{IsFullFor}
-use Rattle.node_turn.proofs.TrailLemmas.{costs-append}
+use Rattle.run_rounds.specs.Costs.{cost_of, costs}
+use Rattle.run_rounds.specs.Lives.{IsFullFor}
+use Rattle.run_rounds.proofs.TrailLemmas.{costs-append}
 use Rattle.run_media.specs.Media.{Media, IsBack}
 use Rattle.run_media.specs.Places.{place_of}
-use Rattle.run_starts.proofs.AlongLemmas.{zip-at}
+use Rattle.run_rounds.proofs.AlongLemmas.{zip-at}
 use Rattle.run_rounds.specs.Ends as ends
 use Rattle.run_rounds.specs.Ends.{HasEnded, IsUnopened, some_down}
 use Rattle.run_rounds.specs.Media.{Became, inner, medium_at}
@@ -63,7 +63,7 @@ use Rattle.swallow_top.specs.Smooth.{IsComplete, IsSmoothRun, WasRefused}
 use Rattle.swallow_top.proofs.DownLemmas.{life-down}
 use Rattle.swallow_top.proofs.PageLemmas.{blank-none, clean-over, few-pages}
 use Rattle.swallow_top.proofs.StandingLemmas.{all-finished, all-tries}
-use Rattle.world_facts.proofs.Ranges.{in-range, within}
+use Rattle.serial_law.proofs.Ranges.{in-range, within}
 
 -- ---- quiet entries
 

@@ -32,7 +32,7 @@ use Rattle.trace_report.specs.Acts.{act_begun, act_shown, act_with, acts_in, act
 use Rattle.complete_law.specs.Calm.{HasOutcome, IsOver}
 use Rattle.swallow_top.specs.Finished.{AllBegun}
 use Rattle.swallow_top.specs.Smooth.{IsFinal, IsFinished}
-use Rattle.world_facts.proofs.Growths.{has-at, map-has, filter-has, has-filter, has-map}
+use Rattle.serial_law.proofs.Growths.{has-at, map-has, filter-has, has-filter, has-map}
 use Rattle.pseudo_time.proofs.ListLemmas.{every-has, has-reverse}
 
 -- ---- lists and places

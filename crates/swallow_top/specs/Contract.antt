@@ -13,7 +13,7 @@ use Rattle.plan_form.specs.declared.plan_faults.PlanKind.{PlanKind}
 use Rattle.plan_form.specs.PlanFaults.{IsPlanFault}
 use Rattle.broker_core.specs.declared.resume_faults.ResumeFault.{ResumeFault}
 use Rattle.world_core.specs.Legal.{fates_of, in_plan}
-use Rattle.wire_lock.specs.Stories.{no_trace}
+use Rattle.run_rounds.specs.Stories.{no_trace}
 use Rattle.command_words.specs.declared.commands.Options.{Options}
 use Rattle.run_media.specs.Media.{Media, IsLeftAlone}
 use Rattle.run_rounds.specs.Runs.{Account, Ran, IsFirstFault}

@@ -9,3 +9,4 @@ pub mod Shelves
 pub mod Smooth
 pub mod Tellings
 pub mod Written
+pub use Rattle.run_rounds.specs.Finishes
