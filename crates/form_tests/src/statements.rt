@@ -1,5 +1,5 @@
 use expression_form::ReadFault;
-use statement_form::{BlockFault, Builder, Flat, print_row, print_script, read_row};
+use script_form::{BlockFault, Builder, Flat, print_row, print_script, read_row};
 use std::alloc::{AllocError, Global};
 use std::test::*;
 use token_form::tokens_of;

@@ -1,9 +1,8 @@
 use effect_form::Effect;
-use message_form::Message;
+use message_form::{Message, Out, Turn};
 use pseudo_time::{NodeId, NodeKind, Stamp};
 use std::alloc::{AllocError, Global};
 use std::test::*;
-use turn_form::{Out, Turn};
 
 fn out_of(stamp: Stamp) -> Out {
     let to = NodeId {

@@ -3,13 +3,12 @@ ghost use Rattle.value_form.specs.ObjectBytes.{IsObject};
 ghost use Rattle.message_form.specs.Messages.{IsMessage};
 
 use effect_form::Effect;
-use message_form::Message;
+use message_form::{Message, Out, Turn};
 use object_history::{Mark, PlainHistories};
 use pseudo_time::{Decision, NodeId, NodeKind, PseudoTime, Stamp};
 use repository_core::{CoreFault, Repository};
 use std::alloc::Global;
 use std::test::*;
-use turn_form::{Out, Turn};
 use value_form::{ObjectId, Value};
 
 /// A stamp: its clock, its broker and its home.

@@ -9,17 +9,16 @@ ghost use Rattle.effect_form.specs.Effects.{IsIndex};
 ghost use Rattle.effect_form.specs.Outcomes.{IsOutcome};
 ghost use Rattle.script_form.specs.Printable.{IsPrintable};
 ghost use Rattle.message_form.specs.Messages.{IsMessage};
-ghost use Rattle.turn_form.specs.Ranges.{IsEffect, AreEffects};
+ghost use Rattle.message_form.specs.Ranges.{IsEffect, AreEffects};
 ghost use Rattle.broker_core.specs.Ledgers.{IsBrokerAct};
 
 use broker_core::{Broker, ResumeFault};
 use effect_form::{Effect, Outcome};
-use message_form::Message;
+use message_form::{Message, Out, Turn};
 use pseudo_time::{Decision, LAST_CLOCK, NodeId, NodeKind, PseudoTime, Stamp};
 use script_form::{law_of_lines, parse, print};
 use std::alloc::{AllocError, Global};
 use std::test::*;
-use turn_form::{Out, Turn};
 use value_form::{ActSpec, FailKind, ObjectId, Script, Value};
 
 /// The scripts of the rows.

@@ -3,12 +3,11 @@ ghost use Rattle.message_form.specs.Messages.{IsMessage};
 
 use crate::repositories::{Given, Kind, Name, Node, about, begin, named, stamp};
 use effect_form::Effect;
-use message_form::Message;
+use message_form::{Message, Out, Turn};
 use pseudo_time::{Decision, NodeId, NodeKind, Stamp};
 use record_votes::{Member, Poll, Wish};
 use std::alloc::{AllocError, Global};
 use std::test::*;
-use turn_form::{Out, Turn};
 
 /// What a message says, beside its stamp.
 #[derive(Clone, Copy)]

@@ -6,7 +6,7 @@ use Rattle.effect_form.specs.declared.effects.Effect.TheVariants.{Put, Stretch, 
 use Rattle.message_form.specs.declared.messages.Message.{Message}
 use Rattle.message_form.specs.declared.messages.Message.TheVariants as message
 use Rattle.pseudo_time.specs.declared.nodes.NodeId.{NodeId}
-use Rattle.turn_form.specs.Posts.{Post}
+use Rattle.message_form.specs.Posts.{Post}
 use Rattle.pseudo_time.specs.TimeParts.{TimeParts}
 use Rattle.value_form.specs.declared.objects.ObjectId.{ObjectId}
 use Rattle.repository_core.specs.declared.waits.HeldRead.{HeldRead}
@@ -14,8 +14,8 @@ use Rattle.repository_laws.proofs.Logs.{settled-log, viewed-log}
 use Rattle.pseudo_time.proofs.ListLemmas.{has-left}
 use Rattle.pseudo_time.specs.Lists.{Has}
 use Rattle.repository_laws.specs.Facts.{FitsLog, RestsOn, HeldHolds, WasReadLater, PostHolds}
-use Rattle.turn_form.proofs.GrowthLemmas.{grew_keeps}
-use Rattle.turn_form.specs.Growth.{Grew}
+use Rattle.message_form.proofs.GrowthLemmas.{grew_keeps}
+use Rattle.message_form.specs.Growth.{Grew}
 
 pub later-stays : (ever : List Post) (r : ℕ) (l : List Effect) (f : Effect) (o : ObjectId) (t e : TimeParts) → WasReadLater ever r l o t e → WasReadLater ever r (f ∷ l) o t e
 later-stays ever r l f o t e (inl p) = inl (p.0, inr p.1)

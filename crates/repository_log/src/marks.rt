@@ -3,7 +3,7 @@ ghost use Rattle.std.specs.Option.{option_to_list};
 ghost use Rattle.effect_form.specs.declared.effects.Effect.{Effect};
 ghost use Rattle.object_history.specs.History.{floor_of};
 ghost use Rattle.object_history.specs.Ranges.{IsMark, AreMarks};
-ghost use Rattle.turn_form.specs.Ranges.{IsEffect, AreEffects};
+ghost use Rattle.message_form.specs.Ranges.{IsEffect, AreEffects};
 ghost use Rattle.repository_log.specs.Logs as logs;
 ghost use Rattle.repository_log.specs.Logs.{HasMarks};
 

@@ -1,12 +1,11 @@
 //! One act: what the broker sends in it, what the home answers, and what happens.
 ghost use Rattle.std.specs.Prelude.{IfOk, OnOk};
 ghost use Rattle.message_form.specs.Messages.{IsMessage};
-ghost use Rattle.turn_form.specs.Ranges.{AreOuts};
+ghost use Rattle.message_form.specs.Ranges.{AreOuts};
 
-use message_form::Message;
+use message_form::{Message, Out};
 use pseudo_time::{Decision, NodeId, NodeKind, PseudoTime, Stamp};
 use std::alloc::{AllocError, Global};
-use turn_form::Out;
 use value_form::{ObjectId, Value};
 use world_core::Entry;
 

@@ -1,20 +1,19 @@
 //! What a test makes a node do whose pass it plays, and a turn of a node at work.
 ghost use Rattle.std.specs.Prelude.{◌≡◌, true, false, IfOk};
 ghost use Rattle.pseudo_time.specs.Nodes.{broker, is_broker};
-ghost use Rattle.turn_form.specs.Ranges.{AreOuts};
+ghost use Rattle.message_form.specs.Ranges.{AreOuts};
 ghost use Rattle.wire_lock.specs.Sights.{IsWirePass};
 ghost use Rattle.turn_plays.specs.Passes.{AfterTaking, IsAt};
 
 use crate::media::QuietMedium;
 use crate::messages::BROKER;
 use crate::starts::{TestNode, TestPass, TestShared};
-use message_form::Message;
+use message_form::{Message, Out};
 use node_turn::{StoredCore, Turned};
 use pseudo_time::{NodeId, Stamp};
 use std::alloc::AllocError;
 use std::sync::Wait;
 use std::test::*;
-use turn_form::Out;
 use wire_core::Taken;
 
 /// The broker goes, so that it has something to close.

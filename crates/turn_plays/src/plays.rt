@@ -3,13 +3,12 @@ use crate::media::QuietMedium;
 use crate::messages::{message_of, out_of};
 use crate::passes::{hears, sends, turns};
 use crate::starts::{TestClosed, TestNode, TestPass, TestShared, end};
-use message_form::Message;
+use message_form::{Message, Out};
 use node_turn::{StoredCore, Turned};
 use pseudo_time::NodeId;
 use std::alloc::{AllocError, Global};
 use std::sync::Wait;
 use std::test::*;
-use turn_form::Out;
 
 /// A run with one node at work, and the passes of the others, which a test plays.
 #[derive(Drop)]
@@ -30,7 +29,7 @@ pub struct Play<K: StoredCore<QuietMedium>> {
 impl<K: StoredCore<QuietMedium>> Play<K> {
     ghost use Rattle.std.specs.Prelude.{true, false, IfOk};
     ghost use Rattle.message_form.specs.Messages.{IsMessage};
-    ghost use Rattle.turn_form.specs.Ranges.{AreOuts};
+    ghost use Rattle.message_form.specs.Ranges.{AreOuts};
     ghost use Rattle.turn_plays.specs.Plays.{GoesOn};
 
     /// The node's turn, which answers this.

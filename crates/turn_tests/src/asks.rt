@@ -2,17 +2,16 @@
 //! know how it ended.
 ghost use Rattle.std.specs.Prelude.{true, false, IfOk};
 ghost use Rattle.message_form.specs.Messages.{IsMessage};
-ghost use Rattle.turn_form.specs.Ranges.{AreOuts};
+ghost use Rattle.message_form.specs.Ranges.{AreOuts};
 ghost use Rattle.turn_plays.specs.Plays.{GoesOn};
 
 use effect_form::Effect;
-use message_form::Message;
+use message_form::{Message, Out};
 use node_turn::{StoredCore, Turned};
 use pseudo_time::{PseudoTime, Stamp};
 use std::alloc::{AllocError, Global};
 use std::sync::Wait;
 use std::test::*;
-use turn_form::Out;
 use turn_plays::{
     BROKER, HOME, OBJECT, OTHER, Play, QuietMedium, TestClosed, add_out, begin_repository, found,
     hears, out_of, sends,

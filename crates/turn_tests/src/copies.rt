@@ -1,12 +1,12 @@
 //! Sixteen copies in one turn.
 ghost use Rattle.std.specs.Prelude.{IfOk};
-ghost use Rattle.turn_form.specs.Ranges.{AreOuts};
+ghost use Rattle.message_form.specs.Ranges.{AreOuts};
 
+use message_form::Out;
 use node_turn::Turned;
 use std::alloc::{AllocError, Global};
 use std::sync::Wait;
 use std::test::*;
-use turn_form::Out;
 use turn_plays::{
     BROKER, HOME, QuietMedium, TestClosed, add_out, begin_of, begin_repository, found,
 };

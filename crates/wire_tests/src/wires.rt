@@ -1,17 +1,17 @@
 //! The wire alone, over media that tell nothing.
 ghost use Rattle.std.specs.Prelude.{◌≡◌, true, IsTrue, IfOk};
-ghost use Rattle.turn_form.specs.Ranges.{AreOuts};
+ghost use Rattle.message_form.specs.Ranges.{AreOuts};
 ghost use Rattle.world_core.specs.Legal.{HasGone, is_behind};
 ghost use Rattle.wire_core.specs.Wires.{world_of, IsNew};
 ghost use Rattle.wire_tests.specs.Passes.{blank_two};
 
 use medium_port::Medium;
+use message_form::Out;
 use pseudo_time::{DownCause, NodeId, NodeKind};
 use seat_lock::{Pass, SeatLock};
 use std::alloc::{AllocError, Global};
 use std::test::*;
 use stream_port::{Clock, Fate, FateRule, Fates, FixedClock, MemoryFates};
-use turn_form::Out;
 use turn_plays::{BROKER, ENTRIES, HOME, TestWire, add_out, message_of};
 use value_form::Items;
 use wire_core::{Taken, Wire};

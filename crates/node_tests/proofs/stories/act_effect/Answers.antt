@@ -1,7 +1,7 @@
 use Rattle.std.proofs.Common.{◌≤◌, length, refl, sym, subst, arith}
 use Rattle.field_form.specs.Forms.{IsBytes}
 use Rattle.value_form.specs.Mirror.{block}
-use Rattle.script_ranges.proofs.TextByteLemmas.{script-IsBytes}
+use Rattle.serial_model.proofs.TextByteLemmas.{script-IsBytes}
 use Rattle.node_tests.proofs.stories.act_effect.Goals as goal
 
 -- the text of a script of the language is short enough, and of bytes

@@ -1,4 +1,4 @@
-use Rattle.turn_form.specs.Ranges.{IsEffect}
+use Rattle.message_form.specs.Ranges.{IsEffect}
 use Rattle.trace_logs.proofs.EndLemmas.{every-more}
 use Rattle.node_tests.proofs.stories.log_of.Goals as goal
 

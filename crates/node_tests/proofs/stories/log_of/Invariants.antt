@@ -1,4 +1,4 @@
-use Rattle.turn_form.specs.Ranges.{AreEffects}
+use Rattle.message_form.specs.Ranges.{AreEffects}
 use Rattle.node_tests.proofs.stories.log_of.Given as goal
 
 -- those so far

@@ -1,4 +1,4 @@
-use Rattle.turn_form.specs.Ranges.{AreOuts}
+use Rattle.message_form.specs.Ranges.{AreOuts}
 use Rattle.turn_tests.proofs.copies.begins_of.Given as goal
 
 abbrev pub invariant-loop-more : goal.invariant-loop-more
