@@ -188,12 +188,15 @@ build_and_compare() {
   return 1
 }
 
-# Starts the program of a crate with the words behind it. The one word `build` builds it instead.
+# Starts the program of a crate with the words behind it. One word alone may be the starter's: `build`, `--help`, `--version`.
 start() {
   local words=("${@:2}")
-  if [ "${#words[@]}" -eq 1 ] && [ "${words[0]}" = build ]; then
-    build_and_compare "$1"
-    exit
+  if [ "${#words[@]}" -eq 1 ]; then
+    case "${words[0]}" in
+    build) build_and_compare "$1"; exit ;;
+    --help) . "$top/release/help.sh" && "help_$1"; exit ;;
+    --version) . "$top/release/help.sh" && tell_version "$1"; exit ;;
+    esac
   fi
   find_program "$1" || exit 70
   [ "$program" = "$built" ] || [ ! -t 2 ] || say "the program of release/, which '$name build' builds and compares"
