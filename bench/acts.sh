@@ -1,11 +1,10 @@
 #!/usr/bin/env bash
 # Runs plans of 30, 100 and 300 acts of ten statements each, every run on a fresh folder, and prints acts
-# per second and the memory of the run beside the size of its plan. The proved program is built first.
+# per second and the memory of the run beside the size of its plan. It is the program that ./swallow starts.
 top="$(cd "$(dirname "${BASH_SOURCE[0]}")/.." && pwd)" || exit 1
 work=$(mktemp -d) || exit 1
 trap 'rm -rf "$work"' EXIT
-"$top/swallow" "$work/first" run < "$top/examples/first.plan" > /dev/null || exit 1
-program="$top/crates/swallow_main/out/swallow_main"
+. "$top/release/start.sh" && find_program swallow_main || exit 1
 cc -O2 -o "$work/measure" "$top/bench/measure.c" || exit 1
 
 plan() {

@@ -2,16 +2,15 @@
 # Times a broker that carries out acts, each request answered at once, and then opens its log again:
 # 100, 1,000 and 10,000 acts of one write, and one act of 100, 1,000 and 9,980 writes. Each line is the
 # processor time of a run, as the mean of twenty, the start of the program included, and what that is
-# for each message that the broker takes. The proved program is built first.
+# for each message that the broker takes. The program (bench/swallow_bench) is built first.
 top="$(cd "$(dirname "${BASH_SOURCE[0]}")/.." && pwd)" || exit 1
-cd "$top/crates/swallow_bench" || exit 1
-rt run -- all >&2 || exit 1
+. "$top/bench/checked.sh" && bench_program swallow_bench || exit 1
 
 # Microseconds of the processor for a run with so many acts, each of so many times so many writes.
 microseconds() {
   local TIMEFORMAT='%3U %3S' spent user system
   spent=$({ time for _ in {1..20}; do
-    out/swallow_bench brokers "$1" "$2" "$3" > /dev/null || exit 1
+    "$bench" brokers "$1" "$2" "$3" > /dev/null || exit 1
   done; } 2>&1)
   read -r user system <<< "$spent"
   echo $(((10#${user/./} + 10#${system/./}) * 50))

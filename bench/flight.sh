@@ -1,15 +1,14 @@
 #!/usr/bin/env bash
 # Times the flight with 10,000, 100,000 and a million messages, each of which is sent and taken, with
-# ticks and holds between. The proved program is built first.
+# ticks and holds between. The program (bench/swallow_bench) is built first.
 top="$(cd "$(dirname "${BASH_SOURCE[0]}")/.." && pwd)" || exit 1
-cd "$top/crates/swallow_bench" || exit 1
-rt run -- all >&2 || exit 1
+. "$top/bench/checked.sh" && bench_program swallow_bench || exit 1
 
 # Nanoseconds of one run with so many messages.
 nanoseconds() {
   local begin end
   begin=$(date +%s%N)
-  out/swallow_bench flights "$1" > /dev/null || exit 1
+  "$bench" flights "$1" > /dev/null || exit 1
   end=$(date +%s%N)
   echo $((end - begin))
 }

@@ -1,14 +1,13 @@
 #!/usr/bin/env bash
 # Times histories in version storage: 33,333 attempts, 100,000 effects, over one object, 64 and 10,000. The table is made
 # over a medium in memory, and beside it histories that keep all in memory; then 100,000 reads see the newest version of
-# their object, 1 and 8 versions back. Over a file it counts the pages that 1,000 such reads read. The proved program is
-# built first.
+# their object, 1 and 8 versions back. Over a file it counts the pages that 1,000 such reads read. The program
+# (bench/swallow_bench) is built first.
 top="$(cd "$(dirname "${BASH_SOURCE[0]}")/.." && pwd)" || exit 1
 made="$(mktemp -d)" || exit 1
 trap 'rm -r "$made"' EXIT
-(cd "$top/crates/swallow_bench" && { rt run -- all || exit 1; }) >&2 || exit 1
+. "$top/bench/checked.sh" && bench_program swallow_bench || exit 1
 cc -O2 -o "$made/measure" "$top/bench/measure.c" || exit 1
-bench="$top/crates/swallow_bench/out/swallow_bench"
 
 # Milliseconds, megabytes and reading calls of a run with these words.
 measured() {

@@ -4,12 +4,11 @@
 # Each act of a run reads 1.1, adds 1 and writes the sum to 1.1 and to 1.2. After each kill the pages of the
 # file that have a gated decision to commit are counted, and then a run that reads both objects is begun:
 # both have to be that count. The reading run withdraws its act, so it adds no such page. A fresh folder is
-# taken once fewer than 1,000 pages are blank. The proved program is built first.
+# taken once fewer than 1,000 pages are blank. It is the program that ./swallow starts.
 top="$(cd "$(dirname "${BASH_SOURCE[0]}")/.." && pwd)" || exit 1
 work=$(mktemp -d) || exit 1
 trap 'rm -rf "$work"' EXIT
-"$top/swallow" "$work/first" run < "$top/examples/first.plan" > /dev/null || exit 1
-program="$top/crates/swallow_main/out/swallow_main"
+. "$top/release/start.sh" && find_program swallow_main || exit 1
 kills=${1:-200}
 workers=${2:-1}
 folder="$work/data"

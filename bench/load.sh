@@ -1,14 +1,13 @@
 #!/usr/bin/env bash
 # The generated load of 1,000 acts (or as many as the first word says) with four workers: by the laboratory over media in memory of 8,192 pages, with losses and
-# without, and by the program over files of as many pages, and with one worker. Prints seconds and the most memory. Both proved programs are built first.
+# without, and by the program over files of as many pages, and with one worker. Prints seconds and the most memory. Both are those that ./swallow and ./swallow_lab start.
 top="$(cd "$(dirname "${BASH_SOURCE[0]}")/.." && pwd)" || exit 1
 made="$(mktemp -d)" || exit 1
 trap 'rm -r "$made"' EXIT
-"$top/swallow" "$made/first" run < "$top/examples/first.plan" > /dev/null || exit 1
-(cd "$top/crates/swallow_lab" && { rt run -- --pages 64 --lose 0 --stop 0 --words "load 7 1" || exit 1; }) >&2 || exit 1
+. "$top/release/start.sh" && find_program swallow_lab || exit 1
+lab="$program"
+find_program swallow_main || exit 1
 cc -O2 -o "$made/measure" "$top/bench/measure.c" || exit 1
-lab="$top/crates/swallow_lab/out/swallow_lab"
-program="$top/crates/swallow_main/out/swallow_main"
 count=${1:-1000}
 words="--ticks 100000 --messages 1000000"
 printf 'swallow load 7 %d\nacts %d open 0\nsum 64000\n' "$count" $((count + 1)) > "$made/wanted"

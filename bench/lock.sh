@@ -1,10 +1,10 @@
 #!/usr/bin/env bash
 # Times a million visits of the lock with 1, 2 and 4 threads beside the same work under std's Mutex,
-# in one run. The proved program is built first, and the Rust one with rustc.
+# in one run. The program (bench/lock_bench) is built first, and the Rust one with rustc.
 top="$(cd "$(dirname "${BASH_SOURCE[0]}")/.." && pwd)" || exit 1
 made="$(mktemp -d)" || exit 1
 trap 'rm -r "$made"' EXIT
-(cd "$top/crates/seat_lock" && rt lib && cd ../lock_bench && rt run -- 1) >&2 || exit 1
+. "$top/bench/checked.sh" && bench_program lock_bench || exit 1
 rustc -O -o "$made/mutex" "$top/bench/mutex.rs" || exit 1
 
 # Seconds of one run: its program and its word.
@@ -19,7 +19,7 @@ seconds() {
 echo "threads  seat_lock  std Mutex  (seconds for a million visits)"
 for threads in 1 2 4; do
   for turn in 1 2 3; do
-    echo "$threads        $(seconds "$top/crates/lock_bench/out/lock_bench" "$threads")      $(seconds "$made/mutex" "$threads")"
+    echo "$threads        $(seconds "$bench" "$threads")      $(seconds "$made/mutex" "$threads")"
   done
 done
 uptime >&2

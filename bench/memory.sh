@@ -11,6 +11,7 @@ made="$(mktemp -d)" || exit 1
 trap 'rm -rf "$made"' EXIT
 . "$top/bench/checked.sh" || exit 1
 build_checked memory "$made" quick || exit 1
+. "$top/release/start.sh" && find_program swallow_main || exit 1
 cc -O2 -Wall -shared -fPIC -o "$made/refuse.so" "$top/bench/refuse.c" || exit 1
 count=${1:-1}
 
@@ -56,9 +57,9 @@ run "three repositories" plain "$made/three"
 
 # The program over a folder, with what is set before it.
 over() {
-  env -i "$@" "$top/crates/swallow_main/out/swallow_main" "$made/folder" run < "$top/examples/first.plan"
+  env -i "$@" "$program" "$made/folder" run < "$top/examples/first.plan"
 }
-"$top/swallow" "$made/plain" run < "$top/examples/first.plan" | grep -v '^wire' > "$made/acts"
+"$program" "$made/plain" run < "$top/examples/first.plan" | grep -v '^wire' > "$made/acts"
 most=$(over LD_PRELOAD="$made/refuse.so" COUNTED=1 2>&1 > /dev/null | tail -n 1)
 for ((number = 1; number <= most; number++)); do
   rm -rf "$made/folder"

@@ -1,5 +1,5 @@
 #!/usr/bin/env bash
-# What no proof speaks of: files, folders and streams as the system has them. Runs the built program with
+# What no proof speaks of: files, folders and streams as the system has them. Runs the program that ./swallow starts with
 # closed streams, two at a time on one folder, over each mistake with a folder or a file (each has to give
 # its line on standard error), on a full file system, and ends it by kills (200, or as often as the first
 # word says: see kills.sh). It ends with a count, and with status 0 where all were right. What wants another
@@ -8,8 +8,7 @@ top="$(cd "$(dirname "${BASH_SOURCE[0]}")/.." && pwd)" || exit 1
 work=$(mktemp -d) || exit 1
 mounted=""
 trap '[ -z "$mounted" ] || umount "$mounted"; rm -rf "$work"' EXIT
-"$top/swallow" "$work/first" run < "$top/examples/first.plan" > /dev/null || exit 1
-program="$top/crates/swallow_main/out/swallow_main"
+. "$top/release/start.sh" && find_program swallow_main || exit 1
 kills=${1:-200}
 right=0 wrong=0 left=0
 

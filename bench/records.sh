@@ -1,15 +1,14 @@
 #!/usr/bin/env bash
 # Times hearing 100,000 moments with 16 unknown commit records beside 10, 1,000 and 100,000 decided
-# ones. The proved program is built first. The time to make the records is taken off.
+# ones. The program (bench/swallow_bench) is built first. The time to make the records is taken off.
 top="$(cd "$(dirname "${BASH_SOURCE[0]}")/.." && pwd)" || exit 1
-cd "$top/crates/swallow_bench" || exit 1
-rt run -- all >&2 || exit 1
+. "$top/bench/checked.sh" && bench_program swallow_bench || exit 1
 
 # Nanoseconds of one run with so many decided records and moments.
 nanoseconds() {
   local begin end
   begin=$(date +%s%N)
-  out/swallow_bench records "$1" "$2" > /dev/null || exit 1
+  "$bench" records "$1" "$2" > /dev/null || exit 1
   end=$(date +%s%N)
   echo $((end - begin))
 }

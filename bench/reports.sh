@@ -1,18 +1,17 @@
 #!/usr/bin/env bash
 # Times the report of a run by its logs: of 100, 1,000 and 10,000 acts of eight brokers, each of which
 # reads an object and writes it. Each line is what a run of the program takes that makes the plan and the
-# logs alone, and what one takes that tells the run besides, in seconds and kilobytes. The proved program
-# is built first.
+# logs alone, and what one takes that tells the run besides, in seconds and kilobytes. The program
+# (bench/swallow_bench) is built first.
 top="$(cd "$(dirname "${BASH_SOURCE[0]}")/.." && pwd)" || exit 1
 made="$(mktemp -d)" || exit 1
 trap 'rm -rf "$made"' EXIT
 cc -O2 -o "$made/measure" "$top/bench/measure.c" || exit 1
-cd "$top/crates/swallow_bench" || exit 1
-rt run -- all >&2 || exit 1
+. "$top/bench/checked.sh" && bench_program swallow_bench || exit 1
 
 # Seconds and the most kilobytes of a run with so many acts that is told so often.
 measured() {
-  "$made/measure" "$made/used" out/swallow_bench reports "$@" > /dev/null || exit 1
+  "$made/measure" "$made/used" "$bench" reports "$@" > /dev/null || exit 1
   cat "$made/used"
 }
 

@@ -2,12 +2,11 @@
 # Runs of the program over files. Processor time an act, for 1,000 acts and for 10,000 (or as often as the two
 # first words say) of one broker over one repository; syncs an act, beside SQLite's for the same changes (a write-
 # ahead log, every commit synced), counted by strace where that is there; and a plan of eight brokers, each with a
-# repository of its own, with 1, 2 and 4 workers. The proved program is built first.
+# repository of its own, with 1, 2 and 4 workers. It is the program that ./swallow starts.
 top="$(cd "$(dirname "${BASH_SOURCE[0]}")/.." && pwd)" || exit 1
 work=$(mktemp -d) || exit 1
 trap 'rm -rf "$work"' EXIT
-"$top/swallow" "$work/first" run < "$top/examples/first.plan" > /dev/null || exit 1
-program="$top/crates/swallow_main/out/swallow_main"
+. "$top/release/start.sh" && find_program swallow_main || exit 1
 few=${1:-1000}
 many=${2:-10000}
 

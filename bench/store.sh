@@ -1,13 +1,12 @@
 #!/usr/bin/env bash
 # Times a store of effects of 19 bytes: adding 16 a call to a medium in memory and to one over a file,
-# and opening a file of 4,096 full pages beside a C program that reads the same file. The proved
-# program is built first.
+# and opening a file of 4,096 full pages beside a C program that reads the same file. The program
+# (bench/swallow_bench) is built first.
 top="$(cd "$(dirname "${BASH_SOURCE[0]}")/.." && pwd)" || exit 1
 made="$(mktemp -d)" || exit 1
 trap 'rm -r "$made"' EXIT
-(cd "$top/crates/swallow_bench" && { rt run -- all || exit 1; }) >&2 || exit 1
+. "$top/bench/checked.sh" && bench_program swallow_bench || exit 1
 cc -O2 -o "$made/store" "$top/bench/store.c" || exit 1
-bench="$top/crates/swallow_bench/out/swallow_bench"
 
 cc -O2 -o "$made/measure" "$top/bench/measure.c" || exit 1
 

@@ -2,16 +2,15 @@
 # Times the reading of the durable logs off traces over 16 nodes, of up to a million entries, in which
 # each broker carries out no act, 125 or 1,249 (eight entries an act) and then asks again at each tick.
 # Each line is the processor time of a run, as the mean of ten, the making of the trace and the start of
-# the program included, and what that is for each entry. The proved program is built first.
+# the program included, and what that is for each entry. The program (bench/swallow_bench) is built first.
 top="$(cd "$(dirname "${BASH_SOURCE[0]}")/.." && pwd)" || exit 1
-cd "$top/crates/swallow_bench" || exit 1
-rt run -- all >&2 || exit 1
+. "$top/bench/checked.sh" && bench_program swallow_bench || exit 1
 
 # Microseconds of the processor for a run with so many entries, and so many acts of each broker.
 microseconds() {
   local TIMEFORMAT='%3U %3S' spent user system
   spent=$({ time for _ in {1..10}; do
-    out/swallow_bench traces "$1" "$2" > /dev/null || exit 1
+    "$bench" traces "$1" "$2" > /dev/null || exit 1
   done; } 2>&1) || exit 1
   read -r user system <<< "$spent"
   echo $(((10#${user/./} + 10#${system/./}) * 100))

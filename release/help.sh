@@ -1,0 +1,44 @@
+# What `--help` and `--version` of the starters tell.
+help_swallow_main() {
+  cat << 'TEXT'
+./swallow FOLDER run [OPTIONS] < PLAN       runs a plan over the logs in FOLDER, and writes its report
+./swallow FOLDER history OBJECT             writes the history of an object, as 1.7
+./swallow FOLDER load SEED COUNT [OPTIONS]  runs COUNT + 1 acts made from SEED, and writes a summary
+./swallow build                             proves and builds the program here, and compares it with release/
+
+--workers W    threads, 1 to 16; 1 where it isn't given
+--ticks T      the run ends after so many moments, 0 to 1,000,000; 10,000
+--messages N   the run ends after so many messages, 1 to 1,000,000; 200,000
+
+Status 0: each act has its outcome. 1: no command. 2: no plan, or a run that the folder refuses.
+3: standard input failed. 4: standard output failed. 5: an act has no outcome. 6: a node is down.
+7: no memory. 70: the program couldn't be built or started.
+
+docs/COMMANDS.md has it with examples and what to do, docs/FORMATS.md the texts of plans and reports.
+TEXT
+}
+
+help_swallow_lab() {
+  cat << 'TEXT'
+./swallow_lab --pages P --lose L --stop K --words TEXT [< PLAN]   runs over media in memory
+./swallow_lab build                proves and builds the program here, and compares it with release/
+
+--pages P      pages of each medium, 1 to 1,048,576
+--lose L       about one message in L is lost, by its number, 0 to 1,000,000; 0 loses none
+--stop K       repository 1's medium stops in the write that opens page K, 0 to 1,048,575; 0 nowhere
+--words TEXT   "run OPTIONS", "history OBJECT" or "load SEED COUNT OPTIONS", as of ./swallow
+
+The statuses are those of ./swallow. docs/COMMANDS.md has it with what to do.
+TEXT
+}
+
+tell_version() {
+  name_program "$1"
+  sum_sources "$1" || return 1
+  echo "$name, sources $sources"
+  if compare_shipped; then
+    echo "release/$name: commit $(noted Commit), $(noted Kit)"
+  else
+    echo "no program of release/ is of these sources: $differs"
+  fi
+}
