@@ -117,8 +117,7 @@ impl Index {
     /// A Floor touches no header.
     pub fn keeps_floor(&self, at: PseudoTime)
         ensures { (m : List Mark) → IsIndexed m self.now.settles self.now.heads → IsIndexed (mark.Floor at ∷ m) self.now.settles self.now.heads }
-    {
-    }
+    {}
 
     /// How the attempt was settled.
     pub fn settled(&self, stamp: Stamp) -> Option<bool>
@@ -135,12 +134,7 @@ impl Index {
     }
 
     /// What the header says of a read that isn't below the floor.
-    pub fn plan_read(
-        &self,
-        floor: Option<PseudoTime>,
-        object: ObjectId,
-        at: PseudoTime,
-    ) -> ReadPlan
+    pub fn plan_read(&self, floor: Option<PseudoTime>, object: ObjectId, at: PseudoTime) -> ReadPlan
         requires headed { (head_at self.now.heads object).odd ≡ false }
         ensures plan { (m : List Mark) → IsIndexed m self.now.settles self.now.heads → floor ≡ floor_of m → IsOnFloor m at →
             PlansRead self.now.settles m object at result }

@@ -171,8 +171,8 @@ module _ (o : ObjectId) (t : TimeParts) (v : Value) where
   came-old old m n e is low x w j = elim (new-on-floor n.base n.fresh o x w n.grew (subst (Has (Put o x w)) n.is j) e (sym (floor-base old m n) ∙ is)) [
     | inr h ↦ inr (not-below x e t low h)
     | inl h ↦ inl (elim n.came [
-        | inl b ↦ subst (Has (Put o x w)) b h
-        | inr r ↦ sub-kept old r.0 old o x w (subst (Has (Put o x w)) r.3 h)
+      | inl b ↦ subst (Has (Put o x w)) b h
+      | inr r ↦ sub-kept old r.0 old o x w (subst (Has (Put o x w)) r.3 h)
     ])
   ]
 
@@ -302,7 +302,7 @@ chain-view olds m all o t v c a w = go (stays o t v olds m c (λ x z j. a.steps 
 -- ---- the last committed version stands
 
 module _ (olds : List (List Mark)) (m all : List Mark) (o : ObjectId) (c : Chain olds m) (a : AllOf olds m all o) (sure : StampParts → Bool)
-  (no : (s : StampParts) → settle_of m s ≡ Some false → sure s ≡ false) (yes : (s : StampParts) → settle_of m s ≡ Some true → sure s ≡ true) where
+    (no : (s : StampParts) → settle_of m s ≡ Some false → sure s ≡ false) (yes : (s : StampParts) → settle_of m s ≡ Some true → sure s ≡ true) where
   stands-last : (r : Option Seen) → Standing o all r → Passes (λ x. sure x.stamp) r → Starts (λ y. sure y.stamp ≡ true → AtMost r y) o all → (q : Seen) → r ≡ Some q → Has (Put o q.start q.value) m
   stands-last None s p most q e = absurd (cc e)
   stands-last (Some r) s p most q e =

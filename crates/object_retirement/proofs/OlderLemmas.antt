@@ -60,8 +60,7 @@ module _ (m : List Mark) (at : TimeParts) (may : MayRetire m at) (d : Distinct m
   firm-stays o y v j below set (Some q) e =
       let ok : TimeParts → Bool = λ z. lt z at && is_committed (settle_of m z.stamp) in
       let passes : (lt q.start at && is_committed (settle_of m q.start.stamp)) ≡ true = subst (Passes (λ z. lt z at && is_committed (settle_of m z.stamp))) e (scan-passes ok o m) in
-      let stands : IsVersion o m q = subst (Standing o m) e (standing ok o m) in
-      (
+      let stands : IsVersion o m q = subst (Standing o m) e (standing ok o m) in (
         q,
         refl,
         starts-has (λ z. (lt z at && is_committed (settle_of m z.stamp)) ≡ true → lt q.start z ≡ false) o m y v
@@ -84,8 +83,13 @@ module _ (m : List Mark) (at : TimeParts) (may : MayRetire m at) (d : Distinct m
       go : (f : (q : Seen) × (last_firm m at o ≡ Some q) × (lt q.start x ≡ false) × (lt q.start at ≡ true) × (settle_of m q.start.stamp ≡ Some true) × Has (Put o q.start q.value) (retired m at)) →
           (b : Bool) → lt x f.0.start ≡ b → Has (Put o x v) (retired m at) ⊎ Gone (retired m at) o x
       go f true l =
-          inr (at, floor-kept m at m, below, inr (has-start (λ y. (settle_of (retired m at) y.stamp ≡ Some true) × (lt x y ≡ true) × (lt y at ≡ true)) o (retired m at) f.0.start f.0.value
-          (settle-kept m at m f.0.start.stamp ∙ f.4, l, f.3) f.5))
+          inr (
+            at,
+            floor-kept m at m,
+            below,
+            inr (has-start (λ y. (settle_of (retired m at) y.stamp ≡ Some true) × (lt x y ≡ true) × (lt y at ≡ true)) o (retired m at) f.0.start f.0.value
+                (settle-kept m at m f.0.start.stamp ∙ f.4, l, f.3) f.5),
+          )
       go f false l =
           let same : f.0.start ≡ x = lt-total f.0.start x f.2 l in
           let h = has-stands o m x v j in
@@ -134,10 +138,14 @@ put-more P o m (Floor x) j = j
 
 gone-stays : (m : List Mark) (f : Mark) (o : ObjectId) (x : TimeParts) → Fits m f → Gone m o x → Gone (f ∷ m) o x
 gone-stays m f o x fits (e, is, l, inl dead) = (e, floor-stays m f fits ∙ is, l, inl (settled-kept m f x.stamp false dead))
-gone-stays m f o x fits (e, is, l, inr j) =
-    (e, floor-stays m f fits ∙ is, l, inr (put-more _ o m f
-    (has-map (λ y. (settle_of m y.stamp ≡ Some true) × (lt x y ≡ true) × (lt y e ≡ true)) (λ y. (settle_of (f ∷ m) y.stamp ≡ Some true) × (lt x y ≡ true) × (lt y e ≡ true)) o m
-    (λ y h. (settled-kept m f y.stamp true h.0, h.1, h.2)) j)))
+gone-stays m f o x fits (e, is, l, inr j) = (
+  e,
+  floor-stays m f fits ∙ is,
+  l,
+  inr (put-more _ o m f
+      (has-map (λ y. (settle_of m y.stamp ≡ Some true) × (lt x y ≡ true) × (lt y e ≡ true)) (λ y. (settle_of (f ∷ m) y.stamp ≡ Some true) × (lt x y ≡ true) × (lt y e ≡ true)) o m
+      (λ y h. (settled-kept m f y.stamp true h.0, h.1, h.2)) j)),
+)
 
 -- under each mark that fits
 pub given-up-fits : (m old : List Mark) (f : Mark) → Fits m f → GivenUp m old → GivenUp (f ∷ m) old
@@ -150,9 +158,13 @@ gone-again : (m : List Mark) (at : TimeParts) → MayRetire m at → Distinct m 
 gone-again m at may d o x (e, is, l, inl dead) = (at, floor-kept m at m, lt-trans x e at l (may.floor e is), inl (settle-kept m at m x.stamp ∙ dead))
 gone-again m at may d o x (e, is, l, inr j) =
     let h = put-of (λ y. (settle_of m y.stamp ≡ Some true) × (lt x y ≡ true) × (lt y e ≡ true)) o m j in
-    let f = firm-stays m at may d o h.0 h.1 h.3 (lt-trans h.0 e at h.2.2 (may.floor e is)) h.2.0 (last_firm m at o) refl in
-    (at, floor-kept m at m, lt-trans x e at l (may.floor e is), inr (has-start (λ y. (settle_of (retired m at) y.stamp ≡ Some true) × (lt x y ≡ true) × (lt y at ≡ true)) o (retired m at) f.0.start f.0.value
-    (settle-kept m at m f.0.start.stamp ∙ f.4, lt-split x f.0.start h.0 h.2.1 f.2, f.3) f.5))
+    let f = firm-stays m at may d o h.0 h.1 h.3 (lt-trans h.0 e at h.2.2 (may.floor e is)) h.2.0 (last_firm m at o) refl in (
+      at,
+      floor-kept m at m,
+      lt-trans x e at l (may.floor e is),
+      inr (has-start (λ y. (settle_of (retired m at) y.stamp ≡ Some true) × (lt x y ≡ true) × (lt y at ≡ true)) o (retired m at) f.0.start f.0.value
+          (settle-kept m at m f.0.start.stamp ∙ f.4, lt-split x f.0.start h.0 h.2.1 f.2, f.3) f.5),
+    )
 
 -- and under each retirement
 pub given-up-again : (m old : List Mark) (at : TimeParts) → MayRetire m at → Distinct m → GivenUp m old → GivenUp (retired m at) old

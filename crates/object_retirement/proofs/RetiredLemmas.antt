@@ -294,7 +294,7 @@ covers-stretch o p true a x k t c = covers-top (same_object a o && same_place (p
 covers-stretch o p false a x k t c = c
 
 module _ (m : List Mark) (at : TimeParts) (o : ObjectId) (t : TimeParts) (d : Distinct m) (r r2 : Option Seen) (sr : Standing o m r) (sr2 : Standing o (retired m at) r2) (same : Same r2 r)
-  (stays : (q : Seen) → r ≡ Some q → stays_put m at o q.start q.place ≡ true) where
+    (stays : (q : Seen) → r ≡ Some q → stays_put m at o q.start q.place ≡ true) where
   -- what a Stretch fell on, it falls on still
   fell : (l : List Mark) → Distinct l → ((q : Seen) → IsVersion o l q → IsVersion o m q) → ((q : Seen) → IsVersion o (kept m at l) q → IsVersion o (retired m at) q) → (x : TimeParts) →
       same_place (place_of (sees l o x)) (place_of r) ≡ true → same_place (place_of (sees (kept m at l) o x)) (place_of r2) ≡ true

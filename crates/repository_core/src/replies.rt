@@ -56,12 +56,7 @@ impl Draft {
     }
 
     // A read below the floor is refused.
-    fn refuse(
-        &mut self,
-        from: NodeId,
-        at: PseudoTime,
-        end: PseudoTime,
-    ) -> Result<(), AllocError>
+    fn refuse(&mut self, from: NodeId, at: PseudoTime, end: PseudoTime) -> Result<(), AllocError>
         ensures { OnOk result (self.new ≡ hands.send from (message.LaterRead at end) (rows.unhold at self.old)) }
     {
         let _at_in_range = at.stamp();

@@ -92,9 +92,11 @@ module _ (P : TimeParts → WriteStep → Type 0) (script : List ℕ → Tree) (
   -- what a turn leaves
   ended : (log : List Effect) (h : Hand) → Ok P (reverse log) h → Fine P h.outs × Every (λ (e : TimeParts × HeldRead). IsOnFloor (marks (reverse (log ++ reverse h.added))) e.0) h.held
   ended log h k =
-      let whole : reverse (log ++ reverse h.added) ≡ now h = reverse-append log (reverse h.added) ∙ ap (λ l. l ++ reverse log) (reverse-twice h.added) ∙ ap (λ l. h.added ++ l) (sym k.past) in
-      (k.outs, every-map (λ (e : TimeParts × HeldRead). IsOnFloor (marks (reverse log)) e.0) (λ (e : TimeParts × HeldRead). IsOnFloor (marks (reverse (log ++ reverse h.added))) e.0)
-      (λ e on x f. on x (k.floors ∙ ap (λ l. floor_of (marks l)) (sym whole) ∙ f)) h.held k.held)
+      let whole : reverse (log ++ reverse h.added) ≡ now h = reverse-append log (reverse h.added) ∙ ap (λ l. l ++ reverse log) (reverse-twice h.added) ∙ ap (λ l. h.added ++ l) (sym k.past) in (
+        k.outs,
+        every-map (λ (e : TimeParts × HeldRead). IsOnFloor (marks (reverse log)) e.0) (λ (e : TimeParts × HeldRead). IsOnFloor (marks (reverse (log ++ reverse h.added))) e.0)
+            (λ e on x f. on x (k.floors ∙ ap (λ l. floor_of (marks l)) (sym whole) ∙ f)) h.held k.held,
+      )
 
   gives-fine : (log : List Effect) (mind : Mind) (input : Input) → Over log mind → MayTell log input →
       Fine P (gives script run acts (repository r) log mind input).outs × Over (log ++ (gives script run acts (repository r) log mind input).effects) (gives script run acts (repository r) log mind input).mind
