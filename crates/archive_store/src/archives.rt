@@ -37,16 +37,16 @@ impl Model for Archive {
 
     ghost view = { λ a. map (λ log. log.items) a.logs.items };
 
-    ghost invariant = { λ a. (0 < length a.logs.items) × (length a.logs.items ≤ 1000) };
+    ghost invariant = { λ a. (0 < length a.logs.items) × (length a.logs.items ≤ 4294967295) };
 }
 
 impl Archive {
     ghost use Rattle.archive_store.specs.Joined.{joined, holder_of};
 
-    /// The archive of these logs, of which there are as many as a repository may have volumes.
+    /// The archive of these logs, at least one, in the order of their volumes.
     pub fn of(alloc: Global, logs: Vec<Vec<Mark>>) -> Archive
         requires some { 0 < length logs.items }
-        requires within { length logs.items ≤ 1000 }
+        requires within { length logs.items ≤ 4294967295 }
         ensures { result ≡ map (λ log. log.items) logs.items }
     {
         Archive { logs, alloc }

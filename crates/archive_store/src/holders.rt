@@ -33,7 +33,7 @@ fn has_put(log: &[Mark], object: ObjectId, start: PseudoTime) -> bool
 
 /// The place of the last log that has a put of the object with this start.
 pub fn holder_among(logs: &[Vec<Mark>], object: ObjectId, start: PseudoTime) -> Option<u32>
-    requires { length logs.now ≤ 1000 }
+    requires { length logs.now ≤ 4294967295 }
     ensures { result ≡ holder_of object start (map (λ log. log.items) logs.now) }
 {
     let mut place = logs.len();
