@@ -1,0 +1,4 @@
+pub mod ArchiveLemmas
+pub mod HolderLemmas
+pub mod JoinLemmas
+pub mod LatestLemmas

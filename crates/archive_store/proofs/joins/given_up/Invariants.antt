@@ -1,0 +1,9 @@
+use Rattle.std.proofs.Common.{◌≡◌, ◌++◌, List, map, drop, reverse}
+use Rattle.object_history.specs.declared.marks.Mark.{Mark}
+use Rattle.archive_store.specs.Joined.{all_firsts, given_up}
+use Rattle.archive_store.specs.Met.{Meets}
+use Rattle.archive_store.proofs.joins.given_up.Given as goal
+
+-- what was added, with what the logs that are left add
+abbrev pub invariant-loop-log : goal.invariant-loop-log
+invariant-loop-log l = (m : List Mark) × Meets l.met m × (l.marks.items ++ all_firsts l.floor m (map (λ log. log.items) (drop l.log-index l.logs)) ≡ given_up (map (λ log. log.items) l.logs) l.last)

@@ -1,0 +1,4 @@
+pub mod Joined
+pub mod Latest
+pub mod Met
+pub mod Opens

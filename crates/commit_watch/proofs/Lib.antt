@@ -1,0 +1,5 @@
+pub mod ChangeLemmas
+pub mod FoldLemmas
+pub mod ListLemmas
+pub mod StandingLemmas
+pub mod TotalLemmas

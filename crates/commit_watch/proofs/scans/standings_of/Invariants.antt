@@ -1,0 +1,8 @@
+use Rattle.std.proofs.Common.{◌≡◌, reverse, take}
+use Rattle.value_form.specs.declared.objects.ObjectId.{ObjectId}
+use Rattle.commit_watch.specs.Standings.{standing_at, standing_of, terms_in}
+use Rattle.commit_watch.proofs.scans.standings_of.Given as goal
+
+-- the marks so far
+abbrev pub invariant-loop-mark : goal.invariant-loop-mark
+invariant-loop-mark g l = (o : ObjectId) → standing_at l.standings o ≡ standing_of (terms_in l.scan l.moved) o (reverse (take l.mark-index l.marks))

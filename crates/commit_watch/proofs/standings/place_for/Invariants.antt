@@ -1,0 +1,11 @@
+use Rattle.std.proofs.Common.{◌≡◌, ◌≤◌, ℕ, length, true}
+use Rattle.std.specs.List.{AllWithin}
+use Rattle.pseudo_time.specs.Order.{lt}
+use Rattle.commit_watch.proofs.standings.place_for.Given as goal
+
+-- those from the place on start above
+abbrev pub invariant-loop-place : goal.invariant-loop-place
+invariant-loop-place l = (l.place ≤ length l.versions) × AllWithin (λ w. lt l.start w.start ≡ true) l.versions l.place (length l.versions)
+
+abbrev pub decreases-loop-place : goal.decreases-loop-place
+decreases-loop-place l = l.place

@@ -1,0 +1,10 @@
+use pseudo_time::PseudoTime;
+use value_form::{ObjectId, Value};
+
+/// A version of an object.
+#[derive(Debug, Drop, PartialEq, Eq)]
+pub struct Version {
+    pub object: ObjectId,
+    pub start: PseudoTime,
+    pub value: Value,
+}
