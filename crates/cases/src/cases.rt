@@ -273,7 +273,8 @@ impl Case {
         }
     }
 
-    /// Carries out a line. What came of it is added to what was said.
+    /// Carries out a line. What came of it is added to what was said. Beside the lines that are read by their
+    /// words, `lab A|B` is the laboratory with these words and `options A|B` is what they tell it.
     pub fn carry_out<R: Threads + Wait + Sync>(
         &mut self,
         rt: &R,

@@ -11,52 +11,55 @@ pub enum Stream {
     Sink,
 }
 
-/// What a line says.
+/// What a line says. Its words stand in front of what they mean.
 #[derive(Clone, Copy)]
 pub enum Line<'a> {
-    /// How many pages a blank medium has.
+    /// `pages P`: how many pages a blank medium has.
     Pages(u32),
-    /// How many pages the medium of a node has.
+    /// `medium KIND N P`: how many pages the medium of a node has. KIND is `repository` or `broker`.
     Medium(NodeId, u32),
-    /// The medium of a node can't be taken.
+    /// `missing KIND N`: the medium of a node can't be taken.
     Missing(NodeId),
-    /// A stop of a node's medium.
+    /// `stop KIND N call C keep K fill F` or `stop KIND N write P A keep K fill F`: a stop of a node's medium.
     Stop(NodeId, Stop),
-    /// A stop of a node's medium that `stops-each` moves: so many calls behind the one that it is at.
+    /// `moving KIND N behind B keep K fill F`: a stop of a node's medium, so many calls behind the one at
+    /// which `stops-each` is.
     Moving(NodeId, Stop),
-    /// Log records on a page of a node's medium, by their bytes. The page's gate is open.
+    /// `page KIND N P HEX..`: log records on a page of a node's medium. The page's gate is open.
     Page(NodeId, u32, &'a [&'a str]),
-    /// Bytes on a page of a node's medium, from this place on.
+    /// `bytes KIND N P A HEX..`: bytes on a page of a node's medium, from this place on.
     Bytes(NodeId, u32, u16, &'a [&'a str]),
+    /// `fate KIND N copies C overtake O hold H`: what comes of the nth message of a kind.
     Fate(FateRule),
-    /// How many bytes the source gives a call, and which of its calls fail.
+    /// `source MOST FAIL..`: how many bytes the source gives a call, and which of its calls fail.
     Source(usize, &'a [&'a str]),
-    /// How many bytes the sink takes a call, and which of its calls fail.
+    /// `sink MOST FAIL..`: how many bytes the sink takes a call, and which of its calls fail.
     Sink(usize, &'a [&'a str]),
-    /// The media are those that the call before this one left.
+    /// `again`: the media are those that the call before this one left.
     Again,
-    /// The plan stands on the lines up to `end plan`.
+    /// `plan`: the plan stands on the lines up to `end plan`. It stays until the next one.
     Plan,
-    /// Of a text with this status `stops-each` shows the lines that begin with one of these words.
+    /// `shown STATUS WORD..`: of a text with this status `stops-each` shows the lines that begin with one of
+    /// these words.
     Shown(u8, &'a [&'a str]),
-    /// The call with these words.
+    /// `call WORD..`: the call with these words.
     Call(&'a [&'a str]),
-    /// The same, without the line of the wire in the answer.
+    /// `acts WORD..`: the same, without the line of the wire in the answer.
     Acts(&'a [&'a str]),
-    /// The call with these words, with the moving stops at each call of a medium in turn, from this one on.
-    /// At least so many of them are met.
+    /// `stops-each FROM LEAST WORD..`: the call with these words, with the moving stops at each call of a
+    /// medium in turn, from this one on. At least so many of them are met.
     StopsEach(u64, u64, &'a [&'a str]),
-    /// The call with these words, where each call of a stream fails in turn. The stream moves so many bytes
-    /// a call.
+    /// `fails-each source MOST WORD..` or `fails-each sink MOST WORD..`: the call with these words, where each
+    /// call of a stream fails in turn. The stream moves so many bytes a call.
     FailsEach(Stream, usize, &'a [&'a str]),
-    /// The call with these words over media of which those of repositories meet at their first writes, each
-    /// of which looks so often for another.
+    /// `meet LOOKS WORD..`: the call with these words over media of which those of repositories meet at their
+    /// first writes, each of which looks so often for another.
     Meet(u64, &'a [&'a str]),
-    /// The pages of the media that the call before this line left, which are let go.
+    /// `media`: the pages of the media that the call before this line left, which are let go.
     Media,
-    /// Which of so many messages a laboratory with this divisor loses.
+    /// `lost LOSE COUNT`: which of so many messages a laboratory with this divisor loses.
     Lost(u32, u32),
-    /// A remark, or an empty line.
+    /// `# REMARK`, or an empty line.
     Remark,
 }
 

@@ -1,6 +1,4 @@
 //! How texts and media are shown.
-ghost use Rattle.std.specs.Prelude.{◌≡◌, false};
-ghost use Rattle.medium_port.specs.MemoryMedia.{failed_in};
 
 use crate::calls::Said;
 use crate::faults::CaseFault;
@@ -133,7 +131,8 @@ pub fn show_medium(
 ) -> Result<(), CaseFault> {
     let Kept { node, medium, .. } = kept;
     let mut medium = reopened(medium)?;
-    let (kind, number, pages) = (name_of(node.kind), node.number, medium.pages());
+    let (kind, number) = (name_of(node.kind), node.number);
+    let pages = medium.pages();
     said.push_str(format!(in alloc; "  {kind} {number} pages {pages}\n")?.as_str())?;
     for page in 0..pages {
         let mut bytes = [0u8; 4096];
