@@ -1,0 +1,234 @@
+//! The lines of a case.
+
+use medium_port::{Stop, StopAt};
+use pseudo_time::{NodeId, NodeKind};
+use stream_port::{Fate, FateRule};
+
+/// A stream of a call.
+#[derive(Clone, Copy)]
+pub enum Stream {
+    Source,
+    Sink,
+}
+
+/// What a line says. Its words stand in front of what they mean.
+#[derive(Clone, Copy)]
+pub enum Line<'a> {
+    /// `pages P`: how many pages a blank medium has.
+    Pages(u32),
+    /// `medium KIND N P`: how many pages the medium of a node has. KIND is `repository` or `broker`.
+    Medium(NodeId, u32),
+    /// `missing KIND N`: the medium of a node can't be taken.
+    Missing(NodeId),
+    /// `stop KIND N call C keep K fill F` or `stop KIND N write P A keep K fill F`: a stop of a node's medium.
+    Stop(NodeId, Stop),
+    /// `moving KIND N behind B keep K fill F`: a stop of a node's medium, so many calls behind the one at
+    /// which `stops-each` is.
+    Moving(NodeId, Stop),
+    /// `page KIND N P HEX..`: log records on a page of a node's medium. The page's gate is open.
+    Page(NodeId, u32, &'a [&'a str]),
+    /// `bytes KIND N P A HEX..`: bytes on a page of a node's medium, from this place on.
+    Bytes(NodeId, u32, u16, &'a [&'a str]),
+    /// `fate KIND N copies C overtake O hold H`: what comes of the nth message of a kind.
+    Fate(FateRule),
+    /// `source MOST FAIL..`: how many bytes the source gives a call, and which of its calls fail.
+    Source(usize, &'a [&'a str]),
+    /// `sink MOST FAIL..`: how many bytes the sink takes a call, and which of its calls fail.
+    Sink(usize, &'a [&'a str]),
+    /// `again`: the media are those that the call before this one left.
+    Again,
+    /// `plan`: the plan stands on the lines up to `end plan`. It stays until the next one.
+    Plan,
+    /// `shown STATUS WORD..`: of a text with this status `stops-each` shows the lines that begin with one of
+    /// these words.
+    Shown(u8, &'a [&'a str]),
+    /// `call WORD..`: the call with these words.
+    Call(&'a [&'a str]),
+    /// `acts WORD..`: the same, without the line of the wire in the answer.
+    Acts(&'a [&'a str]),
+    /// `stops-each FROM LEAST WORD..`: the call with these words, with the moving stops at each call of a
+    /// medium in turn, from this one on. At least so many of them are met.
+    StopsEach(u64, u64, &'a [&'a str]),
+    /// `fails-each source MOST WORD..` or `fails-each sink MOST WORD..`: the call with these words, where each
+    /// call of a stream fails in turn. The stream moves so many bytes a call.
+    FailsEach(Stream, usize, &'a [&'a str]),
+    /// `meet LOOKS WORD..`: the call with these words over media of which those of repositories meet at their
+    /// first writes, each of which looks so often for another.
+    Meet(u64, &'a [&'a str]),
+    /// `media`: the pages of the media that the call before this line left, which are let go.
+    Media,
+    /// `lost LOSE COUNT`: which of so many messages a laboratory with this divisor loses.
+    Lost(u32, u32),
+    /// `# REMARK`, or an empty line.
+    Remark,
+}
+
+fn node(kind: &str, number: &str) -> Option<NodeId> {
+    let kind = match kind {
+        "repository" => NodeKind::Repository,
+        "broker" => NodeKind::Broker,
+        _ => return None,
+    };
+    Some(NodeId {
+        kind,
+        number: number.parse().ok()?,
+    })
+}
+
+// A stop, from the words behind its node.
+fn stop(words: &[&str]) -> Option<Stop> {
+    let (at, rest) = match words {
+        [verb, number, rest @ ..] if *verb == "call" => {
+            (StopAt::Call(number.parse().ok()?), rest)
+        }
+        [verb, page, at, rest @ ..] if *verb == "write" => (
+            StopAt::Write {
+                page: page.parse().ok()?,
+                at: at.parse().ok()?,
+            },
+            rest,
+        ),
+        _ => return None,
+    };
+    tear(at, rest)
+}
+
+// A stop there, from `keep K fill F`.
+fn tear(at: StopAt, words: &[&str]) -> Option<Stop> {
+    let [keeps, keep, fills, fill] = words else {
+        return None;
+    };
+    if *keeps != "keep" || *fills != "fill" {
+        return None;
+    }
+    Some(Stop {
+        at,
+        keep: keep.parse().ok()?,
+        fill: fill.parse().ok()?,
+    })
+}
+
+// A moving stop, from `behind B keep K fill F`.
+fn moving(words: &[&str]) -> Option<Stop> {
+    let [behind, number, tears @ ..] = words else {
+        return None;
+    };
+    if *behind != "behind" {
+        return None;
+    }
+    tear(StopAt::Call(number.parse().ok()?), tears)
+}
+
+// The tag of a kind of message.
+fn tag(name: &str) -> Option<u8> {
+    Some(match name {
+        "begin" => 1,
+        "begun" => 2,
+        "read" => 3,
+        "value" => 4,
+        "write" => 5,
+        "stored" => 6,
+        "later-read" => 7,
+        "later-version" => 8,
+        "ended" => 9,
+        "commit" => 10,
+        "withdraw" => 11,
+        "decided" => 12,
+        "ask" => 13,
+        "tell" => 14,
+        _ => return None,
+    })
+}
+
+// What comes of the nth message of a kind, from `KIND N copies C overtake O hold H`.
+fn fate(words: &[&str]) -> Option<FateRule> {
+    let [name, nth, copied, copies, overtakes, overtake, held, hold] = words else {
+        return None;
+    };
+    if *copied != "copies" || *overtakes != "overtake" || *held != "hold" {
+        return None;
+    }
+    Some(FateRule {
+        tag: tag(name)?,
+        nth: nth.parse().ok()?,
+        fate: Fate {
+            copies: copies.parse().ok()?,
+            overtake: overtake.parse().ok()?,
+            hold: hold.parse().ok()?,
+        },
+    })
+}
+
+// A line on the pages of a node's medium.
+fn on_pages<'a>(verb: &str, node: NodeId, words: &'a [&'a str]) -> Option<Line<'a>> {
+    match (verb, words) {
+        ("medium", [pages]) => Some(Line::Medium(node, pages.parse().ok()?)),
+        ("page", [page, words @ ..]) => Some(Line::Page(node, page.parse().ok()?, words)),
+        ("bytes", [page, at, words @ ..]) => Some(Line::Bytes(
+            node,
+            page.parse().ok()?,
+            at.parse().ok()?,
+            words,
+        )),
+        _ => None,
+    }
+}
+
+// A line on a node: what it says of it, and the words behind its name.
+fn on_node<'a>(verb: &str, node: NodeId, words: &'a [&'a str]) -> Option<Line<'a>> {
+    match verb {
+        "missing" => Some(Line::Missing(node)),
+        "stop" => Some(Line::Stop(node, stop(words)?)),
+        "moving" => Some(Line::Moving(node, moving(words)?)),
+        _ => on_pages(verb, node, words),
+    }
+}
+
+fn stream_named(name: &str) -> Option<Stream> {
+    match name {
+        "source" => Some(Stream::Source),
+        "sink" => Some(Stream::Sink),
+        _ => None,
+    }
+}
+
+// A line that makes calls.
+fn on_call<'a>(verb: &str, words: &'a [&'a str]) -> Option<Line<'a>> {
+    match (verb, words) {
+        ("call", words) => Some(Line::Call(words)),
+        ("acts", words) => Some(Line::Acts(words)),
+        ("meet", [looks, words @ ..]) => Some(Line::Meet(looks.parse().ok()?, words)),
+        ("stops-each", [from, least, words @ ..]) => Some(Line::StopsEach(
+            from.parse().ok()?,
+            least.parse().ok()?,
+            words,
+        )),
+        ("fails-each", [name, most, words @ ..]) => Some(Line::FailsEach(
+            stream_named(name)?,
+            most.parse().ok()?,
+            words,
+        )),
+        (verb, [kind, number, words @ ..]) => on_node(verb, node(kind, number)?, words),
+        _ => None,
+    }
+}
+
+/// What the words of a line say. None where they are no line.
+pub fn read<'a>(words: &'a [&'a str]) -> Option<Line<'a>> {
+    let [verb, rest @ ..] = words else {
+        return Some(Line::Remark);
+    };
+    match (*verb, rest) {
+        ("" | "#", _) => Some(Line::Remark),
+        ("again", []) => Some(Line::Again),
+        ("plan", []) => Some(Line::Plan),
+        ("media", []) => Some(Line::Media),
+        ("pages", [pages]) => Some(Line::Pages(pages.parse().ok()?)),
+        ("fate", words) => Some(Line::Fate(fate(words)?)),
+        ("source", [most, fails @ ..]) => Some(Line::Source(most.parse().ok()?, fails)),
+        ("sink", [most, fails @ ..]) => Some(Line::Sink(most.parse().ok()?, fails)),
+        ("shown", [status, words @ ..]) => Some(Line::Shown(status.parse().ok()?, words)),
+        ("lost", [lose, count]) => Some(Line::Lost(lose.parse().ok()?, count.parse().ok()?)),
+        (verb, words) => on_call(verb, words),
+    }
+}

@@ -1,0 +1,74 @@
+//! Carries out cases of whole runs. Standard input names the files of the cases, one a line. Each line of
+//! them goes to standard output, and behind it what came of it.
+#![tactic(auto)]
+
+mod calls;
+mod cases;
+mod faults;
+mod labs;
+mod lines;
+mod plans;
+mod series;
+mod setups;
+mod shows;
+mod tables;
+
+use cases::Case;
+use faults::CaseFault;
+use std::alloc::{AllocError, Global};
+use std::process::ExitCode;
+use std::rt::Files;
+use std::sync::Wait;
+use std::thread::Threads;
+use std::{fs, io};
+
+// Carries out the cases of a text.
+fn all<R: Threads + Wait + Sync>(
+    rt: &R,
+    alloc: Global,
+    text: &str,
+    said: &mut String,
+) -> Result<(), AllocError> {
+    let mut case = Case::new(alloc);
+    for line in text.lines() {
+        said.push_str(line)?;
+        said.push('\n')?;
+        match case.carry_out(rt, line, said) {
+            Ok(()) => {}
+            Err(CaseFault::NoMemory) => return Err(AllocError),
+            Err(fault) => said.push_str(format!(in alloc; "  fault {fault:?}\n")?.as_str())?,
+        }
+    }
+    Ok(())
+}
+
+// Carries out the cases of these files.
+fn files<R: Files + AllocGlobal + Threads + Wait + Sync>(
+    rt: &R,
+    alloc: Global,
+    names: &str,
+) -> Result<String, AllocError> {
+    let mut said = String::new(alloc);
+    for name in names.lines() {
+        said.push_str(format!(in alloc; "cases {name}\n")?.as_str())?;
+        match fs::read_to_string(rt, name) {
+            Ok(text) => all(rt, alloc, text.as_str(), &mut said)?,
+            Err(_) => said.push_str("  no file\n")?,
+        }
+    }
+    Ok(said)
+}
+
+fn main(rt: HostRuntime) -> ExitCode {
+    let alloc = rt.alloc();
+    let Ok(names) = io::read_to_string(alloc, rt.reader()) else {
+        return ExitCode::from(3);
+    };
+    match files(&rt, alloc, names.as_str()) {
+        Ok(said) => match rt.print(said) {
+            Ok(()) => ExitCode::from(0),
+            Err(_) => ExitCode::from(4),
+        },
+        Err(_) => ExitCode::from(7),
+    }
+}

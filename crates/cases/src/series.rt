@@ -1,0 +1,186 @@
+//! A call again and again, with one thing that moves.
+
+use crate::calls::{Called, Said, call};
+use crate::faults::CaseFault;
+use crate::lines::Stream;
+use crate::setups::{Pace, Setup};
+use crate::shows::{Shown, acts_of, crashes_of, is_down, lines_of};
+use crate::tables::{Ending, Table};
+use medium_port::MemoryMedium;
+use std::alloc::Global;
+use std::sync::Wait;
+use std::thread::Threads;
+use swallow_top::Kept;
+
+/// The most calls that are tried in turn.
+const MOST_CALLS: u64 = 10_000;
+
+/// What stays the same in each of the calls.
+#[derive(Clone, Copy)]
+pub struct Series<'a> {
+    pub alloc: Global,
+    pub plan: &'a [u8],
+    pub words: &'a [&'a str],
+    pub shown: &'a [Shown],
+}
+
+/// The call with the moving stops at each call of a medium in turn, from this one on, up to the first at which
+/// none is met.
+pub fn stops_each<R: Threads + Wait + Sync>(
+    rt: &R,
+    series: &Series<'_>,
+    setup: Setup,
+    from: u64,
+) -> Result<Table, CaseFault> {
+    let mut setup = setup;
+    let mut table = Table::new(series.alloc);
+    for number in from..=MOST_CALLS {
+        setup.at_call = number;
+        match stopped(rt, series, &setup)? {
+            Some(ending) => table.add(number, ending)?,
+            None => break,
+        }
+    }
+    Ok(table)
+}
+
+// What comes of the call with its stops. None where none is met.
+fn stopped<R: Threads + Wait + Sync>(
+    rt: &R,
+    series: &Series<'_>,
+    setup: &Setup,
+) -> Result<Option<Ending>, CaseFault> {
+    let Series {
+        alloc,
+        plan,
+        words,
+        shown,
+    } = *series;
+    let Called { said, media } = call(rt, alloc, setup, plan, words, Vec::new(alloc))?;
+    let Some(crashes) = crashes_of(said.text.as_str()) else {
+        return Err(CaseFault::Text);
+    };
+    if crashes == 0 && !is_down(&said) {
+        return Ok(None);
+    }
+    // A stop that isn't met would be met by the call over the media that are left.
+    let again = if is_down(&said) || crashes == setup.moving.len() as u64 {
+        called_again(rt, series, setup, &said, media)?
+    } else {
+        String::new(alloc)
+    };
+    Ok(Some(Ending {
+        status: said.status,
+        text: lines_of(alloc, shown, &said, "    ")?,
+        again,
+        crashes,
+    }))
+}
+
+// What shows the same call over the media that were left. Where all was done before, all is as it was.
+fn called_again<R: Threads + Wait + Sync>(
+    rt: &R,
+    series: &Series<'_>,
+    setup: &Setup,
+    before: &Said,
+    media: Vec<Kept<MemoryMedium>>,
+) -> Result<String, CaseFault> {
+    let Series {
+        alloc,
+        plan,
+        words,
+        shown,
+    } = *series;
+    let still = setup.with_fates(alloc)?;
+    let Called { said, .. } = call(rt, alloc, &still, plan, words, media)?;
+    let status = said.status;
+    let mut again = format!(in alloc; "    again: status {status}\n")?;
+    again.push_str(lines_of(alloc, shown, &said, "      ")?.as_str())?;
+    if before.status == 0 {
+        again.push_str(how_again(before.text.as_str(), said.text.as_str()))?;
+    }
+    Ok(again)
+}
+
+// How a text stands to the one before it.
+fn how_again(before: &str, text: &str) -> &'static str {
+    let is_quiet = text.ends_with("wire messages 0 asks 0 ticks 0 crashes 0\n");
+    if is_quiet && acts_of(before) == acts_of(text) {
+        "      the same acts, and no message\n"
+    } else {
+        "      otherwise than before\n"
+    }
+}
+
+/// The call where each call of a stream fails in turn, up to the first that isn't made.
+pub fn fails_each<R: Threads + Wait + Sync>(
+    rt: &R,
+    series: &Series<'_>,
+    setup: Setup,
+    stream: Stream,
+    most: usize,
+) -> Result<Table, CaseFault> {
+    let Series {
+        alloc,
+        plan,
+        words,
+        ..
+    } = *series;
+    let mut setup = setup;
+    let whole = call(rt, alloc, &setup, plan, words, Vec::new(alloc))?.said;
+    let mut table = Table::new(alloc);
+    for number in 1..=MOST_CALLS {
+        fail_at(alloc, &mut setup, stream, most, number)?;
+        let said = call(rt, alloc, &setup, plan, words, Vec::new(alloc))?.said;
+        if said.status == whole.status {
+            break;
+        }
+        let ending = failed(series, &whole, said, most, number)?;
+        table.add(number, ending)?;
+    }
+    Ok(table)
+}
+
+// Lets the call of a stream with this number fail.
+fn fail_at(
+    alloc: Global,
+    setup: &mut Setup,
+    stream: Stream,
+    most: usize,
+    number: u64,
+) -> Result<(), CaseFault> {
+    let pace = Pace {
+        most,
+        fails: vec![in alloc; number]?,
+    };
+    match stream {
+        Stream::Source => setup.source = pace,
+        Stream::Sink => setup.sink = pace,
+    }
+    Ok(())
+}
+
+// What came of a call whose stream has failed at the call with this number.
+fn failed(
+    series: &Series<'_>,
+    whole: &Said,
+    said: Said,
+    most: usize,
+    number: u64,
+) -> Result<Ending, CaseFault> {
+    let alloc = series.alloc;
+    let taken = number.saturating_sub(1).saturating_mul(most as u64);
+    let is_front = said.text.len() as u64 == taken
+        && whole.text.as_str().starts_with(said.text.as_str());
+    let text = if is_front {
+        String::from_str(alloc, "    what the calls before it took\n")?
+    } else {
+        lines_of(alloc, series.shown, &said, "    ")?
+    };
+    Ok(Ending {
+        status: said.status,
+        text,
+        again: String::new(alloc),
+        crashes: 0,
+    })
+}

@@ -1,0 +1,145 @@
+//! How texts and media are shown.
+
+use crate::calls::Said;
+use crate::faults::CaseFault;
+use crate::setups::reopened;
+use medium_port::{Medium, MemoryMedium};
+use pseudo_time::{NodeId, NodeKind};
+use std::alloc::Global;
+use swallow_top::Kept;
+
+/// Shows a status and a text, each line behind two spaces.
+pub fn show(alloc: Global, said: &mut String, status: u8, text: &str) -> Result<(), CaseFault> {
+    said.push_str(format!(in alloc; "  status {status}\n")?.as_str())?;
+    for line in text.lines() {
+        said.push_str(format!(in alloc; "  {line}\n")?.as_str())?;
+    }
+    Ok(())
+}
+
+// The word with which a line begins.
+fn first_word(line: &str) -> &str {
+    match line.split_once(' ') {
+        Some((word, _)) => word,
+        None => line,
+    }
+}
+
+/// The lines that are shown of texts with a status: those that begin with one of these words.
+#[derive(Drop)]
+pub struct Shown {
+    pub status: u8,
+    /// With a space between each two.
+    pub words: String,
+}
+
+// Whether a line of a text with this status is shown. Where nothing is said of the status, all lines but that
+// of the wire are.
+fn is_shown(shown: &[Shown], status: u8, line: &str) -> bool {
+    let first = first_word(line);
+    for of in shown {
+        if of.status == status {
+            return of.words.as_str().split(' ').any(|word| word == first);
+        }
+    }
+    first != "wire"
+}
+
+/// The lines that are shown of what a call said, each behind so many spaces.
+pub fn lines_of(
+    alloc: Global,
+    shown: &[Shown],
+    said: &Said,
+    before: &str,
+) -> Result<String, CaseFault> {
+    let mut lines = String::new(alloc);
+    for line in said.text.as_str().lines() {
+        if is_shown(shown, said.status, line) {
+            lines.push_str(format!(in alloc; "{before}{line}\n")?.as_str())?;
+        }
+    }
+    Ok(lines)
+}
+
+/// What stands in front of the line of the wire.
+pub fn acts_of(text: &str) -> &str {
+    match text.split_once("wire messages ") {
+        Some((acts, _)) => acts,
+        None => text,
+    }
+}
+
+/// The crashes in the line of the wire.
+pub fn crashes_of(text: &str) -> Option<u64> {
+    let (_, wire) = text.split_once("wire messages ")?;
+    let (_, crashes) = wire.split_once(" crashes ")?;
+    crashes.trim().parse().ok()
+}
+
+/// Whether a node is told as down.
+pub fn is_down(said: &Said) -> bool {
+    said.text.contains("\ndown ")
+}
+
+fn name_of(kind: NodeKind) -> &'static str {
+    match kind {
+        NodeKind::Repository => "repository",
+        NodeKind::Broker => "broker",
+    }
+}
+
+// The bytes of the log records on a page, where its gate is open.
+fn records_of(bytes: &[u8; 4096]) -> Option<&[u8]> {
+    if bytes[0] != 0xA5 {
+        return None;
+    }
+    let length = u16::from_be_bytes([bytes[2], bytes[3]]);
+    let (_, body) = bytes.split_at_checked(4)?;
+    let (records, _) = body.split_at_checked(usize::from(length))?;
+    Some(records)
+}
+
+// Shows what stands on a page, where anything does.
+fn show_page(
+    alloc: Global,
+    said: &mut String,
+    node: NodeId,
+    page: u32,
+    bytes: &[u8; 4096],
+) -> Result<(), CaseFault> {
+    if bytes.iter().all(|byte| *byte == 0) {
+        return Ok(());
+    }
+    let (kind, number) = (name_of(node.kind), node.number);
+    said.push_str(format!(in alloc; "  {kind} {number} page {page}")?.as_str())?;
+    match records_of(bytes) {
+        Some(records) => {
+            said.push(' ')?;
+            said.push_str(hex::encode(alloc, records)?.as_str())?;
+        }
+        None => said.push_str(" spoiled")?,
+    }
+    said.push('\n')?;
+    Ok(())
+}
+
+/// Shows the pages of a medium that was left.
+pub fn show_medium(
+    alloc: Global,
+    said: &mut String,
+    kept: Kept<MemoryMedium>,
+) -> Result<(), CaseFault> {
+    let Kept { node, medium, .. } = kept;
+    let mut medium = reopened(medium)?;
+    let (kind, number) = (name_of(node.kind), node.number);
+    let pages = medium.pages();
+    said.push_str(format!(in alloc; "  {kind} {number} pages {pages}\n")?.as_str())?;
+    for page in 0..pages {
+        let mut bytes = [0u8; 4096];
+        if medium.read(page, &mut bytes).is_err() {
+            return Err(CaseFault::Medium);
+        }
+        show_page(alloc, said, node, page, &bytes)?;
+    }
+    Ok(())
+}

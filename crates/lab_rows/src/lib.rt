@@ -1,5 +1,0 @@
-//! Worked runs of the laboratory, and what they write.
-#![tactic(auto)]
-
-#[cfg(test)]
-mod runs;

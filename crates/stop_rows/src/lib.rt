@@ -1,5 +1,0 @@
-//! Runs of several nodes whose media stop at each of their calls.
-#![tactic(auto)]
-
-#[cfg(test)]
-mod stops;
