@@ -13,9 +13,6 @@ use std::process::ExitCode;
 use std::sync::Wait;
 use std::thread::{Threads, join};
 
-#[cfg(test)]
-mod tests;
-
 /// How many visits there are in all.
 const VISITS: u32 = 1_000_000;
 

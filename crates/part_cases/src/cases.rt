@@ -149,11 +149,7 @@ impl Case {
     }
 
     // Begins a node over the log. None where the line doesn't.
-    fn begin_over_log(
-        &mut self,
-        verb: &str,
-        words: &[&str],
-    ) -> Result<Option<String>, CaseFault> {
+    fn begin_over_log(&mut self, verb: &str, words: &[&str]) -> Result<Option<String>, CaseFault> {
         let alloc = self.alloc;
         if verb != "votes" && verb != "broker" {
             return Ok(None);
@@ -161,8 +157,12 @@ impl Case {
         let line = mem::replace(&mut self.log, String::new(alloc));
         let log: Vec<&str> = line.split_whitespace().collect(alloc)?;
         if verb == "broker" {
-            let (broker, said) =
-                brokers::broker(alloc, self.program.as_slice(), words, log.as_slice())?;
+            let (broker, said) = brokers::broker(
+                alloc,
+                self.program.as_slice(),
+                words,
+                log.as_slice(),
+            )?;
             self.subject = match broker {
                 Some(broker) => Subject::Broker(broker),
                 None => Subject::Nothing,

@@ -35,11 +35,7 @@ fn take(alloc: Global, flight: &mut Flight, node: NodeId) -> Result<String, Case
 }
 
 /// What comes of a line on a flight.
-pub fn carry_out(
-    alloc: Global,
-    flight: &mut Flight,
-    words: &[&str],
-) -> Result<String, CaseFault> {
+pub fn carry_out(alloc: Global, flight: &mut Flight, words: &[&str]) -> Result<String, CaseFault> {
     let [verb, rest @ ..] = words else {
         return Err(CaseFault::Line);
     };

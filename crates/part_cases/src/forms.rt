@@ -23,7 +23,13 @@ pub fn pseudotime(alloc: Global, bytes: &[u8]) -> Result<String, CaseFault> {
         return Ok(format!(in alloc; "  none\n")?);
     };
     let stamp = time.stamp();
-    let name = format!(in alloc; "  {}.{}.{}/{}\n", stamp.clock(), stamp.broker(), stamp.home(), time.step())?;
+    let name = format!(in alloc;
+        "  {}.{}.{}/{}\n",
+        stamp.clock(),
+        stamp.broker(),
+        stamp.home(),
+        time.step()
+    )?;
     let mut said = name;
     said.push_str(bytes_again(alloc, &time.to_bytes(), rest.len())?.as_str())?;
     Ok(said)

@@ -84,11 +84,7 @@ fn told(
 }
 
 // The script carried out at once.
-fn at_once(
-    alloc: Global,
-    text: &[u8],
-    held: &[(ObjectId, i64)],
-) -> Result<String, CaseFault> {
+fn at_once(alloc: Global, text: &[u8], held: &[(ObjectId, i64)]) -> Result<String, CaseFault> {
     let script = script_of(alloc, text)?;
     let map = map_of(alloc, held)?;
     let done = perform(alloc, &script, &map)?;
@@ -119,11 +115,7 @@ fn answered(
 }
 
 // The script carried out request by request, of which a script has at most 10,000.
-fn by_requests(
-    alloc: Global,
-    text: &[u8],
-    held: &[(ObjectId, i64)],
-) -> Result<String, CaseFault> {
+fn by_requests(alloc: Global, text: &[u8], held: &[(ObjectId, i64)]) -> Result<String, CaseFault> {
     let script = script_of(alloc, text)?;
     let mut map = map_of(alloc, held)?;
     let mut run = Run::start(alloc, &script)?;
@@ -146,5 +138,9 @@ pub fn performed(
     if one.as_str() == other.as_str() {
         return Ok(one);
     }
-    Ok(format!(in alloc; "  at once\n{}  by requests\n{}", one.as_str(), other.as_str())?)
+    Ok(format!(in alloc;
+        "  at once\n{}  by requests\n{}",
+        one.as_str(),
+        other.as_str()
+    )?)
 }

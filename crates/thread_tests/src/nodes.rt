@@ -5,8 +5,8 @@ ghost use Rattle.wire_lock.specs.Sights.{IsWirePass};
 ghost use Rattle.thread_tests.specs.Passes.{IsAt};
 
 use crate::passes::{
-    BROKER, HOME, Started, TestClosed, TestPass, TestShared, attempt, begin, begun, end, goes, out_of, sends,
-    start, takes,
+    BROKER, HOME, Started, TestClosed, TestPass, TestShared, attempt, begin, begun, end, goes,
+    out_of, sends, start, takes,
 };
 use pseudo_time::{NodeId, NodeKind, Stamp};
 use std::alloc::{AllocError, Global};
@@ -116,14 +116,7 @@ fn answers(
     let pass = awaits(rt, wire, pass)?;
     let message = begun()?;
     let outs = out_of(alloc, BROKER, message)?;
-    sends(
-        rt,
-        wire,
-        HOME,
-        pass,
-        outs.as_slice(),
-        &[(attempt()?, true)],
-    )
+    sends(rt, wire, HOME, pass, outs.as_slice(), &[(attempt()?, true)])
 }
 
 // Tests until the decision stands on the board.
