@@ -116,14 +116,14 @@ pub fn message(alloc: Global, words: &[&str]) -> Result<Message, CaseFault>
     }
 }
 
-/// The effect whose bytes the word is.
+/// The effect whose bytes the word is, with no back place.
 pub fn effect(alloc: Global, word: &str) -> Result<Effect, CaseFault>
     ensures { IfOk result IsEffect }
 {
     let bytes = bytes(alloc, &[word])?;
     match effect_form::read(alloc, bytes.as_slice()) {
-        Ok((effect, _, _)) => Ok(effect),
-        Err(_) => Err(CaseFault::Effect),
+        Ok((effect, None, _)) => Ok(effect),
+        _ => Err(CaseFault::Effect),
     }
 }
 

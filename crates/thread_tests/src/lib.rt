@@ -1,6 +1,8 @@
-//! Tests with two threads: of the lock that they share, and of the wire between two nodes.
+//! Tests of what threads share: the lock, its board, and the wire between two nodes.
 #![tactic(auto)]
 
+#[cfg(test)]
+mod boards;
 #[cfg(test)]
 mod locks;
 #[cfg(test)]
