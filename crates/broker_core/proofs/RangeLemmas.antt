@@ -28,9 +28,9 @@ use Rattle.effect_form.specs.Outcomes.{IsOutcome}
 use Rattle.message_form.specs.declared.messages.Message.{Message}
 use Rattle.message_form.specs.declared.messages.Message.TheVariants as message
 use Rattle.message_form.specs.Messages.{IsMessage}
-use Rattle.turn_form.specs.declared.turns.Out.{Out}
-use Rattle.turn_form.specs.declared.turns.Turn.{Turn}
-use Rattle.turn_form.specs.Ranges.{IsEffect, AreEffects, AreOuts}
+use Rattle.message_form.specs.declared.turns.Out.{Out}
+use Rattle.message_form.specs.declared.turns.Turn.{Turn}
+use Rattle.message_form.specs.Ranges.{IsEffect, AreEffects, AreOuts}
 use Rattle.script_meaning.specs.Meaning.{Stop, Asks, Over, ToRead, ToWrite}
 use Rattle.serial_model.specs.Ranges.{StopInRange}
 use Rattle.serial_model.specs.Requests.{AsksInRange, AnswerHasBytes}
@@ -56,8 +56,8 @@ use Rattle.broker_core.specs.Ledgers.{IsBrokerAct, AreBrokerActs, AreNotes, Ledg
 use Rattle.broker_core.specs.TakenUp.{fits_now, added, logged, led, fresh_ledger}
 use Rattle.broker_core.specs.Inputs.{listed, phase_in, effects_from, ledger_from}
 use Rattle.broker_core.specs.Ranges.{GivenInRange, HasStamp, IsHeard, FirstInRange, AreInRange, Ranged}
-use Rattle.script_ranges.proofs.ScriptRangeLemmas.{printable-InRange}
-use Rattle.script_ranges.proofs.TextByteLemmas.{script-IsBytes}
+use Rattle.serial_model.proofs.ScriptRangeLemmas.{printable-InRange}
+use Rattle.serial_model.proofs.TextByteLemmas.{script-IsBytes}
 
 -- ---- lists
 

@@ -6,10 +6,10 @@ use Rattle.std.proofs.lemmas.Bool.{false≢true}
 use Rattle.pseudo_time.specs.Lists.{Every, Has}
 use Rattle.value_form.specs.declared.acts.ActSpec.{ActSpec}
 use Rattle.value_form.specs.Mirror.{Block, Spot, Fixed, At, block}
-use Rattle.statement_form.specs.Row.{Row}
-use Rattle.statement_form.specs.Row as r
-use Rattle.statement_form.specs.Rows.{Numbered}
-use Rattle.statement_form.specs.RowTexts.{script_text, SpotUpTo, RowUpTo}
+use Rattle.script_form.specs.Row.{Row}
+use Rattle.script_form.specs.Row as r
+use Rattle.script_form.specs.Rows.{Numbered}
+use Rattle.script_form.specs.RowTexts.{script_text, SpotUpTo, RowUpTo}
 use Rattle.script_form.specs.Lines.{lines}
 use Rattle.script_form.specs.Printable.{IsPrintable, RowsInLimits}
 use Rattle.script_form.specs.Scripts.{IsScriptLines}

@@ -6,7 +6,7 @@ use Rattle.broker_core.specs.declared.resume_faults.ResumeFault.TheVariants as f
 use Rattle.broker_core.specs.Fits.{plan_fault}
 use Rattle.broker_core.specs.Notes.{act_at, most_of, over_at}
 use Rattle.effect_form.specs.declared.effects.Effect.{Effect}
-use Rattle.turn_form.specs.declared.turns.Out.{Out}
+use Rattle.message_form.specs.declared.turns.Out.{Out}
 use Rattle.broker_core.specs.declared.givens.Given.{Given}
 use Rattle.broker_core.specs.declared.heards.Heard.{Heard}
 use Rattle.broker_core.specs.declared.notes.Notes.{Notes}

@@ -5,7 +5,7 @@ use Rattle.pseudo_time.specs.StampParts.{IsStamp}
 use Rattle.value_form.specs.ValueBytes.{IsValue}
 use Rattle.effect_form.specs.declared.effects.Effect.{Effect}
 use Rattle.effect_form.specs.declared.effects.Effect.TheVariants as effect
-use Rattle.turn_form.specs.Ranges.{IsEffect}
+use Rattle.message_form.specs.Ranges.{IsEffect}
 use Rattle.broker_core.specs.declared.givens.Given.{Given}
 use Rattle.broker_core.specs.declared.givens.Given.TheVariants as given
 use Rattle.broker_core.specs.declared.notes.Last.{Last}

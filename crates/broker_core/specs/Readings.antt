@@ -4,7 +4,7 @@ use Rattle.std.specs.Cmp.Lexicographic.{pointwise}
 use Rattle.value_form.specs.declared.acts.ActSpec.{ActSpec}
 use Rattle.value_form.specs.declared.endings.Ending.TheVariants as ending
 use Rattle.value_form.specs.Mirror.{block}
-use Rattle.statement_form.specs.RowTexts.{script_text}
+use Rattle.script_form.specs.RowTexts.{script_text}
 use Rattle.serial_model.specs.Questions.{Tree, Ends, denote}
 
 -- the tree of questions of the first of these acts whose script has this text

@@ -2,7 +2,7 @@
 use Rattle.std.specs.Prelude.{◌≡◌, ℕ, List, map}
 use Rattle.value_form.specs.declared.acts.ActSpec.{ActSpec}
 use Rattle.value_form.specs.Mirror.{block}
-use Rattle.statement_form.specs.RowTexts.{script_text}
+use Rattle.script_form.specs.RowTexts.{script_text}
 use Rattle.serial_model.specs.Questions.{Tree, denote}
 use Rattle.pseudo_time.specs.Lists.{Every}
 

@@ -1,7 +1,7 @@
 ghost use Rattle.std.specs.Prelude.{◌≡◌, ◌≤◌, ◌++◌, [], ◌∷◌, ℕ, List, Some, None, reverse, length, IfOk, OnOk, OnErr};
 ghost use Rattle.std.specs.Option.{option_copied};
 ghost use Rattle.effect_form.specs.declared.effects.Effect.{Effect};
-ghost use Rattle.turn_form.specs.declared.turns.Out.{Out};
+ghost use Rattle.message_form.specs.declared.turns.Out.{Out};
 ghost use Rattle.serial_model.specs.Questions.{Tree};
 ghost use Rattle.broker_core.specs.Tasks.{Scripted};
 ghost use Rattle.broker_core.specs.Stages.{nothing_heard};
@@ -12,7 +12,7 @@ ghost use Rattle.broker_core.specs.Inputs as inputs;
 ghost use Rattle.broker_core.specs.Brokers as spec;
 ghost use Rattle.broker_core.specs.Ranges as ranges;
 ghost use Rattle.message_form.specs.Messages.{IsMessage};
-ghost use Rattle.turn_form.specs.Ranges.{AreEffects, AreOuts};
+ghost use Rattle.message_form.specs.Ranges.{AreEffects, AreOuts};
 
 use crate::heards::Heard;
 use crate::ledgers::Ledger;
@@ -22,11 +22,10 @@ use crate::phases::{Phase, phase_now, standing};
 use crate::replies::{Reply, reply_to};
 use crate::resume_faults::ResumeFault;
 use effect_form::Effect;
-use message_form::Message;
+use message_form::{Message, Out, SnapshotLog, Turn};
 use pseudo_time::NodeId;
 use std::alloc::{AllocError, Global};
 use std::marker::Model;
-use turn_form::{Out, SnapshotLog, Turn};
 use value_form::ActSpec;
 
 /// A broker in a run of a plan. Contracts see its log; it keeps notes on it, and not the log.

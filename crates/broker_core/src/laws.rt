@@ -4,7 +4,7 @@ ghost use Rattle.pseudo_time.specs.Lists.{Every, Has};
 ghost use Rattle.value_form.specs.declared.acts.ActSpec.{ActSpec};
 ghost use Rattle.value_form.specs.Mirror.{Block};
 ghost use Rattle.effect_form.specs.declared.effects.Effect.{Effect};
-ghost use Rattle.statement_form.specs.RowTexts.{script_text};
+ghost use Rattle.script_form.specs.RowTexts.{script_text};
 ghost use Rattle.script_form.specs.Printable.{IsPrintable};
 ghost use Rattle.serial_model.specs.Questions.{Tree};
 ghost use Rattle.broker_core.specs.Fits.{keep, resume_fault};

@@ -18,5 +18,5 @@ pub use brokers::Broker;
 pub use heards::Heard;
 pub use laws::{law_of_readings, readings_agree};
 pub use logs::counted_effects;
+pub use message_form::{Out, Turn};
 pub use resume_faults::ResumeFault;
-pub use turn_form::{Out, Turn};

@@ -12,11 +12,10 @@ use crate::heards::Heard;
 use crate::ledgers::Ledger;
 use crate::notes::{Last, Notes};
 use effect_form::Outcome;
-use message_form::Message;
+use message_form::{Message, Out};
 use pseudo_time::{NodeId, PseudoTime, Stamp};
 use script_run::Next;
 use std::alloc::{AllocError, Global};
-use turn_form::Out;
 use value_form::{ObjectId, Value};
 
 /// The stage of the last try.

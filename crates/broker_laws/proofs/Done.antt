@@ -9,7 +9,7 @@ use Rattle.effect_form.specs.declared.effects.Effect.{Effect}
 use Rattle.effect_form.specs.declared.effects.Effect.TheVariants as effect
 use Rattle.effect_form.specs.declared.outcomes.Outcome.{Outcome}
 use Rattle.effect_form.specs.declared.outcomes.Outcome.TheVariants as outcome
-use Rattle.turn_form.specs.Posts.{Post}
+use Rattle.message_form.specs.Posts.{Post}
 use Rattle.value_form.specs.declared.endings.Ending.TheVariants as ending
 use Rattle.broker_core.specs.Book.{Act, Book, Try, book, close, enter, front, on_act, open_of, open_try, time_of, tries_of}
 use Rattle.broker_core.specs.Fits.{another, has_outcome, is_none, outcome_by, stop_of}

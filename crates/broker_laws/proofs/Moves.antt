@@ -20,7 +20,7 @@ use Rattle.pseudo_time.specs.Lists.{Every}
 use Rattle.pseudo_time.specs.Order.{same_stamp}
 use Rattle.script_meaning.specs.Meaning.{Answer, Asks, Got, Over, Request, Stored}
 use Rattle.serial_model.specs.Questions.{Tree, stop}
-use Rattle.turn_form.specs.Growth.{Grew}
+use Rattle.message_form.specs.Growth.{Grew}
 
 -- the open try is the first of all
 

@@ -12,8 +12,8 @@ use Rattle.effect_form.specs.declared.outcomes.Outcome.TheVariants as outcome
 use Rattle.message_form.specs.declared.messages.Message.{Message}
 use Rattle.message_form.specs.declared.messages.Message.TheVariants as message
 use Rattle.pseudo_time.specs.declared.nodes.NodeId.{NodeId}
-use Rattle.turn_form.specs.declared.turns.Out.{Out}
-use Rattle.turn_form.specs.Posts.{Post}
+use Rattle.message_form.specs.declared.turns.Out.{Out}
+use Rattle.message_form.specs.Posts.{Post}
 use Rattle.value_form.specs.declared.endings.Ending.TheVariants as ending
 use Rattle.broker_core.specs.Book.{Act, Book, Try, book, close, enter, finish, front, gain, if_open, last_try, new_try, on_act, on_front, on_try, open_front, open_of, open_try, time_of, tries_of}
 use Rattle.broker_core.specs.Fits.{is_none, keep, stop_of}

@@ -3,7 +3,7 @@ use Rattle.std.proofs.Common.{ℕ, zero, suc, true, List, [], ◌∷◌, Option,
 use Rattle.pseudo_time.specs.Lists.{Every}
 use Rattle.pseudo_time.proofs.ListLemmas.{every-append}
 use Rattle.effect_form.specs.declared.effects.Effect.{Effect}
-use Rattle.turn_form.specs.declared.turns.Out.{Out}
+use Rattle.message_form.specs.declared.turns.Out.{Out}
 use Rattle.script_meaning.specs.Meaning.{ToRead, ToWrite}
 use Rattle.serial_model.specs.Questions.{Tree}
 use Rattle.broker_core.specs.declared.replies.Reply.{Reply}

@@ -5,7 +5,7 @@ use Rattle.effect_form.specs.declared.effects.Effect.{Effect}
 use Rattle.effect_form.specs.declared.effects.Effect.TheVariants as effect
 use Rattle.effect_form.specs.declared.outcomes.Outcome.{Outcome}
 use Rattle.effect_form.specs.declared.outcomes.Outcome.TheVariants as outcome
-use Rattle.turn_form.specs.Posts.{Post}
+use Rattle.message_form.specs.Posts.{Post}
 use Rattle.broker_laws.proofs.Moves.Moved.{same, tried, gained, ended}
 use Rattle.broker_core.specs.Book.{Act, Book, Try, book, close, enter, finish, gain, new_try, on_try, open_of, open_try, tries, tries_of}
 use Rattle.broker_laws.proofs.Moves.{Moved, at-open, clocks, moved}

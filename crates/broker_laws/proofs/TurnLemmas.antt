@@ -9,8 +9,8 @@ use Rattle.effect_form.specs.declared.outcomes.Outcome.{Outcome}
 use Rattle.effect_form.specs.declared.outcomes.Outcome.TheVariants as outcome
 use Rattle.message_form.specs.declared.messages.Message.{Message}
 use Rattle.pseudo_time.specs.declared.nodes.NodeId.{NodeId}
-use Rattle.turn_form.specs.declared.turns.Out.{Out}
-use Rattle.turn_form.specs.Posts.{Post}
+use Rattle.message_form.specs.declared.turns.Out.{Out}
+use Rattle.message_form.specs.Posts.{Post}
 use Rattle.broker_core.specs.Book.{Book, Try, book, close, enter, open_try}
 use Rattle.broker_core.specs.Fits.{keep, other_plan, unfit_act}
 use Rattle.broker_core.specs.Rows.{news}
@@ -29,7 +29,7 @@ use Rattle.broker_laws.specs.Posts.{AnswerCame, EndCame, RestsOn, HasCome, HaveC
 use Rattle.broker_laws.specs.Works.{Added, IsRested, TurnHolds, crash, gate}
 use Rattle.script_meaning.specs.Meaning.{Answer, Got, Stored}
 use Rattle.serial_model.specs.Questions.{Tree}
-use Rattle.turn_form.specs.Growth.{Grew}
+use Rattle.message_form.specs.Growth.{Grew}
 use Rattle.pseudo_time.proofs.ListLemmas.{has-left}
 
 module _ (script : List ℕ → Tree) (me : ℕ) where

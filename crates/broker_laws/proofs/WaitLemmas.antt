@@ -2,8 +2,8 @@
 use Rattle.std.proofs.Common.{◌≡◌, ℕ, List, [], Some, inl, inr, refl}
 use Rattle.message_form.specs.declared.messages.Message.{Message}
 use Rattle.message_form.specs.declared.messages.Message.TheVariants as message
-use Rattle.turn_form.specs.Posts.{Post}
-use Rattle.turn_form.specs.declared.turns.Out.{Out}
+use Rattle.message_form.specs.Posts.{Post}
+use Rattle.message_form.specs.declared.turns.Out.{Out}
 use Rattle.serial_model.specs.Questions.{Tree}
 use Rattle.broker_core.specs.Tasks.{Task}
 use Rattle.broker_core.specs.Book.{Book, book}

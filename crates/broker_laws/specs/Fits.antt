@@ -7,7 +7,7 @@ use Rattle.effect_form.specs.declared.effects.Effect.{Effect}
 use Rattle.effect_form.specs.declared.effects.Effect.TheVariants as effect
 use Rattle.effect_form.specs.declared.outcomes.Outcome.{Outcome}
 use Rattle.effect_form.specs.declared.outcomes.Outcome.TheVariants as outcome
-use Rattle.turn_form.specs.Growth.{Each}
+use Rattle.message_form.specs.Growth.{Each}
 use Rattle.script_meaning.specs.Meaning.{Answer, Got, Stored, ToRead, ToWrite, Asks, Over}
 use Rattle.serial_model.specs.Questions.{Tree}
 use Rattle.broker_core.specs.Tasks.{Task}

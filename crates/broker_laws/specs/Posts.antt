@@ -12,8 +12,8 @@ use Rattle.effect_form.specs.declared.outcomes.Outcome.{Outcome}
 use Rattle.effect_form.specs.declared.outcomes.Outcome.TheVariants as outcome
 use Rattle.message_form.specs.declared.messages.Message.{Message}
 use Rattle.message_form.specs.declared.messages.Message.TheVariants as message
-use Rattle.turn_form.specs.Growth.{Each}
-use Rattle.turn_form.specs.Posts.{Post, WasSent}
+use Rattle.message_form.specs.Growth.{Each}
+use Rattle.message_form.specs.Posts.{Post, WasSent}
 use Rattle.script_meaning.specs.Meaning.{Answer, Got, Stored, Request, ToRead, ToWrite, Stop, Asks, Over}
 use Rattle.serial_model.specs.Questions.{Tree, stop}
 use Rattle.broker_core.specs.Tasks.{Task}

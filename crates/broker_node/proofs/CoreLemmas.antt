@@ -5,7 +5,7 @@ use Rattle.pseudo_time.specs.Nodes.{broker}
 use Rattle.pseudo_time.specs.declared.nodes.NodeId.{NodeId}
 use Rattle.value_form.specs.declared.acts.ActSpec.{ActSpec}
 use Rattle.effect_form.specs.declared.effects.Effect.{Effect}
-use Rattle.turn_form.specs.declared.turns.Turn.{Turn}
+use Rattle.message_form.specs.declared.turns.Turn.{Turn}
 use Rattle.serial_model.specs.Questions.{Tree}
 use Rattle.version_store.specs.declared.faults.OpenFault.TheVariants as opening
 use Rattle.broker_core.specs.declared.resume_faults.ResumeFault.{ResumeFault}

@@ -10,12 +10,11 @@ use crate::logs::Log;
 use broker_core::{Broker, ResumeFault};
 use effect_form::Effect;
 use medium_port::Medium;
-use message_form::Message;
+use message_form::{Message, Turn};
 use node_turn::{StoredCore, open_again};
 use object_history::HistoryFault;
 use pseudo_time::{NodeId, Stamp};
 use std::alloc::Global;
-use turn_form::Turn;
 use version_store::{OpenFault, StoreFault};
 
 /// A broker with its log on a medium.

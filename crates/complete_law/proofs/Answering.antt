@@ -33,7 +33,7 @@ use Rattle.broker_core.specs.Book.{Try, time_of}
 use Rattle.broker_core.specs.Fits.{stop_of}
 use Rattle.broker_core.specs.Rows.{news, row, when}
 use Rattle.broker_core.specs.Stages.{Asking, Closing, Finishing, Opening, is_finished}
-use Rattle.repository_waits.proofs.ReadSteps.{Answers}
+use Rattle.repository_laws.proofs.ReadSteps.{Answers}
 use Rattle.repository_laws.proofs.ServedLemmas.{sent-here, release-grows, tell-askers-grow}
 
 -- ---- answers to a Write, a Begin, a Commit and a Withdraw

@@ -37,9 +37,9 @@ use Rattle.pseudo_time.specs.Nodes.{repository}
 use Rattle.repository_log.specs.Logs.{is_commit, known, marks, record_of}
 use Rattle.repository_core.specs.Rows.{ask_as, ask_for, accepts, begin_as, close_as, hold, learn_as, on_ask, on_begin, on_close, on_learn, on_message, on_read, on_write, read_as, read_known, release, reread, row, tell_askers, tells, unhold, waits_for, write_as}
 use Rattle.repository_laws.proofs.Logs.{settled-log}
-use Rattle.repository_waits.specs.Waits.{Waits}
-use Rattle.repository_waits.proofs.HeldLemmas.{waits-remove}
-use Rattle.repository_waits.proofs.ReadSteps.{read-waits}
+use Rattle.repository_laws.specs.Waits.{Waits}
+use Rattle.repository_laws.proofs.HeldLemmas.{waits-remove}
+use Rattle.repository_laws.proofs.ReadSteps.{read-waits}
 use Rattle.complete_law.proofs.HandLoads.{Prices, price, price-if, times, times-parted}
 use Rattle.complete_law.proofs.Learnings.{Single}
 use Rattle.complete_law.proofs.Loads.{load, load-append}

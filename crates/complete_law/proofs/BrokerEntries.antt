@@ -13,9 +13,9 @@ use Rattle.effect_form.specs.declared.effects.Effect.TheVariants as effect
 use Rattle.effect_form.specs.declared.outcomes.Outcome.{Outcome}
 use Rattle.message_form.specs.declared.messages.Message.{Message}
 use Rattle.message_form.specs.declared.messages.Message.TheVariants as message
-use Rattle.turn_form.specs.declared.turns.Out.{Out}
-use Rattle.turn_form.specs.Growth.{Grew}
-use Rattle.turn_form.specs.Posts.{Post, post}
+use Rattle.message_form.specs.declared.turns.Out.{Out}
+use Rattle.message_form.specs.Growth.{Grew}
+use Rattle.message_form.specs.Posts.{Post, post}
 use Rattle.serial_model.specs.Questions.{Tree}
 use Rattle.repository_core.specs.declared.waits.HeldRead.{HeldRead}
 use Rattle.repository_core.specs.declared.waits.Asker.{Asker}
@@ -38,12 +38,12 @@ use Rattle.broker_laws.proofs.Moves.{grown, later-kept}
 use Rattle.pseudo_time.proofs.OrderLemmas.{same_stamp-self}
 use Rattle.world_core.specs.Walks.{Base, Life, Sending, World, numbered, opened_life, sent_by, all_effects}
 use Rattle.world_core.specs.Legal.{times_taken}
-use Rattle.repository_waits.specs.Waits.{Waits}
+use Rattle.repository_laws.specs.Waits.{Waits}
 use Rattle.complete_law.specs.AtRest.{standing_at, read_to}
 use Rattle.broker_laws.specs.Waits.{older}
 use Rattle.broker_laws.proofs.BookSteps.{BookSound, HasSettled, HasStarted, Trail}
 use Rattle.broker_laws.proofs.BookTurns.{DeskSound, OutSound, standing-sound, stands-to}
-use Rattle.repository_waits.specs.Waits.{ask_of, tell_of}
+use Rattle.repository_laws.specs.Waits.{ask_of, tell_of}
 use Rattle.complete_law.proofs.Places.{log_of, held_of, IsBegun, IsDecided, Flying, AskedFor, tasks_of, desk_of, standing_in, Placed, SaidOf, CalmWorld}
 use Rattle.complete_law.proofs.Frames.{life-with}
 

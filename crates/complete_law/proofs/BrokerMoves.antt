@@ -8,9 +8,9 @@ use Rattle.pseudo_time.specs.declared.nodes.NodeKind.{NodeKind}
 use Rattle.pseudo_time.specs.declared.nodes.NodeKind.TheVariants as kind
 use Rattle.message_form.specs.declared.messages.Message.{Message}
 use Rattle.message_form.specs.declared.messages.Message.TheVariants as message
-use Rattle.turn_form.specs.declared.turns.Out.{Out}
-use Rattle.turn_form.specs.Growth.{Grew}
-use Rattle.turn_form.specs.Posts.{Post}
+use Rattle.message_form.specs.declared.turns.Out.{Out}
+use Rattle.message_form.specs.Growth.{Grew}
+use Rattle.message_form.specs.Posts.{Post}
 use Rattle.pseudo_time.specs.Nodes.{same_node}
 use Rattle.message_core.proofs.NodeLemmas.{same_is, same_node-refl}
 use Rattle.object_history.proofs.ObjectLemmas.{eq-from}

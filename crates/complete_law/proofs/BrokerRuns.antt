@@ -21,7 +21,7 @@ use Rattle.pseudo_time.specs.Nodes.{broker}
 use Rattle.broker_core.specs.Tasks.{Task}
 use Rattle.broker_core.specs.Turns as desks
 use Rattle.broker_core.specs.Turns.{Desk, desk_at, desk_turn, fuel, hears, note, note_if, reply, say, send, settle_up, state}
-use Rattle.turn_form.specs.declared.turns.Out.{Out}
+use Rattle.message_form.specs.declared.turns.Out.{Out}
 use Rattle.world_core.specs.declared.entries.Entry.{Entry}
 use Rattle.world_core.specs.declared.entries.Entry.TheVariants as entry
 use Rattle.world_core.specs.Nodes.{gives}

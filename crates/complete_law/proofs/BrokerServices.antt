@@ -14,8 +14,8 @@ use Rattle.value_form.specs.declared.objects.ObjectId.{ObjectId}
 use Rattle.effect_form.specs.declared.effects.Effect.TheVariants as effect
 use Rattle.message_form.specs.declared.messages.Message.{Message}
 use Rattle.message_form.specs.declared.messages.Message.TheVariants as message
-use Rattle.turn_form.specs.declared.turns.Out.{Out}
-use Rattle.turn_form.specs.Growth.{Grew}
+use Rattle.message_form.specs.declared.turns.Out.{Out}
+use Rattle.message_form.specs.Growth.{Grew}
 use Rattle.script_meaning.specs.Meaning.{ToRead, ToWrite}
 use Rattle.repository_core.specs.declared.waits.HeldRead.{HeldRead}
 use Rattle.repository_core.specs.Hands.{Hand}
@@ -46,10 +46,10 @@ use Rattle.world_facts.specs.Soft.{NodeOk, around, happened}
 use Rattle.world_facts.proofs.NodeLaws.{node-laws}
 use Rattle.world_facts.proofs.Openings.{facts-of}
 use Rattle.complete_law.specs.AtRest.{read_to, standing_at}
-use Rattle.repository_waits.proofs.AskServices.{has-record}
+use Rattle.repository_laws.proofs.AskServices.{has-record}
 use Rattle.complete_law.proofs.BrokerMoves.{node-there, turn-there}
 use Rattle.broker_laws.proofs.BookSteps.{StageSound, stage-sound}
-use Rattle.repository_waits.proofs.ReadSteps.{Keeps, Serves, on-message-serves}
+use Rattle.repository_laws.proofs.ReadSteps.{Keeps, Serves, on-message-serves}
 use Rattle.complete_law.proofs.Answering.{heeds-read}
 use Rattle.complete_law.proofs.Hearings.{open-closed}
 use Rattle.complete_law.proofs.Places.{log_of, gated_of, Heeds, IsBegun, IsDecided, desk_of, standing_in, tasks_of, CalmWorld}

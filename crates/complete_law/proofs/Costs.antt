@@ -15,7 +15,7 @@ use Rattle.effect_form.specs.declared.outcomes.Outcome.{Outcome}
 use Rattle.effect_form.specs.declared.outcomes.Outcome.TheVariants as outcome
 use Rattle.message_form.specs.declared.messages.Message.{Message}
 use Rattle.message_form.specs.declared.messages.Message.TheVariants as message
-use Rattle.turn_form.specs.declared.turns.Out.{Out}
+use Rattle.message_form.specs.declared.turns.Out.{Out}
 use Rattle.script_meaning.specs.Meaning.{Answer, Got, Stored, Request, ToRead, ToWrite, Stop, Asks, Over}
 use Rattle.serial_model.specs.Questions.{Tree}
 use Rattle.broker_core.specs.declared.heards.Heard.{Heard}
@@ -34,7 +34,7 @@ use Rattle.broker_laws.proofs.Desks.{Good, OwedOk, StageOk, Stops, owed-ok, stag
 use Rattle.broker_laws.proofs.Moves.{if-open}
 use Rattle.broker_laws.specs.Posts.{HasCome}
 use Rattle.broker_laws.proofs.Desks.{ReplyOk, news-came, row-ok}
-use Rattle.turn_form.specs.Posts.{Post}
+use Rattle.message_form.specs.Posts.{Post}
 use Rattle.pseudo_time.specs.declared.nodes.NodeId.{NodeId}
 use Rattle.broker_core.specs.Turns as desks
 use Rattle.broker_laws.proofs.BookSteps.{BookSound, StageSound, enter-sound, stage-sound}

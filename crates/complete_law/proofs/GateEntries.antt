@@ -12,7 +12,7 @@ use Rattle.effect_form.specs.declared.effects.Effect.{Effect}
 use Rattle.effect_form.specs.declared.effects.Effect.TheVariants as effect
 use Rattle.message_form.specs.declared.messages.Message.{Message}
 use Rattle.message_form.specs.declared.messages.Message.TheVariants as message
-use Rattle.turn_form.specs.declared.turns.Out.{Out}
+use Rattle.message_form.specs.declared.turns.Out.{Out}
 use Rattle.serial_model.specs.Questions.{Tree}
 use Rattle.object_history.specs.History.{or_else, settle_of}
 use Rattle.repository_log.specs.Logs.{known, knows, marks}

@@ -12,8 +12,8 @@ use Rattle.effect_form.specs.declared.effects.Effect.{Effect}
 use Rattle.effect_form.specs.declared.effects.Effect.TheVariants as effect
 use Rattle.message_form.specs.declared.messages.Message.{Message}
 use Rattle.message_form.specs.declared.messages.Message.TheVariants as message
-use Rattle.turn_form.specs.declared.turns.Out.{Out}
-use Rattle.turn_form.specs.Posts.{Post, post, posts}
+use Rattle.message_form.specs.declared.turns.Out.{Out}
+use Rattle.message_form.specs.Posts.{Post, post, posts}
 use Rattle.pseudo_time.specs.Nodes.{same_node}
 use Rattle.message_core.proofs.NodeLemmas.{same_node-refl}
 use Rattle.repository_core.specs.declared.waits.HeldRead.{HeldRead}
@@ -36,14 +36,14 @@ use Rattle.world_core.specs.Legal.{MayGate, times_taken}
 use Rattle.world_facts.specs.Refines.{Refines}
 use Rattle.world_facts.specs.NodeRules.{node_turns, node_facts}
 use Rattle.world_facts.proofs.Steps.{sent-gate, step-known, unknown-stays}
-use Rattle.repository_waits.specs.Waits.{Waits}
+use Rattle.repository_laws.specs.Waits.{Waits}
 use Rattle.complete_law.specs.AtRest.{read_to, standing_at}
 use Rattle.complete_law.proofs.BrokerEntries.{sound-more}
 use Rattle.complete_law.proofs.BrokerMoves.{not-same, parted}
 use Rattle.broker_laws.proofs.BookTurns.{DeskSound}
 use Rattle.complete_law.proofs.GateEntries.{answer-leaves, ask-leaves, at-end, numbered-before, numbered-kept, request-leaves}
-use Rattle.repository_waits.proofs.HeldLemmas.{filter-has}
-use Rattle.repository_waits.specs.Waits.{ask_of, tell_of}
+use Rattle.repository_laws.proofs.HeldLemmas.{filter-has}
+use Rattle.repository_laws.specs.Waits.{ask_of, tell_of}
 use Rattle.complete_law.proofs.Idles.{waits-has}
 use Rattle.complete_law.proofs.Places.{log_of, gated_of, held_of, IsBegun, IsDecided, Flying, AskedFor, tasks_of, desk_of, standing_in, Placed, SaidOf, CalmWorld, all-off, both-on}
 use Rattle.world_facts.proofs.Growths.{has-filter, has-map, map-has}

@@ -17,11 +17,11 @@ use Rattle.effect_form.specs.declared.effects.Effect.{Effect}
 use Rattle.effect_form.specs.declared.effects.Effect.TheVariants as effect
 use Rattle.message_form.specs.declared.messages.Message.{Message}
 use Rattle.message_form.specs.declared.messages.Message.TheVariants as message
-use Rattle.turn_form.specs.Growth.{Grew}
+use Rattle.message_form.specs.Growth.{Grew}
 use Rattle.script_meaning.specs.Meaning.{Request, Asks, Over}
 use Rattle.repository_log.specs.Logs.{known}
 use Rattle.repository_laws.specs.Facts as repositories
-use Rattle.turn_form.specs.Posts.{WasSent}
+use Rattle.message_form.specs.Posts.{WasSent}
 use Rattle.repository_laws.proofs.Logs.{begin-home, decide-home, decide-cause}
 use Rattle.broker_core.specs.Book.{Book, Try, book, find, open_try, time_of, tries}
 use Rattle.broker_core.specs.Fits.{is_none, stop_of}

@@ -13,8 +13,8 @@ use Rattle.value_form.specs.declared.values.Value.{Value}
 use Rattle.effect_form.specs.declared.effects.Effect.{Effect}
 use Rattle.effect_form.specs.declared.effects.Effect.TheVariants as effect
 use Rattle.message_form.specs.declared.messages.Message.TheVariants as message
-use Rattle.turn_form.specs.declared.turns.Out.{Out}
-use Rattle.turn_form.specs.Posts.{Post}
+use Rattle.message_form.specs.declared.turns.Out.{Out}
+use Rattle.message_form.specs.Posts.{Post}
 use Rattle.stream_port.specs.declared.fates.Fate.{Fate}
 use Rattle.stream_port.specs.Fates.{copies_of}
 use Rattle.serial_model.specs.Questions.{Tree}
@@ -31,7 +31,7 @@ use Rattle.repository_core.specs.declared.waits.HeldRead.{HeldRead}
 use Rattle.repository_log.specs.Logs.{known}
 use Rattle.repository_core.specs.Rows.{waits_for}
 use Rattle.repository_laws.specs.Facts.{WriteSent}
-use Rattle.turn_form.specs.Posts.{WasSent}
+use Rattle.message_form.specs.Posts.{WasSent}
 use Rattle.repository_laws.proofs.Logs.{decide-settles}
 use Rattle.broker_core.specs.declared.heards.Heard.{Heard}
 use Rattle.object_history.proofs.ObjectLemmas.{eq-from}
@@ -52,12 +52,12 @@ use Rattle.world_facts.specs.Refines.{LogFacts, logs_at}
 use Rattle.world_facts.specs.NodeRules.{node_facts}
 use Rattle.world_facts.specs.Soft.{SentOk}
 use Rattle.world_facts.proofs.Growths.{none-has, each-has}
-use Rattle.repository_waits.specs.Waits.{Waits}
+use Rattle.repository_laws.specs.Waits.{Waits}
 use Rattle.complete_law.specs.AtRest.{DecidedAt, standing_at, is_done, read_to, AtRest}
 use Rattle.complete_law.specs.Calm.{IsPlain}
 use Rattle.broker_laws.specs.Waits.{older}
 use Rattle.broker_laws.proofs.BookSteps.{AllDecided, BookSound, HasSettled, Trail, last-among, open-among}
-use Rattle.repository_waits.specs.Waits.{ask_of, tell_of}
+use Rattle.repository_laws.specs.Waits.{ask_of, tell_of}
 use Rattle.complete_law.proofs.Places.{log_of, gated_of, held_of, IsBegun, IsDecided, Flying, AskedFor, tasks_of, standing_in, Placed, CalmWorld}
 use Rattle.complete_law.proofs.Rests.{all-done}
 use Rattle.serial_law.proofs.Attempts.{found-in}

@@ -19,7 +19,7 @@ use Rattle.pseudo_time.specs.Nodes.{is_broker}
 use Rattle.repository_laws.specs.Facts.{IsTidy}
 use Rattle.repository_laws.proofs.Logs.{settled-log, tidy-through}
 use Rattle.pseudo_time.specs.Nodes.{broker, repository}
-use Rattle.turn_form.specs.Posts.{Post}
+use Rattle.message_form.specs.Posts.{Post}
 use Rattle.world_core.specs.Walks.{Base, Life, Sending, World, sent_by}
 use Rattle.complete_law.specs.Calm.{AskAtMost, CalmPlace, CalmRun, log_at, tries_in, world_at}
 use Rattle.complete_law.proofs.BrokerLoads.{wt}

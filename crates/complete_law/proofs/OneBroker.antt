@@ -25,9 +25,9 @@ use Rattle.effect_form.specs.declared.outcomes.Outcome.TheVariants as outcome
 use Rattle.message_form.specs.declared.messages.Message.{Message}
 use Rattle.message_form.specs.declared.messages.Message.TheVariants as message
 use Rattle.message_core.proofs.NodeLemmas.{same_node-refl}
-use Rattle.turn_form.specs.declared.turns.Out.{Out}
-use Rattle.turn_form.specs.Growth.{Grew}
-use Rattle.turn_form.specs.Posts.{Post, WasSent, post, posts}
+use Rattle.message_form.specs.declared.turns.Out.{Out}
+use Rattle.message_form.specs.Growth.{Grew}
+use Rattle.message_form.specs.Posts.{Post, WasSent, post, posts}
 use Rattle.stream_port.specs.declared.fates.Fate.{Fate}
 use Rattle.script_meaning.specs.Meaning.{Answer, Asks, Got, Over, Request, Stored, ToRead, ToWrite}
 use Rattle.serial_model.specs.Questions.{stop}
@@ -44,7 +44,7 @@ use Rattle.repository_core.specs.Turns.{hand_at}
 use Rattle.repository_log.specs.Logs.{known, marks}
 use Rattle.repository_laws.proofs.Logs.{put-logged}
 use Rattle.repository_laws.proofs.Turns.{broker-is}
-use Rattle.repository_waits.proofs.HeldLemmas.{filter-has}
+use Rattle.repository_laws.proofs.HeldLemmas.{filter-has}
 use Rattle.broker_core.specs.Book.{Book, Try, book, find, tries, tries_of}
 use Rattle.broker_core.specs.Turns.{state}
 use Rattle.broker_laws.specs.Fits.{EndsBy, FitsLog, IsTidy}

@@ -14,8 +14,8 @@ use Rattle.effect_form.specs.declared.effects.Effect.{Effect}
 use Rattle.effect_form.specs.declared.effects.Effect.TheVariants as effect
 use Rattle.message_form.specs.declared.messages.Message.{Message}
 use Rattle.message_form.specs.declared.messages.Message.TheVariants as message
-use Rattle.turn_form.specs.declared.turns.Out.{Out}
-use Rattle.turn_form.specs.Posts.{Post, post}
+use Rattle.message_form.specs.declared.turns.Out.{Out}
+use Rattle.message_form.specs.Posts.{Post, post}
 use Rattle.script_meaning.specs.Meaning.{ToRead, ToWrite}
 use Rattle.repository_core.specs.declared.waits.HeldRead.{HeldRead}
 use Rattle.repository_core.specs.declared.waits.Asker.{Asker}
@@ -33,13 +33,13 @@ use Rattle.broker_core.specs.Turns.{desk_at, state}
 use Rattle.broker_laws.specs.Works.{IsRested}
 use Rattle.world_core.specs.Walks.{Base, Life, Sending, World, numbered, opened_life, sent_by, all_effects}
 use Rattle.world_core.specs.Legal.{times_taken}
-use Rattle.repository_waits.specs.Waits.{Waits}
+use Rattle.repository_laws.specs.Waits.{Waits}
 use Rattle.complete_law.specs.AtRest.{standing_at, read_to}
-use Rattle.repository_waits.proofs.AskerSteps.{Askers}
+use Rattle.repository_laws.proofs.AskerSteps.{Askers}
 use Rattle.complete_law.proofs.BrokerEntries.{sound-more}
 use Rattle.broker_laws.proofs.BookTurns.{DeskSound}
-use Rattle.repository_waits.proofs.ReadSteps.{Answers, Keeps, Serves}
-use Rattle.repository_waits.specs.Waits.{ask_of, tell_of}
+use Rattle.repository_laws.proofs.ReadSteps.{Answers, Keeps, Serves}
+use Rattle.repository_laws.specs.Waits.{ask_of, tell_of}
 use Rattle.complete_law.proofs.Answering.{heeds-read}
 use Rattle.complete_law.proofs.Places.{log_of, held_of, IsBegun, IsDecided, Flying, AskedFor, tasks_of, desk_of, standing_in, Heeds, Placed, SaidOf, CalmWorld}
 

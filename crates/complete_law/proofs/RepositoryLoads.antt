@@ -10,7 +10,7 @@ use Rattle.message_form.specs.declared.messages.Message.{Message}
 use Rattle.pseudo_time.specs.Nodes.{same_node}
 use Rattle.message_core.proofs.NodeLemmas.{same_node-refl}
 use Rattle.stream_port.specs.Fates.{copies_of}
-use Rattle.turn_form.specs.Posts.{Post}
+use Rattle.message_form.specs.Posts.{Post}
 use Rattle.repository_core.specs.Hands.{Hand, now}
 use Rattle.repository_core.specs.declared.waits.Asker.{Asker}
 use Rattle.repository_core.specs.declared.waits.HeldRead.{HeldRead}

@@ -14,8 +14,8 @@ use Rattle.effect_form.specs.declared.effects.Effect.{Effect}
 use Rattle.effect_form.specs.declared.effects.Effect.TheVariants as effect
 use Rattle.message_form.specs.declared.messages.Message.{Message}
 use Rattle.message_form.specs.declared.messages.Message.TheVariants as message
-use Rattle.turn_form.specs.declared.turns.Out.{Out}
-use Rattle.turn_form.specs.Posts.{Post, post}
+use Rattle.message_form.specs.declared.turns.Out.{Out}
+use Rattle.message_form.specs.Posts.{Post, post}
 use Rattle.pseudo_time.specs.Nodes.{same_node}
 use Rattle.message_core.proofs.NodeLemmas.{same_node-refl}
 use Rattle.object_history.proofs.ObjectLemmas.{eq-from}
@@ -32,7 +32,7 @@ use Rattle.repository_laws.specs.AnyLogs.{RefusesRightly}
 use Rattle.repository_laws.proofs.Turns.{broker-is}
 use Rattle.object_history.proofs.BoolLemmas.{and-left, and-right}
 use Rattle.complete_law.proofs.Idles.{waits-has}
-use Rattle.repository_waits.proofs.KnownSteps.{on-learn-known}
+use Rattle.repository_laws.proofs.KnownSteps.{on-learn-known}
 use Rattle.repository_laws.proofs.AnyTurns.{begun-fine, on-learn-fine, take-fine}
 use Rattle.broker_core.specs.declared.replies.Reply.TheVariants.{Ignored}
 use Rattle.broker_core.specs.Rows.{row, news}
@@ -53,15 +53,15 @@ use Rattle.world_facts.specs.Soft.{NodeOk, SentOk, around, happened}
 use Rattle.world_facts.proofs.Growths.{numbered-has, each-has, every-of}
 use Rattle.world_facts.proofs.NodeLaws.{node-laws}
 use Rattle.world_facts.proofs.Openings.{facts-of}
-use Rattle.repository_waits.specs.Waits.{Waits}
+use Rattle.repository_laws.specs.Waits.{Waits}
 use Rattle.complete_law.specs.AtRest.{read_to}
-use Rattle.repository_waits.proofs.AskerSteps.{Askers, on-learn-askers, on-message-askers}
+use Rattle.repository_laws.proofs.AskerSteps.{Askers, on-learn-askers, on-message-askers}
 use Rattle.complete_law.proofs.BrokerMoves.{node-there, not-same, other-copies, parted}
 use Rattle.complete_law.proofs.BrokerServices.{serves-broker}
-use Rattle.repository_waits.proofs.ReadSteps.{Asks, Keeps, begins, on-learn-keeps, on-message-keeps}
-use Rattle.repository_waits.specs.Waits.{ask_of, tell_of}
+use Rattle.repository_laws.proofs.ReadSteps.{Asks, Keeps, begins, on-learn-keeps, on-message-keeps}
+use Rattle.repository_laws.specs.Waits.{ask_of, tell_of}
 use Rattle.complete_law.proofs.Places.{log_of, held_of, AskedFor, Flying, Heeds, IsBegun, Placed, standing_in, tasks_of, CalmWorld, all-off, both-on}
-use Rattle.repository_waits.proofs.AskServices.{ask-serves, has-record}
+use Rattle.repository_laws.proofs.AskServices.{ask-serves, has-record}
 use Rattle.complete_law.proofs.RepositoryEntries.{Turned, broker-life, life-hand, log-here, owed-flies, turned-calm, waits-there}
 
 abbrev known-in : List Effect → StampParts → Option Bool

@@ -11,7 +11,7 @@ use Rattle.value_form.specs.declared.objects.ObjectId.{ObjectId}
 use Rattle.effect_form.specs.declared.effects.Effect.TheVariants as effect
 use Rattle.effect_form.specs.declared.outcomes.Outcome.{Outcome}
 use Rattle.message_form.specs.declared.messages.Message.TheVariants as message
-use Rattle.turn_form.specs.declared.turns.Out.{Out}
+use Rattle.message_form.specs.declared.turns.Out.{Out}
 use Rattle.script_meaning.specs.Meaning.{ToRead, ToWrite, Stop, Asks, Over}
 use Rattle.serial_model.specs.Questions.{Tree}
 use Rattle.repository_core.specs.declared.waits.HeldRead.{HeldRead}
@@ -33,7 +33,7 @@ use Rattle.broker_laws.proofs.LastTry.{last-is-open}
 use Rattle.broker_laws.proofs.Desks.{StageOk, stage-ok}
 use Rattle.broker_laws.proofs.Moves.{if-open}
 use Rattle.broker_laws.proofs.Done.{rested-done}
-use Rattle.repository_waits.specs.Waits.{Waits}
+use Rattle.repository_laws.specs.Waits.{Waits}
 use Rattle.complete_law.specs.AtRest.{DecidedAt, standing_at, is_done, read_to, AtRest}
 use Rattle.complete_law.proofs.Descents.{Below, below, never}
 use Rattle.complete_law.proofs.Ranges.{same-run}

@@ -10,15 +10,15 @@ use Rattle.value_form.specs.declared.values.Value.{Value}
 use Rattle.effect_form.specs.declared.effects.Effect.{Effect}
 use Rattle.effect_form.specs.declared.effects.Effect.TheVariants as effect
 use Rattle.message_form.specs.declared.messages.Message.TheVariants as message
-use Rattle.turn_form.specs.declared.turns.Out.{Out}
-use Rattle.turn_form.specs.Posts.{Post}
+use Rattle.message_form.specs.declared.turns.Out.{Out}
+use Rattle.message_form.specs.Posts.{Post}
 use Rattle.script_meaning.specs.Meaning.{ToWrite}
 use Rattle.serial_model.specs.Questions.{Tree}
 use Rattle.repository_core.specs.declared.waits.HeldRead.{HeldRead}
 use Rattle.repository_core.specs.Rows.{waits_for}
 use Rattle.repository_laws.specs.Facts.{WriteSent}
-use Rattle.repository_waits.specs.Waits.{Waits}
-use Rattle.turn_form.specs.Posts.{WasSent}
+use Rattle.repository_laws.specs.Waits.{Waits}
+use Rattle.message_form.specs.Posts.{WasSent}
 use Rattle.plan_form.specs.Plans.{InRange}
 use Rattle.broker_core.specs.declared.heards.Heard.{Heard}
 use Rattle.broker_core.specs.Book.{Try, book, tries, find, last_try}

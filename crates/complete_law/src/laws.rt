@@ -7,7 +7,7 @@ ghost use Rattle.serial_model.specs.Questions.{Tree, denote};
 ghost use Rattle.broker_core.specs.Tasks.{Task};
 ghost use Rattle.plan_form.specs.Plans.{InRange};
 ghost use Rattle.message_form.specs.declared.messages.Message.{Message};
-ghost use Rattle.turn_form.specs.Posts.{WasSent};
+ghost use Rattle.message_form.specs.Posts.{WasSent};
 ghost use Rattle.complete_law.specs.AtRest.{AtRest, is_done};
 ghost use Rattle.broker_core.specs.Book.{Try, tries_of};
 ghost use Rattle.world_core.specs.declared.entries.Entry.{Entry};

@@ -6,14 +6,13 @@ ghost use Rattle.plan_form.specs.PlanTexts.{IsOfLanguage};
 
 use crate::digits::bytes_of;
 use broker_core::Broker;
-use message_form::{Message, read};
+use message_form::{Message, Turn, read};
 use object_history::PlainHistories;
 use plan_form::{Plan, law_of_plans, parse};
 use pseudo_time::{NodeId, NodeKind};
 use repository_core::Repository;
 use std::alloc::Global;
 use std::test::*;
-use turn_form::Turn;
 use value_form::ActSpec;
 use world_core::law_of_plans_in_range;
 

@@ -1,5 +1,5 @@
 //! Which messages the laboratory loses.
-use lab_setup::LabFates;
+use laboratory::LabFates;
 use std::test::*;
 use stream_port::{Asked, Fate, Fates};
 

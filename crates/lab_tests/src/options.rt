@@ -1,5 +1,5 @@
 //! Which words the laboratory takes.
-use lab_setup::{LabFault, lab_words};
+use laboratory::{LabFault, lab_words};
 use std::alloc::{AllocError, Global};
 use std::test::*;
 

@@ -1,1 +1,3 @@
+mod GivenLemmas
 mod RunLemmas
+mod WordLemmas

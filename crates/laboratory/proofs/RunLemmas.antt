@@ -6,15 +6,15 @@ use Rattle.std.specs.String.{string_bytes}
 use Rattle.stream_port.specs.declared.fates.Asked.{Asked}
 use Rattle.medium_port.specs.declared.memory_media.MemoryMedium.{MemoryMedium}
 use Rattle.medium_port.specs.declared.memory_shelves.MemoryShelf.{MemoryShelf}
-use Rattle.run_rounds.specs.Finishes.{account_of, tellers}
+use Rattle.swallow_top.specs.Finishes.{account_of, tellers}
 use Rattle.swallow_top.specs.Promise.{Call, Promise}
 use Rattle.laboratory.specs.Calls.{IsStarved, LabPromise, RanAs, call_made, cut}
-use Rattle.lab_setup.specs.Fates.{asked_of, divisor_of, fates_are}
-use Rattle.lab_setup.specs.Losses.{IsFated}
+use Rattle.laboratory.specs.Fates.{asked_of, divisor_of, fates_are}
+use Rattle.laboratory.specs.Losses.{IsFated}
 use Rattle.laboratory.specs.Runs.{LabRun}
-use Rattle.lab_setup.specs.Options.{AreFor}
-use Rattle.lab_setup.specs.Shelves.{IsLabShelf}
-use Rattle.lab_setup.specs.declared.options.Lab.{Lab}
+use Rattle.laboratory.specs.Options.{AreFor}
+use Rattle.laboratory.specs.Shelves.{IsLabShelf}
+use Rattle.laboratory.specs.declared.options.Lab.{Lab}
 
 -- the call that was made, with other words, and with what the fates and the clock had told before it
 abbrev call_with : LabRun → Lab → (before after : MemoryShelf) → List (List ℕ) → List Asked → Option (List ℕ) → Call MemoryMedium

@@ -8,16 +8,16 @@ use Rattle.medium_port.specs.declared.memory_media.MemoryMedium.{MemoryMedium}
 use Rattle.medium_port.specs.declared.memory_shelves.MemoryShelf.{MemoryShelf}
 use Rattle.wire_lock.specs.Stories.{no_trace}
 use Rattle.run_media.specs.Media.{Media, media_with}
-use Rattle.run_rounds.specs.Finishes.{account_of, tellers}
+use Rattle.swallow_top.specs.Finishes.{account_of, tellers}
 use Rattle.swallow_top.specs.Promise.{Call, Promise}
 use Rattle.swallow_top.specs.Shelves.{ShelfSight, shelf_sight}
 use Rattle.swallow_top.specs.Written.{Sinking, GotLine}
-use Rattle.lab_setup.specs.declared.options.Lab.{Lab}
-use Rattle.lab_setup.specs.Fates.{asked_of, divisor_of}
-use Rattle.lab_setup.specs.Losses.{IsFated}
-use Rattle.lab_setup.specs.Options.{AreFor, AreRefused}
+use Rattle.laboratory.specs.declared.options.Lab.{Lab}
+use Rattle.laboratory.specs.Fates.{asked_of, divisor_of}
+use Rattle.laboratory.specs.Losses.{IsFated}
+use Rattle.laboratory.specs.Options.{AreFor, AreRefused}
 use Rattle.laboratory.specs.Runs.{LabRun}
-use Rattle.lab_setup.specs.Shelves.{IsLabShelf}
+use Rattle.laboratory.specs.Shelves.{IsLabShelf}
 
 -- the line that refuses the laboratory's own words
 abbrev pub words_line : List ℕ

@@ -5,7 +5,7 @@ use Rattle.medium_port.specs.declared.memory_media.MemoryMedium.{MemoryMedium}
 use Rattle.world_core.specs.declared.traces.Trace.{Trace}
 use Rattle.swallow_top.specs.declared.media.Kept.{Kept}
 use Rattle.swallow_top.specs.Written.{Sinking}
-use Rattle.lab_setup.specs.declared.losses.LabFates.{LabFates}
+use Rattle.laboratory.specs.declared.losses.LabFates.{LabFates}
 
 -- all but its words
 pub record LabRun : Type 0 where

@@ -3,8 +3,13 @@
 #![tactic(auto)]
 
 mod lines;
+mod losses;
+mod options;
 mod runs;
+mod shelves;
 mod ties;
 
-pub use lab_setup::{Lab, LabFates, LabFault, lab_words};
+pub use losses::LabFates;
+pub use options::{Lab, LabFault, lab_words};
 pub use runs::lab;
+pub use shelves::shelf_for;

@@ -4,13 +4,13 @@ ghost use Rattle.std.specs.String.{string_bytes};
 ghost use Rattle.wire_lock.specs.Stories.{no_trace};
 ghost use Rattle.command_words.specs.Words.{said};
 ghost use Rattle.swallow_top.specs.Written.{sinking};
-ghost use Rattle.lab_setup.specs.Fates.{asked_of};
-ghost use Rattle.lab_setup.specs.Shelves.{IsLabShelf};
+ghost use Rattle.laboratory.specs.Fates.{asked_of};
+ghost use Rattle.laboratory.specs.Shelves.{IsLabShelf};
 ghost use Rattle.laboratory.specs.Calls as spec;
 
 use crate::lines::write_line;
 use crate::ties::{Divisor, StillClock, TiedFates};
-use lab_setup::{Lab, LabFates, LabFault, lab_words, shelf_for};
+use crate::{Lab, LabFates, LabFault, lab_words, shelf_for};
 use medium_port::{MemoryMedium, MemoryShelf};
 use std::alloc::{AllocError, Global};
 use std::marker::{Brand, PhantomData};

@@ -1,8 +1,8 @@
 //! Fates and a clock that stay what they were when a run hands them back.
 ghost use Rattle.std.specs.Prelude.{◌≡◌, ℕ, Some, replicate};
-ghost use Rattle.lab_setup.specs.Fates.{asked_of, divisor_of};
+ghost use Rattle.laboratory.specs.Fates.{asked_of, divisor_of};
 
-use lab_setup::LabFates;
+use crate::LabFates;
 use std::alloc::AllocError;
 use std::marker::{Brand, PhantomData};
 use stream_port::{Clock, Fate, Fates, FixedClock};

@@ -12,6 +12,10 @@ use std::snapshot::Snapshot;
 /// A medium over a file, which no other program can take while it lives. It tells no content. The
 /// first call that fails says on standard error why.
 ///
+/// A write or a sync that failed is final: the medium isn't reopened after it. A full disk would
+/// refuse the same write again for ever, and after a failed sync a system may drop what it couldn't
+/// write and still answer the next sync.
+///
 /// What is assumed of the file is what the trait says of a medium: that reads give what was
 /// written, and that a crash after a sync leaves it.
 #[derive(Drop)]
@@ -20,6 +24,8 @@ pub struct FileMedium {
     count: u32,
     health: Health,
     account: Account,
+    // Whether a write or a sync failed.
+    lost: bool,
     // For contracts alone: a snapshot has no bytes.
     last: Option<(u32, Snapshot<[u8; 4096]>)>,
     ghost some: { 1 ≤ count },
@@ -48,6 +54,7 @@ impl FileMedium {
                 faults: 0,
             },
             account,
+            lost: false,
             last: None,
         }
     }
@@ -112,24 +119,36 @@ impl Medium for FileMedium {
     fn write(&mut self, page: u32, at: u16, bytes: &[u8]) -> Result<(), MediumFault> {
         match self.file.write_all_at(bytes, offset(page, at)) {
             Ok(()) => Ok(()),
-            Err(error) => Err(self.fail(error)),
+            Err(error) => {
+                self.lost = true;
+                Err(self.fail(error))
+            }
         }
     }
 
     fn sync(&mut self) -> Result<(), MediumFault> {
         match self.file.sync_data() {
             Ok(()) => Ok(()),
-            Err(error) => Err(self.fail(error)),
+            Err(error) => {
+                self.lost = true;
+                Err(self.fail(error))
+            }
         }
     }
 
     fn reopen(&mut self) -> Result<(), MediumFault> {
+        if self.lost {
+            return Err(self.health.fail());
+        }
         match self.file.sync_all() {
             Ok(()) => {
                 self.health.failed = false;
                 Ok(())
             }
-            Err(error) => Err(self.fail(error)),
+            Err(error) => {
+                self.lost = true;
+                Err(self.fail(error))
+            }
         }
     }
 }

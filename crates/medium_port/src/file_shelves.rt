@@ -22,6 +22,9 @@ const MOST_PAGES: u64 = 1_048_576;
 /// `repository-1-0`. A file that isn't there, or is empty, is made with 4,096 pages. A file that
 /// another program has for a medium can't be taken.
 ///
+/// A folder is one program's at a time: the first taking locks the empty file `lock` in it, before
+/// any medium is opened or made, and a program that meets the lock takes nothing.
+///
 /// A taking that fails, and each medium at its first fault, says on standard error why: a line with
 /// the medium's file and the system's reason.
 #[derive(Drop)]
@@ -30,6 +33,9 @@ pub struct FileShelf<R: Files<File = File>> {
     files: R,
     errors: Stderr,
     folder: String,
+    lock_path: String,
+    // The folder's lock, once it was taken.
+    lock: Option<File>,
     taken: Vec<MediumName>,
     faults: u64,
 }
@@ -45,12 +51,15 @@ impl<R: Files<File = File>> FileShelf<R> {
     where
         R: Drop,
     {
+        let lock_path = format!(in alloc; "{}/lock", folder)?;
         let folder = folder.to_string(alloc)?;
         Ok(FileShelf {
             alloc,
             files,
             errors,
             folder,
+            lock_path,
+            lock: None,
             taken: Vec::new(alloc),
             faults: 0,
         })
@@ -160,15 +169,8 @@ fn measure(files: &impl Files<File = File>, folder: &str, file: &File) -> Result
     Ok(pages as u32)
 }
 
-// The file and its number of pages. The lock is the file's, and the system lifts it at its end.
-fn open_file(
-    files: &impl Files<File = File>,
-    folder: &str,
-    path: &str,
-) -> Result<(File, u32), Refusal>
-    ensures { IfOk result (λ r. (1 ≤ r.1) × (r.1 ≤ 1048576)) }
-{
-    make_folder(files, folder)?;
+// Opens a file, which is made where it isn't there.
+fn open_regular(files: &impl Files<File = File>, path: &str) -> Result<File, Refusal> {
     let file = File::options()
         .read(true)
         .write(true)
@@ -177,11 +179,44 @@ fn open_file(
     if !file.metadata()?.is_file() {
         return Err(Refusal::NoFile);
     }
+    Ok(file)
+}
+
+// Locks a file. The lock is the file's, and the system lifts it at its end.
+fn lock_file(file: &File) -> Result<(), Refusal> {
     match file.try_lock() {
-        Ok(()) => {}
-        Err(TryLockError::WouldBlock) => return Err(Refusal::Locked),
-        Err(TryLockError::Error(error)) => return Err(error.into()),
+        Ok(()) => Ok(()),
+        Err(TryLockError::WouldBlock) => Err(Refusal::Locked),
+        Err(TryLockError::Error(error)) => Err(error.into()),
     }
+}
+
+// Locks the folder, unless that was done.
+fn lock_folder(
+    files: &impl Files<File = File>,
+    folder: &str,
+    path: &str,
+    lock: &mut Option<File>,
+) -> Result<(), Refusal> {
+    if lock.is_none() {
+        make_folder(files, folder)?;
+        let file = open_regular(files, path)?;
+        lock_file(&file)?;
+        *lock = Some(file);
+    }
+    Ok(())
+}
+
+// The file and its number of pages.
+fn open_file(
+    files: &impl Files<File = File>,
+    folder: &str,
+    path: &str,
+) -> Result<(File, u32), Refusal>
+    ensures { IfOk result (λ r. (1 ≤ r.1) × (r.1 ≤ 1048576)) }
+{
+    let file = open_regular(files, path)?;
+    lock_file(&file)?;
     let pages = measure(files, folder, &file)?;
     Ok((file, pages))
 }
@@ -203,15 +238,31 @@ fn account_of(
     Account::new(alloc, errors, path.as_str())
 }
 
+// The file and its number of pages, in a folder that is this program's.
+fn open_locked(
+    files: &impl Files<File = File>,
+    folder: &str,
+    lock_path: &str,
+    lock: &mut Option<File>,
+    path: &str,
+) -> Result<(File, u32), Refusal>
+    ensures { IfOk result (λ r. (1 ≤ r.1) × (r.1 ≤ 1048576)) }
+{
+    lock_folder(files, folder, lock_path, lock)?;
+    open_file(files, folder, path)
+}
+
 // Says why where there is none.
 fn open_medium(
     files: &impl Files<File = File>,
     folder: &str,
+    lock_path: &str,
+    lock: &mut Option<File>,
     mut account: Account,
 ) -> Option<FileMedium>
     ensures { IfSome result (λ m. IsNewMedium m) }
 {
-    match open_file(files, folder, account.path()) {
+    match open_locked(files, folder, lock_path, lock, account.path()) {
         Ok((file, pages)) => Some(FileMedium::new(file, pages, account)),
         Err(refusal) => {
             account.say(refusal);
@@ -226,12 +277,14 @@ fn medium_of(
     files: &impl Files<File = File>,
     errors: Stderr,
     folder: &str,
+    lock_path: &str,
+    lock: &mut Option<File>,
     name: MediumName,
 ) -> Option<FileMedium>
     ensures { IfSome result (λ m. IsNewMedium m) }
 {
     match account_of(alloc, errors, folder, name) {
-        Ok(account) => open_medium(files, folder, account),
+        Ok(account) => open_medium(files, folder, lock_path, lock, account),
         Err(_) => None,
     }
 }
@@ -259,7 +312,16 @@ impl<R: Files<File = File> + Drop> Shelf for FileShelf<R> {
         };
         if !self.taken.contains(&name) {
             let folder = self.folder.as_str();
-            let opened = medium_of(self.alloc, &self.files, self.errors, folder, name);
+            let lock_path = self.lock_path.as_str();
+            let opened = medium_of(
+                self.alloc,
+                &self.files,
+                self.errors,
+                folder,
+                lock_path,
+                &mut self.lock,
+                name,
+            );
             if let Some(medium) = opened {
                 if self.taken.push(name).is_ok() {
                     return Ok(medium);

@@ -5,7 +5,7 @@ use Rattle.std.specs.Option.{unwrap_or}
 use Rattle.pseudo_time.specs.declared.nodes.NodeId.{NodeId}
 use Rattle.message_form.specs.declared.messages.Message.{Message}
 use Rattle.message_form.specs.Messages.{IsMessage, message_bytes}
-use Rattle.turn_form.specs.Posts.{Post}
+use Rattle.message_form.specs.Posts.{Post}
 use Rattle.message_core.specs.declared.letters.Letter.{Letter}
 use Rattle.message_core.specs.Senders.{letter_of, AllInRange}
 

@@ -1,7 +1,7 @@
 -- Messages that were sent, beside their texts.
 use Rattle.std.specs.Prelude.{List}
 use Rattle.pseudo_time.specs.Lists.{Every}
-use Rattle.turn_form.specs.Posts.{Post}
+use Rattle.message_form.specs.Posts.{Post}
 use Rattle.message_form.specs.Messages.{IsMessage, message_bytes}
 use Rattle.message_core.specs.declared.letters.Letter.{Letter}
 

@@ -4,7 +4,7 @@ ghost use Rattle.pseudo_time.specs.Nodes.{same_node};
 ghost use Rattle.stream_port.specs.declared.fates.Fate.{Fate};
 ghost use Rattle.stream_port.specs.Fates.{copies_of};
 ghost use Rattle.message_core.specs.declared.letters.Letter.{Letter};
-ghost use Rattle.turn_form.specs.Posts.{Post};
+ghost use Rattle.message_form.specs.Posts.{Post};
 ghost use Rattle.message_form.specs.declared.messages.Message.{Message};
 ghost use Rattle.message_form.specs.Messages.{IsMessage, message_bytes};
 ghost use Rattle.message_core.specs.Senders.{letter_of, AllInRange};

@@ -1,2 +1,3 @@
+pub mod GrowthLemmas
 pub mod MessageLaws
 pub mod ReadLaws

@@ -1,2 +1,5 @@
+pub mod Growth
 pub mod MessageReads
 pub mod Messages
+pub mod Posts
+pub mod Ranges

@@ -9,8 +9,8 @@ use Rattle.std.proofs.option.Option.TheSendSync as option
 use Rattle.medium_port.specs.declared.media.Medium as medium
 use Rattle.wire_core.proofs.ScriptCrosses.{n32, act_send, script_send}
 use Rattle.value_form.proofs.texts.Bytes.TheSendSync as bytes
-use Rattle.turn_form.specs.contracts.logs.SnapshotLog as SnapshotLog
-use Rattle.turn_form.specs.contracts.logs.SnapshotLog.TheInside as SnapshotLogInside
+use Rattle.message_form.specs.contracts.logs.SnapshotLog as SnapshotLog
+use Rattle.message_form.specs.contracts.logs.SnapshotLog.TheInside as SnapshotLogInside
 use Rattle.script_run.proofs.machines.Machine.TheSendSync as machine
 use Rattle.script_run.proofs.halts.Halt.TheSendSync as halt
 use Rattle.script_run.specs.contracts.runs.Run as Run

@@ -16,7 +16,7 @@ use Rattle.pseudo_time.specs.contracts.times.PseudoTimePartialOrd.TheImpl as tim
 use Rattle.pseudo_time.specs.contracts.stamps.StampPartialEq.TheImpl as stamp_eq
 use Rattle.pseudo_time.specs.contracts.stamps.StampPartialOrd.TheImpl as stamp_order
 use Rattle.effect_form.proofs.effects.Effect.TheSendSync as effect
-use Rattle.turn_form.proofs.turns.Out.TheSendSync as out
+use Rattle.message_form.proofs.turns.Out.TheSendSync as out
 use Rattle.commit_record.proofs.records.Records.TheSendSync as records
 use Rattle.object_history.specs.declared.calls.Histories as histories
 use Rattle.object_history.proofs.marks.Mark.TheSendSync as mark

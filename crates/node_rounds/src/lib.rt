@@ -9,8 +9,10 @@ mod nodes;
 mod reasons;
 mod turns;
 
+pub use broker_node::open_broker;
 pub use conductors::go_on;
 pub use kinds::AnyNode;
 pub use limits::Limits;
 pub use nodes::RunNode;
 pub use reasons::Reason;
+pub use repository_node::open_repository;

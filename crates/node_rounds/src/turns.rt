@@ -34,7 +34,8 @@ pub fn share<L, S: Turns<L> + Drop, R: Wait>(rt: &R, shared: &L, nodes: Vec<S>) 
     nodes
 }
 
-/// A round: each share is a thread's. Takes no memory.
+/// A round: each share is a thread's, and the first one and those without nodes are this thread's.
+/// Takes no memory.
 pub fn round<L: Sync, S: Turns<L> + Drop + Send, R: Threads + Wait + Sync>(
     rt: &R,
     shared: &L,
@@ -48,6 +49,12 @@ pub fn round<L: Sync, S: Turns<L> + Drop + Send, R: Threads + Wait + Sync>(
     let Some(last) = shares.pop() else {
         return shares;
     };
+    if shares.is_empty() || last.is_empty() {
+        let last = share(rt, shared, last);
+        let mut shares = round(rt, shared, shares);
+        shares.push_reserved(last);
+        return shares;
+    }
     let (last, mut shares) = join(
         rt,
         || -> Vec<S>

@@ -9,8 +9,8 @@ use Rattle.pseudo_time.specs.declared.down_causes.DownCause.TheVariants as down
 use Rattle.stream_port.specs.Causes.{Rose}
 use Rattle.medium_port.specs.Image.{Image}
 use Rattle.effect_form.specs.declared.effects.Effect.{Effect}
-use Rattle.turn_form.specs.declared.turns.Out.{Out}
-use Rattle.turn_form.specs.Ranges.{AreEffects}
+use Rattle.message_form.specs.declared.turns.Out.{Out}
+use Rattle.message_form.specs.Ranges.{AreEffects}
 use Rattle.version_store.specs.declared.faults.StoreFault.{StoreFault}
 use Rattle.version_store.specs.declared.faults.StoreFault.TheVariants as adding
 use Rattle.version_store.specs.Filling.{HasPrefix, filling}

@@ -11,9 +11,9 @@ use Rattle.stream_port.specs.Causes.{Rose}
 use Rattle.medium_port.specs.Image.{Image, NoMore}
 use Rattle.effect_form.specs.declared.effects.Effect.{Effect}
 use Rattle.effect_form.specs.Effects.{IsEffect}
-use Rattle.turn_form.specs.declared.turns.Turn.{Turn}
-use Rattle.turn_form.specs.declared.turns.Out.{Out}
-use Rattle.turn_form.specs.Ranges.{AreEffects, AreOuts}
+use Rattle.message_form.specs.declared.turns.Turn.{Turn}
+use Rattle.message_form.specs.declared.turns.Out.{Out}
+use Rattle.message_form.specs.Ranges.{AreEffects, AreOuts}
 use Rattle.message_form.specs.Messages.{IsMessage}
 use Rattle.object_history.specs.declared.steps.HistoryFault.{HistoryFault}
 use Rattle.object_history.specs.declared.steps.HistoryFault.TheVariants as fault

@@ -11,7 +11,7 @@ use Rattle.pseudo_time.specs.declared.nodes.NodeId.{NodeId}
 use Rattle.effect_form.specs.declared.effects.Effect.{Effect}
 use Rattle.message_form.specs.declared.messages.Message.{Message}
 use Rattle.message_form.specs.declared.messages.Message.TheVariants as message
-use Rattle.turn_form.specs.declared.turns.Out.{Out}
+use Rattle.message_form.specs.declared.turns.Out.{Out}
 use Rattle.repository_log.specs.Logs.{knows, is_for, decided_by}
 use Rattle.world_core.specs.Nodes.{leaves}
 use Rattle.wire_core.specs.Boards.{place_of, number_of}

@@ -5,8 +5,8 @@ use Rattle.medium_port.specs.Image.{Image, NoMore}
 use Rattle.page_gate.specs.States.{is_blank}
 use Rattle.pseudo_time.specs.declared.nodes.NodeId.{NodeId}
 use Rattle.effect_form.specs.declared.effects.Effect.{Effect}
-use Rattle.turn_form.specs.declared.turns.Turn.{Turn}
-use Rattle.turn_form.specs.Ranges.{AreEffects, AreOuts}
+use Rattle.message_form.specs.declared.turns.Turn.{Turn}
+use Rattle.message_form.specs.Ranges.{AreEffects, AreOuts}
 use Rattle.object_history.specs.declared.steps.HistoryFault.{HistoryFault}
 use Rattle.object_history.specs.declared.steps.HistoryFault.TheVariants as fault
 use Rattle.object_history.specs.Causes.{IsNotDamage}

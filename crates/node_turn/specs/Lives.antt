@@ -9,8 +9,8 @@ use Rattle.medium_port.specs.Image.{Image}
 use Rattle.page_gate.specs.States.{is_blank}
 use Rattle.effect_form.specs.declared.effects.Effect.{Effect}
 use Rattle.broker_laws.specs.Works.{AsksNobody}
-use Rattle.turn_form.specs.declared.turns.Out.{Out}
-use Rattle.turn_form.specs.Ranges.{AreEffects, AreOuts}
+use Rattle.message_form.specs.declared.turns.Out.{Out}
+use Rattle.message_form.specs.Ranges.{AreEffects, AreOuts}
 use Rattle.object_history.specs.declared.steps.HistoryFault.{HistoryFault}
 use Rattle.object_history.specs.declared.steps.HistoryFault.TheVariants as fault
 use Rattle.version_store.specs.declared.faults.StoreFault.{StoreFault}

@@ -3,7 +3,7 @@ ghost use Rattle.std.specs.Prelude.{◌≡◌, ◌≤◌, ◌^◌, true, false, 
 ghost use Rattle.message_form.specs.Messages.{IsMessage};
 ghost use Rattle.pseudo_time.specs.Nodes.{is_broker};
 ghost use Rattle.effect_form.specs.declared.effects.Effect.{Effect};
-ghost use Rattle.turn_form.specs.Ranges.{AreEffects};
+ghost use Rattle.message_form.specs.Ranges.{AreEffects};
 ghost use Rattle.repository_log.specs.Logs.{knows};
 ghost use Rattle.world_core.specs.Nodes.Input.{Going, Taking, Learning, Hearing};
 ghost use Rattle.world_core.specs.Walks.{Base, Life, all_effects};
@@ -11,11 +11,10 @@ ghost use Rattle.node_turn.specs.Cores.{CoreParts, IsGiven, IsAppended, IsReopen
 
 use effect_form::Effect;
 use medium_port::Medium;
-use message_form::Message;
+use message_form::{Message, Turn};
 use object_history::HistoryFault;
 use pseudo_time::{NodeId, Stamp};
 use std::alloc::Global;
-use turn_form::Turn;
 use version_store::{OpenFault, StoreFault};
 
 /// A node's core with its log on a medium, which it always keeps: also where a call failed.

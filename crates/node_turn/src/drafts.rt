@@ -2,9 +2,9 @@ ghost use Rattle.std.specs.Prelude.{◌≡◌, ◌++◌, OnOk};
 ghost use Rattle.node_turn.specs.Lives.{no_draft};
 
 use effect_form::Effect;
+use message_form::{Out, Turn};
 use std::alloc::{AllocError, Global};
 use std::marker::Model;
-use turn_form::{Out, Turn};
 
 /// What a turn has given so far, and how many effects of its node are durable.
 #[derive(Drop)]

@@ -14,11 +14,11 @@ ghost use Rattle.node_turn.specs.Nodes.{Grew, IsQuiet};
 use crate::cores::StoredCore;
 use crate::drafts::Draft;
 use medium_port::Medium;
+use message_form::Turn;
 use object_history::HistoryFault;
 use pseudo_time::{NodeId, NodeKind};
 use std::sync::Wait;
 use stream_port::{Clock, Fates};
-use turn_form::Turn;
 use wire_core::Taken;
 use wire_lock::{SharedWire, WirePass};
 

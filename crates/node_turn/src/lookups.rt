@@ -14,12 +14,11 @@ use crate::cores::StoredCore;
 use crate::drafts::Draft;
 use crate::inputs::added;
 use medium_port::Medium;
-use message_form::Message;
+use message_form::{Message, Out};
 use object_history::HistoryFault;
 use pseudo_time::{NodeId, NodeKind, Stamp};
 use std::sync::Wait;
 use stream_port::{Clock, Fates};
-use turn_form::Out;
 use wire_lock::{SharedWire, WirePass};
 
 // Whether the node is a broker.

@@ -24,12 +24,12 @@ use crate::keeping::{keep_effects, keep_marks};
 use crate::limits::Limit;
 use crate::plans::ReadPlan;
 use effect_form::Effect;
+use message_form::SnapshotLog;
 use object_history::{Histories, Mark, PlainHistories, ReadStep, Settles, WriteStep};
 use pseudo_time::{PseudoTime, Stamp};
 use std::alloc::{AllocError, Global};
 use std::marker::Model;
 use std::slice::from_ref;
-use turn_form::SnapshotLog;
 use value_form::{ObjectId, Value};
 
 /// What a table knows of its histories beside the store. Contracts see the log that stands in the

@@ -7,7 +7,7 @@ use crate::words::{message, node, number, stamp};
 use object_history::{HistoryFault, PlainHistories};
 use repository_core::Repository;
 use std::alloc::Global;
-use turn_form::Turn;
+use message_form::Turn;
 
 /// A repository of which no call has failed.
 #[derive(Drop)]

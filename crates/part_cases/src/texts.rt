@@ -4,8 +4,8 @@ use crate::faults::CaseFault;
 use crate::forms::push_text;
 use expression_form::{ReadFault, print_expression, read_expression};
 use plan_form::{Plan, PlanFault, make};
-use script_form::ParseFault;
-use statement_form::{print_row, read_row};
+use script_form::{ParseFault, print_row, read_row};
+
 use std::alloc::Global;
 use token_form::{LineFault, Token, tokens_of};
 

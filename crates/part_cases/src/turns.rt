@@ -3,7 +3,7 @@
 use crate::faults::CaseFault;
 use pseudo_time::NodeKind;
 use std::alloc::Global;
-use turn_form::Turn;
+use message_form::Turn;
 
 /// The effects that it adds, and the messages that it sends.
 pub fn told(alloc: Global, turn: &Turn) -> Result<String, CaseFault> {

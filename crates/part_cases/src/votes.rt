@@ -5,11 +5,10 @@ use crate::faults::CaseFault;
 use crate::turns::told;
 use crate::words::{effects, message, node, number};
 use effect_form::Effect;
-use message_form::Message;
+use message_form::{Message, Turn};
 use pseudo_time::{NodeId, NodeKind, Stamp};
 use record_votes::{Member, Poll, Wish};
 use std::alloc::{AllocError, Global};
-use turn_form::Turn;
 
 #[derive(Drop)]
 pub struct Room {

@@ -13,9 +13,9 @@ use Rattle.token_form.specs.Tokens.{Ends, spaces, IsTokens}
 use Rattle.token_form.proofs.LineLaws.{one_list}
 use Rattle.token_form.proofs.Runs.{by_test, both}
 use Rattle.value_form.specs.Mirror.{Block}
-use Rattle.statement_form.specs.Lines.{SpellsRow}
-use Rattle.statement_form.specs.Row.{Row}
-use Rattle.statement_form.specs.Rows.{Numbered}
+use Rattle.script_form.specs.RowTokens.{SpellsRow}
+use Rattle.script_form.specs.Row.{Row}
+use Rattle.script_form.specs.Rows.{Numbered}
 use Rattle.script_form.specs.Lines.{is_blank}
 use Rattle.script_form.specs.Scripts.{LineRow, LinesRows, IsScriptLines}
 use Rattle.plan_form.specs.Plans.{is_space, is_done_word, is_done, has_done}

@@ -16,9 +16,9 @@ use Rattle.value_form.specs.declared.expressions.Infix.TheVariants as o
 use Rattle.value_form.specs.Mirror.{Number, Name, Between, Fixed, At, Block, block}
 use Rattle.value_form.specs.MirrorLaws.{block-made}
 use Rattle.expression_form.specs.Texts.{text}
-use Rattle.statement_form.specs.Row as r
-use Rattle.statement_form.specs.Rows.{Numbered, rows}
-use Rattle.statement_form.specs.RowTexts.{spot_text, row_text, line_text, rows_text, script_text}
+use Rattle.script_form.specs.Row as r
+use Rattle.script_form.specs.Rows.{Numbered, rows}
+use Rattle.script_form.specs.RowTexts.{spot_text, row_text, line_text, rows_text, script_text}
 use Rattle.script_form.specs.Printable.{IsPrintable}
 use Rattle.plan_form.specs.Plans.{InRange, act_front, terms, IsPlan}
 use Rattle.plan_form.specs.PlanTexts.{act_text, acts_text, head_text, plan_text, IsAct, EachAct, IsOfLanguage}

@@ -7,8 +7,8 @@ use Rattle.std.proofs.lemmas.Bool.Decides.{Decides-eqb}
 use Rattle.token_form.proofs.Runs.{by_test, AllPass-from}
 use Rattle.value_form.specs.declared.acts.ActSpec.{ActSpec}
 use Rattle.value_form.specs.Mirror.{block}
-use Rattle.statement_form.specs.Rows.{Numbered, rows}
-use Rattle.statement_form.specs.RowTexts.{row_text, line_text, rows_text, script_text}
+use Rattle.script_form.specs.Rows.{Numbered, rows}
+use Rattle.script_form.specs.RowTexts.{row_text, line_text, rows_text, script_text}
 use Rattle.script_form.specs.Lines.{lines_from, lines}
 use Rattle.script_form.specs.Scripts.{IsScriptLines}
 use Rattle.script_form.proofs.PrintLemmas.{Shown, shown-append, shown_number, line_ends, shown_stays, printed_is_script}

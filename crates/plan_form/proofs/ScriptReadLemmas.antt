@@ -3,7 +3,7 @@ use Rattle.std.proofs.Common.{◌≡◌, ℕ, ◌+◌, ◌<◌, ◌≤◌, inl, 
 use Rattle.std.specs.Prelude.{Ok, Err}
 use Rattle.value_form.specs.declared.scripts.Script.{Script}
 use Rattle.value_form.specs.Mirror.{block}
-use Rattle.statement_form.specs.Building.{rows_so_far}
+use Rattle.script_form.specs.Building.{rows_so_far}
 use Rattle.script_form.specs.Lines.{lines}
 use Rattle.script_form.specs.Scripts.{LineFault, IsScriptLines, BeginScript, LeftOpen, FaultBehind}
 use Rattle.script_form.specs.Feeds.{HoldsLines, FeedsLine, EndsLines}

@@ -3,7 +3,7 @@ use Rattle.std.specs.Prelude.{◌≡◌, ℕ, ◌+◌, ◌-◌, ◌^◌, ◌≤�
 use Rattle.std.specs.Fmt.{decimal}
 use Rattle.value_form.specs.declared.acts.ActSpec.{ActSpec}
 use Rattle.value_form.specs.Mirror.{block}
-use Rattle.statement_form.specs.RowTexts.{script_text}
+use Rattle.script_form.specs.RowTexts.{script_text}
 use Rattle.script_form.specs.Printable.{IsPrintable}
 use Rattle.plan_form.specs.declared.act_lines.Terms.{Terms}
 use Rattle.plan_form.specs.declared.plans.Plan.{Plan}

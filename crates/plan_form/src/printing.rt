@@ -5,7 +5,7 @@ ghost use Rattle.plan_form.specs.Plans as spec;
 ghost use Rattle.plan_form.specs.PlanTexts as texts;
 
 use crate::plans::Plan;
-use statement_form::print_script;
+use script_form::print_script;
 use std::alloc::{AllocError, Global};
 use value_form::{ActSpec, Bytes};
 

@@ -4,7 +4,7 @@ use Rattle.pseudo_time.specs.StampParts.{StampParts}
 use Rattle.pseudo_time.specs.declared.decisions.Decision.{Decision}
 use Rattle.effect_form.specs.declared.effects.Effect.{Effect}
 use Rattle.commit_record.specs.States.{States, settled}
-use Rattle.turn_form.specs.declared.turns.Turn.{Turn}
+use Rattle.message_form.specs.declared.turns.Turn.{Turn}
 use Rattle.repository_log.specs.Opening.{AreRecords, AreEarly}
 use Rattle.record_votes.specs.Members.{Given}
 

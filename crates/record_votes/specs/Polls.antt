@@ -8,7 +8,7 @@ use Rattle.pseudo_time.specs.declared.nodes.NodeKind.{NodeKind}
 use Rattle.pseudo_time.specs.declared.nodes.NodeKind.TheVariants as kind
 use Rattle.message_form.specs.declared.messages.Message.{Message}
 use Rattle.message_form.specs.declared.messages.Message.TheVariants as message
-use Rattle.turn_form.specs.declared.turns.Out.{Out}
+use Rattle.message_form.specs.declared.turns.Out.{Out}
 use Rattle.repository_log.specs.Logs.{is_commit}
 use Rattle.pseudo_time.specs.Nodes.{repository}
 use Rattle.record_votes.specs.declared.ballots.Ballot.{Ballot}

@@ -1,6 +1,6 @@
 ghost use Rattle.std.specs.Prelude.{◌≡◌, ◌+◌, ◌++◌, ◌≤◌, ◌^◌, ◌∷◌, [], OnOk, OnErr, IfOk};
 ghost use Rattle.message_form.specs.Messages.{IsMessage, IsTimeout};
-ghost use Rattle.turn_form.specs.Ranges.{IsEffect, AreEffects, AreOuts};
+ghost use Rattle.message_form.specs.Ranges.{IsEffect, AreEffects, AreOuts};
 ghost use Rattle.repository_log.specs.Logs.{record_of};
 ghost use Rattle.repository_log.specs.Expiries.{expiries};
 ghost use Rattle.record_votes.specs.Members as rules;
@@ -9,11 +9,10 @@ ghost use Rattle.record_votes.specs.Books.{given};
 use crate::votes::Votes;
 use commit_record::RecordState;
 use effect_form::Effect;
-use message_form::Message;
+use message_form::{Message, Out, Turn};
 use pseudo_time::{Decision, NodeId, NodeKind, Stamp};
 use std::alloc::{AllocError, Global};
 use std::marker::Model;
-use turn_form::{Out, Turn};
 
 /// A member: one of three repositories that vote on each stamp. Its votes are the Decides of its log.
 /// Contracts see its number, its log, oldest first, and the last moment that it heard.

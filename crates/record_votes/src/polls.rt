@@ -1,16 +1,15 @@
 ghost use Rattle.std.specs.Prelude.{◌≡◌, ◌++◌, [], OnOk, OnErr, IfOk, Some, None, true};
 ghost use Rattle.message_form.specs.Messages.{IsMessage, IsTimeout};
-ghost use Rattle.turn_form.specs.Ranges.{AreOuts};
+ghost use Rattle.message_form.specs.Ranges.{AreOuts};
 ghost use Rattle.record_votes.specs.Polls as polls;
 
 use crate::ballots::{Ballot, Wish};
 use crate::member_numbers::MemberNumber;
-use message_form::Message;
+use message_form::{Message, Out, Turn};
 use pseudo_time::{Decision, NodeId, NodeKind, Stamp};
 use repository_log::is_commit;
 use std::alloc::{AllocError, Global};
 use std::marker::Model;
-use turn_form::{Out, Turn};
 
 /// A poll: a broker that asks the three members to decide a stamp, and hears how they vote. Contracts
 /// see its number, stamp, timeout and wish, and what it heard from each member. It keeps no log.

@@ -6,7 +6,7 @@ ghost use Rattle.repository_log.specs.Logs.{record_of};
 ghost use Rattle.repository_log.specs.Lookups.{restored};
 ghost use Rattle.repository_log.specs.Expiries.{expiries};
 ghost use Rattle.record_votes.specs.Members.{book, decides};
-ghost use Rattle.turn_form.specs.Ranges.{AreEffects};
+ghost use Rattle.message_form.specs.Ranges.{AreEffects};
 ghost use Rattle.record_votes.specs.Books.{settled_all};
 
 use crate::owned::own_of;

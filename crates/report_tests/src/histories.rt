@@ -1,6 +1,6 @@
 use effect_form::Effect;
-use history_text::history;
 use pseudo_time::{Decision, PseudoTime, Stamp};
+use report_writer::history;
 use std::test::*;
 use value_form::{ObjectId, Value};
 

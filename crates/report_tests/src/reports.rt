@@ -5,11 +5,11 @@ use effect_form::{Effect, Outcome};
 use message_form::Message;
 use plan_form::{Plan, law_of_plans, parse};
 use pseudo_time::{Decision, DownCause, NodeId, NodeKind, PseudoTime, Stamp};
-use run_report::{report_by, summary_by};
 use script_form::print;
 use std::alloc::{AllocError, Global};
 use std::test::*;
 use stream_port::Fate;
+use trace_report::{report_by, summary_by};
 use value_form::{FailKind, Items, ObjectId, Value};
 use world_core::{Entry, Opened, Sent, Trace};
 

@@ -6,10 +6,10 @@ ghost use Rattle.trace_logs.specs.Replays.{IsMoment, IsOnce, IsOpened};
 use message_form::Message;
 use plan_form::{Plan, law_of_plans, parse};
 use pseudo_time::{NodeId, NodeKind, Stamp};
-use run_report::{report, summary};
 use std::alloc::{AllocError, Global};
 use std::test::*;
 use stream_port::Fate;
+use trace_report::{report, summary};
 use value_form::Items;
 use world_core::{Entry, Opened, Sent, Trace};
 

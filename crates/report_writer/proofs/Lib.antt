@@ -1,1 +1,4 @@
+pub mod FallingLemmas
 pub mod PieceLemmas
+pub mod TellingLemmas
+pub mod TextLemmas

@@ -1,3 +1,5 @@
+pub mod Histories
 pub mod Parts
 pub mod Reports
 pub mod Standings
+pub mod Tellings

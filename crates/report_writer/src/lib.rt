@@ -1,11 +1,16 @@
 //! What a run did, and the text of its report.
 #![tactic(auto)]
 
+mod histories;
+mod history_writing;
 mod pieces;
 mod records;
+mod tellings;
 mod totals;
+mod versions;
 mod writing;
 
+pub use histories::history;
 pub use pieces::{push_named, push_object, push_time};
 pub use records::{ActOutcome, ActReport, Down, Final, Report, TryOutcome, TryReport, Wire};
 pub use totals::count_of;

@@ -5,8 +5,8 @@ use Rattle.pseudo_time.specs.StampParts.{StampParts}
 use Rattle.pseudo_time.specs.declared.decisions.Decision.{Decision}
 use Rattle.effect_form.specs.declared.effects.Effect.{Effect}
 use Rattle.object_history.specs.declared.marks.Mark.{Mark}
-use Rattle.turn_form.specs.declared.turns.Out.{Out}
-use Rattle.turn_form.specs.declared.turns.Turn.{Turn}
+use Rattle.message_form.specs.declared.turns.Out.{Out}
+use Rattle.message_form.specs.declared.turns.Turn.{Turn}
 use Rattle.repository_core.specs.declared.books.Books.{Books}
 use Rattle.repository_core.specs.Accounts.{AgreeBut, AgreeWith, IsOpen}
 use Rattle.repository_core.specs.Hands.{Mind, Hand, now}

@@ -4,8 +4,8 @@ use Rattle.effect_form.specs.declared.effects.Effect.{Effect}
 use Rattle.object_history.specs.declared.marks.Mark.{Mark}
 use Rattle.object_history.specs.declared.steps.HistoryFault.{HistoryFault}
 use Rattle.object_history.specs.Causes.{HasHistoryCause, IsNotDamage}
-use Rattle.turn_form.specs.declared.turns.Turn.{Turn}
-use Rattle.turn_form.specs.Ranges.{AreEffects, AreOuts}
+use Rattle.message_form.specs.declared.turns.Turn.{Turn}
+use Rattle.message_form.specs.Ranges.{AreEffects, AreOuts}
 use Rattle.repository_core.specs.Hands.{Mind}
 pub use Rattle.repository_log.specs.Logs.{HasMarks}
 use Rattle.repository_core.specs.Calls.{Begins}

@@ -7,7 +7,7 @@ pub mod Logs
 pub mod Ranges
 pub mod Rows
 pub mod Turns
-pub use Rattle.turn_form.specs.Posts
+pub use Rattle.message_form.specs.Posts
 pub use Rattle.object_history.specs.History
 pub use Rattle.object_history.specs.Answers
 pub use Rattle.object_history.specs.Causes

@@ -8,17 +8,16 @@ ghost use Rattle.repository_core.specs.Hands as hands;
 ghost use Rattle.repository_core.specs.Rows as rows;
 ghost use Rattle.repository_core.specs.Hearing as hearing;
 ghost use Rattle.repository_core.specs.Ranges.{AreHeld};
-ghost use Rattle.turn_form.specs.Ranges.{IsEffect, AreEffects, AreOuts};
+ghost use Rattle.message_form.specs.Ranges.{IsEffect, AreEffects, AreOuts};
 
 use crate::waits::{Asker, HeldRead};
 use effect_form::Effect;
-use message_form::Message;
+use message_form::{Message, Out, SnapshotLog, Turn};
 use pseudo_time::{NodeId, PseudoTime, Stamp};
 use std::alloc::{AllocError, Global};
 use std::collections::{BTreeMap, BTreeSet};
 use std::marker::Model;
 use std::mem::replace;
-use turn_form::{Out, SnapshotLog, Turn};
 
 /// A turn while it is in hand, with what the repository remembers beside its log. Contracts see a
 /// hand. A call that answers an error found no memory; the draft is then of no use.
@@ -38,7 +37,7 @@ impl Model for Draft {
     ghost use Rattle.std.specs.Prelude.{◌≤◌, ◌^◌, reverse};
     ghost use Rattle.repository_core.specs.Hands.{Hand};
     ghost use Rattle.repository_core.specs.Ranges.{AreHeld};
-    ghost use Rattle.turn_form.specs.Ranges.{AreEffects, AreOuts};
+    ghost use Rattle.message_form.specs.Ranges.{AreEffects, AreOuts};
 
     ghost Value = { Hand };
 

@@ -10,6 +10,6 @@ mod repositories;
 mod waits;
 mod works;
 
+pub use message_form::{Out, Turn};
 pub use repositories::{CoreFault, Repository, RepositoryRest};
-pub use turn_form::{Out, Turn};
 pub use waits::{Asker, HeldRead};

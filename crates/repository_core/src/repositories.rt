@@ -10,14 +10,13 @@ use crate::openings::open_books;
 use crate::works::Work;
 use commit_record::Records;
 use effect_form::Effect;
-use message_form::Message;
+use message_form::{Message, Turn};
 use object_history::{Histories, HistoryFault};
 use pseudo_time::{Decision, NodeId, Stamp};
 use std::alloc::{AllocError, Global};
 use std::collections::BTreeMap;
 use std::marker::Model;
 use std::snapshot::Snapshot;
-use turn_form::Turn;
 
 /// Why a core gave no turn. After any of the three it can only be parted.
 pub type CoreFault = HistoryFault;

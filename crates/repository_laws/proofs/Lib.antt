@@ -1,6 +1,12 @@
 pub mod AnyTurns
+pub mod AskServices
+pub mod AskerSteps
+pub mod HeldLemmas
+pub mod KnownSteps
 pub mod Logs
 pub mod Posts
+pub mod ReadSteps
+pub mod ServedLemmas
+pub mod TurnLemmas
 pub mod Turns
 pub mod Whole
-pub mod ServedLemmas

@@ -20,8 +20,8 @@ use Rattle.pseudo_time.specs.Order.{same_stamp}
 use Rattle.repository_log.proofs.LogLemmas.{undecided, from-begin, from-decided, unknown-unsettled}
 use Rattle.repository_core.specs.Logs.{decision_of, first_begin, is_commit, marks, record_of, as_decision}
 use Rattle.repository_laws.specs.Facts.{FitsLog, IsTidy, IsTimely}
-use Rattle.turn_form.proofs.GrowthLemmas.{grew_keeps}
-use Rattle.turn_form.specs.Growth.{Grew}
+use Rattle.message_form.proofs.GrowthLemmas.{grew_keeps}
+use Rattle.message_form.specs.Growth.{Grew}
 
 -- ----- records -----
 

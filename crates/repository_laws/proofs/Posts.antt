@@ -6,15 +6,15 @@ use Rattle.effect_form.specs.declared.effects.Effect.TheVariants.{Put, Stretch, 
 use Rattle.message_form.specs.declared.messages.Message.{Message}
 use Rattle.message_form.specs.declared.messages.Message.TheVariants as message
 use Rattle.pseudo_time.specs.declared.nodes.NodeId.{NodeId}
-use Rattle.turn_form.specs.Posts.{Post}
+use Rattle.message_form.specs.Posts.{Post}
 use Rattle.pseudo_time.specs.TimeParts.{TimeParts}
 use Rattle.repository_core.specs.declared.waits.HeldRead.{HeldRead}
 use Rattle.repository_laws.proofs.Logs.{settled-log, viewed-log}
 use Rattle.pseudo_time.proofs.ListLemmas.{has-left}
 use Rattle.pseudo_time.specs.Lists.{Has}
 use Rattle.repository_laws.specs.Facts.{FitsLog, RestsOn, HeldHolds, PostHolds}
-use Rattle.turn_form.proofs.GrowthLemmas.{grew_keeps}
-use Rattle.turn_form.specs.Growth.{Grew}
+use Rattle.message_form.proofs.GrowthLemmas.{grew_keeps}
+use Rattle.message_form.specs.Growth.{Grew}
 
 -- one more fitting effect
 pub post-stays : (ever : List Post) (r : ℕ) (l : List Effect) (f : Effect) (to : NodeId) (m : Message) → FitsLog r l f → PostHolds ever r l to m → PostHolds ever r (f ∷ l) to m

@@ -15,7 +15,7 @@ use Rattle.message_form.specs.declared.messages.Message.TheVariants as message
 use Rattle.pseudo_time.specs.declared.nodes.NodeId.{NodeId}
 use Rattle.pseudo_time.specs.declared.nodes.NodeKind.{NodeKind}
 use Rattle.pseudo_time.specs.declared.nodes.NodeKind.TheVariants as kind
-use Rattle.turn_form.specs.Posts.{Post, WasSent}
+use Rattle.message_form.specs.Posts.{Post, WasSent}
 use Rattle.commit_record.specs.declared.states.RecordState.{RecordState}
 use Rattle.commit_record.specs.declared.states.RecordState.TheVariants.{Unknown, Decided}
 use Rattle.object_history.specs.declared.steps.ReadStep.{ReadStep}

@@ -9,8 +9,8 @@ use Rattle.pseudo_time.proofs.ListLemmas.{has-right}
 use Rattle.effect_form.specs.declared.effects.Effect.{Effect}
 use Rattle.effect_form.specs.declared.effects.Effect.TheVariants as effect
 use Rattle.message_form.specs.declared.messages.Message.{Message}
-use Rattle.turn_form.specs.Growth.{Grew}
-use Rattle.turn_form.specs.Posts.{Post}
+use Rattle.message_form.specs.Growth.{Grew}
+use Rattle.message_form.specs.Posts.{Post}
 use Rattle.object_history.proofs.ObjectLemmas.{eq-from, eqb-yes}
 use Rattle.repository_core.specs.Hands.{Hand, Mind}
 use Rattle.pseudo_time.specs.Nodes.{repository}

@@ -15,8 +15,8 @@ use Rattle.effect_form.specs.declared.effects.Effect.{Effect}
 use Rattle.effect_form.specs.declared.effects.Effect.TheVariants.{Put, Stretch, Begin, Decide, Learn, Run, Act, Try, Got, Acked, End}
 use Rattle.message_form.specs.declared.messages.Message.{Message}
 use Rattle.message_form.specs.declared.messages.Message.TheVariants as message
-use Rattle.turn_form.specs.Posts.{Post, WasSent}
-use Rattle.turn_form.specs.Growth.{Grew}
+use Rattle.message_form.specs.Posts.{Post, WasSent}
+use Rattle.message_form.specs.Growth.{Grew}
 use Rattle.commit_record.specs.declared.states.RecordState.TheVariants.{Unknown}
 use Rattle.object_history.specs.declared.marks.Mark.TheVariants as mark
 use Rattle.object_history.specs.declared.steps.WriteStep.TheVariants as write

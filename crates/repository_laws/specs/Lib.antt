@@ -2,3 +2,4 @@ pub mod AnyLogs
 pub mod Facts
 pub mod Givens
 pub mod Served
+pub mod Waits

@@ -10,7 +10,7 @@ use Rattle.effect_form.specs.declared.effects.Effect.TheVariants.{Put, Stretch, 
 use Rattle.object_history.specs.declared.marks.Mark.{Mark}
 use Rattle.object_history.specs.History.{or_else, settle_of}
 use Rattle.object_history.specs.Ranges.{AreMarks}
-use Rattle.turn_form.specs.Ranges.{AreEffects}
+use Rattle.message_form.specs.Ranges.{AreEffects}
 use Rattle.repository_log.specs.Logs.{mark_of, marks, known, knows}
 
 pub marks-append : (l m : List Effect) → marks (l ++ m) ≡ marks l ++ marks m

@@ -2,7 +2,7 @@ ghost use Rattle.std.specs.Prelude.{◌≡◌, ◌++◌, List, reverse, is_some}
 ghost use Rattle.pseudo_time.specs.StampParts.{StampParts};
 ghost use Rattle.effect_form.specs.declared.effects.Effect.{Effect};
 ghost use Rattle.object_history.specs.Ranges.{AreMarks};
-ghost use Rattle.turn_form.specs.Ranges.{AreEffects};
+ghost use Rattle.message_form.specs.Ranges.{AreEffects};
 ghost use Rattle.repository_log.specs.Logs.{marks, known, knows};
 
 /// A law: the marks of two logs, one after the other, are those of the one and then those of the

@@ -1,7 +1,7 @@
 ghost use Rattle.std.specs.Prelude.{◌≡◌, [], ◌∷◌, ◌++◌, IfOk, IfSome, OnOk};
 ghost use Rattle.std.specs.Option.{option_to_list};
 ghost use Rattle.object_history.specs.Ranges.{IsMark, AreMarks};
-ghost use Rattle.turn_form.specs.Ranges.{IsEffect, AreEffects};
+ghost use Rattle.message_form.specs.Ranges.{IsEffect, AreEffects};
 ghost use Rattle.repository_log.specs.Logs as logs;
 ghost use Rattle.repository_log.specs.Logs.{HasMarks};
 

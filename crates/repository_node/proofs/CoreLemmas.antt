@@ -6,7 +6,7 @@ use Rattle.pseudo_time.specs.Nodes.{repository}
 use Rattle.pseudo_time.specs.declared.nodes.NodeId.{NodeId}
 use Rattle.medium_port.specs.Image.{Image}
 use Rattle.effect_form.specs.declared.effects.Effect.{Effect}
-use Rattle.turn_form.specs.declared.turns.Turn.{Turn}
+use Rattle.message_form.specs.declared.turns.Turn.{Turn}
 use Rattle.object_history.specs.declared.steps.HistoryFault.{HistoryFault}
 use Rattle.repository_log.specs.Logs.{knows, known}
 use Rattle.repository_log.proofs.MarkLemmas.{knows-known}

@@ -11,14 +11,13 @@ ghost use Rattle.repository_node.specs.KeptCores.{HasMarksOfLog, medium_in};
 use crate::kept_cores::KeptCore;
 use effect_form::Effect;
 use medium_port::Medium;
-use message_form::Message;
+use message_form::{Message, Turn};
 use node_turn::{StoredCore, open_again};
 use object_header::HeaderTable;
 use object_history::HistoryFault;
 use pseudo_time::{NodeId, Stamp};
 use repository_core::Repository;
 use std::alloc::Global;
-use turn_form::Turn;
 use version_store::{OpenFault, Store, StoreFault};
 
 /// A repository with its log and its histories on a medium.

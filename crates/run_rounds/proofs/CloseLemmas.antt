@@ -22,10 +22,10 @@ use Rattle.wire_lock.specs.Sights.{IsWirePass, Sight, owners_for}
 use Rattle.wire_lock.specs.Stories.{IsWhole, end_of}
 use Rattle.trace_report.specs.Counts.{tick_count}
 use Rattle.node_turn.specs.Nodes.{NodeParts}
-use Rattle.node_rounds.specs.declared.limits.Limits.{Limits}
-use Rattle.node_rounds.specs.declared.reasons.Reason.{Reason}
-use Rattle.node_rounds.specs.declared.reasons.Reason.TheVariants as reason
-use Rattle.node_rounds.specs.Nodes.{GoesOn}
+use Rattle.run_starts.specs.Limits.{Limits}
+use Rattle.run_starts.specs.Reason.{Reason}
+use Rattle.run_starts.specs.Reason.TheVariants as reason
+use Rattle.run_starts.specs.Nodes.{GoesOn}
 use Rattle.run_media.specs.Media.{Media}
 use Rattle.run_media.specs.Places.{node_count}
 use Rattle.run_rounds.specs.declared.ends.End.{End}

@@ -15,11 +15,11 @@ use Rattle.wire_core.specs.Wires.{WireParts}
 use Rattle.wire_lock.specs.Sights.{IsWirePass, Sight, base_at}
 use Rattle.trace_report.specs.Counts.{tick_count}
 use Rattle.node_turn.specs.Nodes.{NodeParts, IsAtRest}
-use Rattle.node_rounds.specs.declared.limits.Limits.{Limits}
-use Rattle.node_rounds.specs.declared.reasons.Reason.{Reason}
-use Rattle.node_rounds.specs.declared.reasons.Reason.TheVariants as reason
-use Rattle.node_rounds.specs.Nodes.{EachNode, EachPlace, GoesOn, HasAllOf, HasPass, IsUp, Shares}
-use Rattle.node_rounds.specs.Reasons.{EndsFor, HasMemory, IsDone, IsDown, IsLateAfter, TicksAreWanted}
+use Rattle.run_starts.specs.Limits.{Limits}
+use Rattle.run_starts.specs.Reason.{Reason}
+use Rattle.run_starts.specs.Reason.TheVariants as reason
+use Rattle.run_starts.specs.Nodes.{EachNode, EachPlace, GoesOn, HasAllOf, HasPass, IsUp, Shares}
+use Rattle.run_starts.specs.Reasons.{EndsFor, HasMemory, IsDone, IsDown, IsLateAfter, TicksAreWanted}
 use Rattle.run_media.specs.Media.{Media}
 use Rattle.run_rounds.specs.Closings.{HaveGone, ListEnds, Pass}
 use Rattle.run_starts.specs.Deals.{IsDealt}

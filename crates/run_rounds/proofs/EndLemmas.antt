@@ -28,9 +28,9 @@ use Rattle.wire_lock.specs.Stories.{end_of}
 use Rattle.wire_lock.proofs.SightLemmas.{as-before}
 use Rattle.trace_report.specs.Counts.{is_tick, tick_count}
 use Rattle.node_turn.specs.Costs.{costs}
-use Rattle.broker_node.specs.Logs.{is_over}
-use Rattle.node_rounds.specs.Reasons.{is_done_at}
-use Rattle.node_rounds.proofs.WantedLemmas.{life-whole}
+use Rattle.run_starts.specs.Logs.{is_over}
+use Rattle.run_starts.specs.Reasons.{is_done_at}
+use Rattle.run_starts.proofs.WantedLemmas.{life-whole}
 use Rattle.run_rounds.proofs.ListLemmas.{any-has}
 use Rattle.world_facts.proofs.Growths.{filter-has}
 use Rattle.world_facts.proofs.Ranges.{in-range}

@@ -28,14 +28,14 @@ use Rattle.node_turn.specs.declared.conditions.Condition.{Condition}
 use Rattle.node_turn.specs.declared.conditions.Condition.TheVariants as condition
 use Rattle.node_turn.specs.Lives.{IsCause}
 use Rattle.node_turn.specs.Nodes.{NodeParts, Stands, sight}
-use Rattle.node_rounds.specs.Reasons.{HasMemory}
+use Rattle.run_starts.specs.Reasons.{HasMemory}
 use Rattle.run_media.specs.declared.openings.Opening.{Opening}
 use Rattle.run_media.specs.Media.{Media}
 use Rattle.run_media.specs.Places.{node_count}
 use Rattle.run_starts.specs.Seats.{Along}
 use Rattle.run_starts.specs.Starts.{IsSetUp}
 use Rattle.run_rounds.specs.Closings.{Pass}
-use Rattle.node_rounds.proofs.WantedLemmas.{life-whole}
+use Rattle.run_starts.proofs.WantedLemmas.{life-whole}
 use Rattle.run_rounds.proofs.EndLemmas.{down-in, flags-whole}
 use Rattle.run_rounds.proofs.FlagLemmas.{down-ends, none-due, told-of}
 use Rattle.run_rounds.proofs.SeenLemmas.{At, Seen, Went, of-seen, seen}

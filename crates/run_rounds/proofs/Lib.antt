@@ -17,3 +17,6 @@ pub mod SeenLemmas
 pub mod SoundLemmas
 pub mod ToldLemmas
 pub mod UnopenedLemmas
+pub use Rattle.run_starts.proofs.AlongLemmas
+pub use Rattle.run_starts.proofs.DealLemmas
+pub use Rattle.node_turn.proofs.TrailLemmas

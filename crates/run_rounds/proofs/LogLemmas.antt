@@ -21,7 +21,7 @@ use Rattle.wire_lock.specs.Sights.{life_at}
 use Rattle.trace_report.specs.Counts.{down_cause}
 use Rattle.node_turn.specs.Lives.{IsKept}
 use Rattle.node_turn.specs.Nodes.{NodeParts, sight}
-use Rattle.node_rounds.specs.Reasons.{HasMemory}
+use Rattle.run_starts.specs.Reasons.{HasMemory}
 use Rattle.run_media.specs.Media.{Media}
 use Rattle.run_rounds.specs.Media.{RestoresLogs, KeepsLog}
 use Rattle.run_rounds.proofs.SeenLemmas.{Seen, are-back, left, of-seen, seen}

@@ -29,12 +29,12 @@ use Rattle.trace_report.specs.Counts.{tick_count}
 use Rattle.node_turn.specs.declared.conditions.Condition.{Condition}
 use Rattle.node_turn.specs.declared.conditions.Condition.TheVariants as condition
 use Rattle.node_turn.specs.Nodes.{NodeParts, IsAtRest, Stands, sight}
-use Rattle.broker_node.specs.Logs.{is_over}
-use Rattle.node_rounds.specs.declared.limits.Limits.{Limits}
-use Rattle.node_rounds.specs.declared.reasons.Reason.{Reason}
-use Rattle.node_rounds.specs.declared.reasons.Reason.TheVariants as reason
-use Rattle.node_rounds.specs.Nodes.{GoesOn, IsUp}
-use Rattle.node_rounds.specs.Reasons.{HasMemory, IsDone, IsLateAfter, is_done_after, is_done_at}
+use Rattle.run_starts.specs.Logs.{is_over}
+use Rattle.run_starts.specs.Limits.{Limits}
+use Rattle.run_starts.specs.Reason.{Reason}
+use Rattle.run_starts.specs.Reason.TheVariants as reason
+use Rattle.run_starts.specs.Nodes.{GoesOn, IsUp}
+use Rattle.run_starts.specs.Reasons.{HasMemory, IsDone, IsLateAfter, is_done_after, is_done_at}
 use Rattle.run_media.specs.declared.openings.Opening.{Opening}
 use Rattle.run_media.specs.Media.{Media}
 use Rattle.run_media.specs.Openings.{AreReady, HasOpened, IsOpen}
@@ -49,7 +49,7 @@ use Rattle.run_rounds.specs.Ends.{AllDone, HasEnded, HasRunOut, TicksAreWanted, 
 use Rattle.run_rounds.specs.Finishes.{EndsAs, IsKeptWhole, account_of, tellers}
 use Rattle.run_rounds.specs.Runs.{IsTold, Ran}
 use Rattle.run_rounds.proofs.ListLemmas.{all-end, all-front, all-mapped, along-at, one-of}
-use Rattle.node_rounds.proofs.WantedLemmas.{story-ticks, tick-before, ticks-whole}
+use Rattle.run_starts.proofs.WantedLemmas.{story-ticks, tick-before, ticks-whole}
 use Rattle.run_rounds.proofs.EndLemmas.{down-whole, done-whole, enough-whole}
 use Rattle.run_rounds.proofs.SeenLemmas.{At, are-back, logs-of, none-own, went-along}
 use Rattle.run_rounds.proofs.KnownLemmas.{HaveStood, Known, at-base, same-base}

@@ -24,7 +24,7 @@ use Rattle.node_turn.specs.Cores.{IsIntact}
 use Rattle.node_turn.specs.declared.conditions.Condition.TheVariants as condition
 use Rattle.node_turn.specs.Costs.{costs}
 use Rattle.node_turn.specs.Nodes.{NodeParts, IsAtRest, sight}
-use Rattle.node_rounds.specs.Nodes.{GoesOn}
+use Rattle.run_starts.specs.Nodes.{GoesOn}
 use Rattle.run_media.specs.declared.openings.Opening.{Opening}
 use Rattle.run_media.specs.declared.openings.Opening.TheVariants.{Open, Shut, Wanting}
 use Rattle.run_media.specs.Media.{Media, IsBack, AreBack}

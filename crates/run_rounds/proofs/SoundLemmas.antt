@@ -15,7 +15,7 @@ use Rattle.wire_core.specs.Wires.{Origin, WireParts}
 use Rattle.wire_core.specs.Boards.{owner_for}
 use Rattle.wire_lock.specs.Sights.{IsWirePass, Sight}
 use Rattle.node_turn.specs.Nodes.{NodeParts}
-use Rattle.node_rounds.specs.Nodes.{IsReady}
+use Rattle.run_starts.specs.Nodes.{IsReady}
 use Rattle.run_media.specs.declared.openings.Opening.{Opening}
 use Rattle.run_media.specs.declared.openings.Opening.TheVariants.{Open, Shut, Wanting}
 use Rattle.run_media.specs.Media.{Media}

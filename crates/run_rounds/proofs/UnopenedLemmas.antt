@@ -35,8 +35,8 @@ use Rattle.node_turn.specs.Cores.{IsIntact}
 use Rattle.node_turn.specs.Costs.{costs}
 use Rattle.node_turn.specs.Lives.{IsKept}
 use Rattle.node_turn.proofs.PageLemmas.{whole-same}
-use Rattle.node_rounds.specs.declared.reasons.Reason.{Reason}
-use Rattle.node_rounds.specs.declared.reasons.Reason.TheVariants as reason
+use Rattle.run_starts.specs.Reason.{Reason}
+use Rattle.run_starts.specs.Reason.TheVariants as reason
 use Rattle.run_media.specs.declared.openings.Opening.{Opening}
 use Rattle.run_media.specs.declared.openings.Opening.TheVariants.{Open, Shut, Wanting}
 use Rattle.run_media.specs.Media.{Media}

@@ -19,11 +19,11 @@ use Rattle.wire_lock.specs.Sights.{AtRest, IsWirePass, Sight, base_at, owners_fo
 use Rattle.wire_lock.specs.Stories.{IsWhole, end_of}
 use Rattle.trace_report.specs.Counts.{tick_count}
 use Rattle.node_turn.specs.Nodes.{NodeParts, IsAtRest, sight}
-use Rattle.node_rounds.specs.declared.limits.Limits.{Limits}
-use Rattle.node_rounds.specs.declared.reasons.Reason.{Reason}
-use Rattle.node_rounds.specs.declared.reasons.Reason.TheVariants as reason
-use Rattle.node_rounds.specs.Nodes.{GoesOn, HasAllOf, IsUp}
-use Rattle.node_rounds.specs.Reasons.{HasMemory, IsDone, IsDown, IsLateAfter}
+use Rattle.run_starts.specs.Limits.{Limits}
+use Rattle.run_starts.specs.Reason.{Reason}
+use Rattle.run_starts.specs.Reason.TheVariants as reason
+use Rattle.run_starts.specs.Nodes.{GoesOn, HasAllOf, IsUp}
+use Rattle.run_starts.specs.Reasons.{HasMemory, IsDone, IsDown, IsLateAfter}
 use Rattle.run_media.specs.Media.{Media}
 use Rattle.run_rounds.specs.declared.ends.End.{End}
 use Rattle.run_rounds.specs.declared.ends.End.TheVariants.{Ran, Refused, NoMemory}

@@ -13,7 +13,7 @@ use Rattle.world_core.specs.Legal.{Idle, base_of, fates_of, in_plan, is_within}
 use Rattle.world_core.specs.Pasts.{WasNotOpened}
 use Rattle.world_core.specs.Readings.{world_after}
 use Rattle.trace_report.specs.Counts.{tick_count}
-use Rattle.broker_node.specs.Logs.{is_over}
+use Rattle.run_starts.specs.Logs.{is_over}
 
 -- some node is down
 abbrev pub some_down : List Entry → Bool

@@ -3,15 +3,14 @@ ghost use Rattle.std.specs.Prelude.{◌≡◌, ◌≤◌, ◌<◌, [], length, v
 ghost use Rattle.seat_lock.specs.Words.{knows};
 ghost use Rattle.wire_lock.specs.Sights.{IsWirePass};
 ghost use Rattle.trace_report.specs.Counts.{tick_count};
-ghost use Rattle.node_rounds.specs.Nodes.{IsReady};
+ghost use Rattle.run_starts.specs.Nodes.{IsReady};
 ghost use Rattle.run_media.specs.Media.{media_with};
 ghost use Rattle.run_rounds.specs.Closings.{HaveGone};
 ghost use Rattle.run_starts.specs.Deals.{IsDealt, HaveRoom};
 
 use crate::ends::Ended;
 use medium_port::Medium;
-use node_rounds::{Limits, RunNode, go_on};
-use run_starts::{collect, deal, take_apart};
+use run_starts::{Limits, RunNode, collect, deal, go_on, take_apart};
 use std::sync::Wait;
 use std::thread::Threads;
 use stream_port::{Clock, Fates};

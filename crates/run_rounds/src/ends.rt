@@ -6,7 +6,7 @@ ghost use Rattle.run_rounds.specs.Closings.{ClosedAs, IfRan, ToldFor};
 
 use broker_core::ResumeFault;
 use medium_port::Medium;
-use node_rounds::Reason;
+use run_starts::Reason;
 use stream_port::{Clock, Fates};
 use value_form::Items;
 use wire_lock::{Closed, SharedWire, Told, WirePass};

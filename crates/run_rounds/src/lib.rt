@@ -6,4 +6,6 @@ mod ends;
 mod runs;
 
 pub use ends::{End, Finished};
+pub use run_starts::Limits;
 pub use runs::run;
+pub use wire_lock::Told;

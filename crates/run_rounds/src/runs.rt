@@ -10,7 +10,7 @@ ghost use Rattle.run_starts.specs.Deals.{HaveRoom, IsDealt};
 ghost use Rattle.run_starts.specs.Seats.{IsSound};
 ghost use Rattle.run_starts.specs.Starts.{IsSetUp, fresh_for};
 ghost use Rattle.run_media.specs.Places.{node_count};
-ghost use Rattle.node_rounds.specs.Nodes.{IsReady};
+ghost use Rattle.run_starts.specs.Nodes.{IsReady};
 ghost use Rattle.trace_report.specs.Counts.{tick_count};
 ghost use Rattle.run_rounds.specs.Closings.{HasRun};
 ghost use Rattle.run_rounds.specs.Finishes.{EndsAs, IsEndFor, tellers};
@@ -18,10 +18,11 @@ ghost use Rattle.run_rounds.specs.Finishes.{EndsAs, IsEndFor, tellers};
 use crate::courses::rounds;
 use crate::ends::{End, Ended, Finished, closed_run};
 use medium_port::Medium;
-use node_rounds::{Limits, Reason, RunNode};
 use plan_form::Plan;
 use run_media::{Opening, Refusal, are_open, first_refusal, give_back, open_all};
-use run_starts::{Begun, Seated, down_visits, empty_shares, open_nodes, wire_for};
+use run_starts::{
+    Begun, Limits, Reason, RunNode, Seated, down_visits, empty_shares, open_nodes, wire_for,
+};
 use std::alloc::Global;
 use std::sync::Wait;
 use std::thread::Threads;

@@ -11,13 +11,11 @@ ghost use Rattle.run_media.specs.Openings.{medium_in};
 ghost use Rattle.run_media.specs.Places as order;
 ghost use Rattle.run_starts.specs.Seats.{Along, CanOpen, CanSeat, IsNewNode};
 
-use broker_node::open_broker;
 use effect_form::Effect;
 use medium_port::Medium;
-use node_rounds::{AnyNode, RunNode};
+use node_rounds::{AnyNode, RunNode, open_broker, open_repository};
 use plan_form::Plan;
 use pseudo_time::{NodeId, NodeKind};
-use repository_node::open_repository;
 use run_media::{Opening, node_at, own_acts};
 use std::alloc::{AllocError, Global};
 use stream_port::{Clock, Fates};

@@ -5,11 +5,11 @@ use Rattle.std.proofs.Math.Seq.{take-append_seam}
 use Rattle.token_form.specs.Tokens.{in_range}
 use Rattle.token_form.proofs.LineLaws.{one_list}
 use Rattle.value_form.specs.Mirror.{Block}
-use Rattle.statement_form.specs.Lines.{SpellsRow}
-use Rattle.statement_form.specs.Row.{Row}
-use Rattle.statement_form.specs.Rows.{Numbered, on, rows, row_depth}
-use Rattle.statement_form.specs.Begins.{Begins, BeginsShallow}
-use Rattle.statement_form.specs.RowTexts.{line_text, row_text, rows_text}
+use Rattle.script_form.specs.RowTokens.{SpellsRow}
+use Rattle.script_form.specs.Row.{Row}
+use Rattle.script_form.specs.Rows.{Numbered, on, rows, row_depth}
+use Rattle.script_form.specs.Begins.{Begins, BeginsShallow}
+use Rattle.script_form.specs.RowTexts.{line_text, row_text, rows_text}
 use Rattle.script_form.specs.Lines.{is_blank}
 use Rattle.script_form.specs.Scripts.{LineRow, LinesRows, ShallowRows, IsSmall, IsScriptLines, BeginScript, LineFault, FaultAt, FaultBehind, with_row}
 use Rattle.script_form.specs.declared.parse_faults.ParseKind.{ParseKind}

@@ -2,16 +2,16 @@
 use Rattle.std.proofs.Common.{◌≡◌, ℕ, ◌+◌, ◌-◌, ◌<◌, ◌≤◌, inl, inr, List, [], ◌∷◌, ◌++◌, length, true, false, Option, Some, None, refl, sym, ap, ◌∙◌, subst, arith}
 use Rattle.std.specs.Prelude.{Result, Ok, Err, SomeIff}
 use Rattle.std.proofs.lemmas.Bool.{cases_lt}
-use Rattle.statement_form.specs.declared.buildings.Building.{Building}
-use Rattle.statement_form.specs.Row.{Row}
-use Rattle.statement_form.specs.Row as r
-use Rattle.statement_form.specs.Rows.{Numbered, on, row_depth}
-use Rattle.statement_form.specs.Begins.{Begins, BeginsShallow}
-use Rattle.statement_form.specs.RowTexts.{row_text}
-use Rattle.statement_form.specs.Building.{rows_so_far}
-use Rattle.statement_form.specs.Feeds.{made_flat}
-use Rattle.statement_form.proofs.BeginLemmas.{fed_begins}
-use Rattle.statement_form.proofs.BlockLemmas.{row-made_flat}
+use Rattle.script_form.specs.declared.buildings.Building.{Building}
+use Rattle.script_form.specs.Row.{Row}
+use Rattle.script_form.specs.Row as r
+use Rattle.script_form.specs.Rows.{Numbered, on, row_depth}
+use Rattle.script_form.specs.Begins.{Begins, BeginsShallow}
+use Rattle.script_form.specs.RowTexts.{row_text}
+use Rattle.script_form.specs.Building.{rows_so_far}
+use Rattle.script_form.specs.RowFeeds.{made_flat}
+use Rattle.script_form.proofs.BeginLemmas.{fed_begins}
+use Rattle.script_form.proofs.BlockLemmas.{row-made_flat}
 use Rattle.script_form.specs.Lines.{is_blank}
 use Rattle.script_form.specs.LineReads.{ReadsLine, fault_of}
 use Rattle.script_form.specs.Scripts.{LineRow, LineFault}

@@ -3,7 +3,7 @@ use Rattle.std.proofs.Common.{◌≡◌, ℕ, true, false, List}
 use Rattle.std.specs.Prelude.{Result, Ok, Err}
 use Rattle.token_form.specs.declared.tokens.Token.{Token}
 use Rattle.token_form.specs.Tokens.{IsTokens, in_range}
-use Rattle.statement_form.specs.declared.flats.Flat.{Flat}
+use Rattle.script_form.specs.declared.flats.Flat.{Flat}
 use Rattle.script_form.specs.Lines.{is_blank}
 use Rattle.script_form.specs.LineReads.{ReadsRow, ReadsLine}
 use Rattle.script_form.specs.declared.parse_faults.ParseKind.TheVariants as kind

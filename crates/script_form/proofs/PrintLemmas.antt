@@ -16,14 +16,14 @@ use Rattle.token_form.specs.Tokens.{word_spelling, sign_spelling, is_name_byte, 
 use Rattle.token_form.proofs.Runs.{by_test}
 use Rattle.token_form.proofs.NameLaws.{word_is_name}
 use Rattle.token_form.proofs.LineLaws.{one_list}
-use Rattle.statement_form.proofs.OneRow.{one_row}
-use Rattle.statement_form.proofs.RowTextLemmas.{row_tokens-spell, row_text-tokens, row_tokens-in_range}
-use Rattle.statement_form.proofs.BlockLemmas.{one_script}
-use Rattle.statement_form.specs.Lines.{SpellsRow}
-use Rattle.statement_form.specs.Row.{Row}
-use Rattle.statement_form.specs.Row as r
-use Rattle.statement_form.specs.Rows.{Numbered, on, rows, row_depth}
-use Rattle.statement_form.specs.RowTexts.{row_text, row_tokens, line_text, rows_text, next_line, script_text}
+use Rattle.script_form.proofs.OneRow.{one_row}
+use Rattle.script_form.proofs.RowTextLemmas.{row_tokens-spell, row_text-tokens, row_tokens-in_range}
+use Rattle.script_form.proofs.BlockLemmas.{one_script}
+use Rattle.script_form.specs.RowTokens.{SpellsRow}
+use Rattle.script_form.specs.Row.{Row}
+use Rattle.script_form.specs.Row as r
+use Rattle.script_form.specs.Rows.{Numbered, on, rows, row_depth}
+use Rattle.script_form.specs.RowTexts.{row_text, row_tokens, line_text, rows_text, next_line, script_text}
 use Rattle.script_form.specs.Lines.{lines_from, lines, is_blank}
 use Rattle.script_form.specs.Scripts.{LineRow, LinesRows, ShallowRows, IsScriptLines}
 use Rattle.script_form.specs.Printable.{Rising, RowsInLimits, IsPrintable}

@@ -2,10 +2,10 @@
 use Rattle.std.proofs.Common.{◌≡◌, ℕ, ◌+◌, ◌-◌, ◌<◌, ◌≤◌, ◌⊎◌, inl, inr, true, List, [], ◌∷◌, ◌++◌, length, refl, sym, ap, ◌∙◌, subst, arith}
 use Rattle.std.proofs.lemmas.List.{length-append}
 use Rattle.value_form.specs.Mirror.{End}
-use Rattle.statement_form.specs.Row.{Row}
-use Rattle.statement_form.specs.Rows.{Numbered, on, row_depth}
-use Rattle.statement_form.specs.Begins.{Begins, BeginsShallow}
-use Rattle.statement_form.specs.RowTexts.{row_text, rows_text}
+use Rattle.script_form.specs.Row.{Row}
+use Rattle.script_form.specs.Rows.{Numbered, on, row_depth}
+use Rattle.script_form.specs.Begins.{Begins, BeginsShallow}
+use Rattle.script_form.specs.RowTexts.{row_text, rows_text}
 use Rattle.script_form.specs.Lines.{is_blank}
 use Rattle.script_form.specs.Scripts.{LineRow, LinesRows, BeginScript, LineFault}
 use Rattle.script_form.specs.declared.parse_faults.ParseKind.TheVariants as kind

@@ -4,9 +4,9 @@ use Rattle.std.proofs.lemmas.Bool.Decides.{nat_tests}
 use Rattle.value_form.specs.Mirror.{Term, Number, Text, Nothing, Name, Before, Between, Applied, Given, Spot, Fixed, At, Step, Let, Read, Write, Print, If, IfElse, Repeat, Withdraw, Block, End, Then}
 use Rattle.value_form.specs.Ranges.{IsTerm, IsSpot, IsStep, IsBlock}
 use Rattle.expression_form.specs.Texts.{InLimits}
-use Rattle.statement_form.specs.Row as r
-use Rattle.statement_form.specs.Rows.{Numbered, on, step_rows, rows}
-use Rattle.statement_form.specs.RowTexts.{SpotInLimits}
+use Rattle.script_form.specs.Row as r
+use Rattle.script_form.specs.Rows.{Numbered, on, step_rows, rows}
+use Rattle.script_form.specs.RowTexts.{SpotInLimits}
 use Rattle.script_form.specs.Printable.{RowsInLimits, IsPrintable}
 
 limits-left : (greatest : ℕ) (xs ys : List Numbered) → RowsInLimits greatest (xs ++ ys) → RowsInLimits greatest xs

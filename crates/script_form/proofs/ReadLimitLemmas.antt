@@ -7,10 +7,10 @@ use Rattle.token_form.proofs.Spellings.{line_has_tokens}
 use Rattle.value_form.specs.declared.scripts.Script.{Script}
 use Rattle.value_form.specs.Mirror.{Block, block}
 use Rattle.value_form.specs.MirrorLaws.{made_all, made-block}
-use Rattle.statement_form.specs.Row.{Row}
-use Rattle.statement_form.specs.Rows.{Numbered}
-use Rattle.statement_form.specs.RowTexts.{RowInLimits, RowUpTo, rows_text, next_line, script_text}
-use Rattle.statement_form.proofs.RowLimitLemmas.{spelled_row-in_limits, spelled_row-up_to}
+use Rattle.script_form.specs.Row.{Row}
+use Rattle.script_form.specs.Rows.{Numbered}
+use Rattle.script_form.specs.RowTexts.{RowInLimits, RowUpTo, rows_text, next_line, script_text}
+use Rattle.script_form.proofs.RowLimitLemmas.{spelled_row-in_limits, spelled_row-up_to}
 use Rattle.script_form.specs.Scripts.{LineRow, LinesRows, ShallowRows, IsScriptLines}
 use Rattle.script_form.specs.declared.parse_faults.ParseFault.{ParseFault}
 use Rattle.script_form.specs.declared.parse_faults.ParseFault.TheVariants.{Fault, NoMemory}

@@ -2,9 +2,9 @@
 use Rattle.std.proofs.Common.{◌≡◌, ℕ, suc, ◌+◌, ◌-◌, ◌≤◌, inl, inr, true, List, [], ◌∷◌, ◌++◌, length, refl, ap, ◌∙◌, subst, arith, append-nil}
 use Rattle.std.proofs.lemmas.List.{length-append, length-replicate}
 use Rattle.std.specs.Prelude.{replicate}
-use Rattle.statement_form.specs.Row.{Row}
-use Rattle.statement_form.specs.Rows.{Numbered, on, row_depth}
-use Rattle.statement_form.specs.RowTexts.{line_text, row_text, rows_text, next_line}
+use Rattle.script_form.specs.Row.{Row}
+use Rattle.script_form.specs.Rows.{Numbered, on, row_depth}
+use Rattle.script_form.specs.RowTexts.{line_text, row_text, rows_text, next_line}
 use Rattle.script_form.specs.Lines.{is_blank}
 use Rattle.script_form.specs.Scripts.{LineRow, LinesRows, ShallowRows}
 

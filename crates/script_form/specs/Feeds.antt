@@ -2,8 +2,8 @@
 use Rattle.std.specs.Prelude.{◌≡◌, ℕ, ◌+◌, ◌<◌, ◌≤◌, ◌⊎◌, Option, Some, None, List, [], ◌∷◌, ◌++◌, length, Result, Ok, Err}
 use Rattle.value_form.specs.declared.scripts.Script.{Script}
 use Rattle.value_form.specs.Mirror.{block}
-use Rattle.statement_form.specs.declared.buildings.Building.{Building}
-use Rattle.statement_form.specs.Building.{rows_so_far}
+use Rattle.script_form.specs.declared.buildings.Building.{Building}
+use Rattle.script_form.specs.Building.{rows_so_far}
 use Rattle.script_form.specs.declared.parse_faults.ParseFault.{ParseFault}
 use Rattle.script_form.specs.declared.parse_faults.ParseFault.TheVariants.{Fault, NoMemory}
 use Rattle.script_form.specs.declared.parse_faults.ParseKind.TheVariants as kind

@@ -4,11 +4,11 @@ use Rattle.std.specs.declared.vec.Vec.{Vec}
 use Rattle.std.specs.declared.alloc.Global.{Global}
 use Rattle.token_form.specs.declared.tokens.Token.{Token}
 use Rattle.token_form.specs.Tokens.{IsTokens, in_range}
-use Rattle.statement_form.specs.declared.flats.Flat.{Flat}
-use Rattle.statement_form.specs.Flats.{row_of}
-use Rattle.statement_form.specs.Row.{Row}
-use Rattle.statement_form.specs.Rows.{row_depth}
-use Rattle.statement_form.specs.Lines.{SpellsRow}
+use Rattle.script_form.specs.declared.flats.Flat.{Flat}
+use Rattle.script_form.specs.Flats.{row_of}
+use Rattle.script_form.specs.Row.{Row}
+use Rattle.script_form.specs.Rows.{row_depth}
+use Rattle.script_form.specs.RowTokens.{SpellsRow}
 use Rattle.script_form.specs.Scripts.{LineTokens, LineRow}
 use Rattle.script_form.specs.declared.parse_faults.ParseKind.TheVariants as kind
 use Rattle.script_form.specs.declared.parse_faults.ParseFault.{ParseFault}

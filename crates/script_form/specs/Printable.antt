@@ -1,8 +1,8 @@
 -- Which scripts the language has.
 use Rattle.std.specs.Prelude.{ℕ, ◌+◌, ◌≤◌, List, [], ◌∷◌, length}
 use Rattle.value_form.specs.Mirror.{Block}
-use Rattle.statement_form.specs.Rows.{Numbered, rows, block_depth}
-use Rattle.statement_form.specs.RowTexts.{RowInLimits, RowUpTo, next_line, script_text}
+use Rattle.script_form.specs.Rows.{Numbered, rows, block_depth}
+use Rattle.script_form.specs.RowTexts.{RowInLimits, RowUpTo, next_line, script_text}
 use Rattle.script_form.specs.Scripts.{ShallowRows}
 
 -- each row stands on a later line than the row before

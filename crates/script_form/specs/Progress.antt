@@ -1,8 +1,8 @@
 -- What a reader knows of the lines that it has read.
 use Rattle.std.specs.Prelude.{◌≡◌, ℕ, ◌≤◌, List, length}
-use Rattle.statement_form.specs.Rows.{Numbered}
-use Rattle.statement_form.specs.Begins.{BeginsShallow}
-use Rattle.statement_form.specs.RowTexts.{rows_text, next_line}
+use Rattle.script_form.specs.Rows.{Numbered}
+use Rattle.script_form.specs.Begins.{BeginsShallow}
+use Rattle.script_form.specs.RowTexts.{rows_text, next_line}
 use Rattle.script_form.specs.Scripts.{LinesRows, ShallowRows}
 
 -- The lines begin a script; xs are their rows, count is their number, next the line after the last row, and size the bytes of their canonical text.

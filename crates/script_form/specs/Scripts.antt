@@ -3,11 +3,11 @@ use Rattle.std.specs.Prelude.{◌≡◌, ℕ, ◌+◌, ◌≤◌, ◌⊎◌, tru
 use Rattle.token_form.specs.declared.tokens.Token.{Token}
 use Rattle.token_form.specs.Tokens.{IsTokens, in_range}
 use Rattle.value_form.specs.Mirror.{Block}
-use Rattle.statement_form.specs.Row.{Row}
-use Rattle.statement_form.specs.Rows.{Numbered, on, rows, row_depth, block_depth}
-use Rattle.statement_form.specs.Lines.{SpellsRow}
-use Rattle.statement_form.specs.Begins.{Begins, BeginsShallow}
-use Rattle.statement_form.specs.RowTexts.{rows_text}
+use Rattle.script_form.specs.Row.{Row}
+use Rattle.script_form.specs.Rows.{Numbered, on, rows, row_depth, block_depth}
+use Rattle.script_form.specs.RowTokens.{SpellsRow}
+use Rattle.script_form.specs.Begins.{Begins, BeginsShallow}
+use Rattle.script_form.specs.RowTexts.{rows_text}
 use Rattle.script_form.specs.Lines.{is_blank}
 use Rattle.script_form.specs.declared.parse_faults.ParseKind.{ParseKind}
 use Rattle.script_form.specs.declared.parse_faults.ParseKind.TheVariants as kind

@@ -2,7 +2,7 @@ ghost use Rattle.std.specs.Prelude.{◌≡◌, ◌<◌, ◌++◌, ℕ, List, Ok,
 ghost use Rattle.value_form.specs.declared.scripts.Script.{Script};
 ghost use Rattle.value_form.specs.Mirror.{Block, block};
 ghost use Rattle.value_form.specs.Ranges.{IsBlock};
-ghost use Rattle.statement_form.specs.RowTexts.{script_text};
+ghost use Rattle.script_form.specs.RowTexts.{script_text};
 ghost use Rattle.script_form.specs.Lines.{lines};
 ghost use Rattle.script_form.specs.Printable.{IsPrintable};
 ghost use Rattle.script_form.specs.Scripts.{IsScriptLines, BeginScript, FaultAt, FaultBehind};

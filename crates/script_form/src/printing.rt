@@ -1,8 +1,8 @@
 ghost use Rattle.std.specs.Prelude.{◌≡◌, IfOk};
 ghost use Rattle.value_form.specs.Mirror.{block};
-ghost use Rattle.statement_form.specs.RowTexts.{script_text};
+ghost use Rattle.script_form.specs.RowTexts.{script_text};
 
-use statement_form::print_script;
+use crate::print_script;
 use std::alloc::{AllocError, Global};
 use value_form::{Bytes, Script};
 

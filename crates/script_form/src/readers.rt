@@ -6,7 +6,7 @@ use crate::parse_faults::{ParseFault, ParseKind};
 use crate::row_faults::RowFault;
 use crate::row_texts::row_size;
 use crate::rows::line_row;
-use statement_form::{BlockFault, Builder, Flat};
+use crate::{BlockFault, Builder, Flat};
 use std::alloc::Global;
 use value_form::Script;
 
@@ -66,8 +66,8 @@ fn grown(size: u16, gap: u16, row: usize) -> Option<u16>
 impl ScriptReader {
     ghost use Rattle.script_form.specs.Feeds.{HoldsLines, FeedsLine, EndsLines, Passes, Places};
     ghost use Rattle.script_form.specs.Scripts.{LineRow};
-    ghost use Rattle.statement_form.specs.Flats.{row_of};
-    ghost use Rattle.statement_form.specs.Rows.{row_depth};
+    ghost use Rattle.script_form.specs.Flats.{row_of};
+    ghost use Rattle.script_form.specs.Rows.{row_depth};
 
     /// No line so far. Objects have the repositories from 1 to `greatest`.
     pub fn new(alloc: Global, greatest: u8) -> ScriptReader

@@ -1,8 +1,8 @@
 ghost use Rattle.std.specs.Prelude.{◌≡◌, IfOk, length};
-ghost use Rattle.statement_form.specs.Flats.{row_of};
-ghost use Rattle.statement_form.specs.RowTexts.{row_text};
+ghost use Rattle.script_form.specs.Flats.{row_of};
+ghost use Rattle.script_form.specs.RowTexts.{row_text};
 
-use statement_form::{Flat, print_row};
+use crate::{Flat, print_row};
 use std::alloc::{AllocError, Global};
 
 // The bytes of a row's canonical text.

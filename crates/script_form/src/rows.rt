@@ -4,8 +4,8 @@ ghost use Rattle.script_form.specs.LineReads.{ReadsLine, ReadsTokens, ReadsRow};
 
 use crate::parse_faults::ParseKind;
 use crate::row_faults::RowFault;
+use crate::{Flat, read_row};
 use expression_form::ReadFault;
-use statement_form::{Flat, read_row};
 use std::alloc::Global;
 use token_form::{LineFault, Token, tokens_of};
 

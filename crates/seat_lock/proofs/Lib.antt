@@ -10,3 +10,4 @@ pub mod Dealing
 pub mod Showing
 pub mod Apart
 pub mod Popping
+pub mod ServedDrawing

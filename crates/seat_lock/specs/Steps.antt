@@ -59,6 +59,10 @@ module _ {T E : Type 0} where
   abbrev pub drew : Step T → Seated T E → ℕ → Seated T E → Type 0
   drew st m found m' = (t : ℕ) × (found ≡ t % 18446744073709551616) × (m'.0 ≡ staged (Waiting t) m.0) × (m'.1 ≡ m.1)
 
+  -- a ticket was drawn where the word was as it was wanted; else nothing changes
+  abbrev pub drew_if : Step T → Seated T E → ℕ → Seated T E → Type 0
+  drew_if st m found m' = (found ≡ st.first → drew st m found m') × (found ≢ st.first → m' ≡ m)
+
   -- the slot was given back, and the next ticket is served
   abbrev pub left : Step T → Seated T E → ℕ → Seated T E → Type 0
   left st m found m' = (m'.0 ≡ staged Idle m.0) × (m'.1 ≡ rest m.1)

@@ -1,6 +1,6 @@
 //! What each step on the table tells.
 ghost use Rattle.seat_lock.specs.Story.{meaning};
-ghost use Rattle.seat_lock.specs.Steps.{drew, looked, noted, left, posted, tested, learned, dealing, dealt_out, note, informed, gathered, nobody};
+ghost use Rattle.seat_lock.specs.Steps.{drew, drew_if, looked, noted, left, posted, tested, learned, dealing, dealt_out, note, informed, gathered, nobody};
 
 use crate::Storied;
 use crate::views::View;
@@ -11,6 +11,13 @@ pub(crate) struct Draw;
 
 impl<T: Storied> Play<T, View<T>> for Draw {
     ghost then = { drew };
+}
+
+// Draws the ticket that is served, where no later one was drawn.
+pub(crate) struct DrawServed;
+
+impl<T: Storied> Play<T, View<T>> for DrawServed {
+    ghost then = { drew_if };
 }
 
 // Looks at the ticket served, and takes the slot where it is the seat's own.

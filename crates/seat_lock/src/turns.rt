@@ -1,5 +1,5 @@
 //! Entering the lock.
-ghost use Rattle.std.specs.Prelude.{◌≡◌, ◌%◌, ◌^◌, ℕ, List, false};
+ghost use Rattle.std.specs.Prelude.{◌≡◌, ◌%◌, ◌^◌, ℕ, List, false, IfNone, IfSome};
 ghost use Rattle.seat_lock.specs.Story.{meaning};
 ghost use Rattle.seat_lock.specs.Steps.{ticket_of};
 ghost use Rattle.seat_lock.specs.Passes.{Took};
@@ -8,21 +8,68 @@ ghost use Rattle.seat_lock.specs.declared.views.Stage.TheVariants.{Idle, Waiting
 
 use crate::Storied;
 use crate::locks::{Pass, SeatLock, Visit};
-use crate::plays::{Draw, Look};
+use crate::plays::{Draw, DrawServed, Look};
+use std::hint::spin_loop;
 use std::sync::Wait;
+use std::thread::yield_now;
 
-// A visit is over in less time than a thread takes to sleep and wake, so who waits looks this often
-// at the ticket that is served before it sleeps.
-const LOOKS_BEFORE_PARKING: u32 = 1_000;
+// A visit is over in less time than a thread takes to sleep and wake. So who finds the lock taken
+// looks this often whether it is free, then lets others run this often, and only then draws a
+// ticket for which those behind it wait; it looks as often at the ticket served before it sleeps.
+const LOOKS: u32 = 100;
+
+const YIELDS: u32 = 100;
 
 impl<T: Storied> SeatLock<T> {
-    // Draws a ticket.
+    // Draws the ticket that is served, where no pass is inside and none waits. None where one is, or
+    // where another pass draws it first.
+    fn draw_served(&self, seat: &mut Pass<T>) -> Option<u64>
+        requires pass { IsPassOf self.now seat.old }
+        ensures here { (seat.new.table_id ≡ seat.old.table_id) × (seat.new.me.1 ≡ seat.old.me.1) }
+        ensures none { IfNone result (seat.new.me ≡ seat.old.me) }
+        ensures some { IfSome result (λ r. (t : ℕ) × (r ≡ t % 2 ^ 64) × (seat.new.me.0 ≡ record seat.old.me.0 { stage = Waiting t })) }
+    {
+        let shared = &self.table.shared;
+        let served = shared.peek(1);
+        if shared.peek(0) != served {
+            return None;
+        }
+        let next = served.wrapping_add(1);
+        let found = shared.compare_exchange::<DrawServed>(seat, 0, served, next);
+        if found == served { Some(served) } else { None }
+    }
+
+    // Draws the ticket that is served, where the lock is found free before long.
+    fn draw_soon(&self, seat: &mut Pass<T>) -> Option<u64>
+        requires pass { IsPassOf self.now seat.old }
+        ensures here { (seat.new.table_id ≡ seat.old.table_id) × (seat.new.me.1 ≡ seat.old.me.1) }
+        ensures none { IfNone result (seat.new.me ≡ seat.old.me) }
+        ensures some { IfSome result (λ r. (t : ℕ) × (r ≡ t % 2 ^ 64) × (seat.new.me.0 ≡ record seat.old.me.0 { stage = Waiting t })) }
+    {
+        for looks in 0..LOOKS + YIELDS {
+            if let Some(ticket) = self.draw_served(seat) {
+                return Some(ticket);
+            }
+            if looks < LOOKS {
+                spin_loop();
+            } else {
+                yield_now();
+            }
+        }
+        None
+    }
+
+    // Draws a ticket: the one that is served, where the lock is found free before long, else the
+    // next one.
     fn draw(&self, seat: &mut Pass<T>) -> u64
         requires pass { IsPassOf self.now seat.old }
         ensures here { (seat.new.table_id ≡ seat.old.table_id) × (seat.new.me.1 ≡ seat.old.me.1) }
         ensures ticket { (t : ℕ) × (result ≡ t % 2 ^ 64) × (seat.new.me.0 ≡ record seat.old.me.0 { stage = Waiting t }) }
     {
-        self.table.shared.fetch_add::<Draw>(seat, 0, 1)
+        match self.draw_soon(seat) {
+            Some(ticket) => ticket,
+            None => self.table.shared.fetch_add::<Draw>(seat, 0, 1),
+        }
     }
 
     // Waits for its turn, and takes the slot.
@@ -40,7 +87,7 @@ impl<T: Storied> SeatLock<T> {
             if served == ticket {
                 return;
             }
-            if looks < LOOKS_BEFORE_PARKING {
+            if looks < LOOKS {
                 looks += 1;
             } else {
                 shared.park(rt, 1, (served & 0xffff_ffff) as u32);

@@ -16,9 +16,9 @@ use Rattle.effect_form.specs.declared.effects.Effect.TheVariants as effect
 use Rattle.effect_form.specs.declared.outcomes.Outcome.{Outcome}
 use Rattle.effect_form.specs.declared.outcomes.Outcome.TheVariants as outcome
 use Rattle.message_form.specs.declared.messages.Message.TheVariants as message
-use Rattle.turn_form.specs.Growth.{Grew, Each}
-use Rattle.turn_form.specs.Posts.{Post}
-use Rattle.turn_form.proofs.GrowthLemmas.{each_below}
+use Rattle.message_form.specs.Growth.{Grew, Each}
+use Rattle.message_form.specs.Posts.{Post}
+use Rattle.message_form.proofs.GrowthLemmas.{each_below}
 use Rattle.object_history.specs.declared.steps.WriteStep.{WriteStep}
 use Rattle.object_history.specs.declared.steps.WriteStep.TheVariants as write
 use Rattle.object_history.specs.Answers.{write_step}

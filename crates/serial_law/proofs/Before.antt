@@ -7,7 +7,7 @@ use Rattle.value_form.specs.declared.objects.ObjectId.{ObjectId}
 use Rattle.value_form.specs.declared.values.Value.{Value}
 use Rattle.value_form.specs.declared.values.Value.TheVariants.{Nothing}
 use Rattle.object_history.specs.declared.marks.Mark.{Mark}
-use Rattle.turn_form.specs.Posts.{Post}
+use Rattle.message_form.specs.Posts.{Post}
 use Rattle.serial_law.proofs.Settled.{at-home}
 use Rattle.serial_model.specs.Questions.{left_after}
 use Rattle.serial_law.proofs.Talking.{alone, kinds-all}

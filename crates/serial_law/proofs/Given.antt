@@ -7,7 +7,7 @@ use Rattle.value_form.specs.declared.objects.ObjectId.{ObjectId}
 use Rattle.value_form.specs.declared.values.Value.{Value}
 use Rattle.object_history.specs.declared.marks.Mark.{Mark}
 use Rattle.object_history.specs.declared.marks.Mark.TheVariants.{Put, Stretch, Settle}
-use Rattle.turn_form.specs.Posts.{Post}
+use Rattle.message_form.specs.Posts.{Post}
 use Rattle.serial_law.proofs.LogLemmas.{le-cases, in-low, in-high, in-both, marks-put, marks-in, marks-cases, put-marks}
 use Rattle.serial_law.proofs.Fold.{Deed, Deed_at, on}
 use Rattle.serial_law.proofs.Premises.{put-at}

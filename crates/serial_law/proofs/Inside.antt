@@ -10,9 +10,9 @@ use Rattle.value_form.specs.Mirror.{Spot, Fixed, At, Step, Let, Read, Write, Pri
 use Rattle.script_meaning.specs.Names.{Names, with_name}
 use Rattle.script_meaning.specs.Operations.{◌>>=◌, object_in}
 use Rattle.script_meaning.specs.Meaning.{value, object_at, condition, count, Request, Answer, Got, Stored}
-use Rattle.statement_form.specs.Row as r
-use Rattle.statement_form.specs.Rows.{Numbered, on, step_rows, rows}
-use Rattle.statement_form.specs.RowTexts.{SpotInLimits, SpotUpTo}
+use Rattle.script_form.specs.Row as r
+use Rattle.script_form.specs.Rows.{Numbered, on, step_rows, rows}
+use Rattle.script_form.specs.RowTexts.{SpotInLimits, SpotUpTo}
 use Rattle.script_form.specs.Printable.{RowsInLimits}
 use Rattle.serial_model.specs.Questions.{Tree, Ends, Says, Reads, Writes, Onward, asked_with, asked_turns, asked, all_asked, denote, after}
 use Rattle.plan_form.specs.Plans.{InRange}

@@ -13,11 +13,16 @@ pub mod Own
 pub mod OwnAnswers
 pub mod Premises
 pub mod Puts
+pub mod ReasonRuns
 pub mod RefusedRuns
 pub mod RunFacts
+pub mod SameRuns
+pub mod SerialRuns
 pub mod Settled
 pub mod Stamps
 pub mod Talking
 pub mod Times
 pub mod Traces
 pub mod WorkedRuns
+pub use Rattle.world_facts.proofs.Growths
+pub use Rattle.world_facts.proofs.Ranges

@@ -7,7 +7,7 @@ use Rattle.value_form.specs.declared.objects.ObjectId.{ObjectId}
 use Rattle.value_form.specs.declared.values.Value.{Value}
 use Rattle.object_history.specs.declared.marks.Mark.{Mark}
 use Rattle.object_history.specs.declared.marks.Mark.TheVariants.{Put, Stretch, Settle}
-use Rattle.turn_form.specs.Posts.{Post}
+use Rattle.message_form.specs.Posts.{Post}
 use Rattle.serial_law.proofs.LogLemmas.{marks-put, in-both}
 use Rattle.serial_law.proofs.Own.{Kinds, Written, fronts, no-split, tail_of}
 use Rattle.serial_law.proofs.Premises.{lone, write-stored, put-written}

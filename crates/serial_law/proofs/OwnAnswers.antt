@@ -18,7 +18,7 @@ use Rattle.effect_form.specs.declared.effects.Effect.TheVariants as effect
 use Rattle.effect_form.specs.declared.outcomes.Outcome.TheVariants as outcome
 use Rattle.message_form.specs.declared.messages.Message.{Message}
 use Rattle.message_form.specs.declared.messages.Message.TheVariants as message
-use Rattle.turn_form.specs.Posts.{Post, WasSent}
+use Rattle.message_form.specs.Posts.{Post, WasSent}
 use Rattle.object_history.specs.declared.marks.Mark.{Mark}
 use Rattle.object_history.specs.History.{Seen, alive}
 use Rattle.object_history.specs.Views.{shows, views, value_of, Viewed}

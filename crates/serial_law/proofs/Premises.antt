@@ -5,7 +5,7 @@ use Rattle.pseudo_time.specs.TimeParts.{TimeParts}
 use Rattle.value_form.specs.declared.objects.ObjectId.{ObjectId}
 use Rattle.value_form.specs.declared.values.Value.{Value}
 use Rattle.effect_form.specs.declared.effects.Effect.TheVariants as effect
-use Rattle.turn_form.specs.Posts.{Post}
+use Rattle.message_form.specs.Posts.{Post}
 use Rattle.serial_law.proofs.LogLemmas.{put-marks, marks-put, marks-in, marks-cases}
 use Rattle.serial_law.proofs.Settled.{sure-yes, sure-no}
 use Rattle.serial_law.proofs.Own.{Written, fronts}

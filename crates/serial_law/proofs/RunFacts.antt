@@ -21,7 +21,7 @@ use Rattle.effect_form.specs.declared.outcomes.Outcome.{Outcome}
 use Rattle.effect_form.specs.declared.outcomes.Outcome.TheVariants as outcome
 use Rattle.message_form.specs.declared.messages.Message.{Message}
 use Rattle.message_form.specs.declared.messages.Message.TheVariants as message
-use Rattle.turn_form.specs.Posts.{Post, WasSent}
+use Rattle.message_form.specs.Posts.{Post, WasSent}
 use Rattle.object_history.specs.Views.{Viewed}
 use Rattle.script_meaning.specs.Meaning.{Got, Stored, Request, ToRead, ToWrite, Stop, Asks, Over}
 use Rattle.serial_model.specs.Questions.{Tree, after, stop, talked}

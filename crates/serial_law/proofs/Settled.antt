@@ -5,7 +5,7 @@ use Rattle.pseudo_time.specs.StampParts.{StampParts}
 use Rattle.effect_form.specs.declared.effects.Effect.TheVariants as effect
 use Rattle.pseudo_time.specs.declared.decisions.Decision.{Decision}
 use Rattle.pseudo_time.specs.declared.decisions.Decision.TheVariants as decision
-use Rattle.turn_form.specs.Posts.{Post}
+use Rattle.message_form.specs.Posts.{Post}
 use Rattle.serial_law.proofs.LogLemmas.{SettledBy, OnlyLearns, settle-marks, has-commit, commit-has, has-learned, learned-has, in-low, in-high, in-both, some-yes, some-is}
 use Rattle.object_history.specs.History.{settle_of}
 use Rattle.pseudo_time.specs.Lists.{Has}

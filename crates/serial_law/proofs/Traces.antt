@@ -18,8 +18,8 @@ use Rattle.effect_form.specs.declared.effects.Effect.TheVariants as effect
 use Rattle.message_form.specs.declared.messages.Message.{Message}
 use Rattle.message_form.specs.declared.messages.Message.TheVariants as message
 use Rattle.effect_form.specs.declared.outcomes.Outcome.TheVariants as outcome
-use Rattle.turn_form.specs.Posts.{Post, WasSent}
-use Rattle.turn_form.proofs.GrowthLemmas.{each_below}
+use Rattle.message_form.specs.Posts.{Post, WasSent}
+use Rattle.message_form.proofs.GrowthLemmas.{each_below}
 use Rattle.object_history.specs.declared.marks.Mark.{Mark}
 use Rattle.object_history.specs.Views.{Firm, Viewed, value_of}
 use Rattle.object_history.proofs.ViewLemmas.{sees-views}

@@ -7,7 +7,7 @@ use Rattle.value_form.specs.declared.values.Value.{Value}
 use Rattle.effect_form.specs.declared.outcomes.Outcome.TheVariants as outcome
 use Rattle.message_form.specs.declared.messages.Message.{Message}
 use Rattle.message_form.specs.declared.messages.Message.TheVariants as message
-use Rattle.turn_form.specs.Posts.{Post, WasSent}
+use Rattle.message_form.specs.Posts.{Post, WasSent}
 use Rattle.script_meaning.specs.Meaning.{Answer, Got, Stored, Request, Asks}
 use Rattle.serial_model.specs.Questions.{Tree, stop}
 use Rattle.broker_core.specs.Book.{Try, time_of}

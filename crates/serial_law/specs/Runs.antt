@@ -9,7 +9,7 @@ use Rattle.effect_form.specs.declared.effects.Effect.{Effect}
 use Rattle.effect_form.specs.declared.effects.Effect.TheVariants as effect
 use Rattle.message_form.specs.declared.messages.Message.{Message}
 use Rattle.message_form.specs.declared.messages.Message.TheVariants as message
-use Rattle.turn_form.specs.Posts.{Post}
+use Rattle.message_form.specs.Posts.{Post}
 use Rattle.stream_port.specs.declared.fates.Asked.{Asked}
 use Rattle.pseudo_time.specs.TimeParts.{TimeParts}
 use Rattle.object_history.specs.declared.steps.WriteStep.{WriteStep}

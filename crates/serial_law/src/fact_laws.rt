@@ -17,7 +17,7 @@ ghost use Rattle.broker_core.specs.Book.{book, tries};
 ghost use Rattle.pseudo_time.specs.Nodes.{broker, repository};
 ghost use Rattle.broker_laws.specs.Fits as brokers;
 ghost use Rattle.broker_laws.specs.Posts.{Distinct, IsPlayed, IsProven, PostHolds};
-ghost use Rattle.turn_form.specs.Posts.{WasSent};
+ghost use Rattle.message_form.specs.Posts.{WasSent};
 ghost use Rattle.serial_law.specs.Answers.{IsAnsweredThere, StoredBefore};
 ghost use Rattle.serial_law.specs.Facts.{RunFacts};
 ghost use Rattle.serial_law.specs.Runs.{Position, log_at, run_at, sent_before};

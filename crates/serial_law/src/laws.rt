@@ -5,7 +5,7 @@ ghost use Rattle.pseudo_time.specs.StampParts.{StampParts};
 ghost use Rattle.effect_form.specs.declared.effects.Effect.{Effect};
 ghost use Rattle.effect_form.specs.declared.effects.Effect.TheVariants as effect;
 ghost use Rattle.effect_form.specs.declared.outcomes.Outcome.{Outcome};
-ghost use Rattle.turn_form.specs.Posts.{Post};
+ghost use Rattle.message_form.specs.Posts.{Post};
 ghost use Rattle.broker_core.specs.Book.{book};
 ghost use Rattle.pseudo_time.specs.Nodes.{broker, repository};
 ghost use Rattle.pseudo_time.specs.TimeParts.{TimeParts};

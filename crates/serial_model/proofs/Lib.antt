@@ -9,5 +9,7 @@ pub mod QuestionLemmas
 pub mod RangeExamples
 pub mod RequestLemmas
 pub mod ScriptLemmas
+pub mod ScriptRangeLemmas
 pub mod StatementLemmas
 pub mod TestLemmas
+pub mod TextByteLemmas

@@ -4,6 +4,7 @@
 mod laws;
 mod object_maps;
 mod performances;
+mod range_laws;
 mod works;
 
 pub use laws::{
@@ -12,5 +13,6 @@ pub use laws::{
 };
 pub use object_maps::ObjectMap;
 pub use performances::perform;
+pub use range_laws::law_of_script_ranges;
 pub use value_form::Ending;
 pub use works::Performed;

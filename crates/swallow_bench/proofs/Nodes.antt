@@ -7,7 +7,7 @@ use Rattle.pseudo_time.specs.declared.nodes.NodeKind.TheVariants.{Repository, Br
 use Rattle.pseudo_time.proofs.ListLemmas.{every-map, every-append}
 use Rattle.pseudo_time.specs.Nodes.{same_node, kind_number}
 use Rattle.world_core.specs.declared.traces.Opened.{Opened}
-use Rattle.turn_form.specs.Ranges.{AreEffects}
+use Rattle.message_form.specs.Ranges.{AreEffects}
 use Rattle.trace_logs.specs.Replays.{IsOnce, IsOpened}
 use Rattle.trace_logs.proofs.OpenedLemmas.{IsNew, once-more}
 

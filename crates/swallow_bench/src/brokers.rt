@@ -5,17 +5,16 @@ ghost use Rattle.std.specs.Prelude.{◌≤◌, ◌<◌, length, OnOk, IfOk, IfSo
 ghost use Rattle.value_form.specs.Mirror.{block};
 ghost use Rattle.script_form.specs.Printable.{IsPrintable};
 ghost use Rattle.message_form.specs.Messages.{IsMessage};
-ghost use Rattle.turn_form.specs.Ranges.{AreEffects, AreOuts};
+ghost use Rattle.message_form.specs.Ranges.{AreEffects, AreOuts};
 ghost use Rattle.broker_core.specs.Ledgers.{IsBrokerAct, AreBrokerActs};
 
 use crate::faults::{Fault, number};
 use broker_core::{Broker, ResumeFault};
 use effect_form::Effect;
-use message_form::Message;
+use message_form::{Message, Out, Turn};
 use pseudo_time::{Decision, NodeId, NodeKind};
 use script_form::{law_of_lines, parse};
 use std::alloc::{AllocError, Global};
-use turn_form::{Out, Turn};
 use value_form::{ActSpec, Script};
 
 const HOME: NodeId = NodeId {

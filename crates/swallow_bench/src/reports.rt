@@ -8,9 +8,9 @@ use crate::faults::{Fault, number};
 use effect_form::{Effect, Outcome};
 use plan_form::{Plan, law_of_plans, parse};
 use pseudo_time::{Decision, NodeId, PseudoTime, Stamp};
-use run_report::report_by;
 use script_form::print;
 use std::alloc::{AllocError, Global};
+use trace_report::report_by;
 use value_form::{ActSpec, Items, ObjectId, Value};
 use world_core::{Opened, Trace};
 

@@ -2,17 +2,16 @@
 // the moment, each broker asks the repository of its number and is answered. The word is about how many
 // entries there are. Prints how many messages were sent.
 ghost use Rattle.std.specs.Prelude.{◌≡◌, true, IsTrue, IfOk};
-ghost use Rattle.turn_form.specs.Ranges.{AreOuts};
+ghost use Rattle.message_form.specs.Ranges.{AreOuts};
 ghost use Rattle.world_core.specs.Legal.{HasGone};
 ghost use Rattle.wire_core.specs.Wires.{world_of};
 
 use crate::faults::{Fault, number};
 use medium_port::FileMedium;
-use message_form::Message;
+use message_form::{Message, Out};
 use pseudo_time::{NodeId, NodeKind, Stamp};
 use std::alloc::{AllocError, Global};
 use stream_port::{FixedClock, MemoryFates};
-use turn_form::Out;
 use value_form::Items;
 use wire_core::Wire;
 use world_core::Opened;

@@ -28,16 +28,16 @@ use Rattle.run_rounds.specs.Ends.{some_down}
 use Rattle.run_rounds.specs.Finishes.{Tellers, account_of}
 use Rattle.run_rounds.specs.Media.{Became, inner, medium_at}
 use Rattle.run_rounds.specs.Runs.{IsFirstFault, Ran}
-use Rattle.run_complete.specs.Smooth.{IsComplete, IsSmoothRun, pages_for}
-use Rattle.run_complete.proofs.PageLemmas.{blank-none}
-use Rattle.run_complete.proofs.SmoothLemmas.{complete, none-down}
-use Rattle.run_complete.proofs.StandingLemmas.{none-open}
+use Rattle.swallow_top.specs.Smooth.{IsComplete, IsSmoothRun, pages_for}
+use Rattle.swallow_top.proofs.PageLemmas.{blank-none}
+use Rattle.swallow_top.proofs.SmoothLemmas.{complete, none-down}
+use Rattle.swallow_top.proofs.StandingLemmas.{none-open}
 use Rattle.swallow_top.specs.Contract.{IsSmooth}
 use Rattle.swallow_top.specs.Shelves.{AreTaken, IsTaken, ShelfSight, WereTaken, is_missing, kept_from, medium_name}
 use Rattle.swallow_top.specs.Tellings.{status_of, status_with}
 use Rattle.swallow_top.specs.Written.{Sinking}
 use Rattle.swallow_top.proofs.ShelfLemmas.{kept-has}
-use Rattle.run_starts.proofs.DealLemmas.{some-within}
+use Rattle.run_rounds.proofs.DealLemmas.{some-within}
 
 -- the status of a complete run
 pub complete-status : (plan : Plan) (t : Trace) → IsComplete plan t → status_of plan t ≡ 0

@@ -1,8 +1,12 @@
 pub mod CompleteLemmas
+pub mod DownLemmas
 pub mod HistoryLemmas
 pub mod InputLemmas
+pub mod PageLemmas
 pub mod PromiseLemmas
 pub mod RunLemmas
 pub mod ShelfLemmas
+pub mod SmoothLemmas
+pub mod StandingLemmas
 pub mod StreamLemmas
 pub mod TopLemmas

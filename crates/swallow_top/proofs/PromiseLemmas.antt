@@ -12,7 +12,7 @@ use Rattle.plan_form.proofs.PlanTextLemmas.{plan_is_whole}
 use Rattle.world_core.specs.declared.traces.Trace.{Trace}
 use Rattle.trace_report.specs.Reports.{open_acts}
 use Rattle.value_form.specs.declared.objects.ObjectId.{ObjectId}
-use Rattle.wire_lock.specs.Stories.{no_trace}
+use Rattle.run_rounds.specs.Stories.{no_trace}
 use Rattle.command_words.specs.declared.commands.Options.{Options}
 use Rattle.command_words.specs.declared.commands.Command.{Command}
 use Rattle.command_words.specs.declared.commands.Command.TheVariants.{Run, Load, History}

@@ -8,7 +8,7 @@ use Rattle.plan_form.specs.PlanTexts.{IsOfLanguage}
 use Rattle.world_core.specs.declared.traces.Trace.{Trace}
 use Rattle.world_core.specs.Legal.{JustNodes}
 use Rattle.world_core.specs.Readings.{IsLegal}
-use Rattle.wire_lock.specs.Stories.{no_trace}
+use Rattle.run_rounds.specs.Stories.{no_trace}
 use Rattle.command_words.specs.declared.commands.Options.{Options}
 use Rattle.run_media.specs.Media.{Media, AreBack, IsBack}
 use Rattle.run_media.specs.Places.{node_count}
@@ -16,8 +16,8 @@ use Rattle.run_rounds.specs.declared.ends.End.{End}
 use Rattle.run_rounds.specs.declared.ends.End.TheVariants as end
 use Rattle.run_rounds.specs.Runs.{Ran, HasRanges}
 use Rattle.run_rounds.specs.Finishes.{EndsAs, Tellers, account_of}
-use Rattle.run_laws.specs.Serials.{HoldsFinals, IsSerialOver}
-use Rattle.run_laws.specs.Reasons.{HaveReasons}
+use Rattle.serial_law.specs.Serials.{HoldsFinals, IsSerialOver}
+use Rattle.serial_law.specs.Reasons.{HaveReasons}
 use Rattle.swallow_top.specs.declared.media.Kept.{Kept}
 use Rattle.swallow_top.specs.declared.reports.Wanted.{Wanted}
 use Rattle.swallow_top.specs.Contract.{AllKept, CameOf, Completes, HasNoRun, LosesNothing, RanOver, RunsPlan}

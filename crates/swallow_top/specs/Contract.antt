@@ -13,15 +13,15 @@ use Rattle.plan_form.specs.declared.plan_faults.PlanKind.{PlanKind}
 use Rattle.plan_form.specs.PlanFaults.{IsPlanFault}
 use Rattle.broker_core.specs.declared.resume_faults.ResumeFault.{ResumeFault}
 use Rattle.world_core.specs.Legal.{fates_of, in_plan}
-use Rattle.wire_lock.specs.Stories.{no_trace}
+use Rattle.run_rounds.specs.Stories.{no_trace}
 use Rattle.command_words.specs.declared.commands.Options.{Options}
 use Rattle.run_media.specs.Media.{Media, IsLeftAlone}
 use Rattle.run_rounds.specs.Runs.{Account, Ran, IsFirstFault}
 use Rattle.run_rounds.specs.Finishes.{IsKeptWhole}
-use Rattle.run_laws.specs.Serials.{HoldsFinals, IsSerialOver}
-use Rattle.run_laws.specs.Reasons.{HaveReasons}
+use Rattle.serial_law.specs.Serials.{HoldsFinals, IsSerialOver}
+use Rattle.serial_law.specs.Reasons.{HaveReasons}
 use Rattle.complete_law.specs.Calm.{IsPlain}
-use Rattle.run_complete.specs.Smooth.{AskAtMost, IsComplete, messages_for, pages_for}
+use Rattle.swallow_top.specs.Smooth.{AskAtMost, IsComplete, messages_for, pages_for}
 use Rattle.swallow_top.specs.declared.media.Kept.{Kept}
 use Rattle.swallow_top.specs.declared.reports.Wanted.{Wanted}
 use Rattle.swallow_top.specs.declared.stops.Stop.{Stop}

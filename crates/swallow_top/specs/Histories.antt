@@ -12,7 +12,7 @@ use Rattle.medium_port.specs.Image.{Image, NoMore}
 use Rattle.medium_port.specs.declared.shelves.MediumName.{MediumName}
 use Rattle.version_store.specs.Storage.{storage}
 use Rattle.report_writer.specs.Reports.{down_text}
-use Rattle.history_text.specs.Histories.{history_text}
+use Rattle.report_writer.specs.Histories.{history_text}
 use Rattle.run_media.specs.declared.openings.Opening.{Opening}
 use Rattle.run_media.specs.declared.openings.Opening.TheVariants.{Open, Shut, Wanting}
 use Rattle.run_media.specs.Media.{Media}

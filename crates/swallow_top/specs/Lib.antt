@@ -1,9 +1,12 @@
 pub mod Contract
+pub mod Finished
 pub mod Histories
 pub mod Inputs
 pub mod Lines
 pub mod Plans
 pub mod Promise
 pub mod Shelves
+pub mod Smooth
 pub mod Tellings
 pub mod Written
+pub use Rattle.run_rounds.specs.Finishes

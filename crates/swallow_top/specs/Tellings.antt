@@ -4,7 +4,7 @@ use Rattle.plan_form.specs.declared.plans.Plan.{Plan}
 use Rattle.broker_core.specs.declared.resume_faults.ResumeFault.{ResumeFault}
 use Rattle.world_core.specs.declared.traces.Trace.{Trace}
 use Rattle.trace_report.specs.Reports.{open_acts, run_text, load_text}
-use Rattle.wire_lock.specs.Stories.{no_trace}
+use Rattle.run_rounds.specs.Stories.{no_trace}
 use Rattle.run_rounds.specs.declared.ends.End.{End}
 use Rattle.run_rounds.specs.declared.ends.End.TheVariants.{Ran, Refused, NoMemory}
 use Rattle.run_rounds.specs.Ends.{some_down}

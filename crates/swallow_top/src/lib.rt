@@ -2,6 +2,7 @@
 #![tactic(auto)]
 
 mod histories;
+mod laws;
 mod lines;
 mod media;
 mod plans;
@@ -11,5 +12,6 @@ mod stops;
 mod streams;
 mod top;
 
+pub use laws::{law_done_is_finished, law_few_pages};
 pub use media::{Finish, Kept};
 pub use top::swallow;

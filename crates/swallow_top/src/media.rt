@@ -1,7 +1,7 @@
 use medium_port::Medium;
 use pseudo_time::NodeId;
+use run_rounds::Told;
 use value_form::Items;
-use wire_lock::Told;
 
 /// A medium that a call hands back.
 #[derive(Drop)]

@@ -15,11 +15,10 @@ use crate::lines::resume_line;
 use crate::streams::write_all;
 use broker_core::ResumeFault;
 use plan_form::Plan;
-use run_report::{Reported, report, summary};
-use run_rounds::End;
+use run_rounds::{End, Told};
 use std::alloc::{AllocError, Global};
 use stream_port::Sink;
-use wire_lock::Told;
+use trace_report::{Reported, report, summary};
 use world_core::{Entry, Trace};
 
 /// Which text tells of a run.

@@ -1,7 +1,7 @@
 //! The call.
 ghost use Rattle.std.specs.Prelude.{◌≡◌, ◌≤◌, []};
 ghost use Rattle.plan_form.specs.PlanTexts.{IsOfLanguage};
-ghost use Rattle.wire_lock.specs.Stories.{no_trace};
+ghost use Rattle.run_rounds.specs.Stories.{no_trace};
 ghost use Rattle.command_words.specs.Words.{said};
 ghost use Rattle.run_media.specs.Media.{media_with};
 ghost use Rattle.run_rounds.specs.Finishes.{account_of, tellers};
@@ -20,17 +20,15 @@ use crate::stops::Stop;
 use crate::streams::write_all;
 use command_words::{Command, Options, read_words};
 use medium_port::{Medium, Shelf};
-use node_rounds::Limits;
 use plan_form::{Plan, make};
-use run_laws::{law_of_finals, law_of_reasons, law_of_serial_runs};
 use run_media::node_count;
-use run_rounds::{Finished, run};
+use run_rounds::{Finished, Limits, Told, run};
+use serial_law::{law_of_finals, law_of_reasons, law_of_serial_runs};
 use std::alloc::Global;
 use std::sync::Wait;
 use std::thread::Threads;
 use stream_port::{Clock, Fates, Sink, Source};
 use value_form::Items;
-use wire_lock::Told;
 
 // Writes why nothing was run. The answer is the status.
 fn refused<O: Sink>(alloc: Global, stop: Stop, sink: &mut O) -> u8

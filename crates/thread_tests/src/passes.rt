@@ -2,19 +2,18 @@
 ghost use Rattle.std.specs.Prelude.{◌≡◌, true, false, length, IfOk, OnOk};
 ghost use Rattle.pseudo_time.specs.Nodes.{repository, broker, is_broker};
 ghost use Rattle.message_form.specs.Messages.{IsMessage};
-ghost use Rattle.turn_form.specs.Ranges.{AreOuts};
+ghost use Rattle.message_form.specs.Ranges.{AreOuts};
 ghost use Rattle.seat_lock.specs.Words.{base_of};
 ghost use Rattle.wire_core.specs.Wires.{IsNew};
 ghost use Rattle.wire_lock.specs.Sights.{IsWirePass};
 ghost use Rattle.thread_tests.specs.Passes.{AfterTaking, IsAt, blank_two};
 
 use medium_port::MeetMedium;
-use message_form::Message;
+use message_form::{Message, Out};
 use pseudo_time::{NodeId, NodeKind, Stamp};
 use std::alloc::{AllocError, Global};
 use std::sync::Wait;
 use stream_port::{FixedClock, MemoryFates};
-use turn_form::Out;
 use value_form::Items;
 use wire_core::{Taken, Wire};
 use wire_lock::{Closed, SharedWire, WirePass};

@@ -4,7 +4,7 @@ use Rattle.std.specs.Prelude.{IfOk, OnOk}
 use Rattle.std.specs.declared.alloc.AllocError.{AllocError}
 use Rattle.pseudo_time.specs.declared.nodes.NodeId.{NodeId}
 use Rattle.effect_form.specs.declared.effects.Effect.{Effect}
-use Rattle.turn_form.specs.declared.turns.Turn.{Turn}
+use Rattle.message_form.specs.declared.turns.Turn.{Turn}
 use Rattle.object_history.specs.declared.marks.Mark.{Mark}
 use Rattle.object_history.specs.declared.steps.HistoryFault.{HistoryFault}
 use Rattle.object_history.specs.declared.steps.HistoryFault.TheVariants as fault

@@ -7,7 +7,7 @@ use Rattle.std.proofs.Math.ListN.{get_or, set}
 use Rattle.std.proofs.lemmas.List.{append-nil}
 use Rattle.pseudo_time.specs.declared.nodes.NodeId.{NodeId}
 use Rattle.message_form.specs.Messages.{IsMessage}
-use Rattle.turn_form.specs.Posts.{posts}
+use Rattle.message_form.specs.Posts.{posts}
 use Rattle.pseudo_time.specs.Nodes.{same_node}
 use Rattle.message_core.proofs.NodeLemmas.{same_is}
 use Rattle.world_core.specs.declared.entries.Entry.{Entry}

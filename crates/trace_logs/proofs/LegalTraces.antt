@@ -13,7 +13,7 @@ use Rattle.effect_form.specs.declared.effects.Effect.TheVariants as effect
 use Rattle.effect_form.specs.declared.outcomes.Outcome.TheVariants as outcome
 use Rattle.message_form.specs.declared.messages.Message.{Message}
 use Rattle.message_form.specs.declared.messages.Message.TheVariants as message
-use Rattle.turn_form.specs.Posts.{Post, posts}
+use Rattle.message_form.specs.Posts.{Post, posts}
 use Rattle.message_core.specs.Tallies.{count}
 use Rattle.serial_model.specs.Questions.{denote}
 use Rattle.broker_core.specs.Book.{book}

@@ -8,13 +8,13 @@ use Rattle.pseudo_time.specs.declared.nodes.NodeKind.{NodeKind}
 use Rattle.pseudo_time.specs.declared.nodes.NodeKind.TheVariants.{Repository, Broker}
 use Rattle.pseudo_time.proofs.ListLemmas.{every-left}
 use Rattle.effect_form.specs.declared.effects.Effect.{Effect}
-use Rattle.turn_form.specs.declared.turns.Out.{Out}
-use Rattle.turn_form.specs.Posts.{Post, post, posts}
+use Rattle.message_form.specs.declared.turns.Out.{Out}
+use Rattle.message_form.specs.Posts.{Post, post, posts}
 use Rattle.serial_model.specs.Questions.{Tree, denote}
 use Rattle.value_form.specs.Mirror.{block}
-use Rattle.statement_form.specs.RowTexts.{script_text}
+use Rattle.script_form.specs.RowTexts.{script_text}
 use Rattle.value_form.specs.declared.acts.ActSpec.{ActSpec}
-use Rattle.turn_form.specs.Ranges.{IsEffect, AreEffects, AreOuts}
+use Rattle.message_form.specs.Ranges.{IsEffect, AreEffects, AreOuts}
 use Rattle.broker_core.specs.Ledgers.{AreBrokerActs}
 use Rattle.broker_core.specs.Tasks.{Scripted}
 use Rattle.repository_core.proofs.HeldLemmas.{every-filter}

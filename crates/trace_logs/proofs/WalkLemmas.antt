@@ -9,7 +9,7 @@ use Rattle.pseudo_time.specs.Lists.{Every}
 use Rattle.pseudo_time.specs.declared.nodes.NodeId.{NodeId}
 use Rattle.pseudo_time.specs.declared.nodes.NodeKind.{NodeKind}
 use Rattle.pseudo_time.specs.declared.nodes.NodeKind.TheVariants.{Repository, Broker}
-use Rattle.turn_form.specs.Posts.{Post, posts}
+use Rattle.message_form.specs.Posts.{Post, posts}
 use Rattle.pseudo_time.specs.Nodes.{same_node}
 use Rattle.message_core.proofs.NodeLemmas.{same_is, same_node-refl}
 use Rattle.world_core.specs.declared.entries.Entry.{Entry}

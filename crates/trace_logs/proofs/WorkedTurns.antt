@@ -17,9 +17,9 @@ use Rattle.effect_form.specs.declared.effects.Effect.TheVariants as effect
 use Rattle.effect_form.specs.declared.outcomes.Outcome.TheVariants as outcome
 use Rattle.message_form.specs.declared.messages.Message.{Message}
 use Rattle.message_form.specs.declared.messages.Message.TheVariants as message
-use Rattle.turn_form.specs.declared.turns.Out.{Out}
+use Rattle.message_form.specs.declared.turns.Out.{Out}
 use Rattle.stream_port.specs.declared.fates.Asked.{Asked}
-use Rattle.statement_form.specs.RowTexts.{script_text}
+use Rattle.script_form.specs.RowTexts.{script_text}
 use Rattle.serial_model.specs.Questions.{Tree, denote}
 use Rattle.plan_form.specs.declared.plans.Plan.{Plan}
 use Rattle.object_history.specs.Answers.{some_put, has_put}

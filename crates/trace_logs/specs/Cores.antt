@@ -4,10 +4,10 @@ use Rattle.pseudo_time.specs.declared.nodes.NodeId.{NodeId}
 use Rattle.pseudo_time.specs.declared.nodes.NodeKind.{NodeKind}
 use Rattle.pseudo_time.specs.declared.nodes.NodeKind.TheVariants.{Repository, Broker}
 use Rattle.effect_form.specs.declared.effects.Effect.{Effect}
-use Rattle.turn_form.specs.declared.turns.Turn.{Turn}
+use Rattle.message_form.specs.declared.turns.Turn.{Turn}
 use Rattle.object_history.specs.declared.steps.HistoryFault.{HistoryFault}
 use Rattle.object_history.specs.declared.steps.HistoryFault.TheVariants as fault
-use Rattle.turn_form.specs.Ranges.{AreEffects, AreOuts}
+use Rattle.message_form.specs.Ranges.{AreEffects, AreOuts}
 use Rattle.world_core.specs.Nodes.{Mind, Given, Input, gives}
 use Rattle.world_core.specs.Walks.{Base}
 pub use Rattle.world_core.specs.Cores.{IsRepository, IsBroker, own_acts, acts_for}

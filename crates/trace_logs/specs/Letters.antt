@@ -2,7 +2,7 @@
 use Rattle.std.specs.Prelude.{List, map}
 use Rattle.pseudo_time.specs.Lists.{Every}
 use Rattle.message_form.specs.Messages.{IsMessage}
-use Rattle.turn_form.specs.Posts.{Post, post}
+use Rattle.message_form.specs.Posts.{Post, post}
 use Rattle.trace_logs.specs.declared.letters.SentMessage.{SentMessage}
 
 abbrev pub posted : SentMessage → Post

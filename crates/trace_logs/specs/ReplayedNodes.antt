@@ -1,6 +1,6 @@
 -- A node at a place of a trace, as the code keeps it.
 use Rattle.std.specs.Prelude.{◌≡◌, ◌≤◌, ◌++◌, Result, OnOk}
-use Rattle.turn_form.specs.Ranges.{AreEffects, AreOuts}
+use Rattle.message_form.specs.Ranges.{AreEffects, AreOuts}
 use Rattle.broker_core.specs.Ledgers.{AreBrokerActs}
 use Rattle.broker_core.specs.Tasks.{Scripted}
 use Rattle.world_core.specs.Nodes.{Input}

@@ -5,7 +5,7 @@ use Rattle.pseudo_time.specs.Lists.{Every}
 use Rattle.pseudo_time.specs.declared.nodes.NodeId.{NodeId}
 use Rattle.value_form.specs.declared.acts.ActSpec.{ActSpec}
 use Rattle.pseudo_time.specs.Nodes.{same_node}
-use Rattle.turn_form.specs.Ranges.{AreEffects}
+use Rattle.message_form.specs.Ranges.{AreEffects}
 use Rattle.serial_model.specs.Questions.{Tree}
 use Rattle.world_core.specs.declared.entries.Entry.{Entry}
 use Rattle.world_core.specs.declared.entries.Entry.TheVariants as entry

@@ -4,7 +4,7 @@ ghost use Rattle.pseudo_time.specs.declared.nodes.NodeId.{NodeId};
 ghost use Rattle.value_form.specs.declared.acts.ActSpec.{ActSpec};
 ghost use Rattle.broker_core.specs.Ledgers.{AreBrokerActs};
 ghost use Rattle.broker_core.specs.Tasks.{Scripted};
-ghost use Rattle.turn_form.specs.Ranges.{AreEffects};
+ghost use Rattle.message_form.specs.Ranges.{AreEffects};
 ghost use Rattle.repository_log.specs.Logs.{knows};
 ghost use Rattle.world_core.specs.Nodes.{Mind, opened_mind};
 ghost use Rattle.world_core.specs.Nodes.Input.{Going, Taking, Learning, Hearing};
@@ -13,13 +13,12 @@ ghost use Rattle.trace_logs.specs.Cores.{StandsFor, IsAble, IsGiven, IsWant, kin
 
 use broker_core::Broker;
 use effect_form::Effect;
-use message_form::Message;
+use message_form::{Message, Turn};
 use object_history::PlainHistories;
 use pseudo_time::{NodeId, NodeKind, Stamp};
 use repository_core::{CoreFault, Repository};
 use repository_log::histories_of;
 use std::alloc::{AllocError, Global};
-use turn_form::Turn;
 use value_form::ActSpec;
 
 /// A node's core.

@@ -2,8 +2,8 @@ ghost use Rattle.std.specs.Prelude.{◌≡◌};
 ghost use Rattle.std.specs.Option.{option_copied};
 ghost use Rattle.world_core.specs.Walks.{numbered};
 
+use message_form::Out;
 use pseudo_time::NodeId;
-use turn_form::Out;
 
 /// A message that was sent, and by whom.
 #[derive(Drop)]

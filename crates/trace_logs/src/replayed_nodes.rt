@@ -3,9 +3,9 @@ ghost use Rattle.std.specs.List.{filter};
 ghost use Rattle.effect_form.specs.declared.effects.Effect.{Effect};
 ghost use Rattle.pseudo_time.specs.declared.nodes.NodeId.{NodeId};
 ghost use Rattle.message_form.specs.Messages.{IsMessage};
-ghost use Rattle.turn_form.specs.declared.turns.Out.{Out};
-ghost use Rattle.turn_form.specs.Posts.{posts};
-ghost use Rattle.turn_form.specs.Ranges.{AreEffects, AreOuts};
+ghost use Rattle.message_form.specs.declared.turns.Out.{Out};
+ghost use Rattle.message_form.specs.Posts.{posts};
+ghost use Rattle.message_form.specs.Ranges.{AreEffects, AreOuts};
 ghost use Rattle.broker_core.specs.Ledgers.{AreBrokerActs};
 ghost use Rattle.broker_core.specs.Tasks.{Scripted};
 ghost use Rattle.world_core.specs.Nodes.{leaves};
@@ -18,11 +18,10 @@ ghost use Rattle.trace_logs.specs.ReplayedNodes.{Lives, IsSound, LivesOn};
 use crate::cores::{NodeCore, open_core};
 use crate::letters::SentMessage;
 use effect_form::Effect;
-use message_form::Message;
+use message_form::{Message, Out, Turn};
 use pseudo_time::{NodeId, Stamp};
 use std::alloc::{AllocError, Global};
 use std::mem;
-use turn_form::{Out, Turn};
 use value_form::ActSpec;
 
 /// A node at a place of a trace.

@@ -5,12 +5,17 @@
 mod answers;
 mod begun;
 mod books;
+mod carried;
 mod counts;
 mod decided;
 mod deeds;
 mod downs;
+mod finals;
 mod firsts;
 mod node_logs;
+mod reports;
+mod shown;
+mod summaries;
 mod transcripts;
 
 pub use answers::Answered;
@@ -19,4 +24,6 @@ pub use books::begun_in;
 pub use counts::wire_of;
 pub use deeds::{Deeds, Write, deeds_of};
 pub use downs::downs_of;
+pub use reports::{Reported, report, report_by};
+pub use summaries::{summary, summary_by};
 pub use transcripts::transcript;

@@ -5,9 +5,9 @@ use Rattle.std.proofs.lemmas.List.{map-append, length-map}
 use Rattle.pseudo_time.specs.declared.nodes.NodeId.{NodeId}
 use Rattle.pseudo_time.proofs.ListLemmas.{every-append}
 use Rattle.message_form.specs.Messages.{IsMessage}
-use Rattle.turn_form.specs.declared.turns.Out.{Out}
-use Rattle.turn_form.specs.Posts.{Post, post, posts}
-use Rattle.turn_form.specs.Ranges.{AreOuts}
+use Rattle.message_form.specs.declared.turns.Out.{Out}
+use Rattle.message_form.specs.Posts.{Post, post, posts}
+use Rattle.message_form.specs.Ranges.{AreOuts}
 use Rattle.stream_port.specs.declared.fates.Asked.{Asked}
 use Rattle.stream_port.specs.declared.fates.Fate.{Fate}
 use Rattle.message_core.specs.Parts.{FlightParts, state_of}

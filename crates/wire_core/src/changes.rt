@@ -2,7 +2,7 @@
 ghost use Rattle.std.specs.Prelude.{◌≡◌, ◌≤◌, ◌<◌, ◌^◌, [], Some, true, false, map, length, IsTrue, IfOk, OnOk, OnErr};
 ghost use Rattle.std.specs.Option.{unwrap_or};
 ghost use Rattle.pseudo_time.specs.Nodes.{is_broker};
-ghost use Rattle.turn_form.specs.Ranges.{AreOuts};
+ghost use Rattle.message_form.specs.Ranges.{AreOuts};
 ghost use Rattle.world_core.specs.declared.entries.Entry.TheVariants as entry;
 ghost use Rattle.world_core.specs.Walks.{opened_log, sent_by};
 ghost use Rattle.world_core.specs.Legal.{HasGone, IsDecidedAs, Idle, is_behind, post_of, fates_of};
@@ -13,10 +13,10 @@ use crate::sendings::send_all;
 use crate::takens::Taken;
 use crate::wires::Wire;
 use medium_port::Medium;
+use message_form::Out;
 use pseudo_time::{DownCause, NodeId, Stamp};
 use std::alloc::AllocError;
 use stream_port::{Clock, Fates};
-use turn_form::Out;
 use world_core::Entry;
 
 impl<F: Fates, C: Clock, M: Medium> Wire<F, C, M> {

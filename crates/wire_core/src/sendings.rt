@@ -1,7 +1,7 @@
 ghost use Rattle.std.specs.Prelude.{◌≡◌, ◌++◌, ◌∷◌, [], ◌+◌, ◌<◌, ◌^◌, List, map, length, IfOk};
 ghost use Rattle.message_form.specs.Messages.{IsMessage};
-ghost use Rattle.turn_form.specs.Posts.{posts};
-ghost use Rattle.turn_form.specs.Ranges.{AreOuts};
+ghost use Rattle.message_form.specs.Posts.{posts};
+ghost use Rattle.message_form.specs.Ranges.{AreOuts};
 ghost use Rattle.message_core.specs.Parts.{state_of};
 ghost use Rattle.world_core.specs.declared.traces.Sent.{Sent};
 ghost use Rattle.world_core.specs.Walks.{World};
@@ -9,10 +9,10 @@ ghost use Rattle.world_core.specs.Legal.{Numbered, post_of, asked_of};
 ghost use Rattle.wire_core.specs.Copies.{Marked, IsTied, all_marked};
 
 use message_core::Flight;
+use message_form::Out;
 use pseudo_time::NodeId;
 use std::alloc::{AllocError, Global};
 use stream_port::{Fate, Fates};
-use turn_form::Out;
 use world_core::Sent;
 
 // Puts a message with its fate on its way.

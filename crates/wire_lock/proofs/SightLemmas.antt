@@ -19,7 +19,7 @@ use Rattle.seat_lock.specs.Words.{CarriesOn, IsPassOf, knows, fresh, base_of, ba
 use Rattle.seat_lock.specs.Story.{Begins, entries_of}
 use Rattle.world_core.specs.declared.entries.Entry.{Entry}
 use Rattle.world_core.specs.declared.entries.Entry.TheVariants.{Take, Go, Learn, Hear, Gate, Crash, Down, Tick}
-use Rattle.turn_form.specs.Posts.{Post}
+use Rattle.message_form.specs.Posts.{Post}
 use Rattle.world_core.specs.Nodes.Input.{Taking}
 use Rattle.world_core.specs.Walks.{Base, Life, Flags, Sending, World, numbered, took, after_input, gated_life, sent_by, names, own, lives_on, flagged, is_down, step, start_world, walk_from, walk}
 use Rattle.world_core.specs.Legal.{IsDecidedAs, Idle, is_behind, fates_of}

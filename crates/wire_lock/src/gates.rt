@@ -1,7 +1,7 @@
 //! The visit that makes effects known, and posts the decisions among them.
 ghost use Rattle.std.specs.Prelude.{◌≡◌, ◌++◌, true, IsTrue, OnOk, OnErr};
 ghost use Rattle.pseudo_time.specs.Lists.{Every};
-ghost use Rattle.turn_form.specs.Ranges.{AreOuts};
+ghost use Rattle.message_form.specs.Ranges.{AreOuts};
 ghost use Rattle.seat_lock.specs.Words.{knows, sees, IsInside, lock_of, base_of, board_size, has_noted};
 ghost use Rattle.world_core.specs.Walks.{walk};
 ghost use Rattle.world_core.specs.Legal.{IsDecidedAs};
@@ -13,12 +13,12 @@ ghost use Rattle.wire_lock.specs.Sights.{IsWirePass, IsOf, Looked, Gates, world_
 use crate::boards::{number_of, place_of};
 use crate::shared::{SharedWire, WirePass};
 use medium_port::Medium;
+use message_form::Out;
 use pseudo_time::{NodeId, Stamp};
 use seat_lock::Visit;
 use std::alloc::AllocError;
 use std::sync::Wait;
 use stream_port::{Clock, Fates};
-use turn_form::Out;
 use wire_core::Wire;
 use world_core::Entry;
 

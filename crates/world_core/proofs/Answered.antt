@@ -15,8 +15,8 @@ use Rattle.value_form.specs.declared.acts.ActSpec.{ActSpec}
 use Rattle.effect_form.specs.declared.effects.Effect.{Effect}
 use Rattle.message_form.specs.declared.messages.Message.{Message}
 use Rattle.message_form.specs.declared.messages.Message.TheVariants as message
-use Rattle.turn_form.specs.declared.turns.Out.{Out}
-use Rattle.turn_form.specs.Posts.{Post, posts}
+use Rattle.message_form.specs.declared.turns.Out.{Out}
+use Rattle.message_form.specs.Posts.{Post, posts}
 use Rattle.stream_port.specs.declared.fates.Fate.{Fate}
 use Rattle.pseudo_time.specs.Nodes.{same_node, kind_number, is_broker}
 use Rattle.object_history.specs.declared.steps.WriteStep.{WriteStep}

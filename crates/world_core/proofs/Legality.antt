@@ -3,7 +3,7 @@ use Rattle.std.proofs.Common.{◌≡◌, ℕ, zero, suc, ◌+◌, ◌≤◌, Boo
 use Rattle.std.proofs.lemmas.List.{append-nil, map-append, length-append, length-map}
 use Rattle.pseudo_time.specs.declared.nodes.NodeId.{NodeId}
 use Rattle.effect_form.specs.declared.effects.Effect.{Effect}
-use Rattle.turn_form.specs.Posts.{Post}
+use Rattle.message_form.specs.Posts.{Post}
 use Rattle.stream_port.specs.declared.fates.Asked.{Asked}
 use Rattle.stream_port.specs.declared.fates.Fate.{Fate}
 use Rattle.serial_model.specs.Questions.{Tree}

@@ -13,7 +13,7 @@ use Rattle.plan_form.proofs.PlanRangeLemmas.{of-whole}
 use Rattle.serial_model.specs.Ranges.{BlockInRange}
 use Rattle.broker_core.specs.Ledgers.{IsBrokerAct, AreBrokerActs}
 use Rattle.broker_core.proofs.ReadingLemmas.{printable-up}
-use Rattle.script_ranges.proofs.ScriptRangeLemmas.{printable-InRange}
+use Rattle.serial_model.proofs.ScriptRangeLemmas.{printable-InRange}
 use Rattle.world_core.specs.Nodes.{acts_of}
 
 act-is : (repositories brokers k : ℕ) (act : ActSpec) → repositories ≤ 16 → 1 ≤ k → k ≤ 10000 → plans.IsAct repositories brokers k act → IsBrokerAct act

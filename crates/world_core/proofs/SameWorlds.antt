@@ -10,7 +10,7 @@ use Rattle.value_form.specs.Mirror.{block}
 use Rattle.effect_form.specs.declared.effects.Effect.{Effect}
 use Rattle.stream_port.specs.declared.fates.Asked.{Asked}
 use Rattle.stream_port.specs.declared.fates.Fate.{Fate}
-use Rattle.statement_form.specs.RowTexts.{script_text}
+use Rattle.script_form.specs.RowTexts.{script_text}
 use Rattle.serial_model.specs.Questions.{Tree}
 use Rattle.plan_form.specs.declared.plans.Plan.{Plan}
 use Rattle.broker_core.specs.Tasks.{Task, tasks, task_of, Scripted}

@@ -2,7 +2,7 @@
 ghost use Rattle.std.specs.Prelude.{◌≡◌, ℕ, ◌+◌, Bool, true, false, List, [], ◌∷◌, ◌++◌, length, map};
 ghost use Rattle.pseudo_time.specs.declared.nodes.NodeId.{NodeId};
 ghost use Rattle.effect_form.specs.declared.effects.Effect.{Effect};
-ghost use Rattle.turn_form.specs.Posts.{Post};
+ghost use Rattle.message_form.specs.Posts.{Post};
 ghost use Rattle.stream_port.specs.declared.fates.Asked.{Asked};
 ghost use Rattle.stream_port.specs.declared.fates.Fate.{Fate};
 ghost use Rattle.serial_model.specs.Questions.{Tree};

@@ -7,10 +7,10 @@ use Rattle.pseudo_time.specs.declared.nodes.NodeKind.{NodeKind}
 use Rattle.pseudo_time.specs.declared.nodes.NodeKind.TheVariants.{Repository, Broker}
 use Rattle.value_form.specs.declared.acts.ActSpec.{ActSpec}
 use Rattle.effect_form.specs.declared.effects.Effect.{Effect}
-use Rattle.turn_form.specs.declared.turns.Out.{Out}
-use Rattle.turn_form.specs.Growth.{Grew, Each}
-use Rattle.turn_form.specs.Posts.{Post}
-use Rattle.turn_form.proofs.GrowthLemmas.{grew_map}
+use Rattle.message_form.specs.declared.turns.Out.{Out}
+use Rattle.message_form.specs.Growth.{Grew, Each}
+use Rattle.message_form.specs.Posts.{Post}
+use Rattle.message_form.proofs.GrowthLemmas.{grew_map}
 use Rattle.stream_port.specs.declared.fates.Asked.{Asked}
 use Rattle.serial_model.specs.Questions.{Tree}
 use Rattle.plan_form.specs.declared.plans.Plan.{Plan}

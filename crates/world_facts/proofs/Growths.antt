@@ -5,7 +5,7 @@ use Rattle.std.proofs.lemmas.List.{take-append-drop, reverse-append, length-appe
 use Rattle.pseudo_time.specs.Lists.{Every, Has}
 use Rattle.pseudo_time.specs.declared.nodes.NodeId.{NodeId}
 use Rattle.effect_form.specs.declared.effects.Effect.{Effect}
-use Rattle.turn_form.specs.Growth.{Each}
+use Rattle.message_form.specs.Growth.{Each}
 use Rattle.pseudo_time.specs.Nodes.{same_node}
 use Rattle.message_core.proofs.NodeLemmas.{same_is, same_node-refl}
 use Rattle.world_core.specs.Walks.{numbered}

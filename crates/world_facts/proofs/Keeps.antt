@@ -8,10 +8,10 @@ use Rattle.pseudo_time.proofs.ListLemmas.{every-map, every-append, every-has, ha
 use Rattle.value_form.specs.declared.acts.ActSpec.{ActSpec}
 use Rattle.effect_form.specs.declared.effects.Effect.{Effect}
 use Rattle.effect_form.specs.declared.effects.Effect.TheVariants as effect
-use Rattle.turn_form.specs.declared.turns.Out.{Out}
-use Rattle.turn_form.specs.Growth.{Grew, Each}
-use Rattle.turn_form.specs.Posts.{Post, post, posts}
-use Rattle.turn_form.proofs.GrowthLemmas.{grew_keeps, grew_on, grew_drop, each_grew}
+use Rattle.message_form.specs.declared.turns.Out.{Out}
+use Rattle.message_form.specs.Growth.{Grew, Each}
+use Rattle.message_form.specs.Posts.{Post, post, posts}
+use Rattle.message_form.proofs.GrowthLemmas.{grew_keeps, grew_on, grew_drop, each_grew}
 use Rattle.serial_model.specs.Questions.{Tree}
 use Rattle.world_core.specs.Nodes.{Input, Given, repository}
 use Rattle.world_core.specs.Nodes.Input.{Going, Taking, Learning, Hearing}

@@ -10,9 +10,9 @@ use Rattle.value_form.specs.declared.acts.ActSpec.{ActSpec}
 use Rattle.effect_form.specs.declared.effects.Effect.{Effect}
 use Rattle.effect_form.specs.declared.effects.Effect.TheVariants as effect
 use Rattle.message_form.specs.declared.messages.Message.{Message}
-use Rattle.turn_form.specs.declared.turns.Out.{Out}
-use Rattle.turn_form.specs.Growth.{Grew, Each}
-use Rattle.turn_form.specs.Posts.{Post}
+use Rattle.message_form.specs.declared.turns.Out.{Out}
+use Rattle.message_form.specs.Growth.{Grew, Each}
+use Rattle.message_form.specs.Posts.{Post}
 use Rattle.serial_model.specs.Questions.{Tree}
 use Rattle.repository_core.specs.Hands.{Hand}
 use Rattle.repository_core.specs.Turns as hands

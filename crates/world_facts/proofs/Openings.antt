@@ -7,9 +7,9 @@ use Rattle.pseudo_time.specs.declared.nodes.NodeId.{NodeId}
 use Rattle.pseudo_time.proofs.ListLemmas.{every-map}
 use Rattle.effect_form.specs.declared.effects.Effect.{Effect}
 use Rattle.effect_form.specs.declared.effects.Effect.TheVariants as effect
-use Rattle.turn_form.specs.Growth.{Each}
-use Rattle.turn_form.specs.Posts.{Post}
-use Rattle.turn_form.proofs.GrowthLemmas.{each_below}
+use Rattle.message_form.specs.Growth.{Each}
+use Rattle.message_form.specs.Posts.{Post}
+use Rattle.message_form.proofs.GrowthLemmas.{each_below}
 use Rattle.stream_port.specs.declared.fates.Asked.{Asked}
 use Rattle.stream_port.specs.declared.fates.Fate.{Fate}
 use Rattle.pseudo_time.specs.Nodes.{same_node}

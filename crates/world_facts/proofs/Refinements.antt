@@ -10,9 +10,9 @@ use Rattle.pseudo_time.proofs.ListLemmas.{has-right, has-reverse}
 use Rattle.value_form.specs.declared.acts.ActSpec.{ActSpec}
 use Rattle.effect_form.specs.declared.effects.Effect.{Effect}
 use Rattle.effect_form.specs.declared.effects.Effect.TheVariants as effect
-use Rattle.turn_form.specs.declared.turns.Out.{Out}
-use Rattle.turn_form.specs.Growth.{Grew}
-use Rattle.turn_form.specs.Posts.{Post, posts}
+use Rattle.message_form.specs.declared.turns.Out.{Out}
+use Rattle.message_form.specs.Growth.{Grew}
+use Rattle.message_form.specs.Posts.{Post, posts}
 use Rattle.stream_port.specs.declared.fates.Fate.{Fate}
 use Rattle.pseudo_time.specs.Nodes.{same_node}
 use Rattle.serial_model.specs.Questions.{Tree}

@@ -7,9 +7,9 @@ use Rattle.pseudo_time.specs.declared.nodes.NodeId.{NodeId}
 use Rattle.value_form.specs.declared.acts.ActSpec.{ActSpec}
 use Rattle.effect_form.specs.declared.effects.Effect.{Effect}
 use Rattle.effect_form.specs.declared.effects.Effect.TheVariants as effect
-use Rattle.turn_form.specs.declared.turns.Out.{Out}
-use Rattle.turn_form.specs.Growth.{Grew, Each}
-use Rattle.turn_form.specs.Posts.{Post, post}
+use Rattle.message_form.specs.declared.turns.Out.{Out}
+use Rattle.message_form.specs.Growth.{Grew, Each}
+use Rattle.message_form.specs.Posts.{Post, post}
 use Rattle.serial_model.specs.Questions.{Tree}
 use Rattle.world_core.specs.Nodes.{Mind, opened_mind, Input, Given, gives, is_ready, is_commit, repository}
 use Rattle.world_core.specs.Nodes.Input.{Going, Taking, Learning, Hearing}

@@ -6,9 +6,9 @@ use Rattle.pseudo_time.specs.Lists.{Every}
 use Rattle.pseudo_time.specs.declared.nodes.NodeId.{NodeId}
 use Rattle.value_form.specs.declared.acts.ActSpec.{ActSpec}
 use Rattle.effect_form.specs.declared.effects.Effect.{Effect}
-use Rattle.turn_form.specs.declared.turns.Out.{Out}
-use Rattle.turn_form.specs.Growth.{Grew, Each}
-use Rattle.turn_form.specs.Posts.{Post, posts}
+use Rattle.message_form.specs.declared.turns.Out.{Out}
+use Rattle.message_form.specs.Growth.{Grew, Each}
+use Rattle.message_form.specs.Posts.{Post, posts}
 use Rattle.pseudo_time.specs.Nodes.{same_node}
 use Rattle.world_core.specs.Nodes.{Mind, opened_mind, Input, Given}
 use Rattle.world_facts.specs.Rules.{Around, NodeFacts, Turns, MayInput}

@@ -2,7 +2,7 @@ use Rattle.std.proofs.Common.{◌≡◌, take, true}
 use Rattle.std.specs.Prelude.{IsTrue}
 use Rattle.std.specs.List.{filter}
 use Rattle.pseudo_time.specs.Nodes.{is_broker}
-use Rattle.turn_form.specs.Ranges.{AreOuts}
+use Rattle.message_form.specs.Ranges.{AreOuts}
 use Rattle.world_core.specs.Nodes.{leaves}
 use Rattle.world_core.specs.Walks.{Base, Life, all_effects}
 use Rattle.node_turn.specs.Lives.{AskNobody}

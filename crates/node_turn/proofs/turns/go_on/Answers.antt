@@ -1,7 +1,7 @@
 use Rattle.std.proofs.Common.{◌+◌, ◌∙◌, List, sym, ap, subst, arith, Err}
 use Rattle.seat_lock.specs.Words.{knows}
 use Rattle.medium_port.specs.Image.{Image}
-use Rattle.turn_form.specs.declared.turns.Out.{Out}
+use Rattle.message_form.specs.declared.turns.Out.{Out}
 use Rattle.node_turn.specs.Cores.{IsIntact}
 use Rattle.world_core.specs.Walks.{all_effects}
 use Rattle.wire_lock.specs.Sights.{life_at}

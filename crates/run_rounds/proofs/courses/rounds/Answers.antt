@@ -4,8 +4,8 @@ use Rattle.seat_lock.specs.Words.{knows}
 use Rattle.world_core.specs.Walks.{Base}
 use Rattle.wire_core.specs.Wires.{base_from}
 use Rattle.wire_lock.proofs.SightLemmas.{pass-origin}
-use Rattle.node_rounds.specs.Nodes.{IsReady}
-use Rattle.node_rounds.specs.Reasons.{TicksAreWanted}
+use Rattle.run_starts.specs.Nodes.{IsReady}
+use Rattle.run_starts.specs.Reasons.{TicksAreWanted}
 use Rattle.run_media.specs.Media.{media_with}
 use Rattle.run_starts.proofs.AlongLemmas.{each-shared}
 use Rattle.run_rounds.proofs.CourseLemmas.{all-passes, dealt-again, have-gone, shares-count}

@@ -1,6 +1,6 @@
 use Rattle.std.specs.Prelude.{IfSome}
 use Rattle.message_form.specs.Messages.{IsMessage}
-use Rattle.turn_form.specs.Ranges.{AreEffects}
+use Rattle.message_form.specs.Ranges.{AreEffects}
 use Rattle.swallow_bench.proofs.brokers.carried_out.Given as goal
 
 -- the log so far and the next answer are in range

@@ -1,6 +1,6 @@
 use Rattle.std.proofs.Common.{sym, subst}
 use Rattle.pseudo_time.proofs.ListLemmas.{every-append}
-use Rattle.turn_form.specs.Ranges.{IsEffect, AreEffects}
+use Rattle.message_form.specs.Ranges.{IsEffect, AreEffects}
 use Rattle.swallow_bench.proofs.brokers.close.Goals as goal
 
 -- the effects of a turn join a log in range

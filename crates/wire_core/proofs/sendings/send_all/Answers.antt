@@ -1,5 +1,5 @@
 use Rattle.std.proofs.Common.{ℕ, ◌++◌, ◌∷◌, [], sym, ap, ◌∙◌, arith}
-use Rattle.turn_form.specs.Posts.{post}
+use Rattle.message_form.specs.Posts.{post}
 use Rattle.stream_port.specs.declared.fates.Asked.{Asked}
 use Rattle.world_core.specs.declared.traces.Sent.{Sent}
 use Rattle.world_core.specs.Legal.{post_of, asked_of}

@@ -1,5 +1,5 @@
 use Rattle.std.proofs.Common.{◌≡◌, ◌+◌, ◌++◌, List, map, length, take}
-use Rattle.turn_form.specs.Posts.{posts}
+use Rattle.message_form.specs.Posts.{posts}
 use Rattle.message_core.specs.Parts.{state_of}
 use Rattle.world_core.specs.declared.traces.Sent.{Sent}
 use Rattle.world_core.specs.Walks.{World}

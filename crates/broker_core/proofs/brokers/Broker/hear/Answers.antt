@@ -1,5 +1,5 @@
 use Rattle.std.proofs.Common.{sym, ap, subst, ◌∙◌}
-use Rattle.turn_form.specs.Ranges.{AreEffects, AreOuts}
+use Rattle.message_form.specs.Ranges.{AreEffects, AreOuts}
 use Rattle.broker_core.specs.Inputs.{listed}
 use Rattle.broker_core.proofs.RangeLemmas.{outs-InRange}
 use Rattle.broker_core.proofs.DoneLemmas.{hear-gives}

@@ -1,8 +1,8 @@
 use Rattle.std.proofs.Common.{◌≡◌, ◌+◌, ◌-◌, ◌≤◌, ap, ◌∙◌, sym, subst}
 use Rattle.std.specs.Prelude.{SomeIff, Err}
-use Rattle.statement_form.specs.Fed.{Fed}
-use Rattle.statement_form.specs.Rows.{on}
-use Rattle.statement_form.specs.Flats.{row_of}
+use Rattle.script_form.specs.Fed.{Fed}
+use Rattle.script_form.specs.Rows.{on}
+use Rattle.script_form.specs.Flats.{row_of}
 use Rattle.script_form.specs.Feeds.{FeedsLine}
 use Rattle.script_form.proofs.FeedLemmas.{placed_feeds, block_feeds, size_with_row}
 use Rattle.script_form.proofs.readers.ScriptReader.with_row.Goals as goal

@@ -1,7 +1,7 @@
 use Rattle.std.proofs.Common.{refl, ap, subst, ◌≡◌, ◌++◌, ◌∙◌}
 use Rattle.std.specs.Prelude.{OnOk}
 use Rattle.std.specs.List.{filter}
-use Rattle.turn_form.specs.Posts.{posts}
+use Rattle.message_form.specs.Posts.{posts}
 use Rattle.world_core.specs.Nodes.{leaves}
 use Rattle.world_core.specs.Walks.{all_effects, gated_life}
 use Rattle.trace_logs.specs.Letters.{all_posted}

@@ -1,6 +1,6 @@
 use Rattle.std.proofs.Common.{◌≡◌, ◌++◌, []}
 use Rattle.std.specs.List.{filter}
-use Rattle.turn_form.specs.Posts.{posts}
+use Rattle.message_form.specs.Posts.{posts}
 use Rattle.world_core.specs.Nodes.{leaves}
 use Rattle.world_core.specs.Walks.{Base, Life}
 use Rattle.trace_logs.specs.Letters.{all_posted, AreLetters}

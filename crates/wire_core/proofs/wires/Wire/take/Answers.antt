@@ -1,5 +1,5 @@
 use Rattle.std.proofs.Common.{List, map, IsTrue, refl, sym, ap, subst, ◌∙◌}
-use Rattle.turn_form.specs.Posts.{Post}
+use Rattle.message_form.specs.Posts.{Post}
 use Rattle.world_core.specs.Legal.{fates_of, post_of}
 use Rattle.world_core.specs.Walks.{sent_by}
 use Rattle.wire_core.specs.declared.flags.Standing.{Standing}

@@ -1,3 +1,0 @@
-pub mod FallingLemmas
-pub mod TellingLemmas
-pub mod TextLemmas

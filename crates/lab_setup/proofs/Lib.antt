@@ -1,2 +1,0 @@
-mod GivenLemmas
-mod WordLemmas

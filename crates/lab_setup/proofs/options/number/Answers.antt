@@ -1,9 +1,0 @@
-use Rattle.std.specs.Str.Parse.{ParsesUnsigned, ExplainsUnsignedError, HasUnsignedDigitsIfOk}
-use Rattle.clap.specs.Matches.{found_of}
-use Rattle.lab_setup.proofs.WordLemmas.{number_read}
-use Rattle.lab_setup.proofs.options.number.Goals as goal
-
-pub returns : goal.returns
-returns c = λ least most fits h.
-    number_read _ (λ bs r. ParsesUnsigned 32 10 bs r × ExplainsUnsignedError 10 bs r × HasUnsignedDigitsIfOk bs r) (found_of c.args.matches.now) c.args.name.now least most fits h (λ u x g. g.0)
-    c.in-Some.number (c.in-Some.ensures.value _ h.read)

@@ -1,5 +1,0 @@
-pub mod Fates
-pub mod Given
-pub mod Losses
-pub mod Options
-pub mod Shelves

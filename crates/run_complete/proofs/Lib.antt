@@ -1,4 +1,0 @@
-pub mod DownLemmas
-pub mod PageLemmas
-pub mod SmoothLemmas
-pub mod StandingLemmas

@@ -1,5 +1,0 @@
-use Rattle.run_complete.proofs.StandingLemmas.{all-finished}
-use Rattle.run_complete.proofs.laws.law_done_is_finished.Goals as goal
-
-pub returns : goal.returns
-returns c = λ plan logs lang done. all-finished plan lang logs done

@@ -1,3 +1,0 @@
-pub mod ReasonRuns
-pub mod SameRuns
-pub mod SerialRuns

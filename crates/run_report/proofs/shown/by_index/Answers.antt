@@ -1,9 +1,0 @@
-use Rattle.std.proofs.Common.{subst, sym}
-use Rattle.trace_report.specs.Begun.{kept}
-use Rattle.run_report.specs.Shown.{HasActs}
-use Rattle.run_report.proofs.ShownLemmas.{acts-more, kept-last}
-use Rattle.run_report.proofs.shown.by_index.Goals as goal
-
-pub loop-act-preserved : goal.loop-act-preserved
-loop-act-preserved c =
-    subst (λ acts. HasActs acts c.insert.new.self.entries) (sym (kept-last c.loop-act.yielded c.in-Some.act)) (acts-more (kept c.loop-act.yielded) c.loop-act.map.entries c.insert.new.self.entries c.in-Some.act c.loop-act.invariant c.in_ok-insert.ensures.updates.0)

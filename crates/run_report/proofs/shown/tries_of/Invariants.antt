@@ -1,7 +1,0 @@
-use Rattle.std.proofs.Common.{◌≡◌, map, take}
-use Rattle.trace_report.specs.Begun.{kept_try}
-use Rattle.run_report.specs.Shown.{try_told}
-use Rattle.run_report.proofs.shown.tries_of.Given as goal
-
-abbrev pub invariant-loop-attempt : goal.invariant-loop-attempt
-invariant-loop-attempt l = l.shown.items ≡ map (λ attempt. try_told l.script.lines (kept_try attempt)) (take l.attempt-index l.tries)

@@ -1,4 +1,0 @@
-pub mod Shown
-pub mod Led
-pub mod Carried
-pub use Rattle.trace_report.specs.Reports

@@ -1,2 +1,0 @@
-pub mod ScriptRangeLemmas
-pub mod TextByteLemmas

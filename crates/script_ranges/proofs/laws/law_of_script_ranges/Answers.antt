@@ -1,9 +1,0 @@
-use Rattle.script_ranges.proofs.ScriptRangeLemmas.{printable-InRange}
-use Rattle.script_ranges.proofs.TextByteLemmas.{script-IsBytes}
-use Rattle.script_ranges.proofs.laws.law_of_script_ranges.Goals as goal
-
-pub returns-clause-range : goal.returns-clause-range
-returns-clause-range c = printable-InRange
-
-pub returns-clause-bytes : goal.returns-clause-bytes
-returns-clause-bytes c = script-IsBytes

@@ -1,0 +1,159 @@
+-- What the top call promises of serial runs, from the law of serial runs.
+use Rattle.std.proofs.Common.{◌≡◌, ◌⊎◌, inl, inr, ℕ, zero, suc, ◌≤◌, ◌==◌, nat_le, Bool, true, false, ◌&&◌, List, [], ◌∷◌, ◌++◌, append-nil, length, map, refl, sym, ◌∙◌, ap, subst, if◌then◌else◌, arith}
+use Rattle.std.proofs.lemmas.Bool.{eqb-true, le-leb}
+use Rattle.std.specs.Prelude.{reverse}
+use Rattle.pseudo_time.specs.Lists.{Every}
+use Rattle.pseudo_time.specs.declared.nodes.NodeId.{NodeId}
+use Rattle.value_form.specs.declared.acts.ActSpec.{ActSpec}
+use Rattle.value_form.specs.Mirror.{Block}
+use Rattle.effect_form.specs.declared.effects.Effect.{Effect}
+use Rattle.stream_port.specs.declared.fates.Asked.{Asked}
+use Rattle.script_form.specs.RowTexts.{script_text}
+use Rattle.script_form.specs.Printable.{IsPrintable}
+use Rattle.serial_model.specs.Questions.{Tree}
+use Rattle.plan_form.specs.declared.plans.Plan.{Plan}
+use Rattle.plan_form.specs.PlanTexts.{IsOfLanguage}
+use Rattle.broker_core.specs.Tasks.{Task, tasks, Scripted}
+use Rattle.broker_core.specs.Book as books
+use Rattle.broker_core.specs.Book.{Book, Act, tries_of}
+use Rattle.broker_core.specs.Sound.{Started, OfAct}
+use Rattle.world_core.specs.declared.traces.Trace.{Trace}
+use Rattle.world_core.specs.Nodes.{acts_of}
+use Rattle.world_core.specs.Walks.{World, step, start_world}
+use Rattle.world_core.specs.Legal.{base_of, in_plan}
+use Rattle.world_core.specs.Deeds.{RunLogs, Try, attempt, book_tries, finals, run_tries}
+use Rattle.pseudo_time.specs.Nodes.{broker, repository}
+use Rattle.broker_core.specs.Readings.{reading}
+use Rattle.broker_core.specs.Counted.{counted}
+use Rattle.world_core.specs.Readings.{IsLegal, WereLeft, gated_log}
+use Rattle.world_core.specs.Pasts.{OpenedWith}
+use Rattle.serial_law.specs.Runs.{AnsweredBefore, AnsweredIn, Position, TickedBefore, world_at, log_at, run_at, sent_before}
+use Rattle.serial_law.specs.Serial.{HoldsAll, Serial}
+use Rattle.world_core.specs.Answered.{WasAnswered}
+use Rattle.world_core.specs.Pasts.{AreCalls, Call}
+use Rattle.world_facts.specs.Refines.{Ticked}
+use Rattle.serial_law.specs.Causes.{Causes}
+use Rattle.serial_law.specs.Facts.{RunFacts}
+use Rattle.pseudo_time.specs.Lists.{Has}
+use Rattle.pseudo_time.specs.TimeParts.{TimeParts}
+use Rattle.value_form.specs.declared.objects.ObjectId.{ObjectId}
+use Rattle.value_form.specs.declared.values.Value.{Value}
+use Rattle.object_history.specs.declared.steps.WriteStep.{WriteStep}
+use Rattle.serial_law.specs.Reasons.{AnsweredBy, HaveReasons}
+use Rattle.serial_law.proofs.ReasonRuns.{answered-from, answered-now, reason-same}
+use Rattle.serial_law.specs.Serials.{HoldsFinals, IsSerialOver, run_in}
+use Rattle.broker_laws.proofs.TestLemmas.{and-both}
+use Rattle.broker_core.proofs.SoundLemmas.{sound-kept}
+use Rattle.broker_core.proofs.SameTurns.{book-same}
+use Rattle.world_core.proofs.SameWorlds.{Agree, agree-of, walk-same}
+use Rattle.world_core.proofs.OneReading.{common-reading, own-reading}
+use Rattle.serial_law.proofs.SameRuns.{finals-hold, serial-same}
+use Rattle.world_facts.proofs.Steps.{walk-known}
+
+-- ---- attempts by two readings
+
+module _ (s s' : List ℕ → Tree) (run : ℕ) (acts : List ActSpec) (h : Scripted s acts) (h' : Scripted s' acts) where
+  attempt-same : (t : books.Try) → s t.task.script ≡ s' t.task.script → attempt s t ≡ attempt s' t
+  attempt-same t e = ap (λ k. record { stamp = t.stamp; script = k; answers = t.answers; ended = t.end }) e
+
+  tries-at : (task : Task) (r : ℕ) (ts : List books.Try) → Every (λ (t : books.Try). (t.task ≡ task) × (t.run ≡ r)) ts → s task.script ≡ s' task.script → map (attempt s) ts ≡ map (attempt s') ts
+  tries-at task r [] k e = refl
+  tries-at task r (t ∷ ts) k e = λ i. attempt-same t (subst (λ (x : Task). s x.script ≡ s' x.script) (sym k.0.0) e) i ∷ tries-at task r ts k.1 e i
+
+  map-both : (f : books.Try → Try) (xs ys : List books.Try) → map f (xs ++ ys) ≡ map f xs ++ map f ys
+  map-both f [] ys = refl
+  map-both f (x ∷ xs) ys = ap (λ l. f x ∷ l) (map-both f xs ys)
+
+  acts-at : (plan : List Task) → Agree s s' plan → (as' : List Act) → Started plan as' → Every OfAct as' → map (attempt s) (tries_of as') ≡ map (attempt s') (tries_of as')
+  acts-at plan g [] k o = refl
+  acts-at plan g (a ∷ done) k o =
+      map-both (attempt s) a.tries (tries_of done)
+      ∙ (λ i. tries-at a.task a.run a.tries o.0 (g (length done) a.task k.1) i ++ acts-at plan g done k.0 o.1 i)
+      ∙ sym (map-both (attempt s') a.tries (tries_of done))
+
+  if-same : (c : Bool) (x y : List Try) → (c ≡ true → x ≡ y) → (if c then x else []) ≡ (if c then y else [])
+  if-same true x y k = k refl
+  if-same false x y k = refl
+
+  own-same : (b : ℕ) (log : List Effect) → book_tries s run (counted s b run (tasks (acts_of b acts)) log) ≡ book_tries s' run (counted s' b run (tasks (acts_of b acts)) log)
+  own-same b log =
+      let g = agree-of s s' b acts h h' in
+      let sound = sound-kept s b run (tasks (acts_of b acts)) log in
+      if-same ((counted s b run (tasks (acts_of b acts)) log).run == run) _ _ (λ e. acts-at (tasks (acts_of b acts)) g (counted s b run (tasks (acts_of b acts)) log).acts (sound.started (eqb-true _ _ e)) (sound.of_acts (eqb-true _ _ e)))
+      ∙ ap (book_tries s' run) (book-same s s' b run (tasks (acts_of b acts)) g log)
+
+  all-same : (f g : NodeId → List Effect) (n : ℕ) → ((b : ℕ) → 1 ≤ b → b ≤ n → f (broker b) ≡ g (broker b)) → run_tries s run acts f n ≡ run_tries s' run acts g n
+  unfolding run_tries
+  all-same f g zero k = refl
+  all-same f g (suc b) k =
+      λ i. all-same f g b (λ c low high. k c low (omega (arith, high))) i ++ (own-same (suc b) (f (broker (suc b))) ∙ ap (λ l. book_tries s' run (counted s' (suc b) run (tasks (acts_of (suc b) acts)) l)) (k (suc b) (omega arith) (omega arith))) i
+
+-- ---- a run by its plan
+
+known-log : (c : Bool) (x y : List Effect) → c ≡ true → (if c then x else y) ≡ x
+known-log true x y e = refl
+known-log false x y e = cc
+
+-- the run stands at the end of a legal trace over a past by one reading, and agrees with it in the logs of its repositories and in its attempts
+pub record Placed (plan : Plan) (t : Trace) (cs : List Call) : Type 0 where
+  pub place : Position
+  pub repositories : place.plan.repositories ≡ plan.repositories
+  pub logs : (r : ℕ) → (nat_le 1 r && nat_le r plan.repositories) ≡ true → log_at place (repository r) ≡ reverse (gated_log plan t (repository r))
+  pub tries : (run_at place).tries ≡ (run_in plan t).tries
+  -- what was answered and ticked there was in this run, or in one of these before it
+  pub answered : (x : TimeParts) (o : ObjectId) (v : Value) (step : WriteStep) → AnsweredBefore place x o v step → AnsweredBy plan t cs x o v step
+  pub ticked : (m : ℕ) → TickedBefore place m → Ticked cs t.entries m
+
+pub placed : (plan : Plan) (asked : List Asked) (t : Trace) → IsOfLanguage plan → IsLegal plan asked t → (logs : NodeId → List Effect) (left : WereLeft logs) → OpenedWith t.opened logs → Placed plan t left.0
+placed plan asked t w l logs left agrees =
+    let r = common-reading plan asked t logs w l left in
+    let own = own-reading plan w in
+    let p : Position = record { script = r.0; plan = plan; asked = asked; trace = t; logs = logs; front = t.entries; rest = []; here = sym (append-nil t.entries); whole = w; past = (left.0, r.1, r.2); agrees = agrees; legal = r.3 } in
+    let known : (n : NodeId) → in_plan plan n ≡ true → ((world_at p).flags n).known ≡ true =
+    λ n i. walk-known (base_of r.0 plan t) (start_world (base_of r.0 plan t)) t.entries n ∙ l.nodes.just n ∙ i in
+    let there : (n : NodeId) → in_plan plan n ≡ true → log_at p n ≡ reverse (gated_log plan t n) =
+    λ n i. ap reverse (known-log ((world_at p).flags n).known _ _ (known n i) ∙ ap (λ (v : World). (v.life n).gated) (walk-same r.0 (reading plan.acts) plan r.3.scripted own t t.entries)) in
+    record {
+      place = p;
+      repositories = refl;
+      logs = λ r i. there (repository r) i;
+      tries = all-same r.0 (reading plan.acts) plan.run plan.acts r.3.scripted own (log_at p) (λ n. reverse (gated_log plan t n)) plan.brokers
+          (λ b low high. there (broker b) (and-both (le-leb 1 b low) (le-leb b plan.brokers high)));
+      answered = λ x o v step. λ (a : AnsweredBefore p x o v step). by-run x o v step r.0 r.3.scripted own r.1 a;
+      ticked = λ m h. h;
+    }
+  where
+    by-run : (x : TimeParts) (o : ObjectId) (v : Value) (step : WriteStep) (script : List ℕ → Tree) → Scripted script plan.acts → Scripted (reading plan.acts) plan.acts → AreCalls script left.0 →
+        WasAnswered (base_of script plan t) t.entries x o v step ⊎ AnsweredIn script left.0 x o v step → AnsweredBy plan t left.0 x o v step
+    by-run x o v step script h own k (inl a) = inl (answered-now script plan h own t t.entries x o v step a)
+    by-run x o v step script h own k (inr a) = inr (answered-from script left.0 k left.1 x o v step a)
+
+-- ---- the promises
+
+abbrev Ends : RunLogs → Type 0
+Ends m = HoldsAll m (finals m)
+
+module _ (law : (p : Position) → Serial (run_at p)) where
+  pub serial-over : (plan : Plan) (asked : List Asked) (t : Trace) → IsOfLanguage plan → IsLegal plan asked t → IsSerialOver plan t
+  serial-over plan asked t w l logs left agrees =
+      let k = placed plan asked t w l logs left agrees in
+      serial-same plan.repositories (log_at k.place) (λ n. reverse (gated_log plan t n)) (run_in plan t).tries k.logs
+      (subst (λ ts. Serial (record { repositories = plan.repositories; logs = log_at k.place; tries = ts })) k.tries
+      (subst (λ n. Serial (record { repositories = n; logs = log_at k.place; tries = (run_at k.place).tries })) k.repositories (law k.place)))
+
+module _ (law : (p : Position) → HoldsAll (run_at p) (finals (run_at p))) where
+  pub finals-over : (plan : Plan) (asked : List Asked) (t : Trace) → IsOfLanguage plan → IsLegal plan asked t → HoldsFinals plan t
+  finals-over plan asked t w l logs left agrees =
+      let k = placed plan asked t w l logs left agrees in
+      finals-hold plan.repositories (log_at k.place) (λ n. reverse (gated_log plan t n)) (run_in plan t).tries k.logs
+      (subst (λ ts. Ends (record { repositories = plan.repositories; logs = log_at k.place; tries = ts })) k.tries
+      (subst (λ n. Ends (record { repositories = n; logs = log_at k.place; tries = (run_at k.place).tries })) k.repositories (law k.place)))
+
+module _ (facts : (p : Position) → RunFacts (run_at p) (sent_before p)) (law : (p : Position) → Causes (run_at p) (TickedBefore p) (AnsweredBefore p)) where
+  pub reasons-over : (plan : Plan) (asked : List Asked) (t : Trace) → IsOfLanguage plan → IsLegal plan asked t → HaveReasons plan t
+  reasons-over plan asked t w l logs left agrees try o j e =
+      let k = placed plan asked t w l logs left agrees in
+      let there : Has try (run_at k.place).tries = subst (Has try) (sym k.tries) j in
+      let f : RunFacts (run_at k.place) (sent_before k.place) = facts k.place in
+      reason-same (run_at k.place) (run_in plan t) (λ r i. k.logs r (subst (λ n. (nat_le 1 r && nat_le r n) ≡ true) k.repositories i)) (TickedBefore k.place) (Ticked left.0 t.entries) (AnsweredBefore k.place)
+      (AnsweredBy plan t left.0) k.ticked k.answered try o (f.home try there) (λ q. f.within try try.answers [] q there (sym (append-nil try.answers))) (law k.place try o there e)

@@ -1,0 +1,31 @@
+-- Why the Ends of a run stand, by its plan and its trace, over logs that earlier runs left.
+use Rattle.std.specs.Prelude.{◌⊎◌, List, [], ◌∷◌}
+use Rattle.pseudo_time.specs.TimeParts.{TimeParts}
+use Rattle.pseudo_time.specs.declared.nodes.NodeId.{NodeId}
+use Rattle.value_form.specs.declared.objects.ObjectId.{ObjectId}
+use Rattle.value_form.specs.declared.values.Value.{Value}
+use Rattle.effect_form.specs.declared.effects.Effect.{Effect}
+use Rattle.object_history.specs.declared.steps.WriteStep.{WriteStep}
+use Rattle.plan_form.specs.declared.plans.Plan.{Plan}
+use Rattle.broker_core.specs.Readings.{reading}
+use Rattle.world_core.specs.declared.traces.Trace.{Trace}
+use Rattle.world_core.specs.Answered.{WasAnswered}
+use Rattle.world_core.specs.Legal.{base_of}
+use Rattle.world_core.specs.Pasts.{Call, OpenedWith}
+use Rattle.world_core.specs.Readings.{WereLeft}
+use Rattle.world_facts.specs.Refines.{Ticked}
+use Rattle.serial_law.specs.Causes.{Causes}
+use Rattle.serial_law.specs.Serials.{run_in}
+
+-- in one of these runs the repository of the object took this write, and answered so
+abbrev pub AnsweredFrom : List Call → TimeParts → ObjectId → Value → WriteStep → Type 0
+AnsweredFrom [] x o v step = ⊥
+AnsweredFrom (c ∷ cs) x o v step = WasAnswered (base_of (reading c.plan.acts) c.plan c.trace) c.trace.entries x o v step ⊎ AnsweredFrom cs x o v step
+
+-- in this run, or in one of these before it
+abbrev pub AnsweredBy : Plan → Trace → List Call → TimeParts → ObjectId → Value → WriteStep → Type 0
+AnsweredBy plan t cs x o v step = WasAnswered (base_of (reading plan.acts) plan t) t.entries x o v step ⊎ AnsweredFrom cs x o v step
+
+-- Over logs that earlier runs left each End of the run has its cause: what stands in the logs, a moment that was ticked and a refusal that was answered, in this run or in one of those.
+abbrev pub HaveReasons : Plan → Trace → Type 0
+HaveReasons plan t = (logs : NodeId → List Effect) (left : WereLeft logs) → OpenedWith t.opened logs → Causes (run_in plan t) (Ticked left.0 t.entries) (AnsweredBy plan t left.0)

@@ -1,9 +1,0 @@
-pub mod BeginLemmas
-pub mod BlockLemmas
-pub mod OneRow
-pub mod PeakLemmas
-pub mod ReadLemmas
-pub mod RowLimitLemmas
-pub mod RowTextLemmas
-pub mod ScriptTextLemmas
-pub mod TargetLemmas

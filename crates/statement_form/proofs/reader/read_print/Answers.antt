@@ -1,5 +1,0 @@
-use Rattle.statement_form.proofs.ReadLemmas.{print_fault}
-use Rattle.statement_form.proofs.reader.read_print.Goals as goal
-
-pub returns-in_err-value : goal.returns-in_err-value
-returns-in_err-value c = print_fault c.args.tokens.now c.from_residual.result c.in_err-value.field-0.0 c.from_residual.ensures c.in_err-value.ensures

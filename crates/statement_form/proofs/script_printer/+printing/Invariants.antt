@@ -1,9 +1,0 @@
-use Rattle.std.proofs.Common.{take}
-use Rattle.value_form.specs.Mirror.{block}
-use Rattle.statement_form.specs.RowTexts.{Prints}
-use Rattle.statement_form.specs.Rows.{rows}
-use Rattle.statement_form.proofs.script_printer.+printing.Given as goal
-
--- the rows of the statements so far are printed
-abbrev pub invariant-put_all-part : goal.invariant-put_all-part
-invariant-put_all-part l = Prints (rows (block (take l.stmt-index l.part))) l.initial.next l.initial.out.items l.after l.out.items
