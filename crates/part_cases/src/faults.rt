@@ -1,3 +1,4 @@
+use object_history::HistoryFault;
 use std::alloc::{AllocError, AllocFailed};
 
 /// Why a line wasn't carried out.
@@ -18,6 +19,8 @@ pub enum CaseFault {
     Subject,
     /// It is outside the medium, or no body of a page.
     Place,
+    /// Histories failed.
+    Histories,
 }
 
 impl From<AllocError> for CaseFault {
@@ -29,5 +32,14 @@ impl From<AllocError> for CaseFault {
 impl<T: Drop> From<AllocFailed<T>> for CaseFault {
     fn from(_failed: AllocFailed<T>) -> CaseFault {
         CaseFault::NoMemory
+    }
+}
+
+impl From<HistoryFault> for CaseFault {
+    fn from(fault: HistoryFault) -> CaseFault {
+        match fault {
+            HistoryFault::NoMemory => CaseFault::NoMemory,
+            HistoryFault::Medium | HistoryFault::Damaged { .. } => CaseFault::Histories,
+        }
     }
 }

@@ -125,7 +125,7 @@ impl Sound {
     // Puts a body on a page, if it is blank.
     fn put(self, alloc: Global, page: u32, body: &[u8]) -> Result<(Storage, String), CaseFault> {
         let Sound { mut medium } = self;
-        if page >= medium.pages() || body.len() > 4095 || all_zero(body) {
+        if page >= medium.pages() || body.is_empty() || body.len() > 4095 || all_zero(body) {
             return Err(CaseFault::Place);
         }
         match look(&mut medium, page) {

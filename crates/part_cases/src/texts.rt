@@ -5,7 +5,6 @@ use crate::forms::push_text;
 use expression_form::{ReadFault, print_expression, read_expression};
 use plan_form::{Plan, PlanFault, make};
 use script_form::{ParseFault, print_row, read_row};
-
 use std::alloc::Global;
 use token_form::{LineFault, Token, tokens_of};
 

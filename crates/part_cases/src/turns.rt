@@ -1,9 +1,9 @@
 //! What a turn of a node gives.
 
 use crate::faults::CaseFault;
+use message_form::Turn;
 use pseudo_time::NodeKind;
 use std::alloc::Global;
-use message_form::Turn;
 
 /// The effects that it adds, and the messages that it sends.
 pub fn told(alloc: Global, turn: &Turn) -> Result<String, CaseFault> {
