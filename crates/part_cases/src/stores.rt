@@ -1,5 +1,5 @@
 //! A medium in memory, its pages, and a store over it.
-ghost use Rattle.std.specs.Prelude.{◌≡◌, [], false};
+ghost use Rattle.std.specs.Prelude.{◌≡◌, [], false, IfOk};
 ghost use Rattle.value_form.specs.ObjectBytes.{IsObject};
 ghost use Rattle.medium_port.specs.MemoryMedia.{failed_in};
 ghost use Rattle.version_store.specs.StoreWords.{medium_of};
@@ -295,21 +295,39 @@ impl Stored {
     pub fn put(self, object: ObjectId, start: PseudoTime, number: i64) -> Result<Stored, CaseFault>
         requires { IsObject object }
     {
-        let Stored { mut table } = self;
-        let _in_range = start.stamp();
-        let value = Value::Number(number);
-        let Ok(WriteStep::Put) = table.write(object, start, &value) else {
-            return Err(CaseFault::Subject);
-        };
-        let effects = [Effect::Put {
-            object,
-            start,
-            value,
-        }];
-        late_marks();
-        match table.flush(&effects) {
-            Ok(table) => Ok(Stored { table }),
-            Err(_) => Err(CaseFault::Subject),
-        }
+        let Stored { table } = self;
+        let table = put_and_stored(table, object, start, number)?;
+        Ok(Stored { table })
+    }
+}
+
+// A version that is put and stored at once: what each call of histories says is enough for that.
+fn put_and_stored(
+    table: HeaderTable<MemoryMedium>,
+    object: ObjectId,
+    start: PseudoTime,
+    number: i64,
+) -> Result<HeaderTable<MemoryMedium>, CaseFault>
+    requires object { IsObject object }
+    requires late { (ledger_of table).late ≡ [] }
+    ensures late { IfOk result (λ t. (ledger_of t).late ≡ []) }
+    ensures open { IfOk result (λ t. failed_in (medium_of (store_of t)) ≡ false) }
+{
+    let mut table = table;
+    let _in_range = start.stamp();
+    let value = Value::Number(number);
+    let step = table.write(object, start, &value)?;
+    if step != WriteStep::Put {
+        return Err(CaseFault::Histories);
+    }
+    let effects = [Effect::Put {
+        object,
+        start,
+        value,
+    }];
+    late_marks();
+    match table.flush(&effects) {
+        Ok(table) => Ok(table),
+        Err(_) => Err(CaseFault::Histories),
     }
 }
