@@ -1,0 +1,79 @@
+ghost use Rattle.std.specs.Prelude.{◌≡◌, false};
+
+use medium_port::{FileShelf, Medium, MediumFault, MemoryMedium, MemoryShelf, Shelf};
+use pseudo_time::NodeKind;
+use std::test::*;
+use std::{fs, process};
+
+// The pages of a medium of a shelf, and what it reads at the end of its last page, after these
+// bytes were written there.
+fn written<S: Shelf>(
+    shelf: &mut S,
+    number: u8,
+    bytes: &[u8; 2],
+) -> Result<(u32, [u8; 2]), MediumFault> {
+    let mut medium = shelf.take(NodeKind::Repository, number, 0)?;
+    let pages = medium.pages();
+    medium.write(pages - 1, 4094, bytes)?;
+    medium.sync()?;
+    medium.reopen()?;
+    read(medium)
+}
+
+fn read<M: Medium>(medium: M) -> Result<(u32, [u8; 2]), MediumFault>
+    requires { M.is_failed medium ≡ false }
+{
+    let mut medium = medium;
+    let mut page = [0u8; 4096];
+    let pages = medium.pages();
+    medium.read(pages - 1, &mut page)?;
+    Ok((pages, [page[4094], page[4095]]))
+}
+
+fn taken<S: Shelf>(shelf: &mut S, number: u8) -> Result<(u32, [u8; 2]), MediumFault> {
+    let medium = shelf.take(NodeKind::Repository, number, 0)?;
+    read(medium)
+}
+
+// The folder lies in one that isn't there either. While a shelf's medium lives no other can take it.
+#[test]
+fn files(rt: HostRuntime) -> Result<(), Fail> {
+    let alloc = rt.alloc();
+    let outer = format!(in alloc; "/tmp/swallow-media-{}", process::id(rt.process()))?;
+    let folder = format!(in alloc; "{}/data", outer.as_str())?;
+    let mut shelf = FileShelf::new(alloc, rt, rt.stderr(), folder.as_str())?;
+    assert_eq!(rt; written(&mut shelf, 1, &[5, 6]), Ok((4096, [5, 6])));
+    assert_eq!(rt; taken(&mut shelf, 1), Err(MediumFault));
+    let mut again = FileShelf::new(alloc, rt, rt.stderr(), folder.as_str())?;
+    let mut other = FileShelf::new(alloc, rt, rt.stderr(), folder.as_str())?;
+    let held = again.take(NodeKind::Repository, 1, 0);
+    let locked = other.take(NodeKind::Repository, 1, 0).is_err();
+    assert!(rt; held.is_ok() && locked);
+    drop(held);
+    assert_eq!(rt; taken(&mut other, 1), Ok((4096, [5, 6])));
+    let path = format!(in alloc; "{}/repository-1-0", folder.as_str())?;
+    let removed = fs::remove_file(&rt, path.as_str()).is_ok();
+    assert!(rt; removed);
+    for emptied in [folder.as_str(), outer.as_str()] {
+        let removed = fs::remove_dir(&rt, emptied).is_ok();
+        assert!(rt; removed);
+    }
+    Ok(())
+}
+
+#[test]
+fn memory_shelf(rt: HostRuntime) -> Result<(), Fail> {
+    let alloc = rt.alloc();
+    let mut shelf = MemoryShelf::new(alloc, 3);
+    assert_eq!(rt; taken(&mut shelf, 1), Ok((3, [0, 0])));
+    assert_eq!(rt; taken(&mut shelf, 1), Err(MediumFault));
+    let medium = MemoryMedium::new(alloc, 2, Vec::new(alloc))?;
+    let put = shelf.put(NodeKind::Repository, 1, 0, medium).is_ok();
+    assert!(rt; put);
+    assert_eq!(rt; written(&mut shelf, 1, &[5, 6]), Ok((2, [5, 6])));
+    shelf.fail(NodeKind::Repository, 2, 0)?;
+    assert_eq!(rt; taken(&mut shelf, 2), Err(MediumFault));
+    assert_eq!(rt; taken(&mut shelf, 3), Ok((3, [0, 0])));
+    assert_eq!(rt; shelf.starved(), 0);
+    Ok(())
+}

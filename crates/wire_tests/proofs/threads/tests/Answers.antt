@@ -1,9 +1,0 @@
-use Rattle.wire_tests.proofs.PassLemmas.{tested-at}
-use Rattle.wire_tests.proofs.threads.tests.Goals as goal
-
--- a test leaves the broker where it was
-pub loop-preserved : goal.loop-preserved
-loop-preserved g c = tested-at _ _ _ _ c.decided.ensures.pass _ _ _ _ c.loop.invariant c.decided.ensures.tested
-
-pub returns-then-eq : goal.returns-then-eq
-returns-then-eq g c = tested-at _ _ _ _ c.decided.ensures.pass _ _ _ _ c.loop.invariant c.decided.ensures.tested

@@ -1,8 +1,0 @@
-use Rattle.std.proofs.Common.{true, false}
-use Rattle.pseudo_time.specs.Nodes.{broker}
-use Rattle.turn_plays.specs.Passes.{IsAt}
-use Rattle.wire_tests.proofs.threads.tests.Given as goal
-
--- the broker has gone, and waits
-abbrev pub invariant-loop : goal.invariant-loop
-invariant-loop g l = IsAt l.wire.lock (broker 1) true false l.pass
