@@ -196,7 +196,7 @@ start() {
     exit
   fi
   find_program "$1" || exit 70
-  [ "$program" = "$built" ] || [ ! -t 2 ] || say "the program of release/, which '$name build' builds and compares"
+  [ "$program" = "$built" ] || [ ! -t 2 ] || say "this is the program of release/; './$name build' proves and builds it here, and compares them"
   shopt -s execfail
   exec "$program" "${words[@]}"
   say "$program can't be started"
