@@ -47,21 +47,10 @@ sum_of_places() (
   sum=$(find "$@" ! -type d -print0 | LC_ALL=C sort -z | xargs -0 sha256sum | sha256sum) && echo "${sum%% *}"
 )
 
-# Sets `sources` to the sum of a program's sources. It is remembered for as long as no source has another path, size or time,
-# in the crate's out/ or, where that can't be written, in the cache of the user.
+# Sets `sources` to the sum of a program's sources.
 sum_sources() {
-  local key known memory memories=("$top/crates/$1/out/sources")
-  [ -z "${XDG_CACHE_HOME:-${HOME:-}}" ] || memories+=("${XDG_CACHE_HOME:-$HOME/.cache}/swallow/${top//\//%}%$1")
   find_places "$1"
-  key=$(cd "$top" && { pwd -P; find "${places[@]}" ! -type d -printf '%p %s %i %T@ %C@\n' 2> /dev/null; } | sha256sum)
-  for memory in "${memories[@]}"; do
-    { read -r known sources < "$memory"; } 2> /dev/null && [ "$known" = "${key%% *}" ] && return
-  done
-  sources=$(sum_of_places "${places[@]}") || return 1
-  for memory in "${memories[@]}"; do
-    { mkdir -p "${memory%/*}" && echo "${key%% *} $sources" > "$memory.$$" && mv -f "$memory.$$" "$memory"; } 2> /dev/null && return
-  done
-  return 0
+  sources=$(sum_of_places "${places[@]}")
 }
 
 # What release/README.md notes: the cells of the row with this name.
@@ -85,6 +74,41 @@ name_program() {
   shipped="$top/release/$name"
   built="$top/crates/$crate/out/$crate"
   record="$top/crates/$crate/out/built"
+}
+
+# Sets `program` to the one that was chosen before, where nothing has changed since that the choice hangs on: no source, nothing
+# of release/ and no program has another path, size, number or time. Sets `key` to what stands for all that, or to nothing.
+recall() {
+  local known choice memory seen=("${places[@]}" release) file
+  for file in "$built" "$record"; do
+    [ ! -e "$file" ] || seen+=("${file#"$top/"}")
+  done
+  memories=("$top/crates/$crate/out/choice")
+  [ -z "${XDG_CACHE_HOME:-${HOME:-}}" ] || memories+=("${XDG_CACHE_HOME:-$HOME/.cache}/swallow/${top//\//%}%$crate")
+  key=$(
+    set -o pipefail
+    cd "$top" || exit 1
+    { echo "$HOSTNAME $OSTYPE $HOSTTYPE $top" && find "${seen[@]}" ! -type d -printf '%p %s %i %T@ %C@\n'; } 2> /dev/null | sha256sum
+  ) || key=""
+  key=${key%% *}
+  for memory in "${memories[@]}"; do
+    { read -r known choice < "$memory"; } 2> /dev/null && [ "$known" = "$key" ] || continue
+    case "$choice" in
+    shipped) program=$shipped && return ;;
+    built) program=$built && return ;;
+    esac
+  done
+  return 1
+}
+
+# Keeps the choice in the crate's out/ or, where that can't be written, in the user's cache, or nowhere.
+remember() {
+  local memory
+  [ -n "$key" ] || return 0
+  for memory in "${memories[@]}"; do
+    { mkdir -p "${memory%/*}" && echo "$key $1" > "$memory.$$" && mv -f "$memory.$$" "$memory"; } 2> /dev/null && return
+  done
+  return 0
 }
 
 # Sets `differs` to why the program of release/ isn't the one of these sources, or to nothing where it is.
@@ -162,14 +186,16 @@ build() {
 # Sets `program` to the program of a crate that is to be started, which is built where there is none.
 find_program() {
   name_program "$1"
+  find_places "$crate"
+  recall && return
   sum_sources "$crate" || { say "the sources can't be read"; return 1; }
   if compare_shipped; then
     program=$shipped
-    runs_shipped && return
+    runs_shipped && remember shipped && return
     differs="release/$name wants x86-64 Linux with glibc $(noted "Least glibc") or a later one"
   fi
   program=$built
-  is_built && return
+  is_built && remember built && return
   [ ! -e "$shipped" ] || say "$differs, so the program has to be built"
   build
 }
@@ -199,7 +225,7 @@ start() {
     esac
   fi
   find_program "$1" || exit 70
-  [ "$program" = "$built" ] || [ ! -t 2 ] || say "the program of release/, which '$name build' builds and compares"
+  [ "$program" = "$built" ] || [ ! -t 2 ] || say "this is the program of release/; './$name build' proves and builds it here, and compares them"
   shopt -s execfail
   exec "$program" "${words[@]}"
   say "$program can't be started"
