@@ -1,4 +1,5 @@
 pub mod AddedEnds
+pub mod AnswerRuns
 pub mod Attempts
 pub mod Before
 pub mod CauseLemmas

@@ -1,3 +1,4 @@
+pub mod Acknowledged
 pub mod Added
 pub mod Answers
 pub mod Causes

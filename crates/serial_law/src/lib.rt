@@ -11,4 +11,7 @@ pub use fact_laws::{
     one_request_each, reads_see_own_writes, requests_are_the_scripts,
 };
 pub use laws::{law_acknowledged, law_before, law_causes, law_finals, law_serial};
-pub use run_laws::{law_of_finals, law_of_reasons, law_of_serial_runs};
+pub use run_laws::{
+    law_of_added_reasons, law_of_answers, law_of_finals, law_of_reasons, law_of_serial_runs,
+    law_of_spent_acts,
+};

@@ -6,9 +6,10 @@ ghost use Rattle.plan_form.specs.PlanTexts.{IsOfLanguage};
 ghost use Rattle.world_core.specs.declared.traces.Trace.{Trace};
 ghost use Rattle.world_core.specs.Readings.{IsLegal};
 ghost use Rattle.serial_law.specs.Serials.{HoldsFinals, IsSerialOver};
-ghost use Rattle.serial_law.specs.Reasons.{HaveReasons};
+ghost use Rattle.serial_law.specs.Reasons.{AddedHaveReasons, HaveReasons};
+ghost use Rattle.serial_law.specs.Acknowledged.{KeepsAnswers, SpendsRightly};
 
-use crate::{law_causes, law_facts, law_finals, law_serial};
+use crate::{law_acknowledged, law_causes, law_facts, law_finals, law_serial};
 
 /// Every attempt of a run reads, writes and ends as its script does alone, after the committed deeds before
 /// its stamp (Bernstein et al. 1987, chapter 5): of each legal trace of a plan of the language, whatever
@@ -34,5 +35,30 @@ pub fn law_of_reasons()
     ensures { (plan : Plan) (asked : List Asked) (t : Trace) → IsOfLanguage plan → IsLegal plan asked t → HaveReasons plan t }
 {
     law_facts();
+    law_causes();
+}
+
+/// No read ever saw a version of an aborted attempt, and nothing that was acknowledged is taken back: the
+/// logs at the end of a run agree with whatever was sent in it, or in an earlier run. A version that was
+/// stored stands there, and so does a decision; what a read was answered a read at its time would see
+/// there still, of an attempt that was committed or of its own, unless the reader itself was aborted.
+pub fn law_of_answers()
+    ensures { (plan : Plan) (asked : List Asked) (t : Trace) → IsOfLanguage plan → IsLegal plan asked t → KeepsAnswers plan t }
+{
+    law_acknowledged();
+}
+
+/// An act is spent only where a new attempt of it might begin, and no clock is left above those of the log
+/// and the one that its refusals showed.
+pub fn law_of_spent_acts()
+    ensures { (plan : Plan) (asked : List Asked) (t : Trace) → IsOfLanguage plan → IsLegal plan asked t → SpendsRightly plan t }
+{
+    law_causes();
+}
+
+/// Over whatever logs, also over those that no run left, each End that the run added has its cause.
+pub fn law_of_added_reasons()
+    ensures { (plan : Plan) (asked : List Asked) (t : Trace) → AddedHaveReasons plan asked t }
+{
     law_causes();
 }

@@ -17,7 +17,8 @@ use Rattle.run_rounds.specs.declared.ends.End.TheVariants as end
 use Rattle.run_rounds.specs.Runs.{Ran, HasRanges}
 use Rattle.run_rounds.specs.Finishes.{EndsAs, Tellers, account_of}
 use Rattle.serial_law.specs.Serials.{HoldsFinals, IsSerialOver}
-use Rattle.serial_law.specs.Reasons.{HaveReasons}
+use Rattle.serial_law.specs.Acknowledged.{KeepsAnswers, SpendsRightly}
+use Rattle.serial_law.specs.Reasons.{AddedHaveReasons, HaveReasons}
 use Rattle.swallow_top.specs.declared.media.Kept.{Kept}
 use Rattle.swallow_top.specs.declared.reports.Wanted.{Wanted}
 use Rattle.swallow_top.specs.Contract.{AllKept, CameOf, Completes, HasNoRun, LosesNothing, RanOver, RunsPlan}
@@ -52,17 +53,22 @@ module _ {M : Type 0} (w : Media M) (ticks messages : ℕ) (plan : Plan) (told :
 module _ {M : Type 0} (w : Media M) (old new : ShelfSight) (plan : Plan) (o : Options) (told : Tellers) (media left : List (Option M)) (taken : WereTaken w old new plan media)
     (language : IsOfLanguage plan) (serial : (p : Plan) (asked : List Asked) (t : Trace) → IsOfLanguage p → IsLegal p asked t → IsSerialOver p t)
     (finals : (p : Plan) (asked : List Asked) (t : Trace) → IsOfLanguage p → IsLegal p asked t → HoldsFinals p t) (reasons : (p : Plan) (asked : List Asked) (t : Trace) → IsOfLanguage p → IsLegal p asked t → HaveReasons p t)
-    (full : length media ≡ node_count plan) where
+    (answers : (p : Plan) (asked : List Asked) (t : Trace) → IsOfLanguage p → IsLegal p asked t → KeepsAnswers p t) (spent : (p : Plan) (asked : List Asked) (t : Trace) → IsOfLanguage p → IsLegal p asked t → SpendsRightly p t)
+    (added : (p : Plan) (asked : List Asked) (t : Trace) → AddedHaveReasons p asked t) (full : length media ≡ node_count plan) where
   ran-over : (t : Trace) → Ran w o.ticks o.messages plan (account_of t told) media left → RanOver {M = M} w old new (kept_from plan 0 left) plan o (account_of t told)
   ran-over t ran = record {
     media = media;
     left = left;
+    count = full;
     taken = taken;
     handed = refl;
     ran = ran;
     serial = λ tells. serial plan told.asked t language (ran.is_told tells).legal;
     finals = λ tells. finals plan told.asked t language (ran.is_told tells).legal;
+    answers = λ tells. answers plan told.asked t language (ran.is_told tells).legal;
     reasons = λ tells. reasons plan told.asked t language (ran.is_told tells).legal;
+    spent = λ tells. spent plan told.asked t language (ran.is_told tells).legal;
+    added = added plan told.asked t;
   }
 
   by-end : (wanted : Wanted) (e : End) (status : ℕ) (t : Trace) (s : Sinking) → EndsAs w o.ticks o.messages plan told media left e → TellsEnd wanted plan e status t s → CameOf {M = M} w old new (kept_from plan 0 left) plan wanted o (account_of t told) s status
@@ -71,7 +77,7 @@ module _ {M : Type 0} (w : Media M) (old new : ShelfSight) (plan : Plan) (o : Op
   by-end wanted (end.Refused fault) status t s ends (none, inl seven) = inl (seven, none, lose-nothing w old plan 0 media left taken.are (alone-whole {M = M} w media left ends.1))
   by-end wanted (end.Refused fault) status t s ends (none, inr two) = inr (inl (
     two.0,
-    record { media = media; left = left; taken = taken; handed = refl; untouched = ends.1; why = fault; first = ends.2; line = two.1 },
+    record { media = media; left = left; count = full; taken = taken; handed = refl; untouched = ends.1; why = fault; first = ends.2; line = two.1 },
     record { trace = none; fates = ends.3; clock = ends.4 },
   ))
   by-end wanted end.NoMemory status t s ends tells = inl (tells.1, tells.0, lose-nothing w old plan 0 media left taken.are ends.1)

@@ -16,10 +16,12 @@ use Rattle.world_core.specs.Legal.{fates_of, in_plan}
 use Rattle.run_rounds.specs.Stories.{no_trace}
 use Rattle.command_words.specs.declared.commands.Options.{Options}
 use Rattle.run_media.specs.Media.{Media, IsLeftAlone}
+use Rattle.run_media.specs.Places.{node_count}
 use Rattle.run_rounds.specs.Runs.{Account, Ran, IsFirstFault}
 use Rattle.run_rounds.specs.Finishes.{IsKeptWhole}
 use Rattle.serial_law.specs.Serials.{HoldsFinals, IsSerialOver}
-use Rattle.serial_law.specs.Reasons.{HaveReasons}
+use Rattle.serial_law.specs.Acknowledged.{KeepsAnswers, SpendsRightly}
+use Rattle.serial_law.specs.Reasons.{AddedHaveReasons, HaveReasons}
 use Rattle.complete_law.specs.Calm.{IsPlain}
 use Rattle.swallow_top.specs.Smooth.{AskAtMost, IsComplete, messages_for, pages_for}
 use Rattle.swallow_top.specs.declared.media.Kept.{Kept}
@@ -49,21 +51,26 @@ AllKept {M} old new kept = (name : MediumName) → new.is_taken name → (old.is
 
 module _ {M : Type 0} (w : Media M) (old new : ShelfSight) (kept : List (Kept M)) where
   module _ (plan : Plan) where
-    -- A run over the media that the shelf gave, and what follows of its trace. What is left of the media is handed back.
+    -- A run over the media that the shelf gave, one place for each node of the plan, and what follows of its trace. What is left of the media is handed back.
     pub record RanOver (o : Options) (told : Account) : Type 0 where
       pub media : List (Option M)
       pub left : List (Option M)
+      pub count : length media ≡ node_count plan
       pub taken : WereTaken w old new plan media
       pub handed : kept ≡ kept_from plan 0 left
       pub ran : Ran w o.ticks o.messages plan told media left
       pub serial : IsTrue w.tells → IsSerialOver plan told.trace
       pub finals : IsTrue w.tells → HoldsFinals plan told.trace
+      pub answers : IsTrue w.tells → KeepsAnswers plan told.trace
       pub reasons : IsTrue w.tells → HaveReasons plan told.trace
+      pub spent : IsTrue w.tells → SpendsRightly plan told.trace
+      pub added : AddedHaveReasons plan told.asked told.trace
 
     -- A broker's log refuses the plan: the first that could be opened and shows a fault. The media of the plan's nodes were taken, and are handed back as they were.
     pub record IsRefusedByLog (s : Sinking) : Type 0 where
       pub media : List (Option M)
       pub left : List (Option M)
+      pub count : length media ≡ node_count plan
       pub taken : WereTaken w old new plan media
       pub handed : kept ≡ kept_from plan 0 left
       pub untouched : AllZip (IsLeftAlone w) media left

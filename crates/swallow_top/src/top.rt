@@ -23,7 +23,10 @@ use medium_port::{Medium, Shelf};
 use plan_form::{Plan, make};
 use run_media::node_count;
 use run_rounds::{Finished, Limits, Told, run};
-use serial_law::{law_of_finals, law_of_reasons, law_of_serial_runs};
+use serial_law::{
+    law_of_added_reasons, law_of_answers, law_of_finals, law_of_reasons, law_of_serial_runs,
+    law_of_spent_acts,
+};
 use std::alloc::Global;
 use std::sync::Wait;
 use std::thread::Threads;
@@ -129,7 +132,10 @@ where
     let media = keep_all(plan, media.into_vec(), kept);
     law_of_serial_runs();
     law_of_finals();
+    law_of_answers();
     law_of_reasons();
+    law_of_spent_acts();
+    law_of_added_reasons();
     let (status, trace) = tell(alloc, plan, wanted, end, sink);
     Finish {
         status,
