@@ -35,7 +35,7 @@ fn taken<S: Shelf>(shelf: &mut S, number: u8) -> Result<(u32, [u8; 2]), MediumFa
     read(medium)
 }
 
-// The folder lies in one that isn't there either. While a shelf's medium lives no other can take it.
+// The folder lies in one that isn't there either. While a shelf lives that took a medium, no other takes one of its folder.
 #[test]
 fn files(rt: HostRuntime) -> Result<(), Fail> {
     let alloc = rt.alloc();
@@ -44,16 +44,21 @@ fn files(rt: HostRuntime) -> Result<(), Fail> {
     let mut shelf = FileShelf::new(alloc, rt, rt.stderr(), folder.as_str())?;
     assert_eq!(rt; written(&mut shelf, 1, &[5, 6]), Ok((4096, [5, 6])));
     assert_eq!(rt; taken(&mut shelf, 1), Err(MediumFault));
+    drop(shelf);
     let mut again = FileShelf::new(alloc, rt, rt.stderr(), folder.as_str())?;
     let mut other = FileShelf::new(alloc, rt, rt.stderr(), folder.as_str())?;
     let held = again.take(NodeKind::Repository, 1, 0);
     let locked = other.take(NodeKind::Repository, 1, 0).is_err();
     assert!(rt; held.is_ok() && locked);
     drop(held);
+    assert_eq!(rt; taken(&mut other, 1), Err(MediumFault));
+    drop(again);
     assert_eq!(rt; taken(&mut other, 1), Ok((4096, [5, 6])));
-    let path = format!(in alloc; "{}/repository-1-0", folder.as_str())?;
-    let removed = fs::remove_file(&rt, path.as_str()).is_ok();
-    assert!(rt; removed);
+    for name in ["repository-1-0", "lock"] {
+        let path = format!(in alloc; "{}/{name}", folder.as_str())?;
+        let removed = fs::remove_file(&rt, path.as_str()).is_ok();
+        assert!(rt; removed);
+    }
     for emptied in [folder.as_str(), outer.as_str()] {
         let removed = fs::remove_dir(&rt, emptied).is_ok();
         assert!(rt; removed);
