@@ -5,7 +5,7 @@ ghost use Rattle.value_form.specs.Ranges.{IsScript};
 use crate::faults::CaseFault;
 use script_form::{law_of_lines, parse};
 use script_run::{Next, Run};
-use serial_model::{Ending, ObjectMap, perform};
+use serial_model::{Ending, ObjectMap, Performed, perform};
 use std::alloc::Global;
 use std::str;
 use value_form::{Line, ObjectId, Script, Value};
@@ -87,8 +87,12 @@ fn told(
 fn at_once(alloc: Global, text: &[u8], held: &[(ObjectId, i64)]) -> Result<String, CaseFault> {
     let script = script_of(alloc, text)?;
     let map = map_of(alloc, held)?;
-    let done = perform(alloc, &script, &map)?;
-    told(alloc, done.transcript.as_slice(), done.ending, done.after)
+    let Performed {
+        transcript,
+        ending,
+        after,
+    } = perform(alloc, &script, &map)?;
+    told(alloc, transcript.as_slice(), ending, after)
 }
 
 // Answers the next request by the objects. How the script ended, where it asks for nothing more.
