@@ -7,6 +7,7 @@ use denote.Param.SendFields.{declared_send, variants_send, as_row_send}
 use Rattle.std.proofs.Crossing.{Vec-send, send, frees}
 use Rattle.std.proofs.collections.BTreeMap.TheSendSync as map
 use Rattle.std.proofs.collections.BTreeSet.TheSendSync as set
+use Rattle.std.proofs.option.Option.TheSendSync as option
 use Rattle.medium_port.specs.declared.media.Medium as medium
 use Rattle.pseudo_time.proofs.times.PseudoTime.TheSendSync as time
 use Rattle.pseudo_time.proofs.stamps.Stamp.TheSendSync as stamp
@@ -82,7 +83,7 @@ module _ (H B : RattleType) (h : histories.Ghosts H.Denot B.Denot) (sh : IsSend 
   repository_send = view_send _ _ _ _ _ (declared_send (RepositoryInside.the_type H B h) (work_send, (flag, tt)))
 
 ledger_send : IsSend Ledger.the_row
-ledger_send = view_send _ _ _ _ _ (declared_send LedgerInside.the_type (send, (log_send, (Vec-send _ mark.the_send, (index.the_send, (flag, (Vec-send _ mark.the_send, tt)))))))
+ledger_send = view_send _ _ _ _ _ (declared_send LedgerInside.the_type (send, (log_send, (Vec-send _ mark.the_send, (index.the_send, (option.the_send _ time.the_send, (flag, (Vec-send _ mark.the_send, tt))))))))
 
 module _ (M : RattleType) (m : medium.Ghosts M.Denot) (sm : IsSend M) where
   table_send : IsSend (HeaderTable.the_row M m)
