@@ -118,17 +118,25 @@ fn answered(
     }
 }
 
-// The script carried out request by request, of which a script has at most 10,000.
+// Answers every request, of which a script has at most 10,000. How it ended.
+fn ended(alloc: Global, run: &mut Run, map: &mut ObjectMap) -> Result<Option<Ending>, CaseFault> {
+    for _ in 0..=10_000 {
+        if let Some(ending) = answered(alloc, run, map)? {
+            return Ok(Some(ending));
+        }
+    }
+    Ok(None)
+}
+
+// The script carried out request by request.
 fn by_requests(alloc: Global, text: &[u8], held: &[(ObjectId, i64)]) -> Result<String, CaseFault> {
     let script = script_of(alloc, text)?;
     let mut map = map_of(alloc, held)?;
     let mut run = Run::start(alloc, &script)?;
-    for _ in 0..=10_000 {
-        if let Some(ending) = answered(alloc, &mut run, &mut map)? {
-            return told(alloc, run.transcript(), ending, map);
-        }
+    match ended(alloc, &mut run, &mut map)? {
+        Some(ending) => told(alloc, run.transcript(), ending, map),
+        None => Ok(format!(in alloc; "  no end\n")?),
     }
-    Ok(format!(in alloc; "  no end\n")?)
 }
 
 /// What the script comes to over objects that hold these numbers; both, where the two ways differ.
