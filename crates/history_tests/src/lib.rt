@@ -1,0 +1,7 @@
+//! Tests of histories of objects: plain ones, and those kept in version storage.
+#![tactic(auto)]
+
+#[cfg(test)]
+mod headers;
+#[cfg(test)]
+mod histories;
