@@ -1,10 +1,8 @@
 ghost use Rattle.std.specs.Prelude.{◌≡◌, false};
 
-use medium_port::{FileShelf, Medium, MediumFault, MemoryMedium, MemoryShelf, Shelf, Stop, StopAt};
-use pseudo_time::NodeKind;
+use medium_port::{Medium, MediumFault, MemoryMedium, Stop, StopAt};
 use std::alloc::Global;
 use std::test::*;
-use std::{fs, process};
 
 // What bytes 10 to 12 of page 0 and byte 0 of page 1 read after a stop and a reopening. Before the
 // stop 1, 2, 3 was written at 10 of page 0 and synced, then 7, 8 at 11, and then 9 at 0 of page 1.
