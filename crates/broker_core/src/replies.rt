@@ -237,8 +237,7 @@ pub fn reply_to(
             Ok(while_opening(index, finished, &last, heard, message))
         }
         Phase::Reading(object) => {
-            let reply =
-                while_reading(ledger.alloc(), index, *object, &last, heard, message)?;
+            let reply = while_reading(ledger.alloc(), index, *object, &last, heard, message)?;
             Ok(reply)
         }
         Phase::Writing(object, _) => {

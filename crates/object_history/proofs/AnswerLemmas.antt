@@ -329,18 +329,22 @@ either-end (Some x) (Some y) e h = choice (lt x y) h
 
 later-of : (m : List Mark) (o : ObjectId) (t e : TimeParts) (r : Option Seen) → write_newest t r (reach m o r) ≡ write.LaterRead e → (lt t e ≡ true) × (Has (Stretch o e) m ⊎ Has (Floor e) m)
 later-of m o t e None h =
-    let k = read-reach t (reach m o None) e h in
-    (k.0, elim (either-end (floor_of m) (stretched m o None) e k.1) [
-      | inl f ↦ inr (floor-stands m e f)
-      | inr s ↦ inl (stretch-stands m o None e s)
-    ])
+    let k = read-reach t (reach m o None) e h in (
+      k.0,
+      elim (either-end (floor_of m) (stretched m o None) e k.1) [
+        | inl f ↦ inr (floor-stands m e f)
+        | inr s ↦ inl (stretch-stands m o None e s)
+      ],
+    )
 later-of m o t e (Some q) h =
     let g = newest-later t (lt q.start t) q (reach m o (Some q)) e refl h in
-    let k = read-reach t (reach m o (Some q)) e g.1 in
-    (k.0, elim (either-end (floor_of m) (top q.start (stretched m o (Some q.place))) e k.1) [
-      | inl f ↦ inr (floor-stands m e f)
-      | inr s ↦ inl (stretch-stands m o (Some q.place) e (top-rest q.start e t (stretched m o (Some q.place)) g.0 k.0 s))
-    ])
+    let k = read-reach t (reach m o (Some q)) e g.1 in (
+      k.0,
+      elim (either-end (floor_of m) (top q.start (stretched m o (Some q.place))) e k.1) [
+        | inl f ↦ inr (floor-stands m e f)
+        | inr s ↦ inl (stretch-stands m o (Some q.place) e (top-rest q.start e t (stretched m o (Some q.place)) g.0 k.0 s))
+      ],
+    )
 
 pub later-read : (m : List Mark) (o : ObjectId) (t : TimeParts) (v : Value) (e : TimeParts) → write_step m o t v ≡ write.LaterRead e →
     (lt t e ≡ true) × (Has (Stretch o e) m ⊎ Has (Floor e) m)
