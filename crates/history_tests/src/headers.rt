@@ -286,6 +286,7 @@ fn a_file_overwritten(rt: HostRuntime) -> Result<(), Fail> {
     let alloc = rt.alloc();
     let folder = format!(in alloc; "/tmp/swallow-headers-{}", process::id(rt.process()))?;
     let path = format!(in alloc; "{}/repository-1-0", folder.as_str())?;
+    let lock = format!(in alloc; "{}/lock", folder.as_str())?;
     let table = in_file(alloc, &rt, folder.as_str())?;
     let zeros = [0u8; 16384];
     let written = fs::write(&rt, path.as_str(), &zeros).is_ok();
@@ -293,6 +294,8 @@ fn a_file_overwritten(rt: HostRuntime) -> Result<(), Fail> {
     let got = said_last(table, Call::Read((2, 1, 1)));
     assert_eq!(rt; got, Err(HistoryFault::Damaged { page: 1 }));
     let removed = fs::remove_file(&rt, path.as_str()).is_ok();
+    assert!(rt; removed);
+    let removed = fs::remove_file(&rt, lock.as_str()).is_ok();
     assert!(rt; removed);
     let removed = fs::remove_dir(&rt, folder.as_str()).is_ok();
     assert!(rt; removed);
