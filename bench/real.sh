@@ -1,7 +1,7 @@
 #!/usr/bin/env bash
 # What no proof speaks of: files, folders and streams as the system has them. Runs the program that ./swallow starts with
 # closed streams, two at a time on one folder, over each mistake with a folder or a file (each has to give
-# its line on standard error), on a full file system, and ends it by kills (200, or as often as the first
+# its line on standard error), on a full file system, under a limit on the size of files, and ends it by kills (200, or as often as the first
 # word says: see kills.sh). It ends with a count, and with status 0 where all were right. What wants another
 # user or a mount is left out, and said, where the system refuses it.
 top="$(cd "$(dirname "${BASH_SOURCE[0]}")/.." && pwd)" || exit 1
@@ -185,7 +185,7 @@ if mount -t tmpfs -o size=256k tmpfs "$work/small" 2> /dev/null; then
   mounted="$work/small"
   numbered one | "$program" "$work/small" run > /dev/null 2> "$work/err"
   is "status while there is room" "$?" 0
-  numbered many | "$program" "$work/small" run > "$work/out" 2> "$work/err"
+  numbered many | timeout 60 "$program" "$work/small" run > "$work/out" 2> "$work/err"
   is "status of a full file system" "$?" 6
   has "line of a full file system" "$work/err" "swallow: $work/small/repository-1-0: No space left on device"
   is "lines of a full file system" "$(grep -c "No space left" "$work/err")" 1
@@ -198,6 +198,17 @@ if mount -t tmpfs -o size=256k tmpfs "$work/small" 2> /dev/null; then
 else
   skip "a full and a read-only file system: no mount here"
 fi
+
+# ---- a limit on the size of files, as a shell sets one
+
+# The starter has the system answer an error in place of a signal.
+(ulimit -f 1024 && trap '' XFSZ && numbered one | timeout 60 "$program" "$work/limit" run > "$work/out" 2> "$work/err")
+is "status with a limit on the size of files" "$?" 6
+has "line of a limit on the size of files" "$work/err" "swallow: $work/limit/repository-1-0: File too large"
+numbered one | "$program" "$work/limit" run > /dev/null 2> "$work/err"
+is "status where the limit is gone" "$?" 0
+(ulimit -f 1024 && printf "$head" | timeout 60 "$top/swallow" "$work/limited" run > /dev/null 2> "$work/err")
+is "status of the starter with a limit on the size of files" "$?" 6
 
 # ---- kills
 

@@ -214,6 +214,17 @@ build_and_compare() {
   return 1
 }
 
+# Starts the program for somebody who reads standard error, and says what to do where the folder has another run.
+start_before_a_reader() {
+  local status
+  "$program" "$@"
+  status=$?
+  [ "$status" -ne 2 ] ||
+    say "for 'other plan' and 'old run': raise the number of 'run' in the plan's second line, or take another folder (docs/COMMANDS.md)"
+  [ "$status" -ne 126 ] || return
+  exit "$status"
+}
+
 # Starts the program of a crate with the words behind it. One word alone may be the starter's: `build`, `--help`, `--version`.
 start() {
   local words=("${@:2}")
@@ -226,6 +237,8 @@ start() {
   fi
   find_program "$1" || exit 70
   [ "$program" = "$built" ] || [ ! -t 2 ] || say "this is the program of release/; './$name build' proves and builds it here, and compares them"
+  trap '' XFSZ # the program gets a limit on the size of files as an error of its write
+  [ ! -t 2 ] || start_before_a_reader "${words[@]}"
   shopt -s execfail
   exec "$program" "${words[@]}"
   say "$program can't be started"
