@@ -1,9 +1,10 @@
 #!/usr/bin/env bash
-# Renews release/ behind a gate that passed: bench/release.sh LOG [FOLDER]. LOG is what `rt ci` printed, and FOLDER the checkout
-# that it ran in, or this one. Behind a gate the programs that it proved and ran lie there, as crates/NAME/out/NAME: `rt ci`
-# puts away what it found in out/, and leaves what it built (by LLVM; NAME.by-rattle is the other compiler's). The sources
-# there and here have to be the same, and each program later than its sources and earlier than the end of the log. Writes the
-# two programs and release/README.md, which names the last commit of this checkout: let it be the one of the gate.
+# Renews release/ behind a gate that passed: bench/release.sh LOG [FOLDER]. LOG is what `rt ci` printed, and FOLDER the
+# checkout that it ran in, or this one. Behind a gate the programs that it proved and ran lie there, as crates/NAME/out/NAME:
+# `rt ci` puts away what it found in out/, and leaves what it built (by LLVM; NAME.by-rattle is the other compiler's). The
+# sources there and here have to be the same, and each program earlier than the end of the log and, unless the log says that
+# it is kept of an earlier gate, later than its sources. Writes the two programs and release/README.md, which names the last
+# commit of this checkout: let it be the one of the gate.
 # `bench/release.sh check` changes nothing: status 0 where the sums in release/README.md are those of the sources here and of
 # the programs, else 1, and it says what differs.
 top="$(cd "$(dirname "${BASH_SOURCE[0]}")/.." && pwd)" || exit 1
@@ -30,8 +31,11 @@ look_at() {
   local made="$1/crates/$crate/out/$crate" newer
   [ -x "$made" ] || fail "there is no $made, as a gate that passed leaves one"
   [ "$(top="$1" sum_of_places "${places[@]}")" = "$sources" ] || fail "the sources of $crate in $1 aren't those here"
-  newer=$(cd "$1" && find "${places[@]}" -newer "$made" -print -quit) || fail "the sources in $1 can't be read"
-  [ -z "$newer" ] || fail "$newer was changed after $made was built"
+  # A program that an earlier gate built here is older than the sources of a new checkout: the log says that they are the same.
+  if ! grep -q "^rt: $crate is kept: " "$log"; then
+    newer=$(cd "$1" && find "${places[@]}" -newer "$made" -print -quit) || fail "the sources in $1 can't be read"
+    [ -z "$newer" ] || fail "$newer was changed after $made was built"
+  fi
   [ ! "$made" -nt "$log" ] || fail "$made was built after the gate of $log"
 }
 
