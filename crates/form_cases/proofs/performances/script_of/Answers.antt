@@ -1,6 +1,6 @@
 use Rattle.value_form.specs.Mirror.{block}
 use Rattle.script_form.proofs.RangeLemmas.{printable-range}
-use Rattle.core_tests.proofs.scripts.script_of.Goals as goal
+use Rattle.form_cases.proofs.performances.script_of.Goals as goal
 
 -- the script of a text that was parsed is one of the language
 pub returns-in-Ok : goal.returns-in-Ok
