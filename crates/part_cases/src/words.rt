@@ -1,0 +1,79 @@
+//! What the words of a line name.
+ghost use Rattle.std.specs.Prelude.{IfOk};
+ghost use Rattle.message_form.specs.Messages.{IsMessage};
+
+use crate::faults::CaseFault;
+use message_form::Message;
+use pseudo_time::{Decision, NodeId, NodeKind, Stamp};
+use std::alloc::Global;
+
+/// A number, which a plain parse gives.
+pub fn number(word: &str) -> Result<u64, CaseFault> {
+    word.parse::<u64>().ok().ok_or(CaseFault::Line)
+}
+
+/// A number of 32 bits.
+pub fn small(word: &str) -> Result<u32, CaseFault> {
+    word.parse::<u32>().ok().ok_or(CaseFault::Line)
+}
+
+/// A number of a byte.
+pub fn byte(word: &str) -> Result<u8, CaseFault> {
+    word.parse::<u8>().ok().ok_or(CaseFault::Line)
+}
+
+/// A node, `repository 1` or `broker 1`.
+pub fn node(kind: &str, word: &str) -> Result<NodeId, CaseFault> {
+    let kind = match kind {
+        "repository" => NodeKind::Repository,
+        "broker" => NodeKind::Broker,
+        _ => return Err(CaseFault::Line),
+    };
+    Ok(NodeId {
+        kind,
+        number: byte(word)?,
+    })
+}
+
+/// A stamp, `1.1.1`: its clock, its broker and its home.
+pub fn stamp(word: &str) -> Result<Stamp, CaseFault> {
+    let (clock, rest) = word.split_once('.').ok_or(CaseFault::Line)?;
+    let (broker, home) = rest.split_once('.').ok_or(CaseFault::Line)?;
+    Stamp::new(number(clock)?, byte(broker)?, byte(home)?).ok_or(CaseFault::Line)
+}
+
+/// A decision, `committed`, `withdrawn` or `expired DEADLINE MOMENT`.
+pub fn decision(words: &[&str]) -> Result<Decision, CaseFault> {
+    match words {
+        [word] if *word == "committed" => Ok(Decision::Committed),
+        [word] if *word == "withdrawn" => Ok(Decision::Withdrawn),
+        [word, deadline, moment] if *word == "expired" => Ok(Decision::Expired {
+            deadline: number(deadline)?,
+            moment: number(moment)?,
+        }),
+        _ => Err(CaseFault::Line),
+    }
+}
+
+/// The bytes whose digits the words are, one behind the other.
+pub fn bytes(alloc: Global, words: &[&str]) -> Result<Vec<u8>, CaseFault> {
+    let mut all = Vec::new(alloc);
+    for word in words {
+        let Ok(more) = hex::decode(alloc, *word) else {
+            return Err(CaseFault::Bytes);
+        };
+        all.extend_from_slice(more.as_slice())?;
+    }
+    Ok(all)
+}
+
+/// The message whose bytes the words are.
+pub fn message(alloc: Global, words: &[&str]) -> Result<Message, CaseFault>
+    ensures { IfOk result (λ m. IsMessage m) }
+{
+    let bytes = bytes(alloc, words)?;
+    match message_form::read(alloc, bytes.as_slice()) {
+        Ok(message) => Ok(message),
+        Err(_) => Err(CaseFault::Message),
+    }
+}

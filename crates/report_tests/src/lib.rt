@@ -1,0 +1,5 @@
+//! Tests of the text of a report.
+#![tactic(auto)]
+
+#[cfg(test)]
+mod reports;
