@@ -187,11 +187,15 @@ if mount -t tmpfs -o size=256k tmpfs "$work/small" 2> /dev/null; then
   is "status while there is room" "$?" 0
   numbered many | timeout 60 "$program" "$work/small" run > "$work/out" 2> "$work/err"
   is "status of a full file system" "$?" 6
-  has "line of a full file system" "$work/err" "swallow: $work/small/repository-1-0: No space left on device"
+  # The repository's file or the broker's, by which of them came to the end first.
+  has "line of a full file system" "$work/err" "-1-0: No space left on device"
   is "lines of a full file system" "$(grep -c "No space left" "$work/err")" 1
   acts=$(grep -c '^try .* committed' "$work/out")
   mount -o remount,size=64m "$work/small"
-  is "acts of a file system that was full" "$(held "$work/small")" "$((acts + 1))"
+  # An act that is open by its broker's log may have been committed at its home.
+  open=$(grep -c '^try .* open' "$work/out")
+  now=$(held "$work/small")
+  is "acts of a file system that was full" "$((now >= acts + 1 && now <= acts + 1 + open))" 1
   mount -o remount,ro "$work/small"
   mistake "a read-only file system" "$work/small" "Read-only file system"
   umount "$work/small" && mounted=""
