@@ -1,6 +1,5 @@
 use Rattle.std.proofs.Common.{◌≡◌, ◌∙◌, Some, length, slice_get, sym, subst, ap, arith}
 use Rattle.std.specs.Prelude.{All}
-use Rattle.run_media.specs.Media.{media_with}
 use Rattle.seat_lock.specs.Words.{base_of}
 use Rattle.run_media.specs.Openings.{FirstRefusal, IsInRange, IsOpen}
 use Rattle.run_starts.specs.Starts.{IsSetUp}
@@ -13,11 +12,11 @@ use Rattle.run_rounds.proofs.runs.run.Goals as goal
 
 pub first_refusal-requires-clause-in_range : goal.first_refusal-requires-clause-in_range
 first_refusal-requires-clause-in_range g c =
-    subst (All IsInRange) (sym c.as_slice.ensures.value) (opened-in-range (media_with g.M.Medium.tells g.M.Medium.reads g.M.Medium.may_leave g.M.Medium.page_count g.M.Medium.faults g.M.Medium.is_failed) c.args.media.items c.open_all-media.result.1.items c.open_all-media.ensures.opened)
+    subst (All IsInRange) (sym c.as_slice.ensures.value) (opened-in-range g.M.Medium c.args.media.items c.open_all-media.result.1.items c.open_all-media.ensures.opened)
 
 pub returns-in-Some : goal.returns-in-Some
 returns-in-Some g c =
-    let w = media_with g.M.Medium.tells g.M.Medium.reads g.M.Medium.may_leave g.M.Medium.page_count g.M.Medium.faults g.M.Medium.is_failed in
+    let w = g.M.Medium in
     subst (λ left. EndsAs w c.args.limits.ticks c.args.limits.messages c.args.plan.now (tellers (g.F.Fates.asked c.args.fates) (g.F.Fates.asked c.unbegun.result.fates) (g.C.Clock.answers c.args.clock) (g.C.Clock.answers c.unbegun.result.clock)) c.args.media.items left c.unbegun.result.end) (sym c.unbegun.ensures.media)
     (ends-refused w c.args.limits.ticks c.args.limits.messages c.args.plan.now (tellers (g.F.Fates.asked c.args.fates) (g.F.Fates.asked c.unbegun.result.fates) (g.C.Clock.answers c.args.clock) (g.C.Clock.answers c.unbegun.result.clock)) c.args.media.items c.open_all-media.result.1.items c.open_all-media.ensures.opened c.unbegun.result.end c.in-Some.refusal
     (subst (IsEndFor c.in-Some.refusal) (sym c.unbegun.ensures.end) c.refused.ensures) (sym (ap length c.as_slice.ensures.value) ∙ (c.as_slice.ensures.len ∙ (c.open_all-media.ensures.count ∙ omega (arith, c.requires.count, c.args.media.ok))))
@@ -26,13 +25,13 @@ returns-in-Some g c =
 
 pub returns-in_default : goal.returns-in_default
 returns-in_default g c =
-    let w = media_with g.M.Medium.tells g.M.Medium.reads g.M.Medium.may_leave g.M.Medium.page_count g.M.Medium.faults g.M.Medium.is_failed in
+    let w = g.M.Medium in
     let told = tellers (g.F.Fates.asked c.args.fates) (g.F.Fates.asked c.args.fates) (g.C.Clock.answers c.args.clock) (g.C.Clock.answers c.args.clock) in
     subst (λ left. EndsAs w c.args.limits.ticks c.args.limits.messages c.args.plan.now told c.args.media.items left end.NoMemory) (sym c.of.ensures) (ends-untried w c.args.limits.ticks c.args.limits.messages c.args.plan.now told c.args.media.items)
 
 pub with_nodes-requires-clause-sound : goal.with_nodes-requires-clause-sound
 with_nodes-requires-clause-sound g c κs within =
-    sound-of (media_with g.M.Medium.tells g.M.Medium.reads g.M.Medium.may_leave g.M.Medium.page_count g.M.Medium.faults g.M.Medium.is_failed) c.args.media.items c.open_all-media.result.1.items c.open_all-media.ensures.opened
+    sound-of g.M.Medium c.args.media.items c.open_all-media.result.1.items c.open_all-media.ensures.opened
     (subst (All IsOpen) c.as_slice-in-Ok-wire_for.ensures.value (c.are_open.ensures.open c.if-are_open.true))
 
 pub without_nodes-requires-clause-shut : goal.without_nodes-requires-clause-shut
@@ -42,7 +41,7 @@ without_nodes-requires-clause-shut g c =
 
 pub returns-in-Err : goal.returns-in-Err
 returns-in-Err g c =
-    let w = media_with g.M.Medium.tells g.M.Medium.reads g.M.Medium.may_leave g.M.Medium.page_count g.M.Medium.faults g.M.Medium.is_failed in
+    let w = g.M.Medium in
     let u = c.unbegun-in-Err in
     let told = tellers (g.F.Fates.asked c.args.fates) (g.F.Fates.asked u.result.fates) (g.C.Clock.answers c.args.clock) (g.C.Clock.answers u.result.clock) in
     subst (λ e. EndsAs w c.args.limits.ticks c.args.limits.messages c.args.plan.now told c.args.media.items u.result.media e) (sym u.ensures.end)
@@ -51,7 +50,7 @@ returns-in-Err g c =
 
 pub returns-then-are_open : goal.returns-then-are_open
 returns-then-are_open g c =
-    let w = media_with g.M.Medium.tells g.M.Medium.reads g.M.Medium.may_leave g.M.Medium.page_count g.M.Medium.faults g.M.Medium.is_failed in
+    let w = g.M.Medium in
     let r = c.with_nodes.result in
     let o = (base_of c.in-Ok-wire_for.begun.wire.lock).origin in
     let os = c.open_all-media.result.1.items in
@@ -61,7 +60,7 @@ returns-then-are_open g c =
 
 pub returns-else-are_open : goal.returns-else-are_open
 returns-else-are_open g c =
-    let w = media_with g.M.Medium.tells g.M.Medium.reads g.M.Medium.may_leave g.M.Medium.page_count g.M.Medium.faults g.M.Medium.is_failed in
+    let w = g.M.Medium in
     let r = c.without_nodes.result in
     let o = (base_of c.in-Ok-wire_for.begun.wire.lock).origin in
     let os = c.open_all-media.result.1.items in

@@ -1,5 +1,4 @@
 use Rattle.std.proofs.Common.{◌∙◌, ap, length, arith}
-use Rattle.run_media.specs.Media.{media_with}
 use Rattle.run_rounds.specs.Finishes.{tellers}
 use Rattle.swallow_top.specs.Shelves.{kept_from, shelf_sight}
 use Rattle.swallow_top.specs.Written.{sinking}
@@ -10,17 +9,17 @@ use Rattle.swallow_top.proofs.top.run_plan.Goals as goal
 pub run-end-requires-clause-usable : goal.run-end-requires-clause-usable
 run-end-requires-clause-usable g c κs within =
     let m = g.S.Medium.Medium in
-    let w = media_with m.tells m.reads m.may_leave m.page_count m.faults m.is_failed in
+    let w = m in
     let h = g.S.Shelf in
-    let old = shelf_sight (h.holds c.args.shelf.now) (h.may_hold c.args.shelf.now) (h.medium_faults c.args.shelf.now) (h.is_taken c.args.shelf.now) (h.faults c.args.shelf.now) in
+    let old = shelf_sight h c.args.shelf.now in
     usable w old c.args.plan.now 0 c.take_all-media.result.items c.take_all-media.ensures.taken.are
 
 pub keep_all-media-requires-clause-within : goal.keep_all-media-requires-clause-within
 keep_all-media-requires-clause-within g c =
     let m = g.S.Medium.Medium in
-    let w = media_with m.tells m.reads m.may_leave m.page_count m.faults m.is_failed in
+    let w = m in
     let h = g.S.Shelf in
-    let old = shelf_sight (h.holds c.args.shelf.now) (h.may_hold c.args.shelf.now) (h.medium_faults c.args.shelf.now) (h.is_taken c.args.shelf.now) (h.faults c.args.shelf.now) in
+    let old = shelf_sight h c.args.shelf.now in
     let told = tellers (g.F.Fates.asked c.args.fates) (g.F.Fates.asked c.run-end.result.fates) (g.C.Clock.answers c.args.clock) (g.C.Clock.answers c.run-end.result.clock) in
     let media = c.take_all-media.result.items in
     let left = c.run-end.result.media in
@@ -33,9 +32,9 @@ keep_all-media-requires-clause-within g c =
 pub keep_all-media-requires-clause-room : goal.keep_all-media-requires-clause-room
 keep_all-media-requires-clause-room g c =
     let m = g.S.Medium.Medium in
-    let w = media_with m.tells m.reads m.may_leave m.page_count m.faults m.is_failed in
+    let w = m in
     let h = g.S.Shelf in
-    let old = shelf_sight (h.holds c.args.shelf.now) (h.may_hold c.args.shelf.now) (h.medium_faults c.args.shelf.now) (h.is_taken c.args.shelf.now) (h.faults c.args.shelf.now) in
+    let old = shelf_sight h c.args.shelf.now in
     let told = tellers (g.F.Fates.asked c.args.fates) (g.F.Fates.asked c.run-end.result.fates) (g.C.Clock.answers c.args.clock) (g.C.Clock.answers c.run-end.result.clock) in
     let media = c.take_all-media.result.items in
     let left = c.run-end.result.media in
@@ -48,11 +47,11 @@ keep_all-media-requires-clause-room g c =
 pub returns-clause-ran : goal.returns-clause-ran
 returns-clause-ran g c =
     let m = g.S.Medium.Medium in
-    let w = media_with m.tells m.reads m.may_leave m.page_count m.faults m.is_failed in
+    let w = m in
     let h = g.S.Shelf in
-    let old = shelf_sight (h.holds c.args.shelf.now) (h.may_hold c.args.shelf.now) (h.medium_faults c.args.shelf.now) (h.is_taken c.args.shelf.now) (h.faults c.args.shelf.now) in
+    let old = shelf_sight h c.args.shelf.now in
     let sf = c.take_all-media.new.shelf in
-    let new = shelf_sight (h.holds sf) (h.may_hold sf) (h.medium_faults sf) (h.is_taken sf) (h.faults sf) in
+    let new = shelf_sight h sf in
     let told = tellers (g.F.Fates.asked c.args.fates) (g.F.Fates.asked c.run-end.result.fates) (g.C.Clock.answers c.args.clock) (g.C.Clock.answers c.run-end.result.clock) in
     let media = c.take_all-media.result.items in
     let left = c.run-end.result.media in
@@ -67,11 +66,11 @@ returns-clause-ran g c =
 pub returns-clause-kept : goal.returns-clause-kept
 returns-clause-kept g c =
     let m = g.S.Medium.Medium in
-    let w = media_with m.tells m.reads m.may_leave m.page_count m.faults m.is_failed in
+    let w = m in
     let h = g.S.Shelf in
-    let old = shelf_sight (h.holds c.args.shelf.now) (h.may_hold c.args.shelf.now) (h.medium_faults c.args.shelf.now) (h.is_taken c.args.shelf.now) (h.faults c.args.shelf.now) in
+    let old = shelf_sight h c.args.shelf.now in
     let sf = c.take_all-media.new.shelf in
-    let new = shelf_sight (h.holds sf) (h.may_hold sf) (h.medium_faults sf) (h.is_taken sf) (h.faults sf) in
+    let new = shelf_sight h sf in
     let told = tellers (g.F.Fates.asked c.args.fates) (g.F.Fates.asked c.run-end.result.fates) (g.C.Clock.answers c.args.clock) (g.C.Clock.answers c.run-end.result.clock) in
     let media = c.take_all-media.result.items in
     let left = c.run-end.result.media in
