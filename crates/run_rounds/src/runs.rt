@@ -4,7 +4,6 @@ ghost use Rattle.std.specs.List.{AllZip};
 ghost use Rattle.seat_lock.specs.Words.{base_of, fresh, knows};
 ghost use Rattle.plan_form.specs.PlanTexts.{IsOfLanguage};
 ghost use Rattle.wire_lock.specs.Sights.{IsWirePass};
-ghost use Rattle.run_media.specs.Media.{IsUsable};
 ghost use Rattle.run_media.specs.Openings.{AreReady, HasOpened, IsOpen, medium_in};
 ghost use Rattle.run_starts.specs.Deals.{HaveRoom, IsDealt};
 ghost use Rattle.run_starts.specs.Seats.{IsSound};
@@ -19,7 +18,7 @@ use crate::courses::rounds;
 use crate::ends::{End, Ended, Finished, closed_run};
 use medium_port::Medium;
 use plan_form::Plan;
-use run_media::{Opening, Refusal, are_open, first_refusal, give_back, open_all};
+use run_media::{Opening, Refusal, are_open, first_refusal, give_back};
 use run_starts::{
     Begun, Limits, Reason, RunNode, Seated, down_visits, empty_shares, open_nodes, wire_for,
 };
@@ -221,8 +220,8 @@ fn without_nodes<F: Fates, C: Clock, M: Medium, R: Wait>(
     closed_run(wire, ended)
 }
 
-/// Runs a plan over the media of its nodes, which stand in the order of the nodes: repositories first,
-/// rising. A medium that is missing couldn't be had.
+/// Runs a plan over what the media of its nodes were opened as, in the order of the nodes: repositories
+/// first, rising. A medium that is missing couldn't be had. The emptied list has room for the media.
 ///
 /// Where a node can't be opened its Down is told, and no round follows. Where a broker's log shows a
 /// later run or another plan, no run begins, and nothing is added to any log.
@@ -236,26 +235,21 @@ pub fn run<
     alloc: Global,
     plan: &Plan,
     limits: Limits,
+    openings: Vec<Opening<M>>,
     media: Vec<Option<M>>,
     fates: F,
     clock: C,
 ) -> Finished<F, C, M>
     requires plan { IsOfLanguage plan.now }
-    requires count { length media.items ≡ node_count plan.now }
-    requires usable { All (IsUsable M.Medium) media.items }
+    requires count { length openings.items ≡ node_count plan.now }
+    requires opened { (first : List (Option M)) × AllZip (HasOpened M.Medium) first openings.items }
+    requires empty { media.items ≡ [] }
+    requires room { vec_len openings ≤ vec_capacity media }
     requires workers { 1 ≤ limits.workers }
-    ensures { EndsAs M.Medium limits.ticks limits.messages plan.now
-        (tellers (F.asked fates) (F.asked result.fates) (C.answers clock) (C.answers result.clock)) media.items result.media result.end }
+    ensures { (first : List (Option M)) → AllZip (HasOpened M.Medium) first openings.items →
+        EndsAs M.Medium limits.ticks limits.messages plan.now
+        (tellers (F.asked fates) (F.asked result.fates) (C.answers clock) (C.answers result.clock)) first result.media result.end }
 {
-    let Ok(room) = Vec::with_capacity(alloc, media.len()) else {
-        return Finished {
-            end: End::NoMemory,
-            media: Items::of(media),
-            fates,
-            clock,
-        };
-    };
-    let (media, openings) = open_all(alloc, media, room);
     if let Some(refusal) = first_refusal(alloc, plan, openings.as_slice()) {
         return unbegun(refused(refusal), media, openings, fates, clock);
     }

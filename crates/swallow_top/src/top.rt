@@ -20,7 +20,7 @@ use crate::streams::write_all;
 use command_words::{Command, Options, read_words};
 use medium_port::{Medium, Shelf};
 use plan_form::{Plan, make};
-use run_media::node_count;
+use run_media::{node_count, open_all};
 use run_rounds::{Finished, Limits, Told, run};
 use serial_law::{
     law_of_added_reasons, law_of_answers, law_of_finals, law_of_reasons, law_of_serial_runs,
@@ -115,7 +115,11 @@ where
     let Ok(kept) = Vec::with_capacity(alloc, count) else {
         return quiet(alloc, 7, Vec::new(alloc), fates, clock);
     };
+    let Ok(found) = Vec::with_capacity(alloc, count) else {
+        return quiet(alloc, 7, Vec::new(alloc), fates, clock);
+    };
     let media = take_all(plan, shelf, count, room);
+    let (media, openings) = open_all(alloc, media, found);
     let limits = Limits {
         ticks: options.ticks,
         messages: options.messages,
@@ -126,7 +130,7 @@ where
         media,
         fates,
         clock,
-    } = run(rt, alloc, plan, limits, media, fates, clock);
+    } = run(rt, alloc, plan, limits, openings, media, fates, clock);
     let media = keep_all(plan, media.into_vec(), kept);
     law_of_serial_runs();
     law_of_finals();

@@ -6,8 +6,11 @@ use Rattle.swallow_top.proofs.RunLemmas.{end-long, runs-kept, runs-plan}
 use Rattle.swallow_top.proofs.ShelfLemmas.{usable}
 use Rattle.swallow_top.proofs.top.run_plan.Goals as goal
 
-pub run-end-requires-clause-usable : goal.run-end-requires-clause-usable
-run-end-requires-clause-usable g c κs within =
+pub run-end-requires-clause-opened : goal.run-end-requires-clause-opened
+run-end-requires-clause-opened g c κs within = (c.take_all-media.result.items, c.open_all-media.ensures.opened)
+
+pub open_all-media-requires-clause-usable : goal.open_all-media-requires-clause-usable
+open_all-media-requires-clause-usable g c =
     let m = g.S.Medium.Medium in
     let w = m in
     let h = g.S.Shelf in
@@ -25,7 +28,7 @@ keep_all-media-requires-clause-within g c =
     let left = c.run-end.result.media in
     let o = c.args.options in
     let plan = c.args.plan.now in
-    let long = end-long w o.ticks o.messages plan told media left c.run-end.result.end c.run-end.ensures in
+    let long = end-long w o.ticks o.messages plan told media left c.run-end.result.end (c.run-end.ensures media c.open_all-media.ensures.opened) in
     let same = ap length c.into_vec.ensures in
     omega (arith, long, same, c.into_vec.result.ok, c.take_all-media.result.ok, c.take_all-media.ensures.count, c.node_count-count.ensures)
 
@@ -40,7 +43,7 @@ keep_all-media-requires-clause-room g c =
     let left = c.run-end.result.media in
     let o = c.args.options in
     let plan = c.args.plan.now in
-    let long = end-long w o.ticks o.messages plan told media left c.run-end.result.end c.run-end.ensures in
+    let long = end-long w o.ticks o.messages plan told media left c.run-end.result.end (c.run-end.ensures media c.open_all-media.ensures.opened) in
     let same = ap length c.into_vec.ensures in
     omega (arith, long, same, c.into_vec.result.ok, c.take_all-media.result.ok, c.take_all-media.ensures.count, c.in-Ok-with_capacity.ensures.capacity)
 
@@ -61,7 +64,7 @@ returns-clause-ran g c =
     let s = sinking (k.taken c.args.sink.now) (k.taken c.tell-status.new.sink) (k.faults c.args.sink.now) (k.faults c.tell-status.new.sink) in
     let are = c.of.ensures ∙ (c.keep_all-media.ensures.kept ∙ ap (kept_from plan 0) c.into_vec.ensures) in
     runs-plan w old new plan o told media left c.take_all-media.ensures.taken c.requires.plan c.law_of_serial_runs.ensures c.law_of_finals.ensures c.law_of_reasons.ensures c.law_of_answers.ensures c.law_of_spent_acts.ensures c.law_of_added_reasons.ensures (omega (arith, c.take_all-media.result.ok, c.take_all-media.ensures.count, c.node_count-count.ensures))
-    c.args.wanted c.run-end.result.end c.tell-status.result.0 c.tell-status.result.1 s c.of.result are c.run-end.ensures c.tell-status.ensures
+    c.args.wanted c.run-end.result.end c.tell-status.result.0 c.tell-status.result.1 s c.of.result are (c.run-end.ensures media c.open_all-media.ensures.opened) c.tell-status.ensures
 
 pub returns-clause-kept : goal.returns-clause-kept
 returns-clause-kept g c =
@@ -77,4 +80,4 @@ returns-clause-kept g c =
     let o = c.args.options in
     let plan = c.args.plan.now in
     let are = c.of.ensures ∙ (c.keep_all-media.ensures.kept ∙ ap (kept_from plan 0) c.into_vec.ensures) in
-    runs-kept w old new plan o told media left c.take_all-media.ensures.taken c.requires.plan c.law_of_serial_runs.ensures c.law_of_finals.ensures c.law_of_reasons.ensures c.law_of_answers.ensures c.law_of_spent_acts.ensures c.law_of_added_reasons.ensures (omega (arith, c.take_all-media.result.ok, c.take_all-media.ensures.count, c.node_count-count.ensures)) c.run-end.result.end c.of.result are c.run-end.ensures
+    runs-kept w old new plan o told media left c.take_all-media.ensures.taken c.requires.plan c.law_of_serial_runs.ensures c.law_of_finals.ensures c.law_of_reasons.ensures c.law_of_answers.ensures c.law_of_spent_acts.ensures c.law_of_added_reasons.ensures (omega (arith, c.take_all-media.result.ok, c.take_all-media.ensures.count, c.node_count-count.ensures)) c.run-end.result.end c.of.result are (c.run-end.ensures media c.open_all-media.ensures.opened)
