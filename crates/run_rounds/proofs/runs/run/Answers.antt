@@ -26,12 +26,12 @@ returns-in-Some g c = λ first opened.
 pub with_nodes-requires-clause-sound : goal.with_nodes-requires-clause-sound
 with_nodes-requires-clause-sound g c κs within =
     sound-of g.M.Medium c.requires.opened.0 c.args.openings.items c.requires.opened.1
-    (subst (All IsOpen) c.as_slice-in-Ok-wire_for.ensures.value (c.are_open.ensures.open c.if-are_open.true))
+    (subst (All IsOpen) c.as_slice-in-Ok.ensures.value (c.are_open.ensures.open c.if-are_open.true))
 
 pub without_nodes-requires-clause-shut : goal.without_nodes-requires-clause-shut
 without_nodes-requires-clause-shut g c =
     let h = c.are_open.ensures.shut c.if-are_open.false in
-    (h.0, h.1, subst (λ os. slice_get os h.0 ≡ Some h.1) c.as_slice-in-Ok-wire_for.ensures.value h.2, h.3)
+    (h.0, h.1, subst (λ os. slice_get os h.0 ≡ Some h.1) c.as_slice-in-Ok.ensures.value h.2, h.3)
 
 pub returns-in-Err : goal.returns-in-Err
 returns-in-Err g c = λ first opened.
@@ -46,9 +46,9 @@ pub returns-then-are_open : goal.returns-then-are_open
 returns-then-are_open g c = λ first opened.
     let w = g.M.Medium in
     let r = c.with_nodes.result in
-    let o = (base_of c.in-Ok-wire_for.begun.wire.lock).origin in
+    let o = (base_of c.in-Ok.begun.wire.lock).origin in
     let os = c.args.openings.items in
-    let set = subst (λ l. IsSetUp c.args.plan.now l (g.F.Fates.asked c.args.fates) (g.C.Clock.answers c.args.clock) o) c.as_slice-2.ensures.value c.in-Ok-wire_for.ensures.set_up in
+    let set = subst (λ l. IsSetUp c.args.plan.now l (g.F.Fates.asked c.args.fates) (g.C.Clock.answers c.args.clock) o) c.as_slice-2.ensures.value c.in-Ok.ensures.set_up in
     ends-set-up w c.args.limits.ticks c.args.limits.messages c.args.plan.now os (g.F.Fates.asked c.args.fates) (g.F.Fates.asked r.fates) (g.C.Clock.answers c.args.clock) (g.C.Clock.answers r.clock) o first r.media r.end set
     (c.with_nodes.ensures first opened)
 
@@ -56,8 +56,8 @@ pub returns-else-are_open : goal.returns-else-are_open
 returns-else-are_open g c = λ first opened.
     let w = g.M.Medium in
     let r = c.without_nodes.result in
-    let o = (base_of c.in-Ok-wire_for.begun.wire.lock).origin in
+    let o = (base_of c.in-Ok.begun.wire.lock).origin in
     let os = c.args.openings.items in
-    let set = subst (λ l. IsSetUp c.args.plan.now l (g.F.Fates.asked c.args.fates) (g.C.Clock.answers c.args.clock) o) c.as_slice-2.ensures.value c.in-Ok-wire_for.ensures.set_up in
+    let set = subst (λ l. IsSetUp c.args.plan.now l (g.F.Fates.asked c.args.fates) (g.C.Clock.answers c.args.clock) o) c.as_slice-2.ensures.value c.in-Ok.ensures.set_up in
     ends-set-up w c.args.limits.ticks c.args.limits.messages c.args.plan.now os (g.F.Fates.asked c.args.fates) (g.F.Fates.asked r.fates) (g.C.Clock.answers c.args.clock) (g.C.Clock.answers r.clock) o first r.media r.end set
     (c.without_nodes.ensures c.args.limits.ticks c.args.limits.messages first opened)
