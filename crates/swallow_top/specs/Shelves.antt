@@ -21,7 +21,7 @@ pub record ShelfSight : Type 1 where
   pub faults : ℕ
 
 -- by what the members of the trait say of it
-abbrev pub shelf_sight : {S : Type 0} → Ghosts S → S → ShelfSight
+abbrev pub shelf_sight : {S M : Type 0} → Ghosts S M → S → ShelfSight
 shelf_sight g s = record { holds = g.holds s; may_hold = g.may_hold s; medium_faults = g.medium_faults s; is_taken = g.is_taken s; faults = g.faults s }
 
 -- the name of a node's medium
