@@ -130,7 +130,7 @@ module _ {M : Type 0} (c : Call M) where
 
   pub promise-load : (seed count : ℕ) (o : Options) (plan : Plan) → IsUnread c → AreWords (Load seed count o) c.words → plan ≡ made_plan seed count → RunsPlan c.media_are c.shelf_before c.shelf c.media plan (Summary seed) o c.told c.sink c.status → AllKept c.shelf_before c.shelf c.media → Promise c
   promise-load seed count o plan unread words made runs kept = record {
-    done = inr (inr (Load seed count o, words, unread, subst (λ p. RunsPlan c.media_are c.shelf_before c.shelf c.media p (Summary seed) o c.told c.sink c.status) made runs));
+    done = inr (inr (Load seed count o, words, (unread, subst (λ p. RunsPlan c.media_are c.shelf_before c.shelf c.media p (Summary seed) o c.told c.sink c.status) made runs)));
     kept = kept;
     statuses = runs-most c.media_are c.shelf_before c.shelf c.media plan (Summary seed) o c.told c.sink c.status runs;
   }

@@ -2,7 +2,7 @@ use Rattle.std.proofs.Common.{◌∙◌, ap, length, arith}
 use Rattle.run_rounds.specs.Finishes.{tellers}
 use Rattle.swallow_top.specs.Shelves.{kept_from, shelf_sight}
 use Rattle.swallow_top.specs.Written.{sinking}
-use Rattle.swallow_top.proofs.RunLemmas.{end-long, runs-kept, runs-plan}
+use Rattle.swallow_top.proofs.RunLemmas.{end-long, end-nodes, end-ranges, runs-kept, runs-plan}
 use Rattle.swallow_top.proofs.ShelfLemmas.{usable}
 use Rattle.swallow_top.proofs.top.run_plan.Goals as goal
 
@@ -46,6 +46,22 @@ keep_all-media-requires-clause-room g c =
     let long = end-long w o.ticks o.messages plan told media left c.run-end.result.end (c.run-end.ensures media c.open_all-media.ensures.opened) in
     let same = ap length c.into_vec.ensures in
     omega (arith, long, same, c.into_vec.result.ok, c.take_all-media.result.ok, c.take_all-media.ensures.count, c.in-Ok-with_capacity.ensures.capacity)
+
+pub tell-status-requires-clause-nodes : goal.tell-status-requires-clause-nodes
+tell-status-requires-clause-nodes g c =
+    let m = g.S.Medium.Medium in
+    let told = tellers (g.F.Fates.asked c.args.fates) (g.F.Fates.asked c.run-end.result.fates) (g.C.Clock.answers c.args.clock) (g.C.Clock.answers c.run-end.result.clock) in
+    let media = c.take_all-media.result.items in
+    let o = c.args.options in
+    end-nodes m o.ticks o.messages c.args.plan.now told media c.run-end.result.media c.run-end.result.end (c.run-end.ensures media c.open_all-media.ensures.opened)
+
+pub tell-status-requires-clause-ranges : goal.tell-status-requires-clause-ranges
+tell-status-requires-clause-ranges g c =
+    let m = g.S.Medium.Medium in
+    let told = tellers (g.F.Fates.asked c.args.fates) (g.F.Fates.asked c.run-end.result.fates) (g.C.Clock.answers c.args.clock) (g.C.Clock.answers c.run-end.result.clock) in
+    let media = c.take_all-media.result.items in
+    let o = c.args.options in
+    end-ranges m o.ticks o.messages c.args.plan.now told media c.run-end.result.media c.run-end.result.end (c.run-end.ensures media c.open_all-media.ensures.opened)
 
 pub returns-clause-ran : goal.returns-clause-ran
 returns-clause-ran g c =
