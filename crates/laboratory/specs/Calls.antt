@@ -2,15 +2,15 @@
 use Rattle.std.specs.Prelude.{◌≡◌, ◌⊎◌, ℕ, true, ◌==◌, List, [], ◌∷◌, ◌++◌, Some, replicate, codes}
 use Rattle.std.specs.List.{All, slice_split}
 use Rattle.std.specs.String.{string_bytes}
-use Rattle.medium_port.specs.MemoryMedia.{pages_of, reads_of, leaves, failed_in, faults_in}
+use Rattle.medium_port.specs.MemoryMedia.{pages_of, reads_of, leaves, failed_in, faults_in, last_of, moment_in, left_since_in}
 use Rattle.medium_port.specs.MemoryShelves.{TakenFrom, image_under, LeftUnder, faults_under, shelf_faults}
 use Rattle.medium_port.specs.declared.memory_media.MemoryMedium.{MemoryMedium}
 use Rattle.medium_port.specs.declared.memory_shelves.MemoryShelf.{MemoryShelf}
 use Rattle.wire_lock.specs.Stories.{no_trace}
-use Rattle.run_media.specs.Media.{Media, media_with}
+use Rattle.run_media.specs.Media.{Media}
 use Rattle.swallow_top.specs.Finishes.{account_of, tellers}
 use Rattle.swallow_top.specs.Promise.{Call, Promise}
-use Rattle.swallow_top.specs.Shelves.{ShelfSight, shelf_sight}
+use Rattle.swallow_top.specs.Shelves.{ShelfSight}
 use Rattle.swallow_top.specs.Written.{Sinking, GotLine}
 use Rattle.laboratory.specs.declared.options.Lab.{Lab}
 use Rattle.laboratory.specs.Fates.{asked_of, divisor_of}
@@ -28,10 +28,20 @@ abbrev pub cut : List ℕ → List (List ℕ)
 cut text = slice_split (λ b. b == 32) text
 
 abbrev pub memory_media : Media MemoryMedium
-memory_media = media_with true reads_of leaves pages_of faults_in failed_in
+memory_media = record {
+  tells = true;
+  page_count = pages_of;
+  is_failed = failed_in;
+  last_page = last_of;
+  faults = faults_in;
+  reads = reads_of;
+  may_leave = leaves;
+  moment = moment_in;
+  left_since = left_since_in;
+}
 
 abbrev pub sight_of : MemoryShelf → ShelfSight
-sight_of s = shelf_sight (image_under s) (LeftUnder s) (faults_under s) (TakenFrom s) (shelf_faults s)
+sight_of s = record { holds = image_under s; may_hold = LeftUnder s; medium_faults = faults_under s; is_taken = TakenFrom s; faults = shelf_faults s }
 
 -- the sink got nothing
 abbrev pub IsUnwritten : Sinking → Type 0

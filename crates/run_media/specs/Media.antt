@@ -1,21 +1,12 @@
 -- Media, and what is handed back of them.
-use Rattle.std.specs.Prelude.{◌≡◌, ℕ, Bool, false, IsTrue, List, Option, Some, None}
-use Rattle.medium_port.specs.Image.{Image, NoMore}
+use Rattle.std.specs.Prelude.{◌≡◌, false, IsTrue, List, Option, Some, None}
+use Rattle.medium_port.specs.Image.{NoMore}
+use Rattle.medium_port.specs.declared.media.Medium.{Ghosts}
 use Rattle.std.specs.List.{AllZip}
 
--- of media of one type: whether they tell their content, what reads give, what a crash may leave, how many pages there are, how often one failed, whether it
--- has failed and wasn't reopened since
-pub record Media (M : Type 0) : Type 1 where
-  pub tells : Bool
-  pub reads : M → Image
-  pub may_leave : M → Image → Type 0
-  pub page_count : M → ℕ
-  pub faults : M → ℕ
-  pub is_failed : M → Bool
-
-abbrev pub media_with : {M : Type 0} → Bool → (M → Image) → (M → Image → Type 0) → (M → ℕ) → (M → ℕ) → (M → Bool) → Media M
-media_with tells reads may_leave page_count faults is_failed =
-    record { tells = tells; reads = reads; may_leave = may_leave; page_count = page_count; faults = faults; is_failed = is_failed }
+-- what a type of media means by its members: the record that a clause calls `M.Medium`
+abbrev pub Media : Type 0 → Type 1
+Media M = Ghosts M
 
 -- the medium hasn't failed, unless it is missing
 abbrev pub IsUsable : {M : Type 0} → Media M → Option M → Type 0

@@ -1,7 +1,7 @@
 //! The media of a plan's nodes are opened, and given back.
 ghost use Rattle.std.specs.Prelude.{◌≡◌, ◌≤◌, [], map, vec_len, vec_capacity, slice_get, true, false, All, Some};
 ghost use Rattle.std.specs.List.{AllZip};
-ghost use Rattle.run_media.specs.Media.{IsUsable, media_with};
+ghost use Rattle.run_media.specs.Media.{IsUsable};
 ghost use Rattle.run_media.specs.Openings.{HasOpened, IsOpen, medium_in};
 
 use crate::openings::Opening;
@@ -12,8 +12,8 @@ use version_store::Store;
 
 /// Opens a medium, unless it is missing.
 pub fn open_one<M: Medium>(alloc: Global, medium: Option<M>) -> Opening<M>
-    requires usable { IsUsable (media_with M.tells M.reads M.may_leave M.page_count M.faults M.is_failed) medium }
-    ensures { HasOpened (media_with M.tells M.reads M.may_leave M.page_count M.faults M.is_failed) medium result }
+    requires usable { IsUsable M.Medium medium }
+    ensures { HasOpened M.Medium medium result }
 {
     let Some(medium) = medium else {
         return Opening::Shut(None, DownCause::Medium);
@@ -34,10 +34,10 @@ pub fn open_all<M: Medium>(
     media: Vec<Option<M>>,
     openings: Vec<Opening<M>>,
 ) -> (Vec<Option<M>>, Vec<Opening<M>>)
-    requires usable { All (IsUsable (media_with M.tells M.reads M.may_leave M.page_count M.faults M.is_failed)) media.items }
+    requires usable { All (IsUsable M.Medium) media.items }
     requires empty { openings.items ≡ [] }
     requires room { vec_len media ≤ vec_capacity openings }
-    ensures opened { AllZip (HasOpened (media_with M.tells M.reads M.may_leave M.page_count M.faults M.is_failed)) media.items result.1.items }
+    ensures opened { AllZip (HasOpened M.Medium) media.items result.1.items }
     ensures emptied { (result.0.items ≡ []) × (vec_capacity result.0 ≡ vec_capacity media) }
     ensures count { vec_len result.1 ≡ vec_len media }
     ensures room { vec_capacity result.1 ≡ vec_capacity openings }

@@ -51,19 +51,6 @@ module _ {M : Type 0} (w : Media M) where
   kept-alone (Some old) None h = absurd h
   kept-alone (Some old) (Some new) h = inl h
 
-  -- media as they were handed in
-  same-one : (old : Option M) → IsBack old old × IsKeptWhole w old old
-  same-one None = (tt, tt)
-  same-one (Some old) = (tt, inl (λ told c leaves. leaves))
-
-  pub same-back : (media : List (Option M)) → AreBack media media
-  same-back [] = tt
-  same-back (m ∷ media) = ((same-one m).0, same-back media)
-
-  pub same-kept : (media : List (Option M)) → AllZip (IsKeptWhole w) media media
-  same-kept [] = tt
-  same-kept (m ∷ media) = ((same-one m).1, same-kept media)
-
 module _ {M : Type 0} {g : _} (w : Media M) where
   in-range-one : (old : Option M) (o : Opening M g) → HasOpened w old o → IsInRange o
   in-range-one None (Open store effects) h = absurd h

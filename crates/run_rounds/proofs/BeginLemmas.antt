@@ -14,11 +14,7 @@ use Rattle.run_starts.specs.Starts.{IsSetUp}
 use Rattle.run_rounds.specs.declared.ends.End.{End}
 use Rattle.run_rounds.specs.declared.ends.End.TheVariants as end
 use Rattle.run_rounds.specs.Finishes.{EndsAs, IsEndFor, Tellers, tellers}
-use Rattle.run_rounds.proofs.BackLemmas.{first-fault, opened-alone, opened-back, opened-kept, same-back, same-kept}
-
--- nothing was opened
-pub ends-untried : {M : Type 0} (w : Media M) (most_ticks enough : ℕ) (plan : Plan) (told : Tellers) (media : List (Option M)) → EndsAs w most_ticks enough plan told media media end.NoMemory
-ends-untried w most_ticks enough plan told media = (same-back w media, same-kept w media)
+use Rattle.run_rounds.proofs.BackLemmas.{first-fault, opened-alone, opened-back, opened-kept}
 
 module _ {M : Type 0} {g : _} (w : Media M) (most_ticks enough : ℕ) (plan : Plan) where
   module _ (told : Tellers) (media : List (Option M)) where

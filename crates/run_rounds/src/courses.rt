@@ -4,7 +4,6 @@ ghost use Rattle.seat_lock.specs.Words.{knows};
 ghost use Rattle.wire_lock.specs.Sights.{IsWirePass};
 ghost use Rattle.trace_report.specs.Counts.{tick_count};
 ghost use Rattle.run_starts.specs.Nodes.{IsReady};
-ghost use Rattle.run_media.specs.Media.{media_with};
 ghost use Rattle.run_rounds.specs.Closings.{HaveGone};
 ghost use Rattle.run_starts.specs.Deals.{IsDealt, HaveRoom};
 
@@ -41,7 +40,7 @@ pub fn rounds<
     requires empty { (media.items ≡ []) × (passes.items ≡ []) }
     requires room { (vec_len nodes ≤ vec_capacity media) × (vec_len nodes < vec_capacity passes) }
     ensures passes { All (IsWirePass wire.now.lock) result.passes.items }
-    ensures gone { HaveGone (media_with M.tells M.reads M.may_leave M.page_count M.faults M.is_failed) limits nodes.items result.reason result.media.items
+    ensures gone { HaveGone M.Medium limits nodes.items result.reason result.media.items
         result.passes.items }
 {
     let count = nodes.len();

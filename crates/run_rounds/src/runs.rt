@@ -4,7 +4,6 @@ ghost use Rattle.std.specs.List.{AllZip};
 ghost use Rattle.seat_lock.specs.Words.{base_of, fresh, knows};
 ghost use Rattle.plan_form.specs.PlanTexts.{IsOfLanguage};
 ghost use Rattle.wire_lock.specs.Sights.{IsWirePass};
-ghost use Rattle.run_media.specs.Media.{IsUsable, media_with};
 ghost use Rattle.run_media.specs.Openings.{AreReady, HasOpened, IsOpen, medium_in};
 ghost use Rattle.run_starts.specs.Deals.{HaveRoom, IsDealt};
 ghost use Rattle.run_starts.specs.Seats.{IsSound};
@@ -19,7 +18,7 @@ use crate::courses::rounds;
 use crate::ends::{End, Ended, Finished, closed_run};
 use medium_port::Medium;
 use plan_form::Plan;
-use run_media::{Opening, Refusal, are_open, first_refusal, give_back, open_all};
+use run_media::{Opening, Refusal, are_open, first_refusal, give_back};
 use run_starts::{
     Begun, Limits, Reason, RunNode, Seated, down_visits, empty_shares, open_nodes, wire_for,
 };
@@ -90,9 +89,9 @@ fn with_nodes<
     requires empty { media.items ≡ [] }
     requires room { vec_len openings ≤ vec_capacity media }
     requires workers { 1 ≤ limits.workers }
-    requires sound { All (IsSound (media_with M.tells M.reads M.may_leave M.page_count M.faults M.is_failed)) openings.items }
-    ensures { (first : List (Option M)) → AllZip (HasOpened (media_with M.tells M.reads M.may_leave M.page_count M.faults M.is_failed)) first openings.items →
-        EndsAs (media_with M.tells M.reads M.may_leave M.page_count M.faults M.is_failed) limits.ticks limits.messages plan.now
+    requires sound { All (IsSound M.Medium) openings.items }
+    ensures { (first : List (Option M)) → AllZip (HasOpened M.Medium) first openings.items →
+        EndsAs M.Medium limits.ticks limits.messages plan.now
         (tellers (base_of begun.wire.lock).origin.asked (F.asked result.fates) (base_of begun.wire.lock).origin.answers
         (C.answers result.clock)) first result.media result.end }
 {
@@ -145,7 +144,7 @@ fn run_nodes<
     requires pass { IsWirePass wire.lock conductor × ((knows conductor).owner ≡ 0) × (tick_count (knows conductor).own ≡ 0) }
     requires empty { (media.items ≡ []) × (passes.items ≡ []) }
     requires room { (vec_len nodes ≤ vec_capacity media) × (vec_len nodes < vec_capacity passes) }
-    ensures { HasRun (media_with M.tells M.reads M.may_leave M.page_count M.faults M.is_failed) wire.lock limits nodes.items result.media result.end
+    ensures { HasRun M.Medium wire.lock limits nodes.items result.media result.end
         (F.asked result.fates) (C.answers result.clock) }
 {
     let ended = rounds(rt, &wire, limits, nodes, shares, conductor, media, passes);
@@ -199,8 +198,8 @@ fn without_nodes<F: Fates, C: Clock, M: Medium, R: Wait>(
     requires room { vec_len openings ≤ vec_capacity media }
     requires shut { (place : _) × (opening : _) × (slice_get openings.items place ≡ Some opening) × (IsOpen opening → ⊥) }
     ensures { (most_ticks enough : ℕ) (first : List (Option M)) →
-        AllZip (HasOpened (media_with M.tells M.reads M.may_leave M.page_count M.faults M.is_failed)) first openings.items →
-        EndsAs (media_with M.tells M.reads M.may_leave M.page_count M.faults M.is_failed) most_ticks enough plan.now
+        AllZip (HasOpened M.Medium) first openings.items →
+        EndsAs M.Medium most_ticks enough plan.now
         (tellers (base_of begun.wire.lock).origin.asked (F.asked result.fates) (base_of begun.wire.lock).origin.answers
         (C.answers result.clock)) first result.media result.end }
 {
@@ -221,8 +220,8 @@ fn without_nodes<F: Fates, C: Clock, M: Medium, R: Wait>(
     closed_run(wire, ended)
 }
 
-/// Runs a plan over the media of its nodes, which stand in the order of the nodes: repositories first,
-/// rising. A medium that is missing couldn't be had.
+/// Runs a plan over what the media of its nodes were opened as, in the order of the nodes: repositories
+/// first, rising. A medium that is missing couldn't be had. The emptied list has room for the media.
 ///
 /// Where a node can't be opened its Down is told, and no round follows. Where a broker's log shows a
 /// later run or another plan, no run begins, and nothing is added to any log.
@@ -236,26 +235,21 @@ pub fn run<
     alloc: Global,
     plan: &Plan,
     limits: Limits,
+    openings: Vec<Opening<M>>,
     media: Vec<Option<M>>,
     fates: F,
     clock: C,
 ) -> Finished<F, C, M>
     requires plan { IsOfLanguage plan.now }
-    requires count { length media.items ≡ node_count plan.now }
-    requires usable { All (IsUsable (media_with M.tells M.reads M.may_leave M.page_count M.faults M.is_failed)) media.items }
+    requires count { length openings.items ≡ node_count plan.now }
+    requires opened { (first : List (Option M)) × AllZip (HasOpened M.Medium) first openings.items }
+    requires empty { media.items ≡ [] }
+    requires room { vec_len openings ≤ vec_capacity media }
     requires workers { 1 ≤ limits.workers }
-    ensures { EndsAs (media_with M.tells M.reads M.may_leave M.page_count M.faults M.is_failed) limits.ticks limits.messages plan.now
-        (tellers (F.asked fates) (F.asked result.fates) (C.answers clock) (C.answers result.clock)) media.items result.media result.end }
+    ensures { (first : List (Option M)) → AllZip (HasOpened M.Medium) first openings.items →
+        EndsAs M.Medium limits.ticks limits.messages plan.now
+        (tellers (F.asked fates) (F.asked result.fates) (C.answers clock) (C.answers result.clock)) first result.media result.end }
 {
-    let Ok(room) = Vec::with_capacity(alloc, media.len()) else {
-        return Finished {
-            end: End::NoMemory,
-            media: Items::of(media),
-            fates,
-            clock,
-        };
-    };
-    let (media, openings) = open_all(alloc, media, room);
     if let Some(refusal) = first_refusal(alloc, plan, openings.as_slice()) {
         return unbegun(refused(refusal), media, openings, fates, clock);
     }

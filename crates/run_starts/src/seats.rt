@@ -6,7 +6,6 @@ ghost use Rattle.version_store.specs.StoreWords.{medium_of, effects_in};
 ghost use Rattle.seat_lock.specs.Words.{knows};
 ghost use Rattle.world_core.specs.Legal.{in_plan};
 ghost use Rattle.node_turn.specs.Nodes.{IsAtRest, new_node};
-ghost use Rattle.run_media.specs.Media.{media_with};
 ghost use Rattle.run_media.specs.Openings.{medium_in};
 ghost use Rattle.run_media.specs.Places as order;
 ghost use Rattle.run_starts.specs.Seats.{Along, CanOpen, CanSeat, IsNewNode};
@@ -124,7 +123,7 @@ fn seat<F: Fates, C: Clock, M: Medium>(
 ) -> Seated<F, C, M>
     requires plan { IsOfLanguage plan.now }
     requires place { place < order.node_count plan.now }
-    requires can { CanSeat (media_with M.tells M.reads M.may_leave M.page_count M.faults M.is_failed) plan.now start place opening pass }
+    requires can { CanSeat M.Medium plan.now start place opening pass }
     requires whole { seated.is_whole ≡ true → (vec_len seated.nodes ≡ place) × (vec_len seated.nodes < vec_capacity seated.nodes) ×
         (seated.media.items ≡ []) × (seated.passes.items ≡ []) }
     requires back { seated.is_whole ≡ false → (vec_len seated.media ≡ place) × (vec_len seated.passes ≡ place) }
@@ -200,7 +199,7 @@ pub fn open_nodes<F: Fates, C: Clock, M: Medium>(
 ) -> Seated<F, C, M>
     requires plan { IsOfLanguage plan.now }
     requires count { length openings.items ≤ order.node_count plan.now }
-    requires can { Along (CanSeat (media_with M.tells M.reads M.may_leave M.page_count M.faults M.is_failed) plan.now start) 0 openings.items passes.items }
+    requires can { Along (CanSeat M.Medium plan.now start) 0 openings.items passes.items }
     requires empty { (nodes.items ≡ []) × (media.items ≡ []) }
     requires room { (vec_len openings ≤ vec_capacity nodes) × (vec_len openings ≤ vec_capacity media) }
     ensures new { result.is_whole ≡ true → Along (IsNewNode plan.now) 0 openings.items result.nodes.items }

@@ -30,7 +30,7 @@ use Rattle.swallow_top.specs.Contract.{AllKept, CameOf, HasNoRun, IsNoPlan, Refu
 use Rattle.swallow_top.specs.Histories.{TellsHistory, ShowsDown, ShowsHistory, home_of}
 use Rattle.swallow_top.specs.Inputs.{OfInput}
 use Rattle.swallow_top.specs.Plans.{ReadsPlan}
-use Rattle.swallow_top.specs.Promise.{Call, HasNoWords, IsQuiet, Promise, WasDone}
+use Rattle.swallow_top.specs.Promise.{Call, HasNoWords, IsQuiet, IsUnread, Promise, WasDone}
 use Rattle.swallow_top.specs.Shelves.{ShelfSight}
 use Rattle.swallow_top.specs.Tellings.{status_of, status_with}
 use Rattle.swallow_top.specs.Written.{Sinking, Ends, EndsIfAny}
@@ -115,8 +115,8 @@ module _ {M : Type 0} (c : Call M) where
   refused-most stop.NoMemory h = omega (arith, h)
   refused-most stop.Sink h = omega (arith, h)
 
-  pub promise-none : AreNone c.words → RefusedAs stop.Words c.status c.sink → ((status : ℕ) → c.status ≡ status → IsQuiet c status) → AllKept c.shelf_before c.shelf c.media → Promise c
-  promise-none none refused quiet kept = record { done = inl (quiet 1 refused.0, none, refused.1); kept = kept; statuses = refused-most stop.Words refused }
+  pub promise-none : IsUnread c → AreNone c.words → RefusedAs stop.Words c.status c.sink → ((status : ℕ) → c.status ≡ status → IsQuiet c status) → AllKept c.shelf_before c.shelf c.media → Promise c
+  promise-none unread none refused quiet kept = record { done = inl (quiet 1 refused.0, unread, none, refused.1); kept = kept; statuses = refused-most stop.Words refused }
 
   pub promise-refused : (o : Options) (s : Stop) → AreWords (Run o) c.words → ReadsPlan c.input c.left c.faults_before c.faults (Err s) → RefusedAs s c.status c.sink → ((status : ℕ) → c.status ≡ status → IsQuiet c status) → AllKept c.shelf_before c.shelf c.media → Promise c
   promise-refused o s words read refused quiet kept = record { done = refused-run o s words read refused quiet; kept = kept; statuses = refused-most s refused }
@@ -128,9 +128,9 @@ module _ {M : Type 0} (c : Call M) where
     statuses = runs-most c.media_are c.shelf_before c.shelf c.media plan Report o c.told c.sink c.status runs;
   }
 
-  pub promise-load : (seed count : ℕ) (o : Options) (plan : Plan) → AreWords (Load seed count o) c.words → plan ≡ made_plan seed count → RunsPlan c.media_are c.shelf_before c.shelf c.media plan (Summary seed) o c.told c.sink c.status → AllKept c.shelf_before c.shelf c.media → Promise c
-  promise-load seed count o plan words made runs kept = record {
-    done = inr (inr (Load seed count o, words, subst (λ p. RunsPlan c.media_are c.shelf_before c.shelf c.media p (Summary seed) o c.told c.sink c.status) made runs));
+  pub promise-load : (seed count : ℕ) (o : Options) (plan : Plan) → IsUnread c → AreWords (Load seed count o) c.words → plan ≡ made_plan seed count → RunsPlan c.media_are c.shelf_before c.shelf c.media plan (Summary seed) o c.told c.sink c.status → AllKept c.shelf_before c.shelf c.media → Promise c
+  promise-load seed count o plan unread words made runs kept = record {
+    done = inr (inr (Load seed count o, words, (unread, subst (λ p. RunsPlan c.media_are c.shelf_before c.shelf c.media p (Summary seed) o c.told c.sink c.status) made runs)));
     kept = kept;
     statuses = runs-most c.media_are c.shelf_before c.shelf c.media plan (Summary seed) o c.told c.sink c.status runs;
   }
@@ -138,9 +138,9 @@ module _ {M : Type 0} (c : Call M) where
   pub promise-wanting : IsQuiet c 7 → AllKept c.shelf_before c.shelf c.media → Promise c
   promise-wanting quiet kept = record { done = inr (inl quiet); kept = kept; statuses = let e = quiet.status_is in omega (arith, e) }
 
-  pub promise-history : (object : ObjectId) → AreWords (History object) c.words → TellsHistory c.media_are c.shelf_before c.shelf object c.media c.sink c.status → HasNoRun c.told → Promise c
-  promise-history object words tells none = record {
-    done = inr (inr (History object, words, (tells, none)));
+  pub promise-history : (object : ObjectId) → IsUnread c → AreWords (History object) c.words → TellsHistory c.media_are c.shelf_before c.shelf object c.media c.sink c.status → HasNoRun c.told → Promise c
+  promise-history object unread words tells none = record {
+    done = inr (inr (History object, words, (unread, tells, none)));
     kept = λ name is was. let h = tells.back.others name is was in (home_of object, h.0, h.1, subst (Has (record { node = home_of object; volume = 0; medium = h.0 })) (sym h.2) (inl refl));
     statuses = tells-most c.media_are c.shelf_before c.shelf c.media object c.sink c.status tells;
   }

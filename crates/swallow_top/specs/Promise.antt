@@ -43,13 +43,17 @@ module _ {M : Type 0} (c : Call M) where
     pub none : c.media ≡ []
     pub no_run : HasNoRun c.told
 
+  -- nothing was read
+  abbrev pub IsUnread : Type 0
+  IsUnread = (c.left ≡ c.input) × (c.faults ≡ c.faults_before)
+
   -- the words are no command, and the sink got the line that says so
   abbrev pub HasNoWords : Type 0
-  HasNoWords = IsQuiet 1 × AreNone c.words × GotLine c.sink words_line
+  HasNoWords = IsQuiet 1 × IsUnread × AreNone c.words × GotLine c.sink words_line
 
   -- the source failed
-  abbrev pub HasNoInput : Type 0
-  HasNoInput = IsQuiet 3 × Rose c.faults_before c.faults × GotLine c.sink source_line
+  abbrev pub HasFailedSource : Type 0
+  HasFailedSource = IsQuiet 3 × Rose c.faults_before c.faults × GotLine c.sink source_line
 
   -- the input is no plan
   abbrev pub HasNoPlan : Type 0
@@ -61,9 +65,9 @@ module _ {M : Type 0} (c : Call M) where
 
   -- what was done for the command that the words are
   abbrev pub WasDone : Command → Type 0
-  WasDone (Run o) = HasNoInput ⊎ (HasNoPlan ⊎ HasRun o)
-  WasDone (Load seed count o) = RunsPlan c.media_are c.shelf_before c.shelf c.media (made_plan seed count) (Summary seed) o c.told c.sink c.status
-  WasDone (History object) = TellsHistory c.media_are c.shelf_before c.shelf object c.media c.sink c.status × HasNoRun c.told
+  WasDone (Run o) = HasFailedSource ⊎ (HasNoPlan ⊎ HasRun o)
+  WasDone (Load seed count o) = IsUnread × RunsPlan c.media_are c.shelf_before c.shelf c.media (made_plan seed count) (Summary seed) o c.told c.sink c.status
+  WasDone (History object) = IsUnread × TellsHistory c.media_are c.shelf_before c.shelf object c.media c.sink c.status × HasNoRun c.told
 
   pub record Promise : Type 0 where
     -- The words are no command; or memory was wanting before anything was done; or the words are a command, and this was done.

@@ -6,6 +6,7 @@ use Rattle.stream_port.specs.Causes.{Rose, RoseBy}
 use Rattle.medium_port.specs.Image.{Image}
 use Rattle.medium_port.specs.Names.{IsJustSo}
 use Rattle.medium_port.specs.declared.shelves.MediumName.{MediumName}
+use Rattle.medium_port.specs.declared.shelves.Shelf.{Ghosts}
 use Rattle.plan_form.specs.declared.plans.Plan.{Plan}
 use Rattle.run_media.specs.Media.{Media}
 use Rattle.run_media.specs.Places.{node_at}
@@ -19,8 +20,9 @@ pub record ShelfSight : Type 1 where
   pub is_taken : MediumName → Type 0
   pub faults : ℕ
 
-abbrev pub shelf_sight : (MediumName → Image) → (MediumName → Image → Type 0) → (MediumName → ℕ) → (MediumName → Type 0) → ℕ → ShelfSight
-shelf_sight holds may_hold medium_faults is_taken faults = record { holds = holds; may_hold = may_hold; medium_faults = medium_faults; is_taken = is_taken; faults = faults }
+-- by what the members of the trait say of it
+abbrev pub shelf_sight : {S M : Type 0} → Ghosts S M → S → ShelfSight
+shelf_sight g s = record { holds = g.holds s; may_hold = g.may_hold s; medium_faults = g.medium_faults s; is_taken = g.is_taken s; faults = g.faults s }
 
 -- the name of a node's medium
 abbrev pub medium_name : NodeId → MediumName

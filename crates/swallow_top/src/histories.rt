@@ -1,7 +1,6 @@
 //! The history of an object.
 ghost use Rattle.std.specs.Prelude.{◌≡◌, ◌≤◌, [], IfOk, vec_capacity};
 ghost use Rattle.report_writer.specs.Reports.{down_text};
-ghost use Rattle.run_media.specs.Media.{media_with};
 ghost use Rattle.swallow_top.specs.Histories.{TellsHistory, TellsOpening, TellsText};
 ghost use Rattle.swallow_top.specs.Shelves.{shelf_sight};
 ghost use Rattle.swallow_top.specs.Written.{sinking};
@@ -68,9 +67,9 @@ pub fn tell_history<O: Sink, S: Shelf>(
     sink: &mut O,
     shelf: &mut S,
 ) -> (u8, Vec<Kept<S::Medium>>)
-    ensures { TellsHistory (media_with S.Medium.tells S.Medium.reads S.Medium.may_leave S.Medium.page_count S.Medium.faults S.Medium.is_failed)
-        (shelf_sight (S.holds shelf.old) (S.may_hold shelf.old) (S.medium_faults shelf.old) (S.is_taken shelf.old) (S.faults shelf.old))
-        (shelf_sight (S.holds shelf.new) (S.may_hold shelf.new) (S.medium_faults shelf.new) (S.is_taken shelf.new) (S.faults shelf.new)) object result.1.items
+    ensures { TellsHistory S.Medium.Medium
+        (shelf_sight S.Shelf shelf.old)
+        (shelf_sight S.Shelf shelf.new) object result.1.items
         (sinking (O.taken sink.old) (O.taken sink.new) (O.faults sink.old) (O.faults sink.new)) result.0 }
 {
     let Ok(kept) = Vec::with_capacity(alloc, 1) else {

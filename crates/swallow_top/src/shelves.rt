@@ -1,7 +1,6 @@
 //! The media of nodes are taken from a shelf, and handed back under their names.
 ghost use Rattle.std.specs.Prelude.{◌≡◌, ◌≤◌, ◌<◌, ◌+◌, ◌++◌, [], length, vec_len, vec_capacity};
 ghost use Rattle.plan_form.specs.PlanTexts.{IsOfLanguage};
-ghost use Rattle.run_media.specs.Media.{media_with};
 ghost use Rattle.run_media.specs.Places as order;
 ghost use Rattle.swallow_top.specs.Shelves.{TakesOne, WereTaken, kept_from, kept_of, shelf_sight};
 
@@ -13,9 +12,9 @@ use run_media::node_at;
 
 /// Takes the medium of a node. None where the shelf gives none.
 pub fn take_one<S: Shelf>(shelf: &mut S, node: NodeId) -> Option<S::Medium>
-    ensures { TakesOne (media_with S.Medium.tells S.Medium.reads S.Medium.may_leave S.Medium.page_count S.Medium.faults S.Medium.is_failed)
-        (shelf_sight (S.holds shelf.old) (S.may_hold shelf.old) (S.medium_faults shelf.old) (S.is_taken shelf.old) (S.faults shelf.old))
-        (shelf_sight (S.holds shelf.new) (S.may_hold shelf.new) (S.medium_faults shelf.new) (S.is_taken shelf.new) (S.faults shelf.new)) node result }
+    ensures { TakesOne S.Medium.Medium
+        (shelf_sight S.Shelf shelf.old)
+        (shelf_sight S.Shelf shelf.new) node result }
 {
     match shelf.take(node.kind, node.number, 0) {
         Ok(medium) => Some(medium),
@@ -34,10 +33,9 @@ pub fn take_all<S: Shelf>(
     requires within { count ≤ order.node_count plan.now }
     requires empty { media.items ≡ [] }
     requires room { count ≤ vec_capacity media }
-    ensures taken { WereTaken (media_with S.Medium.tells S.Medium.reads S.Medium.may_leave S.Medium.page_count S.Medium.faults S.Medium.is_failed)
-        (shelf_sight (S.holds shelf.old) (S.may_hold shelf.old) (S.medium_faults shelf.old) (S.is_taken shelf.old) (S.faults shelf.old))
-        (shelf_sight (S.holds shelf.new) (S.may_hold shelf.new) (S.medium_faults shelf.new) (S.is_taken shelf.new)
-        (S.faults shelf.new)) plan.now result.items }
+    ensures taken { WereTaken S.Medium.Medium
+        (shelf_sight S.Shelf shelf.old)
+        (shelf_sight S.Shelf shelf.new) plan.now result.items }
     ensures count { vec_len result ≡ count }
     ensures room { vec_capacity result ≡ vec_capacity media }
 {

@@ -3,7 +3,6 @@ ghost use Rattle.std.specs.Prelude.{◌≡◌, ◌≤◌, []};
 ghost use Rattle.plan_form.specs.PlanTexts.{IsOfLanguage};
 ghost use Rattle.run_rounds.specs.Stories.{no_trace};
 ghost use Rattle.command_words.specs.Words.{said};
-ghost use Rattle.run_media.specs.Media.{media_with};
 ghost use Rattle.run_rounds.specs.Finishes.{account_of, tellers};
 ghost use Rattle.swallow_top.specs.Contract.{AllKept, RefusedAs, RunsPlan};
 ghost use Rattle.swallow_top.specs.Promise.{Promise};
@@ -21,7 +20,7 @@ use crate::streams::write_all;
 use command_words::{Command, Options, read_words};
 use medium_port::{Medium, Shelf};
 use plan_form::{Plan, make};
-use run_media::node_count;
+use run_media::{node_count, open_all};
 use run_rounds::{Finished, Limits, Told, run};
 use serial_law::{
     law_of_added_reasons, law_of_answers, law_of_finals, law_of_reasons, law_of_serial_runs,
@@ -101,14 +100,13 @@ where
     S::Medium: Drop + Send,
     requires plan { IsOfLanguage plan.now }
     requires workers { 1 ≤ options.workers }
-    ensures ran { RunsPlan (media_with S.Medium.tells S.Medium.reads S.Medium.may_leave S.Medium.page_count S.Medium.faults S.Medium.is_failed)
-        (shelf_sight (S.holds shelf.old) (S.may_hold shelf.old) (S.medium_faults shelf.old) (S.is_taken shelf.old) (S.faults shelf.old))
-        (shelf_sight (S.holds shelf.new) (S.may_hold shelf.new) (S.medium_faults shelf.new) (S.is_taken shelf.new)
-        (S.faults shelf.new)) result.media plan.now wanted options
+    ensures ran { RunsPlan S.Medium.Medium
+        (shelf_sight S.Shelf shelf.old)
+        (shelf_sight S.Shelf shelf.new) result.media plan.now wanted options
         (account_of result.trace (tellers (F.asked fates) (F.asked result.fates) (C.answers clock) (C.answers result.clock)))
         (sinking (O.taken sink.old) (O.taken sink.new) (O.faults sink.old) (O.faults sink.new)) result.status }
-    ensures kept { AllKept (shelf_sight (S.holds shelf.old) (S.may_hold shelf.old) (S.medium_faults shelf.old) (S.is_taken shelf.old) (S.faults shelf.old))
-        (shelf_sight (S.holds shelf.new) (S.may_hold shelf.new) (S.medium_faults shelf.new) (S.is_taken shelf.new) (S.faults shelf.new)) result.media }
+    ensures kept { AllKept (shelf_sight S.Shelf shelf.old)
+        (shelf_sight S.Shelf shelf.new) result.media }
 {
     let count = node_count(plan);
     let Ok(room) = Vec::with_capacity(alloc, count) else {
@@ -117,7 +115,11 @@ where
     let Ok(kept) = Vec::with_capacity(alloc, count) else {
         return quiet(alloc, 7, Vec::new(alloc), fates, clock);
     };
+    let Ok(found) = Vec::with_capacity(alloc, count) else {
+        return quiet(alloc, 7, Vec::new(alloc), fates, clock);
+    };
     let media = take_all(plan, shelf, count, room);
+    let (media, openings) = open_all(alloc, media, found);
     let limits = Limits {
         ticks: options.ticks,
         messages: options.messages,
@@ -128,7 +130,7 @@ where
         media,
         fates,
         clock,
-    } = run(rt, alloc, plan, limits, media, fates, clock);
+    } = run(rt, alloc, plan, limits, openings, media, fates, clock);
     let media = keep_all(plan, media.into_vec(), kept);
     law_of_serial_runs();
     law_of_finals();
@@ -192,9 +194,9 @@ where
       faults_before = I.faults source.old;
       faults = I.faults source.new;
       sink = (sinking (O.taken sink.old) (O.taken sink.new) (O.faults sink.old) (O.faults sink.new));
-      media_are = (media_with S.Medium.tells S.Medium.reads S.Medium.may_leave S.Medium.page_count S.Medium.faults S.Medium.is_failed);
-      shelf_before = (shelf_sight (S.holds shelf.old) (S.may_hold shelf.old) (S.medium_faults shelf.old) (S.is_taken shelf.old) (S.faults shelf.old));
-      shelf = (shelf_sight (S.holds shelf.new) (S.may_hold shelf.new) (S.medium_faults shelf.new) (S.is_taken shelf.new) (S.faults shelf.new));
+      media_are = S.Medium.Medium;
+      shelf_before = (shelf_sight S.Shelf shelf.old);
+      shelf = (shelf_sight S.Shelf shelf.new);
       told = (account_of result.trace (tellers (F.asked fates) (F.asked result.fates) (C.answers clock) (C.answers result.clock)));
       media = result.media;
     }) }

@@ -6,7 +6,6 @@ use Rattle.wire_core.specs.Wires.{base_from}
 use Rattle.wire_lock.proofs.SightLemmas.{pass-origin}
 use Rattle.run_starts.specs.Nodes.{IsReady}
 use Rattle.run_starts.specs.Reasons.{TicksAreWanted}
-use Rattle.run_media.specs.Media.{media_with}
 use Rattle.run_starts.proofs.AlongLemmas.{each-shared}
 use Rattle.run_rounds.proofs.CourseLemmas.{all-passes, dealt-again, have-gone, shares-count}
 use Rattle.run_rounds.proofs.courses.rounds.Goals as goal
@@ -17,13 +16,13 @@ go_on-shares-requires-clause-ready g c κs within =
 
 pub collect-nodes-requires-clause-some : goal.collect-nodes-requires-clause-some
 collect-nodes-requires-clause-some g c =
-    let w = media_with g.M.Medium.tells g.M.Medium.reads g.M.Medium.may_leave g.M.Medium.page_count g.M.Medium.faults g.M.Medium.is_failed in
+    let w = g.M.Medium in
     let n = shares-count w (length c.args.shares.items) c.requires.some c.args.nodes.items c.deal-nodes.result.1.items c.go_on-shares.result.0.items c.deal-nodes.ensures.dealt c.deal-nodes.ensures.count c.go_on-shares.ensures.went in
     let some = c.requires.some in omega (arith, n, some)
 
 pub collect-nodes-requires-clause-dealt : goal.collect-nodes-requires-clause-dealt
 collect-nodes-requires-clause-dealt g c =
-    let w = media_with g.M.Medium.tells g.M.Medium.reads g.M.Medium.may_leave g.M.Medium.page_count g.M.Medium.faults g.M.Medium.is_failed in
+    let w = g.M.Medium in
     let h = dealt-again w (length c.args.shares.items) c.requires.some c.args.nodes.items c.deal-nodes.result.1.items c.go_on-shares.result.0.items c.deal-nodes.ensures.dealt c.deal-nodes.ensures.count c.go_on-shares.ensures.went in
     let l = h.2 in
     (h.0, h.1, omega (arith, l, c.args.nodes.ok, c.len-count.ensures))
@@ -35,14 +34,14 @@ push_reserved-requires g c =
 
 pub returns-clause-passes : goal.returns-clause-passes
 returns-clause-passes g c =
-    let w = media_with g.M.Medium.tells g.M.Medium.reads g.M.Medium.may_leave g.M.Medium.page_count g.M.Medium.faults g.M.Medium.is_failed in
+    let w = g.M.Medium in
     all-passes w (length c.args.shares.items) c.requires.some c.args.nodes.items c.deal-nodes.result.1.items c.go_on-shares.result.0.items c.deal-nodes.ensures.dealt c.deal-nodes.ensures.count c.go_on-shares.ensures.went
     c.collect-nodes.result.items (λ xs d l. c.collect-nodes.ensures.whole xs d (omega (arith, l, c.args.nodes.ok, c.len-count.ensures)))
     c.args.wire.now.lock c.push_reserved.new.self.items c.go_on-shares.result.1 (c.push_reserved.ensures.items ∙ ap (λ l. l ++ c.go_on-shares.result.1 ∷ []) c.take_apart-media.ensures.passes) c.go_on-shares.ensures.passes.0 c.go_on-shares.ensures.passes.1
 
 pub returns-clause-gone : goal.returns-clause-gone
 returns-clause-gone g c =
-    let w = media_with g.M.Medium.tells g.M.Medium.reads g.M.Medium.may_leave g.M.Medium.page_count g.M.Medium.faults g.M.Medium.is_failed in
+    let w = g.M.Medium in
     have-gone w (length c.args.shares.items) c.requires.some c.args.nodes.items c.deal-nodes.result.1.items c.go_on-shares.result.0.items c.deal-nodes.ensures.dealt c.deal-nodes.ensures.count c.go_on-shares.ensures.went
     c.collect-nodes.result.items (λ xs d l. c.collect-nodes.ensures.whole xs d (omega (arith, l, c.args.nodes.ok, c.len-count.ensures)))
     c.args.limits c.go_on-shares.result.2 c.take_apart-media.result.0.items c.push_reserved.new.self.items c.go_on-shares.result.1 (c.push_reserved.ensures.items ∙ ap (λ l. l ++ c.go_on-shares.result.1 ∷ []) c.take_apart-media.ensures.passes)

@@ -1,70 +1,63 @@
 use Rattle.std.proofs.Common.{◌≡◌, ◌∙◌, Some, length, slice_get, sym, subst, ap, arith}
 use Rattle.std.specs.Prelude.{All}
-use Rattle.run_media.specs.Media.{media_with}
 use Rattle.seat_lock.specs.Words.{base_of}
 use Rattle.run_media.specs.Openings.{FirstRefusal, IsInRange, IsOpen}
 use Rattle.run_starts.specs.Starts.{IsSetUp}
 use Rattle.run_rounds.specs.declared.ends.End.TheVariants as end
 use Rattle.run_rounds.specs.Finishes.{EndsAs, IsEndFor, tellers}
 use Rattle.run_rounds.proofs.BackLemmas.{opened-in-range}
-use Rattle.run_rounds.proofs.BeginLemmas.{ends-refused, ends-set-up, ends-untried, ends-wanting}
+use Rattle.run_rounds.proofs.BeginLemmas.{ends-refused, ends-set-up, ends-wanting}
 use Rattle.run_rounds.proofs.SoundLemmas.{sound-of}
 use Rattle.run_rounds.proofs.runs.run.Goals as goal
 
 pub first_refusal-requires-clause-in_range : goal.first_refusal-requires-clause-in_range
 first_refusal-requires-clause-in_range g c =
-    subst (All IsInRange) (sym c.as_slice.ensures.value) (opened-in-range (media_with g.M.Medium.tells g.M.Medium.reads g.M.Medium.may_leave g.M.Medium.page_count g.M.Medium.faults g.M.Medium.is_failed) c.args.media.items c.open_all-media.result.1.items c.open_all-media.ensures.opened)
+    subst (All IsInRange) (sym c.as_slice.ensures.value) (opened-in-range g.M.Medium c.requires.opened.0 c.args.openings.items c.requires.opened.1)
 
 pub returns-in-Some : goal.returns-in-Some
-returns-in-Some g c =
-    let w = media_with g.M.Medium.tells g.M.Medium.reads g.M.Medium.may_leave g.M.Medium.page_count g.M.Medium.faults g.M.Medium.is_failed in
-    subst (λ left. EndsAs w c.args.limits.ticks c.args.limits.messages c.args.plan.now (tellers (g.F.Fates.asked c.args.fates) (g.F.Fates.asked c.unbegun.result.fates) (g.C.Clock.answers c.args.clock) (g.C.Clock.answers c.unbegun.result.clock)) c.args.media.items left c.unbegun.result.end) (sym c.unbegun.ensures.media)
-    (ends-refused w c.args.limits.ticks c.args.limits.messages c.args.plan.now (tellers (g.F.Fates.asked c.args.fates) (g.F.Fates.asked c.unbegun.result.fates) (g.C.Clock.answers c.args.clock) (g.C.Clock.answers c.unbegun.result.clock)) c.args.media.items c.open_all-media.result.1.items c.open_all-media.ensures.opened c.unbegun.result.end c.in-Some.refusal
-    (subst (IsEndFor c.in-Some.refusal) (sym c.unbegun.ensures.end) c.refused.ensures) (sym (ap length c.as_slice.ensures.value) ∙ (c.as_slice.ensures.len ∙ (c.open_all-media.ensures.count ∙ omega (arith, c.requires.count, c.args.media.ok))))
+returns-in-Some g c = λ first opened.
+    let w = g.M.Medium in
+    subst (λ left. EndsAs w c.args.limits.ticks c.args.limits.messages c.args.plan.now (tellers (g.F.Fates.asked c.args.fates) (g.F.Fates.asked c.unbegun.result.fates) (g.C.Clock.answers c.args.clock) (g.C.Clock.answers c.unbegun.result.clock)) first left c.unbegun.result.end) (sym c.unbegun.ensures.media)
+    (ends-refused w c.args.limits.ticks c.args.limits.messages c.args.plan.now (tellers (g.F.Fates.asked c.args.fates) (g.F.Fates.asked c.unbegun.result.fates) (g.C.Clock.answers c.args.clock) (g.C.Clock.answers c.unbegun.result.clock)) first c.args.openings.items opened c.unbegun.result.end c.in-Some.refusal
+    (subst (IsEndFor c.in-Some.refusal) (sym c.unbegun.ensures.end) c.refused.ensures) c.requires.count
     (subst (λ os. FirstRefusal c.args.plan.now os (Some c.in-Some.refusal)) c.as_slice.ensures.value (subst (FirstRefusal c.args.plan.now c.as_slice.result.now) c.in-Some.is c.first_refusal.ensures))
     (ap g.F.Fates.asked c.unbegun.ensures.told.0) (ap g.C.Clock.answers c.unbegun.ensures.told.1))
 
-pub returns-in_default : goal.returns-in_default
-returns-in_default g c =
-    let w = media_with g.M.Medium.tells g.M.Medium.reads g.M.Medium.may_leave g.M.Medium.page_count g.M.Medium.faults g.M.Medium.is_failed in
-    let told = tellers (g.F.Fates.asked c.args.fates) (g.F.Fates.asked c.args.fates) (g.C.Clock.answers c.args.clock) (g.C.Clock.answers c.args.clock) in
-    subst (λ left. EndsAs w c.args.limits.ticks c.args.limits.messages c.args.plan.now told c.args.media.items left end.NoMemory) (sym c.of.ensures) (ends-untried w c.args.limits.ticks c.args.limits.messages c.args.plan.now told c.args.media.items)
-
 pub with_nodes-requires-clause-sound : goal.with_nodes-requires-clause-sound
 with_nodes-requires-clause-sound g c κs within =
-    sound-of (media_with g.M.Medium.tells g.M.Medium.reads g.M.Medium.may_leave g.M.Medium.page_count g.M.Medium.faults g.M.Medium.is_failed) c.args.media.items c.open_all-media.result.1.items c.open_all-media.ensures.opened
-    (subst (All IsOpen) c.as_slice-in-Ok-wire_for.ensures.value (c.are_open.ensures.open c.if-are_open.true))
+    sound-of g.M.Medium c.requires.opened.0 c.args.openings.items c.requires.opened.1
+    (subst (All IsOpen) c.as_slice-in-Ok.ensures.value (c.are_open.ensures.open c.if-are_open.true))
 
 pub without_nodes-requires-clause-shut : goal.without_nodes-requires-clause-shut
 without_nodes-requires-clause-shut g c =
     let h = c.are_open.ensures.shut c.if-are_open.false in
-    (h.0, h.1, subst (λ os. slice_get os h.0 ≡ Some h.1) c.as_slice-in-Ok-wire_for.ensures.value h.2, h.3)
+    (h.0, h.1, subst (λ os. slice_get os h.0 ≡ Some h.1) c.as_slice-in-Ok.ensures.value h.2, h.3)
 
 pub returns-in-Err : goal.returns-in-Err
-returns-in-Err g c =
-    let w = media_with g.M.Medium.tells g.M.Medium.reads g.M.Medium.may_leave g.M.Medium.page_count g.M.Medium.faults g.M.Medium.is_failed in
+returns-in-Err g c = λ first opened.
+    let w = g.M.Medium in
     let u = c.unbegun-in-Err in
     let told = tellers (g.F.Fates.asked c.args.fates) (g.F.Fates.asked u.result.fates) (g.C.Clock.answers c.args.clock) (g.C.Clock.answers u.result.clock) in
-    subst (λ e. EndsAs w c.args.limits.ticks c.args.limits.messages c.args.plan.now told c.args.media.items u.result.media e) (sym u.ensures.end)
-    (subst (λ left. EndsAs w c.args.limits.ticks c.args.limits.messages c.args.plan.now told c.args.media.items left end.NoMemory) (sym u.ensures.media)
-    (ends-wanting w c.args.limits.ticks c.args.limits.messages c.args.plan.now told c.args.media.items c.open_all-media.result.1.items c.open_all-media.ensures.opened))
+    subst (λ e. EndsAs w c.args.limits.ticks c.args.limits.messages c.args.plan.now told first u.result.media e) (sym u.ensures.end)
+    (subst (λ left. EndsAs w c.args.limits.ticks c.args.limits.messages c.args.plan.now told first left end.NoMemory) (sym u.ensures.media)
+    (ends-wanting w c.args.limits.ticks c.args.limits.messages c.args.plan.now told first c.args.openings.items opened))
 
 pub returns-then-are_open : goal.returns-then-are_open
-returns-then-are_open g c =
-    let w = media_with g.M.Medium.tells g.M.Medium.reads g.M.Medium.may_leave g.M.Medium.page_count g.M.Medium.faults g.M.Medium.is_failed in
+returns-then-are_open g c = λ first opened.
+    let w = g.M.Medium in
     let r = c.with_nodes.result in
-    let o = (base_of c.in-Ok-wire_for.begun.wire.lock).origin in
-    let os = c.open_all-media.result.1.items in
-    let set = subst (λ l. IsSetUp c.args.plan.now l (g.F.Fates.asked c.args.fates) (g.C.Clock.answers c.args.clock) o) c.as_slice-2.ensures.value c.in-Ok-wire_for.ensures.set_up in
-    ends-set-up w c.args.limits.ticks c.args.limits.messages c.args.plan.now os (g.F.Fates.asked c.args.fates) (g.F.Fates.asked r.fates) (g.C.Clock.answers c.args.clock) (g.C.Clock.answers r.clock) o c.args.media.items r.media r.end set
-    (c.with_nodes.ensures c.args.media.items c.open_all-media.ensures.opened)
+    let o = (base_of c.in-Ok.begun.wire.lock).origin in
+    let os = c.args.openings.items in
+    let set = subst (λ l. IsSetUp c.args.plan.now l (g.F.Fates.asked c.args.fates) (g.C.Clock.answers c.args.clock) o) c.as_slice-2.ensures.value c.in-Ok.ensures.set_up in
+    ends-set-up w c.args.limits.ticks c.args.limits.messages c.args.plan.now os (g.F.Fates.asked c.args.fates) (g.F.Fates.asked r.fates) (g.C.Clock.answers c.args.clock) (g.C.Clock.answers r.clock) o first r.media r.end set
+    (c.with_nodes.ensures first opened)
 
 pub returns-else-are_open : goal.returns-else-are_open
-returns-else-are_open g c =
-    let w = media_with g.M.Medium.tells g.M.Medium.reads g.M.Medium.may_leave g.M.Medium.page_count g.M.Medium.faults g.M.Medium.is_failed in
+returns-else-are_open g c = λ first opened.
+    let w = g.M.Medium in
     let r = c.without_nodes.result in
-    let o = (base_of c.in-Ok-wire_for.begun.wire.lock).origin in
-    let os = c.open_all-media.result.1.items in
-    let set = subst (λ l. IsSetUp c.args.plan.now l (g.F.Fates.asked c.args.fates) (g.C.Clock.answers c.args.clock) o) c.as_slice-2.ensures.value c.in-Ok-wire_for.ensures.set_up in
-    ends-set-up w c.args.limits.ticks c.args.limits.messages c.args.plan.now os (g.F.Fates.asked c.args.fates) (g.F.Fates.asked r.fates) (g.C.Clock.answers c.args.clock) (g.C.Clock.answers r.clock) o c.args.media.items r.media r.end set
-    (c.without_nodes.ensures c.args.limits.ticks c.args.limits.messages c.args.media.items c.open_all-media.ensures.opened)
+    let o = (base_of c.in-Ok.begun.wire.lock).origin in
+    let os = c.args.openings.items in
+    let set = subst (λ l. IsSetUp c.args.plan.now l (g.F.Fates.asked c.args.fates) (g.C.Clock.answers c.args.clock) o) c.as_slice-2.ensures.value c.in-Ok.ensures.set_up in
+    ends-set-up w c.args.limits.ticks c.args.limits.messages c.args.plan.now os (g.F.Fates.asked c.args.fates) (g.F.Fates.asked r.fates) (g.C.Clock.answers c.args.clock) (g.C.Clock.answers r.clock) o first r.media r.end set
+    (c.without_nodes.ensures c.args.limits.ticks c.args.limits.messages first opened)

@@ -1,12 +1,11 @@
 use Rattle.std.proofs.Common.{arith}
-use Rattle.run_media.specs.Media.{media_with}
 use Rattle.run_rounds.proofs.CloseLemmas.{gone-left, passes-count}
 use Rattle.run_rounds.proofs.runs.run_nodes.Goals as goal
 
 pub closed_run-requires-clause-all : goal.closed_run-requires-clause-all
 closed_run-requires-clause-all g c =
     let r = c.rounds-ended.result in
-    let w = media_with g.M.Medium.tells g.M.Medium.reads g.M.Medium.may_leave g.M.Medium.page_count g.M.Medium.faults g.M.Medium.is_failed in
+    let w = g.M.Medium in
     let n = passes-count w c.args.limits c.args.nodes.items r.reason r.media.items r.passes.items c.rounds-ended.ensures.gone in
     let ok = r.passes.ok in
     let count = c.requires.count in
@@ -15,7 +14,7 @@ closed_run-requires-clause-all g c =
 pub returns : goal.returns
 returns g c =
     let r = c.rounds-ended.result in
-    let w = media_with g.M.Medium.tells g.M.Medium.reads g.M.Medium.may_leave g.M.Medium.page_count g.M.Medium.faults g.M.Medium.is_failed in
+    let w = g.M.Medium in
     record {
       why = r.reason;
       passes = r.passes.items;

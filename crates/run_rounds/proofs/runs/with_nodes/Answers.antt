@@ -4,7 +4,6 @@ use Rattle.std.specs.Prelude.{All}
 use Rattle.seat_lock.specs.Words.{base_of, knows}
 use Rattle.wire_lock.specs.Sights.{IsWirePass}
 use Rattle.node_turn.specs.Nodes.{NodeParts}
-use Rattle.run_media.specs.Media.{media_with}
 use Rattle.run_starts.specs.Deals.{HaveRoom, IsDealt}
 use Rattle.run_starts.specs.Seats.{IsNewNode}
 use Rattle.run_rounds.specs.declared.ends.End.TheVariants as end
@@ -32,7 +31,7 @@ stopped-requires-clause-all g c =
 
 pub returns-in_default : goal.returns-in_default
 returns-in_default g c first opened =
-    let w = media_with g.M.Medium.tells g.M.Medium.reads g.M.Medium.may_leave g.M.Medium.page_count g.M.Medium.faults g.M.Medium.is_failed in
+    let w = g.M.Medium in
     let lock = c.args.begun.wire.lock in
     let wire = base_of lock in
     let passes = c.args.begun.passes in
@@ -51,7 +50,7 @@ open_nodes-nodes-requires-clause-can g c =
     let passes = c.args.begun.passes in
     let os = c.args.openings.items in
     let plan = c.args.plan.now in
-    can-seat (media_with g.M.Medium.tells g.M.Medium.reads g.M.Medium.may_leave g.M.Medium.page_count g.M.Medium.faults g.M.Medium.is_failed) plan os wire c.args.begun.start passes.items c.requires.set_up c.requires.start c.requires.ready c.requires.sound c.requires.fresh
+    can-seat g.M.Medium plan os wire c.args.begun.start passes.items c.requires.set_up c.requires.start c.requires.ready c.requires.sound c.requires.fresh
 
 pub stopped-requires-then-not-is_whole-clause-passes : goal.stopped-requires-then-not-is_whole-clause-passes
 stopped-requires-then-not-is_whole-clause-passes g c =
@@ -83,7 +82,7 @@ stopped-requires-then-not-is_whole-clause-room g c =
 
 pub returns-then-not-is_whole : goal.returns-then-not-is_whole
 returns-then-not-is_whole g c first opened =
-    let w = media_with g.M.Medium.tells g.M.Medium.reads g.M.Medium.may_leave g.M.Medium.page_count g.M.Medium.faults g.M.Medium.is_failed in
+    let w = g.M.Medium in
     let lock = c.args.begun.wire.lock in
     let wire = base_of lock in
     let passes = c.args.begun.passes in
@@ -159,7 +158,7 @@ run_nodes-requires-clause-room g c κs within =
 
 pub returns : goal.returns
 returns g c first opened =
-    let w = media_with g.M.Medium.tells g.M.Medium.reads g.M.Medium.may_leave g.M.Medium.page_count g.M.Medium.faults g.M.Medium.is_failed in
+    let w = g.M.Medium in
     let lock = c.args.begun.wire.lock in
     let wire = base_of lock in
     let passes = c.args.begun.passes in

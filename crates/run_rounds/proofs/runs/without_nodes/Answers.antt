@@ -1,7 +1,6 @@
 use Rattle.std.proofs.Common.{◌≡◌, ◌∙◌, length, take, vec_len, sym, subst, ap, arith}
 use Rattle.seat_lock.specs.Words.{base_of}
 use Rattle.wire_lock.specs.Sights.{IsWirePass}
-use Rattle.run_media.specs.Media.{media_with}
 use Rattle.run_media.specs.Places.{node_at}
 use Rattle.run_starts.specs.Seats.{Along}
 use Rattle.run_starts.specs.Starts.{HasFallen, IsUnseen}
@@ -35,7 +34,7 @@ closed_run-requires-clause-all g c =
 
 pub returns : goal.returns
 returns g c most_ticks enough first opened =
-    let w = media_with g.M.Medium.tells g.M.Medium.reads g.M.Medium.may_leave g.M.Medium.page_count g.M.Medium.faults g.M.Medium.is_failed in
+    let w = g.M.Medium in
     let wire = base_of c.args.begun.wire.lock in
     let n = seats-count c.args.plan.now c.args.openings.items _ _ wire c.requires.set_up c.args.begun.passes.items c.requires.fresh in
     subst (λ left. EndsAs w most_ticks enough c.args.plan.now (tellers wire.origin.asked (g.F.Fates.asked c.closed_run.result.fates) wire.origin.answers (g.C.Clock.answers c.closed_run.result.clock)) first left c.closed_run.result.end)

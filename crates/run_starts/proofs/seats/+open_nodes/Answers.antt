@@ -1,7 +1,6 @@
 use Rattle.std.proofs.Common.{rules, ◌≡◌, ◌≤◌, ◌++◌, ◌∷◌, [], ℕ, Bool, true, false, Some, length, map, refl, ap, sym, subst, ◌∙◌, arith}
 use Rattle.std.proofs.lemmas.List.{length_push, length-map}
 use Rattle.node_turn.specs.Nodes.{NodeParts}
-use Rattle.run_media.specs.Media.{media_with}
 use Rattle.run_media.specs.Openings.{medium_in}
 use Rattle.run_starts.specs.Seats.{CanSeat, IsNewNode}
 use Rattle.run_starts.proofs.AlongLemmas.{along-length, both-popped, both-pushed}
@@ -11,25 +10,25 @@ use Rattle.run_starts.proofs.seats.+open_nodes.Goals as goal
 
 pub returns-in_default-clause-passes : goal.returns-in_default-clause-passes
 returns-in_default-clause-passes g t c is =
-    let w = media_with g.M.Medium.tells g.M.Medium.reads g.M.Medium.may_leave g.M.Medium.page_count g.M.Medium.faults g.M.Medium.is_failed in
+    let w = g.M.Medium in
     let passes = along-none (CanSeat w c.args.plan.now c.args.start) 0 c.args.openings.items c.args.passes.items (no-items c.args.openings c.in_default.ensures.cases.0) c.requires.can in
     ap (map (λ (n : NodeParts g.row.M.Denot). n.pass)) c.requires.empty.0 ∙ sym passes
 
 pub returns-in_default-clause-emptied : goal.returns-in_default-clause-emptied
 returns-in_default-clause-emptied g t c is =
-    let w = media_with g.M.Medium.tells g.M.Medium.reads g.M.Medium.may_leave g.M.Medium.page_count g.M.Medium.faults g.M.Medium.is_failed in
+    let w = g.M.Medium in
     (c.requires.empty.1, along-none (CanSeat w c.args.plan.now c.args.start) 0 c.args.openings.items c.args.passes.items (no-items c.args.openings c.in_default.ensures.cases.0) c.requires.can)
 
 pub unreachable-requires : goal.unreachable-requires
 unreachable-requires g t c =
-    let w = media_with g.M.Medium.tells g.M.Medium.reads g.M.Medium.may_leave g.M.Medium.page_count g.M.Medium.faults g.M.Medium.is_failed in
+    let w = g.M.Medium in
     let n = along-length (CanSeat w c.args.plan.now c.args.start) 0 c.args.openings.items c.args.passes.items c.requires.can in
     let k = ap length c.in-Some.ensures.items ∙ length_push c.pop.new.self.items c.in-Some.opening in
     omega (arith, n, k, c.in_default-pop.ensures.cases.0, c.args.passes.ok.0)
 
 pub open_nodes-seated-requires : goal.open_nodes-seated-requires
 open_nodes-seated-requires g t c κs within =
-    let w = media_with g.M.Medium.tells g.M.Medium.reads g.M.Medium.may_leave g.M.Medium.page_count g.M.Medium.faults g.M.Medium.is_failed in
+    let w = g.M.Medium in
     let front = c.pop.new.self.items in
     let k = ap length c.in-Some.ensures.items ∙ length_push front c.in-Some.opening in
     let both = both-popped (CanSeat w c.args.plan.now c.args.start) c.args.openings.items front c.in-Some.opening c.in-Some.ensures.items c.args.passes.items c.pop-2.new.self.items c.in-Some-pop.pass c.in-Some-pop.ensures.items c.requires.can in
@@ -40,7 +39,7 @@ open_nodes-seated-requires g t c κs within =
 
 pub seat-requires-clause-can : goal.seat-requires-clause-can
 seat-requires-clause-can g t c =
-    let w = media_with g.M.Medium.tells g.M.Medium.reads g.M.Medium.may_leave g.M.Medium.page_count g.M.Medium.faults g.M.Medium.is_failed in
+    let w = g.M.Medium in
     let front = c.pop.new.self.items in
     let both = both-popped (CanSeat w c.args.plan.now c.args.start) c.args.openings.items front c.in-Some.opening c.in-Some.ensures.items c.args.passes.items c.pop-2.new.self.items c.in-Some-pop.pass c.in-Some-pop.ensures.items c.requires.can in
     subst (λ (i : ℕ). CanSeat w c.args.plan.now c.args.start i c.in-Some.opening c.in-Some-pop.pass) (sym (c.len-place.ensures ∙ c.pop.new.self.ok.0)) both.1
@@ -59,7 +58,7 @@ seat-requires-clause-whole g t c is =
 
 pub seat-requires-clause-back : goal.seat-requires-clause-back
 seat-requires-clause-back g t c is =
-    let w = media_with g.M.Medium.tells g.M.Medium.reads g.M.Medium.may_leave g.M.Medium.page_count g.M.Medium.faults g.M.Medium.is_failed in
+    let w = g.M.Medium in
     let front = c.pop.new.self.items in
     let b = c.open_nodes-seated.ensures.back is in
     let both = both-popped (CanSeat w c.args.plan.now c.args.start) c.args.openings.items front c.in-Some.opening c.in-Some.ensures.items c.args.passes.items c.pop-2.new.self.items c.in-Some-pop.pass c.in-Some-pop.ensures.items c.requires.can in
@@ -71,7 +70,7 @@ seat-requires-clause-back g t c is =
 
 pub seat-requires-clause-room : goal.seat-requires-clause-room
 seat-requires-clause-room g t c =
-    let w = media_with g.M.Medium.tells g.M.Medium.reads g.M.Medium.may_leave g.M.Medium.page_count g.M.Medium.faults g.M.Medium.is_failed in
+    let w = g.M.Medium in
     let front = c.pop.new.self.items in
     let r = c.open_nodes-seated.ensures.room in
     let n = along-length (CanSeat w c.args.plan.now c.args.start) 0 c.args.openings.items c.args.passes.items c.requires.can in

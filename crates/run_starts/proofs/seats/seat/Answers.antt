@@ -1,6 +1,5 @@
 use Rattle.std.proofs.Common.{◌≡◌, ◌++◌, ◌∷◌, [], true, false, Some, length, ap, sym, ◌∙◌, arith}
 use Rattle.std.proofs.lemmas.List.{length-map}
-use Rattle.run_media.specs.Media.{media_with}
 use Rattle.run_media.specs.Openings.{medium_in}
 use Rattle.node_turn.specs.Nodes.{NodeParts}
 use Rattle.run_starts.specs.Seats.{IsNewNode}
@@ -9,7 +8,7 @@ use Rattle.run_starts.proofs.seats.seat.Goals as goal
 
 pub unreachable-requires : goal.unreachable-requires
 unreachable-requires g c =
-    sound-open (media_with g.M.Medium.tells g.M.Medium.reads g.M.Medium.may_leave g.M.Medium.page_count g.M.Medium.faults g.M.Medium.is_failed) c.args.opening c.requires.can.sound c.in_default.not-Open
+    sound-open g.M.Medium c.args.opening c.requires.can.sound c.in_default.not-Open
 
 pub push_reserved-requires-in-Err : goal.push_reserved-requires-in-Err
 push_reserved-requires-in-Err g c =

@@ -1,5 +1,4 @@
 use Rattle.std.proofs.Common.{◌++◌, ◌∙◌, ap, subst}
-use Rattle.run_media.specs.Media.{media_with}
 use Rattle.run_media.specs.Openings.{medium_in}
 use Rattle.swallow_top.specs.Shelves.{TakesOne, kept_of, shelf_sight}
 use Rattle.swallow_top.specs.Written.{sinking}
@@ -9,10 +8,10 @@ use Rattle.swallow_top.proofs.histories.tell_history.Goals as goal
 pub returns : goal.returns
 returns g c =
     let m = g.S.Medium.Medium in
-    let w = media_with m.tells m.reads m.may_leave m.page_count m.faults m.is_failed in
+    let w = m in
     let h = g.S.Shelf in
-    let old = shelf_sight (h.holds c.args.shelf.now) (h.may_hold c.args.shelf.now) (h.medium_faults c.args.shelf.now) (h.is_taken c.args.shelf.now) (h.faults c.args.shelf.now) in
-    let new = shelf_sight (h.holds c.take_one.new.shelf) (h.may_hold c.take_one.new.shelf) (h.medium_faults c.take_one.new.shelf) (h.is_taken c.take_one.new.shelf) (h.faults c.take_one.new.shelf) in
+    let old = shelf_sight h c.args.shelf.now in
+    let new = shelf_sight h c.take_one.new.shelf in
     let o = g.O.Sink in
     let s = sinking (o.taken c.args.sink.now) (o.taken c.tell_opening-status.new.sink) (o.faults c.args.sink.now) (o.faults c.tell_opening-status.new.sink) in
     let home = c.repository-node.ensures in

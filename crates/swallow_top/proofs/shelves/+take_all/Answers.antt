@@ -1,5 +1,4 @@
 use Rattle.std.proofs.Common.{ap, sym, subst, ◌∙◌, arith}
-use Rattle.run_media.specs.Media.{media_with}
 use Rattle.run_media.specs.Places.{node_at}
 use Rattle.swallow_top.specs.Shelves.{WereTaken, shelf_sight}
 use Rattle.swallow_top.proofs.ShelfLemmas.{taken-more}
@@ -8,11 +7,11 @@ use Rattle.swallow_top.proofs.shelves.+take_all.Goals as goal
 pub returns-clause-taken : goal.returns-clause-taken
 returns-clause-taken g t c =
     let m = g.S.Medium.Medium in
-    let w = media_with m.tells m.reads m.may_leave m.page_count m.faults m.is_failed in
+    let w = m in
     let h = g.S.Shelf in
-    let old = shelf_sight (h.holds c.args.shelf.now) (h.may_hold c.args.shelf.now) (h.medium_faults c.args.shelf.now) (h.is_taken c.args.shelf.now) (h.faults c.args.shelf.now) in
-    let mid = shelf_sight (h.holds c.take_all-media.new.shelf) (h.may_hold c.take_all-media.new.shelf) (h.medium_faults c.take_all-media.new.shelf) (h.is_taken c.take_all-media.new.shelf) (h.faults c.take_all-media.new.shelf) in
-    let new = shelf_sight (h.holds c.take_one.new.shelf) (h.may_hold c.take_one.new.shelf) (h.medium_faults c.take_one.new.shelf) (h.is_taken c.take_one.new.shelf) (h.faults c.take_one.new.shelf) in
+    let old = shelf_sight h c.args.shelf.now in
+    let mid = shelf_sight h c.take_all-media.new.shelf in
+    let new = shelf_sight h c.take_one.new.shelf in
     let xs = c.take_all-media.result.items in
     let plan = c.args.plan.now in
     subst (WereTaken w old new plan) (sym c.push_reserved.ensures.items)

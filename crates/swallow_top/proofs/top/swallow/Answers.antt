@@ -1,8 +1,7 @@
-use Rattle.std.proofs.Common.{◌∙◌, ap, sym, subst}
+use Rattle.std.proofs.Common.{◌∙◌, ap, refl, sym, subst}
 use Rattle.plan_form.specs.PlanTexts.{IsOfLanguage}
 use Rattle.plan_form.proofs.MadeLemmas.{made_is_whole}
 use Rattle.command_words.specs.Words.{AreWords, said}
-use Rattle.run_media.specs.Media.{media_with}
 use Rattle.swallow_top.specs.Contract.{RefusedAs}
 use Rattle.swallow_top.specs.Histories.{TellsHistory}
 use Rattle.swallow_top.specs.Shelves.{shelf_sight}
@@ -39,17 +38,17 @@ returns-in-Ok g c = record {
 
 pub returns-in-Ok-make : goal.returns-in-Ok-make
 returns-in-Ok-make g c = record {
-  promise = promise-load _ c.in-Some-Load.seed c.in-Some-Load.count c.in-Some-Load.options c.in-Ok-make.plan (subst (λ x. AreWords x (said c.args.words.now)) c.in-Some-Load.field-0-is c.in-Some-Load.ensures.words) c.in-Ok-make.ensures c.run_plan-in-Ok-make.ensures.ran c.run_plan-in-Ok-make.ensures.kept;
+  promise = promise-load _ c.in-Some-Load.seed c.in-Some-Load.count c.in-Some-Load.options c.in-Ok-make.plan (refl, refl) (subst (λ x. AreWords x (said c.args.words.now)) c.in-Some-Load.field-0-is c.in-Some-Load.ensures.words) c.in-Ok-make.ensures c.run_plan-in-Ok-make.ensures.ran c.run_plan-in-Ok-make.ensures.kept;
 }
 
 pub returns-in-Some-History : goal.returns-in-Some-History
 returns-in-Some-History g c =
     let m = g.S.Medium.Medium in
-    let w = media_with m.tells m.reads m.may_leave m.page_count m.faults m.is_failed in
+    let w = m in
     let h = g.S.Shelf in
-    let old = shelf_sight (h.holds c.args.shelf.now) (h.may_hold c.args.shelf.now) (h.medium_faults c.args.shelf.now) (h.is_taken c.args.shelf.now) (h.faults c.args.shelf.now) in
+    let old = shelf_sight h c.args.shelf.now in
     let sf = c.tell_history-status.new.shelf in
-    let new = shelf_sight (h.holds sf) (h.may_hold sf) (h.medium_faults sf) (h.is_taken sf) (h.faults sf) in
+    let new = shelf_sight h sf in
     let k = g.O.Sink in
     let s = sinking (k.taken c.args.sink.now) (k.taken c.tell_history-status.new.sink) (k.faults c.args.sink.now) (k.faults c.tell_history-status.new.sink) in
     let q = c.quiet-in-Some-History.ensures in
@@ -57,6 +56,6 @@ returns-in-Some-History g c =
     let media = subst (λ l. TellsHistory w old new object l s c.tell_history-status.result.0) (sym q.media) c.tell_history-status.ensures in
     let tells = subst (λ n. TellsHistory w old new object c.quiet-in-Some-History.result.media s n) (sym q.status) media in
     record {
-      promise = promise-history _ object (subst (λ x. AreWords x (said c.args.words.now)) c.in-Some-History.field-0-is c.in-Some-History.ensures.words) tells
+      promise = promise-history _ object (refl, refl) (subst (λ x. AreWords x (said c.args.words.now)) c.in-Some-History.field-0-is c.in-Some-History.ensures.words) tells
           (record { trace = q.trace; fates = ap g.F.Fates.asked q.told.0; clock = ap g.C.Clock.answers q.told.1 });
     }
