@@ -28,9 +28,9 @@ int main(int argc, char **argv) {
     struct begin *list = NULL;
     size_t count = 0, room = 0;
     for (off_t at = 0; pread(file, page, sizeof page, at) == sizeof page; at += sizeof page) {
-        if (page[0] != 0xA5 || page[1] != 1) continue;
-        size_t end = 4 + (page[2] << 8 | page[3]);
-        for (size_t i = 4; i + 19 <= end && page[i] == 3; i += 19) {
+        if (page[0] != 0xA5 || page[1] != 2 || page[4] != 0) continue;
+        size_t end = 5 + (page[2] << 8 | page[3]);
+        for (size_t i = 5; i + 19 <= end && page[i] == 3; i += 19) {
             if (count == room) {
                 room = room ? 2 * room : 16;
                 list = realloc(list, room * sizeof *list);

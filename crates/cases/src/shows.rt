@@ -94,12 +94,26 @@ fn records_of(bytes: &[u8; 4096]) -> Option<&[u8]> {
         return None;
     }
     let length = u16::from_be_bytes([bytes[2], bytes[3]]);
-    let (_, body) = bytes.split_at_checked(4)?;
+    let head = if bytes[1] == 1 { 4 } else { 5 };
+    let (_, body) = bytes.split_at_checked(head)?;
     let (records, _) = body.split_at_checked(usize::from(length))?;
     Some(records)
 }
 
-// Shows what stands on a page, where anything does.
+// Which piece of a log record stands on a page. None where whole ones do.
+fn piece_of(bytes: &[u8; 4096]) -> Option<&'static str> {
+    if bytes[1] != 2 {
+        return None;
+    }
+    match bytes[4] {
+        1 => Some("first"),
+        2 => Some("middle"),
+        3 => Some("last"),
+        _ => None,
+    }
+}
+
+// Shows what stands on a page, where anything does: its log records, or which piece of one, and how long it is.
 fn show_page(
     alloc: Global,
     said: &mut String,
@@ -112,12 +126,16 @@ fn show_page(
     }
     let (kind, number) = (name_of(node.kind), node.number);
     said.push_str(format!(in alloc; "  {kind} {number} page {page}")?.as_str())?;
-    match records_of(bytes) {
-        Some(records) => {
+    match (records_of(bytes), piece_of(bytes)) {
+        (Some(records), None) => {
             said.push(' ')?;
             said.push_str(hex::encode(alloc, records)?.as_str())?;
         }
-        None => said.push_str(" spoiled")?,
+        (Some(records), Some(piece)) => {
+            let size = records.len();
+            said.push_str(format!(in alloc; " {piece} {size}")?.as_str())?;
+        }
+        (None, _) => said.push_str(" spoiled")?,
     }
     said.push('\n')?;
     Ok(())

@@ -1,4 +1,4 @@
--- A calm broker's log has no more effects than its acts allow.
+-- A calm broker's log has no more effects than its acts allow, and fills no more pages.
 use Rattle.std.proofs.Common.{◌≡◌, ℕ, ◌+◌, ◌*◌, ◌≤◌, ◌==◌, nat_lt, Bool, true, false, length, List, [], ◌∷◌, ◌++◌, reverse, refl, sym, ◌∙◌, ap, subst, append-nil, arith}
 use Rattle.pseudo_time.specs.Lists.{Every}
 use Rattle.pseudo_time.proofs.ListLemmas.{every-left, every-right}
@@ -20,14 +20,14 @@ use Rattle.broker_laws.proofs.Tries.{played}
 use Rattle.world_core.specs.Nodes.{acts_of}
 use Rattle.world_core.specs.Walks.{Base, Life, World, sent_by}
 use Rattle.world_core.specs.Walks as walks
-use Rattle.complete_law.specs.Calm.{AskAtMost, AsksAtMost, CalmPlace, log_at, tries_in, world_at}
+use Rattle.complete_law.specs.Calm.{AskAtMost, AsksAtMost, CalmPlace, filled_by, log_at, tries_in, world_at}
 use Rattle.complete_law.proofs.BrokerMoves.{turn-there}
 use Rattle.complete_law.proofs.BrokerRuns.{only-runs}
 use Rattle.complete_law.proofs.Outcomes.{own-tries}
 use Rattle.complete_law.proofs.Places.{desk_of, tasks_of}
 use Rattle.complete_law.proofs.Ranges.{same-run}
 use Rattle.complete_law.proofs.Shares.{act-size, acts-share, answers-few, asking-one, mul-mono, started-few, tasks-few, tries-allowed, tries-given}
-use Rattle.complete_law.proofs.Sizes.{IsSpare, begun-run, log-size, one-if, size-act, size-acts, spare}
+use Rattle.complete_law.proofs.Sizes.{IsSpare, begun-run, log-pages, log-size, one-if, size-act, size-acts, spare}
 use Rattle.complete_law.proofs.Steps as steps
 use Rattle.complete_law.proofs.Steps.{calm-there, facts-there}
 use Rattle.world_facts.proofs.Growths.{every-at, every-filter}
@@ -122,21 +122,37 @@ module _ (p : CalmPlace) (most : ℕ) (asks : AskAtMost p.run most) where
             subst (λ as'. Every (IsLed base.script most) as' × (tries-allowed as' ≤ tries-given (tasks_of base n))) (sym none) (tt, omega arith)
         go false e = in-run (same-run (book (log n)).run base.run e (subst (λ (b : Book). nat_lt base.run b.run ≡ false) state-is turn.ready.not_old))
 
-    pub known-few : length (log n) ≤ 1 + tries_in base.acts * (most + 3)
-    known-few =
-        let long : length (log n) ≤ begun-run base.run (book (log n)) + size-acts ((book (log n)).acts ++ (book (log n)).past) = log-size base.script n base.run (log n) turn.desk.tidy (only-runs p n) in
+    -- the acts have no more effects than their attempts allow
+    acts-few : size-acts ((book (log n)).acts ++ (book (log n)).past) ≤ tries_in base.acts * (most + 3)
+    acts-few =
         let join : size-acts ((book (log n)).acts ++ (book (log n)).past) ≡ size-acts (book (log n)).acts = ap (λ past. size-acts ((book (log n)).acts ++ past)) no-past ∙ ap size-acts (append-nil (book (log n)).acts) in
         let share : size-acts (book (log n)).acts ≤ tries-allowed (book (log n)).acts * (most + 3) =
         acts-share size-act (most + 3) (book (log n)).acts (led-sizes base.script most (book (log n)).acts all-led.0) size-acts refl (λ a more. refl) in
         let few : tries-given (tasks_of base n) ≤ tries_in base.acts = tasks-few (λ (a : ActSpec). a.broker == n) base.acts in
         let mine : tries-allowed (book (log n)).acts ≤ tries-given (tasks_of base n) = all-led.1 in
         let all = mul-mono (tries-allowed (book (log n)).acts) (tries_in base.acts) (most + 3) (omega (arith, few, mine)) in
-        let one : begun-run base.run (book (log n)) ≤ 1 = at-most-one ((book (log n)).run == base.run) in
-        omega (arith, long, join, share, all, one)
+        omega (arith, join, share, all)
+
+    one-run : begun-run base.run (book (log n)) ≤ 1
+    one-run = at-most-one ((book (log n)).run == base.run)
       where
         at-most-one : (c : Bool) → one-if c ≤ 1
         at-most-one true = omega arith
         at-most-one false = omega arith
+
+    pub known-few : length (log n) ≤ 1 + tries_in base.acts * (most + 3)
+    known-few =
+        let long : length (log n) ≤ begun-run base.run (book (log n)) + size-acts ((book (log n)).acts ++ (book (log n)).past) = log-size base.script n base.run (log n) turn.desk.tidy (only-runs p n) in
+        let acts = acts-few in
+        let one = one-run in
+        omega (arith, long, acts, one)
+
+    pub known-pages : filled_by (log n) ≤ 1 + 17 * (tries_in base.acts * (most + 3))
+    known-pages =
+        let long : filled_by (log n) ≤ begun-run base.run (book (log n)) + 17 * size-acts ((book (log n)).acts ++ (book (log n)).past) = log-pages base.script n base.run (log n) turn.desk.tidy (only-runs p n) in
+        let acts = acts-few in
+        let one = one-run in
+        omega (arith, long, acts, one)
 
   unknown-log : (m : _) → (w.flags m).known ≡ false → log_at p m ≡ []
   unknown-log m off = ap (λ (l : Life). reverse (walks.all_effects l)) ((calm-there p).outside m off)
@@ -148,3 +164,10 @@ module _ (p : CalmPlace) (most : ℕ) (asks : AskAtMost p.run most) where
       go : (c : Bool) → (w.flags (broker n)).known ≡ c → length (log n) ≤ 1 + tries_in base.acts * (most + 3)
       go true e = known-few n e
       go false e = subst (λ (l : List Effect). length l ≤ 1 + tries_in base.acts * (most + 3)) (sym (unknown-log (broker n) e)) (omega arith)
+
+  pub broker-pages : (n : ℕ) → filled_by (log n) ≤ 1 + 17 * (tries_in base.acts * (most + 3))
+  broker-pages n = go (w.flags (broker n)).known refl
+    where
+      go : (c : Bool) → (w.flags (broker n)).known ≡ c → filled_by (log n) ≤ 1 + 17 * (tries_in base.acts * (most + 3))
+      go true e = known-pages n e
+      go false e = subst (λ (l : List Effect). filled_by l ≤ 1 + 17 * (tries_in base.acts * (most + 3))) (sym (unknown-log (broker n) e)) (omega arith)

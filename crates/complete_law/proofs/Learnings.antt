@@ -21,7 +21,7 @@ use Rattle.repository_laws.proofs.Logs.{settled-log, tidy-through}
 use Rattle.pseudo_time.specs.Nodes.{broker, repository}
 use Rattle.message_form.specs.Posts.{Post}
 use Rattle.world_core.specs.Walks.{Base, Life, Sending, World, sent_by}
-use Rattle.complete_law.specs.Calm.{AskAtMost, CalmPlace, CalmRun, log_at, tries_in, world_at}
+use Rattle.complete_law.specs.Calm.{AskAtMost, CalmPlace, CalmRun, filled_by, log_at, most_filled, tries_in, world_at}
 use Rattle.complete_law.proofs.BrokerLoads.{wt}
 use Rattle.complete_law.proofs.Loads.{if-from}
 use Rattle.complete_law.proofs.RepositoryLoads.{all}
@@ -183,6 +183,27 @@ named-by s (x ∷ xs) i n m e (inl q) =
     inl (ap (λ (p : Post). is_broker p.from.kind) q, ap (λ (p : Post). ender-of p.message) q ∙ e)
 named-by s (x ∷ xs) i n m e (inr h) = inr (named-by s xs i n m e h)
 
+-- ---- pages
+
+filled-one : (e : Effect) → most_filled e ≤ 17
+filled-one (effect.Run number) = omega arith
+filled-one (effect.Put object start value) = omega arith
+filled-one (effect.Stretch object end) = omega arith
+filled-one (effect.Begin stamp deadline) = omega arith
+filled-one (effect.Decide stamp decision) = omega arith
+filled-one (effect.Learn stamp committed) = omega arith
+filled-one (effect.Act index home timeout tries clock script) = omega arith
+filled-one (effect.Try index stamp) = omega arith
+filled-one (effect.Got step value) = omega arith
+filled-one (effect.Acked step) = omega arith
+filled-one (effect.End index outcome) = omega arith
+filled-one (effect.Mark at) = omega arith
+filled-one effect.Whole = omega arith
+
+filled-most : (es : List Effect) → filled_by es ≤ 17 * length es
+filled-most [] = omega arith
+filled-most (e ∷ es) = let one = filled-one e in let rest = filled-most es in omega (arith, one, rest)
+
 -- ---- at a place
 
 module _ (p : CalmPlace) where
@@ -235,7 +256,7 @@ module _ (p : CalmPlace) where
     few-learned = pigeons p.run w.sendings (learned (log_at p (repository n))) (learned-single n (log_at p (repository n)) tidy) learned-named
 
   module _ (most : ℕ) (asks : AskAtMost p.run most) where
-    known-few : (n : ℕ) → (w.flags (repository n)).known ≡ true → length (log_at p (repository n)) ≤ 1 + tries_in p.run.plan.acts * (most + 3)
+    known-few : (n : ℕ) → (w.flags (repository n)).known ≡ true → length (log_at p (repository n)) ≤ tries_in p.run.plan.acts * (most + 3)
     known-few n known =
         let a = stored-all (log_at p (repository n)) in
         let b = stored-few p most asks n in
@@ -253,11 +274,17 @@ module _ (p : CalmPlace) where
         grow (suc x) = let k = grow x in omega (arith, k)
 
     -- the log of a repository
-    pub repository-few : (n : ℕ) → length (log_at p (repository n)) ≤ 1 + tries_in p.run.plan.acts * (most + 3)
-    repository-few n = go (w.flags (repository n)).known refl
+    fewest : (n : ℕ) → length (log_at p (repository n)) ≤ tries_in p.run.plan.acts * (most + 3)
+    fewest n = go (w.flags (repository n)).known refl
       where
-        go : (c : Bool) → (w.flags (repository n)).known ≡ c → length (log_at p (repository n)) ≤ 1 + tries_in p.run.plan.acts * (most + 3)
+        go : (c : Bool) → (w.flags (repository n)).known ≡ c → length (log_at p (repository n)) ≤ tries_in p.run.plan.acts * (most + 3)
         go true e = known-few n e
         go false e =
             let none : length (log_at p (repository n)) ≡ 0 = ap (λ (x : Life). length (reverse (walks.all_effects x))) ((calm-there p).outside (repository n) e) in
             omega (arith, none)
+
+    pub repository-few : (n : ℕ) → length (log_at p (repository n)) ≤ 1 + tries_in p.run.plan.acts * (most + 3)
+    repository-few n = let few = fewest n in omega (arith, few)
+
+    pub repository-pages : (n : ℕ) → filled_by (log_at p (repository n)) ≤ 1 + 17 * (tries_in p.run.plan.acts * (most + 3))
+    repository-pages n = let few = fewest n in let each = filled-most (log_at p (repository n)) in omega (arith, few, each)

@@ -1,5 +1,5 @@
--- How large a broker's log is, by its book: one effect for the Run, each act, each attempt, each answer, each End and each act that is spent.
-use Rattle.std.proofs.Common.{◌≡◌, ℕ, ◌+◌, ◌<◌, ◌≤◌, ◌==◌, max, Bool, true, false, length, List, [], ◌∷◌, ◌++◌, refl, sym, ap, subst, Option, Some, None, arith}
+-- How large a broker's log is and how many pages it fills, by its book: one effect for the Run, each act, each attempt, each answer, each End and each act that is spent.
+use Rattle.std.proofs.Common.{◌≡◌, ℕ, ◌+◌, ◌*◌, ◌<◌, ◌≤◌, ◌==◌, max, Bool, true, false, length, List, [], ◌∷◌, ◌++◌, refl, sym, ap, subst, Option, Some, None, arith}
 use Rattle.std.proofs.lemmas.Bool.{ltb-true}
 use Rattle.std.proofs.lemmas.Grind.{common_steps}
 use Rattle.std.proofs.lemmas.List.{length-append}
@@ -13,6 +13,7 @@ use Rattle.script_meaning.specs.Meaning.{Answer, Got, Stored}
 use Rattle.serial_model.specs.Questions.{Tree}
 use Rattle.broker_core.specs.Book.{Act, Book, Try, book, close, enter, finish, gain, new_try, on_act, on_front, on_try, open_front, open_of}
 use Rattle.broker_core.specs.Fits.{another, calls_again}
+use Rattle.complete_law.specs.Calm.{filled_by, most_filled}
 use Rattle.broker_laws.specs.Fits.{EndFits, FitsBook, IsTidy, MayTry}
 use Rattle.broker_laws.proofs.Moves.{if-open}
 use Rattle.broker_laws.proofs.TestLemmas.{and-right}
@@ -116,6 +117,39 @@ module _ (script : List ℕ → Tree) (me run : ℕ) where
   unfolding book
   log-size [] t r = omega arith
   log-size (f ∷ log) t r = let k = enter-size (book log) f t.1 r.0 in let h = log-size log t.0 r.1 in omega (arith, h, k)
+
+  -- ---- and how many pages it fills
+
+  abbrev pub pages : Book → ℕ
+  pages b = begun-run run b + 17 * size-acts (b.acts ++ b.past)
+
+  more-pages : (r x y : ℕ) → y ≡ x + 1 → r + 17 * y ≡ (r + 17 * x) + 17
+  more-pages r x y e = omega (arith, e)
+
+  close-pages : (i : ℕ) (o : Outcome) (b : Book) → EndFits script i o b → pages (close o b) ≡ pages b + 17
+  close-pages i (outcome.Spent c) b f = more-pages (begun-run run b) _ _ (spent-size i c b.acts b.past _ f)
+  close-pages i o b f = more-pages (begun-run run b) _ _ (finish-size o b.acts b.past f.0 f.1)
+
+  run-pages : (b : Book) (n : ℕ) → b.run < n → n ≡ run → pages (enter (effect.Run n) b) ≡ pages b + 1
+  run-pages b n f e =
+      let x : one-if (n == run) ≡ 1 = subst (λ z. one-if (z == run) ≡ 1) (sym e) (run-same run) in
+      let y : one-if (b.run == run) ≡ 0 = run-before b.run run (subst (λ z. b.run < z) e f) in
+      omega (arith, x, y)
+
+  enter-pages : (b : Book) (f : Effect) → FitsBook script me b f → IsOfRun run f → pages (enter f b) ≡ pages b + most_filled f
+  enter-pages b (effect.Run n) f r = run-pages b n f r
+  enter-pages b (effect.Act i x t k c y) f r = omega arith
+  enter-pages b (effect.Try i s) f r = more-pages (begun-run run b) _ _ (try-size i s b.acts b.past _ f)
+  enter-pages b (effect.Got k v) f r = more-pages (begun-run run b) _ _ (gain-size (Got v) b.acts b.past f.0 f.1)
+  enter-pages b (effect.Acked k) f r = more-pages (begun-run run b) _ _ (gain-size Stored b.acts b.past f.0 f.1)
+  enter-pages b (effect.End i o) f r = close-pages i o b f
+  enter-pages b g f r = absurd f
+
+  -- no log fills more pages than its book says
+  pub log-pages : (log : List Effect) → IsTidy script me log → Every (IsOfRun run) log → filled_by log ≤ pages (book log)
+  unfolding book
+  log-pages [] t r = omega arith
+  log-pages (f ∷ log) t r = let k = enter-pages (book log) f t.1 r.0 in let h = log-pages log t.0 r.1 in omega (arith, h, k)
 
 -- ---- an act has no more attempts than it may have, one fewer where it is spent
 

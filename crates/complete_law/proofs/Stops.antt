@@ -1,5 +1,5 @@
 -- A run whose stops have their causes doesn't stop: the first Tick would stand at an idle place, where all are done, and the first full medium would have room.
-use Rattle.std.proofs.Common.{◌≡◌, ℕ, ◌≤◌, ◌<◌, List, [], ◌∷◌, ◌++◌, length, refl, sym, ◌∙◌, subst, append_assoc, arith}
+use Rattle.std.proofs.Common.{◌≡◌, ℕ, ◌≤◌, ◌<◌, List, [], ◌∷◌, ◌++◌, refl, sym, ◌∙◌, subst, append_assoc, arith}
 use Rattle.pseudo_time.specs.Lists.{Every}
 use Rattle.pseudo_time.proofs.ListLemmas.{every-append}
 use Rattle.pseudo_time.specs.declared.nodes.NodeId.{NodeId}
@@ -9,7 +9,7 @@ use Rattle.world_core.specs.declared.entries.Entry.TheVariants.{Crash, Down, Tic
 use Rattle.pseudo_time.specs.declared.down_causes.DownCause.TheVariants.{Medium, Damaged, Full}
 use Rattle.world_core.specs.Walks.{Base, World, start_world, step, walk_from}
 use Rattle.world_core.specs.Legal.{Meets, Rule, base_of, fates_of}
-use Rattle.complete_law.specs.Calm.{CalmRun, CalmPlace, IsQuiet, IsIdleAt, AllDone, AskAtMost, MayStop, log_at, most_effects}
+use Rattle.complete_law.specs.Calm.{CalmRun, CalmPlace, IsQuiet, IsIdleAt, AllDone, AskAtMost, MayStop, filled_by, log_at, most_pages}
 
 -- the entry after a front meets its rule
 meets-there : (b : Base) (fates : List Fate) (w : World) (front : List Entry) (e : Entry) (rest : List Entry) → Meets b fates w (front ++ e ∷ rest) → Rule b fates (walk_from b w front) e
@@ -20,8 +20,8 @@ meets-there b fates w (f ∷ front) e rest m = meets-there b fates (step b w f) 
 too-much : (n most pages : ℕ) → n ≤ pages → pages ≤ most → most < n → ⊥
 too-much n most pages h k l = omega (arith, h, k, l)
 
-module _ (stuck : (p : CalmPlace) → IsIdleAt p → AllDone p) (few : (p : CalmPlace) (most : ℕ) (n : NodeId) → AskAtMost p.run most → length (log_at p n) ≤ most_effects p.run most)
-    (r : CalmRun) (most : ℕ) (asks : AskAtMost r most) (may : (p : CalmPlace) (e : Entry) (more : List Entry) → p.run ≡ r → p.rest ≡ e ∷ more → MayStop (most_effects r most) p e) where
+module _ (stuck : (p : CalmPlace) → IsIdleAt p → AllDone p) (few : (p : CalmPlace) (most : ℕ) (n : NodeId) → AskAtMost p.run most → filled_by (log_at p n) ≤ most_pages p.run most)
+    (r : CalmRun) (most : ℕ) (asks : AskAtMost r most) (may : (p : CalmPlace) (e : Entry) (more : List Entry) → p.run ≡ r → p.rest ≡ e ∷ more → MayStop (most_pages r most) p e) where
   abbrev place : (front rest : List Entry) → r.trace.entries ≡ front ++ rest → Every IsQuiet front → CalmPlace
   place front rest here quiet = record { run = r; front = front; rest = rest; here = here; quiet = quiet }
 
@@ -31,9 +31,9 @@ module _ (stuck : (p : CalmPlace) → IsIdleAt p → AllDone p) (few : (p : Calm
       let q : IsQuiet e = go e here (may (place front (e ∷ rest) here quiet) e rest refl refl) in
       (q, all-quiet (front ++ e ∷ []) rest (here ∙ sym (append_assoc front (e ∷ []) rest)) (every-append IsQuiet front (e ∷ []) quiet (q, tt)))
     where
-      go : (e : Entry) (h : r.trace.entries ≡ front ++ e ∷ rest) → MayStop (most_effects r most) (place front (e ∷ rest) h quiet) e → IsQuiet e
+      go : (e : Entry) (h : r.trace.entries ≡ front ++ e ∷ rest) → MayStop (most_pages r most) (place front (e ∷ rest) h quiet) e → IsQuiet e
       go (Crash n k) h m = m
-      go (Down n (Full pages)) h m = too-much (length (log_at (place front (Down n (Full pages) ∷ rest) h quiet) n)) pages (most_effects r most) (few (place front (Down n (Full pages) ∷ rest) h quiet) most n asks) m.0 m.1
+      go (Down n (Full pages)) h m = too-much (filled_by (log_at (place front (Down n (Full pages) ∷ rest) h quiet) n)) pages (most_pages r most) (few (place front (Down n (Full pages) ∷ rest) h quiet) most n asks) m.0 m.1
       go (Down n Medium) h m = m
       go (Down n (Damaged page)) h m = m
       go (Tick moment) h m =

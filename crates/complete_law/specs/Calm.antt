@@ -5,6 +5,7 @@ use Rattle.pseudo_time.specs.declared.nodes.NodeId.{NodeId}
 use Rattle.value_form.specs.declared.acts.ActSpec.{ActSpec}
 use Rattle.value_form.specs.declared.values.Value.{Value}
 use Rattle.effect_form.specs.declared.effects.Effect.{Effect}
+use Rattle.effect_form.specs.declared.effects.Effect.TheVariants as effect
 use Rattle.effect_form.specs.declared.outcomes.Outcome.{Outcome}
 use Rattle.effect_form.specs.declared.outcomes.Outcome.TheVariants as outcome
 use Rattle.message_form.specs.declared.messages.Message.{Message}
@@ -127,6 +128,29 @@ most_messages r q = tries_in r.plan.acts * (4 * q + 4)
 abbrev pub most_effects : CalmRun → ℕ → ℕ
 most_effects r q = 1 + tries_in r.plan.acts * (q + 3)
 
+-- how many pages an effect fills at most where it shares none: a Run is short, and no other effect fills more than 17
+abbrev pub most_filled : Effect → ℕ
+most_filled (effect.Put object start value) = 17
+most_filled (effect.Stretch object end) = 17
+most_filled (effect.Begin stamp deadline) = 17
+most_filled (effect.Decide stamp decision) = 17
+most_filled (effect.Learn stamp committed) = 17
+most_filled (effect.Run number) = 1
+most_filled (effect.Act index home timeout tries clock script) = 17
+most_filled (effect.Try index stamp) = 17
+most_filled (effect.Got step value) = 17
+most_filled (effect.Acked step) = 17
+most_filled (effect.End index outcome) = 17
+most_filled (effect.Mark at) = 17
+most_filled effect.Whole = 17
+
+abbrev pub filled_by : List Effect → ℕ
+filled_by [] = 0
+filled_by (e ∷ es) = most_filled e + filled_by es
+
+abbrev pub most_pages : CalmRun → ℕ → ℕ
+most_pages r q = 1 + 17 * (tries_in r.plan.acts * (q + 3))
+
 -- ---- outcomes
 
 -- the last attempt that the act may have ended so, where its write was refused; else the act is over
@@ -166,7 +190,7 @@ MayStop pages p (Learn node stamp committed) = Unit {0}
 MayStop pages p (Hear node) = Unit {0}
 MayStop pages p (Gate node) = Unit {0}
 MayStop pages p (Crash node kept) = ⊥
-MayStop pages p (Down node (Full most)) = (pages ≤ most) × (most < length (log_at p node))
+MayStop pages p (Down node (Full most)) = (pages ≤ most) × (most < filled_by (log_at p node))
 MayStop pages p (Down node Medium) = ⊥
 MayStop pages p (Down node (Damaged page)) = ⊥
 MayStop pages p (Tick moment) = AllDone p → ⊥

@@ -1,11 +1,13 @@
 -- How many bytes effects take, and that a back place changes no range.
-use Rattle.std.proofs.Common.{◌≡◌, ℕ, ◌≤◌, List, ◌∷◌, length, Option, None, refl, ap, arith, length-append}
+use Rattle.std.proofs.Common.{◌≡◌, ℕ, ◌≤◌, nat_le, List, ◌∷◌, ◌++◌, length, Option, None, refl, ap, arith, length-append, inl, inr}
+use Rattle.std.specs.Int.{w16, w32, to_be_bytes}
+use Rattle.std.proofs.lemmas.Bool.{cases_Bool, cond-true, cond-false}
 use Rattle.pseudo_time.specs.declared.decisions.Decision.{Decision}
 use Rattle.pseudo_time.specs.declared.decisions.Decision.TheVariants as decision
 use Rattle.field_form.specs.Decisions.{decision_text}
 use Rattle.value_form.specs.declared.values.Value.{Value}
 use Rattle.value_form.specs.declared.values.Value.TheVariants.{Nothing, Number, Text}
-use Rattle.value_form.specs.ValueBytes.{IsValue, value_bytes}
+use Rattle.value_form.specs.ValueBytes.{IsValue, text_bytes, value_bytes}
 use Rattle.effect_form.specs.declared.effects.Effect.{Effect}
 use Rattle.effect_form.specs.declared.effects.Effect.TheVariants.{Put, Stretch, Begin, Decide, Learn, Run, Act, Try, Got, Acked, End, Mark, Whole}
 use Rattle.effect_form.specs.declared.effects.Place.{Place}
@@ -33,10 +35,17 @@ effect_cons (Whole, back) = (_, _, refl)
 pub size_some : (e : Effect) → 1 ≤ size_of e
 size_some e = let first = effect_cons (e, None) in omega (arith, ap length first.2)
 
-value_most : (v : Value) → IsValue v → length (value_bytes v) ≤ 1003
+-- a tag, the length in two bytes or in four, and the text
+text_most : (bytes : List ℕ) → length bytes ≤ 65536 → length (text_bytes bytes) ≤ 65541
+text_most bytes most = elim (cases_Bool (nat_le (length bytes) 1000)) [
+  | inl short ↦ rw (cond-true (nat_le (length bytes) 1000) (2 ∷ (to_be_bytes w16 (length bytes) ++ bytes)) (3 ∷ (to_be_bytes w32 (length bytes) ++ bytes)) short) (omega (arith, most))
+  | inr long ↦ rw (cond-false (nat_le (length bytes) 1000) (2 ∷ (to_be_bytes w16 (length bytes) ++ bytes)) (3 ∷ (to_be_bytes w32 (length bytes) ++ bytes)) long) (omega (arith, most))
+]
+
+value_most : (v : Value) → IsValue v → length (value_bytes v) ≤ 65541
 value_most Nothing h = omega arith
 value_most (Number z) h = omega arith
-value_most (Text bytes) h = omega (arith, h.0)
+value_most (Text bytes) h = text_most bytes h.0
 
 outcome_most : (outcome : Outcome) → length (outcome_bytes outcome) ≤ 20
 outcome_most Committed = omega arith
@@ -52,8 +61,8 @@ decision_most decision.Committed = omega arith
 decision_most decision.Withdrawn = omega arith
 decision_most (decision.Expired deadline moment) = omega arith
 
--- the longest is an act with a script of 3,900 bytes
-pub size_most : (e : Effect) → IsEffect e → size_of e ≤ 3921
+-- the longest is a Put of a text of 65,536 bytes
+pub size_most : (e : Effect) → IsEffect e → size_of e ≤ 65567
 size_most (Put object start v) h = let most = value_most v h.2 in omega (arith, most, length-append (value_bytes v) (back_bytes None))
 size_most (Stretch object at) h = omega arith
 size_most (Begin stamp deadline) h = omega arith

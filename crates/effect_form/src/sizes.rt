@@ -7,17 +7,24 @@ ghost use Rattle.effect_form.specs.Outcomes.{outcome_bytes};
 use crate::effects::Effect;
 use crate::outcomes::Outcome;
 use pseudo_time::Decision;
-use value_form::Value;
+use value_form::{MOST_SHORT_BYTES, Value};
 
 fn value_size(value: &Value) -> usize
     requires { IsValue value.now }
     ensures is { result ≡ length (value_bytes value.now) }
-    ensures most { result ≤ 1003 }
+    ensures most { result ≤ 65541 }
 {
     match value {
         Value::Nothing => 1,
         Value::Number(_) => 9,
-        Value::Text(text) => 3 + text.as_slice().len(),
+        Value::Text(text) => {
+            let size = text.as_slice().len();
+            if size <= MOST_SHORT_BYTES as usize {
+                3 + size
+            } else {
+                5 + size
+            }
+        }
     }
 }
 
@@ -45,13 +52,13 @@ fn outcome_size(outcome: Outcome) -> usize
     }
 }
 
-/// How many bytes an effect takes, whatever its back place is. The longest is an act with a script of
-/// 3,900 bytes.
+/// How many bytes an effect takes, whatever its back place is. The longest is a Put of a text of
+/// 65,536 bytes.
 pub fn effect_size(effect: &Effect) -> usize
     requires { IsEffect effect.now }
     ensures is { result ≡ size_of effect.now }
     ensures some { 1 ≤ result }
-    ensures most { result ≤ 3921 }
+    ensures most { result ≤ 65567 }
 {
     match effect {
         Effect::Put { value, .. } => 26 + value_size(value),

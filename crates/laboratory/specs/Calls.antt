@@ -3,7 +3,7 @@ use Rattle.std.specs.Prelude.{◌≡◌, ◌⊎◌, ℕ, true, ◌==◌, List, [
 use Rattle.std.specs.List.{All, slice_split}
 use Rattle.std.specs.String.{string_bytes}
 use Rattle.medium_port.specs.MemoryMedia.{pages_of, reads_of, leaves, failed_in, faults_in, last_of, moment_in, left_since_in}
-use Rattle.medium_port.specs.MemoryShelves.{TakenFrom, image_under, LeftUnder, faults_under, shelf_faults}
+use Rattle.medium_port.specs.MemoryShelves.{TakenFrom, asked_for, image_under, LeftUnder, faults_under, shelf_faults}
 use Rattle.medium_port.specs.declared.memory_media.MemoryMedium.{MemoryMedium}
 use Rattle.medium_port.specs.declared.memory_shelves.MemoryShelf.{MemoryShelf}
 use Rattle.wire_lock.specs.Stories.{no_trace}
@@ -41,7 +41,7 @@ memory_media = record {
 }
 
 abbrev pub sight_of : MemoryShelf → ShelfSight
-sight_of s = record { holds = image_under s; may_hold = LeftUnder s; medium_faults = faults_under s; is_taken = TakenFrom s; faults = shelf_faults s }
+sight_of s = record { holds = image_under s; may_hold = LeftUnder s; medium_faults = faults_under s; is_taken = TakenFrom s; asked = asked_for s; faults = shelf_faults s }
 
 -- the sink got nothing
 abbrev pub IsUnwritten : Sinking → Type 0

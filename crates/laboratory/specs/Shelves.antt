@@ -3,7 +3,7 @@ use Rattle.std.specs.Prelude.{◌≡◌, ◌≢◌, ℕ, false, ◌==◌, List, 
 use Rattle.pseudo_time.specs.declared.nodes.NodeKind.TheVariants.{Repository}
 use Rattle.medium_port.specs.Image.{IsImage, IsBlankImage, Only}
 use Rattle.medium_port.specs.MemoryMedia.{pages_of, reads_of, leaves, stops_of, calls_of, faults_in, failed_in}
-use Rattle.medium_port.specs.MemoryShelves.{under, failing, new_pages, shelf_faults}
+use Rattle.medium_port.specs.MemoryShelves.{asked_for, under, failing, new_pages, shelf_faults}
 use Rattle.medium_port.specs.declared.shelves.MediumName.{MediumName}
 use Rattle.medium_port.specs.declared.memory_media.MemoryMedium.{MemoryMedium}
 use Rattle.medium_port.specs.declared.memory_shelves.MemoryShelf.{MemoryShelf}
@@ -34,11 +34,12 @@ pub record IsFresh (pages : ℕ) (stops : List Stop) (m : MemoryMedium) : Type 0
 abbrev pub first_name : MediumName
 first_name = record { kind = Repository; number = 1; volume = 0 }
 
--- Each medium is blank and has so many pages, that of the first repository stops as was said, and none was taken. No taking has failed or is to fail.
+-- Each medium is blank and has so many pages, that of the first repository stops as was said, and none was asked for. No taking has failed or is to fail.
 pub record IsLabShelf (lab : Lab) (s : MemoryShelf) : Type 0 where
   pub first : (m : MemoryMedium) × (under s first_name ≡ Some (Some m)) × IsFresh lab.pages (stops_at lab.stop) m
   -- nothing was put under any other name, so that a blank medium is made for it
   pub others : (name : MediumName) → name ≢ first_name → under s name ≡ None
   pub size : new_pages s ≡ lab.pages
+  pub unasked : asked_for s ≡ []
   pub well : failing s ≡ []
   pub faults : shelf_faults s ≡ 0

@@ -1,3 +1,4 @@
+pub mod AskedNames
 pub mod Disk
 pub mod Files
 pub mod HeldPages

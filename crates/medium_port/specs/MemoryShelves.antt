@@ -1,5 +1,6 @@
 -- What a shelf over memory has.
 use Rattle.std.specs.Prelude.{◌≡◌, ℕ, List, Option, replicate}
+use Rattle.medium_port.specs.AskedNames.{names_of}
 use Rattle.medium_port.specs.Image.{Image}
 use Rattle.medium_port.specs.Slots.{slot_of, NowHas, IsTaken, image_there, left_there, faults_there}
 use Rattle.medium_port.specs.declared.shelves.MediumName.{MediumName}
@@ -31,6 +32,10 @@ faults_under s name = faults_there (under s name)
 abbrev pub failing : MemoryShelf → List MediumName
 failing s = s.fails.items
 
+-- the names that were asked for
+abbrev pub asked_for : MemoryShelf → List MediumName
+asked_for s = names_of s.asked
+
 -- the pages that a blank medium gets
 abbrev pub new_pages : MemoryShelf → ℕ
 new_pages s = s.pages
@@ -50,8 +55,9 @@ NowUnder name held old new = NowHas name held old.slots.items new.slots.items
 abbrev pub SameUnder : MemoryShelf → MemoryShelf → Type 0
 SameUnder old new = new.slots.items ≡ old.slots.items
 
--- and so are the counts and the size of new media
+-- and so are the counts, the size of new media, and what was asked for
 pub record SameCounts (old new : MemoryShelf) : Type 0 where
   pub pages : new.pages ≡ old.pages
   pub faults : new.faults ≡ old.faults
   pub starved : new.starved ≡ old.starved
+  pub asked : asked_for new ≡ asked_for old

@@ -4,13 +4,15 @@ ghost use Rattle.stream_port.specs.Causes.{Rose};
 use crate::accounts::Account;
 use crate::healths::Health;
 use crate::media::{Medium, MediumFault};
+use std::fmt::Display;
 use std::fs::File;
 use std::io;
 use std::os::unix::fs::FileExt;
 use std::snapshot::Snapshot;
 
 /// A medium over a file, which no other program can take while it lives. It tells no content. The
-/// first call that fails says on standard error why.
+/// first call that fails says on standard error why. Where a look finds no file, it reads 0 and each
+/// write fails.
 ///
 /// A write or a sync that failed is final: the medium isn't reopened after it. A full disk would
 /// refuse the same write again for ever, and after a failed sync a system may drop what it couldn't
@@ -20,7 +22,8 @@ use std::snapshot::Snapshot;
 /// written, and that a crash after a sync leaves it.
 #[derive(Drop)]
 pub struct FileMedium {
-    file: File,
+    // None where a look finds none.
+    file: Option<File>,
     count: u32,
     health: Health,
     account: Account,
@@ -32,14 +35,27 @@ pub struct FileMedium {
     ghost most: { count ≤ 1048576 },
 }
 
+const NO_FILE: &str = "not there, and a look makes none";
+
 // The place of a byte of a page in the file.
 fn offset(page: u32, at: u16) -> u64 {
     page as u64 * 4096 + at as u64
 }
 
+// Reads a page of the file, or 0 where there is none.
+fn read_page(file: &Option<File>, page: u32, into: &mut [u8; 4096]) -> io::Result<()> {
+    match file {
+        Some(file) => file.read_exact_at(into, offset(page, 0)),
+        None => {
+            *into = [0; 4096];
+            Ok(())
+        }
+    }
+}
+
 impl FileMedium {
     // A medium of the file's first pages.
-    pub(crate) fn new(file: File, count: u32, account: Account) -> FileMedium
+    pub(crate) fn new(file: Option<File>, count: u32, account: Account) -> FileMedium
         requires some { 1 ≤ count }
         requires most { count ≤ 1048576 }
         ensures open { result.health ≡ record { failed = false; faults = 0 } }
@@ -60,7 +76,7 @@ impl FileMedium {
     }
 
     // Counts a fault, and says why.
-    fn fail(&mut self, reason: io::Error) -> MediumFault
+    fn fail<D: Display + Drop>(&mut self, reason: D) -> MediumFault
         ensures failed { self.new.health.failed ≡ true }
         ensures rose { Rose self.old.health.faults self.new.health.faults }
         ensures later { self.old.health.faults ≤ self.new.health.faults }
@@ -107,17 +123,18 @@ impl Medium for FileMedium {
     }
 
     fn read(&mut self, page: u32, into: &mut [u8; 4096]) -> Result<(), MediumFault> {
-        match self.file.read_exact_at(into, offset(page, 0)) {
-            Ok(()) => {
-                self.last = Some((page, Snapshot::of(into)));
-                Ok(())
-            }
-            Err(error) => Err(self.fail(error)),
+        if let Err(error) = read_page(&self.file, page, into) {
+            return Err(self.fail(error));
         }
+        self.last = Some((page, Snapshot::of(into)));
+        Ok(())
     }
 
     fn write(&mut self, page: u32, at: u16, bytes: &[u8]) -> Result<(), MediumFault> {
-        match self.file.write_all_at(bytes, offset(page, at)) {
+        let Some(file) = &self.file else {
+            return Err(self.fail(NO_FILE));
+        };
+        match file.write_all_at(bytes, offset(page, at)) {
             Ok(()) => Ok(()),
             Err(error) => {
                 self.lost = true;
@@ -127,7 +144,10 @@ impl Medium for FileMedium {
     }
 
     fn sync(&mut self) -> Result<(), MediumFault> {
-        match self.file.sync_data() {
+        let Some(file) = &self.file else {
+            return Ok(());
+        };
+        match file.sync_data() {
             Ok(()) => Ok(()),
             Err(error) => {
                 self.lost = true;
@@ -140,7 +160,11 @@ impl Medium for FileMedium {
         if self.lost {
             return Err(self.health.fail());
         }
-        match self.file.sync_all() {
+        let synced = match &self.file {
+            Some(file) => file.sync_all(),
+            None => Ok(()),
+        };
+        match synced {
             Ok(()) => {
                 self.health.failed = false;
                 Ok(())

@@ -2,6 +2,7 @@ ghost use Rattle.std.specs.Prelude.{◌≤◌, IfOk, IfSome};
 ghost use Rattle.medium_port.specs.Files.{IsNewMedium};
 
 use crate::accounts::Account;
+use crate::asked_names::AskedNames;
 use crate::file_media::FileMedium;
 use crate::media::MediumFault;
 use crate::shelves::{MediumName, Shelf};
@@ -18,12 +19,17 @@ pub const NEW_PAGES: u32 = 4096;
 
 const MOST_PAGES: u64 = 1_048_576;
 
+const NOT_THERE: &str = "not there yet";
+
 /// A shelf over the files of a folder. The medium of volume 0 of the first repository is the file
 /// `repository-1-0`. A file that isn't there, or is empty, is made with 4,096 pages. A file that
 /// another program has for a medium can't be taken.
 ///
 /// A folder is one program's at a time: the first taking locks the empty file `lock` in it, before
 /// any medium is opened or made, and a program that meets the lock takes nothing.
+///
+/// A shelf for a look makes no folder and no file. The medium of a file that isn't there yet reads 0,
+/// and takes no write.
 ///
 /// A taking that fails, and each medium at its first fault, says on standard error why: a line with
 /// the medium's file and the system's reason.
@@ -36,8 +42,11 @@ pub struct FileShelf<R: Files<File = File>> {
     lock_path: String,
     // The folder's lock, once it was taken.
     lock: Option<File>,
+    // Whether folders and files are made.
+    makes: bool,
     taken: Vec<MediumName>,
     faults: u64,
+    asked: AskedNames,
 }
 
 impl<R: Files<File = File>> FileShelf<R> {
@@ -51,6 +60,32 @@ impl<R: Files<File = File>> FileShelf<R> {
     where
         R: Drop,
     {
+        FileShelf::over(alloc, files, errors, folder, true)
+    }
+
+    /// A shelf for a look into this folder: it makes nothing.
+    pub fn for_a_look(
+        alloc: Global,
+        files: R,
+        errors: Stderr,
+        folder: &str,
+    ) -> Result<FileShelf<R>, AllocError>
+    where
+        R: Drop,
+    {
+        FileShelf::over(alloc, files, errors, folder, false)
+    }
+
+    fn over(
+        alloc: Global,
+        files: R,
+        errors: Stderr,
+        folder: &str,
+        makes: bool,
+    ) -> Result<FileShelf<R>, AllocError>
+    where
+        R: Drop,
+    {
         let lock_path = format!(in alloc; "{}/lock", folder)?;
         let folder = folder.to_string(alloc)?;
         Ok(FileShelf {
@@ -60,8 +95,10 @@ impl<R: Files<File = File>> FileShelf<R> {
             folder,
             lock_path,
             lock: None,
+            makes,
             taken: Vec::new(alloc),
             faults: 0,
+            asked: AskedNames::new(),
         })
     }
 }
@@ -169,17 +206,26 @@ fn measure(files: &impl Files<File = File>, folder: &str, file: &File) -> Result
     Ok(pages as u32)
 }
 
-// Opens a file, which is made where it isn't there.
-fn open_regular(files: &impl Files<File = File>, path: &str) -> Result<File, Refusal> {
-    let file = File::options()
+// Opens a file. Where it isn't there it is made, or there is none.
+fn open_regular(
+    files: &impl Files<File = File>,
+    path: &str,
+    makes: bool,
+) -> Result<Option<File>, Refusal> {
+    let opened = File::options()
         .read(true)
-        .write(true)
-        .create(true)
-        .open(files, path)?;
+        .write(makes)
+        .create(makes)
+        .open(files, path);
+    let file = match opened {
+        Ok(file) => file,
+        Err(error) if !makes && error.kind() == ErrorKind::NotFound => return Ok(None),
+        Err(error) => return Err(error.into()),
+    };
     if !file.metadata()?.is_file() {
         return Err(Refusal::NoFile);
     }
-    Ok(file)
+    Ok(Some(file))
 }
 
 // Locks a file. The lock is the file's, and the system lifts it at its end.
@@ -191,34 +237,44 @@ fn lock_file(file: &File) -> Result<(), Refusal> {
     }
 }
 
-// Locks the folder, unless that was done.
+// Locks the folder, unless that was done. A look takes no lock where no run has made its file.
 fn lock_folder(
     files: &impl Files<File = File>,
     folder: &str,
     path: &str,
+    makes: bool,
     lock: &mut Option<File>,
 ) -> Result<(), Refusal> {
     if lock.is_none() {
-        make_folder(files, folder)?;
-        let file = open_regular(files, path)?;
-        lock_file(&file)?;
-        *lock = Some(file);
+        if makes {
+            make_folder(files, folder)?;
+        }
+        if let Some(file) = open_regular(files, path, makes)? {
+            lock_file(&file)?;
+            *lock = Some(file);
+        }
     }
     Ok(())
 }
 
-// The file and its number of pages.
+// The file and its number of pages. A look finds none that isn't there or is empty.
 fn open_file(
     files: &impl Files<File = File>,
     folder: &str,
     path: &str,
-) -> Result<(File, u32), Refusal>
+    makes: bool,
+) -> Result<(Option<File>, u32), Refusal>
     ensures { IfOk result (λ r. (1 ≤ r.1) × (r.1 ≤ 1048576)) }
 {
-    let file = open_regular(files, path)?;
+    let Some(file) = open_regular(files, path, makes)? else {
+        return Ok((None, NEW_PAGES));
+    };
     lock_file(&file)?;
+    if !makes && file.metadata()?.len() == 0 {
+        return Ok((None, NEW_PAGES));
+    }
     let pages = measure(files, folder, &file)?;
-    Ok((file, pages))
+    Ok((Some(file), pages))
 }
 
 // The account of the medium of this name.
@@ -243,27 +299,34 @@ fn open_locked(
     files: &impl Files<File = File>,
     folder: &str,
     lock_path: &str,
+    makes: bool,
     lock: &mut Option<File>,
     path: &str,
-) -> Result<(File, u32), Refusal>
+) -> Result<(Option<File>, u32), Refusal>
     ensures { IfOk result (λ r. (1 ≤ r.1) × (r.1 ≤ 1048576)) }
 {
-    lock_folder(files, folder, lock_path, lock)?;
-    open_file(files, folder, path)
+    lock_folder(files, folder, lock_path, makes, lock)?;
+    open_file(files, folder, path, makes)
 }
 
-// Says why where there is none.
+// Says why where there is none, and where a look finds no file.
 fn open_medium(
     files: &impl Files<File = File>,
     folder: &str,
     lock_path: &str,
+    makes: bool,
     lock: &mut Option<File>,
     mut account: Account,
 ) -> Option<FileMedium>
     ensures { IfSome result (λ m. IsNewMedium m) }
 {
-    match open_locked(files, folder, lock_path, lock, account.path()) {
-        Ok((file, pages)) => Some(FileMedium::new(file, pages, account)),
+    match open_locked(files, folder, lock_path, makes, lock, account.path()) {
+        Ok((file, pages)) => {
+            if file.is_none() {
+                account.say(NOT_THERE);
+            }
+            Some(FileMedium::new(file, pages, account))
+        }
         Err(refusal) => {
             account.say(refusal);
             None
@@ -278,13 +341,14 @@ fn medium_of(
     errors: Stderr,
     folder: &str,
     lock_path: &str,
+    makes: bool,
     lock: &mut Option<File>,
     name: MediumName,
 ) -> Option<FileMedium>
     ensures { IfSome result (λ m. IsNewMedium m) }
 {
     match account_of(alloc, errors, folder, name) {
-        Ok(account) => open_medium(files, folder, lock_path, lock, account),
+        Ok(account) => open_medium(files, folder, lock_path, makes, lock, account),
         Err(_) => None,
     }
 }
@@ -293,6 +357,7 @@ impl<R: Files<File = File> + Drop> Shelf for FileShelf<R> {
     type Medium = FileMedium;
 
     ghost use Rattle.std.specs.Prelude.{[], ⊤, Contains};
+    ghost use Rattle.medium_port.specs.AskedNames.{names_of};
 
     ghost is_taken = { λ s name. Contains s.taken.items name };
 
@@ -302,6 +367,8 @@ impl<R: Files<File = File> + Drop> Shelf for FileShelf<R> {
 
     ghost medium_faults = { λ _ _. 0 };
 
+    ghost asked = { λ s. names_of s.asked };
+
     ghost faults = { λ s. s.faults };
 
     fn take(&mut self, kind: NodeKind, number: u8, volume: u32) -> Result<FileMedium, MediumFault> {
@@ -310,6 +377,7 @@ impl<R: Files<File = File> + Drop> Shelf for FileShelf<R> {
             number,
             volume,
         };
+        self.asked.add(name);
         if !self.taken.contains(&name) {
             let folder = self.folder.as_str();
             let lock_path = self.lock_path.as_str();
@@ -319,6 +387,7 @@ impl<R: Files<File = File> + Drop> Shelf for FileShelf<R> {
                 self.errors,
                 folder,
                 lock_path,
+                self.makes,
                 &mut self.lock,
                 name,
             );

@@ -3,6 +3,7 @@
 #![tactic(auto)]
 
 mod accounts;
+mod asked_names;
 mod events;
 mod file_media;
 mod file_shelves;

@@ -1,10 +1,11 @@
 ghost use Rattle.std.specs.Prelude.{◌≡◌, ◌≤◌, [], None, IfOk};
 ghost use Rattle.medium_port.specs.declared.shelves.MediumName.{MediumName};
 
+use crate::asked_names::AskedNames;
 use crate::media::MediumFault;
 use crate::meet_media::MeetMedium;
 use crate::memory_shelves::MemoryShelf;
-use crate::shelves::Shelf;
+use crate::shelves::{MediumName, Shelf};
 use pseudo_time::NodeKind;
 use std::alloc::{AllocError, Global};
 use std::sync::Arc;
@@ -18,6 +19,7 @@ pub struct MeetShelf {
     writers: Arc<AtomicU64, Global>,
     looks: u64,
     faults: u64,
+    asked: AskedNames,
 }
 
 impl MeetShelf {
@@ -36,6 +38,7 @@ impl MeetShelf {
             writers,
             looks,
             faults: 0,
+            asked: AskedNames::new(),
         })
     }
 }
@@ -52,7 +55,7 @@ impl Shelf for MeetShelf {
     type Medium = MeetMedium;
 
     ghost use Rattle.std.specs.Prelude.{⊤};
-    ghost use Rattle.medium_port.specs.MeetShelves.{TakenThere, faults_there, taking_faults};
+    ghost use Rattle.medium_port.specs.MeetShelves.{TakenThere, asked_there, faults_there, taking_faults};
 
     ghost is_taken = { TakenThere };
 
@@ -62,9 +65,16 @@ impl Shelf for MeetShelf {
 
     ghost medium_faults = { faults_there };
 
+    ghost asked = { asked_there };
+
     ghost faults = { taking_faults };
 
     fn take(&mut self, kind: NodeKind, number: u8, volume: u32) -> Result<MeetMedium, MediumFault> {
+        self.asked.add(MediumName {
+            kind,
+            number,
+            volume,
+        });
         if let Ok(writers) = Arc::try_clone(&self.writers) {
             if let Ok(medium) = self.inner.take(kind, number, volume) {
                 return Ok(MeetMedium::new(medium, writers, self.looks, meets(kind)));

@@ -4,6 +4,7 @@ ghost use Rattle.medium_port.specs.declared.shelves.MediumName.{MediumName};
 ghost use Rattle.medium_port.specs.declared.memory_media.MemoryMedium.{MemoryMedium};
 ghost use Rattle.medium_port.specs.Slots.{slot_of, NowHas, IsBlankOf};
 
+use crate::asked_names::AskedNames;
 use crate::held_pages::zero_page;
 use crate::media::MediumFault;
 use crate::memory_media::MemoryMedium;
@@ -23,6 +24,7 @@ pub struct MemoryShelf {
     fails: Vec<MediumName>,
     faults: u64,
     starved: u64,
+    asked: AskedNames,
     ghost some: { 1 ≤ pages },
     ghost most: { pages ≤ 1048576 },
     ghost size: { length zero ≡ 4096 },
@@ -32,7 +34,7 @@ pub struct MemoryShelf {
 
 impl MemoryShelf {
     ghost use Rattle.medium_port.specs.MemoryMedia.{failed_in};
-    ghost use Rattle.medium_port.specs.MemoryShelves.{under, failing, new_pages, shelf_faults, shelf_starved, NowUnder, SameUnder, SameCounts};
+    ghost use Rattle.medium_port.specs.MemoryShelves.{under, failing, asked_for, new_pages, shelf_faults, shelf_starved, NowUnder, SameUnder, SameCounts};
 
     /// A shelf whose blank media have so many pages.
     pub fn new(alloc: Global, pages: u32) -> MemoryShelf
@@ -42,6 +44,7 @@ impl MemoryShelf {
         ensures all_well { failing result ≡ [] }
         ensures pages { new_pages result ≡ pages }
         ensures faults { (shelf_faults result ≡ 0) × (shelf_starved result ≡ 0) }
+        ensures asked { asked_for result ≡ [] }
     {
         MemoryShelf {
             alloc,
@@ -51,6 +54,7 @@ impl MemoryShelf {
             fails: Vec::new(alloc),
             faults: 0,
             starved: 0,
+            asked: AskedNames::new(),
         }
     }
 
@@ -140,7 +144,7 @@ impl Shelf for MemoryShelf {
 
     ghost use Rattle.medium_port.specs.Names.{IsJustSo};
     ghost use Rattle.medium_port.specs.MemoryMedia.{reads_of, leaves, failed_in, faults_in};
-    ghost use Rattle.medium_port.specs.MemoryShelves.{TakenFrom, image_under, LeftUnder, faults_under, failing, new_pages, shelf_faults, shelf_starved};
+    ghost use Rattle.medium_port.specs.MemoryShelves.{TakenFrom, image_under, LeftUnder, faults_under, failing, asked_for, new_pages, shelf_faults, shelf_starved};
 
     ghost is_taken = { TakenFrom };
 
@@ -149,6 +153,8 @@ impl Shelf for MemoryShelf {
     ghost may_hold = { LeftUnder };
 
     ghost medium_faults = { faults_under };
+
+    ghost asked = { asked_for };
 
     ghost faults = { shelf_faults };
 
@@ -171,6 +177,7 @@ impl Shelf for MemoryShelf {
         ensures err_content { IsTrue true →
             OnErr result ((name : MediumName) →
             IsJustSo (image_under self.old name) (image_under self.new name) (LeftUnder self.old name) (LeftUnder self.new name)) }
+        ensures asked { asked_for self.new ≡ asked_for self.old ++ record { kind = kind; number = number; volume = volume } ∷ [] }
         ensures cause { HasCause (shelf_faults self.old) (shelf_faults self.new) result }
         // A taking fails exactly where the name is listed, was taken, or memory is wanting.
         ensures listed { Contains (failing self.old) (record { kind = kind; number = number; volume = volume }) → IsErr result }
@@ -185,6 +192,7 @@ impl Shelf for MemoryShelf {
             number,
             volume,
         };
+        self.asked.add(name);
         if !self.fails.contains(&name) {
             match place_of(self.slots.as_slice(), name) {
                 Some(index) => {

@@ -1,4 +1,4 @@
-ghost use Rattle.std.specs.Prelude.{◌≡◌, ◌≢◌, ◌↔◌, ℕ, IsTrue, IsErr, IfOk, OnErr, false};
+ghost use Rattle.std.specs.Prelude.{◌≡◌, ◌≢◌, ◌↔◌, ◌++◌, ◌∷◌, [], ℕ, List, IsTrue, IsErr, IfOk, OnErr, false};
 ghost use Rattle.stream_port.specs.Causes.{HasCause};
 ghost use Rattle.medium_port.specs.Image.{Image};
 ghost use Rattle.medium_port.specs.Names.{IsJustSo};
@@ -33,6 +33,9 @@ pub trait Shelf {
     /// How often it has failed.
     ghost medium_faults: { Self → MediumName → ℕ };
 
+    /// The names that were asked for so far, in order, whether or not the medium was handed out.
+    ghost asked: { Self → List MediumName };
+
     /// How often a taking has failed. It never falls, and stays at 2^64 - 1.
     ghost faults: { Self → ℕ };
 
@@ -56,5 +59,6 @@ pub trait Shelf {
         ensures err_count { OnErr result ((name : MediumName) → medium_faults self.new name ≡ medium_faults self.old name) }
         ensures err_content { IsTrue Self.Medium.tells →
             OnErr result ((name : MediumName) → IsJustSo (holds self.old name) (holds self.new name) (may_hold self.old name) (may_hold self.new name)) }
+        ensures asked { asked self.new ≡ asked self.old ++ record { kind = kind; number = number; volume = volume } ∷ [] }
         ensures cause { HasCause (faults self.old) (faults self.new) result };
 }

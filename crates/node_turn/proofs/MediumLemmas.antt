@@ -1,11 +1,12 @@
 -- What an append and an opening leave of a medium, for the cores that keep their log on it.
-use Rattle.std.proofs.Common.{◌≡◌, ◌≢◌, ℕ, ◌≤◌, ◌<◌, Bool, true, List, [], ◌++◌, length, Result, Ok, Err, IsTrue, IfOk, IfErr, OnOk, refl, sym, ap, subst, ◌∙◌}
+use Rattle.std.proofs.Common.{◌≡◌, ◌≢◌, ℕ, ◌≤◌, ◌<◌, ◌+◌, Bool, true, List, [], ◌++◌, length, Result, Ok, Err, IsTrue, IfOk, IfErr, OnOk, refl, sym, ap, subst, ◌∙◌, arith}
 use Rattle.std.specs.Prelude.{count_by, IsErrOf}
 use Rattle.stream_port.specs.Causes.{Rose}
 use Rattle.medium_port.specs.Image.{Image, IsImage, Only, NoMore}
 use Rattle.pseudo_time.specs.declared.nodes.NodeId.{NodeId}
 use Rattle.page_gate.specs.States.{is_blank}
 use Rattle.effect_form.specs.declared.effects.Effect.{Effect}
+use Rattle.effect_form.specs.Effects.{AreEffects}
 use Rattle.version_store.specs.declared.faults.OpenFault.{OpenFault}
 use Rattle.version_store.specs.declared.faults.OpenFault.TheVariants as opening
 use Rattle.version_store.specs.declared.faults.StoreFault.{StoreFault}
@@ -13,9 +14,10 @@ use Rattle.version_store.specs.declared.faults.StoreFault.TheVariants as adding
 use Rattle.version_store.specs.Entries.{effects_of}
 use Rattle.version_store.specs.Filling.{HasPrefix, KeepsPages, StaysClean, filling}
 use Rattle.version_store.specs.Settled.{IsSettled}
+use Rattle.version_store.proofs.FillingLemmas.{filling-apart}
 use Rattle.version_store.specs.Storage.{storage, effects_found, log_of}
 use Rattle.world_core.specs.Walks.{Base, Life, opened_life, gated_life}
-use Rattle.node_turn.specs.Cores.{CoreParts, IsIntact, LeavesLog, IsReady, IsFull, IsAppended, IsReopened}
+use Rattle.node_turn.specs.Cores.{CoreParts, HasGrown, IsIntact, LeavesLog, IsReady, IsFull, IsAppended, IsReopened}
 
 -- ---- answers
 
@@ -41,6 +43,16 @@ module _ (image : Image) (images : Image → Type 0) (settled : IsSettled image 
 
   pub leaves-log : (log : List Effect) → effects_read image ≡ log → LeavesLog images log
   leaves-log log e c left = ap storage (settled.only c left) ∙ storage-settled ∙ ap (λ (l : List Effect). Ok l) e
+
+-- so many blank pages less, where these effects were added
+has-grown : (old : Image) (was : Image → Type 0) (new : Image) (is : Image → Type 0) → IsSettled old was → IsSettled new is → (effects : List Effect) → AreEffects effects → effects_read new ≡ effects_read old ++ effects
+    → count_by is_blank new + length (filling effects) ≡ count_by is_blank old → (log : List Effect) → storage old ≡ Ok log → HasGrown log old new
+has-grown old was new is rested rests effects ranges added used log e = record {
+  more = effects;
+  ranges = ranges;
+  is = storage-settled new is rests ∙ ap (λ (l : List Effect). Ok l) (added ∙ ap (λ (l : List Effect). l ++ effects) (ok-same (effects_read old) log (sym (storage-settled old was rested) ∙ e)));
+  pages = let most = filling-apart effects in omega (arith, used, most);
+}
 
 -- no image is new where reads give the same
 pub none-new : (old new : Image) (was is : Image → Type 0) → new ≡ old → was old → IsSettled new is → NoMore was is
@@ -87,12 +99,13 @@ module _ {M : Type 0} (tells : Bool) (faults pages : M → ℕ) (reads : M → I
 
   -- all was added
   pub appends-all : {T : Type 0} (x : T) → ((m : M) (c : Image) → IsTrue tells → may_leave m c → IsImage (pages m) c) → pages new ≡ pages old → (IsTrue tells → IsSettled (reads new) (may_leave new)) → (IsTrue tells → effects_read (reads new) ≡ effects_read (reads old) ++ effects)
-      → (IsTrue tells → KeepsPages (reads old) (reads new)) → (IsTrue tells → StaysClean (reads old) (reads new)) → AppendsTo tells faults pages reads may_leave old new effects (Ok x)
-  appends-all x shape size rests grown keeps clean = record {
+      → (IsTrue tells → KeepsPages (reads old) (reads new)) → (IsTrue tells → StaysClean (reads old) (reads new)) → AreEffects effects → (IsTrue tells → count_by is_blank (reads new) + length (filling effects) ≡ count_by is_blank (reads old))
+      → AppendsTo tells faults pages reads may_leave old new effects (Ok x)
+  appends-all x shape size rests grown keeps clean ranges used = record {
     later = later;
     left = λ t log leaves. leaves-log (reads new) (may_leave new) (rests t) (log ++ effects) (grown t ∙ ap (λ l. l ++ effects) (log-left (reads old) (may_leave old) (settled t) log (now old t) leaves));
     images = images-from;
-    intact = λ t. record { count = (shape new (reads new) t (now new t)).count ∙ size ∙ sym (shape old (reads old) t (now old t)).count; keeps = keeps t; clean = clean t };
+    intact = λ t. record { count = (shape new (reads new) t (now new t)).count ∙ size ∙ sym (shape old (reads old) t (now old t)).count; keeps = keeps t; clean = clean t; grown = has-grown (reads old) (may_leave old) (reads new) (may_leave new) (settled t) (rests t) effects ranges (grown t) (used t) };
     nothing = tt;
     full = tt;
     cause = λ e. absurd (cc e);

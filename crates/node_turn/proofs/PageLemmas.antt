@@ -1,10 +1,11 @@
 -- An image against itself.
-use Rattle.std.proofs.Common.{◌≡◌, Bool, true, ◌==◌, List, ℕ, drop, refl, sym, ap, ◌∙◌, if◌then◌else◌}
+use Rattle.std.proofs.Common.{◌≡◌, Bool, true, ◌==◌, List, [], ℕ, Ok, drop, refl, sym, ap, ◌∙◌, if◌then◌else◌, append-nil, arith}
 use Rattle.std.specs.Prelude.{slice_index}
 use Rattle.medium_port.specs.Image.{Image, page_of}
 use Rattle.page_gate.specs.States.{is_blank, state_of}
 use Rattle.page_gate.specs.declared.pages.PageState.{PageState}
 use Rattle.page_gate.specs.declared.pages.PageState.TheVariants.{Blank, Spoiled, Gated}
+use Rattle.effect_form.specs.declared.effects.Effect.{Effect}
 use Rattle.node_turn.specs.Cores.{IsIntact}
 
 blank-is : (p : List ℕ) → is_blank p ≡ true → state_of p ≡ Blank
@@ -16,4 +17,5 @@ whole-same i = record {
   count = refl;
   keeps = λ page h. refl;
   clean = λ page h e. let z : ◌≡◌ {A = PageState} Blank Spoiled = sym (blank-is (page_of i page) h) ∙ e in cc z;
+  grown = λ log is. record { more = []; ranges = tt; is = is ∙ ap (λ (l : List Effect). Ok l) (sym (append-nil log)); pages = omega arith };
 }

@@ -1,5 +1,5 @@
 -- What the calls of a core that keeps its log on a medium do. Logs stand oldest first.
-use Rattle.std.specs.Prelude.{◌≡◌, ◌≢◌, ◌≤◌, ◌<◌, ℕ, Bool, true, List, [], ◌++◌, length, count_by, Result, Ok, IsTrue, IfOk, IfErr, OnOk, IsErrOf}
+use Rattle.std.specs.Prelude.{◌≡◌, ◌≢◌, ◌≤◌, ◌<◌, ◌+◌, ℕ, Bool, true, List, [], ◌++◌, length, count_by, Result, Ok, IsTrue, IfOk, IfErr, OnOk, IsErrOf}
 use Rattle.stream_port.specs.Causes.{Rose}
 use Rattle.medium_port.specs.Image.{Image, NoMore}
 use Rattle.page_gate.specs.States.{is_blank}
@@ -14,7 +14,7 @@ use Rattle.version_store.specs.declared.faults.StoreFault.{StoreFault}
 use Rattle.version_store.specs.declared.faults.StoreFault.TheVariants as adding
 use Rattle.version_store.specs.declared.faults.OpenFault.{OpenFault}
 use Rattle.version_store.specs.declared.faults.OpenFault.TheVariants as opening
-use Rattle.version_store.specs.Filling.{HasPrefix, KeepsPages, StaysClean, filling}
+use Rattle.version_store.specs.Filling.{HasPrefix, KeepsPages, StaysClean, filling, pages_apart}
 use Rattle.version_store.specs.Storage.{storage}
 use Rattle.world_core.specs.Nodes.{Input, Given, gives, is_ready}
 use Rattle.world_core.specs.Walks.{Base, Life, all_effects, opened_life, gated_life, after_input}
@@ -38,11 +38,19 @@ given_for b n l input = gives b.script b.run b.acts n (all_effects l) l.mind inp
 abbrev pub HasTurn : Given → Turn → Type 0
 HasTurn g t = (t.effects ≡ g.effects) × (t.outs ≡ g.outs)
 
--- the pages of an image are there later: none that wasn't blank was changed, and none that was is spoiled
+-- behind this log stand more effects, and no more pages were written than these fill where none shares one
+pub record HasGrown (log : List Effect) (old new : Image) : Type 0 where
+  pub more : List Effect
+  pub ranges : AreEffects more
+  pub is : storage new ≡ Ok (log ++ more)
+  pub pages : count_by is_blank old ≤ count_by is_blank new + pages_apart more
+
+-- the pages of an image are there later: none that wasn't blank was changed, none that was is spoiled, and what was written is the log's
 pub record IsIntact (old new : Image) : Type 0 where
   pub count : length new ≡ length old
   pub keeps : KeepsPages old new
   pub clean : StaysClean old new
+  pub grown : (log : List Effect) → storage old ≡ Ok log → HasGrown log old new
 
 -- the node's log shows neither a later run nor another plan
 abbrev pub IsReady : Base → NodeId → List Effect → Type 0

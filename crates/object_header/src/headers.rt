@@ -83,6 +83,8 @@ impl<M: Medium> HeaderTable<M> {
         ensures late { IfOk result (λ t. (ledger_of t).late ≡ []) }
         ensures log { IfOk result (λ t. (ledger_of t).log ≡ (ledger_of self).log ++ effects.now) }
         ensures left { IfOk result (λ t. left_in (store_of t) + length (filling effects.now) ≡ left_in (store_of self)) }
+        ensures used { IsTrue M.tells → IfOk result (λ t. count_by is_blank (M.reads (medium_of (store_of t))) + length (filling effects.now) ≡
+            count_by is_blank (M.reads (medium_of (store_of self)))) }
         ensures only { IsTrue M.tells → IfOk result (λ t. Only (M.reads (medium_of (store_of t))) (M.may_leave (medium_of (store_of t)))) }
 
         // Each image that is left has a prefix, at every moment, and only blank pages are written.

@@ -16,6 +16,7 @@ mod printing;
 mod transfers;
 
 pub use act_lines::Terms;
+pub use digits::number_behind;
 pub use laws::{law_of_made_plans, law_of_plans};
 pub use making::{make, step};
 pub use parsing::parse;

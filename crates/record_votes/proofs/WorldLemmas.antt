@@ -30,8 +30,13 @@ use Rattle.record_votes.proofs.PollLemmas as polls
 
 -- ---- a member
 
-pub record MemberFacts (m : Member) : Type 0 where
-  pub once : Tidy (all_effects m)
+-- no premise
+abbrev Sure : Type 0
+Sure = Unit {0}
+
+-- That its log decides each stamp once holds on a premise: that the logs that were opened did so.
+pub record MemberFacts (P : Type 0) (m : Member) : Type 0 where
+  pub once : P → Tidy (all_effects m)
   pub answers : (to : NodeId) (x : StampParts) (d : Decision) → Has (said to x d) m.owed → voted (all_effects m) x ≡ Some d
 
 -- its durable log goes on
@@ -42,17 +47,17 @@ pub record Grows (old new : Member) : Type 0 where
 whole-turned : (m : Member) (moment : ℕ) (g : Given) → all_effects (turned m moment g) ≡ all_effects m ++ g.effects
 whole-turned m moment g = sym (append_assoc m.gated m.fresh g.effects)
 
-turned-facts : (m : Member) (moment : ℕ) (g : Given) → Says (all_effects m) g → MemberFacts m → MemberFacts (turned m moment g)
-turned-facts m moment g says facts = record {
-  once = subst Tidy (sym (whole-turned m moment g)) (tidy-more (all_effects m) g.effects facts.once says.fits);
+turned-facts : (P : Type 0) (m : Member) (moment : ℕ) (g : Given) → Says (all_effects m) g → MemberFacts P m → MemberFacts P (turned m moment g)
+turned-facts P m moment g says facts = record {
+  once = λ p. subst Tidy (sym (whole-turned m moment g)) (tidy-more (all_effects m) g.effects (facts.once p) says.fits);
   answers = λ to x d h. subst (λ l. voted l x ≡ Some d) (sym (whole-turned m moment g)) (elim (has-either m.owed g.outs (said to x d) h) [
     | inl k ↦ voted-more (all_effects m) g.effects x d (facts.answers to x d k)
     | inr k ↦ says.answers to x d k
   ]);
 }
 
-opened-facts : (moment : ℕ) (log : List Effect) → Tidy log → MemberFacts (opened moment log)
-opened-facts moment log once = record { once = subst Tidy (sym (append-nil log)) once; answers = λ to x d h. absurd h }
+opened-facts : (P : Type 0) (moment : ℕ) (log : List Effect) → (P → Tidy log) → MemberFacts P (opened moment log)
+opened-facts P moment log once = record { once = λ p. subst Tidy (sym (append-nil log)) (once p); answers = λ to x d h. absurd h }
 
 kept-once : (m : Member) (kept : ℕ) → Tidy (all_effects m) → Tidy (m.gated ++ take kept m.fresh)
 kept-once m kept once = tidy-front (m.gated ++ take kept m.fresh) (drop kept m.fresh)
@@ -60,8 +65,8 @@ kept-once m kept once = tidy-front (m.gated ++ take kept m.fresh) (drop kept m.f
 
 -- ---- the world
 
-pub record Facts (lines : ℕ → Line) (w : World) : Type 0 where
-  pub members : (s : MemberNumber) → MemberFacts (w.members s)
+pub record Facts (P : Type 0) (lines : ℕ → Line) (w : World) : Type 0 where
+  pub members : (s : MemberNumber) → MemberFacts P (w.members s)
   pub sent : (s : MemberNumber) (to : NodeId) (x : StampParts) (d : Decision) → Has (post (member s) (said to x d)) w.sent → voted (gated w s) x ≡ Some d
   pub stamps : (i : ℕ) → (w.polls i).stamp ≡ (lines i).stamp
   pub ballots : (i : ℕ) (s : MemberNumber) (c : Bool) → (ballot (w.polls i) s).vote ≡ Some c → (d : Decision) × (is_commit d ≡ c) × (voted (gated w s) (lines i).stamp ≡ Some d)
@@ -105,11 +110,11 @@ at-own f First m = refl
 at-own f Second m = refl
 at-own f Third m = refl
 
-module _ (lines : ℕ → Line) where
+module _ (P : Type 0) (lines : ℕ → Line) where
   -- one member changes
-  member-facts : (w : World) (s : MemberNumber) (m : Member) → MemberFacts m → Grows (w.members s) m → Facts lines w → Facts lines (with_member w s m)
+  member-facts : (w : World) (s : MemberNumber) (m : Member) → MemberFacts P m → Grows (w.members s) m → Facts P lines w → Facts P lines (with_member w s m)
   member-facts w s m h g facts = record {
-    members = at-voter (λ k z. MemberFacts z) w.members s m h facts.members;
+    members = at-voter (λ k z. MemberFacts P z) w.members s m h facts.members;
     sent = at-voter (λ k z. (to : NodeId) (x : StampParts) (d : Decision) → Has (post (member k) (said to x d)) w.sent → voted z.gated x ≡ Some d) w.members s m
         (λ to x d k. grows-voted (w.members s) m g x d (facts.sent s to x d k)) facts.sent;
     stamps = facts.stamps;
@@ -119,7 +124,7 @@ module _ (lines : ℕ → Line) where
 
   -- messages are sent
   sent-facts : (w : World) (more : List Post) → ((s : MemberNumber) (to : NodeId) (x : StampParts) (d : Decision) → Has (post (member s) (said to x d)) more → voted (gated w s) x ≡ Some d)
-      → Facts lines w → Facts lines (with_sent w more)
+      → Facts P lines w → Facts P lines (with_sent w more)
   sent-facts w more f facts = record {
     members = facts.members;
     sent = λ s to x d h. elim (has-either w.sent more (post (member s) (said to x d)) h) [
@@ -172,19 +177,20 @@ module _ (lines : ℕ → Line) where
   abbrev IsBacked : World → ℕ → MemberNumber → Bool → Type 0
   IsBacked w i s c = (d : Decision) × (is_commit d ≡ c) × (voted (gated w s) (lines i).stamp ≡ Some d)
 
-  poll-facts : (w : World) (i : ℕ) (p : PollState) → p.stamp ≡ (lines i).stamp → ((s : MemberNumber) (c : Bool) → (ballot p s).vote ≡ Some c → IsBacked w i s c) → Facts lines w → Facts lines (with_poll w i p)
+module _ (P : Type 0) (lines : ℕ → Line) where
+  poll-facts : (w : World) (i : ℕ) (p : PollState) → p.stamp ≡ (lines i).stamp → ((s : MemberNumber) (c : Bool) → (ballot p s).vote ≡ Some c → IsBacked lines w i s c) → Facts P lines w → Facts P lines (with_poll w i p)
   poll-facts w i p e f facts = record {
     members = facts.members;
     sent = facts.sent;
     stamps = at-poll (λ k q. q.stamp ≡ (lines k).stamp) w.polls i p e facts.stamps;
-    ballots = at-poll (λ k q. (s : MemberNumber) (c : Bool) → (ballot q s).vote ≡ Some c → IsBacked w k s c) w.polls i p f facts.ballots;
+    ballots = at-poll (λ k q. (s : MemberNumber) (c : Bool) → (ballot q s).vote ≡ Some c → IsBacked lines w k s c) w.polls i p f facts.ballots;
   }
 
-  to-poll-facts : (w : World) (i : ℕ) (p : Post) → Has p w.sent → Facts lines w → Facts lines (to_poll w i (poll_takes (w.polls i) p.from p.message))
+  to-poll-facts : (w : World) (i : ℕ) (p : Post) → Has p w.sent → Facts P lines w → Facts P lines (to_poll w i (poll_takes (w.polls i) p.from p.message))
   to-poll-facts w i p come facts =
       let g : PollGiven = poll_takes (w.polls i) p.from p.message in
       let h : polls.Hears p.from p.message (w.polls i) g.poll = takes-hears p.from p.message (w.polls i) in
-      sent-facts lines (with_poll w i g.poll) (posts (broker i) g.outs) (broker-post (with_poll w i g.poll) i g.outs)
+      sent-facts P lines (with_poll w i g.poll) (posts (broker i) g.outs) (broker-post (with_poll w i g.poll) i g.outs)
       (poll-facts w i g.poll (h.stamp ∙ facts.stamps i)
       (λ s c k. elim (h.cause s c k) [
         | inl old ↦ facts.ballots i s c old
@@ -197,55 +203,55 @@ module _ (lines : ℕ → Line) where
             (d, new.1, facts.sent s p.to (lines i).stamp d (subst (λ z. Has z w.sent) there come)))
       ]) facts)
 
-  to-voter-facts : (w : World) (from : NodeId) (m : Message) (s : Option MemberNumber) → Facts lines w → Facts lines (to_voter w from m s)
+  to-voter-facts : (w : World) (from : NodeId) (m : Message) (s : Option MemberNumber) → Facts P lines w → Facts P lines (to_voter w from m s)
   to-voter-facts w from m None facts = facts
   to-voter-facts w from m (Some s) facts =
       let x : Member = w.members s in
-      member-facts lines w s (took x from m) (turned-facts x x.moment (on_message (all_effects x) x.moment from m) (message-says (all_effects x) x.moment from m) (facts.members s)) (turned-grows x x.moment (on_message (all_effects x) x.moment from m)) facts
+      member-facts P lines w s (took x from m) (turned-facts P x x.moment (on_message (all_effects x) x.moment from m) (message-says (all_effects x) x.moment from m) (facts.members s)) (turned-grows x x.moment (on_message (all_effects x) x.moment from m)) facts
 
-  to-kind-facts : (w : World) (p : Post) (k : NodeKind) → Has p w.sent → Facts lines w → Facts lines (delivered_to w p k)
+  to-kind-facts : (w : World) (p : Post) (k : NodeKind) → Has p w.sent → Facts P lines w → Facts P lines (delivered_to w p k)
   to-kind-facts w p kind.Broker come facts = to-poll-facts w p.to.number p come facts
   to-kind-facts w p kind.Repository come facts = to-voter-facts w p.from p.message (voter_at p.to.number) facts
 
-  delivered-facts : (w : World) (p : Option Post) → ((q : Post) → p ≡ Some q → Has q w.sent) → Facts lines w → Facts lines (delivered w p)
+  delivered-facts : (w : World) (p : Option Post) → ((q : Post) → p ≡ Some q → Has q w.sent) → Facts P lines w → Facts P lines (delivered w p)
   delivered-facts w None come facts = facts
   delivered-facts w (Some p) come facts = to-kind-facts w p p.to.kind (come p refl) facts
 
-  shut-sent : (w : World) (s : MemberNumber) → Facts lines w → (k : MemberNumber) (to : NodeId) (x : StampParts) (d : Decision)
+  shut-sent : (w : World) (s : MemberNumber) → Facts P lines w → (k : MemberNumber) (to : NodeId) (x : StampParts) (d : Decision)
       → Has (post (member k) (said to x d)) (posts (member s) (w.members s).owed) → voted (gated (with_member w s (shut (w.members s))) k) x ≡ Some d
   shut-sent w s facts k to x d h =
       let p : (member k ≡ member s) × Has (said to x d) (w.members s).owed = has-post (member s) (w.members s).owed (post (member k) (said to x d)) h in
       subst (λ z. voted (gated (with_member w s (shut (w.members s))) z) x ≡ Some d) (sym (same-voter k s p.0))
       (subst (λ z. voted z.gated x ≡ Some d) (sym (at-own w.members s (shut (w.members s)))) ((facts.members s).answers to x d p.1))
 
-  step-facts : (w : World) (e : Event) → Facts lines w → Facts lines (after w e)
-  step-facts w (Goes i) facts = sent-facts lines w (posts (broker i) (poll_goes (w.polls i))) (broker-post w i (poll_goes (w.polls i))) facts
+  step-facts : (w : World) (e : Event) → Facts P lines w → Facts P lines (after w e)
+  step-facts w (Goes i) facts = sent-facts P lines w (posts (broker i) (poll_goes (w.polls i))) (broker-post w i (poll_goes (w.polls i))) facts
   step-facts w (Delivered k) facts = delivered-facts w (post_at w.sent k) (λ q h. at-post w.sent k q h) facts
   step-facts w (Gates s) facts =
       let x : Member = w.members s in
-      sent-facts lines (with_member w s (shut x)) (posts (member s) x.owed) (shut-sent w s facts)
-      (member-facts lines w s (shut x) (opened-facts x.moment (all_effects x) (facts.members s).once) (record { more = x.fresh; grown = refl }) facts)
+      sent-facts P lines (with_member w s (shut x)) (posts (member s) x.owed) (shut-sent w s facts)
+      (member-facts P lines w s (shut x) (opened-facts P x.moment (all_effects x) (facts.members s).once) (record { more = x.fresh; grown = refl }) facts)
   step-facts w (Crashes s kept moment) facts =
       let x : Member = w.members s in
-      member-facts lines w s (crashed x kept moment) (opened-facts moment (x.gated ++ take kept x.fresh) (kept-once x kept (facts.members s).once)) (record { more = take kept x.fresh; grown = refl }) facts
+      member-facts P lines w s (crashed x kept moment) (opened-facts P moment (x.gated ++ take kept x.fresh) (λ p. kept-once x kept ((facts.members s).once p))) (record { more = take kept x.fresh; grown = refl }) facts
   step-facts w (Hears s moment) facts =
       let x : Member = w.members s in
-      member-facts lines w s (heard x moment) (turned-facts x moment (on_moment (all_effects x) moment) (moment-says (all_effects x) moment) (facts.members s)) (turned-grows x moment (on_moment (all_effects x) moment)) facts
-  step-facts w (Polled i moment) facts = sent-facts lines w (posts (broker i) (poll_hears (w.polls i))) (broker-post w i (poll_hears (w.polls i))) facts
+      member-facts P lines w s (heard x moment) (turned-facts P x moment (on_moment (all_effects x) moment) (moment-says (all_effects x) moment) (facts.members s)) (turned-grows x moment (on_moment (all_effects x) moment)) facts
+  step-facts w (Polled i moment) facts = sent-facts P lines w (posts (broker i) (poll_hears (w.polls i))) (broker-post w i (poll_hears (w.polls i))) facts
 
-  pub run-facts : (w : World) (es : List Event) → Facts lines w → Facts lines (run w es)
+  pub run-facts : (w : World) (es : List Event) → Facts P lines w → Facts P lines (run w es)
   run-facts w [] facts = facts
   run-facts w (e ∷ es) facts = run-facts (after w e) es (step-facts w e facts)
 
-  pub founded-facts : (start : MemberNumber → ℕ) → Facts lines (founded start lines)
+  pub founded-facts : (start : MemberNumber → ℕ) → Facts P lines (founded start lines)
   founded-facts start = record {
-    members = λ s. opened-facts (start s) [] tidy-none;
+    members = λ s. opened-facts P (start s) [] (λ p. tidy-none);
     sent = λ s to x d h. absurd h;
     stamps = λ i. refl;
-    ballots = λ i s c. elim s as (λ s. (ballot (new_poll i (lines i)) s).vote ≡ Some c → IsBacked (founded start lines) i s c) [ First ↦ λ h. absurd (cc h) | Second ↦ λ h. absurd (cc h) | Third ↦ λ h. absurd (cc h) ];
+    ballots = λ i s c. elim s as (λ s. (ballot (new_poll i (lines i)) s).vote ≡ Some c → IsBacked lines (founded start lines) i s c) [ First ↦ λ h. absurd (cc h) | Second ↦ λ h. absurd (cc h) | Third ↦ λ h. absurd (cc h) ];
   }
 
-  pub reached-facts : (start : MemberNumber → ℕ) (es : List Event) → Facts lines (reached start lines es)
+  pub reached-facts : (start : MemberNumber → ℕ) (es : List Event) → Facts P lines (reached start lines es)
   reached-facts start es = run-facts (founded start lines) es (founded-facts start)
 
 -- ---- what never ends
@@ -307,7 +313,7 @@ module _ (start : MemberNumber → ℕ) (lines : ℕ → Line) where
   -- a vote that a poll holds stands in that member's durable log
   backed : (es : List Event) (i : ℕ) (s : MemberNumber) (c : Bool) → (ballot ((at es).polls i) s).vote ≡ Some c → IsDecided (gated (at es) s) (lines i).stamp c
   backed es i s c h =
-      let b : IsBacked lines (at es) i s c = (reached-facts lines start es).ballots i s c h in
+      let b : IsBacked lines (at es) i s c = (reached-facts Sure lines start es).ballots i s c h in
       (b.0, b.1, voted-has (gated (at es) s) (lines i).stamp b.0 b.2)
 
   pub later-held : (es more : List Event) (i : ℕ) (c : Bool) → held ((at es).polls i) ≡ Some c → held ((at (es ++ more)).polls i) ≡ Some c
@@ -325,13 +331,13 @@ module _ (start : MemberNumber → ℕ) (lines : ℕ → Line) where
   pub decided-once : (es : List Event) (m : MemberNumber) (s : StampParts) (d e : Decision) → Has (effect.Decide s d) (gated (at es) m) → Has (effect.Decide s e) (gated (at es) m) → d ≡ e
   decided-once es m s d e h k =
       let x : Member = (at es).members m in
-      let o : Once (all_effects x) = ((reached-facts lines start es).members m).once.once in
+      let o : Once (all_effects x) = (((reached-facts Sure lines start es).members m).once tt).once in
       some-same (voted (all_effects x) s) d e (o s d (has-left x.gated x.fresh (effect.Decide s d) h)) (o s e (has-left x.gated x.fresh (effect.Decide s e) k))
 
   pub decided-single : (es : List Event) (m : MemberNumber) (a b : List Effect) (s : StampParts) (d e : Decision) → gated (at es) m ≡ a ++ effect.Decide s d ∷ b → Has (effect.Decide s e) b → ⊥
   decided-single es m a b s d e is h =
       let x : Member = (at es).members m in
-      tidy-apart a b s d e (subst Single is (single-front x.gated x.fresh ((reached-facts lines start es).members m).once.single)) h
+      tidy-apart a b s d e (subst Single is (single-front x.gated x.fresh (((reached-facts Sure lines start es).members m).once tt).single)) h
 
   one-way : (es : List Event) (m : MemberNumber) (s : StampParts) (c d : Bool) → IsDecided (gated (at es) m) s c → IsDecided (gated (at es) m) s d → c ≡ d
   one-way es m s c d h k = sym h.1 ∙ ap is_commit (decided-once es m s h.0 k.0 h.2 k.2) ∙ k.1
@@ -355,22 +361,22 @@ module _ (start : MemberNumber → ℕ) (lines : ℕ → Line) where
 
 -- ---- one call after the other
 
-pub facts-two : (lines : ℕ → Line) (w : World) → Facts lines w → (i : ℕ) (c : Bool) → held (w.polls i) ≡ Some c → TwoDecided w (lines i).stamp c
-facts-two lines w facts i c h =
+pub facts-two : (P : Type 0) (lines : ℕ → Line) (w : World) → Facts P lines w → (i : ℕ) (c : Bool) → held (w.polls i) ≡ Some c → TwoDecided w (lines i).stamp c
+facts-two P lines w facts i c h =
     let t : Two (votes_of (w.polls i)) c = held-two (w.polls i) c h in
     record { one = t.one; other = t.other; apart = t.apart; one_decided = stands t.one t.one_vote; other_decided = stands t.other t.other_vote }
   where
     stands : (s : MemberNumber) → (ballot (w.polls i) s).vote ≡ Some c → IsDecided (gated w s) (lines i).stamp c
     stands s v = let b : IsBacked lines w i s c = facts.ballots i s c v in (b.0, b.1, voted-has (gated w s) (lines i).stamp b.0 b.2)
 
-facts-one : (lines : ℕ → Line) (w : World) → Facts lines w → (m : MemberNumber) (s : StampParts) (c d : Bool) → IsDecided (gated w m) s c → IsDecided (gated w m) s d → c ≡ d
+facts-one : (lines : ℕ → Line) (w : World) → Facts Sure lines w → (m : MemberNumber) (s : StampParts) (c d : Bool) → IsDecided (gated w m) s c → IsDecided (gated w m) s d → c ≡ d
 facts-one lines w facts m s c d h k =
     let x : Member = w.members m in
-    let o : Once (all_effects x) = (facts.members m).once.once in
+    let o : Once (all_effects x) = ((facts.members m).once tt).once in
     let e : h.0 ≡ k.0 = some-same (voted (all_effects x) s) h.0 k.0 (o s h.0 (has-left x.gated x.fresh (effect.Decide s h.0) h.2)) (o s k.0 (has-left x.gated x.fresh (effect.Decide s k.0) k.2)) in
     sym h.1 ∙ ap is_commit e ∙ k.1
 
-facts-agree : (lines : ℕ → Line) (w : World) → Facts lines w → (s : StampParts) (c d : Bool) → TwoDecided w s c → TwoDecided w s d → c ≡ d
+facts-agree : (lines : ℕ → Line) (w : World) → Facts Sure lines w → (s : StampParts) (c d : Bool) → TwoDecided w s c → TwoDecided w s d → c ≡ d
 facts-agree lines w facts s c d a b = elim (shared a.one a.other b.one b.other a.apart b.apart) [
   | inl h ↦ elim h [
     | inl e ↦ facts-one lines w facts b.one s c d (subst (λ z. IsDecided (gated w z) s c) e a.one_decided) b.one_decided
@@ -385,19 +391,19 @@ facts-agree lines w facts s c d a b = elim (shared a.one a.other b.one b.other a
 abbrev Onces : Logs → Type 0
 Onces logs = (s : MemberNumber) → Tidy (logs s)
 
-entered-facts : (start : MemberNumber → ℕ) (logs : Logs) (lines : ℕ → Line) → Onces logs → Facts lines (entered start logs lines)
-entered-facts start logs lines once = record {
-  members = λ s. opened-facts (start s) (logs s) (once s);
+pub entered-facts : (P : Type 0) (start : MemberNumber → ℕ) (logs : Logs) (lines : ℕ → Line) → (P → Onces logs) → Facts P lines (entered start logs lines)
+entered-facts P start logs lines once = record {
+  members = λ s. opened-facts P (start s) (logs s) (λ p. once p s);
   sent = λ s to x d h. absurd h;
   stamps = λ i. refl;
   ballots = λ i s c. elim s as (λ s. (ballot (new_poll i (lines i)) s).vote ≡ Some c → IsBacked lines (entered start logs lines) i s c) [ First ↦ λ h. absurd (cc h) | Second ↦ λ h. absurd (cc h) | Third ↦ λ h. absurd (cc h) ];
 }
 
-ended-facts : (logs : Logs) (c : Call) → Onces logs → Facts c.lines (ended logs c)
-ended-facts logs c once = run-facts c.lines (entered c.start logs c.lines) c.events (entered-facts c.start logs c.lines once)
+ended-facts : (logs : Logs) (c : Call) → Onces logs → Facts Sure c.lines (ended logs c)
+ended-facts logs c once = run-facts Sure c.lines (entered c.start logs c.lines) c.events (entered-facts Sure c.start logs c.lines (λ p. once))
 
 left-onces : (logs : Logs) (c : Call) → Onces logs → Onces (left logs c)
-left-onces logs c once s = kept-once ((ended logs c).members s) (c.kept s) ((ended-facts logs c once).members s).once
+left-onces logs c once s = kept-once ((ended logs c).members s) (c.kept s) (((ended-facts logs c once).members s).once tt)
 
 after-onces : (logs : Logs) (cs : List Call) → Onces logs → Onces (logs_after logs cs)
 after-onces logs [] once = once
@@ -434,7 +440,7 @@ no-two-calls before between c d i j x y e h k =
     let next : Logs = logs_after logs (c ∷ between) in
     let once : Onces logs = after-onces no_logs before (λ s. tidy-none) in
     let later : Onces next = after-onces logs (c ∷ between) once in
-    let a : TwoDecided (ended next d) (d.lines j).stamp x = subst (λ z. TwoDecided (ended next d) z x) e (later-two logs c d between (c.lines i).stamp x (facts-two c.lines (ended logs c) (ended-facts logs c once) i x h)) in
-    let b : TwoDecided (ended next d) (d.lines j).stamp y = facts-two d.lines (ended next d) (ended-facts next d later) j y
+    let a : TwoDecided (ended next d) (d.lines j).stamp x = subst (λ z. TwoDecided (ended next d) z x) e (later-two logs c d between (c.lines i).stamp x (facts-two Sure c.lines (ended logs c) (ended-facts logs c once) i x h)) in
+    let b : TwoDecided (ended next d) (d.lines j).stamp y = facts-two Sure d.lines (ended next d) (ended-facts next d later) j y
     (subst (λ z. held ((ended z d).polls j) ≡ Some y) (after-append no_logs before (c ∷ between)) k) in
     facts-agree d.lines (ended next d) (ended-facts next d later) (d.lines j).stamp x y a b

@@ -12,7 +12,7 @@ mod versions;
 mod writing;
 
 pub use histories::history;
-pub use pieces::{push_named, push_object, push_time};
+pub use pieces::{push_named, push_object, push_stamp, push_time};
 pub use records::{ActOutcome, ActReport, Down, Final, Report, TryOutcome, TryReport, Wire};
 pub use totals::count_of;
-pub use writing::{push_downs, write_report};
+pub use writing::{push_downs, push_wire_line, write_report};

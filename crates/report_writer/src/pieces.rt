@@ -58,7 +58,7 @@ pub fn push_object(alloc: Global, out: &mut Vec<u8>, object: ObjectId) -> Result
     push_named(alloc, out, b".", object.number as u64)
 }
 
-// Appends a stamp.
+/// Appends a stamp.
 pub fn push_stamp(alloc: Global, out: &mut Vec<u8>, stamp: Stamp) -> Result<(), AllocError>
     ensures { OnOk result (out.new.items ≡ out.old.items ++ stamp_text stamp) }
 {

@@ -218,8 +218,8 @@ fn push_totals(alloc: Global, out: &mut Vec<u8>, acts: &[ActReport]) -> Result<(
     Ok(())
 }
 
-// Appends the line of the wire.
-fn push_wire_line(alloc: Global, out: &mut Vec<u8>, wire: Wire) -> Result<(), AllocError>
+/// Appends the line of the wire.
+pub fn push_wire_line(alloc: Global, out: &mut Vec<u8>, wire: Wire) -> Result<(), AllocError>
     ensures { OnOk result (out.new.items ≡ out.old.items ++ wire_line wire) }
 {
     let Wire {
@@ -234,7 +234,7 @@ fn push_wire_line(alloc: Global, out: &mut Vec<u8>, wire: Wire) -> Result<(), Al
     Ok(())
 }
 
-// Appends the line of the wire, where one served the run.
+/// Appends the line of the wire. where one served the run.
 fn push_wire(alloc: Global, out: &mut Vec<u8>, wire: Option<Wire>) -> Result<(), AllocError>
     ensures { OnOk result (out.new.items ≡ out.old.items ++ wire_text wire) }
 {

@@ -1,6 +1,6 @@
 -- What the top call promises of what was sent, from the laws of acknowledgements and of acts that are spent.
 use Rattle.std.proofs.Common.{◌≡◌, ℕ, List, [], ◌∷◌, ◌++◌, append-nil, reverse, refl, sym, ◌∙◌, ap, subst, if◌then◌else◌}
-use Rattle.pseudo_time.specs.Lists.{Has}
+use Rattle.pseudo_time.specs.Lists.{Every, Has}
 use Rattle.pseudo_time.specs.Nodes.{broker, repository}
 use Rattle.pseudo_time.specs.TimeParts.{TimeParts}
 use Rattle.pseudo_time.specs.declared.nodes.NodeId.{NodeId}
@@ -21,20 +21,20 @@ use Rattle.broker_core.specs.Readings.{reading}
 use Rattle.broker_laws.specs.Fits.{MayTry}
 use Rattle.world_core.specs.declared.traces.Trace.{Trace}
 use Rattle.world_core.specs.Legal.{base_of, in_plan}
-use Rattle.world_core.specs.Pasts.{AreCalls, Call, OpenedWith}
-use Rattle.world_core.specs.Readings.{IsLegal, WereLeft, WereRuns}
+use Rattle.world_core.specs.Pasts.{AreCalls, Call, OpenedWith, alike, own_reading}
+use Rattle.world_core.specs.Readings.{IsLegal, WereLeft}
 use Rattle.world_core.specs.Walks.{World, sent_by, start_world, walk}
 use Rattle.world_core.proofs.OneReading.{common-reading, own-reading}
 use Rattle.world_core.proofs.SameWorlds.{walk-same}
 use Rattle.world_facts.specs.Refines.{past_sent}
 use Rattle.world_facts.proofs.Steps.{walk-known}
-use Rattle.serial_law.specs.Acknowledged.{Agree, AreSpent, KeepsAnswers, SpendsRightly, all_sent, log_after, sent_in}
+use Rattle.serial_law.specs.Acknowledged.{Agree, AreSpent, KeepsAnswers, SpendsRightly, all_sent, log_after}
 use Rattle.serial_law.specs.Causes.{IsSpent}
 use Rattle.serial_law.specs.Runs.{Acknowledges, Position, SeesStill, log_at, sent_before, world_at}
 
-sent-same : (script : List ℕ → Tree) (cs : List Call) → AreCalls script cs → WereRuns cs → past_sent script cs ≡ sent_in cs
+sent-same : (script : List ℕ → Tree) (cs : List Call) → AreCalls (alike script) cs → Every (λ (c : Call). IsOfLanguage c.plan) cs → past_sent (alike script) cs ≡ past_sent own_reading cs
 sent-same script [] k w = refl
-sent-same script (c ∷ cs) k w = λ i. sent-same script cs k.0 w.0 i ++ sent_by (walk-same script (reading c.plan.acts) c.plan k.1.legal.scripted (own-reading c.plan w.1.whole) c.trace c.trace.entries i)
+sent-same script (c ∷ cs) k w = λ i. sent-same script cs k.0 w.1 i ++ sent_by (walk-same script (reading c.plan.acts) c.plan k.1.legal.scripted (own-reading c.plan w.0) c.trace c.trace.entries i)
 
 -- the end of a run as a place of a legal trace by one reading of all scripts, with the same logs and messages
 pub record Ended (plan : Plan) (t : Trace) (logs : NodeId → List Effect) (cs : List Call) : Type 0 where
@@ -52,7 +52,7 @@ ended plan asked t w l logs left agrees =
       place = p;
       log = λ n. let known : ((world_at p).flags n).known ≡ in_plan plan n = walk-known (base_of r.0 plan t) (start_world (base_of r.0 plan t)) t.entries n ∙ l.nodes.just n in
           λ i. reverse (if known i then ((same i).life n).gated else logs n);
-      sent = λ i. sent-same r.0 left.0 r.1 left.1 i ++ sent_by (same i);
+      sent = λ i. sent-same r.0 left.0 r.1 left.1.1 i ++ sent_by (same i);
     }
 
 module _ (told : (p : Position) (q : Post) → Has q (sent_before p) → Acknowledges (sent_before p) q.from (log_at p q.from) q.message)

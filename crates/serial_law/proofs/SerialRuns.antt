@@ -30,7 +30,7 @@ use Rattle.world_core.specs.Pasts.{OpenedWith}
 use Rattle.serial_law.specs.Runs.{AnsweredBefore, AnsweredIn, Position, TickedBefore, world_at, log_at, run_at, sent_before}
 use Rattle.serial_law.specs.Serial.{HoldsAll, Serial}
 use Rattle.world_core.specs.Answered.{WasAnswered}
-use Rattle.world_core.specs.Pasts.{AreCalls, Call}
+use Rattle.world_core.specs.Pasts.{AreCalls, Call, alike}
 use Rattle.world_facts.specs.Refines.{Ticked}
 use Rattle.serial_law.specs.Causes.{Causes}
 use Rattle.serial_law.specs.Facts.{RunFacts}
@@ -123,10 +123,10 @@ placed plan asked t w l logs left agrees =
       ticked = λ m h. h;
     }
   where
-    by-run : (x : TimeParts) (o : ObjectId) (v : Value) (step : WriteStep) (script : List ℕ → Tree) → Scripted script plan.acts → Scripted (reading plan.acts) plan.acts → AreCalls script left.0 →
-        WasAnswered (base_of script plan t) t.entries x o v step ⊎ AnsweredIn script left.0 x o v step → AnsweredBy plan t left.0 x o v step
+    by-run : (x : TimeParts) (o : ObjectId) (v : Value) (step : WriteStep) (script : List ℕ → Tree) → Scripted script plan.acts → Scripted (reading plan.acts) plan.acts → AreCalls (alike script) left.0 →
+        WasAnswered (base_of script plan t) t.entries x o v step ⊎ AnsweredIn (alike script) left.0 x o v step → AnsweredBy plan t left.0 x o v step
     by-run x o v step script h own k (inl a) = inl (answered-now script plan h own t t.entries x o v step a)
-    by-run x o v step script h own k (inr a) = inr (answered-from script left.0 k left.1 x o v step a)
+    by-run x o v step script h own k (inr a) = inr (answered-from script left.0 k left.1.1 x o v step a)
 
 -- ---- the promises
 

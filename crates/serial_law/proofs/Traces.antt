@@ -41,7 +41,7 @@ use Rattle.world_core.specs.declared.entries.Entry.{Entry}
 use Rattle.world_core.specs.Answered.{WasAnswered}
 use Rattle.world_core.specs.Walks.{Base, opened_log, sent_by, start_world, walk}
 use Rattle.world_core.specs.Legal.{Meets, base_of, fates_of}
-use Rattle.world_core.specs.Pasts.{Call, AreCalls}
+use Rattle.world_core.specs.Pasts.{Call, AreCalls, alike}
 use Rattle.world_core.proofs.Refusals.{Says, says-map}
 use Rattle.world_core.proofs.Answered.{Reason, meets-front, post-answered, write-sent, read-sent}
 use Rattle.world_facts.specs.NodeRules.{kind_post, node_facts}
@@ -58,7 +58,7 @@ use Rattle.world_facts.proofs.Growths.{each-has}
 
 module _ (p : Position) where
   -- all that holds of logs and messages there
-  pub place-facts : refines.LogFacts (node_facts p.script) (base_of p.script p.plan p.trace) (logs_at p.logs (world_at p)) (past_sent p.script p.past.0) (sent_by (world_at p)) (TickedBefore p)
+  pub place-facts : refines.LogFacts (node_facts p.script) (base_of p.script p.plan p.trace) (logs_at p.logs (world_at p)) (past_sent (alike p.script) p.past.0) (sent_by (world_at p)) (TickedBefore p)
   place-facts = legal-facts p.script (node_turns p.script) (node_facts p.script) (node-laws p.script) (past-laws p.script) p.plan p.asked p.trace p.logs p.front p.rest p.past p.agrees p.legal p.here
 
   abbrev ever : List Post
@@ -69,7 +69,7 @@ module _ (p : Position) where
 
   pub place-serial-facts : RunFacts (run_at p) ever
   place-serial-facts =
-      run-facts p.script (base_of p.script p.plan p.trace) p.plan (logs_at p.logs (world_at p)) (past_sent p.script p.past.0) (sent_by (world_at p)) (TickedBefore p) refl refl p.whole p.legal.scripted
+      run-facts p.script (base_of p.script p.plan p.trace) p.plan (logs_at p.logs (world_at p)) (past_sent (alike p.script) p.past.0) (sent_by (world_at p)) (TickedBefore p) refl refl p.whole p.legal.scripted
       brokers-opened place-facts
 
   -- what a repository, or a broker, sent
@@ -131,13 +131,13 @@ module _ (p : Position) where
       one x s (inr z) = inr (z.0, (subst (λ j. Has (record { from = broker x.stamp.broker; to = repository j; message = message.Read x z.0 }) (sent_by (walk b es))) z.3 (read-sent b es x z.0 z.1 z.4), z.3))
 
   -- in a run of the past
-  past-told : (cs : List Call) → AreCalls p.script cs → (r : ℕ) (q : Post) → Has q (past_sent p.script cs) → q.from ≡ repository r → Says (ToldRequest (past_sent p.script cs) r (AnsweredIn p.script cs)) q.message
+  past-told : (cs : List Call) → AreCalls (alike p.script) cs → (r : ℕ) (q : Post) → Has q (past_sent (alike p.script) cs) → q.from ≡ repository r → Says (ToldRequest (past_sent (alike p.script) cs) r (AnsweredIn (alike p.script) cs)) q.message
   past-told [] c r q h e = absurd h
   past-told (c ∷ cs) calls r q h e =
       let b : Base = base_of p.script c.plan c.trace in
-      elim (has-either (past_sent p.script cs) (sent_by (walk b c.trace.entries)) q h) [
-        | inl k ↦ left-told (past_sent p.script cs) (sent_by (walk b c.trace.entries)) r (AnsweredIn p.script cs) (AnsweredIn p.script (c ∷ cs)) (λ x o v s a. inr a) q.message (past-told cs calls.0 r q k e)
-        | inr k ↦ right-told (past_sent p.script cs) (sent_by (walk b c.trace.entries)) r (WasAnswered b c.trace.entries) (AnsweredIn p.script (c ∷ cs)) (λ x o v s a. inl a) q.message
+      elim (has-either (past_sent (alike p.script) cs) (sent_by (walk b c.trace.entries)) q h) [
+        | inl k ↦ left-told (past_sent (alike p.script) cs) (sent_by (walk b c.trace.entries)) r (AnsweredIn (alike p.script) cs) (AnsweredIn (alike p.script) (c ∷ cs)) (λ x o v s a. inr a) q.message (past-told cs calls.0 r q k e)
+        | inr k ↦ right-told (past_sent (alike p.script) cs) (sent_by (walk b c.trace.entries)) r (WasAnswered b c.trace.entries) (AnsweredIn (alike p.script) (c ∷ cs)) (λ x o v s a. inl a) q.message
             (here-told b (fates_of c.trace.sent) c.trace.entries calls.1.legal.meets r q k e)
       ]
 
@@ -145,14 +145,14 @@ module _ (p : Position) where
   tells r q h e =
       let b : Base = base_of p.script p.plan p.trace in
       let meets = meets-front b (fates_of p.trace.sent) (start_world b) p.front p.rest (subst (Meets b (fates_of p.trace.sent) (start_world b)) p.here p.legal.meets) in
-      elim (has-either (past_sent p.script p.past.0) (sent_by (world_at p)) q h) [
-        | inl k ↦ left-told (past_sent p.script p.past.0) (sent_by (world_at p)) r (AnsweredIn p.script p.past.0) (AnsweredBefore p) (λ x o v s a. inr a) q.message (past-told p.past.0 p.past.1 r q k e)
-        | inr k ↦ right-told (past_sent p.script p.past.0) (sent_by (world_at p)) r (WasAnswered b p.front) (AnsweredBefore p) (λ x o v s a. inl a) q.message (here-told b (fates_of p.trace.sent) p.front meets r q k e)
+      elim (has-either (past_sent (alike p.script) p.past.0) (sent_by (world_at p)) q h) [
+        | inl k ↦ left-told (past_sent (alike p.script) p.past.0) (sent_by (world_at p)) r (AnsweredIn (alike p.script) p.past.0) (AnsweredBefore p) (λ x o v s a. inr a) q.message (past-told p.past.0 p.past.1 r q k e)
+        | inr k ↦ right-told (past_sent (alike p.script) p.past.0) (sent_by (world_at p)) r (WasAnswered b p.front) (AnsweredBefore p) (λ x o v s a. inl a) q.message (here-told b (fates_of p.trace.sent) p.front meets r q k e)
       ]
 
   pub place-causes : Causes (run_at p) (TickedBefore p) (AnsweredBefore p)
   place-causes =
-      run-causes p.script (base_of p.script p.plan p.trace) p.plan (logs_at p.logs (world_at p)) (past_sent p.script p.past.0) (sent_by (world_at p)) (TickedBefore p) refl refl p.whole p.legal.scripted
+      run-causes p.script (base_of p.script p.plan p.trace) p.plan (logs_at p.logs (world_at p)) (past_sent (alike p.script) p.past.0) (sent_by (world_at p)) (TickedBefore p) refl refl p.whole p.legal.scripted
       brokers-opened place-facts
       (AnsweredBefore p) tells
 

@@ -18,20 +18,16 @@ use Rattle.broker_laws.specs.Fits.{MayTry}
 use Rattle.broker_core.specs.Readings.{reading}
 use Rattle.world_core.specs.declared.traces.Trace.{Trace}
 use Rattle.world_core.specs.Legal.{base_of, in_plan}
-use Rattle.world_core.specs.Pasts.{Call, OpenedWith}
+use Rattle.world_core.specs.Pasts.{Call, OpenedWith, own_reading}
 use Rattle.world_core.specs.Readings.{WereLeft, gated_log}
 use Rattle.world_core.specs.Walks.{sent_by, walk}
+use Rattle.world_facts.specs.Refines.{past_sent}
 use Rattle.serial_law.specs.Causes.{IsSpent}
 use Rattle.serial_law.specs.Runs.{Acknowledges, SeesStill}
 
--- all messages of these runs, the first one first; the last run stands first
-abbrev pub sent_in : List Call → List Post
-sent_in [] = []
-sent_in (c ∷ cs) = sent_in cs ++ sent_by (walk (base_of (reading c.plan.acts) c.plan c.trace) c.trace.entries)
-
--- and those of this one behind them
+-- all messages of these runs, the first one first (the last run stands first), and those of this one behind them
 abbrev pub all_sent : List Call → Plan → Trace → List Post
-all_sent cs plan t = sent_in cs ++ sent_by (walk (base_of (reading plan.acts) plan t) t.entries)
+all_sent cs plan t = past_sent own_reading cs ++ sent_by (walk (base_of (reading plan.acts) plan t) t.entries)
 
 -- a node's durable log at the end of the run; that of a node outside the plan is as it was
 abbrev pub log_after : (NodeId → List Effect) → Plan → Trace → NodeId → List Effect

@@ -16,22 +16,18 @@ use Rattle.broker_core.specs.Readings.{reading}
 use Rattle.world_core.specs.declared.traces.Trace.{Trace}
 use Rattle.world_core.specs.Answered.{WasAnswered}
 use Rattle.world_core.specs.Legal.{base_of}
-use Rattle.world_core.specs.Pasts.{Call, OpenedWith}
+use Rattle.world_core.specs.Pasts.{Call, OpenedWith, own_reading}
 use Rattle.world_core.specs.Readings.{IsLegal, WereLeft}
 use Rattle.world_facts.specs.AnyRules.{log_before}
 use Rattle.world_facts.specs.Refines.{Ticked}
 use Rattle.serial_law.specs.Added.{AnyPlace, any_log, EndCause}
 use Rattle.serial_law.specs.Causes.{Causes}
+use Rattle.serial_law.specs.Runs.{AnsweredIn}
 use Rattle.serial_law.specs.Serials.{run_in}
-
--- in one of these runs the repository of the object took this write, and answered so
-abbrev pub AnsweredFrom : List Call → TimeParts → ObjectId → Value → WriteStep → Type 0
-AnsweredFrom [] x o v step = ⊥
-AnsweredFrom (c ∷ cs) x o v step = WasAnswered (base_of (reading c.plan.acts) c.plan c.trace) c.trace.entries x o v step ⊎ AnsweredFrom cs x o v step
 
 -- in this run, or in one of these before it
 abbrev pub AnsweredBy : Plan → Trace → List Call → TimeParts → ObjectId → Value → WriteStep → Type 0
-AnsweredBy plan t cs x o v step = WasAnswered (base_of (reading plan.acts) plan t) t.entries x o v step ⊎ AnsweredFrom cs x o v step
+AnsweredBy plan t cs x o v step = WasAnswered (base_of (reading plan.acts) plan t) t.entries x o v step ⊎ AnsweredIn own_reading cs x o v step
 
 -- Over logs that earlier runs left each End of the run has its cause: what stands in the logs, a moment that was ticked and a refusal that was answered, in this run or in one of those.
 abbrev pub HaveReasons : Plan → Trace → Type 0

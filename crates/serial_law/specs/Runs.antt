@@ -26,7 +26,7 @@ use Rattle.world_core.specs.declared.traces.Trace.{Trace}
 use Rattle.world_core.specs.Walks.{World, walk, sent_by}
 use Rattle.world_core.specs.Legal.{Legal, base_of}
 use Rattle.world_core.specs.Answered.{WasAnswered}
-use Rattle.world_core.specs.Pasts.{Call, HasPast, OpenedWith}
+use Rattle.world_core.specs.Pasts.{Call, HasPast, OpenedWith, alike}
 use Rattle.world_facts.specs.Refines.{logs_at, past_sent, Ticked}
 pub use Rattle.world_core.specs.Deeds.{Try, RunLogs, attempt, book_tries, run_of}
 unfoldable pub use Rattle.world_core.specs.Deeds.{run_tries}
@@ -45,7 +45,7 @@ pub record Position : Type 0 where
   pub rest : List Entry
   pub here : trace.entries ≡ front ++ rest
   pub whole : IsOfLanguage plan
-  pub past : HasPast script logs
+  pub past : HasPast (alike script) logs
   pub agrees : OpenedWith trace.opened logs
   pub legal : Legal script plan asked trace
 
@@ -62,20 +62,20 @@ run_at p = run_of p.script p.plan (log_at p)
 
 -- all that was sent before, in the runs of the past and in the trace
 abbrev pub sent_before : Position → List Post
-sent_before p = past_sent p.script p.past.0 ++ sent_by (world_at p)
+sent_before p = past_sent (alike p.script) p.past.0 ++ sent_by (world_at p)
 
 -- the moment was ticked before, in a run of the past or in the trace
 abbrev pub TickedBefore : Position → ℕ → Type 0
 TickedBefore p = Ticked p.past.0 p.front
 
 -- in one of these runs the repository of the object took this write, and answered so
-abbrev pub AnsweredIn : (List ℕ → Tree) → List Call → TimeParts → ObjectId → Value → WriteStep → Type 0
-AnsweredIn script [] x o v step = ⊥
-AnsweredIn script (c ∷ cs) x o v step = WasAnswered (base_of script c.plan c.trace) c.trace.entries x o v step ⊎ AnsweredIn script cs x o v step
+abbrev pub AnsweredIn : (Plan → List ℕ → Tree) → List Call → TimeParts → ObjectId → Value → WriteStep → Type 0
+AnsweredIn read [] x o v step = ⊥
+AnsweredIn read (c ∷ cs) x o v step = WasAnswered (base_of (read c.plan) c.plan c.trace) c.trace.entries x o v step ⊎ AnsweredIn read cs x o v step
 
 -- before, in the trace or in a run of the past
 abbrev pub AnsweredBefore : Position → TimeParts → ObjectId → Value → WriteStep → Type 0
-AnsweredBefore p x o v step = WasAnswered (base_of p.script p.plan p.trace) p.front x o v step ⊎ AnsweredIn p.script p.past.0 x o v step
+AnsweredBefore p x o v step = WasAnswered (base_of p.script p.plan p.trace) p.front x o v step ⊎ AnsweredIn (alike p.script) p.past.0 x o v step
 
 -- ---- acknowledgements
 

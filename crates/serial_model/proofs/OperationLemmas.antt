@@ -45,9 +45,9 @@ IsBytes-append [] t h k i = k i
 IsBytes-append (b ∷ s) t h k zero = h zero
 IsBytes-append (b ∷ s) t h k (suc i) = IsBytes-append s t (λ j. h (suc j)) k i
 
--- a text of at most 1,000 bytes
+-- a text of at most 65,536 bytes
 abbrev HasRoom : List ℕ → Type 0
-HasRoom bytes = (length bytes ≤ 1000) × IsBytes bytes
+HasRoom bytes = (length bytes ≤ 65536) × IsBytes bytes
 
 -- ---- operands of a kind
 
@@ -112,7 +112,7 @@ compared-IsValue c a b = then-any (order a b) _ IsValue (λ o. truth-fits (holds
 
 texts_joined-IsValue : (s t : List ℕ) → IsBytes s → IsBytes t → IfOk (texts_joined s t) IsValue
 texts_joined-IsValue s t h k =
-    by_test (nat_le (length s + length t) 1000) (λ p. IfOk (cond p (Ok (v.Text (s ++ t))) (Err fails.Long)) IsValue)
+    by_test (nat_le (length s + length t) 65536) (λ p. IfOk (cond p (Ok (v.Text (s ++ t))) (Err fails.Long)) IsValue)
     (λ e. (let few = length-append s t in grind (arith, nat_tests), IsBytes-append s t h k))
     (λ e. tt)
 

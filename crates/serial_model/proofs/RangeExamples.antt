@@ -48,8 +48,8 @@ ends-201 h = let high = h.1 in omega arith
 number-two_to_the_63 : TermInRange (Between op.Add (Number 1) (Number (2 ^ 63))) → ⊥
 number-two_to_the_63 h = let below = h.1 in omega arith
 
-text-1001 : (bytes : List ℕ) → length bytes ≡ 1001 → TermInRange (Text bytes) → ⊥
-text-1001 bytes long h = let few = h.0 in omega arith
+text-65537 : (bytes : List ℕ) → length bytes ≡ 65537 → TermInRange (Text bytes) → ⊥
+text-65537 bytes long h = let few = h.0 in omega arith
 
 -- ---- requests
 
@@ -61,11 +61,11 @@ writes_back-HasBytes : AsksInRange writes_back
 writes_back-HasBytes = (counter-IsObject, λ a a_is. ((counter-IsObject, a_is), tt))
 
 -- a value that has no bytes is written
-writes_long : (bytes : List ℕ) → length bytes ≡ 1001 → AsksInRange (Writes counter (v.Text bytes) (Ends ending.Finished)) → ⊥
+writes_long : (bytes : List ℕ) → length bytes ≡ 65537 → AsksInRange (Writes counter (v.Text bytes) (Ends ending.Finished)) → ⊥
 writes_long bytes long h = let few = h.0.1.0 in omega arith
 
 asks-17 : StopInRange (Asks (ToRead (record { repository = 17; number = 0 }))) → ⊥
 asks-17 h = let high = h.repository_high in omega arith
 
-answer-1001 : (bytes : List ℕ) → length bytes ≡ 1001 → AnswerHasBytes (Got (v.Text bytes)) → ⊥
-answer-1001 bytes long h = let few = h.0 in omega arith
+answer-65537 : (bytes : List ℕ) → length bytes ≡ 65537 → AnswerHasBytes (Got (v.Text bytes)) → ⊥
+answer-65537 bytes long h = let few = h.0 in omega arith

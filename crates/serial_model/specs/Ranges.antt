@@ -8,7 +8,7 @@ use Rattle.value_form.specs.declared.endings.Ending.{Ending}
 use Rattle.value_form.specs.declared.endings.Ending.TheVariants as ending
 use Rattle.script_meaning.specs.Meaning.{ToRead, ToWrite, Stop, Asks, Over}
 
--- the numbers in an expression are below 2^63, and its texts have at most 1,000 bytes
+-- the numbers in an expression are below 2^63, and its texts have at most 65,536 bytes
 abbrev pub TermInRange : Term → Type 0
 TermInRange (Number n) = n < 2 ^ 63
 TermInRange (Text bytes) = IsValue (v.Text bytes)

@@ -6,4 +6,6 @@ mod gates;
 #[cfg(test)]
 mod media;
 #[cfg(test)]
+mod pieces;
+#[cfg(test)]
 mod stores;

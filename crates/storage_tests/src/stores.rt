@@ -303,9 +303,9 @@ fn bytes_of_a_page(rt: HostRuntime) -> Result<(), Fail> {
     let Ok(page) = first_page(alloc) else {
         return Err("no page")?;
     };
-    assert_eq!(rt; &page[..4], [0xA5u8, 1, 0, 35].as_slice());
-    assert_eq!(rt; &page[4..39], PUT.as_slice());
-    assert!(rt; page[39..].iter().all(|b| *b == 0));
+    assert_eq!(rt; &page[..5], [0xA5u8, 2, 0, 35, 0].as_slice());
+    assert_eq!(rt; &page[5..40], PUT.as_slice());
+    assert!(rt; page[40..].iter().all(|b| *b == 0));
     assert!(rt; matches!(read(alloc, &[0xFF]), Err(EffectFault::Form { at: 0 })));
     assert!(rt; matches!(read(alloc, &PUT[..20]), Err(EffectFault::Form { at: 20 })));
     Ok(())
@@ -448,7 +448,7 @@ fn first_there(alloc: Global, page: u32, offset: u16) -> Result<bool, FetchFault
 #[test]
 fn puts_by_back_places(rt: HostRuntime) -> Result<(), Fail> {
     let alloc = rt.alloc();
-    let steps = [(1, 39, 30), (1, 4, 20), (0, 4, 10)];
+    let steps = [(1, 40, 30), (1, 5, 20), (0, 5, 10)];
     assert_eq!(rt; walked_there(alloc, SEVEN), Ok((steps, None)));
     assert_eq!(rt; walked_there(alloc, NINE), Ok(([(0, 0, 0); 3], None)));
     Ok(())
@@ -456,13 +456,13 @@ fn puts_by_back_places(rt: HostRuntime) -> Result<(), Fail> {
 
 /// Where an effect is fetched, and whether it is the first put of object 1.7.
 const FETCHES: [(u32, u16, Result<bool, FetchFault>); 7] = [
-    (0, 4, Ok(true)),
-    (0, 39, Ok(false)),
-    (1, 4, Ok(false)),
-    (0, 3, Err(FetchFault::Damaged { page: 0 })),
-    (0, 5, Err(FetchFault::Damaged { page: 0 })),
-    (0, 74, Err(FetchFault::Damaged { page: 0 })),
-    (3, 4, Err(FetchFault::Damaged { page: 3 })),
+    (0, 5, Ok(true)),
+    (0, 40, Ok(false)),
+    (1, 5, Ok(false)),
+    (0, 4, Err(FetchFault::Damaged { page: 0 })),
+    (0, 6, Err(FetchFault::Damaged { page: 0 })),
+    (0, 75, Err(FetchFault::Damaged { page: 0 })),
+    (3, 5, Err(FetchFault::Damaged { page: 3 })),
 ];
 
 #[test]

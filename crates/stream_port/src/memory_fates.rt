@@ -1,10 +1,10 @@
 ghost use Rattle.std.specs.Prelude.{◌≡◌, ◌+◌, ◌++◌, ◌∷◌, [], IfOk, OnOk, OnErr};
+ghost use Rattle.stream_port.specs.Counts.{AreCounts};
 ghost use Rattle.stream_port.specs.Fates.{count_of, ruled, next_fate};
 ghost use Rattle.stream_port.specs.declared.fates.Asked.{Asked};
 
 use crate::fates::{Asked, Fate, Fates};
 use std::alloc::{AllocError, Global};
-use std::collections::BTreeMap;
 use std::marker::Model;
 
 /// The nth message of this tag, counted from 1, gets this fate.
@@ -22,7 +22,7 @@ pub struct MemoryFates {
     rules: Vec<FateRule>,
     asked: Vec<Asked>,
     /// How many messages of each tag were asked for, so that no call walks over the earlier ones.
-    counts: BTreeMap<u8, u32>,
+    counts: [u32; 256],
 }
 
 impl Model for MemoryFates {
@@ -33,7 +33,14 @@ impl Model for MemoryFates {
 
     ghost view = { λ f. record { rules = f.rules.items; asked = f.asked.items } };
 
-    ghost invariant = { λ f. AreCounts f.counts.entries f.asked.items };
+    ghost invariant = { λ f. AreCounts f.counts f.asked.items };
+}
+
+// No message of any tag.
+fn no_counts() -> [u32; 256]
+    ensures { AreCounts result [] }
+{
+    [0; 256]
 }
 
 // The fate of the nth message of a tag.
@@ -62,7 +69,7 @@ impl MemoryFates {
         MemoryFates {
             rules,
             asked: Vec::new(alloc),
-            counts: BTreeMap::new(alloc),
+            counts: no_counts(),
         }
     }
 
@@ -77,8 +84,7 @@ impl MemoryFates {
     fn next_of(&self, tag: u8) -> Result<u32, AllocError>
         ensures { IfOk result (λ nth. nth ≡ count_of tag self.now.asked + 1) }
     {
-        let count = self.counts.get(&tag).copied().unwrap_or(0);
-        count.checked_add(1).ok_or(AllocError)
+        self.counts[tag as usize].checked_add(1).ok_or(AllocError)
     }
 
     // Adds a message that is the nth of its tag.
@@ -89,10 +95,7 @@ impl MemoryFates {
         ensures err { OnErr result (self.new.asked ≡ self.old.asked) }
     {
         self.asked.push(asked)?;
-        if let Err(failed) = self.counts.insert(asked.tag, nth) {
-            self.asked.pop();
-            return Err(failed.into());
-        }
+        self.counts[asked.tag as usize] = nth;
         Ok(())
     }
 }

@@ -16,6 +16,9 @@ const NO_OUTPUT: u8 = 4;
 /// The status where memory is wanting.
 const NO_MEMORY: u8 = 7;
 
+/// The command that writes nothing to the folder.
+const LOOK: &str = "history";
+
 /// The folder of a command line that names none: no word follows, so nothing there is touched.
 const NO_FOLDER: &str = ".";
 
@@ -27,6 +30,14 @@ fn hold_streams(rt: &HostRuntime) -> io::Result<(File, File, File)> {
     let second = fs::open(rt, "/dev/null")?;
     let third = fs::open(rt, "/dev/null")?;
     Ok((first, second, third))
+}
+
+// Whether the command looks at the folder alone, which then is left as it is.
+fn is_look(words: &[String]) -> bool {
+    match words.first() {
+        Some(word) => word.as_str() == LOOK,
+        None => false,
+    }
 }
 
 // Ends a run that hasn't begun.
@@ -72,7 +83,12 @@ fn main(rt: HostRuntime) -> ExitCode {
         Some(folder) => folder.as_str(),
         None => NO_FOLDER,
     };
-    let Ok(mut shelf) = FileShelf::new(alloc, &rt, rt.stderr(), folder) else {
+    let made = if is_look(words.as_slice()) {
+        FileShelf::for_a_look(alloc, &rt, rt.stderr(), folder)
+    } else {
+        FileShelf::new(alloc, &rt, rt.stderr(), folder)
+    };
+    let Ok(mut shelf) = made else {
         return without_memory(rt);
     };
     let ended = swallow(

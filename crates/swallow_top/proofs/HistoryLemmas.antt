@@ -32,7 +32,7 @@ module _ {M : Type 0} (w : Media M) (old new : ShelfSight) (object : ObjectId) w
   -- none was taken
   none-back : (kept : List (Kept M)) → kept ≡ [] → TakesOne w old new (home_of object) None → IsHandedBack w old new object kept
   none-back kept none t = record {
-    others = λ name is was. absurd (was ((t.0 name).taken.0 is));
+    others = λ name is was. absurd (was ((t.gives.0 name).taken.0 is));
     untouched = λ told m back. absurd (let e : [] ≡ is_back {M = M} w old new object m = sym none ∙ back in cc e);
   }
 
@@ -40,12 +40,12 @@ module _ {M : Type 0} (w : Media M) (old new : ShelfSight) (object : ObjectId) w
   some-back : (kept : List (Kept M)) (m now : M) → kept ≡ is_back w old new object now → TakesOne w old new (home_of object) (Some m) → IsAsItWas w m now → IsHandedBack w old new object kept
   some-back kept m now are t same = record {
     others = λ name is was. by name is was (name-same name (medium_name (home_of object)));
-    untouched = λ told other back. subst (λ x. NoMore (old.may_hold (medium_name (home_of object))) (w.may_leave x)) (one-back now other (sym are ∙ back)) (λ c h. (t.0.content told).no_more c (same.untouched told c h));
+    untouched = λ told other back. subst (λ x. NoMore (old.may_hold (medium_name (home_of object))) (w.may_leave x)) (one-back now other (sym are ∙ back)) (λ c h. (t.gives.0.content told).no_more c (same.untouched told c h));
   }
     where
       by : (name : MediumName) → new.is_taken name → (old.is_taken name → ⊥) → (name ≡ medium_name (home_of object)) ⊎ (name ≢ medium_name (home_of object)) → (x : M) × (name ≡ medium_name (home_of object)) × (kept ≡ is_back w old new object x)
       by name is was (inl e) = (now, e, are)
-      by name is was (inr far) = absurd (was ((t.1 name far).taken.0 is))
+      by name is was (inr far) = absurd (was ((t.gives.1 name far).taken.0 is))
 
   shut-for : (kept : List (Kept M)) (m now : M) (cause : DownCause) → kept ≡ is_back w old new object now → IsTaken w old (home_of object) m → IsShutFor w cause m now → OpensNot w old new object kept cause
   shut-for kept m now down.Medium are t h = inr (now, are, subst (λ n. Rose n (w.faults now)) t.count h)
@@ -61,7 +61,7 @@ module _ {M : Type 0} (w : Media M) (old new : ShelfSight) (object : ObjectId) w
     where
       by : EndsIfAny status s 6 (down_text (record { node = home_of object; cause = cause })) → Told kept s status
       by (inl seven) = inl seven
-      by (inr ends) = inr (inr (down_text (record { node = home_of object; cause = cause }), record { cause = cause; why = subst (OpensNot w old new object kept) (sym h) (inl (are, t.1)); is_text = refl }, ends))
+      by (inr ends) = inr (inr (down_text (record { node = home_of object; cause = cause }), record { cause = cause; asked = t.asked; why = subst (OpensNot w old new object kept) (sym h) (inl (are, t.gives.1)); is_text = refl }, ends))
   tells-history kept None (Shut (Some x) cause) s status t h tells are = absurd h
   tells-history kept None (Wanting x) s status t h tells are = absurd h
   tells-history kept (Some m) (Open store effects) s status t h tells are = record { back = some-back kept m (medium_of store) are t h.same; told = by tells }
@@ -70,7 +70,7 @@ module _ {M : Type 0} (w : Media M) (old new : ShelfSight) (object : ObjectId) w
       by (inl seven) = inl seven
       by (inr ends) = inr (inl (
         history_text object effects.items,
-        record { log = effects.items; medium = medium_of store; back = are; is_log = λ told. ap storage (sym (t.0.content told).reads_same) ∙ h.held told; images = h.left; is_text = refl },
+        record { log = effects.items; medium = medium_of store; asked = t.asked; back = are; is_log = λ told. ap storage (sym (t.gives.0.content told).reads_same) ∙ h.held told; images = h.left; is_text = refl },
         ends,
       ))
   tells-history kept (Some m) (Shut None cause) s status t h tells are = absurd h
@@ -78,5 +78,5 @@ module _ {M : Type 0} (w : Media M) (old new : ShelfSight) (object : ObjectId) w
     where
       by : EndsIfAny status s 6 (down_text (record { node = home_of object; cause = cause })) → Told kept s status
       by (inl seven) = inl seven
-      by (inr ends) = inr (inr (down_text (record { node = home_of object; cause = cause }), record { cause = cause; why = shut-for kept m x cause are t.0 h.1; is_text = refl }, ends))
+      by (inr ends) = inr (inr (down_text (record { node = home_of object; cause = cause }), record { cause = cause; asked = t.asked; why = shut-for kept m x cause are t.gives.0 h.1; is_text = refl }, ends))
   tells-history kept (Some m) (Wanting x) s status t h tells are = record { back = some-back kept m x are t h; told = inl tells }

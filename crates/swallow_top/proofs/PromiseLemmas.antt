@@ -93,8 +93,8 @@ some-workers o words h = subst (λ (x : Options). 1 ≤ x.workers) (sym h.2) (gi
 -- ---- calls
 
 module _ {M : Type 0} (c : Call M) where
-  pub quiet-call : (status : ℕ) → c.status ≡ status → c.media ≡ [] → c.told.trace ≡ no_trace → c.told.asked ≡ c.told.asked_before → c.told.answers ≡ c.told.answers_before → IsQuiet c status
-  quiet-call status is none trace asked answers = record { status_is = is; none = none; no_run = record { trace = trace; fates = asked; clock = answers } }
+  pub quiet-call : (status : ℕ) → c.status ≡ status → c.media ≡ [] → c.shelf.asked ≡ c.shelf_before.asked → c.told.trace ≡ no_trace → c.told.asked ≡ c.told.asked_before → c.told.answers ≡ c.told.answers_before → IsQuiet c status
+  quiet-call status is none unasked trace asked answers = record { status_is = is; none = none; unasked = unasked; no_run = record { trace = trace; fates = asked; clock = answers } }
 
   -- a call that refused what it read, or had no memory
   refused-run : (o : Options) (s : Stop) → AreWords (Run o) c.words → ReadsPlan c.input c.left c.faults_before c.faults (Err s) → RefusedAs s c.status c.sink

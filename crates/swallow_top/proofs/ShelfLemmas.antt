@@ -22,7 +22,7 @@ use Rattle.run_media.proofs.OrderLemmas.{place-at}
 use Rattle.run_rounds.specs.Finishes.{IsKeptWhole, HasItsLog}
 use Rattle.swallow_top.specs.declared.media.Kept.{Kept}
 use Rattle.swallow_top.specs.Contract.{AllKept, LosesNothing}
-use Rattle.swallow_top.specs.Shelves.{ShelfSight, IsLeft, IsTaken, TakesOne, AreTaken, WereTaken, is_missing, kept_from, kept_of, medium_name}
+use Rattle.swallow_top.specs.Shelves.{ShelfSight, IsLeft, IsTaken, Gives, TakesOne, AreTaken, WereTaken, first_names, is_missing, kept_from, kept_of, medium_name}
 
 -- ---- names
 
@@ -105,6 +105,7 @@ module _ {M : Type 0} (w : Media M) where
   -- none was taken yet
   pub taken-none : (a : ShelfSight) (plan : Plan) (xs : List (Option M)) → xs ≡ [] → WereTaken w a a plan xs
   taken-none a plan xs none = subst (WereTaken w a a plan) (sym none) (record {
+    asked = sym (append-nil a.asked);
     are = tt;
     missing = rose_by_none a.faults a.faults (omega arith);
     back = λ name is was. absurd (was is);
@@ -113,8 +114,13 @@ module _ {M : Type 0} (w : Media M) where
 
   -- and one more
   pub taken-more : (a b c : ShelfSight) (plan : Plan) (xs : List (Option M)) (n : NodeId) (m : Option M) → n ≡ node_at plan (length xs) → WereTaken w a b plan xs → TakesOne w b c n m → WereTaken w a c plan (xs ++ m ∷ [])
-  taken-more a b c plan xs n m is p q = by m q
+  taken-more a b c plan xs n m is p q = by m q.gives
     where
+      asked-more : (k : ℕ) → k ≡ suc (length xs) → c.asked ≡ a.asked ++ first_names plan k
+      asked-more k e =
+          q.asked ∙ (ap (λ l. l ++ medium_name n ∷ []) p.asked ∙ (append_assoc a.asked (first_names plan (length xs)) (medium_name n ∷ [])
+          ∙ (ap (λ (one : NodeId). a.asked ++ (first_names plan (length xs) ++ medium_name one ∷ [])) is ∙ ap (λ i. a.asked ++ first_names plan i) (sym e))))
+
       longer : (x : Option M) → length (xs ++ x ∷ []) ≡ suc (length xs)
       longer x = one-longer xs x
 
@@ -127,14 +133,16 @@ module _ {M : Type 0} (w : Media M) where
       before : (x : Option M) (name : MediumName) → b.is_taken name → (a.is_taken name → ⊥) → (place : ℕ) × (one : M) × (name ≡ medium_name (node_at plan place)) × (slice_get (xs ++ x ∷ []) place ≡ Some (Some one))
       before x name taken was = let h = p.back name taken was in (h.0, h.1, h.2, get-front xs (x ∷ []) h.0 (Some h.1) h.3)
 
-      by : (x : Option M) → TakesOne w b c n x → WereTaken w a c plan (xs ++ x ∷ [])
+      by : (x : Option M) → Gives w b c n x → WereTaken w a c plan (xs ++ x ∷ [])
       by None h = record {
+        asked = asked-more (length (xs ++ None ∷ [])) (longer None);
         are = are-more a plan 0 xs None p.are (there None tt);
         missing = subst (λ k. RoseBy k a.faults c.faults) (sym (count-more xs None)) (rises_add (count_by is_missing xs) 1 a.faults b.faults c.faults p.missing h.1);
         back = λ name taken was. before None name ((h.0 name).taken.0 taken) was;
         others = λ name far. left-joined w.tells a b c name (p.others name (λ i lt. far i (let e = longer None in omega (arith, e, lt)))) (h.0 name);
       }
       by (Some x) h = record {
+        asked = asked-more (length (xs ++ Some x ∷ [])) (longer (Some x));
         are = are-more a plan 0 xs (Some x) p.are (there (Some x) (subst (λ (k : NodeId). IsTaken w a k x) is (taken-left a b n x kept-left h.0), tt));
         missing = subst (λ k. RoseBy k a.faults c.faults) (let e = count-more xs (Some x) in sym (e ∙ omega arith)) (rise_stays (count_by is_missing xs) a.faults b.faults c.faults p.missing h.2);
         back = λ name taken was. one name taken was (name-same name (medium_name n));

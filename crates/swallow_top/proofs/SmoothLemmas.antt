@@ -15,10 +15,11 @@ use Rattle.stream_port.specs.Causes.{Rose, RoseBy, rise_of_fewer}
 use Rattle.effect_form.specs.declared.effects.Effect.{Effect}
 use Rattle.effect_form.specs.declared.outcomes.Outcome.{Outcome}
 use Rattle.effect_form.specs.declared.outcomes.Outcome.TheVariants as ended
-use Rattle.version_store.specs.Filling.{filling}
+use Rattle.version_store.specs.Filling.{filling, pages_apart}
 use Rattle.version_store.specs.Storage.{storage}
-use Rattle.version_store.proofs.FillingLemmas.{filling-most}
+use Rattle.version_store.proofs.FillingLemmas.{filling-apart}
 use Rattle.page_gate.specs.States.{is_blank}
+use Rattle.value_form.proofs.ValueLaws.{ok_is}
 use Rattle.plan_form.specs.declared.plans.Plan.{Plan}
 use Rattle.plan_form.specs.Plans.{InRange}
 use Rattle.plan_form.specs.PlanTexts.{IsOfLanguage}
@@ -51,8 +52,8 @@ use Rattle.run_rounds.specs.Media.{Became, inner, medium_at}
 use Rattle.run_rounds.specs.Runs.{Account, Ran}
 use Rattle.run_rounds.proofs.FlagLemmas.{named-opened, one-down, told-of}
 use Rattle.complete_law.specs.Calm as calm
-use Rattle.complete_law.specs.Calm.{AllDone, CalmPlace, CalmRun, HasOutcome, IsQuiet, MayStop, book_at, is_done_at, log_at, most_effects}
-use Rattle.complete_law.proofs.Counts.{few-effects}
+use Rattle.complete_law.specs.Calm.{AllDone, CalmPlace, CalmRun, HasOutcome, IsQuiet, MayStop, book_at, filled_by, is_done_at, log_at, most_pages}
+use Rattle.complete_law.proofs.Counts.{few-pages}
 use Rattle.complete_law.proofs.Messages.{few-messages}
 use Rattle.complete_law.proofs.OneBroker.{never-ended}
 use Rattle.complete_law.proofs.Outcomes.{outcomes}
@@ -61,7 +62,7 @@ use Rattle.complete_law.proofs.Stops.{nothing-stops}
 use Rattle.swallow_top.specs.Finished.{AllBegun}
 use Rattle.swallow_top.specs.Smooth.{IsComplete, IsSmoothRun, WasRefused}
 use Rattle.swallow_top.proofs.DownLemmas.{life-down}
-use Rattle.swallow_top.proofs.PageLemmas.{blank-none, clean-over, few-pages}
+use Rattle.swallow_top.proofs.PageLemmas.{apart-filled, blank-count, blank-none, filled-append, filled-reverse}
 use Rattle.swallow_top.proofs.StandingLemmas.{all-finished, all-tries}
 use Rattle.serial_law.proofs.Ranges.{in-range, within}
 
@@ -237,18 +238,23 @@ module _ {M : Type 0} (w : Media M) (told : IsTrue w.tells) (most_ticks enough m
       let f = ((ran.stops told).full n b.0 b.1 pages p (cause-here front n (down.Full pages) rest is p) b.2).1 in
       let intact = (ran.stops told).intact n b.0 b.1 p (costless n p (all-opened n p)) b.2 in
       let count = intact.count in
-      let clean = clean-over (w.reads b.0) (w.reads b.1) (smooth.blank n b.0 p b.2.0) intact.clean in
-      let used = few-pages (w.reads b.1) (life_after plan t n).gated clean f.durable in
-      let fill = filling-most (life_after plan t n).fresh f.ranges in
+      let none = smooth.blank n b.0 p b.2.0 in
+      let grown = intact.grown [] (blank-none (w.reads b.0) none) in
+      let same : grown.more ≡ (life_after plan t n).gated = ok_is grown.more (life_after plan t n).gated (sym grown.is ∙ f.durable) in
+      let all = blank-count (w.reads b.0) none in
+      let used = grown.pages in
+      let stored : pages_apart grown.more ≤ filled_by (life_after plan t n).gated = subst (λ (es : List Effect). pages_apart grown.more ≤ filled_by es) same (apart-filled grown.more grown.ranges) in
+      let fill = filling-apart (life_after plan t n).fresh in
+      let fresh = apart-filled (life_after plan t n).fresh f.ranges in
       let blank = f.blank in
       let large = smooth.large n b.0 p b.2.0 in
       let at = place front (Down n (down.Full pages)) rest is quiet in
-      let few = few-effects at most n smooth.asks in
+      let few = few-pages at most n smooth.asks in
       let life : life_after plan t n ≡ (walk base front).life n =
       ap (λ (es : List Entry). (walk base es).life n) is ∙ life-down base (fates_of t.sent) front rest n (down.Full pages) (known n p) (subst (λ (es : List Entry). Meets base (fates_of t.sent) (start_world base) es) is legal.meets) in
-      let size : length (log_at at n) ≡ length (life_after plan t n).gated + length (life_after plan t n).fresh =
-      length-reverse (all_effects ((walk base front).life n)) ∙ (ap (λ (l : Life). length (all_effects l)) (sym life) ∙ length-append (life_after plan t n).gated (life_after plan t n).fresh) in
-      omega (arith, used, fill, blank, large, count, few, size)
+      let size : filled_by (log_at at n) ≡ filled_by (life_after plan t n).gated + filled_by (life_after plan t n).fresh =
+      filled-reverse (all_effects ((walk base front).life n)) ∙ (ap (λ (l : Life). filled_by (all_effects l)) (sym life) ∙ filled-append (life_after plan t n).gated (life_after plan t n).fresh) in
+      omega (arith, all, used, stored, fill, fresh, blank, large, count, few, size)
 
   no-unopened : IsUnopened plan t → ⊥
   no-unopened h = all-opened h.0 h.1 h.2
@@ -260,7 +266,7 @@ module _ {M : Type 0} (w : Media M) (told : IsTrue w.tells) (most_ticks enough m
       by (inl h) = h
       by (inr h) = absurd (no-unopened h)
 
-  may-stop : (front : List Entry) (e : Entry) (rest : List Entry) (is : AtEntry front e rest) (quiet : Every IsQuiet front) → MayStop (most_effects run most) (place front e rest is quiet) e
+  may-stop : (front : List Entry) (e : Entry) (rest : List Entry) (is : AtEntry front e rest) (quiet : Every IsQuiet front) → MayStop (most_pages run most) (place front e rest is quiet) e
   may-stop front (Crash node kept) rest is quiet = dear front (Crash node kept) rest node is (same_node-refl node) (omega arith)
   may-stop front (Down node down.Medium) rest is quiet = dear front (Down node down.Medium) rest node is (same_node-refl node) (omega arith)
   may-stop front (Down node (down.Damaged page)) rest is quiet =
@@ -275,17 +281,17 @@ module _ {M : Type 0} (w : Media M) (told : IsTrue w.tells) (most_ticks enough m
 
   -- no Tick, Crash or Down stands
   whole-quiet : Every IsQuiet t.entries
-  whole-quiet = nothing-stops never-stuck few-effects run most smooth.asks (λ p e more same next. at p.run (sym same) p.front p.rest p.here p.quiet e more next)
+  whole-quiet = nothing-stops never-stuck few-pages run most smooth.asks (λ p e more same next. at p.run (sym same) p.front p.rest p.here p.quiet e more next)
     where
-      first : (front rest : List Entry) (here : t.entries ≡ front ++ rest) (quiet : Every IsQuiet front) (e : Entry) (more : List Entry) → rest ≡ e ∷ more → MayStop (most_effects run most) (record { run = run; front = front; rest = rest; here = here; quiet = quiet }) e
+      first : (front rest : List Entry) (here : t.entries ≡ front ++ rest) (quiet : Every IsQuiet front) (e : Entry) (more : List Entry) → rest ≡ e ∷ more → MayStop (most_pages run most) (record { run = run; front = front; rest = rest; here = here; quiet = quiet }) e
       first front rest here quiet e more next = move e (may-stop front e more (here ∙ ap (λ (es : List Entry). front ++ es) next) quiet)
         where
-          move : (x : Entry) → MayStop (most_effects run most) (place front e more (here ∙ ap (λ (es : List Entry). front ++ es) next) quiet) x → MayStop (most_effects run most) (record { run = run; front = front; rest = rest; here = here; quiet = quiet }) x
+          move : (x : Entry) → MayStop (most_pages run most) (place front e more (here ∙ ap (λ (es : List Entry). front ++ es) next) quiet) x → MayStop (most_pages run most) (record { run = run; front = front; rest = rest; here = here; quiet = quiet }) x
           move (Take node number) h = h
           move e h = h
 
       Stops : CalmRun → Type 0
-      Stops r = (front rest : List Entry) (here : r.trace.entries ≡ front ++ rest) (quiet : Every IsQuiet front) (e : Entry) (more : List Entry) → rest ≡ e ∷ more → MayStop (most_effects run most) (record { run = r; front = front; rest = rest; here = here; quiet = quiet }) e
+      Stops r = (front rest : List Entry) (here : r.trace.entries ≡ front ++ rest) (quiet : Every IsQuiet front) (e : Entry) (more : List Entry) → rest ≡ e ∷ more → MayStop (most_pages run most) (record { run = r; front = front; rest = rest; here = here; quiet = quiet }) e
 
       at : (r : CalmRun) → run ≡ r → Stops r
       at r same = subst Stops same first

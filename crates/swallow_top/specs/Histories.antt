@@ -1,5 +1,5 @@
 -- How the history of an object is told.
-use Rattle.std.specs.Prelude.{◌≡◌, ◌⊎◌, ℕ, IsTrue, List, [], ◌∷◌, Result, Ok, Err}
+use Rattle.std.specs.Prelude.{◌≡◌, ◌⊎◌, ℕ, IsTrue, List, [], ◌∷◌, ◌++◌, Result, Ok, Err}
 use Rattle.std.specs.List.{AllZip}
 use Rattle.pseudo_time.specs.Nodes.{repository}
 use Rattle.pseudo_time.specs.declared.nodes.NodeId.{NodeId}
@@ -44,10 +44,15 @@ module _ {M : Type 0} (w : Media M) (old new : ShelfSight) (object : ObjectId) w
   abbrev pub is_back : M → List (Kept M)
   is_back m = record { node = home_of object; volume = 0; medium = m } ∷ []
 
+  -- the shelf was asked once, for the repository's medium
+  abbrev pub WasAsked : Type 0
+  WasAsked = new.asked ≡ old.asked ++ medium_name (home_of object) ∷ []
+
   -- the history of the object by the log that its repository's medium held, which whatever a crash leaves has still
   pub record ShowsHistory (kept : List (Kept M)) (text : List ℕ) : Type 0 where
     pub log : List Effect
     pub medium : M
+    pub asked : WasAsked
     pub back : kept ≡ is_back medium
     pub is_log : IsTrue w.tells → storage (old.holds (medium_name (home_of object))) ≡ Ok log
     pub images : IsTrue w.tells → (c : Image) → w.may_leave medium c → storage c ≡ Ok log
@@ -62,6 +67,7 @@ module _ {M : Type 0} (w : Media M) (old new : ShelfSight) (object : ObjectId) w
   -- the line that says so alone
   pub record ShowsDown (kept : List (Kept M)) (text : List ℕ) : Type 0 where
     pub cause : DownCause
+    pub asked : WasAsked
     pub why : OpensNot kept cause
     pub is_text : text ≡ down_text (record { node = home_of object; cause = cause })
 

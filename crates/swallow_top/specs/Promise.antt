@@ -37,10 +37,11 @@ pub record Call (M : Type 0) : Type 1 where
   pub media : List (Kept M)
 
 module _ {M : Type 0} (c : Call M) where
-  -- nothing was run: no medium was taken, and nothing was asked
+  -- nothing was run: no medium was taken or asked for, and nothing was asked of fates and clock
   pub record IsQuiet (status : ℕ) : Type 0 where
     pub status_is : c.status ≡ status
     pub none : c.media ≡ []
+    pub unasked : c.shelf.asked ≡ c.shelf_before.asked
     pub no_run : HasNoRun c.told
 
   -- nothing was read

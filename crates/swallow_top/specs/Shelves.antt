@@ -12,17 +12,19 @@ use Rattle.run_media.specs.Media.{Media}
 use Rattle.run_media.specs.Places.{node_at}
 use Rattle.swallow_top.specs.declared.media.Kept.{Kept}
 
--- of a shelf: what its media hold, what a crash may leave of them, how often each has failed, which were taken, and how often a taking has failed
+-- of a shelf: what its media hold, what a crash may leave of them, how often each has failed, which were taken, which names were asked for, in order, and how
+-- often a taking has failed
 pub record ShelfSight : Type 1 where
   pub holds : MediumName → Image
   pub may_hold : MediumName → Image → Type 0
   pub medium_faults : MediumName → ℕ
   pub is_taken : MediumName → Type 0
+  pub asked : List MediumName
   pub faults : ℕ
 
 -- by what the members of the trait say of it
 abbrev pub shelf_sight : {S M : Type 0} → Ghosts S M → S → ShelfSight
-shelf_sight g s = record { holds = g.holds s; may_hold = g.may_hold s; medium_faults = g.medium_faults s; is_taken = g.is_taken s; faults = g.faults s }
+shelf_sight g s = record { holds = g.holds s; may_hold = g.may_hold s; medium_faults = g.medium_faults s; is_taken = g.is_taken s; asked = g.asked s; faults = g.faults s }
 
 -- the name of a node's medium
 abbrev pub medium_name : NodeId → MediumName
@@ -45,9 +47,14 @@ module _ {M : Type 0} (w : Media M) (old : ShelfSight) where
     pub first : old.is_taken (medium_name n) → ⊥
 
   -- the medium of the node was taken, and nothing else; or the shelf failed
-  abbrev pub TakesOne : ShelfSight → NodeId → Option M → Type 0
-  TakesOne new n None = ((name : MediumName) → IsLeft w.tells old new name) × Rose old.faults new.faults
-  TakesOne new n (Some m) = IsTaken n m × ((name : MediumName) → name ≢ medium_name n → IsLeft w.tells old new name) × (old.faults ≤ new.faults)
+  abbrev pub Gives : ShelfSight → NodeId → Option M → Type 0
+  Gives new n None = ((name : MediumName) → IsLeft w.tells old new name) × Rose old.faults new.faults
+  Gives new n (Some m) = IsTaken n m × ((name : MediumName) → name ≢ medium_name n → IsLeft w.tells old new name) × (old.faults ≤ new.faults)
+
+  -- the shelf was asked once, for the medium of the node
+  pub record TakesOne (new : ShelfSight) (n : NodeId) (m : Option M) : Type 0 where
+    pub asked : new.asked ≡ old.asked ++ medium_name n ∷ []
+    pub gives : Gives new n m
 
   -- these are the media of the plan's nodes from this place on, each as it stood on the shelf; None where the shelf gave none
   abbrev pub AreTaken : Plan → ℕ → List (Option M) → Type 0
@@ -59,8 +66,14 @@ abbrev pub is_missing : {M : Type 0} → Option M → Bool
 is_missing None = true
 is_missing (Some m) = false
 
--- The media of the plan's first nodes were taken, and no others. The shelf failed for each that it didn't give.
+-- the names of the media of so many of the plan's nodes, in their order
+abbrev pub first_names : Plan → ℕ → List MediumName
+first_names plan 0 = []
+first_names plan (suc n) = first_names plan n ++ medium_name (node_at plan n) ∷ []
+
+-- The media of the plan's first nodes were asked for, each once and in the order of the nodes, and no others were taken. The shelf failed for each that it didn't give.
 pub record WereTaken {M : Type 0} (w : Media M) (old new : ShelfSight) (plan : Plan) (media : List (Option M)) : Type 0 where
+  pub asked : new.asked ≡ old.asked ++ first_names plan (length media)
   pub are : AreTaken w old plan 0 media
   pub missing : RoseBy (count_by is_missing media) old.faults new.faults
   pub back : (name : MediumName) → new.is_taken name → (old.is_taken name → ⊥) → (place : ℕ) × (m : M) × (name ≡ medium_name (node_at plan place)) × (slice_get media place ≡ Some (Some m))

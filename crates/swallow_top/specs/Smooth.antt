@@ -29,9 +29,9 @@ use Rattle.complete_law.specs.Calm.{AsksAtMost, IsPlain, IsQuiet, tries_in}
 abbrev pub AskAtMost : Plan → ℕ → Type 0
 AskAtMost plan most = Every (λ (a : ActSpec). AsksAtMost most (reading plan.acts (task_of a).script)) plan.acts
 
--- so many pages are enough for each node of a plan whose scripts make at most so many requests
+-- so many pages are enough for each node of a plan whose scripts make at most so many requests, though each effect may fill 17
 abbrev pub pages_for : Plan → ℕ → ℕ
-pages_for plan most = 1 + tries_in plan.acts * (most + 3)
+pages_for plan most = 1 + 17 * (tries_in plan.acts * (most + 3))
 
 -- and no more messages than these are sent
 abbrev pub messages_for : Plan → ℕ → ℕ

@@ -12,6 +12,6 @@ mod stops;
 mod streams;
 mod top;
 
-pub use laws::{law_done_is_finished, law_few_pages};
+pub use laws::law_done_is_finished;
 pub use media::{Finish, Kept};
 pub use top::swallow;

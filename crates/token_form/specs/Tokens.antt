@@ -4,7 +4,6 @@ use Rattle.std.specs.Char.{is_ascii_digit}
 use Rattle.std.specs.Fmt.{decimal}
 use Rattle.std.specs.Int.{is_in_range}
 use Rattle.value_form.specs.TextForm.{hex_digit_of, quoted_text}
-use Rattle.value_form.specs.ValueBytes.{most_text}
 use Rattle.token_form.specs.declared.tokens.Word.{Word}
 use Rattle.token_form.specs.declared.tokens.Word.TheVariants as w
 use Rattle.token_form.specs.declared.tokens.Sign.{Sign}
@@ -145,10 +144,14 @@ IsTokens bytes (token ∷ more) = (n : ℕ) × (front rest : List ℕ) × (bytes
 
 -- ---- limits
 
+-- the most bytes of a text that stands in a script; one that a script makes may be longer
+abbrev pub most_quoted : ℕ
+most_quoted = 1000
+
 abbrev pub in_limits : Token → Bool
 in_limits (t.Name name) = nat_le (length name) 16
 in_limits (t.Number n) = nat_lt n (2 ^ 63)
-in_limits (t.Text content) = nat_le (length content) most_text
+in_limits (t.Text content) = nat_le (length content) most_quoted
 in_limits (t.Word word) = true
 in_limits (t.Sign sign) = true
 

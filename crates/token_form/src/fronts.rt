@@ -11,9 +11,12 @@ use crate::signs::sign_at;
 use crate::tokens::Token;
 use crate::words::word_of;
 use std::alloc::{AllocError, Global};
-use value_form::{Bytes, MOST_TEXT_BYTES};
+use value_form::Bytes;
 
 const MOST_NAME_BYTES: usize = 16;
+
+// The most bytes of a text that stands in a script. A text that a script makes may be longer.
+const MOST_QUOTED_BYTES: usize = 1_000;
 
 fn name_token(alloc: Global, name: &[u8]) -> Result<Option<Token>, AllocError>
     ensures { IfOk result (λ o. o ≡ reading.kept (reading.name_token name.now)) }
@@ -41,7 +44,7 @@ fn number_token(digits: &[u8]) -> Option<Token>
 fn text_token(content: Bytes) -> Option<Token>
     ensures { result ≡ reading.kept (Token.Text content) }
 {
-    if content.as_slice().len() > MOST_TEXT_BYTES as usize {
+    if content.as_slice().len() > MOST_QUOTED_BYTES {
         return None;
     }
     Some(Token::Text(content))

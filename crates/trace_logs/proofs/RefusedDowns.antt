@@ -16,6 +16,7 @@ use Rattle.world_core.specs.Walks.{Base, names, start_world}
 use Rattle.world_core.specs.Legal.{JustNodes, Meets}
 use Rattle.world_core.specs.Pasts.{Call, IsCall, WasNotOpened}
 use Rattle.trace_logs.proofs.WorkedTraces.{home, desk, stamp, lone_act, script, blank, base, prompt}
+use Rattle.plan_form.specs.declared.plans.Plan.{Plan}
 use Rattle.trace_logs.proofs.WorkedTurns.{plan}
 
 abbrev Breaks : List Entry → Type 0
@@ -118,8 +119,8 @@ down_call asked sent kept = record { plan = plan; asked = asked; trace = record 
 pub not-opened : WasNotOpened (down home ∷ down desk ∷ []) home
 not-opened = ((cause.Medium, inl refl), (refl, (refl, tt)))
 
-no-down_call : (reading : List ℕ → Tree) (logs : NodeId → List Effect) (asked : List Asked) (sent : List Sent) (kept : NodeId → ℕ) → IsCall reading logs (down_call asked sent kept) → ⊥
-no-down_call reading logs asked sent kept c = c.opened home refl not-opened
+no-down_call : (read : Plan → List ℕ → Tree) (logs : NodeId → List Effect) (asked : List Asked) (sent : List Sent) (kept : NodeId → ℕ) → IsCall read logs (down_call asked sent kept) → ⊥
+no-down_call read logs asked sent kept c = c.opened home refl not-opened
 
 -- with an entry of another kind, or no Down of its own, it was
 pub opened-behind : WasNotOpened (Go desk ∷ down home ∷ []) home → ⊥

@@ -7,7 +7,7 @@ pub enum FailKind {
     Division,
     /// An operand of another kind, or a condition that isn't a number.
     Kind,
-    /// A text of more than 1,000 bytes.
+    /// A text of more than 65,536 bytes.
     Long,
     /// What stands in `R[E]` isn't a number from 0 to 4,294,967,295.
     Object,

@@ -27,6 +27,6 @@ pub use objects::ObjectId;
 pub use scripts::{Script, Stmt, Target};
 pub use texts::Bytes;
 pub use transcripts::Line;
-pub use value_bytes::{MOST_TEXT_BYTES, values_apart};
+pub use value_bytes::{MOST_SHORT_BYTES, MOST_TEXT_BYTES, values_apart};
 pub use value_faults::ValueFault;
 pub use values::Value;

@@ -1,7 +1,6 @@
 ghost use Rattle.std.specs.Prelude.{◌≡◌, ◌++◌, ◌≤◌, Ok, List, ℕ, length, drop, take, OnOk, OnErr, IfOk};
-ghost use Rattle.std.specs.Option.{option_map};
 ghost use Rattle.field_form.specs.Forms.{IsBytes};
-ghost use Rattle.value_form.specs.ValueBytes.{IsValue, most_text, value_bytes, value_at, number_value_at, text_value_at, length_at};
+ghost use Rattle.value_form.specs.ValueBytes.{IsValue, most_text, value_bytes, value_at, number_value_at, text_at, short_text_at, long_text_at};
 ghost use Rattle.value_form.specs.ValueReads.{Gives, GivesCount};
 ghost use Rattle.value_form.specs.declared.values.Value.{Value};
 ghost use Rattle.value_form.specs.declared.values.Value.TheVariants.{Number, Text};
@@ -9,24 +8,14 @@ ghost use Rattle.value_form.specs.declared.values.Value.TheVariants.{Number, Tex
 use crate::texts::Bytes;
 use crate::value_faults::ValueFault;
 use crate::values::Value;
-use field_form::{byte_of, front_of, i64_of, u16_of};
+use field_form::{byte_of, front_of, i64_of, u16_in, u32_in};
 use std::alloc::{AllocError, Global};
 
 /// The most bytes of a text.
-pub const MOST_TEXT_BYTES: u16 = 1_000;
+pub const MOST_TEXT_BYTES: u32 = 65_536;
 
-// The length of a text.
-fn length_of(bytes: &[u8]) -> Option<(u16, &[u8])>
-    ensures { option_map (λ p. (p.0, p.1.now)) result ≡ length_at bytes.now }
-{
-    let Some((length, rest)) = u16_of(bytes) else {
-        return None;
-    };
-    if length > MOST_TEXT_BYTES {
-        return None;
-    }
-    Some((length, rest))
-}
+/// The most bytes of a text whose length takes two bytes.
+pub const MOST_SHORT_BYTES: u16 = 1_000;
 
 #[tactic(auto, unfolding(crate::specs::ValueBytes::number_value_at))]
 fn number_value_of(bytes: &[u8]) -> Result<(Value, &[u8]), ValueFault>
@@ -38,18 +27,41 @@ fn number_value_of(bytes: &[u8]) -> Result<(Value, &[u8]), ValueFault>
     Ok((Value::Number(number), rest))
 }
 
-#[tactic(auto, unfolding(crate::specs::ValueBytes::text_value_at))]
-fn text_value_of(alloc: Global, bytes: &[u8]) -> Result<(Value, &[u8]), ValueFault>
-    ensures { Gives (λ p. (p.0, p.1.now)) result (text_value_at bytes.now) }
+// A text of so many bytes, the first of which is at this place.
+#[tactic(auto, unfolding(crate::specs::ValueBytes::text_at))]
+fn text_of(
+    alloc: Global,
+    place: usize,
+    size: usize,
+    bytes: &[u8],
+) -> Result<(Value, &[u8]), ValueFault>
+    ensures { Gives (λ p. (p.0, p.1.now)) result (text_at place size bytes.now) }
 {
-    let Some((length, rest)) = length_of(bytes) else {
-        return Err(ValueFault::Form(1));
-    };
-    let Some((text, rest)) = front_of(length as usize, rest) else {
-        return Err(ValueFault::Form(3));
+    let Some((text, rest)) = front_of(size, bytes) else {
+        return Err(ValueFault::Form(place));
     };
     let text = text.to_vec(alloc)?;
     Ok((Value::Text(Bytes::of(text)), rest))
+}
+
+#[tactic(auto, unfolding(crate::specs::ValueBytes::short_text_at))]
+fn short_text_of(alloc: Global, bytes: &[u8]) -> Result<(Value, &[u8]), ValueFault>
+    ensures { Gives (λ p. (p.0, p.1.now)) result (short_text_at bytes.now) }
+{
+    let Some((size, rest)) = u16_in(0, MOST_SHORT_BYTES, bytes) else {
+        return Err(ValueFault::Form(1));
+    };
+    text_of(alloc, 3, size as usize, rest)
+}
+
+#[tactic(auto, unfolding(crate::specs::ValueBytes::long_text_at))]
+fn long_text_of(alloc: Global, bytes: &[u8]) -> Result<(Value, &[u8]), ValueFault>
+    ensures { Gives (λ p. (p.0, p.1.now)) result (long_text_at bytes.now) }
+{
+    let Some((size, rest)) = u32_in(MOST_SHORT_BYTES as u32 + 1, MOST_TEXT_BYTES, bytes) else {
+        return Err(ValueFault::Form(1));
+    };
+    text_of(alloc, 5, size as usize, rest)
 }
 
 // The value at the front, and what follows it.
@@ -67,7 +79,10 @@ fn value_of(alloc: Global, bytes: &[u8]) -> Result<(Value, &[u8]), ValueFault>
         return number_value_of(rest);
     }
     if tag == 2 {
-        return text_value_of(alloc, rest);
+        return short_text_of(alloc, rest);
+    }
+    if tag == 3 {
+        return long_text_of(alloc, rest);
     }
     Err(ValueFault::Form(0))
 }
@@ -86,8 +101,13 @@ fn text_bytes(alloc: Global, text: &[u8]) -> Result<Vec<u8>, AllocError>
     ensures { IfOk result (λ v. v.items ≡ value_bytes (Text text.now)) }
 {
     let mut bytes = Vec::new(alloc);
-    bytes.push(2)?;
-    bytes.extend_from_slice(&(text.len() as u16).to_be_bytes())?;
+    if text.len() <= MOST_SHORT_BYTES as usize {
+        bytes.push(2)?;
+        bytes.extend_from_slice(&(text.len() as u16).to_be_bytes())?;
+    } else {
+        bytes.push(3)?;
+        bytes.extend_from_slice(&(text.len() as u32).to_be_bytes())?;
+    }
     bytes.extend_from_slice(text)?;
     Ok(bytes)
 }

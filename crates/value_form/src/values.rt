@@ -48,7 +48,7 @@ pub enum Value {
     /// What an object holds that was never written, and a name that was never set.
     Nothing,
     Number(i64),
-    /// At most 1,000 bytes.
+    /// At most 65,536 bytes.
     Text(Bytes),
 }
 

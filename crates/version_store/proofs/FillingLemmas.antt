@@ -1,14 +1,15 @@
 -- How effects fill pages.
-use Rattle.std.proofs.Common.{◌≡◌, ℕ, ◌+◌, ◌≤◌, ◌<◌, List, [], ◌∷◌, ◌++◌, length, get_or, drop, refl, sym, ◌∙◌, ap, subst, arith, inl, inr, append_assoc, zero-add}
-use Rattle.std.specs.Prelude.{nat_le}
-use Rattle.std.proofs.lemmas.Bool.{cases_Bool, cond-true, cond-false, le-leb, lt-leb, leb-true, leb-false}
+use Rattle.std.proofs.Common.{◌≡◌, ℕ, zero, suc, ◌+◌, ◌≤◌, ◌<◌, List, [], ◌∷◌, ◌++◌, length, get_or, drop, ◌⊎◌, refl, sym, ◌∙◌, ap, subst, arith, inl, inr, append_assoc, zero-add, length-append}
+use Rattle.std.specs.Prelude.{nat_le, ◌==◌, ◌*◌}
+use Rattle.std.specs.List.{flat_map}
+use Rattle.std.proofs.lemmas.Bool.{cases_Bool, cond-true, cond-false, le-leb, lt-leb, leb-true, leb-false, ne_eqb}
 use Rattle.std.proofs.lemmas.List.{append-nil, drop_more, drop_all}
 use Rattle.pseudo_time.specs.Lists.{Every}
 use Rattle.pseudo_time.proofs.ListLemmas.{every-append}
 use Rattle.effect_form.specs.declared.effects.Effect.{Effect}
 use Rattle.effect_form.specs.Effects.{IsEffect, AreEffects, size_of}
 use Rattle.effect_form.proofs.SizeLaws.{size_some, size_most}
-use Rattle.version_store.specs.Filling.{sizes, closed, filling_from, filling, joined}
+use Rattle.version_store.specs.Filling.{sizes, Parcel, Shared, Alone, closed, parcels_from, parcels, pieced, full_pages, pages_of, filling, joined, reach, begun_pages, own_pages, pages_apart, Filled}
 
 pub sizes-append : (a b : List Effect) → sizes (a ++ b) ≡ sizes a + sizes b
 sizes-append [] b = sym (zero-add (sizes b))
@@ -17,178 +18,294 @@ sizes-append (e ∷ a) b = let rest = sizes-append a b in omega (arith, rest)
 pub sizes-push : (a : List Effect) (e : Effect) → sizes (a ++ e ∷ []) ≡ sizes a + size_of e
 sizes-push a e = let both = sizes-append a (e ∷ []) in omega (arith, both)
 
--- only no effects take no bytes
-pub sizes-none : (page : List Effect) → sizes page ≡ 0 → page ≡ []
-sizes-none [] none_left = refl
-sizes-none (e ∷ page) none_left = absurd (let some = size_some e in omega (arith, some, none_left))
+-- ---- the parcels of effects
 
 module _ (page : List Effect) (e : Effect) (rest : List Effect) where
   -- the page takes one more
-  pub filling-takes : sizes page + size_of e ≤ 4092 → filling_from page (e ∷ rest) ≡ filling_from (page ++ e ∷ []) rest
-  filling-takes fits = cond-true (nat_le (sizes page + size_of e) 4092) _ _ (le-leb (sizes page + size_of e) 4092 fits)
+  pub parcels-takes : sizes page + size_of e ≤ 4091 → parcels_from page (e ∷ rest) ≡ parcels_from (page ++ e ∷ []) rest
+  parcels-takes fits = cond-true (nat_le (sizes page + size_of e) 4091) _ _ (le-leb (sizes page + size_of e) 4091 fits)
 
-  -- or it is full
-  pub filling-closes : 4092 < sizes page + size_of e → filling_from page (e ∷ rest) ≡ page ∷ filling_from (e ∷ []) rest
-  filling-closes over = cond-false (nat_le (sizes page + size_of e) 4092) _ _ (lt-leb (sizes page + size_of e) 4092 over)
+  -- or it is full, and the next begins with it
+  pub parcels-begins : 4091 < sizes page + size_of e → size_of e ≤ 4091 → parcels_from page (e ∷ rest) ≡ closed page ++ parcels_from (e ∷ []) rest
+  parcels-begins over short =
+      cond-false (nat_le (sizes page + size_of e) 4091) _ _ (lt-leb (sizes page + size_of e) 4091 over)
+      ∙ cond-true (nat_le (size_of e) 4091) _ _ (le-leb (size_of e) 4091 short)
 
-joined-closed : (page : List Effect) → joined (closed page) ≡ page
-joined-closed [] = refl
-joined-closed (e ∷ page) = append-nil (e ∷ page)
+  -- or it is longer than a page
+  pub parcels-alone : 4091 < size_of e → parcels_from page (e ∷ rest) ≡ closed page ++ Alone e ∷ parcels_from [] rest
+  parcels-alone long =
+      cond-false (nat_le (sizes page + size_of e) 4091) _ _ (lt-leb (sizes page + size_of e) 4091 (omega (arith, long)))
+      ∙ cond-false (nat_le (size_of e) 4091) _ _ (lt-leb (size_of e) 4091 long)
+
+-- what holds of parcels holds by the three cases of the next effect
+abbrev ParcelCase : (page : List Effect) (e : Effect) → Type 0
+ParcelCase page e = (sizes page + size_of e ≤ 4091) ⊎ ((4091 < sizes page + size_of e) × (size_of e ≤ 4091)) ⊎ (4091 < size_of e)
+
+parcel_case : (page : List Effect) (e : Effect) → ParcelCase page e
+parcel_case page e = elim (cases_Bool (nat_le (sizes page + size_of e) 4091)) [
+  | inl fits ↦ inl (leb-true (sizes page + size_of e) 4091 fits)
+  | inr over ↦ elim (cases_Bool (nat_le (size_of e) 4091)) [
+    | inl short ↦ inr (inl (leb-false (sizes page + size_of e) 4091 over, leb-true (size_of e) 4091 short))
+    | inr long ↦ inr (inr (leb-false (size_of e) 4091 long))
+  ]
+]
+
+-- the effects of parcels
+abbrev pub effects_in : Parcel → List Effect
+effects_in (Shared es) = es
+effects_in (Alone e) = e ∷ []
+
+abbrev pub effects_in_all : List Parcel → List Effect
+effects_in_all ps = flat_map effects_in ps
+
+flat_map-append : {A B : Type 0} (f : A → List B) (a b : List A) → flat_map f (a ++ b) ≡ flat_map f a ++ flat_map f b
+flat_map-append f [] b = refl
+flat_map-append f (x ∷ a) b = ap (λ l. f x ++ l) (flat_map-append f a b) ∙ sym (append_assoc (f x) (flat_map f a) (flat_map f b))
+
+effects_in-closed : (page : List Effect) → effects_in_all (closed page) ≡ page
+effects_in-closed [] = refl
+effects_in-closed (e ∷ page) = append-nil (e ∷ page)
+
+effects_in-parcels_from : (page rest : List Effect) → effects_in_all (parcels_from page rest) ≡ page ++ rest
+effects_in-parcels_from page [] = effects_in-closed page ∙ sym (append-nil page)
+effects_in-parcels_from page (e ∷ rest) = elim (parcel_case page e) [
+  | inl fits ↦ ap effects_in_all (parcels-takes page e rest fits) ∙ effects_in-parcels_from (page ++ e ∷ []) rest ∙ append_assoc page (e ∷ []) rest
+  | inr other ↦ elim other [
+    | inl short ↦
+        ap effects_in_all (parcels-begins page e rest short.0 short.1) ∙ flat_map-append effects_in (closed page) (parcels_from (e ∷ []) rest)
+        ∙ ap (λ (l : List Effect). l ++ effects_in_all (parcels_from (e ∷ []) rest)) (effects_in-closed page) ∙ ap (λ (l : List Effect). page ++ l) (effects_in-parcels_from (e ∷ []) rest)
+    | inr long ↦
+        ap effects_in_all (parcels-alone page e rest long) ∙ flat_map-append effects_in (closed page) (Alone e ∷ parcels_from [] rest)
+        ∙ ap (λ (l : List Effect). l ++ effects_in_all (Alone e ∷ parcels_from [] rest)) (effects_in-closed page) ∙ ap (λ (l : List Effect). page ++ e ∷ l) (effects_in-parcels_from [] rest)
+  ]
+]
+
+joined-append : (a b : List (List Effect)) → joined (a ++ b) ≡ joined a ++ joined b
+joined-append a b = flat_map-append (λ (es : List Effect). es) a b
+
+joined-pieced : (n : ℕ) (e : Effect) → joined (pieced n e) ≡ e ∷ []
+joined-pieced zero e = refl
+joined-pieced (suc n) e = joined-pieced n e
+
+joined-pages_of : (p : Parcel) → joined (pages_of p) ≡ effects_in p
+joined-pages_of (Shared es) = append-nil es
+joined-pages_of (Alone e) = joined-pieced (full_pages e) e
+
+joined-all : (ps : List Parcel) → joined (flat_map pages_of ps) ≡ effects_in_all ps
+joined-all [] = refl
+joined-all (p ∷ ps) = joined-append (pages_of p) (flat_map pages_of ps) ∙ ap (λ (l : List Effect). l ++ joined (flat_map pages_of ps)) (joined-pages_of p) ∙ ap (λ (l : List Effect). effects_in p ++ l) (joined-all ps)
 
 -- the pages have the effects in order
-pub joined-filling_from : (page rest : List Effect) → joined (filling_from page rest) ≡ page ++ rest
-joined-filling_from page [] = joined-closed page ∙ sym (append-nil page)
-joined-filling_from page (e ∷ rest) = elim (cases_Bool (nat_le (sizes page + size_of e) 4092)) [
-  | inl fits ↦ ap joined (cond-true (nat_le (sizes page + size_of e) 4092) _ _ fits) ∙ joined-filling_from (page ++ e ∷ []) rest ∙ append_assoc page (e ∷ []) rest
-  | inr over ↦ ap joined (cond-false (nat_le (sizes page + size_of e) 4092) _ _ over) ∙ ap (λ (l : List Effect). page ++ l) (joined-filling_from (e ∷ []) rest)
-]
-
 pub joined-filling : (effects : List Effect) → joined (filling effects) ≡ effects
-joined-filling effects = joined-filling_from [] effects
+joined-filling effects = joined-all (parcels effects) ∙ effects_in-parcels_from [] effects
 
--- a page that was begun counts
-pub filling-some : (e : Effect) (page rest : List Effect) → 1 ≤ length (filling_from (e ∷ page) rest)
-filling-some e page [] = omega arith
-filling-some e page (x ∷ rest) = elim (cases_Bool (nat_le (sizes (e ∷ page) + size_of x) 4092)) [
-  | inl fits ↦ subst (λ (l : List (List Effect)). 1 ≤ length l) (sym (cond-true (nat_le (sizes (e ∷ page) + size_of x) 4092) _ _ fits)) (filling-some e (page ++ x ∷ []) rest)
-  | inr over ↦ subst (λ (l : List (List Effect)). 1 ≤ length l) (sym (cond-false (nat_le (sizes (e ∷ page) + size_of x) 4092) _ _ over)) (omega arith)
+-- ---- how many pages there are
+
+pub length-pieced : (n : ℕ) (e : Effect) → length (pieced n e) ≡ n + 1
+length-pieced zero e = refl
+length-pieced (suc n) e = let rest = length-pieced n e in omega (arith, rest)
+
+abbrev pub count_of : List Parcel → ℕ
+count_of ps = length (flat_map pages_of ps)
+
+pub count-append : (a b : List Parcel) → count_of (a ++ b) ≡ count_of a + count_of b
+count-append a b = ap (λ (l : List (List Effect)). length l) (flat_map-append pages_of a b) ∙ length-append (flat_map pages_of a) (flat_map pages_of b)
+
+pub count-closed : (page : List Effect) → count_of (closed page) ≡ begun_pages (sizes page)
+count-closed [] = refl
+count-closed (e ∷ page) = sym (cond-false (sizes (e ∷ page) == 0) 0 1 (ne_eqb (sizes (e ∷ page)) 0 (λ none. let some = size_some e in omega (arith, some, none))))
+
+pub count-alone : (e : Effect) → count_of (Alone e ∷ []) ≡ full_pages e + 1
+count-alone e = length-append (pieced (full_pages e) e) [] ∙ (let size = length-pieced (full_pages e) e in omega (arith, size))
+
+pub count-first : (p : Parcel) (ps : List Parcel) → count_of (p ∷ ps) ≡ count_of (p ∷ []) + count_of ps
+count-first p ps = count-append (p ∷ []) ps
+
+-- the pages of the effect at hand are among them
+count-some : (page rest : List Effect) → 1 ≤ length page → 1 ≤ count_of (parcels_from page rest)
+count-some [] rest some = absurd (omega (arith, some))
+count-some (e ∷ page) [] some = omega arith
+count-some (x ∷ page) (e ∷ rest) some = elim (parcel_case (x ∷ page) e) [
+  | inl fits ↦ subst (λ (l : List Parcel). 1 ≤ count_of l) (sym (parcels-takes (x ∷ page) e rest fits)) (count-some (x ∷ page ++ e ∷ []) rest (omega arith))
+  | inr other ↦ elim other [
+    | inl short ↦ subst (λ (l : List Parcel). 1 ≤ count_of l) (sym (parcels-begins (x ∷ page) e rest short.0 short.1)) (omega (arith, count-first (Shared (x ∷ page)) (parcels_from (e ∷ []) rest)))
+    | inr long ↦ subst (λ (l : List Parcel). 1 ≤ count_of l) (sym (parcels-alone (x ∷ page) e rest long)) (omega (arith, count-first (Shared (x ∷ page)) (Alone e ∷ parcels_from [] rest)))
+  ]
 ]
 
-pub filling-push-some : (page : List Effect) (e : Effect) (rest : List Effect) → 1 ≤ length (filling_from (page ++ e ∷ []) rest)
-filling-push-some [] e rest = filling-some e [] rest
-filling-push-some (x ∷ page) e rest = filling-some x (page ++ e ∷ []) rest
-
--- after the first i effects so many pages are full, and one with so many bytes is being filled
-pub record Filled (effects : List Effect) (i full size : ℕ) : Type 0 where
-  pub page : List Effect
-  pub size_is : sizes page ≡ size
-  pub count : full + length (filling_from page (drop i effects)) ≡ length (filling effects)
+-- an effect fills some pages
+own-some : (e : Effect) → 1 ≤ own_pages e
+own-some e = elim (cases_Bool (nat_le (size_of e) 4091)) [
+  | inl short ↦ subst (λ (n : ℕ). 1 ≤ n) (sym (cond-true (nat_le (size_of e) 4091) 1 (full_pages e + 1) short)) (omega arith)
+  | inr long ↦ subst (λ (n : ℕ). 1 ≤ n) (sym (cond-false (nat_le (size_of e) 4091) 1 (full_pages e + 1) long)) (omega arith)
+]
 
 pub filled_none : (effects : List Effect) → Filled effects 0 0 0
 filled_none effects = record { page = []; size_is = refl; count = zero-add (length (filling effects)) }
 
-module _ (effects : List Effect) (i full size : ℕ) (was : Filled effects i full size) (d : Effect) (within : i < length effects) where
-  at_hand : full + length (filling_from was.page (get_or effects i d ∷ drop (i + 1) effects)) ≡ length (filling effects)
-  at_hand = ap (λ (l : List Effect). full + length (filling_from was.page l)) (sym (drop_more effects i d within)) ∙ was.count
+some_length : (page : List Effect) (e : Effect) → 1 ≤ length (page ++ e ∷ [])
+some_length page e = omega (arith, length-append page (e ∷ []))
 
-  pub filled_takes : (full' size' more : ℕ) → more ≡ size_of (get_or effects i d) → full' ≡ full → size' ≡ size + more → size + more ≤ 4092 → Filled effects (i + 1) full' size'
-  filled_takes full' size' more more_is full_is size_is fits = record {
-    page = was.page ++ get_or effects i d ∷ [];
-    size_is = sizes-push was.page (get_or effects i d) ∙ omega (arith, more_is, size_is, was.size_is);
-    count =
-        ap (λ (l : List (List Effect)). full' + length l) (sym (filling-takes was.page (get_or effects i d) (drop (i + 1) effects) (omega (arith, fits, more_is, was.size_is))))
-        ∙ ap (λ (n : ℕ). n + length (filling_from was.page (get_or effects i d ∷ drop (i + 1) effects))) full_is ∙ at_hand;
-  }
+module _ (effects : List Effect) (i full size : ℕ) (was : Filled effects i full size) (e : Effect) (within : i < length effects) (here : get_or effects i e ≡ e) where
+  at_hand : full + count_of (parcels_from was.page (e ∷ drop (i + 1) effects)) ≡ length (filling effects)
+  at_hand = ap (λ (x : Effect). full + count_of (parcels_from was.page (x ∷ drop (i + 1) effects))) (sym here) ∙ ap (λ (l : List Effect). full + count_of (parcels_from was.page l)) (sym (drop_more effects i e within)) ∙ was.count
 
-  pub filled_closes : (full' size' more : ℕ) → more ≡ size_of (get_or effects i d) → full' ≡ full + 1 → size' ≡ more → 4092 < size + more → Filled effects (i + 1) full' size'
-  filled_closes full' size' more more_is full_is size_is over =
-      let is = ap (λ (l : List (List Effect)). length l) (filling-closes was.page (get_or effects i d) (drop (i + 1) effects) (omega (arith, over, more_is, was.size_is))) in
+  takes_count : size + size_of e ≤ 4091 → full + count_of (parcels_from (was.page ++ e ∷ []) (drop (i + 1) effects)) ≡ length (filling effects)
+  takes_count fits = ap (λ (l : List Parcel). full + count_of l) (sym (parcels-takes was.page e (drop (i + 1) effects) (omega (arith, fits, was.size_is)))) ∙ at_hand
+
+  pub filled_takes : size + size_of e ≤ 4091 → Filled effects (i + 1) full (size + size_of e)
+  filled_takes fits = record { page = was.page ++ e ∷ []; size_is = sizes-push was.page e ∙ omega (arith, was.size_is); count = takes_count fits }
+
+  begun_is : count_of (closed was.page) ≡ begun_pages size
+  begun_is = count-closed was.page ∙ ap begun_pages was.size_is
+
+  begins_count : 4091 < size + size_of e → size_of e ≤ 4091 → full + begun_pages size + count_of (parcels_from (e ∷ []) (drop (i + 1) effects)) ≡ length (filling effects)
+  begins_count over short =
       let all = at_hand in
-      record {
-        page = get_or effects i d ∷ [];
-        size_is = omega (arith, size_is, more_is);
-        count = omega (arith, is, all, full_is);
-      }
+      let is = ap count_of (parcels-begins was.page e (drop (i + 1) effects) (omega (arith, over, was.size_is)) short) ∙ count-append (closed was.page) (parcels_from (e ∷ []) (drop (i + 1) effects)) in
+      let first = begun_is in
+      omega (arith, all, is, first)
 
-module _ (effects : List Effect) (i full size : ℕ) (done : length effects ≤ i) (was : Filled effects i full size) where
-  at_end : full + length (closed was.page) ≡ length (filling effects)
-  at_end = ap (λ (l : List Effect). full + length (filling_from was.page l)) (sym (drop_all i effects done)) ∙ was.count
+  pub filled_begins : 4091 < size + size_of e → size_of e ≤ 4091 → Filled effects (i + 1) (full + begun_pages size) (size_of e)
+  filled_begins over short = record { page = e ∷ []; size_is = omega arith; count = begins_count over short }
 
-  pub filled_empty : size ≡ 0 → full ≡ length (filling effects)
-  filled_empty none_left =
-      let is : was.page ≡ [] = sizes-none was.page (was.size_is ∙ none_left) in
-      let all = ap (λ (l : List Effect). full + length (closed l)) (sym is) ∙ at_end in
-      omega (arith, all)
+  alone_count : 4091 < size_of e → full + begun_pages size + (full_pages e + 1) + count_of (parcels_from [] (drop (i + 1) effects)) ≡ length (filling effects)
+  alone_count long =
+      let all = at_hand in
+      let rest = parcels_from [] (drop (i + 1) effects) in
+      let is = ap count_of (parcels-alone was.page e (drop (i + 1) effects) long) ∙ count-append (closed was.page) (Alone e ∷ rest) in
+      let first = begun_is in
+      let one = count-first (Alone e) rest in
+      let size_here = count-alone e in
+      omega (arith, all, is, first, one, size_here)
 
-  pub filled_begun : 1 ≤ size → full + 1 ≡ length (filling effects)
-  filled_begun some_left = one was.page was.size_is ∙ at_end
-    where
-      one : (page : List Effect) → sizes page ≡ size → full + 1 ≡ full + length (closed page)
-      one [] is = absurd (omega (arith, is, some_left))
-      one (e ∷ page) is = refl
+  pub filled_alone : 4091 < size_of e → Filled effects (i + 1) (full + begun_pages size + (full_pages e + 1)) 0
+  filled_alone long = record { page = []; size_is = refl; count = alone_count long }
 
--- the page of the effect at hand is one of them
-pub filled_room : (effects : List Effect) (i full size : ℕ) → Filled effects i full size → 1 ≤ size → full < length (filling effects)
-filled_room effects i full size was some = room was.page was.size_is was.count
-  where
-    room : (page : List Effect) → sizes page ≡ size → full + length (filling_from page (drop i effects)) ≡ length (filling effects) → full < length (filling effects)
-    room [] is count = absurd (omega (arith, is, some))
-    room (e ∷ page) is count = let begun = filling-some e page (drop i effects) in omega (arith, begun, count)
-
--- while effects are left, there is a page for them
-pub filled_left : (effects : List Effect) (i full size : ℕ) → Filled effects i full size → (d : Effect) → i < length effects → full < length (filling effects)
-filled_left effects i full size was d within = left (ap (λ (l : List Effect). full + length (filling_from was.page l)) (sym (drop_more effects i d within)) ∙ was.count)
-  where
-    some : (page : List Effect) (e : Effect) (rest : List Effect) → 1 ≤ length (filling_from page (e ∷ rest))
-    some page e rest = elim (cases_Bool (nat_le (sizes page + size_of e) 4092)) [
-      | inl fits ↦ subst (λ (l : List (List Effect)). 1 ≤ length l) (sym (cond-true (nat_le (sizes page + size_of e) 4092) _ _ fits)) (filling-push-some page e rest)
-      | inr over ↦ subst (λ (l : List (List Effect)). 1 ≤ length l) (sym (cond-false (nat_le (sizes page + size_of e) 4092) _ _ over)) (omega arith)
+  -- the effect's pages are among those that the effects fill
+  pub filled_reach : full + reach size e ≤ length (filling effects)
+  filled_reach = elim (parcel_case was.page e) [
+    | inl fits ↦
+        let fits_here : size + size_of e ≤ 4091 = omega (arith, fits, was.size_is) in
+        let some = count-some (was.page ++ e ∷ []) (drop (i + 1) effects) (some_length was.page e) in
+        let all = takes_count fits_here in
+        subst (λ (n : ℕ). full + n ≤ length (filling effects)) (sym (cond-true (nat_le (size + size_of e) 4091) 1 (begun_pages size + own_pages e) (le-leb (size + size_of e) 4091 fits_here))) (omega (arith, some, all))
+    | inr other ↦ elim other [
+      | inl short ↦
+          let over_here : 4091 < size + size_of e = omega (arith, short.0, was.size_is) in
+          let some = count-some (e ∷ []) (drop (i + 1) effects) (omega arith) in
+          let all = begins_count over_here short.1 in
+          let own : own_pages e ≡ 1 = cond-true (nat_le (size_of e) 4091) 1 (full_pages e + 1) (le-leb (size_of e) 4091 short.1) in
+          subst (λ (n : ℕ). full + n ≤ length (filling effects)) (sym (cond-false (nat_le (size + size_of e) 4091) 1 (begun_pages size + own_pages e) (lt-leb (size + size_of e) 4091 over_here))) (omega (arith, some, all, own))
+      | inr long ↦
+          let over_here : 4091 < size + size_of e = omega (arith, long) in
+          let all = alone_count long in
+          let own : own_pages e ≡ full_pages e + 1 = cond-false (nat_le (size_of e) 4091) 1 (full_pages e + 1) (lt-leb (size_of e) 4091 long) in
+          subst (λ (n : ℕ). full + n ≤ length (filling effects)) (sym (cond-false (nat_le (size + size_of e) 4091) 1 (begun_pages size + own_pages e) (lt-leb (size + size_of e) 4091 over_here))) (omega (arith, all, own))
     ]
+  ]
 
-    left : full + length (filling_from was.page (get_or effects i d ∷ drop (i + 1) effects)) ≡ length (filling effects) → full < length (filling effects)
-    left count = let more = some was.page (get_or effects i d) (drop (i + 1) effects) in omega (arith, more, count)
+pub reach-some : (size : ℕ) (e : Effect) → 1 ≤ reach size e
+reach-some size e = elim (cases_Bool (nat_le (size + size_of e) 4091)) [
+  | inl fits ↦ subst (λ (n : ℕ). 1 ≤ n) (sym (cond-true (nat_le (size + size_of e) 4091) 1 (begun_pages size + own_pages e) fits)) (omega arith)
+  | inr over ↦ subst (λ (n : ℕ). 1 ≤ n) (sym (cond-false (nat_le (size + size_of e) 4091) 1 (begun_pages size + own_pages e) over)) (let some = own-some e in omega (arith, some))
+]
 
--- an effect fills a page
-pub filling-one : (e : Effect) → IsEffect e → length (filling (e ∷ [])) ≡ 1
-filling-one e bytes = let most = size_most e bytes in ap length (filling-takes [] e [] (omega (arith, most)))
+pub reach-begins : (size : ℕ) (e : Effect) → 4091 < size + size_of e → begun_pages size + 1 ≤ reach size e
+reach-begins size e over = subst (λ (n : ℕ). begun_pages size + 1 ≤ n) (sym (cond-false (nat_le (size + size_of e) 4091) 1 (begun_pages size + own_pages e) (lt-leb (size + size_of e) 4091 over))) (let some = own-some e in omega (arith, some))
 
-closed-most : (page : List Effect) → length (closed page) ≤ 1
+pub filled_all : (effects : List Effect) (i full size : ℕ) → length effects ≤ i → Filled effects i full size → full + begun_pages size ≡ length (filling effects)
+filled_all effects i full size done was =
+    let all = ap (λ (l : List Effect). full + count_of (parcels_from was.page l)) (sym (drop_all i effects done)) ∙ was.count in
+    let first = count-closed was.page ∙ ap begun_pages was.size_is in
+    omega (arith, all, first)
+
+-- an effect that is no longer than a page fills one
+pub filling-one : (e : Effect) → size_of e ≤ 4091 → length (filling (e ∷ [])) ≡ 1
+filling-one e short = ap count_of (parcels-takes [] e [] (omega (arith, short)))
+
+-- no more pages than the effects have alone
+closed-most : (page : List Effect) → count_of (closed page) ≤ 1
 closed-most [] = omega arith
 closed-most (e ∷ page) = omega arith
 
--- pages that are begun, and one more for each effect at most
-filling_from-most : (page rest : List Effect) → length (filling_from page rest) ≤ 1 + length rest
-filling_from-most page [] = closed-most page
-filling_from-most page (e ∷ rest) = elim (cases_Bool (nat_le (sizes page + size_of e) 4092)) [
+parcels-apart : (page rest : List Effect) → count_of (parcels_from page rest) ≤ count_of (closed page) + pages_apart rest
+parcels-apart page [] = omega arith
+parcels-apart page (e ∷ rest) = elim (parcel_case page e) [
   | inl fits ↦
-      let same = ap (λ (l : List (List Effect)). length l) (cond-true (nat_le (sizes page + size_of e) 4092) (filling_from (page ++ e ∷ []) rest) (page ∷ filling_from (e ∷ []) rest) fits) in
-      let more = filling_from-most (page ++ e ∷ []) rest in
-      omega (arith, same, more)
-  | inr over ↦
-      let same = ap (λ (l : List (List Effect)). length l) (cond-false (nat_le (sizes page + size_of e) 4092) (filling_from (page ++ e ∷ []) rest) (page ∷ filling_from (e ∷ []) rest) over) in
-      let more = filling_from-most (e ∷ []) rest in
-      omega (arith, same, more)
+      let same = ap count_of (parcels-takes page e rest fits) in
+      let more = parcels-apart (page ++ e ∷ []) rest in
+      let one = closed-most (page ++ e ∷ []) in
+      let some = own-some e in
+      omega (arith, same, more, one, some)
+  | inr other ↦ elim other [
+    | inl short ↦
+        let same = ap count_of (parcels-begins page e rest short.0 short.1) ∙ count-append (closed page) (parcels_from (e ∷ []) rest) in
+        let more = parcels-apart (e ∷ []) rest in
+        let some = own-some e in
+        omega (arith, same, more, some)
+    | inr long ↦
+        let same = ap count_of (parcels-alone page e rest long) ∙ count-append (closed page) (Alone e ∷ parcels_from [] rest) in
+        let one = count-first (Alone e) (parcels_from [] rest) in
+        let alone = count-alone e in
+        let own : own_pages e ≡ full_pages e + 1 = cond-false (nat_le (size_of e) 4091) 1 (full_pages e + 1) (lt-leb (size_of e) 4091 long) in
+        let more = parcels-apart [] rest in
+        omega (arith, same, one, alone, own, more)
+  ]
 ]
 
-pub filling-most : (effects : List Effect) → AreEffects effects → length (filling effects) ≤ length effects
-filling-most [] h = omega arith
-filling-most (e ∷ rest) h =
-    let most = size_most e h.0 in
-    let same = ap (λ (l : List (List Effect)). length l) (filling-takes [] e rest (omega (arith, most))) in
-    let more = filling_from-most (e ∷ []) rest in
-    omega (arith, same, more)
+pub filling-apart : (effects : List Effect) → length (filling effects) ≤ pages_apart effects
+filling-apart effects = let few = parcels-apart [] effects in omega (arith, few)
 
--- ---- each page has some effects, and they fit
+pub apart-append : (a b : List Effect) → pages_apart (a ++ b) ≡ pages_apart a + pages_apart b
+apart-append [] b = sym (zero-add (pages_apart b))
+apart-append (e ∷ a) b = let rest = apart-append a b in omega (arith, rest)
+
+-- each effect fills seventeen pages at most
+pub own-most : (e : Effect) → IsEffect e → own_pages e ≤ 17
+own-most e good = elim (cases_Bool (nat_le (size_of e) 4091)) [
+  | inl short ↦ subst (λ (n : ℕ). n ≤ 17) (sym (cond-true (nat_le (size_of e) 4091) 1 (full_pages e + 1) short)) (omega arith)
+  | inr long ↦ subst (λ (n : ℕ). n ≤ 17) (sym (cond-false (nat_le (size_of e) 4091) 1 (full_pages e + 1) long)) (let most = size_most e good in omega (arith, most))
+]
+
+apart-most : (effects : List Effect) → AreEffects effects → pages_apart effects ≤ 17 * length effects
+apart-most [] good = omega arith
+apart-most (e ∷ effects) good = let first = own-most e good.0 in let rest = apart-most effects good.1 in omega (arith, first, rest)
+
+pub filling-most : (effects : List Effect) → AreEffects effects → length (filling effects) ≤ 17 * length effects
+filling-most effects good = let few = filling-apart effects in let most = apart-most effects good in omega (arith, few, most)
+
+-- ---- each parcel has some effects, and they fit
 
 pub record FitsPage (es : List Effect) : Type 0 where
   pub some : 1 ≤ length es
-  pub most : sizes es ≤ 4092
+  pub most : sizes es ≤ 4091
   pub ranges : AreEffects es
 
-closed-fits : (page : List Effect) → sizes page ≤ 4092 → AreEffects page → Every FitsPage (closed page)
+abbrev pub FitsPages : Parcel → Type 0
+FitsPages (Shared es) = FitsPage es
+FitsPages (Alone e) = (4091 < size_of e) × IsEffect e
+
+closed-fits : (page : List Effect) → sizes page ≤ 4091 → AreEffects page → Every FitsPages (closed page)
 closed-fits [] most ranges = tt
 closed-fits (e ∷ page) most ranges = (record { some = omega arith; most = most; ranges = ranges }, tt)
 
-some_effects : (page : List Effect) → 1 ≤ sizes page → 1 ≤ length page
-some_effects [] some = absurd (omega (arith, some))
-some_effects (e ∷ page) some = omega arith
-
-filling_from-fits : (page rest : List Effect) → sizes page ≤ 4092 → AreEffects page → AreEffects rest → Every FitsPage (filling_from page rest)
-filling_from-fits page [] most ranges good = closed-fits page most ranges
-filling_from-fits page (e ∷ rest) most ranges good = elim (cases_Bool (nat_le (sizes page + size_of e) 4092)) [
+parcels-fit : (page rest : List Effect) → sizes page ≤ 4091 → AreEffects page → AreEffects rest → Every FitsPages (parcels_from page rest)
+parcels-fit page [] most ranges good = closed-fits page most ranges
+parcels-fit page (e ∷ rest) most ranges good = elim (parcel_case page e) [
   | inl fits ↦
-      let small : sizes page + size_of e ≤ 4092 = leb-true (sizes page + size_of e) 4092 fits in
       let both = sizes-push page e in
-      subst (λ (l : List (List Effect)). Every FitsPage l) (sym (filling-takes page e rest small))
-      (filling_from-fits (page ++ e ∷ []) rest (omega (arith, small, both)) (every-append IsEffect page (e ∷ []) ranges (good.0, tt)) good.1)
-  | inr over ↦
-      let large : 4092 < sizes page + size_of e = leb-false (sizes page + size_of e) 4092 over in
-      let low = size_most e good.0 in
-      subst (λ (l : List (List Effect)). Every FitsPage l) (sym (filling-closes page e rest large)) (
-        record { some = some_effects page (omega (arith, large, low)); most = most; ranges = ranges },
-        filling_from-fits (e ∷ []) rest (omega (arith, low)) (good.0, tt) good.1,
-      )
+      subst (λ (l : List Parcel). Every FitsPages l) (sym (parcels-takes page e rest fits))
+      (parcels-fit (page ++ e ∷ []) rest (omega (arith, fits, both)) (every-append IsEffect page (e ∷ []) ranges (good.0, tt)) good.1)
+  | inr other ↦ elim other [
+    | inl short ↦
+        subst (λ (l : List Parcel). Every FitsPages l) (sym (parcels-begins page e rest short.0 short.1))
+        (every-append FitsPages (closed page) (parcels_from (e ∷ []) rest) (closed-fits page most ranges) (parcels-fit (e ∷ []) rest (omega (arith, short.1)) (good.0, tt) good.1))
+    | inr long ↦
+        subst (λ (l : List Parcel). Every FitsPages l) (sym (parcels-alone page e rest long))
+        (every-append FitsPages (closed page) (Alone e ∷ parcels_from [] rest) (closed-fits page most ranges) ((long, good.0), parcels-fit [] rest (omega arith) tt good.1))
+  ]
 ]
 
-pub filling-fits : (effects : List Effect) → AreEffects effects → Every FitsPage (filling effects)
-filling-fits effects good = filling_from-fits [] effects (omega arith) tt good
+pub filling-fits : (effects : List Effect) → AreEffects effects → Every FitsPages (parcels effects)
+filling-fits effects good = parcels-fit [] effects (omega arith) tt good

@@ -11,8 +11,12 @@ use Rattle.page_gate.specs.declared.pages.PageState.TheVariants.{Spoiled, Gated}
 use Rattle.version_store.specs.Entries.{Log}
 use Rattle.version_store.specs.Storage.{Going, log_going, begun, next, scan, entries}
 use Rattle.version_store.specs.Filling.{KeepsPages}
-use Rattle.version_store.specs.Laying.{PagesFit, HasPages, Grows, IsAtRest, all_of, body_of, padded}
+use Rattle.version_store.specs.Laying.{Laid, PagesFit, HasPages, Grows, IsAtRest, all_of, body_of, padded}
 use Rattle.version_store.proofs.ScanLemmas.{going, stays_blank, stays_spoiled, steps, front_steps, log_at_rest}
+
+-- a page that is none
+abbrev pub no_page : Laid
+no_page = record { body = []; adds = [] }
 
 gated_is : (body : List ℕ) → state_of (gated_page body) ≡ Gated (padded body)
 gated_is body = refl
@@ -21,29 +25,29 @@ gated_is body = refl
 pub blank_here : (reads : Image) (n : ℕ) → n < length reads → list_all is_blank (drop n reads) ≡ true → (is_blank (get_or reads n []) ≡ true) × (list_all is_blank (drop (n + 1) reads) ≡ true)
 blank_here reads n within blank = and_parts _ _ (ap (λ (l : Image). list_all is_blank l) (sym (drop_more reads n [] within)) ∙ blank)
 
-module _ (log : Log) (n : ℕ) (reads : Image) (may_leave : Image → Type 0) (rest : IsAtRest log n reads may_leave) (within : n < length reads) (es : Log) (fits : log_going (next (scan begun 0 (take n reads)) n (Gated (padded (body_of es)))) ≡ Some (log ++ es)) where
+module _ (log : Log) (n : ℕ) (reads : Image) (may_leave : Image → Type 0) (rest : IsAtRest log n reads may_leave) (within : n < length reads) (l : Laid) (fits : log_going (next (scan begun 0 (take n reads)) n (Gated (padded (body_of l)))) ≡ Some (log ++ l.adds)) where
   -- a crash while the page is put
-  pub put_crash : (c : Image) → MayPut n (body_of es) may_leave c → (entries c ≡ Ok log) ⊎ (entries c ≡ Ok (log ++ es))
+  pub put_crash : (c : Image) → MayPut n (body_of l) may_leave c → (entries c ≡ Ok log) ⊎ (entries c ≡ Ok (log ++ l.adds))
   put_crash c put =
       let on = going (scan begun 0 (take n reads)) log rest.front in
-      let more = going (next (Going on.0) n (Gated (padded (body_of es)))) (log ++ es) (ap (λ r. log_going (next r n (Gated (padded (body_of es))))) (sym on.1) ∙ fits) in
+      let more = going (next (Going on.0) n (Gated (padded (body_of l)))) (log ++ l.adds) (ap (λ r. log_going (next r n (Gated (padded (body_of l))))) (sym on.1) ∙ fits) in
       let here = blank_here reads n within rest.blank in
       let was : put.0 ≡ reads = rest.durable put.0 put.1 in
       let bytes = put.2.bytes in
       let is : c ≡ slice_set reads n bytes = put.2.image ∙ ap (λ (i : Image). slice_set i n bytes) was in
       ⊎_elim
-      (λ same. inl (ap entries is ∙ ⊎_elim (λ b. stays_blank reads n on.0 within on.1 here.1 bytes b) (λ s. stays_spoiled reads n on.0 within on.1 here.1 bytes s) same ∙ ap (λ (l : Log). Ok l) on.2))
-      (λ gated. inr (ap entries is ∙ steps reads n on.0 within on.1 here.1 bytes (padded (body_of es)) more.0 (ap state_of gated) more.1 ∙ ap (λ (l : Log). Ok l) more.2))
+      (λ same. inl (ap entries is ∙ ⊎_elim (λ b. stays_blank reads n on.0 within on.1 here.1 bytes b) (λ s. stays_spoiled reads n on.0 within on.1 here.1 bytes s) same ∙ ap (λ (m : Log). Ok m) on.2))
+      (λ gated. inr (ap entries is ∙ steps reads n on.0 within on.1 here.1 bytes (padded (body_of l)) more.0 (ap state_of gated) more.1 ∙ ap (λ (m : Log). Ok m) more.2))
       (put.2.state (ap (λ (i : Image). is_blank (get_or i n [])) was ∙ here.0))
 
   -- and once it stands
-  pub read_on : (now : Image) → now ≡ slice_set reads n (gated_page (body_of es)) → scan begun 0 (take (n + 1) now) ≡ next (scan begun 0 (take n reads)) n (Gated (padded (body_of es)))
-  read_on now is = ap (λ (i : Image). scan begun 0 (take (n + 1) i)) is ∙ front_steps reads n (gated_page (body_of es)) within
+  pub read_on : (now : Image) → now ≡ slice_set reads n (gated_page (body_of l)) → scan begun 0 (take (n + 1) now) ≡ next (scan begun 0 (take n reads)) n (Gated (padded (body_of l)))
+  read_on now is = ap (λ (i : Image). scan begun 0 (take (n + 1) i)) is ∙ front_steps reads n (gated_page (body_of l)) within
 
-  pub put_rest : (now : Image) (images : Image → Type 0) → now ≡ slice_set reads n (gated_page (body_of es)) → Only now images → IsAtRest (log ++ es) (n + 1) now images
+  pub put_rest : (now : Image) (images : Image → Type 0) → now ≡ slice_set reads n (gated_page (body_of l)) → Only now images → IsAtRest (log ++ l.adds) (n + 1) now images
   put_rest now images is only =
       let here = blank_here reads n within rest.blank in
-      let page = gated_page (body_of es) in
+      let page = gated_page (body_of l) in
       record {
         front = ap log_going (read_on now is) ∙ fits;
         blank = ap (λ (i : Image). list_all is_blank (drop (n + 1) i)) is ∙ ap (λ (i : Image). list_all is_blank i) (drop-set-lt (n + 1) reads n page (omega arith)) ∙ here.1;
@@ -59,20 +63,20 @@ keeps_put base mid c n bytes within blank keeps is page marked = ⊎_elim
 
 module _ {M : Type 0} (moment : M → ℕ) (left_since : M → ℕ → Image → Type 0) (reads : M → Image) (may_leave : M → Image → Type 0) where
   -- after the first i pages
-  pub record Grown (log : Log) (first : ℕ) (pages : List Log) (start now : M) (i : ℕ) : Type 0 where
+  pub record Grown (log : Log) (first : ℕ) (pages : List Laid) (start now : M) (i : ℕ) : Type 0 where
     pub rest : IsAtRest (log ++ all_of (take i pages)) (first + i) (reads now) (may_leave now)
     pub fit : PagesFit (scan begun 0 (take (first + i) (reads now))) (log ++ all_of (take i pages)) (first + i) (drop i pages)
     pub keeps : KeepsPages (reads start) (reads now)
     pub leaves : LeavesOnly moment left_since start now (Grows (reads start) log pages)
 
   -- no page is put
-  pub untouched : (log : Log) (n : ℕ) (pages : List Log) (m : M) → ((c : Image) → left_since m (moment m) c → may_leave m c) → IsAtRest log n (reads m) (may_leave m) → LeavesOnly moment left_since m m (Grows (reads m) log pages)
+  pub untouched : (log : Log) (n : ℕ) (pages : List Laid) (m : M) → ((c : Image) → left_since m (moment m) c → may_leave m c) → IsAtRest log n (reads m) (may_leave m) → LeavesOnly moment left_since m m (Grows (reads m) log pages)
   untouched log n pages m only_now rest = stays moment left_since m (Grows (reads m) log pages) (λ c left. record { has = record { count = 0; most = omega arith; is = now c left }; keeps = λ page marked. ap (λ (i : Image). get_or i page []) (rest.durable c (only_now c left)) })
     where
       now : (c : Image) → left_since m (moment m) c → entries c ≡ Ok (log ++ [])
       now c left = ap entries (rest.durable c (only_now c left)) ∙ log_at_rest (reads m) n log rest.front rest.blank ∙ ap (λ (l : Log). Ok l) (sym (append-nil log))
 
-  pub grown_none : (log : Log) (first : ℕ) (pages : List Log) (start : M) → ((c : Image) → left_since start (moment start) c → may_leave start c)
+  pub grown_none : (log : Log) (first : ℕ) (pages : List Laid) (start : M) → ((c : Image) → left_since start (moment start) c → may_leave start c)
       → IsAtRest log first (reads start) (may_leave start) → PagesFit (scan begun 0 (take first (reads start))) log first pages → Grown log first pages start start 0
   grown_none log first pages start only_now rest fit = record {
     rest = subst (λ (l : Log). IsAtRest l (first + 0) (reads start) (may_leave start)) (sym (append-nil log)) (subst (λ (k : ℕ). IsAtRest log k (reads start) (may_leave start)) (sym (add-zero first)) rest);
@@ -81,12 +85,12 @@ module _ {M : Type 0} (moment : M → ℕ) (left_since : M → ℕ → Image →
     leaves = untouched log first pages start only_now rest;
   }
 
-  module _ (log : Log) (first : ℕ) (pages : List Log) (start mid now : M) (i : ℕ) (grown : Grown log first pages start mid i) (more : i < length pages) (within : first + i < length (reads mid)) (body : List ℕ) (is : body ≡ body_of (get_or pages i [])) where
-    joined : (log ++ all_of (take i pages)) ++ get_or pages i [] ≡ log ++ all_of (take (i + 1) pages)
-    joined = flat_map_more (λ (e : Log). e) log (take i pages) (get_or pages i []) ∙ ap (λ (l : List Log). log ++ all_of l) (sym (take_more pages i [] more))
+  module _ (log : Log) (first : ℕ) (pages : List Laid) (start mid now : M) (i : ℕ) (grown : Grown log first pages start mid i) (more : i < length pages) (within : first + i < length (reads mid)) (body : List ℕ) (is : body ≡ body_of (get_or pages i no_page)) where
+    joined : (log ++ all_of (take i pages)) ++ (get_or pages i no_page).adds ≡ log ++ all_of (take (i + 1) pages)
+    joined = flat_map_more (λ (l : Laid). l.adds) log (take i pages) (get_or pages i no_page) ∙ ap (λ (l : List Laid). log ++ all_of l) (sym (take_more pages i no_page more))
 
-    fit_here : PagesFit (scan begun 0 (take (first + i) (reads mid))) (log ++ all_of (take i pages)) (first + i) (get_or pages i [] ∷ drop (i + 1) pages)
-    fit_here = subst (λ (l : List Log). PagesFit (scan begun 0 (take (first + i) (reads mid))) (log ++ all_of (take i pages)) (first + i) l) (drop_more pages i [] more) grown.fit
+    fit_here : PagesFit (scan begun 0 (take (first + i) (reads mid))) (log ++ all_of (take i pages)) (first + i) (get_or pages i no_page ∷ drop (i + 1) pages)
+    fit_here = subst (λ (l : List Laid). PagesFit (scan begun 0 (take (first + i) (reads mid))) (log ++ all_of (take i pages)) (first + i) l) (drop_more pages i no_page more) grown.fit
 
     blank_at : is_blank (get_or (reads mid) (first + i) []) ≡ true
     blank_at = (blank_here (reads mid) (first + i) within grown.rest.blank).0
@@ -96,7 +100,7 @@ module _ {M : Type 0} (moment : M → ℕ) (left_since : M → ℕ → Image →
         ⊎_elim
         (λ same. record { count = i; most = omega arith; is = same })
         (λ grew. record { count = i + 1; most = omega arith; is = grew ∙ ap (λ (l : Log). Ok l) joined })
-        (put_crash (log ++ all_of (take i pages)) (first + i) (reads mid) (may_leave mid) grown.rest within (get_or pages i []) fit_here.0 c
+        (put_crash (log ++ all_of (take i pages)) (first + i) (reads mid) (may_leave mid) grown.rest within (get_or pages i no_page) fit_here.0 c
         (subst (λ (b : List ℕ). MayPut (first + i) b (may_leave mid) c) is put))
 
     crash_here : (c : Image) → MayPut (first + i) body (may_leave mid) c → Grows (reads start) log pages c
@@ -114,9 +118,9 @@ module _ {M : Type 0} (moment : M → ℕ) (left_since : M → ℕ → Image →
     grown_more put written only =
         let at : first + i + 1 ≡ first + (i + 1) = omega arith in
         let now_is = written ∙ ap (λ (b : List ℕ). slice_set (reads mid) (first + i) (gated_page b)) is in
-        let rest = put_rest (log ++ all_of (take i pages)) (first + i) (reads mid) (may_leave mid) grown.rest within (get_or pages i []) fit_here.0 (reads now) (may_leave now) now_is only in
-        let read = read_on (log ++ all_of (take i pages)) (first + i) (reads mid) (may_leave mid) grown.rest within (get_or pages i []) fit_here.0 (reads now) now_is in
-        let fit = subst (λ r. PagesFit r ((log ++ all_of (take i pages)) ++ get_or pages i []) (first + i + 1) (drop (i + 1) pages)) (sym read) fit_here.1 in
+        let rest = put_rest (log ++ all_of (take i pages)) (first + i) (reads mid) (may_leave mid) grown.rest within (get_or pages i no_page) fit_here.0 (reads now) (may_leave now) now_is only in
+        let read = read_on (log ++ all_of (take i pages)) (first + i) (reads mid) (may_leave mid) grown.rest within (get_or pages i no_page) fit_here.0 (reads now) now_is in
+        let fit = subst (λ r. PagesFit r ((log ++ all_of (take i pages)) ++ (get_or pages i no_page).adds) (first + i + 1) (drop (i + 1) pages)) (sym read) fit_here.1 in
         record {
           rest = subst (λ (k : ℕ). IsAtRest (log ++ all_of (take (i + 1) pages)) k (reads now) (may_leave now)) at (subst (λ (l : Log). IsAtRest l (first + i + 1) (reads now) (may_leave now)) joined rest);
           fit = subst (λ (k : ℕ). PagesFit (scan begun 0 (take k (reads now))) (log ++ all_of (take (i + 1) pages)) k (drop (i + 1) pages)) at (subst (λ (l : Log). PagesFit (scan begun 0 (take (first + i + 1) (reads now))) l (first + i + 1) (drop (i + 1) pages)) joined fit);

@@ -1,3 +1,4 @@
+pub mod FetchLemmas
 pub mod FillingLemmas
 pub mod LogLemmas
 pub mod ReadBackLemmas

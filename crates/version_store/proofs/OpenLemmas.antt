@@ -10,11 +10,11 @@ use Rattle.page_gate.specs.States.{is_blank, state_of}
 use Rattle.page_gate.specs.declared.pages.PageState.{PageState}
 use Rattle.page_gate.specs.declared.pages.PageState.TheVariants.{Blank, Spoiled, Gated}
 use Rattle.effect_form.specs.declared.effects.Effect.{Effect}
-use Rattle.version_store.specs.Entries.{Log}
-use Rattle.version_store.specs.Storage.{Content, content_of, Reading, log_going, Going, Ended, Damaged, begun, next, scan, going_or_damaged, log_with, texts_of}
+use Rattle.version_store.specs.Storage.{Content, content_of, Reading, log_going, Going, Ended, Damaged, begun, next, scan, going_or_damaged, with_sheet, sheet_of}
 use Rattle.version_store.specs.Laying.{IsAtRest}
 use Rattle.version_store.specs.Heads.{Heads, IsFound}
-use Rattle.version_store.specs.Found.{Reached, reading_of}
+use Rattle.version_store.specs.Found.{HeldFit, Reached, reading_of}
+use Rattle.version_store.specs.declared.page_reads.Held.{Held}
 use Rattle.version_store.proofs.ScanLemmas.{scan_more}
 
 -- a page that is in another state isn't blank
@@ -33,7 +33,7 @@ blank_from_state p is = elim (cases_Bool (is_blank p)) [
   ]
 ]
 
-not_ended : (page : ℕ) (o : Option Log) (c : Content) → going_or_damaged page o ≡ Ended c → ⊥
+not_ended : (page : ℕ) (o : Option Content) (c : Content) → going_or_damaged page o ≡ Ended c → ⊥
 not_ended page None c is = cc is
 not_ended page (Some l) c is = cc is
 
@@ -49,28 +49,30 @@ ended_blank false c c' page Blank is = (refl, ap content_in is)
 ended_blank true c c' page Blank is = (refl, ap content_in is)
 ended_blank false c c' page Spoiled is = absurd (cc is)
 ended_blank true c c' page Spoiled is = absurd (cc is)
-ended_blank false c c' page (Gated body) is = absurd (not_ended page (log_with c.log page (texts_of body)) c' is)
+ended_blank false c c' page (Gated body) is = absurd (not_ended page (with_sheet c page (sheet_of body)) c' is)
 ended_blank true c c' page (Gated body) is = absurd (cc is)
 
-pub reached_more : (reads : Image) (page : ℕ) (heads heads' : Heads) (effects effects' : List Effect) (n n' : ℕ) (ended ended' : Bool) → page < length reads → (was : Reached reads page heads effects n ended)
-    → (more : Content) × (next (reading_of ended was.content) page (state_of (get_or reads page [])) ≡ reading_of ended' more) × IsFound heads' effects' more.log → n' ≡ cond ended' n (page + 1) → Reached reads (page + 1) heads' effects' n' ended'
-reached_more reads page heads heads' effects effects' n n' ended false within was more is =
+pub reached_more : (reads : Image) (page : ℕ) (heads heads' : Heads) (effects effects' : List Effect) (held held' : Option Held) (n n' : ℕ) (ended ended' : Bool) → page < length reads → (was : Reached reads page heads effects held n ended)
+    → (more : Content) × (next (reading_of ended was.content) page (state_of (get_or reads page [])) ≡ reading_of ended' more) × IsFound heads' effects' more.log × HeldFit held' more.held → n' ≡ cond ended' n (page + 1) → Reached reads (page + 1) heads' effects' held' n' ended'
+reached_more reads page heads heads' effects effects' held held' n n' ended false within was more is =
     let reading = scan_more reads page within ∙ ap (λ r. next r page (state_of (get_or reads page []))) was.reading ∙ more.1 in
     record {
       content = more.0;
       stands = more.2;
+      pieces = more.3;
       front = ap (λ (k : ℕ). scan begun 0 (take k reads)) is ∙ reading;
       reading = reading;
       blank = ap (λ (k : ℕ). list_all is_blank (drop k (take (page + 1) reads))) is ∙ ap (λ (l : Image). list_all is_blank l) (drop_all (page + 1) (take (page + 1) reads) (omega (arith, length-take (page + 1) reads)));
       within = omega (arith, is);
     }
-reached_more reads page heads heads' effects effects' n n' ended true within was more is =
+reached_more reads page heads heads' effects effects' held held' n n' ended true within was more is =
     let p = get_or reads page [] in
     let blank_page = ended_blank ended was.content more.0 page (state_of p) more.1 in
     let long : length (take page reads) ≡ page = omega (arith, length-take page reads, within) in
     record {
       content = more.0;
       stands = more.2;
+      pieces = more.3;
       front = ap (λ (k : ℕ). scan begun 0 (take k reads)) is ∙ was.front ∙ ap (λ (c : Content). Going c) blank_page.1;
       reading = scan_more reads page within ∙ ap (λ r. next r page (state_of p)) was.reading ∙ more.1;
       blank =
@@ -83,8 +85,8 @@ reached_more reads page heads heads' effects effects' n n' ended true within was
     }
 
 -- all pages were read
-pub rest_of : (reads : Image) (pages : ℕ) (heads : Heads) (effects : List Effect) (n : ℕ) (ended : Bool) (may_leave : Image → Type 0) → length reads ≡ pages → (r : Reached reads pages heads effects n ended) → Only reads may_leave → IsAtRest r.content.log n reads may_leave
-rest_of reads pages heads effects n ended may_leave size r only = record {
+pub rest_of : (reads : Image) (pages : ℕ) (heads : Heads) (effects : List Effect) (held : Option Held) (n : ℕ) (ended : Bool) (may_leave : Image → Type 0) → length reads ≡ pages → (r : Reached reads pages heads effects held n ended) → Only reads may_leave → IsAtRest r.content.log n reads may_leave
+rest_of reads pages heads effects held n ended may_leave size r only = record {
   front = ap log_going r.front;
   blank = ap (λ (l : Image). list_all is_blank (drop n l)) (sym (take_all pages reads (omega (arith, size)))) ∙ r.blank;
   durable = only;

@@ -1,11 +1,12 @@
 -- A page that was laid out reads back.
 use Rattle.std.proofs.Common.{◌≡◌, ℕ, zero, suc, ◌+◌, ◌-◌, ◌^◌, ◌≤◌, ◌<◌, List, [], ◌∷◌, ◌++◌, length, true, cond, Option, Some, None, Result, refl, sym, ◌∙◌, ap, arith, append_assoc, length-append}
 use Rattle.std.specs.Prelude.{◌==◌, replicate}
+use Rattle.std.specs.Option.{option_map}
 use Rattle.std.specs.Int.{w16, to_be_bytes}
 use Rattle.std.proofs.lemmas.Bool.{cond-true, eq-eqb, and_from}
 use Rattle.std.proofs.lemmas.List.{append-nil}
 use Rattle.field_form.specs.Forms.{◌>>=◌}
-use Rattle.field_form.specs.Numbers.{number_at, between, front_at}
+use Rattle.field_form.specs.Numbers.{byte_at, number_at, between}
 use Rattle.field_form.proofs.NumberLaws.{u16_form, between_form, front_again}
 use Rattle.page_gate.specs.States.{is_blank}
 use Rattle.effect_form.specs.declared.effects.Place.{Place}
@@ -15,8 +16,10 @@ use Rattle.effect_form.proofs.ReadLaws.{length-effect_bytes}
 use Rattle.effect_form.proofs.SizeLaws.{effect_cons, size_some}
 use Rattle.version_store.specs.Entries.{Entry, Log, effects_of, back_in, same_back}
 use Rattle.version_store.specs.Filling.{sizes}
-use Rattle.version_store.specs.Storage.{texts_of, place_before, admitted, log_at, log_with}
-use Rattle.version_store.specs.Laying.{texts, body_with, body_of, padded, place_after}
+use Rattle.version_store.specs.Storage.{Content, content_of, piece_of, padded_at, new_sheet_at, sheet_of, place_before, admitted, log_at, alone, with_sheet}
+use Rattle.version_store.specs.declared.pieces.Piece.{Piece}
+use Rattle.version_store.specs.declared.pieces.Piece.TheVariants.{Whole}
+use Rattle.version_store.specs.Laying.{texts, body_with, padded, place_after}
 
 same_back-self : (b : Option Place) → same_back b b ≡ true
 same_back-self None = refl
@@ -48,7 +51,7 @@ log_at-step n log page end w rest good back =
     ∙ ap (λ (o : Option (Log × List ℕ)). o >>= λ more. log_at n more.0 page end more.1)
     (cond-true (same_back w.1 (back_in log w.0)) _ _ (ap (λ (b : Option Place). same_back w.1 b) (sym back) ∙ same_back-self w.1))
 
-pub reads_back : (n : ℕ) (log : Log) (page size end : ℕ) (es : Log) → IsLaid log page size es → length es ≤ n → end ≡ 4 + size + length (texts es) → log_at n log page end (texts es) ≡ Some (log ++ es)
+pub reads_back : (n : ℕ) (log : Log) (page size end : ℕ) (es : Log) → IsLaid log page size es → length es ≤ n → end ≡ 5 + size + length (texts es) → log_at n log page end (texts es) ≡ Some (log ++ es)
 reads_back n log page size end [] laid few is = nothing n
   where
     nothing : (k : ℕ) → log_at k log page end [] ≡ Some (log ++ [])
@@ -64,13 +67,13 @@ reads_back (suc n) log page size end (e ∷ es) laid few is =
     long : length (texts (e ∷ es)) ≡ size_of e.effect + length (texts es)
     long = length-append (effect_bytes (e.effect, e.back)) (texts es) ∙ ap (λ (n : ℕ). n + length (texts es)) (length-effect_bytes e.effect e.back None)
 
-    behind : 4 + size + length (texts (e ∷ es)) ≡ 4 + (size + size_of e.effect) + length (texts es)
+    behind : 5 + size + length (texts (e ∷ es)) ≡ 5 + (size + size_of e.effect) + length (texts es)
     behind = omega (arith, long)
 
     here : place_before page end (length (texts (e ∷ es))) ≡ place_after page size
     here = ap (λ (o : ℕ). record { page = page; offset = o }) (offset (length (texts (e ∷ es))) is)
       where
-        offset : (k : ℕ) → end ≡ 4 + size + k → end - k ≡ 4 + size
+        offset : (k : ℕ) → end ≡ 5 + size + k → end - k ≡ 5 + size
         offset k at = omega (arith, at)
 
 pub few_effects : (es : Log) → length es ≤ length (texts es)
@@ -82,20 +85,31 @@ zeros zero = refl
 zeros (suc n) = zeros n
 
 -- the outer form of a page
-pub texts_of-padded : (bytes : List ℕ) → 1 ≤ length bytes → length bytes ≤ 4092 → texts_of (padded (body_with bytes)) ≡ Some bytes
-unfolding texts_of
-texts_of-padded bytes some most =
+padded_reads : (bytes tail : List ℕ) → is_blank tail ≡ true → padded_at (length bytes) (bytes ++ tail) ≡ Some bytes
+unfolding padded_at
+padded_reads bytes tail blank = ap (λ (o : Option (List ℕ × List ℕ)). o >>= λ texts. cond (is_blank texts.1) (Some texts.0) None) (front_again bytes tail) ∙ cond-true (is_blank tail) _ _ blank
+
+pub sheet_of-padded : (mark : ℕ) (piece : Piece) (bytes : List ℕ) → 1 ≤ length bytes → length bytes ≤ 4091 → piece_of (length bytes) mark ≡ Some piece → sheet_of (padded (body_with mark bytes)) ≡ Some (piece, 5, bytes)
+unfolding sheet_of new_sheet_at
+sheet_of-padded mark piece bytes some most is =
     let small : length bytes < 2 ^ 16 = omega (arith, most) in
-    let tail = replicate (4095 - length (body_with bytes)) 0 in
-    let size : (between 1 4092 (number_at w16 (to_be_bytes w16 (length bytes) ++ (bytes ++ tail)))) ≡ Some (length bytes, bytes ++ tail) = (between_form 1 4092 u16_form).again (length bytes) (bytes ++ tail) (small, some, most) in
-    ap (λ (o : Option (ℕ × List ℕ)). o >>= λ size. front_at size.0 size.1 >>= λ texts. cond (is_blank texts.1) (Some texts.0) None) size
-    ∙ ap (λ (o : Option (List ℕ × List ℕ)). o >>= λ texts. cond (is_blank texts.1) (Some texts.0) None) (front_again bytes tail)
-    ∙ cond-true (is_blank tail) _ _ (zeros (4095 - length (body_with bytes)))
+    let tail = replicate (4095 - length (body_with mark bytes)) 0 in
+    let size : (between 1 4091 (number_at w16 (to_be_bytes w16 (length bytes) ++ (mark ∷ (bytes ++ tail))))) ≡ Some (length bytes, mark ∷ (bytes ++ tail)) = (between_form 1 4091 u16_form).again (length bytes) (mark ∷ (bytes ++ tail)) (small, some, most) in
+    ap (λ (o : Option (ℕ × List ℕ)). o >>= λ size. byte_at size.1 >>= λ m. piece_of size.0 m.0 >>= λ p. padded_at size.0 m.1 >>= λ t. Some (p, 5, t)) size
+    ∙ ap (λ (o : Option Piece). o >>= λ p. padded_at (length bytes) (bytes ++ tail) >>= λ t. Some (p, 5, t)) is
+    ∙ ap (λ (o : Option (List ℕ)). o >>= λ t. Some (piece, 5, t)) (padded_reads bytes tail (zeros (4095 - length (body_with mark bytes))))
 
 -- a page with these entries
-pub page_reads : (log : Log) (page : ℕ) (es : Log) → IsLaid log page 0 es → 1 ≤ length es → sizes (effects_of es) ≤ 4092 → log_with log page (texts_of (padded (body_of es))) ≡ Some (log ++ es)
-page_reads log page es laid some most =
+pub page_reads : (c : Content) (page : ℕ) (es : Log) → IsLaid c.log page 0 es → 1 ≤ length es → sizes (effects_of es) ≤ 4091 → with_sheet c page (sheet_of (padded (body_with 0 (texts es)))) ≡ Some (content_of (c.log ++ es))
+page_reads c page es laid some most =
     let all = length-texts es in
     let few = few_effects es in
-    ap (λ o. log_with log page o) (texts_of-padded (texts es) (omega (arith, some, few)) (omega (arith, all, most)))
-    ∙ reads_back (length (texts es)) log page 0 (4 + length (texts es)) es laid few (omega arith)
+    ap (λ o. with_sheet c page o) (sheet_of-padded 0 Whole (texts es) (omega (arith, some, few)) (omega (arith, all, most)) refl)
+    ∙ ap (λ (o : Option Log). option_map content_of o) (reads_back (length (texts es)) c.log page 0 (5 + length (texts es)) es laid few (omega arith))
+
+-- an effect that was laid out reads back where it stands alone
+pub alone_reads : (log : Log) (e : Entry) → IsWritten (e.effect, e.back) → e.back ≡ back_in log e.effect → alone (admitted log e.place (effect_at (effect_bytes (e.effect, e.back)))) ≡ Some (log ++ e ∷ [])
+alone_reads log e good back =
+    ap (λ (l : List ℕ). alone (admitted log e.place (effect_at l))) (sym (append-nil (effect_bytes (e.effect, e.back))))
+    ∙ ap (λ (r : Result (Written × List ℕ) ℕ). alone (admitted log e.place r)) (effect_again (e.effect, e.back) [] good)
+    ∙ ap alone (cond-true (same_back e.back (back_in log e.effect)) _ _ (ap (λ (b : Option Place). same_back e.back b) (sym back) ∙ same_back-self e.back))

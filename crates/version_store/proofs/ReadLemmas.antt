@@ -1,18 +1,35 @@
 -- The effects of a page, as an opening reads them.
-use Rattle.std.proofs.Common.{◌≡◌, ℕ, zero, suc, ◌+◌, ◌-◌, ◌≤◌, ◌<◌, List, [], ◌∷◌, ◌++◌, length, take, drop, true, false, cond, Option, Some, None, Result, Ok, refl, sym, ◌∙◌, ap, subst, arith, length-append, length-drop}
+use Rattle.std.proofs.Common.{◌≡◌, ℕ, zero, suc, ◌+◌, ◌-◌, ◌≤◌, ◌<◌, List, [], ◌∷◌, ◌++◌, length, take, drop, Bool, true, false, cond, Option, Some, None, Result, Ok, Err, ⊎_elim, inl, inr, refl, sym, ◌∙◌, ap, subst, arith, length-append, length-drop}
 use Rattle.std.specs.Prelude.{◌==◌}
-use Rattle.std.proofs.lemmas.Bool.{cond-true, cond-false, and_parts, eqb-true}
+use Rattle.std.proofs.lemmas.Bool.{cases_Bool, cond-true, cond-false, and_parts, eqb-true}
 use Rattle.std.proofs.lemmas.List.{drop_at, take_all}
 use Rattle.field_form.specs.Forms.{IsBytes, ◌>>=◌}
 use Rattle.effect_form.specs.declared.effects.Effect.{Effect}
 use Rattle.effect_form.specs.declared.effects.Place.{Place}
 use Rattle.effect_form.specs.Effects.{Written, effect_bytes, effect_at}
 use Rattle.effect_form.proofs.EffectLaws.{effect_takes}
+use Rattle.effect_form.proofs.ReadLaws.{length-effect_bytes}
+use Rattle.effect_form.proofs.SizeLaws.{size_most, without_back}
 use Rattle.version_store.specs.Entries.{Log, back_in, same_back}
 use Rattle.version_store.specs.Heads.{Heads, HeadsFit, IsFound}
-use Rattle.version_store.specs.Storage.{place_before, admitted, log_at}
+use Rattle.version_store.specs.Found.{HeldBelow, HeldFit, Stand, reading_of}
+use Rattle.page_gate.specs.declared.pages.PageState.{PageState}
+use Rattle.page_gate.specs.declared.pages.PageState.TheVariants.{Blank, Spoiled, Gated}
+use Rattle.version_store.specs.declared.page_reads.Held.{Held}
+use Rattle.version_store.specs.declared.pieces.Piece.TheVariants.{Whole, First}
+use Rattle.std.proofs.lemmas.Bool.Decides.{nat_tests}
+use Rattle.version_store.specs.Storage.{Content, content_of, Sheet, Going, going_or_damaged, with_sheet, next, place_before, place_alone, admitted, alone, held_more, held_ends, log_at}
+use Rattle.std.specs.Prelude.{MatchOption, MatchBool, Vec}
+use Rattle.std.specs.declared.alloc.Global.{Global}
+use Rattle.std.specs.Option.{option_map}
+use Rattle.std.specs.Borrow.{Bor}
 use Rattle.version_store.specs.Laying.{entry_at}
 use Rattle.version_store.proofs.LogLemmas.{effects_of-append}
+
+pub IsBytes-append : (s t : List ℕ) → IsBytes s → IsBytes t → IsBytes (s ++ t)
+IsBytes-append [] t h k i = k i
+IsBytes-append (b ∷ s) t h k zero = h zero
+IsBytes-append (b ∷ s) t h k (suc i) = IsBytes-append s t (λ j. h (suc j)) k i
 
 pub same_back-is : (a b : Option Place) → same_back a b ≡ true → a ≡ b
 same_back-is None None is = refl
@@ -71,13 +88,13 @@ log_at-over log page end [] some = absurd (omega (arith, some))
 log_at-over log page end (b ∷ bytes) some = refl
 
 -- after i effects, so many bytes are left and the log so far leads to the page's
-pub record SoFar (log : Log) (page : ℕ) (texts : List ℕ) (i : ℕ) (rest : List ℕ) (heads : Heads) (effects : List Effect) : Type 0 where
+pub record SoFar (log : Log) (page from : ℕ) (texts : List ℕ) (i : ℕ) (rest : List ℕ) (heads : Heads) (effects : List Effect) : Type 0 where
   pub now : Log
   pub stands : IsFound heads effects now
-  pub leads : log_at (length texts - i) now page (4 + length texts) rest ≡ log_at (length texts) log page (4 + length texts) texts
+  pub leads : log_at (length texts - i) now page (from + length texts) rest ≡ log_at (length texts) log page (from + length texts) texts
 
-pub so_far_none : (log : Log) (page : ℕ) (texts : List ℕ) (heads : Heads) (effects : List Effect) → IsFound heads effects log → SoFar log page texts 0 texts heads effects
-so_far_none log page texts heads effects stands = record { now = log; stands = stands; leads = ap (λ (k : ℕ). log_at k log page (4 + length texts) texts) (whole (length texts)) }
+pub so_far_none : (log : Log) (page from : ℕ) (texts : List ℕ) (heads : Heads) (effects : List Effect) → IsFound heads effects log → SoFar log page from texts 0 texts heads effects
+so_far_none log page from texts heads effects stands = record { now = log; stands = stands; leads = ap (λ (k : ℕ). log_at k log page (from + length texts) texts) (whole (length texts)) }
   where
     whole : (n : ℕ) → n - 0 ≡ n
     whole n = omega arith
@@ -88,25 +105,165 @@ one_more n i low = omega arith
 over : (n i : ℕ) → n ≤ i → n - i ≡ 0
 over n i high = omega arith
 
-module _ (log : Log) (page : ℕ) (texts : List ℕ) (i : ℕ) (rest : List ℕ) (heads : Heads) (effects : List Effect) (was : SoFar log page texts i rest heads effects) where
+module _ (log : Log) (page from : ℕ) (texts : List ℕ) (i : ℕ) (rest : List ℕ) (heads : Heads) (effects : List Effect) (was : SoFar log page from texts i rest heads effects) where
   -- no bytes are left
-  pub page_ends : length rest ≡ 0 → (more : Log) × (log_at (length texts) log page (4 + length texts) texts ≡ Some more) × IsFound heads effects more
-  page_ends none_left = (was.now, sym was.leads ∙ log_at-none (length texts - i) was.now page (4 + length texts) rest none_left, was.stands)
+  pub page_ends : length rest ≡ 0 → (more : Log) × (log_at (length texts) log page (from + length texts) texts ≡ Some more) × IsFound heads effects more
+  page_ends none_left = (was.now, sym was.leads ∙ log_at-none (length texts - i) was.now page (from + length texts) rest none_left, was.stands)
 
   -- bytes are left behind the last effect that may be
-  pub page_over : length texts ≤ i → 1 ≤ length rest → log_at (length texts) log page (4 + length texts) texts ≡ None
-  page_over high some = sym was.leads ∙ ap (λ (k : ℕ). log_at k was.now page (4 + length texts) rest) (over (length texts) i high) ∙ log_at-over was.now page (4 + length texts) rest some
+  pub page_over : length texts ≤ i → 1 ≤ length rest → log_at (length texts) log page (from + length texts) texts ≡ None
+  page_over high some = sym was.leads ∙ ap (λ (k : ℕ). log_at k was.now page (from + length texts) rest) (over (length texts) i high) ∙ log_at-over was.now page (from + length texts) rest some
 
-  step : i < length texts → 1 ≤ length rest → log_at (length texts) log page (4 + length texts) texts ≡ (admitted was.now (place_before page (4 + length texts) (length rest)) (effect_at rest) >>= λ more. log_at (length texts - (i + 1)) more.0 page (4 + length texts) more.1)
-  step low some = sym was.leads ∙ ap (λ (k : ℕ). log_at k was.now page (4 + length texts) rest) (one_more (length texts) i low) ∙ log_at-some (length texts - (i + 1)) was.now page (4 + length texts) rest some
+  step : i < length texts → 1 ≤ length rest → log_at (length texts) log page (from + length texts) texts ≡ (admitted was.now (place_before page (from + length texts) (length rest)) (effect_at rest) >>= λ more. log_at (length texts - (i + 1)) more.0 page (from + length texts) more.1)
+  step low some = sym was.leads ∙ ap (λ (k : ℕ). log_at k was.now page (from + length texts) rest) (one_more (length texts) i low) ∙ log_at-some (length texts - (i + 1)) was.now page (from + length texts) rest some
 
   -- no log has an effect here
-  pub page_stops : i < length texts → 1 ≤ length rest → admitted was.now (place_before page (4 + length texts) (length rest)) (effect_at rest) ≡ None → log_at (length texts) log page (4 + length texts) texts ≡ None
-  page_stops low some is = step low some ∙ ap (λ (o : Option (Log × List ℕ)). o >>= λ more. log_at (length texts - (i + 1)) more.0 page (4 + length texts) more.1) is
+  pub page_stops : i < length texts → 1 ≤ length rest → admitted was.now (place_before page (from + length texts) (length rest)) (effect_at rest) ≡ None → log_at (length texts) log page (from + length texts) texts ≡ None
+  page_stops low some is = step low some ∙ ap (λ (o : Option (Log × List ℕ)). o >>= λ more. log_at (length texts - (i + 1)) more.0 page (from + length texts) more.1) is
 
-  pub page_goes : i < length texts → 1 ≤ length rest → (rest' : List ℕ) (heads' : Heads) (effects' : List Effect) → (more : Log) × (admitted was.now (place_before page (4 + length texts) (length rest)) (effect_at rest) ≡ Some (more, rest')) × IsFound heads' effects' more → SoFar log page texts (i + 1) rest' heads' effects'
+  pub page_goes : i < length texts → 1 ≤ length rest → (rest' : List ℕ) (heads' : Heads) (effects' : List Effect) → (more : Log) × (admitted was.now (place_before page (from + length texts) (length rest)) (effect_at rest) ≡ Some (more, rest')) × IsFound heads' effects' more → SoFar log page from texts (i + 1) rest' heads' effects'
   page_goes low some rest' heads' effects' more = record {
     now = more.0;
     stands = more.2;
-    leads = sym (step low some ∙ ap (λ (o : Option (Log × List ℕ)). o >>= λ more. log_at (length texts - (i + 1)) more.0 page (4 + length texts) more.1) more.1);
+    leads = sym (step low some ∙ ap (λ (o : Option (Log × List ℕ)). o >>= λ more. log_at (length texts - (i + 1)) more.0 page (from + length texts) more.1) more.1);
   }
+
+-- ---- an effect in pieces
+
+-- no effect is so long
+pub long_none : (log : Log) (place : Place) (bytes : List ℕ) → IsBytes bytes → 65567 < length bytes → alone (admitted log place (effect_at bytes)) ≡ None
+long_none log place bytes small long = by_read (effect_at bytes) refl
+  where
+    by_rest : (w : Written) (rest : List ℕ) → effect_at bytes ≡ Ok (w, rest) → alone (admitted log place (Ok (w, rest))) ≡ None
+    by_rest w [] is =
+        let t = effect_takes bytes w [] small is in
+        let size = ap (λ (l : List ℕ). length l) t.0.parts ∙ length-append (effect_bytes w) [] in
+        let most = size_most w.0 (without_back w.0 w.1 t.1) in
+        let same = length-effect_bytes w.0 w.1 None in
+        absurd (omega (arith, size, most, same, long))
+    by_rest w (b ∷ rest) is = elim (cases_Bool (same_back w.1 (back_in log w.0))) [
+      | inl same ↦ ap alone (cond-true (same_back w.1 (back_in log w.0)) _ _ same)
+      | inr other ↦ ap alone (cond-false (same_back w.1 (back_in log w.0)) _ _ other)
+    ]
+
+    by_read : (r : Result (Written × List ℕ) ℕ) → effect_at bytes ≡ r → alone (admitted log place r) ≡ None
+    by_read (Err at) is = refl
+    by_read (Ok (w, rest)) is = by_rest w rest is
+
+-- what the kept bytes are is what the pieces are
+pub stand_alone : (log : Log) (place : Place) (bytes pieces : List ℕ) → IsBytes bytes → IsBytes pieces → Stand bytes pieces → alone (admitted log place (effect_at bytes)) ≡ alone (admitted log place (effect_at pieces))
+stand_alone log place bytes pieces small small' stand = ⊎_elim
+    (λ same. ap (λ (l : List ℕ). alone (admitted log place (effect_at l))) same)
+    (λ long. long_none log place bytes small long.0 ∙ sym (long_none log place pieces small' long.1))
+    stand
+
+pub alone_none : (o : Option (Log × List ℕ)) → o ≡ None → alone o ≡ None
+alone_none o is = ap alone is
+
+pub alone_some : (o : Option (Log × List ℕ)) (more : Log) (rest : List ℕ) → o ≡ Some (more, rest) → length rest ≡ 0 → alone o ≡ Some more
+alone_some o more [] is none_left = ap alone is
+alone_some o more (b ∷ rest) is none_left = absurd (omega (arith, none_left))
+
+pub alone_more : (o : Option (Log × List ℕ)) (more : Log) (rest : List ℕ) → o ≡ Some (more, rest) → 1 ≤ length rest → alone o ≡ None
+alone_more o more [] is some = absurd (omega (arith, some))
+alone_more o more (b ∷ rest) is some = ap alone is
+
+-- one piece more
+pub stand_more : (bytes pieces piece : List ℕ) → Stand bytes pieces → Stand (bytes ++ piece) (pieces ++ piece)
+stand_more bytes pieces piece stand = ⊎_elim
+    (λ same. inl (ap (λ (l : List ℕ). l ++ piece) same))
+    (λ long. inr (omega (arith, long.0, length-append bytes piece), omega (arith, long.1, length-append pieces piece)))
+    stand
+
+pub stand_over : (bytes pieces piece : List ℕ) → 65567 < length bytes → Stand bytes pieces → Stand bytes (pieces ++ piece)
+stand_over bytes pieces piece over stand = ⊎_elim
+    (λ same. inr (over, omega (arith, over, ap (λ (l : List ℕ). length l) same, length-append pieces piece)))
+    (λ long. inr (over, omega (arith, long.1, length-append pieces piece)))
+    stand
+
+-- ---- what follows an effect, or that there is none
+
+module _ (o : Option (Bor (List ℕ))) (reading : Option (Log × List ℕ)) (heads : Heads) (effects : List Effect) where
+  pub at_none : o ≡ None → MatchOption o (reading ≡ None) (λ rest. (more : Log) × (reading ≡ Some (more, rest.now)) × IsFound heads effects more) → reading ≡ None
+  at_none is met = subst (λ (q : Option (Bor (List ℕ))). MatchOption q (reading ≡ None) (λ rest. (more : Log) × (reading ≡ Some (more, rest.now)) × IsFound heads effects more)) is met
+
+  pub at_some : (rest : Bor (List ℕ)) → o ≡ Some rest → MatchOption o (reading ≡ None) (λ rest. (more : Log) × (reading ≡ Some (more, rest.now)) × IsFound heads effects more) → (more : Log) × (reading ≡ Some (more, rest.now)) × IsFound heads effects more
+  at_some rest is met = subst (λ (q : Option (Bor (List ℕ))). MatchOption q (reading ≡ None) (λ rest. (more : Log) × (reading ≡ Some (more, rest.now)) × IsFound heads effects more)) is met
+
+pub less_at : (o : Option (Bor (List ℕ))) (rest : Bor (List ℕ)) (n : ℕ) → o ≡ Some rest → MatchOption o (Unit {0}) (λ rest. length rest.now ≤ n) → length rest.now ≤ n
+less_at o rest n is met = subst (λ (q : Option (Bor (List ℕ))). MatchOption q (Unit {0}) (λ rest. length rest.now ≤ n)) is met
+
+-- ---- pieces that are kept
+
+pub middle_found : (log : Log) (h : Held) (kept : Vec ℕ Global) (held : Option (ℕ × List ℕ)) (piece : List ℕ) → IsBytes piece → HeldFit (Some h) held → ((pieces : List ℕ) → Stand h.bytes.items pieces → Stand kept.items (pieces ++ piece))
+    → (more : Content) × (held_more log held piece ≡ Some more) × (more.log ≡ log) × HeldFit (Some (record { first = h.first; bytes = kept })) more.held
+middle_found log h kept None piece small fits stand = absurd fits
+middle_found log h kept (Some (first, pieces)) piece small fits stand = (record { log = log; held = Some (first, pieces ++ piece) }, refl, refl, (fits.0, stand pieces fits.1, IsBytes-append pieces piece fits.2 small))
+
+-- whether the pieces are an effect, and the log has it then
+abbrev Ends : Log → ℕ → List ℕ → Heads → List Effect → Bool → Type 0
+Ends log first pieces heads effects good = MatchBool good ((more : Log) × (alone (admitted log (place_alone first) (effect_at pieces)) ≡ Some more) × IsFound heads effects more) (alone (admitted log (place_alone first) (effect_at pieces)) ≡ None)
+
+abbrev EndsHeld : Log → Option (ℕ × List ℕ) → List ℕ → Heads → List Effect → Bool → Type 0
+EndsHeld log held piece heads effects good = MatchBool good ((more : Content) × (held_ends log held piece ≡ Some more) × IsFound heads effects more.log × HeldFit None more.held) (held_ends log held piece ≡ None)
+
+ends_held : (log : Log) (first : ℕ) (pieces piece : List ℕ) (heads : Heads) (effects : List Effect) (good : Bool) → Ends log first (pieces ++ piece) heads effects good → EndsHeld log (Some (first, pieces)) piece heads effects good
+ends_held log first pieces piece heads effects true met = (content_of met.0, ap (λ (o : Option Log). option_map content_of o) met.1, met.2, tt)
+ends_held log first pieces piece heads effects false met = ap (λ (o : Option Log). option_map content_of o) met
+
+-- a last piece, behind those that are kept
+pub last_found : (log : Log) (h : Held) (kept : Vec ℕ Global) (heads : Heads) (effects : List Effect) (good : Bool) (piece : List ℕ) → IsBytes piece → ((pieces : List ℕ) → Stand h.bytes.items pieces → Stand kept.items (pieces ++ piece))
+    → ((pieces : List ℕ) → Stand kept.items pieces → IsBytes pieces → Ends log h.first pieces heads effects good) → (held : Option (ℕ × List ℕ)) → HeldFit (Some h) held → EndsHeld log held piece heads effects good
+last_found log h kept heads effects good piece small stand ends None fits = absurd fits
+last_found log h kept heads effects good piece small stand ends (Some (first, pieces)) fits =
+    ends_held log first pieces piece heads effects good (subst (λ (k : ℕ). Ends log k (pieces ++ piece) heads effects good) fits.0 (ends (pieces ++ piece) (stand pieces fits.1) (IsBytes-append pieces piece fits.2 small)))
+
+-- the pieces that are kept are an effect, or they aren't
+pub held_none : (log : Log) (place : Place) (bytes kept pieces : List ℕ) → bytes ≡ kept → IsBytes bytes → IsBytes pieces → Stand kept pieces → admitted log place (effect_at bytes) ≡ None → alone (admitted log place (effect_at pieces)) ≡ None
+held_none log place bytes kept pieces same small small' stand is = sym (stand_alone log place bytes pieces small small' (subst (λ (l : List ℕ). Stand l pieces) (sym same) stand)) ∙ alone_none (admitted log place (effect_at bytes)) is
+
+pub held_some : (log : Log) (place : Place) (bytes kept pieces rest : List ℕ) (heads : Heads) (effects : List Effect) (b : Bool) → bytes ≡ kept → IsBytes bytes → IsBytes pieces → Stand kept pieces → b ≡ (length rest == 0)
+    → (more : Log) × (admitted log place (effect_at bytes) ≡ Some (more, rest)) × IsFound heads effects more
+    → MatchBool b ((more : Log) × (alone (admitted log place (effect_at pieces)) ≡ Some more) × IsFound heads effects more) (alone (admitted log place (effect_at pieces)) ≡ None)
+held_some log place bytes kept pieces rest heads effects b same small small' stand is met = by b is
+  where
+    alike : alone (admitted log place (effect_at pieces)) ≡ alone (admitted log place (effect_at bytes))
+    alike = sym (stand_alone log place bytes pieces small small' (subst (λ (l : List ℕ). Stand l pieces) (sym same) stand))
+
+    by : (q : Bool) → q ≡ (length rest == 0) → MatchBool q ((more : Log) × (alone (admitted log place (effect_at pieces)) ≡ Some more) × IsFound heads effects more) (alone (admitted log place (effect_at pieces)) ≡ None)
+    by true e = (met.0, alike ∙ alone_some (admitted log place (effect_at bytes)) met.0 rest met.1 (eqb-true (length rest) 0 (sym e)), met.2)
+    by false e = alike ∙ alone_more (admitted log place (effect_at bytes)) met.0 rest met.1 (some (length rest) (sym e))
+      where
+        some : (n : ℕ) → (n == 0) ≡ false → 1 ≤ n
+        some n other = grind (arith, nat_tests)
+
+pub held_below : (n m : ℕ) (held : Option Held) → n ≤ m → HeldBelow n held → HeldBelow m held
+held_below n m None le below = tt
+held_below n m (Some h) le below = omega (arith, below, le)
+
+-- ---- a page with what it has
+
+pub whole_goes : (c : Content) (page : ℕ) (o : Option Sheet) (from : ℕ) (bytes : List ℕ) (heads : Heads) (effects : List Effect) → o ≡ Some (Whole, from, bytes)
+    → (more : Log) × (log_at (length bytes) c.log page (from + length bytes) bytes ≡ Some more) × IsFound heads effects more
+    → (more : Content) × (going_or_damaged page (with_sheet c page o) ≡ Going more) × IsFound heads effects more.log × HeldFit None more.held
+whole_goes c page o from bytes heads effects is met =
+    (content_of met.0, ap (λ (o : Option Sheet). going_or_damaged page (with_sheet c page o)) is ∙ ap (λ (o : Option Log). going_or_damaged page (option_map content_of o)) met.1, met.2, tt)
+
+pub first_goes : (c : Content) (page : ℕ) (o : Option Sheet) (from : ℕ) (bytes : List ℕ) (heads : Heads) (effects : List Effect) (h : Held) → o ≡ Some (First, from, bytes) → IsFound heads effects c.log → h.first ≡ page → h.bytes.items ≡ bytes → IsBytes bytes
+    → (more : Content) × (going_or_damaged page (with_sheet c page o) ≡ Going more) × IsFound heads effects more.log × HeldFit (Some h) more.held
+first_goes c page o from bytes heads effects h is found first same small =
+    (record { log = c.log; held = Some (page, bytes) }, ap (λ (o : Option Sheet). going_or_damaged page (with_sheet c page o)) is, found, (first, inl same, small))
+
+pub when_good : (b : Bool) (P Q : Type 0) → b ≡ true → MatchBool b P Q → P
+when_good b P Q is met = subst (λ (q : Bool). MatchBool q P Q) is met
+
+pub when_bad : (b : Bool) (P Q : Type 0) → b ≡ false → MatchBool b P Q → Q
+when_bad b P Q is met = subst (λ (q : Bool). MatchBool q P Q) is met
+
+-- a spoiled page is skipped, and what was begun is given up
+pub spoiled_goes : (c : Content) (page : ℕ) (ended : Bool) (state : PageState) (heads : Heads) (effects : List Effect) → ended ≡ false → state ≡ Spoiled → IsFound heads effects c.log
+    → (more : Content) × (next (reading_of ended c) page state ≡ reading_of ended more) × IsFound heads effects more.log × HeldFit None more.held
+spoiled_goes c page false Spoiled heads effects off is found = (content_of c.log, refl, found, tt)
+spoiled_goes c page false Blank heads effects off is found = absurd (cc is)
+spoiled_goes c page false (Gated body) heads effects off is found = absurd (cc is)
+spoiled_goes c page true state heads effects off is found = absurd (cc off)

@@ -8,7 +8,7 @@ use Rattle.medium_port.specs.Image.{Image}
 use Rattle.page_gate.specs.States.{is_blank, state_of}
 use Rattle.page_gate.specs.declared.pages.PageState.TheVariants.{Blank, Spoiled, Gated}
 use Rattle.version_store.specs.Entries.{Log}
-use Rattle.version_store.specs.Storage.{Content, Reading, Going, Ended, Damaged, log_going, begun, next, scan, finish, entries}
+use Rattle.version_store.specs.Storage.{Content, content_of, Reading, Going, Ended, Damaged, log_going, begun, next, scan, finish, entries}
 
 pub scan-append : (front rest : Image) (reading : Reading) (n : ℕ) → scan reading n (front ++ rest) ≡ scan (scan reading n front) (n + length front) rest
 scan-append [] rest reading n = ap (λ (k : ℕ). scan reading k rest) (sym (add-zero n))
@@ -50,7 +50,7 @@ module _ (image : Image) (n : ℕ) (c : Content) (within : n < length image) (fr
   stays_blank page is = at_page page ∙ ap (λ s. finish (scan (next (Going c) n s) (n + 1) (drop (n + 1) image))) is ∙ ap finish (ended_blanks c (n + 1) (drop (n + 1) image) blank)
 
   pub stays_spoiled : (page : List ℕ) → state_of page ≡ Spoiled → entries (slice_set image n page) ≡ Ok c.log
-  stays_spoiled page is = at_page page ∙ ap (λ s. finish (scan (next (Going c) n s) (n + 1) (drop (n + 1) image))) is ∙ finish_blanks c (n + 1) (drop (n + 1) image) blank
+  stays_spoiled page is = at_page page ∙ ap (λ s. finish (scan (next (Going c) n s) (n + 1) (drop (n + 1) image))) is ∙ finish_blanks (content_of c.log) (n + 1) (drop (n + 1) image) blank
 
   pub steps : (page body : List ℕ) (end : Content) → state_of page ≡ Gated body → next (Going c) n (Gated body) ≡ Going end → entries (slice_set image n page) ≡ Ok end.log
   steps page body end is step =

@@ -9,13 +9,13 @@ use Rattle.version_store.specs.Entries.{Log, effects_of}
 use Rattle.effect_form.specs.Effects.{AreEffects}
 use Rattle.version_store.specs.Filling.{filling, joined, HasPrefix, KeepsPages}
 use Rattle.version_store.specs.Heads.{Heads, HeadsFit, ArePlaces}
-use Rattle.version_store.specs.Laying.{IsAtRest, HasPages, Grows, PagesFit, laid, all_of, body_of, bytes_of}
+use Rattle.version_store.specs.Laying.{Laid, IsAtRest, HasPages, Grows, PagesFit, laid, all_of, body_of, bytes_of}
 use Rattle.version_store.specs.Settled.{IsSettled}
 use Rattle.version_store.specs.Storage.{begun, scan, entries, effects_found, log_of, log_or_none}
 use Rattle.version_store.proofs.ScanLemmas.{log_at_rest}
 use Rattle.version_store.proofs.LogLemmas.{effects_of-append}
 use Rattle.version_store.proofs.FillingLemmas.{joined-filling}
-use Rattle.version_store.proofs.LaidLemmas.{effects-laid_pages, effects-all_of, effects-laid, length-laid, laid_fits, lasts_are_places}
+use Rattle.version_store.proofs.LaidLemmas.{standing, standing-laid, effects-all_of, effects-laid, length-laid, laid_fits, lasts_are_places}
 
 module _ (log : Log) (n : ℕ) (reads : Image) (may_leave : Image → Type 0) (rest : IsAtRest log n reads may_leave) where
   pub entries_here : entries reads ≡ Ok log
@@ -59,7 +59,7 @@ pub has_prefix : (log : Log) (first : ℕ) (effects : List Effect) (image : Imag
 has_prefix log first effects image has =
     let k = has.count in
     let pages = laid log first effects in
-    let kept : effects_of (all_of (take k pages)) ≡ joined (take k (filling effects)) = effects-all_of (take k pages) ∙ ap joined (map-take effects_of k pages ∙ ap (λ (l : List (List Effect)). take k l) (effects-laid_pages log first (filling effects))) in
+    let kept : effects_of (all_of (take k pages)) ≡ joined (take k (filling effects)) = effects-all_of (take k pages) ∙ ap joined (map-take standing k pages ∙ ap (λ (l : List (List Effect)). take k l) (standing-laid log first effects)) in
     record {
       pages = k;
       most = omega (arith, has.most, length-laid log first effects);
@@ -88,14 +88,14 @@ module _ {M : Type 0} (moment : M → ℕ) (left_since : M → ℕ → Image →
   -- pages that were laid out were written, or some of them
   pub written_run : (bodies bodies' : List (Vec ℕ Global)) (heads : Heads) (log : Log) (first : ℕ) (effects : List Effect) → IsAtRest log first (reads old) (may_leave old) → HeadsFit heads log → ArePlaces heads → AreEffects effects → first + length (filling effects) ≤ 1048576
       → ((l : Log) → HeadsFit heads l → bytes_of bodies ≡ map body_of (laid l first effects)) → bodies' ≡ bodies
-      → ((l : Log) (pages : List Log) → IsAtRest l first (reads old) (may_leave old) → PagesFit (scan begun 0 (take first (reads old))) l first pages → bytes_of bodies' ≡ map body_of pages → LeavesOnly moment left_since old new (Grows (reads old) l pages))
+      → ((l : Log) (pages : List Laid) → IsAtRest l first (reads old) (may_leave old) → PagesFit (scan begun 0 (take first (reads old))) l first pages → bytes_of bodies' ≡ map body_of pages → LeavesOnly moment left_since old new (Grows (reads old) l pages))
       → LeavesOnly moment left_since old new (Grows (reads old) log (laid log first effects))
   written_run bodies bodies' heads log first effects rest fit places ranges room pages same run =
       run log (laid log first effects) rest (laid_fits (scan begun 0 (take first (reads old))) log first effects rest.front (lasts_are_places heads log fit places) ranges room) (ap bytes_of same ∙ pages log fit)
 
   pub written_rest : (bodies bodies' : List (Vec ℕ Global)) (heads : Heads) (log : Log) (first needed : ℕ) (effects : List Effect) → IsAtRest log first (reads old) (may_leave old) → HeadsFit heads log → ArePlaces heads → AreEffects effects → first + length (filling effects) ≤ 1048576
       → ((l : Log) → HeadsFit heads l → bytes_of bodies ≡ map body_of (laid l first effects)) → bodies' ≡ bodies → length bodies ≡ length (filling effects) → needed ≡ length (filling effects)
-      → ((l : Log) (pages : List Log) → IsAtRest l first (reads old) (may_leave old) → PagesFit (scan begun 0 (take first (reads old))) l first pages → bytes_of bodies' ≡ map body_of pages → IsAtRest (l ++ all_of pages) (first + length bodies') (reads new) (may_leave new))
+      → ((l : Log) (pages : List Laid) → IsAtRest l first (reads old) (may_leave old) → PagesFit (scan begun 0 (take first (reads old))) l first pages → bytes_of bodies' ≡ map body_of pages → IsAtRest (l ++ all_of pages) (first + length bodies') (reads new) (may_leave new))
       → IsAtRest (log ++ all_of (laid log first effects)) (first + needed) (reads new) (may_leave new)
   written_rest bodies bodies' heads log first needed effects rest fit places ranges room pages same count needed_is all =
       subst (λ (n : ℕ). IsAtRest (log ++ all_of (laid log first effects)) (first + n) (reads new) (may_leave new)) (ap (λ (l : List (Vec ℕ Global)). length l) same ∙ count ∙ sym needed_is)

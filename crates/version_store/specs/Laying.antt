@@ -1,4 +1,5 @@
 -- The pages that an append writes, and how a medium stands between two calls.
+use Prim.Native.Nat.{zero, suc}
 use Rattle.std.specs.Prelude.{◌≡◌, ℕ, ◌+◌, ◌-◌, ◌≤◌, List, [], ◌∷◌, ◌++◌, length, take, drop, map, replicate, true, false, Some, Ok, Vec}
 use Rattle.std.specs.declared.alloc.Global.{Global}
 use Rattle.std.specs.List.{flat_map, list_all}
@@ -10,7 +11,8 @@ use Rattle.effect_form.specs.declared.effects.Effect.{Effect}
 use Rattle.effect_form.specs.declared.effects.Place.{Place}
 use Rattle.effect_form.specs.Effects.{effect_bytes, size_of}
 use Rattle.version_store.specs.Entries.{Entry, Log, back_in}
-use Rattle.version_store.specs.Filling.{filling, KeepsPages}
+use Rattle.version_store.specs.Filling.{Parcel, Shared, Alone, parcels, parcels_from, full_pages, KeepsPages}
+use Rattle.version_store.specs.Heads.{Heads, HeadsFit}
 use Rattle.version_store.specs.Storage.{Reading, log_going, begun, next, scan, entries}
 
 -- ---- one page
@@ -19,12 +21,9 @@ abbrev pub texts : Log → List ℕ
 texts [] = []
 texts (e ∷ es) = effect_bytes (e.effect, e.back) ++ texts es
 
--- a page's body with these bytes for effects, without the 0 to its end
-abbrev pub body_with : List ℕ → List ℕ
-body_with bytes = 1 ∷ (to_be_bytes w16 (length bytes) ++ bytes)
-
-abbrev pub body_of : Log → List ℕ
-body_of es = body_with (texts es)
+-- a page's body with this piece byte and these bytes, without the 0 to its end
+abbrev pub body_with : ℕ → List ℕ → List ℕ
+body_with mark bytes = 2 ∷ (to_be_bytes w16 (length bytes) ++ (mark ∷ bytes))
 
 -- what the gated page holds behind its gate
 abbrev pub padded : List ℕ → List ℕ
@@ -36,7 +35,7 @@ entry_at log place effect = record { effect = effect; place = place; back = back
 
 -- the place on a page behind effects of so many bytes
 abbrev pub place_after : ℕ → ℕ → Place
-place_after page size = record { page = page; offset = 4 + size }
+place_after page size = record { page = page; offset = 5 + size }
 
 -- the entry of an effect on a page, behind effects of so many bytes
 abbrev pub entry_on : Log → ℕ → ℕ → Effect → Entry
@@ -49,23 +48,74 @@ laid_on log page size (e ∷ es) = entry_on log page size e ∷ laid_on (log ++ 
 
 -- ---- the pages of a call
 
--- the entries of each of these pages, the first of which is this page
-abbrev pub laid_pages : Log → ℕ → List (List Effect) → List Log
+-- a page of a call: its body, and the entries that stand whole with it
+pub record Laid : Type 0 where
+  pub body : List ℕ
+  pub adds : Log
+
+abbrev pub body_of : Laid → List ℕ
+body_of l = l.body
+
+abbrev pub all_of : List Laid → Log
+all_of pages = flat_map (λ (l : Laid). l.adds) pages
+
+-- a page of whole effects
+abbrev pub whole : Log → Laid
+whole es = record { body = body_with 0 (texts es); adds = es }
+
+-- the body of the page that was begun with these bytes, where there are any
+abbrev pub closed_body : List ℕ → List (List ℕ)
+closed_body [] = []
+closed_body (b ∷ bytes) = body_with 0 (b ∷ bytes) ∷ []
+
+-- the bodies of so many pages that are full of a text, the first with this piece byte, and of the one with its last piece
+abbrev pub piece_bodies : ℕ → ℕ → List ℕ → List (List ℕ)
+piece_bodies mark zero bytes = body_with 3 bytes ∷ []
+piece_bodies mark (suc n) bytes = body_with mark (take 4091 bytes) ∷ piece_bodies 2 n (drop 4091 bytes)
+
+-- pages with these bodies, the last of which has the entry whole
+abbrev pub ending : Entry → List (List ℕ) → List Laid
+ending e [] = []
+ending e (body ∷ []) = record { body = body; adds = e ∷ [] } ∷ []
+ending e (body ∷ after ∷ bodies) = record { body = body; adds = [] } ∷ ending e (after ∷ bodies)
+
+-- the pages of a parcel, the first of which is this page
+abbrev pub laid_in : Log → ℕ → Parcel → List Laid
+laid_in log page (Shared es) = whole (laid_on log page 0 es) ∷ []
+laid_in log page (Alone e) = ending (entry_on log page 0 e) (piece_bodies 1 (full_pages e) (effect_bytes (e, back_in log e)))
+
+-- and of these parcels
+abbrev pub laid_pages : Log → ℕ → List Parcel → List Laid
 laid_pages log page [] = []
-laid_pages log page (es ∷ pages) = laid_on log page 0 es ∷ laid_pages (log ++ laid_on log page 0 es) (page + 1) pages
+laid_pages log page (p ∷ ps) = laid_in log page p ++ laid_pages (log ++ all_of (laid_in log page p)) (page + length (laid_in log page p)) ps
 
 -- and of those that effects fill
-abbrev pub laid : Log → ℕ → List Effect → List Log
-laid log page effects = laid_pages log page (filling effects)
-
-abbrev pub all_of : List Log → Log
-all_of pages = flat_map (λ es. es) pages
+abbrev pub laid : Log → ℕ → List Effect → List Laid
+laid log page effects = laid_pages log page (parcels effects)
 
 -- the reading goes on over each page, and has the page's entries more then
-abbrev pub PagesFit : Reading → Log → ℕ → List Log → Type 0
+abbrev pub PagesFit : Reading → Log → ℕ → List Laid → Type 0
 PagesFit reading log page [] = Unit {0}
-PagesFit reading log page (es ∷ pages) =
-    (log_going (next reading page (Gated (padded (body_of es)))) ≡ Some (log ++ es)) × PagesFit (next reading page (Gated (padded (body_of es)))) (log ++ es) (page + 1) pages
+PagesFit reading log page (l ∷ pages) =
+    (log_going (next reading page (Gated (padded l.body))) ≡ Some (log ++ l.adds)) × PagesFit (next reading page (Gated (padded l.body))) (log ++ l.adds) (page + 1) pages
+
+-- ---- how far an append has laid out its effects
+
+-- these bodies, and the pages of the parcels that are left, are those of the call
+pub record LeadsTo (log : Log) (first : ℕ) (effects : List Effect) (bodies : List (List ℕ)) (heads : Heads) (page : ℕ) (left : List Parcel) : Type 0 where
+  pub before : Log
+  pub heads_fit : HeadsFit heads before
+  pub goes : bodies ++ map body_of (laid_pages before page left) ≡ map body_of (laid log first effects)
+  pub leads : before ++ all_of (laid_pages before page left) ≡ log ++ all_of (laid log first effects)
+
+-- the same where a page was begun with these bytes, and these effects are left
+pub record LaidOut (log : Log) (first : ℕ) (effects : List Effect) (bodies : List (List ℕ)) (bytes : List ℕ) (heads : Heads) (page : ℕ) (rest : List Effect) : Type 0 where
+  pub before : Log
+  pub begun : List Effect
+  pub heads_fit : HeadsFit heads (before ++ laid_on before page 0 begun)
+  pub bytes_are : bytes ≡ texts (laid_on before page 0 begun)
+  pub goes : bodies ++ map body_of (laid_pages before page (parcels_from begun rest)) ≡ map body_of (laid log first effects)
+  pub leads : before ++ all_of (laid_pages before page (parcels_from begun rest)) ≡ log ++ all_of (laid log first effects)
 
 -- what may be put on a page
 pub record IsBody (body : Vec ℕ Global) : Type 0 where
@@ -84,13 +134,13 @@ pub record IsAtRest (log : Log) (n : ℕ) (reads : Image) (may_leave : Image →
   pub blank : list_all is_blank (drop n reads) ≡ true
   pub durable : Only reads may_leave
 
--- an image stands for the log with the entries of the first of these pages
-pub record HasPages (log : Log) (pages : List Log) (image : Image) : Type 0 where
+-- an image stands for the log with the entries that stand whole in the first of these pages
+pub record HasPages (log : Log) (pages : List Laid) (image : Image) : Type 0 where
   pub count : ℕ
   pub most : count ≤ length pages
   pub is : entries image ≡ Ok (log ++ all_of (take count pages))
 
 -- what a crash while pages are written may leave: that, and pages that weren't blank as they were
-pub record Grows (base : Image) (log : Log) (pages : List Log) (image : Image) : Type 0 where
+pub record Grows (base : Image) (log : Log) (pages : List Laid) (image : Image) : Type 0 where
   pub has : HasPages log pages image
   pub keeps : KeepsPages base image

@@ -7,5 +7,6 @@ pub mod Found
 pub mod Heads
 pub mod Laying
 pub mod Settled
+pub mod Sights
 pub mod Storage
 pub mod StoreWords

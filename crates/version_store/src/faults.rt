@@ -59,7 +59,7 @@ impl OpenFault {
 pub enum FetchFault {
     /// A call of the medium failed.
     Medium,
-    /// This page, which was read, doesn't have the effect.
+    /// This page, which was read last, doesn't have the effect, or the piece of it that is due.
     Damaged { page: u32 },
     /// Memory is wanting.
     NoMemory,

@@ -1,12 +1,31 @@
-ghost use Rattle.std.specs.Prelude.{◌≡◌, IfOk, IfSome};
+ghost use Rattle.std.specs.Prelude.{◌≡◌, ◌≢◌, ◌<◌, ◌≤◌, ℕ, List, length, IsTrue, IfOk, IfErr, IfSome, false};
+ghost use Rattle.stream_port.specs.Causes.{Rose};
+ghost use Rattle.field_form.specs.Forms.{IsBytes};
+ghost use Rattle.medium_port.specs.Image.{NoMore};
+ghost use Rattle.medium_port.specs.Moment.{LeavesOnly};
 ghost use Rattle.effect_form.specs.Effects.{IsWritten, effect_at};
 ghost use Rattle.version_store.specs.Entries.{number_of};
-ghost use Rattle.version_store.specs.Fetch.{is_back_before, shown, shown_on};
+ghost use Rattle.version_store.specs.Faults.{fails_fetching};
+ghost use Rattle.version_store.specs.Fetch.{LastTells, first_sight, is_back_before, next_sight, sheet_on, shown, shown_alone, shown_in};
+ghost use Rattle.version_store.specs.Found.{Stand};
+ghost use Rattle.version_store.specs.Sights.{Sees, TellsRange, found_of, told_of};
 
-use crate::page_reads::texts_in;
+use crate::faults::FetchFault;
+use crate::page_reads::{add_piece, keep, sheet_in};
+use crate::pieces::Piece;
 use effect_form::{Effect, EffectFault, Place, read};
-use page_gate::PageState;
+use medium_port::Medium;
+use page_gate::{PageState, look};
 use std::alloc::{AllocError, Global};
+
+/// What a page shows at a place.
+#[derive(Drop)]
+pub enum Sight {
+    /// The effect with its back place, or that there is none.
+    Told(Option<(Effect, Option<Place>)>),
+    /// Pieces of the effect. Another is due on the next page.
+    Due(Vec<u8>),
+}
 
 // Whether a back place is before a place, or there is none.
 fn is_before(back: Option<Place>, place: Place) -> bool
@@ -47,25 +66,149 @@ fn effect_here(
     }
 }
 
-/// The effect with its back place that a page in this state has at the place.
-pub fn effect_on(
+// The effect that these bytes are, which stands at this place.
+fn effect_alone(
     alloc: Global,
-    state: &PageState,
+    bytes: &[u8],
     place: Place,
 ) -> Result<Option<(Effect, Option<Place>)>, AllocError>
-    ensures shown { IfOk result (λ o. o ≡ shown_on state.now place) }
+    ensures shown { IfOk result (λ o. o ≡ shown_alone place (effect_at bytes.now)) }
+    ensures small { IsBytes bytes.now }
     ensures in_range { IfOk result (λ o. IfSome o (λ w. IsWritten w)) }
 {
-    let PageState::Gated(body) = state else {
-        return Ok(None);
-    };
-    let Some(texts) = texts_in(body) else {
-        return Ok(None);
-    };
-    if place.offset < 4 {
-        return Ok(None);
+    match read(alloc, bytes) {
+        Err(EffectFault::Form { .. }) => Ok(None),
+        Err(EffectFault::NoMemory) => Err(AllocError),
+        Ok((effect, back, count)) => {
+            if count < bytes.len() {
+                return Ok(None);
+            }
+            if is_before(back, place) {
+                Ok(Some((effect, back)))
+            } else {
+                Ok(None)
+            }
+        }
     }
-    let start = (place.offset as usize - 4).min(texts.len());
-    let found = effect_here(alloc, &texts[start..], place)?;
-    Ok(found)
+}
+
+// What the place's page shows.
+fn look_first(alloc: Global, state: &PageState, place: Place) -> Result<Sight, AllocError>
+    ensures sees { IfOk result (λ s. Sees s (first_sight place (sheet_on state.now))) }
+    ensures in_range { IfOk result TellsRange }
+{
+    let PageState::Gated(body) = state else {
+        return Ok(Sight::Told(None));
+    };
+    let Some((piece, from, bytes)) = sheet_in(body) else {
+        return Ok(Sight::Told(None));
+    };
+    match piece {
+        Piece::Whole => {
+            if place.offset < from {
+                return Ok(Sight::Told(None));
+            }
+            let start = ((place.offset - from) as usize).min(bytes.len());
+            let found = effect_here(alloc, &bytes[start..], place)?;
+            Ok(Sight::Told(found))
+        }
+        Piece::First => {
+            if place.offset != 5 {
+                return Ok(Sight::Told(None));
+            }
+            let pieces = keep(alloc, bytes)?;
+            Ok(Sight::Due(pieces))
+        }
+        Piece::Middle | Piece::Last => Ok(Sight::Told(None)),
+    }
+}
+
+// What a page shows behind pieces.
+fn look_next(
+    alloc: Global,
+    pieces: Vec<u8>,
+    state: &PageState,
+    place: Place,
+) -> Result<Sight, AllocError>
+    ensures sees { (front : List ℕ) → Stand pieces.items front → IsBytes front → IfOk result (λ s. Sees s (next_sight front place (sheet_on state.now))) }
+    ensures in_range { IfOk result TellsRange }
+{
+    let mut pieces = pieces;
+    let PageState::Gated(body) = state else {
+        return Ok(Sight::Told(None));
+    };
+    let Some((piece, _, bytes)) = sheet_in(body) else {
+        return Ok(Sight::Told(None));
+    };
+    match piece {
+        Piece::Whole | Piece::First => Ok(Sight::Told(None)),
+        Piece::Middle => {
+            add_piece(&mut pieces, bytes)?;
+            Ok(Sight::Due(pieces))
+        }
+        Piece::Last => {
+            add_piece(&mut pieces, bytes)?;
+            let found = effect_alone(alloc, &pieces, place)?;
+            Ok(Sight::Told(found))
+        }
+    }
+}
+
+// What was told, or the page that told that there is none.
+fn answer(told: Option<(Effect, Option<Place>)>, page: u32) -> Result<(Effect, Option<Place>), u32>
+    ensures found { found_of result ≡ told }
+    ensures page { told_of result page }
+    ensures in_range { IfSome told (λ w. IsWritten w) → IfOk result (λ w. IsWritten w) }
+{
+    match told {
+        None => Err(page),
+        Some(found) => Ok(found),
+    }
+}
+
+/// Looks for the effect at a place, on its page and those behind it. Err has the page that was read
+/// last: the effect isn't there, or a piece of it that is due.
+pub fn find<M: Medium>(
+    alloc: Global,
+    medium: &mut M,
+    pages: u32,
+    place: Place,
+) -> Result<Result<(Effect, Option<Place>), u32>, FetchFault>
+    requires pages { pages ≡ M.page_count medium.old }
+    requires page { place.page < pages }
+    requires open { M.is_failed medium.old ≡ false }
+    ensures found { IsTrue M.tells → length (M.reads medium.old) ≡ pages → IfOk result (λ r. found_of r ≡ shown_in (M.reads medium.old) place) }
+    ensures tells { IfOk result (λ r. (page : ℕ) × told_of r page × LastTells (M.last_page medium.new) pages page place (found_of r)) }
+    ensures in_range { IfOk result (λ r. IfOk r (λ w. IsWritten w)) }
+    ensures reads { IsTrue M.tells → M.reads medium.new ≡ M.reads medium.old }
+    ensures crash { IsTrue M.tells → NoMore (M.may_leave medium.old) (M.may_leave medium.new) }
+    ensures any_moment { IsTrue M.tells → LeavesOnly M.moment M.left_since medium.old medium.new (M.may_leave medium.old) }
+    ensures size { M.page_count medium.new ≡ M.page_count medium.old }
+    ensures state { M.is_failed medium.new ≡ fails_fetching result }
+    ensures no_damage { IfErr result (λ f. (page : ℕ) → f ≢ FetchFault.Damaged page) }
+    ensures later { M.faults medium.old ≤ M.faults medium.new }
+    ensures failed { IfErr result (λ f. f ≡ FetchFault.Medium → Rose (M.faults medium.old) (M.faults medium.new)) }
+{
+    let sight = match look(medium, place.page) {
+        Err(_) => return Err(FetchFault::Medium),
+        Ok(state) => match look_first(alloc, &state, place) {
+            Err(_) => return Err(FetchFault::NoMemory),
+            Ok(sight) => sight,
+        },
+    };
+    let mut pieces = match sight {
+        Sight::Told(told) => return Ok(answer(told, place.page)),
+        Sight::Due(pieces) => pieces,
+    };
+    for page in place.page + 1..pages {
+        match look(medium, page) {
+            Err(_) => return Err(FetchFault::Medium),
+            Ok(state) => match look_next(alloc, pieces, &state, place) {
+                Err(_) => return Err(FetchFault::NoMemory),
+                Ok(Sight::Told(told)) => return Ok(answer(told, page)),
+                Ok(Sight::Due(more)) => pieces = more,
+            },
+        }
+    }
+    Ok(Err(pages - 1))
 }

@@ -1,12 +1,12 @@
-ghost use Rattle.std.specs.Prelude.{◌≡◌, ◌+◌, ◌++◌, [], ◌∷◌, ℕ, ◌<◌, ◌≤◌, List, IfSome, Ok, Some, length, take};
+ghost use Rattle.std.specs.Prelude.{◌≡◌, ◌+◌, ◌*◌, ◌++◌, [], ◌∷◌, ℕ, ◌<◌, ◌≤◌, List, IfSome, Ok, Some, length, take};
 ghost use Rattle.medium_port.specs.Image.{Image, IsImage};
 ghost use Rattle.value_form.specs.declared.objects.ObjectId.{ObjectId};
 ghost use Rattle.effect_form.specs.declared.effects.Effect.{Effect};
 ghost use Rattle.effect_form.specs.declared.effects.Place.{Place};
 ghost use Rattle.version_store.specs.Entries.{Entry, IsBefore, IsIn, Log, back_in, last_put};
 ghost use Rattle.version_store.specs.Fetch.{BackStands, IsLastPut};
-ghost use Rattle.version_store.specs.Filling.{HasPrefix, KeepsPages, StaysClean, filling, joined};
-ghost use Rattle.effect_form.specs.Effects.{IsEffect, AreEffects};
+ghost use Rattle.version_store.specs.Filling.{HasPrefix, KeepsPages, StaysClean, filling, joined, pages_apart};
+ghost use Rattle.effect_form.specs.Effects.{AreEffects, size_of};
 ghost use Rattle.version_store.specs.Storage.{log_of, storage};
 
 /// A law: what is read of an image that a crash of an append left is the log with a prefix of the
@@ -40,10 +40,12 @@ pub fn places_have_effects()
     ensures back { (n : ℕ) (image : Image) (e : Entry) (i : ℕ) → IsImage n image → IsIn (log_of image) e i → BackStands (log_of image) (e.effect, e.back) }
 {}
 
-/// A law: effects fill no more pages than they are, and one fills one.
+/// A law: effects fill no more pages than each of them alone, which are at most seventeen, and one for
+/// an effect that is no longer than a page.
 pub fn effects_fill_few_pages()
-    ensures most { (effects : List Effect) → AreEffects effects → length (filling effects) ≤ length effects }
-    ensures one { (effect : Effect) → IsEffect effect → length (filling (effect ∷ [])) ≡ 1 }
+    ensures apart { (effects : List Effect) → length (filling effects) ≤ pages_apart effects }
+    ensures most { (effects : List Effect) → AreEffects effects → length (filling effects) ≤ 17 * length effects }
+    ensures one { (effect : Effect) → size_of effect ≤ 4091 → length (filling (effect ∷ [])) ≡ 1 }
 {}
 
 /// A law: where pages that weren't blank are kept and no blank one is spoiled, by one run of pages and

@@ -8,6 +8,7 @@ mod laws;
 mod layouts;
 mod openings;
 mod page_reads;
+mod pieces;
 mod sizes;
 mod stores;
 mod writes;

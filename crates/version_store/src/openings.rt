@@ -6,12 +6,12 @@ ghost use Rattle.page_gate.specs.States.{is_blank};
 ghost use Rattle.page_gate.specs.declared.pages.PageState.TheVariants.{Blank};
 ghost use Rattle.version_store.specs.Faults.{fails_reading};
 ghost use Rattle.effect_form.specs.Effects.{AreEffects};
-ghost use Rattle.version_store.specs.Found.{Reached, reading_of};
+ghost use Rattle.version_store.specs.Found.{HeldBelow, HeldFit, Reached, reading_of};
 ghost use Rattle.version_store.specs.Heads.{AreBelow, ArePlaces, IsFound};
 ghost use Rattle.version_store.specs.Storage.{Content, Damaged, begun, next, scan};
 
 use crate::faults::OpenFault;
-use crate::page_reads::add_page;
+use crate::page_reads::{Held, add_page};
 use effect_form::{Effect, Place};
 use medium_port::Medium;
 use page_gate::{PageState, look};
@@ -24,6 +24,8 @@ use value_form::ObjectId;
 pub struct Found {
     pub heads: BTreeMap<ObjectId, Place>,
     pub effects: Vec<Effect>,
+    /// An effect that was begun on the last page.
+    pub held: Option<Held>,
     /// The page behind the last that isn't blank.
     pub next: u32,
     /// Whether a blank page was read.
@@ -38,10 +40,13 @@ fn add_state(
     state: &PageState,
 ) -> Result<bool, AllocError>
     requires page { page < 1048576 }
+    requires held { HeldBelow page found.old.held }
     requires places { ArePlaces found.old.heads }
-    ensures found { (c : Content) → IsFound found.old.heads found.old.effects.items c.log →
+    ensures found { (c : Content) → IsFound found.old.heads found.old.effects.items c.log → HeldFit found.old.held c.held →
         IfOk result (λ b. MatchBool b ((more : Content) × (next (reading_of found.old.ended c) page state.now ≡ reading_of found.new.ended more) ×
-        IsFound found.new.heads found.new.effects.items more.log) (next (reading_of found.old.ended c) page state.now ≡ Damaged page)) }
+        IsFound found.new.heads found.new.effects.items more.log × HeldFit found.new.held more.held)
+        (next (reading_of found.old.ended c) page state.now ≡ Damaged page)) }
+    ensures held { OnOk result (HeldBelow (page + 1) found.new.held) }
     ensures next { IfOk result (λ b. b ≡ true → found.new.next ≡ (if found.new.ended then found.old.next else page + 1)) }
     ensures marked { IfOk result (λ b. b ≡ false → state.now ≢ Blank) }
     ensures places { OnOk result (ArePlaces found.new.heads) }
@@ -58,6 +63,7 @@ fn add_state(
                 return Ok(false);
             }
             found.next = page + 1;
+            found.held = None;
             Ok(true)
         }
         PageState::Gated(body) => {
@@ -65,8 +71,21 @@ fn add_state(
                 return Ok(false);
             }
             found.next = page + 1;
-            let good = add_page(alloc, &mut found.heads, &mut found.effects, page, body)?;
-            Ok(good)
+            let held = found.held.take();
+            match add_page(
+                alloc,
+                &mut found.heads,
+                &mut found.effects,
+                held,
+                page,
+                body,
+            )? {
+                None => Ok(false),
+                Some(held) => {
+                    found.held = held;
+                    Ok(true)
+                }
+            }
         }
     }
 }
@@ -77,7 +96,7 @@ pub fn read_pages<M: Medium>(alloc: Global, medium: &mut M, pages: u32) -> Resul
     requires most { pages ≤ 1048576 }
     requires open { M.is_failed medium.old ≡ false }
     ensures found { IsTrue M.tells → length (M.reads medium.old) ≡ pages →
-        IfOk result (λ f. Reached (M.reads medium.old) pages f.heads f.effects.items f.next f.ended) }
+        IfOk result (λ f. Reached (M.reads medium.old) pages f.heads f.effects.items f.held f.next f.ended) }
     ensures damaged { IsTrue M.tells → length (M.reads medium.old) ≡ pages →
         IfErr result (λ e. (page : ℕ) → e ≡ OpenFault.Damaged page → scan begun 0 (M.reads medium.old) ≡ Damaged page) }
     ensures shown { IfErr result (λ e. (page : ℕ) → e ≡ OpenFault.Damaged page → (bytes : List ℕ) × (M.last_page medium.new ≡ Some (page, bytes)) ×
@@ -97,6 +116,7 @@ pub fn read_pages<M: Medium>(alloc: Global, medium: &mut M, pages: u32) -> Resul
     let mut found = Found {
         heads: BTreeMap::new(alloc),
         effects: Vec::new(alloc),
+        held: None,
         next: 0,
         ended: false,
     };

@@ -1,5 +1,5 @@
 ghost use Rattle.std.specs.Prelude.{◌≡◌, ◌≢◌, [], ◌+◌, ℕ, ◌<◌, ◌≤◌, ◌++◌, IsTrue, List, Ok, Err, Some, None, count_by, length, false, IfOk, IfErr, IfSome, OnOk, OnErr};
-ghost use Rattle.stream_port.specs.Causes.{Rose};
+ghost use Rattle.stream_port.specs.Causes.{Rose, next_count};
 ghost use Rattle.medium_port.specs.Image.{Image, Only, NoMore};
 ghost use Rattle.medium_port.specs.Moment.{LeavesOnly};
 ghost use Rattle.page_gate.specs.States.{is_blank};
@@ -8,23 +8,30 @@ ghost use Rattle.version_store.specs.Entries.{Entry, IsBefore, IsIn, Log, last_p
 ghost use Rattle.version_store.specs.Storage.{entries, storage, log_of};
 ghost use Rattle.version_store.specs.Filling.{HasPrefix, KeepsPages, StaysClean, filling};
 ghost use Rattle.version_store.specs.Faults.{fails_opening, fails_adding, fails_fetching};
-ghost use Rattle.version_store.specs.Fetch.{BackStands, IsLastPut, LastShows, StandsAt, damage_after};
+ghost use Rattle.version_store.specs.Fetch.{BackStands, IsLastPut, LastTells, StandsAt, damage_after};
 ghost use Rattle.version_store.specs.Heads.{AreBelow, ArePlaces, HeadsFit};
 ghost use Rattle.version_store.specs.Laying.{IsAtRest};
 ghost use Rattle.version_store.specs.Settled.{IsSettled};
 
 use crate::faults::{FetchFault, OpenFault, StoreFault};
-use crate::fetches::effect_on;
+use crate::fetches::find;
 use crate::layouts::lay_out;
 use crate::openings::{Found, read_pages};
 use crate::sizes::pages_filled;
 use crate::writes::write_pages;
 use effect_form::{Effect, Place};
 use medium_port::Medium;
-use page_gate::look;
 use std::alloc::Global;
 use std::collections::BTreeMap;
 use value_form::ObjectId;
+
+// One more.
+fn counted(damage: u64) -> u64
+    ensures is { result ≡ next_count damage }
+    ensures more { damage ≤ result }
+{
+    damage.saturating_add(1)
+}
 
 /// A log of effects on a medium (Svobodova 1981: version storage is only appended to). Where the
 /// medium tells its content, the log is the one that its pages stand for, and a crash leaves it.
@@ -56,7 +63,8 @@ impl<M: Medium> Store<M> {
     /// Opens a medium: syncs it, reads every page once, and gives its effects. It writes nothing, and
     /// a refusal hands the medium back.
     ///
-    /// `Damaged` comes exactly where a page is gated and isn't a page of whole effects, or has a Put
+    /// `Damaged` comes exactly where a page is gated and isn't in the form of a page, or has a middle or
+    /// last piece without those before it, or a last one with which they aren't one effect, or ends a Put
     /// whose back place isn't that of its object's Put before it, or isn't blank and stands behind a
     /// blank one. It is the first such page, and the last that was read.
     pub fn open(alloc: Global, mut medium: M) -> Result<(Store<M>, Vec<Effect>), (M, OpenFault)>
@@ -100,6 +108,7 @@ impl<M: Medium> Store<M> {
                         let Found {
                             heads,
                             effects,
+                            held: _,
                             next,
                             ended: _,
                         } = found;
@@ -118,12 +127,13 @@ impl<M: Medium> Store<M> {
         }
     }
 
-    /// Adds the effects in order. A page takes as many of them as fit whole, and none of a call before.
-    /// A refusal hands the medium back. No effects touch no medium.
+    /// Adds the effects in order. A page takes as many of them as fit whole, and none of a call before;
+    /// one that is longer than a page has pages of its own. A refusal hands the medium back. No effects
+    /// touch no medium.
     ///
-    /// A crash at any moment leaves the log with the effects of the first of the call's pages. `Full`
-    /// comes exactly where the effects need more pages than are blank; it and `NoMemory` come before
-    /// anything is written.
+    /// A crash at any moment leaves the log with the effects that stand whole in the first of the
+    /// call's pages. `Full` comes exactly where the effects need more pages than are blank; it and
+    /// `NoMemory` come before anything is written.
     pub fn append(self, effects: &[Effect]) -> Result<Store<M>, (M, StoreFault)>
         requires open { M.is_failed (medium_of self) ≡ false }
         requires ranges { AreEffects effects.now }
@@ -132,6 +142,8 @@ impl<M: Medium> Store<M> {
         ensures added { IsTrue M.tells → IfOk result (λ s. effects_in M.reads s ≡ effects_in M.reads self ++ effects.now) }
         ensures log { IsTrue M.tells → IfOk result (λ s. (more : Log) × (log_in M.reads s ≡ log_in M.reads self ++ more)) }
         ensures left { IfOk result (λ s. left_in s + length (filling effects.now) ≡ left_in self) }
+        ensures used { IsTrue M.tells → IfOk result (λ s.
+            count_by is_blank (M.reads (medium_of s)) + length (filling effects.now) ≡ count_by is_blank (M.reads (medium_of self))) }
         ensures only { IsTrue M.tells → IfOk result (λ s. Only (M.reads (medium_of s)) (M.may_leave (medium_of s))) }
 
         // Each image that is left has a prefix, at every moment.
@@ -172,7 +184,7 @@ impl<M: Medium> Store<M> {
             mut heads,
             damage,
         } = self;
-        if needed > (pages - next) as usize {
+        if needed > (pages - next) as u128 {
             return Err((medium, StoreFault::Full { pages }));
         }
         match lay_out(alloc, &mut heads, next, effects) {
@@ -193,9 +205,10 @@ impl<M: Medium> Store<M> {
 
     /// The effect at a place, and the back place of a Put. After `Medium` the store is only released.
     ///
-    /// `Damaged` comes exactly where the page was read and doesn't have an effect there, or one whose
-    /// back place isn't before the place. The count of damage rises there and in no other call. It
-    /// never comes where the medium tells its content.
+    /// `Damaged` comes exactly where the page that was read last doesn't have an effect there, or the
+    /// piece of it that is due, or where one whose back place isn't before the place ends on it. It has
+    /// that page's number. The count of damage rises there and in no other call. It never comes where
+    /// the medium tells its content.
     pub fn fetch(&mut self, place: Place) -> Result<(Effect, Option<Place>), FetchFault>
         requires page { place.page < M.page_count (medium_of self.old) }
         requires open { M.is_failed (medium_of self.old) ≡ false }
@@ -207,10 +220,11 @@ impl<M: Medium> Store<M> {
         ensures back { IsTrue M.tells → IfOk result (λ r. BackStands (log_in M.reads self.new) (r.0, r.1)) }
         ensures sound { IsTrue M.tells → IfErr result (λ f. (page : ℕ) → f ≢ FetchFault.Damaged page) }
 
-        // Over every medium it is what the page shows that was read, and Damaged says that this is none.
-        ensures shown { IfOk result (λ r. LastShows (M.last_page (medium_of self.new)) place (Some (r.0, r.1))) }
-        ensures damaged { IfErr result (λ f. (page : ℕ) → f ≡ FetchFault.Damaged page → (page ≡ place.page) ×
-            LastShows (M.last_page (medium_of self.new)) place None) }
+        // Over every medium it is what the page tells that was read last, and Damaged says that this is none.
+        ensures shown { IfOk result (λ r. (page : ℕ) ×
+            LastTells (M.last_page (medium_of self.new)) (M.page_count (medium_of self.new)) page place (Some (r.0, r.1))) }
+        ensures damaged { IfErr result (λ f. (page : ℕ) → f ≡ FetchFault.Damaged page →
+            LastTells (M.last_page (medium_of self.new)) (M.page_count (medium_of self.new)) page place None) }
         ensures before { IfOk result (λ r. IfSome r.1 (λ b. IsBefore b place × (b.page < M.page_count (medium_of self.new)))) }
         // It can be stored again.
         ensures in_range { IfOk result (λ r. IsWritten r) }
@@ -227,16 +241,13 @@ impl<M: Medium> Store<M> {
         ensures later { M.faults (medium_of self.old) ≤ M.faults (medium_of self.new) }
         ensures failed { IfErr result (λ f. f ≡ FetchFault.Medium → Rose (M.faults (medium_of self.old)) (M.faults (medium_of self.new))) }
     {
-        match look(&mut self.medium, place.page) {
-            Err(_) => Err(FetchFault::Medium),
-            Ok(state) => match effect_on(self.alloc, &state, place) {
-                Err(_) => Err(FetchFault::NoMemory),
-                Ok(Some(found)) => Ok(found),
-                Ok(None) => {
-                    self.damage = self.damage.saturating_add(1);
-                    Err(FetchFault::Damaged { page: place.page })
-                }
-            },
+        match find(self.alloc, &mut self.medium, self.pages, place) {
+            Err(fault) => Err(fault),
+            Ok(Ok(found)) => Ok(found),
+            Ok(Err(page)) => {
+                self.damage = counted(self.damage);
+                Err(FetchFault::Damaged { page })
+            }
         }
     }
 

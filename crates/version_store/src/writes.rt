@@ -5,7 +5,7 @@ ghost use Rattle.medium_port.specs.Moment.{LeavesOnly};
 ghost use Rattle.page_gate.specs.States.{is_blank};
 ghost use Rattle.version_store.specs.Entries.{Log};
 ghost use Rattle.version_store.specs.Filling.{StaysClean};
-ghost use Rattle.version_store.specs.Laying.{Grows, IsAtRest, IsBody, PagesFit, all_of, body_of, bytes_of};
+ghost use Rattle.version_store.specs.Laying.{Grows, IsAtRest, IsBody, Laid, PagesFit, all_of, body_of, bytes_of};
 ghost use Rattle.version_store.specs.Storage.{begun, scan};
 
 use medium_port::{Medium, MediumFault};
@@ -22,10 +22,10 @@ pub fn write_pages<M: Medium>(
     requires open { M.is_failed medium.old ≡ false }
     requires bodies { All IsBody bodies.now }
     requires blank { IsTrue M.tells → list_all is_blank (drop first (M.reads medium.old)) ≡ true }
-    ensures any_moment { IsTrue M.tells → (log : Log) (pages : List Log) → IsAtRest log first (M.reads medium.old) (M.may_leave medium.old) →
+    ensures any_moment { IsTrue M.tells → (log : Log) (pages : List Laid) → IsAtRest log first (M.reads medium.old) (M.may_leave medium.old) →
         PagesFit (scan begun 0 (take first (M.reads medium.old))) log first pages → bytes_of bodies.now ≡ map body_of pages
         → LeavesOnly M.moment M.left_since medium.old medium.new (Grows (M.reads medium.old) log pages) }
-    ensures all { IsTrue M.tells → (log : Log) (pages : List Log) → IsAtRest log first (M.reads medium.old) (M.may_leave medium.old) →
+    ensures all { IsTrue M.tells → (log : Log) (pages : List Laid) → IsAtRest log first (M.reads medium.old) (M.may_leave medium.old) →
         PagesFit (scan begun 0 (take first (M.reads medium.old))) log first pages → bytes_of bodies.now ≡ map body_of pages
         → OnOk result (IsAtRest (log ++ all_of pages) (first + length bodies.now) (M.reads medium.new) (M.may_leave medium.new)) }
     ensures clean { IsTrue M.tells → OnOk result (StaysClean (M.reads medium.old) (M.reads medium.new)) }

@@ -12,5 +12,6 @@ mod takens;
 mod wires;
 
 pub use flags::Standing;
+pub use sendings::send_all;
 pub use takens::Taken;
 pub use wires::Wire;

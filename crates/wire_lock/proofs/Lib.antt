@@ -2,3 +2,4 @@ pub mod SightLemmas
 pub mod DecisionLemmas
 pub mod StoryLemmas
 pub mod Crosses
+mod UntoldLemmas

@@ -99,16 +99,16 @@ goes-on script plan asked t e new legal rule sends numbers = record {
 
 -- ---- pasts
 
-pub past-none : (script : List ℕ → Tree) → HasPast script (λ n. [])
-past-none script = ([], tt, λ n. refl)
+pub past-none : (read : Plan → List ℕ → Tree) → HasPast read (λ n. [])
+past-none read = ([], tt, λ n. refl)
 
-call-agrees : (script : List ℕ → Tree) (logs others : NodeId → List Effect) (c : Call) → ((n : NodeId) → logs n ≡ others n) → IsCall script logs c → IsCall script others c
-call-agrees script logs others c same h = record { agrees = λ n log at. h.agrees n log at ∙ same n; legal = h.legal; opened = h.opened }
+call-agrees : (read : Plan → List ℕ → Tree) (logs others : NodeId → List Effect) (c : Call) → ((n : NodeId) → logs n ≡ others n) → IsCall read logs c → IsCall read others c
+call-agrees read logs others c same h = record { agrees = λ n log at. h.agrees n log at ∙ same n; legal = h.legal; opened = h.opened }
 
-pub past-more : (script : List ℕ → Tree) (logs after : NodeId → List Effect) (c : Call) → HasPast script logs → IsCall script logs c
-    → ((n : NodeId) → in_plan c.plan n ≡ true → after n ≡ log_left script c n) → ((n : NodeId) → in_plan c.plan n ≡ false → after n ≡ logs n) → HasPast script after
-past-more script logs after c past call mine others = (c ∷ past.0, (past.1, call-agrees script logs (logs_after script past.0) c past.2 call), λ n. left n (in_plan c.plan n) refl)
+pub past-more : (read : Plan → List ℕ → Tree) (logs after : NodeId → List Effect) (c : Call) → HasPast read logs → IsCall read logs c
+    → ((n : NodeId) → in_plan c.plan n ≡ true → after n ≡ log_left read c n) → ((n : NodeId) → in_plan c.plan n ≡ false → after n ≡ logs n) → HasPast read after
+past-more read logs after c past call mine others = (c ∷ past.0, (past.1, call-agrees read logs (logs_after read past.0) c past.2 call), λ n. left n (in_plan c.plan n) refl)
   where
-    left : (n : NodeId) (t : Bool) → in_plan c.plan n ≡ t → after n ≡ logs_after script (c ∷ past.0) n
-    left n true h = mine n h ∙ sym (ap (λ t. if t then log_left script c n else logs_after script past.0 n) h)
-    left n false h = others n h ∙ past.2 n ∙ sym (ap (λ t. if t then log_left script c n else logs_after script past.0 n) h)
+    left : (n : NodeId) (t : Bool) → in_plan c.plan n ≡ t → after n ≡ logs_after read (c ∷ past.0) n
+    left n true h = mine n h ∙ sym (ap (λ t. if t then log_left read c n else logs_after read past.0 n) h)
+    left n false h = others n h ∙ past.2 n ∙ sym (ap (λ t. if t then log_left read c n else logs_after read past.0 n) h)

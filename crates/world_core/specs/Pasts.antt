@@ -6,6 +6,7 @@ use Rattle.effect_form.specs.declared.effects.Effect.{Effect}
 use Rattle.stream_port.specs.declared.fates.Asked.{Asked}
 use Rattle.serial_model.specs.Questions.{Tree}
 use Rattle.plan_form.specs.declared.plans.Plan.{Plan}
+use Rattle.broker_core.specs.Readings.{reading}
 use Rattle.world_core.specs.declared.entries.Entry.{Entry}
 use Rattle.world_core.specs.declared.entries.Entry.TheVariants.{Down}
 use Rattle.pseudo_time.specs.declared.down_causes.DownCause.{DownCause}
@@ -21,18 +22,25 @@ pub record Call : Type 0 where
   pub trace : Trace
   pub kept : NodeId → ℕ
 
+-- How the scripts of each plan are read is a parameter of a past: all plans by one reading, or each by the reading of its own acts.
+abbrev pub alike : (List ℕ → Tree) → Plan → List ℕ → Tree
+alike script plan = script
+
+abbrev pub own_reading : Plan → List ℕ → Tree
+own_reading plan = reading plan.acts
+
 -- a node's life at the end of a run
-abbrev pub last_life : (List ℕ → Tree) → Call → NodeId → Life
-last_life script c n = (walk (base_of script c.plan c.trace) c.trace.entries).life n
+abbrev pub last_life : (Plan → List ℕ → Tree) → Call → NodeId → Life
+last_life read c n = (walk (base_of (read c.plan) c.plan c.trace) c.trace.entries).life n
 
 -- what a run left of a node's log
-abbrev pub log_left : (List ℕ → Tree) → Call → NodeId → List Effect
-log_left script c n = (last_life script c n).gated ++ take (c.kept n) (last_life script c n).fresh
+abbrev pub log_left : (Plan → List ℕ → Tree) → Call → NodeId → List Effect
+log_left read c n = (last_life read c n).gated ++ take (c.kept n) (last_life read c n).fresh
 
 -- the logs after these runs, the last run first
-abbrev pub logs_after : (List ℕ → Tree) → List Call → NodeId → List Effect
-logs_after script [] n = []
-logs_after script (c ∷ cs) n = if in_plan c.plan n then log_left script c n else logs_after script cs n
+abbrev pub logs_after : (Plan → List ℕ → Tree) → List Call → NodeId → List Effect
+logs_after read [] n = []
+logs_after read (c ∷ cs) n = if in_plan c.plan n then log_left read c n else logs_after read cs n
 
 -- nodes were opened with the logs so far
 abbrev pub OpenedWith : List Opened → (NodeId → List Effect) → Type 0
@@ -43,15 +51,15 @@ abbrev pub WasNotOpened : List Entry → NodeId → Type 0
 WasNotOpened es n = ((cause : DownCause) × Has (Down n cause) es) × Every (λ e. is_down e ≡ true) es
 
 -- a legal run over these logs, in which each node was opened
-pub record IsCall (script : List ℕ → Tree) (logs : NodeId → List Effect) (c : Call) : Type 0 where
+pub record IsCall (read : Plan → List ℕ → Tree) (logs : NodeId → List Effect) (c : Call) : Type 0 where
   pub agrees : OpenedWith c.trace.opened logs
-  pub legal : Legal script c.plan c.asked c.trace
+  pub legal : Legal (read c.plan) c.plan c.asked c.trace
   pub opened : (n : NodeId) → in_plan c.plan n ≡ true → WasNotOpened c.trace.entries n → ⊥
 
-abbrev pub AreCalls : (List ℕ → Tree) → List Call → Type 0
-AreCalls script [] = Unit {0}
-AreCalls script (c ∷ cs) = AreCalls script cs × IsCall script (logs_after script cs) c
+abbrev pub AreCalls : (Plan → List ℕ → Tree) → List Call → Type 0
+AreCalls read [] = Unit {0}
+AreCalls read (c ∷ cs) = AreCalls read cs × IsCall read (logs_after read cs) c
 
 -- the logs come from empty ones by runs of this program
-abbrev pub HasPast : (List ℕ → Tree) → (NodeId → List Effect) → Type 0
-HasPast script logs = (cs : List Call) × AreCalls script cs × ((n : NodeId) → logs n ≡ logs_after script cs n)
+abbrev pub HasPast : (Plan → List ℕ → Tree) → (NodeId → List Effect) → Type 0
+HasPast read logs = (cs : List Call) × AreCalls read cs × ((n : NodeId) → logs n ≡ logs_after read cs n)

@@ -1,5 +1,6 @@
 -- Traces of a plan by the plan alone: what its scripts ask and say is what the reading of its acts says. And logs that earlier runs left.
-use Rattle.std.specs.Prelude.{◌≡◌, true, List, [], ◌∷◌, if◌then◌else◌}
+use Rattle.std.specs.Prelude.{◌≡◌, true, List}
+use Rattle.pseudo_time.specs.Lists.{Every}
 use Rattle.pseudo_time.specs.declared.nodes.NodeId.{NodeId}
 use Rattle.effect_form.specs.declared.effects.Effect.{Effect}
 use Rattle.stream_port.specs.declared.fates.Asked.{Asked}
@@ -9,7 +10,7 @@ use Rattle.broker_core.specs.Readings.{reading}
 use Rattle.world_core.specs.declared.traces.Trace.{Trace}
 use Rattle.world_core.specs.Walks.{World, Life, walk}
 use Rattle.world_core.specs.Legal.{Legal, base_of, in_plan}
-use Rattle.world_core.specs.Pasts.{Call, OpenedWith, WasNotOpened, log_left}
+use Rattle.world_core.specs.Pasts.{AreCalls, Call, WasNotOpened, logs_after, own_reading}
 
 -- ---- traces of a plan
 
@@ -36,22 +37,10 @@ AllOpened plan t = (n : NodeId) → in_plan plan n ≡ true → WasNotOpened t.e
 
 -- ---- logs that earlier runs left
 
--- a run of a plan of the language over these logs: legal, and each node was opened
-pub record WasRun (logs : NodeId → List Effect) (c : Call) : Type 0 where
-  pub whole : IsOfLanguage c.plan
-  pub agrees : OpenedWith c.trace.opened logs
-  pub legal : IsLegal c.plan c.asked c.trace
-  pub opened : AllOpened c.plan c.trace
-
--- the logs after these runs, the last run first
-unfoldable pub all_left : List Call → NodeId → List Effect
-all_left [] n = []
-all_left (c ∷ cs) n = if in_plan c.plan n then log_left (reading c.plan.acts) c n else all_left cs n
-
+-- these are runs of plans of the language, each over what those before it left
 abbrev pub WereRuns : List Call → Type 0
-WereRuns [] = Unit {0}
-WereRuns (c ∷ cs) = WereRuns cs × WasRun (all_left cs) c
+WereRuns cs = AreCalls own_reading cs × Every (λ (c : Call). IsOfLanguage c.plan) cs
 
 -- the logs come from empty ones by runs of this program
 abbrev pub WereLeft : (NodeId → List Effect) → Type 0
-WereLeft logs = (cs : List Call) × WereRuns cs × ((n : NodeId) → logs n ≡ all_left cs n)
+WereLeft logs = (cs : List Call) × WereRuns cs × ((n : NodeId) → logs n ≡ logs_after own_reading cs n)

@@ -58,8 +58,8 @@ pub fn legal_goes_on()
 
 /// Logs with a past have one after one more run over them.
 pub fn past_goes_on()
-    ensures none { (script : List ℕ → Tree) → HasPast script (λ n. []) }
-    ensures more { (script : List ℕ → Tree) (logs after : NodeId → List Effect) (c : Call) → HasPast script logs → IsCall script logs c
-        → ((n : NodeId) → in_plan c.plan n ≡ true → after n ≡ log_left script c n) → ((n : NodeId) → in_plan c.plan n ≡ false → after n ≡ logs n) →
-        HasPast script after }
+    ensures none { (read : Plan → List ℕ → Tree) → HasPast read (λ n. []) }
+    ensures more { (read : Plan → List ℕ → Tree) (logs after : NodeId → List Effect) (c : Call) → HasPast read logs → IsCall read logs c
+        → ((n : NodeId) → in_plan c.plan n ≡ true → after n ≡ log_left read c n) → ((n : NodeId) → in_plan c.plan n ≡ false → after n ≡ logs n) →
+        HasPast read after }
 {}

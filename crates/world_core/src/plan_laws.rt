@@ -17,7 +17,7 @@ ghost use Rattle.world_core.specs.declared.entries.Entry.{Entry};
 ghost use Rattle.world_core.specs.declared.traces.Trace.{Trace};
 ghost use Rattle.world_core.specs.Legal.{Legal, base_of};
 ghost use Rattle.world_core.specs.Nodes.{acts_of};
-ghost use Rattle.world_core.specs.Pasts.{HasPast};
+ghost use Rattle.world_core.specs.Pasts.{HasPast, alike};
 ghost use Rattle.world_core.specs.Readings.{IsLegal, WereLeft};
 ghost use Rattle.world_core.specs.Walks.{walk};
 
@@ -45,5 +45,5 @@ pub fn readings_walk_alike()
 /// which the logs have a past and a trace that is legal by its plan is legal.
 pub fn one_reading_for_all()
     ensures { (plan : Plan) (asked : List Asked) (t : Trace) (logs : NodeId → List Effect) → IsOfLanguage plan → IsLegal plan asked t → WereLeft logs
-        → (script : List ℕ → Tree) × HasPast script logs × Legal script plan asked t }
+        → (script : List ℕ → Tree) × HasPast (alike script) logs × Legal script plan asked t }
 {}

@@ -22,7 +22,7 @@ use Rattle.world_core.specs.declared.traces.Trace.{Trace}
 use Rattle.world_core.specs.Nodes.{repository, is_ready}
 use Rattle.world_core.specs.Walks.{Base, Life, World, opened_log, sent_by, start_world, walk}
 use Rattle.world_core.specs.Legal.{Meets, AllReady, Legal, base_of, fates_of}
-use Rattle.world_core.specs.Pasts.{Call, log_left, logs_after, OpenedWith, AreCalls, HasPast}
+use Rattle.world_core.specs.Pasts.{Call, log_left, logs_after, OpenedWith, AreCalls, HasPast, alike}
 use Rattle.world_core.proofs.Rules.{meets-front}
 use Rattle.world_facts.specs.Rules.{Around, Later, NodeFacts, Turns, NodeLaws, PastLaws}
 use Rattle.world_facts.specs.Soft.{SoftNode, all_effects, put, crash, kept_log, opened_soft, Soft, around, SoftEvent, happened, Mays, NodeOk, SentOk, Inv}
@@ -158,28 +158,28 @@ module _ (script : List ℕ → Tree) (turns : Turns) (F : NodeFacts) (laws : No
   pub left-nothing : PastLaws script F → Left turns F (λ n. []) [] (PastTick [])
   left-nothing past = record { events = []; may = past.empty; gated = λ n. refl; fresh = λ n. refl; ever = refl; ticked = λ t h. absurd h }
 
-  past-left : PastLaws script F → (cs : List Call) → AreCalls script cs → Left turns F (logs_after script cs) (past_sent script cs) (PastTick cs)
+  past-left : PastLaws script F → (cs : List Call) → AreCalls (alike script) cs → Left turns F (logs_after (alike script) cs) (past_sent (alike script) cs) (PastTick cs)
   past-left past [] h = left-nothing past
   past-left past (c ∷ cs) h =
       let b : Base = base_of script c.plan c.trace in
-      let r : Refines turns F (base_of script c.plan c.trace) (logs_after script cs) (past_sent script cs) (PastTick (c ∷ cs)) (walk (base_of script c.plan c.trace) c.trace.entries) =
-      walk-refines script turns F laws (base_of script c.plan c.trace) (logs_after script cs) (past_sent script cs) (PastTick (c ∷ cs)) refl (fates_of c.trace.sent)
+      let r : Refines turns F (base_of script c.plan c.trace) (logs_after (alike script) cs) (past_sent (alike script) cs) (PastTick (c ∷ cs)) (walk (base_of script c.plan c.trace) c.trace.entries) =
+      walk-refines script turns F laws (base_of script c.plan c.trace) (logs_after (alike script) cs) (past_sent (alike script) cs) (PastTick (c ∷ cs)) refl (fates_of c.trace.sent)
       (start_world (base_of script c.plan c.trace)) c.trace.entries (λ t k. inl k)
-      (opens (base_of script c.plan c.trace) (logs_after script cs) (past_sent script cs) (PastTick cs) (PastTick (c ∷ cs)) (λ t k. inr k) (past-left past cs h.0) h.1.agrees
+      (opens (base_of script c.plan c.trace) (logs_after (alike script) cs) (past_sent (alike script) cs) (PastTick cs) (PastTick (c ∷ cs)) (λ t k. inr k) (past-left past cs h.0) h.1.agrees
       (ready-start past (base_of script c.plan c.trace) refl h.1.legal.ready)) h.1.legal.meets in
-      ends (base_of script c.plan c.trace) (logs_after script cs) (past_sent script cs) (PastTick (c ∷ cs)) (walk (base_of script c.plan c.trace) c.trace.entries) c.kept (logs_after script (c ∷ cs)) r
-      (λ n e. ap (λ t. if t then log_left script c n else logs_after script cs n) (sym (h.1.legal.nodes.just n) ∙ e))
-      (λ n e. ap (λ t. if t then log_left script c n else logs_after script cs n) (sym (h.1.legal.nodes.just n) ∙ e))
+      ends (base_of script c.plan c.trace) (logs_after (alike script) cs) (past_sent (alike script) cs) (PastTick (c ∷ cs)) (walk (base_of script c.plan c.trace) c.trace.entries) c.kept (logs_after (alike script) (c ∷ cs)) r
+      (λ n e. ap (λ t. if t then log_left (alike script) c n else logs_after (alike script) cs n) (sym (h.1.legal.nodes.just n) ∙ e))
+      (λ n e. ap (λ t. if t then log_left (alike script) c n else logs_after (alike script) cs n) (sym (h.1.legal.nodes.just n) ∙ e))
 
   -- a trace over logs with a past
-  pub refined : PastLaws script F → (b : Base) (fates : List Fate) (logs : NodeId → List Effect) (es : List Entry) → b.script ≡ script → (past : HasPast script logs) → OpenedWith b.opened logs → AllReady b →
-      Meets b fates (start_world b) es → Refines turns F b logs (past_sent script past.0) (Ticked past.0 es) (walk b es)
+  pub refined : PastLaws script F → (b : Base) (fates : List Fate) (logs : NodeId → List Effect) (es : List Entry) → b.script ≡ script → (past : HasPast (alike script) logs) → OpenedWith b.opened logs → AllReady b →
+      Meets b fates (start_world b) es → Refines turns F b logs (past_sent (alike script) past.0) (Ticked past.0 es) (walk b es)
   refined start b fates logs es same past agrees ready rules =
-      let l : Left turns F (logs_after script past.0) (past_sent script past.0) (PastTick past.0) = past-left start past.0 past.1 in
-      let left : Left turns F logs (past_sent script past.0) (PastTick past.0) =
+      let l : Left turns F (logs_after (alike script) past.0) (past_sent (alike script) past.0) (PastTick past.0) = past-left start past.0 past.1 in
+      let left : Left turns F logs (past_sent (alike script) past.0) (PastTick past.0) =
       record { events = l.events; may = l.may; gated = λ n. l.gated n ∙ ap reverse (sym (past.2 n)); fresh = l.fresh; ever = l.ever; ticked = l.ticked } in
-      walk-refines script turns F laws b logs (past_sent script past.0) (Ticked past.0 es) same fates (start_world b) es (λ t h. inl h)
-      (opens b logs (past_sent script past.0) (PastTick past.0) (Ticked past.0 es) (λ t h. inr h) left agrees (ready-start start b same ready)) rules
+      walk-refines script turns F laws b logs (past_sent (alike script) past.0) (Ticked past.0 es) same fates (start_world b) es (λ t h. inl h)
+      (opens b logs (past_sent (alike script) past.0) (PastTick past.0) (Ticked past.0 es) (λ t h. inr h) left agrees (ready-start start b same ready)) rules
 
   -- ---- the facts
 
@@ -248,20 +248,20 @@ module _ (script : List ℕ → Tree) (turns : Turns) (F : NodeFacts) (laws : No
   }
 
   -- the facts of a legal trace over logs with a past, at its end and after each of its entries
-  pub legal-facts : PastLaws script F → (plan : Plan) (asked : List Asked) (t : Trace) (logs : NodeId → List Effect) (front rest : List Entry) → (past : HasPast script logs) → OpenedWith t.opened logs →
+  pub legal-facts : PastLaws script F → (plan : Plan) (asked : List Asked) (t : Trace) (logs : NodeId → List Effect) (front rest : List Entry) → (past : HasPast (alike script) logs) → OpenedWith t.opened logs →
       Legal script plan asked t → t.entries ≡ front ++ rest →
-      LogFacts F (base_of script plan t) (logs_at logs (walk (base_of script plan t) front)) (past_sent script past.0) (sent_by (walk (base_of script plan t) front)) (Ticked past.0 front)
+      LogFacts F (base_of script plan t) (logs_at logs (walk (base_of script plan t) front)) (past_sent (alike script) past.0) (sent_by (walk (base_of script plan t) front)) (Ticked past.0 front)
   legal-facts start plan asked t logs front rest past agrees legal here =
-      facts-of (base_of script plan t) logs (past_sent script past.0) (Ticked past.0 front) (walk (base_of script plan t) front)
+      facts-of (base_of script plan t) logs (past_sent (alike script) past.0) (Ticked past.0 front) (walk (base_of script plan t) front)
       (refined start (base_of script plan t) (fates_of t.sent) logs front refl past agrees legal.ready
       (meets-front (base_of script plan t) (fates_of t.sent) (start_world (base_of script plan t)) front rest
       (subst (Meets (base_of script plan t) (fates_of t.sent) (start_world (base_of script plan t))) here legal.meets)))
 
-  pub legal-lives : PastLaws script F → (plan : Plan) (asked : List Asked) (t : Trace) (logs : NodeId → List Effect) (front rest : List Entry) → (past : HasPast script logs) → OpenedWith t.opened logs →
+  pub legal-lives : PastLaws script F → (plan : Plan) (asked : List Asked) (t : Trace) (logs : NodeId → List Effect) (front rest : List Entry) → (past : HasPast (alike script) logs) → OpenedWith t.opened logs →
       Legal script plan asked t → t.entries ≡ front ++ rest →
-      LivesOk F (base_of script plan t) (logs_at logs (walk (base_of script plan t) front)) (past_sent script past.0) (Ticked past.0 front) (walk (base_of script plan t) front)
+      LivesOk F (base_of script plan t) (logs_at logs (walk (base_of script plan t) front)) (past_sent (alike script) past.0) (Ticked past.0 front) (walk (base_of script plan t) front)
   legal-lives start plan asked t logs front rest past agrees legal here =
-      lives-of (base_of script plan t) logs (past_sent script past.0) (Ticked past.0 front) (walk (base_of script plan t) front)
+      lives-of (base_of script plan t) logs (past_sent (alike script) past.0) (Ticked past.0 front) (walk (base_of script plan t) front)
       (refined start (base_of script plan t) (fates_of t.sent) logs front refl past agrees legal.ready
       (meets-front (base_of script plan t) (fates_of t.sent) (start_world (base_of script plan t)) front rest
       (subst (Meets (base_of script plan t) (fates_of t.sent) (start_world (base_of script plan t))) here legal.meets)))

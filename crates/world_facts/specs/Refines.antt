@@ -6,6 +6,7 @@ use Rattle.effect_form.specs.declared.effects.Effect.{Effect}
 use Rattle.message_form.specs.Growth.{Each}
 use Rattle.message_form.specs.Posts.{Post}
 use Rattle.serial_model.specs.Questions.{Tree}
+use Rattle.plan_form.specs.declared.plans.Plan.{Plan}
 use Rattle.world_core.specs.declared.entries.Entry.{Entry}
 use Rattle.world_core.specs.declared.entries.Entry.TheVariants.{Tick}
 use Rattle.world_core.specs.Walks.{Base, Life, World, opened_log, sent_by, walk}
@@ -21,9 +22,9 @@ soft_of l = record { past = reverse l.gated; added = reverse l.fresh; outs = l.o
 -- ---- what earlier runs sent and ticked; the last run first
 
 -- all messages of these runs, the first one first
-abbrev pub past_sent : (List ℕ → Tree) → List Call → List Post
-past_sent script [] = []
-past_sent script (c ∷ cs) = past_sent script cs ++ sent_by (walk (base_of script c.plan c.trace) c.trace.entries)
+abbrev pub past_sent : (Plan → List ℕ → Tree) → List Call → List Post
+past_sent read [] = []
+past_sent read (c ∷ cs) = past_sent read cs ++ sent_by (walk (base_of (read c.plan) c.plan c.trace) c.trace.entries)
 
 -- a Tick with this moment stands in one of them
 abbrev pub PastTick : List Call → ℕ → Type 0

@@ -10,7 +10,7 @@ ghost use Rattle.world_core.specs.declared.entries.Entry.TheVariants.{Tick};
 ghost use Rattle.world_core.specs.declared.traces.Trace.{Trace};
 ghost use Rattle.world_core.specs.Walks.{walk, sent_by};
 ghost use Rattle.world_core.specs.Legal.{Legal, base_of};
-ghost use Rattle.world_core.specs.Pasts.{HasPast, OpenedWith};
+ghost use Rattle.world_core.specs.Pasts.{HasPast, OpenedWith, alike};
 ghost use Rattle.world_facts.specs.Refines.{LogFacts, LivesOk, logs_at, past_sent, Ticked};
 ghost use Rattle.world_facts.specs.NodeRules.{node_facts};
 ghost use Rattle.world_facts.specs.AnyRules.{any_facts, log_opened, log_before};
@@ -20,8 +20,8 @@ ghost use Rattle.world_facts.specs.AnyRules.{any_facts, log_opened, log_before};
 /// of its sender's durable log is true, and no log shows a later run or another plan.
 pub fn facts_of_legal_traces()
     ensures { (script : List ℕ → Tree) (plan : Plan) (asked : List Asked) (t : Trace) (logs : NodeId → List Effect) (front rest : List Entry) →
-        (past : HasPast script logs) → OpenedWith t.opened logs → Legal script plan asked t → t.entries ≡ front ++ rest →
-        LogFacts (node_facts script) (base_of script plan t) (logs_at logs (walk (base_of script plan t) front)) (past_sent script past.0)
+        (past : HasPast (alike script) logs) → OpenedWith t.opened logs → Legal script plan asked t → t.entries ≡ front ++ rest →
+        LogFacts (node_facts script) (base_of script plan t) (logs_at logs (walk (base_of script plan t) front)) (past_sent (alike script) past.0)
         (sent_by (walk (base_of script plan t) front)) (Ticked past.0 front) }
 {}
 
@@ -29,8 +29,8 @@ pub fn facts_of_legal_traces()
 /// closed yet.
 pub fn facts_of_whole_lives()
     ensures { (script : List ℕ → Tree) (plan : Plan) (asked : List Asked) (t : Trace) (logs : NodeId → List Effect) (front rest : List Entry) →
-        (past : HasPast script logs) → OpenedWith t.opened logs → Legal script plan asked t → t.entries ≡ front ++ rest →
-        LivesOk (node_facts script) (base_of script plan t) (logs_at logs (walk (base_of script plan t) front)) (past_sent script past.0)
+        (past : HasPast (alike script) logs) → OpenedWith t.opened logs → Legal script plan asked t → t.entries ≡ front ++ rest →
+        LivesOk (node_facts script) (base_of script plan t) (logs_at logs (walk (base_of script plan t) front)) (past_sent (alike script) past.0)
         (Ticked past.0 front) (walk (base_of script plan t) front) }
 {}
 

@@ -28,7 +28,7 @@ returns-in-Err g c =
     let s = sinking (k.taken c.args.sink.now) (k.taken c.refused-status-in-Err.new.sink) (k.faults c.args.sink.now) (k.faults c.refused-status-in-Err.new.sink) in
     record {
       promise = promise-refused _ c.in-Some-Run.options c.in-Err.stop (subst (λ x. AreWords x (said c.args.words.now)) c.in-Some-Run.field-0-is c.in-Some-Run.ensures.words) c.in-Err.ensures (subst (λ n. RefusedAs c.in-Err.stop n s) (sym q.status) c.refused-status-in-Err.ensures)
-          (λ status is. quiet-call _ status is (q.media ∙ c.new-in-Err.ensures.items) q.trace (ap g.F.Fates.asked q.told.0) (ap g.C.Clock.answers q.told.1)) (λ name is was. absurd (was is));
+          (λ status is. quiet-call _ status is (q.media ∙ c.new-in-Err.ensures.items) refl q.trace (ap g.F.Fates.asked q.told.0) (ap g.C.Clock.answers q.told.1)) (λ name is was. absurd (was is));
     }
 
 pub returns-in-Ok : goal.returns-in-Ok

@@ -1,18 +1,16 @@
 use Rattle.std.proofs.Common.{◌≡◌, ◌+◌, ◌≤◌, ℕ, length, drop}
 use Rattle.std.specs.Prelude.{All}
 use Rattle.version_store.specs.Entries.{Log}
-use Rattle.version_store.specs.Filling.{filling}
+use Rattle.version_store.specs.Filling.{Filled, filling}
 use Rattle.version_store.specs.Heads.{HeadsFit, AreBelow, ArePlaces}
-use Rattle.version_store.specs.Laying.{IsBody, bytes_of}
-use Rattle.version_store.proofs.FillingLemmas.{Filled}
-use Rattle.version_store.proofs.LaidLemmas.{LaidOut}
+use Rattle.version_store.specs.Laying.{IsBody, LaidOut, bytes_of}
 use Rattle.version_store.proofs.layouts.lay_out.Given as goal
 
 abbrev pub invariant-loop-effect : goal.invariant-loop-effect
 invariant-loop-effect l = record {
   at : l.page ≡ l.first + length l.bodies.items;
   filled : Filled l.effects l.effect-index (length l.bodies.items) (length l.texts.items);
-  most : length l.texts.items ≤ 4092;
+  most : length l.texts.items ≤ 4091;
   bodies : All IsBody l.bodies.items;
   places : ArePlaces l.heads;
   below : (limit : ℕ) → l.first + length (filling l.effects) ≤ limit → AreBelow limit l.fn.heads → AreBelow limit l.heads;

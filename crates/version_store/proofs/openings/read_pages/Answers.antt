@@ -1,4 +1,4 @@
-use Rattle.std.proofs.Common.{rules, refl, ◌≡◌, ◌+◌, ◌<◌, ◌≤◌, Bool, true, false, cond, ℕ, List, [], length, get_or, sym, ◌∙◌, ap, subst, arith}
+use Rattle.std.proofs.Common.{rules, refl, ◌≡◌, ◌+◌, ◌<◌, ◌≤◌, Bool, true, false, cond, ℕ, Option, List, [], length, get_or, sym, ◌∙◌, ap, subst, arith}
 use Rattle.std.specs.Prelude.{MatchBool}
 use Rattle.medium_port.specs.Image.{Image}
 use Rattle.medium_port.specs.Moment.{joins, stays}
@@ -7,7 +7,8 @@ use Rattle.page_gate.specs.declared.pages.PageState.{PageState}
 use Rattle.effect_form.specs.declared.effects.Effect.{Effect}
 use Rattle.effect_form.specs.Effects.{AreEffects}
 use Rattle.version_store.specs.declared.faults.OpenFault.TheVariants as faults
-use Rattle.version_store.specs.Found.{reading_of}
+use Rattle.version_store.specs.Found.{HeldFit, reading_of}
+use Rattle.version_store.specs.declared.page_reads.Held.{Held}
 use Rattle.version_store.specs.Heads.{Heads, IsFound}
 use Rattle.version_store.specs.Storage.{Content, content_of, Reading, Damaged, next}
 use Rattle.version_store.proofs.ScanLemmas.{scan_more, scan_damaged}
@@ -21,12 +22,12 @@ cond_low : (b : Bool) (m n : ℕ) → m ≤ n → cond b m n ≤ n
 cond_low true m n le = le
 cond_low false m n le = omega arith
 
-module _ (b : Bool) (reading : Reading) (ended : Bool) (heads : Heads) (effects : List Effect) (page : ℕ) where
-  when_good : b ≡ true → MatchBool b ((more : Content) × (reading ≡ reading_of ended more) × IsFound heads effects more.log) (reading ≡ Damaged page) → (more : Content) × (reading ≡ reading_of ended more) × IsFound heads effects more.log
-  when_good is met = subst (λ (q : Bool). MatchBool q ((more : Content) × (reading ≡ reading_of ended more) × IsFound heads effects more.log) (reading ≡ Damaged page)) is met
+module _ (b : Bool) (reading : Reading) (ended : Bool) (heads : Heads) (effects : List Effect) (held : Option Held) (page : ℕ) where
+  when_good : b ≡ true → MatchBool b ((more : Content) × (reading ≡ reading_of ended more) × IsFound heads effects more.log × HeldFit held more.held) (reading ≡ Damaged page) → (more : Content) × (reading ≡ reading_of ended more) × IsFound heads effects more.log × HeldFit held more.held
+  when_good is met = subst (λ (q : Bool). MatchBool q ((more : Content) × (reading ≡ reading_of ended more) × IsFound heads effects more.log × HeldFit held more.held) (reading ≡ Damaged page)) is met
 
-  when_bad : b ≡ false → MatchBool b ((more : Content) × (reading ≡ reading_of ended more) × IsFound heads effects more.log) (reading ≡ Damaged page) → reading ≡ Damaged page
-  when_bad is met = subst (λ (q : Bool). MatchBool q ((more : Content) × (reading ≡ reading_of ended more) × IsFound heads effects more.log) (reading ≡ Damaged page)) is met
+  when_bad : b ≡ false → MatchBool b ((more : Content) × (reading ≡ reading_of ended more) × IsFound heads effects more.log × HeldFit held more.held) (reading ≡ Damaged page) → reading ≡ Damaged page
+  when_bad is met = subst (λ (q : Bool). MatchBool q ((more : Content) × (reading ≡ reading_of ended more) × IsFound heads effects more.log × HeldFit held more.held) (reading ≡ Damaged page)) is met
 
 pub returns-then-not-good-clause-damaged : goal.returns-then-not-good-clause-damaged
 returns-then-not-good-clause-damaged g c told size page is =
@@ -35,7 +36,7 @@ returns-then-not-good-clause-damaged g c told size page is =
     let was = c.loop-page.invariant.found told size in
     let within : i < length r = omega (arith, size, c.loop-page-test.true) in
     let read : c.in-Ok.state ≡ state_of (get_or r i []) = c.in-Ok.ensures.found told ∙ ap (λ (l : Image). state_of (get_or l i [])) (c.loop-page.invariant.reads told) in
-    let bad = when_bad c.in-Ok-add_state.good _ _ _ _ _ c.if-not-good.true (c.in-Ok-add_state.ensures.found was.content was.stands) in
+    let bad = when_bad c.in-Ok-add_state.good _ _ _ _ _ _ c.if-not-good.true (c.in-Ok-add_state.ensures.found was.content was.stands was.pieces) in
     scan_damaged r (i + 1) page (scan_more r i within ∙ ap (λ z. next z i (state_of (get_or r i []))) was.reading ∙ ap (λ (s : PageState). next (reading_of c.loop-page.found.ended was.content) i s) (sym read) ∙ bad ∙ ap (λ (k : ℕ). Damaged k) (same_page i page is))
 
 pub loop-page-init : goal.loop-page-init
@@ -44,13 +45,14 @@ loop-page-init g c = record {
   low = omega arith;
   places = search rules;
   below = search rules;
+  held = tt;
   ranges = subst AreEffects (sym c.new-2.ensures.items) tt;
   open_now = c.requires.open;
   later = omega arith;
   reads = λ told. refl;
   crash = λ told i left. left;
   any_moment = λ told. stays g.M.Medium.moment g.M.Medium.left_since c.args.medium.now (g.M.Medium.may_leave c.args.medium.now) (λ i left. g.met.M.Medium.only_now c.args.medium.now i told left);
-  found = λ told size. record { content = content_of []; stands = record { heads_fit = search rules; effects_are = c.new-2.ensures.items }; front = refl; reading = refl; blank = refl; within = omega arith };
+  found = λ told size. record { content = content_of []; stands = record { heads_fit = search rules; effects_are = c.new-2.ensures.items }; pieces = tt; front = refl; reading = refl; blank = refl; within = omega arith };
 }
 
 pub loop-page-preserved : goal.loop-page-preserved
@@ -59,6 +61,7 @@ loop-page-preserved g c = record {
   low = subst (λ (k : ℕ). k ≤ c.loop-page.page + 1) (sym (c.in-Ok-add_state.ensures.next c.if-not-good.false)) (cond_low c.add_state.new.found.ended c.loop-page.found.next (c.loop-page.page + 1) (omega (arith, c.loop-page.invariant.low)));
   places = c.in-Ok-add_state.ensures.places;
   below = c.in-Ok-add_state.ensures.below c.args.pages (omega (arith, c.loop-page-test.true)) c.loop-page.invariant.below;
+  held = c.in-Ok-add_state.ensures.held;
   ranges = c.in-Ok-add_state.ensures.ranges c.loop-page.invariant.ranges;
   open_now = c.in-Ok.ensures.failed;
   later = omega (arith, c.loop-page.invariant.later, c.look.ensures.cause.later);
@@ -73,7 +76,7 @@ loop-page-preserved g c = record {
       let within : i < length r = omega (arith, size, c.loop-page-test.true) in
       let read : c.in-Ok.state ≡ state_of (get_or r i []) = c.in-Ok.ensures.found told ∙ ap (λ (l : Image). state_of (get_or l i [])) (c.loop-page.invariant.reads told) in
       let now = c.add_state.new.found in
-      let good = when_good c.in-Ok-add_state.good (next (reading_of f.ended was.content) i c.in-Ok.state) now.ended now.heads now.effects.items i c.if-not-good.false (c.in-Ok-add_state.ensures.found was.content was.stands) in
-      reached_more r i f.heads now.heads f.effects.items now.effects.items f.next now.next f.ended now.ended within was
-      (subst (λ (s : PageState). (more : Content) × (next (reading_of f.ended was.content) i s ≡ reading_of now.ended more) × IsFound now.heads now.effects.items more.log) read good) (c.in-Ok-add_state.ensures.next c.if-not-good.false);
+      let good = when_good c.in-Ok-add_state.good (next (reading_of f.ended was.content) i c.in-Ok.state) now.ended now.heads now.effects.items now.held i c.if-not-good.false (c.in-Ok-add_state.ensures.found was.content was.stands was.pieces) in
+      reached_more r i f.heads now.heads f.effects.items now.effects.items f.held now.held f.next now.next f.ended now.ended within was
+      (subst (λ (s : PageState). (more : Content) × (next (reading_of f.ended was.content) i s ≡ reading_of now.ended more) × IsFound now.heads now.effects.items more.log × HeldFit now.held more.held) read good) (c.in-Ok-add_state.ensures.next c.if-not-good.false);
 }

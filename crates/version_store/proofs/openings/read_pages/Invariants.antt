@@ -2,7 +2,7 @@ use Rattle.std.proofs.Common.{◌≡◌, ◌≤◌, IsTrue, false, length}
 use Rattle.medium_port.specs.Image.{NoMore}
 use Rattle.medium_port.specs.Moment.{LeavesOnly}
 use Rattle.effect_form.specs.Effects.{AreEffects}
-use Rattle.version_store.specs.Found.{Reached}
+use Rattle.version_store.specs.Found.{HeldBelow, Reached}
 use Rattle.version_store.specs.Heads.{AreBelow, ArePlaces}
 use Rattle.version_store.proofs.openings.read_pages.Given as goal
 
@@ -12,11 +12,12 @@ invariant-loop-page g l = record {
   low : l.found.next ≤ l.page;
   places : ArePlaces l.found.heads;
   below : AreBelow l.pages l.found.heads;
+  held : HeldBelow l.page l.found.held;
   ranges : AreEffects l.found.effects.items;
   open_now : g.M.Medium.is_failed l.medium ≡ false;
   later : g.M.Medium.faults l.fn.medium ≤ g.M.Medium.faults l.medium;
   reads : IsTrue g.M.Medium.tells → g.M.Medium.reads l.medium ≡ g.M.Medium.reads l.fn.medium;
   crash : IsTrue g.M.Medium.tells → NoMore (g.M.Medium.may_leave l.fn.medium) (g.M.Medium.may_leave l.medium);
   any_moment : IsTrue g.M.Medium.tells → LeavesOnly g.M.Medium.moment g.M.Medium.left_since l.fn.medium l.medium (g.M.Medium.may_leave l.fn.medium);
-  found : IsTrue g.M.Medium.tells → length (g.M.Medium.reads l.fn.medium) ≡ l.pages → Reached (g.M.Medium.reads l.fn.medium) l.page l.found.heads l.found.effects.items l.found.next l.found.ended;
+  found : IsTrue g.M.Medium.tells → length (g.M.Medium.reads l.fn.medium) ≡ l.pages → Reached (g.M.Medium.reads l.fn.medium) l.page l.found.heads l.found.effects.items l.found.held l.found.next l.found.ended;
 }

@@ -1,32 +1,17 @@
-use Rattle.std.proofs.Common.{◌≡◌, ◌≤◌, ℕ, List, length, Some, None, Option, ◌==◌, false, Bool, subst, arith}
-use Rattle.std.specs.Prelude.{MatchOption}
-use Rattle.std.specs.Borrow.{Bor}
+use Rattle.std.proofs.Common.{◌≡◌, ◌≤◌, ℕ, length, ◌==◌, false, Bool, arith}
 use Rattle.std.proofs.lemmas.Bool.Decides.{nat_tests}
-use Rattle.effect_form.specs.declared.effects.Effect.{Effect}
-use Rattle.version_store.specs.Entries.{Log}
-use Rattle.version_store.specs.Heads.{Heads, IsFound}
-use Rattle.version_store.proofs.ReadLemmas.{page_stops, page_goes}
+use Rattle.version_store.proofs.ReadLemmas.{at_none, at_some, less_at, page_stops, page_goes}
 use Rattle.version_store.proofs.page_reads.add_effects.Goals as goal
 
 some_left : (n : ℕ) (b : Bool) → b ≡ (n == 0) → b ≡ false → 1 ≤ n
 some_left n b is other = grind (arith, nat_tests)
-
-module _ (o : Option (Bor (List ℕ))) (reading : Option (Log × List ℕ)) (heads : Heads) (effects : List Effect) where
-  at_none : o ≡ None → MatchOption o (reading ≡ None) (λ rest. (more : Log) × (reading ≡ Some (more, rest.now)) × IsFound heads effects more) → reading ≡ None
-  at_none is met = subst (λ (q : Option (Bor (List ℕ))). MatchOption q (reading ≡ None) (λ rest. (more : Log) × (reading ≡ Some (more, rest.now)) × IsFound heads effects more)) is met
-
-  at_some : (rest : Bor (List ℕ)) → o ≡ Some rest → MatchOption o (reading ≡ None) (λ rest. (more : Log) × (reading ≡ Some (more, rest.now)) × IsFound heads effects more) → (more : Log) × (reading ≡ Some (more, rest.now)) × IsFound heads effects more
-  at_some rest is met = subst (λ (q : Option (Bor (List ℕ))). MatchOption q (reading ≡ None) (λ rest. (more : Log) × (reading ≡ Some (more, rest.now)) × IsFound heads effects more)) is met
-
-less_at : (o : Option (Bor (List ℕ))) (rest : Bor (List ℕ)) (n : ℕ) → o ≡ Some rest → MatchOption o (Unit {0}) (λ rest. length rest.now ≤ n) → length rest.now ≤ n
-less_at o rest n is met = subst (λ (q : Option (Bor (List ℕ))). MatchOption q (Unit {0}) (λ rest. length rest.now ≤ n)) is met
 
 pub returns-in-None-clause-found : goal.returns-in-None-clause-found
 returns-in-None-clause-found c log was =
     let r = c.loop.rest.now in
     let so_far = c.loop.invariant.content log was in
     let met = c.in_ok-add_effect.ensures.found so_far.now so_far.stands in
-    page_stops log c.args.page c.args.texts.now c.loop.counter r c.loop.heads c.loop.effects.items so_far c.loop-test.true (some_left (length r) c.is_empty.result c.is_empty.ensures c.if-is_empty.false) (at_none c.in_ok-add_effect.field-0 _ _ _ c.in-None.is met)
+    page_stops log c.args.page c.args.from c.args.texts.now c.loop.counter r c.loop.heads c.loop.effects.items so_far c.loop-test.true (some_left (length r) c.is_empty.result c.is_empty.ensures c.if-is_empty.false) (at_none c.in_ok-add_effect.field-0 _ _ _ c.in-None.is met)
 
 pub loop-preserved : goal.loop-preserved
 loop-preserved c = record {
@@ -38,7 +23,7 @@ loop-preserved c = record {
       let r = c.loop.rest.now in
       let so_far = c.loop.invariant.content log was in
       let met = c.in_ok-add_effect.ensures.found so_far.now so_far.stands in
-      page_goes log c.args.page c.args.texts.now c.loop.counter r c.loop.heads c.loop.effects.items so_far c.loop-test.true (some_left (length r) c.is_empty.result c.is_empty.ensures c.if-is_empty.false) c.in-Some.after.now c.add_effect.new.heads c.add_effect.new.effects.items (at_some c.in_ok-add_effect.field-0 _ _ _ c.in-Some.after c.in-Some.is met);
+      page_goes log c.args.page c.args.from c.args.texts.now c.loop.counter r c.loop.heads c.loop.effects.items so_far c.loop-test.true (some_left (length r) c.is_empty.result c.is_empty.ensures c.if-is_empty.false) c.in-Some.after.now c.add_effect.new.heads c.add_effect.new.effects.items (at_some c.in_ok-add_effect.field-0 _ _ _ c.in-Some.after c.in-Some.is met);
 }
 
 pub returns-in-None-clause-below : goal.returns-in-None-clause-below

@@ -11,5 +11,5 @@ invariant-loop l = record {
   places : ArePlaces l.heads;
   below : (limit : ℕ) → l.page < limit → AreBelow limit l.fn.heads → AreBelow limit l.heads;
   ranges : AreEffects l.fn.effects.items → AreEffects l.effects.items;
-  content : (log : Log) → IsFound l.fn.heads l.fn.effects.items log → SoFar log l.page l.texts l.counter l.rest l.heads l.effects.items;
+  content : (log : Log) → IsFound l.fn.heads l.fn.effects.items log → SoFar log l.page l.from l.texts l.counter l.rest l.heads l.effects.items;
 }

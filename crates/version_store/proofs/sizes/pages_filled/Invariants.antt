@@ -1,10 +1,11 @@
 use Rattle.std.proofs.Common.{◌≤◌}
-use Rattle.version_store.proofs.FillingLemmas.{Filled}
+use Rattle.std.specs.Prelude.{◌*◌}
+use Rattle.version_store.specs.Filling.{Filled}
 use Rattle.version_store.proofs.sizes.pages_filled.Given as goal
 
 abbrev pub invariant-loop-effect : goal.invariant-loop-effect
 invariant-loop-effect l = record {
   filled : Filled l.effects l.effect-index l.full l.size;
-  most : l.size ≤ 4092;
-  few : l.full ≤ l.effect-index;
+  most : l.size ≤ 4091;
+  few : l.full ≤ 18 * l.effect-index;
 }

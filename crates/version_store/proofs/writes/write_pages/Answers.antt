@@ -5,13 +5,11 @@ use Rattle.std.specs.List.{list_all}
 use Rattle.std.proofs.lemmas.List.{drop-set-lt}
 use Rattle.medium_port.specs.Image.{Image, IsImage}
 use Rattle.page_gate.specs.States.{is_blank, gated_page}
-use Rattle.version_store.specs.Entries.{Log}
-use Rattle.version_store.specs.Laying.{body_of}
-use Rattle.version_store.specs.Laying.{bytes_of}
-use Rattle.version_store.proofs.GrownLemmas.{blank_clean, clean_on, grown_none, grown_leaves, grown_more, blank_here}
+use Rattle.version_store.specs.Laying.{Laid, body_of, bytes_of}
+use Rattle.version_store.proofs.GrownLemmas.{no_page, blank_clean, clean_on, grown_none, grown_leaves, grown_more, blank_here}
 use Rattle.version_store.proofs.writes.write_pages.Goals as goal
 
-body_at : (bodies : List (Vec ℕ Global)) (pages : List Log) (i : ℕ) (d : Vec ℕ Global) → bytes_of bodies ≡ map body_of pages → i < length bodies → (i < length pages) × ((get_or bodies i d).items ≡ body_of (get_or pages i []))
+body_at : (bodies : List (Vec ℕ Global)) (pages : List Laid) (i : ℕ) (d : Vec ℕ Global) → bytes_of bodies ≡ map body_of pages → i < length bodies → (i < length pages) × ((get_or bodies i d).items ≡ body_of (get_or pages i no_page))
 body_at [] pages i d is within = absurd (omega arith)
 body_at (b ∷ bodies) [] i d is within = absurd (cc is)
 body_at (b ∷ bodies) (p ∷ pages) zero d is within = (omega arith, (cc is))

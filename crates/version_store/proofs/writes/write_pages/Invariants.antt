@@ -3,7 +3,7 @@ use Rattle.std.specs.List.{list_all}
 use Rattle.page_gate.specs.States.{is_blank}
 use Rattle.version_store.specs.Entries.{Log}
 use Rattle.version_store.specs.Filling.{StaysClean}
-use Rattle.version_store.specs.Laying.{PagesFit, IsAtRest, body_of, bytes_of}
+use Rattle.version_store.specs.Laying.{Laid, PagesFit, IsAtRest, body_of, bytes_of}
 use Rattle.version_store.specs.Storage.{begun, scan}
 use Rattle.version_store.proofs.GrownLemmas.{Grown}
 use Rattle.version_store.proofs.writes.write_pages.Given as goal
@@ -17,6 +17,6 @@ invariant-loop-body g l = record {
   later : g.M.Medium.faults l.fn.medium ≤ g.M.Medium.faults l.medium;
   blank : IsTrue g.M.Medium.tells → list_all is_blank (drop l.page (g.M.Medium.reads l.medium)) ≡ true;
   clean : IsTrue g.M.Medium.tells → StaysClean (g.M.Medium.reads l.fn.medium) (g.M.Medium.reads l.medium);
-  content : IsTrue g.M.Medium.tells → (log : Log) (pages : List Log) → IsAtRest log l.first (g.M.Medium.reads l.fn.medium) (g.M.Medium.may_leave l.fn.medium) → PagesFit (scan begun 0 (take l.first (g.M.Medium.reads l.fn.medium))) log l.first pages → bytes_of l.bodies ≡ map body_of pages
+  content : IsTrue g.M.Medium.tells → (log : Log) (pages : List Laid) → IsAtRest log l.first (g.M.Medium.reads l.fn.medium) (g.M.Medium.may_leave l.fn.medium) → PagesFit (scan begun 0 (take l.first (g.M.Medium.reads l.fn.medium))) log l.first pages → bytes_of l.bodies ≡ map body_of pages
       → Grown g.M.Medium.moment g.M.Medium.left_since g.M.Medium.reads g.M.Medium.may_leave log l.first pages l.fn.medium l.medium l.body-index;
 }

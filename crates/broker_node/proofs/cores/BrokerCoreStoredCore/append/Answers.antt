@@ -13,7 +13,7 @@ returns-in-Ok g c =
     let now = g.met.M.Medium.reads_now in
     appended c.args.self _ (medium_of s) (ap (λ z. medium_in z) c.in-Open.is) refl (λ b f. f) c.args.effects.now _
     (appends-all g.M.Medium.tells g.M.Medium.faults g.M.Medium.page_count g.M.Medium.reads g.M.Medium.may_leave now (medium_of s) (medium_of r) c.args.effects.now s.settled c.in-Ok.ensures.later c.in-Ok.ensures.images tt g.met.M.Medium.shape c.in-Ok.ensures.size r.settled c.in-Ok.ensures.added
-    (λ t. c.in-Ok.ensures.kept t (g.M.Medium.reads (medium_of r)) (now (medium_of r) t)) c.in-Ok.ensures.clean)
+    (λ t. c.in-Ok.ensures.kept t (g.M.Medium.reads (medium_of r)) (now (medium_of r) t)) c.in-Ok.ensures.clean c.requires.ranges c.in-Ok.ensures.used)
     (refl, tt)
     (λ t b l h fresh. (
       gated-broker b (broker c.args.self.number) l c.args.self.broker h.0,

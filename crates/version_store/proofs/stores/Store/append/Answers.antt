@@ -150,3 +150,17 @@ returns-in-Ok-write_pages-clause-log g c told =
 
 pub invariant_of-result-clause-below : goal.invariant_of-result-clause-below
 invariant_of-result-clause-below g c = c.in-Ok.ensures.below c.args.self.pages (omega (arith, c.pages_filled-needed.ensures, c.if-needed-pages.false, c.args.self.in_range)) c.args.self.below
+
+pub returns-in-Ok-write_pages-clause-used : goal.returns-in-Ok-write_pages-clause-used
+returns-in-Ok-write_pages-clause-used g c told =
+    let s = c.args.self in
+    let m = s.medium in
+    let now = c.write_pages.new.medium in
+    let shape : IsImage (g.M.Medium.page_count m) (g.M.Medium.reads m) = g.met.M.Medium.shape m (g.M.Medium.reads m) told (g.met.M.Medium.reads_now m told) in
+    let shape' : IsImage (g.M.Medium.page_count now) (g.M.Medium.reads now) = g.met.M.Medium.shape now (g.M.Medium.reads now) told (g.met.M.Medium.reads_now now told) in
+    let blanks = blank_count _ s.next _ _ (s.at_rest told) in
+    let log = log_of (g.M.Medium.reads m) in
+    let room : s.next + length (filling c.args.effects.now) ≤ 1048576 = omega (arith, c.pages_filled-needed.ensures, c.if-needed-pages.false, s.in_range, s.most) in
+    let rest = written_rest g.M.Medium.moment g.M.Medium.left_since g.M.Medium.reads g.M.Medium.may_leave m now c.in-Ok.bodies.items c.deref.result.now s.heads log s.next c.pages_filled-needed.result c.args.effects.now (s.at_rest told) (s.heads_fit told) s.places c.requires.ranges room c.in-Ok.ensures.pages c.deref.ensures.value c.in-Ok.ensures.count c.pages_filled-needed.ensures (c.in-Ok-write_pages.ensures.all told) in
+    let left = blank_count _ (s.next + c.pages_filled-needed.result) _ _ rest in
+    omega (arith, blanks, left, shape.count, shape'.count, c.write_pages.ensures.size, s.count, c.pages_filled-needed.ensures, c.if-needed-pages.false, s.in_range)

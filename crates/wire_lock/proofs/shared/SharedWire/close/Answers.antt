@@ -1,8 +1,11 @@
-use Rattle.std.proofs.Common.{ap, sym, subst, get_or, ◌∙◌}
+use Rattle.std.proofs.Common.{ap, sym, subst, get_or, ◌∙◌, List, ℕ, All}
 use Rattle.seat_lock.specs.Words.{CarriesOn, knows}
 use Rattle.world_core.specs.declared.traces.Trace.{Trace}
+use Rattle.seat_lock.specs.Rule.{IsOneOf}
 use Rattle.wire_core.specs.Boards.{owner_of}
+use Rattle.wire_core.specs.Wires.{trace_of}
 use Rattle.wire_lock.proofs.SightLemmas.{idle-closed, rest-closed}
+use Rattle.wire_lock.proofs.UntoldLemmas.{untold}
 use Rattle.wire_lock.proofs.shared.SharedWire.close.Goals as goal
 
 pub close-wire-requires-clause-passes : goal.close-wire-requires-clause-passes
@@ -19,3 +22,11 @@ returns-clause-idle g c =
 pub returns-clause-rest : goal.returns-clause-rest
 returns-clause-rest g c =
     λ i. rest-closed c.close-wire.result _ _ c.finish-trace.ensures.trace c.close-wire.ensures.stands (c.idle-idle.ensures.quiet.0 i).1
+
+pub returns-then-broken-clause-untold : goal.returns-then-broken-clause-untold
+returns-then-broken-clause-untold g c = (
+  trace_of c.close-wire.result,
+  untold g.M.Medium.tells c.close-wire.result _ c.finish-trace.result.0 c.close-wire.ensures.stands c.finish-trace.ensures.trace c.finish-trace.ensures.sent c.finish-trace.ensures.legal,
+  c.close-wire.ensures.carries,
+  subst (λ (os : List ℕ). All (λ e. IsOneOf os (owner_of e)) c.close-wire.result.entries) c.args.self.owners c.close-wire.ensures.owned,
+)
