@@ -5,8 +5,7 @@ ghost use Rattle.seat_lock.specs.Words.{CarriesOn, base_of, fresh, knows};
 ghost use Rattle.world_core.specs.Legal.{Idle, fates_of};
 ghost use Rattle.wire_core.specs.Boards.{owner_for, owner_of};
 ghost use Rattle.wire_lock.specs.Sights.{AtRest, IsWirePass, owners_for};
-ghost use Rattle.world_core.specs.declared.traces.Trace.{Trace};
-ghost use Rattle.wire_lock.specs.Stories.{IsUntold, IsWhole, end_of, no_trace};
+ghost use Rattle.wire_lock.specs.Stories.{IsWhole, LeavesUntold, end_of, no_trace};
 
 use crate::shared::{SharedWire, WirePass};
 use medium_port::Medium;
@@ -128,8 +127,7 @@ impl<F: Fates, C: Clock, M: Medium> SharedWire<F, C, M> {
         ensures carries { IfOk result (λ r. All (λ pass. CarriesOn owner_of (knows pass) r.told.entries) passes.items) }
         ensures owned { IfOk result (λ r. All (λ e. IsOneOf (owners_for (base_of self.lock).origin.opened) (owner_of e)) r.told.entries) }
         // Where it isn't told, there is one, too.
-        ensures untold { IfErr result (λ e. (t : Trace) × IsUntold M.tells (base_of self.lock).origin t × All (λ pass. CarriesOn owner_of (knows pass) t.entries) passes.items ×
-            All (λ e. IsOneOf (owners_for (base_of self.lock).origin.opened) (owner_of e)) t.entries) }
+        ensures untold { IfErr result (λ e. LeavesUntold M.tells (base_of self.lock).origin passes.items) }
     {
         let SharedWire { lock } = self;
         let wire = lock.close(passes);
