@@ -1,5 +1,5 @@
 -- How a run ends that doesn't begin, and what its wire began with.
-use Rattle.std.proofs.Common.{◌≡◌, ℕ, List, length, map, Option, Some, sym, subst}
+use Rattle.std.proofs.Common.{◌≡◌, ℕ, List, length, map, Option, Some, inl, sym, subst}
 use Rattle.std.specs.List.{AllZip}
 use Rattle.stream_port.specs.declared.fates.Asked.{Asked}
 use Rattle.plan_form.specs.declared.plans.Plan.{Plan}
@@ -21,7 +21,7 @@ module _ {M : Type 0} {g : _} (w : Media M) (most_ticks enough : ℕ) (plan : Pl
     module _ (os : List (Opening M g)) (opened : AllZip (HasOpened w) media os) where
       -- memory was wanting
       pub ends-wanting : EndsAs w most_ticks enough plan told media (map medium_in os) end.NoMemory
-      ends-wanting = (opened-back w media os opened, opened-kept w media os opened)
+      ends-wanting = (opened-back w media os opened, opened-kept w media os opened, λ told. inl (opened-alone w media os opened))
 
       -- no run begins
       pub ends-refused : (e : End) (why : Refusal) → IsEndFor why e → length os ≡ node_count plan → FirstRefusal plan os (Some why) → told.asked ≡ told.asked_before → told.answers ≡ told.answers_before

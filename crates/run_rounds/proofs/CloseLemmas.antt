@@ -16,10 +16,11 @@ use Rattle.seat_lock.specs.Words.{CarriesOn, fresh, knows}
 use Rattle.world_core.specs.declared.entries.Entry.{Entry}
 use Rattle.world_core.specs.declared.traces.Trace.{Trace}
 use Rattle.world_core.specs.Legal.{Idle, fates_of}
+use Rattle.world_core.specs.Readings.{IsLegal}
 use Rattle.wire_core.specs.Wires.{Origin, WireParts}
 use Rattle.wire_core.specs.Boards.{owner_of}
 use Rattle.wire_lock.specs.Sights.{IsWirePass, Sight, owners_for}
-use Rattle.wire_lock.specs.Stories.{IsWhole, end_of}
+use Rattle.wire_lock.specs.Stories.{IsWhole, LeavesUntold, end_of}
 use Rattle.trace_report.specs.Counts.{tick_count}
 use Rattle.node_turn.specs.Nodes.{NodeParts}
 use Rattle.run_starts.specs.Limits.{Limits}
@@ -30,7 +31,7 @@ use Rattle.run_media.specs.Media.{Media}
 use Rattle.run_media.specs.Places.{node_count}
 use Rattle.run_rounds.specs.declared.ends.End.{End}
 use Rattle.run_rounds.specs.declared.ends.End.TheVariants as end
-use Rattle.run_rounds.specs.Closings.{ClosedAs, HaveGone, IfRan, Pass, ToldFor}
+use Rattle.run_rounds.specs.Closings.{ClosedAs, HaveGone, IfRan, IfWanting, Pass, ToldFor}
 
 -- ---- what is told
 
@@ -66,6 +67,23 @@ closed-as tells o passes why told idle asked answers whole carries owned rests (
     subst (λ (x : Trace). ClosedAs tells o passes why x asked answers) (sym h.is) (record { whole = whole; carries = carries; owned = owned; memory = h.memory; idle = λ tl out. (rests tl).0 (h.out out) })
 closed-as tells o passes why told idle asked answers whole carries owned rests (end.Refused fault) h = h
 closed-as tells o passes why told idle asked answers whole carries owned rests end.NoMemory h = tt
+
+-- a trace that is told might as well be untold
+pub whole-untold : (tells : Bool) (o : Origin) (passes : List Pass) (told : Trace) (asked : List Asked) (answers : Option (List ℕ)) → IsWhole tells o told asked answers
+    → All (λ (pass : Pass). CarriesOn owner_of (knows pass) told.entries) passes → All (λ e. IsOneOf (owners_for o.opened) (owner_of e)) told.entries → (e : End) → IfWanting e (LeavesUntold tells o passes)
+whole-untold tells o passes told asked answers whole carries owned (end.Ran t) = tt
+whole-untold tells o passes told asked answers whole carries owned (end.Refused fault) = tt
+whole-untold tells o passes told asked answers whole carries owned end.NoMemory = (
+  told,
+  record {
+    start = whole.start;
+    opened = whole.opened;
+    sent = whole.sent;
+    legal = λ yes plan run. subst (λ (l : List Asked). IsLegal plan l told) whole.fates (whole.legal yes plan run);
+  },
+  carries,
+  owned,
+)
 
 -- where memory was wanting nothing is told
 pub none-told : (tells : Bool) (o : Origin) (passes : List Pass) (asked : List Asked) (answers : Option (List ℕ)) (e : End) → IfRan e (λ t. ClosedAs tells o passes reason.Wanting t asked answers) → e ≡ end.NoMemory

@@ -1,5 +1,5 @@
 -- The logs of a run's trace are those of its media, before and after.
-use Rattle.std.proofs.Common.{◌≡◌, ◌∙◌, ℕ, true, IsTrue, List, [], Option, Some, None, Ok, ap, sym, subst}
+use Rattle.std.proofs.Common.{◌≡◌, ◌∙◌, ℕ, true, IsTrue, List, [], length, Option, Some, None, Ok, ap, sym, subst}
 use Rattle.std.specs.Prelude.{All}
 use Rattle.std.proofs.lemmas.Option.{same_Some}
 use Rattle.pseudo_time.specs.declared.nodes.NodeId.{NodeId}
@@ -16,16 +16,39 @@ use Rattle.world_core.specs.Legal.{in_plan}
 use Rattle.world_core.specs.Pasts.{WasNotOpened}
 use Rattle.world_core.specs.Walks.{Life, opened_log}
 use Rattle.world_core.specs.Readings.{open_effects}
-use Rattle.wire_core.specs.Wires.{WireParts}
+use Rattle.wire_core.specs.Wires.{WireParts, base_from}
 use Rattle.wire_lock.specs.Sights.{life_at}
 use Rattle.trace_report.specs.Counts.{down_cause}
 use Rattle.node_turn.specs.Lives.{IsKept}
 use Rattle.node_turn.specs.Nodes.{NodeParts, sight}
 use Rattle.run_starts.specs.Reasons.{HasMemory}
 use Rattle.run_media.specs.Media.{Media}
-use Rattle.run_rounds.specs.Media.{RestoresLogs, KeepsLog}
-use Rattle.run_rounds.proofs.SeenLemmas.{Seen, are-back, left, of-seen, seen}
-use Rattle.run_rounds.proofs.KnownLemmas.{HaveStood, Known, life-end, log-end, none-open, origin, was-opened}
+use Rattle.run_media.specs.Places.{node_count}
+use Rattle.run_starts.specs.Seats.{Along}
+use Rattle.run_rounds.specs.Media.{Became, RestoresLogs, KeepsLog, LeavesLife, WasHeld}
+use Rattle.run_rounds.proofs.SeenLemmas.{At, Seen, are-back, left, of-seen, seen}
+use Rattle.run_rounds.proofs.KnownLemmas.{HaveStood, Known, base, life-end, log-end, none-open, origin, was-opened}
+
+module _ {M Q A : Type 0} (w : Media M) (plan : Plan) (lock : LockTable WireParts (View WireParts Entry) (Founding WireParts) Q A) (t : Trace) (first : List (Option M)) (ps : List (NodeParts M))
+    (along : Along (At w plan (origin w plan lock t) (Known w plan lock t)) 0 first ps) (count : length first ≡ node_count plan)
+    (same : base_from (origin w plan lock t) ≡ base w plan lock t) (logs : t.opened ≡ (origin w plan lock t).opened) where
+  -- the node of this name
+  abbrev pub Came : NodeId → Type 0
+  Came n = Seen w plan (origin w plan lock t) (Known w plan lock t) first ps along n
+
+  pub held : (n : NodeId) (s : Came n) → IsTrue w.tells → WasHeld w t n s.old
+  held n s told = λ log e. subst (λ (l : List Effect). storage (w.reads s.old) ≡ Ok l) (same_Some _ _ (sym (log-end w plan lock t same logs n s.old s.node s.went) ∙ e)) (s.went.held told)
+
+  pub lives : (n : NodeId) (s : Came n) → IsTrue w.tells → LeavesLife w plan t n s.node.medium
+  lives n s told = λ c leaves. subst (λ (l : Life). IsKept l c) (sym (life-end w plan lock t same logs n s.old s.node s.went))
+      (subst (λ (m : NodeId). IsKept (life_at (sight s.node) m) c) s.went.name (s.went.rest.kept told c leaves))
+
+  -- whether memory was wanting or not, each medium held its node's log, and has its life
+  pub all-live : IsTrue w.tells → (n : NodeId) → in_plan plan n ≡ true
+      → (old : M) × (new : M) × Became plan first (left w plan (origin w plan lock t) (Known w plan lock t) first ps along) n old new × WasHeld w t n old × LeavesLife w plan t n new
+  all-live told n is =
+      let s = seen w plan (origin w plan lock t) (Known w plan lock t) first ps along count n is in
+      (s.old, s.node.medium, (s.before, s.after), held n s told, lives n s told)
 
 module _ {M Q A : Type 0} (w : Media M) (plan : Plan) (lock : LockTable WireParts (View WireParts Entry) (Founding WireParts) Q A) (t : Trace) (first : List (Option M)) (ps : List (NodeParts M)) (stood : HaveStood w plan lock t first ps) where
   -- the node of this name
@@ -44,9 +67,8 @@ module _ {M Q A : Type 0} (w : Media M) (plan : Plan) (lock : LockTable WirePart
 
   keeps : (n : NodeId) (s : Stood n) → IsTrue w.tells → KeepsLog w first (left w plan (origin w plan lock t) (Known w plan lock t) first ps stood.along) plan t n s.old s.node.medium
   keeps n s told = record {
-    opened = λ log e. subst (λ (l : List Effect). storage (w.reads s.old) ≡ Ok l) (same_Some _ _ (sym (log-end w plan lock t stood.same stood.opened n s.old s.node s.went) ∙ e)) (s.went.held told);
-    images = λ c leaves. subst (λ (l : Life). IsKept l c) (sym (life-end w plan lock t stood.same stood.opened n s.old s.node s.went))
-        (subst (λ (m : NodeId). IsKept (life_at (sight s.node) m) c) s.went.name (s.went.rest.kept told c leaves));
+    opened = held w plan lock t first ps stood.along stood.count stood.same stood.opened n s told;
+    images = lives w plan lock t first ps stood.along stood.count stood.same stood.opened n s told;
     up = λ none. ap (λ (l : Life). l.fresh) (life-end w plan lock t stood.same stood.opened n s.old s.node s.went) ∙ none-open w plan lock t stood.same stood.opened n s.old s.node s.went (has-memory n s) told none;
   }
 

@@ -25,6 +25,7 @@ use Rattle.world_core.specs.Legal.{Idle, base_of, fates_of, in_plan, is_within, 
 use Rattle.wire_core.specs.Wires.{Origin, WireParts, base_from}
 use Rattle.wire_core.specs.Boards.{owner_of}
 use Rattle.wire_lock.specs.Sights.{IsOf, IsWirePass}
+use Rattle.wire_lock.specs.Stories.{IsUntold, LeavesUntold}
 use Rattle.trace_report.specs.Counts.{tick_count}
 use Rattle.node_turn.specs.declared.conditions.Condition.{Condition}
 use Rattle.node_turn.specs.declared.conditions.Condition.TheVariants as condition
@@ -44,20 +45,20 @@ use Rattle.run_starts.specs.Seats.{Along, IsNewNode}
 use Rattle.run_starts.specs.Starts.{IsSetUp, fresh_for}
 use Rattle.run_rounds.specs.declared.ends.End.{End}
 use Rattle.run_rounds.specs.declared.ends.End.TheVariants as end
-use Rattle.run_rounds.specs.Closings.{ClosedAs, HasRun, HaveGone, IfRan, ListEnds, Pass}
+use Rattle.run_rounds.specs.Closings.{ClosedAs, HasRun, HaveGone, IfRan, IfWanting, ListEnds, Pass}
 use Rattle.run_rounds.specs.Ends.{AllDone, HasEnded, HasRunOut, TicksAreWanted, broker_done_after, some_down}
 use Rattle.run_rounds.specs.Finishes.{EndsAs, IsKeptWhole, account_of, tellers}
-use Rattle.run_rounds.specs.Runs.{IsTold, Ran}
+use Rattle.run_rounds.specs.Runs.{IsTold, Ran, RanUntold}
 use Rattle.run_rounds.proofs.ListLemmas.{all-end, all-front, all-mapped, along-at, one-of}
 use Rattle.run_starts.proofs.WantedLemmas.{story-ticks, tick-before, ticks-whole}
 use Rattle.run_rounds.proofs.EndLemmas.{down-whole, done-whole, enough-whole}
 use Rattle.run_rounds.proofs.SeenLemmas.{At, are-back, logs-of, none-own, went-along}
 use Rattle.run_rounds.proofs.KnownLemmas.{HaveStood, Known, at-base, same-base}
-use Rattle.run_rounds.proofs.LogLemmas.{restores, stood-at}
+use Rattle.run_rounds.proofs.LogLemmas.{all-live, restores, stood-at}
 use Rattle.run_rounds.proofs.CountLemmas.{are-counted, have-causes}
 use Rattle.run_rounds.proofs.KeptLemmas.{all-kept}
 use Rattle.run_rounds.proofs.RangeLemmas.{ranges-of, ranges-opened}
-use Rattle.run_rounds.proofs.ToldLemmas.{is-told, nodes-told, ready-told}
+use Rattle.run_rounds.proofs.ToldLemmas.{is-told, nodes-told, ready-told, run as run-of}
 use Rattle.run_starts.proofs.AlongLemmas.{along-length}
 
 -- ---- memory
@@ -73,6 +74,20 @@ memory-of tells limits reason.Enough nodes k h memory = λ i d lt. up-memory (h.
 memory-of tells limits reason.RunOut nodes k h memory = λ i d lt. up-memory (h.0 i d lt)
 memory-of tells limits reason.Wanting nodes k h memory = absurd (memory refl)
 
+module _ {M Q A : Type 0} (w : Media M) (limits : Limits) (plan : Plan) (lock : LockTable WireParts (View WireParts Entry) (Founding WireParts) Q A) (t : Trace) (begun : List (NodeParts M)) (why : Reason) (media : List (Option M))
+    (passes : List Pass) (gone : HaveGone w limits begun why media passes) (wires : All (IsWirePass lock) passes) (carries : All (λ (pass : Pass). CarriesOn owner_of (knows pass) t.entries) passes) where
+  known : All (Known w plan lock t) (map (λ (n : NodeParts M). n.pass) gone.nodes ++ gone.conductor ∷ [])
+  known = subst (All (Known w plan lock t)) gone.passes_are (λ k d lt. record { wire = wires k d lt; carries = carries k d lt })
+
+  -- the entries go on from what the pass of each node has seen
+  pub nodes-known : All (λ (n : NodeParts M). Known w plan lock t n.pass) gone.nodes
+  nodes-known = all-mapped (Known w plan lock t) (λ (n : NodeParts M). n.pass) gone.nodes
+      (all-front (Known w plan lock t) (map (λ (n : NodeParts M). n.pass) gone.nodes) (gone.conductor ∷ []) known)
+
+  -- and the conductor's
+  pub conductor-known : Known w plan lock t gone.conductor
+  conductor-known = all-end (Known w plan lock t) (map (λ (n : NodeParts M). n.pass) gone.nodes) gone.conductor known
+
 module _ {M Q A : Type 0} (w : Media M) (limits : Limits) (plan : Plan) (lock : LockTable WireParts (View WireParts Entry) (Founding WireParts) Q A) (t : Trace) (asked : List Asked) (answers : Option (List ℕ)) where
   abbrev origin : Origin
   origin = (lock_base lock).origin
@@ -81,14 +96,11 @@ module _ {M Q A : Type 0} (w : Media M) (limits : Limits) (plan : Plan) (lock : 
   IsKnown pass = Known w plan lock t pass
 
   module _ (begun : List (NodeParts M)) (why : Reason) (media : List (Option M)) (passes : List Pass) (gone : HaveGone w limits begun why media passes) (wires : All (IsWirePass lock) passes) (close : ClosedAs w.tells origin passes why t asked answers) where
-    known : All IsKnown (map (λ (n : NodeParts M). n.pass) gone.nodes ++ gone.conductor ∷ [])
-    known = subst (All IsKnown) gone.passes_are (λ k d lt. record { wire = wires k d lt; carries = close.carries k d lt })
-
     pub of-node : All (λ (n : NodeParts M). IsKnown n.pass) gone.nodes
-    of-node = all-mapped IsKnown (λ (n : NodeParts M). n.pass) gone.nodes (all-front IsKnown (map (λ (n : NodeParts M). n.pass) gone.nodes) (gone.conductor ∷ []) known)
+    of-node = nodes-known w limits plan lock t begun why media passes gone wires close.carries
 
     conductor : IsKnown gone.conductor
-    conductor = all-end IsKnown (map (λ (n : NodeParts M). n.pass) gone.nodes) gone.conductor known
+    conductor = conductor-known w limits plan lock t begun why media passes gone wires close.carries
 
     pub has-memory : All HasMemory gone.nodes
     has-memory = memory-of w.tells limits why gone.nodes (knows gone.conductor) gone.ends close.memory
@@ -210,14 +222,27 @@ module _ {M Q A : Type 0} {g : _} (w : Media M) (limits : Limits) (plan : Plan) 
     pub ran-kept : AllZip (IsKeptWhole w) first (map (λ (n : NodeParts M). Some n.medium) gone.nodes)
     ran-kept = all-kept w plan lock first gone.nodes (places (IsWirePass lock) node-wires)
 
+    -- and there was a run, whose trace isn't told
+    module _ (t : Trace) (un : IsUntold w.tells (lock_base lock).origin t) (carries : All (λ (pass : Pass). CarriesOn owner_of (knows pass) t.entries) passes) where
+      ran-untold : IsTrue w.tells → RanUntold w plan (lock_base lock).origin.asked first (map (λ (n : NodeParts M). Some n.medium) gone.nodes)
+      ran-untold told = record {
+        trace = t;
+        nodes = nodes-told plan os (lock_base lock).origin t set lang count ready un.opened;
+        ready = ready-told plan os (lock_base lock).origin t set lang count ready un.opened;
+        legal = un.legal told plan (run-of plan os (lock_base lock).origin t set lang count ready);
+        logs = all-live w plan lock t first gone.nodes (places (Known w plan lock t) (nodes-known w limits plan lock t begun why media passes gone wires carries)) first-count
+            (same-base plan os (lock_base lock).origin.asked (lock_base lock).origin.answers (lock_base lock).origin t set un.start un.opened) un.opened told;
+      }
+
     -- by the end that is told
-    ends-by : (e : End) → IfRan e (λ t. ClosedAs w.tells (lock_base lock).origin passes why t asked answers)
+    ends-by : (e : End) → IfRan e (λ t. ClosedAs w.tells (lock_base lock).origin passes why t asked answers) → IfWanting e (LeavesUntold w.tells (lock_base lock).origin passes)
         → EndsAs w limits.ticks limits.messages plan (tellers (lock_base lock).origin.asked asked (lock_base lock).origin.answers answers) first (map (λ (n : NodeParts M). Some n.medium) gone.nodes) e
-    ends-by (end.Ran t) close = has-ran t close
-    ends-by (end.Refused fault) close = absurd close
-    ends-by end.NoMemory close = (
+    ends-by (end.Ran t) close un = has-ran t close
+    ends-by (end.Refused fault) close un = absurd close
+    ends-by end.NoMemory close (t, un, carries, owned) = (
       are-back w plan (lock_base lock).origin (IsWirePass lock) first gone.nodes (places (IsWirePass lock) node-wires),
       ran-kept,
+      λ told. inr (ran-untold t un carries told),
     )
 
   -- a run whose nodes were opened ends as it is told
@@ -225,4 +250,4 @@ module _ {M Q A : Type 0} {g : _} (w : Media M) (limits : Limits) (plan : Plan) 
       → EndsAs w limits.ticks limits.messages plan (tellers (lock_base lock).origin.asked asked (lock_base lock).origin.answers answers) first media e
   ends-as media e run =
       subst (λ (l : List (Option M)). EndsAs w limits.ticks limits.messages plan (tellers (lock_base lock).origin.asked asked (lock_base lock).origin.answers answers) first l e) (sym run.gone.media_are)
-      (ends-by run.why media run.passes run.gone run.wires e run.closed)
+      (ends-by run.why media run.passes run.gone run.wires e run.closed run.untold)

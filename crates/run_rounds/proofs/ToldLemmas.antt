@@ -28,7 +28,8 @@ pub set-up-own : {M : Type 0} {g : _} (plan : Plan) (os : List (Opening M g)) (a
 set-up-own plan os asked answers o s = record { run = s.run; acts = s.acts; opened = s.opened; start = s.start; asked_is = refl; answers_are = refl }
 
 module _ {M : Type 0} {g : _} (plan : Plan) (os : List (Opening M g)) (o : Origin) (t : Trace) (set : IsSetUp plan os o.asked o.answers o) (language : IsOfLanguage plan) (count : length os ≡ node_count plan) (ready : AreReady plan 0 os) where
-  run : IsRunOf plan o
+  -- the wire is one of a run of the plan
+  pub run : IsRunOf plan o
   run = run-of plan os o.asked o.answers o set language count ready
 
   module _ (opened : t.opened ≡ o.opened) where

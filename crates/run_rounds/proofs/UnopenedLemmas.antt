@@ -55,7 +55,7 @@ use Rattle.run_rounds.specs.Ends.{IsUnopened}
 use Rattle.run_rounds.specs.Finishes.{EndsAs, account_of, tellers}
 use Rattle.run_rounds.specs.Media.{AreCounted, Became, HaveCauses, KeepsLog, RestoresLogs, inner, medium_at}
 use Rattle.run_rounds.specs.Runs.{Ran}
-use Rattle.run_rounds.proofs.BackLemmas.{opened-back, opened-in-range, opened-kept, ready-at}
+use Rattle.run_rounds.proofs.BackLemmas.{opened-alone, opened-back, opened-in-range, opened-kept, ready-at}
 use Rattle.run_rounds.proofs.DownTraces.{AreOwn, IsFall, all-downs, all-falls, cause-at, cause-of, fall-of, falls-at, life-still, none-of, own-along}
 use Rattle.run_rounds.proofs.RangeLemmas.{ranges-of}
 use Rattle.run_rounds.proofs.ToldLemmas.{is-told, nodes-told, ready-told}
@@ -294,4 +294,4 @@ module _ {M : Type 0} {g : _} (w : Media M) (most_ticks enough : ℕ) (plan : Pl
   pub ends-unopened : (e : End) → IfRan e (λ t. ClosedAs w.tells wire.origin passes why t asked answers) → EndsAs w most_ticks enough plan (tellers wire.origin.asked asked wire.origin.answers answers) first (map medium_in os) e
   ends-unopened (end.Ran t) close = ran t close
   ends-unopened (end.Refused fault) close = absurd close
-  ends-unopened end.NoMemory close = (opened-back w first os opened, opened-kept w first os opened)
+  ends-unopened end.NoMemory close = (opened-back w first os opened, opened-kept w first os opened, λ told. inl (opened-alone w first os opened))

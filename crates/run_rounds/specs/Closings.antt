@@ -16,7 +16,7 @@ use Rattle.world_core.specs.Legal.{Idle, fates_of}
 use Rattle.wire_core.specs.Wires.{Origin, WireParts}
 use Rattle.wire_core.specs.Boards.{owner_of}
 use Rattle.wire_lock.specs.Sights.{AtRest, IsWirePass, Sight, base_at, owners_for, world_at}
-use Rattle.wire_lock.specs.Stories.{IsWhole, end_of}
+use Rattle.wire_lock.specs.Stories.{IsWhole, LeavesUntold, end_of}
 use Rattle.trace_report.specs.Counts.{tick_count}
 use Rattle.node_turn.specs.Nodes.{NodeParts, IsAtRest, sight}
 use Rattle.run_starts.specs.Limits.{Limits}
@@ -36,6 +36,12 @@ abbrev pub IfRan : End → (Trace → Type 0) → Type 0
 IfRan (Ran t) P = P t
 IfRan (Refused fault) P = ⊥
 IfRan NoMemory P = Unit {0}
+
+-- so it is where memory was wanting
+abbrev pub IfWanting : End → Type 0 → Type 0
+IfWanting (Ran t) P = Unit {0}
+IfWanting (Refused fault) P = Unit {0}
+IfWanting NoMemory P = P
 
 -- the trace is told for this reason: not where memory was wanting, and of a run that has run out only where its wire closed idle
 pub record ToldFor (told : Trace) (idle : Bool) (why : Reason) (t : Trace) : Type 0 where
@@ -87,3 +93,4 @@ module _ {M Q A : Type 0} (w : Media M) (lock : LockTable WireParts (View WirePa
     pub gone : HaveGone w limits begun why media passes
     pub wires : All (IsWirePass lock) passes
     pub closed : IfRan end (λ t. ClosedAs w.tells (base_of lock).origin passes why t asked answers)
+    pub untold : IfWanting end (LeavesUntold w.tells (base_of lock).origin passes)

@@ -34,13 +34,22 @@ abbrev pub Became : {M : Type 0} → Plan → List (Option M) → List (Option M
 Became plan media left n old new = (medium_at plan media n ≡ Some old) × (medium_at plan left n ≡ Some new)
 
 module _ {M : Type 0} (w : Media M) where
+  -- the medium held the log with which its node was opened
+  abbrev pub WasHeld : Trace → NodeId → M → Type 0
+  WasHeld t n old = (log : List Effect) → opened_log t.opened n ≡ Some log → storage (w.reads old) ≡ Ok log
+
+  -- a crash now leaves of the medium its node's durable log, with the first of its open effects
+  abbrev pub LeavesLife : Plan → Trace → NodeId → M → Type 0
+  LeavesLife plan t n new = (c : Image) → w.may_leave new c → IsKept (life_after plan t n) c
+
+module _ {M : Type 0} (w : Media M) where
   module _ (media left : List (Option M)) where
     -- ---- logs
 
     -- The node was opened with the log that its medium held. A crash now leaves its durable log with the first of its open effects, of which a node that isn't down has none.
     pub record KeepsLog (plan : Plan) (t : Trace) (n : NodeId) (old new : M) : Type 0 where
-      pub opened : (log : List Effect) → opened_log t.opened n ≡ Some log → storage (w.reads old) ≡ Ok log
-      pub images : (c : Image) → w.may_leave new c → IsKept (life_after plan t n) c
+      pub opened : WasHeld w t n old
+      pub images : LeavesLife w plan t n new
       pub up : down_cause n t.entries ≡ None → open_effects plan t n ≡ []
 
     -- The logs of the trace are those of the media, before and after.

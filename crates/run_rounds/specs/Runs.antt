@@ -3,6 +3,7 @@ use Rattle.std.specs.Prelude.{◌≡◌, ◌≢◌, ◌⊎◌, ◌≤◌, ◌<�
 use Rattle.pseudo_time.specs.Lists.{Every}
 use Rattle.stream_port.specs.declared.fates.Asked.{Asked}
 use Rattle.stream_port.specs.Causes.{Rose}
+use Rattle.pseudo_time.specs.declared.nodes.NodeId.{NodeId}
 use Rattle.pseudo_time.specs.Nodes.{broker}
 use Rattle.effect_form.specs.declared.effects.Effect.{Effect}
 use Rattle.version_store.specs.Storage.{storage}
@@ -11,14 +12,14 @@ use Rattle.broker_core.specs.declared.resume_faults.ResumeFault.{ResumeFault}
 use Rattle.broker_core.specs.declared.resume_faults.ResumeFault.TheVariants as resuming
 use Rattle.broker_core.specs.Readings.{reading}
 use Rattle.world_core.specs.declared.traces.Trace.{Trace}
-use Rattle.world_core.specs.Legal.{JustNodes, AllReady, base_of, asked_of, is_within}
+use Rattle.world_core.specs.Legal.{JustNodes, AllReady, base_of, asked_of, in_plan, is_within}
 use Rattle.world_core.specs.Readings.{IsLegal}
 use Rattle.wire_core.specs.Clocked.{IsClocked, tick_moments}
 use Rattle.trace_logs.specs.Replays.{IsOpened}
 use Rattle.run_rounds.specs.Ends.{HasEnded, IsUnopened}
 use Rattle.run_media.specs.Media.{Media}
 use Rattle.run_media.specs.Openings.{fault_in}
-use Rattle.run_rounds.specs.Media.{Became, medium_at, RestoresLogs, AreCounted, HaveCauses}
+use Rattle.run_rounds.specs.Media.{Became, LeavesLife, WasHeld, medium_at, RestoresLogs, AreCounted, HaveCauses}
 
 -- a run's trace, and what the fates and the clock had told before and have after it
 pub record Account : Type 0 where
@@ -50,6 +51,15 @@ pub record Ran {M : Type 0} (w : Media M) (most_ticks enough : ℕ) (plan : Plan
   pub logs : RestoresLogs w media left plan told.trace
   pub counts : AreCounted w media left plan told.trace
   pub stops : IsTrue w.tells → HaveCauses w media left plan told.trace
+
+-- Memory was wanting in a run of the plan over these media, and its trace is told to no one. There is one: legal for the plan, with each node opened with the log that its medium held, and a crash now
+-- leaves of each medium its node's durable log there, with the first of its open effects.
+pub record RanUntold {M : Type 0} (w : Media M) (plan : Plan) (asked_before : List Asked) (media left : List (Option M)) : Type 0 where
+  pub trace : Trace
+  pub nodes : JustNodes plan trace.opened
+  pub ready : AllReady (base_of (reading plan.acts) plan trace)
+  pub legal : IsLegal plan (asked_before ++ map asked_of trace.sent) trace
+  pub logs : (n : NodeId) → in_plan plan n ≡ true → (old : M) × (new : M) × Became plan media left n old new × WasHeld w trace n old × LeavesLife w plan trace n new
 
 -- ---- where no run began
 

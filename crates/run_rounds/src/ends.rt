@@ -2,7 +2,8 @@
 ghost use Rattle.std.specs.Prelude.{◌≡◌, ◌+◌, length, vec_len, All};
 ghost use Rattle.seat_lock.specs.Words.{base_of};
 ghost use Rattle.wire_lock.specs.Sights.{IsWirePass};
-ghost use Rattle.run_rounds.specs.Closings.{ClosedAs, IfRan, ToldFor};
+ghost use Rattle.wire_lock.specs.Stories.{LeavesUntold};
+ghost use Rattle.run_rounds.specs.Closings.{ClosedAs, IfRan, IfWanting, ToldFor};
 
 use broker_core::ResumeFault;
 use medium_port::Medium;
@@ -60,6 +61,8 @@ pub fn closed_run<F: Fates, C: Clock, M: Medium>(
     requires all { vec_len ended.passes ≡ length (base_of wire.lock).origin.opened + 1 }
     ensures closed { IfRan result.end (λ t.
         ClosedAs M.tells (base_of wire.lock).origin ended.passes.items ended.reason t (F.asked result.fates) (C.answers result.clock)) }
+    // Where it isn't told, there is one, too.
+    ensures untold { IfWanting result.end (LeavesUntold M.tells (base_of wire.lock).origin ended.passes.items) }
     ensures media { result.media ≡ ended.media.items }
 {
     let Ended {

@@ -1,5 +1,6 @@
 -- From how a run ended to what comes of its plan.
 use Rattle.std.proofs.Common.{◌≡◌, ◌⊎◌, inl, inr, ℕ, IsTrue, List, length, Option, Some, None, refl, ap, sym, subst, ◌∙◌}
+use Rattle.std.specs.List.{AllZip}
 use Rattle.std.proofs.lemmas.Slice.Zip.{AllZip-long}
 use Rattle.pseudo_time.specs.Lists.{Every}
 use Rattle.stream_port.specs.declared.fates.Asked.{Asked}
@@ -10,18 +11,18 @@ use Rattle.world_core.specs.Legal.{JustNodes}
 use Rattle.world_core.specs.Readings.{IsLegal}
 use Rattle.run_rounds.specs.Stories.{no_trace}
 use Rattle.command_words.specs.declared.commands.Options.{Options}
-use Rattle.run_media.specs.Media.{Media, AreBack, IsBack}
+use Rattle.run_media.specs.Media.{Media, AreBack, IsBack, IsLeftAlone}
 use Rattle.run_media.specs.Places.{node_count}
 use Rattle.run_rounds.specs.declared.ends.End.{End}
 use Rattle.run_rounds.specs.declared.ends.End.TheVariants as end
-use Rattle.run_rounds.specs.Runs.{Ran, HasRanges}
-use Rattle.run_rounds.specs.Finishes.{EndsAs, Tellers, account_of}
+use Rattle.run_rounds.specs.Runs.{Ran, RanUntold, HasRanges}
+use Rattle.run_rounds.specs.Finishes.{EndsAs, IsKeptWhole, Tellers, account_of}
 use Rattle.serial_law.specs.Serials.{HoldsFinals, IsSerialOver}
 use Rattle.serial_law.specs.Acknowledged.{KeepsAnswers, SpendsRightly}
 use Rattle.serial_law.specs.Reasons.{AddedHaveReasons, HaveReasons}
 use Rattle.swallow_top.specs.declared.media.Kept.{Kept}
 use Rattle.swallow_top.specs.declared.reports.Wanted.{Wanted}
-use Rattle.swallow_top.specs.Contract.{AllKept, CameOf, Completes, HasNoRun, LosesNothing, RanOver, RunsPlan}
+use Rattle.swallow_top.specs.Contract.{AllKept, CameOf, Completes, HasNoRun, RanOver, RunsPlan, WantedMemory}
 use Rattle.swallow_top.specs.Shelves.{ShelfSight, WereTaken, kept_from}
 use Rattle.swallow_top.specs.Tellings.{OfRun, TellsEnd, status_of, wanted_text}
 use Rattle.swallow_top.specs.Written.{Sinking, EndsIfAny}
@@ -71,16 +72,30 @@ module _ {M : Type 0} (w : Media M) (old new : ShelfSight) (plan : Plan) (o : Op
     added = added plan told.asked t;
   }
 
+  -- memory was wanting in a run that isn't told
+  no-memory : (t : Trace) → t ≡ no_trace → AllZip (IsKeptWhole w) media left → (IsTrue w.tells → AllZip (IsLeftAlone w) media left ⊎ RanUntold w plan told.asked_before media left)
+      → WantedMemory {M = M} w old new (kept_from plan 0 left) plan (account_of t told)
+  no-memory t none whole past = record {
+    trace = none;
+    media = media;
+    left = left;
+    count = full;
+    taken = taken;
+    handed = refl;
+    safe = lose-nothing w old plan 0 media left taken.are whole;
+    past = past;
+  }
+
   by-end : (wanted : Wanted) (e : End) (status : ℕ) (t : Trace) (s : Sinking) → EndsAs w o.ticks o.messages plan told media left e → TellsEnd wanted plan e status t s → CameOf {M = M} w old new (kept_from plan 0 left) plan wanted o (account_of t told) s status
   by-end wanted (end.Ran r) status t s ends tells =
       subst (λ (z : Trace). CameOf {M = M} w old new (kept_from plan 0 left) plan wanted o (account_of z told) s status) (sym tells.0) (inr (inr (ran-over r ends, tells.1)))
-  by-end wanted (end.Refused fault) status t s ends (none, inl seven) = inl (seven, none, lose-nothing w old plan 0 media left taken.are (alone-whole {M = M} w media left ends.1))
+  by-end wanted (end.Refused fault) status t s ends (none, inl seven) = inl (seven, no-memory t none (alone-whole {M = M} w media left ends.1) (λ tells. inl ends.1))
   by-end wanted (end.Refused fault) status t s ends (none, inr two) = inr (inl (
     two.0,
     record { media = media; left = left; count = full; taken = taken; handed = refl; untouched = ends.1; why = fault; first = ends.2; line = two.1 },
     record { trace = none; fates = ends.3; clock = ends.4 },
   ))
-  by-end wanted end.NoMemory status t s ends tells = inl (tells.1, tells.0, lose-nothing w old plan 0 media left taken.are ends.1)
+  by-end wanted end.NoMemory status t s ends tells = inl (tells.1, no-memory t tells.0 ends.1.0 ends.1.1)
 
   -- where all is smooth
   completes : (wanted : Wanted) (e : End) (status : ℕ) (t : Trace) (s : Sinking) → EndsAs w o.ticks o.messages plan told media left e → TellsEnd wanted plan e status t s → Completes {M = M} w old new (kept_from plan 0 left) plan o (account_of t told) s status

@@ -17,8 +17,7 @@ use Rattle.run_rounds.specs.Stories.{no_trace}
 use Rattle.command_words.specs.declared.commands.Options.{Options}
 use Rattle.run_media.specs.Media.{Media, IsLeftAlone}
 use Rattle.run_media.specs.Places.{node_count}
-use Rattle.run_rounds.specs.Runs.{Account, Ran, IsFirstFault}
-use Rattle.run_rounds.specs.Finishes.{IsKeptWhole}
+use Rattle.run_rounds.specs.Runs.{Account, Ran, RanUntold, IsFirstFault}
 use Rattle.serial_law.specs.Serials.{HoldsFinals, IsSerialOver}
 use Rattle.serial_law.specs.Acknowledged.{KeepsAnswers, SpendsRightly}
 use Rattle.serial_law.specs.Reasons.{AddedHaveReasons, HaveReasons}
@@ -78,9 +77,21 @@ module _ {M : Type 0} (w : Media M) (old new : ShelfSight) (kept : List (Kept M)
       pub first : IsFirstFault w plan media left why
       pub line : GotLine s (resume_line why)
 
-    -- What came of running the plan: memory was wanting, and nothing that a medium held is lost; or a broker's log refuses it; or it ran, and is told unless memory was wanting for that.
+    -- Memory was wanting, and no trace is told. The media that the shelf gave are handed back, and none lost anything. They have a past all the same: none was written to; or there was a run, whose trace is
+    -- told to no one.
+    pub record WantedMemory (told : Account) : Type 0 where
+      pub trace : told.trace ≡ no_trace
+      pub media : List (Option M)
+      pub left : List (Option M)
+      pub count : length media ≡ node_count plan
+      pub taken : WereTaken w old new plan media
+      pub handed : kept ≡ kept_from plan 0 left
+      pub safe : Every (LosesNothing w old) kept
+      pub past : IsTrue w.tells → AllZip (IsLeftAlone w) media left ⊎ RanUntold w plan told.asked_before media left
+
+    -- What came of running the plan: memory was wanting; or a broker's log refuses it; or it ran, and is told unless memory was wanting for that.
     abbrev pub CameOf : Wanted → Options → Account → Sinking → ℕ → Type 0
-    CameOf wanted o told s status = ((status ≡ 7) × (told.trace ≡ no_trace) × Every (LosesNothing w old) kept)
+    CameOf wanted o told s status = ((status ≡ 7) × WantedMemory told)
         ⊎ (((status ≡ 2) × IsRefusedByLog s × HasNoRun told)
         ⊎ (RanOver o told × EndsIfAny status s (status_of plan told.trace) (wanted_text wanted plan told.trace)))
 

@@ -21,4 +21,5 @@ returns g c =
       gone = gone-left w c.args.limits c.args.nodes.items r.reason r.media.items c.closed_run.result.media r.passes.items c.closed_run.ensures.media c.rounds-ended.ensures.gone;
       wires = c.rounds-ended.ensures.passes;
       closed = c.closed_run.ensures.closed;
+      untold = c.closed_run.ensures.untold;
     }

@@ -1,4 +1,4 @@
-use Rattle.std.proofs.Common.{◌≡◌, ◌∙◌, [], length, map, sym, subst, ap, arith}
+use Rattle.std.proofs.Common.{◌≡◌, ◌∙◌, [], length, map, sym, subst, ap, arith, inl}
 use Rattle.std.proofs.lemmas.List.{length-map}
 use Rattle.std.specs.Prelude.{All}
 use Rattle.seat_lock.specs.Words.{base_of, knows}
@@ -9,7 +9,7 @@ use Rattle.run_starts.specs.Seats.{IsNewNode}
 use Rattle.run_rounds.specs.declared.ends.End.TheVariants as end
 use Rattle.run_rounds.specs.Closings.{Pass}
 use Rattle.run_rounds.specs.Finishes.{EndsAs, tellers}
-use Rattle.run_rounds.proofs.BackLemmas.{opened-back, opened-kept}
+use Rattle.run_rounds.proofs.BackLemmas.{opened-alone, opened-back, opened-kept}
 use Rattle.run_rounds.proofs.CloseLemmas.{new-conductor}
 use Rattle.run_rounds.proofs.ListLemmas.{all-mapped}
 use Rattle.run_rounds.proofs.PlaceLemmas.{pass-count, seats-count}
@@ -41,7 +41,7 @@ returns-in_default g c first opened =
     let told = tellers wire.origin.asked (g.F.Fates.asked r.fates) wire.origin.answers (g.C.Clock.answers r.clock) in
     subst (λ e. EndsAs w c.args.limits.ticks c.args.limits.messages plan told first r.media e) (sym c.stopped.ensures.end)
     (subst (λ left. EndsAs w c.args.limits.ticks c.args.limits.messages plan told first left end.NoMemory) (sym (c.stopped.ensures.media ∙ c.give_back.ensures.back))
-    (opened-back w first os opened, opened-kept w first os opened))
+    (opened-back w first os opened, opened-kept w first os opened, λ told. inl (opened-alone w first os opened)))
 
 pub open_nodes-nodes-requires-clause-can : goal.open_nodes-nodes-requires-clause-can
 open_nodes-nodes-requires-clause-can g c =
@@ -93,7 +93,7 @@ returns-then-not-is_whole g c first opened =
     let told = tellers wire.origin.asked (g.F.Fates.asked r.fates) wire.origin.answers (g.C.Clock.answers r.clock) in
     subst (λ e. EndsAs w c.args.limits.ticks c.args.limits.messages plan told first r.media e) (sym c.stopped-then-not-is_whole.ensures.end)
     (subst (λ left. EndsAs w c.args.limits.ticks c.args.limits.messages plan told first left end.NoMemory) (sym (c.stopped-then-not-is_whole.ensures.media ∙ back.0))
-    (opened-back w first os opened, opened-kept w first os opened))
+    (opened-back w first os opened, opened-kept w first os opened, λ told. inl (opened-alone w first os opened)))
 
 pub run_nodes-requires-clause-ready : goal.run_nodes-requires-clause-ready
 run_nodes-requires-clause-ready g c κs within =
