@@ -143,6 +143,14 @@ is "acts with parents missing" "$(held "$work/not/there/yet")" 1
 is "status of a relative folder" "$?" 0
 is "acts of a relative folder" "$(held "$work/here/too")" 1
 
+# A look makes nothing.
+"$program" "$work/nowhere" history 1.1 > "$work/out" 2> "$work/err"
+is "status of a look into a missing folder" "$?" 0
+has "line of a look into a missing folder" "$work/err" "nowhere/repository-1-0: not there yet"
+is "what a look into a missing folder makes" "$(ls -d "$work/nowhere" 2> /dev/null)" ""
+"$program" "$work/here/too" history 3.1 > "$work/out" 2> "$work/err"
+is "what a look at a missing medium makes" "$(ls "$work/here/too" | grep -c repository-3)" 0
+
 touch "$work/file"
 mistake "a file in place of the folder" "$work/file" "Not a directory"
 mistake "a file in place of a parent" "$work/file/data" "Not a directory"

@@ -66,6 +66,35 @@ fn files(rt: HostRuntime) -> Result<(), Fail> {
     Ok(())
 }
 
+// A shelf for a look makes nothing: what isn't there reads 0, and takes no write.
+#[test]
+fn looks(rt: HostRuntime) -> Result<(), Fail> {
+    let alloc = rt.alloc();
+    let folder = format!(in alloc; "/tmp/swallow-look-{}", process::id(rt.process()))?;
+    let mut missing = FileShelf::for_a_look(alloc, rt, rt.stderr(), folder.as_str())?;
+    assert_eq!(rt; taken(&mut missing, 1), Ok((4096, [0, 0])));
+    assert_eq!(rt; written(&mut missing, 2, &[5, 6]), Err(MediumFault));
+    drop(missing);
+    let unmade = fs::remove_dir(&rt, folder.as_str()).is_err();
+    assert!(rt; unmade);
+    let mut shelf = FileShelf::new(alloc, rt, rt.stderr(), folder.as_str())?;
+    assert_eq!(rt; written(&mut shelf, 1, &[5, 6]), Ok((4096, [5, 6])));
+    drop(shelf);
+    let mut look = FileShelf::for_a_look(alloc, rt, rt.stderr(), folder.as_str())?;
+    assert_eq!(rt; taken(&mut look, 1), Ok((4096, [5, 6])));
+    assert_eq!(rt; taken(&mut look, 2), Ok((4096, [0, 0])));
+    drop(look);
+    for name in ["repository-1-0", "lock"] {
+        let path = format!(in alloc; "{}/{name}", folder.as_str())?;
+        let removed = fs::remove_file(&rt, path.as_str()).is_ok();
+        assert!(rt; removed);
+    }
+    // A second medium would keep the folder.
+    let removed = fs::remove_dir(&rt, folder.as_str()).is_ok();
+    assert!(rt; removed);
+    Ok(())
+}
+
 #[test]
 fn memory_shelf(rt: HostRuntime) -> Result<(), Fail> {
     let alloc = rt.alloc();
