@@ -2,7 +2,10 @@
 //! comes from standard input, and its report goes to standard output.
 #![tactic(auto)]
 
+mod progress;
+
 use medium_port::FileShelf;
+use progress::ToldFates;
 use std::fs::{self, File};
 use std::io::ErrorKind;
 use std::process::ExitCode;
@@ -91,6 +94,11 @@ fn main(rt: HostRuntime) -> ExitCode {
     let Ok(mut shelf) = made else {
         return without_memory(rt);
     };
+    let fates = ToldFates::new(
+        MemoryFates::new(alloc, Vec::new(alloc)),
+        &rt,
+        rt.stderr(),
+    );
     let ended = swallow(
         &rt,
         alloc,
@@ -98,7 +106,7 @@ fn main(rt: HostRuntime) -> ExitCode {
         &mut source,
         &mut sink,
         &mut shelf,
-        MemoryFates::new(alloc, Vec::new(alloc)),
+        fates,
         SecondsClock::new(&rt),
     );
     if ended.status == NO_MEMORY {
