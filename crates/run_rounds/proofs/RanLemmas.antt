@@ -45,7 +45,7 @@ use Rattle.run_starts.specs.Seats.{Along, IsNewNode}
 use Rattle.run_starts.specs.Starts.{IsSetUp, fresh_for}
 use Rattle.run_rounds.specs.declared.ends.End.{End}
 use Rattle.run_rounds.specs.declared.ends.End.TheVariants as end
-use Rattle.run_rounds.specs.Closings.{ClosedAs, HasRun, HaveGone, IfRan, IfWanting, ListEnds, Pass}
+use Rattle.run_rounds.specs.Closings.{ClosedAs, HasClosed, HaveGone, IfRan, IfWanting, ListEnds, Pass}
 use Rattle.run_rounds.specs.Ends.{AllDone, HasEnded, HasRunOut, TicksAreWanted, broker_done_after, some_down}
 use Rattle.run_rounds.specs.Finishes.{EndsAs, IsKeptWhole, account_of, tellers}
 use Rattle.run_rounds.specs.Runs.{IsTold, Ran, RanUntold}
@@ -246,7 +246,7 @@ module _ {M Q A : Type 0} {g : _} (w : Media M) (limits : Limits) (plan : Plan) 
     )
 
   -- a run whose nodes were opened ends as it is told
-  pub ends-as : (media : List (Option M)) (e : End) → HasRun w lock limits begun media e asked answers
+  pub ends-as : (media : List (Option M)) (e : End) → HasClosed w lock limits begun media e asked answers
       → EndsAs w limits.ticks limits.messages plan (tellers (lock_base lock).origin.asked asked (lock_base lock).origin.answers answers) first media e
   ends-as media e run =
       subst (λ (l : List (Option M)). EndsAs w limits.ticks limits.messages plan (tellers (lock_base lock).origin.asked asked (lock_base lock).origin.answers answers) first l e) (sym run.gone.media_are)

@@ -87,7 +87,7 @@ pub record HaveGone {M : Type 0} (w : Media M) (limits : Limits) (begun : List (
 
 module _ {M Q A : Type 0} (w : Media M) (lock : LockTable WireParts (View WireParts Entry) (Founding WireParts) Q A) (limits : Limits) where
   -- Nodes went in rounds from these on, and then the run's wire closed: their media stand in their places, and this is the end.
-  pub record HasRun (begun : List (NodeParts M)) (media : List (Option M)) (end : End) (asked : List Asked) (answers : Option (List ℕ)) : Type 0 where
+  pub record HasClosed (begun : List (NodeParts M)) (media : List (Option M)) (end : End) (asked : List Asked) (answers : Option (List ℕ)) : Type 0 where
     pub why : Reason
     pub passes : List Pass
     pub gone : HaveGone w limits begun why media passes

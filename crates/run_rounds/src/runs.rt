@@ -11,7 +11,7 @@ ghost use Rattle.run_starts.specs.Starts.{IsSetUp, fresh_for};
 ghost use Rattle.run_media.specs.Places.{node_count};
 ghost use Rattle.run_starts.specs.Nodes.{IsReady};
 ghost use Rattle.trace_report.specs.Counts.{tick_count};
-ghost use Rattle.run_rounds.specs.Closings.{HasRun};
+ghost use Rattle.run_rounds.specs.Closings.{HasClosed};
 ghost use Rattle.run_rounds.specs.Finishes.{EndsAs, IsEndFor, tellers};
 
 use crate::courses::rounds;
@@ -144,7 +144,7 @@ fn run_nodes<
     requires pass { IsWirePass wire.lock conductor × ((knows conductor).owner ≡ 0) × (tick_count (knows conductor).own ≡ 0) }
     requires empty { (media.items ≡ []) × (passes.items ≡ []) }
     requires room { (vec_len nodes ≤ vec_capacity media) × (vec_len nodes < vec_capacity passes) }
-    ensures { HasRun M.Medium wire.lock limits nodes.items result.media result.end
+    ensures { HasClosed M.Medium wire.lock limits nodes.items result.media result.end
         (F.asked result.fates) (C.answers result.clock) }
 {
     let ended = rounds(rt, &wire, limits, nodes, shares, conductor, media, passes);

@@ -28,7 +28,7 @@ use Rattle.run_rounds.specs.Ends.{some_down}
 use Rattle.run_rounds.specs.Finishes.{Tellers, account_of}
 use Rattle.run_rounds.specs.Media.{Became, inner, medium_at}
 use Rattle.run_rounds.specs.Runs.{IsFirstFault, Ran}
-use Rattle.swallow_top.specs.Smooth.{IsComplete, IsSmoothRun, pages_for}
+use Rattle.swallow_top.specs.Smooth.{WentSmoothly, IsSmoothRun, pages_for}
 use Rattle.swallow_top.proofs.PageLemmas.{blank-none}
 use Rattle.swallow_top.proofs.SmoothLemmas.{complete, none-down}
 use Rattle.swallow_top.proofs.StandingLemmas.{none-open}
@@ -40,7 +40,7 @@ use Rattle.swallow_top.proofs.ShelfLemmas.{kept-has}
 use Rattle.run_rounds.proofs.DealLemmas.{some-within}
 
 -- the status of a complete run
-pub complete-status : (plan : Plan) (t : Trace) → IsComplete plan t → status_of plan t ≡ 0
+pub complete-status : (plan : Plan) (t : Trace) → WentSmoothly plan t → status_of plan t ≡ 0
 complete-status plan t c =
     ap (λ (d : Bool). if d then 6 else (if open_acts plan t == 0 then 0 else 5)) (none-down t.entries c.quiet)
     ∙ ap (λ (n : ℕ). if n == 0 then 0 else 5) (none-open _ c.acts)
@@ -131,10 +131,10 @@ module _ {M : Type 0} (w : Media M) (old new : ShelfSight) (plan : Plan) where
           plain = smooth.plain;
         }
 
-        pub over-smooth : IsOfLanguage plan → Ran w o.ticks o.messages plan (account_of t told) media left → IsComplete plan t
+        pub over-smooth : IsOfLanguage plan → Ran w o.ticks o.messages plan (account_of t told) media left → WentSmoothly plan t
         over-smooth language ran = complete w tells o.ticks o.messages most plan language (account_of t told) media left ran smooth-run
 
 -- a smooth run is complete
 pub run-complete : {M : Type 0} (w : Media M) (old new : ShelfSight) (plan : Plan) (language : IsOfLanguage plan) (o : Options) (told : Tellers) (media left : List (Option M)) → WereTaken w old new plan media → length media ≡ node_count plan → IsTrue w.tells
-    → (t : Trace) → Ran w o.ticks o.messages plan (account_of t told) media left → (s : Sinking) (most : ℕ) → IsSmooth {M = M} w old new (kept_from plan 0 left) plan o (account_of t told) s most → IsComplete plan t
+    → (t : Trace) → Ran w o.ticks o.messages plan (account_of t told) media left → (s : Sinking) (most : ℕ) → IsSmooth {M = M} w old new (kept_from plan 0 left) plan o (account_of t told) s most → WentSmoothly plan t
 run-complete w old new plan language o told media left taken full tells t ran s most smooth = over-smooth w old new plan o told media left taken tells t s most smooth full language ran

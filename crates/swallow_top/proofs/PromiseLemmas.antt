@@ -30,7 +30,7 @@ use Rattle.swallow_top.specs.Contract.{AllKept, CameOf, HasNoRun, IsNoPlan, Refu
 use Rattle.swallow_top.specs.Histories.{TellsHistory, ShowsDown, ShowsHistory, home_of}
 use Rattle.swallow_top.specs.Inputs.{OfInput}
 use Rattle.swallow_top.specs.Plans.{ReadsPlan}
-use Rattle.swallow_top.specs.Promise.{Call, HasNoWords, IsQuiet, IsUnread, Promise, WasDone}
+use Rattle.swallow_top.specs.Promise.{Call, HasNoWords, TouchedNothing, IsUnread, Promise, WasDone}
 use Rattle.swallow_top.specs.Shelves.{ShelfSight}
 use Rattle.swallow_top.specs.Tellings.{status_of, status_with}
 use Rattle.swallow_top.specs.Written.{Sinking, Ends, EndsIfAny}
@@ -93,12 +93,12 @@ some-workers o words h = subst (λ (x : Options). 1 ≤ x.workers) (sym h.2) (gi
 -- ---- calls
 
 module _ {M : Type 0} (c : Call M) where
-  pub quiet-call : (status : ℕ) → c.status ≡ status → c.media ≡ [] → c.shelf.asked ≡ c.shelf_before.asked → c.told.trace ≡ no_trace → c.told.asked ≡ c.told.asked_before → c.told.answers ≡ c.told.answers_before → IsQuiet c status
+  pub quiet-call : (status : ℕ) → c.status ≡ status → c.media ≡ [] → c.shelf.asked ≡ c.shelf_before.asked → c.told.trace ≡ no_trace → c.told.asked ≡ c.told.asked_before → c.told.answers ≡ c.told.answers_before → TouchedNothing c status
   quiet-call status is none unasked trace asked answers = record { status_is = is; none = none; unasked = unasked; no_run = record { trace = trace; fates = asked; clock = answers } }
 
   -- a call that refused what it read, or had no memory
   refused-run : (o : Options) (s : Stop) → AreWords (Run o) c.words → ReadsPlan c.input c.left c.faults_before c.faults (Err s) → RefusedAs s c.status c.sink
-      → ((status : ℕ) → c.status ≡ status → IsQuiet c status) → HasNoWords c ⊎ (IsQuiet c 7 ⊎ ((command : Command) × AreWords command c.words × WasDone c command))
+      → ((status : ℕ) → c.status ≡ status → TouchedNothing c status) → HasNoWords c ⊎ (TouchedNothing c 7 ⊎ ((command : Command) × AreWords command c.words × WasDone c command))
   refused-run o (stop.Fault line kind) words read (inl seven) quiet = inr (inl (quiet 7 seven))
   refused-run o (stop.Fault line kind) words read (inr two) quiet =
       inr (inr (Run o, words, inr (inl (quiet 2 two.0, of_input-with c.input (λ input. IsPlanFault input line kind) (λ input. IsNoPlan input c.sink) (λ input h. record { line = line; kind = kind; is_fault = h; told = two.1 }) read))))
@@ -115,10 +115,10 @@ module _ {M : Type 0} (c : Call M) where
   refused-most stop.NoMemory h = omega (arith, h)
   refused-most stop.Sink h = omega (arith, h)
 
-  pub promise-none : IsUnread c → AreNone c.words → RefusedAs stop.Words c.status c.sink → ((status : ℕ) → c.status ≡ status → IsQuiet c status) → AllKept c.shelf_before c.shelf c.media → Promise c
+  pub promise-none : IsUnread c → AreNone c.words → RefusedAs stop.Words c.status c.sink → ((status : ℕ) → c.status ≡ status → TouchedNothing c status) → AllKept c.shelf_before c.shelf c.media → Promise c
   promise-none unread none refused quiet kept = record { done = inl (quiet 1 refused.0, unread, none, refused.1); kept = kept; statuses = refused-most stop.Words refused }
 
-  pub promise-refused : (o : Options) (s : Stop) → AreWords (Run o) c.words → ReadsPlan c.input c.left c.faults_before c.faults (Err s) → RefusedAs s c.status c.sink → ((status : ℕ) → c.status ≡ status → IsQuiet c status) → AllKept c.shelf_before c.shelf c.media → Promise c
+  pub promise-refused : (o : Options) (s : Stop) → AreWords (Run o) c.words → ReadsPlan c.input c.left c.faults_before c.faults (Err s) → RefusedAs s c.status c.sink → ((status : ℕ) → c.status ≡ status → TouchedNothing c status) → AllKept c.shelf_before c.shelf c.media → Promise c
   promise-refused o s words read refused quiet kept = record { done = refused-run o s words read refused quiet; kept = kept; statuses = refused-most s refused }
 
   pub promise-run : (o : Options) (plan : Plan) → AreWords (Run o) c.words → ReadsPlan c.input c.left c.faults_before c.faults (Ok plan) → RunsPlan c.media_are c.shelf_before c.shelf c.media plan Report o c.told c.sink c.status → AllKept c.shelf_before c.shelf c.media → Promise c
@@ -135,7 +135,7 @@ module _ {M : Type 0} (c : Call M) where
     statuses = runs-most c.media_are c.shelf_before c.shelf c.media plan (Summary seed) o c.told c.sink c.status runs;
   }
 
-  pub promise-wanting : IsQuiet c 7 → AllKept c.shelf_before c.shelf c.media → Promise c
+  pub promise-wanting : TouchedNothing c 7 → AllKept c.shelf_before c.shelf c.media → Promise c
   promise-wanting quiet kept = record { done = inr (inl quiet); kept = kept; statuses = let e = quiet.status_is in omega (arith, e) }
 
   pub promise-history : (object : ObjectId) → IsUnread c → AreWords (History object) c.words → TellsHistory c.media_are c.shelf_before c.shelf object c.media c.sink c.status → HasNoRun c.told → Promise c

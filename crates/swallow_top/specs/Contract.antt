@@ -22,7 +22,7 @@ use Rattle.serial_law.specs.Serials.{HoldsFinals, IsSerialOver}
 use Rattle.serial_law.specs.Acknowledged.{KeepsAnswers, SpendsRightly}
 use Rattle.serial_law.specs.Reasons.{AddedHaveReasons, HaveReasons}
 use Rattle.complete_law.specs.Calm.{IsPlain}
-use Rattle.swallow_top.specs.Smooth.{AskAtMost, IsComplete, messages_for, pages_for}
+use Rattle.swallow_top.specs.Smooth.{AskAtMost, WentSmoothly, messages_for, pages_for}
 use Rattle.swallow_top.specs.declared.media.Kept.{Kept}
 use Rattle.swallow_top.specs.declared.reports.Wanted.{Wanted}
 use Rattle.swallow_top.specs.declared.stops.Stop.{Stop}
@@ -109,7 +109,7 @@ module _ {M : Type 0} (w : Media M) (old new : ShelfSight) (kept : List (Kept M)
 
     -- Where all is smooth the run is complete, and its text is written, unless memory was wanting.
     abbrev pub Completes : Options → Account → Sinking → ℕ → Type 0
-    Completes o told s status = IsTrue w.tells → (most : ℕ) → IsSmooth o told s most → (status ≡ 7) ⊎ ((status ≡ 0) × IsComplete plan told.trace)
+    Completes o told s status = IsTrue w.tells → (most : ℕ) → IsSmooth o told s most → (status ≡ 7) ⊎ ((status ≡ 0) × WentSmoothly plan told.trace)
 
     -- what came of running the plan; and what must succeed, succeeds
     pub record RunsPlan (wanted : Wanted) (o : Options) (told : Account) (s : Sinking) (status : ℕ) : Type 0 where

@@ -38,7 +38,7 @@ pub record Call (M : Type 0) : Type 1 where
 
 module _ {M : Type 0} (c : Call M) where
   -- nothing was run: no medium was taken or asked for, and nothing was asked of fates and clock
-  pub record IsQuiet (status : ℕ) : Type 0 where
+  pub record TouchedNothing (status : ℕ) : Type 0 where
     pub status_is : c.status ≡ status
     pub none : c.media ≡ []
     pub unasked : c.shelf.asked ≡ c.shelf_before.asked
@@ -50,15 +50,15 @@ module _ {M : Type 0} (c : Call M) where
 
   -- the words are no command, and the sink got the line that says so
   abbrev pub HasNoWords : Type 0
-  HasNoWords = IsQuiet 1 × IsUnread × AreNone c.words × GotLine c.sink words_line
+  HasNoWords = TouchedNothing 1 × IsUnread × AreNone c.words × GotLine c.sink words_line
 
   -- the source failed
   abbrev pub HasFailedSource : Type 0
-  HasFailedSource = IsQuiet 3 × Rose c.faults_before c.faults × GotLine c.sink source_line
+  HasFailedSource = TouchedNothing 3 × Rose c.faults_before c.faults × GotLine c.sink source_line
 
   -- the input is no plan
   abbrev pub HasNoPlan : Type 0
-  HasNoPlan = IsQuiet 2 × OfInput c.input (λ input. IsNoPlan input c.sink)
+  HasNoPlan = TouchedNothing 2 × OfInput c.input (λ input. IsNoPlan input c.sink)
 
   -- the input, which was read to its end, is a plan, and this came of running it
   abbrev pub HasRun : Options → Type 0
@@ -72,7 +72,7 @@ module _ {M : Type 0} (c : Call M) where
 
   pub record Promise : Type 0 where
     -- The words are no command; or memory was wanting before anything was done; or the words are a command, and this was done.
-    pub done : HasNoWords ⊎ (IsQuiet 7 ⊎ ((command : Command) × AreWords command c.words × WasDone command))
+    pub done : HasNoWords ⊎ (TouchedNothing 7 ⊎ ((command : Command) × AreWords command c.words × WasDone command))
     -- Each medium that was taken is handed back.
     pub kept : AllKept c.shelf_before c.shelf c.media
     pub statuses : c.status ≤ 7
