@@ -23,7 +23,7 @@ use Rattle.world_core.specs.Nodes.Input.{Going, Taking}
 use Rattle.world_core.specs.Walks.{Base, Life, World, opened_life, sent_by, start_world, step, after_input}
 use Rattle.world_core.specs.Walks as walks
 use Rattle.world_core.specs.Legal.{Rule, MayGo, MayTake}
-use Rattle.complete_law.specs.Calm.{AskAtMost, CalmPlace, CalmRun, IsCalm, log_at, world_at}
+use Rattle.complete_law.specs.Calm.{AskAtMost, CalmPlace, CalmRun, IsUnstopped, log_at, world_at}
 use Rattle.complete_law.proofs.BrokerBounds.{IsAllowed, IsLed, all-led, few-answers, state-is}
 use Rattle.complete_law.proofs.BrokerMoves as moves
 use Rattle.complete_law.proofs.Costs as costs
@@ -113,7 +113,7 @@ module _ (u v z : ℕ) (r : CalmRun) where
               (let x = costs.go-paid u v z b.script n b.run (tasks_of b n) (IsBegun w) (IsDecided w) (desk_of b w n) refl (c.sound n) (no-acts n (log_of w (broker n)) (w.life (broker n)).mind.heard new.0) in let y = new.1 in omega (arith, x, y)),
         )
 
-    paid-case : IsCalm e → Rule b (steps.fates r) w e → IsPaid w' n
+    paid-case : IsUnstopped e → Rule b (steps.fates r) w e → IsPaid w' n
     paid-case q rule = by-entry r w f c (IsPaid w' n) e (broker n) q rule (record { kept = kept-paid; takes = take-case; goes = go-case; learns = λ s d may fed. absurd (true≢false may.repository) })
 
   start-paid : (n : ℕ) → IsPaid (start_world b) n

@@ -28,7 +28,7 @@ use Rattle.world_core.specs.Nodes.{gives}
 use Rattle.world_core.specs.Nodes.Input.{Hearing, Learning}
 use Rattle.world_core.specs.Walks as walks
 use Rattle.world_core.specs.Walks.{Base, Life, Sending, World, gated_life, lives_on, names, numbered, opened_life, start_world, step, after_input, took, all_effects}
-use Rattle.complete_law.specs.Calm.{CalmPlace, IsCalm, world_at}
+use Rattle.complete_law.specs.Calm.{CalmPlace, IsUnstopped, world_at}
 use Rattle.complete_law.proofs.Frames.{desk-after, goes, life-with, takes, turned}
 use Rattle.complete_law.proofs.Places.{desk_of, log_of, tasks_of}
 use Rattle.complete_law.proofs.Sizes.{IsOfRun}
@@ -155,7 +155,7 @@ module _ (p : CalmPlace) where
   turn-log w n i l e k =
       subst (λ z. Every (IsOfRun base.run) (reverse (all_effects z))) (sym e) (subst (Every (IsOfRun base.run)) (sym (desk-after base w n i).0) (turn-of base.script n base.run (tasks_of base n) (desk_of base w n) i (k n)))
 
-  one-life : (w : World) (e : Entry) (n : ℕ) → IsCalm e → Only w → Every (IsOfRun base.run) (reverse (all_effects (lives_on base w (broker n) (w.life (broker n)) e)))
+  one-life : (w : World) (e : Entry) (n : ℕ) → IsUnstopped e → Only w → Every (IsOfRun base.run) (reverse (all_effects (lives_on base w (broker n) (w.life (broker n)) e)))
   unfolding gives
   one-life w (entry.Take m k) n q only = go (numbered w.sendings k)
     where
@@ -174,7 +174,7 @@ module _ (p : CalmPlace) where
   one-life w (entry.Gate m) n q only = same-log w n (gated_life (w.life (broker n))) (ap reverse (append-nil (all_effects (w.life (broker n))))) only
   one-life w e n q only = absurd q
 
-  one-entry : (w : World) (e : Entry) → IsCalm e → Only w → Only (step base w e)
+  one-entry : (w : World) (e : Entry) → IsUnstopped e → Only w → Only (step base w e)
   one-entry w e q only n = go (names (broker n) e && (w.flags (broker n)).known)
     where
       go : (c : Bool) → Every (IsOfRun base.run) (reverse (all_effects (if c then lives_on base w (broker n) (w.life (broker n)) e else w.life (broker n))))

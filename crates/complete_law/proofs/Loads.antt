@@ -19,7 +19,7 @@ use Rattle.world_core.specs.Nodes.Input.{Going, Taking, Learning}
 use Rattle.world_core.specs.Walks.{Base, Flags, Life, Sending, World, flagged, gated_life, leaving, lives_on, names, step, after_input, took, went, all_effects}
 use Rattle.world_core.specs.Legal.{MayGate, MayGo, MayLearn, MayTake, Rule}
 use Rattle.pseudo_time.specs.Nodes.{is_broker}
-use Rattle.complete_law.specs.Calm.{CalmRun, IsCalm}
+use Rattle.complete_law.specs.Calm.{CalmRun, IsUnstopped}
 use Rattle.complete_law.proofs.Places.{CalmWorld, log_of, all-off, both-on}
 use Rattle.complete_law.proofs.Steps as steps
 use Rattle.complete_law.proofs.Steps.{Facts-at}
@@ -209,7 +209,7 @@ module _ (r : CalmRun) (w : World) (f : Facts-at r w) (c : CalmWorld (steps.b r)
               sendings = refl;
             })
 
-    pub by-entry : (e : Entry) (n : NodeId) → IsCalm e → Rule b fates w e → Cases G (step b w e) n → G
+    pub by-entry : (e : Entry) (n : NodeId) → IsUnstopped e → Rule b fates w e → Cases G (step b w e) n → G
     by-entry (entry.Take m k) n q rule cases = take-case m k n rule cases
     by-entry (entry.Go m) n q rule cases = go-case m n rule cases
     by-entry (entry.Learn m s d) n q rule cases = learn-case m s d n rule cases

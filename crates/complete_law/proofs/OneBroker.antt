@@ -71,7 +71,7 @@ use Rattle.world_facts.proofs.Growths.{numbered-has, each-has, map-has}
 use Rattle.world_facts.proofs.NodeLaws.{node-laws}
 use Rattle.world_facts.proofs.Openings.{facts-of}
 use Rattle.world_facts.proofs.Steps.{sent-gate}
-use Rattle.complete_law.specs.Calm.{CalmPlace, IsCalm, IsRefusal, WasRefused, book_at, log_at, sent_at, world_at}
+use Rattle.complete_law.specs.Calm.{CalmPlace, IsUnstopped, IsRefusal, WasRefused, book_at, log_at, sent_at, world_at}
 use Rattle.complete_law.proofs.BrokerMoves.{node-there, not-same, parted, turn-there}
 use Rattle.complete_law.proofs.Hearings.{asking-undecided, gated-same, says}
 use Rattle.complete_law.proofs.Outcomes.{book-is, own-tries, unknown-book}
@@ -469,7 +469,7 @@ module _ (p : CalmPlace) (single : p.run.plan.brokers ≡ 1) where
   ones : (w : World) → Facts-at p.run w → OneBroker w
   ones w f = one-broker base w f (λ i e. first p.run.plan.brokers i single (sym (p.run.legal.nodes.just (broker i)) ∙ sym (f.models.known (broker i)) ∙ e))
 
-  keeps : (w : World) (e : Entry) → Facts-at p.run w → CalmWorld base w → IsCalm e → Rule base (fates p.run) w e → NoRefusal w → NoRefusal (step base w e)
+  keeps : (w : World) (e : Entry) → Facts-at p.run w → CalmWorld base w → IsUnstopped e → Rule base (fates p.run) w e → NoRefusal w → NoRefusal (step base w e)
   keeps w (entry.Take n k) f c q rule none = take-keeps base w c f none (ones w f) n k (fates p.run) rule
   keeps w (entry.Go n) f c q rule none = go-keeps base w c f none (ones w f) n rule
   keeps w (entry.Learn n s d) f c q rule none = learn-keeps base w c f none (ones w f) n s d rule

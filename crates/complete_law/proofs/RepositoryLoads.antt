@@ -30,7 +30,7 @@ use Rattle.world_core.specs.Walks.{Base, Life, Sending, World, leaving, numbered
 use Rattle.world_core.specs.Walks as walks
 use Rattle.world_core.specs.Legal.{MayLearn, MayTake, Rule, times_taken}
 use Rattle.world_facts.proofs.Growths.{numbered-has, every-at}
-use Rattle.complete_law.specs.Calm.{CalmPlace, CalmRun, IsPlain, IsCalm, world_at}
+use Rattle.complete_law.specs.Calm.{CalmPlace, CalmRun, IsPlain, IsUnstopped, world_at}
 use Rattle.complete_law.proofs.BrokerMoves.{node-there}
 use Rattle.complete_law.proofs.Frames.{grown-log}
 use Rattle.complete_law.proofs.HandLoads.{Prices, learnt, price-if, stored-load, taken, times}
@@ -241,7 +241,7 @@ module _ (v : Message → ℕ) (rest : List Effect → List (TimeParts × HeldRe
           let l = learns hand0 s d in
           turn-paid (on_learn hand0 s d) 0 (after_input b (repository n) (w.life (repository n)) (Learning s d)) (hand-learns s d) base fed (omega (arith, l)) (omega (arith, u))
 
-      paid-case : IsCalm e → Rule b (steps.fates r) w e → IsPaidFor w' n
+      paid-case : IsUnstopped e → Rule b (steps.fates r) w e → IsPaidFor w' n
       paid-case q rule = by-entry r w f c (IsPaidFor w' n) e (repository n) q rule (record { kept = kept-paid; takes = take-case; goes = λ may gone fed. absurd (false≢true may.broker); learns = learn-case })
 
     start-paid : (n : ℕ) → IsPaidFor (start_world b) n

@@ -23,7 +23,7 @@ use Rattle.world_facts.specs.Refines.{Refines}
 use Rattle.world_facts.proofs.NodeLaws.{node-laws, past-laws}
 use Rattle.world_facts.proofs.Openings.{opens, left-nothing, ready-start}
 use Rattle.world_facts.proofs.Refinements.{step-refines}
-use Rattle.complete_law.specs.Calm.{CalmRun, CalmPlace, IsCalm, IsIdleAt, AllDone, world_at}
+use Rattle.complete_law.specs.Calm.{CalmRun, CalmPlace, IsUnstopped, IsIdleAt, AllDone, world_at}
 use Rattle.complete_law.proofs.Places.{CalmWorld, IsBegun, IsDecided, tasks_of}
 use Rattle.broker_laws.proofs.BookTurns.{DeskSound}
 use Rattle.broker_core.specs.Turns.{desk_at}
@@ -119,7 +119,7 @@ module _ (r : CalmRun) where
       go None e = false≢true (sym (ap is_some e) ∙ may.some)
       go (Some t) e = f.models.ticked t (f.models.ticks t e)
 
-  one-step : (w : World) (e : Entry) → Facts-at w → CalmWorld b w → IsCalm e → Rule b fates w e → CalmWorld b (step b w e)
+  one-step : (w : World) (e : Entry) → Facts-at w → CalmWorld b w → IsUnstopped e → Rule b fates w e → CalmWorld b (step b w e)
   one-step w (entry.Take n k) f c q rule = take-step w n k f c rule
   one-step w (entry.Go n) f c q rule = go-step w n f c rule
   one-step w (entry.Learn n s d) f c q rule = learn-step w n s d f c rule
@@ -127,10 +127,10 @@ module _ (r : CalmRun) where
   one-step w (entry.Gate n) f c q rule = gate-step w n f c rule
   one-step w e f c q rule = absurd q
 
-  quiet-tick : (e : Entry) → IsCalm e → (t : ℕ) → e ≡ entry.Tick t → ⊥
-  quiet-tick e q t is = subst IsCalm is q
+  quiet-tick : (e : Entry) → IsUnstopped e → (t : ℕ) → e ≡ entry.Tick t → ⊥
+  quiet-tick e q t is = subst IsUnstopped is q
 
-  steps : (w : World) (es : List Entry) → Facts-at w → CalmWorld b w → Every IsCalm es → Meets b fates w es → CalmWorld b (walk_from b w es)
+  steps : (w : World) (es : List Entry) → Facts-at w → CalmWorld b w → Every IsUnstopped es → Meets b fates w es → CalmWorld b (walk_from b w es)
   unfolding walk_from Meets
   steps w [] f c quiet rules = c
   steps w (e ∷ es) f c quiet rules =
@@ -138,15 +138,15 @@ module _ (r : CalmRun) where
       (one-step w e f c quiet.0 rules.0) quiet.1 rules.1
 
   -- what holds at the start, and is kept by each entry of a quiet trace, holds at each place
-  pub steps-with : (P : World → Type 0) → ((w : World) (e : Entry) → Facts-at w → CalmWorld b w → IsCalm e → Rule b fates w e → P w → P (step b w e)) →
-      (w : World) (es : List Entry) → Facts-at w → CalmWorld b w → P w → Every IsCalm es → Meets b fates w es → P (walk_from b w es)
+  pub steps-with : (P : World → Type 0) → ((w : World) (e : Entry) → Facts-at w → CalmWorld b w → IsUnstopped e → Rule b fates w e → P w → P (step b w e)) →
+      (w : World) (es : List Entry) → Facts-at w → CalmWorld b w → P w → Every IsUnstopped es → Meets b fates w es → P (walk_from b w es)
   unfolding walk_from Meets
   steps-with P one w [] f c p quiet rules = p
   steps-with P one w (e ∷ es) f c p quiet rules =
       steps-with P one (step b w e) es (step-refines r.script (node_turns r.script) (node_facts r.script) (node-laws r.script) b (λ n. []) [] (λ t. ⊥) refl fates w e (quiet-tick e quiet.0) f rules.0)
       (one-step w e f c quiet.0 rules.0) (one w e f c quiet.0 rules.0 p) quiet.1 rules.1
 
-  pub facts-steps : (w : World) (es : List Entry) → Facts-at w → Every IsCalm es → Meets b fates w es → Facts-at (walk_from b w es)
+  pub facts-steps : (w : World) (es : List Entry) → Facts-at w → Every IsUnstopped es → Meets b fates w es → Facts-at (walk_from b w es)
   unfolding walk_from Meets
   facts-steps w [] f quiet rules = f
   facts-steps w (e ∷ es) f quiet rules =
@@ -175,7 +175,7 @@ facts-there p =
 
 -- what holds at the start, and is kept by each entry, holds at each calm place
 pub always : (p : CalmPlace) (P : World → Type 0) → P (start_world (b p.run)) →
-    ((w : World) (e : Entry) → Facts-at p.run w → CalmWorld (b p.run) w → IsCalm e → Rule (b p.run) (fates p.run) w e → P w → P (step (b p.run) w e)) → P (world_at p)
+    ((w : World) (e : Entry) → Facts-at p.run w → CalmWorld (b p.run) w → IsUnstopped e → Rule (b p.run) (fates p.run) w e → P w → P (step (b p.run) w e)) → P (world_at p)
 always p P start one =
     steps-with p.run P one (start_world (b p.run)) p.front (start-facts p.run) (start-calm p.run) start p.quiet
     (meets-front (b p.run) (fates p.run) (start_world (b p.run)) p.front p.rest (subst (Meets (b p.run) (fates p.run) (start_world (b p.run))) p.here p.run.legal.meets))

@@ -34,15 +34,15 @@ use Rattle.world_core.specs.Legal.{Legal, Idle, base_of, fates_of}
 -- ---- the premises
 
 -- time stands still and no node stops
-abbrev pub IsCalm : Entry → Type 0
-IsCalm (Take node number) = Unit {0}
-IsCalm (Go node) = Unit {0}
-IsCalm (Learn node stamp committed) = Unit {0}
-IsCalm (Hear node) = Unit {0}
-IsCalm (Gate node) = Unit {0}
-IsCalm (Crash node kept) = ⊥
-IsCalm (Down node cause) = ⊥
-IsCalm (Tick moment) = ⊥
+abbrev pub IsUnstopped : Entry → Type 0
+IsUnstopped (Take node number) = Unit {0}
+IsUnstopped (Go node) = Unit {0}
+IsUnstopped (Learn node stamp committed) = Unit {0}
+IsUnstopped (Hear node) = Unit {0}
+IsUnstopped (Gate node) = Unit {0}
+IsUnstopped (Crash node kept) = ⊥
+IsUnstopped (Down node cause) = ⊥
+IsUnstopped (Tick moment) = ⊥
 
 -- one copy, and no hold
 abbrev pub IsPlain : Fate → Type 0
@@ -69,7 +69,7 @@ pub record CalmPlace : Type 0 where
   pub front : List Entry
   pub rest : List Entry
   pub here : run.trace.entries ≡ front ++ rest
-  pub quiet : Every IsCalm front
+  pub quiet : Every IsUnstopped front
 
 -- ---- what stands there
 

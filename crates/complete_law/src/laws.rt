@@ -12,7 +12,7 @@ ghost use Rattle.complete_law.specs.AtRest.{AtRest, is_done};
 ghost use Rattle.broker_core.specs.Book.{Try, tries_of};
 ghost use Rattle.world_core.specs.declared.entries.Entry.{Entry};
 ghost use Rattle.world_core.specs.Walks.{sent_by};
-ghost use Rattle.complete_law.specs.Calm.{CalmRun, CalmPlace, IsCalm, log_at, sent_at, book_at, IsIdleAt, AllDone, AsksAtMost, AskAtMost, most_messages, most_effects, most_pages, filled_by, HasOutcome, IsRefusal, WasRefused, MayStop};
+ghost use Rattle.complete_law.specs.Calm.{CalmRun, CalmPlace, IsUnstopped, log_at, sent_at, book_at, IsIdleAt, AllDone, AsksAtMost, AskAtMost, most_messages, most_effects, most_pages, filled_by, HasOutcome, IsRefusal, WasRefused, MayStop};
 
 /// Of nodes at rest, where nothing is open and no message is on its way, every broker is done.
 pub fn law_at_rest()
@@ -49,7 +49,7 @@ pub fn law_outcomes()
 /// effects want more pages than a medium of that many has, has no Tick, Crash or Down at all.
 pub fn law_nothing_stops()
     ensures { (r : CalmRun) (most : ℕ) → AskAtMost r most →
-        ((p : CalmPlace) (e : Entry) (more : List Entry) → p.run ≡ r → p.rest ≡ e ∷ more → MayStop (most_pages r most) p e) → Every IsCalm r.trace.entries }
+        ((p : CalmPlace) (e : Entry) (more : List Entry) → p.run ≡ r → p.rest ≡ e ∷ more → MayStop (most_pages r most) p e) → Every IsUnstopped r.trace.entries }
 {}
 
 /// With one broker no write is refused: no repository ever says so, and no attempt ended so.

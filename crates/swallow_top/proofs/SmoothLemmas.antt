@@ -52,7 +52,7 @@ use Rattle.run_rounds.specs.Media.{Became, inner, medium_at}
 use Rattle.run_rounds.specs.Runs.{Account, Ran}
 use Rattle.run_rounds.proofs.FlagLemmas.{named-opened, one-down, told-of}
 use Rattle.complete_law.specs.Calm as calm
-use Rattle.complete_law.specs.Calm.{AllDone, CalmPlace, CalmRun, HasOutcome, IsCalm, MayStop, book_at, filled_by, is_done_at, log_at, most_pages}
+use Rattle.complete_law.specs.Calm.{AllDone, CalmPlace, CalmRun, HasOutcome, IsUnstopped, MayStop, book_at, filled_by, is_done_at, log_at, most_pages}
 use Rattle.complete_law.proofs.Counts.{few-pages}
 use Rattle.complete_law.proofs.Messages.{few-messages}
 use Rattle.complete_law.proofs.OneBroker.{never-ended}
@@ -69,14 +69,14 @@ use Rattle.serial_law.proofs.Ranges.{in-range, within}
 -- ---- quiet entries
 
 -- no node is down
-pub none-down : (es : List Entry) → Every IsCalm es → some_down es ≡ false
+pub none-down : (es : List Entry) → Every IsUnstopped es → some_down es ≡ false
 none-down [] h = refl
 none-down (Crash node kept ∷ es) h = absurd h.0
 none-down (Down node cause ∷ es) h = absurd h.0
 none-down (Tick moment ∷ es) h = absurd h.0
 none-down (e ∷ es) h = none-down es h.1
 
-no-cause : (n : NodeId) (es : List Entry) → Every IsCalm es → down_cause n es ≡ None
+no-cause : (n : NodeId) (es : List Entry) → Every IsUnstopped es → down_cause n es ≡ None
 no-cause n [] h = refl
 no-cause n (Crash node kept ∷ es) h = absurd h.0
 no-cause n (Down node cause ∷ es) h = absurd h.0
@@ -226,12 +226,12 @@ module _ {M : Type 0} (w : Media M) (told : IsTrue w.tells) (most_ticks enough m
       let x = told-of n cause t.entries has in
       x.1 ∙ ap (λ (c : DownCause). Some c) (one-down base (fates_of t.sent) (start_world base) t.entries n x.0 cause (known n p) legal.meets x.1 has)
 
-  module _ (front : List Entry) (e : Entry) (rest : List Entry) (is : AtEntry front e rest) (quiet : Every IsCalm front) where
+  module _ (front : List Entry) (e : Entry) (rest : List Entry) (is : AtEntry front e rest) (quiet : Every IsUnstopped front) where
     abbrev place : CalmPlace
     place = record { run = run; front = front; rest = e ∷ rest; here = is; quiet = quiet }
 
   -- no medium is full
-  unfilled : (front : List Entry) (n : NodeId) (pages : ℕ) (rest : List Entry) (is : AtEntry front (Down n (down.Full pages)) rest) → Every IsCalm front → ⊥
+  unfilled : (front : List Entry) (n : NodeId) (pages : ℕ) (rest : List Entry) (is : AtEntry front (Down n (down.Full pages)) rest) → Every IsUnstopped front → ⊥
   unfilled front n pages rest is quiet =
       let p = node-here front (Down n (down.Full pages)) rest n is (same_node-refl n) in
       let b = became-of n p in
@@ -266,7 +266,7 @@ module _ {M : Type 0} (w : Media M) (told : IsTrue w.tells) (most_ticks enough m
       by (inl h) = h
       by (inr h) = absurd (no-unopened h)
 
-  may-stop : (front : List Entry) (e : Entry) (rest : List Entry) (is : AtEntry front e rest) (quiet : Every IsCalm front) → MayStop (most_pages run most) (place front e rest is quiet) e
+  may-stop : (front : List Entry) (e : Entry) (rest : List Entry) (is : AtEntry front e rest) (quiet : Every IsUnstopped front) → MayStop (most_pages run most) (place front e rest is quiet) e
   may-stop front (Crash node kept) rest is quiet = dear front (Crash node kept) rest node is (same_node-refl node) (omega arith)
   may-stop front (Down node down.Medium) rest is quiet = dear front (Down node down.Medium) rest node is (same_node-refl node) (omega arith)
   may-stop front (Down node (down.Damaged page)) rest is quiet =
@@ -280,10 +280,10 @@ module _ {M : Type 0} (w : Media M) (told : IsTrue w.tells) (most_ticks enough m
   may-stop front e rest is quiet = tt
 
   -- no Tick, Crash or Down stands
-  whole-quiet : Every IsCalm t.entries
+  whole-quiet : Every IsUnstopped t.entries
   whole-quiet = nothing-stops never-stuck few-pages run most smooth.asks (λ p e more same next. at p.run (sym same) p.front p.rest p.here p.quiet e more next)
     where
-      first : (front rest : List Entry) (here : t.entries ≡ front ++ rest) (quiet : Every IsCalm front) (e : Entry) (more : List Entry) → rest ≡ e ∷ more → MayStop (most_pages run most) (record { run = run; front = front; rest = rest; here = here; quiet = quiet }) e
+      first : (front rest : List Entry) (here : t.entries ≡ front ++ rest) (quiet : Every IsUnstopped front) (e : Entry) (more : List Entry) → rest ≡ e ∷ more → MayStop (most_pages run most) (record { run = run; front = front; rest = rest; here = here; quiet = quiet }) e
       first front rest here quiet e more next = move e (may-stop front e more (here ∙ ap (λ (es : List Entry). front ++ es) next) quiet)
         where
           move : (x : Entry) → MayStop (most_pages run most) (place front e more (here ∙ ap (λ (es : List Entry). front ++ es) next) quiet) x → MayStop (most_pages run most) (record { run = run; front = front; rest = rest; here = here; quiet = quiet }) x
@@ -291,7 +291,7 @@ module _ {M : Type 0} (w : Media M) (told : IsTrue w.tells) (most_ticks enough m
           move e h = h
 
       Stops : CalmRun → Type 0
-      Stops r = (front rest : List Entry) (here : r.trace.entries ≡ front ++ rest) (quiet : Every IsCalm front) (e : Entry) (more : List Entry) → rest ≡ e ∷ more → MayStop (most_pages run most) (record { run = r; front = front; rest = rest; here = here; quiet = quiet }) e
+      Stops r = (front rest : List Entry) (here : r.trace.entries ≡ front ++ rest) (quiet : Every IsUnstopped front) (e : Entry) (more : List Entry) → rest ≡ e ∷ more → MayStop (most_pages run most) (record { run = r; front = front; rest = rest; here = here; quiet = quiet }) e
 
       at : (r : CalmRun) → run ≡ r → Stops r
       at r same = subst Stops same first

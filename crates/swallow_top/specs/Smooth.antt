@@ -21,7 +21,7 @@ use Rattle.report_writer.specs.Standings.{standing_of}
 use Rattle.trace_report.specs.Acts.{acts_shown}
 use Rattle.run_media.specs.Media.{Media}
 use Rattle.run_rounds.specs.Media.{Became, medium_at}
-use Rattle.complete_law.specs.Calm.{AsksAtMost, IsPlain, IsCalm, tries_in}
+use Rattle.complete_law.specs.Calm.{AsksAtMost, IsPlain, IsUnstopped, tries_in}
 
 -- ---- what a run wants
 
@@ -74,6 +74,6 @@ IsUnrefused a = Every (λ (t : TryReport). WasRefused t.outcome → ⊥) a.tries
 
 -- Time stood still, and no node stopped. Each act was committed, withdrawn, failed or spent, or its last allowed attempt was refused. With one broker none was.
 pub record WentSmoothly (plan : Plan) (t : Trace) : Type 0 where
-  pub quiet : Every IsCalm t.entries
+  pub quiet : Every IsUnstopped t.entries
   pub acts : Every IsFinished (acts_shown plan (gated_log plan t))
   pub one : plan.brokers ≡ 1 → Every IsUnrefused (acts_shown plan (gated_log plan t))
