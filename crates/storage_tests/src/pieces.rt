@@ -12,12 +12,14 @@ use version_store::{OpenFault, Store};
 
 // The put of a text of so many bytes on object 1.1 at 1.1.1/1.
 fn long_put(alloc: Global, size: u32) -> Result<Option<Effect>, AllocError>
-    requires { size ≤ 65536 }
     ensures { IfOk result (λ o. IfSome o (λ e. IsEffect e)) }
 {
     let mut text = Vec::new(alloc);
     for _ in 0..size {
         text.push(b'0')?;
+    }
+    if text.len() > 65_536 {
+        return Ok(None);
     }
     let Some(stamp) = Stamp::new(1, 1, 1) else {
         return Ok(None);
