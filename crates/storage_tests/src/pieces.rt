@@ -1,6 +1,7 @@
 ghost use Rattle.std.specs.Prelude.{◌≡◌, ◌≤◌, false, IfOk, IfSome};
 ghost use Rattle.medium_port.specs.MemoryMedia.{failed_in, pages_of};
 ghost use Rattle.effect_form.specs.Effects.{IsEffect, AreEffects};
+ghost use Rattle.value_form.specs.ValueBytes.{IsValue};
 
 use effect_form::{Effect, Place};
 use medium_port::{Medium, MediumFault, MemoryMedium, Stop, StopAt};
@@ -10,9 +11,9 @@ use std::test::*;
 use value_form::{Bytes, ObjectId, Value};
 use version_store::{OpenFault, Store};
 
-// The put of a text of so many bytes on object 1.1 at 1.1.1/1.
-fn long_put(alloc: Global, size: u32) -> Result<Option<Effect>, AllocError>
-    ensures { IfOk result (λ o. IfSome o (λ e. IsEffect e)) }
+// A text of so many bytes, where a value may have it.
+fn long_text(alloc: Global, size: u32) -> Result<Option<Value>, AllocError>
+    ensures { IfOk result (λ o. IfSome o (λ v. IsValue v)) }
 {
     let mut text = Vec::new(alloc);
     for _ in 0..size {
@@ -21,6 +22,16 @@ fn long_put(alloc: Global, size: u32) -> Result<Option<Effect>, AllocError>
     if text.len() > 65_536 {
         return Ok(None);
     }
+    Ok(Some(Value::Text(Bytes::of(text))))
+}
+
+// The put of a text of so many bytes on object 1.1 at 1.1.1/1.
+fn long_put(alloc: Global, size: u32) -> Result<Option<Effect>, AllocError>
+    ensures { IfOk result (λ o. IfSome o (λ e. IsEffect e)) }
+{
+    let Some(value) = long_text(alloc, size)? else {
+        return Ok(None);
+    };
     let Some(stamp) = Stamp::new(1, 1, 1) else {
         return Ok(None);
     };
@@ -34,7 +45,7 @@ fn long_put(alloc: Global, size: u32) -> Result<Option<Effect>, AllocError>
     Ok(Some(Effect::Put {
         object,
         start,
-        value: Value::Text(Bytes::of(text)),
+        value,
     }))
 }
 

@@ -1,5 +1,5 @@
 -- The media of a plan's nodes, as a shelf gives them and a call hands them back.
-use Rattle.std.specs.Prelude.{◌≡◌, ◌≢◌, ◌↔◌, ℕ, ◌≤◌, ◌<◌, suc, Bool, true, false, IsTrue, List, [], ◌∷◌, ◌++◌, length, slice_get, Option, Some, None}
+use Rattle.std.specs.Prelude.{◌≡◌, ◌≢◌, ◌↔◌, ℕ, ◌≤◌, ◌<◌, zero, suc, Bool, true, false, IsTrue, List, [], ◌∷◌, ◌++◌, length, slice_get, Option, Some, None}
 use Rattle.std.specs.List.{count_by}
 use Rattle.pseudo_time.specs.declared.nodes.NodeId.{NodeId}
 use Rattle.stream_port.specs.Causes.{Rose, RoseBy}
@@ -68,7 +68,7 @@ is_missing (Some m) = false
 
 -- the names of the media of so many of the plan's nodes, in their order
 abbrev pub first_names : Plan → ℕ → List MediumName
-first_names plan 0 = []
+first_names plan zero = []
 first_names plan (suc n) = first_names plan n ++ medium_name (node_at plan n) ∷ []
 
 -- The media of the plan's first nodes were asked for, each once and in the order of the nodes, and no others were taken. The shelf failed for each that it didn't give.
