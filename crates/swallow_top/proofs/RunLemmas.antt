@@ -89,13 +89,13 @@ module _ {M : Type 0} (w : Media M) (old new : ShelfSight) (plan : Plan) (o : Op
   by-end : (wanted : Wanted) (e : End) (status : ℕ) (t : Trace) (s : Sinking) → EndsAs w o.ticks o.messages plan told media left e → TellsEnd wanted plan e status t s → CameOf {M = M} w old new (kept_from plan 0 left) plan wanted o (account_of t told) s status
   by-end wanted (end.Ran r) status t s ends tells =
       subst (λ (z : Trace). CameOf {M = M} w old new (kept_from plan 0 left) plan wanted o (account_of z told) s status) (sym tells.0) (inr (inr (ran-over r ends, tells.1)))
-  by-end wanted (end.Refused fault) status t s ends (none, inl seven) = inl (seven, no-memory t none (alone-whole {M = M} w media left ends.1) (λ tells. inl ends.1))
+  by-end wanted (end.Refused fault) status t s ends (none, inl seven) = inl (seven, inr (no-memory t none (alone-whole {M = M} w media left ends.1) (λ tells. inl ends.1)))
   by-end wanted (end.Refused fault) status t s ends (none, inr two) = inr (inl (
     two.0,
     record { media = media; left = left; count = full; taken = taken; handed = refl; untouched = ends.1; why = fault; first = ends.2; line = two.1 },
     record { trace = none; fates = ends.3; clock = ends.4 },
   ))
-  by-end wanted end.NoMemory status t s ends tells = inl (tells.1, no-memory t tells.0 ends.1.0 ends.1.1)
+  by-end wanted end.NoMemory status t s ends tells = inl (tells.1, inr (no-memory t tells.0 ends.1 ends.2))
 
   -- where all is smooth
   completes : (wanted : Wanted) (e : End) (status : ℕ) (t : Trace) (s : Sinking) → EndsAs w o.ticks o.messages plan told media left e → TellsEnd wanted plan e status t s → Completes {M = M} w old new (kept_from plan 0 left) plan o (account_of t told) s status

@@ -77,6 +77,12 @@ module _ {M : Type 0} (w : Media M) (old new : ShelfSight) (kept : List (Kept M)
       pub first : IsFirstFault w plan media left why
       pub line : GotLine s (resume_line why)
 
+    -- Memory was wanting before any medium was asked for.
+    pub record TookNothing (told : Account) : Type 0 where
+      pub none : kept ≡ []
+      pub unasked : new.asked ≡ old.asked
+      pub no_run : HasNoRun told
+
     -- Memory was wanting, and no trace is told. The media that the shelf gave are handed back, and none lost anything. They have a past all the same: none was written to; or there was a run, whose trace is
     -- told to no one.
     pub record WantedMemory (told : Account) : Type 0 where
@@ -91,7 +97,7 @@ module _ {M : Type 0} (w : Media M) (old new : ShelfSight) (kept : List (Kept M)
 
     -- What came of running the plan: memory was wanting; or a broker's log refuses it; or it ran, and is told unless memory was wanting for that.
     abbrev pub CameOf : Wanted → Options → Account → Sinking → ℕ → Type 0
-    CameOf wanted o told s status = ((status ≡ 7) × WantedMemory told)
+    CameOf wanted o told s status = ((status ≡ 7) × (TookNothing told ⊎ WantedMemory told))
         ⊎ (((status ≡ 2) × IsRefusedByLog s × HasNoRun told)
         ⊎ (RanOver o told × EndsIfAny status s (status_of plan told.trace) (wanted_text wanted plan told.trace)))
 
