@@ -8,21 +8,23 @@ use medium_port::{Medium, MediumFault, MemoryMedium, Stop, StopAt};
 use pseudo_time::{PseudoTime, Stamp};
 use std::alloc::{AllocError, Global};
 use std::test::*;
-use value_form::{Bytes, ObjectId, Value};
+use value_form::{ObjectId, Value};
 use version_store::{OpenFault, Store};
 
-// A text of so many bytes, where a value may have it.
+// A text of so many bytes, of which there are more than 1,000, as it is read.
 fn long_text(alloc: Global, size: u32) -> Result<Option<Value>, AllocError>
     ensures { IfOk result (λ o. IfSome o (λ v. IsValue v)) }
 {
-    let mut text = Vec::new(alloc);
+    let mut bytes = Vec::new(alloc);
+    bytes.push(3)?;
+    bytes.extend_from_slice(&size.to_be_bytes())?;
     for _ in 0..size {
-        text.push(b'0')?;
+        bytes.push(b'0')?;
     }
-    if text.len() > 65_536 {
-        return Ok(None);
+    match Value::read(alloc, bytes.as_slice()) {
+        Ok((value, _)) => Ok(Some(value)),
+        Err(_) => Ok(None),
     }
-    Ok(Some(Value::Text(Bytes::of(text))))
 }
 
 // The put of a text of so many bytes on object 1.1 at 1.1.1/1.
