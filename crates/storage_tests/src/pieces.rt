@@ -84,6 +84,19 @@ fn medium(alloc: Global, pages: u32, stop: Option<Stop>) -> Result<MemoryMedium,
     Ok(medium)
 }
 
+// The first five bytes of a page.
+fn head(medium: &mut MemoryMedium, page: u32) -> Result<[u8; 5], MediumFault>
+    requires { failed_in medium.old ≡ false }
+    ensures { IfOk result (λ _. failed_in medium.new ≡ false) }
+{
+    if page >= medium.pages() {
+        return Err(MediumFault);
+    }
+    let mut bytes = [0; 4096];
+    medium.read(page, &mut bytes)?;
+    Ok([bytes[0], bytes[1], bytes[2], bytes[3], bytes[4]])
+}
+
 // The pages left after a Begin, a put of a text of 40,960 bytes and a Begin, each by a call of its own,
 // and the first five bytes of pages 1, 2, 11 and 12.
 fn written(alloc: Global) -> Result<(u32, [[u8; 5]; 4]), MediumFault> {
@@ -111,13 +124,12 @@ fn written(alloc: Global) -> Result<(u32, [[u8; 5]; 4]), MediumFault> {
     };
     let left = store.pages_left();
     let mut medium = store.release();
-    let mut heads = [[0; 5]; 4];
-    let mut bytes = [0; 4096];
-    let pages: [u32; 4] = [1, 2, 11, 12];
-    for index in 0..4 {
-        medium.read(pages[index], &mut bytes)?;
-        heads[index] = [bytes[0], bytes[1], bytes[2], bytes[3], bytes[4]];
-    }
+    let heads = [
+        head(&mut medium, 1)?,
+        head(&mut medium, 2)?,
+        head(&mut medium, 11)?,
+        head(&mut medium, 12)?,
+    ];
     Ok((left, heads))
 }
 
