@@ -24,5 +24,6 @@ returns-in-Ok c =
       others = λ name other. put.now.others name other ∙ shelf.empty name;
       size = put.counts.pages ∙ shelf.pages;
       well = put.fails ∙ shelf.all_well;
+      unasked = put.counts.asked ∙ shelf.asked;
       faults = put.counts.faults ∙ shelf.faults.0;
     }
