@@ -94,11 +94,7 @@ fn main(rt: HostRuntime) -> ExitCode {
     let Ok(mut shelf) = made else {
         return without_memory(rt);
     };
-    let fates = ToldFates::new(
-        MemoryFates::new(alloc, Vec::new(alloc)),
-        &rt,
-        rt.stderr(),
-    );
+    let fates = ToldFates::new(MemoryFates::new(alloc, Vec::new(alloc)), &rt, rt.stderr());
     let ended = swallow(
         &rt,
         alloc,

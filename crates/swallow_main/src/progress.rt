@@ -56,8 +56,7 @@ impl<R: Clock> Teller<R> {
             let _said = writeln!(
                 self.errors,
                 "swallow: {} messages sent, {} of them to begin a try",
-                self.messages,
-                self.tries
+                self.messages, self.tries
             );
         }
     }
