@@ -67,9 +67,10 @@ label_text x v = named (codes "<text x=\"") x ++ (codes "\" y=\"13\">" ++ (value
 abbrev pub bar_text : List StampParts → VersionRow → ℕ → List ℕ
 bar_text axis v c = rect_text (start_x c) (bar_to axis c v.end) ++ (cross_text v.state (start_x c) ++ label_text (start_x c) v.value)
 
--- a version once: its bar from its start to how far it was read, its state and its value
+-- a version once: its bar from its start to how far it was read, its state and its value; it leads to its attempt
 abbrev pub version_text : List StampParts → VersionRow → List ℕ
-version_text axis v = codes "<g class=\"" ++ (state_word v.state ++ (codes "\">" ++ (title_text v ++ (bar_text axis v (column axis v.start.stamp) ++ codes "</g>\n"))))
+version_text axis v =
+    codes "<a href=\"#t" ++ (stamp_text v.start.stamp ++ (codes "\"><g class=\"" ++ (state_word v.state ++ (codes "\">" ++ (title_text v ++ (bar_text axis v (column axis v.start.stamp) ++ codes "</g></a>\n"))))))
 
 -- ---- rows
 

@@ -2,6 +2,7 @@ pub mod Attempts
 pub mod Axes
 pub mod Choices
 pub mod Drawing
+pub mod Frame
 pub mod MediaText
 pub mod Objects
 pub mod Page

@@ -1,5 +1,5 @@
 -- The pages of each medium, and what its broker did.
-use Rattle.std.specs.Prelude.{ℕ, ◌+◌, List, [], ◌∷◌, ◌++◌, codes, length}
+use Rattle.std.specs.Prelude.{ℕ, ◌+◌, ◌-◌, ◌*◌, ◌/◌, ◌==◌, ◌||◌, min, List, [], ◌∷◌, ◌++◌, codes, length, if◌then◌else◌}
 use Rattle.std.specs.List.{flat_map}
 use Rattle.pseudo_time.specs.declared.nodes.NodeKind.{NodeKind}
 use Rattle.pseudo_time.specs.declared.nodes.NodeKind.TheVariants.{Repository, Broker}
@@ -25,27 +25,44 @@ counts_text m =
     named (codes ": effects ") (length m.log)
     ++ (named (codes ", pages ") m.pages ++ (named (codes ", gated ") m.gated ++ named (codes ", spoiled ") (length m.spoiled)))
 
+-- ---- room
+
+-- how many pages are gated or spoiled
+abbrev pub written : MediumLook → ℕ
+written m = m.gated + length m.spoiled
+
+-- how many more acts its blank pages take, where each takes as many pages as the folder's acts did so far; it counts a thousand million of these at most
+abbrev pub room : ℕ → MediumLook → ℕ
+room acts m = (m.pages - written m) * min acts 1000000000 / written m
+
+-- nothing where no act shows how large one is
+abbrev pub room_text : ℕ → MediumLook → List ℕ
+room_text acts m = if acts == 0 || written m == 0 then [] else named (codes ", room for some ") (room acts m) ++ codes " more acts of the usual size"
+
+-- ---- strips
+
 -- a page in a strip
-abbrev pub page_text : List ℕ → ℕ → List ℕ
-page_text class page = codes "<rect class=\"" ++ (class ++ (named (codes "\" x=\"") page ++ codes "\" width=\"1\" height=\"8\"/>"))
+abbrev pub strip_page : List ℕ → ℕ → List ℕ
+strip_page class page = codes "<rect class=\"" ++ (class ++ (named (codes "\" x=\"") page ++ codes "\" width=\"1\" height=\"8\"/>"))
 
 abbrev pub spoiled_text : ℕ → List ℕ
-spoiled_text page = page_text (codes "spoiled") page
+spoiled_text page = strip_page (codes "spoiled") page
 
 abbrev pub damaged_text : MediumState → List ℕ
 damaged_text Whole = []
-damaged_text (Damaged page) = page_text (codes "damaged") page
+damaged_text (Damaged page) = strip_page (codes "damaged") page
 damaged_text Shut = []
 
 -- its pages in order: those that are written, with the spoiled ones among them, then the blank ones
 abbrev pub strip_text : MediumLook → List ℕ
 strip_text m =
     named (codes "<svg class=\"strip\" viewBox=\"0 0 ") m.pages
-    ++ (named (codes " 8\" preserveAspectRatio=\"none\"><rect class=\"gated\" width=\"") (m.gated + length m.spoiled)
+    ++ (named (codes " 8\" preserveAspectRatio=\"none\"><rect class=\"gated\" width=\"") (written m)
     ++ (codes "\" height=\"8\"/>" ++ (flat_map spoiled_text m.spoiled ++ (damaged_text m.state ++ codes "</svg>\n"))))
 
-abbrev pub medium_text : MediumLook → List ℕ
-medium_text m = codes "<div class=\"medium\"><b>" ++ (name_text m ++ (codes "</b> " ++ (state_text m.state ++ (counts_text m ++ (strip_text m ++ codes "</div>\n")))))
+abbrev pub medium_text : ℕ → MediumLook → List ℕ
+medium_text acts m =
+    codes "<div class=\"medium\"><b>" ++ (name_text m ++ (codes "</b> " ++ (state_text m.state ++ (counts_text m ++ (room_text acts m ++ (strip_text m ++ codes "</div>\n"))))))
 
 -- the acts of a broker
 abbrev pub acts_with : NodeKind → MediumLook → List ℕ

@@ -158,7 +158,7 @@ fn push_bar(
     push_label(alloc, out, x, &version.value)
 }
 
-// Appends a version.
+// Appends a version, which leads to its attempt.
 fn push_version(
     alloc: Global,
     out: &mut Vec<u8>,
@@ -167,12 +167,14 @@ fn push_version(
 ) -> Result<(), AllocError>
     ensures { OnOk result (out.new.items ≡ out.old.items ++ spec.version_text axis.now.keys version.now) }
 {
-    out.extend_from_slice(b"<g class=\"")?;
+    out.extend_from_slice(b"<a href=\"#t")?;
+    push_stamp(alloc, out, version.start.stamp())?;
+    out.extend_from_slice(b"\"><g class=\"")?;
     push_state(out, version.state)?;
     out.extend_from_slice(b"\">")?;
     push_title(alloc, out, version)?;
     push_bar(alloc, out, axis, version, column(axis, version.start.stamp()))?;
-    out.extend_from_slice(b"</g>\n")
+    out.extend_from_slice(b"</g></a>\n")
 }
 
 // Appends versions, in order.

@@ -1,4 +1,4 @@
-ghost use Rattle.std.specs.Prelude.{◌≡◌, ◌++◌, OnOk};
+ghost use Rattle.std.specs.Prelude.{◌≡◌, ◌++◌, ◌≤◌, ◌<◌, ◌-◌, ◌*◌, ◌/◌, min, OnOk};
 ghost use Rattle.std.specs.List.{flat_map};
 ghost use Rattle.folder_look.specs.MediaText as spec;
 ghost use Rattle.report_writer.specs.Reports.{kind_word};
@@ -54,6 +54,40 @@ fn push_counts(alloc: Global, out: &mut Vec<u8>, medium: &MediumLook) -> Result<
     push_named(alloc, out, b", spoiled ", spoiled)
 }
 
+// How many pages are gated or spoiled.
+fn written(medium: &MediumLook) -> u64
+    ensures { result ≡ spec.written medium.now }
+{
+    medium.gated as u64 + medium.spoiled.as_slice().len() as u64
+}
+
+// How many more acts of the usual size the blank pages take.
+fn room(acts: u64, written: u64, pages: u64) -> u64
+    requires some { 1 ≤ written }
+    requires most { pages < 4294967296 }
+    ensures { result ≡ (pages - written) * min acts 1000000000 / written }
+{
+    pages.saturating_sub(written) * acts.min(1_000_000_000) / written
+}
+
+// Appends how many more acts a medium takes, where acts show how large one is.
+fn push_room(
+    alloc: Global,
+    out: &mut Vec<u8>,
+    acts: u64,
+    medium: &MediumLook,
+) -> Result<(), AllocError>
+    ensures { OnOk result (out.new.items ≡ out.old.items ++ spec.room_text acts medium.now) }
+{
+    let written = written(medium);
+    if acts == 0 || written == 0 {
+        return Ok(());
+    }
+    let room = room(acts, written, medium.pages as u64);
+    push_named(alloc, out, b", room for some ", room)?;
+    out.extend_from_slice(b" more acts of the usual size")
+}
+
 // Appends a page of a strip.
 fn push_page(
     alloc: Global,
@@ -61,7 +95,7 @@ fn push_page(
     class: &[u8],
     page: u32,
 ) -> Result<(), AllocError>
-    ensures { OnOk result (out.new.items ≡ out.old.items ++ spec.page_text class.now page) }
+    ensures { OnOk result (out.new.items ≡ out.old.items ++ spec.strip_page class.now page) }
 {
     out.extend_from_slice(b"<rect class=\"")?;
     out.extend_from_slice(class)?;
@@ -94,8 +128,6 @@ fn push_damaged(alloc: Global, out: &mut Vec<u8>, state: MediumState) -> Result<
 fn push_strip(alloc: Global, out: &mut Vec<u8>, medium: &MediumLook) -> Result<(), AllocError>
     ensures { OnOk result (out.new.items ≡ out.old.items ++ spec.strip_text medium.now) }
 {
-    let spoiled = medium.spoiled.as_slice();
-    let written = medium.gated as u64 + spoiled.len() as u64;
     push_named(
         alloc,
         out,
@@ -106,33 +138,44 @@ fn push_strip(alloc: Global, out: &mut Vec<u8>, medium: &MediumLook) -> Result<(
         alloc,
         out,
         b" 8\" preserveAspectRatio=\"none\"><rect class=\"gated\" width=\"",
-        written,
+        written(medium),
     )?;
     out.extend_from_slice(b"\" height=\"8\"/>")?;
-    push_spoiled(alloc, out, spoiled)?;
+    push_spoiled(alloc, out, medium.spoiled.as_slice())?;
     push_damaged(alloc, out, medium.state)?;
     out.extend_from_slice(b"</svg>\n")
 }
 
 // Appends a medium.
-fn push_medium(alloc: Global, out: &mut Vec<u8>, medium: &MediumLook) -> Result<(), AllocError>
-    ensures { OnOk result (out.new.items ≡ out.old.items ++ spec.medium_text medium.now) }
+fn push_medium(
+    alloc: Global,
+    out: &mut Vec<u8>,
+    acts: u64,
+    medium: &MediumLook,
+) -> Result<(), AllocError>
+    ensures { OnOk result (out.new.items ≡ out.old.items ++ spec.medium_text acts medium.now) }
 {
     out.extend_from_slice(b"<div class=\"medium\"><b>")?;
     push_name(alloc, out, medium)?;
     out.extend_from_slice(b"</b> ")?;
     push_state(alloc, out, medium.state)?;
     push_counts(alloc, out, medium)?;
+    push_room(alloc, out, acts, medium)?;
     push_strip(alloc, out, medium)?;
     out.extend_from_slice(b"</div>\n")
 }
 
-/// Appends the media in order.
-pub fn push_media(alloc: Global, out: &mut Vec<u8>, media: &[MediumLook]) -> Result<(), AllocError>
-    ensures { OnOk result (out.new.items ≡ out.old.items ++ flat_map spec.medium_text media.now) }
+/// Appends the media in order, where their brokers began so many acts.
+pub fn push_media(
+    alloc: Global,
+    out: &mut Vec<u8>,
+    acts: u64,
+    media: &[MediumLook],
+) -> Result<(), AllocError>
+    ensures { OnOk result (out.new.items ≡ out.old.items ++ flat_map (spec.medium_text acts) media.now) }
 {
     for medium in media {
-        push_medium(alloc, out, medium)?;
+        push_medium(alloc, out, acts, medium)?;
     }
     Ok(())
 }

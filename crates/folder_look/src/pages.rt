@@ -104,6 +104,14 @@ fn push_left(alloc: Global, out: &mut Vec<u8>, left: u64) -> Result<(), AllocErr
     out.extend_from_slice(b" more objects</p>\n")
 }
 
+// Appends what the forms of the picture mean.
+fn push_key(out: &mut Vec<u8>) -> Result<(), AllocError>
+    ensures { OnOk result (out.new.items ≡ out.old.items ++ spec.key_text) }
+{
+    out.extend_from_slice(b"<p class=\"key\"><svg width=\"30\" height=\"20\"><g class=\"committed\"><rect x=\"1\" y=\"4\" width=\"28\" height=\"12\" rx=\"3\"/></g></svg> committed\n<svg width=\"30\" height=\"20\"><g class=\"undecided\"><rect x=\"1\" y=\"4\" width=\"28\" height=\"12\" rx=\"3\"/></g></svg> undecided\n")?;
+    out.extend_from_slice(b"<svg width=\"30\" height=\"20\"><g class=\"aborted\"><rect x=\"1\" y=\"4\" width=\"28\" height=\"12\" rx=\"3\"/><path d=\"M1 1l18 18m0-18l-18 18\"/></g></svg> aborted\n<svg width=\"30\" height=\"20\"><g class=\"origin\"><rect x=\"1\" y=\"4\" width=\"28\" height=\"12\" rx=\"3\"/></g></svg> reads of what was there at first. A bar goes from a version's start to how far it was read.</p>\n")
+}
+
 // Appends the histories of these rows.
 fn push_histories(
     alloc: Global,
@@ -115,6 +123,7 @@ fn push_histories(
 {
     let axis = axis_of(alloc, rows)?;
     out.extend_from_slice(b"<h2>Histories</h2>\n")?;
+    push_key(out)?;
     push_rows(alloc, out, &axis, rows)?;
     push_left(alloc, out, left)
 }
@@ -143,12 +152,28 @@ fn push_attempts(alloc: Global, out: &mut Vec<u8>, media: &[MediumLook]) -> Resu
     push_all_acts(alloc, out, media)
 }
 
+// Says where no medium is there.
+fn push_no_media(out: &mut Vec<u8>, media: &[MediumLook]) -> Result<(), AllocError>
+    ensures { OnOk result (out.new.items ≡ out.old.items ++ spec.no_media_text media.now) }
+{
+    match media.first() {
+        None => out.extend_from_slice(b"<p class=\"more\">no medium is there</p>\n"),
+        Some(_) => Ok(()),
+    }
+}
+
 // Appends the pages of the media.
-fn push_pages(alloc: Global, out: &mut Vec<u8>, media: &[MediumLook]) -> Result<(), AllocError>
-    ensures { OnOk result (out.new.items ≡ out.old.items ++ spec.pages_text media.now) }
+fn push_pages(
+    alloc: Global,
+    out: &mut Vec<u8>,
+    acts: u64,
+    media: &[MediumLook],
+) -> Result<(), AllocError>
+    ensures { OnOk result (out.new.items ≡ out.old.items ++ spec.pages_text acts media.now) }
 {
     out.extend_from_slice(b"<h2>Pages</h2>\n")?;
-    push_media(alloc, out, media)
+    push_no_media(out, media)?;
+    push_media(alloc, out, acts, media)
 }
 
 // Appends the counts of the media.
@@ -174,7 +199,7 @@ pub fn page_of(
     push_counts(alloc, &mut out, media)?;
     push_chosen(alloc, &mut out, choice, media)?;
     push_attempts(alloc, &mut out, media)?;
-    push_pages(alloc, &mut out, media)?;
+    push_pages(alloc, &mut out, tally_of(media).acts, media)?;
     out.extend_from_slice(b"</body></html>\n")?;
     Ok(Bytes::of(out))
 }

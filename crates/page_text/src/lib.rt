@@ -4,5 +4,5 @@
 mod laws;
 mod writing;
 
-pub use laws::{attribute_stays_inside, text_stays_inside};
+pub use laws::{attribute_stays_inside, text_has_no_tags, text_stays_inside};
 pub use writing::{push_attribute, push_text};

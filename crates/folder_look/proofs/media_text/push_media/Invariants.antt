@@ -5,4 +5,4 @@ use Rattle.folder_look.proofs.media_text.push_media.Given as goal
 
 -- those so far are written
 abbrev pub invariant-loop-medium : goal.invariant-loop-medium
-invariant-loop-medium l = l.out.items ≡ l.fn.out.items ++ flat_map medium_text (take l.medium-index l.media)
+invariant-loop-medium l = l.out.items ≡ l.fn.out.items ++ flat_map (medium_text l.acts) (take l.medium-index l.media)
