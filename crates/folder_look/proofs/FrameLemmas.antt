@@ -1,5 +1,5 @@
 -- Each part of the page has the frame's tags alone.
-use Rattle.std.proofs.Common.{◌≡◌, ℕ, ◌+◌, ◌-◌, ◌*◌, ◌/◌, Bool, true, false, List, [], ◌∷◌, ◌++◌, codes, reverse, length, take, refl, sym, ◌∙◌, ap, Option, Some, None, ◌==◌, ◌||◌, nat_lt, if◌then◌else◌}
+use Rattle.std.proofs.Common.{◌≡◌, ℕ, ◌+◌, ◌*◌, Bool, true, false, List, [], ◌∷◌, ◌++◌, codes, reverse, length, take, refl, ◌∙◌, Option, Some, None, ◌==◌, ◌||◌, nat_lt, if◌then◌else◌}
 use Rattle.std.specs.Fmt.{decimal}
 use Rattle.std.specs.List.{flat_map}
 use Rattle.pseudo_time.specs.StampParts.{StampParts}
@@ -16,7 +16,7 @@ use Rattle.effect_form.specs.declared.effects.Effect.TheVariants as effect
 use Rattle.effect_form.specs.declared.outcomes.Outcome.{Outcome}
 use Rattle.effect_form.specs.declared.outcomes.Outcome.TheVariants as outcome
 use Rattle.report_writer.specs.Parts.{object_text, stamp_text, time_text, kind_text}
-use Rattle.report_writer.specs.Reports.{named, two_named, refusal_text, kind_word}
+use Rattle.report_writer.specs.Reports.{named, refusal_text, kind_word}
 use Rattle.page_text.specs.Escapes.{page_text}
 use Rattle.page_text.specs.Tags.{InText, InTag, HasTagsOf, spot_behind}
 use Rattle.page_text.proofs.TagLemmas.{through, each-through, text-stays, number-stays, number-quoted}
@@ -27,14 +27,13 @@ use Rattle.folder_look.specs.declared.looks.MediumLook.{MediumLook}
 use Rattle.folder_look.specs.declared.looks.MediumState.{MediumState}
 use Rattle.folder_look.specs.declared.looks.MediumState.TheVariants.{Whole, Damaged, Shut}
 use Rattle.folder_look.specs.declared.tallies.Tally.{Tally}
-use Rattle.folder_look.specs.Attempts.{ended_text, ended_class, run_text, act_text, try_text, got_text, acked_text, end_text, effect_text, log_text}
+use Rattle.folder_look.specs.Attempts.{ended_text, ended_class, act_text, try_text, got_text, end_text, effect_text}
 use Rattle.folder_look.specs.Axes.{axis_of, column, width_of}
 use Rattle.folder_look.specs.Drawing as draw
 use Rattle.folder_look.specs.Frame.{frame_tags}
 use Rattle.folder_look.specs.MediaText as media
 use Rattle.folder_look.specs.Objects.{objects_of, objects_left, rows_of}
 use Rattle.folder_look.specs.Page as page
-use Rattle.folder_look.specs.Style.{colours, text_style, row_style, act_style, style}
 use Rattle.folder_look.specs.Tallies.{tally_of}
 
 abbrev T : List ℕ → Type 0
@@ -287,7 +286,7 @@ key : T page.key_text
 key = refl
 
 histories : (rs : List ObjectRow) (n : ℕ) → T (page.histories_text rs n)
-histories rs n = on page.key_text _ key ∙ on (draw.rows_text (axis_of rs) rs) _ (rows (axis_of rs) rs) ∙ left n
+histories rs n = on (draw.rows_text (axis_of rs) rs) (page.left_text n) (rows (axis_of rs) rs) ∙ left n
 
 attempts : (ms : List MediumLook) → T (page.attempts_text ms)
 attempts ms = each-through frame_tags media.acts_text (λ m. acts-with m.kind m) ms
@@ -301,5 +300,11 @@ pages acts ms = on (page.no_media_text ms) _ (no-media ms) ∙ each-through fram
 
 pub folder-page : (c : Choice) (ms : List MediumLook) → HasTagsOf frame_tags (page.folder_page c ms)
 folder-page c ms =
-    on page.head_text _ head ∙ on (page.tally_text (length ms) (length (objects_of ms)) (tally_of ms)) _ (tally (length ms) (length (objects_of ms)) (tally_of ms)) ∙ on (page.histories_text (rows_of c ms) (objects_left c ms)) _ (histories (rows_of c ms) (objects_left c ms)) ∙ on (page.attempts_text ms) _ (attempts ms)
-    ∙ on (page.pages_text (tally_of ms).acts ms) _ (pages (tally_of ms).acts ms) ∙ refl
+    let counted = page.tally_text (length ms) (length (objects_of ms)) (tally_of ms) in
+    let shown = page.histories_text (rows_of c ms) (objects_left c ms) in
+    let acts = (tally_of ms).acts in
+    let last = codes "</body></html>\n" in
+    on page.head_text (counted ++ (shown ++ (page.attempts_text ms ++ (page.pages_text acts ms ++ last)))) head
+    ∙ on counted (shown ++ (page.attempts_text ms ++ (page.pages_text acts ms ++ last))) (tally (length ms) (length (objects_of ms)) (tally_of ms))
+    ∙ on shown (page.attempts_text ms ++ (page.pages_text acts ms ++ last)) (histories (rows_of c ms) (objects_left c ms))
+    ∙ on (page.attempts_text ms) (page.pages_text acts ms ++ last) (attempts ms) ∙ on (page.pages_text acts ms) last (pages acts ms) ∙ refl

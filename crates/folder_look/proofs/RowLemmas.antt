@@ -1,5 +1,5 @@
 -- The rows that the code makes of what it keeps are those of the marks.
-use Rattle.std.proofs.Common.{◌≡◌, Bool, true, false, List, [], ◌∷◌, ◌++◌, map, reverse, refl, sym, ◌∙◌, ap, subst, Option, Some, None, if◌then◌else◌}
+use Rattle.std.proofs.Common.{◌≡◌, ℕ, Bool, true, false, List, [], ◌∷◌, ◌++◌, map, reverse, refl, sym, ◌∙◌, ap, Option, Some, None, if◌then◌else◌}
 use Rattle.std.specs.List.{filter}
 use Rattle.std.proofs.lemmas.List.{reverse-append}
 use Rattle.pseudo_time.specs.TimeParts.{TimeParts}
@@ -10,6 +10,7 @@ use Rattle.object_history.specs.History.{Seen, top, floor_of, latest, stretched}
 use Rattle.object_history.specs.Kept.{Settled}
 use Rattle.report_writer.specs.Histories.{falling, versions}
 use Rattle.folder_look.specs.declared.choices.Choice.{Choice}
+use Rattle.folder_look.specs.declared.looks.ObjectRow.{ObjectRow}
 use Rattle.folder_look.specs.declared.looks.VersionRow.{VersionRow}
 use Rattle.folder_look.specs.declared.versions.Version.{Version}
 use Rattle.folder_look.specs.Choices.{has_start}
@@ -26,7 +27,7 @@ reverse-map f [] = refl
 reverse-map f (x ∷ xs) =
     reverse-append (f x ∷ []) (map f xs) ∙ ap (λ z. z ++ f x ∷ []) (reverse-map f xs) ∙ sym (map-append f (reverse xs) (x ∷ [])) ∙ ap (map f) (sym (reverse-append (x ∷ []) xs))
 
-row-with : TimeParts → Option TimeParts → Value → Option Bool → VersionRow
+abbrev row-with : TimeParts → Option TimeParts → Value → Option Bool → VersionRow
 row-with start end value state = record { start = start; end = end; state = state; value = value }
 
 -- one that is kept is shown as that of the marks
@@ -56,3 +57,8 @@ rows-are c o m origin floor vs settled h floors =
 -- how far the origin was read
 pub origin-is : (o : ObjectId) (m : List Mark) (origin floor end : Option TimeParts) (vs : List Version) (settled : Settled) → Holds o m origin vs settled → floor ≡ floor_of m → end ≡ latest floor origin → end ≡ latest (floor_of m) (stretched m o None)
 origin-is o m origin floor end vs settled h floors ends = ends ∙ ap (λ f. latest f origin) floors ∙ ap (latest (floor_of m)) h.origin_is
+
+-- a row by its parts
+pub row-is : (o : ObjectId) (origin origin' floor floor' : Option TimeParts) (versions versions' : List VersionRow) (hidden hidden' : ℕ) → origin ≡ origin' → floor ≡ floor' → versions ≡ versions' → hidden ≡ hidden' →
+    ◌≡◌ {A = ObjectRow} (record { object = o; origin = origin; floor = floor; versions = versions; hidden = hidden }) (record { object = o; origin = origin'; floor = floor'; versions = versions'; hidden = hidden' })
+row-is o origin origin' floor floor' versions versions' hidden hidden' a b c d = λ i. record { object = o; origin = a i; floor = b i; versions = c i; hidden = d i }

@@ -1,6 +1,5 @@
 -- The acts of a broker, as its log tells them, the first effect first.
 use Rattle.std.specs.Prelude.{ℕ, List, [], ◌∷◌, ◌++◌, codes}
-use Rattle.std.specs.Fmt.{decimal}
 use Rattle.std.specs.List.{flat_map}
 use Rattle.pseudo_time.specs.StampParts.{StampParts}
 use Rattle.value_form.specs.declared.values.Value.{Value}
@@ -8,7 +7,7 @@ use Rattle.effect_form.specs.declared.effects.Effect.{Effect}
 use Rattle.effect_form.specs.declared.effects.Effect.TheVariants as effect
 use Rattle.effect_form.specs.declared.outcomes.Outcome.{Outcome}
 use Rattle.effect_form.specs.declared.outcomes.Outcome.TheVariants as outcome
-use Rattle.report_writer.specs.Parts.{object_text, stamp_text, time_text, kind_text}
+use Rattle.report_writer.specs.Parts.{stamp_text, kind_text}
 use Rattle.report_writer.specs.Reports.{named, two_named, refusal_text}
 use Rattle.page_text.specs.Escapes.{page_text}
 use Rattle.folder_look.specs.Drawing.{value_shown}

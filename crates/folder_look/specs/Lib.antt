@@ -5,6 +5,7 @@ pub mod Drawing
 pub mod Frame
 pub mod MediaText
 pub mod Objects
+pub mod Once
 pub mod Page
 pub mod Rows
 pub mod Style

@@ -1,5 +1,5 @@
 -- The objects of a folder, and the log that each is told by. Logs stand oldest first, media in the order of their volumes.
-use Rattle.std.specs.Prelude.{ℕ, ◌-◌, Bool, true, false, List, [], ◌∷◌, length, take, reverse, Option, Some, None, ◌==◌, ◌&&◌, if◌then◌else◌}
+use Rattle.std.specs.Prelude.{ℕ, ◌-◌, Bool, true, false, List, [], ◌∷◌, length, take, reverse, ◌==◌, ◌&&◌, if◌then◌else◌}
 use Rattle.std.specs.List.{filter}
 use Rattle.std.specs.BTreeSet.{insert_key}
 use Rattle.pseudo_time.specs.declared.nodes.NodeKind.{NodeKind}

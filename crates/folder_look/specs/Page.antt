@@ -1,6 +1,5 @@
 -- The page of a folder.
 use Rattle.std.specs.Prelude.{ℕ, List, [], ◌∷◌, ◌++◌, codes, length, ◌==◌, if◌then◌else◌}
-use Rattle.std.specs.Fmt.{decimal}
 use Rattle.std.specs.List.{flat_map}
 use Rattle.report_writer.specs.Reports.{named}
 use Rattle.folder_look.specs.declared.choices.Choice.{Choice}

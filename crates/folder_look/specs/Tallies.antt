@@ -1,6 +1,5 @@
 -- What the logs of a folder count up to.
 use Rattle.std.specs.Prelude.{ℕ, ◌+◌, ◌^◌, ◌-◌, min, max, List, [], ◌∷◌}
-use Rattle.pseudo_time.specs.StampParts.{StampParts}
 use Rattle.effect_form.specs.declared.effects.Effect.{Effect}
 use Rattle.effect_form.specs.declared.effects.Effect.TheVariants as effect
 use Rattle.effect_form.specs.declared.outcomes.Outcome.{Outcome}

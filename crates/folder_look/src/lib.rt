@@ -6,6 +6,7 @@ mod axes;
 mod choices;
 mod drawing;
 mod floors;
+mod laws;
 mod looks;
 mod media_text;
 mod objects;
@@ -17,5 +18,6 @@ mod tellings;
 mod versions;
 
 pub use choices::Choice;
+pub use laws::{page_has_the_frame, versions_stand_once};
 pub use looks::{MediumLook, MediumState, ObjectRow, VersionRow};
 pub use pages::page_of;

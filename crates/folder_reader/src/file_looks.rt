@@ -1,4 +1,4 @@
-ghost use Rattle.std.specs.Prelude.{◌≤◌, IfSome};
+ghost use Rattle.std.specs.Prelude.{◌≡◌, ◌≢◌, ◌≤◌, [], IfOk, IfSome};
 
 use crate::read_media::ReadMedium;
 use crate::readings::look_at;
@@ -13,7 +13,10 @@ use value_form::Items;
 const MOST_PAGES: u64 = 1_048_576;
 
 // A medium that can't be read.
-fn shut(alloc: Global, kind: NodeKind, number: u8, volume: u32) -> MediumLook {
+fn shut(alloc: Global, kind: NodeKind, number: u8, volume: u32) -> MediumLook
+    ensures state { (result.state ≡ MediumState.Shut) × (result.log ≡ []) }
+    ensures name { (result.kind ≡ kind) × (result.number ≡ number) × (result.volume ≡ volume) }
+{
     MediumLook {
         kind,
         number,
@@ -59,7 +62,10 @@ pub fn look_in(
     kind: NodeKind,
     number: u8,
     volume: u32,
-) -> Result<Option<MediumLook>, AllocError> {
+) -> Result<Option<MediumLook>, AllocError>
+    ensures name { IfOk result (λ found. IfSome found (λ look. (look.kind ≡ kind) × (look.number ≡ number) × (look.volume ≡ volume))) }
+    ensures no_log { IfOk result (λ found. IfSome found (λ look. look.state ≢ MediumState.Whole → look.log ≡ [])) }
+{
     let path = format!(in alloc; "{}/{}-{}-{}", folder, kind_word(kind), number, volume)?;
     match fs::open(files, path.as_str()) {
         Err(error) if error.kind() == ErrorKind::NotFound => Ok(None),

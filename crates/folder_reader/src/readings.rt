@@ -1,5 +1,6 @@
-ghost use Rattle.std.specs.Prelude.{◌≡◌, ◌≤◌, IsTrue, ℕ, Ok, Err, IfOk, IfErr, false};
+ghost use Rattle.std.specs.Prelude.{◌≡◌, ◌≢◌, ◌≤◌, ◌<◌, ◌+◌, ◌++◌, [], ◌∷◌, IsTrue, ℕ, Ok, Err, IfOk, IfErr, OnOk, false, if◌then◌else◌};
 ghost use Rattle.version_store.specs.Storage.{storage};
+ghost use Rattle.folder_reader.specs.Strips.{gated_below, is_gated, is_spoiled, spoiled_below};
 
 use folder_look::{MediumLook, MediumState};
 use medium_port::Medium;
@@ -26,11 +27,15 @@ pub enum StripFault {
 }
 
 // Adds a page.
-fn add_page(strip: &mut Strip, page: u32, state: &PageState) -> Result<(), AllocError> {
+fn add_page(strip: &mut Strip, page: u32, state: &PageState) -> Result<(), AllocError>
+    requires room { strip.old.gated < 4294967295 }
+    ensures gated { OnOk result (strip.new.gated ≡ if is_gated state.now then strip.old.gated + 1 else strip.old.gated) }
+    ensures spoiled { OnOk result (strip.new.spoiled.items ≡ if is_spoiled state.now then strip.old.spoiled.items ++ page ∷ [] else strip.old.spoiled.items) }
+{
     match state {
         PageState::Blank => Ok(()),
         PageState::Gated(_) => {
-            strip.gated = strip.gated.saturating_add(1);
+            strip.gated += 1;
             Ok(())
         }
         PageState::Spoiled => {
@@ -46,6 +51,8 @@ fn strip_of<M: Medium>(alloc: Global, medium: &mut M) -> Result<Strip, StripFaul
     ensures reads { IsTrue M.tells → M.reads medium.new ≡ M.reads medium.old }
     ensures size { M.page_count medium.new ≡ M.page_count medium.old }
     ensures state { IfOk result (λ _. M.is_failed medium.new ≡ false) }
+    ensures gated { IsTrue M.tells → IfOk result (λ strip. strip.gated ≡ gated_below (M.reads medium.old) (M.page_count medium.old)) }
+    ensures spoiled { IsTrue M.tells → IfOk result (λ strip. strip.spoiled.items ≡ spoiled_below (M.reads medium.old) (M.page_count medium.old)) }
 {
     let mut strip = Strip {
         gated: 0,
@@ -77,6 +84,11 @@ pub fn look_at<M: Medium>(
     ensures pages { IfOk result (λ look. look.pages ≡ M.page_count medium) }
     ensures whole { IsTrue M.tells → IfOk result (λ look. look.state ≡ MediumState.Whole → storage (M.reads medium) ≡ Ok look.log) }
     ensures damaged { IsTrue M.tells → IfOk result (λ look. (page : ℕ) → look.state ≡ MediumState.Damaged page → storage (M.reads medium) ≡ Err page) }
+    ensures no_log { IfOk result (λ look. look.state ≢ MediumState.Whole → look.log ≡ []) }
+    // How its pages stand, where they were all read.
+    ensures gated { IsTrue M.tells → IfOk result (λ look. look.state ≢ MediumState.Shut → look.gated ≡ gated_below (M.reads medium) (M.page_count medium)) }
+    ensures spoiled { IsTrue M.tells → IfOk result (λ look. look.state ≢ MediumState.Shut → look.spoiled ≡ spoiled_below (M.reads medium) (M.page_count medium)) }
+    ensures name { IfOk result (λ look. (look.kind ≡ kind) × (look.number ≡ number) × (look.volume ≡ volume)) }
 {
     let pages = medium.pages();
     let mut seen = MediumLook {
