@@ -26,6 +26,17 @@ pub enum StripFault {
     NoMemory,
 }
 
+impl From<AllocError> for StripFault {
+    ghost use Rattle.std.specs.Prelude.{◌≡◌};
+    ghost use Rattle.folder_reader.specs.declared.readings.StripFault.TheVariants.{NoMemory};
+
+    ghost from_gives = { λ _ e. e ≡ NoMemory };
+
+    fn from(_error: AllocError) -> StripFault {
+        StripFault::NoMemory
+    }
+}
+
 // Adds a page.
 fn add_page(strip: &mut Strip, page: u32, state: &PageState) -> Result<(), AllocError>
     requires room { strip.old.gated < 4294967295 }
@@ -60,14 +71,10 @@ fn strip_of<M: Medium>(alloc: Global, medium: &mut M) -> Result<Strip, StripFaul
     };
     let pages = medium.pages();
     for page in 0..pages {
-        match look(medium, page) {
-            Err(_) => return Err(StripFault::Medium),
-            Ok(state) => {
-                if add_page(&mut strip, page, &state).is_err() {
-                    return Err(StripFault::NoMemory);
-                }
-            }
-        }
+        let Ok(state) = look(medium, page) else {
+            return Err(StripFault::Medium);
+        };
+        add_page(&mut strip, page, &state)?;
     }
     Ok(strip)
 }
