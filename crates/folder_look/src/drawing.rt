@@ -173,7 +173,13 @@ fn push_version(
     push_state(out, version.state)?;
     out.extend_from_slice(b"\">")?;
     push_title(alloc, out, version)?;
-    push_bar(alloc, out, axis, version, column(axis, version.start.stamp()))?;
+    push_bar(
+        alloc,
+        out,
+        axis,
+        version,
+        column(axis, version.start.stamp()),
+    )?;
     out.extend_from_slice(b"</g></a>\n")
 }
 

@@ -35,7 +35,12 @@ fn push_state(alloc: Global, out: &mut Vec<u8>, state: MediumState) -> Result<()
     match state {
         MediumState::Whole => out.extend_from_slice(b"<em class=\"whole\">whole</em>"),
         MediumState::Damaged { page } => {
-            push_named(alloc, out, b"<em class=\"damaged\">damaged at page ", page as u64)?;
+            push_named(
+                alloc,
+                out,
+                b"<em class=\"damaged\">damaged at page ",
+                page as u64,
+            )?;
             out.extend_from_slice(b"</em>")
         }
         MediumState::Shut => out.extend_from_slice(b"<em class=\"shut\">can't be read</em>"),
@@ -89,12 +94,7 @@ fn push_room(
 }
 
 // Appends a page of a strip.
-fn push_page(
-    alloc: Global,
-    out: &mut Vec<u8>,
-    class: &[u8],
-    page: u32,
-) -> Result<(), AllocError>
+fn push_page(alloc: Global, out: &mut Vec<u8>, class: &[u8], page: u32) -> Result<(), AllocError>
     ensures { OnOk result (out.new.items ≡ out.old.items ++ spec.strip_page class.now page) }
 {
     out.extend_from_slice(b"<rect class=\"")?;

@@ -25,7 +25,11 @@ const MOST_VERSIONS: usize = 2000;
 fn push_head(out: &mut Vec<u8>) -> Result<(), AllocError>
     ensures { OnOk result (out.new.items ≡ out.old.items ++ spec.head_text) }
 {
-    out.extend_from_slice(b"<!doctype html>\n<html lang=\"en\"><head><meta charset=\"utf-8\"><meta name=\"viewport\" content=\"width=device-width, initial-scale=1\"><title>A folder</title>\n<style>\n")?;
+    out.extend_from_slice(
+        b"<!doctype html>\n<html lang=\"en\"><head><meta charset=\"utf-8\">\
+          <meta name=\"viewport\" content=\"width=device-width, initial-scale=1\"><title>A folder</title>\n\
+          <style>\n",
+    )?;
     push_style(out)?;
     out.extend_from_slice(b"</style></head><body>\n<h1>What the folder holds</h1>\n")
 }
@@ -108,8 +112,20 @@ fn push_left(alloc: Global, out: &mut Vec<u8>, left: u64) -> Result<(), AllocErr
 fn push_key(out: &mut Vec<u8>) -> Result<(), AllocError>
     ensures { OnOk result (out.new.items ≡ out.old.items ++ spec.key_text) }
 {
-    out.extend_from_slice(b"<p class=\"key\"><svg width=\"30\" height=\"20\"><g class=\"committed\"><rect x=\"1\" y=\"4\" width=\"28\" height=\"12\" rx=\"3\"/></g></svg> committed\n<svg width=\"30\" height=\"20\"><g class=\"undecided\"><rect x=\"1\" y=\"4\" width=\"28\" height=\"12\" rx=\"3\"/></g></svg> undecided\n")?;
-    out.extend_from_slice(b"<svg width=\"30\" height=\"20\"><g class=\"aborted\"><rect x=\"1\" y=\"4\" width=\"28\" height=\"12\" rx=\"3\"/><path d=\"M1 1l18 18m0-18l-18 18\"/></g></svg> aborted\n<svg width=\"30\" height=\"20\"><g class=\"origin\"><rect x=\"1\" y=\"4\" width=\"28\" height=\"12\" rx=\"3\"/></g></svg> reads of what was there at first. A bar goes from a version's start to how far it was read.</p>\n")
+    out.extend_from_slice(
+        b"<p class=\"key\"><svg width=\"30\" height=\"20\"><g class=\"committed\">\
+          <rect x=\"1\" y=\"4\" width=\"28\" height=\"12\" rx=\"3\"/></g></svg> committed\n\
+          <svg width=\"30\" height=\"20\"><g class=\"undecided\">\
+          <rect x=\"1\" y=\"4\" width=\"28\" height=\"12\" rx=\"3\"/></g></svg> undecided\n",
+    )?;
+    out.extend_from_slice(
+        b"<svg width=\"30\" height=\"20\"><g class=\"aborted\">\
+          <rect x=\"1\" y=\"4\" width=\"28\" height=\"12\" rx=\"3\"/>\
+          <path d=\"M1 1l18 18m0-18l-18 18\"/></g></svg> aborted\n\
+          <svg width=\"30\" height=\"20\"><g class=\"origin\">\
+          <rect x=\"1\" y=\"4\" width=\"28\" height=\"12\" rx=\"3\"/></g></svg> \
+          reads of what was there at first. A bar goes from a version's start to how far it was read.</p>\n",
+    )
 }
 
 // Appends the histories of these rows.
@@ -187,11 +203,7 @@ fn push_counts(alloc: Global, out: &mut Vec<u8>, media: &[MediumLook]) -> Result
 /// The page of a folder, by what its media hold. Media of one node stand in the order of their volumes.
 ///
 /// It shows the first 200 of the objects that are chosen, and 2,000 versions of them at most.
-pub fn page_of(
-    alloc: Global,
-    choice: &Choice,
-    media: &[MediumLook],
-) -> Result<Bytes, AllocError>
+pub fn page_of(alloc: Global, choice: &Choice, media: &[MediumLook]) -> Result<Bytes, AllocError>
     ensures { IfOk result (λ page. page ≡ spec.folder_page choice.now media.now) }
 {
     let mut out = Vec::new(alloc);

@@ -7,9 +7,9 @@ mod options;
 use crate::options::{command, look_of};
 use folder_look::page_of;
 use folder_reader::media_of;
+use std::env;
 use std::io::{self, ErrorKind, Write};
 use std::process::ExitCode;
-use std::env;
 
 /// The status where the words are no command.
 const NO_COMMAND: u8 = 1;

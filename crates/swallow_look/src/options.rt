@@ -16,12 +16,14 @@ fn option<'a>(alloc: Global, name: &'a str, parser: ValueParser<'a>) -> Arg<'a> 
 
 /// The command that reads the words.
 pub fn command<'a>(alloc: Global) -> Result<Command<'a>, AllocError> {
-    let folder = Arg::new(alloc, "DIR")
-        .required(true)
-        .action(ArgAction::Set);
+    let folder = Arg::new(alloc, "DIR").required(true).action(ArgAction::Set);
     let object = option(alloc, "object", ValueParser::string());
     let repository = option(alloc, "repository", value_parser!(u8).range(1..=16));
-    let from = option(alloc, "from", value_parser!(u64).range(0..=1_099_511_627_775));
+    let from = option(
+        alloc,
+        "from",
+        value_parser!(u64).range(0..=1_099_511_627_775),
+    );
     let to = option(alloc, "to", value_parser!(u64).range(0..=1_099_511_627_775));
     Command::new(alloc, "swallow_look")
         .no_binary_name(true)
