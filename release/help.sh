@@ -32,6 +32,21 @@ The statuses are those of ./swallow. docs/COMMANDS.md has it with what to do.
 TEXT
 }
 
+help_swallow_look() {
+  cat << 'TEXT'
+./swallow_look FOLDER [OPTIONS] > page.html   writes a page for a browser: what the logs in FOLDER say
+./swallow_look build                          proves and builds the program here, and compares it with release/
+
+--object R.N     this object alone, as 1.7
+--repository R   the objects of this repository alone, 1 to 16
+--from CLOCK     versions whose clock is at least this
+--to CLOCK       versions whose clock is at most this
+
+Status 0: the page was written. 1: no command. 4: standard output failed. 7: no memory.
+70: the program couldn't be built or started. docs/COMMANDS.md says what the page shows.
+TEXT
+}
+
 tell_version() {
   name_program "$1"
   sum_sources "$1" || return 1

@@ -1,0 +1,5 @@
+pub mod Appends
+pub mod FrameLemmas
+pub mod OnceLemmas
+pub mod RowLemmas
+pub mod TellingLemmas

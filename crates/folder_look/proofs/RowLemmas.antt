@@ -1,0 +1,64 @@
+-- The rows that the code makes of what it keeps are those of the marks.
+use Rattle.std.proofs.Common.{◌≡◌, ℕ, Bool, true, false, List, [], ◌∷◌, ◌++◌, map, reverse, refl, sym, ◌∙◌, ap, Option, Some, None, if◌then◌else◌}
+use Rattle.std.specs.List.{filter}
+use Rattle.std.proofs.lemmas.List.{reverse-append}
+use Rattle.pseudo_time.specs.TimeParts.{TimeParts}
+use Rattle.value_form.specs.declared.objects.ObjectId.{ObjectId}
+use Rattle.value_form.specs.declared.values.Value.{Value}
+use Rattle.object_history.specs.declared.marks.Mark.{Mark}
+use Rattle.object_history.specs.History.{Seen, top, floor_of, latest, stretched}
+use Rattle.object_history.specs.Kept.{Settled}
+use Rattle.report_writer.specs.Histories.{falling, versions}
+use Rattle.folder_look.specs.declared.choices.Choice.{Choice}
+use Rattle.folder_look.specs.declared.looks.ObjectRow.{ObjectRow}
+use Rattle.folder_look.specs.declared.looks.VersionRow.{VersionRow}
+use Rattle.folder_look.specs.declared.versions.Version.{Version}
+use Rattle.folder_look.specs.Choices.{has_start}
+use Rattle.folder_look.specs.Rows.{row_of, is_chosen, rows_of}
+use Rattle.folder_look.specs.Tellings.{told_of, Holds}
+use Rattle.folder_look.specs.Told.{told_row, is_told_in}
+
+map-append : (f : Seen → Version) (xs ys : List Seen) → map f (xs ++ ys) ≡ map f xs ++ map f ys
+map-append f [] ys = refl
+map-append f (x ∷ xs) ys = ap (λ z. f x ∷ z) (map-append f xs ys)
+
+reverse-map : (f : Seen → Version) (xs : List Seen) → reverse (map f xs) ≡ map f (reverse xs)
+reverse-map f [] = refl
+reverse-map f (x ∷ xs) =
+    reverse-append (f x ∷ []) (map f xs) ∙ ap (λ z. z ++ f x ∷ []) (reverse-map f xs) ∙ sym (map-append f (reverse xs) (x ∷ [])) ∙ ap (map f) (sym (reverse-append (x ∷ []) xs))
+
+abbrev row-with : TimeParts → Option TimeParts → Value → Option Bool → VersionRow
+row-with start end value state = record { start = start; end = end; state = state; value = value }
+
+-- one that is kept is shown as that of the marks
+told-row : (o : ObjectId) (m : List Mark) (origin : Option TimeParts) (vs : List Version) (settled : Settled) → Holds o m origin vs settled → (p : Seen) → told_row settled (floor_of m) (told_of m o p) ≡ row_of o m p
+told-row o m origin vs settled h p = ap (row-with p.start (latest (floor_of m) (top p.start (stretched m o (Some p.place)))) p.value) (h.settles p.start.stamp)
+
+row-if : (f : Version → VersionRow) (g : Seen → VersionRow) (b : Bool) (t : Version) (p : Seen) (ts : List Version) (ps : List Seen) → f t ≡ g p → map f ts ≡ map g ps → map f (if b then t ∷ ts else ts) ≡ map g (if b then p ∷ ps else ps)
+row-if f g true t p ts ps e h = ap (λ r. r ∷ map f ts) e ∙ ap (λ rs. g p ∷ rs) h
+row-if f g false t p ts ps e h = h
+
+told-rows : (c : Choice) (o : ObjectId) (m : List Mark) (origin : Option TimeParts) (vs : List Version) (settled : Settled) → Holds o m origin vs settled → (ps : List Seen) →
+    map (told_row settled (floor_of m)) (filter (is_told_in c) (map (told_of m o) ps)) ≡ map (row_of o m) (filter (is_chosen c) ps)
+told-rows c o m origin vs settled h [] = refl
+told-rows c o m origin vs settled h (p ∷ ps) =
+    row-if (told_row settled (floor_of m)) (row_of o m) (has_start c p.start) (told_of m o p) p (filter (is_told_in c) (map (told_of m o) ps)) (filter (is_chosen c) ps)
+    (told-row o m origin vs settled h p) (told-rows c o m origin vs settled h ps)
+
+-- the chosen ones of those that are kept, in rising order
+pub rows-are : (c : Choice) (o : ObjectId) (m : List Mark) (origin floor : Option TimeParts) (vs : List Version) (settled : Settled) → Holds o m origin vs settled → floor ≡ floor_of m →
+    map (told_row settled floor) (filter (is_told_in c) (reverse vs)) ≡ rows_of c o m
+rows-are c o m origin floor vs settled h floors =
+    ap (λ f. map (told_row settled f) (filter (is_told_in c) (reverse vs))) floors
+    ∙ ap (λ ws. map (told_row settled (floor_of m)) (filter (is_told_in c) (reverse ws))) h.versions_are
+    ∙ ap (λ ws. map (told_row settled (floor_of m)) (filter (is_told_in c) ws)) (reverse-map (told_of m o) (falling o m))
+    ∙ told-rows c o m origin vs settled h (versions o m)
+
+-- how far the origin was read
+pub origin-is : (o : ObjectId) (m : List Mark) (origin floor end : Option TimeParts) (vs : List Version) (settled : Settled) → Holds o m origin vs settled → floor ≡ floor_of m → end ≡ latest floor origin → end ≡ latest (floor_of m) (stretched m o None)
+origin-is o m origin floor end vs settled h floors ends = ends ∙ ap (λ f. latest f origin) floors ∙ ap (latest (floor_of m)) h.origin_is
+
+-- a row by its parts
+pub row-is : (o : ObjectId) (origin origin' floor floor' : Option TimeParts) (versions versions' : List VersionRow) (hidden hidden' : ℕ) → origin ≡ origin' → floor ≡ floor' → versions ≡ versions' → hidden ≡ hidden' →
+    ◌≡◌ {A = ObjectRow} (record { object = o; origin = origin; floor = floor; versions = versions; hidden = hidden }) (record { object = o; origin = origin'; floor = floor'; versions = versions'; hidden = hidden' })
+row-is o origin origin' floor floor' versions versions' hidden hidden' a b c d = λ i. record { object = o; origin = a i; floor = b i; versions = c i; hidden = d i }

@@ -1,0 +1,8 @@
+use Rattle.std.proofs.Common.{◌≡◌, ◌++◌, take}
+use Rattle.std.specs.List.{flat_map}
+use Rattle.folder_look.specs.Attempts.{effect_text}
+use Rattle.folder_look.proofs.attempts.push_log.Given as goal
+
+-- those so far are written
+abbrev pub invariant-loop-effect : goal.invariant-loop-effect
+invariant-loop-effect l = l.out.items ≡ l.fn.out.items ++ flat_map effect_text (take l.effect-index l.effects)

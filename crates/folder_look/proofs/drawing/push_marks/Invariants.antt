@@ -1,0 +1,8 @@
+use Rattle.std.proofs.Common.{◌≡◌, ◌++◌}
+use Rattle.std.specs.List.{flat_map}
+use Rattle.folder_look.specs.Drawing.{mark_text}
+use Rattle.folder_look.proofs.drawing.push_marks.Given as goal
+
+-- those that are left are written on
+abbrev pub invariant-loop-stamp : goal.invariant-loop-stamp
+invariant-loop-stamp l = l.out.items ++ flat_map (mark_text l.axis.keys) l.stamp-iterator ≡ l.fn.out.items ++ flat_map (mark_text l.axis.keys) l.initial.stamp-iterator

@@ -1,0 +1,8 @@
+use Rattle.std.proofs.Common.{◌≡◌, ◌++◌, take}
+use Rattle.std.specs.List.{flat_map}
+use Rattle.folder_look.specs.Drawing.{version_text}
+use Rattle.folder_look.proofs.drawing.push_versions.Given as goal
+
+-- those so far are written
+abbrev pub invariant-loop-version : goal.invariant-loop-version
+invariant-loop-version l = l.out.items ≡ l.fn.out.items ++ flat_map (version_text l.axis.keys) (take l.version-index l.versions)

@@ -1,0 +1,5 @@
+use Rattle.folder_look.proofs.FrameLemmas.{folder-page}
+use Rattle.folder_look.proofs.laws.page_has_the_frame.Goals as goal
+
+pub returns : goal.returns
+returns c = folder-page

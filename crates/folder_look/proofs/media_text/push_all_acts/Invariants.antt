@@ -1,0 +1,8 @@
+use Rattle.std.proofs.Common.{◌≡◌, ◌++◌, take}
+use Rattle.std.specs.List.{flat_map}
+use Rattle.folder_look.specs.MediaText.{acts_text}
+use Rattle.folder_look.proofs.media_text.push_all_acts.Given as goal
+
+-- those so far are written
+abbrev pub invariant-loop-medium : goal.invariant-loop-medium
+invariant-loop-medium l = l.out.items ≡ l.fn.out.items ++ flat_map acts_text (take l.medium-index l.media)

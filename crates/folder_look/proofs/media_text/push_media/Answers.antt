@@ -1,0 +1,11 @@
+use Rattle.std.proofs.Common.{◌∙◌, ◌++◌, [], ◌∷◌, take, ap, sym}
+use Rattle.folder_look.proofs.Appends.{each, take-one}
+use Rattle.folder_look.specs.MediaText.{medium_text}
+use Rattle.folder_look.proofs.media_text.push_media.Goals as goal
+
+pub loop-medium-preserved : goal.loop-medium-preserved
+loop-medium-preserved c =
+    let i = c.loop-medium.medium-index in
+    let x = c.medium-item.result in
+    each (medium_text c.args.acts) c.args.media.now i x c.args.out.now.items c.loop-medium.out.items c.push_medium.new.out.items
+    (take-one c.args.media.now i x c.loop-medium-test.true ∙ ap (λ y. take i c.args.media.now ++ y ∷ []) (sym c.medium-item.is)) c.loop-medium.invariant c.in_ok-push_medium.ensures

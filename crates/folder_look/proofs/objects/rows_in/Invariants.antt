@@ -1,0 +1,7 @@
+use Rattle.std.proofs.Common.{◌≡◌, ◌++◌, drop}
+use Rattle.folder_look.specs.Objects.{rows_in}
+use Rattle.folder_look.proofs.objects.rows_in.Given as goal
+
+-- the others follow with what is left of the versions
+abbrev pub invariant-loop-object : goal.invariant-loop-object
+invariant-loop-object l = l.rows.items ++ rows_in l.choice l.media l.left (drop l.object-index l.objects) ≡ rows_in l.choice l.media l.fn.most l.objects

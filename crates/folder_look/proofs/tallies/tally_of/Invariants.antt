@@ -1,0 +1,7 @@
+use Rattle.std.proofs.Common.{◌≡◌, drop}
+use Rattle.folder_look.specs.Tallies.{counted_over, none}
+use Rattle.folder_look.proofs.tallies.tally_of.Given as goal
+
+-- those that are left are counted on
+abbrev pub invariant-loop-medium : goal.invariant-loop-medium
+invariant-loop-medium l = counted_over (drop l.medium-index l.media) l.sum ≡ counted_over l.media none

@@ -1,0 +1,14 @@
+pub mod Attempts
+pub mod Axes
+pub mod Choices
+pub mod Drawing
+pub mod Frame
+pub mod MediaText
+pub mod Objects
+pub mod Once
+pub mod Page
+pub mod Rows
+pub mod Style
+pub mod Tallies
+pub mod Tellings
+pub mod Told

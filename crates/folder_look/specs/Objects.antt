@@ -1,0 +1,81 @@
+-- The objects of a folder, and the log that each is told by. Logs stand oldest first, media in the order of their volumes.
+use Rattle.std.specs.Prelude.{ℕ, ◌-◌, Bool, true, false, List, [], ◌∷◌, length, take, reverse, ◌==◌, ◌&&◌, if◌then◌else◌}
+use Rattle.std.specs.List.{filter}
+use Rattle.std.specs.BTreeSet.{insert_key}
+use Rattle.pseudo_time.specs.declared.nodes.NodeKind.{NodeKind}
+use Rattle.pseudo_time.specs.declared.nodes.NodeKind.TheVariants.{Repository, Broker}
+use Rattle.value_form.specs.declared.objects.ObjectId.{ObjectId}
+use Rattle.value_form.specs.Objects.{object_cmp}
+use Rattle.effect_form.specs.declared.effects.Effect.{Effect}
+use Rattle.effect_form.specs.declared.effects.Effect.TheVariants as effect
+use Rattle.repository_log.specs.Logs.{marks}
+use Rattle.folder_look.specs.declared.choices.Choice.{Choice}
+use Rattle.folder_look.specs.declared.looks.MediumLook.{MediumLook}
+use Rattle.folder_look.specs.declared.looks.ObjectRow.{ObjectRow}
+use Rattle.folder_look.specs.Choices.{has_object}
+use Rattle.folder_look.specs.Rows.{object_row}
+
+abbrev pub is_repository : NodeKind → Bool
+is_repository Repository = true
+is_repository Broker = false
+
+-- ---- objects
+
+-- with the object that an effect puts or reads, in order
+abbrev pub with_object : Effect → List ObjectId → List ObjectId
+with_object (effect.Put o x v) all = insert_key object_cmp all o
+with_object (effect.Stretch o x) all = insert_key object_cmp all o
+with_object (effect.Run n) all = all
+with_object (effect.Act i h t k c x) all = all
+with_object (effect.Try i s) all = all
+with_object (effect.Got k v) all = all
+with_object (effect.Acked k) all = all
+with_object (effect.End i o) all = all
+with_object (effect.Mark at) all = all
+with_object effect.Whole all = all
+with_object (effect.Begin s d) all = all
+with_object (effect.Decide s d) all = all
+with_object (effect.Learn s c) all = all
+
+abbrev pub with_objects : List Effect → List ObjectId → List ObjectId
+with_objects [] all = all
+with_objects (e ∷ es) all = with_objects es (with_object e all)
+
+abbrev pub with_media : List MediumLook → List ObjectId → List ObjectId
+with_media [] all = all
+with_media (m ∷ ms) all = with_media ms (with_objects m.log all)
+
+-- each object of the folder once, by repository, then number
+abbrev pub objects_of : List MediumLook → List ObjectId
+objects_of media = with_media media []
+
+-- those that are chosen
+abbrev pub chosen : Choice → List MediumLook → List ObjectId
+chosen c media = filter (has_object c) (objects_of media)
+
+-- ---- rows
+
+-- the log of a repository's last volume
+abbrev pub log_from : ℕ → List Effect → List MediumLook → List Effect
+log_from r found [] = found
+log_from r found (m ∷ ms) = log_from r (if is_repository m.kind && m.number == r then m.log else found) ms
+
+abbrev pub newest_log : ℕ → List MediumLook → List Effect
+newest_log r media = log_from r [] media
+
+-- an object by its repository's log, with so many versions at most
+abbrev pub row_in : Choice → List MediumLook → ℕ → ObjectId → ObjectRow
+row_in c media most o = object_row c most o (marks (reverse (newest_log o.repository media)))
+
+-- a row for each object, with so many versions together at most
+abbrev pub rows_in : Choice → List MediumLook → ℕ → List ObjectId → List ObjectRow
+rows_in c media most [] = []
+rows_in c media most (o ∷ os) = row_in c media most o ∷ rows_in c media (most - length (row_in c media most o).versions) os
+
+-- the first 200 objects, with 2,000 versions at most
+abbrev pub rows_of : Choice → List MediumLook → List ObjectRow
+rows_of c media = rows_in c media 2000 (take 200 (chosen c media))
+
+-- how many objects aren't shown
+abbrev pub objects_left : Choice → List MediumLook → ℕ
+objects_left c media = length (chosen c media) - 200

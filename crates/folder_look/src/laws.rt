@@ -1,0 +1,26 @@
+ghost use Rattle.std.specs.Prelude.{◌≡◌, ◌+◌, ℕ, List, length};
+ghost use Rattle.value_form.specs.declared.objects.ObjectId.{ObjectId};
+ghost use Rattle.object_history.specs.declared.marks.Mark.{Mark};
+ghost use Rattle.object_history.specs.History.{version_count};
+ghost use Rattle.report_writer.specs.Histories.{falling};
+ghost use Rattle.page_text.specs.Tags.{HasTagsOf};
+ghost use Rattle.folder_look.specs.declared.choices.Choice.{Choice};
+ghost use Rattle.folder_look.specs.declared.looks.MediumLook.{MediumLook};
+ghost use Rattle.folder_look.specs.Frame.{frame_tags};
+ghost use Rattle.folder_look.specs.Once.{NoneTwice};
+ghost use Rattle.folder_look.specs.Page.{folder_page};
+ghost use Rattle.folder_look.specs.Rows.{object_row, rows_of};
+
+/// A law: whatever the logs hold, each tag of the page is one of the frame's, and is closed.
+pub fn page_has_the_frame()
+    ensures { (c : Choice) (media : List MediumLook) → HasTagsOf frame_tags (folder_page c media) }
+{}
+
+/// A law: the versions of an object, which a row shows in turn, are as many as the log's Puts of it,
+/// and none stands twice. Those of a row that are chosen are shown or counted.
+pub fn versions_stand_once()
+    ensures count { (o : ObjectId) (m : List Mark) → length (falling o m) ≡ version_count o m }
+    ensures once { (o : ObjectId) (m : List Mark) → NoneTwice (falling o m) }
+    ensures row { (c : Choice) (most : ℕ) (o : ObjectId) (m : List Mark) →
+        length (object_row c most o m).versions + (object_row c most o m).hidden ≡ length (rows_of c o m) }
+{}

@@ -1,0 +1,56 @@
+use effect_form::Effect;
+use pseudo_time::{NodeKind, PseudoTime};
+use value_form::{Items, ObjectId, Value};
+
+/// A version, as the page shows it.
+#[derive(Drop)]
+pub struct VersionRow {
+    pub start: PseudoTime,
+    /// How far it was read.
+    pub end: Option<PseudoTime>,
+    /// Whether its attempt was committed. None where that is undecided.
+    pub state: Option<bool>,
+    pub value: Value,
+}
+
+/// An object with its versions, as the page shows it.
+#[derive(Drop)]
+pub struct ObjectRow {
+    pub object: ObjectId,
+    /// How far its origin was read.
+    pub origin: Option<PseudoTime>,
+    /// The floor of its repository's log.
+    pub floor: Option<PseudoTime>,
+    /// In rising order of start.
+    pub versions: Items<VersionRow>,
+    /// How many more versions it has that would be shown.
+    pub hidden: u64,
+}
+
+/// Whether a medium could be read.
+#[derive(Clone, Copy)]
+pub enum MediumState {
+    /// Its pages have a log.
+    Whole,
+    /// No log has such a page there.
+    Damaged { page: u32 },
+    /// It can't be opened, or couldn't be read to its end.
+    Shut,
+}
+
+/// A medium of a folder, as it was read.
+#[derive(Drop)]
+pub struct MediumLook {
+    pub kind: NodeKind,
+    pub number: u8,
+    pub volume: u32,
+    /// How many pages it has.
+    pub pages: u32,
+    /// How many of them are gated.
+    pub gated: u32,
+    /// Those that are spoiled, in order.
+    pub spoiled: Items<u32>,
+    pub state: MediumState,
+    /// Its effects, the first one first. None where it has no log.
+    pub log: Items<Effect>,
+}

@@ -1,0 +1,84 @@
+ghost use Rattle.std.specs.Prelude.{◌≡◌, ◌≢◌, ◌≤◌, [], IfOk, IfSome};
+
+use crate::read_media::ReadMedium;
+use crate::readings::look_at;
+use folder_look::{MediumLook, MediumState};
+use pseudo_time::NodeKind;
+use std::alloc::{AllocError, Global};
+use std::fs::{self, File};
+use std::io::ErrorKind;
+use std::rt::Files;
+use value_form::Items;
+
+const MOST_PAGES: u64 = 1_048_576;
+
+// A medium that can't be read.
+fn shut(alloc: Global, kind: NodeKind, number: u8, volume: u32) -> MediumLook
+    ensures state { (result.state ≡ MediumState.Shut) × (result.log ≡ []) }
+    ensures name { (result.kind ≡ kind) × (result.number ≡ number) × (result.volume ≡ volume) }
+{
+    MediumLook {
+        kind,
+        number,
+        volume,
+        pages: 0,
+        gated: 0,
+        spoiled: Items::of(Vec::new(alloc)),
+        state: MediumState::Shut,
+        log: Items::of(Vec::new(alloc)),
+    }
+}
+
+fn kind_word(kind: NodeKind) -> &'static str {
+    match kind {
+        NodeKind::Repository => "repository",
+        NodeKind::Broker => "broker",
+    }
+}
+
+// The number of whole pages of a regular file. None where it has none, or too many.
+fn pages_of(file: &File) -> Option<u32>
+    ensures { IfSome result (λ n. (1 ≤ n) × (n ≤ 1048576)) }
+{
+    let Ok(data) = file.metadata() else {
+        return None;
+    };
+    if !data.is_file() {
+        return None;
+    }
+    let pages = data.len() / 4096;
+    if pages == 0 || pages > MOST_PAGES {
+        return None;
+    }
+    Some(pages as u32)
+}
+
+/// What the file of this medium holds. None where there is no such file. The file is opened for
+/// reading alone: it is never made, and never made longer.
+pub fn look_in(
+    alloc: Global,
+    files: &impl Files<File = File>,
+    folder: &str,
+    kind: NodeKind,
+    number: u8,
+    volume: u32,
+) -> Result<Option<MediumLook>, AllocError>
+    ensures name { IfOk result (λ found. IfSome found (λ look. (look.kind ≡ kind) × (look.number ≡ number) × (look.volume ≡ volume))) }
+    ensures no_log { IfOk result (λ found. IfSome found (λ look. look.state ≢ MediumState.Whole → look.log ≡ [])) }
+{
+    let path = format!(in alloc; "{}/{}-{}-{}", folder, kind_word(kind), number, volume)?;
+    match fs::open(files, path.as_str()) {
+        Err(error) if error.kind() == ErrorKind::NotFound => Ok(None),
+        Err(_) => Ok(Some(shut(alloc, kind, number, volume))),
+        Ok(file) => match pages_of(&file) {
+            None => Ok(Some(shut(alloc, kind, number, volume))),
+            Some(pages) => Ok(Some(look_at(
+                alloc,
+                kind,
+                number,
+                volume,
+                ReadMedium::new(file, pages),
+            )?)),
+        },
+    }
+}

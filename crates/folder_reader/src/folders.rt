@@ -1,0 +1,72 @@
+use crate::file_looks::look_in;
+use folder_look::MediumLook;
+use pseudo_time::NodeKind;
+use std::alloc::{AllocError, AllocFailed, Global};
+use std::fs::File;
+use std::rt::Files;
+
+/// The greatest number of a node.
+const MOST_NODES: u8 = 16;
+
+/// The greatest number of a volume.
+const MOST_VOLUMES: u32 = 65_536;
+
+/// Why a folder wasn't read: memory is wanting.
+#[derive(Clone, Copy)]
+pub struct LookFault;
+
+impl From<AllocError> for LookFault {
+    fn from(_error: AllocError) -> LookFault {
+        LookFault
+    }
+}
+
+impl<T: Drop> From<AllocFailed<T>> for LookFault {
+    fn from(_error: AllocFailed<T>) -> LookFault {
+        LookFault
+    }
+}
+
+// Adds the volumes of a node, up to the first that isn't there.
+fn add_node(
+    alloc: Global,
+    files: &impl Files<File = File>,
+    folder: &str,
+    kind: NodeKind,
+    number: u8,
+    media: &mut Vec<MediumLook>,
+) -> Result<(), LookFault> {
+    for volume in 0..MOST_VOLUMES {
+        match look_in(alloc, files, folder, kind, number, volume)? {
+            None => return Ok(()),
+            Some(look) => media.push(look)?,
+        }
+    }
+    Ok(())
+}
+
+// Adds the nodes of a kind.
+fn add_kind(
+    alloc: Global,
+    files: &impl Files<File = File>,
+    folder: &str,
+    kind: NodeKind,
+    media: &mut Vec<MediumLook>,
+) -> Result<(), LookFault> {
+    for number in 1..=MOST_NODES {
+        add_node(alloc, files, folder, kind, number, media)?;
+    }
+    Ok(())
+}
+
+/// What the media of a folder hold, the repositories first, each node's volumes in order.
+pub fn media_of(
+    alloc: Global,
+    files: &impl Files<File = File>,
+    folder: &str,
+) -> Result<Vec<MediumLook>, LookFault> {
+    let mut media = Vec::new(alloc);
+    add_kind(alloc, files, folder, NodeKind::Repository, &mut media)?;
+    add_kind(alloc, files, folder, NodeKind::Broker, &mut media)?;
+    Ok(media)
+}

@@ -1,0 +1,11 @@
+//! The media of a folder, read and never written.
+#![tactic(auto)]
+
+mod file_looks;
+mod folders;
+mod read_media;
+mod readings;
+
+pub use folders::{LookFault, media_of};
+pub use read_media::ReadMedium;
+pub use readings::look_at;
