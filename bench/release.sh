@@ -3,13 +3,13 @@
 # checkout that it ran in, or this one. Behind a gate the programs that it proved and ran lie there, as crates/NAME/out/NAME:
 # `rt ci` puts away what it found in out/, and leaves what it built (by LLVM; NAME.by-rattle is the other compiler's). The
 # sources there and here have to be the same, and each program earlier than the end of the log and, unless the log says that
-# it is kept of an earlier gate, later than its sources. Writes the two programs and release/README.md, which names the last
+# it is kept of an earlier gate, later than its sources. Writes the programs and release/README.md, which names the last
 # commit of this checkout: let it be the one of the gate.
 # `bench/release.sh check` changes nothing: status 0 where the sums in release/README.md are those of the sources here and of
 # the programs, else 1, and it says what differs.
 top="$(cd "$(dirname "${BASH_SOURCE[0]}")/.." && pwd)" || exit 1
 . "$top/release/start.sh" || exit 1
-crates=(swallow_main swallow_lab)
+crates=(swallow_main swallow_lab swallow_look)
 
 fail() {
   echo "release: $*" >&2
@@ -48,15 +48,15 @@ page() {
   cat << PAGE
 # The proved programs, for x86-64 Linux
 
-\`./swallow\` and \`./swallow_lab\` start these where the sources are still those that they were built from ([start.sh](start.sh));
-\`./swallow build\` and \`./swallow_lab build\` prove and build them again, and compare byte for byte. \`bench/release.sh\` writes
+\`./swallow\`, \`./swallow_lab\` and \`./swallow_look\` start these where the sources are still those that they were built from
+([start.sh](start.sh)); each with the word \`build\` proves and builds it again, and compares byte for byte. \`bench/release.sh\` writes
 this page and the programs, behind a gate that passed, and \`bench/release.sh check\` says whether they are those of the sources.
 
 | Program | The sum of its sources | Its own sha256 |
 |---|---|---|
 $rows
 
-| Of both | |
+| Of all | |
 |---|---|
 | Commit | $commit |
 | Kit | $kit |
