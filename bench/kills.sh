@@ -27,10 +27,10 @@ plan() {
   { printf 'swallow plan 1\nrun %d\nrepositories 1\nbrokers 1\n' "$run"; cat "$1"; } > "$work/plan"
 }
 
-# The first 16 bytes of each page that isn't blank, a line each.
+# The first 17 bytes of each page that isn't blank, a line each.
 pages() {
   [ -f "$medium" ] &&
-    perl -e 'open F, "<:raw", $ARGV[0] or exit 1; while (read F, $page, 4096) { print unpack("H32", $page), "\n" if $page =~ /[^\0]/ }' "$medium"
+    perl -e 'open F, "<:raw", $ARGV[0] or exit 1; while (read F, $page, 4096) { print unpack("H34", $page), "\n" if $page =~ /[^\0]/ }' "$medium"
 }
 
 # How many of these pages there are.
@@ -54,9 +54,9 @@ for kill in $(seq "$kills"); do
   sleep "$(printf '0.%03d' $((RANDOM % most)))"
   kill -9 "$process" 2> /dev/null
   wait "$process" 2> /dev/null
-  # A page of a decision to commit: gate, format, length 12, Decide, a stamp, Committed.
+  # A page of a decision to commit: gate, format, length 12, whole effects, Decide, a stamp, Committed.
   pages > "$work/pages"
-  committed=$(grep -c '^a501000c04[0-9a-f]\{20\}01' "$work/pages")
+  committed=$(grep -c '^a502000c0004[0-9a-f]\{20\}01' "$work/pages")
   if [ "$(used)" -eq 0 ]; then
     before=$((before + 1))
   elif [ -s "$work/report" ]; then
