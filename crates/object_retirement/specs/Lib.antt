@@ -1,3 +1,4 @@
 pub mod Chains
+pub mod Forward
 pub mod Older
 pub mod Retired
