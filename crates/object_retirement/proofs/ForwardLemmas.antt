@@ -117,3 +117,16 @@ carried-has all at (Stretch o x ∷ l) g h = from-if (lt at x) (Stretch o x) g (
 carried-has all at (Mark x ∷ l) g h = from-if false (Mark x) g (carried all at l) l (g ≡ Mark at) (carried-has all at l g) h
 carried-has all at (Whole ∷ l) g h = from-if false Whole g (carried all at l) l (g ≡ Mark at) (carried-has all at l g) h
 carried-has all at (f ∷ l) g h = from-if true f g (carried all at l) l (g ≡ Mark at) (carried-has all at l g) h
+
+-- ---- the whole of it
+
+pub record-forwarded : (l : List Effect) (at : TimeParts) (s : StampParts) → record_of (forwarded l at) s ≡ record_of l s
+unfolding first_begin decision_of
+record-forwarded l at s = record-carried l at l s
+
+pub decide-forwarded : (l : List Effect) (at : TimeParts) (s : StampParts) (d : Decision) → Has (Decide s d) l → Has (Decide s d) (forwarded l at)
+decide-forwarded l at s d h = inr (decide-carried l at l s d h)
+
+pub forwarded-has : (l : List Effect) (at : TimeParts) (g : Effect) → Has g (forwarded l at) → (g ≡ Whole) ⊎ ((g ≡ Mark at) ⊎ Has g l)
+forwarded-has l at g (inl e) = inl (sym e)
+forwarded-has l at g (inr h) = inr (carried-has l at l g h)

@@ -1,3 +1,4 @@
 pub mod ChainLemmas
+pub mod ForwardLemmas
 pub mod OlderLemmas
 pub mod RetiredLemmas
