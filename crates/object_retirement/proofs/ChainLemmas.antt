@@ -48,7 +48,7 @@ given-grown m [] old g h = h
 given-grown m (f ∷ fresh) old g h = given-up-fits (fresh ++ m) old f g.1 (given-grown m fresh old g.0 h)
 
 -- what is put isn't below the floor
-put-on-floor : (m : List Mark) (o : ObjectId) (x : TimeParts) (v : Value) → Fits m (Put o x v) → (e : TimeParts) → floor_of m ≡ Some e → lt x e ≡ false
+pub put-on-floor : (m : List Mark) (o : ObjectId) (x : TimeParts) (v : Value) → Fits m (Put o x v) → (e : TimeParts) → floor_of m ≡ Some e → lt x e ≡ false
 put-on-floor m o x v fits e is =
     let ends : Ends (floor_of m) x = ends-floor (floor_of m) (read_to m o (newest m o)) x (put-says m o x v fits.1).1 in
     subst (λ f. Ends f x) is ends
@@ -157,7 +157,7 @@ starts-from P o (Floor x ∷ m) h = starts-from P o m (λ y w j. h y w (inr j))
 not-below : (x e t : TimeParts) → lt t e ≡ true → lt x e ≡ false → lt x t ≡ false
 not-below x e t l h = not-false (lt x t) (λ k. true≢false (sym (lt-trans x t e k l) ∙ h))
 
-some-given : (m : List Mark) (o : ObjectId) (x : TimeParts) (w : Value) (ls : List (List Mark)) → Every_old (GivenUp m) ls → SomeOf (λ l. Has (Put o x w) l) ls → Has (Put o x w) m ⊎ Gone m o x
+pub some-given : (m : List Mark) (o : ObjectId) (x : TimeParts) (w : Value) (ls : List (List Mark)) → Every_old (GivenUp m) ls → SomeOf (λ l. Has (Put o x w) l) ls → Has (Put o x w) m ⊎ Gone m o x
 some-given m o x w [] all j = absurd j
 some-given m o x w (l ∷ ls) all (inl j) = all.0 o x w j
 some-given m o x w (l ∷ ls) all (inr j) = some-given m o x w ls all.1 j

@@ -146,7 +146,7 @@ starts-if : (P : TimeParts → Type 0) (o : ObjectId) (b : Bool) (f : Mark) (k :
 starts-if P o true f k h i = h
 starts-if P o false f k h i = i
 
-starts-kept : (P : TimeParts → Type 0) (o : ObjectId) (all : List Mark) (at : TimeParts) (m : List Mark) → Starts P o m → Starts P o (kept all at m)
+pub starts-kept : (P : TimeParts → Type 0) (o : ObjectId) (all : List Mark) (at : TimeParts) (m : List Mark) → Starts P o m → Starts P o (kept all at m)
 unfolding kept
 starts-kept P o all at [] h = tt
 starts-kept P o all at (Put a x v ∷ m) h =

@@ -131,6 +131,16 @@ grown-marks r (f ∷ l) at g (inr h) = grown-marks r l at g.0 h
 grown-marks r (Mark x ∷ l) at g (inl e) = absurd g.1
 grown-marks r (f ∷ l) at g (inl e) = absurd (cc e)
 
+pub grown-floor : (r : ℕ) (l : List Effect) → Grew (FitsLog r) [] l → floor_of (marks l) ≡ None
+unfolding floor_of
+grown-floor r [] g = refl
+grown-floor r (Put o x v ∷ l) g = grown-floor r l g.0
+grown-floor r (Stretch o x ∷ l) g = grown-floor r l g.0
+grown-floor r (Begin s d ∷ l) g = grown-floor r l g.0
+grown-floor r (Decide s d ∷ l) g = grown-floor r l g.0
+grown-floor r (Learn s c ∷ l) g = grown-floor r l g.0
+grown-floor r (f ∷ l) g = absurd g.1
+
 pub grown-floors : (r : ℕ) (l : List Effect) (e : TimeParts) → Grew (FitsLog r) [] l → Has (mark.Floor e) (marks l) → ⊥
 grown-floors r [] e g h = h
 grown-floors r (Put o x v ∷ l) e g (inl q) = absurd (cc q)

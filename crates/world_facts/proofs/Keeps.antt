@@ -18,7 +18,7 @@ use Rattle.serial_model.specs.Questions.{Tree}
 use Rattle.world_core.specs.Nodes.{Input, Given, repository}
 use Rattle.world_core.specs.Nodes.Input.{Going, Taking, Learning, Hearing}
 use Rattle.world_facts.specs.Rules.{Around, GrownFrom, Later, NodeFacts, SomeOf, Turns, MayInput, SenderOk, TurnGiven, TurnGives, NodeLaws}
-use Rattle.world_facts.specs.Soft.{SoftNode, all_effects, keep, gate, crash, opened_soft, Soft, put, around, SoftEvent, react, happens, nothing, happened, May, Mays, Lineage, NodeOk, OldOk, SentOk, Inv}
+use Rattle.world_facts.specs.Soft.{SoftNode, all_effects, keep, gate, crash, opened_soft, Soft, put, around, SoftEvent, react, happens, nothing, happened, May, Mays, Lineage, NodeOk, OldOk, SentOnce, Inv}
 use Rattle.world_facts.specs.Soft.SoftEvent.{Start, React, Gate, Crash, Retire, Tick}
 use Rattle.world_facts.proofs.Growths.{each-map, each-drop, every-filter, every-of-map, or-left, put-all, put-both, put-here}
 
@@ -51,7 +51,7 @@ module _ (script : List ℕ → Tree) (turns : Turns) (F : NodeFacts) (laws : No
   has-grown n base log f g h = subst (Has f) (sym g.is) (has-right g.early base f h)
 
   -- what holds of one of a node's logs holds of one each of whose decisions stands in the last
-  decided-still : (P : List Effect → Type 0) (n : NodeId) (olds : List (List Effect)) (log : List Effect) → Lineage F n olds log → SomeOf P (log ∷ olds) →
+  pub decided-still : (P : List Effect → Type 0) (n : NodeId) (olds : List (List Effect)) (log : List Effect) → Lineage F n olds log → SomeOf P (log ∷ olds) →
       (l : List Effect) × ((s : StampParts) (d : Decision) → Has (effect.Decide s d) l → Has (effect.Decide s d) log) × P l
   decided-still P n olds log k (inl p) = (log, (λ s d h. h), p)
   decided-still P n [] log k (inr p) = absurd p
@@ -75,11 +75,11 @@ module _ (script : List ℕ → Tree) (turns : Turns) (F : NodeFacts) (laws : No
   some-map P Q f (log ∷ logs) (inl p) = inl (f log p)
   some-map P Q f (log ∷ logs) (inr p) = inr (some-map P Q f logs p)
 
-  more-sent : (ever more : List Post) (logs : NodeId → List Effect) (olds : NodeId → List (List Effect)) (p : Post) → SentOk F ever logs olds p → SentOk F (ever ++ more) logs olds p
+  more-sent : (ever more : List Post) (logs : NodeId → List Effect) (olds : NodeId → List (List Effect)) (p : Post) → SentOnce F ever logs olds p → SentOnce F (ever ++ more) logs olds p
   more-sent ever more logs olds p h = some-map (λ l. F.PostOk ever p.from l (record { to = p.to; message = p.message })) (λ l. F.PostOk (ever ++ more) p.from l (record { to = p.to; message = p.message }))
       (λ l q. laws.more_posts ever more p.from l (record { to = p.to; message = p.message }) q) (logs p.from ∷ olds p.from) h
 
-  old-later : (w v : Around) → Later w v → (n : NodeId) (olds : List (List Effect)) → Every (OldOk F w n) olds → Every (OldOk F v n) olds
+  pub old-later : (w v : Around) → Later w v → (n : NodeId) (olds : List (List Effect)) → Every (OldOk F w n) olds → Every (OldOk F v n) olds
   old-later w v l n olds h = every-map (OldOk F w n) (OldOk F v n) (λ log k. (k.0, each-map (F.Proof w n) (F.Proof v n) (λ below f. laws.later w v n below f l) log k.1)) olds h
 
   -- ---- an input
@@ -95,7 +95,7 @@ module _ (script : List ℕ → Tree) (turns : Turns) (F : NodeFacts) (laws : No
   sender-ok s n Going inv may = tt
   sender-ok s n (Taking from m) inv may =
       decided-still (λ log. F.PostOk s.ever from log (record { to = n; message = m })) from (s.olds from) (s.node from).past (inv.lineage from)
-      (every-has (SentOk F s.ever (λ k. (s.node k).past) s.olds) s.ever (post from (record { to = n; message = m })) inv.sent may)
+      (every-has (SentOnce F s.ever (λ k. (s.node k).past) s.olds) s.ever (post from (record { to = n; message = m })) inv.sent may)
   sender-ok s n (Learning stamp committed) inv may = tt
   sender-ok s n (Hearing t) inv may = tt
 
@@ -129,7 +129,7 @@ module _ (script : List ℕ → Tree) (turns : Turns) (F : NodeFacts) (laws : No
 
   changed : (s : Soft) (n : NodeId) (y : SoftNode) (late : List Effect) (ever new : List Post) → Inv F s → NodeOk F (around s) n y →
       Grew (F.Fits n) (s.node n).past late → y.past ≡ late ++ (s.node n).past → ever ≡ s.ever ++ new →
-      Every (SentOk F s.ever (λ k. (put n y s.node k).past) s.olds) new → Inv F (record { node = put n y s.node; olds = s.olds; ever = ever; ticks = s.ticks })
+      Every (SentOnce F s.ever (λ k. (put n y s.node k).past) s.olds) new → Inv F (record { node = put n y s.node; olds = s.olds; ever = ever; ticks = s.ticks })
   changed s n y late ever new inv ok grew own sent news =
       let v : Soft = record { node = put n y s.node; olds = s.olds; ever = ever; ticks = s.ticks } in
       let l : Later (around s) (around v) = record {
@@ -140,7 +140,7 @@ module _ (script : List ℕ → Tree) (turns : Turns) (F : NodeFacts) (laws : No
             (λ k c. c) (repository t.home);
         ticks = λ t c. c;
       } in
-      let old : (p : Post) → SentOk F s.ever (λ k. (s.node k).past) s.olds p → SentOk F s.ever (λ k. (put n y s.node k).past) s.olds p =
+      let old : (p : Post) → SentOnce F s.ever (λ k. (s.node k).past) s.olds p → SentOnce F s.ever (λ k. (put n y s.node k).past) s.olds p =
       λ p. put-all (λ k z. SomeOf (λ g. F.PostOk s.ever k g (record { to = p.to; message = p.message })) ((s.node k).past ∷ s.olds k) →
       SomeOf (λ g. F.PostOk s.ever k g (record { to = p.to; message = p.message })) (z.past ∷ s.olds k)) n y s.node
       (λ q. or-left (λ c. subst (λ g. F.PostOk s.ever n g (record { to = p.to; message = p.message })) (sym own)
@@ -148,12 +148,12 @@ module _ (script : List ℕ → Tree) (turns : Turns) (F : NodeFacts) (laws : No
       (λ k q. q) p.from in
       record {
         nodes = put-all (λ k z. NodeOk F (around v) k z) n y s.node (node-later (around s) (around v) l n y ok) (λ k. node-later (around s) (around v) l k (s.node k) (inv.nodes k));
-        sent = subst (λ e. Every (SentOk F e (λ k. (put n y s.node k).past) s.olds) e) (sym sent)
-            (every-map (SentOk F s.ever (λ k. (put n y s.node k).past) s.olds) (SentOk F (s.ever ++ new) (λ k. (put n y s.node k).past) s.olds)
+        sent = subst (λ e. Every (SentOnce F e (λ k. (put n y s.node k).past) s.olds) e) (sym sent)
+            (every-map (SentOnce F s.ever (λ k. (put n y s.node k).past) s.olds) (SentOnce F (s.ever ++ new) (λ k. (put n y s.node k).past) s.olds)
             (λ p q. more-sent s.ever new (λ k. (put n y s.node k).past) s.olds p q)
             (s.ever ++ new)
-            (every-append (SentOk F s.ever (λ k. (put n y s.node k).past) s.olds) s.ever new
-            (every-map (SentOk F s.ever (λ k. (s.node k).past) s.olds) (SentOk F s.ever (λ k. (put n y s.node k).past) s.olds) old s.ever inv.sent)
+            (every-append (SentOnce F s.ever (λ k. (put n y s.node k).past) s.olds) s.ever new
+            (every-map (SentOnce F s.ever (λ k. (s.node k).past) s.olds) (SentOnce F s.ever (λ k. (put n y s.node k).past) s.olds) old s.ever inv.sent)
             news));
         older = λ k. old-later (around s) (around v) l k (s.olds k) (inv.older k);
         lineage = put-all (λ k z. Lineage F k (s.olds k) z.past) n y s.node
@@ -183,7 +183,7 @@ module _ (script : List ℕ → Tree) (turns : Turns) (F : NodeFacts) (laws : No
               outs = tt;
             })
             (λ k. node-later (around s) (around v) l k (s.node k) (inv.nodes k));
-        sent = every-map (SentOk F s.ever (λ k. (s.node k).past) s.olds) (SentOk F s.ever (λ k. (v.node k).past) v.olds)
+        sent = every-map (SentOnce F s.ever (λ k. (s.node k).past) s.olds) (SentOnce F s.ever (λ k. (v.node k).past) v.olds)
             (λ p. put-both (λ k z o. SomeOf (λ g. F.PostOk s.ever k g (record { to = p.to; message = p.message })) ((s.node k).past ∷ s.olds k) →
             SomeOf (λ g. F.PostOk s.ever k g (record { to = p.to; message = p.message })) (z.past ∷ o)) n (opened_soft new 0) s.node (gone ∷ s.olds n) s.olds
             (λ q. inr q) (λ k q. q) p.from) s.ever inv.sent;
@@ -207,10 +207,10 @@ module _ (script : List ℕ → Tree) (turns : Turns) (F : NodeFacts) (laws : No
   }
 
   -- what leaves at a gate has its fact at the new durable log
-  gate-news : (s : Soft) (n : NodeId) (which : Out → Bool) → Inv F s → Every (SentOk F s.ever (λ k. (put n (gate (s.node n)) s.node k).past) s.olds) (posts n (filter which (s.node n).outs))
+  gate-news : (s : Soft) (n : NodeId) (which : Out → Bool) → Inv F s → Every (SentOnce F s.ever (λ k. (put n (gate (s.node n)) s.node k).past) s.olds) (posts n (filter which (s.node n).outs))
   gate-news s n which inv =
       let y : SoftNode = gate (s.node n) in
-      let At : Post → Type 0 = SentOk F s.ever (λ k. (put n y s.node k).past) s.olds in
+      let At : Post → Type 0 = SentOnce F s.ever (λ k. (put n y s.node k).past) s.olds in
       every-of-map At (post n) (filter which (s.node n).outs)
       (every-map (F.PostOk s.ever n (all_effects (s.node n))) (λ out. At (post n out))
       (λ out p. inl (subst (λ (z : SoftNode). F.PostOk s.ever n z.past (record { to = out.to; message = out.message })) (sym (put-here n y s.node)) p))

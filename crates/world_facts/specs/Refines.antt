@@ -13,7 +13,7 @@ use Rattle.world_core.specs.Walks.{Base, Life, World, opened_log, sent_by, walk}
 use Rattle.world_core.specs.Legal.{base_of}
 use Rattle.world_core.specs.Pasts.{Call}
 use Rattle.world_facts.specs.Rules.{GrownFrom, NodeFacts, Turns}
-use Rattle.world_facts.specs.Soft.{Lineage, NodeOk, OldOk, SoftNode, all_effects, Soft, SoftEvent, happened, Mays, SentOk}
+use Rattle.world_facts.specs.Soft.{Lineage, NodeOk, OldOk, SoftNode, all_effects, Soft, SoftEvent, happened, Mays, SentOk, SentOnce}
 
 -- a life, newest first
 abbrev pub soft_of : Life → SoftNode
@@ -47,7 +47,7 @@ module _ (turns : Turns) (F : NodeFacts) (b : Base) (others : NodeId → List Ef
     pub lives : (n : NodeId) → (w.flags n).known ≡ true → s.node n ≡ soft_of (w.life n)
     pub outside : (n : NodeId) → (w.flags n).known ≡ false → ((s.node n).past ≡ reverse (others n)) × ((s.node n).added ≡ [])
     pub unknown : (n : NodeId) → (w.flags n).known ≡ false → (w.life n).gated ≡ []
-    pub olds : (n : NodeId) → s.olds n ≡ map reverse (olds n)
+    pub retired : (n : NodeId) → s.olds n ≡ map reverse (olds n)
     pub ever : s.ever ≡ old ++ sent_by w
     pub ticks : (t : ℕ) → w.last ≡ Some t → Has t s.ticks
     pub ticked : (t : ℕ) → Has t s.ticks → May t
@@ -64,7 +64,7 @@ pub record Left (turns : Turns) (F : NodeFacts) (logs : NodeId → List Effect) 
   pub may : Mays F turns events
   pub gated : (n : NodeId) → ((happened turns events).node n).past ≡ reverse (logs n)
   pub fresh : (n : NodeId) → ((happened turns events).node n).added ≡ []
-  pub olds : (n : NodeId) → (happened turns events).olds n ≡ map reverse (olds n)
+  pub retired : (n : NodeId) → (happened turns events).olds n ≡ map reverse (olds n)
   pub ever : (happened turns events).ever ≡ old
   pub ticked : (t : ℕ) → Has t (happened turns events).ticks → May t
 
@@ -81,7 +81,7 @@ pub record OlderFacts (F : NodeFacts) (b : Base) (logs : NodeId → List Effect)
   pub proofs : (n : NodeId) → Each (F.Proof (record { ever = past ++ sent; logs = λ k. reverse (logs k); ticks = ticks }) n) (reverse (logs n))
   pub older : (n : NodeId) → Every (OldOk F (record { ever = past ++ sent; logs = λ k. reverse (logs k); ticks = ticks }) n) (map reverse (olds n))
   pub lineage : (n : NodeId) → Lineage F n (map reverse (olds n)) (reverse (logs n))
-  pub sent_ok : Every (SentOk F (past ++ sent) (λ k. reverse (logs k)) (λ k. map reverse (olds k))) (past ++ sent)
+  pub sent_ok : Every (SentOnce F (past ++ sent) (λ k. reverse (logs k)) (λ k. map reverse (olds k))) (past ++ sent)
   pub ready : (n : NodeId) → is_some (opened_log b.opened n) ≡ true → F.Ready b.run b.acts n (reverse (logs n))
 
 -- the same where the past is of runs alone, so that there are no older logs
@@ -91,7 +91,7 @@ pub record LogFacts (F : NodeFacts) (b : Base) (logs : NodeId → List Effect) (
   pub tidy : (n : NodeId) → F.Tidy n (reverse (logs n))
   pub grown : (n : NodeId) → (base : List Effect) × F.Begins n base × GrownFrom (F.Fits n) base (reverse (logs n))
   pub proofs : (n : NodeId) → Each (F.Proof (record { ever = past ++ sent; logs = λ k. reverse (logs k); ticks = ticks }) n) (reverse (logs n))
-  pub sent_ok : Every (λ p. F.PostOk (past ++ sent) p.from (reverse (logs p.from)) (record { to = p.to; message = p.message })) (past ++ sent)
+  pub sent_ok : Every (SentOk F (past ++ sent) (λ k. reverse (logs k))) (past ++ sent)
   pub ready : (n : NodeId) → is_some (opened_log b.opened n) ≡ true → F.Ready b.run b.acts n (reverse (logs n))
 
 -- What holds of the whole lives of the nodes of a trace, with what no gate has closed yet: the effects that fit, what each rests on,

@@ -123,12 +123,16 @@ module _ (F : NodeFacts) where
   abbrev pub OldOk : Around → NodeId → List Effect → Type 0
   OldOk w n log = F.Tidy n log × Each (F.Proof w n) log
 
-  -- the fact of a message that was sent holds of its sender's durable log, or of one of its older logs
-  abbrev pub SentOk : List Post → (NodeId → List Effect) → (NodeId → List (List Effect)) → Post → Type 0
-  SentOk ever logs olds p = SomeOf (λ log. F.PostOk ever p.from log (record { to = p.to; message = p.message })) (logs p.from ∷ olds p.from)
+  -- the fact of a message that was sent holds of its sender's durable log
+  abbrev pub SentOk : List Post → (NodeId → List Effect) → Post → Type 0
+  SentOk ever logs p = F.PostOk ever p.from (logs p.from) (record { to = p.to; message = p.message })
+
+  -- or of that or one of its older logs
+  abbrev pub SentOnce : List Post → (NodeId → List Effect) → (NodeId → List (List Effect)) → Post → Type 0
+  SentOnce ever logs olds p = SomeOf (λ log. F.PostOk ever p.from log (record { to = p.to; message = p.message })) (logs p.from ∷ olds p.from)
 
   pub record Inv (w : Soft) : Type 0 where
     pub nodes : (n : NodeId) → NodeOk (around w) n (w.node n)
-    pub sent : Every (SentOk w.ever (λ n. (w.node n).past) w.olds) w.ever
+    pub sent : Every (SentOnce w.ever (λ n. (w.node n).past) w.olds) w.ever
     pub older : (n : NodeId) → Every (OldOk (around w) n) (w.olds n)
     pub lineage : (n : NodeId) → Lineage n (w.olds n) (w.node n).past

@@ -1,0 +1,146 @@
+-- Whatever a node sent, its log, or an older one, keeps.
+use Rattle.std.proofs.Common.{◌≡◌, ℕ, ◌≤◌, ◌+◌, length, List, [], ◌∷◌, ◌++◌, map, reverse, refl, sym, ◌∙◌, ap, subst, ◌⊎◌, inl, inr, arith}
+use Rattle.pseudo_time.specs.Lists.{Every, Has}
+use Rattle.pseudo_time.specs.Nodes.{broker}
+use Rattle.pseudo_time.specs.StampParts.{StampParts}
+use Rattle.pseudo_time.specs.TimeParts.{TimeParts}
+use Rattle.pseudo_time.specs.declared.decisions.Decision.{Decision}
+use Rattle.pseudo_time.specs.declared.nodes.NodeId.{NodeId}
+use Rattle.pseudo_time.specs.declared.nodes.NodeKind.{NodeKind}
+use Rattle.pseudo_time.specs.declared.nodes.NodeKind.TheVariants.{Repository, Broker}
+use Rattle.pseudo_time.proofs.ListLemmas.{every-has}
+use Rattle.value_form.specs.declared.objects.ObjectId.{ObjectId}
+use Rattle.value_form.specs.declared.values.Value.{Value}
+use Rattle.effect_form.specs.declared.effects.Effect.{Effect}
+use Rattle.effect_form.specs.declared.effects.Effect.TheVariants as effect
+use Rattle.message_form.specs.declared.messages.Message.{Message}
+use Rattle.message_form.specs.declared.messages.Message.TheVariants as message
+use Rattle.message_form.specs.Growth.{Each}
+use Rattle.message_form.specs.Posts.{Post}
+use Rattle.object_history.specs.declared.marks.Mark as history
+use Rattle.object_history.specs.declared.marks.Mark.TheVariants as mark
+use Rattle.object_history.specs.Views.{IsOnFloor, Viewed}
+use Rattle.object_retirement.specs.Chains as chains
+use Rattle.object_retirement.proofs.ChainLemmas.{Frozen, Stays, chain-given, some-given, stays}
+use Rattle.repository_log.specs.Logs.{is_commit, marks}
+use Rattle.repository_laws.specs.Facts.{WriteSent}
+use Rattle.repository_laws.proofs.Logs.{put-logged}
+use Rattle.serial_model.specs.Questions.{Tree}
+use Rattle.broker_core.specs.Book.{book, tries}
+use Rattle.broker_laws.specs.Posts as broker_posts
+use Rattle.world_core.specs.Nodes.{repository}
+use Rattle.world_core.specs.Walks.{Base}
+use Rattle.world_facts.specs.Acknowledged.{Keeps, StandsOrGone, Stood, ViewedOrBelow}
+use Rattle.world_facts.specs.NodeRules.{kind_post, node_facts, node_turns}
+use Rattle.world_facts.specs.Refines.{OlderFacts}
+use Rattle.world_facts.specs.Rules.{SomeOf}
+use Rattle.world_facts.specs.Soft.{Lineage, OldOk}
+use Rattle.world_facts.proofs.Growths.{each-has}
+use Rattle.world_facts.proofs.Keeps.{decided-still}
+use Rattle.world_facts.proofs.NodeLaws.{node-laws}
+use Rattle.world_facts.proofs.OldChains.{chain-of, history-log, some-history, some-log}
+
+module _ (script : List ℕ → Tree) (b : Base) (logs : NodeId → List Effect) (olds : NodeId → List (List Effect)) (past sent : List Post) (May : ℕ → Type 0)
+    (f : OlderFacts (node_facts script) b logs olds past sent May) where
+  abbrev ever : List Post
+  ever = past ++ sent
+
+  -- newest effect first
+  abbrev last : NodeId → List Effect
+  last n = reverse (logs n)
+
+  abbrev before : NodeId → List (List Effect)
+  before n = map reverse (olds n)
+
+  -- ---- what was put was asked for, by a request of step 1 or more
+
+  broker-post : (k : ℕ) (older : List (List Effect)) (log : List Effect) (to : NodeId) (m : Message) → Lineage (node_facts script) (broker k) older log →
+      SomeOf (λ l. kind_post script ever Broker k l (record { to = to; message = m })) (log ∷ older) → kind_post script ever Broker k log (record { to = to; message = m })
+  broker-post k older log to m g (inl p) = p
+  broker-post k [] log to m g (inr p) = absurd p
+  broker-post k (old ∷ older) log to m g (inr p) = absurd g.1.1
+
+  asked : (r : ℕ) (o : ObjectId) (x : TimeParts) (v : Value) → WriteSent ever r x o v → 1 ≤ x.step
+  asked r o x v w =
+      let p = broker-post x.stamp.broker (before (broker x.stamp.broker)) (last (broker x.stamp.broker)) (repository r) (message.Write x o v) (f.lineage (broker x.stamp.broker)) (every-has _ ever _ f.sent_ok w.0) in
+      let step : x.step ≡ length p.2.2.0 + 1 = p.2.2.3 in
+      omega (arith, step)
+
+  rests : (r : ℕ) (l : List Effect) → OldOk (node_facts script) (record { ever = ever; logs = last; ticks = f.ticks }) (repository r) l →
+      (o : ObjectId) (x : TimeParts) (v : Value) → Has (effect.Put o x v) l → 1 ≤ x.step
+  rests r l ok o x v h = asked r o x v (each-has _ l (effect.Put o x v) ok.1 h).1
+
+  steps : (r : ℕ) (o : ObjectId) (x : TimeParts) (v : Value) → chains.SomeOf (λ m. Has (mark.Put o x v) m) (map marks (last (repository r) ∷ before (repository r))) → 1 ≤ x.step
+  steps r o x v h =
+      let k = history-log (λ m. Has (mark.Put o x v) m) (last (repository r) ∷ before (repository r)) h in
+      let all : Every (OldOk (node_facts script) (record { ever = ever; logs = last; ticks = f.ticks }) (repository r)) (last (repository r) ∷ before (repository r)) =
+      ((f.tidy (repository r), f.proofs (repository r)), f.older (repository r)) in
+      rests r k.0 (every-has (OldOk (node_facts script) (record { ever = ever; logs = last; ticks = f.ticks }) (repository r)) (last (repository r) ∷ before (repository r)) k.0 all k.1) o x v (put-logged k.0 o x v k.2)
+
+  -- ---- what was stored, and what was viewed
+
+  module _ (r : ℕ) where
+    abbrev now : List Effect
+    now = last (repository r)
+
+    abbrev gone : List (List Effect)
+    gone = before (repository r)
+
+    chain : chains.Chain (map marks gone) (marks now)
+    chain = chain-of script r gone now (f.lineage (repository r))
+
+    put-marked : (l : List Effect) (o : ObjectId) (x : TimeParts) (v : Value) → Has (effect.Put o x v) l → Has (mark.Put o x v) (marks l)
+    put-marked [] o x v h = absurd h
+    put-marked (effect.Put a y w ∷ l) o x v (inl e) = let p : a ≡ o = cc e in let q : y ≡ x = cc e in let s : w ≡ v = cc e in inl (ap (λ z. mark.Put z y w) p ∙ ap (λ z. mark.Put o z w) q ∙ ap (λ z. mark.Put o x z) s)
+    put-marked (effect.Put a y w ∷ l) o x v (inr h) = inr (put-marked l o x v h)
+    put-marked (effect.Stretch a y ∷ l) o x v (inl e) = absurd (cc e)
+    put-marked (effect.Stretch a y ∷ l) o x v (inr h) = inr (put-marked l o x v h)
+    put-marked (effect.Decide s d ∷ l) o x v (inl e) = absurd (cc e)
+    put-marked (effect.Decide s d ∷ l) o x v (inr h) = inr (put-marked l o x v h)
+    put-marked (effect.Learn s c ∷ l) o x v (inl e) = absurd (cc e)
+    put-marked (effect.Learn s c ∷ l) o x v (inr h) = inr (put-marked l o x v h)
+    put-marked (effect.Mark at ∷ l) o x v (inl e) = absurd (cc e)
+    put-marked (effect.Mark at ∷ l) o x v (inr h) = inr (put-marked l o x v h)
+    put-marked (g ∷ l) o x v (inl e) = absurd (cc e)
+    put-marked (g ∷ l) o x v (inr h) = put-marked l o x v h
+
+    stood : (o : ObjectId) (x : TimeParts) (v : Value) (l : List Effect) → Has l (now ∷ gone) → Has (effect.Put o x v) l → StandsOrGone now gone o x v
+    stood o x v l (inl e) h = inl (subst (Has (effect.Put o x v)) (sym e) h)
+    stood o x v l (inr k) h =
+        elim (some-given (marks now) o x v (map marks gone) (chain-given (map marks gone) (marks now) chain) (some-history (λ m. Has (mark.Put o x v) m) gone l k (put-marked l o x v h))) [
+          | inl j ↦ inl (put-logged now o x v j)
+          | inr j ↦ inr (j, (l, k, h))
+        ]
+
+    seen : (o : ObjectId) (t : TimeParts) (v : Value) (l : List Effect) → Has l (now ∷ gone) → IsOnFloor (marks l) t → Viewed (marks l) o t v → ViewedOrBelow now gone o t v
+    seen o t v l (inl e) on w = inl (subst (λ z. Viewed (marks z) o t v) (sym e) w)
+    seen o t v l (inr k) on w = go (stays o t v (map marks gone) (marks now) chain (λ x z h. steps r o x z h) (inr (some-history (λ m. IsOnFloor m t × Viewed m o t v) gone l k (on, w))))
+      where
+        go : Stays o t v (map marks gone) (marks now) → ViewedOrBelow now gone o t v
+        go (inl s) = inl s.1
+        go (inr z) = inr (z.floor, (l, k, w))
+
+  -- ---- all messages
+
+  kept : (k : NodeKind) (i : ℕ) (to : NodeId) (m : Message) → SomeOf (λ l. kind_post script ever k i l (record { to = to; message = m })) (last (record { kind = k; number = i }) ∷ before (record { kind = k; number = i })) →
+      Keeps ever (record { kind = k; number = i }) (last (record { kind = k; number = i })) (before (record { kind = k; number = i })) m
+  kept Repository i to (message.Stored t) h = let p = some-log (λ l. kind_post script ever Repository i l (record { to = to; message = message.Stored t })) (now i ∷ gone i) h in
+      (p.2.0, p.2.1, p.2.2.0, stood i p.2.0 t p.2.1 p.0 p.1 p.2.3)
+  kept Repository i to (message.Value t v) h = let p = some-log (λ l. kind_post script ever Repository i l (record { to = to; message = message.Value t v })) (now i ∷ gone i) h in
+      (p.2.0, p.2.1.0, seen i p.2.0 t v p.0 p.1 p.2.4 p.2.3)
+  kept Repository i to (message.Decided s d) h =
+      let p = decided-still script (node_turns script) (node_facts script) (node-laws script) (λ l. Has (effect.Decide s d) l) (repository i) (gone i) (now i) (f.lineage (repository i)) h in
+      p.1 s d p.2
+  kept Repository i to (message.Tell s c) h =
+      let p = decided-still script (node_turns script) (node_facts script) (node-laws script) (λ l. (d : Decision) × Has (effect.Decide s d) l × (c ≡ is_commit d)) (repository i) (gone i) (now i) (f.lineage (repository i)) h in
+      (p.2.0, p.1 s p.2.0 p.2.1, p.2.2)
+  kept Repository i to m h = tt
+  kept Broker i to (message.Begin s d) h = tt
+  kept Broker i to (message.Read x o) h = tt
+  kept Broker i to (message.Write x o v) h = tt
+  kept Broker i to (message.Commit s) h = tt
+  kept Broker i to (message.Withdraw s) h = tt
+  kept Broker i to m h = absurd (broker-post i (before (broker i)) (last (broker i)) to m (f.lineage (broker i)) h)
+
+  pub all-kept : (q : Post) → Has q ever → Keeps ever q.from (last q.from) (before q.from) q.message
+  all-kept q h = kept q.from.kind q.from.number q.to q.message (every-has _ ever q f.sent_ok h)
