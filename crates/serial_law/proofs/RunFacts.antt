@@ -21,6 +21,7 @@ use Rattle.effect_form.specs.declared.outcomes.Outcome.{Outcome}
 use Rattle.effect_form.specs.declared.outcomes.Outcome.TheVariants as outcome
 use Rattle.message_form.specs.declared.messages.Message.{Message}
 use Rattle.message_form.specs.declared.messages.Message.TheVariants as message
+use Rattle.message_form.specs.Growth.{Grew}
 use Rattle.message_form.specs.Posts.{Post, WasSent}
 use Rattle.object_history.specs.Views.{Viewed}
 use Rattle.script_meaning.specs.Meaning.{Got, Stored, Request, ToRead, ToWrite, Stop, Asks, Over}

@@ -43,7 +43,7 @@ use Rattle.world_facts.specs.Refines.{Left, LogFacts, logs_at}
 use Rattle.world_facts.specs.NodeRules.{of_hand, of_desk, kind_turn, node_turns}
 use Rattle.world_facts.specs.AnyRules.{tasks_of, any_fits, any_post, any_cause, any_mind, any_facts, log_opened, log_before}
 use Rattle.world_facts.proofs.NodeLaws.{gives-are}
-use Rattle.world_facts.proofs.Openings.{opens, facts-alone, facts-of}
+use Rattle.world_facts.proofs.Openings.{opens, facts-of}
 use Rattle.world_facts.proofs.Refinements.{walk-refines}
 
 grew-any : (P : List Effect → Effect → Type 0) → ((l : List Effect) (f : Effect) → P l f) → (log fresh : List Effect) → Grew P log fresh
@@ -171,7 +171,6 @@ any-trace script plan asked t front rest legal here =
     let laws : NodeLaws script (node_turns script) (any_facts script b.run b.acts own) = any-laws script b.run b.acts own in
     let agrees : OpenedWith t.opened logs = λ n log e. sym (ap (λ z. unwrap_or z []) e) in
     let rules : Meets b (fates_of t.sent) (start_world b) front = meets-front b (fates_of t.sent) (start_world b) front rest (subst (Meets b (fates_of t.sent) (start_world b)) here legal.meets) in
-    facts-alone script (node_turns script) (any_facts script b.run b.acts own) laws b (logs_at logs (walk b front)) [] (sent_by (walk b front)) (λ moment. Has (Tick moment) front)
-    (facts-of script (node_turns script) (any_facts script b.run b.acts own) laws b logs (λ n. []) [] (λ moment. Has (Tick moment) front) (walk b front)
+    facts-of script (node_turns script) (any_facts script b.run b.acts own) laws b logs [] (λ moment. Has (Tick moment) front) (walk b front)
     (walk-refines script (node_turns script) (any_facts script b.run b.acts own) laws b logs (λ n. []) [] (λ moment. Has (Tick moment) front) refl (fates_of t.sent) (start_world b) front (λ moment h. h)
-    (opens script (node_turns script) (any_facts script b.run b.acts own) laws b logs (λ n. []) [] (λ moment. ⊥) (λ moment. Has (Tick moment) front) (λ moment h. absurd h) (any-left script b.run b.acts logs (λ moment. ⊥)) agrees (λ n e. (refl, refl))) rules))
+    (opens script (node_turns script) (any_facts script b.run b.acts own) laws b logs (λ n. []) [] (λ moment. ⊥) (λ moment. Has (Tick moment) front) (λ moment h. absurd h) (any-left script b.run b.acts logs (λ moment. ⊥)) agrees (λ n e. (refl, refl))) rules)

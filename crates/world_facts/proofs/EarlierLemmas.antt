@@ -25,7 +25,7 @@ use Rattle.world_facts.specs.Refines.{Left, OlderFacts, logs_at, past_sent}
 use Rattle.world_facts.specs.Soft.{SoftNode, happened, opened_soft, put}
 use Rattle.world_facts.specs.Soft.SoftEvent.{Retire}
 use Rattle.world_facts.proofs.NodeLaws.{node-laws, past-laws}
-use Rattle.world_facts.proofs.Openings.{call-left, facts-of, left-nothing, left-same, over-left}
+use Rattle.world_facts.proofs.Openings.{call-left, older-of, left-nothing, left-same, over-left}
 
 module _ (script : List ℕ → Tree) where
   -- ---- a retirement between what was left before it and what it leaves
@@ -76,7 +76,7 @@ module _ (script : List ℕ → Tree) where
       OlderFacts (node_facts script) (base_of script plan t) (logs_at logs (walk (base_of script plan t) front)) (replaced (alike script) past.0) (sent_earlier (alike script) past.0)
       (sent_by (walk (base_of script plan t) front)) (TickedBy past.0 front)
   older-facts plan asked t logs front rest past agrees legal here =
-      facts-of script (node_turns script) (node_facts script) (node-laws script) (base_of script plan t) logs (replaced (alike script) past.0) (sent_earlier (alike script) past.0) (TickedBy past.0 front)
+      older-of script (node_turns script) (node_facts script) (node-laws script) (base_of script plan t) logs (replaced (alike script) past.0) (sent_earlier (alike script) past.0) (TickedBy past.0 front)
       (walk (base_of script plan t) front)
       (over-left script (node_turns script) (node_facts script) (node-laws script) (past-laws script) (base_of script plan t) (fates_of t.sent) logs (replaced (alike script) past.0)
       (sent_earlier (alike script) past.0) (TickedEarlier past.0) (TickedBy past.0 front) front refl (λ m k. inr k) (λ m k. inl k)
@@ -91,16 +91,16 @@ module _ (script : List ℕ → Tree) where
 pub replaced-older : (read : Plan → List ℕ → Tree) (cs : List Earlier) (n : NodeId) (log : List Effect) → Has log (replaced read cs n) → Has log (older read cs n)
 replaced-older read [] n log h = absurd h
 replaced-older read (Running c ∷ cs) n log h = inr (replaced-older read cs n log h)
-replaced-older read (Retiring r at ∷ cs) n log h = inr (go (same_node (repository r) n) h)
+replaced-older read (Retiring r at ∷ cs) n log h = inr (go (λ k. replaced-older read cs n log k) (same_node (repository r) n) h)
   where
     last : (cs : List Earlier) → logs_left read cs n ≡ log → Has log (older read cs n)
     last [] e = inl e
     last (c ∷ cs) e = inl e
 
-    go : (b : Bool) → Has log (if b then logs_left read cs n ∷ replaced read cs n else replaced read cs n) → Has log (older read cs n)
-    go true (inl e) = last cs e
-    go true (inr k) = replaced-older read cs n log k
-    go false k = replaced-older read cs n log k
+    go : (Has log (replaced read cs n) → Has log (older read cs n)) → (b : Bool) → Has log (if b then logs_left read cs n ∷ replaced read cs n else replaced read cs n) → Has log (older read cs n)
+    go rest true (inl e) = last cs e
+    go rest true (inr k) = rest k
+    go rest false k = rest k
 
 -- ---- runs alone
 

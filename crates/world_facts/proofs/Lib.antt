@@ -10,3 +10,4 @@ pub mod Ranges
 pub mod Refinements
 pub mod RetiredLogs
 pub mod Steps
+pub mod WorkedRetirements

@@ -66,6 +66,11 @@ grown-alone Fits log (base, e, g) =
     let is : log ≡ g.early = g.is ∙ ap (λ b. g.early ++ b) e ∙ append-nil g.early in
     subst (Grew Fits []) (sym is) (subst (λ b. Grew Fits b g.early) e g.grew)
 
+-- and goes on
+pub grown-more : (Fits : List Effect → Effect → Type 0) (log fresh : List Effect) → Grew Fits [] log → Grew Fits log fresh → Grew Fits [] (fresh ++ log)
+grown-more Fits log [] g h = g
+grown-more Fits log (f ∷ fresh) g h = (grown-more Fits log fresh g h.0, subst (λ z. Fits z f) (sym (append-nil (fresh ++ log))) h.1)
+
 -- ---- one of some logs
 
 -- what holds of one of these logs, with the log

@@ -223,9 +223,9 @@ module _ (script : List ℕ → Tree) (turns : Turns) (F : NodeFacts) (laws : No
     ticks = λ t c. c;
   }
 
-  pub facts-of : (b : Base) (logs : NodeId → List Effect) (olds : NodeId → List (List Effect)) (old : List Post) (May : ℕ → Type 0) (w : World) → Refines turns F b logs olds old May w →
+  pub older-of : (b : Base) (logs : NodeId → List Effect) (olds : NodeId → List (List Effect)) (old : List Post) (May : ℕ → Type 0) (w : World) → Refines turns F b logs olds old May w →
       OlderFacts F b (logs_at logs w) olds old (sent_by w) May
-  facts-of b logs olds old May w r =
+  older-of b logs olds old May w r =
       let s : Soft = happened turns r.events in
       let inv : Inv F s = inv-reached script turns F laws r.events r.may in
       let same : (n : NodeId) → (s.node n).past ≡ reverse (logs_at logs w n) = gated-same b logs olds old May w r in
@@ -251,7 +251,7 @@ module _ (script : List ℕ → Tree) (turns : Turns) (F : NodeFacts) (laws : No
       }
 
   -- where no log was ever retired
-  pub facts-alone : (b : Base) (logs : NodeId → List Effect) (old sent : List Post) (May : ℕ → Type 0) → OlderFacts F b logs (λ n. []) old sent May → LogFacts F b logs old sent May
+  facts-alone : (b : Base) (logs : NodeId → List Effect) (old sent : List Post) (May : ℕ → Type 0) → OlderFacts F b logs (λ n. []) old sent May → LogFacts F b logs old sent May
   facts-alone b logs old sent May f = record {
     ticks = f.ticks;
     ticked = f.ticked;
@@ -266,6 +266,9 @@ module _ (script : List ℕ → Tree) (turns : Turns) (F : NodeFacts) (laws : No
       first-of : (A : Type 0) → A ⊎ ⊥ → A
       first-of A (inl a) = a
       first-of A (inr h) = absurd h
+
+  pub facts-of : (b : Base) (logs : NodeId → List Effect) (old : List Post) (May : ℕ → Type 0) (w : World) → Refines turns F b logs (λ n. []) old May w → LogFacts F b (logs_at logs w) old (sent_by w) May
+  facts-of b logs old May w r = facts-alone b (logs_at logs w) old (sent_by w) May (older-of b logs (λ n. []) old May w r)
 
   -- what holds of a node holds of its life in the walk
   life-ok : (b : Base) (logs : NodeId → List Effect) (olds : NodeId → List (List Effect)) (old : List Post) (May : ℕ → Type 0) (w : World) (r : Refines turns F b logs olds old May w) (n : NodeId) (x : SoftNode)
@@ -293,11 +296,10 @@ module _ (script : List ℕ → Tree) (turns : Turns) (F : NodeFacts) (laws : No
       Legal script plan asked t → t.entries ≡ front ++ rest →
       LogFacts F (base_of script plan t) (logs_at logs (walk (base_of script plan t) front)) (past_sent (alike script) past.0) (sent_by (walk (base_of script plan t) front)) (Ticked past.0 front)
   legal-facts start plan asked t logs front rest past agrees legal here =
-      facts-alone (base_of script plan t) (logs_at logs (walk (base_of script plan t) front)) (past_sent (alike script) past.0) (sent_by (walk (base_of script plan t) front)) (Ticked past.0 front)
-      (facts-of (base_of script plan t) logs (λ n. []) (past_sent (alike script) past.0) (Ticked past.0 front) (walk (base_of script plan t) front)
+      facts-of (base_of script plan t) logs (past_sent (alike script) past.0) (Ticked past.0 front) (walk (base_of script plan t) front)
       (refined start (base_of script plan t) (fates_of t.sent) logs front refl past agrees legal.ready
       (meets-front (base_of script plan t) (fates_of t.sent) (start_world (base_of script plan t)) front rest
-      (subst (Meets (base_of script plan t) (fates_of t.sent) (start_world (base_of script plan t))) here legal.meets))))
+      (subst (Meets (base_of script plan t) (fates_of t.sent) (start_world (base_of script plan t))) here legal.meets)))
 
   pub legal-lives : PastLaws script F → (plan : Plan) (asked : List Asked) (t : Trace) (logs : NodeId → List Effect) (front rest : List Entry) → (past : HasPast (alike script) logs) → OpenedWith t.opened logs →
       Legal script plan asked t → t.entries ≡ front ++ rest →
