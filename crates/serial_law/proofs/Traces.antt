@@ -7,8 +7,6 @@ use Rattle.pseudo_time.specs.TimeParts.{TimeParts}
 use Rattle.pseudo_time.specs.declared.decisions.Decision.{Decision}
 use Rattle.pseudo_time.specs.declared.decisions.Decision.TheVariants as decision
 use Rattle.pseudo_time.specs.declared.nodes.NodeId.{NodeId}
-use Rattle.pseudo_time.specs.declared.nodes.NodeKind.{NodeKind}
-use Rattle.pseudo_time.specs.declared.nodes.NodeKind.TheVariants.{Repository, Broker}
 use Rattle.pseudo_time.proofs.ListLemmas.{every-has, every-left, has-either, has-left, has-right}
 use Rattle.object_history.proofs.BoolLemmas.{and-both}
 use Rattle.value_form.specs.declared.objects.ObjectId.{ObjectId}
@@ -20,10 +18,6 @@ use Rattle.message_form.specs.declared.messages.Message.TheVariants as message
 use Rattle.effect_form.specs.declared.outcomes.Outcome.TheVariants as outcome
 use Rattle.message_form.specs.Posts.{Post, WasSent}
 use Rattle.message_form.proofs.GrowthLemmas.{each_below}
-use Rattle.object_history.specs.declared.marks.Mark.{Mark}
-use Rattle.object_history.specs.Views.{Firm, Viewed, value_of}
-use Rattle.object_history.proofs.ViewLemmas.{sees-views}
-use Rattle.repository_core.specs.Logs.{marks}
 use Rattle.broker_core.specs.Book.{book, tries}
 use Rattle.pseudo_time.specs.Nodes.{broker, repository}
 use Rattle.repository_laws.specs.Facts as repositories
@@ -44,14 +38,14 @@ use Rattle.world_core.specs.Legal.{Meets, base_of, fates_of}
 use Rattle.world_core.specs.Pasts.{Call, AreCalls, alike}
 use Rattle.world_core.proofs.Refusals.{Says, says-map}
 use Rattle.world_core.proofs.Answered.{Reason, meets-front, post-answered, write-sent, read-sent}
-use Rattle.world_facts.specs.NodeRules.{kind_post, node_facts}
+use Rattle.world_facts.specs.NodeRules.{node_facts}
 use Rattle.world_facts.specs.Refines as refines
 use Rattle.world_facts.specs.Refines.{logs_at, past_sent, Ticked}
 use Rattle.world_facts.proofs.NodeLaws.{node-laws, past-laws}
 use Rattle.world_facts.proofs.Openings.{legal-facts}
 use Rattle.world_facts.specs.NodeRules.{node_turns}
 use Rattle.serial_law.specs.Facts.{RunFacts}
-use Rattle.serial_law.specs.Runs.{Position, world_at, log_at, run_at, sent_before, TickedBefore, AnsweredIn, AnsweredBefore, Acknowledges, SeesStill}
+use Rattle.serial_law.specs.Runs.{Position, world_at, log_at, run_at, sent_before, TickedBefore, AnsweredIn, AnsweredBefore}
 use Rattle.serial_law.proofs.RunFacts.{run-facts, run-causes, ToldRequest}
 use Rattle.serial_law.specs.Causes.{Causes, IsSpent}
 use Rattle.world_facts.proofs.Growths.{each-has}
@@ -71,37 +65,6 @@ module _ (p : Position) where
   place-serial-facts =
       run-facts p.script (base_of p.script p.plan p.trace) p.plan (logs_at p.logs (world_at p)) (past_sent (alike p.script) p.past.0) (sent_by (world_at p)) (TickedBefore p) refl refl p.whole p.legal.scripted
       brokers-opened place-facts
-
-  -- what a repository, or a broker, sent
-  acknowledges : (k : NodeKind) (i : ℕ) (log : List Effect) (to : NodeId) (m : Message) → kind_post p.script ever k i log (record { to = to; message = m }) →
-      Acknowledges ever (record { kind = k; number = i }) log m
-  acknowledges Repository i log to (message.Stored x) h = (h.0, h.1, h.2.0, h.3)
-  acknowledges Repository i log to (message.Value x v) h = (h.0, h.1.0, h.3)
-  acknowledges Repository i log to (message.Decided s d) h = h
-  acknowledges Repository i log to (message.Tell s c) h = h
-  acknowledges Repository i log to (message.Begin s d) h = absurd h
-  acknowledges Repository i log to (message.Read x o) h = absurd h
-  acknowledges Repository i log to (message.Write x o v) h = absurd h
-  acknowledges Repository i log to (message.Commit s) h = absurd h
-  acknowledges Repository i log to (message.Withdraw s) h = absurd h
-  acknowledges Broker i log to (message.Begin s d) h = tt
-  acknowledges Broker i log to (message.Read x o) h = tt
-  acknowledges Broker i log to (message.Write x o v) h = tt
-  acknowledges Broker i log to (message.Commit s) h = tt
-  acknowledges Broker i log to (message.Withdraw s) h = tt
-  acknowledges Repository i log to m h = tt
-  acknowledges Broker i log to m h = absurd h
-
-  pub place-acknowledges : (q : Post) → Has q ever → Acknowledges ever q.from (log_at p q.from) q.message
-  place-acknowledges q h = acknowledges q.from.kind q.from.number (log_at p q.from) q.to q.message (every-has _ ever q place-facts.sent_ok h)
-
-  -- what a read was answered is seen there still
-  sees-still : (m : List Mark) (o : ObjectId) (t : TimeParts) (v : Value) → Viewed m o t v → SeesStill m o t v
-  sees-still m o t v h = λ living. let same = sees-views m o t living in (ap value_of same ∙ h.0, subst (Firm m t) (sym same) h.1)
-
-  pub place-sees : (r : ℕ) (to : NodeId) (t : TimeParts) (v : Value) → Has (record { from = repository r; to = to; message = message.Value t v }) ever
-      → (o : ObjectId) × SeesStill (marks (log_at p (repository r))) o t v
-  place-sees r to t v h = let a = place-acknowledges (record { from = repository r; to = to; message = message.Value t v }) h in (a.0, sees-still (marks (log_at p (repository r))) a.0 t v a.2)
 
   -- of a message that was sent later too
   left-told : (xs ys : List Post) (r : ℕ) (Told More : TimeParts → ObjectId → Value → WriteStep → Type 0) → ((x : TimeParts) (o : ObjectId) (v : Value) (s : WriteStep) → Told x o v s → More x o v s) →

@@ -1,5 +1,5 @@
 // A place of a trace is the entries before it, so each law holds at the trace's end and after each entry.
-ghost use Rattle.pseudo_time.specs.Lists.{Every, Has};
+ghost use Rattle.pseudo_time.specs.Lists.{Every};
 ghost use Rattle.std.specs.Prelude.{◌≡◌, ℕ, List, ◌∷◌, ◌++◌};
 ghost use Rattle.pseudo_time.specs.StampParts.{StampParts};
 ghost use Rattle.effect_form.specs.declared.effects.Effect.{Effect};
@@ -7,14 +7,8 @@ ghost use Rattle.effect_form.specs.declared.effects.Effect.TheVariants as effect
 ghost use Rattle.effect_form.specs.declared.outcomes.Outcome.{Outcome};
 ghost use Rattle.message_form.specs.Posts.{Post};
 ghost use Rattle.broker_core.specs.Book.{book};
-ghost use Rattle.pseudo_time.specs.Nodes.{broker, repository};
-ghost use Rattle.pseudo_time.specs.TimeParts.{TimeParts};
-ghost use Rattle.pseudo_time.specs.declared.nodes.NodeId.{NodeId};
-ghost use Rattle.value_form.specs.declared.objects.ObjectId.{ObjectId};
-ghost use Rattle.value_form.specs.declared.values.Value.{Value};
+ghost use Rattle.pseudo_time.specs.Nodes.{broker};
 ghost use Rattle.effect_form.specs.declared.outcomes.Outcome.TheVariants as outcome;
-ghost use Rattle.message_form.specs.declared.messages.Message.TheVariants as message;
-ghost use Rattle.repository_core.specs.Logs.{marks};
 ghost use Rattle.broker_laws.specs.Fits.{MayTry};
 ghost use Rattle.broker_laws.specs.Posts.{IsWithinLimits};
 ghost use Rattle.world_facts.specs.AnyRules.{log_before};
@@ -22,7 +16,7 @@ ghost use Rattle.serial_law.specs.Added.{AnyPlace, any_log, EndCause};
 ghost use Rattle.serial_law.specs.Causes.{Causes, IsSpent};
 ghost use Rattle.world_core.specs.Deeds.{RunLogs, before, finals};
 ghost use Rattle.serial_law.specs.Facts.{RunFacts};
-ghost use Rattle.serial_law.specs.Runs.{Position, log_at, run_at, sent_before, TickedBefore, AnsweredBefore, Acknowledges, SeesStill};
+ghost use Rattle.serial_law.specs.Runs.{Position, log_at, run_at, TickedBefore, AnsweredBefore};
 ghost use Rattle.serial_law.specs.Serial.{Serial, HoldsAll, HoldsBefore};
 
 /// Every attempt of a run reads, writes and ends as its script does alone, over the map after the
@@ -44,15 +38,6 @@ pub fn law_finals()
 pub fn law_before()
     ensures places { (p : Position) (s : StampParts) → HoldsBefore (run_at p) s (before (run_at p) s) }
     ensures facts { (k : RunLogs) (ever : List Post) → RunFacts k ever → (s : StampParts) → HoldsBefore k s (before k s) }
-{}
-
-/// Whatever was sent before a place, in the trace or in the past, the log of its sender agrees with there.
-/// What a read was answered, a read at that time would see there still, unless its attempt was aborted.
-pub fn law_acknowledged()
-    ensures sight { (p : Position) (r : ℕ) (to : NodeId) (t : TimeParts) (v : Value) →
-        Has (record { from = repository r; to = to; message = message.Value t v }) (sent_before p)
-        → (o : ObjectId) × SeesStill (marks (log_at p (repository r))) o t v }
-    ensures logs { (p : Position) (q : Post) → Has q (sent_before p) → Acknowledges (sent_before p) q.from (log_at p q.from) q.message }
 {}
 
 /// Each End of an attempt of the run has its cause in the logs: a decision at its home, the end that its

@@ -1,5 +1,6 @@
 -- Whatever a node sent, its log, or an older one, keeps.
 use Rattle.std.proofs.Common.{◌≡◌, ℕ, ◌≤◌, ◌+◌, length, List, [], ◌∷◌, ◌++◌, map, reverse, refl, sym, ◌∙◌, ap, subst, ◌⊎◌, inl, inr, arith}
+use Rattle.std.proofs.lemmas.Bool.{true≢false}
 use Rattle.pseudo_time.specs.Lists.{Every, Has}
 use Rattle.pseudo_time.specs.Nodes.{broker}
 use Rattle.pseudo_time.specs.StampParts.{StampParts}
@@ -19,7 +20,8 @@ use Rattle.message_form.specs.Growth.{Each}
 use Rattle.message_form.specs.Posts.{Post}
 use Rattle.object_history.specs.declared.marks.Mark as history
 use Rattle.object_history.specs.declared.marks.Mark.TheVariants as mark
-use Rattle.object_history.specs.Views.{IsOnFloor, Viewed}
+use Rattle.object_history.specs.Views.{Firm, IsOnFloor, Viewed, value_of}
+use Rattle.object_history.proofs.ViewLemmas.{sees-views}
 use Rattle.object_retirement.specs.Chains as chains
 use Rattle.object_retirement.proofs.ChainLemmas.{Frozen, Stays, chain-given, some-given, stays}
 use Rattle.repository_log.specs.Logs.{is_commit, marks}
@@ -30,7 +32,7 @@ use Rattle.broker_core.specs.Book.{book, tries}
 use Rattle.broker_laws.specs.Posts as broker_posts
 use Rattle.world_core.specs.Nodes.{repository}
 use Rattle.world_core.specs.Walks.{Base}
-use Rattle.world_facts.specs.Acknowledged.{Keeps, StandsOrGone, Stood, ViewedOrBelow}
+use Rattle.world_facts.specs.Acknowledged.{Keeps, SeesAbove, SeesStill, StandsOrGone, Stood, ViewedOrBelow}
 use Rattle.world_facts.specs.NodeRules.{kind_post, node_facts, node_turns}
 use Rattle.world_facts.specs.Refines.{OlderFacts}
 use Rattle.world_facts.specs.Rules.{SomeOf}
@@ -144,3 +146,17 @@ module _ (script : List ℕ → Tree) (b : Base) (logs : NodeId → List Effect)
 
   pub all-kept : (q : Post) → Has q ever → Keeps ever q.from (last q.from) (before q.from) q.message
   all-kept q h = kept q.from.kind q.from.number q.to q.message (every-has _ ever q f.sent_ok h)
+
+  -- ---- what a read was answered is seen still
+
+  sees-still : (m : List history.Mark) (o : ObjectId) (t : TimeParts) (v : Value) → Viewed m o t v → SeesStill m o t v
+  sees-still m o t v h = λ living. let same = sees-views m o t living in (ap value_of same ∙ h.0, subst (Firm m t) (sym same) h.1)
+
+  sees-above : (log : List Effect) (older : List (List Effect)) (o : ObjectId) (t : TimeParts) (v : Value) → ViewedOrBelow log older o t v → IsOnFloor (marks log) t → SeesStill (marks log) o t v
+  sees-above log older o t v (inl h) on = sees-still (marks log) o t v h
+  sees-above log older o t v (inr (low, h)) on = absurd (true≢false (sym low.2 ∙ on low.0 low.1))
+
+  pub all-seen : (r : ℕ) (to : NodeId) (t : TimeParts) (v : Value) → Has (record { from = repository r; to = to; message = message.Value t v }) ever → SeesAbove ever (repository r) (last (repository r)) t v
+  all-seen r to t v h =
+      let k = all-kept (record { from = repository r; to = to; message = message.Value t v }) h in
+      (k.0, k.1, sees-above (last (repository r)) (before (repository r)) k.0 t v k.2)

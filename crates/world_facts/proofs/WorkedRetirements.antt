@@ -68,7 +68,7 @@ three-may : MayRetire three (first 3)
 unfolding floor_of settle_of same_stamp lt
 three-may = record {
   first = refl;
-  history = record { floor = λ e k. absurd (cc k); decided = λ o. ((λ e below none. absurd (cc none)), (λ e below none. absurd (cc none)), (λ e below none. absurd (cc none)), tt) };
+  history = record { floor = λ e k. absurd (cc k); decided = λ o. ((λ e below none. absurd (cc none)), ((λ e below none. absurd (cc none)), ((λ e below none. absurd (cc none)), tt))) };
 }
 
 -- ---- a past: a run that left these three acts, then the retirement

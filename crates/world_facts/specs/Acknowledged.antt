@@ -14,8 +14,8 @@ use Rattle.message_form.specs.declared.messages.Message.{Message}
 use Rattle.message_form.specs.declared.messages.Message.TheVariants as message
 use Rattle.message_form.specs.Posts.{Post, WasSent}
 use Rattle.object_history.specs.declared.marks.Mark.{Mark}
-use Rattle.object_history.specs.History.{floor_of}
-use Rattle.object_history.specs.Views.{Viewed}
+use Rattle.object_history.specs.History.{alive, floor_of, sees}
+use Rattle.object_history.specs.Views.{Firm, IsOnFloor, Viewed, value_of}
 use Rattle.object_retirement.specs.Older.{Gone}
 use Rattle.repository_log.specs.Logs.{is_commit, marks}
 
@@ -44,3 +44,12 @@ Keeps ever from log olds (message.Value t v) = (o : ObjectId) × WasSent ever (b
 Keeps ever from log olds (message.Decided s d) = Has (effect.Decide s d) log
 Keeps ever from log olds (message.Tell s c) = (d : Decision) × Has (effect.Decide s d) log × (c ≡ is_commit d)
 Keeps ever from log olds _ = Unit {0}
+
+-- What a read of the object at t sees there has this value, and is the origin, or a version that is settled or the reader's own,
+-- unless the log knows the reader as aborted.
+abbrev pub SeesStill : List Mark → ObjectId → TimeParts → Value → Type 0
+SeesStill m o t v = alive m t ≡ true → (value_of (sees m o t) ≡ v) × Firm m t (sees m o t)
+
+-- the read that was answered was sent, and if it isn't below the floor, what it saw is seen still
+abbrev pub SeesAbove : List Post → NodeId → List Effect → TimeParts → Value → Type 0
+SeesAbove ever from log t v = (o : ObjectId) × WasSent ever (broker t.stamp.broker) from (message.Read t o) × (IsOnFloor (marks log) t → SeesStill (marks log) o t v)

@@ -8,11 +8,12 @@ use Rattle.effect_form.specs.declared.effects.Effect.{Effect}
 use Rattle.message_form.specs.Posts.{Post}
 use Rattle.serial_model.specs.Questions.{Tree}
 use Rattle.plan_form.specs.declared.plans.Plan.{Plan}
+use Rattle.plan_form.specs.PlanTexts.{IsOfLanguage}
 use Rattle.object_retirement.specs.Forward.{MayRetire, forward}
 use Rattle.world_core.specs.declared.entries.Entry.{Entry}
 use Rattle.world_core.specs.declared.entries.Entry.TheVariants.{Tick}
 use Rattle.world_core.specs.Legal.{base_of, in_plan}
-use Rattle.world_core.specs.Pasts.{Call, IsCall, log_left}
+use Rattle.world_core.specs.Pasts.{Call, IsCall, log_left, own_reading}
 use Rattle.world_core.specs.Walks.{sent_by, walk}
 
 -- an earlier call: a run, or a retirement of this repository's log at a mark
@@ -38,6 +39,16 @@ AreEarlier read (c ∷ cs) = AreEarlier read cs × IsEarlier read (logs_left rea
 -- the logs come from empty ones by runs of this program and retirements
 abbrev pub ComeFrom : (Plan → List ℕ → Tree) → (NodeId → List Effect) → Type 0
 ComeFrom read logs = (cs : List Earlier) × AreEarlier read cs × ((n : NodeId) → logs n ≡ logs_left read cs n)
+
+-- the runs among these calls are of plans of the language
+abbrev pub AreOfLanguage : List Earlier → Type 0
+AreOfLanguage [] = Unit {0}
+AreOfLanguage (Running c ∷ cs) = IsOfLanguage c.plan × AreOfLanguage cs
+AreOfLanguage (Retiring r at ∷ cs) = AreOfLanguage cs
+
+-- the logs come from empty ones by such runs, each plan read by its own acts, and by retirements
+abbrev pub WereLeftOrRetired : (NodeId → List Effect) → Type 0
+WereLeftOrRetired logs = (cs : List Earlier) × (AreEarlier own_reading cs × AreOfLanguage cs) × ((n : NodeId) → logs n ≡ logs_left own_reading cs n)
 
 -- a node's older logs: those before and after each of these calls, the last one first
 abbrev pub older : (Plan → List ℕ → Tree) → List Earlier → NodeId → List (List Effect)

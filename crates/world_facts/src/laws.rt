@@ -12,7 +12,11 @@ ghost use Rattle.world_core.specs.Walks.{walk, sent_by};
 ghost use Rattle.world_core.specs.Legal.{Legal, base_of};
 ghost use Rattle.world_core.specs.Pasts.{AreCalls, Call, HasPast, OpenedWith, alike, logs_after};
 ghost use Rattle.message_form.specs.Posts.{Post};
-ghost use Rattle.world_facts.specs.Acknowledged.{Keeps};
+ghost use Rattle.message_form.specs.declared.messages.Message.TheVariants as message;
+ghost use Rattle.pseudo_time.specs.Nodes.{repository};
+ghost use Rattle.pseudo_time.specs.TimeParts.{TimeParts};
+ghost use Rattle.value_form.specs.declared.values.Value.{Value};
+ghost use Rattle.world_facts.specs.Acknowledged.{Keeps, SeesAbove};
 ghost use Rattle.world_facts.specs.Earlier.{AreEarlier, ComeFrom, Earlier, TickedBy, logs_left, older, replaced, sent_earlier};
 ghost use Rattle.world_facts.specs.Earlier.Earlier.{Running};
 ghost use Rattle.world_facts.specs.Refines.{LogFacts, LivesOk, OlderFacts, logs_at, past_sent, Ticked};
@@ -61,13 +65,21 @@ pub fn facts_over_older_logs()
 {}
 
 /// So whatever was sent before, in an earlier call or in the trace, its sender's log keeps, or has given
-/// up as a retirement may: what was stored, what a read was answered, and what was decided.
+/// up as a retirement may: what was stored, what a read was answered, and what was decided. What a read
+/// that isn't below the floor was answered, a read at that time would see there still, unless its attempt
+/// was aborted.
 pub fn answers_are_kept()
-    ensures { (script : List ℕ → Tree) (plan : Plan) (asked : List Asked) (t : Trace) (logs : NodeId → List Effect) (front rest : List Entry) →
+    ensures logs { (script : List ℕ → Tree) (plan : Plan) (asked : List Asked) (t : Trace) (logs : NodeId → List Effect) (front rest : List Entry) →
         (past : ComeFrom (alike script) logs) → OpenedWith t.opened logs → Legal script plan asked t → t.entries ≡ front ++ rest → (q : Post) →
         Has q (sent_earlier (alike script) past.0 ++ sent_by (walk (base_of script plan t) front)) →
         Keeps (sent_earlier (alike script) past.0 ++ sent_by (walk (base_of script plan t) front)) q.from
         (reverse (logs_at logs (walk (base_of script plan t) front) q.from)) (map reverse (replaced (alike script) past.0 q.from)) q.message }
+    ensures sight { (script : List ℕ → Tree) (plan : Plan) (asked : List Asked) (t : Trace) (logs : NodeId → List Effect) (front rest : List Entry) →
+        (past : ComeFrom (alike script) logs) → OpenedWith t.opened logs → Legal script plan asked t → t.entries ≡ front ++ rest →
+        (r : ℕ) (to : NodeId) (x : TimeParts) (v : Value) →
+        Has (record { from = repository r; to = to; message = message.Value x v }) (sent_earlier (alike script) past.0 ++ sent_by (walk (base_of script plan t) front)) →
+        SeesAbove (sent_earlier (alike script) past.0 ++ sent_by (walk (base_of script plan t) front)) (repository r)
+        (reverse (logs_at logs (walk (base_of script plan t) front) (repository r))) x v }
 {}
 
 /// A log that a retirement replaced is an older log of its node. Runs alone are such calls: they leave what
