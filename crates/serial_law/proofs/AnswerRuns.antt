@@ -19,12 +19,12 @@ use Rattle.broker_laws.specs.Fits.{MayTry}
 use Rattle.world_core.specs.declared.traces.Trace.{Trace}
 use Rattle.world_core.specs.Legal.{base_of, in_plan}
 use Rattle.world_core.specs.Pasts.{OpenedWith, alike, own_reading}
-use Rattle.world_core.specs.Readings.{IsLegal, WereLeft}
+use Rattle.world_core.specs.Readings.{IsLegal}
 use Rattle.world_core.specs.Walks.{World, sent_by, start_world, walk}
-use Rattle.world_core.proofs.OneReading.{common-reading, own-reading}
+use Rattle.world_core.proofs.OneReading.{own-reading}
 use Rattle.world_core.proofs.SameWorlds.{walk-same}
 use Rattle.world_facts.specs.Acknowledged.{Keeps, SeesAbove}
-use Rattle.world_facts.specs.Earlier.{TickedBy, replaced, sent_earlier}
+use Rattle.world_facts.specs.Earlier.{TickedBy, WereLeftOrRetired, replaced, sent_earlier}
 use Rattle.world_facts.specs.NodeRules.{node_facts}
 use Rattle.world_facts.specs.Refines.{OlderFacts, logs_at}
 use Rattle.world_facts.proofs.AnswerLemmas.{all-kept, all-seen}
@@ -40,15 +40,15 @@ pub record Ended (plan : Plan) (t : Trace) (logs : NodeId → List Effect) : Typ
   pub place : Position
   pub log : (n : NodeId) → log_at place n ≡ log_after logs plan t n
 
-pub ended : (plan : Plan) (asked : List Asked) (t : Trace) → IsOfLanguage plan → IsLegal plan asked t → (logs : NodeId → List Effect) (left : WereLeft logs) → OpenedWith t.opened logs → Ended plan t logs
+pub ended : (plan : Plan) (asked : List Asked) (t : Trace) → IsOfLanguage plan → IsLegal plan asked t → (logs : NodeId → List Effect) (left : WereLeftOrRetired logs) → OpenedWith t.opened logs → Ended plan t logs
 ended plan asked t w l logs left agrees =
-    let r = common-reading plan asked t logs w l left in
+    let r : OneReading plan asked t logs left.0 = older-reading plan asked t logs w l left in
     let own = own-reading plan w in
-    let p : Position = record { script = r.0; plan = plan; asked = asked; trace = t; logs = logs; front = t.entries; rest = []; here = sym (append-nil t.entries); whole = w; past = (left.0, r.1, r.2); agrees = agrees; legal = r.3 } in
-    let same : world_at p ≡ walk (base_of (reading plan.acts) plan t) t.entries = walk-same r.0 (reading plan.acts) plan r.3.scripted own t t.entries in
+    let p : Position = record { script = r.script; plan = plan; asked = asked; trace = t; logs = logs; front = t.entries; rest = []; here = sym (append-nil t.entries); whole = w; past = (left.0, r.are, r.left); agrees = agrees; legal = r.legal } in
+    let same : world_at p ≡ walk (base_of (reading plan.acts) plan t) t.entries = walk-same r.script (reading plan.acts) plan r.legal.scripted own t t.entries in
     record {
       place = p;
-      log = λ n. let known : ((world_at p).flags n).known ≡ in_plan plan n = walk-known (base_of r.0 plan t) (start_world (base_of r.0 plan t)) t.entries n ∙ l.nodes.just n in
+      log = λ n. let known : ((world_at p).flags n).known ≡ in_plan plan n = walk-known (base_of r.script plan t) (start_world (base_of r.script plan t)) t.entries n ∙ l.nodes.just n in
           λ i. reverse (if known i then ((same i).life n).gated else logs n);
     }
 

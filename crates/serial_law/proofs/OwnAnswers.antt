@@ -1,5 +1,5 @@
 -- Each answer comes from the repository of the object that was asked for; one pseudotime carries one request; a read shows the reader's own last write.
-use Rattle.std.proofs.Common.{◌≡◌, inl, inr, ℕ, ◌+◌, ◌≤◌, ◌<◌, true, false, ◌||◌, List, [], ◌∷◌, ◌++◌, length, refl, sym, ◌∙◌, ap, subst, Option, Some, None, arith}
+use Rattle.std.proofs.Common.{◌≡◌, inl, inr, ℕ, ◌+◌, ◌≤◌, ◌<◌, true, false, ◌||◌, List, [], ◌∷◌, ◌++◌, length, map, reverse, refl, sym, ◌∙◌, ap, subst, Option, Some, None, arith}
 use Rattle.std.proofs.lemmas.List.{length-append}
 use Rattle.std.proofs.lemmas.Bool.{or_right}
 use Rattle.std.proofs.lemmas.Option.{same_Some}
@@ -14,6 +14,7 @@ use Rattle.pseudo_time.proofs.ListLemmas.{every-has}
 use Rattle.pseudo_time.proofs.OrderLemmas.{same_stamp-of}
 use Rattle.value_form.specs.declared.objects.ObjectId.{ObjectId}
 use Rattle.value_form.specs.declared.values.Value.{Value}
+use Rattle.effect_form.specs.declared.effects.Effect.{Effect}
 use Rattle.effect_form.specs.declared.effects.Effect.TheVariants as effect
 use Rattle.effect_form.specs.declared.outcomes.Outcome.TheVariants as outcome
 use Rattle.message_form.specs.declared.messages.Message.{Message}
@@ -38,14 +39,17 @@ use Rattle.broker_laws.proofs.Moves.{clocks}
 use Rattle.world_facts.specs.NodeRules.{kind_post}
 use Rattle.serial_law.specs.Answers.{brings, IsAnsweredThere, StoredBefore}
 use Rattle.serial_law.specs.Facts.{asked_of}
-use Rattle.serial_law.specs.Runs.{Position, log_at, sent_before}
+use Rattle.serial_law.specs.Runs.{Position, RunsAlone, log_at, sent_before}
 use Rattle.serial_law.proofs.Attempts.{found-try, found-in}
 use Rattle.serial_law.proofs.LogLemmas.{put-marks, marks-put}
 use Rattle.serial_law.proofs.Own.{front-short}
 use Rattle.serial_law.proofs.Puts.{Picked, at-most, picked}
 use Rattle.serial_law.proofs.Times.{inside, inside-high, inside-low}
-use Rattle.serial_law.proofs.Traces.{place-facts, broker-tidy, stamps-apart, answers-asked, answers-sent, requests-right, put-asked}
+use Rattle.serial_law.proofs.Traces.{place-facts, alone-facts, broker-tidy, stamps-apart, answers-asked, answers-sent, requests-right, put-asked}
+use Rattle.world_core.specs.Pasts.{alike}
+use Rattle.world_facts.specs.Earlier.{replaced}
 use Rattle.world_facts.proofs.Growths.{every-of}
+use Rattle.world_facts.proofs.OldChains.{some-log}
 
 read-same : (o p : ObjectId) → ToRead o ≡ ToRead p → o ≡ p
 read-same o p e = cc e
@@ -88,8 +92,16 @@ module _ (p : Position) where
   abbrev Sent : NodeKind → ℕ → ℕ → Message → Type 0
   Sent k i b m = WasSent ever (record { kind = k; number = i }) (broker b) m
 
-  holds : (k : NodeKind) (i : ℕ) (b : ℕ) (m : Message) → Sent k i b m → kind_post p.script ever k i (log_at p (record { kind = k; number = i })) (record { to = broker b; message = m })
-  holds k i b m h = every-has _ ever (record { from = record { kind = k; number = i }; to = broker b; message = m }) (place-facts p).sent_ok h
+  -- what a message says holds of its sender's log, or of an older one
+  holds : (k : NodeKind) (i : ℕ) (b : ℕ) (m : Message) → Sent k i b m → (log : List Effect) × kind_post p.script ever k i log (record { to = broker b; message = m })
+  holds k i b m h =
+      let one = some-log (λ log. kind_post p.script ever k i log (record { to = broker b; message = m })) (log_at p (record { kind = k; number = i }) ∷ map reverse (replaced (alike p.script) p.past.0 (record { kind = k; number = i })))
+      (every-has _ ever (record { from = record { kind = k; number = i }; to = broker b; message = m }) (place-facts p).sent_ok h) in
+      (one.0, one.2)
+
+  -- and where no log was retired, of its log
+  holds-alone : RunsAlone p → (k : NodeKind) (i : ℕ) (b : ℕ) (m : Message) → Sent k i b m → kind_post p.script ever k i (log_at p (record { kind = k; number = i })) (record { to = broker b; message = m })
+  holds-alone alone k i b m h = every-has _ ever (record { from = record { kind = k; number = i }; to = broker b; message = m }) (alone-facts p alone).sent_ok h
 
   module _ (b : ℕ) (t : Try) (mine : t.stamp.broker ≡ b) (found : find t.stamp (tries_at b) ≡ Some t) (pre post : List Answer) (is : t.answers ≡ pre ++ post) (q : Request) (asks : stop (p.script t.task.script) pre ≡ Asks q) where
     abbrev x : TimeParts
@@ -116,24 +128,24 @@ module _ (p : Position) where
     from-there i m e h = subst (λ z. WasSent ever (repository z) (broker b) m) e h
 
     got-there : (k : NodeKind) (i : ℕ) (v : Value) → Sent k i b (message.Value x v) → There (message.Value x v)
-    got-there Repository i v h = let r = holds Repository i b (message.Value x v) h in from-there i (message.Value x v) (read-is i r.0 r.1) h
-    got-there Broker i v h = absurd (holds Broker i b (message.Value x v) h)
+    got-there Repository i v h = let r = (holds Repository i b (message.Value x v) h).1 in from-there i (message.Value x v) (read-is i r.0 r.1) h
+    got-there Broker i v h = absurd (holds Broker i b (message.Value x v) h).1
 
     stored-there : (k : NodeKind) (i : ℕ) → Sent k i b (message.Stored x) → There (message.Stored x)
-    stored-there Repository i h = let r = holds Repository i b (message.Stored x) h in from-there i (message.Stored x) (write-is i r.0 r.1 r.2) h
-    stored-there Broker i h = absurd (holds Broker i b (message.Stored x) h)
+    stored-there Repository i h = let r = (holds Repository i b (message.Stored x) h).1 in from-there i (message.Stored x) (write-is i r.0 r.1 r.2) h
+    stored-there Broker i h = absurd (holds Broker i b (message.Stored x) h).1
 
-    later-is : (i : ℕ) (o : ObjectId) (e : TimeParts) → repositories.WasReadLater ever i (log_at p (repository i)) o x e → i ≡ (asked_of q).repository
-    later-is i o e (inl r) = read-is i o r.0
-    later-is i o e (inr r) = write-is i o r.0 r.1
+    later-is : (i : ℕ) (log : List Effect) (o : ObjectId) (e : TimeParts) → repositories.WasReadLater ever i log o x e → i ≡ (asked_of q).repository
+    later-is i log o e (inl r) = read-is i o r.0
+    later-is i log o e (inr r) = write-is i o r.0 r.1
 
     read-there : (k : NodeKind) (i : ℕ) (e : TimeParts) → Sent k i b (message.LaterRead x e) → There (message.LaterRead x e)
-    read-there Repository i e h = let r = holds Repository i b (message.LaterRead x e) h in from-there i (message.LaterRead x e) (later-is i r.0 e r.2) h
-    read-there Broker i e h = absurd (holds Broker i b (message.LaterRead x e) h)
+    read-there Repository i e h = let r = holds Repository i b (message.LaterRead x e) h in from-there i (message.LaterRead x e) (later-is i r.0 r.1.0 e r.1.2) h
+    read-there Broker i e h = absurd (holds Broker i b (message.LaterRead x e) h).1
 
     version-there : (k : NodeKind) (i : ℕ) (y : TimeParts) → Sent k i b (message.LaterVersion x y) → There (message.LaterVersion x y)
-    version-there Repository i y h = let r = holds Repository i b (message.LaterVersion x y) h in from-there i (message.LaterVersion x y) (write-is i r.0 r.1 r.2) h
-    version-there Broker i y h = absurd (holds Broker i b (message.LaterVersion x y) h)
+    version-there Repository i y h = let r = (holds Repository i b (message.LaterVersion x y) h).1 in from-there i (message.LaterVersion x y) (write-is i r.0 r.1 r.2) h
+    version-there Broker i y h = absurd (holds Broker i b (message.LaterVersion x y) h).1
 
     answer-there : (a : Answer) → IsProven b ever t → (rest : List Answer) → t.answers ≡ pre ++ (a ∷ rest) → There (brings x a)
     answer-there (Got v) proven rest e = let h = proven.answers pre rest (Got v) e in got-there h.0.kind h.0.number v h.1
@@ -200,16 +212,16 @@ module _ (p : Position) where
           subst (λ z. WasSent ever (repository o.repository) (broker b) (message.Stored z)) (time-is t (length pre + 1) stamp step)
           ((answered-there b t has).answers pre rest Stored (ToWrite o w) e asks)
 
-  pub own-write-read : (x : TimeParts) (v : Value) (o : ObjectId) (y : TimeParts) (w : Value) → WasSent ever (broker x.stamp.broker) (repository o.repository) (message.Read x o) →
+  pub own-write-read : RunsAlone p → (x : TimeParts) (v : Value) (o : ObjectId) (y : TimeParts) (w : Value) → WasSent ever (broker x.stamp.broker) (repository o.repository) (message.Read x o) →
       WasSent ever (repository o.repository) (broker x.stamp.broker) (message.Value x v) → StoredBefore ever x o y w → ((z : TimeParts) (u : Value) → StoredBefore ever x o z u → lt y z ≡ false) → v ≡ w
   unfolding Picked
-  own-write-read x v o y w asked came before last =
+  own-write-read alone x v o y w asked came before last =
       let r : ℕ = o.repository in
       let l : List Mark = marks (log_at p (repository r)) in
-      let val = holds Repository r x.stamp.broker (message.Value x v) came in
+      let val = holds-alone alone Repository r x.stamp.broker (message.Value x v) came in
       let object : val.0 ≡ o = one-read x.stamp.broker (repository r) (repository r) x val.0 o val.1.0 asked in
       let viewed : Viewed l o x v = subst (λ z. Viewed l z x v) object val.3 in
-      let sto = holds Repository r y.stamp.broker (message.Stored y) before.stored in
+      let sto = holds-alone alone Repository r y.stamp.broker (message.Stored y) before.stored in
       let both : (sto.0 ≡ o) × (sto.1 ≡ w) = one-write y.stamp.broker (repository r) (repository r) y sto.0 o sto.1 w sto.2.0 before.asked in
       let put : Has (effect.Put o y w) (log_at p (repository r)) = subst (λ z. Has (effect.Put z y w) (log_at p (repository r))) both.0 (subst (λ z. Has (effect.Put sto.0 y z) (log_at p (repository r))) both.1 sto.3) in
       let shown : shows l x y ≡ true = and-both (lt y x) (alive l y || same_stamp y.stamp x.stamp) before.below (or_right (alive l y) (same_stamp y.stamp x.stamp) (same_stamp-of y.stamp x.stamp before.same)) in

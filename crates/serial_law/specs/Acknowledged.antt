@@ -17,7 +17,7 @@ use Rattle.broker_core.specs.Readings.{reading}
 use Rattle.world_core.specs.declared.traces.Trace.{Trace}
 use Rattle.world_core.specs.Legal.{base_of, in_plan}
 use Rattle.world_core.specs.Pasts.{OpenedWith, own_reading}
-use Rattle.world_core.specs.Readings.{WereLeft, gated_log}
+use Rattle.world_core.specs.Readings.{gated_log}
 use Rattle.world_core.specs.Walks.{sent_by, walk}
 use Rattle.serial_law.specs.Causes.{IsSpent}
 use Rattle.world_facts.specs.Acknowledged.{Keeps, SeesAbove}
@@ -52,6 +52,6 @@ AreSpent log = (b i c : ℕ) (late early : List Effect) → log (broker b) ≡ l
 abbrev pub KeepsAnswers : Plan → Trace → Type 0
 KeepsAnswers plan t = (logs : NodeId → List Effect) (left : WereLeftOrRetired logs) → OpenedWith t.opened logs → Agree (all_sent left.0 plan t) (log_after logs plan t) (retired_logs left.0)
 
--- over logs that runs alone left each act that is spent there is so rightly
+-- and each act that is spent there is so rightly
 abbrev pub SpendsRightly : Plan → Trace → Type 0
-SpendsRightly plan t = (logs : NodeId → List Effect) → WereLeft logs → OpenedWith t.opened logs → AreSpent (log_after logs plan t)
+SpendsRightly plan t = (logs : NodeId → List Effect) → WereLeftOrRetired logs → OpenedWith t.opened logs → AreSpent (log_after logs plan t)

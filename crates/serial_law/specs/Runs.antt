@@ -16,14 +16,16 @@ use Rattle.world_core.specs.declared.traces.Trace.{Trace}
 use Rattle.world_core.specs.Walks.{World, walk, sent_by}
 use Rattle.world_core.specs.Legal.{Legal, base_of}
 use Rattle.world_core.specs.Answered.{WasAnswered}
-use Rattle.world_core.specs.Pasts.{Call, HasPast, OpenedWith, alike}
-use Rattle.world_facts.specs.Refines.{logs_at, past_sent, Ticked}
+use Rattle.world_core.specs.Pasts.{OpenedWith, alike}
+use Rattle.world_facts.specs.Earlier.{AreRuns, ComeFrom, Earlier, TickedBy, sent_earlier}
+use Rattle.world_facts.specs.Earlier.Earlier.{Running, Retiring}
+use Rattle.world_facts.specs.Refines.{logs_at}
 pub use Rattle.world_core.specs.Deeds.{Try, RunLogs, attempt, book_tries, run_of}
 unfoldable pub use Rattle.world_core.specs.Deeds.{run_tries}
 
 -- ---- places of legal traces
 
--- A place of a legal trace of a plan of the language, over logs with a past. `logs` are those so far, oldest effect first, and
+-- A place of a legal trace of a plan of the language, over logs that runs and retirements left. `logs` are those so far, oldest effect first, and
 -- `front` are the trace's entries up to the place. `script` reads the texts of scripts.
 pub record Position : Type 0 where
   pub script : List ℕ → Tree
@@ -35,7 +37,7 @@ pub record Position : Type 0 where
   pub rest : List Entry
   pub here : trace.entries ≡ front ++ rest
   pub whole : IsOfLanguage plan
-  pub past : HasPast (alike script) logs
+  pub past : ComeFrom (alike script) logs
   pub agrees : OpenedWith trace.opened logs
   pub legal : Legal script plan asked trace
 
@@ -50,18 +52,23 @@ log_at p n = reverse (logs_at p.logs (world_at p) n)
 abbrev pub run_at : Position → RunLogs
 run_at p = run_of p.script p.plan (log_at p)
 
--- all that was sent before, in the runs of the past and in the trace
+-- the calls of the past are runs alone, so that no log was retired
+abbrev pub RunsAlone : Position → Type 0
+RunsAlone p = AreRuns p.past.0
+
+-- all that was sent before, in the calls of the past and in the trace
 abbrev pub sent_before : Position → List Post
-sent_before p = past_sent (alike p.script) p.past.0 ++ sent_by (world_at p)
+sent_before p = sent_earlier (alike p.script) p.past.0 ++ sent_by (world_at p)
 
 -- the moment was ticked before, in a run of the past or in the trace
 abbrev pub TickedBefore : Position → ℕ → Type 0
-TickedBefore p = Ticked p.past.0 p.front
+TickedBefore p = TickedBy p.past.0 p.front
 
--- in one of these runs the repository of the object took this write, and answered so
-abbrev pub AnsweredIn : (Plan → List ℕ → Tree) → List Call → TimeParts → ObjectId → Value → WriteStep → Type 0
+-- in one of these calls the repository of the object took this write, and answered so
+abbrev pub AnsweredIn : (Plan → List ℕ → Tree) → List Earlier → TimeParts → ObjectId → Value → WriteStep → Type 0
 AnsweredIn read [] x o v step = ⊥
-AnsweredIn read (c ∷ cs) x o v step = WasAnswered (base_of (read c.plan) c.plan c.trace) c.trace.entries x o v step ⊎ AnsweredIn read cs x o v step
+AnsweredIn read (Retiring r at ∷ cs) x o v step = AnsweredIn read cs x o v step
+AnsweredIn read (Running c ∷ cs) x o v step = WasAnswered (base_of (read c.plan) c.plan c.trace) c.trace.entries x o v step ⊎ AnsweredIn read cs x o v step
 
 -- before, in the trace or in a run of the past
 abbrev pub AnsweredBefore : Position → TimeParts → ObjectId → Value → WriteStep → Type 0

@@ -20,7 +20,7 @@ ghost use Rattle.broker_laws.specs.Posts.{Distinct, IsPlayed, IsProven, PostHold
 ghost use Rattle.message_form.specs.Posts.{WasSent};
 ghost use Rattle.serial_law.specs.Answers.{IsAnsweredThere, StoredBefore};
 ghost use Rattle.serial_law.specs.Facts.{RunFacts};
-ghost use Rattle.serial_law.specs.Runs.{Position, log_at, run_at, sent_before};
+ghost use Rattle.serial_law.specs.Runs.{Position, RunsAlone, log_at, run_at, sent_before};
 
 /// An attempt is decided at its home alone, in one way, and nothing is learned of it there. What is
 /// learned of it elsewhere agrees with the decision in its home's durable log.
@@ -57,9 +57,10 @@ pub fn one_request_each()
         WasSent (sent_before p) (broker b) to (message.Read x o) → WasSent (sent_before p) (broker b) two (message.Write x u w) → ⊥ }
 {}
 
-/// A read answers what its own attempt wrote last to the object before, where such a write was stored.
+/// A read answers what its own attempt wrote last to the object before, where such a write was stored and
+/// no log was retired.
 pub fn reads_see_own_writes()
-    ensures { (p : Position) (x : TimeParts) (v : Value) (o : ObjectId) (y : TimeParts) (w : Value) →
+    ensures { (p : Position) → RunsAlone p → (x : TimeParts) (v : Value) (o : ObjectId) (y : TimeParts) (w : Value) →
         WasSent (sent_before p) (broker x.stamp.broker) (repository o.repository) (message.Read x o) →
         WasSent (sent_before p) (repository o.repository) (broker x.stamp.broker) (message.Value x v) → StoredBefore (sent_before p) x o y w →
         ((z : TimeParts) (u : Value) → StoredBefore (sent_before p) x o z u → lt y z ≡ false) → v ≡ w }
@@ -85,7 +86,7 @@ pub fn logs_fit()
         WasSent (sent_before p) (broker s.broker) (repository r) (message.Commit s) }
 {}
 
-/// All of these, as the central theorem uses them.
+/// All of these, as the central theorem uses them, where no log was retired.
 pub fn law_facts()
-    ensures { (p : Position) → RunFacts (run_at p) (sent_before p) }
+    ensures { (p : Position) → RunsAlone p → RunFacts (run_at p) (sent_before p) }
 {}

@@ -16,27 +16,28 @@ ghost use Rattle.serial_law.specs.Added.{AnyPlace, any_log, EndCause};
 ghost use Rattle.serial_law.specs.Causes.{Causes, IsSpent};
 ghost use Rattle.world_core.specs.Deeds.{RunLogs, before, finals};
 ghost use Rattle.serial_law.specs.Facts.{RunFacts};
-ghost use Rattle.serial_law.specs.Runs.{Position, log_at, run_at, TickedBefore, AnsweredBefore};
+ghost use Rattle.serial_law.specs.Runs.{Position, RunsAlone, log_at, run_at, TickedBefore, AnsweredBefore};
 ghost use Rattle.serial_law.specs.Serial.{Serial, HoldsAll, HoldsBefore};
 
 /// Every attempt of a run reads, writes and ends as its script does alone, over the map after the
 /// committed deeds before its stamp (Bernstein et al. 1987, chapter 5): at each place of each legal
-/// trace over logs with a past, with crashes anywhere, and of all logs and messages with these facts.
+/// trace over logs that runs alone left, with crashes anywhere, and of all logs and messages with these
+/// facts.
 pub fn law_serial()
-    ensures places { (p : Position) → Serial (run_at p) }
+    ensures places { (p : Position) → RunsAlone p → Serial (run_at p) }
     ensures facts { (k : RunLogs) (ever : List Post) → RunFacts k ever → Serial k }
 {}
 
 /// The map after all committed deeds has, of each object, the committed put with the greatest start in
 /// the logs, else Nothing.
 pub fn law_finals()
-    ensures places { (p : Position) → HoldsAll (run_at p) (finals (run_at p)) }
+    ensures places { (p : Position) → RunsAlone p → HoldsAll (run_at p) (finals (run_at p)) }
     ensures facts { (k : RunLogs) (ever : List Post) → RunFacts k ever → HoldsAll k (finals k) }
 {}
 
 /// The map before a stamp has, of each object, the committed put with the greatest start below it.
 pub fn law_before()
-    ensures places { (p : Position) (s : StampParts) → HoldsBefore (run_at p) s (before (run_at p) s) }
+    ensures places { (p : Position) → RunsAlone p → (s : StampParts) → HoldsBefore (run_at p) s (before (run_at p) s) }
     ensures facts { (k : RunLogs) (ever : List Post) → RunFacts k ever → (s : StampParts) → HoldsBefore k s (before k s) }
 {}
 
@@ -49,7 +50,7 @@ pub fn law_before()
 /// Over logs without a past, too, each End that the trace added has its cause: a refusal, the end of a
 /// script, or that no clock was left.
 pub fn law_causes()
-    ensures ends { (p : Position) → Causes (run_at p) (TickedBefore p) (AnsweredBefore p) }
+    ensures ends { (p : Position) → RunsAlone p → Causes (run_at p) (TickedBefore p) (AnsweredBefore p) }
     ensures spent { (p : Position) (b i c : ℕ) (late early : List Effect) → log_at p (broker b) ≡ late ++ (effect.End i (outcome.Spent c) ∷ early) →
         MayTry i (book early).acts (IsSpent (book early) c) }
     ensures limits { (p : Position) (b : ℕ) → Every IsWithinLimits (book (log_at p (broker b))).acts }

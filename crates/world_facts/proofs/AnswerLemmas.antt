@@ -56,7 +56,7 @@ module _ (script : List ℕ → Tree) (b : Base) (logs : NodeId → List Effect)
 
   -- ---- what was put was asked for, by a request of step 1 or more
 
-  broker-post : (k : ℕ) (older : List (List Effect)) (log : List Effect) (to : NodeId) (m : Message) → Lineage (node_facts script) (broker k) older log →
+  pub broker-post : (k : ℕ) (older : List (List Effect)) (log : List Effect) (to : NodeId) (m : Message) → Lineage (node_facts script) (broker k) older log →
       SomeOf (λ l. kind_post script ever Broker k l (record { to = to; message = m })) (log ∷ older) → kind_post script ever Broker k log (record { to = to; message = m })
   broker-post k older log to m g (inl p) = p
   broker-post k [] log to m g (inr p) = absurd p

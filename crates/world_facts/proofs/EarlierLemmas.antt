@@ -18,7 +18,7 @@ use Rattle.world_core.specs.Walks.{sent_by, start_world, walk}
 use Rattle.world_core.specs.Legal.{Meets, Legal, base_of, fates_of, in_plan}
 use Rattle.world_core.specs.Pasts.{AreCalls, Call, IsCall, OpenedWith, alike, log_left, logs_after}
 use Rattle.world_core.proofs.Rules.{meets-front}
-use Rattle.world_facts.specs.Earlier.{AreEarlier, ComeFrom, Earlier, TickedBy, TickedEarlier, logs_left, older, replaced, sent_earlier}
+use Rattle.world_facts.specs.Earlier.{AreEarlier, AreRuns, ComeFrom, Earlier, TickedBy, TickedEarlier, logs_left, older, replaced, sent_earlier}
 use Rattle.world_facts.specs.Earlier.Earlier.{Running, Retiring}
 use Rattle.world_facts.specs.NodeRules.{node_facts, node_turns}
 use Rattle.world_facts.specs.Refines.{Left, OlderFacts, logs_at, past_sent}
@@ -104,10 +104,16 @@ replaced-older read (Retiring r at ∷ cs) n log h = inr (go (λ k. replaced-old
 
 -- ---- runs alone
 
--- runs alone replace no log, and leave what they left
-pub runs-replace : (read : Plan → List ℕ → Tree) (cs : List Call) (n : NodeId) → replaced read (map Running cs) n ≡ []
-runs-replace read [] n = refl
-runs-replace read (c ∷ cs) n = runs-replace read cs n
+-- runs alone replace no log
+pub runs-keep : (read : Plan → List ℕ → Tree) (cs : List Earlier) → AreRuns cs → (n : NodeId) → replaced read cs n ≡ []
+runs-keep read [] h n = refl
+runs-keep read (Running c ∷ cs) h n = runs-keep read cs h n
+runs-keep read (Retiring r at ∷ cs) h n = absurd h
+
+-- and leave what they left
+pub runs-alone : (cs : List Call) → AreRuns (map Running cs)
+runs-alone [] = tt
+runs-alone (c ∷ cs) = runs-alone cs
 
 pub runs-leave : (read : Plan → List ℕ → Tree) (cs : List Call) → logs_left read (map Running cs) ≡ logs_after read cs
 runs-leave read [] = refl

@@ -251,7 +251,7 @@ module _ (script : List ℕ → Tree) (turns : Turns) (F : NodeFacts) (laws : No
       }
 
   -- where no log was ever retired
-  facts-alone : (b : Base) (logs : NodeId → List Effect) (old sent : List Post) (May : ℕ → Type 0) → OlderFacts F b logs (λ n. []) old sent May → LogFacts F b logs old sent May
+  pub facts-alone : (b : Base) (logs : NodeId → List Effect) (old sent : List Post) (May : ℕ → Type 0) → OlderFacts F b logs (λ n. []) old sent May → LogFacts F b logs old sent May
   facts-alone b logs old sent May f = record {
     ticks = f.ticks;
     ticked = f.ticked;

@@ -40,6 +40,12 @@ AreEarlier read (c ∷ cs) = AreEarlier read cs × IsEarlier read (logs_left rea
 abbrev pub ComeFrom : (Plan → List ℕ → Tree) → (NodeId → List Effect) → Type 0
 ComeFrom read logs = (cs : List Earlier) × AreEarlier read cs × ((n : NodeId) → logs n ≡ logs_left read cs n)
 
+-- all these calls are runs
+abbrev pub AreRuns : List Earlier → Type 0
+AreRuns [] = Unit {0}
+AreRuns (Running c ∷ cs) = AreRuns cs
+AreRuns (Retiring r at ∷ cs) = ⊥
+
 -- the runs among these calls are of plans of the language
 abbrev pub AreOfLanguage : List Earlier → Type 0
 AreOfLanguage [] = Unit {0}

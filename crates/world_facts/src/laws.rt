@@ -17,7 +17,7 @@ ghost use Rattle.pseudo_time.specs.Nodes.{repository};
 ghost use Rattle.pseudo_time.specs.TimeParts.{TimeParts};
 ghost use Rattle.value_form.specs.declared.values.Value.{Value};
 ghost use Rattle.world_facts.specs.Acknowledged.{Keeps, SeesAbove};
-ghost use Rattle.world_facts.specs.Earlier.{AreEarlier, ComeFrom, Earlier, TickedBy, logs_left, older, replaced, sent_earlier};
+ghost use Rattle.world_facts.specs.Earlier.{AreEarlier, AreRuns, ComeFrom, Earlier, TickedBy, logs_left, older, replaced, sent_earlier};
 ghost use Rattle.world_facts.specs.Earlier.Earlier.{Running};
 ghost use Rattle.world_facts.specs.Refines.{LogFacts, LivesOk, OlderFacts, logs_at, past_sent, Ticked};
 ghost use Rattle.world_facts.specs.NodeRules.{node_facts};
@@ -82,12 +82,13 @@ pub fn answers_are_kept()
         (reverse (logs_at logs (walk (base_of script plan t) front) (repository r))) x v }
 {}
 
-/// A log that a retirement replaced is an older log of its node. Runs alone are such calls: they leave what
-/// they left, and replace no log.
+/// A log that a retirement replaced is an older log of its node, and runs alone replace none. Runs over
+/// what runs left are such calls: they leave and send what they did.
 pub fn runs_replace_nothing()
     ensures older { (read : Plan → List ℕ → Tree) (cs : List Earlier) (n : NodeId) (log : List Effect) → Has log (replaced read cs n) → Has log (older read cs n) }
+    ensures replace { (read : Plan → List ℕ → Tree) (cs : List Earlier) → AreRuns cs → (n : NodeId) → replaced read cs n ≡ [] }
+    ensures alone { (cs : List Call) → AreRuns (map Running cs) }
     ensures are { (read : Plan → List ℕ → Tree) (cs : List Call) → AreCalls read cs → AreEarlier read (map Running cs) }
     ensures leave { (read : Plan → List ℕ → Tree) (cs : List Call) → logs_left read (map Running cs) ≡ logs_after read cs }
-    ensures replace { (read : Plan → List ℕ → Tree) (cs : List Call) (n : NodeId) → replaced read (map Running cs) n ≡ [] }
     ensures sent { (read : Plan → List ℕ → Tree) (cs : List Call) → sent_earlier read (map Running cs) ≡ past_sent read cs }
 {}
