@@ -1,7 +1,7 @@
 -- What a reader was answered once is what it sees over all versions that ever were.
-use Rattle.std.proofs.Common.{◌≡◌, ◌≢◌, ℕ, ◌≤◌, ◌<◌, nat_lt, Bool, true, false, List, [], ◌∷◌, ◌++◌, refl, sym, ◌∙◌, ap, subst, Option, Some, None, ◌⊎◌, inl, inr, arith}
+use Rattle.std.proofs.Common.{◌≡◌, ◌≢◌, ℕ, ◌≤◌, nat_lt, Bool, true, false, List, [], ◌∷◌, ◌++◌, refl, sym, ◌∙◌, ap, subst, Option, Some, None, ◌⊎◌, inl, inr, arith}
 use Rattle.std.proofs.lemmas.Bool.Decides.{nat_tests}
-use Rattle.std.proofs.lemmas.Bool.{false≢true, true≢false}
+use Rattle.std.proofs.lemmas.Bool.{true≢false}
 use Rattle.pseudo_time.specs.StampParts.{StampParts}
 use Rattle.pseudo_time.specs.TimeParts.{TimeParts}
 use Rattle.pseudo_time.specs.Lists.{Has}
@@ -11,9 +11,9 @@ use Rattle.value_form.specs.declared.objects.ObjectId.{ObjectId}
 use Rattle.value_form.specs.declared.values.Value.{Value}
 use Rattle.object_history.specs.declared.marks.Mark.{Mark}
 use Rattle.object_history.specs.declared.marks.Mark.TheVariants.{Put, Stretch, Settle, Floor}
-use Rattle.object_history.specs.History.{Seen, settle_of, scan, newest, floor_of, latest, read_to, reach}
+use Rattle.object_history.specs.History.{Seen, settle_of, scan, newest, floor_of, read_to}
 use Rattle.object_history.specs.Views.{Starts, Distinct, Fits, IsOnFloor, Firm, views, value_of, Viewed}
-use Rattle.object_retirement.specs.Retired.{retired, MayRetire, Same, NoneOwn}
+use Rattle.object_retirement.specs.Retired.{retired, MayRetire, Same}
 use Rattle.object_retirement.specs.Older.{Gone, GivenUp}
 use Rattle.object_retirement.specs.Chains.{Grows, Follows_on, Chain, SomeOf, WasViewed, AllOf}
 use Rattle.object_history.proofs.Words.{Ends, Passes, AtMost}
@@ -22,8 +22,8 @@ use Rattle.object_history.proofs.StableLemmas.{put-says, scan-passes}
 use Rattle.object_history.proofs.ViewLemmas.{viewed-kept, top-all}
 use Rattle.object_history.proofs.ScanLemmas.{Standing, standing, stands-has, distinct-kept, settled-kept}
 use Rattle.object_history.proofs.ReachLemmas.{ends-floor}
-use Rattle.object_retirement.proofs.RetiredLemmas.{starts-has, same-found, settle-kept, floor-kept, sub-kept, distinct-retired, viewed-retired, same-values, same-firm}
-use Rattle.object_retirement.proofs.OlderLemmas.{put-of, given-up, given-up-fits, given-up-again, floor-stays, Follows, older-view}
+use Rattle.object_retirement.proofs.RetiredLemmas.{starts-has, same-found, settle-kept, floor-kept, sub-kept, distinct-retired, viewed-retired, same-values}
+use Rattle.object_retirement.proofs.OlderLemmas.{put-of, given-up-fits, given-up-again, floor-stays, Follows, older-view}
 
 -- ---- growth
 

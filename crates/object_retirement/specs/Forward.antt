@@ -1,5 +1,5 @@
 -- The log that a retirement at a mark carries forward: the mark, then what stays of the log's effects in their order, then a Whole.
-use Rattle.std.specs.Prelude.{◌≡◌, ℕ, List, [], ◌∷◌, reverse, if◌then◌else◌}
+use Rattle.std.specs.Prelude.{◌≡◌, List, [], ◌∷◌, reverse, if◌then◌else◌}
 use Rattle.pseudo_time.specs.TimeParts.{TimeParts}
 use Rattle.pseudo_time.specs.Order.{lt}
 use Rattle.effect_form.specs.declared.effects.Effect.{Effect}

@@ -10,6 +10,7 @@ ghost use Rattle.value_form.specs.declared.values.Value.{Value};
 ghost use Rattle.effect_form.specs.declared.effects.Effect.{Effect};
 ghost use Rattle.effect_form.specs.declared.effects.Effect.TheVariants as effect;
 ghost use Rattle.object_history.specs.declared.marks.Mark.{Mark};
+ghost use Rattle.object_history.specs.declared.marks.Mark.TheVariants as mark;
 ghost use Rattle.object_history.specs.History.{settle_of, floor_of, scan};
 ghost use Rattle.object_history.specs.Views.{Distinct, Fits, Firm, views, value_of, Viewed};
 ghost use Rattle.object_retirement.specs.Retired.{retired, MayRetire, NoneOwn, Same};
@@ -45,6 +46,11 @@ pub fn answers_last()
     ensures newest { (olds : List (List Mark)) (m all : List Mark) (o : ObjectId) → Chain olds m → AllOf olds m all o → (sure : StampParts → Bool) →
         ((s : StampParts) → settle_of m s ≡ Some false → sure s ≡ false) → ((s : StampParts) → settle_of m s ≡ Some true → sure s ≡ true) →
         Same (scan (λ x. sure x.stamp) o m) (scan (λ x. sure x.stamp) o all) }
+{}
+
+/// Nothing is put below the floor.
+pub fn nothing_is_put_below()
+    ensures { (m : List Mark) (o : ObjectId) (x : TimeParts) (v : Value) → Fits m (mark.Put o x v) → (e : TimeParts) → floor_of m ≡ Some e → lt x e ≡ false }
 {}
 
 /// A log that is carried forward has the retired history. Each commit record is as it was, each decision

@@ -4,4 +4,7 @@
 
 mod laws;
 
-pub use laws::{answers_last, forward_keeps_records, retirement_gives_up, retirement_keeps_views};
+pub use laws::{
+    answers_last, forward_keeps_records, nothing_is_put_below, retirement_gives_up,
+    retirement_keeps_views,
+};

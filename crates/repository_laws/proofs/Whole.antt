@@ -4,7 +4,7 @@ use Rattle.pseudo_time.specs.Lists.{Every, Has}
 use Rattle.pseudo_time.specs.StampParts.{StampParts}
 use Rattle.pseudo_time.specs.declared.nodes.NodeId.{NodeId}
 use Rattle.pseudo_time.specs.declared.nodes.NodeKind.{NodeKind}
-use Rattle.pseudo_time.specs.declared.nodes.NodeKind.TheVariants.{Repository, Broker}
+use Rattle.pseudo_time.specs.declared.nodes.NodeKind.TheVariants.{Repository}
 use Rattle.pseudo_time.proofs.ListLemmas.{has-right}
 use Rattle.effect_form.specs.declared.effects.Effect.{Effect}
 use Rattle.effect_form.specs.declared.effects.Effect.TheVariants as effect
@@ -14,7 +14,6 @@ use Rattle.message_form.specs.Growth.{Grew}
 use Rattle.message_form.specs.Posts.{Post}
 use Rattle.object_history.proofs.ObjectLemmas.{eq-from, eqb-yes}
 use Rattle.repository_core.specs.Hands.{Hand, Mind}
-use Rattle.pseudo_time.specs.Nodes.{repository}
 use Rattle.repository_core.specs.Rows.{on_message, on_learn}
 use Rattle.repository_core.specs.Hearing.{on_moment}
 use Rattle.repository_core.specs.Turns.{hand_at, hand_turn}

@@ -1,9 +1,8 @@
 -- Whatever a node sent, its log, or an older one, keeps.
-use Rattle.std.proofs.Common.{◌≡◌, ℕ, ◌≤◌, ◌+◌, length, List, [], ◌∷◌, ◌++◌, map, reverse, refl, sym, ◌∙◌, ap, subst, ◌⊎◌, inl, inr, arith}
+use Rattle.std.proofs.Common.{◌≡◌, ℕ, ◌≤◌, ◌+◌, length, List, [], ◌∷◌, ◌++◌, map, reverse, sym, ◌∙◌, ap, subst, inl, inr, arith}
 use Rattle.std.proofs.lemmas.Bool.{true≢false}
 use Rattle.pseudo_time.specs.Lists.{Every, Has}
 use Rattle.pseudo_time.specs.Nodes.{broker}
-use Rattle.pseudo_time.specs.StampParts.{StampParts}
 use Rattle.pseudo_time.specs.TimeParts.{TimeParts}
 use Rattle.pseudo_time.specs.declared.decisions.Decision.{Decision}
 use Rattle.pseudo_time.specs.declared.nodes.NodeId.{NodeId}
@@ -16,23 +15,20 @@ use Rattle.effect_form.specs.declared.effects.Effect.{Effect}
 use Rattle.effect_form.specs.declared.effects.Effect.TheVariants as effect
 use Rattle.message_form.specs.declared.messages.Message.{Message}
 use Rattle.message_form.specs.declared.messages.Message.TheVariants as message
-use Rattle.message_form.specs.Growth.{Each}
 use Rattle.message_form.specs.Posts.{Post}
 use Rattle.object_history.specs.declared.marks.Mark as history
 use Rattle.object_history.specs.declared.marks.Mark.TheVariants as mark
 use Rattle.object_history.specs.Views.{Firm, IsOnFloor, Viewed, value_of}
 use Rattle.object_history.proofs.ViewLemmas.{sees-views}
 use Rattle.object_retirement.specs.Chains as chains
-use Rattle.object_retirement.proofs.ChainLemmas.{Frozen, Stays, chain-given, some-given, stays}
+use Rattle.object_retirement.proofs.ChainLemmas.{Stays, chain-given, some-given, stays}
 use Rattle.repository_log.specs.Logs.{is_commit, marks}
 use Rattle.repository_laws.specs.Facts.{WriteSent}
 use Rattle.repository_laws.proofs.Logs.{put-logged}
 use Rattle.serial_model.specs.Questions.{Tree}
-use Rattle.broker_core.specs.Book.{book, tries}
-use Rattle.broker_laws.specs.Posts as broker_posts
 use Rattle.world_core.specs.Nodes.{repository}
 use Rattle.world_core.specs.Walks.{Base}
-use Rattle.world_facts.specs.Acknowledged.{Keeps, SeesAbove, SeesStill, StandsOrGone, Stood, ViewedOrBelow}
+use Rattle.world_facts.specs.Acknowledged.{Keeps, SeesAbove, SeesStill, StandsOrGone, ViewedOrBelow}
 use Rattle.world_facts.specs.NodeRules.{kind_post, node_facts, node_turns}
 use Rattle.world_facts.specs.Refines.{OlderFacts}
 use Rattle.world_facts.specs.Rules.{SomeOf}

@@ -22,7 +22,7 @@ use Rattle.world_facts.specs.Earlier.{AreEarlier, AreRuns, ComeFrom, Earlier, Ti
 use Rattle.world_facts.specs.Earlier.Earlier.{Running, Retiring}
 use Rattle.world_facts.specs.NodeRules.{node_facts, node_turns}
 use Rattle.world_facts.specs.Refines.{Left, OlderFacts, logs_at, past_sent}
-use Rattle.world_facts.specs.Soft.{SoftNode, happened, opened_soft, put}
+use Rattle.world_facts.specs.Soft.{happened, opened_soft}
 use Rattle.world_facts.specs.Soft.SoftEvent.{Retire}
 use Rattle.world_facts.proofs.NodeLaws.{node-laws, past-laws}
 use Rattle.world_facts.proofs.Openings.{call-left, older-of, left-nothing, left-same, over-left}

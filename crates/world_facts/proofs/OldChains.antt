@@ -16,7 +16,7 @@ use Rattle.repository_log.specs.Logs.{is_commit, marks}
 use Rattle.repository_log.proofs.LogLemmas.{unknown-unsettled}
 use Rattle.repository_laws.specs.Facts.{FitsLog}
 use Rattle.serial_model.specs.Questions.{Tree}
-use Rattle.world_core.specs.Nodes.{repository}
+use Rattle.world_core.specs.Nodes.{repository, broker}
 use Rattle.world_facts.specs.NodeRules.{node_facts}
 use Rattle.world_facts.specs.Rules.{GrownFrom, SomeOf}
 use Rattle.world_facts.specs.Soft.{Lineage}
@@ -57,6 +57,11 @@ module _ (script : List ℕ → Tree) (r : ℕ) where
         grew = grows-marks r base g.early g.grew;
         came = inr (t.0, t.1.first, t.1.history, ap marks t.2 ∙ marks-forwarded old t.0);
       }
+
+  -- a broker's log is never retired
+  pub never-retired : (olds : List (List Effect)) (log : List Effect) → Lineage (node_facts script) (broker r) olds log → olds ≡ []
+  never-retired [] log k = refl
+  never-retired (old ∷ olds) log k = absurd k.1.1
 
 -- ---- logs of runs alone
 

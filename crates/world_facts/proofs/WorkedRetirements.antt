@@ -1,16 +1,16 @@
 -- A retirement worked by hand: three acts, then a retirement at 3.1.1/1. The definitions compute what it comes to.
-use Rattle.std.proofs.Common.{◌≡◌, ℕ, true, false, List, [], ◌∷◌, reverse, if◌then◌else◌, refl, sym, ◌∙◌, ap, subst, Some, None, ◌⊎◌, inl, inr}
+use Rattle.std.proofs.Common.{◌≡◌, ℕ, true, false, List, [], ◌∷◌, reverse, if◌then◌else◌, refl, sym, ◌∙◌, ap, subst, Some, inl, inr}
 use Rattle.std.specs.Prelude.{pos}
 use Rattle.pseudo_time.specs.StampParts.{StampParts}
 use Rattle.pseudo_time.specs.TimeParts.{TimeParts}
-use Rattle.pseudo_time.specs.Nodes.{repository, same_node}
+use Rattle.pseudo_time.specs.Nodes.{repository}
 use Rattle.pseudo_time.specs.Order.{lt, same_stamp}
 use Rattle.pseudo_time.specs.declared.decisions.Decision.TheVariants.{Committed}
 use Rattle.value_form.specs.declared.objects.ObjectId.{ObjectId}
 use Rattle.value_form.specs.declared.values.Value.{Value}
 use Rattle.value_form.specs.declared.values.Value.TheVariants.{Number}
 use Rattle.effect_form.specs.declared.effects.Effect.{Effect}
-use Rattle.effect_form.specs.declared.effects.Effect.TheVariants.{Put, Begin, Decide, Mark, Whole}
+use Rattle.effect_form.specs.declared.effects.Effect.TheVariants.{Put, Stretch, Begin, Decide, Mark, Whole}
 use Rattle.message_core.proofs.NodeLemmas.{same_node-refl}
 use Rattle.object_history.specs.Objects.{same_object}
 use Rattle.object_history.specs.History.{floor_of, pick, scan, settle_of, version_count}
@@ -70,6 +70,11 @@ three-may = record {
   first = refl;
   history = record { floor = λ e k. absurd (cc k); decided = λ o. ((λ e below none. absurd (cc none)), ((λ e below none. absurd (cc none)), ((λ e below none. absurd (cc none)), tt))) };
 }
+
+-- of reads, a mark leaves out those at it or below it, and of marks all but itself
+reads-forwarded : forwarded (Stretch (object 1) (first 4) ∷ Stretch (object 1) (first 3) ∷ Stretch (object 1) (first 2) ∷ Whole ∷ Mark (first 1) ∷ []) (first 3) ≡ Whole ∷ Stretch (object 1) (first 4) ∷ Mark (first 3) ∷ []
+unfolding lt
+reads-forwarded = refl
 
 -- ---- a past: a run that left these three acts, then the retirement
 

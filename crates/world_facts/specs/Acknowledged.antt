@@ -1,5 +1,5 @@
 -- What a sender's log has after it sent a message, also where retirements gave up older versions. Logs stand newest first.
-use Rattle.std.specs.Prelude.{◌≡◌, ◌⊎◌, true, List, [], ◌∷◌, Some}
+use Rattle.std.specs.Prelude.{◌≡◌, ◌⊎◌, true, List, Some}
 use Rattle.pseudo_time.specs.Lists.{Has}
 use Rattle.pseudo_time.specs.Nodes.{broker}
 use Rattle.pseudo_time.specs.Order.{lt}

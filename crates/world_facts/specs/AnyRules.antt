@@ -1,5 +1,5 @@
 -- What the rules of repositories and of brokers keep over any logs, also over logs that no calls could have left. Logs stand newest first.
-use Rattle.std.specs.Prelude.{◌≡◌, ℕ, ◌≤◌, length, reverse, List, [], ◌++◌}
+use Rattle.std.specs.Prelude.{◌≡◌, ℕ, ◌≤◌, length, reverse, List, []}
 use Rattle.std.specs.Option.{unwrap_or}
 use Rattle.pseudo_time.specs.Lists.{Every}
 use Rattle.pseudo_time.specs.declared.nodes.NodeId.{NodeId}

@@ -13,7 +13,10 @@ ghost use Rattle.world_core.specs.Legal.{Legal, base_of};
 ghost use Rattle.world_core.specs.Pasts.{AreCalls, Call, HasPast, OpenedWith, alike, logs_after};
 ghost use Rattle.message_form.specs.Posts.{Post};
 ghost use Rattle.message_form.specs.declared.messages.Message.TheVariants as message;
-ghost use Rattle.pseudo_time.specs.Nodes.{repository};
+ghost use Rattle.pseudo_time.specs.Nodes.{broker, repository};
+ghost use Rattle.object_retirement.specs.Chains.{Chain};
+ghost use Rattle.repository_log.specs.Logs.{marks};
+ghost use Rattle.world_facts.specs.Soft.{Lineage};
 ghost use Rattle.pseudo_time.specs.TimeParts.{TimeParts};
 ghost use Rattle.value_form.specs.declared.values.Value.{Value};
 ghost use Rattle.world_facts.specs.Acknowledged.{Keeps, SeesAbove};
@@ -62,6 +65,14 @@ pub fn facts_over_older_logs()
         (past : ComeFrom (alike script) logs) → OpenedWith t.opened logs → Legal script plan asked t → t.entries ≡ front ++ rest →
         OlderFacts (node_facts script) (base_of script plan t) (logs_at logs (walk (base_of script plan t) front)) (replaced (alike script) past.0)
         (sent_earlier (alike script) past.0) (sent_by (walk (base_of script plan t) front)) (TickedBy past.0 front) }
+{}
+
+/// The histories of a repository's logs are a chain: each grew, by marks that fit, from what a retirement
+/// left of the one before. A broker's log is never retired.
+pub fn histories_are_a_chain()
+    ensures repositories { (script : List ℕ → Tree) (r : ℕ) (olds : List (List Effect)) (log : List Effect) → Lineage (node_facts script) (repository r) olds log →
+        Chain (map marks olds) (marks log) }
+    ensures brokers { (script : List ℕ → Tree) (b : ℕ) (olds : List (List Effect)) (log : List Effect) → Lineage (node_facts script) (broker b) olds log → olds ≡ [] }
 {}
 
 /// So whatever was sent before, in an earlier call or in the trace, its sender's log keeps, or has given
