@@ -1,10 +1,8 @@
 -- What the top call promises of what was sent, from the laws of acknowledgements and of acts that are spent.
-use Rattle.std.proofs.Common.{◌≡◌, ℕ, List, [], ◌∷◌, ◌++◌, append-nil, map, reverse, refl, sym, ◌∙◌, ap, subst, if◌then◌else◌}
+use Rattle.std.proofs.Common.{◌≡◌, ℕ, List, [], ◌∷◌, ◌++◌, append-nil, map, reverse, sym, ◌∙◌, subst, if◌then◌else◌}
 use Rattle.pseudo_time.specs.Lists.{Has}
 use Rattle.pseudo_time.specs.Nodes.{broker, repository}
-use Rattle.pseudo_time.specs.TimeParts.{TimeParts}
 use Rattle.pseudo_time.specs.declared.nodes.NodeId.{NodeId}
-use Rattle.value_form.specs.declared.values.Value.{Value}
 use Rattle.effect_form.specs.declared.effects.Effect.{Effect}
 use Rattle.effect_form.specs.declared.effects.Effect.TheVariants as effect
 use Rattle.effect_form.specs.declared.outcomes.Outcome.TheVariants as outcome
@@ -20,7 +18,7 @@ use Rattle.world_core.specs.declared.traces.Trace.{Trace}
 use Rattle.world_core.specs.Legal.{base_of, in_plan}
 use Rattle.world_core.specs.Pasts.{OpenedWith, alike, own_reading}
 use Rattle.world_core.specs.Readings.{IsLegal}
-use Rattle.world_core.specs.Walks.{World, sent_by, start_world, walk}
+use Rattle.world_core.specs.Walks.{sent_by, start_world, walk}
 use Rattle.world_core.proofs.OneReading.{own-reading}
 use Rattle.world_core.proofs.SameWorlds.{walk-same}
 use Rattle.world_facts.specs.Acknowledged.{Keeps, SeesAbove}

@@ -1,5 +1,5 @@
 -- One reading for a plan and all plans of the runs among earlier calls.
-use Rattle.std.proofs.Common.{◌≡◌, ℕ, Bool, true, false, List, [], ◌∷◌, ◌++◌, refl, sym, ◌∙◌, ap, subst, reverse, if◌then◌else◌, take}
+use Rattle.std.proofs.Common.{◌≡◌, ℕ, List, [], ◌∷◌, ◌++◌, refl, ◌∙◌, ap, subst, reverse, if◌then◌else◌, take}
 use Rattle.pseudo_time.specs.Lists.{Every, Has}
 use Rattle.pseudo_time.specs.Nodes.{repository, same_node}
 use Rattle.pseudo_time.specs.TimeParts.{TimeParts}
@@ -7,7 +7,6 @@ use Rattle.pseudo_time.proofs.ListLemmas.{every-append, has-left, has-right}
 use Rattle.pseudo_time.specs.declared.nodes.NodeId.{NodeId}
 use Rattle.value_form.specs.declared.acts.ActSpec.{ActSpec}
 use Rattle.effect_form.specs.declared.effects.Effect.{Effect}
-use Rattle.message_form.specs.Posts.{Post}
 use Rattle.stream_port.specs.declared.fates.Asked.{Asked}
 use Rattle.serial_model.specs.Questions.{Tree}
 use Rattle.plan_form.specs.declared.plans.Plan.{Plan}
@@ -25,7 +24,7 @@ use Rattle.world_core.specs.Walks.{World, sent_by}
 use Rattle.world_core.proofs.OneReading.{own-reading}
 use Rattle.world_core.proofs.PlanRangeLemmas.{plan-acts}
 use Rattle.world_core.proofs.SameWorlds.{legal-same, walk-same}
-use Rattle.world_facts.specs.Earlier.{AreEarlier, AreOfLanguage, ComeFrom, Earlier, WereLeftOrRetired, logs_left, replaced, sent_earlier}
+use Rattle.world_facts.specs.Earlier.{AreEarlier, AreOfLanguage, Earlier, WereLeftOrRetired, logs_left, replaced, sent_earlier}
 use Rattle.world_facts.specs.Earlier.Earlier.{Running, Retiring}
 
 acts_of_all : List Earlier → List ActSpec
