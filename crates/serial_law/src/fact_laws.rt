@@ -57,10 +57,9 @@ pub fn one_request_each()
         WasSent (sent_before p) (broker b) to (message.Read x o) → WasSent (sent_before p) (broker b) two (message.Write x u w) → ⊥ }
 {}
 
-/// A read answers what its own attempt wrote last to the object before, where such a write was stored and
-/// no log was retired.
+/// A read answers what its own attempt wrote last to the object before, where such a write was stored.
 pub fn reads_see_own_writes()
-    ensures { (p : Position) → RunsAlone p → (x : TimeParts) (v : Value) (o : ObjectId) (y : TimeParts) (w : Value) →
+    ensures { (p : Position) (x : TimeParts) (v : Value) (o : ObjectId) (y : TimeParts) (w : Value) →
         WasSent (sent_before p) (broker x.stamp.broker) (repository o.repository) (message.Read x o) →
         WasSent (sent_before p) (repository o.repository) (broker x.stamp.broker) (message.Value x v) → StoredBefore (sent_before p) x o y w →
         ((z : TimeParts) (u : Value) → StoredBefore (sent_before p) x o z u → lt y z ≡ false) → v ≡ w }

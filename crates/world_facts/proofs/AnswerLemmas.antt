@@ -1,8 +1,9 @@
 -- Whatever a node sent, its log, or an older one, keeps.
-use Rattle.std.proofs.Common.{◌≡◌, ℕ, ◌≤◌, ◌+◌, length, List, [], ◌∷◌, ◌++◌, map, reverse, sym, ◌∙◌, ap, subst, inl, inr, arith}
+use Rattle.std.proofs.Common.{◌≡◌, ℕ, ◌≤◌, ◌+◌, length, true, List, [], ◌∷◌, ◌++◌, map, reverse, sym, ◌∙◌, ap, subst, Some, ◌⊎◌, inl, inr, arith}
 use Rattle.std.proofs.lemmas.Bool.{true≢false}
 use Rattle.pseudo_time.specs.Lists.{Every, Has}
 use Rattle.pseudo_time.specs.Nodes.{broker}
+use Rattle.pseudo_time.specs.Order.{lt}
 use Rattle.pseudo_time.specs.TimeParts.{TimeParts}
 use Rattle.pseudo_time.specs.declared.decisions.Decision.{Decision}
 use Rattle.pseudo_time.specs.declared.nodes.NodeId.{NodeId}
@@ -18,10 +19,12 @@ use Rattle.message_form.specs.declared.messages.Message.TheVariants as message
 use Rattle.message_form.specs.Posts.{Post}
 use Rattle.object_history.specs.declared.marks.Mark as history
 use Rattle.object_history.specs.declared.marks.Mark.TheVariants as mark
+use Rattle.object_history.specs.History.{floor_of}
 use Rattle.object_history.specs.Views.{Firm, IsOnFloor, Viewed, value_of}
 use Rattle.object_history.proofs.ViewLemmas.{sees-views}
 use Rattle.object_retirement.specs.Chains as chains
-use Rattle.object_retirement.proofs.ChainLemmas.{Stays, chain-given, some-given, stays}
+use Rattle.object_retirement.specs.Older.{Gone}
+use Rattle.object_retirement.proofs.ChainLemmas.{Stays, chain-floor, chain-given, one-side, some-given, stays}
 use Rattle.repository_log.specs.Logs.{is_commit, marks}
 use Rattle.repository_laws.specs.Facts.{WriteSent}
 use Rattle.repository_laws.proofs.Logs.{put-logged}
@@ -65,15 +68,19 @@ module _ (script : List ℕ → Tree) (b : Base) (logs : NodeId → List Effect)
       omega (arith, step)
 
   rests : (r : ℕ) (l : List Effect) → OldOk (node_facts script) (record { ever = ever; logs = last; ticks = f.ticks }) (repository r) l →
-      (o : ObjectId) (x : TimeParts) (v : Value) → Has (effect.Put o x v) l → 1 ≤ x.step
-  rests r l ok o x v h = asked r o x v (each-has _ l (effect.Put o x v) ok.1 h).1
+      (o : ObjectId) (x : TimeParts) (v : Value) → Has (effect.Put o x v) l → WriteSent ever r x o v
+  rests r l ok o x v h = (each-has _ l (effect.Put o x v) ok.1 h).1
 
-  steps : (r : ℕ) (o : ObjectId) (x : TimeParts) (v : Value) → chains.SomeOf (λ m. Has (mark.Put o x v) m) (map marks (last (repository r) ∷ before (repository r))) → 1 ≤ x.step
-  steps r o x v h =
+  -- a version of one of a repository's histories was asked for
+  asked-for : (r : ℕ) (o : ObjectId) (x : TimeParts) (v : Value) → chains.SomeOf (λ m. Has (mark.Put o x v) m) (map marks (last (repository r) ∷ before (repository r))) → WriteSent ever r x o v
+  asked-for r o x v h =
       let k = history-log (λ m. Has (mark.Put o x v) m) (last (repository r) ∷ before (repository r)) h in
       let all : Every (OldOk (node_facts script) (record { ever = ever; logs = last; ticks = f.ticks }) (repository r)) (last (repository r) ∷ before (repository r)) =
       ((f.tidy (repository r), f.proofs (repository r)), f.older (repository r)) in
       rests r k.0 (every-has (OldOk (node_facts script) (record { ever = ever; logs = last; ticks = f.ticks }) (repository r)) (last (repository r) ∷ before (repository r)) k.0 all k.1) o x v (put-logged k.0 o x v k.2)
+
+  steps : (r : ℕ) (o : ObjectId) (x : TimeParts) (v : Value) → chains.SomeOf (λ m. Has (mark.Put o x v) m) (map marks (last (repository r) ∷ before (repository r))) → 1 ≤ x.step
+  steps r o x v h = asked r o x v (asked-for r o x v h)
 
   -- ---- what was stored, and what was viewed
 
@@ -117,6 +124,50 @@ module _ (script : List ℕ → Tree) (b : Base) (logs : NodeId → List Effect)
         go : Stays o t v (map marks gone) (marks now) → ViewedOrBelow now gone o t v
         go (inl s) = inl s.1
         go (inr z) = inr (z.floor, (l, k, w))
+
+    -- ---- what a reader viewed, among its own versions
+
+    -- a history in which the reader viewed this, and that has each of the reader's own versions below it, of whatever log, and none that wasn't asked for
+    pub record ViewedThere (o : ObjectId) (t : TimeParts) (v : Value) : Type 0 where
+      pub there : List history.Mark
+      pub viewed : Viewed there o t v
+      pub own : (y : TimeParts) (w : Value) (l : List Effect) → Has l (now ∷ gone) → Has (effect.Put o y w) l → y.stamp ≡ t.stamp → lt y t ≡ true → Has (mark.Put o y w) there
+      pub wanted : (y : TimeParts) (w : Value) → Has (mark.Put o y w) there → WriteSent ever r y o w
+
+    -- a reader's own version isn't given up below a floor that the reader isn't below
+    own-stays : (m : List history.Mark) (o : ObjectId) (y t : TimeParts) (w : Value) → ((e : TimeParts) → floor_of m ≡ Some e → e.step ≡ 1) → IsOnFloor m t → 1 ≤ y.step → y.stamp ≡ t.stamp →
+        Has (mark.Put o y w) m ⊎ Gone m o y → Has (mark.Put o y w) m
+    own-stays m o y t w one on low same (inl h) = h
+    own-stays m o y t w one on low same (inr g) = absurd (one-side y g.0 t (one g.0 g.1) low g.2 (on g.0 g.1) same)
+
+    stood-once : (o : ObjectId) (y : TimeParts) (w : Value) (l : List Effect) → Has l (now ∷ gone) → Has (effect.Put o y w) l → chains.SomeOf (λ m. Has (mark.Put o y w) m) (map marks (now ∷ gone))
+    stood-once o y w l k h = some-history (λ m. Has (mark.Put o y w) m) (now ∷ gone) l k (put-marked l o y w h)
+
+    here-or-gone : (o : ObjectId) (y : TimeParts) (w : Value) → chains.SomeOf (λ m. Has (mark.Put o y w) m) (map marks (now ∷ gone)) → Has (mark.Put o y w) (marks now) ⊎ Gone (marks now) o y
+    here-or-gone o y w (inl h) = inl h
+    here-or-gone o y w (inr h) = some-given (marks now) o y w (map marks gone) (chain-given (map marks gone) (marks now) chain) h
+
+    pub viewed-there : (o : ObjectId) (t : TimeParts) (v : Value) (l : List Effect) → Has l (now ∷ gone) → IsOnFloor (marks l) t → Viewed (marks l) o t v → ViewedThere o t v
+    viewed-there o t v l k on w = go (stays o t v (map marks gone) (marks now) chain (λ x z h. steps r o x z h) (some-history (λ m. IsOnFloor m t × Viewed m o t v) (now ∷ gone) l k (on, w)))
+      where
+        go : Stays o t v (map marks gone) (marks now) → ViewedThere o t v
+        go (inl s) = record {
+          there = marks now;
+          viewed = s.1;
+          own = λ y z old j h same low. let once = stood-once o y z old j h in
+              own-stays (marks now) o y t z (λ e is. chain-floor (map marks gone) (marks now) chain e is) s.0 (steps r o y z once) same (here-or-gone o y z once);
+          wanted = λ y z h. asked-for r o y z (inl h);
+        }
+        go (inr x) = record {
+          there = x.there;
+          viewed = x.viewed;
+          own = λ y z old j h same low. let once = stood-once o y z old j h in
+              elim (x.below y z once) [
+                | inl g ↦ own-stays x.there o y t z x.steps x.on_floor (steps r o y z once) same g
+                | inr n ↦ absurd (true≢false (sym low ∙ n))
+              ];
+          wanted = λ y z h. asked-for r o y z (x.sub y z h);
+        }
 
   -- ---- all messages
 
