@@ -2,3 +2,4 @@ pub mod ChainLemmas
 pub mod ForwardLemmas
 pub mod OlderLemmas
 pub mod RetiredLemmas
+pub mod StoodLemmas

@@ -2,3 +2,4 @@ pub mod Chains
 pub mod Forward
 pub mod Older
 pub mod Retired
+pub mod Stood

@@ -1,5 +1,5 @@
 // Each law holds for lists of marks, or for logs, newest first.
-ghost use Rattle.std.specs.Prelude.{◌≡◌, ◌⊎◌, Bool, true, false, List, ◌∷◌, Some};
+ghost use Rattle.std.specs.Prelude.{◌≡◌, ◌⊎◌, ◌≤◌, Bool, true, false, List, ◌∷◌, Some};
 ghost use Rattle.pseudo_time.specs.Lists.{Has};
 ghost use Rattle.pseudo_time.specs.declared.decisions.Decision.{Decision};
 ghost use Rattle.pseudo_time.specs.StampParts.{StampParts};
@@ -15,7 +15,8 @@ ghost use Rattle.object_history.specs.History.{settle_of, floor_of, scan};
 ghost use Rattle.object_history.specs.Views.{Distinct, Fits, Firm, views, value_of, Viewed};
 ghost use Rattle.object_retirement.specs.Retired.{retired, MayRetire, NoneOwn, Same};
 ghost use Rattle.object_retirement.specs.Older.{GivenUp};
-ghost use Rattle.object_retirement.specs.Chains.{Chain, AllOf, WasViewed};
+ghost use Rattle.object_retirement.specs.Chains.{Chain, AllOf, SomeOf, WasViewed};
+ghost use Rattle.object_retirement.specs.Stood.{all_stood};
 ghost use Rattle.object_retirement.specs.Forward.{forwarded};
 ghost use Rattle.repository_log.specs.Logs.{marks, record_of};
 
@@ -46,6 +47,14 @@ pub fn answers_last()
     ensures newest { (olds : List (List Mark)) (m all : List Mark) (o : ObjectId) → Chain olds m → AllOf olds m all o → (sure : StampParts → Bool) →
         ((s : StampParts) → settle_of m s ≡ Some false → sure s ≡ false) → ((s : StampParts) → settle_of m s ≡ Some true → sure s ≡ true) →
         Same (scan (λ x. sure x.stamp) o m) (scan (λ x. sure x.stamp) o all) }
+{}
+
+/// The versions of the older histories, each object and start once, with the marks of the last one are all
+/// that ever stood, where no two versions of the object differ in value alone and no step is 0.
+pub fn all_that_stood()
+    ensures { (olds : List (List Mark)) (m : List Mark) (o : ObjectId) → Chain olds m →
+        ((x : TimeParts) (v w : Value) → SomeOf (λ l. Has (mark.Put o x v) l) (m ∷ olds) → SomeOf (λ l. Has (mark.Put o x w) l) (m ∷ olds) → v ≡ w) →
+        ((x : TimeParts) (v : Value) → SomeOf (λ l. Has (mark.Put o x v) l) (m ∷ olds) → 1 ≤ x.step) → AllOf olds m (all_stood olds m) o }
 {}
 
 /// Nothing is put below the floor.
