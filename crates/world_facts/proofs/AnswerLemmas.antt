@@ -16,7 +16,7 @@ use Rattle.effect_form.specs.declared.effects.Effect.{Effect}
 use Rattle.effect_form.specs.declared.effects.Effect.TheVariants as effect
 use Rattle.message_form.specs.declared.messages.Message.{Message}
 use Rattle.message_form.specs.declared.messages.Message.TheVariants as message
-use Rattle.message_form.specs.Posts.{Post}
+use Rattle.message_form.specs.Posts.{Post, WasSent}
 use Rattle.object_history.specs.declared.marks.Mark as history
 use Rattle.object_history.specs.declared.marks.Mark.TheVariants as mark
 use Rattle.object_history.specs.History.{floor_of}
@@ -24,14 +24,19 @@ use Rattle.object_history.specs.Views.{Firm, IsOnFloor, Viewed, value_of}
 use Rattle.object_history.proofs.ViewLemmas.{sees-views}
 use Rattle.object_retirement.specs.Chains as chains
 use Rattle.object_retirement.specs.Older.{Gone}
-use Rattle.object_retirement.proofs.ChainLemmas.{Stays, chain-floor, chain-given, one-side, some-given, stays}
+use Rattle.object_retirement.specs.Stood.{all_stood}
+use Rattle.object_retirement.proofs.StoodLemmas.{all-stood}
+use Rattle.object_retirement.proofs.ChainLemmas.{Stays, chain-floor, chain-given, chain-view, one-side, some-given, stays}
 use Rattle.repository_log.specs.Logs.{is_commit, marks}
 use Rattle.repository_laws.specs.Facts.{WriteSent}
 use Rattle.repository_laws.proofs.Logs.{put-logged}
+use Rattle.script_meaning.specs.Meaning.{ToWrite}
 use Rattle.serial_model.specs.Questions.{Tree}
+use Rattle.broker_core.specs.Book.{book, tries}
+use Rattle.broker_laws.proofs.Found.{one-request}
 use Rattle.world_core.specs.Nodes.{repository}
 use Rattle.world_core.specs.Walks.{Base}
-use Rattle.world_facts.specs.Acknowledged.{Keeps, SeesAbove, SeesStill, StandsOrGone, ViewedOrBelow}
+use Rattle.world_facts.specs.Acknowledged.{Keeps, SeesAbove, SeesOverAll, SeesStill, StandsOrGone, ViewedOrBelow}
 use Rattle.world_facts.specs.NodeRules.{kind_post, node_facts, node_turns}
 use Rattle.world_facts.specs.Refines.{OlderFacts}
 use Rattle.world_facts.specs.Rules.{SomeOf}
@@ -82,6 +87,15 @@ module _ (script : List ℕ → Tree) (b : Base) (logs : NodeId → List Effect)
   steps : (r : ℕ) (o : ObjectId) (x : TimeParts) (v : Value) → chains.SomeOf (λ m. Has (mark.Put o x v) m) (map marks (last (repository r) ∷ before (repository r))) → 1 ≤ x.step
   steps r o x v h = asked r o x v (asked-for r o x v h)
 
+  -- one start of an object has one value, since one pseudotime carries one request
+  one-value : (r : ℕ) (o : ObjectId) (x : TimeParts) (v w : Value) → WriteSent ever r x o v → WriteSent ever r x o w → v ≡ w
+  one-value r o x v w h k =
+      let me : ℕ = x.stamp.broker in
+      let p = broker-post me (before (broker me)) (last (broker me)) (repository r) (message.Write x o v) (f.lineage (broker me)) (every-has _ ever _ f.sent_ok h.0) in
+      let q = broker-post me (before (broker me)) (last (broker me)) (repository r) (message.Write x o w) (f.lineage (broker me)) (every-has _ ever _ f.sent_ok k.0) in
+      let same : ToWrite o v ≡ ToWrite o w = one-request script me (tries (book (last (broker me)))) x (ToWrite o v) (ToWrite o w) p.2 q.2 in
+      cc same
+
   -- ---- what was stored, and what was viewed
 
   module _ (r : ℕ) where
@@ -124,6 +138,21 @@ module _ (script : List ℕ → Tree) (b : Base) (logs : NodeId → List Effect)
         go : Stays o t v (map marks gone) (marks now) → ViewedOrBelow now gone o t v
         go (inl s) = inl s.1
         go (inr z) = inr (z.floor, (l, k, w))
+
+    -- ---- all versions that ever stood
+
+    pub all-of : (o : ObjectId) → chains.AllOf (map marks gone) (marks now) (all_stood (map marks gone) (marks now)) o
+    all-of o = all-stood (map marks gone) (marks now) o chain (λ x v w h k. one-value r o x v w (asked-for r o x v h) (asked-for r o x w k)) (λ x v h. steps r o x v h)
+
+    over-all : (o : ObjectId) (t : TimeParts) (v : Value) (l : List Effect) → Has l (now ∷ gone) → IsOnFloor (marks l) t → Viewed (marks l) o t v → SeesOverAll (map marks gone) (marks now) o t v
+    over-all o t v l k on w =
+        chain-view (map marks gone) (marks now) (all_stood (map marks gone) (marks now)) o t v chain (all-of o) (some-history (λ m. IsOnFloor m t × Viewed m o t v) (now ∷ gone) l k (on, w))
+
+    pub all-read : (to : NodeId) (t : TimeParts) (v : Value) → Has (record { from = repository r; to = to; message = message.Value t v }) ever →
+        (o : ObjectId) × WasSent ever (broker t.stamp.broker) (repository r) (message.Read t o) × SeesOverAll (map marks gone) (marks now) o t v
+    all-read to t v h =
+        let p = some-log (λ l. kind_post script ever Repository r l (record { to = to; message = message.Value t v })) (now ∷ gone) (every-has _ ever (record { from = repository r; to = to; message = message.Value t v }) f.sent_ok h) in
+        (p.2.0, p.2.1.0, over-all p.2.0 t v p.0 p.1 p.2.4 p.2.3)
 
     -- ---- what a reader viewed, among its own versions
 

@@ -15,8 +15,9 @@ use Rattle.message_form.specs.declared.messages.Message.TheVariants as message
 use Rattle.message_form.specs.Posts.{Post, WasSent}
 use Rattle.object_history.specs.declared.marks.Mark.{Mark}
 use Rattle.object_history.specs.History.{alive, floor_of, sees}
-use Rattle.object_history.specs.Views.{Firm, IsOnFloor, Viewed, value_of}
+use Rattle.object_history.specs.Views.{Firm, IsOnFloor, Viewed, value_of, views}
 use Rattle.object_retirement.specs.Older.{Gone}
+use Rattle.object_retirement.specs.Stood.{all_stood}
 use Rattle.repository_log.specs.Logs.{is_commit, marks}
 
 -- P holds of one of the older logs
@@ -53,3 +54,8 @@ SeesStill m o t v = alive m t ≡ true → (value_of (sees m o t) ≡ v) × Firm
 -- the read that was answered was sent, and if it isn't below the floor, what it saw is seen still
 abbrev pub SeesAbove : List Post → NodeId → List Effect → TimeParts → Value → Type 0
 SeesAbove ever from log t v = (o : ObjectId) × WasSent ever (broker t.stamp.broker) from (message.Read t o) × (IsOnFloor (marks log) t → SeesStill (marks log) o t v)
+
+-- over all versions that ever stood in this history and its older ones, a read of the object at t sees this value, of the origin, or of
+-- a version that is committed or the reader's own
+abbrev pub SeesOverAll : List (List Mark) → List Mark → ObjectId → TimeParts → Value → Type 0
+SeesOverAll olds m o t v = (value_of (views (all_stood olds m) o t) ≡ v) × Firm (all_stood olds m) t (views (all_stood olds m) o t)

@@ -11,15 +11,17 @@ ghost use Rattle.world_core.specs.declared.traces.Trace.{Trace};
 ghost use Rattle.world_core.specs.Walks.{walk, sent_by};
 ghost use Rattle.world_core.specs.Legal.{Legal, base_of};
 ghost use Rattle.world_core.specs.Pasts.{AreCalls, Call, HasPast, OpenedWith, alike, logs_after};
-ghost use Rattle.message_form.specs.Posts.{Post};
+ghost use Rattle.message_form.specs.Posts.{Post, WasSent};
+ghost use Rattle.value_form.specs.declared.objects.ObjectId.{ObjectId};
 ghost use Rattle.message_form.specs.declared.messages.Message.TheVariants as message;
 ghost use Rattle.pseudo_time.specs.Nodes.{broker, repository};
-ghost use Rattle.object_retirement.specs.Chains.{Chain};
+ghost use Rattle.object_retirement.specs.Chains.{AllOf, Chain};
 ghost use Rattle.repository_log.specs.Logs.{marks};
 ghost use Rattle.world_facts.specs.Soft.{Lineage};
 ghost use Rattle.pseudo_time.specs.TimeParts.{TimeParts};
 ghost use Rattle.value_form.specs.declared.values.Value.{Value};
-ghost use Rattle.world_facts.specs.Acknowledged.{Keeps, SeesAbove};
+ghost use Rattle.world_facts.specs.Acknowledged.{Keeps, SeesAbove, SeesOverAll};
+ghost use Rattle.object_retirement.specs.Stood.{all_stood};
 ghost use Rattle.world_facts.specs.Earlier.{AreEarlier, AreRuns, ComeFrom, Earlier, TickedBy, logs_left, older, replaced, sent_earlier};
 ghost use Rattle.world_facts.specs.Earlier.Earlier.{Running};
 ghost use Rattle.world_facts.specs.Refines.{LogFacts, LivesOk, OlderFacts, logs_at, past_sent, Ticked};
@@ -91,6 +93,21 @@ pub fn answers_are_kept()
         Has (record { from = repository r; to = to; message = message.Value x v }) (sent_earlier (alike script) past.0 ++ sent_by (walk (base_of script plan t) front)) →
         SeesAbove (sent_earlier (alike script) past.0 ++ sent_by (walk (base_of script plan t) front)) (repository r)
         (reverse (logs_at logs (walk (base_of script plan t) front) (repository r))) x v }
+{}
+
+/// The versions of a repository's logs, older and last, each object and start once, are all that ever
+/// stood; and what a read was answered, in whatever log, is what it sees over all of these.
+pub fn reads_see_all_that_stood()
+    ensures versions { (script : List ℕ → Tree) (plan : Plan) (asked : List Asked) (t : Trace) (logs : NodeId → List Effect) (front rest : List Entry) →
+        (past : ComeFrom (alike script) logs) → OpenedWith t.opened logs → Legal script plan asked t → t.entries ≡ front ++ rest → (r : ℕ) (o : ObjectId) →
+        AllOf (map marks (map reverse (replaced (alike script) past.0 (repository r)))) (marks (reverse (logs_at logs (walk (base_of script plan t) front) (repository r))))
+        (all_stood (map marks (map reverse (replaced (alike script) past.0 (repository r)))) (marks (reverse (logs_at logs (walk (base_of script plan t) front) (repository r))))) o }
+    ensures reads { (script : List ℕ → Tree) (plan : Plan) (asked : List Asked) (t : Trace) (logs : NodeId → List Effect) (front rest : List Entry) →
+        (past : ComeFrom (alike script) logs) → OpenedWith t.opened logs → Legal script plan asked t → t.entries ≡ front ++ rest →
+        (r : ℕ) (to : NodeId) (x : TimeParts) (v : Value) →
+        Has (record { from = repository r; to = to; message = message.Value x v }) (sent_earlier (alike script) past.0 ++ sent_by (walk (base_of script plan t) front)) →
+        (o : ObjectId) × WasSent (sent_earlier (alike script) past.0 ++ sent_by (walk (base_of script plan t) front)) (broker x.stamp.broker) (repository r) (message.Read x o) ×
+        SeesOverAll (map marks (map reverse (replaced (alike script) past.0 (repository r)))) (marks (reverse (logs_at logs (walk (base_of script plan t) front) (repository r)))) o x v }
 {}
 
 /// A log that a retirement replaced is an older log of its node, and runs alone replace none. Runs over
