@@ -57,7 +57,7 @@ ignored-or Ignored = inl refl
 ignored-or (Hears h) = inr (λ e. absurd (cc e))
 ignored-or (Adds x) = inr (λ e. absurd (cc e))
 
-module _ (b : Base) (w : World) (calm : CalmWorld b w) (f : Refines (node_turns b.script) (node_facts b.script) b (λ n. []) [] (λ t. ⊥) w) where
+module _ (b : Base) (w : World) (calm : CalmWorld b w) (f : Refines (node_turns b.script) (node_facts b.script) b (λ n. []) (λ n. []) [] (λ t. ⊥) w) where
   pub node-there : (n : NodeId) → (w.flags n).known ≡ true → NodeOk (node_facts b.script) (around (happened (node_turns b.script) f.events)) n (soft_of (w.life n))
   node-there n known = subst (λ x. NodeOk (node_facts b.script) (around (happened (node_turns b.script) f.events)) n x) (f.models.lives n known)
       ((inv-reached b.script (node_turns b.script) (node_facts b.script) (node-laws b.script) f.events f.may).nodes n)

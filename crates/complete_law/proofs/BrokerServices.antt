@@ -56,7 +56,7 @@ use Rattle.complete_law.proofs.Places.{log_of, gated_of, Heeds, IsBegun, IsDecid
 use Rattle.complete_law.proofs.RequestServices.{AnsweredBy, OpenDecided, accepted, begin-served, commit-served, withdraw-served, write-served}
 use Rattle.world_facts.proofs.Growths.{each-has}
 
-module _ (b : Base) (w : World) (calm : CalmWorld b w) (f : Refines (node_turns b.script) (node_facts b.script) b (λ n. []) [] (λ t. ⊥) w) (n : ℕ) (known-n : (w.flags (repository n)).known ≡ true) (i : ℕ) (o : Out) (stands : standing_in b w i ≡ Some o) (at-n : o.to ≡ repository n)
+module _ (b : Base) (w : World) (calm : CalmWorld b w) (f : Refines (node_turns b.script) (node_facts b.script) b (λ n. []) (λ n. []) [] (λ t. ⊥) w) (n : ℕ) (known-n : (w.flags (repository n)).known ≡ true) (i : ℕ) (o : Out) (stands : standing_in b w i ≡ Some o) (at-n : o.to ≡ repository n)
     (R : TimeParts → ObjectId → NodeId → Type 0) (agree : (t : TimeParts) (o p : ObjectId) (f g : NodeId) → R t o f → R t p g → (o ≡ p) × (f ≡ g)) where
   abbrev old : Hand
   old = hand_at n (log_of w (repository n)) (w.life (repository n)).mind.hands

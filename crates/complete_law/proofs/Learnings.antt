@@ -89,6 +89,8 @@ learned-single r (effect.Put o x v ∷ l) t = learned-single r l t.2
 learned-single r (effect.Stretch o x ∷ l) t = learned-single r l t.1
 learned-single r (effect.Begin s d ∷ l) t = learned-single r l t.1
 learned-single r (effect.Decide s d ∷ l) t = learned-single r l t.2
+learned-single r (effect.Mark at ∷ l) t = learned-single r l t
+learned-single r (effect.Whole ∷ l) t = learned-single r l t
 learned-single r (f ∷ l) t = absurd t
 
 has-learned : (l : List Effect) (s : StampParts) → Has s (learned l) → (c : Bool) × Has (effect.Learn s c) l

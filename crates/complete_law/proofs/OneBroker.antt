@@ -45,7 +45,7 @@ use Rattle.repository_core.specs.Turns as hands
 use Rattle.repository_core.specs.Turns.{hand_at}
 use Rattle.repository_log.specs.Logs.{known, marks}
 use Rattle.repository_laws.specs.Facts as repositories
-use Rattle.repository_laws.proofs.Logs.{put-logged, tidy-floor, tidy-marks, tidy-through}
+use Rattle.repository_laws.proofs.Logs.{put-logged, grown-floor, grown-floors, tidy-through}
 use Rattle.repository_laws.proofs.Turns.{broker-is}
 use Rattle.repository_laws.proofs.HeldLemmas.{filter-has}
 use Rattle.broker_core.specs.Book.{Book, Try, book, find, tries, tries_of}
@@ -69,6 +69,7 @@ use Rattle.world_facts.specs.NodeRules.{kind_post, node_facts, node_turns}
 use Rattle.world_facts.specs.Soft.{NodeOk, around, happened}
 use Rattle.world_facts.proofs.Growths.{numbered-has, each-has, map-has}
 use Rattle.world_facts.proofs.NodeLaws.{node-laws}
+use Rattle.world_facts.proofs.OldChains.{grown-alone, grown-more}
 use Rattle.world_facts.proofs.Openings.{facts-of}
 use Rattle.world_facts.proofs.Steps.{sent-gate}
 use Rattle.complete_law.specs.Calm.{CalmPlace, IsUnstopped, IsRefusal, WasRefused, book_at, log_at, sent_at, world_at}
@@ -91,7 +92,7 @@ NoRefusal w = (r : ℕ) (o : Out) → IsRefusal o.message → (Has o (w.life (re
 abbrev pub OneBroker : World → Type 0
 OneBroker w = (i j : ℕ) → (w.flags (broker i)).known ≡ true → (w.flags (broker j)).known ≡ true → i ≡ j
 
-module _ (b : Base) (w : World) (calm : CalmWorld b w) (f : Refines (node_turns b.script) (node_facts b.script) b (λ n. []) [] (λ t. ⊥) w) (none : NoRefusal w) (one : OneBroker w) where
+module _ (b : Base) (w : World) (calm : CalmWorld b w) (f : Refines (node_turns b.script) (node_facts b.script) b (λ n. []) (λ n. []) [] (λ t. ⊥) w) (none : NoRefusal w) (one : OneBroker w) where
   facts : LogFacts (node_facts b.script) b (logs_at (λ n. []) w) [] (sent_by w) (λ t. ⊥)
   facts = facts-of b.script (node_turns b.script) (node_facts b.script) (node-laws b.script) b (λ n. []) [] (λ t. ⊥) w f
 
@@ -143,6 +144,14 @@ module _ (b : Base) (w : World) (calm : CalmWorld b w) (f : Refines (node_turns 
         let l : Life = w.life (repository n) in
         let ok : NodeOk (node_facts b.script) (around (happened (node_turns b.script) f.events)) (repository n) (soft_of (w.life (repository n))) = node-there b w calm f (repository n) opened in
         subst (repositories.IsTidy n) (sym (reverse-append l.gated l.fresh)) (tidy-through n (reverse l.gated) (reverse l.fresh) ok.grew ok.tidy)
+
+    log-grown : Grew (repositories.FitsLog n) [] log
+    log-grown =
+        let l : Life = w.life (repository n) in
+        let ok : NodeOk (node_facts b.script) (around (happened (node_turns b.script) f.events)) (repository n) (soft_of (w.life (repository n))) = node-there b w calm f (repository n) opened in
+        subst (Grew (repositories.FitsLog n) []) (sym (reverse-append l.gated l.fresh))
+        (grown-more (repositories.FitsLog n) (reverse l.gated) (reverse l.fresh)
+        (subst (Grew (repositories.FitsLog n) []) (durable (repository n) opened) (grown-alone (repositories.FitsLog n) (reverse (logs_at (λ n. []) w (repository n))) (facts.grown (repository n)))) ok.grew)
 
     -- what an effect of the repository rests on
     rests : (x : Effect) → Has x log → (below : List Effect) × (node_facts b.script).Proof (around (happened (node_turns b.script) f.events)) (repository n) below x
@@ -268,7 +277,7 @@ module _ (b : Base) (w : World) (calm : CalmWorld b w) (f : Refines (node_turns 
             let k = later-read (marks log) o x v e h in
             let stretched : Has (mark.Stretch o e) (marks log) = elim k.1 [
               | inl s ↦ s
-              | inr g ↦ absurd (tidy-marks n log e log-tidy g)
+              | inr g ↦ absurd (grown-floors n log e log-grown g)
             ] in
             let read = (rests (effect.Stretch o e) (stretch-logged log o e stretched)).1 in
             elim (below e (ToRead o) (asked e (message.Read e o) (ToRead o) (sent-before _ read.0) (λ j p. p.2) (λ j p. p.2))) [
@@ -311,7 +320,7 @@ module _ (b : Base) (w : World) (calm : CalmWorld b w) (f : Refines (node_turns 
               current (subst (λ z. stop (b.script t.task.script) z ≡ Asks (ToWrite o v)) (sym same) ask.2.4) (ask.2.3 ∙ ap (λ (z : List Answer). length z + 1) (sym same))
 
   no-floor : (n : ℕ) → (w.flags (repository n)).known ≡ true → floor_of (marks (log_of w (repository n))) ≡ None
-  no-floor n opened = tidy-floor n (log_of w (repository n)) (log-tidy n opened)
+  no-floor n opened = grown-floor n (log_of w (repository n)) (log-grown n opened)
 
   -- ---- entries
 
@@ -456,7 +465,7 @@ module _ (b : Base) (w : World) (calm : CalmWorld b w) (f : Refines (node_turns 
 
 -- ---- at a place
 
-one-broker : (b : Base) (w : World) → Refines (node_turns b.script) (node_facts b.script) b (λ n. []) [] (λ t. ⊥) w → ((i : ℕ) → (w.flags (broker i)).known ≡ true → i ≡ 1) → OneBroker w
+one-broker : (b : Base) (w : World) → Refines (node_turns b.script) (node_facts b.script) b (λ n. []) (λ n. []) [] (λ t. ⊥) w → ((i : ℕ) → (w.flags (broker i)).known ≡ true → i ≡ 1) → OneBroker w
 one-broker b w f all i j e q = all i e ∙ sym (all j q)
 
 module _ (p : CalmPlace) (single : p.run.plan.brokers ≡ 1) where

@@ -76,7 +76,7 @@ learned-known kind.Repository x = (refl, refl, refl)
 learned-known kind.Broker x = (refl, refl, refl)
 
 -- what a read waits for has begun at its home, with what isn't gated there
-begun-whole : (b : Base) (w : World) (calm : CalmWorld b w) (f : Refines (node_turns b.script) (node_facts b.script) b (λ n. []) [] (λ t. ⊥) w) (r : ℕ) (s : StampParts) → waits_for s (held_of w r) ≡ true → HasBegun s (log_of w (repository s.home))
+begun-whole : (b : Base) (w : World) (calm : CalmWorld b w) (f : Refines (node_turns b.script) (node_facts b.script) b (λ n. []) (λ n. []) [] (λ t. ⊥) w) (r : ℕ) (s : StampParts) → waits_for s (held_of w r) ≡ true → HasBegun s (log_of w (repository s.home))
 begun-whole b w calm f r s u =
     let e = waits-has s (held_of w r) u in
     let wait : Waits (log_of w (repository r)) e.0 = calm.waits r e.0 e.1 in
@@ -94,7 +94,7 @@ begun-whole b w calm f r s u =
     opened-so true q = refl
     opened-so false q = absurd (false≢true (sym (ap (λ (l : Life). waits_for s l.mind.hands.held) (calm.outside (repository r) q)) ∙ u))
 
-module _ (b : Base) (w : World) (calm : CalmWorld b w) (f : Refines (node_turns b.script) (node_facts b.script) b (λ n. []) [] (λ t. ⊥) w) (n : ℕ) where
+module _ (b : Base) (w : World) (calm : CalmWorld b w) (f : Refines (node_turns b.script) (node_facts b.script) b (λ n. []) (λ n. []) [] (λ t. ⊥) w) (n : ℕ) where
   abbrev old : Hand
   old = hand_at n (log_of w (repository n)) (w.life (repository n)).mind.hands
 

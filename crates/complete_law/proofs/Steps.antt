@@ -41,7 +41,7 @@ module _ (r : CalmRun) where
 
   -- all that the landed laws say of nodes, with what isn't gated yet; no moment is ticked
   abbrev pub Facts-at : World → Type 0
-  Facts-at w = Refines (node_turns r.script) (node_facts r.script) b (λ n. []) [] (λ t. ⊥) w
+  Facts-at w = Refines (node_turns r.script) (node_facts r.script) b (λ n. []) (λ n. []) [] (λ t. ⊥) w
 
   -- ---- the steps
 
@@ -134,7 +134,7 @@ module _ (r : CalmRun) where
   unfolding walk_from Meets
   steps w [] f c quiet rules = c
   steps w (e ∷ es) f c quiet rules =
-      steps (step b w e) es (step-refines r.script (node_turns r.script) (node_facts r.script) (node-laws r.script) b (λ n. []) [] (λ t. ⊥) refl fates w e (quiet-tick e quiet.0) f rules.0)
+      steps (step b w e) es (step-refines r.script (node_turns r.script) (node_facts r.script) (node-laws r.script) b (λ n. []) (λ n. []) [] (λ t. ⊥) refl fates w e (quiet-tick e quiet.0) f rules.0)
       (one-step w e f c quiet.0 rules.0) quiet.1 rules.1
 
   -- what holds at the start, and is kept by each entry of a quiet trace, holds at each place
@@ -143,18 +143,18 @@ module _ (r : CalmRun) where
   unfolding walk_from Meets
   steps-with P one w [] f c p quiet rules = p
   steps-with P one w (e ∷ es) f c p quiet rules =
-      steps-with P one (step b w e) es (step-refines r.script (node_turns r.script) (node_facts r.script) (node-laws r.script) b (λ n. []) [] (λ t. ⊥) refl fates w e (quiet-tick e quiet.0) f rules.0)
+      steps-with P one (step b w e) es (step-refines r.script (node_turns r.script) (node_facts r.script) (node-laws r.script) b (λ n. []) (λ n. []) [] (λ t. ⊥) refl fates w e (quiet-tick e quiet.0) f rules.0)
       (one-step w e f c quiet.0 rules.0) (one w e f c quiet.0 rules.0 p) quiet.1 rules.1
 
   pub facts-steps : (w : World) (es : List Entry) → Facts-at w → Every IsUnstopped es → Meets b fates w es → Facts-at (walk_from b w es)
   unfolding walk_from Meets
   facts-steps w [] f quiet rules = f
   facts-steps w (e ∷ es) f quiet rules =
-      facts-steps (step b w e) es (step-refines r.script (node_turns r.script) (node_facts r.script) (node-laws r.script) b (λ n. []) [] (λ t. ⊥) refl fates w e (quiet-tick e quiet.0) f rules.0) quiet.1 rules.1
+      facts-steps (step b w e) es (step-refines r.script (node_turns r.script) (node_facts r.script) (node-laws r.script) b (λ n. []) (λ n. []) [] (λ t. ⊥) refl fates w e (quiet-tick e quiet.0) f rules.0) quiet.1 rules.1
 
   start-facts : Facts-at (start_world b)
   start-facts =
-      opens r.script (node_turns r.script) (node_facts r.script) (node-laws r.script) b (λ n. []) [] (λ t. ⊥) (λ t. ⊥) (λ t h. h) (left-nothing r.script (node_turns r.script) (node_facts r.script) (node-laws r.script) (past-laws r.script)) (λ n log e. r.empty n log e)
+      opens r.script (node_turns r.script) (node_facts r.script) (node-laws r.script) b (λ n. []) (λ n. []) [] (λ t. ⊥) (λ t. ⊥) (λ t h. h) (left-nothing r.script (node_turns r.script) (node_facts r.script) (node-laws r.script) (past-laws r.script)) (λ n log e. r.empty n log e)
       (ready-start r.script (node_turns r.script) (node_facts r.script) (node-laws r.script) (past-laws r.script) b refl r.legal.ready)
 
 -- what always holds, holds at each calm place

@@ -1,7 +1,7 @@
 -- What a reader was answered once is what it sees over all versions that ever were.
-use Rattle.std.proofs.Common.{◌≡◌, ◌≢◌, ℕ, ◌≤◌, ◌<◌, nat_lt, Bool, true, false, List, [], ◌∷◌, ◌++◌, refl, sym, ◌∙◌, ap, subst, Option, Some, None, ◌⊎◌, inl, inr, arith}
+use Rattle.std.proofs.Common.{◌≡◌, ◌≢◌, ℕ, ◌≤◌, nat_lt, Bool, true, false, List, [], ◌∷◌, ◌++◌, refl, sym, ◌∙◌, ap, subst, Option, Some, None, ◌⊎◌, inl, inr, arith}
 use Rattle.std.proofs.lemmas.Bool.Decides.{nat_tests}
-use Rattle.std.proofs.lemmas.Bool.{false≢true, true≢false}
+use Rattle.std.proofs.lemmas.Bool.{true≢false}
 use Rattle.pseudo_time.specs.StampParts.{StampParts}
 use Rattle.pseudo_time.specs.TimeParts.{TimeParts}
 use Rattle.pseudo_time.specs.Lists.{Has}
@@ -11,9 +11,9 @@ use Rattle.value_form.specs.declared.objects.ObjectId.{ObjectId}
 use Rattle.value_form.specs.declared.values.Value.{Value}
 use Rattle.object_history.specs.declared.marks.Mark.{Mark}
 use Rattle.object_history.specs.declared.marks.Mark.TheVariants.{Put, Stretch, Settle, Floor}
-use Rattle.object_history.specs.History.{Seen, settle_of, scan, newest, floor_of, latest, read_to, reach}
+use Rattle.object_history.specs.History.{Seen, settle_of, scan, newest, floor_of, read_to}
 use Rattle.object_history.specs.Views.{Starts, Distinct, Fits, IsOnFloor, Firm, views, value_of, Viewed}
-use Rattle.object_retirement.specs.Retired.{retired, MayRetire, Same, NoneOwn}
+use Rattle.object_retirement.specs.Retired.{retired, MayRetire, Same}
 use Rattle.object_retirement.specs.Older.{Gone, GivenUp}
 use Rattle.object_retirement.specs.Chains.{Grows, Follows_on, Chain, SomeOf, WasViewed, AllOf}
 use Rattle.object_history.proofs.Words.{Ends, Passes, AtMost}
@@ -22,8 +22,8 @@ use Rattle.object_history.proofs.StableLemmas.{put-says, scan-passes}
 use Rattle.object_history.proofs.ViewLemmas.{viewed-kept, top-all}
 use Rattle.object_history.proofs.ScanLemmas.{Standing, standing, stands-has, distinct-kept, settled-kept}
 use Rattle.object_history.proofs.ReachLemmas.{ends-floor}
-use Rattle.object_retirement.proofs.RetiredLemmas.{starts-has, same-found, settle-kept, floor-kept, sub-kept, distinct-retired, viewed-retired, same-values, same-firm}
-use Rattle.object_retirement.proofs.OlderLemmas.{put-of, given-up, given-up-fits, given-up-again, floor-stays, Follows, older-view}
+use Rattle.object_retirement.proofs.RetiredLemmas.{starts-has, same-found, settle-kept, floor-kept, sub-kept, distinct-retired, viewed-retired, same-values}
+use Rattle.object_retirement.proofs.OlderLemmas.{put-of, given-up-fits, given-up-again, floor-stays, Follows, older-view}
 
 -- ---- growth
 
@@ -48,7 +48,7 @@ given-grown m [] old g h = h
 given-grown m (f ∷ fresh) old g h = given-up-fits (fresh ++ m) old f g.1 (given-grown m fresh old g.0 h)
 
 -- what is put isn't below the floor
-put-on-floor : (m : List Mark) (o : ObjectId) (x : TimeParts) (v : Value) → Fits m (Put o x v) → (e : TimeParts) → floor_of m ≡ Some e → lt x e ≡ false
+pub put-on-floor : (m : List Mark) (o : ObjectId) (x : TimeParts) (v : Value) → Fits m (Put o x v) → (e : TimeParts) → floor_of m ≡ Some e → lt x e ≡ false
 put-on-floor m o x v fits e is =
     let ends : Ends (floor_of m) x = ends-floor (floor_of m) (read_to m o (newest m o)) x (put-says m o x v fits.1).1 in
     subst (λ f. Ends f x) is ends
@@ -157,7 +157,7 @@ starts-from P o (Floor x ∷ m) h = starts-from P o m (λ y w j. h y w (inr j))
 not-below : (x e t : TimeParts) → lt t e ≡ true → lt x e ≡ false → lt x t ≡ false
 not-below x e t l h = not-false (lt x t) (λ k. true≢false (sym (lt-trans x t e k l) ∙ h))
 
-some-given : (m : List Mark) (o : ObjectId) (x : TimeParts) (w : Value) (ls : List (List Mark)) → Every_old (GivenUp m) ls → SomeOf (λ l. Has (Put o x w) l) ls → Has (Put o x w) m ⊎ Gone m o x
+pub some-given : (m : List Mark) (o : ObjectId) (x : TimeParts) (w : Value) (ls : List (List Mark)) → Every_old (GivenUp m) ls → SomeOf (λ l. Has (Put o x w) l) ls → Has (Put o x w) m ⊎ Gone m o x
 some-given m o x w [] all j = absurd j
 some-given m o x w (l ∷ ls) all (inl j) = all.0 o x w j
 some-given m o x w (l ∷ ls) all (inr j) = some-given m o x w ls all.1 j

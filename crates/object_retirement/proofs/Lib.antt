@@ -1,3 +1,5 @@
 pub mod ChainLemmas
+pub mod ForwardLemmas
 pub mod OlderLemmas
 pub mod RetiredLemmas
+pub mod StoodLemmas

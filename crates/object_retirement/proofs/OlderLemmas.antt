@@ -1,27 +1,27 @@
 -- What was given up hides nothing that a reader at or above the floor views.
-use Rattle.std.proofs.Common.{◌≡◌, ◌≢◌, ℕ, Bool, true, false, List, [], ◌∷◌, refl, sym, ◌∙◌, ap, subst, Option, Some, None, ◌&&◌, ◌||◌, not, if◌then◌else◌, ◌⊎◌, inl, inr}
-use Rattle.std.proofs.lemmas.Bool.{false≢true, true≢false}
+use Rattle.std.proofs.Common.{◌≡◌, ◌≢◌, Bool, true, false, List, [], ◌∷◌, refl, sym, ◌∙◌, ap, subst, Option, Some, None, ◌&&◌, ◌||◌, not, ◌⊎◌, inl, inr}
+use Rattle.std.proofs.lemmas.Bool.{true≢false}
 use Rattle.pseudo_time.specs.StampParts.{StampParts}
 use Rattle.pseudo_time.specs.TimeParts.{TimeParts}
 use Rattle.pseudo_time.specs.Lists.{Has}
 use Rattle.pseudo_time.specs.Order.{same_stamp, lt}
-use Rattle.pseudo_time.proofs.OrderLemmas.{same_stamp-is, same_stamp-of, lt-trans, lt-split, lt-fall, lt-total, lt-irreflexive}
+use Rattle.pseudo_time.proofs.OrderLemmas.{same_stamp-is, same_stamp-of, lt-trans, lt-split, lt-total}
 use Rattle.value_form.specs.declared.objects.ObjectId.{ObjectId}
 use Rattle.value_form.specs.declared.values.Value.{Value}
 use Rattle.object_history.specs.declared.marks.Mark.{Mark}
 use Rattle.object_history.specs.declared.marks.Mark.TheVariants.{Put, Stretch, Settle, Floor}
 use Rattle.object_history.specs.History.{Seen, settle_of, is_alive, is_committed, alive, scan, place_of, same_place, version_count, floor_of}
 use Rattle.object_history.specs.Views.{Starts, HasPut, IsVersion, Distinct, Fits, Firm, shows, views}
-use Rattle.object_retirement.specs.Retired.{last_firm, stays_put, kept, retired, MayRetire, Same, NoneOwn}
+use Rattle.object_retirement.specs.Retired.{last_firm, retired, MayRetire, Same}
 use Rattle.object_retirement.specs.Older.{Gone, GivenUp}
 use Rattle.object_history.proofs.Words.{Passes, AtMost}
-use Rattle.object_history.proofs.BoolLemmas.{and-both, and-left, and-right, not-false}
-use Rattle.object_history.proofs.ObjectLemmas.{eq-from, eqb-yes}
+use Rattle.object_history.proofs.BoolLemmas.{and-both, and-left, and-right}
+use Rattle.object_history.proofs.ObjectLemmas.{eqb-yes}
 use Rattle.object_history.proofs.TestLemmas.{two-tests}
-use Rattle.object_history.proofs.StableLemmas.{scan-passes, starts-all, meets}
+use Rattle.object_history.proofs.StableLemmas.{scan-passes, starts-all}
 use Rattle.object_history.proofs.ViewLemmas.{top-all, has-map}
-use Rattle.object_history.proofs.ScanLemmas.{Standing, standing, same-scan, stands-starts, stands-has, one-version, settled-kept}
-use Rattle.object_retirement.proofs.RetiredLemmas.{starts-has, same-found, settle-kept, floor-kept, sub-kept, stands-kept}
+use Rattle.object_history.proofs.ScanLemmas.{Standing, standing, stands-has, one-version, settled-kept}
+use Rattle.object_retirement.proofs.RetiredLemmas.{starts-has, same-found, settle-kept, floor-kept, stands-kept}
 use Rattle.object_history.proofs.AnswerLemmas.{committed}
 
 has-stands : (o : ObjectId) (m : List Mark) (x : TimeParts) (v : Value) → Has (Put o x v) m → (q : Seen) × IsVersion o m q × (q.start ≡ x) × (q.value ≡ v)

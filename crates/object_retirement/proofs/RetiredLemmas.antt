@@ -11,14 +11,14 @@ use Rattle.value_form.specs.declared.values.Value.{Value}
 use Rattle.object_history.specs.declared.marks.Mark.{Mark}
 use Rattle.object_history.specs.declared.marks.Mark.TheVariants.{Put, Stretch, Settle, Floor}
 use Rattle.object_history.specs.Objects.{same_object}
-use Rattle.object_history.specs.History.{Seen, or_else, settle_of, is_alive, is_committed, alive, version_count, scan, sees, place_of, same_place, top, stretched, floor_of, latest, read_to, reach}
+use Rattle.object_history.specs.History.{Seen, or_else, settle_of, is_alive, is_committed, alive, version_count, scan, sees, place_of, same_place, top, stretched, floor_of, read_to, reach}
 use Rattle.object_history.specs.Views.{Starts, HasPut, IsVersion, Distinct, shows, views, Covers, Firm, Shut, value_of, Viewed}
 use Rattle.object_retirement.specs.Retired.{last_firm, stays_put, kept, retired, MayRetire, Same, NoneOwn}
 use Rattle.object_history.proofs.Words.{Passes, AtMost}
 use Rattle.object_history.proofs.BoolLemmas.{and-both, and-left, and-right, not-false}
-use Rattle.object_history.proofs.ObjectLemmas.{same_object-is, same_object-of, eq-from, eqb-yes}
+use Rattle.object_history.proofs.ObjectLemmas.{eq-from, eqb-yes}
 use Rattle.object_history.proofs.TestLemmas.{two-tests}
-use Rattle.object_history.proofs.StableLemmas.{starts-map, starts-all, scan-passes}
+use Rattle.object_history.proofs.StableLemmas.{starts-all, scan-passes}
 use Rattle.object_history.proofs.ViewLemmas.{top-all, has-map, covers-which, covers-either, covers-first, covers-rest, covers-floor, covers-read, covers-top}
 use Rattle.object_history.proofs.ScanLemmas.{Standing, standing, same-scan, stands-starts, stands-has, one-version}
 use Rattle.object_history.proofs.ReachLemmas.{one-place}
@@ -146,7 +146,7 @@ starts-if : (P : TimeParts → Type 0) (o : ObjectId) (b : Bool) (f : Mark) (k :
 starts-if P o true f k h i = h
 starts-if P o false f k h i = i
 
-starts-kept : (P : TimeParts → Type 0) (o : ObjectId) (all : List Mark) (at : TimeParts) (m : List Mark) → Starts P o m → Starts P o (kept all at m)
+pub starts-kept : (P : TimeParts → Type 0) (o : ObjectId) (all : List Mark) (at : TimeParts) (m : List Mark) → Starts P o m → Starts P o (kept all at m)
 unfolding kept
 starts-kept P o all at [] h = tt
 starts-kept P o all at (Put a x v ∷ m) h =

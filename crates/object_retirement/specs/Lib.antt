@@ -1,3 +1,5 @@
 pub mod Chains
+pub mod Forward
 pub mod Older
 pub mod Retired
+pub mod Stood

@@ -42,7 +42,7 @@ use Rattle.repository_core.specs.Rows.{accepts, ask_as, begin_as, close_as, hold
 use Rattle.repository_core.specs.Turns.{hand_at}
 use Rattle.repository_laws.specs.AnyLogs.{Refuses, RefusesRightly}
 use Rattle.repository_laws.specs.Facts.{ReadSent, WriteSent, HeldHolds}
-use Rattle.repository_laws.proofs.Posts.{later-stays, later-more, held-more}
+use Rattle.repository_laws.proofs.Posts.{later-stays, later-more}
 use Rattle.repository_laws.proofs.Turns.{broker-is, once-now, sent-by}
 
 -- ---- a refusal stays true

@@ -16,7 +16,7 @@ use Rattle.object_history.specs.declared.steps.ReadStep.TheVariants as read
 use Rattle.object_history.specs.History.{or_else, settle_of, floor_of}
 use Rattle.object_history.specs.Answers.{read_step}
 use Rattle.object_history.proofs.AnswerLemmas.{read-below}
-use Rattle.object_history.specs.Views.{Distinct, Viewed}
+use Rattle.object_history.specs.Views.{Distinct, IsOnFloor, Viewed}
 use Rattle.pseudo_time.proofs.OrderLemmas.{same_stamp-is, same_stamp-of}
 use Rattle.pseudo_time.specs.Lists.{Has}
 use Rattle.pseudo_time.specs.Order.{same_stamp}
@@ -51,6 +51,8 @@ tidy-tail r (Stretch o x) l t = t.1
 tidy-tail r (Begin s d) l t = t.1
 tidy-tail r (Decide s d) l t = t.2
 tidy-tail r (Learn s c) l t = t.2
+tidy-tail r (Mark at) l t = t
+tidy-tail r Whole l t = t
 tidy-tail r f l t = absurd t
 
 -- where an effect belongs
@@ -66,8 +68,8 @@ Homed r (Try i s) = ⊥
 Homed r (Got k v) = ⊥
 Homed r (Acked k) = ⊥
 Homed r (End i e) = ⊥
-Homed r (Mark at) = ⊥
-Homed r Whole = ⊥
+Homed r (Mark at) = Unit {0}
+Homed r Whole = Unit {0}
 
 homed-head : (r : ℕ) (f : Effect) (l : List Effect) → IsTidy r (f ∷ l) → Homed r f
 homed-head r (Put o x v) l t = t.0
@@ -75,6 +77,8 @@ homed-head r (Stretch o x) l t = t.0
 homed-head r (Begin s d) l t = t.0
 homed-head r (Decide s d) l t = t.0
 homed-head r (Learn s c) l t = t.0
+homed-head r (Mark at) l t = tt
+homed-head r Whole l t = tt
 homed-head r f l t = absurd t
 
 homed : (r : ℕ) (f : Effect) (l : List Effect) → IsTidy r l → Has f l → Homed r f
@@ -91,9 +95,6 @@ decide-home r l s d t h = homed r (Decide s d) l t h
 pub learn-home : (r : ℕ) (l : List Effect) (s : StampParts) (c : Bool) → IsTidy r l → Has (Learn s c) l → s.home ≢ r
 learn-home r l s c t h = homed r (Learn s c) l t h
 
-pub no-mark : (r : ℕ) (l : List Effect) (at : TimeParts) → IsTidy r l → Has (Mark at) l → ⊥
-no-mark r l at t h = homed r (Mark at) l t h
-
 -- 4.4
 pub tidy-kept : (r : ℕ) (l : List Effect) (f : Effect) → FitsLog r l f → IsTidy r l → IsTidy r (f ∷ l)
 tidy-kept r l (Put o x v) k t = (k.0, new-start (marks l) o x v k.1, t)
@@ -106,39 +107,61 @@ tidy-kept r l f k t = absurd k
 pub tidy-through : (r : ℕ) (l added : List Effect) → Grew (FitsLog r) l added → IsTidy r l → IsTidy r (added ++ l)
 tidy-through r l added g t = grew_keeps (FitsLog r) (λ k. IsTidy r k) (λ k f u fit. tidy-kept r k f fit u) l added g t
 
--- no turn adds a Mark, so there is no floor
-pub tidy-floor : (r : ℕ) (l : List Effect) → IsTidy r l → floor_of (marks l) ≡ None
+-- no turn adds a Mark, so the floor stays
+floor-log : (r : ℕ) (l : List Effect) (f : Effect) → FitsLog r l f → floor_of (marks (f ∷ l)) ≡ floor_of (marks l)
 unfolding floor_of
-tidy-floor r [] t = refl
-tidy-floor r (Put o x v ∷ l) t = tidy-floor r l t.2
-tidy-floor r (Stretch o x ∷ l) t = tidy-floor r l t.1
-tidy-floor r (Begin s d ∷ l) t = tidy-floor r l t.1
-tidy-floor r (Decide s d ∷ l) t = tidy-floor r l t.2
-tidy-floor r (Learn s c ∷ l) t = tidy-floor r l t.2
-tidy-floor r (f ∷ l) t = absurd t
+floor-log r l (Put o x v) k = refl
+floor-log r l (Stretch o x) k = refl
+floor-log r l (Begin s d) k = refl
+floor-log r l (Decide s d) k = refl
+floor-log r l (Learn s c) k = refl
+floor-log r l f k = absurd k
 
--- and no Floor among its marks
-pub tidy-marks : (r : ℕ) (l : List Effect) (e : TimeParts) → IsTidy r l → Has (mark.Floor e) (marks l) → ⊥
-tidy-marks r [] e t h = h
-tidy-marks r (Put o x v ∷ l) e t (inl q) = absurd (cc q)
-tidy-marks r (Put o x v ∷ l) e t (inr h) = tidy-marks r l e t.2 h
-tidy-marks r (Stretch o x ∷ l) e t (inl q) = absurd (cc q)
-tidy-marks r (Stretch o x ∷ l) e t (inr h) = tidy-marks r l e t.1 h
-tidy-marks r (Begin s d ∷ l) e t h = tidy-marks r l e t.1 h
-tidy-marks r (Decide s d ∷ l) e t (inl q) = absurd (cc q)
-tidy-marks r (Decide s d ∷ l) e t (inr h) = tidy-marks r l e t.2 h
-tidy-marks r (Learn s c ∷ l) e t (inl q) = absurd (cc q)
-tidy-marks r (Learn s c ∷ l) e t (inr h) = tidy-marks r l e t.2 h
-tidy-marks r (f ∷ l) e t h = absurd t
+pub floor-through : (r : ℕ) (l added : List Effect) → Grew (FitsLog r) l added → floor_of (marks (added ++ l)) ≡ floor_of (marks l)
+floor-through r l [] g = refl
+floor-through r l (f ∷ added) g = floor-log r (added ++ l) f g.1 ∙ floor-through r l added g.0
+
+pub on-floor-log : (r : ℕ) (l : List Effect) (f : Effect) (t : TimeParts) → FitsLog r l f → IsOnFloor (marks l) t → IsOnFloor (marks (f ∷ l)) t
+on-floor-log r l f t k h e is = h e (sym (floor-log r l f k) ∙ is)
+
+-- and a log that grew from an empty one has none
+pub grown-marks : (r : ℕ) (l : List Effect) (at : TimeParts) → Grew (FitsLog r) [] l → Has (Mark at) l → ⊥
+grown-marks r [] at g h = h
+grown-marks r (f ∷ l) at g (inr h) = grown-marks r l at g.0 h
+grown-marks r (Mark x ∷ l) at g (inl e) = absurd g.1
+grown-marks r (f ∷ l) at g (inl e) = absurd (cc e)
+
+pub grown-floor : (r : ℕ) (l : List Effect) → Grew (FitsLog r) [] l → floor_of (marks l) ≡ None
+unfolding floor_of
+grown-floor r [] g = refl
+grown-floor r (Put o x v ∷ l) g = grown-floor r l g.0
+grown-floor r (Stretch o x ∷ l) g = grown-floor r l g.0
+grown-floor r (Begin s d ∷ l) g = grown-floor r l g.0
+grown-floor r (Decide s d ∷ l) g = grown-floor r l g.0
+grown-floor r (Learn s c ∷ l) g = grown-floor r l g.0
+grown-floor r (f ∷ l) g = absurd g.1
+
+pub grown-floors : (r : ℕ) (l : List Effect) (e : TimeParts) → Grew (FitsLog r) [] l → Has (mark.Floor e) (marks l) → ⊥
+grown-floors r [] e g h = h
+grown-floors r (Put o x v ∷ l) e g (inl q) = absurd (cc q)
+grown-floors r (Put o x v ∷ l) e g (inr h) = grown-floors r l e g.0 h
+grown-floors r (Stretch o x ∷ l) e g (inl q) = absurd (cc q)
+grown-floors r (Stretch o x ∷ l) e g (inr h) = grown-floors r l e g.0 h
+grown-floors r (Begin s d ∷ l) e g h = grown-floors r l e g.0 h
+grown-floors r (Decide s d ∷ l) e g (inl q) = absurd (cc q)
+grown-floors r (Decide s d ∷ l) e g (inr h) = grown-floors r l e g.0 h
+grown-floors r (Learn s c ∷ l) e g (inl q) = absurd (cc q)
+grown-floors r (Learn s c ∷ l) e g (inr h) = grown-floors r l e g.0 h
+grown-floors r (f ∷ l) e g h = absurd g.1
 
 -- so no read of it was refused
-pub tidy-reads : (r : ℕ) (l : List Effect) (o : ObjectId) (t e : TimeParts) → IsTidy r l → read_step (marks l) o t ≡ read.LaterRead e → ⊥
-tidy-reads r l o t e tidy h = tidy-marks r l e tidy (read-below (marks l) o t e h).1
+grown-reads : (r : ℕ) (l : List Effect) (o : ObjectId) (t e : TimeParts) → Grew (FitsLog r) [] l → read_step (marks l) o t ≡ read.LaterRead e → ⊥
+grown-reads r l o t e g h = grown-floors r l e g (read-below (marks l) o t e h).1
 
-pub tidy-once : (r : ℕ) (l : List Effect) (o : ObjectId) (t e : TimeParts) → IsTidy r l → Once (λ k. read_step (marks k) o t ≡ read.LaterRead e) l → ⊥
-tidy-once r [] o t e tidy h = tidy-reads r [] o t e tidy h
-tidy-once r (f ∷ l) o t e tidy (inl h) = tidy-reads r (f ∷ l) o t e tidy h
-tidy-once r (f ∷ l) o t e tidy (inr h) = tidy-once r l o t e (tidy-tail r f l tidy) h
+pub grown-once : (r : ℕ) (l : List Effect) (o : ObjectId) (t e : TimeParts) → Grew (FitsLog r) [] l → Once (λ k. read_step (marks k) o t ≡ read.LaterRead e) l → ⊥
+grown-once r [] o t e g h = grown-reads r [] o t e g h
+grown-once r (f ∷ l) o t e g (inl h) = grown-reads r (f ∷ l) o t e g h
+grown-once r (f ∷ l) o t e g (inr h) = grown-once r l o t e g.0 h
 
 pub tidy-distinct : (r : ℕ) (l : List Effect) → IsTidy r l → Distinct (marks l)
 tidy-distinct r [] t = tt

@@ -10,7 +10,7 @@ use Rattle.message_form.specs.Posts.{Post}
 use Rattle.pseudo_time.specs.TimeParts.{TimeParts}
 use Rattle.value_form.specs.declared.objects.ObjectId.{ObjectId}
 use Rattle.repository_core.specs.declared.waits.HeldRead.{HeldRead}
-use Rattle.repository_laws.proofs.Logs.{settled-log, viewed-log}
+use Rattle.repository_laws.proofs.Logs.{settled-log, viewed-log, on-floor-log}
 use Rattle.pseudo_time.proofs.ListLemmas.{has-left}
 use Rattle.pseudo_time.specs.Lists.{Has}
 use Rattle.repository_laws.specs.Facts.{FitsLog, RestsOn, HeldHolds, WasReadLater, PostHolds}
@@ -28,7 +28,7 @@ later-more ever more r l o t e (inr p) = inr (p.0, (has-left ever more _ p.1.0, 
 -- one more fitting effect
 pub post-stays : (ever : List Post) (r : ℕ) (l : List Effect) (f : Effect) (to : NodeId) (m : Message) → FitsLog r l f → PostHolds ever r l to m → PostHolds ever r (f ∷ l) to m
 post-stays ever r l f to (message.Begun s) k p = (p.0, inr p.1)
-post-stays ever r l f to (message.Value t v) k p = (p.0, p.1, p.2, viewed-log r l f p.0 t v k p.3)
+post-stays ever r l f to (message.Value t v) k p = (p.0, p.1, p.2, viewed-log r l f p.0 t v k p.3, on-floor-log r l f t k p.4)
 post-stays ever r l f to (message.Stored t) k p = (p.0, p.1, p.2, inr p.3)
 post-stays ever r l f to (message.LaterRead t e) k p = (p.0, p.1, later-stays ever r l f p.0 t e p.2)
 post-stays ever r l f to (message.LaterVersion t x) k p = (p.0, p.1, p.2, p.3, inr p.4)
@@ -46,7 +46,7 @@ post-stays-through ever r l added to m g p = grew_keeps (FitsLog r) (λ k. PostH
 -- more messages
 pub post-more : (ever more : List Post) (r : ℕ) (l : List Effect) (to : NodeId) (m : Message) → PostHolds ever r l to m → PostHolds (ever ++ more) r l to m
 post-more ever more r l to (message.Begun s) p = p
-post-more ever more r l to (message.Value t v) p = (p.0, (has-left ever more _ p.1.0, p.1.1), p.2, p.3)
+post-more ever more r l to (message.Value t v) p = (p.0, (has-left ever more _ p.1.0, p.1.1), p.2, p.3, p.4)
 post-more ever more r l to (message.Stored t) p = (p.0, p.1, (has-left ever more _ p.2.0, p.2.1), p.3)
 post-more ever more r l to (message.LaterRead t e) p = (p.0, p.1, later-more ever more r l p.0 t e p.2)
 post-more ever more r l to (message.LaterVersion t x) p = (p.0, p.1, (has-left ever more _ p.2.0, p.2.1), p.3, p.4)

@@ -24,9 +24,9 @@ use Rattle.object_history.specs.declared.steps.WriteStep.{WriteStep}
 use Rattle.object_history.specs.declared.steps.WriteStep.TheVariants as write
 use Rattle.repository_core.specs.declared.waits.HeldRead.{HeldRead}
 use Rattle.repository_core.specs.declared.waits.Asker.{Asker}
-use Rattle.repository_laws.proofs.Logs.{unknown-begun, decided-stands, tidy-through, begin-home, decide-settles, put-logged}
+use Rattle.repository_laws.proofs.Logs.{unknown-begun, decided-stands, tidy-through, begin-home, decide-settles, on-floor-log, put-logged}
 use Rattle.repository_laws.proofs.Posts.{post-stays}
-use Rattle.object_history.proofs.AnswerLemmas.{put-stands, again-stands, answer-viewed, read-below, later-read, later-version}
+use Rattle.object_history.proofs.AnswerLemmas.{put-stands, again-stands, answer-viewed, answer-on-floor, read-below, later-read, later-version}
 use Rattle.object_history.proofs.BoolLemmas.{and-left, and-right}
 use Rattle.object_history.proofs.ObjectLemmas.{eq-from}
 use Rattle.object_history.specs.Answers.{read_step, stands_written, write_step}
@@ -121,10 +121,10 @@ module _ (ever : List Post) (homes : ℕ → List Effect) (ticks : List ℕ) (r 
       read_step (marks (now h)) o t ≡ s → settle_of (marks (now h)) t.stamp ≢ Some false →
       ReadSent ever r t o → from ≡ broker t.stamp.broker → Fine h → Fine (read_as before h from t o s)
   read-as-ok before h from t o (Answer v true) e alive sent own ok =
-      send-ok (note (effect.Stretch o t) h) from (message.Value t v) (o, sent, own, answer-viewed (marks (now h)) o t v true alive e)
+      send-ok (note (effect.Stretch o t) h) from (message.Value t v) (o, sent, own, answer-viewed (marks (now h)) o t v true alive e, on-floor-log r (now h) (effect.Stretch o t) t sent.1 (answer-on-floor (marks (now h)) o t v true e))
       (note-ok h (effect.Stretch o t) sent.1 sent ok)
   read-as-ok before h from t o (Answer v false) e alive sent own ok =
-      send-ok h from (message.Value t v) (o, sent, own, answer-viewed (marks (now h)) o t v false alive e) ok
+      send-ok h from (message.Value t v) (o, sent, own, answer-viewed (marks (now h)) o t v false alive e, answer-on-floor (marks (now h)) o t v false e) ok
   read-as-ok before h from t o (Wait w) e alive sent own ok =
       let x : HeldRead = record { from = from; object = o; waits = w } in
       let k : Fine (hold t x h) = held-ok h (insert_entry time_cmp h.held t x) (every-put (HeldHolds ever r) t x h.held (sent, own) ok.held) ok in
@@ -324,7 +324,7 @@ module _ (ever : List Post) (homes : ℕ → List Effect) (ticks : List ℕ) (r 
   row-ok h from (message.Ask s) g came here ok = on-ask-ok h from s (here-is h s.home (is_repository from.kind) ok g) ok
   row-ok h from (message.Tell s c) g came here ok =
       on-learn-ok h s c here
-      (subst (λ n. IsBacked ever homes n.kind n.number (repository r) (message.Tell s c)) (repository-is s.home from g) came.1) ok
+      (subst (λ n. IsBacked homes n.kind n.number (message.Tell s c)) (repository-is s.home from g) came.1) ok
   row-ok h from m g came here ok = absurd (false≢true g)
 
   take-if : (b : Bool) (h : Hand) (from : NodeId) (m : Message) → accepts h.number from m ≡ b → HasCome ever homes r from m → homes r ≡ gated → Fine h →

@@ -4,23 +4,22 @@ use Rattle.pseudo_time.specs.Lists.{Every, Has}
 use Rattle.pseudo_time.specs.StampParts.{StampParts}
 use Rattle.pseudo_time.specs.declared.nodes.NodeId.{NodeId}
 use Rattle.pseudo_time.specs.declared.nodes.NodeKind.{NodeKind}
-use Rattle.pseudo_time.specs.declared.nodes.NodeKind.TheVariants.{Repository, Broker}
+use Rattle.pseudo_time.specs.declared.nodes.NodeKind.TheVariants.{Repository}
 use Rattle.pseudo_time.proofs.ListLemmas.{has-right}
 use Rattle.effect_form.specs.declared.effects.Effect.{Effect}
 use Rattle.effect_form.specs.declared.effects.Effect.TheVariants as effect
 use Rattle.message_form.specs.declared.messages.Message.{Message}
+use Rattle.message_form.specs.declared.messages.Message.TheVariants as message
 use Rattle.message_form.specs.Growth.{Grew}
 use Rattle.message_form.specs.Posts.{Post}
 use Rattle.object_history.proofs.ObjectLemmas.{eq-from, eqb-yes}
 use Rattle.repository_core.specs.Hands.{Hand, Mind}
-use Rattle.pseudo_time.specs.Nodes.{repository}
 use Rattle.repository_core.specs.Rows.{on_message, on_learn}
 use Rattle.repository_core.specs.Hearing.{on_moment}
 use Rattle.repository_core.specs.Turns.{hand_at, hand_turn}
 use Rattle.repository_core.specs.Turns.Input.{Taking, Learning, Hearing}
 use Rattle.repository_laws.specs.Facts.{FitsLog, PostHolds, IsDecidedAt, RestsOn, HandHolds, IsBacked, HasCome}
 use Rattle.repository_laws.specs.Givens.{IsGiven, Gives}
-use Rattle.repository_laws.proofs.Posts.{post-stays-through}
 use Rattle.repository_laws.proofs.Turns.{take-ok, on-learn-ok, hear-ok}
 
 module _ (ever : List Post) (homes : ℕ → List Effect) (ticks : List ℕ) (r : ℕ) (log : List Effect) where
@@ -80,17 +79,14 @@ module _ (ever : List Post) (homes : ℕ → List Effect) (ticks : List ℕ) (r 
         go true e = subst (Has (effect.Decide s h.0)) (sym g.own) (has-right g.added (homes r) (effect.Decide s h.0) (subst (λ i. Has (effect.Decide s h.0) (homes i)) (eq-from s.home r e) h.1))
         go false e = h.1
 
-    backed-there : (k : NodeKind) (i : ℕ) (m : Message) → IsBacked ever homes k i (repository r) m → IsBacked ever there k i (repository r) m
+    backed-there : (k : NodeKind) (i : ℕ) (m : Message) → IsBacked homes k i m → IsBacked there k i m
     unfolding there
-    backed-there Repository i m p = go (i == r) refl
+    backed-there Repository i (message.Tell s c) p = (p.0, go (i == r) refl p.1, p.2)
       where
-        go : (b : Bool) → (i == r) ≡ b → PostHolds ever i (if b then log else homes i) (repository r) m
-        go true e = subst (λ l. PostHolds ever i l (repository r) m) (sym g.own)
-            (post-stays-through ever i (homes r) g.added (repository r) m
-            (subst (λ j. Grew (FitsLog j) (homes r) g.added) (sym (eq-from i r e)) g.grew)
-            (subst (λ j. PostHolds ever i (homes j) (repository r) m) (eq-from i r e) p))
-        go false e = p
-    backed-there Broker i m p = tt
+        go : (b : Bool) → (i == r) ≡ b → Has (effect.Decide s p.0) (homes i) → Has (effect.Decide s p.0) (if b then log else homes i)
+        go true e h = subst (Has (effect.Decide s p.0)) (sym g.own) (has-right g.added (homes r) (effect.Decide s p.0) (subst (λ j. Has (effect.Decide s p.0) (homes j)) (eq-from i r e) h))
+        go false e h = h
+    backed-there k i m p = tt
 
     pub gives-taking : (from : NodeId) (m : Message) → HasCome ever homes r from m → Gives ever homes ticks r log (hand_turn (hand_at r log mind) (Taking from m))
     gives-taking from m came = gives (on_message (hand_at r log mind) from m) (take-ok ever there ticks r log (hand_at r log mind) from m (came.0, backed-there from.kind from.number m came.1) there-own given-ok)

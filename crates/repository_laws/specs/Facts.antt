@@ -8,7 +8,7 @@ use Rattle.pseudo_time.specs.declared.decisions.Decision.{Decision}
 use Rattle.pseudo_time.specs.declared.decisions.Decision.TheVariants.{Committed, Withdrawn, Expired}
 use Rattle.pseudo_time.specs.declared.nodes.NodeId.{NodeId}
 use Rattle.pseudo_time.specs.declared.nodes.NodeKind.{NodeKind}
-use Rattle.pseudo_time.specs.declared.nodes.NodeKind.TheVariants.{Repository, Broker}
+use Rattle.pseudo_time.specs.declared.nodes.NodeKind.TheVariants.{Repository}
 use Rattle.value_form.specs.declared.objects.ObjectId.{ObjectId}
 use Rattle.value_form.specs.declared.values.Value.{Value}
 use Rattle.effect_form.specs.declared.effects.Effect.{Effect}
@@ -22,7 +22,7 @@ use Rattle.object_history.specs.declared.marks.Mark.TheVariants as mark
 use Rattle.object_history.specs.declared.steps.ReadStep.TheVariants as read
 use Rattle.object_history.specs.declared.steps.WriteStep.TheVariants as write
 use Rattle.object_history.specs.Answers.{read_step, write_step}
-use Rattle.object_history.specs.Views.{Starts, Viewed, Fits}
+use Rattle.object_history.specs.Views.{Starts, Viewed, Fits, IsOnFloor}
 use Rattle.repository_core.specs.declared.waits.HeldRead.{HeldRead}
 use Rattle.repository_core.specs.Logs.{is_commit, marks, known, record_of}
 use Rattle.repository_core.specs.Hands.{Hand, now}
@@ -64,7 +64,7 @@ FitsLog r l (End i e) = ⊥
 FitsLog r l (Mark at) = ⊥
 FitsLog r l Whole = ⊥
 
--- what is left of that in a log of such effects
+-- what is left of that in a log of such effects, also where a retirement put a Mark and a Whole around what it kept
 abbrev pub IsTidy : ℕ → List Effect → Type 0
 IsTidy r [] = Unit {0}
 IsTidy r (Put o x v ∷ l) = (o.repository ≡ r) × Starts (λ y. y ≢ x) o (marks l) × IsTidy r l
@@ -78,8 +78,8 @@ IsTidy r (Try i s ∷ l) = ⊥
 IsTidy r (Got k v ∷ l) = ⊥
 IsTidy r (Acked k ∷ l) = ⊥
 IsTidy r (End i e ∷ l) = ⊥
-IsTidy r (Mark at ∷ l) = ⊥
-IsTidy r (Whole ∷ l) = ⊥
+IsTidy r (Mark at ∷ l) = IsTidy r l
+IsTidy r (Whole ∷ l) = IsTidy r l
 
 -- ---- messages
 
@@ -98,7 +98,7 @@ WasReadLater ever r l o t e = (ReadSent ever r t o × Once (λ k. read_step (mar
 -- what a message that repository r sends says of its log
 abbrev pub PostHolds : List Post → ℕ → List Effect → NodeId → Message → Type 0
 PostHolds ever r l to (message.Begun s) = HasBegun s l
-PostHolds ever r l to (message.Value t v) = (o : ObjectId) × ReadSent ever r t o × (to ≡ broker t.stamp.broker) × Viewed (marks l) o t v
+PostHolds ever r l to (message.Value t v) = (o : ObjectId) × ReadSent ever r t o × (to ≡ broker t.stamp.broker) × Viewed (marks l) o t v × IsOnFloor (marks l) t
 PostHolds ever r l to (message.Stored t) = (o : ObjectId) × (v : Value) × WriteSent ever r t o v × Has (Put o t v) l
 PostHolds ever r l to (message.LaterRead t e) = (o : ObjectId) × (lt t e ≡ true) × WasReadLater ever r l o t e
 PostHolds ever r l to (message.LaterVersion t x) = (o : ObjectId) × (v : Value) × WriteSent ever r t o v × (lt x t ≡ false) × Once (λ k. write_step (marks k) o t v ≡ write.LaterVersion x) l
@@ -156,11 +156,11 @@ pub record HandHolds (ever : List Post) (homes : ℕ → List Effect) (ticks : L
   pub held : Every (HeldHolds ever r) h.held
   pub outs : Every (λ p. PostHolds ever r (now h) p.to p.message) h.outs
 
--- of a message of a repository, what it says holds of that repository's durable log
-abbrev pub IsBacked : List Post → (ℕ → List Effect) → NodeKind → ℕ → NodeId → Message → Type 0
-IsBacked ever homes Repository n to m = PostHolds ever n (homes n) to m
-IsBacked ever homes Broker n to m = Unit {0}
+-- a decision that repository n tells stands in its durable log
+abbrev pub IsBacked : (ℕ → List Effect) → NodeKind → ℕ → Message → Type 0
+IsBacked homes Repository n (message.Tell s c) = (d : Decision) × Has (Decide s d) (homes n) × (c ≡ is_commit d)
+IsBacked homes k n m = Unit {0}
 
--- the message was sent to r, and is backed by its sender's durable log
+-- the message was sent to r, and what it tells of a decision is backed by its sender's durable log
 abbrev pub HasCome : List Post → (ℕ → List Effect) → ℕ → NodeId → Message → Type 0
-HasCome ever homes r from m = WasSent ever from (repository r) m × IsBacked ever homes from.kind from.number (repository r) m
+HasCome ever homes r from m = WasSent ever from (repository r) m × IsBacked homes from.kind from.number m

@@ -24,14 +24,14 @@ ghost use Rattle.repository_core.specs.Rows.{accepts, on_message};
 ghost use Rattle.repository_laws.specs.Served.{IsServed};
 ghost use Rattle.repository_laws.specs.Givens.{IsGiven, Gives};
 
-/// Effects that fit leave a tidy log tidy; no two versions of an object in it have one start, and it
-/// has no floor.
+/// Effects that fit leave a tidy log tidy, and no two versions of an object in it have one start. No
+/// effect that fits is a floor.
 pub fn tidy_stays()
     ensures empty { (r : ℕ) → IsTidy r [] }
     ensures kept { (r : ℕ) (log : List Effect) (f : Effect) → FitsLog r log f → IsTidy r log → IsTidy r (f ∷ log) }
     ensures through { (r : ℕ) (log added : List Effect) → Grew (FitsLog r) log added → IsTidy r log → IsTidy r (added ++ log) }
     ensures distinct { (r : ℕ) (log : List Effect) → IsTidy r log → Distinct (marks log) }
-    ensures no_floor { (r : ℕ) (log : List Effect) → IsTidy r log → floor_of (marks log) ≡ None }
+    ensures no_floor { (r : ℕ) (log added : List Effect) → Grew (FitsLog r) log added → floor_of (marks (added ++ log)) ≡ floor_of (marks log) }
 {}
 
 /// An attempt is decided at its home, once, after its Begin, not before its deadline where it expired,
@@ -65,8 +65,8 @@ pub fn causes_stay()
 {}
 
 /// Each turn adds effects that fit, one by one, each with its cause; what its messages say holds of the
-/// log with them, and its held reads were sent. The input is a message that was sent, and holds of its
-/// sender's durable log where that is a repository; or a decision that stands in the durable log of its
+/// log with them, and its held reads were sent. The input is a message that was sent, and what it tells of
+/// a decision stands in its sender's durable log; or a decision that stands in the durable log of its
 /// stamp's home; or a moment that was ticked.
 pub fn turns_keep_facts()
     ensures taking { (ever : List Post) (homes : ℕ → List Effect) (ticks : List ℕ) (r : ℕ) (log : List Effect) (mind : Mind) (from : NodeId) (m : Message) →

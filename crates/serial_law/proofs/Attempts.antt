@@ -15,7 +15,6 @@ use Rattle.serial_model.specs.Questions.{Tree}
 use Rattle.broker_core.specs.Book.{Act, Book, Try, book, close, enter, find, finish, gain, on_act, on_front, on_try, tries, tries_of, new_try}
 use Rattle.value_form.specs.declared.acts.ActSpec.{ActSpec}
 use Rattle.broker_core.specs.Fits.{keep}
-use Rattle.broker_core.specs.Counted.{counted}
 use Rattle.broker_core.specs.Tasks.{tasks}
 use Rattle.world_core.specs.Nodes.{acts_of}
 use Rattle.pseudo_time.specs.Nodes.{broker}

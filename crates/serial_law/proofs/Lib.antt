@@ -10,6 +10,7 @@ pub mod Lines
 pub mod LogLemmas
 pub mod Lone
 pub mod Main
+pub mod OlderReading
 pub mod Own
 pub mod OwnAnswers
 pub mod Premises

@@ -1,5 +1,5 @@
 -- Each answer comes from the repository of the object that was asked for; one pseudotime carries one request; a read shows the reader's own last write.
-use Rattle.std.proofs.Common.{◌≡◌, inl, inr, ℕ, ◌+◌, ◌≤◌, ◌<◌, true, false, ◌||◌, List, [], ◌∷◌, ◌++◌, length, refl, sym, ◌∙◌, ap, subst, Option, Some, None, arith}
+use Rattle.std.proofs.Common.{◌≡◌, inl, inr, ℕ, ◌+◌, ◌≤◌, ◌<◌, true, false, ◌||◌, List, [], ◌∷◌, ◌++◌, length, map, reverse, refl, sym, ◌∙◌, ap, subst, Option, Some, None, arith}
 use Rattle.std.proofs.lemmas.List.{length-append}
 use Rattle.std.proofs.lemmas.Bool.{or_right}
 use Rattle.std.proofs.lemmas.Option.{same_Some}
@@ -14,12 +14,14 @@ use Rattle.pseudo_time.proofs.ListLemmas.{every-has}
 use Rattle.pseudo_time.proofs.OrderLemmas.{same_stamp-of}
 use Rattle.value_form.specs.declared.objects.ObjectId.{ObjectId}
 use Rattle.value_form.specs.declared.values.Value.{Value}
+use Rattle.effect_form.specs.declared.effects.Effect.{Effect}
 use Rattle.effect_form.specs.declared.effects.Effect.TheVariants as effect
 use Rattle.effect_form.specs.declared.outcomes.Outcome.TheVariants as outcome
 use Rattle.message_form.specs.declared.messages.Message.{Message}
 use Rattle.message_form.specs.declared.messages.Message.TheVariants as message
 use Rattle.message_form.specs.Posts.{Post, WasSent}
 use Rattle.object_history.specs.declared.marks.Mark.{Mark}
+use Rattle.object_history.specs.declared.marks.Mark.TheVariants as mark
 use Rattle.object_history.specs.History.{Seen, alive}
 use Rattle.object_history.specs.Views.{shows, views, value_of, Viewed}
 use Rattle.object_history.proofs.BoolLemmas.{and-both, and-left}
@@ -38,14 +40,20 @@ use Rattle.broker_laws.proofs.Moves.{clocks}
 use Rattle.world_facts.specs.NodeRules.{kind_post}
 use Rattle.serial_law.specs.Answers.{brings, IsAnsweredThere, StoredBefore}
 use Rattle.serial_law.specs.Facts.{asked_of}
-use Rattle.serial_law.specs.Runs.{Position, log_at, sent_before}
+use Rattle.serial_law.specs.Runs.{Position, TickedBefore, log_at, sent_before, world_at}
 use Rattle.serial_law.proofs.Attempts.{found-try, found-in}
-use Rattle.serial_law.proofs.LogLemmas.{put-marks, marks-put}
 use Rattle.serial_law.proofs.Own.{front-short}
-use Rattle.serial_law.proofs.Puts.{Picked, at-most, picked}
+use Rattle.serial_law.proofs.Puts.{Picked, at-most, picked, put-stands, stands-put}
 use Rattle.serial_law.proofs.Times.{inside, inside-high, inside-low}
-use Rattle.serial_law.proofs.Traces.{place-facts, broker-tidy, stamps-apart, answers-asked, answers-sent, requests-right, put-asked}
+use Rattle.serial_law.proofs.Traces.{place-facts, broker-tidy, stamps-apart, answers-asked, answers-sent, requests-right}
+use Rattle.world_core.specs.Pasts.{alike}
+use Rattle.world_facts.specs.Earlier.{replaced, sent_earlier}
 use Rattle.world_facts.proofs.Growths.{every-of}
+use Rattle.world_core.specs.Legal.{base_of}
+use Rattle.world_core.specs.Walks.{sent_by}
+use Rattle.world_facts.specs.Refines.{logs_at}
+use Rattle.world_facts.proofs.AnswerLemmas.{ViewedThere, viewed-there}
+use Rattle.world_facts.proofs.OldChains.{some-log}
 
 read-same : (o p : ObjectId) → ToRead o ≡ ToRead p → o ≡ p
 read-same o p e = cc e
@@ -88,8 +96,15 @@ module _ (p : Position) where
   abbrev Sent : NodeKind → ℕ → ℕ → Message → Type 0
   Sent k i b m = WasSent ever (record { kind = k; number = i }) (broker b) m
 
-  holds : (k : NodeKind) (i : ℕ) (b : ℕ) (m : Message) → Sent k i b m → kind_post p.script ever k i (log_at p (record { kind = k; number = i })) (record { to = broker b; message = m })
-  holds k i b m h = every-has _ ever (record { from = record { kind = k; number = i }; to = broker b; message = m }) (place-facts p).sent_ok h
+  -- a node's logs: its last one, and those that retirements replaced
+  abbrev logs_of : NodeId → List (List Effect)
+  logs_of n = log_at p n ∷ map reverse (replaced (alike p.script) p.past.0 n)
+
+  -- what a message says holds of one of its sender's logs
+  holds : (k : NodeKind) (i : ℕ) (b : ℕ) (m : Message) → Sent k i b m → (log : List Effect) × Has log (logs_of (record { kind = k; number = i })) × kind_post p.script ever k i log (record { to = broker b; message = m })
+  holds k i b m h =
+      some-log (λ log. kind_post p.script ever k i log (record { to = broker b; message = m })) (logs_of (record { kind = k; number = i }))
+      (every-has _ ever (record { from = record { kind = k; number = i }; to = broker b; message = m }) (place-facts p).sent_ok h)
 
   module _ (b : ℕ) (t : Try) (mine : t.stamp.broker ≡ b) (found : find t.stamp (tries_at b) ≡ Some t) (pre post : List Answer) (is : t.answers ≡ pre ++ post) (q : Request) (asks : stop (p.script t.task.script) pre ≡ Asks q) where
     abbrev x : TimeParts
@@ -116,24 +131,24 @@ module _ (p : Position) where
     from-there i m e h = subst (λ z. WasSent ever (repository z) (broker b) m) e h
 
     got-there : (k : NodeKind) (i : ℕ) (v : Value) → Sent k i b (message.Value x v) → There (message.Value x v)
-    got-there Repository i v h = let r = holds Repository i b (message.Value x v) h in from-there i (message.Value x v) (read-is i r.0 r.1) h
-    got-there Broker i v h = absurd (holds Broker i b (message.Value x v) h)
+    got-there Repository i v h = let r = (holds Repository i b (message.Value x v) h).2 in from-there i (message.Value x v) (read-is i r.0 r.1) h
+    got-there Broker i v h = absurd (holds Broker i b (message.Value x v) h).2
 
     stored-there : (k : NodeKind) (i : ℕ) → Sent k i b (message.Stored x) → There (message.Stored x)
-    stored-there Repository i h = let r = holds Repository i b (message.Stored x) h in from-there i (message.Stored x) (write-is i r.0 r.1 r.2) h
-    stored-there Broker i h = absurd (holds Broker i b (message.Stored x) h)
+    stored-there Repository i h = let r = (holds Repository i b (message.Stored x) h).2 in from-there i (message.Stored x) (write-is i r.0 r.1 r.2) h
+    stored-there Broker i h = absurd (holds Broker i b (message.Stored x) h).2
 
-    later-is : (i : ℕ) (o : ObjectId) (e : TimeParts) → repositories.WasReadLater ever i (log_at p (repository i)) o x e → i ≡ (asked_of q).repository
-    later-is i o e (inl r) = read-is i o r.0
-    later-is i o e (inr r) = write-is i o r.0 r.1
+    later-is : (i : ℕ) (log : List Effect) (o : ObjectId) (e : TimeParts) → repositories.WasReadLater ever i log o x e → i ≡ (asked_of q).repository
+    later-is i log o e (inl r) = read-is i o r.0
+    later-is i log o e (inr r) = write-is i o r.0 r.1
 
     read-there : (k : NodeKind) (i : ℕ) (e : TimeParts) → Sent k i b (message.LaterRead x e) → There (message.LaterRead x e)
-    read-there Repository i e h = let r = holds Repository i b (message.LaterRead x e) h in from-there i (message.LaterRead x e) (later-is i r.0 e r.2) h
-    read-there Broker i e h = absurd (holds Broker i b (message.LaterRead x e) h)
+    read-there Repository i e h = let r = holds Repository i b (message.LaterRead x e) h in from-there i (message.LaterRead x e) (later-is i r.0 r.2.0 e r.2.2) h
+    read-there Broker i e h = absurd (holds Broker i b (message.LaterRead x e) h).2
 
     version-there : (k : NodeKind) (i : ℕ) (y : TimeParts) → Sent k i b (message.LaterVersion x y) → There (message.LaterVersion x y)
-    version-there Repository i y h = let r = holds Repository i b (message.LaterVersion x y) h in from-there i (message.LaterVersion x y) (write-is i r.0 r.1 r.2) h
-    version-there Broker i y h = absurd (holds Broker i b (message.LaterVersion x y) h)
+    version-there Repository i y h = let r = (holds Repository i b (message.LaterVersion x y) h).2 in from-there i (message.LaterVersion x y) (write-is i r.0 r.1 r.2) h
+    version-there Broker i y h = absurd (holds Broker i b (message.LaterVersion x y) h).2
 
     answer-there : (a : Answer) → IsProven b ever t → (rest : List Answer) → t.answers ≡ pre ++ (a ∷ rest) → There (brings x a)
     answer-there (Got v) proven rest e = let h = proven.answers pre rest (Got v) e in got-there h.0.kind h.0.number v h.1
@@ -205,23 +220,25 @@ module _ (p : Position) where
   unfolding Picked
   own-write-read x v o y w asked came before last =
       let r : ℕ = o.repository in
-      let l : List Mark = marks (log_at p (repository r)) in
       let val = holds Repository r x.stamp.broker (message.Value x v) came in
-      let object : val.0 ≡ o = one-read x.stamp.broker (repository r) (repository r) x val.0 o val.1.0 asked in
-      let viewed : Viewed l o x v = subst (λ z. Viewed l z x v) object val.3 in
+      let object : val.2.0 ≡ o = one-read x.stamp.broker (repository r) (repository r) x val.2.0 o val.2.1.0 asked in
+      let k : ViewedThere p.script (base_of p.script p.plan p.trace) (logs_at p.logs (world_at p)) (replaced (alike p.script) p.past.0) (sent_earlier (alike p.script) p.past.0) (sent_by (world_at p)) (TickedBefore p) (place-facts p) r o x v =
+      viewed-there p.script (base_of p.script p.plan p.trace) (logs_at p.logs (world_at p)) (replaced (alike p.script) p.past.0) (sent_earlier (alike p.script) p.past.0) (sent_by (world_at p)) (TickedBefore p) (place-facts p) r
+      o x v val.0 val.1 val.2.4 (subst (λ z. Viewed (marks val.0) z x v) object val.2.3) in
       let sto = holds Repository r y.stamp.broker (message.Stored y) before.stored in
-      let both : (sto.0 ≡ o) × (sto.1 ≡ w) = one-write y.stamp.broker (repository r) (repository r) y sto.0 o sto.1 w sto.2.0 before.asked in
-      let put : Has (effect.Put o y w) (log_at p (repository r)) = subst (λ z. Has (effect.Put z y w) (log_at p (repository r))) both.0 (subst (λ z. Has (effect.Put sto.0 y z) (log_at p (repository r))) both.1 sto.3) in
-      let shown : shows l x y ≡ true = and-both (lt y x) (alive l y || same_stamp y.stamp x.stamp) before.below (or_right (alive l y) (same_stamp y.stamp x.stamp) (same_stamp-of y.stamp x.stamp before.same)) in
-      let most : AtMost (views l o x) y = at-most (λ z. shows l x z) o y w l (views l o x) (top-all (λ z. shows l x z) o l) (put-marks (log_at p (repository r)) o y w put) shown in
-      sym viewed.0 ∙ ends (views l o x) most (scan-passes (λ z. shows l x z) o l) (picked (λ z. shows l x z) o l)
+      let both : (sto.2.0 ≡ o) × (sto.2.1 ≡ w) = one-write y.stamp.broker (repository r) (repository r) y sto.2.0 o sto.2.1 w sto.2.2.0 before.asked in
+      let put : Has (effect.Put o y w) sto.0 = subst (λ z. Has (effect.Put z y w) sto.0) both.0 (subst (λ z. Has (effect.Put sto.2.0 y z) sto.0) both.1 sto.2.3) in
+      let shown : shows k.there x y ≡ true = and-both (lt y x) (alive k.there y || same_stamp y.stamp x.stamp) before.below (or_right (alive k.there y) (same_stamp y.stamp x.stamp) (same_stamp-of y.stamp x.stamp before.same)) in
+      let most : AtMost (views k.there o x) y = at-most (λ z. shows k.there x z) o y w k.there (views k.there o x) (top-all (λ z. shows k.there x z) o k.there) (put-stands k.there o y w (k.own y w sto.0 sto.1 put before.same before.below)) shown in
+      sym k.viewed.0 ∙ ends k.there k.wanted (views k.there o x) most (scan-passes (λ z. shows k.there x z) o k.there) (picked (λ z. shows k.there x z) o k.there)
     where
       same-time : (a c : TimeParts) → a.stamp ≡ c.stamp → a.step ≡ c.step → a ≡ c
       same-time a c e k = ap (λ z. at z a.step) e ∙ ap (λ z. at c.stamp z) k
 
-      ends : (found : Option Seen) → AtMost found y → Passes (λ z. shows (marks (log_at p (repository o.repository))) x z) found → Picked o (marks (log_at p (repository o.repository))) found → value_of found ≡ w
-      ends None most pass put = absurd most
-      ends (Some q) most pass put =
+      ends : (m : List Mark) → ((z : TimeParts) (u : Value) → Has (mark.Put o z u) m → repositories.WriteSent ever o.repository z o u) → (found : Option Seen) → AtMost found y → Passes (λ z. shows m x z) found → Picked o m found →
+          value_of found ≡ w
+      ends m wanted None most pass put = absurd most
+      ends m wanted (Some q) most pass put =
           let r : ℕ = o.repository in
           let b : ℕ = x.stamp.broker in
           let under : lt q.start x ≡ true = and-left (lt q.start x) _ pass in
@@ -229,7 +246,7 @@ module _ (p : Position) where
           let own : q.start.stamp ≡ x.stamp = inside q.start x.stamp y.step x.step above under in
           let low : y.step ≤ q.start.step = inside-low q.start x.stamp y.step above own in
           let high : q.start.step < x.step = inside-high q.start x.stamp x.step under own in
-          let sent = put-asked p r o q.start q.value (marks-put (log_at p (repository r)) o q.start q.value put) in
+          let sent = wanted q.start q.value (stands-put m o q.start q.value put) in
           let its : WasSent ever (broker b) (repository r) (message.Write q.start o q.value) = subst (λ z. WasSent ever (broker z) (repository r) (message.Write q.start o q.value)) (ap (λ (z : StampParts). z.broker) own) sent.0 in
           let stored : WasSent ever (repository r) (broker b) (message.Stored q.start) =
           stored-first b x q.start o o q.value own high (read-asks b (repository r) x o asked) (write-asks b (repository r) q.start o q.value its) in

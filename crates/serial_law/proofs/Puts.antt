@@ -1,5 +1,6 @@
 -- Puts among marks, and those that a scan finds.
-use Rattle.std.proofs.Common.{◌≡◌, Bool, true, List, [], ◌∷◌, refl, ap, subst, Option, Some, None, inl, inr, ◌⊎◌}
+use Rattle.std.proofs.Common.{◌≡◌, Bool, true, List, [], ◌∷◌, refl, ◌∙◌, ap, subst, Option, Some, None, inl, inr, ◌⊎◌}
+use Rattle.pseudo_time.specs.Lists.{Has}
 use Rattle.pseudo_time.specs.TimeParts.{TimeParts}
 use Rattle.value_form.specs.declared.objects.ObjectId.{ObjectId}
 use Rattle.value_form.specs.declared.values.Value.{Value}
@@ -17,6 +18,26 @@ PutAt o x w (Put a y v ∷ m) = ((a ≡ o) × (y ≡ x) × (v ≡ w)) ⊎ PutAt 
 PutAt o x w (Stretch a y ∷ m) = PutAt o x w m
 PutAt o x w (Settle s c ∷ m) = PutAt o x w m
 PutAt o x w (Floor z ∷ m) = PutAt o x w m
+
+-- the same, as a member of the list
+pub put-stands : (m : List Mark) (o : ObjectId) (x : TimeParts) (v : Value) → Has (Put o x v) m → PutAt o x v m
+put-stands [] o x v h = h
+put-stands (Put a y w ∷ m) o x v (inl e) = let p : a ≡ o = cc e in let q : y ≡ x = cc e in let u : w ≡ v = cc e in inl (p, q, u)
+put-stands (Put a y w ∷ m) o x v (inr h) = inr (put-stands m o x v h)
+put-stands (Stretch a y ∷ m) o x v (inl e) = absurd (cc e)
+put-stands (Stretch a y ∷ m) o x v (inr h) = put-stands m o x v h
+put-stands (Settle s c ∷ m) o x v (inl e) = absurd (cc e)
+put-stands (Settle s c ∷ m) o x v (inr h) = put-stands m o x v h
+put-stands (Floor z ∷ m) o x v (inl e) = absurd (cc e)
+put-stands (Floor z ∷ m) o x v (inr h) = put-stands m o x v h
+
+pub stands-put : (m : List Mark) (o : ObjectId) (x : TimeParts) (v : Value) → PutAt o x v m → Has (Put o x v) m
+stands-put [] o x v h = h
+stands-put (Put a y w ∷ m) o x v (inl h) = inl (ap (λ z. Put z y w) h.0 ∙ ap (λ z. Put o z w) h.1 ∙ ap (λ z. Put o x z) h.2)
+stands-put (Put a y w ∷ m) o x v (inr h) = inr (stands-put m o x v h)
+stands-put (Stretch a y ∷ m) o x v h = inr (stands-put m o x v h)
+stands-put (Settle s c ∷ m) o x v h = inr (stands-put m o x v h)
+stands-put (Floor z ∷ m) o x v h = inr (stands-put m o x v h)
 
 -- a fact of each put, as a fact of each start
 pub starts-of : (P : TimeParts → Type 0) (o : ObjectId) (m : List Mark) → ((x : TimeParts) (v : Value) → PutAt o x v m → P x) → Starts P o m

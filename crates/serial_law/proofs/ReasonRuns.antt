@@ -1,6 +1,6 @@
 -- Refusals and causes by two readings of scripts.
-use Rattle.std.proofs.Common.{◌≡◌, ◌⊎◌, inl, inr, ℕ, true, List, [], ◌∷◌, ◌++◌, append-nil, reverse, sym, ◌∙◌, subst, Some}
-use Rattle.pseudo_time.specs.Lists.{Every, Has}
+use Rattle.std.proofs.Common.{◌≡◌, inl, inr, ℕ, true, List, [], ◌∷◌, reverse, subst, Some}
+use Rattle.pseudo_time.specs.Lists.{Has}
 use Rattle.pseudo_time.specs.Nodes.{repository}
 use Rattle.pseudo_time.specs.TimeParts.{TimeParts}
 use Rattle.pseudo_time.specs.declared.decisions.Decision.TheVariants as decision
@@ -14,7 +14,6 @@ use Rattle.object_history.specs.Answers.{write_step}
 use Rattle.script_meaning.specs.Meaning.{Request, ToWrite}
 use Rattle.serial_model.specs.Questions.{Tree, after}
 use Rattle.plan_form.specs.declared.plans.Plan.{Plan}
-use Rattle.plan_form.specs.PlanTexts.{IsOfLanguage}
 use Rattle.repository_core.specs.Logs.{marks}
 use Rattle.broker_core.specs.Readings.{reading}
 use Rattle.broker_core.specs.Tasks.{Scripted}
@@ -23,7 +22,9 @@ use Rattle.world_core.specs.declared.traces.Trace.{Trace}
 use Rattle.world_core.specs.Answered.{WasAnswered}
 use Rattle.world_core.specs.Deeds.{RunLogs, Try, in_run, log_of}
 use Rattle.world_core.specs.Legal.{base_of}
-use Rattle.world_core.specs.Pasts.{AreCalls, Call, alike, own_reading}
+use Rattle.world_core.specs.Pasts.{alike, own_reading}
+use Rattle.world_facts.specs.Earlier.{AreEarlier, AreOfLanguage, Earlier}
+use Rattle.world_facts.specs.Earlier.Earlier.{Running, Retiring}
 use Rattle.world_core.specs.Walks.{World, all_effects, numbered}
 use Rattle.world_core.proofs.OneReading.{own-reading}
 use Rattle.world_core.proofs.SameWorlds.{walk-same}
@@ -52,11 +53,12 @@ pub answered-now : (s : List ℕ → Tree) (plan : Plan) → Scripted s plan.act
     WasAnswered (base_of s plan t) es x o v step → WasAnswered (base_of (reading plan.acts) plan t) es x o v step
 answered-now s plan h h' = answered-same s (reading plan.acts) plan h h'
 
-pub answered-from : (script : List ℕ → Tree) (cs : List Call) → AreCalls (alike script) cs → Every (λ (c : Call). IsOfLanguage c.plan) cs → (x : TimeParts) (o : ObjectId) (v : Value) (step : WriteStep) →
+pub answered-from : (script : List ℕ → Tree) (cs : List Earlier) → AreEarlier (alike script) cs → AreOfLanguage cs → (x : TimeParts) (o : ObjectId) (v : Value) (step : WriteStep) →
     AnsweredIn (alike script) cs x o v step → AnsweredIn own_reading cs x o v step
 answered-from script [] k w x o v step a = a
-answered-from script (c ∷ cs) k w x o v step (inl a) = inl (answered-now script c.plan k.1.legal.scripted (own-reading c.plan w.0) c.trace c.trace.entries x o v step a)
-answered-from script (c ∷ cs) k w x o v step (inr a) = inr (answered-from script cs k.0 w.1 x o v step a)
+answered-from script (Retiring r at ∷ cs) k w x o v step a = answered-from script cs k.0 w x o v step a
+answered-from script (Running c ∷ cs) k w x o v step (inl a) = inl (answered-now script c.plan k.1.legal.scripted (own-reading c.plan w.0) c.trace c.trace.entries x o v step a)
+answered-from script (Running c ∷ cs) k w x o v step (inr a) = inr (answered-from script cs k.0 w.1 x o v step a)
 
 -- ---- causes
 

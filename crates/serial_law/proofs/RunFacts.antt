@@ -21,6 +21,7 @@ use Rattle.effect_form.specs.declared.outcomes.Outcome.{Outcome}
 use Rattle.effect_form.specs.declared.outcomes.Outcome.TheVariants as outcome
 use Rattle.message_form.specs.declared.messages.Message.{Message}
 use Rattle.message_form.specs.declared.messages.Message.TheVariants as message
+use Rattle.message_form.specs.Growth.{Grew}
 use Rattle.message_form.specs.Posts.{Post, WasSent}
 use Rattle.object_history.specs.Views.{Viewed}
 use Rattle.script_meaning.specs.Meaning.{Got, Stored, Request, ToRead, ToWrite, Stop, Asks, Over}
@@ -32,7 +33,7 @@ use Rattle.plan_form.specs.PlanTexts.{EachAct, IsOfLanguage}
 use Rattle.repository_core.specs.Logs.{is_commit, marks}
 use Rattle.repository_laws.specs.Facts as repositories
 use Rattle.repository_laws.specs.Facts.{Once}
-use Rattle.repository_laws.proofs.Logs.{tidy-distinct, tidy-once, no-mark, learn-home, decide-home, decided-once, decide-cause}
+use Rattle.repository_laws.proofs.Logs.{tidy-distinct, grown-once, grown-marks, learn-home, decide-home, decided-once, decide-cause}
 use Rattle.broker_core.specs.Book as books
 use Rattle.broker_core.specs.Book.{book, tries, tries_of, find}
 use Rattle.pseudo_time.specs.Nodes.{broker, repository}
@@ -64,6 +65,7 @@ use Rattle.serial_law.proofs.Inside.{Inside, inside-after, inside-asks, inside-s
 use Rattle.serial_law.proofs.LogLemmas.{in-both}
 use Rattle.serial_law.proofs.Premises.{asked-here}
 use Rattle.world_facts.proofs.Growths.{each-has, every-filter, every-at}
+use Rattle.world_facts.proofs.OldChains.{grown-alone}
 
 -- ---- lists
 
@@ -255,6 +257,10 @@ module _ (script : List ℕ → Tree) (b : Base) (plan : Plan) (logs : NodeId �
   own-put r (effect.Decide s d ∷ l) o x v h (inr k) = own-put r l o x v h.2 k
   own-put r (effect.Learn s c ∷ l) o x v h (inl e) = absurd (cc e)
   own-put r (effect.Learn s c ∷ l) o x v h (inr k) = own-put r l o x v h.2 k
+  own-put r (effect.Mark at ∷ l) o x v h (inl e) = absurd (cc e)
+  own-put r (effect.Mark at ∷ l) o x v h (inr k) = own-put r l o x v h k
+  own-put r (effect.Whole ∷ l) o x v h (inl e) = absurd (cc e)
+  own-put r (effect.Whole ∷ l) o x v h (inr k) = own-put r l o x v h k
   own-put r (f ∷ l) o x v h k = absurd h
 
   -- ---- all together
@@ -354,10 +360,13 @@ module _ (script : List ℕ → Tree) (b : Base) (plan : Plan) (logs : NodeId �
         let here : asks (after (script m.try.task.script) m.try.answers) ≡ Some (ToWrite p v) = asked-here mine-try m.try.answers [] (ToWrite p v) (sym (append-nil m.try.answers)) said in
         let both : Asks (ToWrite p v) ≡ Asks (ToRead o) = sym (some-asks _ (ToWrite p v) here) ∙ e in cc
 
-    -- in a log of a run there is no floor
+    -- in a log that runs alone left there is no floor
+    grown : (i : ℕ) → Grew (repositories.FitsLog i) [] (log (repository i))
+    grown i = grown-alone (repositories.FitsLog i) (log (repository i)) (f.grown (repository i))
+
     stretched-there : (i : ℕ) (o : ObjectId) (e : TimeParts) → Has (effect.Stretch o e) (log (repository i)) ⊎ Has (effect.Mark e) (log (repository i)) → Has (effect.Stretch o e) (log (repository i))
     stretched-there i o e (inl h) = h
-    stretched-there i o e (inr h) = absurd (no-mark i (log (repository i)) e (f.tidy (repository i)) h)
+    stretched-there i o e (inr h) = absurd (grown-marks i (log (repository i)) e (grown i) h)
 
     refused-write : (i : ℕ) (o p : ObjectId) (e : TimeParts) (v w : Value) → lt time e ≡ true → Stands (ToWrite o v) → repositories.WriteSent ever i time p w → Once (λ k. write_step (marks k) p time w ≡ write.LaterRead e) (log (repository i)) →
         ToldRequest ever i Told time (write.LaterRead e) → HasReason run May Told mine-try (outcome.LaterRead o e)
@@ -371,7 +380,7 @@ module _ (script : List ℕ → Tree) (b : Base) (plan : Plan) (logs : NodeId �
 
     refused-by : (i : ℕ) (o p : ObjectId) (e : TimeParts) → lt time e ≡ true → Stands (ToRead o) ⊎ ((v : Value) × Stands (ToWrite o v)) → repositories.WasReadLater ever i (log (repository i)) p time e →
         ToldRequest ever i Told time (write.LaterRead e) → HasReason run May Told mine-try (outcome.LaterRead o e)
-    refused-by i o p e less stands (inl r) told = absurd (tidy-once i (log (repository i)) p time e (f.tidy (repository i)) r.1)
+    refused-by i o p e less stands (inl r) told = absurd (grown-once i (log (repository i)) p time e (grown i) r.1)
     refused-by i o p e less (inl reads) (inr r) told = absurd (no-write i o p r.0 r.1 reads)
     refused-by i o p e less (inr writes) (inr r) told = refused-write i o p e writes.0 r.0 less writes.1 r.1 r.2 told
 

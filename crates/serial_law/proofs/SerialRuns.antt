@@ -5,11 +5,8 @@ use Rattle.std.specs.Prelude.{reverse}
 use Rattle.pseudo_time.specs.Lists.{Every}
 use Rattle.pseudo_time.specs.declared.nodes.NodeId.{NodeId}
 use Rattle.value_form.specs.declared.acts.ActSpec.{ActSpec}
-use Rattle.value_form.specs.Mirror.{Block}
 use Rattle.effect_form.specs.declared.effects.Effect.{Effect}
 use Rattle.stream_port.specs.declared.fates.Asked.{Asked}
-use Rattle.script_form.specs.RowTexts.{script_text}
-use Rattle.script_form.specs.Printable.{IsPrintable}
 use Rattle.serial_model.specs.Questions.{Tree}
 use Rattle.plan_form.specs.declared.plans.Plan.{Plan}
 use Rattle.plan_form.specs.PlanTexts.{IsOfLanguage}
@@ -25,13 +22,13 @@ use Rattle.world_core.specs.Deeds.{RunLogs, Try, attempt, book_tries, finals, ru
 use Rattle.pseudo_time.specs.Nodes.{broker, repository}
 use Rattle.broker_core.specs.Readings.{reading}
 use Rattle.broker_core.specs.Counted.{counted}
-use Rattle.world_core.specs.Readings.{IsLegal, WereLeft, gated_log}
+use Rattle.world_core.specs.Readings.{IsLegal, gated_log}
 use Rattle.world_core.specs.Pasts.{OpenedWith}
-use Rattle.serial_law.specs.Runs.{AnsweredBefore, AnsweredIn, Position, TickedBefore, world_at, log_at, run_at, sent_before}
+use Rattle.serial_law.specs.Runs.{AnsweredBefore, AnsweredIn, Position, RunsAlone, TickedBefore, world_at, log_at, run_at, sent_before}
 use Rattle.serial_law.specs.Serial.{HoldsAll, Serial}
 use Rattle.world_core.specs.Answered.{WasAnswered}
-use Rattle.world_core.specs.Pasts.{AreCalls, Call, alike}
-use Rattle.world_facts.specs.Refines.{Ticked}
+use Rattle.world_core.specs.Pasts.{alike}
+use Rattle.world_facts.specs.Earlier.{AreEarlier, AreRuns, Earlier, TickedBy, WereLeftOrRetired}
 use Rattle.serial_law.specs.Causes.{Causes}
 use Rattle.serial_law.specs.Facts.{RunFacts}
 use Rattle.pseudo_time.specs.Lists.{Has}
@@ -46,7 +43,8 @@ use Rattle.broker_laws.proofs.TestLemmas.{and-both}
 use Rattle.broker_core.proofs.SoundLemmas.{sound-kept}
 use Rattle.broker_core.proofs.SameTurns.{book-same}
 use Rattle.world_core.proofs.SameWorlds.{Agree, agree-of, walk-same}
-use Rattle.world_core.proofs.OneReading.{common-reading, own-reading}
+use Rattle.world_core.proofs.OneReading.{own-reading}
+use Rattle.serial_law.proofs.OlderReading.{OneReading, older-reading}
 use Rattle.serial_law.proofs.SameRuns.{finals-hold, serial-same}
 use Rattle.world_facts.proofs.Steps.{walk-known}
 
@@ -95,35 +93,37 @@ known-log true x y e = refl
 known-log false x y e = cc
 
 -- the run stands at the end of a legal trace over a past by one reading, and agrees with it in the logs of its repositories and in its attempts
-pub record Placed (plan : Plan) (t : Trace) (cs : List Call) : Type 0 where
+pub record Placed (plan : Plan) (t : Trace) (cs : List Earlier) : Type 0 where
   pub place : Position
   pub repositories : place.plan.repositories ≡ plan.repositories
   pub logs : (r : ℕ) → (nat_le 1 r && nat_le r plan.repositories) ≡ true → log_at place (repository r) ≡ reverse (gated_log plan t (repository r))
   pub tries : (run_at place).tries ≡ (run_in plan t).tries
-  -- what was answered and ticked there was in this run, or in one of these before it
+  pub alone : AreRuns cs → RunsAlone place
+  -- what was answered and ticked there was in this run, or in one of these calls before it
   pub answered : (x : TimeParts) (o : ObjectId) (v : Value) (step : WriteStep) → AnsweredBefore place x o v step → AnsweredBy plan t cs x o v step
-  pub ticked : (m : ℕ) → TickedBefore place m → Ticked cs t.entries m
+  pub ticked : (m : ℕ) → TickedBefore place m → TickedBy cs t.entries m
 
-pub placed : (plan : Plan) (asked : List Asked) (t : Trace) → IsOfLanguage plan → IsLegal plan asked t → (logs : NodeId → List Effect) (left : WereLeft logs) → OpenedWith t.opened logs → Placed plan t left.0
+pub placed : (plan : Plan) (asked : List Asked) (t : Trace) → IsOfLanguage plan → IsLegal plan asked t → (logs : NodeId → List Effect) (left : WereLeftOrRetired logs) → OpenedWith t.opened logs → Placed plan t left.0
 placed plan asked t w l logs left agrees =
-    let r = common-reading plan asked t logs w l left in
+    let r : OneReading plan asked t logs left.0 = older-reading plan asked t logs w l left in
     let own = own-reading plan w in
-    let p : Position = record { script = r.0; plan = plan; asked = asked; trace = t; logs = logs; front = t.entries; rest = []; here = sym (append-nil t.entries); whole = w; past = (left.0, r.1, r.2); agrees = agrees; legal = r.3 } in
+    let p : Position = record { script = r.script; plan = plan; asked = asked; trace = t; logs = logs; front = t.entries; rest = []; here = sym (append-nil t.entries); whole = w; past = (left.0, r.are, r.left); agrees = agrees; legal = r.legal } in
     let known : (n : NodeId) → in_plan plan n ≡ true → ((world_at p).flags n).known ≡ true =
-    λ n i. walk-known (base_of r.0 plan t) (start_world (base_of r.0 plan t)) t.entries n ∙ l.nodes.just n ∙ i in
+    λ n i. walk-known (base_of r.script plan t) (start_world (base_of r.script plan t)) t.entries n ∙ l.nodes.just n ∙ i in
     let there : (n : NodeId) → in_plan plan n ≡ true → log_at p n ≡ reverse (gated_log plan t n) =
-    λ n i. ap reverse (known-log ((world_at p).flags n).known _ _ (known n i) ∙ ap (λ (v : World). (v.life n).gated) (walk-same r.0 (reading plan.acts) plan r.3.scripted own t t.entries)) in
+    λ n i. ap reverse (known-log ((world_at p).flags n).known _ _ (known n i) ∙ ap (λ (v : World). (v.life n).gated) (walk-same r.script (reading plan.acts) plan r.legal.scripted own t t.entries)) in
     record {
       place = p;
       repositories = refl;
       logs = λ r i. there (repository r) i;
-      tries = all-same r.0 (reading plan.acts) plan.run plan.acts r.3.scripted own (log_at p) (λ n. reverse (gated_log plan t n)) plan.brokers
+      tries = all-same r.script (reading plan.acts) plan.run plan.acts r.legal.scripted own (log_at p) (λ n. reverse (gated_log plan t n)) plan.brokers
           (λ b low high. there (broker b) (and-both (le-leb 1 b low) (le-leb b plan.brokers high)));
-      answered = λ x o v step. λ (a : AnsweredBefore p x o v step). by-run x o v step r.0 r.3.scripted own r.1 a;
+      answered = λ x o v step. λ (a : AnsweredBefore p x o v step). by-run x o v step r.script r.legal.scripted own r.are a;
+      alone = λ h. h;
       ticked = λ m h. h;
     }
   where
-    by-run : (x : TimeParts) (o : ObjectId) (v : Value) (step : WriteStep) (script : List ℕ → Tree) → Scripted script plan.acts → Scripted (reading plan.acts) plan.acts → AreCalls (alike script) left.0 →
+    by-run : (x : TimeParts) (o : ObjectId) (v : Value) (step : WriteStep) (script : List ℕ → Tree) → Scripted script plan.acts → Scripted (reading plan.acts) plan.acts → AreEarlier (alike script) left.0 →
         WasAnswered (base_of script plan t) t.entries x o v step ⊎ AnsweredIn (alike script) left.0 x o v step → AnsweredBy plan t left.0 x o v step
     by-run x o v step script h own k (inl a) = inl (answered-now script plan h own t t.entries x o v step a)
     by-run x o v step script h own k (inr a) = inr (answered-from script left.0 k left.1.1 x o v step a)
@@ -133,27 +133,27 @@ placed plan asked t w l logs left agrees =
 abbrev Ends : RunLogs → Type 0
 Ends m = HoldsAll m (finals m)
 
-module _ (law : (p : Position) → Serial (run_at p)) where
+module _ (law : (p : Position) → RunsAlone p → Serial (run_at p)) where
   pub serial-over : (plan : Plan) (asked : List Asked) (t : Trace) → IsOfLanguage plan → IsLegal plan asked t → IsSerialOver plan t
-  serial-over plan asked t w l logs left agrees =
+  serial-over plan asked t w l logs left alone agrees =
       let k = placed plan asked t w l logs left agrees in
       serial-same plan.repositories (log_at k.place) (λ n. reverse (gated_log plan t n)) (run_in plan t).tries k.logs
       (subst (λ ts. Serial (record { repositories = plan.repositories; logs = log_at k.place; tries = ts })) k.tries
-      (subst (λ n. Serial (record { repositories = n; logs = log_at k.place; tries = (run_at k.place).tries })) k.repositories (law k.place)))
+      (subst (λ n. Serial (record { repositories = n; logs = log_at k.place; tries = (run_at k.place).tries })) k.repositories (law k.place (k.alone alone))))
 
-module _ (law : (p : Position) → HoldsAll (run_at p) (finals (run_at p))) where
+module _ (law : (p : Position) → RunsAlone p → HoldsAll (run_at p) (finals (run_at p))) where
   pub finals-over : (plan : Plan) (asked : List Asked) (t : Trace) → IsOfLanguage plan → IsLegal plan asked t → HoldsFinals plan t
-  finals-over plan asked t w l logs left agrees =
+  finals-over plan asked t w l logs left alone agrees =
       let k = placed plan asked t w l logs left agrees in
       finals-hold plan.repositories (log_at k.place) (λ n. reverse (gated_log plan t n)) (run_in plan t).tries k.logs
       (subst (λ ts. Ends (record { repositories = plan.repositories; logs = log_at k.place; tries = ts })) k.tries
-      (subst (λ n. Ends (record { repositories = n; logs = log_at k.place; tries = (run_at k.place).tries })) k.repositories (law k.place)))
+      (subst (λ n. Ends (record { repositories = n; logs = log_at k.place; tries = (run_at k.place).tries })) k.repositories (law k.place (k.alone alone))))
 
-module _ (facts : (p : Position) → RunFacts (run_at p) (sent_before p)) (law : (p : Position) → Causes (run_at p) (TickedBefore p) (AnsweredBefore p)) where
+module _ (facts : (p : Position) → RunsAlone p → RunFacts (run_at p) (sent_before p)) (law : (p : Position) → RunsAlone p → Causes (run_at p) (TickedBefore p) (AnsweredBefore p)) where
   pub reasons-over : (plan : Plan) (asked : List Asked) (t : Trace) → IsOfLanguage plan → IsLegal plan asked t → HaveReasons plan t
-  reasons-over plan asked t w l logs left agrees try o j e =
+  reasons-over plan asked t w l logs left alone agrees try o j e =
       let k = placed plan asked t w l logs left agrees in
       let there : Has try (run_at k.place).tries = subst (Has try) (sym k.tries) j in
-      let f : RunFacts (run_at k.place) (sent_before k.place) = facts k.place in
-      reason-same (run_at k.place) (run_in plan t) (λ r i. k.logs r (subst (λ n. (nat_le 1 r && nat_le r n) ≡ true) k.repositories i)) (TickedBefore k.place) (Ticked left.0 t.entries) (AnsweredBefore k.place)
-      (AnsweredBy plan t left.0) k.ticked k.answered try o (f.home try there) (λ q. f.within try try.answers [] q there (sym (append-nil try.answers))) (law k.place try o there e)
+      let f : RunFacts (run_at k.place) (sent_before k.place) = facts k.place (k.alone alone) in
+      reason-same (run_at k.place) (run_in plan t) (λ r i. k.logs r (subst (λ n. (nat_le 1 r && nat_le r n) ≡ true) k.repositories i)) (TickedBefore k.place) (TickedBy left.0 t.entries) (AnsweredBefore k.place)
+      (AnsweredBy plan t left.0) k.ticked k.answered try o (f.home try there) (λ q. f.within try try.answers [] q there (sym (append-nil try.answers))) (law k.place (k.alone alone) try o there e)

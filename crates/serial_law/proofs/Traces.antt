@@ -1,5 +1,5 @@
 -- The laws of legal traces, from the facts of their logs and messages.
-use Rattle.std.proofs.Common.{◌≡◌, inl, inr, ℕ, Bool, ◌≤◌, true, List, [], ◌∷◌, ◌++◌, refl, sym, ap, ◌∙◌, subst, is_some, nat_le}
+use Rattle.std.proofs.Common.{◌≡◌, inl, inr, ℕ, Bool, ◌≤◌, true, List, [], ◌∷◌, ◌++◌, map, reverse, refl, ◌∙◌, subst, is_some, nat_le}
 use Rattle.std.proofs.lemmas.Bool.{le-leb}
 use Rattle.pseudo_time.specs.Lists.{Every, Has}
 use Rattle.pseudo_time.specs.StampParts.{StampParts}
@@ -7,8 +7,6 @@ use Rattle.pseudo_time.specs.TimeParts.{TimeParts}
 use Rattle.pseudo_time.specs.declared.decisions.Decision.{Decision}
 use Rattle.pseudo_time.specs.declared.decisions.Decision.TheVariants as decision
 use Rattle.pseudo_time.specs.declared.nodes.NodeId.{NodeId}
-use Rattle.pseudo_time.specs.declared.nodes.NodeKind.{NodeKind}
-use Rattle.pseudo_time.specs.declared.nodes.NodeKind.TheVariants.{Repository, Broker}
 use Rattle.pseudo_time.proofs.ListLemmas.{every-has, every-left, has-either, has-left, has-right}
 use Rattle.object_history.proofs.BoolLemmas.{and-both}
 use Rattle.value_form.specs.declared.objects.ObjectId.{ObjectId}
@@ -20,10 +18,6 @@ use Rattle.message_form.specs.declared.messages.Message.TheVariants as message
 use Rattle.effect_form.specs.declared.outcomes.Outcome.TheVariants as outcome
 use Rattle.message_form.specs.Posts.{Post, WasSent}
 use Rattle.message_form.proofs.GrowthLemmas.{each_below}
-use Rattle.object_history.specs.declared.marks.Mark.{Mark}
-use Rattle.object_history.specs.Views.{Firm, Viewed, value_of}
-use Rattle.object_history.proofs.ViewLemmas.{sees-views}
-use Rattle.repository_core.specs.Logs.{marks}
 use Rattle.broker_core.specs.Book.{book, tries}
 use Rattle.pseudo_time.specs.Nodes.{broker, repository}
 use Rattle.repository_laws.specs.Facts as repositories
@@ -41,25 +35,37 @@ use Rattle.world_core.specs.declared.entries.Entry.{Entry}
 use Rattle.world_core.specs.Answered.{WasAnswered}
 use Rattle.world_core.specs.Walks.{Base, opened_log, sent_by, start_world, walk}
 use Rattle.world_core.specs.Legal.{Meets, base_of, fates_of}
-use Rattle.world_core.specs.Pasts.{Call, AreCalls, alike}
+use Rattle.world_core.specs.Pasts.{alike}
 use Rattle.world_core.proofs.Refusals.{Says, says-map}
 use Rattle.world_core.proofs.Answered.{Reason, meets-front, post-answered, write-sent, read-sent}
-use Rattle.world_facts.specs.NodeRules.{kind_post, node_facts}
+use Rattle.world_facts.specs.NodeRules.{node_facts}
 use Rattle.world_facts.specs.Refines as refines
-use Rattle.world_facts.specs.Refines.{logs_at, past_sent, Ticked}
-use Rattle.world_facts.proofs.NodeLaws.{node-laws, past-laws}
-use Rattle.world_facts.proofs.Openings.{legal-facts}
+use Rattle.world_facts.specs.Earlier.{AreEarlier, Earlier, replaced, sent_earlier}
+use Rattle.world_facts.specs.Earlier.Earlier.{Running, Retiring}
+use Rattle.world_facts.specs.Refines.{logs_at}
+use Rattle.world_facts.proofs.AnswerLemmas.{broker-post}
+use Rattle.world_facts.proofs.EarlierLemmas.{older-facts, runs-keep}
+use Rattle.world_facts.proofs.NodeLaws.{node-laws}
+use Rattle.world_facts.proofs.Openings.{facts-alone}
 use Rattle.world_facts.specs.NodeRules.{node_turns}
 use Rattle.serial_law.specs.Facts.{RunFacts}
-use Rattle.serial_law.specs.Runs.{Position, world_at, log_at, run_at, sent_before, TickedBefore, AnsweredIn, AnsweredBefore, Acknowledges, SeesStill}
+use Rattle.serial_law.specs.Runs.{Position, RunsAlone, world_at, log_at, run_at, sent_before, TickedBefore, AnsweredIn, AnsweredBefore}
 use Rattle.serial_law.proofs.RunFacts.{run-facts, run-causes, ToldRequest}
 use Rattle.serial_law.specs.Causes.{Causes, IsSpent}
 use Rattle.world_facts.proofs.Growths.{each-has}
 
 module _ (p : Position) where
   -- all that holds of logs and messages there
-  pub place-facts : refines.LogFacts (node_facts p.script) (base_of p.script p.plan p.trace) (logs_at p.logs (world_at p)) (past_sent (alike p.script) p.past.0) (sent_by (world_at p)) (TickedBefore p)
-  place-facts = legal-facts p.script (node_turns p.script) (node_facts p.script) (node-laws p.script) (past-laws p.script) p.plan p.asked p.trace p.logs p.front p.rest p.past p.agrees p.legal p.here
+  pub place-facts : refines.OlderFacts (node_facts p.script) (base_of p.script p.plan p.trace) (logs_at p.logs (world_at p)) (replaced (alike p.script) p.past.0) (sent_earlier (alike p.script) p.past.0)
+      (sent_by (world_at p)) (TickedBefore p)
+  place-facts = older-facts p.script p.plan p.asked p.trace p.logs p.front p.rest p.past p.agrees p.legal p.here
+
+  -- the same where no log was retired
+  pub alone-facts : RunsAlone p → refines.LogFacts (node_facts p.script) (base_of p.script p.plan p.trace) (logs_at p.logs (world_at p)) (sent_earlier (alike p.script) p.past.0) (sent_by (world_at p)) (TickedBefore p)
+  alone-facts alone =
+      let none : replaced (alike p.script) p.past.0 ≡ (λ n. []) = λ i n. runs-keep (alike p.script) p.past.0 alone n i in
+      facts-alone p.script (node_turns p.script) (node_facts p.script) (node-laws p.script) (base_of p.script p.plan p.trace) (logs_at p.logs (world_at p)) (sent_earlier (alike p.script) p.past.0) (sent_by (world_at p)) (TickedBefore p)
+      (subst (λ (olds : NodeId → List (List Effect)). refines.OlderFacts (node_facts p.script) (base_of p.script p.plan p.trace) (logs_at p.logs (world_at p)) olds (sent_earlier (alike p.script) p.past.0) (sent_by (world_at p)) (TickedBefore p)) none place-facts)
 
   abbrev ever : List Post
   ever = sent_before p
@@ -67,41 +73,10 @@ module _ (p : Position) where
   brokers-opened : (k : ℕ) → 1 ≤ k → k ≤ p.plan.brokers → is_some (opened_log p.trace.opened (broker k)) ≡ true
   brokers-opened k low high = p.legal.nodes.just (broker k) ∙ and-both (nat_le 1 k) (nat_le k p.plan.brokers) (le-leb 1 k low) (le-leb k p.plan.brokers high)
 
-  pub place-serial-facts : RunFacts (run_at p) ever
-  place-serial-facts =
-      run-facts p.script (base_of p.script p.plan p.trace) p.plan (logs_at p.logs (world_at p)) (past_sent (alike p.script) p.past.0) (sent_by (world_at p)) (TickedBefore p) refl refl p.whole p.legal.scripted
-      brokers-opened place-facts
-
-  -- what a repository, or a broker, sent
-  acknowledges : (k : NodeKind) (i : ℕ) (log : List Effect) (to : NodeId) (m : Message) → kind_post p.script ever k i log (record { to = to; message = m }) →
-      Acknowledges ever (record { kind = k; number = i }) log m
-  acknowledges Repository i log to (message.Stored x) h = (h.0, h.1, h.2.0, h.3)
-  acknowledges Repository i log to (message.Value x v) h = (h.0, h.1.0, h.3)
-  acknowledges Repository i log to (message.Decided s d) h = h
-  acknowledges Repository i log to (message.Tell s c) h = h
-  acknowledges Repository i log to (message.Begin s d) h = absurd h
-  acknowledges Repository i log to (message.Read x o) h = absurd h
-  acknowledges Repository i log to (message.Write x o v) h = absurd h
-  acknowledges Repository i log to (message.Commit s) h = absurd h
-  acknowledges Repository i log to (message.Withdraw s) h = absurd h
-  acknowledges Broker i log to (message.Begin s d) h = tt
-  acknowledges Broker i log to (message.Read x o) h = tt
-  acknowledges Broker i log to (message.Write x o v) h = tt
-  acknowledges Broker i log to (message.Commit s) h = tt
-  acknowledges Broker i log to (message.Withdraw s) h = tt
-  acknowledges Repository i log to m h = tt
-  acknowledges Broker i log to m h = absurd h
-
-  pub place-acknowledges : (q : Post) → Has q ever → Acknowledges ever q.from (log_at p q.from) q.message
-  place-acknowledges q h = acknowledges q.from.kind q.from.number (log_at p q.from) q.to q.message (every-has _ ever q place-facts.sent_ok h)
-
-  -- what a read was answered is seen there still
-  sees-still : (m : List Mark) (o : ObjectId) (t : TimeParts) (v : Value) → Viewed m o t v → SeesStill m o t v
-  sees-still m o t v h = λ living. let same = sees-views m o t living in (ap value_of same ∙ h.0, subst (Firm m t) (sym same) h.1)
-
-  pub place-sees : (r : ℕ) (to : NodeId) (t : TimeParts) (v : Value) → Has (record { from = repository r; to = to; message = message.Value t v }) ever
-      → (o : ObjectId) × SeesStill (marks (log_at p (repository r))) o t v
-  place-sees r to t v h = let a = place-acknowledges (record { from = repository r; to = to; message = message.Value t v }) h in (a.0, sees-still (marks (log_at p (repository r))) a.0 t v a.2)
+  pub place-serial-facts : RunsAlone p → RunFacts (run_at p) ever
+  place-serial-facts alone =
+      run-facts p.script (base_of p.script p.plan p.trace) p.plan (logs_at p.logs (world_at p)) (sent_earlier (alike p.script) p.past.0) (sent_by (world_at p)) (TickedBefore p) refl refl p.whole p.legal.scripted
+      brokers-opened (alone-facts alone)
 
   -- of a message that was sent later too
   left-told : (xs ys : List Post) (r : ℕ) (Told More : TimeParts → ObjectId → Value → WriteStep → Type 0) → ((x : TimeParts) (o : ObjectId) (v : Value) (s : WriteStep) → Told x o v s → More x o v s) →
@@ -130,14 +105,15 @@ module _ (p : Position) where
           inl (z.0, z.1, (subst (λ j. Has (record { from = broker x.stamp.broker; to = repository j; message = message.Write x z.0 z.1 }) (sent_by (walk b es))) z.2 (write-sent b es x z.0 z.1 s z.3), z.2), z.3)
       one x s (inr z) = inr (z.0, (subst (λ j. Has (record { from = broker x.stamp.broker; to = repository j; message = message.Read x z.0 }) (sent_by (walk b es))) z.3 (read-sent b es x z.0 z.1 z.4), z.3))
 
-  -- in a run of the past
-  past-told : (cs : List Call) → AreCalls (alike p.script) cs → (r : ℕ) (q : Post) → Has q (past_sent (alike p.script) cs) → q.from ≡ repository r → Says (ToldRequest (past_sent (alike p.script) cs) r (AnsweredIn (alike p.script) cs)) q.message
+  -- in a call of the past
+  past-told : (cs : List Earlier) → AreEarlier (alike p.script) cs → (r : ℕ) (q : Post) → Has q (sent_earlier (alike p.script) cs) → q.from ≡ repository r → Says (ToldRequest (sent_earlier (alike p.script) cs) r (AnsweredIn (alike p.script) cs)) q.message
   past-told [] c r q h e = absurd h
-  past-told (c ∷ cs) calls r q h e =
+  past-told (Retiring k at ∷ cs) calls r q h e = past-told cs calls.0 r q h e
+  past-told (Running c ∷ cs) calls r q h e =
       let b : Base = base_of p.script c.plan c.trace in
-      elim (has-either (past_sent (alike p.script) cs) (sent_by (walk b c.trace.entries)) q h) [
-        | inl k ↦ left-told (past_sent (alike p.script) cs) (sent_by (walk b c.trace.entries)) r (AnsweredIn (alike p.script) cs) (AnsweredIn (alike p.script) (c ∷ cs)) (λ x o v s a. inr a) q.message (past-told cs calls.0 r q k e)
-        | inr k ↦ right-told (past_sent (alike p.script) cs) (sent_by (walk b c.trace.entries)) r (WasAnswered b c.trace.entries) (AnsweredIn (alike p.script) (c ∷ cs)) (λ x o v s a. inl a) q.message
+      elim (has-either (sent_earlier (alike p.script) cs) (sent_by (walk b c.trace.entries)) q h) [
+        | inl k ↦ left-told (sent_earlier (alike p.script) cs) (sent_by (walk b c.trace.entries)) r (AnsweredIn (alike p.script) cs) (AnsweredIn (alike p.script) (Running c ∷ cs)) (λ x o v s a. inr a) q.message (past-told cs calls.0 r q k e)
+        | inr k ↦ right-told (sent_earlier (alike p.script) cs) (sent_by (walk b c.trace.entries)) r (WasAnswered b c.trace.entries) (AnsweredIn (alike p.script) (Running c ∷ cs)) (λ x o v s a. inl a) q.message
             (here-told b (fates_of c.trace.sent) c.trace.entries calls.1.legal.meets r q k e)
       ]
 
@@ -145,15 +121,15 @@ module _ (p : Position) where
   tells r q h e =
       let b : Base = base_of p.script p.plan p.trace in
       let meets = meets-front b (fates_of p.trace.sent) (start_world b) p.front p.rest (subst (Meets b (fates_of p.trace.sent) (start_world b)) p.here p.legal.meets) in
-      elim (has-either (past_sent (alike p.script) p.past.0) (sent_by (world_at p)) q h) [
-        | inl k ↦ left-told (past_sent (alike p.script) p.past.0) (sent_by (world_at p)) r (AnsweredIn (alike p.script) p.past.0) (AnsweredBefore p) (λ x o v s a. inr a) q.message (past-told p.past.0 p.past.1 r q k e)
-        | inr k ↦ right-told (past_sent (alike p.script) p.past.0) (sent_by (world_at p)) r (WasAnswered b p.front) (AnsweredBefore p) (λ x o v s a. inl a) q.message (here-told b (fates_of p.trace.sent) p.front meets r q k e)
+      elim (has-either (sent_earlier (alike p.script) p.past.0) (sent_by (world_at p)) q h) [
+        | inl k ↦ left-told (sent_earlier (alike p.script) p.past.0) (sent_by (world_at p)) r (AnsweredIn (alike p.script) p.past.0) (AnsweredBefore p) (λ x o v s a. inr a) q.message (past-told p.past.0 p.past.1 r q k e)
+        | inr k ↦ right-told (sent_earlier (alike p.script) p.past.0) (sent_by (world_at p)) r (WasAnswered b p.front) (AnsweredBefore p) (λ x o v s a. inl a) q.message (here-told b (fates_of p.trace.sent) p.front meets r q k e)
       ]
 
-  pub place-causes : Causes (run_at p) (TickedBefore p) (AnsweredBefore p)
-  place-causes =
-      run-causes p.script (base_of p.script p.plan p.trace) p.plan (logs_at p.logs (world_at p)) (past_sent (alike p.script) p.past.0) (sent_by (world_at p)) (TickedBefore p) refl refl p.whole p.legal.scripted
-      brokers-opened place-facts
+  pub place-causes : RunsAlone p → Causes (run_at p) (TickedBefore p) (AnsweredBefore p)
+  place-causes alone =
+      run-causes p.script (base_of p.script p.plan p.trace) p.plan (logs_at p.logs (world_at p)) (sent_earlier (alike p.script) p.past.0) (sent_by (world_at p)) (TickedBefore p) refl refl p.whole p.legal.scripted
+      brokers-opened (alone-facts alone)
       (AnsweredBefore p) tells
 
   -- ---- logs of repositories
@@ -197,7 +173,9 @@ module _ (p : Position) where
   answers-sent b = proven p.script b ever (log_at p (broker b)) (broker-tidy b) (place-facts.proofs (broker b))
 
   pub requests-right : (b : ℕ) (to : NodeId) (m : Message) → Has (record { from = broker b; to = to; message = m }) ever → PostHolds p.script b (tries (book (log_at p (broker b)))) to m
-  requests-right b to m h = every-has _ ever (record { from = broker b; to = to; message = m }) place-facts.sent_ok h
+  requests-right b to m h =
+      broker-post p.script (base_of p.script p.plan p.trace) (logs_at p.logs (world_at p)) (replaced (alike p.script) p.past.0) (sent_earlier (alike p.script) p.past.0) (sent_by (world_at p)) (TickedBefore p) place-facts
+      b (map reverse (replaced (alike p.script) p.past.0 (broker b))) (log_at p (broker b)) to m (place-facts.lineage (broker b)) (every-has _ ever (record { from = broker b; to = to; message = m }) place-facts.sent_ok h)
 
   pub place-limits : (b : ℕ) → Every IsWithinLimits (book (log_at p (broker b))).acts
   place-limits b = every-left IsWithinLimits (book (log_at p (broker b))).acts (book (log_at p (broker b))).past (within p.script b (log_at p (broker b)) (broker-tidy b))

@@ -1,39 +1,31 @@
 -- A run of a plan over the logs of its nodes, which stand newest first.
-use Rattle.std.specs.Prelude.{◌≡◌, ◌⊎◌, ℕ, true, List, [], ◌∷◌, ◌++◌, reverse}
-use Rattle.pseudo_time.specs.Lists.{Has}
-use Rattle.pseudo_time.specs.declared.decisions.Decision.{Decision}
+use Rattle.std.specs.Prelude.{◌≡◌, ◌⊎◌, ℕ, List, [], ◌∷◌, ◌++◌, reverse}
 use Rattle.pseudo_time.specs.declared.nodes.NodeId.{NodeId}
 use Rattle.value_form.specs.declared.objects.ObjectId.{ObjectId}
 use Rattle.value_form.specs.declared.values.Value.{Value}
 use Rattle.effect_form.specs.declared.effects.Effect.{Effect}
-use Rattle.effect_form.specs.declared.effects.Effect.TheVariants as effect
-use Rattle.message_form.specs.declared.messages.Message.{Message}
-use Rattle.message_form.specs.declared.messages.Message.TheVariants as message
 use Rattle.message_form.specs.Posts.{Post}
 use Rattle.stream_port.specs.declared.fates.Asked.{Asked}
 use Rattle.pseudo_time.specs.TimeParts.{TimeParts}
 use Rattle.object_history.specs.declared.steps.WriteStep.{WriteStep}
-use Rattle.object_history.specs.declared.marks.Mark.{Mark}
-use Rattle.object_history.specs.History.{alive, sees}
-use Rattle.object_history.specs.Views.{Firm, Viewed, value_of}
 use Rattle.serial_model.specs.Questions.{Tree}
 use Rattle.plan_form.specs.declared.plans.Plan.{Plan}
 use Rattle.plan_form.specs.PlanTexts.{IsOfLanguage}
-use Rattle.repository_core.specs.Logs.{is_commit, marks}
-use Rattle.pseudo_time.specs.Nodes.{broker}
 use Rattle.world_core.specs.declared.entries.Entry.{Entry}
 use Rattle.world_core.specs.declared.traces.Trace.{Trace}
 use Rattle.world_core.specs.Walks.{World, walk, sent_by}
 use Rattle.world_core.specs.Legal.{Legal, base_of}
 use Rattle.world_core.specs.Answered.{WasAnswered}
-use Rattle.world_core.specs.Pasts.{Call, HasPast, OpenedWith, alike}
-use Rattle.world_facts.specs.Refines.{logs_at, past_sent, Ticked}
+use Rattle.world_core.specs.Pasts.{OpenedWith, alike}
+use Rattle.world_facts.specs.Earlier.{AreRuns, ComeFrom, Earlier, TickedBy, sent_earlier}
+use Rattle.world_facts.specs.Earlier.Earlier.{Running, Retiring}
+use Rattle.world_facts.specs.Refines.{logs_at}
 pub use Rattle.world_core.specs.Deeds.{Try, RunLogs, attempt, book_tries, run_of}
 unfoldable pub use Rattle.world_core.specs.Deeds.{run_tries}
 
 -- ---- places of legal traces
 
--- A place of a legal trace of a plan of the language, over logs with a past. `logs` are those so far, oldest effect first, and
+-- A place of a legal trace of a plan of the language, over logs that runs and retirements left. `logs` are those so far, oldest effect first, and
 -- `front` are the trace's entries up to the place. `script` reads the texts of scripts.
 pub record Position : Type 0 where
   pub script : List ℕ → Tree
@@ -45,7 +37,7 @@ pub record Position : Type 0 where
   pub rest : List Entry
   pub here : trace.entries ≡ front ++ rest
   pub whole : IsOfLanguage plan
-  pub past : HasPast (alike script) logs
+  pub past : ComeFrom (alike script) logs
   pub agrees : OpenedWith trace.opened logs
   pub legal : Legal script plan asked trace
 
@@ -60,36 +52,24 @@ log_at p n = reverse (logs_at p.logs (world_at p) n)
 abbrev pub run_at : Position → RunLogs
 run_at p = run_of p.script p.plan (log_at p)
 
--- all that was sent before, in the runs of the past and in the trace
+-- the calls of the past are runs alone, so that no log was retired
+abbrev pub RunsAlone : Position → Type 0
+RunsAlone p = AreRuns p.past.0
+
+-- all that was sent before, in the calls of the past and in the trace
 abbrev pub sent_before : Position → List Post
-sent_before p = past_sent (alike p.script) p.past.0 ++ sent_by (world_at p)
+sent_before p = sent_earlier (alike p.script) p.past.0 ++ sent_by (world_at p)
 
 -- the moment was ticked before, in a run of the past or in the trace
 abbrev pub TickedBefore : Position → ℕ → Type 0
-TickedBefore p = Ticked p.past.0 p.front
+TickedBefore p = TickedBy p.past.0 p.front
 
--- in one of these runs the repository of the object took this write, and answered so
-abbrev pub AnsweredIn : (Plan → List ℕ → Tree) → List Call → TimeParts → ObjectId → Value → WriteStep → Type 0
+-- in one of these calls the repository of the object took this write, and answered so
+abbrev pub AnsweredIn : (Plan → List ℕ → Tree) → List Earlier → TimeParts → ObjectId → Value → WriteStep → Type 0
 AnsweredIn read [] x o v step = ⊥
-AnsweredIn read (c ∷ cs) x o v step = WasAnswered (base_of (read c.plan) c.plan c.trace) c.trace.entries x o v step ⊎ AnsweredIn read cs x o v step
+AnsweredIn read (Retiring r at ∷ cs) x o v step = AnsweredIn read cs x o v step
+AnsweredIn read (Running c ∷ cs) x o v step = WasAnswered (base_of (read c.plan) c.plan c.trace) c.trace.entries x o v step ⊎ AnsweredIn read cs x o v step
 
 -- before, in the trace or in a run of the past
 abbrev pub AnsweredBefore : Position → TimeParts → ObjectId → Value → WriteStep → Type 0
 AnsweredBefore p x o v step = WasAnswered (base_of p.script p.plan p.trace) p.front x o v step ⊎ AnsweredIn (alike p.script) p.past.0 x o v step
-
--- ---- acknowledgements
-
--- What a read of the object at t sees there has this value, and is the origin, or a version that is settled or the reader's own,
--- unless the log knows the reader as aborted.
-abbrev pub SeesStill : List Mark → ObjectId → TimeParts → Value → Type 0
-SeesStill m o t v = alive m t ≡ true → (value_of (sees m o t) ≡ v) × Firm m t (sees m o t)
-
--- What a sender's log has after it sent the message; `ever` are all messages that were sent. After Stored the put with that start
--- stands in it. After Value a read of that object there sees that value, of the origin, or of a version that is settled or the
--- reader's own, unless the log knows the reader as aborted. After Decided and Tell the Decide stands in it.
-abbrev pub Acknowledges : List Post → NodeId → List Effect → Message → Type 0
-Acknowledges ever from log (message.Stored t) = (o : ObjectId) × (v : Value) × Has (record { from = broker t.stamp.broker; to = from; message = message.Write t o v }) ever × Has (effect.Put o t v) log
-Acknowledges ever from log (message.Value t v) = (o : ObjectId) × Has (record { from = broker t.stamp.broker; to = from; message = message.Read t o }) ever × Viewed (marks log) o t v
-Acknowledges ever from log (message.Decided s d) = Has (effect.Decide s d) log
-Acknowledges ever from log (message.Tell s c) = (d : Decision) × Has (effect.Decide s d) log × (c ≡ is_commit d)
-Acknowledges ever from log _ = Unit {0}

@@ -1,4 +1,4 @@
--- A run by its plan and its trace, over logs that earlier runs left.
+-- A run by its plan and its trace, over logs that runs alone left.
 use Rattle.std.specs.Prelude.{List}
 use Rattle.pseudo_time.specs.declared.nodes.NodeId.{NodeId}
 use Rattle.effect_form.specs.declared.effects.Effect.{Effect}
@@ -6,7 +6,8 @@ use Rattle.plan_form.specs.declared.plans.Plan.{Plan}
 use Rattle.world_core.specs.declared.traces.Trace.{Trace}
 use Rattle.world_core.specs.Deeds.{RunLogs, finals}
 use Rattle.world_core.specs.Pasts.{OpenedWith}
-use Rattle.world_core.specs.Readings.{WereLeft, gated_log}
+use Rattle.world_core.specs.Readings.{gated_log}
+use Rattle.world_facts.specs.Earlier.{AreRuns, WereLeftOrRetired}
 use Rattle.serial_law.specs.Serial.{HoldsAll, Serial}
 use Rattle.trace_report.specs.Reports.{run_over}
 
@@ -14,10 +15,10 @@ use Rattle.trace_report.specs.Reports.{run_over}
 abbrev pub run_in : Plan → Trace → RunLogs
 run_in plan t = run_over plan (gated_log plan t)
 
--- Over logs that earlier runs left every attempt reads, writes and ends as its script does alone.
+-- Over logs that runs alone left every attempt reads, writes and ends as its script does alone.
 abbrev pub IsSerialOver : Plan → Trace → Type 0
-IsSerialOver plan t = (logs : NodeId → List Effect) → WereLeft logs → OpenedWith t.opened logs → Serial (run_in plan t)
+IsSerialOver plan t = (logs : NodeId → List Effect) (left : WereLeftOrRetired logs) → AreRuns left.0 → OpenedWith t.opened logs → Serial (run_in plan t)
 
 -- and the map after all committed deeds has, of each object, the committed put with the greatest start
 abbrev pub HoldsFinals : Plan → Trace → Type 0
-HoldsFinals plan t = (logs : NodeId → List Effect) → WereLeft logs → OpenedWith t.opened logs → HoldsAll (run_in plan t) (finals (run_in plan t))
+HoldsFinals plan t = (logs : NodeId → List Effect) (left : WereLeftOrRetired logs) → AreRuns left.0 → OpenedWith t.opened logs → HoldsAll (run_in plan t) (finals (run_in plan t))

@@ -1,5 +1,5 @@
 // A place of a trace is the entries before it, so each law holds at the trace's end and after each entry.
-ghost use Rattle.pseudo_time.specs.Lists.{Every, Has};
+ghost use Rattle.pseudo_time.specs.Lists.{Every};
 ghost use Rattle.std.specs.Prelude.{◌≡◌, ℕ, List, ◌∷◌, ◌++◌};
 ghost use Rattle.pseudo_time.specs.StampParts.{StampParts};
 ghost use Rattle.effect_form.specs.declared.effects.Effect.{Effect};
@@ -7,14 +7,8 @@ ghost use Rattle.effect_form.specs.declared.effects.Effect.TheVariants as effect
 ghost use Rattle.effect_form.specs.declared.outcomes.Outcome.{Outcome};
 ghost use Rattle.message_form.specs.Posts.{Post};
 ghost use Rattle.broker_core.specs.Book.{book};
-ghost use Rattle.pseudo_time.specs.Nodes.{broker, repository};
-ghost use Rattle.pseudo_time.specs.TimeParts.{TimeParts};
-ghost use Rattle.pseudo_time.specs.declared.nodes.NodeId.{NodeId};
-ghost use Rattle.value_form.specs.declared.objects.ObjectId.{ObjectId};
-ghost use Rattle.value_form.specs.declared.values.Value.{Value};
+ghost use Rattle.pseudo_time.specs.Nodes.{broker};
 ghost use Rattle.effect_form.specs.declared.outcomes.Outcome.TheVariants as outcome;
-ghost use Rattle.message_form.specs.declared.messages.Message.TheVariants as message;
-ghost use Rattle.repository_core.specs.Logs.{marks};
 ghost use Rattle.broker_laws.specs.Fits.{MayTry};
 ghost use Rattle.broker_laws.specs.Posts.{IsWithinLimits};
 ghost use Rattle.world_facts.specs.AnyRules.{log_before};
@@ -22,37 +16,29 @@ ghost use Rattle.serial_law.specs.Added.{AnyPlace, any_log, EndCause};
 ghost use Rattle.serial_law.specs.Causes.{Causes, IsSpent};
 ghost use Rattle.world_core.specs.Deeds.{RunLogs, before, finals};
 ghost use Rattle.serial_law.specs.Facts.{RunFacts};
-ghost use Rattle.serial_law.specs.Runs.{Position, log_at, run_at, sent_before, TickedBefore, AnsweredBefore, Acknowledges, SeesStill};
+ghost use Rattle.serial_law.specs.Runs.{Position, RunsAlone, log_at, run_at, TickedBefore, AnsweredBefore};
 ghost use Rattle.serial_law.specs.Serial.{Serial, HoldsAll, HoldsBefore};
 
 /// Every attempt of a run reads, writes and ends as its script does alone, over the map after the
 /// committed deeds before its stamp (Bernstein et al. 1987, chapter 5): at each place of each legal
-/// trace over logs with a past, with crashes anywhere, and of all logs and messages with these facts.
+/// trace over logs that runs alone left, with crashes anywhere, and of all logs and messages with these
+/// facts.
 pub fn law_serial()
-    ensures places { (p : Position) → Serial (run_at p) }
+    ensures places { (p : Position) → RunsAlone p → Serial (run_at p) }
     ensures facts { (k : RunLogs) (ever : List Post) → RunFacts k ever → Serial k }
 {}
 
 /// The map after all committed deeds has, of each object, the committed put with the greatest start in
 /// the logs, else Nothing.
 pub fn law_finals()
-    ensures places { (p : Position) → HoldsAll (run_at p) (finals (run_at p)) }
+    ensures places { (p : Position) → RunsAlone p → HoldsAll (run_at p) (finals (run_at p)) }
     ensures facts { (k : RunLogs) (ever : List Post) → RunFacts k ever → HoldsAll k (finals k) }
 {}
 
 /// The map before a stamp has, of each object, the committed put with the greatest start below it.
 pub fn law_before()
-    ensures places { (p : Position) (s : StampParts) → HoldsBefore (run_at p) s (before (run_at p) s) }
+    ensures places { (p : Position) → RunsAlone p → (s : StampParts) → HoldsBefore (run_at p) s (before (run_at p) s) }
     ensures facts { (k : RunLogs) (ever : List Post) → RunFacts k ever → (s : StampParts) → HoldsBefore k s (before k s) }
-{}
-
-/// Whatever was sent before a place, in the trace or in the past, the log of its sender agrees with there.
-/// What a read was answered, a read at that time would see there still, unless its attempt was aborted.
-pub fn law_acknowledged()
-    ensures sight { (p : Position) (r : ℕ) (to : NodeId) (t : TimeParts) (v : Value) →
-        Has (record { from = repository r; to = to; message = message.Value t v }) (sent_before p)
-        → (o : ObjectId) × SeesStill (marks (log_at p (repository r))) o t v }
-    ensures logs { (p : Position) (q : Post) → Has q (sent_before p) → Acknowledges (sent_before p) q.from (log_at p q.from) q.message }
 {}
 
 /// Each End of an attempt of the run has its cause in the logs: a decision at its home, the end that its
@@ -64,7 +50,7 @@ pub fn law_acknowledged()
 /// Over logs without a past, too, each End that the trace added has its cause: a refusal, the end of a
 /// script, or that no clock was left.
 pub fn law_causes()
-    ensures ends { (p : Position) → Causes (run_at p) (TickedBefore p) (AnsweredBefore p) }
+    ensures ends { (p : Position) → RunsAlone p → Causes (run_at p) (TickedBefore p) (AnsweredBefore p) }
     ensures spent { (p : Position) (b i c : ℕ) (late early : List Effect) → log_at p (broker b) ≡ late ++ (effect.End i (outcome.Spent c) ∷ early) →
         MayTry i (book early).acts (IsSpent (book early) c) }
     ensures limits { (p : Position) (b : ℕ) → Every IsWithinLimits (book (log_at p (broker b))).acts }

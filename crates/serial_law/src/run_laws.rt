@@ -9,7 +9,7 @@ ghost use Rattle.serial_law.specs.Serials.{HoldsFinals, IsSerialOver};
 ghost use Rattle.serial_law.specs.Reasons.{AddedHaveReasons, HaveReasons};
 ghost use Rattle.serial_law.specs.Acknowledged.{KeepsAnswers, SpendsRightly};
 
-use crate::{law_acknowledged, law_causes, law_facts, law_finals, law_serial};
+use crate::{law_causes, law_facts, law_finals, law_serial};
 
 /// Every attempt of a run reads, writes and ends as its script does alone, after the committed deeds before
 /// its stamp (Bernstein et al. 1987, chapter 5): of each legal trace of a plan of the language, whatever
@@ -41,12 +41,11 @@ pub fn law_of_reasons()
 /// No read ever saw a version of an aborted attempt, and nothing that was acknowledged is taken back: the
 /// logs at the end of a run agree with whatever was sent in it, or in an earlier run. A version that was
 /// stored stands there, and so does a decision; what a read was answered a read at its time would see
-/// there still, of an attempt that was committed or of its own, unless the reader itself was aborted.
+/// there still, of an attempt that was committed or of its own, unless the reader itself was aborted. Of
+/// what a retirement gave up the retired volume has it.
 pub fn law_of_answers()
     ensures { (plan : Plan) (asked : List Asked) (t : Trace) → IsOfLanguage plan → IsLegal plan asked t → KeepsAnswers plan t }
-{
-    law_acknowledged();
-}
+{}
 
 /// An act is spent only where a new attempt of it might begin, and no clock is left above those of the log
 /// and the one that its refusals showed.

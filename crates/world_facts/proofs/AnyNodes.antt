@@ -141,18 +141,22 @@ module _ (script : List ℕ → Tree) (run : ℕ) (acts : List ActSpec) (own : N
     opened = λ ever n start. opened-mind ever n.kind n.number start;
     turn = λ w r a n log mind input g may sender. turn-same w r a n log mind input g.ready.0 g.ready.1 g.mind_ok may;
     ready_below = λ r a n log f tidy fits ready. ready;
+    retired_tidy = λ n old new r t. absurd r;
+    retired_proofs = λ w n old new r h. absurd r;
+    retired_decided = λ n old new r s d h. absurd r;
   }
 
 -- ---- traces
 
 module _ (script : List ℕ → Tree) (run : ℕ) (acts : List ActSpec) (logs : NodeId → List Effect) (May : ℕ → Type 0) where
   -- a run begins over these logs, oldest effect first
-  any-left : Left (node_turns script) (any_facts script run acts (λ n. reverse (logs n))) logs [] (λ t. ⊥)
+  any-left : Left (node_turns script) (any_facts script run acts (λ n. reverse (logs n))) logs (λ n. []) [] (λ t. ⊥)
   any-left = record {
     events = Start (λ n. reverse (logs n)) ∷ [];
-    may = λ n. (record { early = []; is = refl; grew = tt }, each-short (length (reverse (logs n))) (any_cause script run acts [] n.kind n.number) (reverse (logs n)) (omega arith));
+    may = λ n. (record { early = []; is = refl; grew = tt }, each-short (length (reverse (logs n))) (any_cause script run acts [] n.kind n.number) (reverse (logs n)) (omega arith), tt);
     gated = λ n. refl;
     fresh = λ n. refl;
+    retired = λ n. refl;
     ever = refl;
     ticked = λ t h. h;
   }
@@ -168,5 +172,5 @@ any-trace script plan asked t front rest legal here =
     let agrees : OpenedWith t.opened logs = λ n log e. sym (ap (λ z. unwrap_or z []) e) in
     let rules : Meets b (fates_of t.sent) (start_world b) front = meets-front b (fates_of t.sent) (start_world b) front rest (subst (Meets b (fates_of t.sent) (start_world b)) here legal.meets) in
     facts-of script (node_turns script) (any_facts script b.run b.acts own) laws b logs [] (λ moment. Has (Tick moment) front) (walk b front)
-    (walk-refines script (node_turns script) (any_facts script b.run b.acts own) laws b logs [] (λ moment. Has (Tick moment) front) refl (fates_of t.sent) (start_world b) front (λ moment h. h)
-    (opens script (node_turns script) (any_facts script b.run b.acts own) laws b logs [] (λ moment. ⊥) (λ moment. Has (Tick moment) front) (λ moment h. absurd h) (any-left script b.run b.acts logs (λ moment. ⊥)) agrees (λ n e. (refl, refl))) rules)
+    (walk-refines script (node_turns script) (any_facts script b.run b.acts own) laws b logs (λ n. []) [] (λ moment. Has (Tick moment) front) refl (fates_of t.sent) (start_world b) front (λ moment h. h)
+    (opens script (node_turns script) (any_facts script b.run b.acts own) laws b logs (λ n. []) [] (λ moment. ⊥) (λ moment. Has (Tick moment) front) (λ moment h. absurd h) (any-left script b.run b.acts logs (λ moment. ⊥)) agrees (λ n e. (refl, refl))) rules)

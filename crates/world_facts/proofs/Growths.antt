@@ -1,5 +1,5 @@
 -- Logs that grow, lists, and functions that change at one node.
-use Rattle.std.proofs.Common.{◌≡◌, ℕ, zero, suc, ◌-◌, Bool, true, false, List, [], ◌∷◌, ◌++◌, length, drop, take, reverse, map, cond, if◌then◌else◌, refl, sym, ◌∙◌, ap, subst, Some, arith, inl, inr, slice_get}
+use Rattle.std.proofs.Common.{◌≡◌, ℕ, zero, suc, ◌-◌, Bool, true, false, List, [], ◌∷◌, ◌++◌, length, drop, take, reverse, map, cond, if◌then◌else◌, refl, sym, ◌∙◌, ap, subst, Some, arith, ◌⊎◌, inl, inr, slice_get}
 use Rattle.std.specs.List.{filter}
 use Rattle.std.proofs.lemmas.List.{take-append-drop, reverse-append, length-append}
 use Rattle.pseudo_time.specs.Lists.{Every, Has}
@@ -27,6 +27,10 @@ pub each-has : (P : List Effect → Effect → Type 0) (log : List Effect) (f : 
 each-has P [] f h k = absurd k
 each-has P (g ∷ log) f h (inl e) = (log, subst (P log) e h.1)
 each-has P (g ∷ log) f h (inr k) = each-has P log f h.0 k
+
+pub or-left : {A B C : Type 0} → (A → B) → A ⊎ C → B ⊎ C
+or-left f (inl a) = inl (f a)
+or-left f (inr c) = inr c
 
 -- ---- lists
 
@@ -128,6 +132,14 @@ put-all P n x s here there k = go (same_node n k) refl
   where
     go : (b : Bool) → same_node n k ≡ b → P k (if b then x else s k)
     go true e = subst (λ z. P z x) (same_is n k e) here
+    go false e = there k
+
+pub put-both : {X Y : Type 0} → (P : NodeId → X → Y → Type 0) (n : NodeId) (x : X) (s : NodeId → X) (y : Y) (t : NodeId → Y) → P n x y → ((k : NodeId) → P k (s k) (t k)) →
+    (k : NodeId) → P k (put n x s k) (put n y t k)
+put-both P n x s y t here there k = go (same_node n k) refl
+  where
+    go : (b : Bool) → same_node n k ≡ b → P k (if b then x else s k) (if b then y else t k)
+    go true e = subst (λ z. P z x y) (same_is n k e) here
     go false e = there k
 
 pub put-here : {X : Type 0} → (n : NodeId) (x : X) (s : NodeId → X) → put n x s n ≡ x

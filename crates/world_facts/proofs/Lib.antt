@@ -1,8 +1,13 @@
+pub mod AnswerLemmas
 pub mod AnyNodes
+pub mod EarlierLemmas
 pub mod Growths
 pub mod Keeps
 pub mod NodeLaws
+pub mod OldChains
 pub mod Openings
 pub mod Ranges
 pub mod Refinements
+pub mod RetiredLogs
 pub mod Steps
+pub mod WorkedRetirements

@@ -1,6 +1,8 @@
 -- The rules of repositories and of brokers keep what a run asks of them.
 use Rattle.std.proofs.Common.{◌≡◌, ℕ, true, List, [], ◌∷◌, ◌++◌, reverse, refl, sym, subst, Option, Some, None, is_none}
 use Rattle.pseudo_time.specs.Lists.{Every, Has}
+use Rattle.pseudo_time.specs.StampParts.{StampParts}
+use Rattle.pseudo_time.specs.declared.decisions.Decision.{Decision}
 use Rattle.pseudo_time.specs.declared.decisions.Decision.TheVariants as decision
 use Rattle.pseudo_time.specs.declared.nodes.NodeId.{NodeId}
 use Rattle.pseudo_time.specs.declared.nodes.NodeKind.{NodeKind}
@@ -10,10 +12,12 @@ use Rattle.value_form.specs.declared.acts.ActSpec.{ActSpec}
 use Rattle.effect_form.specs.declared.effects.Effect.{Effect}
 use Rattle.effect_form.specs.declared.effects.Effect.TheVariants as effect
 use Rattle.message_form.specs.declared.messages.Message.{Message}
+use Rattle.message_form.specs.declared.messages.Message.TheVariants as message
 use Rattle.message_form.specs.declared.turns.Out.{Out}
 use Rattle.message_form.specs.Growth.{Grew, Each}
 use Rattle.message_form.specs.Posts.{Post}
 use Rattle.serial_model.specs.Questions.{Tree}
+use Rattle.object_retirement.proofs.ForwardLemmas.{decide-forwarded}
 use Rattle.repository_core.specs.Hands.{Hand}
 use Rattle.repository_core.specs.Turns as hands
 use Rattle.repository_laws.specs.Facts as repositories
@@ -36,7 +40,8 @@ use Rattle.broker_laws.proofs.TurnLemmas.{turn-added, ready-cut, cause-more}
 use Rattle.world_core.specs.Nodes.{Mind, opened_mind, Input, gives, kind_gives, is_ready, kind_ready, acts_of, repository}
 use Rattle.world_core.specs.Nodes.Input.{Going, Taking, Learning, Hearing}
 use Rattle.world_facts.specs.Rules.{Around, Later, forward, MayInput, SenderOk, TurnGiven, TurnGives, NodeLaws, PastLaws}
-use Rattle.world_facts.specs.NodeRules.{of_hand, of_desk, kind_turn, node_turns, kind_fits, kind_tidy, kind_post, kind_cause, kind_mind, kind_is_ready, node_facts}
+use Rattle.world_facts.specs.NodeRules.{of_hand, of_desk, kind_turn, node_turns, kind_fits, kind_tidy, kind_post, kind_cause, kind_mind, kind_is_ready, kind_retires, node_facts}
+use Rattle.world_facts.proofs.RetiredLogs.{each-forwarded, tidy-forwarded}
 
 none-is : {A : Type 0} (o : Option A) → is_none o ≡ true → o ≡ None
 none-is None h = refl
@@ -113,6 +118,21 @@ module _ (script : List ℕ → Tree) where
   empty-kind Repository i = tt
   empty-kind Broker i = tt
 
+  -- ---- retirements
+
+  retired-tidy : (k : NodeKind) (i : ℕ) (old new : List Effect) → kind_retires script k old new → kind_tidy script k i old → kind_tidy script k i new
+  retired-tidy Repository i old new r t = subst (repositories.IsTidy i) (sym r.2) (tidy-forwarded i old r.0 t)
+  retired-tidy Broker i old new r t = absurd r
+
+  retired-proofs : (w : Around) (k : NodeKind) (i : ℕ) (old new : List Effect) → kind_retires script k old new → Each (kind_cause script w k i) old → Each (kind_cause script w k i) new
+  retired-proofs w Repository i old new r h =
+      subst (Each (kind_cause script w Repository i)) (sym r.2) (each-forwarded (repositories.RestsOn w.ever (λ j. w.logs (repository j)) w.ticks i) old r.0 tt tt h)
+  retired-proofs w Broker i old new r h = absurd r
+
+  retired-decided : (k : NodeKind) (old new : List Effect) → kind_retires script k old new → (s : StampParts) (d : Decision) → Has (effect.Decide s d) old → Has (effect.Decide s d) new
+  retired-decided Repository old new r s d h = subst (Has (effect.Decide s d)) (sym r.2) (decide-forwarded old r.0 s d h)
+  retired-decided Broker old new r s d h = absurd r
+
   -- ---- turns
 
   -- nothing is given
@@ -120,10 +140,12 @@ module _ (script : List ℕ → Tree) where
       TurnGives (node_facts script) w run acts n log (record { effects = []; outs = []; mind = mind })
   nothing-gives w run acts n log mind g = record { grew = tt; proofs = tt; mind_ok = g.mind_ok; outs = tt; ready = g.ready }
 
-  backed : (w : Around) (n : NodeId) (k : NodeKind) (i : ℕ) (m : Message) → kind_post script w.ever k i (w.logs (record { kind = k; number = i })) (record { to = n; message = m }) →
-      repositories.IsBacked w.ever (λ j. w.logs (repository j)) k i n m
-  backed w n Repository i m h = h
-  backed w n Broker i m h = tt
+  -- a decision that was told stands in its sender's durable log
+  backed : (w : Around) (n : NodeId) (k : NodeKind) (i : ℕ) (m : Message) (log : List Effect) →
+      ((s : StampParts) (d : Decision) → Has (effect.Decide s d) log → Has (effect.Decide s d) (w.logs (record { kind = k; number = i }))) →
+      kind_post script w.ever k i log (record { to = n; message = m }) → repositories.IsBacked (λ j. w.logs (repository j)) k i m
+  backed w n Repository i (message.Tell s c) log still h = (h.0, still s h.0 h.1, h.2)
+  backed w n k i m log still h = tt
 
   is-given : (w : Around) (run : ℕ) (acts : List ActSpec) (r : ℕ) (log : List Effect) (mind : Mind) → TurnGiven (node_facts script) w run acts (repository r) log mind →
       IsGiven w.ever (λ k. w.logs (repository k)) r log mind.hands
@@ -156,7 +178,7 @@ module _ (script : List ℕ → Tree) where
       SenderOk (node_facts script) w (record { kind = k; number = i }) input → TurnGives (node_facts script) w run acts (record { kind = k; number = i }) log (kind_turn script run acts k i log mind input)
   turn-kind w run acts Repository i log mind Going g may sender = nothing-gives w run acts (repository i) log mind g
   turn-kind w run acts Repository i log mind (Taking from m) g may sender =
-      hand-gives w run acts i log mind _ (gives-taking w.ever (λ k. w.logs (repository k)) w.ticks i log mind.hands (is-given w run acts i log mind g) from m (may, backed w (repository i) from.kind from.number m sender))
+      hand-gives w run acts i log mind _ (gives-taking w.ever (λ k. w.logs (repository k)) w.ticks i log mind.hands (is-given w run acts i log mind g) from m (may, backed w (repository i) from.kind from.number m sender.0 sender.1 sender.2))
   turn-kind w run acts Repository i log mind (Learning s committed) g may sender =
       hand-gives w run acts i log mind _ (gives-learning w.ever (λ k. w.logs (repository k)) w.ticks i log mind.hands (is-given w run acts i log mind g) s committed may)
   turn-kind w run acts Repository i log mind (Hearing t) g may sender =
@@ -177,7 +199,10 @@ module _ (script : List ℕ → Tree) where
     opened = λ ever n start. opened-kind ever n.kind n.number start;
     turn = λ w run acts n log mind input g may sender. turn-kind w run acts n.kind n.number log mind input g may sender;
     ready_below = λ run acts n log f tidy fits ready. below-kind run acts n.kind n.number log f tidy fits ready;
+    retired_tidy = λ n old new r t. retired-tidy n.kind n.number old new r t;
+    retired_proofs = λ w n old new r h. retired-proofs w n.kind n.number old new r h;
+    retired_decided = λ n old new r s d h. retired-decided n.kind old new r s d h;
   }
 
   pub past-laws : PastLaws script (node_facts script)
-  past-laws = record { ready_is = ready-are; empty = λ n. empty-kind n.kind n.number }
+  past-laws = record { ready_is = ready-are; empty = λ n. empty-kind n.kind n.number; begins = λ n. refl }

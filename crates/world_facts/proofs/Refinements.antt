@@ -57,19 +57,20 @@ module _ (script : List ℕ → Tree) (turns : Turns) (F : NodeFacts) (laws : No
   ready-gated run acts n log (f ∷ fresh) tidy grew ready =
       ready-gated run acts n log fresh tidy grew.0 (laws.ready_below run acts n (fresh ++ log) f (tidy-grown script turns F laws n log fresh grew.0 tidy) grew.1 ready)
 
-  module _ (b : Base) (others : NodeId → List Effect) (old : List Post) (May : ℕ → Type 0) (same : b.script ≡ script) where
+  module _ (b : Base) (others : NodeId → List Effect) (olds : NodeId → List (List Effect)) (old : List Post) (May : ℕ → Type 0) (same : b.script ≡ script) where
     -- ---- one entry
 
     -- one node changed on both sides
-    one-changed : (s : Soft) (w : World) (e : Entry) (n : NodeId) (y : SoftNode) (ever new : List Post) → Models turns F b others old May s w → ((k : NodeId) → names k e ≡ same_node n k) →
+    one-changed : (s : Soft) (w : World) (e : Entry) (n : NodeId) (y : SoftNode) (ever new : List Post) → Models turns F b others olds old May s w → ((k : NodeId) → names k e ≡ same_node n k) →
         (w.flags n).known ≡ true → y ≡ soft_of (lives_on b w n (w.life n) e) → F.Ready b.run b.acts n (all_effects y) → ever ≡ s.ever ++ new →
-        sent_by (step b w e) ≡ sent_by w ++ new → last_after w.last e ≡ w.last → Models turns F b others old May (record { node = put n y s.node; ever = ever; ticks = s.ticks }) (step b w e)
+        sent_by (step b w e) ≡ sent_by w ++ new → last_after w.last e ≡ w.last → Models turns F b others olds old May (record { node = put n y s.node; olds = s.olds; ever = ever; ticks = s.ticks }) (step b w e)
     one-changed s w e n y ever new h own known is ready grew sends last = record {
       known = λ k. (step-known b w e k).0 ∙ h.known k;
       ups = λ k up. (step-known b w e k).0 ∙ h.ups k ((step-known b w e k).1 up);
       lives = λ k kn. (both-changed b w e n y s.node (λ k x l. ((w.flags k).known ≡ true) → x ≡ soft_of l) own known (λ u. is) h.lives k) (sym (step-known b w e k).0 ∙ kn);
       outside = λ k kn. (put-all (λ k x. ((w.flags k).known ≡ false) → (x.past ≡ reverse (others k)) × (x.added ≡ [])) n y s.node (λ u. absurd (not-both (w.flags n).known known u)) h.outside k) (sym (step-known b w e k).0 ∙ kn);
       unknown = λ k kn. let u : (w.flags k).known ≡ false = sym (step-known b w e k).0 ∙ kn in ap (λ (l : Life). l.gated) (unknown-stays b w e k u) ∙ h.unknown k u;
+      retired = h.retired;
       ever = grew ∙ ap (λ z. z ++ new) h.ever ∙ append_assoc old (sent_by w) new ∙ ap (λ z. old ++ z) (sym sends);
       ticks = λ t at. h.ticks t (sym last ∙ at);
       ticked = h.ticked;
@@ -78,9 +79,9 @@ module _ (script : List ℕ → Tree) (turns : Turns) (F : NodeFacts) (laws : No
     }
 
     -- an input of a node that was opened
-    input-refines : (w : World) (e : Entry) (n : NodeId) (input : Input) (r : Refines turns F b others old May w) → ((k : NodeId) → names k e ≡ same_node n k) → (w.flags n).known ≡ true →
+    input-refines : (w : World) (e : Entry) (n : NodeId) (input : Input) (r : Refines turns F b others olds old May w) → ((k : NodeId) → names k e ≡ same_node n k) → (w.flags n).known ≡ true →
         MayInput (around (happened turns r.events)) n input → lives_on b w n (w.life n) e ≡ after_input b n (w.life n) input → sent_by (step b w e) ≡ sent_by w → last_after w.last e ≡ w.last →
-        Refines turns F b others old May (step b w e)
+        Refines turns F b others olds old May (step b w e)
     input-refines w e n input r own known may is sends last =
         let s : Soft = happened turns r.events in
         let inv : Inv F s = inv-reached script turns F laws r.events r.may in
@@ -95,14 +96,14 @@ module _ (script : List ℕ → Tree) (turns : Turns) (F : NodeFacts) (laws : No
         }
 
     -- a decision that stands in the trace stands in the other world
-    decided-there : (s : Soft) (w : World) (t : StampParts) (committed : Bool) → Models turns F b others old May s w → IsDecidedAs w t committed → IsDecided (around s) t committed
+    decided-there : (s : Soft) (w : World) (t : StampParts) (committed : Bool) → Models turns F b others olds old May s w → IsDecidedAs w t committed → IsDecided (around s) t committed
     decided-there s w t committed h d = (d.0, go (w.flags (repository t.home)).known refl, d.2)
       where
         go : (k : Bool) → (w.flags (repository t.home)).known ≡ k → Has (effect.Decide t d.0) (s.node (repository t.home)).past
         go true e = subst (λ (x : SoftNode). Has (effect.Decide t d.0) x.past) (sym (h.lives (repository t.home) e)) (has-reverse (w.life (repository t.home)).gated (effect.Decide t d.0) d.1)
         go false e = absurd (none-has (w.life (repository t.home)).gated (effect.Decide t d.0) (h.unknown (repository t.home) e) d.1)
 
-    take-refines : (fates : List Fate) (w : World) (n : NodeId) (number : ℕ) → Refines turns F b others old May w → MayTake fates w n number → Refines turns F b others old May (step b w (entry.Take n number))
+    take-refines : (fates : List Fate) (w : World) (n : NodeId) (number : ℕ) → Refines turns F b others olds old May w → MayTake fates w n number → Refines turns F b others olds old May (step b w (entry.Take n number))
     take-refines fates w n number r rule =
         let p : Post = rule.sending.post in
         let here : Has p (sent_by w) = numbered-has (λ (x : Sending). x.post) w.sendings number rule.sending rule.sent in
@@ -111,14 +112,14 @@ module _ (script : List ℕ → Tree) (turns : Turns) (F : NodeFacts) (laws : No
         (subst (λ to. Has (record { from = p.from; to = to; message = p.message }) (sent_by w)) rule.to here)) in
         input-refines w (entry.Take n number) n (Taking p.from p.message) r (λ k. refl) (r.models.ups n rule.up) may (ap (took b n (w.life n)) rule.sent) refl refl
 
-    hear-refines : (w : World) (n : NodeId) → Refines turns F b others old May w → MayHear w n → Refines turns F b others old May (step b w (entry.Hear n))
+    hear-refines : (w : World) (n : NodeId) → Refines turns F b others olds old May w → MayHear w n → Refines turns F b others olds old May (step b w (entry.Hear n))
     hear-refines w n r rule = go w.last refl
       where
-        go : (last : Option ℕ) → w.last ≡ last → Refines turns F b others old May (step b w (entry.Hear n))
+        go : (last : Option ℕ) → w.last ≡ last → Refines turns F b others olds old May (step b w (entry.Hear n))
         go None e = absurd (let no : true ≡ false = sym rule.some ∙ ap is_some e in cc no)
         go (Some t) e = input-refines w (entry.Hear n) n (Hearing t) r (λ k. refl) (r.models.ups n rule.up) (r.models.ticks t e) (ap (hears b n (w.life n)) e) refl refl
 
-    gate-refines : (w : World) (n : NodeId) → Refines turns F b others old May w → MayGate w n → Refines turns F b others old May (step b w (entry.Gate n))
+    gate-refines : (w : World) (n : NodeId) → Refines turns F b others olds old May w → MayGate w n → Refines turns F b others olds old May (step b w (entry.Gate n))
     gate-refines w n r rule =
         let s : Soft = happened turns r.events in
         let known : (w.flags n).known ≡ true = r.models.ups n rule.up in
@@ -134,7 +135,7 @@ module _ (script : List ℕ → Tree) (turns : Turns) (F : NodeFacts) (laws : No
               (sent-gate b w n ∙ ap (λ z. sent_by w ++ z) left) refl;
         }
 
-    crash-refines : (w : World) (n : NodeId) (kept : ℕ) → Refines turns F b others old May w → MayCrash w n kept → Refines turns F b others old May (step b w (entry.Crash n kept))
+    crash-refines : (w : World) (n : NodeId) (kept : ℕ) → Refines turns F b others olds old May w → MayCrash w n kept → Refines turns F b others olds old May (step b w (entry.Crash n kept))
     crash-refines w n kept r rule =
         let s : Soft = happened turns r.events in
         let inv : Inv F s = inv-reached script turns F laws r.events r.may in
@@ -151,8 +152,8 @@ module _ (script : List ℕ → Tree) (turns : Turns) (F : NodeFacts) (laws : No
         }
 
     -- an entry that changes no life
-    still-refines : (w : World) (e : Entry) (events : List SoftEvent) → Mays F turns events → (m : Models turns F b others old May (happened turns events) w) → ((k : NodeId) → (step b w e).life k ≡ w.life k) →
-        sent_by (step b w e) ≡ sent_by w → ((t : ℕ) → last_after w.last e ≡ Some t → Has t (happened turns events).ticks) → Refines turns F b others old May (step b w e)
+    still-refines : (w : World) (e : Entry) (events : List SoftEvent) → Mays F turns events → (m : Models turns F b others olds old May (happened turns events) w) → ((k : NodeId) → (step b w e).life k ≡ w.life k) →
+        sent_by (step b w e) ≡ sent_by w → ((t : ℕ) → last_after w.last e ≡ Some t → Has t (happened turns events).ticks) → Refines turns F b others olds old May (step b w e)
     still-refines w e events may h stays sends ticks = record {
       events = events;
       may = may;
@@ -162,6 +163,7 @@ module _ (script : List ℕ → Tree) (turns : Turns) (F : NodeFacts) (laws : No
         lives = λ k kn. h.lives k (sym (step-known b w e k).0 ∙ kn) ∙ ap soft_of (sym (stays k));
         outside = λ k kn. h.outside k (sym (step-known b w e k).0 ∙ kn);
         unknown = λ k kn. ap (λ (l : Life). l.gated) (stays k) ∙ h.unknown k (sym (step-known b w e k).0 ∙ kn);
+        retired = h.retired;
         ever = h.ever ∙ ap (λ z. old ++ z) (sym sends);
         ticks = ticks;
         ticked = h.ticked;
@@ -169,14 +171,14 @@ module _ (script : List ℕ → Tree) (turns : Turns) (F : NodeFacts) (laws : No
       };
     }
 
-    ticked : (w : World) (moment : ℕ) (s : Soft) → May moment → Models turns F b others old May s w → Models turns F b others old May (record { node = s.node; ever = s.ever; ticks = moment ∷ s.ticks }) w
-    ticked w moment s may h = record { known = h.known; ups = h.ups; lives = h.lives; outside = h.outside; unknown = h.unknown; ever = h.ever; ticks = λ t at. inr (h.ticks t at); ticked = λ t. now t; ready = h.ready }
+    ticked : (w : World) (moment : ℕ) (s : Soft) → May moment → Models turns F b others olds old May s w → Models turns F b others olds old May (record { node = s.node; olds = s.olds; ever = s.ever; ticks = moment ∷ s.ticks }) w
+    ticked w moment s may h = record { known = h.known; ups = h.ups; lives = h.lives; outside = h.outside; unknown = h.unknown; retired = h.retired; ever = h.ever; ticks = λ t at. inr (h.ticks t at); ticked = λ t. now t; ready = h.ready }
       where
         now : (t : ℕ) → Has t (moment ∷ s.ticks) → May t
         now t (inl e) = subst May e may
         now t (inr k) = h.ticked t k
 
-    pub step-refines : (fates : List Fate) (w : World) (e : Entry) → ((t : ℕ) → e ≡ entry.Tick t → May t) → Refines turns F b others old May w → Rule b fates w e → Refines turns F b others old May (step b w e)
+    pub step-refines : (fates : List Fate) (w : World) (e : Entry) → ((t : ℕ) → e ≡ entry.Tick t → May t) → Refines turns F b others olds old May w → Rule b fates w e → Refines turns F b others olds old May (step b w e)
     step-refines fates w (entry.Take n number) may r rule = take-refines fates w n number r rule
     step-refines fates w (entry.Go n) may r rule = input-refines w (entry.Go n) n Going r (λ k. refl) (r.models.ups n rule.up) tt refl refl refl
     step-refines fates w (entry.Learn n stamp committed) may r rule =
@@ -189,7 +191,7 @@ module _ (script : List ℕ → Tree) (turns : Turns) (F : NodeFacts) (laws : No
         still-refines w (entry.Tick moment) (Tick moment ∷ r.events) r.may (ticked w moment (happened turns r.events) (may moment refl) r.models) (all-stay b w (entry.Tick moment) (λ k. refl)) refl
         (λ t at. inl (same_Some moment t at))
 
-    pub walk-refines : (fates : List Fate) (w : World) (es : List Entry) → ((t : ℕ) → Has (entry.Tick t) es → May t) → Refines turns F b others old May w → Meets b fates w es → Refines turns F b others old May (walk_from b w es)
+    pub walk-refines : (fates : List Fate) (w : World) (es : List Entry) → ((t : ℕ) → Has (entry.Tick t) es → May t) → Refines turns F b others olds old May w → Meets b fates w es → Refines turns F b others olds old May (walk_from b w es)
     unfolding walk_from Meets
     walk-refines fates w [] may r rules = r
     walk-refines fates w (e ∷ es) may r rules = walk-refines fates (step b w e) es (λ t h. may t (inr h)) (step-refines fates w e (λ t h. may t (inl h)) r rules.0) rules.1

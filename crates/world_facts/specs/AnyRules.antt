@@ -1,5 +1,5 @@
 -- What the rules of repositories and of brokers keep over any logs, also over logs that no calls could have left. Logs stand newest first.
-use Rattle.std.specs.Prelude.{◌≡◌, ℕ, ◌≤◌, length, reverse, List, [], ◌++◌}
+use Rattle.std.specs.Prelude.{◌≡◌, ℕ, ◌≤◌, length, reverse, List, []}
 use Rattle.std.specs.Option.{unwrap_or}
 use Rattle.pseudo_time.specs.Lists.{Every}
 use Rattle.pseudo_time.specs.declared.nodes.NodeId.{NodeId}
@@ -8,7 +8,6 @@ use Rattle.pseudo_time.specs.declared.nodes.NodeKind.TheVariants.{Repository, Br
 use Rattle.value_form.specs.declared.acts.ActSpec.{ActSpec}
 use Rattle.effect_form.specs.declared.effects.Effect.{Effect}
 use Rattle.message_form.specs.declared.turns.Out.{Out}
-use Rattle.message_form.specs.Growth.{Grew}
 use Rattle.message_form.specs.Posts.{Post}
 use Rattle.serial_model.specs.Questions.{Tree}
 use Rattle.repository_laws.specs.Facts.{HeldHolds}
@@ -18,13 +17,8 @@ use Rattle.broker_laws.specs.AnyLogs.{Joins, Rests, Says}
 use Rattle.world_core.specs.declared.traces.Trace.{Trace}
 use Rattle.world_core.specs.Nodes.{Mind, acts_of}
 use Rattle.world_core.specs.Walks.{opened_log}
+pub use Rattle.world_facts.specs.Rules.{GrownFrom}
 use Rattle.world_facts.specs.Rules.{NodeFacts}
-
--- the log is this one, grown by effects that fit
-pub record GrownFrom (Fits : List Effect → Effect → Type 0) (old log : List Effect) : Type 0 where
-  pub early : List Effect
-  pub is : log ≡ early ++ old
-  pub grew : Grew Fits old early
 
 module _ (script : List ℕ → Tree) (run : ℕ) (acts : List ActSpec) where
   -- broker b's acts of the plan
@@ -60,6 +54,8 @@ module _ (script : List ℕ → Tree) (run : ℕ) (acts : List ActSpec) where
     Proof = λ w n log f. length (own n) ≤ length log → any_cause w.ever n.kind n.number log f;
     MindOk = λ ever n mind. any_mind ever n.kind n.number mind;
     Ready = λ r a n log. (r ≡ run) × (a ≡ acts);
+    Begins = λ n log. Unit {0};
+    Retires = λ n old new. ⊥;
   }
 
 -- the log that a node of a trace was opened with, oldest effect first

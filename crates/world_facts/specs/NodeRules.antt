@@ -1,6 +1,7 @@
 -- What the rules of repositories and of brokers keep, as one. Logs stand newest first.
-use Rattle.std.specs.Prelude.{ℕ, List}
+use Rattle.std.specs.Prelude.{◌≡◌, ℕ, List, []}
 use Rattle.pseudo_time.specs.Lists.{Every}
+use Rattle.pseudo_time.specs.TimeParts.{TimeParts}
 use Rattle.pseudo_time.specs.declared.nodes.NodeKind.{NodeKind}
 use Rattle.pseudo_time.specs.declared.nodes.NodeKind.TheVariants.{Repository, Broker}
 use Rattle.value_form.specs.declared.acts.ActSpec.{ActSpec}
@@ -10,6 +11,7 @@ use Rattle.message_form.specs.Posts.{Post}
 use Rattle.serial_model.specs.Questions.{Tree}
 use Rattle.repository_core.specs.Hands.{Hand}
 use Rattle.repository_core.specs.Turns as hands
+use Rattle.object_retirement.specs.Forward.{MayRetire, forwarded}
 use Rattle.repository_laws.specs.Facts as repositories
 use Rattle.broker_core.specs.Book.{book, tries}
 use Rattle.broker_core.specs.Tasks.{tasks}
@@ -74,6 +76,11 @@ module _ (script : List ℕ → Tree) where
   kind_is_ready run acts Repository i log = Unit {0}
   kind_is_ready run acts Broker i log = brokers.IsReady script i run (tasks (acts_of i acts)) log
 
+  -- what a retirement of a repository at a mark leaves of a log; a broker's log is never retired
+  abbrev pub kind_retires : NodeKind → List Effect → List Effect → Type 0
+  kind_retires Repository old new = (at : TimeParts) × MayRetire old at × (new ≡ forwarded old at)
+  kind_retires Broker old new = ⊥
+
   abbrev pub node_facts : NodeFacts
   node_facts = record {
     Fits = λ n. kind_fits n.kind n.number;
@@ -82,4 +89,6 @@ module _ (script : List ℕ → Tree) where
     Proof = λ w n log f. kind_cause w n.kind n.number log f;
     MindOk = λ ever n mind. kind_mind ever n.kind n.number mind;
     Ready = λ run acts n log. kind_is_ready run acts n.kind n.number log;
+    Begins = λ n log. log ≡ [];
+    Retires = λ n old new. kind_retires n.kind old new;
   }

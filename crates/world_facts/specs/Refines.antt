@@ -1,5 +1,5 @@
 -- How a walk over a trace and a world without rules of turns agree.
-use Rattle.std.specs.Prelude.{◌≡◌, ◌⊎◌, ℕ, true, false, List, [], ◌∷◌, ◌++◌, reverse, Some, is_some, if◌then◌else◌}
+use Rattle.std.specs.Prelude.{◌≡◌, ◌⊎◌, ℕ, true, false, List, [], ◌∷◌, ◌++◌, map, reverse, Some, is_some, if◌then◌else◌}
 use Rattle.pseudo_time.specs.Lists.{Every, Has}
 use Rattle.pseudo_time.specs.declared.nodes.NodeId.{NodeId}
 use Rattle.effect_form.specs.declared.effects.Effect.{Effect}
@@ -12,8 +12,8 @@ use Rattle.world_core.specs.declared.entries.Entry.TheVariants.{Tick}
 use Rattle.world_core.specs.Walks.{Base, Life, World, opened_log, sent_by, walk}
 use Rattle.world_core.specs.Legal.{base_of}
 use Rattle.world_core.specs.Pasts.{Call}
-use Rattle.world_facts.specs.Rules.{NodeFacts, Turns}
-use Rattle.world_facts.specs.Soft.{NodeOk, SoftNode, all_effects, Soft, SoftEvent, happened, Mays, SentOk}
+use Rattle.world_facts.specs.Rules.{GrownFrom, NodeFacts, Turns}
+use Rattle.world_facts.specs.Soft.{Lineage, NodeOk, OldOk, SoftNode, all_effects, Soft, SoftEvent, happened, Mays, SentOk, SentOnce}
 
 -- a life, newest first
 abbrev pub soft_of : Life → SoftNode
@@ -37,8 +37,9 @@ Ticked cs es t = Has (Tick t) es ⊎ PastTick cs t
 
 -- ---- worlds that agree
 
--- `old` are the messages of earlier runs, and `May` holds of the moments that were ticked
-module _ (turns : Turns) (F : NodeFacts) (b : Base) (others : NodeId → List Effect) (old : List Post) (May : ℕ → Type 0) where
+-- `olds` are the logs, oldest effect first, that retirements replaced; `old` are the messages of earlier runs, and `May` holds of the
+-- moments that were ticked
+module _ (turns : Turns) (F : NodeFacts) (b : Base) (others : NodeId → List Effect) (olds : NodeId → List (List Effect)) (old : List Post) (May : ℕ → Type 0) where
   -- `others` are the logs, oldest effect first, of the nodes that aren't of the trace
   pub record Models (s : Soft) (w : World) : Type 0 where
     pub known : (n : NodeId) → (w.flags n).known ≡ is_some (opened_log b.opened n)
@@ -46,6 +47,7 @@ module _ (turns : Turns) (F : NodeFacts) (b : Base) (others : NodeId → List Ef
     pub lives : (n : NodeId) → (w.flags n).known ≡ true → s.node n ≡ soft_of (w.life n)
     pub outside : (n : NodeId) → (w.flags n).known ≡ false → ((s.node n).past ≡ reverse (others n)) × ((s.node n).added ≡ [])
     pub unknown : (n : NodeId) → (w.flags n).known ≡ false → (w.life n).gated ≡ []
+    pub retired : (n : NodeId) → s.olds n ≡ map reverse (olds n)
     pub ever : s.ever ≡ old ++ sent_by w
     pub ticks : (t : ℕ) → w.last ≡ Some t → Has t s.ticks
     pub ticked : (t : ℕ) → Has t s.ticks → May t
@@ -57,11 +59,12 @@ module _ (turns : Turns) (F : NodeFacts) (b : Base) (others : NodeId → List Ef
     pub models : Models (happened turns events) w
 
 -- between runs: nothing is open, and these are the logs, oldest effect first
-pub record Left (turns : Turns) (F : NodeFacts) (logs : NodeId → List Effect) (old : List Post) (May : ℕ → Type 0) : Type 0 where
+pub record Left (turns : Turns) (F : NodeFacts) (logs : NodeId → List Effect) (olds : NodeId → List (List Effect)) (old : List Post) (May : ℕ → Type 0) : Type 0 where
   pub events : List SoftEvent
   pub may : Mays F turns events
   pub gated : (n : NodeId) → ((happened turns events).node n).past ≡ reverse (logs n)
   pub fresh : (n : NodeId) → ((happened turns events).node n).added ≡ []
+  pub retired : (n : NodeId) → (happened turns events).olds n ≡ map reverse (olds n)
   pub ever : (happened turns events).ever ≡ old
   pub ticked : (t : ℕ) → Has t (happened turns events).ticks → May t
 
@@ -69,11 +72,24 @@ pub record Left (turns : Turns) (F : NodeFacts) (logs : NodeId → List Effect) 
 abbrev pub logs_at : (NodeId → List Effect) → World → NodeId → List Effect
 logs_at others w n = if (w.flags n).known then (w.life n).gated else others n
 
--- what holds of all durable logs and of all messages sent, in the past and in the trace; `May` holds of the moments that were ticked
+-- What holds of all durable logs, of the older ones that retirements replaced, and of all messages sent, in the past and in the trace;
+-- `May` holds of the moments that were ticked.
+pub record OlderFacts (F : NodeFacts) (b : Base) (logs : NodeId → List Effect) (olds : NodeId → List (List Effect)) (past sent : List Post) (May : ℕ → Type 0) : Type 0 where
+  pub ticks : List ℕ
+  pub ticked : (t : ℕ) → Has t ticks → May t
+  pub tidy : (n : NodeId) → F.Tidy n (reverse (logs n))
+  pub proofs : (n : NodeId) → Each (F.Proof (record { ever = past ++ sent; logs = λ k. reverse (logs k); ticks = ticks }) n) (reverse (logs n))
+  pub older : (n : NodeId) → Every (OldOk F (record { ever = past ++ sent; logs = λ k. reverse (logs k); ticks = ticks }) n) (map reverse (olds n))
+  pub lineage : (n : NodeId) → Lineage F n (map reverse (olds n)) (reverse (logs n))
+  pub sent_ok : Every (SentOnce F (past ++ sent) (λ k. reverse (logs k)) (λ k. map reverse (olds k))) (past ++ sent)
+  pub ready : (n : NodeId) → is_some (opened_log b.opened n) ≡ true → F.Ready b.run b.acts n (reverse (logs n))
+
+-- the same where the past is of runs alone, so that there are no older logs
 pub record LogFacts (F : NodeFacts) (b : Base) (logs : NodeId → List Effect) (past sent : List Post) (May : ℕ → Type 0) : Type 0 where
   pub ticks : List ℕ
   pub ticked : (t : ℕ) → Has t ticks → May t
   pub tidy : (n : NodeId) → F.Tidy n (reverse (logs n))
+  pub grown : (n : NodeId) → (base : List Effect) × F.Begins n base × GrownFrom (F.Fits n) base (reverse (logs n))
   pub proofs : (n : NodeId) → Each (F.Proof (record { ever = past ++ sent; logs = λ k. reverse (logs k); ticks = ticks }) n) (reverse (logs n))
   pub sent_ok : Every (SentOk F (past ++ sent) (λ k. reverse (logs k))) (past ++ sent)
   pub ready : (n : NodeId) → is_some (opened_log b.opened n) ≡ true → F.Ready b.run b.acts n (reverse (logs n))

@@ -4,4 +4,7 @@
 
 mod laws;
 
-pub use laws::{facts_of_any_trace, facts_of_legal_traces, facts_of_whole_lives};
+pub use laws::{
+    answers_are_kept, facts_of_any_trace, facts_of_legal_traces, facts_of_whole_lives,
+    facts_over_older_logs, histories_are_a_chain, reads_see_all_that_stood, runs_replace_nothing,
+};

@@ -1,4 +1,4 @@
-use Rattle.repository_laws.proofs.Logs.{tidy-kept, tidy-through, tidy-distinct, tidy-floor}
+use Rattle.repository_laws.proofs.Logs.{tidy-kept, tidy-through, tidy-distinct, floor-through}
 use Rattle.repository_laws.proofs.laws.tidy_stays.Goals as goal
 
 pub returns-clause-kept : goal.returns-clause-kept
@@ -11,4 +11,4 @@ pub returns-clause-distinct : goal.returns-clause-distinct
 returns-clause-distinct c = tidy-distinct
 
 pub returns-clause-no_floor : goal.returns-clause-no_floor
-returns-clause-no_floor c = tidy-floor
+returns-clause-no_floor c = floor-through

@@ -1,0 +1,117 @@
+-- One reading for a plan and all plans of the runs among earlier calls.
+use Rattle.std.proofs.Common.{◌≡◌, ℕ, List, [], ◌∷◌, ◌++◌, refl, ◌∙◌, ap, subst, reverse, if◌then◌else◌, take}
+use Rattle.pseudo_time.specs.Lists.{Every, Has}
+use Rattle.pseudo_time.specs.Nodes.{repository, same_node}
+use Rattle.pseudo_time.specs.TimeParts.{TimeParts}
+use Rattle.pseudo_time.proofs.ListLemmas.{every-append, has-left, has-right}
+use Rattle.pseudo_time.specs.declared.nodes.NodeId.{NodeId}
+use Rattle.value_form.specs.declared.acts.ActSpec.{ActSpec}
+use Rattle.effect_form.specs.declared.effects.Effect.{Effect}
+use Rattle.stream_port.specs.declared.fates.Asked.{Asked}
+use Rattle.serial_model.specs.Questions.{Tree}
+use Rattle.plan_form.specs.declared.plans.Plan.{Plan}
+use Rattle.plan_form.specs.PlanTexts.{IsOfLanguage}
+use Rattle.object_retirement.specs.Forward.{MayRetire, forward}
+use Rattle.broker_core.specs.Ledgers.{IsBrokerAct}
+use Rattle.broker_core.specs.Readings.{reading}
+use Rattle.broker_core.specs.Tasks.{Scripted}
+use Rattle.broker_core.proofs.ReadingLemmas.{reads-all}
+use Rattle.world_core.specs.declared.traces.Trace.{Trace}
+use Rattle.world_core.specs.Legal.{Legal, in_plan}
+use Rattle.world_core.specs.Pasts.{Call, alike, log_left, own_reading}
+use Rattle.world_core.specs.Readings.{IsLegal}
+use Rattle.world_core.specs.Walks.{World, sent_by}
+use Rattle.world_core.proofs.OneReading.{own-reading}
+use Rattle.world_core.proofs.PlanRangeLemmas.{plan-acts}
+use Rattle.world_core.proofs.SameWorlds.{legal-same, walk-same}
+use Rattle.world_facts.specs.Earlier.{AreEarlier, AreOfLanguage, Earlier, WereLeftOrRetired, logs_left, replaced, sent_earlier}
+use Rattle.world_facts.specs.Earlier.Earlier.{Running, Retiring}
+
+acts_of_all : List Earlier → List ActSpec
+acts_of_all [] = []
+acts_of_all (Running c ∷ cs) = c.plan.acts ++ acts_of_all cs
+acts_of_all (Retiring r at ∷ cs) = acts_of_all cs
+
+all-acts : (cs : List Earlier) → AreOfLanguage cs → Every IsBrokerAct (acts_of_all cs)
+unfolding acts_of_all
+all-acts [] h = tt
+all-acts (Running c ∷ cs) h = every-append IsBrokerAct c.plan.acts (acts_of_all cs) (plan-acts c.plan h.0) (all-acts cs h.1)
+all-acts (Retiring r at ∷ cs) h = all-acts cs h
+
+-- of these acts, among which are those of all the calls
+module _ (all : List ActSpec) (ps : Every IsBrokerAct all) where
+  abbrev common : List ℕ → Tree
+  common = reading all
+
+  abbrev Within : List Earlier → Type 0
+  Within cs = (a : ActSpec) → Has a (acts_of_all cs) → Has a all
+
+  read-all : (c : Call) (cs : List Earlier) → IsOfLanguage c.plan → Within (Running c ∷ cs) → Scripted common c.plan.acts
+  unfolding acts_of_all
+  read-all c cs w h = reads-all all c.plan.acts ps (plan-acts c.plan w) (λ a k. h a (has-left c.plan.acts (acts_of_all cs) a k))
+
+  in-rest : (c : Call) (cs : List Earlier) → Within (Running c ∷ cs) → Within cs
+  unfolding acts_of_all
+  in-rest c cs h a k = h a (has-right c.plan.acts (acts_of_all cs) a k)
+
+  in-same : (r : ℕ) (at : TimeParts) (cs : List Earlier) → Within (Retiring r at ∷ cs) → Within cs
+  unfolding acts_of_all
+  in-same r at cs h = h
+
+  left-same : (c : Call) → Scripted (reading c.plan.acts) c.plan.acts → Scripted common c.plan.acts → (n : NodeId) → log_left own_reading c n ≡ log_left (alike common) c n
+  left-same c h k n = ap (λ (w : World). (w.life n).gated ++ take (c.kept n) (w.life n).fresh) (walk-same (reading c.plan.acts) common c.plan h k c.trace c.trace.entries)
+
+  logs-same : (cs : List Earlier) → AreOfLanguage cs → Within cs → (n : NodeId) → logs_left own_reading cs n ≡ logs_left (alike common) cs n
+  logs-same [] w h n = refl
+  logs-same (Running c ∷ cs) w h n =
+      λ i. if in_plan c.plan n then left-same c (own-reading c.plan w.0) (read-all c cs w.0 h) n i else logs-same cs w.1 (in-rest c cs h) n i
+  logs-same (Retiring r at ∷ cs) w h n =
+      λ i. if same_node (repository r) n then forward (logs-same cs w (in-same r at cs h) n i) at else logs-same cs w (in-same r at cs h) n i
+
+  replaced-same : (cs : List Earlier) → AreOfLanguage cs → Within cs → (n : NodeId) → replaced own_reading cs n ≡ replaced (alike common) cs n
+  replaced-same [] w h n = refl
+  replaced-same (Running c ∷ cs) w h n = replaced-same cs w.1 (in-rest c cs h) n
+  replaced-same (Retiring r at ∷ cs) w h n =
+      λ i. if same_node (repository r) n then logs-same cs w (in-same r at cs h) n i ∷ replaced-same cs w (in-same r at cs h) n i else replaced-same cs w (in-same r at cs h) n i
+
+  sent-same : (cs : List Earlier) → AreOfLanguage cs → Within cs → sent_earlier own_reading cs ≡ sent_earlier (alike common) cs
+  sent-same [] w h = refl
+  sent-same (Running c ∷ cs) w h =
+      λ i. sent-same cs w.1 (in-rest c cs h) i ++ sent_by (walk-same (reading c.plan.acts) common c.plan (own-reading c.plan w.0) (read-all c cs w.0 h) c.trace c.trace.entries i)
+  sent-same (Retiring r at ∷ cs) w h = sent-same cs w (in-same r at cs h)
+
+  are-earlier : (cs : List Earlier) → AreEarlier own_reading cs → AreOfLanguage cs → Within cs → AreEarlier (alike common) cs
+  are-earlier [] k w h = tt
+  are-earlier (Running c ∷ cs) k w h = (
+    are-earlier cs k.0 w.1 (in-rest c cs h),
+    record {
+      agrees = λ n log e. k.1.agrees n log e ∙ logs-same cs w.1 (in-rest c cs h) n;
+      legal = legal-same (reading c.plan.acts) common c.plan (own-reading c.plan w.0) (read-all c cs w.0 h) c.asked c.trace k.1.legal;
+      opened = k.1.opened;
+    },
+  )
+  are-earlier (Retiring r at ∷ cs) k w h =
+      (are-earlier cs k.0 w (in-same r at cs h), subst (λ log. MayRetire (reverse log) at) (logs-same cs w (in-same r at cs h) (repository r)) k.1)
+
+-- what one reading gives of a plan, a trace and what earlier calls left
+pub record OneReading (plan : Plan) (asked : List Asked) (t : Trace) (logs : NodeId → List Effect) (cs : List Earlier) : Type 0 where
+  pub script : List ℕ → Tree
+  pub are : AreEarlier (alike script) cs
+  pub left : (n : NodeId) → logs n ≡ logs_left (alike script) cs n
+  pub legal : Legal script plan asked t
+  pub replaced_so : (n : NodeId) → replaced own_reading cs n ≡ replaced (alike script) cs n
+  pub sent_so : sent_earlier own_reading cs ≡ sent_earlier (alike script) cs
+
+pub older-reading : (plan : Plan) (asked : List Asked) (t : Trace) (logs : NodeId → List Effect) → IsOfLanguage plan → IsLegal plan asked t → (left : WereLeftOrRetired logs) → OneReading plan asked t logs left.0
+older-reading plan asked t logs w l left =
+    let all = plan.acts ++ acts_of_all left.0 in
+    let ps = every-append IsBrokerAct plan.acts (acts_of_all left.0) (plan-acts plan w) (all-acts left.0 left.1.1) in
+    let within : (a : ActSpec) → Has a (acts_of_all left.0) → Has a all = λ a k. has-right plan.acts (acts_of_all left.0) a k in
+    record {
+      script = reading all;
+      are = are-earlier all ps left.0 left.1.0 left.1.1 within;
+      left = λ n. left.2 n ∙ logs-same all ps left.0 left.1.1 within n;
+      legal = legal-same (reading plan.acts) (reading all) plan (own-reading plan w) (reads-all all plan.acts ps (plan-acts plan w) (λ a k. has-left plan.acts (acts_of_all left.0) a k)) asked t l;
+      replaced_so = replaced-same all ps left.0 left.1.1 within;
+      sent_so = sent-same all ps left.0 left.1.1 within;
+    }
