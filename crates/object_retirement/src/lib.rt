@@ -5,6 +5,6 @@
 mod laws;
 
 pub use laws::{
-    all_that_stood, answers_last, forward_keeps_records, nothing_is_put_below,
-    retirement_gives_up, retirement_keeps_views,
+    all_that_stood, answers_last, forward_keeps_records, nothing_is_put_below, retirement_gives_up,
+    retirement_keeps_views,
 };

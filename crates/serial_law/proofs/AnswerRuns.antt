@@ -60,7 +60,7 @@ answers-kept plan asked t w l logs left agrees =
     let known : (n : NodeId) → ((walk (base_of r.script plan t) t.entries).flags n).known ≡ in_plan plan n = λ n. walk-known (base_of r.script plan t) (start_world (base_of r.script plan t)) t.entries n ∙ l.nodes.just n in
     let log : (n : NodeId) → reverse (logs_at logs (walk (base_of r.script plan t) t.entries) n) ≡ log_after logs plan t n = λ n i. reverse (if known n i then ((same i).life n).gated else logs n) in
     let facts : OlderFacts (node_facts r.script) (base_of r.script plan t) (logs_at logs (walk (base_of r.script plan t) t.entries)) (replaced (alike r.script) left.0) (sent_earlier (alike r.script) left.0)
-            (sent_by (walk (base_of r.script plan t) t.entries)) (TickedBy left.0 t.entries) =
+    (sent_by (walk (base_of r.script plan t) t.entries)) (TickedBy left.0 t.entries) =
     older-facts r.script plan asked t logs t.entries [] (left.0, r.are, r.left) agrees r.legal (sym (append-nil t.entries)) in
     record {
       acknowledged = λ q h.
