@@ -1,0 +1,4 @@
+pub mod Couriers
+pub mod Places
+pub mod Stations
+pub mod Turns

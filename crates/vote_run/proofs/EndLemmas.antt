@@ -1,0 +1,309 @@
+-- Rounds, Ticks and idle places.
+use Rattle.std.proofs.Common.{◌≡◌, ℕ, zero, suc, ◌+◌, ◌<◌, ◌≤◌, Bool, true, false, List, [], ◌∷◌, ◌++◌, map, length, inl, inr, refl, sym, ap, subst, ◌∙◌, arith}
+use Rattle.std.specs.Prelude.{Option, Some, None, ◌⊎◌, ◌&&◌, ◌||◌, not, is_some, nat_le, nat_lt, slice_get, if◌then◌else◌, is_err, IfOk, IsTrue, OnOk, Result, Ok, Err}
+use Rattle.std.specs.Option.{unwrap_or}
+use Rattle.std.proofs.lemmas.Bool.{and_parts}
+use Rattle.std.proofs.lemmas.Bool.Decides.{nat_tests}
+use Rattle.std.proofs.lemmas.Option.{slice_get_within}
+use Rattle.pseudo_time.specs.Nodes.{broker, repository}
+use Rattle.pseudo_time.specs.declared.nodes.NodeId.{NodeId}
+use Rattle.pseudo_time.specs.declared.nodes.NodeKind.{NodeKind}
+use Rattle.pseudo_time.specs.declared.nodes.NodeKind.TheVariants.{Repository, Broker}
+use Rattle.stream_port.specs.declared.fates.Asked.{Asked}
+use Rattle.message_core.specs.Flights.{AllEmpty}
+use Rattle.message_core.specs.Parts.{state_of}
+use Rattle.record_votes.specs.declared.member_numbers.MemberNumber.{MemberNumber}
+use Rattle.record_votes.specs.declared.member_numbers.MemberNumber.TheVariants.{First, Second, Third}
+use Rattle.record_votes.specs.Polls.{PollState, member, number_of}
+use Rattle.record_votes.specs.Voting.{Line, Member}
+use Rattle.world_core.specs.declared.entries.Entry.{Entry}
+use Rattle.world_core.specs.declared.entries.Entry.TheVariants.{Take, Go, Learn, Hear, Gate, Crash, Down, Tick}
+use Rattle.world_core.specs.Legal.{Idle, asked_of, fates_of, is_behind, is_within}
+use Rattle.world_core.specs.Walks.{Flags, flagged, names, opened_log}
+use Rattle.wire_core.specs.Clocked.{IsClocked, tick_moments}
+use Rattle.wire_core.proofs.MomentLemmas.{clocked-tick, latest}
+use Rattle.wire_core.proofs.QuietLemmas.{not-behind}
+use Rattle.run_media.specs.Media.{Media}
+use Rattle.vote_traces.specs.Walks.{Base, Hall, start_hall, step, walk_from, world_of}
+use Rattle.vote_traces.specs.Legal.{base_of, is_node, most_of}
+use Rattle.vote_traces.proofs.CauseLemmas.{at-if}
+use Rattle.vote_wire.specs.Carried.{IsAtRest, IsAtRestAt}
+use Rattle.vote_wire.proofs.CarryLemmas.{idles}
+use Rattle.vote_courier.specs.Couriers.{CourierParts, tick_moment}
+use Rattle.vote_courier.specs.Stations.{Stands, hall_of, trace_of}
+use Rattle.vote_courier.specs.Places.{Adds, IsReady, PollIsAt, Tells}
+use Rattle.vote_courier.proofs.StationLemmas.{ticks-legal}
+use Rattle.vote_courier.proofs.PlaceLemmas.{adds-join, adds-still, and-false, never-false, there}
+use Rattle.vote_run.specs.Ends.{Between, Follows, HasCome, HasEnded, HasGoneRound, HasTicked, IsOver, all_held, any_node}
+use Rattle.vote_run.specs.MemberTurns.{MayTurn}
+use Rattle.vote_run.specs.Members.{HaveSat, MayAllTurn, SitAll, all_late, is_late, is_member, late, some_late}
+use Rattle.vote_run.specs.Rounds.{PollsAre, PollsTurned, is_poll}
+use Rattle.vote_run.specs.Seats.{MemberIsAt}
+use Rattle.vote_run.specs.Sittings.{Sits, SitsDown, SitsFallen, SitsUp}
+use Rattle.vote_run.specs.declared.limits.Limits.{Limits}
+use Rattle.vote_run.specs.declared.limits.Next.{Next}
+use Rattle.vote_run.specs.declared.limits.Next.TheVariants.{Over, Round, Ticked}
+use Rattle.vote_run.specs.declared.members.Members.{Members}
+use Rattle.vote_run.specs.declared.seats.Seat.{Seat}
+use Rattle.vote_run.specs.declared.seats.Seat.TheVariants.{Up, Fallen, Wanting}
+use Rattle.vote_run.proofs.MembersLemmas.{or-parts, sits-stay}
+use Rattle.vote_run.proofs.PollLemmas.{poll-stays}
+
+-- ---- what every walk keeps
+
+flagged-known : (last : Option ℕ) (k : NodeKind) (f : Flags) (e : Entry) → (flagged last k f e).known ≡ f.known
+flagged-known last k f (Take node number) = refl
+flagged-known last Repository f (Go node) = refl
+flagged-known last Broker f (Go node) = refl
+flagged-known last Repository f (Learn node stamp committed) = refl
+flagged-known last Broker f (Learn node stamp committed) = refl
+flagged-known None k f (Hear node) = refl
+flagged-known (Some t) k f (Hear node) = refl
+flagged-known last k f (Gate node) = refl
+flagged-known last k f (Crash node kept) = refl
+flagged-known last k f (Down node cause) = refl
+flagged-known last k f (Tick moment) = refl
+
+module _ (b : Base) where
+  known-kept : (h : Hall) (es : List Entry) (n : NodeId) → ((walk_from b h es).flags n).known ≡ (h.flags n).known
+  unfolding walk_from
+  known-kept h [] n = refl
+  known-kept h (e ∷ es) n = known-kept (step b h e) es n
+      ∙ at-if (λ (f : Flags). f.known ≡ (h.flags n).known) (names n e && (h.flags n).known) (flagged h.last n.kind (h.flags n) e) (h.flags n) (λ is. flagged-known h.last n.kind (h.flags n) e) refl
+
+  last-kept : (h : Hall) (es : List Entry) (start : ℕ) → unwrap_or (walk_from b h es).last start ≡ latest (unwrap_or h.last start) (tick_moments es)
+  unfolding walk_from
+  last-kept h [] start = refl
+  last-kept h (Take node number ∷ es) start = last-kept (step b h (Take node number)) es start
+  last-kept h (Go node ∷ es) start = last-kept (step b h (Go node)) es start
+  last-kept h (Learn node stamp committed ∷ es) start = last-kept (step b h (Learn node stamp committed)) es start
+  last-kept h (Hear node ∷ es) start = last-kept (step b h (Hear node)) es start
+  last-kept h (Gate node ∷ es) start = last-kept (step b h (Gate node)) es start
+  last-kept h (Crash node kept ∷ es) start = last-kept (step b h (Crash node kept)) es start
+  last-kept h (Down node cause ∷ es) start = last-kept (step b h (Down node cause)) es start
+  last-kept h (Tick moment ∷ es) start = last-kept (step b h (Tick moment)) es start
+
+-- ---- numbers
+
+none-below : (k : ℕ) → nat_lt k 0 ≡ false
+none-below k = grind (arith, nat_tests)
+
+all-below : (k n : ℕ) → k < n → nat_lt k n ≡ true
+all-below k n less = grind (arith, nat_tests, less)
+
+within-parts : (i most : ℕ) → is_within i most ≡ true → (1 ≤ i) × (i ≤ most)
+within-parts i most h =
+    let p = and_parts (nat_le 1 i) (nat_le i most) h in
+    let low = p.0 in
+    let high = p.1 in
+    (grind (arith, nat_tests, low), grind (arith, nat_tests, high))
+
+three : (i : ℕ) → is_within i 3 ≡ true → (i ≡ 1) ⊎ ((i ≡ 2) ⊎ (i ≡ 3))
+three zero h = absurd (let p = (within-parts 0 3 h).0 in omega (arith, p))
+three (suc zero) h = inl refl
+three (suc (suc zero)) h = inr (inl refl)
+three (suc (suc (suc zero))) h = inr (inr refl)
+three (suc (suc (suc (suc k)))) h = absurd (let p = (within-parts (suc (suc (suc (suc k)))) 3 h).1 in omega (arith, p))
+
+some-at : (ps : List PollState) (k : ℕ) → k < length ps → (p : PollState) × (slice_get ps k ≡ Some p)
+some-at [] k less = absurd (omega (arith, less))
+some-at (p ∷ ps) zero less = (p, refl)
+some-at (p ∷ ps) (suc k) less = some-at ps k (omega (arith, less))
+
+adds-any : (of : NodeId → Bool) (c d : CourierParts) → Adds of c d → Adds any_node c d
+adds-any of c d a = record { more = a.more; longer = a.longer; own_entries = λ m f. never-false f; start = a.start; opened = a.opened; tells = a.tells }
+
+module _ {M : Type 0} {g : _} (w : Media M) (lines : List Line) where
+  -- ---- a round
+
+  pub has-gone : (c mid d : CourierParts) (ms : Members M g) (qs : List PollState) (behind : Bool) → HaveSat w lines c mid ms → PollsTurned lines mid d (length qs) behind qs → HasGoneRound w lines c d ms qs
+  has-gone c mid d ms qs behind sat turned =
+      let stay : (s : MemberNumber) (seat : Seat M g) → Sits w lines mid s seat → Sits w lines d s seat = (λ s seat sits. sits-stay w lines is_poll mid d s seat turned.keeps.others refl sits) in
+      record {
+        between = record {
+          stands = turned.keeps.stands;
+          sit = record { first = stay First ms.first sat.sit.first; second = stay Second ms.second sat.sit.second; third = stay Third ms.third sat.sit.third };
+          polls = λ k p h. subst (PollIsAt (hall_of lines d) (suc k) p)
+              (ap (λ t. not t && behind) (all-below k (length qs) (slice_get_within qs k p h)) ∙ sym (and-false (not (nat_lt k 0)))) (turned.polls k p h);
+        };
+        adds = adds-join any_node c mid d (adds-any is_member c mid sat.keeps.adds) (adds-any is_poll mid d turned.keeps.adds);
+        ticks = turned.keeps.others.ticks ∙ sat.keeps.others.ticks;
+      }
+
+  pub polls-wait : (c mid : CourierParts) (ms : Members M g) (ps : List PollState) (behind : Bool) → HaveSat w lines c mid ms → PollsAre (hall_of lines c) 0 behind ps → PollsAre (hall_of lines mid) 0 behind ps
+  polls-wait c mid ms ps behind sat at k p h = poll-stays is_member (hall_of lines c) (hall_of lines mid) sat.keeps.others (suc k) p (not (nat_lt k 0) && behind) refl (at k p h)
+
+  -- ---- an idle place
+
+  module _ (c : CourierParts) (ms : Members M g) (ps : List PollState) (b : Between w lines c ms ps false) (count : length lines ≡ length ps) (late_none : some_late ms ≡ false) where
+    abbrev h : Hall
+    h = hall_of lines c
+
+    ready-rests : (n : NodeId) → IsReady h n false → IsAtRestAt h n
+    ready-rests n r = record { closed = r.closed; heard = not-behind (world_of h) n r.behind_is; gone = r.gone }
+
+    seat-rests : (s : MemberNumber) (seat : Seat M g) → Sits w lines c s seat → is_late seat ≡ false → (h.flags (member s)).up ≡ true → IsAtRestAt h (member s)
+    seat-rests s (Up m store durable behind) sits never up = ready-rests (member s) (subst (IsReady h (member s)) never sits.at.ready)
+    seat-rests s (Fallen left) (inl sits) never up = never-false (sym up ∙ sits.at.down)
+    seat-rests s (Fallen left) (inr sits) never up = never-false (sym up ∙ sits.down)
+    seat-rests s (Wanting left) sits never up = absurd sits
+
+    none-late : (is_late ms.first ≡ false) × (is_late ms.second ≡ false) × (is_late ms.third ≡ false)
+    none-late = or-parts (is_late ms.first) (is_late ms.second) (is_late ms.third) late_none
+
+    poll-ready : (k : ℕ) (p : PollState) → slice_get ps k ≡ Some p → PollIsAt h (suc k) p false
+    poll-ready k p there = subst (PollIsAt h (suc k) p) (and-false (not (nat_lt k 0))) (b.polls k p there)
+
+    repository-rests : (i : ℕ) → (i ≡ 1) ⊎ ((i ≡ 2) ⊎ (i ≡ 3)) → (h.flags (repository i)).up ≡ true → IsAtRestAt h (repository i)
+    repository-rests i (inl e) up = subst (λ j. (h.flags (repository j)).up ≡ true → IsAtRestAt h (repository j)) (sym e) (λ up. seat-rests First ms.first b.sit.first none-late.0 up) up
+    repository-rests i (inr (inl e)) up = subst (λ j. (h.flags (repository j)).up ≡ true → IsAtRestAt h (repository j)) (sym e) (λ up. seat-rests Second ms.second b.sit.second none-late.1 up) up
+    repository-rests i (inr (inr e)) up = subst (λ j. (h.flags (repository j)).up ≡ true → IsAtRestAt h (repository j)) (sym e) (λ up. seat-rests Third ms.third b.sit.third none-late.2 up) up
+
+    broker-rests : (i : ℕ) → (1 ≤ i) × (i ≤ length lines) → IsAtRestAt h (broker i)
+    broker-rests zero within = absurd (let low = within.0 in omega (arith, low))
+    broker-rests (suc k) within =
+        let high = within.1 in
+        let p = some-at ps k (omega (arith, high, count)) in
+        ready-rests (broker (suc k)) (poll-ready k p.0 p.1).ready
+
+    node-rests : (k : NodeKind) (i : ℕ) → is_within i (most_of (length lines) k) ≡ true → (h.flags (record { kind = k; number = i })).up ≡ true → IsAtRestAt h (record { kind = k; number = i })
+    node-rests Repository i within up = repository-rests i (three i within) up
+    node-rests Broker i within up = broker-rests i (within-parts i (length lines) within)
+
+    pub at-rest : IsAtRest h
+    at-rest n up =
+        let known : is_some (opened_log c.opened n) ≡ true = sym (known-kept (base_of lines (trace_of c)) (start_hall (base_of lines (trace_of c))) c.entries n) ∙ b.stands.known n up in
+        node-rests n.kind n.number (sym (b.stands.legal.nodes.just n) ∙ known) up
+
+    pub is-idle : AllEmpty (state_of c.flight) → Idle (fates_of c.sent) (world_of h)
+    is-idle empty = idles (base_of lines (trace_of c)) h (state_of c.flight) c.sent b.stands.marks b.stands.carried empty at-rest
+
+    -- ---- a Tick
+
+    module _ (d : CourierParts) (empty : AllEmpty (state_of c.flight)) (t : HasTicked c d) where
+      leads : hall_of lines d ≡ step (base_of lines (trace_of c)) h (Tick (tick_moment c t.answer))
+      leads = there lines c d (Tick (tick_moment c t.answer)) t.start t.opened t.entries
+
+      ready-late : (n : NodeId) → IsReady h n false → IsReady (hall_of lines d) n true
+      ready-late n r = record {
+        up = ap (λ (z : Hall). (z.flags n).up) leads ∙ r.up;
+        closed = ap (λ (z : Hall). (z.flags n).due) leads ∙ r.closed;
+        gone = λ poll. ap (λ (z : Hall). (z.flags n).gone) leads ∙ r.gone poll;
+        behind_is = ap (λ (z : Hall). is_behind (world_of z) n) leads;
+      }
+
+      seat-late : (s : MemberNumber) (seat : Seat M g) → Sits w lines c s seat → is_late seat ≡ false → Sits w lines d s (late seat)
+      seat-late s (Up m store durable behind) sits never = record {
+        number = sits.number;
+        sound = sits.sound;
+        count = sits.count;
+        at = record { ready = ready-late (member s) (subst (IsReady h (member s)) never sits.at.ready); member = ap (λ (z : Hall). z.members s) leads ∙ sits.at.member };
+        has = sits.has;
+        left = sits.left;
+      }
+      seat-late s (Fallen left) (inl sits) never = inl (record {
+        medium = sits.medium;
+        is = sits.is;
+        log = sits.log;
+        effects = sits.effects;
+        at = record {
+          down = ap (λ (z : Hall). (z.flags (member s)).up) leads ∙ sits.at.down;
+          gated = ap (λ (z : Hall). (z.members s).gated) leads ∙ sits.at.gated;
+          fresh = ap (λ (z : Hall). (z.members s).fresh) leads ∙ sits.at.fresh;
+        };
+        leaves = sits.leaves;
+      })
+      seat-late s (Fallen left) (inr sits) never = inr (record { down = ap (λ (z : Hall). (z.flags (member s)).up) leads ∙ sits.down })
+      seat-late s (Wanting left) sits never = absurd sits
+
+      tells-tick : (asked : List Asked) (answers : Option (List ℕ)) → Tells asked answers c → Tells asked answers d
+      tells-tick asked answers f =
+          let last : unwrap_or c.last c.start ≡ latest c.start (tick_moments c.entries) = ap (λ l. unwrap_or l c.start) b.stands.last ∙ last-kept (base_of lines (trace_of c)) (start_hall (base_of lines (trace_of c))) c.entries c.start in
+          record {
+            fates = t.asked ∙ f.fates ∙ ap (λ l. asked ++ map asked_of l) (sym t.sent);
+            clock = subst (λ (es : List Entry). IsClocked answers d.answers d.start es) (sym t.entries) (subst (λ k. IsClocked answers d.answers k (c.entries ++ Tick (tick_moment c t.answer) ∷ [])) (sym t.start)
+                (clocked-tick answers c.answers d.answers c.start (unwrap_or c.last c.start) c.entries t.answer (tick_moment c t.answer) last refl t.answered f.clock));
+          }
+
+      pub ticked-between : Between w lines d (all_late ms) ps true
+      ticked-between = record {
+        stands = ticks-legal lines c d t.answer b.stands empty at-rest t.entries t.last t.flight (t.start, t.opened, t.sent, t.asked);
+        sit = record { first = seat-late First ms.first b.sit.first none-late.0; second = seat-late Second ms.second b.sit.second none-late.1; third = seat-late Third ms.third b.sit.third none-late.2 };
+        polls = λ k p at. subst (λ v. PollIsAt (hall_of lines d) (suc k) p (not v && true)) (sym (none-below k)) (record {
+          ready = ready-late (broker (suc k)) (poll-ready k p at).ready;
+          poll = ap (λ (z : Hall). z.polls (suc k)) leads ∙ (poll-ready k p at).poll;
+          owed = ap (λ (z : Hall). z.owed (suc k)) leads ∙ (poll-ready k p at).owed;
+        });
+      }
+
+      pub ticked-adds : Adds any_node c d
+      ticked-adds = record { more = Tick (tick_moment c t.answer) ∷ []; longer = t.entries; own_entries = λ m f. never-false f; start = t.start; opened = t.opened; tells = tells-tick }
+
+      pub ticked-ticks : (hall_of lines d).ticks ≡ h.ticks + 1
+      ticked-ticks = ap (λ (z : Hall). z.ticks) leads
+
+  -- ---- one round more
+
+  module _ (limits : Limits) (o c mid d : CourierParts) (old new : Members M g) (ps qs : List PollState) (behind : Bool) (ticks : ℕ) (come : HasCome w lines o c old ps behind ticks)
+      (gone : HasGoneRound w lines c mid new qs) (count : length lines ≡ length qs) where
+    there-adds : Adds any_node o mid
+    there-adds = adds-join any_node o c mid come.adds gone.adds
+
+    there-ticks : (hall_of lines mid).ticks ≡ ticks
+    there-ticks = gone.ticks ∙ come.ticks_are
+
+    pub goes-round : d ≡ mid → HasCome w lines o d new qs false ticks
+    goes-round same = subst (λ z. HasCome w lines o z new qs false ticks) (sym same) (record { between = gone.between; adds = there-adds; ticks_are = there-ticks })
+
+    pub goes-ticked : (some_late new ≡ false) × AllEmpty (state_of mid.flight) × (ticks < limits.ticks) × HasTicked mid d → HasCome w lines o d (all_late new) qs true (ticks + 1)
+    goes-ticked (calm, empty, less, t) = record {
+      between = ticked-between mid new qs gone.between count calm d empty t;
+      adds = adds-join any_node o mid d there-adds (ticked-adds mid new qs gone.between count calm d empty t);
+      ticks_are = ticked-ticks mid new qs gone.between count calm d empty t ∙ ap (λ k. k + 1) there-ticks;
+    }
+
+    over-for : ticks ≤ limits.ticks → (all_held qs ≡ true) ⊎ ((limits.messages ≤ length mid.sent) ⊎ ((some_late new ≡ false) × AllEmpty (state_of mid.flight) × (limits.ticks ≤ ticks))) → IsOver lines limits mid qs
+    over-for few (inl e) = inl e
+    over-for few (inr (inl e)) = inr (inl e)
+    over-for few (inr (inr (calm, empty, most))) = inr (inr (is-idle mid new qs gone.between count calm empty, there-ticks ∙ (let e : ticks ≡ limits.ticks = omega (arith, few, most) in e)))
+
+    pub goes-over : ticks ≤ limits.ticks → (d ≡ mid) × ((all_held qs ≡ true) ⊎ ((limits.messages ≤ length mid.sent) ⊎ ((some_late new ≡ false) × AllEmpty (state_of mid.flight) × (limits.ticks ≤ ticks)))) → HasEnded w lines limits o d new qs
+    goes-over few (same, why) = subst (λ z. HasEnded w lines limits o z new qs) (sym same) (record { between = gone.between; adds = there-adds; few = subst (λ k. k ≤ limits.ticks) (sym there-ticks) few; over = over-for few why })
+
+    -- what a step leaves
+    abbrev pub Stepped : Next → Type 0
+    Stepped Over = HasEnded w lines limits o d new qs
+    Stepped Round = HasCome w lines o d new qs false ticks
+    Stepped Ticked = HasCome w lines o d (all_late new) qs true (ticks + 1)
+
+    stepped : (next : Next) → Follows limits (some_late new) ticks qs mid d next → ticks ≤ limits.ticks → Stepped next
+    stepped Over f few = goes-over few f
+    stepped Round f few = goes-round f
+    stepped Ticked f few = goes-ticked f
+
+    pub step-came : (late : Bool) (shown : List PollState) → late ≡ some_late new → shown ≡ qs → (next named : Next) → next ≡ named → Follows limits late ticks shown mid d next → ticks ≤ limits.ticks → Stepped named
+    step-came late shown late_is shown_is next named is f few =
+        stepped named (subst (Follows limits (some_late new) ticks qs mid d) is
+        (subst (λ z. Follows limits (some_late new) ticks z mid d next) shown_is (subst (λ z. Follows limits z ticks shown mid d next) late_is f))) few
+
+  pub come-first : (c : CourierParts) (ms : Members M g) (ps : List PollState) → Between w lines c ms ps false → (hall_of lines c).ticks ≡ 0 → HasCome w lines c c ms ps false 0
+  come-first c ms ps b none = record { between = b; adds = adds-still any_node c c refl; ticks_are = none }
+
+  -- ---- a turn may follow
+
+  may-late : (number : ℕ) (seat : Seat M g) → MayTurn w number seat → MayTurn w number (late seat)
+  may-late number (Up m store durable behind) h = h
+  may-late number (Fallen left) h = h
+  may-late number (Wanting left) h = h
+
+  pub may-all-late : (ms : Members M g) → MayAllTurn w ms → MayAllTurn w (all_late ms)
+  may-all-late ms h = record { first = may-late 1 ms.first h.first; second = may-late 2 ms.second h.second; third = may-late 3 ms.third h.third }
+
+-- ---- results
+
+pub not-err : {T E : Type 0} (r : Result T E) (P : Type 0) → is_err r ≡ false → OnOk r P → P
+not-err (Ok x) P e h = h
+not-err (Err x) P e h = never-false e
+
+pub if-ok : {T E : Type 0} (r : Result T E) (P : T → Type 0) (x : T) → r ≡ Ok x → IfOk r P → P x
+if-ok {T} {E} r P x is h = subst (λ (z : Result T E). IfOk z P) is h

@@ -1,0 +1,6 @@
+pub mod EndLemmas
+pub mod MemberLemmas
+pub mod MembersLemmas
+pub mod PollLemmas
+pub mod SittingLemmas
+pub mod VoterLemmas

@@ -1,0 +1,12 @@
+use Rattle.std.proofs.Common.{◌≡◌, List, length}
+use Rattle.record_votes.specs.Voting.{Line}
+use Rattle.vote_courier.specs.Stations.{Stands, hall_of}
+use Rattle.vote_run.specs.Rounds.{PollsAre, PollsTurned}
+use Rattle.vote_run.proofs.poll_rounds.polls_turn.Given as goal
+
+abbrev pub invariant-loop-i : goal.invariant-loop-i
+invariant-loop-i g l = record {
+  end : length l.polls.items ≡ l.i-end;
+  count : length l.polls.items ≡ length l.fn.polls.items;
+  turned : (lines : List Line) → Stands lines l.fn.courier → PollsAre (hall_of lines l.fn.courier) 0 l.behind l.fn.polls.items → PollsTurned lines l.fn.courier l.courier l.i l.behind l.polls.items;
+}

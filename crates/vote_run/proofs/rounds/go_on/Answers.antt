@@ -1,0 +1,24 @@
+use Rattle.std.proofs.Common.{◌≡◌, ◌≤◌, ◌∙◌, ℕ, Bool, sym, subst}
+use Rattle.std.specs.Prelude.{Option, IfSome}
+use Rattle.vote_run.specs.Ends.{Came}
+use Rattle.vote_run.proofs.EndLemmas.{if-ok}
+use Rattle.vote_run.proofs.rounds.go_on.Goals as goal
+
+pub returns-in_default-came-clause-ended : goal.returns-in_default-came-clause-ended
+returns-in_default-came-clause-ended g c told lines count b none =
+    let all = Came g.M.Medium lines c.args.limits c.args.courier.now c.step-after.new.courier c.step-after.result.0 c.step-after.new.polls.items in
+    let so = c.step-after.ensures.came told lines c.args.courier.now (count ∙ sym c.loop.invariant.count) (c.loop.invariant.come told lines count b none) in
+    subst all c.in_default-came.is (if-ok c.step-after.result.1 all c.in-Ok.came c.in-Ok.is so)
+
+pub loop-preserved : goal.loop-preserved
+loop-preserved g c =
+    let few : Option (Bool × ℕ) → Type 0 = (λ next. IfSome next (λ n. n.1 ≤ c.args.limits.ticks)) in
+    record {
+      may = c.step-after.ensures.may;
+      count = c.step-after.ensures.count ∙ c.loop.invariant.count;
+      few = subst few c.in-Some.is (if-ok c.step-after.result.1 few c.in-Ok.came c.in-Ok.is c.step-after.ensures.few);
+      come = λ told lines count b none.
+          (let all = Came g.M.Medium lines c.args.limits c.args.courier.now c.step-after.new.courier c.step-after.result.0 c.step-after.new.polls.items in
+          let so = c.step-after.ensures.came told lines c.args.courier.now (count ∙ sym c.loop.invariant.count) (c.loop.invariant.come told lines count b none) in
+          subst all c.in-Some.is (if-ok c.step-after.result.1 all c.in-Ok.came c.in-Ok.is so));
+    }

@@ -1,0 +1,44 @@
+use Rattle.std.proofs.Common.{◌≡◌, ◌+◌, ◌∙◌, true, false, sym, subst}
+use Rattle.vote_run.specs.Ends.{Follows, HasCome, HasGoneRound}
+use Rattle.vote_run.specs.declared.limits.Next.TheVariants.{Over, Round, Ticked}
+use Rattle.vote_run.proofs.EndLemmas.{if-ok, not-err, step-came}
+use Rattle.vote_run.proofs.rounds.step.Goals as goal
+
+pub returns-in-Ok-Over-clause-came : goal.returns-in-Ok-Over-clause-came
+returns-in-Ok-Over-clause-came g c told lines first count come =
+    let w = g.M.Medium in
+    let ms = c.round-after.result.0 in
+    let mid = c.round-after.new.courier in
+    let d = c.follow.new.courier in
+    let qs = c.round-after.new.polls.items in
+    let gone : HasGoneRound w lines c.args.courier.now mid ms qs = not-err c.round-after.result.1 (HasGoneRound w lines c.args.courier.now mid ms qs) (sym c.is_err.ensures.value ∙ c.if-is_err.false) (c.round-after.ensures.gone told lines come.between) in
+    let follows = if-ok c.follow.result (Follows c.args.limits c.some_late.result c.args.ticks c.as_slice.result.now mid d) c.in-Ok-Over.field-0 c.in-Ok-Over.is c.follow.ensures in
+    let came = step-came w lines c.args.limits first c.args.courier.now mid d c.args.members ms c.args.polls.now.items qs c.args.behind c.args.ticks come gone (count ∙ sym c.round-after.ensures.count)
+    c.some_late.result c.as_slice.result.now c.some_late.ensures c.as_slice.ensures.value c.in-Ok-Over.field-0 Over c.in-Ok-Over.field-0-is follows c.requires.ticks in
+    came
+
+pub returns-in-Ok-Round-clause-came : goal.returns-in-Ok-Round-clause-came
+returns-in-Ok-Round-clause-came g c told lines first count come =
+    let w = g.M.Medium in
+    let ms = c.round-after.result.0 in
+    let mid = c.round-after.new.courier in
+    let d = c.follow.new.courier in
+    let qs = c.round-after.new.polls.items in
+    let gone : HasGoneRound w lines c.args.courier.now mid ms qs = not-err c.round-after.result.1 (HasGoneRound w lines c.args.courier.now mid ms qs) (sym c.is_err.ensures.value ∙ c.if-is_err.false) (c.round-after.ensures.gone told lines come.between) in
+    let follows = if-ok c.follow.result (Follows c.args.limits c.some_late.result c.args.ticks c.as_slice.result.now mid d) c.in-Ok-Round.field-0 c.in-Ok-Round.is c.follow.ensures in
+    let came = step-came w lines c.args.limits first c.args.courier.now mid d c.args.members ms c.args.polls.now.items qs c.args.behind c.args.ticks come gone (count ∙ sym c.round-after.ensures.count)
+    c.some_late.result c.as_slice.result.now c.some_late.ensures c.as_slice.ensures.value c.in-Ok-Round.field-0 Round c.in-Ok-Round.field-0-is follows c.requires.ticks in
+    came
+
+pub returns-in-Ok-Ticked-clause-came : goal.returns-in-Ok-Ticked-clause-came
+returns-in-Ok-Ticked-clause-came g c told lines first count come =
+    let w = g.M.Medium in
+    let ms = c.round-after.result.0 in
+    let mid = c.round-after.new.courier in
+    let d = c.follow.new.courier in
+    let qs = c.round-after.new.polls.items in
+    let gone : HasGoneRound w lines c.args.courier.now mid ms qs = not-err c.round-after.result.1 (HasGoneRound w lines c.args.courier.now mid ms qs) (sym c.is_err.ensures.value ∙ c.if-is_err.false) (c.round-after.ensures.gone told lines come.between) in
+    let follows = if-ok c.follow.result (Follows c.args.limits c.some_late.result c.args.ticks c.as_slice.result.now mid d) c.in-Ok-Ticked.field-0 c.in-Ok-Ticked.is c.follow.ensures in
+    let came = step-came w lines c.args.limits first c.args.courier.now mid d c.args.members ms c.args.polls.now.items qs c.args.behind c.args.ticks come gone (count ∙ sym c.round-after.ensures.count)
+    c.some_late.result c.as_slice.result.now c.some_late.ensures c.as_slice.ensures.value c.in-Ok-Ticked.field-0 Ticked c.in-Ok-Ticked.field-0-is follows c.requires.ticks in
+    subst (λ z. HasCome w lines first d z qs true (c.args.ticks + 1)) (sym c.all_late.ensures) came

@@ -1,0 +1,18 @@
+//! A run of members and polls in rounds, on one thread: the turns, and why it ends.
+#![tactic(auto)]
+
+mod laws;
+mod limits;
+mod member_turns;
+mod members;
+mod poll_rounds;
+mod rounds;
+mod seats;
+
+pub use laws::members_and_polls_are_voters;
+pub use limits::{Limits, Next};
+pub use member_turns::turn;
+pub use members::Members;
+pub use poll_rounds::polls_go;
+pub use rounds::{all_held, go_on};
+pub use seats::Seat;

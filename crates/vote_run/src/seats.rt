@@ -1,0 +1,15 @@
+use medium_port::Medium;
+use record_votes::Member;
+use version_store::Store;
+
+/// A member between its turns.
+#[derive(Drop)]
+pub enum Seat<M: Medium> {
+    /// It is up, over the store of its log, which has so many effects. Told is whether a tick stands
+    /// that it hasn't heard.
+    Up(Member, Store<M>, usize, bool),
+    /// It is down. None where its medium is missing.
+    Fallen(Option<M>),
+    /// Memory was wanting.
+    Wanting(M),
+}

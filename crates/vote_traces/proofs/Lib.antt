@@ -1,0 +1,4 @@
+pub mod CauseLemmas
+pub mod ReplayLemmas
+pub mod RowLemmas
+pub mod WalkLemmas

@@ -1,0 +1,5 @@
+pub mod Causes
+pub mod Legal
+pub mod Replays
+pub mod Rows
+pub mod Walks
