@@ -9,7 +9,8 @@ use Rattle.medium_port.specs.declared.events.Event.{Event}
 use Rattle.medium_port.specs.declared.events.Event.TheVariants.{Wrote, Synced, Reopened}
 use Rattle.medium_port.specs.declared.stops.Stop.{Stop}
 use Rattle.medium_port.specs.Stops.{torn_bytes}
-use Rattle.medium_port.specs.Disk.{Span, OutsideSpan, Outside, Among, spans_of, damaged, Disk, after, replay, MayLeave, SpanFits, SpansFit, IsSound, reads_left, LeftSince, since_more, only_last}
+use Rattle.medium_port.specs.Disk.{Span, OutsideSpan, Outside, Among, spans_of, damaged, Disk, after, replay, MayLeave, SpanFits, SpansFit, IsSound, reads_left, stage_of, stages_on, only_last}
+use Rattle.medium_port.specs.Moment.{Stage, Goes, EitherSide}
 use Rattle.medium_port.proofs.Pages.{small_append, small_take, small_drop, small_replicate, splice_front, splice_back, splice_size, page_put, image_put, byte_outside, byte_inside}
 use Rattle.medium_port.proofs.Blanks.{same_image}
 
@@ -153,34 +154,26 @@ sync_crash n d c sound left = reads_left n d c sound (sync_only n d c sound left
 pub reopen_crash : (n : ℕ) (d : Disk) (stop : Option Stop) (c : Image) → MayLeave n (after d (Reopened stop)) c → MayLeave n d c
 reopen_crash n d stop c left = record { shape = left.shape; kept = left.kept }
 
--- the moments of one more event
+-- one more event is one more stage
+pub stages-push : (n : ℕ) (older : List Stage) (d : Disk) (es : List Event) (e : Event) → stages_on n older d (es ++ e ∷ []) ≡ stage_of n (replay d (es ++ e ∷ [])) ∷ stages_on n older d es
+stages-push n older d [] e = refl
+stages-push n older d (x ∷ es) e = stages-push n (stage_of n d ∷ older) (after d x) es e
+
+-- no event was kept
+pub goes_still : (n : ℕ) (first : Disk) (es es' : List Event) → es' ≡ es → Goes (stages_on n [] first es) (stages_on n [] first es') (EitherSide (MayLeave n (replay first es)) (MayLeave n (replay first es')))
+goes_still n first es es' same = record {
+  more = [];
+  grows = ap (λ (l : List Event). stages_on n [] first l) same;
+  each = λ c left. ⊎_elim (λ none. absurd none) (λ was. inl (only_last n first es c was)) left;
+}
+
 module _ (n : ℕ) (first : Disk) (es es' : List Event) (e : Event) (pushed : es' ≡ es ++ e ∷ []) where
-  more : length es' ≡ length es + 1
-  more = ap (λ (l : List Event). length l) pushed ∙ length-append es (e ∷ [])
-
-  pub later_push : length es ≤ length es'
-  later_push = omega (arith, more)
-
-  pub before_push : (t : ℕ) (c : Image) → t ≤ length es → LeftSince n first es' t c → LeftSince n first es t c ⊎ (MayLeave n (replay first es) c ⊎ MayLeave n (replay first es') c)
-  before_push t c le left =
-      let k = left.0 in
-      let since = left.1 in
-      let until = left.2 in
-      ⊎_elim
-      (λ front.
-      let low : k ≤ length es = omega (arith, front) in
-      let same : take k es' ≡ take k es = ap (λ (l : List Event). take k l) pushed ∙ take-append-le k es (e ∷ []) low in
-      inl (k, since, low, subst (λ (l : List Event). MayLeave n (replay first l) c) same left.3))
-      (λ back.
-      let high : length es' ≤ k = omega (arith, back, more) in
-      inr (inr (subst (λ (l : List Event). MayLeave n (replay first l) c) (take_all k es' high) left.3)))
-      (cases_lt k (length es + 1))
-
-  pub each_push : (c : Image) → LeftSince n first es' (length es) c → MayLeave n (replay first es) c ⊎ MayLeave n (replay first es') c
-  each_push c left = ⊎_elim (λ was. inl (only_last n first es c was)) (λ now. now) (before_push (length es) c (omega arith) left)
-
-  pub kept_push : (t : ℕ) (c : Image) → t ≤ length es → LeftSince n first es t c → LeftSince n first es' t c
-  kept_push t c le left = subst (λ (l : List Event). LeftSince n first l t c) (sym pushed) (since_more n first es (e ∷ []) t c left)
+  pub goes_push : Goes (stages_on n [] first es) (stages_on n [] first es') (EitherSide (MayLeave n (replay first es)) (MayLeave n (replay first es')))
+  goes_push = record {
+    more = stage_of n (replay first es') ∷ [];
+    grows = ap (λ (l : List Event). stages_on n [] first l) pushed ∙ stages-push n [] first es e ∙ ap (λ (l : List Event). stage_of n (replay first l) ∷ stages_on n [] first es) (sym pushed);
+    each = λ c left. ⊎_elim (λ late. ⊎_elim (λ now. inr now) (λ none. absurd none) late) (λ was. inl (only_last n first es c was)) left;
+  }
 
   -- the state after it
   pub now_push : replay first es' ≡ after (replay first es) e

@@ -1,10 +1,13 @@
 -- The first stop that a call meets.
-use Rattle.std.proofs.Common.{◌≡◌, ℕ, ◌<◌, List, [], ◌∷◌, length, get_or, true, false, refl, ap, ◌∙◌, arith, zero, suc}
+use Rattle.std.proofs.Common.{◌≡◌, ℕ, ◌<◌, List, [], ◌∷◌, length, get_or, true, false, inl, refl, sym, ap, ◌∙◌, arith, zero, suc}
 use Rattle.std.specs.List.{remove}
-use Rattle.std.specs.Prelude.{Option, Some, None}
+use Rattle.std.specs.Prelude.{Option, Some, None, Err, is_some, OnErr, MatchOption}
 use Rattle.std.proofs.lemmas.Bool.{cond-true, cond-false}
 use Rattle.medium_port.specs.declared.stops.Stop.{Stop}
 use Rattle.medium_port.specs.Stops.{is_at, first_met, without_met}
+use Rattle.stream_port.specs.Causes.{next_count}
+use Rattle.medium_port.specs.MemoryMedia.{calls_of, stops_of, pending_of, next_stop, MeetsStops}
+use Rattle.medium_port.specs.declared.memory_media.MemoryMedium.{MemoryMedium}
 
 module _ (call : ℕ) (write : Option (ℕ × ℕ)) where
   pub met_here : (stops : List Stop) (i : ℕ) (d : Stop) → i < length stops → ((k : ℕ) → k < i → is_at call write (get_or stops k d).at ≡ false) → is_at call write (get_or stops i d).at ≡ true
@@ -28,3 +31,23 @@ pub same_default : (stops : List Stop) (i : ℕ) (d e : Stop) → i < length sto
 same_default [] i d e within = absurd (omega (arith, within))
 same_default (s ∷ stops) zero d e within = refl
 same_default (s ∷ stops) (suc i) d e within = same_default stops i d e (omega (arith, within))
+
+-- a write that met a stop
+module _ {T E : Type 0} (write : Option (ℕ × ℕ)) (old new : MemoryMedium) (x : E) (met : Option Stop) (call : ℕ) where
+  pub stops_met : call ≡ next_count (calls_of old) → met ≡ first_met call write (stops_of old) → true ≡ is_some met → stops_of new ≡ without_met call write (stops_of old) → pending_of new ≡ met → calls_of new ≡ call
+      → MeetsStops {T = T} {E = E} write old new (Err x)
+  stops_met counted is some used pending calls =
+      let next : met ≡ next_stop write old = is ∙ ap (λ k. first_met k write (stops_of old)) counted in
+      let met_some : is_some (next_stop write old) ≡ true = sym (some ∙ ap is_some next) in
+      record {
+        stopped = λ s. refl;
+        failed = λ e. inl met_some;
+        fed = tt;
+        used = used ∙ ap (λ k. without_met k write (stops_of old)) counted;
+        waits = waits_for (next_stop write old) met_some (pending ∙ next);
+        counted = calls ∙ counted;
+      }
+    where
+      waits_for : (o : Option Stop) → is_some o ≡ true → pending_of new ≡ o → MatchOption o (OnErr {T = T} (Err x) (pending_of new ≡ pending_of old)) (λ stop. pending_of new ≡ Some stop)
+      waits_for None none p = absurd (cc none)
+      waits_for (Some stop) here p = p

@@ -1,28 +1,14 @@
 -- What a list of writes, syncs and reopenings has made of a medium.
 use Rattle.std.specs.Prelude.{◌≡◌, ◌⊎◌, ⊤, ℕ, ◌+◌, ◌≤◌, ◌<◌, ◌++◌, List, [], ◌∷◌, Option, Some, None, length, map, take, slice_index_or}
 use Rattle.std.specs.declared.snapshot.Snapshot.{Snapshot}
-use Rattle.std.proofs.Common.{arith, sym, subst, length-append}
-use Rattle.std.proofs.lemmas.List.{take_all, take-append-le}
+use Rattle.std.proofs.Common.{refl, sym, subst}
 use Rattle.medium_port.specs.Image.{Image, IsImage, byte_of, put_bytes}
+use Rattle.medium_port.specs.Moment.{Stage, Leaves, LeftNow}
+pub use Rattle.medium_port.specs.Moment.{Span, OutsideSpan, Outside}
 use Rattle.medium_port.specs.declared.events.Event.{Event}
 use Rattle.medium_port.specs.declared.events.Event.TheVariants.{Wrote, Synced, Reopened}
 use Rattle.medium_port.specs.declared.stops.Stop.{Stop}
 use Rattle.medium_port.specs.Stops.{torn_bytes}
-
--- bytes that were written from a place of a page on
-pub record Span : Type 0 where
-  pub page : ℕ
-  pub at : ℕ
-  pub bytes : List ℕ
-
--- the byte at this place of this page is none of them
-abbrev pub OutsideSpan : Span → ℕ → ℕ → Type 0
-OutsideSpan span page at = page ≡ span.page → (at < span.at) ⊎ (span.at + length span.bytes ≤ at)
-
--- nor of any of these
-abbrev pub Outside : List Span → ℕ → ℕ → Type 0
-Outside [] page at = ⊤
-Outside (span ∷ spans) page at = OutsideSpan span page at × Outside spans page at
 
 -- the writes among the events
 abbrev pub spans_of : List Event → List Span
@@ -69,31 +55,29 @@ abbrev pub replay : Disk → List Event → Disk
 replay d [] = d
 replay d (e ∷ es) = replay (after d e) es
 
--- what a crash may leave: what was synced, but for the ranges written since, which may hold any bytes
-pub record MayLeave (n : ℕ) (d : Disk) (c : Image) : Type 0 where
-  pub shape : IsImage n c
-  pub kept : (page at : ℕ) → Outside d.unsynced page at → byte_of c page at ≡ byte_of d.base page at
+-- the state of a medium of n pages, as crashes see it
+abbrev pub stage_of : ℕ → Disk → Stage
+stage_of n d = record { count = n; synced = d.base; unsynced = d.unsynced }
 
--- what a crash may have left after some of the events, no fewer than t
-abbrev pub LeftSince : ℕ → Disk → List Event → ℕ → Image → Type 0
-LeftSince n first events t c = (k : ℕ) × (t ≤ k) × (k ≤ length events) × MayLeave n (replay first (take k events)) c
+-- what a crash may leave
+abbrev pub MayLeave : ℕ → Disk → Image → Type 0
+MayLeave n d c = Leaves (stage_of n d) c
 
--- none is forgotten where there are more events
-pub since_more : (n : ℕ) (first : Disk) (events more : List Event) (t : ℕ) (c : Image) → LeftSince n first events t c → LeftSince n first (events ++ more) t c
-since_more n first events more t c left = (
-  left.0,
-  left.1,
-  omega (arith, left.2, length-append events more),
-  subst (λ (es : List Event). MayLeave n (replay first es) c) (sym (take-append-le left.0 events more left.2)) left.3,
-)
+-- the stages while these events happened, behind older ones, the newest first
+abbrev pub stages_on : ℕ → List Stage → Disk → List Event → List Stage
+stages_on n older d [] = stage_of n d ∷ older
+stages_on n older d (e ∷ es) = stages_on n (stage_of n d ∷ older) (after d e) es
 
-pub only_last : (n : ℕ) (first : Disk) (events : List Event) (c : Image) → LeftSince n first events (length events) c → MayLeave n (replay first events) c
-only_last n first events c left =
-    let all : take left.0 events ≡ events = take_all left.0 events left.1 in
-    subst (λ (es : List Event). MayLeave n (replay first es) c) all left.3
+-- the last of them
+pub last_stage : (n : ℕ) (older : List Stage) (d : Disk) (events : List Event) → (rest : List Stage) × (stages_on n older d events ≡ stage_of n (replay d events) ∷ rest)
+last_stage n older d [] = (older, refl)
+last_stage n older d (e ∷ es) = last_stage n (stage_of n d ∷ older) (after d e) es
 
-pub counts_last : (n : ℕ) (first : Disk) (events : List Event) (t : ℕ) (c : Image) → t ≤ length events → MayLeave n (replay first events) c → LeftSince n first events t c
-counts_last n first events t c le now = (length events, le, omega arith, subst (λ (es : List Event). MayLeave n (replay first es) c) (sym (take_all (length events) events (omega arith))) now)
+pub counts_last : (n : ℕ) (first : Disk) (events : List Event) (c : Image) → MayLeave n (replay first events) c → LeftNow (stages_on n [] first events) c
+counts_last n first events c left = let last = last_stage n [] first events in subst (λ (ss : List Stage). LeftNow ss c) (sym last.1) left
+
+pub only_last : (n : ℕ) (first : Disk) (events : List Event) (c : Image) → LeftNow (stages_on n [] first events) c → MayLeave n (replay first events) c
+only_last n first events c left = let last = last_stage n [] first events in subst (λ (ss : List Stage). LeftNow ss c) last.1 left
 
 -- a write within n pages
 pub record SpanFits (n : ℕ) (span : Span) : Type 0 where

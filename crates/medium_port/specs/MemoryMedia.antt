@@ -4,7 +4,8 @@ use Rattle.std.specs.Option.{option_map}
 use Rattle.stream_port.specs.Causes.{Rose, next_count}
 use Rattle.medium_port.specs.Image.{Image}
 use Rattle.medium_port.specs.Disk.{Span}
-use Rattle.medium_port.specs.Pasts.{events_in, unsynced_in, moment_of, left_now, left_then, IsWrittenTo, IsAsBefore}
+use Rattle.medium_port.specs.Moment.{Stage}
+use Rattle.medium_port.specs.Pasts.{events_in, unsynced_in, stages_in, left_now, IsWrittenTo, IsAsBefore}
 use Rattle.medium_port.specs.Stops.{first_met, without_met}
 use Rattle.medium_port.specs.declared.events.Event.{Event}
 use Rattle.medium_port.specs.declared.stops.Stop.{Stop}
@@ -22,13 +23,9 @@ reads_of m = m.past.held.items
 abbrev pub leaves : MemoryMedium → Image → Type 0
 leaves m = left_now m.past
 
--- the number of the writes, syncs and reopenings so far
-abbrev pub moment_in : MemoryMedium → ℕ
-moment_in m = moment_of m.past
-
--- what a crash might have left since a moment
-abbrev pub left_since_in : MemoryMedium → ℕ → Image → Type 0
-left_since_in m = left_then m.past
+-- it at each moment, the last one first
+abbrev pub stages_of : MemoryMedium → List Stage
+stages_of m = stages_in m.past
 
 -- its writes, syncs and reopenings
 abbrev pub events_of : MemoryMedium → List Event

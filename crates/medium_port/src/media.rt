@@ -1,7 +1,7 @@
 ghost use Rattle.std.specs.Prelude.{◌≡◌, ◌+◌, ◌<◌, ◌≤◌, List, ℕ, Bool, Option, Some, IsTrue, is_err, false, length, OnOk, OnErr};
 ghost use Rattle.stream_port.specs.Causes.{HasCause};
 ghost use Rattle.medium_port.specs.Image.{Image, IsImage, page_of, Written, Torn, Follows, Only, NoMore};
-ghost use Rattle.medium_port.specs.Moment.{LeavesOnly, EitherSide};
+ghost use Rattle.medium_port.specs.Moment.{Stage, LeftNow, LeavesOnly, EitherSide};
 
 /// A call of a medium or a shelf failed, and its count of faults rose.
 #[derive(Clone, Copy, Debug, PartialEq, Eq)]
@@ -40,11 +40,8 @@ pub trait Medium: Drop {
     /// What a crash at this moment may leave.
     ghost may_leave: { Self → Image → Type 0 };
 
-    /// The moment, as a number that doesn't fall.
-    ghost moment: { Self → ℕ };
-
-    /// What a crash at some moment from that one on might have left.
-    ghost left_since: { Self → ℕ → Image → Type 0 };
+    /// The medium at each moment so far, as crashes see it, the last moment first. Calls add to them.
+    ghost stages: { Self → List Stage };
 
     /// The number of pages, from 1 to 1,048,576.
     fn pages(&self) -> u32
@@ -59,7 +56,8 @@ pub trait Medium: Drop {
         ensures found { IsTrue tells → OnOk result (into.new ≡ page_of (reads self.old) page) }
         ensures reads { IsTrue tells → reads self.new ≡ reads self.old }
         ensures crash { IsTrue tells → NoMore (may_leave self.old) (may_leave self.new) }
-        ensures time { IsTrue tells → LeavesOnly moment left_since self.old self.new (EitherSide (may_leave self.old) (may_leave self.new)) }
+        // A read changes nothing that crashes see.
+        ensures time { IsTrue tells → stages self.new ≡ stages self.old }
         ensures last { OnOk result (last_page self.new ≡ Some (page, into.new)) }
         ensures last_err { OnErr result (last_page self.new ≡ last_page self.old) }
         ensures size { page_count self.new ≡ page_count self.old }
@@ -73,7 +71,7 @@ pub trait Medium: Drop {
         requires open { is_failed self.old ≡ false }
         ensures written { IsTrue tells → OnOk result (Written page at bytes.now (reads self.old) (reads self.new)) }
         ensures crash { IsTrue tells → Follows (Torn page at (length bytes.now)) (may_leave self.old) (may_leave self.new) }
-        ensures time { IsTrue tells → LeavesOnly moment left_since self.old self.new (EitherSide (may_leave self.old) (may_leave self.new)) }
+        ensures time { IsTrue tells → LeavesOnly stages self.old self.new (EitherSide (may_leave self.old) (may_leave self.new)) }
         ensures last { last_page self.new ≡ last_page self.old }
         ensures size { page_count self.new ≡ page_count self.old }
         ensures state { is_failed self.new ≡ is_err result }
@@ -85,7 +83,7 @@ pub trait Medium: Drop {
         ensures durable { IsTrue tells → OnOk result (Only (reads self.old) (may_leave self.new)) }
         ensures reads { IsTrue tells → reads self.new ≡ reads self.old }
         ensures crash { IsTrue tells → NoMore (may_leave self.old) (may_leave self.new) }
-        ensures time { IsTrue tells → LeavesOnly moment left_since self.old self.new (EitherSide (may_leave self.old) (may_leave self.new)) }
+        ensures time { IsTrue tells → LeavesOnly stages self.old self.new (EitherSide (may_leave self.old) (may_leave self.new)) }
         ensures last { last_page self.new ≡ last_page self.old }
         ensures size { page_count self.new ≡ page_count self.old }
         ensures state { is_failed self.new ≡ is_err result }
@@ -96,7 +94,7 @@ pub trait Medium: Drop {
     fn reopen(&mut self) -> Result<(), MediumFault>
         ensures one { IsTrue tells → OnOk result (may_leave self.old (reads self.new)) }
         ensures crash { IsTrue tells → NoMore (may_leave self.old) (may_leave self.new) }
-        ensures time { IsTrue tells → LeavesOnly moment left_since self.old self.new (EitherSide (may_leave self.old) (may_leave self.new)) }
+        ensures time { IsTrue tells → LeavesOnly stages self.old self.new (EitherSide (may_leave self.old) (may_leave self.new)) }
         ensures last { last_page self.new ≡ last_page self.old }
         ensures size { page_count self.new ≡ page_count self.old }
         ensures state { is_failed self.new ≡ is_err result }
@@ -105,11 +103,11 @@ pub trait Medium: Drop {
     /// What reads give is one of the images that may be left.
     ghost reads_now: { (m : Self) → IsTrue tells → may_leave m (reads m) };
 
-    /// An image that may be left now is one of those since an earlier moment.
-    ghost counts_now: { (m : Self) (t : ℕ) (c : Image) → IsTrue tells → t ≤ moment m → may_leave m c → left_since m t c };
+    /// An image that may be left now is one of the last moment.
+    ghost counts_now: { (m : Self) (c : Image) → IsTrue tells → may_leave m c → LeftNow (stages m) c };
 
-    /// Since this moment there is no other.
-    ghost only_now: { (m : Self) (c : Image) → IsTrue tells → left_since m (moment m) c → may_leave m c };
+    /// There is no other.
+    ghost only_now: { (m : Self) (c : Image) → IsTrue tells → LeftNow (stages m) c → may_leave m c };
 
     /// Each has as many pages of 4,096 bytes.
     ghost shape: { (m : Self) (c : Image) → IsTrue tells → may_leave m c → IsImage (page_count m) c };

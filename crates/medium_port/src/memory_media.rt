@@ -81,7 +81,7 @@ impl MemoryMedium {
 }
 
 impl Medium for MemoryMedium {
-    ghost use Rattle.medium_port.specs.MemoryMedia.{pages_of, reads_of, leaves, moment_in, left_since_in, unsynced_of, pending_of, failed_in, faults_in, last_of, MeetsStops, Writes};
+    ghost use Rattle.medium_port.specs.MemoryMedia.{pages_of, reads_of, leaves, stages_of, unsynced_of, pending_of, failed_in, faults_in, last_of, MeetsStops, Writes};
     ghost use Rattle.medium_port.specs.Disk.{replay, only_last, counts_last, reads_left};
     ghost use Rattle.medium_port.specs.Pasts.{first_disk, events_in};
 
@@ -99,13 +99,11 @@ impl Medium for MemoryMedium {
 
     ghost may_leave = { leaves };
 
-    ghost moment = { moment_in };
-
-    ghost left_since = { left_since_in };
+    ghost stages = { stages_of };
 
     ghost reads_now = { λ m told. reads_left m.past.count (replay (first_disk m.past) (events_in m.past)) m.past.held.items m.past.sound m.past.replayed };
 
-    ghost counts_now = { λ m t c told le now. counts_last m.past.count (first_disk m.past) (events_in m.past) t c le now };
+    ghost counts_now = { λ m c told now. counts_last m.past.count (first_disk m.past) (events_in m.past) c now };
 
     ghost only_now = { λ m c told left. only_last m.past.count (first_disk m.past) (events_in m.past) c left };
 
@@ -121,7 +119,7 @@ impl Medium for MemoryMedium {
         ensures found { IsTrue true → OnOk result (into.new ≡ page_of (reads_of self.old) page) }
         ensures reads { IsTrue true → reads_of self.new ≡ reads_of self.old }
         ensures crash { IsTrue true → NoMore (leaves self.old) (leaves self.new) }
-        ensures time { IsTrue true → LeavesOnly moment_in left_since_in self.old self.new (EitherSide (leaves self.old) (leaves self.new)) }
+        ensures time { IsTrue true → stages_of self.new ≡ stages_of self.old }
         ensures last { OnOk result (last_of self.new ≡ Some (page, into.new)) }
         ensures last_err { OnErr result (last_of self.new ≡ last_of self.old) }
         ensures size { pages_of self.new ≡ pages_of self.old }
@@ -147,7 +145,7 @@ impl Medium for MemoryMedium {
         requires open { failed_in self.old ≡ false }
         ensures written { IsTrue true → OnOk result (Written page at bytes.now (reads_of self.old) (reads_of self.new)) }
         ensures crash { IsTrue true → Follows (Torn page at (length bytes.now)) (leaves self.old) (leaves self.new) }
-        ensures time { IsTrue true → LeavesOnly moment_in left_since_in self.old self.new (EitherSide (leaves self.old) (leaves self.new)) }
+        ensures time { IsTrue true → LeavesOnly stages_of self.old self.new (EitherSide (leaves self.old) (leaves self.new)) }
         ensures last { last_of self.new ≡ last_of self.old }
         ensures size { pages_of self.new ≡ pages_of self.old }
         ensures state { failed_in self.new ≡ is_err result }
@@ -177,7 +175,7 @@ impl Medium for MemoryMedium {
         ensures durable { IsTrue true → OnOk result (Only (reads_of self.old) (leaves self.new)) }
         ensures reads { IsTrue true → reads_of self.new ≡ reads_of self.old }
         ensures crash { IsTrue true → NoMore (leaves self.old) (leaves self.new) }
-        ensures time { IsTrue true → LeavesOnly moment_in left_since_in self.old self.new (EitherSide (leaves self.old) (leaves self.new)) }
+        ensures time { IsTrue true → LeavesOnly stages_of self.old self.new (EitherSide (leaves self.old) (leaves self.new)) }
         ensures last { last_of self.new ≡ last_of self.old }
         ensures size { pages_of self.new ≡ pages_of self.old }
         ensures state { failed_in self.new ≡ is_err result }
@@ -202,7 +200,7 @@ impl Medium for MemoryMedium {
     fn reopen(&mut self) -> Result<(), MediumFault>
         ensures one { IsTrue true → OnOk result (leaves self.old (reads_of self.new)) }
         ensures crash { IsTrue true → NoMore (leaves self.old) (leaves self.new) }
-        ensures time { IsTrue true → LeavesOnly moment_in left_since_in self.old self.new (EitherSide (leaves self.old) (leaves self.new)) }
+        ensures time { IsTrue true → LeavesOnly stages_of self.old self.new (EitherSide (leaves self.old) (leaves self.new)) }
         ensures last { last_of self.new ≡ last_of self.old }
         ensures size { pages_of self.new ≡ pages_of self.old }
         ensures state { failed_in self.new ≡ is_err result }

@@ -5,6 +5,7 @@ use Rattle.pseudo_time.specs.StampParts.{StampParts}
 use Rattle.pseudo_time.specs.TimeParts.{TimeParts}
 use Rattle.value_form.specs.declared.objects.ObjectId.{ObjectId}
 use Rattle.medium_port.specs.Image.{Image}
+use Rattle.medium_port.specs.Moment.{Stage}
 use Rattle.effect_form.specs.declared.effects.Effect.{Effect}
 use Rattle.object_history.specs.declared.marks.Mark.{Mark}
 use Rattle.object_history.specs.History.{floor_of}
@@ -55,17 +56,22 @@ pub record IsFloored (l : LedgerParts) (floor : Option TimeParts) : Type 0 where
   pub ledger : IsLedger l
   pub floors : floor ≡ floor_of (content l)
 
--- what lies below: the store's log, oldest first, the number of pages left, and what its medium reads, where that is told
+-- what is seen of a medium: what it reads, and its stages so far
+pub record MediumParts : Type 0 where
+  pub reads : Image
+  pub stages : List Stage
+
+-- what lies below: the store's log, oldest first, the number of pages left, and what is seen of its medium, where that is told
 pub record BeneathParts : Type 0 where
   pub log : List Effect
   pub left : ℕ
-  pub image : Option Image
+  pub medium : Option MediumParts
 
--- what a medium reads, where it tells its content
-abbrev pub told_image : Bool → Image → Option Image
-told_image true image = Some image
-told_image false image = None
+-- what is seen of a medium, where it tells its content
+abbrev pub told_medium : Bool → Image → List Stage → Option MediumParts
+told_medium true reads stages = Some (record { reads = reads; stages = stages })
+told_medium false reads stages = None
 
 -- that of a ledger over a medium with so many pages left
-abbrev pub beneath : LedgerParts → ℕ → Option Image → BeneathParts
-beneath l left image = record { log = l.log; left = left; image = image }
+abbrev pub beneath : LedgerParts → ℕ → Option MediumParts → BeneathParts
+beneath l left medium = record { log = l.log; left = left; medium = medium }

@@ -14,7 +14,7 @@ ghost use Rattle.object_history.specs.Ranges.{IsReadStep};
 ghost use Rattle.version_store.specs.StoreWords.{medium_of, left_in, damage_in, effects_in};
 ghost use Rattle.object_header.specs.Spans.{passes};
 ghost use Rattle.object_header.specs.Heads.{first_put};
-ghost use Rattle.object_header.specs.Ledgers.{content, told_image};
+ghost use Rattle.object_header.specs.Ledgers.{content, told_medium};
 
 use crate::additions::is_written;
 use crate::ledgers::Ledger;
@@ -90,8 +90,8 @@ impl<M: Medium> HeaderTable<M> {
         // Each image that is left has a prefix, at every moment, and only blank pages are written.
         ensures images { IsTrue M.tells → (c : Image) → M.may_leave (handed_back result) c → HasPrefix (ledger_of self).log effects.now c }
         ensures any_moment { IsTrue M.tells →
-            LeavesOnly M.moment M.left_since (medium_of (store_of self)) (handed_back result) (HasPrefix (ledger_of self).log effects.now) }
-        ensures kept { IsTrue M.tells → LeavesOnly M.moment M.left_since (medium_of (store_of self)) (handed_back result)
+            LeavesOnly M.stages (medium_of (store_of self)) (handed_back result) (HasPrefix (ledger_of self).log effects.now) }
+        ensures kept { IsTrue M.tells → LeavesOnly M.stages (medium_of (store_of self)) (handed_back result)
             (KeepsPages (M.reads (medium_of (store_of self)))) }
         ensures clean { IsTrue M.tells → IfOk result (λ t. StaysClean (M.reads (medium_of (store_of self))) (M.reads (medium_of (store_of t)))) }
 
@@ -157,7 +157,8 @@ impl<M: Medium> HeaderTable<M> {
         ensures sound { IsTrue M.tells → IfErr result IsNotDamage }
         ensures ledger { ledger_of self.new ≡ ledger_of self.old }
         ensures left { left_in (store_of self.new) ≡ left_in (store_of self.old) }
-        ensures image { told_image M.tells (M.reads (medium_of (store_of self.new))) ≡ told_image M.tells (M.reads (medium_of (store_of self.old))) }
+        ensures beneath { told_medium M.tells (M.reads (medium_of (store_of self.new))) (M.stages (medium_of (store_of self.new))) ≡
+            told_medium M.tells (M.reads (medium_of (store_of self.old))) (M.stages (medium_of (store_of self.old))) }
         ensures cause { HasHistoryCause (M.faults (medium_of (store_of self.old))) (M.faults (medium_of (store_of self.new))) (damage_in (store_of self.old))
             (damage_in (store_of self.new)) result }
     {
@@ -190,7 +191,8 @@ impl<M: Medium> HeaderTable<M> {
         ensures sound { IsTrue M.tells → IfErr result IsNotDamage }
         ensures ledger { ledger_of self.new ≡ ledger_of self.old }
         ensures left { left_in (store_of self.new) ≡ left_in (store_of self.old) }
-        ensures image { told_image M.tells (M.reads (medium_of (store_of self.new))) ≡ told_image M.tells (M.reads (medium_of (store_of self.old))) }
+        ensures beneath { told_medium M.tells (M.reads (medium_of (store_of self.new))) (M.stages (medium_of (store_of self.new))) ≡
+            told_medium M.tells (M.reads (medium_of (store_of self.old))) (M.stages (medium_of (store_of self.old))) }
         ensures cause { HasHistoryCause (M.faults (medium_of (store_of self.old))) (M.faults (medium_of (store_of self.new))) (damage_in (store_of self.old))
             (damage_in (store_of self.new)) result }
     {
@@ -220,7 +222,8 @@ impl<M: Medium> HeaderTable<M> {
         ensures sound { IsTrue M.tells → IfErr result IsNotDamage }
         ensures ledger { ledger_of self.new ≡ ledger_of self.old }
         ensures left { left_in (store_of self.new) ≡ left_in (store_of self.old) }
-        ensures image { told_image M.tells (M.reads (medium_of (store_of self.new))) ≡ told_image M.tells (M.reads (medium_of (store_of self.old))) }
+        ensures beneath { told_medium M.tells (M.reads (medium_of (store_of self.new))) (M.stages (medium_of (store_of self.new))) ≡
+            told_medium M.tells (M.reads (medium_of (store_of self.old))) (M.stages (medium_of (store_of self.old))) }
         ensures cause { HasHistoryCause (M.faults (medium_of (store_of self.old))) (M.faults (medium_of (store_of self.new))) (damage_in (store_of self.old))
             (damage_in (store_of self.new)) result }
     {

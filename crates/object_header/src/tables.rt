@@ -1,5 +1,5 @@
 ghost use Rattle.version_store.specs.StoreWords.{medium_of, left_in, damage_in};
-ghost use Rattle.object_header.specs.Ledgers.{beneath, content, told_image};
+ghost use Rattle.object_header.specs.Ledgers.{beneath, content, told_medium};
 
 use crate::beneath::Beneath;
 use crate::headers::HeaderTable;
@@ -21,7 +21,7 @@ impl<M: Medium> Histories for HeaderTable<M> {
 
     ghost damage = { λ t. damage_in (store_of t) };
 
-    ghost below = { λ t. beneath (ledger_of t) (left_in (store_of t)) (told_image M.tells (M.reads (medium_of (store_of t)))) };
+    ghost below = { λ t. beneath (ledger_of t) (left_in (store_of t)) (told_medium M.tells (M.reads (medium_of (store_of t))) (M.stages (medium_of (store_of t)))) };
 
     fn read(&mut self, object: ObjectId, at: PseudoTime) -> Result<ReadStep, HistoryFault> {
         let step = self.answer(object, at)?;

@@ -30,7 +30,8 @@ pub fn look<M: Medium>(medium: &mut M, page: u32) -> Result<PageState, MediumFau
     ensures found { IsTrue M.tells → IfOk result (λ s. s ≡ state_of (page_of (M.reads medium.old) page)) }
     ensures reads { IsTrue M.tells → M.reads medium.new ≡ M.reads medium.old }
     ensures crash { IsTrue M.tells → NoMore (M.may_leave medium.old) (M.may_leave medium.new) }
-    ensures any_moment { IsTrue M.tells → LeavesOnly M.moment M.left_since medium.old medium.new (M.may_leave medium.old) }
+    // Nothing that crashes see is changed.
+    ensures stages { IsTrue M.tells → M.stages medium.new ≡ M.stages medium.old }
     ensures last_err { OnErr result (M.last_page medium.new ≡ M.last_page medium.old) }
     ensures size { M.page_count medium.new ≡ M.page_count medium.old }
     ensures failed { M.is_failed medium.new ≡ is_err result }
@@ -75,7 +76,7 @@ fn write_through<M: Medium>(
     ensures written { IsTrue M.tells → OnOk result (Written page at bytes.now (M.reads medium.old) (M.reads medium.new)) }
     ensures durable { IsTrue M.tells → OnOk result (Only (M.reads medium.new) (M.may_leave medium.new)) }
     ensures any_moment { IsTrue M.tells →
-        LeavesOnly M.moment M.left_since medium.old medium.new
+        LeavesOnly M.stages medium.old medium.new
         (λ c. M.may_leave medium.old c ⊎ ((from : Image) × M.may_leave medium.old from × Torn page at (length bytes.now) from c)) }
     ensures last { M.last_page medium.new ≡ M.last_page medium.old }
     ensures size { M.page_count medium.new ≡ M.page_count medium.old }
@@ -102,7 +103,7 @@ pub fn put<M: Medium>(medium: &mut M, page: u32, body: &[u8]) -> Result<(), Medi
     requires marked { is_blank body.now ≡ false }
     ensures gated { IsTrue M.tells → OnOk result (M.reads medium.new ≡ slice_set (M.reads medium.old) page (gated_page body.now)) }
     ensures durable { IsTrue M.tells → OnOk result (Only (M.reads medium.new) (M.may_leave medium.new)) }
-    ensures any_moment { IsTrue M.tells → LeavesOnly M.moment M.left_since medium.old medium.new (MayPut page body.now (M.may_leave medium.old)) }
+    ensures any_moment { IsTrue M.tells → LeavesOnly M.stages medium.old medium.new (MayPut page body.now (M.may_leave medium.old)) }
     ensures last { M.last_page medium.new ≡ M.last_page medium.old }
     ensures size { M.page_count medium.new ≡ M.page_count medium.old }
     ensures failed { M.is_failed medium.new ≡ is_err result }

@@ -10,7 +10,8 @@ use Rattle.message_form.specs.declared.turns.Turn.{Turn}
 use Rattle.object_history.specs.declared.steps.HistoryFault.{HistoryFault}
 use Rattle.repository_log.specs.Logs.{knows, known}
 use Rattle.repository_log.proofs.MarkLemmas.{knows-known}
-use Rattle.object_header.specs.Ledgers.{told_image}
+use Rattle.medium_port.specs.Moment.{Stage}
+use Rattle.object_header.specs.Ledgers.{MediumParts, told_medium}
 use Rattle.repository_core.specs.Cores.{Core, CoreState, given}
 use Rattle.repository_core.specs.Turns as turns
 use Rattle.world_core.specs.Cores.{IsRepository, RepositoryGave}
@@ -78,9 +79,9 @@ ready-repository b i log = refl
 
 -- ---- media that tell
 
-pub told-same : (tells : Bool) (a b : Image) → tells ≡ true → told_image tells a ≡ told_image tells b → a ≡ b
-told-same true a b t e = some-same e
+pub told-same : (tells : Bool) (a b : Image) (x y : List Stage) → tells ≡ true → told_medium tells a x ≡ told_medium tells b y → (a ≡ b) × (x ≡ y)
+told-same true a b x y t e = let same = some-same e in (ap (λ (p : MediumParts). p.reads) same, ap (λ (p : MediumParts). p.stages) same)
   where
     some-same : {A : Type 0} {x y : A} → ◌≡◌ {A = Option A} (Some x) (Some y) → x ≡ y
     some-same {A} {x} {y} e = cc e
-told-same false a b t e = absurd (cc t)
+told-same false a b x y t e = absurd (cc t)

@@ -4,7 +4,7 @@ use Rattle.std.specs.List.{list_all}
 use Rattle.std.proofs.lemmas.Bool.{and_parts, cond-true, cases_eq}
 use Rattle.std.proofs.lemmas.List.{append-nil, drop_more, take_more, flat_map_more, drop-set-lt, get_or-set_same, get_or-set_other}
 use Rattle.medium_port.specs.Image.{Image, Only}
-use Rattle.medium_port.specs.Moment.{LeavesOnly, stays, joins}
+use Rattle.medium_port.specs.Moment.{Stage, LeftNow, LeavesOnly, stays, joins}
 use Rattle.page_gate.specs.States.{is_blank, state_of, gated_page}
 use Rattle.page_gate.specs.Steps.{MayPut}
 use Rattle.page_gate.specs.declared.pages.PageState.TheVariants.{Spoiled, Gated}
@@ -61,22 +61,22 @@ keeps_put base mid c n bytes within blank keeps is page marked = ⊎_elim
     (λ other. ap (λ (i : Image). get_or i page []) is ∙ get_or-set_other mid n page bytes [] other ∙ keeps page marked)
     (cases_eq page n)
 
-module _ {M : Type 0} (moment : M → ℕ) (left_since : M → ℕ → Image → Type 0) (reads : M → Image) (may_leave : M → Image → Type 0) where
+module _ {M : Type 0} (stages : M → List Stage) (reads : M → Image) (may_leave : M → Image → Type 0) where
   -- after the first i pages
   pub record Grown (log : Log) (first : ℕ) (pages : List Laid) (start now : M) (i : ℕ) : Type 0 where
     pub rest : IsAtRest (log ++ all_of (take i pages)) (first + i) (reads now) (may_leave now)
     pub fit : PagesFit (scan begun 0 (take (first + i) (reads now))) (log ++ all_of (take i pages)) (first + i) (drop i pages)
     pub keeps : KeepsPages (reads start) (reads now)
-    pub leaves : LeavesOnly moment left_since start now (Grows (reads start) log pages)
+    pub leaves : LeavesOnly stages start now (Grows (reads start) log pages)
 
   -- no page is put
-  pub untouched : (log : Log) (n : ℕ) (pages : List Laid) (m : M) → ((c : Image) → left_since m (moment m) c → may_leave m c) → IsAtRest log n (reads m) (may_leave m) → LeavesOnly moment left_since m m (Grows (reads m) log pages)
-  untouched log n pages m only_now rest = stays moment left_since m (Grows (reads m) log pages) (λ c left. record { has = record { count = 0; most = omega arith; is = now c left }; keeps = λ page marked. ap (λ (i : Image). get_or i page []) (rest.durable c (only_now c left)) })
+  pub untouched : (log : Log) (n : ℕ) (pages : List Laid) (m : M) → ((c : Image) → LeftNow (stages m) c → may_leave m c) → IsAtRest log n (reads m) (may_leave m) → LeavesOnly stages m m (Grows (reads m) log pages)
+  untouched log n pages m only_now rest = stays stages m (Grows (reads m) log pages) (λ c left. record { has = record { count = 0; most = omega arith; is = now c left }; keeps = λ page marked. ap (λ (i : Image). get_or i page []) (rest.durable c (only_now c left)) })
     where
-      now : (c : Image) → left_since m (moment m) c → entries c ≡ Ok (log ++ [])
+      now : (c : Image) → LeftNow (stages m) c → entries c ≡ Ok (log ++ [])
       now c left = ap entries (rest.durable c (only_now c left)) ∙ log_at_rest (reads m) n log rest.front rest.blank ∙ ap (λ (l : Log). Ok l) (sym (append-nil log))
 
-  pub grown_none : (log : Log) (first : ℕ) (pages : List Laid) (start : M) → ((c : Image) → left_since start (moment start) c → may_leave start c)
+  pub grown_none : (log : Log) (first : ℕ) (pages : List Laid) (start : M) → ((c : Image) → LeftNow (stages start) c → may_leave start c)
       → IsAtRest log first (reads start) (may_leave start) → PagesFit (scan begun 0 (take first (reads start))) log first pages → Grown log first pages start start 0
   grown_none log first pages start only_now rest fit = record {
     rest = subst (λ (l : Log). IsAtRest l (first + 0) (reads start) (may_leave start)) (sym (append-nil log)) (subst (λ (k : ℕ). IsAtRest log k (reads start) (may_leave start)) (sym (add-zero first)) rest);
@@ -110,10 +110,10 @@ module _ {M : Type 0} (moment : M → ℕ) (left_since : M → ℕ → Image →
     }
 
     -- a put that fails or not
-    pub grown_leaves : LeavesOnly moment left_since mid now (MayPut (first + i) body (may_leave mid)) → LeavesOnly moment left_since start now (Grows (reads start) log pages)
-    grown_leaves put = joins moment left_since start mid now (Grows (reads start) log pages) _ (Grows (reads start) log pages) grown.leaves put (λ c p. p) crash_here
+    pub grown_leaves : LeavesOnly stages mid now (MayPut (first + i) body (may_leave mid)) → LeavesOnly stages start now (Grows (reads start) log pages)
+    grown_leaves put = joins stages start mid now (Grows (reads start) log pages) _ (Grows (reads start) log pages) grown.leaves put (λ c p. p) crash_here
 
-    pub grown_more : LeavesOnly moment left_since mid now (MayPut (first + i) body (may_leave mid)) → reads now ≡ slice_set (reads mid) (first + i) (gated_page body) → Only (reads now) (may_leave now)
+    pub grown_more : LeavesOnly stages mid now (MayPut (first + i) body (may_leave mid)) → reads now ≡ slice_set (reads mid) (first + i) (gated_page body) → Only (reads now) (may_leave now)
         → Grown log first pages start now (i + 1)
     grown_more put written only =
         let at : first + i + 1 ≡ first + (i + 1) = omega arith in

@@ -3,7 +3,7 @@ use Rattle.std.proofs.Common.{◌≡◌, ℕ, zero, suc, ◌+◌, ◌≤◌, Lis
 use Rattle.std.specs.declared.alloc.Global.{Global}
 use Rattle.std.proofs.lemmas.List.{take-append-drop, take_at}
 use Rattle.medium_port.specs.Image.{Image}
-use Rattle.medium_port.specs.Moment.{LeavesOnly, widens}
+use Rattle.medium_port.specs.Moment.{Stage, LeftNow, LeavesOnly, widens, goes_to}
 use Rattle.effect_form.specs.declared.effects.Effect.{Effect}
 use Rattle.version_store.specs.Entries.{Log, effects_of}
 use Rattle.effect_form.specs.Effects.{AreEffects}
@@ -73,23 +73,23 @@ has_prefix log first effects image has =
 pub all_added : (log : Log) (first : ℕ) (effects : List Effect) (now : Log) → now ≡ log ++ all_of (laid log first effects) → effects_of now ≡ effects_of log ++ effects
 all_added log first effects now is = ap effects_of is ∙ effects_of-append log (all_of (laid log first effects)) ∙ ap (λ (l : List Effect). effects_of log ++ l) (effects-laid log first effects)
 
-module _ {M : Type 0} (moment : M → ℕ) (left_since : M → ℕ → Image → Type 0) (reads : M → Image) (may_leave : M → Image → Type 0) (old new : M) where
+module _ {M : Type 0} (stages : M → List Stage) (reads : M → Image) (may_leave : M → Image → Type 0) (old new : M) where
   -- an image that is left now
-  pub images_left : (P : Image → Type 0) → ((t : ℕ) (c : Image) → t ≤ moment new → may_leave new c → left_since new t c) → LeavesOnly moment left_since old new P → (c : Image) → may_leave new c → P c
-  images_left P counts run c left = run.each c (counts (moment old) c run.later left)
+  pub images_left : (P : Image → Type 0) → ((c : Image) → may_leave new c → LeftNow (stages new) c) → LeavesOnly stages old new P → (c : Image) → may_leave new c → P c
+  images_left P counts run c left = goes_to (stages old) (stages new) P run c (counts c left)
 
-  module _ (log : Log) (first : ℕ) (effects : List Effect) (run : LeavesOnly moment left_since old new (Grows (reads old) log (laid log first effects))) where
-    pub prefix_left : LeavesOnly moment left_since old new (HasPrefix (effects_of log) effects)
-    prefix_left = widens moment left_since old new _ _ run (λ c grows. has_prefix log first effects c grows.has)
+  module _ (log : Log) (first : ℕ) (effects : List Effect) (run : LeavesOnly stages old new (Grows (reads old) log (laid log first effects))) where
+    pub prefix_left : LeavesOnly stages old new (HasPrefix (effects_of log) effects)
+    prefix_left = widens stages old new _ _ run (λ c grows. has_prefix log first effects c grows.has)
 
-    pub pages_kept : LeavesOnly moment left_since old new (KeepsPages (reads old))
-    pages_kept = widens moment left_since old new _ _ run (λ c grows. grows.keeps)
+    pub pages_kept : LeavesOnly stages old new (KeepsPages (reads old))
+    pages_kept = widens stages old new _ _ run (λ c grows. grows.keeps)
 
   -- pages that were laid out were written, or some of them
   pub written_run : (bodies bodies' : List (Vec ℕ Global)) (heads : Heads) (log : Log) (first : ℕ) (effects : List Effect) → IsAtRest log first (reads old) (may_leave old) → HeadsFit heads log → ArePlaces heads → AreEffects effects → first + length (filling effects) ≤ 1048576
       → ((l : Log) → HeadsFit heads l → bytes_of bodies ≡ map body_of (laid l first effects)) → bodies' ≡ bodies
-      → ((l : Log) (pages : List Laid) → IsAtRest l first (reads old) (may_leave old) → PagesFit (scan begun 0 (take first (reads old))) l first pages → bytes_of bodies' ≡ map body_of pages → LeavesOnly moment left_since old new (Grows (reads old) l pages))
-      → LeavesOnly moment left_since old new (Grows (reads old) log (laid log first effects))
+      → ((l : Log) (pages : List Laid) → IsAtRest l first (reads old) (may_leave old) → PagesFit (scan begun 0 (take first (reads old))) l first pages → bytes_of bodies' ≡ map body_of pages → LeavesOnly stages old new (Grows (reads old) l pages))
+      → LeavesOnly stages old new (Grows (reads old) log (laid log first effects))
   written_run bodies bodies' heads log first effects rest fit places ranges room pages same run =
       run log (laid log first effects) rest (laid_fits (scan begun 0 (take first (reads old))) log first effects rest.front (lasts_are_places heads log fit places) ranges room) (ap bytes_of same ∙ pages log fit)
 

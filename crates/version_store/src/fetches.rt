@@ -2,7 +2,6 @@ ghost use Rattle.std.specs.Prelude.{◌≡◌, ◌≢◌, ◌<◌, ◌≤◌, �
 ghost use Rattle.stream_port.specs.Causes.{Rose};
 ghost use Rattle.field_form.specs.Forms.{IsBytes};
 ghost use Rattle.medium_port.specs.Image.{NoMore};
-ghost use Rattle.medium_port.specs.Moment.{LeavesOnly};
 ghost use Rattle.effect_form.specs.Effects.{IsWritten, effect_at};
 ghost use Rattle.version_store.specs.Entries.{number_of};
 ghost use Rattle.version_store.specs.Faults.{fails_fetching};
@@ -182,7 +181,8 @@ pub fn find<M: Medium>(
     ensures in_range { IfOk result (λ r. IfOk r (λ w. IsWritten w)) }
     ensures reads { IsTrue M.tells → M.reads medium.new ≡ M.reads medium.old }
     ensures crash { IsTrue M.tells → NoMore (M.may_leave medium.old) (M.may_leave medium.new) }
-    ensures any_moment { IsTrue M.tells → LeavesOnly M.moment M.left_since medium.old medium.new (M.may_leave medium.old) }
+    // Nothing that crashes see is changed.
+    ensures stages { IsTrue M.tells → M.stages medium.new ≡ M.stages medium.old }
     ensures size { M.page_count medium.new ≡ M.page_count medium.old }
     ensures state { M.is_failed medium.new ≡ fails_fetching result }
     ensures no_damage { IfErr result (λ f. (page : ℕ) → f ≢ FetchFault.Damaged page) }

@@ -1,7 +1,6 @@
 ghost use Rattle.std.specs.Prelude.{◌≡◌, ◌≢◌, ◌+◌, ◌<◌, ◌≤◌, List, ℕ, IsTrue, true, false, length, Some, Err, IfOk, IfErr, OnOk, MatchBool, if◌then◌else◌};
 ghost use Rattle.stream_port.specs.Causes.{Rose};
 ghost use Rattle.medium_port.specs.Image.{Image, NoMore};
-ghost use Rattle.medium_port.specs.Moment.{LeavesOnly};
 ghost use Rattle.page_gate.specs.States.{is_blank};
 ghost use Rattle.page_gate.specs.declared.pages.PageState.TheVariants.{Blank};
 ghost use Rattle.version_store.specs.Faults.{fails_reading};
@@ -107,7 +106,8 @@ pub fn read_pages<M: Medium>(alloc: Global, medium: &mut M, pages: u32) -> Resul
     ensures ranges { IfOk result (λ f. AreEffects f.effects.items) }
     ensures reads { IsTrue M.tells → M.reads medium.new ≡ M.reads medium.old }
     ensures crash { IsTrue M.tells → NoMore (M.may_leave medium.old) (M.may_leave medium.new) }
-    ensures any_moment { IsTrue M.tells → LeavesOnly M.moment M.left_since medium.old medium.new (M.may_leave medium.old) }
+    // Nothing that crashes see is changed.
+    ensures stages { IsTrue M.tells → M.stages medium.new ≡ M.stages medium.old }
     ensures size { M.page_count medium.new ≡ M.page_count medium.old }
     ensures state { M.is_failed medium.new ≡ fails_reading result }
     ensures later { M.faults medium.old ≤ M.faults medium.new }

@@ -87,7 +87,7 @@ impl<M: Medium> Store<M> {
 
         // No image is new at any moment.
         ensures images { IsTrue M.tells → NoMore (M.may_leave medium) (M.may_leave (opened result)) }
-        ensures any_moment { IsTrue M.tells → LeavesOnly M.moment M.left_since medium (opened result) (M.may_leave medium) }
+        ensures any_moment { IsTrue M.tells → LeavesOnly M.stages medium (opened result) (M.may_leave medium) }
 
         // Over every medium each effect is in its range.
         ensures ranges { IfOk result (λ r. AreEffects r.1.items) }
@@ -149,11 +149,11 @@ impl<M: Medium> Store<M> {
         // Each image that is left has a prefix, at every moment.
         ensures images { IsTrue M.tells → (c : Image) → M.may_leave (handed result) c → HasPrefix (effects_in M.reads self) effects.now c }
         ensures any_moment { IsTrue M.tells →
-            LeavesOnly M.moment M.left_since (medium_of self) (handed result) (HasPrefix (effects_in M.reads self) effects.now) }
+            LeavesOnly M.stages (medium_of self) (handed result) (HasPrefix (effects_in M.reads self) effects.now) }
 
         // Only pages that read blank are written, at every moment, and after Ok none of these reads spoiled.
         ensures kept { IsTrue M.tells → (c : Image) → M.may_leave (handed result) c → KeepsPages (M.reads (medium_of self)) c }
-        ensures kept_then { IsTrue M.tells → LeavesOnly M.moment M.left_since (medium_of self) (handed result) (KeepsPages (M.reads (medium_of self))) }
+        ensures kept_then { IsTrue M.tells → LeavesOnly M.stages (medium_of self) (handed result) (KeepsPages (M.reads (medium_of self))) }
         ensures clean { IsTrue M.tells → IfOk result (λ s. StaysClean (M.reads (medium_of self)) (M.reads (medium_of s))) }
 
         // Full comes exactly where the pages aren't there, and any fault but Medium before all writing.
@@ -235,7 +235,8 @@ impl<M: Medium> Store<M> {
         ensures reads { IsTrue M.tells → M.reads (medium_of self.new) ≡ M.reads (medium_of self.old) }
         ensures left { left_in self.new ≡ left_in self.old }
         ensures images { IsTrue M.tells → NoMore (M.may_leave (medium_of self.old)) (M.may_leave (medium_of self.new)) }
-        ensures any_moment { IsTrue M.tells → LeavesOnly M.moment M.left_since (medium_of self.old) (medium_of self.new) (M.may_leave (medium_of self.old)) }
+        // Nothing that crashes see is changed.
+        ensures stages { IsTrue M.tells → M.stages (medium_of self.new) ≡ M.stages (medium_of self.old) }
         ensures size { M.page_count (medium_of self.new) ≡ M.page_count (medium_of self.old) }
         ensures state { M.is_failed (medium_of self.new) ≡ fails_fetching result }
         ensures later { M.faults (medium_of self.old) ≤ M.faults (medium_of self.new) }

@@ -24,7 +24,7 @@ pub fn write_pages<M: Medium>(
     requires blank { IsTrue M.tells → list_all is_blank (drop first (M.reads medium.old)) ≡ true }
     ensures any_moment { IsTrue M.tells → (log : Log) (pages : List Laid) → IsAtRest log first (M.reads medium.old) (M.may_leave medium.old) →
         PagesFit (scan begun 0 (take first (M.reads medium.old))) log first pages → bytes_of bodies.now ≡ map body_of pages
-        → LeavesOnly M.moment M.left_since medium.old medium.new (Grows (M.reads medium.old) log pages) }
+        → LeavesOnly M.stages medium.old medium.new (Grows (M.reads medium.old) log pages) }
     ensures all { IsTrue M.tells → (log : Log) (pages : List Laid) → IsAtRest log first (M.reads medium.old) (M.may_leave medium.old) →
         PagesFit (scan begun 0 (take first (M.reads medium.old))) log first pages → bytes_of bodies.now ≡ map body_of pages
         → OnOk result (IsAtRest (log ++ all_of pages) (first + length bodies.now) (M.reads medium.new) (M.may_leave medium.new)) }

@@ -11,7 +11,7 @@ returns-in_err-write_through-clause-any_moment g c told =
     let m = c.args.medium.now in
     let body = c.args.body.now in
     let first = body_torn (g.M.Medium.page_count m) c.args.page body c.requires.page c.requires.most in
-    widens g.M.Medium.moment g.M.Medium.left_since m c.write_through.new.medium _ (MayPut c.args.page body (g.M.Medium.may_leave m)) (c.write_through.ensures.any_moment told)
+    widens g.M.Medium.stages m c.write_through.new.medium _ (MayPut c.args.page body (g.M.Medium.may_leave m)) (c.write_through.ensures.any_moment told)
     (λ i either. ⊎_elim (λ was. (i, was, not_begun (g.M.Medium.page_count m) c.args.page body c.requires.page c.requires.most i)) (λ torn. (torn.0, torn.1, first torn.0 i (g.met.M.Medium.shape m torn.0 told torn.1) torn.2)) either)
 
 pub returns-in_err-write_through-2-clause-any_moment : goal.returns-in_err-write_through-2-clause-any_moment
@@ -27,11 +27,11 @@ returns-in_err-write_through-2-clause-any_moment g c told =
     let shape : (i : Image) → g.M.Medium.may_leave m i → IsImage n i = λ i left. g.met.M.Medium.shape m i told left in
     let now = g.met.M.Medium.reads_now m told in
     let first = body_torn n page body c.requires.page c.requires.most in
-    let begun = widens g.M.Medium.moment g.M.Medium.left_since m mid _ P (c.write_through.ensures.any_moment told)
+    let begun = widens g.M.Medium.stages m mid _ P (c.write_through.ensures.any_moment told)
     (λ i either. ⊎_elim (λ was. (i, was, not_begun n page body c.requires.page c.requires.most i)) (λ torn. (torn.0, torn.1, first torn.0 i (shape torn.0 torn.1) torn.2)) either) in
     let staged_now = staged n page body c.requires.page c.requires.most r (shape r now) (g.M.Medium.reads mid) (c.requires.blank told) (c.in_ok-write_through.ensures.written told) in
     let only : (i : Image) → g.M.Medium.may_leave mid i → i ≡ slice_set r page (staged_page body) = λ i left. c.in_ok-write_through.ensures.durable told i left ∙ staged_now in
-    joins g.M.Medium.moment g.M.Medium.left_since m mid end P _ P begun (c.write_through-2.ensures.any_moment told) (λ i p. p)
+    joins g.M.Medium.stages m mid end P _ P begun (c.write_through-2.ensures.any_moment told) (λ i p. p)
     (λ i either. ⊎_elim
     (λ was. (r, now, is_staged n page body c.requires.page c.requires.most r (shape r now) i (only i was)))
     (λ torn. (r, now, gate_torn n page body c.requires.page c.requires.most r (shape r now) i (subst (λ (d : Image). Torn page 0 1 d i) (only torn.0 torn.1) torn.2))) either)
@@ -49,11 +49,11 @@ returns-clause-any_moment g c told =
     let shape : (i : Image) → g.M.Medium.may_leave m i → IsImage n i = λ i left. g.met.M.Medium.shape m i told left in
     let now = g.met.M.Medium.reads_now m told in
     let first = body_torn n page body c.requires.page c.requires.most in
-    let begun = widens g.M.Medium.moment g.M.Medium.left_since m mid _ P (c.write_through.ensures.any_moment told)
+    let begun = widens g.M.Medium.stages m mid _ P (c.write_through.ensures.any_moment told)
     (λ i either. ⊎_elim (λ was. (i, was, not_begun n page body c.requires.page c.requires.most i)) (λ torn. (torn.0, torn.1, first torn.0 i (shape torn.0 torn.1) torn.2)) either) in
     let staged_now = staged n page body c.requires.page c.requires.most r (shape r now) (g.M.Medium.reads mid) (c.requires.blank told) (c.in_ok-write_through.ensures.written told) in
     let only : (i : Image) → g.M.Medium.may_leave mid i → i ≡ slice_set r page (staged_page body) = λ i left. c.in_ok-write_through.ensures.durable told i left ∙ staged_now in
-    joins g.M.Medium.moment g.M.Medium.left_since m mid end P _ P begun (c.write_through-2.ensures.any_moment told) (λ i p. p)
+    joins g.M.Medium.stages m mid end P _ P begun (c.write_through-2.ensures.any_moment told) (λ i p. p)
     (λ i either. ⊎_elim
     (λ was. (r, now, is_staged n page body c.requires.page c.requires.most r (shape r now) i (only i was)))
     (λ torn. (r, now, gate_torn n page body c.requires.page c.requires.most r (shape r now) i (subst (λ (d : Image). Torn page 0 1 d i) (only torn.0 torn.1) torn.2))) either)

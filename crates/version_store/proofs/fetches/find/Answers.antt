@@ -42,7 +42,7 @@ loop-page-preserved g c =
       low = omega (arith, c.loop-page-test.true);
       reads = λ told. c.look-in-loop-page.ensures.reads told ∙ was.reads told;
       crash = λ told i left. was.crash told i (c.look-in-loop-page.ensures.crash told i left);
-      any_moment = λ told. joins g.M.Medium.moment g.M.Medium.left_since c.args.medium.now c.loop-page.medium c.look-in-loop-page.new.medium _ _ _ (was.any_moment told) (c.look-in-loop-page.ensures.any_moment told) (λ i p. p) (λ i p. was.crash told i p);
+      stages = λ told. c.look-in-loop-page.ensures.stages told ∙ was.stages told;
       looking = looking_next _ (g.M.Medium.reads c.args.medium.now) c.args.place c.in-Ok-look.state i c.loop-page.pieces.items _ _ was.looking seen.0 seen.1 seen.2 c.in-Ok-Due.more
           (λ t. let size = t.1 in omega (arith, size, c.loop-page-test.true))
           (λ t. look.found t.0 ∙ ap (λ (r : Image). state_of (page_of r i)) (was.reads t.0))

@@ -1,6 +1,5 @@
 use Rattle.std.proofs.Common.{◌≡◌, ◌≤◌, IsTrue, false, length}
 use Rattle.medium_port.specs.Image.{NoMore}
-use Rattle.medium_port.specs.Moment.{LeavesOnly}
 use Rattle.version_store.proofs.FetchLemmas.{Looking}
 use Rattle.version_store.proofs.fetches.find.Given as goal
 
@@ -12,6 +11,6 @@ invariant-loop-page g l = record {
   low : l.page ≤ l.pages;
   reads : IsTrue g.M.Medium.tells → g.M.Medium.reads l.medium ≡ g.M.Medium.reads l.fn.medium;
   crash : IsTrue g.M.Medium.tells → NoMore (g.M.Medium.may_leave l.fn.medium) (g.M.Medium.may_leave l.medium);
-  any_moment : IsTrue g.M.Medium.tells → LeavesOnly g.M.Medium.moment g.M.Medium.left_since l.fn.medium l.medium (g.M.Medium.may_leave l.fn.medium);
+  stages : IsTrue g.M.Medium.tells → g.M.Medium.stages l.medium ≡ g.M.Medium.stages l.fn.medium;
   looking : Looking (IsTrue g.M.Medium.tells × (length (g.M.Medium.reads l.fn.medium) ≡ l.pages)) (g.M.Medium.reads l.fn.medium) (g.M.Medium.last_page l.medium) l.place l.page l.pieces.items;
 }

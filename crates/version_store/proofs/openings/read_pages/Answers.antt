@@ -1,7 +1,6 @@
 use Rattle.std.proofs.Common.{rules, refl, ◌≡◌, ◌+◌, ◌<◌, ◌≤◌, Bool, true, false, cond, ℕ, Option, List, [], length, get_or, sym, ◌∙◌, ap, subst, arith}
 use Rattle.std.specs.Prelude.{MatchBool}
 use Rattle.medium_port.specs.Image.{Image}
-use Rattle.medium_port.specs.Moment.{joins, stays}
 use Rattle.page_gate.specs.States.{state_of}
 use Rattle.page_gate.specs.declared.pages.PageState.{PageState}
 use Rattle.effect_form.specs.declared.effects.Effect.{Effect}
@@ -51,7 +50,7 @@ loop-page-init g c = record {
   later = omega arith;
   reads = λ told. refl;
   crash = λ told i left. left;
-  any_moment = λ told. stays g.M.Medium.moment g.M.Medium.left_since c.args.medium.now (g.M.Medium.may_leave c.args.medium.now) (λ i left. g.met.M.Medium.only_now c.args.medium.now i told left);
+  stages = λ told. refl;
   found = λ told size. record { content = content_of []; stands = record { heads_fit = search rules; effects_are = c.new-2.ensures.items }; pieces = tt; front = refl; reading = refl; blank = refl; within = omega arith };
 }
 
@@ -67,7 +66,7 @@ loop-page-preserved g c = record {
   later = omega (arith, c.loop-page.invariant.later, c.look.ensures.cause.later);
   reads = λ told. c.look.ensures.reads told ∙ c.loop-page.invariant.reads told;
   crash = λ told i left. c.loop-page.invariant.crash told i (c.look.ensures.crash told i left);
-  any_moment = λ told. joins g.M.Medium.moment g.M.Medium.left_since c.args.medium.now c.loop-page.medium c.look.new.medium _ _ _ (c.loop-page.invariant.any_moment told) (c.look.ensures.any_moment told) (λ i p. p) (λ i p. c.loop-page.invariant.crash told i p);
+  stages = λ told. c.look.ensures.stages told ∙ c.loop-page.invariant.stages told;
   found = λ told size.
       let i = c.loop-page.page in
       let r = g.M.Medium.reads c.args.medium.now in

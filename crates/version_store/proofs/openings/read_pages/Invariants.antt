@@ -1,6 +1,5 @@
 use Rattle.std.proofs.Common.{◌≡◌, ◌≤◌, IsTrue, false, length}
 use Rattle.medium_port.specs.Image.{NoMore}
-use Rattle.medium_port.specs.Moment.{LeavesOnly}
 use Rattle.effect_form.specs.Effects.{AreEffects}
 use Rattle.version_store.specs.Found.{HeldBelow, Reached}
 use Rattle.version_store.specs.Heads.{AreBelow, ArePlaces}
@@ -18,6 +17,6 @@ invariant-loop-page g l = record {
   later : g.M.Medium.faults l.fn.medium ≤ g.M.Medium.faults l.medium;
   reads : IsTrue g.M.Medium.tells → g.M.Medium.reads l.medium ≡ g.M.Medium.reads l.fn.medium;
   crash : IsTrue g.M.Medium.tells → NoMore (g.M.Medium.may_leave l.fn.medium) (g.M.Medium.may_leave l.medium);
-  any_moment : IsTrue g.M.Medium.tells → LeavesOnly g.M.Medium.moment g.M.Medium.left_since l.fn.medium l.medium (g.M.Medium.may_leave l.fn.medium);
+  stages : IsTrue g.M.Medium.tells → g.M.Medium.stages l.medium ≡ g.M.Medium.stages l.fn.medium;
   found : IsTrue g.M.Medium.tells → length (g.M.Medium.reads l.fn.medium) ≡ l.pages → Reached (g.M.Medium.reads l.fn.medium) l.page l.found.heads l.found.effects.items l.found.held l.found.next l.found.ended;
 }

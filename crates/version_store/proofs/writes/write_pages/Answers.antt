@@ -26,7 +26,7 @@ loop-body-init g c = record {
   later = omega arith;
   blank = c.requires.blank;
   clean = λ told page blank. blank_clean (get_or (g.M.Medium.reads c.args.medium.now) page []) blank;
-  content = λ told log pages rest fit same. grown_none g.M.Medium.moment g.M.Medium.left_since g.M.Medium.reads g.M.Medium.may_leave log c.args.first pages c.args.medium.now
+  content = λ told log pages rest fit same. grown_none g.M.Medium.stages g.M.Medium.reads g.M.Medium.may_leave log c.args.first pages c.args.medium.now
       (λ i left. g.met.M.Medium.only_now c.args.medium.now i told left) rest fit;
 }
 
@@ -40,7 +40,7 @@ returns-in_err-put-clause-any_moment g c told log pages rest fit same =
     let shape : IsImage (g.M.Medium.page_count mid) (g.M.Medium.reads mid) = g.met.M.Medium.shape mid (g.M.Medium.reads mid) told (g.met.M.Medium.reads_now mid told) in
     let within : c.args.first + i < length (g.M.Medium.reads mid) = omega (arith, shape.count, c.loop-body.invariant.size, c.requires.room, c.loop-body-test.true) in
     let put = rw c.loop-body.invariant.at at (c.put.ensures.any_moment told) in
-    grown_leaves g.M.Medium.moment g.M.Medium.left_since g.M.Medium.reads g.M.Medium.may_leave log c.args.first pages c.args.medium.now mid now i
+    grown_leaves g.M.Medium.stages g.M.Medium.reads g.M.Medium.may_leave log c.args.first pages c.args.medium.now mid now i
     (c.loop-body.invariant.content told log pages rest fit same) item.0 within c.deref.result.now is put
 
 pub loop-body-preserved : goal.loop-body-preserved
@@ -70,6 +70,6 @@ loop-body-preserved g c =
           let is = c.deref.ensures.value ∙ ap (λ (v : Vec ℕ Global). v.items) c.body-item.is ∙ item.1 in
           let put = rw c.loop-body.invariant.at at (c.put.ensures.any_moment told) in
           let gated = rw c.loop-body.invariant.at at (c.in_ok-put.ensures.gated told) in
-          grown_more g.M.Medium.moment g.M.Medium.left_since g.M.Medium.reads g.M.Medium.may_leave log c.args.first pages c.args.medium.now mid now i
+          grown_more g.M.Medium.stages g.M.Medium.reads g.M.Medium.may_leave log c.args.first pages c.args.medium.now mid now i
           (c.loop-body.invariant.content told log pages rest fit same) item.0 (within told) c.deref.result.now is put gated (c.in_ok-put.ensures.durable told);
     }

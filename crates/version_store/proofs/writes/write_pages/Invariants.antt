@@ -18,5 +18,5 @@ invariant-loop-body g l = record {
   blank : IsTrue g.M.Medium.tells → list_all is_blank (drop l.page (g.M.Medium.reads l.medium)) ≡ true;
   clean : IsTrue g.M.Medium.tells → StaysClean (g.M.Medium.reads l.fn.medium) (g.M.Medium.reads l.medium);
   content : IsTrue g.M.Medium.tells → (log : Log) (pages : List Laid) → IsAtRest log l.first (g.M.Medium.reads l.fn.medium) (g.M.Medium.may_leave l.fn.medium) → PagesFit (scan begun 0 (take l.first (g.M.Medium.reads l.fn.medium))) log l.first pages → bytes_of l.bodies ≡ map body_of pages
-      → Grown g.M.Medium.moment g.M.Medium.left_since g.M.Medium.reads g.M.Medium.may_leave log l.first pages l.fn.medium l.medium l.body-index;
+      → Grown g.M.Medium.stages g.M.Medium.reads g.M.Medium.may_leave log l.first pages l.fn.medium l.medium l.body-index;
 }

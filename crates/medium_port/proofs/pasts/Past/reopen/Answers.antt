@@ -1,11 +1,12 @@
 use Rattle.std.proofs.Common.{List, sym, ◌∙◌, ap, ℕ, subst}
-use Rattle.std.proofs.lemmas.Bool.Decides.{when_true}
+use Rattle.std.proofs.lemmas.Bool.Decides.{when_true, when_false}
 use Rattle.medium_port.specs.Image.{Image}
+use Rattle.std.specs.declared.snapshot.Snapshot.{Snapshot}
 use Rattle.medium_port.specs.declared.events.Event.{Event}
 use Rattle.medium_port.specs.declared.events.Event.TheVariants.{Reopened}
-use Rattle.medium_port.specs.Disk.{Disk, replay, Span, Among, SpansFit, spans_of, after_stop, MayLeave}
+use Rattle.medium_port.specs.Disk.{Disk, replay, happened, Span, Among, SpansFit, spans_of, after_stop, MayLeave}
 use Rattle.medium_port.specs.Pasts.{first_disk, events_in}
-use Rattle.medium_port.proofs.Disks.{sound_reopen, reopen_crash, now_push, left_push, sound_push, later_push, each_push, before_push, kept_push}
+use Rattle.medium_port.proofs.Disks.{sound_reopen, reopen_crash, now_push, left_push, sound_push, goes_push, goes_still}
 use Rattle.medium_port.proofs.pasts.Past.reopen.Goals as goal
 
 pub tear_after-requires : goal.tear_after-requires
@@ -56,12 +57,7 @@ returns-clause-time c =
     let es = events_in m in
     let kept = when_true _ _ c.if-not-keep.false c.keep.ensures in
     let event = Reopened c.args.stop in
-    record {
-      later = later_push m.count first es _ (event) kept;
-      each = each_push m.count first es _ (event) kept;
-      before = before_push m.count first es _ (event) kept;
-      kept = kept_push m.count first es _ (event) kept;
-    }
+    goes_push m.count first es _ event kept
 
 pub returns-clause-one : goal.returns-clause-one
 returns-clause-one c done =
@@ -75,3 +71,9 @@ returns-clause-one c done =
 
 pub invariant_of-self-2-clause-fit : goal.invariant_of-self-2-clause-fit
 invariant_of-self-2-clause-fit c = subst (λ (n : ℕ). SpansFit n (spans_of c.args.self.now.unsynced.items)) (sym c.tear_after.ensures.front) c.args.self.now.fit
+
+pub returns-then-not-keep-clause-time : goal.returns-then-not-keep-clause-time
+returns-then-not-keep-clause-time c =
+    let m = c.args.self.now in
+    let same = when_false _ _ c.if-not-keep.true c.keep.ensures in
+    goes_still m.count (first_disk m) (events_in m) _ (ap (λ (l : List (Snapshot Event)). happened l) same)

@@ -1,10 +1,11 @@
 use Rattle.std.proofs.Common.{List, sym, ◌∙◌, ap}
-use Rattle.std.proofs.lemmas.Bool.Decides.{when_true}
+use Rattle.std.proofs.lemmas.Bool.Decides.{when_true, when_false}
+use Rattle.std.specs.declared.snapshot.Snapshot.{Snapshot}
 use Rattle.medium_port.specs.declared.events.Event.{Event}
 use Rattle.medium_port.specs.declared.events.Event.TheVariants.{Synced}
-use Rattle.medium_port.specs.Disk.{Disk, replay, spans_of}
+use Rattle.medium_port.specs.Disk.{Disk, replay, happened, spans_of}
 use Rattle.medium_port.specs.Pasts.{first_disk, events_in}
-use Rattle.medium_port.proofs.Disks.{sync_only, sync_crash, sound_sync, now_push, left_push, sound_push, later_push, each_push, before_push, kept_push}
+use Rattle.medium_port.proofs.Disks.{sync_only, sync_crash, sound_sync, now_push, left_push, sound_push, goes_push, goes_still}
 use Rattle.medium_port.proofs.pasts.Past.sync.Goals as goal
 
 pub returns-clause-durable : goal.returns-clause-durable
@@ -29,12 +30,7 @@ returns-clause-time c =
     let first = first_disk m in
     let es = events_in m in
     let kept = when_true _ _ c.if-not-keep.false c.keep.ensures in
-    record {
-      later = later_push m.count first es _ (Synced) kept;
-      each = each_push m.count first es _ (Synced) kept;
-      before = before_push m.count first es _ (Synced) kept;
-      kept = kept_push m.count first es _ (Synced) kept;
-    }
+    goes_push m.count first es _ Synced kept
 
 pub invariant_of-self-2-clause-replayed : goal.invariant_of-self-2-clause-replayed
 invariant_of-self-2-clause-replayed c =
@@ -59,3 +55,9 @@ invariant_of-self-2-clause-tied c =
     let es = events_in m in
     let kept = when_true _ _ c.if-not-keep.false c.keep.ensures in
     ap (λ (l : List Event). spans_of l) c.clear.ensures.items ∙ sym (ap (λ (d : Disk). d.unsynced) (now_push m.count first es _ Synced kept))
+
+pub returns-then-not-keep-clause-time : goal.returns-then-not-keep-clause-time
+returns-then-not-keep-clause-time c =
+    let m = c.args.self.now in
+    let same = when_false _ _ c.if-not-keep.true c.keep.ensures in
+    goes_still m.count (first_disk m) (events_in m) _ (ap (λ (l : List (Snapshot Event)). happened l) same)

@@ -1,4 +1,4 @@
-use Rattle.std.proofs.Common.{ℕ, List, sym, ◌∙◌, ap, ◌++◌, [], ◌∷◌, length, subst, arith}
+use Rattle.std.proofs.Common.{ℕ, List, refl, sym, ◌∙◌, ap, ◌++◌, [], ◌∷◌, length, subst, arith}
 use Rattle.std.proofs.lemmas.Bool.Decides.{when_true, when_false}
 use Rattle.std.specs.declared.snapshot.Snapshot.{Snapshot}
 use Rattle.medium_port.specs.Image.{Image, put_bytes}
@@ -6,7 +6,7 @@ use Rattle.medium_port.specs.declared.events.Event.{Event}
 use Rattle.medium_port.specs.declared.events.Event.TheVariants.{Wrote}
 use Rattle.medium_port.specs.Disk.{Disk, replay, Span, SpansFit, spans_of, happened, MayLeave}
 use Rattle.medium_port.specs.Pasts.{first_disk, events_in}
-use Rattle.medium_port.proofs.Disks.{fit_more, fit_push, torn_self, write_crash, sound_write, now_push, left_push, sound_push, spans-push, later_push, each_push, before_push, kept_push}
+use Rattle.medium_port.proofs.Disks.{fit_more, fit_push, torn_self, write_crash, sound_write, now_push, left_push, sound_push, spans-push, goes_push, goes_still}
 use Rattle.medium_port.proofs.pasts.Past.write.Goals as goal
 
 pub returns-then-not-hold-clause-crash : goal.returns-then-not-hold-clause-crash
@@ -36,12 +36,7 @@ returns-clause-time c =
     let kept = when_true _ _ c.if-not-keep_write.false c.keep_write.ensures.events in
     let bytes = c.args.bytes.now in
     let event = Wrote c.args.page c.args.at bytes in
-    record {
-      later = later_push m.count first es _ (event) kept;
-      each = each_push m.count first es _ (event) kept;
-      before = before_push m.count first es _ (event) kept;
-      kept = kept_push m.count first es _ (event) kept;
-    }
+    goes_push m.count first es _ event kept
 
 pub returns-clause-done : goal.returns-clause-done
 returns-clause-done c =
@@ -105,3 +100,14 @@ invariant_of-self-2-clause-fit c =
     subst (λ (n : ℕ). SpansFit n (spans_of c.keep_write.new.unsynced.items)) (sym c.put.ensures.front)
     (subst (λ (l : List Span). SpansFit c.hold.new.self.front l) (sym is)
     (fit_push c.hold.new.self.front (spans_of m.unsynced.items) span (fit_more m.held.front c.hold.new.self.front (spans_of m.unsynced.items) more m.fit) (record { page = held; range = c.requires.range; bytes = λ k. omega (arith, c.type_inv.bytes k) })))
+
+pub returns-then-not-hold-clause-time : goal.returns-then-not-hold-clause-time
+returns-then-not-hold-clause-time c =
+    let m = c.args.self.now in
+    goes_still m.count (first_disk m) (events_in m) _ refl
+
+pub returns-then-not-keep_write-clause-time : goal.returns-then-not-keep_write-clause-time
+returns-then-not-keep_write-clause-time c =
+    let m = c.args.self.now in
+    let same = when_false _ _ c.if-not-keep_write.true c.keep_write.ensures.events in
+    goes_still m.count (first_disk m) (events_in m) _ (ap (λ (l : List (Snapshot Event)). happened l) same)

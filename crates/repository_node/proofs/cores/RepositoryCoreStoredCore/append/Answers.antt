@@ -45,7 +45,7 @@ returns-in-Ok g c =
     (appends-all g.M.Medium.tells g.M.Medium.faults g.M.Medium.page_count g.M.Medium.reads g.M.Medium.may_leave now m n effects (store_of old).settled c.in-Ok.ensures.later
     (λ t i left. subst (λ l. HasPrefix l effects i) (sym (old.stored t)) (c.in-Ok.ensures.images t i left)) tt g.met.M.Medium.shape c.in-Ok.ensures.size (store_of new).settled
     (λ t. new.stored t ∙ c.in-Ok.ensures.log ∙ ap (λ l. l ++ effects) (sym (old.stored t)))
-    (λ t. images_left g.M.Medium.moment g.M.Medium.left_since g.M.Medium.reads g.M.Medium.may_leave m n (KeepsPages (g.M.Medium.reads m)) (λ k d le there. g.met.M.Medium.counts_now n k d t le there) (c.in-Ok.ensures.kept t) (g.M.Medium.reads n) (now n t))
+    (λ t. images_left g.M.Medium.stages g.M.Medium.reads g.M.Medium.may_leave m n (KeepsPages (g.M.Medium.reads m)) (λ d there. g.met.M.Medium.counts_now n d t there) (c.in-Ok.ensures.kept t) (g.M.Medium.reads n) (now n t))
     c.in-Ok.ensures.clean c.requires.ranges c.in-Ok.ensures.used))
     (ap not (j.3 ∙ p.3) ∙ able, j.1 ∙ p.1 ∙ owed ∙ sym stored ∙ sym (append-nil (ledger_of c.join.result.histories).log))
     (λ t b l h fresh.

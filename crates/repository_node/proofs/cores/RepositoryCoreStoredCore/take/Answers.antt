@@ -21,7 +21,8 @@ returns-in-Open g c =
     let name = repository c.args.self.now.number in
     let called = c.take.ensures.called in
     let was = sym (ap (λ z. medium_in z) c.in-Open.is) in
-    let same = λ (t : IsTrue g.M.Medium.tells). told-same g.M.Medium.tells (g.M.Medium.reads n) (g.M.Medium.reads m) t (ap (λ (b : BeneathParts). b.image) called.stays) in
+    let both = λ (t : IsTrue g.M.Medium.tells). told-same g.M.Medium.tells (g.M.Medium.reads n) (g.M.Medium.reads m) (g.M.Medium.stages n) (g.M.Medium.stages m) t (ap (λ (b : BeneathParts). b.medium) called.stays) in
+    let same = λ (t : IsTrue g.M.Medium.tells). (both t).0 in
     let stored = ap (λ (b : BeneathParts). b.log) called.stays in
     record {
       given = record {

@@ -1,0 +1,3 @@
+pub mod KillLemmas
+pub mod WindowLemmas
+pub mod StepLemmas
