@@ -69,13 +69,11 @@ impl Medium for ReadMedium {
 
     ghost may_leave = { λ _ _. ⊤ };
 
-    ghost moment = { λ _. 0 };
-
-    ghost left_since = { λ _ _ _. ⊤ };
+    ghost stages = { λ _. [] };
 
     ghost reads_now = { λ m told. tt };
 
-    ghost counts_now = { λ m t c told le now. tt };
+    ghost counts_now = { λ m c told now. absurd (false≢true told) };
 
     ghost only_now = { λ m c told left. tt };
 

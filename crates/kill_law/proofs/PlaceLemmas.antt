@@ -9,15 +9,16 @@ use Rattle.stream_port.specs.declared.fates.Asked.{Asked}
 use Rattle.serial_model.specs.Questions.{Tree}
 use Rattle.plan_form.specs.declared.plans.Plan.{Plan}
 use Rattle.plan_form.specs.PlanTexts.{IsOfLanguage}
-use Rattle.broker_core.specs.Readings.{reading}
 use Rattle.world_core.specs.declared.entries.Entry.{Entry}
 use Rattle.world_core.specs.declared.entries.Entry.TheVariants.{Take, Go, Learn, Hear, Gate, Crash, Down, Tick}
 use Rattle.world_core.specs.declared.traces.Trace.{Trace}
 use Rattle.world_core.specs.Walks.{Base, Life, World, opened_log, is_down, names, start_world, step, walk_from, walk}
 use Rattle.world_core.specs.Legal.{Legal, base_of, in_plan}
-use Rattle.world_core.specs.Pasts.{Call, HasPast, OpenedWith, WasNotOpened, log_left}
-use Rattle.world_core.specs.Readings.{IsLegal, WereLeft, all_left}
-use Rattle.world_core.proofs.Legality.{before-legal, past-more}
+use Rattle.world_core.specs.Pasts.{Call, IsCall, OpenedWith, WasNotOpened, log_left, own_reading}
+use Rattle.world_core.specs.Readings.{IsLegal}
+use Rattle.world_core.proofs.Legality.{before-legal}
+use Rattle.world_facts.specs.Earlier.{ComeFrom, Earlier, WereLeftOrRetired, logs_left}
+use Rattle.world_facts.specs.Earlier.Earlier.{Running}
 use Rattle.kill_law.specs.Places.{IsLogOf, LeftAt, LeftBy, life_by}
 
 -- ---- Downs
@@ -93,7 +94,7 @@ ends-there script plan asked t front rest legal here = ⊎_elim
 
 -- ---- how much of the open effects was left
 
-module _ (script : List ℕ → Tree) (plan : Plan) (t : Trace) (front : List Entry) (logs after : NodeId → List Effect) (left : LeftBy script plan t front logs after) where
+module _ (read : Plan → List ℕ → Tree) (plan : Plan) (t : Trace) (front : List Entry) (logs after : NodeId → List Effect) (left : LeftBy (read plan) plan t front logs after) where
   abbrev kept-if : (n : NodeId) (d : Bool) → in_plan plan n ≡ d → ℕ
   kept-if n true h = (left.own n h).kept
   kept-if n false h = 0
@@ -101,44 +102,51 @@ module _ (script : List ℕ → Tree) (plan : Plan) (t : Trace) (front : List En
   abbrev kept-of : NodeId → ℕ
   kept-of n = kept-if n (in_plan plan n) refl
 
-  kept-is : (n : NodeId) (d : Bool) (h : in_plan plan n ≡ d) → in_plan plan n ≡ true → after n ≡ (life_by script plan t front n).gated ++ take (kept-if n d h) (life_by script plan t front n).fresh
+  kept-is : (n : NodeId) (d : Bool) (h : in_plan plan n ≡ d) → in_plan plan n ≡ true
+      → after n ≡ (life_by (read plan) plan t front n).gated ++ take (kept-if n d h) (life_by (read plan) plan t front n).fresh
   kept-is n true h within = (left.own n h).is
   kept-is n false h within = absurd (cc (sym h ∙ within))
 
-  abbrev call-of : EndsThere script plan t front → Call
+  abbrev call-of : EndsThere (read plan) plan t front → Call
   call-of e = record { plan = plan; asked = e.asked; trace = e.trace; kept = kept-of }
 
-  left-of : (e : EndsThere script plan t front) (n : NodeId) → in_plan plan n ≡ true → after n ≡ log_left script (call-of e) n
+  left-of : (e : EndsThere (read plan) plan t front) (n : NodeId) → in_plan plan n ≡ true → after n ≡ log_left read (call-of e) n
   left-of e n within = kept-is n (in_plan plan n) refl within ∙ sym (ap (λ (l : Life). l.gated ++ take (kept-of n) l.fresh) (e.lives n))
 
-pub past-there : (script : List ℕ → Tree) (plan : Plan) (asked : List Asked) (t : Trace) (front rest : List Entry) (logs after : NodeId → List Effect)
-    → HasPast script logs → OpenedWith t.opened logs → Legal script plan asked t → t.entries ≡ front ++ rest → LeftBy script plan t front logs after → HasPast script after
-past-there script plan asked t front rest logs after past agrees legal here left =
-    let e : EndsThere script plan t front = ends-there script plan asked t front rest legal here in
-    past-more script logs after (call-of script plan t front logs after left e) past
-    (record { agrees = subst (λ o. OpenedWith o logs) (sym e.opened) agrees; legal = e.legal; opened = λ n within was. e.all n was })
-    (λ n within. left-of script plan t front logs after left e n within)
-    left.others
+  -- it is a run over what the calls before it left
+  is-call : (e : EndsThere (read plan) plan t front) (cs : List Earlier) → OpenedWith t.opened logs → ((n : NodeId) → logs n ≡ logs_left read cs n)
+      → IsCall read (logs_left read cs) (call-of e)
+  is-call e cs agrees had = record {
+    agrees = λ n log at. agrees n log (subst (λ o. opened_log o n ≡ Some log) e.opened at) ∙ had n;
+    legal = e.legal;
+    opened = λ n within was. e.all n was;
+  }
+
+  -- and leaves these logs
+  leaves : (e : EndsThere (read plan) plan t front) (cs : List Earlier) → ((n : NodeId) → logs n ≡ logs_left read cs n) → (n : NodeId) (d : Bool) → in_plan plan n ≡ d
+      → after n ≡ (if d then log_left read (call-of e) n else logs_left read cs n)
+  leaves e cs had n true h = left-of e n h
+  leaves e cs had n false h = left.others n h ∙ had n
+
+pub came-there : (read : Plan → List ℕ → Tree) (plan : Plan) (asked : List Asked) (t : Trace) (front rest : List Entry) (logs after : NodeId → List Effect)
+    → ComeFrom read logs → OpenedWith t.opened logs → Legal (read plan) plan asked t → t.entries ≡ front ++ rest → LeftBy (read plan) plan t front logs after → ComeFrom read after
+came-there read plan asked t front rest logs after past agrees legal here left =
+    let e : EndsThere (read plan) plan t front = ends-there (read plan) plan asked t front rest legal here in (
+      Running (call-of read plan t front logs after left e) ∷ past.0,
+      (past.1, is-call read plan t front logs after left e past.0 agrees past.2),
+      λ n. leaves read plan t front logs after left e past.0 past.2 n (in_plan plan n) refl,
+    )
 
 -- ---- by plans alone
 
-all-left-by : (cs : List Call) (c : Call) (n : NodeId) (d : Bool) → in_plan c.plan n ≡ d → all_left (c ∷ cs) n ≡ (if d then log_left (reading c.plan.acts) c n else all_left cs n)
-unfolding all_left
-all-left-by cs c n d h = ap (λ b. if b then log_left (reading c.plan.acts) c n else all_left cs n) h
-
 pub were-left-there : (plan : Plan) (asked : List Asked) (t : Trace) (front rest : List Entry) (logs after : NodeId → List Effect) → IsOfLanguage plan
-    → WereLeft logs → OpenedWith t.opened logs → IsLegal plan asked t → t.entries ≡ front ++ rest → LeftAt plan t front logs after → WereLeft after
+    → WereLeftOrRetired logs → OpenedWith t.opened logs → IsLegal plan asked t → t.entries ≡ front ++ rest → LeftAt plan t front logs after → WereLeftOrRetired after
 were-left-there plan asked t front rest logs after whole past agrees legal here left =
-    let script = reading plan.acts in
-    let e : EndsThere script plan t front = ends-there script plan asked t front rest legal here in
-    let c : Call = call-of script plan t front logs after left e in
-    (c ∷ past.0,
-    (past.1, record { whole = whole; agrees = λ n log at. agrees n log (subst (λ o. opened_log o n ≡ Some log) e.opened at) ∙ past.2 n; legal = e.legal; opened = λ n within was. e.all n was }),
-    λ n. split c n (in_plan plan n) refl refl (λ within. left-of script plan t front logs after left e n within))
-  where
-    split : (c : Call) (n : NodeId) (d : Bool) → c.plan ≡ plan → in_plan plan n ≡ d → (in_plan plan n ≡ true → after n ≡ log_left (reading c.plan.acts) c n) → after n ≡ all_left (c ∷ past.0) n
-    split c n true same h own = own h ∙ sym (all-left-by past.0 c n true (ap (λ (p : Plan). in_plan p n) same ∙ h))
-    split c n false same h own = left.others n h ∙ past.2 n ∙ sym (all-left-by past.0 c n false (ap (λ (p : Plan). in_plan p n) same ∙ h))
+    let e : EndsThere (own_reading plan) plan t front = ends-there (own_reading plan) plan asked t front rest legal here in (
+      Running (call-of own_reading plan t front logs after left e) ∷ past.0,
+      ((past.1.0, is-call own_reading plan t front logs after left e past.0 agrees past.2), (whole, past.1.1)),
+      λ n. leaves own_reading plan t front logs after left e past.0 past.2 n (in_plan plan n) refl,
+    )
 
 pub keeps-there : (l : Life) (log : List Effect) → IsLogOf l log → (late : List Effect) × (log ≡ l.gated ++ late)
 keeps-there l log is = (take is.kept l.fresh, is.is)

@@ -1,4 +1,4 @@
-ghost use Rattle.std.specs.Prelude.{◌≡◌, ◌++◌, true, List};
+ghost use Rattle.std.specs.Prelude.{◌≡◌, ◌++◌, ℕ, true, List};
 ghost use Rattle.pseudo_time.specs.declared.nodes.NodeId.{NodeId};
 ghost use Rattle.effect_form.specs.declared.effects.Effect.{Effect};
 ghost use Rattle.stream_port.specs.declared.fates.Asked.{Asked};
@@ -8,19 +8,22 @@ ghost use Rattle.plan_form.specs.PlanTexts.{IsOfLanguage};
 ghost use Rattle.world_core.specs.declared.entries.Entry.{Entry};
 ghost use Rattle.world_core.specs.declared.traces.Trace.{Trace};
 ghost use Rattle.world_core.specs.Legal.{Legal, in_plan};
-ghost use Rattle.world_core.specs.Pasts.{HasPast, OpenedWith};
-ghost use Rattle.world_core.specs.Readings.{IsLegal, WereLeft};
+ghost use Rattle.world_core.specs.Pasts.{OpenedWith, alike};
+ghost use Rattle.world_core.specs.Readings.{IsLegal};
+ghost use Rattle.world_facts.specs.Earlier.{ComeFrom, WereLeftOrRetired};
 ghost use Rattle.kill_law.specs.Places.{LeftAt, LeftBy, life_there};
 
-/// A law: whatever place of a legal run over logs that earlier runs left, where each node has its
-/// durable log of that place with a beginning of its open effects, and other nodes what they had,
-/// the logs are again such as runs left. Each has all that its node had made durable there.
+/// At whatever place of a legal run over logs that earlier runs left, and retirements, where each node
+/// has its durable log of that place with a beginning of its open effects, and other nodes have what they
+/// had, the logs are again such as runs and retirements left. Each has all that its node had made durable
+/// there.
 pub fn place_has_past()
-    ensures past { (plan : Plan) (asked : List Asked) (t : Trace) (front rest : List Entry) (logs after : NodeId → List Effect) → IsOfLanguage plan
-        → WereLeft logs → OpenedWith t.opened logs → IsLegal plan asked t → t.entries ≡ front ++ rest → LeftAt plan t front logs after → WereLeft after }
-    ensures script { (script : List _ → Tree) (plan : Plan) (asked : List Asked) (t : Trace) (front rest : List Entry) (logs after : NodeId → List Effect)
-        → HasPast script logs → OpenedWith t.opened logs → Legal script plan asked t → t.entries ≡ front ++ rest → LeftBy script plan t front logs after
-        → HasPast script after }
-    ensures keeps { (plan : Plan) (t : Trace) (front : List Entry) (logs after : NodeId → List Effect) (n : NodeId) → LeftAt plan t front logs after
-        → in_plan plan n ≡ true → (late : List Effect) × (after n ≡ (life_there plan t front n).gated ++ late) }
+    ensures past { (plan : Plan) (asked : List Asked) (t : Trace) (front rest : List Entry) (logs after : NodeId → List Effect) →
+        IsOfLanguage plan → WereLeftOrRetired logs → OpenedWith t.opened logs → IsLegal plan asked t → t.entries ≡ front ++ rest →
+        LeftAt plan t front logs after → WereLeftOrRetired after }
+    ensures script { (script : List ℕ → Tree) (plan : Plan) (asked : List Asked) (t : Trace) (front rest : List Entry)
+        (logs after : NodeId → List Effect) → ComeFrom (alike script) logs → OpenedWith t.opened logs → Legal script plan asked t →
+        t.entries ≡ front ++ rest → LeftBy script plan t front logs after → ComeFrom (alike script) after }
+    ensures keeps { (plan : Plan) (t : Trace) (front : List Entry) (logs after : NodeId → List Effect) (n : NodeId) →
+        LeftAt plan t front logs after → in_plan plan n ≡ true → (late : List Effect) × (after n ≡ (life_there plan t front n).gated ++ late) }
 {}

@@ -14,7 +14,8 @@ use Rattle.world_core.specs.declared.traces.Trace.{Trace}
 use Rattle.world_core.specs.Walks.{Life, own}
 use Rattle.world_core.specs.Legal.{in_plan}
 use Rattle.world_core.specs.Pasts.{OpenedWith}
-use Rattle.world_core.specs.Readings.{IsLegal, WereLeft}
+use Rattle.world_core.specs.Readings.{IsLegal}
+use Rattle.world_facts.specs.Earlier.{WereLeftOrRetired}
 use Rattle.kill_law.specs.Places.{IsLogOf, life_there}
 use Rattle.kill_law.proofs.PlaceLemmas.{were-left-there}
 use Rattle.kill_words.specs.Kills.{AreFound, Course, KeptAtPlaces, KilledAt, LeftFrom}
@@ -41,9 +42,9 @@ log-of : (l : Life) (c : Image) (log : List Effect) → IsKept l c → storage c
 log-of l c log kept is = record { kept = kept.kept; few = kept.few; is = ok-same log _ (sym is ∙ kept.is) }
 
 pub past-of-kill : (plan : Plan) (asked : List Asked) (t : Trace) (front rest : List Entry) (logs after : NodeId → List Effect) (back : NodeId → List Stage) (images : NodeId → Image)
-    → IsOfLanguage plan → WereLeft logs → OpenedWith t.opened logs → IsLegal plan asked t → t.entries ≡ front ++ rest
+    → IsOfLanguage plan → WereLeftOrRetired logs → OpenedWith t.opened logs → IsLegal plan asked t → t.entries ≡ front ++ rest
     → (courses : NodeId → Course) → ((n : NodeId) → in_plan plan n ≡ true → KeptAtPlaces plan t n (back n) (courses n))
-    → KilledAt plan front courses back images → AreFound plan images logs after → WereLeft after
+    → KilledAt plan front courses back images → AreFound plan images logs after → WereLeftOrRetired after
 past-of-kill plan asked t front rest logs after back images whole past agrees legal here courses through killed found =
     were-left-there plan asked t front rest logs after whole past agrees legal here (record {
       own = λ n within. log-of (life_there plan t front n) (images n) (after n)

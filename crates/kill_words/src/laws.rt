@@ -10,7 +10,8 @@ ghost use Rattle.world_core.specs.declared.entries.Entry.{Entry};
 ghost use Rattle.world_core.specs.declared.traces.Trace.{Trace};
 ghost use Rattle.world_core.specs.Legal.{in_plan};
 ghost use Rattle.world_core.specs.Pasts.{OpenedWith};
-ghost use Rattle.world_core.specs.Readings.{IsLegal, WereLeft};
+ghost use Rattle.world_core.specs.Readings.{IsLegal};
+ghost use Rattle.world_facts.specs.Earlier.{WereLeftOrRetired};
 ghost use Rattle.world_core.specs.Walks.{Base, own, walk};
 ghost use Rattle.kill_words.specs.Kills.{AreFound, Course, KeptAtPlaces, KilledAt};
 ghost use Rattle.kill_words.specs.Windows.{IsKept, Passes, cut_at, cuts_of};
@@ -25,7 +26,7 @@ pub fn kills_lose_nothing()
         (IsKept ((walk b front).life n)) }
     ensures past { (plan : Plan) (asked : List Asked) (t : Trace) (front rest : List Entry) (logs after : NodeId → List Effect)
         (back : NodeId → List Stage) (images : NodeId → Image)
-        → IsOfLanguage plan → WereLeft logs → OpenedWith t.opened logs → IsLegal plan asked t → t.entries ≡ front ++ rest
+        → IsOfLanguage plan → WereLeftOrRetired logs → OpenedWith t.opened logs → IsLegal plan asked t → t.entries ≡ front ++ rest
         → (courses : NodeId → Course) → ((n : NodeId) → in_plan plan n ≡ true → KeptAtPlaces plan t n (back n) (courses n))
-        → KilledAt plan front courses back images → AreFound plan images logs after → WereLeft after }
+        → KilledAt plan front courses back images → AreFound plan images logs after → WereLeftOrRetired after }
 {}

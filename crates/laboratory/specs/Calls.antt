@@ -2,7 +2,7 @@
 use Rattle.std.specs.Prelude.{◌≡◌, ◌⊎◌, ℕ, true, ◌==◌, List, [], ◌∷◌, ◌++◌, Some, replicate, codes}
 use Rattle.std.specs.List.{All, slice_split}
 use Rattle.std.specs.String.{string_bytes}
-use Rattle.medium_port.specs.MemoryMedia.{pages_of, reads_of, leaves, failed_in, faults_in, last_of, moment_in, left_since_in}
+use Rattle.medium_port.specs.MemoryMedia.{pages_of, reads_of, leaves, failed_in, faults_in, last_of, stages_of}
 use Rattle.medium_port.specs.MemoryShelves.{TakenFrom, asked_for, image_under, LeftUnder, faults_under, shelf_faults}
 use Rattle.medium_port.specs.declared.memory_media.MemoryMedium.{MemoryMedium}
 use Rattle.medium_port.specs.declared.memory_shelves.MemoryShelf.{MemoryShelf}
@@ -36,8 +36,7 @@ memory_media = record {
   faults = faults_in;
   reads = reads_of;
   may_leave = leaves;
-  moment = moment_in;
-  left_since = left_since_in;
+  stages = stages_of;
 }
 
 abbrev pub sight_of : MemoryShelf → ShelfSight

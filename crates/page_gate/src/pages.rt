@@ -60,7 +60,11 @@ fn state(bytes: &[u8; 4096]) -> PageState
 pub fn all_zero(bytes: &[u8]) -> bool
     ensures { result ≡ is_blank bytes.now }
 {
-    bytes.iter().all(|b| *b == 0)
+    let mut most = 0;
+    for b in bytes {
+        most = most.max(*b);
+    }
+    most == 0
 }
 
 // Writes, and has it on the medium.
