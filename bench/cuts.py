@@ -1,0 +1,204 @@
+"""Power cuts of the whole system. cuts.py PROGRAM FOLDER IMAGES WORKERS SEED
+
+Runs of the program are recorded by strace: each write and each sync of each file, in the order in which they began
+and ended. Then an instant is drawn for all files at once. What a sync had made durable by then stands; of each
+write that began before the instant and wasn't made durable nothing, all, or any part may stand, also bytes that
+nobody wrote. The folder with these files is opened again twice, each time as a copy: by a later run that reads both
+objects, and by the same plan again, which has to end all its acts.
+
+What is right is worked out here from the pages alone, by docs/FORMATS.md: each act adds 1 to both objects, so a
+later run reads of each as often 1 as there are attempts whose home has a decision to commit on the image; and the
+plan that goes on ends with as many as it says are committed, which are at least those.
+"""
+
+import os
+import random
+import re
+import shutil
+import subprocess
+import sys
+
+PROGRAM, FOLDER, IMAGES, WORKERS, SEED = sys.argv[1], sys.argv[2], int(sys.argv[3]), sys.argv[4], int(sys.argv[5])
+PAGES = 400
+CUTS_OF_A_RUN = 250
+FILES = ["repository-1-0", "repository-2-0", "broker-1-0", "broker-2-0"]
+ACT = "read a 1.1\nread b 2.1\nwrite 1.1 given(a, 0) + 1\nwrite 2.1 given(b, 0) + 1\ndone\n"
+draw = random.Random(SEED)
+
+
+def plan(run, acts):
+    lines = "swallow plan 1\nrun %d\nrepositories 2\nbrokers 2\n" % run
+    for i in range(acts):
+        lines += "act broker %d home %d timeout 5 tries 30\n" % (i % 2 + 1, i % 2 + 1) + ACT
+    return lines
+
+
+READS = "swallow plan 1\nrun 9\nrepositories 2\nbrokers 2\nact broker 1 home 1 timeout 5 tries 30\nread a 1.1\nread b 2.1\nwithdraw\ndone\n"
+
+
+def fresh(folder):
+    shutil.rmtree(folder, ignore_errors=True)
+    os.mkdir(folder)
+    for name in FILES:
+        with open(os.path.join(folder, name), "wb") as file:
+            file.truncate(4096 * PAGES)
+
+
+def text(hexed):
+    return bytes(int(b, 16) for b in hexed.split("\\x")[1:])
+
+
+def events(log):
+    """What began and ended, in order: ('write', number, file, offset, bytes), ('sync', number, file), ('end', number)."""
+    found, open_calls, number = [], {}, 0
+    for line in log:
+        started = re.match(r'(\d+) +(pwrite64|fdatasync|fsync)\((\d+)<([^>]*)>(?:, "([^"]*)", \d+, (\d+))?(\)| <unfinished)', line)
+        resumed = re.match(r"(\d+) +<\.\.\. (pwrite64|fdatasync|fsync) resumed>.*= (-?\d+)", line)
+        if started:
+            number += 1
+            name = os.path.basename(text(started[4]).decode())
+            if name not in FILES:
+                continue
+            if started[2] == "pwrite64":
+                found.append(("write", number, name, int(started[6]), text(started[5])))
+            else:
+                found.append(("sync", number, name))
+            if started[7] == ")":
+                found.append(("end", number))
+            else:
+                open_calls[started[1]] = number
+        elif resumed:
+            found.append(("end", open_calls.pop(resumed[1])))
+        elif "pwrite64(" in line or "sync(" in line:
+            sys.exit("not understood: " + line[:200])
+    return found
+
+
+def torn(old, new):
+    """What may stand of a write."""
+    how = draw.randrange(6)
+    if how == 0:
+        return old
+    if how == 1:
+        return new
+    at = draw.randrange(len(new) + 1)
+    if how == 2:
+        return new[:at] + old[at:]
+    if how == 3:
+        return old[:at] + new[at:]
+    if how == 4:
+        return bytes(draw.choice(pair) for pair in zip(old, new))
+    return bytes(draw.randrange(256) for _ in new)
+
+
+def image(found, instant):
+    """The files as a power cut at this instant may leave them."""
+    files = {name: bytearray(4096 * PAGES) for name in FILES}
+    waits = {name: [] for name in FILES}   # writes that began and aren't durable
+    ended, syncs = set(), {}
+    for event in found[:instant]:
+        if event[0] == "write":
+            waits[event[2]].append(event)
+        elif event[0] == "sync":
+            syncs[event[1]] = (event[2], [w for w in waits[event[2]] if w[1] in ended])
+        else:
+            ended.add(event[1])
+            if event[1] in syncs:
+                name, durable = syncs.pop(event[1])
+                for write in durable:
+                    if write in waits[name]:
+                        files[name][write[3]:write[3] + len(write[4])] = write[4]
+                        waits[name].remove(write)
+    for name in FILES:
+        for write in waits[name]:
+            old = bytes(files[name][write[3]:write[3] + len(write[4])])
+            files[name][write[3]:write[3] + len(write[4])] = torn(old, write[4])
+    return files
+
+
+def length_of(page, place):
+    """How long the effect is that stands there in a repository's log; its values are numbers."""
+    tag = page[place]
+    if tag == 4:
+        return 28 if page[place + 11] == 3 else 12
+    return {1: 35, 2: 20, 3: 19, 5: 12}[tag]
+
+
+def committed(files):
+    """How many attempts have a decision to commit in their home's log."""
+    count = 0
+    for home in (1, 2):
+        whole = files["repository-%d-0" % home]
+        for at in range(0, len(whole), 4096):
+            page = whole[at:at + 4096]
+            if page[0] != 0xA5 or page[1] != 2:
+                continue
+            size, place = int.from_bytes(page[2:4], "big"), 5
+            while place < 5 + size:
+                if page[place] == 4 and page[place + 10] == home and page[place + 11] == 1:
+                    count += 1
+                place += length_of(page, place)
+    return count
+
+
+def run(folder, words, given):
+    done = subprocess.run([PROGRAM, folder] + words, input=given.encode(), stdout=subprocess.PIPE, stderr=subprocess.PIPE)
+    return done.returncode, done.stdout.decode()
+
+
+def wrong(files, why, report):
+    kept = os.path.join(FOLDER, "wrong")
+    shutil.rmtree(kept, ignore_errors=True)
+    os.mkdir(kept)
+    for name, bytes_of in files.items():
+        open(os.path.join(kept, name), "wb").write(bytes_of)
+    print("wrong: " + why + "; the files are in " + kept)
+    print(report)
+    sys.exit(1)
+
+
+def judge(files, given):
+    count = committed(files)
+    for again in (False, True):
+        folder = os.path.join(FOLDER, "image")
+        shutil.rmtree(folder, ignore_errors=True)
+        os.mkdir(folder)
+        for name, bytes_of in files.items():
+            with open(os.path.join(folder, name), "wb") as file:
+                file.write(bytes_of)
+        status, report = run(folder, ["run", "--workers", WORKERS], given if again else READS)
+        if status != 0:
+            wrong(files, "status %d" % status, report)
+        if again:
+            totals = int(re.search(r"^totals acts \d+ committed (\d+)", report, re.M)[1])
+            finals = re.findall(r"^final \d\.1 (\d+)$", report, re.M)
+            if totals < count or any(int(value) != totals for value in finals) or (totals > 0 and len(finals) != 2):
+                wrong(files, "%d decisions to commit, then other finals" % count, report)
+        else:
+            value = str(count) if count else "nothing"
+            last = report[report.rindex("try "):]
+            if "read 1.1 %s\n" % value not in last or "read 2.1 %s\n" % value not in last:
+                wrong(files, "%d decisions to commit, but" % count, report)
+    return count
+
+
+def main():
+    images, tried = 0, {}
+    while images < IMAGES:
+        folder = os.path.join(FOLDER, "data")
+        fresh(folder)
+        given = plan(1, draw.choice((2, 6, 12)))
+        record = os.path.join(FOLDER, "record")
+        traced = ["strace", "-f", "-y", "-xx", "-s", "70000", "-e", "trace=pwrite64,fdatasync,fsync", "-o", record]
+        done = subprocess.run(traced + [PROGRAM, folder, "run", "--workers", WORKERS], input=given.encode(), stdout=subprocess.PIPE)
+        if done.returncode != 0:
+            sys.exit("status %d of a run that nothing ended" % done.returncode)
+        found = events(open(record))
+        for _ in range(min(CUTS_OF_A_RUN, IMAGES - images)):
+            count = judge(image(found, draw.randrange(len(found) + 1)), given)
+            tried[count] = tried.get(count, 0) + 1
+            images += 1
+    print("images %d, workers %s: none wrong; by how many acts were committed then: %s" % (images, WORKERS, " ".join("%d:%d" % pair for pair in sorted(tried.items()))))
+
+
+main()
