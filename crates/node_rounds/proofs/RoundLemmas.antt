@@ -21,7 +21,7 @@ use Rattle.node_turn.specs.Costs.{costs, PaysFor}
 use Rattle.node_turn.specs.Nodes.{NodeParts, Adds, StaysWhole, IsCondition, TurnsTo, MeetsWith, sight}
 use Rattle.node_turn.proofs.TrailLemmas.{costs-append, adds-more, adds-none}
 use Rattle.node_turn.proofs.PageLemmas.{whole-same}
-use Rattle.node_rounds.specs.Nodes.{GoesOn, HasMet, HasAllOf, HasPass, HasSeen}
+use Rattle.node_rounds.specs.Nodes.{GoesOn, HadTurn, HasMet, HasAllOf, HasPass, HasSeen, IsReady}
 use Rattle.node_rounds.proofs.PageLemmas.{intact-joins}
 use Rattle.node_rounds.proofs.PairLemmas.{zip-same, zip-through, zip-with}
 
@@ -145,3 +145,8 @@ module _ {M Q A : Type 0} (lock : LockTable WireParts (View WireParts Entry) (Fo
   pub mets-join : (xs ys zs : List (NodeParts M)) → All (HasPass lock) xs → AllZip HasMet xs ys → AllZip HasMet ys zs → AllZip HasMet xs zs
   mets-join xs ys zs passes first second = zip-through (λ x y. HasPass lock x × HasMet x y) HasMet HasMet (λ x y z p q. met-joins x y z p.0.own p.1 q) xs ys zs
       (zip-with (HasPass lock) HasMet (λ x y. HasPass lock x × HasMet x y) (λ x y p m. (p, m)) xs ys passes first) second
+
+module _ {M Q A : Type 0} (lock : LockTable WireParts (View WireParts Entry) (Founding WireParts) Q A) (tells : Bool) (faults : M → ℕ) (reads : M → Image) where
+  -- a turn behind others
+  pub had-again : (a b c : NodeParts M) → HadTurn lock tells faults reads a b → IsReady lock b → HadTurn lock tells faults reads b c → HadTurn lock tells faults reads a c
+  had-again a b c had ready more = record { pass = more.pass; went = goes-joins tells faults reads a b c had.went ready.up more.went }

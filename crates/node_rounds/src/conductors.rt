@@ -19,6 +19,10 @@ use std::thread::Threads;
 use stream_port::{Clock, Fates};
 use wire_lock::{SharedWire, WirePass};
 
+// How many turns nodes have in a round, where several threads give them: a thread is made and waited for each
+// round, which costs as much as some turns. One thread gives one turn each, in the order of nodes.
+const TURNS: u32 = 16;
+
 // Whether memory was wanting for a node of a share.
 fn is_any_wanting<F: Fates, C: Clock, M: Medium>(nodes: &[RunNode<F, C, M>]) -> bool
     ensures { MatchBool result (Any (λ n. n.condition ≡ Condition.Wanting) nodes.now) (All HasMemory nodes.now) }
@@ -150,7 +154,7 @@ fn asked<F: Fates, C: Clock, M: Medium, R: Wait>(
     }
 }
 
-// A round, in which each node has a turn. The conductor meets them all, and again where it ticked.
+// A round, in which each node has a turn, or several. The conductor meets them all, and again where it ticked.
 fn go_round<
     F: Fates + Drop + Send,
     C: Clock + Drop + Send,
@@ -176,7 +180,8 @@ fn go_round<
     ensures wanted { IsTrue M.tells → TicksAreWanted (base_from (base_of wire.now.lock).origin) (knows pass).story shares.items →
         TicksAreWanted (base_from (base_of wire.now.lock).origin) (knows result.1).story result.0.items }
 {
-    let mut shares = round(rt, wire, shares);
+    let turns = if limits.workers > 1 { TURNS } else { 1 };
+    let mut shares = round(rt, wire, turns, shares);
     let mut pass = pass;
     meet_all(wire, &mut shares, &mut pass);
     let (mut pass, next) = asked(rt, wire, limits, ticks, shares.as_slice(), pass);

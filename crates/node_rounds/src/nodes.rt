@@ -9,8 +9,9 @@ use crate::kinds::AnyNode;
 use crate::turns::Turns;
 use broker_node::{BrokerNode, is_done};
 use medium_port::Medium;
-use node_turn::Condition;
+use node_turn::{Condition, Turned};
 use repository_node::RepositoryNode;
+use std::alloc::AllocError;
 use std::marker::Model;
 use std::sync::Wait;
 use stream_port::{Clock, Fates};
@@ -74,6 +75,14 @@ impl<F: Fates, C: Clock, M: Medium> RunNode<F, C, M> {
     }
 }
 
+// Whether a turn worked.
+fn has_worked(turned: &Result<Turned, AllocError>) -> bool {
+    if let Ok(Turned::Worked) = turned {
+        return true;
+    }
+    false
+}
+
 impl<F: Fates, C: Clock, M: Medium> Turns<SharedWire<F, C, M>> for RunNode<F, C, M> {
     ghost use Rattle.node_rounds.specs.Nodes.{IsReady, HadTurn};
 
@@ -81,21 +90,32 @@ impl<F: Fates, C: Clock, M: Medium> Turns<SharedWire<F, C, M>> for RunNode<F, C,
 
     ghost does = { λ wire old new. HadTurn wire.lock M.tells M.faults M.reads old new };
 
-    fn take_turn<R: Wait>(self, rt: &R, shared: &SharedWire<F, C, M>) -> RunNode<F, C, M> {
+    fn take_turn<R: Wait>(
+        self,
+        rt: &R,
+        shared: &SharedWire<F, C, M>,
+    ) -> (RunNode<F, C, M>, bool) {
         let RunNode { kind } = self;
         match kind {
             AnyNode::Repository(node) => {
-                let (node, _) = node.turn(rt, shared);
-                RunNode {
-                    kind: AnyNode::Repository(node),
-                }
+                let (node, turned) = node.turn(rt, shared);
+                let kind = AnyNode::Repository(node);
+                (RunNode { kind }, has_worked(&turned))
             }
             AnyNode::Broker(node) => {
-                let (node, _) = node.turn(rt, shared);
-                RunNode {
-                    kind: AnyNode::Broker(node),
-                }
+                let (node, turned) = node.turn(rt, shared);
+                let kind = AnyNode::Broker(node);
+                (RunNode { kind }, has_worked(&turned))
             }
         }
     }
+
+    fn may_go_on(&self) -> bool {
+        if let Condition::AtWork = self.condition() {
+            return true;
+        }
+        false
+    }
+
+    fn turns_join() {}
 }

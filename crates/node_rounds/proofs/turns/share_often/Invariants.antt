@@ -1,0 +1,10 @@
+use Rattle.std.proofs.Common.{◌≡◌}
+use Rattle.std.specs.Prelude.{vec_len, vec_capacity}
+use Rattle.std.specs.List.{AllZip}
+use Rattle.node_rounds.proofs.turns.share_often.Given as goal
+
+abbrev pub invariant-loop : goal.invariant-loop
+invariant-loop g l = record {
+  does : AllZip (g.S.Turns.does l.shared) l.fn.nodes.items l.nodes.items;
+  room : (vec_len l.nodes ≡ vec_len l.fn.nodes) × (vec_capacity l.nodes ≡ vec_capacity l.fn.nodes);
+}
