@@ -121,7 +121,6 @@ module _ (most : ℕ) (f g : NodeId → List Effect) (tries : List Try) (same : 
   -- ---- what the logs hold
 
   to-same : (n : ℕ) → n ≤ most → marks_to k n ≡ marks_to k' n
-  unfolding marks_to
   to-same zero le = refl
   to-same (suc n) le = λ i. marks (here n le i) ++ to-same n (omega (arith, le)) i
 

@@ -20,7 +20,7 @@ use Rattle.object_history.specs.Views.{value_of}
 use Rattle.object_history.proofs.ObjectLemmas.{same_object-is}
 use Rattle.object_retirement.specs.Older.{Gone}
 use Rattle.object_retirement.specs.Retired.{Same}
-use Rattle.repository_log.specs.Logs.{marks}
+use Rattle.repository_core.specs.Logs.{marks}
 use Rattle.world_core.specs.Deeds.{RunLogs, Try, Version, committed, finals, in_run, log_of, marks_at, puts_to, written}
 use Rattle.trace_report.specs.Finals.{all_marks, last_put, last_values, marks_to}
 use Rattle.trace_report.proofs.FinalLemmas.{last-value}
@@ -175,7 +175,6 @@ module _ (olds : NodeId → List (List Effect)) (k : RunLogs) (ever : List Post)
 
   -- the logs of other repositories have no put of the object
   lacks-to : (o : ObjectId) (n : ℕ) → n ≤ k.repositories → ((r : ℕ) → 1 ≤ r → r ≤ n → o.repository ≡ r → ⊥) → Lacks o (marks_to k n)
-  unfolding marks_to
   lacks-to o zero le other x v h = h
   lacks-to o (suc n) le other =
       lacks-append o (marks (log_of k (suc n))) (marks_to k n) (own-put (suc n) o (in-both k (suc n) (omega arith) le) (other (suc n) (omega arith) (omega arith)))
@@ -183,7 +182,6 @@ module _ (olds : NodeId → List (List Effect)) (k : RunLogs) (ever : List Post)
 
   -- so its last put stands in the log of its own one
   last-own : (o : ObjectId) (n : ℕ) → n ≤ k.repositories → 1 ≤ o.repository → o.repository ≤ n → scan sure o (marks_to k n) ≡ scan sure o (marks (log_of k o.repository))
-  unfolding marks_to
   last-own o zero le low high = absurd (omega (arith, low, high))
   last-own o (suc n) le low high = by (le-cases o.repository n high)
     where
@@ -196,6 +194,10 @@ module _ (olds : NodeId → List (List Effect)) (k : RunLogs) (ever : List Post)
           ∙ last-own o n (omega (arith, le)) low h
 
   module _ (same : (r : ℕ) (o : ObjectId) → in_run k r ≡ true → Same (scan sure o (marks (log_of k r))) (scan sure o (marks (log_of all r)))) where
+    outside : (o : ObjectId) → in_run k o.repository ≡ false → marks_at all o ≡ []
+    unfolding marks_at
+    outside o e = ap (λ b. if b then marks (log_of all o.repository) else []) e
+
     last-all : (o : ObjectId) (b : Bool) → in_run k o.repository ≡ b → value_of (last_put k o) ≡ value_of (scan sure o (marks_at all o))
     last-all o true e =
         ap value_of (last-own o k.repositories (omega arith) (in-low k o.repository e) (in-high k o.repository e))
@@ -203,11 +205,7 @@ module _ (olds : NodeId → List (List Effect)) (k : RunLogs) (ever : List Post)
         ∙ ap (λ m. value_of (scan sure o m)) (marks-in all o e)
     last-all o false e =
         ap value_of (scan-none o sure (all_marks k) (lacks-to o k.repositories (omega arith) (λ r low high at. true≢false (sym (in-both k r low high) ∙ ap (in_run k) (sym at) ∙ e))))
-        ∙ ap (λ m. value_of (scan sure o m)) (sym (outside e))
-      where
-        outside : in_run k o.repository ≡ false → marks_at all o ≡ []
-        unfolding marks_at
-        outside e = ap (λ b. if b then marks (log_of all o.repository) else []) e
+        ∙ ap (λ m. value_of (scan sure o m)) (sym (outside o e))
 
     -- what the logs as they stand hold is what all committed deeds leave
     pub finals-stand : (o : ObjectId) → value_at (last_values k) o ≡ value_at (finals all) o

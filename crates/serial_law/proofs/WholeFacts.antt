@@ -21,7 +21,7 @@ use Rattle.object_retirement.specs.Stood.{all_stood}
 use Rattle.object_retirement.proofs.ChainLemmas.{chain-given, last-stays, some-given}
 use Rattle.repository_laws.specs.Facts.{WriteSent}
 use Rattle.repository_laws.proofs.Logs.{put-logged}
-use Rattle.repository_log.specs.Logs.{marks}
+use Rattle.repository_core.specs.Logs.{marks}
 use Rattle.serial_model.specs.Questions.{Tree}
 use Rattle.world_core.specs.Walks.{Base}
 use Rattle.world_facts.specs.NodeRules.{node_facts}

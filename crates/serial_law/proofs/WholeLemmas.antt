@@ -15,7 +15,7 @@ use Rattle.effect_form.specs.declared.effects.Effect.TheVariants as effect
 use Rattle.object_history.specs.declared.marks.Mark.TheVariants as mark
 use Rattle.object_history.specs.History.{settle_of}
 use Rattle.object_retirement.specs.Stood.{all_stood, has_start, with_old}
-use Rattle.repository_log.specs.Logs.{knows, marks}
+use Rattle.repository_core.specs.Logs.{knows, marks}
 use Rattle.world_core.specs.Deeds.{RunLogs, committed, has_commit, has_learned, in_run, log_of, some_of}
 use Rattle.serial_law.specs.Wholes.{whole_log, whole_run, with_puts}
 

@@ -21,7 +21,7 @@ use Rattle.script_meaning.specs.Meaning.{Got, Stored}
 use Rattle.serial_model.specs.Questions.{Tree, Ends, Reads, Writes}
 use Rattle.broker_core.specs.Book.{book}
 use Rattle.world_core.specs.Deeds.{Try, RunLogs, Version, some_of, has_commit, has_learned, committed, put_in, puts_of, puts_to, written, find, stamp_in, stamp_if, put_stamps, log_stamps, try_stamps, all_deeds, before, finals, lines_written, marks_at}
-use Rattle.trace_report.specs.Finals.{last_put, marks_to}
+use Rattle.trace_report.specs.Finals.{last_put}
 use Rattle.serial_law.specs.Wholes.{PutsStand, whole_log, whole_run, with_puts, wrote}
 use Rattle.serial_law.proofs.Attempts.{booked_tries}
 use Rattle.serial_law.proofs.WorkedRuns.{act, at_one, at_two, booked_of, int, object, one, pick_log, plan, stamp, time}
@@ -101,11 +101,11 @@ standing-before = refl
 
 -- but of what objects hold they tell all
 first-final : value_of (last_put later_run (object 1 1)) ≡ int 2
-unfolding marks_to scan pick settle_of version_count same_object committed has_commit knows same_stamp lt
+unfolding scan pick settle_of version_count same_object committed has_commit knows same_stamp lt
 first-final = refl
 
 second-final : value_of (last_put later_run (object 1 2)) ≡ int 5
-unfolding marks_to scan pick settle_of version_count same_object committed has_commit knows same_stamp lt
+unfolding scan pick settle_of version_count same_object committed has_commit knows same_stamp lt
 second-final = refl
 
 -- ---- the three acts, told by the logs as they stand
@@ -158,11 +158,11 @@ abbrev older_run : RunLogs
 older_run = booked_of scripts (plan 2 1 2) (λ n. pick_log n.kind n.number (at_one three) (at_two writers []))
 
 on-finals : value_of (last_put on_run (object 1 1)) ≡ int 9
-unfolding marks_to scan pick settle_of version_count same_object committed has_commit knows same_stamp lt
+unfolding scan pick settle_of version_count same_object committed has_commit knows same_stamp lt
 on-finals = refl
 
 older-finals : value_of (last_put older_run (object 1 1)) ≡ int 2
-unfolding marks_to scan pick settle_of version_count same_object committed has_commit knows same_stamp lt
+unfolding scan pick settle_of version_count same_object committed has_commit knows same_stamp lt
 older-finals = refl
 
 pub not-older-finals : value_of (last_put older_run (object 1 1)) ≡ value_of (last_put on_run (object 1 1)) → ⊥

@@ -10,7 +10,7 @@ use Rattle.object_history.specs.declared.marks.Mark.{Mark}
 use Rattle.object_history.specs.History.{floor_of, settle_of}
 use Rattle.object_history.specs.Views.{HasPut}
 use Rattle.object_retirement.specs.Stood.{has_start}
-use Rattle.repository_log.specs.Logs.{marks}
+use Rattle.repository_core.specs.Logs.{marks}
 use Rattle.serial_model.specs.Questions.{talked}
 use Rattle.world_core.specs.Deeds.{RunLogs, Try, Version, committed, lines_written, marks_at, written}
 

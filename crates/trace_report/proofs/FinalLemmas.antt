@@ -15,7 +15,7 @@ use Rattle.pseudo_time.specs.Order.{lt}
 use Rattle.value_form.specs.declared.objects.ObjectId.{ObjectId}
 use Rattle.value_form.specs.declared.values.Value.{Value}
 use Rattle.value_form.specs.declared.values.Value.TheVariants.{Nothing}
-use Rattle.value_form.specs.Objects.{Objects, object_cmp, value_at}
+use Rattle.value_form.specs.Objects.{object_cmp, value_at}
 use Rattle.value_form.proofs.ObjectLemmas.{object_cmp-total, object_cmp-exact}
 use Rattle.effect_form.specs.declared.effects.Effect.{Effect}
 use Rattle.effect_form.specs.declared.effects.Effect.TheVariants as effect
@@ -28,7 +28,6 @@ use Rattle.object_history.proofs.ObjectLemmas.{same_object-is}
 use Rattle.repository_log.specs.Logs.{mark_of}
 use Rattle.serial_model.proofs.MapLemmas.{rising_entries}
 use Rattle.world_core.specs.Deeds.{RunLogs, committed}
-use Rattle.report_writer.specs.declared.records.Final.{Final}
 use Rattle.trace_report.specs.declared.last_versions.Last.{Last}
 use Rattle.trace_report.specs.declared.last_versions.LastVersions.{LastVersions}
 use Rattle.trace_report.specs.Finals.{all_marks, holding, last_put, last_values}
@@ -80,41 +79,43 @@ module _ (k : RunLogs) (m : List Mark) where
   -- one that isn't committed
   pub put-out : (d : LastVersions) (o : ObjectId) (x : TimeParts) (v : Value) → committed k x.stamp ≡ false → AreLast k m d → AreLast k (Put o x v ∷ m) d
   unfolding scan
-  put-out d o x v c h q = h q ∙ ap (option_map seen_parts) (sym (pick-out (same_object o q && committed k x.stamp) (put x v q) (found q) (and-out (same_object o q) (committed k x.stamp) c)))
+  put-out d o x v c h = record { each = λ q. h.each q ∙ ap (option_map seen_parts) (sym (pick-out (same_object o q && committed k x.stamp) (put x v q) (found q) (and-out (same_object o q) (committed k x.stamp) c))) }
 
   -- the version that is known starts above it, or doesn't
   known-above : (d : LastVersions) (q : ObjectId) (x : TimeParts) → AreLast k m d → is_above (last_at d.versions.entries q) x ≡ starts_above (found q) x
-  known-above d q x h = last-above (last_at d.versions.entries q) x ∙ ap (λ p. parts_above p x) (h q) ∙ sym (seen-above (found q) x)
+  known-above d q x h = last-above (last_at d.versions.entries q) x ∙ ap (λ p. parts_above p x) (h.each q) ∙ sym (seen-above (found q) x)
 
   pub put-below : (d : LastVersions) (o : ObjectId) (x : TimeParts) (v : Value) → is_above (last_at d.versions.entries o) x ≡ true → AreLast k m d → AreLast k (Put o x v ∷ m) d
   unfolding scan
-  put-below d o x v above h q = h q ∙ ap (option_map seen_parts) (sym (same (same_object o q) refl))
+  put-below d o x v above h = record { each = λ q. h.each q ∙ ap (option_map seen_parts) (sym (same q (same_object o q) refl)) }
     where
-      same : (b : Bool) → same_object o q ≡ b → pick (b && committed k x.stamp) (put x v q) (found q) ≡ found q
-      same true e = pick-above (committed k x.stamp) (put x v q) (found q) (sym (known-above d q x h) ∙ ap (λ p. is_above (last_at d.versions.entries p) x) (sym (same_object-is o q e)) ∙ above)
-      same false e = pick-out false (put x v q) (found q) refl
+      same : (q : ObjectId) (b : Bool) → same_object o q ≡ b → pick (b && committed k x.stamp) (put x v q) (found q) ≡ found q
+      same q true e = pick-above (committed k x.stamp) (put x v q) (found q) (sym (known-above d q x h) ∙ ap (λ p. is_above (last_at d.versions.entries p) x) (sym (same_object-is o q e)) ∙ above)
+      same q false e = pick-out false (put x v q) (found q) refl
 
   pub put-in : (d new : LastVersions) (o : ObjectId) (x : TimeParts) (v : Value) (l : Last) → committed k x.stamp ≡ true → is_above (last_at d.versions.entries o) x ≡ false → l.start ≡ x → l.value ≡ v →
       ((q : ObjectId) → last_at new.versions.entries q ≡ cond (is_at (object_cmp o) q) (Some l) (last_at d.versions.entries q)) → AreLast k m d → AreLast k (Put o x v ∷ m) new
   unfolding scan same_object
-  put-in d new o x v l c low start value puts h q = ap (option_map last_parts) (puts q) ∙ same (is_eq (object_cmp o q)) refl
+  put-in d new o x v l c low start value puts h = record { each = λ q. ap (option_map last_parts) (puts q) ∙ same q (is_eq (object_cmp o q)) refl }
     where
-      same : (b : Bool) → is_eq (object_cmp o q) ≡ b → option_map last_parts (cond b (Some l) (last_at d.versions.entries q)) ≡ option_map seen_parts (pick (b && committed k x.stamp) (put x v q) (found q))
-      same true e = (λ i. Some (start i, value i)) ∙ ap (option_map seen_parts) (sym (pick-in (committed k x.stamp) (put x v q) (found q) c
-          (sym (known-above d q x h) ∙ ap (λ p. is_above (last_at d.versions.entries p) x) (sym (object_is e)) ∙ low)))
-        where
-          object_is : is_eq (object_cmp o q) ≡ true → o ≡ q
-          object_is s = same_object-is o q s
-      same false e = h q ∙ ap (option_map seen_parts) (sym (pick-out false (put x v q) (found q) refl))
+      same : (q : ObjectId) (b : Bool) → is_eq (object_cmp o q) ≡ b → option_map last_parts (cond b (Some l) (last_at d.versions.entries q)) ≡ option_map seen_parts (pick (b && committed k x.stamp) (put x v q) (found q))
+      same q true e = (λ i. Some (start i, value i)) ∙ ap (option_map seen_parts) (sym (pick-in (committed k x.stamp) (put x v q) (found q) c
+          (sym (known-above d q x h) ∙ ap (λ p. is_above (last_at d.versions.entries p) x) (sym (same_object-is o q e)) ∙ low)))
+      same q false e = h.each q ∙ ap (option_map seen_parts) (sym (pick-out false (put x v q) (found q) refl))
+
+-- nothing was read
+pub last-none : (k : RunLogs) (d : LastVersions) → d.versions.entries ≡ [] → AreLast k [] d
+unfolding scan
+last-none k d e = record { each = λ o. ap (λ es. option_map last_parts (last_at es o)) e }
 
 -- an effect that isn't a put
 pub other-effect : (k : RunLogs) (m : List Mark) (d : LastVersions) (f : Effect) → ((o : ObjectId) (x : TimeParts) (v : Value) → f ≡ effect.Put o x v → ⊥) → AreLast k m d → AreLast k (option_to_list (mark_of f) ++ m) d
 unfolding scan
 other-effect k m d (effect.Put o x v) other h = absurd (other o x v refl)
-other-effect k m d (effect.Stretch o x) other h = h
-other-effect k m d (effect.Decide s e) other h = h
-other-effect k m d (effect.Learn s c) other h = h
-other-effect k m d (effect.Mark at) other h = h
+other-effect k m d (effect.Stretch o x) other h = record { each = h.each }
+other-effect k m d (effect.Decide s e) other h = record { each = h.each }
+other-effect k m d (effect.Learn s c) other h = record { each = h.each }
+other-effect k m d (effect.Mark at) other h = record { each = h.each }
 other-effect k m d f other h = h
 
 -- ---- what objects hold
@@ -129,34 +130,29 @@ module _ (ok : StampParts → Bool) (held : ObjectId → Value) where
   picked-same true o p (Some q) e = refl
 
   pub held-at : (m : List Mark) (o : ObjectId) → finite.get (holding ok held m) o ≡ holds_at o (scan (λ x. ok x.stamp) o m)
-  unfolding holding scan
+  unfolding holding scan pick same_object
   held-at [] o = finite.get-empty object_cmp o
   held-at (Put a x v ∷ m) o = put (ok x.stamp) refl (held-at m o)
     where
-      abbrev below : Option Seen
-      below = scan (λ y. ok y.stamp) o m
+      equal : (r : Ordering) → is_eq r ≡ true → r ≡ Equal
+      equal Less k = absurd (false≢true k)
+      equal Equal k = refl
+      equal Greater k = absurd (false≢true k)
 
-      abbrev this : Seen
-      this = record { place = version_count o m; start = x; value = v }
-
-      entry : (b : Bool) → is_eq (object_cmp o a) ≡ b → finite.get (holding ok held m) o ≡ holds_at o below → cond b (Some (held a)) (finite.get (holding ok held m) o) ≡ holds_at o (pick (b && true) this below)
-      unfolding pick
-      entry true e rest = ap (λ z. Some (held z)) (sym (object_cmp-exact o a (equal (object_cmp o a) e))) ∙ sym (picked-same (starts_above below x) o this below refl)
-        where
-          equal : (r : Ordering) → is_eq r ≡ true → r ≡ Equal
-          equal Less k = absurd (false≢true k)
-          equal Equal k = refl
-          equal Greater k = absurd (false≢true k)
+      entry : (b : Bool) → is_eq (object_cmp o a) ≡ b → finite.get (holding ok held m) o ≡ holds_at o (scan (λ y. ok y.stamp) o m) →
+          cond b (Some (held a)) (finite.get (holding ok held m) o) ≡ holds_at o (pick (b && true) (record { place = version_count o m; start = x; value = v }) (scan (λ y. ok y.stamp) o m))
+      entry true e rest =
+          ap (λ z. Some (held z)) (sym (object_cmp-exact o a (equal (object_cmp o a) e)))
+          ∙ sym (picked-same (starts_above (scan (λ y. ok y.stamp) o m) x) o (record { place = version_count o m; start = x; value = v }) (scan (λ y. ok y.stamp) o m) refl)
       entry false e rest = rest
 
-      put : (c : Bool) → ok x.stamp ≡ c → finite.get (holding ok held m) o ≡ holds_at o below →
-          finite.get (if c then finite.insert (holding ok held m) a (held a) else holding ok held m) o ≡ holds_at o (pick (same_object a o && c) this below)
-      unfolding same_object
+      put : (c : Bool) → ok x.stamp ≡ c → finite.get (holding ok held m) o ≡ holds_at o (scan (λ y. ok y.stamp) o m) →
+          finite.get (if c then finite.insert (holding ok held m) a (held a) else holding ok held m) o ≡ holds_at o (pick (same_object a o && c) (record { place = version_count o m; start = x; value = v }) (scan (λ y. ok y.stamp) o m))
       put true e rest =
           finite.get-insert object_cmp-total (holding ok held m) a (held a) o
           ∙ entry (is_eq (object_cmp o a)) refl rest
-          ∙ ap (λ b. holds_at o (pick (b && true) this below)) ((eq_by_cmp_equiv object_cmp-total).symm o a)
-      put false e rest = rest ∙ ap (holds_at o) (sym (pick-out (same_object a o && false) this below (and-out (same_object a o) false refl)))
+          ∙ ap (λ b. holds_at o (pick (b && true) (record { place = version_count o m; start = x; value = v }) (scan (λ y. ok y.stamp) o m))) ((eq_by_cmp_equiv object_cmp-total).symm o a)
+      put false e rest = rest ∙ ap (holds_at o) (sym (pick-out (same_object a o && false) (record { place = version_count o m; start = x; value = v }) (scan (λ y. ok y.stamp) o m) (and-out (same_object a o) false refl)))
   held-at (Stretch a x ∷ m) o = held-at m o
   held-at (Settle s c ∷ m) o = held-at m o
   held-at (Floor z ∷ m) o = held-at m o
@@ -216,4 +212,4 @@ finals-are k d h rising =
     same-finals es
     ∙ ap (map final_of) (rising_entries (map held_by es) (map held_by es) (last_values k) refl (subst (IsStrictlySortedBy object_cmp) (sym (same-keys es)) rising)
     (finite.same_map object_cmp-total object_cmp-exact (finite.from_entries (map held_by es)) (last_values k)
-    (λ q. finite.get-from_entries object_cmp-total (map held_by es) q ∙ find-held es q ∙ parts-value (last_at es q) (last_put k q) (h q) ∙ sym (last-get k q))))
+    (λ q. finite.get-from_entries object_cmp-total (map held_by es) q ∙ find-held es q ∙ parts-value (last_at es q) (last_put k q) (h.each q) ∙ sym (last-get k q))))

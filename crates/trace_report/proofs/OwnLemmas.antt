@@ -5,7 +5,7 @@ use Rattle.std.proofs.lemmas.Bool.{eqb-true}
 use Rattle.pseudo_time.specs.declared.nodes.NodeId.{NodeId}
 use Rattle.pseudo_time.specs.Nodes.{broker}
 use Rattle.pseudo_time.specs.Lists.{Every, Has}
-use Rattle.pseudo_time.proofs.ListLemmas.{every-map, every-append, every-has}
+use Rattle.pseudo_time.proofs.ListLemmas.{every-has}
 use Rattle.value_form.specs.declared.acts.ActSpec.{ActSpec}
 use Rattle.value_form.specs.Mirror.{block}
 use Rattle.value_form.specs.Ranges.{IsScript}
@@ -24,8 +24,6 @@ use Rattle.broker_core.proofs.SoundLemmas.{sound-kept}
 use Rattle.world_core.specs.Nodes.{acts_of}
 use Rattle.world_core.proofs.OneReading.{own-reading}
 use Rattle.trace_report.specs.Acts.{begun_acts, counted_by, tasks_of}
-use Rattle.trace_report.specs.Books.{begun_to}
-use Rattle.broker_core.proofs.ShapeLemmas.{every-get}
 
 -- ---- places
 

@@ -12,7 +12,7 @@ use Rattle.repository_log.specs.Logs.{marks}
 use Rattle.world_core.specs.Deeds.{RunLogs, committed, log_of}
 
 -- the marks in the logs of repositories 1 to this number
-unfoldable pub marks_to : RunLogs → ℕ → List Mark
+abbrev pub marks_to : RunLogs → ℕ → List Mark
 marks_to k zero = []
 marks_to k (suc r) = marks (log_of k (suc r)) ++ marks_to k r
 

@@ -32,8 +32,8 @@ is_above None x = false
 is_above (Some l) x = lt x l.start
 
 -- of each object they have the committed put with the greatest start among these marks
-abbrev pub AreLast : RunLogs → List Mark → LastVersions → Type 0
-AreLast k m d = (o : ObjectId) → option_map last_parts (last_at d.versions.entries o) ≡ option_map seen_parts (scan (λ x. committed k x.stamp) o m)
+pub record AreLast (k : RunLogs) (m : List Mark) (d : LastVersions) : Type 0 where
+  pub each : (o : ObjectId) → option_map last_parts (last_at d.versions.entries o) ≡ option_map seen_parts (scan (λ x. committed k x.stamp) o m)
 
 -- the line of a final
 abbrev pub final_last : ObjectId × Last → Final

@@ -9,11 +9,7 @@ use std::alloc::{AllocError, Global};
 use world_core::Opened;
 
 /// What the objects hold by the logs of a run: the value of the committed version with the greatest start.
-pub fn finals_of(
-    alloc: Global,
-    plan: &Plan,
-    logs: &[Opened],
-) -> Result<Vec<Final>, AllocError>
+pub fn finals_of(alloc: Global, plan: &Plan, logs: &[Opened]) -> Result<Vec<Final>, AllocError>
     ensures { IfOk result (λ finals. finals.items ≡ finals_shown plan.now (logs_by logs.now)) }
 {
     let firsts = firsts_of(alloc, plan.repositories, logs)?;

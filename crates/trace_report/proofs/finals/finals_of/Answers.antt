@@ -1,0 +1,14 @@
+use Rattle.std.proofs.Common.{◌≡◌, refl, subst, sym}
+use Rattle.std.specs.Prelude.{IfOk}
+use Rattle.trace_report.specs.Decided.{AreDecided}
+use Rattle.trace_report.specs.Reports.{logs_by, run_over}
+use Rattle.trace_report.proofs.FinalLemmas.{finals-are}
+use Rattle.trace_report.proofs.finals.finals_of.Goals as goal
+
+pub returns : goal.returns
+returns c =
+    let run = run_over c.args.plan.now (logs_by c.args.logs.now) in
+    let decided = subst (AreDecided run) (sym c.as_slice.ensures.value) (c.in_ok-firsts.ensures run refl (λ n. refl)) in
+    subst (λ z. IfOk c.into_finals.result (λ finals. finals.items ≡ z))
+    (finals-are run c.add_logs.new.self (c.in_ok-add_logs.ensures run (λ n. refl) decided (c.new-last.ensures run)) c.into_finals.ensures.rising)
+    c.into_finals.ensures.items
