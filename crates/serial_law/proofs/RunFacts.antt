@@ -71,7 +71,8 @@ use Rattle.serial_law.proofs.WholeFacts.{its-all, its-chain, put-asked, put-whol
 use Rattle.serial_law.proofs.Premises.{asked-here}
 use Rattle.world_facts.proofs.Growths.{each-has, every-filter, every-at}
 use Rattle.world_facts.specs.Rules.{SomeOf}
-use Rattle.world_facts.proofs.AnswerLemmas.{all-kept, broker-post}
+use Rattle.world_facts.proofs.AnswerLemmas.{broker-post}
+use Rattle.world_facts.proofs.AnswerLemmas as answers
 use Rattle.world_facts.proofs.OldChains.{some-history, some-log}
 
 -- ---- lists
@@ -186,7 +187,7 @@ module _ (script : List ℕ → Tree) (b : Base) (plan : Plan) (logs : NodeId �
 
   -- what was decided stays decided
   decided-there : (i : ℕ) (to : NodeId) (s : StampParts) (d : Decision) → Has (record { from = repository i; to = to; message = message.Decided s d }) ever → Has (effect.Decide s d) (log (repository i))
-  decided-there i to s d h = all-kept script b logs olds past sent May f (record { from = repository i; to = to; message = message.Decided s d }) h
+  decided-there i to s d h = answers.all-kept script b logs olds past sent May f (record { from = repository i; to = to; message = message.Decided s d }) h
 
   decided-said : (s : StampParts) (d : Decision) → Said ever (message.Decided s d) → Has (effect.Decide s d) (log (repository s.home))
   decided-said s d h = let r = of-said ever (message.Decided s d) h in by r.0.from.kind r.0.from.number r.0.to (subst (λ x. Has (record { from = r.0.from; to = r.0.to; message = x }) ever) r.2 r.1)
@@ -298,7 +299,7 @@ module _ (script : List ℕ → Tree) (b : Base) (plan : Plan) (logs : NodeId �
 
   -- an effect that isn't a Put stands in the whole log where it stands in the log itself
   other : (r : ℕ) (e : Effect) → (IsPut e → ⊥) → Has e (whole_log (before (repository r)) (log (repository r))) → Has e (log (repository r))
-  other r e no h = other-whole (before (repository r)) (log (repository r)) e no h
+  other r e isnt h = other-whole (before (repository r)) (log (repository r)) e isnt h
 
   also : (r : ℕ) (e : Effect) → Has e (log (repository r)) → Has e (whole_log (before (repository r)) (log (repository r)))
   also r e h = whole-has (before (repository r)) (log (repository r)) e h

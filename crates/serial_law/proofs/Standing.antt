@@ -169,13 +169,13 @@ module _ (olds : NodeId → List (List Effect)) (k : RunLogs) (ever : List Post)
   sure x = committed k x.stamp
 
   lacks-append : (o : ObjectId) (m more : List Mark) → Lacks o m → Lacks o more → Lacks o (m ++ more)
-  lacks-append o [] more l n = n
+  lacks-append o [] more l n x v h = n x v h
   lacks-append o (g ∷ m) more l n x v (inl e) = l x v (inl e)
   lacks-append o (g ∷ m) more l n x v (inr h) = lacks-append o m more (λ y w j. l y w (inr j)) n x v h
 
   -- the logs of other repositories have no put of the object
   lacks-to : (o : ObjectId) (n : ℕ) → n ≤ k.repositories → ((r : ℕ) → 1 ≤ r → r ≤ n → o.repository ≡ r → ⊥) → Lacks o (marks_to k n)
-  lacks-to o zero le other x v h = h
+  lacks-to o zero le other = λ x v h. h
   lacks-to o (suc n) le other =
       lacks-append o (marks (log_of k (suc n))) (marks_to k n) (own-put (suc n) o (in-both k (suc n) (omega arith) le) (other (suc n) (omega arith) (omega arith)))
       (lacks-to o n (omega (arith, le)) (λ r low high. other r low (omega (arith, high))))
@@ -183,15 +183,15 @@ module _ (olds : NodeId → List (List Effect)) (k : RunLogs) (ever : List Post)
   -- so its last put stands in the log of its own one
   last-own : (o : ObjectId) (n : ℕ) → n ≤ k.repositories → 1 ≤ o.repository → o.repository ≤ n → scan sure o (marks_to k n) ≡ scan sure o (marks (log_of k o.repository))
   last-own o zero le low high = absurd (omega (arith, low, high))
-  last-own o (suc n) le low high = by (le-cases o.repository n high)
+  last-own o (suc n) le low high = by (le-cases o.repository n high) (λ h. last-own o n (omega (arith, le)) low h)
     where
-      by : (o.repository ≡ suc n) ⊎ (o.repository ≤ n) → scan sure o (marks (log_of k (suc n)) ++ marks_to k n) ≡ scan sure o (marks (log_of k o.repository))
-      by (inl e) =
+      by : (o.repository ≡ suc n) ⊎ (o.repository ≤ n) → (o.repository ≤ n → scan sure o (marks_to k n) ≡ scan sure o (marks (log_of k o.repository))) → scan sure o (marks (log_of k (suc n)) ++ marks_to k n) ≡ scan sure o (marks (log_of k o.repository))
+      by (inl e) rest =
           scan-over o sure (marks (log_of k (suc n))) (marks_to k n) (lacks-to o n (omega (arith, le)) (λ r rl rh same. absurd (omega (arith, rh, same, e))))
           ∙ ap (λ r. scan sure o (marks (log_of k r))) (sym e)
-      by (inr h) =
+      by (inr h) rest =
           scan-lacking o sure (marks (log_of k (suc n))) (marks_to k n) (own-put (suc n) o (in-both k (suc n) (omega arith) le) (λ same. absurd (omega (arith, h, same))))
-          ∙ last-own o n (omega (arith, le)) low h
+          ∙ rest h
 
   module _ (same : (r : ℕ) (o : ObjectId) → in_run k r ≡ true → Same (scan sure o (marks (log_of k r))) (scan sure o (marks (log_of all r)))) where
     outside : (o : ObjectId) → in_run k o.repository ≡ false → marks_at all o ≡ []
@@ -199,6 +199,7 @@ module _ (olds : NodeId → List (List Effect)) (k : RunLogs) (ever : List Post)
     outside o e = ap (λ b. if b then marks (log_of all o.repository) else []) e
 
     last-all : (o : ObjectId) (b : Bool) → in_run k o.repository ≡ b → value_of (last_put k o) ≡ value_of (scan sure o (marks_at all o))
+    unfolding scan
     last-all o true e =
         ap value_of (last-own o k.repositories (omega arith) (in-low k o.repository e) (in-high k o.repository e))
         ∙ same-value (scan sure o (marks (log_of k o.repository))) (scan sure o (marks (log_of all o.repository))) (same o.repository o e)

@@ -1,5 +1,5 @@
 -- The laws of legal traces, from the facts of their logs and messages.
-use Rattle.std.proofs.Common.{◌≡◌, inl, inr, ℕ, Bool, ◌≤◌, true, List, [], ◌∷◌, ◌++◌, map, reverse, refl, ◌∙◌, subst, is_some, nat_le}
+use Rattle.std.proofs.Common.{◌≡◌, inl, inr, ℕ, Bool, ◌≤◌, true, List, [], ◌∷◌, ◌++◌, map, reverse, refl, sym, ◌∙◌, subst, is_some, nat_le}
 use Rattle.std.proofs.lemmas.Bool.{le-leb}
 use Rattle.pseudo_time.specs.Lists.{Every, Has}
 use Rattle.pseudo_time.specs.StampParts.{StampParts}
@@ -128,7 +128,7 @@ module _ (p : Position) where
       one x s (inl z) =
           inl (z.0, z.1, (subst (λ j. Has (record { from = broker x.stamp.broker; to = repository j; message = message.Write x z.0 z.1 }) (sent_by (walk b es))) z.2 (write-sent b es x z.0 z.1 s z.3), z.2), z.3)
       one x s (inr z) =
-          inr (z.0, z.1, sym z.2, (subst (λ j. Has (record { from = broker x.stamp.broker; to = repository j; message = message.Read x z.0 }) (sent_by (walk b es))) z.3 (read-sent b es x z.0 z.1 z.4), z.3), z.4)
+          inr (z.0, z.1, z.2, (subst (λ j. Has (record { from = broker x.stamp.broker; to = repository j; message = message.Read x z.0 }) (sent_by (walk b es))) z.3 (read-sent b es x z.0 z.1 z.4), z.3), z.4)
 
   -- in the calls of a past
   abbrev answered_in : List Earlier → Answers

@@ -83,6 +83,6 @@ module _ (script : List ℕ → Tree) (b : Base) (logs : NodeId → List Effect)
   -- the last committed version is the same among all
   pub same-last : (o : ObjectId) (sure : StampParts → Bool) → ((s : StampParts) → settle_of (marks now) s ≡ Some false → sure s ≡ false) → ((s : StampParts) → settle_of (marks now) s ≡ Some true → sure s ≡ true) →
       Same (scan (λ x. sure x.stamp) o (marks now)) (scan (λ x. sure x.stamp) o (marks (whole_log gone now)))
-  same-last o sure no yes =
+  same-last o sure dead alive =
       subst (λ (m : List Mark). Same (scan (λ x. sure x.stamp) o (marks now)) (scan (λ x. sure x.stamp) o m)) (sym (marks-whole gone now))
-      (last-stays (map marks gone) (marks now) (all_stood (map marks gone) (marks now)) o its-chain (its-all o) sure no yes)
+      (last-stays (map marks gone) (marks now) (all_stood (map marks gone) (marks now)) o its-chain (its-all o) sure dead alive)

@@ -136,11 +136,7 @@ unfloored = booked_of scripts (plan 1 1 1) (λ n. pick_log n.kind n.number (at_o
 
 not-unfloored : PutsStand unfloored wrote_one → ⊥
 unfolding lines_written marks_at puts_to puts_of put_in floor_of settle_of same_stamp lt
-not-unfloored s = by s.puts.0
-  where
-    by : _ → ⊥
-    by (inl h) = h
-    by (inr g) = absurd (cc g.1)
+not-unfloored s = elim s.puts.0 [ inl h ↦ h | inr g ↦ absurd (cc g.1) ]
 
 -- a put that is no line of the attempt
 abbrev other_put : RunLogs
