@@ -429,11 +429,16 @@ module _ (script : List ℕ → Tree) (b : Base) (plan : Plan) (logs : NodeId �
         let r : p ≡ o = is-write i o p v w sent stands in
         let q : t.0 ≡ o = is-write i o t.0 v t.1 t.2 stands in
         let there = stretched-in i p e l k (once-read l p time e w once) in
-        subst (λ y. HasReason run before happened mine-try (outcome.LaterRead y e)) q
-        (less, inl (t.1, asked-write i t.0 t.1 t.2,
-          subst (λ y. HasStood run before y.repository (effect.Stretch y e) ⊎ HasStood run before y.repository (effect.Mark e)) (r ∙ sym q)
-              (subst (λ j. HasStood run before j (effect.Stretch p e) ⊎ HasStood run before j (effect.Mark e)) (sym sent.1) there),
-          t.3))
+        subst (λ y. HasReason run before happened mine-try (outcome.LaterRead y e)) q (
+          less,
+          inl (
+            t.1,
+            asked-write i t.0 t.1 t.2,
+            subst (λ y. HasStood run before y.repository (effect.Stretch y e) ⊎ HasStood run before y.repository (effect.Mark e)) (r ∙ sym q)
+                (subst (λ j. HasStood run before j (effect.Stretch p e) ⊎ HasStood run before j (effect.Mark e)) (sym sent.1) there),
+            t.3,
+          ),
+        )
 
     -- a read that was
     read-refused : (i : ℕ) (o p : ObjectId) (e : TimeParts) (l : List Effect) → Has l (all_logs i) → lt time e ≡ true → Stands (ToRead o) → repositories.ReadSent ever i time p →
@@ -444,10 +449,14 @@ module _ (script : List ℕ → Tree) (b : Base) (plan : Plan) (logs : NodeId �
         let q : t.0 ≡ o = is-read i o t.0 t.3 stands in
         let end : t.1 ≡ e = cc (sym t.2) in
         let there = stood-in i (effect.Mark e) l k (once-refused l p time e once) in
-        subst (λ y. HasReason run before happened mine-try (outcome.LaterRead y e)) q
-        (less, inr (asked-read i t.0 t.3,
-          subst (λ y. HasStood run before y.repository (effect.Mark e)) (r ∙ sym q) (subst (λ j. HasStood run before j (effect.Mark e)) (sym sent.1) there),
-          subst (λ z. Refused time t.0 z) end t.4))
+        subst (λ y. HasReason run before happened mine-try (outcome.LaterRead y e)) q (
+          less,
+          inr (
+            asked-read i t.0 t.3,
+            subst (λ y. HasStood run before y.repository (effect.Mark e)) (r ∙ sym q) (subst (λ j. HasStood run before j (effect.Mark e)) (sym sent.1) there),
+            subst (λ z. Refused time t.0 z) end t.4,
+          ),
+        )
 
     refused-by : (i : ℕ) (o p : ObjectId) (e : TimeParts) (l : List Effect) → Has l (all_logs i) → lt time e ≡ true → Stands (ToRead o) ⊎ ((v : Value) × Stands (ToWrite o v)) → repositories.WasReadLater ever i l p time e →
         ToldRequest ever i Answered Refused time (write.LaterRead e) → HasReason run before happened mine-try (outcome.LaterRead o e)
@@ -474,10 +483,13 @@ module _ (script : List ℕ → Tree) (b : Base) (plan : Plan) (logs : NodeId �
             let q : t.0 ≡ o = is-write i o t.0 asks-it.0 t.1 t.2 asks-it.1 in
             let once = once-version p.0 p.2.0 time x p.2.1 p.2.4 in
             let there = stood-in i (effect.Put p.2.0 x once.0) p.0 p.1 once.1 in
-            subst (λ y. HasReason run before happened mine-try (outcome.LaterVersion y x)) q
-            (t.1, asked-write i t.0 t.1 t.2, p.2.3,
+            subst (λ y. HasReason run before happened mine-try (outcome.LaterVersion y x)) q (
+              t.1,
+              asked-write i t.0 t.1 t.2,
+              p.2.3,
               (once.0, subst (λ y. HasStood run before y.repository (effect.Put y x once.0)) (r ∙ sym q) (subst (λ j. HasStood run before j (effect.Put p.2.0 x once.0)) (sym p.2.2.1) there)),
-              t.3)
+              t.3,
+            )
 
     try-cause : (o : Outcome) → m.try.end ≡ Some o → HasReason run before happened mine-try o
     try-cause outcome.Committed e = decided-said m.try.stamp decision.Committed (came m.number _ ((its-proof a m).ends outcome.Committed e))

@@ -1,5 +1,5 @@
 -- What the top call promises of serial runs, from the law of serial runs.
-use Rattle.std.proofs.Common.{◌≡◌, ◌⊎◌, inl, inr, ℕ, zero, suc, ◌≤◌, ◌==◌, nat_le, Bool, true, false, ◌&&◌, List, [], ◌∷◌, ◌++◌, append-nil, length, map, refl, sym, ◌∙◌, ap, subst, if◌then◌else◌, arith}
+use Rattle.std.proofs.Common.{◌≡◌, ℕ, zero, suc, ◌≤◌, ◌==◌, nat_le, Bool, true, false, ◌&&◌, List, [], ◌∷◌, ◌++◌, append-nil, length, map, refl, sym, ◌∙◌, ap, subst, if◌then◌else◌, arith}
 use Rattle.std.proofs.lemmas.Bool.{eqb-true, le-leb}
 use Rattle.std.specs.Prelude.{reverse}
 use Rattle.pseudo_time.specs.Lists.{Every}
@@ -16,9 +16,9 @@ use Rattle.broker_core.specs.Book.{Book, Act, tries_of}
 use Rattle.broker_core.specs.Sound.{Started, OfAct}
 use Rattle.world_core.specs.declared.traces.Trace.{Trace}
 use Rattle.world_core.specs.Nodes.{acts_of}
-use Rattle.world_core.specs.Walks.{World, step, start_world}
+use Rattle.world_core.specs.Walks.{World, start_world}
 use Rattle.world_core.specs.Legal.{base_of, in_plan}
-use Rattle.world_core.specs.Deeds.{RunLogs, Try, attempt, book_tries, finals, run_tries}
+use Rattle.world_core.specs.Deeds.{Try, attempt, book_tries, finals, run_tries}
 use Rattle.pseudo_time.specs.Nodes.{broker, repository}
 use Rattle.broker_core.specs.Readings.{reading}
 use Rattle.broker_core.specs.Counted.{counted}

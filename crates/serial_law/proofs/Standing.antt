@@ -21,16 +21,16 @@ use Rattle.object_history.proofs.ObjectLemmas.{same_object-is}
 use Rattle.object_retirement.specs.Older.{Gone}
 use Rattle.object_retirement.specs.Retired.{Same}
 use Rattle.repository_core.specs.Logs.{marks}
-use Rattle.world_core.specs.Deeds.{RunLogs, Try, Version, committed, finals, in_run, log_of, marks_at, puts_to, written}
+use Rattle.world_core.specs.Deeds.{RunLogs, Try, Version, committed, finals, in_run, log_of, marks_at, written}
 use Rattle.trace_report.specs.Finals.{all_marks, last_put, last_values, marks_to}
 use Rattle.trace_report.proofs.FinalLemmas.{last-value}
 use Rattle.serial_law.specs.Facts.{RunFacts}
-use Rattle.serial_law.specs.Wholes.{KeepsPuts, PutsStand, WasGivenUp, whole_run, wrote}
+use Rattle.serial_law.specs.Wholes.{KeepsPuts, WasGivenUp, whole_run, wrote}
 use Rattle.serial_law.proofs.Before.{finals-hold}
-use Rattle.serial_law.proofs.Given.{In, Of, in-to, to-in}
+use Rattle.serial_law.proofs.Given.{In, in-to, to-in}
 use Rattle.serial_law.proofs.Lines.{puts-are-lines}
 use Rattle.serial_law.proofs.LogLemmas.{in-both, in-high, in-low, le-cases, marks-in, marks-put, put-marks}
-use Rattle.serial_law.proofs.Puts.{PutAt, put-stands, stands-put}
+use Rattle.serial_law.proofs.Puts.{PutAt, put-stands}
 use Rattle.serial_law.proofs.Settled.{sure-no, sure-yes}
 use Rattle.serial_law.proofs.WholeLemmas.{committed-whole, settle-whole, whole-has}
 

@@ -1,5 +1,5 @@
 -- The laws of legal traces, from the facts of their logs and messages.
-use Rattle.std.proofs.Common.{◌≡◌, inl, inr, ℕ, Bool, ◌≤◌, true, List, [], ◌∷◌, ◌++◌, map, reverse, refl, sym, ◌∙◌, subst, is_some, nat_le}
+use Rattle.std.proofs.Common.{◌≡◌, inl, inr, ℕ, Bool, ◌≤◌, true, List, [], ◌∷◌, ◌++◌, map, reverse, refl, ◌∙◌, subst, is_some, nat_le}
 use Rattle.std.proofs.lemmas.Bool.{le-leb}
 use Rattle.pseudo_time.specs.Lists.{Every, Has}
 use Rattle.pseudo_time.specs.StampParts.{StampParts}

@@ -1,14 +1,9 @@
 -- A log with all versions that ever stood has the marks that its histories tell, and says of attempts what the log itself says.
-use Rattle.std.proofs.Common.{◌≡◌, ℕ, zero, suc, Bool, true, false, List, [], ◌∷◌, map, refl, sym, ◌∙◌, ap, subst, ◌⊎◌, inl, inr, ◌||◌, ◌&&◌, not, if◌then◌else◌}
+use Rattle.std.proofs.Common.{◌≡◌, ℕ, zero, suc, Bool, true, false, List, [], ◌∷◌, map, refl, ◌∙◌, ap, subst, ◌⊎◌, inl, inr, ◌||◌, if◌then◌else◌}
 use Rattle.pseudo_time.specs.Lists.{Has}
 use Rattle.pseudo_time.specs.Nodes.{repository}
-use Rattle.pseudo_time.specs.Order.{same_stamp}
 use Rattle.pseudo_time.specs.StampParts.{StampParts}
-use Rattle.pseudo_time.specs.TimeParts.{TimeParts}
-use Rattle.pseudo_time.specs.declared.decisions.Decision.TheVariants as decision
 use Rattle.pseudo_time.specs.declared.nodes.NodeId.{NodeId}
-use Rattle.value_form.specs.declared.objects.ObjectId.{ObjectId}
-use Rattle.value_form.specs.declared.values.Value.{Value}
 use Rattle.effect_form.specs.declared.effects.Effect.{Effect}
 use Rattle.effect_form.specs.declared.effects.Effect.TheVariants.{Put, Stretch, Begin, Decide, Learn}
 use Rattle.effect_form.specs.declared.effects.Effect.TheVariants as effect
@@ -96,9 +91,9 @@ pub has-whole : (olds : List (List Effect)) (log : List Effect) (f : Effect) →
 has-whole [] log f h = inl h
 has-whole (old ∷ olds) log f h = elim (has-with (whole_log olds log) old f h) [
   | inl k ↦ elim (has-whole olds log f k) [
-      | inl j ↦ inl j
-      | inr j ↦ inr ((j.0.0, inr j.0.1, j.0.2), j.1)
-    ]
+    | inl j ↦ inl j
+    | inr j ↦ inr ((j.0.0, inr j.0.1, j.0.2), j.1)
+  ]
   | inr k ↦ inr ((old, inl refl, k.0), k.1)
 ]
 

@@ -1,5 +1,5 @@
 -- Three acts, a retirement, and a run after it, worked by hand: the definitions compute what they come to. Logs stand newest first.
-use Rattle.std.proofs.Common.{◌≡◌, ℕ, true, false, List, [], ◌∷◌, refl, sym, ◌∙◌, ap, Some, inl, inr, ◌==◌, if◌then◌else◌}
+use Rattle.std.proofs.Common.{◌≡◌, ℕ, List, [], ◌∷◌, refl, sym, ◌∙◌, Some, inl, inr, ◌==◌, if◌then◌else◌}
 use Rattle.std.specs.FinMap as finite
 use Rattle.pseudo_time.specs.Order.{same_stamp, same_time, stamp_lt, lt}
 use Rattle.pseudo_time.specs.declared.decisions.Decision.TheVariants as decision
@@ -7,7 +7,6 @@ use Rattle.pseudo_time.specs.declared.nodes.NodeId.{NodeId}
 use Rattle.pseudo_time.specs.declared.nodes.NodeKind.{NodeKind}
 use Rattle.pseudo_time.specs.declared.nodes.NodeKind.TheVariants.{Repository, Broker}
 use Rattle.value_form.specs.declared.endings.Ending.TheVariants as ending
-use Rattle.value_form.specs.Objects.{Objects, value_at}
 use Rattle.effect_form.specs.declared.effects.Effect.{Effect}
 use Rattle.effect_form.specs.declared.effects.Effect.TheVariants as effect
 use Rattle.effect_form.specs.declared.outcomes.Outcome.TheVariants as outcome
@@ -20,7 +19,7 @@ use Rattle.repository_core.specs.Logs.{knows}
 use Rattle.script_meaning.specs.Meaning.{Got, Stored}
 use Rattle.serial_model.specs.Questions.{Tree, Ends, Reads, Writes}
 use Rattle.broker_core.specs.Book.{book}
-use Rattle.world_core.specs.Deeds.{Try, RunLogs, Version, some_of, has_commit, has_learned, committed, put_in, puts_of, puts_to, written, find, stamp_in, stamp_if, put_stamps, log_stamps, try_stamps, all_deeds, before, finals, lines_written, marks_at}
+use Rattle.world_core.specs.Deeds.{Try, RunLogs, Version, has_commit, committed, put_in, puts_of, puts_to, find, stamp_in, stamp_if, put_stamps, log_stamps, try_stamps, all_deeds, before, lines_written, marks_at}
 use Rattle.trace_report.specs.Finals.{last_put}
 use Rattle.serial_law.specs.Wholes.{PutsStand, whole_log, whole_run, with_puts, wrote}
 use Rattle.serial_law.proofs.Attempts.{booked_tries}
