@@ -186,7 +186,7 @@ in-to k s (suc n) v j =
       | inr h ↦ let w = in-to k s n v h in (w.0, w.1, (let le = w.2 in omega (arith, le)), w.3)
     ]
 
-to-in : (k : RunLogs) (s : StampParts) (n r : ℕ) (o : ObjectId) (x : TimeParts) (v : Value) → 1 ≤ r → r ≤ n → PutAt o x v (marks (log_of k r)) → x.stamp ≡ s →
+pub to-in : (k : RunLogs) (s : StampParts) (n r : ℕ) (o : ObjectId) (x : TimeParts) (v : Value) → 1 ≤ r → r ≤ n → PutAt o x v (marks (log_of k r)) → x.stamp ≡ s →
     In (puts_to k s n) (record { object = o; start = x; value = v })
 unfolding puts_to
 to-in k s zero r o x v h j p e = absurd (omega (arith, h, j))

@@ -22,9 +22,13 @@ pub mod SameRuns
 pub mod SerialRuns
 pub mod Settled
 pub mod Stamps
+pub mod Standing
 pub mod Talking
 pub mod Times
 pub mod Traces
+pub mod WholeFacts
+pub mod WholeLemmas
 pub mod WorkedRuns
+pub mod WorkedWholes
 pub use Rattle.world_facts.proofs.Growths
 pub use Rattle.world_facts.proofs.Ranges

@@ -9,10 +9,10 @@ use Rattle.object_history.specs.declared.marks.Mark.{Mark}
 use Rattle.serial_law.proofs.Own.{Kinds, Written, NoneWritten, LastWritten, own-map, fronts, longer, same-value, same-read, shorter, widen, front-short}
 use Rattle.serial_model.specs.Questions.{left_after}
 use Rattle.object_history.specs.History.{Seen, alive, is_alive, scan, settle_of}
-use Rattle.object_history.specs.Views.{Firm, Viewed, shows, views}
+use Rattle.object_history.specs.Views.{Firm, shows, views}
 use Rattle.pseudo_time.specs.Order.{lt, same_stamp, stamp_lt}
 use Rattle.script_meaning.specs.Meaning.{Answer, Got, Stored, ToRead, ToWrite}
-use Rattle.serial_law.specs.Facts.{asks, at}
+use Rattle.serial_law.specs.Facts.{Sees, asks, at}
 use Rattle.serial_law.specs.Serial.{HasValue}
 use Rattle.serial_model.specs.Questions.{Tree, after}
 use Rattle.value_form.specs.Objects.{Objects, value_at}
@@ -31,7 +31,7 @@ pub record Lone (t : Tree) (ans : List Answer) (s : StampParts) (marks : ObjectI
   pub yes : (o : ObjectId) (x : StampParts) → settle_of (marks o) x ≡ Some true → sure x ≡ true
   pub no : (o : ObjectId) (x : StampParts) → settle_of (marks o) x ≡ Some false → sure x ≡ false
   pub got : (pre post : List Answer) (v : Value) → ans ≡ pre ++ (Got v ∷ post) →
-      (o : ObjectId) × (asks (after t pre) ≡ Some (ToRead o)) × Viewed (marks o) o (at s pre) v
+      (o : ObjectId) × (asks (after t pre) ≡ Some (ToRead o)) × Sees (marks o) o (at s pre) v
   pub wrote : (pre post : List Answer) → ans ≡ pre ++ (Stored ∷ post) →
       (o : ObjectId) × (w : Value) × (asks (after t pre) ≡ Some (ToWrite o w))
   pub stored : (o : ObjectId) (w : Value) (pre : List Answer) → Written t ans o pre w → PutAt o (at s pre) w (marks o)
@@ -113,7 +113,7 @@ pub value : (t : Tree) (ans : List Answer) (s : StampParts) (marks : ObjectId �
     asks (after t pre) ≡ Some (ToRead o) → v ≡ value_at (left_after t pre m) o
 value t ans s marks sure f m before pre post v o kinds e asked =
     let g = f.got pre post v e in
-    let w : Viewed (marks o) o (at s pre) v = subst (λ p. Viewed (marks p) p (at s pre) v) (same-read g.0 o (sym g.1 ∙ asked)) g.2 in
+    let w : Sees (marks o) o (at s pre) v = subst (λ p. Sees (marks p) p (at s pre) v) (same-read g.0 o (sym g.1 ∙ asked)) g.2 in
     let ok : TimeParts → Bool = λ x. shows (marks o) (at s pre) x in
     let low : TimeParts → Bool = λ x. stamp_lt x.stamp s && sure x.stamp in
     elim (own-map t pre m o kinds) [

@@ -11,11 +11,10 @@ use Rattle.serial_law.proofs.Settled.{sure-yes, sure-no}
 use Rattle.serial_law.proofs.Own.{Written, fronts}
 use Rattle.serial_law.proofs.Lone.{Lone}
 use Rattle.object_history.specs.History.{settle_of}
-use Rattle.object_history.specs.Views.{Viewed}
 use Rattle.pseudo_time.specs.Lists.{Has}
 use Rattle.script_meaning.specs.Meaning.{Answer, Got, Request, Stored, ToRead, ToWrite}
 use Rattle.world_core.specs.Deeds.{RunLogs, Try, committed, in_run, log_of, marks_at}
-use Rattle.serial_law.specs.Facts.{Asked, RunFacts, asks, at}
+use Rattle.serial_law.specs.Facts.{Asked, RunFacts, Sees, asks, at}
 use Rattle.serial_model.specs.Questions.{after}
 use Rattle.serial_law.proofs.Puts.{PutAt}
 
@@ -26,16 +25,16 @@ asked-here T pre post q e h =
     let n : length pre + 1 ≡ length h.0 + 1 = h.3 in
     ap (λ x. asks (after T.script x)) (fronts pre h.0 post h.1 (sym e ∙ h.2) (omega (arith, n))) ∙ h.4
 
-got-viewed : (k : RunLogs) (ever : List Post) → RunFacts k ever → (T : Try) → Has T k.tries → (pre post : List Answer) (v : Value) →
-    T.answers ≡ pre ++ (Got v ∷ post) → (o : ObjectId) × (asks (after T.script pre) ≡ Some (ToRead o)) × Viewed (marks_at k o) o (at T.stamp pre) v
-got-viewed k ever f T a pre post v e =
+got-seen : (k : RunLogs) (ever : List Post) → RunFacts k ever → (T : Try) → Has T k.tries → (pre post : List Answer) (v : Value) →
+    T.answers ≡ pre ++ (Got v ∷ post) → (o : ObjectId) × (asks (after T.script pre) ≡ Some (ToRead o)) × Sees (marks_at k o) o (at T.stamp pre) v
+got-seen k ever f T a pre post v e =
     let g = f.got T pre post v a e in
     let w = f.value (at T.stamp pre) v g in
     let asked : asks (after T.script pre) ≡ Some (ToRead w.0) =
     asked-here T pre (Got v ∷ post) (ToRead w.0) e (f.read_asked T (at T.stamp pre) w.0 a w.1 refl) in (
       w.0,
       asked,
-      subst (λ m. Viewed m w.0 (at T.stamp pre) v)
+      subst (λ m. Sees m w.0 (at T.stamp pre) v)
           (marks-in k w.0 (f.within T pre (Got v ∷ post) (ToRead w.0) a e asked)) w.2,
     )
 
@@ -92,7 +91,7 @@ put-written c ever f T a o x w h e l =
         short : (pre : List Answer) → T.answers ≡ pre ++ [] → length pre + 1 ≤ length T.answers → ⊥
         short pre e h = let n : length T.answers ≡ length pre = ap (λ xs. length xs) e ∙ nil pre in omega (arith, n, h)
     next pre (Stored ∷ post) e n q = (pre, n, ((post, e), q))
-    next pre (Got v ∷ post) e n q = let g = got-viewed c ever f T a pre post v e in absurd (cc (sym g.1 ∙ q))
+    next pre (Got v ∷ post) e n q = let g = got-seen c ever f T a pre post v e in absurd (cc (sym g.1 ∙ q))
 
 pub lone : (k : RunLogs) (ever : List Post) → RunFacts k ever → (T : Try) → Has T k.tries → Lone T.script T.answers T.stamp (marks_at k) (committed k)
 lone k ever f T a = record {
@@ -100,7 +99,7 @@ lone k ever f T a = record {
       (λ i h. sure-yes k ever f o.repository x i h) (unfold settle_of in λ h. absurd (cc h));
   no = λ o x. marks-cases k o (λ m. settle_of m x ≡ Some false → committed k x ≡ false)
       (λ i h. sure-no k ever f o.repository x i h) (unfold settle_of in λ h. absurd (cc h));
-  got = λ pre post v e. got-viewed k ever f T a pre post v e;
+  got = λ pre post v e. got-seen k ever f T a pre post v e;
   wrote = λ pre post e. (let g = acked-put k ever f T a pre post e in (g.0, g.1, g.2));
   stored = λ o w pre h. write-stored k ever f T a o w pre h;
   puts = λ o x w h e l. put-written k ever f T a o x w h e l;

@@ -1,17 +1,20 @@
 -- Refusals and causes by two readings of scripts.
-use Rattle.std.proofs.Common.{◌≡◌, inl, inr, ℕ, true, List, [], ◌∷◌, reverse, subst, Some}
+use Rattle.std.proofs.Common.{◌≡◌, ◌⊎◌, inl, inr, ℕ, true, List, [], ◌∷◌, reverse, subst, Some}
 use Rattle.pseudo_time.specs.Lists.{Has}
 use Rattle.pseudo_time.specs.Nodes.{repository}
 use Rattle.pseudo_time.specs.TimeParts.{TimeParts}
 use Rattle.pseudo_time.specs.declared.decisions.Decision.TheVariants as decision
 use Rattle.value_form.specs.declared.objects.ObjectId.{ObjectId}
 use Rattle.value_form.specs.declared.values.Value.{Value}
+use Rattle.pseudo_time.specs.declared.nodes.NodeId.{NodeId}
+use Rattle.effect_form.specs.declared.effects.Effect.{Effect}
 use Rattle.effect_form.specs.declared.effects.Effect.TheVariants as effect
 use Rattle.effect_form.specs.declared.outcomes.Outcome.{Outcome}
 use Rattle.effect_form.specs.declared.outcomes.Outcome.TheVariants as outcome
 use Rattle.object_history.specs.declared.steps.WriteStep.{WriteStep}
-use Rattle.object_history.specs.Answers.{write_step}
-use Rattle.script_meaning.specs.Meaning.{Request, ToWrite}
+use Rattle.object_history.specs.declared.steps.ReadStep.TheVariants as read
+use Rattle.object_history.specs.Answers.{read_step, write_step}
+use Rattle.script_meaning.specs.Meaning.{Request, ToRead, ToWrite}
 use Rattle.serial_model.specs.Questions.{Tree, after}
 use Rattle.plan_form.specs.declared.plans.Plan.{Plan}
 use Rattle.repository_core.specs.Logs.{marks}
@@ -19,18 +22,19 @@ use Rattle.broker_core.specs.Readings.{reading}
 use Rattle.broker_core.specs.Tasks.{Scripted}
 use Rattle.world_core.specs.declared.entries.Entry.{Entry}
 use Rattle.world_core.specs.declared.traces.Trace.{Trace}
-use Rattle.world_core.specs.Answered.{WasAnswered}
+use Rattle.world_core.specs.Answered.{WasAnswered, WasRefused}
 use Rattle.world_core.specs.Deeds.{RunLogs, Try, in_run, log_of}
 use Rattle.world_core.specs.Legal.{base_of}
 use Rattle.world_core.specs.Pasts.{alike, own_reading}
 use Rattle.world_facts.specs.Earlier.{AreEarlier, AreOfLanguage, Earlier}
 use Rattle.world_facts.specs.Earlier.Earlier.{Running, Retiring}
-use Rattle.world_core.specs.Walks.{World, all_effects, numbered}
+use Rattle.world_core.specs.Walks.{Base, World, all_effects, numbered}
 use Rattle.world_core.proofs.OneReading.{own-reading}
 use Rattle.world_core.proofs.SameWorlds.{walk-same}
-use Rattle.serial_law.specs.Causes.{HasReason}
+use Rattle.serial_law.specs.Causes.{Happened, HasReason, HasStood}
 use Rattle.serial_law.specs.Facts.{asked_of, asks}
-use Rattle.serial_law.specs.Runs.{AnsweredIn}
+use Rattle.serial_law.specs.Reasons.{AnsweredBy, RefusedBy}
+use Rattle.serial_law.specs.Runs.{InSome}
 
 -- ---- refusals
 
@@ -49,34 +53,72 @@ answered-same s s' plan h h' t es x o v step a =
       answer = subst (λ (w : World). write_step (marks (reverse (all_effects (w.life (repository o.repository))))) o x v ≡ step) e a.answer;
     }
 
-pub answered-now : (s : List ℕ → Tree) (plan : Plan) → Scripted s plan.acts → Scripted (reading plan.acts) plan.acts → (t : Trace) (es : List Entry) (x : TimeParts) (o : ObjectId) (v : Value) (step : WriteStep) →
-    WasAnswered (base_of s plan t) es x o v step → WasAnswered (base_of (reading plan.acts) plan t) es x o v step
-answered-now s plan h h' = answered-same s (reading plan.acts) plan h h'
+refused-same : (s s' : List ℕ → Tree) (plan : Plan) → Scripted s plan.acts → Scripted s' plan.acts → (t : Trace) (es : List Entry) (x : TimeParts) (o : ObjectId) (end : TimeParts) →
+    WasRefused (base_of s plan t) es x o end → WasRefused (base_of s' plan t) es x o end
+refused-same s s' plan h h' t es x o end a =
+    let e = walk-same s s' plan h h' t a.before in
+    record {
+      before = a.before;
+      number = a.number;
+      after = a.after;
+      sending = a.sending;
+      here = a.here;
+      sent = subst (λ (w : World). numbered w.sendings a.number ≡ Some a.sending) e a.sent;
+      is_read = a.is_read;
+      answer = subst (λ (w : World). read_step (marks (reverse (all_effects (w.life (repository o.repository))))) o x ≡ read.LaterRead end) e a.answer;
+    }
 
-pub answered-from : (script : List ℕ → Tree) (cs : List Earlier) → AreEarlier (alike script) cs → AreOfLanguage cs → (x : TimeParts) (o : ObjectId) (v : Value) (step : WriteStep) →
-    AnsweredIn (alike script) cs x o v step → AnsweredIn own_reading cs x o v step
-answered-from script [] k w x o v step a = a
-answered-from script (Retiring r at ∷ cs) k w x o v step a = answered-from script cs k.0 w x o v step a
-answered-from script (Running c ∷ cs) k w x o v step (inl a) = inl (answered-now script c.plan k.1.legal.scripted (own-reading c.plan w.0) c.trace c.trace.entries x o v step a)
-answered-from script (Running c ∷ cs) k w x o v step (inr a) = inr (answered-from script cs k.0 w.1 x o v step a)
+-- P holds of a run by the reading of its own acts where it holds of it by this one
+abbrev pub ByOwn : (List ℕ → Tree) → (Base → List Entry → Type 0) → Type 0
+ByOwn script P = (plan : Plan) → Scripted script plan.acts → Scripted (reading plan.acts) plan.acts → (t : Trace) → P (base_of script plan t) t.entries → P (base_of (reading plan.acts) plan t) t.entries
+
+some-from : (script : List ℕ → Tree) (P : Base → List Entry → Type 0) → ByOwn script P → (cs : List Earlier) → AreEarlier (alike script) cs → AreOfLanguage cs → InSome (alike script) P cs → InSome own_reading P cs
+some-from script P own [] k w a = a
+some-from script P own (Retiring r at ∷ cs) k w a = some-from script P own cs k.0 w a
+some-from script P own (Running c ∷ cs) k w (inl a) = inl (own c.plan k.1.legal.scripted (own-reading c.plan w.0) c.trace a)
+some-from script P own (Running c ∷ cs) k w (inr a) = inr (some-from script P own cs k.0 w.1 a)
+
+-- in a run, or in one of the calls before it
+module _ (script : List ℕ → Tree) (plan : Plan) (t : Trace) (h : Scripted script plan.acts) (own : Scripted (reading plan.acts) plan.acts) (cs : List Earlier) (k : AreEarlier (alike script) cs) (w : AreOfLanguage cs) where
+  pub some-own : (P : Base → List Entry → Type 0) → ByOwn script P → P (base_of script plan t) t.entries ⊎ InSome (alike script) P cs → P (base_of (reading plan.acts) plan t) t.entries ⊎ InSome own_reading P cs
+  some-own P by (inl a) = inl (by plan h own t a)
+  some-own P by (inr a) = inr (some-from script P by cs k w a)
+
+  pub answered-own : (x : TimeParts) (o : ObjectId) (v : Value) (step : WriteStep) →
+      WasAnswered (base_of script plan t) t.entries x o v step ⊎ InSome (alike script) (λ b es. WasAnswered b es x o v step) cs → AnsweredBy plan t cs x o v step
+  answered-own x o v step = some-own (λ b es. WasAnswered b es x o v step) (λ c h' own' t'. answered-same script (reading c.acts) c h' own' t' t'.entries x o v step)
+
+  pub refused-own : (x : TimeParts) (o : ObjectId) (e : TimeParts) →
+      WasRefused (base_of script plan t) t.entries x o e ⊎ InSome (alike script) (λ b es. WasRefused b es x o e) cs → RefusedBy plan t cs x o e
+  refused-own x o e = some-own (λ b es. WasRefused b es x o e) (λ c h' own' t'. refused-same script (reading c.acts) c h' own' t' t'.entries x o e)
 
 -- ---- causes
 
-module _ (k k' : RunLogs) (same : (r : ℕ) → in_run k r ≡ true → log_of k r ≡ log_of k' r) (May May' : ℕ → Type 0) (Told Told' : TimeParts → ObjectId → Value → WriteStep → Type 0)
-    (may : (m : ℕ) → May m → May' m) (told : (x : TimeParts) (o : ObjectId) (v : Value) (step : WriteStep) → Told x o v step → Told' x o v step) where
+module _ (k k' : RunLogs) (same : (r : ℕ) → in_run k r ≡ true → log_of k r ≡ log_of k' r) (olds olds' : NodeId → List (List Effect)) (same_olds : (n : NodeId) → olds n ≡ olds' n) (h h' : Happened)
+    (ticked : (m : ℕ) → h.Ticked m → h'.Ticked m) (answered : (x : TimeParts) (o : ObjectId) (v : Value) (step : WriteStep) → h.Answered x o v step → h'.Answered x o v step)
+    (refused : (x : TimeParts) (o : ObjectId) (e : TimeParts) → h.Refused x o e → h'.Refused x o e) where
+  stood-same : (r : ℕ) (e : Effect) → in_run k r ≡ true → HasStood k olds r e → HasStood k' olds' r e
+  stood-same r e i (inl j) = inl (subst (Has e) (same r i) j)
+  stood-same r e i (inr (old, j, there)) = inr (old, subst (Has old) (same_olds (repository r)) j, there)
+
+  either-same : (r : ℕ) (e g : Effect) → in_run k r ≡ true → HasStood k olds r e ⊎ HasStood k olds r g → HasStood k' olds' r e ⊎ HasStood k' olds' r g
+  either-same r e g i (inl j) = inl (stood-same r e i j)
+  either-same r e g i (inr j) = inr (stood-same r g i j)
+
   pub reason-same : (try : Try) (o : Outcome) → in_run k try.stamp.home ≡ true → ((q : Request) → asks (after try.script try.answers) ≡ Some q → in_run k (asked_of q).repository ≡ true) →
-      HasReason k May Told try o → HasReason k' May' Told' try o
-  reason-same try outcome.Committed home within h = subst (Has (effect.Decide try.stamp decision.Committed)) (same try.stamp.home home) h
-  reason-same try (outcome.Withdrawn l) home within h = h
-  reason-same try (outcome.Failed l kind) home within h = h
-  reason-same try (outcome.Expired d m) home within h = (
-    subst (Has (effect.Decide try.stamp (decision.Expired d m))) (same try.stamp.home home) h.0,
-    subst (Has (effect.Begin try.stamp d)) (same try.stamp.home home) h.1,
-    h.2,
-    may m h.3,
+      HasReason k olds h try o → HasReason k' olds' h' try o
+  reason-same try outcome.Committed home within c = subst (Has (effect.Decide try.stamp decision.Committed)) (same try.stamp.home home) c
+  reason-same try (outcome.Withdrawn l) home within c = c
+  reason-same try (outcome.Failed l kind) home within c = c
+  reason-same try (outcome.Expired d m) home within c = (
+    subst (Has (effect.Decide try.stamp (decision.Expired d m))) (same try.stamp.home home) c.0,
+    subst (Has (effect.Begin try.stamp d)) (same try.stamp.home home) c.1,
+    c.2,
+    ticked m c.3,
   )
-  reason-same try (outcome.LaterRead o e) home within (v, writes, less, has, was) =
-      (v, writes, less, subst (Has (effect.Stretch o e)) (same o.repository (within (ToWrite o v) writes)) has, told _ o v _ was)
-  reason-same try (outcome.LaterVersion o x) home within (v, writes, less, (u, has), was) =
-      (v, writes, less, (u, subst (Has (effect.Put o x u)) (same o.repository (within (ToWrite o v) writes)) has), told _ o v _ was)
-  reason-same try (outcome.Spent c) home within h = h
+  reason-same try (outcome.LaterRead o e) home within (less, inl (v, writes, stood, was)) =
+      (less, inl (v, writes, either-same o.repository (effect.Stretch o e) (effect.Mark e) (within (ToWrite o v) writes) stood, answered _ o v _ was))
+  reason-same try (outcome.LaterRead o e) home within (less, inr (reads, stood, was)) = (less, inr (reads, stood-same o.repository (effect.Mark e) (within (ToRead o) reads) stood, refused _ o e was))
+  reason-same try (outcome.LaterVersion o x) home within (v, writes, less, (u, stood), was) =
+      (v, writes, less, (u, stood-same o.repository (effect.Put o x u) (within (ToWrite o v) writes) stood), answered _ o v _ was)
+  reason-same try (outcome.Spent n) home within c = c

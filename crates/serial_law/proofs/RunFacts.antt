@@ -1,5 +1,5 @@
 -- What holds of all logs and messages of a legal run gives the facts that keep it serial.
-use Rattle.std.proofs.Common.{◌≡◌, ◌⊎◌, ℕ, ◌+◌, ◌≤◌, true, List, [], ◌∷◌, ◌++◌, reverse, refl, sym, ◌∙◌, ap, subst, Some, is_some, inl, inr, ◌==◌}
+use Rattle.std.proofs.Common.{◌≡◌, ◌⊎◌, ℕ, ◌+◌, ◌≤◌, true, List, [], ◌∷◌, ◌++◌, map, reverse, refl, sym, ◌∙◌, ap, subst, Some, is_some, inl, inr, ◌==◌}
 use Rattle.std.proofs.lemmas.List.{append-nil}
 use Rattle.pseudo_time.specs.Lists.{Every, Has}
 use Rattle.pseudo_time.specs.StampParts.{StampParts}
@@ -21,9 +21,10 @@ use Rattle.effect_form.specs.declared.outcomes.Outcome.{Outcome}
 use Rattle.effect_form.specs.declared.outcomes.Outcome.TheVariants as outcome
 use Rattle.message_form.specs.declared.messages.Message.{Message}
 use Rattle.message_form.specs.declared.messages.Message.TheVariants as message
-use Rattle.message_form.specs.Growth.{Grew}
 use Rattle.message_form.specs.Posts.{Post, WasSent}
-use Rattle.object_history.specs.Views.{Viewed}
+use Rattle.object_history.specs.Views.{Distinct, IsOnFloor, Viewed}
+use Rattle.object_retirement.specs.Stood.{all_stood}
+use Rattle.object_retirement.proofs.ChainLemmas.{chain-view}
 use Rattle.script_meaning.specs.Meaning.{Got, Stored, Request, ToRead, ToWrite, Stop, Asks, Over}
 use Rattle.serial_model.specs.Questions.{Tree, after, stop, talked}
 use Rattle.serial_model.proofs.AnswerLemmas.{talked-stop}
@@ -33,7 +34,7 @@ use Rattle.plan_form.specs.PlanTexts.{EachAct, IsOfLanguage}
 use Rattle.repository_core.specs.Logs.{is_commit, marks}
 use Rattle.repository_laws.specs.Facts as repositories
 use Rattle.repository_laws.specs.Facts.{Once}
-use Rattle.repository_laws.proofs.Logs.{tidy-distinct, grown-once, grown-marks, learn-home, decide-home, decided-once, decide-cause}
+use Rattle.repository_laws.proofs.Logs.{learn-home, decide-home, decided-once, decide-cause}
 use Rattle.broker_core.specs.Book as books
 use Rattle.broker_core.specs.Book.{book, tries, tries_of, find}
 use Rattle.pseudo_time.specs.Nodes.{broker, repository}
@@ -48,24 +49,31 @@ use Rattle.world_core.specs.Nodes.{acts_of}
 use Rattle.world_core.specs.Walks.{Base, opened_log}
 use Rattle.world_facts.specs.NodeRules.{kind_post, node_facts}
 use Rattle.world_facts.specs.Refines as refines
-use Rattle.serial_law.specs.Causes.{HasReason, Causes}
+use Rattle.serial_law.specs.Causes.{Causes, Happened, HasReason, HasStood}
 use Rattle.world_core.specs.Deeds.{Try, RunLogs, in_run}
-use Rattle.serial_law.specs.Facts.{Said, at, asks, request_at, asked_of, Asked, RunFacts}
+use Rattle.serial_law.specs.Facts.{Said, Sees, at, asks, request_at, asked_of, Asked, RunFacts}
+use Rattle.serial_law.specs.Wholes.{whole_log, whole_run}
 use Rattle.serial_law.specs.Runs.{attempt, run_of}
 use Rattle.broker_core.specs.Fits.{keep}
 use Rattle.broker_laws.proofs.Kept.{kept}
 use Rattle.serial_law.proofs.Attempts.{IsTryOf, try-of, tries-kept, try-home, of-book, found-try}
 use Rattle.object_history.specs.declared.steps.WriteStep.{WriteStep}
 use Rattle.object_history.specs.declared.steps.WriteStep.TheVariants as write
-use Rattle.object_history.specs.Answers.{write_step}
+use Rattle.object_history.specs.declared.steps.ReadStep.TheVariants as read
+use Rattle.object_history.specs.Answers.{read_step, write_step}
 use Rattle.pseudo_time.specs.Order.{lt}
 use Rattle.world_core.proofs.Refusals.{Says}
-use Rattle.serial_law.proofs.CauseLemmas.{once-read, once-version}
+use Rattle.serial_law.proofs.CauseLemmas.{once-read, once-refused, once-version}
+use Rattle.serial_law.proofs.WholeLemmas.{IsPut, marks-whole, other-whole, put-once, whole-has}
 use Rattle.serial_law.proofs.Inside.{Inside, inside-after, inside-asks, inside-script}
 use Rattle.serial_law.proofs.LogLemmas.{in-both}
+use Rattle.serial_law.proofs.WholeFacts.{its-all, its-chain, put-asked, put-whole}
 use Rattle.serial_law.proofs.Premises.{asked-here}
 use Rattle.world_facts.proofs.Growths.{each-has, every-filter, every-at}
-use Rattle.world_facts.proofs.OldChains.{grown-alone}
+use Rattle.world_facts.specs.Rules.{SomeOf}
+use Rattle.world_facts.proofs.AnswerLemmas.{broker-post}
+use Rattle.world_facts.proofs.AnswerLemmas as answers
+use Rattle.world_facts.proofs.OldChains.{some-history, some-log}
 
 -- ---- lists
 
@@ -81,9 +89,10 @@ of-said (q ∷ ever) m (inr h) = let r = of-said ever m h in (r.0, inr r.1, r.2)
 
 -- ---- requests that were answered
 
--- a write to repository r that was sent, of which `Told` holds, or a read
-abbrev pub ToldRequest : List Post → ℕ → (TimeParts → ObjectId → Value → WriteStep → Type 0) → TimeParts → WriteStep → Type 0
-ToldRequest sent r Told x step = ((o : ObjectId) × (v : Value) × repositories.WriteSent sent r x o v × Told x o v step) ⊎ ((o : ObjectId) × repositories.ReadSent sent r x o)
+-- a write to repository r that was sent and was answered so, or a read that was refused so
+abbrev pub ToldRequest : List Post → ℕ → (TimeParts → ObjectId → Value → WriteStep → Type 0) → (TimeParts → ObjectId → TimeParts → Type 0) → TimeParts → WriteStep → Type 0
+ToldRequest sent r Answered Refused x step =
+    ((o : ObjectId) × (v : Value) × repositories.WriteSent sent r x o v × Answered x o v step) ⊎ ((o : ObjectId) × (e : TimeParts) × (step ≡ write.LaterRead e) × repositories.ReadSent sent r x o × Refused x o e)
 
 -- ---- what the acts of a plan keep to
 
@@ -105,10 +114,10 @@ kept-tasks script n (a ∷ acts) h = (h.0, kept-tasks script n acts h.1)
 asks-some : (s : Stop) (q : Request) → s ≡ Asks q → request_at s ≡ Some q
 asks-some s q e = ap request_at e
 
-module _ (script : List ℕ → Tree) (b : Base) (plan : Plan) (logs : NodeId → List Effect) (past sent : List Post) (May : ℕ → Type 0)
+module _ (script : List ℕ → Tree) (b : Base) (plan : Plan) (logs : NodeId → List Effect) (olds : NodeId → List (List Effect)) (past sent : List Post) (May : ℕ → Type 0)
     (same_run : b.run ≡ plan.run) (same_acts : b.acts ≡ plan.acts) (whole : IsOfLanguage plan) (scripted : Scripted script plan.acts)
     (opened : (k : ℕ) → 1 ≤ k → k ≤ plan.brokers → is_some (opened_log b.opened (broker k)) ≡ true)
-    (f : refines.LogFacts (node_facts script) b logs past sent May) where
+    (f : refines.OlderFacts (node_facts script) b logs olds past sent May) where
   abbrev ever : List Post
   ever = past ++ sent
 
@@ -118,10 +127,18 @@ module _ (script : List ℕ → Tree) (b : Base) (plan : Plan) (logs : NodeId �
   abbrev run : RunLogs
   run = run_of script plan log
 
+  -- the older logs, newest effect first, and the run with all versions that ever stood
+  abbrev before : NodeId → List (List Effect)
+  before n = map reverse (olds n)
+
+  abbrev whole_one : RunLogs
+  whole_one = whole_run before run
+
   -- ---- messages
 
+  -- one of the logs of a sender has what it said
   abbrev Posted : Message → Type 0
-  Posted m = (k : NodeKind) × (i : ℕ) × (to : NodeId) × kind_post script ever k i (log (record { kind = k; number = i })) (record { to = to; message = m })
+  Posted m = (k : NodeKind) × (i : ℕ) × (to : NodeId) × SomeOf (λ l. kind_post script ever k i l (record { to = to; message = m })) (log (record { kind = k; number = i }) ∷ before (record { kind = k; number = i }))
 
   posted : (m : Message) → Said ever m → Posted m
   posted m h =
@@ -129,8 +146,17 @@ module _ (script : List ℕ → Tree) (b : Base) (plan : Plan) (logs : NodeId �
         r.0.from.kind,
         r.0.from.number,
         r.0.to,
-        subst (λ x. kind_post script ever r.0.from.kind r.0.from.number (log r.0.from) (record { to = r.0.to; message = x })) r.2 (every-has _ ever r.0 f.sent_ok r.1),
+        subst (λ x. SomeOf (λ l. kind_post script ever r.0.from.kind r.0.from.number l (record { to = r.0.to; message = x })) (log r.0.from ∷ before r.0.from)) r.2 (every-has _ ever r.0 f.sent_ok r.1),
       )
+
+  -- a broker's log is never retired
+  by-broker : (i : ℕ) (to : NodeId) (m : Message) → SomeOf (λ l. kind_post script ever Broker i l (record { to = to; message = m })) (log (broker i) ∷ before (broker i)) → kind_post script ever Broker i (log (broker i)) (record { to = to; message = m })
+  by-broker i to m h = broker-post script b logs olds past sent May f i (before (broker i)) (log (broker i)) to m (f.lineage (broker i)) h
+
+  -- a log that sent such a message
+  by-repository : (i : ℕ) (to : NodeId) (m : Message) → SomeOf (λ l. kind_post script ever Repository i l (record { to = to; message = m })) (log (repository i) ∷ before (repository i)) →
+      (l : List Effect) × Has l (log (repository i) ∷ before (repository i)) × kind_post script ever Repository i l (record { to = to; message = m })
+  by-repository i to m h = some-log (λ l. kind_post script ever Repository i l (record { to = to; message = m })) (log (repository i) ∷ before (repository i)) h
 
   was-said : (from to : NodeId) (m : Message) → WasSent ever from to m → Said ever m
   was-said from to m h = said-of ever (record { from = from; to = to; message = m }) h
@@ -138,17 +164,38 @@ module _ (script : List ℕ → Tree) (b : Base) (plan : Plan) (logs : NodeId �
   came : (me : ℕ) (m : Message) → posts.HasCome me ever m → Said ever m
   came me m h = was-said h.0 (broker me) m h.1
 
-  value-said : (t : TimeParts) (v : Value) → Posted (message.Value t v) → (o : ObjectId) × Said ever (message.Read t o) × Viewed (marks (log (repository o.repository))) o t v
-  value-said t v (Broker, i, to, h) = absurd h
-  value-said t v (Repository, i, to, h) = (h.0, was-said _ _ _ h.1.0, subst (λ r. Viewed (marks (log (repository r))) h.0 t v) (sym h.1.1) h.3)
+  -- ---- repositories, and all versions that ever stood
 
-  stored-said : (t : TimeParts) → Posted (message.Stored t) → (o : ObjectId) × (v : Value) × Said ever (message.Write t o v) × Has (effect.Put o t v) (log (repository o.repository))
-  stored-said t (Broker, i, to, h) = absurd h
-  stored-said t (Repository, i, to, h) = (h.0, h.1, was-said _ _ _ h.2.0, subst (λ r. Has (effect.Put h.0 t h.1) (log (repository r))) (sym h.2.1) h.3)
+  abbrev all_logs : ℕ → List (List Effect)
+  all_logs r = log (repository r) ∷ before (repository r)
 
-  decided-said : (s : StampParts) (d : Decision) → Posted (message.Decided s d) → Has (effect.Decide s d) (log (repository s.home))
-  decided-said s d (Broker, i, to, h) = absurd h
-  decided-said s d (Repository, i, to, h) = subst (λ r. Has (effect.Decide s d) (log (repository r))) (sym (decide-home i (log (repository i)) s d (f.tidy (repository i)) h)) h
+  value-said : (t : TimeParts) (v : Value) → Posted (message.Value t v) → (o : ObjectId) × Said ever (message.Read t o) × Sees (marks (whole_log (before (repository o.repository)) (log (repository o.repository)))) o t v
+  value-said t v (Broker, i, to, h) = absurd (by-broker i to (message.Value t v) h)
+  value-said t v (Repository, i, to, h) =
+      let p = by-repository i to (message.Value t v) h in
+      let sees = chain-view (map marks (before (repository i))) (marks (log (repository i))) (all_stood (map marks (before (repository i))) (marks (log (repository i)))) p.2.0 t v
+      (its-chain script b logs olds past sent May f i) (its-all script b logs olds past sent May f i p.2.0)
+      (some-history (λ m. IsOnFloor m t × Viewed m p.2.0 t v) (all_logs i) p.0 p.1 (p.2.4, p.2.3)) in
+      (p.2.0, was-said _ _ _ p.2.1.0, subst (λ r. Sees (marks (whole_log (before (repository r)) (log (repository r)))) p.2.0 t v) (sym p.2.1.1) (subst (λ m. Sees m p.2.0 t v) (sym (marks-whole (before (repository i)) (log (repository i)))) sees))
+
+  stored-said : (t : TimeParts) → Posted (message.Stored t) →
+      (o : ObjectId) × (v : Value) × Said ever (message.Write t o v) × Has (effect.Put o t v) (whole_log (before (repository o.repository)) (log (repository o.repository)))
+  stored-said t (Broker, i, to, h) = absurd (by-broker i to (message.Stored t) h)
+  stored-said t (Repository, i, to, h) =
+      let p = by-repository i to (message.Stored t) h in
+      (p.2.0, p.2.1, was-said _ _ _ p.2.2.0, subst (λ r. Has (effect.Put p.2.0 t p.2.1) (whole_log (before (repository r)) (log (repository r)))) (sym p.2.2.1) (put-whole script b logs olds past sent May f i p.0 p.2.0 t p.2.1 p.1 p.2.3))
+
+  -- what was decided stays decided
+  decided-there : (i : ℕ) (to : NodeId) (s : StampParts) (d : Decision) → Has (record { from = repository i; to = to; message = message.Decided s d }) ever → Has (effect.Decide s d) (log (repository i))
+  decided-there i to s d h = answers.all-kept script b logs olds past sent May f (record { from = repository i; to = to; message = message.Decided s d }) h
+
+  decided-said : (s : StampParts) (d : Decision) → Said ever (message.Decided s d) → Has (effect.Decide s d) (log (repository s.home))
+  decided-said s d h = let r = of-said ever (message.Decided s d) h in by r.0.from.kind r.0.from.number r.0.to (subst (λ x. Has (record { from = r.0.from; to = r.0.to; message = x }) ever) r.2 r.1)
+    where
+      by : (k : NodeKind) (i : ℕ) (to : NodeId) → Has (record { from = record { kind = k; number = i }; to = to; message = message.Decided s d }) ever → Has (effect.Decide s d) (log (repository s.home))
+      by Broker i to h = absurd (by-broker i to (message.Decided s d) (every-has _ ever (record { from = broker i; to = to; message = message.Decided s d }) f.sent_ok h))
+      by Repository i to h = let there = decided-there i to s d h in
+          subst (λ r. Has (effect.Decide s d) (log (repository r))) (sym (decide-home i (log (repository i)) s d (f.tidy (repository i)) there)) there
 
   -- ---- attempts
 
@@ -229,54 +276,43 @@ module _ (script : List ℕ → Tree) (b : Base) (plan : Plan) (logs : NodeId �
   -- ---- what was asked
 
   read-said : (a : Try) (m : Mine a) (t : TimeParts) (o : ObjectId) → Posted (message.Read t o) → t.stamp ≡ m.try.stamp → Asked (attempt script m.try) t (ToRead o)
-  read-said a m t o (Repository, i, to, h) e = absurd h
-  read-said a m t o (Broker, i, to, h) e = its-request a m t (ToRead o) i e h.0 h.2
+  read-said a m t o (Repository, i, to, h) e = absurd (by-repository i to (message.Read t o) h).2
+  read-said a m t o (Broker, i, to, h) e = let k = by-broker i to (message.Read t o) h in its-request a m t (ToRead o) i e k.0 k.2
 
   write-said : (a : Try) (m : Mine a) (t : TimeParts) (o : ObjectId) (v : Value) → Posted (message.Write t o v) → t.stamp ≡ m.try.stamp → Asked (attempt script m.try) t (ToWrite o v)
-  write-said a m t o v (Repository, i, to, h) e = absurd h
-  write-said a m t o v (Broker, i, to, h) e = its-request a m t (ToWrite o v) i e h.0 h.2
+  write-said a m t o v (Repository, i, to, h) e = absurd (by-repository i to (message.Write t o v) h).2
+  write-said a m t o v (Broker, i, to, h) e = let k = by-broker i to (message.Write t o v) h in its-request a m t (ToWrite o v) i e k.0 k.2
 
   commit-said : (a : Try) (m : Mine a) → Posted (message.Commit m.try.stamp) → ((talked (script m.try.task.script) m.try.answers).stop ≡ Over ending.Finished) × MayCommit m.try.end
-  commit-said a m (Repository, i, to, h) = absurd h
-  commit-said a m (Broker, i, to, h) = its-commit a m i h.0 h.2
+  commit-said a m (Repository, i, to, h) = absurd (by-repository i to (message.Commit m.try.stamp) h).2
+  commit-said a m (Broker, i, to, h) = let k = by-broker i to (message.Commit m.try.stamp) h in its-commit a m i k.0 k.2
 
   -- ---- repositories
 
   caused : (r : ℕ) (e : Effect) → Has e (log (repository r)) → repositories.RestsOn ever (λ k. log (repository k)) f.ticks r e
   caused r e h = (each-has _ (log (repository r)) e (f.proofs (repository r)) h).1
 
-  own-put : (r : ℕ) (l : List Effect) (o : ObjectId) (x : TimeParts) (v : Value) → repositories.IsTidy r l → Has (effect.Put o x v) l → o.repository ≡ r
-  own-put r [] o x v h k = absurd k
-  own-put r (effect.Put p y w ∷ l) o x v h (inl e) = let same : p ≡ o = cc e in ap (λ (q : ObjectId). q.repository) (sym same) ∙ h.0
-  own-put r (effect.Put p y w ∷ l) o x v h (inr k) = own-put r l o x v h.2 k
-  own-put r (effect.Stretch p y ∷ l) o x v h (inl e) = absurd (cc e)
-  own-put r (effect.Stretch p y ∷ l) o x v h (inr k) = own-put r l o x v h.1 k
-  own-put r (effect.Begin s d ∷ l) o x v h (inl e) = absurd (cc e)
-  own-put r (effect.Begin s d ∷ l) o x v h (inr k) = own-put r l o x v h.1 k
-  own-put r (effect.Decide s d ∷ l) o x v h (inl e) = absurd (cc e)
-  own-put r (effect.Decide s d ∷ l) o x v h (inr k) = own-put r l o x v h.2 k
-  own-put r (effect.Learn s c ∷ l) o x v h (inl e) = absurd (cc e)
-  own-put r (effect.Learn s c ∷ l) o x v h (inr k) = own-put r l o x v h.2 k
-  own-put r (effect.Mark at ∷ l) o x v h (inl e) = absurd (cc e)
-  own-put r (effect.Mark at ∷ l) o x v h (inr k) = own-put r l o x v h k
-  own-put r (effect.Whole ∷ l) o x v h (inl e) = absurd (cc e)
-  own-put r (effect.Whole ∷ l) o x v h (inr k) = own-put r l o x v h k
-  own-put r (f ∷ l) o x v h k = absurd h
-
   -- ---- all together
 
   moved : (P : Try → Type 0) (a : Try) (m : Mine a) → P (attempt script m.try) → P a
   moved P a m h = subst P m.is h
 
-  pub run-facts : RunFacts run ever
+  -- an effect that isn't a Put stands in the whole log where it stands in the log itself
+  other : (r : ℕ) (e : Effect) → (IsPut e → ⊥) → Has e (whole_log (before (repository r)) (log (repository r))) → Has e (log (repository r))
+  other r e isnt h = other-whole (before (repository r)) (log (repository r)) e isnt h
+
+  also : (r : ℕ) (e : Effect) → Has e (log (repository r)) → Has e (whole_log (before (repository r)) (log (repository r)))
+  also r e h = whole-has (before (repository r)) (log (repository r)) e h
+
+  pub run-facts : RunFacts whole_one ever
   run-facts = record {
-    decided_once = λ s d e h k. ap is_commit (decided-once s.home (log (repository s.home)) s d e (f.tidy (repository s.home)) h k);
-    decided_home = λ r s d i h. sym (decide-home r (log (repository r)) s d (f.tidy (repository r)) h);
-    learned = λ r s c i h. caused r (effect.Learn s c) h;
-    learned_away = λ r s c i h e. learn-home r (log (repository r)) s c (f.tidy (repository r)) h e;
+    decided_once = λ s d e h k. ap is_commit (decided-once s.home (log (repository s.home)) s d e (f.tidy (repository s.home)) (other s.home (effect.Decide s d) (λ z. z) h) (other s.home (effect.Decide s e) (λ z. z) k));
+    decided_home = λ r s d i h. sym (decide-home r (log (repository r)) s d (f.tidy (repository r)) (other r (effect.Decide s d) (λ z. z) h));
+    learned = λ r s c i h. let k = caused r (effect.Learn s c) (other r (effect.Learn s c) (λ z. z) h) in (k.0, also s.home (effect.Decide s k.0) k.1, k.2);
+    learned_away = λ r s c i h e. learn-home r (log (repository r)) s c (f.tidy (repository r)) (other r (effect.Learn s c) (λ z. z) h) e;
     value = λ t v h. value-said t v (posted (message.Value t v) h);
     stored = λ t h. stored-said t (posted (message.Stored t) h);
-    decided = λ s d h. decided-said s d (posted (message.Decided s d) h);
+    decided = λ s d h. also s.home (effect.Decide s d) (decided-said s d h);
     got = λ a pre post v has. moved (λ x. x.answers ≡ pre ++ (Got v ∷ post) → Said ever (message.Value (at x.stamp pre) v)) a (mine a has)
         (λ e. came (mine a has).number _ ((its-proof a (mine a has)).answers pre post (Got v) e));
     acked = λ a pre post has. moved (λ x. x.answers ≡ pre ++ (Stored ∷ post) → Said ever (message.Stored (at x.stamp pre))) a (mine a has)
@@ -293,9 +329,10 @@ module _ (script : List ℕ → Tree) (b : Base) (plan : Plan) (logs : NodeId �
     write_asked = λ a t o v has h. moved (λ x. t.stamp ≡ x.stamp → Asked x t (ToWrite o v)) a (mine a has) (write-said a (mine a has) t o v (posted (message.Write t o v) h));
     commit_asked = λ a has. moved (λ x. Said ever (message.Commit x.stamp) → ((talked x.script x.answers).stop ≡ Over ending.Finished) × MayCommit x.ended) a (mine a has)
         (λ h. commit-said a (mine a has) (posted (message.Commit (mine a has).try.stamp) h));
-    distinct = λ r i. tidy-distinct r (log (repository r)) (f.tidy (repository r));
-    put = λ r o x v i h. (own-put r (log (repository r)) o x v (f.tidy (repository r)) h, was-said _ _ _ (caused r (effect.Put o x v) h).0);
-    commit = λ s h. was-said _ _ _ (caused s.home (effect.Decide s decision.Committed) h);
+    distinct = λ r i. subst Distinct (sym (marks-whole (before (repository r)) (log (repository r)))) (its-all script b logs olds past sent May f r (record { repository = r; number = 0 })).distinct;
+    put = λ r o x v i h. let k = put-once (before (repository r)) (log (repository r)) (effect.Put o x v) h in
+        let asked = put-asked script b logs olds past sent May f r k.0 o x v k.1 k.2 in (asked.1, was-said _ _ _ asked.0);
+    commit = λ s h. was-said _ _ _ (caused s.home (effect.Decide s decision.Committed) (other s.home (effect.Decide s decision.Committed) (λ z. z) h));
     home = λ a has. moved (λ x. in_run run x.stamp.home ≡ true) a (mine a has) (in-both run _ (its-home a (mine a has)).0 (its-home a (mine a has)).1);
     within = λ a pre post q has. moved (λ x. x.answers ≡ pre ++ post → asks (after x.script pre) ≡ Some q → in_run run (asked_of q).repository ≡ true) a (mine a has)
         (λ e k. let r = inside-asks plan.repositories (after (script (mine a has).try.task.script) pre) q
@@ -311,8 +348,14 @@ module _ (script : List ℕ → Tree) (b : Base) (plan : Plan) (logs : NodeId �
   some-asks (Asks p) q e = cc e
   some-asks (Over x) q e = absurd (cc e)
 
+  same-read : (p o : ObjectId) → Asks (ToRead p) ≡ Asks (ToRead o) → p ≡ o
+  same-read p o e = cc e
+
+  -- one of the logs of a sender has what it said, and it was sent
   abbrev PostedFrom : Message → Type 0
-  PostedFrom m = (k : NodeKind) × (i : ℕ) × (to : NodeId) × kind_post script ever k i (log (record { kind = k; number = i })) (record { to = to; message = m }) × Has (record { from = record { kind = k; number = i }; to = to; message = m }) ever
+  PostedFrom m = (k : NodeKind) × (i : ℕ) × (to : NodeId)
+      × SomeOf (λ l. kind_post script ever k i l (record { to = to; message = m })) (log (record { kind = k; number = i }) ∷ before (record { kind = k; number = i }))
+      × Has (record { from = record { kind = k; number = i }; to = to; message = m }) ever
 
   posted-from : (m : Message) → Said ever m → PostedFrom m
   posted-from m h =
@@ -320,98 +363,147 @@ module _ (script : List ℕ → Tree) (b : Base) (plan : Plan) (logs : NodeId �
         r.0.from.kind,
         r.0.from.number,
         r.0.to,
-        subst (λ x. kind_post script ever r.0.from.kind r.0.from.number (log r.0.from) (record { to = r.0.to; message = x })) r.2 (every-has _ ever r.0 f.sent_ok r.1),
+        subst (λ x. SomeOf (λ l. kind_post script ever r.0.from.kind r.0.from.number l (record { to = r.0.to; message = x })) (log r.0.from ∷ before r.0.from)) r.2 (every-has _ ever r.0 f.sent_ok r.1),
         subst (λ x. Has (record { from = r.0.from; to = r.0.to; message = x }) ever) r.2 r.1,
       )
 
-  -- `Told` holds of what a repository answered to a write that it took, unless it was a read
-  abbrev TellsOf : (TimeParts → ObjectId → Value → WriteStep → Type 0) → Type 0
-  TellsOf Told = (r : ℕ) (q : Post) → Has q ever → q.from ≡ repository r → Says (ToldRequest ever r Told) q.message
+  -- what one of the logs of a repository has
+  stood-in : (r : ℕ) (e : Effect) (l : List Effect) → Has l (all_logs r) → Has e l → HasStood run before r e
+  stood-in r e l (inl same) h = inl (subst (Has e) (sym same) h)
+  stood-in r e l (inr k) h = inr (l, k, h)
 
-  module _ (Told : TimeParts → ObjectId → Value → WriteStep → Type 0) (tells : TellsOf Told) (a : Try) (m : Mine a) where
+  -- `Answered` holds of what a repository answered to a write that it took, and `Refused` of a read
+  abbrev TellsOf : (TimeParts → ObjectId → Value → WriteStep → Type 0) → (TimeParts → ObjectId → TimeParts → Type 0) → Type 0
+  TellsOf Answered Refused = (r : ℕ) (q : Post) → Has q ever → q.from ≡ repository r → Says (ToldRequest ever r Answered Refused) q.message
+
+  module _ (Answered : TimeParts → ObjectId → Value → WriteStep → Type 0) (Refused : TimeParts → ObjectId → TimeParts → Type 0) (tells : TellsOf Answered Refused) (a : Try) (m : Mine a) where
+    abbrev happened : Happened
+    happened = record { Ticked = May; Answered = Answered; Refused = Refused }
+
     abbrev mine-try : Try
     mine-try = attempt script m.try
 
     abbrev time : TimeParts
     time = at m.try.stamp m.try.answers
 
-    -- what was asked of a repository at this pseudotime is what the script asks there
-    asked-now : (r : ℕ) (o p : ObjectId) (v w : Value) → repositories.WriteSent ever r time p w → stop (script m.try.task.script) m.try.answers ≡ Asks (ToWrite o v) →
-        (p ≡ o) × (asks (after (script m.try.task.script) m.try.answers) ≡ Some (ToWrite p w))
-    asked-now r o p v w sent e =
-        let said : Asked mine-try time (ToWrite p w) = write-said a m time p w (posted (message.Write time p w) (was-said _ _ _ sent.0)) refl in
-        let here : asks (after (script m.try.task.script) m.try.answers) ≡ Some (ToWrite p w) = asked-here mine-try m.try.answers [] (ToWrite p w) (sym (append-nil m.try.answers)) said in
-        (same-write p o w v (sym (some-asks _ (ToWrite p w) here) ∙ e), here)
-
     -- what the script asks at this pseudotime
     abbrev Stands : Request → Type 0
     Stands q = stop (script m.try.task.script) m.try.answers ≡ Asks q
 
+    abbrev AsksFor : Request → Type 0
+    AsksFor q = asks (after (script m.try.task.script) m.try.answers) ≡ Some q
+
+    -- what was asked of a repository at this pseudotime is that
+    asked-write : (r : ℕ) (p : ObjectId) (w : Value) → repositories.WriteSent ever r time p w → AsksFor (ToWrite p w)
+    asked-write r p w sent =
+        let said : Asked mine-try time (ToWrite p w) = write-said a m time p w (posted (message.Write time p w) (was-said _ _ _ sent.0)) refl in
+        asked-here mine-try m.try.answers [] (ToWrite p w) (sym (append-nil m.try.answers)) said
+
+    asked-read : (r : ℕ) (p : ObjectId) → repositories.ReadSent ever r time p → AsksFor (ToRead p)
+    asked-read r p sent =
+        let said : Asked mine-try time (ToRead p) = read-said a m time p (posted (message.Read time p) (was-said _ _ _ sent.0)) refl in
+        asked-here mine-try m.try.answers [] (ToRead p) (sym (append-nil m.try.answers)) said
+
+    is-write : (r : ℕ) (o p : ObjectId) (v w : Value) → repositories.WriteSent ever r time p w → Stands (ToWrite o v) → p ≡ o
+    is-write r o p v w sent e = same-write p o w v (sym (some-asks _ (ToWrite p w) (asked-write r p w sent)) ∙ e)
+
+    is-read : (r : ℕ) (o p : ObjectId) → repositories.ReadSent ever r time p → Stands (ToRead o) → p ≡ o
+    is-read r o p sent e = same-read p o (sym (some-asks _ (ToRead p) (asked-read r p sent)) ∙ e)
+
     -- nor was a read of it sent where it asks to write, or a write where it asks to read
     no-read : (r : ℕ) (o p : ObjectId) (v : Value) → repositories.ReadSent ever r time p → Stands (ToWrite o v) → ⊥
-    no-read r o p v sent e =
-        let said : Asked mine-try time (ToRead p) = read-said a m time p (posted (message.Read time p) (was-said _ _ _ sent.0)) refl in
-        let here : asks (after (script m.try.task.script) m.try.answers) ≡ Some (ToRead p) = asked-here mine-try m.try.answers [] (ToRead p) (sym (append-nil m.try.answers)) said in
-        let both : Asks (ToRead p) ≡ Asks (ToWrite o v) = sym (some-asks _ (ToRead p) here) ∙ e in cc
+    no-read r o p v sent e = let both : Asks (ToRead p) ≡ Asks (ToWrite o v) = sym (some-asks _ (ToRead p) (asked-read r p sent)) ∙ e in cc
 
     no-write : (r : ℕ) (o p : ObjectId) (v : Value) → repositories.WriteSent ever r time p v → Stands (ToRead o) → ⊥
-    no-write r o p v sent e =
-        let said : Asked mine-try time (ToWrite p v) = write-said a m time p v (posted (message.Write time p v) (was-said _ _ _ sent.0)) refl in
-        let here : asks (after (script m.try.task.script) m.try.answers) ≡ Some (ToWrite p v) = asked-here mine-try m.try.answers [] (ToWrite p v) (sym (append-nil m.try.answers)) said in
-        let both : Asks (ToWrite p v) ≡ Asks (ToRead o) = sym (some-asks _ (ToWrite p v) here) ∙ e in cc
+    no-write r o p v sent e = let both : Asks (ToWrite p v) ≡ Asks (ToRead o) = sym (some-asks _ (ToWrite p v) (asked-write r p v sent)) ∙ e in cc
 
-    -- in a log that runs alone left there is no floor
-    grown : (i : ℕ) → Grew (repositories.FitsLog i) [] (log (repository i))
-    grown i = grown-alone (repositories.FitsLog i) (log (repository i)) (f.grown (repository i))
+    stretched-in : (r : ℕ) (o : ObjectId) (e : TimeParts) (l : List Effect) → Has l (all_logs r) → Has (effect.Stretch o e) l ⊎ Has (effect.Mark e) l → HasStood run before r (effect.Stretch o e) ⊎ HasStood run before r (effect.Mark e)
+    stretched-in r o e l k (inl h) = inl (stood-in r (effect.Stretch o e) l k h)
+    stretched-in r o e l k (inr h) = inr (stood-in r (effect.Mark e) l k h)
 
-    stretched-there : (i : ℕ) (o : ObjectId) (e : TimeParts) → Has (effect.Stretch o e) (log (repository i)) ⊎ Has (effect.Mark e) (log (repository i)) → Has (effect.Stretch o e) (log (repository i))
-    stretched-there i o e (inl h) = h
-    stretched-there i o e (inr h) = absurd (grown-marks i (log (repository i)) e (grown i) h)
+    -- a write that was refused
+    write-refused : (i : ℕ) (o p : ObjectId) (e : TimeParts) (v w : Value) (l : List Effect) → Has l (all_logs i) → lt time e ≡ true → Stands (ToWrite o v) → repositories.WriteSent ever i time p w →
+        Once (λ k. write_step (marks k) p time w ≡ write.LaterRead e) l → ToldRequest ever i Answered Refused time (write.LaterRead e) → HasReason run before happened mine-try (outcome.LaterRead o e)
+    write-refused i o p e v w l k less stands sent once (inr t) = absurd (no-read i o t.0 v t.3 stands)
+    write-refused i o p e v w l k less stands sent once (inl t) =
+        let r : p ≡ o = is-write i o p v w sent stands in
+        let q : t.0 ≡ o = is-write i o t.0 v t.1 t.2 stands in
+        let there = stretched-in i p e l k (once-read l p time e w once) in
+        subst (λ y. HasReason run before happened mine-try (outcome.LaterRead y e)) q (
+          less,
+          inl (
+            t.1,
+            asked-write i t.0 t.1 t.2,
+            subst (λ y. HasStood run before y.repository (effect.Stretch y e) ⊎ HasStood run before y.repository (effect.Mark e)) (r ∙ sym q)
+                (subst (λ j. HasStood run before j (effect.Stretch p e) ⊎ HasStood run before j (effect.Mark e)) (sym sent.1) there),
+            t.3,
+          ),
+        )
 
-    refused-write : (i : ℕ) (o p : ObjectId) (e : TimeParts) (v w : Value) → lt time e ≡ true → Stands (ToWrite o v) → repositories.WriteSent ever i time p w → Once (λ k. write_step (marks k) p time w ≡ write.LaterRead e) (log (repository i)) →
-        ToldRequest ever i Told time (write.LaterRead e) → HasReason run May Told mine-try (outcome.LaterRead o e)
-    refused-write i o p e v w less stands sent once (inr r) = absurd (no-read i o r.0 v r.1 stands)
-    refused-write i o p e v w less stands sent once (inl t) =
-        let r = asked-now i o p v w sent stands in
-        let q = asked-now i o t.0 v t.1 t.2 stands in
-        let there = stretched-there i p e (once-read (log (repository i)) p time e w once) in
-        subst (λ y. HasReason run May Told mine-try (outcome.LaterRead y e)) q.0
-        (t.1, q.1, less, subst (λ y. Has (effect.Stretch y e) (log (repository y.repository))) (r.0 ∙ sym q.0) (subst (λ j. Has (effect.Stretch p e) (log (repository j))) (sym sent.1) there), t.3)
+    -- a read that was
+    read-refused : (i : ℕ) (o p : ObjectId) (e : TimeParts) (l : List Effect) → Has l (all_logs i) → lt time e ≡ true → Stands (ToRead o) → repositories.ReadSent ever i time p →
+        Once (λ k. read_step (marks k) p time ≡ read.LaterRead e) l → ToldRequest ever i Answered Refused time (write.LaterRead e) → HasReason run before happened mine-try (outcome.LaterRead o e)
+    read-refused i o p e l k less stands sent once (inl t) = absurd (no-write i o t.0 t.1 t.2 stands)
+    read-refused i o p e l k less stands sent once (inr t) =
+        let r : p ≡ o = is-read i o p sent stands in
+        let q : t.0 ≡ o = is-read i o t.0 t.3 stands in
+        let end : t.1 ≡ e = cc (sym t.2) in
+        let there = stood-in i (effect.Mark e) l k (once-refused l p time e once) in
+        subst (λ y. HasReason run before happened mine-try (outcome.LaterRead y e)) q (
+          less,
+          inr (
+            asked-read i t.0 t.3,
+            subst (λ y. HasStood run before y.repository (effect.Mark e)) (r ∙ sym q) (subst (λ j. HasStood run before j (effect.Mark e)) (sym sent.1) there),
+            subst (λ z. Refused time t.0 z) end t.4,
+          ),
+        )
 
-    refused-by : (i : ℕ) (o p : ObjectId) (e : TimeParts) → lt time e ≡ true → Stands (ToRead o) ⊎ ((v : Value) × Stands (ToWrite o v)) → repositories.WasReadLater ever i (log (repository i)) p time e →
-        ToldRequest ever i Told time (write.LaterRead e) → HasReason run May Told mine-try (outcome.LaterRead o e)
-    refused-by i o p e less stands (inl r) told = absurd (grown-once i (log (repository i)) p time e (grown i) r.1)
-    refused-by i o p e less (inl reads) (inr r) told = absurd (no-write i o p r.0 r.1 reads)
-    refused-by i o p e less (inr writes) (inr r) told = refused-write i o p e writes.0 r.0 less writes.1 r.1 r.2 told
+    refused-by : (i : ℕ) (o p : ObjectId) (e : TimeParts) (l : List Effect) → Has l (all_logs i) → lt time e ≡ true → Stands (ToRead o) ⊎ ((v : Value) × Stands (ToWrite o v)) → repositories.WasReadLater ever i l p time e →
+        ToldRequest ever i Answered Refused time (write.LaterRead e) → HasReason run before happened mine-try (outcome.LaterRead o e)
+    refused-by i o p e l k less (inl reads) (inl r) told = read-refused i o p e l k less reads r.0 r.1 told
+    refused-by i o p e l k less (inl reads) (inr r) told = absurd (no-write i o p r.0 r.1 reads)
+    refused-by i o p e l k less (inr writes) (inl r) told = absurd (no-read i o p writes.0 r.0 writes.1)
+    refused-by i o p e l k less (inr writes) (inr r) told = write-refused i o p e writes.0 r.0 l k less writes.1 r.1 r.2 told
 
-    refused-read : (o : ObjectId) (e : TimeParts) → Stands (ToRead o) ⊎ ((v : Value) × Stands (ToWrite o v)) → PostedFrom (message.LaterRead time e) → HasReason run May Told mine-try (outcome.LaterRead o e)
-    refused-read o e stands (Broker, i, to, h, s) = absurd h
-    refused-read o e stands (Repository, i, to, h, s) = refused-by i o h.0 e h.1 stands h.2 (tells i (record { from = repository i; to = to; message = message.LaterRead time e }) s refl)
+    refused-later : (o : ObjectId) (e : TimeParts) → Stands (ToRead o) ⊎ ((v : Value) × Stands (ToWrite o v)) → PostedFrom (message.LaterRead time e) → HasReason run before happened mine-try (outcome.LaterRead o e)
+    refused-later o e stands (Broker, i, to, h, s) = absurd (by-broker i to (message.LaterRead time e) h)
+    refused-later o e stands (Repository, i, to, h, s) =
+        let p = by-repository i to (message.LaterRead time e) h in
+        refused-by i o p.2.0 e p.0 p.1 p.2.1 stands p.2.2 (tells i (record { from = repository i; to = to; message = message.LaterRead time e }) s refl)
 
-    refused-version : (o : ObjectId) (x : TimeParts) → ((v : Value) × (stop (script m.try.task.script) m.try.answers ≡ Asks (ToWrite o v))) → PostedFrom (message.LaterVersion time x) → HasReason run May Told mine-try (outcome.LaterVersion o x)
-    refused-version o x asks-it (Broker, i, to, h, s) = absurd h
-    refused-version o x asks-it (Repository, i, to, h, s) = by (tells i (record { from = repository i; to = to; message = message.LaterVersion time x }) s refl)
+    refused-version : (o : ObjectId) (x : TimeParts) → ((v : Value) × Stands (ToWrite o v)) → PostedFrom (message.LaterVersion time x) → HasReason run before happened mine-try (outcome.LaterVersion o x)
+    refused-version o x asks-it (Broker, i, to, h, s) = absurd (by-broker i to (message.LaterVersion time x) h)
+    refused-version o x asks-it (Repository, i, to, h, s) = by (by-repository i to (message.LaterVersion time x) h) (tells i (record { from = repository i; to = to; message = message.LaterVersion time x }) s refl)
       where
-        by : ToldRequest ever i Told time (write.LaterVersion x) → HasReason run May Told mine-try (outcome.LaterVersion o x)
-        by (inr g) = absurd (no-read i o g.0 asks-it.0 g.1 asks-it.1)
-        by (inl a) =
-            let r = asked-now i o h.0 asks-it.0 h.1 h.2 asks-it.1 in
-            let q = asked-now i o a.0 asks-it.0 a.1 a.2 asks-it.1 in
-            let there = once-version (log (repository i)) h.0 time x h.1 h.4 in
-            subst (λ y. HasReason run May Told mine-try (outcome.LaterVersion y x)) q.0
-            (a.1, q.1, h.3, subst (λ y. (w : Value) × Has (effect.Put y x w) (log (repository y.repository))) (r.0 ∙ sym q.0) (subst (λ j. (w : Value) × Has (effect.Put h.0 x w) (log (repository j))) (sym h.2.1) there), a.3)
+        by : ((l : List Effect) × Has l (all_logs i) × kind_post script ever Repository i l (record { to = to; message = message.LaterVersion time x })) → ToldRequest ever i Answered Refused time (write.LaterVersion x) →
+            HasReason run before happened mine-try (outcome.LaterVersion o x)
+        by p (inr g) = absurd (no-read i o g.0 asks-it.0 g.3 asks-it.1)
+        by p (inl t) =
+            let r : p.2.0 ≡ o = is-write i o p.2.0 asks-it.0 p.2.1 p.2.2 asks-it.1 in
+            let q : t.0 ≡ o = is-write i o t.0 asks-it.0 t.1 t.2 asks-it.1 in
+            let once = once-version p.0 p.2.0 time x p.2.1 p.2.4 in
+            let there = stood-in i (effect.Put p.2.0 x once.0) p.0 p.1 once.1 in
+            subst (λ y. HasReason run before happened mine-try (outcome.LaterVersion y x)) q (
+              t.1,
+              asked-write i t.0 t.1 t.2,
+              p.2.3,
+              (once.0, subst (λ y. HasStood run before y.repository (effect.Put y x once.0)) (r ∙ sym q) (subst (λ j. HasStood run before j (effect.Put p.2.0 x once.0)) (sym p.2.2.1) there)),
+              t.3,
+            )
 
-    try-cause : (o : Outcome) → m.try.end ≡ Some o → HasReason run May Told mine-try o
-    try-cause outcome.Committed e = decided-said m.try.stamp decision.Committed (posted _ (came m.number _ ((its-proof a m).ends outcome.Committed e)))
+    try-cause : (o : Outcome) → m.try.end ≡ Some o → HasReason run before happened mine-try o
+    try-cause outcome.Committed e = decided-said m.try.stamp decision.Committed (came m.number _ ((its-proof a m).ends outcome.Committed e))
     try-cause (outcome.Withdrawn l) e = talked-stop (script m.try.task.script) m.try.answers ∙ (its-play a m).ends (outcome.Withdrawn l) e
     try-cause (outcome.Failed l k) e = talked-stop (script m.try.task.script) m.try.answers ∙ (its-play a m).ends (outcome.Failed l k) e
     try-cause (outcome.Expired d n) e =
-        let decided = decided-said m.try.stamp (decision.Expired d n) (posted _ (came m.number _ ((its-proof a m).ends (outcome.Expired d n) e))) in
+        let decided = decided-said m.try.stamp (decision.Expired d n) (came m.number _ ((its-proof a m).ends (outcome.Expired d n) e)) in
         let c = decide-cause m.try.stamp.home (log (repository m.try.stamp.home)) m.try.stamp (decision.Expired d n) (f.tidy (repository m.try.stamp.home)) decided in
         (decided, subst (λ x. Has (effect.Begin m.try.stamp x) (log (repository m.try.stamp.home))) (sym c.2.0) c.1, subst (λ x. x ≤ n) (sym c.2.0) c.2.1, f.ticked n (caused m.try.stamp.home (effect.Decide m.try.stamp (decision.Expired d n)) decided))
-    try-cause (outcome.LaterRead o x) e = refused-read o x ((its-play a m).ends (outcome.LaterRead o x) e) (posted-from _ (came m.number _ ((its-proof a m).ends (outcome.LaterRead o x) e)))
+    try-cause (outcome.LaterRead o x) e = refused-later o x ((its-play a m).ends (outcome.LaterRead o x) e) (posted-from _ (came m.number _ ((its-proof a m).ends (outcome.LaterRead o x) e)))
     try-cause (outcome.LaterVersion o x) e = refused-version o x ((its-play a m).ends (outcome.LaterVersion o x) e) (posted-from _ (came m.number _ ((its-proof a m).ends (outcome.LaterVersion o x) e)))
     try-cause (outcome.Spent c) e = absurd ((its-play a m).ends (outcome.Spent c) e)
 
-  pub run-causes : (Told : TimeParts → ObjectId → Value → WriteStep → Type 0) → TellsOf Told → Causes run May Told
-  run-causes Told tells a o has = moved (λ x. x.ended ≡ Some o → HasReason run May Told x o) a (mine a has) (try-cause Told tells a (mine a has) o)
+  pub run-causes : (Answered : TimeParts → ObjectId → Value → WriteStep → Type 0) (Refused : TimeParts → ObjectId → TimeParts → Type 0) → TellsOf Answered Refused →
+      Causes run before (record { Ticked = May; Answered = Answered; Refused = Refused })
+  run-causes Answered Refused tells a o has =
+      moved (λ x. x.ended ≡ Some o → HasReason run before (record { Ticked = May; Answered = Answered; Refused = Refused }) x o) a (mine a has) (try-cause Answered Refused tells a (mine a has) o)

@@ -1,22 +1,26 @@
 -- Runs that agree in the logs of their repositories and in their tries are serial together.
-use Rattle.std.proofs.Common.{◌≡◌, ℕ, zero, suc, ◌≤◌, Bool, true, false, ◌&&◌, ◌||◌, nat_le, map, List, [], ◌∷◌, refl, sym, ◌∙◌, ap, subst, if◌then◌else◌, arith}
+use Rattle.std.proofs.Common.{◌≡◌, ◌⊎◌, ℕ, zero, suc, ◌≤◌, Bool, true, false, ◌&&◌, ◌||◌, nat_le, map, List, [], ◌∷◌, ◌++◌, refl, sym, ◌∙◌, ap, subst, if◌then◌else◌, arith}
 use Rattle.std.specs.FinMap as finite
 use Rattle.std.proofs.lemmas.Bool.{le-leb}
+use Rattle.pseudo_time.specs.Lists.{Every, Has}
 use Rattle.pseudo_time.specs.StampParts.{StampParts}
 use Rattle.pseudo_time.specs.Order.{stamp_lt}
 use Rattle.pseudo_time.specs.Nodes.{repository}
 use Rattle.pseudo_time.specs.declared.nodes.NodeId.{NodeId}
 use Rattle.value_form.specs.declared.objects.ObjectId.{ObjectId}
-use Rattle.value_form.specs.Objects.{Objects, value_at}
+use Rattle.value_form.specs.Objects.{Objects}
 use Rattle.effect_form.specs.declared.effects.Effect.{Effect}
 use Rattle.object_history.specs.declared.marks.Mark.{Mark}
 use Rattle.object_history.specs.declared.marks.Mark.TheVariants.{Put, Stretch, Settle, Floor}
 use Rattle.object_history.specs.History.{scan}
+use Rattle.object_history.specs.Views.{value_of}
 use Rattle.repository_core.specs.Logs.{marks}
 use Rattle.serial_model.specs.Questions.{talked, talked_alone}
 use Rattle.serial_model.specs.Deeds.{after_deeds, stamp_if}
 use Rattle.world_core.specs.Deeds.{Try, RunLogs, in_run, some_of, has_commit, has_learned, committed, puts_of, puts_to, written, find, deed_of, deed, put_stamps, log_stamps, try_stamps, deed_stamps, all_deeds, before, finals, marks_at}
-use Rattle.serial_law.specs.Serial.{Serial, IsSerial, HasValue, HoldsAll}
+use Rattle.serial_law.specs.Serial.{Serial, IsSerial}
+use Rattle.serial_law.specs.Wholes.{KeepsPuts, PutsStand, WasGivenUp, wrote}
+use Rattle.trace_report.specs.Finals.{holding, last_values, marks_to}
 use Rattle.broker_laws.proofs.TestLemmas.{and-both}
 
 abbrev run_with : ℕ → (NodeId → List Effect) → List Try → RunLogs
@@ -49,13 +53,13 @@ module _ (most : ℕ) (f g : NodeId → List Effect) (tries : List Try) (same : 
 
   -- ---- puts
 
-  puts-same : (s : StampParts) (n : ℕ) → n ≤ most → puts_to k s n ≡ puts_to k' s n
+  to-puts : (s : StampParts) (n : ℕ) → n ≤ most → puts_to k s n ≡ puts_to k' s n
   unfolding puts_to
-  puts-same s zero le = refl
-  puts-same s (suc n) le = λ i. puts_of s (marks (here n le i)) (puts-same s n (omega (arith, le)) i)
+  to-puts s zero le = refl
+  to-puts s (suc n) le = λ i. puts_of s (marks (here n le i)) (to-puts s n (omega (arith, le)) i)
 
   written-same : (s : StampParts) → written k s ≡ written k' s
-  written-same s = puts-same s most (omega arith)
+  written-same s = to-puts s most (omega arith)
 
   deed-same : (s : StampParts) → deed k s ≡ deed k' s
   deed-same s = ap (deed_of (find s tries)) (written-same s)
@@ -114,11 +118,14 @@ module _ (most : ℕ) (f g : NodeId → List Effect) (tries : List Try) (same : 
       here-marks true h = ap marks (h refl)
       here-marks false h = refl
 
-  pub finals-hold : HoldsAll k (finals k) → HoldsAll k' (finals k')
-  finals-hold h o =
-      subst (λ m. HasValue (scan (λ x. committed k' x.stamp) o (marks_at k' o)) (value_at m o)) finals-same
-      (subst (λ m. HasValue (scan (λ x. committed k' x.stamp) o m) (value_at (finals k) o)) (marks-same o)
-      (subst (λ (c : StampParts → Bool). HasValue (scan (λ x. c x.stamp) o (marks_at k o)) (value_at (finals k) o)) (λ i s. committed-same s i) (h o)))
+  -- ---- what the logs hold
+
+  to-same : (n : ℕ) → n ≤ most → marks_to k n ≡ marks_to k' n
+  to-same zero le = refl
+  to-same (suc n) le = λ i. marks (here n le i) ++ to-same n (omega (arith, le)) i
+
+  pub last-same : last_values k ≡ last_values k'
+  last-same = λ i. holding (λ s. committed-same s i) (λ o. value_of (scan (λ x. committed-same x.stamp i) o (to-same most (omega arith) i))) (to-same most (omega arith) i)
 
   -- ---- serial
 
@@ -135,4 +142,13 @@ module _ (most : ℕ) (f g : NodeId → List Effect) (tries : List Try) (same : 
         sure = λ e. c ∙ p'.sure e;
         other = λ o e n. c ∙ p'.other o e n;
         puts = λ e. sym (written-same t.stamp) ∙ p'.puts (sym c ∙ e);
+      }
+
+  pub puts-same : KeepsPuts k → KeepsPuts k'
+  puts-same h t j e =
+      let p : PutsStand k t = h t j (committed-same t.stamp ∙ e) in
+      record {
+        lines = subst (λ vs. Every (λ v. Has v (wrote t)) vs) (written-same t.stamp) p.lines;
+        puts = subst (λ (m : ObjectId → List Mark). Every (λ v. Has v (written k' t.stamp) ⊎ WasGivenUp (m v.object) v) (wrote t)) (λ i o. marks-same o i)
+            (subst (λ vs. Every (λ v. Has v vs ⊎ WasGivenUp (marks_at k v.object) v) (wrote t)) (written-same t.stamp) p.puts);
       }

@@ -1,5 +1,5 @@
 -- What the top call promises of serial runs, from the law of serial runs.
-use Rattle.std.proofs.Common.{◌≡◌, ◌⊎◌, inl, inr, ℕ, zero, suc, ◌≤◌, ◌==◌, nat_le, Bool, true, false, ◌&&◌, List, [], ◌∷◌, ◌++◌, append-nil, length, map, refl, sym, ◌∙◌, ap, subst, if◌then◌else◌, arith}
+use Rattle.std.proofs.Common.{◌≡◌, ℕ, zero, suc, ◌≤◌, ◌==◌, nat_le, Bool, true, false, ◌&&◌, List, [], ◌∷◌, ◌++◌, append-nil, length, map, refl, sym, ◌∙◌, ap, subst, if◌then◌else◌, arith}
 use Rattle.std.proofs.lemmas.Bool.{eqb-true, le-leb}
 use Rattle.std.specs.Prelude.{reverse}
 use Rattle.pseudo_time.specs.Lists.{Every}
@@ -16,19 +16,20 @@ use Rattle.broker_core.specs.Book.{Book, Act, tries_of}
 use Rattle.broker_core.specs.Sound.{Started, OfAct}
 use Rattle.world_core.specs.declared.traces.Trace.{Trace}
 use Rattle.world_core.specs.Nodes.{acts_of}
-use Rattle.world_core.specs.Walks.{World, step, start_world}
+use Rattle.world_core.specs.Walks.{World, start_world}
 use Rattle.world_core.specs.Legal.{base_of, in_plan}
-use Rattle.world_core.specs.Deeds.{RunLogs, Try, attempt, book_tries, finals, run_tries}
+use Rattle.world_core.specs.Deeds.{Try, attempt, book_tries, finals, run_tries}
 use Rattle.pseudo_time.specs.Nodes.{broker, repository}
 use Rattle.broker_core.specs.Readings.{reading}
 use Rattle.broker_core.specs.Counted.{counted}
 use Rattle.world_core.specs.Readings.{IsLegal, gated_log}
 use Rattle.world_core.specs.Pasts.{OpenedWith}
-use Rattle.serial_law.specs.Runs.{AnsweredBefore, AnsweredIn, Position, RunsAlone, TickedBefore, world_at, log_at, run_at, sent_before}
-use Rattle.serial_law.specs.Serial.{HoldsAll, Serial}
-use Rattle.world_core.specs.Answered.{WasAnswered}
-use Rattle.world_core.specs.Pasts.{alike}
-use Rattle.world_facts.specs.Earlier.{AreEarlier, AreRuns, Earlier, TickedBy, WereLeftOrRetired}
+use Rattle.serial_law.specs.Runs.{AnsweredBefore, Position, RefusedBefore, TickedBefore, happened_before, log_at, olds_at, run_at, sent_before, whole_at, world_at}
+use Rattle.serial_law.specs.Serial.{Serial}
+use Rattle.serial_law.specs.Wholes.{KeepsPuts, whole_log}
+use Rattle.trace_report.specs.Finals.{last_values}
+use Rattle.value_form.specs.Objects.{value_at}
+use Rattle.world_facts.specs.Earlier.{Earlier, TickedBy, WereLeftOrRetired}
 use Rattle.serial_law.specs.Causes.{Causes}
 use Rattle.serial_law.specs.Facts.{RunFacts}
 use Rattle.pseudo_time.specs.Lists.{Has}
@@ -36,16 +37,16 @@ use Rattle.pseudo_time.specs.TimeParts.{TimeParts}
 use Rattle.value_form.specs.declared.objects.ObjectId.{ObjectId}
 use Rattle.value_form.specs.declared.values.Value.{Value}
 use Rattle.object_history.specs.declared.steps.WriteStep.{WriteStep}
-use Rattle.serial_law.specs.Reasons.{AnsweredBy, HaveReasons}
-use Rattle.serial_law.proofs.ReasonRuns.{answered-from, answered-now, reason-same}
-use Rattle.serial_law.specs.Serials.{HoldsFinals, IsSerialOver, run_in}
+use Rattle.serial_law.specs.Reasons.{AnsweredBy, HaveReasons, RefusedBy, happened_by}
+use Rattle.serial_law.proofs.ReasonRuns.{answered-own, reason-same, refused-own}
+use Rattle.serial_law.specs.Serials.{HoldsFinals, IsSerialOver, olds_in, run_in, whole_in}
 use Rattle.broker_laws.proofs.TestLemmas.{and-both}
 use Rattle.broker_core.proofs.SoundLemmas.{sound-kept}
 use Rattle.broker_core.proofs.SameTurns.{book-same}
 use Rattle.world_core.proofs.SameWorlds.{Agree, agree-of, walk-same}
 use Rattle.world_core.proofs.OneReading.{own-reading}
 use Rattle.serial_law.proofs.OlderReading.{OneReading, older-reading}
-use Rattle.serial_law.proofs.SameRuns.{finals-hold, serial-same}
+use Rattle.serial_law.proofs.SameRuns.{finals-same, last-same, puts-same, serial-same}
 use Rattle.world_facts.proofs.Steps.{walk-known}
 
 -- ---- attempts by two readings
@@ -92,15 +93,16 @@ known-log : (c : Bool) (x y : List Effect) → c ≡ true → (if c then x else 
 known-log true x y e = refl
 known-log false x y e = cc
 
--- the run stands at the end of a legal trace over a past by one reading, and agrees with it in the logs of its repositories and in its attempts
+-- the run stands at the end of a legal trace over a past by one reading, and agrees with it in the logs of its repositories, older and last, and in its attempts
 pub record Placed (plan : Plan) (t : Trace) (cs : List Earlier) : Type 0 where
   pub place : Position
   pub repositories : place.plan.repositories ≡ plan.repositories
   pub logs : (r : ℕ) → (nat_le 1 r && nat_le r plan.repositories) ≡ true → log_at place (repository r) ≡ reverse (gated_log plan t (repository r))
+  pub olds : (n : NodeId) → olds_at place n ≡ olds_in cs n
   pub tries : (run_at place).tries ≡ (run_in plan t).tries
-  pub alone : AreRuns cs → RunsAlone place
-  -- what was answered and ticked there was in this run, or in one of these calls before it
+  -- what was answered, refused and ticked there was in this run, or in one of these calls before it
   pub answered : (x : TimeParts) (o : ObjectId) (v : Value) (step : WriteStep) → AnsweredBefore place x o v step → AnsweredBy plan t cs x o v step
+  pub refused : (x : TimeParts) (o : ObjectId) (e : TimeParts) → RefusedBefore place x o e → RefusedBy plan t cs x o e
   pub ticked : (m : ℕ) → TickedBefore place m → TickedBy cs t.entries m
 
 pub placed : (plan : Plan) (asked : List Asked) (t : Trace) → IsOfLanguage plan → IsLegal plan asked t → (logs : NodeId → List Effect) (left : WereLeftOrRetired logs) → OpenedWith t.opened logs → Placed plan t left.0
@@ -116,44 +118,58 @@ placed plan asked t w l logs left agrees =
       place = p;
       repositories = refl;
       logs = λ r i. there (repository r) i;
+      olds = λ n. ap (map reverse) (sym (r.replaced_so n));
       tries = all-same r.script (reading plan.acts) plan.run plan.acts r.legal.scripted own (log_at p) (λ n. reverse (gated_log plan t n)) plan.brokers
           (λ b low high. there (broker b) (and-both (le-leb 1 b low) (le-leb b plan.brokers high)));
-      answered = λ x o v step. λ (a : AnsweredBefore p x o v step). by-run x o v step r.script r.legal.scripted own r.are a;
-      alone = λ h. h;
+      answered = λ x o v step a. answered-own r.script plan t r.legal.scripted own left.0 r.are left.1.1 x o v step a;
+      refused = λ x o e a. refused-own r.script plan t r.legal.scripted own left.0 r.are left.1.1 x o e a;
       ticked = λ m h. h;
     }
-  where
-    by-run : (x : TimeParts) (o : ObjectId) (v : Value) (step : WriteStep) (script : List ℕ → Tree) → Scripted script plan.acts → Scripted (reading plan.acts) plan.acts → AreEarlier (alike script) left.0 →
-        WasAnswered (base_of script plan t) t.entries x o v step ⊎ AnsweredIn (alike script) left.0 x o v step → AnsweredBy plan t left.0 x o v step
-    by-run x o v step script h own k (inl a) = inl (answered-now script plan h own t t.entries x o v step a)
-    by-run x o v step script h own k (inr a) = inr (answered-from script left.0 k left.1.1 x o v step a)
 
 -- ---- the promises
 
-abbrev Ends : RunLogs → Type 0
-Ends m = HoldsAll m (finals m)
+module _ (plan : Plan) (t : Trace) (cs : List Earlier) (k : Placed plan t cs) where
+  -- the logs there, and with all versions that ever stood
+  abbrev ends : NodeId → List Effect
+  ends = log_at k.place
 
-module _ (law : (p : Position) → RunsAlone p → Serial (run_at p)) where
+  abbrev wholes : NodeId → List Effect
+  wholes n = whole_log (olds_at k.place n) (log_at k.place n)
+
+  -- what holds of its number of repositories and its attempts holds of those of the run
+  to-run : (Q : ℕ → List Try → Type 0) → Q k.place.plan.repositories (run_at k.place).tries → Q plan.repositories (run_in plan t).tries
+  to-run Q h = subst (λ ts. Q plan.repositories ts) k.tries (subst (λ n. Q n (run_at k.place).tries) k.repositories h)
+
+  whole-logs : (r : ℕ) → (nat_le 1 r && nat_le r plan.repositories) ≡ true → wholes (repository r) ≡ (whole_in cs plan t).logs (repository r)
+  whole-logs r i = λ j. whole_log (k.olds (repository r) j) (k.logs r i j)
+
+  serial-run : Serial (whole_at k.place) → Serial (whole_in cs plan t)
+  serial-run h = serial-same plan.repositories wholes (whole_in cs plan t).logs (run_in plan t).tries whole-logs (to-run (λ n ts. Serial (record { repositories = n; logs = wholes; tries = ts })) h)
+
+  puts-run : KeepsPuts (run_at k.place) → KeepsPuts (run_in plan t)
+  puts-run h = puts-same plan.repositories ends (run_in plan t).logs (run_in plan t).tries k.logs (to-run (λ n ts. KeepsPuts (record { repositories = n; logs = ends; tries = ts })) h)
+
+  finals-run : (o : ObjectId) → value_at (last_values (run_at k.place)) o ≡ value_at (finals (whole_at k.place)) o → value_at (last_values (run_in plan t)) o ≡ value_at (finals (whole_in cs plan t)) o
+  finals-run o h =
+      ap (λ m. value_at m o) (sym (last-same plan.repositories ends (run_in plan t).logs (run_in plan t).tries k.logs))
+      ∙ to-run (λ n ts. value_at (last_values (record { repositories = n; logs = ends; tries = ts })) o ≡ value_at (finals (record { repositories = n; logs = wholes; tries = ts })) o) h
+      ∙ ap (λ m. value_at m o) (finals-same plan.repositories wholes (whole_in cs plan t).logs (run_in plan t).tries whole-logs)
+
+module _ (law : (p : Position) → Serial (whole_at p)) (puts : (p : Position) → KeepsPuts (run_at p)) where
   pub serial-over : (plan : Plan) (asked : List Asked) (t : Trace) → IsOfLanguage plan → IsLegal plan asked t → IsSerialOver plan t
-  serial-over plan asked t w l logs left alone agrees =
-      let k = placed plan asked t w l logs left agrees in
-      serial-same plan.repositories (log_at k.place) (λ n. reverse (gated_log plan t n)) (run_in plan t).tries k.logs
-      (subst (λ ts. Serial (record { repositories = plan.repositories; logs = log_at k.place; tries = ts })) k.tries
-      (subst (λ n. Serial (record { repositories = n; logs = log_at k.place; tries = (run_at k.place).tries })) k.repositories (law k.place (k.alone alone))))
+  serial-over plan asked t w l logs left agrees =
+      let k = placed plan asked t w l logs left agrees in (serial-run plan t left.0 k (law k.place), puts-run plan t left.0 k (puts k.place))
 
-module _ (law : (p : Position) → RunsAlone p → HoldsAll (run_at p) (finals (run_at p))) where
+module _ (law : (p : Position) (o : ObjectId) → value_at (last_values (run_at p)) o ≡ value_at (finals (whole_at p)) o) where
   pub finals-over : (plan : Plan) (asked : List Asked) (t : Trace) → IsOfLanguage plan → IsLegal plan asked t → HoldsFinals plan t
-  finals-over plan asked t w l logs left alone agrees =
-      let k = placed plan asked t w l logs left agrees in
-      finals-hold plan.repositories (log_at k.place) (λ n. reverse (gated_log plan t n)) (run_in plan t).tries k.logs
-      (subst (λ ts. Ends (record { repositories = plan.repositories; logs = log_at k.place; tries = ts })) k.tries
-      (subst (λ n. Ends (record { repositories = n; logs = log_at k.place; tries = (run_at k.place).tries })) k.repositories (law k.place (k.alone alone))))
+  finals-over plan asked t w l logs left agrees o =
+      let k = placed plan asked t w l logs left agrees in finals-run plan t left.0 k o (law k.place o)
 
-module _ (facts : (p : Position) → RunsAlone p → RunFacts (run_at p) (sent_before p)) (law : (p : Position) → RunsAlone p → Causes (run_at p) (TickedBefore p) (AnsweredBefore p)) where
+module _ (facts : (p : Position) → RunFacts (whole_at p) (sent_before p)) (law : (p : Position) → Causes (run_at p) (olds_at p) (happened_before p)) where
   pub reasons-over : (plan : Plan) (asked : List Asked) (t : Trace) → IsOfLanguage plan → IsLegal plan asked t → HaveReasons plan t
-  reasons-over plan asked t w l logs left alone agrees try o j e =
+  reasons-over plan asked t w l logs left agrees try o j e =
       let k = placed plan asked t w l logs left agrees in
       let there : Has try (run_at k.place).tries = subst (Has try) (sym k.tries) j in
-      let f : RunFacts (run_at k.place) (sent_before k.place) = facts k.place (k.alone alone) in
-      reason-same (run_at k.place) (run_in plan t) (λ r i. k.logs r (subst (λ n. (nat_le 1 r && nat_le r n) ≡ true) k.repositories i)) (TickedBefore k.place) (TickedBy left.0 t.entries) (AnsweredBefore k.place)
-      (AnsweredBy plan t left.0) k.ticked k.answered try o (f.home try there) (λ q. f.within try try.answers [] q there (sym (append-nil try.answers))) (law k.place (k.alone alone) try o there e)
+      let f : RunFacts (whole_at k.place) (sent_before k.place) = facts k.place in
+      reason-same (run_at k.place) (run_in plan t) (λ r i. k.logs r (subst (λ n. (nat_le 1 r && nat_le r n) ≡ true) k.repositories i)) (olds_at k.place) (olds_in left.0) k.olds (happened_before k.place) (happened_by plan t left.0)
+      k.ticked k.answered k.refused try o (f.home try there) (λ q. f.within try try.answers [] q there (sym (append-nil try.answers))) (law k.place try o there e)

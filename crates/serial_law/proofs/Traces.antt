@@ -32,7 +32,7 @@ use Rattle.broker_laws.proofs.Limits.{within}
 use Rattle.object_history.specs.declared.steps.WriteStep.{WriteStep}
 use Rattle.stream_port.specs.declared.fates.Fate.{Fate}
 use Rattle.world_core.specs.declared.entries.Entry.{Entry}
-use Rattle.world_core.specs.Answered.{WasAnswered}
+use Rattle.world_core.specs.Answered.{WasAnswered, WasRefused}
 use Rattle.world_core.specs.Walks.{Base, opened_log, sent_by, start_world, walk}
 use Rattle.world_core.specs.Legal.{Meets, base_of, fates_of}
 use Rattle.world_core.specs.Pasts.{alike}
@@ -44,14 +44,19 @@ use Rattle.world_facts.specs.Earlier.{AreEarlier, Earlier, replaced, sent_earlie
 use Rattle.world_facts.specs.Earlier.Earlier.{Running, Retiring}
 use Rattle.world_facts.specs.Refines.{logs_at}
 use Rattle.world_facts.proofs.AnswerLemmas.{broker-post}
-use Rattle.world_facts.proofs.EarlierLemmas.{older-facts, runs-keep}
-use Rattle.world_facts.proofs.NodeLaws.{node-laws}
-use Rattle.world_facts.proofs.Openings.{facts-alone}
-use Rattle.world_facts.specs.NodeRules.{node_turns}
+use Rattle.world_facts.proofs.EarlierLemmas.{older-facts}
 use Rattle.serial_law.specs.Facts.{RunFacts}
-use Rattle.serial_law.specs.Runs.{Position, RunsAlone, world_at, log_at, run_at, sent_before, TickedBefore, AnsweredIn, AnsweredBefore}
+use Rattle.serial_law.specs.Runs.{AnsweredBefore, InSome, Position, RefusedBefore, TickedBefore, happened_before, log_at, olds_at, run_at, sent_before, whole_at, world_at}
 use Rattle.serial_law.proofs.RunFacts.{run-facts, run-causes, ToldRequest}
 use Rattle.serial_law.specs.Causes.{Causes, IsSpent}
+use Rattle.serial_law.specs.Serial.{Serial}
+use Rattle.serial_law.specs.Wholes.{KeepsPuts}
+use Rattle.serial_law.proofs.Main.{serial}
+use Rattle.serial_law.proofs.Standing.{finals-stand, no-here, puts-stand, yes-here}
+use Rattle.serial_law.proofs.WholeFacts.{kept-or-gone, same-last}
+use Rattle.trace_report.specs.Finals.{last_values}
+use Rattle.value_form.specs.Objects.{value_at}
+use Rattle.world_core.specs.Deeds.{committed, finals}
 use Rattle.world_facts.proofs.Growths.{each-has}
 
 module _ (p : Position) where
@@ -60,77 +65,105 @@ module _ (p : Position) where
       (sent_by (world_at p)) (TickedBefore p)
   place-facts = older-facts p.script p.plan p.asked p.trace p.logs p.front p.rest p.past p.agrees p.legal p.here
 
-  -- the same where no log was retired
-  pub alone-facts : RunsAlone p → refines.LogFacts (node_facts p.script) (base_of p.script p.plan p.trace) (logs_at p.logs (world_at p)) (sent_earlier (alike p.script) p.past.0) (sent_by (world_at p)) (TickedBefore p)
-  alone-facts alone =
-      let none : replaced (alike p.script) p.past.0 ≡ (λ n. []) = λ i n. runs-keep (alike p.script) p.past.0 alone n i in
-      facts-alone p.script (node_turns p.script) (node_facts p.script) (node-laws p.script) (base_of p.script p.plan p.trace) (logs_at p.logs (world_at p)) (sent_earlier (alike p.script) p.past.0) (sent_by (world_at p)) (TickedBefore p)
-      (subst (λ (olds : NodeId → List (List Effect)). refines.OlderFacts (node_facts p.script) (base_of p.script p.plan p.trace) (logs_at p.logs (world_at p)) olds (sent_earlier (alike p.script) p.past.0) (sent_by (world_at p)) (TickedBefore p)) none place-facts)
-
   abbrev ever : List Post
   ever = sent_before p
 
   brokers-opened : (k : ℕ) → 1 ≤ k → k ≤ p.plan.brokers → is_some (opened_log p.trace.opened (broker k)) ≡ true
   brokers-opened k low high = p.legal.nodes.just (broker k) ∙ and-both (nat_le 1 k) (nat_le k p.plan.brokers) (le-leb 1 k low) (le-leb k p.plan.brokers high)
 
-  pub place-serial-facts : RunsAlone p → RunFacts (run_at p) ever
-  place-serial-facts alone =
-      run-facts p.script (base_of p.script p.plan p.trace) p.plan (logs_at p.logs (world_at p)) (sent_earlier (alike p.script) p.past.0) (sent_by (world_at p)) (TickedBefore p) refl refl p.whole p.legal.scripted
-      brokers-opened (alone-facts alone)
+  pub place-serial-facts : RunFacts (whole_at p) ever
+  place-serial-facts =
+      run-facts p.script (base_of p.script p.plan p.trace) p.plan (logs_at p.logs (world_at p)) (replaced (alike p.script) p.past.0) (sent_earlier (alike p.script) p.past.0) (sent_by (world_at p)) (TickedBefore p) refl refl p.whole
+      p.legal.scripted brokers-opened place-facts
+
+  pub place-serial : Serial (whole_at p)
+  place-serial = serial (whole_at p) ever place-serial-facts
+
+  pub place-puts : KeepsPuts (run_at p)
+  place-puts =
+      puts-stand (olds_at p) (run_at p) ever place-serial-facts
+      (λ r. kept-or-gone p.script (base_of p.script p.plan p.trace) (logs_at p.logs (world_at p)) (replaced (alike p.script) p.past.0) (sent_earlier (alike p.script) p.past.0) (sent_by (world_at p)) (TickedBefore p) place-facts r)
+
+  pub place-finals : (o : ObjectId) → value_at (last_values (run_at p)) o ≡ value_at (finals (whole_at p)) o
+  place-finals =
+      finals-stand (olds_at p) (run_at p) ever place-serial-facts
+      (λ r o here. same-last p.script (base_of p.script p.plan p.trace) (logs_at p.logs (world_at p)) (replaced (alike p.script) p.past.0) (sent_earlier (alike p.script) p.past.0) (sent_by (world_at p)) (TickedBefore p) place-facts r o
+      (committed (run_at p)) (λ s h. no-here (olds_at p) (run_at p) ever place-serial-facts r s here h) (λ s h. yes-here (olds_at p) (run_at p) ever place-serial-facts r s here h))
+
+  -- what repositories answered to writes, and how they refused reads
+  abbrev Answers : Type 1
+  Answers = TimeParts → ObjectId → Value → WriteStep → Type 0
+
+  abbrev Refusals : Type 1
+  Refusals = TimeParts → ObjectId → TimeParts → Type 0
+
+  -- whatever was answered, or refused, so was that too
+  abbrev More : Answers → Answers → Type 0
+  More A B = (x : TimeParts) (o : ObjectId) (v : Value) (s : WriteStep) → A x o v s → B x o v s
+
+  abbrev MoreRefused : Refusals → Refusals → Type 0
+  MoreRefused A B = (x : TimeParts) (o : ObjectId) (e : TimeParts) → A x o e → B x o e
 
   -- of a message that was sent later too
-  left-told : (xs ys : List Post) (r : ℕ) (Told More : TimeParts → ObjectId → Value → WriteStep → Type 0) → ((x : TimeParts) (o : ObjectId) (v : Value) (s : WriteStep) → Told x o v s → More x o v s) →
-      (m : Message) → Says (ToldRequest xs r Told) m → Says (ToldRequest (xs ++ ys) r More) m
-  left-told xs ys r Told More f m h = says-map (ToldRequest xs r Told) (ToldRequest (xs ++ ys) r More) one m h
+  left-told : (xs ys : List Post) (r : ℕ) (A B : Answers) (R S : Refusals) → More A B → MoreRefused R S → (m : Message) → Says (ToldRequest xs r A R) m → Says (ToldRequest (xs ++ ys) r B S) m
+  left-told xs ys r A B R S f g m h = says-map (ToldRequest xs r A R) (ToldRequest (xs ++ ys) r B S) one m h
     where
-      one : (x : TimeParts) (s : WriteStep) → ToldRequest xs r Told x s → ToldRequest (xs ++ ys) r More x s
+      one : (x : TimeParts) (s : WriteStep) → ToldRequest xs r A R x s → ToldRequest (xs ++ ys) r B S x s
       one x s (inl z) = inl (z.0, z.1, (has-left xs ys _ z.2.0, z.2.1), f x z.0 z.1 s z.3)
-      one x s (inr z) = inr (z.0, (has-left xs ys _ z.1.0, z.1.1))
+      one x s (inr z) = inr (z.0, z.1, z.2, (has-left xs ys _ z.3.0, z.3.1), g x z.0 z.1 z.4)
 
-  right-told : (xs ys : List Post) (r : ℕ) (Told More : TimeParts → ObjectId → Value → WriteStep → Type 0) → ((x : TimeParts) (o : ObjectId) (v : Value) (s : WriteStep) → Told x o v s → More x o v s) →
-      (m : Message) → Says (ToldRequest ys r Told) m → Says (ToldRequest (xs ++ ys) r More) m
-  right-told xs ys r Told More f m h = says-map (ToldRequest ys r Told) (ToldRequest (xs ++ ys) r More) one m h
+  right-told : (xs ys : List Post) (r : ℕ) (A B : Answers) (R S : Refusals) → More A B → MoreRefused R S → (m : Message) → Says (ToldRequest ys r A R) m → Says (ToldRequest (xs ++ ys) r B S) m
+  right-told xs ys r A B R S f g m h = says-map (ToldRequest ys r A R) (ToldRequest (xs ++ ys) r B S) one m h
     where
-      one : (x : TimeParts) (s : WriteStep) → ToldRequest ys r Told x s → ToldRequest (xs ++ ys) r More x s
+      one : (x : TimeParts) (s : WriteStep) → ToldRequest ys r A R x s → ToldRequest (xs ++ ys) r B S x s
       one x s (inl z) = inl (z.0, z.1, (has-right xs ys _ z.2.0, z.2.1), f x z.0 z.1 s z.3)
-      one x s (inr z) = inr (z.0, (has-right xs ys _ z.1.0, z.1.1))
+      one x s (inr z) = inr (z.0, z.1, z.2, (has-right xs ys _ z.3.0, z.3.1), g x z.0 z.1 z.4)
 
   -- what a repository refused in a run
   here-told : (b : Base) (fates : List Fate) (es : List Entry) → Meets b fates (start_world b) es → (r : ℕ) (q : Post) → Has q (sent_by (walk b es)) → q.from ≡ repository r →
-      Says (ToldRequest (sent_by (walk b es)) r (WasAnswered b es)) q.message
-  here-told b fates es meets r q h e = says-map (Reason b es r) (ToldRequest (sent_by (walk b es)) r (WasAnswered b es)) one q.message (post-answered b fates es meets q h r e)
+      Says (ToldRequest (sent_by (walk b es)) r (WasAnswered b es) (WasRefused b es)) q.message
+  here-told b fates es meets r q h e = says-map (Reason b es r) (ToldRequest (sent_by (walk b es)) r (WasAnswered b es) (WasRefused b es)) one q.message (post-answered b fates es meets q h r e)
     where
-      one : (x : TimeParts) (s : WriteStep) → Reason b es r x s → ToldRequest (sent_by (walk b es)) r (WasAnswered b es) x s
+      one : (x : TimeParts) (s : WriteStep) → Reason b es r x s → ToldRequest (sent_by (walk b es)) r (WasAnswered b es) (WasRefused b es) x s
       one x s (inl z) =
           inl (z.0, z.1, (subst (λ j. Has (record { from = broker x.stamp.broker; to = repository j; message = message.Write x z.0 z.1 }) (sent_by (walk b es))) z.2 (write-sent b es x z.0 z.1 s z.3), z.2), z.3)
-      one x s (inr z) = inr (z.0, (subst (λ j. Has (record { from = broker x.stamp.broker; to = repository j; message = message.Read x z.0 }) (sent_by (walk b es))) z.3 (read-sent b es x z.0 z.1 z.4), z.3))
+      one x s (inr z) =
+          inr (z.0, z.1, z.2, (subst (λ j. Has (record { from = broker x.stamp.broker; to = repository j; message = message.Read x z.0 }) (sent_by (walk b es))) z.3 (read-sent b es x z.0 z.1 z.4), z.3), z.4)
 
-  -- in a call of the past
-  past-told : (cs : List Earlier) → AreEarlier (alike p.script) cs → (r : ℕ) (q : Post) → Has q (sent_earlier (alike p.script) cs) → q.from ≡ repository r → Says (ToldRequest (sent_earlier (alike p.script) cs) r (AnsweredIn (alike p.script) cs)) q.message
+  -- in the calls of a past
+  abbrev answered_in : List Earlier → Answers
+  answered_in cs x o v s = InSome (alike p.script) (λ b es. WasAnswered b es x o v s) cs
+
+  abbrev refused_in : List Earlier → Refusals
+  refused_in cs x o e = InSome (alike p.script) (λ b es. WasRefused b es x o e) cs
+
+  past-told : (cs : List Earlier) → AreEarlier (alike p.script) cs → (r : ℕ) (q : Post) → Has q (sent_earlier (alike p.script) cs) → q.from ≡ repository r → Says (ToldRequest (sent_earlier (alike p.script) cs) r (answered_in cs) (refused_in cs)) q.message
   past-told [] c r q h e = absurd h
   past-told (Retiring k at ∷ cs) calls r q h e = past-told cs calls.0 r q h e
   past-told (Running c ∷ cs) calls r q h e =
       let b : Base = base_of p.script c.plan c.trace in
       elim (has-either (sent_earlier (alike p.script) cs) (sent_by (walk b c.trace.entries)) q h) [
-        | inl k ↦ left-told (sent_earlier (alike p.script) cs) (sent_by (walk b c.trace.entries)) r (AnsweredIn (alike p.script) cs) (AnsweredIn (alike p.script) (Running c ∷ cs)) (λ x o v s a. inr a) q.message (past-told cs calls.0 r q k e)
-        | inr k ↦ right-told (sent_earlier (alike p.script) cs) (sent_by (walk b c.trace.entries)) r (WasAnswered b c.trace.entries) (AnsweredIn (alike p.script) (Running c ∷ cs)) (λ x o v s a. inl a) q.message
-            (here-told b (fates_of c.trace.sent) c.trace.entries calls.1.legal.meets r q k e)
+        | inl k ↦ left-told (sent_earlier (alike p.script) cs) (sent_by (walk b c.trace.entries)) r (answered_in cs) (answered_in (Running c ∷ cs)) (refused_in cs) (refused_in (Running c ∷ cs)) (λ x o v s a. inr a) (λ x o z a. inr a)
+            q.message (past-told cs calls.0 r q k e)
+        | inr k ↦ right-told (sent_earlier (alike p.script) cs) (sent_by (walk b c.trace.entries)) r (WasAnswered b c.trace.entries) (answered_in (Running c ∷ cs)) (WasRefused b c.trace.entries) (refused_in (Running c ∷ cs))
+            (λ x o v s a. inl a) (λ x o z a. inl a) q.message (here-told b (fates_of c.trace.sent) c.trace.entries calls.1.legal.meets r q k e)
       ]
 
-  tells : (r : ℕ) (q : Post) → Has q ever → q.from ≡ repository r → Says (ToldRequest ever r (AnsweredBefore p)) q.message
+  tells : (r : ℕ) (q : Post) → Has q ever → q.from ≡ repository r → Says (ToldRequest ever r (AnsweredBefore p) (RefusedBefore p)) q.message
   tells r q h e =
       let b : Base = base_of p.script p.plan p.trace in
       let meets = meets-front b (fates_of p.trace.sent) (start_world b) p.front p.rest (subst (Meets b (fates_of p.trace.sent) (start_world b)) p.here p.legal.meets) in
       elim (has-either (sent_earlier (alike p.script) p.past.0) (sent_by (world_at p)) q h) [
-        | inl k ↦ left-told (sent_earlier (alike p.script) p.past.0) (sent_by (world_at p)) r (AnsweredIn (alike p.script) p.past.0) (AnsweredBefore p) (λ x o v s a. inr a) q.message (past-told p.past.0 p.past.1 r q k e)
-        | inr k ↦ right-told (sent_earlier (alike p.script) p.past.0) (sent_by (world_at p)) r (WasAnswered b p.front) (AnsweredBefore p) (λ x o v s a. inl a) q.message (here-told b (fates_of p.trace.sent) p.front meets r q k e)
+        | inl k ↦ left-told (sent_earlier (alike p.script) p.past.0) (sent_by (world_at p)) r (answered_in p.past.0) (AnsweredBefore p) (refused_in p.past.0) (RefusedBefore p) (λ x o v s a. inr a) (λ x o z a. inr a)
+            q.message (past-told p.past.0 p.past.1 r q k e)
+        | inr k ↦ right-told (sent_earlier (alike p.script) p.past.0) (sent_by (world_at p)) r (WasAnswered b p.front) (AnsweredBefore p) (WasRefused b p.front) (RefusedBefore p) (λ x o v s a. inl a) (λ x o z a. inl a)
+            q.message (here-told b (fates_of p.trace.sent) p.front meets r q k e)
       ]
 
-  pub place-causes : RunsAlone p → Causes (run_at p) (TickedBefore p) (AnsweredBefore p)
-  place-causes alone =
-      run-causes p.script (base_of p.script p.plan p.trace) p.plan (logs_at p.logs (world_at p)) (sent_earlier (alike p.script) p.past.0) (sent_by (world_at p)) (TickedBefore p) refl refl p.whole p.legal.scripted
-      brokers-opened (alone-facts alone)
-      (AnsweredBefore p) tells
+  pub place-causes : Causes (run_at p) (olds_at p) (happened_before p)
+  place-causes =
+      run-causes p.script (base_of p.script p.plan p.trace) p.plan (logs_at p.logs (world_at p)) (replaced (alike p.script) p.past.0) (sent_earlier (alike p.script) p.past.0) (sent_by (world_at p)) (TickedBefore p) refl refl p.whole
+      p.legal.scripted brokers-opened place-facts (AnsweredBefore p) (RefusedBefore p) tells
 
   -- ---- logs of repositories
 

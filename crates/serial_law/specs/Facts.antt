@@ -14,7 +14,8 @@ use Rattle.effect_form.specs.declared.outcomes.Outcome.TheVariants as outcome
 use Rattle.message_form.specs.declared.messages.Message.{Message}
 use Rattle.message_form.specs.declared.messages.Message.TheVariants as message
 use Rattle.message_form.specs.Posts.{Post}
-use Rattle.object_history.specs.Views.{Viewed, Distinct}
+use Rattle.object_history.specs.declared.marks.Mark.{Mark}
+use Rattle.object_history.specs.Views.{Distinct, Firm, value_of, views}
 use Rattle.script_meaning.specs.Meaning.{Answer, Got, Stored, Request, ToRead, ToWrite, Stop, Asks, Over}
 use Rattle.serial_model.specs.Questions.{Tree, after, first_stop, talked}
 use Rattle.repository_core.specs.Logs.{marks, is_commit}
@@ -46,6 +47,11 @@ asked_of (ToWrite o v) = o
 abbrev pub Asked : Try → TimeParts → Request → Type 0
 Asked try t q = (pre post : List Answer) × (try.answers ≡ pre ++ post) × (t.step ≡ length pre + 1) × (asks (after try.script pre) ≡ Some q)
 
+-- a read of the object at t sees this value, of the origin, or of a version that is committed or the reader's own
+abbrev pub Sees : List Mark → ObjectId → TimeParts → Value → Type 0
+Sees m o t v = (value_of (views m o t) ≡ v) × Firm m t (views m o t)
+
+-- The logs have all versions that ever stood.
 pub record RunFacts (k : RunLogs) (ever : List Post) : Type 0 where
   -- A stamp is decided once, at its home, and what was learned agrees with that.
   pub decided_once : (s : StampParts) (d e : Decision) → Has (effect.Decide s d) (log_of k s.home) → Has (effect.Decide s e) (log_of k s.home) → is_commit d ≡ is_commit e
@@ -53,7 +59,7 @@ pub record RunFacts (k : RunLogs) (ever : List Post) : Type 0 where
   pub learned : (r : ℕ) (s : StampParts) (c : Bool) → in_run k r ≡ true → Has (effect.Learn s c) (log_of k r) → (d : Decision) × Has (effect.Decide s d) (log_of k s.home) × (c ≡ is_commit d)
   pub learned_away : (r : ℕ) (s : StampParts) (c : Bool) → in_run k r ≡ true → Has (effect.Learn s c) (log_of k r) → s.home ≡ r → ⊥
   -- What was answered stands in the log of the object's repository, or of the stamp's home.
-  pub value : (t : TimeParts) (v : Value) → Said ever (message.Value t v) → (o : ObjectId) × Said ever (message.Read t o) × Viewed (marks (log_of k o.repository)) o t v
+  pub value : (t : TimeParts) (v : Value) → Said ever (message.Value t v) → (o : ObjectId) × Said ever (message.Read t o) × Sees (marks (log_of k o.repository)) o t v
   pub stored : (t : TimeParts) → Said ever (message.Stored t) → (o : ObjectId) × (v : Value) × Said ever (message.Write t o v) × Has (effect.Put o t v) (log_of k o.repository)
   pub decided : (s : StampParts) (d : Decision) → Said ever (message.Decided s d) → Has (effect.Decide s d) (log_of k s.home)
   -- Answers and ends have their messages, or are what the script came to.

@@ -7,3 +7,4 @@ pub mod Reasons
 pub mod Runs
 pub mod Serial
 pub mod Serials
+pub mod Wholes

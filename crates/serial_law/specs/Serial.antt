@@ -1,4 +1,4 @@
--- Every attempt reads, writes and ends as its script does alone, after the committed deeds before its stamp.
+-- Every attempt reads, writes and ends as its script does alone, after the committed deeds before its stamp. The logs have all versions that ever stood.
 use Rattle.std.specs.Prelude.{◌≡◌, ℕ, true, false, ◌&&◌, Option, Some}
 use Rattle.pseudo_time.specs.Lists.{Has}
 use Rattle.pseudo_time.specs.StampParts.{StampParts}

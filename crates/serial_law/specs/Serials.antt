@@ -1,24 +1,38 @@
--- A run by its plan and its trace, over logs that runs alone left.
-use Rattle.std.specs.Prelude.{List}
+-- A run by its plan and its trace, over logs that earlier runs left, and retirements.
+use Rattle.std.specs.Prelude.{◌≡◌, List, map, reverse}
 use Rattle.pseudo_time.specs.declared.nodes.NodeId.{NodeId}
+use Rattle.value_form.specs.declared.objects.ObjectId.{ObjectId}
+use Rattle.value_form.specs.Objects.{value_at}
 use Rattle.effect_form.specs.declared.effects.Effect.{Effect}
 use Rattle.plan_form.specs.declared.plans.Plan.{Plan}
 use Rattle.world_core.specs.declared.traces.Trace.{Trace}
 use Rattle.world_core.specs.Deeds.{RunLogs, finals}
-use Rattle.world_core.specs.Pasts.{OpenedWith}
+use Rattle.world_core.specs.Pasts.{OpenedWith, own_reading}
 use Rattle.world_core.specs.Readings.{gated_log}
-use Rattle.world_facts.specs.Earlier.{AreRuns, WereLeftOrRetired}
-use Rattle.serial_law.specs.Serial.{HoldsAll, Serial}
+use Rattle.world_facts.specs.Earlier.{Earlier, WereLeftOrRetired, replaced}
+use Rattle.serial_law.specs.Serial.{Serial}
+use Rattle.serial_law.specs.Wholes.{KeepsPuts, whole_run}
+use Rattle.trace_report.specs.Finals.{last_values}
 use Rattle.trace_report.specs.Reports.{run_over}
 
--- the run at the end of the trace: the durable logs, and the attempts that they tell
+-- the run at the end of the trace: the durable logs as they stand, and the attempts that they tell
 abbrev pub run_in : Plan → Trace → RunLogs
 run_in plan t = run_over plan (gated_log plan t)
 
--- Over logs that runs alone left every attempt reads, writes and ends as its script does alone.
-abbrev pub IsSerialOver : Plan → Trace → Type 0
-IsSerialOver plan t = (logs : NodeId → List Effect) (left : WereLeftOrRetired logs) → AreRuns left.0 → OpenedWith t.opened logs → Serial (run_in plan t)
+-- the logs of a node that retirements among these calls replaced, the last one first
+abbrev pub olds_in : List Earlier → NodeId → List (List Effect)
+olds_in cs n = map reverse (replaced own_reading cs n)
 
--- and the map after all committed deeds has, of each object, the committed put with the greatest start
+-- the run with all versions that ever stood, also in those logs
+abbrev pub whole_in : List Earlier → Plan → Trace → RunLogs
+whole_in cs plan t = whole_run (olds_in cs) (run_in plan t)
+
+-- Over logs that earlier calls left every attempt reads, writes and ends as its script does alone, after all committed deeds before its stamp.
+-- Of each committed one the puts stand, but for what a retirement gave up.
+abbrev pub IsSerialOver : Plan → Trace → Type 0
+IsSerialOver plan t = (logs : NodeId → List Effect) (left : WereLeftOrRetired logs) → OpenedWith t.opened logs → Serial (whole_in left.0 plan t) × KeepsPuts (run_in plan t)
+
+-- And what objects hold by the logs as they stand, which a report shows, is what all committed deeds leave.
 abbrev pub HoldsFinals : Plan → Trace → Type 0
-HoldsFinals plan t = (logs : NodeId → List Effect) (left : WereLeftOrRetired logs) → AreRuns left.0 → OpenedWith t.opened logs → HoldsAll (run_in plan t) (finals (run_in plan t))
+HoldsFinals plan t = (logs : NodeId → List Effect) (left : WereLeftOrRetired logs) → OpenedWith t.opened logs → (o : ObjectId) →
+    value_at (last_values (run_in plan t)) o ≡ value_at (finals (whole_in left.0 plan t)) o

@@ -20,7 +20,7 @@ ghost use Rattle.broker_laws.specs.Posts.{Distinct, IsPlayed, IsProven, PostHold
 ghost use Rattle.message_form.specs.Posts.{WasSent};
 ghost use Rattle.serial_law.specs.Answers.{IsAnsweredThere, StoredBefore};
 ghost use Rattle.serial_law.specs.Facts.{RunFacts};
-ghost use Rattle.serial_law.specs.Runs.{Position, RunsAlone, log_at, run_at, sent_before};
+ghost use Rattle.serial_law.specs.Runs.{Position, log_at, sent_before, whole_at};
 
 /// An attempt is decided at its home alone, in one way, and nothing is learned of it there. What is
 /// learned of it elsewhere agrees with the decision in its home's durable log.
@@ -85,7 +85,7 @@ pub fn logs_fit()
         WasSent (sent_before p) (broker s.broker) (repository r) (message.Commit s) }
 {}
 
-/// All of these, as the central theorem uses them, where no log was retired.
+/// All of these, as the central theorem uses them, of the run with all versions that ever stood.
 pub fn law_facts()
-    ensures { (p : Position) → RunsAlone p → RunFacts (run_at p) (sent_before p) }
+    ensures { (p : Position) → RunFacts (whole_at p) (sent_before p) }
 {}

@@ -13,15 +13,16 @@ use crate::{law_causes, law_facts, law_finals, law_serial};
 
 /// Every attempt of a run reads, writes and ends as its script does alone, after the committed deeds before
 /// its stamp (Bernstein et al. 1987, chapter 5): of each legal trace of a plan of the language, whatever
-/// other plans the earlier runs had that left its logs.
+/// other plans the earlier runs had that left its logs, and whatever was retired between them. Of a
+/// committed attempt the puts stand, but for what a retirement gave up.
 pub fn law_of_serial_runs()
     ensures { (plan : Plan) (asked : List Asked) (t : Trace) → IsOfLanguage plan → IsLegal plan asked t → IsSerialOver plan t }
 {
     law_serial();
 }
 
-/// The map after all committed deeds has, of each object, the committed put with the greatest start in
-/// the logs at the end: so the finals of a report are the committed ones.
+/// What the objects hold by the logs at the end, as a report shows it, is what all committed deeds leave,
+/// also where retirements gave up older versions: so the finals of a report are the committed ones.
 pub fn law_of_finals()
     ensures { (plan : Plan) (asked : List Asked) (t : Trace) → IsOfLanguage plan → IsLegal plan asked t → HoldsFinals plan t }
 {
@@ -29,8 +30,8 @@ pub fn law_of_finals()
 }
 
 /// Each End of an attempt of the run has its cause: a decision at its home, the end that its script came
-/// to, or a read or version above the write that was refused, which its repository answered so, in this
-/// run or in an earlier one.
+/// to, a read, a mark or a version above the write that was refused, or a mark above the read that was,
+/// which its repository answered so, in this run or in an earlier one.
 pub fn law_of_reasons()
     ensures { (plan : Plan) (asked : List Asked) (t : Trace) → IsOfLanguage plan → IsLegal plan asked t → HaveReasons plan t }
 {

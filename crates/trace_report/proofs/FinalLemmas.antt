@@ -1,195 +1,215 @@
--- The deeds that the code gathers are those of the run, in the order of their stamps.
-use Rattle.std.proofs.Common.{◌≡◌, ℕ, zero, suc, Bool, true, false, List, [], ◌∷◌, ◌++◌, append_assoc, map, reverse, refl, sym, ◌∙◌, ap, subst, Option, Some, None, ◌==◌, if◌then◌else◌}
+-- The committed versions that the code keeps are those with the greatest starts, and what they hold are the finals.
+use Rattle.std.proofs.Common.{◌≡◌, Bool, true, false, List, [], ◌∷◌, ◌++◌, map, refl, sym, ◌∙◌, ap, subst, Option, Some, None, ◌&&◌, not, if◌then◌else◌, cond}
+use Rattle.std.specs.Option.{option_map, option_to_list, unwrap_or}
+use Rattle.std.specs.Ordering.{is_eq}
+use Rattle.std.specs.declared.cmp.Ordering.{Ordering}
+use Rattle.std.specs.declared.cmp.Ordering.TheVariants.{Less, Equal, Greater}
 use Rattle.std.specs.FinMap as finite
-use Rattle.std.proofs.lemmas.List.{map-append}
-use Rattle.pseudo_time.specs.declared.nodes.NodeId.{NodeId}
-use Rattle.pseudo_time.specs.Nodes.{broker}
+use Rattle.std.specs.BTreeMap.{is_at}
+use Rattle.std.specs.List.Sorted.{IsStrictlySortedBy}
+use Rattle.std.proofs.lemmas.Bool.{true≢false, false≢true}
+use Rattle.std.proofs.lemmas.Cmp.{eq_by_cmp_equiv}
 use Rattle.pseudo_time.specs.StampParts.{StampParts}
-use Rattle.pseudo_time.specs.Order.{same_stamp, stamp_lt}
-use Rattle.pseudo_time.specs.Lists.{Every}
-use Rattle.value_form.specs.declared.acts.ActSpec.{ActSpec}
+use Rattle.pseudo_time.specs.TimeParts.{TimeParts}
+use Rattle.pseudo_time.specs.Order.{lt}
+use Rattle.value_form.specs.declared.objects.ObjectId.{ObjectId}
+use Rattle.value_form.specs.declared.values.Value.{Value}
+use Rattle.value_form.specs.declared.values.Value.TheVariants.{Nothing}
+use Rattle.value_form.specs.Objects.{object_cmp, value_at}
+use Rattle.value_form.proofs.ObjectLemmas.{object_cmp-total, object_cmp-exact}
 use Rattle.effect_form.specs.declared.effects.Effect.{Effect}
+use Rattle.effect_form.specs.declared.effects.Effect.TheVariants as effect
 use Rattle.object_history.specs.declared.marks.Mark.{Mark}
 use Rattle.object_history.specs.declared.marks.Mark.TheVariants.{Put, Stretch, Settle, Floor}
-use Rattle.repository_log.specs.Logs.{marks}
-use Rattle.serial_model.specs.Deeds.{Version, Deed, after_deeds, put_in, stamp_if, stamp_in}
-use Rattle.serial_model.specs.Deeds.Deed.{Alone, Given}
-use Rattle.serial_model.specs.Questions.{Tree}
-use Rattle.plan_form.specs.declared.plans.Plan.{Plan}
-use Rattle.plan_form.specs.PlanTexts.{IsOfLanguage}
-use Rattle.broker_core.specs.Book as books
-use Rattle.broker_core.specs.Book.{Act, Book, tries_of}
-use Rattle.broker_core.specs.Readings.{reading}
-use Rattle.broker_core.specs.Sound.{OfAct}
-use Rattle.broker_core.specs.Tasks.{Task}
-use Rattle.world_core.specs.Deeds as deeds
-use Rattle.world_core.specs.Deeds.{RunLogs, all_deeds, attempt, book_tries, committed, deed, deed_of, deed_stamps, finals, find, log_of, log_stamps, puts_of, puts_to, put_stamps, run_tries, try_stamps, written}
-use Rattle.trace_report.specs.declared.deeds.Deeds.{Deeds}
-use Rattle.trace_report.specs.Acts.{begun_acts, counted_by}
-use Rattle.trace_report.specs.Begun.{act_parts, try_parts}
-use Rattle.trace_report.specs.Books.{begun_to}
-use Rattle.trace_report.specs.Carried.{deed_at, deed_by, tree_at}
-use Rattle.trace_report.specs.Gathered.{AreDeeds, Made, made_at, made_by, made_in, made_stamps, marks_to, written_at}
-use Rattle.trace_report.specs.Reports.{run_over}
-use Rattle.trace_report.proofs.OwnLemmas.{IsRead, all-read, all-tries}
+use Rattle.object_history.specs.History.{Seen, pick, scan, starts_above, version_count}
+use Rattle.object_history.specs.Objects.{same_object}
+use Rattle.object_history.specs.Views.{value_of}
+use Rattle.object_history.proofs.ObjectLemmas.{same_object-is}
+use Rattle.repository_log.specs.Logs.{mark_of}
+use Rattle.serial_model.proofs.MapLemmas.{rising_entries}
+use Rattle.world_core.specs.Deeds.{RunLogs, committed}
+use Rattle.trace_report.specs.declared.last_versions.Last.{Last}
+use Rattle.trace_report.specs.declared.last_versions.LastVersions.{LastVersions}
+use Rattle.trace_report.specs.Finals.{all_marks, holding, last_put, last_values}
+use Rattle.trace_report.specs.LastVersions.{AreLast, final_last, is_above, last_at, last_parts, seen_parts}
+use Rattle.trace_report.specs.Reports.{final_of}
 
--- ---- the attempts of a run
+-- ---- one put more
 
-tries-append : (xs ys : List Act) → tries_of (xs ++ ys) ≡ tries_of xs ++ tries_of ys
-tries-append [] ys = refl
-tries-append (a ∷ xs) ys = ap (λ z. a.tries ++ z) (tries-append xs ys) ∙ sym (append_assoc a.tries (tries_of xs) (tries_of ys))
+parts_above : Option (TimeParts × Value) → TimeParts → Bool
+parts_above None x = false
+parts_above (Some p) x = lt x p.0
 
-tries-if : (script : List ℕ → Tree) (c : Bool) (acts : List Act) → ◌≡◌ {A = List deeds.Try} (if c then map (attempt script) (tries_of acts) else []) (map (attempt script) (tries_of (if c then acts else [])))
-tries-if script true acts = refl
-tries-if script false acts = refl
+last-above : (l : Option Last) (x : TimeParts) → is_above l x ≡ parts_above (option_map last_parts l) x
+unfolding parts_above
+last-above None x = refl
+last-above (Some l) x = refl
 
-pub run-tries : (plan : Plan) (logs : NodeId → List Effect) (n : ℕ) → run_tries (reading plan.acts) plan.run plan.acts (λ m. reverse (logs m)) n ≡ map (attempt (reading plan.acts)) (tries_of (begun_to plan logs n))
-unfolding run_tries
-run-tries plan logs zero = refl
-run-tries plan logs (suc b) =
-    let k : Book = counted_by plan (suc b) (logs (broker (suc b))) in
-    ap (λ z. z ++ book_tries (reading plan.acts) plan.run k) (run-tries plan logs b)
-    ∙ ap (λ z. map (attempt (reading plan.acts)) (tries_of (begun_to plan logs b)) ++ z) (tries-if (reading plan.acts) (k.run == plan.run) k.acts)
-    ∙ sym (map-append (attempt (reading plan.acts)) (tries_of (begun_to plan logs b)) (tries_of (begun_acts plan logs (suc b))))
-    ∙ ap (map (attempt (reading plan.acts))) (sym (tries-append (begun_to plan logs b) (begun_acts plan logs (suc b))))
+seen-above : (r : Option Seen) (x : TimeParts) → starts_above r x ≡ parts_above (option_map seen_parts r) x
+unfolding parts_above
+seen-above None x = refl
+seen-above (Some q) x = refl
 
--- ---- which stamps they have
+pick-out : (b : Bool) (p : Seen) (r : Option Seen) → b ≡ false → pick b p r ≡ r
+unfolding pick
+pick-out true p r e = absurd (true≢false e)
+pick-out false p r e = refl
 
-stamps-at : (script : List ℕ → Tree) (ok : StampParts → Bool) (i : ℕ) (ts rest : List books.Try) (made : Made) → try_stamps ok (map (attempt script) rest) ≡ made_stamps ok made →
-    try_stamps ok (map (attempt script) (ts ++ rest)) ≡ made_stamps ok (made_at i (map try_parts ts) ++ made)
-unfolding try_stamps made_stamps
-stamps-at script ok i [] rest made h = h
-stamps-at script ok i (t ∷ ts) rest made h = ap (stamp_if (ok t.stamp) t.stamp) (stamps-at script ok i ts rest made h)
+pick-above : (b : Bool) (p : Seen) (r : Option Seen) → starts_above r p.start ≡ true → pick b p r ≡ r
+unfolding pick
+pick-above true p r e = ap (λ c. if not c then Some p else r) e
+pick-above false p r e = refl
 
-pub stamps-same : (script : List ℕ → Tree) (ok : StampParts → Bool) (acts : List Act) → try_stamps ok (map (attempt script) (tries_of acts)) ≡ made_stamps ok (made_in (map act_parts acts))
-unfolding try_stamps made_stamps
-stamps-same script ok [] = refl
-stamps-same script ok (a ∷ acts) = stamps-at script ok a.task.index a.tries (tries_of acts) (made_in (map act_parts acts)) (stamps-same script ok acts)
+pick-in : (b : Bool) (p : Seen) (r : Option Seen) → b ≡ true → starts_above r p.start ≡ false → pick b p r ≡ Some p
+unfolding pick
+pick-in true p r e f = ap (λ c. if not c then Some p else r) f
+pick-in false p r e f = absurd (false≢true e)
 
--- ---- what they do
+and-out : (a b : Bool) → b ≡ false → (a && b) ≡ false
+and-out true b e = e
+and-out false b e = refl
 
-module _ (plan : Plan) (s : StampParts) (ws : List Version) where
-  abbrev script : List ℕ → Tree
-  script = reading plan.acts
+module _ (k : RunLogs) (m : List Mark) where
+  abbrev found : ObjectId → Option Seen
+  found q = scan (λ x. committed k x.stamp) q m
 
-  deed-if : (b : Bool) (t : books.Try) (i : ℕ) (rest : Option deeds.Try) (r : Option ℕ) → script t.task.script ≡ tree_at plan.acts i → deed_of rest ws ≡ deed_by plan.acts r ws →
-      deed_of (if b then Some (attempt script t) else rest) ws ≡ deed_by plan.acts (if b then Some i else r) ws
-  deed-if true t i rest r e h = ap Alone e
-  deed-if false t i rest r e h = h
+  abbrev put : TimeParts → Value → ObjectId → Seen
+  put x v q = record { place = version_count q m; start = x; value = v }
 
-  deeds-at : (i : ℕ) (ts rest : List books.Try) (made : Made) → Every (λ (t : books.Try). script t.task.script ≡ tree_at plan.acts i) ts → deed_of (find s (map (attempt script) rest)) ws ≡ deed_by plan.acts (made_by s made) ws →
-      deed_of (find s (map (attempt script) (ts ++ rest))) ws ≡ deed_by plan.acts (made_by s (made_at i (map try_parts ts) ++ made)) ws
-  unfolding find made_by
-  deeds-at i [] rest made e h = h
-  deeds-at i (t ∷ ts) rest made e h =
-      deed-if (same_stamp t.stamp s) t i (find s (map (attempt script) (ts ++ rest))) (made_by s (made_at i (map try_parts ts) ++ made)) e.0 (deeds-at i ts rest made e.1 h)
+  -- one that isn't committed
+  pub put-out : (d : LastVersions) (o : ObjectId) (x : TimeParts) (v : Value) → committed k x.stamp ≡ false → AreLast k m d → AreLast k (Put o x v ∷ m) d
+  unfolding scan
+  put-out d o x v c h = record { each = λ q. h.each q ∙ ap (option_map seen_parts) (sym (pick-out (same_object o q && committed k x.stamp) (put x v q) (found q) (and-out (same_object o q) (committed k x.stamp) c))) }
 
-  tries-read : (a : Act) → IsRead plan a → (ts : List books.Try) → Every (λ (t : books.Try). (t.task ≡ a.task) × (t.run ≡ a.run)) ts → Every (λ (t : books.Try). script t.task.script ≡ tree_at plan.acts a.task.index) ts
-  tries-read a e [] h = tt
-  tries-read a e (t ∷ ts) h = (ap (λ (k : Task). script k.script) h.0.0 ∙ e, tries-read a e ts h.1)
+  -- the version that is known starts above it, or doesn't
+  known-above : (d : LastVersions) (q : ObjectId) (x : TimeParts) → AreLast k m d → is_above (last_at d.versions.entries q) x ≡ starts_above (found q) x
+  known-above d q x h = last-above (last_at d.versions.entries q) x ∙ ap (λ p. parts_above p x) (h.each q) ∙ sym (seen-above (found q) x)
 
-  pub deeds-same : (acts : List Act) → Every (IsRead plan) acts → Every OfAct acts → deed_of (find s (map (attempt script) (tries_of acts))) ws ≡ deed_by plan.acts (made_by s (made_in (map act_parts acts))) ws
-  unfolding find made_by
-  deeds-same [] h k = refl
-  deeds-same (a ∷ acts) h k = deeds-at a.task.index a.tries (tries_of acts) (made_in (map act_parts acts)) (tries-read a h.0 a.tries k.0) (deeds-same acts h.1 k.1)
-
--- ---- the marks of all logs
-
-stamps-append : (ok : StampParts → Bool) (m m' : List Mark) (ss : List StampParts) → put_stamps ok (m ++ m') ss ≡ put_stamps ok m (put_stamps ok m' ss)
-unfolding put_stamps
-stamps-append ok [] m' ss = refl
-stamps-append ok (Put o x v ∷ m) m' ss = ap (stamp_if (ok x.stamp) x.stamp) (stamps-append ok m m' ss)
-stamps-append ok (Stretch o x ∷ m) m' ss = stamps-append ok m m' ss
-stamps-append ok (Settle t c ∷ m) m' ss = stamps-append ok m m' ss
-stamps-append ok (Floor at ∷ m) m' ss = stamps-append ok m m' ss
-
-pub logs-stamps : (k : RunLogs) (ok : StampParts → Bool) (n : ℕ) (ss : List StampParts) → log_stamps k ok n ss ≡ put_stamps ok (marks_to k n) ss
-unfolding log_stamps put_stamps
-logs-stamps k ok zero ss = refl
-logs-stamps k ok (suc n) ss = ap (put_stamps ok (marks (log_of k (suc n)))) (logs-stamps k ok n ss) ∙ sym (stamps-append ok (marks (log_of k (suc n))) (marks_to k n) ss)
-
-puts-append : (s : StampParts) (m m' : List Mark) (ps : List Version) → puts_of s (m ++ m') ps ≡ puts_of s m (puts_of s m' ps)
-unfolding puts_of
-puts-append s [] m' ps = refl
-puts-append s (Put o x v ∷ m) m' ps = ap (λ z. if same_stamp x.stamp s then put_in (record { object = o; start = x; value = v }) z else z) (puts-append s m m' ps)
-puts-append s (Stretch o x ∷ m) m' ps = puts-append s m m' ps
-puts-append s (Settle t c ∷ m) m' ps = puts-append s m m' ps
-puts-append s (Floor at ∷ m) m' ps = puts-append s m m' ps
-
-pub logs-puts : (k : RunLogs) (s : StampParts) (n : ℕ) → puts_to k s n ≡ puts_of s (marks_to k n) []
-unfolding puts_to puts_of
-logs-puts k s zero = refl
-logs-puts k s (suc n) = ap (puts_of s (marks (log_of k (suc n)))) (logs-puts k s n) ∙ sym (puts-append s (marks (log_of k (suc n))) (marks_to k n) [])
-
--- ---- only stamps that pass are gathered
-
-module _ (P : StampParts → Type 0) where
-  every-in : (s : StampParts) (ss : List StampParts) → P s → Every P ss → Every P (stamp_in s ss)
-  unfolding stamp_in
-  every-in s [] p h = (p, tt)
-  every-in s (t ∷ ts) p h = go (same_stamp s t) (stamp_lt s t) (every-in s ts p h.1)
+  pub put-below : (d : LastVersions) (o : ObjectId) (x : TimeParts) (v : Value) → is_above (last_at d.versions.entries o) x ≡ true → AreLast k m d → AreLast k (Put o x v ∷ m) d
+  unfolding scan
+  put-below d o x v above h = record { each = λ q. h.each q ∙ ap (option_map seen_parts) (sym (same q (same_object o q) refl)) }
     where
-      go : (b c : Bool) → Every P (stamp_in s ts) → Every P (if b then t ∷ ts else (if c then s ∷ t ∷ ts else t ∷ stamp_in s ts))
-      go true c rest = h
-      go false true rest = (p, h)
-      go false false rest = (h.0, rest)
+      same : (q : ObjectId) (b : Bool) → same_object o q ≡ b → pick (b && committed k x.stamp) (put x v q) (found q) ≡ found q
+      same q true e = pick-above (committed k x.stamp) (put x v q) (found q) (sym (known-above d q x h) ∙ ap (λ p. is_above (last_at d.versions.entries p) x) (sym (same_object-is o q e)) ∙ above)
+      same q false e = pick-out false (put x v q) (found q) refl
 
-  every-stamp : (c : Bool) (s : StampParts) (ss : List StampParts) → (c ≡ true → P s) → Every P ss → Every P (stamp_if c s ss)
-  unfolding stamp_if
-  every-stamp true s ss p h = every-in s ss (p refl) h
-  every-stamp false s ss p h = h
+  pub put-in : (d new : LastVersions) (o : ObjectId) (x : TimeParts) (v : Value) (l : Last) → committed k x.stamp ≡ true → is_above (last_at d.versions.entries o) x ≡ false → l.start ≡ x → l.value ≡ v →
+      ((q : ObjectId) → last_at new.versions.entries q ≡ cond (is_at (object_cmp o) q) (Some l) (last_at d.versions.entries q)) → AreLast k m d → AreLast k (Put o x v ∷ m) new
+  unfolding scan same_object
+  put-in d new o x v l c low start value puts h = record { each = λ q. ap (option_map last_parts) (puts q) ∙ same q (is_eq (object_cmp o q)) refl }
+    where
+      same : (q : ObjectId) (b : Bool) → is_eq (object_cmp o q) ≡ b → option_map last_parts (cond b (Some l) (last_at d.versions.entries q)) ≡ option_map seen_parts (pick (b && committed k x.stamp) (put x v q) (found q))
+      same q true e = (λ i. Some (start i, value i)) ∙ ap (option_map seen_parts) (sym (pick-in (committed k x.stamp) (put x v q) (found q) c
+          (sym (known-above d q x h) ∙ ap (λ p. is_above (last_at d.versions.entries p) x) (sym (same_object-is o q e)) ∙ low)))
+      same q false e = h.each q ∙ ap (option_map seen_parts) (sym (pick-out false (put x v q) (found q) refl))
 
-pub stamps-pass : (ok : StampParts → Bool) (m : List Mark) (ss : List StampParts) → Every (λ s. ok s ≡ true) ss → Every (λ s. ok s ≡ true) (put_stamps ok m ss)
-unfolding put_stamps
-stamps-pass ok [] ss h = h
-stamps-pass ok (Put o x v ∷ m) ss h = every-stamp (λ s. ok s ≡ true) (ok x.stamp) x.stamp (put_stamps ok m ss) (λ e. e) (stamps-pass ok m ss h)
-stamps-pass ok (Stretch o x ∷ m) ss h = stamps-pass ok m ss h
-stamps-pass ok (Settle t c ∷ m) ss h = stamps-pass ok m ss h
-stamps-pass ok (Floor at ∷ m) ss h = stamps-pass ok m ss h
+-- nothing was read
+pub last-none : (k : RunLogs) (d : LastVersions) → d.versions.entries ≡ [] → AreLast k [] d
+unfolding scan
+last-none k d e = record { each = λ o. ap (λ es. option_map last_parts (last_at es o)) e }
 
-pub made-pass : (ok : StampParts → Bool) (made : Made) → Every (λ s. ok s ≡ true) (made_stamps ok made)
-unfolding made_stamps
-made-pass ok [] = tt
-made-pass ok (e ∷ made) = every-stamp (λ s. ok s ≡ true) (ok e.0) e.0 (made_stamps ok made) (λ p. p) (made-pass ok made)
+-- an effect that isn't a put
+pub other-effect : (k : RunLogs) (m : List Mark) (d : LastVersions) (f : Effect) → ((o : ObjectId) (x : TimeParts) (v : Value) → f ≡ effect.Put o x v → ⊥) → AreLast k m d → AreLast k (option_to_list (mark_of f) ++ m) d
+unfolding scan
+other-effect k m d (effect.Put o x v) other h = absurd (other o x v refl)
+other-effect k m d (effect.Stretch o x) other h = record { each = h.each }
+other-effect k m d (effect.Decide s e) other h = record { each = h.each }
+other-effect k m d (effect.Learn s c) other h = record { each = h.each }
+other-effect k m d (effect.Mark at) other h = record { each = h.each }
+other-effect k m d f other h = h
 
--- ---- one deed after another
+-- ---- what objects hold
 
-deed-by-none : (acts : List ActSpec) (o : Option ℕ) (ws us : List Version) → (o ≡ None → ws ≡ us) → deed_by acts o ws ≡ deed_by acts o us
-deed-by-none acts None ws us h = ap Given (h refl)
-deed-by-none acts (Some i) ws us h = refl
+module _ (ok : StampParts → Bool) (held : ObjectId → Value) where
+  abbrev holds_at : ObjectId → Option Seen → Option Value
+  holds_at o r = option_map (λ q. held o) r
 
-map-every : (f g : StampParts → Deed) (P : StampParts → Type 0) → ((s : StampParts) → P s → f s ≡ g s) → (ss : List StampParts) → Every P ss → map f ss ≡ map g ss
-map-every f g P h [] p = refl
-map-every f g P h (s ∷ ss) p = λ i. h s p.0 i ∷ map-every f g P h ss p.1 i
+  picked-same : (c : Bool) (o : ObjectId) (p : Seen) (r : Option Seen) → (starts_above r p.start ≡ c) → holds_at o (if not c then Some p else r) ≡ Some (held o)
+  picked-same false o p r e = refl
+  picked-same true o p None e = absurd (false≢true e)
+  picked-same true o p (Some q) e = refl
 
-module _ (plan : Plan) (w : IsOfLanguage plan) (logs : NodeId → List Effect) (d : Deeds) where
-  abbrev run : RunLogs
-  run = run_over plan logs
+  pub held-at : (m : List Mark) (o : ObjectId) → finite.get (holding ok held m) o ≡ holds_at o (scan (λ x. ok x.stamp) o m)
+  unfolding holding scan pick same_object
+  held-at [] o = finite.get-empty object_cmp o
+  held-at (Put a x v ∷ m) o = put (ok x.stamp) refl (held-at m o)
+    where
+      equal : (r : Ordering) → is_eq r ≡ true → r ≡ Equal
+      equal Less k = absurd (false≢true k)
+      equal Equal k = refl
+      equal Greater k = absurd (false≢true k)
 
-  abbrev all : List Act
-  all = begun_to plan logs plan.brokers
+      entry : (b : Bool) → is_eq (object_cmp o a) ≡ b → finite.get (holding ok held m) o ≡ holds_at o (scan (λ y. ok y.stamp) o m) →
+          cond b (Some (held a)) (finite.get (holding ok held m) o) ≡ holds_at o (pick (b && true) (record { place = version_count o m; start = x; value = v }) (scan (λ y. ok y.stamp) o m))
+      entry true e rest =
+          ap (λ z. Some (held z)) (sym (object_cmp-exact o a (equal (object_cmp o a) e)))
+          ∙ sym (picked-same (starts_above (scan (λ y. ok y.stamp) o m) x) o (record { place = version_count o m; start = x; value = v }) (scan (λ y. ok y.stamp) o m) refl)
+      entry false e rest = rest
 
-  abbrev made : Made
-  made = made_in (map act_parts all)
+      put : (c : Bool) → ok x.stamp ≡ c → finite.get (holding ok held m) o ≡ holds_at o (scan (λ y. ok y.stamp) o m) →
+          finite.get (if c then finite.insert (holding ok held m) a (held a) else holding ok held m) o ≡ holds_at o (pick (same_object a o && c) (record { place = version_count o m; start = x; value = v }) (scan (λ y. ok y.stamp) o m))
+      put true e rest =
+          finite.get-insert object_cmp-total (holding ok held m) a (held a) o
+          ∙ entry (is_eq (object_cmp o a)) refl rest
+          ∙ ap (λ b. holds_at o (pick (b && true) (record { place = version_count o m; start = x; value = v }) (scan (λ y. ok y.stamp) o m))) ((eq_by_cmp_equiv object_cmp-total).symm o a)
+      put false e rest = rest ∙ ap (holds_at o) (sym (pick-out (same_object a o && false) (record { place = version_count o m; start = x; value = v }) (scan (λ y. ok y.stamp) o m) (and-out (same_object a o) false refl)))
+  held-at (Stretch a x ∷ m) o = held-at m o
+  held-at (Settle s c ∷ m) o = held-at m o
+  held-at (Floor z ∷ m) o = held-at m o
 
-  module _ (h : AreDeeds run made (marks_to run plan.repositories) d) where
-    stamps-are : d.stamps.keys ≡ deed_stamps run (committed run)
-    stamps-are =
-        h.stamps
-        ∙ ap (put_stamps (committed run) (marks_to run plan.repositories)) (sym (stamps-same (reading plan.acts) (committed run) all) ∙ ap (try_stamps (committed run)) (sym (run-tries plan logs plan.brokers)))
-        ∙ sym (logs-stamps run (committed run) plan.repositories (try_stamps (committed run) run.tries))
+module _ (k : RunLogs) where
+  value-of : (r : Option Seen) → option_map (λ (q : Seen). value_of r) r ≡ option_map (λ (q : Seen). q.value) r
+  value-of None = refl
+  value-of (Some q) = refl
 
-    all-pass : Every (λ s. committed run s ≡ true) d.stamps.keys
-    all-pass = subst (Every (λ s. committed run s ≡ true)) (sym h.stamps) (stamps-pass (committed run) (marks_to run plan.repositories) (made_stamps (committed run) made) (made-pass (committed run) made))
+  value-or : (r : Option Seen) → unwrap_or (option_map (λ (q : Seen). q.value) r) Nothing ≡ value_of r
+  value-or None = refl
+  value-or (Some q) = refl
 
-    deed-is : (s : StampParts) → committed run s ≡ true → deed_at plan.acts d s ≡ deed run s
-    deed-is s c =
-        ap (λ o. deed_by plan.acts o (written_at d.writes.entries s)) (h.tries s c)
-        ∙ deed-by-none plan.acts (made_by s made) (written_at d.writes.entries s) (written run s) (λ none. h.writes s c none ∙ sym (logs-puts run s plan.repositories))
-        ∙ sym (deeds-same plan s (written run s) all (all-read plan w logs plan.brokers) (all-tries plan w logs plan.brokers))
-        ∙ ap (λ ts. deed_of (find s ts) (written run s)) (sym (run-tries plan logs plan.brokers))
+  last-get : (o : ObjectId) → finite.get (last_values k) o ≡ option_map (λ (q : Seen). q.value) (last_put k o)
+  last-get o = held-at (committed k) (λ p. value_of (last_put k p)) (all_marks k) o ∙ value-of (last_put k o)
 
-    pub finals-are : after_deeds (map (deed_at plan.acts d) d.stamps.keys) finite.empty ≡ finals run
-    unfolding finals all_deeds
-    finals-are =
-        ap (λ ds. after_deeds ds finite.empty) (map-every (deed_at plan.acts d) (deed run) (λ s. committed run s ≡ true) deed-is d.stamps.keys all-pass ∙ ap (map (deed run)) stamps-are)
+  -- an object has the value of its committed put with the greatest start, and Nothing where it has none
+  pub last-value : (o : ObjectId) → value_at (last_values k) o ≡ value_of (last_put k o)
+  last-value o = ap (λ r. unwrap_or r Nothing) (last-get o) ∙ value-or (last_put k o)
+
+-- ---- the finals of a report
+
+abbrev held_by : ObjectId × Last → ObjectId × Value
+held_by e = (e.0, e.1.value)
+
+find-held : (es : List (ObjectId × Last)) (q : ObjectId) → finite.find object_cmp q (map held_by es) ≡ option_map (λ (l : Last). l.value) (last_at es q)
+find-held [] q = refl
+find-held (e ∷ es) q = step (is_eq (object_cmp q e.0)) (find-held es q)
+  where
+    step : (b : Bool) → finite.find object_cmp q (map held_by es) ≡ option_map (λ (l : Last). l.value) (last_at es q) →
+        cond b (Some e.1.value) (finite.find object_cmp q (map held_by es)) ≡ option_map (λ (l : Last). l.value) (cond b (Some e.1) (last_at es q))
+    step true h = refl
+    step false h = h
+
+parts-value : (l : Option Last) (r : Option Seen) → option_map last_parts l ≡ option_map seen_parts r → option_map (λ (x : Last). x.value) l ≡ option_map (λ (q : Seen). q.value) r
+parts-value l r h = last l ∙ ap (option_map (λ (p : TimeParts × Value). p.1)) h ∙ sym (seen r)
+  where
+    last : (l : Option Last) → option_map (λ (x : Last). x.value) l ≡ option_map (λ (p : TimeParts × Value). p.1) (option_map last_parts l)
+    last None = refl
+    last (Some x) = refl
+
+    seen : (r : Option Seen) → option_map (λ (q : Seen). q.value) r ≡ option_map (λ (p : TimeParts × Value). p.1) (option_map seen_parts r)
+    seen None = refl
+    seen (Some q) = refl
+
+same-keys : (es : List (ObjectId × Last)) → map (λ e. e.0) (map held_by es) ≡ map (λ e. e.0) es
+same-keys [] = refl
+same-keys (e ∷ es) = ap (λ z. e.0 ∷ z) (same-keys es)
+
+same-finals : (es : List (ObjectId × Last)) → map final_last es ≡ map final_of (map held_by es)
+same-finals [] = refl
+same-finals (e ∷ es) = ap (λ z. final_last e ∷ z) (same-finals es)
+
+pub finals-are : (k : RunLogs) (d : LastVersions) → AreLast k (all_marks k) d → IsStrictlySortedBy object_cmp (map (λ e. e.0) d.versions.entries) → map final_last d.versions.entries ≡ map final_of (finite.entries (last_values k))
+finals-are k d h rising =
+    let es = d.versions.entries in
+    same-finals es
+    ∙ ap (map final_of) (rising_entries (map held_by es) (map held_by es) (last_values k) refl (subst (IsStrictlySortedBy object_cmp) (sym (same-keys es)) rising)
+    (finite.same_map object_cmp-total object_cmp-exact (finite.from_entries (map held_by es)) (last_values k)
+    (λ q. finite.get-from_entries object_cmp-total (map held_by es) q ∙ find-held es q ∙ parts-value (last_at es q) (last_put k q) (h.each q) ∙ sym (last-get k q))))

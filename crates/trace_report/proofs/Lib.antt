@@ -1,11 +1,9 @@
 pub mod BegunLemmas
 pub mod BookLemmas
-pub mod CarriedLemmas
 pub mod DecidedLemmas
 pub mod DownLemmas
 pub mod FinalLemmas
 pub mod FirstLemmas
-pub mod GatheredLemmas
 pub mod LogLemmas
 pub mod OwnLemmas
 pub mod ShownLemmas

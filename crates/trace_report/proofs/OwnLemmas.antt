@@ -5,7 +5,7 @@ use Rattle.std.proofs.lemmas.Bool.{eqb-true}
 use Rattle.pseudo_time.specs.declared.nodes.NodeId.{NodeId}
 use Rattle.pseudo_time.specs.Nodes.{broker}
 use Rattle.pseudo_time.specs.Lists.{Every, Has}
-use Rattle.pseudo_time.proofs.ListLemmas.{every-map, every-append, every-has}
+use Rattle.pseudo_time.proofs.ListLemmas.{every-has}
 use Rattle.value_form.specs.declared.acts.ActSpec.{ActSpec}
 use Rattle.value_form.specs.Mirror.{block}
 use Rattle.value_form.specs.Ranges.{IsScript}
@@ -24,11 +24,13 @@ use Rattle.broker_core.proofs.SoundLemmas.{sound-kept}
 use Rattle.world_core.specs.Nodes.{acts_of}
 use Rattle.world_core.proofs.OneReading.{own-reading}
 use Rattle.trace_report.specs.Acts.{begun_acts, counted_by, tasks_of}
-use Rattle.trace_report.specs.Books.{begun_to}
-use Rattle.trace_report.specs.Carried.{numbered, tree_at, tree_in}
-use Rattle.broker_core.proofs.ShapeLemmas.{every-get}
 
 -- ---- places
+
+-- the act with this number
+abbrev pub numbered : List ActSpec → ℕ → Option ActSpec
+numbered acts zero = None
+numbered acts (suc place) = slice_get acts place
 
 -- an act of the plan stands at the place before its index
 placed : (repositories brokers n : ℕ) (acts : List ActSpec) (x : ActSpec) → EachAct repositories brokers n acts → Has x acts → (p : ℕ) × (x.index ≡ p + n) × (slice_get acts p ≡ Some x)
@@ -95,32 +97,10 @@ module _ (plan : Plan) (logs : NodeId → List Effect) where
 
 -- ---- its script
 
--- the text of the act's script is read as that of the plan's act with its index
-abbrev pub IsRead : Plan → Act → Type 0
-IsRead plan a = reading plan.acts a.task.script ≡ tree_at plan.acts a.task.index
-
 pub read-own : (plan : Plan) → IsOfLanguage plan → (x : ActSpec) → Has x plan.acts → reading plan.acts (script_text (block x.script.lines)) ≡ denote (block x.script.lines)
 read-own plan w x k = every-has (λ (a : ActSpec). reading plan.acts (script_text (block a.script.lines)) ≡ denote (block a.script.lines)) plan.acts x (own-reading plan w) k
-
-own-is-read : (plan : Plan) (w : IsOfLanguage plan) (b : ℕ) (a : Act) → IsOwn plan b a → IsRead plan a
-own-is-read plan w b a o =
-    ap (λ (t : Task). reading plan.acts t.script) o.task_is ∙ read-own plan w o.spec o.among
-    ∙ sym (ap (λ (t : Task). tree_at plan.acts t.index) o.task_is ∙ ap tree_in (numbered-is plan w o.spec o.among))
-
-module _ (plan : Plan) (w : IsOfLanguage plan) (logs : NodeId → List Effect) where
-  pub all-read : (n : ℕ) → Every (IsRead plan) (begun_to plan logs n)
-  all-read zero = tt
-  all-read (suc n) = every-append (IsRead plan) (begun_to plan logs n) (begun_acts plan logs (suc n)) (all-read n) (every-map (IsOwn plan (suc n)) (IsRead plan) (own-is-read plan w (suc n)) (begun_acts plan logs (suc n)) (begun-own plan logs (suc n)))
-
-  pub all-tries : (n : ℕ) → Every OfAct (begun_to plan logs n)
-  all-tries zero = tt
-  all-tries (suc n) = every-append OfAct (begun_to plan logs n) (begun_acts plan logs (suc n)) (all-tries n) (begun-tries plan logs (suc n))
 
 -- ---- scripts
 
 pub plan-scripts : (plan : Plan) → IsOfLanguage plan → Every (λ (a : ActSpec). IsScript a.script.lines) plan.acts
 plan-scripts plan w = of-whole (λ (a : ActSpec). IsScript a.script.lines) plan w (λ k a low high is. printable-range plan.repositories (block a.script.lines) is.script)
-
-pub numbered-every : (P : ActSpec → Type 0) (acts : List ActSpec) (i : ℕ) (a : ActSpec) → Every P acts → numbered acts i ≡ Some a → P a
-numbered-every P acts zero a h is = absurd (let e : ◌≡◌ {A = Option ActSpec} None (Some a) = is in cc)
-numbered-every P acts (suc p) a h is = every-get P acts p a h is

@@ -28,9 +28,8 @@ use Rattle.trace_report.specs.declared.begun.BegunTry.{BegunTry}
 use Rattle.trace_report.specs.Acts.{act_begun, act_shown, acts_shown, begun_acts, shown_end, spent_at, tries_shown, try_shown}
 use Rattle.trace_report.specs.Begun.{ActParts, act_parts, try_parts, kept, kept_act, kept_try}
 use Rattle.trace_report.specs.Books.{begun_to}
-use Rattle.trace_report.specs.Carried.{numbered}
 use Rattle.trace_report.specs.Shown.{HasActs, act_told, part_at, spent_told, tries_told, try_told}
-use Rattle.trace_report.proofs.OwnLemmas.{IsOwn, begun-own, begun-tries, numbered-is, read-own}
+use Rattle.trace_report.proofs.OwnLemmas.{IsOwn, begun-own, begun-tries, numbered, numbered-is, read-own}
 
 -- ---- a map of acts
 

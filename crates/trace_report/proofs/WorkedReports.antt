@@ -1,20 +1,30 @@
 -- Reports worked by hand: the definitions compute what brokers' logs, entries and messages tell. Logs stand oldest first.
 use Rattle.std.proofs.Common.{◌≡◌, ℕ, List, [], ◌∷◌, ◌++◌, refl, Some, None}
-use Rattle.std.specs.Prelude.{codes}
+use Rattle.std.specs.Prelude.{codes, pos}
 use Rattle.std.specs.Fmt.{digits}
 use Rattle.pseudo_time.specs.StampParts.{StampParts}
+use Rattle.pseudo_time.specs.TimeParts.{TimeParts}
+use Rattle.pseudo_time.specs.Order.{lt, same_stamp}
+use Rattle.pseudo_time.specs.declared.decisions.Decision.TheVariants as decision
 use Rattle.pseudo_time.specs.declared.nodes.NodeId.{NodeId}
 use Rattle.pseudo_time.specs.declared.nodes.NodeKind.{NodeKind}
 use Rattle.pseudo_time.specs.declared.nodes.NodeKind.TheVariants.{Repository, Broker}
 use Rattle.pseudo_time.specs.declared.down_causes.DownCause.TheVariants as cause
+use Rattle.value_form.specs.declared.objects.ObjectId.{ObjectId}
+use Rattle.value_form.specs.declared.values.Value.TheVariants.{Nothing, Number}
 use Rattle.effect_form.specs.declared.effects.Effect.{Effect}
 use Rattle.effect_form.specs.declared.effects.Effect.TheVariants as effect
 use Rattle.effect_form.specs.declared.outcomes.Outcome.TheVariants as ended
 use Rattle.message_form.specs.declared.messages.Message.TheVariants as message
+use Rattle.object_history.specs.History.{pick, scan, version_count}
+use Rattle.object_history.specs.Objects.{same_object}
+use Rattle.object_history.specs.Views.{value_of}
+use Rattle.repository_log.specs.Logs.{knows}
 use Rattle.plan_form.specs.declared.plans.Plan.{Plan}
 use Rattle.broker_core.specs.Book.{book}
 use Rattle.broker_core.specs.Fits.{keep}
 use Rattle.broker_core.specs.Readings.{reading}
+use Rattle.world_core.specs.Deeds.{committed, has_commit}
 use Rattle.world_core.specs.declared.entries.Entry.TheVariants.{Crash, Down, Tick}
 use Rattle.world_core.specs.declared.traces.Sent.{Sent}
 use Rattle.world_core.specs.declared.traces.Trace.{Trace}
@@ -24,7 +34,8 @@ use Rattle.report_writer.specs.declared.records.TryReport.{TryReport}
 use Rattle.report_writer.specs.declared.records.ActReport.{ActReport}
 use Rattle.report_writer.specs.Reports.{report_text}
 use Rattle.trace_report.specs.Acts.{acts_shown}
-use Rattle.trace_report.specs.Reports.{downs_shown, wire_shown}
+use Rattle.trace_report.specs.Finals.{last_put}
+use Rattle.trace_report.specs.Reports.{downs_shown, run_over, wire_shown}
 
 -- one act without a statement
 abbrev plan : ℕ → Plan
@@ -89,3 +100,31 @@ pub text-worked : report_text (record { run = 1; acts = acts_shown (plan 1) (log
     ≡ codes "swallow report 1\nrun 1\nact 1 broker 1 home 1\ntry 1.1.1 committed\ndown repository 1 damaged 2\ndown broker 1 medium\ntotals acts 1 committed 1 withdrawn 0 failed 0 refused 0 expired 0 spent 0 open 0\nwire messages 1 asks 1 ticks 1 crashes 1\n"
 unfolding digits reading keep book
 text-worked = refl
+
+-- an object holds its committed version with the greatest start; one that was withdrawn doesn't count
+abbrev object : ObjectId
+object = record { repository = 1; number = 7 }
+
+abbrev first_of : StampParts → TimeParts
+first_of s = record { stamp = s; step = 1 }
+
+abbrev last : StampParts
+last = record { clock = 3; broker = 1; home = 1 }
+
+abbrev three_puts : List Effect
+three_puts =
+    effect.Put object (first_of stamp) (Number (pos 10)) ∷ effect.Decide stamp decision.Committed ∷ effect.Put object (first_of later) (Number (pos 20)) ∷ effect.Decide later decision.Committed ∷
+    effect.Put object (first_of last) (Number (pos 30)) ∷ effect.Decide last decision.Withdrawn ∷ []
+
+-- only the repository has a log
+abbrev of_repository : List Effect → NodeKind → List Effect
+of_repository log Repository = log
+of_repository log Broker = []
+
+pub held-worked : value_of (last_put (run_over (plan 1) (λ n. of_repository three_puts n.kind)) object) ≡ Number (pos 20)
+unfolding scan pick version_count same_object committed has_commit knows same_stamp lt
+held-worked = refl
+
+pub none-held : value_of (last_put (run_over (plan 1) (λ n. of_repository three_puts n.kind)) (record { repository = 1; number = 8 })) ≡ Nothing
+unfolding scan pick version_count same_object committed has_commit knows same_stamp lt
+none-held = refl

@@ -1,13 +1,12 @@
 pub mod Acts
 pub mod Begun
 pub mod Books
-pub mod Carried
 pub mod Counts
 pub mod Decided
 pub mod Downs
+pub mod Finals
 pub mod Firsts
-pub mod Gathered
-pub mod Led
+pub mod LastVersions
 pub mod Reports
 pub mod Shown
 pub mod Transcripts

@@ -17,7 +17,7 @@ use Rattle.plan_form.specs.declared.plans.Plan.{Plan}
 use Rattle.broker_core.specs.Readings.{reading}
 use Rattle.world_core.specs.declared.traces.Opened.{Opened}
 use Rattle.world_core.specs.declared.traces.Trace.{Trace}
-use Rattle.world_core.specs.Deeds.{RunLogs, finals, run_of}
+use Rattle.world_core.specs.Deeds.{RunLogs, run_of}
 use Rattle.world_core.specs.Readings.{gated_log}
 use Rattle.world_core.specs.Walks.{opened_log}
 use Rattle.report_writer.specs.declared.records.TryOutcome.{TryOutcome}
@@ -33,6 +33,7 @@ use Rattle.report_writer.specs.Standings.{count_of}
 use Rattle.report_writer.specs.Reports.{report_text, down_text, named}
 use Rattle.trace_report.specs.Counts.{down_cause, tick_count, crash_count, ask_count}
 use Rattle.trace_report.specs.Acts.{acts_shown}
+use Rattle.trace_report.specs.Finals.{last_values}
 
 -- ---- nodes that are down
 
@@ -62,7 +63,7 @@ abbrev pub final_of : ObjectId × Value → Final
 final_of entry = record { object = entry.0; value = entry.1 }
 
 abbrev pub finals_shown : Plan → (NodeId → List Effect) → List Final
-finals_shown plan logs = map final_of (finite.entries (finals (run_over plan logs)))
+finals_shown plan logs = map final_of (finite.entries (last_values (run_over plan logs)))
 
 abbrev pub wire_shown : Trace → Wire
 wire_shown t = record { messages = length t.sent; asks = ask_count t.sent; ticks = tick_count t.entries; crashes = crash_count t.entries }

@@ -1,17 +1,16 @@
-//! What the logs and the trace of a run say: which acts its brokers have begun, which deeds are
-//! committed, which nodes are down, and what the wire carried.
+//! What the logs and the trace of a run say: which acts its brokers have begun, what the objects hold,
+//! which nodes are down, and what the wire carried.
 #![tactic(auto)]
 
 mod answers;
 mod begun;
 mod books;
-mod carried;
 mod counts;
 mod decided;
-mod deeds;
 mod downs;
 mod finals;
 mod firsts;
+mod last_versions;
 mod node_logs;
 mod reports;
 mod shown;
@@ -22,7 +21,6 @@ pub use answers::Answered;
 pub use begun::{BegunAct, BegunTry};
 pub use books::begun_in;
 pub use counts::wire_of;
-pub use deeds::{Deeds, Write, deeds_of};
 pub use downs::downs_of;
 pub use reports::{Reported, report, report_by};
 pub use summaries::{summary, summary_by};

@@ -33,8 +33,8 @@ pub(crate) fn unfinished_of(acts: &[ActReport]) -> u64
 /// The report of a run by the durable logs of its nodes, each the first effect first, and by its
 /// trace. A node that isn't in the list has an empty log.
 ///
-/// It costs a reading of each log and one carrying out of each committed attempt, a walk over the
-/// trace, and memory for what it says.
+/// It costs two readings of each log, which carry out no deed, a walk over the trace, and memory for
+/// what it says.
 pub fn report_by(
     alloc: Global,
     plan: &Plan,
@@ -46,7 +46,7 @@ pub fn report_by(
     ensures unfinished { IfOk result (λ r. r.unfinished ≡ open_by plan.now (logs_by logs.now)) }
 {
     let begun = begun_in(alloc, plan, logs)?;
-    let finals = finals_of(alloc, plan, logs, begun.as_slice())?;
+    let finals = finals_of(alloc, plan, logs)?;
     let acts = acts_of_plan(alloc, plan, begun)?;
     let downs = downs_of(alloc, plan, trace)?;
     let unfinished = unfinished_of(acts.as_slice());

@@ -1,10 +1,9 @@
 use Rattle.serial_law.proofs.Before.{finals-hold}
-use Rattle.serial_law.proofs.Traces.{place-serial-facts}
-use Rattle.serial_law.specs.Runs.{run_at, sent_before}
+use Rattle.serial_law.proofs.Traces.{place-finals}
 use Rattle.serial_law.proofs.laws.law_finals.Goals as goal
 
 pub returns-clause-places : goal.returns-clause-places
-returns-clause-places c p alone = finals-hold (run_at p) (sent_before p) (place-serial-facts p alone)
+returns-clause-places c = place-finals
 
 pub returns-clause-facts : goal.returns-clause-facts
 returns-clause-facts c = finals-hold

@@ -2,7 +2,6 @@ use Rattle.std.proofs.Common.{◌≡◌, ap, ◌∙◌, subst}
 use Rattle.report_writer.specs.Reports.{report_text}
 use Rattle.report_writer.specs.Standings.{count_of}
 use Rattle.report_writer.specs.declared.records.ActOutcome.TheVariants.{Open}
-use Rattle.trace_report.specs.Begun.{kept}
 use Rattle.trace_report.specs.Reports.{logs_by}
 use Rattle.trace_report.proofs.TextLemmas.{report-is}
 use Rattle.trace_report.proofs.reports.report_by.Goals as goal
@@ -14,7 +13,7 @@ returns c =
     record {
       text = subst (λ r. c.in_ok-text.text ≡ report_text r)
           (report-is c.args.plan.now logs c.args.trace.now c.of.result c.of-3.result (c.of.ensures ∙ acts) (c.of-3.ensures ∙ c.in_ok-downs.ensures)
-          c.of-2.result c.wire_of.result (c.of-2.ensures ∙ c.in_ok-finals.ensures (ap kept c.as_slice.ensures.value ∙ c.in_ok-begun.ensures)) c.wire_of.ensures)
+          c.of-2.result c.wire_of.result (c.of-2.ensures ∙ c.in_ok-finals.ensures) c.wire_of.ensures)
           c.in_ok-text.ensures;
-      unfinished = c.unfinished_of-unfinished.ensures ∙ (ap (count_of Open) c.as_slice-2.ensures.value ∙ ap (count_of Open) acts);
+      unfinished = c.unfinished_of-unfinished.ensures ∙ (ap (count_of Open) c.as_slice.ensures.value ∙ ap (count_of Open) acts);
     }

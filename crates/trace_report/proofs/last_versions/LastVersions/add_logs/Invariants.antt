@@ -1,0 +1,12 @@
+use Rattle.std.proofs.Common.{◌≡◌, [], reverse}
+use Rattle.pseudo_time.specs.declared.nodes.NodeId.{NodeId}
+use Rattle.world_core.specs.Deeds.{RunLogs}
+use Rattle.trace_report.specs.Decided.{AreDecided}
+use Rattle.trace_report.specs.Finals.{marks_to}
+use Rattle.trace_report.specs.LastVersions.{AreLast}
+use Rattle.trace_report.specs.Reports.{logs_by}
+use Rattle.trace_report.proofs.last_versions.LastVersions.add_logs.Given as goal
+
+-- the logs of the repositories so far
+abbrev pub invariant-loop-below : goal.invariant-loop-below
+invariant-loop-below l = (k : RunLogs) → ((n : NodeId) → k.logs n ≡ reverse (logs_by l.logs n)) → AreDecided k l.firsts → AreLast k [] l.initial.self → AreLast k (marks_to k l.below) l.self
