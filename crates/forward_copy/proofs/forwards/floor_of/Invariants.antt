@@ -1,0 +1,8 @@
+use Rattle.std.proofs.Common.{◌≡◌, reverse, take}
+use Rattle.object_history.specs.History as history
+use Rattle.repository_log.specs.Logs.{marks}
+use Rattle.forward_copy.proofs.forwards.floor_of.Given as goal
+
+-- the floor so far
+abbrev pub invariant-loop-effect : goal.invariant-loop-effect
+invariant-loop-effect l = l.floor ≡ history.floor_of (marks (reverse (take l.effect-index l.log)))

@@ -1,0 +1,12 @@
+//! The volumes of a node: taken from a shelf, opened one after another, and handed back.
+#![tactic(auto)]
+
+mod kept;
+mod roles;
+mod shelves;
+mod volumes;
+
+pub use kept::{Kept, keep_volumes};
+pub use roles::{current, fresh, node_log};
+pub use shelves::take_volume;
+pub use volumes::open_volumes;
