@@ -90,11 +90,7 @@ impl<F: Fates, C: Clock, M: Medium> Turns<SharedWire<F, C, M>> for RunNode<F, C,
 
     ghost does = { λ wire old new. HadTurn wire.lock M.tells M.faults M.reads old new };
 
-    fn take_turn<R: Wait>(
-        self,
-        rt: &R,
-        shared: &SharedWire<F, C, M>,
-    ) -> (RunNode<F, C, M>, bool) {
+    fn take_turn<R: Wait>(self, rt: &R, shared: &SharedWire<F, C, M>) -> (RunNode<F, C, M>, bool) {
         let RunNode { kind } = self;
         match kind {
             AnyNode::Repository(node) => {

@@ -30,11 +30,7 @@ pub trait Turns<L> {
 
 /// One worker's share: each of its nodes has a turn, in their order. True where one of them did anything.
 /// Takes no memory.
-pub fn share<L, S: Turns<L> + Drop, R: Wait>(
-    rt: &R,
-    shared: &L,
-    nodes: Vec<S>,
-) -> (Vec<S>, bool)
+pub fn share<L, S: Turns<L> + Drop, R: Wait>(rt: &R, shared: &L, nodes: Vec<S>) -> (Vec<S>, bool)
     requires ready { All (S.ready shared.now) nodes.items }
     ensures does { AllZip (S.does shared.now) nodes.items result.0.items }
     ensures room { (vec_len result.0 ≡ vec_len nodes) × (vec_capacity result.0 ≡ vec_capacity nodes) }
@@ -63,11 +59,7 @@ fn turn_again<L, S: Turns<L> + Drop, R: Wait>(rt: &R, shared: &L, node: S) -> (S
 }
 
 // The nodes of a share, which had turns, have another, in their order.
-fn share_again<L, S: Turns<L> + Drop, R: Wait>(
-    rt: &R,
-    shared: &L,
-    nodes: Vec<S>,
-) -> (Vec<S>, bool)
+fn share_again<L, S: Turns<L> + Drop, R: Wait>(rt: &R, shared: &L, nodes: Vec<S>) -> (Vec<S>, bool)
     requires had { All (HadSome (S.does shared.now)) nodes.items }
     ensures does { AllZip (GoesFurther (S.does shared.now)) nodes.items result.0.items }
     ensures room { (vec_len result.0 ≡ vec_len nodes) × (vec_capacity result.0 ≡ vec_capacity nodes) }

@@ -1,3 +1,0 @@
-pub mod KillLemmas
-pub mod WindowLemmas
-pub mod StepLemmas

@@ -1,3 +1,0 @@
-pub mod Kills
-pub mod Windows
-pub mod Clauses
