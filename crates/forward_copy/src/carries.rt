@@ -55,7 +55,7 @@ pub fn carry<M: Medium>(
     // Each image that is left, at every moment, has a front of them.
     ensures images { IsTrue M.tells → (c : Image) → M.may_leave (handed result) c → LeavesFront (between mark forward.now.kept.items) c }
     ensures any_moment { IsTrue M.tells →
-        LeavesOnly M.moment M.left_since (medium_of fresh) (handed result) (LeavesFront (between mark forward.now.kept.items)) }
+        LeavesOnly M.stages (medium_of fresh) (handed result) (LeavesFront (between mark forward.now.kept.items)) }
 
     // Any fault but Medium comes before all writing, and Full exactly where pages are wanting.
     ensures nothing { IfErr result (λ e. e.1 ≢ StoreFault.Medium → e.0 ≡ medium_of fresh) }

@@ -13,5 +13,5 @@ returns-in-Ok-clause-images g c = λ t i left.
 
 pub returns-in-Ok-clause-any_moment : goal.returns-in-Ok-clause-any_moment
 returns-in-Ok-clause-any_moment g c = λ t.
-    widens g.M.Medium.moment g.M.Medium.left_since (medium_of c.args.fresh) (handed c.append.result) (HasPrefix (effects_in g.M.Medium.reads c.args.fresh) c.as_slice-in-Ok.result.now) (LeavesFront (between c.args.mark c.args.forward.now.kept.items)) (c.append.ensures.any_moment t)
+    widens g.M.Medium.stages (medium_of c.args.fresh) (handed c.append.result) (HasPrefix (effects_in g.M.Medium.reads c.args.fresh) c.as_slice-in-Ok.result.now) (LeavesFront (between c.args.mark c.args.forward.now.kept.items)) (c.append.ensures.any_moment t)
     (λ i has. carried-front c.args.mark c.args.forward.now.kept.items (effects_in g.M.Medium.reads c.args.fresh) c.as_slice-in-Ok.result.now i (c.requires.empty t) (search rules) c.requires.no_whole has)
