@@ -2,4 +2,3 @@ pub mod Appends
 pub mod FrameLemmas
 pub mod OnceLemmas
 pub mod RowLemmas
-pub mod TellingLemmas

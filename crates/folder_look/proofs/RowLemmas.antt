@@ -12,10 +12,10 @@ use Rattle.report_writer.specs.Histories.{falling, versions}
 use Rattle.folder_look.specs.declared.choices.Choice.{Choice}
 use Rattle.folder_look.specs.declared.looks.ObjectRow.{ObjectRow}
 use Rattle.folder_look.specs.declared.looks.VersionRow.{VersionRow}
-use Rattle.folder_look.specs.declared.versions.Version.{Version}
+use Rattle.report_writer.specs.declared.versions.Version.{Version}
 use Rattle.folder_look.specs.Choices.{has_start}
 use Rattle.folder_look.specs.Rows.{row_of, is_chosen, rows_of}
-use Rattle.folder_look.specs.Tellings.{told_of, Holds}
+use Rattle.report_writer.specs.Tellings.{told_of, Holds}
 use Rattle.folder_look.specs.Told.{told_row, is_told_in}
 
 map-append : (f : Seen → Version) (xs ys : List Seen) → map f (xs ++ ys) ≡ map f xs ++ map f ys

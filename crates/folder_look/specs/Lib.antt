@@ -10,5 +10,4 @@ pub mod Page
 pub mod Rows
 pub mod Style
 pub mod Tallies
-pub mod Tellings
 pub mod Told

@@ -4,7 +4,7 @@ use Rattle.std.specs.FinMap as finite
 use Rattle.pseudo_time.specs.TimeParts.{TimeParts}
 use Rattle.object_history.specs.History.{top, latest}
 use Rattle.object_history.specs.Kept.{Settled}
-use Rattle.folder_look.specs.declared.versions.Version.{Version}
+use Rattle.report_writer.specs.declared.versions.Version.{Version}
 use Rattle.folder_look.specs.declared.choices.Choice.{Choice}
 use Rattle.folder_look.specs.declared.looks.VersionRow.{VersionRow}
 use Rattle.folder_look.specs.Choices.{has_start}

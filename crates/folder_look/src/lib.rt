@@ -5,7 +5,6 @@ mod attempts;
 mod axes;
 mod choices;
 mod drawing;
-mod floors;
 mod laws;
 mod looks;
 mod media_text;
@@ -14,8 +13,6 @@ mod pages;
 mod rows;
 mod styles;
 mod tallies;
-mod tellings;
-mod versions;
 
 pub use choices::Choice;
 pub use laws::{page_has_the_frame, versions_stand_once};

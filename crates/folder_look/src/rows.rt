@@ -5,13 +5,11 @@ ghost use Rattle.folder_look.specs.Rows as spec;
 ghost use Rattle.folder_look.specs.Told.{told_row, is_told_in};
 
 use crate::choices::Choice;
-use crate::floors::{floor_of, latest, reach};
 use crate::looks::{ObjectRow, VersionRow};
-use crate::tellings::telling_of;
-use crate::versions::Version;
 use effect_form::Effect;
 use object_history::Settles;
 use pseudo_time::PseudoTime;
+use report_writer::{Version, floor_of, latest, reach, telling_of};
 use std::alloc::{AllocError, Global};
 use value_form::{Items, ObjectId};
 

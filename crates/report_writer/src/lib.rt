@@ -11,8 +11,11 @@ mod totals;
 mod versions;
 mod writing;
 
+pub use floors::{floor_of, latest, reach};
 pub use histories::history;
 pub use pieces::{push_named, push_object, push_stamp, push_time};
 pub use records::{ActOutcome, ActReport, Down, Final, Report, TryOutcome, TryReport, Wire};
+pub use tellings::{Telling, telling_of};
 pub use totals::count_of;
+pub use versions::Version;
 pub use writing::{push_downs, push_wire_line, write_report};

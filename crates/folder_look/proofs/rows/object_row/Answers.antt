@@ -4,7 +4,7 @@ use Rattle.object_history.specs.History.{floor_of, reach}
 use Rattle.repository_log.specs.Logs.{marks}
 use Rattle.folder_look.proofs.RowLemmas.{origin-is, row-is, rows-are}
 use Rattle.folder_look.specs.Rows.{rows_of}
-use Rattle.folder_look.specs.Tellings.{Holds}
+use Rattle.report_writer.specs.Tellings.{Holds}
 use Rattle.folder_look.specs.Told.{told_row, is_told_in}
 use Rattle.folder_look.proofs.rows.object_row.Goals as goal
 

@@ -1,8 +1,0 @@
-use Rattle.std.proofs.Common.{◌≡◌, reverse, take}
-use Rattle.object_history.specs.History as history
-use Rattle.repository_log.specs.Logs.{marks}
-use Rattle.folder_look.proofs.floors.floor_of.Given as goal
-
--- the floor of the effects so far
-abbrev pub invariant-loop-effect : goal.invariant-loop-effect
-invariant-loop-effect l = l.floor ≡ history.floor_of (marks (reverse (take l.effect-index l.effects)))
