@@ -1,5 +1,5 @@
 -- Three acts, a retirement, and a run after it, worked by hand: the definitions compute what they come to. Logs stand newest first.
-use Rattle.std.proofs.Common.{◌≡◌, ℕ, List, [], ◌∷◌, refl, sym, ◌∙◌, Some, inl, inr, ◌==◌, if◌then◌else◌}
+use Rattle.std.proofs.Common.{◌≡◌, ℕ, List, [], ◌∷◌, refl, sym, ◌∙◌, ap, Some, inl, inr, ◌==◌, if◌then◌else◌}
 use Rattle.std.specs.FinMap as finite
 use Rattle.pseudo_time.specs.Order.{same_stamp, same_time, stamp_lt, lt}
 use Rattle.pseudo_time.specs.declared.decisions.Decision.TheVariants as decision
@@ -7,6 +7,7 @@ use Rattle.pseudo_time.specs.declared.nodes.NodeId.{NodeId}
 use Rattle.pseudo_time.specs.declared.nodes.NodeKind.{NodeKind}
 use Rattle.pseudo_time.specs.declared.nodes.NodeKind.TheVariants.{Repository, Broker}
 use Rattle.value_form.specs.declared.endings.Ending.TheVariants as ending
+use Rattle.value_form.specs.Objects.{Objects, value_at}
 use Rattle.effect_form.specs.declared.effects.Effect.{Effect}
 use Rattle.effect_form.specs.declared.effects.Effect.TheVariants as effect
 use Rattle.effect_form.specs.declared.outcomes.Outcome.TheVariants as outcome
@@ -17,9 +18,11 @@ use Rattle.object_retirement.specs.Forward.{forwarded}
 use Rattle.object_retirement.specs.Stood.{has_start}
 use Rattle.repository_core.specs.Logs.{knows}
 use Rattle.script_meaning.specs.Meaning.{Got, Stored}
-use Rattle.serial_model.specs.Questions.{Tree, Ends, Reads, Writes}
+use Rattle.serial_model.specs.Questions.{Tree, Ends, Reads, Writes, talked, talked_alone}
+use Rattle.value_form.specs.declared.transcripts.Line.TheVariants as line
+use Rattle.serial_law.proofs.Own.{value-insert}
 use Rattle.broker_core.specs.Book.{book}
-use Rattle.world_core.specs.Deeds.{Try, RunLogs, Version, has_commit, committed, put_in, puts_of, puts_to, find, stamp_in, stamp_if, put_stamps, log_stamps, try_stamps, all_deeds, before, lines_written, marks_at}
+use Rattle.world_core.specs.Deeds.{Try, RunLogs, Version, has_commit, committed, put_in, puts_of, puts_to, find, stamp_in, stamp_if, put_stamps, log_stamps, try_stamps, all_deeds, before, finals, lines_written, marks_at}
 use Rattle.trace_report.specs.Finals.{last_put}
 use Rattle.serial_law.specs.Wholes.{PutsStand, whole_log, whole_run, with_puts, wrote}
 use Rattle.serial_law.proofs.Attempts.{booked_tries}
@@ -89,9 +92,25 @@ first-before : before later_whole (stamp 1 2 1) ≡ one (object 1 1) (int 1)
 unfolding with_puts has_start same_object same_time scan pick settle_of version_count before all_deeds log_stamps put_stamps try_stamps stamp_if stamp_in committed has_commit knows booked_tries find puts_to puts_of put_in book same_stamp stamp_lt lt
 first-before = refl
 
-second-before : before later_whole (stamp 4 2 1) ≡ finite.insert (finite.insert (one (object 1 1) (int 1)) (object 1 1) (int 2)) (object 1 2) (int 5)
+abbrev second_map : Objects
+second_map = finite.insert (finite.insert (one (object 1 1) (int 1)) (object 1 1) (int 2)) (object 1 2) (int 5)
+
+second-before : before later_whole (stamp 4 2 1) ≡ second_map
 unfolding with_puts has_start same_object same_time scan pick settle_of version_count before all_deeds log_stamps put_stamps try_stamps stamp_if stamp_in committed has_commit knows booked_tries find puts_to puts_of put_in book same_stamp stamp_lt lt
 second-before = refl
+
+second-value : value_at second_map (object 1 1) ≡ int 2
+unfolding same_object
+second-value = value-insert (finite.insert (one (object 1 1) (int 1)) (object 1 1) (int 2)) (object 1 2) (object 1 1) (int 5) ∙ value-insert (one (object 1 1) (int 1)) (object 1 1) (object 1 1) (int 2)
+
+-- over that map the script alone reads what the second attempt was answered
+second-reader : (talked_alone (scripts (4 ∷ [])) second_map).lines ≡ (talked (scripts (4 ∷ [])) (Got (int 2) ∷ [])).lines
+second-reader = ap (λ x. line.Read (object 1 1) x ∷ []) second-value
+
+-- and all committed deeds leave that map too
+whole-finals : finals later_whole ≡ second_map
+unfolding with_puts has_start same_object same_time scan pick settle_of version_count finals all_deeds log_stamps put_stamps try_stamps stamp_if stamp_in committed has_commit knows booked_tries find puts_to puts_of put_in book same_stamp stamp_lt lt
+whole-finals = refl
 
 -- the logs as they stand lack it, and would begin the first attempt over nothing
 standing-before : before later_run (stamp 1 2 1) ≡ finite.empty
@@ -141,6 +160,10 @@ not-unfloored s = elim s.puts.0 [ inl h ↦ h | inr g ↦ absurd (cc g.1) ]
 abbrev other_put : RunLogs
 other_put = booked_of scripts (plan 1 1 1)
     (λ n. pick_log n.kind n.number (at_one (effect.Decide (stamp 1 1 1) decision.Committed ∷ effect.Put (object 1 1) (time (stamp 1 1 1) 1) (int 7) ∷ effect.Begin (stamp 1 1 1) 8 ∷ [])) (at_one writers))
+
+not-other-put : PutsStand other_put wrote_one → ⊥
+unfolding lines_written puts_to puts_of put_in same_stamp lt
+not-other-put s = elim s.lines.0 [ inl e ↦ (let k : int 1 ≡ int 7 = ap (λ (v : Version). v.value) e in absurd (cc k)) | inr h ↦ h ]
 
 -- finals by the older log alone, where the run after the retirement wrote on
 abbrev wrote_on : List Effect
