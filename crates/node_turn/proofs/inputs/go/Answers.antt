@@ -3,7 +3,7 @@ use Rattle.pseudo_time.specs.Nodes.{is_broker}
 use Rattle.pseudo_time.specs.declared.nodes.NodeId.{NodeId}
 use Rattle.seat_lock.specs.Words.{knows}
 use Rattle.wire_lock.specs.Sights.{flags_at}
-use Rattle.node_turn.proofs.LifeLemmas.{on-ok, on-err, went-up, up-added, after-added, cause-added}
+use Rattle.node_turn.proofs.LifeLemmas.{on-ok, on-err, went-up, up-added, after-added, cause-added, up-stored, stored-looked}
 use Rattle.node_turn.proofs.TrailLemmas.{trail-looked, trail-added}
 use Rattle.node_turn.proofs.inputs.go.Goals as goal
 
@@ -27,3 +27,6 @@ pub returns-in-Ok-clause-cause : goal.returns-in-Ok-clause-cause
 returns-in-Ok-clause-cause g c =
     cause-added c.requires.up (on-ok _ _ _ c.in-Ok.is c.go-pass.ensures.ok) (went-up c.args.node.kind (flags_at (knows c.args.pass) c.args.node) false false c.requires.broker c.requires.up.flags) (c.go-gave.ensures.given (ap (λ (n : NodeId). is_broker n.kind) c.requires.up.node ∙ c.requires.broker))
     c.added.result c.added.new.draft c.added.ensures.ok c.added.ensures.err c.added.ensures.wanting
+
+pub returns-in-Err-clause-err : goal.returns-in-Err-clause-err
+returns-in-Err-clause-err g c = stored-looked (up-stored c.requires.up) (on-err _ _ _ c.in-Err.is c.go-pass.ensures.err)

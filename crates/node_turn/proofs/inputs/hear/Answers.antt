@@ -1,6 +1,6 @@
 use Rattle.std.proofs.Common.{refl, [], ap}
 use Rattle.world_core.specs.Walks.{with_due}
-use Rattle.node_turn.proofs.LifeLemmas.{if-ok, on-err, up-added, after-added, cause-added}
+use Rattle.node_turn.proofs.LifeLemmas.{if-ok, on-err, up-added, after-added, cause-added, up-stored, stored-looked}
 use Rattle.node_turn.proofs.TrailLemmas.{trail-looked, trail-added}
 use Rattle.node_turn.proofs.inputs.hear.Goals as goal
 
@@ -24,3 +24,6 @@ pub returns-in-Ok-clause-cause : goal.returns-in-Ok-clause-cause
 returns-in-Ok-clause-cause g c =
     cause-added c.requires.up (if-ok _ _ _ c.in-Ok.is c.hear-pass.ensures.ok) (ap with_due c.requires.up.flags) c.hear-gave.ensures.given
     c.added.result c.added.new.draft c.added.ensures.ok c.added.ensures.err c.added.ensures.wanting
+
+pub returns-in-Err-clause-err : goal.returns-in-Err-clause-err
+returns-in-Err-clause-err g c = stored-looked (up-stored c.requires.up) (on-err _ _ _ c.in-Err.is c.hear-pass.ensures.err)

@@ -1,6 +1,6 @@
 use Rattle.std.proofs.Common.{refl, [], ap}
 use Rattle.world_core.specs.Walks.{with_due}
-use Rattle.node_turn.proofs.LifeLemmas.{on-ok, if-ok, if-err, on-err, up-added, after-added, taken-at}
+use Rattle.node_turn.proofs.LifeLemmas.{on-ok, if-ok, if-err, on-err, up-added, after-added, taken-at, up-stored, stored-looked}
 use Rattle.node_turn.proofs.TrailLemmas.{trail-looked, trail-added}
 use Rattle.node_turn.proofs.inputs.take.Goals as goal
 
@@ -38,3 +38,6 @@ returns-clause-up g c =
     let v = taken-at _ _ _ _ c.in-Arrived.is (if-ok _ _ _ c.in-Ok.is c.take-pass.ensures.ok) in
     on-ok _ _ _ c.in-Ok-added.is
     (up-added c.requires.up v (ap with_due c.requires.up.flags) c.take-gave.ensures.given c.added.result c.added.new.draft c.added.ensures.ok c.added.ensures.err c.added.ensures.wanting)
+
+pub returns-in-Err-clause-err : goal.returns-in-Err-clause-err
+returns-in-Err-clause-err g c = stored-looked (up-stored c.requires.up) (on-err _ _ _ c.in-Err.is c.take-pass.ensures.err)
