@@ -1,11 +1,12 @@
 -- What an append of a whole volume leaves.
-use Rattle.std.proofs.Common.{◌≡◌, ℕ, zero, suc, true, false, List, [], ◌∷◌, ◌++◌, take, refl, sym, ◌∙◌, ap, subst}
+use Rattle.std.proofs.Common.{◌≡◌, ℕ, zero, suc, true, false, List, [], ◌∷◌, ◌++◌, take, refl, sym, ◌∙◌, ap, subst, arith, Ok}
 use Rattle.std.proofs.lemmas.Bool.{true≢false, false≢true}
 use Rattle.pseudo_time.specs.TimeParts.{TimeParts}
 use Rattle.effect_form.specs.declared.effects.Effect.{Effect}
 use Rattle.effect_form.specs.declared.effects.Effect.TheVariants.{Put, Stretch, Begin, Decide, Learn, Run, Act, Try, Got, Acked, End, Mark, Whole}
 use Rattle.medium_port.specs.Image.{Image}
 use Rattle.version_store.specs.Filling.{HasPrefix}
+use Rattle.version_store.specs.Storage.{storage}
 use Rattle.forward_copy.specs.Carried.{LeavesFront}
 use Rattle.forward_copy.specs.Sifted.{between}
 use Rattle.forward_copy.specs.Wholes.{has_whole}
@@ -39,3 +40,10 @@ prefix-front at kept c none has = record { front = has; all = λ log is some. al
 pub carried-front : (at : TimeParts) (kept log effects : List Effect) (c : Image) → log ≡ [] → effects ≡ between at kept → has_whole kept ≡ false → HasPrefix log effects c → LeavesFront (between at kept) c
 carried-front at kept log effects c none is whole has =
     prefix-front at kept c whole (subst (λ l. HasPrefix l (between at kept) c) none (subst (λ e. HasPrefix log e c) is has))
+
+-- where nothing was written
+pub front-none : (at : TimeParts) (kept : List Effect) (c : Image) → storage c ≡ Ok [] → LeavesFront (between at kept) c
+front-none at kept c empty = record {
+  front = record { pages = 0; most = omega arith; kept = 0; few = omega arith; whole = refl; is = empty };
+  all = λ log is some. absurd (false≢true (sym (ap has_whole (cc (sym empty ∙ is))) ∙ some));
+}
