@@ -1,5 +1,5 @@
 -- What an append of a whole volume leaves.
-use Rattle.std.proofs.Common.{◌≡◌, ℕ, zero, suc, true, false, List, [], ◌∷◌, ◌++◌, take, refl, sym, ◌∙◌, ap, subst, arith, Ok}
+use Rattle.std.proofs.Common.{◌≡◌, ℕ, zero, suc, true, false, List, [], ◌∷◌, ◌++◌, take, refl, sym, ◌∙◌, ap, subst, arith, Ok, Result}
 use Rattle.std.proofs.lemmas.Bool.{true≢false, false≢true}
 use Rattle.pseudo_time.specs.TimeParts.{TimeParts}
 use Rattle.effect_form.specs.declared.effects.Effect.{Effect}
@@ -45,5 +45,5 @@ carried-front at kept log effects c none is whole has =
 pub front-none : (at : TimeParts) (kept : List Effect) (c : Image) → storage c ≡ Ok [] → LeavesFront (between at kept) c
 front-none at kept c empty = record {
   front = record { pages = 0; most = omega arith; kept = 0; few = omega arith; whole = refl; is = empty };
-  all = λ log is some. absurd (false≢true (sym (ap has_whole (cc (sym empty ∙ is))) ∙ some));
+  all = λ log is some. let same : ◌≡◌ {A = Result (List Effect) ℕ} (Ok log) (Ok []) = sym is ∙ empty in let none : log ≡ [] = cc same in absurd (false≢true (sym (ap has_whole none) ∙ some));
 }
