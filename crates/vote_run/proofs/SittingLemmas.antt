@@ -146,8 +146,7 @@ module _ {M : Type 0} {g : _} (w : Media M) (told : IsTrue w.tells) (lines : Lis
   stayed : (c d : CourierParts) (m : MemberState) (before : Store M g) (durable : ℕ) (behind : Bool) → Stands lines c → SitsUp w lines c s m before durable behind → Begins behind (member s) (moment_of c) c d m m None
       → Keeps lines (same_node (member s)) c d × SitsUp w lines d s m before durable behind
   stayed c d m before durable behind st sits x =
-      let r = none-kept lines s behind m c d st sits.at x in
-      (
+      let r = none-kept lines s behind m c d st sits.at x in (
         r.0,
         record {
           number = sits.number;
