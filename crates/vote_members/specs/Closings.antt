@@ -9,7 +9,7 @@ use Rattle.pseudo_time.specs.declared.down_causes.DownCause.TheVariants as down
 use Rattle.effect_form.specs.declared.effects.Effect.{Effect}
 use Rattle.effect_form.specs.Effects.{AreEffects}
 use Rattle.version_store.specs.declared.stores.Store.{Store}
-use Rattle.version_store.specs.Filling.{HasPrefix, filling}
+use Rattle.version_store.specs.Filling.{HasPrefix, KeepsPages, StaysClean, filling}
 use Rattle.version_store.specs.Storage.{storage}
 use Rattle.version_store.specs.StoreWords.{effects_in, medium_of}
 use Rattle.run_media.specs.Media.{Media}
@@ -24,6 +24,10 @@ module _ {M : Type 0} (w : Media M) where
   -- a crash leaves the log with the first of the effects
   abbrev pub LeavesPrefix : M → List Effect → List Effect → Type 0
   LeavesPrefix m log effects = (c : Image) → w.may_leave m c → HasPrefix log effects c
+
+  -- and so, but for how the effects stood on pages
+  abbrev pub LeavesFront : M → List Effect → List Effect → Type 0
+  LeavesFront m log effects = (c : Image) → w.may_leave m c → (kept : ℕ) × (storage c ≡ Ok (log ++ take kept effects))
 
   -- nothing new can be left
   pub record IsGivenUp (old new : M) : Type 0 where
@@ -74,16 +78,26 @@ module _ {M : Type 0} (w : Media M) where
       pub has : IsTrue w.tells → effects_in w.reads new ≡ effects_in w.reads s ++ effects
       pub left : IsTrue w.tells → Only (w.reads (medium_of new)) (w.may_leave (medium_of new))
       pub leaves : IsTrue w.tells → LeavesPrefix (medium_of new) (effects_in w.reads s) effects
+      -- no page that was written is changed, and none that was blank is spoiled
+      pub kept : IsTrue w.tells → KeepsPages (w.reads (medium_of s)) (w.reads (medium_of new))
+      pub clean : IsTrue w.tells → StaysClean (w.reads (medium_of s)) (w.reads (medium_of new))
       pub later : w.faults (medium_of s) ≤ w.faults (medium_of new)
 
+    -- why the member can't go on; of a full medium a crash leaves what it reads, among others
     abbrev pub IsFallenFor : DownCause → Store M g → List Effect → M → Type 0
     IsFallenFor down.Medium s effects new = RoseBy 2 (w.faults (medium_of s)) (w.faults new)
     IsFallenFor (down.Damaged page) s effects new = IsTrue w.tells → ⊥
     IsFallenFor (down.Full pages) s effects new = (new ≡ medium_of s) × (pages ≡ w.page_count new) × (IsTrue w.tells → count_by is_blank (w.reads new) < length (filling effects))
+        × (IsTrue w.tells → w.may_leave new (w.reads new))
 
     -- the log with the first of the effects is left
     pub record IsGone (s : Store M g) (effects : List Effect) (new : M) : Type 0 where
       pub left : IsTrue w.tells → LeavesPrefix new (effects_in w.reads s) effects
+      pub later : w.faults (medium_of s) ≤ w.faults new
+
+    -- the log with some first ones of the effects is left
+    pub record IsSafe (s : Store M g) (effects : List Effect) (new : M) : Type 0 where
+      pub left : IsTrue w.tells → LeavesFront new (effects_in w.reads s) effects
       pub later : w.faults (medium_of s) ≤ w.faults new
 
     abbrev pub ClosedAs : Store M g → List Effect → Closed M g → Type 0

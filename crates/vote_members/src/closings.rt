@@ -6,7 +6,6 @@ ghost use Rattle.vote_members.specs.Closings.{ClosedAs, IsLost};
 
 use effect_form::Effect;
 use medium_port::Medium;
-use node_turn::open_again;
 use pseudo_time::DownCause;
 use std::alloc::Global;
 use version_store::{Store, StoreFault};
@@ -28,7 +27,11 @@ pub enum Closed<M: Medium> {
 fn open_anew<M: Medium>(alloc: Global, medium: M) -> Closed<M>
     ensures { IsLost M.Medium medium result }
 {
-    match open_again(alloc, medium) {
+    let mut medium = medium;
+    if medium.reopen().is_err() {
+        return Closed::Fallen(medium, DownCause::Medium);
+    }
+    match Store::open(alloc, medium) {
         Ok((store, effects)) => Closed::Reopened(store, effects),
         Err((medium, fault)) => match fault.down_cause() {
             Some(cause) => Closed::Fallen(medium, cause),

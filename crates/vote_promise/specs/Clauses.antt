@@ -11,19 +11,18 @@ use Rattle.stream_port.specs.Causes.{Rose, RoseBy}
 use Rattle.medium_port.specs.Image.{Image, IsBlankImage}
 use Rattle.message_core.specs.Tallies.{numbered}
 use Rattle.page_gate.specs.States.{is_blank}
-use Rattle.version_store.specs.Filling.{filling}
+use Rattle.version_store.specs.Filling.{StaysClean, filling}
 use Rattle.version_store.specs.Storage.{storage}
 use Rattle.record_votes.specs.declared.member_numbers.MemberNumber.{MemberNumber}
 use Rattle.record_votes.specs.Polls.{member, held}
 use Rattle.record_votes.specs.Voting.{IsDecided, Line}
-use Rattle.world_core.specs.declared.entries.Entry.{Entry}
-use Rattle.world_core.specs.declared.entries.Entry.TheVariants.{Crash, Down}
 use Rattle.world_core.specs.declared.traces.Trace.{Trace}
 use Rattle.world_core.specs.Legal.{Idle, fates_of, asked_of}
 use Rattle.world_core.specs.Walks.{own}
 use Rattle.wire_core.specs.Clocked.{IsClocked, tick_moments}
 use Rattle.run_media.specs.Media.{Media, IsUntouched}
 use Rattle.trace_report.specs.Counts.{down_cause, tick_count}
+use Rattle.vote_members.specs.Costs.{costs}
 use Rattle.vote_traces.specs.Walks.{log_at, world_of}
 use Rattle.vote_traces.specs.Legal.{Legal, WasNotOpened, hall_after}
 use Rattle.vote_traces.specs.Causes.{HaveCauses}
@@ -58,16 +57,6 @@ HasRunOut most_ticks lines t = Idle (fates_of t.sent) (world_of (hall_after line
 pub record HasEnded (most_ticks enough : ℕ) (lines : List Line) (t : Trace) : Type 0 where
   pub few : tick_count t.entries ≤ most_ticks
   pub why : AllHold lines t ⊎ ((enough ≤ length t.sent) ⊎ HasRunOut most_ticks lines t)
-
--- ---- faults
-
--- how often an entry's node's medium failed at least
-abbrev pub cost_of : Entry → ℕ
-cost_of e = elim e [ Crash node kept ↦ 1 | Down node cause ↦ elim cause [ down.Medium ↦ 2 | _ ↦ 0 ] | _ ↦ 0 ]
-
-abbrev pub costs : List Entry → ℕ
-costs [] = 0
-costs (e ∷ es) = cost_of e + costs es
 
 -- ---- media
 
@@ -130,11 +119,13 @@ module _ {M : Type 0} (w : Media M) (lines : List Line) where
     pub unopened : (s : MemberNumber) (old new : M) → WasNotOpened t.entries (member s) → down_cause (member s) t.entries ≡ Some down.Medium → Became media left s old new → Rose (w.faults old) (w.faults new)
     pub missing : (s : MemberNumber) → media s ≡ None → down_cause (member s) t.entries ≡ Some down.Medium
 
-  -- A member is down since its medium failed; or it wasn't opened, and the page is the first damaged one of what its medium held; or its medium is full.
+  -- A member is down since its medium failed; or it wasn't opened, and the page is the first damaged one of what its medium held; or its medium is full. Without a fault no page that was blank is spoiled.
   pub record AreDownFor (media left : MemberNumber → Option M) (t : Trace) : Type 0 where
+    pub unopened : (s : MemberNumber) → WasNotOpened t.entries (member s) → (down_cause (member s) t.entries ≡ Some down.Medium) ⊎ ((page : ℕ) × (down_cause (member s) t.entries ≡ Some (down.Damaged page)))
     pub damaged : (s : MemberNumber) (old new : M) (page : ℕ) → down_cause (member s) t.entries ≡ Some (down.Damaged page) → Became media left s old new → WasNotOpened t.entries (member s) × (storage (w.reads old) ≡ Err page)
     pub full : (s : MemberNumber) (old new : M) (pages : ℕ) → down_cause (member s) t.entries ≡ Some (down.Full pages) → Became media left s old new
         → (pages ≡ w.page_count new) × (storage (w.reads new) ≡ Ok (gated_log lines t s)) × (count_by is_blank (w.reads new) < length (filling (open_effects lines t s)))
+    pub clean : (s : MemberNumber) (old new : M) → costs (own (member s) t.entries) ≡ 0 → Became media left s old new → StaysClean (w.reads old) (w.reads new)
 
 -- ---- what must succeed
 
@@ -167,4 +158,3 @@ pub record HaveVoted {M : Type 0} (w : Media M) (most_ticks enough : ℕ) (lines
   pub causes : IsTrue w.tells → HaveCausesOnMedia w lines left t
   pub counts : AreCounted w lines media left t
   pub stops : IsTrue w.tells → AreDownFor w lines media left t
-  pub completes : Completes w enough lines media left t

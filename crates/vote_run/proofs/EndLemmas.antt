@@ -1,6 +1,6 @@
 -- Rounds, Ticks and idle places.
 use Rattle.std.proofs.Common.{◌≡◌, ℕ, zero, suc, ◌+◌, ◌<◌, ◌≤◌, Bool, true, false, List, [], ◌∷◌, ◌++◌, map, length, inl, inr, refl, sym, ap, subst, ◌∙◌, arith}
-use Rattle.std.specs.Prelude.{Option, Some, None, ◌⊎◌, ◌&&◌, ◌||◌, not, is_some, nat_le, nat_lt, slice_get, if◌then◌else◌, is_err, IfOk, IsTrue, OnOk, Result, Ok, Err}
+use Rattle.std.specs.Prelude.{Option, Some, None, ◌⊎◌, ◌&&◌, not, is_some, nat_le, nat_lt, slice_get, is_err, IfOk, OnOk, Result, Ok, Err}
 use Rattle.std.specs.Option.{unwrap_or}
 use Rattle.std.proofs.lemmas.Bool.{and_parts}
 use Rattle.std.proofs.lemmas.Bool.Decides.{nat_tests}
@@ -14,8 +14,8 @@ use Rattle.message_core.specs.Flights.{AllEmpty}
 use Rattle.message_core.specs.Parts.{state_of}
 use Rattle.record_votes.specs.declared.member_numbers.MemberNumber.{MemberNumber}
 use Rattle.record_votes.specs.declared.member_numbers.MemberNumber.TheVariants.{First, Second, Third}
-use Rattle.record_votes.specs.Polls.{PollState, member, number_of}
-use Rattle.record_votes.specs.Voting.{Line, Member}
+use Rattle.record_votes.specs.Polls.{PollState, member}
+use Rattle.record_votes.specs.Voting.{Line}
 use Rattle.world_core.specs.declared.entries.Entry.{Entry}
 use Rattle.world_core.specs.declared.entries.Entry.TheVariants.{Take, Go, Learn, Hear, Gate, Crash, Down, Tick}
 use Rattle.world_core.specs.Legal.{Idle, asked_of, fates_of, is_behind, is_within}
@@ -25,27 +25,28 @@ use Rattle.wire_core.proofs.MomentLemmas.{clocked-tick, latest}
 use Rattle.wire_core.proofs.QuietLemmas.{not-behind}
 use Rattle.run_media.specs.Media.{Media}
 use Rattle.vote_traces.specs.Walks.{Base, Hall, start_hall, step, walk_from, world_of}
-use Rattle.vote_traces.specs.Legal.{base_of, is_node, most_of}
+use Rattle.trace_report.specs.Counts.{down_cause}
+use Rattle.vote_traces.specs.Legal.{WasNotOpened, base_of, most_of}
 use Rattle.vote_traces.proofs.CauseLemmas.{at-if}
 use Rattle.vote_wire.specs.Carried.{IsAtRest, IsAtRestAt}
 use Rattle.vote_wire.proofs.CarryLemmas.{idles}
 use Rattle.vote_courier.specs.Couriers.{CourierParts, tick_moment}
-use Rattle.vote_courier.specs.Stations.{Stands, hall_of, trace_of}
+use Rattle.vote_courier.specs.Stations.{hall_of, trace_of}
 use Rattle.vote_courier.specs.Places.{Adds, IsReady, PollIsAt, Tells}
 use Rattle.vote_courier.proofs.StationLemmas.{ticks-legal}
 use Rattle.vote_courier.proofs.PlaceLemmas.{adds-join, adds-still, and-false, never-false, there}
 use Rattle.vote_run.specs.Ends.{Between, Follows, HasCome, HasEnded, HasGoneRound, HasTicked, IsOver, all_held, any_node}
 use Rattle.vote_run.specs.MemberTurns.{MayTurn}
-use Rattle.vote_run.specs.Members.{HaveSat, MayAllTurn, SitAll, all_late, is_late, is_member, late, some_late}
+use Rattle.vote_run.specs.Members.{HaveSat, MayAllTurn, all_late, is_late, is_member, late, some_late}
 use Rattle.vote_run.specs.Rounds.{PollsAre, PollsTurned, is_poll}
-use Rattle.vote_run.specs.Seats.{MemberIsAt}
-use Rattle.vote_run.specs.Sittings.{Sits, SitsDown, SitsFallen, SitsUp}
+use Rattle.vote_run.specs.Sittings.{Sits}
 use Rattle.vote_run.specs.declared.limits.Limits.{Limits}
 use Rattle.vote_run.specs.declared.limits.Next.{Next}
 use Rattle.vote_run.specs.declared.limits.Next.TheVariants.{Over, Round, Ticked}
 use Rattle.vote_run.specs.declared.members.Members.{Members}
 use Rattle.vote_run.specs.declared.seats.Seat.{Seat}
 use Rattle.vote_run.specs.declared.seats.Seat.TheVariants.{Up, Fallen, Wanting}
+use Rattle.vote_run.proofs.EntryLemmas.{down-still, out-stays}
 use Rattle.vote_run.proofs.MembersLemmas.{or-parts, sits-stay}
 use Rattle.vote_run.proofs.PollLemmas.{poll-stays}
 
@@ -118,7 +119,7 @@ module _ {M : Type 0} {g : _} (w : Media M) (lines : List Line) where
 
   pub has-gone : (c mid d : CourierParts) (ms : Members M g) (qs : List PollState) (behind : Bool) → HaveSat w lines c mid ms → PollsTurned lines mid d (length qs) behind qs → HasGoneRound w lines c d ms qs
   has-gone c mid d ms qs behind sat turned =
-      let stay : (s : MemberNumber) (seat : Seat M g) → Sits w lines mid s seat → Sits w lines d s seat = (λ s seat sits. sits-stay w lines is_poll mid d s seat turned.keeps.others refl sits) in
+      let stay : (s : MemberNumber) (seat : Seat M g) → Sits w lines mid s seat → Sits w lines d s seat = (λ s seat sits. sits-stay w lines is_poll mid d s seat turned.keeps.others turned.keeps.adds refl sits) in
       record {
         between = record {
           stands = turned.keeps.stands;
@@ -200,6 +201,7 @@ module _ {M : Type 0} {g : _} (w : Media M) (lines : List Line) where
         at = record { ready = ready-late (member s) (subst (IsReady h (member s)) never sits.at.ready); member = ap (λ (z : Hall). z.members s) leads ∙ sits.at.member };
         has = sits.has;
         left = sits.left;
+        never = subst (λ z. down_cause (member s) z ≡ None) (sym t.entries) (down-still (member s) c.entries (Tick (tick_moment c t.answer) ∷ []) refl None sits.never);
       }
       seat-late s (Fallen left) (inl sits) never = inl (record {
         medium = sits.medium;
@@ -212,8 +214,14 @@ module _ {M : Type 0} {g : _} (w : Media M) (lines : List Line) where
           fresh = ap (λ (z : Hall). (z.members s).fresh) leads ∙ sits.at.fresh;
         };
         leaves = sits.leaves;
+        cause = sits.cause;
+        down_is = subst (λ z. down_cause (member s) z ≡ Some sits.cause) (sym t.entries) (down-still (member s) c.entries (Tick (tick_moment c t.answer) ∷ []) refl (Some sits.cause) sits.down_is);
+        shows = sits.shows;
       })
-      seat-late s (Fallen left) (inr sits) never = inr (record { down = ap (λ (z : Hall). (z.flags (member s)).up) leads ∙ sits.down })
+      seat-late s (Fallen left) (inr sits) never = inr (record {
+        down = ap (λ (z : Hall). (z.flags (member s)).up) leads ∙ sits.down;
+        out = subst (λ z. WasNotOpened z (member s)) (sym t.entries) (out-stays (member s) c.entries (Tick (tick_moment c t.answer) ∷ []) sits.out);
+      })
       seat-late s (Wanting left) sits never = absurd sits
 
       tells-tick : (asked : List Asked) (answers : Option (List ℕ)) → Tells asked answers c → Tells asked answers d

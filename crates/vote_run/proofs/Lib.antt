@@ -1,4 +1,7 @@
 pub mod EndLemmas
+pub mod EntryLemmas
+pub mod FareLemmas
+pub mod LastLemmas
 pub mod MemberLemmas
 pub mod MembersLemmas
 pub mod PollLemmas

@@ -1,9 +1,9 @@
 -- Turns of members keep the trace legal.
-use Rattle.std.proofs.Common.{◌≡◌, ℕ, ◌+◌, ◌-◌, ◌≤◌, Bool, true, false, List, [], ◌∷◌, ◌++◌, take, length, refl, sym, ap, subst, ◌∙◌, arith}
-use Rattle.std.specs.Prelude.{Option, Some, None, ◌&&◌, not, is_some, if◌then◌else◌, IsTrue}
+use Rattle.std.proofs.Common.{◌≡◌, ℕ, ◌≤◌, Bool, true, false, List, [], ◌++◌, take, length, refl, sym, ap, subst, ◌∙◌}
+use Rattle.std.specs.Prelude.{Option, Some, None, ◌&&◌, not, is_some, if◌then◌else◌}
 use Rattle.std.specs.Option.{unwrap_or}
 use Rattle.std.proofs.lemmas.List.{append-nil}
-use Rattle.pseudo_time.specs.Nodes.{repository, is_broker, same_node}
+use Rattle.pseudo_time.specs.Nodes.{same_node}
 use Rattle.pseudo_time.specs.declared.down_causes.DownCause.{DownCause}
 use Rattle.pseudo_time.specs.declared.nodes.NodeId.{NodeId}
 use Rattle.pseudo_time.specs.declared.nodes.NodeKind.TheVariants.{Repository}
@@ -13,27 +13,26 @@ use Rattle.message_form.specs.declared.turns.Turn.{Turn}
 use Rattle.message_form.specs.Posts.{Post}
 use Rattle.message_core.specs.Flights.{was_shut}
 use Rattle.message_core.specs.Parts.{state_of}
-use Rattle.message_core.specs.Tallies.{numbered}
 use Rattle.message_core.proofs.NodeLemmas.{same_node-refl}
 use Rattle.record_votes.specs.Books.{MemberState}
 use Rattle.record_votes.specs.Members.{Given, on_message, on_moment}
 use Rattle.record_votes.specs.declared.member_numbers.MemberNumber.{MemberNumber}
 use Rattle.record_votes.specs.declared.member_numbers.MemberNumber.TheVariants.{First, Second, Third}
 use Rattle.record_votes.specs.Polls.{member, number_of}
-use Rattle.record_votes.specs.Voting.{Line, Member, crashed, heard, opened, shut, took}
+use Rattle.record_votes.specs.Voting.{Line, Member, crashed, heard, shut, took}
 use Rattle.world_core.specs.declared.entries.Entry.{Entry}
 use Rattle.world_core.specs.declared.entries.Entry.TheVariants.{Take, Hear, Gate, Crash, Down}
 use Rattle.world_core.specs.Legal.{is_behind}
-use Rattle.world_core.specs.Walks.{Flags, names, with_due}
+use Rattle.world_core.specs.Walks.{Flags, with_due}
 use Rattle.wire_core.proofs.QuietLemmas.{behind-parts}
-use Rattle.vote_traces.specs.Walks.{Base, Hall, life_of, life_with, member_heard, member_took, step, world_of}
+use Rattle.vote_traces.specs.Walks.{Base, Hall, life_of, life_with, member_heard, member_took, world_of}
 use Rattle.vote_traces.specs.Legal.{base_of}
-use Rattle.vote_courier.specs.Couriers.{CourierParts, HasSent, Takes, with_entry}
+use Rattle.vote_courier.specs.Couriers.{CourierParts, HasSent, with_entry}
 use Rattle.vote_courier.specs.Stations.{Stands, hall_of, owes, trace_of}
-use Rattle.vote_courier.specs.Places.{IsReady, Keeps}
+use Rattle.vote_courier.specs.Places.{Keeps}
 use Rattle.vote_courier.proofs.StationLemmas.{takes-legal, notes-legal, gates-legal, downs-legal}
-use Rattle.vote_courier.proofs.PlaceLemmas.{Called, and-false, down-called, flags-on, heard-due, keeps, keeps-join, keeps-still, leads, member-on, never-false, noted, sent-called, taken-is, took-called}
-use Rattle.vote_run.specs.MemberTurns.{Begins, HearsMoment, TakesCopy, TakesNone, moment_of}
+use Rattle.vote_courier.proofs.PlaceLemmas.{Called, and-false, down-called, flags-on, heard-due, keeps, keeps-still, leads, member-on, never-false, noted, sent-called, taken-is, took-called}
+use Rattle.vote_run.specs.MemberTurns.{Begins, HearsMoment, TakesCopy, moment_of}
 use Rattle.vote_run.specs.Seats.{MemberIsAt, MemberIsDown, MemberOwes}
 
 life-member : (h : Hall) (s : MemberNumber) → life_of h Repository (number_of s) ≡ life_with (h.members s).gated (h.members s).fresh (h.members s).owed

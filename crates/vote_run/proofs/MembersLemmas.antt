@@ -1,6 +1,6 @@
 -- The turns of all members.
-use Rattle.std.proofs.Common.{◌≡◌, ℕ, Bool, true, false, List, refl, sym, ap, ◌∙◌, inl, inr}
-use Rattle.std.specs.Prelude.{Option, ◌⊎◌, ◌||◌, not, IsTrue}
+use Rattle.std.proofs.Common.{◌≡◌, ℕ, Bool, true, false, List, refl, sym, ap, subst, ◌∙◌, inl, inr}
+use Rattle.std.specs.Prelude.{Some, None, ◌||◌, not, IsTrue}
 use Rattle.pseudo_time.specs.Nodes.{is_broker, repository, same_node}
 use Rattle.pseudo_time.specs.declared.nodes.NodeId.{NodeId}
 use Rattle.pseudo_time.specs.declared.nodes.NodeKind.{NodeKind}
@@ -11,17 +11,19 @@ use Rattle.record_votes.specs.Polls.{member, number_of}
 use Rattle.record_votes.specs.Voting.{Line, Member}
 use Rattle.world_core.specs.Walks.{Flags}
 use Rattle.run_media.specs.Media.{Media}
-use Rattle.vote_traces.specs.Walks.{Hall}
+use Rattle.trace_report.specs.Counts.{down_cause}
+use Rattle.vote_traces.specs.Legal.{WasNotOpened}
 use Rattle.vote_courier.specs.Couriers.{CourierParts}
 use Rattle.vote_courier.specs.Stations.{Stands, hall_of}
-use Rattle.vote_courier.specs.Places.{Keeps, OnlyChanges}
+use Rattle.vote_courier.specs.Places.{Adds, Keeps, OnlyChanges}
 use Rattle.vote_courier.proofs.PlaceLemmas.{keeps-join, keeps-wider, never-false}
-use Rattle.vote_run.specs.Members.{AllSat, HaveSat, SitAll, is_member, some_wants, wants}
+use Rattle.vote_run.specs.Members.{AllSat, SitAll, is_member, wants}
 use Rattle.vote_run.specs.MemberTurns.{Turns}
-use Rattle.vote_run.specs.Sittings.{SatOn, Sits, SitsDown, SitsFallen, SitsUp}
+use Rattle.vote_run.specs.Sittings.{SatOn, Sits}
 use Rattle.vote_run.specs.declared.members.Members.{Members}
 use Rattle.vote_run.specs.declared.seats.Seat.{Seat}
 use Rattle.vote_run.specs.declared.seats.Seat.TheVariants.{Up, Fallen, Wanting}
+use Rattle.vote_run.proofs.EntryLemmas.{down-still, out-stays}
 use Rattle.vote_run.proofs.PollLemmas.{ready-stays}
 use Rattle.vote_run.proofs.SittingLemmas.{sat-on}
 
@@ -40,16 +42,17 @@ member-wider s m f = repository-of (number_of s) m.number m.kind f
 
 module _ {M : Type 0} {g : _} (w : Media M) (lines : List Line) where
   -- a member that isn't named stays
-  pub sits-stay : (of : NodeId → Bool) (c d : CourierParts) (s : MemberNumber) (seat : Seat M g) → OnlyChanges of (hall_of lines c) (hall_of lines d) → of (member s) ≡ false → Sits w lines c s seat → Sits w lines d s seat
-  sits-stay of c d s (Up m store durable behind) o f sits = record {
+  pub sits-stay : (of : NodeId → Bool) (c d : CourierParts) (s : MemberNumber) (seat : Seat M g) → OnlyChanges of (hall_of lines c) (hall_of lines d) → Adds of c d → of (member s) ≡ false → Sits w lines c s seat → Sits w lines d s seat
+  sits-stay of c d s (Up m store durable behind) o a f sits = record {
     number = sits.number;
     sound = sits.sound;
     count = sits.count;
     at = record { ready = ready-stays of (hall_of lines c) (hall_of lines d) o (member s) behind f sits.at.ready; member = o.members s f ∙ sits.at.member };
     has = sits.has;
     left = sits.left;
+    never = subst (λ z. down_cause (member s) z ≡ None) (sym a.longer) (down-still (member s) c.entries a.more (a.own_entries (member s) f) None sits.never);
   }
-  sits-stay of c d s (Fallen left) o f (inl sits) = inl (record {
+  sits-stay of c d s (Fallen left) o a f (inl sits) = inl (record {
     medium = sits.medium;
     is = sits.is;
     log = sits.log;
@@ -60,9 +63,13 @@ module _ {M : Type 0} {g : _} (w : Media M) (lines : List Line) where
       fresh = ap (λ (z : Member). z.fresh) (o.members s f) ∙ sits.at.fresh;
     };
     leaves = sits.leaves;
+    cause = sits.cause;
+    down_is = subst (λ z. down_cause (member s) z ≡ Some sits.cause) (sym a.longer) (down-still (member s) c.entries a.more (a.own_entries (member s) f) (Some sits.cause) sits.down_is);
+    shows = sits.shows;
   })
-  sits-stay of c d s (Fallen left) o f (inr sits) = inr (record { down = ap (λ (z : Flags). z.up) (o.flags (member s) f) ∙ sits.down })
-  sits-stay of c d s (Wanting left) o f sits = absurd sits
+  sits-stay of c d s (Fallen left) o a f (inr sits) =
+      inr (record { down = ap (λ (z : Flags). z.up) (o.flags (member s) f) ∙ sits.down; out = subst (λ z. WasNotOpened z (member s)) (sym a.longer) (out-stays (member s) c.entries a.more sits.out) })
+  sits-stay of c d s (Wanting left) o a f sits = absurd sits
 
   -- what one turn leaves, where memory wasn't wanting
   sat-parts : (c d : CourierParts) (s : MemberNumber) (seat : Seat M g) → wants seat ≡ false → SatOn w lines c d s seat → Keeps lines (same_node (member s)) c d × Sits w lines d s seat
@@ -75,17 +82,17 @@ module _ {M : Type 0} {g : _} (w : Media M) (lines : List Line) where
     all-sat st sit one two three enough =
         let e = or-parts (wants new.first) (wants new.second) (wants new.third) enough in
         let p = sat-parts a b First new.first e.0 (sat-on w told lines First a b old.first new.first st sit.first one) in
-        let second = sits-stay (same_node (member First)) a b Second old.second p.0.others refl sit.second in
-        let third = sits-stay (same_node (member First)) a b Third old.third p.0.others refl sit.third in
+        let second = sits-stay (same_node (member First)) a b Second old.second p.0.others p.0.adds refl sit.second in
+        let third = sits-stay (same_node (member First)) a b Third old.third p.0.others p.0.adds refl sit.third in
         let q = sat-parts b c Second new.second e.1 (sat-on w told lines Second b c old.second new.second p.0.stands second two) in
-        let third = sits-stay (same_node (member Second)) b c Third old.third q.0.others refl third in
+        let third = sits-stay (same_node (member Second)) b c Third old.third q.0.others q.0.adds refl third in
         let r = sat-parts c d Third new.third e.2 (sat-on w told lines Third c d old.third new.third q.0.stands third three) in
         let wide : (s : MemberNumber) (x y : CourierParts) → Keeps lines (same_node (member s)) x y → Keeps lines is_member x y = (λ s x y k. keeps-wider lines (same_node (member s)) is_member x y (member-wider s) k) in
         record {
           keeps = keeps-join lines is_member a c d (keeps-join lines is_member a b c (wide First a b p.0) (wide Second b c q.0)) (wide Third c d r.0);
           sit = record {
-            first = sits-stay (same_node (member Third)) c d First new.first r.0.others refl (sits-stay (same_node (member Second)) b c First new.first q.0.others refl p.1);
-            second = sits-stay (same_node (member Third)) c d Second new.second r.0.others refl q.1;
+            first = sits-stay (same_node (member Third)) c d First new.first r.0.others r.0.adds refl (sits-stay (same_node (member Second)) b c First new.first q.0.others q.0.adds refl p.1);
+            second = sits-stay (same_node (member Third)) c d Second new.second r.0.others r.0.adds refl q.1;
             third = r.1;
           };
         }

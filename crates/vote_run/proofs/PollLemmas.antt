@@ -1,6 +1,6 @@
 -- Turns of polls, one after the other.
-use Rattle.std.proofs.Common.{◌≡◌, ◌≢◌, ℕ, zero, suc, ◌+◌, ◌<◌, ◌≤◌, Bool, true, false, List, [], ◌∷◌, length, inl, inr, refl, sym, ap, subst, ◌∙◌, arith}
-use Rattle.std.specs.Prelude.{Option, Some, None, ◌==◌, ◌&&◌, ◌⊎◌, not, is_some, nat_lt, slice_get, OnOk, Result, Ok, Err}
+use Rattle.std.proofs.Common.{◌≡◌, ◌≢◌, ℕ, zero, suc, ◌+◌, ◌<◌, Bool, true, false, List, [], ◌∷◌, ◌++◌, length, inl, inr, refl, sym, ap, subst, ◌∙◌, arith}
+use Rattle.std.specs.Prelude.{Some, ◌&&◌, ◌⊎◌, not, is_some, nat_lt, slice_get, OnOk, Result, Ok, Err}
 use Rattle.std.proofs.Math.ListN.{get_or, set}
 use Rattle.std.proofs.lemmas.Option.{slice_get-get_or}
 use Rattle.std.proofs.lemmas.Bool.Decides.{nat_tests}
@@ -8,16 +8,20 @@ use Rattle.pseudo_time.specs.Nodes.{broker, is_broker, same_node}
 use Rattle.pseudo_time.specs.declared.nodes.NodeId.{NodeId}
 use Rattle.pseudo_time.specs.declared.nodes.NodeKind.{NodeKind}
 use Rattle.pseudo_time.specs.declared.nodes.NodeKind.TheVariants.{Repository, Broker}
-use Rattle.record_votes.specs.Polls.{PollState}
+use Rattle.message_form.specs.declared.turns.Out.{Out}
+use Rattle.record_votes.specs.Polls.{PollState, poll_goes, poll_hears, poll_takes}
 use Rattle.record_votes.specs.Voting.{Line}
-use Rattle.world_core.specs.Legal.{HasGone, is_behind}
-use Rattle.world_core.specs.Walks.{Flags}
-use Rattle.vote_traces.specs.Walks.{Hall, world_of}
-use Rattle.vote_courier.specs.Couriers.{CourierParts}
+use Rattle.world_core.specs.declared.entries.Entry.{Entry}
+use Rattle.world_core.specs.declared.entries.Entry.TheVariants.{Gate, Go, Hear, Take}
+use Rattle.world_core.specs.Walks.{Flags, names}
+use Rattle.vote_traces.specs.Walks.{Hall}
+use Rattle.vote_courier.specs.Couriers.{CourierParts, HasSent, with_entry}
 use Rattle.vote_courier.specs.Stations.{Stands, hall_of}
-use Rattle.vote_courier.specs.Places.{IsReady, Keeps, OnlyChanges, PollIsAt, PollIsNew}
+use Rattle.vote_courier.specs.Places.{IsReady, OnlyChanges, PollIsAt, PollIsNew}
 use Rattle.vote_courier.specs.Turns.{Goes, PollTurns}
 use Rattle.vote_courier.proofs.PlaceLemmas.{goes-kept, keeps-join, keeps-still, keeps-wider, never-false, turns-kept}
+use Rattle.vote_run.specs.Fares.{Lengthens}
+use Rattle.vote_run.proofs.EntryLemmas.{lengthens-join, lengthens-one, lengthens-still}
 use Rattle.vote_run.specs.Rounds.{PollsAre, PollsGo, PollsTurned, PollsWent, is_poll}
 
 -- ---- who isn't named stays
@@ -130,6 +134,28 @@ went-on lines c d f i ps old q x node less value is turn t =
     let next : suc i ≡ i + 1 = omega arith in
     subst (λ k. PollsWent lines c f k (set ps i q)) next
     (went-more lines c d f i ps old q (slice_get-get_or ps i x less ∙ ap Some (sym value)) t (subst (λ n. Goes n d f old q) (is ∙ ap broker (sym next)) turn))
+
+-- which entries a poll adds
+sent-longer : (n : NodeId) (outs : List Out) (e : Entry) (c mid d : CourierParts) → ((m : NodeId) → is_poll m ≡ false → same_node n m ≡ false) → ((m : NodeId) → names m e ≡ same_node n m) → mid.entries ≡ c.entries ++ e ∷ [] → HasSent n outs mid d
+    → Lengthens is_poll c.entries d.entries
+sent-longer n outs e c mid d among own longer g =
+    lengthens-join is_poll c.entries mid.entries d.entries (lengthens-one is_poll n e c.entries mid.entries among own longer) (lengthens-one is_poll n (Gate n) mid.entries d.entries among (λ m. refl) g.entries)
+
+goes-own : (i : ℕ) (p q : PollState) (c d : CourierParts) → Goes (broker i) c d p q → Lengthens is_poll c.entries d.entries
+goes-own i p q c d g = sent-longer (broker i) (poll_goes p) (Go (broker i)) c (with_entry c (Go (broker i))) d (poll-wider i) (λ m. refl) refl g.1
+
+turns-own : (behind : Bool) (i : ℕ) (p q : PollState) (c d : CourierParts) → PollTurns behind (broker i) c d p q → Lengthens is_poll c.entries d.entries
+turns-own true i p q c d g = sent-longer (broker i) (poll_hears p) (Hear (broker i)) c (with_entry c (Hear (broker i))) d (poll-wider i) (λ m. refl) refl g.1
+turns-own false i p q c d (inl g) = lengthens-still is_poll c.entries d.entries (ap (λ (z : CourierParts). z.entries) g.still)
+turns-own false i p q c d (inr g) =
+    sent-longer (broker i) (poll_takes p g.arrival.from g.arrival.message).outs (Take (broker i) g.arrival.number) c g.mid d (poll-wider i) (λ m. refl) (ap (λ (z : CourierParts). z.entries) g.takes.2) g.sends
+
+-- as a loop has it
+pub goes-longer : (es : List Entry) (c d : CourierParts) (i : ℕ) (p q : PollState) (node : NodeId) → node ≡ broker (i + 1) → Goes node c d p q → Lengthens is_poll es c.entries → Lengthens is_poll es d.entries
+goes-longer es c d i p q node is g l = lengthens-join is_poll es c.entries d.entries l (goes-own (i + 1) p q c d (subst (λ n. Goes n c d p q) is g))
+
+pub turns-longer : (es : List Entry) (c d : CourierParts) (i : ℕ) (behind : Bool) (p q : PollState) (node : NodeId) → node ≡ broker (i + 1) → PollTurns behind node c d p q → Lengthens is_poll es c.entries → Lengthens is_poll es d.entries
+turns-longer es c d i behind p q node is g l = lengthens-join is_poll es c.entries d.entries l (turns-own behind (i + 1) p q c d (subst (λ n. PollTurns behind n c d p q) is g))
 
 -- what holds of Ok
 pub ok-of : {T E P : Type 0} (r : Result T E) (x : T) → r ≡ Ok x → OnOk r P → P

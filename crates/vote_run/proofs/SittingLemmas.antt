@@ -1,38 +1,41 @@
 -- Turns of members over their media.
 use Rattle.std.proofs.Common.{◌≡◌, ℕ, ◌+◌, ◌-◌, ◌≤◌, Bool, true, false, List, [], ◌∷◌, ◌++◌, take, length, inl, inr, refl, sym, ap, subst, ◌∙◌, arith}
-use Rattle.std.specs.Prelude.{Option, Some, None, ◌⊎◌, is_some, IsTrue, Result, Ok, Err}
+use Rattle.std.specs.Prelude.{Some, None, ◌⊎◌, is_some, IsTrue, Result, Ok, Err, if◌then◌else◌}
 use Rattle.std.proofs.lemmas.List.{length-append, length-take-le}
 use Rattle.pseudo_time.specs.Nodes.{same_node}
+use Rattle.pseudo_time.specs.declared.down_causes.DownCause.{DownCause}
+use Rattle.pseudo_time.specs.declared.down_causes.DownCause.TheVariants as down
 use Rattle.pseudo_time.specs.declared.nodes.NodeId.{NodeId}
-use Rattle.medium_port.specs.Image.{Image}
+use Rattle.message_core.proofs.NodeLemmas.{same_node-refl}
 use Rattle.effect_form.specs.declared.effects.Effect.{Effect}
 use Rattle.message_form.specs.declared.turns.Turn.{Turn}
 use Rattle.version_store.specs.Entries.{Log, effects_of}
-use Rattle.version_store.specs.Filling.{HasPrefix}
-use Rattle.version_store.specs.Storage.{effects_found, entries, log_of, log_or_none, storage}
+use Rattle.version_store.specs.Storage.{effects_found, entries, log_of, log_or_none}
 use Rattle.version_store.specs.StoreWords.{effects_in, medium_of}
 use Rattle.version_store.specs.declared.stores.Store.{Store}
 use Rattle.record_votes.specs.Books.{MemberState}
 use Rattle.record_votes.specs.declared.member_numbers.MemberNumber.{MemberNumber}
 use Rattle.record_votes.specs.Polls.{member, number_of}
 use Rattle.record_votes.specs.Voting.{Line, opened}
-use Rattle.world_core.specs.declared.entries.Entry.TheVariants.{Crash}
+use Rattle.world_core.specs.declared.entries.Entry.TheVariants.{Crash, Down, Gate}
 use Rattle.run_media.specs.Media.{Media}
-use Rattle.vote_members.specs.Closings.{IsCrashed, IsDurable, LeavesLog, LeavesPrefix}
+use Rattle.trace_report.specs.Counts.{down_cause}
+use Rattle.vote_members.specs.Closings.{IsDurable, IsFallenFor, LeavesLog, LeavesPrefix}
 use Rattle.vote_traces.specs.Walks.{Hall}
 use Rattle.vote_courier.specs.Couriers.{CourierParts, with_entry}
 use Rattle.vote_courier.specs.Stations.{Stands, hall_of}
 use Rattle.vote_courier.specs.Places.{Keeps}
 use Rattle.vote_courier.proofs.PlaceLemmas.{keeps-join, keeps-still}
-use Rattle.vote_run.specs.MemberTurns.{Acted, Begins, EndsAs, IsDown, IsGated, IsReopened, Stayed, Turns, Wants, moment_of}
-use Rattle.vote_run.specs.Seats.{MemberIsAt, MemberIsDown, MemberOwes}
-use Rattle.vote_run.specs.Sittings.{SatOn, Sits, SitsDown, SitsFallen, SitsUp}
+use Rattle.vote_run.specs.MemberTurns.{Begins, EndsAs, IsDown, IsGated, IsReopened, Turns, Wants, moment_of}
+use Rattle.vote_run.specs.Seats.{MemberIsAt, MemberOwes}
+use Rattle.vote_run.specs.Sittings.{SatOn, ShowsCause, Sits, SitsDown, SitsFallen, SitsUp}
 use Rattle.vote_run.specs.declared.seats.Seat.{Seat}
 use Rattle.vote_run.specs.declared.seats.Seat.TheVariants.{Up, Fallen, Wanting}
+use Rattle.vote_run.proofs.EntryLemmas.{begun-up, down-more, none-begun}
 use Rattle.vote_run.proofs.MemberLemmas.{begins-kept, crash-kept, down-kept, gates-kept, none-kept}
 
 -- the log of an image, by the effects found there
-read-so : (r : Result Log ℕ) (l : List Effect) → effects_found r ≡ Ok l → effects_of (log_or_none r) ≡ l
+pub read-so : (r : Result Log ℕ) (l : List Effect) → effects_found r ≡ Ok l → effects_of (log_or_none r) ≡ l
 read-so (Ok log) l e = cc e
 read-so (Err page) l e = absurd (let never : ⊥ = cc e in never)
 
@@ -66,6 +69,9 @@ module _ {M : Type 0} {g : _} (w : Media M) (told : IsTrue w.tells) (lines : Lis
     abbrev begun : Keeps lines (same_node (member s)) c mid × MemberOwes (hall_of lines mid) s m.log t.effects t.outs k.moment
     begun = begins-kept lines s behind m k t c mid st sits.at x
 
+    up : down_cause (member s) mid.entries ≡ None
+    up = begun-up behind (member s) (moment_of c) c mid m k t x sits.never
+
     gated : (j : MemberState) (store : Store M g) (count : ℕ) (late : Bool) → IsGated w (member s) t.outs mid d before t.effects k j store → count ≡ durable + length t.effects → late ≡ false
         → Keeps lines (same_node (member s)) c d × SitsUp w lines d s j store count late
     gated j store count late e counts never =
@@ -81,6 +87,7 @@ module _ {M : Type 0} {g : _} (w : Media M) (told : IsTrue w.tells) (lines : Lis
             at = subst (λ b. MemberIsAt (hall_of lines d) s j b) (sym never) (at-state s (hall_of lines d) j (m.log ++ t.effects) k.moment false log (ap (λ (z : MemberState). z.moment) e.state) r.1);
             has = has;
             left = subst (LeavesLog w (medium_of store)) (sym log) (durable-left c m before durable behind sits t store e.durable);
+            never = subst (λ z. down_cause (member s) z ≡ None) (sym e.sends.entries) (down-more (member s) mid.entries (Gate (member s) ∷ []) up);
           },
         )
 
@@ -102,14 +109,31 @@ module _ {M : Type 0} {g : _} (w : Media M) (told : IsTrue w.tells) (lines : Lis
                 (subst (λ z. MemberIsAt (hall_of lines z) s (record { number = number_of s; log = m.log ++ take kept.0 t.effects; moment = mid.start }) (is_some mid.last)) there r.1));
             has = e.crashed.log.has told ∙ sym log;
             left = subst (LeavesLog w (medium_of store)) (sym log) (e.crashed.log.left told);
+            never = subst (λ (z : CourierParts). down_cause (member s) z.entries ≡ None) (sym e.entry) (down-more (member s) mid.entries (Crash (member s) (length e.found - durable) ∷ []) up);
           },
         )
+
+    shown : (cause : DownCause) (left : M) → IsFallenFor w cause before t.effects left → ShowsCause w cause left m.log t.effects
+    shown down.Medium left e = tt
+    shown (down.Damaged page) left e = e told
+    shown (down.Full pages) left e = (e.1, sits.left (w.reads left) (subst (λ z. w.may_leave z (w.reads left)) e.0 (e.3 told)), e.2 told)
 
     fallen : (left : M) → IsDown w (member s) mid d before t.effects left → Keeps lines (same_node (member s)) c d × SitsFallen w lines d s (Some left)
     fallen left e =
         let r = down-kept lines s m.log t.effects t.outs k.moment mid begun.0.stands begun.1 e.cause d e.flight e.entry in (
           keeps-join lines (same_node (member s)) c mid d begun.0 r.0,
-          record { medium = left; is = refl; log = m.log; effects = t.effects; at = r.1; leaves = subst (λ l. LeavesPrefix w left l t.effects) sits.has (e.gone.left told) },
+          record {
+            medium = left;
+            is = refl;
+            log = m.log;
+            effects = t.effects;
+            at = r.1;
+            leaves = subst (λ l. LeavesPrefix w left l t.effects) sits.has (e.gone.left told);
+            cause = e.cause;
+            down_is = subst (λ (z : CourierParts). down_cause (member s) z.entries ≡ Some e.cause) (sym e.entry)
+                (down-more (member s) mid.entries (Down (member s) e.cause ∷ []) up ∙ ap (λ v. if v then Some e.cause else None) (same_node-refl (member s)));
+            shows = shown e.cause left e.caused;
+          },
         )
 
     ended : (seat : Seat M g) → EndsAs w (member s) durable mid d before t.effects t.outs k seat → SatOn w lines c d s seat
@@ -122,8 +146,18 @@ module _ {M : Type 0} {g : _} (w : Media M) (told : IsTrue w.tells) (lines : Lis
   stayed : (c d : CourierParts) (m : MemberState) (before : Store M g) (durable : ℕ) (behind : Bool) → Stands lines c → SitsUp w lines c s m before durable behind → Begins behind (member s) (moment_of c) c d m m None
       → Keeps lines (same_node (member s)) c d × SitsUp w lines d s m before durable behind
   stayed c d m before durable behind st sits x =
-      let r = none-kept lines s behind m c d st sits.at x in
-      (r.0, record { number = sits.number; sound = sits.sound; count = sits.count; at = r.1; has = sits.has; left = sits.left })
+      let r = none-kept lines s behind m c d st sits.at x in (
+        r.0,
+        record {
+          number = sits.number;
+          sound = sits.sound;
+          count = sits.count;
+          at = r.1;
+          has = sits.has;
+          left = sits.left;
+          never = subst (λ (z : CourierParts). down_cause (member s) z.entries ≡ None) (sym (none-begun behind (member s) (moment_of c) c d m m x)) sits.never;
+        },
+      )
 
   wanted : (c d : CourierParts) (old : M) (seat : Seat M g) → Wants w old seat → SatOn w lines c d s seat
   wanted c d old (Up m store durable behind) h = absurd h

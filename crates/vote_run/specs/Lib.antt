@@ -1,4 +1,6 @@
 pub mod Ends
+pub mod Fares
+pub mod Lasts
 pub mod Members
 pub mod MemberTurns
 pub mod Rounds

@@ -1,5 +1,5 @@
 -- What turns of members do.
-use Rattle.std.specs.Prelude.{◌≡◌, ◌⊎◌, ℕ, ◌+◌, ◌-◌, ◌≤◌, ◌++◌, Bool, true, false, List, [], length, Option, Some, None, is_some}
+use Rattle.std.specs.Prelude.{◌≡◌, ◌⊎◌, ℕ, ◌+◌, ◌-◌, ◌++◌, Bool, true, false, List, [], length, Option, Some, None, is_some}
 use Rattle.std.specs.Option.{unwrap_or}
 use Rattle.pseudo_time.specs.declared.down_causes.DownCause.{DownCause}
 use Rattle.pseudo_time.specs.declared.nodes.NodeId.{NodeId}
@@ -16,7 +16,7 @@ use Rattle.record_votes.specs.Members.{on_message, on_moment}
 use Rattle.run_media.specs.Media.{Media}
 use Rattle.version_store.specs.StoreWords.{medium_of}
 use Rattle.version_store.specs.declared.stores.Store.{Store}
-use Rattle.vote_members.specs.Closings.{IsCrashed, IsDurable, IsFallenFor, IsGone}
+use Rattle.vote_members.specs.Closings.{IsCrashed, IsDurable, IsFallenFor, IsGone, IsSafe}
 use Rattle.world_core.specs.declared.entries.Entry.TheVariants.{Crash, Down, Hear}
 use Rattle.vote_courier.specs.Couriers.{CourierParts, HasSent, Takes, with_entry}
 use Rattle.vote_run.specs.declared.seats.Seat.{Seat}
@@ -86,7 +86,7 @@ module _ {M : Type 0} {g : _} (w : Media M) where
       ⊎ (IsReopened n durable old new before effects m k s × (count ≡ length k.log) × (behind ≡ is_some old.last))
   EndsAs n durable old new before effects outs m (Fallen None) = ⊥
   EndsAs n durable old new before effects outs m (Fallen (Some left)) = IsDown n old new before effects left
-  EndsAs n durable old new before effects outs m (Wanting left) = w.faults (medium_of before) ≤ w.faults left
+  EndsAs n durable old new before effects outs m (Wanting left) = IsSafe w before effects left
 
   -- its messages are sent, if its log's effects could be counted
   abbrev pub Sends : NodeId → List Out → (old new : CourierParts) → MemberState → Store M g → Option ℕ → Seat M g → Type 0
@@ -115,8 +115,9 @@ module _ {M : Type 0} {g : _} (w : Media M) where
     pub none : Begins behind n (moment_of old) old new m m None
     pub same : seat ≡ Up m before durable behind
 
+  -- memory was wanting before it did anything
   abbrev pub Wants : M → Seat M g → Type 0
-  Wants old (Wanting left) = w.faults old ≤ w.faults left
+  Wants old (Wanting left) = left ≡ old
   Wants old _ = ⊥
 
   -- A member that isn't up has no turn.

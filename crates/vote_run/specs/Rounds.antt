@@ -6,7 +6,7 @@ use Rattle.record_votes.specs.Polls.{PollState}
 use Rattle.record_votes.specs.Voting.{Line}
 use Rattle.vote_traces.specs.Walks.{Hall}
 use Rattle.vote_courier.specs.Couriers.{CourierParts}
-use Rattle.vote_courier.specs.Stations.{Stands, hall_of}
+use Rattle.vote_courier.specs.Stations.{hall_of}
 use Rattle.vote_courier.specs.Places.{Keeps, PollIsAt, PollIsNew}
 
 abbrev pub is_poll : NodeId → Bool

@@ -1,6 +1,5 @@
 -- Where members stand between their turns.
-use Rattle.std.specs.Prelude.{◌≡◌, ◌⊎◌, ℕ, Bool, true, false, List, [], ◌++◌, length, take, Option, Some, None, is_some, IsTrue}
-use Rattle.pseudo_time.specs.Nodes.{repository}
+use Rattle.std.specs.Prelude.{◌≡◌, ℕ, Bool, true, false, List}
 use Rattle.effect_form.specs.declared.effects.Effect.{Effect}
 use Rattle.message_form.specs.declared.turns.Out.{Out}
 use Rattle.record_votes.specs.Books.{MemberState}

@@ -12,7 +12,7 @@ mod seats;
 pub use laws::members_and_polls_are_voters;
 pub use limits::{Limits, Next};
 pub use member_turns::turn;
-pub use members::Members;
+pub use members::{Members, some_wants};
 pub use poll_rounds::polls_go;
 pub use rounds::{all_held, go_on};
 pub use seats::Seat;

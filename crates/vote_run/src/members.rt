@@ -1,7 +1,9 @@
 //! The members, in their order.
-ghost use Rattle.std.specs.Prelude.{◌≡◌, List, IsTrue};
+ghost use Rattle.std.specs.Prelude.{◌≡◌, List, IsTrue, false};
 ghost use Rattle.record_votes.specs.Voting.{Line};
 ghost use Rattle.vote_courier.specs.Stations.{Stands};
+ghost use Rattle.vote_run.specs.Fares.{FareOn};
+ghost use Rattle.vote_run.specs.Lasts.{LastOn};
 ghost use Rattle.vote_run.specs.Members as spec;
 ghost use Rattle.vote_run.specs.Members.{AllSat, MayAllTurn, SitAll};
 
@@ -93,6 +95,8 @@ pub fn members_turn<F: Fates, C: Clock, M: Medium>(
     ensures may { MayAllTurn M.Medium result }
     ensures sat { IsTrue M.tells → (lines : List Line) → Stands lines courier.old → SitAll M.Medium lines courier.old members →
         AllSat M.Medium lines courier.old courier.new result }
+    ensures fares { spec.some_wants result ≡ false → FareOn M.Medium courier.old.entries members courier.new.entries result }
+    ensures lasts { LastOn M.Medium members result }
 {
     let Members {
         first,

@@ -3,7 +3,8 @@ ghost use Rattle.std.specs.Prelude.{◌≡◌, ◌≤◌, ◌<◌, ◌+◌, Bool
 ghost use Rattle.pseudo_time.specs.Nodes.{broker};
 ghost use Rattle.record_votes.specs.Voting.{Line};
 ghost use Rattle.vote_courier.specs.Stations.{Stands, hall_of};
-ghost use Rattle.vote_run.specs.Rounds.{PollsAre, PollsGo, PollsTurned, PollsWent};
+ghost use Rattle.vote_run.specs.Fares.{Lengthens};
+ghost use Rattle.vote_run.specs.Rounds.{PollsAre, PollsGo, PollsTurned, PollsWent, is_poll};
 
 use pseudo_time::NodeId;
 use record_votes::Poll;
@@ -28,6 +29,7 @@ pub fn polls_go<F: Fates, C: Clock>(
     ensures count { length polls.new.items ≡ length polls.old.items }
     ensures went { (lines : List Line) → Stands lines courier.old → PollsGo (hall_of lines courier.old) 0 polls.old.items →
         OnOk result (PollsWent lines courier.old courier.new (length polls.new.items) polls.new.items) }
+    ensures adds { OnOk result (Lengthens is_poll courier.old.entries courier.new.entries) }
 {
     for i in 0..polls.len() {
         poll_goes(courier, broker_at(i), &mut polls[i])?;
@@ -45,6 +47,7 @@ pub fn polls_turn<F: Fates, C: Clock>(
     ensures count { length polls.new.items ≡ length polls.old.items }
     ensures turned { (lines : List Line) → Stands lines courier.old → PollsAre (hall_of lines courier.old) 0 behind polls.old.items →
         OnOk result (PollsTurned lines courier.old courier.new (length polls.new.items) behind polls.new.items) }
+    ensures adds { OnOk result (Lengthens is_poll courier.old.entries courier.new.entries) }
 {
     let moment = courier.moment();
     for i in 0..polls.len() {

@@ -5,6 +5,8 @@ ghost use Rattle.vote_courier.specs.Stations.{hall_of};
 ghost use Rattle.vote_run.specs.Ends as spec;
 ghost use Rattle.vote_courier.specs.Couriers.{CourierParts};
 ghost use Rattle.vote_run.specs.Ends.{Between, Came, Follows, HasCome, HasEnded, HasGoneRound};
+ghost use Rattle.vote_run.specs.Fares.{FareOn};
+ghost use Rattle.vote_run.specs.Lasts.{LastOn};
 ghost use Rattle.vote_run.specs.Members.{MayAllTurn};
 
 use crate::limits::{Limits, Next};
@@ -61,6 +63,8 @@ fn round<F: Fates, C: Clock, M: Medium>(
     ensures count { length polls.new.items ≡ length polls.old.items }
     ensures gone { IsTrue M.tells → (lines : List Line) → Between M.Medium lines courier.old members polls.old.items behind →
         OnOk result.1 (HasGoneRound M.Medium lines courier.old courier.new result.0 polls.new.items) }
+    ensures fares { OnOk result.1 (FareOn M.Medium courier.old.entries members courier.new.entries result.0) }
+    ensures lasts { LastOn M.Medium members result.0 }
 {
     let members = members_turn(alloc, courier, members);
     if some_wants(&members) {
@@ -90,6 +94,8 @@ fn step<F: Fates, C: Clock, M: Medium>(
     ensures came { IsTrue M.tells → (lines : List Line) (first : CourierParts) → length lines ≡ length polls.old.items →
         HasCome M.Medium lines first courier.old members polls.old.items behind ticks →
         IfOk result.1 (Came M.Medium lines limits first courier.new result.0 polls.new.items) }
+    ensures fares { OnOk result.1 (FareOn M.Medium courier.old.entries members courier.new.entries result.0) }
+    ensures lasts { LastOn M.Medium members result.0 }
 {
     let (after, gone) = round(alloc, courier, members, polls, behind);
     if gone.is_err() {
@@ -119,6 +125,8 @@ pub fn go_on<F: Fates, C: Clock, M: Medium>(
     ensures ended { IsTrue M.tells → (lines : List Line) → length lines ≡ length polls.old.items →
         Between M.Medium lines courier.old members polls.old.items false → (hall_of lines courier.old).ticks ≡ 0 →
         OnOk result.1 (HasEnded M.Medium lines limits courier.old courier.new result.0 polls.new.items) }
+    ensures fares { OnOk result.1 (FareOn M.Medium courier.old.entries members courier.new.entries result.0) }
+    ensures lasts { LastOn M.Medium members result.0 }
 {
     let mut members = members;
     let mut behind = false;

@@ -13,3 +13,19 @@ pub enum Seat<M: Medium> {
     /// Memory was wanting.
     Wanting(M),
 }
+
+impl<M: Medium> Seat<M> {
+    ghost use Rattle.std.specs.Prelude.{◌≡◌};
+    ghost use Rattle.vote_run.specs.Lasts.{medium_in};
+
+    /// The medium, unless it is missing.
+    pub fn release(self) -> Option<M>
+        ensures { result ≡ medium_in self }
+    {
+        match self {
+            Seat::Up(_, store, _, _) => Some(store.release()),
+            Seat::Fallen(medium) => medium,
+            Seat::Wanting(medium) => Some(medium),
+        }
+    }
+}

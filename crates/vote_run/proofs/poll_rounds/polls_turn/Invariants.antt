@@ -1,12 +1,14 @@
 use Rattle.std.proofs.Common.{◌≡◌, List, length}
 use Rattle.record_votes.specs.Voting.{Line}
 use Rattle.vote_courier.specs.Stations.{Stands, hall_of}
-use Rattle.vote_run.specs.Rounds.{PollsAre, PollsTurned}
+use Rattle.vote_run.specs.Fares.{Lengthens}
+use Rattle.vote_run.specs.Rounds.{is_poll, PollsAre, PollsTurned}
 use Rattle.vote_run.proofs.poll_rounds.polls_turn.Given as goal
 
 abbrev pub invariant-loop-i : goal.invariant-loop-i
 invariant-loop-i g l = record {
   end : length l.polls.items ≡ l.i-end;
   count : length l.polls.items ≡ length l.fn.polls.items;
+  adds : Lengthens is_poll l.fn.courier.entries l.courier.entries;
   turned : (lines : List Line) → Stands lines l.fn.courier → PollsAre (hall_of lines l.fn.courier) 0 l.behind l.fn.polls.items → PollsTurned lines l.fn.courier l.courier l.i l.behind l.polls.items;
 }

@@ -1,7 +1,8 @@
-use Rattle.std.proofs.Common.{◌≡◌, ◌≤◌, ◌∙◌, ℕ, Bool, sym, subst}
+use Rattle.std.proofs.Common.{◌≤◌, ◌∙◌, ℕ, Bool, sym, subst}
 use Rattle.std.specs.Prelude.{Option, IfSome}
 use Rattle.vote_run.specs.Ends.{Came}
 use Rattle.vote_run.proofs.EndLemmas.{if-ok}
+use Rattle.vote_run.proofs.PollLemmas.{ok-of}
 use Rattle.vote_run.proofs.rounds.go_on.Goals as goal
 
 pub returns-in_default-came-clause-ended : goal.returns-in_default-came-clause-ended
@@ -21,4 +22,9 @@ loop-preserved g c =
           (let all = Came g.M.Medium lines c.args.limits c.args.courier.now c.step-after.new.courier c.step-after.result.0 c.step-after.new.polls.items in
           let so = c.step-after.ensures.came told lines c.args.courier.now (count ∙ sym c.loop.invariant.count) (c.loop.invariant.come told lines count b none) in
           subst all c.in-Some.is (if-ok c.step-after.result.1 all c.in-Ok.came c.in-Ok.is so));
+      fares = λ first h. ok-of c.step-after.result.1 c.in-Ok.came c.in-Ok.is c.step-after.ensures.fares first (c.loop.invariant.fares first h);
+      lasts = λ first h. c.step-after.ensures.lasts first (c.loop.invariant.lasts first h);
     }
+
+pub returns-in_default-came-clause-fares : goal.returns-in_default-came-clause-fares
+returns-in_default-came-clause-fares g c first h = ok-of c.step-after.result.1 c.in-Ok.came c.in-Ok.is c.step-after.ensures.fares first (c.loop.invariant.fares first h)

@@ -2,6 +2,8 @@ use Rattle.std.proofs.Common.{◌≡◌, ◌≤◌, false, List, length, IsTrue}
 use Rattle.record_votes.specs.Voting.{Line}
 use Rattle.vote_courier.specs.Stations.{hall_of}
 use Rattle.vote_run.specs.Ends.{Between, HasCome}
+use Rattle.vote_run.specs.Fares.{FareOn}
+use Rattle.vote_run.specs.Lasts.{LastOn}
 use Rattle.vote_run.specs.Members.{MayAllTurn}
 use Rattle.vote_run.proofs.rounds.go_on.Given as goal
 
@@ -12,4 +14,6 @@ invariant-loop g l = record {
   few : l.ticks ≤ l.limits.ticks;
   come : IsTrue g.M.Medium.tells → (lines : List Line) → length lines ≡ length l.fn.polls.items → Between g.M.Medium lines l.fn.courier l.fn.members l.fn.polls.items false
       → (hall_of lines l.fn.courier).ticks ≡ 0 → HasCome g.M.Medium lines l.fn.courier l.courier l.members l.polls.items l.behind l.ticks;
+  fares : FareOn g.M.Medium l.fn.courier.entries l.fn.members l.courier.entries l.members;
+  lasts : LastOn g.M.Medium l.fn.members l.members;
 }
