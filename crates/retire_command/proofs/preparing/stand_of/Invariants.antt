@@ -1,0 +1,7 @@
+use Rattle.std.proofs.Common.{take}
+use Rattle.run_volumes.specs.Volumes.{AreOpen}
+use Rattle.retire_command.proofs.preparing.stand_of.Given as goal
+
+-- those so far were opened
+abbrev pub invariant-loop-opening : goal.invariant-loop-opening
+invariant-loop-opening g l = AreOpen (take l.opening-index l.openings)
