@@ -5,27 +5,33 @@
 //!
 //! A line begins what those behind it are about:
 //! - `records`: `begin STAMP DEADLINE`, `commit`, `withdraw`, `restore`, `state`, `due MOMENT`, `hear MOMENT`.
+//! - `log`: `put OBJECT TIME NUMBER`, `stretch OBJECT TIME`, `begin STAMP DEADLINE`, `decide STAMP DECISION`, `learn STAMP
+//!   committed` or another word, `mark TIME`, `whole`, and `forward TIME`, which retires the log.
 //! - `flight`: `send NODE COPIES OVERTAKE HOLD HEX`, `take NODE`, `pass`, `shut NODE`, `empty`.
 #![tactic(auto)]
 
 mod faults;
 mod flights;
+mod logs;
 mod records;
 mod subjects;
 mod words;
 
 use commit_record::Records;
+use effect_form::Effect;
 use message_core::Flight;
 use std::alloc::{AllocError, Global};
 use std::process::ExitCode;
 use std::rt::Files;
 use std::{fs, io};
 use subjects::carry_all;
+use value_form::Items;
 
 // Carries out the cases of a text, which are about this.
 fn cases(alloc: Global, about: &str, text: &str, said: &mut String) -> Result<(), AllocError> {
     match about {
         "records" => carry_all::<Records>(alloc, text, said),
+        "logs" => carry_all::<Items<Effect>>(alloc, text, said),
         "flights" => carry_all::<Option<Flight>>(alloc, text, said),
         _ => said.push_str("  no cases\n"),
     }

@@ -4,8 +4,9 @@ ghost use Rattle.message_form.specs.Messages.{IsMessage};
 
 use crate::faults::CaseFault;
 use message_form::Message;
-use pseudo_time::{Decision, NodeId, NodeKind, Stamp};
+use pseudo_time::{Decision, NodeId, NodeKind, PseudoTime, Stamp};
 use std::alloc::Global;
+use value_form::ObjectId;
 
 /// A number, which a plain parse gives.
 pub fn number(word: &str) -> Result<u64, CaseFault> {
@@ -40,6 +41,21 @@ pub fn stamp(word: &str) -> Result<Stamp, CaseFault> {
     let (clock, rest) = word.split_once('.').ok_or(CaseFault::Line)?;
     let (broker, home) = rest.split_once('.').ok_or(CaseFault::Line)?;
     Stamp::new(number(clock)?, byte(broker)?, byte(home)?).ok_or(CaseFault::Line)
+}
+
+/// A pseudotime, `1.1.1/1`: its stamp and its step.
+pub fn time(word: &str) -> Result<PseudoTime, CaseFault> {
+    let (name, step) = word.split_once('/').ok_or(CaseFault::Line)?;
+    PseudoTime::new(stamp(name)?, small(step)?).ok_or(CaseFault::Line)
+}
+
+/// An object, `1.7`: its repository and its number there.
+pub fn object(word: &str) -> Result<ObjectId, CaseFault> {
+    let (repository, rest) = word.split_once('.').ok_or(CaseFault::Line)?;
+    Ok(ObjectId {
+        repository: byte(repository)?,
+        number: small(rest)?,
+    })
 }
 
 /// A decision, `committed`, `withdrawn` or `expired DEADLINE MOMENT`.

@@ -115,6 +115,15 @@ module _ {M : Type 0} (w : Media M) {g : _} where
   pub fresh-empty : (os front : List (Opening M g)) (store : Store M g) (effects : Vec Effect Global) (u : ℕ) → EndRightly Repository os → os ≡ front ++ Open store effects ∷ [] → fresh (logs_of os) ≡ Some u → effects.items ≡ []
   fresh-empty os front store effects u ends is e = none-in effects.items (last-empty os front (Open store effects) u ends is e)
 
+  -- it has the fresh one's number
+  pub fresh-place : (os front : List (Opening M g)) (last : Opening M g) (u : ℕ) → EndRightly Repository os → os ≡ front ++ last ∷ [] → fresh (logs_of os) ≡ Some u → u ≡ length front
+  fresh-place os front last u ends is e =
+      let f = fresh-last Repository 0 u ends.front ends.last ends.go_on (sym (ap (λ (l : List (Opening M g)). fresh (logs_of l)) ends.is) ∙ e) in
+      let place = f.0 in
+      let here = ap length is ∙ length-append front (last ∷ []) in
+      let there = ap length ends.is ∙ length-append ends.front (ends.last ∷ []) in
+      omega (arith, place, here, there)
+
   -- and it was opened
   pub last-opened : (os front : List (Opening M g)) (last : Opening M g) → AreOpen os → os ≡ front ++ last ∷ [] → IsOpen last
   last-opened os front last all is = every-last IsOpen front last (subst AreOpen is all)
@@ -147,21 +156,22 @@ module _ {M : Type 0} (w : Media M) {g : _} where
   }
 
   pub carried-out : (n : NodeId) (at : TimeParts) (os front : List (Opening M g)) (store : Store M g) (effects : Vec Effect Global) (others left : List (Option M)) (m : M) (f : Forward) (line : List ℕ) (r : Retired) →
-      IsReady n at os f line → os ≡ front ++ Open store effects ∷ [] → effects.items ≡ [] → Every (Stands w) os → others ≡ map medium_in front → left ≡ others ++ Some m ∷ [] →
+      (ready : IsReady n at os f line) → ready.volume ≡ length front → os ≡ front ++ Open store effects ∷ [] → effects.items ≡ [] → Every (Stands w) os → others ≡ map medium_in front → left ≡ others ++ Some m ∷ [] →
       Carries w n (between at f.kept.items) store line r m → ComesTo w n at os left r
   unfolding writes
-  carried-out n at os front store effects others left m f line (Done text) ready is none h given are c = record {
+  carried-out n at os front store effects others left m f line (Done text) ready place is none h given are c = record {
     opened = ready.opened;
     may = ready.may;
     volume = ready.volume;
     is_fresh = ready.is_fresh;
     wrote = writes os front store effects others left m (λ i. storage i ≡ Ok (carried w n at os left)) is none h given are (λ t i may. c.1 t i may ∙ ap (λ l. Ok l) ready.is_kept);
+    is_last = place;
     kept = f.kept.items;
     is_kept = ready.is_kept;
     is_text = c.0 ∙ ready.is_line;
   }
-  carried-out n at os front store effects others left m f line (Refused text) ready is none h given are c = absurd c
-  carried-out n at os front store effects others left m f line (Fallen text) ready is none h given are c = inr (record {
+  carried-out n at os front store effects others left m f line (Refused text) ready place is none h given are c = absurd c
+  carried-out n at os front store effects others left m f line (Fallen text) ready place is none h given are c = inr (record {
     opened = ready.opened;
     may = ready.may;
     wrote = writes os front store effects others left m (LeavesFront (carried w n at os left)) is none h given are (λ t i may. subst (λ (l : List Effect). LeavesFront l i) ready.is_kept (c.0 t i may));
@@ -169,7 +179,7 @@ module _ {M : Type 0} (w : Media M) {g : _} where
     why = subst (λ (l : List Effect). StopsFor w l store c.1.0 m) ready.is_kept c.1.1;
     is_line = c.1.2;
   })
-  carried-out n at os front store effects others left m f line NoMemory ready is none h given are c =
+  carried-out n at os front store effects others left m f line NoMemory ready place is none h given are c =
       inr (writes os front store effects others left m (LeavesFront (carried w n at os left)) is none h given are (λ t i may. subst (λ (l : List Effect). LeavesFront l i) ready.is_kept (c t i may)))
 
   -- ---- why it stops

@@ -103,6 +103,7 @@ module _ {M : Type 0} (w : Media M) {g : _} where
       pub volume : ℕ
       pub is_fresh : fresh (logs_of openings) ≡ Some volume
       pub wrote : WritesLast openings left (λ c. storage c ≡ Ok carried)
+      pub is_last : volume ≡ length wrote.front
       pub kept : List Effect
       pub is_kept : between at kept ≡ carried
       pub is_text : text ≡ retired_line n.number volume at (length kept) (length (left_behind (node_log (logs_of openings)) at))
