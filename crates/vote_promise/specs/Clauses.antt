@@ -127,7 +127,7 @@ module _ {M : Type 0} (w : Media M) (lines : List Line) where
         → (pages ≡ w.page_count new) × (storage (w.reads new) ≡ Ok (gated_log lines t s)) × (count_by is_blank (w.reads new) < length (filling (open_effects lines t s)))
     pub clean : (s : MemberNumber) (old new : M) → costs (own (member s) t.entries) ≡ 0 → Became media left s old new → StaysClean (w.reads old) (w.reads new)
 
--- ---- what must succeed
+-- ---- what must succeed (asked of votes, and no clause yet)
 
 -- one copy without a hold
 abbrev pub IsPlain : Fate → Type 0
