@@ -7,8 +7,9 @@ nobody wrote. The folder with these files is opened again twice, each time as a 
 objects, and by the same plan again, which has to end all its acts.
 
 What is right is worked out here from the pages alone, by docs/FORMATS.md: each act adds 1 to both objects, so a
-later run reads of each as often 1 as there are attempts whose home has a decision to commit on the image; and the
-plan that goes on ends with as many as it says are committed, which are at least those.
+later run reads of each the number of attempts below its own in pseudotime whose home has a decision to commit on the
+image, and its finals are the number of all of these; and the plan that goes on ends with as many as it says are
+committed, which are at least those.
 """
 
 import os
@@ -125,8 +126,8 @@ def length_of(page, place):
 
 
 def committed(files):
-    """How many attempts have a decision to commit in their home's log."""
-    count = 0
+    """The stamps of the attempts that have a decision to commit in their home's log: clock, then broker."""
+    stamps = []
     for home in (1, 2):
         whole = files["repository-%d-0" % home]
         for at in range(0, len(whole), 4096):
@@ -136,9 +137,9 @@ def committed(files):
             size, place = int.from_bytes(page[2:4], "big"), 5
             while place < 5 + size:
                 if page[place] == 4 and page[place + 10] == home and page[place + 11] == 1:
-                    count += 1
+                    stamps.append((int.from_bytes(page[place + 1:place + 9], "big"), page[place + 9]))
                 place += length_of(page, place)
-    return count
+    return stamps
 
 
 def run(folder, words, given):
@@ -158,7 +159,8 @@ def wrong(files, why, report):
 
 
 def judge(files, given):
-    count = committed(files)
+    stamps = committed(files)
+    count = len(stamps)
     for again in (False, True):
         folder = os.path.join(FOLDER, "image")
         shutil.rmtree(folder, ignore_errors=True)
@@ -175,9 +177,12 @@ def judge(files, given):
             if totals < count or any(int(value) != totals for value in finals) or (totals > 0 and len(finals) != 2):
                 wrong(files, "%d decisions to commit, then other finals" % count, report)
         else:
-            value = str(count) if count else "nothing"
             last = report[report.rindex("try "):]
-            if "read 1.1 %s\n" % value not in last or "read 2.1 %s\n" % value not in last:
+            clock, broker = re.match(r"try (\d+)\.(\d+)\.", last).groups()
+            below = sum(stamp < (int(clock), int(broker)) for stamp in stamps)
+            value, final = (str(n) if n else "nothing" for n in (below, count))
+            reads = all("read %d.1 %s\n" % (r, value) in last for r in (1, 2))
+            if not reads or count > 0 and not all("final %d.1 %s\n" % (r, final) in last for r in (1, 2)):
                 wrong(files, "%d decisions to commit, but" % count, report)
     return count
 
