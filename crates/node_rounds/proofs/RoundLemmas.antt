@@ -8,6 +8,7 @@ use Rattle.seat_lock.specs.declared.views.Founding.{Founding}
 use Rattle.seat_lock.specs.declared.locks.LockTable.{LockTable}
 use Rattle.pseudo_time.specs.declared.down_causes.DownCause.{DownCause}
 use Rattle.medium_port.specs.Image.{Image}
+use Rattle.medium_port.specs.Moment.{Stage}
 use Rattle.seat_lock.specs.Story.{Begins, entries_of}
 use Rattle.world_core.specs.declared.entries.Entry.{Entry}
 use Rattle.wire_core.specs.Wires.{WireParts}
@@ -92,8 +93,8 @@ module _ {M : Type 0} where
     whole-ok (Ok t) c P is ne p = p
     whole-ok (Err e) c P is ne p = absurd (ne is)
 
-    pub goes-turned : {E : Type 0} (old new : NodeParts M) (r : Result Turned E) → TurnsTo tells faults reads old new r → GoesOn tells faults reads old new
-    goes-turned old new r t = record {
+    pub goes-turned : {E : Type 0} {stages : M → List Stage} (old new : NodeParts M) (r : Result Turned E) → TurnsTo tells faults reads stages old new r → GoesOn tells faults reads old new
+    goes-turned {E} {stages} old new r t = record {
       node = t.node;
       adds = t.adds;
       paid = t.paid;

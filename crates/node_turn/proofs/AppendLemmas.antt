@@ -8,6 +8,7 @@ use Rattle.pseudo_time.specs.declared.nodes.NodeId.{NodeId}
 use Rattle.pseudo_time.specs.declared.down_causes.DownCause.TheVariants as down
 use Rattle.stream_port.specs.Causes.{Rose}
 use Rattle.medium_port.specs.Image.{Image}
+use Rattle.medium_port.specs.Moment.{Stage}
 use Rattle.effect_form.specs.declared.effects.Effect.{Effect}
 use Rattle.message_form.specs.declared.turns.Out.{Out}
 use Rattle.message_form.specs.Ranges.{AreEffects}
@@ -50,14 +51,14 @@ not-medium-full n e = cc e
 
 -- of equal effects
 pub appended-at : {K M : Type 0} {tells : Bool} {parts : K → CoreParts M} {fits : Base → K → Type 0} {lives : Base → K → Life → Type 0} {owes : K → List Effect → Type 0}
-    {faults pages : M → ℕ} {reads : M → Image} {may_leave : M → Image → Type 0} {T : Type 0} {core new : K} {es es' : List Effect} {result : Result T StoreFault} → es ≡ es'
-    → IsAppended tells parts fits lives owes faults pages reads may_leave core new es result → IsAppended tells parts fits lives owes faults pages reads may_leave core new es' result
-appended-at {K} {M} {tells} {parts} {fits} {lives} {owes} {faults} {pages} {reads} {may_leave} {T} {core} {new} {es} {es'} {result} e a =
-    subst (λ (x : List Effect). IsAppended tells parts fits lives owes faults pages reads may_leave core new x result) e a
+    {faults pages : M → ℕ} {reads : M → Image} {may_leave : M → Image → Type 0} {stages : M → List Stage} {T : Type 0} {core new : K} {es es' : List Effect} {result : Result T StoreFault} → es ≡ es'
+    → IsAppended tells parts fits lives owes faults pages reads may_leave stages core new es result → IsAppended tells parts fits lives owes faults pages reads may_leave stages core new es' result
+appended-at {K} {M} {tells} {parts} {fits} {lives} {owes} {faults} {pages} {reads} {may_leave} {stages} {T} {core} {new} {es} {es'} {result} e a =
+    subst (λ (x : List Effect). IsAppended tells parts fits lives owes faults pages reads may_leave stages core new x result) e a
 
 module _ {K M : Type 0} {tells : Bool} {parts : K → CoreParts M} {fits : Base → K → Type 0} {lives : Base → K → Life → Type 0} {owes : K → List Effect → Type 0}
-    {faults pages : M → ℕ} {reads : M → Image} {may_leave : M → Image → Type 0} {T : Type 0} {core new : K} {k : Sight} {n : NodeId} {gone : Bool} {d : DraftParts} {result : Result T StoreFault}
-    (u : IsUp tells parts fits lives owes pages reads may_leave core k n gone true d) (a : IsAppended tells parts fits lives owes faults pages reads may_leave core new d.effects result) where
+    {faults pages : M → ℕ} {reads : M → Image} {may_leave : M → Image → Type 0} {stages : M → List Stage} {T : Type 0} {core new : K} {k : Sight} {n : NodeId} {gone : Bool} {d : DraftParts} {result : Result T StoreFault}
+    (u : IsUp tells parts fits lives owes pages reads may_leave core k n gone true d) (a : IsAppended tells parts fits lives owes faults pages reads may_leave stages core new d.effects result) where
   -- the node, by what its medium has after the append
   stored-by : (IsTrue tells → (c : Image) → may_leave (parts new).medium c → IsKept (life_at k n) c) → IsStored tells parts fits lives owes pages reads may_leave new k n
   stored-by kept = record {
@@ -83,7 +84,7 @@ module _ {K M : Type 0} {tells : Bool} {parts : K → CoreParts M} {fits : Base 
   kept-same : (parts new).medium ≡ (parts core).medium → IsTrue tells → (c : Image) → may_leave (parts new).medium c → IsKept (life_at k n) c
   kept-same e t c i = kept-none (life_at k n) c (life_at k n).gated refl ((u.life t).images_left c (subst (λ (m : M). may_leave m c) e i))
 
-  full-new : ((m : M) → IsTrue tells → may_leave m (reads m)) → (number : ℕ) → (parts new).medium ≡ (parts core).medium → IsFull tells parts fits lives owes faults pages reads may_leave (parts core).medium d.effects number → IsCause tells pages reads (down.Full number) (parts new).medium (life_at k n)
+  full-new : ((m : M) → IsTrue tells → may_leave m (reads m)) → (number : ℕ) → (parts new).medium ≡ (parts core).medium → IsFull tells parts fits lives owes faults pages reads may_leave stages (parts core).medium d.effects number → IsCause tells pages reads (down.Full number) (parts new).medium (life_at k n)
   full-new now number e f =
       subst (λ (m : M). IsCause tells pages reads (down.Full number) m (life_at k n)) (sym e) (
         f.all,
@@ -101,7 +102,7 @@ module _ {K M : Type 0} {tells : Bool} {parts : K → CoreParts M} {fits : Base 
   after-append now (adding.Full number) e =
       let same : (parts new).medium ≡ (parts core).medium = if-err result (adding.Full number) (λ f. f ≢ adding.Medium → (parts new).medium ≡ (parts core).medium) e a.nothing (not-medium-full number) in (
         struck-by (kept-same same),
-        full-new now number same (if-err result (adding.Full number) (λ f. (m : ℕ) → f ≡ adding.Full m → IsFull tells parts fits lives owes faults pages reads may_leave (parts core).medium d.effects m) e a.full number refl),
+        full-new now number same (if-err result (adding.Full number) (λ f. (m : ℕ) → f ≡ adding.Full m → IsFull tells parts fits lives owes faults pages reads may_leave stages (parts core).medium d.effects m) e a.full number refl),
       )
 
   pub full-same : (f : StoreFault) → result ≡ Err f → (number : ℕ) → f ≡ adding.Full number → (parts new).medium ≡ (parts core).medium
@@ -111,7 +112,7 @@ module _ {K M : Type 0} {tells : Bool} {parts : K → CoreParts M} {fits : Base 
   cause-append f e is = a.cause (e ∙ ap (λ x. Err x) is)
 
   module _ (v : T) (ok : result ≡ Ok v) where
-    left-log : IsTrue tells → LeavesLog (may_leave (parts new).medium) ((life_at k n).gated ++ d.effects)
+    pub left-log : IsTrue tells → LeavesLog (may_leave (parts new).medium) ((life_at k n).gated ++ d.effects)
     left-log t = on-ok result v _ ok (a.left t (life_at k n).gated (u.life t).images_left)
 
     -- the effects are durable, and the gate wasn't opened

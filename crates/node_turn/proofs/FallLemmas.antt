@@ -5,6 +5,7 @@ use Rattle.pseudo_time.specs.declared.nodes.NodeId.{NodeId}
 use Rattle.pseudo_time.specs.declared.down_causes.DownCause.{DownCause}
 use Rattle.pseudo_time.specs.declared.down_causes.DownCause.TheVariants as down
 use Rattle.medium_port.specs.Image.{Image}
+use Rattle.medium_port.specs.Moment.{Stage}
 use Rattle.effect_form.specs.declared.effects.Effect.{Effect}
 use Rattle.version_store.specs.declared.faults.OpenFault.{OpenFault}
 use Rattle.version_store.specs.declared.faults.OpenFault.TheVariants as opening
@@ -66,14 +67,14 @@ module _ {K M : Type 0} {tells : Bool} {parts : K → CoreParts M} {fits : Base 
   }
 
 module _ {K M : Type 0} {tells : Bool} {parts : K → CoreParts M} {fits : Base → K → Type 0} {lives : Base → K → Life → Type 0} {owes : K → List Effect → Type 0}
-    {faults pages : M → ℕ} {reads : M → Image} {may_leave : M → Image → Type 0} {core new : K} {k : Sight} {n : NodeId} {durable : ℕ} {result : Result ℕ OpenFault}
-    (s : IsStruck tells parts fits lives owes pages reads may_leave core k n durable) (r : IsReopened tells parts fits lives owes faults pages reads may_leave core new result) where
+    {faults pages : M → ℕ} {reads : M → Image} {may_leave : M → Image → Type 0} {stages : M → List Stage} {core new : K} {k : Sight} {n : NodeId} {durable : ℕ} {result : Result ℕ OpenFault}
+    (s : IsStruck tells parts fits lives owes pages reads may_leave core k n durable) (r : IsReopened tells parts fits lives owes faults pages reads may_leave stages core new result) where
   -- what was found is the durable log with so many of the new effects
   pub record Found (log : List Effect) (count : ℕ) : Type 0 where
     pub few : count - durable ≤ length (life_at k n).fresh
     pub is : log ≡ (life_at k n).gated ++ take (count - durable) (life_at k n).fresh
 
-  found-is : (count : ℕ) → result ≡ Ok count → (t : IsTrue tells) → (h : HasFound tells parts fits lives owes faults pages reads may_leave core new count) → Found h.log count
+  pub found-is : (count : ℕ) → result ≡ Ok count → (t : IsTrue tells) → (h : HasFound tells parts fits lives owes faults pages reads may_leave stages core new count) → Found h.log count
   found-is count ok t h =
       let l : Life = life_at k n in
       let x : IsKept l h.image = s.stored.kept t h.image h.left in
@@ -90,7 +91,7 @@ module _ {K M : Type 0} {tells : Bool} {parts : K → CoreParts M} {fits : Base 
 
   -- the crash visit may keep them
   pub crash-few : (count : ℕ) → result ≡ Ok count → IsTrue tells → count - durable ≤ length (life_at k n).fresh
-  crash-few count ok t = (found-is count ok t (if-ok result count (HasFound tells parts fits lives owes faults pages reads may_leave core new) ok (r.found t))).few
+  crash-few count ok t = (found-is count ok t (if-ok result count (HasFound tells parts fits lives owes faults pages reads may_leave stages core new) ok (r.found t))).few
 
   -- the node was opened anew
   pub up-crashed : {k' : Sight} (count : ℕ) → result ≡ Ok count → Crashes tells n k k' (count - durable) → (flags_at k n).known ≡ true → IsUp tells parts fits lives owes pages reads may_leave new k' n false false (no_draft count)
@@ -108,7 +109,7 @@ module _ {K M : Type 0} {tells : Bool} {parts : K → CoreParts M} {fits : Base 
         life = λ t.
             let b : Base = base_at k in
             let l : Life = life_at k n in
-            let h : HasFound tells parts fits lives owes faults pages reads may_leave core new count = if-ok result count (HasFound tells parts fits lives owes faults pages reads may_leave core new) ok (r.found t) in
+            let h : HasFound tells parts fits lives owes faults pages reads may_leave stages core new count = if-ok result count (HasFound tells parts fits lives owes faults pages reads may_leave stages core new) ok (r.found t) in
             let x : Found h.log count = found-is count ok t h in
             let y : Life = opened_life b.start h.log in
             let e : life_at k' n ≡ y = v.lives t ∙ ap (opened_life b.start) (sym x.is) in

@@ -11,3 +11,7 @@ pub mod PageLemmas
 pub mod NodeLemmas
 pub mod NewLemmas
 pub mod MediumLemmas
+pub mod WindowLemmas
+pub mod StepLemmas
+pub mod SightSteps
+pub mod PhaseLemmas

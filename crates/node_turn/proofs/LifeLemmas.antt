@@ -9,6 +9,7 @@ use Rattle.pseudo_time.specs.declared.nodes.NodeKind.TheVariants.{Repository, Br
 use Rattle.pseudo_time.specs.Nodes.{is_broker}
 use Rattle.stream_port.specs.Causes.{Rose}
 use Rattle.medium_port.specs.Image.{Image, NoMore}
+use Rattle.medium_port.specs.Moment.{Stage}
 use Rattle.effect_form.specs.declared.effects.Effect.{Effect}
 use Rattle.effect_form.specs.Effects.{IsEffect}
 use Rattle.message_form.specs.declared.turns.Turn.{Turn}
@@ -162,10 +163,10 @@ module _ {K M : Type 0} {tells : Bool} {parts : K → CoreParts M} {fits : Base 
       }
 
 module _ {K M : Type 0} {tells : Bool} {parts : K → CoreParts M} {fits : Base → K → Type 0} {lives : Base → K → Life → Type 0} {owes : K → List Effect → Type 0}
-    {faults pages : M → ℕ} {reads : M → Image} {may_leave : M → Image → Type 0} where
+    {faults pages : M → ℕ} {reads : M → Image} {may_leave : M → Image → Type 0} {stages : M → List Stage} where
   module _ {old new : K} {k k' : Sight} {n : NodeId} {gone gone' due : Bool} {d : DraftParts} {e : Entry} {flags : Flags} {input : Input} {result : Result Turn HistoryFault}
       (u : IsUp tells parts fits lives owes pages reads may_leave old k n gone due d) (v : Visited tells n k k' e (given n k input) flags) (flags_are : flags ≡ up_flags gone' true)
-      (g : IsGiven tells parts fits lives owes faults pages reads may_leave old new input result) where
+      (g : IsGiven tells parts fits lives owes faults pages reads may_leave stages old new input result) where
     f : Follows n k k'
     f = follows-added n v.added
 
@@ -257,11 +258,11 @@ taken-at tells n k k' e h = subst (TakesOne tells n k k') e h
 
 -- ---- media that weren't written
 
-pub unwritten-none : {M : Type 0} (tells : Bool) (faults : M → ℕ) (reads : M → Image) (m : M) → IsUnwritten tells faults reads m m
-unwritten-none tells faults reads m = record { later = omega arith; still = λ t. refl }
+pub unwritten-none : {M : Type 0} (tells : Bool) (faults : M → ℕ) (reads : M → Image) (stages : M → List Stage) (m : M) → IsUnwritten tells faults reads stages m m
+unwritten-none tells faults reads stages m = record { later = omega arith; still = λ t. refl; stages_still = λ t. refl }
 
-pub unwritten-joins : {M : Type 0} {tells : Bool} {faults : M → ℕ} {reads : M → Image} {a b c : M} → IsUnwritten tells faults reads a b → IsUnwritten tells faults reads b c → IsUnwritten tells faults reads a c
-unwritten-joins {M} {tells} {faults} {reads} {a} {b} {c} p q = record { later = let x = p.later in let y = q.later in omega (arith, x, y); still = λ t. q.still t ∙ p.still t }
+pub unwritten-joins : {M : Type 0} {tells : Bool} {faults : M → ℕ} {reads : M → Image} {stages : M → List Stage} {a b c : M} → IsUnwritten tells faults reads stages a b → IsUnwritten tells faults reads stages b c → IsUnwritten tells faults reads stages a c
+unwritten-joins {M} {tells} {faults} {reads} {stages} {a} {b} {c} p q = record { later = let x = p.later in let y = q.later in omega (arith, x, y); still = λ t. q.still t ∙ p.still t; stages_still = λ t. q.stages_still t ∙ p.stages_still t }
 
 module _ {K M : Type 0} {tells : Bool} {parts : K → CoreParts M} {fits : Base → K → Type 0} {lives : Base → K → Life → Type 0} {owes : K → List Effect → Type 0}
     {pages : M → ℕ} {reads : M → Image} {may_leave : M → Image → Type 0} where

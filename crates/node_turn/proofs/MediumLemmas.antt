@@ -3,6 +3,7 @@ use Rattle.std.proofs.Common.{◌≡◌, ◌≢◌, ℕ, ◌≤◌, ◌<◌, ◌
 use Rattle.std.specs.Prelude.{count_by, IsErrOf}
 use Rattle.stream_port.specs.Causes.{Rose}
 use Rattle.medium_port.specs.Image.{Image, IsImage, Only, NoMore}
+use Rattle.medium_port.specs.Moment.{LeavesOnly, Stage}
 use Rattle.pseudo_time.specs.declared.nodes.NodeId.{NodeId}
 use Rattle.page_gate.specs.States.{is_blank}
 use Rattle.effect_form.specs.declared.effects.Effect.{Effect}
@@ -82,29 +83,35 @@ ready-found images n b image log was found ready =
 -- ---- appends
 
 -- what an append leaves of the medium
-pub record AppendsTo {M T : Type 0} (tells : Bool) (faults pages : M → ℕ) (reads : M → Image) (may_leave : M → Image → Type 0) (old new : M) (effects : List Effect) (result : Result T StoreFault) : Type 0 where
+pub record AppendsTo {M T : Type 0} (tells : Bool) (faults pages : M → ℕ) (reads : M → Image) (may_leave : M → Image → Type 0) (stages : M → List Stage) (old new : M) (effects : List Effect) (result : Result T StoreFault) : Type 0 where
   pub later : faults old ≤ faults new
   pub left : IsTrue tells → (log : List Effect) → LeavesLog (may_leave old) log → OnOk result (LeavesLog (may_leave new) (log ++ effects))
   pub images : IsTrue tells → (log : List Effect) → LeavesLog (may_leave old) log → (c : Image) → may_leave new c → HasPrefix log effects c
+  pub at_moments : IsTrue tells → (log : List Effect) → LeavesLog (may_leave old) log → LeavesOnly stages old new (HasPrefix log effects)
   pub intact : IsTrue tells → OnOk result (IsIntact (reads old) (reads new))
   pub nothing : IfErr result (λ f. f ≢ adding.Medium → new ≡ old)
   pub full : IfErr result (λ f. (number : ℕ) → f ≡ adding.Full number → (number ≡ pages old) × (IsTrue tells → count_by is_blank (reads old) < length (filling effects)))
   pub cause : IsErrOf result adding.Medium → Rose (faults old) (faults new)
 
-module _ {M : Type 0} (tells : Bool) (faults pages : M → ℕ) (reads : M → Image) (may_leave : M → Image → Type 0) (now : (m : M) → IsTrue tells → may_leave m (reads m)) (old new : M) (effects : List Effect)
+module _ {M : Type 0} (tells : Bool) (faults pages : M → ℕ) (reads : M → Image) (may_leave : M → Image → Type 0) (stages : M → List Stage) (now : (m : M) → IsTrue tells → may_leave m (reads m)) (old new : M) (effects : List Effect)
     (settled : IsTrue tells → IsSettled (reads old) (may_leave old)) (later : faults old ≤ faults new)
-    (images : IsTrue tells → (c : Image) → may_leave new c → HasPrefix (effects_read (reads old)) effects c) where
+    (images : IsTrue tells → (c : Image) → may_leave new c → HasPrefix (effects_read (reads old)) effects c)
+    (moments : IsTrue tells → LeavesOnly stages old new (HasPrefix (effects_read (reads old)) effects)) where
+  moments-from : IsTrue tells → (log : List Effect) → LeavesLog (may_leave old) log → LeavesOnly stages old new (HasPrefix log effects)
+  moments-from t log leaves = subst (λ l. LeavesOnly stages old new (HasPrefix l effects)) (log-left (reads old) (may_leave old) (settled t) log (now old t) leaves) (moments t)
+
   images-from : IsTrue tells → (log : List Effect) → LeavesLog (may_leave old) log → (c : Image) → may_leave new c → HasPrefix log effects c
   images-from t log leaves c left = subst (λ l. HasPrefix l effects c) (log-left (reads old) (may_leave old) (settled t) log (now old t) leaves) (images t c left)
 
   -- all was added
   pub appends-all : {T : Type 0} (x : T) → ((m : M) (c : Image) → IsTrue tells → may_leave m c → IsImage (pages m) c) → pages new ≡ pages old → (IsTrue tells → IsSettled (reads new) (may_leave new)) → (IsTrue tells → effects_read (reads new) ≡ effects_read (reads old) ++ effects)
       → (IsTrue tells → KeepsPages (reads old) (reads new)) → (IsTrue tells → StaysClean (reads old) (reads new)) → AreEffects effects → (IsTrue tells → count_by is_blank (reads new) + length (filling effects) ≡ count_by is_blank (reads old))
-      → AppendsTo tells faults pages reads may_leave old new effects (Ok x)
+      → AppendsTo tells faults pages reads may_leave stages old new effects (Ok x)
   appends-all x shape size rests grown keeps clean ranges used = record {
     later = later;
     left = λ t log leaves. leaves-log (reads new) (may_leave new) (rests t) (log ++ effects) (grown t ∙ ap (λ l. l ++ effects) (log-left (reads old) (may_leave old) (settled t) log (now old t) leaves));
     images = images-from;
+    at_moments = moments-from;
     intact = λ t. record { count = (shape new (reads new) t (now new t)).count ∙ size ∙ sym (shape old (reads old) t (now old t)).count; keeps = keeps t; clean = clean t; grown = has-grown (reads old) (may_leave old) (reads new) (may_leave new) (settled t) (rests t) effects ranges (grown t) (used t) };
     nothing = tt;
     full = tt;
@@ -114,11 +121,12 @@ module _ {M : Type 0} (tells : Bool) (faults pages : M → ℕ) (reads : M → I
   -- a fault
   pub appends-none : {T : Type 0} (f : StoreFault) → (f ≢ adding.Medium → new ≡ old) → ((number : ℕ) → f ≡ adding.Full number → number ≡ pages old)
       → (IsTrue tells → (number : ℕ) → f ≡ adding.Full number → count_by is_blank (reads old) < length (filling effects)) → (f ≡ adding.Medium → Rose (faults old) (faults new))
-      → AppendsTo {T = T} tells faults pages reads may_leave old new effects (Err f)
+      → AppendsTo {T = T} tells faults pages reads may_leave stages old new effects (Err f)
   appends-none f nothing all blank cause = record {
     later = later;
     left = λ t log leaves. tt;
     images = images-from;
+    at_moments = moments-from;
     intact = λ t. tt;
     nothing = nothing;
     full = λ number e. (all number e, λ t. blank t number e);
@@ -126,20 +134,21 @@ module _ {M : Type 0} (tells : Bool) (faults pages : M → ℕ) (reads : M → I
   }
 
 module _ {K M : Type 0} {tells : Bool} {parts : K → CoreParts M} {fits : Base → K → Type 0} {lives : Base → K → Life → Type 0} {owes : K → List Effect → Type 0}
-    {faults pages : M → ℕ} {reads : M → Image} {may_leave : M → Image → Type 0} (old new : K) (m : M) (is : (parts old).medium ≡ m)
+    {faults pages : M → ℕ} {reads : M → Image} {may_leave : M → Image → Type 0} {stages : M → List Stage} (old new : K) (m : M) (is : (parts old).medium ≡ m)
     (node : (parts new).node ≡ (parts old).node) (run : (b : Base) → fits b old → fits b new) where
   -- a core after an append: where all was added, it owes nothing, and has the life after the gate
-  pub appended : {T : Type 0} (effects : List Effect) (result : Result T StoreFault) → AppendsTo tells faults pages reads may_leave m (parts new).medium effects result → OnOk result (((parts new).able ≡ true) × owes new [])
+  pub appended : {T : Type 0} (effects : List Effect) (result : Result T StoreFault) → AppendsTo tells faults pages reads may_leave stages m (parts new).medium effects result → OnOk result (((parts new).able ≡ true) × owes new [])
       → (IsTrue tells → (b : Base) (l : Life) → lives b old l → l.fresh ≡ effects → OnOk result (lives b new (gated_life l)))
-      → IsAppended tells parts fits lives owes faults pages reads may_leave old new effects result
+      → IsAppended tells parts fits lives owes faults pages reads may_leave stages old new effects result
   appended {T} effects result to able has =
-      let a : AppendsTo tells faults pages reads may_leave (parts old).medium (parts new).medium effects result = subst (λ x. AppendsTo tells faults pages reads may_leave x (parts new).medium effects result) (sym is) to in
+      let a : AppendsTo tells faults pages reads may_leave stages (parts old).medium (parts new).medium effects result = subst (λ x. AppendsTo tells faults pages reads may_leave stages x (parts new).medium effects result) (sym is) to in
       record {
         same = record { node = node; run = run; later = a.later };
         able = able;
         has = has;
         left = a.left;
         images = a.images;
+        at_moments = a.at_moments;
         intact = a.intact;
         nothing = a.nothing;
         full = fills result a.full;
@@ -147,16 +156,16 @@ module _ {K M : Type 0} {tells : Bool} {parts : K → CoreParts M} {fits : Base 
       }
     where
       fills : (r : Result T StoreFault) → IfErr r (λ f. (number : ℕ) → f ≡ adding.Full number → (number ≡ pages (parts old).medium) × (IsTrue tells → count_by is_blank (reads (parts old).medium) < length (filling effects)))
-          → IfErr r (λ f. (number : ℕ) → f ≡ adding.Full number → IsFull tells parts fits lives owes faults pages reads may_leave (parts old).medium effects number)
+          → IfErr r (λ f. (number : ℕ) → f ≡ adding.Full number → IsFull tells parts fits lives owes faults pages reads may_leave stages (parts old).medium effects number)
       fills (Ok x) h = tt
       fills (Err f) h = λ number e. record { all = (h number e).0; blank = (h number e).1 }
 
   -- the medium was opened, and its log found
   pub reopened-all : (log : List Effect) (count : ℕ) → count ≡ length log → (parts new).able ≡ true → owes new [] → faults m ≤ faults (parts new).medium
       → (IsTrue tells → may_leave m (reads (parts new).medium)) → (IsTrue tells → storage (reads (parts new).medium) ≡ Ok log) → (IsTrue tells → Only (reads (parts new).medium) (may_leave (parts new).medium))
-      → (IsTrue tells → NoMore (may_leave m) (may_leave (parts new).medium)) → (IsTrue tells → (b : Base) → fits b old → lives b new (opened_life b.start log))
-      → IsReopened tells parts fits lives owes faults pages reads may_leave old new (Ok count)
-  reopened-all log count size able owed later was found only images has = record {
+      → (IsTrue tells → NoMore (may_leave m) (may_leave (parts new).medium)) → (IsTrue tells → LeavesOnly stages m (parts new).medium (may_leave m)) → (IsTrue tells → (b : Base) → fits b old → lives b new (opened_life b.start log))
+      → IsReopened tells parts fits lives owes faults pages reads may_leave stages old new (Ok count)
+  reopened-all log count size able owed later was found only images moments has = record {
     same = record { node = node; run = run; later = subst (λ x. faults x ≤ faults (parts new).medium) (sym is) later };
     able = (able, owed);
     found = λ t. record {
@@ -169,18 +178,20 @@ module _ {K M : Type 0} {tells : Bool} {parts : K → CoreParts M} {fits : Base 
       has = has t;
     };
     images = λ t. subst (λ x. NoMore (may_leave x) (may_leave (parts new).medium)) (sym is) (images t);
+    at_moments = λ t. subst (λ x. LeavesOnly stages x (parts new).medium (may_leave x)) (sym is) (moments t);
     cause = λ e. absurd (cc e);
     sound = λ t b f ready page e. absurd (cc e);
   }
 
   -- a fault
-  pub reopened-none : (f : OpenFault) → faults m ≤ faults (parts new).medium → (IsTrue tells → NoMore (may_leave m) (may_leave (parts new).medium)) → (f ≡ opening.Medium → Rose (faults m) (faults (parts new).medium))
-      → (IsTrue tells → (b : Base) → fits b old → AreReady (may_leave m) (parts old).node b → (page : ℕ) → f ≡ opening.Damaged page → ⊥) → IsReopened tells parts fits lives owes faults pages reads may_leave old new (Err f)
-  reopened-none f later images cause sound = record {
+  pub reopened-none : (f : OpenFault) → faults m ≤ faults (parts new).medium → (IsTrue tells → NoMore (may_leave m) (may_leave (parts new).medium)) → (IsTrue tells → LeavesOnly stages m (parts new).medium (may_leave m)) → (f ≡ opening.Medium → Rose (faults m) (faults (parts new).medium))
+      → (IsTrue tells → (b : Base) → fits b old → AreReady (may_leave m) (parts old).node b → (page : ℕ) → f ≡ opening.Damaged page → ⊥) → IsReopened tells parts fits lives owes faults pages reads may_leave stages old new (Err f)
+  reopened-none f later images moments cause sound = record {
     same = record { node = node; run = run; later = subst (λ x. faults x ≤ faults (parts new).medium) (sym is) later };
     able = tt;
     found = λ t. tt;
     images = λ t. subst (λ x. NoMore (may_leave x) (may_leave (parts new).medium)) (sym is) (images t);
+    at_moments = λ t. subst (λ x. LeavesOnly stages x (parts new).medium (may_leave x)) (sym is) (moments t);
     cause = λ e. subst (λ x. Rose (faults x) (faults (parts new).medium)) (sym is) (cause (err-same f opening.Medium e));
     sound = λ t b h ready page e. sound t b h (subst (λ x. AreReady (may_leave x) (parts old).node b) is ready) page (err-same f (opening.Damaged page) e);
   }

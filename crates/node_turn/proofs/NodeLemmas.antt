@@ -5,6 +5,7 @@ use Rattle.pseudo_time.specs.declared.nodes.NodeId.{NodeId}
 use Rattle.pseudo_time.specs.Nodes.{is_broker}
 use Rattle.pseudo_time.specs.declared.down_causes.DownCause.{DownCause}
 use Rattle.medium_port.specs.Image.{Image}
+use Rattle.medium_port.specs.Moment.{Stage, LeftNow}
 use Rattle.effect_form.specs.declared.effects.Effect.{Effect}
 use Rattle.atomic_table.specs.declared.shared.Seat.{Seat}
 use Rattle.seat_lock.specs.declared.views.View.{View}
@@ -21,10 +22,12 @@ use Rattle.node_turn.specs.Cores.{CoreParts}
 use Rattle.node_turn.specs.Lives.{no_draft, IsUp, IsDown, Keeps}
 use Rattle.node_turn.specs.Costs.{costs, PaysFor}
 use Rattle.node_turn.specs.Trails.{HasTested}
+use Rattle.node_turn.specs.Windows.{PassesOn}
 use Rattle.node_turn.specs.Nodes.{NodeParts, Adds, Grew, IsCondition, IsQuiet, Answers, Does, StaysWhole, TurnsTo, IsAtRest}
 use Rattle.node_turn.proofs.LifeLemmas.{Follows, follows-looked, flags-seen, life-looked, up-looked, up-stored, stored-looked}
 use Rattle.node_turn.proofs.FallLemmas.{cause-same}
 use Rattle.node_turn.proofs.PageLemmas.{whole-same}
+use Rattle.node_turn.proofs.PhaseLemmas.{passes-stored}
 use Rattle.node_turn.proofs.SeekLemmas.{tested-none}
 use Rattle.node_turn.proofs.TrailLemmas.{trail-none, adds-none}
 
@@ -79,11 +82,11 @@ module _ {K M : Type 0} (tells : Bool) (parts : K → CoreParts M) (fits : Base 
   -- ---- a turn
 
   -- a node that was down already
-  pub turned-down : {E : Type 0} (faults : M → ℕ) (core : K) (n : NodeId) (gone : Bool) (durable : ℕ) (pass : Pass) (c : Condition) (cause : DownCause) → c ≡ condition.Down cause
-      → Keeps tells parts fits lives owes pages reads may_leave c core (knows pass) n gone durable → {old : NodeParts M} → seen n c pass core ≡ old → TurnsTo {E = E} tells faults reads old (seen n c pass core) (Ok Stopped)
-  turned-down {E} faults core n gone durable pass c cause e h {old} view =
+  pub turned-down : {E : Type 0} (faults : M → ℕ) (stages : M → List Stage) (only : (m : M) (c : Image) → IsTrue tells → LeftNow (stages m) c → may_leave m c) (core : K) (n : NodeId) (gone : Bool) (durable : ℕ) (pass : Pass) (c : Condition) (cause : DownCause) → c ≡ condition.Down cause
+      → Keeps tells parts fits lives owes pages reads may_leave c core (knows pass) n gone durable → {old : NodeParts M} → seen n c pass core ≡ old → TurnsTo {E = E} tells faults reads stages old (seen n c pass core) (Ok Stopped)
+  turned-down {E} faults stages only core n gone durable pass c cause e h {old} view =
       let d : IsDown tells parts fits lives owes pages reads may_leave core (knows pass) n cause = keeps-at core (knows pass) n gone durable c (condition.Down cause) e h in
-      subst (λ (p : NodeParts M). TurnsTo {E = E} tells faults reads p (seen n c pass core) (Ok Stopped)) view (record {
+      subst (λ (p : NodeParts M). TurnsTo {E = E} tells faults reads stages p (seen n c pass core) (Ok Stopped)) view (record {
         node = refl;
         answers = (cause, e);
         does = d.down;
@@ -91,13 +94,14 @@ module _ {K M : Type 0} (tells : Bool) (parts : K → CoreParts M) (fits : Base 
         paid = λ first r. r;
         whole = λ t same. whole-same (reads (parts core).medium);
         tested = λ t repository. tested-none n (knows pass) (knows pass) 0 (trail-none n (knows pass));
+        passes = λ t. passes-stored stages only d.stored t;
       })
 
   -- a node that had found no memory before
-  pub turned-wanting : {E : Type 0} (faults : M → ℕ) (core : K) (n : NodeId) (pass : Pass) (c : Condition) (x : E) → c ≡ condition.Wanting → {old : NodeParts M} → seen n c pass core ≡ old
-      → TurnsTo tells faults reads old (seen n c pass core) (Err x)
-  turned-wanting {E} faults core n pass c x e {old} view =
-      subst (λ (p : NodeParts M). TurnsTo {E = E} tells faults reads p (seen n c pass core) (Err x)) view (record {
+  pub turned-wanting : {E : Type 0} (faults : M → ℕ) (stages : M → List Stage) (core : K) (n : NodeId) (pass : Pass) (c : Condition) (x : E) → c ≡ condition.Wanting → {old : NodeParts M} → seen n c pass core ≡ old
+      → TurnsTo tells faults reads stages old (seen n c pass core) (Err x)
+  turned-wanting {E} faults stages core n pass c x e {old} view =
+      subst (λ (p : NodeParts M). TurnsTo {E = E} tells faults reads stages p (seen n c pass core) (Err x)) view (record {
         node = refl;
         answers = e;
         does = tt;
@@ -105,10 +109,11 @@ module _ {K M : Type 0} (tells : Bool) (parts : K → CoreParts M) (fits : Base 
         paid = λ first r. r;
         whole = λ t. tt;
         tested = λ t repository. tested-none n (knows pass) (knows pass) 0 (trail-none n (knows pass));
+        passes = λ t. tt;
       })
 
   -- a node that was at work
-  module _ {E : Type 0} (faults : M → ℕ) (core new : K) (n : NodeId) (gone : Bool) (durable : ℕ) (pass pass' : Pass) (c c' : Condition) (quiet : Bool) where
+  module _ {E : Type 0} (faults : M → ℕ) (stages : M → List Stage) (core new : K) (n : NodeId) (gone : Bool) (durable : ℕ) (pass pass' : Pass) (c c' : Condition) (quiet : Bool) where
     does-answer : (r : Result Turned E) → Keeps tells parts fits lives owes pages reads may_leave c' new (knows pass') n gone durable → IsCondition r c' → IfOk r (Answers quiet)
         → MatchBool quiet (IsQuiet n (knows pass) (knows pass') × (c' ≡ condition.AtWork)) (c' ≡ condition.AtWork → Grew (knows pass).own (knows pass').own)
         → IfOk r (λ t. Does t n (knows pass) (knows pass'))
@@ -139,8 +144,9 @@ module _ {K M : Type 0} (tells : Bool) (parts : K → CoreParts M) (fits : Base 
         → PaysFor (costs (knows pass).own) (faults (parts core).medium) (costs (knows pass').own) (faults (parts new).medium)
         → (IsTrue tells → c' ≢ condition.Wanting → StaysWhole (costs (knows pass).own) (costs (knows pass').own) (reads (parts core).medium) (reads (parts new).medium))
         → (IsTrue tells → is_broker n.kind ≡ false → HasTested n (knows pass) (knows pass'))
-        → {old : NodeParts M} → seen n c pass core ≡ old → TurnsTo tells faults reads old (seen n c' pass' new) r
-    turned-working r h is answers q adds paid whole tested {old} view = subst (λ (p : NodeParts M). TurnsTo {E = E} tells faults reads p (seen n c' pass' new) r) view (record {
+        → (IsTrue tells → c' ≢ condition.Wanting → PassesOn n (knows pass) (knows pass') (stages (parts core).medium) (stages (parts new).medium))
+        → {old : NodeParts M} → seen n c pass core ≡ old → TurnsTo tells faults reads stages old (seen n c' pass' new) r
+    turned-working r h is answers q adds paid whole tested passes {old} view = subst (λ (p : NodeParts M). TurnsTo {E = E} tells faults reads stages p (seen n c' pass' new) r) view (record {
       node = refl;
       answers = is;
       does = does-answer r h is answers q;
@@ -148,4 +154,5 @@ module _ {K M : Type 0} (tells : Bool) (parts : K → CoreParts M) (fits : Base 
       paid = paid;
       whole = λ t. whole-answer r is (StaysWhole (costs (knows pass).own) (costs (knows pass').own) (reads (parts core).medium) (reads (parts new).medium)) (whole t);
       tested = tested;
+      passes = λ t. whole-answer r is (PassesOn n (knows pass) (knows pass') (stages (parts core).medium) (stages (parts new).medium)) (passes t);
     })

@@ -2,6 +2,7 @@
 use Rattle.std.specs.Prelude.{◌≡◌, ◌≢◌, ◌≤◌, ◌<◌, ◌+◌, ℕ, Bool, true, List, [], ◌++◌, length, count_by, Result, Ok, IsTrue, IfOk, IfErr, OnOk, IsErrOf}
 use Rattle.stream_port.specs.Causes.{Rose}
 use Rattle.medium_port.specs.Image.{Image, NoMore}
+use Rattle.medium_port.specs.Moment.{LeavesOnly, Stage}
 use Rattle.page_gate.specs.States.{is_blank}
 use Rattle.pseudo_time.specs.declared.nodes.NodeId.{NodeId}
 use Rattle.effect_form.specs.declared.effects.Effect.{Effect}
@@ -60,14 +61,14 @@ IsReady b n log = is_ready b.script b.run b.acts n log ≡ true
 -- of the run that a walk begins with; whether it has a life, with the durable log on its medium; and whether these are the effects
 -- that it gave since its last append.
 module _ {K M : Type 0} (tells : Bool) (parts : K → CoreParts M) (fits : Base → K → Type 0) (lives : Base → K → Life → Type 0) (owes : K → List Effect → Type 0)
-    (faults pages : M → ℕ) (reads : M → Image) (may_leave : M → Image → Type 0) where
+    (faults pages : M → ℕ) (reads : M → Image) (may_leave : M → Image → Type 0) (stages : M → List Stage) where
   -- it stays the core of its node in its run, and its medium's count of faults doesn't fall
   pub record StaysOwn (old new : K) : Type 0 where
     pub node : (parts new).node ≡ (parts old).node
     pub run : (b : Base) → fits b old → fits b new
     pub later : faults (parts old).medium ≤ faults (parts new).medium
 
-  -- An input was given: the turn is what the rules give, and the core has the life after it. Nothing was written. A fault of the medium
+  -- An input was given: the turn is what the rules give, and the core has the life after it. Nothing was written, and nothing that crashes see was changed. A fault of the medium
   -- comes only where its count rose, and a damaged page never where media tell their content.
   pub record IsGiven (old new : K) (input : Input) (result : Result Turn HistoryFault) : Type 0 where
     pub same : StaysOwn old new
@@ -76,6 +77,7 @@ module _ {K M : Type 0} (tells : Bool) (parts : K → CoreParts M) (fits : Base 
     pub owed : (es : List Effect) → owes old es → IfOk result (λ t. owes new (es ++ t.effects))
     pub in_range : IfOk result (λ t. AreEffects t.effects × AreOuts t.outs)
     pub still : IsTrue tells → reads (parts new).medium ≡ reads (parts old).medium
+    pub stages_still : IsTrue tells → stages (parts new).medium ≡ stages (parts old).medium
     pub images : IsTrue tells → NoMore (may_leave (parts old).medium) (may_leave (parts new).medium)
     pub cause : IsErrOf result fault.Medium → Rose (faults (parts old).medium) (faults (parts new).medium)
     pub sound : IsTrue tells → IfErr result IsNotDamage
@@ -93,6 +95,7 @@ module _ {K M : Type 0} (tells : Bool) (parts : K → CoreParts M) (fits : Base 
     pub has : IsTrue tells → (b : Base) (l : Life) → lives b old l → l.fresh ≡ effects → OnOk result (lives b new (gated_life l))
     pub left : IsTrue tells → (log : List Effect) → LeavesLog (may_leave (parts old).medium) log → OnOk result (LeavesLog (may_leave (parts new).medium) (log ++ effects))
     pub images : IsTrue tells → (log : List Effect) → LeavesLog (may_leave (parts old).medium) log → (c : Image) → may_leave (parts new).medium c → HasPrefix log effects c
+    pub at_moments : IsTrue tells → (log : List Effect) → LeavesLog (may_leave (parts old).medium) log → LeavesOnly stages (parts old).medium (parts new).medium (HasPrefix log effects)
     pub intact : IsTrue tells → OnOk result (IsIntact (reads (parts old).medium) (reads (parts new).medium))
     pub nothing : IfErr result (λ f. f ≢ adding.Medium → (parts new).medium ≡ (parts old).medium)
     pub full : IfErr result (λ f. (number : ℕ) → f ≡ adding.Full number → IsFull (parts old).medium effects number)
@@ -115,5 +118,6 @@ module _ {K M : Type 0} (tells : Bool) (parts : K → CoreParts M) (fits : Base 
     pub able : OnOk result (((parts new).able ≡ true) × owes new [])
     pub found : IsTrue tells → IfOk result (HasFound old new)
     pub images : IsTrue tells → NoMore (may_leave (parts old).medium) (may_leave (parts new).medium)
+    pub at_moments : IsTrue tells → LeavesOnly stages (parts old).medium (parts new).medium (may_leave (parts old).medium)
     pub cause : IsErrOf result opening.Medium → Rose (faults (parts old).medium) (faults (parts new).medium)
     pub sound : IsTrue tells → (b : Base) → fits b old → ((c : Image) → may_leave (parts old).medium c → (log : List Effect) × (storage c ≡ Ok log) × IsReady b (parts old).node log) → (page : ℕ) → IsErrOf result (opening.Damaged page) → ⊥

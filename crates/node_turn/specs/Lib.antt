@@ -1,5 +1,6 @@
 pub mod Cores
 pub mod Lives
+pub mod Windows
 pub mod Costs
 pub mod Trails
 pub mod Nodes

@@ -6,6 +6,7 @@ use Rattle.pseudo_time.specs.Nodes.{is_broker}
 use Rattle.pseudo_time.specs.declared.down_causes.DownCause.{DownCause}
 use Rattle.pseudo_time.specs.declared.down_causes.DownCause.TheVariants as down
 use Rattle.medium_port.specs.Image.{Image}
+use Rattle.medium_port.specs.Moment.{Stage}
 use Rattle.page_gate.specs.States.{is_blank}
 use Rattle.effect_form.specs.declared.effects.Effect.{Effect}
 use Rattle.broker_laws.specs.Works.{AsksNobody}
@@ -67,10 +68,11 @@ pub record HasLife (b : Base) (n : NodeId) (d : DraftParts) (lives : Life → Ty
 abbrev pub up_flags : Bool → Bool → Flags
 up_flags gone due = record { known = true; up = true; gone = gone; due = due }
 
--- A call wrote nothing to the medium: what reads give stays, and its count of faults doesn't fall.
-pub record IsUnwritten {M : Type 0} (tells : Bool) (faults : M → ℕ) (reads : M → Image) (old new : M) : Type 0 where
+-- A call wrote nothing to the medium: what reads give stays, and what crashes see, and its count of faults doesn't fall.
+pub record IsUnwritten {M : Type 0} (tells : Bool) (faults : M → ℕ) (reads : M → Image) (stages : M → List Stage) (old new : M) : Type 0 where
   pub later : faults old ≤ faults new
   pub still : IsTrue tells → reads new ≡ reads old
+  pub stages_still : IsTrue tells → stages new ≡ stages old
 
 -- The image is full for a node of this life: it has the node's durable log, and nothing of its new effects, which are in range and need more pages than are blank.
 pub record IsFullFor (l : Life) (image : Image) : Type 0 where

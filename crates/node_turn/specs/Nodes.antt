@@ -4,6 +4,7 @@ use Rattle.pseudo_time.specs.declared.nodes.NodeId.{NodeId}
 use Rattle.pseudo_time.specs.Nodes.{is_broker}
 use Rattle.pseudo_time.specs.declared.down_causes.DownCause.{DownCause}
 use Rattle.medium_port.specs.Image.{Image}
+use Rattle.medium_port.specs.Moment.{Stage}
 use Rattle.atomic_table.specs.declared.shared.Seat.{Seat}
 use Rattle.seat_lock.specs.declared.views.View.{View}
 use Rattle.seat_lock.specs.Words.{knows}
@@ -21,6 +22,7 @@ use Rattle.node_turn.specs.Lives.{IsKept, IsCause}
 use Rattle.node_turn.specs.Cores.{IsIntact}
 use Rattle.node_turn.specs.Costs.{costs, PaysFor}
 use Rattle.node_turn.specs.Trails.{HasTested}
+use Rattle.node_turn.specs.Windows.{PassesOn}
 
 -- a node, as contracts see it
 pub record NodeParts (M : Type 0) : Type 0 where
@@ -74,8 +76,9 @@ Does Stopped n old new = (flags_at new n).up ≡ false
 abbrev pub StaysWhole : ℕ → ℕ → Image → Image → Type 0
 StaysWhole cost new_cost old new = new_cost ≡ cost → IsIntact old new
 
--- A turn, with its answer: what it did, what it cost in faults, and what the board was tested for.
-pub record TurnsTo {M E : Type 0} (tells : Bool) (faults : M → ℕ) (reads : M → Image) (old new : NodeParts M) (result : Result Turned E) : Type 0 where
+-- A turn, with its answer: what it did, what it cost in faults, what the board was tested for, and that a crash at any moment of it left
+-- the log of the life that the node had then.
+pub record TurnsTo {M E : Type 0} (tells : Bool) (faults : M → ℕ) (reads : M → Image) (stages : M → List Stage) (old new : NodeParts M) (result : Result Turned E) : Type 0 where
   pub node : new.node ≡ old.node
   pub answers : IsCondition result new.condition
   pub does : IfOk result (λ t. Does t old.node (sight old) (sight new))
@@ -83,6 +86,7 @@ pub record TurnsTo {M E : Type 0} (tells : Bool) (faults : M → ℕ) (reads : M
   pub paid : PaysFor (costs (sight old).own) (faults old.medium) (costs (sight new).own) (faults new.medium)
   pub whole : IsTrue tells → OnOk result (StaysWhole (costs (sight old).own) (costs (sight new).own) (reads old.medium) (reads new.medium))
   pub tested : IsTrue tells → is_broker old.node.kind ≡ false → HasTested old.node (sight old) (sight new)
+  pub passes : IsTrue tells → OnOk result (PassesOn old.node (sight old) (sight new) (stages old.medium) (stages new.medium))
 
 -- A meeting with a pass that had seen this: the node has then seen the longer of the two stories, and all else of it is as before.
 pub record MeetsWith {M : Type 0} (other : Sight) (old new : NodeParts M) : Type 0 where

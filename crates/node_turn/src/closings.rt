@@ -16,6 +16,7 @@ ghost use Rattle.broker_laws.specs.Works.{AsksNobody};
 ghost use Rattle.node_turn.specs.Cores.{IsIntact};
 ghost use Rattle.node_turn.specs.Lives.{AskNobody, IsUp, IsAfterAppend, no_draft};
 ghost use Rattle.node_turn.specs.Trails.{Trail};
+ghost use Rattle.node_turn.specs.Windows.{PassesOn};
 
 use crate::cores::StoredCore;
 use crate::drafts::Draft;
@@ -143,6 +144,8 @@ pub fn close<K: StoredCore<M>, F: Fates, C: Clock, M: Medium, R: Wait>(
     ensures intact { IsTrue M.tells → OnOk result.2 (IsIntact (M.reads (K.parts core).medium) (M.reads (K.parts result.1).medium)) }
     ensures nothing { IfErr result.2 (λ f. (number : ℕ) → f ≡ adding.Full number → (K.parts result.1).medium ≡ (K.parts core).medium) }
     ensures cause { IsErrOf result.2 adding.Medium → Rose (M.faults (K.parts core).medium) (M.faults (K.parts result.1).medium) }
+    ensures passes { IsTrue M.tells → PassesOn node (knows pass) (knows result.0)
+        (M.stages (K.parts core).medium) (M.stages (K.parts result.1).medium) }
 {
     let Ok(outs) = leaving(alloc, node, &core, draft.outs()) else {
         return (pass, core, Err(StoreFault::NoMemory));

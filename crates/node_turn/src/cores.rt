@@ -43,25 +43,25 @@ pub trait StoredCore<M: Medium>: Drop {
     fn go(&mut self) -> Result<Turn, HistoryFault>
         requires able { (parts self.old).able ≡ true }
         ensures given { is_broker (parts self.old).node.kind ≡ true →
-            IsGiven M.tells parts fits lives owes M.faults M.page_count M.reads M.may_leave self.old self.new Going result };
+            IsGiven M.tells parts fits lives owes M.faults M.page_count M.reads M.may_leave M.stages self.old self.new Going result };
 
     /// Takes a message from a node.
     fn take(&mut self, from: NodeId, message: &Message) -> Result<Turn, HistoryFault>
         requires able { (parts self.old).able ≡ true }
         requires message { IsMessage message.now }
-        ensures given { IsGiven M.tells parts fits lives owes M.faults M.page_count M.reads M.may_leave self.old self.new (Taking from message.now) result };
+        ensures given { IsGiven M.tells parts fits lives owes M.faults M.page_count M.reads M.may_leave M.stages self.old self.new (Taking from message.now) result };
 
     /// A repository learns how an attempt was decided. Nothing is said of another node's.
     fn learn(&mut self, stamp: Stamp, committed: bool) -> Result<Turn, HistoryFault>
         requires able { (parts self.old).able ≡ true }
         ensures given { is_broker (parts self.old).node.kind ≡ false →
-            IsGiven M.tells parts fits lives owes M.faults M.page_count M.reads M.may_leave self.old self.new (Learning stamp committed) result };
+            IsGiven M.tells parts fits lives owes M.faults M.page_count M.reads M.may_leave M.stages self.old self.new (Learning stamp committed) result };
 
     /// Hears a moment of at most 2^63.
     fn hear(&mut self, moment: u64) -> Result<Turn, HistoryFault>
         requires able { (parts self.old).able ≡ true }
         requires moment { moment ≤ 2 ^ 63 }
-        ensures given { IsGiven M.tells parts fits lives owes M.faults M.page_count M.reads M.may_leave self.old self.new (Hearing moment) result };
+        ensures given { IsGiven M.tells parts fits lives owes M.faults M.page_count M.reads M.may_leave M.stages self.old self.new (Hearing moment) result };
 
     /// Whether a repository's log has a Decide or a Learn of the attempt. Nothing is said of another
     /// node's.
@@ -75,12 +75,12 @@ pub trait StoredCore<M: Medium>: Drop {
         requires able { (parts self).able ≡ true }
         requires ranges { AreEffects effects.now }
         requires owed { owes self effects.now }
-        ensures { IsAppended M.tells parts fits lives owes M.faults M.page_count M.reads M.may_leave self result.0 effects.now result.1 };
+        ensures { IsAppended M.tells parts fits lives owes M.faults M.page_count M.reads M.may_leave M.stages self result.0 effects.now result.1 };
 
     /// Opens its medium anew, and the core over the log that is found. Ok tells how many effects
     /// these are.
     fn reopen(self, alloc: Global) -> (Self, Result<usize, OpenFault>)
-        ensures { IsReopened M.tells parts fits lives owes M.faults M.page_count M.reads M.may_leave self result.0 result.1 };
+        ensures { IsReopened M.tells parts fits lives owes M.faults M.page_count M.reads M.may_leave M.stages self result.0 result.1 };
 
     /// Its medium.
     fn release(self) -> M

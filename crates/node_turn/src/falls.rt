@@ -6,6 +6,7 @@ ghost use Rattle.node_turn.specs.Lives.{IsStruck, IsCause, Keeps};
 ghost use Rattle.node_turn.specs.Costs.{costs, PaysFor, cost_of_cause};
 ghost use Rattle.node_turn.specs.Trails.{Trail};
 ghost use Rattle.node_turn.specs.Nodes.{Grew};
+ghost use Rattle.node_turn.specs.Windows.{PassesOn};
 
 use crate::conditions::Condition;
 use crate::cores::StoredCore;
@@ -36,6 +37,8 @@ pub fn go_down<K: StoredCore<M>, F: Fates, C: Clock, M: Medium, R: Wait>(
     ensures stops { result.1 ≢ Condition.AtWork }
     ensures trail { (cost : ℕ) × (cost ≤ cost_of_cause cause) × (result.1 ≢ Condition.Wanting → cost ≡ cost_of_cause cause) ×
         Trail node (knows pass) (knows result.0) [] [] [] cost }
+    ensures passes { IsTrue M.tells → PassesOn node (knows pass) (knows result.0)
+        (M.stages (K.parts core.now).medium) (M.stages (K.parts core.now).medium) }
 {
     let (pass, went) = wire.down(rt, node, pass, cause);
     match went {
@@ -91,6 +94,8 @@ pub fn open_anew<K: StoredCore<M>, F: Fates, C: Clock, M: Medium, R: Wait>(
         (M.faults (K.parts result.1.core).medium) }
     ensures dear { IsTrue M.tells → result.1.condition ≢ Condition.Wanting → costs (knows pass).own < costs (knows result.0).own }
     ensures grew { result.1.condition ≡ Condition.AtWork → Grew (knows pass).own (knows result.0).own }
+    ensures passes { IsTrue M.tells → PassesOn node (knows pass) (knows result.0)
+        (M.stages (K.parts core).medium) (M.stages (K.parts result.1.core).medium) }
 {
     let (core, opened) = core.reopen(alloc);
     match opened {

@@ -55,8 +55,9 @@ fn go<K: StoredCore<M>, F: Fates, C: Clock, M: Medium, R: Wait>(
     ensures grew { OnOk result.1 (Grew (knows pass).own (knows result.0).own) }
     ensures err { IfErr result.1 (λ f. IsAfter M.tells K.parts K.fits K.lives K.owes M.page_count M.reads M.may_leave f core.new
         (knows result.0) node draft.old.durable) }
+    ensures durable { draft.new.durable ≡ draft.old.durable }
     ensures trail { Trail node (knows pass) (knows result.0) [] [] [] 0 }
-    ensures unwritten { IsUnwritten M.tells M.faults M.reads (K.parts core.old).medium (K.parts core.new).medium }
+    ensures unwritten { IsUnwritten M.tells M.faults M.reads M.stages (K.parts core.old).medium (K.parts core.new).medium }
     ensures cause { IsErrOf result.1 fault.Medium → Rose (M.faults (K.parts core.old).medium) (M.faults (K.parts core.new).medium) }
 {
     let (pass, went) = wire.go(rt, node, pass);
@@ -88,8 +89,9 @@ fn hear<K: StoredCore<M>, F: Fates, C: Clock, M: Medium, R: Wait>(
     ensures grew { OnOk result.1 (Grew (knows pass).own (knows result.0).own) }
     ensures err { IfErr result.1 (λ f. IsAfter M.tells K.parts K.fits K.lives K.owes M.page_count M.reads M.may_leave f core.new
         (knows result.0) node draft.old.durable) }
+    ensures durable { draft.new.durable ≡ draft.old.durable }
     ensures trail { Trail node (knows pass) (knows result.0) [] [] [] 0 }
-    ensures unwritten { IsUnwritten M.tells M.faults M.reads (K.parts core.old).medium (K.parts core.new).medium }
+    ensures unwritten { IsUnwritten M.tells M.faults M.reads M.stages (K.parts core.old).medium (K.parts core.new).medium }
     ensures cause { IsErrOf result.1 fault.Medium → Rose (M.faults (K.parts core.old).medium) (M.faults (K.parts core.new).medium) }
 {
     let (pass, heard) = wire.hear(rt, node, pass);
@@ -133,7 +135,7 @@ fn take<K: StoredCore<M>, F: Fates, C: Clock, M: Medium, R: Wait>(
     ensures draft { IfOk result.1 (λ came. arrived came ≡ false → draft.new ≡ draft.old) }
     ensures durable { draft.new.durable ≡ draft.old.durable }
     ensures trail { Trail node (knows pass) (knows result.0) [] [] [] 0 }
-    ensures unwritten { IsUnwritten M.tells M.faults M.reads (K.parts core.old).medium (K.parts core.new).medium }
+    ensures unwritten { IsUnwritten M.tells M.faults M.reads M.stages (K.parts core.old).medium (K.parts core.new).medium }
     ensures cause { IsErrOf result.1 fault.Medium → Rose (M.faults (K.parts core.old).medium) (M.faults (K.parts core.new).medium) }
 {
     let (pass, taken) = wire.take(rt, node, pass);
@@ -173,8 +175,9 @@ pub fn begin<K: StoredCore<M>, F: Fates, C: Clock, M: Medium, R: Wait>(
     ensures quiet { result.1 ≡ Ok false → IsQuiet node (knows pass) (knows result.0) × (draft.new ≡ draft.old) }
     ensures err { IfErr result.1 (λ f. IsAfter M.tells K.parts K.fits K.lives K.owes M.page_count M.reads M.may_leave f core.new
         (knows result.0) node draft.old.durable) }
+    ensures durable { draft.new.durable ≡ draft.old.durable }
     ensures trail { Trail node (knows pass) (knows result.0) [] [] [] 0 }
-    ensures unwritten { IsUnwritten M.tells M.faults M.reads (K.parts core.old).medium (K.parts core.new).medium }
+    ensures unwritten { IsUnwritten M.tells M.faults M.reads M.stages (K.parts core.old).medium (K.parts core.new).medium }
     ensures cause { IsErrOf result.1 fault.Medium → Rose (M.faults (K.parts core.old).medium) (M.faults (K.parts core.new).medium) }
 {
     if node.kind == NodeKind::Broker && !gone {
@@ -219,7 +222,7 @@ pub fn take_more<K: StoredCore<M>, F: Fates, C: Clock, M: Medium, R: Wait>(
         (knows result.0) node draft.old.durable) }
     ensures durable { draft.new.durable ≡ draft.old.durable }
     ensures trail { Trail node (knows pass) (knows result.0) [] [] [] 0 }
-    ensures unwritten { IsUnwritten M.tells M.faults M.reads (K.parts core.old).medium (K.parts core.new).medium }
+    ensures unwritten { IsUnwritten M.tells M.faults M.reads M.stages (K.parts core.old).medium (K.parts core.new).medium }
     ensures cause { IsErrOf result.1 fault.Medium → Rose (M.faults (K.parts core.old).medium) (M.faults (K.parts core.new).medium) }
 {
     for _ in 0..15u32 {

@@ -65,7 +65,7 @@ fn look_up<K: StoredCore<M>, F: Fates, C: Clock, M: Medium, R: Wait>(
     ensures err { IfErr result.1 (λ f. IsAfter M.tells K.parts K.fits K.lives K.owes M.page_count M.reads M.may_leave f core.new
         (knows result.0) node draft.old.durable) }
     ensures durable { draft.new.durable ≡ draft.old.durable }
-    ensures unwritten { IsUnwritten M.tells M.faults M.reads (K.parts core.old).medium (K.parts core.new).medium }
+    ensures unwritten { IsUnwritten M.tells M.faults M.reads M.stages (K.parts core.old).medium (K.parts core.new).medium }
     ensures cause { IsErrOf result.1 fault.Medium → Rose (M.faults (K.parts core.old).medium) (M.faults (K.parts core.new).medium) }
 {
     if core.knows(stamp) {
@@ -108,7 +108,7 @@ fn look_up_asked<K: StoredCore<M>, F: Fates, C: Clock, M: Medium, R: Wait>(
     ensures err { IfErr result.1 (λ f. IsAfter M.tells K.parts K.fits K.lives K.owes M.page_count M.reads M.may_leave f core.new
         (knows result.0) node draft.old.durable) }
     ensures durable { draft.new.durable ≡ draft.old.durable }
-    ensures unwritten { IsUnwritten M.tells M.faults M.reads (K.parts core.old).medium (K.parts core.new).medium }
+    ensures unwritten { IsUnwritten M.tells M.faults M.reads M.stages (K.parts core.old).medium (K.parts core.new).medium }
     ensures cause { IsErrOf result.1 fault.Medium → Rose (M.faults (K.parts core.old).medium) (M.faults (K.parts core.new).medium) }
 {
     match asked {
@@ -139,7 +139,7 @@ pub fn look_up_all<K: StoredCore<M>, F: Fates, C: Clock, M: Medium, R: Wait>(
     ensures err { IfErr result.1 (λ f. IsAfter M.tells K.parts K.fits K.lives K.owes M.page_count M.reads M.may_leave f core.new
         (knows result.0) node draft.old.durable) }
     ensures durable { draft.new.durable ≡ draft.old.durable }
-    ensures unwritten { IsUnwritten M.tells M.faults M.reads (K.parts core.old).medium (K.parts core.new).medium }
+    ensures unwritten { IsUnwritten M.tells M.faults M.reads M.stages (K.parts core.old).medium (K.parts core.new).medium }
     ensures cause { IsErrOf result.1 fault.Medium → Rose (M.faults (K.parts core.old).medium) (M.faults (K.parts core.new).medium) }
 {
     if is_broker(node) {

@@ -91,7 +91,7 @@ impl<K: StoredCore<M>, F: Fates, C: Clock, M: Medium> Node<K, F, C, M> {
     ) -> (Node<K, F, C, M>, Result<Turned, AllocError>)
         requires pass { IsWirePass wire.now.lock self.pass }
         ensures pass { IsWirePass wire.now.lock result.0.pass }
-        ensures turns { TurnsTo M.tells M.faults M.reads self result.0 result.1 }
+        ensures turns { TurnsTo M.tells M.faults M.reads M.stages self result.0 result.1 }
     {
         let Node {
             alloc,

@@ -2,6 +2,7 @@
 ghost use Rattle.std.specs.Prelude.{◌≡◌, ◌≤◌, ◌↔◌, false, Ok, Err, List, ℕ, IsTrue, IfOk, IfErr, length};
 ghost use Rattle.stream_port.specs.Causes.{Rose};
 ghost use Rattle.medium_port.specs.Image.{Image, Only, NoMore};
+ghost use Rattle.medium_port.specs.Moment.{LeavesOnly};
 ghost use Rattle.effect_form.specs.Effects.{AreEffects};
 ghost use Rattle.version_store.specs.Storage.{storage};
 ghost use Rattle.version_store.specs.StoreWords.{medium_of, effects_in, opened};
@@ -22,6 +23,7 @@ pub fn open_again<M: Medium>(
     ensures effects { IsTrue M.tells → IfOk result (λ r. effects_in M.reads r.0 ≡ r.1.items) }
     ensures only { IsTrue M.tells → IfOk result (λ r. Only (M.reads (medium_of r.0)) (M.may_leave (medium_of r.0))) }
     ensures images { IsTrue M.tells → NoMore (M.may_leave medium) (M.may_leave (opened result)) }
+    ensures any_moment { IsTrue M.tells → LeavesOnly M.stages medium (opened result) (M.may_leave medium) }
     ensures damaged { IsTrue M.tells → IfErr result
         (λ e. (page : ℕ) → e.1 ≡ OpenFault.Damaged page → (image : Image) × M.may_leave medium image × (storage image ≡ Err page)) }
     ensures ranges { IfOk result (λ r. AreEffects r.1.items) }

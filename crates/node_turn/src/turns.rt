@@ -10,6 +10,7 @@ ghost use Rattle.node_turn.specs.Lives.{IsUp, IsAfter, Keeps, no_draft};
 ghost use Rattle.node_turn.specs.Costs.{costs, PaysFor};
 ghost use Rattle.node_turn.specs.Trails.{Trail, HasTested};
 ghost use Rattle.node_turn.specs.Nodes.{Adds, Grew, StaysWhole, IsQuiet};
+ghost use Rattle.node_turn.specs.Windows.{PassesOn};
 
 use crate::closings::close;
 use crate::conditions::Condition;
@@ -49,6 +50,9 @@ fn give_up<K: StoredCore<M>, F: Fates, C: Clock, M: Medium, R: Wait>(
         PaysFor (costs (knows pass).own) before (costs (knows result.0).own) (M.faults (K.parts result.1.core).medium) }
     ensures dear { IsTrue M.tells → result.1.condition ≢ Condition.Wanting → costs (knows pass).own < costs (knows result.0).own }
     ensures grew { result.1.condition ≡ Condition.AtWork → Grew (knows pass).own (knows result.0).own }
+    ensures wanting { fault ≡ HistoryFault.NoMemory → result.1.condition ≡ Condition.Wanting }
+    ensures passes { IsTrue M.tells → PassesOn node (knows pass) (knows result.0)
+        (M.stages (K.parts core).medium) (M.stages (K.parts result.1.core).medium) }
 {
     match fault {
         HistoryFault::NoMemory => (
@@ -98,6 +102,8 @@ fn end<K: StoredCore<M>, F: Fates, C: Clock, M: Medium, R: Wait>(
     ensures paid { PaysFor (costs (knows pass).own) (M.faults (K.parts core).medium) (costs (knows result.0).own) (M.faults (K.parts result.1.core).medium) }
     ensures whole { IsTrue M.tells → result.1.condition ≢ Condition.Wanting →
         StaysWhole (costs (knows pass).own) (costs (knows result.0).own) (M.reads (K.parts core).medium) (M.reads (K.parts result.1.core).medium) }
+    ensures passes { IsTrue M.tells → PassesOn node (knows pass) (knows result.0)
+        (M.stages (K.parts core).medium) (M.stages (K.parts result.1.core).medium) }
 {
     let durable = draft.durable();
     let (pass, core, closed) = close(alloc, rt, wire, node, gone, core, draft, pass);
@@ -159,6 +165,8 @@ fn go_on<K: StoredCore<M>, F: Fates, C: Clock, M: Medium, R: Wait>(
     ensures paid { PaysFor (costs (knows pass).own) (M.faults (K.parts core).medium) (costs (knows result.0).own) (M.faults (K.parts result.1.core).medium) }
     ensures whole { IsTrue M.tells → result.1.condition ≢ Condition.Wanting →
         StaysWhole (costs (knows pass).own) (costs (knows result.0).own) (M.reads (K.parts core).medium) (M.reads (K.parts result.1.core).medium) }
+    ensures passes { IsTrue M.tells → result.1.condition ≢ Condition.Wanting →
+        PassesOn node (knows pass) (knows result.0) (M.stages (K.parts core).medium) (M.stages (K.parts result.1.core).medium) }
     ensures tested { IsTrue M.tells → is_broker node.kind ≡ false → HasTested node (knows pass) (knows result.0) }
     ensures adds { Adds (knows pass).own (knows result.0).own }
 {
@@ -202,6 +210,8 @@ pub fn work<K: StoredCore<M>, F: Fates, C: Clock, M: Medium, R: Wait>(
         (M.faults (K.parts result.1.core).medium) }
     ensures whole { IsTrue M.tells → result.1.condition ≢ Condition.Wanting →
         StaysWhole (costs (knows pass).own) (costs (knows result.0).own) (M.reads (K.parts hand.core).medium) (M.reads (K.parts result.1.core).medium) }
+    ensures passes { IsTrue M.tells → result.1.condition ≢ Condition.Wanting →
+        PassesOn node (knows pass) (knows result.0) (M.stages (K.parts hand.core).medium) (M.stages (K.parts result.1.core).medium) }
     ensures tested { IsTrue M.tells → is_broker node.kind ≡ false → HasTested node (knows pass) (knows result.0) }
     ensures adds { Adds (knows pass).own (knows result.0).own }
     ensures quiet { MatchBool result.2 (IsQuiet node (knows pass) (knows result.0) ×

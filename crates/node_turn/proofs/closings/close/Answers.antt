@@ -7,6 +7,7 @@ use Rattle.wire_lock.specs.Sights.{base_at, life_at}
 use Rattle.node_turn.proofs.LifeLemmas.{on-ok, on-err, up-stored, stored-looked}
 use Rattle.node_turn.proofs.TrailLemmas.{trail-none, trail-looked, trail-gated}
 use Rattle.node_turn.proofs.AppendLemmas.{appended-at, full-same, cause-append, after-append, stored-appended, up-gated, owed-is}
+use Rattle.node_turn.proofs.PhaseLemmas.{passes-stored, passes-appended, passes-ungated, passes-closed}
 use Rattle.node_turn.proofs.closings.close.Goals as goal
 
 pub returns-in_default-clause-err : goal.returns-in_default-clause-err
@@ -74,3 +75,21 @@ gate-pass-requires-clause-owed g c = λ t.
 pub gate-pass-requires-clause-decides : goal.gate-pass-requires-clause-decides
 gate-pass-requires-clause-decides g c = λ t.
     c.as_slice-in-Ok-appended.ensures.value ∙ (c.in-Ok-decisions.ensures ∙ ap (decided_by c.args.node) (c.effects.ensures ∙ (c.requires.up.life t).effects))
+
+pub returns-in_default-clause-passes : goal.returns-in_default-clause-passes
+returns-in_default-clause-passes g c = λ told. passes-stored g.M.Medium.stages g.met.M.Medium.only_now (up-stored c.requires.up) told
+
+pub returns-in_default-decisions-clause-passes : goal.returns-in_default-decisions-clause-passes
+returns-in_default-decisions-clause-passes g c = λ told. passes-stored g.M.Medium.stages g.met.M.Medium.only_now (up-stored c.requires.up) told
+
+pub returns-in_default-checked_add-clause-passes : goal.returns-in_default-checked_add-clause-passes
+returns-in_default-checked_add-clause-passes g c = λ told. passes-stored g.M.Medium.stages g.met.M.Medium.only_now (up-stored c.requires.up) told
+
+pub returns-in-Err-clause-passes : goal.returns-in-Err-clause-passes
+returns-in-Err-clause-passes g c = λ told. passes-appended g.met.M.Medium.only_now c.requires.up (appended-at c.effects-3.ensures c.append-core.ensures) told
+
+pub returns-in-Err-gated-clause-passes : goal.returns-in-Err-gated-clause-passes
+returns-in-Err-gated-clause-passes g c = λ told. passes-ungated g.met.M.Medium.only_now c.requires.up (appended-at c.effects-3.ensures c.append-core.ensures) told c.requires.pass.own (on-err _ _ _ c.in-Err-gated.is c.gate-pass.ensures.err)
+
+pub returns-clause-passes : goal.returns-clause-passes
+returns-clause-passes g c = λ told. passes-closed g.met.M.Medium.only_now c.requires.up (appended-at c.effects-3.ensures c.append-core.ensures) told _ c.in-Ok-appended.is c.requires.pass.own (on-ok _ _ _ c.in-Ok-gated.is c.gate-pass.ensures.ok)

@@ -4,6 +4,8 @@ use Rattle.node_turn.specs.Costs.{cost_of_cause}
 use Rattle.node_turn.proofs.LifeLemmas.{on-ok, on-err, stored-looked}
 use Rattle.node_turn.proofs.TrailLemmas.{trail-looked, trail-added}
 use Rattle.node_turn.proofs.FallLemmas.{had-nothing, down-fallen}
+use Rattle.message_core.proofs.NodeLemmas.{same_node-refl}
+use Rattle.node_turn.proofs.PhaseLemmas.{passes-seen, passes-fallen}
 use Rattle.node_turn.proofs.falls.go_down.Goals as goal
 
 pub down-pass-requires-clause-none : goal.down-pass-requires-clause-none
@@ -21,3 +23,9 @@ returns-in-Ok-clause-keeps g c = λ gone count. down-fallen c.args.cause c.requi
 pub returns-in-Ok-clause-trail : goal.returns-in-Ok-clause-trail
 returns-in-Ok-clause-trail g c =
     (cost_of_cause c.args.cause + 0, omega arith, λ ne. omega arith, trail-added c.args.node [] (cost_of_cause c.args.cause + 0) c.requires.struck.stored.own c.requires.pass.own refl refl refl (on-ok _ _ _ c.in-Ok.is c.down-pass.ensures.ok).added)
+
+pub returns-in-Err-clause-passes : goal.returns-in-Err-clause-passes
+returns-in-Err-clause-passes g c = λ told. passes-seen g.M.Medium.stages g.met.M.Medium.only_now c.requires.struck.stored c.requires.pass.own (on-err _ _ _ c.in-Err.is c.down-pass.ensures.err) told
+
+pub returns-in-Ok-clause-passes : goal.returns-in-Ok-clause-passes
+returns-in-Ok-clause-passes g c = λ told. passes-fallen g.M.Medium.stages g.met.M.Medium.only_now c.requires.struck.stored c.requires.pass.own (same_node-refl c.args.node) (on-ok _ _ _ c.in-Ok.is c.down-pass.ensures.ok) told

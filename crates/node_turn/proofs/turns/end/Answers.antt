@@ -8,6 +8,7 @@ use Rattle.node_turn.proofs.CostLemmas.{pays-none, pays-one}
 use Rattle.node_turn.proofs.LifeLemmas.{on-ok, if-ok, on-err, if-err}
 use Rattle.node_turn.proofs.TrailLemmas.{trail-joins, trail-cost}
 use Rattle.node_turn.proofs.PageLemmas.{whole-same}
+use Rattle.node_turn.proofs.PhaseLemmas.{passes-on}
 use Rattle.node_turn.proofs.turns.end.Goals as goal
 
 pub returns-in-Ok-clause-keeps : goal.returns-in-Ok-clause-keeps
@@ -86,3 +87,9 @@ returns-in-Full-clause-whole g c = λ told ne same.
     let m = if-err _ _ _ c.in-Err.is c.close-pass.ensures.nothing c.in-Full.pages c.in-Full.is in
     subst (λ x. IsIntact (g.M.Medium.reads (g.K.StoredCore.parts c.args.core).medium) (g.M.Medium.reads x)) (sym m)
     (whole-same (g.M.Medium.reads (g.K.StoredCore.parts c.args.core).medium))
+
+pub returns-in-Medium-clause-passes : goal.returns-in-Medium-clause-passes
+returns-in-Medium-clause-passes g c = λ told. passes-on (c.close-pass.ensures.passes told) (c.open_anew.ensures.passes told)
+
+pub returns-in-Full-clause-passes : goal.returns-in-Full-clause-passes
+returns-in-Full-clause-passes g c = λ told. passes-on (c.close-pass.ensures.passes told) (c.go_down-pass.ensures.passes told)

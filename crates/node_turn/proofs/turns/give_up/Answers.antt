@@ -2,6 +2,7 @@ use Rattle.std.proofs.Common.{refl, arith}
 use Rattle.seat_lock.specs.Words.{knows}
 use Rattle.node_turn.proofs.CostLemmas.{pays-none, pays-one}
 use Rattle.node_turn.proofs.TrailLemmas.{trail-none, trail-cost}
+use Rattle.node_turn.proofs.PhaseLemmas.{passes-stored}
 use Rattle.node_turn.proofs.turns.give_up.Goals as goal
 
 pub returns-in-NoMemory-clause-keeps : goal.returns-in-NoMemory-clause-keeps
@@ -43,3 +44,6 @@ returns-in-Damaged-clause-dear g c = λ told ne. absurd ((rw c.in-Damaged.is at 
 
 pub returns-in-Damaged-clause-grew : goal.returns-in-Damaged-clause-grew
 returns-in-Damaged-clause-grew g c = λ w. absurd (c.go_down-pass.ensures.stops w)
+
+pub returns-in-NoMemory-clause-passes : goal.returns-in-NoMemory-clause-passes
+returns-in-NoMemory-clause-passes g c = λ told. passes-stored g.M.Medium.stages g.met.M.Medium.only_now (rw c.in-NoMemory.is at c.requires.after) told

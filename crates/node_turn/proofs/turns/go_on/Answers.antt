@@ -9,6 +9,7 @@ use Rattle.node_turn.specs.Lives.{IsAfter}
 use Rattle.node_turn.specs.Trails.{AreSought}
 use Rattle.node_turn.proofs.CostLemmas.{pays-none}
 use Rattle.node_turn.proofs.LifeLemmas.{on-ok, if-err}
+use Rattle.node_turn.proofs.PhaseLemmas.{passes-on, passes-up, passes-after}
 use Rattle.node_turn.proofs.SeekLemmas.{seeks-weaker, tested-none, tested-seeks, tested-after, tested-before, tested-sent}
 use Rattle.node_turn.proofs.TrailLemmas.{trail-joins, trail-cost}
 use Rattle.node_turn.proofs.turns.go_on.Goals as goal
@@ -97,3 +98,32 @@ pub returns-clause-adds : goal.returns-clause-adds
 returns-clause-adds g c =
     let t = trail-joins (trail-joins c.take_more-pass.ensures.trail c.look_up_all-pass.ensures.seeks.trail) c.end.ensures.sends.2 in
     (t.own, t.adds)
+
+pub returns-in-Err-clause-passes : goal.returns-in-Err-clause-passes
+returns-in-Err-clause-passes g c = λ told ne.
+    let p = c.take_more-pass.ensures in
+    passes-on
+    (passes-after g.M.Medium.stages g.met.M.Medium.only_now c.requires.up p.trail (p.unwritten.stages_still told) told c.in-Err.fault (if-err _ _ _ c.in-Err.is p.err) (λ e. ne (c.give_up.ensures.wanting e)))
+    (c.give_up.ensures.passes told)
+
+pub returns-in-Err-sought-clause-passes : goal.returns-in-Err-sought-clause-passes
+returns-in-Err-sought-clause-passes g c = λ told ne.
+    let p = c.take_more-pass.ensures in
+    let q = c.look_up_all-pass.ensures in
+    let u = on-ok _ _ _ c.in_default.is p.up in
+    passes-on
+    (passes-up g.M.Medium.stages g.met.M.Medium.only_now c.requires.up p.trail (p.unwritten.stages_still told) told u p.durable)
+    (passes-on
+    (passes-after g.M.Medium.stages g.met.M.Medium.only_now u q.seeks.trail (q.unwritten.stages_still told) told c.in-Err-sought.fault (if-err _ _ _ c.in-Err-sought.is q.err) (λ e. ne (c.give_up-in-Err-sought.ensures.wanting e)))
+    (c.give_up-in-Err-sought.ensures.passes told))
+
+pub returns-clause-passes : goal.returns-clause-passes
+returns-clause-passes g c = λ told ne.
+    let p = c.take_more-pass.ensures in
+    let q = c.look_up_all-pass.ensures in
+    let u = on-ok _ _ _ c.in_default.is p.up in
+    passes-on
+    (passes-up g.M.Medium.stages g.met.M.Medium.only_now c.requires.up p.trail (p.unwritten.stages_still told) told u p.durable)
+    (passes-on
+    (passes-up g.M.Medium.stages g.met.M.Medium.only_now u q.seeks.trail (q.unwritten.stages_still told) told (on-ok _ _ _ c.in_default-sought.is q.up) q.durable)
+    (c.end.ensures.passes told))

@@ -6,6 +6,7 @@ use Rattle.node_turn.specs.Cores.{IsIntact}
 use Rattle.node_turn.specs.Lives.{DraftParts, IsUp, IsAfter}
 use Rattle.node_turn.proofs.CostLemmas.{pays-none}
 use Rattle.node_turn.proofs.LifeLemmas.{if-ok, if-err, either-gone}
+use Rattle.node_turn.proofs.PhaseLemmas.{passes-on, passes-up, passes-after, up-new}
 use Rattle.node_turn.proofs.PageLemmas.{whole-same}
 use Rattle.node_turn.proofs.SeekLemmas.{tested-none, tested-after}
 use Rattle.node_turn.proofs.TrailLemmas.{trail-joins, trail-cost, adds-more, grew-more, more-grew}
@@ -102,3 +103,22 @@ returns-clause-adds g c = let t = c.begin-pass.ensures.trail in (t.own, t.adds)
 
 pub returns-clause-quiet : goal.returns-clause-quiet
 returns-clause-quiet g c = ((c.begin-pass.ensures.quiet (c.in-Ok.is ∙ ap (λ b. Ok b) c.if-started.false)).0, refl)
+
+pub returns-in-Err-clause-passes : goal.returns-in-Err-clause-passes
+returns-in-Err-clause-passes g c = λ told ne.
+    let p = c.begin-pass.ensures in
+    passes-on
+    (passes-after g.M.Medium.stages g.met.M.Medium.only_now (up-new (sym c.new-draft.ensures) c.requires.up) p.trail (p.unwritten.stages_still told) told c.in-Err.fault (if-err _ _ _ c.in-Err.is p.err) (λ e. ne (c.give_up-pass.ensures.wanting e)))
+    (c.give_up-pass.ensures.passes told)
+
+pub returns-then-started-clause-passes : goal.returns-then-started-clause-passes
+returns-then-started-clause-passes g c = λ told ne.
+    let p = c.begin-pass.ensures in
+    passes-on
+    (passes-up g.M.Medium.stages g.met.M.Medium.only_now (up-new (sym c.new-draft.ensures) c.requires.up) p.trail (p.unwritten.stages_still told) told (if-ok _ _ _ c.in-Ok.is p.up) p.durable)
+    (c.go_on-pass.ensures.passes told ne)
+
+pub returns-clause-passes : goal.returns-clause-passes
+returns-clause-passes g c = λ told ne.
+    let p = c.begin-pass.ensures in
+    passes-up g.M.Medium.stages g.met.M.Medium.only_now (up-new (sym c.new-draft.ensures) c.requires.up) p.trail (p.unwritten.stages_still told) told (if-ok _ _ _ c.in-Ok.is p.up) p.durable

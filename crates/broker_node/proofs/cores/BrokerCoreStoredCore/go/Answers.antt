@@ -16,6 +16,7 @@ returns g c = record {
     owed = λ es o. tt;
     in_range = c.in_ok-turn.ensures.in_range;
     still = λ t. refl;
+    stages_still = λ t. refl;
     images = λ t i left. left;
     cause = λ e. absurd (cc e);
     sound = λ t. tt;

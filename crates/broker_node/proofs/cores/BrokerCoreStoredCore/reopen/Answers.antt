@@ -1,6 +1,7 @@
 use Rattle.std.proofs.Common.{◌≤◌, refl, ap, sym, subst, ◌∙◌, Ok, List}
 use Rattle.pseudo_time.specs.Nodes.{broker}
 use Rattle.medium_port.specs.Image.{NoMore}
+use Rattle.medium_port.specs.Moment.{LeavesOnly}
 use Rattle.effect_form.specs.declared.effects.Effect.{Effect}
 use Rattle.version_store.specs.StoreWords.{medium_of}
 use Rattle.broker_core.specs.Tasks.{Scripted}
@@ -18,6 +19,7 @@ returns-in-Err-open g c =
     reopened-none old _ m (sym c.medium_from.ensures) refl (λ b f. f) c.damage_of.result
     (subst (λ z. g.M.Medium.faults m ≤ g.M.Medium.faults z) (sym c.release.ensures) c.in-Ok.ensures.later)
     (λ t. subst (λ z. NoMore (g.M.Medium.may_leave m) (g.M.Medium.may_leave z)) (sym c.release.ensures) (c.in-Ok.ensures.images t))
+    (λ t. subst (λ z. LeavesOnly g.M.Medium.stages m z (g.M.Medium.may_leave m)) (sym c.release.ensures) (c.in-Ok.ensures.any_moment t))
     (λ e. absurd (no-medium c.in-Err-open.fault (sym c.damage_of.ensures ∙ e)))
     (λ t b f ready page e.
     opens-sound b old.number old.run acts log c.in-Err-open.fault page f.0 (c.as_slice.ensures.acts ∙ f.1)

@@ -1,6 +1,7 @@
 use Rattle.std.proofs.Common.{◌≡◌, true, not, refl, ap, sym, subst, ◌∙◌, ◌++◌, Ok}
 use Rattle.std.proofs.lemmas.List.{append-nil}
 use Rattle.pseudo_time.specs.Nodes.{repository}
+use Rattle.medium_port.specs.Moment.{LeavesOnly}
 use Rattle.version_store.specs.Filling.{HasPrefix, KeepsPages}
 use Rattle.version_store.specs.StoreWords.{medium_of}
 use Rattle.version_store.proofs.StoreLemmas.{images_left}
@@ -41,9 +42,10 @@ returns-in-Ok g c =
     let stored : (ledger_of c.join.result.histories).log ≡ (ledger_of core.histories).log ++ effects =
     ap (λ h. (ledger_of h).log) j.4 ∙ c.in-Ok.ensures.log ∙ ap (λ h. (ledger_of h).log ++ effects) c.part-rest.ensures.histories in
     appended c.args.self _ m was refl (λ b f. f) effects _
-    (subst (λ h. AppendsTo g.M.Medium.tells g.M.Medium.faults g.M.Medium.page_count g.M.Medium.reads g.M.Medium.may_leave m (medium_of (store_of h)) effects (Ok tt)) (sym j.4)
-    (appends-all g.M.Medium.tells g.M.Medium.faults g.M.Medium.page_count g.M.Medium.reads g.M.Medium.may_leave now m n effects (store_of old).settled c.in-Ok.ensures.later
-    (λ t i left. subst (λ l. HasPrefix l effects i) (sym (old.stored t)) (c.in-Ok.ensures.images t i left)) tt g.met.M.Medium.shape c.in-Ok.ensures.size (store_of new).settled
+    (subst (λ h. AppendsTo g.M.Medium.tells g.M.Medium.faults g.M.Medium.page_count g.M.Medium.reads g.M.Medium.may_leave g.M.Medium.stages m (medium_of (store_of h)) effects (Ok tt)) (sym j.4)
+    (appends-all g.M.Medium.tells g.M.Medium.faults g.M.Medium.page_count g.M.Medium.reads g.M.Medium.may_leave g.M.Medium.stages now m n effects (store_of old).settled c.in-Ok.ensures.later
+    (λ t i left. subst (λ l. HasPrefix l effects i) (sym (old.stored t)) (c.in-Ok.ensures.images t i left))
+    (λ t. subst (λ l. LeavesOnly g.M.Medium.stages m n (HasPrefix l effects)) (sym (old.stored t)) (c.in-Ok.ensures.any_moment t)) tt g.met.M.Medium.shape c.in-Ok.ensures.size (store_of new).settled
     (λ t. new.stored t ∙ c.in-Ok.ensures.log ∙ ap (λ l. l ++ effects) (sym (old.stored t)))
     (λ t. images_left g.M.Medium.stages g.M.Medium.reads g.M.Medium.may_leave m n (KeepsPages (g.M.Medium.reads m)) (λ d there. g.met.M.Medium.counts_now n d t there) (c.in-Ok.ensures.kept t) (g.M.Medium.reads n) (now n t))
     c.in-Ok.ensures.clean c.requires.ranges c.in-Ok.ensures.used))
@@ -59,7 +61,8 @@ returns-in-Err g c =
     let m = medium_of (store_of old) in
     let was = ap (λ z. medium_in z) c.in-Open.is ∙ ap (λ h. medium_of (store_of h)) (sym c.part-rest.ensures.histories) in
     appended c.args.self _ m was refl (λ b f. f) effects _
-    (appends-none g.M.Medium.tells g.M.Medium.faults g.M.Medium.page_count g.M.Medium.reads g.M.Medium.may_leave g.met.M.Medium.reads_now m c.in-Err.medium effects (store_of old).settled c.in-Err.ensures.later
-    (λ t i left. subst (λ l. HasPrefix l effects i) (sym (old.stored t)) (c.in-Err.ensures.images t i left)) c.in-Err.fault c.in-Err.ensures.nothing
+    (appends-none g.M.Medium.tells g.M.Medium.faults g.M.Medium.page_count g.M.Medium.reads g.M.Medium.may_leave g.M.Medium.stages g.met.M.Medium.reads_now m c.in-Err.medium effects (store_of old).settled c.in-Err.ensures.later
+    (λ t i left. subst (λ l. HasPrefix l effects i) (sym (old.stored t)) (c.in-Err.ensures.images t i left))
+    (λ t. subst (λ l. LeavesOnly g.M.Medium.stages m c.in-Err.medium (HasPrefix l effects)) (sym (old.stored t)) (c.in-Err.ensures.any_moment t)) c.in-Err.fault c.in-Err.ensures.nothing
     (λ number e. (c.in-Err.ensures.full number e).0) c.in-Err.ensures.full_blank c.in-Err.ensures.failed)
     tt (λ t b l h fresh. tt)

@@ -34,6 +34,7 @@ returns-in-Open g c =
         owed = λ es o. owed-more c.take.result old.log (ledger_of old.histories).log new.log (ledger_of new.histories).log es stored (subst (λ z. Owes z es) c.in-Open.is o) called.log;
         in_range = called.in_range;
         still = λ t. same t ∙ ap g.M.Medium.reads was;
+        stages_still = λ t. (both t).1 ∙ ap g.M.Medium.stages was;
         images = λ t. subst (λ z. NoMore (g.M.Medium.may_leave z) (g.M.Medium.may_leave n)) was (none-new (g.M.Medium.reads m) (g.M.Medium.reads n) (g.M.Medium.may_leave m) (g.M.Medium.may_leave n) (same t) (g.met.M.Medium.reads_now m t) ((store_of new.histories).settled t));
         cause = λ e. subst (λ z. Rose (g.M.Medium.faults z) (g.M.Medium.faults n)) was (called.cause.medium e);
         sound = called.sound;

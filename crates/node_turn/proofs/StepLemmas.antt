@@ -1,0 +1,66 @@
+-- What node_turn needs at each of its visits and calls.
+use Rattle.std.proofs.Common.{◌≡◌, ℕ, ◌≤◌, true, List, [], ◌∷◌, ◌++◌, length, take, refl, sym, ap, subst, ◌∙◌, arith, length-append, Ok}
+use Rattle.std.proofs.lemmas.List.{append-nil, take_all, take-append-le}
+use Rattle.pseudo_time.specs.declared.nodes.NodeId.{NodeId}
+use Rattle.effect_form.specs.declared.effects.Effect.{Effect}
+use Rattle.medium_port.specs.Image.{Image}
+use Rattle.medium_port.specs.Moment.{Stage, LeftNow, Goes, goes_nowhere}
+use Rattle.version_store.specs.Filling.{HasPrefix}
+use Rattle.version_store.specs.Storage.{storage}
+use Rattle.world_core.specs.declared.entries.Entry.{Entry}
+use Rattle.world_core.specs.Nodes.{Given}
+use Rattle.world_core.specs.Walks.{Base, Life, all_effects, crashed_life, gated_life, names, own, walk, with_given}
+use Rattle.node_turn.specs.Lives.{IsKept}
+use Rattle.node_turn.specs.Windows.{IsNext, KeptAlong, Mark, Passes}
+
+-- ---- images
+
+-- what an append leaves
+pub kept-prefix : (l : Life) (c : Image) → HasPrefix l.gated l.fresh c → IsKept l c
+kept-prefix l c has = record { kept = has.kept; few = has.few; is = has.is }
+
+-- what is given adds open effects, none of which is there
+pub kept-given : (l : Life) (g : Given) (c : Image) → IsKept l c → IsKept (with_given l g) c
+kept-given l g c k = record {
+  kept = k.kept;
+  few = omega (arith, k.few, length-append l.fresh g.effects);
+  is = k.is ∙ ap (λ (es : List Effect). Ok (l.gated ++ es)) (sym (take-append-le k.kept l.fresh g.effects k.few));
+}
+
+-- all open effects are there, before a gate and behind it
+pub kept-whole : (l : Life) (c : Image) → storage c ≡ Ok (all_effects l) → IsKept l c
+kept-whole l c is = record { kept = length l.fresh; few = omega arith; is = is ∙ ap (λ (es : List Effect). Ok (l.gated ++ es)) (sym (take_all (length l.fresh) l.fresh (omega arith))) }
+
+pub kept-gated : (l : Life) (c : Image) → storage c ≡ Ok (all_effects l) → IsKept (gated_life l) c
+kept-gated l c is = record { kept = 0; few = omega arith; is = is ∙ ap (λ (es : List Effect). Ok es) (sym (append-nil (all_effects l))) }
+
+-- so many open effects are found, before a Crash and behind it
+pub kept-found : (l : Life) (kept : ℕ) (c : Image) → kept ≤ length l.fresh → storage c ≡ Ok (l.gated ++ take kept l.fresh) → IsKept l c
+kept-found l kept c few is = record { kept = kept; few = few; is = is }
+
+pub kept-crashed : (start : ℕ) (l : Life) (kept : ℕ) (c : Image) → storage c ≡ Ok (l.gated ++ take kept l.fresh) → IsKept (crashed_life start kept l) c
+kept-crashed start l kept c is = record { kept = 0; few = omega arith; is = is ∙ ap (λ (es : List Effect). Ok es) (sym (append-nil (l.gated ++ take kept l.fresh))) }
+
+-- ---- stories
+
+module _ (b : Base) (n : NodeId) where
+  -- no own entry: the medium's calls, and others' entries
+  pub passes-between : (story more : List Entry) (from to : List Stage) → own n more ≡ [] → Goes from to (IsKept ((walk b story).life n)) → Passes b n story (story ++ more) from to
+  passes-between story more from to none kept = record { marks = []; rest = more; none = none; story = refl; kept = kept }
+
+  -- a visit that adds the node's own entry, behind entries of others, while its medium stands still: a crash leaves the log of both lives
+  pub passes-visit : (story others : List Entry) (e : Entry) (s : List Stage) → own n others ≡ [] → names n e ≡ true → ((c : Image) → LeftNow s c → IsKept ((walk b story).life n) c)
+      → ((c : Image) → LeftNow s c → IsKept ((walk b (story ++ (others ++ e ∷ []))).life n) c) → Passes b n story (story ++ (others ++ e ∷ [])) s s
+  passes-visit story others e s none named before behind =
+      let m : Mark = record { entries = others ++ e ∷ []; stages = s } in
+      record {
+        marks = m ∷ [];
+        rest = [];
+        none = refl;
+        story = ap (λ l. story ++ l) (sym (append-nil (others ++ e ∷ [])) ∙ sym (append-nil ((others ++ e ∷ []) ++ [])));
+        kept = (
+          goes_nowhere s (IsKept ((walk b story).life n)) before,
+          record { others = others; entry = e; is = refl; none = none; named = named },
+          goes_nowhere s (IsKept ((walk b (story ++ (others ++ e ∷ []))).life n)) behind,
+        );
+      }
