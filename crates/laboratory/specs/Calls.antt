@@ -10,7 +10,7 @@ use Rattle.wire_lock.specs.Stories.{no_trace}
 use Rattle.run_media.specs.Media.{Media}
 use Rattle.swallow_top.specs.Finishes.{account_of, tellers}
 use Rattle.swallow_top.specs.Promise.{Call, Promise}
-use Rattle.swallow_top.specs.Shelves.{ShelfSight}
+use Rattle.run_volumes.specs.Shelves.{ShelfSight}
 use Rattle.swallow_top.specs.Written.{Sinking, GotLine}
 use Rattle.laboratory.specs.declared.options.Lab.{Lab}
 use Rattle.laboratory.specs.Fates.{asked_of, divisor_of}

@@ -26,8 +26,8 @@ use Rattle.forward_copy.specs.Refusals.{IsFirstUndecided, IsOldMark}
 use Rattle.forward_copy.specs.Sifted.{between, left_behind}
 use Rattle.forward_copy.specs.Wholes.{has_whole}
 use Rattle.forward_copy.specs.declared.copies.Forward.{Forward}
-use Rattle.run_volumes.specs.Kept.{kept_from}
-use Rattle.run_volumes.specs.Shelves.{IsLeft, ShelfSight}
+use Rattle.run_volumes.specs.Kept.{kept_under}
+use Rattle.run_volumes.specs.Shelves.{IsLeft, ShelfSight, first_names}
 use Rattle.run_volumes.specs.Volumes.{AreOpen, AreVolumes, fresh, logs_of, node_log}
 use Rattle.run_volumes.specs.declared.kept.Kept.{Kept}
 use Rattle.forward_copy.specs.declared.faults.ForwardFault.{ForwardFault}
@@ -232,5 +232,5 @@ module _ {M : Type 0} (w : Media M) (old new : ShelfSight) where
     pub openings : List (Opening M w)
     pub volumes : AreVolumes w old new n media openings
     pub left : List (Option M)
-    pub handed : kept ≡ kept_from n 0 left
+    pub handed : kept ≡ kept_under (first_names n (length left)) left
     pub came : ComesTo w n at openings left r

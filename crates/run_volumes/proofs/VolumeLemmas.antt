@@ -11,7 +11,7 @@ use Rattle.run_media.specs.declared.openings.Opening.{Opening}
 use Rattle.run_media.specs.declared.openings.Opening.TheVariants.{Open, Shut, Wanting}
 use Rattle.run_media.specs.Media.{Media}
 use Rattle.run_media.specs.Openings.{HasOpened, log_in}
-use Rattle.run_volumes.specs.Shelves.{ShelfSight, TakesOne, WereTaken, volume_name}
+use Rattle.run_volumes.specs.Shelves.{ShelfSight, TakesOne, WereTaken, first_names, volume_name}
 use Rattle.run_volumes.specs.Volumes.{AreVolumes, EndRightly, GoOn, fresh_from, goes_on, is_empty_log, log_at, logs_of}
 use Rattle.run_volumes.proofs.ShelfLemmas.{taken-more, taken-none}
 
@@ -84,7 +84,7 @@ module _ {M : Type 0} {g : _} where
 pub record Opened {M : Type 0} (w : Media M) {g : _} (old new : ShelfSight) (n : NodeId) (openings : List (Opening M g)) : Type 0 where
   pub media : List (Option M)
   pub count : length media ≡ length openings
-  pub taken : WereTaken w old new n media
+  pub taken : WereTaken w old new (first_names n (length media)) media
   pub opened : AllZip (HasOpened w) media openings
   pub go_on : GoOn n.kind 0 openings
 
@@ -96,7 +96,7 @@ module _ {M : Type 0} (w : Media M) {g : _} where
   zip-more (x ∷ xs) (p ∷ os) m o h k = (h.0, zip-more xs os m o h.1 k)
 
   pub opened-none : (a : ShelfSight) (n : NodeId) (os : List (Opening M g)) → os ≡ [] → Opened w a a n os
-  opened-none a n os e = subst (Opened w a a n) (sym e) (record { media = []; count = refl; taken = taken-none w a n; opened = tt; go_on = tt })
+  opened-none a n os e = subst (Opened w a a n) (sym e) (record { media = []; count = refl; taken = taken-none w a; opened = tt; go_on = tt })
 
   pub opened-more : (a b c : ShelfSight) (n : NodeId) (v : ℕ) (os all : List (Opening M g)) (m : Option M) (o : Opening M g) → Opened w a b n os → length os ≡ v → TakesOne w b c (volume_name n v) m → HasOpened w m o →
       goes_on n.kind v o ≡ true → all ≡ os ++ o ∷ [] → Opened w a c n all

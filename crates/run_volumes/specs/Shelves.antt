@@ -1,6 +1,7 @@
--- The media of a node, as a shelf gives them.
-use Rattle.std.specs.Prelude.{◌≡◌, ◌≢◌, ◌↔◌, ℕ, ◌≤◌, ◌<◌, zero, suc, Bool, true, false, IsTrue, List, [], ◌∷◌, ◌++◌, length, slice_get, Option, Some, None}
-use Rattle.std.specs.List.{count_by}
+-- Media as a shelf gives them, and the names of a node's.
+use Rattle.std.specs.Prelude.{◌≡◌, ◌≢◌, ◌↔◌, ℕ, ◌≤◌, zero, suc, Bool, true, false, IsTrue, List, [], ◌∷◌, ◌++◌, slice_get, Option, Some, None}
+use Rattle.std.specs.List.{AllZip, count_by}
+use Rattle.pseudo_time.specs.Lists.{Has}
 use Rattle.pseudo_time.specs.declared.nodes.NodeId.{NodeId}
 use Rattle.stream_port.specs.Causes.{Rose, RoseBy}
 use Rattle.medium_port.specs.Image.{Image}
@@ -60,16 +61,15 @@ module _ {M : Type 0} (w : Media M) (old : ShelfSight) where
     pub asked : new.asked ≡ old.asked ++ name ∷ []
     pub gives : Gives new name m
 
-  -- these are the node's volumes from this one on, each as it stood on the shelf; None where the shelf gave none
-  abbrev pub AreTaken : NodeId → ℕ → List (Option M) → Type 0
-  AreTaken n v [] = Unit {0}
-  AreTaken n v (None ∷ media) = AreTaken n (suc v) media
-  AreTaken n v (Some m ∷ media) = IsTaken (volume_name n v) m × AreTaken n (suc v) media
+  -- the medium of this name, just as it stood on the shelf; None where the shelf gave none
+  abbrev pub IsGiven : MediumName → Option M → Type 0
+  IsGiven name None = Unit {0}
+  IsGiven name (Some m) = IsTaken name m
 
--- The node's first volumes were asked for, each once and in their order, and no others were taken. The shelf failed for each that it didn't give.
-pub record WereTaken {M : Type 0} (w : Media M) (old new : ShelfSight) (n : NodeId) (media : List (Option M)) : Type 0 where
-  pub asked : new.asked ≡ old.asked ++ first_names n (length media)
-  pub are : AreTaken w old n 0 media
+-- The media of these names were asked for, in this order, and no others were taken. The shelf failed for each that it didn't give.
+pub record WereTaken {M : Type 0} (w : Media M) (old new : ShelfSight) (names : List MediumName) (media : List (Option M)) : Type 0 where
+  pub asked : new.asked ≡ old.asked ++ names
+  pub are : AllZip (IsGiven w old) names media
   pub missing : RoseBy (count_by is_missing media) old.faults new.faults
-  pub back : (name : MediumName) → new.is_taken name → (old.is_taken name → ⊥) → (v : ℕ) × (m : M) × (name ≡ volume_name n v) × (slice_get media v ≡ Some (Some m))
-  pub others : (name : MediumName) → ((v : ℕ) → v < length media → name ≢ volume_name n v) → IsLeft w.tells old new name
+  pub back : (name : MediumName) → new.is_taken name → (old.is_taken name → ⊥) → (place : ℕ) × (m : M) × (slice_get names place ≡ Some name) × (slice_get media place ≡ Some (Some m))
+  pub others : (name : MediumName) → (Has name names → ⊥) → IsLeft w.tells old new name

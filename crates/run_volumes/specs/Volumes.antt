@@ -11,7 +11,7 @@ use Rattle.run_media.specs.declared.openings.Opening.TheVariants.{Open, Shut, Wa
 use Rattle.run_media.specs.Media.{Media}
 use Rattle.run_media.specs.Openings.{HasOpened, IsOpen, log_in}
 use Rattle.forward_copy.specs.Wholes.{has_whole}
-use Rattle.run_volumes.specs.Shelves.{ShelfSight, WereTaken}
+use Rattle.run_volumes.specs.Shelves.{ShelfSight, WereTaken, first_names}
 
 abbrev pub is_empty_log : List Effect → Bool
 is_empty_log [] = true
@@ -52,7 +52,7 @@ module _ {M : Type 0} {g : _} where
 
 -- a node's volumes from 0 on, as they were taken and opened, up to the first behind which none follows
 pub record AreVolumes {M : Type 0} (w : Media M) {g : _} (old new : ShelfSight) (n : NodeId) (media : List (Option M)) (openings : List (Opening M g)) : Type 0 where
-  pub taken : WereTaken w old new n media
+  pub taken : WereTaken w old new (first_names n (length media)) media
   pub opened : AllZip (HasOpened w) media openings
   pub ends : EndRightly n.kind openings
 

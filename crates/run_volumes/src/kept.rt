@@ -1,5 +1,6 @@
 ghost use Rattle.std.specs.Prelude.{◌≡◌, ◌≤◌, ◌+◌, ◌++◌, vec_len, vec_capacity};
-ghost use Rattle.run_volumes.specs.Kept.{kept_from, kept_of};
+ghost use Rattle.run_volumes.specs.Kept.{kept_as, kept_under};
+ghost use Rattle.run_volumes.specs.Shelves.{first_names, volume_name};
 
 use medium_port::Medium;
 use pseudo_time::NodeId;
@@ -22,7 +23,7 @@ fn keep_one<M: Medium>(
     kept: Vec<Kept<M>>,
 ) -> Vec<Kept<M>>
     requires room { vec_len kept + 1 ≤ vec_capacity kept }
-    ensures kept { result.items ≡ kept.items ++ kept_of node volume medium }
+    ensures kept { result.items ≡ kept.items ++ kept_as (volume_name node volume) medium }
     ensures room { vec_capacity result ≡ vec_capacity kept }
     ensures few { vec_len result ≤ vec_len kept + 1 }
 {
@@ -45,7 +46,7 @@ pub fn keep_volumes<M: Medium>(
 ) -> Vec<Kept<M>>
     requires few { vec_len media ≤ 1000 }
     requires room { vec_len kept + vec_len media ≤ vec_capacity kept }
-    ensures kept { result.items ≡ kept.items ++ kept_from node 0 media.items }
+    ensures kept { result.items ≡ kept.items ++ kept_under (first_names node (vec_len media)) media.items }
     ensures room { vec_capacity result ≡ vec_capacity kept }
     ensures few { vec_len result ≤ vec_len kept + vec_len media }
 {

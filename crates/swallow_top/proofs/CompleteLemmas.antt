@@ -33,7 +33,8 @@ use Rattle.swallow_top.proofs.PageLemmas.{blank-none}
 use Rattle.swallow_top.proofs.SmoothLemmas.{complete, none-down}
 use Rattle.swallow_top.proofs.StandingLemmas.{none-open}
 use Rattle.swallow_top.specs.Contract.{IsSmooth}
-use Rattle.swallow_top.specs.Shelves.{AreTaken, IsTaken, ShelfSight, WereTaken, is_missing, kept_from, medium_name}
+use Rattle.run_volumes.specs.Shelves.{IsTaken, ShelfSight, is_missing}
+use Rattle.swallow_top.specs.Shelves.{AreTaken, WereTaken, kept_from, medium_name}
 use Rattle.swallow_top.specs.Tellings.{status_of, status_with}
 use Rattle.swallow_top.specs.Written.{Sinking}
 use Rattle.swallow_top.proofs.ShelfLemmas.{kept-has}

@@ -15,9 +15,10 @@ use Rattle.run_media.specs.declared.openings.Opening.{Opening}
 use Rattle.run_media.specs.declared.openings.Opening.TheVariants.{Open, Shut, Wanting}
 use Rattle.run_media.specs.Media.{Media}
 use Rattle.run_media.specs.Openings.{HasOpened, IsAsItWas, IsShutFor, medium_in}
-use Rattle.swallow_top.specs.declared.media.Kept.{Kept}
+use Rattle.run_volumes.specs.declared.kept.Kept.{Kept}
 use Rattle.swallow_top.specs.Histories.{IsHandedBack, OpensNot, ShowsDown, ShowsHistory, TellsHistory, TellsOpening, home_of, is_back}
-use Rattle.swallow_top.specs.Shelves.{IsTaken, ShelfSight, TakesOne, kept_of, medium_name}
+use Rattle.run_volumes.specs.Shelves.{IsTaken, ShelfSight, TakesOne}
+use Rattle.swallow_top.specs.Shelves.{kept_of, medium_name}
 use Rattle.swallow_top.specs.Written.{Sinking, Ends, EndsIfAny}
 use Rattle.swallow_top.proofs.ShelfLemmas.{name-same}
 

@@ -21,7 +21,7 @@ use Rattle.command_words.specs.Words.{AreGiven, AreNone, AreOptions, AreWords, I
 use Rattle.run_media.specs.Media.{Media}
 use Rattle.run_rounds.specs.Ends.{some_down}
 use Rattle.run_rounds.specs.Runs.{Account}
-use Rattle.swallow_top.specs.declared.media.Kept.{Kept}
+use Rattle.run_volumes.specs.declared.kept.Kept.{Kept}
 use Rattle.swallow_top.specs.declared.reports.Wanted.{Wanted}
 use Rattle.swallow_top.specs.declared.reports.Wanted.TheVariants.{Report, Summary}
 use Rattle.swallow_top.specs.declared.stops.Stop.{Stop}
@@ -31,7 +31,7 @@ use Rattle.swallow_top.specs.Histories.{TellsHistory, ShowsDown, ShowsHistory, h
 use Rattle.swallow_top.specs.Inputs.{OfInput}
 use Rattle.swallow_top.specs.Plans.{ReadsPlan}
 use Rattle.swallow_top.specs.Promise.{Call, HasNoWords, TouchedNothing, IsUnread, Promise, WasDone}
-use Rattle.swallow_top.specs.Shelves.{ShelfSight}
+use Rattle.run_volumes.specs.Shelves.{ShelfSight}
 use Rattle.swallow_top.specs.Tellings.{status_of, status_with}
 use Rattle.swallow_top.specs.Written.{Sinking, Ends, EndsIfAny}
 use Rattle.swallow_top.proofs.InputLemmas.{of_input-all, of_input-with}

@@ -20,10 +20,11 @@ use Rattle.run_rounds.specs.Finishes.{EndsAs, IsKeptWhole, Tellers, account_of}
 use Rattle.serial_law.specs.Serials.{HoldsFinals, IsSerialOver}
 use Rattle.serial_law.specs.Acknowledged.{KeepsAnswers, SpendsRightly}
 use Rattle.serial_law.specs.Reasons.{AddedHaveReasons, HaveReasons}
-use Rattle.swallow_top.specs.declared.media.Kept.{Kept}
+use Rattle.run_volumes.specs.declared.kept.Kept.{Kept}
 use Rattle.swallow_top.specs.declared.reports.Wanted.{Wanted}
 use Rattle.swallow_top.specs.Contract.{AllKept, CameOf, Completes, HasNoRun, RanOver, RunsPlan, WantedMemory}
-use Rattle.swallow_top.specs.Shelves.{ShelfSight, WereTaken, kept_from}
+use Rattle.run_volumes.specs.Shelves.{ShelfSight}
+use Rattle.swallow_top.specs.Shelves.{WereTaken, kept_from}
 use Rattle.swallow_top.specs.Tellings.{OfRun, TellsEnd, status_of, wanted_text}
 use Rattle.swallow_top.specs.Written.{Sinking, EndsIfAny}
 use Rattle.swallow_top.proofs.CompleteLemmas.{complete-status, run-complete, unrefused}

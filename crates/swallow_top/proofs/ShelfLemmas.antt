@@ -20,9 +20,10 @@ use Rattle.run_media.specs.Media.{Media, AreBack, IsBack, IsLeftAlone, IsUsable,
 use Rattle.run_media.specs.Places.{kind_place, node_at, place_of}
 use Rattle.run_media.proofs.OrderLemmas.{place-at}
 use Rattle.run_rounds.specs.Finishes.{IsKeptWhole, HasItsLog}
-use Rattle.swallow_top.specs.declared.media.Kept.{Kept}
+use Rattle.run_volumes.specs.declared.kept.Kept.{Kept}
 use Rattle.swallow_top.specs.Contract.{AllKept, LosesNothing}
-use Rattle.swallow_top.specs.Shelves.{ShelfSight, IsLeft, IsTaken, Gives, TakesOne, AreTaken, WereTaken, first_names, is_missing, kept_from, kept_of, medium_name}
+use Rattle.run_volumes.specs.Shelves.{ShelfSight, IsLeft, IsTaken, Gives, TakesOne, is_missing}
+use Rattle.swallow_top.specs.Shelves.{AreTaken, WereTaken, first_names, kept_from, kept_of, medium_name}
 
 -- ---- names
 

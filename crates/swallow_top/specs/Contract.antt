@@ -23,12 +23,13 @@ use Rattle.serial_law.specs.Acknowledged.{KeepsAnswers, SpendsRightly}
 use Rattle.serial_law.specs.Reasons.{AddedHaveReasons, HaveReasons}
 use Rattle.complete_law.specs.Calm.{IsPlain}
 use Rattle.swallow_top.specs.Smooth.{AskAtMost, WentSmoothly, messages_for, pages_for}
-use Rattle.swallow_top.specs.declared.media.Kept.{Kept}
+use Rattle.run_volumes.specs.declared.kept.Kept.{Kept}
 use Rattle.swallow_top.specs.declared.reports.Wanted.{Wanted}
 use Rattle.swallow_top.specs.declared.stops.Stop.{Stop}
 use Rattle.swallow_top.specs.declared.stops.Stop.TheVariants as stop
 use Rattle.swallow_top.specs.Lines.{fault_line, resume_line, source_line, words_line}
-use Rattle.swallow_top.specs.Shelves.{ShelfSight, WereTaken, kept_from, medium_name}
+use Rattle.run_volumes.specs.Shelves.{ShelfSight}
+use Rattle.swallow_top.specs.Shelves.{WereTaken, kept_from, medium_name}
 use Rattle.swallow_top.specs.Tellings.{status_of, wanted_text}
 use Rattle.swallow_top.specs.Written.{Sinking, EndsIfAny, GotLine}
 

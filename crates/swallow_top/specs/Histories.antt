@@ -16,8 +16,9 @@ use Rattle.report_writer.specs.Histories.{history_text}
 use Rattle.run_media.specs.declared.openings.Opening.{Opening}
 use Rattle.run_media.specs.declared.openings.Opening.TheVariants.{Open, Shut, Wanting}
 use Rattle.run_media.specs.Media.{Media}
-use Rattle.swallow_top.specs.declared.media.Kept.{Kept}
-use Rattle.swallow_top.specs.Shelves.{ShelfSight, medium_name}
+use Rattle.run_volumes.specs.declared.kept.Kept.{Kept}
+use Rattle.run_volumes.specs.Shelves.{ShelfSight}
+use Rattle.swallow_top.specs.Shelves.{medium_name}
 use Rattle.swallow_top.specs.Written.{Sinking, Ends, EndsIfAny}
 
 -- the repository of the object

@@ -11,13 +11,13 @@ use Rattle.command_words.specs.declared.commands.Command.TheVariants.{Run, Load,
 use Rattle.command_words.specs.Words.{AreWords, AreNone}
 use Rattle.run_media.specs.Media.{Media}
 use Rattle.run_rounds.specs.Runs.{Account}
-use Rattle.swallow_top.specs.declared.media.Kept.{Kept}
+use Rattle.run_volumes.specs.declared.kept.Kept.{Kept}
 use Rattle.swallow_top.specs.declared.reports.Wanted.TheVariants.{Report, Summary}
 use Rattle.swallow_top.specs.Contract.{AllKept, HasNoRun, IsNoPlan, RunsPlan}
 use Rattle.swallow_top.specs.Histories.{TellsHistory}
 use Rattle.swallow_top.specs.Inputs.{OfInput}
 use Rattle.swallow_top.specs.Lines.{words_line, source_line}
-use Rattle.swallow_top.specs.Shelves.{ShelfSight}
+use Rattle.run_volumes.specs.Shelves.{ShelfSight}
 use Rattle.swallow_top.specs.Written.{Sinking, GotLine}
 
 -- all that a call was given and gave, as contracts see it

@@ -2,16 +2,16 @@
 ghost use Rattle.std.specs.Prelude.{◌≡◌, ◌≤◌, [], IfOk, vec_capacity};
 ghost use Rattle.report_writer.specs.Reports.{down_text};
 ghost use Rattle.swallow_top.specs.Histories.{TellsHistory, TellsOpening, TellsText};
-ghost use Rattle.swallow_top.specs.Shelves.{shelf_sight};
+ghost use Rattle.run_volumes.specs.Shelves.{shelf_sight};
 ghost use Rattle.swallow_top.specs.Written.{sinking};
 
-use crate::media::Kept;
-use crate::shelves::{keep_one, take_one};
+use crate::shelves::keep_one;
 use crate::streams::write_all;
 use medium_port::{Medium, Shelf};
 use pseudo_time::{DownCause, NodeId};
 use report_writer::{Down, history, push_downs};
 use run_media::{Opening, open_one};
+use run_volumes::{Kept, take_volume};
 use std::alloc::{AllocError, Global};
 use stream_port::Sink;
 use value_form::{Bytes, ObjectId};
@@ -76,7 +76,7 @@ pub fn tell_history<O: Sink, S: Shelf>(
         return (7, Vec::new(alloc));
     };
     let node = NodeId::repository(object.repository);
-    let opening = open_one(alloc, take_one(shelf, node));
+    let opening = open_one(alloc, take_volume(shelf, node, 0));
     let status = tell_opening(alloc, object, &opening, sink);
     (status, keep_one(node, opening.release(), kept))
 }

@@ -13,5 +13,6 @@ mod streams;
 mod top;
 
 pub use laws::law_done_is_finished;
-pub use media::{Finish, Kept};
+pub use media::Finish;
+pub use run_volumes::Kept;
 pub use top::swallow;

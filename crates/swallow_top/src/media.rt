@@ -1,17 +1,7 @@
 use medium_port::Medium;
-use pseudo_time::NodeId;
 use run_rounds::Told;
+use run_volumes::Kept;
 use value_form::Items;
-
-/// A medium that a call hands back.
-#[derive(Drop)]
-pub struct Kept<M: Medium> {
-    /// The node whose medium it is.
-    pub node: NodeId,
-    /// Which of the node's media it is, from 0.
-    pub volume: u32,
-    pub medium: M,
-}
 
 /// What a call answers.
 #[derive(Drop)]

@@ -2,25 +2,14 @@
 ghost use Rattle.std.specs.Prelude.{◌≡◌, ◌≤◌, ◌<◌, ◌+◌, ◌++◌, [], length, vec_len, vec_capacity};
 ghost use Rattle.plan_form.specs.PlanTexts.{IsOfLanguage};
 ghost use Rattle.run_media.specs.Places as order;
-ghost use Rattle.swallow_top.specs.Shelves.{TakesOne, WereTaken, kept_from, kept_of, shelf_sight};
+ghost use Rattle.run_volumes.specs.Shelves.{shelf_sight};
+ghost use Rattle.swallow_top.specs.Shelves.{WereTaken, kept_from, kept_of};
 
-use crate::media::Kept;
 use medium_port::{Medium, Shelf};
 use plan_form::Plan;
 use pseudo_time::NodeId;
 use run_media::node_at;
-
-/// Takes the medium of a node. None where the shelf gives none.
-pub fn take_one<S: Shelf>(shelf: &mut S, node: NodeId) -> Option<S::Medium>
-    ensures { TakesOne S.Medium.Medium
-        (shelf_sight S.Shelf shelf.old)
-        (shelf_sight S.Shelf shelf.new) node result }
-{
-    match shelf.take(node.kind, node.number, 0) {
-        Ok(medium) => Some(medium),
-        Err(_) => None,
-    }
-}
+use run_volumes::{Kept, take_volume};
 
 /// Takes the media of so many nodes of the plan, in their order. The emptied list has room for them.
 pub fn take_all<S: Shelf>(
@@ -44,7 +33,7 @@ pub fn take_all<S: Shelf>(
     }
     let place = count - 1;
     let mut media = take_all(plan, shelf, place, media);
-    media.push_reserved(take_one(shelf, node_at(plan, place)));
+    media.push_reserved(take_volume(shelf, node_at(plan, place), 0));
     media
 }
 

@@ -6,12 +6,12 @@ ghost use Rattle.command_words.specs.Words.{said};
 ghost use Rattle.run_rounds.specs.Finishes.{account_of, tellers};
 ghost use Rattle.swallow_top.specs.Contract.{AllKept, RefusedAs, RunsPlan};
 ghost use Rattle.swallow_top.specs.Promise.{Promise};
-ghost use Rattle.swallow_top.specs.Shelves.{shelf_sight};
+ghost use Rattle.run_volumes.specs.Shelves.{shelf_sight};
 ghost use Rattle.swallow_top.specs.Written.{sinking};
 
 use crate::histories::tell_history;
 use crate::lines::fault_line;
-use crate::media::{Finish, Kept};
+use crate::media::Finish;
 use crate::plans::read_plan;
 use crate::reports::{Wanted, tell};
 use crate::shelves::{keep_all, take_all};
@@ -22,6 +22,7 @@ use medium_port::{Medium, Shelf};
 use plan_form::{Plan, make};
 use run_media::{node_count, open_all};
 use run_rounds::{Finished, Limits, Told, run};
+use run_volumes::Kept;
 use serial_law::{
     law_of_added_reasons, law_of_answers, law_of_finals, law_of_reasons, law_of_serial_runs,
     law_of_spent_acts,

@@ -1,6 +1,7 @@
 use Rattle.std.proofs.Common.{◌++◌, ◌∙◌, ap, subst}
 use Rattle.run_media.specs.Openings.{medium_in}
-use Rattle.swallow_top.specs.Shelves.{TakesOne, kept_of, shelf_sight}
+use Rattle.run_volumes.specs.Shelves.{TakesOne, shelf_sight}
+use Rattle.swallow_top.specs.Shelves.{kept_of}
 use Rattle.swallow_top.specs.Written.{sinking}
 use Rattle.swallow_top.proofs.HistoryLemmas.{tells-history}
 use Rattle.swallow_top.proofs.histories.tell_history.Goals as goal

@@ -1,6 +1,7 @@
 use Rattle.std.proofs.Common.{ap, sym, subst, ◌∙◌, arith}
 use Rattle.run_media.specs.Places.{node_at}
-use Rattle.swallow_top.specs.Shelves.{WereTaken, shelf_sight}
+use Rattle.run_volumes.specs.Shelves.{shelf_sight}
+use Rattle.swallow_top.specs.Shelves.{WereTaken}
 use Rattle.swallow_top.proofs.ShelfLemmas.{taken-more}
 use Rattle.swallow_top.proofs.shelves.+take_all.Goals as goal
 

@@ -1,6 +1,7 @@
 use Rattle.std.proofs.Common.{◌∙◌, ap, length, arith}
 use Rattle.run_rounds.specs.Finishes.{tellers}
-use Rattle.swallow_top.specs.Shelves.{kept_from, shelf_sight}
+use Rattle.run_volumes.specs.Shelves.{shelf_sight}
+use Rattle.swallow_top.specs.Shelves.{kept_from}
 use Rattle.swallow_top.specs.Written.{sinking}
 use Rattle.swallow_top.proofs.RunLemmas.{end-long, end-nodes, end-ranges, runs-kept, runs-plan}
 use Rattle.swallow_top.proofs.ShelfLemmas.{usable}

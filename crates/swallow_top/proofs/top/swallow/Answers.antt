@@ -4,7 +4,7 @@ use Rattle.plan_form.proofs.MadeLemmas.{made_is_whole}
 use Rattle.command_words.specs.Words.{AreWords, said}
 use Rattle.swallow_top.specs.Contract.{RefusedAs}
 use Rattle.swallow_top.specs.Histories.{TellsHistory}
-use Rattle.swallow_top.specs.Shelves.{shelf_sight}
+use Rattle.run_volumes.specs.Shelves.{shelf_sight}
 use Rattle.swallow_top.specs.Written.{sinking}
 use Rattle.swallow_top.proofs.PromiseLemmas.{language-of, promise-history, promise-load, promise-refused, promise-run, quiet-call, some-workers}
 use Rattle.swallow_top.proofs.top.swallow.Goals as goal
