@@ -12,7 +12,7 @@ use Rattle.std.proofs.lemmas.Str.Parse.{IsNumeralModel, digit_from_value, numera
 use Rattle.value_form.specs.declared.objects.ObjectId.{ObjectId}
 use Rattle.command_words.specs.declared.options.Given.{Given}
 use Rattle.command_words.specs.declared.commands.Options.{Options}
-use Rattle.command_words.specs.declared.commands.Command.TheVariants.{Run, Load, History}
+use Rattle.command_words.specs.declared.commands.Command.TheVariants.{Run, Load, History, Retire}
 use Rattle.command_words.specs.Words.{AreGiven, AreNone, AreOptions, IsLoad, IsNumber, IsObjectWord, IsPlain, IsWith, said}
 
 -- ---- what is written of a number
@@ -105,6 +105,9 @@ run-not-load e = absurd (cc)
 
 run-not-history : codes "run" ≡ codes "history" → ⊥
 run-not-history e = absurd (cc)
+
+run-not-retire : codes "run" ≡ codes "retire" → ⊥
+run-not-retire e = absurd (cc)
 
 ticks-not-messages : codes "--ticks" ≡ codes "--messages" → ⊥
 ticks-not-messages e = absurd (cc)
@@ -225,6 +228,10 @@ run-alone (a ∷ ws) h first bad (Load seed count o) is = let are = is.are in ru
     front : {x : List ℕ} {more : List (List ℕ)} → a.now ∷ said ws ≡ x ∷ more → a.now ≡ x
     front e = cc
 run-alone (a ∷ ws) h first bad (History object) is = let are = is.are in run-not-history (sym first ∙ front are)
+  where
+    front : {x : List ℕ} {more : List (List ℕ)} → a.now ∷ said ws ≡ x ∷ more → a.now ≡ x
+    front e = cc
+run-alone (a ∷ ws) h first bad (Retire repository clock) is = let are = is.are in run-not-retire (sym first ∙ front are)
   where
     front : {x : List ℕ} {more : List (List ℕ)} → a.now ∷ said ws ≡ x ∷ more → a.now ≡ x
     front e = cc

@@ -7,7 +7,7 @@ use Rattle.value_form.specs.declared.objects.ObjectId.{ObjectId}
 use Rattle.report_writer.specs.Parts.{object_text}
 use Rattle.command_words.specs.declared.commands.Options.{Options}
 use Rattle.command_words.specs.declared.commands.Command.{Command}
-use Rattle.command_words.specs.declared.commands.Command.TheVariants.{Run, Load, History}
+use Rattle.command_words.specs.declared.commands.Command.TheVariants.{Run, Load, History, Retire}
 use Rattle.command_words.specs.declared.options.Given.{Given}
 
 -- ---- numbers
@@ -70,11 +70,19 @@ pub record IsHistory (object : ObjectId) (words : List (List ℕ)) : Type 0 wher
   pub are : words ≡ codes "history" ∷ word ∷ []
   pub object_is : IsObjectWord object word
 
+pub record IsRetire (repository clock : ℕ) (words : List (List ℕ)) : Type 0 where
+  pub repository_word : List ℕ
+  pub clock_word : List ℕ
+  pub are : words ≡ codes "retire" ∷ repository_word ∷ clock_word ∷ []
+  pub repository_is : IsNumber 1 16 repository repository_word
+  pub clock_is : IsNumber 1 (2 ^ 40 - 1) clock clock_word
+
 -- the words are this command
 abbrev pub AreWords : Command → List (List ℕ) → Type 0
 AreWords (Run o) words = (more : List (List ℕ)) × (words ≡ codes "run" ∷ more) × AreOptions o more
 AreWords (Load seed count o) words = IsLoad seed count o words
 AreWords (History object) words = IsHistory object words
+AreWords (Retire repository clock) words = IsRetire repository clock words
 
 -- what the words of a call are
 abbrev pub said : List (Bor (List ℕ)) → List (List ℕ)

@@ -1,7 +1,7 @@
 //! The commands.
 ghost use Rattle.std.specs.Prelude.{◌≡◌, ◌∷◌, ℕ, codes, None, IfSome, MatchOption};
 ghost use Rattle.value_form.specs.declared.objects.ObjectId.{ObjectId};
-ghost use Rattle.command_words.specs.Words.{AreWords, AreNone, IsLoad, IsHistory, said};
+ghost use Rattle.command_words.specs.Words.{AreWords, AreNone, IsLoad, IsHistory, IsRetire, said};
 
 use crate::numbers::{number, object};
 use crate::options::options;
@@ -31,6 +31,13 @@ pub enum Command {
     },
     /// Tell the history of an object.
     History(ObjectId),
+    /// Retire a repository at the first pseudotime of this clock.
+    Retire {
+        /// 1 to 16.
+        repository: u8,
+        /// 1 to 1,099,511,627,775.
+        clock: u64,
+    },
 }
 
 // A load: its seed, its count and its options.
@@ -58,8 +65,22 @@ fn history(words: &[&str]) -> Option<Command>
     Some(Command::History(object(word)?))
 }
 
-/// The command that the words are: `run OPTIONS`, `load SEED COUNT OPTIONS` or `history R.N`. OPTIONS
-/// are any of `--workers W` (1 unless given), `--ticks T` (10,000) and `--messages N` (200,000), in any
+// A retirement: its repository and its clock.
+fn retire(words: &[&str]) -> Option<Command>
+    ensures { MatchOption result ((repository clock : ℕ) → IsRetire repository clock (codes "retire" ∷ said words.now) → ⊥)
+        (λ c. AreWords c (codes "retire" ∷ said words.now)) }
+{
+    let [repository, clock] = words else {
+        return None;
+    };
+    Some(Command::Retire {
+        repository: number(repository, 1, 16)? as u8,
+        clock: number(clock, 1, 1_099_511_627_775)?,
+    })
+}
+
+/// The command that the words are: `run OPTIONS`, `load SEED COUNT OPTIONS`, `history R.N` or
+/// `retire R CLOCK`. OPTIONS are any of `--workers W` (1 unless given), `--ticks T` (10,000) and `--messages N` (200,000), in any
 /// order, each at most once, name and number as two words. Numbers are decimal digits without a sign or
 /// a zero in front. None where they are no command.
 pub fn read_words(words: &[&str]) -> Option<Command>
@@ -73,6 +94,7 @@ pub fn read_words(words: &[&str]) -> Option<Command>
         "run" => Some(Command::Run(options(more)?)),
         "load" => load(more),
         "history" => history(more),
+        "retire" => retire(more),
         _ => None,
     }
 }

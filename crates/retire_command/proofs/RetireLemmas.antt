@@ -24,7 +24,7 @@ use Rattle.version_store.specs.Storage.{storage}
 use Rattle.version_store.specs.StoreWords.{left_in, medium_of}
 use Rattle.run_media.specs.declared.openings.Opening.{Opening}
 use Rattle.run_media.specs.declared.openings.Opening.TheVariants.{Open, Shut, Wanting}
-use Rattle.run_media.specs.Media.{Media}
+use Rattle.run_media.specs.Media.{AreBack, IsBack, Media}
 use Rattle.run_media.specs.Openings.{HasOpened, IsOpen, log_in, medium_in}
 use Rattle.forward_copy.specs.Carried.{LeavesFront}
 use Rattle.forward_copy.specs.Refusals.{IsFirstUndecided, IsOldMark}
@@ -33,10 +33,12 @@ use Rattle.forward_copy.specs.declared.faults.ForwardFault.{ForwardFault}
 use Rattle.forward_copy.specs.declared.faults.ForwardFault.TheVariants as forwarding
 use Rattle.forward_copy.specs.declared.copies.Forward.{Forward}
 use Rattle.run_volumes.specs.Volumes.{AreOpen, EndRightly, fresh, is_empty_log, log_at, logs_of, node_log, current}
+use Rattle.run_volumes.specs.Standings.{KeepsIts, Stands}
+use Rattle.run_volumes.proofs.StandLemmas.{back-all, back-one, given-back}
 use Rattle.run_volumes.proofs.VolumeLemmas.{fresh-last}
 use Rattle.retire_command.specs.declared.outcomes.Retired.{Retired}
 use Rattle.retire_command.specs.declared.outcomes.Retired.TheVariants.{Done, Refused, Fallen, NoMemory}
-use Rattle.retire_command.specs.Retires.{Carries, ComesTo, CutsOff, HasFront, HasShut, IsReady, KeepsIts, Refuses, RefusesFor, Stands, Stops, StopsFor, WritesLast, WritesNothing, carried}
+use Rattle.retire_command.specs.Retires.{Carries, ComesTo, CutsOff, HasFront, IsReady, RefusesFor, Stops, StopsFor, WritesLast, carried}
 
 -- ---- lists
 
@@ -64,45 +66,6 @@ none-in (f ∷ l) h = absurd (false≢true h)
 -- ---- volumes
 
 module _ {M : Type 0} (w : Media M) {g : _} where
-  -- each volume that was opened holds its log
-  stands-one : (m : Option M) (o : Opening M g) → HasOpened w m o → Stands w o
-  stands-one None (Open store effects) h = absurd h
-  stands-one (Some old) (Open store effects) h = (h.sound, h.in_range, h.has, h.left)
-  stands-one m (Shut medium cause) h = tt
-  stands-one m (Wanting medium) h = tt
-
-  pub stand-all : (media : List (Option M)) (openings : List (Opening M g)) → AllZip (HasOpened w) media openings → Every (Stands w) openings
-  stand-all [] [] h = tt
-  stand-all [] (o ∷ os) h = absurd h
-  stand-all (m ∷ ms) [] h = absurd h
-  stand-all (m ∷ ms) (o ∷ os) h = (stands-one m o h.0, stand-all ms os h.1)
-
-  range-one : (o : Opening M g) → Stands w o → AreEffects (log_in o)
-  range-one (Open store effects) h = h.1
-  range-one (Shut medium cause) h = tt
-  range-one (Wanting medium) h = tt
-
-  range-at : (os : List (Opening M g)) (v : ℕ) → Every (Stands w) os → AreEffects (log_at (logs_of os) v)
-  range-at [] v h = tt
-  range-at (o ∷ os) zero h = range-one o h.0
-  range-at (o ∷ os) (suc v) h = range-at os v h.1
-
-  pub in-range : (os : List (Opening M g)) → Every (Stands w) os → AreEffects (node_log (logs_of os))
-  in-range os h = range-at os (current (logs_of os)) h
-
-  keeps-one : (o : Opening M g) → Stands w o → KeepsIts w o (medium_in o)
-  keeps-one (Open store effects) h = h.3
-  keeps-one (Shut medium cause) h = refl
-  keeps-one (Wanting medium) h = refl
-
-  -- volumes that are given back as they are keep their logs
-  keep-all : (os : List (Opening M g)) → Every (Stands w) os → WritesNothing w os (map medium_in os)
-  keep-all [] h = tt
-  keep-all (o ∷ os) h = (keeps-one o h.0, keep-all os h.1)
-
-  pub given-back : (os : List (Opening M g)) (left : List (Option M)) → Every (Stands w) os → left ≡ map medium_in os → WritesNothing w os left
-  given-back os left h is = subst (WritesNothing w os) (sym is) (keep-all os h)
-
   -- ---- the last of them
 
   -- the last one is the fresh one, and is empty
@@ -135,10 +98,10 @@ module _ {M : Type 0} (w : Media M) {g : _} where
 
   pub stopped : (n : NodeId) (at : TimeParts) (os : List (Opening M g)) (left : List (Option M)) (r : Retired) → Every (Stands w) os → left ≡ map medium_in os → Stops n at os r → ComesTo w n at os left r
   stopped n at os left (Done text) h is s = absurd s
-  stopped n at os left (Refused line) h is s = record { opened = s.0; keep = given-back os left h is; why = s.1 }
+  stopped n at os left (Refused line) h is s = record { opened = s.0; unwritten = is; keep = given-back w os left h is; why = s.1 }
   stopped n at os left (Fallen line) h is s =
-      inl (record { front = s.1.front; medium = s.1.medium; cause = s.0; back = s.1.back; is = s.1.is; keep = given-back os left h is; is_line = s.2 })
-  stopped n at os left NoMemory h is s = inl (given-back os left h is)
+      inl (record { front = s.1.front; medium = s.1.medium; cause = s.0; back = s.1.back; is = s.1.is; unwritten = is; keep = given-back w os left h is; is_line = s.2 })
+  stopped n at os left NoMemory h is s = inl (given-back w os left h is)
 
   writes : (os front : List (Opening M g)) (store : Store M g) (effects : Vec Effect Global) (others left : List (Option M)) (m : M) (P : Image → Type 0) → os ≡ front ++ Open store effects ∷ [] → effects.items ≡ [] →
       Every (Stands w) os → others ≡ map medium_in front → left ≡ others ++ Some m ∷ [] → (IsTrue w.tells → (c : Image) → w.may_leave m c → P c) → WritesLast w os left P
@@ -151,7 +114,8 @@ module _ {M : Type 0} (w : Media M) {g : _} where
     others = others;
     medium = m;
     is_left = are;
-    keep = given-back front others (every-front (Stands w) front (Open store effects ∷ []) (subst (Every (Stands w)) is h)) given;
+    unwritten = given;
+    keep = given-back w front others (every-front (Stands w) front (Open store effects ∷ []) (subst (Every (Stands w)) is h)) given;
     images = images;
   }
 
@@ -192,16 +156,36 @@ module _ {M : Type 0} (w : Media M) {g : _} where
   cut n effects store line (fault.Full pages) r m front failed full (inr e) = subst (λ (z : Retired). Carries w n effects store line z m) (sym e) (front, (down.Full pages, full pages refl, refl))
   cut n effects store line fault.NoMemory r m front failed full e = subst (λ (z : Retired). Carries w n effects store line z m) (sym e) front
 
+  -- ---- each volume that was taken is handed back
+
+  back-first : (m : Option M) (ms : List (Option M)) (store : Store M g) (effects : Vec Effect Global) (x : M) → HasOpened w m (Open store effects) → AllZip (HasOpened w {g}) ms [] → AreBack (m ∷ ms) (Some x ∷ [])
+  back-first None ms store effects x h k = absurd h
+  back-first (Some old) [] store effects x h k = (tt, tt)
+  back-first (Some old) (m ∷ ms) store effects x h k = absurd k
+
+  back-last : (media : List (Option M)) (front : List (Opening M g)) (store : Store M g) (effects : Vec Effect Global) (others : List (Option M)) (x : M) → AllZip (HasOpened w) media (front ++ Open store effects ∷ []) →
+      AllZip (KeepsIts w) front others → AreBack media (others ++ Some x ∷ [])
+  back-last [] [] store effects others x h k = absurd h
+  back-last [] (o ∷ front) store effects others x h k = absurd h
+  back-last (m ∷ ms) [] store effects [] x h k = back-first m ms store effects x h.0 h.1
+  back-last (m ∷ ms) [] store effects (l ∷ others) x h k = absurd k
+  back-last (m ∷ ms) (o ∷ front) store effects [] x h k = absurd k
+  back-last (m ∷ ms) (o ∷ front) store effects (l ∷ others) x h k = (back-one w m o l h.0 k.0, back-last ms front store effects others x h.1 k.1)
+
+  wrote-back : (media : List (Option M)) (os : List (Opening M g)) (left : List (Option M)) (P : Image → Type 0) → AllZip (HasOpened w) media os → WritesLast w os left P → AreBack media left
+  wrote-back media os left P h k =
+      subst (AreBack media) (sym k.is_left) (back-last media k.front k.store k.effects k.others k.medium (subst (λ (l : List (Opening M g)). AllZip (HasOpened w) media l) k.is h) k.keep)
+
+  -- whatever comes of it
+  pub comes-back : (n : NodeId) (at : TimeParts) (media : List (Option M)) (os : List (Opening M g)) (left : List (Option M)) (r : Retired) → AllZip (HasOpened w) media os → ComesTo w n at os left r → AreBack media left
+  comes-back n at media os left (Done text) h c = wrote-back media os left (λ i. storage i ≡ Ok (carried w n at os left)) h c.wrote
+  comes-back n at media os left (Refused line) h c = back-all w media os left h c.keep
+  comes-back n at media os left (Fallen line) h (inl c) = back-all w media os left h c.keep
+  comes-back n at media os left (Fallen line) h (inr c) = wrote-back media os left (LeavesFront (carried w n at os left)) h c.wrote
+  comes-back n at media os left NoMemory h (inl c) = back-all w media os left h c
+  comes-back n at media os left NoMemory h (inr c) = wrote-back media os left (LeavesFront (carried w n at os left)) h c
+
 module _ {M : Type 0} {g : _} where
-  -- the i-th volume is shut
-  split-at : (os : List (Opening M g)) (i : ℕ) (o : Opening M g) → i < length os → o ≡ slice_index_or os i o → os ≡ take i os ++ o ∷ drop (suc i) os
-  split-at [] i o low e = absurd (omega (arith, low))
-  split-at (p ∷ os) zero o low e = ap (λ z. z ∷ os) (sym e)
-  split-at (p ∷ os) (suc i) o low e = ap (λ l. p ∷ l) (split-at os i o (omega (arith, low)) e)
-
-  pub shut-at : (os : List (Opening M g)) (i : ℕ) (o : Opening M g) (medium : Option M) (cause : DownCause) → i < length os → o ≡ slice_index_or os i o → o ≡ Shut medium cause → HasShut os cause
-  shut-at os i o medium cause low e is = record { front = take i os; medium = medium; back = drop (suc i) os; is = subst (λ (z : Opening M g). os ≡ take i os ++ z ∷ drop (suc i) os) is (split-at os i o low e) }
-
   pub refused-for : (n : NodeId) (at : TimeParts) (os : List (Opening M g)) (v : ℕ) (log : List Effect) (why : ForwardFault) (r : Retired) → AreOpen os → fresh (logs_of os) ≡ Some v → log ≡ node_log (logs_of os) →
       ((floor : TimeParts) → why ≡ forwarding.OldMark floor → IsOldMark (reverse log) at floor) →
       ((o : ObjectId) (x : TimeParts) → why ≡ forwarding.Undecided o x → IsFirstUndecided (reverse log) at o x) → RefusesFor why r → Stops n at os r

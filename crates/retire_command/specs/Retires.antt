@@ -1,5 +1,5 @@
 -- What comes of retiring a repository at a mark, over its volumes as they were opened.
-use Rattle.std.specs.Prelude.{◌≡◌, ◌⊎◌, ℕ, ◌<◌, false, IsTrue, List, [], ◌∷◌, ◌++◌, length, reverse, Option, Some, None, Result, Ok, Err, Vec}
+use Rattle.std.specs.Prelude.{◌≡◌, ◌⊎◌, ℕ, ◌<◌, false, IsTrue, List, [], ◌∷◌, ◌++◌, length, map, reverse, Option, Some, None, Result, Ok, Err, Vec}
 use Rattle.std.specs.declared.alloc.Global.{Global}
 use Rattle.std.specs.List.{AllZip}
 use Rattle.pseudo_time.specs.TimeParts.{TimeParts}
@@ -15,12 +15,13 @@ use Rattle.medium_port.specs.declared.shelves.MediumName.{MediumName}
 use Rattle.version_store.specs.declared.stores.Store.{Store}
 use Rattle.version_store.specs.Filling.{filling}
 use Rattle.version_store.specs.Storage.{storage}
-use Rattle.version_store.specs.StoreWords.{effects_in, left_in, medium_of}
+use Rattle.version_store.specs.StoreWords.{left_in, medium_of}
 use Rattle.object_retirement.specs.Forward.{MayRetire, forward}
 use Rattle.report_writer.specs.Reports.{down_text}
 use Rattle.run_media.specs.declared.openings.Opening.{Opening}
-use Rattle.run_media.specs.declared.openings.Opening.TheVariants.{Open, Shut, Wanting}
+use Rattle.run_media.specs.declared.openings.Opening.TheVariants.{Open, Shut}
 use Rattle.run_media.specs.Media.{Media}
+use Rattle.run_media.specs.Openings.{medium_in}
 use Rattle.forward_copy.specs.Carried.{LeavesFront}
 use Rattle.forward_copy.specs.Refusals.{IsFirstUndecided, IsOldMark}
 use Rattle.forward_copy.specs.Sifted.{between, left_behind}
@@ -28,12 +29,11 @@ use Rattle.forward_copy.specs.Wholes.{has_whole}
 use Rattle.forward_copy.specs.declared.copies.Forward.{Forward}
 use Rattle.run_volumes.specs.Kept.{kept_under}
 use Rattle.run_volumes.specs.Shelves.{IsLeft, ShelfSight, first_names}
+use Rattle.run_volumes.specs.Standings.{HasShut, KeepsIts, WritesNothing}
 use Rattle.run_volumes.specs.Volumes.{AreOpen, AreVolumes, fresh, logs_of, node_log}
 use Rattle.run_volumes.specs.declared.kept.Kept.{Kept}
 use Rattle.forward_copy.specs.declared.faults.ForwardFault.{ForwardFault}
 use Rattle.forward_copy.specs.declared.faults.ForwardFault.TheVariants as fault
-use Rattle.retire_command.specs.declared.preparing.Standing.{Standing}
-use Rattle.retire_command.specs.declared.preparing.Standing.TheVariants as standing
 use Rattle.retire_command.specs.declared.outcomes.Retired.{Retired}
 use Rattle.retire_command.specs.declared.outcomes.Retired.TheVariants.{Done, Refused, Fallen, NoMemory}
 use Rattle.retire_command.specs.Lines.{last_volume_line, old_mark_line, retired_line, undecided_line}
@@ -57,27 +57,9 @@ StopsFor w effects store down.Medium new = Rose (w.faults (medium_of store)) (w.
 StopsFor w effects store (down.Damaged page) new = ⊥
 StopsFor w effects store (down.Full pages) new = (pages ≡ w.page_count (medium_of store)) × (left_in store < length (filling effects))
 
--- ---- what is left of the volumes
+-- ---- what is left of the volumes: those that aren't written to are handed back as they were opened
 
 module _ {M : Type 0} (w : Media M) {g : _} where
-  -- the volume holds the log that it was opened with
-  abbrev pub Stands : Opening M g → Type 0
-  Stands (Open store effects) = (w.is_failed (medium_of store) ≡ false) × AreEffects effects.items × (IsTrue w.tells → effects_in w.reads store ≡ effects.items)
-      × (IsTrue w.tells → (c : Image) → w.may_leave (medium_of store) c → storage c ≡ Ok effects.items)
-  Stands (Shut medium cause) = Unit {0}
-  Stands (Wanting medium) = Unit {0}
-
-  -- A volume that isn't written to: each image of one that was opened has the log that it was opened with; another is handed back as it is.
-  abbrev pub KeepsIts : Opening M g → Option M → Type 0
-  KeepsIts (Open store effects) None = ⊥
-  KeepsIts (Open store effects) (Some m) = IsTrue w.tells → (c : Image) → w.may_leave m c → storage c ≡ Ok effects.items
-  KeepsIts (Shut medium cause) left = left ≡ medium
-  KeepsIts (Wanting medium) left = left ≡ Some medium
-
-  -- nothing is written
-  abbrev pub WritesNothing : List (Opening M g) → List (Option M) → Type 0
-  WritesNothing openings left = AllZip KeepsIts openings left
-
   -- the last of the volumes was empty, and is written to: each image of it has P. Nothing is written to the others.
   pub record WritesLast (openings : List (Opening M g)) (left : List (Option M)) (P : Image → Type 0) : Type 0 where
     pub front : List (Opening M g)
@@ -88,7 +70,8 @@ module _ {M : Type 0} (w : Media M) {g : _} where
     pub others : List (Option M)
     pub medium : M
     pub is_left : left ≡ others ++ Some medium ∷ []
-    pub keep : AllZip KeepsIts front others
+    pub unwritten : others ≡ map medium_in front
+    pub keep : AllZip (KeepsIts w) front others
     pub images : IsTrue w.tells → (c : Image) → w.may_leave medium c → P c
 
   module _ (n : NodeId) (at : TimeParts) (openings : List (Opening M g)) (left : List (Option M)) where
@@ -111,7 +94,8 @@ module _ {M : Type 0} (w : Media M) {g : _} where
     -- it isn't retired, nothing is written, and the line says why
     pub record IsRefused (line : List ℕ) : Type 0 where
       pub opened : AreOpen openings
-      pub keep : WritesNothing openings left
+      pub unwritten : left ≡ map medium_in openings
+      pub keep : WritesNothing w openings left
       pub why : Refuses at openings line
 
     -- a volume couldn't be opened, and nothing is written
@@ -121,7 +105,8 @@ module _ {M : Type 0} (w : Media M) {g : _} where
       pub cause : DownCause
       pub back : List (Opening M g)
       pub is : openings ≡ front ++ Shut medium cause ∷ back
-      pub keep : WritesNothing openings left
+      pub unwritten : left ≡ map medium_in openings
+      pub keep : WritesNothing w openings left
       pub is_line : line ≡ down_text (record { node = n; cause = cause })
 
     -- the fresh volume has a front of what is carried forward, without its Whole unless it has all
@@ -135,7 +120,7 @@ module _ {M : Type 0} (w : Media M) {g : _} where
 
     -- nothing is lost
     abbrev pub LosesNothing : Type 0
-    LosesNothing = WritesNothing openings left ⊎ WritesLast openings left (LeavesFront carried)
+    LosesNothing = WritesNothing w openings left ⊎ WritesLast openings left (LeavesFront carried)
 
     -- what came of it
     abbrev pub ComesTo : Retired → Type 0
@@ -147,21 +132,8 @@ module _ {M : Type 0} (w : Media M) {g : _} where
 -- ---- how far it was prepared
 
 module _ {M : Type 0} {g : _} (openings : List (Opening M g)) where
-  -- a volume couldn't be opened, for this cause
-  pub record HasShut (cause : DownCause) : Type 0 where
-    pub front : List (Opening M g)
-    pub medium : Option M
-    pub back : List (Opening M g)
-    pub is : openings ≡ front ++ Shut medium cause ∷ back
-
   abbrev pub IsFresh : ℕ → Type 0
   IsFresh volume = fresh (logs_of openings) ≡ Some volume
-
-  -- how the volumes stand
-  abbrev pub StandsAs : Standing → Type 0
-  StandsAs standing.Open = AreOpen openings
-  StandsAs (standing.Shut cause) = HasShut cause
-  StandsAs standing.Wanting = Unit {0}
 
 module _ {M : Type 0} {g : _} (n : NodeId) (at : TimeParts) (openings : List (Opening M g)) where
   -- it is to be retired so

@@ -7,6 +7,7 @@ ghost use Rattle.version_store.specs.Causes.{down_of};
 ghost use Rattle.version_store.specs.StoreWords.{effects_in, medium_of};
 ghost use Rattle.forward_copy.specs.Sifted.{between};
 ghost use Rattle.forward_copy.specs.Wholes.{has_whole};
+ghost use Rattle.run_volumes.specs.Standings.{Stands};
 ghost use Rattle.run_volumes.specs.Volumes.{EndRightly};
 ghost use Rattle.retire_command.specs.Retires as spec;
 
@@ -63,7 +64,7 @@ pub fn carry_out<M: Medium>(
     room: Vec<Option<M>>,
 ) -> (Retired, Vec<Option<M>>)
     requires ready { spec.IsReady node mark openings.items prepared.forward prepared.line }
-    requires stands { Every (spec.Stands M.Medium) openings.items }
+    requires stands { Every (Stands M.Medium) openings.items }
     requires ends { EndRightly Repository openings.items }
     requires empty { room.items ≡ [] }
     requires room { vec_len openings ≤ vec_capacity room }

@@ -10,36 +10,11 @@ use crate::lines::{down_line, last_volume_line, old_mark_line, retired_line, und
 use crate::outcomes::Retired;
 use forward_copy::{Forward, ForwardFault, forward};
 use medium_port::Medium;
-use pseudo_time::{DownCause, NodeId, PseudoTime};
+use pseudo_time::{NodeId, PseudoTime};
 use run_media::Opening;
-use run_volumes::{fresh, node_log as log_of};
+use run_volumes::{Standing, fresh, node_log as log_of, stand_of};
 use std::alloc::{AllocError, Global};
 use value_form::Bytes;
-
-/// How a node's volumes stand.
-#[derive(Clone, Copy, Debug)]
-pub enum Standing {
-    /// Each was opened.
-    Open,
-    /// One can't be opened, for this cause.
-    Shut(DownCause),
-    /// Memory was wanting for one.
-    Wanting,
-}
-
-// How a node's volumes stand: the first that wasn't opened says it.
-fn stand_of<M: Medium>(openings: &[Opening<M>]) -> Standing
-    ensures { spec.StandsAs openings.now result }
-{
-    for opening in openings {
-        match opening {
-            Opening::Open(_, _) => {}
-            Opening::Shut(_, cause) => return Standing::Shut(*cause),
-            Opening::Wanting(_) => return Standing::Wanting,
-        }
-    }
-    Standing::Open
-}
 
 // A refusal with this line.
 fn refused(line: Result<Bytes, AllocError>) -> Retired

@@ -4,6 +4,7 @@ ghost use Rattle.pseudo_time.specs.Lists.{Every};
 ghost use Rattle.pseudo_time.specs.Nodes.{repository as named};
 ghost use Rattle.pseudo_time.specs.declared.nodes.NodeKind.TheVariants.{Repository};
 ghost use Rattle.run_volumes.specs.Shelves.{shelf_sight};
+ghost use Rattle.run_volumes.specs.Standings.{Stands};
 ghost use Rattle.run_volumes.specs.Volumes.{EndRightly};
 ghost use Rattle.retire_command.specs.Retires as spec;
 
@@ -25,7 +26,7 @@ fn retire_volumes<M: Medium>(
     room: Vec<Option<M>>,
 ) -> (Retired, Vec<Option<M>>)
     requires first { mark.step ≡ 1 }
-    requires stands { Every (spec.Stands M.Medium) openings.items }
+    requires stands { Every (Stands M.Medium) openings.items }
     requires ends { EndRightly Repository openings.items }
     requires empty { room.items ≡ [] }
     requires room { vec_len openings ≤ vec_capacity room }

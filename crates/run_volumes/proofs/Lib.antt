@@ -1,2 +1,3 @@
 pub mod ShelfLemmas
+pub mod StandLemmas
 pub mod VolumeLemmas

@@ -1,3 +1,4 @@
 pub mod Kept
 pub mod Shelves
+pub mod Standings
 pub mod Volumes

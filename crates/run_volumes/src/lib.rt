@@ -4,9 +4,11 @@
 mod kept;
 mod roles;
 mod shelves;
+mod standings;
 mod volumes;
 
 pub use kept::{Kept, keep_volumes};
 pub use roles::{current, fresh, node_log};
 pub use shelves::take_volume;
+pub use standings::{Standing, stand_of};
 pub use volumes::open_volumes;

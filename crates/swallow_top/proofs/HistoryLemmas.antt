@@ -1,83 +1,47 @@
--- From what came of opening a repository's medium to how the history of its object is told.
-use Rattle.std.proofs.Common.{◌≡◌, ◌≢◌, ◌⊎◌, inl, inr, ℕ, IsTrue, List, [], ◌∷◌, Option, Some, None, Ok, Err, refl, ap, sym, subst, ◌∙◌}
-use Rattle.pseudo_time.specs.declared.nodes.NodeId.{NodeId}
+-- From volumes as they were opened to how the history of an object is told.
+use Rattle.std.proofs.Common.{◌≡◌, ◌⊎◌, inl, inr, ℕ, List, length, map, Option, refl, ap, sym, subst, ◌∙◌}
+use Rattle.std.specs.List.{AllZip}
+use Rattle.std.proofs.lemmas.Slice.Zip.{AllZip-long}
 use Rattle.pseudo_time.specs.declared.down_causes.DownCause.{DownCause}
-use Rattle.pseudo_time.specs.declared.down_causes.DownCause.TheVariants as down
-use Rattle.stream_port.specs.Causes.{Rose}
 use Rattle.value_form.specs.declared.objects.ObjectId.{ObjectId}
-use Rattle.medium_port.specs.Image.{Image, NoMore}
-use Rattle.medium_port.specs.declared.shelves.MediumName.{MediumName}
-use Rattle.version_store.specs.Storage.{storage}
-use Rattle.version_store.specs.StoreWords.{medium_of}
 use Rattle.report_writer.specs.Reports.{down_text}
 use Rattle.report_writer.specs.Histories.{history_text}
 use Rattle.run_media.specs.declared.openings.Opening.{Opening}
-use Rattle.run_media.specs.declared.openings.Opening.TheVariants.{Open, Shut, Wanting}
 use Rattle.run_media.specs.Media.{Media}
-use Rattle.run_media.specs.Openings.{HasOpened, IsAsItWas, IsShutFor, medium_in}
+use Rattle.run_media.specs.Openings.{HasOpened, medium_in}
 use Rattle.run_volumes.specs.declared.kept.Kept.{Kept}
-use Rattle.swallow_top.specs.Histories.{IsHandedBack, OpensNot, ShowsDown, ShowsHistory, TellsHistory, TellsOpening, home_of, is_back}
-use Rattle.run_volumes.specs.Shelves.{IsTaken, ShelfSight, TakesOne}
-use Rattle.swallow_top.specs.Shelves.{kept_of, medium_name}
-use Rattle.swallow_top.specs.Written.{Sinking, Ends, EndsIfAny}
-use Rattle.swallow_top.proofs.ShelfLemmas.{name-same}
+use Rattle.run_volumes.specs.Kept.{AllKept, kept_under}
+use Rattle.run_volumes.specs.Shelves.{ShelfSight, first_names}
+use Rattle.run_volumes.specs.Standings.{HasShut, WritesNothing}
+use Rattle.run_volumes.specs.Volumes.{AreOpen, AreVolumes, logs_of, node_log}
+use Rattle.run_volumes.proofs.ShelfLemmas.{all-kept}
+use Rattle.run_volumes.proofs.StandLemmas.{back-all, given-back, stand-all}
+use Rattle.swallow_top.specs.Histories.{TellsHistory, TellsVolumes, home_of}
+use Rattle.swallow_top.specs.Written.{Sinking, EndsIfAny}
+
+module _ {M : Type 0} {g : _} (object : ObjectId) (os : List (Opening M g)) (status : ℕ) (s : Sinking) where
+  pub open-told : AreOpen os → EndsIfAny status s 0 (history_text object (node_log (logs_of os))) → TellsVolumes object os status s
+  open-told open (inl seven) = inl seven
+  open-told open (inr ends) = inr (inl (history_text object (node_log (logs_of os)), (open, refl), ends))
+
+  pub shut-told : (cause : DownCause) → HasShut os cause → EndsIfAny status s 6 (down_text (record { node = home_of object; cause = cause })) → TellsVolumes object os status s
+  shut-told cause shut (inl seven) = inl seven
+  shut-told cause shut (inr ends) = inr (inr (down_text (record { node = home_of object; cause = cause }), (cause, shut, refl), ends))
 
 module _ {M : Type 0} (w : Media M) (old new : ShelfSight) (object : ObjectId) where
-  abbrev medium-in : M → List (Kept M) → M
-  medium-in x [] = x
-  medium-in x (k ∷ ks) = k.medium
-
-  one-back : (a b : M) → is_back w old new object a ≡ is_back {M = M} w old new object b → a ≡ b
-  one-back a b e = ap (λ (l : List (Kept M)). medium-in a l) e
-
-  -- none was taken
-  none-back : (kept : List (Kept M)) → kept ≡ [] → TakesOne w old new (home_of object) None → IsHandedBack w old new object kept
-  none-back kept none t = record {
-    others = λ name is was. absurd (was ((t.gives.0 name).taken.0 is));
-    untouched = λ told m back. absurd (let e : [] ≡ is_back {M = M} w old new object m = sym none ∙ back in cc e);
+  pub tells-history : (media : List (Option M)) (os : List (Opening M w)) (kept : List (Kept M)) (s : Sinking) (status : ℕ) → AreVolumes w old new (home_of object) media os →
+      kept ≡ kept_under (first_names (home_of object) (length os)) (map medium_in os) → TellsVolumes object os status s → TellsHistory w old new object kept s status
+  tells-history media os kept s status volumes handed told = record {
+    media = media;
+    openings = os;
+    volumes = volumes;
+    handed = handed;
+    keep = given-back w os (map medium_in os) (stand-all w media os volumes.opened) refl;
+    told = told;
   }
 
-  -- the repository's was taken, and is handed back as it was
-  some-back : (kept : List (Kept M)) (m now : M) → kept ≡ is_back w old new object now → TakesOne w old new (home_of object) (Some m) → IsAsItWas w m now → IsHandedBack w old new object kept
-  some-back kept m now are t same = record {
-    others = λ name is was. by name is was (name-same name (medium_name (home_of object)));
-    untouched = λ told other back. subst (λ x. NoMore (old.may_hold (medium_name (home_of object))) (w.may_leave x)) (one-back now other (sym are ∙ back)) (λ c h. (t.gives.0.content told).no_more c (same.untouched told c h));
-  }
-    where
-      by : (name : MediumName) → new.is_taken name → (old.is_taken name → ⊥) → (name ≡ medium_name (home_of object)) ⊎ (name ≢ medium_name (home_of object)) → (x : M) × (name ≡ medium_name (home_of object)) × (kept ≡ is_back w old new object x)
-      by name is was (inl e) = (now, e, are)
-      by name is was (inr far) = absurd (was ((t.gives.1 name far).taken.0 is))
-
-  shut-for : (kept : List (Kept M)) (m now : M) (cause : DownCause) → kept ≡ is_back w old new object now → IsTaken w old (home_of object) m → IsShutFor w cause m now → OpensNot w old new object kept cause
-  shut-for kept m now down.Medium are t h = inr (now, are, subst (λ n. Rose n (w.faults now)) t.count h)
-  shut-for kept m now (down.Damaged page) are t h = (now, are, λ told. ap storage (sym (t.content told).reads_same) ∙ h told)
-  shut-for kept m now (down.Full pages) are t h = h
-
-  abbrev Told : List (Kept M) → Sinking → ℕ → Type 0
-  Told kept s status = (status ≡ 7) ⊎ (((text : List ℕ) × ShowsHistory w old new object kept text × Ends status s 0 text) ⊎ ((text : List ℕ) × ShowsDown w old new object kept text × Ends status s 6 text))
-
-  pub tells-history : {g : _} (kept : List (Kept M)) (medium : Option M) (o : Opening M g) (s : Sinking) (status : ℕ) → TakesOne w old new (home_of object) medium → HasOpened w medium o → TellsOpening object o status s → kept ≡ kept_of (home_of object) (medium_in o) → TellsHistory w old new object kept s status
-  tells-history kept None (Open store effects) s status t h tells are = absurd h
-  tells-history kept None (Shut None cause) s status t h tells are = record { back = none-back kept are t; told = by tells }
-    where
-      by : EndsIfAny status s 6 (down_text (record { node = home_of object; cause = cause })) → Told kept s status
-      by (inl seven) = inl seven
-      by (inr ends) = inr (inr (down_text (record { node = home_of object; cause = cause }), record { cause = cause; asked = t.asked; why = subst (OpensNot w old new object kept) (sym h) (inl (are, t.gives.1)); is_text = refl }, ends))
-  tells-history kept None (Shut (Some x) cause) s status t h tells are = absurd h
-  tells-history kept None (Wanting x) s status t h tells are = absurd h
-  tells-history kept (Some m) (Open store effects) s status t h tells are = record { back = some-back kept m (medium_of store) are t h.same; told = by tells }
-    where
-      by : EndsIfAny status s 0 (history_text object effects.items) → Told kept s status
-      by (inl seven) = inl seven
-      by (inr ends) = inr (inl (
-        history_text object effects.items,
-        record { log = effects.items; medium = medium_of store; asked = t.asked; back = are; is_log = λ told. ap storage (sym (t.gives.0.content told).reads_same) ∙ h.held told; images = h.left; is_text = refl },
-        ends,
-      ))
-  tells-history kept (Some m) (Shut None cause) s status t h tells are = absurd h
-  tells-history kept (Some m) (Shut (Some x) cause) s status t h tells are = record { back = some-back kept m x are t h.0; told = by tells }
-    where
-      by : EndsIfAny status s 6 (down_text (record { node = home_of object; cause = cause })) → Told kept s status
-      by (inl seven) = inl seven
-      by (inr ends) = inr (inr (down_text (record { node = home_of object; cause = cause }), record { cause = cause; asked = t.asked; why = shut-for kept m x cause are t.gives.0 h.1; is_text = refl }, ends))
-  tells-history kept (Some m) (Wanting x) s status t h tells are = record { back = some-back kept m x are t h; told = inl tells }
+  -- each medium that was taken is handed back
+  pub history-kept : (kept : List (Kept M)) (s : Sinking) (status : ℕ) → TellsHistory w old new object kept s status → AllKept old new kept
+  history-kept kept s status h =
+      subst (AllKept old new) (ap (λ k. kept_under (first_names (home_of object) k) (map medium_in h.openings)) (sym (AllZip-long (HasOpened w) h.media h.openings h.volumes.opened)) ∙ sym h.handed)
+      (all-kept w old new (first_names (home_of object) (length h.media)) h.media (map medium_in h.openings) h.volumes.taken (back-all w h.media h.openings (map medium_in h.openings) h.volumes.opened h.keep))

@@ -4,6 +4,7 @@ pub mod HistoryLemmas
 pub mod InputLemmas
 pub mod PageLemmas
 pub mod PromiseLemmas
+pub mod RetirementLemmas
 pub mod RunLemmas
 pub mod ShelfLemmas
 pub mod SmoothLemmas

@@ -15,26 +15,32 @@ use Rattle.value_form.specs.declared.objects.ObjectId.{ObjectId}
 use Rattle.run_rounds.specs.Stories.{no_trace}
 use Rattle.command_words.specs.declared.commands.Options.{Options}
 use Rattle.command_words.specs.declared.commands.Command.{Command}
-use Rattle.command_words.specs.declared.commands.Command.TheVariants.{Run, Load, History}
+use Rattle.command_words.specs.declared.commands.Command.TheVariants.{Run, Load, History, Retire}
 use Rattle.command_words.specs.declared.options.Given.{Given}
 use Rattle.command_words.specs.Words.{AreGiven, AreNone, AreOptions, AreWords, IsWith}
 use Rattle.run_media.specs.Media.{Media}
 use Rattle.run_rounds.specs.Ends.{some_down}
 use Rattle.run_rounds.specs.Runs.{Account}
 use Rattle.run_volumes.specs.declared.kept.Kept.{Kept}
+use Rattle.run_volumes.specs.Kept.{AllKept}
 use Rattle.swallow_top.specs.declared.reports.Wanted.{Wanted}
 use Rattle.swallow_top.specs.declared.reports.Wanted.TheVariants.{Report, Summary}
 use Rattle.swallow_top.specs.declared.stops.Stop.{Stop}
 use Rattle.swallow_top.specs.declared.stops.Stop.TheVariants as stop
-use Rattle.swallow_top.specs.Contract.{AllKept, CameOf, HasNoRun, IsNoPlan, RefusedAs, RunsPlan}
-use Rattle.swallow_top.specs.Histories.{TellsHistory, ShowsDown, ShowsHistory, home_of}
+use Rattle.swallow_top.specs.Contract.{CameOf, HasNoRun, IsNoPlan, RefusedAs, RunsPlan}
+use Rattle.swallow_top.specs.Histories.{AskedNothing, TellsHistory, TellsVolumes}
 use Rattle.swallow_top.specs.Inputs.{OfInput}
 use Rattle.swallow_top.specs.Plans.{ReadsPlan}
 use Rattle.swallow_top.specs.Promise.{Call, HasNoWords, TouchedNothing, IsUnread, Promise, WasDone}
 use Rattle.run_volumes.specs.Shelves.{ShelfSight}
+use Rattle.retire_command.specs.declared.outcomes.Retired.{Retired}
+use Rattle.retire_command.specs.declared.outcomes.Retired.TheVariants.{Done, Refused, Fallen, NoMemory}
+use Rattle.swallow_top.specs.Retirements.{TellsRetired, TellsRetirement}
 use Rattle.swallow_top.specs.Tellings.{status_of, status_with}
 use Rattle.swallow_top.specs.Written.{Sinking, Ends, EndsIfAny}
+use Rattle.swallow_top.proofs.HistoryLemmas.{history-kept}
 use Rattle.swallow_top.proofs.InputLemmas.{of_input-all, of_input-with}
+use Rattle.swallow_top.proofs.RetirementLemmas.{retirement-kept}
 
 -- ---- statuses
 
@@ -42,30 +48,36 @@ if-most : (b : Bool) (x y most : ℕ) → x ≤ most → y ≤ most → (if b th
 if-most true x y most p q = p
 if-most false x y most p q = q
 
-status-most : (plan : Plan) (t : Trace) → status_of plan t ≤ 7
-status-most plan t = if-most (some_down t.entries) 6 (if open_acts plan t == 0 then 0 else 5) 7 (omega arith) (if-most (open_acts plan t == 0) 0 5 7 (omega arith) (omega arith))
+status-most : (plan : Plan) (t : Trace) → status_of plan t ≤ 8
+status-most plan t = if-most (some_down t.entries) 6 (if open_acts plan t == 0 then 0 else 5) 8 (omega arith) (if-most (open_acts plan t == 0) 0 5 8 (omega arith) (omega arith))
 
-ends-most : (status : ℕ) (s : Sinking) (there : ℕ) (text : List ℕ) → there ≤ 7 → Ends status s there text → status ≤ 7
-ends-most status s there text most (inl h) = subst (λ n. n ≤ 7) (sym h.0) most
+ends-most : (status : ℕ) (s : Sinking) (there : ℕ) (text : List ℕ) → there ≤ 8 → Ends status s there text → status ≤ 8
+ends-most status s there text most (inl h) = subst (λ n. n ≤ 8) (sym h.0) most
 ends-most status s there text most (inr h) = let e = h.0 in omega (arith, e)
 
-any-most : (status : ℕ) (s : Sinking) (there : ℕ) (text : List ℕ) → there ≤ 7 → EndsIfAny status s there text → status ≤ 7
+any-most : (status : ℕ) (s : Sinking) (there : ℕ) (text : List ℕ) → there ≤ 8 → EndsIfAny status s there text → status ≤ 8
 any-most status s there text most (inl h) = omega (arith, h)
 any-most status s there text most (inr h) = ends-most status s there text most h
 
+retired-most : (r : Retired) (s : Sinking) (status : ℕ) → TellsRetired r status s → status ≤ 8
+retired-most (Done line) s status h = ends-most status s 0 line (omega arith) h
+retired-most (Refused line) s status h = let e = h.0 in omega (arith, e)
+retired-most (Fallen line) s status h = ends-most status s 6 line (omega arith) h
+retired-most NoMemory s status h = omega (arith, h)
+
 module _ {M : Type 0} (w : Media M) (old new : ShelfSight) (kept : List (Kept M)) where
-  pub runs-most : (plan : Plan) (wanted : Wanted) (o : Options) (told : Account) (s : Sinking) (status : ℕ) → RunsPlan w old new kept plan wanted o told s status → status ≤ 7
+  pub runs-most : (plan : Plan) (wanted : Wanted) (o : Options) (told : Account) (s : Sinking) (status : ℕ) → RunsPlan w old new kept plan wanted o told s status → status ≤ 8
   runs-most plan wanted o told s status runs = by runs.came
     where
-      by : CameOf w old new kept plan wanted o told s status → status ≤ 7
+      by : CameOf w old new kept plan wanted o told s status → status ≤ 8
       by (inl h) = let e = h.0 in omega (arith, e)
       by (inr (inl h)) = let e = h.0 in omega (arith, e)
       by (inr (inr h)) = any-most status s (status_of plan told.trace) _ (status-most plan told.trace) h.1
 
-  pub tells-most : (object : ObjectId) (s : Sinking) (status : ℕ) → TellsHistory w old new object kept s status → status ≤ 7
+  pub tells-most : (object : ObjectId) (s : Sinking) (status : ℕ) → TellsHistory w old new object kept s status → status ≤ 8
   tells-most object s status h = by h.told
     where
-      by : (status ≡ 7) ⊎ (((text : List ℕ) × ShowsHistory w old new object kept text × Ends status s 0 text) ⊎ ((text : List ℕ) × ShowsDown w old new object kept text × Ends status s 6 text)) → status ≤ 7
+      by : TellsVolumes object h.openings status s → status ≤ 8
       by (inl e) = omega (arith, e)
       by (inr (inl x)) = ends-most status s 0 x.0 (omega arith) x.2
       by (inr (inr x)) = ends-most status s 6 x.0 (omega arith) x.2
@@ -107,7 +119,7 @@ module _ {M : Type 0} (c : Call M) where
   refused-run o stop.Words words read refused quiet = absurd read
   refused-run o stop.Sink words read refused quiet = absurd read
 
-  refused-most : (s : Stop) → RefusedAs s c.status c.sink → c.status ≤ 7
+  refused-most : (s : Stop) → RefusedAs s c.status c.sink → c.status ≤ 8
   refused-most stop.Words h = let e = h.0 in omega (arith, e)
   refused-most (stop.Fault line kind) (inl h) = omega (arith, h)
   refused-most (stop.Fault line kind) (inr h) = let e = h.0 in omega (arith, e)
@@ -138,11 +150,25 @@ module _ {M : Type 0} (c : Call M) where
   pub promise-wanting : TouchedNothing c 7 → AllKept c.shelf_before c.shelf c.media → Promise c
   promise-wanting quiet kept = record { done = inr (inl quiet); kept = kept; statuses = let e = quiet.status_is in omega (arith, e) }
 
-  pub promise-history : (object : ObjectId) → IsUnread c → AreWords (History object) c.words → TellsHistory c.media_are c.shelf_before c.shelf object c.media c.sink c.status → HasNoRun c.told → Promise c
-  promise-history object unread words tells none = record {
+  -- a call that asked for no medium, since memory was wanting
+  promise-unasked : AskedNothing c.media_are c.shelf_before c.shelf c.media c.status → HasNoRun c.told → Promise c
+  promise-unasked h none = promise-wanting (record { status_is = h.wanting; none = h.none; unasked = h.unasked; no_run = none }) (none-kept c.shelf_before c.shelf c.media (λ name is. (h.left name).taken.0 is))
+
+  pub promise-history : (object : ObjectId) → IsUnread c → AreWords (History object) c.words → AskedNothing c.media_are c.shelf_before c.shelf c.media c.status ⊎ TellsHistory c.media_are c.shelf_before c.shelf object c.media c.sink c.status → HasNoRun c.told → Promise c
+  promise-history object unread words (inl nothing) none = promise-unasked nothing none
+  promise-history object unread words (inr tells) none = record {
     done = inr (inr (History object, words, (unread, tells, none)));
-    kept = λ name is was. let h = tells.back.others name is was in (home_of object, h.0, h.1, subst (Has (record { node = home_of object; volume = 0; medium = h.0 })) (sym h.2) (inl refl));
+    kept = history-kept c.media_are c.shelf_before c.shelf object c.media c.sink c.status tells;
     statuses = tells-most c.media_are c.shelf_before c.shelf c.media object c.sink c.status tells;
+  }
+
+  pub promise-retire : (repository clock : ℕ) → IsUnread c → AreWords (Retire repository clock) c.words → AskedNothing c.media_are c.shelf_before c.shelf c.media c.status ⊎ TellsRetirement c.media_are c.shelf_before c.shelf repository clock c.media c.sink c.status →
+      HasNoRun c.told → Promise c
+  promise-retire repository clock unread words (inl nothing) none = promise-unasked nothing none
+  promise-retire repository clock unread words (inr tells) none = record {
+    done = inr (inr (Retire repository clock, words, (unread, tells, none)));
+    kept = retirement-kept c.media_are c.shelf_before c.shelf repository clock c.media c.sink c.status tells;
+    statuses = retired-most tells.retired c.sink c.status tells.told;
   }
 
 -- a plan that was read is of the language

@@ -1,83 +1,61 @@
--- How the history of an object is told.
-use Rattle.std.specs.Prelude.{◌≡◌, ◌⊎◌, ℕ, IsTrue, List, [], ◌∷◌, ◌++◌, Result, Ok, Err}
-use Rattle.std.specs.List.{AllZip}
+-- How the history of an object is told, by the volumes of its repository.
+use Rattle.std.specs.Prelude.{◌≡◌, ◌⊎◌, ℕ, List, [], ◌∷◌, ◌++◌, length, map, Option, Result, Ok, Err}
 use Rattle.pseudo_time.specs.Nodes.{repository}
 use Rattle.pseudo_time.specs.declared.nodes.NodeId.{NodeId}
 use Rattle.pseudo_time.specs.declared.down_causes.DownCause.{DownCause}
-use Rattle.pseudo_time.specs.declared.down_causes.DownCause.TheVariants as down
-use Rattle.stream_port.specs.Causes.{Rose}
 use Rattle.value_form.specs.declared.objects.ObjectId.{ObjectId}
-use Rattle.effect_form.specs.declared.effects.Effect.{Effect}
-use Rattle.medium_port.specs.Image.{Image, NoMore}
 use Rattle.medium_port.specs.declared.shelves.MediumName.{MediumName}
-use Rattle.version_store.specs.Storage.{storage}
 use Rattle.report_writer.specs.Reports.{down_text}
 use Rattle.report_writer.specs.Histories.{history_text}
 use Rattle.run_media.specs.declared.openings.Opening.{Opening}
-use Rattle.run_media.specs.declared.openings.Opening.TheVariants.{Open, Shut, Wanting}
 use Rattle.run_media.specs.Media.{Media}
+use Rattle.run_media.specs.Openings.{medium_in}
 use Rattle.run_volumes.specs.declared.kept.Kept.{Kept}
-use Rattle.run_volumes.specs.Shelves.{ShelfSight}
-use Rattle.swallow_top.specs.Shelves.{medium_name}
-use Rattle.swallow_top.specs.Written.{Sinking, Ends, EndsIfAny}
+use Rattle.run_volumes.specs.Kept.{kept_under}
+use Rattle.run_volumes.specs.Shelves.{IsLeft, ShelfSight, first_names}
+use Rattle.run_volumes.specs.Standings.{HasShut, WritesNothing}
+use Rattle.run_volumes.specs.Volumes.{AreOpen, AreVolumes, logs_of, node_log}
+use Rattle.swallow_top.specs.Written.{Sinking, Ends}
 
 -- the repository of the object
 abbrev pub home_of : ObjectId → NodeId
 home_of object = repository object.repository
-
--- ---- by what came of opening its medium
 
 -- this status tells that a text was written, if it could be made
 abbrev pub TellsText : {E : Type 0} → Result (List ℕ) E → ℕ → ℕ → Sinking → Type 0
 TellsText (Ok text) written status s = Ends status s written text
 TellsText (Err e) written status s = status ≡ 7
 
--- the history by its log, or the line that says why there is none
-abbrev pub TellsOpening : {M : Type 0} {g : _} → ObjectId → Opening M g → ℕ → Sinking → Type 0
-TellsOpening object (Open store effects) status s = EndsIfAny status s 0 (history_text object effects.items)
-TellsOpening object (Shut medium cause) status s = EndsIfAny status s 6 (down_text (record { node = home_of object; cause = cause }))
-TellsOpening object (Wanting medium) status s = status ≡ 7
+-- ---- by what came of opening its volumes
+
+module _ {M : Type 0} {g : _} (object : ObjectId) (openings : List (Opening M g)) where
+  -- the history of the object by the repository's log, which is that of its current volume
+  abbrev pub ShowsHistory : List ℕ → Type 0
+  ShowsHistory text = AreOpen openings × (text ≡ history_text object (node_log (logs_of openings)))
+
+  -- the line that says why a volume couldn't be opened
+  abbrev pub ShowsDown : List ℕ → Type 0
+  ShowsDown text = (cause : DownCause) × HasShut openings cause × (text ≡ down_text (record { node = home_of object; cause = cause }))
+
+  -- The sink got the history, or the line of a repository that can't be opened; or a front of one of these where it failed; or memory was wanting.
+  abbrev pub TellsVolumes : ℕ → Sinking → Type 0
+  TellsVolumes status s = (status ≡ 7) ⊎ (((text : List ℕ) × ShowsHistory text × Ends status s 0 text) ⊎ ((text : List ℕ) × ShowsDown text × Ends status s 6 text))
 
 -- ---- by the shelf
 
-module _ {M : Type 0} (w : Media M) (old new : ShelfSight) (object : ObjectId) where
-  -- the medium of the object's repository, as it is handed back
-  abbrev pub is_back : M → List (Kept M)
-  is_back m = record { node = home_of object; volume = 0; medium = m } ∷ []
+module _ {M : Type 0} (w : Media M) (old new : ShelfSight) where
+  -- memory was wanting before any medium was asked for
+  pub record AskedNothing (kept : List (Kept M)) (status : ℕ) : Type 0 where
+    pub wanting : status ≡ 7
+    pub none : kept ≡ []
+    pub unasked : new.asked ≡ old.asked
+    pub left : (name : MediumName) → IsLeft w.tells old new name
 
-  -- the shelf was asked once, for the repository's medium
-  abbrev pub WasAsked : Type 0
-  WasAsked = new.asked ≡ old.asked ++ medium_name (home_of object) ∷ []
-
-  -- the history of the object by the log that its repository's medium held, which whatever a crash leaves has still
-  pub record ShowsHistory (kept : List (Kept M)) (text : List ℕ) : Type 0 where
-    pub log : List Effect
-    pub medium : M
-    pub asked : WasAsked
-    pub back : kept ≡ is_back medium
-    pub is_log : IsTrue w.tells → storage (old.holds (medium_name (home_of object))) ≡ Ok log
-    pub images : IsTrue w.tells → (c : Image) → w.may_leave medium c → storage c ≡ Ok log
-    pub is_text : text ≡ history_text object log
-
-  -- why the medium couldn't be opened: the shelf failed and gave none; it failed itself; or what it held has this first damaged page
-  abbrev pub OpensNot : List (Kept M) → DownCause → Type 0
-  OpensNot kept down.Medium = ((kept ≡ []) × Rose old.faults new.faults) ⊎ ((m : M) × (kept ≡ is_back m) × Rose (old.medium_faults (medium_name (home_of object))) (w.faults m))
-  OpensNot kept (down.Damaged page) = (m : M) × (kept ≡ is_back m) × (IsTrue w.tells → storage (old.holds (medium_name (home_of object))) ≡ Err page)
-  OpensNot kept (down.Full pages) = ⊥
-
-  -- the line that says so alone
-  pub record ShowsDown (kept : List (Kept M)) (text : List ℕ) : Type 0 where
-    pub cause : DownCause
-    pub asked : WasAsked
-    pub why : OpensNot kept cause
-    pub is_text : text ≡ down_text (record { node = home_of object; cause = cause })
-
-  -- a medium that was taken is the repository's, and is handed back; a crash leaves no image of it that it couldn't have left before
-  pub record IsHandedBack (kept : List (Kept M)) : Type 0 where
-    pub others : (name : MediumName) → new.is_taken name → (old.is_taken name → ⊥) → (m : M) × (name ≡ medium_name (home_of object)) × (kept ≡ is_back m)
-    pub untouched : IsTrue w.tells → (m : M) → kept ≡ is_back m → NoMore (old.may_hold (medium_name (home_of object))) (w.may_leave m)
-
-  -- The sink got the history, or the line of a medium that couldn't be opened; or a front of one of these where it failed; or memory was wanting.
-  pub record TellsHistory (kept : List (Kept M)) (s : Sinking) (status : ℕ) : Type 0 where
-    pub back : IsHandedBack kept
-    pub told : (status ≡ 7) ⊎ (((text : List ℕ) × ShowsHistory kept text × Ends status s 0 text) ⊎ ((text : List ℕ) × ShowsDown kept text × Ends status s 6 text))
+  -- The volumes of the object's repository were taken and opened. They are handed back as they were opened: whatever a crash leaves of one that was, it has its log still.
+  pub record TellsHistory (object : ObjectId) (kept : List (Kept M)) (s : Sinking) (status : ℕ) : Type 0 where
+    pub media : List (Option M)
+    pub openings : List (Opening M w)
+    pub volumes : AreVolumes w old new (home_of object) media openings
+    pub handed : kept ≡ kept_under (first_names (home_of object) (length openings)) (map medium_in openings)
+    pub keep : WritesNothing w openings (map medium_in openings)
+    pub told : TellsVolumes object openings status s

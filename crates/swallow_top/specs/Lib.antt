@@ -5,6 +5,7 @@ pub mod Inputs
 pub mod Lines
 pub mod Plans
 pub mod Promise
+pub mod Retirements
 pub mod Shelves
 pub mod Smooth
 pub mod Tellings

@@ -7,17 +7,19 @@ use Rattle.plan_form.specs.Plans.{IsPlan}
 use Rattle.plan_form.specs.Making.{made_plan}
 use Rattle.command_words.specs.declared.commands.Options.{Options}
 use Rattle.command_words.specs.declared.commands.Command.{Command}
-use Rattle.command_words.specs.declared.commands.Command.TheVariants.{Run, Load, History}
+use Rattle.command_words.specs.declared.commands.Command.TheVariants.{Run, Load, History, Retire}
 use Rattle.command_words.specs.Words.{AreWords, AreNone}
 use Rattle.run_media.specs.Media.{Media}
 use Rattle.run_rounds.specs.Runs.{Account}
 use Rattle.run_volumes.specs.declared.kept.Kept.{Kept}
+use Rattle.run_volumes.specs.Kept.{AllKept}
 use Rattle.swallow_top.specs.declared.reports.Wanted.TheVariants.{Report, Summary}
-use Rattle.swallow_top.specs.Contract.{AllKept, HasNoRun, IsNoPlan, RunsPlan}
+use Rattle.swallow_top.specs.Contract.{HasNoRun, IsNoPlan, RunsPlan}
 use Rattle.swallow_top.specs.Histories.{TellsHistory}
 use Rattle.swallow_top.specs.Inputs.{OfInput}
 use Rattle.swallow_top.specs.Lines.{words_line, source_line}
 use Rattle.run_volumes.specs.Shelves.{ShelfSight}
+use Rattle.swallow_top.specs.Retirements.{TellsRetirement}
 use Rattle.swallow_top.specs.Written.{Sinking, GotLine}
 
 -- all that a call was given and gave, as contracts see it
@@ -69,10 +71,11 @@ module _ {M : Type 0} (c : Call M) where
   WasDone (Run o) = HasFailedSource ⊎ (HasNoPlan ⊎ HasRun o)
   WasDone (Load seed count o) = IsUnread × RunsPlan c.media_are c.shelf_before c.shelf c.media (made_plan seed count) (Summary seed) o c.told c.sink c.status
   WasDone (History object) = IsUnread × TellsHistory c.media_are c.shelf_before c.shelf object c.media c.sink c.status × HasNoRun c.told
+  WasDone (Retire repository clock) = IsUnread × TellsRetirement c.media_are c.shelf_before c.shelf repository clock c.media c.sink c.status × HasNoRun c.told
 
   pub record Promise : Type 0 where
     -- The words are no command; or memory was wanting before anything was done; or the words are a command, and this was done.
     pub done : HasNoWords ⊎ (TouchedNothing 7 ⊎ ((command : Command) × AreWords command c.words × WasDone command))
     -- Each medium that was taken is handed back.
     pub kept : AllKept c.shelf_before c.shelf c.media
-    pub statuses : c.status ≤ 7
+    pub statuses : c.status ≤ 8

@@ -1,17 +1,16 @@
 //! The history of an object.
-ghost use Rattle.std.specs.Prelude.{◌≡◌, ◌≤◌, [], IfOk, vec_capacity};
+ghost use Rattle.std.specs.Prelude.{◌≡◌, ◌⊎◌, IfOk};
 ghost use Rattle.report_writer.specs.Reports.{down_text};
-ghost use Rattle.swallow_top.specs.Histories.{TellsHistory, TellsOpening, TellsText};
 ghost use Rattle.run_volumes.specs.Shelves.{shelf_sight};
+ghost use Rattle.swallow_top.specs.Histories.{AskedNothing, TellsHistory, TellsText, TellsVolumes};
 ghost use Rattle.swallow_top.specs.Written.{sinking};
 
-use crate::shelves::keep_one;
 use crate::streams::write_all;
 use medium_port::{Medium, Shelf};
 use pseudo_time::{DownCause, NodeId};
 use report_writer::{Down, history, push_downs};
-use run_media::{Opening, open_one};
-use run_volumes::{Kept, take_volume};
+use run_media::{Opening, give_back};
+use run_volumes::{Kept, Standing, keep_volumes, node_log, open_volumes, stand_of};
 use std::alloc::{AllocError, Global};
 use stream_port::Sink;
 use value_form::{Bytes, ObjectId};
@@ -25,8 +24,8 @@ fn down_line(alloc: Global, node: NodeId, cause: DownCause) -> Result<Bytes, All
     Ok(Bytes::of(text))
 }
 
-// Writes a text. The answer is the status: `written` where the sink took all of it.
-fn tell_text<O: Sink>(text: Result<Bytes, AllocError>, written: u8, sink: &mut O) -> u8
+/// Writes a text. The answer is the status: `written` where the sink took all of it.
+pub fn tell_text<O: Sink>(text: Result<Bytes, AllocError>, written: u8, sink: &mut O) -> u8
     ensures { TellsText text written result (sinking (O.taken sink.old) (O.taken sink.new) (O.faults sink.old) (O.faults sink.new)) }
 {
     let Ok(text) = text else {
@@ -41,42 +40,47 @@ fn tell_text<O: Sink>(text: Result<Bytes, AllocError>, written: u8, sink: &mut O
 
 // Writes the history of the object by the log of its repository, or why that can't be opened. The answer
 // is the status.
-fn tell_opening<O: Sink, M: Medium>(
+fn tell_volumes<O: Sink, M: Medium>(
     alloc: Global,
     object: ObjectId,
-    opening: &Opening<M>,
+    openings: &[Opening<M>],
     sink: &mut O,
 ) -> u8
-    ensures { TellsOpening object opening.now result (sinking (O.taken sink.old) (O.taken sink.new) (O.faults sink.old) (O.faults sink.new)) }
+    ensures { TellsVolumes object openings.now result (sinking (O.taken sink.old) (O.taken sink.new) (O.faults sink.old) (O.faults sink.new)) }
 {
-    match opening {
-        Opening::Open(_, effects) => tell_text(history(alloc, object, effects.as_slice()), 0, sink),
-        Opening::Shut(_, cause) => {
+    match stand_of(openings) {
+        Standing::Open => tell_text(history(alloc, object, node_log(openings)), 0, sink),
+        Standing::Shut(cause) => {
             let node = NodeId::repository(object.repository);
-            tell_text(down_line(alloc, node, *cause), 6, sink)
+            tell_text(down_line(alloc, node, cause), 6, sink)
         }
-        Opening::Wanting(_) => 7,
+        Standing::Wanting => 7,
     }
 }
 
-/// Opens the object's repository alone, and writes the object's history. The answer is the status, and
-/// the medium that was taken.
+/// Opens the volumes of the object's repository, and writes the object's history by the log of the current
+/// one. The answer is the status, and the media that were taken, in the order of the volumes.
 pub fn tell_history<O: Sink, S: Shelf>(
     alloc: Global,
     object: ObjectId,
     sink: &mut O,
     shelf: &mut S,
 ) -> (u8, Vec<Kept<S::Medium>>)
-    ensures { TellsHistory S.Medium.Medium
-        (shelf_sight S.Shelf shelf.old)
-        (shelf_sight S.Shelf shelf.new) object result.1.items
-        (sinking (O.taken sink.old) (O.taken sink.new) (O.faults sink.old) (O.faults sink.new)) result.0 }
+    ensures { AskedNothing S.Medium.Medium (shelf_sight S.Shelf shelf.old) (shelf_sight S.Shelf shelf.new) result.1.items result.0
+        ⊎ TellsHistory S.Medium.Medium (shelf_sight S.Shelf shelf.old) (shelf_sight S.Shelf shelf.new) object result.1.items
+            (sinking (O.taken sink.old) (O.taken sink.new) (O.faults sink.old) (O.faults sink.new)) result.0 }
 {
-    let Ok(kept) = Vec::with_capacity(alloc, 1) else {
+    let Ok(room) = Vec::with_capacity(alloc, 1_000) else {
+        return (7, Vec::new(alloc));
+    };
+    let Ok(places) = Vec::with_capacity(alloc, 1_000) else {
+        return (7, Vec::new(alloc));
+    };
+    let Ok(kept) = Vec::with_capacity(alloc, 1_000) else {
         return (7, Vec::new(alloc));
     };
     let node = NodeId::repository(object.repository);
-    let opening = open_one(alloc, take_volume(shelf, node, 0));
-    let status = tell_opening(alloc, object, &opening, sink);
-    (status, keep_one(node, opening.release(), kept))
+    let openings = open_volumes(alloc, shelf, node, room);
+    let status = tell_volumes(alloc, object, openings.as_slice(), sink);
+    (status, keep_volumes(node, give_back(places, openings), kept))
 }

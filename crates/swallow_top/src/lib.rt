@@ -7,6 +7,7 @@ mod lines;
 mod media;
 mod plans;
 mod reports;
+mod retirements;
 mod shelves;
 mod stops;
 mod streams;

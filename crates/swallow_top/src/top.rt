@@ -4,8 +4,9 @@ ghost use Rattle.plan_form.specs.PlanTexts.{IsOfLanguage};
 ghost use Rattle.run_rounds.specs.Stories.{no_trace};
 ghost use Rattle.command_words.specs.Words.{said};
 ghost use Rattle.run_rounds.specs.Finishes.{account_of, tellers};
-ghost use Rattle.swallow_top.specs.Contract.{AllKept, RefusedAs, RunsPlan};
+ghost use Rattle.swallow_top.specs.Contract.{RefusedAs, RunsPlan};
 ghost use Rattle.swallow_top.specs.Promise.{Promise};
+ghost use Rattle.run_volumes.specs.Kept.{AllKept};
 ghost use Rattle.run_volumes.specs.Shelves.{shelf_sight};
 ghost use Rattle.swallow_top.specs.Written.{sinking};
 
@@ -14,6 +15,7 @@ use crate::lines::fault_line;
 use crate::media::Finish;
 use crate::plans::read_plan;
 use crate::reports::{Wanted, tell};
+use crate::retirements::tell_retirement;
 use crate::shelves::{keep_all, take_all};
 use crate::stops::Stop;
 use crate::streams::write_all;
@@ -154,7 +156,9 @@ where
 /// - `run` reads a plan from the source, runs it over the media of its nodes, and writes its report to
 ///   the sink;
 /// - `load` makes a plan of a seed, runs it, and writes a summary;
-/// - `history` opens the repository of an object alone, and writes the object's history.
+/// - `history` opens the repository of an object alone, and writes the object's history;
+/// - `retire` copies what is current in a repository at a mark into a fresh volume, whose log is the
+///   repository's from then on, and writes how many effects were kept and dropped.
 ///
 /// The status in the answer is the one with which a program ends:
 ///
@@ -163,11 +167,13 @@ where
 /// - 2: the input is no plan, and `swallow: plan line L KIND` was written; or a broker's log shows a
 ///   later run or another plan, and `swallow: old run N` or `swallow: other plan act I` was;
 /// - 3: the source failed, and `swallow: source` was written;
-/// - 4: the sink failed while a report, a summary, a history or the line of a node that is down was
-///   written;
+/// - 4: the sink failed while a report, a summary, a history, the line of a retirement or that of a node
+///   that is down was written;
 /// - 5: no node is down, and an act has no outcome;
 /// - 6: a node is down, and the text says why;
-/// - 7: memory is wanting.
+/// - 7: memory is wanting;
+/// - 8: the repository may not be retired at the mark, and nothing was written to its media:
+///   `swallow: last volume`, `swallow: old mark FLOOR` or `swallow: undecided OBJECT START` says why.
 pub fn swallow<
     I: Source,
     O: Sink,
@@ -246,6 +252,15 @@ where
         },
         Some(Command::History(object)) => {
             let (status, media) = tell_history(alloc, object, sink, shelf);
+            quiet(alloc, status, media, fates, clock)
+        }
+        Some(
+            Command::Retire {
+                repository,
+                clock: mark,
+            },
+        ) => {
+            let (status, media) = tell_retirement(alloc, repository, mark, sink, shelf);
             quiet(alloc, status, media, fates, clock)
         }
     }

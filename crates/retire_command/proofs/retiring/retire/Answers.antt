@@ -1,4 +1,4 @@
-use Rattle.retire_command.proofs.RetireLemmas.{stand-all}
+use Rattle.run_volumes.proofs.StandLemmas.{stand-all}
 use Rattle.retire_command.proofs.retiring.retire.Goals as goal
 
 pub retire_volumes-retired-requires-clause-stands : goal.retire_volumes-retired-requires-clause-stands

@@ -2,7 +2,8 @@ use Rattle.std.proofs.Common.{List, subst, sym}
 use Rattle.effect_form.specs.Effects.{AreEffects}
 use Rattle.run_volumes.specs.Volumes.{logs_of, node_log}
 use Rattle.retire_command.specs.Retires.{Stops}
-use Rattle.retire_command.proofs.RetireLemmas.{in-range, stopped}
+use Rattle.run_volumes.proofs.StandLemmas.{in-range}
+use Rattle.retire_command.proofs.RetireLemmas.{stopped}
 use Rattle.retire_command.proofs.retiring.retire_volumes.Goals as goal
 
 pub prepare-requires-clause-ranges : goal.prepare-requires-clause-ranges

@@ -1,5 +1,5 @@
-use Rattle.retire_command.proofs.RetireLemmas.{shut-at}
-use Rattle.retire_command.proofs.preparing.stand_of.Goals as goal
+use Rattle.run_volumes.proofs.StandLemmas.{shut-at}
+use Rattle.run_volumes.proofs.standings.stand_of.Goals as goal
 
 pub returns-in-Shut : goal.returns-in-Shut
 returns-in-Shut g c =

@@ -1,6 +1,6 @@
 use Rattle.std.proofs.Common.{take}
 use Rattle.run_volumes.specs.Volumes.{AreOpen}
-use Rattle.retire_command.proofs.preparing.stand_of.Given as goal
+use Rattle.run_volumes.proofs.standings.stand_of.Given as goal
 
 -- those so far were opened
 abbrev pub invariant-loop-opening : goal.invariant-loop-opening

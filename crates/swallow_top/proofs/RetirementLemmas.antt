@@ -1,0 +1,20 @@
+-- What is handed back of a retirement.
+use Rattle.std.proofs.Common.{◌≡◌, ℕ, List, length, ap, sym, subst, ◌∙◌}
+use Rattle.std.proofs.lemmas.Slice.Zip.{AllZip-long}
+use Rattle.pseudo_time.specs.Nodes.{repository as named}
+use Rattle.run_media.specs.Media.{IsBack, Media}
+use Rattle.run_volumes.specs.declared.kept.Kept.{Kept}
+use Rattle.run_volumes.specs.Kept.{AllKept, kept_under}
+use Rattle.run_volumes.specs.Shelves.{ShelfSight, first_names}
+use Rattle.run_volumes.proofs.ShelfLemmas.{all-kept}
+use Rattle.retire_command.proofs.RetireLemmas.{comes-back}
+use Rattle.swallow_top.specs.Retirements.{TellsRetirement, mark_at}
+use Rattle.swallow_top.specs.Written.{Sinking}
+
+-- each medium that was taken
+pub retirement-kept : {M : Type 0} (w : Media M) (old new : ShelfSight) (repository clock : ℕ) (kept : List (Kept M)) (s : Sinking) (status : ℕ) → TellsRetirement w old new repository clock kept s status → AllKept old new kept
+retirement-kept w old new repository clock kept s status h =
+    let over = h.over in
+    let back = comes-back w (named repository) (mark_at clock) over.media over.openings over.left h.retired over.volumes.opened over.came in
+    subst (AllKept old new) (ap (λ k. kept_under (first_names (named repository) k) over.left) (sym (AllZip-long IsBack over.media over.left back)) ∙ sym over.handed)
+    (all-kept w old new (first_names (named repository) (length over.media)) over.media over.left over.volumes.taken back)
