@@ -9,7 +9,8 @@ use Rattle.run_media.specs.declared.openings.Opening.TheVariants.{Open, Shut, Wa
 use Rattle.run_media.specs.Media.{AreBack, IsBack, Media}
 use Rattle.run_media.specs.Openings.{HasOpened, log_in, medium_in}
 use Rattle.run_volumes.specs.Standings.{HasShut, KeepsIts, Stands, WritesNothing}
-use Rattle.run_volumes.specs.Volumes.{current, log_at, logs_of, node_log}
+use Rattle.forward_copy.specs.Currents.{current, log_at, node_log}
+use Rattle.run_volumes.specs.Volumes.{logs_of}
 
 module _ {M : Type 0} (w : Media M) {g : _} where
   -- each volume that was opened holds its log

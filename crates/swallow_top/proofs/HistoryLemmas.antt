@@ -13,7 +13,8 @@ use Rattle.run_volumes.specs.declared.kept.Kept.{Kept}
 use Rattle.run_volumes.specs.Kept.{AllKept, kept_under}
 use Rattle.run_volumes.specs.Shelves.{ShelfSight, first_names}
 use Rattle.run_volumes.specs.Standings.{HasShut, WritesNothing}
-use Rattle.run_volumes.specs.Volumes.{AreOpen, AreVolumes, logs_of, node_log}
+use Rattle.forward_copy.specs.Currents.{node_log}
+use Rattle.run_volumes.specs.Volumes.{AreOpen, AreVolumes, logs_of}
 use Rattle.run_volumes.proofs.ShelfLemmas.{all-kept}
 use Rattle.run_volumes.proofs.StandLemmas.{back-all, given-back, stand-all}
 use Rattle.swallow_top.specs.Histories.{TellsHistory, TellsVolumes, home_of}

@@ -14,7 +14,8 @@ use Rattle.run_volumes.specs.declared.kept.Kept.{Kept}
 use Rattle.run_volumes.specs.Kept.{kept_under}
 use Rattle.run_volumes.specs.Shelves.{IsLeft, ShelfSight, first_names}
 use Rattle.run_volumes.specs.Standings.{HasShut, WritesNothing}
-use Rattle.run_volumes.specs.Volumes.{AreOpen, AreVolumes, logs_of, node_log}
+use Rattle.forward_copy.specs.Currents.{node_log}
+use Rattle.run_volumes.specs.Volumes.{AreOpen, AreVolumes, logs_of}
 use Rattle.swallow_top.specs.Written.{Sinking, Ends}
 
 -- the repository of the object
