@@ -80,9 +80,9 @@ fn retire(words: &[&str]) -> Option<Command>
 }
 
 /// The command that the words are: `run OPTIONS`, `load SEED COUNT OPTIONS`, `history R.N` or
-/// `retire R CLOCK`. OPTIONS are any of `--workers W` (1 unless given), `--ticks T` (10,000) and `--messages N` (200,000), in any
-/// order, each at most once, name and number as two words. Numbers are decimal digits without a sign or
-/// a zero in front. None where they are no command.
+/// `retire R CLOCK`. OPTIONS are any of `--workers W` (1 unless given), `--ticks T` (10,000) and
+/// `--messages N` (200,000), in any order, each at most once, name and number as two words. Numbers are
+/// decimal digits without a sign or a zero in front. None where they are no command.
 pub fn read_words(words: &[&str]) -> Option<Command>
     ensures words { IfSome result (λ c. AreWords c (said words.now)) }
     ensures none { result ≡ None → AreNone (said words.now) }
