@@ -7,9 +7,8 @@ use crate::lines::{Line, Stream, read};
 use crate::plans::{add, bytes_of};
 use crate::series::{Series, fails_each, stops_each};
 use crate::setups::{Pace, Patch, Setup};
-use crate::shows::{Shown, acts_of, show, show_medium};
-use medium_port::MemoryMedium;
-use pseudo_time::NodeId;
+use crate::shows::{Part, Shown, acts_of, show, show_medium};
+use medium_port::{MediumName, MemoryMedium};
 use std::alloc::Global;
 use std::mem;
 use std::sync::Wait;
@@ -69,11 +68,17 @@ impl Case {
         mem::replace(&mut self.setup, Setup::new(self.alloc))
     }
 
-    // Adds bytes to the medium of a node.
-    fn patch(&mut self, node: NodeId, page: u32, at: u16, bytes: Vec<u8>) -> Result<(), CaseFault> {
-        self.setup.name(node)?;
+    // Adds bytes to a medium.
+    fn patch(
+        &mut self,
+        name: MediumName,
+        page: u32,
+        at: u16,
+        bytes: Vec<u8>,
+    ) -> Result<(), CaseFault> {
+        self.setup.name(name)?;
         self.setup.patches.push(Patch {
-            node,
+            name,
             page,
             at,
             bytes,
@@ -141,11 +146,11 @@ impl Case {
         show(self.alloc, said, told.status, told.text.as_str())
     }
 
-    // Shows the media that the last call left.
-    fn media(&mut self, said: &mut String) -> Result<(), CaseFault> {
+    // Shows this part of the pages of the media that the last call left.
+    fn media(&mut self, part: Part, said: &mut String) -> Result<(), CaseFault> {
         let left = mem::replace(&mut self.left, Vec::new(self.alloc));
         for kept in left {
-            show_medium(self.alloc, said, kept)?;
+            show_medium(self.alloc, said, kept, part)?;
         }
         Ok(())
     }
@@ -207,27 +212,27 @@ impl Case {
         Ok(None)
     }
 
-    // Sets up what the words of a line say of a node's medium. Any other line is handed back.
+    // Sets up what the words of a line say of a medium. Any other line is handed back.
     fn set_medium<'a>(&mut self, line: Line<'a>) -> Result<Option<Line<'a>>, CaseFault> {
         match line {
-            Line::Medium(node, pages) => {
-                self.setup.name(node)?;
-                self.setup.sizes.push((node, pages))?;
+            Line::Medium(name, pages) => {
+                self.setup.name(name)?;
+                self.setup.sizes.push((name, pages))?;
             }
-            Line::Missing(node) => self.setup.missing.push(node)?,
-            Line::Stop(node, stop) => {
-                self.setup.name(node)?;
-                self.setup.stops.push((node, stop))?;
+            Line::Missing(name) => self.setup.missing.push(name)?,
+            Line::Stop(name, stop) => {
+                self.setup.name(name)?;
+                self.setup.stops.push((name, stop))?;
             }
-            Line::Moving(node, stop) => {
-                self.setup.name(node)?;
-                self.setup.moving.push((node, stop))?;
+            Line::Moving(name, stop) => {
+                self.setup.name(name)?;
+                self.setup.moving.push((name, stop))?;
             }
-            Line::Page(node, page, words) => {
-                self.patch(node, page, 0, page_of(self.alloc, words)?)?
+            Line::Page(name, page, words) => {
+                self.patch(name, page, 0, page_of(self.alloc, words)?)?
             }
-            Line::Bytes(node, page, at, words) => {
-                self.patch(node, page, at, bytes_of(self.alloc, words)?)?
+            Line::Bytes(name, page, at, words) => {
+                self.patch(name, page, at, bytes_of(self.alloc, words)?)?
             }
             line => return Ok(Some(line)),
         }
@@ -247,7 +252,8 @@ impl Case {
             Line::StopsEach(from, least, words) => self.stops_each(rt, from, least, words, said),
             Line::FailsEach(stream, most, words) => self.fails_each(rt, stream, most, words, said),
             Line::Meet(looks, words) => self.meet(rt, looks, words, said),
-            Line::Media => self.media(said),
+            Line::Media => self.media(Part::Records, said),
+            Line::Heads => self.media(Part::Head, said),
             Line::Lost(lose, count) => tell_lost(self.alloc, lose, count, said),
             _ => Err(CaseFault::Line),
         }

@@ -1,7 +1,7 @@
 //! The lines of a case.
 
-use medium_port::{Stop, StopAt};
-use pseudo_time::{NodeId, NodeKind};
+use medium_port::{MediumName, Stop, StopAt};
+use pseudo_time::NodeKind;
 use stream_port::{Fate, FateRule};
 
 /// A stream of a call.
@@ -11,24 +11,25 @@ pub enum Stream {
     Sink,
 }
 
-/// What a line says. Its words stand in front of what they mean.
+/// What a line says. Its words stand in front of what they mean. A medium is named by `KIND N`, where KIND is
+/// `repository` or `broker`; a volume V above 0 of a node by `KIND N-V`.
 #[derive(Clone, Copy)]
 pub enum Line<'a> {
     /// `pages P`: how many pages a blank medium has.
     Pages(u32),
-    /// `medium KIND N P`: how many pages the medium of a node has. KIND is `repository` or `broker`.
-    Medium(NodeId, u32),
-    /// `missing KIND N`: the medium of a node can't be taken.
-    Missing(NodeId),
-    /// `stop KIND N call C keep K fill F` or `stop KIND N write P A keep K fill F`: a stop of a node's medium.
-    Stop(NodeId, Stop),
-    /// `moving KIND N behind B keep K fill F`: a stop of a node's medium, so many calls behind the one at
+    /// `medium KIND N P`: how many pages a medium has.
+    Medium(MediumName, u32),
+    /// `missing KIND N`: a medium can't be taken.
+    Missing(MediumName),
+    /// `stop KIND N call C keep K fill F` or `stop KIND N write P A keep K fill F`: a stop of a medium.
+    Stop(MediumName, Stop),
+    /// `moving KIND N behind B keep K fill F`: a stop of a medium, so many calls behind the one at
     /// which `stops-each` is.
-    Moving(NodeId, Stop),
-    /// `page KIND N P HEX..`: log records on a page of a node's medium. The page's gate is open.
-    Page(NodeId, u32, &'a [&'a str]),
-    /// `bytes KIND N P A HEX..`: bytes on a page of a node's medium, from this place on.
-    Bytes(NodeId, u32, u16, &'a [&'a str]),
+    Moving(MediumName, Stop),
+    /// `page KIND N P HEX..`: log records on a page of a medium. The page's gate is open.
+    Page(MediumName, u32, &'a [&'a str]),
+    /// `bytes KIND N P A HEX..`: bytes on a page of a medium, from this place on.
+    Bytes(MediumName, u32, u16, &'a [&'a str]),
     /// `fate KIND N copies C overtake O hold H`: what comes of the nth message of a kind.
     Fate(FateRule),
     /// `source MOST FAIL..`: how many bytes the source gives a call, and which of its calls fail.
@@ -55,27 +56,35 @@ pub enum Line<'a> {
     /// `meet LOOKS WORD..`: the call with these words over media of which those of repositories meet at their
     /// first writes, each of which looks so often for another.
     Meet(u64, &'a [&'a str]),
-    /// `media`: the pages of the media that the call before this line left, which are let go.
+    /// `media`: the pages of the media that the call before this line left, which are let go. Of volumes above 0
+    /// those alone that aren't blank.
     Media,
+    /// `heads`: the same, of each page its first five bytes.
+    Heads,
     /// `lost LOSE COUNT`: which of so many messages a laboratory with this divisor loses.
     Lost(u32, u32),
     /// `# REMARK`, or an empty line.
     Remark,
 }
 
-fn node(kind: &str, number: &str) -> Option<NodeId> {
+fn name(kind: &str, number: &str) -> Option<MediumName> {
     let kind = match kind {
         "repository" => NodeKind::Repository,
         "broker" => NodeKind::Broker,
         _ => return None,
     };
-    Some(NodeId {
+    let (number, volume) = match number.split_once('-') {
+        Some((number, volume)) => (number, volume.parse().ok()?),
+        None => (number, 0),
+    };
+    Some(MediumName {
         kind,
         number: number.parse().ok()?,
+        volume,
     })
 }
 
-// A stop, from the words behind its node.
+// A stop, from the words behind its medium's name.
 fn stop(words: &[&str]) -> Option<Stop> {
     let (at, rest) = match words {
         [verb, number, rest @ ..] if *verb == "call" => {
@@ -159,13 +168,13 @@ fn fate(words: &[&str]) -> Option<FateRule> {
     })
 }
 
-// A line on the pages of a node's medium.
-fn on_pages<'a>(verb: &str, node: NodeId, words: &'a [&'a str]) -> Option<Line<'a>> {
+// A line on the pages of a medium.
+fn on_pages<'a>(verb: &str, name: MediumName, words: &'a [&'a str]) -> Option<Line<'a>> {
     match (verb, words) {
-        ("medium", [pages]) => Some(Line::Medium(node, pages.parse().ok()?)),
-        ("page", [page, words @ ..]) => Some(Line::Page(node, page.parse().ok()?, words)),
+        ("medium", [pages]) => Some(Line::Medium(name, pages.parse().ok()?)),
+        ("page", [page, words @ ..]) => Some(Line::Page(name, page.parse().ok()?, words)),
         ("bytes", [page, at, words @ ..]) => Some(Line::Bytes(
-            node,
+            name,
             page.parse().ok()?,
             at.parse().ok()?,
             words,
@@ -174,13 +183,13 @@ fn on_pages<'a>(verb: &str, node: NodeId, words: &'a [&'a str]) -> Option<Line<'
     }
 }
 
-// A line on a node: what it says of it, and the words behind its name.
-fn on_node<'a>(verb: &str, node: NodeId, words: &'a [&'a str]) -> Option<Line<'a>> {
+// A line on a medium: what it says of it, and the words behind its name.
+fn on_medium<'a>(verb: &str, name: MediumName, words: &'a [&'a str]) -> Option<Line<'a>> {
     match verb {
-        "missing" => Some(Line::Missing(node)),
-        "stop" => Some(Line::Stop(node, stop(words)?)),
-        "moving" => Some(Line::Moving(node, moving(words)?)),
-        _ => on_pages(verb, node, words),
+        "missing" => Some(Line::Missing(name)),
+        "stop" => Some(Line::Stop(name, stop(words)?)),
+        "moving" => Some(Line::Moving(name, moving(words)?)),
+        _ => on_pages(verb, name, words),
     }
 }
 
@@ -208,7 +217,7 @@ fn on_call<'a>(verb: &str, words: &'a [&'a str]) -> Option<Line<'a>> {
             most.parse().ok()?,
             words,
         )),
-        (verb, [kind, number, words @ ..]) => on_node(verb, node(kind, number)?, words),
+        (verb, [kind, number, words @ ..]) => on_medium(verb, name(kind, number)?, words),
         _ => None,
     }
 }
@@ -223,6 +232,7 @@ pub fn read<'a>(words: &'a [&'a str]) -> Option<Line<'a>> {
         ("again", []) => Some(Line::Again),
         ("plan", []) => Some(Line::Plan),
         ("media", []) => Some(Line::Media),
+        ("heads", []) => Some(Line::Heads),
         ("pages", [pages]) => Some(Line::Pages(pages.parse().ok()?)),
         ("fate", words) => Some(Line::Fate(fate(words)?)),
         ("source", [most, fails @ ..]) => Some(Line::Source(most.parse().ok()?, fails)),

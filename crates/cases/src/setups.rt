@@ -3,8 +3,7 @@ ghost use Rattle.std.specs.Prelude.{◌≡◌, false, IfOk};
 ghost use Rattle.medium_port.specs.MemoryMedia.{failed_in};
 
 use crate::faults::CaseFault;
-use medium_port::{Medium, MemoryMedium, MemoryShelf, Stop, StopAt};
-use pseudo_time::NodeId;
+use medium_port::{Medium, MediumName, MemoryMedium, MemoryShelf, Stop, StopAt};
 use std::alloc::{AllocError, Global};
 use stream_port::FateRule;
 use swallow_top::Kept;
@@ -16,10 +15,10 @@ pub struct Pace {
     pub fails: Vec<u64>,
 }
 
-/// Bytes on a page of a node's medium.
+/// Bytes on a page of a medium.
 #[derive(Drop)]
 pub struct Patch {
-    pub node: NodeId,
+    pub name: MediumName,
     pub page: u32,
     pub at: u16,
     pub bytes: Vec<u8>,
@@ -30,15 +29,15 @@ pub struct Patch {
 pub struct Setup {
     /// How many pages a blank medium has.
     pub pages: u32,
-    /// The nodes of whose media something is said.
-    nodes: Vec<NodeId>,
+    /// The media of which something is said.
+    names: Vec<MediumName>,
     /// The media of other sizes.
-    pub sizes: Vec<(NodeId, u32)>,
+    pub sizes: Vec<(MediumName, u32)>,
     /// The media that can't be taken.
-    pub missing: Vec<NodeId>,
-    pub stops: Vec<(NodeId, Stop)>,
+    pub missing: Vec<MediumName>,
+    pub stops: Vec<(MediumName, Stop)>,
     /// Stops so many calls behind the call at which they are.
-    pub moving: Vec<(NodeId, Stop)>,
+    pub moving: Vec<(MediumName, Stop)>,
     /// The call at which the moving stops are, or 0 where they are at none.
     pub at_call: u64,
     pub patches: Vec<Patch>,
@@ -54,7 +53,7 @@ impl Setup {
     pub fn new(alloc: Global) -> Setup {
         Setup {
             pages: 64,
-            nodes: Vec::new(alloc),
+            names: Vec::new(alloc),
             sizes: Vec::new(alloc),
             missing: Vec::new(alloc),
             stops: Vec::new(alloc),
@@ -82,40 +81,40 @@ impl Setup {
         })
     }
 
-    /// Says that something is said of a node's medium.
-    pub fn name(&mut self, node: NodeId) -> Result<(), CaseFault> {
-        if !self.nodes.contains(&node) {
-            self.nodes.push(node)?;
+    /// Says that something is said of a medium.
+    pub fn name(&mut self, name: MediumName) -> Result<(), CaseFault> {
+        if !self.names.contains(&name) {
+            self.names.push(name)?;
         }
         Ok(())
     }
 
-    fn pages_of(&self, of: NodeId) -> u32 {
-        for (node, pages) in &self.sizes {
-            if *node == of {
+    fn pages_of(&self, of: MediumName) -> u32 {
+        for (name, pages) in &self.sizes {
+            if *name == of {
                 return *pages;
             }
         }
         self.pages
     }
 
-    fn stops_of(&self, alloc: Global, of: NodeId) -> Result<Vec<Stop>, AllocError> {
+    fn stops_of(&self, alloc: Global, of: MediumName) -> Result<Vec<Stop>, AllocError> {
         let mut stops = Vec::new(alloc);
-        for (node, stop) in &self.stops {
-            if *node == of {
+        for (name, stop) in &self.stops {
+            if *name == of {
                 stops.push(*stop)?;
             }
         }
-        for (node, stop) in &self.moving {
-            if *node == of && self.at_call != 0 {
+        for (name, stop) in &self.moving {
+            if *name == of && self.at_call != 0 {
                 stops.push(moved(*stop, self.at_call))?;
             }
         }
         Ok(stops)
     }
 
-    // The medium of a node, with its stops and its bytes.
-    fn medium_of(&self, alloc: Global, of: NodeId) -> Result<MemoryMedium, CaseFault>
+    // A medium, with its stops and its bytes.
+    fn medium_of(&self, alloc: Global, of: MediumName) -> Result<MemoryMedium, CaseFault>
         ensures { IfOk result (λ m. failed_in m ≡ false) }
     {
         let pages = self.pages_of(of);
@@ -124,7 +123,7 @@ impl Setup {
         }
         let mut medium = MemoryMedium::new(alloc, pages, self.stops_of(alloc, of)?)?;
         for patch in &self.patches {
-            if patch.node == of {
+            if patch.name == of {
                 medium = patched(medium, patch)?;
             }
         }
@@ -143,14 +142,23 @@ impl Setup {
         }
         let mut shelf = MemoryShelf::new(alloc, self.pages);
         for kept in left {
-            let Kept { node, medium, .. } = kept;
-            put(&mut shelf, node, reopened(medium)?)?;
+            let Kept {
+                node,
+                volume,
+                medium,
+            } = kept;
+            let name = MediumName {
+                kind: node.kind,
+                number: node.number,
+                volume,
+            };
+            put(&mut shelf, name, reopened(medium)?)?;
         }
-        for node in &self.nodes {
-            put(&mut shelf, *node, self.medium_of(alloc, *node)?)?;
+        for name in &self.names {
+            put(&mut shelf, *name, self.medium_of(alloc, *name)?)?;
         }
-        for node in &self.missing {
-            shelf.fail(node.kind, node.number, 0)?;
+        for name in &self.missing {
+            shelf.fail(name.kind, name.number, name.volume)?;
         }
         Ok(shelf)
     }
@@ -178,10 +186,10 @@ pub fn reopened(medium: MemoryMedium) -> Result<MemoryMedium, CaseFault>
     }
 }
 
-fn put(shelf: &mut MemoryShelf, node: NodeId, medium: MemoryMedium) -> Result<(), CaseFault>
+fn put(shelf: &mut MemoryShelf, name: MediumName, medium: MemoryMedium) -> Result<(), CaseFault>
     requires { failed_in medium ≡ false }
 {
-    match shelf.put(node.kind, node.number, 0, medium) {
+    match shelf.put(name.kind, name.number, name.volume, medium) {
         Ok(()) => Ok(()),
         Err(_) => Err(CaseFault::NoMemory),
     }

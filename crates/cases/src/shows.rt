@@ -4,7 +4,7 @@ use crate::calls::Said;
 use crate::faults::CaseFault;
 use crate::setups::reopened;
 use medium_port::{Medium, MemoryMedium};
-use pseudo_time::{NodeId, NodeKind};
+use pseudo_time::NodeKind;
 use std::alloc::Global;
 use swallow_top::Kept;
 
@@ -78,7 +78,7 @@ pub fn crashes_of(text: &str) -> Option<u64> {
 
 /// Whether a node is told as down.
 pub fn is_down(said: &Said) -> bool {
-    said.text.contains("\ndown ")
+    said.text.starts_with("down ") || said.text.contains("\ndown ")
 }
 
 fn name_of(kind: NodeKind) -> &'static str {
@@ -113,51 +113,92 @@ fn piece_of(bytes: &[u8; 4096]) -> Option<&'static str> {
     }
 }
 
-// Shows what stands on a page, where anything does: its log records, or which piece of one, and how long it is.
+/// What is shown of a page.
+#[derive(Clone, Copy)]
+pub enum Part {
+    /// Its log records, or which piece of one, and how long it is.
+    Records,
+    /// Its first five bytes.
+    Head,
+}
+
+// Shows the log records on a page, or which piece of one, and how long it is.
+fn show_records(alloc: Global, said: &mut String, bytes: &[u8; 4096]) -> Result<(), CaseFault> {
+    match (records_of(bytes), piece_of(bytes)) {
+        (Some(records), None) => said.push_str(hex::encode(alloc, records)?.as_str())?,
+        (Some(records), Some(piece)) => {
+            let size = records.len();
+            said.push_str(format!(in alloc; "{piece} {size}")?.as_str())?;
+        }
+        (None, _) => said.push_str("spoiled")?,
+    }
+    Ok(())
+}
+
+// Shows this part of a page behind the name of its medium, where anything stands on it.
 fn show_page(
     alloc: Global,
     said: &mut String,
-    node: NodeId,
+    name: &str,
     page: u32,
     bytes: &[u8; 4096],
+    part: Part,
 ) -> Result<(), CaseFault> {
     if bytes.iter().all(|byte| *byte == 0) {
         return Ok(());
     }
-    let (kind, number) = (name_of(node.kind), node.number);
-    said.push_str(format!(in alloc; "  {kind} {number} page {page}")?.as_str())?;
-    match (records_of(bytes), piece_of(bytes)) {
-        (Some(records), None) => {
-            said.push(' ')?;
-            said.push_str(hex::encode(alloc, records)?.as_str())?;
-        }
-        (Some(records), Some(piece)) => {
-            let size = records.len();
-            said.push_str(format!(in alloc; " {piece} {size}")?.as_str())?;
-        }
-        (None, _) => said.push_str(" spoiled")?,
+    said.push_str(format!(in alloc; "  {name} page {page} ")?.as_str())?;
+    match part {
+        Part::Records => show_records(alloc, said, bytes)?,
+        Part::Head => said.push_str(hex::encode(alloc, &bytes[..5])?.as_str())?,
     }
     said.push('\n')?;
     Ok(())
 }
 
-/// Shows the pages of a medium that was left.
-pub fn show_medium(
+// The pages of a medium on which anything stands.
+fn shown_pages(
     alloc: Global,
-    said: &mut String,
-    kept: Kept<MemoryMedium>,
-) -> Result<(), CaseFault> {
-    let Kept { node, medium, .. } = kept;
+    name: &str,
+    medium: MemoryMedium,
+    part: Part,
+) -> Result<String, CaseFault> {
     let mut medium = reopened(medium)?;
-    let (kind, number) = (name_of(node.kind), node.number);
+    let mut said = String::new(alloc);
     let pages = medium.pages();
-    said.push_str(format!(in alloc; "  {kind} {number} pages {pages}\n")?.as_str())?;
     for page in 0..pages {
         let mut bytes = [0u8; 4096];
         if medium.read(page, &mut bytes).is_err() {
             return Err(CaseFault::Medium);
         }
-        show_page(alloc, said, node, page, &bytes)?;
+        show_page(alloc, &mut said, name, page, &bytes, part)?;
+    }
+    Ok(said)
+}
+
+/// Shows this part of the pages of a medium that was left. A blank volume above 0 isn't shown.
+pub fn show_medium(
+    alloc: Global,
+    said: &mut String,
+    kept: Kept<MemoryMedium>,
+    part: Part,
+) -> Result<(), CaseFault> {
+    let Kept {
+        node,
+        volume,
+        medium,
+    } = kept;
+    let (kind, number) = (name_of(node.kind), node.number);
+    let name = if volume == 0 {
+        format!(in alloc; "{kind} {number}")?
+    } else {
+        format!(in alloc; "{kind} {number}-{volume}")?
+    };
+    let count = medium.pages();
+    let pages = shown_pages(alloc, name.as_str(), medium, part)?;
+    if volume == 0 || !pages.is_empty() {
+        said.push_str(format!(in alloc; "  {name} pages {count}\n")?.as_str())?;
+        said.push_str(pages.as_str())?;
     }
     Ok(())
 }
