@@ -3,6 +3,7 @@ help_swallow_main() {
   cat << 'TEXT'
 ./swallow FOLDER run [OPTIONS] < PLAN       runs a plan over the logs in FOLDER, and writes its report
 ./swallow FOLDER history OBJECT             writes the history of an object, as 1.7
+./swallow FOLDER retire R CLOCK             carries repository R forward at a mark, into a fresh volume
 ./swallow FOLDER load SEED COUNT [OPTIONS]  runs COUNT + 1 acts made from SEED, and writes a summary
 ./swallow build                             proves and builds the program here, and compares it with release/
 
@@ -12,7 +13,7 @@ help_swallow_main() {
 
 Status 0: each act has its outcome. 1: no command. 2: no plan, or a run that the folder refuses.
 3: standard input failed. 4: standard output failed. 5: an act has no outcome. 6: a node is down.
-7: no memory. 70: the program couldn't be built or started.
+7: no memory. 8: a retirement that is refused. 70: the program couldn't be built or started.
 
 docs/COMMANDS.md has it with examples and what to do, docs/FORMATS.md the texts of plans and reports.
 TEXT
@@ -26,7 +27,7 @@ help_swallow_lab() {
 --pages P      pages of each medium, 1 to 1,048,576
 --lose L       about one message in L is lost, by its number, 0 to 1,000,000; 0 loses none
 --stop K       repository 1's medium stops in the write that opens page K, 0 to 1,048,575; 0 nowhere
---words TEXT   "run OPTIONS", "history OBJECT" or "load SEED COUNT OPTIONS", as of ./swallow
+--words TEXT   "run OPTIONS", "history OBJECT", "retire R CLOCK" or "load SEED COUNT OPTIONS", as of ./swallow
 
 The statuses are those of ./swallow. docs/COMMANDS.md has it with what to do.
 TEXT

@@ -1,9 +1,10 @@
 //! Calls of the top call and of the laboratory over media in memory.
 
 use crate::faults::CaseFault;
-use crate::setups::{Pace, Setup};
+use crate::setups::{Pace, Setup, name_of};
 use laboratory::{LabFates, lab};
-use medium_port::{MeetShelf, MemoryMedium};
+use medium_port::{MediumName, MeetShelf, MemoryMedium, MemoryShelf, Shelf};
+use pseudo_time::NodeId;
 use std::alloc::Global;
 use std::sync::Wait;
 use std::thread::Threads;
@@ -46,6 +47,30 @@ fn answered(alloc: Global, status: u8, sink: &MemorySink) -> Result<Said, CaseFa
     }
 }
 
+// The media of these names that the call didn't take, behind those that it handed back.
+fn untaken(
+    mut shelf: MemoryShelf,
+    names: Vec<MediumName>,
+    media: Vec<Kept<MemoryMedium>>,
+) -> Result<Vec<Kept<MemoryMedium>>, CaseFault> {
+    let mut media = media;
+    for name in names {
+        let MediumName {
+            kind,
+            number,
+            volume,
+        } = name;
+        if let Ok(medium) = shelf.take(kind, number, volume) {
+            media.push(Kept {
+                node: NodeId { kind, number },
+                volume,
+                medium,
+            })?;
+        }
+    }
+    Ok(media)
+}
+
 /// The call with these words and this plan, over what was set up.
 pub fn call<R: Threads + Wait + Sync>(
     rt: &R,
@@ -58,6 +83,10 @@ pub fn call<R: Threads + Wait + Sync>(
     let mut source = source_of(alloc, &setup.source, plan)?;
     let mut sink = sink_of(alloc, &setup.sink)?;
     let fates = MemoryFates::new(alloc, setup.rules.to_vec(alloc)?);
+    let mut names = Vec::new(alloc);
+    for kept in &left {
+        names.push(name_of(kept))?;
+    }
     let mut shelf = setup.shelf(alloc, left)?;
     let finish = swallow(
         rt,
@@ -71,7 +100,7 @@ pub fn call<R: Threads + Wait + Sync>(
     );
     Ok(Called {
         said: answered(alloc, finish.status, &sink)?,
-        media: finish.media.into_vec(),
+        media: untaken(shelf, names, finish.media.into_vec())?,
     })
 }
 

@@ -231,6 +231,12 @@ impl Case {
             Line::Page(name, page, words) => {
                 self.patch(name, page, 0, page_of(self.alloc, words)?)?
             }
+            Line::Fill(name, from, to, words) => {
+                for volume in from..=to {
+                    let records = page_of(self.alloc, words)?;
+                    self.patch(MediumName { volume, ..name }, 0, 0, records)?;
+                }
+            }
             Line::Bytes(name, page, at, words) => {
                 self.patch(name, page, at, bytes_of(self.alloc, words)?)?
             }

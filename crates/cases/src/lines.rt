@@ -28,6 +28,9 @@ pub enum Line<'a> {
     Moving(MediumName, Stop),
     /// `page KIND N P HEX..`: log records on a page of a medium. The page's gate is open.
     Page(MediumName, u32, &'a [&'a str]),
+    /// `fill KIND N FROM TO HEX..`: log records on the first page of each of these volumes of a node. The page's gate
+    /// is open.
+    Fill(MediumName, u32, u32, &'a [&'a str]),
     /// `bytes KIND N P A HEX..`: bytes on a page of a medium, from this place on.
     Bytes(MediumName, u32, u16, &'a [&'a str]),
     /// `fate KIND N copies C overtake O hold H`: what comes of the nth message of a kind.
@@ -36,7 +39,7 @@ pub enum Line<'a> {
     Source(usize, &'a [&'a str]),
     /// `sink MOST FAIL..`: how many bytes the sink takes a call, and which of its calls fail.
     Sink(usize, &'a [&'a str]),
-    /// `again`: the media are those that the call before this one left.
+    /// `again`: the media are those that the call before this one left, with those that it didn't take.
     Again,
     /// `plan`: the plan stands on the lines up to `end plan`. It stays until the next one.
     Plan,
@@ -173,6 +176,12 @@ fn on_pages<'a>(verb: &str, name: MediumName, words: &'a [&'a str]) -> Option<Li
     match (verb, words) {
         ("medium", [pages]) => Some(Line::Medium(name, pages.parse().ok()?)),
         ("page", [page, words @ ..]) => Some(Line::Page(name, page.parse().ok()?, words)),
+        ("fill", [from, to, words @ ..]) => Some(Line::Fill(
+            name,
+            from.parse().ok()?,
+            to.parse().ok()?,
+            words,
+        )),
         ("bytes", [page, at, words @ ..]) => Some(Line::Bytes(
             name,
             page.parse().ok()?,

@@ -142,17 +142,8 @@ impl Setup {
         }
         let mut shelf = MemoryShelf::new(alloc, self.pages);
         for kept in left {
-            let Kept {
-                node,
-                volume,
-                medium,
-            } = kept;
-            let name = MediumName {
-                kind: node.kind,
-                number: node.number,
-                volume,
-            };
-            put(&mut shelf, name, reopened(medium)?)?;
+            let name = name_of(&kept);
+            put(&mut shelf, name, reopened(kept.medium)?)?;
         }
         for name in &self.names {
             put(&mut shelf, *name, self.medium_of(alloc, *name)?)?;
@@ -161,6 +152,15 @@ impl Setup {
             shelf.fail(name.kind, name.number, name.volume)?;
         }
         Ok(shelf)
+    }
+}
+
+/// The name of a medium that was left.
+pub fn name_of(kept: &Kept<MemoryMedium>) -> MediumName {
+    MediumName {
+        kind: kept.node.kind,
+        number: kept.node.number,
+        volume: kept.volume,
     }
 }
 
