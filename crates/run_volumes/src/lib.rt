@@ -6,7 +6,7 @@ mod roles;
 mod shelves;
 mod volumes;
 
-pub use kept::{Kept, keep_volumes};
+pub use kept::{Kept, keep_one, keep_volumes};
 pub use roles::{current, fresh, node_log};
 pub use shelves::take_volume;
 pub use volumes::open_volumes;

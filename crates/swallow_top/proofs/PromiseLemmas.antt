@@ -21,12 +21,13 @@ use Rattle.command_words.specs.Words.{AreGiven, AreNone, AreOptions, AreWords, I
 use Rattle.run_media.specs.Media.{Media}
 use Rattle.run_rounds.specs.Ends.{some_down}
 use Rattle.run_rounds.specs.Runs.{Account}
+use Rattle.run_volumes.specs.Kept.{AllKept}
 use Rattle.run_volumes.specs.declared.kept.Kept.{Kept}
 use Rattle.swallow_top.specs.declared.reports.Wanted.{Wanted}
 use Rattle.swallow_top.specs.declared.reports.Wanted.TheVariants.{Report, Summary}
 use Rattle.swallow_top.specs.declared.stops.Stop.{Stop}
 use Rattle.swallow_top.specs.declared.stops.Stop.TheVariants as stop
-use Rattle.swallow_top.specs.Contract.{AllKept, CameOf, HasNoRun, IsNoPlan, RefusedAs, RunsPlan}
+use Rattle.swallow_top.specs.Contract.{CameOf, HasNoRun, IsNoPlan, RefusedAs, RunsPlan}
 use Rattle.swallow_top.specs.Histories.{TellsHistory, ShowsDown, ShowsHistory, home_of}
 use Rattle.swallow_top.specs.Inputs.{OfInput}
 use Rattle.swallow_top.specs.Plans.{ReadsPlan}
@@ -141,7 +142,7 @@ module _ {M : Type 0} (c : Call M) where
   pub promise-history : (object : ObjectId) → IsUnread c → AreWords (History object) c.words → TellsHistory c.media_are c.shelf_before c.shelf object c.media c.sink c.status → HasNoRun c.told → Promise c
   promise-history object unread words tells none = record {
     done = inr (inr (History object, words, (unread, tells, none)));
-    kept = λ name is was. let h = tells.back.others name is was in (home_of object, h.0, h.1, subst (Has (record { node = home_of object; volume = 0; medium = h.0 })) (sym h.2) (inl refl));
+    kept = λ name is was. let h = tells.back.others name is was in (home_of object, 0, h.0, h.1, subst (Has (record { node = home_of object; volume = 0; medium = h.0 })) (sym h.2) (inl refl));
     statuses = tells-most c.media_are c.shelf_before c.shelf c.media object c.sink c.status tells;
   }
 

@@ -17,8 +17,7 @@ use Rattle.run_media.specs.declared.openings.Opening.{Opening}
 use Rattle.run_media.specs.declared.openings.Opening.TheVariants.{Open, Shut, Wanting}
 use Rattle.run_media.specs.Media.{Media}
 use Rattle.run_volumes.specs.declared.kept.Kept.{Kept}
-use Rattle.run_volumes.specs.Shelves.{ShelfSight}
-use Rattle.swallow_top.specs.Shelves.{medium_name}
+use Rattle.run_volumes.specs.Shelves.{ShelfSight, volume_name}
 use Rattle.swallow_top.specs.Written.{Sinking, Ends, EndsIfAny}
 
 -- the repository of the object
@@ -47,7 +46,7 @@ module _ {M : Type 0} (w : Media M) (old new : ShelfSight) (object : ObjectId) w
 
   -- the shelf was asked once, for the repository's medium
   abbrev pub WasAsked : Type 0
-  WasAsked = new.asked ≡ old.asked ++ medium_name (home_of object) ∷ []
+  WasAsked = new.asked ≡ old.asked ++ volume_name (home_of object) 0 ∷ []
 
   -- the history of the object by the log that its repository's medium held, which whatever a crash leaves has still
   pub record ShowsHistory (kept : List (Kept M)) (text : List ℕ) : Type 0 where
@@ -55,14 +54,14 @@ module _ {M : Type 0} (w : Media M) (old new : ShelfSight) (object : ObjectId) w
     pub medium : M
     pub asked : WasAsked
     pub back : kept ≡ is_back medium
-    pub is_log : IsTrue w.tells → storage (old.holds (medium_name (home_of object))) ≡ Ok log
+    pub is_log : IsTrue w.tells → storage (old.holds (volume_name (home_of object) 0)) ≡ Ok log
     pub images : IsTrue w.tells → (c : Image) → w.may_leave medium c → storage c ≡ Ok log
     pub is_text : text ≡ history_text object log
 
   -- why the medium couldn't be opened: the shelf failed and gave none; it failed itself; or what it held has this first damaged page
   abbrev pub OpensNot : List (Kept M) → DownCause → Type 0
-  OpensNot kept down.Medium = ((kept ≡ []) × Rose old.faults new.faults) ⊎ ((m : M) × (kept ≡ is_back m) × Rose (old.medium_faults (medium_name (home_of object))) (w.faults m))
-  OpensNot kept (down.Damaged page) = (m : M) × (kept ≡ is_back m) × (IsTrue w.tells → storage (old.holds (medium_name (home_of object))) ≡ Err page)
+  OpensNot kept down.Medium = ((kept ≡ []) × Rose old.faults new.faults) ⊎ ((m : M) × (kept ≡ is_back m) × Rose (old.medium_faults (volume_name (home_of object) 0)) (w.faults m))
+  OpensNot kept (down.Damaged page) = (m : M) × (kept ≡ is_back m) × (IsTrue w.tells → storage (old.holds (volume_name (home_of object) 0)) ≡ Err page)
   OpensNot kept (down.Full pages) = ⊥
 
   -- the line that says so alone
@@ -74,8 +73,8 @@ module _ {M : Type 0} (w : Media M) (old new : ShelfSight) (object : ObjectId) w
 
   -- a medium that was taken is the repository's, and is handed back; a crash leaves no image of it that it couldn't have left before
   pub record IsHandedBack (kept : List (Kept M)) : Type 0 where
-    pub others : (name : MediumName) → new.is_taken name → (old.is_taken name → ⊥) → (m : M) × (name ≡ medium_name (home_of object)) × (kept ≡ is_back m)
-    pub untouched : IsTrue w.tells → (m : M) → kept ≡ is_back m → NoMore (old.may_hold (medium_name (home_of object))) (w.may_leave m)
+    pub others : (name : MediumName) → new.is_taken name → (old.is_taken name → ⊥) → (m : M) × (name ≡ volume_name (home_of object) 0) × (kept ≡ is_back m)
+    pub untouched : IsTrue w.tells → (m : M) → kept ≡ is_back m → NoMore (old.may_hold (volume_name (home_of object) 0)) (w.may_leave m)
 
   -- The sink got the history, or the line of a medium that couldn't be opened; or a front of one of these where it failed; or memory was wanting.
   pub record TellsHistory (kept : List (Kept M)) (s : Sinking) (status : ℕ) : Type 0 where

@@ -5,7 +5,6 @@ pub mod Inputs
 pub mod Lines
 pub mod Plans
 pub mod Promise
-pub mod Shelves
 pub mod Smooth
 pub mod Tellings
 pub mod Written

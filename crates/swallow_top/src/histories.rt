@@ -5,13 +5,12 @@ ghost use Rattle.swallow_top.specs.Histories.{TellsHistory, TellsOpening, TellsT
 ghost use Rattle.run_volumes.specs.Shelves.{shelf_sight};
 ghost use Rattle.swallow_top.specs.Written.{sinking};
 
-use crate::shelves::keep_one;
 use crate::streams::write_all;
 use medium_port::{Medium, Shelf};
 use pseudo_time::{DownCause, NodeId};
 use report_writer::{Down, history, push_downs};
 use run_media::{Opening, open_one};
-use run_volumes::{Kept, take_volume};
+use run_volumes::{Kept, keep_one, take_volume};
 use std::alloc::{AllocError, Global};
 use stream_port::Sink;
 use value_form::{Bytes, ObjectId};
@@ -78,5 +77,5 @@ pub fn tell_history<O: Sink, S: Shelf>(
     let node = NodeId::repository(object.repository);
     let opening = open_one(alloc, take_volume(shelf, node, 0));
     let status = tell_opening(alloc, object, &opening, sink);
-    (status, keep_one(node, opening.release(), kept))
+    (status, keep_one(node, 0, opening.release(), kept))
 }

@@ -7,7 +7,7 @@ mod lines;
 mod media;
 mod plans;
 mod reports;
-mod shelves;
+mod runs;
 mod stops;
 mod streams;
 mod top;
