@@ -1,4 +1,5 @@
 pub mod Carried
+pub mod Currents
 pub mod Firms
 pub mod Opens
 pub mod Refusals

@@ -32,7 +32,8 @@ use Rattle.forward_copy.specs.Sifted.{between}
 use Rattle.forward_copy.specs.declared.faults.ForwardFault.{ForwardFault}
 use Rattle.forward_copy.specs.declared.faults.ForwardFault.TheVariants as forwarding
 use Rattle.forward_copy.specs.declared.copies.Forward.{Forward}
-use Rattle.run_volumes.specs.Volumes.{AreOpen, EndRightly, fresh, is_empty_log, log_at, logs_of, node_log, current}
+use Rattle.forward_copy.specs.Currents.{log_at, node_log, current}
+use Rattle.run_volumes.specs.Volumes.{AreOpen, EndRightly, fresh, is_empty_log, logs_of}
 use Rattle.run_volumes.proofs.VolumeLemmas.{fresh-last}
 use Rattle.retire_command.specs.declared.outcomes.Retired.{Retired}
 use Rattle.retire_command.specs.declared.outcomes.Retired.TheVariants.{Done, Refused, Fallen, NoMemory}

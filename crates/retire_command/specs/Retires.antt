@@ -28,7 +28,8 @@ use Rattle.forward_copy.specs.Wholes.{has_whole}
 use Rattle.forward_copy.specs.declared.copies.Forward.{Forward}
 use Rattle.run_volumes.specs.Kept.{kept_under}
 use Rattle.run_volumes.specs.Shelves.{IsLeft, ShelfSight, first_names}
-use Rattle.run_volumes.specs.Volumes.{AreOpen, AreVolumes, fresh, logs_of, node_log}
+use Rattle.forward_copy.specs.Currents.{node_log}
+use Rattle.run_volumes.specs.Volumes.{AreOpen, AreVolumes, fresh, logs_of}
 use Rattle.run_volumes.specs.declared.kept.Kept.{Kept}
 use Rattle.forward_copy.specs.declared.faults.ForwardFault.{ForwardFault}
 use Rattle.forward_copy.specs.declared.faults.ForwardFault.TheVariants as fault

@@ -2,7 +2,8 @@
 ghost use Rattle.std.specs.Prelude.{◌≡◌, ◌⊎◌, ℕ, List, Ok, Err, IfOk, IfErr};
 ghost use Rattle.effect_form.specs.Effects.{AreEffects};
 ghost use Rattle.report_writer.specs.Reports.{down_text};
-ghost use Rattle.run_volumes.specs.Volumes.{AreOpen, logs_of, node_log};
+ghost use Rattle.forward_copy.specs.Currents.{node_log};
+ghost use Rattle.run_volumes.specs.Volumes.{AreOpen, logs_of};
 ghost use Rattle.retire_command.specs.Lines as lines;
 ghost use Rattle.retire_command.specs.Retires as spec;
 

@@ -12,7 +12,8 @@ use Rattle.run_media.specs.declared.openings.Opening.TheVariants.{Open, Shut, Wa
 use Rattle.run_media.specs.Media.{Media}
 use Rattle.run_media.specs.Openings.{HasOpened, log_in}
 use Rattle.run_volumes.specs.Shelves.{ShelfSight, TakesOne, WereTaken, first_names, volume_name}
-use Rattle.run_volumes.specs.Volumes.{AreVolumes, EndRightly, GoOn, fresh_from, goes_on, is_empty_log, log_at, logs_of}
+use Rattle.forward_copy.specs.Currents.{log_at}
+use Rattle.run_volumes.specs.Volumes.{AreVolumes, EndRightly, GoOn, fresh_from, goes_on, is_empty_log, logs_of}
 use Rattle.run_volumes.proofs.ShelfLemmas.{taken-more, taken-none}
 
 -- ---- no volume follows behind volume 999

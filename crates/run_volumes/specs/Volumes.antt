@@ -1,4 +1,4 @@
--- The volumes of a node, opened: how far they go, which of them is current, and which is fresh.
+-- The volumes of a node, opened: how far they go, and which is fresh.
 use Rattle.std.specs.Prelude.{◌≡◌, ℕ, zero, suc, ◌+◌, Bool, true, false, List, [], ◌∷◌, ◌++◌, length, map, ◌==◌, ◌&&◌, ◌||◌, not, nat_lt, if◌then◌else◌, Option, Some, None}
 use Rattle.std.specs.List.{AllZip}
 use Rattle.pseudo_time.specs.Lists.{Every}
@@ -10,7 +10,6 @@ use Rattle.run_media.specs.declared.openings.Opening.{Opening}
 use Rattle.run_media.specs.declared.openings.Opening.TheVariants.{Open, Shut, Wanting}
 use Rattle.run_media.specs.Media.{Media}
 use Rattle.run_media.specs.Openings.{HasOpened, IsOpen, log_in}
-use Rattle.forward_copy.specs.Wholes.{has_whole}
 use Rattle.run_volumes.specs.Shelves.{ShelfSight, WereTaken, first_names}
 
 abbrev pub is_empty_log : List Effect → Bool
@@ -56,26 +55,7 @@ pub record AreVolumes {M : Type 0} (w : Media M) {g : _} (old new : ShelfSight) 
   pub opened : AllZip (HasOpened w) media openings
   pub ends : EndRightly n.kind openings
 
--- ---- which volume is which, by their logs from 0 on
-
--- the last of these logs, from this volume on, that has a Whole; the one found before where none has
-abbrev pub current_from : ℕ → ℕ → List (List Effect) → ℕ
-current_from found v [] = found
-current_from found v (log ∷ logs) = current_from (if has_whole log then v else found) (suc v) logs
-
--- the current volume: the greatest that has a Whole, or 0 where none has
-abbrev pub current : List (List Effect) → ℕ
-current logs = current_from 0 0 logs
-
--- the log of a volume
-abbrev pub log_at : List (List Effect) → ℕ → List Effect
-log_at [] v = []
-log_at (log ∷ logs) zero = log
-log_at (log ∷ logs) (suc v) = log_at logs v
-
--- the node's log: that of its current volume
-abbrev pub node_log : List (List Effect) → List Effect
-node_log logs = log_at logs (current logs)
+-- ---- which volume is fresh, by their logs from 0 on
 
 -- the first of these logs, from this volume on, that is that of a volume above 0 and empty
 abbrev pub fresh_from : ℕ → List (List Effect) → Option ℕ

@@ -1,5 +1,6 @@
 ghost use Rattle.std.specs.Prelude.{◌≡◌};
 ghost use Rattle.run_media.specs.Openings.{log_in};
+ghost use Rattle.forward_copy.specs.Currents as currents;
 ghost use Rattle.forward_copy.specs.Wholes as wholes;
 ghost use Rattle.run_volumes.specs.Volumes as spec;
 
@@ -32,7 +33,7 @@ fn is_empty<M: Medium>(opening: &Opening<M>) -> bool
 
 /// The current one of a node's volumes: the greatest whose log has a Whole, or 0 where none has.
 pub fn current<M: Medium>(openings: &[Opening<M>]) -> usize
-    ensures { result ≡ spec.current (spec.logs_of openings.now) }
+    ensures { result ≡ currents.current (spec.logs_of openings.now) }
 {
     let mut found = 0;
     for (volume, opening) in openings.iter().enumerate() {
@@ -68,7 +69,7 @@ fn log_of<M: Medium>(opening: &Opening<M>) -> &[Effect]
 
 /// The node's log: that of its current volume.
 pub fn node_log<M: Medium>(openings: &[Opening<M>]) -> &[Effect]
-    ensures { result.now ≡ spec.node_log (spec.logs_of openings.now) }
+    ensures { result.now ≡ currents.node_log (spec.logs_of openings.now) }
 {
     match openings.get(current(openings)) {
         Some(opening) => log_of(opening),

@@ -1,6 +1,7 @@
 use Rattle.std.proofs.Common.{List, subst, sym}
 use Rattle.effect_form.specs.Effects.{AreEffects}
-use Rattle.run_volumes.specs.Volumes.{logs_of, node_log}
+use Rattle.forward_copy.specs.Currents.{node_log}
+use Rattle.run_volumes.specs.Volumes.{logs_of}
 use Rattle.retire_command.specs.Retires.{Stops}
 use Rattle.retire_command.proofs.RetireLemmas.{in-range, stopped}
 use Rattle.retire_command.proofs.retiring.retire_volumes.Goals as goal

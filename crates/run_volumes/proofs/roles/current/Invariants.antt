@@ -1,7 +1,8 @@
 use Rattle.std.proofs.Common.{◌≡◌, drop}
+use Rattle.forward_copy.specs.Currents.{current, current_from}
 use Rattle.run_volumes.specs.Volumes as spec
 use Rattle.run_volumes.proofs.roles.current.Given as goal
 
 -- the last one so far that is whole
 abbrev pub invariant-loop-volume : goal.invariant-loop-volume
-invariant-loop-volume g l = spec.current_from l.found l.volume (spec.logs_of (drop l.volume l.openings)) ≡ spec.current (spec.logs_of l.openings)
+invariant-loop-volume g l = current_from l.found l.volume (spec.logs_of (drop l.volume l.openings)) ≡ current (spec.logs_of l.openings)
