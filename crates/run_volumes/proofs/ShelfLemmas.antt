@@ -223,7 +223,7 @@ module _ {M : Type 0} where
   kept-more (n ∷ ns) (x ∷ xs) name m e =
       ap (λ l. kept_as n x ++ l) (kept-more ns xs name m (omega (arith, e))) ∙ sym (append_assoc (kept_as n x) (kept_under ns xs) (kept_as name m))
 
-  names-long : (n : NodeId) (k : ℕ) → length (first_names n k) ≡ k
+  pub names-long : (n : NodeId) (k : ℕ) → length (first_names n k) ≡ k
   names-long n zero = refl
   names-long n (suc k) = let e = length-append (first_names n k) (volume_name n k ∷ []) in let r = names-long n k in omega (arith, e, r)
 
@@ -237,7 +237,7 @@ module _ {M : Type 0} where
       ∙ (sym (kept-more (first_names n (length xs)) xs (volume_name n (length xs)) m (names-long n (length xs)))
       ∙ (ap (kept_under (first_names n (suc (length xs)))) (sym are) ∙ ap (λ i. kept_under (first_names n i) ys) (sym long))))
 
-  kept-has : (names : List MediumName) (xs : List (Option M)) (place : ℕ) (name : MediumName) (m : M) → slice_get names place ≡ Some name → slice_get xs place ≡ Some (Some m) →
+  pub kept-has : (names : List MediumName) (xs : List (Option M)) (place : ℕ) (name : MediumName) (m : M) → slice_get names place ≡ Some name → slice_get xs place ≡ Some (Some m) →
       Has (record { node = node_of name; volume = name.volume; medium = m }) (kept_under {M = M} names xs)
   kept-has [] xs place name m e h = absurd cc
   kept-has (n ∷ ns) [] place name m e h = absurd cc

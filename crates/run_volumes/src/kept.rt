@@ -15,8 +15,8 @@ pub struct Kept<M: Medium> {
     pub medium: M,
 }
 
-// A volume under its name, behind others. The list has room for it.
-fn keep_one<M: Medium>(
+/// A volume under its name, behind others. The list has room for it.
+pub fn keep_one<M: Medium>(
     node: NodeId,
     volume: u32,
     medium: Option<M>,

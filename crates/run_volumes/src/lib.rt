@@ -7,7 +7,7 @@ mod shelves;
 mod standings;
 mod volumes;
 
-pub use kept::{Kept, keep_volumes};
+pub use kept::{Kept, keep_one, keep_volumes};
 pub use roles::{current, fresh, node_log};
 pub use shelves::take_volume;
 pub use standings::{Standing, stand_of};

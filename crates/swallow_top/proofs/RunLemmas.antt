@@ -1,5 +1,5 @@
 -- From how a run ended to what comes of its plan.
-use Rattle.std.proofs.Common.{◌≡◌, ◌⊎◌, inl, inr, ℕ, IsTrue, List, length, Option, Some, None, refl, ap, sym, subst, ◌∙◌}
+use Rattle.std.proofs.Common.{◌≡◌, ◌⊎◌, inl, inr, ℕ, Bool, true, false, IsTrue, List, length, map, Option, Some, None, refl, ap, sym, subst, ◌∙◌}
 use Rattle.std.specs.List.{AllZip}
 use Rattle.std.proofs.lemmas.Slice.Zip.{AllZip-long}
 use Rattle.pseudo_time.specs.Lists.{Every}
@@ -12,7 +12,6 @@ use Rattle.world_core.specs.Readings.{IsLegal}
 use Rattle.run_rounds.specs.Stories.{no_trace}
 use Rattle.command_words.specs.declared.commands.Options.{Options}
 use Rattle.run_media.specs.Media.{Media, AreBack, IsBack, IsLeftAlone}
-use Rattle.run_media.specs.Places.{node_count}
 use Rattle.run_rounds.specs.declared.ends.End.{End}
 use Rattle.run_rounds.specs.declared.ends.End.TheVariants as end
 use Rattle.run_rounds.specs.Runs.{Ran, RanUntold, HasRanges}
@@ -20,15 +19,16 @@ use Rattle.run_rounds.specs.Finishes.{EndsAs, IsKeptWhole, Tellers, account_of}
 use Rattle.serial_law.specs.Serials.{HoldsFinals, IsSerialOver}
 use Rattle.serial_law.specs.Acknowledged.{KeepsAnswers, SpendsRightly}
 use Rattle.serial_law.specs.Reasons.{AddedHaveReasons, HaveReasons}
-use Rattle.run_volumes.specs.declared.kept.Kept.{Kept}
-use Rattle.swallow_top.specs.declared.reports.Wanted.{Wanted}
-use Rattle.swallow_top.specs.Contract.{AllKept, CameOf, Completes, HasNoRun, RanOver, RunsPlan, WantedMemory}
+use Rattle.run_volumes.specs.Kept.{AllKept}
 use Rattle.run_volumes.specs.Shelves.{ShelfSight}
-use Rattle.swallow_top.specs.Shelves.{WereTaken, kept_from}
+use Rattle.run_volumes.specs.declared.kept.Kept.{Kept}
+use Rattle.plan_volumes.specs.Volumes.{HadMemory, HasVolumes, NodeVolumes, work_taken}
+use Rattle.swallow_top.specs.declared.reports.Wanted.{Wanted}
+use Rattle.swallow_top.specs.Contract.{CameOf, Completes, HasNoRun, RanOver, RunsPlan, WantedMemory}
 use Rattle.swallow_top.specs.Tellings.{OfRun, TellsEnd, status_of, wanted_text}
 use Rattle.swallow_top.specs.Written.{Sinking, EndsIfAny}
 use Rattle.swallow_top.proofs.CompleteLemmas.{complete-status, run-complete, unrefused}
-use Rattle.swallow_top.proofs.ShelfLemmas.{all-kept, alone-whole, lose-nothing}
+use Rattle.swallow_top.proofs.ShelfLemmas.{all-kept, alone-whole, none-lost}
 
 module _ {M : Type 0} (w : Media M) (ticks messages : ℕ) (plan : Plan) (told : Tellers) (media left : List (Option M)) where
   -- what the writing of a report asks of the trace
@@ -52,66 +52,80 @@ module _ {M : Type 0} (w : Media M) (ticks messages : ℕ) (plan : Plan) (told :
   pub end-long : (e : End) → EndsAs w ticks messages plan told media left e → length left ≡ length media
   end-long e h = AllZip-long IsBack media left (end-back e h)
 
-module _ {M : Type 0} (w : Media M) (old new : ShelfSight) (plan : Plan) (o : Options) (told : Tellers) (media left : List (Option M)) (taken : WereTaken w old new plan media)
-    (language : IsOfLanguage plan) (serial : (p : Plan) (asked : List Asked) (t : Trace) → IsOfLanguage p → IsLegal p asked t → IsSerialOver p t)
-    (finals : (p : Plan) (asked : List Asked) (t : Trace) → IsOfLanguage p → IsLegal p asked t → HoldsFinals p t) (reasons : (p : Plan) (asked : List Asked) (t : Trace) → IsOfLanguage p → IsLegal p asked t → HaveReasons p t)
-    (answers : (p : Plan) (asked : List Asked) (t : Trace) → IsOfLanguage p → IsLegal p asked t → KeepsAnswers p t) (spent : (p : Plan) (asked : List Asked) (t : Trace) → IsOfLanguage p → IsLegal p asked t → SpendsRightly p t)
-    (added : (p : Plan) (asked : List Asked) (t : Trace) → AddedHaveReasons p asked t) (full : length media ≡ node_count plan) where
-  ran-over : (t : Trace) → Ran w o.ticks o.messages plan (account_of t told) media left → RanOver {M = M} w old new (kept_from plan 0 left) plan o (account_of t told)
-  ran-over t ran = record {
-    media = media;
-    left = left;
-    count = full;
-    taken = taken;
-    handed = refl;
-    ran = ran;
-    serial = λ tells. serial plan told.asked t language (ran.is_told tells).legal;
-    finals = λ tells. finals plan told.asked t language (ran.is_told tells).legal;
-    answers = λ tells. answers plan told.asked t language (ran.is_told tells).legal;
-    reasons = λ tells. reasons plan told.asked t language (ran.is_told tells).legal;
-    spent = λ tells. spent plan told.asked t language (ran.is_told tells).legal;
-    added = added plan told.asked t;
-  }
+module _ {M : Type 0} (w : Media M) (old new : ShelfSight) (plan : Plan) (o : Options) (told : Tellers) (volumes : List (NodeVolumes w)) (left : List (Option M)) (kept : List (Kept M)) (has : HasVolumes w old new plan volumes left kept) where
+  -- the volumes that the run was given
+  abbrev media : List (Option M)
+  media = map work_taken volumes
 
-  -- memory was wanting in a run that isn't told
-  no-memory : (t : Trace) → t ≡ no_trace → AllZip (IsKeptWhole w) media left → (IsTrue w.tells → AllZip (IsLeftAlone w) media left ⊎ RanUntold w plan told.asked_before media left)
-      → WantedMemory {M = M} w old new (kept_from plan 0 left) plan (account_of t told)
-  no-memory t none whole past = record {
-    trace = none;
-    media = media;
-    left = left;
-    count = full;
-    taken = taken;
-    handed = refl;
-    safe = lose-nothing w old plan 0 media left taken.are whole;
-    past = past;
-  }
+  pub runs-kept : (e : End) → EndsAs w o.ticks o.messages plan told media left e → AllKept old new kept
+  runs-kept e ends = all-kept w old new plan volumes left kept has (end-back w o.ticks o.messages plan told media left e ends)
 
-  by-end : (wanted : Wanted) (e : End) (status : ℕ) (t : Trace) (s : Sinking) → EndsAs w o.ticks o.messages plan told media left e → TellsEnd wanted plan e status t s → CameOf {M = M} w old new (kept_from plan 0 left) plan wanted o (account_of t told) s status
-  by-end wanted (end.Ran r) status t s ends tells =
-      subst (λ (z : Trace). CameOf {M = M} w old new (kept_from plan 0 left) plan wanted o (account_of z told) s status) (sym tells.0) (inr (inr (ran-over r ends, tells.1)))
-  by-end wanted (end.Refused fault) status t s ends (none, inl seven) = inl (seven, inr (no-memory t none (alone-whole {M = M} w media left ends.1) (λ tells. inl ends.1)))
-  by-end wanted (end.Refused fault) status t s ends (none, inr two) = inr (inl (
-    two.0,
-    record { media = media; left = left; count = full; taken = taken; handed = refl; untouched = ends.1; why = fault; first = ends.2; line = two.1 },
-    record { trace = none; fates = ends.3; clock = ends.4 },
-  ))
-  by-end wanted end.NoMemory status t s ends tells = inl (tells.1, inr (no-memory t tells.0 ends.1 ends.2))
+  module _ (language : IsOfLanguage plan) (serial : (p : Plan) (asked : List Asked) (t : Trace) → IsOfLanguage p → IsLegal p asked t → IsSerialOver p t)
+      (finals : (p : Plan) (asked : List Asked) (t : Trace) → IsOfLanguage p → IsLegal p asked t → HoldsFinals p t) (reasons : (p : Plan) (asked : List Asked) (t : Trace) → IsOfLanguage p → IsLegal p asked t → HaveReasons p t)
+      (answers : (p : Plan) (asked : List Asked) (t : Trace) → IsOfLanguage p → IsLegal p asked t → KeepsAnswers p t) (spent : (p : Plan) (asked : List Asked) (t : Trace) → IsOfLanguage p → IsLegal p asked t → SpendsRightly p t)
+      (added : (p : Plan) (asked : List Asked) (t : Trace) → AddedHaveReasons p asked t) where
+    ran-over : (t : Trace) → HadMemory w volumes → Ran w o.ticks o.messages plan (account_of t told) media left → RanOver {M = M} w old new kept plan o (account_of t told)
+    ran-over t memory ran = record {
+      volumes = volumes;
+      left = left;
+      has = has;
+      memory = memory;
+      ran = ran;
+      serial = λ tells. serial plan told.asked t language (ran.is_told tells).legal;
+      finals = λ tells. finals plan told.asked t language (ran.is_told tells).legal;
+      answers = λ tells. answers plan told.asked t language (ran.is_told tells).legal;
+      reasons = λ tells. reasons plan told.asked t language (ran.is_told tells).legal;
+      spent = λ tells. spent plan told.asked t language (ran.is_told tells).legal;
+      added = added plan told.asked t;
+    }
 
-  -- where all is smooth
-  completes : (wanted : Wanted) (e : End) (status : ℕ) (t : Trace) (s : Sinking) → EndsAs w o.ticks o.messages plan told media left e → TellsEnd wanted plan e status t s → Completes {M = M} w old new (kept_from plan 0 left) plan o (account_of t told) s status
-  completes wanted (end.Ran r) status t s ends (same, inl seven) tells most smooth = inl seven
-  completes wanted (end.Ran r) status t s ends (same, inr (inr failed)) tells most smooth = absurd (smooth.sink failed.1.1)
-  completes wanted (end.Ran r) status t s ends (same, inr (inl written)) tells most smooth =
-      let done = run-complete w old new plan language o told media left taken full tells t (subst (λ (z : Trace). Ran w o.ticks o.messages plan (account_of z told) media left) (sym same) ends) s most smooth in
-      inr (written.0 ∙ (ap (status_of plan) (sym same) ∙ complete-status plan t done), done)
-  completes wanted (end.Refused fault) status t s ends (none, inl seven) tells most smooth = inl seven
-  completes wanted (end.Refused fault) status t s ends (none, inr two) tells most smooth = absurd (unrefused w old new plan o told media left taken tells t s most smooth fault ends.2)
-  completes wanted end.NoMemory status t s ends told-as tells most smooth = inl told-as.1
+    -- memory was wanting in a run that isn't told
+    no-memory : (t : Trace) → t ≡ no_trace → AllZip (IsKeptWhole w) media left → (IsTrue w.tells → AllZip (IsLeftAlone w) media left ⊎ (HadMemory w volumes × RanUntold w plan told.asked_before media left))
+        → WantedMemory {M = M} w old new kept plan (account_of t told)
+    no-memory t none whole past = record { trace = none; volumes = volumes; left = left; has = has; safe = none-lost w old new plan volumes left kept has whole; past = past }
 
-  pub runs-plan : (wanted : Wanted) (e : End) (status : ℕ) (t : Trace) (s : Sinking) (kept : List (Kept M)) → kept ≡ kept_from plan 0 left → EndsAs w o.ticks o.messages plan told media left e → TellsEnd wanted plan e status t s → RunsPlan w old new kept plan wanted o (account_of t told) s status
-  runs-plan wanted e status t s kept are ends tells = subst (λ l. RunsPlan w old new l plan wanted o (account_of t told) s status) (sym are)
-      (record { came = by-end wanted e status t s ends tells; completes = completes wanted e status t s ends tells })
+    module _ (wanting : Bool) (memory : wanting ≡ false → HadMemory w volumes) where
+      -- unless the run didn't begin, memory was there for all volumes
+      had : (e : End) → (e ≡ end.NoMemory → ⊥) → (wanting ≡ true → e ≡ end.NoMemory) → HadMemory w volumes
+      had e other none = by wanting refl
+        where
+          by : (b : Bool) → wanting ≡ b → HadMemory w volumes
+          by true is = absurd (other (none is))
+          by false is = memory is
 
-  pub runs-kept : (e : End) (kept : List (Kept M)) → kept ≡ kept_from plan 0 left → EndsAs w o.ticks o.messages plan told media left e → AllKept old new kept
-  runs-kept e kept are ends = subst (AllKept old new) (sym are) (all-kept w old new plan media left taken (end-back w o.ticks o.messages plan told media left e ends))
+      -- memory was wanting for a volume, so that nothing was written; or in a run
+      past-of : (wanting ≡ true → IsTrue w.tells → AllZip (IsLeftAlone w) media left) → (IsTrue w.tells → AllZip (IsLeftAlone w) media left ⊎ RanUntold w plan told.asked_before media left)
+          → IsTrue w.tells → AllZip (IsLeftAlone w) media left ⊎ (HadMemory w volumes × RanUntold w plan told.asked_before media left)
+      past-of alone past tells = by wanting refl (past tells)
+        where
+          by : (b : Bool) → wanting ≡ b → AllZip (IsLeftAlone w) media left ⊎ RanUntold w plan told.asked_before media left → AllZip (IsLeftAlone w) media left ⊎ (HadMemory w volumes × RanUntold w plan told.asked_before media left)
+          by b is (inl h) = inl h
+          by true is (inr h) = inl (alone is tells)
+          by false is (inr h) = inr (memory is, h)
+
+      by-end : (wanted : Wanted) (e : End) (status : ℕ) (t : Trace) (s : Sinking) → EndsAs w o.ticks o.messages plan told media left e → (wanting ≡ true → (e ≡ end.NoMemory) × AllZip (IsLeftAlone w) media left)
+          → TellsEnd wanted plan e status t s → CameOf {M = M} w old new kept plan wanted o (account_of t told) s status
+      by-end wanted (end.Ran r) status t s ends none tells =
+          subst (λ (z : Trace). CameOf {M = M} w old new kept plan wanted o (account_of z told) s status) (sym tells.0) (inr (inr (ran-over r (had (end.Ran r) (λ e. absurd (cc e)) (λ is. (none is).0)) ends, tells.1)))
+      by-end wanted (end.Refused fault) status t s ends none (told_none, inl seven) = inl (seven, inr (no-memory t told_none (alone-whole {M = M} w media left ends.1) (λ tells. inl ends.1)))
+      by-end wanted (end.Refused fault) status t s ends none (told_none, inr two) = inr (inl (
+        two.0,
+        record { volumes = volumes; left = left; has = has; memory = had (end.Refused fault) (λ e. absurd (cc e)) (λ is. (none is).0); untouched = ends.1; why = fault; first = ends.2; line = two.1 },
+        record { trace = told_none; fates = ends.3; clock = ends.4 },
+      ))
+      by-end wanted end.NoMemory status t s ends none tells = inl (tells.1, inr (no-memory t tells.0 ends.1 (past-of (λ is told_all. (none is).1) ends.2)))
+
+      -- where all is smooth
+      completes : (wanted : Wanted) (e : End) (status : ℕ) (t : Trace) (s : Sinking) → EndsAs w o.ticks o.messages plan told media left e → TellsEnd wanted plan e status t s → Completes {M = M} w old new kept plan o (account_of t told) s status
+      completes wanted (end.Ran r) status t s ends (same, inl seven) tells most smooth = inl seven
+      completes wanted (end.Ran r) status t s ends (same, inr (inr failed)) tells most smooth = absurd (smooth.sink failed.1.1)
+      completes wanted (end.Ran r) status t s ends (same, inr (inl written)) tells most smooth =
+          let done = run-complete w old new plan language o told volumes left kept has tells t (subst (λ (z : Trace). Ran w o.ticks o.messages plan (account_of z told) media left) (sym same) ends) s most smooth in
+          inr (written.0 ∙ (ap (status_of plan) (sym same) ∙ complete-status plan t done), done)
+      completes wanted (end.Refused fault) status t s ends (none, inl seven) tells most smooth = inl seven
+      completes wanted (end.Refused fault) status t s ends (none, inr two) tells most smooth = absurd (unrefused w old new plan o told volumes left kept has tells t s most smooth fault ends.2)
+      completes wanted end.NoMemory status t s ends told-as tells most smooth = inl told-as.1
+
+      pub runs-plan : (wanted : Wanted) (e : End) (status : ℕ) (t : Trace) (s : Sinking) → EndsAs w o.ticks o.messages plan told media left e → (wanting ≡ true → (e ≡ end.NoMemory) × AllZip (IsLeftAlone w) media left)
+          → TellsEnd wanted plan e status t s → RunsPlan w old new kept plan wanted o (account_of t told) s status
+      runs-plan wanted e status t s ends none tells = record { came = by-end wanted e status t s ends none tells; completes = completes wanted e status t s ends tells }

@@ -1,12 +1,11 @@
 -- What comes of a plan that is run, and of one that is refused.
-use Rattle.std.specs.Prelude.{◌≡◌, ◌⊎◌, ℕ, ◌≤◌, ◌<◌, true, IsTrue, List, [], ◌++◌, length, Option, Some, Ok}
+use Rattle.std.specs.Prelude.{◌≡◌, ◌⊎◌, ℕ, ◌≤◌, ◌<◌, true, IsTrue, List, [], ◌++◌, length, map, Option, Ok}
 use Rattle.std.specs.List.{AllZip}
 use Rattle.pseudo_time.specs.Lists.{Every, Has}
 use Rattle.pseudo_time.specs.declared.nodes.NodeId.{NodeId}
 use Rattle.stream_port.specs.Causes.{Rose}
 use Rattle.effect_form.specs.declared.effects.Effect.{Effect}
 use Rattle.medium_port.specs.Image.{Image, IsBlankImage, NoMore}
-use Rattle.medium_port.specs.declared.shelves.MediumName.{MediumName}
 use Rattle.version_store.specs.Storage.{storage}
 use Rattle.plan_form.specs.declared.plans.Plan.{Plan}
 use Rattle.plan_form.specs.declared.plan_faults.PlanKind.{PlanKind}
@@ -16,20 +15,19 @@ use Rattle.world_core.specs.Legal.{fates_of, in_plan}
 use Rattle.run_rounds.specs.Stories.{no_trace}
 use Rattle.command_words.specs.declared.commands.Options.{Options}
 use Rattle.run_media.specs.Media.{Media, IsLeftAlone}
-use Rattle.run_media.specs.Places.{node_count}
 use Rattle.run_rounds.specs.Runs.{Account, Ran, RanUntold, IsFirstFault}
 use Rattle.serial_law.specs.Serials.{HoldsFinals, IsSerialOver}
 use Rattle.serial_law.specs.Acknowledged.{KeepsAnswers, SpendsRightly}
 use Rattle.serial_law.specs.Reasons.{AddedHaveReasons, HaveReasons}
 use Rattle.complete_law.specs.Calm.{IsPlain}
-use Rattle.swallow_top.specs.Smooth.{AskAtMost, WentSmoothly, messages_for, pages_for}
+use Rattle.run_volumes.specs.Shelves.{ShelfSight, volume_name}
 use Rattle.run_volumes.specs.declared.kept.Kept.{Kept}
+use Rattle.plan_volumes.specs.Volumes.{HadMemory, HasVolumes, NodeVolumes, work_taken}
+use Rattle.swallow_top.specs.Smooth.{AskAtMost, WentSmoothly, messages_for, pages_for, volumes_of_blank}
 use Rattle.swallow_top.specs.declared.reports.Wanted.{Wanted}
 use Rattle.swallow_top.specs.declared.stops.Stop.{Stop}
 use Rattle.swallow_top.specs.declared.stops.Stop.TheVariants as stop
 use Rattle.swallow_top.specs.Lines.{fault_line, resume_line, source_line, words_line}
-use Rattle.run_volumes.specs.Shelves.{ShelfSight}
-use Rattle.swallow_top.specs.Shelves.{WereTaken, kept_from, medium_name}
 use Rattle.swallow_top.specs.Tellings.{status_of, wanted_text}
 use Rattle.swallow_top.specs.Written.{Sinking, EndsIfAny, GotLine}
 
@@ -42,23 +40,18 @@ pub record HasNoRun (told : Account) : Type 0 where
 module _ {M : Type 0} (w : Media M) (old : ShelfSight) where
   -- A crash leaves no image of this medium that it couldn't have left before; or the log that the medium had, with more behind it.
   abbrev pub LosesNothing : Kept M → Type 0
-  LosesNothing k = (IsTrue w.tells → NoMore (old.may_hold (medium_name k.node)) (w.may_leave k.medium))
-      ⊎ (IsTrue w.tells → (log : List Effect) × (storage (old.holds (medium_name k.node)) ≡ Ok log) × ((c : Image) → w.may_leave k.medium c → (more : List Effect) × (storage c ≡ Ok (log ++ more))))
-
--- each medium that was taken is handed back
-abbrev pub AllKept : {M : Type 0} → (old new : ShelfSight) → List (Kept M) → Type 0
-AllKept {M} old new kept = (name : MediumName) → new.is_taken name → (old.is_taken name → ⊥) → (n : NodeId) × (m : M) × (name ≡ medium_name n) × Has (record { node = n; volume = 0; medium = m }) kept
+  LosesNothing k = (IsTrue w.tells → NoMore (old.may_hold (volume_name k.node k.volume)) (w.may_leave k.medium))
+      ⊎ (IsTrue w.tells → (log : List Effect) × (storage (old.holds (volume_name k.node k.volume)) ≡ Ok log) × ((c : Image) → w.may_leave k.medium c → (more : List Effect) × (storage c ≡ Ok (log ++ more))))
 
 module _ {M : Type 0} (w : Media M) (old new : ShelfSight) (kept : List (Kept M)) where
   module _ (plan : Plan) where
-    -- A run over the media that the shelf gave, one place for each node of the plan, and what follows of its trace. What is left of the media is handed back.
+    -- A run over one volume of each node of the plan, and what follows of its trace. What is left of these is handed back, and each other volume as it was opened.
     pub record RanOver (o : Options) (told : Account) : Type 0 where
-      pub media : List (Option M)
+      pub volumes : List (NodeVolumes w)
       pub left : List (Option M)
-      pub count : length media ≡ node_count plan
-      pub taken : WereTaken w old new plan media
-      pub handed : kept ≡ kept_from plan 0 left
-      pub ran : Ran w o.ticks o.messages plan told media left
+      pub has : HasVolumes w old new plan volumes left kept
+      pub memory : HadMemory w volumes
+      pub ran : Ran w o.ticks o.messages plan told (map work_taken volumes) left
       pub serial : IsTrue w.tells → IsSerialOver plan told.trace
       pub finals : IsTrue w.tells → HoldsFinals plan told.trace
       pub answers : IsTrue w.tells → KeepsAnswers plan told.trace
@@ -66,16 +59,15 @@ module _ {M : Type 0} (w : Media M) (old new : ShelfSight) (kept : List (Kept M)
       pub spent : IsTrue w.tells → SpendsRightly plan told.trace
       pub added : AddedHaveReasons plan told.asked told.trace
 
-    -- A broker's log refuses the plan: the first that could be opened and shows a fault. The media of the plan's nodes were taken, and are handed back as they were.
+    -- A broker's log refuses the plan: the first that could be opened and shows a fault. The volumes of the plan's nodes were taken, and are handed back as they were.
     pub record IsRefusedByLog (s : Sinking) : Type 0 where
-      pub media : List (Option M)
+      pub volumes : List (NodeVolumes w)
       pub left : List (Option M)
-      pub count : length media ≡ node_count plan
-      pub taken : WereTaken w old new plan media
-      pub handed : kept ≡ kept_from plan 0 left
-      pub untouched : AllZip (IsLeftAlone w) media left
+      pub has : HasVolumes w old new plan volumes left kept
+      pub memory : HadMemory w volumes
+      pub untouched : AllZip (IsLeftAlone w) (map work_taken volumes) left
       pub why : ResumeFault
-      pub first : IsFirstFault w plan media left why
+      pub first : IsFirstFault w plan (map work_taken volumes) left why
       pub line : GotLine s (resume_line why)
 
     -- Memory was wanting before any medium was asked for.
@@ -88,13 +80,11 @@ module _ {M : Type 0} (w : Media M) (old new : ShelfSight) (kept : List (Kept M)
     -- told to no one.
     pub record WantedMemory (told : Account) : Type 0 where
       pub trace : told.trace ≡ no_trace
-      pub media : List (Option M)
+      pub volumes : List (NodeVolumes w)
       pub left : List (Option M)
-      pub count : length media ≡ node_count plan
-      pub taken : WereTaken w old new plan media
-      pub handed : kept ≡ kept_from plan 0 left
+      pub has : HasVolumes w old new plan volumes left kept
       pub safe : Every (LosesNothing w old) kept
-      pub past : IsTrue w.tells → AllZip (IsLeftAlone w) media left ⊎ RanUntold w plan told.asked_before media left
+      pub past : IsTrue w.tells → AllZip (IsLeftAlone w) (map work_taken volumes) left ⊎ (HadMemory w volumes × RanUntold w plan told.asked_before (map work_taken volumes) left)
 
     -- What came of running the plan: memory was wanting; or a broker's log refuses it; or it ran, and is told unless memory was wanting for that.
     abbrev pub CameOf : Wanted → Options → Account → Sinking → ℕ → Type 0
@@ -102,15 +92,15 @@ module _ {M : Type 0} (w : Media M) (old new : ShelfSight) (kept : List (Kept M)
         ⊎ (((status ≡ 2) × IsRefusedByLog s × HasNoRun told)
         ⊎ (RanOver o told × EndsIfAny status s (status_of plan told.trace) (wanted_text wanted plan told.trace)))
 
-    -- Scripts of the plan make at most so many requests; no count rose of the shelf, a medium or the sink; the nodes' media were blank and had enough pages;
+    -- Scripts of the plan make at most so many requests; no count rose of the shelf, a medium or the sink; the nodes' volumes were blank and had enough pages;
     -- fewer messages are sent than those at which the run ends, each as one copy without a hold.
     pub record IsSmooth (o : Options) (told : Account) (s : Sinking) (most : ℕ) : Type 0 where
       pub asks : AskAtMost plan most
       pub sink : Rose s.faults_before s.faults → ⊥
       pub shelf : Rose old.faults new.faults → ⊥
-      pub media : (n : NodeId) (m : M) → Has (record { node = n; volume = 0; medium = m }) kept → Rose (old.medium_faults (medium_name n)) (w.faults m) → ⊥
-      pub blank : (n : NodeId) → in_plan plan n ≡ true → IsBlankImage (old.holds (medium_name n))
-      pub large : (n : NodeId) → in_plan plan n ≡ true → pages_for plan most ≤ length (old.holds (medium_name n))
+      pub media : (n : NodeId) (v : ℕ) (m : M) → Has (record { node = n; volume = v; medium = m }) kept → Rose (old.medium_faults (volume_name n v)) (w.faults m) → ⊥
+      pub blank : (n : NodeId) (v : ℕ) → in_plan plan n ≡ true → v < volumes_of_blank n.kind → IsBlankImage (old.holds (volume_name n v))
+      pub large : (n : NodeId) (v : ℕ) → in_plan plan n ≡ true → v < volumes_of_blank n.kind → pages_for plan most ≤ length (old.holds (volume_name n v))
       pub few : messages_for plan most < o.messages
       pub plain : Every IsPlain (fates_of told.trace.sent)
 

@@ -6,7 +6,6 @@ pub mod Lines
 pub mod Plans
 pub mod Promise
 pub mod Retirements
-pub mod Shelves
 pub mod Smooth
 pub mod Tellings
 pub mod Written

@@ -11,8 +11,8 @@ use Rattle.command_words.specs.declared.commands.Command.TheVariants.{Run, Load,
 use Rattle.command_words.specs.Words.{AreWords, AreNone}
 use Rattle.run_media.specs.Media.{Media}
 use Rattle.run_rounds.specs.Runs.{Account}
-use Rattle.run_volumes.specs.declared.kept.Kept.{Kept}
 use Rattle.run_volumes.specs.Kept.{AllKept}
+use Rattle.run_volumes.specs.declared.kept.Kept.{Kept}
 use Rattle.swallow_top.specs.declared.reports.Wanted.TheVariants.{Report, Summary}
 use Rattle.swallow_top.specs.Contract.{HasNoRun, IsNoPlan, RunsPlan}
 use Rattle.swallow_top.specs.Histories.{TellsHistory}

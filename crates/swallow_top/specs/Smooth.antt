@@ -2,6 +2,8 @@
 use Rattle.std.specs.Prelude.{◌≡◌, ℕ, ◌+◌, ◌*◌, ◌≤◌, ◌<◌, true, List, length, Option, Some}
 use Rattle.pseudo_time.specs.Lists.{Every}
 use Rattle.pseudo_time.specs.declared.nodes.NodeId.{NodeId}
+use Rattle.pseudo_time.specs.declared.nodes.NodeKind.{NodeKind}
+use Rattle.pseudo_time.specs.declared.nodes.NodeKind.TheVariants.{Repository, Broker}
 use Rattle.value_form.specs.declared.acts.ActSpec.{ActSpec}
 use Rattle.stream_port.specs.Causes.{Rose}
 use Rattle.medium_port.specs.Image.{IsBlankImage}
@@ -36,6 +38,11 @@ pages_for plan most = 1 + 17 * (tries_in plan.acts * (most + 3))
 -- and no more messages than these are sent
 abbrev pub messages_for : Plan → ℕ → ℕ
 messages_for plan most = tries_in plan.acts * (4 * most + 4)
+
+-- how many volumes of a node are taken where they are blank: a repository's volume 1 is found empty behind its volume 0
+abbrev pub volumes_of_blank : NodeKind → ℕ
+volumes_of_blank Repository = 2
+volumes_of_blank Broker = 1
 
 -- Scripts of the plan make at most so many requests. The nodes' media were blank and have enough pages, and no count of theirs rose.
 -- Fewer messages are sent than those at which the run ends, each as one copy without a hold.

@@ -8,7 +8,7 @@ mod media;
 mod plans;
 mod reports;
 mod retirements;
-mod shelves;
+mod runs;
 mod stops;
 mod streams;
 mod top;

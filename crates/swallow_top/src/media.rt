@@ -1,17 +1,43 @@
+ghost use Rattle.std.specs.Prelude.{◌≡◌};
+ghost use Rattle.run_rounds.specs.Stories.{no_trace};
+
 use medium_port::Medium;
 use run_rounds::Told;
 use run_volumes::Kept;
+use std::alloc::Global;
 use value_form::Items;
 
 /// What a call answers.
 #[derive(Drop)]
 pub struct Finish<M: Medium, F, C> {
-    /// The status with which a program ends, 0 to 7.
+    /// The status with which a program ends, 0 to 8.
     pub status: u8,
     /// What happened. Where no run began it names no node.
     pub trace: Told,
-    /// The media that were taken, in the order of their nodes.
+    /// The media that were taken, in the order of their nodes, and each node's by their volumes.
     pub media: Items<Kept<M>>,
     pub fates: F,
     pub clock: C,
+}
+
+/// A call in which no run began.
+pub fn quiet<M: Medium, F, C>(
+    alloc: Global,
+    status: u8,
+    media: Vec<Kept<M>>,
+    fates: F,
+    clock: C,
+) -> Finish<M, F, C>
+    ensures status { result.status ≡ status }
+    ensures trace { result.trace ≡ no_trace }
+    ensures media { result.media ≡ media.items }
+    ensures told { (result.fates ≡ fates) × (result.clock ≡ clock) }
+{
+    Finish {
+        status,
+        trace: Told::none(alloc),
+        media: Items::of(media),
+        fates,
+        clock,
+    }
 }

@@ -1,39 +1,27 @@
 //! The call.
-ghost use Rattle.std.specs.Prelude.{◌≡◌, ◌≤◌, []};
-ghost use Rattle.plan_form.specs.PlanTexts.{IsOfLanguage};
-ghost use Rattle.run_rounds.specs.Stories.{no_trace};
 ghost use Rattle.command_words.specs.Words.{said};
 ghost use Rattle.run_rounds.specs.Finishes.{account_of, tellers};
-ghost use Rattle.swallow_top.specs.Contract.{RefusedAs, RunsPlan};
+ghost use Rattle.swallow_top.specs.Contract.{RefusedAs};
 ghost use Rattle.swallow_top.specs.Promise.{Promise};
-ghost use Rattle.run_volumes.specs.Kept.{AllKept};
 ghost use Rattle.run_volumes.specs.Shelves.{shelf_sight};
 ghost use Rattle.swallow_top.specs.Written.{sinking};
 
 use crate::histories::tell_history;
 use crate::lines::fault_line;
-use crate::media::Finish;
+use crate::media::{Finish, quiet};
 use crate::plans::read_plan;
-use crate::reports::{Wanted, tell};
+use crate::reports::Wanted;
 use crate::retirements::tell_retirement;
-use crate::shelves::{keep_all, take_all};
+use crate::runs::run_plan;
 use crate::stops::Stop;
 use crate::streams::write_all;
-use command_words::{Command, Options, read_words};
+use command_words::{Command, read_words};
 use medium_port::{Medium, Shelf};
-use plan_form::{Plan, make};
-use run_media::{node_count, open_all};
-use run_rounds::{Finished, Limits, Told, run};
-use run_volumes::Kept;
-use serial_law::{
-    law_of_added_reasons, law_of_answers, law_of_finals, law_of_reasons, law_of_serial_runs,
-    law_of_spent_acts,
-};
+use plan_form::make;
 use std::alloc::Global;
 use std::sync::Wait;
 use std::thread::Threads;
 use stream_port::{Clock, Fates, Sink, Source};
-use value_form::Items;
 
 // Writes why nothing was run. The answer is the status.
 fn refused<O: Sink>(alloc: Global, stop: Stop, sink: &mut O) -> u8
@@ -59,101 +47,9 @@ fn refused<O: Sink>(alloc: Global, stop: Stop, sink: &mut O) -> u8
     }
 }
 
-// A call in which no run began.
-fn quiet<M: Medium, F, C>(
-    alloc: Global,
-    status: u8,
-    media: Vec<Kept<M>>,
-    fates: F,
-    clock: C,
-) -> Finish<M, F, C>
-    ensures status { result.status ≡ status }
-    ensures trace { result.trace ≡ no_trace }
-    ensures media { result.media ≡ media.items }
-    ensures told { (result.fates ≡ fates) × (result.clock ≡ clock) }
-{
-    Finish {
-        status,
-        trace: Told::none(alloc),
-        media: Items::of(media),
-        fates,
-        clock,
-    }
-}
-
-// Takes the media of the plan's nodes, runs it over them, and writes what came of it.
-fn run_plan<
-    O: Sink,
-    S: Shelf,
-    F: Fates + Drop + Send,
-    C: Clock + Drop + Send,
-    R: Threads + Wait + Sync,
->(
-    rt: &R,
-    alloc: Global,
-    plan: &Plan,
-    options: Options,
-    wanted: Wanted,
-    sink: &mut O,
-    shelf: &mut S,
-    fates: F,
-    clock: C,
-) -> Finish<S::Medium, F, C>
-where
-    S::Medium: Drop + Send,
-    requires plan { IsOfLanguage plan.now }
-    requires workers { 1 ≤ options.workers }
-    ensures ran { RunsPlan S.Medium.Medium
-        (shelf_sight S.Shelf shelf.old)
-        (shelf_sight S.Shelf shelf.new) result.media plan.now wanted options
-        (account_of result.trace (tellers (F.asked fates) (F.asked result.fates) (C.answers clock) (C.answers result.clock)))
-        (sinking (O.taken sink.old) (O.taken sink.new) (O.faults sink.old) (O.faults sink.new)) result.status }
-    ensures kept { AllKept (shelf_sight S.Shelf shelf.old)
-        (shelf_sight S.Shelf shelf.new) result.media }
-{
-    let count = node_count(plan);
-    let Ok(room) = Vec::with_capacity(alloc, count) else {
-        return quiet(alloc, 7, Vec::new(alloc), fates, clock);
-    };
-    let Ok(kept) = Vec::with_capacity(alloc, count) else {
-        return quiet(alloc, 7, Vec::new(alloc), fates, clock);
-    };
-    let Ok(found) = Vec::with_capacity(alloc, count) else {
-        return quiet(alloc, 7, Vec::new(alloc), fates, clock);
-    };
-    let media = take_all(plan, shelf, count, room);
-    let (media, openings) = open_all(alloc, media, found);
-    let limits = Limits {
-        ticks: options.ticks,
-        messages: options.messages,
-        workers: options.workers,
-    };
-    let Finished {
-        end,
-        media,
-        fates,
-        clock,
-    } = run(rt, alloc, plan, limits, openings, media, fates, clock);
-    let media = keep_all(plan, media.into_vec(), kept);
-    law_of_serial_runs();
-    law_of_finals();
-    law_of_answers();
-    law_of_reasons();
-    law_of_spent_acts();
-    law_of_added_reasons();
-    let (status, trace) = tell(alloc, plan, wanted, end, sink);
-    Finish {
-        status,
-        trace,
-        media: Items::of(media),
-        fates,
-        clock,
-    }
-}
-
 /// Does what the words say, which are those of `command_words`.
 ///
-/// - `run` reads a plan from the source, runs it over the media of its nodes, and writes its report to
+/// - `run` reads a plan from the source, runs it over the volumes of its nodes, and writes its report to
 ///   the sink;
 /// - `load` makes a plan of a seed, runs it, and writes a summary;
 /// - `history` opens the repository of an object alone, and writes the object's history;

@@ -1,0 +1,8 @@
+use Rattle.std.proofs.Common.{take}
+use Rattle.pseudo_time.specs.Lists.{Every}
+use Rattle.run_media.specs.Openings.{IsWanting}
+use Rattle.plan_volumes.proofs.asides.is_wanting.Given as goal
+
+-- memory was there for those so far
+abbrev pub invariant-loop-opening : goal.invariant-loop-opening
+invariant-loop-opening g l = Every (λ o. IsWanting o → ⊥) (take l.opening-index l.openings)

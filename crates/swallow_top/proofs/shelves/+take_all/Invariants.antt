@@ -1,4 +1,0 @@
-use Rattle.swallow_top.proofs.shelves.+take_all.Given as goal
-
-abbrev pub decreases-take_all : goal.decreases-take_all
-decreases-take_all g l = l.count

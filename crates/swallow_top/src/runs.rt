@@ -1,0 +1,143 @@
+//! A plan is run over the volumes of its nodes.
+ghost use Rattle.std.specs.Prelude.{◌≡◌, ◌≤◌, [], true, length, map, List, Option, vec_len, vec_capacity};
+ghost use Rattle.std.specs.List.{AllZip};
+ghost use Rattle.plan_form.specs.PlanTexts.{IsOfLanguage};
+ghost use Rattle.run_media.specs.Openings.{HasOpened, medium_in};
+ghost use Rattle.run_media.specs.Places as order;
+ghost use Rattle.run_rounds.specs.Finishes.{EndsAs, account_of, tellers};
+ghost use Rattle.run_volumes.specs.Kept.{AllKept};
+ghost use Rattle.run_volumes.specs.Shelves.{shelf_sight};
+ghost use Rattle.swallow_top.specs.Contract.{RunsPlan};
+ghost use Rattle.swallow_top.specs.Written.{sinking};
+
+use crate::media::{Finish, quiet};
+use crate::reports::{Wanted, tell};
+use command_words::Options;
+use medium_port::{Medium, Shelf};
+use plan_form::Plan;
+use plan_volumes::{Opened, Rooms, keep_nodes, make_rooms, open_nodes};
+use run_media::{Opening, give_back};
+use run_rounds::{End, Finished, Limits, run};
+use serial_law::{
+    law_of_added_reasons, law_of_answers, law_of_finals, law_of_reasons, law_of_serial_runs,
+    law_of_spent_acts,
+};
+use std::alloc::Global;
+use std::sync::Wait;
+use std::thread::Threads;
+use stream_port::{Clock, Fates, Sink};
+use value_form::Items;
+
+// Runs the plan over these openings, unless memory was wanting for one of the nodes' volumes.
+fn run_opened<
+    F: Fates + Drop + Send,
+    C: Clock + Drop + Send,
+    M: Medium + Drop + Send,
+    R: Threads + Wait + Sync,
+>(
+    rt: &R,
+    alloc: Global,
+    plan: &Plan,
+    options: Options,
+    wanting: bool,
+    openings: Vec<Opening<M>>,
+    media: Vec<Option<M>>,
+    fates: F,
+    clock: C,
+) -> Finished<F, C, M>
+    requires plan { IsOfLanguage plan.now }
+    requires count { length openings.items ≡ order.node_count plan.now }
+    requires opened { (first : List (Option M)) × AllZip (HasOpened M.Medium) first openings.items }
+    requires empty { media.items ≡ [] }
+    requires room { vec_len openings ≤ vec_capacity media }
+    requires workers { 1 ≤ options.workers }
+    ensures ends { (first : List (Option M)) → AllZip (HasOpened M.Medium) first openings.items →
+        EndsAs M.Medium options.ticks options.messages plan.now
+        (tellers (F.asked fates) (F.asked result.fates) (C.answers clock) (C.answers result.clock)) first result.media result.end }
+    ensures memory { wanting ≡ true → (result.end ≡ End.NoMemory) × (result.media ≡ map medium_in openings.items) }
+{
+    if wanting {
+        return Finished {
+            end: End::NoMemory,
+            media: Items::of(give_back(media, openings)),
+            fates,
+            clock,
+        };
+    }
+    let limits = Limits {
+        ticks: options.ticks,
+        messages: options.messages,
+        workers: options.workers,
+    };
+    run(rt, alloc, plan, limits, openings, media, fates, clock)
+}
+
+/// Takes the volumes of the plan's nodes, runs it over one of each, and writes what came of it.
+pub fn run_plan<
+    O: Sink,
+    S: Shelf,
+    F: Fates + Drop + Send,
+    C: Clock + Drop + Send,
+    R: Threads + Wait + Sync,
+>(
+    rt: &R,
+    alloc: Global,
+    plan: &Plan,
+    options: Options,
+    wanted: Wanted,
+    sink: &mut O,
+    shelf: &mut S,
+    fates: F,
+    clock: C,
+) -> Finish<S::Medium, F, C>
+where
+    S::Medium: Drop + Send,
+    requires plan { IsOfLanguage plan.now }
+    requires workers { 1 ≤ options.workers }
+    ensures ran { RunsPlan S.Medium.Medium
+        (shelf_sight S.Shelf shelf.old)
+        (shelf_sight S.Shelf shelf.new) result.media plan.now wanted options
+        (account_of result.trace (tellers (F.asked fates) (F.asked result.fates) (C.answers clock) (C.answers result.clock)))
+        (sinking (O.taken sink.old) (O.taken sink.new) (O.faults sink.old) (O.faults sink.new)) result.status }
+    ensures kept { AllKept (shelf_sight S.Shelf shelf.old)
+        (shelf_sight S.Shelf shelf.new) result.media }
+{
+    let Ok(rooms) = make_rooms(alloc, plan) else {
+        return quiet(alloc, 7, Vec::new(alloc), fates, clock);
+    };
+    let Rooms {
+        nodes,
+        openings,
+        asides,
+        media,
+        kept,
+    } = rooms;
+    let Opened {
+        openings,
+        asides,
+        wanting,
+    } = open_nodes(alloc, plan, shelf, nodes, openings, asides);
+    let Finished {
+        end,
+        media,
+        fates,
+        clock,
+    } = run_opened(
+        rt, alloc, plan, options, wanting, openings, media, fates, clock,
+    );
+    let kept = keep_nodes(plan, asides, media.into_vec(), kept);
+    law_of_serial_runs();
+    law_of_finals();
+    law_of_answers();
+    law_of_reasons();
+    law_of_spent_acts();
+    law_of_added_reasons();
+    let (status, trace) = tell(alloc, plan, wanted, end, sink);
+    Finish {
+        status,
+        trace,
+        media: Items::of(kept),
+        fates,
+        clock,
+    }
+}
