@@ -1,17 +1,26 @@
--- What is handed back of a retirement.
-use Rattle.std.proofs.Common.{◌≡◌, ℕ, List, length, ap, sym, subst, ◌∙◌}
+-- How a retirement is told, and what is handed back of it.
+use Rattle.std.proofs.Common.{◌≡◌, ◌⊎◌, inl, inr, ℕ, List, length, ap, sym, subst, ◌∙◌}
 use Rattle.std.proofs.lemmas.Slice.Zip.{AllZip-long}
 use Rattle.pseudo_time.specs.Nodes.{repository as named}
+use Rattle.pseudo_time.specs.TimeParts.{TimeParts}
 use Rattle.run_media.specs.Media.{IsBack, Media}
 use Rattle.run_volumes.specs.declared.kept.Kept.{Kept}
 use Rattle.run_volumes.specs.Kept.{AllKept, kept_under}
 use Rattle.run_volumes.specs.Shelves.{ShelfSight, first_names}
 use Rattle.run_volumes.proofs.ShelfLemmas.{all-kept}
+use Rattle.retire_command.specs.declared.outcomes.Retired.{Retired}
+use Rattle.retire_command.specs.Retires.{RetiresOver, TookNothing}
 use Rattle.retire_command.proofs.RetireLemmas.{comes-back}
-use Rattle.swallow_top.specs.Retirements.{TellsRetirement, mark_at}
+use Rattle.swallow_top.specs.Histories.{AskedNothing}
+use Rattle.swallow_top.specs.Retirements.{TellsRetired, TellsRetirement, mark_at}
 use Rattle.swallow_top.specs.Written.{Sinking}
 
--- each medium that was taken
+pub tells-retirement : {M : Type 0} (w : Media M) (old new : ShelfSight) (repository clock : ℕ) (kept : List (Kept M)) (s : Sinking) (status : ℕ) (at : TimeParts) (r : Retired) → at ≡ mark_at clock →
+    TookNothing w old new kept r ⊎ RetiresOver w old new (named repository) at kept r → TellsRetired r status s → AskedNothing w old new kept status ⊎ TellsRetirement w old new repository clock kept s status
+tells-retirement w old new repository clock kept s status at r is (inl none) told = inl (record { wanting = subst (λ x. TellsRetired x status s) none.wanting told; none = none.none; unasked = none.unasked; left = none.left })
+tells-retirement w old new repository clock kept s status at r is (inr over) told = inr (record { retired = r; over = subst (λ m. RetiresOver w old new (named repository) m kept r) is over; told = told })
+
+-- each medium that was taken is handed back
 pub retirement-kept : {M : Type 0} (w : Media M) (old new : ShelfSight) (repository clock : ℕ) (kept : List (Kept M)) (s : Sinking) (status : ℕ) → TellsRetirement w old new repository clock kept s status → AllKept old new kept
 retirement-kept w old new repository clock kept s status h =
     let over = h.over in

@@ -1,12 +1,13 @@
-use Rattle.std.proofs.Common.{◌∙◌, ap, refl, sym, subst}
+use Rattle.std.proofs.Common.{◌⊎◌, ◌∙◌, ap, refl, sym, subst}
 use Rattle.plan_form.specs.PlanTexts.{IsOfLanguage}
 use Rattle.plan_form.proofs.MadeLemmas.{made_is_whole}
 use Rattle.command_words.specs.Words.{AreWords, said}
 use Rattle.swallow_top.specs.Contract.{RefusedAs}
-use Rattle.swallow_top.specs.Histories.{TellsHistory}
+use Rattle.swallow_top.specs.Histories.{AskedNothing, TellsHistory}
+use Rattle.swallow_top.specs.Retirements.{TellsRetirement}
 use Rattle.run_volumes.specs.Shelves.{shelf_sight}
 use Rattle.swallow_top.specs.Written.{sinking}
-use Rattle.swallow_top.proofs.PromiseLemmas.{language-of, promise-history, promise-load, promise-refused, promise-run, quiet-call, some-workers}
+use Rattle.swallow_top.proofs.PromiseLemmas.{language-of, promise-history, promise-load, promise-refused, promise-retire, promise-run, quiet-call, some-workers}
 use Rattle.swallow_top.proofs.top.swallow.Goals as goal
 
 pub run_plan-requires-clause-plan : goal.run_plan-requires-clause-plan
@@ -43,8 +44,7 @@ returns-in-Ok-make g c = record {
 
 pub returns-in-Some-History : goal.returns-in-Some-History
 returns-in-Some-History g c =
-    let m = g.S.Medium.Medium in
-    let w = m in
+    let w = g.S.Medium.Medium in
     let h = g.S.Shelf in
     let old = shelf_sight h c.args.shelf.now in
     let sf = c.tell_history-status.new.shelf in
@@ -53,9 +53,28 @@ returns-in-Some-History g c =
     let s = sinking (k.taken c.args.sink.now) (k.taken c.tell_history-status.new.sink) (k.faults c.args.sink.now) (k.faults c.tell_history-status.new.sink) in
     let q = c.quiet-in-Some-History.ensures in
     let object = c.in-Some-History.object in
-    let media = subst (λ l. TellsHistory w old new object l s c.tell_history-status.result.0) (sym q.media) c.tell_history-status.ensures in
-    let tells = subst (λ n. TellsHistory w old new object c.quiet-in-Some-History.result.media s n) (sym q.status) media in
+    let media = subst (λ l. AskedNothing w old new l c.tell_history-status.result.0 ⊎ TellsHistory w old new object l s c.tell_history-status.result.0) (sym q.media) c.tell_history-status.ensures in
+    let tells = subst (λ n. AskedNothing w old new c.quiet-in-Some-History.result.media n ⊎ TellsHistory w old new object c.quiet-in-Some-History.result.media s n) (sym q.status) media in
     record {
       promise = promise-history _ object (refl, refl) (subst (λ x. AreWords x (said c.args.words.now)) c.in-Some-History.field-0-is c.in-Some-History.ensures.words) tells
+          (record { trace = q.trace; fates = ap g.F.Fates.asked q.told.0; clock = ap g.C.Clock.answers q.told.1 });
+    }
+
+pub returns-in-Some-Retire : goal.returns-in-Some-Retire
+returns-in-Some-Retire g c =
+    let w = g.S.Medium.Medium in
+    let h = g.S.Shelf in
+    let old = shelf_sight h c.args.shelf.now in
+    let sf = c.tell_retirement-status.new.shelf in
+    let new = shelf_sight h sf in
+    let k = g.O.Sink in
+    let s = sinking (k.taken c.args.sink.now) (k.taken c.tell_retirement-status.new.sink) (k.faults c.args.sink.now) (k.faults c.tell_retirement-status.new.sink) in
+    let q = c.quiet-in-Some-Retire.ensures in
+    let r = c.in-Some-Retire.repository in
+    let mark = c.in-Some-Retire.mark in
+    let media = subst (λ l. AskedNothing w old new l c.tell_retirement-status.result.0 ⊎ TellsRetirement w old new r mark l s c.tell_retirement-status.result.0) (sym q.media) c.tell_retirement-status.ensures in
+    let tells = subst (λ n. AskedNothing w old new c.quiet-in-Some-Retire.result.media n ⊎ TellsRetirement w old new r mark c.quiet-in-Some-Retire.result.media s n) (sym q.status) media in
+    record {
+      promise = promise-retire _ r mark (refl, refl) (subst (λ x. AreWords x (said c.args.words.now)) c.in-Some-Retire.field-0-is c.in-Some-Retire.ensures.words) tells
           (record { trace = q.trace; fates = ap g.F.Fates.asked q.told.0; clock = ap g.C.Clock.answers q.told.1 });
     }
