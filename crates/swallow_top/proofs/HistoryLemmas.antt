@@ -22,8 +22,8 @@ use Rattle.swallow_top.specs.Written.{Sinking, EndsIfAny}
 
 module _ {M : Type 0} {g : _} (object : ObjectId) (os : List (Opening M g)) (status : ℕ) (s : Sinking) where
   pub open-told : AreOpen os → EndsIfAny status s 0 (history_text object (node_log (logs_of os))) → TellsVolumes object os status s
-  open-told open (inl seven) = inl seven
-  open-told open (inr ends) = inr (inl (history_text object (node_log (logs_of os)), (open, refl), ends))
+  open-told all (inl seven) = inl seven
+  open-told all (inr ends) = inr (inl (history_text object (node_log (logs_of os)), (all, refl), ends))
 
   pub shut-told : (cause : DownCause) → HasShut os cause → EndsIfAny status s 6 (down_text (record { node = home_of object; cause = cause })) → TellsVolumes object os status s
   shut-told cause shut (inl seven) = inl seven
