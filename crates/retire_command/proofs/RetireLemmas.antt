@@ -159,7 +159,7 @@ module _ {M : Type 0} (w : Media M) {g : _} where
 
   -- ---- each volume that was taken is handed back
 
-  back-first : (m : Option M) (ms : List (Option M)) (store : Store M g) (effects : Vec Effect Global) (x : M) → HasOpened w m (Open store effects) → AllZip (HasOpened w {g}) ms [] → AreBack (m ∷ ms) (Some x ∷ [])
+  back-first : (m : Option M) (ms : List (Option M)) (store : Store M g) (effects : Vec Effect Global) (x : M) → HasOpened w m (Open store effects) → AllZip (HasOpened w {g = g}) ms [] → AreBack (m ∷ ms) (Some x ∷ [])
   back-first None ms store effects x h k = absurd h
   back-first (Some old) [] store effects x h k = (tt, tt)
   back-first (Some old) (m ∷ ms) store effects x h k = absurd k
