@@ -77,12 +77,12 @@ has-or-not name (x ∷ names) = by (name-same x name) (has-or-not name names)
 -- the names of a node's first volumes
 pub names-below : (n : NodeId) (k : ℕ) (name : MediumName) → Has name (first_names n k) → (v : ℕ) × (v < k) × (name ≡ volume_name n v)
 names-below n zero name h = absurd h
-names-below n (suc k) name h = by (has-split name (first_names n k) (volume_name n k ∷ []) h)
+names-below n (suc k) name h = by (names-below n k name) (has-split name (first_names n k) (volume_name n k ∷ []) h)
   where
-    by : Has name (first_names n k) ⊎ Has name (volume_name n k ∷ []) → (v : ℕ) × (v < suc k) × (name ≡ volume_name n v)
-    by (inl before) = let r = names-below n k name before in (r.0, omega (arith, r.1), r.2)
-    by (inr (inl e)) = (k, omega arith, sym e)
-    by (inr (inr none)) = absurd none
+    by : (Has name (first_names n k) → (v : ℕ) × (v < k) × (name ≡ volume_name n v)) → Has name (first_names n k) ⊎ Has name (volume_name n k ∷ []) → (v : ℕ) × (v < suc k) × (name ≡ volume_name n v)
+    by below (inl before) = let r = below before in let low = r.1 in (r.0, omega (arith, low), r.2)
+    by below (inr (inl e)) = (k, omega arith, sym e)
+    by below (inr (inr none)) = absurd none
 
 -- the next volume has another name than those before it
 pub apart : (n : NodeId) (k : ℕ) (name : MediumName) → Has name (volume_name n k ∷ []) → Has name (first_names n k) → ⊥
@@ -112,8 +112,8 @@ get-front (y ∷ xs) ys zero x e = e
 get-front (y ∷ xs) ys (suc i) x e = get-front xs ys i x e
 
 get-behind : {A : Type 0} (xs ys : List A) (i : ℕ) (x : A) → slice_get ys i ≡ Some x → slice_get (xs ++ ys) (length xs + i) ≡ Some x
-get-behind [] ys i x e = e
-get-behind (y ∷ xs) ys i x e = get-behind xs ys i x e
+get-behind [] ys i x e = let at : i ≡ 0 + i = omega arith in subst (λ k. slice_get ys k ≡ Some x) at e
+get-behind (y ∷ xs) ys i x e = let at : suc (length xs + i) ≡ length (y ∷ xs) + i = omega arith in subst (λ k. slice_get (y ∷ (xs ++ ys)) k ≡ Some x) at (get-behind xs ys i x e)
 
 module _ {M : Type 0} (w : Media M) where
   -- ---- taken one after another
@@ -215,6 +215,10 @@ module _ {M : Type 0} (w : Media M) where
 
 -- ---- handed back
 
+pub names-long : (n : NodeId) (k : ℕ) → length (first_names n k) ≡ k
+names-long n zero = refl
+names-long n (suc k) = let e = length-append (first_names n k) (volume_name n k ∷ []) in let r = names-long n k in omega (arith, e, r)
+
 module _ {M : Type 0} where
   kept-more : (ns : List MediumName) (xs : List (Option M)) (name : MediumName) (m : Option M) → length ns ≡ length xs → kept_under {M = M} (ns ++ name ∷ []) (xs ++ m ∷ []) ≡ kept_under ns xs ++ kept_as name m
   kept-more [] [] name m e = append-nil (kept_as name m)
@@ -222,10 +226,6 @@ module _ {M : Type 0} where
   kept-more (n ∷ ns) [] name m e = absurd (omega (arith, e))
   kept-more (n ∷ ns) (x ∷ xs) name m e =
       ap (λ l. kept_as n x ++ l) (kept-more ns xs name m (omega (arith, e))) ∙ sym (append_assoc (kept_as n x) (kept_under ns xs) (kept_as name m))
-
-  pub names-long : (n : NodeId) (k : ℕ) → length (first_names n k) ≡ k
-  names-long n zero = refl
-  names-long n (suc k) = let e = length-append (first_names n k) (volume_name n k ∷ []) in let r = names-long n k in omega (arith, e, r)
 
   -- one more medium of a node is kept, behind others
   pub keep-joined : (n : NodeId) (xs ys : List (Option M)) (m : Option M) (front k all : List (Kept M)) (v : ℕ) → ys ≡ xs ++ m ∷ [] → v ≡ length xs → k ≡ front ++ kept_under (first_names n (length xs)) xs →

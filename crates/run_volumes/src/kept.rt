@@ -1,4 +1,4 @@
-ghost use Rattle.std.specs.Prelude.{◌≡◌, ◌≤◌, ◌+◌, ◌++◌, vec_len, vec_capacity};
+ghost use Rattle.std.specs.Prelude.{◌≡◌, ◌≤◌, ◌+◌, ◌++◌, length, vec_len, vec_capacity};
 ghost use Rattle.run_volumes.specs.Kept.{kept_as, kept_under};
 ghost use Rattle.run_volumes.specs.Shelves.{first_names, volume_name};
 
@@ -46,7 +46,7 @@ pub fn keep_volumes<M: Medium>(
 ) -> Vec<Kept<M>>
     requires few { vec_len media ≤ 1000 }
     requires room { vec_len kept + vec_len media ≤ vec_capacity kept }
-    ensures kept { result.items ≡ kept.items ++ kept_under (first_names node (vec_len media)) media.items }
+    ensures kept { result.items ≡ kept.items ++ kept_under (first_names node (length media.items)) media.items }
     ensures room { vec_capacity result ≡ vec_capacity kept }
     ensures few { vec_len result ≤ vec_len kept + vec_len media }
 {
