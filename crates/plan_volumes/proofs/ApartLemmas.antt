@@ -14,9 +14,10 @@ use Rattle.run_media.specs.Media.{Media}
 use Rattle.run_media.specs.Openings.{HasOpened, IsWanting, medium_in}
 use Rattle.run_media.specs.Places.{kind_place, node_at}
 use Rattle.run_media.proofs.OrderLemmas.{place-at}
+use Rattle.forward_copy.specs.Currents.{current, current_from}
 use Rattle.forward_copy.specs.Wholes.{has_whole}
 use Rattle.run_volumes.specs.Shelves.{ShelfSight, WereTaken, first_names, volume_name}
-use Rattle.run_volumes.specs.Volumes.{AreVolumes, EndRightly, current_from, current, logs_of}
+use Rattle.run_volumes.specs.Volumes.{AreVolumes, EndRightly, logs_of}
 use Rattle.run_volumes.proofs.ShelfLemmas.{names-below, taken-both, taken-none}
 use Rattle.plan_volumes.specs.Volumes.{AreNodes, HadMemory, IsNodes, KeepsLog, NodeVolumes, all_taken, is_open, left_of, names_from, unopened_from, work_taken, working}
 use Rattle.plan_volumes.specs.Asides.{AreApart, IsAside}
@@ -26,11 +27,11 @@ use Rattle.plan_volumes.specs.declared.asides.Aside.{Aside}
 
 current-below : (found v most : ℕ) (logs : List (List Effect)) → found < most → v + length logs ≤ most → current_from found v logs < most
 current-below found v most [] low fits = low
-current-below found v most (log ∷ logs) low fits = by (has_whole log)
+current-below found v most (log ∷ logs) low fits = current-below (if has_whole log then v else found) (suc v) most logs (by (has_whole log)) (omega (arith, fits))
   where
-    by : (t : Bool) → current_from (if t then v else found) (suc v) logs < most
-    by true = current-below v (suc v) most logs (omega (arith, fits)) (omega (arith, fits))
-    by false = current-below found (suc v) most logs low (omega (arith, fits))
+    by : (t : Bool) → (if t then v else found) < most
+    by true = omega (arith, fits)
+    by false = low
 
 module _ {M : Type 0} {g : _} where
   logs-long : (os : List (Opening M g)) → length (logs_of os) ≡ length os
@@ -39,11 +40,11 @@ module _ {M : Type 0} {g : _} where
 
   first-below : (v most : ℕ) (os : List (Opening M g)) (d : ℕ) → d < most → v + length os ≤ most → unwrap_or (unopened_from v os) d < most
   first-below v most [] d low fits = low
-  first-below v most (o ∷ os) d low fits = by (is_open o)
+  first-below v most (o ∷ os) d low fits = by (first-below (suc v) most os d low (omega (arith, fits))) (is_open o)
     where
-      by : (t : Bool) → unwrap_or (if t then unopened_from (suc v) os else Some v) d < most
-      by true = first-below (suc v) most os d low (omega (arith, fits))
-      by false = omega (arith, fits)
+      by : unwrap_or (unopened_from (suc v) os) d < most → (t : Bool) → unwrap_or (if t then unopened_from (suc v) os else Some v) d < most
+      by later true = later
+      by later false = omega (arith, fits)
 
   pub working-below : (os : List (Opening M g)) → 1 ≤ length os → working os < length os
   working-below os some = first-below 0 (length os) os (current (logs_of os)) (current-below 0 0 (length os) (logs_of os) some (let l = logs-long os in omega (arith, l))) (omega arith)
@@ -92,7 +93,7 @@ module _ {M : Type 0} {w : Media M} where
   -- these are names of the plan's nodes from this place on
   names-within : (plan : Plan) (i : ℕ) (volumes : List (NodeVolumes w)) (name : MediumName) → Has name (names_from plan i volumes) → (j : ℕ) × (v : ℕ) × (j < i + length volumes) × (name ≡ volume_name (node_at plan j) v)
   names-within plan i [] name h = absurd h
-  names-within plan i (x ∷ volumes) name h = by (split (first_names (node_at plan i) (length x.taken)) h)
+  names-within plan i (x ∷ volumes) name h = by (λ later. names-within plan (suc i) volumes name later) (split (first_names (node_at plan i) (length x.taken)) h)
     where
       split : (xs : List MediumName) → Has name (xs ++ names_from plan (suc i) volumes) → Has name xs ⊎ Has name (names_from plan (suc i) volumes)
       split [] h = inr h
@@ -103,9 +104,10 @@ module _ {M : Type 0} {w : Media M} where
           one (inl k) = inl (inr k)
           one (inr k) = inr k
 
-      by : Has name (first_names (node_at plan i) (length x.taken)) ⊎ Has name (names_from plan (suc i) volumes) → (j : ℕ) × (v : ℕ) × (j < i + length (x ∷ volumes)) × (name ≡ volume_name (node_at plan j) v)
-      by (inl here) = let r = names-below (node_at plan i) (length x.taken) name here in (i, r.0, omega arith, r.2)
-      by (inr later) = let r = names-within plan (suc i) volumes name later in let low = r.2 in (r.0, r.1, omega (arith, low), r.3)
+      by : (Has name (names_from plan (suc i) volumes) → (j : ℕ) × (v : ℕ) × (j < suc i + length volumes) × (name ≡ volume_name (node_at plan j) v)) → Has name (first_names (node_at plan i) (length x.taken)) ⊎ Has name (names_from plan (suc i) volumes)
+          → (j : ℕ) × (v : ℕ) × (j < i + length (x ∷ volumes)) × (name ≡ volume_name (node_at plan j) v)
+      by behind (inl here) = let r = names-below (node_at plan i) (length x.taken) name here in (i, r.0, omega arith, r.2)
+      by behind (inr later) = let r = behind later in let low = r.2 in (r.0, r.1, omega (arith, low), r.3)
 
   -- the next node's volumes have other names
   next-apart : (plan : Plan) (volumes : List (NodeVolumes w)) (k : ℕ) (name : MediumName) → Has name (first_names (node_at plan (length volumes)) k) → Has name (names_from plan 0 volumes) → ⊥
@@ -167,8 +169,8 @@ module _ {M : Type 0} (w : Media M) where
     are-nodes : IsNodes w (node_at plan (0 + length volumes)) v
     are-nodes = subst (λ (k : NodeId). IsNodes w k v) (is ∙ ap (node_at plan) (sym there)) (record { opened = new.opened; ends = new.ends; keep = keep-logs taken openings new.opened })
 
-    pub aside-one : (o missing : Opening M w) (aside : Aside M w) → length openings ≤ 1000 → aside.working ≡ working openings → aside.rest.items ≡ slice_set openings (working openings) missing → IsAside v aside
-    aside-one o missing aside few place rest =
+    pub aside-one : (missing : Opening M w) (aside : Aside M w) → length openings ≤ 1000 → aside.working ≡ working openings → aside.rest.items ≡ slice_set openings (working openings) missing → IsAside v aside
+    aside-one missing aside few place rest =
         let long : length aside.rest.items ≡ length openings = ap length rest ∙ set-long openings (working openings) missing in
         let below = working-below openings (ends-some n.kind openings new.ends) in
         record {
@@ -187,5 +189,5 @@ module _ {M : Type 0} (w : Media M) where
       are = are-more plan 0 volumes v old.are are-nodes;
       given = subst (λ l. AllZip (HasOpened w) l (os ++ o ∷ [])) (sym (map-append work_taken volumes (v ∷ []))) (zip-more (HasOpened w) (map work_taken volumes) os (work_taken v) o old.given (zip-get (HasOpened w) taken openings (working openings) None o new.opened given));
       aside = zip-more IsAside volumes asides v aside old.aside set;
-      memory = λ e. let m = memory e in every-more _ volumes v (old.memory m.0) m.1;
+      memory = λ e. let m = memory e in every-more (λ (y : NodeVolumes w). Every (λ (x : Opening M w). IsWanting x → ⊥) y.openings) volumes v (old.memory m.0) m.1;
     }

@@ -1,25 +1,20 @@
 -- The volumes of one node among those of all.
-use Rattle.std.proofs.Common.{◌≡◌, ◌≤◌, ◌<◌, ◌+◌, ℕ, zero, suc, Bool, true, false, IsTrue, List, [], ◌∷◌, ◌++◌, length, length-append, length-map, map, get_or, slice_get, slice_set, Option, Some, None, Ok, refl, ap, sym, subst, ◌∙◌, arith}
+use Rattle.std.proofs.Common.{◌≡◌, ◌⊎◌, ◌≤◌, ◌<◌, ◌+◌, ◌==◌, inl, inr, ℕ, zero, suc, Bool, true, false, IsTrue, List, [], ◌∷◌, ◌++◌, length, length-append, length-map, map, get_or, slice_get, slice_set, Option, Some, None, Ok, refl, ap, sym, subst, ◌∙◌, arith}
 use Rattle.std.specs.List.{AllZip}
-use Rattle.std.proofs.lemmas.Bool.{false≢true}
+use Rattle.std.proofs.lemmas.Bool.Decides.{nat_tests}
 use Rattle.std.proofs.lemmas.Option.{slice_get_within}
 use Rattle.pseudo_time.specs.Lists.{Has}
 use Rattle.pseudo_time.specs.declared.nodes.NodeId.{NodeId}
-use Rattle.pseudo_time.specs.declared.nodes.NodeKind.{NodeKind}
-use Rattle.pseudo_time.specs.declared.nodes.NodeKind.TheVariants.{Repository, Broker}
 use Rattle.medium_port.specs.declared.shelves.MediumName.{MediumName}
 use Rattle.plan_form.specs.declared.plans.Plan.{Plan}
-use Rattle.run_media.specs.declared.openings.Opening.{Opening}
-use Rattle.run_media.specs.declared.openings.Opening.TheVariants.{Open, Shut, Wanting}
 use Rattle.run_media.specs.Media.{Media}
-use Rattle.run_media.specs.Openings.{HasOpened, log_in, medium_in}
+use Rattle.run_media.specs.Openings.{HasOpened, medium_in}
 use Rattle.run_media.specs.Places.{node_at}
-use Rattle.run_volumes.specs.Kept.{kept_under, node_of}
+use Rattle.run_volumes.specs.Kept.{kept_under}
 use Rattle.run_volumes.specs.Shelves.{IsGiven, ShelfSight, first_names, volume_name}
-use Rattle.run_volumes.specs.Volumes.{EndRightly, goes_on}
 use Rattle.run_volumes.specs.declared.kept.Kept.{Kept}
 use Rattle.run_volumes.proofs.ShelfLemmas.{kept-has, names-long}
-use Rattle.plan_volumes.specs.Volumes.{AreNodes, IsNodes, NodeVolumes, all_left, all_taken, left_of, names_from, work_taken, working}
+use Rattle.plan_volumes.specs.Volumes.{AreNodes, IsNodes, NodeVolumes, all_left, all_taken, left_of, names_from, working}
 use Rattle.plan_volumes.proofs.ApartLemmas.{set-long, zip-long}
 use Rattle.plan_volumes.proofs.KeepLemmas.{kept-append}
 
@@ -56,7 +51,7 @@ has-behind x (y ∷ xs) ys h = inr (has-behind x xs ys h)
 
 name-there : (n : NodeId) (count k : ℕ) → k < count → slice_get (first_names n count) k ≡ Some (volume_name n k)
 name-there n zero k lt = absurd (omega (arith, lt))
-name-there n (suc count) k lt = by (◌==◌ k count) refl
+name-there n (suc count) k lt = by (λ low. name-there n count k low) (k == count) refl
   where
     behind : {A : Type 0} (xs : List A) (x : A) → slice_get (xs ++ x ∷ []) (length xs) ≡ Some x
     behind [] x = refl
@@ -67,12 +62,12 @@ name-there n (suc count) k lt = by (◌==◌ k count) refl
     front (y ∷ xs) ys zero x e = e
     front (y ∷ xs) ys (suc i) x e = front xs ys i x e
 
-    by : (t : Bool) → (k == count) ≡ t → slice_get (first_names n (suc count)) k ≡ Some (volume_name n k)
-    by true e =
+    by : (k < count → slice_get (first_names n count) k ≡ Some (volume_name n k)) → (t : Bool) → (k == count) ≡ t → slice_get (first_names n (suc count)) k ≡ Some (volume_name n k)
+    by before true e =
         let same : k ≡ count = grind (arith, nat_tests) in
         subst (λ i. slice_get (first_names n count ++ volume_name n count ∷ []) i ≡ Some (volume_name n k)) (names-long n count ∙ sym same)
         (behind (first_names n count) (volume_name n count) ∙ ap (λ i. Some (volume_name n i)) (sym same))
-    by false e = front (first_names n count) (volume_name n count ∷ []) k (volume_name n k) (name-there n count k (grind (arith, nat_tests)))
+    by before false e = front (first_names n count) (volume_name n count ∷ []) k (volume_name n k) (before (grind (arith, nat_tests)))
 
 pub volume-at : {B : Type 0} (R : MediumName → B → Type 0) (n : NodeId) (ys : List B) (k : ℕ) (y : B) → AllZip R (first_names n (length ys)) ys → slice_get ys k ≡ Some y → R (volume_name n k) y
 volume-at R n ys k y h e = zip-there R (first_names n (length ys)) ys k (volume_name n k) y h (name-there n (length ys) k (slice_get_within ys k y e)) e
@@ -134,12 +129,3 @@ module _ {M : Type 0} (w : Media M) (plan : Plan) where
       node-kept 0 volumes left place v (Some m) (record { node = n; volume = working v.openings; medium = m }) are e f
       (kept-has (first_names n (length v.taken)) (left_of v (Some m)) (working v.openings) (volume_name n (working v.openings)) m (name-there n (length v.taken) (working v.openings) (omega (arith, long, lt)))
       (set-there (map medium_in v.openings) (working v.openings) (Some m) (omega (arith, short, lt))))
-
--- ---- blank volumes
-
-module _ {M : Type 0} (w : Media M) where
-  goes-kind : (kind : NodeKind) (v : ℕ) (o : Opening M w) → goes_on kind v o ≡ true → kind ≡ Repository
-  goes-kind Repository v o h = refl
-  goes-kind Broker v (Open store effects) h = absurd (false≢true h)
-  goes-kind Broker v (Shut medium cause) h = absurd (false≢true h)
-  goes-kind Broker v (Wanting medium) h = absurd (false≢true h)

@@ -14,9 +14,10 @@ use Rattle.run_media.specs.declared.openings.Opening.TheVariants.{Open, Shut, Wa
 use Rattle.run_media.specs.Media.{Media}
 use Rattle.run_media.specs.Openings.{HasOpened, IsWanting, medium_in}
 use Rattle.run_media.specs.Places.{node_at, node_count}
+use Rattle.forward_copy.specs.Currents.{current}
 use Rattle.run_volumes.specs.Kept.{kept_under}
 use Rattle.run_volumes.specs.Shelves.{ShelfSight, WereTaken, first_names}
-use Rattle.run_volumes.specs.Volumes.{EndRightly, current, logs_of}
+use Rattle.run_volumes.specs.Volumes.{EndRightly, logs_of}
 use Rattle.run_volumes.specs.declared.kept.Kept.{Kept}
 
 -- a node's volumes from 0 on: as they were taken, and what they were opened as

@@ -1,6 +1,7 @@
 -- What must succeed, succeeds: from what the shelf gave and got back to a complete run.
 use Rattle.std.proofs.Common.{◌≡◌, ◌+◌, ◌≤◌, ◌==◌, ◌∙◌, nat_lt, ◌<◌, ◌&&◌, ◌++◌, ℕ, zero, suc, Bool, true, false, IsTrue, List, [], ◌∷◌, cond, length, map, length-append, get_or, Option, Some, None, Ok, slice_get, refl, ap, sym, subst, arith, if◌then◌else◌}
 use Rattle.std.specs.List.{AllZip, count_by}
+use Rattle.std.proofs.lemmas.Bool.{false≢true}
 use Rattle.std.proofs.lemmas.Bool.Decides.{nat_tests}
 use Rattle.std.proofs.lemmas.List.Sums.{sum_by-cons}
 use Rattle.std.proofs.lemmas.Option.{slice_get-get_or}
@@ -70,21 +71,21 @@ none-refused plan b = by (nat_lt plan.run 0) (grind (arith, nat_tests)) (0 == pl
 module _ {M : Type 0} (w : Media M) (tells : IsTrue w.tells) where
   -- behind volume 1 none follows where it holds an empty log
   none-behind : (kind : NodeKind) (x : Option M) (o : Opening M w) → HasOpened w x o → ((m : M) → x ≡ Some m → kind ≡ Repository → storage (w.reads m) ≡ Ok []) → goes_on kind 1 o ≡ true → ⊥
-  none-behind Broker x (Open store effects) h blank goes = cc goes
-  none-behind kind x (Shut medium cause) h blank goes = cc goes
-  none-behind kind x (Wanting medium) h blank goes = cc goes
+  none-behind Broker x (Open store effects) h blank goes = false≢true goes
+  none-behind kind x (Shut medium cause) h blank goes = false≢true goes
+  none-behind kind x (Wanting medium) h blank goes = false≢true goes
   none-behind Repository None (Open store effects) h blank goes = absurd h
   none-behind Repository (Some m) (Open store effects) h blank goes =
       let held : Ok effects.items ≡ Ok [] = sym (h.held tells) ∙ blank m refl refl in
       let none : effects.items ≡ [] = cc in
-      let z : follows Repository 1 [] ≡ true = subst (λ l. follows Repository 1 l ≡ true) none goes in
-      cc z
+      let z : false ≡ true = subst (λ l. follows Repository 1 l ≡ true) none goes in
+      false≢true z
 
   one-kind : (kind : NodeKind) (v : ℕ) (o : Opening M w) → goes_on kind v o ≡ true → 2 ≤ volumes_of_blank kind
   one-kind Repository v o goes = omega arith
-  one-kind Broker v (Open store effects) goes = absurd (cc goes)
-  one-kind Broker v (Shut medium cause) goes = absurd (cc goes)
-  one-kind Broker v (Wanting medium) goes = absurd (cc goes)
+  one-kind Broker v (Open store effects) goes = absurd (false≢true goes)
+  one-kind Broker v (Shut medium cause) goes = absurd (false≢true goes)
+  one-kind Broker v (Wanting medium) goes = absurd (false≢true goes)
 
   one-there : (kind : NodeKind) → 1 ≤ volumes_of_blank kind
   one-there Repository = omega arith
