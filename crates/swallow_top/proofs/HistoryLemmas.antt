@@ -1,7 +1,8 @@
 -- From volumes as they were opened to how the history of an object is told.
-use Rattle.std.proofs.Common.{◌≡◌, ◌⊎◌, inl, inr, ℕ, List, length, map, Option, refl, ap, sym, subst, ◌∙◌}
-use Rattle.std.specs.List.{AllZip}
+use Rattle.std.proofs.Common.{◌≡◌, inl, inr, ℕ, List, [], ◌++◌, length, map, Option, refl, ap, sym, subst, ◌∙◌}
+use Rattle.std.proofs.lemmas.List.{length-map}
 use Rattle.std.proofs.lemmas.Slice.Zip.{AllZip-long}
+use Rattle.pseudo_time.specs.declared.nodes.NodeId.{NodeId}
 use Rattle.pseudo_time.specs.declared.down_causes.DownCause.{DownCause}
 use Rattle.value_form.specs.declared.objects.ObjectId.{ObjectId}
 use Rattle.report_writer.specs.Reports.{down_text}
@@ -12,7 +13,7 @@ use Rattle.run_media.specs.Openings.{HasOpened, medium_in}
 use Rattle.run_volumes.specs.declared.kept.Kept.{Kept}
 use Rattle.run_volumes.specs.Kept.{AllKept, kept_under}
 use Rattle.run_volumes.specs.Shelves.{ShelfSight, first_names}
-use Rattle.run_volumes.specs.Standings.{HasShut, WritesNothing}
+use Rattle.run_volumes.specs.Standings.{HasShut}
 use Rattle.forward_copy.specs.Currents.{node_log}
 use Rattle.run_volumes.specs.Volumes.{AreOpen, AreVolumes, logs_of}
 use Rattle.run_volumes.proofs.ShelfLemmas.{all-kept}
@@ -29,14 +30,21 @@ module _ {M : Type 0} {g : _} (object : ObjectId) (os : List (Opening M g)) (sta
   shut-told cause shut (inl seven) = inl seven
   shut-told cause shut (inr ends) = inr (inr (down_text (record { node = home_of object; cause = cause }), (cause, shut, refl), ends))
 
+module _ {M : Type 0} {g : _} where
+  -- volumes that are given back as they were opened, under their names
+  pub handed-back : (n : NodeId) (os : List (Opening M g)) (given : List (Option M)) (front kept : List (Kept M)) → front ≡ [] → given ≡ map medium_in os → kept ≡ front ++ kept_under (first_names n (length given)) given →
+      kept ≡ kept_under (first_names n (length os)) (map medium_in os)
+  handed-back n os given front kept none back is =
+      is ∙ (ap (λ l. l ++ kept_under (first_names n (length given)) given) none ∙ (ap (λ l. kept_under (first_names n (length l)) l) back ∙ ap (λ k. kept_under (first_names n k) (map medium_in os)) (length-map os medium_in)))
+
 module _ {M : Type 0} (w : Media M) (old new : ShelfSight) (object : ObjectId) where
-  pub tells-history : (media : List (Option M)) (os : List (Opening M w)) (kept : List (Kept M)) (s : Sinking) (status : ℕ) → AreVolumes w old new (home_of object) media os →
-      kept ≡ kept_under (first_names (home_of object) (length os)) (map medium_in os) → TellsVolumes object os status s → TellsHistory w old new object kept s status
-  tells-history media os kept s status volumes handed told = record {
+  pub tells-history : (n : NodeId) (media : List (Option M)) (os : List (Opening M w)) (kept : List (Kept M)) (s : Sinking) (status : ℕ) → n ≡ home_of object → AreVolumes w old new n media os →
+      kept ≡ kept_under (first_names n (length os)) (map medium_in os) → TellsVolumes object os status s → TellsHistory w old new object kept s status
+  tells-history n media os kept s status home volumes handed told = record {
     media = media;
     openings = os;
-    volumes = volumes;
-    handed = handed;
+    volumes = subst (λ x. AreVolumes w old new x media os) home volumes;
+    handed = subst (λ x. kept ≡ kept_under (first_names x (length os)) (map medium_in os)) home handed;
     keep = given-back w os (map medium_in os) (stand-all w media os volumes.opened) refl;
     told = told;
   }
