@@ -1,8 +1,7 @@
 -- The rows that the code makes of what it keeps are those of the marks.
 use Rattle.std.proofs.Common.{◌≡◌, ℕ, Bool, true, false, List, [], ◌∷◌, ◌++◌, map, reverse, refl, sym, ◌∙◌, ap, Option, Some, None, if◌then◌else◌, ◌&&◌, not}
 use Rattle.std.specs.List.{filter}
-use Rattle.std.specs.BTreeSet.{contains}
-use Rattle.std.specs.Layout.BTreeSet.{BTreeSet}
+use Rattle.std.specs.BTreeSet.{BTreeSet, contains}
 use Rattle.std.proofs.lemmas.List.{reverse-append}
 use Rattle.pseudo_time.specs.TimeParts.{TimeParts, time_cmp}
 use Rattle.value_form.specs.declared.objects.ObjectId.{ObjectId}

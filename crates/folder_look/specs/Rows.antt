@@ -1,5 +1,5 @@
 -- What is shown of an object, by the marks of its repository's volumes, newest first.
-use Rattle.std.specs.Prelude.{ℕ, suc, ◌-◌, Bool, List, [], ◌∷◌, ◌++◌, map, take, length, reverse, ◌&&◌, not, Option, Some, None}
+use Rattle.std.specs.Prelude.{ℕ, zero, suc, ◌-◌, Bool, List, [], ◌∷◌, ◌++◌, map, take, length, reverse, ◌&&◌, not, Option, Some, None}
 use Rattle.std.specs.List.{filter, list_any}
 use Rattle.pseudo_time.specs.Order.{same_time}
 use Rattle.pseudo_time.specs.TimeParts.{TimeParts}
@@ -35,10 +35,15 @@ rows_with c older next o m = map (row_of older o m) (filter (is_shown c next) (v
 
 -- ---- a repository's volumes, by their logs from volume 0 on
 
+-- what the volume before the one with this number has of the object, and this one hasn't
+abbrev pub given_up_at : Choice → ObjectId → ℕ → (before next : List Effect) → List VersionRow
+given_up_at c o zero before next = []
+given_up_at c o (suc v) before next = rows_with c (Some v) (falling o (marks (reverse next))) o (marks (reverse before))
+
 -- what a volume with this log has of the object and the next one hasn't, and so on over the volumes behind it
 abbrev pub given_up : Choice → ObjectId → ℕ → List Effect → List (List Effect) → List VersionRow
 given_up c o v log [] = []
-given_up c o v log (next ∷ logs) = rows_with c (Some v) (falling o (marks (reverse next))) o (marks (reverse log)) ++ given_up c o (suc v) next logs
+given_up c o v log (next ∷ logs) = given_up_at c o (suc v) log next ++ given_up c o (suc v) next logs
 
 -- what is given up from volume 0 on, over so many volumes behind it
 abbrev pub given_up_by : Choice → ObjectId → ℕ → List (List Effect) → List VersionRow

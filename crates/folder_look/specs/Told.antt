@@ -1,7 +1,6 @@
 -- A version as it is shown, by what the code keeps of it.
 use Rattle.std.specs.Prelude.{ℕ, Bool, Option, ◌&&◌, not}
-use Rattle.std.specs.BTreeSet.{contains}
-use Rattle.std.specs.Layout.BTreeSet.{BTreeSet}
+use Rattle.std.specs.BTreeSet.{BTreeSet, contains}
 use Rattle.std.specs.FinMap as finite
 use Rattle.pseudo_time.specs.TimeParts.{TimeParts, time_cmp}
 use Rattle.object_history.specs.History.{top, latest}

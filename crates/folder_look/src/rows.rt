@@ -8,11 +8,11 @@ ghost use Rattle.repository_log.specs.Logs.{marks};
 ghost use Rattle.report_writer.specs.Histories.{falling};
 ghost use Rattle.folder_look.specs.Objects.{logs_of};
 ghost use Rattle.folder_look.specs.Rows as spec;
-ghost use Rattle.folder_look.specs.Told.{told_row, is_told_in};
+ghost use Rattle.folder_look.specs.Told as told;
 
 use crate::choices::Choice;
 use crate::looks::{MediumLook, ObjectRow, VersionRow};
-use crate::volumes::{current_of, is_volume, log_of};
+use crate::volumes::{current_of, is_early, log_of};
 use effect_form::Effect;
 use object_history::Settles;
 use pseudo_time::PseudoTime;
@@ -52,7 +52,7 @@ fn version_row(
     floor: &Option<PseudoTime>,
     version: &Version,
 ) -> Result<VersionRow, AllocError>
-    ensures { IfOk result (λ row. row ≡ told_row older settles.now floor.now version.now) }
+    ensures { IfOk result (λ row. row ≡ told.told_row older settles.now floor.now version.now) }
 {
     let value = version.value.copy(alloc)?;
     Ok(VersionRow {
@@ -62,6 +62,13 @@ fn version_row(
         value,
         older,
     })
+}
+
+// Whether it is chosen, and doesn't start where one of the next volume does.
+fn is_told_in(choice: &Choice, next: &BTreeSet<PseudoTime>, version: &Version) -> bool
+    ensures { result ≡ told.is_told_in choice.now next.now version.now }
+{
+    choice.has_start(version.start) && !next.contains(&version.start)
 }
 
 // Adds those versions that are chosen and don't start where one of the next volume does.
@@ -75,10 +82,10 @@ fn push_versions(
     versions: &[Version],
     rows: &mut Vec<VersionRow>,
 ) -> Result<(), AllocError>
-    ensures { OnOk result (rows.new.items ≡ rows.old.items ++ map (told_row older settles.now floor.now) (filter (is_told_in choice.now next.now) versions.now)) }
+    ensures { OnOk result (rows.new.items ≡ rows.old.items ++ map (told.told_row older settles.now floor.now) (filter (told.is_told_in choice.now next.now) versions.now)) }
 {
     for version in versions {
-        if choice.has_start(version.start) && !next.contains(&version.start) {
+        if is_told_in(choice, next, version) {
             rows.push(version_row(alloc, older, settles, floor, version)?)?;
         }
     }
@@ -114,6 +121,27 @@ fn push_volume(
     )
 }
 
+// Adds what the volume with the log `before` has of the object and the one behind it, with the log
+// `next`, hasn't. So many volumes come before the latter.
+fn push_behind(
+    alloc: Global,
+    choice: &Choice,
+    object: ObjectId,
+    volumes: usize,
+    before: &[Effect],
+    next: &[Effect],
+    rows: &mut Vec<VersionRow>,
+) -> Result<(), AllocError>
+    ensures { OnOk result (rows.new.items ≡ rows.old.items ++ spec.given_up_at choice.now object volumes before.now next.now) }
+{
+    if volumes == 0 {
+        return Ok(());
+    }
+    let starts = starts_in(alloc, object, next)?;
+    let older = Some((volumes - 1) as u64);
+    push_volume(alloc, choice, object, older, &starts, before, rows)
+}
+
 // Adds what each volume before this one has of the object and the one behind it hasn't.
 fn push_given_up(
     alloc: Global,
@@ -126,17 +154,13 @@ fn push_given_up(
     ensures { OnOk result (rows.new.items ≡ rows.old.items ++ spec.given_up_by choice.now object last (logs_of object.repository media.now)) }
 {
     let mut before: &[Effect] = &[];
-    let mut volume = 0;
+    let mut volumes = 0;
     for medium in media {
-        if volume <= last && is_volume(object.repository, medium) {
+        if is_early(object.repository, medium, volumes, last) {
             let log = medium.log.as_slice();
-            if volume > 0 {
-                let next = starts_in(alloc, object, log)?;
-                let older = Some((volume - 1) as u64);
-                push_volume(alloc, choice, object, older, &next, before, rows)?;
-            }
+            push_behind(alloc, choice, object, volumes, before, log, rows)?;
             before = log;
-            volume += 1;
+            volumes += 1;
         }
     }
     Ok(())

@@ -1,5 +1,5 @@
 //! The volumes of a repository among the media of a folder.
-ghost use Rattle.std.specs.Prelude.{◌≡◌};
+ghost use Rattle.std.specs.Prelude.{◌≡◌, ◌&&◌, nat_le};
 ghost use Rattle.forward_copy.specs.Currents.{current, log_at};
 ghost use Rattle.folder_look.specs.Objects as spec;
 
@@ -18,11 +18,18 @@ fn is_repository(kind: NodeKind) -> bool
     }
 }
 
-/// Whether it is a volume of the repository.
-pub fn is_volume(repository: u8, medium: &MediumLook) -> bool
+// Whether it is a volume of the repository.
+fn is_volume(repository: u8, medium: &MediumLook) -> bool
     ensures { result ≡ spec.is_volume repository medium.now }
 {
     is_repository(medium.kind) && medium.number == repository
+}
+
+/// Whether it is a volume of the repository, and so many come before it, which aren't more than `last`.
+pub fn is_early(repository: u8, medium: &MediumLook, volumes: usize, last: usize) -> bool
+    ensures { result ≡ nat_le volumes last && spec.is_volume repository medium.now }
+{
+    volumes <= last && is_volume(repository, medium)
 }
 
 /// Which of the repository's volumes is current.
