@@ -231,6 +231,7 @@ class History:
             for version in self.versions:
                 version.end = max(version.end, self.floor)
         self.versions.sort(key=lambda v: v.start)
+        self.rows = [(v, self.state(v), None) for v in self.versions]
 
     def state(self, version):
         return {None: "undecided", True: "committed", False: "aborted"}[self.settled.get(version.start[:3])]
@@ -240,7 +241,19 @@ def key():
     bar = '<rect x="1" y="4" width="28" height="12" rx="3"/>'
     box = lambda word, more="": f'<svg width="30" height="20"><g class="{word}">{bar}{more}</g></svg>'
     cross = '<path d="M1 1l18 18m0-18l-18 18"/>'
-    return f"<p class=\"key\">{box('committed')} committed\n{box('undecided')} undecided\n{box('aborted', cross)} aborted\n{box('origin')} reads of what was there at first. A bar goes from a version's start to how far it was read.</p>\n"
+    return f"<p class=\"key\">{box('committed')} committed\n{box('undecided')} undecided\n{box('aborted', cross)} aborted\n{box('committed older')} only in an older volume\n{box('origin')} reads of what was there at first. A bar goes from a version's start to how far it was read.</p>\n"
+
+
+def history(logs, wanted):
+    """What the volumes of a repository with these logs say of an object: the current one, behind what each older one alone has."""
+    current = max((i for i, log in enumerate(logs) if ("whole",) in log), default=0)
+    each = [History(log, wanted) for log in logs[: current + 1]] or [History([], wanted)]
+    older = []
+    for i in range(len(each) - 1):
+        next_starts = {v.start for v in each[i + 1].versions}
+        older += [(v, state, i) for v, state, _ in each[i].rows if v.start not in next_starts]
+    each[-1].rows = older + each[-1].rows
+    return each[-1]
 
 
 def histories(media):
@@ -248,12 +261,12 @@ def histories(media):
     logs = {}
     for m in media:
         if m.kind == "repository":
-            logs[m.number] = m.log
-    rows = [(o, History(logs.get(o[0], []), o)) for o in objects]
+            logs.setdefault(m.number, []).append(m.log)
+    rows = [(o, history(logs.get(o[0], []), o)) for o in objects]
     axis = set()
     for _, h in rows:
         axis |= {h.origin[:3]} if h.origin else set()
-        for v in h.versions:
+        for v, _, _ in h.rows:
             axis |= {v.start[:3], v.end[:3]}
     axis = sorted(axis)
     column = {s: i for i, s in enumerate(axis)}
@@ -272,11 +285,12 @@ def histories(media):
         if h.floor:
             below = sum(s < h.floor[:3] for s in axis)
             out += f'<path class="floor" d="M{64 * below + 28} 0v40"><title>floor {printed_time(h.floor)}</title></path>\n'
-        for v in h.versions:
+        for v, state, volume in h.rows:
             first, last = column[v.start[:3]], column[v.end[:3]]
-            state, text, x = h.state(v), printed(v.value), 64 * first + 30
+            text, x = printed(v.value), 64 * first + 30
+            older, where = ("", "") if volume is None else (" older", f", only in volume {volume}")
             short = escaped(text[:9]) + "&#8230;" if len(text) > 10 else escaped(text)
-            out += f'<a href="#t{printed_stamp(v.start)}"><g class="{state}"><title>{printed_time(v.start)} read to {printed_time(v.end)}, {state}: {escaped(text)}</title>'
+            out += f'<a href="#t{printed_stamp(v.start)}"><g class="{state}{older}"><title>{printed_time(v.start)} read to {printed_time(v.end)}, {state}{where}: {escaped(text)}</title>'
             out += bar(x, 64 * (last - first) - 4 if last > first else 30)
             out += f'<path d="M{x} 15l18 18m0-18l-18 18"/>' if state == "aborted" else ""
             out += f'<text x="{x}" y="13">{short}</text></g></a>\n'

@@ -107,17 +107,24 @@ state None = refl
 state (Some true) = refl
 state (Some false) = refl
 
-state-open : (s : Option Bool) (rest : List ℕ) → spot_behind frame_tags (InTag true (reverse (codes "g class=\""))) (draw.state_word s ++ (codes "\">" ++ rest)) ≡ spot_behind frame_tags InText rest
-state-open None rest = refl
-state-open (Some true) rest = refl
-state-open (Some false) rest = refl
+older : (n : Option ℕ) → T (draw.older_word n)
+older None = refl
+older (Some n) = number n
+
+state-open : (s : Option Bool) (n : Option ℕ) (rest : List ℕ) → spot_behind frame_tags (InTag true (reverse (codes "g class=\""))) (draw.state_word s ++ (draw.older_class n ++ (codes "\">" ++ rest))) ≡ spot_behind frame_tags InText rest
+state-open None None rest = refl
+state-open None (Some n) rest = refl
+state-open (Some true) None rest = refl
+state-open (Some true) (Some n) rest = refl
+state-open (Some false) None rest = refl
+state-open (Some false) (Some n) rest = refl
 
 read-to : (e : Option TimeParts) → T (draw.end_word e)
 read-to None = refl
 read-to (Some t) = time t
 
 title : (v : VersionRow) → T (draw.title_text v)
-title v = on (time_text v.start) _ (time v.start) ∙ on (draw.end_word v.end) _ (read-to v.end) ∙ on (draw.state_word v.state) _ (state v.state) ∙ on (draw.value_shown v.value) _ (value v.value) ∙ refl
+title v = on (time_text v.start) _ (time v.start) ∙ on (draw.end_word v.end) _ (read-to v.end) ∙ on (draw.state_word v.state) _ (state v.state) ∙ on (draw.older_word v.older) _ (older v.older) ∙ on (draw.value_shown v.value) _ (value v.value) ∙ refl
 
 rect : (x w : ℕ) → T (draw.rect_text x w)
 rect x w = on-quoted _ (decimal x) _ (in-quotes _ x) ∙ on-quoted _ (decimal w) _ (in-quotes _ w) ∙ refl
@@ -136,7 +143,7 @@ bar axis v c = on (draw.rect_text (draw.start_x c) (draw.bar_to axis c v.end)) _
 version : (axis : List StampParts) (v : VersionRow) → T (draw.version_text axis v)
 version axis v =
     on-quoted _ (stamp_text v.start.stamp) _ (stamp-quoted _ v.start.stamp)
-    ∙ state-open v.state (draw.title_text v ++ (draw.bar_text axis v (column axis v.start.stamp) ++ codes "</g></a>\n"))
+    ∙ state-open v.state v.older (draw.title_text v ++ (draw.bar_text axis v (column axis v.start.stamp) ++ codes "</g></a>\n"))
     ∙ on (draw.title_text v) _ (title v) ∙ on (draw.bar_text axis v (column axis v.start.stamp)) _ (bar axis v (column axis v.start.stamp)) ∙ refl
 
 origin : (axis : List StampParts) (e : Option TimeParts) → T (draw.origin_text axis e)

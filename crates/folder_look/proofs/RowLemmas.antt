@@ -1,8 +1,9 @@
 -- The rows that the code makes of what it keeps are those of the marks.
-use Rattle.std.proofs.Common.{◌≡◌, ℕ, Bool, true, false, List, [], ◌∷◌, ◌++◌, map, reverse, refl, sym, ◌∙◌, ap, Option, Some, None, if◌then◌else◌}
+use Rattle.std.proofs.Common.{◌≡◌, ℕ, Bool, true, false, List, [], ◌∷◌, ◌++◌, map, reverse, refl, sym, ◌∙◌, ap, Option, Some, None, if◌then◌else◌, ◌&&◌, not}
 use Rattle.std.specs.List.{filter}
+use Rattle.std.specs.BTreeSet.{BTreeSet, contains}
 use Rattle.std.proofs.lemmas.List.{reverse-append}
-use Rattle.pseudo_time.specs.TimeParts.{TimeParts}
+use Rattle.pseudo_time.specs.TimeParts.{TimeParts, time_cmp}
 use Rattle.value_form.specs.declared.objects.ObjectId.{ObjectId}
 use Rattle.value_form.specs.declared.values.Value.{Value}
 use Rattle.object_history.specs.declared.marks.Mark.{Mark}
@@ -14,7 +15,7 @@ use Rattle.folder_look.specs.declared.looks.ObjectRow.{ObjectRow}
 use Rattle.folder_look.specs.declared.looks.VersionRow.{VersionRow}
 use Rattle.report_writer.specs.declared.versions.Version.{Version}
 use Rattle.folder_look.specs.Choices.{has_start}
-use Rattle.folder_look.specs.Rows.{row_of, is_chosen, rows_of}
+use Rattle.folder_look.specs.Rows.{row_of, is_shown, rows_with, starts_at}
 use Rattle.report_writer.specs.Tellings.{told_of, Holds}
 use Rattle.folder_look.specs.Told.{told_row, is_told_in}
 
@@ -27,32 +28,35 @@ reverse-map f [] = refl
 reverse-map f (x ∷ xs) =
     reverse-append (f x ∷ []) (map f xs) ∙ ap (λ z. z ++ f x ∷ []) (reverse-map f xs) ∙ sym (map-append f (reverse xs) (x ∷ [])) ∙ ap (map f) (sym (reverse-append (x ∷ []) xs))
 
-abbrev row-with : TimeParts → Option TimeParts → Value → Option Bool → VersionRow
-row-with start end value state = record { start = start; end = end; state = state; value = value }
+abbrev row-with : Option ℕ → TimeParts → Option TimeParts → Value → Option Bool → VersionRow
+row-with older start end value state = record { start = start; end = end; state = state; value = value; older = older }
 
 -- one that is kept is shown as that of the marks
-told-row : (o : ObjectId) (m : List Mark) (origin : Option TimeParts) (vs : List Version) (settled : Settled) → Holds o m origin vs settled → (p : Seen) → told_row settled (floor_of m) (told_of m o p) ≡ row_of o m p
-told-row o m origin vs settled h p = ap (row-with p.start (latest (floor_of m) (top p.start (stretched m o (Some p.place)))) p.value) (h.settles p.start.stamp)
+told-row : (o : ObjectId) (m : List Mark) (older : Option ℕ) (origin : Option TimeParts) (vs : List Version) (settled : Settled) → Holds o m origin vs settled → (p : Seen) → told_row older settled (floor_of m) (told_of m o p) ≡ row_of older o m p
+told-row o m older origin vs settled h p = ap (row-with older p.start (latest (floor_of m) (top p.start (stretched m o (Some p.place)))) p.value) (h.settles p.start.stamp)
 
 row-if : (f : Version → VersionRow) (g : Seen → VersionRow) (b : Bool) (t : Version) (p : Seen) (ts : List Version) (ps : List Seen) → f t ≡ g p → map f ts ≡ map g ps → map f (if b then t ∷ ts else ts) ≡ map g (if b then p ∷ ps else ps)
 row-if f g true t p ts ps e h = ap (λ r. r ∷ map f ts) e ∙ ap (λ rs. g p ∷ rs) h
 row-if f g false t p ts ps e h = h
 
-told-rows : (c : Choice) (o : ObjectId) (m : List Mark) (origin : Option TimeParts) (vs : List Version) (settled : Settled) → Holds o m origin vs settled → (ps : List Seen) →
-    map (told_row settled (floor_of m)) (filter (is_told_in c) (map (told_of m o) ps)) ≡ map (row_of o m) (filter (is_chosen c) ps)
-told-rows c o m origin vs settled h [] = refl
-told-rows c o m origin vs settled h (p ∷ ps) =
-    row-if (told_row settled (floor_of m)) (row_of o m) (has_start c p.start) (told_of m o p) p (filter (is_told_in c) (map (told_of m o) ps)) (filter (is_chosen c) ps)
-    (told-row o m origin vs settled h p) (told-rows c o m origin vs settled h ps)
+told-rows : (c : Choice) (o : ObjectId) (m : List Mark) (older : Option ℕ) (next : BTreeSet TimeParts) (qs : List Seen) → ((x : TimeParts) → contains time_cmp next x ≡ starts_at qs x) →
+    (origin : Option TimeParts) (vs : List Version) (settled : Settled) → Holds o m origin vs settled → (ps : List Seen) →
+    map (told_row older settled (floor_of m)) (filter (is_told_in c next) (map (told_of m o) ps)) ≡ map (row_of older o m) (filter (is_shown c qs) ps)
+told-rows c o m older next qs has origin vs settled h [] = refl
+told-rows c o m older next qs has origin vs settled h (p ∷ ps) =
+    row-if (told_row older settled (floor_of m)) (row_of older o m) (has_start c p.start && not (contains time_cmp next p.start)) (told_of m o p) p (filter (is_told_in c next) (map (told_of m o) ps)) (filter (is_shown c qs) ps)
+    (told-row o m older origin vs settled h p) (told-rows c o m older next qs has origin vs settled h ps)
+    ∙ ap (λ b. map (row_of older o m) (if has_start c p.start && not b then p ∷ filter (is_shown c qs) ps else filter (is_shown c qs) ps)) (has p.start)
 
--- the chosen ones of those that are kept, in rising order
-pub rows-are : (c : Choice) (o : ObjectId) (m : List Mark) (origin floor : Option TimeParts) (vs : List Version) (settled : Settled) → Holds o m origin vs settled → floor ≡ floor_of m →
-    map (told_row settled floor) (filter (is_told_in c) (reverse vs)) ≡ rows_of c o m
-rows-are c o m origin floor vs settled h floors =
-    ap (λ f. map (told_row settled f) (filter (is_told_in c) (reverse vs))) floors
-    ∙ ap (λ ws. map (told_row settled (floor_of m)) (filter (is_told_in c) (reverse ws))) h.versions_are
-    ∙ ap (λ ws. map (told_row settled (floor_of m)) (filter (is_told_in c) ws)) (reverse-map (told_of m o) (falling o m))
-    ∙ told-rows c o m origin vs settled h (versions o m)
+-- those of them that are shown, in rising order
+pub rows-are : (c : Choice) (o : ObjectId) (m : List Mark) (older : Option ℕ) (next : BTreeSet TimeParts) (qs : List Seen) → ((x : TimeParts) → contains time_cmp next x ≡ starts_at qs x) →
+    (origin floor : Option TimeParts) (vs : List Version) (settled : Settled) → Holds o m origin vs settled → floor ≡ floor_of m →
+    map (told_row older settled floor) (filter (is_told_in c next) (reverse vs)) ≡ rows_with c older qs o m
+rows-are c o m older next qs has origin floor vs settled h floors =
+    ap (λ f. map (told_row older settled f) (filter (is_told_in c next) (reverse vs))) floors
+    ∙ ap (λ ws. map (told_row older settled (floor_of m)) (filter (is_told_in c next) (reverse ws))) h.versions_are
+    ∙ ap (λ ws. map (told_row older settled (floor_of m)) (filter (is_told_in c next) ws)) (reverse-map (told_of m o) (falling o m))
+    ∙ told-rows c o m older next qs has origin vs settled h (versions o m)
 
 -- how far the origin was read
 pub origin-is : (o : ObjectId) (m : List Mark) (origin floor end : Option TimeParts) (vs : List Version) (settled : Settled) → Holds o m origin vs settled → floor ≡ floor_of m → end ≡ latest floor origin → end ≡ latest (floor_of m) (stretched m o None)

@@ -47,9 +47,19 @@ abbrev pub end_word : Option TimeParts → List ℕ
 end_word None = codes " read to none"
 end_word (Some t) = codes " read to " ++ time_text t
 
+-- which older volume alone has it
+abbrev pub older_word : Option ℕ → List ℕ
+older_word None = []
+older_word (Some n) = named (codes ", only in volume ") n
+
+abbrev pub older_class : Option ℕ → List ℕ
+older_class None = []
+older_class (Some n) = codes " older"
+
 -- the whole of a version, which is shown where one points at its bar
 abbrev pub title_text : VersionRow → List ℕ
-title_text v = codes "<title>" ++ (time_text v.start ++ (end_word v.end ++ (codes ", " ++ (state_word v.state ++ (codes ": " ++ (value_shown v.value ++ codes "</title>"))))))
+title_text v =
+    codes "<title>" ++ (time_text v.start ++ (end_word v.end ++ (codes ", " ++ (state_word v.state ++ (older_word v.older ++ (codes ": " ++ (value_shown v.value ++ codes "</title>")))))))
 
 abbrev pub rect_text : ℕ → ℕ → List ℕ
 rect_text x w = named (codes "<rect x=\"") x ++ (named (codes "\" y=\"18\" width=\"") w ++ codes "\" height=\"12\" rx=\"3\"/>")
@@ -66,10 +76,10 @@ label_text x v = named (codes "<text x=\"") x ++ (codes "\" y=\"13\">" ++ (value
 abbrev pub bar_text : List StampParts → VersionRow → ℕ → List ℕ
 bar_text axis v c = rect_text (start_x c) (bar_to axis c v.end) ++ (cross_text v.state (start_x c) ++ label_text (start_x c) v.value)
 
--- a version once: its bar from its start to how far it was read, its state and its value; it leads to its attempt
+-- a version once: its bar from its start to how far it was read, its state and its value, paler where only an older volume has it; it leads to its attempt
 abbrev pub version_text : List StampParts → VersionRow → List ℕ
 version_text axis v =
-    codes "<a href=\"#t" ++ (stamp_text v.start.stamp ++ (codes "\"><g class=\"" ++ (state_word v.state ++ (codes "\">" ++ (title_text v ++ (bar_text axis v (column axis v.start.stamp) ++ codes "</g></a>\n"))))))
+    codes "<a href=\"#t" ++ (stamp_text v.start.stamp ++ (codes "\"><g class=\"" ++ (state_word v.state ++ (older_class v.older ++ (codes "\">" ++ (title_text v ++ (bar_text axis v (column axis v.start.stamp) ++ codes "</g></a>\n")))))))
 
 -- ---- rows
 

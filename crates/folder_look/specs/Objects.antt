@@ -1,5 +1,5 @@
--- The objects of a folder, and the log that each is told by. Logs stand oldest first, media in the order of their volumes.
-use Rattle.std.specs.Prelude.{ℕ, ◌-◌, Bool, true, false, List, [], ◌∷◌, length, take, reverse, ◌==◌, ◌&&◌, if◌then◌else◌}
+-- The objects of a folder, and the logs that each is told by. Logs stand oldest first, media in the order of their volumes.
+use Rattle.std.specs.Prelude.{ℕ, ◌-◌, Bool, true, false, List, [], ◌∷◌, length, take, ◌==◌, ◌&&◌, if◌then◌else◌}
 use Rattle.std.specs.List.{filter}
 use Rattle.std.specs.BTreeSet.{insert_key}
 use Rattle.pseudo_time.specs.declared.nodes.NodeKind.{NodeKind}
@@ -8,7 +8,6 @@ use Rattle.value_form.specs.declared.objects.ObjectId.{ObjectId}
 use Rattle.value_form.specs.Objects.{object_cmp}
 use Rattle.effect_form.specs.declared.effects.Effect.{Effect}
 use Rattle.effect_form.specs.declared.effects.Effect.TheVariants as effect
-use Rattle.repository_log.specs.Logs.{marks}
 use Rattle.folder_look.specs.declared.choices.Choice.{Choice}
 use Rattle.folder_look.specs.declared.looks.MediumLook.{MediumLook}
 use Rattle.folder_look.specs.declared.looks.ObjectRow.{ObjectRow}
@@ -55,17 +54,18 @@ chosen c media = filter (has_object c) (objects_of media)
 
 -- ---- rows
 
--- the log of a repository's last volume
-abbrev pub log_from : ℕ → List Effect → List MediumLook → List Effect
-log_from r found [] = found
-log_from r found (m ∷ ms) = log_from r (if is_repository m.kind && m.number == r then m.log else found) ms
+-- it is a volume of the repository
+abbrev pub is_volume : ℕ → MediumLook → Bool
+is_volume r m = is_repository m.kind && m.number == r
 
-abbrev pub newest_log : ℕ → List MediumLook → List Effect
-newest_log r media = log_from r [] media
+-- the logs of the repository's volumes, in their order
+abbrev pub logs_of : ℕ → List MediumLook → List (List Effect)
+logs_of r [] = []
+logs_of r (m ∷ ms) = if is_volume r m then m.log ∷ logs_of r ms else logs_of r ms
 
--- an object by its repository's log, with so many versions at most
+-- an object by its repository's logs, with so many versions at most
 abbrev pub row_in : Choice → List MediumLook → ℕ → ObjectId → ObjectRow
-row_in c media most o = object_row c most o (marks (reverse (newest_log o.repository media)))
+row_in c media most o = object_row c most o (logs_of o.repository media)
 
 -- a row for each object, with so many versions together at most
 abbrev pub rows_in : Choice → List MediumLook → ℕ → List ObjectId → List ObjectRow

@@ -46,7 +46,7 @@ left_text n = if n == 0 then [] else named (codes "<p class=\"more\">and ") n ++
 abbrev pub key_text : List ℕ
 key_text =
     codes "<p class=\"key\"><svg width=\"30\" height=\"20\"><g class=\"committed\"><rect x=\"1\" y=\"4\" width=\"28\" height=\"12\" rx=\"3\"/></g></svg> committed\n<svg width=\"30\" height=\"20\"><g class=\"undecided\"><rect x=\"1\" y=\"4\" width=\"28\" height=\"12\" rx=\"3\"/></g></svg> undecided\n"
-    ++ codes "<svg width=\"30\" height=\"20\"><g class=\"aborted\"><rect x=\"1\" y=\"4\" width=\"28\" height=\"12\" rx=\"3\"/><path d=\"M1 1l18 18m0-18l-18 18\"/></g></svg> aborted\n<svg width=\"30\" height=\"20\"><g class=\"origin\"><rect x=\"1\" y=\"4\" width=\"28\" height=\"12\" rx=\"3\"/></g></svg> reads of what was there at first. A bar goes from a version's start to how far it was read.</p>\n"
+    ++ codes "<svg width=\"30\" height=\"20\"><g class=\"aborted\"><rect x=\"1\" y=\"4\" width=\"28\" height=\"12\" rx=\"3\"/><path d=\"M1 1l18 18m0-18l-18 18\"/></g></svg> aborted\n<svg width=\"30\" height=\"20\"><g class=\"committed older\"><rect x=\"1\" y=\"4\" width=\"28\" height=\"12\" rx=\"3\"/></g></svg> only in an older volume\n<svg width=\"30\" height=\"20\"><g class=\"origin\"><rect x=\"1\" y=\"4\" width=\"28\" height=\"12\" rx=\"3\"/></g></svg> reads of what was there at first. A bar goes from a version's start to how far it was read.</p>\n"
 
 abbrev pub histories_text : List ObjectRow → ℕ → List ℕ
 histories_text rows left = codes "<h2>Histories</h2>\n" ++ (key_text ++ (rows_text (axis_of rows) rows ++ left_text left))

@@ -1,32 +1,69 @@
--- What is shown of an object, by the marks of its repository's log, newest first.
-use Rattle.std.specs.Prelude.{ℕ, ◌-◌, Bool, List, map, take, length, Some, None}
-use Rattle.std.specs.List.{filter}
+-- What is shown of an object, by the marks of its repository's volumes, newest first.
+use Rattle.std.specs.Prelude.{ℕ, zero, suc, ◌-◌, Bool, List, [], ◌∷◌, ◌++◌, map, take, length, reverse, ◌&&◌, not, Option, Some, None}
+use Rattle.std.specs.List.{filter, list_any}
+use Rattle.pseudo_time.specs.Order.{same_time}
+use Rattle.pseudo_time.specs.TimeParts.{TimeParts}
 use Rattle.value_form.specs.declared.objects.ObjectId.{ObjectId}
+use Rattle.effect_form.specs.declared.effects.Effect.{Effect}
 use Rattle.object_history.specs.declared.marks.Mark.{Mark}
 use Rattle.object_history.specs.History.{Seen, settle_of, floor_of, reach}
-use Rattle.report_writer.specs.Histories.{versions}
+use Rattle.repository_log.specs.Logs.{marks}
+use Rattle.report_writer.specs.Histories.{falling, versions}
+use Rattle.forward_copy.specs.Currents.{current, node_log}
 use Rattle.folder_look.specs.declared.choices.Choice.{Choice}
 use Rattle.folder_look.specs.declared.looks.VersionRow.{VersionRow}
 use Rattle.folder_look.specs.declared.looks.ObjectRow.{ObjectRow}
 use Rattle.folder_look.specs.Choices.{has_start}
 
--- a version from its start to how far it was read, and how its stamp was settled
-abbrev pub row_of : ObjectId → List Mark → Seen → VersionRow
-row_of o m q = record { start = q.start; end = reach m o (Some q); state = settle_of m q.start.stamp; value = q.value }
+-- ---- a volume
 
-abbrev pub is_chosen : Choice → Seen → Bool
-is_chosen c q = has_start c q.start
+-- a version from its start to how far it was read, how its stamp was settled, and which older volume alone has it
+abbrev pub row_of : Option ℕ → ObjectId → List Mark → Seen → VersionRow
+row_of older o m q = record { start = q.start; end = reach m o (Some q); state = settle_of m q.start.stamp; value = q.value; older = older }
 
--- each chosen version of the object once, in rising order of start
-abbrev pub rows_of : Choice → ObjectId → List Mark → List VersionRow
-rows_of c o m = map (row_of o m) (filter (is_chosen c) (versions o m))
+-- one of these versions starts there
+abbrev pub starts_at : List Seen → TimeParts → Bool
+starts_at qs x = list_any (λ (q : Seen). same_time x q.start) qs
+
+-- it is chosen, and none of the next volume's versions starts where it does
+abbrev pub is_shown : Choice → List Seen → Seen → Bool
+is_shown c next q = has_start c q.start && not (starts_at next q.start)
+
+-- each version of the object that is to be shown once, in rising order of start
+abbrev pub rows_with : Choice → Option ℕ → List Seen → ObjectId → List Mark → List VersionRow
+rows_with c older next o m = map (row_of older o m) (filter (is_shown c next) (versions o m))
+
+-- ---- a repository's volumes, by their logs from volume 0 on
+
+-- what the volume before the one with this number has of the object, and this one hasn't
+abbrev pub given_up_at : Choice → ObjectId → ℕ → (before next : List Effect) → List VersionRow
+given_up_at c o zero before next = []
+given_up_at c o (suc v) before next = rows_with c (Some v) (falling o (marks (reverse next))) o (marks (reverse before))
+
+-- what a volume with this log has of the object and the next one hasn't, and so on over the volumes behind it
+abbrev pub given_up : Choice → ObjectId → ℕ → List Effect → List (List Effect) → List VersionRow
+given_up c o v log [] = []
+given_up c o v log (next ∷ logs) = given_up_at c o (suc v) log next ++ given_up c o (suc v) next logs
+
+-- what is given up from volume 0 on, over so many volumes behind it
+abbrev pub given_up_by : Choice → ObjectId → ℕ → List (List Effect) → List VersionRow
+given_up_by c o last [] = []
+given_up_by c o last (log ∷ logs) = given_up c o 0 log (take last logs)
+
+-- the marks of the current volume
+abbrev pub current_marks : List (List Effect) → List Mark
+current_marks logs = marks (reverse (node_log logs))
+
+-- each chosen version once: those that older volumes alone have, then the current volume's
+abbrev pub rows_of : Choice → ObjectId → List (List Effect) → List VersionRow
+rows_of c o logs = given_up_by c o (current logs) logs ++ rows_with c None [] o (current_marks logs)
 
 -- the first of them, and how many more there are
-abbrev pub object_row : Choice → ℕ → ObjectId → List Mark → ObjectRow
-object_row c most o m = record {
+abbrev pub object_row : Choice → ℕ → ObjectId → List (List Effect) → ObjectRow
+object_row c most o logs = record {
   object = o;
-  origin = reach m o None;
-  floor = floor_of m;
-  versions = take most (rows_of c o m);
-  hidden = length (rows_of c o m) - most;
+  origin = reach (current_marks logs) o None;
+  floor = floor_of (current_marks logs);
+  versions = take most (rows_of c o logs);
+  hidden = length (rows_of c o logs) - most;
 }

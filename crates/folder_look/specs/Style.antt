@@ -11,7 +11,7 @@ text_style = codes ".tally{display:grid;grid-template-columns:repeat(auto-fill,m
 
 -- versions by their state, and pages
 abbrev pub row_style : List ℕ
-row_style = codes ".committed rect{fill:var(--good);stroke:var(--paper)}.undecided rect{fill:none;stroke:var(--open);stroke-width:2;stroke-dasharray:4 3}\n.aborted rect{fill:none;stroke:var(--bad)}.aborted path{stroke:var(--bad);stroke-width:2}.aborted text{text-decoration:line-through}\n.origin rect{fill:var(--line)}.floor{stroke:var(--soft);stroke-width:2;stroke-dasharray:2 3}\n.more{color:var(--soft)}.row a:hover rect{stroke:var(--ink);stroke-width:2}\n.medium{margin:14px 0;color:var(--soft)}.medium b{color:var(--ink)}.medium em{font-style:normal;color:var(--good)}.medium em.damaged,.medium em.shut{color:var(--bad);font-weight:700}\n.strip{display:block;width:100%;height:16px;margin-top:4px;background:var(--tint);border:1px solid var(--line)}\n.strip rect{vector-effect:non-scaling-stroke;stroke-width:2px}.strip .gated{fill:var(--good);stroke:var(--good)}.strip .spoiled{fill:var(--open);stroke:var(--open)}.strip .damaged{fill:var(--bad);stroke:var(--bad)}\n"
+row_style = codes ".committed rect{fill:var(--good);stroke:var(--paper)}.undecided rect{fill:none;stroke:var(--open);stroke-width:2;stroke-dasharray:4 3}\n.aborted rect{fill:none;stroke:var(--bad)}.aborted path{stroke:var(--bad);stroke-width:2}.aborted text{text-decoration:line-through}\n.older{opacity:.4}.origin rect{fill:var(--line)}.floor{stroke:var(--soft);stroke-width:2;stroke-dasharray:2 3}\n.more{color:var(--soft)}.row a:hover rect{stroke:var(--ink);stroke-width:2}\n.medium{margin:14px 0;color:var(--soft)}.medium b{color:var(--ink)}.medium em{font-style:normal;color:var(--good)}.medium em.damaged,.medium em.shut{color:var(--bad);font-weight:700}\n.strip{display:block;width:100%;height:16px;margin-top:4px;background:var(--tint);border:1px solid var(--line)}\n.strip rect{vector-effect:non-scaling-stroke;stroke-width:2px}.strip .gated{fill:var(--good);stroke:var(--good)}.strip .spoiled{fill:var(--open);stroke:var(--open)}.strip .damaged{fill:var(--bad);stroke:var(--bad)}\n"
 
 -- acts by how they ended
 abbrev pub act_style : List ℕ

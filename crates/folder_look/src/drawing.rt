@@ -62,6 +62,26 @@ fn push_state(out: &mut Vec<u8>, state: Option<bool>) -> Result<(), AllocError>
     }
 }
 
+// Appends which older volume alone has a version.
+fn push_older(alloc: Global, out: &mut Vec<u8>, older: Option<u64>) -> Result<(), AllocError>
+    ensures { OnOk result (out.new.items ≡ out.old.items ++ spec.older_word older) }
+{
+    match older {
+        None => Ok(()),
+        Some(volume) => push_named(alloc, out, b", only in volume ", volume),
+    }
+}
+
+// Appends the class of such a version.
+fn push_older_class(out: &mut Vec<u8>, older: Option<u64>) -> Result<(), AllocError>
+    ensures { OnOk result (out.new.items ≡ out.old.items ++ spec.older_class older) }
+{
+    match older {
+        None => Ok(()),
+        Some(_) => out.extend_from_slice(b" older"),
+    }
+}
+
 // How wide the bar of a version is.
 fn bar_to(axis: &BTreeSet<Stamp>, from: u64, end: &Option<PseudoTime>) -> u64
     requires { from ≤ 1000000 }
@@ -98,6 +118,7 @@ fn push_title(alloc: Global, out: &mut Vec<u8>, version: &VersionRow) -> Result<
     push_end(alloc, out, &version.end)?;
     out.extend_from_slice(b", ")?;
     push_state(out, version.state)?;
+    push_older(alloc, out, version.older)?;
     out.extend_from_slice(b": ")?;
     push_value(alloc, out, &version.value)?;
     out.extend_from_slice(b"</title>")
@@ -171,6 +192,7 @@ fn push_version(
     push_stamp(alloc, out, version.start.stamp())?;
     out.extend_from_slice(b"\"><g class=\"")?;
     push_state(out, version.state)?;
+    push_older_class(out, version.older)?;
     out.extend_from_slice(b"\">")?;
     push_title(alloc, out, version)?;
     push_bar(

@@ -1,13 +1,18 @@
-ghost use Rattle.std.specs.Prelude.{◌≡◌, ◌+◌, ℕ, List, length};
+ghost use Rattle.std.specs.Prelude.{◌≡◌, ◌≤◌, ◌+◌, ℕ, List, length, reverse, true};
+ghost use Rattle.pseudo_time.specs.Lists.{Has};
 ghost use Rattle.value_form.specs.declared.objects.ObjectId.{ObjectId};
 ghost use Rattle.object_history.specs.declared.marks.Mark.{Mark};
-ghost use Rattle.object_history.specs.History.{version_count};
-ghost use Rattle.report_writer.specs.Histories.{falling};
+ghost use Rattle.effect_form.specs.declared.effects.Effect.{Effect};
+ghost use Rattle.object_history.specs.History.{Seen, version_count};
+ghost use Rattle.repository_log.specs.Logs.{marks};
+ghost use Rattle.report_writer.specs.Histories.{falling, versions};
+ghost use Rattle.forward_copy.specs.Currents.{current, log_at};
 ghost use Rattle.page_text.specs.Tags.{HasTagsOf};
 ghost use Rattle.folder_look.specs.declared.choices.Choice.{Choice};
 ghost use Rattle.folder_look.specs.declared.looks.MediumLook.{MediumLook};
 ghost use Rattle.folder_look.specs.Frame.{frame_tags};
-ghost use Rattle.folder_look.specs.Once.{NoneTwice};
+ghost use Rattle.folder_look.specs.Choices.{has_start};
+ghost use Rattle.folder_look.specs.Once.{HasStart, NoneTwice};
 ghost use Rattle.folder_look.specs.Page.{folder_page};
 ghost use Rattle.folder_look.specs.Rows.{object_row, rows_of};
 
@@ -16,11 +21,18 @@ pub fn page_has_the_frame()
     ensures { (c : Choice) (media : List MediumLook) → HasTagsOf frame_tags (folder_page c media) }
 {}
 
-/// A law: the versions of an object, which a row shows in turn, are as many as the log's Puts of it,
-/// and none stands twice. Those of a row that are chosen are shown or counted.
+/// A law: the versions of an object in a log, which a row shows in turn, are as many as the log's Puts of
+/// it, and none stands twice. Those of a row that are chosen are shown or counted.
 pub fn versions_stand_once()
     ensures count { (o : ObjectId) (m : List Mark) → length (falling o m) ≡ version_count o m }
     ensures once { (o : ObjectId) (m : List Mark) → NoneTwice (falling o m) }
-    ensures row { (c : Choice) (most : ℕ) (o : ObjectId) (m : List Mark) →
-        length (object_row c most o m).versions + (object_row c most o m).hidden ≡ length (rows_of c o m) }
+    ensures row { (c : Choice) (most : ℕ) (o : ObjectId) (logs : List (List Effect)) →
+        length (object_row c most o logs).versions + (object_row c most o logs).hidden ≡ length (rows_of c o logs) }
+{}
+
+/// A law: a version of the current volume or of one before it is shown, if it is chosen: there is a row
+/// that starts where it does.
+pub fn no_version_is_lost()
+    ensures { (c : Choice) (o : ObjectId) (logs : List (List Effect)) (v : ℕ) → v ≤ current logs → (q : Seen) →
+        Has q (versions o (marks (reverse (log_at logs v)))) → has_start c q.start ≡ true → HasStart (rows_of c o logs) q.start }
 {}

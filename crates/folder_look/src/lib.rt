@@ -13,6 +13,7 @@ mod pages;
 mod rows;
 mod styles;
 mod tallies;
+mod volumes;
 
 pub use choices::Choice;
 pub use laws::{page_has_the_frame, versions_stand_once};

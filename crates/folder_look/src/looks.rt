@@ -11,6 +11,8 @@ pub struct VersionRow {
     /// Whether its attempt was committed. None where that is undecided.
     pub state: Option<bool>,
     pub value: Value,
+    /// The older volume that alone has it. None where its repository's current volume has it.
+    pub older: Option<u64>,
 }
 
 /// An object with its versions, as the page shows it.
@@ -21,7 +23,7 @@ pub struct ObjectRow {
     pub origin: Option<PseudoTime>,
     /// The floor of its repository's log.
     pub floor: Option<PseudoTime>,
-    /// In rising order of start.
+    /// Those of the older volumes first; of a volume in rising order of start.
     pub versions: Items<VersionRow>,
     /// How many more versions it has that would be shown.
     pub hidden: u64,

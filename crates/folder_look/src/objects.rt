@@ -7,20 +7,9 @@ use crate::choices::Choice;
 use crate::looks::{MediumLook, ObjectRow};
 use crate::rows::object_row;
 use effect_form::Effect;
-use pseudo_time::NodeKind;
 use std::alloc::{AllocError, Global};
 use std::collections::BTreeSet;
 use value_form::ObjectId;
-
-// Whether a node is a repository.
-fn is_repository(kind: NodeKind) -> bool
-    ensures { result ≡ spec.is_repository kind }
-{
-    match kind {
-        NodeKind::Repository => true,
-        NodeKind::Broker => false,
-    }
-}
 
 // Adds the object that an effect puts or reads.
 fn add_object(all: &mut BTreeSet<ObjectId>, effect: &Effect) -> Result<(), AllocError>
@@ -86,19 +75,6 @@ pub fn chosen(
     Ok(objects)
 }
 
-// The log of a repository's last volume.
-fn newest_log(repository: u8, media: &[MediumLook]) -> &[Effect]
-    ensures { result.now ≡ spec.newest_log repository media.now }
-{
-    let mut found: &[Effect] = &[];
-    for medium in media {
-        if is_repository(medium.kind) && medium.number == repository {
-            found = medium.log.as_slice();
-        }
-    }
-    found
-}
-
 /// A row for each of these objects, with so many versions together at most.
 pub fn rows_in(
     alloc: Global,
@@ -112,8 +88,7 @@ pub fn rows_in(
     let mut rows = Vec::new(alloc);
     let mut left = most;
     for object in objects {
-        let log = newest_log(object.repository, media);
-        let row = object_row(alloc, choice, left, *object, log)?;
+        let row = object_row(alloc, choice, left, *object, media)?;
         left = left.saturating_sub(row.versions.as_slice().len());
         rows.push(row)?;
     }

@@ -122,6 +122,9 @@ fn push_key(out: &mut Vec<u8>) -> Result<(), AllocError>
         b"<svg width=\"30\" height=\"20\"><g class=\"aborted\">\
           <rect x=\"1\" y=\"4\" width=\"28\" height=\"12\" rx=\"3\"/>\
           <path d=\"M1 1l18 18m0-18l-18 18\"/></g></svg> aborted\n\
+          <svg width=\"30\" height=\"20\"><g class=\"committed older\">\
+          <rect x=\"1\" y=\"4\" width=\"28\" height=\"12\" rx=\"3\"/></g></svg> \
+          only in an older volume\n\
           <svg width=\"30\" height=\"20\"><g class=\"origin\">\
           <rect x=\"1\" y=\"4\" width=\"28\" height=\"12\" rx=\"3\"/></g></svg> \
           reads of what was there at first. A bar goes from a version's start to how far it was read.</p>\n",

@@ -1,26 +1,58 @@
-ghost use Rattle.std.specs.Prelude.{◌≡◌, IfOk, map, reverse};
-ghost use Rattle.std.specs.List.{filter};
+ghost use Rattle.std.specs.Prelude.{◌≡◌, ◌++◌, ℕ, List, IfOk, OnOk, map, reverse};
+ghost use Rattle.std.specs.BTreeSet.{contains};
+ghost use Rattle.std.specs.List.{filter, list_any};
+ghost use Rattle.pseudo_time.specs.Order.{same_time};
+ghost use Rattle.pseudo_time.specs.TimeParts.{TimeParts, time_cmp};
+ghost use Rattle.object_history.specs.History.{Seen};
 ghost use Rattle.repository_log.specs.Logs.{marks};
+ghost use Rattle.report_writer.specs.Histories.{falling};
+ghost use Rattle.folder_look.specs.Objects.{logs_of};
 ghost use Rattle.folder_look.specs.Rows as spec;
-ghost use Rattle.folder_look.specs.Told.{told_row, is_told_in};
+ghost use Rattle.folder_look.specs.Told as told;
 
 use crate::choices::Choice;
-use crate::looks::{ObjectRow, VersionRow};
+use crate::looks::{MediumLook, ObjectRow, VersionRow};
+use crate::volumes::{current_of, is_early, log_of};
 use effect_form::Effect;
 use object_history::Settles;
 use pseudo_time::PseudoTime;
 use report_writer::{Version, floor_of, latest, reach, telling_of};
 use std::alloc::{AllocError, Global};
+use std::collections::BTreeSet;
 use value_form::{Items, ObjectId};
+
+// Where these versions start.
+fn starts_of(alloc: Global, versions: &[Version]) -> Result<BTreeSet<PseudoTime>, AllocError>
+    ensures { IfOk result (λ starts. (x : TimeParts) → contains time_cmp starts x ≡ list_any (λ v. same_time x v.start) versions.now) }
+{
+    let mut starts = BTreeSet::new(alloc);
+    for version in versions {
+        starts.insert(version.start)?;
+    }
+    Ok(starts)
+}
+
+// Where the object's versions of a log start.
+fn starts_in(
+    alloc: Global,
+    object: ObjectId,
+    effects: &[Effect],
+) -> Result<BTreeSet<PseudoTime>, AllocError>
+    ensures { IfOk result (λ starts. (x : TimeParts) → contains time_cmp starts x ≡ spec.starts_at (falling object (marks (reverse effects.now))) x) }
+{
+    let telling = telling_of(alloc, object, effects)?;
+    starts_of(alloc, telling.versions.as_slice())
+}
 
 // A version as it is shown.
 fn version_row(
     alloc: Global,
+    older: Option<u64>,
     settles: &Settles,
     floor: &Option<PseudoTime>,
     version: &Version,
 ) -> Result<VersionRow, AllocError>
-    ensures { IfOk result (λ row. row ≡ told_row settles.now floor.now version.now) }
+    ensures { IfOk result (λ row. row ≡ told.told_row older settles.now floor.now version.now) }
 {
     let value = version.value.copy(alloc)?;
     Ok(VersionRow {
@@ -28,49 +60,141 @@ fn version_row(
         end: reach(floor, version),
         state: settles.get(version.start.stamp()),
         value,
+        older,
     })
 }
 
-// Those versions that are chosen.
-fn version_rows(
+// Whether it is chosen, and doesn't start where one of the next volume does.
+fn is_told_in(choice: &Choice, next: &BTreeSet<PseudoTime>, version: &Version) -> bool
+    ensures { result ≡ told.is_told_in choice.now next.now version.now }
+{
+    choice.has_start(version.start) && !next.contains(&version.start)
+}
+
+// Adds those versions that are chosen and don't start where one of the next volume does.
+fn push_versions(
     alloc: Global,
     choice: &Choice,
+    older: Option<u64>,
+    next: &BTreeSet<PseudoTime>,
     settles: &Settles,
     floor: &Option<PseudoTime>,
     versions: &[Version],
-) -> Result<Vec<VersionRow>, AllocError>
-    ensures { IfOk result (λ rows. rows.items ≡ map (told_row settles.now floor.now) (filter (is_told_in choice.now) versions.now)) }
+    rows: &mut Vec<VersionRow>,
+) -> Result<(), AllocError>
+    ensures { OnOk result (rows.new.items ≡ rows.old.items ++ map (told.told_row older settles.now floor.now) (filter (told.is_told_in choice.now next.now) versions.now)) }
 {
-    let mut rows = Vec::new(alloc);
     for version in versions {
-        if choice.has_start(version.start) {
-            rows.push(version_row(alloc, settles, floor, version)?)?;
+        if is_told_in(choice, next, version) {
+            rows.push(version_row(alloc, older, settles, floor, version)?)?;
         }
     }
-    Ok(rows)
+    Ok(())
 }
 
-/// An object with those of its versions that are chosen, the first `most` of them. `effects` are its
-/// repository's log, the first one first.
+// Adds what a volume with this log has of the object and the next one, which has versions that start
+// at these times, hasn't.
+fn push_volume(
+    alloc: Global,
+    choice: &Choice,
+    object: ObjectId,
+    older: Option<u64>,
+    next: &BTreeSet<PseudoTime>,
+    effects: &[Effect],
+    rows: &mut Vec<VersionRow>,
+) -> Result<(), AllocError>
+    ensures { OnOk result ((qs : List Seen) → ((x : TimeParts) → contains time_cmp next.now x ≡ spec.starts_at qs x) →
+        rows.new.items ≡ rows.old.items ++ spec.rows_with choice.now older qs object (marks (reverse effects.now))) }
+{
+    let mut telling = telling_of(alloc, object, effects)?;
+    telling.versions.reverse();
+    let floor = floor_of(effects);
+    push_versions(
+        alloc,
+        choice,
+        older,
+        next,
+        &telling.settles,
+        &floor,
+        telling.versions.as_slice(),
+        rows,
+    )
+}
+
+// Adds what the volume with the log `before` has of the object and the one behind it, with the log
+// `next`, hasn't. So many volumes come before the latter.
+fn push_behind(
+    alloc: Global,
+    choice: &Choice,
+    object: ObjectId,
+    volumes: usize,
+    before: &[Effect],
+    next: &[Effect],
+    rows: &mut Vec<VersionRow>,
+) -> Result<(), AllocError>
+    ensures { OnOk result (rows.new.items ≡ rows.old.items ++ spec.given_up_at choice.now object volumes before.now next.now) }
+{
+    if volumes == 0 {
+        return Ok(());
+    }
+    let starts = starts_in(alloc, object, next)?;
+    let older = Some((volumes - 1) as u64);
+    push_volume(alloc, choice, object, older, &starts, before, rows)
+}
+
+// Adds what each volume before this one has of the object and the one behind it hasn't.
+fn push_given_up(
+    alloc: Global,
+    choice: &Choice,
+    object: ObjectId,
+    media: &[MediumLook],
+    last: usize,
+    rows: &mut Vec<VersionRow>,
+) -> Result<(), AllocError>
+    ensures { OnOk result (rows.new.items ≡ rows.old.items ++ spec.given_up_by choice.now object last (logs_of object.repository media.now)) }
+{
+    let mut before: &[Effect] = &[];
+    let mut volumes = 0;
+    for medium in media {
+        if is_early(object.repository, medium, volumes, last) {
+            let log = medium.log.as_slice();
+            push_behind(alloc, choice, object, volumes, before, log, rows)?;
+            before = log;
+            volumes += 1;
+        }
+    }
+    Ok(())
+}
+
+/// An object with those of its versions that are chosen, the first `most` of them, by what the volumes
+/// of its repository hold.
 pub fn object_row(
     alloc: Global,
     choice: &Choice,
     most: usize,
     object: ObjectId,
-    effects: &[Effect],
+    media: &[MediumLook],
 ) -> Result<ObjectRow, AllocError>
-    ensures { IfOk result (λ row. row ≡ spec.object_row choice.now most object (marks (reverse effects.now))) }
+    ensures { IfOk result (λ row. row ≡ spec.object_row choice.now most object (logs_of object.repository media.now)) }
 {
+    let last = current_of(object.repository, media);
+    let effects = log_of(object.repository, media, last);
+    let mut rows = Vec::new(alloc);
+    push_given_up(alloc, choice, object, media, last, &mut rows)?;
     let mut telling = telling_of(alloc, object, effects)?;
-    telling.versions.reverse();
     let floor = floor_of(effects);
     let origin = latest(&floor, telling.origin);
-    let mut rows = version_rows(
+    telling.versions.reverse();
+    let none = BTreeSet::new(alloc);
+    push_versions(
         alloc,
         choice,
+        None,
+        &none,
         &telling.settles,
         &floor,
         telling.versions.as_slice(),
+        &mut rows,
     )?;
     let hidden = rows.len().saturating_sub(most) as u64;
     rows.truncate(most);

@@ -45,7 +45,7 @@ fn push_row_style(out: &mut Vec<u8>) -> Result<(), AllocError>
         b".committed rect{fill:var(--good);stroke:var(--paper)}.undecided rect{fill:none;\
           stroke:var(--open);stroke-width:2;stroke-dasharray:4 3}\n.aborted rect{fill:none;\
           stroke:var(--bad)}.aborted path{stroke:var(--bad);stroke-width:2}\
-          .aborted text{text-decoration:line-through}\n.origin rect{fill:var(--line)}\
+          .aborted text{text-decoration:line-through}\n.older{opacity:.4}.origin rect{fill:var(--line)}\
           .floor{stroke:var(--soft);stroke-width:2;stroke-dasharray:2 3}\n.more{color:var(--soft)}\
           .row a:hover rect{stroke:var(--ink);stroke-width:2}\n.medium{margin:14px 0;color:var(--soft)}\
           .medium b{color:var(--ink)}.medium em{font-style:normal;color:var(--good)}.medium em.damaged,\

@@ -9,6 +9,7 @@ returns c =
     (before r c.push_time.new.out.items c.push_end.new.out.items _ _ _ c.in_ok-push_end.ensures
     (before r c.push_end.new.out.items c.extend_from_slice-2.new.self.items _ _ _ c.in_ok-extend_from_slice-2.ensures.items
     (before r c.extend_from_slice-2.new.self.items c.push_state.new.out.items _ _ _ c.in_ok-push_state.ensures
-    (before r c.push_state.new.out.items c.extend_from_slice-3.new.self.items _ _ _ c.in_ok-extend_from_slice-3.ensures.items
+    (before r c.push_state.new.out.items c.push_older.new.out.items _ _ _ c.in_ok-push_older.ensures
+    (before r c.push_older.new.out.items c.extend_from_slice-3.new.self.items _ _ _ c.in_ok-extend_from_slice-3.ensures.items
     (before r c.extend_from_slice-3.new.self.items c.push_value.new.out.items _ _ _ c.in_ok-push_value.ensures
-    (slice r c.push_value.new.out.items _ _ c.extend_from_slice-4.ensures.items)))))))
+    (slice r c.push_value.new.out.items _ _ c.extend_from_slice-4.ensures.items))))))))

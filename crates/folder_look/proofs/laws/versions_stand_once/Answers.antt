@@ -10,4 +10,4 @@ pub returns-clause-once : goal.returns-clause-once
 returns-clause-once c = apart
 
 pub returns-clause-row : goal.returns-clause-row
-returns-clause-row c = λ choice most o m. all-shown most (rows_of choice o m)
+returns-clause-row c = λ choice most o logs. all-shown most (rows_of choice o logs)

@@ -1,23 +1,38 @@
-use Rattle.std.proofs.Common.{◌≡◌, ◌∙◌, ◌-◌, None, length, map, take, reverse, ap, subst, rules}
+use Rattle.std.proofs.Common.{◌≡◌, ◌∙◌, ◌-◌, ◌++◌, [], None, length, map, take, reverse, refl, ap, sym, subst, rules}
+use Rattle.std.specs.BTreeSet.{contains}
 use Rattle.std.specs.List.{filter}
+use Rattle.pseudo_time.specs.TimeParts.{TimeParts, time_cmp}
 use Rattle.object_history.specs.History.{floor_of, reach}
 use Rattle.repository_log.specs.Logs.{marks}
-use Rattle.folder_look.proofs.RowLemmas.{origin-is, row-is, rows-are}
-use Rattle.folder_look.specs.Rows.{rows_of}
 use Rattle.report_writer.specs.Tellings.{Holds}
+use Rattle.forward_copy.specs.Currents.{current, log_at}
+use Rattle.folder_look.specs.Objects.{logs_of}
+use Rattle.folder_look.specs.Rows.{current_marks, given_up_by, rows_of, rows_with, starts_at}
 use Rattle.folder_look.specs.Told.{told_row, is_told_in}
+use Rattle.folder_look.proofs.RowLemmas.{origin-is, row-is, rows-are}
+use Rattle.folder_look.proofs.StartLemmas.{none-start}
 use Rattle.folder_look.proofs.rows.object_row.Goals as goal
 
 pub returns : goal.returns
 returns c =
-    let m = marks (reverse c.args.effects.now) in
+    let logs = logs_of c.args.object.repository c.args.media.now in
+    let choice = c.args.choice.now in
     let o = c.args.object in
+    let effects = c.log_of-effects.result.now in
+    let is : effects ≡ log_at logs (current logs) = c.log_of-effects.ensures ∙ ap (log_at logs) c.current_of-last.ensures in
+    let m = marks (reverse effects) in
+    let same : m ≡ current_marks logs = ap (λ l. marks (reverse l)) is in
     let t = c.in_ok-telling.telling in
     let h : Holds o m t.origin t.versions.items t.settles = subst (λ z. Holds z m t.origin t.versions.items t.settles) c.in_ok-telling.ensures.object c.in_ok-telling.ensures.tells in
-    let rows : c.in_ok-rows.rows.items ≡ rows_of c.args.choice.now o m =
-    c.in_ok-rows.ensures ∙ ap (λ vs. map (told_row t.settles c.floor_of-floor.result) (filter (is_told_in c.args.choice.now) vs)) (c.as_slice.ensures.value ∙ c.reverse.ensures.items)
-    ∙ rows-are c.args.choice.now o m t.origin c.floor_of-floor.result t.versions.items t.settles h c.floor_of-floor.ensures in
-    let shown : c.len.result ≡ length c.in_ok-rows.rows.items = search rules in
-    row-is o c.latest-origin.result (reach m o None) c.floor_of-floor.result (floor_of m) c.of.result (take c.args.most (rows_of c.args.choice.now o m)) c.saturating_sub-hidden.result (length (rows_of c.args.choice.now o m) - c.args.most)
-    (origin-is o m t.origin c.floor_of-floor.result c.latest-origin.result t.versions.items t.settles h c.floor_of-floor.ensures c.latest-origin.ensures) c.floor_of-floor.ensures
+    let floors = c.floor_of-floor.ensures in
+    let none = c.new-none.result in
+    let new = rows-are choice o m None none [] (none-start none c.new-none.ensures.empty) t.origin c.floor_of-floor.result t.versions.items t.settles h floors in
+    let older : c.push_given_up.new.rows.items ≡ given_up_by choice o (current logs) logs = search rules in
+    let rows : c.push_versions.new.rows.items ≡ rows_of choice o logs =
+    c.in_ok-push_versions.ensures
+    ∙ ap (λ vs. c.push_given_up.new.rows.items ++ map (told_row None t.settles c.floor_of-floor.result) (filter (is_told_in choice none) vs)) (c.as_slice.ensures.value ∙ c.reverse.ensures.items)
+    ∙ ap (λ l. c.push_given_up.new.rows.items ++ l) (new ∙ ap (rows_with choice None [] o) same) ∙ ap (λ l. l ++ rows_with choice None [] o (current_marks logs)) older in
+    let shown : c.len.result ≡ length c.push_versions.new.rows.items = search rules in
+    row-is o c.latest-origin.result (reach (current_marks logs) o None) c.floor_of-floor.result (floor_of (current_marks logs)) c.of.result (take c.args.most (rows_of choice o logs)) c.saturating_sub-hidden.result (length (rows_of choice o logs) - c.args.most)
+    (origin-is o m t.origin c.floor_of-floor.result c.latest-origin.result t.versions.items t.settles h floors c.latest-origin.ensures ∙ ap (λ z. reach z o None) same) (floors ∙ ap floor_of same)
     (c.of.ensures ∙ c.truncate.ensures.items ∙ ap (take c.args.most) rows) (c.saturating_sub-hidden.ensures ∙ ap (λ n. n - c.args.most) (shown ∙ ap length rows))

@@ -1,0 +1,8 @@
+use Rattle.std.proofs.Common.{◌≡◌, ◌++◌, map, take}
+use Rattle.std.specs.List.{filter}
+use Rattle.folder_look.specs.Told.{told_row, is_told_in}
+use Rattle.folder_look.proofs.rows.push_versions.Given as goal
+
+-- those so far were added
+abbrev pub invariant-loop-version : goal.invariant-loop-version
+invariant-loop-version l = l.rows.items ≡ l.fn.rows.items ++ map (told_row l.older l.settles l.floor) (filter (is_told_in l.choice l.next) (take l.version-index l.versions))
