@@ -1,6 +1,6 @@
 -- What the volumes of a repository give up, one after another; and that none of their versions is left out.
 use Rattle.std.proofs.Common.{◌≡◌, ◌⊎◌, inl, inr, ℕ, zero, suc, ◌+◌, ◌-◌, ◌≤◌, ◌<◌, Bool, true, false, List, [], ◌∷◌, ◌++◌, length, map, take, drop, reverse, get_or, nat_le, refl, sym, ◌∙◌, ap, subst, ◌&&◌, ◌||◌, not, if◌then◌else◌, append_assoc, Option, Some, None, arith}
-use Rattle.std.specs.List.{filter, list_any}
+use Rattle.std.specs.List.{filter}
 use Rattle.std.proofs.lemmas.Bool.{true≢false, false≢true}
 use Rattle.std.proofs.lemmas.Bool.Decides.{nat_tests}
 use Rattle.std.proofs.lemmas.List.{drop_more, reverse-append}

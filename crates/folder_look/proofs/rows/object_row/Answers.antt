@@ -1,13 +1,11 @@
-use Rattle.std.proofs.Common.{◌≡◌, ◌∙◌, ◌-◌, ◌++◌, [], None, length, map, take, reverse, refl, ap, sym, subst, rules}
-use Rattle.std.specs.BTreeSet.{contains}
+use Rattle.std.proofs.Common.{◌≡◌, ◌∙◌, ◌-◌, ◌++◌, [], None, length, map, take, reverse, ap, subst, rules}
 use Rattle.std.specs.List.{filter}
-use Rattle.pseudo_time.specs.TimeParts.{TimeParts, time_cmp}
 use Rattle.object_history.specs.History.{floor_of, reach}
 use Rattle.repository_log.specs.Logs.{marks}
 use Rattle.report_writer.specs.Tellings.{Holds}
 use Rattle.forward_copy.specs.Currents.{current, log_at}
 use Rattle.folder_look.specs.Objects.{logs_of}
-use Rattle.folder_look.specs.Rows.{current_marks, given_up_by, rows_of, rows_with, starts_at}
+use Rattle.folder_look.specs.Rows.{current_marks, given_up_by, rows_of, rows_with}
 use Rattle.folder_look.specs.Told.{told_row, is_told_in}
 use Rattle.folder_look.proofs.RowLemmas.{origin-is, row-is, rows-are}
 use Rattle.folder_look.proofs.StartLemmas.{none-start}

@@ -1,9 +1,7 @@
-use Rattle.std.proofs.Common.{◌≡◌, ◌≤◌, ◌∙◌, ◌+◌, ◌++◌, ℕ, List, rules, arith, sym, ap, subst, suc}
+use Rattle.std.proofs.Common.{◌∙◌, ◌+◌, ◌++◌, rules, sym, suc}
 use Rattle.folder_look.specs.Objects.{logs_of}
-use Rattle.folder_look.specs.Rows.{given_up_at, given_up_by}
-use Rattle.folder_look.specs.declared.looks.VersionRow.{VersionRow}
-use Rattle.effect_form.specs.declared.effects.Effect.{Effect}
-use Rattle.folder_look.proofs.VolumeLemmas.{going, going-by, going-on, steps-are}
+use Rattle.folder_look.specs.Rows.{given_up_by}
+use Rattle.folder_look.proofs.VolumeLemmas.{going-by, going-on, steps-are}
 use Rattle.folder_look.proofs.rows.push_given_up.Goals.{then-is_early+in_ok-push_behind, else-is_early}
 use Rattle.folder_look.proofs.rows.push_given_up.Goals as goal
 

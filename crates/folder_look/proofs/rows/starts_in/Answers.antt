@@ -1,8 +1,7 @@
-use Rattle.std.proofs.Common.{◌≡◌, ◌∙◌, reverse, ap, subst}
+use Rattle.std.proofs.Common.{◌∙◌, reverse, subst}
 use Rattle.repository_log.specs.Logs.{marks}
-use Rattle.report_writer.specs.Histories.{falling}
-use Rattle.report_writer.specs.Tellings.{Holds, told_of}
-use Rattle.folder_look.proofs.StartLemmas.{kept_at, starts-told}
+use Rattle.report_writer.specs.Tellings.{Holds}
+use Rattle.folder_look.proofs.StartLemmas.{starts-told}
 use Rattle.folder_look.proofs.rows.starts_in.Goals as goal
 
 pub returns : goal.returns

@@ -1,4 +1,3 @@
-use Rattle.std.proofs.Common.{◌≡◌, arith}
 use Rattle.folder_look.proofs.StartLemmas.{start-more}
 use Rattle.folder_look.proofs.rows.starts_of.Goals as goal
 
