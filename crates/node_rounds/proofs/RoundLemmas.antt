@@ -8,21 +8,26 @@ use Rattle.seat_lock.specs.declared.views.Founding.{Founding}
 use Rattle.seat_lock.specs.declared.locks.LockTable.{LockTable}
 use Rattle.pseudo_time.specs.declared.down_causes.DownCause.{DownCause}
 use Rattle.medium_port.specs.Image.{Image}
-use Rattle.medium_port.specs.Moment.{Stage}
+use Rattle.medium_port.specs.Moment.{Stage, LeftNow, goes_nowhere}
 use Rattle.seat_lock.specs.Story.{Begins, entries_of}
 use Rattle.world_core.specs.declared.entries.Entry.{Entry}
 use Rattle.wire_core.specs.Wires.{WireParts}
 use Rattle.wire_core.specs.Boards.{owner_of}
-use Rattle.wire_lock.specs.Sights.{Sight, Looked, Owns}
+use Rattle.wire_core.specs.Boards.{owner_for}
+use Rattle.pseudo_time.specs.declared.nodes.NodeId.{NodeId}
+use Rattle.wire_lock.specs.Sights.{Sight, IsOf, Looked, Owns, life_at}
 use Rattle.wire_lock.proofs.SightLemmas.{looked-of}
 use Rattle.node_turn.specs.declared.conditions.Condition.{Condition}
 use Rattle.node_turn.specs.declared.conditions.Condition.TheVariants as condition
 use Rattle.node_turn.specs.declared.conditions.Turned.{Turned}
 use Rattle.node_turn.specs.Costs.{costs, PaysFor}
+use Rattle.node_turn.specs.Lives.{IsKept}
+use Rattle.node_turn.specs.Windows.{PassesOn}
+use Rattle.node_turn.proofs.PhaseLemmas.{kept-on, passes-on, passes-here, passes-beside}
 use Rattle.node_turn.specs.Nodes.{NodeParts, Adds, StaysWhole, IsCondition, TurnsTo, MeetsWith, sight}
 use Rattle.node_turn.proofs.TrailLemmas.{costs-append, adds-more, adds-none}
 use Rattle.node_turn.proofs.PageLemmas.{whole-same}
-use Rattle.node_rounds.specs.Nodes.{GoesOn, HadTurn, HasMet, HasAllOf, HasPass, HasSeen, IsReady}
+use Rattle.node_rounds.specs.Nodes.{IsKeptNow, IsKeptThrough, GoesOn, HadTurn, HasMet, HasAllOf, HasPass, HasSeen, IsReady}
 use Rattle.node_rounds.proofs.PageLemmas.{intact-joins}
 use Rattle.node_rounds.proofs.PairLemmas.{zip-same, zip-through, zip-with}
 
@@ -86,6 +91,11 @@ module _ {M : Type 0} where
   pub met-of : (other : Sight) (old new : NodeParts M) → MeetsWith other old new → HasMet old new
   met-of other old new m = record { node = m.node; condition = m.condition; medium = m.medium; looked = m.looked }
 
+  up-working : (n : NodeParts M) → n.condition ≡ condition.AtWork → n.condition ≢ condition.Wanting
+  up-working n up e = absurd (apart (sym up ∙ e)) where
+    apart : condition.AtWork ≢ condition.Wanting
+    apart e = cc
+
   -- ---- turns
 
   module _ (tells : Bool) (faults : M → ℕ) (reads : M → Image) where
@@ -118,11 +128,6 @@ module _ {M : Type 0} where
     cost-less : (es fs : List Entry) → Adds es fs → (n : ℕ) × (costs fs ≡ costs es + n)
     cost-less es fs x = (costs x.0, ap costs x.1 ∙ costs-append es x.0)
 
-    up-working : (n : NodeParts M) → n.condition ≡ condition.AtWork → n.condition ≢ condition.Wanting
-    up-working n up e = absurd (apart (sym up ∙ e)) where
-      apart : condition.AtWork ≢ condition.Wanting
-      apart e = cc
-
     -- turns of a node that was up between them
     pub goes-joins : (a b c : NodeParts M) → GoesOn tells faults reads a b → b.condition ≡ condition.AtWork → GoesOn tells faults reads b c → GoesOn tells faults reads a c
     goes-joins a b c g up h = record {
@@ -147,7 +152,35 @@ module _ {M Q A : Type 0} (lock : LockTable WireParts (View WireParts Entry) (Fo
   mets-join xs ys zs passes first second = zip-through (λ x y. HasPass lock x × HasMet x y) HasMet HasMet (λ x y z p q. met-joins x y z p.0.own p.1 q) xs ys zs
       (zip-with (HasPass lock) HasMet (λ x y. HasPass lock x × HasMet x y) (λ x y p m. (p, m)) xs ys passes first) second
 
-module _ {M Q A : Type 0} (lock : LockTable WireParts (View WireParts Entry) (Founding WireParts) Q A) (tells : Bool) (faults : M → ℕ) (reads : M → Image) where
+-- ---- what crashes leave
+
+module _ {M : Type 0} (tells : Bool) (stages : M → List Stage) where
+  pub kept-same : (n : NodeParts M) → IsKeptThrough tells stages n n
+  kept-same n = record { node = refl; passes = λ told ne k. passes-here n.node (sight n) (stages n.medium) (stages n.medium) (goes_nowhere (stages n.medium) (IsKept (life_at (sight n) n.node)) k.left) }
+
+  pub kept-met : (a b c : NodeParts M) → IsKeptThrough tells stages a b → Owns (sight b) → HasMet b c → IsKeptThrough tells stages a c
+  kept-met a b c g owns m = record {
+    node = m.node ∙ g.node;
+    passes = λ told ne k.
+        let s : List Stage = stages b.medium in
+        let p : PassesOn a.node (sight a) (sight b) (stages a.medium) s = g.passes told (λ e. ne (m.condition ∙ e)) k in
+        let q : PassesOn a.node (sight b) (sight c) s s = passes-beside a.node (sight b) (sight c) s s (p.names ∙ k.own) owns m.looked (goes_nowhere s (IsKept (life_at (sight b) a.node)) (kept-on p)) in
+        subst (λ (x : M). PassesOn a.node (sight a) (sight c) (stages a.medium) (stages x)) (sym m.medium) (passes-on p q);
+  }
+
+  pub kept-joins : (a b c : NodeParts M) → IsKeptThrough tells stages a b → b.condition ≡ condition.AtWork → IsKeptThrough tells stages b c → IsKeptThrough tells stages a c
+  kept-joins a b c g up h = record {
+    node = h.node ∙ g.node;
+    passes = λ told ne k.
+        let p : PassesOn a.node (sight a) (sight b) (stages a.medium) (stages b.medium) = g.passes told (up-working b up) k in
+        let q : PassesOn b.node (sight b) (sight c) (stages b.medium) (stages c.medium) = h.passes told ne (record {
+          own = p.names ∙ (k.own ∙ ap owner_for (sym g.node));
+          left = subst (λ (n : NodeId). (c : Image) → LeftNow (stages b.medium) c → IsKept (life_at (sight b) n) c) (sym g.node) (kept-on p);
+        }) in
+        passes-on p (subst (λ (n : NodeId). PassesOn n (sight b) (sight c) (stages b.medium) (stages c.medium)) g.node q);
+  }
+
+module _ {M Q A : Type 0} (lock : LockTable WireParts (View WireParts Entry) (Founding WireParts) Q A) (tells : Bool) (faults : M → ℕ) (reads : M → Image) (stages : M → List Stage) where
   -- a turn behind others
-  pub had-again : (a b c : NodeParts M) → HadTurn lock tells faults reads a b → IsReady lock b → HadTurn lock tells faults reads b c → HadTurn lock tells faults reads a c
-  had-again a b c had ready more = record { pass = more.pass; went = goes-joins tells faults reads a b c had.went ready.up more.went }
+  pub had-again : (a b c : NodeParts M) → HadTurn lock tells faults reads stages a b → IsReady lock b → HadTurn lock tells faults reads stages b c → HadTurn lock tells faults reads stages a c
+  had-again a b c had ready more = record { pass = more.pass; went = goes-joins tells faults reads a b c had.went ready.up more.went; kept = kept-joins tells stages a b c had.kept ready.up more.kept }

@@ -4,15 +4,18 @@ use Rattle.std.specs.List.{AllZip}
 use Rattle.std.specs.declared.vec.Vec.{Vec}
 use Rattle.std.specs.declared.alloc.Global.{Global}
 use Rattle.medium_port.specs.Image.{Image}
+use Rattle.medium_port.specs.Moment.{Stage, LeftNow}
 use Rattle.seat_lock.specs.declared.views.View.{View}
 use Rattle.seat_lock.specs.declared.views.Founding.{Founding}
 use Rattle.seat_lock.specs.declared.locks.LockTable.{LockTable}
 use Rattle.seat_lock.specs.Story.{Begins}
 use Rattle.world_core.specs.declared.entries.Entry.{Entry}
 use Rattle.wire_core.specs.Wires.{WireParts}
-use Rattle.wire_lock.specs.Sights.{IsWirePass, Looked, Owns}
+use Rattle.wire_lock.specs.Sights.{IsOf, IsWirePass, Looked, Owns, life_at}
 use Rattle.node_turn.specs.declared.conditions.Condition.TheVariants as condition
 use Rattle.node_turn.specs.Costs.{costs, PaysFor}
+use Rattle.node_turn.specs.Lives.{IsKept}
+use Rattle.node_turn.specs.Windows.{PassesOn}
 use Rattle.node_turn.specs.Nodes.{NodeParts, Adds, StaysWhole, sight}
 
 -- ---- shares
@@ -43,6 +46,16 @@ module _ {M : Type 0} where
     pub adds : Adds (sight old).own (sight new).own
     pub paid : PaysFor (costs (sight old).own) (faults old.medium) (costs (sight new).own) (faults new.medium)
     pub whole : IsTrue tells → new.condition ≢ condition.Wanting → StaysWhole (costs (sight old).own) (costs (sight new).own) (reads old.medium) (reads new.medium)
+
+  -- its pass is its own, and a crash now leaves the log of its life
+  pub record IsKeptNow (stages : M → List Stage) (n : NodeParts M) : Type 0 where
+    pub own : IsOf n.node (sight n)
+    pub left : (c : Image) → LeftNow (stages n.medium) c → IsKept (life_at (sight n) n.node) c
+
+  -- A node that was so went on, and a crash at any moment of that left the log of the life that it had then, unless memory was wanting.
+  pub record IsKeptThrough (tells : Bool) (stages : M → List Stage) (old new : NodeParts M) : Type 0 where
+    pub node : new.node ≡ old.node
+    pub passes : IsTrue tells → new.condition ≢ condition.Wanting → IsKeptNow stages old → PassesOn old.node (sight old) (sight new) (stages old.medium) (stages new.medium)
 
   -- a node before and after it met the conductor: only its story may have grown
   pub record HasMet (old new : NodeParts M) : Type 0 where
@@ -75,6 +88,7 @@ module _ {M Q A : Type 0} (lock : LockTable WireParts (View WireParts Entry) (Fo
     pub up : IsUp n
 
   -- a node after a turn
-  pub record HadTurn (tells : Bool) (faults : M → ℕ) (reads : M → Image) (old new : NodeParts M) : Type 0 where
+  pub record HadTurn (tells : Bool) (faults : M → ℕ) (reads : M → Image) (stages : M → List Stage) (old new : NodeParts M) : Type 0 where
     pub pass : HasPass new
     pub went : GoesOn tells faults reads old new
+    pub kept : IsKeptThrough tells stages old new

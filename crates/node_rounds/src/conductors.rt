@@ -4,7 +4,7 @@ ghost use Rattle.seat_lock.specs.Words.{base_of, knows};
 ghost use Rattle.wire_core.specs.Wires.{base_from};
 ghost use Rattle.wire_lock.specs.Sights.{IsWirePass};
 ghost use Rattle.trace_report.specs.Counts.{tick_count};
-ghost use Rattle.node_rounds.specs.Nodes.{EachNode, SomeNode, EachPlace, GoesOn, HasAllOf, HasPass, IsReady, IsUp};
+ghost use Rattle.node_rounds.specs.Nodes.{EachNode, SomeNode, EachPlace, GoesOn, IsKeptThrough, HasAllOf, HasPass, IsReady, IsUp};
 ghost use Rattle.node_rounds.specs.Reasons.{EndsFor, Follows, HasMemory, HasTicked, IsDone, IsDown, IsLate, NodesSay, TicksAreWanted};
 
 use crate::limits::Limits;
@@ -175,6 +175,7 @@ fn go_round<
     requires few { ticks ≤ limits.ticks }
     ensures passes { EachNode (HasPass wire.now.lock) result.0.items × IsWirePass wire.now.lock result.1 }
     ensures went { EachPlace (GoesOn M.tells M.faults M.reads) shares.items result.0.items }
+    ensures kept { EachPlace (IsKeptThrough M.tells M.stages) shares.items result.0.items }
     ensures all { EachNode (HasAllOf (knows result.1).story) result.0.items }
     ensures next { Follows M.tells limits result.2 result.0.items (knows pass) (knows result.1) }
     ensures wanted { IsTrue M.tells → TicksAreWanted (base_from (base_of wire.now.lock).origin) (knows pass).story shares.items →
@@ -212,6 +213,7 @@ pub fn go_on<
     requires ticks { tick_count (knows pass).own ≡ 0 }
     ensures passes { EachNode (HasPass wire.now.lock) result.0.items × IsWirePass wire.now.lock result.1 }
     ensures went { EachPlace (GoesOn M.tells M.faults M.reads) shares.items result.0.items }
+    ensures kept { EachPlace (IsKeptThrough M.tells M.stages) shares.items result.0.items }
     ensures all { EachNode (HasAllOf (knows result.1).story) result.0.items }
     ensures conductor { (knows result.1).owner ≡ 0 }
     ensures ticks { tick_count (knows result.1).own ≤ limits.ticks }

@@ -8,6 +8,7 @@ use Rattle.pseudo_time.specs.declared.down_causes.DownCause.{DownCause}
 use Rattle.pseudo_time.specs.declared.down_causes.DownCause.TheVariants as down
 use Rattle.stream_port.specs.Causes.{Rose}
 use Rattle.medium_port.specs.Image.{Image}
+use Rattle.medium_port.specs.Moment.{LeavesOnly}
 use Rattle.effect_form.specs.declared.effects.Effect.{Effect}
 use Rattle.effect_form.specs.Effects.{AreEffects}
 use Rattle.version_store.specs.Storage.{storage}
@@ -68,6 +69,8 @@ module _ {M : Type 0} (w : Media M) where
     pub later : w.faults old ≤ w.faults new
     pub still : IsTrue w.tells → w.reads new ≡ w.reads old
     pub untouched : IsUntouched w old new
+    -- at no moment a crash left an image that it couldn't have left before
+    pub at_moments : IsTrue w.tells → LeavesOnly w.stages old new (w.may_leave old)
 
   module _ {g : _} where
     -- The store has the log that the medium held, and a crash leaves it.

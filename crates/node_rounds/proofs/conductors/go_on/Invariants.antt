@@ -4,7 +4,7 @@ use Rattle.seat_lock.specs.Words.{base_of, knows}
 use Rattle.wire_core.specs.Wires.{base_from}
 use Rattle.wire_lock.specs.Sights.{IsWirePass}
 use Rattle.trace_report.specs.Counts.{tick_count}
-use Rattle.node_rounds.specs.Nodes.{EachNode, EachPlace, GoesOn, IsReady}
+use Rattle.node_rounds.specs.Nodes.{EachNode, EachPlace, GoesOn, IsKeptThrough, IsReady}
 use Rattle.node_rounds.specs.Reasons.{TicksAreWanted}
 use Rattle.node_rounds.proofs.conductors.go_on.Given as goal
 
@@ -12,6 +12,7 @@ abbrev pub invariant-loop : goal.invariant-loop
 invariant-loop g l = record {
   ready : EachNode (IsReady l.wire.lock) l.shares.items;
   went : EachPlace (GoesOn g.M.Medium.tells g.M.Medium.faults g.M.Medium.reads) l.fn.shares.items l.shares.items;
+  kept : EachPlace (IsKeptThrough g.M.Medium.tells g.M.Medium.stages) l.fn.shares.items l.shares.items;
   pass_is : IsWirePass l.wire.lock l.pass;
   conductor : (knows l.pass).owner ≡ 0;
   ticked : tick_count (knows l.pass).own ≡ l.ticks;
