@@ -1,8 +1,8 @@
 -- The volumes of one node more are taken, opened, and set aside.
-use Rattle.std.proofs.Common.{◌≡◌, ◌≢◌, ◌⊎◌, ◌≤◌, ◌<◌, ◌+◌, inl, inr, ℕ, zero, suc, Bool, true, false, IsTrue, List, [], ◌∷◌, ◌++◌, length, length-append, map, map-append, append_assoc, append-nil, get_or, slice_get, slice_set, if◌then◌else◌, Option, Some, None, Ok, refl, ap, sym, subst, ◌∙◌, arith}
+use Rattle.std.proofs.Common.{◌≡◌, ◌≢◌, ◌⊎◌, ◌≤◌, ◌<◌, ◌+◌, inl, inr, ℕ, zero, suc, Bool, true, false, IsTrue, List, [], ◌∷◌, ◌++◌, length, length-append, map, append_assoc, append-nil, get_or, slice_get, slice_set, if◌then◌else◌, Option, Some, None, Ok, refl, ap, sym, subst, ◌∙◌, arith}
+use Rattle.std.proofs.lemmas.List.{length-map, length_push, map-append, map-set}
 use Rattle.std.specs.List.{AllZip}
 use Rattle.std.specs.Option.{unwrap_or}
-use Rattle.std.proofs.lemmas.List.{map-set}
 use Rattle.pseudo_time.specs.Lists.{Every, Has}
 use Rattle.pseudo_time.specs.declared.nodes.NodeId.{NodeId}
 use Rattle.medium_port.specs.declared.shelves.MediumName.{MediumName}
@@ -20,7 +20,7 @@ use Rattle.run_volumes.specs.Shelves.{ShelfSight, WereTaken, first_names, volume
 use Rattle.run_volumes.specs.Volumes.{AreVolumes, EndRightly, logs_of}
 use Rattle.run_volumes.proofs.ShelfLemmas.{names-below, taken-both, taken-none}
 use Rattle.plan_volumes.specs.Volumes.{AreNodes, HadMemory, IsNodes, KeepsLog, NodeVolumes, all_taken, is_open, left_of, names_from, unopened_from, work_taken, working}
-use Rattle.plan_volumes.specs.Asides.{AreApart, IsAside}
+use Rattle.plan_volumes.specs.Asides.{AreApart, IsApart, IsAside}
 use Rattle.plan_volumes.specs.declared.asides.Aside.{Aside}
 
 -- ---- the volume that a run is given is there
@@ -169,25 +169,42 @@ module _ {M : Type 0} (w : Media M) where
     are-nodes : IsNodes w (node_at plan (0 + length volumes)) v
     are-nodes = subst (λ (k : NodeId). IsNodes w k v) (is ∙ ap (node_at plan) (sym there)) (record { opened = new.opened; ends = new.ends; keep = keep-logs taken openings new.opened })
 
-    pub aside-one : (missing : Opening M w) (aside : Aside M w) → length openings ≤ 1000 → aside.working ≡ working openings → aside.rest.items ≡ slice_set openings (working openings) missing → IsAside v aside
-    aside-one missing aside few place rest =
-        let long : length aside.rest.items ≡ length openings = ap length rest ∙ set-long openings (working openings) missing in
-        let below = working-below openings (ends-some n.kind openings new.ends) in
-        record {
-          place = omega (arith, long, below, place);
-          few = omega (arith, long, few);
-          count = long ∙ sym (zip-long (HasOpened w) taken openings new.opened);
-          rest = λ m. ap (λ l. slice_set (map medium_in l) aside.working m) rest ∙ (ap (λ i. slice_set (map medium_in (slice_set openings (working openings) missing)) i m) place
-              ∙ (ap (λ l. slice_set l (working openings) m) (map-set medium_in openings (working openings) missing) ∙ set-set (map medium_in openings) (working openings) (medium_in missing) m));
-        }
+  -- what stands aside of a node's volumes
+  pub aside-one : (b c : ShelfSight) (n : NodeId) (v : NodeVolumes w) → AreVolumes w b c n v.taken v.openings → (missing : Opening M w) (aside : Aside M w) → length v.openings ≤ 1000 → aside.working ≡ working v.openings
+      → aside.rest.items ≡ slice_set v.openings (working v.openings) missing → IsAside v aside
+  aside-one b c n v new missing aside few place rest =
+      let openings = v.openings in
+      let long : length aside.rest.items ≡ length openings = ap length rest ∙ set-long openings (working openings) missing in
+      let below = working-below openings (ends-some n.kind openings new.ends) in
+      record {
+        place = omega (arith, long, below, place);
+        few = omega (arith, long, few);
+        count = long ∙ sym (zip-long (HasOpened w) v.taken openings new.opened);
+        rest = λ m. ap (λ l. slice_set (map medium_in l) aside.working m) rest ∙ (ap (λ i. slice_set (map medium_in (slice_set openings (working openings) missing)) i m) place
+            ∙ (ap (λ l. slice_set l (working openings) m) (map-set medium_in openings (working openings) missing) ∙ set-set (map medium_in openings) (working openings) (medium_in missing) m));
+      }
 
-    -- one node more
-    pub apart-more : (os : List (Opening M w)) (asides : List (Aside M w)) (was now : Bool) → AreApart w a b plan volumes os asides was → (o : Opening M w) (aside : Aside M w) → slice_get openings (working openings) ≡ Some o → IsAside v aside
-        → (now ≡ false → (was ≡ false) × Every (λ (x : Opening M w). IsWanting x → ⊥) openings) → AreApart w a c plan (volumes ++ v ∷ []) (os ++ o ∷ []) (asides ++ aside ∷ []) now
-    apart-more os asides was now old o aside given set memory = record {
-      taken = more-taken old.taken;
-      are = are-more plan 0 volumes v old.are are-nodes;
-      given = subst (λ l. AllZip (HasOpened w) l (os ++ o ∷ [])) (sym (map-append work_taken volumes (v ∷ []))) (zip-more (HasOpened w) (map work_taken volumes) os (work_taken v) o old.given (zip-get (HasOpened w) taken openings (working openings) None o new.opened given));
-      aside = zip-more IsAside volumes asides v aside old.aside set;
-      memory = λ e. let m = memory e in every-more (λ (y : NodeVolumes w). Every (λ (x : Opening M w). IsWanting x → ⊥) y.openings) volumes v (old.memory m.0) m.1;
-    }
+  -- one node more
+  pub apart-more : (a b c : ShelfSight) (plan : Plan) (volumes : List (NodeVolumes w)) (os : List (Opening M w)) (asides : List (Aside M w)) (was now : Bool) → AreApart w a b plan volumes os asides was
+      → (n : NodeId) (v : NodeVolumes w) (o : Opening M w) (aside : Aside M w) (wanting : Bool) → n ≡ node_at plan (length os) → IsApart w b c n v o aside wanting → (now ≡ false → (was ≡ false) × (wanting ≡ false))
+      → AreApart w a c plan (volumes ++ v ∷ []) (os ++ o ∷ []) (asides ++ aside ∷ []) now
+  apart-more a b c plan volumes os asides was now old n v o aside wanting is new memory =
+      let long : length volumes ≡ length os = sym (length-map volumes work_taken) ∙ zip-long (HasOpened w) (map work_taken volumes) os old.given in
+      let at : n ≡ node_at plan (length volumes) = is ∙ ap (node_at plan) (sym long) in
+      record {
+        taken = more-taken a b c plan volumes n at v.taken v.openings new.volumes old.taken;
+        are = are-more plan 0 volumes v old.are (are-nodes a b c plan volumes n at v.taken v.openings new.volumes);
+        given = subst (λ l. AllZip (HasOpened w) l (os ++ o ∷ [])) (sym (map-append work_taken volumes (v ∷ []))) (zip-more (HasOpened w) (map work_taken volumes) os (work_taken v) o old.given (zip-get (HasOpened w) v.taken v.openings (working v.openings) None o new.volumes.opened new.given));
+        aside = zip-more IsAside volumes asides v aside old.aside new.aside;
+        memory = λ e. let m = memory e in every-more (λ (y : NodeVolumes w). Every (λ (x : Opening M w). IsWanting x → ⊥) y.openings) volumes v (old.memory m.0) (new.memory m.1);
+      }
+
+  pub apart-next : (a b c : ShelfSight) (plan : Plan) (was now : Bool) (os all : List (Opening M w)) (asides beside : List (Aside M w)) → (volumes : List (NodeVolumes w)) × (length volumes ≡ length os) × AreApart w a b plan volumes os asides was
+      → (n : NodeId) (o : Opening M w) (aside : Aside M w) (wanting : Bool) → n ≡ node_at plan (length os) → (v : NodeVolumes w) × IsApart w b c n v o aside wanting → (now ≡ false → (was ≡ false) × (wanting ≡ false)) → all ≡ os ++ o ∷ [] → beside ≡ asides ++ aside ∷ []
+      → (volumes : List (NodeVolumes w)) × (length volumes ≡ length all) × AreApart w a c plan volumes all beside now
+  apart-next a b c plan was now os all asides beside old n o aside wanting is new memory are stand = (
+    old.0 ++ new.0 ∷ [],
+    (length_push old.0 new.0 ∙ (ap (λ k. k + 1) old.1 ∙ (sym (length_push os o) ∙ ap length (sym are)))),
+    subst (λ x. AreApart w a c plan (old.0 ++ new.0 ∷ []) x beside now) (sym are) (subst (λ y. AreApart w a c plan (old.0 ++ new.0 ∷ []) (os ++ o ∷ []) y now) (sym stand)
+        (apart-more a b c plan old.0 os asides was now old.2 n new.0 o aside wanting is new.1 memory)),
+  )

@@ -1,5 +1,6 @@
 -- The volumes of all nodes are handed back.
-use Rattle.std.proofs.Common.{◌≡◌, ◌≢◌, ◌⊎◌, ◌≤◌, ◌<◌, ◌+◌, inl, inr, ℕ, zero, suc, Bool, true, false, IsTrue, List, [], ◌∷◌, ◌++◌, length, length-append, length-map, map, map-append, append_assoc, append-nil, get_or, slice_get, slice_set, Option, Some, None, Ok, refl, ap, sym, subst, ◌∙◌, arith}
+use Rattle.std.proofs.Common.{◌≡◌, ◌≢◌, ◌⊎◌, ◌≤◌, ◌<◌, ◌+◌, inl, inr, ℕ, zero, suc, Bool, true, false, IsTrue, List, [], ◌∷◌, ◌++◌, length, length-append, map, append_assoc, append-nil, get_or, slice_get, slice_set, Option, Some, None, Ok, refl, ap, sym, subst, ◌∙◌, arith}
+use Rattle.std.proofs.lemmas.List.{length-map, map-append}
 use Rattle.std.specs.List.{AllZip}
 use Rattle.pseudo_time.specs.Lists.{Every, Has}
 use Rattle.pseudo_time.specs.declared.nodes.NodeId.{NodeId}
@@ -96,10 +97,10 @@ module _ {M : Type 0} {w : Media M} where
       ∙ (ap (λ l. kept_under (names_from plan 0 l) (all_left l (ms ++ m ∷ []))) (sym r.is) ∙ ap (λ l. kept_under (names_from plan 0 volumes) (all_left volumes l)) (sym were)))))))))
 
   -- no node's
-  pub none-joined : (plan : Plan) (volumes : List (NodeVolumes w)) (asides : List (Aside M w)) (media : List (Option M)) (kept : List (Kept M)) → AllZip IsAside volumes asides → asides ≡ [] → kept ≡ [] → kept ≡ kept_under (names_from plan 0 volumes) (all_left volumes media)
+  pub none-joined : (plan : Plan) (volumes : List (NodeVolumes w)) (asides : List (Aside M w)) (media : List (Option M)) (kept : List (Kept M)) → AllZip IsAside volumes asides → length asides ≡ 0 → kept ≡ [] → kept ≡ kept_under (names_from plan 0 volumes) (all_left volumes media)
   none-joined plan [] asides media kept h e none = none
   none-joined plan (v ∷ volumes) [] media kept h e none = absurd h
-  none-joined plan (v ∷ volumes) (a ∷ asides) media kept h e none = absurd cc
+  none-joined plan (v ∷ volumes) (a ∷ asides) media kept h e none = absurd (omega (arith, e))
 
 -- ---- what was opened comes back
 

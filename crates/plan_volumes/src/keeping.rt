@@ -57,9 +57,12 @@ pub fn keep_nodes<M: Medium>(
     ensures few { vec_len result ≤ 1000 * vec_len asides }
 {
     let mut asides = asides;
-    let mut media = media;
-    let (Some(aside), Some(medium)) = (asides.pop(), media.pop()) else {
+    let Some(aside) = asides.pop() else {
         return kept;
+    };
+    let mut media = media;
+    let Some(medium) = media.pop() else {
+        unreachable!()
     };
     let place = asides.len();
     let kept = keep_nodes(plan, asides, media, kept);

@@ -1,6 +1,7 @@
-ghost use Rattle.std.specs.Prelude.{◌≡◌, length, All, IfOk};
+ghost use Rattle.std.specs.Prelude.{◌≡◌, ◌≤◌, [], length, vec_capacity, All, IfOk};
+ghost use Rattle.plan_form.specs.PlanTexts.{IsOfLanguage};
 ghost use Rattle.run_media.specs.Places as order;
-ghost use Rattle.plan_volumes.specs.Asides.{HasRoom, IsRoom};
+ghost use Rattle.plan_volumes.specs.Asides.{HasRoom};
 
 use crate::asides::Aside;
 use medium_port::Medium;
@@ -20,12 +21,10 @@ pub struct Rooms<M: Medium> {
     pub kept: Vec<Kept<M>>,
 }
 
-fn node_rooms<M: Medium>(
-    alloc: Global,
-    count: usize,
-) -> Result<Vec<Vec<Opening<M>>>, AllocError>
+fn node_rooms<M: Medium>(alloc: Global, count: usize) -> Result<Vec<Vec<Opening<M>>>, AllocError>
     ensures count { IfOk result (λ rooms. length rooms.items ≡ count) }
-    ensures rooms { IfOk result (λ rooms. All IsRoom rooms.items) }
+    ensures empty { IfOk result (λ rooms. All (λ room. room.items ≡ []) rooms.items) }
+    ensures room { IfOk result (λ rooms. All (λ room. 1000 ≤ vec_capacity room) rooms.items) }
 {
     let mut rooms = Vec::with_capacity(alloc, count)?;
     for _ in 0..count {
@@ -36,6 +35,7 @@ fn node_rooms<M: Medium>(
 
 /// Room for the volumes of the plan's nodes. A node has at most 1,000.
 pub fn make_rooms<M: Medium>(alloc: Global, plan: &Plan) -> Result<Rooms<M>, AllocError>
+    requires { IsOfLanguage plan.now }
     ensures { IfOk result (HasRoom (order.node_count plan.now)) }
 {
     let count = node_count(plan);
