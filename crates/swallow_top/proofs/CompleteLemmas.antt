@@ -181,8 +181,8 @@ module _ {M : Type 0} (w : Media M) (old new : ShelfSight) (plan : Plan) where
       low : (n : NodeId) (v : NodeVolumes w) → in_plan plan n ≡ true → IsAt n v → working v.openings < volumes_of_blank n.kind
       low n v is h =
           let few = few-volumes w tells n.kind v.taken v.openings h.nodes.opened h.nodes.ends (λ m e repository.
-              let taken : IsTaken w old (volume_name n 1) m = volume-at (IsGiven w old) n v.taken 1 (Some m) h.given e in
-              blank-none (w.reads m) (subst IsBlankImage (sym (taken.content tells).reads_same) (smooth.blank n 1 is (subst (λ kind. 1 < volumes_of_blank kind) (sym repository) (omega arith))))) in
+          let taken : IsTaken w old (volume_name n 1) m = volume-at (IsGiven w old) n v.taken 1 (Some m) h.given e in
+          blank-none (w.reads m) (subst IsBlankImage (sym (taken.content tells).reads_same) (smooth.blank n 1 is (subst (λ kind. 1 < volumes_of_blank kind) (sym repository) (omega arith))))) in
           let within = h.within in
           let long = zip-long (HasOpened w) v.taken v.openings h.nodes.opened in
           omega (arith, few, within, long)

@@ -52,6 +52,9 @@ module _ {M : Type 0} (w : Media M) where
   pub opened-left : (media : List (Option M)) (os : List (Opening M w)) → AllZip (HasOpened w) media os → AllZip (IsLeftAlone w) media (map medium_in os)
   opened-left media os h = all-opened w (IsLeftAlone w) opened-alone media os h
 
+  pub opened-there : (media : List (Option M)) (os : List (Opening M w)) → AllZip (HasOpened w) media os → AreBack media (map medium_in os)
+  opened-there media os h = all-opened w IsBack (opened-back w) media os h
+
   module _ (old new : ShelfSight) (plan : Plan) where
     -- what was taken apart and put together again
     pub has-volumes : (volumes : List (NodeVolumes w)) (os : List (Opening M w)) (asides : List (Aside M w)) (wanting : Bool) (left : List (Option M)) (kept : List (Kept M)) → AreApart w old new plan volumes os asides wanting → length asides ≡ node_count plan
