@@ -19,6 +19,7 @@ use Rattle.run_rounds.specs.Finishes.{EndsAs, IsKeptWhole, Tellers, account_of}
 use Rattle.serial_law.specs.Serials.{HoldsFinals, IsSerialOver}
 use Rattle.serial_law.specs.Acknowledged.{KeepsAnswers, SpendsRightly}
 use Rattle.serial_law.specs.Reasons.{AddedHaveReasons, HaveReasons}
+use Rattle.kill_law.specs.Places.{PlacesHavePasts}
 use Rattle.run_volumes.specs.Kept.{AllKept}
 use Rattle.run_volumes.specs.Shelves.{ShelfSight}
 use Rattle.run_volumes.specs.declared.kept.Kept.{Kept}
@@ -63,7 +64,7 @@ module _ {M : Type 0} (w : Media M) (old new : ShelfSight) (plan : Plan) (o : Op
   module _ (language : IsOfLanguage plan) (serial : (p : Plan) (asked : List Asked) (t : Trace) → IsOfLanguage p → IsLegal p asked t → IsSerialOver p t)
       (finals : (p : Plan) (asked : List Asked) (t : Trace) → IsOfLanguage p → IsLegal p asked t → HoldsFinals p t) (reasons : (p : Plan) (asked : List Asked) (t : Trace) → IsOfLanguage p → IsLegal p asked t → HaveReasons p t)
       (answers : (p : Plan) (asked : List Asked) (t : Trace) → IsOfLanguage p → IsLegal p asked t → KeepsAnswers p t) (spent : (p : Plan) (asked : List Asked) (t : Trace) → IsOfLanguage p → IsLegal p asked t → SpendsRightly p t)
-      (added : (p : Plan) (asked : List Asked) (t : Trace) → AddedHaveReasons p asked t) where
+      (added : (p : Plan) (asked : List Asked) (t : Trace) → AddedHaveReasons p asked t) (pasts : (p : Plan) (asked : List Asked) (t : Trace) → IsOfLanguage p → IsLegal p asked t → PlacesHavePasts p t) where
     ran-over : (t : Trace) → HadMemory w volumes → Ran w o.ticks o.messages plan (account_of t told) media left → RanOver {M = M} w old new kept plan o (account_of t told)
     ran-over t memory ran = record {
       volumes = volumes;
@@ -77,6 +78,7 @@ module _ {M : Type 0} (w : Media M) (old new : ShelfSight) (plan : Plan) (o : Op
       reasons = λ tells. reasons plan told.asked t language (ran.is_told tells).legal;
       spent = λ tells. spent plan told.asked t language (ran.is_told tells).legal;
       added = added plan told.asked t;
+      pasts = λ tells. pasts plan told.asked t language (ran.is_told tells).legal;
     }
 
     -- memory was wanting in a run that isn't told

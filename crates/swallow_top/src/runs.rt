@@ -13,6 +13,7 @@ ghost use Rattle.swallow_top.specs.Written.{sinking};
 use crate::media::{Finish, quiet};
 use crate::reports::{Wanted, tell};
 use command_words::Options;
+use kill_law::place_has_past;
 use medium_port::{Medium, Shelf};
 use plan_form::Plan;
 use plan_volumes::{Opened, Rooms, keep_nodes, make_rooms, open_nodes};
@@ -132,6 +133,7 @@ where
     law_of_reasons();
     law_of_spent_acts();
     law_of_added_reasons();
+    place_has_past();
     let (status, trace) = tell(alloc, plan, wanted, end, sink);
     Finish {
         status,
