@@ -1,5 +1,5 @@
 -- The volumes of one node more are taken, opened, and set aside.
-use Rattle.std.proofs.Common.{◌≡◌, ◌≢◌, ◌⊎◌, ◌≤◌, ◌<◌, ◌+◌, inl, inr, ℕ, zero, suc, Bool, true, false, IsTrue, List, [], ◌∷◌, ◌++◌, length, length-append, map, append_assoc, append-nil, get_or, slice_get, slice_set, if◌then◌else◌, Option, Some, None, Ok, refl, ap, sym, subst, ◌∙◌, arith}
+use Rattle.std.proofs.Common.{◌≡◌, ◌⊎◌, ◌≤◌, ◌<◌, ◌+◌, inl, inr, ℕ, zero, suc, Bool, true, false, List, [], ◌∷◌, ◌++◌, length, length-append, map, append_assoc, append-nil, get_or, slice_get, slice_set, if◌then◌else◌, Option, Some, None, refl, ap, sym, subst, ◌∙◌, arith}
 use Rattle.std.proofs.lemmas.List.{length-map, length_push, map-append, map-set}
 use Rattle.std.specs.List.{AllZip}
 use Rattle.std.specs.Option.{unwrap_or}
@@ -19,7 +19,7 @@ use Rattle.forward_copy.specs.Wholes.{has_whole}
 use Rattle.run_volumes.specs.Shelves.{ShelfSight, WereTaken, first_names, volume_name}
 use Rattle.run_volumes.specs.Volumes.{AreVolumes, EndRightly, logs_of}
 use Rattle.run_volumes.proofs.ShelfLemmas.{names-below, taken-both, taken-none}
-use Rattle.plan_volumes.specs.Volumes.{AreNodes, HadMemory, IsNodes, KeepsLog, NodeVolumes, all_taken, is_open, left_of, names_from, unopened_from, work_taken, working}
+use Rattle.plan_volumes.specs.Volumes.{AreNodes, IsNodes, KeepsLog, NodeVolumes, all_taken, is_open, names_from, unopened_from, work_taken, working}
 use Rattle.plan_volumes.specs.Asides.{AreApart, IsApart, IsAside}
 use Rattle.plan_volumes.specs.declared.asides.Aside.{Aside}
 

@@ -1,5 +1,5 @@
 -- Volumes that stand aside while a run has one volume of each node.
-use Rattle.std.specs.Prelude.{◌≡◌, ◌≤◌, ◌<◌, ◌*◌, ℕ, Bool, false, List, [], length, map, slice_get, slice_set, Option, Some, Vec, All, vec_len, vec_capacity}
+use Rattle.std.specs.Prelude.{◌≡◌, ◌≤◌, ◌<◌, ◌*◌, ℕ, Bool, false, List, [], length, map, slice_get, slice_set, Option, Some, All, vec_capacity}
 use Rattle.std.specs.List.{AllZip}
 use Rattle.pseudo_time.specs.Lists.{Every}
 use Rattle.pseudo_time.specs.declared.nodes.NodeId.{NodeId}

@@ -1,5 +1,5 @@
 -- What must succeed, succeeds: from what the shelf gave and got back to a complete run.
-use Rattle.std.proofs.Common.{◌≡◌, ◌+◌, ◌≤◌, ◌==◌, ◌∙◌, nat_lt, ◌<◌, ◌&&◌, ◌++◌, ℕ, zero, suc, Bool, true, false, IsTrue, List, [], ◌∷◌, cond, length, map, length-append, get_or, Option, Some, None, Ok, slice_get, refl, ap, sym, subst, arith, if◌then◌else◌}
+use Rattle.std.proofs.Common.{◌≡◌, ◌+◌, ◌≤◌, ◌==◌, ◌∙◌, nat_lt, ◌<◌, ◌++◌, ℕ, zero, suc, Bool, true, false, IsTrue, List, [], ◌∷◌, cond, length, map, Option, Some, None, Ok, slice_get, refl, ap, sym, subst, arith, if◌then◌else◌}
 use Rattle.std.specs.List.{AllZip, count_by}
 use Rattle.std.proofs.lemmas.Bool.{false≢true}
 use Rattle.std.proofs.lemmas.Bool.Decides.{nat_tests}
@@ -11,7 +11,6 @@ use Rattle.pseudo_time.specs.declared.nodes.NodeId.{NodeId}
 use Rattle.pseudo_time.specs.declared.nodes.NodeKind.{NodeKind}
 use Rattle.pseudo_time.specs.declared.nodes.NodeKind.TheVariants.{Repository, Broker}
 use Rattle.stream_port.specs.Causes.{Rose, RoseBy, rise_of_fewer}
-use Rattle.effect_form.specs.declared.effects.Effect.{Effect}
 use Rattle.medium_port.specs.Image.{Image, IsBlankImage}
 use Rattle.version_store.specs.Storage.{storage}
 use Rattle.plan_form.specs.declared.plans.Plan.{Plan}
@@ -28,9 +27,8 @@ use Rattle.run_media.specs.Media.{Media}
 use Rattle.run_media.specs.declared.openings.Opening.{Opening}
 use Rattle.run_media.specs.declared.openings.Opening.TheVariants.{Open, Shut, Wanting}
 use Rattle.run_media.specs.Openings.{HasOpened, fault_in}
-use Rattle.run_media.specs.Places.{node_at, node_count, place_of}
+use Rattle.run_media.specs.Places.{node_at, place_of}
 use Rattle.run_media.proofs.OrderLemmas.{at-place}
-use Rattle.run_rounds.specs.Ends.{some_down}
 use Rattle.run_rounds.specs.Finishes.{Tellers, account_of}
 use Rattle.run_rounds.specs.Media.{Became, inner, medium_at}
 use Rattle.run_rounds.specs.Runs.{IsFirstFault, Ran}
@@ -46,7 +44,7 @@ use Rattle.run_volumes.specs.declared.kept.Kept.{Kept}
 use Rattle.plan_volumes.specs.Volumes.{HasVolumes, IsNodes, NodeVolumes, all_left, all_taken, names_from, work_taken, working}
 use Rattle.plan_volumes.proofs.ApartLemmas.{ends-some, working-below, zip-long}
 use Rattle.plan_volumes.proofs.PlaceLemmas.{node-given, node-there, volume-at, work-kept}
-use Rattle.swallow_top.specs.Tellings.{status_of, status_with}
+use Rattle.swallow_top.specs.Tellings.{status_of}
 use Rattle.swallow_top.specs.Written.{Sinking}
 use Rattle.run_rounds.proofs.DealLemmas.{some-within}
 

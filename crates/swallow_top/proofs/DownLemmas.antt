@@ -1,5 +1,5 @@
 -- A node that is down has the life at the end that it had when it went down.
-use Rattle.std.proofs.Common.{◌≡◌, ◌∙◌, ◌++◌, ◌&&◌, Bool, true, false, List, [], ◌∷◌, cond, refl, ap, sym, subst, append_assoc, if◌then◌else◌}
+use Rattle.std.proofs.Common.{◌≡◌, ◌∙◌, ◌++◌, ◌&&◌, Bool, true, false, List, [], ◌∷◌, cond, refl, ap, sym, append_assoc, if◌then◌else◌}
 use Rattle.std.proofs.lemmas.List.{append-nil}
 use Rattle.std.proofs.lemmas.List.Elements.{filter-append}
 use Rattle.pseudo_time.specs.declared.nodes.NodeId.{NodeId}
@@ -9,7 +9,7 @@ use Rattle.message_core.proofs.NodeLemmas.{same_node-refl}
 use Rattle.stream_port.specs.declared.fates.Fate.{Fate}
 use Rattle.world_core.specs.declared.entries.Entry.{Entry}
 use Rattle.world_core.specs.declared.entries.Entry.TheVariants.{Down}
-use Rattle.world_core.specs.Walks.{Base, Life, World, lives_on, names, own, start_world, step, walk, walk_from}
+use Rattle.world_core.specs.Walks.{Base, World, lives_on, names, own, start_world, step, walk, walk_from}
 use Rattle.world_core.specs.Legal.{Meets}
 use Rattle.world_core.proofs.Lives.{same-life, walk-append}
 use Rattle.world_core.proofs.Others.{Silent}

@@ -1,8 +1,7 @@
 -- From how a run ended to what comes of its plan.
-use Rattle.std.proofs.Common.{◌≡◌, ◌⊎◌, inl, inr, ℕ, Bool, true, false, IsTrue, List, length, map, Option, Some, None, refl, ap, sym, subst, ◌∙◌}
+use Rattle.std.proofs.Common.{◌≡◌, ◌⊎◌, inl, inr, ℕ, Bool, true, false, IsTrue, List, length, map, Option, refl, ap, sym, subst, ◌∙◌}
 use Rattle.std.specs.List.{AllZip}
 use Rattle.std.proofs.lemmas.Slice.Zip.{AllZip-long}
-use Rattle.pseudo_time.specs.Lists.{Every}
 use Rattle.stream_port.specs.declared.fates.Asked.{Asked}
 use Rattle.plan_form.specs.declared.plans.Plan.{Plan}
 use Rattle.plan_form.specs.PlanTexts.{IsOfLanguage}
@@ -25,9 +24,9 @@ use Rattle.run_volumes.specs.Shelves.{ShelfSight}
 use Rattle.run_volumes.specs.declared.kept.Kept.{Kept}
 use Rattle.plan_volumes.specs.Volumes.{HadMemory, HasVolumes, NodeVolumes, work_taken}
 use Rattle.swallow_top.specs.declared.reports.Wanted.{Wanted}
-use Rattle.swallow_top.specs.Contract.{CameOf, Completes, HasNoRun, RanOver, RunsPlan, WantedMemory}
-use Rattle.swallow_top.specs.Tellings.{OfRun, TellsEnd, status_of, wanted_text}
-use Rattle.swallow_top.specs.Written.{Sinking, EndsIfAny}
+use Rattle.swallow_top.specs.Contract.{CameOf, Completes, RanOver, RunsPlan, WantedMemory}
+use Rattle.swallow_top.specs.Tellings.{OfRun, TellsEnd, status_of}
+use Rattle.swallow_top.specs.Written.{Sinking}
 use Rattle.swallow_top.proofs.CompleteLemmas.{complete-status, run-complete, unrefused}
 use Rattle.swallow_top.proofs.ShelfLemmas.{all-kept, alone-whole, none-lost}
 

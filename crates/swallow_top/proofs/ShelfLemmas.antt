@@ -1,8 +1,7 @@
 -- Media that are handed back under their names lose nothing.
-use Rattle.std.proofs.Common.{◌≡◌, ◌⊎◌, inl, inr, ℕ, Bool, IsTrue, List, length, [], ◌∷◌, ◌++◌, Option, Some, None, Ok, ap, map, sym, subst, ◌∙◌}
+use Rattle.std.proofs.Common.{◌≡◌, ◌⊎◌, inl, inr, Bool, List, length, [], ◌∷◌, Option, Some, None, ap, map, sym, subst, ◌∙◌}
 use Rattle.std.specs.List.{AllZip}
 use Rattle.pseudo_time.specs.Lists.{Every}
-use Rattle.effect_form.specs.declared.effects.Effect.{Effect}
 use Rattle.medium_port.specs.declared.shelves.MediumName.{MediumName}
 use Rattle.version_store.specs.Storage.{storage}
 use Rattle.plan_form.specs.declared.plans.Plan.{Plan}

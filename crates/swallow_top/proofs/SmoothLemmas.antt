@@ -1,47 +1,41 @@
 -- A smooth run is complete.
-use Rattle.std.proofs.Common.{◌≡◌, ◌⊎◌, ◌+◌, ◌≤◌, ◌∙◌, ◌++◌, ◌&&◌, ◌==◌, ℕ, zero, suc, Bool, true, false, IsTrue, List, [], ◌∷◌, Option, Some, None, is_some, length, reverse, slice_get, cond, inl, inr, refl, ap, sym, subst, arith, if◌then◌else◌, ◌*◌, ◌<◌, Ok, Err, map}
-use Rattle.std.specs.List.{AllZip, count_by, list_any}
+use Rattle.std.proofs.Common.{◌≡◌, ◌⊎◌, ◌+◌, ◌≤◌, ◌∙◌, ◌++◌, ◌&&◌, ◌==◌, ℕ, zero, suc, Bool, true, false, IsTrue, List, [], ◌∷◌, Option, Some, None, is_some, length, reverse, slice_get, cond, inl, inr, refl, ap, sym, subst, arith, if◌then◌else◌}
 use Rattle.std.proofs.lemmas.Bool.{eqb-true}
-use Rattle.std.proofs.lemmas.List.{append-nil, length-append, length-map, length-reverse}
+use Rattle.std.proofs.lemmas.List.{append-nil, length-map}
 use Rattle.std.proofs.lemmas.List.Elements.{filter-append}
 use Rattle.pseudo_time.specs.Lists.{Every, Has}
 use Rattle.pseudo_time.proofs.ListLemmas.{every-has, every-right, every-left, every-map, has-right}
 use Rattle.pseudo_time.specs.declared.nodes.NodeId.{NodeId}
 use Rattle.pseudo_time.specs.declared.down_causes.DownCause.{DownCause}
 use Rattle.pseudo_time.specs.declared.down_causes.DownCause.TheVariants as down
-use Rattle.pseudo_time.specs.Nodes.{broker, same_node}
+use Rattle.pseudo_time.specs.Nodes.{broker}
 use Rattle.message_core.proofs.NodeLemmas.{same_node-refl}
-use Rattle.stream_port.specs.Causes.{Rose, RoseBy, rise_of_fewer}
+use Rattle.stream_port.specs.Causes.{RoseBy, rise_of_fewer}
 use Rattle.effect_form.specs.declared.effects.Effect.{Effect}
 use Rattle.effect_form.specs.declared.outcomes.Outcome.{Outcome}
 use Rattle.effect_form.specs.declared.outcomes.Outcome.TheVariants as ended
-use Rattle.version_store.specs.Filling.{filling, pages_apart}
-use Rattle.version_store.specs.Storage.{storage}
+use Rattle.version_store.specs.Filling.{pages_apart}
 use Rattle.version_store.proofs.FillingLemmas.{filling-apart}
-use Rattle.page_gate.specs.States.{is_blank}
 use Rattle.value_form.proofs.ValueLaws.{ok_is}
 use Rattle.plan_form.specs.declared.plans.Plan.{Plan}
 use Rattle.plan_form.specs.Plans.{InRange}
 use Rattle.plan_form.specs.PlanTexts.{IsOfLanguage}
 use Rattle.broker_core.specs.Book.{Act, Book, Try, book, tries_of}
-use Rattle.broker_core.specs.Fits.{is_none, keep}
+use Rattle.broker_core.specs.Fits.{keep}
 use Rattle.broker_core.specs.Owed.{all_over, done}
 use Rattle.broker_core.specs.Readings.{reading}
-use Rattle.broker_core.specs.Stages.{stage, standing}
 use Rattle.broker_core.specs.declared.heards.Heard.{Heard}
 use Rattle.broker_core.proofs.SoundLemmas.{and-left}
 use Rattle.world_core.specs.declared.entries.Entry.{Entry}
 use Rattle.world_core.specs.declared.entries.Entry.TheVariants.{Take, Crash, Down, Tick}
 use Rattle.world_core.specs.declared.traces.Trace.{Trace}
-use Rattle.world_core.specs.Walks.{Base, Life, all_effects, is_down, names, opened_log, own, sent_by, start_world, walk}
+use Rattle.world_core.specs.Walks.{Base, Life, all_effects, names, own, start_world, walk}
 use Rattle.world_core.specs.Legal.{Meets, base_of, fates_of, in_plan, post_of}
 use Rattle.world_core.specs.Pasts.{WasNotOpened}
 use Rattle.world_core.specs.Readings.{IsLegal, gated_log, life_after}
-use Rattle.report_writer.specs.declared.records.TryOutcome.{TryOutcome}
-use Rattle.trace_report.specs.Acts.{acts_shown, counted_by, shown_end, tasks_of}
+use Rattle.trace_report.specs.Acts.{counted_by, shown_end, tasks_of}
 use Rattle.trace_report.specs.Counts.{down_cause}
 use Rattle.run_rounds.specs.Costs.{cost_of, costs}
-use Rattle.run_rounds.specs.Lives.{IsFullFor}
 use Rattle.run_rounds.proofs.TrailLemmas.{costs-append}
 use Rattle.run_media.specs.Media.{Media, IsBack}
 use Rattle.run_media.specs.Places.{place_of}

@@ -1,4 +1,4 @@
-use Rattle.std.proofs.Common.{rules, ◌≡◌, ◌∙◌, ap, sym, subst, refl, length, map, arith}
+use Rattle.std.proofs.Common.{rules, ◌∙◌, ap, subst, length, map, arith}
 use Rattle.std.specs.List.{AllZip}
 use Rattle.std.proofs.lemmas.List.{length_push}
 use Rattle.run_media.specs.Openings.{medium_in}

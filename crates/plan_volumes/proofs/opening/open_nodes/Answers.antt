@@ -35,7 +35,7 @@ loop-room-preserved-then-is_short g c =
     let fewer = ap length c.in-Some.ensures.items ∙ length_push new c.in-Some.room in
     let more = ap length c.push_reserved.ensures.items ∙ length_push c.loop-room.openings.items c.open_node-opening.result.0 in
     let beside = ap length c.push_reserved-in-Some.ensures.items ∙ length_push c.loop-room.asides.items c.open_node-opening.result.1 in
-    let at = c.node_at-node.ensures.place ∙ ap (node_at c.args.plan.now) (omega (arith, c.len.ensures, c.loop-room.openings.ok)) in
+    let at : c.node_at-node.result ≡ node_at c.args.plan.now (length c.loop-room.openings.items) = c.node_at-node.ensures.place ∙ ap (node_at c.args.plan.now) (omega (arith, c.len.ensures, c.loop-room.openings.ok)) in
     record {
       apart = apart-next g.S.Medium.Medium (shelf_sight g.S.Shelf c.args.shelf.now) (shelf_sight g.S.Shelf c.loop-room.shelf) (shelf_sight g.S.Shelf c.open_node-opening.new.shelf) c.args.plan.now c.loop-room.is_short c.loop-room.is_short
           c.loop-room.openings.items c.push_reserved.new.self.items c.loop-room.asides.items c.push_reserved-in-Some.new.self.items inv.apart c.node_at-node.result c.open_node-opening.result.0 c.open_node-opening.result.1 c.open_node-opening.result.2
@@ -55,7 +55,7 @@ loop-room-preserved g c =
     let fewer = ap length c.in-Some.ensures.items ∙ length_push new c.in-Some.room in
     let more = ap length c.push_reserved.ensures.items ∙ length_push c.loop-room.openings.items c.open_node-opening.result.0 in
     let beside = ap length c.push_reserved-in-Some.ensures.items ∙ length_push c.loop-room.asides.items c.open_node-opening.result.1 in
-    let at = c.node_at-node.ensures.place ∙ ap (node_at c.args.plan.now) (omega (arith, c.len.ensures, c.loop-room.openings.ok)) in
+    let at : c.node_at-node.result ≡ node_at c.args.plan.now (length c.loop-room.openings.items) = c.node_at-node.ensures.place ∙ ap (node_at c.args.plan.now) (omega (arith, c.len.ensures, c.loop-room.openings.ok)) in
     record {
       apart = apart-next g.S.Medium.Medium (shelf_sight g.S.Shelf c.args.shelf.now) (shelf_sight g.S.Shelf c.loop-room.shelf) (shelf_sight g.S.Shelf c.open_node-opening.new.shelf) c.args.plan.now c.loop-room.is_short c.open_node-opening.result.2
           c.loop-room.openings.items c.push_reserved.new.self.items c.loop-room.asides.items c.push_reserved-in-Some.new.self.items inv.apart c.node_at-node.result c.open_node-opening.result.0 c.open_node-opening.result.1 c.open_node-opening.result.2

@@ -1,4 +1,4 @@
-use Rattle.std.proofs.Common.{◌∙◌, ap, sym, arith}
+use Rattle.std.proofs.Common.{◌∙◌, arith}
 use Rattle.plan_volumes.proofs.rooms.make_rooms.Goals as goal
 
 pub overflow_mul-count : goal.overflow_mul-count

@@ -1,8 +1,7 @@
-use Rattle.std.proofs.Common.{◌≡◌, ◌∙◌, ap, sym, subst, length, map, true, arith}
+use Rattle.std.proofs.Common.{◌∙◌, ap, sym, subst, length, map, arith}
 use Rattle.std.specs.List.{AllZip}
 use Rattle.std.proofs.lemmas.List.{length-map}
 use Rattle.run_media.specs.Media.{IsLeftAlone}
-use Rattle.run_media.specs.Openings.{medium_in}
 use Rattle.run_rounds.specs.Finishes.{tellers}
 use Rattle.run_volumes.specs.Kept.{kept_under}
 use Rattle.run_volumes.specs.Shelves.{shelf_sight}
