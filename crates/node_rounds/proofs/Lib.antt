@@ -6,5 +6,6 @@ pub mod RepositoryCrosses
 pub mod RoundLemmas
 pub mod ShareLemmas
 pub mod TickLemmas
+pub mod TurnedLemmas
 pub mod WantedLemmas
 pub mod WentLemmas
