@@ -9,6 +9,8 @@ use Rattle.world_core.specs.declared.entries.Entry.{Entry}
 use Rattle.world_core.specs.declared.traces.Trace.{Trace}
 use Rattle.world_core.specs.Walks.{Life, walk}
 use Rattle.world_core.specs.Legal.{base_of, in_plan}
+use Rattle.world_core.specs.Pasts.{OpenedWith}
+use Rattle.world_facts.specs.Earlier.{WereLeftOrRetired}
 
 -- a node's life where these entries lead
 abbrev pub life_by : (List ℕ → Tree) → Plan → Trace → List Entry → NodeId → Life
@@ -30,3 +32,7 @@ pub record LeftBy (script : List ℕ → Tree) (plan : Plan) (t : Trace) (front 
 
 abbrev pub LeftAt : Plan → Trace → List Entry → (logs after : NodeId → List Effect) → Type 0
 LeftAt plan t front logs after = LeftBy (reading plan.acts) plan t front logs after
+
+-- Where the logs before the run were such as runs and retirements left, so are those that are left at each place of its trace.
+abbrev pub PlacesHavePasts : Plan → Trace → Type 0
+PlacesHavePasts plan t = (front rest : List Entry) (logs after : NodeId → List Effect) → t.entries ≡ front ++ rest → WereLeftOrRetired logs → OpenedWith t.opened logs → LeftAt plan t front logs after → WereLeftOrRetired after

@@ -10,17 +10,15 @@ ghost use Rattle.world_core.specs.declared.traces.Trace.{Trace};
 ghost use Rattle.world_core.specs.Legal.{Legal, in_plan};
 ghost use Rattle.world_core.specs.Pasts.{OpenedWith, alike};
 ghost use Rattle.world_core.specs.Readings.{IsLegal};
-ghost use Rattle.world_facts.specs.Earlier.{ComeFrom, WereLeftOrRetired};
-ghost use Rattle.kill_law.specs.Places.{LeftAt, LeftBy, life_there};
+ghost use Rattle.world_facts.specs.Earlier.{ComeFrom};
+ghost use Rattle.kill_law.specs.Places.{LeftAt, LeftBy, PlacesHavePasts, life_there};
 
 /// At whatever place of a legal run over logs that earlier runs left, and retirements, where each node
 /// has its durable log of that place with a beginning of its open effects, and other nodes have what they
 /// had, the logs are again such as runs and retirements left. Each has all that its node had made durable
 /// there.
 pub fn place_has_past()
-    ensures past { (plan : Plan) (asked : List Asked) (t : Trace) (front rest : List Entry) (logs after : NodeId → List Effect) →
-        IsOfLanguage plan → WereLeftOrRetired logs → OpenedWith t.opened logs → IsLegal plan asked t → t.entries ≡ front ++ rest →
-        LeftAt plan t front logs after → WereLeftOrRetired after }
+    ensures past { (plan : Plan) (asked : List Asked) (t : Trace) → IsOfLanguage plan → IsLegal plan asked t → PlacesHavePasts plan t }
     ensures script { (script : List ℕ → Tree) (plan : Plan) (asked : List Asked) (t : Trace) (front rest : List Entry)
         (logs after : NodeId → List Effect) → ComeFrom (alike script) logs → OpenedWith t.opened logs → Legal script plan asked t →
         t.entries ≡ front ++ rest → LeftBy script plan t front logs after → ComeFrom (alike script) after }

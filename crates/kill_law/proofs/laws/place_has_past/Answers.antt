@@ -4,7 +4,7 @@ use Rattle.kill_law.proofs.PlaceLemmas.{came-there, were-left-there, keeps-there
 use Rattle.kill_law.proofs.laws.place_has_past.Goals as goal
 
 pub returns-clause-past : goal.returns-clause-past
-returns-clause-past c = were-left-there
+returns-clause-past c plan asked t whole legal front rest logs after here past agrees left = were-left-there plan asked t front rest logs after whole past agrees legal here left
 
 pub returns-clause-script : goal.returns-clause-script
 returns-clause-script c script = came-there (alike script)
