@@ -18,7 +18,7 @@ use Rattle.node_turn.specs.Nodes.{NodeParts, IsAtRest}
 use Rattle.run_starts.specs.Limits.{Limits}
 use Rattle.run_starts.specs.Reason.{Reason}
 use Rattle.run_starts.specs.Reason.TheVariants as reason
-use Rattle.run_starts.specs.Nodes.{EachNode, EachPlace, GoesOn, HasAllOf, HasPass, IsUp, Shares}
+use Rattle.run_starts.specs.Nodes.{EachNode, EachPlace, GoesOn, IsKeptThrough, HasAllOf, HasPass, IsUp, Shares}
 use Rattle.run_starts.specs.Reasons.{EndsFor, HasMemory, IsDone, IsDown, IsLateAfter, TicksAreWanted}
 use Rattle.run_media.specs.Media.{Media}
 use Rattle.run_rounds.specs.Closings.{HaveGone, ListEnds, Pass}
@@ -60,6 +60,13 @@ module _ {M : Type 0} (w : Media M) (W : ℕ) (pos : 0 < W) (begun : List (NodeP
     pub nodes-count : length nodes ≡ length begun
     nodes-count = ap length nodes-are ∙ dealt-again.2
 
+    -- what crashes left of each share they left of the nodes
+    kept-listed : EachPlace (IsKeptThrough w.tells w.stages) old new → AllZip (IsKeptThrough w.tells w.stages) begun nodes
+    kept-listed kept =
+        let k = dealt-along W pos (IsKeptThrough w.tells w.stages) begun old new d size kept in
+        let are : nodes ≡ k.0 = whole k.0 (subst (λ (n : ℕ). IsDealt n k.0 new) (sym shares-count) k.1) (AllZip-long (IsKeptThrough w.tells w.stages) begun k.0 k.2) in
+        subst (λ (xs : List (NodeParts M)). AllZip (IsKeptThrough w.tells w.stages) begun xs) (sym are) k.2
+
     module _ {Q A : Type 0} (lock : LockTable WireParts (View WireParts Entry) (Founding WireParts) Q A) (passes : List Pass) (conductor : Pass) (are : passes ≡ map (λ (n : NodeParts M). n.pass) nodes ++ conductor ∷ []) where
       -- all passes are the wire's
       pub all-passes : EachNode (HasPass lock) new → IsWirePass lock conductor → All (IsWirePass lock) passes
@@ -70,15 +77,16 @@ module _ {M : Type 0} (w : Media M) (W : ℕ) (pos : 0 < W) (begun : List (NodeP
 
     module _ (limits : Limits) (why : Reason) (media : List (Option M)) (passes : List Pass) (conductor : Pass) (passes-are : passes ≡ map (λ (n : NodeParts M). n.pass) nodes ++ conductor ∷ []) (media-are : media ≡ map (λ (n : NodeParts M). Some n.medium) nodes) where
       -- the rounds of a run
-      pub have-gone : All (IsAtRest w.tells w.page_count w.reads w.may_leave) nodes → EachNode (HasAllOf (knows conductor).story) new → (knows conductor).owner ≡ 0 → tick_count (knows conductor).own ≤ limits.ticks
+      pub have-gone : EachPlace (IsKeptThrough w.tells w.stages) old new → All (IsAtRest w.tells w.page_count w.reads w.may_leave) nodes → EachNode (HasAllOf (knows conductor).story) new → (knows conductor).owner ≡ 0 → tick_count (knows conductor).own ≤ limits.ticks
           → (IsTrue w.tells → TicksAreWanted (base_at (knows conductor)) (knows conductor).story new)
           → EndsFor w.tells limits why new (knows conductor) → HaveGone w limits begun why media passes
-      have-gone rest each owner ticks wanted ends = record {
+      have-gone kept rest each owner ticks wanted ends = record {
         nodes = nodes;
         conductor = conductor;
         media_are = media-are;
         passes_are = passes-are;
         went = subst (λ (xs : List (NodeParts M)). AllZip (GoesOn w.tells w.faults w.reads) begun xs) (sym nodes-are) as-dealt.2;
+        kept = kept-listed kept;
         rest = rest;
         all = each-listed W pos (HasAllOf (knows conductor).story) nodes new nodes-dealt shares-count each;
         owner = owner;

@@ -7,6 +7,7 @@ pub mod DownTraces
 pub mod EndLemmas
 pub mod FlagLemmas
 pub mod KeptLemmas
+pub mod KillLemmas
 pub mod KnownLemmas
 pub mod ListLemmas
 pub mod LogLemmas

@@ -65,3 +65,10 @@ along-mapped R Q f k i [] [] h = tt
 along-mapped R Q f k i [] (y ∷ ys) h = absurd h
 along-mapped R Q f k i (x ∷ xs) [] h = absurd h
 along-mapped R Q f k i (x ∷ xs) (y ∷ ys) h = (k i x y h.0, along-mapped R Q f k (suc i) xs ys h.1)
+
+-- and back
+pub along-unmapped : {A B C : Type 0} (R : ℕ → A → C → Type 0) (f : B → C) (i : ℕ) (xs : List A) (ys : List B) → Along R i xs (map f ys) → Along (λ k x y. R k x (f y)) i xs ys
+along-unmapped R f i [] [] h = tt
+along-unmapped R f i [] (y ∷ ys) h = absurd h
+along-unmapped R f i (x ∷ xs) [] h = absurd h
+along-unmapped R f i (x ∷ xs) (y ∷ ys) h = (h.0, along-unmapped R f (suc i) xs ys h.1)

@@ -10,6 +10,8 @@ use Rattle.pseudo_time.specs.declared.nodes.NodeKind.{NodeKind}
 use Rattle.pseudo_time.specs.declared.nodes.NodeKind.TheVariants.{Repository, Broker}
 use Rattle.pseudo_time.specs.declared.down_causes.DownCause.{DownCause}
 use Rattle.stream_port.specs.declared.fates.Asked.{Asked}
+use Rattle.medium_port.specs.Image.{Image}
+use Rattle.medium_port.specs.Moment.{LeftNow}
 use Rattle.seat_lock.specs.declared.views.View.{View}
 use Rattle.seat_lock.specs.declared.views.Founding.{Founding}
 use Rattle.seat_lock.specs.declared.locks.LockTable.{LockTable}
@@ -57,6 +59,7 @@ use Rattle.run_rounds.proofs.KnownLemmas.{HaveStood, Known, at-base, same-base}
 use Rattle.run_rounds.proofs.LogLemmas.{all-live, restores, stood-at}
 use Rattle.run_rounds.proofs.CountLemmas.{are-counted, have-causes}
 use Rattle.run_rounds.proofs.KeptLemmas.{all-kept}
+use Rattle.run_rounds.proofs.KillLemmas.{IsUnseenAt, survives}
 use Rattle.run_rounds.proofs.RangeLemmas.{ranges-of, ranges-opened}
 use Rattle.run_rounds.proofs.ToldLemmas.{is-told, nodes-told, ready-told, run as run-of}
 use Rattle.run_starts.proofs.AlongLemmas.{along-length}
@@ -178,7 +181,7 @@ module _ {M Q A : Type 0} (w : Media M) (limits : Limits) (plan : Plan) (lock : 
 module _ {M Q A : Type 0} {g : _} (w : Media M) (limits : Limits) (plan : Plan) (lang : IsOfLanguage plan) (lock : LockTable WireParts (View WireParts Entry) (Founding WireParts) Q A) (asked : List Asked) (answers : Option (List ℕ))
     (first : List (Option M)) (os : List (Opening M g)) (opened : AllZip (HasOpened w) first os) (are-open : All IsOpen os) (count : length os ≡ node_count plan) (ready : AreReady plan 0 os)
     (set : IsSetUp plan os (lock_base lock).origin.asked (lock_base lock).origin.answers (lock_base lock).origin) (begun : List (NodeParts M)) (new : Along (IsNewNode plan) 0 os begun)
-    (unseen : All (λ (b : NodeParts M). (sight b).own ≡ []) begun) where
+    (unseen : All (λ (b : NodeParts M). (sight b).own ≡ []) begun) (fresh : Along (IsUnseenAt plan (lock_base lock)) 0 os begun) (only : (m : M) (c : Image) → IsTrue w.tells → LeftNow (w.stages m) c → w.may_leave m c) where
   first-count : length first ≡ node_count plan
   first-count = sym (AllZip-long (HasOpened w) first os opened) ∙ count
 
@@ -216,6 +219,8 @@ module _ {M Q A : Type 0} {g : _} (w : Media M) (limits : Limits) (plan : Plan) 
         counts = are-counted w plan lock t first gone.nodes stood;
         stops = λ told. have-causes w plan lock t first gone.nodes stood asked lang.repositories.1 told
             (told-as told).legal;
+        kills = λ told. survives w only plan lock t first os opened are-open count begun new fresh (logs-of w plan (lock_base lock).origin (Known w plan lock t) os (lock_base lock).origin.asked (lock_base lock).origin.answers set)
+            gone.nodes gone.kept stood (of-node w limits plan lock t asked answers begun why media passes gone wires close) told;
       }
 
     -- nothing that stood in a log is lost, however the run ends

@@ -11,6 +11,7 @@ use Rattle.pseudo_time.specs.declared.down_causes.DownCause.TheVariants as down
 use Rattle.stream_port.specs.declared.fates.Asked.{Asked}
 use Rattle.stream_port.specs.Causes.{Rose, RoseBy, rose_by_none}
 use Rattle.medium_port.specs.Image.{Image}
+use Rattle.medium_port.specs.Moment.{LeftNow, Goes, goes_nowhere}
 use Rattle.effect_form.specs.declared.effects.Effect.{Effect}
 use Rattle.version_store.specs.Storage.{storage}
 use Rattle.plan_form.specs.declared.plans.Plan.{Plan}
@@ -22,7 +23,7 @@ use Rattle.world_core.specs.declared.entries.Entry.{Entry}
 use Rattle.world_core.specs.declared.entries.Entry.TheVariants.{Down}
 use Rattle.world_core.specs.declared.traces.Opened.{Opened}
 use Rattle.world_core.specs.declared.traces.Trace.{Trace}
-use Rattle.world_core.specs.Walks.{Life, opened_life, opened_log, own}
+use Rattle.world_core.specs.Walks.{Life, opened_life, opened_log, own, walk}
 use Rattle.world_core.specs.Legal.{base_of, in_plan}
 use Rattle.world_core.specs.Pasts.{WasNotOpened}
 use Rattle.world_core.specs.Readings.{life_after, open_effects}
@@ -34,12 +35,15 @@ use Rattle.trace_report.specs.Counts.{down_cause}
 use Rattle.node_turn.specs.Cores.{IsIntact}
 use Rattle.node_turn.specs.Costs.{costs}
 use Rattle.node_turn.specs.Lives.{IsKept}
+use Rattle.node_turn.proofs.LifeLemmas.{kept-none}
 use Rattle.node_turn.proofs.PageLemmas.{whole-same}
+use Rattle.node_turn.proofs.StepLemmas.{passes-between}
 use Rattle.run_starts.specs.Reason.{Reason}
 use Rattle.run_starts.specs.Reason.TheVariants as reason
 use Rattle.run_media.specs.declared.openings.Opening.{Opening}
 use Rattle.run_media.specs.declared.openings.Opening.TheVariants.{Open, Shut, Wanting}
 use Rattle.run_media.specs.Media.{Media}
+use Rattle.node_turn.specs.Windows.{Passes, cuts_of}
 use Rattle.run_media.specs.Openings.{AreReady, HasOpened, IsAsItWas, IsOpen, IsShutFor, log_in, medium_in, opened_from}
 use Rattle.run_media.specs.Places.{node_at, node_count, place_of}
 use Rattle.run_media.proofs.OrderLemmas.{at-place, in-at, log-at, one-place, place-at}
@@ -53,16 +57,14 @@ use Rattle.run_rounds.specs.declared.ends.End.TheVariants as end
 use Rattle.run_rounds.specs.Closings.{Pass, ClosedAs, IfRan}
 use Rattle.run_rounds.specs.Ends.{IsUnopened}
 use Rattle.run_rounds.specs.Finishes.{EndsAs, account_of, tellers}
+use Rattle.run_rounds.specs.Kills.{KeepsThroughout, SurvivesKills}
 use Rattle.run_rounds.specs.Media.{AreCounted, Became, HaveCauses, KeepsLog, RestoresLogs, inner, medium_at}
 use Rattle.run_rounds.specs.Runs.{Ran}
 use Rattle.run_rounds.proofs.BackLemmas.{opened-alone, opened-back, opened-in-range, opened-kept, ready-at}
 use Rattle.run_rounds.proofs.DownTraces.{AreOwn, IsFall, all-downs, all-falls, cause-at, cause-of, fall-of, falls-at, life-still, none-of, own-along}
+use Rattle.run_rounds.proofs.KillLemmas.{inner-some, keeps-places}
 use Rattle.run_rounds.proofs.RangeLemmas.{ranges-of}
 use Rattle.run_rounds.proofs.ToldLemmas.{is-told, nodes-told, ready-told}
-
-inner-some : {M : Type 0} (x : Option (Option M)) (m : M) → inner x ≡ Some m → x ≡ Some (Some m)
-inner-some None m e = absurd cc
-inner-some (Some x) m e = ap (λ y. Some y) e
 
 module _ {M : Type 0} {g : _} (w : Media M) where
   -- ---- what came of opening a medium
@@ -235,6 +237,40 @@ module _ {M : Type 0} {g : _} (w : Media M) where
             go c e (inl m) = inl (e ∙ ap (λ x. Some x) m)
             go c e (inr (page, d)) = inr (page, e ∙ ap (λ x. Some x) d)
 
+    -- ---- kills
+
+    abbrev Only : Type 0
+    Only = (m : M) (c : Image) → IsTrue w.tells → LeftNow (w.stages m) c → w.may_leave m c
+
+    -- a medium that was opened, and then left alone, keeps each place
+    keeps-still : Only → (n : NodeId) (o : Opening M g) (old new : M) → IsOpen o → HasOpened w (Some old) o → medium_in o ≡ Some new → opened_log t.opened n ≡ Some (log_in o) → own n t.entries ≡ [] → IsTrue w.tells → KeepsThroughout w plan t n old new
+    keeps-still only n (Open store effects) old new opens h m log none told = record {
+      course = record { begun = w.stages new; cuts = cuts_of still.marks };
+      opening = subst (λ (x : M). Goes (w.stages old) (w.stages x) (w.may_leave old)) (same_Some _ _ m) (h.same.at_moments told);
+      places = keeps-places plan t n (w.stages new) (w.stages new) still;
+    }
+      where
+        begins : (walk (base_of (reading plan.acts) plan t) []).life n ≡ opened_life t.start effects.items
+        begins = life-still (base_of (reading plan.acts) plan t) n [] tt ∙ ap (λ (x : Option (List Effect)). opened_life t.start (unwrap_or x [])) log
+
+        kept : (c : Image) → LeftNow (w.stages new) c → IsKept ((walk (base_of (reading plan.acts) plan t) []).life n) c
+        kept c now = kept-none ((walk (base_of (reading plan.acts) plan t) []).life n) c effects.items (sym (ap (λ (l : Life). l.gated) begins)) (h.left told c (subst (λ (x : M). w.may_leave x c) (sym (same_Some _ _ m)) (only new c told now)))
+
+        still : Passes (base_of (reading plan.acts) plan t) n [] t.entries (w.stages new) (w.stages new)
+        still = passes-between (base_of (reading plan.acts) plan t) n [] t.entries (w.stages new) (w.stages new) none (goes_nowhere (w.stages new) (IsKept ((walk (base_of (reading plan.acts) plan t) []).life n)) kept)
+    keeps-still only n (Shut medium cause) old new opens h m log none told = absurd opens
+    keeps-still only n (Wanting medium) old new opens h m log none told = absurd opens
+
+    pub kills-kept : Only → IsTrue w.tells → SurvivesKills w first (map medium_in os) plan t
+    kills-kept only told = record {
+      opened = λ n old new here was b.
+          let a = at-node n old new b in
+          let o = opened-at n here was in
+          let same : o.0 ≡ a.0 = same_Some _ _ (sym o.1 ∙ a.1) in
+          keeps-still only n a.0 old new (subst IsOpen same o.3) a.2 a.3 (log-of n a.0 a.1 o.2) (nothing-own n here was) told;
+      unopened = λ n old new here not b. (as-before n old new b).at_moments told;
+    }
+
     -- a node of the plan wasn't opened
     some-unopened : (place : ℕ) (o : Opening M g) → slice_get os place ≡ Some o → (IsOpen o → ⊥) → IsUnopened plan t
     some-unopened place (Open store effects) e shut = absurd (shut tt)
@@ -249,7 +285,7 @@ module _ {M : Type 0} {g : _} (w : Media M) (most_ticks enough : ℕ) (plan : Pl
     (set : IsSetUp plan os wire.origin.asked wire.origin.answers wire.origin) (language : IsOfLanguage plan) (count : length os ≡ node_count plan) (ready : AreReady plan 0 os) (opened : AllZip (HasOpened w) first os)
     (are : passes ≡ front ++ conductor ∷ []) (unseen : knows conductor ≡ fresh wire 0) (why-is : (why ≡ reason.Down) ⊎ (why ≡ reason.Wanting)) (n : ℕ) (size : n ≡ length os)
     (fell : why ≡ reason.Down → Along (λ i o pass. HasFallen wire (node_at plan i) o pass) 0 (take n os) front)
-    (shut : (place : ℕ) × (o : Opening M g) × (slice_get os place ≡ Some o) × (IsOpen o → ⊥)) where
+    (shut : (place : ℕ) × (o : Opening M g) × (slice_get os place ≡ Some o) × (IsOpen o → ⊥)) (only : (m : M) (c : Image) → IsTrue w.tells → LeftNow (w.stages m) c → w.may_leave m c) where
   came-down : why ≢ reason.Wanting → why ≡ reason.Down
   came-down other = go why-is
     where
@@ -288,6 +324,7 @@ module _ {M : Type 0} {g : _} (w : Media M) (most_ticks enough : ℕ) (plan : Pl
           logs = logs-kept w plan first os t opened-as count ready opened falls owned;
           counts = counts-kept w plan first os t opened-as count ready opened falls owned;
           stops = λ told. causes-kept w plan first os t opened-as count ready opened falls owned told;
+          kills = λ told. kills-kept w plan first os t opened-as count ready opened falls owned only told;
         }
 
   -- how a run ends of which a node couldn't be opened

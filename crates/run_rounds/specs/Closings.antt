@@ -22,7 +22,7 @@ use Rattle.node_turn.specs.Nodes.{NodeParts, IsAtRest, sight}
 use Rattle.run_starts.specs.Limits.{Limits}
 use Rattle.run_starts.specs.Reason.{Reason}
 use Rattle.run_starts.specs.Reason.TheVariants as reason
-use Rattle.run_starts.specs.Nodes.{GoesOn, HasAllOf, IsUp}
+use Rattle.run_starts.specs.Nodes.{GoesOn, IsKeptThrough, HasAllOf, IsUp}
 use Rattle.run_starts.specs.Reasons.{HasMemory, IsDone, IsDown, IsLateAfter}
 use Rattle.run_media.specs.Media.{Media}
 use Rattle.run_rounds.specs.declared.ends.End.{End}
@@ -78,6 +78,7 @@ pub record HaveGone {M : Type 0} (w : Media M) (limits : Limits) (begun : List (
   pub media_are : media ≡ map (λ n. Some n.medium) nodes
   pub passes_are : passes ≡ map (λ n. n.pass) nodes ++ conductor ∷ []
   pub went : AllZip (GoesOn w.tells w.faults w.reads) begun nodes
+  pub kept : AllZip (IsKeptThrough w.tells w.stages) begun nodes
   pub rest : All (IsAtRest w.tells w.page_count w.reads w.may_leave) nodes
   pub all : All (HasAllOf (knows conductor).story) nodes
   pub owner : (knows conductor).owner ≡ 0

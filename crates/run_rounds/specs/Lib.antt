@@ -1,4 +1,5 @@
 pub mod Media
+pub mod Kills
 pub mod Ends
 pub mod Runs
 pub mod Finishes

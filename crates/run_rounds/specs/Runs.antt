@@ -19,6 +19,7 @@ use Rattle.trace_logs.specs.Replays.{IsOpened}
 use Rattle.run_rounds.specs.Ends.{HasEnded, IsUnopened}
 use Rattle.run_media.specs.Media.{Media}
 use Rattle.run_media.specs.Openings.{fault_in}
+use Rattle.run_rounds.specs.Kills.{SurvivesKills}
 use Rattle.run_rounds.specs.Media.{Became, LeavesLife, WasHeld, medium_at, RestoresLogs, AreCounted, HaveCauses}
 
 -- a run's trace, and what the fates and the clock had told before and have after it
@@ -51,6 +52,7 @@ pub record Ran {M : Type 0} (w : Media M) (most_ticks enough : ℕ) (plan : Plan
   pub logs : RestoresLogs w media left plan told.trace
   pub counts : AreCounted w media left plan told.trace
   pub stops : IsTrue w.tells → HaveCauses w media left plan told.trace
+  pub kills : IsTrue w.tells → SurvivesKills w media left plan told.trace
 
 -- Memory was wanting in a run of the plan over these media, and its trace is told to no one. There is one: legal for the plan, with each node opened with the log that its medium held, and a crash now
 -- leaves of each medium its node's durable log there, with the first of its open effects.

@@ -45,6 +45,6 @@ returns-clause-gone g c =
     have-gone w (length c.args.shares.items) c.requires.some c.args.nodes.items c.deal-nodes.result.1.items c.go_on-shares.result.0.items c.deal-nodes.ensures.dealt c.deal-nodes.ensures.count c.go_on-shares.ensures.went
     c.collect-nodes.result.items (λ xs d l. c.collect-nodes.ensures.whole xs d (omega (arith, l, c.args.nodes.ok, c.len-count.ensures)))
     c.args.limits c.go_on-shares.result.2 c.take_apart-media.result.0.items c.push_reserved.new.self.items c.go_on-shares.result.1 (c.push_reserved.ensures.items ∙ ap (λ l. l ++ c.go_on-shares.result.1 ∷ []) c.take_apart-media.ensures.passes)
-    c.take_apart-media.ensures.media c.take_apart-media.ensures.rest c.go_on-shares.ensures.all c.go_on-shares.ensures.conductor c.go_on-shares.ensures.ticks
+    c.take_apart-media.ensures.media c.go_on-shares.ensures.kept c.take_apart-media.ensures.rest c.go_on-shares.ensures.all c.go_on-shares.ensures.conductor c.go_on-shares.ensures.ticks
     (λ told. subst (λ (b : Base). TicksAreWanted b (knows c.go_on-shares.result.1).story c.go_on-shares.result.0.items) (ap base_from (pass-origin c.args.wire.now.lock c.go_on-shares.result.1 c.go_on-shares.ensures.passes.1.of_lock)) (c.go_on-shares.ensures.wanted told))
     c.go_on-shares.ensures.reason

@@ -11,6 +11,7 @@ use Rattle.run_rounds.specs.Closings.{Pass}
 use Rattle.run_rounds.specs.Finishes.{EndsAs, tellers}
 use Rattle.run_rounds.proofs.BackLemmas.{opened-alone, opened-back, opened-kept}
 use Rattle.run_rounds.proofs.CloseLemmas.{new-conductor}
+use Rattle.run_rounds.proofs.KillLemmas.{unseen-nodes}
 use Rattle.run_rounds.proofs.ListLemmas.{all-mapped}
 use Rattle.run_rounds.proofs.PlaceLemmas.{pass-count, seats-count}
 use Rattle.run_rounds.proofs.RanLemmas.{ends-as}
@@ -169,5 +170,6 @@ returns g c first opened =
     let nodes = o.result.nodes.items in
     let own = none-own wire wire.origin.opened passes.items c.requires.fresh in
     let unseen = all-mapped (λ (p : Pass). (knows p).own ≡ []) (λ (n : NodeParts g.row.M.Denot). n.pass) nodes (subst (All (λ (p : Pass). (knows p).own ≡ [])) (sym (o.ensures.passes whole)) own) in
+    let fresh = unseen-nodes plan os wire.origin.asked wire.origin.answers wire c.requires.set_up passes.items c.requires.fresh nodes (o.ensures.passes whole) in
     let r = c.run_nodes.result in
-    ends-as w c.args.limits plan c.requires.plan lock (g.F.Fates.asked r.fates) (g.C.Clock.answers r.clock) first os opened (open-of w os c.requires.sound) c.requires.count c.requires.ready c.requires.set_up nodes (o.ensures.new whole) unseen r.media r.end c.run_nodes.ensures
+    ends-as w c.args.limits plan c.requires.plan lock (g.F.Fates.asked r.fates) (g.C.Clock.answers r.clock) first os opened (open-of w os c.requires.sound) c.requires.count c.requires.ready c.requires.set_up nodes (o.ensures.new whole) unseen fresh g.met.M.Medium.only_now r.media r.end c.run_nodes.ensures

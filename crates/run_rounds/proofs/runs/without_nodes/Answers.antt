@@ -42,4 +42,4 @@ returns g c most_ticks enough first opened =
     (ends-unopened w most_ticks enough c.args.plan.now wire first c.args.openings.items c.down_visits-passes.result.0.items c.push_reserved.new.self.items c.args.begun.conductor c.down_visits-passes.result.1 (g.F.Fates.asked c.closed_run.result.fates) (g.C.Clock.answers c.closed_run.result.clock)
     c.requires.set_up c.requires.plan c.requires.count c.requires.ready opened c.push_reserved.ensures.items c.requires.conductor.1 c.down_visits-passes.ensures.reason (vec_len c.args.begun.passes) (omega (arith, n, c.args.begun.passes.ok))
     (λ e. subst (λ os. Along (λ i o pass. HasFallen wire (node_at c.args.plan.now i) o pass) 0 (take (vec_len c.args.begun.passes) os) c.down_visits-passes.result.0.items) c.as_slice.ensures.value (c.down_visits-passes.ensures.fallen e))
-    c.requires.shut c.closed_run.result.end c.closed_run.ensures.closed)
+    c.requires.shut g.met.M.Medium.only_now c.closed_run.result.end c.closed_run.ensures.closed)
