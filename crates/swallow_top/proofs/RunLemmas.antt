@@ -20,6 +20,7 @@ use Rattle.run_rounds.specs.Finishes.{EndsAs, IsKeptWhole, Tellers, account_of}
 use Rattle.serial_law.specs.Serials.{HoldsFinals, IsSerialOver}
 use Rattle.serial_law.specs.Acknowledged.{KeepsAnswers, SpendsRightly}
 use Rattle.serial_law.specs.Reasons.{AddedHaveReasons, HaveReasons}
+use Rattle.kill_law.specs.Places.{PlacesHavePasts}
 use Rattle.swallow_top.specs.declared.media.Kept.{Kept}
 use Rattle.swallow_top.specs.declared.reports.Wanted.{Wanted}
 use Rattle.swallow_top.specs.Contract.{AllKept, CameOf, Completes, HasNoRun, RanOver, RunsPlan, WantedMemory}
@@ -55,7 +56,7 @@ module _ {M : Type 0} (w : Media M) (old new : ShelfSight) (plan : Plan) (o : Op
     (language : IsOfLanguage plan) (serial : (p : Plan) (asked : List Asked) (t : Trace) → IsOfLanguage p → IsLegal p asked t → IsSerialOver p t)
     (finals : (p : Plan) (asked : List Asked) (t : Trace) → IsOfLanguage p → IsLegal p asked t → HoldsFinals p t) (reasons : (p : Plan) (asked : List Asked) (t : Trace) → IsOfLanguage p → IsLegal p asked t → HaveReasons p t)
     (answers : (p : Plan) (asked : List Asked) (t : Trace) → IsOfLanguage p → IsLegal p asked t → KeepsAnswers p t) (spent : (p : Plan) (asked : List Asked) (t : Trace) → IsOfLanguage p → IsLegal p asked t → SpendsRightly p t)
-    (added : (p : Plan) (asked : List Asked) (t : Trace) → AddedHaveReasons p asked t) (full : length media ≡ node_count plan) where
+    (added : (p : Plan) (asked : List Asked) (t : Trace) → AddedHaveReasons p asked t) (pasts : (p : Plan) (asked : List Asked) (t : Trace) → IsOfLanguage p → IsLegal p asked t → PlacesHavePasts p t) (full : length media ≡ node_count plan) where
   ran-over : (t : Trace) → Ran w o.ticks o.messages plan (account_of t told) media left → RanOver {M = M} w old new (kept_from plan 0 left) plan o (account_of t told)
   ran-over t ran = record {
     media = media;
@@ -70,6 +71,7 @@ module _ {M : Type 0} (w : Media M) (old new : ShelfSight) (plan : Plan) (o : Op
     reasons = λ tells. reasons plan told.asked t language (ran.is_told tells).legal;
     spent = λ tells. spent plan told.asked t language (ran.is_told tells).legal;
     added = added plan told.asked t;
+    pasts = λ tells. pasts plan told.asked t language (ran.is_told tells).legal;
   }
 
   -- memory was wanting in a run that isn't told

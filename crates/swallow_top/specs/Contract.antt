@@ -22,6 +22,7 @@ use Rattle.serial_law.specs.Serials.{HoldsFinals, IsSerialOver}
 use Rattle.serial_law.specs.Acknowledged.{KeepsAnswers, SpendsRightly}
 use Rattle.serial_law.specs.Reasons.{AddedHaveReasons, HaveReasons}
 use Rattle.complete_law.specs.Calm.{IsPlain}
+use Rattle.kill_law.specs.Places.{PlacesHavePasts}
 use Rattle.swallow_top.specs.Smooth.{AskAtMost, WentSmoothly, messages_for, pages_for}
 use Rattle.swallow_top.specs.declared.media.Kept.{Kept}
 use Rattle.swallow_top.specs.declared.reports.Wanted.{Wanted}
@@ -64,6 +65,7 @@ module _ {M : Type 0} (w : Media M) (old new : ShelfSight) (kept : List (Kept M)
       pub reasons : IsTrue w.tells → HaveReasons plan told.trace
       pub spent : IsTrue w.tells → SpendsRightly plan told.trace
       pub added : AddedHaveReasons plan told.asked told.trace
+      pub pasts : IsTrue w.tells → PlacesHavePasts plan told.trace
 
     -- A broker's log refuses the plan: the first that could be opened and shows a fault. The media of the plan's nodes were taken, and are handed back as they were.
     pub record IsRefusedByLog (s : Sinking) : Type 0 where

@@ -18,6 +18,7 @@ use crate::shelves::{keep_all, take_all};
 use crate::stops::Stop;
 use crate::streams::write_all;
 use command_words::{Command, Options, read_words};
+use kill_law::place_has_past;
 use medium_port::{Medium, Shelf};
 use plan_form::{Plan, make};
 use run_media::{node_count, open_all};
@@ -138,6 +139,7 @@ where
     law_of_reasons();
     law_of_spent_acts();
     law_of_added_reasons();
+    place_has_past();
     let (status, trace) = tell(alloc, plan, wanted, end, sink);
     Finish {
         status,

@@ -79,7 +79,7 @@ returns-clause-ran g c =
     let k = g.O.Sink in
     let s = sinking (k.taken c.args.sink.now) (k.taken c.tell-status.new.sink) (k.faults c.args.sink.now) (k.faults c.tell-status.new.sink) in
     let are = c.of.ensures ∙ (c.keep_all-media.ensures.kept ∙ ap (kept_from plan 0) c.into_vec.ensures) in
-    runs-plan w old new plan o told media left c.take_all-media.ensures.taken c.requires.plan c.law_of_serial_runs.ensures c.law_of_finals.ensures c.law_of_reasons.ensures c.law_of_answers.ensures c.law_of_spent_acts.ensures c.law_of_added_reasons.ensures (omega (arith, c.take_all-media.result.ok, c.take_all-media.ensures.count, c.node_count-count.ensures))
+    runs-plan w old new plan o told media left c.take_all-media.ensures.taken c.requires.plan c.law_of_serial_runs.ensures c.law_of_finals.ensures c.law_of_reasons.ensures c.law_of_answers.ensures c.law_of_spent_acts.ensures c.law_of_added_reasons.ensures c.place_has_past.ensures.past (omega (arith, c.take_all-media.result.ok, c.take_all-media.ensures.count, c.node_count-count.ensures))
     c.args.wanted c.run-end.result.end c.tell-status.result.0 c.tell-status.result.1 s c.of.result are (c.run-end.ensures media c.open_all-media.ensures.opened) c.tell-status.ensures
 
 pub returns-clause-kept : goal.returns-clause-kept
@@ -96,4 +96,4 @@ returns-clause-kept g c =
     let o = c.args.options in
     let plan = c.args.plan.now in
     let are = c.of.ensures ∙ (c.keep_all-media.ensures.kept ∙ ap (kept_from plan 0) c.into_vec.ensures) in
-    runs-kept w old new plan o told media left c.take_all-media.ensures.taken c.requires.plan c.law_of_serial_runs.ensures c.law_of_finals.ensures c.law_of_reasons.ensures c.law_of_answers.ensures c.law_of_spent_acts.ensures c.law_of_added_reasons.ensures (omega (arith, c.take_all-media.result.ok, c.take_all-media.ensures.count, c.node_count-count.ensures)) c.run-end.result.end c.of.result are (c.run-end.ensures media c.open_all-media.ensures.opened)
+    runs-kept w old new plan o told media left c.take_all-media.ensures.taken c.requires.plan c.law_of_serial_runs.ensures c.law_of_finals.ensures c.law_of_reasons.ensures c.law_of_answers.ensures c.law_of_spent_acts.ensures c.law_of_added_reasons.ensures c.place_has_past.ensures.past (omega (arith, c.take_all-media.result.ok, c.take_all-media.ensures.count, c.node_count-count.ensures)) c.run-end.result.end c.of.result are (c.run-end.ensures media c.open_all-media.ensures.opened)
