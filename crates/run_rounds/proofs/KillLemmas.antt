@@ -144,7 +144,7 @@ module _ {M Q A : Type 0} (w : Media M) (only : (m : M) (c : Image) → IsTrue w
       places = keeps-places plan t (node_at plan i) (w.stages b.medium) (w.stages p.medium) passes-whole;
     }
 
-  keeps-node : (i : ℕ) (old : M) (op : Opening M g) (b p : NodeParts M) → HasOpened w (Some old) op → IsOpen op → IsNewNode plan i op b → IsUnseenAt plan wire i op b → opened_log wire.origin.opened (node_at plan i) ≡ Some (log_in op) → IsKeptThrough w.tells w.stages b p
+  keeps-node : {g : _} (i : ℕ) (old : M) (op : Opening M g) (b p : NodeParts M) → HasOpened w (Some old) op → IsOpen op → IsNewNode plan i op b → IsUnseenAt plan wire i op b → opened_log wire.origin.opened (node_at plan i) ≡ Some (log_in op) → IsKeptThrough w.tells w.stages b p
       → Known w plan lock t p.pass → HasMemory p → base_from wire.origin ≡ base w plan lock t → IsTrue w.tells → KeepsThroughout w plan t (node_at plan i) old p.medium
   keeps-node i old (Open store effects) b p h is new unseen opened kept known memory bases told = keeps-open i old store effects.items b p h new.name (same_Some _ _ new.medium) unseen opened kept known memory bases told
   keeps-node i old (Shut medium cause) b p h is new unseen opened kept known memory bases told = absurd is
@@ -156,7 +156,7 @@ pub inner-some : {M : Type 0} (x : Option (Option M)) (m : M) → inner x ≡ So
 inner-some None m e = absurd cc
 inner-some (Some x) m e = ap (λ y. Some y) e
 
-module _ {M Q A : Type 0} (w : Media M) (only : (m : M) (c : Image) → IsTrue w.tells → LeftNow (w.stages m) c → w.may_leave m c) (plan : Plan) (lock : LockTable WireParts (View WireParts Entry) (Founding WireParts) Q A) (t : Trace)
+module _ {M Q A : Type 0} {g : _} (w : Media M) (only : (m : M) (c : Image) → IsTrue w.tells → LeftNow (w.stages m) c → w.may_leave m c) (plan : Plan) (lock : LockTable WireParts (View WireParts Entry) (Founding WireParts) Q A) (t : Trace)
     (first : List (Option M)) (os : List (Opening M g)) (opened : AllZip (HasOpened w) first os) (are-open : All IsOpen os) (count : length os ≡ node_count plan) (begun : List (NodeParts M)) (new : Along (IsNewNode plan) 0 os begun)
     (unseen : Along (IsUnseenAt plan (lock_base lock)) 0 os begun) (logs : (k : ℕ) (op : Opening M g) → slice_get os k ≡ Some op → opened_log (lock_base lock).origin.opened (node_at plan (0 + k)) ≡ Some (log_in op))
     (nodes : List (NodeParts M)) (kept : AllZip (IsKeptThrough w.tells w.stages) begun nodes) (stood : HaveStood w plan lock t first nodes) (known : All (λ (p : NodeParts M). Known w plan lock t p.pass) nodes) (told : IsTrue w.tells) where
