@@ -102,11 +102,11 @@ unseen-nodes {M} plan os asked answers wire set passes unseen nodes are =
     along-unmapped (IsNewPass plan wire) (λ (n : NodeParts M). n.pass) 0 os nodes
     (subst (Along (IsNewPass plan wire) 0 os) (sym are) (fresh-along plan os asked answers wire set passes unseen (IsNewPass plan wire) (λ i o p there is. is)))
 
-module _ {M Q A : Type 0} {g : _} (w : Media M) (only : (m : M) (c : Image) → IsTrue w.tells → LeftNow (w.stages m) c → w.may_leave m c) (plan : Plan) (lock : LockTable WireParts (View WireParts Entry) (Founding WireParts) Q A) (t : Trace) where
+module _ {M Q A : Type 0} (w : Media M) (only : (m : M) (c : Image) → IsTrue w.tells → LeftNow (w.stages m) c → w.may_leave m c) (plan : Plan) (lock : LockTable WireParts (View WireParts Entry) (Founding WireParts) Q A) (t : Trace) where
   abbrev wire : WireParts
   wire = lock_base lock
 
-  module _ (i : ℕ) (old : M) (store : Store M g) (log : List Effect) (b p : NodeParts M) (h : IsOpened w old store log) (name : b.node ≡ node_at plan i) (same : medium_of store ≡ b.medium) (unseen : sight b ≡ fresh wire (owner_for (node_at plan i)))
+  module _ {g : _} (i : ℕ) (old : M) (store : Store M g) (log : List Effect) (b p : NodeParts M) (h : IsOpened w old store log) (name : b.node ≡ node_at plan i) (same : medium_of store ≡ b.medium) (unseen : sight b ≡ fresh wire (owner_for (node_at plan i)))
       (opened : opened_log wire.origin.opened (node_at plan i) ≡ Some log) (kept : IsKeptThrough w.tells w.stages b p) (known : Known w plan lock t p.pass) (memory : HasMemory p) (bases : base_from wire.origin ≡ base w plan lock t) (told : IsTrue w.tells) where
     life-new : life_at (sight b) b.node ≡ opened_life wire.origin.start log
     unfolding walk_from
@@ -144,7 +144,7 @@ module _ {M Q A : Type 0} {g : _} (w : Media M) (only : (m : M) (c : Image) → 
       places = keeps-places plan t (node_at plan i) (w.stages b.medium) (w.stages p.medium) passes-whole;
     }
 
-  keeps-node : (i : ℕ) (old : M) (op : Opening M g) (b p : NodeParts M) → HasOpened w (Some old) op → IsOpen op → IsNewNode plan i op b → IsUnseenAt plan wire i op b → opened_log wire.origin.opened (node_at plan i) ≡ Some (log_in op) → IsKeptThrough w.tells w.stages b p
+  keeps-node : {g : _} (i : ℕ) (old : M) (op : Opening M g) (b p : NodeParts M) → HasOpened w (Some old) op → IsOpen op → IsNewNode plan i op b → IsUnseenAt plan wire i op b → opened_log wire.origin.opened (node_at plan i) ≡ Some (log_in op) → IsKeptThrough w.tells w.stages b p
       → Known w plan lock t p.pass → HasMemory p → base_from wire.origin ≡ base w plan lock t → IsTrue w.tells → KeepsThroughout w plan t (node_at plan i) old p.medium
   keeps-node i old (Open store effects) b p h is new unseen opened kept known memory bases told = keeps-open i old store effects.items b p h new.name (same_Some _ _ new.medium) unseen opened kept known memory bases told
   keeps-node i old (Shut medium cause) b p h is new unseen opened kept known memory bases told = absurd is

@@ -43,6 +43,7 @@ use Rattle.run_starts.specs.Reason.TheVariants as reason
 use Rattle.run_media.specs.declared.openings.Opening.{Opening}
 use Rattle.run_media.specs.declared.openings.Opening.TheVariants.{Open, Shut, Wanting}
 use Rattle.run_media.specs.Media.{Media}
+use Rattle.node_turn.specs.Windows.{Passes, cuts_of}
 use Rattle.run_media.specs.Openings.{AreReady, HasOpened, IsAsItWas, IsOpen, IsShutFor, log_in, medium_in, opened_from}
 use Rattle.run_media.specs.Places.{node_at, node_count, place_of}
 use Rattle.run_media.proofs.OrderLemmas.{at-place, in-at, log-at, one-place, place-at}
@@ -244,9 +245,9 @@ module _ {M : Type 0} {g : _} (w : Media M) where
     -- a medium that was opened, and then left alone, keeps each place
     keeps-still : Only → (n : NodeId) (o : Opening M g) (old new : M) → IsOpen o → HasOpened w (Some old) o → medium_in o ≡ Some new → opened_log t.opened n ≡ Some (log_in o) → own n t.entries ≡ [] → IsTrue w.tells → KeepsThroughout w plan t n old new
     keeps-still only n (Open store effects) old new opens h m log none told = record {
-      course = record { begun = w.stages new; cuts = [] };
+      course = record { begun = w.stages new; cuts = cuts_of still.marks };
       opening = subst (λ (x : M). Goes (w.stages old) (w.stages x) (w.may_leave old)) (same_Some _ _ m) (h.same.at_moments told);
-      places = keeps-places plan t n (w.stages new) (w.stages new) (passes-between (base_of (reading plan.acts) plan t) n [] t.entries (w.stages new) (w.stages new) none (goes_nowhere (w.stages new) (IsKept ((walk (base_of (reading plan.acts) plan t) []).life n)) kept));
+      places = keeps-places plan t n (w.stages new) (w.stages new) still;
     }
       where
         begins : (walk (base_of (reading plan.acts) plan t) []).life n ≡ opened_life t.start effects.items
@@ -254,6 +255,9 @@ module _ {M : Type 0} {g : _} (w : Media M) where
 
         kept : (c : Image) → LeftNow (w.stages new) c → IsKept ((walk (base_of (reading plan.acts) plan t) []).life n) c
         kept c now = kept-none ((walk (base_of (reading plan.acts) plan t) []).life n) c effects.items (sym (ap (λ (l : Life). l.gated) begins)) (h.left told c (subst (λ (x : M). w.may_leave x c) (sym (same_Some _ _ m)) (only new c told now)))
+
+        still : Passes (base_of (reading plan.acts) plan t) n [] t.entries (w.stages new) (w.stages new)
+        still = passes-between (base_of (reading plan.acts) plan t) n [] t.entries (w.stages new) (w.stages new) none (goes_nowhere (w.stages new) (IsKept ((walk (base_of (reading plan.acts) plan t) []).life n)) kept)
     keeps-still only n (Shut medium cause) old new opens h m log none told = absurd opens
     keeps-still only n (Wanting medium) old new opens h m log none told = absurd opens
 

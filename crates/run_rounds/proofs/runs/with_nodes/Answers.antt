@@ -172,4 +172,4 @@ returns g c first opened =
     let unseen = all-mapped (λ (p : Pass). (knows p).own ≡ []) (λ (n : NodeParts g.row.M.Denot). n.pass) nodes (subst (All (λ (p : Pass). (knows p).own ≡ [])) (sym (o.ensures.passes whole)) own) in
     let fresh = unseen-nodes plan os wire.origin.asked wire.origin.answers wire c.requires.set_up passes.items c.requires.fresh nodes (o.ensures.passes whole) in
     let r = c.run_nodes.result in
-    ends-as w c.args.limits plan c.requires.plan lock (g.F.Fates.asked r.fates) (g.C.Clock.answers r.clock) first os opened (open-of w os c.requires.sound) c.requires.count c.requires.ready c.requires.set_up nodes (o.ensures.new whole) unseen fresh g.met.M.Medium.only_now r.media r.end c.run_nodes.ensures
+    ends-as w c.args.limits plan c.requires.plan lock (g.F.Fates.asked r.fates) (g.C.Clock.answers r.clock) first os opened (open-of w os c.requires.sound) c.requires.count c.requires.ready c.requires.set_up nodes (o.ensures.new whole) unseen fresh (g.met.M.Medium g.world.𝓛 g.world.𝓜 g.world.𝓡 ((λ s x. x), (λ x. x), (λ x. x), (λ x. x))).only_now r.media r.end c.run_nodes.ensures
