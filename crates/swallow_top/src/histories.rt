@@ -68,7 +68,7 @@ pub fn tell_history<O: Sink, S: Shelf>(
 ) -> (u8, Vec<Kept<S::Medium>>)
     ensures { AskedNothing S.Medium.Medium (shelf_sight S.Shelf shelf.old) (shelf_sight S.Shelf shelf.new) result.1.items result.0
         ⊎ TellsHistory S.Medium.Medium (shelf_sight S.Shelf shelf.old) (shelf_sight S.Shelf shelf.new) object result.1.items
-            (sinking (O.taken sink.old) (O.taken sink.new) (O.faults sink.old) (O.faults sink.new)) result.0 }
+        (sinking (O.taken sink.old) (O.taken sink.new) (O.faults sink.old) (O.faults sink.new)) result.0 }
 {
     let Ok(room) = Vec::with_capacity(alloc, 1_000) else {
         return (7, Vec::new(alloc));
@@ -82,5 +82,8 @@ pub fn tell_history<O: Sink, S: Shelf>(
     let node = NodeId::repository(object.repository);
     let openings = open_volumes(alloc, shelf, node, room);
     let status = tell_volumes(alloc, object, openings.as_slice(), sink);
-    (status, keep_volumes(node, give_back(places, openings), kept))
+    (
+        status,
+        keep_volumes(node, give_back(places, openings), kept),
+    )
 }
