@@ -45,12 +45,12 @@ use Rattle.vote_traces.specs.Causes.{IsWanted, IsCaused, HasCause, HaveCauses}
 use Rattle.vote_traces.proofs.WalkLemmas.{walk-append, meets-parts}
 use Rattle.vote_traces.proofs.CauseLemmas.{HallCauses, HaveLines, start-causes, walk-causes, flagged-up, numbered-within}
 use Rattle.vote_traces.proofs.ReplayLemmas.{Follow, walk-follows}
-use Rattle.vote_law.specs.Smooth.{IsPlain, is_crash, is_tick, HoldAll, IsUp, IsFit, WishAlike, HasQuorum, IsCalm, TicksForPolls}
+use Rattle.vote_law.specs.Smooth.{AreVotes, IsPlain, is_crash, is_tick, HoldAll, IsUp, IsFit, WishAlike, HasQuorum, IsCalm, TicksForPolls}
 use Rattle.vote_law.proofs.Letters.{Mark, FreeFrom, is_taken, waiting, between, marks, all-taken, Taken}
 use Rattle.vote_law.proofs.Talks.{Says, Talks, Silent, settled, few-asks, few-answers}
 use Rattle.vote_law.proofs.Halls.{either-way, no, plain-at, asks_of, answers_of, TalksAt, PollFacts, HallFacts, is_quiet, step-facts}
 use Rattle.vote_law.proofs.Ways.{HasLine, IsWay, HallWays, step-ways, counted, few-of-polls, every-place}
-use Rattle.vote_law.proofs.Loads.{Loads, load, few-load, step-loads}
+use Rattle.vote_law.proofs.Loads.{HaveVotes, Loads, load, few-load, step-loads, step-votes}
 
 -- ---- the beginning
 
@@ -103,12 +103,12 @@ AllQuiet es = Every (λ (e : Entry). is_quiet e ≡ true) es
 
 module _ (b : Base) (fates : List Fate) (plain : Every IsPlain fates) where
   abbrev AllFacts : Hall → Type 0
-  AllFacts h = HallFacts b h × HallWays b h × Loads b h
+  AllFacts h = HallFacts b h × HallWays b h × Loads b h × HaveVotes b h
 
   walk-facts : (h : Hall) (es : List Entry) → AllFacts h → Meets b fates h es → AllQuiet es → AllFacts (walk_from b h es)
   unfolding Meets walk_from
   walk-facts h [] f m q = f
-  walk-facts h (e ∷ es) f m q = walk-facts (step b h e) es (step-facts b h f.0 fates plain e m.0 q.0, step-ways b h f.1 fates e m.0 q.0 f.0.last, step-loads b h f.0 f.1 fates plain e m.0 q.0 f.2) m.1 q.1
+  walk-facts h (e ∷ es) f m q = walk-facts (step b h e) es (step-facts b h f.0 fates plain e m.0 q.0, step-ways b h f.1 fates e m.0 q.0 f.0.last, step-loads b h f.0 f.1 fates plain e m.0 q.0 f.2, step-votes b h f.0 fates e m.0 q.0 f.3) m.1 q.1
 
   -- ---- where all is idle
 
@@ -268,8 +268,8 @@ module _ (b : Base) (have : HaveLines b) (nodes : HaveNodes b) (fates : List Fat
   abbrev end : Hall
   end = walk_from b (start_hall b) es
 
-  facts-at-end : HallFacts b end × HallWays b end × Loads b end
-  facts-at-end = walk-facts b fates plain (start_hall b) es (start-facts b nodes, start-ways b have, (λ s blank. subst (λ z. length z ≤ load s [] [] (length b.lines)) (sym (append-nil (log_at b.opened s) ∙ blank)) (omega arith))) meets quiet
+  facts-at-end : HallFacts b end × HallWays b end × Loads b end × HaveVotes b end
+  facts-at-end = walk-facts b fates plain (start_hall b) es (start-facts b nodes, start-ways b have, (λ s blank. subst (λ z. length z ≤ load s [] [] (length b.lines)) (sym (append-nil (log_at b.opened s) ∙ blank)) (omega arith)), (λ s blank. subst AreVotes (sym (append-nil (log_at b.opened s) ∙ blank)) tt)) meets quiet
 
   few-messages : length end.sendings ≤ 12 * length b.lines
   few-messages = few-sent b fates plain end facts-at-end.0 facts-at-end.1
@@ -380,6 +380,9 @@ module _ (lines : List Line) (asked : List Asked) (t : Trace) (front : List Entr
 
   pub short-logs : (s : MemberNumber) → log_at t.opened s ≡ [] → length (all_effects ((walk b front).members s)) ≤ 2 * length lines
   short-logs s blank = short-log b have-lines have-nodes (fates_of t.sent) calm.plain front meets-front all-quiet s blank
+
+  pub votes-alone : (s : MemberNumber) → log_at t.opened s ≡ [] → AreVotes (all_effects ((walk b front).members s))
+  votes-alone s blank = (facts-at-end b have-lines have-nodes (fates_of t.sent) calm.plain front meets-front all-quiet).3 s blank
 
 still-one : (e : Entry) → is_quiet e ≡ true → is_tick e ≡ false
 still-one (Take n number) q = refl

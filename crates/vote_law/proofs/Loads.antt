@@ -4,6 +4,7 @@ use Rattle.std.specs.Prelude.{Option, Some, None, ◌==◌, ◌&&◌, ◌⊎◌,
 use Rattle.std.proofs.lemmas.Bool.{eqb-true, eqb-false}
 use Rattle.std.proofs.lemmas.List.{append-nil, append_assoc, length-append}
 use Rattle.pseudo_time.specs.Lists.{Every}
+use Rattle.pseudo_time.proofs.ListLemmas.{every-append}
 use Rattle.pseudo_time.specs.Nodes.{repository, broker, is_broker, same_node}
 use Rattle.pseudo_time.specs.declared.nodes.NodeId.{NodeId}
 use Rattle.pseudo_time.specs.declared.nodes.NodeKind.{NodeKind}
@@ -29,7 +30,7 @@ use Rattle.world_core.specs.Legal.{MayTake}
 use Rattle.world_core.specs.Walks.{Sending}
 use Rattle.vote_traces.specs.Walks.{Base, Hall, log_at, world_of, member_took, life_of, step}
 use Rattle.vote_traces.specs.Legal.{Rule}
-use Rattle.vote_law.specs.Smooth.{IsPlain}
+use Rattle.vote_law.specs.Smooth.{AreVotes, IsPlain, is_vote_effect}
 use Rattle.vote_law.proofs.Letters.{Mark, marked, sendings_of, between, marks, marks-append, Flips}
 use Rattle.vote_law.proofs.Halls.{no, if-same, HallFacts, is_quiet, untaken, same-marks, these-flip, not-to, it-is, shut-log}
 use Rattle.vote_law.proofs.Ways.{IsWay, HallWays, way-of, asker-of, line-place}
@@ -114,6 +115,58 @@ quiet-one false g h = omega arith
 message-one : (log : List Effect) (moment : ℕ) (from : NodeId) (m : Message) → length (on_message log moment from m).effects ≤ 1
 unfolding on_message
 message-one log moment from m = quiet-one (is_broker from.kind) (row log moment from m) (row-one log moment from m)
+
+-- ---- and these are Begins and Decides alone
+
+row-votes : (log : List Effect) (moment : ℕ) (from : NodeId) (m : Message) → AreVotes (row log moment from m).effects
+row-votes log moment from m = go m
+  where
+    begin-votes : (s : StampParts) (timeout : ℕ) (r : Option RecordState) → AreVotes (begin_by moment from s timeout r).effects
+    begin-votes s timeout None = (refl, tt)
+    begin-votes s timeout (Some (Unknown t)) = tt
+    begin-votes s timeout (Some (Decided d)) = tt
+
+    close-votes : (s : StampParts) (d : Decision) (r : Option RecordState) → AreVotes (close_by from s d r).effects
+    close-votes s d None = tt
+    close-votes s d (Some (Unknown t)) = (refl, tt)
+    close-votes s d (Some (Decided x)) = tt
+
+    go : (x : Message) → AreVotes (row log moment from x).effects
+    go (message.Begin s timeout) = begin-votes s timeout (record_of (book log) s)
+    go (message.Commit s) = close-votes s _ (record_of (book log) s)
+    go (message.Withdraw s) = close-votes s _ (record_of (book log) s)
+    go x = tt
+
+quiet-votes : (t : Bool) (g : Given) → AreVotes g.effects → AreVotes (if t then g else quiet).effects
+quiet-votes true g h = h
+quiet-votes false g h = tt
+
+message-votes : (log : List Effect) (moment : ℕ) (from : NodeId) (m : Message) → AreVotes (on_message log moment from m).effects
+unfolding on_message
+message-votes log moment from m = quiet-votes (is_broker from.kind) (row log moment from m) (row-votes log moment from m)
+
+abbrev pub HaveVotes : Base → Hall → Type 0
+HaveVotes b h = (s : MemberNumber) → log_at b.opened s ≡ [] → AreVotes (all_effects (h.members s))
+
+module _ (b : Base) (h : Hall) (c : HallFacts b h) (fates : List Fate) where
+  took-votes : (m : Member) (o : Option Sending) → AreVotes (all_effects m) → AreVotes (all_effects (member_took m o))
+  took-votes m None v = v
+  took-votes m (Some x) v = subst AreVotes (append_assoc m.gated m.fresh (on_message (all_effects m) m.moment x.post.from x.post.message).effects)
+      (every-append (λ (e : Effect). is_vote_effect e ≡ true) (all_effects m) (on_message (all_effects m) m.moment x.post.from x.post.message).effects v (message-votes (all_effects m) m.moment x.post.from x.post.message))
+
+  votes-either : (t : Bool) (x y : Member) → AreVotes (all_effects x) → AreVotes (all_effects y) → AreVotes (all_effects (if t then x else y))
+  votes-either true x y v u = v
+  votes-either false x y v u = u
+
+  pub step-votes : (e : Entry) → Rule b fates h e → is_quiet e ≡ true → HaveVotes b h → HaveVotes b (step b h e)
+  step-votes (Take node number) r q v s blank = votes-either (same_node node (member s)) (member_took (h.members s) (numbered h.sendings number)) (h.members s) (took-votes (h.members s) (numbered h.sendings number) (v s blank)) (v s blank)
+  step-votes (Go node) r q v s blank = votes-either (same_node node (member s)) (h.members s) (h.members s) (v s blank) (v s blank)
+  step-votes (Learn node stamp committed) r q v s blank = absurd r
+  step-votes (Hear node) r q v s blank = no (sym (ap is_some c.last) ∙ r.some)
+  step-votes (Gate node) r q v s blank = votes-either (same_node node (member s)) (shut (h.members s)) (h.members s) (subst AreVotes (sym (append-nil (all_effects (h.members s)))) (v s blank)) (v s blank)
+  step-votes (Crash node kept) r q v s blank = no q
+  step-votes (Down node cause) r q v s blank = votes-either (same_node node (member s)) (h.members s) (h.members s) (v s blank) (v s blank)
+  step-votes (Tick moment) r q v s blank = no q
 
 -- ---- the whole hall
 

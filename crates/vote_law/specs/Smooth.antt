@@ -1,6 +1,8 @@
 -- When votes must come to a decision without a tick.
 use Rattle.std.specs.Prelude.{◌≡◌, ℕ, ◌⊎◌, ◌≢◌, Bool, true, false, List, [], ◌∷◌, ◌++◌, Some, is_some}
 use Rattle.pseudo_time.specs.Lists.{Every}
+use Rattle.effect_form.specs.declared.effects.Effect.{Effect}
+use Rattle.effect_form.specs.declared.effects.Effect.TheVariants as effect
 use Rattle.stream_port.specs.declared.fates.Fate.{Fate}
 use Rattle.message_core.specs.Tallies.{numbered}
 use Rattle.record_votes.specs.declared.member_numbers.MemberNumber.{MemberNumber}
@@ -23,6 +25,13 @@ is_crash e = elim e [ Crash node kept ↦ true | _ ↦ false ]
 
 abbrev pub is_tick : Entry → Bool
 is_tick e = elim e [ Tick moment ↦ true | _ ↦ false ]
+
+-- a Begin or a Decide
+abbrev pub is_vote_effect : Effect → Bool
+is_vote_effect e = elim e [ effect.Begin s d ↦ true | effect.Decide s d ↦ true | _ ↦ false ]
+
+abbrev pub AreVotes : List Effect → Type 0
+AreVotes log = Every (λ (e : Effect). is_vote_effect e ≡ true) log
 
 -- each poll holds a decision
 abbrev pub HoldAll : List Line → Hall → Type 0
