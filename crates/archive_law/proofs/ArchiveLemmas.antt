@@ -37,6 +37,9 @@ module _ (cs : List Earlier) (past : IsPast cs) where
     pub here-or-gone : (l : List Effect) (o : ObjectId) (x : TimeParts) (v : Value) → Has l (log ∷ old_logs) → Has (effect.Put o x v) l → Has (mark.Put o x v) (marks (reverse log)) ⊎ Gone (marks (reverse log)) o x
     here-or-gone = volumes.here-or-gone its.script (no_base its.script) (log_after cs) (replaced own_reading cs) its.past [] (TickedBy cs []) its.facts r
 
+    pub same-put : (l k : List Effect) (o : ObjectId) (x : TimeParts) (v w : Value) → Has l (log ∷ old_logs) → Has k (log ∷ old_logs) → Has (effect.Put o x v) l → Has (effect.Put o x w) k → v ≡ w
+    same-put = volumes.same-value its.script (no_base its.script) (log_after cs) (replaced own_reading cs) its.past [] (TickedBy cs []) its.facts r
+
     pub known-decided : (s : StampParts) (c : Bool) → known (reverse log) s ≡ Some c → WasDecided cs s c
     known-decided = volumes.known-home its.script (no_base its.script) (log_after cs) (replaced own_reading cs) its.past [] (TickedBy cs []) its.facts r
 

@@ -15,7 +15,7 @@ use Rattle.object_retirement.proofs.ForwardLemmas.{forwarded-has}
 use Rattle.world_core.specs.declared.entries.Entry.{Entry}
 use Rattle.world_core.specs.Legal.{base_of, in_plan}
 use Rattle.world_core.specs.Pasts.{Call, IsCall, OpenedWith, log_left, own_reading}
-use Rattle.world_core.specs.Walks.{Life, opened_log, walk}
+use Rattle.world_core.specs.Walks.{Life, opened_log, walk, walk_from}
 use Rattle.world_core.proofs.Lives.{gated-grows}
 use Rattle.world_facts.specs.Earlier.{AreEarlier, Earlier, replaced}
 use Rattle.world_facts.specs.Earlier.Earlier.{Running, Retiring}

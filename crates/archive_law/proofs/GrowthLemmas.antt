@@ -143,19 +143,16 @@ module _ (c : Call) (cs : List Earlier) (past : IsPast (Running c ∷ cs)) (r : 
       later late is (front, below, e) =
           let base = base-of (facts-of (Running c ∷ cs) past).script r (map reverse (replaced own_reading cs (repository r))) (reverse new) ((facts-of (Running c ∷ cs) past).facts.lineage (repository r)) in
           let whole : reverse new ≡ front ++ f ∷ (below ++ reverse old) = is ∙ ap (λ z. z ++ reverse old) e ∙ append_assoc front (f ∷ below) (reverse old) in
-          by base (grew-at (FitsLog r) base.0 base.2.early front (below ++ reverse old) f base.2.grew (sym base.2.is ∙ whole)) below
+          by base below (grew-at (FitsLog r) base.0 base.2.early front (below ++ reverse old) f base.2.grew (sym base.2.is ∙ whole))
         where
-          by : (base : Base r (map reverse (replaced own_reading cs (repository r))) (reverse new)) → {below : List Effect} → FitsLog r (below ++ reverse old) f ⊎ Has f base.0 → (b : List Effect) → Added o x v
-          by base {below} (inl fits) b = inr (below, fits.1)
-          by base {below} (inr k) b = let s = base.1 f tt k in inl (replaced-of s.0 s.1 s.2)
-            where
-              replaced-of : (log : List Effect) → Has log (map reverse (replaced own_reading cs (repository r))) → Has f log → EverStood cs r f
-              replaced-of log j k = in-replaced (replaced own_reading cs (repository r)) (λ l i m. replaced-stood cs r f l i m) log j k
-                where
-                  in-replaced : (ls : List (List Effect)) → ((l : List Effect) → Has l ls → Has f l → EverStood cs r f) → (log : List Effect) → Has log (map reverse ls) → Has f log → EverStood cs r f
-                  in-replaced [] t log j k = absurd j
-                  in-replaced (l ∷ ls) t log (inl e) k = t l (inl refl) (subst (Has f) (reverse-reverse l) (has-reverse (reverse l) f (subst (Has f) (sym e) k)))
-                  in-replaced (l ∷ ls) t log (inr j) k = in-replaced ls (λ a b. t a (inr b)) log j k
+          in-old : (ls : List (List Effect)) → ((l : List Effect) → Has l ls → Has f l → EverStood cs r f) → (log : List Effect) → Has log (map reverse ls) → Has f log → EverStood cs r f
+          in-old [] t log j k = absurd j
+          in-old (l ∷ ls) t log (inl e) k = t l (inl refl) (subst (Has f) (reverse-reverse l) (has-reverse (reverse l) f (subst (Has f) (sym e) k)))
+          in-old (l ∷ ls) t log (inr j) k = in-old ls (λ z h. t z (inr h)) log j k
+
+          by : (base : Base r (map reverse (replaced own_reading cs (repository r))) (reverse new)) (below : List Effect) → FitsLog r (below ++ reverse old) f ⊎ Has f base.0 → Added o x v
+          by base below (inl fits) = inr (below, fits.1)
+          by base below (inr k) = let s = base.1 f tt k in inl (in-old (replaced own_reading cs (repository r)) (λ l i m. replaced-stood cs r f l i m) s.0 s.1 s.2)
 
       either : Has f (grew-on).0 ⊎ Has f (reverse old) → Added o x v
       either (inl k) = later (grew-on).0 (grew-on).1 (split-at (grew-on).0 f k)

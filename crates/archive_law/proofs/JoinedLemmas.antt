@@ -135,7 +135,7 @@ reverse-plain (f ∷ m) = go (not (is_floor f)) refl ∙ sym (ap plain (reverse-
 
 -- ---- an object and start that was met
 
-start-has : (o : ObjectId) (x : TimeParts) (m : List Mark) → has_start o x m ≡ true → (v : Value) × Has (Put o x v) m
+pub start-has : (o : ObjectId) (x : TimeParts) (m : List Mark) → has_start o x m ≡ true → (v : Value) × Has (Put o x v) m
 unfolding has_start
 start-has o x [] e = absurd (false≢true e)
 start-has o x (Put a y v ∷ m) e = elim (or_cases (same_object a o && same_time y x) (has_start o x m) e) [
@@ -149,7 +149,7 @@ start-has o x (Stretch a y ∷ m) e = let r = start-has o x m e in (r.0, inr r.1
 start-has o x (Settle s c ∷ m) e = let r = start-has o x m e in (r.0, inr r.1)
 start-has o x (Floor z ∷ m) e = let r = start-has o x m e in (r.0, inr r.1)
 
-has-start : (o : ObjectId) (x : TimeParts) (v : Value) (m : List Mark) → Has (Put o x v) m → has_start o x m ≡ true
+pub has-start : (o : ObjectId) (x : TimeParts) (v : Value) (m : List Mark) → Has (Put o x v) m → has_start o x m ≡ true
 unfolding has_start
 has-start o x v [] h = absurd h
 has-start o x v (Put a y w ∷ m) (inl e) = or_left (same_object a o && same_time y x) (has_start o x m) (and-both (same_object a o) (same_time y x) (same_object-of a o (cc e)) (same_time-of y x (cc e)))

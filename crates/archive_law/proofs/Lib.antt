@@ -1,4 +1,5 @@
 pub mod ArchiveLemmas
+pub mod AuditLemmas
 pub mod CallLemmas
 pub mod GrowthLemmas
 pub mod IdleLemmas
@@ -9,3 +10,4 @@ pub mod PastReadings
 pub mod RunLemmas
 pub mod TotalLemmas
 pub mod VolumeLemmas
+pub mod WorkedArchives

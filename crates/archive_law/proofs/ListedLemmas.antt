@@ -24,7 +24,7 @@ use Rattle.commit_watch.specs.declared.moved.Moved.{Moved}
 use Rattle.commit_watch.specs.declared.versions.Version.{Version}
 use Rattle.commit_watch.specs.Folds.{and_then, moved_over, moved_to, version_of}
 use Rattle.commit_watch.specs.Lists.{total_of}
-use Rattle.archive_law.specs.Totals.{Rises}
+use Rattle.archive_law.specs.Audits.{Rises}
 
 -- ---- what is listed
 

@@ -1,5 +1,6 @@
 -- One reading of the scripts of all runs of a past, and the facts of the logs that it left.
-use Rattle.std.proofs.Common.{◌≡◌, ◌⊎◌, inl, inr, ℕ, zero, suc, Bool, true, false, nat_le, ◌&&◌, List, [], ◌∷◌, ◌++◌, reverse, if◌then◌else◌, refl, sym, ◌∙◌, ap, subst, arith}
+use Rattle.std.proofs.Common.{◌≡◌, ◌⊎◌, inl, inr, ℕ, Bool, true, false, nat_le, ◌&&◌, List, [], ◌∷◌, ◌++◌, reverse, if◌then◌else◌, refl, sym, ◌∙◌, ap, subst, arith}
+use Rattle.std.proofs.lemmas.Bool.{leb-true}
 use Rattle.pseudo_time.specs.Nodes.{repository, same_node}
 use Rattle.pseudo_time.specs.declared.nodes.NodeId.{NodeId}
 use Rattle.pseudo_time.specs.declared.nodes.NodeKind.{NodeKind}
@@ -13,10 +14,10 @@ use Rattle.plan_form.specs.PlanTexts.{IsOfLanguage}
 use Rattle.object_retirement.specs.Forward.{MayRetire, forward}
 use Rattle.stream_port.specs.declared.fates.Asked.{Asked}
 use Rattle.world_core.specs.declared.traces.Trace.{Trace}
-use Rattle.world_core.specs.Legal.{Legal, base_of, in_plan, is_within, most_of}
+use Rattle.world_core.specs.Legal.{Legal, Meets, base_of, in_plan, is_within, most_of}
 use Rattle.world_core.specs.Pasts.{alike, own_reading}
 use Rattle.world_core.specs.Readings.{IsLegal}
-use Rattle.world_core.specs.Walks.{Base, sent_by, walk}
+use Rattle.world_core.specs.Walks.{Base, sent_by, walk_from}
 use Rattle.world_facts.specs.Earlier.{AreEarlier, AreOfLanguage, Earlier, TickedBy, WereLeftOrRetired, logs_left, replaced, sent_earlier}
 use Rattle.world_facts.specs.Earlier.Earlier.{Running, Retiring}
 use Rattle.world_facts.specs.NodeRules.{node_facts}
@@ -92,15 +93,19 @@ abbrev pub no_base : (List ℕ → Tree) → Base
 no_base script = base_of script no_plan no_trace
 
 none-within : (i : ℕ) → false ≡ is_within i 0
-none-within zero = refl
-none-within (suc i) = refl
+none-within i = go (nat_le 1 i) (nat_le i 0) refl refl
+  where
+    go : (b c : Bool) → nat_le 1 i ≡ b → nat_le i 0 ≡ c → false ≡ is_within i 0
+    go false c e k = sym (ap (λ z. z && nat_le i 0) e)
+    go true false e k = sym (ap (λ z. z && nat_le i 0) e ∙ k)
+    go true true e k = let low = leb-true 1 i e in let high = leb-true i 0 k in absurd (omega (arith, low, high))
 
 none-in : (kind : NodeKind) (i : ℕ) → false ≡ is_within i (most_of no_plan kind)
 none-in Repository i = none-within i
 none-in Broker i = none-within i
 
 legal-nothing : (script : List ℕ → Tree) → Legal script no_plan [] no_trace
-unfolding walk_from
+unfolding walk_from Meets
 legal-nothing script = record {
   scripted = tt;
   nodes = record { just = λ n. none-in n.kind n.number; once = λ n. omega arith };

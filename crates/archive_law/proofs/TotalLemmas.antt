@@ -17,7 +17,7 @@ use Rattle.object_history.specs.History.{Seen, floor_of, is_committed, is_settle
 use Rattle.object_history.specs.Kept.{is_below, is_past}
 use Rattle.object_history.specs.Settled.{is_blocked, listed, settled_versions}
 use Rattle.object_history.proofs.AnswerLemmas.{committed}
-use Rattle.object_history.proofs.BoolLemmas.{and-both, and-left, and-right, not-false, not-true}
+use Rattle.object_history.proofs.BoolLemmas.{and-both, and-left, and-right, not-false}
 use Rattle.repository_log.specs.Logs.{known}
 use Rattle.commit_watch.specs.declared.faults.WatchFault.{WatchFault}
 use Rattle.commit_watch.specs.declared.moved.Moved.{Moved}
@@ -30,7 +30,8 @@ use Rattle.commit_watch.proofs.TotalLemmas.{total-advanced}
 use Rattle.world_facts.specs.Earlier.{Earlier}
 use Rattle.world_facts.proofs.Growths.{has-map, map-has}
 use Rattle.archive_law.specs.Archives.{EverStood, IsArchive, IsPast, WasDecided, archive, log_after, volumes_left}
-use Rattle.archive_law.specs.Totals.{AreWatches, CountsAll, Event, IsCounted, Rises, archive_then, calls_of, totals_of}
+use Rattle.archive_law.specs.Audits.{Rises}
+use Rattle.archive_law.specs.Totals.{AreWatches, CountsAll, Event, IsCounted, archive_then, calls_of, totals_of}
 use Rattle.archive_law.specs.Totals.Event.{Calling, Watching}
 use Rattle.archive_law.proofs.ArchiveLemmas.{archive-is, known-decided, one-decision}
 use Rattle.archive_law.proofs.GrowthLemmas.{decided-stays, earlier-past, known-stays, none-comes}
@@ -47,6 +48,11 @@ yes-not false h = refl
 settled-some : (u : Option Bool) → is_settled u ≡ true → (d : Bool) × (u ≡ Some d)
 settled-some None h = absurd (false≢true h)
 settled-some (Some d) h = (d, refl)
+
+-- what isn't above a start that nothing undecided is at or below is decided
+settled-below : (b : Bool) (start cursor x : TimeParts) → start ≡ cursor → lt cursor x ≡ false → (not b && not (lt start x)) ≡ false → b ≡ true
+settled-below true start cursor x e low h = refl
+settled-below false start cursor x e low h = absurd (false≢true (sym h ∙ yes-not (lt start x) (ap (λ z. lt z x) e ∙ low)))
 
 -- every version of the object that ever stood at or below the cursor was decided
 abbrev pub Closed : List Earlier → ℕ → ObjectId → TimeParts → Type 0
@@ -127,18 +133,17 @@ module _ {T : Type 0} (first : T) (next : T → Version → Option T) (r : ℕ) 
     -- the version at the cursor isn't above an undecided one, so that none is undecided up to there
     total-closed : (w : Moved T) → IsTotal first next (archive (volumes_left cs r)) o (Some w) → Closed cs r o w.cursor
     total-closed w t x v stood low =
-        let vs : List Version = versions cs past r o w.cursor in
         let folded : moved_over first next o None (versions cs past r o w.cursor) ≡ Ok (Some w) = ap (moved_over first next o None) (sym (folded-is cs past r o w.cursor)) ∙ t in
         let c = cursor-in first next o (versions cs past r o w.cursor) w folded in
         let k = map-has (version_of o) (listed (counted cs past r o w.cursor) o here) c.0 c.1 in
         let s = listed-has (counted cs past r o w.cursor) o here k.0 k.1 in
-        let open : is_blocked here o k.0.start ≡ false = not-yes _ (and-right (is_committed (settle_of here k.0.start.stamp)) _ (and-left _ (not (lt w.cursor k.0.start)) s.1)) in
+        let unblocked : is_blocked here o k.0.start ≡ false = not-yes _ (and-right (is_committed (settle_of here k.0.start.stamp)) _ (and-left _ (not (lt w.cursor k.0.start)) s.1)) in
         let start : k.0.start ≡ w.cursor = ap (λ (z : Version). z.start) k.2 ∙ c.2 in
         let passes : (not (is_settled (settle_of here x.stamp)) && not (lt k.0.start x)) ≡ false =
-        passes-none (λ y. not (is_settled (settle_of here y.stamp)) && not (lt k.0.start y)) o here x v open ((archive-is cs past r).all o x v stood) in
-        let sure : is_settled (settle_of here x.stamp) ≡ true = not-true _ (λ n. true≢false (sym (and-both _ _ (yes-not _ n) (yes-not _ (ap (λ z. lt z x) start ∙ low))) ∙ passes)) in
+        passes-none (λ y. not (is_settled (settle_of here y.stamp)) && not (lt k.0.start y)) o here x v unblocked ((archive-is cs past r).all o x v stood) in
+        let sure : is_settled (settle_of here x.stamp) ≡ true = settled-below (is_settled (settle_of here x.stamp)) k.0.start w.cursor x start low passes in
         let d = settled-some (settle_of here x.stamp) sure in
-        (d.0, sym ((archive-is cs past r).known_so x.stamp) ∙ d.1)
+        (d.0, subst (λ u. u ≡ Some d.0) ((archive-is cs past r).known_so x.stamp) d.1)
 
     total-held : (w : Moved T) → IsTotal first next (archive (volumes_left cs r)) o (Some w) → Held cs o w
     total-held w t =
@@ -202,9 +207,9 @@ module _ {T : Type 0} (first : T) (next : T → Version → Option T) (r : ℕ) 
         earlier : (v : Version) → IsCounted (k ∷ cs) r o w.cursor v → EverStood cs r (effect.Put o v.start v.value) → IsCounted cs r o w.cursor v
         earlier v i s =
             let d = h.closed v.start v.value s i.within in
-            let then : WasDecided cs v.start.stamp d.0 = known-decided cs before r v.start.stamp d.0 d.1 in
-            let sure : d.0 ≡ true = one-decision (k ∷ cs) past v.start.stamp d.0 true (decided-stays k cs past v.start.stamp d.0 then) i.committed in
-            record { its_object = i.its_object; stood = s; committed = subst (WasDecided cs v.start.stamp) sure then; within = i.within }
+            let was : WasDecided cs v.start.stamp d.0 = known-decided cs before r v.start.stamp d.0 d.1 in
+            let sure : d.0 ≡ true = one-decision (k ∷ cs) past v.start.stamp d.0 true (decided-stays k cs past v.start.stamp d.0 was) i.committed in
+            record { its_object = i.its_object; stood = s; committed = subst (WasDecided cs v.start.stamp) sure was; within = i.within }
 
     pub held-or-on : (u : Option (Moved T)) → HeldOr cs o u → HeldOr (k ∷ cs) o u
     held-or-on None h = tt

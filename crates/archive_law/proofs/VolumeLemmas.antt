@@ -110,7 +110,7 @@ module _ (script : List ℕ → Tree) (b : Base) (logs : NodeId → List Effect)
     pub stands-all : (l : List Effect) (o : ObjectId) (x : TimeParts) (v : Value) → Has l (log ∷ old_logs) → Has (effect.Put o x v) l → Has (mark.Put o x v) (all_stood (map marks gone) (marks now))
     stands-all l o x v h k = (all-here o).each x v (some-history (λ m. Has (mark.Put o x v) m) (now ∷ gone) (reverse l) (has-map reverse (log ∷ old_logs) l h) (marked l o x v k))
 
-    same-value : (l k : List Effect) (o : ObjectId) (x : TimeParts) (v w : Value) → Has l (log ∷ old_logs) → Has k (log ∷ old_logs) → Has (effect.Put o x v) l → Has (effect.Put o x w) k → v ≡ w
+    pub same-value : (l k : List Effect) (o : ObjectId) (x : TimeParts) (v w : Value) → Has l (log ∷ old_logs) → Has k (log ∷ old_logs) → Has (effect.Put o x v) l → Has (effect.Put o x w) k → v ≡ w
     same-value l k o x v w h j p q = one-value o (all_stood (map marks gone) (marks now)) x v w (all-here o).distinct (stands-all l o x v h p) (stands-all k o x w j q)
 
     -- a version is one of the repository's, and its step is 1 or more

@@ -1,6 +1,6 @@
 -- What a watch's totals are of: over a past of runs, retirements and watches of one repository by one rule.
 use Rattle.std.specs.Prelude.{◌≡◌, ◌⊎◌, ℕ, true, false, List, [], ◌∷◌, Option, Some, None, Ok}
-use Rattle.pseudo_time.specs.Lists.{Every, Has}
+use Rattle.pseudo_time.specs.Lists.{Has}
 use Rattle.pseudo_time.specs.Order.{lt}
 use Rattle.pseudo_time.specs.TimeParts.{TimeParts}
 use Rattle.value_form.specs.declared.objects.ObjectId.{ObjectId}
@@ -11,13 +11,9 @@ use Rattle.commit_watch.specs.declared.versions.Version.{Version}
 use Rattle.commit_watch.specs.Folds.{advanced, moved_over}
 use Rattle.world_facts.specs.Earlier.{Earlier}
 use Rattle.archive_law.specs.Archives.{EverStood, WasDecided, archive, volumes_left}
+use Rattle.archive_law.specs.Audits.{Rises}
 
 -- ---- what a total is of
-
--- each version starts below those behind it
-abbrev pub Rises : List Version → Type 0
-Rises [] = Unit {0}
-Rises (v ∷ vs) = Every (λ (u : Version). lt v.start u.start ≡ true) vs × Rises vs
 
 -- a committed version of the object that ever stood in a durable log of the repository, at or below the cursor
 pub record IsCounted (cs : List Earlier) (r : ℕ) (o : ObjectId) (cursor : TimeParts) (v : Version) : Type 0 where

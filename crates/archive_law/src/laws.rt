@@ -2,11 +2,16 @@
 ghost use Rattle.std.specs.Prelude.{◌≡◌, ◌≤◌, ℕ, true, map, List, Option, Some, None, Ok};
 ghost use Rattle.pseudo_time.specs.Nodes.{repository};
 ghost use Rattle.pseudo_time.specs.StampParts.{StampParts};
+ghost use Rattle.pseudo_time.specs.TimeParts.{TimeParts};
 ghost use Rattle.pseudo_time.specs.declared.nodes.NodeId.{NodeId};
 ghost use Rattle.value_form.specs.declared.objects.ObjectId.{ObjectId};
+ghost use Rattle.value_form.specs.declared.values.Value.{Value};
 ghost use Rattle.effect_form.specs.declared.effects.Effect.{Effect};
+ghost use Rattle.effect_form.specs.declared.effects.Effect.TheVariants as effect;
 ghost use Rattle.stream_port.specs.declared.fates.Asked.{Asked};
-ghost use Rattle.object_history.specs.Settled.{settled_versions};
+ghost use Rattle.object_history.specs.Settled.{listed, settled_versions};
+ghost use Rattle.repository_log.specs.Logs.{marks};
+ghost use Rattle.archive_store.specs.Joined.{holder_of};
 ghost use Rattle.commit_watch.specs.declared.moved.Moved.{Moved};
 ghost use Rattle.commit_watch.specs.Folds.{advanced, moved_over, version_of};
 ghost use Rattle.plan_form.specs.declared.plans.Plan.{Plan};
@@ -18,7 +23,8 @@ ghost use Rattle.world_core.specs.Pasts.{OpenedWith};
 ghost use Rattle.world_core.specs.Readings.{IsLegal, gated_log};
 ghost use Rattle.world_facts.specs.Earlier.{Earlier, WereLeftOrRetired};
 ghost use Rattle.serial_law.specs.Serials.{whole_in};
-ghost use Rattle.archive_law.specs.Archives.{IsArchive, IsPast, archive, volumes_left, volumes_with};
+ghost use Rattle.archive_law.specs.Archives.{EverStood, IsArchive, IsPast, archive, volumes_left, volumes_with};
+ghost use Rattle.archive_law.specs.Audits.{HoldsLast, ListsAll};
 ghost use Rattle.archive_law.specs.AsOf.{TellsMap, idle_run};
 ghost use Rattle.archive_law.specs.Totals.{AreWatches, CountsAll, Event, archive_then, calls_of, totals_of};
 
@@ -26,8 +32,14 @@ use commit_watch::WatchRule;
 
 /// The joined marks of a repository's complete volumes have every version that ever stood in a durable log of
 /// it, each object and start once, and no other; and how they settle an attempt was decided at its home.
+///
+/// So an audit lists just the versions of the object that ever stood, each once and in rising order, and tells
+/// of each the last volume that has it.
 pub fn law_of_audit()
-    ensures { (cs : List Earlier) (r : ℕ) → IsPast cs → IsArchive cs r (archive (volumes_left cs r)) }
+    ensures archive { (cs : List Earlier) (r : ℕ) → IsPast cs → IsArchive cs r (archive (volumes_left cs r)) }
+    ensures versions { (cs : List Earlier) (r : ℕ) (o : ObjectId) → IsPast cs → ListsAll cs r o (map (version_of o) (listed (λ x. true) o (archive (volumes_left cs r)))) }
+    ensures volumes { (cs : List Earlier) (r : ℕ) (o : ObjectId) (x : TimeParts) (v : Value) → IsPast cs → EverStood cs r (effect.Put o x v) →
+        (place : ℕ) × (holder_of o x (map marks (volumes_left cs r)) ≡ Some place) × HoldsLast (volumes_left cs r) (effect.Put o x v) place }
 {}
 
 /// As of a stamp below which they have no undecided version, they tell of the repository's objects the plain
