@@ -8,7 +8,6 @@ use Rattle.pseudo_time.specs.declared.nodes.NodeId.{NodeId}
 use Rattle.pseudo_time.proofs.ListLemmas.{has-left, has-reverse}
 use Rattle.effect_form.specs.declared.effects.Effect.{Effect}
 use Rattle.effect_form.specs.declared.effects.Effect.TheVariants as effect
-use Rattle.message_core.proofs.NodeLemmas.{same_is, same_node-refl}
 use Rattle.pseudo_time.specs.TimeParts.{TimeParts}
 use Rattle.object_retirement.specs.Forward.{forward, forwarded}
 use Rattle.object_retirement.proofs.ForwardLemmas.{forwarded-has}
@@ -19,8 +18,7 @@ use Rattle.world_core.specs.Walks.{Life, opened_log, walk, walk_from}
 use Rattle.world_core.proofs.Lives.{gated-grows}
 use Rattle.world_facts.specs.Earlier.{AreEarlier, Earlier, replaced}
 use Rattle.world_facts.specs.Earlier.Earlier.{Running, Retiring}
-use Rattle.kill_law.specs.Places.{life_there}
-use Rattle.archive_law.specs.Archives.{EverStood, StoodIn, log_after}
+use Rattle.archive_law.specs.Archives.{EverStood, log_after, log_there}
 
 -- ---- a run adds to a log
 
@@ -33,7 +31,7 @@ found-log logs n (Some log) h e = h log refl
 
 module _ (c : Call) (n : NodeId) where
   abbrev life : List Entry → Life
-  life front = life_there c.plan c.trace front n
+  life front = (walk (base_of (own_reading c.plan) c.plan c.trace) front).life n
 
   -- at each place its log is the beginning of what is left
   pub place-left : (front rest : List Entry) → c.trace.entries ≡ front ++ rest → Grown (life front).gated (log_left own_reading c n)
@@ -100,7 +98,7 @@ stood-stands [] r f are h = absurd h
 stood-stands (Running c ∷ cs) r f are (inl h) = (log_after (Running c ∷ cs) (repository r), inl refl, h)
 stood-stands (Running c ∷ cs) r f are (inr (inl h)) =
     let p = place-left c (repository r) h.1.0 h.1.1 h.1.2 in
-    let there : Has f (log_left own_reading c (repository r)) = grown-has (life_there c.plan c.trace h.1.0 (repository r)).gated (log_left own_reading c (repository r)) f p h.1.3 in
+    let there : Has f (log_left own_reading c (repository r)) = grown-has (log_there c h.1.0 (repository r)) (log_left own_reading c (repository r)) f p h.1.3 in
     (log_after (Running c ∷ cs) (repository r), inl refl, subst (λ b. Has f (if b then log_left own_reading c (repository r) else log_after cs (repository r))) (sym h.0) there)
 stood-stands (Running c ∷ cs) r f are (inr (inr h)) = go (stood-stands cs r f are.0 h)
   where

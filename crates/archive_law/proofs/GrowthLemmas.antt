@@ -35,8 +35,7 @@ use Rattle.world_facts.specs.NodeRules.{node_facts}
 use Rattle.world_facts.specs.Rules.{GrownFrom}
 use Rattle.world_facts.specs.Soft.{Lineage}
 use Rattle.world_facts.proofs.OldChains.{marks-append}
-use Rattle.kill_law.specs.Places.{life_there}
-use Rattle.archive_law.specs.Archives.{EverStood, IsPast, WasDecided, log_after}
+use Rattle.archive_law.specs.Archives.{EverStood, IsPast, WasDecided, log_after, log_there}
 use Rattle.archive_law.proofs.ArchiveLemmas.{here-or-gone}
 use Rattle.archive_law.proofs.CallLemmas.{IsLasting, StandsIn, last-stood, place-left, replaced-stood, retired-old, run-grows, stood-stands}
 use Rattle.archive_law.proofs.PastReadings.{Facts, facts-of}
@@ -178,7 +177,7 @@ module _ (c : Call) (cs : List Earlier) (past : IsPast (Running c ∷ cs)) (r : 
       by (inr (inr k)) = k
       by (inr (inl k)) =
           let p = place-left c (repository r) k.1.0 k.1.1 k.1.2 in
-          let there : Has (effect.Put o x v) (log_left own_reading c (repository r)) = subst (Has (effect.Put o x v)) (sym p.1) (has-front (life_there c.plan c.trace k.1.0 (repository r)).gated p.0 k.1.3) in
+          let there : Has (effect.Put o x v) (log_left own_reading c (repository r)) = subst (Has (effect.Put o x v)) (sym p.1) (has-front (log_there c k.1.0 (repository r)) p.0 k.1.3) in
           here (subst (λ b. Has (effect.Put o x v) (if b then log_left own_reading c (repository r) else old)) (sym k.0) there)
         where
           has-front : (xs ys : List Effect) → Has (effect.Put o x v) xs → Has (effect.Put o x v) (xs ++ ys)

@@ -54,22 +54,22 @@ requests ever = filter (λ (p : Post). is_request p.message) ever
 
 said-request : (ever : List Post) (m : Message) → Said (requests ever) m → is_request m ≡ true
 said-request [] m h = absurd h
-said-request (p ∷ ever) m h = go (is_request p.message) refl h
+said-request (p ∷ ever) m h = go (is_request p.message) refl (λ k. said-request ever m k) h
   where
-    go : (b : Bool) → is_request p.message ≡ b → Said (if b then p ∷ requests ever else requests ever) m → is_request m ≡ true
-    go true e (inl same) = ap is_request (sym same) ∙ e
-    go true e (inr k) = said-request ever m k
-    go false e k = said-request ever m k
+    go : (b : Bool) → is_request p.message ≡ b → (Said (requests ever) m → is_request m ≡ true) → Said (if b then p ∷ requests ever else requests ever) m → is_request m ≡ true
+    go true e rest (inl same) = ap is_request (sym same) ∙ e
+    go true e rest (inr k) = rest k
+    go false e rest k = rest k
 
 request-said : (ever : List Post) (m : Message) → is_request m ≡ true → Said ever m → Said (requests ever) m
 request-said [] m r h = h
-request-said (p ∷ ever) m r h = go (is_request p.message) refl h
+request-said (p ∷ ever) m r h = go (is_request p.message) refl (λ k. request-said ever m r k) h
   where
-    go : (b : Bool) → is_request p.message ≡ b → (p.message ≡ m) ⊎ Said ever m → Said (if b then p ∷ requests ever else requests ever) m
-    go true e (inl same) = inl same
-    go true e (inr k) = inr (request-said ever m r k)
-    go false e (inl same) = absurd (false≢true (sym e ∙ ap is_request same ∙ r))
-    go false e (inr k) = request-said ever m r k
+    go : (b : Bool) → is_request p.message ≡ b → (Said ever m → Said (requests ever) m) → (p.message ≡ m) ⊎ Said ever m → Said (if b then p ∷ requests ever else requests ever) m
+    go true e rest (inl same) = inl same
+    go true e rest (inr k) = inr (rest k)
+    go false e rest (inl same) = absurd (false≢true (sym e ∙ ap is_request same ∙ r))
+    go false e rest (inr k) = rest k
 
 -- ---- the logs, with all versions that ever stood
 

@@ -194,7 +194,7 @@ fresh-all floor met (log ∷ logs) = fresh-firsts floor met log (all_firsts floo
 new-distinct : (floor : Option TimeParts) (met : List Mark) (f : Mark) → is_new floor met f ≡ true → Distinct met → Distinct (f ∷ met)
 new-distinct floor met (Put o x v) h d = (
   starts-from (λ y. y ≢ x) o met (λ y w j same.
-  true≢false (sym (has-start o x w met (subst (λ z. Has (Put o z w) met) same j)) ∙ not-yes (has_start o x met) (and-right (is_under floor x) _ h))),
+      true≢false (sym (has-start o x w met (subst (λ z. Has (Put o z w) met) same j)) ∙ not-yes (has_start o x met) (and-right (is_under floor x) _ h))),
   d,
 )
 new-distinct floor met (Stretch o x) h d = absurd (false≢true h)
@@ -375,10 +375,10 @@ module _ (front : List (List Mark)) (last : List Mark) where
   pub joined-from : (o : ObjectId) (x : TimeParts) (v : Value) → Has (Put o x v) (reverse (joined (front ++ last ∷ []))) → (log : List Mark) × Has log (front ++ last ∷ []) × Has (Put o x v) log
   joined-from o x v h = elim (has-either (plain now) (reverse gone) (Put o x v) (subst (Has (Put o x v)) joined-is h)) [
     | inl k ↦ (
-        last,
-        has-right front (last ∷ []) last (inl refl),
-        subst (Has (Put o x v)) (reverse-reverse last) (has-reverse now (Put o x v) (has-plain now (Put o x v) k)),
-      )
+      last,
+      has-right front (last ∷ []) last (inl refl),
+      subst (Has (Put o x v)) (reverse-reverse last) (has-reverse now (Put o x v) (has-plain now (Put o x v) k)),
+    )
     | inr k ↦
         all-from (floor_of now) now (front ++ last ∷ []) (Put o x v) (subst (Has (Put o x v)) (reverse-reverse gone) (has-reverse (reverse gone) (Put o x v) k))
   ]

@@ -68,9 +68,9 @@ module _ (f : TimeParts → Bool) (o : ObjectId) where
       go false e rest k = deeper (rest k)
       go true e rest k = elim (insert-has q here (listed f o m) k) [
         | inl same ↦ (
-            inl (ap (λ z. Put z x v) (same_object-is a o (and-left (same_object a o) (f x) e)) ∙ ap (λ (z : Seen). Put o z.start z.value) same),
-            subst (λ (z : Seen). f z.start ≡ true) same (and-right (same_object a o) (f x) e),
-          )
+          inl (ap (λ z. Put z x v) (same_object-is a o (and-left (same_object a o) (f x) e)) ∙ ap (λ (z : Seen). Put o z.start z.value) same),
+          subst (λ (z : Seen). f z.start ≡ true) same (and-right (same_object a o) (f x) e),
+        )
         | inr j ↦ deeper (rest j)
       ]
   listed-has (Stretch a x ∷ m) q h = let k = listed-has m q h in (inr k.0, k.1)

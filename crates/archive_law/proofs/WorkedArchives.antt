@@ -11,7 +11,6 @@ use Rattle.value_form.specs.declared.values.Value.{Value}
 use Rattle.value_form.specs.declared.values.Value.TheVariants.{Nothing, Number}
 use Rattle.effect_form.specs.declared.effects.Effect.{Effect}
 use Rattle.effect_form.specs.declared.effects.Effect.TheVariants as effect
-use Rattle.message_core.proofs.NodeLemmas.{same_node-refl}
 use Rattle.object_history.specs.declared.marks.Mark.{Mark}
 use Rattle.object_history.specs.declared.marks.Mark.TheVariants as mark
 use Rattle.object_history.specs.Answers.{some_put}
@@ -79,7 +78,7 @@ module _ (a b : Call) (inside-a : in_plan a.plan (repository 1) ≡ true) (insid
   two-volumes = λ i. reverse (old i) ++ last i ∷ []
     where
       old : replaced own_reading (Running b ∷ (Retiring 1 (first 3) ∷ (Running a ∷ []))) (repository 1) ≡ reverse three ∷ []
-      old = ap (λ t. if t then log_after (Running a ∷ []) (repository 1) ∷ [] else []) (same_node-refl (repository 1)) ∙ ap (λ log. log ∷ []) run-left
+      old = ap (λ log. log ∷ []) run-left
 
       last : log_after (Running b ∷ (Retiring 1 (first 3) ∷ (Running a ∷ []))) (repository 1) ≡ reverse four
       last = ap (λ t. if t then log_left own_reading b (repository 1) else log_after (Retiring 1 (first 3) ∷ (Running a ∷ [])) (repository 1)) inside-b ∙ left-b

@@ -17,11 +17,11 @@ use Rattle.object_history.specs.Views.{Distinct}
 use Rattle.archive_store.specs.Joined.{joined}
 use Rattle.repository_log.specs.Logs.{is_commit, known, marks}
 use Rattle.world_core.specs.declared.entries.Entry.{Entry}
-use Rattle.world_core.specs.Legal.{in_plan}
-use Rattle.world_core.specs.Pasts.{own_reading}
+use Rattle.world_core.specs.Legal.{base_of, in_plan}
+use Rattle.world_core.specs.Pasts.{Call, own_reading}
+use Rattle.world_core.specs.Walks.{walk}
 use Rattle.world_facts.specs.Earlier.{AreEarlier, AreOfLanguage, Earlier, logs_left, replaced}
 use Rattle.world_facts.specs.Earlier.Earlier.{Running, Retiring}
-use Rattle.kill_law.specs.Places.{life_there}
 
 -- ---- calls, and the logs that they left
 
@@ -47,10 +47,13 @@ archive volumes = reverse (joined (map marks volumes))
 
 -- ---- what stood in a repository's durable log
 
+-- a node's durable log at a place of a run, which comes behind these entries
+abbrev pub log_there : Call → List Entry → NodeId → List Effect
+log_there c front n = ((walk (base_of (own_reading c.plan) c.plan c.trace) front).life n).gated
+
 -- at a place of a run that has the repository
 abbrev pub StoodIn : Earlier → ℕ → Effect → Type 0
-StoodIn (Running c) r f = (in_plan c.plan (repository r) ≡ true)
-    × ((front rest : List Entry) × (c.trace.entries ≡ front ++ rest) × Has f (life_there c.plan c.trace front (repository r)).gated)
+StoodIn (Running c) r f = (in_plan c.plan (repository r) ≡ true) × ((front rest : List Entry) × (c.trace.entries ≡ front ++ rest) × Has f (log_there c front (repository r)))
 StoodIn (Retiring q at) r f = ⊥
 
 -- after one of these calls, or at a place of a run among them
