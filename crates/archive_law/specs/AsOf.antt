@@ -1,5 +1,6 @@
 -- The map as of a stamp: what an archive says of it, and the plain map that committed attempts leave.
-use Rattle.std.specs.Prelude.{◌≡◌, ◌==◌, ℕ, List, [], reverse, if◌then◌else◌, None}
+use Rattle.std.specs.Prelude.{◌≡◌, ◌==◌, ℕ, true, List, [], reverse, if◌then◌else◌, None}
+use Rattle.pseudo_time.specs.Nodes.{repository}
 use Rattle.pseudo_time.specs.StampParts.{StampParts}
 use Rattle.pseudo_time.specs.TimeParts.{TimeParts}
 use Rattle.pseudo_time.specs.declared.nodes.NodeId.{NodeId}
@@ -12,11 +13,16 @@ use Rattle.object_history.specs.declared.marks.Mark.{Mark}
 use Rattle.object_history.specs.Views.{value_of}
 use Rattle.archive_store.specs.Latest.{last_below}
 use Rattle.archive_store.specs.Opens.{first_open}
-use Rattle.world_core.specs.Deeds.{RunLogs}
-use Rattle.world_facts.specs.Earlier.{Earlier}
-use Rattle.serial_law.specs.Serials.{olds_in}
+use Rattle.plan_form.specs.declared.plans.Plan.{Plan}
+use Rattle.world_core.specs.declared.traces.Trace.{Trace}
+use Rattle.world_core.specs.Deeds.{RunLogs, before}
+use Rattle.world_core.specs.Legal.{in_plan}
+use Rattle.world_core.specs.Pasts.{OpenedWith}
+use Rattle.world_core.specs.Readings.{gated_log}
+use Rattle.world_facts.specs.Earlier.{Earlier, WereLeftOrRetired}
+use Rattle.serial_law.specs.Serials.{olds_in, whole_in}
 use Rattle.serial_law.specs.Wholes.{whole_run}
-use Rattle.archive_law.specs.Archives.{log_after}
+use Rattle.archive_law.specs.Archives.{archive, log_after, volumes_with}
 
 -- the first pseudotime of a stamp: below it lie those of lesser stamps alone
 abbrev pub first_of : StampParts → TimeParts
@@ -34,3 +40,9 @@ TellsMap r m s map = first_open m (first_of s) ≡ None → (o : ObjectId) → v
 -- past is the writes that it put.
 abbrev pub idle_run : List Earlier → ℕ → RunLogs
 idle_run cs n = whole_run (olds_in cs) (record { repositories = n; logs = λ (m : NodeId). reverse (log_after cs m); tries = [] })
+
+-- And at the end of a run, over logs that earlier calls left, the volumes of each of its repositories tell the map that the scripts of its committed
+-- attempts leave, each carried out alone.
+abbrev pub TellsRun : Plan → Trace → Type 0
+TellsRun plan t = (logs : NodeId → List Effect) (left : WereLeftOrRetired logs) → OpenedWith t.opened logs → (r : ℕ) → in_plan plan (repository r) ≡ true → (s : StampParts) →
+    TellsMap r (archive (volumes_with left.0 r (gated_log plan t (repository r)))) s (before (whole_in left.0 plan t) s)

@@ -1,14 +1,15 @@
 -- What a watch's totals are of: over a past of runs, retirements and watches of one repository by one rule.
-use Rattle.std.specs.Prelude.{◌≡◌, ◌⊎◌, ℕ, true, false, List, [], ◌∷◌, Option, Some, None, Ok}
+use Rattle.std.specs.Prelude.{◌≡◌, ◌⊎◌, ℕ, true, false, List, [], ◌∷◌, map, Option, Some, None, Ok}
 use Rattle.pseudo_time.specs.Lists.{Has}
 use Rattle.pseudo_time.specs.Order.{lt}
 use Rattle.pseudo_time.specs.TimeParts.{TimeParts}
 use Rattle.value_form.specs.declared.objects.ObjectId.{ObjectId}
 use Rattle.effect_form.specs.declared.effects.Effect.TheVariants as effect
 use Rattle.object_history.specs.declared.marks.Mark.{Mark}
+use Rattle.object_history.specs.Settled.{settled_versions}
 use Rattle.commit_watch.specs.declared.moved.Moved.{Moved}
 use Rattle.commit_watch.specs.declared.versions.Version.{Version}
-use Rattle.commit_watch.specs.Folds.{advanced, moved_over}
+use Rattle.commit_watch.specs.Folds.{advanced, moved_over, version_of}
 use Rattle.world_facts.specs.Earlier.{Earlier}
 use Rattle.archive_law.specs.Archives.{EverStood, WasDecided, archive, volumes_left}
 use Rattle.archive_law.specs.Audits.{Rises}
@@ -60,3 +61,12 @@ module _ {T : Type 0} (first : T) (next : T → Version → Option T) (r : ℕ) 
   AreWatches (Calling c ∷ es) = AreWatches es
   AreWatches (Watching new ∷ es) =
       AreWatches es × ((o : ObjectId) → (new o ≡ totals_of es o) ⊎ (advanced first next o (archive_then r es) None (totals_of es o) ≡ Ok (new o)))
+
+  -- each total is of all committed versions that ever stood, up to its cursor
+  abbrev pub CountEach : List (Event T) → Type 0
+  CountEach es = (o : ObjectId) (w : Moved T) → totals_of es o ≡ Some w → CountsAll first next (calls_of es) r o w
+
+  -- what a watch now makes of each is of all settled versions
+  abbrev pub CountSettled : List (Event T) → Type 0
+  CountSettled es = (o : ObjectId) (u : Option (Moved T)) → advanced first next o (archive_then r es) None (totals_of es o) ≡ Ok u →
+      moved_over first next o None (map (version_of o) (settled_versions (archive_then r es) o)) ≡ Ok u
