@@ -1,6 +1,6 @@
 -- An audit lists each version that ever stood, once, and tells the last volume that has it.
-use Rattle.std.proofs.Common.{◌≡◌, ◌⊎◌, ◌+◌, ◌<◌, inl, inr, ℕ, zero, suc, Bool, true, false, List, [], ◌∷◌, ◌++◌, map, reverse, slice_get, if◌then◌else◌, refl, sym, ◌∙◌, ap, subst, Option, Some, None, arith}
-use Rattle.std.proofs.lemmas.Bool.{true≢false, false≢true}
+use Rattle.std.proofs.Common.{◌≡◌, ◌+◌, ◌<◌, inl, inr, ℕ, zero, suc, Bool, true, false, List, [], ◌∷◌, ◌++◌, map, reverse, slice_get, refl, sym, ◌∙◌, ap, subst, Option, Some, None, arith}
+use Rattle.std.proofs.lemmas.Bool.{true≢false}
 use Rattle.pseudo_time.specs.Lists.{Has}
 use Rattle.pseudo_time.specs.Nodes.{repository}
 use Rattle.pseudo_time.specs.TimeParts.{TimeParts}
@@ -17,7 +17,7 @@ use Rattle.commit_watch.specs.declared.versions.Version.{Version}
 use Rattle.commit_watch.specs.Folds.{version_of}
 use Rattle.archive_store.specs.Joined.{has_start, holder_of, later}
 use Rattle.world_core.specs.Pasts.{own_reading}
-use Rattle.world_facts.specs.Earlier.{Earlier, TickedBy, replaced}
+use Rattle.world_facts.specs.Earlier.{Earlier, replaced}
 use Rattle.world_facts.proofs.Growths.{has-map, map-has}
 use Rattle.archive_law.specs.Archives.{EverStood, IsArchive, IsPast, archive, log_after, volumes_left}
 use Rattle.archive_law.specs.Audits.{HoldsLast, ListsAll}

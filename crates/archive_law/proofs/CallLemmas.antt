@@ -1,7 +1,7 @@
 -- What a call leaves of a repository's log: a run adds to it, and a retirement puts nothing into it.
-use Rattle.std.proofs.Common.{◌≡◌, ◌⊎◌, inl, inr, ℕ, Bool, true, false, List, [], ◌∷◌, ◌++◌, take, reverse, if◌then◌else◌, refl, sym, ◌∙◌, ap, subst, Option, Some, None, is_some, append_assoc}
+use Rattle.std.proofs.Common.{◌≡◌, inl, inr, ℕ, Bool, true, false, List, [], ◌∷◌, ◌++◌, take, reverse, if◌then◌else◌, refl, sym, ◌∙◌, ap, subst, Option, Some, None, is_some, append_assoc}
 use Rattle.std.specs.Option.{unwrap_or}
-use Rattle.std.proofs.lemmas.List.{reverse-append, reverse-reverse}
+use Rattle.std.proofs.lemmas.List.{reverse-reverse}
 use Rattle.pseudo_time.specs.Lists.{Has}
 use Rattle.pseudo_time.specs.Nodes.{repository, same_node}
 use Rattle.pseudo_time.specs.declared.nodes.NodeId.{NodeId}
@@ -13,7 +13,7 @@ use Rattle.object_retirement.specs.Forward.{forward, forwarded}
 use Rattle.object_retirement.proofs.ForwardLemmas.{forwarded-has}
 use Rattle.world_core.specs.declared.entries.Entry.{Entry}
 use Rattle.world_core.specs.Legal.{base_of, in_plan}
-use Rattle.world_core.specs.Pasts.{Call, IsCall, OpenedWith, log_left, own_reading}
+use Rattle.world_core.specs.Pasts.{Call, IsCall, log_left, own_reading}
 use Rattle.world_core.specs.Walks.{Life, opened_log, walk, walk_from}
 use Rattle.world_core.proofs.Lives.{gated-grows}
 use Rattle.world_facts.specs.Earlier.{AreEarlier, Earlier, replaced}

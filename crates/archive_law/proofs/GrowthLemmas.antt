@@ -1,5 +1,5 @@
 -- What a call adds to a repository's log lies above what is committed there, and what was decided stays so.
-use Rattle.std.proofs.Common.{◌≡◌, ◌⊎◌, inl, inr, ℕ, Bool, true, false, List, [], ◌∷◌, ◌++◌, map, reverse, if◌then◌else◌, refl, sym, ◌∙◌, ap, subst, Option, Some, None, append_assoc}
+use Rattle.std.proofs.Common.{◌≡◌, ◌⊎◌, inl, inr, ℕ, Bool, true, false, List, [], ◌∷◌, ◌++◌, map, reverse, if◌then◌else◌, refl, sym, ◌∙◌, ap, subst, Option, Some, append_assoc}
 use Rattle.std.proofs.lemmas.Bool.{true≢false}
 use Rattle.std.proofs.lemmas.List.{reverse-append, reverse-reverse}
 use Rattle.pseudo_time.specs.Lists.{Has}
@@ -7,9 +7,8 @@ use Rattle.pseudo_time.specs.Nodes.{repository, same_node}
 use Rattle.pseudo_time.specs.Order.{lt}
 use Rattle.pseudo_time.specs.StampParts.{StampParts}
 use Rattle.pseudo_time.specs.TimeParts.{TimeParts}
-use Rattle.pseudo_time.specs.declared.decisions.Decision.{Decision}
 use Rattle.pseudo_time.proofs.ListLemmas.{has-either, has-left, has-reverse, has-right}
-use Rattle.pseudo_time.proofs.OrderLemmas.{lt-fall, lt-irreflexive, lt-split, lt-trans}
+use Rattle.pseudo_time.proofs.OrderLemmas.{lt-irreflexive, lt-split}
 use Rattle.value_form.specs.declared.objects.ObjectId.{ObjectId}
 use Rattle.value_form.specs.declared.values.Value.{Value}
 use Rattle.effect_form.specs.declared.effects.Effect.{Effect}
@@ -18,7 +17,7 @@ use Rattle.message_form.specs.Growth.{Grew}
 use Rattle.object_history.specs.declared.marks.Mark.{Mark}
 use Rattle.object_history.specs.declared.marks.Mark.TheVariants as mark
 use Rattle.object_history.specs.History.{alive, floor_of, is_alive, settle_of, top}
-use Rattle.object_history.specs.Views.{Fits, Starts}
+use Rattle.object_history.specs.Views.{Fits}
 use Rattle.object_history.proofs.ScanLemmas.{puts-below, settled-kept}
 use Rattle.object_retirement.specs.Forward.{forward, forwarded}
 use Rattle.object_retirement.specs.Older.{Gone}
@@ -37,8 +36,8 @@ use Rattle.world_facts.specs.Soft.{Lineage}
 use Rattle.world_facts.proofs.OldChains.{marks-append}
 use Rattle.archive_law.specs.Archives.{EverStood, IsPast, WasDecided, log_after, log_there}
 use Rattle.archive_law.proofs.ArchiveLemmas.{here-or-gone}
-use Rattle.archive_law.proofs.CallLemmas.{IsLasting, StandsIn, last-stood, place-left, replaced-stood, retired-old, run-grows, stood-stands}
-use Rattle.archive_law.proofs.PastReadings.{Facts, facts-of}
+use Rattle.archive_law.proofs.CallLemmas.{IsLasting, last-stood, place-left, replaced-stood, retired-old, run-grows, stood-stands}
+use Rattle.archive_law.proofs.PastReadings.{facts-of}
 
 -- ---- marks that grow
 

@@ -4,18 +4,14 @@ use Rattle.std.proofs.lemmas.Bool.{false≢true, le-leb}
 use Rattle.pseudo_time.specs.Lists.{Has}
 use Rattle.pseudo_time.specs.Nodes.{repository}
 use Rattle.pseudo_time.specs.StampParts.{StampParts}
-use Rattle.pseudo_time.specs.TimeParts.{TimeParts}
 use Rattle.pseudo_time.specs.declared.decisions.Decision.{Decision}
 use Rattle.pseudo_time.specs.declared.decisions.Decision.TheVariants as decision
 use Rattle.pseudo_time.specs.declared.nodes.NodeId.{NodeId}
-use Rattle.value_form.specs.declared.objects.ObjectId.{ObjectId}
-use Rattle.value_form.specs.declared.values.Value.{Value}
 use Rattle.effect_form.specs.declared.effects.Effect.{Effect}
 use Rattle.effect_form.specs.declared.effects.Effect.TheVariants as effect
 use Rattle.message_form.specs.declared.messages.Message.{Message}
 use Rattle.message_form.specs.declared.messages.Message.TheVariants as message
 use Rattle.message_form.specs.Posts.{Post}
-use Rattle.object_history.specs.declared.marks.Mark.{Mark}
 use Rattle.object_history.specs.declared.marks.Mark.TheVariants as mark
 use Rattle.object_history.specs.History.{settle_of}
 use Rattle.object_history.specs.Views.{Distinct}
@@ -33,7 +29,7 @@ use Rattle.world_facts.proofs.Growths.{each-has, map-has}
 use Rattle.serial_law.specs.Facts.{RunFacts, Said}
 use Rattle.serial_law.specs.Wholes.{whole_log, whole_run}
 use Rattle.serial_law.proofs.RunFacts.{said-of}
-use Rattle.serial_law.proofs.WholeFacts.{put-asked, put-whole}
+use Rattle.serial_law.proofs.WholeFacts.{put-asked}
 use Rattle.serial_law.proofs.WholeLemmas.{marks-whole, other-whole, put-once, settle-whole, whole-has}
 use Rattle.archive_law.specs.Archives.{IsPast, archive, log_after, volumes_left}
 use Rattle.archive_law.specs.AsOf.{TellsMap, idle_run}

@@ -1,9 +1,8 @@
 -- The archive tells the plain map before a stamp, where the facts hold that keep a run serial.
-use Rattle.std.proofs.Common.{◌≡◌, ◌==◌, ◌≤◌, inl, inr, ℕ, nat_lt, Bool, true, false, List, [], ◌∷◌, map, reverse, if◌then◌else◌, refl, sym, ◌∙◌, ap, subst, Option, Some, None, ◌&&◌, not, arith}
+use Rattle.std.proofs.Common.{◌≡◌, ◌==◌, ◌≤◌, ℕ, nat_lt, Bool, true, false, List, if◌then◌else◌, refl, sym, ◌∙◌, ap, subst, Option, Some, None, ◌&&◌, not, arith}
 use Rattle.std.proofs.lemmas.Bool.{true≢false, false≢true}
 use Rattle.std.proofs.lemmas.Bool.Decides.{nat_tests}
 use Rattle.pseudo_time.specs.Lists.{Has}
-use Rattle.pseudo_time.specs.Nodes.{repository}
 use Rattle.pseudo_time.specs.Order.{lt, stamp_lt}
 use Rattle.pseudo_time.specs.StampParts.{StampParts}
 use Rattle.pseudo_time.specs.TimeParts.{TimeParts}
@@ -11,13 +10,12 @@ use Rattle.pseudo_time.proofs.OrderLemmas.{lt-own, lt-stamps, lt-steps}
 use Rattle.value_form.specs.declared.objects.ObjectId.{ObjectId}
 use Rattle.value_form.specs.declared.values.Value.{Value}
 use Rattle.value_form.specs.declared.values.Value.TheVariants.{Nothing}
-use Rattle.value_form.specs.Objects.{Objects, value_at}
+use Rattle.value_form.specs.Objects.{value_at}
 use Rattle.message_form.specs.Posts.{Post}
 use Rattle.object_history.specs.declared.marks.Mark.{Mark}
 use Rattle.object_history.specs.declared.marks.Mark.TheVariants as mark
 use Rattle.object_history.specs.History.{Seen, is_committed, is_settled, scan, settle_of}
-use Rattle.object_history.specs.Views.{Distinct, value_of}
-use Rattle.object_history.proofs.BoolLemmas.{and-left, and-right, not-false}
+use Rattle.object_history.specs.Views.{value_of}
 use Rattle.object_history.proofs.ObjectLemmas.{eq-from}
 use Rattle.object_history.proofs.ScanLemmas.{Standing, same-scan, standing, stands-has}
 use Rattle.object_retirement.specs.Retired.{Same}
@@ -28,7 +26,6 @@ use Rattle.archive_store.specs.Opens.{first_open}
 use Rattle.archive_store.proofs.ArchiveLemmas.{closed-by}
 use Rattle.world_core.specs.Deeds.{RunLogs, before, committed, in_run, log_of, marks_at}
 use Rattle.serial_law.specs.Facts.{RunFacts}
-use Rattle.serial_law.specs.Serial.{HoldsBefore}
 use Rattle.serial_law.proofs.Before.{before-holds}
 use Rattle.serial_law.proofs.LogLemmas.{marks-in}
 use Rattle.serial_law.proofs.Settled.{sure-no, sure-yes}

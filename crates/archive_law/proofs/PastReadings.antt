@@ -1,12 +1,11 @@
 -- One reading of the scripts of all runs of a past, and the facts of the logs that it left.
-use Rattle.std.proofs.Common.{◌≡◌, ◌⊎◌, inl, inr, ℕ, Bool, true, false, nat_le, ◌&&◌, List, [], ◌∷◌, ◌++◌, reverse, if◌then◌else◌, refl, sym, ◌∙◌, ap, subst, arith}
+use Rattle.std.proofs.Common.{◌≡◌, ◌⊎◌, inl, inr, ℕ, Bool, true, false, nat_le, ◌&&◌, List, [], ◌∷◌, reverse, if◌then◌else◌, refl, sym, ◌∙◌, ap, subst, arith}
 use Rattle.std.proofs.lemmas.Bool.{leb-true}
 use Rattle.pseudo_time.specs.Nodes.{repository, same_node}
 use Rattle.pseudo_time.specs.declared.nodes.NodeId.{NodeId}
 use Rattle.pseudo_time.specs.declared.nodes.NodeKind.{NodeKind}
 use Rattle.pseudo_time.specs.declared.nodes.NodeKind.TheVariants.{Repository, Broker}
 use Rattle.value_form.specs.declared.endings.Ending.TheVariants as ending
-use Rattle.effect_form.specs.declared.effects.Effect.{Effect}
 use Rattle.message_form.specs.Posts.{Post}
 use Rattle.serial_model.specs.Questions.{Tree, Ends}
 use Rattle.plan_form.specs.declared.plans.Plan.{Plan}
@@ -14,10 +13,10 @@ use Rattle.plan_form.specs.PlanTexts.{IsOfLanguage}
 use Rattle.object_retirement.specs.Forward.{MayRetire, forward}
 use Rattle.stream_port.specs.declared.fates.Asked.{Asked}
 use Rattle.world_core.specs.declared.traces.Trace.{Trace}
-use Rattle.world_core.specs.Legal.{Legal, Meets, base_of, in_plan, is_within, most_of}
+use Rattle.world_core.specs.Legal.{Legal, Meets, base_of, is_within, most_of}
 use Rattle.world_core.specs.Pasts.{alike, own_reading}
 use Rattle.world_core.specs.Readings.{IsLegal}
-use Rattle.world_core.specs.Walks.{Base, sent_by, walk_from}
+use Rattle.world_core.specs.Walks.{Base, walk_from}
 use Rattle.world_facts.specs.Earlier.{AreEarlier, AreOfLanguage, Earlier, TickedBy, WereLeftOrRetired, logs_left, replaced, sent_earlier}
 use Rattle.world_facts.specs.Earlier.Earlier.{Running, Retiring}
 use Rattle.world_facts.specs.NodeRules.{node_facts}

@@ -1,17 +1,15 @@
 -- The archive at the end of a run tells the map that the run's committed scripts leave, each carried out alone.
-use Rattle.std.proofs.Common.{◌≡◌, ℕ, nat_le, Bool, true, ◌&&◌, List, [], ◌∷◌, ◌++◌, map, reverse, refl, sym, ◌∙◌, ap, subst}
+use Rattle.std.proofs.Common.{◌≡◌, ℕ, nat_le, true, ◌&&◌, List, [], ◌∷◌, ◌++◌, map, reverse, refl, sym, ◌∙◌, ap, subst}
 use Rattle.std.proofs.lemmas.List.{reverse-reverse}
 use Rattle.pseudo_time.specs.Nodes.{repository}
 use Rattle.pseudo_time.specs.StampParts.{StampParts}
 use Rattle.pseudo_time.specs.declared.nodes.NodeId.{NodeId}
 use Rattle.effect_form.specs.declared.effects.Effect.{Effect}
-use Rattle.message_form.specs.Posts.{Post}
-use Rattle.object_history.specs.declared.marks.Mark.{Mark}
 use Rattle.stream_port.specs.declared.fates.Asked.{Asked}
 use Rattle.plan_form.specs.declared.plans.Plan.{Plan}
 use Rattle.plan_form.specs.PlanTexts.{IsOfLanguage}
 use Rattle.world_core.specs.declared.traces.Trace.{Trace}
-use Rattle.world_core.specs.Deeds.{RunLogs, Try, before}
+use Rattle.world_core.specs.Deeds.{Try, before}
 use Rattle.world_core.specs.Legal.{base_of, in_plan}
 use Rattle.world_core.specs.Pasts.{OpenedWith, alike, own_reading}
 use Rattle.world_core.specs.Readings.{IsLegal, gated_log}
@@ -19,7 +17,7 @@ use Rattle.world_core.specs.Walks.{sent_by}
 use Rattle.world_facts.specs.Earlier.{WereLeftOrRetired, replaced, sent_earlier}
 use Rattle.world_facts.specs.Refines.{logs_at}
 use Rattle.serial_law.specs.Runs.{Position, TickedBefore, log_at, olds_at, run_at, sent_before, whole_at, world_at}
-use Rattle.serial_law.specs.Serials.{olds_in, run_in, whole_in}
+use Rattle.serial_law.specs.Serials.{run_in, whole_in}
 use Rattle.serial_law.specs.Wholes.{whole_log}
 use Rattle.serial_law.proofs.SameRuns.{before-same}
 use Rattle.serial_law.proofs.SerialRuns.{Placed, placed}

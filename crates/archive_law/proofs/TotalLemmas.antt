@@ -1,9 +1,9 @@
 -- Each total that a watch left is of all committed versions that ever stood up to its cursor, whatever calls come after it.
-use Rattle.std.proofs.Common.{◌≡◌, ◌⊎◌, inl, inr, ℕ, Bool, true, false, List, [], ◌∷◌, ◌++◌, map, filter, reverse, refl, sym, ◌∙◌, ap, subst, Option, Some, None, ◌&&◌, not, if◌then◌else◌}
+use Rattle.std.proofs.Common.{◌≡◌, ◌⊎◌, inl, inr, ℕ, Bool, true, false, List, [], ◌∷◌, map, filter, reverse, refl, sym, ◌∙◌, ap, subst, Option, Some, None, ◌&&◌, not, if◌then◌else◌}
 use Rattle.std.specs.Prelude.{Result, Ok, Err}
 use Rattle.std.proofs.lemmas.Bool.{true≢false, false≢true}
 use Rattle.std.proofs.lemmas.List.{map-append}
-use Rattle.pseudo_time.specs.Lists.{Every, Has}
+use Rattle.pseudo_time.specs.Lists.{Has}
 use Rattle.pseudo_time.specs.Nodes.{repository}
 use Rattle.pseudo_time.specs.Order.{lt}
 use Rattle.pseudo_time.specs.TimeParts.{TimeParts}
@@ -14,7 +14,6 @@ use Rattle.effect_form.specs.declared.effects.Effect.TheVariants as effect
 use Rattle.object_history.specs.declared.marks.Mark.{Mark}
 use Rattle.object_history.specs.declared.marks.Mark.TheVariants as mark
 use Rattle.object_history.specs.History.{Seen, floor_of, is_committed, is_settled, settle_of}
-use Rattle.object_history.specs.Kept.{is_below, is_past}
 use Rattle.object_history.specs.Settled.{is_blocked, listed, settled_versions}
 use Rattle.object_history.proofs.AnswerLemmas.{committed}
 use Rattle.object_history.proofs.BoolLemmas.{and-both, and-left, and-right, not-false}

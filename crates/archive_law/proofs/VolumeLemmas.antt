@@ -1,7 +1,7 @@
 -- The archive of a repository's volumes has each version of its logs, older and last, once; and it settles attempts as the last log does.
 use Rattle.std.proofs.Common.{◌≡◌, ◌⊎◌, ◌≤◌, inl, inr, ℕ, Bool, true, List, [], ◌∷◌, ◌++◌, map, reverse, refl, sym, ◌∙◌, ap, subst, Some}
 use Rattle.std.proofs.lemmas.List.{map-append, reverse-append, reverse-reverse}
-use Rattle.pseudo_time.specs.Lists.{Every, Has}
+use Rattle.pseudo_time.specs.Lists.{Has}
 use Rattle.pseudo_time.specs.Nodes.{repository}
 use Rattle.pseudo_time.specs.StampParts.{StampParts}
 use Rattle.pseudo_time.specs.TimeParts.{TimeParts}
@@ -23,7 +23,7 @@ use Rattle.object_retirement.specs.Stood.{all_stood}
 use Rattle.object_retirement.proofs.ChainLemmas.{chain-distinct, chain-given, some-given}
 use Rattle.object_retirement.proofs.RetiredLemmas.{one-value}
 use Rattle.repository_log.specs.Logs.{is_commit, known, marks}
-use Rattle.repository_laws.specs.Facts.{IsDecidedAt, RestsOn}
+use Rattle.repository_laws.specs.Facts.{RestsOn}
 use Rattle.repository_laws.proofs.Logs.{decide-home, decided-once, put-logged}
 use Rattle.commit_watch.specs.Folds.{is_under}
 use Rattle.archive_store.specs.Joined.{joined}

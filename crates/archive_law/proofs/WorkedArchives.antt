@@ -1,5 +1,5 @@
 -- A past worked by hand: a run of three acts, a retirement at 3.1.1/1, and a run of one act more. The definitions compute what they come to.
-use Rattle.std.proofs.Common.{◌≡◌, ◌≢◌, ℕ, true, false, List, [], ◌∷◌, ◌++◌, map, reverse, if◌then◌else◌, refl, sym, ◌∙◌, ap, subst, Some, None}
+use Rattle.std.proofs.Common.{◌≡◌, ℕ, true, List, [], ◌∷◌, ◌++◌, reverse, if◌then◌else◌, refl, ◌∙◌, ap, Some, None}
 use Rattle.std.specs.Prelude.{ℤ, pos, Ok}
 use Rattle.pseudo_time.specs.Nodes.{repository}
 use Rattle.pseudo_time.specs.Order.{lt, same_stamp, same_time}
@@ -18,7 +18,7 @@ use Rattle.object_history.specs.History.{floor_of, pick, scan, settle_of, versio
 use Rattle.object_history.specs.Objects.{same_object}
 use Rattle.object_history.specs.Settled.{insert, listed}
 use Rattle.object_history.specs.Views.{value_of}
-use Rattle.object_retirement.specs.Forward.{forward, forwarded}
+use Rattle.object_retirement.specs.Forward.{forwarded}
 use Rattle.commit_watch.specs.declared.moved.Moved.{Moved}
 use Rattle.commit_watch.specs.Folds.{advanced, moved_over}
 use Rattle.commit_watch.specs.Rules.{sum_next}
@@ -27,7 +27,7 @@ use Rattle.archive_store.specs.Latest.{last_below}
 use Rattle.archive_store.specs.Opens.{first_among, first_open}
 use Rattle.world_core.specs.Legal.{in_plan}
 use Rattle.world_core.specs.Pasts.{Call, log_left, own_reading}
-use Rattle.world_facts.specs.Earlier.{logs_left, replaced}
+use Rattle.world_facts.specs.Earlier.{replaced}
 use Rattle.world_facts.specs.Earlier.Earlier.{Running, Retiring}
 use Rattle.archive_law.specs.Archives.{archive, log_after, volumes_left}
 

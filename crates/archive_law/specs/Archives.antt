@@ -1,5 +1,5 @@
 -- What calls left of a repository's volumes, what stood in its logs, and what an archive of them is.
-use Rattle.std.specs.Prelude.{◌≡◌, ◌⊎◌, ℕ, Bool, true, List, [], ◌∷◌, ◌++◌, map, reverse, Option, Some}
+use Rattle.std.specs.Prelude.{◌≡◌, ◌⊎◌, ℕ, Bool, true, List, [], ◌∷◌, ◌++◌, map, reverse, Some}
 use Rattle.pseudo_time.specs.Lists.{Has}
 use Rattle.pseudo_time.specs.Nodes.{repository}
 use Rattle.pseudo_time.specs.StampParts.{StampParts}
