@@ -1,0 +1,13 @@
+pub mod ArchiveLemmas
+pub mod AuditLemmas
+pub mod CallLemmas
+pub mod GrowthLemmas
+pub mod IdleLemmas
+pub mod JoinedLemmas
+pub mod ListedLemmas
+pub mod MapLemmas
+pub mod PastReadings
+pub mod RunLemmas
+pub mod TotalLemmas
+pub mod VolumeLemmas
+pub mod WorkedArchives

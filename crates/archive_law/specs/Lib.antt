@@ -1,0 +1,4 @@
+pub mod Archives
+pub mod AsOf
+pub mod Audits
+pub mod Totals
