@@ -3,7 +3,7 @@
 use crate::calls::{Called, Said, call};
 use crate::faults::CaseFault;
 use crate::lines::Stream;
-use crate::setups::{Pace, Setup};
+use crate::setups::{Pace, Setup, restarted};
 use crate::shows::{Shown, acts_of, crashes_of, is_down, lines_of};
 use crate::tables::{Ending, Table};
 use medium_port::MemoryMedium;
@@ -71,7 +71,6 @@ fn stopped<R: Threads + Wait + Sync>(
     if crashes == 0 && !is_down(&said) {
         return Ok(None);
     }
-    // A stop that isn't met would be met by the call over the media that are left.
     let again = if is_down(&said) || crashes == setup.moving.len() as u64 {
         called_again(rt, series, setup, &said, media)?
     } else {
@@ -100,7 +99,20 @@ fn called_again<R: Threads + Wait + Sync>(
         shown,
     } = *series;
     let still = setup.with_fates(alloc)?;
-    let Called { said, .. } = call(rt, alloc, &still, plan, words, media)?;
+    let mut left = Vec::new(alloc);
+    for kept in media {
+        let Kept {
+            node,
+            volume,
+            medium,
+        } = kept;
+        left.push(Kept {
+            node,
+            volume,
+            medium: restarted(medium, setup.at_call),
+        })?;
+    }
+    let Called { said, .. } = call(rt, alloc, &still, plan, words, left)?;
     let status = said.status;
     let mut again = format!(in alloc; "    again: status {status}\n")?;
     again.push_str(lines_of(alloc, shown, &said, "      ")?.as_str())?;

@@ -175,6 +175,17 @@ fn moved(stop: Stop, call: u64) -> Stop {
     }
 }
 
+/// A medium once the whole system began anew: its stops at so many calls more are behind it, and it has just
+/// the bytes that it was left with.
+pub fn restarted(medium: MemoryMedium, calls: u64) -> MemoryMedium {
+    let mut medium = medium;
+    for _ in 0..=calls.saturating_add(1) {
+        // A stop that is met here tears nothing, since nothing is written.
+        let _ = medium.reopen();
+    }
+    medium
+}
+
 /// A medium that has no fault.
 pub fn reopened(medium: MemoryMedium) -> Result<MemoryMedium, CaseFault>
     ensures { IfOk result (λ m. failed_in m ≡ false) }
