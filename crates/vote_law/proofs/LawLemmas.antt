@@ -169,6 +169,7 @@ module _ (b : Base) (fates : List Fate) (plain : Every IsPlain fates) where
 
   few-effects : (h : Hall) (s : MemberNumber) → HallFacts b h → Loads b h → log_at b.opened s ≡ [] → length (all_effects (h.members s)) ≤ 2 * length b.lines
   few-effects h s f l blank = omega (arith, l s blank, few-load s h.taken h.sendings (length b.lines) (λ i above most. (few-between h f i s above most).0))
+
 -- ---- what a member voted
 
 -- no time passes in a quiet trace
@@ -369,8 +370,9 @@ module _ (lines : List Line) (asked : List Asked) (t : Trace) (front : List Entr
       let quorum : HasQuorum lines t.opened (walk_from b (start_hall b) f.front) = quorum-before b (walk_from b (start_hall b) f.front) (Tick f.moment ∷ f.rest) (subst (HasQuorum lines t.opened) later calm.quorum) in
       ticks f.front (f.rest ++ calm.rest) f.moment (calm.is ∙ ap (λ z. z ++ calm.rest) f.is ∙ append_assoc f.front (Tick f.moment ∷ f.rest) calm.rest)
       (λ i l there. quorum-holds b have-lines have-nodes (fates_of t.sent) calm.plain f.front parts.0 f.quiet idle i l there quorum)
+
   pub all-quiet : AllQuiet front
-  all-quiet = elim (first-tick front calm.sound) [ | inl q ↦ q | inr f ↦ absurd (no-first f) ]
+  all-quiet = elim (first-tick front calm.sound) [ inl q ↦ q | inr f ↦ absurd (no-first f) ]
 
   pub idle-holds : Idle (fates_of t.sent) (world_of (walk b front)) → HoldAll lines (walk b front)
   idle-holds idle i l there = quorum-holds b have-lines have-nodes (fates_of t.sent) calm.plain front meets-front all-quiet idle i l there calm.quorum

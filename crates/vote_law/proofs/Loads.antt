@@ -232,10 +232,10 @@ module _ (b : Base) (h : Hall) (c : HallFacts b h) (w : HallWays b h) (fates : L
       subst (λ z. length z ≤ load s h.taken (step b h (Gate node)).sendings n) (shut-log b h (same_node node (member s)) (h.members s))
       (same-load h.taken (h.sendings ++ sendings_of h.ticks node (life_of h node.kind node.number).outs) (λ i.
       let a : marks (broker i) (member s) h.taken 1 (h.sendings ++ sendings_of h.ticks node (life_of h node.kind node.number).outs)
-          ≡ marks (broker i) (member s) h.taken 1 h.sendings ++ marks (broker i) (member s) h.taken (1 + length h.sendings) (sendings_of h.ticks node (life_of h node.kind node.number).outs) =
+      ≡ marks (broker i) (member s) h.taken 1 h.sendings ++ marks (broker i) (member s) h.taken (1 + length h.sendings) (sendings_of h.ticks node (life_of h node.kind node.number).outs) =
       marks-append (broker i) (member s) h.taken 1 h.sendings (sendings_of h.ticks node (life_of h node.kind node.number).outs) in
       let d : trues (marks (broker i) (member s) h.taken 1 h.sendings ++ marks (broker i) (member s) h.taken (1 + length h.sendings) (sendings_of h.ticks node (life_of h node.kind node.number).outs))
-          ≡ trues (marks (broker i) (member s) h.taken 1 h.sendings) + trues (marks (broker i) (member s) h.taken (1 + length h.sendings) (sendings_of h.ticks node (life_of h node.kind node.number).outs)) =
+      ≡ trues (marks (broker i) (member s) h.taken 1 h.sendings) + trues (marks (broker i) (member s) h.taken (1 + length h.sendings) (sendings_of h.ticks node (life_of h node.kind node.number).outs)) =
       trues-append (marks (broker i) (member s) h.taken 1 h.sendings) (marks (broker i) (member s) h.taken (1 + length h.sendings) (sendings_of h.ticks node (life_of h node.kind node.number).outs)) in
       subst (λ z. trues (marks (broker i) (member s) h.taken 1 h.sendings) ≤ trues z) (sym a) (omega (arith, d))))
 

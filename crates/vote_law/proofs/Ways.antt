@@ -167,8 +167,8 @@ module _ (b : Base) (h : Hall) (c : HallWays b h) (fates : List Fate) where
   took-members : (n : NodeId) (number : ℕ) (r : MayTake fates (world_of h) n number) (s : MemberNumber) → Owes (if same_node n (member s) then member_took (h.members s) (numbered h.sendings number) else h.members s)
   took-members n number r s = either-way Owes (same_node n (member s)) (member_took (h.members s) (numbered h.sendings number)) (h.members s)
       (λ e. subst (λ o. Owes (member_took (h.members s) o)) (sym r.sent)
-          (every-append (ToPoll b.lines) (h.members s).owed (on_message (all_effects (h.members s)) (h.members s).moment r.sending.post.from r.sending.post.message).outs (c.members s)
-          (message-ways b.lines r.sending.post.from (asker-of s r.sending.post (way-of n number r) (r.to ∙ same_is n (member s) e)) (all_effects (h.members s)) (h.members s).moment r.sending.post.message)))
+      (every-append (ToPoll b.lines) (h.members s).owed (on_message (all_effects (h.members s)) (h.members s).moment r.sending.post.from r.sending.post.message).outs (c.members s)
+      (message-ways b.lines r.sending.post.from (asker-of s r.sending.post (way-of n number r) (r.to ∙ same_is n (member s) e)) (all_effects (h.members s)) (h.members s).moment r.sending.post.message)))
       (λ _. c.members s)
 
   members-on : (e : Entry) → Rule b fates h e → is_quiet e ≡ true → h.last ≡ None → (s : MemberNumber) → Owes ((step b h e).members s)

@@ -199,8 +199,11 @@ module _ {M : Type 0} (w : Media M) (n : NodeId) where
           paid-more mid.entries (Down n (down.Damaged page)) f.taken (medium_of before) left (same_node-refl n) acted-paid (no-rise (w.faults (medium_of before)) (w.faults left) later) (λ told free. absurd (e told))
       fallen-paid (down.Full pages) left e later =
           paid-more mid.entries (Down n (down.Full pages)) f.taken (medium_of before) left (same_node-refl n) acted-paid (no-rise (w.faults (medium_of before)) (w.faults left) later)
-          (λ told free. (subst (λ z. KeepsPages (w.reads (medium_of before)) (w.reads z)) (sym e.0) (same-pages (medium_of before)), subst (λ z. StaysClean (w.reads (medium_of before)) (w.reads z)) (sym e.0) (clean-same (medium_of before)),
-          subst (λ z. Grows (w.reads (medium_of before)) (w.reads z)) (sym e.0) (grows-same (w.reads (medium_of before)))))
+          (λ told free. (
+            subst (λ z. KeepsPages (w.reads (medium_of before)) (w.reads z)) (sym e.0) (same-pages (medium_of before)),
+            subst (λ z. StaysClean (w.reads (medium_of before)) (w.reads z)) (sym e.0) (clean-same (medium_of before)),
+            subst (λ z. Grows (w.reads (medium_of before)) (w.reads z)) (sym e.0) (grows-same (w.reads (medium_of before))),
+          ))
 
       fallen-fares : (left : M) → IsDown w n mid d before t.effects left → FellLater w n first d.entries left
       fallen-fares left e =
