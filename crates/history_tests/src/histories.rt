@@ -123,86 +123,6 @@ pub fn asked<H: Histories>(histories: &mut H, call: Call) -> Result<Said, Histor
     }
 }
 
-// What calls answer by the rules of histories, worked out by hand. Each story begins with no marks.
-pub const ANSWERS: &[&[(Call, Said)]] = &[
-    // An undecided version is waited for. Once it is aborted the origin is seen, and stretched.
-    &[
-        (Call::Write((1, 1, 1), 7), Said::Put),
-        (Call::Read((2, 1, 1)), Said::Wait(1, 1)),
-        (Call::Settle(1, 1, false), Said::Done),
-        (Call::Read((2, 1, 1)), Said::Nothing(true)),
-        (Call::Write((1, 2, 1), 8), Said::LaterRead((2, 1, 1))),
-    ],
-    // Three committed versions: what is seen at the second's start is the first, with a
-    // committed one above.
-    &[
-        (Call::Write((1, 1, 1), 1), Said::Put),
-        (Call::Settle(1, 1, true), Said::Done),
-        (Call::Write((2, 1, 1), 2), Said::Put),
-        (Call::Settle(2, 1, true), Said::Done),
-        (Call::Write((3, 1, 1), 3), Said::Put),
-        (Call::Settle(3, 1, true), Said::Done),
-        (Call::Read((2, 1, 1)), Said::Value(1, false)),
-        (Call::Read((9, 1, 1)), Said::Value(3, true)),
-        (Call::Read((8, 1, 1)), Said::Value(3, false)),
-        (Call::Write((8, 1, 1), 4), Said::LaterRead((9, 1, 1))),
-        (Call::Write((2, 2, 1), 4), Said::LaterVersion((3, 1, 1))),
-    ],
-    // An aborted version is under no later one: starts need not rise.
-    &[
-        (Call::Write((5, 1, 1), 5), Said::Put),
-        (Call::Settle(5, 1, false), Said::Done),
-        (Call::Write((3, 1, 1), 3), Said::Put),
-        (Call::Read((6, 1, 1)), Said::Wait(3, 1)),
-        (Call::Settle(3, 1, true), Said::Done),
-        (Call::Read((6, 1, 1)), Said::Value(3, true)),
-    ],
-    // A write that comes again, with its value and with another.
-    &[
-        (Call::Stands((1, 1, 1), 7), Said::Stands(false)),
-        (Call::Write((1, 1, 1), 7), Said::Put),
-        (Call::Write((1, 1, 1), 7), Said::Again),
-        (Call::Write((1, 1, 1), 8), Said::LaterVersion((1, 1, 1))),
-        (Call::Stands((1, 1, 1), 7), Said::Stands(true)),
-        (Call::Stands((1, 1, 1), 8), Said::Stands(false)),
-        (Call::Settled(1, 1), Said::Settled(None)),
-        (Call::Settle(1, 1, false), Said::Done),
-        (Call::Settled(1, 1), Said::Settled(Some(false))),
-        (Call::Stands((1, 1, 1), 7), Said::Stands(false)),
-    ],
-    // An attempt reads its own version, and stretches it. Aborted, its reach blocks nothing.
-    &[
-        (Call::Write((1, 1, 1), 1), Said::Put),
-        (Call::Settle(1, 1, true), Said::Done),
-        (Call::Write((3, 1, 1), 3), Said::Put),
-        (Call::Read((3, 1, 5)), Said::Value(3, true)),
-        (Call::Write((3, 1, 4), 4), Said::LaterRead((3, 1, 5))),
-        (Call::Settle(3, 1, false), Said::Done),
-        (Call::Write((2, 1, 1), 2), Said::Put),
-    ],
-    // An undecided version above what is seen may still go away: the read stretches what it saw.
-    &[
-        (Call::Write((1, 1, 1), 1), Said::Put),
-        (Call::Settle(1, 1, true), Said::Done),
-        (Call::Write((4, 1, 1), 4), Said::Put),
-        (Call::Read((3, 1, 1)), Said::Value(1, true)),
-        (Call::Settle(4, 1, false), Said::Done),
-        (Call::Write((2, 1, 1), 2), Said::LaterRead((3, 1, 1))),
-        (Call::Write((3, 1, 1), 3), Said::Put),
-    ],
-    // The origin was read up to 5, and then up to 6.
-    &[
-        (Call::Read((5, 1, 1)), Said::Nothing(true)),
-        (Call::Read((4, 1, 1)), Said::Nothing(false)),
-        (Call::Write((4, 1, 1), 4), Said::LaterRead((5, 1, 1))),
-        (Call::Read((6, 1, 1)), Said::Nothing(true)),
-        (Call::Write((5, 2, 1), 4), Said::LaterRead((6, 1, 1))),
-        (Call::Write((7, 1, 1), 7), Said::Put),
-        // The reach of an origin with a version above it no longer matters to a write.
-        (Call::Write((6, 2, 1), 6), Said::LaterVersion((7, 1, 1))),
-    ],
-];
-
 /// The first place at which histories answer otherwise, and what they say there. A fault is an answer,
 /// too.
 pub fn differs<H: Histories>(histories: &mut H, answers: &[(Call, Said)]) -> Option<(usize, Said)> {
@@ -222,45 +142,6 @@ pub fn differ<H: Histories + Drop>(
 ) -> Option<(usize, Said)> {
     let mut histories = histories;
     differs(&mut histories, answers)
-}
-
-#[test]
-fn answers(rt: HostRuntime) {
-    let alloc = rt.alloc();
-    for story in ANSWERS {
-        assert_eq!(rt; differ(PlainHistories::new(alloc), story), None);
-    }
-}
-
-// A list of marks that no calls can have added: two versions with one start, and a stamp that is
-// settled twice.
-fn unruly(alloc: Global) -> Result<PlainHistories, HistoryFault> {
-    let start = time((1, 1, 1))?;
-    let mut marks = Vec::new(alloc);
-    marks.push(Mark::Put(OBJECT, start, Value::Number(7)))?;
-    marks.push(Mark::Stretch(OBJECT, time((2, 1, 1))?))?;
-    marks.push(Mark::Put(OBJECT, start, Value::Number(8)))?;
-    marks.push(Mark::Settle(start.stamp(), true))?;
-    marks.push(Mark::Settle(start.stamp(), false))?;
-    Ok(PlainHistories::of(alloc, marks.as_slice())?)
-}
-
-/// The first Settle counts, and of versions with one start the newest is seen. The Stretch fell on
-/// the other one.
-pub const OF_UNRULY: &[(Call, Said)] = &[
-    (Call::Settled(1, 1), Said::Settled(Some(true))),
-    (Call::Stands((1, 1, 1), 7), Said::Stands(true)),
-    (Call::Stands((1, 1, 1), 8), Said::Stands(true)),
-    (Call::Write((1, 2, 1), 9), Said::Put),
-    (Call::Settle(1, 2, false), Said::Done),
-    (Call::Read((2, 1, 1)), Said::Value(8, true)),
-];
-
-#[test]
-fn marks_without_a_past(rt: HostRuntime) -> Result<(), Fail> {
-    let histories = unruly(rt.alloc())?;
-    assert_eq!(rt; differ(histories, OF_UNRULY), None);
-    Ok(())
 }
 
 // A committed version, and two floors above it.

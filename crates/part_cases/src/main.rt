@@ -1,31 +1,56 @@
 //! Carries out cases of the parts of a run. Standard input tells what the cases of a file are about, and names
 //! the file, as `records records.cases`. Each line of it goes to standard output, and behind it what came of
 //! it, or why it can't be carried out. A line that begins with `#` is a remark. HEX are the digits of bytes,
-//! in as many words as one likes.
+//! in as many words as one likes; an EFFECT is such a word.
 //!
 //! A line begins what those behind it are about:
 //! - `records`: `begin STAMP DEADLINE`, `commit`, `withdraw`, `restore`, `state`, `due MOMENT`, `hear MOMENT`.
 //! - `log`: `put OBJECT TIME NUMBER`, `stretch OBJECT TIME`, `begin STAMP DEADLINE`, `decide STAMP DECISION`, `learn STAMP
 //!   committed` or another word, `mark TIME`, `whole`, and `forward TIME`, which retires the log.
 //! - `flight`: `send NODE COPIES OVERTAKE HOLD HEX`, `take NODE`, `pass`, `shut NODE`, `empty`.
+//! - `medium PAGES`, which meets the stops of the lines `stop call N keep K fill F` and `stop write PAGE AT
+//!   keep K fill F`: `write PAGE AT HEX`, `read PAGE AT SIZE`, `sync`, `crash`, `look PAGE`, `put PAGE HEX`;
+//!   `open` opens its store, and `append TIMES EFFECT..` adds to it.
+//! - `table`, which reads the histories of the store before it, and `histories`, of both kinds:
+//!   `read OBJECT TIME`, `write OBJECT TIME NUMBER`, `stands`, `settle STAMP yes`, `settled STAMP`; a table
+//!   that was just read also `put OBJECT TIME NUMBER`.
+//! - `repository N`: `take NODE HEX`, `learn STAMP yes`, `hear MOMENT`.
+//! - `votes STAMP`, over the first member's log of the line `log EFFECT..`: `go NODE`, `hear NODE MOMENT`,
+//!   `take NODE FROM HEX`, `held NODE`.
+//! - `broker CLOCK..`, whose acts have the script of the lines from `program` to `end program`, over the log
+//!   of the line `log EFFECT..`: `go`, `take NODE HEX`, `hear MOMENT`, `done`.
 #![tactic(auto)]
 
+mod brokers;
 mod faults;
 mod flights;
+mod histories;
 mod logs;
 mod records;
+mod repositories;
+mod stops;
+mod stores;
 mod subjects;
+mod tables;
+mod turns;
+mod votes;
 mod words;
 
+use brokers::Brokers;
 use commit_record::Records;
 use effect_form::Effect;
+use histories::Pair;
 use message_core::Flight;
+use repositories::Core;
 use std::alloc::{AllocError, Global};
 use std::process::ExitCode;
 use std::rt::Files;
 use std::{fs, io};
+use stores::Storage;
 use subjects::carry_all;
+use tables::Tables;
 use value_form::Items;
+use votes::Votes;
 
 // Carries out the cases of a text, which are about this.
 fn cases(alloc: Global, about: &str, text: &str, said: &mut String) -> Result<(), AllocError> {
@@ -33,6 +58,12 @@ fn cases(alloc: Global, about: &str, text: &str, said: &mut String) -> Result<()
         "records" => carry_all::<Records>(alloc, text, said),
         "logs" => carry_all::<Items<Effect>>(alloc, text, said),
         "flights" => carry_all::<Option<Flight>>(alloc, text, said),
+        "media" => carry_all::<Storage>(alloc, text, said),
+        "histories" => carry_all::<Option<Pair>>(alloc, text, said),
+        "tables" => carry_all::<Tables>(alloc, text, said),
+        "repositories" => carry_all::<Option<Core>>(alloc, text, said),
+        "votes" => carry_all::<Votes>(alloc, text, said),
+        "brokers" => carry_all::<Brokers>(alloc, text, said),
         _ => said.push_str("  no cases\n"),
     }
 }

@@ -1,8 +1,11 @@
 //! What the words of a line name.
 ghost use Rattle.std.specs.Prelude.{IfOk};
+ghost use Rattle.value_form.specs.ObjectBytes.{IsObject};
+ghost use Rattle.effect_form.specs.Effects.{AreEffects, IsEffect};
 ghost use Rattle.message_form.specs.Messages.{IsMessage};
 
 use crate::faults::CaseFault;
+use effect_form::Effect;
 use message_form::Message;
 use pseudo_time::{Decision, NodeId, NodeKind, PseudoTime, Stamp};
 use std::alloc::Global;
@@ -21,6 +24,21 @@ pub fn small(word: &str) -> Result<u32, CaseFault> {
 /// A number of a byte.
 pub fn byte(word: &str) -> Result<u8, CaseFault> {
     word.parse::<u8>().ok().ok_or(CaseFault::Line)
+}
+
+/// A number of 16 bits.
+pub fn half(word: &str) -> Result<u16, CaseFault> {
+    word.parse::<u16>().ok().ok_or(CaseFault::Line)
+}
+
+/// How many there are.
+pub fn size(word: &str) -> Result<usize, CaseFault> {
+    word.parse::<usize>().ok().ok_or(CaseFault::Line)
+}
+
+/// A number as a value has it.
+pub fn signed(word: &str) -> Result<i64, CaseFault> {
+    word.parse::<i64>().ok().ok_or(CaseFault::Line)
 }
 
 /// A node, `repository 1` or `broker 1`.
@@ -43,19 +61,23 @@ pub fn stamp(word: &str) -> Result<Stamp, CaseFault> {
     Stamp::new(number(clock)?, byte(broker)?, byte(home)?).ok_or(CaseFault::Line)
 }
 
-/// A pseudotime, `1.1.1/1`: its stamp and its step.
+/// A pseudotime, `1.1.1/2`: its stamp and its step.
 pub fn time(word: &str) -> Result<PseudoTime, CaseFault> {
     let (name, step) = word.split_once('/').ok_or(CaseFault::Line)?;
     PseudoTime::new(stamp(name)?, small(step)?).ok_or(CaseFault::Line)
 }
 
-/// An object, `1.7`: its repository and its number there.
-pub fn object(word: &str) -> Result<ObjectId, CaseFault> {
-    let (repository, rest) = word.split_once('.').ok_or(CaseFault::Line)?;
-    Ok(ObjectId {
-        repository: byte(repository)?,
-        number: small(rest)?,
-    })
+/// An object, `1.7`: its repository and its number.
+pub fn object(word: &str) -> Result<ObjectId, CaseFault>
+    ensures { IfOk result IsObject }
+{
+    let (repository, place) = word.split_once('.').ok_or(CaseFault::Line)?;
+    let repository = byte(repository)?;
+    let number = small(place)?;
+    if repository < 1 || repository > 16 {
+        return Err(CaseFault::Line);
+    }
+    Ok(ObjectId { repository, number })
 }
 
 /// A decision, `committed`, `withdrawn` or `expired DEADLINE MOMENT`.
@@ -69,6 +91,16 @@ pub fn decision(words: &[&str]) -> Result<Decision, CaseFault> {
         }),
         _ => Err(CaseFault::Line),
     }
+}
+
+/// The words, one behind the other.
+pub fn joined(alloc: Global, words: &[&str]) -> Result<String, CaseFault> {
+    let mut all = String::new(alloc);
+    for word in words {
+        all.push_str(word)?;
+        all.push(' ')?;
+    }
+    Ok(all)
 }
 
 /// The bytes whose digits the words are, one behind the other.
@@ -92,4 +124,27 @@ pub fn message(alloc: Global, words: &[&str]) -> Result<Message, CaseFault>
         Ok(message) => Ok(message),
         Err(_) => Err(CaseFault::Message),
     }
+}
+
+/// The effect whose bytes the word is, with no back place.
+pub fn effect(alloc: Global, word: &str) -> Result<Effect, CaseFault>
+    ensures { IfOk result IsEffect }
+{
+    let bytes = bytes(alloc, &[word])?;
+    match effect_form::read(alloc, bytes.as_slice()) {
+        Ok((effect, None, _)) => Ok(effect),
+        _ => Err(CaseFault::Effect),
+    }
+}
+
+/// The effects whose bytes the words are, one a word.
+pub fn effects(alloc: Global, words: &[&str]) -> Result<Vec<Effect>, CaseFault>
+    ensures { IfOk result (λ v. AreEffects v.items) }
+{
+    let mut all = Vec::new(alloc);
+    for word in words {
+        let more = effect(alloc, word)?;
+        all.push(more)?;
+    }
+    Ok(all)
 }

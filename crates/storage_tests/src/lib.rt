@@ -1,10 +1,6 @@
-//! Tests of media, page gates and stores.
+//! Tests of stores: what a place gives, and long effects in pieces.
 #![tactic(auto)]
 
-#[cfg(test)]
-mod gates;
-#[cfg(test)]
-mod media;
 #[cfg(test)]
 mod pieces;
 #[cfg(test)]

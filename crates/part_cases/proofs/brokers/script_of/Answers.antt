@@ -1,5 +1,5 @@
 use Rattle.value_form.specs.Mirror.{block}
-use Rattle.node_tests.proofs.stories.script_of.Goals as goal
+use Rattle.part_cases.proofs.brokers.script_of.Goals as goal
 
 -- a script that was parsed is one of the language
 pub returns-in-Ok : goal.returns-in-Ok
