@@ -1,4 +1,3 @@
-use Rattle.std.proofs.Common.{rules, ◌≡◌, sym, subst}
 use Rattle.command_words.proofs.WordLemmas.{run-alone, votes-alone}
 use Rattle.command_words.proofs.commands.read_words.Goals as goal
 
