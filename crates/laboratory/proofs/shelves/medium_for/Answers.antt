@@ -1,2 +1,0 @@
-use Rattle.std.proofs.Common.{◌∙◌}
-use Rattle.laboratory.proofs.shelves.medium_for.Goals as goal
