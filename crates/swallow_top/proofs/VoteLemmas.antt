@@ -40,13 +40,21 @@ module _ {M : Type 0} (w : Media M) (old new : ShelfSight) where
   few-end limits polls told kept end few (inr h) = few-told limits polls told h.media h.left end few h.ended
 
   -- so it is promised
-  pub polled : (polls : List PollLine) (o : Options) (told : Account) (votes : Trace) (kept : List (Kept M)) (s : Sinking) (status : ℕ) (end : VoteEnd) →
+  polled-so : (polls : List PollLine) (o : Options) (told : Account) (votes : Trace) (kept : List (Kept M)) (s : Sinking) (status : ℕ) (end : VoteEnd) →
       TookNothing w old new (tellers_of told) kept end ⊎ VotesOver w old new (limits_of o) polls (tellers_of told) kept end → TellsVotes end votes status s → told.trace ≡ no_trace →
       (AskedNothing w old new kept status × HasNoRun told × (votes ≡ no_trace)) ⊎ HavePolled w old new polls o told votes kept s status
-  polled polls o told votes kept s status end (inl h) tells none =
+  polled-so polls o told votes kept s status end (inl h) tells none =
       let k = subst (λ e. TellsVotes e votes status s) h.wanting tells in
       inl (record { wanting = k.1; none = h.none; unasked = h.unasked; left = h.left }, record { trace = none; fates = h.fates; clock = h.clock }, k.0)
-  polled polls o told votes kept s status end (inr h) tells none = inr (record { end = end; over = h; written = tells; no_run = none })
+  polled-so polls o told votes kept s status end (inr h) tells none = inr (record { end = end; over = h; written = tells; no_run = none })
+
+  pub polled : (polls : List PollLine) (o : Options) (limits : Limits) (told : Account) (votes : Trace) (media kept : List (Kept M)) (s : Sinking) (status : ℕ) (end : VoteEnd) → limits ≡ limits_of o → kept ≡ media →
+      TookNothing w old new (tellers_of told) media end ⊎ VotesOver w old new limits polls (tellers_of told) media end → TellsVotes end votes status s → told.trace ≡ no_trace →
+      (AskedNothing w old new kept status × HasNoRun told × (votes ≡ no_trace)) ⊎ HavePolled w old new polls o told votes kept s status
+  polled polls o limits told votes media kept s status end same is h tells none =
+      polled-so polls o told votes kept s status end
+      (subst (λ k. TookNothing w old new (tellers_of told) k end ⊎ VotesOver w old new (limits_of o) polls (tellers_of told) k end) (sym is)
+      (subst (λ l. TookNothing w old new (tellers_of told) media end ⊎ VotesOver w old new l polls (tellers_of told) media end) same h)) tells none
 
   -- the members' media are handed back
   pub votes-kept : (limits : Limits) (polls : List PollLine) (told : Tellers) (kept : List (Kept M)) (end : VoteEnd) → VotesOver w old new limits polls told kept end → AllKept old new kept
