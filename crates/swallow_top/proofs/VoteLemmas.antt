@@ -1,7 +1,9 @@
 -- What votes over the shelf's media come to is what is promised of them.
-use Rattle.std.proofs.Common.{◌≡◌, ◌⊎◌, ◌≤◌, inl, inr, ℕ, List, [], length, map, refl, sym, ap, subst, ◌∙◌, arith}
+use Rattle.std.proofs.Common.{◌≡◌, ◌⊎◌, ◌≤◌, inl, inr, ℕ, IsTrue, List, [], length, map, refl, sym, ap, subst, ◌∙◌, arith}
 use Rattle.std.proofs.lemmas.List.{length-map}
+use Rattle.stream_port.specs.Causes.{Rose}
 use Rattle.world_core.specs.declared.traces.Trace.{Trace}
+use Rattle.trace_report.specs.Counts.{tick_count}
 use Rattle.run_media.specs.Media.{AreBack, Media}
 use Rattle.run_rounds.specs.Runs.{Account}
 use Rattle.run_rounds.specs.Stories.{no_trace}
@@ -15,15 +17,19 @@ use Rattle.votes_command.specs.MemberMedia.{MemberMedia}
 use Rattle.votes_command.specs.VoteEnd.{VoteEnd}
 use Rattle.votes_command.specs.VoteEnd.TheVariants.{Told, NoMemory}
 use Rattle.votes_command.specs.PollLine.{PollLine}
-use Rattle.votes_command.specs.Clauses.{Tellers}
+use Rattle.votes_command.specs.Clauses.{AllHold, Tellers}
+use Rattle.votes_command.specs.Polls.{lines_of}
+use Rattle.votes_command.specs.Statuses.{status_with}
+use Rattle.votes_command.specs.Tellings.{some_down, told_text}
+use Rattle.votes_command.proofs.HeldLemmas.{all-told}
 use Rattle.votes_command.specs.PollStanding.{PollStanding}
 use Rattle.votes_command.specs.Limits.{Limits}
 use Rattle.votes_command.specs.Members.{in_order, member_names}
-use Rattle.votes_command.specs.Votes.{TookNothing, VotesOver}
+use Rattle.votes_command.specs.Votes.{AreSmooth, TookNothing, VotesOver}
 use Rattle.swallow_top.specs.Contract.{HasNoRun}
 use Rattle.swallow_top.specs.Histories.{AskedNothing}
-use Rattle.swallow_top.specs.Votes.{AreFew, HavePolled, TellsVotes, limits_of, tellers_of}
-use Rattle.swallow_top.specs.Written.{Sinking}
+use Rattle.swallow_top.specs.Votes.{AreFew, HavePolled, TellsVotes, limits_of, tellers_of, votes_status}
+use Rattle.swallow_top.specs.Written.{EndsIfAny, Sinking}
 
 module _ {M : Type 0} (w : Media M) (old new : ShelfSight) where
   -- there is one standing for each poll
@@ -39,6 +45,19 @@ module _ {M : Type 0} (w : Media M) (old new : ShelfSight) where
   few-end limits polls told kept end few (inl h) = subst AreFew (sym h.wanting) tt
   few-end limits polls told kept end few (inr h) = few-told limits polls told h.media h.left end few h.ended
 
+  -- where all is smooth
+  comes-to : (polls : List PollLine) (o : Options) (told : Tellers) (votes : Trace) (kept : List (Kept M)) (s : Sinking) (status : ℕ) (end : VoteEnd) (h : VotesOver w old new (limits_of o) polls told kept end) → TellsVotes end votes status s
+      → IsTrue w.tells → AreSmooth w polls o.messages h.media h.left votes → (Rose s.faults_before s.faults → ⊥) → (status ≡ 7) ⊎ ((status ≡ 0) × (tick_count votes.entries ≡ 0))
+  comes-to polls o told votes kept s status (Told t standings) h tells content smooth calm = by tells.1
+    where
+      done : (tick_count t.entries ≡ 0) × AllHold (lines_of polls) t
+      done = h.ended.0.completes content (subst (λ x. AreSmooth w polls o.messages h.media h.left x) tells.0 smooth)
+      by : EndsIfAny status s (votes_status t standings) (told_text t standings) → (status ≡ 7) ⊎ ((status ≡ 0) × (tick_count votes.entries ≡ 0))
+      by (inl e) = inl e
+      by (inr (inl e)) = inr (e.0 ∙ ap (λ b. status_with b (some_down t.entries)) (all-told polls t standings (h.ended.1.held content) done.1), ap (λ (x : Trace). tick_count x.entries) tells.0 ∙ done.0)
+      by (inr (inr e)) = absurd (calm e.1.1)
+  comes-to polls o told votes kept s status NoMemory h tells content smooth calm = inl tells.1
+
   -- so it is promised
   polled-so : (polls : List PollLine) (o : Options) (told : Account) (votes : Trace) (kept : List (Kept M)) (s : Sinking) (status : ℕ) (end : VoteEnd) →
       TookNothing w old new (tellers_of told) kept end ⊎ VotesOver w old new (limits_of o) polls (tellers_of told) kept end → TellsVotes end votes status s → told.trace ≡ no_trace →
@@ -46,7 +65,7 @@ module _ {M : Type 0} (w : Media M) (old new : ShelfSight) where
   polled-so polls o told votes kept s status end (inl h) tells none =
       let k = subst (λ e. TellsVotes e votes status s) h.wanting tells in
       inl (record { wanting = k.1; none = h.none; unasked = h.unasked; left = h.left }, record { trace = none; fates = h.fates; clock = h.clock }, k.0)
-  polled-so polls o told votes kept s status end (inr h) tells none = inr (record { end = end; over = h; written = tells; no_run = none })
+  polled-so polls o told votes kept s status end (inr h) tells none = inr (record { end = end; over = h; written = tells; no_run = none; completes = comes-to polls o (tellers_of told) votes kept s status end h tells })
 
   pub polled : (polls : List PollLine) (o : Options) (limits : Limits) (told : Account) (votes : Trace) (media kept : List (Kept M)) (s : Sinking) (status : ℕ) (end : VoteEnd) → limits ≡ limits_of o → kept ≡ media →
       TookNothing w old new (tellers_of told) media end ⊎ VotesOver w old new limits polls (tellers_of told) media end → TellsVotes end votes status s → told.trace ≡ no_trace →

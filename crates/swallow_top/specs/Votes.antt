@@ -1,5 +1,5 @@
 -- Votes: what their input is, and how they are told.
-use Rattle.std.specs.Prelude.{◌≡◌, ◌⊎◌, ℕ, ◌<◌, ◌^◌, List, length, Option, Result, Ok, Err, Vec}
+use Rattle.std.specs.Prelude.{◌≡◌, ◌⊎◌, ℕ, ◌<◌, ◌^◌, IsTrue, List, length, Option, Result, Ok, Err, Vec}
 use Rattle.std.specs.declared.alloc.Global.{Global}
 use Rattle.std.specs.Io.KnownBytes.{IsAtEnd}
 use Rattle.stream_port.specs.Causes.{Rose}
@@ -10,6 +10,7 @@ use Rattle.run_rounds.specs.Runs.{Account}
 use Rattle.run_rounds.specs.Stories.{no_trace}
 use Rattle.run_volumes.specs.Shelves.{ShelfSight}
 use Rattle.run_volumes.specs.declared.kept.Kept.{Kept}
+use Rattle.trace_report.specs.Counts.{tick_count}
 use Rattle.votes_command.specs.Ends.{tellers}
 use Rattle.votes_command.specs.Tellings.{some_down, told_text}
 use Rattle.votes_command.specs.VoteEnd.{VoteEnd}
@@ -22,7 +23,7 @@ use Rattle.votes_command.specs.Statuses.{all_held, status_with}
 use Rattle.votes_command.specs.Texts.{fault_line}
 use Rattle.votes_command.specs.PollStanding.{PollStanding}
 use Rattle.votes_command.specs.Limits.{Limits}
-use Rattle.votes_command.specs.Votes.{VotesOver}
+use Rattle.votes_command.specs.Votes.{AreSmooth, VotesOver}
 use Rattle.swallow_top.specs.declared.stops.Stop.{Stop}
 use Rattle.swallow_top.specs.declared.stops.Stop.TheVariants as stop
 use Rattle.swallow_top.specs.Inputs.{OfInput}
@@ -86,3 +87,5 @@ pub record HavePolled {M : Type 0} (w : Media M) (old new : ShelfSight) (polls :
   pub over : VotesOver w old new (limits_of o) polls (tellers_of told) kept end
   pub written : TellsVotes end votes status s
   pub no_run : told.trace ≡ no_trace
+  -- where nothing stands in the way of members, polls and the sink, each poll comes to a decision without a Tick and is told so, unless memory was wanting
+  pub completes : IsTrue w.tells → AreSmooth w polls o.messages over.media over.left votes → (Rose s.faults_before s.faults → ⊥) → (status ≡ 7) ⊎ ((status ≡ 0) × (tick_count votes.entries ≡ 0))

@@ -1,6 +1,7 @@
 pub mod Members
 pub mod Votes
 pub use Rattle.vote_call.specs.Ends
+pub use Rattle.vote_call.specs.Polls
 pub use Rattle.vote_call.specs.Tellings
 pub use Rattle.vote_call.specs.declared.member_media.MemberMedia
 pub use Rattle.vote_call.specs.declared.voting.VoteEnd
