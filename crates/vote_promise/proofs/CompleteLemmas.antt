@@ -407,9 +407,9 @@ module _ {M : Type 0} (w : Media M) (most_ticks enough : ℕ) (lines : List Line
           let stored : count_by is_blank (w.reads x.old) ≤ count_by is_blank (w.reads x.new) + pages_apart (gated_log lines t s) = subst (λ z. count_by is_blank (w.reads x.old) ≤ count_by is_blank (w.reads x.new) + pages_apart z) same grown.pages in
           let room : length (w.reads x.old) ≤ count_by is_blank (w.reads x.old) = blank-count (w.reads x.old) x.blank in
           let wanted = why.2 in
-          let open = filling-apart (open_effects lines t s) in
+          let last = filling-apart (open_effects lines t s) in
           let large = x.large in
-          absurd (omega (arith, few, fill, sum, stored, room, wanted, open, large, polls))
+          absurd (omega (arith, few, fill, sum, stored, room, wanted, last, large, polls))
 
       falls : (n : NodeId) (cause : DownCause) → f.entry ≡ Down n cause → of n ≡ true → is_broker n.kind ≡ false → (here.flags n).up ≡ true → ⊥
       falls n cause is mine repo up = by (which n repo up)

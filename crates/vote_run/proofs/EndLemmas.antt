@@ -186,21 +186,19 @@ module _ (lines : List Line) (c d : CourierParts) (a : Adds any_node c d) where
       go front rest moment all (inr later) = no-tick b-old (hall_of lines c) a.more later.middle later.rest moment (ap (λ (z : Hall). z.ticks) (sym hall-later) ∙ same) later.is
 
 -- and a Tick behind them
-wanted-tick : (lines : List Line) (c d : CourierParts) (a : Adds any_node c d) (moment : ℕ) → a.more ≡ Tick moment ∷ [] → (HoldAll lines (hall_of lines c) → ⊥) → TicksAreWanted lines c → TicksAreWanted lines d
-wanted-tick lines c d a moment one open wanted =
-    subst (λ z. TicksForPolls z d.entries) (sym (same-base lines c d a)) (λ front rest other is all. go front rest other all (one-of-two c.entries a.more front rest (Tick other) (sym a.longer ∙ is)))
-  where
-    abbrev b : Base
-    b = base_of lines (trace_of c)
+module _ (lines : List Line) (c d : CourierParts) (moment : ℕ) (longer : d.entries ≡ c.entries ++ Tick moment ∷ []) (base-is : base_of lines (trace_of d) ≡ base_of lines (trace_of c)) (unheld : HoldAll lines (hall_of lines c) → ⊥) (wanted : TicksAreWanted lines c) where
+  last : (middle rest : List Entry) (e : Entry) → Tick moment ∷ [] ≡ middle ++ e ∷ rest → middle ≡ []
+  last [] rest e is = refl
+  last (x ∷ []) rest e is = absurd (let k : ◌≡◌ {A = List Entry} [] (e ∷ rest) = cc is in cc k)
+  last (x ∷ y ∷ middle) rest e is = absurd (let k : ◌≡◌ {A = List Entry} [] (y ∷ (middle ++ e ∷ rest)) = cc is in cc k)
 
-    last : (middle rest : List Entry) (e : Entry) → Tick moment ∷ [] ≡ middle ++ e ∷ rest → middle ≡ []
-    last [] rest e is = refl
-    last (x ∷ []) rest e is = absurd (let k : ◌≡◌ {A = List Entry} [] (e ∷ rest) = cc is in cc k)
-    last (x ∷ y ∷ middle) rest e is = absurd (let k : ◌≡◌ {A = List Entry} [] (y ∷ (middle ++ e ∷ rest)) = cc is in cc k)
+  tick-place : (front rest : List Entry) (other : ℕ) → HoldAll lines (walk (base_of lines (trace_of c)) front) → IsIn c.entries front (Tick other) ⊎ IsBehind c.entries (Tick moment ∷ []) front (Tick other) → ⊥
+  tick-place front rest other all (inl here) = wanted front here.rest other here.is all
+  tick-place front rest other all (inr later) =
+      unheld (subst (λ z. HoldAll lines (walk (base_of lines (trace_of c)) z)) (later.front_is ∙ ap (λ z. c.entries ++ z) (last later.middle later.rest (Tick other) later.is) ∙ append-nil c.entries) all)
 
-    go : (front rest : List Entry) (other : ℕ) → HoldAll lines (walk b front) → IsIn c.entries front (Tick other) ⊎ IsBehind c.entries a.more front (Tick other) → ⊥
-    go front rest other all (inl here) = wanted front here.rest other here.is all
-    go front rest other all (inr later) = open (subst (λ z. HoldAll lines (walk b z)) (later.front_is ∙ ap (λ z. c.entries ++ z) (last later.middle later.rest (Tick other) (sym one ∙ later.is)) ∙ append-nil c.entries) all)
+  wanted-tick : TicksAreWanted lines d
+  wanted-tick = subst (λ z. TicksForPolls z d.entries) (sym base-is) (λ front rest other is all. tick-place front rest other all (one-of-two c.entries (Tick moment ∷ []) front rest (Tick other) (sym longer ∙ is)))
 
 adds-any : (of : NodeId → Bool) (c d : CourierParts) → Adds of c d → Adds any_node c d
 adds-any of c d a = record { more = a.more; longer = a.longer; own_entries = λ m f. never-false f; start = a.start; opened = a.opened; tells = a.tells }
@@ -340,7 +338,7 @@ module _ {M : Type 0} {g : _} (w : Media M) (lines : List Line) where
 
       -- a poll that holds no decision
       not-all : all_held ps ≡ false → HoldAll lines h → ⊥
-      not-all open all = never-false (sym open ∙ held-all 0 ps (λ k p there. poll-holds k p there))
+      not-all unheld all = never-false (sym (held-all 0 ps (λ k p there. poll-holds k p there)) ∙ unheld)
         where
           line-at : (ls : List Line) (k : ℕ) → k < length ls → (l : Line) × (slice_get ls k ≡ Some l)
           line-at [] k less = absurd (omega (arith, less))
@@ -357,7 +355,7 @@ module _ {M : Type 0} {g : _} (w : Media M) (lines : List Line) where
           held-all n (q ∷ qs) f = ap (λ t. t && all_held qs) (f 0 q refl) ∙ held-all n qs (λ k p there. f (suc k) p there)
 
       pub ticked-wanted : all_held ps ≡ false → TicksAreWanted lines c → TicksAreWanted lines d
-      ticked-wanted open wanted = wanted-tick lines c d ticked-adds (tick_moment c t.answer) refl (not-all open) wanted
+      ticked-wanted unheld wanted = wanted-tick lines c d (tick_moment c t.answer) t.entries (λ i. record { start = t.start i; opened = t.opened i; lines = lines }) (not-all unheld) wanted
 
       pub ticked-ticks : (hall_of lines d).ticks ≡ h.ticks + 1
       ticked-ticks = ap (λ (z : Hall). z.ticks) leads
@@ -379,11 +377,11 @@ module _ {M : Type 0} {g : _} (w : Media M) (lines : List Line) where
     goes-round same = subst (λ z. HasCome w lines o z new qs false ticks) (sym same) (record { between = gone.between; adds = there-adds; ticks_are = there-ticks; wanted = there-wanted })
 
     pub goes-ticked : (some_late new ≡ false) × AllEmpty (state_of mid.flight) × (ticks < limits.ticks) × HasTicked mid d × (all_held qs ≡ false) → HasCome w lines o d (all_late new) qs true (ticks + 1)
-    goes-ticked (calm, empty, less, t, open) = record {
+    goes-ticked (calm, empty, less, t, unheld) = record {
       between = ticked-between mid new qs gone.between count calm d empty t;
       adds = adds-join any_node o mid d there-adds (ticked-adds mid new qs gone.between count calm d empty t);
       ticks_are = ticked-ticks mid new qs gone.between count calm d empty t ∙ ap (λ k. k + 1) there-ticks;
-      wanted = ticked-wanted mid new qs gone.between count calm d empty t open there-wanted;
+      wanted = ticked-wanted mid new qs gone.between count calm d empty t unheld there-wanted;
     }
 
     over-for : ticks ≤ limits.ticks → (all_held qs ≡ true) ⊎ ((limits.messages ≤ length mid.sent) ⊎ ((some_late new ≡ false) × AllEmpty (state_of mid.flight) × (limits.ticks ≤ ticks))) → IsOver lines limits mid qs

@@ -1,5 +1,5 @@
 -- How members' media fare over turns, rounds and Ticks.
-use Rattle.std.proofs.Common.{◌≡◌, ◌≢◌, ℕ, ◌+◌, ◌≤◌, Bool, true, false, List, [], ◌∷◌, ◌++◌, inl, inr, refl, sym, ap, subst, ◌∙◌, arith, append_assoc, Ok}
+use Rattle.std.proofs.Common.{◌≡◌, ◌≢◌, ℕ, ◌+◌, ◌≤◌, Bool, true, false, List, [], ◌∷◌, ◌++◌, inl, inr, refl, sym, ap, subst, ◌∙◌, arith, append_assoc, zero-add, Ok}
 use Rattle.std.proofs.lemmas.List.{append-nil}
 use Rattle.std.specs.Prelude.{Option, Some, None, ◌-◌, ◌==◌, length, drop, slice_index, IsTrue, if◌then◌else◌}
 use Rattle.std.proofs.lemmas.Bool.{cases_Bool}
@@ -64,7 +64,7 @@ clean-joins a b c first kept second page blank = elim (cases_Bool (is_blank (pag
 ]
 
 apart-append : (xs ys : List Effect) → pages_apart (xs ++ ys) ≡ pages_apart xs + pages_apart ys
-apart-append [] ys = refl
+apart-append [] ys = sym (zero-add (pages_apart ys))
 apart-append (x ∷ xs) ys = let e : pages_apart (xs ++ ys) ≡ pages_apart xs + pages_apart ys = apart-append xs ys in omega (arith, e)
 
 -- a log that grew, and grew again
