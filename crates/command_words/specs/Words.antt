@@ -7,7 +7,7 @@ use Rattle.value_form.specs.declared.objects.ObjectId.{ObjectId}
 use Rattle.report_writer.specs.Parts.{object_text}
 use Rattle.command_words.specs.declared.commands.Options.{Options}
 use Rattle.command_words.specs.declared.commands.Command.{Command}
-use Rattle.command_words.specs.declared.commands.Command.TheVariants.{Run, Load, History, Retire}
+use Rattle.command_words.specs.declared.commands.Command.TheVariants.{Run, Load, History, Retire, Votes}
 use Rattle.command_words.specs.declared.options.Given.{Given}
 
 -- ---- numbers
@@ -47,6 +47,10 @@ options_of g = record { workers = unwrap_or g.workers 1; ticks = unwrap_or g.tic
 abbrev pub AreOptions : Options → List (List ℕ) → Type 0
 AreOptions o words = (g : Given) × AreGiven g words × (o ≡ options_of g)
 
+-- of votes, which have no workers
+abbrev pub AreVoteOptions : Options → List (List ℕ) → Type 0
+AreVoteOptions o words = (g : Given) × AreGiven g words × (g.workers ≡ None) × (o ≡ options_of g)
+
 -- ---- commands
 
 pub record IsLoad (seed count : ℕ) (o : Options) (words : List (List ℕ)) : Type 0 where
@@ -83,6 +87,7 @@ AreWords (Run o) words = (more : List (List ℕ)) × (words ≡ codes "run" ∷ 
 AreWords (Load seed count o) words = IsLoad seed count o words
 AreWords (History object) words = IsHistory object words
 AreWords (Retire repository clock) words = IsRetire repository clock words
+AreWords (Votes o) words = (more : List (List ℕ)) × (words ≡ codes "votes" ∷ more) × AreVoteOptions o more
 
 -- what the words of a call are
 abbrev pub said : List (Bor (List ℕ)) → List (List ℕ)

@@ -4,7 +4,7 @@ ghost use Rattle.value_form.specs.declared.objects.ObjectId.{ObjectId};
 ghost use Rattle.command_words.specs.Words.{AreWords, AreNone, IsLoad, IsHistory, IsRetire, said};
 
 use crate::numbers::{number, object};
-use crate::options::options;
+use crate::options::{options, vote_options};
 use value_form::ObjectId;
 
 /// How far a run may go, and on how many threads.
@@ -38,6 +38,8 @@ pub enum Command {
         /// 1 to 1,099,511,627,775.
         clock: u64,
     },
+    /// Let three members vote on the polls that the source has, on one thread.
+    Votes(Options),
 }
 
 // A load: its seed, its count and its options.
@@ -79,10 +81,10 @@ fn retire(words: &[&str]) -> Option<Command>
     })
 }
 
-/// The command that the words are: `run OPTIONS`, `load SEED COUNT OPTIONS`, `history R.N` or
-/// `retire R CLOCK`. OPTIONS are any of `--workers W` (1 unless given), `--ticks T` (10,000) and
-/// `--messages N` (200,000), in any order, each at most once, name and number as two words. Numbers are
-/// decimal digits without a sign or a zero in front. None where they are no command.
+/// The command that the words are: `run OPTIONS`, `load SEED COUNT OPTIONS`, `history R.N`,
+/// `retire R CLOCK` or `votes OPTIONS`. OPTIONS are any of `--workers W` (1 unless given; not of votes),
+/// `--ticks T` (10,000) and `--messages N` (200,000), in any order, each at most once, name and number as
+/// two words. Numbers are decimal digits without a sign or a zero in front. None where they are no command.
 pub fn read_words(words: &[&str]) -> Option<Command>
     ensures words { IfSome result (λ c. AreWords c (said words.now)) }
     ensures none { result ≡ None → AreNone (said words.now) }
@@ -95,6 +97,7 @@ pub fn read_words(words: &[&str]) -> Option<Command>
         "load" => load(more),
         "history" => history(more),
         "retire" => retire(more),
+        "votes" => Some(Command::Votes(vote_options(more)?)),
         _ => None,
     }
 }

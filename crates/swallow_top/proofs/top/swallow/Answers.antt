@@ -1,13 +1,16 @@
-use Rattle.std.proofs.Common.{◌⊎◌, ◌∙◌, ap, refl, sym, subst}
+use Rattle.std.proofs.Common.{◌⊎◌, ◌∙◌, ◌≤◌, ap, length, refl, sym, subst}
+use Rattle.pseudo_time.specs.Lists.{Every}
 use Rattle.plan_form.specs.PlanTexts.{IsOfLanguage}
 use Rattle.plan_form.proofs.MadeLemmas.{made_is_whole}
 use Rattle.command_words.specs.Words.{AreWords, said}
+use Rattle.command_words.proofs.WordLemmas.{few-ticks}
+use Rattle.votes_command.specs.Inputs.{IsPoll}
 use Rattle.swallow_top.specs.Contract.{RefusedAs}
 use Rattle.swallow_top.specs.Histories.{AskedNothing, TellsHistory}
 use Rattle.swallow_top.specs.Retirements.{TellsRetirement}
 use Rattle.run_volumes.specs.Shelves.{shelf_sight}
 use Rattle.swallow_top.specs.Written.{sinking}
-use Rattle.swallow_top.proofs.PromiseLemmas.{language-of, promise-history, promise-load, promise-refused, promise-retire, promise-run, quiet-call, some-workers}
+use Rattle.swallow_top.proofs.PromiseLemmas.{language-of, polls-of, promise-history, promise-load, promise-no-polls, promise-refused, promise-retire, promise-run, promise-votes, quiet-call, some-workers}
 use Rattle.swallow_top.proofs.top.swallow.Goals as goal
 
 pub run_plan-requires-clause-plan : goal.run_plan-requires-clause-plan
@@ -29,17 +32,17 @@ returns-in-Err g c =
     let s = sinking (k.taken c.args.sink.now) (k.taken c.refused-status-in-Err.new.sink) (k.faults c.args.sink.now) (k.faults c.refused-status-in-Err.new.sink) in
     record {
       promise = promise-refused _ c.in-Some-Run.options c.in-Err.stop (subst (λ x. AreWords x (said c.args.words.now)) c.in-Some-Run.field-0-is c.in-Some-Run.ensures.words) c.in-Err.ensures (subst (λ n. RefusedAs c.in-Err.stop n s) (sym q.status) c.refused-status-in-Err.ensures)
-          (λ status is. quiet-call _ status is (q.media ∙ c.new-in-Err.ensures.items) refl q.trace (ap g.F.Fates.asked q.told.0) (ap g.C.Clock.answers q.told.1)) (λ name is was. absurd (was is));
+          (λ status is. quiet-call _ status is (q.media ∙ c.new-in-Err.ensures.items) refl q.trace (ap g.F.Fates.asked q.told.0) (ap g.C.Clock.answers q.told.1) q.votes) (λ name is was. absurd (was is));
     }
 
 pub returns-in-Ok : goal.returns-in-Ok
 returns-in-Ok g c = record {
-  promise = promise-run _ c.in-Some-Run.options c.in-Ok.plan (subst (λ x. AreWords x (said c.args.words.now)) c.in-Some-Run.field-0-is c.in-Some-Run.ensures.words) c.in-Ok.ensures c.run_plan.ensures.ran c.run_plan.ensures.kept;
+  promise = promise-run _ c.in-Some-Run.options c.in-Ok.plan (subst (λ x. AreWords x (said c.args.words.now)) c.in-Some-Run.field-0-is c.in-Some-Run.ensures.words) c.in-Ok.ensures c.run_plan.ensures.ran c.run_plan.ensures.kept c.run_plan.ensures.votes;
 }
 
 pub returns-in-Ok-make : goal.returns-in-Ok-make
 returns-in-Ok-make g c = record {
-  promise = promise-load _ c.in-Some-Load.seed c.in-Some-Load.count c.in-Some-Load.options c.in-Ok-make.plan (refl, refl) (subst (λ x. AreWords x (said c.args.words.now)) c.in-Some-Load.field-0-is c.in-Some-Load.ensures.words) c.in-Ok-make.ensures c.run_plan-in-Ok-make.ensures.ran c.run_plan-in-Ok-make.ensures.kept;
+  promise = promise-load _ c.in-Some-Load.seed c.in-Some-Load.count c.in-Some-Load.options c.in-Ok-make.plan (refl, refl) (subst (λ x. AreWords x (said c.args.words.now)) c.in-Some-Load.field-0-is c.in-Some-Load.ensures.words) c.in-Ok-make.ensures c.run_plan-in-Ok-make.ensures.ran c.run_plan-in-Ok-make.ensures.kept c.run_plan-in-Ok-make.ensures.votes;
 }
 
 pub returns-in-Some-History : goal.returns-in-Some-History
@@ -57,7 +60,7 @@ returns-in-Some-History g c =
     let tells = subst (λ n. AskedNothing w old new c.quiet-in-Some-History.result.media n ⊎ TellsHistory w old new object c.quiet-in-Some-History.result.media s n) (sym q.status) media in
     record {
       promise = promise-history _ object (refl, refl) (subst (λ x. AreWords x (said c.args.words.now)) c.in-Some-History.field-0-is c.in-Some-History.ensures.words) tells
-          (record { trace = q.trace; fates = ap g.F.Fates.asked q.told.0; clock = ap g.C.Clock.answers q.told.1 });
+          (record { trace = q.trace; fates = ap g.F.Fates.asked q.told.0; clock = ap g.C.Clock.answers q.told.1 }) q.votes;
     }
 
 pub returns-in-Some-Retire : goal.returns-in-Some-Retire
@@ -76,5 +79,32 @@ returns-in-Some-Retire g c =
     let tells = subst (λ n. AskedNothing w old new c.quiet-in-Some-Retire.result.media n ⊎ TellsRetirement w old new r mark c.quiet-in-Some-Retire.result.media s n) (sym q.status) media in
     record {
       promise = promise-retire _ r mark (refl, refl) (subst (λ x. AreWords x (said c.args.words.now)) c.in-Some-Retire.field-0-is c.in-Some-Retire.ensures.words) tells
-          (record { trace = q.trace; fates = ap g.F.Fates.asked q.told.0; clock = ap g.C.Clock.answers q.told.1 });
+          (record { trace = q.trace; fates = ap g.F.Fates.asked q.told.0; clock = ap g.C.Clock.answers q.told.1 }) q.votes;
+    }
+
+pub tell_votes-requires-clause-polls : goal.tell_votes-requires-clause-polls
+tell_votes-requires-clause-polls g c =
+    subst (λ l. Every IsPoll l) (sym c.as_slice.ensures.value) (polls-of (g.I.Source.left c.args.source.now) (g.I.Source.left c.read_polls.new.source) (g.I.Source.faults c.args.source.now) (g.I.Source.faults c.read_polls.new.source) c.in-Ok-read_polls.polls c.in-Ok-read_polls.ensures).0
+
+pub tell_votes-requires-clause-few : goal.tell_votes-requires-clause-few
+tell_votes-requires-clause-few g c =
+    subst (λ l. length l ≤ 16) (sym c.as_slice.ensures.value) (polls-of (g.I.Source.left c.args.source.now) (g.I.Source.left c.read_polls.new.source) (g.I.Source.faults c.args.source.now) (g.I.Source.faults c.read_polls.new.source) c.in-Ok-read_polls.polls c.in-Ok-read_polls.ensures).1
+
+pub tell_votes-requires-clause-ticks : goal.tell_votes-requires-clause-ticks
+tell_votes-requires-clause-ticks g c = few-ticks c.in-Some-Votes.options (subst (λ x. AreWords x (said c.args.words.now)) c.in-Some-Votes.field-0-is c.in-Some-Votes.ensures.words).0 (subst (λ x. AreWords x (said c.args.words.now)) c.in-Some-Votes.field-0-is c.in-Some-Votes.ensures.words).2
+
+pub returns-in-Ok-read_polls : goal.returns-in-Ok-read_polls
+returns-in-Ok-read_polls g c = record {
+  promise = promise-votes _ c.in-Some-Votes.options c.in-Ok-read_polls.polls c.as_slice.result.now c.as_slice.ensures.value (subst (λ x. AreWords x (said c.args.words.now)) c.in-Some-Votes.field-0-is c.in-Some-Votes.ensures.words) c.in-Ok-read_polls.ensures c.tell_votes.ensures.polled;
+}
+
+pub returns-in-Err-read_polls : goal.returns-in-Err-read_polls
+returns-in-Err-read_polls g c =
+    let q = c.quiet-in-Err-read_polls.ensures in
+    let k = g.O.Sink in
+    let s = sinking (k.taken c.args.sink.now) (k.taken c.refused-status-in-Err-read_polls.new.sink) (k.faults c.args.sink.now) (k.faults c.refused-status-in-Err-read_polls.new.sink) in
+    record {
+      promise = promise-no-polls _ c.in-Some-Votes.options c.in-Err-read_polls.stop (subst (λ x. AreWords x (said c.args.words.now)) c.in-Some-Votes.field-0-is c.in-Some-Votes.ensures.words) c.in-Err-read_polls.ensures
+          (subst (λ n. RefusedAs c.in-Err-read_polls.stop n s) (sym q.status) c.refused-status-in-Err-read_polls.ensures)
+          (λ status is. quiet-call _ status is (q.media ∙ c.new-in-Err-read_polls.ensures.items) refl q.trace (ap g.F.Fates.asked q.told.0) (ap g.C.Clock.answers q.told.1) q.votes) (λ name is was. absurd (was is));
     }
