@@ -18,7 +18,7 @@ all-from h i (l ∷ ls) all =
     let here : i ≡ i + 0 = omega arith in
     let first : is_some (held (h.polls i)) ≡ true = ap (λ n. is_some (held (h.polls n))) here ∙ all 0 l refl in
     let rest : all_held (standing_from h (suc i) ls) ≡ true =
-        all-from h (suc i) ls (λ k x at. let next : suc i + k ≡ i + suc k = omega arith in ap (λ n. is_some (held (h.polls n))) next ∙ all (suc k) x at) in
+    all-from h (suc i) ls (λ k x at. let next : suc i + k ≡ i + suc k = omega arith in ap (λ n. is_some (held (h.polls n))) next ∙ all (suc k) x at) in
     λ j. first j && rest j
 
 line-there : (ls : List PollLine) (k : ℕ) (l : PollLine) → slice_get ls k ≡ Some l → slice_get (lines_of ls) k ≡ Some (line_of l)

@@ -34,8 +34,8 @@ module _ {M : Type 0} (w : Media M) where
   pub members-taken : (a b c d : ShelfSight) (x y z : Option M) → TakesOne w a b (member_name 1) x → TakesOne w b c (member_name 2) y → TakesOne w c d (member_name 3) z → WereTaken w a d member_names (x ∷ y ∷ z ∷ [])
   members-taken a b c d x y z p q r =
       taken-both w a c d (member_name 1 ∷ member_name 2 ∷ []) (x ∷ y ∷ []) (member_name 3 ∷ []) (z ∷ [])
-        (taken-both w a b c (member_name 1 ∷ []) (x ∷ []) (member_name 2 ∷ []) (y ∷ []) (taken-one w a b (member_name 1) x p) (taken-one w b c (member_name 2) y q) second-apart)
-        (taken-one w c d (member_name 3) z r) third-apart
+      (taken-both w a b c (member_name 1 ∷ []) (x ∷ []) (member_name 2 ∷ []) (y ∷ []) (taken-one w a b (member_name 1) x p) (taken-one w b c (member_name 2) y q) second-apart)
+      (taken-one w c d (member_name 3) z r) third-apart
 
   given-usable : (a : ShelfSight) (name : MediumName) (m : Option M) → IsGiven w a name m → IsUsable w m
   given-usable a name None h = tt
