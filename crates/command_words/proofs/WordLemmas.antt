@@ -12,7 +12,7 @@ use Rattle.std.proofs.lemmas.Str.Parse.{IsNumeralModel, digit_from_value, numera
 use Rattle.value_form.specs.declared.objects.ObjectId.{ObjectId}
 use Rattle.command_words.specs.declared.options.Given.{Given}
 use Rattle.command_words.specs.declared.commands.Options.{Options}
-use Rattle.command_words.specs.declared.commands.Command.TheVariants.{Run, Load, History, Retire}
+use Rattle.command_words.specs.declared.commands.Command.TheVariants.{Run, Load, History, Retire, Watch, AsOf, Audit}
 use Rattle.command_words.specs.Words.{AreGiven, AreNone, AreOptions, IsLoad, IsNumber, IsObjectWord, IsPlain, IsWith, said}
 
 -- ---- what is written of a number
@@ -108,6 +108,15 @@ run-not-history e = absurd (cc)
 
 run-not-retire : codes "run" ≡ codes "retire" → ⊥
 run-not-retire e = absurd (cc)
+
+run-not-watch : codes "run" ≡ codes "watch" → ⊥
+run-not-watch e = absurd (cc)
+
+run-not-asof : codes "run" ≡ codes "asof" → ⊥
+run-not-asof e = absurd (cc)
+
+run-not-audit : codes "run" ≡ codes "audit" → ⊥
+run-not-audit e = absurd (cc)
 
 ticks-not-messages : codes "--ticks" ≡ codes "--messages" → ⊥
 ticks-not-messages e = absurd (cc)
@@ -232,6 +241,18 @@ run-alone (a ∷ ws) h first bad (History object) is = let are = is.are in run-n
     front : {x : List ℕ} {more : List (List ℕ)} → a.now ∷ said ws ≡ x ∷ more → a.now ≡ x
     front e = cc
 run-alone (a ∷ ws) h first bad (Retire repository clock) is = let are = is.are in run-not-retire (sym first ∙ front are)
+  where
+    front : {x : List ℕ} {more : List (List ℕ)} → a.now ∷ said ws ≡ x ∷ more → a.now ≡ x
+    front e = cc
+run-alone (a ∷ ws) h first bad (Watch repository rule) is = let are = is.are in run-not-watch (sym first ∙ front are)
+  where
+    front : {x : List ℕ} {more : List (List ℕ)} → a.now ∷ said ws ≡ x ∷ more → a.now ≡ x
+    front e = cc
+run-alone (a ∷ ws) h first bad (AsOf repository clock) is = let are = is.are in run-not-asof (sym first ∙ front are)
+  where
+    front : {x : List ℕ} {more : List (List ℕ)} → a.now ∷ said ws ≡ x ∷ more → a.now ≡ x
+    front e = cc
+run-alone (a ∷ ws) h first bad (Audit object) is = let are = is.are in run-not-audit (sym first ∙ front are)
   where
     front : {x : List ℕ} {more : List (List ℕ)} → a.now ∷ said ws ≡ x ∷ more → a.now ≡ x
     front e = cc

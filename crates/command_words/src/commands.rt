@@ -1,10 +1,12 @@
 //! The commands.
 ghost use Rattle.std.specs.Prelude.{◌≡◌, ◌∷◌, ℕ, codes, None, IfSome, MatchOption};
 ghost use Rattle.value_form.specs.declared.objects.ObjectId.{ObjectId};
-ghost use Rattle.command_words.specs.Words.{AreWords, AreNone, IsLoad, IsHistory, IsRetire, said};
+ghost use Rattle.command_words.specs.declared.rules.Rule.{Rule};
+ghost use Rattle.command_words.specs.Words.{AreWords, AreNone, IsLoad, IsHistory, IsRetire, IsWatch, IsAsOf, IsAudit, said};
 
 use crate::numbers::{number, object};
 use crate::options::options;
+use crate::rules::{Rule, rule_of};
 use value_form::ObjectId;
 
 /// How far a run may go, and on how many threads.
@@ -38,6 +40,21 @@ pub enum Command {
         /// 1 to 1,099,511,627,775.
         clock: u64,
     },
+    /// Bring the totals of a repository's objects by a rule up to date.
+    Watch {
+        /// 1 to 16.
+        repository: u8,
+        rule: Rule,
+    },
+    /// Tell the map of a repository's objects as of the first pseudotime of this clock.
+    AsOf {
+        /// 1 to 16.
+        repository: u8,
+        /// 1 to 1,099,511,627,775.
+        clock: u64,
+    },
+    /// Tell all versions of an object, and which volume has each.
+    Audit(ObjectId),
 }
 
 // A load: its seed, its count and its options.
@@ -79,8 +96,47 @@ fn retire(words: &[&str]) -> Option<Command>
     })
 }
 
-/// The command that the words are: `run OPTIONS`, `load SEED COUNT OPTIONS`, `history R.N` or
-/// `retire R CLOCK`. OPTIONS are any of `--workers W` (1 unless given), `--ticks T` (10,000) and
+// A watch: its repository and its rule.
+fn watch(words: &[&str]) -> Option<Command>
+    ensures { MatchOption result ((repository : ℕ) (rule : Rule) → IsWatch repository rule (codes "watch" ∷ said words.now) → ⊥)
+        (λ c. AreWords c (codes "watch" ∷ said words.now)) }
+{
+    let [repository, word] = words else {
+        return None;
+    };
+    Some(Command::Watch {
+        repository: number(repository, 1, 16)? as u8,
+        rule: rule_of(word)?,
+    })
+}
+
+// A map: its repository and its clock.
+fn asof(words: &[&str]) -> Option<Command>
+    ensures { MatchOption result ((repository clock : ℕ) → IsAsOf repository clock (codes "asof" ∷ said words.now) → ⊥)
+        (λ c. AreWords c (codes "asof" ∷ said words.now)) }
+{
+    let [repository, clock] = words else {
+        return None;
+    };
+    Some(Command::AsOf {
+        repository: number(repository, 1, 16)? as u8,
+        clock: number(clock, 1, 1_099_511_627_775)?,
+    })
+}
+
+// An audit: its object.
+fn audit(words: &[&str]) -> Option<Command>
+    ensures { MatchOption result ((o : ObjectId) → IsAudit o (codes "audit" ∷ said words.now) → ⊥) (λ c. AreWords c (codes "audit" ∷ said words.now)) }
+{
+    let [word] = words else {
+        return None;
+    };
+    Some(Command::Audit(object(word)?))
+}
+
+/// The command that the words are: `run OPTIONS`, `load SEED COUNT OPTIONS`, `history R.N`,
+/// `retire R CLOCK`, `watch R RULE`, `asof R CLOCK` or `audit R.N`. RULE is `count`, `sum` or `last`.
+/// OPTIONS are any of `--workers W` (1 unless given), `--ticks T` (10,000) and
 /// `--messages N` (200,000), in any order, each at most once, name and number as two words. Numbers are
 /// decimal digits without a sign or a zero in front. None where they are no command.
 pub fn read_words(words: &[&str]) -> Option<Command>
@@ -95,6 +151,9 @@ pub fn read_words(words: &[&str]) -> Option<Command>
         "load" => load(more),
         "history" => history(more),
         "retire" => retire(more),
+        "watch" => watch(more),
+        "asof" => asof(more),
+        "audit" => audit(more),
         _ => None,
     }
 }

@@ -1,0 +1,66 @@
+//! The versions of an object.
+ghost use Rattle.std.specs.Prelude.{◌≡◌, ◌≤◌, ◌∷◌, List, IfOk, OnOk, length, reverse};
+ghost use Rattle.object_history.specs.declared.marks.Mark.{Mark};
+ghost use Rattle.archive_command.specs.Versions as spec;
+
+use commit_watch::Version;
+use object_history::Mark;
+use pseudo_time::PseudoTime;
+use std::alloc::{AllocError, Global};
+use value_form::ObjectId;
+
+// The place behind the versions at the front that start no later.
+fn place_behind(versions: &[Version], start: PseudoTime) -> usize
+    ensures place { result ≡ spec.count_until start versions.now }
+    ensures within { result ≤ length versions.now }
+{
+    for (place, version) in versions.iter().enumerate() {
+        if start.is_before(version.start) {
+            return place;
+        }
+    }
+    versions.len()
+}
+
+// Adds the version that the mark puts, where it is one of the object.
+fn add_version(
+    alloc: Global,
+    versions: &mut Vec<Version>,
+    object: ObjectId,
+    mark: &Mark,
+) -> Result<(), AllocError>
+    ensures { (m : List Mark) → versions.old.items ≡ spec.versions_of object m → OnOk result (versions.new.items ≡ spec.versions_of object (mark.now ∷ m)) }
+{
+    match mark {
+        Mark::Put(name, start, value) if *name == object => {
+            let value = value.copy(alloc)?;
+            let place = place_behind(versions.as_slice(), *start);
+            versions.insert(
+                place,
+                Version {
+                    object,
+                    start: *start,
+                    value,
+                },
+            )?;
+            Ok(())
+        }
+        _ => Ok(()),
+    }
+}
+
+/// The versions of the object among the marks, which stand oldest first, in rising order of start; of equal
+/// starts the marks' order counts.
+pub fn versions_of(
+    alloc: Global,
+    object: ObjectId,
+    marks: &[Mark],
+) -> Result<Vec<Version>, AllocError>
+    ensures { IfOk result (λ versions. versions.items ≡ spec.versions_of object (reverse marks.now)) }
+{
+    let mut versions = Vec::new(alloc);
+    for mark in marks {
+        add_version(alloc, &mut versions, object, mark)?;
+    }
+    Ok(versions)
+}
