@@ -64,29 +64,34 @@ holding_volume archive volumes o x = volume_at volumes (holder_of o x archive)
 
 -- ---- what a log of totals says
 
--- a number that was put for the object is its total, and the start is how far it was folded
-abbrev pub total_put : ObjectId → ObjectId → TimeParts → Value → Option (Moved ℤ)
-total_put o a x Nothing = None
-total_put o a x (Number z) = if same_object a o then Some (record { object = a; cursor = x; total = z }) else None
-total_put o a x (Text bytes) = None
+-- a number that is put for an object is its total, and the start is how far it was folded
+abbrev pub number_put : ObjectId → TimeParts → Value → Option (Moved ℤ)
+number_put o x Nothing = None
+number_put o x (Number z) = Some (record { object = o; cursor = x; total = z })
+number_put o x (Text bytes) = None
 
--- the total of the object that the effect puts
-abbrev pub total_in : ObjectId → Effect → Option (Moved ℤ)
-total_in o (Put a x v) = total_put o a x v
-total_in o (Stretch a x) = None
-total_in o (Begin s d) = None
-total_in o (Decide s d) = None
-total_in o (Learn s c) = None
-total_in o (Run n) = None
-total_in o (Act i h t n c b) = None
-total_in o (Try i s) = None
-total_in o (Got k v) = None
-total_in o (Acked k) = None
-total_in o (End i e) = None
-total_in o (effect.Mark x) = None
-total_in o Whole = None
+-- the total that an effect puts
+abbrev pub total_put : Effect → Option (Moved ℤ)
+total_put (Put o x v) = number_put o x v
+total_put (Stretch o x) = None
+total_put (Begin s d) = None
+total_put (Decide s d) = None
+total_put (Learn s c) = None
+total_put (Run n) = None
+total_put (Act i h t n c b) = None
+total_put (Try i s) = None
+total_put (Got k v) = None
+total_put (Acked k) = None
+total_put (End i e) = None
+total_put (effect.Mark x) = None
+total_put Whole = None
+
+-- it, where it is one of the object
+abbrev pub if_of : ObjectId → Option (Moved ℤ) → Option (Moved ℤ)
+if_of o None = None
+if_of o (Some t) = if same_object t.object o then Some t else None
 
 -- the last total of the object that the log puts; it stands oldest first
 unfoldable pub last_total : List Effect → ObjectId → Option (Moved ℤ)
 last_total [] o = None
-last_total (f ∷ log) o = or_before (last_total log o) (total_in o f)
+last_total (f ∷ log) o = or_before (last_total log o) (if_of o (total_put f))

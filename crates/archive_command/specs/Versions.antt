@@ -24,6 +24,11 @@ abbrev pub count_until : TimeParts → List Version → ℕ
 count_until x [] = 0
 count_until x (v ∷ vs) = if lt x v.start then 0 else suc (count_until x vs)
 
+-- one more, behind those
+abbrev pub with_version : Version → List Version → List Version
+with_version v [] = v ∷ []
+with_version v (w ∷ ws) = if lt v.start w.start then v ∷ w ∷ ws else w ∷ with_version v ws
+
 -- by how stamps were settled, and which volumes have these marks
 abbrev pub told_line : (StampParts → Option Bool) → List (List Mark) → List ℕ → Version → List ℕ
 told_line settled archive volumes v = version_line v.start (settled v.start.stamp) v.value (holding_volume archive volumes v.object v.start)

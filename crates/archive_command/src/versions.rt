@@ -22,6 +22,15 @@ fn place_behind(versions: &[Version], start: PseudoTime) -> usize
     versions.len()
 }
 
+// Adds a version behind those that start no later.
+fn put_version(versions: &mut Vec<Version>, version: Version) -> Result<(), AllocError>
+    ensures { OnOk result (versions.new.items ≡ spec.with_version version versions.old.items) }
+{
+    let place = place_behind(versions.as_slice(), version.start);
+    versions.insert(place, version)?;
+    Ok(())
+}
+
 // Adds the version that the mark puts, where it is one of the object.
 fn add_version(
     alloc: Global,
@@ -32,20 +41,23 @@ fn add_version(
     ensures { (m : List Mark) → versions.old.items ≡ spec.versions_of object m → OnOk result (versions.new.items ≡ spec.versions_of object (mark.now ∷ m)) }
 {
     match mark {
-        Mark::Put(name, start, value) if *name == object => {
+        Mark::Put(name, start, value) => {
+            if *name != object {
+                return Ok(());
+            }
             let value = value.copy(alloc)?;
-            let place = place_behind(versions.as_slice(), *start);
-            versions.insert(
-                place,
+            put_version(
+                versions,
                 Version {
                     object,
                     start: *start,
                     value,
                 },
-            )?;
-            Ok(())
+            )
         }
-        _ => Ok(()),
+        Mark::Stretch(_, _) => Ok(()),
+        Mark::Settle(_, _) => Ok(()),
+        Mark::Floor(_) => Ok(()),
     }
 }
 

@@ -1,8 +1,8 @@
 -- The totals of a repository's objects by a rule: what becomes of them, and what is written of that. Marks stand newest first, the effects of a log oldest first.
-use Rattle.std.specs.Prelude.{◌≡◌, ℕ, ℤ, pos, Bool, true, List, map, filter, not, Option, Some, None, Result, Ok}
+use Rattle.std.specs.Prelude.{◌≡◌, ℕ, ℤ, pos, Bool, true, List, map, filter, Option, Some, None, Result, Ok}
 use Rattle.std.specs.BTreeMap.{BTreeMap, get}
 use Rattle.pseudo_time.specs.TimeParts.{TimeParts}
-use Rattle.pseudo_time.specs.Order.{same_time}
+use Rattle.pseudo_time.specs.Order.{lt}
 use Rattle.value_form.specs.declared.objects.ObjectId.{ObjectId}
 use Rattle.value_form.specs.declared.values.Value.TheVariants.{Number}
 use Rattle.value_form.specs.Objects.{object_cmp}
@@ -43,7 +43,7 @@ pub record AreTotals (rule : Rule) (m : List Mark) (log : List Effect) (list : L
 -- the total was folded further than this
 abbrev pub went_on : Option TimeParts → Moved ℤ → Bool
 went_on None t = true
-went_on (Some cursor) t = not (same_time cursor t.cursor)
+went_on (Some cursor) t = lt cursor t.cursor
 
 abbrev pub total_effect : Moved ℤ → Effect
 total_effect t = Put t.object t.cursor (Number t.total)

@@ -20,7 +20,7 @@ fn went_on(cursor: Option<PseudoTime>, total: &Moved<i64>) -> bool
 {
     match cursor {
         None => true,
-        Some(cursor) => cursor != total.cursor,
+        Some(cursor) => cursor.is_before(total.cursor),
     }
 }
 
