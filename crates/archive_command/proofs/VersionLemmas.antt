@@ -1,5 +1,6 @@
 -- Versions that are put in rising order of start.
-use Rattle.std.proofs.Common.{◌≡◌, ℕ, suc, Bool, true, false, List, [], ◌∷◌, ◌++◌, map, take, drop, refl, sym, ◌∙◌, ap, subst, if◌then◌else◌, ◌&&◌}
+use Rattle.std.proofs.Common.{◌≡◌, ℕ, suc, Bool, true, false, List, [], ◌∷◌, ◌++◌, map, take, drop, refl, sym, ◌∙◌, ap, subst, if◌then◌else◌, ◌&&◌, not, ◌==◌}
+use Rattle.std.specs.Prelude.{Result, Ok, Err, OnOk}
 use Rattle.std.proofs.lemmas.Bool.{true≢false, false≢true}
 use Rattle.pseudo_time.specs.TimeParts.{TimeParts}
 use Rattle.pseudo_time.specs.Order.{lt}
@@ -12,6 +13,7 @@ use Rattle.object_history.specs.History.{Seen, version_count}
 use Rattle.object_history.specs.Settled.{insert, listed}
 use Rattle.commit_watch.specs.declared.versions.Version.{Version}
 use Rattle.commit_watch.specs.Folds.{version_of}
+use Rattle.commit_watch.proofs.ListLemmas.{same-parts}
 use Rattle.archive_command.specs.Versions.{count_until, versions_of, with_version}
 
 -- ---- by place
@@ -50,8 +52,19 @@ other-if : (b : Bool) (o : ObjectId) (xs ys : List Seen) → b ≡ false → map
 other-if true o xs ys h = absurd (true≢false h)
 other-if false o xs ys h = refl
 
--- a put of the object
-pub version-more : (f : Mark) (a o : ObjectId) (x : TimeParts) (v : Value) (m : List Mark) (old new : List Version) → f ≡ Put a x v → same_object a o ≡ true → old ≡ versions_of o m →
+not-no : (b : Bool) → false ≡ not b → b ≡ true
+not-no true h = refl
+not-no false h = absurd (false≢true h)
+
+not-yes : (b : Bool) → true ≡ not b → b ≡ false
+not-yes true h = absurd (true≢false h)
+not-yes false h = refl
+
+on-ok : {A E P Q : Type 0} (r : Result A E) → (P → Q) → OnOk r P → OnOk r Q
+on-ok (Ok a) f h = f h
+on-ok (Err e) f h = h
+
+version-more : (f : Mark) (a o : ObjectId) (x : TimeParts) (v : Value) (m : List Mark) (old new : List Version) → f ≡ Put a x v → same_object a o ≡ true → old ≡ versions_of o m →
     new ≡ with_version (record { object = o; start = x; value = v }) old → new ≡ versions_of o (f ∷ m)
 unfolding listed
 version-more f a o x v m old new is mine h e =
@@ -62,10 +75,18 @@ version-more f a o x v m old new is mine h e =
     ∙ mine-if (same_object a o) o (insert q (listed (λ y. true) o m)) (listed (λ y. true) o m) mine
     ∙ ap (λ (g : Mark). versions_of o (g ∷ m)) (sym is)
 
+-- a put of the object
+pub version-put : {A E : Type 0} (f : Mark) (a o : ObjectId) (x : TimeParts) (v w : Value) (b : Bool) (m : List Mark) (old new : List Version) (r : Result A E) → f ≡ Put a x v → w ≡ v →
+    b ≡ not (a.repository == o.repository && a.number == o.number) → b ≡ false → OnOk r (new ≡ with_version (record { object = o; start = x; value = w }) old) → old ≡ versions_of o m → OnOk r (new ≡ versions_of o (f ∷ m))
+version-put f a o x v w b m old new r is same e k put h =
+    on-ok r (version-more f a o x w m old new (is ∙ ap (Put a x) (sym same)) (sym (same-parts a o) ∙ not-no (a.repository == o.repository && a.number == o.number) (sym k ∙ e)) h) put
+
 -- and one of another
-pub version-other : (f : Mark) (a o : ObjectId) (x : TimeParts) (v : Value) (m : List Mark) (old : List Version) → f ≡ Put a x v → same_object a o ≡ false → old ≡ versions_of o m → old ≡ versions_of o (f ∷ m)
+pub version-other : (f : Mark) (a o : ObjectId) (x : TimeParts) (v : Value) (b : Bool) (m : List Mark) (old : List Version) → f ≡ Put a x v → b ≡ not (a.repository == o.repository && a.number == o.number) → b ≡ true →
+    old ≡ versions_of o m → old ≡ versions_of o (f ∷ m)
 unfolding listed
-version-other f a o x v m old is other h =
+version-other f a o x v b m old is e k h =
     h
-    ∙ other-if (same_object a o) o (insert (record { place = version_count o m; start = x; value = v }) (listed (λ y. true) o m)) (listed (λ y. true) o m) other
+    ∙ other-if (same_object a o) o (insert (record { place = version_count o m; start = x; value = v }) (listed (λ y. true) o m)) (listed (λ y. true) o m)
+    (sym (same-parts a o) ∙ not-yes (a.repository == o.repository && a.number == o.number) (sym k ∙ e))
     ∙ ap (λ (g : Mark). versions_of o (g ∷ m)) (sym is)

@@ -32,6 +32,7 @@ fn put_version(versions: &mut Vec<Version>, version: Version) -> Result<(), Allo
 }
 
 // Adds the version that the mark puts, where it is one of the object.
+#[tactic(auto, unfolding(object_history::specs::Settled::listed))]
 fn add_version(
     alloc: Global,
     versions: &mut Vec<Version>,
@@ -63,6 +64,7 @@ fn add_version(
 
 /// The versions of the object among the marks, which stand oldest first, in rising order of start; of equal
 /// starts the marks' order counts.
+#[tactic(auto, unfolding(object_history::specs::Settled::listed))]
 pub fn versions_of(
     alloc: Global,
     object: ObjectId,

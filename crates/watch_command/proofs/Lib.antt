@@ -1,1 +1,4 @@
+pub mod MarkLemmas
 pub mod TotalLemmas
+pub mod RangeLemmas
+pub mod WatchLemmas

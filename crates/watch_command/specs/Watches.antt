@@ -100,7 +100,7 @@ module _ {M : Type 0} (w : Media M) {g : _} (repository : ℕ) (log puts : List 
   Adds (Told told) new = (told ≡ text) × Holds w (log ++ puts) new
   Adds (Refused line) new = ⊥
   Adds (Fallen line) new = IsCutOff new line
-  Adds NoMemory new = Holds w log new
+  Adds NoMemory new = HasFront new
 
 -- a fault stops it, with a line if that could be made
 abbrev pub CutsOff : ℕ → Option DownCause → Outcome → Type 0
@@ -122,12 +122,19 @@ module _ {M : Type 0} (w : Media M) {g : _} (repository : ℕ) (rule : Rule) (m 
       pub ready : IsReady repository rule m log puts text
       pub cut : IsCutOff w repository log puts store text new line
 
+    -- memory was wanting for the line of a medium that stopped it
+    pub record IsUntold (new : M) : Type 0 where
+      pub puts : List Effect
+      pub text : List ℕ
+      pub ready : IsReady repository rule m log puts text
+      pub front : HasFront w repository log puts store text new
+
     -- what comes of a volume of totals that was opened with this log
     abbrev pub ComesOf : Outcome → M → Type 0
     ComesOf (Told text) new = IsWatched new text
     ComesOf (Refused line) new = IsOverflow repository rule m log line × Holds w log new
     ComesOf (Fallen line) new = IsStopped new line
-    ComesOf NoMemory new = Holds w log new
+    ComesOf NoMemory new = Holds w log new ⊎ IsUntold new
 
     abbrev pub ComesToMedium : Outcome → Option M → Type 0
     ComesToMedium r None = ⊥
