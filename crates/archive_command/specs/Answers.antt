@@ -1,5 +1,5 @@
 -- What is asked of a repository's archive, and what comes of it, by its volumes as they were opened.
-use Rattle.std.specs.Prelude.{◌≡◌, ℕ, List, [], length, map, reverse, Option, Some, None, Result, Ok, Err}
+use Rattle.std.specs.Prelude.{◌≡◌, ◌⊎◌, ℕ, List, [], length, map, reverse, Option, Some, None, Result, Ok, Err}
 use Rattle.pseudo_time.specs.Nodes.{repository as named}
 use Rattle.pseudo_time.specs.TimeParts.{TimeParts}
 use Rattle.pseudo_time.specs.declared.nodes.NodeId.{NodeId}
@@ -10,6 +10,8 @@ use Rattle.object_history.specs.declared.marks.Mark.{Mark}
 use Rattle.medium_port.specs.declared.shelves.MediumName.{MediumName}
 use Rattle.commit_watch.specs.declared.moved.Moved.{Moved}
 use Rattle.commit_watch.specs.Lists.{AreRising, moved_at}
+use Rattle.archive_store.specs.declared.faults.AsOfFault.{AsOfFault}
+use Rattle.archive_store.specs.declared.faults.AsOfFault.TheVariants as fault
 use Rattle.archive_store.specs.declared.starts.Start.{Start}
 use Rattle.archive_store.specs.Joined.{joined}
 use Rattle.archive_store.specs.Latest.{entry_of, last_below}
@@ -36,7 +38,13 @@ abbrev pub asked_of : Question → NodeId
 asked_of (AsOf repository at) = named repository
 asked_of (Audit object) = named object.repository
 
--- ---- by the marks of the complete volumes, newest first
+-- ---- by the marks of the complete volumes
+
+-- newest first: this version below the mark is undecided, the first by its object, then by its start
+pub record IsUndecided (at : TimeParts) (m : List Mark) (line : List ℕ) : Type 0 where
+  pub first : Start
+  pub is_first : first_open m at ≡ Some first
+  pub is_line : line ≡ undecided_line first.object first.start
 
 module _ (repository : ℕ) (at : TimeParts) (m : List Mark) where
   -- no version below the mark is undecided, and of each object the last committed one below it is listed
@@ -47,29 +55,28 @@ module _ (repository : ℕ) (at : TimeParts) (m : List Mark) where
     pub values : (o : ObjectId) → moved_at o list ≡ entry_of o (last_below m o at)
     pub is_text : text ≡ asof_text repository at list
 
-  -- this version below the mark is undecided, the first by its object, then by its start
-  pub record IsUndecided (line : List ℕ) : Type 0 where
-    pub first : Start
-    pub is_first : first_open m at ≡ Some first
-    pub is_line : line ≡ undecided_line first.object first.start
+  abbrev pub GivesMap : Outcome → Type 0
+  GivesMap (Told text) = IsAsOf text
+  GivesMap (Refused line) = IsUndecided at m line
+  GivesMap (Fallen line) = ⊥
+  GivesMap NoMemory = Unit {0}
 
-module _ (archive : List (List Mark)) (volumes : List ℕ) where
-  -- what is told of the archive, which has these volumes
-  abbrev pub Shows : Question → List ℕ → Type 0
-  Shows (AsOf repository at) text = IsAsOf repository at (reverse (joined archive)) text
-  Shows (Audit object) text = text ≡ archive_text object archive volumes
+-- the refusal for this fault, if its line could be made
+abbrev pub RefusesFor : AsOfFault → Outcome → Type 0
+RefusesFor (fault.Undecided o x) r = (r ≡ NoMemory) ⊎ (r ≡ Refused (undecided_line o x))
+RefusesFor fault.NoMemory r = r ≡ NoMemory
 
-  -- why it isn't
-  abbrev pub Refuses : Question → List ℕ → Type 0
-  Refuses (AsOf repository at) line = IsUndecided at (reverse (joined archive)) line
-  Refuses (Audit object) line = ⊥
+module _ (object : ObjectId) (archive : List (List Mark)) (volumes : List ℕ) where
+  abbrev pub GivesVersions : Outcome → Type 0
+  GivesVersions (Told text) = text ≡ archive_text object archive volumes
+  GivesVersions (Refused line) = ⊥
+  GivesVersions (Fallen line) = ⊥
+  GivesVersions NoMemory = Unit {0}
 
-  -- one of these, unless memory was wanting
-  abbrev pub Gives : Question → Outcome → Type 0
-  Gives q (Told text) = Shows q text
-  Gives q (Refused line) = Refuses q line
-  Gives q (Fallen line) = ⊥
-  Gives q NoMemory = Unit {0}
+-- what the archive gives, which has these volumes
+abbrev pub Gives : List (List Mark) → List ℕ → Question → Outcome → Type 0
+Gives archive volumes (AsOf repository at) r = GivesMap repository at (reverse (joined archive)) r
+Gives archive volumes (Audit object) r = GivesVersions object archive volumes r
 
 -- ---- by what came of opening its volumes
 
@@ -79,10 +86,14 @@ module _ {M : Type 0} {g : _} (n : NodeId) (openings : List (Opening M g)) where
   ShowsDown line = (cause : DownCause) × HasShut openings cause × (line ≡ down_text (record { node = n; cause = cause }))
 
 module _ {M : Type 0} {g : _} (q : Question) (openings : List (Opening M g)) where
+  -- what the complete volumes give, where each volume was opened
+  abbrev pub ShowsArchive : Outcome → Type 0
+  ShowsArchive r = AreOpen openings × Gives (archive_of (logs_of openings)) (volumes_of (logs_of openings)) q r
+
   -- what comes of the question
   abbrev pub Answers : Outcome → Type 0
-  Answers (Told text) = AreOpen openings × Shows (archive_of (logs_of openings)) (volumes_of (logs_of openings)) q text
-  Answers (Refused line) = AreOpen openings × Refuses (archive_of (logs_of openings)) (volumes_of (logs_of openings)) q line
+  Answers (Told text) = ShowsArchive (Told text)
+  Answers (Refused line) = ShowsArchive (Refused line)
   Answers (Fallen line) = ShowsDown (asked_of q) openings line
   Answers NoMemory = Unit {0}
 

@@ -13,8 +13,11 @@ use Rattle.report_writer.specs.Reports.{named, refusal_text}
 
 -- ---- the map as of a mark
 
+abbrev pub mark_text : TimeParts → List ℕ
+mark_text at = codes " mark " ++ (time_text at ++ 10 ∷ [])
+
 abbrev pub asof_head : ℕ → TimeParts → List ℕ
-asof_head repository at = named (codes "asof repository ") repository ++ (codes " mark " ++ (time_text at ++ 10 ∷ []))
+asof_head repository at = named (codes "asof repository ") repository ++ mark_text at
 
 -- the line of an object; one whose value is Nothing has none
 abbrev pub value_line : ObjectId → Value → List ℕ
@@ -41,7 +44,13 @@ abbrev pub volume_text : Option ℕ → List ℕ
 volume_text None = []
 volume_text (Some volume) = named (codes " volume ") volume
 
--- its start, how it was settled, its value, and the volume that has it
+-- its start, and how it was settled
+abbrev pub version_front : TimeParts → Option Bool → List ℕ
+version_front start state = codes "version " ++ (time_text start ++ (32 ∷ (state_text state ++ 32 ∷ [])))
+
+-- its value, and the volume that has it
+abbrev pub version_back : Value → Option ℕ → List ℕ
+version_back value volume = value_text value ++ (volume_text volume ++ 10 ∷ [])
+
 abbrev pub version_line : TimeParts → Option Bool → Value → Option ℕ → List ℕ
-version_line start state value volume =
-    codes "version " ++ (time_text start ++ (32 ∷ (state_text state ++ (32 ∷ (value_text value ++ (volume_text volume ++ 10 ∷ []))))))
+version_line start state value volume = version_front start state ++ version_back value volume

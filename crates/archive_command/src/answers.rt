@@ -1,5 +1,6 @@
 //! What comes of a question, by the repository's volumes as they were opened.
-ghost use Rattle.std.specs.Prelude.{◌<◌, ◌≤◌, length};
+ghost use Rattle.std.specs.Prelude.{◌<◌, ◌≤◌, length, reverse};
+ghost use Rattle.archive_store.specs.Joined.{joined};
 ghost use Rattle.archive_command.specs.Answers as spec;
 
 use crate::archives::{Archived, archived_of};
@@ -8,7 +9,7 @@ use crate::lines::{down_line, undecided_line};
 use crate::maps::asof_text;
 use crate::outcomes::Outcome;
 use crate::questions::{Question, asked_of};
-use archive_store::AsOfFault;
+use archive_store::{Archive, AsOfFault};
 use medium_port::Medium;
 use pseudo_time::PseudoTime;
 use run_media::Opening;
@@ -46,16 +47,23 @@ pub fn fallen(line: Result<Bytes, AllocError>) -> Outcome
     }
 }
 
-// The map as of the mark.
-fn asof(alloc: Global, repository: u8, mark: PseudoTime, archived: &Archived) -> Outcome
-    ensures { spec.Gives archived.now.archive archived.now.volumes.items (Question.AsOf repository mark) result }
+// Why there is no map.
+fn refusal(alloc: Global, fault: &AsOfFault) -> Outcome
+    ensures { spec.RefusesFor fault.now result }
 {
-    match archived.archive.asof(mark) {
+    match fault {
+        AsOfFault::Undecided { object, start } => refused(undecided_line(alloc, *object, *start)),
+        AsOfFault::NoMemory => Outcome::NoMemory,
+    }
+}
+
+// The map as of the mark.
+fn asof(alloc: Global, repository: u8, mark: PseudoTime, archive: &Archive) -> Outcome
+    ensures { spec.GivesMap repository mark (reverse (joined archive.now)) result }
+{
+    match archive.asof(mark) {
         Ok(list) => told(asof_text(alloc, repository, mark, list.as_slice())),
-        Err(AsOfFault::Undecided { object, start }) => {
-            refused(undecided_line(alloc, object, start))
-        }
-        Err(AsOfFault::NoMemory) => Outcome::NoMemory,
+        Err(fault) => refusal(alloc, &fault),
     }
 }
 
@@ -64,7 +72,7 @@ fn answer_of(alloc: Global, question: Question, archived: &Archived) -> Outcome
     ensures { spec.Gives archived.now.archive archived.now.volumes.items question result }
 {
     match question {
-        Question::AsOf { repository, mark } => asof(alloc, repository, mark, archived),
+        Question::AsOf { repository, mark } => asof(alloc, repository, mark, &archived.archive),
         Question::Audit { object } => told(audit_text(alloc, object, archived)),
     }
 }

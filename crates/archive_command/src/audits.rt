@@ -10,9 +10,10 @@ use crate::archives::{Archived, holding_volume};
 use crate::versions::versions_of;
 use commit_watch::{Version, settles_of};
 use object_history::Settles;
+use pseudo_time::PseudoTime;
 use report_writer::{push_named, push_object, push_time};
 use std::alloc::{AllocError, Global};
-use value_form::{Bytes, ObjectId};
+use value_form::{Bytes, ObjectId, Value};
 
 // Appends the first line.
 fn push_head(alloc: Global, out: &mut Vec<u8>, object: ObjectId) -> Result<(), AllocError>
@@ -45,6 +46,38 @@ fn push_volume(alloc: Global, out: &mut Vec<u8>, volume: Option<u32>) -> Result<
     }
 }
 
+// Appends where a version starts, and how it stands.
+fn push_front(
+    alloc: Global,
+    out: &mut Vec<u8>,
+    start: PseudoTime,
+    settled: Option<bool>,
+) -> Result<(), AllocError>
+    ensures { OnOk result (out.new.items ≡ out.old.items ++ lines.version_front start settled) }
+{
+    out.extend_from_slice(b"version ")?;
+    push_time(alloc, out, start)?;
+    out.push(b' ')?;
+    push_state(out, settled)?;
+    out.push(b' ')?;
+    Ok(())
+}
+
+// Appends the value of a version, and which volume has it, and ends the line.
+fn push_back(
+    alloc: Global,
+    out: &mut Vec<u8>,
+    value: &Value,
+    volume: Option<u32>,
+) -> Result<(), AllocError>
+    ensures { OnOk result (out.new.items ≡ out.old.items ++ lines.version_back value.now volume) }
+{
+    value.print(alloc, out)?;
+    push_volume(alloc, out, volume)?;
+    out.push(b'\n')?;
+    Ok(())
+}
+
 // Appends the line of a version.
 fn push_version(
     alloc: Global,
@@ -55,19 +88,10 @@ fn push_version(
 ) -> Result<(), AllocError>
     ensures { OnOk result (out.new.items ≡ out.old.items ++ spec.told_line (λ p. finite.get settles.now p) archived.now.archive archived.now.volumes.items version.now) }
 {
-    out.extend_from_slice(b"version ")?;
-    push_time(alloc, out, version.start)?;
-    out.push(b' ')?;
-    push_state(out, settles.get(version.start.stamp()))?;
-    out.push(b' ')?;
-    version.value.print(alloc, out)?;
-    push_volume(
-        alloc,
-        out,
-        holding_volume(archived, version.object, version.start),
-    )?;
-    out.push(b'\n')?;
-    Ok(())
+    let settled = settles.get(version.start.stamp());
+    let volume = holding_volume(archived, version.object, version.start);
+    push_front(alloc, out, version.start, settled)?;
+    push_back(alloc, out, &version.value, volume)
 }
 
 // Appends the lines of versions, in order.

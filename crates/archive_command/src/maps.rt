@@ -10,6 +10,16 @@ use report_writer::{push_named, push_object, push_time};
 use std::alloc::{AllocError, Global};
 use value_form::{Bytes, ObjectId, Value};
 
+// Appends the mark, and ends the line.
+fn push_mark(alloc: Global, out: &mut Vec<u8>, mark: PseudoTime) -> Result<(), AllocError>
+    ensures { OnOk result (out.new.items ≡ out.old.items ++ spec.mark_text mark) }
+{
+    out.extend_from_slice(b" mark ")?;
+    push_time(alloc, out, mark)?;
+    out.push(b'\n')?;
+    Ok(())
+}
+
 // Appends the first line.
 fn push_head(
     alloc: Global,
@@ -20,9 +30,7 @@ fn push_head(
     ensures { OnOk result (out.new.items ≡ out.old.items ++ spec.asof_head repository mark) }
 {
     push_named(alloc, out, b"asof repository ", repository as u64)?;
-    out.extend_from_slice(b" mark ")?;
-    push_time(alloc, out, mark)?;
-    out.push(b'\n')?;
+    push_mark(alloc, out, mark)?;
     Ok(())
 }
 

@@ -17,7 +17,7 @@ use Rattle.run_media.specs.declared.openings.Opening.TheVariants.{Open, Shut, Wa
 use Rattle.run_media.specs.Media.{Media}
 use Rattle.run_volumes.specs.Standings.{Stands}
 use Rattle.run_volumes.specs.Volumes.{logs_of}
-use Rattle.archive_command.specs.Archives.{archive_of, complete_from, is_complete}
+use Rattle.archive_command.specs.Archives.{Complete, archive_of, complete_from, is_complete}
 
 -- ---- of all marks of a list
 
@@ -59,13 +59,14 @@ module _ (P : Mark → Type 0) where
 
 -- ---- of the logs of volumes
 
+either-marks : (b : Bool) (v : ℕ) (log : List Effect) (cs : List Complete) → AreMarks (marks log) → Every AreMarks (map (λ c. marks c.log) cs) →
+    Every AreMarks (map (λ c. marks c.log) (if b then record { volume = v; log = log } ∷ cs else cs))
+either-marks true v log cs h k = (h, k)
+either-marks false v log cs h k = k
+
 complete-marks : (v : ℕ) (logs : List (List Effect)) → Every AreEffects logs → Every AreMarks (map (λ c. marks c.log) (complete_from v logs))
 complete-marks v [] h = tt
-complete-marks v (log ∷ logs) h = either (is_complete v log)
-  where
-    either : (b : Bool) → Every AreMarks (map (λ c. marks c.log) (if b then record { volume = v; log = log } ∷ complete_from (suc v) logs else complete_from (suc v) logs))
-    either true = (marks-in-range log h.0, complete-marks (suc v) logs h.1)
-    either false = complete-marks (suc v) logs h.1
+complete-marks v (log ∷ logs) h = either-marks (is_complete v log) v log (complete_from (suc v) logs) (marks-in-range log h.0) (complete-marks (suc v) logs h.1)
 
 module _ {M : Type 0} (w : Media M) {g : _} where
   logs-in-range : (os : List (Opening M g)) → Every (Stands w) os → Every AreEffects (logs_of os)

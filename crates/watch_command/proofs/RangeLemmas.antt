@@ -47,14 +47,14 @@ module _ (next : ℤ → Version → Option ℤ) (o : ObjectId) where
   Fault (Ok t) = Unit {0}
   Fault (Err why) = IsPlain why
 
-  moved-plain : (t : Option (Moved ℤ)) (vs : List Version) → Fault (moved_over (pos 0) next o t vs)
+  next-plain : (v : Version) (vs : List Version) (n : Option ℤ) → ((t : Option (Moved ℤ)) → Fault (moved_over (pos 0) next o t vs)) → Fault (and_then (moved_to (pos 0) next o v n) (λ u. moved_over (pos 0) next o u vs))
+  next-plain v vs None h = tt
+  next-plain v vs (Some n) h = h (Some (record { object = o; cursor = v.start; total = n }))
+
+  moved-plain : (vs : List Version) (t : Option (Moved ℤ)) → Fault (moved_over (pos 0) next o t vs)
   unfolding moved_over
-  moved-plain t [] = tt
-  moved-plain t (v ∷ vs) = by (next (total_of (pos 0) t) v)
-    where
-      by : (n : Option ℤ) → Fault (and_then (moved_to (pos 0) next o v n) (λ u. moved_over (pos 0) next o u vs))
-      by None = tt
-      by (Some n) = moved-plain (Some (record { object = o; cursor = v.start; total = n })) vs
+  moved-plain [] t = tt
+  moved-plain (v ∷ vs) t = next-plain v vs (next (total_of (pos 0) t) v) (moved-plain vs)
 
   fault-plain : (r : Result (Option (Moved ℤ)) WatchFault) (why : WatchFault) → r ≡ Err why → Fault r → IsPlain why
   fault-plain r why e h = subst Fault e h
@@ -65,32 +65,32 @@ refusal-plain rule m log why none (inl e) = subst IsPlain (sym e) tt
 refusal-plain rule m log why none (inr r) =
     let t = last_total log r.object in
     fault-plain (next_of rule) r.object (moved_over (pos 0) (next_of rule) r.object t (fresh m r.object (cursor_of t) None)) why (sym (over-floor (next_of rule) r.object m t none) ∙ r.refused)
-    (moved-plain (next_of rule) r.object t (fresh m r.object (cursor_of t) None))
+    (moved-plain (next_of rule) r.object (fresh m r.object (cursor_of t) None) t)
 
 -- ---- objects in range
 
 -- an object with versions among marks in range
+put-range : (b c : Bool) (a o : ObjectId) (q : Seen) (qs : List Seen) → same_object a o ≡ b → IsObject a → (qs ≡ []) ⊎ IsObject o → ((if b && c then insert q qs else qs) ≡ []) ⊎ IsObject o
+put-range true c a o q qs e h k = inr (subst IsObject (same_object-is a o e) h)
+put-range false c a o q qs e h k = k
+
 listed-range : (ok : TimeParts → Bool) (o : ObjectId) (m : List Mark) → AreMarks m → (listed ok o m ≡ []) ⊎ IsObject o
 unfolding listed
 listed-range ok o [] h = inl refl
-listed-range ok o (Put a x v ∷ m) h = by (same_object a o) refl
-  where
-    by : (b : Bool) → same_object a o ≡ b → ((if b && ok x then insert (record { place = version_count o m; start = x; value = v }) (listed ok o m) else listed ok o m) ≡ []) ⊎ IsObject o
-    by true e = inr (subst IsObject (same_object-is a o e) h.0.0)
-    by false e = listed-range ok o m h.1
+listed-range ok o (Put a x v ∷ m) h = put-range (same_object a o) (ok x) a o (record { place = version_count o m; start = x; value = v }) (listed ok o m) refl h.0.0 (listed-range ok o m h.1)
 listed-range ok o (Stretch a x ∷ m) h = listed-range ok o m h.1
 listed-range ok o (Settle s c ∷ m) h = listed-range ok o m h.1
 listed-range ok o (Floor z ∷ m) h = listed-range ok o m h.1
 
 -- an object that has a total in a log in range
+found-range : (b : Bool) (a o : ObjectId) (t : Moved ℤ) → same_object a o ≡ b → IsObject a → is_some (if b then Some t else None) ≡ true → IsObject o
+found-range true a o t e h k = subst IsObject (same_object-is a o e) h
+found-range false a o t e h k = absurd (false≢true k)
+
 number-range : (o : ObjectId) (f : Effect) → IsEffect f → is_some (if_of o (total_put f)) ≡ true → IsObject o
 number-range o (effect.Put a x Nothing) h k = absurd (false≢true k)
 number-range o (effect.Put a x (Text bytes)) h k = absurd (false≢true k)
-number-range o (effect.Put a x (Number z)) h k = by (same_object a o) refl k
-  where
-    by : (b : Bool) → same_object a o ≡ b → is_some (if b then Some (record { object = a; cursor = x; total = z }) else None) ≡ true → IsObject o
-    by true e l = subst IsObject (same_object-is a o e) h.0
-    by false e l = absurd (false≢true l)
+number-range o (effect.Put a x (Number z)) h k = found-range (same_object a o) a o (record { object = a; cursor = x; total = z }) refl h.0 k
 number-range o (effect.Stretch a x) h k = absurd (false≢true k)
 number-range o (effect.Begin s d) h k = absurd (false≢true k)
 number-range o (effect.Decide s d) h k = absurd (false≢true k)
@@ -104,14 +104,14 @@ number-range o (effect.End i e) h k = absurd (false≢true k)
 number-range o (effect.Mark x) h k = absurd (false≢true k)
 number-range o effect.Whole h k = absurd (false≢true k)
 
+more-range : (o : ObjectId) (f : Effect) (r : Option (Moved ℤ)) → IsEffect f → (is_some r ≡ true → IsObject o) → is_some (or_before r (if_of o (total_put f))) ≡ true → IsObject o
+more-range o f None h rest k = number-range o f h k
+more-range o f (Some t) h rest k = rest refl
+
 total-range : (o : ObjectId) (log : List Effect) → AreEffects log → is_some (last_total log o) ≡ true → IsObject o
 unfolding last_total
 total-range o [] h k = absurd (false≢true k)
-total-range o (f ∷ log) h k = by (last_total log o) refl k
-  where
-    by : (r : Option (Moved ℤ)) → last_total log o ≡ r → is_some (or_before r (if_of o (total_put f))) ≡ true → IsObject o
-    by None e l = number-range o f h.0 l
-    by (Some t) e l = total-range o log h.1 (ap is_some e)
+total-range o (f ∷ log) h k = more-range o f (last_total log o) h.0 (total-range o log h.1) k
 
 abbrev some-of : Result (Option (Moved ℤ)) WatchFault → Bool
 some-of (Ok z) = is_some z
@@ -120,10 +120,10 @@ some-of (Err why) = false
 -- what an object comes to, if it was in range before
 outcome-range : (next : ℤ → Version → Option ℤ) (o : ObjectId) (m : List Mark) (t u : Option (Moved ℤ)) → AreMarks m → (is_some t ≡ true → IsObject o) →
     moved_over (pos 0) next o t (fresh m o (cursor_of t) None) ≡ Ok u → is_some u ≡ true → IsObject o
+unfolding moved_over
 outcome-range next o m t u h old e k = by (listed-range _ o m h)
   where
     by : (settled_versions m o ≡ []) ⊎ IsObject o → IsObject o
-    unfolding moved_over
     by (inr there) = there
     by (inl none) =
         old (ap some-of (sym (ap (λ qs. moved_over (pos 0) next o t (map (version_of o) (filter (λ q. is_past (cursor_of t) q.start && is_below None q.start) qs))) none) ∙ e) ∙ k)

@@ -1,6 +1,6 @@
 -- What is written into the volume of totals, and what comes of a watch.
 use Rattle.std.proofs.Common.{◌≡◌, ◌≢◌, ◌⊎◌, ◌<◌, ℕ, ℤ, IsTrue, List, [], ◌++◌, length, map, refl, sym, ◌∙◌, ap, subst, Option, Some, None, inl, inr}
-use Rattle.std.specs.Prelude.{Ok, Vec}
+use Rattle.std.specs.Prelude.{Result, Ok, Err, IfOk, Vec}
 use Rattle.std.specs.declared.alloc.Global.{Global}
 use Rattle.std.proofs.lemmas.List.{length-map}
 use Rattle.std.proofs.lemmas.Slice.Zip.{AllZip-long}
@@ -18,10 +18,11 @@ use Rattle.version_store.specs.declared.faults.StoreFault.{StoreFault}
 use Rattle.version_store.specs.declared.faults.StoreFault.TheVariants as adding
 use Rattle.version_store.specs.Causes.{down_of}
 use Rattle.version_store.specs.Filling.{HasPrefix, filling}
-use Rattle.version_store.specs.Storage.{effects_found, storage}
-use Rattle.version_store.specs.StoreWords.{effects_in, left_in, medium_of}
+use Rattle.version_store.specs.Storage.{storage}
+use Rattle.version_store.specs.StoreWords.{left_in, medium_of}
 use Rattle.commit_watch.specs.declared.faults.WatchFault.{WatchFault}
 use Rattle.commit_watch.specs.declared.faults.WatchFault.TheVariants as fault
+use Rattle.commit_watch.specs.declared.moved.Moved.{Moved}
 use Rattle.commit_watch.specs.Refusals.{IsRefusal}
 use Rattle.run_media.specs.declared.openings.Opening.{Opening}
 use Rattle.run_media.specs.declared.openings.Opening.TheVariants.{Open, Shut, Wanting}
@@ -31,8 +32,8 @@ use Rattle.run_volumes.specs.Standings.{Stands}
 use Rattle.archive_command.specs.declared.outcomes.Outcome.{Outcome}
 use Rattle.archive_command.specs.declared.outcomes.Outcome.TheVariants.{Told, Refused, Fallen, NoMemory}
 use Rattle.command_words.specs.declared.rules.Rule.{Rule}
-use Rattle.watch_command.specs.Lines.{down_watch_line, overflow_line}
-use Rattle.watch_command.specs.Totals.{outcome_of}
+use Rattle.watch_command.specs.Lines.{down_watch_line, overflow_line, watch_text}
+use Rattle.watch_command.specs.Totals.{AreTotals, new_puts, outcome_of}
 use Rattle.watch_command.specs.Watches.{Adds, ComesOf, ComesTo, CutsOff, HasFront, Holds, IsReady, RefusesFor, Stops}
 
 -- ---- why the totals don't go on
@@ -45,17 +46,14 @@ stops-for repository rule m log (fault.Overflow o x) r (inr h) (inl e) = subst (
 stops-for repository rule m log (fault.Overflow o x) r (inr h) (inr e) = subst (Stops repository rule m log) (sym e) (record { object = o; start = x; refused = h; is_line = refl })
 stops-for repository rule m log fault.NoMemory r h e = subst (Stops repository rule m log) (sym e) tt
 
+-- what is to be written and told
+pub ready-of : {A E : Type 0} (repository : ℕ) (rule : Rule) (m : List Mark) (log : List Effect) (list : List (Moved ℤ)) (puts : A → List Effect) (text : A → List ℕ) (r : Result A E) → AreTotals rule m log list →
+    IfOk r (λ a. puts a ≡ new_puts log list) → IfOk r (λ a. AreEffects (puts a)) → IfOk r (λ a. text a ≡ watch_text repository rule list) → IfOk r (λ a. IsReady repository rule m log (puts a) (text a))
+ready-of repository rule m log list puts text (Ok a) totals e h k = record { list = list; totals = totals; puts_are = e; in_range = h; is_text = k }
+ready-of repository rule m log list puts text (Err why) totals e h k = tt
+
 module _ {M : Type 0} (w : Media M) where
   -- ---- what is written
-
-  -- an image of a store's medium has its log
-  pub stored-holds : (s : Store M w) (log : List Effect) → (IsTrue w.tells → effects_in w.reads s ≡ log) → Holds w log (medium_of s)
-  stored-holds s log has t i left = ap storage ((s.settled t).only i left) ∙ ap effects_found (s.settled t).log ∙ ap (λ l. Ok l) (has t)
-
-  pub added : (repository : ℕ) (log puts : List Effect) (store new : Store M w) (text : List ℕ) (m : M) → m ≡ medium_of new → (IsTrue w.tells → effects_in w.reads new ≡ effects_in w.reads store ++ puts) →
-      (IsTrue w.tells → effects_in w.reads store ≡ log) → Adds w repository log puts store text (Told text) m
-  added repository log puts store new text m is adds has =
-      (refl, subst (Holds w (log ++ puts)) (sym is) (stored-holds new (log ++ puts) (λ t. adds t ∙ ap (λ l. l ++ puts) (has t))))
 
   pub cut : (repository : ℕ) (log puts : List Effect) (store : Store M w) (text : List ℕ) (why : StoreFault) (r : Outcome) (m : M) → HasFront w repository log puts store text m →
       (why ≡ adding.Medium → Rose (w.faults (medium_of store)) (w.faults m)) →

@@ -11,8 +11,11 @@ use Rattle.report_writer.specs.Reports.{cause_text, named, refusal_text}
 use Rattle.command_words.specs.declared.rules.Rule.{Rule}
 use Rattle.command_words.specs.Words.{rule_word}
 
+abbrev pub rule_text : Rule → List ℕ
+rule_text rule = 32 ∷ (rule_word rule ++ 10 ∷ [])
+
 abbrev pub watch_head : ℕ → Rule → List ℕ
-watch_head repository rule = named (codes "watch repository ") repository ++ (32 ∷ (rule_word rule ++ 10 ∷ []))
+watch_head repository rule = named (codes "watch repository ") repository ++ rule_text rule
 
 -- how far the object was folded, and its total
 abbrev pub total_line : Moved ℤ → List ℕ

@@ -11,14 +11,22 @@ use report_writer::{push_named, push_object, push_time};
 use std::alloc::{AllocError, Global};
 use value_form::{Bytes, ObjectId};
 
+// Appends the word of the rule, and ends the line.
+fn push_rule(out: &mut Vec<u8>, rule: Rule) -> Result<(), AllocError>
+    ensures { OnOk result (out.new.items ≡ out.old.items ++ lines.rule_text rule) }
+{
+    out.push(b' ')?;
+    out.extend_from_slice(rule.word())?;
+    out.push(b'\n')?;
+    Ok(())
+}
+
 // Appends the first line.
 fn push_head(alloc: Global, out: &mut Vec<u8>, repository: u8, rule: Rule) -> Result<(), AllocError>
     ensures { OnOk result (out.new.items ≡ out.old.items ++ lines.watch_head repository rule) }
 {
     push_named(alloc, out, b"watch repository ", repository as u64)?;
-    out.push(b' ')?;
-    out.extend_from_slice(rule.word())?;
-    out.push(b'\n')?;
+    push_rule(out, rule)?;
     Ok(())
 }
 

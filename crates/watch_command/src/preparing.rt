@@ -19,7 +19,7 @@ use command_words::Rule;
 use commit_watch::WatchFault;
 use effect_form::Effect;
 use object_history::Mark;
-use std::alloc::{AllocError, Global};
+use std::alloc::Global;
 use value_form::Bytes;
 
 /// What is to be written, and the text that will tell of it.
@@ -30,30 +30,31 @@ pub struct Prepared {
 }
 
 // Why the totals don't go on.
-fn refusal(alloc: Global, fault: WatchFault) -> Outcome
-    requires { spec.IsPlain fault }
-    ensures { spec.RefusesFor fault result }
+fn refusal(alloc: Global, fault: &WatchFault) -> Outcome
+    requires { spec.IsPlain fault.now }
+    ensures { spec.RefusesFor fault.now result }
 {
     match fault {
-        WatchFault::Overflow { object, start } => refused(overflow_line(alloc, object, start)),
+        WatchFault::Overflow { object, start } => refused(overflow_line(alloc, *object, *start)),
         WatchFault::NoMemory => Outcome::NoMemory,
         WatchFault::Retired { .. } => unreachable!(),
     }
 }
 
 // The puts and the text.
-fn written(
-    alloc: Global,
-    repository: u8,
-    rule: Rule,
-    totals: &Totals,
-) -> Result<Prepared, AllocError>
+fn written(alloc: Global, repository: u8, rule: Rule, totals: &Totals) -> Result<Prepared, Outcome>
     ensures puts { (log : List Effect) → AreCursors (last_total log) totals.now.cursors.entries → IfOk result (λ p. p.puts.items ≡ new_puts log totals.now.list.items) }
     ensures in_range { Every (λ t. IsObject t.object) totals.now.list.items → IfOk result (λ p. AreEffects p.puts.items) }
     ensures text { IfOk result (λ p. p.text ≡ text_of repository rule totals.now.list.items) }
+    ensures err { IfErr result (λ e. e ≡ Outcome.NoMemory) }
 {
-    let puts = puts_of(alloc, &totals.cursors, totals.list.as_slice())?;
-    let text = watch_text(alloc, repository, rule, totals.list.as_slice())?;
+    let list = totals.list.as_slice();
+    let Ok(puts) = puts_of(alloc, &totals.cursors, list) else {
+        return Err(Outcome::NoMemory);
+    };
+    let Ok(text) = watch_text(alloc, repository, rule, list) else {
+        return Err(Outcome::NoMemory);
+    };
     Ok(Prepared { puts, text })
 }
 
@@ -73,10 +74,7 @@ pub fn prepare(
     ensures stops { IfErr result (spec.Stops repository rule (reverse marks.now) log.now) }
 {
     match totals_of(alloc, rule, marks, log) {
-        Err(fault) => Err(refusal(alloc, fault)),
-        Ok(totals) => match written(alloc, repository, rule, &totals) {
-            Ok(prepared) => Ok(prepared),
-            Err(_) => Err(Outcome::NoMemory),
-        },
+        Err(fault) => Err(refusal(alloc, &fault)),
+        Ok(totals) => written(alloc, repository, rule, &totals),
     }
 }
