@@ -68,20 +68,20 @@ fn asof(alloc: Global, repository: u8, mark: PseudoTime, archive: &Archive) -> O
 }
 
 // What the archive answers.
-fn answer_of(alloc: Global, question: Question, archived: &Archived) -> Outcome
-    ensures { spec.Gives archived.now.archive archived.now.volumes.items question result }
+fn answer_of(alloc: Global, question: &Question, archived: &Archived) -> Outcome
+    ensures { spec.Gives archived.now.archive archived.now.volumes.items question.now result }
 {
     match question {
-        Question::AsOf { repository, mark } => asof(alloc, repository, mark, &archived.archive),
-        Question::Audit { object } => told(audit_text(alloc, object, archived)),
+        Question::AsOf { repository, mark } => asof(alloc, *repository, *mark, &archived.archive),
+        Question::Audit { object } => told(audit_text(alloc, *object, archived)),
     }
 }
 
 /// What comes of a question to a repository with these volumes.
-pub fn answer<M: Medium>(alloc: Global, question: Question, openings: &[Opening<M>]) -> Outcome
+pub fn answer<M: Medium>(alloc: Global, question: &Question, openings: &[Opening<M>]) -> Outcome
     requires some { 0 < length openings.now }
     requires few { length openings.now ≤ 1000 }
-    ensures { spec.Answers question openings.now result }
+    ensures { spec.Answers question.now openings.now result }
 {
     match stand_of(openings) {
         Standing::Shut(cause) => fallen(down_line(alloc, asked_of(question), cause)),

@@ -1,5 +1,6 @@
 //! The archive of a repository, by its volumes as they were opened.
-ghost use Rattle.std.specs.Prelude.{◌≡◌, ◌≤◌, ◌<◌, IfOk, length};
+ghost use Rattle.std.specs.Prelude.{◌≡◌, ◌≤◌, ◌<◌, ◌+◌, ◌++◌, ◌∷◌, [], IfOk, OnOk, length, map};
+ghost use Rattle.repository_log.specs.Logs.{marks};
 ghost use Rattle.run_media.specs.Openings.{log_in};
 ghost use Rattle.run_volumes.specs.Volumes.{logs_of};
 ghost use Rattle.archive_command.specs.Archives as spec;
@@ -8,6 +9,7 @@ use archive_store::Archive;
 use effect_form::Effect;
 use forward_copy::has_whole;
 use medium_port::Medium;
+use object_history::Mark;
 use pseudo_time::PseudoTime;
 use repository_log::marks_of;
 use run_media::Opening;
@@ -39,6 +41,29 @@ fn is_complete(volume: usize, log: &[Effect]) -> bool
     volume == 0 || has_whole(log)
 }
 
+// Adds the volume with this log, if it is complete.
+fn add_volume(
+    alloc: Global,
+    logs: &mut Vec<Vec<Mark>>,
+    volumes: &mut Vec<u32>,
+    volume: usize,
+    log: &[Effect],
+) -> Result<(), AllocError>
+    requires few { volume < 1000 }
+    ensures logs { OnOk result (map (λ m. m.items) logs.new.items ≡ map (λ m. m.items) logs.old.items ++ map (λ c. marks c.log) (spec.complete_from volume (log.now ∷ []))) }
+    ensures volumes { OnOk result (volumes.new.items ≡ volumes.old.items ++ map (λ c. c.volume) (spec.complete_from volume (log.now ∷ []))) }
+    ensures first { OnOk result (volume ≡ 0 → 0 < length logs.new.items) }
+    ensures more { OnOk result (length logs.old.items ≤ length logs.new.items) }
+    ensures one { OnOk result (length logs.new.items ≤ length logs.old.items + 1) }
+{
+    if is_complete(volume, log) {
+        let marks = marks_of(alloc, log)?;
+        logs.push(marks)?;
+        volumes.push(volume as u32)?;
+    }
+    Ok(())
+}
+
 /// The archive of a repository with these volumes, from volume 0 on.
 pub fn archived_of<M: Medium>(
     alloc: Global,
@@ -53,11 +78,7 @@ pub fn archived_of<M: Medium>(
     let mut volumes = Vec::new(alloc);
     for (volume, opening) in openings.iter().enumerate() {
         let log = log_of(opening);
-        if is_complete(volume, log) {
-            let marks = marks_of(alloc, log)?;
-            logs.push(marks)?;
-            volumes.push(volume as u32)?;
-        }
+        add_volume(alloc, &mut logs, &mut volumes, volume, log)?;
     }
     Ok(Archived {
         archive: Archive::of(alloc, logs),

@@ -32,9 +32,9 @@ pub fn ask<S: Shelf>(
     let Ok(kept) = Vec::with_capacity(alloc, 1_000) else {
         return (Outcome::NoMemory, Vec::new(alloc));
     };
-    let node = asked_of(question);
+    let node = asked_of(&question);
     let openings = open_volumes(alloc, shelf, node, room);
-    let outcome = answer(alloc, question, openings.as_slice());
+    let outcome = answer(alloc, &question, openings.as_slice());
     (
         outcome,
         keep_volumes(node, give_back(places, openings), kept),

@@ -14,11 +14,11 @@ pub enum Question {
 }
 
 /// The repository whose archive is asked.
-pub fn asked_of(question: Question) -> NodeId
-    ensures { result ≡ spec.asked_of question }
+pub fn asked_of(question: &Question) -> NodeId
+    ensures { result ≡ spec.asked_of question.now }
 {
     match question {
-        Question::AsOf { repository, .. } => NodeId::repository(repository),
+        Question::AsOf { repository, .. } => NodeId::repository(*repository),
         Question::Audit { object } => NodeId::repository(object.repository),
     }
 }
