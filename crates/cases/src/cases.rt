@@ -5,7 +5,7 @@ use crate::faults::CaseFault;
 use crate::labs::{barred, tell_lost, tell_words};
 use crate::lines::{Line, Stream, read};
 use crate::plans::{add, bytes_of};
-use crate::series::{Series, fails_each, stops_each};
+use crate::series::{Series, fails_each, fates_each, stops_each};
 use crate::setups::{Pace, Patch, Setup};
 use crate::shows::{Part, Shown, acts_of, show, show_medium};
 use medium_port::{MediumName, MemoryMedium};
@@ -13,6 +13,7 @@ use std::alloc::Global;
 use std::mem;
 use std::sync::Wait;
 use std::thread::Threads;
+use stream_port::FateRule;
 use swallow_top::Kept;
 
 /// What the lines so far have come to.
@@ -193,6 +194,24 @@ impl Case {
         table.show(said, u64::MAX)
     }
 
+    fn fates_each<R: Threads + Wait + Sync>(
+        &mut self,
+        rt: &R,
+        rule: FateRule,
+        words: &[&str],
+        said: &mut String,
+    ) -> Result<(), CaseFault> {
+        let setup = self.take_setup();
+        let series = Series {
+            alloc: self.alloc,
+            plan: self.plan.as_slice(),
+            words,
+            shown: self.shown.as_slice(),
+        };
+        let table = fates_each(rt, &series, setup, rule)?;
+        table.show(said, u64::MAX)
+    }
+
     // Sets up what the words of a line say of the next call. Any other line is handed back.
     fn set_up<'a>(&mut self, line: Line<'a>) -> Result<Option<Line<'a>>, CaseFault> {
         match line {
@@ -257,6 +276,7 @@ impl Case {
             Line::Acts(words) => self.call(rt, words, false, said),
             Line::StopsEach(from, least, words) => self.stops_each(rt, from, least, words, said),
             Line::FailsEach(stream, most, words) => self.fails_each(rt, stream, most, words, said),
+            Line::FatesEach(rule, words) => self.fates_each(rt, rule, words, said),
             Line::Meet(looks, words) => self.meet(rt, looks, words, said),
             Line::Media => self.media(Part::Records, said),
             Line::Heads => self.media(Part::Head, said),

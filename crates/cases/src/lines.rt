@@ -56,6 +56,9 @@ pub enum Line<'a> {
     /// `fails-each source MOST WORD..` or `fails-each sink MOST WORD..`: the call with these words, where each
     /// call of a stream fails in turn. The stream moves so many bytes a call.
     FailsEach(Stream, usize, &'a [&'a str]),
+    /// `fates-each KIND N copies C overtake O hold H WORD..`: the call with these words, where in turn each of the
+    /// first N messages of a kind comes to this.
+    FatesEach(FateRule, &'a [&'a str]),
     /// `meet LOOKS WORD..`: the call with these words over media of which those of repositories meet at their
     /// first writes, each of which looks so often for another.
     Meet(u64, &'a [&'a str]),
@@ -171,6 +174,12 @@ fn fate(words: &[&str]) -> Option<FateRule> {
     })
 }
 
+// A fate for each of the first messages of a kind, and the words of the call.
+fn fates<'a>(words: &'a [&'a str]) -> Option<Line<'a>> {
+    let (front, words) = words.split_at_checked(8)?;
+    Some(Line::FatesEach(fate(front)?, words))
+}
+
 // A line on the pages of a medium.
 fn on_pages<'a>(verb: &str, name: MediumName, words: &'a [&'a str]) -> Option<Line<'a>> {
     match (verb, words) {
@@ -215,6 +224,7 @@ fn on_call<'a>(verb: &str, words: &'a [&'a str]) -> Option<Line<'a>> {
     match (verb, words) {
         ("call", words) => Some(Line::Call(words)),
         ("acts", words) => Some(Line::Acts(words)),
+        ("fates-each", words) => fates(words),
         ("meet", [looks, words @ ..]) => Some(Line::Meet(looks.parse().ok()?, words)),
         ("stops-each", [from, least, words @ ..]) => Some(Line::StopsEach(
             from.parse().ok()?,

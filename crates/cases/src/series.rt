@@ -10,6 +10,7 @@ use medium_port::MemoryMedium;
 use std::alloc::Global;
 use std::sync::Wait;
 use std::thread::Threads;
+use stream_port::FateRule;
 use swallow_top::Kept;
 
 /// The most calls that are tried in turn.
@@ -112,12 +113,44 @@ fn called_again<R: Threads + Wait + Sync>(
 
 // How a text stands to the one before it.
 fn how_again(before: &str, text: &str) -> &'static str {
-    let is_quiet = text.ends_with("wire messages 0 asks 0 ticks 0 crashes 0\n");
-    if is_quiet && acts_of(before) == acts_of(text) {
+    if acts_of(before) != acts_of(text) {
+        "      otherwise than before\n"
+    } else if text.ends_with("wire messages 0 asks 0 ticks 0 crashes 0\n") {
         "      the same acts, and no message\n"
     } else {
-        "      otherwise than before\n"
+        "      the same, and messages\n"
     }
+}
+
+/// The call where in turn each of the first messages of a kind has this fate, up to that of the rule.
+pub fn fates_each<R: Threads + Wait + Sync>(
+    rt: &R,
+    series: &Series<'_>,
+    setup: Setup,
+    rule: FateRule,
+) -> Result<Table, CaseFault> {
+    let Series {
+        alloc,
+        plan,
+        words,
+        shown,
+    } = *series;
+    let mut setup = setup;
+    let mut table = Table::new(alloc);
+    for number in 0..rule.nth {
+        let nth = number.saturating_add(1);
+        setup.rules.push(FateRule { nth, ..rule })?;
+        let said = call(rt, alloc, &setup, plan, words, Vec::new(alloc))?.said;
+        let _ = setup.rules.pop();
+        let ending = Ending {
+            status: said.status,
+            text: lines_of(alloc, shown, &said, "    ")?,
+            again: String::new(alloc),
+            crashes: 0,
+        };
+        table.add(u64::from(nth), ending)?;
+    }
+    Ok(table)
 }
 
 /// The call where each call of a stream fails in turn, up to the first that isn't made.

@@ -1,19 +1,20 @@
 -- Numbers as words.
-use Rattle.std.proofs.Common.{◌≡◌, ◌≢◌, ◌⊎◌, inl, inr, ℕ, Option, Some, None, ◌+◌, ◌-◌, ◌<◌, ◌≤◌, ◌^◌, ◌==◌, zero, suc, Bool, true, false, cond, not, List, [], ◌∷◌, ◌++◌, length, get_or, take, drop, Result, Ok, Err, refl, sym, ap, ◌∙◌, subst, arith}
+use Rattle.std.proofs.Common.{◌≡◌, ◌≢◌, inl, inr, ℕ, Option, Some, None, ◌+◌, ◌-◌, ◌<◌, ◌≤◌, ◌^◌, ◌==◌, zero, suc, Bool, true, false, cond, not, List, [], ◌∷◌, ◌++◌, length, get_or, take, drop, Result, Ok, refl, sym, ap, ◌∙◌, subst, arith}
 use Rattle.std.specs.Prelude.{MatchOption, codes, decimal}
 use Rattle.std.specs.Borrow.{Bor}
+use Rattle.std.specs.Option.{unwrap_or}
 use Rattle.std.specs.List.{position_or_len, before_first, after_first}
 use Rattle.std.specs.Str.Parse.{AllDigits, IsNumeral, ParsesUnsigned, digits_value, without_leading_plus}
 use Rattle.std.proofs.Math.Seq.{take-append_seam, take-length}
 use Rattle.std.proofs.lemmas.List.{length-append}
-use Rattle.std.proofs.lemmas.Bool.Decides.{nat_tests, Decides-eqb}
+use Rattle.std.proofs.lemmas.Bool.Decides.{Decides-eqb}
 use Rattle.std.proofs.lemmas.Fmt.{decimal-digits_value, decimal_digit, decimal_is_IsNumeral, first_decimal, parse-decimal}
-use Rattle.std.proofs.lemmas.Str.Parse.{IsNumeralModel, digit_from_value, numerals_by_value, tells_digits}
+use Rattle.std.proofs.lemmas.Str.Parse.{digit_from_value, numerals_by_value, tells_digits}
 use Rattle.value_form.specs.declared.objects.ObjectId.{ObjectId}
 use Rattle.command_words.specs.declared.options.Given.{Given}
 use Rattle.command_words.specs.declared.commands.Options.{Options}
-use Rattle.command_words.specs.declared.commands.Command.TheVariants.{Run, Load, History, Retire, Watch, AsOf, Audit}
-use Rattle.command_words.specs.Words.{AreGiven, AreNone, AreOptions, IsLoad, IsNumber, IsObjectWord, IsPlain, IsWith, said}
+use Rattle.command_words.specs.declared.commands.Command.TheVariants.{Run, Load, History, Retire, Votes, Watch, AsOf, Audit}
+use Rattle.command_words.specs.Words.{AreGiven, AreNone, AreOptions, AreVoteOptions, IsLoad, IsNumber, IsObjectWord, IsPlain, IsWith, said}
 
 -- ---- what is written of a number
 
@@ -117,6 +118,27 @@ run-not-asof e = absurd (cc)
 
 run-not-audit : codes "run" ≡ codes "audit" → ⊥
 run-not-audit e = absurd (cc)
+
+run-not-votes : codes "run" ≡ codes "votes" → ⊥
+run-not-votes e = absurd (cc)
+
+load-not-votes : codes "load" ≡ codes "votes" → ⊥
+load-not-votes e = absurd (cc)
+
+history-not-votes : codes "history" ≡ codes "votes" → ⊥
+history-not-votes e = absurd (cc)
+
+retire-not-votes : codes "retire" ≡ codes "votes" → ⊥
+retire-not-votes e = absurd (cc)
+
+watch-not-votes : codes "watch" ≡ codes "votes" → ⊥
+watch-not-votes e = absurd (cc)
+
+asof-not-votes : codes "asof" ≡ codes "votes" → ⊥
+asof-not-votes e = absurd (cc)
+
+audit-not-votes : codes "audit" ≡ codes "votes" → ⊥
+audit-not-votes e = absurd (cc)
 
 ticks-not-messages : codes "--ticks" ≡ codes "--messages" → ⊥
 ticks-not-messages e = absurd (cc)
@@ -244,6 +266,10 @@ run-alone (a ∷ ws) h first bad (Retire repository clock) is = let are = is.are
   where
     front : {x : List ℕ} {more : List (List ℕ)} → a.now ∷ said ws ≡ x ∷ more → a.now ≡ x
     front e = cc
+run-alone (a ∷ ws) h first bad (Votes o) (more, are, options) = run-not-votes (sym first ∙ front are)
+  where
+    front : {x : List ℕ} {more : List (List ℕ)} → a.now ∷ said ws ≡ x ∷ more → a.now ≡ x
+    front e = cc
 run-alone (a ∷ ws) h first bad (Watch repository rule) is = let are = is.are in run-not-watch (sym first ∙ front are)
   where
     front : {x : List ℕ} {more : List (List ℕ)} → a.now ∷ said ws ≡ x ∷ more → a.now ≡ x
@@ -256,3 +282,55 @@ run-alone (a ∷ ws) h first bad (Audit object) is = let are = is.are in run-not
   where
     front : {x : List ℕ} {more : List (List ℕ)} → a.now ∷ said ws ≡ x ∷ more → a.now ≡ x
     front e = cc
+
+pub votes-alone : (ws : Words) → 1 ≤ length ws → word-at ws 0 ≡ codes "votes" → ((o : Options) → AreVoteOptions o (said (behind-one ws)) → ⊥) → AreNone (said ws)
+votes-alone [] h first bad c is = absurd (omega (arith, h))
+votes-alone (a ∷ ws) h first bad (Run o) (more, are, options) = run-not-votes (sym (front are) ∙ first)
+  where
+    front : {x : List ℕ} {more : List (List ℕ)} → a.now ∷ said ws ≡ x ∷ more → a.now ≡ x
+    front e = cc
+votes-alone (a ∷ ws) h first bad (Load seed count o) is = let are = is.are in load-not-votes (sym (front are) ∙ first)
+  where
+    front : {x : List ℕ} {more : List (List ℕ)} → a.now ∷ said ws ≡ x ∷ more → a.now ≡ x
+    front e = cc
+votes-alone (a ∷ ws) h first bad (History object) is = let are = is.are in history-not-votes (sym (front are) ∙ first)
+  where
+    front : {x : List ℕ} {more : List (List ℕ)} → a.now ∷ said ws ≡ x ∷ more → a.now ≡ x
+    front e = cc
+votes-alone (a ∷ ws) h first bad (Retire repository clock) is = let are = is.are in retire-not-votes (sym (front are) ∙ first)
+  where
+    front : {x : List ℕ} {more : List (List ℕ)} → a.now ∷ said ws ≡ x ∷ more → a.now ≡ x
+    front e = cc
+votes-alone (a ∷ ws) h first bad (Watch repository rule) is = let are = is.are in watch-not-votes (sym (front are) ∙ first)
+  where
+    front : {x : List ℕ} {more : List (List ℕ)} → a.now ∷ said ws ≡ x ∷ more → a.now ≡ x
+    front e = cc
+votes-alone (a ∷ ws) h first bad (AsOf repository clock) is = let are = is.are in asof-not-votes (sym (front are) ∙ first)
+  where
+    front : {x : List ℕ} {more : List (List ℕ)} → a.now ∷ said ws ≡ x ∷ more → a.now ≡ x
+    front e = cc
+votes-alone (a ∷ ws) h first bad (Audit object) is = let are = is.are in audit-not-votes (sym (front are) ∙ first)
+  where
+    front : {x : List ℕ} {more : List (List ℕ)} → a.now ∷ said ws ≡ x ∷ more → a.now ≡ x
+    front e = cc
+votes-alone (a ∷ ws) h first bad (Votes o) (more, are, options) =
+    let same : more ≡ said ws = cc in
+    bad o (subst (λ l. AreVoteOptions o (said l)) (sym (behind-one-is a ws)) (subst (AreVoteOptions o) same options))
+
+-- no more Ticks are asked for than a number of 32 bits holds
+ticks-with : (rest g : Given) (name word : List ℕ) → unwrap_or rest.ticks 10000 ≤ 1000000 → IsWith rest name word g → unwrap_or g.ticks 10000 ≤ 1000000
+ticks-with rest g name word before (inl h) = subst (λ (x : Given). unwrap_or x.ticks 10000 ≤ 1000000) (sym h.4) before
+ticks-with rest g name word before (inr (inl h)) = subst (λ (x : Given). unwrap_or x.ticks 10000 ≤ 1000000) (sym h.4) h.2.high
+ticks-with rest g name word before (inr (inr h)) = subst (λ (x : Given). unwrap_or x.ticks 10000 ≤ 1000000) (sym h.4) before
+
+ticks-given : (words : List (List ℕ)) (g : Given) → AreGiven g words → unwrap_or g.ticks 10000 ≤ 1000000
+ticks-given [] g h = subst (λ (x : Given). unwrap_or x.ticks 10000 ≤ 1000000) (sym h) (omega arith)
+ticks-given (name ∷ []) g h = absurd h
+ticks-given (name ∷ word ∷ more) g h = ticks-with h.0 g name word (ticks-given more h.0 h.1) h.2
+
+pub few-ticks : (o : Options) (words : List (List ℕ)) → AreVoteOptions o words → o.ticks ≤ 1000000
+few-ticks o words h = subst (λ (x : Options). x.ticks ≤ 1000000) (sym h.3) (ticks-given words h.0 h.1)
+
+-- with workers they are no options of votes
+pub no-votes : (g : Given) (words : List (List ℕ)) → AreGiven g words → (g.workers ≡ None → ⊥) → (o : Options) → AreVoteOptions o words → ⊥
+no-votes g words given some o h = some (ap (λ (x : Given). x.workers) (given-one g h.0 words given h.1) ∙ h.2)

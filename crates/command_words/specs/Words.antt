@@ -9,7 +9,7 @@ use Rattle.command_words.specs.declared.commands.Options.{Options}
 use Rattle.command_words.specs.declared.rules.Rule.{Rule}
 use Rattle.command_words.specs.declared.rules.Rule.TheVariants.{Count, Sum, Last}
 use Rattle.command_words.specs.declared.commands.Command.{Command}
-use Rattle.command_words.specs.declared.commands.Command.TheVariants.{Run, Load, History, Retire, Watch, AsOf, Audit}
+use Rattle.command_words.specs.declared.commands.Command.TheVariants.{Run, Load, History, Retire, Votes, Watch, AsOf, Audit}
 use Rattle.command_words.specs.declared.options.Given.{Given}
 
 -- ---- numbers
@@ -48,6 +48,10 @@ options_of g = record { workers = unwrap_or g.workers 1; ticks = unwrap_or g.tic
 
 abbrev pub AreOptions : Options → List (List ℕ) → Type 0
 AreOptions o words = (g : Given) × AreGiven g words × (o ≡ options_of g)
+
+-- of votes, which have no workers
+abbrev pub AreVoteOptions : Options → List (List ℕ) → Type 0
+AreVoteOptions o words = (g : Given) × AreGiven g words × (g.workers ≡ None) × (o ≡ options_of g)
 
 -- ---- commands
 
@@ -110,6 +114,7 @@ AreWords (Run o) words = (more : List (List ℕ)) × (words ≡ codes "run" ∷ 
 AreWords (Load seed count o) words = IsLoad seed count o words
 AreWords (History object) words = IsHistory object words
 AreWords (Retire repository clock) words = IsRetire repository clock words
+AreWords (Votes o) words = (more : List (List ℕ)) × (words ≡ codes "votes" ∷ more) × AreVoteOptions o more
 AreWords (Watch repository rule) words = IsWatch repository rule words
 AreWords (AsOf repository clock) words = IsAsOf repository clock words
 AreWords (Audit object) words = IsAudit object words

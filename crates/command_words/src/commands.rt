@@ -5,7 +5,7 @@ ghost use Rattle.command_words.specs.declared.rules.Rule.{Rule};
 ghost use Rattle.command_words.specs.Words.{AreWords, AreNone, IsLoad, IsHistory, IsRetire, IsWatch, IsAsOf, IsAudit, said};
 
 use crate::numbers::{number, object};
-use crate::options::options;
+use crate::options::{options, vote_options};
 use crate::rules::{Rule, rule_of};
 use value_form::ObjectId;
 
@@ -40,6 +40,8 @@ pub enum Command {
         /// 1 to 1,099,511,627,775.
         clock: u64,
     },
+    /// Let three members vote on the polls that the source has, on one thread.
+    Votes(Options),
     /// Bring the totals of a repository's objects by a rule up to date.
     Watch {
         /// 1 to 16.
@@ -135,9 +137,9 @@ fn audit(words: &[&str]) -> Option<Command>
 }
 
 /// The command that the words are: `run OPTIONS`, `load SEED COUNT OPTIONS`, `history R.N`,
-/// `retire R CLOCK`, `watch R RULE`, `asof R CLOCK` or `audit R.N`. RULE is `count`, `sum` or `last`.
-/// OPTIONS are any of `--workers W` (1 unless given), `--ticks T` (10,000) and
-/// `--messages N` (200,000), in any order, each at most once, name and number as two words. Numbers are
+/// `retire R CLOCK`, `votes OPTIONS`, `watch R RULE`, `asof R CLOCK` or `audit R.N`. OPTIONS are any of
+/// `--workers W` (1 unless given; not of votes), `--ticks T` (10,000) and `--messages N` (200,000), in any
+/// order, each at most once, name and number as two words. RULE is `count`, `sum` or `last`. Numbers are
 /// decimal digits without a sign or a zero in front. None where they are no command.
 pub fn read_words(words: &[&str]) -> Option<Command>
     ensures words { IfSome result (λ c. AreWords c (said words.now)) }
@@ -151,6 +153,7 @@ pub fn read_words(words: &[&str]) -> Option<Command>
         "load" => load(more),
         "history" => history(more),
         "retire" => retire(more),
+        "votes" => Some(Command::Votes(vote_options(more)?)),
         "watch" => watch(more),
         "asof" => asof(more),
         "audit" => audit(more),

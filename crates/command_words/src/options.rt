@@ -1,8 +1,8 @@
 //! The options of a run, as words.
-ghost use Rattle.std.specs.Prelude.{MatchOption};
+ghost use Rattle.std.specs.Prelude.{◌≡◌, MatchOption};
 ghost use Rattle.command_words.specs.declared.commands.Options.{Options};
 ghost use Rattle.command_words.specs.declared.options.Given.{Given};
-ghost use Rattle.command_words.specs.Words.{AreGiven, AreOptions, IsWith, said};
+ghost use Rattle.command_words.specs.Words.{AreGiven, AreOptions, AreVoteOptions, IsWith, options_of, said};
 
 use crate::commands::Options;
 use crate::numbers::number;
@@ -54,17 +54,41 @@ fn read_given(words: &[&str]) -> Option<Given>
     }
 }
 
-/// The options that the words are.
-pub fn options(words: &[&str]) -> Option<Options>
-    ensures { MatchOption result ((o : Options) → AreOptions o (said words.now) → ⊥) (λ o. AreOptions o (said words.now)) }
+// The options that the words give, if they aren't too many.
+fn few_given(words: &[&str]) -> Option<Given>
+    ensures { MatchOption result ((g : Given) → AreGiven g (said words.now) → ⊥) (λ g. AreGiven g (said words.now)) }
 {
     if words.len() > MOST_WORDS {
         return None;
     }
-    let given = read_given(words)?;
-    Some(Options {
+    read_given(words)
+}
+
+// These options, and what isn't given.
+fn filled(given: Given) -> Options
+    ensures { result ≡ options_of given }
+{
+    Options {
         workers: given.workers.unwrap_or(1) as usize,
         ticks: given.ticks.unwrap_or(10_000),
         messages: given.messages.unwrap_or(200_000),
-    })
+    }
+}
+
+/// The options that the words are.
+pub fn options(words: &[&str]) -> Option<Options>
+    ensures { MatchOption result ((o : Options) → AreOptions o (said words.now) → ⊥) (λ o. AreOptions o (said words.now)) }
+{
+    Some(filled(few_given(words)?))
+}
+
+/// The options of votes that the words are.
+pub fn vote_options(words: &[&str]) -> Option<Options>
+    ensures { MatchOption result ((o : Options) → AreVoteOptions o (said words.now) → ⊥) (λ o. AreVoteOptions o (said words.now)) }
+{
+    let given = few_given(words)?;
+    if given.workers.is_some() {
+        return None;
+    }
+    Some(filled(given))
 }

@@ -54,6 +54,7 @@ module _ (r : LabRun) where
     pub media : r.media ≡ []
     pub fates : (asked_of r.fates) ≡ []
     pub clock : r.clock ≡ record { moment = 0; calls = 0 }
+    pub votes : r.votes ≡ no_trace
     pub input : (r.left ≡ r.input) × (r.faults ≡ r.faults_before)
 
   -- the call of the top call that was made: with the words of the text, over a shelf that was the first and is the second
@@ -71,6 +72,7 @@ module _ (r : LabRun) where
     shelf = sight_of after;
     told = account_of r.trace (tellers [] (asked_of r.fates) (Some []) (Some (replicate r.clock.calls r.clock.moment)));
     media = r.media;
+    votes = r.votes;
   }
 
   -- The top call was called over blank media, and keeps its promise. Messages were lost as was said, and the clock stood at 0.

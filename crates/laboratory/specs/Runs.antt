@@ -20,3 +20,5 @@ pub record LabRun : Type 0 where
   pub media : List (Kept MemoryMedium)
   pub fates : LabFates
   pub clock : FixedParts
+  -- what happened between members and polls
+  pub votes : Trace

@@ -30,15 +30,23 @@ pub record IsFresh (pages : ℕ) (stops : List Stop) (m : MemoryMedium) : Type 0
   pub faults : faults_in m ≡ 0
   pub sound : failed_in m ≡ false
 
--- the medium of the first repository
+-- the medium with which the first repository runs, and that on which it votes
 abbrev pub first_name : MediumName
 first_name = record { kind = Repository; number = 1; volume = 0 }
 
--- Each medium is blank and has so many pages, that of the first repository stops as was said, and none was asked for. No taking has failed or is to fail.
+abbrev pub voting_name : MediumName
+voting_name = record { kind = Repository; number = 1; volume = 1010 }
+
+-- a fresh medium of the laboratory with its stop stands under this name
+abbrev pub HasFresh : Lab → MemoryShelf → MediumName → Type 0
+HasFresh lab s name = (m : MemoryMedium) × (under s name ≡ Some (Some m)) × IsFresh lab.pages (stops_at lab.stop) m
+
+-- Each medium is blank and has so many pages, those two of the first repository stop as was said, and none was asked for. No taking has failed or is to fail.
 pub record IsLabShelf (lab : Lab) (s : MemoryShelf) : Type 0 where
-  pub first : (m : MemoryMedium) × (under s first_name ≡ Some (Some m)) × IsFresh lab.pages (stops_at lab.stop) m
+  pub first : HasFresh lab s first_name
+  pub voting : HasFresh lab s voting_name
   -- nothing was put under any other name, so that a blank medium is made for it
-  pub others : (name : MediumName) → name ≢ first_name → under s name ≡ None
+  pub others : (name : MediumName) → name ≢ first_name → name ≢ voting_name → under s name ≡ None
   pub size : new_pages s ≡ lab.pages
   pub unasked : asked_for s ≡ []
   pub well : failing s ≡ []

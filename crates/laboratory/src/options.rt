@@ -19,8 +19,8 @@ pub struct Lab {
     /// 0 where no message is lost, and else by what a message's draw is divided, at most 1,000,000: the
     /// message is lost where nothing is left over.
     pub lose: u32,
-    /// 0 where no medium stops, and else the page at whose gate that of repository 1 does, at most
-    /// 1,048,575.
+    /// 0 where no medium stops, and else the page at whose gate those of repository 1 do, its volume 0 and
+    /// that on which it votes, at most 1,048,575.
     pub stop: u32,
     /// The words of the top call, with a space between each two.
     pub text: String,

@@ -17,7 +17,7 @@ use std::marker::{Brand, PhantomData};
 use std::sync::Wait;
 use std::thread::Threads;
 use stream_port::{FixedClock, Sink, Source};
-use swallow_top::{Finish, swallow};
+use swallow_top::{Finish, no_votes, swallow};
 use value_form::Items;
 use wire_lock::Told;
 
@@ -35,6 +35,7 @@ fn quiet(alloc: Global, status: u8) -> Finish<MemoryMedium, LabFates, FixedClock
     ensures media { result.media ≡ [] }
     ensures fates { asked_of result.fates ≡ [] }
     ensures clock { result.clock ≡ record { moment = 0; calls = 0 } }
+    ensures votes { result.votes ≡ no_trace }
 {
     Finish {
         status,
@@ -42,6 +43,7 @@ fn quiet(alloc: Global, status: u8) -> Finish<MemoryMedium, LabFates, FixedClock
         media: Items::of(Vec::new(alloc)),
         fates: LabFates::new(alloc, 0),
         clock: FixedClock::new(0),
+        votes: no_votes(alloc),
     }
 }
 
@@ -69,6 +71,7 @@ fn over<D: Divisor + Send, I: Source, O: Sink, R: Threads + Wait + Sync>(
       media = result.media;
       fates = result.fates;
       clock = result.clock;
+      votes = result.votes;
     }) lab.now }
 {
     let mut shelf = shelf;
@@ -86,6 +89,7 @@ fn over<D: Divisor + Send, I: Source, O: Sink, R: Threads + Wait + Sync>(
         media: finish.media,
         fates: finish.fates.fates,
         clock: finish.clock.clock,
+        votes: finish.votes,
     }
 }
 
@@ -111,6 +115,7 @@ fn run<D: Divisor + Send, I: Source, O: Sink, R: Threads + Wait + Sync>(
       media = result.media;
       fates = result.fates;
       clock = result.clock;
+      votes = result.votes;
     }) ⊎ spec.RanAs (record {
       status = result.status;
       input = I.left source.old;
@@ -122,6 +127,7 @@ fn run<D: Divisor + Send, I: Source, O: Sink, R: Threads + Wait + Sync>(
       media = result.media;
       fates = result.fates;
       clock = result.clock;
+      votes = result.votes;
     }) lab.now }
 {
     let Ok(words) = cut(alloc, lab.text.as_str()) else {
@@ -135,8 +141,8 @@ fn run<D: Divisor + Send, I: Source, O: Sink, R: Threads + Wait + Sync>(
 
 /// Does in memory what the words say, which are those of [`lab_words`]: the top call with the words of
 /// their text, over blank media of as many pages as they say, with messages lost by the divisor that they
-/// say, and with a stop of the first repository's medium at the gate of the page that they say. The clock
-/// stands at 0.
+/// say, and with a stop of the first repository's media at the gate of the page that they say: of its volume
+/// 0, and of that on which it votes. The clock stands at 0.
 ///
 /// The status is that of the top call; else it is 1, where the laboratory's own words are refused and
 /// `swallow_lab: words` was written, or 7, where memory is wanting.
@@ -158,6 +164,7 @@ pub fn lab<I: Source, O: Sink, R: Threads + Wait + Sync>(
       media = result.media;
       fates = result.fates;
       clock = result.clock;
+      votes = result.votes;
     }) (said words.now) }
 {
     match lab_words(alloc, words) {

@@ -1,6 +1,6 @@
 //! The media of a run in the laboratory.
 ghost use Rattle.std.specs.Prelude.{◌≡◌, ◌≤◌, IfOk};
-ghost use Rattle.laboratory.specs.Shelves.{IsLabShelf, stops_at};
+ghost use Rattle.laboratory.specs.Shelves.{IsFresh, IsLabShelf, stops_at};
 
 use crate::options::Lab;
 use medium_port::{MemoryMedium, MemoryShelf, Stop, StopAt};
@@ -22,16 +22,30 @@ fn stops_for(alloc: Global, page: u32) -> Result<Vec<Stop>, AllocError>
     Ok(stops)
 }
 
-/// A shelf of blank media of as many pages as is said, of which that of repository 1 stops where it is said.
+// A blank medium of as many pages as is said, which stops where it is said.
+fn medium_for(alloc: Global, lab: &Lab) -> Result<MemoryMedium, AllocError>
+    requires some { 1 ≤ lab.now.pages }
+    requires most { lab.now.pages ≤ 1048576 }
+    ensures { IfOk result (IsFresh lab.now.pages (stops_at lab.now.stop)) }
+{
+    let stops = stops_for(alloc, lab.stop)?;
+    MemoryMedium::new(alloc, lab.pages, stops)
+}
+
+/// A shelf of blank media of as many pages as is said, of which two of repository 1 stop where it is said:
+/// its volume 0, and that on which it votes.
 pub fn shelf_for(alloc: Global, lab: &Lab) -> Result<MemoryShelf, AllocError>
     requires some { 1 ≤ lab.now.pages }
     requires most { lab.now.pages ≤ 1048576 }
     ensures { IfOk result (IsLabShelf lab.now) }
 {
-    let stops = stops_for(alloc, lab.stop)?;
-    let medium = MemoryMedium::new(alloc, lab.pages, stops)?;
+    let first = medium_for(alloc, lab)?;
+    let voting = medium_for(alloc, lab)?;
     let mut shelf = MemoryShelf::new(alloc, lab.pages);
-    match shelf.put(NodeKind::Repository, 1, 0, medium) {
+    if shelf.put(NodeKind::Repository, 1, 0, first).is_err() {
+        return Err(AllocError);
+    }
+    match shelf.put(NodeKind::Repository, 1, 1_010, voting) {
         Ok(()) => Ok(shelf),
         Err(_) => Err(AllocError),
     }

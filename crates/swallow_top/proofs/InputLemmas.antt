@@ -1,5 +1,5 @@
 -- What was read of an input says what the input is.
-use Rattle.std.proofs.Common.{ℕ, ◌≤◌, List, ◌++◌, length, None, Some, Ok, Err, sym, ap, ◌∙◌, subst, arith, append-nil}
+use Rattle.std.proofs.Common.{ℕ, ◌≤◌, ◌<◌, ◌≡◌, ◌⊎◌, inl, inr, List, ◌++◌, length, None, Some, Ok, Err, sym, ap, ◌∙◌, subst, arith, append-nil}
 use Rattle.std.specs.Prelude.{Option, Result}
 use Rattle.std.specs.Io.KnownBytes.{Consumes, IsAtEnd}
 use Rattle.std.proofs.lemmas.List.{length-append}
@@ -12,6 +12,12 @@ use Rattle.swallow_top.specs.declared.stops.Stop.{Stop}
 use Rattle.swallow_top.specs.declared.stops.Stop.TheVariants as stop
 use Rattle.swallow_top.specs.Inputs.{OfInput}
 use Rattle.swallow_top.specs.Plans.{IsReadAs, ReadsPlan}
+use Rattle.swallow_top.specs.Votes.{AreReadAs, ReadsPolls}
+use Rattle.std.specs.Prelude.{Vec}
+use Rattle.std.specs.declared.alloc.Global.{Global}
+use Rattle.votes_command.specs.Faults.{IsInputFault}
+use Rattle.votes_command.specs.Inputs.{IsInput}
+use Rattle.votes_command.specs.PollLine.{PollLine}
 
 -- all of the input was read
 pub of_whole : (left new : Option (List ℕ)) (bytes : List ℕ) (P : List ℕ → Type 0) → Consumes left new bytes → IsAtEnd new → P bytes → OfInput left P
@@ -44,7 +50,26 @@ reads-plan left new before after bytes (Err (stop.Fault line what)) read ended h
 reads-plan left new before after bytes (Err stop.NoMemory) read ended h = tt
 reads-plan left new before after bytes (Err stop.Source) read ended h = absurd h
 reads-plan left new before after bytes (Err stop.Words) read ended h = absurd h
+reads-plan left new before after bytes (Err (stop.Votes line)) read ended h = absurd h
 reads-plan left new before after bytes (Err stop.Sink) read ended h = absurd h
+
+too_many : (left new : Option (List ℕ)) (bytes : List ℕ) (line : ℕ) → Consumes left new bytes → (4194304 < length bytes) × (line ≡ 0) → OfInput left (λ input. IsInputFault input line)
+too_many None new bytes line read h = (bytes, inl h)
+too_many (Some input) None bytes line read h = absurd read
+too_many (Some input) (Some rest) bytes line read h = inl (let size = ap length read ∙ length-append bytes rest in let long = h.0 in omega arith, h.1)
+
+of_votes-fault : (left new : Option (List ℕ)) (bytes : List ℕ) (line : ℕ) → Consumes left new bytes → (length bytes ≤ 4194304 → IsAtEnd new) → IsInputFault bytes line → OfInput left (λ input. IsInputFault input line)
+of_votes-fault left new bytes line read ended (inl h) = too_many left new bytes line read h
+of_votes-fault left new bytes line read ended (inr h) = of_whole left new bytes (λ input. IsInputFault input line) read (ended h.0) (inr h)
+
+pub reads-polls : (left new : Option (List ℕ)) (before after : ℕ) (bytes : List ℕ) (r : Result (Vec PollLine Global) Stop) → Consumes left new bytes → (length bytes ≤ 4194304 → IsAtEnd new) → AreReadAs bytes r → ReadsPolls left new before after r
+reads-polls left new before after bytes (Ok polls) read ended h = (of_whole left new bytes (λ input. IsInput input polls.items) read (ended h.0) h, ended h.0)
+reads-polls left new before after bytes (Err (stop.Votes line)) read ended h = of_votes-fault left new bytes line read ended h
+reads-polls left new before after bytes (Err stop.NoMemory) read ended h = tt
+reads-polls left new before after bytes (Err (stop.Fault line what)) read ended h = absurd h
+reads-polls left new before after bytes (Err stop.Source) read ended h = absurd h
+reads-polls left new before after bytes (Err stop.Words) read ended h = absurd h
+reads-polls left new before after bytes (Err stop.Sink) read ended h = absurd h
 
 -- what holds of the input with something more
 pub of_input-with : (left : Option (List ℕ)) (P Q : List ℕ → Type 0) → ((input : List ℕ) → P input → Q input) → OfInput left P → OfInput left Q

@@ -11,3 +11,4 @@ pub mod SmoothLemmas
 pub mod StandingLemmas
 pub mod StreamLemmas
 pub mod TopLemmas
+pub mod VoteLemmas

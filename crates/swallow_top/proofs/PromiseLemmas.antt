@@ -15,7 +15,7 @@ use Rattle.value_form.specs.declared.objects.ObjectId.{ObjectId}
 use Rattle.run_rounds.specs.Stories.{no_trace}
 use Rattle.command_words.specs.declared.commands.Options.{Options}
 use Rattle.command_words.specs.declared.commands.Command.{Command}
-use Rattle.command_words.specs.declared.commands.Command.TheVariants.{Run, Load, History, Retire}
+use Rattle.command_words.specs.declared.commands.Command.TheVariants.{Run, Load, History, Retire, Votes}
 use Rattle.command_words.specs.declared.options.Given.{Given}
 use Rattle.command_words.specs.Words.{AreGiven, AreNone, AreOptions, AreWords, IsWith}
 use Rattle.run_media.specs.Media.{Media}
@@ -38,6 +38,18 @@ use Rattle.retire_command.specs.declared.outcomes.Retired.TheVariants.{Done, Ref
 use Rattle.swallow_top.specs.Retirements.{TellsRetired, TellsRetirement}
 use Rattle.swallow_top.specs.Tellings.{status_of, status_with}
 use Rattle.swallow_top.specs.Written.{Sinking, Ends, EndsIfAny}
+use Rattle.std.specs.Prelude.{Vec}
+use Rattle.std.specs.declared.alloc.Global.{Global}
+use Rattle.votes_command.specs.Tellings.{some_down as voters_down}
+use Rattle.votes_command.specs.VoteEnd.{VoteEnd}
+use Rattle.votes_command.specs.VoteEnd.TheVariants.{Told}
+use Rattle.votes_command.specs.VoteEnd.TheVariants as voted
+use Rattle.votes_command.specs.Faults.{IsInputFault}
+use Rattle.votes_command.specs.Inputs.{IsInput}
+use Rattle.votes_command.specs.PollLine.{PollLine}
+use Rattle.votes_command.specs.Statuses.{all_held}
+use Rattle.swallow_top.specs.Votes.{AreNoPolls, HavePolled, ReadsPolls, TellsVotes, limits_of, tellers_of, votes_status}
+use Rattle.swallow_top.proofs.VoteLemmas.{votes-kept}
 use Rattle.swallow_top.proofs.HistoryLemmas.{history-kept}
 use Rattle.swallow_top.proofs.InputLemmas.{of_input-all, of_input-with}
 use Rattle.swallow_top.proofs.RetirementLemmas.{retirement-kept}
@@ -64,6 +76,11 @@ retired-most (Done line) s status h = ends-most status s 0 line (omega arith) h
 retired-most (Refused line) s status h = let e = h.0 in omega (arith, e)
 retired-most (Fallen line) s status h = ends-most status s 6 line (omega arith) h
 retired-most NoMemory s status h = omega (arith, h)
+
+voted-most : (end : VoteEnd) (votes : Trace) (s : Sinking) (status : ℕ) → TellsVotes end votes status s → status ≤ 8
+voted-most (Told t standings) votes s status h =
+    any-most status s (votes_status t standings) _ (if-most (all_held standings) 0 (if voters_down t.entries then 6 else 5) 8 (omega arith) (if-most (voters_down t.entries) 6 5 8 (omega arith) (omega arith))) h.1
+voted-most voted.NoMemory votes s status h = let e = h.1 in omega (arith, e)
 
 module _ {M : Type 0} (w : Media M) (old new : ShelfSight) (kept : List (Kept M)) where
   pub runs-most : (plan : Plan) (wanted : Wanted) (o : Options) (told : Account) (s : Sinking) (status : ℕ) → RunsPlan w old new kept plan wanted o told s status → status ≤ 8
@@ -105,8 +122,8 @@ some-workers o words h = subst (λ (x : Options). 1 ≤ x.workers) (sym h.2) (gi
 -- ---- calls
 
 module _ {M : Type 0} (c : Call M) where
-  pub quiet-call : (status : ℕ) → c.status ≡ status → c.media ≡ [] → c.shelf.asked ≡ c.shelf_before.asked → c.told.trace ≡ no_trace → c.told.asked ≡ c.told.asked_before → c.told.answers ≡ c.told.answers_before → TouchedNothing c status
-  quiet-call status is none unasked trace asked answers = record { status_is = is; none = none; unasked = unasked; no_run = record { trace = trace; fates = asked; clock = answers } }
+  pub quiet-call : (status : ℕ) → c.status ≡ status → c.media ≡ [] → c.shelf.asked ≡ c.shelf_before.asked → c.told.trace ≡ no_trace → c.told.asked ≡ c.told.asked_before → c.told.answers ≡ c.told.answers_before → c.votes ≡ no_trace → TouchedNothing c status
+  quiet-call status is none unasked trace asked answers votes = record { status_is = is; none = none; unasked = unasked; no_run = record { trace = trace; fates = asked; clock = answers }; no_votes = votes }
 
   -- a call that refused what it read, or had no memory
   refused-run : (o : Options) (s : Stop) → AreWords (Run o) c.words → ReadsPlan c.input c.left c.faults_before c.faults (Err s) → RefusedAs s c.status c.sink
@@ -117,58 +134,90 @@ module _ {M : Type 0} (c : Call M) where
   refused-run o stop.Source words read refused quiet = inr (inr (Run o, words, inl (quiet 3 refused.0, read, refused.1)))
   refused-run o stop.NoMemory words read refused quiet = inr (inl (quiet 7 refused))
   refused-run o stop.Words words read refused quiet = absurd read
+  refused-run o (stop.Votes line) words read refused quiet = absurd read
   refused-run o stop.Sink words read refused quiet = absurd read
 
   refused-most : (s : Stop) → RefusedAs s c.status c.sink → c.status ≤ 8
   refused-most stop.Words h = let e = h.0 in omega (arith, e)
   refused-most (stop.Fault line kind) (inl h) = omega (arith, h)
   refused-most (stop.Fault line kind) (inr h) = let e = h.0 in omega (arith, e)
+  refused-most (stop.Votes line) (inl h) = omega (arith, h)
+  refused-most (stop.Votes line) (inr h) = let e = h.0 in omega (arith, e)
   refused-most stop.Source h = let e = h.0 in omega (arith, e)
   refused-most stop.NoMemory h = omega (arith, h)
   refused-most stop.Sink h = omega (arith, h)
 
   pub promise-none : IsUnread c → AreNone c.words → RefusedAs stop.Words c.status c.sink → ((status : ℕ) → c.status ≡ status → TouchedNothing c status) → AllKept c.shelf_before c.shelf c.media → Promise c
-  promise-none unread none refused quiet kept = record { done = inl (quiet 1 refused.0, unread, none, refused.1); kept = kept; statuses = refused-most stop.Words refused }
+  promise-none unread none refused quiet kept = record { done = inl (quiet 1 refused.0, unread, none, refused.1); kept = kept; statuses = refused-most stop.Words refused; votes = inl (quiet 1 refused.0).no_votes }
 
   pub promise-refused : (o : Options) (s : Stop) → AreWords (Run o) c.words → ReadsPlan c.input c.left c.faults_before c.faults (Err s) → RefusedAs s c.status c.sink → ((status : ℕ) → c.status ≡ status → TouchedNothing c status) → AllKept c.shelf_before c.shelf c.media → Promise c
-  promise-refused o s words read refused quiet kept = record { done = refused-run o s words read refused quiet; kept = kept; statuses = refused-most s refused }
+  promise-refused o s words read refused quiet kept = record { done = refused-run o s words read refused quiet; kept = kept; statuses = refused-most s refused; votes = inl (quiet c.status refl).no_votes }
 
-  pub promise-run : (o : Options) (plan : Plan) → AreWords (Run o) c.words → ReadsPlan c.input c.left c.faults_before c.faults (Ok plan) → RunsPlan c.media_are c.shelf_before c.shelf c.media plan Report o c.told c.sink c.status → AllKept c.shelf_before c.shelf c.media → Promise c
-  promise-run o plan words read runs kept = record {
+  pub promise-run : (o : Options) (plan : Plan) → AreWords (Run o) c.words → ReadsPlan c.input c.left c.faults_before c.faults (Ok plan) → RunsPlan c.media_are c.shelf_before c.shelf c.media plan Report o c.told c.sink c.status → AllKept c.shelf_before c.shelf c.media → c.votes ≡ no_trace → Promise c
+  promise-run o plan words read runs kept votes = record {
     done = inr (inr (Run o, words, inr (inr (read.1, of_input-with c.input (λ input. IsPlan input plan) (λ input. (p : Plan) × IsPlan input p × RunsPlan c.media_are c.shelf_before c.shelf c.media p Report o c.told c.sink c.status) (λ input h. (plan, h, runs)) read.0))));
     kept = kept;
     statuses = runs-most c.media_are c.shelf_before c.shelf c.media plan Report o c.told c.sink c.status runs;
+    votes = inl votes;
   }
 
-  pub promise-load : (seed count : ℕ) (o : Options) (plan : Plan) → IsUnread c → AreWords (Load seed count o) c.words → plan ≡ made_plan seed count → RunsPlan c.media_are c.shelf_before c.shelf c.media plan (Summary seed) o c.told c.sink c.status → AllKept c.shelf_before c.shelf c.media → Promise c
-  promise-load seed count o plan unread words made runs kept = record {
+  pub promise-load : (seed count : ℕ) (o : Options) (plan : Plan) → IsUnread c → AreWords (Load seed count o) c.words → plan ≡ made_plan seed count → RunsPlan c.media_are c.shelf_before c.shelf c.media plan (Summary seed) o c.told c.sink c.status → AllKept c.shelf_before c.shelf c.media → c.votes ≡ no_trace → Promise c
+  promise-load seed count o plan unread words made runs kept votes = record {
     done = inr (inr (Load seed count o, words, (unread, subst (λ p. RunsPlan c.media_are c.shelf_before c.shelf c.media p (Summary seed) o c.told c.sink c.status) made runs)));
     kept = kept;
     statuses = runs-most c.media_are c.shelf_before c.shelf c.media plan (Summary seed) o c.told c.sink c.status runs;
+    votes = inl votes;
   }
 
   pub promise-wanting : TouchedNothing c 7 → AllKept c.shelf_before c.shelf c.media → Promise c
-  promise-wanting quiet kept = record { done = inr (inl quiet); kept = kept; statuses = let e = quiet.status_is in omega (arith, e) }
+  promise-wanting quiet kept = record { done = inr (inl quiet); kept = kept; statuses = let e = quiet.status_is in omega (arith, e); votes = inl quiet.no_votes }
 
   -- a call that asked for no medium, since memory was wanting
-  promise-unasked : AskedNothing c.media_are c.shelf_before c.shelf c.media c.status → HasNoRun c.told → Promise c
-  promise-unasked h none = promise-wanting (record { status_is = h.wanting; none = h.none; unasked = h.unasked; no_run = none }) (none-kept c.shelf_before c.shelf c.media (λ name is. (h.left name).taken.0 is))
+  promise-unasked : AskedNothing c.media_are c.shelf_before c.shelf c.media c.status → HasNoRun c.told → c.votes ≡ no_trace → Promise c
+  promise-unasked h none votes = promise-wanting (record { status_is = h.wanting; none = h.none; unasked = h.unasked; no_run = none; no_votes = votes }) (none-kept c.shelf_before c.shelf c.media (λ name is. (h.left name).taken.0 is))
 
-  pub promise-history : (object : ObjectId) → IsUnread c → AreWords (History object) c.words → AskedNothing c.media_are c.shelf_before c.shelf c.media c.status ⊎ TellsHistory c.media_are c.shelf_before c.shelf object c.media c.sink c.status → HasNoRun c.told → Promise c
-  promise-history object unread words (inl nothing) none = promise-unasked nothing none
-  promise-history object unread words (inr tells) none = record {
+  pub promise-history : (object : ObjectId) → IsUnread c → AreWords (History object) c.words → AskedNothing c.media_are c.shelf_before c.shelf c.media c.status ⊎ TellsHistory c.media_are c.shelf_before c.shelf object c.media c.sink c.status → HasNoRun c.told → c.votes ≡ no_trace → Promise c
+  promise-history object unread words (inl nothing) none votes = promise-unasked nothing none votes
+  promise-history object unread words (inr tells) none votes = record {
     done = inr (inr (History object, words, (unread, tells, none)));
     kept = history-kept c.media_are c.shelf_before c.shelf object c.media c.sink c.status tells;
     statuses = tells-most c.media_are c.shelf_before c.shelf c.media object c.sink c.status tells;
+    votes = inl votes;
   }
 
   pub promise-retire : (repository clock : ℕ) → IsUnread c → AreWords (Retire repository clock) c.words → AskedNothing c.media_are c.shelf_before c.shelf c.media c.status ⊎ TellsRetirement c.media_are c.shelf_before c.shelf repository clock c.media c.sink c.status →
-      HasNoRun c.told → Promise c
-  promise-retire repository clock unread words (inl nothing) none = promise-unasked nothing none
-  promise-retire repository clock unread words (inr tells) none = record {
+      HasNoRun c.told → c.votes ≡ no_trace → Promise c
+  promise-retire repository clock unread words (inl nothing) none votes = promise-unasked nothing none votes
+  promise-retire repository clock unread words (inr tells) none votes = record {
     done = inr (inr (Retire repository clock, words, (unread, tells, none)));
     kept = retirement-kept c.media_are c.shelf_before c.shelf repository clock c.media c.sink c.status tells;
     statuses = retired-most tells.retired c.sink c.status tells.told;
+    votes = inl votes;
+  }
+
+  -- votes that refused what they read, or had no memory
+  refused-votes : (o : Options) (s : Stop) → AreWords (Votes o) c.words → ReadsPolls c.input c.left c.faults_before c.faults (Err s) → RefusedAs s c.status c.sink
+      → ((status : ℕ) → c.status ≡ status → TouchedNothing c status) → HasNoWords c ⊎ (TouchedNothing c 7 ⊎ ((command : Command) × AreWords command c.words × WasDone c command))
+  refused-votes o (stop.Votes line) words read (inl seven) quiet = inr (inl (quiet 7 seven))
+  refused-votes o (stop.Votes line) words read (inr two) quiet =
+      inr (inr (Votes o, words, inr (inl (quiet 2 two.0, of_input-with c.input (λ input. IsInputFault input line) (λ input. AreNoPolls input c.sink) (λ input h. record { line = line; is_fault = h; told = two.1 }) read))))
+  refused-votes o stop.Source words read refused quiet = inr (inr (Votes o, words, inl (quiet 3 refused.0, read, refused.1)))
+  refused-votes o stop.NoMemory words read refused quiet = inr (inl (quiet 7 refused))
+  refused-votes o stop.Words words read refused quiet = absurd read
+  refused-votes o stop.Sink words read refused quiet = absurd read
+  refused-votes o (stop.Fault line kind) words read refused quiet = absurd read
+
+  pub promise-no-polls : (o : Options) (s : Stop) → AreWords (Votes o) c.words → ReadsPolls c.input c.left c.faults_before c.faults (Err s) → RefusedAs s c.status c.sink → ((status : ℕ) → c.status ≡ status → TouchedNothing c status) → AllKept c.shelf_before c.shelf c.media → Promise c
+  promise-no-polls o s words read refused quiet kept = record { done = refused-votes o s words read refused quiet; kept = kept; statuses = refused-most s refused; votes = inl (quiet c.status refl).no_votes }
+
+  pub promise-votes : (o : Options) (polls : Vec PollLine Global) → AreWords (Votes o) c.words → ReadsPolls c.input c.left c.faults_before c.faults (Ok polls) →
+      (AskedNothing c.media_are c.shelf_before c.shelf c.media c.status × HasNoRun c.told × (c.votes ≡ no_trace)) ⊎ HavePolled c.media_are c.shelf_before c.shelf polls.items o c.told c.votes c.media c.sink c.status → Promise c
+  promise-votes o polls words read (inl h) = promise-unasked h.0 h.1 h.2
+  promise-votes o polls words read (inr h) = record {
+    done = inr (inr (Votes o, words, inr (inr (read.1, of_input-with c.input (λ input. IsInput input polls.items) (λ input. (ps : List PollLine) × IsInput input ps × HavePolled c.media_are c.shelf_before c.shelf ps o c.told c.votes c.media c.sink c.status) (λ input is. (polls.items, is, h)) read.0))));
+    kept = votes-kept c.media_are c.shelf_before c.shelf (limits_of o) polls.items (tellers_of c.told) c.media h.end h.over;
+    statuses = voted-most h.end c.votes c.sink c.status h.written;
+    votes = inr (o, words);
   }
 
 -- a plan that was read is of the language

@@ -21,6 +21,7 @@ use Rattle.serial_law.specs.Acknowledged.{KeepsAnswers, SpendsRightly}
 use Rattle.serial_law.specs.Reasons.{AddedHaveReasons, HaveReasons}
 use Rattle.complete_law.specs.Calm.{IsPlain}
 use Rattle.kill_law.specs.Places.{PlacesHavePasts}
+use Rattle.votes_command.specs.Texts as votes
 use Rattle.run_volumes.specs.Shelves.{ShelfSight, volume_name}
 use Rattle.run_volumes.specs.declared.kept.Kept.{Kept}
 use Rattle.plan_volumes.specs.Volumes.{HadMemory, HasVolumes, NodeVolumes, work_taken}
@@ -119,6 +120,7 @@ module _ {M : Type 0} (w : Media M) (old new : ShelfSight) (kept : List (Kept M)
 abbrev pub RefusedAs : Stop → ℕ → Sinking → Type 0
 RefusedAs stop.Words status s = (status ≡ 1) × GotLine s words_line
 RefusedAs (stop.Fault line kind) status s = (status ≡ 7) ⊎ ((status ≡ 2) × GotLine s (fault_line line kind))
+RefusedAs (stop.Votes line) status s = (status ≡ 7) ⊎ ((status ≡ 2) × GotLine s (votes.fault_line line))
 RefusedAs stop.Source status s = (status ≡ 3) × GotLine s source_line
 RefusedAs stop.NoMemory status s = status ≡ 7
 RefusedAs stop.Sink status s = status ≡ 7

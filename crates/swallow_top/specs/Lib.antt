@@ -8,5 +8,6 @@ pub mod Promise
 pub mod Retirements
 pub mod Smooth
 pub mod Tellings
+pub mod Votes
 pub mod Written
 pub use Rattle.run_rounds.specs.Finishes

@@ -16,6 +16,7 @@ IsReadAs bytes (Err (stop.Fault line kind)) = IsPlanFault bytes line kind
 IsReadAs bytes (Err stop.NoMemory) = Unit {0}
 IsReadAs bytes (Err stop.Source) = ⊥
 IsReadAs bytes (Err stop.Words) = ⊥
+IsReadAs bytes (Err (stop.Votes line)) = ⊥
 IsReadAs bytes (Err stop.Sink) = ⊥
 
 -- The plan that the input is, which was read to its end; else what is wrong with it, or why it can't be told. The source has this before and after, and failed so often.
@@ -25,4 +26,5 @@ ReadsPlan old new before after (Err (stop.Fault line kind)) = OfInput old (λ in
 ReadsPlan old new before after (Err stop.Source) = Rose before after
 ReadsPlan old new before after (Err stop.NoMemory) = Unit {0}
 ReadsPlan old new before after (Err stop.Words) = ⊥
+ReadsPlan old new before after (Err (stop.Votes line)) = ⊥
 ReadsPlan old new before after (Err stop.Sink) = ⊥

@@ -7,7 +7,7 @@ use Rattle.plan_form.specs.Plans.{IsPlan}
 use Rattle.plan_form.specs.Making.{made_plan}
 use Rattle.command_words.specs.declared.commands.Options.{Options}
 use Rattle.command_words.specs.declared.commands.Command.{Command}
-use Rattle.command_words.specs.declared.commands.Command.TheVariants.{Run, Load, History, Retire}
+use Rattle.command_words.specs.declared.commands.Command.TheVariants.{Run, Load, History, Retire, Votes}
 use Rattle.command_words.specs.Words.{AreWords, AreNone}
 use Rattle.run_media.specs.Media.{Media}
 use Rattle.run_rounds.specs.Runs.{Account}
@@ -20,7 +20,12 @@ use Rattle.swallow_top.specs.Inputs.{OfInput}
 use Rattle.swallow_top.specs.Lines.{words_line, source_line}
 use Rattle.run_volumes.specs.Shelves.{ShelfSight}
 use Rattle.swallow_top.specs.Retirements.{TellsRetirement}
+use Rattle.swallow_top.specs.Votes.{AreNoPolls, HavePolled}
 use Rattle.swallow_top.specs.Written.{Sinking, GotLine}
+use Rattle.votes_command.specs.Inputs.{IsInput}
+use Rattle.votes_command.specs.PollLine.{PollLine}
+use Rattle.world_core.specs.declared.traces.Trace.{Trace}
+use Rattle.run_rounds.specs.Stories.{no_trace}
 
 -- all that a call was given and gave, as contracts see it
 pub record Call (M : Type 0) : Type 1 where
@@ -37,14 +42,16 @@ pub record Call (M : Type 0) : Type 1 where
   pub shelf : ShelfSight
   pub told : Account
   pub media : List (Kept M)
+  pub votes : Trace
 
 module _ {M : Type 0} (c : Call M) where
-  -- nothing was run: no medium was taken or asked for, and nothing was asked of fates and clock
+  -- nothing was run: no medium was taken or asked for, nothing was asked of fates and clock, and nobody voted
   pub record TouchedNothing (status : ℕ) : Type 0 where
     pub status_is : c.status ≡ status
     pub none : c.media ≡ []
     pub unasked : c.shelf.asked ≡ c.shelf_before.asked
     pub no_run : HasNoRun c.told
+    pub no_votes : c.votes ≡ no_trace
 
   -- nothing was read
   abbrev pub IsUnread : Type 0
@@ -66,12 +73,25 @@ module _ {M : Type 0} (c : Call M) where
   abbrev pub HasRun : Options → Type 0
   HasRun o = IsAtEnd c.left × OfInput c.input (λ input. (plan : Plan) × IsPlan input plan × RunsPlan c.media_are c.shelf_before c.shelf c.media plan Report o c.told c.sink c.status)
 
+  -- the input is no input of polls
+  abbrev pub HasNoPolls : Type 0
+  HasNoPolls = TouchedNothing 2 × OfInput c.input (λ input. AreNoPolls input c.sink)
+
+  -- the input, which was read to its end, is polls, and this came of voting on them
+  abbrev pub HasVoted : Options → Type 0
+  HasVoted o = IsAtEnd c.left × OfInput c.input (λ input. (polls : List PollLine) × IsInput input polls × HavePolled c.media_are c.shelf_before c.shelf polls o c.told c.votes c.media c.sink c.status)
+
   -- what was done for the command that the words are
   abbrev pub WasDone : Command → Type 0
   WasDone (Run o) = HasFailedSource ⊎ (HasNoPlan ⊎ HasRun o)
   WasDone (Load seed count o) = IsUnread × RunsPlan c.media_are c.shelf_before c.shelf c.media (made_plan seed count) (Summary seed) o c.told c.sink c.status
   WasDone (History object) = IsUnread × TellsHistory c.media_are c.shelf_before c.shelf object c.media c.sink c.status × HasNoRun c.told
   WasDone (Retire repository clock) = IsUnread × TellsRetirement c.media_are c.shelf_before c.shelf repository clock c.media c.sink c.status × HasNoRun c.told
+  WasDone (Votes o) = HasFailedSource ⊎ (HasNoPolls ⊎ HasVoted o)
+
+  -- but for votes nobody votes
+  abbrev pub VotesAlone : Type 0
+  VotesAlone = (c.votes ≡ no_trace) ⊎ ((o : Options) × AreWords (Votes o) c.words)
 
   pub record Promise : Type 0 where
     -- The words are no command; or memory was wanting before anything was done; or the words are a command, and this was done.
@@ -79,3 +99,4 @@ module _ {M : Type 0} (c : Call M) where
     -- Each medium that was taken is handed back.
     pub kept : AllKept c.shelf_before c.shelf c.media
     pub statuses : c.status ≤ 8
+    pub votes : VotesAlone

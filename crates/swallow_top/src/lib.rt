@@ -12,8 +12,9 @@ mod runs;
 mod stops;
 mod streams;
 mod top;
+mod votes;
 
 pub use laws::law_done_is_finished;
-pub use media::Finish;
+pub use media::{Finish, no_votes};
 pub use run_volumes::Kept;
 pub use top::swallow;

@@ -6,6 +6,7 @@ use run_rounds::Told;
 use run_volumes::Kept;
 use std::alloc::Global;
 use value_form::Items;
+use world_core::Trace;
 
 /// What a call answers.
 #[derive(Drop)]
@@ -18,6 +19,20 @@ pub struct Finish<M: Medium, F, C> {
     pub media: Items<Kept<M>>,
     pub fates: F,
     pub clock: C,
+    /// What happened between members and polls. But for `votes` it names nobody.
+    pub votes: Trace,
+}
+
+/// The trace in which nobody votes.
+pub fn no_votes(alloc: Global) -> Trace
+    ensures { result ≡ no_trace }
+{
+    Trace {
+        start: 0,
+        opened: Items::of(Vec::new(alloc)),
+        sent: Items::of(Vec::new(alloc)),
+        entries: Items::of(Vec::new(alloc)),
+    }
 }
 
 /// A call in which no run began.
@@ -31,6 +46,7 @@ pub fn quiet<M: Medium, F, C>(
     ensures status { result.status ≡ status }
     ensures trace { result.trace ≡ no_trace }
     ensures media { result.media ≡ media.items }
+    ensures votes { result.votes ≡ no_trace }
     ensures told { (result.fates ≡ fates) × (result.clock ≡ clock) }
 {
     Finish {
@@ -39,5 +55,6 @@ pub fn quiet<M: Medium, F, C>(
         media: Items::of(media),
         fates,
         clock,
+        votes: no_votes(alloc),
     }
 }

@@ -5,12 +5,13 @@ ghost use Rattle.plan_form.specs.PlanTexts.{IsOfLanguage};
 ghost use Rattle.run_media.specs.Openings.{HasOpened, medium_in};
 ghost use Rattle.run_media.specs.Places as order;
 ghost use Rattle.run_rounds.specs.Finishes.{EndsAs, account_of, tellers};
+ghost use Rattle.run_rounds.specs.Stories.{no_trace};
 ghost use Rattle.run_volumes.specs.Kept.{AllKept};
 ghost use Rattle.run_volumes.specs.Shelves.{shelf_sight};
 ghost use Rattle.swallow_top.specs.Contract.{RunsPlan};
 ghost use Rattle.swallow_top.specs.Written.{sinking};
 
-use crate::media::{Finish, quiet};
+use crate::media::{Finish, no_votes, quiet};
 use crate::reports::{Wanted, tell};
 use command_words::Options;
 use kill_law::place_has_past;
@@ -102,6 +103,7 @@ where
         (sinking (O.taken sink.old) (O.taken sink.new) (O.faults sink.old) (O.faults sink.new)) result.status }
     ensures kept { AllKept (shelf_sight S.Shelf shelf.old)
         (shelf_sight S.Shelf shelf.new) result.media }
+    ensures votes { result.votes ≡ no_trace }
 {
     let Ok(rooms) = make_rooms(alloc, plan) else {
         return quiet(alloc, 7, Vec::new(alloc), fates, clock);
@@ -141,5 +143,6 @@ where
         media: Items::of(kept),
         fates,
         clock,
+        votes: no_votes(alloc),
     }
 }

@@ -8,6 +8,8 @@ pub enum Stop {
     NoMemory,
     /// The input isn't a plan: the line of its fault, and what is wrong with it.
     Fault { line: u32, kind: PlanKind },
+    /// The input isn't polls: the line of its fault, 0 where it is too long.
+    Votes { line: u32 },
     /// The words are no command.
     Words,
     /// The source failed.

@@ -15,6 +15,7 @@ use crate::retirements::tell_retirement;
 use crate::runs::run_plan;
 use crate::stops::Stop;
 use crate::streams::write_all;
+use crate::votes::{read_polls, tell_votes};
 use command_words::{Command, read_words};
 use medium_port::{Medium, Shelf};
 use plan_form::make;
@@ -22,6 +23,7 @@ use std::alloc::Global;
 use std::sync::Wait;
 use std::thread::Threads;
 use stream_port::{Clock, Fates, Sink, Source};
+use votes_command::fault_line as votes_line;
 
 // Writes why nothing was run. The answer is the status.
 fn refused<O: Sink>(alloc: Global, stop: Stop, sink: &mut O) -> u8
@@ -33,6 +35,13 @@ fn refused<O: Sink>(alloc: Global, stop: Stop, sink: &mut O) -> u8
             1
         }
         Stop::Fault { line, kind } => match fault_line(alloc, line, kind) {
+            Ok(text) => {
+                let _ = write_all(sink, text.as_slice());
+                2
+            }
+            Err(_) => 7,
+        },
+        Stop::Votes { line } => match votes_line(alloc, line) {
             Ok(text) => {
                 let _ = write_all(sink, text.as_slice());
                 2
@@ -54,18 +63,22 @@ fn refused<O: Sink>(alloc: Global, stop: Stop, sink: &mut O) -> u8
 /// - `load` makes a plan of a seed, runs it, and writes a summary;
 /// - `history` opens the repository of an object alone, and writes the object's history;
 /// - `retire` copies what is current in a repository at a mark into a fresh volume, whose log is the
-///   repository's from then on, and writes how many effects were kept and dropped.
+///   repository's from then on, and writes how many effects were kept and dropped;
+/// - `votes` reads polls from the source, lets three members vote on them over volumes 1,010 of
+///   repositories 1 to 3, and writes how each stands.
 ///
 /// The status in the answer is the one with which a program ends:
 ///
-/// - 0: the text was written; every act has its outcome, and no node is down;
+/// - 0: the text was written; every act has its outcome, and no node is down; or each poll holds a
+///   decision;
 /// - 1: the words are no command, and `swallow: words` was written;
-/// - 2: the input is no plan, and `swallow: plan line L KIND` was written; or a broker's log shows a
-///   later run or another plan, and `swallow: old run N` or `swallow: other plan act I` was;
+/// - 2: the input is no plan, and `swallow: plan line L KIND` was written; or it isn't polls, and
+///   `swallow: votes line L` was; or a broker's log shows a later run or another plan, and
+///   `swallow: old run N` or `swallow: other plan act I` was;
 /// - 3: the source failed, and `swallow: source` was written;
 /// - 4: the sink failed while a report, a summary, a history, the line of a retirement or that of a node
 ///   that is down was written;
-/// - 5: no node is down, and an act has no outcome;
+/// - 5: no node is down, and an act has no outcome, or a poll holds no decision;
 /// - 6: a node is down, and the text says why;
 /// - 7: memory is wanting;
 /// - 8: the repository may not be retired at the mark, and nothing was written to its media:
@@ -102,6 +115,7 @@ where
       shelf = (shelf_sight S.Shelf shelf.new);
       told = (account_of result.trace (tellers (F.asked fates) (F.asked result.fates) (C.answers clock) (C.answers result.clock)));
       media = result.media;
+      votes = result.votes;
     }) }
 {
     match read_words(words) {
@@ -159,5 +173,12 @@ where
             let (status, media) = tell_retirement(alloc, repository, mark, sink, shelf);
             quiet(alloc, status, media, fates, clock)
         }
+        Some(Command::Votes(options)) => match read_polls(alloc, source) {
+            Ok(polls) => tell_votes(alloc, polls.as_slice(), options, sink, shelf, fates, clock),
+            Err(stop) => {
+                let status = refused(alloc, stop, sink);
+                quiet(alloc, status, Vec::new(alloc), fates, clock)
+            }
+        },
     }
 }

@@ -58,7 +58,9 @@ use Rattle.vote_run.specs.declared.members.Members.{Members}
 use Rattle.vote_run.specs.declared.seats.Seat.{Seat}
 use Rattle.vote_run.specs.declared.seats.Seat.TheVariants.{Up, Fallen, Wanting}
 use Rattle.vote_run.proofs.EntryLemmas.{out-down, out-stays, was-opened}
-use Rattle.vote_run.proofs.FareLemmas.{clean-same}
+use Rattle.vote_members.specs.Closings.{Grows}
+use Rattle.vote_promise.proofs.CompleteLemmas.{completes}
+use Rattle.vote_run.proofs.FareLemmas.{clean-same, grows-same}
 use Rattle.vote_call.specs.Media.{AreKept, HaveOpened, given_back, handed_back, medium_of}
 use Rattle.vote_call.specs.Media.{IsKept as IsKeptBack}
 use Rattle.vote_call.specs.Ends.{EndedFor, EndsAs, IsOver as HasBeenOver, RunsAs, Tells as TellsEnd, tellers}
@@ -240,6 +242,10 @@ module _ {M : Type 0} (w : Media M) (lines : List Line) (d : CourierParts) (s : 
   clean-one old new taken now was is had clean =
       subst (λ z. StaysClean (w.reads z) (w.reads new)) (same_Some _ _ (sym had ∙ was)) (subst (λ z. StaysClean (w.reads taken) (w.reads z)) (same_Some _ _ is) clean)
 
+  grows-one : (old new taken now : M) → first ≡ Some old → ◌≡◌ {A = Option M} (Some now) (Some new) → first ≡ Some taken → Grows (w.reads taken) (w.reads now) → Grows (w.reads old) (w.reads new)
+  grows-one old new taken now was is had grows =
+      subst (λ z. Grows (w.reads z) (w.reads new)) (same_Some _ _ (sym had ∙ was)) (subst (λ z. Grows (w.reads taken) (w.reads z)) (same_Some _ _ is) grows)
+
   module _ {g : Media M} where
     abbrev pub now_is : Seat M g → M → Type 0
     now_is seat new = medium_in seat ≡ Some new
@@ -343,6 +349,13 @@ module _ {M : Type 0} (w : Media M) (lines : List Line) (d : CourierParts) (s : 
     clean-for told (Fallen (Some now)) (inr f) old new free was is = subst (λ z. StaysClean (w.reads old) z) (sym ((shut-same old new now f.cause was is f.shut).0.still told)) (clean-same w n old)
     clean-for told (Wanting left) f old new free was is = absurd f
 
+    pub grows-for : IsTrue w.tells → (seat : Seat M g) → Fares w n first d.entries seat → (old new : M) → costs (own n d.entries) ≡ 0 → first ≡ Some old → now_is seat new → Grows (w.reads old) (w.reads new)
+    grows-for told (Up m store durable behind) f old new free was is = grows-one old new f.taken (words.medium_of store) was is f.was (f.has_paid.grows told free)
+    grows-for told (Fallen None) f old new free was is = absurd (let never : ⊥ = cc is in never)
+    grows-for told (Fallen (Some now)) (inl f) old new free was is = grows-one old new f.taken now was is f.was (f.has_paid.grows told free)
+    grows-for told (Fallen (Some now)) (inr f) old new free was is = subst (λ z. Grows (w.reads old) z) (sym ((shut-same old new now f.cause was is f.shut).0.still told)) (grows-same (w.reads old))
+    grows-for told (Wanting left) f old new free was is = absurd f
+
 -- ---- all of it
 
 module _ {M : Type 0} {g : Media M} (w : Media M) (media : MemberMedia M) (polls : List PollLine) (asked : List Asked) (answers : Option (List ℕ)) (limits : Limits) (e d : CourierParts) (first ms : Members M g) (ps qs : List PollState)
@@ -407,7 +420,7 @@ module _ {M : Type 0} {g : Media M} (w : Media M) (media : MemberMedia M) (polls
       }
 
   ended-so : IsTrue w.tells → HasEnded limits.ticks limits.messages voted (trace_of d)
-  ended-so told = record { few = subst (λ k. k ≤ limits.ticks) (sym ticked) (over told).few; why = why (over told).over }
+  ended-so told = record { few = subst (λ k. k ≤ limits.ticks) (sym ticked) (over told).few; wanted = (over told).wanted; why = why (over told).over }
     where
       why : IsOver voted limits d qs → AllHold voted (trace_of d) ⊎ ((limits.messages ≤ length d.sent) ⊎ HasRunOut limits.ticks voted (trace_of d))
       why (inl all) = inl (all-hold voted d qs count (over told).between.polls all)
@@ -427,6 +440,7 @@ module _ {M : Type 0} {g : Media M} (w : Media M) (media : MemberMedia M) (polls
     damaged = λ s old new page cause b. damaged-one w voted d s (medium_of media s) told (seat_of s) (fare s) (sit told s) old new page cause b.0 (sym (left-is s) ∙ b.1);
     full = λ s old new pages cause b. full-for w voted d s (medium_of media s) (seat_of s) (fare s) (sit told s) old new pages cause b.0 (sym (left-is s) ∙ b.1);
     clean = λ s old new free b. clean-for w voted d s (medium_of media s) told (seat_of s) (fare s) old new free b.0 (sym (left-is s) ∙ b.1);
+    grows = λ s old new free b. grows-for w voted d s (medium_of media s) told (seat_of s) (fare s) old new free b.0 (sym (left-is s) ∙ b.1);
   }
 
   pub have-voted : HaveVoted w limits.ticks limits.messages voted (record { asked_before = asked; asked = d.asked; answers_before = answers; answers = d.answers }) (medium_of media) left (trace_of d)
@@ -438,6 +452,7 @@ module _ {M : Type 0} {g : Media M} (w : Media M) (media : MemberMedia M) (polls
     causes = λ told. caused w voted d.asked (trace_of d) (medium_of media) left told (legal told) restores;
     counts = counts;
     stops = stops;
+    completes = λ told. completes w limits.ticks limits.messages voted d.asked (medium_of media) left (trace_of d) told (legal told) (ended-so told) restores counts (stops told);
   }
 
   pub standings-now : IsTrue w.tells → length qs ≡ length polls → standings_of polls qs ≡ standing_from (hall_of voted d) 1 polls

@@ -49,7 +49,8 @@ use Rattle.vote_run.specs.Voters.{opened_voters}
 use Rattle.vote_run.specs.declared.seats.Seat.{Seat}
 use Rattle.vote_run.specs.declared.seats.Seat.TheVariants.{Up, Fallen, Wanting}
 use Rattle.vote_run.proofs.EntryLemmas.{down-more, none-own, own-still}
-use Rattle.vote_run.proofs.FareLemmas.{clean-same}
+use Rattle.vote_members.specs.Closings.{Grows}
+use Rattle.vote_run.proofs.FareLemmas.{clean-same, grows-same}
 use Rattle.vote_run.proofs.PollLemmas.{new-stays, ready-stays}
 use Rattle.vote_call.specs.Polls.{line_of, lines_of, polls_from}
 use Rattle.vote_call.specs.Starts.{Falls, SeatsAs, seat_for}
@@ -151,6 +152,7 @@ module _ (n : NodeId) where
       paid = subst (λ (l : List Entry). RoseBy (costs l) (w.faults old) (w.faults new)) (sym none) (let later = h.later in omega (arith, later));
       kept = λ told free. keeps-same old new (h.still told);
       clean = λ told free. subst (λ z. StaysClean (w.reads old) z) (sym (h.still told)) (clean-same w n old);
+      grows = λ told free. subst (λ z. Grows (w.reads old) z) (sym (h.still told)) (grows-same (w.reads old));
     }
 
     out-of : (first left : Option M) (cause : DownCause) (c d : CourierParts) → d.entries ≡ c.entries ++ Down n cause ∷ [] → ShutAs w n first left cause → AreOthers n c.entries → NeverOpened w n first left d.entries

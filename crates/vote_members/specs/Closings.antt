@@ -1,5 +1,5 @@
 -- What closing a turn of a member leaves of its medium. Logs stand oldest first.
-use Rattle.std.specs.Prelude.{◌≡◌, ℕ, ◌≤◌, ◌<◌, ◌++◌, false, List, Err, Ok, take, length, IsTrue}
+use Rattle.std.specs.Prelude.{◌≡◌, ℕ, ◌+◌, ◌≤◌, ◌<◌, ◌++◌, false, List, Err, Ok, take, length, IsTrue}
 use Rattle.std.specs.List.{count_by}
 use Rattle.stream_port.specs.Causes.{Rose, RoseBy}
 use Rattle.medium_port.specs.Image.{Image, NoMore, Only}
@@ -9,12 +9,22 @@ use Rattle.pseudo_time.specs.declared.down_causes.DownCause.TheVariants as down
 use Rattle.effect_form.specs.declared.effects.Effect.{Effect}
 use Rattle.effect_form.specs.Effects.{AreEffects}
 use Rattle.version_store.specs.declared.stores.Store.{Store}
-use Rattle.version_store.specs.Filling.{HasPrefix, KeepsPages, StaysClean, filling}
+use Rattle.version_store.specs.Filling.{HasPrefix, KeepsPages, StaysClean, filling, pages_apart}
 use Rattle.version_store.specs.Storage.{storage}
 use Rattle.version_store.specs.StoreWords.{effects_in, medium_of}
 use Rattle.run_media.specs.Media.{Media}
 use Rattle.vote_members.specs.declared.closings.Closed.{Closed}
 use Rattle.vote_members.specs.declared.closings.Closed.TheVariants.{Durable, Reopened, Fallen, Wanting}
+
+-- the image's log is this one and more, and that was written on no more blank pages than it fills where no two effects share one
+pub record HasGrown (log : List Effect) (old new : Image) : Type 0 where
+  pub more : List Effect
+  pub is : storage new ≡ Ok (log ++ more)
+  pub pages : count_by is_blank old ≤ count_by is_blank new + pages_apart more
+
+-- and so it is of whatever log it had
+abbrev pub Grows : Image → Image → Type 0
+Grows old new = (log : List Effect) → storage old ≡ Ok log → HasGrown log old new
 
 module _ {M : Type 0} (w : Media M) where
   -- whatever a crash leaves has this log
@@ -81,6 +91,7 @@ module _ {M : Type 0} (w : Media M) where
       -- no page that was written is changed, and none that was blank is spoiled
       pub kept : IsTrue w.tells → KeepsPages (w.reads (medium_of s)) (w.reads (medium_of new))
       pub clean : IsTrue w.tells → StaysClean (w.reads (medium_of s)) (w.reads (medium_of new))
+      pub grows : IsTrue w.tells → Grows (w.reads (medium_of s)) (w.reads (medium_of new))
       pub later : w.faults (medium_of s) ≤ w.faults (medium_of new)
 
     -- why the member can't go on; of a full medium a crash leaves what it reads, among others

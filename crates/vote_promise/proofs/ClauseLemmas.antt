@@ -45,7 +45,7 @@ not-up : (t : Bool) → (t ≡ true → ⊥) → t ≡ false
 not-up true f = absurd (f refl)
 not-up false f = refl
 
-clash : (t : Bool) → t ≡ false → t ≡ true → ⊥
+pub clash : (t : Bool) → t ≡ false → t ≡ true → ⊥
 clash t e f = let k : false ≡ true = sym e ∙ f in cc k
 
 module _ (b : Base) (fates : List Fate) (s : MemberNumber) (log : List Effect) where
@@ -112,7 +112,7 @@ module _ (b : Base) (fates : List Fate) where
         gated = at-if (λ (m : Member). m.gated ≡ []) (names (member s) (Down (member s) cause)) (h.members s) (h.members s) (λ is. f.logs s ∙ none) (f.logs s ∙ none);
       }
 
-  unopened-from : (s : MemberNumber) (front rest : List Entry) (cause : DownCause) → IsOfDowns front → Meets b fates (start_hall b) (front ++ Down (member s) cause ∷ rest) → IsOut s [] (walk_from b (start_hall b) (front ++ Down (member s) cause ∷ rest))
+  pub unopened-from : (s : MemberNumber) (front rest : List Entry) (cause : DownCause) → IsOfDowns front → Meets b fates (start_hall b) (front ++ Down (member s) cause ∷ rest) → IsOut s [] (walk_from b (start_hall b) (front ++ Down (member s) cause ∷ rest))
   unfolding Meets walk_from
   unopened-from s front rest cause downs m =
       let parts : Meets b fates (start_hall b) front × Meets b fates (walk_from b (start_hall b) front) (Down (member s) cause ∷ rest) = meets-parts b fates (start_hall b) front (Down (member s) cause ∷ rest) m in
@@ -136,7 +136,7 @@ was-opened lines asked t s x c legal d out = subst (Has (effect.Decide x d.0)) (
 line-is : (lines : List Line) (i : ℕ) (l : Line) → numbered lines i ≡ Some l → line_at lines i ≡ l
 line-is lines i l e = ap (λ o. unwrap_or o no_line) e
 
-some-one : {X : Type 0} (o : Option X) (x y : X) → o ≡ Some x → o ≡ Some y → x ≡ y
+pub some-one : {X : Type 0} (o : Option X) (x y : X) → o ≡ Some x → o ≡ Some y → x ≡ y
 some-one {X} o x y e f = let k : ◌≡◌ {A = Option X} (Some x) (Some y) = sym e ∙ f in cc k
 
 module _ {M : Type 0} (w : Media M) (lines : List Line) (asked : List Asked) (t : Trace) (media left : MemberNumber → Option M) (tells : IsTrue w.tells) (legal : Legal lines asked t) (r : RestoresLogs w lines media left t) where

@@ -1,1 +1,3 @@
+pub mod BlankLemmas
 pub mod ClauseLemmas
+pub mod CompleteLemmas

@@ -6,7 +6,6 @@ use Rattle.pseudo_time.specs.StampParts.{StampParts}
 use Rattle.pseudo_time.specs.declared.down_causes.DownCause.TheVariants as down
 use Rattle.effect_form.specs.declared.effects.Effect.{Effect}
 use Rattle.stream_port.specs.declared.fates.Asked.{Asked}
-use Rattle.stream_port.specs.declared.fates.Fate.{Fate}
 use Rattle.stream_port.specs.Causes.{Rose, RoseBy}
 use Rattle.medium_port.specs.Image.{Image, IsBlankImage}
 use Rattle.message_core.specs.Tallies.{numbered}
@@ -22,9 +21,11 @@ use Rattle.world_core.specs.Walks.{own}
 use Rattle.wire_core.specs.Clocked.{IsClocked, tick_moments}
 use Rattle.run_media.specs.Media.{Media, IsUntouched}
 use Rattle.trace_report.specs.Counts.{down_cause, tick_count}
+use Rattle.vote_law.specs.Smooth.{IsPlain, TicksForPolls, WishAlike}
+use Rattle.vote_members.specs.Closings.{Grows}
 use Rattle.vote_members.specs.Costs.{costs}
 use Rattle.vote_traces.specs.Walks.{log_at, world_of}
-use Rattle.vote_traces.specs.Legal.{Legal, WasNotOpened, hall_after}
+use Rattle.vote_traces.specs.Legal.{Legal, WasNotOpened, base_of, hall_after}
 use Rattle.vote_traces.specs.Causes.{HaveCauses}
 
 -- ---- the trace, and what the fates and the clock were asked
@@ -53,9 +54,10 @@ AllHold lines t = (i : ℕ) (l : Line) → numbered lines i ≡ Some l → is_so
 abbrev pub HasRunOut : ℕ → List Line → Trace → Type 0
 HasRunOut most_ticks lines t = Idle (fates_of t.sent) (world_of (hall_after lines t)) × (tick_count t.entries ≡ most_ticks)
 
--- It has at most so many Ticks, and ends where all polls hold a decision, enough messages were sent, or it has run out.
+-- It has at most so many Ticks, each where a poll holds no decision, and ends where all polls hold a decision, enough messages were sent, or it has run out.
 pub record HasEnded (most_ticks enough : ℕ) (lines : List Line) (t : Trace) : Type 0 where
   pub few : tick_count t.entries ≤ most_ticks
+  pub wanted : TicksForPolls (base_of lines t) t.entries
   pub why : AllHold lines t ⊎ ((enough ≤ length t.sent) ⊎ HasRunOut most_ticks lines t)
 
 -- ---- media
@@ -119,32 +121,41 @@ module _ {M : Type 0} (w : Media M) (lines : List Line) where
     pub unopened : (s : MemberNumber) (old new : M) → WasNotOpened t.entries (member s) → down_cause (member s) t.entries ≡ Some down.Medium → Became media left s old new → Rose (w.faults old) (w.faults new)
     pub missing : (s : MemberNumber) → media s ≡ None → down_cause (member s) t.entries ≡ Some down.Medium
 
-  -- A member is down since its medium failed; or it wasn't opened, and the page is the first damaged one of what its medium held; or its medium is full. Without a fault no page that was blank is spoiled.
+  -- A member is down since its medium failed; or it wasn't opened, and the page is the first damaged one of what its medium held; or its medium is full. Without a fault no page that was blank is spoiled, and its log grew by what was written.
   pub record AreDownFor (media left : MemberNumber → Option M) (t : Trace) : Type 0 where
     pub unopened : (s : MemberNumber) → WasNotOpened t.entries (member s) → (down_cause (member s) t.entries ≡ Some down.Medium) ⊎ ((page : ℕ) × (down_cause (member s) t.entries ≡ Some (down.Damaged page)))
     pub damaged : (s : MemberNumber) (old new : M) (page : ℕ) → down_cause (member s) t.entries ≡ Some (down.Damaged page) → Became media left s old new → WasNotOpened t.entries (member s) × (storage (w.reads old) ≡ Err page)
     pub full : (s : MemberNumber) (old new : M) (pages : ℕ) → down_cause (member s) t.entries ≡ Some (down.Full pages) → Became media left s old new
         → (pages ≡ w.page_count new) × (storage (w.reads new) ≡ Ok (gated_log lines t s)) × (count_by is_blank (w.reads new) < length (filling (open_effects lines t s)))
     pub clean : (s : MemberNumber) (old new : M) → costs (own (member s) t.entries) ≡ 0 → Became media left s old new → StaysClean (w.reads old) (w.reads new)
+    pub grows : (s : MemberNumber) (old new : M) → costs (own (member s) t.entries) ≡ 0 → Became media left s old new → Grows (w.reads old) (w.reads new)
 
--- ---- what must succeed (asked of votes, and no clause yet)
+-- ---- what must succeed
 
--- one copy without a hold
-abbrev pub IsPlain : Fate → Type 0
-IsPlain fate = (fate.copies ≡ 1) × (fate.hold ≡ 0)
+module _ {M : Type 0} (w : Media M) (lines : List Line) (media left : MemberNumber → Option M) where
+  -- the member's medium was blank, with enough pages, and its count didn't rise
+  pub record IsSound (s : MemberNumber) : Type 0 where
+    pub old : M
+    pub new : M
+    pub became : Became w lines media left s old new
+    pub blank : IsBlankImage (w.reads old)
+    pub large : 32 ≤ length (w.reads old)
+    pub calm : Rose (w.faults old) (w.faults new) → ⊥
 
--- No count rose, the media were blank with enough pages, and fewer messages are sent than those at which it ends.
-pub record IsSmooth {M : Type 0} (w : Media M) (enough : ℕ) (media left : MemberNumber → Option M) (t : Trace) : Type 0 where
-  pub calm : (s : MemberNumber) (old new : M) → media s ≡ Some old → left s ≡ Some new → Rose (w.faults old) (w.faults new) → ⊥
-  pub all : (s : MemberNumber) → is_some (media s) ≡ true
-  pub blank : (s : MemberNumber) (old : M) → media s ≡ Some old → IsBlankImage (w.reads old)
-  pub large : (s : MemberNumber) (old : M) → media s ≡ Some old → 32 ≤ length (w.reads old)
-  pub few : 192 < enough
-  pub plain : Every IsPlain (fates_of t.sent)
+  -- All members' media are sound; or two are, the third member wasn't opened, and polls of one stamp wish the same.
+  abbrev pub AreSound : Trace → Type 0
+  AreSound t = ((s : MemberNumber) → IsSound s) ⊎ ((out : MemberNumber) × ((s : MemberNumber) → s ≢ out → IsSound s) × WasNotOpened t.entries (member out) × WishAlike lines)
 
--- then no Tick stands and each poll holds a decision
-abbrev pub Completes : {M : Type 0} → Media M → ℕ → List Line → (media left : MemberNumber → Option M) → Trace → Type 0
-Completes w enough lines media left t = IsTrue w.tells → IsSmooth w enough media left t → (tick_count t.entries ≡ 0) × AllHold lines t
+  -- and no message is lost, doubled or held, and it ends at no number of messages that so many polls can send
+  pub record IsSmooth (enough : ℕ) (t : Trace) : Type 0 where
+    pub sound : AreSound t
+    pub plain : Every IsPlain (fates_of t.sent)
+    pub polls : length lines ≤ 16
+    pub few : 192 < enough
+
+  -- then no Tick stands and each poll holds a decision
+  abbrev pub Completes : ℕ → Trace → Type 0
+  Completes enough t = IsTrue w.tells → IsSmooth enough t → (tick_count t.entries ≡ 0) × AllHold lines t
 
 -- ---- all of it
 
@@ -158,3 +169,5 @@ pub record HaveVoted {M : Type 0} (w : Media M) (most_ticks enough : ℕ) (lines
   pub causes : IsTrue w.tells → HaveCausesOnMedia w lines left t
   pub counts : AreCounted w lines media left t
   pub stops : IsTrue w.tells → AreDownFor w lines media left t
+  -- where nothing stands in the way, they come to their decisions without a Tick
+  pub completes : Completes w lines media left enough t

@@ -3,6 +3,7 @@ use Rattle.std.proofs.Common.{◌≡◌, ℕ, zero, suc, ◌+◌, ◌<◌, ◌�
 use Rattle.std.specs.Prelude.{Option, Some, None, ◌⊎◌, ◌&&◌, not, is_some, nat_le, nat_lt, slice_get, is_err, IfOk, OnOk, Result, Ok, Err}
 use Rattle.std.specs.Option.{unwrap_or}
 use Rattle.std.proofs.lemmas.Bool.{and_parts}
+use Rattle.std.proofs.lemmas.List.{append-nil}
 use Rattle.std.proofs.lemmas.Bool.Decides.{nat_tests}
 use Rattle.std.proofs.lemmas.Option.{slice_get_within}
 use Rattle.pseudo_time.specs.Nodes.{broker, repository}
@@ -14,7 +15,7 @@ use Rattle.message_core.specs.Flights.{AllEmpty}
 use Rattle.message_core.specs.Parts.{state_of}
 use Rattle.record_votes.specs.declared.member_numbers.MemberNumber.{MemberNumber}
 use Rattle.record_votes.specs.declared.member_numbers.MemberNumber.TheVariants.{First, Second, Third}
-use Rattle.record_votes.specs.Polls.{PollState, member}
+use Rattle.record_votes.specs.Polls.{PollState, held, member}
 use Rattle.record_votes.specs.Voting.{Line}
 use Rattle.world_core.specs.declared.entries.Entry.{Entry}
 use Rattle.world_core.specs.declared.entries.Entry.TheVariants.{Take, Go, Learn, Hear, Gate, Crash, Down, Tick}
@@ -24,10 +25,12 @@ use Rattle.wire_core.specs.Clocked.{IsClocked, tick_moments}
 use Rattle.wire_core.proofs.MomentLemmas.{clocked-tick, latest}
 use Rattle.wire_core.proofs.QuietLemmas.{not-behind}
 use Rattle.run_media.specs.Media.{Media}
-use Rattle.vote_traces.specs.Walks.{Base, Hall, start_hall, step, walk_from, world_of}
+use Rattle.vote_traces.specs.Walks.{Base, Hall, start_hall, step, walk, walk_from, world_of}
 use Rattle.trace_report.specs.Counts.{down_cause}
 use Rattle.vote_traces.specs.Legal.{WasNotOpened, base_of, most_of}
 use Rattle.vote_traces.proofs.CauseLemmas.{at-if}
+use Rattle.vote_traces.proofs.WalkLemmas.{walk-append}
+use Rattle.vote_law.specs.Smooth.{HoldAll, TicksForPolls}
 use Rattle.vote_wire.specs.Carried.{IsAtRest, IsAtRestAt}
 use Rattle.vote_wire.proofs.CarryLemmas.{idles}
 use Rattle.vote_courier.specs.Couriers.{CourierParts, tick_moment}
@@ -35,7 +38,7 @@ use Rattle.vote_courier.specs.Stations.{hall_of, trace_of}
 use Rattle.vote_courier.specs.Places.{Adds, IsReady, PollIsAt, Tells}
 use Rattle.vote_courier.proofs.StationLemmas.{ticks-legal}
 use Rattle.vote_courier.proofs.PlaceLemmas.{adds-join, adds-still, and-false, never-false, there}
-use Rattle.vote_run.specs.Ends.{Between, Follows, HasCome, HasEnded, HasGoneRound, HasTicked, IsOver, all_held, any_node}
+use Rattle.vote_run.specs.Ends.{Between, Follows, HasCome, HasEnded, HasGoneRound, HasTicked, IsOver, TicksAreWanted, all_held, any_node}
 use Rattle.vote_run.specs.MemberTurns.{MayTurn}
 use Rattle.vote_run.specs.Members.{HaveSat, MayAllTurn, all_late, is_late, is_member, late, some_late}
 use Rattle.vote_run.specs.Rounds.{PollsAre, PollsTurned, is_poll}
@@ -110,6 +113,92 @@ some-at : (ps : List PollState) (k : ℕ) → k < length ps → (p : PollState) 
 some-at [] k less = absurd (omega (arith, less))
 some-at (p ∷ ps) zero less = (p, refl)
 some-at (p ∷ ps) (suc k) less = some-at ps k (omega (arith, less))
+
+-- ---- which Ticks stand
+
+-- an entry among two lists stands in the one or in the other
+record IsIn (xs front : List Entry) (e : Entry) : Type 0 where
+  rest : List Entry
+  is : xs ≡ front ++ e ∷ rest
+
+record IsBehind (xs ys front : List Entry) (e : Entry) : Type 0 where
+  middle : List Entry
+  rest : List Entry
+  front_is : front ≡ xs ++ middle
+  is : ys ≡ middle ++ e ∷ rest
+
+one-of-two : (xs ys front rest : List Entry) (e : Entry) → xs ++ ys ≡ front ++ e ∷ rest → IsIn xs front e ⊎ IsBehind xs ys front e
+one-of-two [] ys front rest e is = inr (record { middle = front; rest = rest; front_is = refl; is = is })
+one-of-two (x ∷ xs) ys [] rest e is = inl (record { rest = xs; is = ap (λ z. z ∷ xs) (let k : x ≡ e = cc is in k) })
+one-of-two (x ∷ xs) ys (y ∷ front) rest e is =
+    let head : x ≡ y = cc is in
+    let tail : xs ++ ys ≡ front ++ e ∷ rest = cc is in
+    elim (one-of-two xs ys front rest e tail) [
+      | inl a ↦ inl (record { rest = a.rest; is = ap (λ z. z ∷ xs) head ∙ ap (λ z. y ∷ z) a.is })
+      | inr a ↦ inr (record { middle = a.middle; rest = a.rest; front_is = ap (λ z. z ∷ front) (sym head) ∙ ap (λ z. x ∷ z) a.front_is; is = a.is })
+    ]
+
+module _ (b : Base) where
+  ticks-rise : (h : Hall) (es : List Entry) → h.ticks ≤ (walk_from b h es).ticks
+  unfolding walk_from
+  ticks-rise h [] = omega arith
+  ticks-rise h (Take node number ∷ es) = ticks-rise (step b h (Take node number)) es
+  ticks-rise h (Go node ∷ es) = ticks-rise (step b h (Go node)) es
+  ticks-rise h (Learn node stamp committed ∷ es) = ticks-rise (step b h (Learn node stamp committed)) es
+  ticks-rise h (Hear node ∷ es) = ticks-rise (step b h (Hear node)) es
+  ticks-rise h (Gate node ∷ es) = ticks-rise (step b h (Gate node)) es
+  ticks-rise h (Crash node kept ∷ es) = ticks-rise (step b h (Crash node kept)) es
+  ticks-rise h (Down node cause ∷ es) = ticks-rise (step b h (Down node cause)) es
+  ticks-rise h (Tick moment ∷ es) = let k : h.ticks + 1 ≤ (walk_from b (step b h (Tick moment)) es).ticks = ticks-rise (step b h (Tick moment)) es in omega (arith, k)
+
+  one-tick : (h : Hall) (moment : ℕ) (es : List Entry) → suc h.ticks ≤ (walk_from b h (Tick moment ∷ es)).ticks
+  unfolding walk_from
+  one-tick h moment es = let k : h.ticks + 1 ≤ (walk_from b (step b h (Tick moment)) es).ticks = ticks-rise (step b h (Tick moment)) es in omega (arith, k)
+
+  -- where no time has passed over these entries, no Tick is among them
+  no-tick : (h : Hall) (es front rest : List Entry) (moment : ℕ) → (walk_from b h es).ticks ≡ h.ticks → es ≡ front ++ Tick moment ∷ rest → ⊥
+  no-tick h es front rest moment same is =
+      let whole : walk_from b h es ≡ walk_from b (walk_from b h front) (Tick moment ∷ rest) = ap (walk_from b h) is ∙ walk-append b h front (Tick moment ∷ rest) in
+      let more : suc (walk_from b h front).ticks ≤ (walk_from b (walk_from b h front) (Tick moment ∷ rest)).ticks = one-tick (walk_from b h front) moment rest in
+      let k : (walk_from b h es).ticks ≡ (walk_from b (walk_from b h front) (Tick moment ∷ rest)).ticks = ap (λ (z : Hall). z.ticks) whole in
+      absurd (omega (arith, same, more, k, ticks-rise h front))
+
+-- no Tick stands at the beginning
+none-wanted : (lines : List Line) (c : CourierParts) → (hall_of lines c).ticks ≡ 0 → TicksAreWanted lines c
+none-wanted lines c none front rest moment is all = no-tick (base_of lines (trace_of c)) (start_hall (base_of lines (trace_of c))) c.entries front rest moment none is
+
+-- entries without a Tick behind others
+module _ (lines : List Line) (c d : CourierParts) (a : Adds any_node c d) where
+  abbrev b-old : Base
+  b-old = base_of lines (trace_of c)
+
+  same-base : base_of lines (trace_of d) ≡ b-old
+  same-base i = record { start = a.start i; opened = a.opened i; lines = lines }
+
+  hall-later : hall_of lines d ≡ walk_from b-old (hall_of lines c) a.more
+  hall-later = (λ i. walk_from (same-base i) (start_hall (same-base i)) (a.longer i)) ∙ walk-append b-old (start_hall b-old) c.entries a.more
+
+  wanted-later : (hall_of lines d).ticks ≡ (hall_of lines c).ticks → TicksAreWanted lines c → TicksAreWanted lines d
+  wanted-later same wanted = subst (λ z. TicksForPolls z d.entries) (sym same-base) (λ front rest moment is all. go front rest moment all (one-of-two c.entries a.more front rest (Tick moment) (sym a.longer ∙ is)))
+    where
+      go : (front rest : List Entry) (moment : ℕ) → HoldAll lines (walk b-old front) → IsIn c.entries front (Tick moment) ⊎ IsBehind c.entries a.more front (Tick moment) → ⊥
+      go front rest moment all (inl here) = wanted front here.rest moment here.is all
+      go front rest moment all (inr later) = no-tick b-old (hall_of lines c) a.more later.middle later.rest moment (ap (λ (z : Hall). z.ticks) (sym hall-later) ∙ same) later.is
+
+-- and a Tick behind them
+module _ (lines : List Line) (c d : CourierParts) (moment : ℕ) (longer : d.entries ≡ c.entries ++ Tick moment ∷ []) (base-is : base_of lines (trace_of d) ≡ base_of lines (trace_of c)) (unheld : HoldAll lines (hall_of lines c) → ⊥) (wanted : TicksAreWanted lines c) where
+  last : (middle rest : List Entry) (e : Entry) → Tick moment ∷ [] ≡ middle ++ e ∷ rest → middle ≡ []
+  last [] rest e is = refl
+  last (x ∷ []) rest e is = absurd (let k : ◌≡◌ {A = List Entry} [] (e ∷ rest) = cc is in cc k)
+  last (x ∷ y ∷ middle) rest e is = absurd (let k : ◌≡◌ {A = List Entry} [] (y ∷ (middle ++ e ∷ rest)) = cc is in cc k)
+
+  tick-place : (front rest : List Entry) (other : ℕ) → HoldAll lines (walk (base_of lines (trace_of c)) front) → IsIn c.entries front (Tick other) ⊎ IsBehind c.entries (Tick moment ∷ []) front (Tick other) → ⊥
+  tick-place front rest other all (inl here) = wanted front here.rest other here.is all
+  tick-place front rest other all (inr later) =
+      unheld (subst (λ z. HoldAll lines (walk (base_of lines (trace_of c)) z)) (later.front_is ∙ ap (λ z. c.entries ++ z) (last later.middle later.rest (Tick other) later.is) ∙ append-nil c.entries) all)
+
+  wanted-tick : TicksAreWanted lines d
+  wanted-tick = subst (λ z. TicksForPolls z d.entries) (sym base-is) (λ front rest other is all. tick-place front rest other all (one-of-two c.entries (Tick moment ∷ []) front rest (Tick other) (sym longer ∙ is)))
 
 adds-any : (of : NodeId → Bool) (c d : CourierParts) → Adds of c d → Adds any_node c d
 adds-any of c d a = record { more = a.more; longer = a.longer; own_entries = λ m f. never-false f; start = a.start; opened = a.opened; tells = a.tells }
@@ -247,6 +336,27 @@ module _ {M : Type 0} {g : _} (w : Media M) (lines : List Line) where
       pub ticked-adds : Adds any_node c d
       ticked-adds = record { more = Tick (tick_moment c t.answer) ∷ []; longer = t.entries; own_entries = λ m f. never-false f; start = t.start; opened = t.opened; tells = tells-tick }
 
+      -- a poll that holds no decision
+      not-all : all_held ps ≡ false → HoldAll lines h → ⊥
+      not-all unheld all = never-false (sym (held-all 0 ps (λ k p there. poll-holds k p there)) ∙ unheld)
+        where
+          line-at : (ls : List Line) (k : ℕ) → k < length ls → (l : Line) × (slice_get ls k ≡ Some l)
+          line-at [] k less = absurd (omega (arith, less))
+          line-at (l ∷ ls) zero less = (l, refl)
+          line-at (l ∷ ls) (suc k) less = line-at ls k (omega (arith, less))
+
+          poll-holds : (k : ℕ) (p : PollState) → slice_get ps k ≡ Some p → is_some (held p) ≡ true
+          poll-holds k p there =
+              let l : (l : Line) × (slice_get lines k ≡ Some l) = line-at lines k (let within = slice_get_within ps k p there in omega (arith, within, count)) in
+              ap (λ (q : PollState). is_some (held q)) (sym (poll-ready k p there).poll) ∙ all (suc k) l.0 l.1
+
+          held-all : (n : ℕ) (qs : List PollState) → ((k : ℕ) (p : PollState) → slice_get qs k ≡ Some p → is_some (held p) ≡ true) → all_held qs ≡ true
+          held-all n [] f = refl
+          held-all n (q ∷ qs) f = ap (λ t. t && all_held qs) (f 0 q refl) ∙ held-all n qs (λ k p there. f (suc k) p there)
+
+      pub ticked-wanted : all_held ps ≡ false → TicksAreWanted lines c → TicksAreWanted lines d
+      ticked-wanted unheld wanted = wanted-tick lines c d (tick_moment c t.answer) t.entries (λ i. record { start = t.start i; opened = t.opened i; lines = lines }) (not-all unheld) wanted
+
       pub ticked-ticks : (hall_of lines d).ticks ≡ h.ticks + 1
       ticked-ticks = ap (λ (z : Hall). z.ticks) leads
 
@@ -260,14 +370,18 @@ module _ {M : Type 0} {g : _} (w : Media M) (lines : List Line) where
     there-ticks : (hall_of lines mid).ticks ≡ ticks
     there-ticks = gone.ticks ∙ come.ticks_are
 
-    pub goes-round : d ≡ mid → HasCome w lines o d new qs false ticks
-    goes-round same = subst (λ z. HasCome w lines o z new qs false ticks) (sym same) (record { between = gone.between; adds = there-adds; ticks_are = there-ticks })
+    there-wanted : TicksAreWanted lines mid
+    there-wanted = wanted-later lines c mid gone.adds gone.ticks come.wanted
 
-    pub goes-ticked : (some_late new ≡ false) × AllEmpty (state_of mid.flight) × (ticks < limits.ticks) × HasTicked mid d → HasCome w lines o d (all_late new) qs true (ticks + 1)
-    goes-ticked (calm, empty, less, t) = record {
+    pub goes-round : d ≡ mid → HasCome w lines o d new qs false ticks
+    goes-round same = subst (λ z. HasCome w lines o z new qs false ticks) (sym same) (record { between = gone.between; adds = there-adds; ticks_are = there-ticks; wanted = there-wanted })
+
+    pub goes-ticked : (some_late new ≡ false) × AllEmpty (state_of mid.flight) × (ticks < limits.ticks) × HasTicked mid d × (all_held qs ≡ false) → HasCome w lines o d (all_late new) qs true (ticks + 1)
+    goes-ticked (calm, empty, less, t, unheld) = record {
       between = ticked-between mid new qs gone.between count calm d empty t;
       adds = adds-join any_node o mid d there-adds (ticked-adds mid new qs gone.between count calm d empty t);
       ticks_are = ticked-ticks mid new qs gone.between count calm d empty t ∙ ap (λ k. k + 1) there-ticks;
+      wanted = ticked-wanted mid new qs gone.between count calm d empty t unheld there-wanted;
     }
 
     over-for : ticks ≤ limits.ticks → (all_held qs ≡ true) ⊎ ((limits.messages ≤ length mid.sent) ⊎ ((some_late new ≡ false) × AllEmpty (state_of mid.flight) × (limits.ticks ≤ ticks))) → IsOver lines limits mid qs
@@ -276,7 +390,7 @@ module _ {M : Type 0} {g : _} (w : Media M) (lines : List Line) where
     over-for few (inr (inr (calm, empty, most))) = inr (inr (is-idle mid new qs gone.between count calm empty, there-ticks ∙ (let e : ticks ≡ limits.ticks = omega (arith, few, most) in e)))
 
     pub goes-over : ticks ≤ limits.ticks → (d ≡ mid) × ((all_held qs ≡ true) ⊎ ((limits.messages ≤ length mid.sent) ⊎ ((some_late new ≡ false) × AllEmpty (state_of mid.flight) × (limits.ticks ≤ ticks)))) → HasEnded w lines limits o d new qs
-    goes-over few (same, why) = subst (λ z. HasEnded w lines limits o z new qs) (sym same) (record { between = gone.between; adds = there-adds; few = subst (λ k. k ≤ limits.ticks) (sym there-ticks) few; over = over-for few why })
+    goes-over few (same, why) = subst (λ z. HasEnded w lines limits o z new qs) (sym same) (record { between = gone.between; adds = there-adds; few = subst (λ k. k ≤ limits.ticks) (sym there-ticks) few; wanted = there-wanted; over = over-for few why })
 
     -- what a step leaves
     abbrev pub Stepped : Next → Type 0
@@ -295,7 +409,7 @@ module _ {M : Type 0} {g : _} (w : Media M) (lines : List Line) where
         (subst (λ z. Follows limits (some_late new) ticks z mid d next) shown_is (subst (λ z. Follows limits z ticks shown mid d next) late_is f))) few
 
   pub come-first : (c : CourierParts) (ms : Members M g) (ps : List PollState) → Between w lines c ms ps false → (hall_of lines c).ticks ≡ 0 → HasCome w lines c c ms ps false 0
-  come-first c ms ps b none = record { between = b; adds = adds-still any_node c c refl; ticks_are = none }
+  come-first c ms ps b none = record { between = b; adds = adds-still any_node c c refl; ticks_are = none; wanted = none-wanted lines c none }
 
   -- ---- a turn may follow
 

@@ -1,5 +1,6 @@
 -- How members' media fare over turns, rounds and Ticks.
-use Rattle.std.proofs.Common.{◌≡◌, ◌≢◌, ℕ, ◌+◌, ◌≤◌, Bool, true, false, List, [], ◌∷◌, ◌++◌, inl, inr, refl, sym, ap, subst, ◌∙◌, arith, append_assoc}
+use Rattle.std.proofs.Common.{◌≡◌, ◌≢◌, ℕ, ◌+◌, ◌≤◌, Bool, true, false, List, [], ◌∷◌, ◌++◌, inl, inr, refl, sym, ap, subst, ◌∙◌, arith, append_assoc, zero-add, Ok}
+use Rattle.std.proofs.lemmas.List.{append-nil}
 use Rattle.std.specs.Prelude.{Option, Some, None, ◌-◌, ◌==◌, length, drop, slice_index, IsTrue, if◌then◌else◌}
 use Rattle.std.proofs.lemmas.Bool.{cases_Bool}
 use Rattle.pseudo_time.specs.Nodes.{same_node}
@@ -14,7 +15,8 @@ use Rattle.medium_port.specs.Image.{Image, page_of}
 use Rattle.page_gate.specs.States.{is_blank, state_of}
 use Rattle.page_gate.specs.declared.pages.PageState.{PageState}
 use Rattle.page_gate.specs.declared.pages.PageState.TheVariants.{Blank, Gated, Spoiled}
-use Rattle.version_store.specs.Filling.{KeepsPages, StaysClean}
+use Rattle.effect_form.specs.declared.effects.Effect.{Effect}
+use Rattle.version_store.specs.Filling.{KeepsPages, StaysClean, pages_apart}
 use Rattle.version_store.specs.StoreWords.{medium_of}
 use Rattle.version_store.specs.declared.stores.Store.{Store}
 use Rattle.record_votes.specs.Books.{MemberState}
@@ -26,7 +28,7 @@ use Rattle.world_core.specs.declared.entries.Entry.TheVariants.{Gate, Crash, Dow
 use Rattle.world_core.specs.Walks.{is_down, names, own}
 use Rattle.run_media.specs.Media.{Media}
 use Rattle.trace_report.specs.Counts.{down_cause}
-use Rattle.vote_members.specs.Closings.{IsFallenFor}
+use Rattle.vote_members.specs.Closings.{Grows, HasGrown, IsFallenFor}
 use Rattle.vote_members.specs.Costs.{cost_of, costs}
 use Rattle.vote_courier.specs.Couriers.{CourierParts, tick_moment}
 use Rattle.vote_courier.proofs.PlaceLemmas.{never-false}
@@ -61,12 +63,29 @@ clean-joins a b c first kept second page blank = elim (cases_Bool (is_blank (pag
   | inr marked ↦ subst (λ (p : List ℕ). state_of p ≢ Spoiled) (sym (kept page marked)) (first page blank)
 ]
 
+apart-append : (xs ys : List Effect) → pages_apart (xs ++ ys) ≡ pages_apart xs + pages_apart ys
+apart-append [] ys = sym (zero-add (pages_apart ys))
+apart-append (x ∷ xs) ys = let e : pages_apart (xs ++ ys) ≡ pages_apart xs + pages_apart ys = apart-append xs ys in omega (arith, e)
+
+-- a log that grew, and grew again
+grows-joins : (a b c : Image) → Grows a b → Grows b c → Grows a c
+grows-joins a b c first second log is =
+    let one : HasGrown log a b = first log is in
+    let two : HasGrown (log ++ one.more) b c = second (log ++ one.more) one.is in
+    let x = one.pages in
+    let y = two.pages in
+    record { more = one.more ++ two.more; is = two.is ∙ ap (λ l. Ok l) (append_assoc log one.more two.more); pages = omega (arith, x, y, apart-append one.more two.more) }
+
+-- the same image
+pub grows-same : (image : Image) → Grows image image
+grows-same image log is = record { more = []; is = is ∙ ap (λ l. Ok l) (sym (append-nil log)); pages = omega arith }
+
 module _ {M : Type 0} (w : Media M) (n : NodeId) where
   -- ---- what was paid
 
   -- another entry of the node's own, and a medium that failed as often
   paid-more : (es : List Entry) (e : Entry) (taken old new : M) → names n e ≡ true → HasPaid w n es taken old → RoseBy (cost_of e) (w.faults old) (w.faults new)
-      → (IsTrue w.tells → cost_of e ≡ 0 → KeepsPages (w.reads old) (w.reads new) × StaysClean (w.reads old) (w.reads new)) → HasPaid w n (es ++ e ∷ []) taken new
+      → (IsTrue w.tells → cost_of e ≡ 0 → KeepsPages (w.reads old) (w.reads new) × StaysClean (w.reads old) (w.reads new) × Grows (w.reads old) (w.reads new)) → HasPaid w n (es ++ e ∷ []) taken new
   paid-more es e taken old new is h rose whole =
       let sum : costs (own n (es ++ e ∷ [])) ≡ costs (own n es) + cost_of e = costs-more n es e is in
       let first : costs (own n (es ++ e ∷ [])) ≡ 0 → costs (own n es) ≡ 0 = (λ free. omega (arith, sum, free)) in
@@ -75,6 +94,7 @@ module _ {M : Type 0} (w : Media M) (n : NodeId) where
         paid = subst (λ k. RoseBy k (w.faults taken) (w.faults new)) (sym sum) (rises_add (costs (own n es)) (cost_of e) (w.faults taken) (w.faults old) (w.faults new) h.paid rose);
         kept = λ told free. keeps-joins (w.reads taken) (w.reads old) (w.reads new) (h.kept told (first free)) (whole told (second free)).0;
         clean = λ told free. clean-joins (w.reads taken) (w.reads old) (w.reads new) (h.clean told (first free)) (whole told (second free)).0 (whole told (second free)).1;
+        grows = λ told free. grows-joins (w.reads taken) (w.reads old) (w.reads new) (h.grows told (first free)) (whole told (second free)).2;
       }
 
   -- entries of others alone, over the same medium
@@ -85,6 +105,7 @@ module _ {M : Type 0} (w : Media M) (n : NodeId) where
         paid = subst (λ k. RoseBy k (w.faults taken) (w.faults now)) (sym same) h.paid;
         kept = λ told free. h.kept told (sym same ∙ free);
         clean = λ told free. h.clean told (sym same ∙ free);
+        grows = λ told free. h.grows told (sym same ∙ free);
       }
 
   same-pages : (m : M) → KeepsPages (w.reads m) (w.reads m)
@@ -144,7 +165,7 @@ module _ {M : Type 0} (w : Media M) (n : NodeId) where
       acted-paid = subst (λ z. HasPaid w n z f.taken (medium_of before)) (sym deed.1)
           (paid-more c.entries deed.0 f.taken (medium_of before) (medium_of before) own-deed f.has_paid
           (subst (λ z. RoseBy z (w.faults (medium_of before)) (w.faults (medium_of before))) (sym deed.4) (no-rise (w.faults (medium_of before)) (w.faults (medium_of before)) (omega arith)))
-          (λ told free. (same-pages (medium_of before), clean-same (medium_of before))))
+          (λ told free. (same-pages (medium_of before), clean-same (medium_of before), grows-same (w.reads (medium_of before)))))
 
       acted-up : down_cause n mid.entries ≡ None
       acted-up = begun-up behind n moment c mid m k t b f.never
@@ -156,7 +177,7 @@ module _ {M : Type 0} (w : Media M) (n : NodeId) where
         never = subst (λ z. down_cause n z ≡ None) (sym e.sends.entries) (down-more n mid.entries (Gate n ∷ []) acted-up);
         has_paid = subst (λ z. HasPaid w n z f.taken (medium_of store)) (sym e.sends.entries)
             (paid-more mid.entries (Gate n) f.taken (medium_of before) (medium_of store) (same_node-refl n) acted-paid
-            (no-rise (w.faults (medium_of before)) (w.faults (medium_of store)) e.durable.later) (λ told free. (e.durable.kept told, e.durable.clean told)));
+            (no-rise (w.faults (medium_of before)) (w.faults (medium_of store)) e.durable.later) (λ told free. (e.durable.kept told, e.durable.clean told, e.durable.grows told)));
       }
 
       reopened-fares : (j : MemberState) (store : Store M g) → IsReopened w n durable mid d before t.effects k j store → FaresWell w n first d.entries (medium_of store)
@@ -178,7 +199,8 @@ module _ {M : Type 0} (w : Media M) (n : NodeId) where
           paid-more mid.entries (Down n (down.Damaged page)) f.taken (medium_of before) left (same_node-refl n) acted-paid (no-rise (w.faults (medium_of before)) (w.faults left) later) (λ told free. absurd (e told))
       fallen-paid (down.Full pages) left e later =
           paid-more mid.entries (Down n (down.Full pages)) f.taken (medium_of before) left (same_node-refl n) acted-paid (no-rise (w.faults (medium_of before)) (w.faults left) later)
-          (λ told free. (subst (λ z. KeepsPages (w.reads (medium_of before)) (w.reads z)) (sym e.0) (same-pages (medium_of before)), subst (λ z. StaysClean (w.reads (medium_of before)) (w.reads z)) (sym e.0) (clean-same (medium_of before))))
+          (λ told free. (subst (λ z. KeepsPages (w.reads (medium_of before)) (w.reads z)) (sym e.0) (same-pages (medium_of before)), subst (λ z. StaysClean (w.reads (medium_of before)) (w.reads z)) (sym e.0) (clean-same (medium_of before)),
+          subst (λ z. Grows (w.reads (medium_of before)) (w.reads z)) (sym e.0) (grows-same (w.reads (medium_of before)))))
 
       fallen-fares : (left : M) → IsDown w n mid d before t.effects left → FellLater w n first d.entries left
       fallen-fares left e =

@@ -11,9 +11,11 @@ use Rattle.world_core.specs.declared.entries.Entry.TheVariants.{Tick}
 use Rattle.world_core.specs.Legal.{Idle, fates_of}
 use Rattle.run_media.specs.Media.{Media}
 use Rattle.vote_traces.specs.Walks.{world_of}
+use Rattle.vote_traces.specs.Legal.{base_of}
+use Rattle.vote_law.specs.Smooth.{TicksForPolls}
 use Rattle.vote_courier.specs.Couriers.{CourierParts, tick_moment}
 use Rattle.vote_courier.specs.Places.{Adds}
-use Rattle.vote_courier.specs.Stations.{Stands, hall_of}
+use Rattle.vote_courier.specs.Stations.{Stands, hall_of, trace_of}
 use Rattle.vote_run.specs.Members.{SitAll}
 use Rattle.vote_run.specs.Rounds.{PollsAre}
 use Rattle.vote_run.specs.declared.limits.Limits.{Limits}
@@ -45,11 +47,15 @@ abbrev pub Follows : Limits → (late : Bool) → (ticks : ℕ) → List PollSta
 Follows limits late ticks ps old new Over =
     (new ≡ old) × ((all_held ps ≡ true) ⊎ ((limits.messages ≤ length old.sent) ⊎ ((late ≡ false) × AllEmpty (state_of old.flight) × (limits.ticks ≤ ticks))))
 Follows limits late ticks ps old new Round = new ≡ old
-Follows limits late ticks ps old new Ticked = (late ≡ false) × AllEmpty (state_of old.flight) × (ticks < limits.ticks) × HasTicked old new
+Follows limits late ticks ps old new Ticked = (late ≡ false) × AllEmpty (state_of old.flight) × (ticks < limits.ticks) × HasTicked old new × (all_held ps ≡ false)
 
 -- why it is over
 abbrev pub IsOver : List Line → Limits → CourierParts → List PollState → Type 0
 IsOver lines limits d qs = (all_held qs ≡ true) ⊎ ((limits.messages ≤ length d.sent) ⊎ (Idle (fates_of d.sent) (world_of (hall_of lines d)) × ((hall_of lines d).ticks ≡ limits.ticks)))
+
+-- each Tick so far stands where a poll holds no decision
+abbrev pub TicksAreWanted : List Line → CourierParts → Type 0
+TicksAreWanted lines c = TicksForPolls (base_of lines (trace_of c)) c.entries
 
 module _ {M : Type 0} {g : _} (w : Media M) (lines : List Line) where
   -- the trace is legal, and members and polls are at their places
@@ -69,12 +75,14 @@ module _ {M : Type 0} {g : _} (w : Media M) (lines : List Line) where
     pub between : Between d ms qs behind
     pub adds : Adds any_node c d
     pub ticks_are : (hall_of lines d).ticks ≡ ticks
+    pub wanted : TicksAreWanted lines d
 
   -- it is over
   pub record HasEnded (limits : Limits) (c d : CourierParts) (ms : Members M g) (qs : List PollState) : Type 0 where
     pub between : Between d ms qs false
     pub adds : Adds any_node c d
     pub few : (hall_of lines d).ticks ≤ limits.ticks
+    pub wanted : TicksAreWanted lines d
     pub over : IsOver lines limits d qs
 
   -- what a step leaves: the run is over, or has come so far

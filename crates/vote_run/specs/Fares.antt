@@ -14,6 +14,7 @@ use Rattle.world_core.specs.Walks.{is_down, own}
 use Rattle.run_media.specs.Media.{Media}
 use Rattle.run_media.specs.Openings.{IsAsItWas, IsShutFor}
 use Rattle.trace_report.specs.Counts.{down_cause}
+use Rattle.vote_members.specs.Closings.{Grows}
 use Rattle.vote_members.specs.Costs.{costs}
 use Rattle.vote_traces.specs.Legal.{WasNotOpened}
 use Rattle.vote_run.specs.declared.members.Members.{Members}
@@ -27,11 +28,12 @@ pub record Lengthens (of : NodeId → Bool) (old new : List Entry) : Type 0 wher
   pub own_entries : (m : NodeId) → of m ≡ false → own m more ≡ []
 
 module _ {M : Type 0} (w : Media M) (n : NodeId) where
-  -- The medium failed as often as its node's entries cost. Without a fault its pages stay: none that was written is changed, and none is spoiled.
+  -- The medium failed as often as its node's entries cost. Without a fault its pages stay: none that was written is changed, and none is spoiled; and its log has grown by what was written.
   pub record HasPaid (es : List Entry) (taken now : M) : Type 0 where
     pub paid : RoseBy (costs (own n es)) (w.faults taken) (w.faults now)
     pub kept : IsTrue w.tells → costs (own n es) ≡ 0 → KeepsPages (w.reads taken) (w.reads now)
     pub clean : IsTrue w.tells → costs (own n es) ≡ 0 → StaysClean (w.reads taken) (w.reads now)
+    pub grows : IsTrue w.tells → costs (own n es) ≡ 0 → Grows (w.reads taken) (w.reads now)
 
   -- the member is up
   pub record FaresWell (first : Option M) (es : List Entry) (now : M) : Type 0 where

@@ -102,7 +102,7 @@ own-append (effect.End i e ∷ xs) ys = own-append xs ys
 own-append (effect.Mark at ∷ xs) ys = own-append xs ys
 own-append (effect.Whole ∷ xs) ys = own-append xs ys
 
-begin-stays : (log more : List Effect) (s : StampParts) (deadline : ℕ) → first_begin (book log) s ≡ Some deadline → first_begin (book (log ++ more)) s ≡ Some deadline
+pub begin-stays : (log more : List Effect) (s : StampParts) (deadline : ℕ) → first_begin (book log) s ≡ Some deadline → first_begin (book (log ++ more)) s ≡ Some deadline
 begin-stays log more s deadline h =
     subst (λ l. first_begin l s ≡ Some deadline) (sym (ap own (reverse-append log more) ∙ own-append (reverse more) (reverse log))) (begin-behind (own (reverse more)) (book log) s deadline h)
 
@@ -490,7 +490,7 @@ module _ (b : Base) (have : HaveLines b) (es : List Entry) (h : Hall) (c : HallC
     last = last-said es h.last e c.last;
   }
 
-start-causes : (b : Base) → HallCauses b [] (start_hall b)
+pub start-causes : (b : Base) → HallCauses b [] (start_hall b)
 start-causes b = record {
   members = λ s. record { late = []; gated_is = sym (append-nil (log_at b.opened s)); caused = tt; owes = tt };
   polls = λ i. (refl, refl);
@@ -500,7 +500,7 @@ start-causes b = record {
   last = λ t e. absurd (cc e);
 }
 
-walk-causes : (b : Base) (have : HaveLines b) (fates : List Fate) (es more : List Entry) (h : Hall) → HallCauses b es h → Meets b fates h more → HallCauses b (es ++ more) (walk_from b h more)
+pub walk-causes : (b : Base) (have : HaveLines b) (fates : List Fate) (es more : List Entry) (h : Hall) → HallCauses b es h → Meets b fates h more → HallCauses b (es ++ more) (walk_from b h more)
 unfolding Meets walk_from
 walk-causes b have fates es [] h c m = subst (λ l. HallCauses b l h) (sym (append-nil es)) c
 walk-causes b have fates es (e ∷ more) h c m =
@@ -508,7 +508,7 @@ walk-causes b have fates es (e ∷ more) h c m =
 
 -- ---- legal traces
 
-numbered-within : (lines : List Line) (i : ℕ) → is_within i (length lines) ≡ true → (l : Line) × (numbered lines i ≡ Some l)
+pub numbered-within : (lines : List Line) (i : ℕ) → is_within i (length lines) ≡ true → (l : Line) × (numbered lines i ≡ Some l)
 numbered-within lines zero h = absurd (let k : false ≡ true = h in cc k)
 numbered-within [] (suc i) h =
     let k : (nat_le 1 (suc i) ≡ true) × (nat_le (suc i) 0 ≡ true) = and_parts (nat_le 1 (suc i)) (nat_le (suc i) 0) h in

@@ -1,4 +1,4 @@
-use Rattle.std.proofs.Common.{rules, ◌≡◌, ℕ, ◌∷◌, sym, subst}
+use Rattle.std.proofs.Common.{ℕ, ◌∷◌, sym, subst}
 use Rattle.std.specs.Prelude.{MatchOption, codes}
 use Rattle.command_words.specs.declared.commands.Options.{Options}
 use Rattle.command_words.specs.Words.{AreWords, IsLoad, said}

@@ -1,4 +1,4 @@
-use Rattle.std.proofs.Common.{rules, ◌≡◌, Ok, sym, ◌∙◌, subst, arith}
+use Rattle.std.proofs.Common.{arith}
 use Rattle.command_words.proofs.WordLemmas.{read-is, number-read, number-plain}
 use Rattle.command_words.proofs.numbers.number.Goals as goal
 

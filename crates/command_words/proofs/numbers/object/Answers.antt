@@ -1,4 +1,4 @@
-use Rattle.std.proofs.Common.{rules, ◌≡◌, ◌==◌, length, sym, ◌∙◌, subst, arith}
+use Rattle.std.proofs.Common.{sym, subst, arith}
 use Rattle.std.specs.Prelude.{MatchOption}
 use Rattle.value_form.specs.declared.objects.ObjectId.{ObjectId}
 use Rattle.command_words.specs.Words.{IsObjectWord}

@@ -17,6 +17,7 @@ returns-in-Err-Words g c = record {
       media = c.quiet.ensures.media;
       fates = c.quiet.ensures.fates;
       clock = c.quiet.ensures.clock;
+      votes = c.quiet.ensures.votes;
       input = (refl, refl);
     },
     c.write_line.ensures,

@@ -9,6 +9,7 @@ returns-in_default g c = inl (
     media = c.quiet.ensures.media;
     fates = c.quiet.ensures.fates;
     clock = c.quiet.ensures.clock;
+    votes = c.quiet.ensures.votes;
     input = (refl, refl);
   },
   (refl, refl),
@@ -22,6 +23,7 @@ returns-in_default-shelf_for g c = inl (
     media = c.quiet-in_default-shelf_for.ensures.media;
     fates = c.quiet-in_default-shelf_for.ensures.fates;
     clock = c.quiet-in_default-shelf_for.ensures.clock;
+    votes = c.quiet-in_default-shelf_for.ensures.votes;
     input = (refl, refl);
   },
   (refl, refl),

@@ -1,29 +1,23 @@
-use Rattle.std.proofs.Common.{◌∙◌}
+use Rattle.std.proofs.Common.{◌≡◌, ap, arith, ◌∙◌}
+use Rattle.medium_port.specs.declared.shelves.MediumName.{MediumName}
+use Rattle.laboratory.specs.Shelves.{first_name, voting_name}
 use Rattle.laboratory.proofs.shelves.shelf_for.Goals as goal
+
+-- they are of two volumes
+apart : first_name ≡ voting_name → ⊥
+apart e = let same : 0 ≡ 1010 = ap (λ (x : MediumName). x.volume) e in absurd (omega (arith, same))
 
 pub returns-in-Ok : goal.returns-in-Ok
 returns-in-Ok c =
-    let medium = c.in_ok-medium.ensures in
     let shelf = c.new-shelf.ensures in
-    let put = c.in-Ok.ensures in
+    let one = c.put.ensures in
+    let two = c.in-Ok.ensures in
     record {
-      first = (
-        c.in_ok-medium.medium,
-        put.now.there,
-        record {
-          count = medium.count;
-          shape = medium.blank.0;
-          blank = medium.blank.1;
-          only = medium.only;
-          stops_are = medium.stops.0 ∙ c.in_ok-stops.ensures;
-          calls = medium.stops.1;
-          faults = medium.open.1;
-          sound = medium.open.0;
-        },
-      );
-      others = λ name other. put.now.others name other ∙ shelf.empty name;
-      size = put.counts.pages ∙ shelf.pages;
-      well = put.fails ∙ shelf.all_well;
-      unasked = put.counts.asked ∙ shelf.asked;
-      faults = put.counts.faults ∙ shelf.faults.0;
+      first = (c.in_ok-first.first, two.now.others first_name apart ∙ one.now.there, c.in_ok-first.ensures);
+      voting = (c.in_ok-voting.voting, two.now.there, c.in_ok-voting.ensures);
+      others = λ name far away. two.now.others name away ∙ (one.now.others name far ∙ shelf.empty name);
+      size = two.counts.pages ∙ (one.counts.pages ∙ shelf.pages);
+      well = two.fails ∙ (one.fails ∙ shelf.all_well);
+      unasked = two.counts.asked ∙ (one.counts.asked ∙ shelf.asked);
+      faults = two.counts.faults ∙ (one.counts.faults ∙ shelf.faults.0);
     }

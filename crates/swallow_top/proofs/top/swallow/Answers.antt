@@ -29,17 +29,17 @@ returns-in-Err g c =
     let s = sinking (k.taken c.args.sink.now) (k.taken c.refused-status-in-Err.new.sink) (k.faults c.args.sink.now) (k.faults c.refused-status-in-Err.new.sink) in
     record {
       promise = promise-refused _ c.in-Some-Run.options c.in-Err.stop (subst (λ x. AreWords x (said c.args.words.now)) c.in-Some-Run.field-0-is c.in-Some-Run.ensures.words) c.in-Err.ensures (subst (λ n. RefusedAs c.in-Err.stop n s) (sym q.status) c.refused-status-in-Err.ensures)
-          (λ status is. quiet-call _ status is (q.media ∙ c.new-in-Err.ensures.items) refl q.trace (ap g.F.Fates.asked q.told.0) (ap g.C.Clock.answers q.told.1)) (λ name is was. absurd (was is));
+          (λ status is. quiet-call _ status is (q.media ∙ c.new-in-Err.ensures.items) refl q.trace (ap g.F.Fates.asked q.told.0) (ap g.C.Clock.answers q.told.1) q.votes) (λ name is was. absurd (was is));
     }
 
 pub returns-in-Ok : goal.returns-in-Ok
 returns-in-Ok g c = record {
-  promise = promise-run _ c.in-Some-Run.options c.in-Ok.plan (subst (λ x. AreWords x (said c.args.words.now)) c.in-Some-Run.field-0-is c.in-Some-Run.ensures.words) c.in-Ok.ensures c.run_plan.ensures.ran c.run_plan.ensures.kept;
+  promise = promise-run _ c.in-Some-Run.options c.in-Ok.plan (subst (λ x. AreWords x (said c.args.words.now)) c.in-Some-Run.field-0-is c.in-Some-Run.ensures.words) c.in-Ok.ensures c.run_plan.ensures.ran c.run_plan.ensures.kept c.run_plan.ensures.votes;
 }
 
 pub returns-in-Ok-make : goal.returns-in-Ok-make
 returns-in-Ok-make g c = record {
-  promise = promise-load _ c.in-Some-Load.seed c.in-Some-Load.count c.in-Some-Load.options c.in-Ok-make.plan (refl, refl) (subst (λ x. AreWords x (said c.args.words.now)) c.in-Some-Load.field-0-is c.in-Some-Load.ensures.words) c.in-Ok-make.ensures c.run_plan-in-Ok-make.ensures.ran c.run_plan-in-Ok-make.ensures.kept;
+  promise = promise-load _ c.in-Some-Load.seed c.in-Some-Load.count c.in-Some-Load.options c.in-Ok-make.plan (refl, refl) (subst (λ x. AreWords x (said c.args.words.now)) c.in-Some-Load.field-0-is c.in-Some-Load.ensures.words) c.in-Ok-make.ensures c.run_plan-in-Ok-make.ensures.ran c.run_plan-in-Ok-make.ensures.kept c.run_plan-in-Ok-make.ensures.votes;
 }
 
 pub returns-in-Some-History : goal.returns-in-Some-History
@@ -57,7 +57,7 @@ returns-in-Some-History g c =
     let tells = subst (λ n. AskedNothing w old new c.quiet-in-Some-History.result.media n ⊎ TellsHistory w old new object c.quiet-in-Some-History.result.media s n) (sym q.status) media in
     record {
       promise = promise-history _ object (refl, refl) (subst (λ x. AreWords x (said c.args.words.now)) c.in-Some-History.field-0-is c.in-Some-History.ensures.words) tells
-          (record { trace = q.trace; fates = ap g.F.Fates.asked q.told.0; clock = ap g.C.Clock.answers q.told.1 });
+          (record { trace = q.trace; fates = ap g.F.Fates.asked q.told.0; clock = ap g.C.Clock.answers q.told.1 }) q.votes;
     }
 
 pub returns-in-Some-Retire : goal.returns-in-Some-Retire
@@ -76,5 +76,5 @@ returns-in-Some-Retire g c =
     let tells = subst (λ n. AskedNothing w old new c.quiet-in-Some-Retire.result.media n ⊎ TellsRetirement w old new r mark c.quiet-in-Some-Retire.result.media s n) (sym q.status) media in
     record {
       promise = promise-retire _ r mark (refl, refl) (subst (λ x. AreWords x (said c.args.words.now)) c.in-Some-Retire.field-0-is c.in-Some-Retire.ensures.words) tells
-          (record { trace = q.trace; fates = ap g.F.Fates.asked q.told.0; clock = ap g.C.Clock.answers q.told.1 });
+          (record { trace = q.trace; fates = ap g.F.Fates.asked q.told.0; clock = ap g.C.Clock.answers q.told.1 }) q.votes;
     }

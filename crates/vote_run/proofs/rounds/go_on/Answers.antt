@@ -1,9 +1,19 @@
-use Rattle.std.proofs.Common.{◌≤◌, ◌∙◌, ℕ, Bool, sym, subst}
+use Rattle.std.proofs.Common.{◌≤◌, ◌∙◌, ℕ, Bool, refl, sym, subst, arith}
 use Rattle.std.specs.Prelude.{Option, IfSome}
 use Rattle.vote_run.specs.Ends.{Came}
-use Rattle.vote_run.proofs.EndLemmas.{if-ok}
+use Rattle.vote_run.proofs.EndLemmas.{come-first, if-ok}
 use Rattle.vote_run.proofs.PollLemmas.{ok-of}
 use Rattle.vote_run.proofs.rounds.go_on.Goals as goal
+
+pub loop-init : goal.loop-init
+loop-init g c = record {
+  may = c.requires.may;
+  count = refl;
+  few = omega arith;
+  come = λ told lines count between none. come-first g.M.Medium lines c.args.courier.now c.args.members c.args.polls.now.items between none;
+  fares = λ first h. h;
+  lasts = λ first h. h;
+}
 
 pub returns-in_default-came-clause-ended : goal.returns-in_default-came-clause-ended
 returns-in_default-came-clause-ended g c told lines count b none =

@@ -1,0 +1,15 @@
+pub mod Members
+pub mod Votes
+pub use Rattle.vote_call.specs.Ends
+pub use Rattle.vote_call.specs.Polls
+pub use Rattle.vote_call.specs.Tellings
+pub use Rattle.vote_call.specs.declared.member_media.MemberMedia
+pub use Rattle.vote_call.specs.declared.voting.VoteEnd
+pub use Rattle.vote_form.specs.Faults
+pub use Rattle.vote_form.specs.Inputs
+pub use Rattle.vote_form.specs.declared.poll_lines.PollLine
+pub use Rattle.vote_promise.specs.Clauses
+pub use Rattle.vote_report.specs.Statuses
+pub use Rattle.vote_report.specs.Texts
+pub use Rattle.vote_report.specs.declared.standings.PollStanding
+pub use Rattle.vote_run.specs.declared.limits.Limits
