@@ -1,5 +1,5 @@
 -- The complete ones of a repository's volumes, one after another.
-use Rattle.std.proofs.Common.{◌≡◌, ◌<◌, ◌+◌, ℕ, suc, Bool, true, false, List, [], ◌∷◌, ◌++◌, length, map, drop, slice_index_or, refl, sym, ◌∙◌, ap, arith, if◌then◌else◌}
+use Rattle.std.proofs.Common.{◌≡◌, ◌<◌, ◌≤◌, ◌+◌, ℕ, zero, suc, Bool, true, false, List, [], ◌∷◌, ◌++◌, length, map, drop, slice_index_or, refl, sym, ◌∙◌, ap, arith, if◌then◌else◌}
 use Rattle.std.proofs.lemmas.List.{append_assoc}
 use Rattle.effect_form.specs.declared.effects.Effect.{Effect}
 use Rattle.archive_store.proofs.JoinLemmas.{drop-item}
@@ -32,3 +32,8 @@ module _ {B : Type 0} (f : Complete → B) (v : ℕ) where
       ∙ ap (λ l. old ++ map f (complete_from v (l ∷ rest))) shown
       ∙ ap (λ (l : List (Opening M g)). old ++ map f (complete_from v (logs_of l))) (sym (drop-item os v (v + 1) o refl low is))
       ∙ h
+
+-- volume 0 was read, or another one before
+pub some-step : (v n m : ℕ) → (v ≡ 0 → 0 < m) → n ≤ m → (0 < v → 0 < n) → 0 < m
+some-step zero n m first more some = first refl
+some-step (suc v) n m first more some = let k = some (omega arith) in omega (arith, more, k)

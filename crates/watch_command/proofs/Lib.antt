@@ -2,3 +2,4 @@ pub mod MarkLemmas
 pub mod TotalLemmas
 pub mod RangeLemmas
 pub mod WatchLemmas
+pub mod KeptLemmas

@@ -1,5 +1,5 @@
 -- What is written into the volume of totals, and what comes of a watch.
-use Rattle.std.proofs.Common.{◌≡◌, ◌≢◌, ◌⊎◌, ◌<◌, ℕ, ℤ, IsTrue, List, [], ◌++◌, length, map, refl, sym, ◌∙◌, ap, subst, Option, Some, None, inl, inr}
+use Rattle.std.proofs.Common.{◌≡◌, ◌≢◌, ◌⊎◌, ◌<◌, ℕ, ℤ, IsTrue, List, [], ◌∷◌, ◌++◌, length, map, reverse, refl, sym, ◌∙◌, ap, subst, Option, Some, None, inl, inr}
 use Rattle.std.specs.Prelude.{Result, Ok, Err, IfOk, Vec}
 use Rattle.std.specs.declared.alloc.Global.{Global}
 use Rattle.std.proofs.lemmas.List.{length-map}
@@ -19,7 +19,7 @@ use Rattle.version_store.specs.declared.faults.StoreFault.TheVariants as adding
 use Rattle.version_store.specs.Causes.{down_of}
 use Rattle.version_store.specs.Filling.{HasPrefix, filling}
 use Rattle.version_store.specs.Storage.{storage}
-use Rattle.version_store.specs.StoreWords.{left_in, medium_of}
+use Rattle.version_store.specs.StoreWords.{effects_in, left_in, medium_of}
 use Rattle.commit_watch.specs.declared.faults.WatchFault.{WatchFault}
 use Rattle.commit_watch.specs.declared.faults.WatchFault.TheVariants as fault
 use Rattle.commit_watch.specs.declared.moved.Moved.{Moved}
@@ -28,13 +28,20 @@ use Rattle.run_media.specs.declared.openings.Opening.{Opening}
 use Rattle.run_media.specs.declared.openings.Opening.TheVariants.{Open, Shut, Wanting}
 use Rattle.run_media.specs.Media.{Media}
 use Rattle.run_media.specs.Openings.{HasOpened, medium_in}
+use Rattle.run_volumes.specs.declared.kept.Kept.{Kept}
+use Rattle.run_volumes.specs.Kept.{kept_as, kept_under}
+use Rattle.run_volumes.specs.Shelves.{ShelfSight, TakesOne, first_names, volume_name}
 use Rattle.run_volumes.specs.Standings.{Stands}
+use Rattle.run_volumes.specs.Volumes.{AreOpen, AreVolumes, logs_of}
+use Rattle.run_volumes.proofs.StandLemmas.{given-back, stand-all}
+use Rattle.archive_command.specs.Answers.{IsFallen}
+use Rattle.archive_command.specs.Archives.{joined_marks}
 use Rattle.archive_command.specs.declared.outcomes.Outcome.{Outcome}
 use Rattle.archive_command.specs.declared.outcomes.Outcome.TheVariants.{Told, Refused, Fallen, NoMemory}
 use Rattle.command_words.specs.declared.rules.Rule.{Rule}
 use Rattle.watch_command.specs.Lines.{down_watch_line, overflow_line, watch_text}
-use Rattle.watch_command.specs.Totals.{AreTotals, new_puts, outcome_of}
-use Rattle.watch_command.specs.Watches.{Adds, ComesOf, ComesTo, CutsOff, HasFront, Holds, IsReady, RefusesFor, Stops}
+use Rattle.watch_command.specs.Totals.{AreTotals, new_puts, outcome_of, totals_volume}
+use Rattle.watch_command.specs.Watches.{Adds, ComesOf, ComesTo, CutsOff, HasFront, Holds, IsReady, Keeps, RefusesFor, Stops, StopsBefore, TotalsOver, WatchesOver}
 
 -- ---- why the totals don't go on
 
@@ -82,3 +89,77 @@ module _ {M : Type 0} (w : Media M) where
   comes-stopped repository rule marks log store (Refused line) m h is holds = (h, subst (Holds w log) (sym is) holds)
   comes-stopped repository rule marks log store (Fallen line) m h is holds = absurd h
   comes-stopped repository rule marks log store NoMemory m h is holds = inl (subst (Holds w log) (sym is) holds)
+
+-- ---- over the volumes
+
+-- a line in place of what stopped it
+fallen-line : {E : Type 0} (text : List ℕ) (line : Result (List ℕ) E) (r : Outcome) → IfOk line (λ l. l ≡ text) → IsFallen line r → (r ≡ NoMemory) ⊎ (r ≡ Fallen text)
+fallen-line text (Ok l) r h k = inr (k ∙ ap Fallen h)
+fallen-line text (Err e) r h k = inl k
+
+module _ {M : Type 0} (w : Media M) (repository : ℕ) (rule : Rule) (marks : List Mark) where
+  -- the volume of totals stands open
+  pub opened-stands : (o : Opening M w) (store : Store M w) (effects : Vec Effect Global) → o ≡ Open store effects → Stands w o → Stands w (Open store effects)
+  opened-stands o store effects is h = subst (Stands w) is h
+
+  pub opened-written : (o : Opening M w) (store : Store M w) (effects : Vec Effect Global) (shown puts : List Effect) (text : List ℕ) (r : Outcome) (m : M) → o ≡ Open store effects → shown ≡ effects.items → Stands w o →
+      IsReady repository rule marks shown puts text → ((log : List Effect) → (IsTrue w.tells → effects_in w.reads store ≡ log) → Adds w repository log puts store text r m) → ComesTo w repository rule marks o r (Some m)
+  opened-written o store effects shown puts text r m is same h ready adds =
+      subst (λ z. ComesTo w repository rule marks z r (Some m)) (sym is)
+      (comes-written w repository rule marks effects.items puts store text r m (subst (λ l. IsReady repository rule marks l puts text) same ready) (adds effects.items (subst (Stands w) is h).2))
+
+  pub opened-stopped : (o : Opening M w) (store : Store M w) (effects : Vec Effect Global) (shown : List Effect) (r : Outcome) (m : M) → o ≡ Open store effects → shown ≡ effects.items → Stands w o → Stops repository rule marks shown r → m ≡ medium_of store →
+      ComesTo w repository rule marks o r (Some m)
+  opened-stopped o store effects shown r m is same h stops back =
+      subst (λ z. ComesTo w repository rule marks z r (Some m)) (sym is)
+      (comes-stopped w repository rule marks effects.items store r m (subst (λ l. Stops repository rule marks l r) same stops) back (subst (Stands w) is h).3)
+
+  -- it doesn't
+  pub shut-comes : {E : Type 0} (o : Opening M w) (medium : Option M) (cause : DownCause) (line : Result (List ℕ) E) (r : Outcome) → o ≡ Shut medium cause → IfOk line (λ l. l ≡ down_watch_line repository cause) → IsFallen line r →
+      ComesTo w repository rule marks o r medium
+  shut-comes o medium cause line r is h k = subst (λ z. ComesTo w repository rule marks z r medium) (sym is) (refl, fallen-line (down_watch_line repository cause) line r h k)
+
+  pub wanting-comes : (o : Opening M w) (medium : M) → o ≡ Wanting medium → ComesTo w repository rule marks o NoMemory (Some medium)
+  wanting-comes o medium is = subst (λ z. ComesTo w repository rule marks z NoMemory (Some medium)) (sym is) (refl, refl)
+
+module _ {M : Type 0} (w : Media M) (old new : ShelfSight) (repository : ℕ) (rule : Rule) where
+  -- it was taken and opened
+  pub totals-over : (n : NodeId) (v : ℕ) (marks : List Mark) (r : Outcome) (taken left : Option M) (o : Opening M w) → n ≡ named repository → v ≡ totals_volume rule → TakesOne w old new (volume_name n v) taken → HasOpened w taken o →
+      ComesTo w repository rule marks o r left → TotalsOver w old new repository rule marks r left
+  totals-over n v marks r taken left o home which takes has came = record {
+    taken = taken;
+    takes = subst (λ z. TakesOne w old new (volume_name (named repository) z) taken) which (subst (λ z. TakesOne w old new (volume_name z v) taken) home takes);
+    opening = o;
+    has = has;
+    came = came;
+  }
+
+  pub one-stands : (taken : Option M) (o : Opening M w) → HasOpened w taken o → Stands w o
+  one-stands taken o h = (stand-all w (taken ∷ []) (o ∷ []) (h, tt)).0
+
+  pub stops-before : (n : NodeId) (media : List (Option M)) (os : List (Opening M w)) (kept : List (Kept M)) (r : Outcome) → n ≡ named repository → AreVolumes w old new n media os →
+      kept ≡ kept_under (first_names n (length os)) (map medium_in os) → Keeps repository os r → StopsBefore w old new repository rule kept r
+  stops-before n media os kept r home volumes handed came = record {
+    media = media;
+    openings = os;
+    volumes = subst (λ x. AreVolumes w old new x media os) home volumes;
+    handed = subst (λ x. kept ≡ kept_under (first_names x (length os)) (map medium_in os)) home handed;
+    keep = given-back w os (map medium_in os) (stand-all w media os volumes.opened) refl;
+    came = came;
+  }
+
+  pub watches-over : (between : ShelfSight) (n : NodeId) (v : ℕ) (media : List (Option M)) (os : List (Opening M w)) (shown : List Mark) (front kept : List (Kept M)) (left : Option M) (r : Outcome) → n ≡ named repository → v ≡ totals_volume rule →
+      AreVolumes w old between n media os → AreOpen os → front ≡ kept_under (first_names n (length os)) (map medium_in os) → kept ≡ front ++ kept_as (volume_name n v) left → shown ≡ joined_marks (logs_of os) →
+      TotalsOver w between new repository rule (reverse shown) r left → WatchesOver w old new repository rule kept r
+  watches-over between n v media os shown front kept left r home which volumes opened handed one is totals = record {
+    media = media;
+    openings = os;
+    between = between;
+    volumes = subst (λ x. AreVolumes w old between x media os) home volumes;
+    opened = opened;
+    keep = given-back w os (map medium_in os) (stand-all w media os volumes.opened) refl;
+    left = left;
+    totals = subst (λ l. TotalsOver w between new repository rule (reverse l) r left) is totals;
+    handed = subst (λ z. kept ≡ kept_under (first_names (named repository) (length os)) (map medium_in os) ++ kept_as (volume_name (named repository) z) left) which
+        (subst (λ x. kept ≡ kept_under (first_names x (length os)) (map medium_in os) ++ kept_as (volume_name x v) left) home (one ∙ ap (λ l. l ++ kept_as (volume_name n v) left) handed));
+  }

@@ -1,6 +1,6 @@
 use Rattle.std.proofs.Common.{arith}
 use Rattle.repository_log.specs.Logs.{marks}
-use Rattle.archive_command.proofs.ArchiveLemmas.{archived-step}
+use Rattle.archive_command.proofs.ArchiveLemmas.{archived-step, some-step}
 use Rattle.archive_command.proofs.archives.archived_of.Goals as goal
 
 pub loop-volume-preserved : goal.loop-volume-preserved
@@ -16,6 +16,6 @@ loop-volume-preserved g c =
     record {
       logs_are = archived-step (λ d. marks d.log) v c.args.openings.now c.index-openings-volume.result c.log_of-log.result.now _ _ _ c.loop-volume-test.true c.index-openings-volume.is c.log_of-log.ensures done.logs now.logs_are;
       volumes_are = archived-step (λ d. d.volume) v c.args.openings.now c.index-openings-volume.result c.log_of-log.result.now _ _ _ c.loop-volume-test.true c.index-openings-volume.is c.log_of-log.ensures done.volumes now.volumes_are;
-      some = λ h. omega (arith, first, more, some);
+      some = λ h. some-step v _ _ first more some;
       few = omega (arith, one, few);
     }
