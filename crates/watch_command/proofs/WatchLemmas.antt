@@ -86,9 +86,9 @@ module _ {M : Type 0} (w : Media M) where
   pub comes-stopped : (repository : ℕ) (rule : Rule) (marks : List Mark) (log : List Effect) (store : Store M w) (r : Outcome) (m : M) → Stops repository rule marks log r → m ≡ medium_of store → Holds w log (medium_of store) →
       ComesOf w repository rule marks log store r m
   comes-stopped repository rule marks log store (Told text) m h is holds = absurd h
-  comes-stopped repository rule marks log store (Refused line) m h is holds = (h, subst (Holds w log) (sym is) holds)
+  comes-stopped repository rule marks log store (Refused line) m h is holds = (h, (is, subst (Holds w log) (sym is) holds))
   comes-stopped repository rule marks log store (Fallen line) m h is holds = absurd h
-  comes-stopped repository rule marks log store NoMemory m h is holds = inl (subst (Holds w log) (sym is) holds)
+  comes-stopped repository rule marks log store NoMemory m h is holds = inl (is, subst (Holds w log) (sym is) holds)
 
 -- ---- over the volumes
 

@@ -109,6 +109,10 @@ CutsOff repository (Some cause) r = (r ≡ NoMemory) ⊎ (r ≡ Fallen (down_wat
 
 module _ {M : Type 0} (w : Media M) {g : _} (repository : ℕ) (rule : Rule) (m : List Mark) where
   module _ (log : List Effect) (store : Store M g) where
+    -- nothing was written: it is as it was opened, and whatever a crash leaves of it holds the log
+    abbrev pub IsUnwritten : M → Type 0
+    IsUnwritten new = (new ≡ medium_of store) × Holds w log new
+
     -- the totals are written and told
     pub record IsWatched (new : M) (text : List ℕ) : Type 0 where
       pub puts : List Effect
@@ -132,9 +136,9 @@ module _ {M : Type 0} (w : Media M) {g : _} (repository : ℕ) (rule : Rule) (m 
     -- what comes of a volume of totals that was opened with this log
     abbrev pub ComesOf : Outcome → M → Type 0
     ComesOf (Told text) new = IsWatched new text
-    ComesOf (Refused line) new = IsOverflow repository rule m log line × Holds w log new
+    ComesOf (Refused line) new = IsOverflow repository rule m log line × IsUnwritten new
     ComesOf (Fallen line) new = IsStopped new line
-    ComesOf NoMemory new = Holds w log new ⊎ IsUntold new
+    ComesOf NoMemory new = IsUnwritten new ⊎ IsUntold new
 
     abbrev pub ComesToMedium : Outcome → Option M → Type 0
     ComesToMedium r None = ⊥
