@@ -131,14 +131,18 @@ history-not-votes e = absurd (cc)
 retire-not-votes : codes "retire" ≡ codes "votes" → ⊥
 retire-not-votes e = absurd (cc)
 
+-- words that begin with other letters
+other-first : (a b : ℕ) (xs ys : List ℕ) → a ≢ b → a ∷ xs ≡ b ∷ ys → ⊥
+other-first a b xs ys other e = other (ap (λ zs. get_or zs 0 0) e)
+
 watch-not-votes : codes "watch" ≡ codes "votes" → ⊥
-watch-not-votes e = absurd (cc)
+watch-not-votes e = other-first 119 118 (codes "atch") (codes "otes") (λ k. omega (arith, k)) e
 
 asof-not-votes : codes "asof" ≡ codes "votes" → ⊥
 asof-not-votes e = absurd (cc)
 
 audit-not-votes : codes "audit" ≡ codes "votes" → ⊥
-audit-not-votes e = absurd (cc)
+audit-not-votes e = other-first 97 118 (codes "udit") (codes "otes") (λ k. omega (arith, k)) e
 
 ticks-not-messages : codes "--ticks" ≡ codes "--messages" → ⊥
 ticks-not-messages e = absurd (cc)

@@ -39,7 +39,7 @@ module _ {M : Type 0} (w : Media M) (old new : ShelfSight) (kept : List (Kept M)
   pub tellsanswer-kept : (q : Question) → TellsAnswer w old new q kept s status → AllKept old new kept
   tellsanswer-kept q h =
       let over = h.over in
-      subst (AllKept old new) (ap (λ k. kept_under (first_names (asked_of q) k) (map medium_in over.openings)) (AllZip-long (HasOpened w) over.media over.openings over.volumes.opened) ∙ sym over.handed)
+      subst (AllKept old new) (ap (λ k. kept_under (first_names (asked_of q) k) (map medium_in over.openings)) (sym (AllZip-long (HasOpened w) over.media over.openings over.volumes.opened)) ∙ sym over.handed)
       (all-kept w old new (first_names (asked_of q) (length over.media)) over.media (map medium_in over.openings) over.volumes.taken (back-all w over.media over.openings (map medium_in over.openings) over.volumes.opened over.keep))
 
 told-most : (status : ℕ) (s : Sinking) (there : ℕ) (text : List ℕ) → there ≤ 8 → Ends status s there text → status ≤ 8

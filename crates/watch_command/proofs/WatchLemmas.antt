@@ -1,9 +1,10 @@
 -- What is written into the volume of totals, and what comes of a watch.
-use Rattle.std.proofs.Common.{◌≡◌, ◌≢◌, ◌⊎◌, ◌<◌, ℕ, ℤ, IsTrue, List, [], ◌∷◌, ◌++◌, length, map, reverse, refl, sym, ◌∙◌, ap, subst, Option, Some, None, inl, inr}
+use Rattle.std.proofs.Common.{◌≤◌, arith, length-append, ◌≡◌, ◌≢◌, ◌⊎◌, ◌<◌, ℕ, ℤ, IsTrue, List, [], ◌∷◌, ◌++◌, length, map, reverse, refl, sym, ◌∙◌, ap, subst, Option, Some, None, inl, inr}
 use Rattle.std.specs.Prelude.{Result, Ok, Err, IfOk, Vec}
 use Rattle.std.specs.declared.alloc.Global.{Global}
 use Rattle.std.proofs.lemmas.List.{length-map}
 use Rattle.std.proofs.lemmas.Slice.Zip.{AllZip-long}
+use Rattle.pseudo_time.specs.Lists.{Has}
 use Rattle.pseudo_time.specs.Nodes.{repository as named}
 use Rattle.pseudo_time.specs.declared.nodes.NodeId.{NodeId}
 use Rattle.pseudo_time.specs.declared.down_causes.DownCause.{DownCause}
@@ -13,6 +14,7 @@ use Rattle.effect_form.specs.declared.effects.Effect.{Effect}
 use Rattle.effect_form.specs.Effects.{AreEffects}
 use Rattle.object_history.specs.declared.marks.Mark.{Mark}
 use Rattle.medium_port.specs.Image.{Image}
+use Rattle.medium_port.specs.declared.shelves.MediumName.{MediumName}
 use Rattle.version_store.specs.declared.stores.Store.{Store}
 use Rattle.version_store.specs.declared.faults.StoreFault.{StoreFault}
 use Rattle.version_store.specs.declared.faults.StoreFault.TheVariants as adding
@@ -30,15 +32,18 @@ use Rattle.run_media.specs.Media.{Media}
 use Rattle.run_media.specs.Openings.{HasOpened, medium_in}
 use Rattle.run_volumes.specs.declared.kept.Kept.{Kept}
 use Rattle.run_volumes.specs.Kept.{kept_as, kept_under}
-use Rattle.run_volumes.specs.Shelves.{ShelfSight, TakesOne, first_names, volume_name}
+use Rattle.run_volumes.specs.Shelves.{ShelfSight, TakesOne, WereTaken, first_names, volume_name}
 use Rattle.run_volumes.specs.Standings.{Stands}
 use Rattle.run_volumes.specs.Volumes.{AreOpen, AreVolumes, logs_of}
+use Rattle.run_volumes.proofs.ShelfLemmas.{names-below, taken-both, taken-one}
 use Rattle.run_volumes.proofs.StandLemmas.{given-back, stand-all}
+use Rattle.run_volumes.proofs.VolumeLemmas.{go-few}
 use Rattle.archive_command.specs.Answers.{IsFallen}
 use Rattle.archive_command.specs.Archives.{joined_marks}
 use Rattle.archive_command.specs.declared.outcomes.Outcome.{Outcome}
 use Rattle.archive_command.specs.declared.outcomes.Outcome.TheVariants.{Told, Refused, Fallen, NoMemory}
 use Rattle.command_words.specs.declared.rules.Rule.{Rule}
+use Rattle.command_words.specs.declared.rules.Rule.TheVariants.{Count, Sum, Last}
 use Rattle.watch_command.specs.Lines.{down_watch_line, overflow_line, watch_text}
 use Rattle.watch_command.specs.Totals.{AreTotals, new_puts, outcome_of, totals_volume}
 use Rattle.watch_command.specs.Watches.{Adds, ComesOf, ComesTo, CutsOff, HasFront, Holds, IsReady, Keeps, RefusesFor, Stops, StopsBefore, TotalsOver, WatchesOver}
@@ -89,6 +94,27 @@ module _ {M : Type 0} (w : Media M) where
   comes-stopped repository rule marks log store (Refused line) m h is holds = (h, (is, subst (Holds w log) (sym is) holds))
   comes-stopped repository rule marks log store (Fallen line) m h is holds = absurd h
   comes-stopped repository rule marks log store NoMemory m h is holds = inl (is, subst (Holds w log) (sym is) holds)
+
+-- ---- the volume of totals has a name of its own
+
+high : (rule : Rule) → 1000 ≤ totals_volume rule
+high Count = omega arith
+high Sum = omega arith
+high Last = omega arith
+
+far : (n : NodeId) (k v : ℕ) → k ≤ v → (name : MediumName) → Has name (volume_name n v ∷ []) → Has name (first_names n k) → ⊥
+far n k v above name (inl e) h =
+    let r = names-below n k name h in
+    let same : v ≡ r.0 = ap (λ (x : MediumName). x.volume) (e ∙ r.2) in
+    let low = r.1 in absurd (omega (arith, same, low, above))
+far n k v above name (inr none) h = none
+
+few-media : {M : Type 0} (w : Media M) {g : _} (old new : ShelfSight) (n : NodeId) (media : List (Option M)) (os : List (Opening M g)) → AreVolumes w old new n media os → length media ≤ 1000
+few-media w old new n media os vs =
+    let zip = AllZip-long (HasOpened w) media os vs.opened in
+    let e = ap length vs.ends.is ∙ length-append vs.ends.front (vs.ends.last ∷ []) in
+    let few = go-few n.kind 0 vs.ends.front (omega arith) vs.ends.go_on in
+    omega (arith, zip, e, few)
 
 -- ---- over the volumes
 
@@ -148,18 +174,39 @@ module _ {M : Type 0} (w : Media M) (old new : ShelfSight) (repository : ℕ) (r
     came = came;
   }
 
-  pub watches-over : (between : ShelfSight) (n : NodeId) (v : ℕ) (media : List (Option M)) (os : List (Opening M w)) (shown : List Mark) (front kept : List (Kept M)) (left : Option M) (r : Outcome) → n ≡ named repository → v ≡ totals_volume rule →
-      AreVolumes w old between n media os → AreOpen os → front ≡ kept_under (first_names n (length os)) (map medium_in os) → kept ≡ front ++ kept_as (volume_name n v) left → shown ≡ joined_marks (logs_of os) →
+module _ {M : Type 0} (w : Media M) (old between new : ShelfSight) (repository : ℕ) (rule : Rule) where
+  -- behind the repository's volumes that of its totals was taken
+  taken-all : (media : List (Option M)) (os : List (Opening M w)) (taken : Option M) → AreVolumes w old between (named repository) media os → TakesOne w between new (volume_name (named repository) (totals_volume rule)) taken →
+      WereTaken w old new (first_names (named repository) (length media) ++ volume_name (named repository) (totals_volume rule) ∷ []) (media ++ taken ∷ [])
+  taken-all media os taken volumes takes =
+      let n = named repository in
+      let v = totals_volume rule in
+      let few = few-media w old between n media os volumes in
+      let up = high rule in
+      taken-both w old between new (first_names n (length media)) media (volume_name n v ∷ []) (taken ∷ []) volumes.taken (taken-one w between new (volume_name n v) taken takes) (far n (length media) v (omega (arith, few, up)))
+
+  over-home : (media : List (Option M)) (os : List (Opening M w)) (shown : List Mark) (front kept : List (Kept M)) (left : Option M) (r : Outcome) → AreVolumes w old between (named repository) media os → AreOpen os →
+      front ≡ kept_under (first_names (named repository) (length os)) (map medium_in os) → kept ≡ front ++ kept_as (volume_name (named repository) (totals_volume rule)) left → shown ≡ joined_marks (logs_of os) →
       TotalsOver w between new repository rule (reverse shown) r left → WatchesOver w old new repository rule kept r
-  watches-over between n v media os shown front kept left r home which volumes opened handed one is totals = record {
+  over-home media os shown front kept left r volumes opened handed one is t = record {
     media = media;
+    taken = t.taken;
+    are = taken-all media os t.taken volumes t.takes;
     openings = os;
-    between = between;
-    volumes = subst (λ x. AreVolumes w old between x media os) home volumes;
+    volumes = volumes.opened;
+    ends = volumes.ends;
     opened = opened;
     keep = given-back w os (map medium_in os) (stand-all w media os volumes.opened) refl;
+    opening = t.opening;
+    has = t.has;
     left = left;
-    totals = subst (λ l. TotalsOver w between new repository rule (reverse l) r left) is totals;
-    handed = subst (λ z. kept ≡ kept_under (first_names (named repository) (length os)) (map medium_in os) ++ kept_as (volume_name (named repository) z) left) which
-        (subst (λ x. kept ≡ kept_under (first_names x (length os)) (map medium_in os) ++ kept_as (volume_name x v) left) home (one ∙ ap (λ l. l ++ kept_as (volume_name n v) left) handed));
+    came = subst (λ l. ComesTo w repository rule (reverse l) t.opening r left) is t.came;
+    handed = one ∙ ap (λ l. l ++ kept_as (volume_name (named repository) (totals_volume rule)) left) handed;
   }
+
+  pub watches-over : (n : NodeId) (v : ℕ) (media : List (Option M)) (os : List (Opening M w)) (shown : List Mark) (front kept : List (Kept M)) (left : Option M) (r : Outcome) → n ≡ named repository → v ≡ totals_volume rule →
+      AreVolumes w old between n media os → AreOpen os → front ≡ kept_under (first_names n (length os)) (map medium_in os) → kept ≡ front ++ kept_as (volume_name n v) left → shown ≡ joined_marks (logs_of os) →
+      TotalsOver w between new repository rule (reverse shown) r left → WatchesOver w old new repository rule kept r
+  watches-over n v media os shown front kept left r home which volumes opened handed one is t =
+      over-home media os shown front kept left r (subst (λ x. AreVolumes w old between x media os) home volumes) opened (subst (λ x. front ≡ kept_under (first_names x (length os)) (map medium_in os)) home handed)
+      (subst (λ z. kept ≡ front ++ kept_as (volume_name (named repository) z) left) which (subst (λ x. kept ≡ front ++ kept_as (volume_name x v) left) home one)) is t

@@ -1,7 +1,9 @@
 -- What comes of a watch of a repository, over its volumes and that of its totals.
-use Rattle.std.specs.Prelude.{◌≡◌, ◌⊎◌, ℕ, ℤ, ◌<◌, IsTrue, List, [], ◌++◌, length, map, Option, Some, None, Ok}
+use Rattle.std.specs.Prelude.{◌≡◌, ◌⊎◌, ℕ, ℤ, ◌<◌, IsTrue, List, [], ◌∷◌, ◌++◌, length, map, Option, Some, None, Ok}
+use Rattle.std.specs.List.{AllZip}
 use Rattle.pseudo_time.specs.TimeParts.{TimeParts}
 use Rattle.pseudo_time.specs.Nodes.{repository as named}
+use Rattle.pseudo_time.specs.declared.nodes.NodeKind.TheVariants.{Repository}
 use Rattle.pseudo_time.specs.declared.down_causes.DownCause.{DownCause}
 use Rattle.pseudo_time.specs.declared.down_causes.DownCause.TheVariants as down
 use Rattle.stream_port.specs.Causes.{Rose}
@@ -23,9 +25,9 @@ use Rattle.run_media.specs.declared.openings.Opening.TheVariants.{Open, Shut, Wa
 use Rattle.run_media.specs.Media.{Media}
 use Rattle.run_media.specs.Openings.{HasOpened, medium_in}
 use Rattle.run_volumes.specs.Kept.{kept_as, kept_under}
-use Rattle.run_volumes.specs.Shelves.{ShelfSight, TakesOne, first_names, volume_name}
+use Rattle.run_volumes.specs.Shelves.{ShelfSight, TakesOne, WereTaken, first_names, volume_name}
 use Rattle.run_volumes.specs.Standings.{WritesNothing}
-use Rattle.run_volumes.specs.Volumes.{AreOpen, AreVolumes, logs_of}
+use Rattle.run_volumes.specs.Volumes.{AreOpen, AreVolumes, EndRightly, logs_of}
 use Rattle.run_volumes.specs.declared.kept.Kept.{Kept}
 use Rattle.archive_command.specs.declared.outcomes.Outcome.{Outcome}
 use Rattle.archive_command.specs.declared.outcomes.Outcome.TheVariants.{Told, Refused, Fallen, NoMemory}
@@ -178,16 +180,19 @@ module _ {M : Type 0} (w : Media M) (old new : ShelfSight) (repository : ℕ) (r
     pub keep : WritesNothing w openings (map medium_in openings)
     pub came : Keeps repository openings r
 
-module _ {M : Type 0} (w : Media M) (old new : ShelfSight) (repository : ℕ) (rule : Rule) where
   -- The repository's volumes were taken and opened, and then that of its totals, and this came of it. Nothing is written to the repository's volumes. All are handed back.
   pub record WatchesOver (kept : List (Kept M)) (r : Outcome) : Type 0 where
     pub media : List (Option M)
+    pub taken : Option M
+    pub are : WereTaken w old new (first_names (named repository) (length media) ++ volume_name (named repository) (totals_volume rule) ∷ []) (media ++ taken ∷ [])
     pub openings : List (Opening M w)
-    pub between : ShelfSight
-    pub volumes : AreVolumes w old between (named repository) media openings
+    pub volumes : AllZip (HasOpened w) media openings
+    pub ends : EndRightly Repository openings
     pub opened : AreOpen openings
     pub keep : WritesNothing w openings (map medium_in openings)
+    pub opening : Opening M w
+    pub has : HasOpened w taken opening
     pub left : Option M
-    pub totals : TotalsOver w between new repository rule (newest_first (logs_of openings)) r left
+    pub came : ComesTo w repository rule (newest_first (logs_of openings)) opening r left
     pub handed : kept ≡ kept_under (first_names (named repository) (length openings)) (map medium_in openings)
         ++ kept_as (volume_name (named repository) (totals_volume rule)) left

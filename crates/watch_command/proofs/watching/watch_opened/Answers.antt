@@ -1,6 +1,6 @@
 use Rattle.std.proofs.Common.{reverse, subst, sym}
 use Rattle.effect_form.specs.Effects.{AreEffects}
-use Rattle.watch_command.proofs.WatchLemmas.{opened-stands, opened-stopped, opened-written, shut-comes, wanting-comes}
+use Rattle.watch_command.proofs.WatchLemmas.{opened-stands, opened-stopped, opened-written, shut-comes}
 use Rattle.watch_command.proofs.watching.watch_opened.Goals as goal
 
 pub prepare-requires-clause-log : goal.prepare-requires-clause-log
@@ -16,14 +16,6 @@ returns-in-Ok g c =
     opened-written g.M.Medium c.args.repository c.args.rule (reverse c.args.marks.now) c.args.opening c.in-Open.store c.in-Open.effects c.as_slice.result.now c.in-Ok.prepared.puts.items c.in-Ok.prepared.text
     c.add_puts-outcome.result.0 c.add_puts-outcome.result.1 c.in-Open.is c.as_slice.ensures.value c.requires.stands c.in-Ok.ensures.ready c.add_puts-outcome.ensures
 
-pub returns-in-Err : goal.returns-in-Err
-returns-in-Err g c =
-    opened-stopped g.M.Medium c.args.repository c.args.rule (reverse c.args.marks.now) c.args.opening c.in-Open.store c.in-Open.effects c.as_slice.result.now c.in-Err.outcome c.release.result c.in-Open.is c.as_slice.ensures.value
-    c.requires.stands c.in-Err.ensures.stops c.release.ensures
-
 pub returns-in-Shut : goal.returns-in-Shut
 returns-in-Shut g c =
     shut-comes g.M.Medium c.args.repository c.args.rule (reverse c.args.marks.now) c.args.opening c.in-Shut.medium c.in-Shut.cause c.down_watch_line.result c.fallen.result c.in-Shut.is c.down_watch_line.ensures c.fallen.ensures
-
-pub returns-in-Wanting : goal.returns-in-Wanting
-returns-in-Wanting g c = wanting-comes g.M.Medium c.args.repository c.args.rule (reverse c.args.marks.now) c.args.opening c.in-Wanting.medium c.in-Wanting.is
