@@ -1,8 +1,8 @@
 -- What the parts of a call say, said in the words of its promise.
-use Rattle.std.proofs.Common.{◌≡◌, ◌⊎◌, ◌≤◌, ◌==◌, inl, inr, ℕ, Bool, true, false, IsTrue, List, [], ◌∷◌, Option, Result, Some, None, Ok, Err, refl, ap, sym, subst, ◌∙◌, arith, if◌then◌else◌}
+use Rattle.std.proofs.Common.{◌≡◌, ◌⊎◌, ◌≤◌, ◌==◌, inl, inr, ℕ, Bool, true, false, IsTrue, List, [], ◌∷◌, length, Option, Result, Some, None, Ok, Err, refl, ap, sym, subst, ◌∙◌, arith, if◌then◌else◌}
 use Rattle.std.specs.Io.KnownBytes.{IsAtEnd}
 use Rattle.std.specs.Option.{unwrap_or}
-use Rattle.pseudo_time.specs.Lists.{Has}
+use Rattle.pseudo_time.specs.Lists.{Every, Has}
 use Rattle.plan_form.specs.declared.plans.Plan.{Plan}
 use Rattle.plan_form.specs.PlanFaults.{IsPlanFault}
 use Rattle.plan_form.specs.Plans.{IsPlan}
@@ -48,7 +48,7 @@ use Rattle.votes_command.specs.VoteEnd.{VoteEnd}
 use Rattle.votes_command.specs.VoteEnd.TheVariants.{Told}
 use Rattle.votes_command.specs.VoteEnd.TheVariants as voted
 use Rattle.votes_command.specs.Faults.{IsInputFault}
-use Rattle.votes_command.specs.Inputs.{IsInput}
+use Rattle.votes_command.specs.Inputs.{IsInput, IsPoll}
 use Rattle.votes_command.specs.PollLine.{PollLine}
 use Rattle.votes_command.specs.Statuses.{all_held}
 use Rattle.swallow_top.specs.Votes.{AreNoPolls, HavePolled, ReadsPolls, TellsVotes, limits_of, tellers_of, votes_status}
@@ -244,15 +244,27 @@ module _ {M : Type 0} (c : Call M) where
   pub promise-no-polls : (o : Options) (s : Stop) → AreWords (Votes o) c.words → ReadsPolls c.input c.left c.faults_before c.faults (Err s) → RefusedAs s c.status c.sink → ((status : ℕ) → c.status ≡ status → TouchedNothing c status) → AllKept c.shelf_before c.shelf c.media → Promise c
   promise-no-polls o s words read refused quiet kept = record { done = refused-votes o s words read refused quiet; kept = kept; statuses = refused-most s refused; votes = inl (quiet c.status refl).no_votes }
 
-  pub promise-votes : (o : Options) (polls : Vec PollLine Global) → AreWords (Votes o) c.words → ReadsPolls c.input c.left c.faults_before c.faults (Ok polls) →
-      (AskedNothing c.media_are c.shelf_before c.shelf c.media c.status × HasNoRun c.told × (c.votes ≡ no_trace)) ⊎ HavePolled c.media_are c.shelf_before c.shelf polls.items o c.told c.votes c.media c.sink c.status → Promise c
-  promise-votes o polls words read (inl h) = promise-unasked h.0 h.1 h.2
-  promise-votes o polls words read (inr h) = record {
-    done = inr (inr (Votes o, words, inr (inr (read.1, of_input-with c.input (λ input. IsInput input polls.items) (λ input. (ps : List PollLine) × IsInput input ps × HavePolled c.media_are c.shelf_before c.shelf ps o c.told c.votes c.media c.sink c.status) (λ input is. (polls.items, is, h)) read.0))));
-    kept = votes-kept c.media_are c.shelf_before c.shelf (limits_of o) polls.items (tellers_of c.told) c.media h.end h.over;
+  pub promise-votes : (o : Options) (polls : Vec PollLine Global) (ps : List PollLine) → ps ≡ polls.items → AreWords (Votes o) c.words → ReadsPolls c.input c.left c.faults_before c.faults (Ok polls) →
+      (AskedNothing c.media_are c.shelf_before c.shelf c.media c.status × HasNoRun c.told × (c.votes ≡ no_trace)) ⊎ HavePolled c.media_are c.shelf_before c.shelf ps o c.told c.votes c.media c.sink c.status → Promise c
+  promise-votes o polls ps same words read (inl h) = promise-unasked h.0 h.1 h.2
+  promise-votes o polls ps same words read (inr h) = record {
+    done = inr (inr (
+      Votes o,
+      words,
+      inr (inr (
+        read.1,
+        of_input-with c.input (λ input. IsInput input polls.items) (λ input. (qs : List PollLine) × IsInput input qs × HavePolled c.media_are c.shelf_before c.shelf qs o c.told c.votes c.media c.sink c.status)
+            (λ input is. (ps, subst (λ l. IsInput input l) (sym same) is, h)) read.0,
+      )),
+    ));
+    kept = votes-kept c.media_are c.shelf_before c.shelf (limits_of o) ps (tellers_of c.told) c.media h.end h.over;
     statuses = voted-most h.end c.votes c.sink c.status h.written;
     votes = inr (o, words);
   }
+
+-- polls that were read are lines of an input
+pub polls-of : (left new : Option (List ℕ)) (before after : ℕ) (polls : Vec PollLine Global) → ReadsPolls left new before after (Ok polls) → Every IsPoll polls.items × (length polls.items ≤ 16)
+polls-of left new before after polls read = of_input-all left (λ input. IsInput input polls.items) (Every IsPoll polls.items × (length polls.items ≤ 16)) (λ input h. (h.1.each, h.1.few)) read.0
 
 -- a plan that was read is of the language
 pub language-of : (left new : Option (List ℕ)) (before after : ℕ) (plan : Plan) → ReadsPlan left new before after (Ok plan) → IsOfLanguage plan

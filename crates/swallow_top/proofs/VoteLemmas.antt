@@ -52,6 +52,7 @@ module _ {M : Type 0} (w : Media M) (old new : ShelfSight) where
     where
       done : (tick_count t.entries ≡ 0) × AllHold (lines_of polls) t
       done = h.ended.0.completes content (subst (λ x. AreSmooth w polls o.messages h.media h.left x) tells.0 smooth)
+
       by : EndsIfAny status s (votes_status t standings) (told_text t standings) → (status ≡ 7) ⊎ ((status ≡ 0) × (tick_count votes.entries ≡ 0))
       by (inl e) = inl e
       by (inr (inl e)) = inr (e.0 ∙ ap (λ b. status_with b (some_down t.entries)) (all-told polls t standings (h.ended.1.held content) done.1), ap (λ (x : Trace). tick_count x.entries) tells.0 ∙ done.0)

@@ -37,6 +37,7 @@ use Rattle.world_core.specs.declared.traces.Sent.{Sent}
 use Rattle.world_core.specs.declared.traces.Trace.{Trace}
 use Rattle.world_core.specs.Legal.{Idle, fates_of, is_within, post_of}
 use Rattle.world_core.specs.Walks.{Flags, Sending, flagged, is_down, names, own}
+use Rattle.trace_report.specs.Counts as counting
 use Rattle.trace_report.specs.Counts.{down_cause, tick_count}
 use Rattle.vote_members.specs.Closings.{Grows, HasGrown}
 use Rattle.vote_members.specs.Costs.{cost_of, costs}
@@ -110,7 +111,7 @@ crash-free of [] c = tt
 crash-free of (e ∷ es) c = (one e c.0, crash-free of es c.1)
   where
     one : (e : Entry) → stops of e ≡ false → is_crash e ≡ false
-    one (Crash n kept) h = absurd (clash true (sym h) refl)
+    one (Crash n kept) h = absurd (clash true h refl)
     one e h = refl
 
 -- ---- nodes
@@ -280,16 +281,16 @@ ok-log a b e = cc e
 ok-err : (a : List Effect) (page : ℕ) → ◌≡◌ {A = Result (List Effect) ℕ} (Ok a) (Err page) → ⊥
 ok-err a page e = cc e
 
+tick-none : (e : Entry) → is_tick e ≡ false → ◌≡◌ {A = ℕ} (cond (counting.is_tick e) 1 0) 0
+tick-none (Tick moment) h = absurd (clash true h refl)
+tick-none e h = refl
+
+tick-more : (e : Entry) (es : List Entry) → tick_count (e ∷ es) ≡ cond (counting.is_tick e) 1 0 + tick_count es
+tick-more e es = sum_by-cons (λ (x : Entry). cond (counting.is_tick x) 1 0) e es
+
 no-ticks : (es : List Entry) → Every (λ (e : Entry). is_tick e ≡ false) es → tick_count es ≡ 0
 no-ticks [] h = refl
-no-ticks (e ∷ es) h = sum_by-cons (λ (x : Entry). cond (ticks x) 1 0) e es ∙ (let rest = no-ticks es h.1 in let one = none e h.0 in omega (arith, rest, one))
-  where
-    ticks : Entry → Bool
-    ticks = Rattle.trace_report.specs.Counts.is_tick
-
-    none : (e : Entry) → is_tick e ≡ false → cond (ticks e) 1 0 ≡ 0
-    none (Tick moment) h = absurd (clash true (sym h) refl)
-    none e h = refl
+no-ticks (e ∷ es) h = let more = tick-more e es in let rest = no-ticks es h.1 in let one = tick-none e h.0 in omega (arith, more, rest, one)
 
 same-length : {X Y Z : Type 0} (f : X → Z) (g : Y → Z) (xs : List X) (ys : List Y) → map f xs ≡ map g ys → length xs ≡ length ys
 same-length f g xs ys e = sym (length-map xs f) ∙ ap length e ∙ length-map ys g
@@ -476,7 +477,7 @@ module _ {M : Type 0} (w : Media M) (most_ticks enough : ℕ) (lines : List Line
   but out n = not (same_node n (member out))
 
   but-out : (out s : MemberNumber) → but out (member s) ≡ true → s ≢ out
-  but-out out s mine same = clash true (sym mine) (ap (λ z. not (same_node (member z) (member out))) same ∙ ap not (same_node-refl (member out)))
+  but-out out s mine same = clash (but out (member s)) (ap (λ z. not (same_node (member z) (member out))) same ∙ ap not (same_node-refl (member out))) mine
 
   but-other : (out s : MemberNumber) → s ≢ out → but out (member s) ≡ true
   but-other out s apart = ap not (apart-nodes s out apart)

@@ -6,7 +6,7 @@ use Rattle.record_votes.specs.Polls.{held}
 use Rattle.world_core.specs.declared.traces.Trace.{Trace}
 use Rattle.vote_call.specs.Polls.{line_of, lines_of, standing_from}
 use Rattle.vote_form.specs.declared.poll_lines.PollLine.{PollLine}
-use Rattle.vote_promise.specs.Clauses.{AllHold}
+use Rattle.vote_call.specs.Clauses.{AllHold}
 use Rattle.vote_report.specs.Statuses.{all_held}
 use Rattle.vote_report.specs.declared.standings.PollStanding.{PollStanding}
 use Rattle.vote_traces.specs.Legal.{hall_after}

@@ -8,8 +8,8 @@ pub use Rattle.vote_call.specs.declared.voting.VoteEnd
 pub use Rattle.vote_form.specs.Faults
 pub use Rattle.vote_form.specs.Inputs
 pub use Rattle.vote_form.specs.declared.poll_lines.PollLine
-pub use Rattle.vote_promise.specs.Clauses
+pub use Rattle.vote_call.specs.Clauses
 pub use Rattle.vote_report.specs.Statuses
 pub use Rattle.vote_report.specs.Texts
 pub use Rattle.vote_report.specs.declared.standings.PollStanding
-pub use Rattle.vote_run.specs.declared.limits.Limits
+pub use Rattle.vote_call.specs.Limits

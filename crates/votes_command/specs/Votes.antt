@@ -12,8 +12,8 @@ use Rattle.vote_call.specs.declared.member_media.MemberMedia.{MemberMedia}
 use Rattle.vote_call.specs.declared.voting.VoteEnd.{VoteEnd}
 use Rattle.vote_call.specs.declared.voting.VoteEnd.TheVariants.{NoMemory}
 use Rattle.vote_form.specs.declared.poll_lines.PollLine.{PollLine}
-use Rattle.vote_promise.specs.Clauses.{IsSmooth, Tellers}
-use Rattle.vote_run.specs.declared.limits.Limits.{Limits}
+use Rattle.vote_call.specs.Clauses.{IsSmooth, Tellers}
+use Rattle.vote_call.specs.Limits.{Limits}
 use Rattle.world_core.specs.declared.traces.Trace.{Trace}
 use Rattle.votes_command.specs.Members.{in_order, member_names}
 

@@ -1,7 +1,10 @@
-use Rattle.std.proofs.Common.{◌⊎◌, ◌∙◌, ap, refl, sym, subst}
+use Rattle.std.proofs.Common.{◌⊎◌, ◌∙◌, ◌≤◌, ap, length, refl, sym, subst}
+use Rattle.pseudo_time.specs.Lists.{Every}
 use Rattle.plan_form.specs.PlanTexts.{IsOfLanguage}
 use Rattle.plan_form.proofs.MadeLemmas.{made_is_whole}
 use Rattle.command_words.specs.Words.{AreWords, said}
+use Rattle.command_words.proofs.WordLemmas.{few-ticks}
+use Rattle.votes_command.specs.Inputs.{IsPoll}
 use Rattle.swallow_top.specs.Contract.{RefusedAs}
 use Rattle.swallow_top.specs.Histories.{AskedNothing, TellsHistory}
 use Rattle.archive_command.specs.declared.questions.Question.TheVariants as question
@@ -9,7 +12,7 @@ use Rattle.swallow_top.specs.Outcomes.{TellsAnswer, TellsWatch}
 use Rattle.swallow_top.specs.Retirements.{TellsRetirement, mark_at}
 use Rattle.run_volumes.specs.Shelves.{shelf_sight}
 use Rattle.swallow_top.specs.Written.{sinking}
-use Rattle.swallow_top.proofs.PromiseLemmas.{language-of, promise-audit, promise-history, promise-load, promise-map, promise-refused, promise-retire, promise-run, promise-watch, quiet-call, some-workers}
+use Rattle.swallow_top.proofs.PromiseLemmas.{language-of, polls-of, promise-audit, promise-history, promise-load, promise-map, promise-no-polls, promise-refused, promise-retire, promise-run, promise-votes, promise-watch, quiet-call, some-workers}
 use Rattle.swallow_top.proofs.top.swallow.Goals as goal
 
 pub run_plan-requires-clause-plan : goal.run_plan-requires-clause-plan
@@ -79,6 +82,33 @@ returns-in-Some-Retire g c =
     record {
       promise = promise-retire _ r mark (refl, refl) (subst (λ x. AreWords x (said c.args.words.now)) c.in-Some-Retire.field-0-is c.in-Some-Retire.ensures.words) tells
           (record { trace = q.trace; fates = ap g.F.Fates.asked q.told.0; clock = ap g.C.Clock.answers q.told.1 }) q.votes;
+    }
+
+pub tell_votes-requires-clause-polls : goal.tell_votes-requires-clause-polls
+tell_votes-requires-clause-polls g c =
+    subst (λ l. Every IsPoll l) (sym c.as_slice.ensures.value) (polls-of (g.I.Source.left c.args.source.now) (g.I.Source.left c.read_polls.new.source) (g.I.Source.faults c.args.source.now) (g.I.Source.faults c.read_polls.new.source) c.in-Ok-read_polls.polls c.in-Ok-read_polls.ensures).0
+
+pub tell_votes-requires-clause-few : goal.tell_votes-requires-clause-few
+tell_votes-requires-clause-few g c =
+    subst (λ l. length l ≤ 16) (sym c.as_slice.ensures.value) (polls-of (g.I.Source.left c.args.source.now) (g.I.Source.left c.read_polls.new.source) (g.I.Source.faults c.args.source.now) (g.I.Source.faults c.read_polls.new.source) c.in-Ok-read_polls.polls c.in-Ok-read_polls.ensures).1
+
+pub tell_votes-requires-clause-ticks : goal.tell_votes-requires-clause-ticks
+tell_votes-requires-clause-ticks g c = few-ticks c.in-Some-Votes.options (subst (λ x. AreWords x (said c.args.words.now)) c.in-Some-Votes.field-0-is c.in-Some-Votes.ensures.words).0 (subst (λ x. AreWords x (said c.args.words.now)) c.in-Some-Votes.field-0-is c.in-Some-Votes.ensures.words).2
+
+pub returns-in-Ok-read_polls : goal.returns-in-Ok-read_polls
+returns-in-Ok-read_polls g c = record {
+  promise = promise-votes _ c.in-Some-Votes.options c.in-Ok-read_polls.polls c.as_slice.result.now c.as_slice.ensures.value (subst (λ x. AreWords x (said c.args.words.now)) c.in-Some-Votes.field-0-is c.in-Some-Votes.ensures.words) c.in-Ok-read_polls.ensures c.tell_votes.ensures.polled;
+}
+
+pub returns-in-Err-read_polls : goal.returns-in-Err-read_polls
+returns-in-Err-read_polls g c =
+    let q = c.quiet-in-Err-read_polls.ensures in
+    let k = g.O.Sink in
+    let s = sinking (k.taken c.args.sink.now) (k.taken c.refused-status-in-Err-read_polls.new.sink) (k.faults c.args.sink.now) (k.faults c.refused-status-in-Err-read_polls.new.sink) in
+    record {
+      promise = promise-no-polls _ c.in-Some-Votes.options c.in-Err-read_polls.stop (subst (λ x. AreWords x (said c.args.words.now)) c.in-Some-Votes.field-0-is c.in-Some-Votes.ensures.words) c.in-Err-read_polls.ensures
+          (subst (λ n. RefusedAs c.in-Err-read_polls.stop n s) (sym q.status) c.refused-status-in-Err-read_polls.ensures)
+          (λ status is. quiet-call _ status is (q.media ∙ c.new-in-Err-read_polls.ensures.items) refl q.trace (ap g.F.Fates.asked q.told.0) (ap g.C.Clock.answers q.told.1) q.votes) (λ name is was. absurd (was is));
     }
 
 pub returns-in-Some-Watch : goal.returns-in-Some-Watch
