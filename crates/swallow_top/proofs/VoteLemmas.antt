@@ -79,5 +79,5 @@ module _ {M : Type 0} (w : Media M) (old new : ShelfSight) where
   -- the members' media are handed back
   pub votes-kept : (limits : Limits) (polls : List PollLine) (told : Tellers) (kept : List (Kept M)) (end : VoteEnd) → VotesOver w old new limits polls told kept end → AllKept old new kept
   votes-kept limits polls told kept end h =
-      let back : AreBack (in_order h.media) (in_order h.left) = (h.safe.first.back, h.safe.second.back, h.safe.third.back, tt) in
+      let back : AreBack (in_order h.media) (in_order h.left) = (h.safe.first.back, (h.safe.second.back, (h.safe.third.back, tt))) in
       subst (AllKept old new) (sym h.handed) (all-kept w old new member_names (in_order h.media) (in_order h.left) h.taken back)
