@@ -13,7 +13,7 @@ use Rattle.std.proofs.lemmas.Str.Parse.{digit_from_value, numerals_by_value, tel
 use Rattle.value_form.specs.declared.objects.ObjectId.{ObjectId}
 use Rattle.command_words.specs.declared.options.Given.{Given}
 use Rattle.command_words.specs.declared.commands.Options.{Options}
-use Rattle.command_words.specs.declared.commands.Command.TheVariants.{Run, Load, History, Retire, Votes}
+use Rattle.command_words.specs.declared.commands.Command.TheVariants.{Run, Load, History, Retire, Votes, Watch, AsOf, Audit}
 use Rattle.command_words.specs.Words.{AreGiven, AreNone, AreOptions, AreVoteOptions, IsLoad, IsNumber, IsObjectWord, IsPlain, IsWith, said}
 
 -- ---- what is written of a number
@@ -110,6 +110,15 @@ run-not-history e = absurd (cc)
 run-not-retire : codes "run" ≡ codes "retire" → ⊥
 run-not-retire e = absurd (cc)
 
+run-not-watch : codes "run" ≡ codes "watch" → ⊥
+run-not-watch e = absurd (cc)
+
+run-not-asof : codes "run" ≡ codes "asof" → ⊥
+run-not-asof e = absurd (cc)
+
+run-not-audit : codes "run" ≡ codes "audit" → ⊥
+run-not-audit e = absurd (cc)
+
 run-not-votes : codes "run" ≡ codes "votes" → ⊥
 run-not-votes e = absurd (cc)
 
@@ -121,6 +130,19 @@ history-not-votes e = absurd (cc)
 
 retire-not-votes : codes "retire" ≡ codes "votes" → ⊥
 retire-not-votes e = absurd (cc)
+
+-- words that begin with other letters
+other-first : (a b : ℕ) (xs ys : List ℕ) → a ≢ b → a ∷ xs ≡ b ∷ ys → ⊥
+other-first a b xs ys other e = other (ap (λ zs. get_or zs 0 0) e)
+
+watch-not-votes : codes "watch" ≡ codes "votes" → ⊥
+watch-not-votes e = other-first 119 118 (codes "atch") (codes "otes") (λ k. omega (arith, k)) e
+
+asof-not-votes : codes "asof" ≡ codes "votes" → ⊥
+asof-not-votes e = absurd (cc)
+
+audit-not-votes : codes "audit" ≡ codes "votes" → ⊥
+audit-not-votes e = other-first 97 118 (codes "udit") (codes "otes") (λ k. omega (arith, k)) e
 
 ticks-not-messages : codes "--ticks" ≡ codes "--messages" → ⊥
 ticks-not-messages e = absurd (cc)
@@ -252,6 +274,18 @@ run-alone (a ∷ ws) h first bad (Votes o) (more, are, options) = run-not-votes 
   where
     front : {x : List ℕ} {more : List (List ℕ)} → a.now ∷ said ws ≡ x ∷ more → a.now ≡ x
     front e = cc
+run-alone (a ∷ ws) h first bad (Watch repository rule) is = let are = is.are in run-not-watch (sym first ∙ front are)
+  where
+    front : {x : List ℕ} {more : List (List ℕ)} → a.now ∷ said ws ≡ x ∷ more → a.now ≡ x
+    front e = cc
+run-alone (a ∷ ws) h first bad (AsOf repository clock) is = let are = is.are in run-not-asof (sym first ∙ front are)
+  where
+    front : {x : List ℕ} {more : List (List ℕ)} → a.now ∷ said ws ≡ x ∷ more → a.now ≡ x
+    front e = cc
+run-alone (a ∷ ws) h first bad (Audit object) is = let are = is.are in run-not-audit (sym first ∙ front are)
+  where
+    front : {x : List ℕ} {more : List (List ℕ)} → a.now ∷ said ws ≡ x ∷ more → a.now ≡ x
+    front e = cc
 
 pub votes-alone : (ws : Words) → 1 ≤ length ws → word-at ws 0 ≡ codes "votes" → ((o : Options) → AreVoteOptions o (said (behind-one ws)) → ⊥) → AreNone (said ws)
 votes-alone [] h first bad c is = absurd (omega (arith, h))
@@ -268,6 +302,18 @@ votes-alone (a ∷ ws) h first bad (History object) is = let are = is.are in his
     front : {x : List ℕ} {more : List (List ℕ)} → a.now ∷ said ws ≡ x ∷ more → a.now ≡ x
     front e = cc
 votes-alone (a ∷ ws) h first bad (Retire repository clock) is = let are = is.are in retire-not-votes (sym (front are) ∙ first)
+  where
+    front : {x : List ℕ} {more : List (List ℕ)} → a.now ∷ said ws ≡ x ∷ more → a.now ≡ x
+    front e = cc
+votes-alone (a ∷ ws) h first bad (Watch repository rule) is = let are = is.are in watch-not-votes (sym (front are) ∙ first)
+  where
+    front : {x : List ℕ} {more : List (List ℕ)} → a.now ∷ said ws ≡ x ∷ more → a.now ≡ x
+    front e = cc
+votes-alone (a ∷ ws) h first bad (AsOf repository clock) is = let are = is.are in asof-not-votes (sym (front are) ∙ first)
+  where
+    front : {x : List ℕ} {more : List (List ℕ)} → a.now ∷ said ws ≡ x ∷ more → a.now ≡ x
+    front e = cc
+votes-alone (a ∷ ws) h first bad (Audit object) is = let are = is.are in audit-not-votes (sym (front are) ∙ first)
   where
     front : {x : List ℕ} {more : List (List ℕ)} → a.now ∷ said ws ≡ x ∷ more → a.now ≡ x
     front e = cc

@@ -6,8 +6,10 @@ use Rattle.std.specs.Option.{unwrap_or}
 use Rattle.value_form.specs.declared.objects.ObjectId.{ObjectId}
 use Rattle.report_writer.specs.Parts.{object_text}
 use Rattle.command_words.specs.declared.commands.Options.{Options}
+use Rattle.command_words.specs.declared.rules.Rule.{Rule}
+use Rattle.command_words.specs.declared.rules.Rule.TheVariants.{Count, Sum, Last}
 use Rattle.command_words.specs.declared.commands.Command.{Command}
-use Rattle.command_words.specs.declared.commands.Command.TheVariants.{Run, Load, History, Retire, Votes}
+use Rattle.command_words.specs.declared.commands.Command.TheVariants.{Run, Load, History, Retire, Votes, Watch, AsOf, Audit}
 use Rattle.command_words.specs.declared.options.Given.{Given}
 
 -- ---- numbers
@@ -69,17 +71,42 @@ pub record IsObjectWord (object : ObjectId) (word : List ℕ) : Type 0 where
   pub high : object.repository ≤ 16
   pub most : object.number ≤ 2 ^ 32 - 1
 
-pub record IsHistory (object : ObjectId) (words : List (List ℕ)) : Type 0 where
+-- this word, and an object behind it
+pub record IsOfObject (name : List ℕ) (object : ObjectId) (words : List (List ℕ)) : Type 0 where
   pub word : List ℕ
-  pub are : words ≡ codes "history" ∷ word ∷ []
+  pub are : words ≡ name ∷ word ∷ []
   pub object_is : IsObjectWord object word
 
-pub record IsRetire (repository clock : ℕ) (words : List (List ℕ)) : Type 0 where
+abbrev pub IsHistory : ObjectId → List (List ℕ) → Type 0
+IsHistory object words = IsOfObject (codes "history") object words
+
+abbrev pub IsAudit : ObjectId → List (List ℕ) → Type 0
+IsAudit object words = IsOfObject (codes "audit") object words
+
+-- this word, and behind it a repository and a clock
+pub record IsAtClock (name : List ℕ) (repository clock : ℕ) (words : List (List ℕ)) : Type 0 where
   pub repository_word : List ℕ
   pub clock_word : List ℕ
-  pub are : words ≡ codes "retire" ∷ repository_word ∷ clock_word ∷ []
+  pub are : words ≡ name ∷ repository_word ∷ clock_word ∷ []
   pub repository_is : IsNumber 1 16 repository repository_word
   pub clock_is : IsNumber 1 (2 ^ 40 - 1) clock clock_word
+
+abbrev pub IsRetire : ℕ → ℕ → List (List ℕ) → Type 0
+IsRetire repository clock words = IsAtClock (codes "retire") repository clock words
+
+abbrev pub IsAsOf : ℕ → ℕ → List (List ℕ) → Type 0
+IsAsOf repository clock words = IsAtClock (codes "asof") repository clock words
+
+-- the word of a rule
+abbrev pub rule_word : Rule → List ℕ
+rule_word Count = codes "count"
+rule_word Sum = codes "sum"
+rule_word Last = codes "last"
+
+pub record IsWatch (repository : ℕ) (rule : Rule) (words : List (List ℕ)) : Type 0 where
+  pub repository_word : List ℕ
+  pub are : words ≡ codes "watch" ∷ repository_word ∷ rule_word rule ∷ []
+  pub repository_is : IsNumber 1 16 repository repository_word
 
 -- the words are this command
 abbrev pub AreWords : Command → List (List ℕ) → Type 0
@@ -88,6 +115,9 @@ AreWords (Load seed count o) words = IsLoad seed count o words
 AreWords (History object) words = IsHistory object words
 AreWords (Retire repository clock) words = IsRetire repository clock words
 AreWords (Votes o) words = (more : List (List ℕ)) × (words ≡ codes "votes" ∷ more) × AreVoteOptions o more
+AreWords (Watch repository rule) words = IsWatch repository rule words
+AreWords (AsOf repository clock) words = IsAsOf repository clock words
+AreWords (Audit object) words = IsAudit object words
 
 -- what the words of a call are
 abbrev pub said : List (Bor (List ℕ)) → List (List ℕ)

@@ -1,10 +1,12 @@
 //! The commands.
 ghost use Rattle.std.specs.Prelude.{◌≡◌, ◌∷◌, ℕ, codes, None, IfSome, MatchOption};
 ghost use Rattle.value_form.specs.declared.objects.ObjectId.{ObjectId};
-ghost use Rattle.command_words.specs.Words.{AreWords, AreNone, IsLoad, IsHistory, IsRetire, said};
+ghost use Rattle.command_words.specs.declared.rules.Rule.{Rule};
+ghost use Rattle.command_words.specs.Words.{AreWords, AreNone, IsLoad, IsHistory, IsRetire, IsWatch, IsAsOf, IsAudit, said};
 
 use crate::numbers::{number, object};
 use crate::options::{options, vote_options};
+use crate::rules::{Rule, rule_of};
 use value_form::ObjectId;
 
 /// How far a run may go, and on how many threads.
@@ -40,6 +42,21 @@ pub enum Command {
     },
     /// Let three members vote on the polls that the source has, on one thread.
     Votes(Options),
+    /// Bring the totals of a repository's objects by a rule up to date.
+    Watch {
+        /// 1 to 16.
+        repository: u8,
+        rule: Rule,
+    },
+    /// Tell the map of a repository's objects as of the first pseudotime of this clock.
+    AsOf {
+        /// 1 to 16.
+        repository: u8,
+        /// 1 to 1,099,511,627,775.
+        clock: u64,
+    },
+    /// Tell all versions of an object, and which volume has each.
+    Audit(ObjectId),
 }
 
 // A load: its seed, its count and its options.
@@ -81,10 +98,49 @@ fn retire(words: &[&str]) -> Option<Command>
     })
 }
 
+// A watch: its repository and its rule.
+fn watch(words: &[&str]) -> Option<Command>
+    ensures { MatchOption result ((repository : ℕ) (rule : Rule) → IsWatch repository rule (codes "watch" ∷ said words.now) → ⊥)
+        (λ c. AreWords c (codes "watch" ∷ said words.now)) }
+{
+    let [repository, word] = words else {
+        return None;
+    };
+    Some(Command::Watch {
+        repository: number(repository, 1, 16)? as u8,
+        rule: rule_of(word)?,
+    })
+}
+
+// A map: its repository and its clock.
+fn asof(words: &[&str]) -> Option<Command>
+    ensures { MatchOption result ((repository clock : ℕ) → IsAsOf repository clock (codes "asof" ∷ said words.now) → ⊥)
+        (λ c. AreWords c (codes "asof" ∷ said words.now)) }
+{
+    let [repository, clock] = words else {
+        return None;
+    };
+    Some(Command::AsOf {
+        repository: number(repository, 1, 16)? as u8,
+        clock: number(clock, 1, 1_099_511_627_775)?,
+    })
+}
+
+// An audit: its object.
+fn audit(words: &[&str]) -> Option<Command>
+    ensures { MatchOption result ((o : ObjectId) → IsAudit o (codes "audit" ∷ said words.now) → ⊥) (λ c. AreWords c (codes "audit" ∷ said words.now)) }
+{
+    let [word] = words else {
+        return None;
+    };
+    Some(Command::Audit(object(word)?))
+}
+
 /// The command that the words are: `run OPTIONS`, `load SEED COUNT OPTIONS`, `history R.N`,
-/// `retire R CLOCK` or `votes OPTIONS`. OPTIONS are any of `--workers W` (1 unless given; not of votes),
-/// `--ticks T` (10,000) and `--messages N` (200,000), in any order, each at most once, name and number as
-/// two words. Numbers are decimal digits without a sign or a zero in front. None where they are no command.
+/// `retire R CLOCK`, `votes OPTIONS`, `watch R RULE`, `asof R CLOCK` or `audit R.N`. OPTIONS are any of
+/// `--workers W` (1 unless given; not of votes), `--ticks T` (10,000) and `--messages N` (200,000), in any
+/// order, each at most once, name and number as two words. RULE is `count`, `sum` or `last`. Numbers are
+/// decimal digits without a sign or a zero in front. None where they are no command.
 pub fn read_words(words: &[&str]) -> Option<Command>
     ensures words { IfSome result (λ c. AreWords c (said words.now)) }
     ensures none { result ≡ None → AreNone (said words.now) }
@@ -98,6 +154,9 @@ pub fn read_words(words: &[&str]) -> Option<Command>
         "history" => history(more),
         "retire" => retire(more),
         "votes" => Some(Command::Votes(vote_options(more)?)),
+        "watch" => watch(more),
+        "asof" => asof(more),
+        "audit" => audit(more),
         _ => None,
     }
 }

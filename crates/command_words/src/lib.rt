@@ -4,5 +4,7 @@
 mod commands;
 mod numbers;
 mod options;
+mod rules;
 
 pub use commands::{Command, Options, read_words};
+pub use rules::Rule;

@@ -19,9 +19,6 @@ const NO_OUTPUT: u8 = 4;
 /// The status where memory is wanting.
 const NO_MEMORY: u8 = 7;
 
-/// The command that writes nothing to the folder.
-const LOOK: &str = "history";
-
 /// The folder of a command line that names none: no word follows, so nothing there is touched.
 const NO_FOLDER: &str = ".";
 
@@ -38,7 +35,10 @@ fn hold_streams(rt: &HostRuntime) -> io::Result<(File, File, File)> {
 // Whether the command looks at the folder alone, which then is left as it is.
 fn is_look(words: &[String]) -> bool {
     match words.first() {
-        Some(word) => word.as_str() == LOOK,
+        Some(word) => match word.as_str() {
+            "history" | "asof" | "audit" => true,
+            _ => false,
+        },
         None => false,
     }
 }

@@ -2,6 +2,7 @@ pub mod CompleteLemmas
 pub mod DownLemmas
 pub mod HistoryLemmas
 pub mod InputLemmas
+pub mod OutcomeLemmas
 pub mod PageLemmas
 pub mod PromiseLemmas
 pub mod RetirementLemmas

@@ -15,7 +15,7 @@ use Rattle.value_form.specs.declared.objects.ObjectId.{ObjectId}
 use Rattle.run_rounds.specs.Stories.{no_trace}
 use Rattle.command_words.specs.declared.commands.Options.{Options}
 use Rattle.command_words.specs.declared.commands.Command.{Command}
-use Rattle.command_words.specs.declared.commands.Command.TheVariants.{Run, Load, History, Retire, Votes}
+use Rattle.command_words.specs.declared.commands.Command.TheVariants.{Run, Load, History, Retire, Votes, Watch, AsOf, Audit}
 use Rattle.command_words.specs.declared.options.Given.{Given}
 use Rattle.command_words.specs.Words.{AreGiven, AreNone, AreOptions, AreWords, IsWith}
 use Rattle.run_media.specs.Media.{Media}
@@ -35,7 +35,10 @@ use Rattle.swallow_top.specs.Promise.{Call, HasNoWords, TouchedNothing, IsUnread
 use Rattle.run_volumes.specs.Shelves.{ShelfSight}
 use Rattle.retire_command.specs.declared.outcomes.Retired.{Retired}
 use Rattle.retire_command.specs.declared.outcomes.Retired.TheVariants.{Done, Refused, Fallen, NoMemory}
-use Rattle.swallow_top.specs.Retirements.{TellsRetired, TellsRetirement}
+use Rattle.archive_command.specs.declared.questions.Question.TheVariants as question
+use Rattle.command_words.specs.declared.rules.Rule.{Rule}
+use Rattle.swallow_top.specs.Outcomes.{TellsAnswer, TellsWatch}
+use Rattle.swallow_top.specs.Retirements.{TellsRetired, TellsRetirement, mark_at}
 use Rattle.swallow_top.specs.Tellings.{status_of, status_with}
 use Rattle.swallow_top.specs.Written.{Sinking, Ends, EndsIfAny}
 use Rattle.std.specs.Prelude.{Vec}
@@ -52,6 +55,7 @@ use Rattle.swallow_top.specs.Votes.{AreNoPolls, HavePolled, ReadsPolls, TellsVot
 use Rattle.swallow_top.proofs.VoteLemmas.{votes-kept}
 use Rattle.swallow_top.proofs.HistoryLemmas.{history-kept}
 use Rattle.swallow_top.proofs.InputLemmas.{of_input-all, of_input-with}
+use Rattle.swallow_top.proofs.OutcomeLemmas.{outcome-most, tellsanswer-kept, tellswatch-kept}
 use Rattle.swallow_top.proofs.RetirementLemmas.{retirement-kept}
 
 -- ---- statuses
@@ -192,6 +196,36 @@ module _ {M : Type 0} (c : Call M) where
     done = inr (inr (Retire repository clock, words, (unread, tells, none)));
     kept = retirement-kept c.media_are c.shelf_before c.shelf repository clock c.media c.sink c.status tells;
     statuses = retired-most tells.retired c.sink c.status tells.told;
+    votes = inl votes;
+  }
+
+  pub promise-watch : (repository : ℕ) (rule : Rule) → IsUnread c → AreWords (Watch repository rule) c.words → AskedNothing c.media_are c.shelf_before c.shelf c.media c.status ⊎ TellsWatch c.media_are c.shelf_before c.shelf repository rule c.media c.sink c.status →
+      HasNoRun c.told → c.votes ≡ no_trace → Promise c
+  promise-watch repository rule unread words (inl nothing) none votes = promise-unasked nothing none votes
+  promise-watch repository rule unread words (inr tells) none votes = record {
+    done = inr (inr (Watch repository rule, words, (unread, tells, none)));
+    kept = tellswatch-kept c.media_are c.shelf_before c.shelf c.media c.sink c.status repository rule tells;
+    statuses = outcome-most tells.outcome c.sink c.status tells.told;
+    votes = inl votes;
+  }
+
+  pub promise-map : (repository clock : ℕ) → IsUnread c → AreWords (AsOf repository clock) c.words →
+      AskedNothing c.media_are c.shelf_before c.shelf c.media c.status ⊎ TellsAnswer c.media_are c.shelf_before c.shelf (question.AsOf repository (mark_at clock)) c.media c.sink c.status → HasNoRun c.told → c.votes ≡ no_trace → Promise c
+  promise-map repository clock unread words (inl nothing) none votes = promise-unasked nothing none votes
+  promise-map repository clock unread words (inr tells) none votes = record {
+    done = inr (inr (AsOf repository clock, words, (unread, tells, none)));
+    kept = tellsanswer-kept c.media_are c.shelf_before c.shelf c.media c.sink c.status (question.AsOf repository (mark_at clock)) tells;
+    statuses = outcome-most tells.outcome c.sink c.status tells.told;
+    votes = inl votes;
+  }
+
+  pub promise-audit : (object : ObjectId) → IsUnread c → AreWords (Audit object) c.words →
+      AskedNothing c.media_are c.shelf_before c.shelf c.media c.status ⊎ TellsAnswer c.media_are c.shelf_before c.shelf (question.Audit object) c.media c.sink c.status → HasNoRun c.told → c.votes ≡ no_trace → Promise c
+  promise-audit object unread words (inl nothing) none votes = promise-unasked nothing none votes
+  promise-audit object unread words (inr tells) none votes = record {
+    done = inr (inr (Audit object, words, (unread, tells, none)));
+    kept = tellsanswer-kept c.media_are c.shelf_before c.shelf c.media c.sink c.status (question.Audit object) tells;
+    statuses = outcome-most tells.outcome c.sink c.status tells.told;
     votes = inl votes;
   }
 

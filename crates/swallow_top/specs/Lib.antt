@@ -3,6 +3,7 @@ pub mod Finished
 pub mod Histories
 pub mod Inputs
 pub mod Lines
+pub mod Outcomes
 pub mod Plans
 pub mod Promise
 pub mod Retirements

@@ -7,7 +7,7 @@ use Rattle.plan_form.specs.Plans.{IsPlan}
 use Rattle.plan_form.specs.Making.{made_plan}
 use Rattle.command_words.specs.declared.commands.Options.{Options}
 use Rattle.command_words.specs.declared.commands.Command.{Command}
-use Rattle.command_words.specs.declared.commands.Command.TheVariants.{Run, Load, History, Retire, Votes}
+use Rattle.command_words.specs.declared.commands.Command.TheVariants.{Run, Load, History, Retire, Votes, Watch, AsOf, Audit}
 use Rattle.command_words.specs.Words.{AreWords, AreNone}
 use Rattle.run_media.specs.Media.{Media}
 use Rattle.run_rounds.specs.Runs.{Account}
@@ -19,7 +19,9 @@ use Rattle.swallow_top.specs.Histories.{TellsHistory}
 use Rattle.swallow_top.specs.Inputs.{OfInput}
 use Rattle.swallow_top.specs.Lines.{words_line, source_line}
 use Rattle.run_volumes.specs.Shelves.{ShelfSight}
-use Rattle.swallow_top.specs.Retirements.{TellsRetirement}
+use Rattle.archive_command.specs.declared.questions.Question.TheVariants as question
+use Rattle.swallow_top.specs.Outcomes.{TellsAnswer, TellsWatch}
+use Rattle.swallow_top.specs.Retirements.{TellsRetirement, mark_at}
 use Rattle.swallow_top.specs.Votes.{AreNoPolls, HavePolled}
 use Rattle.swallow_top.specs.Written.{Sinking, GotLine}
 use Rattle.votes_command.specs.Inputs.{IsInput}
@@ -88,6 +90,9 @@ module _ {M : Type 0} (c : Call M) where
   WasDone (History object) = IsUnread × TellsHistory c.media_are c.shelf_before c.shelf object c.media c.sink c.status × HasNoRun c.told
   WasDone (Retire repository clock) = IsUnread × TellsRetirement c.media_are c.shelf_before c.shelf repository clock c.media c.sink c.status × HasNoRun c.told
   WasDone (Votes o) = HasFailedSource ⊎ (HasNoPolls ⊎ HasVoted o)
+  WasDone (Watch repository rule) = IsUnread × TellsWatch c.media_are c.shelf_before c.shelf repository rule c.media c.sink c.status × HasNoRun c.told
+  WasDone (AsOf repository clock) = IsUnread × TellsAnswer c.media_are c.shelf_before c.shelf (question.AsOf repository (mark_at clock)) c.media c.sink c.status × HasNoRun c.told
+  WasDone (Audit object) = IsUnread × TellsAnswer c.media_are c.shelf_before c.shelf (question.Audit object) c.media c.sink c.status × HasNoRun c.told
 
   -- but for votes nobody votes
   abbrev pub VotesAlone : Type 0

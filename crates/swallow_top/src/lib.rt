@@ -5,6 +5,7 @@ mod histories;
 mod laws;
 mod lines;
 mod media;
+mod outcomes;
 mod plans;
 mod reports;
 mod retirements;

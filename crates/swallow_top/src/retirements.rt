@@ -14,8 +14,8 @@ use run_volumes::Kept;
 use std::alloc::Global;
 use stream_port::Sink;
 
-// The mark of a retirement at a clock.
-fn mark_of(clock: u64) -> PseudoTime
+/// The mark at a clock.
+pub fn mark_of(clock: u64) -> PseudoTime
     requires low { 1 ≤ clock }
     requires high { clock ≤ 2 ^ 40 - 1 }
     ensures { result ≡ mark_at clock }

@@ -9,6 +9,7 @@ ghost use Rattle.swallow_top.specs.Written.{sinking};
 use crate::histories::tell_history;
 use crate::lines::fault_line;
 use crate::media::{Finish, quiet};
+use crate::outcomes::{tell_audit, tell_map, tell_watch};
 use crate::plans::read_plan;
 use crate::reports::Wanted;
 use crate::retirements::tell_retirement;
@@ -65,7 +66,11 @@ fn refused<O: Sink>(alloc: Global, stop: Stop, sink: &mut O) -> u8
 /// - `retire` copies what is current in a repository at a mark into a fresh volume, whose log is the
 ///   repository's from then on, and writes how many effects were kept and dropped;
 /// - `votes` reads polls from the source, lets three members vote on them over volumes 1,010 of
-///   repositories 1 to 3, and writes how each stands.
+///   repositories 1 to 3, and writes how each stands;
+/// - `watch` brings the totals of a repository's objects by a rule up to date, which stand in its volume
+///   1,001, 1,002 or 1,003, over all settled versions that its complete volumes have, and writes them;
+/// - `asof` writes the map of a repository's objects as of a mark, by its complete volumes together;
+/// - `audit` writes all versions of an object that they have, and which volume has each.
 ///
 /// The status in the answer is the one with which a program ends:
 ///
@@ -76,13 +81,15 @@ fn refused<O: Sink>(alloc: Global, stop: Stop, sink: &mut O) -> u8
 ///   `swallow: votes line L` was; or a broker's log shows a later run or another plan, and
 ///   `swallow: old run N` or `swallow: other plan act I` was;
 /// - 3: the source failed, and `swallow: source` was written;
-/// - 4: the sink failed while a report, a summary, a history, the line of a retirement or that of a node
-///   that is down was written;
+/// - 4: the sink failed while a report, a summary, a history, totals, a map, an audit, the line of a
+///   retirement or that of a node that is down was written;
 /// - 5: no node is down, and an act has no outcome, or a poll holds no decision;
 /// - 6: a node is down, and the text says why;
 /// - 7: memory is wanting;
 /// - 8: the repository may not be retired at the mark, and nothing was written to its media:
-///   `swallow: last volume`, `swallow: old mark FLOOR` or `swallow: undecided OBJECT START` says why.
+///   `swallow: last volume`, `swallow: old mark FLOOR` or `swallow: undecided OBJECT START` says why; or
+///   there is no map as of the mark, and `swallow: undecided OBJECT START` says why; or no number holds
+///   a total, no total was written, and `swallow: overflow OBJECT START` says why.
 pub fn swallow<
     I: Source,
     O: Sink,
@@ -180,5 +187,22 @@ where
                 quiet(alloc, status, Vec::new(alloc), fates, clock)
             }
         },
+        Some(Command::Watch { repository, rule }) => {
+            let (status, media) = tell_watch(alloc, repository, rule, sink, shelf);
+            quiet(alloc, status, media, fates, clock)
+        }
+        Some(
+            Command::AsOf {
+                repository,
+                clock: mark,
+            },
+        ) => {
+            let (status, media) = tell_map(alloc, repository, mark, sink, shelf);
+            quiet(alloc, status, media, fates, clock)
+        }
+        Some(Command::Audit(object)) => {
+            let (status, media) = tell_audit(alloc, object, sink, shelf);
+            quiet(alloc, status, media, fates, clock)
+        }
     }
 }

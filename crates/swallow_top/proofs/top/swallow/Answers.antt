@@ -7,10 +7,12 @@ use Rattle.command_words.proofs.WordLemmas.{few-ticks}
 use Rattle.votes_command.specs.Inputs.{IsPoll}
 use Rattle.swallow_top.specs.Contract.{RefusedAs}
 use Rattle.swallow_top.specs.Histories.{AskedNothing, TellsHistory}
-use Rattle.swallow_top.specs.Retirements.{TellsRetirement}
+use Rattle.archive_command.specs.declared.questions.Question.TheVariants as question
+use Rattle.swallow_top.specs.Outcomes.{TellsAnswer, TellsWatch}
+use Rattle.swallow_top.specs.Retirements.{TellsRetirement, mark_at}
 use Rattle.run_volumes.specs.Shelves.{shelf_sight}
 use Rattle.swallow_top.specs.Written.{sinking}
-use Rattle.swallow_top.proofs.PromiseLemmas.{language-of, polls-of, promise-history, promise-load, promise-no-polls, promise-refused, promise-retire, promise-run, promise-votes, quiet-call, some-workers}
+use Rattle.swallow_top.proofs.PromiseLemmas.{language-of, polls-of, promise-audit, promise-history, promise-load, promise-map, promise-no-polls, promise-refused, promise-retire, promise-run, promise-votes, promise-watch, quiet-call, some-workers}
 use Rattle.swallow_top.proofs.top.swallow.Goals as goal
 
 pub run_plan-requires-clause-plan : goal.run_plan-requires-clause-plan
@@ -107,4 +109,60 @@ returns-in-Err-read_polls g c =
       promise = promise-no-polls _ c.in-Some-Votes.options c.in-Err-read_polls.stop (subst (λ x. AreWords x (said c.args.words.now)) c.in-Some-Votes.field-0-is c.in-Some-Votes.ensures.words) c.in-Err-read_polls.ensures
           (subst (λ n. RefusedAs c.in-Err-read_polls.stop n s) (sym q.status) c.refused-status-in-Err-read_polls.ensures)
           (λ status is. quiet-call _ status is (q.media ∙ c.new-in-Err-read_polls.ensures.items) refl q.trace (ap g.F.Fates.asked q.told.0) (ap g.C.Clock.answers q.told.1) q.votes) (λ name is was. absurd (was is));
+    }
+
+pub returns-in-Some-Watch : goal.returns-in-Some-Watch
+returns-in-Some-Watch g c =
+    let w = g.S.Medium.Medium in
+    let h = g.S.Shelf in
+    let old = shelf_sight h c.args.shelf.now in
+    let sf = c.tell_watch-status.new.shelf in
+    let new = shelf_sight h sf in
+    let k = g.O.Sink in
+    let s = sinking (k.taken c.args.sink.now) (k.taken c.tell_watch-status.new.sink) (k.faults c.args.sink.now) (k.faults c.tell_watch-status.new.sink) in
+    let q = c.quiet-in-Some-Watch.ensures in
+    let r = c.in-Some-Watch.repository in
+    let rule = c.in-Some-Watch.rule in
+    let media = subst (λ l. AskedNothing w old new l c.tell_watch-status.result.0 ⊎ TellsWatch w old new r rule l s c.tell_watch-status.result.0) (sym q.media) c.tell_watch-status.ensures in
+    let tells = subst (λ n. AskedNothing w old new c.quiet-in-Some-Watch.result.media n ⊎ TellsWatch w old new r rule c.quiet-in-Some-Watch.result.media s n) (sym q.status) media in
+    record {
+      promise = promise-watch _ r rule (refl, refl) (subst (λ x. AreWords x (said c.args.words.now)) c.in-Some-Watch.field-0-is c.in-Some-Watch.ensures.words) tells
+          (record { trace = q.trace; fates = ap g.F.Fates.asked q.told.0; clock = ap g.C.Clock.answers q.told.1 }) q.votes;
+    }
+
+pub returns-in-Some-AsOf : goal.returns-in-Some-AsOf
+returns-in-Some-AsOf g c =
+    let w = g.S.Medium.Medium in
+    let h = g.S.Shelf in
+    let old = shelf_sight h c.args.shelf.now in
+    let sf = c.tell_map-status.new.shelf in
+    let new = shelf_sight h sf in
+    let k = g.O.Sink in
+    let s = sinking (k.taken c.args.sink.now) (k.taken c.tell_map-status.new.sink) (k.faults c.args.sink.now) (k.faults c.tell_map-status.new.sink) in
+    let q = c.quiet-in-Some-AsOf.ensures in
+    let r = c.in-Some-AsOf.repository in
+    let mark = c.in-Some-AsOf.mark in
+    let media = subst (λ l. AskedNothing w old new l c.tell_map-status.result.0 ⊎ TellsAnswer w old new (question.AsOf r (mark_at mark)) l s c.tell_map-status.result.0) (sym q.media) c.tell_map-status.ensures in
+    let tells = subst (λ n. AskedNothing w old new c.quiet-in-Some-AsOf.result.media n ⊎ TellsAnswer w old new (question.AsOf r (mark_at mark)) c.quiet-in-Some-AsOf.result.media s n) (sym q.status) media in
+    record {
+      promise = promise-map _ r mark (refl, refl) (subst (λ x. AreWords x (said c.args.words.now)) c.in-Some-AsOf.field-0-is c.in-Some-AsOf.ensures.words) tells
+          (record { trace = q.trace; fates = ap g.F.Fates.asked q.told.0; clock = ap g.C.Clock.answers q.told.1 }) q.votes;
+    }
+
+pub returns-in-Some-Audit : goal.returns-in-Some-Audit
+returns-in-Some-Audit g c =
+    let w = g.S.Medium.Medium in
+    let h = g.S.Shelf in
+    let old = shelf_sight h c.args.shelf.now in
+    let sf = c.tell_audit-status.new.shelf in
+    let new = shelf_sight h sf in
+    let k = g.O.Sink in
+    let s = sinking (k.taken c.args.sink.now) (k.taken c.tell_audit-status.new.sink) (k.faults c.args.sink.now) (k.faults c.tell_audit-status.new.sink) in
+    let q = c.quiet-in-Some-Audit.ensures in
+    let object = c.in-Some-Audit.object in
+    let media = subst (λ l. AskedNothing w old new l c.tell_audit-status.result.0 ⊎ TellsAnswer w old new (question.Audit object) l s c.tell_audit-status.result.0) (sym q.media) c.tell_audit-status.ensures in
+    let tells = subst (λ n. AskedNothing w old new c.quiet-in-Some-Audit.result.media n ⊎ TellsAnswer w old new (question.Audit object) c.quiet-in-Some-Audit.result.media s n) (sym q.status) media in
+    record {
+      promise = promise-audit _ object (refl, refl) (subst (λ x. AreWords x (said c.args.words.now)) c.in-Some-Audit.field-0-is c.in-Some-Audit.ensures.words) tells
+          (record { trace = q.trace; fates = ap g.F.Fates.asked q.told.0; clock = ap g.C.Clock.answers q.told.1 }) q.votes;
     }

@@ -1,0 +1,3 @@
+pub mod VersionLemmas
+pub mod AnswerLemmas
+pub mod ArchiveLemmas

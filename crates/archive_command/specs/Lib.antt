@@ -1,0 +1,4 @@
+pub mod Answers
+pub mod Archives
+pub mod Lines
+pub mod Versions

@@ -1,0 +1,53 @@
+-- How it is told what came of a question to an archive or of a watch, and what is handed back of it.
+use Rattle.std.proofs.Common.{◌≡◌, ◌⊎◌, ◌≤◌, inl, inr, ℕ, List, length, map, ap, sym, subst, ◌∙◌, arith}
+use Rattle.std.proofs.lemmas.Slice.Zip.{AllZip-long}
+use Rattle.run_media.specs.Media.{Media}
+use Rattle.run_media.specs.Openings.{HasOpened, medium_in}
+use Rattle.run_volumes.specs.declared.kept.Kept.{Kept}
+use Rattle.run_volumes.specs.Kept.{AllKept, kept_under}
+use Rattle.run_volumes.specs.Shelves.{ShelfSight, first_names}
+use Rattle.run_volumes.proofs.ShelfLemmas.{all-kept}
+use Rattle.run_volumes.proofs.StandLemmas.{back-all}
+use Rattle.archive_command.specs.declared.outcomes.Outcome.{Outcome}
+use Rattle.archive_command.specs.declared.outcomes.Outcome.TheVariants.{Told, Refused, Fallen, NoMemory}
+use Rattle.archive_command.specs.declared.questions.Question.{Question}
+use Rattle.archive_command.specs.Answers.{AnswersOver, TookNothing, asked_of}
+use Rattle.command_words.specs.declared.rules.Rule.{Rule}
+use Rattle.watch_command.specs.Watches.{StopsBefore, WatchesOver}
+use Rattle.watch_command.proofs.KeptLemmas.{watch-kept}
+use Rattle.swallow_top.specs.Histories.{AskedNothing}
+use Rattle.swallow_top.specs.Outcomes.{TellsAnswer, TellsOutcome, TellsWatch}
+use Rattle.swallow_top.specs.Written.{Sinking, Ends}
+
+module _ {M : Type 0} (w : Media M) (old new : ShelfSight) (kept : List (Kept M)) (s : Sinking) (status : ℕ) where
+  asked-nothing : (r : Outcome) → TookNothing w old new kept r → TellsOutcome r status s → AskedNothing w old new kept status
+  asked-nothing r none told = record { wanting = subst (λ x. TellsOutcome x status s) none.wanting told; none = none.none; unasked = none.unasked; left = none.left }
+
+  pub tells-answer : (q : Question) (r : Outcome) → TookNothing w old new kept r ⊎ AnswersOver w old new q kept r → TellsOutcome r status s → AskedNothing w old new kept status ⊎ TellsAnswer w old new q kept s status
+  tells-answer q r (inl none) told = inl (asked-nothing r none told)
+  tells-answer q r (inr over) told = inr (record { outcome = r; over = over; told = told })
+
+  pub tells-watch : (repository : ℕ) (rule : Rule) (r : Outcome) → TookNothing w old new kept r ⊎ (StopsBefore w old new repository rule kept r ⊎ WatchesOver w old new repository rule kept r) → TellsOutcome r status s →
+      AskedNothing w old new kept status ⊎ TellsWatch w old new repository rule kept s status
+  tells-watch repository rule r (inl none) told = inl (asked-nothing r none told)
+  tells-watch repository rule r (inr over) told = inr (record { outcome = r; over = over; told = told })
+
+  -- each medium that was taken is handed back
+  pub tellswatch-kept : (repository : ℕ) (rule : Rule) → TellsWatch w old new repository rule kept s status → AllKept old new kept
+  tellswatch-kept repository rule h = watch-kept w old new repository rule kept h.outcome h.over
+
+  pub tellsanswer-kept : (q : Question) → TellsAnswer w old new q kept s status → AllKept old new kept
+  tellsanswer-kept q h =
+      let over = h.over in
+      subst (AllKept old new) (ap (λ k. kept_under (first_names (asked_of q) k) (map medium_in over.openings)) (sym (AllZip-long (HasOpened w) over.media over.openings over.volumes.opened)) ∙ sym over.handed)
+      (all-kept w old new (first_names (asked_of q) (length over.media)) over.media (map medium_in over.openings) over.volumes.taken (back-all w over.media over.openings (map medium_in over.openings) over.volumes.opened over.keep))
+
+told-most : (status : ℕ) (s : Sinking) (there : ℕ) (text : List ℕ) → there ≤ 8 → Ends status s there text → status ≤ 8
+told-most status s there text most (inl h) = subst (λ n. n ≤ 8) (sym h.0) most
+told-most status s there text most (inr h) = let e = h.0 in omega (arith, e)
+
+pub outcome-most : (r : Outcome) (s : Sinking) (status : ℕ) → TellsOutcome r status s → status ≤ 8
+outcome-most (Told text) s status h = told-most status s 0 text (omega arith) h
+outcome-most (Refused line) s status h = let e = h.0 in omega (arith, e)
+outcome-most (Fallen line) s status h = told-most status s 6 line (omega arith) h
+outcome-most NoMemory s status h = omega (arith, h)

@@ -1,0 +1,87 @@
+//! What came of a question to an archive, and of a watch.
+ghost use Rattle.std.specs.Prelude.{◌≡◌, ◌⊎◌, ◌≤◌, ◌^◌, ◌-◌};
+ghost use Rattle.run_volumes.specs.Shelves.{shelf_sight};
+ghost use Rattle.swallow_top.specs.Histories.{AskedNothing};
+ghost use Rattle.swallow_top.specs.Outcomes.{TellsAnswer, TellsOutcome, TellsWatch};
+ghost use Rattle.swallow_top.specs.Retirements.{mark_at};
+ghost use Rattle.swallow_top.specs.Written.{sinking};
+
+use crate::histories::tell_text;
+use crate::retirements::mark_of;
+use crate::streams::write_all;
+use archive_command::{Outcome, Question, ask};
+use command_words::Rule;
+use medium_port::{Medium, Shelf};
+use run_volumes::Kept;
+use std::alloc::Global;
+use stream_port::Sink;
+use value_form::ObjectId;
+use watch_command::watch;
+
+// Writes what came of a command. The answer is the status.
+fn tell_outcome<O: Sink>(outcome: Outcome, sink: &mut O) -> u8
+    ensures { TellsOutcome outcome result (sinking (O.taken sink.old) (O.taken sink.new) (O.faults sink.old) (O.faults sink.new)) }
+{
+    match outcome {
+        Outcome::Told(text) => tell_text(Ok(text), 0, sink),
+        Outcome::Refused(line) => {
+            let _ = write_all(sink, line.as_slice());
+            8
+        }
+        Outcome::Fallen(line) => tell_text(Ok(line), 6, sink),
+        Outcome::NoMemory => 7,
+    }
+}
+
+/// Writes the map of a repository's objects as of a clock. The answer is the status, and the media that were
+/// taken, in the order of the volumes.
+pub fn tell_map<O: Sink, S: Shelf>(
+    alloc: Global,
+    repository: u8,
+    clock: u64,
+    sink: &mut O,
+    shelf: &mut S,
+) -> (u8, Vec<Kept<S::Medium>>)
+    requires low { 1 ≤ clock }
+    requires high { clock ≤ 2 ^ 40 - 1 }
+    ensures { AskedNothing S.Medium.Medium (shelf_sight S.Shelf shelf.old) (shelf_sight S.Shelf shelf.new) result.1.items result.0
+        ⊎ TellsAnswer S.Medium.Medium (shelf_sight S.Shelf shelf.old) (shelf_sight S.Shelf shelf.new) (Question.AsOf repository (mark_at clock)) result.1.items
+        (sinking (O.taken sink.old) (O.taken sink.new) (O.faults sink.old) (O.faults sink.new)) result.0 }
+{
+    let mark = mark_of(clock);
+    let (outcome, media) = ask(alloc, Question::AsOf { repository, mark }, shelf);
+    (tell_outcome(outcome, sink), media)
+}
+
+/// Writes all versions of an object. The answer is the status, and the media that were taken, in the order of
+/// the volumes.
+pub fn tell_audit<O: Sink, S: Shelf>(
+    alloc: Global,
+    object: ObjectId,
+    sink: &mut O,
+    shelf: &mut S,
+) -> (u8, Vec<Kept<S::Medium>>)
+    ensures { AskedNothing S.Medium.Medium (shelf_sight S.Shelf shelf.old) (shelf_sight S.Shelf shelf.new) result.1.items result.0
+        ⊎ TellsAnswer S.Medium.Medium (shelf_sight S.Shelf shelf.old) (shelf_sight S.Shelf shelf.new) (Question.Audit object) result.1.items
+        (sinking (O.taken sink.old) (O.taken sink.new) (O.faults sink.old) (O.faults sink.new)) result.0 }
+{
+    let (outcome, media) = ask(alloc, Question::Audit { object }, shelf);
+    (tell_outcome(outcome, sink), media)
+}
+
+/// Brings the totals of a repository's objects by a rule up to date, and writes them. The answer is the
+/// status, and the media that were taken, in the order of the volumes.
+pub fn tell_watch<O: Sink, S: Shelf>(
+    alloc: Global,
+    repository: u8,
+    rule: Rule,
+    sink: &mut O,
+    shelf: &mut S,
+) -> (u8, Vec<Kept<S::Medium>>)
+    ensures { AskedNothing S.Medium.Medium (shelf_sight S.Shelf shelf.old) (shelf_sight S.Shelf shelf.new) result.1.items result.0
+        ⊎ TellsWatch S.Medium.Medium (shelf_sight S.Shelf shelf.old) (shelf_sight S.Shelf shelf.new) repository rule result.1.items
+        (sinking (O.taken sink.old) (O.taken sink.new) (O.faults sink.old) (O.faults sink.new)) result.0 }
+{
+    let (outcome, media) = watch(alloc, repository, rule, shelf);
+    (tell_outcome(outcome, sink), media)
+}

@@ -1,0 +1,5 @@
+pub mod MarkLemmas
+pub mod TotalLemmas
+pub mod RangeLemmas
+pub mod WatchLemmas
+pub mod KeptLemmas

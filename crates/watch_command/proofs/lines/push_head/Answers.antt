@@ -1,0 +1,12 @@
+use Rattle.std.proofs.Common.{◌∙◌, ◌++◌, ap}
+use Rattle.std.specs.Prelude.{codes}
+use Rattle.std.proofs.lemmas.List.{append_assoc}
+use Rattle.report_writer.specs.Reports.{named}
+use Rattle.watch_command.specs.Lines.{rule_text}
+use Rattle.watch_command.proofs.lines.push_head.Goals as goal
+
+pub returns : goal.returns
+returns c =
+    c.in_ok-push_rule.ensures
+    ∙ ap (λ xs. xs ++ rule_text c.args.rule) c.in_ok-push_named.ensures
+    ∙ append_assoc c.args.out.now.items (named (codes "watch repository ") c.args.repository) (rule_text c.args.rule)
