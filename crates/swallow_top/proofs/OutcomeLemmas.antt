@@ -1,21 +1,27 @@
 -- How it is told what came of a question to an archive or of a watch, and what is handed back of it.
 use Rattle.std.proofs.Common.{◌≡◌, ◌⊎◌, ◌≤◌, inl, inr, ℕ, List, length, map, ap, sym, subst, ◌∙◌, arith}
 use Rattle.std.proofs.lemmas.Slice.Zip.{AllZip-long}
+use Rattle.run_media.specs.declared.openings.Opening.{Opening}
 use Rattle.run_media.specs.Media.{Media}
 use Rattle.run_media.specs.Openings.{HasOpened, medium_in}
 use Rattle.run_volumes.specs.declared.kept.Kept.{Kept}
 use Rattle.run_volumes.specs.Kept.{AllKept, kept_under}
 use Rattle.run_volumes.specs.Shelves.{ShelfSight, first_names}
+use Rattle.run_volumes.specs.Volumes.{logs_of}
 use Rattle.run_volumes.proofs.ShelfLemmas.{all-kept}
 use Rattle.run_volumes.proofs.StandLemmas.{back-all}
 use Rattle.archive_command.specs.declared.outcomes.Outcome.{Outcome}
 use Rattle.archive_command.specs.declared.outcomes.Outcome.TheVariants.{Told, Refused, Fallen, NoMemory}
 use Rattle.archive_command.specs.declared.questions.Question.{Question}
-use Rattle.archive_command.specs.Answers.{AnswersOver, TookNothing, asked_of}
+use Rattle.archive_command.specs.declared.questions.Question.TheVariants.{AsOf, Audit}
+use Rattle.archive_command.specs.Answers.{Answers, AnswersOver, TookNothing, asked_of}
 use Rattle.command_words.specs.declared.rules.Rule.{Rule}
 use Rattle.watch_command.specs.Watches.{StopsBefore, WatchesOver}
 use Rattle.watch_command.proofs.KeptLemmas.{watch-kept}
 use Rattle.swallow_top.specs.Histories.{AskedNothing}
+use Rattle.archive_promise.specs.Answered.{IsLawful, IsOfStamp}
+use Rattle.archive_promise.proofs.AnsweredLemmas.{is-lawful}
+use Rattle.archive_promise.proofs.WatchedLemmas.{counts-on}
 use Rattle.swallow_top.specs.Outcomes.{TellsAnswer, TellsOutcome, TellsWatch}
 use Rattle.swallow_top.specs.Written.{Sinking, Ends}
 
@@ -23,14 +29,22 @@ module _ {M : Type 0} (w : Media M) (old new : ShelfSight) (kept : List (Kept M)
   asked-nothing : (r : Outcome) → TookNothing w old new kept r → TellsOutcome r status s → AskedNothing w old new kept status
   asked-nothing r none told = record { wanting = subst (λ x. TellsOutcome x status s) none.wanting told; none = none.none; unasked = none.unasked; left = none.left }
 
-  pub tells-answer : (q : Question) (r : Outcome) → TookNothing w old new kept r ⊎ AnswersOver w old new q kept r → TellsOutcome r status s → AskedNothing w old new kept status ⊎ TellsAnswer w old new q kept s status
-  tells-answer q r (inl none) told = inl (asked-nothing r none told)
-  tells-answer q r (inr over) told = inr (record { outcome = r; over = over; told = told })
+  lawful-answer : {g : _} (q : Question) (openings : List (Opening M g)) (r : Outcome) → IsOfStamp q → Answers q openings r → IsLawful q (logs_of openings) r
+  lawful-answer q openings (Told text) first came = is-lawful q (logs_of openings) (Told text) first came.1
+  lawful-answer q openings (Refused line) first came = is-lawful q (logs_of openings) (Refused line) first came.1
+  lawful-answer (AsOf r at) openings (Fallen line) first came = tt
+  lawful-answer (Audit o) openings (Fallen line) first came = tt
+  lawful-answer (AsOf r at) openings NoMemory first came = tt
+  lawful-answer (Audit o) openings NoMemory first came = tt
+
+  pub tells-answer : (q : Question) (r : Outcome) → IsOfStamp q → TookNothing w old new kept r ⊎ AnswersOver w old new q kept r → TellsOutcome r status s → AskedNothing w old new kept status ⊎ TellsAnswer w old new q kept s status
+  tells-answer q r first (inl none) told = inl (asked-nothing r none told)
+  tells-answer q r first (inr over) told = inr (record { outcome = r; over = over; lawful = lawful-answer q over.openings r first over.came; told = told })
 
   pub tells-watch : (repository : ℕ) (rule : Rule) (r : Outcome) → TookNothing w old new kept r ⊎ (StopsBefore w old new repository rule kept r ⊎ WatchesOver w old new repository rule kept r) → TellsOutcome r status s →
       AskedNothing w old new kept status ⊎ TellsWatch w old new repository rule kept s status
   tells-watch repository rule r (inl none) told = inl (asked-nothing r none told)
-  tells-watch repository rule r (inr over) told = inr (record { outcome = r; over = over; told = told })
+  tells-watch repository rule r (inr over) told = inr (record { outcome = r; over = over; lawful = λ o log puts text ready. counts-on rule repository (logs_of o.openings) log puts text ready; told = told })
 
   -- each medium that was taken is handed back
   pub tellswatch-kept : (repository : ℕ) (rule : Rule) → TellsWatch w old new repository rule kept s status → AllKept old new kept

@@ -3,11 +3,14 @@ use Rattle.std.specs.Prelude.{◌≡◌, ◌⊎◌, ℕ, List}
 use Rattle.run_media.specs.Media.{Media}
 use Rattle.run_volumes.specs.declared.kept.Kept.{Kept}
 use Rattle.run_volumes.specs.Shelves.{ShelfSight}
+use Rattle.run_volumes.specs.Volumes.{logs_of}
 use Rattle.archive_command.specs.declared.outcomes.Outcome.{Outcome}
 use Rattle.archive_command.specs.declared.outcomes.Outcome.TheVariants.{Told, Refused, Fallen, NoMemory}
 use Rattle.archive_command.specs.declared.questions.Question.{Question}
 use Rattle.archive_command.specs.Answers.{AnswersOver}
 use Rattle.command_words.specs.declared.rules.Rule.{Rule}
+use Rattle.archive_promise.specs.Answered.{IsLawful}
+use Rattle.archive_promise.specs.Watched.{CountsOver}
 use Rattle.watch_command.specs.Watches.{StopsBefore, WatchesOver}
 use Rattle.swallow_top.specs.Written.{Sinking, Ends, GotLine}
 
@@ -19,14 +22,16 @@ TellsOutcome (Fallen line) status s = Ends status s 6 line
 TellsOutcome NoMemory status s = status ≡ 7
 
 module _ {M : Type 0} (w : Media M) (old new : ShelfSight) where
-  -- The repository's volumes were taken and opened, this came of the question, and so it was told. Nothing was written to the volumes, which are handed back.
+  -- The repository's volumes were taken and opened, this came of the question, and so it was told: over whatever past left them, lawfully. Nothing was written to the volumes, which are handed back.
   pub record TellsAnswer (question : Question) (kept : List (Kept M)) (s : Sinking) (status : ℕ) : Type 0 where
     pub outcome : Outcome
     pub over : AnswersOver w old new question kept outcome
+    pub lawful : IsLawful question (logs_of over.openings) outcome
     pub told : TellsOutcome outcome status s
 
-  -- The repository's volumes were taken and opened, and that of its totals, unless one of the others stopped it before. This came of the watch, and so it was told. Nothing was written to any but the volume of totals.
+  -- The repository's volumes were taken and opened, and that of its totals, unless one of the others stopped it before. This came of the watch, and so it was told. Over whatever past left the volumes and the totals, those that are ready are lawful. Nothing was written to any but the volume of totals.
   pub record TellsWatch (repository : ℕ) (rule : Rule) (kept : List (Kept M)) (s : Sinking) (status : ℕ) : Type 0 where
     pub outcome : Outcome
     pub over : StopsBefore w old new repository rule kept outcome ⊎ WatchesOver w old new repository rule kept outcome
+    pub lawful : (o : WatchesOver w old new repository rule kept outcome) → CountsOver rule repository (logs_of o.openings)
     pub told : TellsOutcome outcome status s

@@ -1,5 +1,6 @@
-use Rattle.std.proofs.Common.{◌⊎◌, subst}
+use Rattle.std.proofs.Common.{◌⊎◌, refl, subst, sym}
 use Rattle.archive_command.specs.declared.questions.Question.TheVariants as question
+use Rattle.archive_promise.specs.Answered.{IsOfStamp}
 use Rattle.run_volumes.specs.Shelves.{shelf_sight}
 use Rattle.swallow_top.specs.Histories.{AskedNothing}
 use Rattle.swallow_top.specs.Outcomes.{TellsAnswer}
@@ -16,4 +17,5 @@ returns g c =
     let s = sinking (k.taken c.args.sink.now) (k.taken c.tell_outcome.new.sink) (k.faults c.args.sink.now) (k.faults c.tell_outcome.new.sink) in
     let media = c.ask-outcome.result.1.items in
     subst (λ m. AskedNothing w old new media c.tell_outcome.result ⊎ TellsAnswer w old new (question.AsOf c.args.repository m) media s c.tell_outcome.result) c.mark_of-mark.ensures
-    (tells-answer w old new media s c.tell_outcome.result (question.AsOf c.args.repository c.mark_of-mark.result) c.ask-outcome.result.0 c.ask-outcome.ensures c.tell_outcome.ensures)
+    (tells-answer w old new media s c.tell_outcome.result (question.AsOf c.args.repository c.mark_of-mark.result) c.ask-outcome.result.0
+    (subst (λ z. IsOfStamp (question.AsOf c.args.repository z)) (sym c.mark_of-mark.ensures) refl) c.ask-outcome.ensures c.tell_outcome.ensures)
