@@ -1,8 +1,7 @@
 -- What the parts of a call say, said in the words of its promise.
-use Rattle.std.proofs.Common.{◌≡◌, ◌⊎◌, ◌≤◌, ◌==◌, inl, inr, ℕ, Bool, true, false, IsTrue, List, [], ◌∷◌, length, Option, Result, Some, None, Ok, Err, refl, ap, sym, subst, ◌∙◌, arith, if◌then◌else◌}
-use Rattle.std.specs.Io.KnownBytes.{IsAtEnd}
+use Rattle.std.proofs.Common.{◌≡◌, ◌⊎◌, ◌≤◌, ◌==◌, inl, inr, ℕ, Bool, true, false, List, [], ◌∷◌, length, Option, Ok, Err, refl, sym, subst, arith, if◌then◌else◌}
 use Rattle.std.specs.Option.{unwrap_or}
-use Rattle.pseudo_time.specs.Lists.{Every, Has}
+use Rattle.pseudo_time.specs.Lists.{Every}
 use Rattle.plan_form.specs.declared.plans.Plan.{Plan}
 use Rattle.plan_form.specs.PlanFaults.{IsPlanFault}
 use Rattle.plan_form.specs.Plans.{IsPlan}
@@ -29,14 +28,13 @@ use Rattle.swallow_top.specs.declared.stops.Stop.{Stop}
 use Rattle.swallow_top.specs.declared.stops.Stop.TheVariants as stop
 use Rattle.swallow_top.specs.Contract.{CameOf, HasNoRun, IsNoPlan, RefusedAs, RunsPlan}
 use Rattle.swallow_top.specs.Histories.{AskedNothing, TellsHistory, TellsVolumes}
-use Rattle.swallow_top.specs.Inputs.{OfInput}
 use Rattle.swallow_top.specs.Plans.{ReadsPlan}
 use Rattle.swallow_top.specs.Promise.{Call, HasNoWords, TouchedNothing, IsUnread, Promise, WasDone}
 use Rattle.run_volumes.specs.Shelves.{ShelfSight}
 use Rattle.retire_command.specs.declared.outcomes.Retired.{Retired}
 use Rattle.retire_command.specs.declared.outcomes.Retired.TheVariants.{Done, Refused, Fallen, NoMemory}
 use Rattle.swallow_top.specs.Retirements.{TellsRetired, TellsRetirement}
-use Rattle.swallow_top.specs.Tellings.{status_of, status_with}
+use Rattle.swallow_top.specs.Tellings.{status_of}
 use Rattle.swallow_top.specs.Written.{Sinking, Ends, EndsIfAny}
 use Rattle.std.specs.Prelude.{Vec}
 use Rattle.std.specs.declared.alloc.Global.{Global}

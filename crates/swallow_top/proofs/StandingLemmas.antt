@@ -1,5 +1,5 @@
 -- Where its broker has begun all acts, and each has an outcome, an act is shown with its outcome.
-use Rattle.std.proofs.Common.{◌≡◌, ◌+◌, ◌-◌, ◌≤◌, ◌<◌, ◌∙◌, ◌++◌, ◌==◌, nat_lt, ℕ, zero, suc, Bool, true, false, List, [], ◌∷◌, Option, Some, None, length, map, reverse, slice_get, inl, inr, refl, ap, sym, subst, arith, if◌then◌else◌, ◌&&◌, nat_le}
+use Rattle.std.proofs.Common.{◌≡◌, ◌+◌, ◌-◌, ◌≤◌, ◌<◌, ◌∙◌, ◌++◌, ◌==◌, nat_lt, ℕ, zero, suc, Bool, true, false, List, [], ◌∷◌, Option, Some, None, length, map, reverse, slice_get, inl, inr, refl, ap, sym, subst, arith, if◌then◌else◌}
 use Rattle.std.specs.Prelude.{cond, filter}
 use Rattle.std.proofs.lemmas.Bool.{eq-eqb, eqb-true}
 use Rattle.std.proofs.lemmas.Bool.Decides.{nat_tests}
@@ -19,7 +19,7 @@ use Rattle.plan_form.specs.PlanTexts.{EachAct, IsOfLanguage}
 use Rattle.broker_core.specs.Book.{Act, Book, Try}
 use Rattle.broker_core.specs.Readings.{reading}
 use Rattle.broker_core.specs.Sound.{Started}
-use Rattle.broker_core.specs.Tasks.{Task, task_of, tasks}
+use Rattle.broker_core.specs.Tasks.{Task, task_of}
 use Rattle.broker_core.proofs.SoundLemmas.{sound-kept}
 use Rattle.world_core.specs.Nodes.{acts_of}
 use Rattle.report_writer.specs.declared.records.ActReport.{ActReport}
@@ -28,7 +28,7 @@ use Rattle.report_writer.specs.declared.records.TryOutcome.{TryOutcome}
 use Rattle.report_writer.specs.declared.records.ActOutcome.{ActOutcome}
 use Rattle.report_writer.specs.declared.records.ActOutcome.TheVariants as standing
 use Rattle.report_writer.specs.Standings.{count_of, last_outcome, outcome_in, same, standing_after, standing_of, standing_where}
-use Rattle.trace_report.specs.Acts.{act_begun, act_shown, act_with, acts_in, acts_shown, begun_acts, counted_by, shown_end, tasks_of, tries_shown, try_shown}
+use Rattle.trace_report.specs.Acts.{act_begun, act_shown, act_with, acts_shown, begun_acts, counted_by, shown_end, tasks_of, tries_shown, try_shown}
 use Rattle.complete_law.specs.Calm.{HasOutcome, IsOver}
 use Rattle.swallow_top.specs.Finished.{AllBegun}
 use Rattle.swallow_top.specs.Smooth.{IsFinal, IsFinished}

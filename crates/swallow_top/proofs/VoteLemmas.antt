@@ -1,5 +1,5 @@
 -- What votes over the shelf's media come to is what is promised of them.
-use Rattle.std.proofs.Common.{◌≡◌, ◌⊎◌, ◌≤◌, inl, inr, ℕ, IsTrue, List, [], length, map, refl, sym, ap, subst, ◌∙◌, arith}
+use Rattle.std.proofs.Common.{◌≡◌, ◌⊎◌, ◌≤◌, inl, inr, ℕ, IsTrue, List, length, sym, ap, subst, ◌∙◌, arith}
 use Rattle.std.proofs.lemmas.List.{length-map}
 use Rattle.stream_port.specs.Causes.{Rose}
 use Rattle.world_core.specs.declared.traces.Trace.{Trace}

@@ -1,5 +1,5 @@
 -- The members' media are taken one after another, and handed back.
-use Rattle.std.proofs.Common.{◌≡◌, ◌⊎◌, ◌++◌, inl, inr, ℕ, List, [], ◌∷◌, Option, Some, None, refl, ap, sym, ◌∙◌, arith, append-nil, append_assoc}
+use Rattle.std.proofs.Common.{◌≡◌, ◌++◌, inl, inr, ℕ, List, [], ◌∷◌, Option, Some, None, ap, sym, ◌∙◌, arith, append-nil, append_assoc}
 use Rattle.pseudo_time.specs.Lists.{Has}
 use Rattle.pseudo_time.specs.Nodes.{repository}
 use Rattle.medium_port.specs.declared.shelves.MediumName.{MediumName}

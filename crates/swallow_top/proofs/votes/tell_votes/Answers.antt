@@ -1,5 +1,4 @@
 use Rattle.std.proofs.Common.{refl}
-use Rattle.run_rounds.specs.Finishes.{account_of, tellers}
 use Rattle.run_volumes.specs.Shelves.{shelf_sight}
 use Rattle.swallow_top.specs.Votes.{limits_of}
 use Rattle.swallow_top.specs.Written.{sinking}
