@@ -3,7 +3,7 @@ use Rattle.std.specs.Prelude.{◌≡◌, ◌≢◌, ℕ, false, ◌==◌, List, 
 use Rattle.pseudo_time.specs.declared.nodes.NodeKind.TheVariants.{Repository}
 use Rattle.medium_port.specs.Image.{IsImage, IsBlankImage, Only}
 use Rattle.medium_port.specs.MemoryMedia.{pages_of, reads_of, leaves, stops_of, calls_of, faults_in, failed_in}
-use Rattle.medium_port.specs.MemoryShelves.{asked_for, under, failing, new_pages, shelf_faults}
+use Rattle.medium_port.specs.MemoryShelves.{NowUnder, SameCounts, asked_for, under, failing, new_pages, shelf_faults}
 use Rattle.medium_port.specs.declared.shelves.MediumName.{MediumName}
 use Rattle.medium_port.specs.declared.memory_media.MemoryMedium.{MemoryMedium}
 use Rattle.medium_port.specs.declared.memory_shelves.MemoryShelf.{MemoryShelf}
@@ -36,6 +36,12 @@ first_name = record { kind = Repository; number = 1; volume = 0 }
 
 abbrev pub voting_name : MediumName
 voting_name = record { kind = Repository; number = 1; volume = 1010 }
+
+-- the second shelf is the first with this medium more, a volume of the first repository
+pub record HasPut (old new : MemoryShelf) (volume : ℕ) (m : MemoryMedium) : Type 0 where
+  pub now : NowUnder (record { kind = Repository; number = 1; volume = volume }) (Some m) old new
+  pub fails : failing new ≡ failing old
+  pub counts : SameCounts old new
 
 -- a fresh medium of the laboratory with its stop stands under this name
 abbrev pub HasFresh : Lab → MemoryShelf → MediumName → Type 0

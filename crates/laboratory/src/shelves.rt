@@ -1,6 +1,7 @@
 //! The media of a run in the laboratory.
-ghost use Rattle.std.specs.Prelude.{◌≡◌, ◌≤◌, IfOk};
-ghost use Rattle.laboratory.specs.Shelves.{IsFresh, IsLabShelf, stops_at};
+ghost use Rattle.std.specs.Prelude.{◌≡◌, ◌≤◌, false, IfOk};
+ghost use Rattle.medium_port.specs.MemoryMedia.{failed_in};
+ghost use Rattle.laboratory.specs.Shelves.{HasPut, IsFresh, IsLabShelf, stops_at};
 
 use crate::options::Lab;
 use medium_port::{MemoryMedium, MemoryShelf, Stop, StopAt};
@@ -32,6 +33,18 @@ fn medium_for(alloc: Global, lab: &Lab) -> Result<MemoryMedium, AllocError>
     MemoryMedium::new(alloc, lab.pages, stops)
 }
 
+// The shelf with a medium of repository 1 more.
+fn put(shelf: MemoryShelf, volume: u32, medium: MemoryMedium) -> Result<MemoryShelf, AllocError>
+    requires { failed_in medium ≡ false }
+    ensures { IfOk result (λ s. HasPut shelf s volume medium) }
+{
+    let mut shelf = shelf;
+    match shelf.put(NodeKind::Repository, 1, volume, medium) {
+        Ok(()) => Ok(shelf),
+        Err(_) => Err(AllocError),
+    }
+}
+
 /// A shelf of blank media of as many pages as is said, of which two of repository 1 stop where it is said:
 /// its volume 0, and that on which it votes.
 pub fn shelf_for(alloc: Global, lab: &Lab) -> Result<MemoryShelf, AllocError>
@@ -41,12 +54,7 @@ pub fn shelf_for(alloc: Global, lab: &Lab) -> Result<MemoryShelf, AllocError>
 {
     let first = medium_for(alloc, lab)?;
     let voting = medium_for(alloc, lab)?;
-    let mut shelf = MemoryShelf::new(alloc, lab.pages);
-    if shelf.put(NodeKind::Repository, 1, 0, first).is_err() {
-        return Err(AllocError);
-    }
-    match shelf.put(NodeKind::Repository, 1, 1_010, voting) {
-        Ok(()) => Ok(shelf),
-        Err(_) => Err(AllocError),
-    }
+    let one = put(MemoryShelf::new(alloc, lab.pages), 0, first)?;
+    let both = put(one, 1_010, voting)?;
+    Ok(both)
 }

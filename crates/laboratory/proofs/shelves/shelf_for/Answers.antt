@@ -7,11 +7,11 @@ use Rattle.laboratory.proofs.shelves.shelf_for.Goals as goal
 apart : first_name ≡ voting_name → ⊥
 apart e = let same : 0 ≡ 1010 = ap (λ (x : MediumName). x.volume) e in absurd (omega (arith, same))
 
-pub returns-in-Ok : goal.returns-in-Ok
-returns-in-Ok c =
-    let shelf = c.new-shelf.ensures in
-    let one = c.put.ensures in
-    let two = c.in-Ok.ensures in
+pub returns : goal.returns
+returns c =
+    let shelf = c.new.ensures in
+    let one = c.in_ok-one.ensures in
+    let two = c.in_ok-both.ensures in
     record {
       first = (c.in_ok-first.first, two.now.others first_name apart ∙ one.now.there, c.in_ok-first.ensures);
       voting = (c.in_ok-voting.voting, two.now.there, c.in_ok-voting.ensures);
