@@ -4,6 +4,9 @@ help_swallow_main() {
 ./swallow FOLDER run [OPTIONS] < PLAN       runs a plan over the logs in FOLDER, and writes its report
 ./swallow FOLDER history OBJECT             writes the history of an object, as 1.7
 ./swallow FOLDER retire R CLOCK             carries repository R forward at a mark, into a fresh volume
+./swallow FOLDER watch R RULE               totals of repository R's objects, carried on: count, sum or last
+./swallow FOLDER asof R CLOCK               writes the map of repository R's objects as of a clock
+./swallow FOLDER audit OBJECT               writes all versions of an object that ever stood
 ./swallow FOLDER votes [OPTIONS] < POLLS    lets repositories 1 to 3 vote, and writes how each poll stands
 ./swallow FOLDER load SEED COUNT [OPTIONS]  runs COUNT + 1 acts made from SEED, and writes a summary
 ./swallow build                             proves and builds the program here, and compares it with release/
@@ -15,7 +18,7 @@ help_swallow_main() {
 Status 0: each act has its outcome, each poll a decision. 1: no command. 2: no plan, no polls, or a run
 that the folder refuses. 3: standard input failed. 4: standard output failed. 5: an act has no outcome,
 or a poll no decision. 6: a node is down (of votes: and a poll has no decision).
-7: no memory. 8: a retirement that is refused. 70: the program couldn't be built or started.
+7: no memory. 8: a retirement, a total or a map that can't be. 70: the program couldn't be built or started.
 
 docs/COMMANDS.md has it with examples and what to do, docs/FORMATS.md the texts of plans and reports.
 TEXT
@@ -29,8 +32,7 @@ help_swallow_lab() {
 --pages P      pages of each medium, 1 to 1,048,576
 --lose L       about one message in L is lost, by its number, 0 to 1,000,000; 0 loses none
 --stop K       repository 1's medium stops in the write that opens page K, 0 to 1,048,575; 0 nowhere
---words TEXT   "run OPTIONS", "history OBJECT", "retire R CLOCK", "votes OPTIONS" or "load SEED COUNT OPTIONS",
-               as of ./swallow
+--words TEXT   the words of ./swallow behind its FOLDER, as "load 7 20" or "votes --ticks 5"
 
 The statuses are those of ./swallow. docs/COMMANDS.md has it with what to do.
 TEXT
