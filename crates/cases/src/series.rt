@@ -45,10 +45,18 @@ pub fn stops_each<R: Threads + Wait + Sync>(
     Ok(table)
 }
 
-// The crashes that the text of a call with these words tells of. That of a retirement has no line of the wire.
+// Whether texts of the command have no line of the wire.
+fn has_no_wire(verb: &str) -> bool {
+    match verb {
+        "retire" | "watch" | "asof" | "audit" => true,
+        _ => false,
+    }
+}
+
+// The crashes that the text of a call with these words tells of: none, where it has no line of the wire.
 fn crashes_in(words: &[&str], text: &str) -> Option<u64> {
     match words {
-        [verb, ..] if *verb == "retire" => Some(0),
+        [verb, ..] if has_no_wire(verb) => Some(0),
         _ => crashes_of(text),
     }
 }
