@@ -2,8 +2,8 @@
 ghost use Rattle.std.specs.Prelude.{◌≡◌, OnErr};
 
 use crate::faults::CaseFault;
-use crate::subjects::Subject;
 use crate::stores::{Stored, medium};
+use crate::subjects::Subject;
 use crate::words::{object, signed, stamp, time};
 use medium_port::MemoryMedium;
 use object_header::HeaderTable;

@@ -30,11 +30,7 @@ fn on_table(
 }
 
 // What comes of a line on a table, all of which is stored.
-fn on_stored(
-    alloc: Global,
-    stored: Stored,
-    words: &[&str],
-) -> Result<(Tables, String), CaseFault> {
+fn on_stored(alloc: Global, stored: Stored, words: &[&str]) -> Result<(Tables, String), CaseFault> {
     match words {
         ["table"] => Ok((Tables::Stored(stored.again(alloc)?), String::new(alloc))),
         ["put", name, at, number] => {
