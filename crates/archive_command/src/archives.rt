@@ -50,8 +50,10 @@ fn add_volume(
     log: &[Effect],
 ) -> Result<(), AllocError>
     requires few { volume < 1000 }
-    ensures logs { OnOk result (map (λ m. m.items) logs.new.items ≡ map (λ m. m.items) logs.old.items ++ map (λ c. marks c.log) (spec.complete_from volume (log.now ∷ []))) }
-    ensures volumes { OnOk result (volumes.new.items ≡ volumes.old.items ++ map (λ c. c.volume) (spec.complete_from volume (log.now ∷ []))) }
+    ensures logs { OnOk result (map (λ m. m.items) logs.new.items ≡ map (λ m. m.items) logs.old.items ++ map
+        (λ c. marks c.log) (spec.complete_from volume (log.now ∷ []))) }
+    ensures volumes { OnOk result (volumes.new.items ≡ volumes.old.items ++ map (λ c. c.volume)
+        (spec.complete_from volume (log.now ∷ []))) }
     ensures first { OnOk result (volume ≡ 0 → 0 < length logs.new.items) }
     ensures more { OnOk result (length logs.old.items ≤ length logs.new.items) }
     ensures one { OnOk result (length logs.new.items ≤ length logs.old.items + 1) }

@@ -86,7 +86,8 @@ fn push_version(
     archived: &Archived,
     version: &Version,
 ) -> Result<(), AllocError>
-    ensures { OnOk result (out.new.items ≡ out.old.items ++ spec.told_line (λ p. finite.get settles.now p) archived.now.archive archived.now.volumes.items version.now) }
+    ensures { OnOk result (out.new.items ≡ out.old.items ++ spec.told_line
+        (λ p. finite.get settles.now p) archived.now.archive archived.now.volumes.items version.now) }
 {
     let settled = settles.get(version.start.stamp());
     let volume = holding_volume(archived, version.object, version.start);
@@ -102,7 +103,8 @@ fn push_versions(
     archived: &Archived,
     versions: &[Version],
 ) -> Result<(), AllocError>
-    ensures { OnOk result (out.new.items ≡ out.old.items ++ flat_map (spec.told_line (λ p. finite.get settles.now p) archived.now.archive archived.now.volumes.items) versions.now) }
+    ensures { OnOk result (out.new.items ≡ out.old.items ++ flat_map
+        (spec.told_line (λ p. finite.get settles.now p) archived.now.archive archived.now.volumes.items) versions.now) }
 {
     for version in versions {
         push_version(alloc, out, settles, archived, version)?;

@@ -20,8 +20,10 @@ pub fn ask<S: Shelf>(
     question: Question,
     shelf: &mut S,
 ) -> (Outcome, Vec<Kept<S::Medium>>)
-    ensures { spec.TookNothing S.Medium.Medium (shelf_sight S.Shelf shelf.old) (shelf_sight S.Shelf shelf.new) result.1.items result.0
-        ⊎ spec.AnswersOver S.Medium.Medium (shelf_sight S.Shelf shelf.old) (shelf_sight S.Shelf shelf.new) question result.1.items result.0 }
+    ensures { spec.TookNothing S.Medium.Medium (shelf_sight S.Shelf shelf.old)
+        (shelf_sight S.Shelf shelf.new) result.1.items result.0
+        ⊎ spec.AnswersOver S.Medium.Medium (shelf_sight S.Shelf shelf.old)
+        (shelf_sight S.Shelf shelf.new) question result.1.items result.0 }
 {
     let Ok(room) = Vec::with_capacity(alloc, 1_000) else {
         return (Outcome::NoMemory, Vec::new(alloc));

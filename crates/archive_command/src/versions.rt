@@ -39,7 +39,8 @@ fn add_version(
     object: ObjectId,
     mark: &Mark,
 ) -> Result<(), AllocError>
-    ensures { (m : List Mark) → versions.old.items ≡ spec.versions_of object m → OnOk result (versions.new.items ≡ spec.versions_of object (mark.now ∷ m)) }
+    ensures { (m : List Mark) → versions.old.items ≡ spec.versions_of object m →
+        OnOk result (versions.new.items ≡ spec.versions_of object (mark.now ∷ m)) }
 {
     match mark {
         Mark::Put(name, start, value) => {

@@ -70,10 +70,13 @@ impl Archive {
 
     /// The map as of the pseudotime: of each object its last committed version below.
     pub fn asof(&self, mark: PseudoTime) -> Result<Vec<Moved<Value>>, AsOfFault>
-        ensures ok { IfOk result (λ list. (o : ObjectId) → moved_at o list.items ≡ entry_of o (last_below (reverse (joined self.now)) o mark)) }
+        ensures ok { IfOk result (λ list. (o : ObjectId) →
+            moved_at o list.items ≡ entry_of o (last_below (reverse (joined self.now)) o mark)) }
         ensures rising { IfOk result (λ list. AreRising list.items) }
         ensures decided { OnOk result (first_open (reverse (joined self.now)) mark ≡ None) }
-        ensures undecided { IfErr result (λ e. (e ≡ fault.NoMemory) ⊎ ((s : Start) × (first_open (reverse (joined self.now)) mark ≡ Some s) × (e ≡ fault.Undecided s.object s.start))) }
+        ensures undecided { IfErr result (λ e. (e ≡ fault.NoMemory) ⊎
+            ((s : Start) × (first_open (reverse (joined self.now)) mark ≡ Some s) ×
+            (e ≡ fault.Undecided s.object s.start))) }
     {
         let marks = self.joined()?;
         if let Some(first) = first_open(self.alloc, marks.as_slice(), mark)? {

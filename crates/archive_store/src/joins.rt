@@ -46,8 +46,10 @@ fn add_new(
     floor: &Option<PseudoTime>,
     mark: &Mark,
 ) -> Result<(), AllocError>
-    ensures marks { (m : List Mark) → Meets met.old m → OnOk result (marks.new.items ≡ marks.old.items ++ spec.firsts floor.now m (mark.now ∷ [])) }
-    ensures met { (m : List Mark) → Meets met.old m → OnOk result (Meets met.new (spec.met_after floor.now m (mark.now ∷ []))) }
+    ensures marks { (m : List Mark) → Meets met.old m →
+        OnOk result (marks.new.items ≡ marks.old.items ++ spec.firsts floor.now m (mark.now ∷ [])) }
+    ensures met { (m : List Mark) → Meets met.old m →
+        OnOk result (Meets met.new (spec.met_after floor.now m (mark.now ∷ []))) }
 {
     if is_new(floor, met, mark) {
         let copy = copy_of(alloc, mark)?;
@@ -65,7 +67,8 @@ fn add_firsts(
     floor: &Option<PseudoTime>,
     log: &[Mark],
 ) -> Result<(), AllocError>
-    ensures marks { (m : List Mark) → Meets met.old m → OnOk result (marks.new.items ≡ marks.old.items ++ spec.firsts floor.now m log.now) }
+    ensures marks { (m : List Mark) → Meets met.old m →
+        OnOk result (marks.new.items ≡ marks.old.items ++ spec.firsts floor.now m log.now) }
     ensures met { (m : List Mark) → Meets met.old m → OnOk result (Meets met.new (spec.met_after floor.now m log.now)) }
 {
     for mark in log {

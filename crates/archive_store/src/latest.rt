@@ -33,7 +33,8 @@ fn folded_by<F: Callback<Latest> + Drop>(
     requires follows { F.follows call }
     requires unretired { floor_of (reverse marks.now) ≡ None }
     requires closed { (o : ObjectId) → is_open (reverse marks.now) o at (λ x. true) ≡ false }
-    ensures ok { IfOk result (λ list. (o : ObjectId) → moved_at o list.items ≡ entry_of o (last_below (reverse marks.now) o at)) }
+    ensures ok { IfOk result (λ list. (o : ObjectId) →
+        moved_at o list.items ≡ entry_of o (last_below (reverse marks.now) o at)) }
     ensures rising { IfOk result (λ list. AreRising list.items) }
     ensures err { IfErr result (λ e. e ≡ faults.NoMemory) }
 {
@@ -52,7 +53,8 @@ pub fn latest_of(
 ) -> Result<Vec<Moved<Value>>, AsOfFault>
     requires unretired { floor_of (reverse marks.now) ≡ None }
     requires closed { (o : ObjectId) → is_open (reverse marks.now) o at (λ x. true) ≡ false }
-    ensures ok { IfOk result (λ list. (o : ObjectId) → moved_at o list.items ≡ entry_of o (last_below (reverse marks.now) o at)) }
+    ensures ok { IfOk result (λ list. (o : ObjectId) →
+        moved_at o list.items ≡ entry_of o (last_below (reverse marks.now) o at)) }
     ensures rising { IfOk result (λ list. AreRising list.items) }
     ensures err { IfErr result (λ e. e ≡ faults.NoMemory) }
 {

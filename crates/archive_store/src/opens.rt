@@ -29,7 +29,8 @@ fn is_unsettled(settles: &Settles, at: PseudoTime, start: PseudoTime) -> bool
 // The first, with one mark more.
 #[tactic(auto, unfolding(crate::specs::Opens::first_among))]
 fn with_mark(first: Option<Start>, settles: &Settles, at: PseudoTime, mark: &Mark) -> Option<Start>
-    ensures { (m : List Mark) → first ≡ spec.first_among (λ p. finite.get settles.now p) at m → result ≡ spec.first_among (λ p. finite.get settles.now p) at (mark.now ∷ m) }
+    ensures { (m : List Mark) → first ≡ spec.first_among (λ p. finite.get settles.now p) at m →
+        result ≡ spec.first_among (λ p. finite.get settles.now p) at (mark.now ∷ m) }
 {
     match mark {
         Mark::Put(object, start, _) => {

@@ -81,7 +81,8 @@ fn add_first(
     first: Option<Effect>,
 ) -> Result<(), AllocError>
     requires none { effects.old.items ≡ [] }
-    requires may { inputs.MayBegin ledger.old.acts ledger.old.notes (ledgers.kept ledger.old.notes ledger.old.answers) first }
+    requires may { inputs.MayBegin ledger.old.acts ledger.old.notes
+        (ledgers.kept ledger.old.notes ledger.old.answers) first }
     ensures ok { OnOk result (ledger.new ≡ inputs.begun ledger.old first) }
     ensures effects { OnOk result (effects.new.items ≡ inputs.firsts first) }
     ensures notes { OnErr result (ledger.new.notes ≡ ledger.old.notes) }
@@ -105,11 +106,13 @@ fn yielded(
     first: Option<Effect>,
     heard: &Heard,
 ) -> Result<Gain, AllocError>
-    requires { inputs.MayBegin ledger.old.acts ledger.old.notes (ledgers.kept ledger.old.notes ledger.old.answers) first }
+    requires { inputs.MayBegin ledger.old.acts ledger.old.notes
+        (ledgers.kept ledger.old.notes ledger.old.answers) first }
     ensures effects { IfOk result (λ w. reverse w.effects.items ≡ inputs.effects_from ledger.old first heard.now) }
     ensures ledger { OnOk result (ledger.new ≡ inputs.ledger_from ledger.old first heard.now) }
     ensures phase { IfOk result (λ w. w.phase ≡ inputs.phase_in ledger.new heard.now) }
-    ensures outs { IfOk result (λ w. w.outs.items ≡ inputs.listed (phases.standing_at ledger.new.acts ledger.new.notes w.phase)) }
+    ensures outs { IfOk result (λ w. w.outs.items ≡ inputs.listed
+        (phases.standing_at ledger.new.acts ledger.new.notes w.phase)) }
     ensures are_notes { OnOk result (ledgers.AreNotes ledger.new.acts ledger.new.notes ledger.new.answers) }
     ensures kept { ledgers.kept ledger.old.notes ledger.new.answers ≡ ledgers.kept ledger.old.notes ledger.old.answers }
     ensures number { ledger.new.number ≡ ledger.old.number }
@@ -181,7 +184,8 @@ impl Broker {
         requires run { 1 ≤ run }
         requires acts { ledgers.AreBrokerActs acts.now }
         requires log { AreEffects effects.now }
-        ensures opens { (script : List ℕ → Tree) → Scripted script acts.now → spec.Opens script number run acts.now effects.now result }
+        ensures opens { (script : List ℕ → Tree) → Scripted script acts.now →
+            spec.Opens script number run acts.now effects.now result }
         ensures fresh { IfOk result (λ b. b ≡ spec.opened_broker number run acts.now effects.now) }
     {
         let mut ledger = Ledger::new(alloc, number, run, acts)?;
@@ -203,7 +207,8 @@ impl Broker {
 
     // Adds the effect, hears what is heard now, and what follows.
     fn advance(&mut self, first: Option<Effect>, heard: Heard) -> Result<Turn, AllocError>
-        requires fits { (script : List ℕ → Tree) → Scripted script self.old.acts → spec.FirstFits script self.old first }
+        requires fits { (script : List ℕ → Tree) → Scripted script self.old.acts →
+            spec.FirstFits script self.old first }
         requires in_range { ranges.FirstInRange first }
         ensures gives { (script : List ℕ → Tree) → Scripted script self.old.acts →
             IfOk result (λ t. spec.Gives (spec.follows script self.old first heard) t self.old self.new) }

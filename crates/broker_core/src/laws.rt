@@ -16,19 +16,24 @@ ghost use Rattle.broker_core.specs.Turns.{Desk, Input, desk_turn};
 /// Two scripts of the language with one text are one. So the reading of some acts reads each of them,
 /// and one reading reads the acts of many plans: that of all their acts.
 pub fn law_of_readings()
-    ensures apart { (n m : ℕ) (a b : Block) → IsPrintable n a → IsPrintable m b → script_text a ≡ script_text b → a ≡ b }
+    ensures apart { (n m : ℕ) (a b : Block) → IsPrintable n a → IsPrintable m b →
+        script_text a ≡ script_text b → a ≡ b }
     ensures own { (acts : List ActSpec) → Every IsBrokerAct acts → Scripted (reading acts) acts }
-    ensures among { (all acts : List ActSpec) → Every IsBrokerAct all → Every IsBrokerAct acts → ((a : ActSpec) → Has a acts → Has a all) →
+    ensures among { (all acts : List ActSpec) → Every IsBrokerAct all → Every IsBrokerAct acts →
+        ((a : ActSpec) → Has a acts → Has a all) →
         Scripted (reading all) acts }
 {}
 
 /// Two readings that agree on the texts of a broker's acts give the same turns, count the same of a
 /// log, and refuse the same logs.
 pub fn readings_agree()
-    ensures turns { (s s' : List ℕ → Tree) (me run : ℕ) (acts : List Task) → ((i : ℕ) (t : Task) → slice_get acts i ≡ Some t → s t.script ≡ s' t.script)
+    ensures turns { (s s' : List ℕ → Tree) (me run : ℕ) (acts : List Task) →
+        ((i : ℕ) (t : Task) → slice_get acts i ≡ Some t → s t.script ≡ s' t.script)
         → (d : Desk) (i : Input) → desk_turn s me run acts d i ≡ desk_turn s' me run acts d i }
-    ensures counts { (s s' : List ℕ → Tree) (me run : ℕ) (acts : List Task) → ((i : ℕ) (t : Task) → slice_get acts i ≡ Some t → s t.script ≡ s' t.script)
+    ensures counts { (s s' : List ℕ → Tree) (me run : ℕ) (acts : List Task) →
+        ((i : ℕ) (t : Task) → slice_get acts i ≡ Some t → s t.script ≡ s' t.script)
         → (log : List Effect) → keep s me run acts log ≡ keep s' me run acts log }
-    ensures faults { (s s' : List ℕ → Tree) (me run : ℕ) (acts : List Task) → ((i : ℕ) (t : Task) → slice_get acts i ≡ Some t → s t.script ≡ s' t.script)
+    ensures faults { (s s' : List ℕ → Tree) (me run : ℕ) (acts : List Task) →
+        ((i : ℕ) (t : Task) → slice_get acts i ≡ Some t → s t.script ≡ s' t.script)
         → (log : List Effect) → resume_fault s me run acts log ≡ resume_fault s' me run acts log }
 {}

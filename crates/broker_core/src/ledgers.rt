@@ -37,7 +37,13 @@ impl Model for Ledger {
 
     ghost coded = { Prim.hlevel (codes, stmt.the_row.coded) };
 
-    ghost view = { λ l. record { number = l.number; run = l.run; acts = l.acts.items; notes = l.notes; answers = l.answers.items } };
+    ghost view = { λ l. record {
+      number = l.number;
+      run = l.run;
+      acts = l.acts.items;
+      notes = l.notes;
+      answers = l.answers.items;
+    } };
 
     ghost invariant = { λ l. IsLedger l.number l.acts.items l.notes l.answers.items l.stepper };
 }
@@ -59,7 +65,13 @@ impl Ledger {
         requires low { 1 ≤ number }
         requires high { number ≤ 16 }
         requires acts { spec.AreBrokerActs acts.now }
-        ensures { IfOk result (λ l. l ≡ record { number = number; run = run; acts = acts.now; notes = notes.blank_notes; answers = [] }) }
+        ensures { IfOk result (λ l. l ≡ record {
+          number = number;
+          run = run;
+          acts = acts.now;
+          notes = notes.blank_notes;
+          answers = [];
+        }) }
     {
         let acts = copy_acts(alloc, acts)?;
         Ok(Ledger {
@@ -180,7 +192,8 @@ impl Ledger {
     pub fn stop(&mut self) -> Result<Next, AllocError>
         requires { self.old.notes.tries ≢ 0 }
         ensures same { self.new ≡ self.old }
-        ensures stop { IfOk result (λ n. stop_of n ≡ notes.stop_at self.old.acts self.old.notes (spec.kept self.old.notes self.old.answers)) }
+        ensures stop { IfOk result (λ n. stop_of n ≡ notes.stop_at self.old.acts self.old.notes
+            (spec.kept self.old.notes self.old.answers)) }
     {
         if let Some(run) = &mut self.stepper {
             let next = run.next(self.alloc)?;
@@ -198,7 +211,10 @@ impl Ledger {
     fn add_answer(&mut self, given: Given) -> Result<(), AllocError>
         requires { spec.IsAskedFor self.old.acts self.old.notes (spec.kept self.old.notes self.old.answers) given }
         ensures ok { OnOk result (self.new ≡
-            record self.old { notes = notes.answer_noted self.old.notes; answers = spec.kept self.old.notes self.old.answers ++ given ∷ [] }) }
+            record self.old {
+              notes = notes.answer_noted self.old.notes;
+              answers = spec.kept self.old.notes self.old.answers ++ given ∷ [];
+            }) }
         ensures notes { OnErr result (self.new.notes ≡ self.old.notes) }
         ensures kept { spec.kept self.old.notes self.new.answers ≡ spec.kept self.old.notes self.old.answers }
         ensures number { self.new.number ≡ self.old.number }

@@ -57,7 +57,8 @@ fn is_act(
 }
 
 fn fits_try(ledger: &Ledger, index: u32, stamp: Stamp) -> bool
-    ensures { result ≡ notes.fits_try_at ledger.now.number (notes.act_at ledger.now.acts ledger.now.notes) index stamp ledger.now.notes }
+    ensures { result ≡ notes.fits_try_at ledger.now.number
+        (notes.act_at ledger.now.acts ledger.now.notes) index stamp ledger.now.notes }
 {
     let Some(act) = ledger.last_act() else {
         return false;
@@ -89,7 +90,8 @@ fn is_spent(outcome: &Outcome) -> bool
 }
 
 fn fits_end(ledger: &Ledger, index: u32, outcome: &Outcome) -> bool
-    ensures { result ≡ notes.fits_at ledger.now.number ledger.now.acts ledger.now.notes (ledgers.kept ledger.now.notes ledger.now.answers)
+    ensures { result ≡ notes.fits_at ledger.now.number ledger.now.acts ledger.now.notes
+        (ledgers.kept ledger.now.notes ledger.now.answers)
         (effect.End index outcome.now) }
 {
     let Some(act) = ledger.last_act() else {
@@ -105,7 +107,8 @@ fn fits_end(ledger: &Ledger, index: u32, outcome: &Outcome) -> bool
 fn reads(ledger: &mut Ledger) -> Result<bool, AllocError>
     requires { ledger.old.notes.tries ≢ 0 }
     ensures same { ledger.new ≡ ledger.old }
-    ensures reads { IfOk result (λ r. r ≡ fits.reads_now (notes.stop_at ledger.old.acts ledger.old.notes (ledgers.kept ledger.old.notes ledger.old.answers))) }
+    ensures reads { IfOk result (λ r. r ≡ fits.reads_now
+        (notes.stop_at ledger.old.acts ledger.old.notes (ledgers.kept ledger.old.notes ledger.old.answers))) }
 {
     let next = ledger.stop()?;
     Ok(matches!(next, Next::Read(_)))
@@ -115,7 +118,8 @@ fn writes(ledger: &mut Ledger) -> Result<bool, AllocError>
     requires { ledger.old.notes.tries ≢ 0 }
     ensures same { ledger.new ≡ ledger.old }
     ensures writes { IfOk result (λ r. r ≡
-        fits.writes_now (notes.stop_at ledger.old.acts ledger.old.notes (ledgers.kept ledger.old.notes ledger.old.answers))) }
+        fits.writes_now (notes.stop_at ledger.old.acts ledger.old.notes
+        (ledgers.kept ledger.old.notes ledger.old.answers))) }
 {
     let next = ledger.stop()?;
     Ok(matches!(next, Next::Write(_, _)))
@@ -232,7 +236,8 @@ pub fn counted_effects(
     requires high { number ≤ 16 }
     requires acts { ledgers.AreBrokerActs acts.now }
     ensures { (script : List ℕ → Tree) → Scripted script acts.now →
-        IfOk result (λ flags. reverse flags.items ≡ counting script number run (tasks.tasks acts.now) (reverse effects.now)) }
+        IfOk result (λ flags. reverse flags.items ≡ counting script number run (tasks.tasks acts.now)
+        (reverse effects.now)) }
 {
     let mut ledger = Ledger::new(alloc, number, run, acts)?;
     let mut flags = Vec::new(alloc);

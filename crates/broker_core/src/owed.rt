@@ -34,7 +34,8 @@ fn start(alloc: Global, act: Option<&ActSpec>) -> Result<Option<Effect>, AllocEr
 // A further try of the last act, or that it is spent.
 fn try_or_spent(ledger: &Ledger) -> Effect
     requires { ledger.now.notes.started ≢ 0 }
-    ensures { result ≡ spec.try_or_spent_at ledger.now.number (notes.act_at ledger.now.acts ledger.now.notes) ledger.now.notes }
+    ensures { result ≡ spec.try_or_spent_at ledger.now.number
+        (notes.act_at ledger.now.acts ledger.now.notes) ledger.now.notes }
 {
     let notes = ledger.notes();
     let Some(act) = ledger.last_act() else {
@@ -90,7 +91,8 @@ fn due(ledger: &Ledger, heard: &Heard) -> Result<Option<Effect>, AllocError>
 
 // The next effect that is owed at this stage.
 fn owed(ledger: &Ledger, heard: &Heard, phase: &Phase) -> Result<Option<Effect>, AllocError>
-    ensures { IfOk result (λ e. e ≡ spec.owed_at ledger.now.number ledger.now.acts ledger.now.run ledger.now.notes heard.now phase.now) }
+    ensures { IfOk result (λ e. e ≡ spec.owed_at ledger.now.number ledger.now.acts ledger.now.run ledger.now.notes
+        heard.now phase.now) }
 {
     if ledger.notes().run < ledger.run() {
         return Ok(Some(Effect::Run {
@@ -115,10 +117,13 @@ pub fn settle(
     heard: &Heard,
     effects: &mut Vec<Effect>,
 ) -> Result<Phase, AllocError>
-    ensures settled { OnOk result (ledgers.settled ledger.old.number ledger.old.run ledger.old.acts ledger.old.answers heard.now
-        (ledgers.most_steps ledger.old.acts) (reverse effects.old.items) ledger.old.notes ≡ (reverse effects.new.items, ledger.new.notes)) }
+    ensures settled { OnOk result (ledgers.settled ledger.old.number ledger.old.run ledger.old.acts
+        ledger.old.answers heard.now
+        (ledgers.most_steps ledger.old.acts) (reverse effects.old.items) ledger.old.notes ≡
+        (reverse effects.new.items, ledger.new.notes)) }
     ensures phase { IfOk result (λ p. p ≡
-        spec.phase_at ledger.new.acts ledger.new.run ledger.new.notes (ledgers.kept ledger.new.notes ledger.new.answers) heard.now) }
+        spec.phase_at ledger.new.acts ledger.new.run ledger.new.notes
+        (ledgers.kept ledger.new.notes ledger.new.answers) heard.now) }
     ensures answers { ledger.new.answers ≡ ledger.old.answers }
     ensures number { ledger.new.number ≡ ledger.old.number }
     ensures run { ledger.new.run ≡ ledger.old.run }

@@ -141,7 +141,8 @@ fn phase_by_open(ledger: &mut Ledger, heard: &Heard, last: Last) -> Result<Phase
     requires few { last.answered ≤ 10000 }
     ensures same { ledger.new ≡ ledger.old }
     ensures phase { IfOk result (λ p. p ≡
-        spec.phase_by_stop heard.now last (notes.stop_at ledger.old.acts ledger.old.notes (kept ledger.old.notes ledger.old.answers))) }
+        spec.phase_by_stop heard.now last (notes.stop_at ledger.old.acts ledger.old.notes
+        (kept ledger.old.notes ledger.old.answers))) }
 {
     let is_over_there = is_time(&heard.ended, last.time());
     let is_opening = last.answered == 0 && !is_stamp(&heard.begun, last.stamp);
@@ -161,7 +162,8 @@ fn phase_by_open(ledger: &mut Ledger, heard: &Heard, last: Last) -> Result<Phase
 /// The stage of the last try of this run.
 pub fn phase_now(ledger: &mut Ledger, heard: &Heard) -> Result<Phase, AllocError>
     ensures same { ledger.new ≡ ledger.old }
-    ensures phase { IfOk result (λ p. p ≡ spec.phase_at ledger.old.acts ledger.old.run ledger.old.notes (kept ledger.old.notes ledger.old.answers) heard.now) }
+    ensures phase { IfOk result (λ p. p ≡ spec.phase_at ledger.old.acts ledger.old.run ledger.old.notes
+        (kept ledger.old.notes ledger.old.answers) heard.now) }
 {
     if !ledger.is_here() {
         return Ok(Phase::Idle);

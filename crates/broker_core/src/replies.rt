@@ -204,7 +204,8 @@ fn is_finished_for(ledger: &mut Ledger, message: &Message) -> Result<bool, Alloc
     requires { ledger.old.notes.tries ≢ 0 }
     ensures same { ledger.new ≡ ledger.old }
     ensures finished { IfOk result (λ f.
-        f ≡ spec.finished_for message.now (notes.stop_at ledger.old.acts ledger.old.notes (kept ledger.old.notes ledger.old.answers))) }
+        f ≡ spec.finished_for message.now (notes.stop_at ledger.old.acts ledger.old.notes
+        (kept ledger.old.notes ledger.old.answers))) }
 {
     match message {
         Message::Decided { .. } => {
@@ -222,10 +223,12 @@ pub fn reply_to(
     heard: &Heard,
     message: &Message,
 ) -> Result<Reply, AllocError>
-    requires { phase.now ≡ spec.phase_at ledger.old.acts ledger.old.run ledger.old.notes (kept ledger.old.notes ledger.old.answers) heard.now }
+    requires { phase.now ≡ spec.phase_at ledger.old.acts ledger.old.run ledger.old.notes
+        (kept ledger.old.notes ledger.old.answers) heard.now }
     ensures same { ledger.new ≡ ledger.old }
     ensures reply { IfOk result (λ r. r ≡
-        spec.reply_at ledger.old.acts ledger.old.notes (kept ledger.old.notes ledger.old.answers) phase.now heard.now message.now) }
+        spec.reply_at ledger.old.acts ledger.old.notes (kept ledger.old.notes ledger.old.answers) phase.now
+        heard.now message.now) }
 {
     let Some(last) = ledger.notes().last else {
         return Ok(Reply::Ignored);

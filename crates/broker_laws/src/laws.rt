@@ -20,8 +20,10 @@ ghost use Rattle.broker_laws.specs.Posts.{Clocks, Distinct, IsLater, PostHolds, 
 /// No stamp of a log is above its clock, each is the broker's own, and no two are equal: over all runs
 /// of the log.
 pub fn stamps_are_own()
-    ensures below { (script : List ℕ → Tree) (me : ℕ) (log : List Effect) → IsTidy script me log → Clocks me (book log) }
-    ensures distinct { (script : List ℕ → Tree) (me : ℕ) (log : List Effect) → IsTidy script me log → Distinct (tries (book log)) }
+    ensures below { (script : List ℕ → Tree) (me : ℕ) (log : List Effect) → IsTidy script me log →
+        Clocks me (book log) }
+    ensures distinct { (script : List ℕ → Tree) (me : ℕ) (log : List Effect) → IsTidy script me log →
+        Distinct (tries (book log)) }
 {}
 
 /// A try of the book is found by its stamp.
@@ -47,7 +49,8 @@ pub fn messages_stay_true()
 
 /// All Reads and Writes that a broker sends with one pseudotime are equal.
 pub fn one_request()
-    ensures { (script : List ℕ → Tree) (ts : List Try) (x : TimeParts) (q r : Request) → IsAskOf script ts x q → IsAskOf script ts x r → q ≡ r }
+    ensures { (script : List ℕ → Tree) (ts : List Try) (x : TimeParts) (q r : Request) → IsAskOf script ts x q →
+        IsAskOf script ts x r → q ≡ r }
 {}
 
 /// Of a log whose effects fit, and that is ready, every effect counts, and its acts are the plan's; and
@@ -58,7 +61,8 @@ pub fn log_counts_whole()
     ensures started { (script : List ℕ → Tree) (me run : ℕ) (acts : List Task) (log : List Effect) →
         IsTidy script me log → IsReady script me run acts log → (book log).run ≡ run → Started acts (book log).acts }
     ensures planned { (script : List ℕ → Tree) (me run : ℕ) (acts : List Task) (log : List Effect) →
-        IsTidy script me log → IsReady script me run acts log → (book log).run ≡ run → Every (IsPlanned run acts) (tries_of (book log).acts) }
+        IsTidy script me log → IsReady script me run acts log → (book log).run ≡ run →
+        Every (IsPlanned run acts) (tries_of (book log).acts) }
     ensures before { (script : List ℕ → Tree) (me run : ℕ) (acts : List Task) (late log : List Effect) →
         IsTidy script me (late ++ log) → IsReady script me run acts (late ++ log) → IsReady script me run acts log }
 {}
@@ -66,7 +70,8 @@ pub fn log_counts_whole()
 /// Each answer was asked for and came in a message; each End is what the script allows, and came in a
 /// message where another node gave it.
 pub fn answers_came()
-    ensures asked { (script : List ℕ → Tree) (me : ℕ) (log : List Effect) → IsTidy script me log → Every (IsPlayed script) (tries (book log)) }
+    ensures asked { (script : List ℕ → Tree) (me : ℕ) (log : List Effect) → IsTidy script me log →
+        Every (IsPlayed script) (tries (book log)) }
     ensures came { (script : List ℕ → Tree) (me : ℕ) (ever : List Post) (log : List Effect) →
         IsTidy script me log → HaveCauses me ever log → Every (IsProven me ever) (tries (book log)) }
 {}
@@ -74,13 +79,15 @@ pub fn answers_came()
 /// Of every log: the last try of the run, where it has no End, is the open one.
 pub fn open_try_is_last()
     ensures { (script : List ℕ → Tree) (me run : ℕ) (acts : List Task) (log : List Effect) (t : Try) →
-        (book (keep script me run acts log)).run ≡ run → last_try (book (keep script me run acts log)) ≡ Some t → t.end ≡ None →
+        (book (keep script me run acts log)).run ≡ run → last_try (book (keep script me run acts log)) ≡ Some t →
+        t.end ≡ None →
         open_try (book (keep script me run acts log)) ≡ Some t }
 {}
 
 /// No act has more tries than it may have, and one is spent only where no greater clock is left.
 pub fn limits_hold()
-    ensures { (script : List ℕ → Tree) (me : ℕ) (log : List Effect) → IsTidy script me log → Every IsWithinLimits ((book log).acts ++ (book log).past) }
+    ensures { (script : List ℕ → Tree) (me : ℕ) (log : List Effect) → IsTidy script me log →
+        Every IsWithinLimits ((book log).acts ++ (book log).past) }
 {}
 
 /// A log is ready exactly where opening it gives no fault.

@@ -44,7 +44,8 @@ impl<M: Medium> StoredCore<M> for BrokerCore<M> {
 
     ghost fits = { λ b c. (b.run ≡ c.run) × (c.acts ≡ acts_of c.number b.acts) × Scripted b.script c.acts };
 
-    ghost lives = { λ b c l. IsBroker b (broker c.number) (all_effects l) l.mind c.broker × HasEffects M.reads c.log l.gated };
+    ghost lives = { λ b c l. IsBroker b (broker c.number) (all_effects l) l.mind c.broker ×
+        HasEffects M.reads c.log l.gated };
 
     ghost owes = { λ c effects. Unit {0} };
 
@@ -182,7 +183,8 @@ impl<M: Medium> StoredCore<M> for BrokerCore<M> {
 impl<M: Medium> BrokerCore<M> {
     /// Whether each act has its outcome and no request is outstanding. Takes no memory.
     pub fn is_done(&self) -> bool
-        ensures { (b : Base) (l : Life) → IsBroker b (broker self.now.number) (all_effects l) l.mind self.now.broker → result ≡ is_over b self.now.number l }
+        ensures { (b : Base) (l : Life) → IsBroker b (broker self.now.number) (all_effects l) l.mind self.now.broker →
+            result ≡ is_over b self.now.number l }
     {
         self.broker.done()
     }

@@ -61,7 +61,8 @@ pub enum Command {
 
 // A load: its seed, its count and its options.
 fn load(words: &[&str]) -> Option<Command>
-    ensures { MatchOption result ((seed count : ℕ) (o : Options) → IsLoad seed count o (codes "load" ∷ said words.now) → ⊥)
+    ensures { MatchOption result ((seed count : ℕ) (o : Options) →
+        IsLoad seed count o (codes "load" ∷ said words.now) → ⊥)
         (λ c. AreWords c (codes "load" ∷ said words.now)) }
 {
     let [seed, count, more @ ..] = words else {
@@ -76,7 +77,8 @@ fn load(words: &[&str]) -> Option<Command>
 
 // A history: its object.
 fn history(words: &[&str]) -> Option<Command>
-    ensures { MatchOption result ((o : ObjectId) → IsHistory o (codes "history" ∷ said words.now) → ⊥) (λ c. AreWords c (codes "history" ∷ said words.now)) }
+    ensures { MatchOption result ((o : ObjectId) → IsHistory o (codes "history" ∷ said words.now) → ⊥)
+        (λ c. AreWords c (codes "history" ∷ said words.now)) }
 {
     let [word] = words else {
         return None;
@@ -86,7 +88,8 @@ fn history(words: &[&str]) -> Option<Command>
 
 // A retirement: its repository and its clock.
 fn retire(words: &[&str]) -> Option<Command>
-    ensures { MatchOption result ((repository clock : ℕ) → IsRetire repository clock (codes "retire" ∷ said words.now) → ⊥)
+    ensures { MatchOption result ((repository clock : ℕ) →
+        IsRetire repository clock (codes "retire" ∷ said words.now) → ⊥)
         (λ c. AreWords c (codes "retire" ∷ said words.now)) }
 {
     let [repository, clock] = words else {
@@ -100,7 +103,8 @@ fn retire(words: &[&str]) -> Option<Command>
 
 // A watch: its repository and its rule.
 fn watch(words: &[&str]) -> Option<Command>
-    ensures { MatchOption result ((repository : ℕ) (rule : Rule) → IsWatch repository rule (codes "watch" ∷ said words.now) → ⊥)
+    ensures { MatchOption result ((repository : ℕ) (rule : Rule) →
+        IsWatch repository rule (codes "watch" ∷ said words.now) → ⊥)
         (λ c. AreWords c (codes "watch" ∷ said words.now)) }
 {
     let [repository, word] = words else {
@@ -128,7 +132,8 @@ fn asof(words: &[&str]) -> Option<Command>
 
 // An audit: its object.
 fn audit(words: &[&str]) -> Option<Command>
-    ensures { MatchOption result ((o : ObjectId) → IsAudit o (codes "audit" ∷ said words.now) → ⊥) (λ c. AreWords c (codes "audit" ∷ said words.now)) }
+    ensures { MatchOption result ((o : ObjectId) → IsAudit o (codes "audit" ∷ said words.now) → ⊥)
+        (λ c. AreWords c (codes "audit" ∷ said words.now)) }
 {
     let [word] = words else {
         return None;

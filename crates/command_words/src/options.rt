@@ -20,7 +20,8 @@ const MOST_WORDS: usize = 6;
 
 // These options and one more. None where it is given already, or is no option.
 fn with(given: Given, name: &str, word: &str) -> Option<Given>
-    ensures { MatchOption result ((g : Given) → IsWith given name.now word.now g → ⊥) (λ g. IsWith given name.now word.now g) }
+    ensures { MatchOption result ((g : Given) → IsWith given name.now word.now g → ⊥)
+        (λ g. IsWith given name.now word.now g) }
 {
     match name {
         "--workers" if given.workers.is_none() => Some(Given {
@@ -77,14 +78,16 @@ fn filled(given: Given) -> Options
 
 /// The options that the words are.
 pub fn options(words: &[&str]) -> Option<Options>
-    ensures { MatchOption result ((o : Options) → AreOptions o (said words.now) → ⊥) (λ o. AreOptions o (said words.now)) }
+    ensures { MatchOption result ((o : Options) → AreOptions o (said words.now) → ⊥)
+        (λ o. AreOptions o (said words.now)) }
 {
     Some(filled(few_given(words)?))
 }
 
 /// The options of votes that the words are.
 pub fn vote_options(words: &[&str]) -> Option<Options>
-    ensures { MatchOption result ((o : Options) → AreVoteOptions o (said words.now) → ⊥) (λ o. AreVoteOptions o (said words.now)) }
+    ensures { MatchOption result ((o : Options) → AreVoteOptions o (said words.now) → ⊥)
+        (λ o. AreVoteOptions o (said words.now)) }
 {
     let given = few_given(words)?;
     if given.workers.is_some() {

@@ -130,7 +130,8 @@ impl Records {
     /// What a moment would expire, before anything is decided: the unknown records whose deadline
     /// is at most the moment, with their decision, in the order of their stamps.
     pub fn due(&self, moment: u64) -> Result<Vec<(Stamp, Decision)>, AllocError>
-        ensures listed { IfOk result (λ l. (q : StampParts) → listed_at l.items q ≡ expiry moment (finite.get self.now q)) }
+        ensures listed { IfOk result (λ l. (q : StampParts) →
+            listed_at l.items q ≡ expiry moment (finite.get self.now q)) }
         ensures order { IfOk result (λ l. IsStrictlySortedBy stamp_cmp (map (λ e. e.0) l.items)) }
     {
         let due = due_at(self.alloc, &self.deadlines, moment)?;
@@ -141,7 +142,8 @@ impl Records {
     /// order of their stamps. Where memory is wanting, the records are as before.
     pub fn hear(&mut self, moment: u64) -> Result<Vec<(Stamp, Decision)>, AllocError>
         ensures heard { OnOk result ((q : StampParts) → finite.get self.new q ≡ heard moment (finite.get self.old q)) }
-        ensures listed { IfOk result (λ l. (q : StampParts) → listed_at l.items q ≡ expiry moment (finite.get self.old q)) }
+        ensures listed { IfOk result (λ l. (q : StampParts) →
+            listed_at l.items q ≡ expiry moment (finite.get self.old q)) }
         ensures order { IfOk result (λ l. IsStrictlySortedBy stamp_cmp (map (λ e. e.0) l.items)) }
         ensures err { OnErr result (self.new ≡ self.old) }
     {

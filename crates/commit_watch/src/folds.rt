@@ -24,7 +24,8 @@ fn next_total<R: WatchRule, F: Callback<R>>(
     version: &Version,
 ) -> Result<Option<R::Total>, AllocError>
     requires { F.follows call.now }
-    ensures { IfOk result (λ t. t ≡ R.next (total_of R.first (or_before last.now (option_copied entry.entry))) version.now) }
+    ensures { IfOk result (λ t. t ≡ R.next (total_of R.first (or_before last.now (option_copied entry.entry)))
+        version.now) }
 {
     if let Some(moved) = last {
         return call.next(&moved.total, version);
@@ -45,9 +46,11 @@ fn fold<R: WatchRule, F: Callback<R>>(
     entry: Option<&Moved<R::Total>>,
 ) -> Result<Option<Moved<R::Total>>, WatchFault>
     requires { F.follows call.now }
-    ensures ok { IfOk result (λ last. moved_over R.first R.next object (option_copied entry.entry) (settled_in standing.now) ≡ Ok (or_before last (option_copied entry.entry))) }
+    ensures ok { IfOk result (λ last. moved_over R.first R.next object (option_copied entry.entry)
+        (settled_in standing.now) ≡ Ok (or_before last (option_copied entry.entry))) }
     ensures object { IfOk result (λ last. IfSome last (λ w. w.object ≡ object)) }
-    ensures err { IfErr result (λ e. (e ≡ fault.NoMemory) ⊎ (moved_over R.first R.next object (option_copied entry.entry) (settled_in standing.now) ≡ Err e)) }
+    ensures err { IfErr result (λ e. (e ≡ fault.NoMemory) ⊎
+        (moved_over R.first R.next object (option_copied entry.entry) (settled_in standing.now) ≡ Err e)) }
 {
     let undecided = standing.undecided();
     let mut last: Option<Moved<R::Total>> = None;
@@ -79,9 +82,11 @@ pub fn change_of<R: WatchRule, F: Callback<R>>(
     entry: Option<&Moved<R::Total>>,
 ) -> Result<Option<Moved<R::Total>>, WatchFault>
     requires { F.follows call.now }
-    ensures ok { IfOk result (λ last. stood R.first R.next floor.now object standing.now (option_copied entry.entry) ≡ Ok (or_before last (option_copied entry.entry))) }
+    ensures ok { IfOk result (λ last. stood R.first R.next floor.now object standing.now (option_copied entry.entry) ≡
+        Ok (or_before last (option_copied entry.entry))) }
     ensures object { IfOk result (λ last. IfSome last (λ w. w.object ≡ object)) }
-    ensures err { IfErr result (λ e. (e ≡ fault.NoMemory) ⊎ (stood R.first R.next floor.now object standing.now (option_copied entry.entry) ≡ Err e)) }
+    ensures err { IfErr result (λ e. (e ≡ fault.NoMemory) ⊎
+        (stood R.first R.next floor.now object standing.now (option_copied entry.entry) ≡ Err e)) }
 {
     if standing.is_retired() {
         if let Some(floor) = floor {

@@ -21,8 +21,10 @@ fn place_of<T: Drop>(moved: &[Moved<T>], object: ObjectId) -> usize
 
 // Whether the object stands at this place.
 fn is_at<T: Drop>(moved: &[Moved<T>], place: usize, object: ObjectId) -> bool
-    ensures found { result ≡ true → (place < length moved.now) × ((d : Moved T) → same_object (slice_index_or moved.now place d).object object ≡ true) }
-    ensures other { result ≡ false → (d : Moved T) → place < length moved.now → same_object (slice_index_or moved.now place d).object object ≡ false }
+    ensures found { result ≡ true → (place < length moved.now) ×
+        ((d : Moved T) → same_object (slice_index_or moved.now place d).object object ≡ true) }
+    ensures other { result ≡ false → (d : Moved T) → place < length moved.now →
+        same_object (slice_index_or moved.now place d).object object ≡ false }
 {
     if place >= moved.len() {
         return false;

@@ -22,7 +22,8 @@ use value_form::{ObjectId, Value};
 // Reads how a stamp was settled. The first time counts.
 #[tactic(auto, unfolding(object_history::specs::History::settle_of))]
 fn read_settle(settles: &mut Settles, mark: &Mark) -> Result<(), AllocError>
-    ensures { (m : List Mark) → ((p : StampParts) → finite.get settles.old p ≡ settle_of m p) → OnOk result ((p : StampParts) → finite.get settles.new p ≡ settle_of (mark.now ∷ m) p) }
+    ensures { (m : List Mark) → ((p : StampParts) → finite.get settles.old p ≡ settle_of m p) →
+        OnOk result ((p : StampParts) → finite.get settles.new p ≡ settle_of (mark.now ∷ m) p) }
 {
     match mark {
         Mark::Settle(stamp, committed) => {
@@ -84,7 +85,13 @@ pub struct Scan {
 impl Scan {
     // What a watch has to know of a put, where the object was folded up to the cursor.
     fn put_of(&self, cursor: &Option<PseudoTime>, object: ObjectId, start: PseudoTime) -> Put
-        ensures { result ≡ record { object = object; start = start; settled = finite.get self.now.settles start.stamp; is_wanted = spec.is_wanted cursor.now self.now.below start; is_lost = spec.is_lost self.now.floor cursor.now start } }
+        ensures { result ≡ record {
+          object = object;
+          start = start;
+          settled = finite.get self.now.settles start.stamp;
+          is_wanted = spec.is_wanted cursor.now self.now.below start;
+          is_lost = spec.is_lost self.now.floor cursor.now start;
+        } }
     {
         Put {
             object,
@@ -104,7 +111,8 @@ fn add_put(
     value: &Value,
 ) -> Result<(), AllocError>
     ensures { OnOk result ((o : ObjectId) →
-        spec.standing_at standings.new o ≡ (if same_object put.now.object o then spec.with_version put.now value.now (spec.standing_at standings.old o) else spec.standing_at standings.old o)) }
+        spec.standing_at standings.new o ≡ (if same_object put.now.object o then spec.with_version put.now value.now
+        (spec.standing_at standings.old o) else spec.standing_at standings.old o)) }
 {
     match standings.get_mut(&put.object) {
         Some(standing) => standing.add(alloc, put, value),
@@ -138,8 +146,10 @@ fn read_mark<T: Drop>(
     scan: &Scan,
 ) -> Result<(), AllocError>
     requires { AreRising moved.now }
-    ensures { (m : List Mark) → ((o : ObjectId) → spec.standing_at standings.old o ≡ spec.standing_of (spec.terms_in scan.now moved.now) o m) →
-        OnOk result ((o : ObjectId) → spec.standing_at standings.new o ≡ spec.standing_of (spec.terms_in scan.now moved.now) o (mark.now ∷ m)) }
+    ensures { (m : List Mark) → ((o : ObjectId) →
+        spec.standing_at standings.old o ≡ spec.standing_of (spec.terms_in scan.now moved.now) o m) →
+        OnOk result ((o : ObjectId) → spec.standing_at standings.new o ≡ spec.standing_of
+        (spec.terms_in scan.now moved.now) o (mark.now ∷ m)) }
 {
     match mark {
         Mark::Put(object, start, value) => {
@@ -162,7 +172,8 @@ pub fn standings_of<T: Drop>(
     scan: &Scan,
 ) -> Result<BTreeMap<ObjectId, Standing>, AllocError>
     requires { AreRising moved.now }
-    ensures { IfOk result (λ s. (o : ObjectId) → spec.standing_at s o ≡ spec.standing_of (spec.terms_in scan.now moved.now) o (reverse marks.now)) }
+    ensures { IfOk result (λ s. (o : ObjectId) →
+        spec.standing_at s o ≡ spec.standing_of (spec.terms_in scan.now moved.now) o (reverse marks.now)) }
 {
     let mut standings = BTreeMap::new(alloc);
     for mark in marks {

@@ -39,7 +39,8 @@ fn is_folded(put: &Put) -> bool
 
 // The start of the first undecided version, with one version more.
 fn first_undecided(undecided: &Option<PseudoTime>, put: &Put) -> Option<PseudoTime>
-    ensures { result ≡ (if is_settled put.now.settled then undecided.now else Some (spec.earlier put.now.start undecided.now)) }
+    ensures { result ≡ (if is_settled put.now.settled then undecided.now else Some
+        (spec.earlier put.now.start undecided.now)) }
 {
     match put.settled {
         Some(_) => *undecided,
@@ -54,7 +55,8 @@ fn add_version(
     put: &Put,
     value: &Value,
 ) -> Result<(), AllocError>
-    ensures { OnOk result (versions.new.items ≡ spec.version_in (record { object = put.now.object; start = put.now.start; value = value.now }) versions.old.items) }
+    ensures { OnOk result (versions.new.items ≡ spec.version_in
+        (record { object = put.now.object; start = put.now.start; value = value.now }) versions.old.items) }
 {
     let value = value.copy(alloc)?;
     let place = place_for(versions.as_slice(), put.start);

@@ -44,8 +44,11 @@ fn changes_of<R: WatchRule, F: Callback<R>>(
 ) -> Result<VecDeque<Moved<R::Total>>, WatchFault>
     requires follows { F.follows call.now }
     requires rising { AreRising moved.now }
-    ensures ok { IfOk result (λ changes. (o : ObjectId) → stood R.first R.next floor.now o (standing_at standings o) (moved_at o moved.now) ≡ Ok (moved_at o (with_all changes.items moved.now))) }
-    ensures err { IfErr result (λ e. (e ≡ fault.NoMemory) ⊎ IsRefusal (λ o. stood R.first R.next floor.now o (standing_at standings o) (moved_at o moved.now)) e) }
+    ensures ok { IfOk result (λ changes. (o : ObjectId) →
+        stood R.first R.next floor.now o (standing_at standings o) (moved_at o moved.now) ≡ Ok
+        (moved_at o (with_all changes.items moved.now))) }
+    ensures err { IfErr result (λ e. (e ≡ fault.NoMemory) ⊎
+        IsRefusal (λ o. stood R.first R.next floor.now o (standing_at standings o) (moved_at o moved.now)) e) }
 {
     let mut standings = standings;
     let mut changes = VecDeque::new(alloc);
@@ -69,8 +72,11 @@ fn outcomes_of<R: WatchRule, F: Callback<R>>(
 ) -> Result<VecDeque<Moved<R::Total>>, WatchFault>
     requires follows { F.follows call.now }
     requires rising { AreRising moved.now }
-    ensures ok { IfOk result (λ changes. (o : ObjectId) → advanced R.first R.next o (reverse marks.now) below (moved_at o moved.now) ≡ Ok (moved_at o (with_all changes.items moved.now))) }
-    ensures err { IfErr result (λ e. (e ≡ fault.NoMemory) ⊎ IsRefusal (λ o. advanced R.first R.next o (reverse marks.now) below (moved_at o moved.now)) e) }
+    ensures ok { IfOk result (λ changes. (o : ObjectId) →
+        advanced R.first R.next o (reverse marks.now) below (moved_at o moved.now) ≡ Ok
+        (moved_at o (with_all changes.items moved.now))) }
+    ensures err { IfErr result (λ e. (e ≡ fault.NoMemory) ⊎
+        IsRefusal (λ o. advanced R.first R.next o (reverse marks.now) below (moved_at o moved.now)) e) }
 {
     let settles = settles_of(alloc, marks)?;
     let floor = floor_among(marks);
@@ -137,7 +143,11 @@ impl<R: WatchRule, F: Callback<R> + Drop> Watches<R, F> {
         total: R::Total,
     ) -> Result<(), AllocError>
         requires { moved_at object self.old ≡ None }
-        ensures ok { OnOk result (self.new ≡ with_moved (record { object = object; cursor = cursor; total = total }) self.old) }
+        ensures ok { OnOk result (self.new ≡ with_moved (record {
+          object = object;
+          cursor = cursor;
+          total = total;
+        }) self.old) }
         ensures err { OnErr result (self.new ≡ self.old) }
     {
         self.moved.reserve(1)?;
@@ -156,8 +166,10 @@ impl<R: WatchRule, F: Callback<R> + Drop> Watches<R, F> {
     /// in rising order. The marks stand oldest first. After a refusal all is as before; it tells of
     /// the least object that is refused.
     pub fn advance(&mut self, marks: &[Mark], below: Option<PseudoTime>) -> Result<(), WatchFault>
-        ensures ok { OnOk result ((o : ObjectId) → advanced R.first R.next o (reverse marks.now) below (moved_at o self.old) ≡ Ok (moved_at o self.new)) }
-        ensures refused { IfErr result (λ e. (e ≡ fault.NoMemory) ⊎ IsRefusal (λ o. advanced R.first R.next o (reverse marks.now) below (moved_at o self.old)) e) }
+        ensures ok { OnOk result ((o : ObjectId) →
+            advanced R.first R.next o (reverse marks.now) below (moved_at o self.old) ≡ Ok (moved_at o self.new)) }
+        ensures refused { IfErr result (λ e. (e ≡ fault.NoMemory) ⊎
+            IsRefusal (λ o. advanced R.first R.next o (reverse marks.now) below (moved_at o self.old)) e) }
         ensures err { OnErr result (self.new ≡ self.old) }
     {
         let outcome = outcomes_of::<R, F>(

@@ -16,7 +16,8 @@ ghost use Rattle.complete_law.specs.Calm.{CalmRun, CalmPlace, IsUnstopped, log_a
 
 /// Of nodes at rest, where nothing is open and no message is on its way, every broker is done.
 pub fn law_at_rest()
-    ensures { (script : List ℕ → Tree) (run : ℕ) (acts : ℕ → List Task) (most : ℕ) (k : AtRest script run acts most) (b : ℕ) → InRange most b →
+    ensures { (script : List ℕ → Tree) (run : ℕ) (acts : ℕ → List Task) (most : ℕ) (k : AtRest script run acts most)
+        (b : ℕ) → InRange most b →
         is_done script b run (acts b) (k.brokers b) (k.heard b) ≡ true }
 {}
 
@@ -35,8 +36,10 @@ pub fn law_few_messages()
 /// No node has more effects. Where none of them shares a page they fill no more pages than these, so each
 /// finds room where a medium has as many.
 pub fn law_few_effects()
-    ensures effects { (p : CalmPlace) (most : ℕ) (n : NodeId) → AskAtMost p.run most → length (log_at p n) ≤ most_effects p.run most }
-    ensures pages { (p : CalmPlace) (most : ℕ) (n : NodeId) → AskAtMost p.run most → filled_by (log_at p n) ≤ most_pages p.run most }
+    ensures effects { (p : CalmPlace) (most : ℕ) (n : NodeId) → AskAtMost p.run most →
+        length (log_at p n) ≤ most_effects p.run most }
+    ensures pages { (p : CalmPlace) (most : ℕ) (n : NodeId) → AskAtMost p.run most →
+        filled_by (log_at p n) ≤ most_pages p.run most }
 {}
 
 /// Of a broker that is done each act was committed, withdrawn, failed or spent, or its last allowed
@@ -49,11 +52,14 @@ pub fn law_outcomes()
 /// effects want more pages than a medium of that many has, has no Tick, Crash or Down at all.
 pub fn law_nothing_stops()
     ensures { (r : CalmRun) (most : ℕ) → AskAtMost r most →
-        ((p : CalmPlace) (e : Entry) (more : List Entry) → p.run ≡ r → p.rest ≡ e ∷ more → MayStop (most_pages r most) p e) → Every IsUnstopped r.trace.entries }
+        ((p : CalmPlace) (e : Entry) (more : List Entry) → p.run ≡ r → p.rest ≡ e ∷ more →
+        MayStop (most_pages r most) p e) → Every IsUnstopped r.trace.entries }
 {}
 
 /// With one broker no write is refused: no repository ever says so, and no attempt ended so.
 pub fn law_one_broker()
-    ensures said { (p : CalmPlace) (from to : NodeId) (m : Message) → p.run.plan.brokers ≡ 1 → WasSent (sent_at p) from to m → IsRefusal m → ⊥ }
-    ensures ended { (p : CalmPlace) (b : ℕ) → p.run.plan.brokers ≡ 1 → Every (λ (t : Try). WasRefused t.end → ⊥) (tries_of (book_at p b).acts) }
+    ensures said { (p : CalmPlace) (from to : NodeId) (m : Message) → p.run.plan.brokers ≡ 1 →
+        WasSent (sent_at p) from to m → IsRefusal m → ⊥ }
+    ensures ended { (p : CalmPlace) (b : ℕ) → p.run.plan.brokers ≡ 1 →
+        Every (λ (t : Try). WasRefused t.end → ⊥) (tries_of (book_at p b).acts) }
 {}

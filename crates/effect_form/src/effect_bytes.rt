@@ -150,7 +150,8 @@ fn act_of(alloc: Global, bytes: &[u8]) -> Result<Found<'_>, EffectFault>
 }
 
 fn stretch_of(bytes: &[u8]) -> Result<Found<'_>, EffectFault>
-    ensures { Gives (λ p. (p.0, p.1.now)) result (whole_two 1 6 (λ object at. (variant.Stretch object at, None)) object_bytes_at time_at bytes.now) }
+    ensures { Gives (λ p. (p.0, p.1.now)) result
+        (whole_two 1 6 (λ object at. (variant.Stretch object at, None)) object_bytes_at time_at bytes.now) }
 {
     let Some((object, rest)) = object_bytes_of(bytes) else {
         return Err(EffectFault::Form { at: 1 });
@@ -162,7 +163,8 @@ fn stretch_of(bytes: &[u8]) -> Result<Found<'_>, EffectFault>
 }
 
 fn begin_of(bytes: &[u8]) -> Result<Found<'_>, EffectFault>
-    ensures { Gives (λ p. (p.0, p.1.now)) result (whole_two 1 11 (λ stamp deadline. (variant.Begin stamp deadline, None)) stamp_at (number_at w64) bytes.now) }
+    ensures { Gives (λ p. (p.0, p.1.now)) result
+        (whole_two 1 11 (λ stamp deadline. (variant.Begin stamp deadline, None)) stamp_at (number_at w64) bytes.now) }
 {
     let Some((stamp, rest)) = stamp_of(bytes) else {
         return Err(EffectFault::Form { at: 1 });
@@ -174,7 +176,8 @@ fn begin_of(bytes: &[u8]) -> Result<Found<'_>, EffectFault>
 }
 
 fn decide_of(bytes: &[u8]) -> Result<Found<'_>, EffectFault>
-    ensures { Gives (λ p. (p.0, p.1.now)) result (whole_two 1 11 (λ stamp decision. (variant.Decide stamp decision, None)) stamp_at decision_at bytes.now) }
+    ensures { Gives (λ p. (p.0, p.1.now)) result
+        (whole_two 1 11 (λ stamp decision. (variant.Decide stamp decision, None)) stamp_at decision_at bytes.now) }
 {
     let Some((stamp, rest)) = stamp_of(bytes) else {
         return Err(EffectFault::Form { at: 1 });
@@ -186,7 +189,8 @@ fn decide_of(bytes: &[u8]) -> Result<Found<'_>, EffectFault>
 }
 
 fn learn_of(bytes: &[u8]) -> Result<Found<'_>, EffectFault>
-    ensures { Gives (λ p. (p.0, p.1.now)) result (whole_two 1 11 (λ stamp committed. (variant.Learn stamp committed, None)) stamp_at learned_at bytes.now) }
+    ensures { Gives (λ p. (p.0, p.1.now)) result
+        (whole_two 1 11 (λ stamp committed. (variant.Learn stamp committed, None)) stamp_at learned_at bytes.now) }
 {
     let Some((stamp, rest)) = stamp_of(bytes) else {
         return Err(EffectFault::Form { at: 1 });
@@ -198,7 +202,8 @@ fn learn_of(bytes: &[u8]) -> Result<Found<'_>, EffectFault>
 }
 
 fn try_of(bytes: &[u8]) -> Result<Found<'_>, EffectFault>
-    ensures { Gives (λ p. (p.0, p.1.now)) result (whole_two 1 5 (λ index stamp. (variant.Try index stamp, None)) index_at stamp_at bytes.now) }
+    ensures { Gives (λ p. (p.0, p.1.now)) result
+        (whole_two 1 5 (λ index stamp. (variant.Try index stamp, None)) index_at stamp_at bytes.now) }
 {
     let Some((index, rest)) = index_field(bytes) else {
         return Err(EffectFault::Form { at: 1 });
@@ -210,7 +215,8 @@ fn try_of(bytes: &[u8]) -> Result<Found<'_>, EffectFault>
 }
 
 fn end_of(bytes: &[u8]) -> Result<Found<'_>, EffectFault>
-    ensures { Gives (λ p. (p.0, p.1.now)) result (whole_two 1 5 (λ index outcome. (variant.End index outcome, None)) index_at outcome_at bytes.now) }
+    ensures { Gives (λ p. (p.0, p.1.now)) result
+        (whole_two 1 5 (λ index outcome. (variant.End index outcome, None)) index_at outcome_at bytes.now) }
 {
     let Some((index, rest)) = index_field(bytes) else {
         return Err(EffectFault::Form { at: 1 });
@@ -222,7 +228,8 @@ fn end_of(bytes: &[u8]) -> Result<Found<'_>, EffectFault>
 }
 
 fn got_of(alloc: Global, bytes: &[u8]) -> Result<Found<'_>, EffectFault>
-    ensures { Gives (λ p. (p.0, p.1.now)) result (whole_two 1 5 (λ step v. (variant.Got step v, None)) positive_at (λ b. found (value_at b)) bytes.now) }
+    ensures { Gives (λ p. (p.0, p.1.now)) result (whole_two 1 5 (λ step v. (variant.Got step v, None)) positive_at
+        (λ b. found (value_at b)) bytes.now) }
 {
     let Some((step, rest)) = positive_field(bytes) else {
         return Err(EffectFault::Form { at: 1 });
@@ -232,7 +239,8 @@ fn got_of(alloc: Global, bytes: &[u8]) -> Result<Found<'_>, EffectFault>
 }
 
 fn run_of(bytes: &[u8]) -> Result<Found<'_>, EffectFault>
-    ensures { Gives (λ p. (p.0, p.1.now)) result (whole_one 1 (λ number. (variant.Run number, None)) positive_at bytes.now) }
+    ensures { Gives (λ p. (p.0, p.1.now)) result
+        (whole_one 1 (λ number. (variant.Run number, None)) positive_at bytes.now) }
 {
     let Some((number, rest)) = positive_field(bytes) else {
         return Err(EffectFault::Form { at: 1 });
@@ -241,7 +249,8 @@ fn run_of(bytes: &[u8]) -> Result<Found<'_>, EffectFault>
 }
 
 fn acked_of(bytes: &[u8]) -> Result<Found<'_>, EffectFault>
-    ensures { Gives (λ p. (p.0, p.1.now)) result (whole_one 1 (λ step. (variant.Acked step, None)) positive_at bytes.now) }
+    ensures { Gives (λ p. (p.0, p.1.now)) result
+        (whole_one 1 (λ step. (variant.Acked step, None)) positive_at bytes.now) }
 {
     let Some((step, rest)) = positive_field(bytes) else {
         return Err(EffectFault::Form { at: 1 });
@@ -305,9 +314,11 @@ fn counted(alloc: Global, bytes: &[u8]) -> Result<(Effect, Option<Place>, usize)
 /// or out of range; the tag is the first, at 0, and a value, a decision or an outcome is one field.
 pub fn read(alloc: Global, bytes: &[u8]) -> Result<(Effect, Option<Place>, usize), EffectFault>
     // What is read stands so in the bytes.
-    ensures found { IfOk result (λ p. IsWritten (p.0, p.1) × (p.2 ≤ length bytes.now) × (take p.2 bytes.now ≡ effect_bytes (p.0, p.1))) }
+    ensures found { IfOk result (λ p. IsWritten (p.0, p.1) × (p.2 ≤ length bytes.now) ×
+        (take p.2 bytes.now ≡ effect_bytes (p.0, p.1))) }
     // What stands in the bytes is read, unless memory is wanting.
-    ensures only { (w : Written) (rest : List ℕ) → IsWritten w → bytes.now ≡ effect_bytes w ++ rest → GivesCount result (length bytes.now) (Ok (w, rest)) }
+    ensures only { (w : Written) (rest : List ℕ) → IsWritten w → bytes.now ≡ effect_bytes w ++ rest →
+        GivesCount result (length bytes.now) (Ok (w, rest)) }
     // Where it isn't, at which place.
     ensures exact { GivesCount result (length bytes.now) (effect_at bytes.now) }
 {
@@ -316,7 +327,8 @@ pub fn read(alloc: Global, bytes: &[u8]) -> Result<(Effect, Option<Place>, usize
 
 /// A law: no effect's bytes begin another's, and each effect with its back place has one text.
 pub fn effects_apart()
-    ensures { (a b : Written) (x y : List ℕ) → IsWritten a → IsWritten b → effect_bytes a ++ x ≡ effect_bytes b ++ y → (a ≡ b) × (x ≡ y) }
+    ensures { (a b : Written) (x y : List ℕ) → IsWritten a → IsWritten b → effect_bytes a ++ x ≡ effect_bytes b ++ y →
+        (a ≡ b) × (x ≡ y) }
 {}
 
 /// A law: how many bytes an effect has doesn't depend on its back place.

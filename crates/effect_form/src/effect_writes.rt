@@ -142,7 +142,11 @@ struct ActHead {
 fn push_act(out: &mut Vec<u8>, head: &ActHead, script: &[u8]) -> Result<(), AllocError>
     requires { length script.now ≤ 3900 }
     ensures { OnOk result (out.new.items ≡ out.old.items ++
-        effect_bytes (variant.Act head.now.index head.now.home head.now.timeout head.now.tries head.now.clock script.now, None)) }
+        effect_bytes (
+          variant.Act head.now.index head.now.home head.now.timeout head.now.tries head.now.clock
+              script.now,
+          None,
+        )) }
 {
     let [a, b, c, d] = head.index.to_be_bytes();
     let [e, f, g, h] = head.timeout.to_be_bytes();

@@ -101,7 +101,8 @@ fn later_read(bytes: &[u8]) -> Option<(Outcome, &[u8])>
 }
 
 fn later_version(bytes: &[u8]) -> Option<(Outcome, &[u8])>
-    ensures { option_map (λ p. (p.0, p.1.now)) result ≡ part_two variant.LaterVersion object_bytes_at time_at bytes.now }
+    ensures { option_map (λ p. (p.0, p.1.now)) result ≡
+        part_two variant.LaterVersion object_bytes_at time_at bytes.now }
 {
     let Some((object, rest)) = object_bytes_of(bytes) else {
         return None;
@@ -113,7 +114,8 @@ fn later_version(bytes: &[u8]) -> Option<(Outcome, &[u8])>
 }
 
 fn expired(bytes: &[u8]) -> Option<(Outcome, &[u8])>
-    ensures { option_map (λ p. (p.0, p.1.now)) result ≡ part_two variant.Expired (number_at w64) (number_at w64) bytes.now }
+    ensures { option_map (λ p. (p.0, p.1.now)) result ≡ part_two variant.Expired (number_at w64)
+        (number_at w64) bytes.now }
 {
     let Some((deadline, rest)) = u64_of(bytes) else {
         return None;

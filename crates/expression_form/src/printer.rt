@@ -83,7 +83,8 @@ fn put_operand(
     operand: &Expr,
     least: u8,
 ) -> Result<(), AllocError>
-    ensures { OnOk result (out.new.items ≡ out.old.items ++ spec.parenthesized_if (is_looser (term operand.now) least) (spec.text (term operand.now))) }
+    ensures { OnOk result (out.new.items ≡ out.old.items ++ spec.parenthesized_if (is_looser (term operand.now) least)
+        (spec.text (term operand.now))) }
 {
     if level(operand) < least {
         put(out, b"(")?;

@@ -34,5 +34,6 @@ pub fn versions_stand_once()
 /// that starts where it does.
 pub fn no_version_is_lost()
     ensures { (c : Choice) (o : ObjectId) (logs : List (List Effect)) (v : ℕ) → v ≤ current logs → (q : Seen) →
-        Has q (versions o (marks (reverse (log_at logs v)))) → has_start c q.start ≡ true → HasStart (rows_of c o logs) q.start }
+        Has q (versions o (marks (reverse (log_at logs v)))) → has_start c q.start ≡ true →
+        HasStart (rows_of c o logs) q.start }
 {}

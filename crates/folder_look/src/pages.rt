@@ -154,7 +154,8 @@ fn push_chosen(
     choice: &Choice,
     media: &[MediumLook],
 ) -> Result<(), AllocError>
-    ensures { OnOk result (out.new.items ≡ out.old.items ++ spec.histories_text (rows_of choice.now media.now) (objects_left choice.now media.now)) }
+    ensures { OnOk result (out.new.items ≡ out.old.items ++ spec.histories_text (rows_of choice.now media.now)
+        (objects_left choice.now media.now)) }
 {
     let mut objects = chosen(alloc, choice, media)?;
     let left = objects.len().saturating_sub(MOST_OBJECTS) as u64;
@@ -197,7 +198,8 @@ fn push_pages(
 
 // Appends the counts of the media.
 fn push_counts(alloc: Global, out: &mut Vec<u8>, media: &[MediumLook]) -> Result<(), AllocError>
-    ensures { OnOk result (out.new.items ≡ out.old.items ++ spec.tally_text (length media.now) (length (objects_of media.now)) (tallies.tally_of media.now)) }
+    ensures { OnOk result (out.new.items ≡ out.old.items ++ spec.tally_text (length media.now)
+        (length (objects_of media.now)) (tallies.tally_of media.now)) }
 {
     let objects = count_of(alloc, media)?;
     push_tally(alloc, out, media.len() as u64, objects, tally_of(media))

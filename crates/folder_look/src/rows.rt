@@ -23,7 +23,8 @@ use value_form::{Items, ObjectId};
 
 // Where these versions start.
 fn starts_of(alloc: Global, versions: &[Version]) -> Result<BTreeSet<PseudoTime>, AllocError>
-    ensures { IfOk result (λ starts. (x : TimeParts) → contains time_cmp starts x ≡ list_any (λ v. same_time x v.start) versions.now) }
+    ensures { IfOk result (λ starts. (x : TimeParts) →
+        contains time_cmp starts x ≡ list_any (λ v. same_time x v.start) versions.now) }
 {
     let mut starts = BTreeSet::new(alloc);
     for version in versions {
@@ -38,7 +39,8 @@ fn starts_in(
     object: ObjectId,
     effects: &[Effect],
 ) -> Result<BTreeSet<PseudoTime>, AllocError>
-    ensures { IfOk result (λ starts. (x : TimeParts) → contains time_cmp starts x ≡ spec.starts_at (falling object (marks (reverse effects.now))) x) }
+    ensures { IfOk result (λ starts. (x : TimeParts) →
+        contains time_cmp starts x ≡ spec.starts_at (falling object (marks (reverse effects.now))) x) }
 {
     let telling = telling_of(alloc, object, effects)?;
     starts_of(alloc, telling.versions.as_slice())
@@ -82,7 +84,8 @@ fn push_versions(
     versions: &[Version],
     rows: &mut Vec<VersionRow>,
 ) -> Result<(), AllocError>
-    ensures { OnOk result (rows.new.items ≡ rows.old.items ++ map (told.told_row older settles.now floor.now) (filter (told.is_told_in choice.now next.now) versions.now)) }
+    ensures { OnOk result (rows.new.items ≡ rows.old.items ++ map (told.told_row older settles.now floor.now)
+        (filter (told.is_told_in choice.now next.now) versions.now)) }
 {
     for version in versions {
         if is_told_in(choice, next, version) {
@@ -132,7 +135,8 @@ fn push_behind(
     next: &[Effect],
     rows: &mut Vec<VersionRow>,
 ) -> Result<(), AllocError>
-    ensures { OnOk result (rows.new.items ≡ rows.old.items ++ spec.given_up_at choice.now object volumes before.now next.now) }
+    ensures { OnOk result (rows.new.items ≡ rows.old.items ++
+        spec.given_up_at choice.now object volumes before.now next.now) }
 {
     if volumes == 0 {
         return Ok(());
@@ -151,7 +155,8 @@ fn push_given_up(
     last: usize,
     rows: &mut Vec<VersionRow>,
 ) -> Result<(), AllocError>
-    ensures { OnOk result (rows.new.items ≡ rows.old.items ++ spec.given_up_by choice.now object last (logs_of object.repository media.now)) }
+    ensures { OnOk result (rows.new.items ≡ rows.old.items ++ spec.given_up_by choice.now object last
+        (logs_of object.repository media.now)) }
 {
     let mut before: &[Effect] = &[];
     let mut volumes = 0;

@@ -63,7 +63,8 @@ pub fn look_in(
     number: u8,
     volume: u32,
 ) -> Result<Option<MediumLook>, AllocError>
-    ensures name { IfOk result (λ found. IfSome found (λ look. (look.kind ≡ kind) × (look.number ≡ number) × (look.volume ≡ volume))) }
+    ensures name { IfOk result (λ found. IfSome found (λ look. (look.kind ≡ kind) × (look.number ≡ number) ×
+        (look.volume ≡ volume))) }
     ensures no_log { IfOk result (λ found. IfSome found (λ look. look.state ≢ MediumState.Whole → look.log ≡ [])) }
 {
     let path = format!(in alloc; "{}/{}-{}-{}", folder, kind_word(kind), number, volume)?;

@@ -40,8 +40,10 @@ impl From<AllocError> for StripFault {
 // Adds a page.
 fn add_page(strip: &mut Strip, page: u32, state: &PageState) -> Result<(), AllocError>
     requires room { strip.old.gated < 4294967295 }
-    ensures gated { OnOk result (strip.new.gated ≡ if is_gated state.now then strip.old.gated + 1 else strip.old.gated) }
-    ensures spoiled { OnOk result (strip.new.spoiled.items ≡ if is_spoiled state.now then strip.old.spoiled.items ++ page ∷ [] else strip.old.spoiled.items) }
+    ensures gated { OnOk result (strip.new.gated ≡ if is_gated state.now then strip.old.gated + 1
+        else strip.old.gated) }
+    ensures spoiled { OnOk result (strip.new.spoiled.items ≡ if is_spoiled state.now then strip.old.spoiled.items ++
+        page ∷ [] else strip.old.spoiled.items) }
 {
     match state {
         PageState::Blank => Ok(()),
@@ -62,8 +64,10 @@ fn strip_of<M: Medium>(alloc: Global, medium: &mut M) -> Result<Strip, StripFaul
     ensures reads { IsTrue M.tells → M.reads medium.new ≡ M.reads medium.old }
     ensures size { M.page_count medium.new ≡ M.page_count medium.old }
     ensures state { IfOk result (λ _. M.is_failed medium.new ≡ false) }
-    ensures gated { IsTrue M.tells → IfOk result (λ strip. strip.gated ≡ gated_below (M.reads medium.old) (M.page_count medium.old)) }
-    ensures spoiled { IsTrue M.tells → IfOk result (λ strip. strip.spoiled.items ≡ spoiled_below (M.reads medium.old) (M.page_count medium.old)) }
+    ensures gated { IsTrue M.tells →
+        IfOk result (λ strip. strip.gated ≡ gated_below (M.reads medium.old) (M.page_count medium.old)) }
+    ensures spoiled { IsTrue M.tells →
+        IfOk result (λ strip. strip.spoiled.items ≡ spoiled_below (M.reads medium.old) (M.page_count medium.old)) }
 {
     let mut strip = Strip {
         gated: 0,
@@ -89,12 +93,16 @@ pub fn look_at<M: Medium>(
 ) -> Result<MediumLook, AllocError>
     requires open { M.is_failed medium ≡ false }
     ensures pages { IfOk result (λ look. look.pages ≡ M.page_count medium) }
-    ensures whole { IsTrue M.tells → IfOk result (λ look. look.state ≡ MediumState.Whole → storage (M.reads medium) ≡ Ok look.log) }
-    ensures damaged { IsTrue M.tells → IfOk result (λ look. (page : ℕ) → look.state ≡ MediumState.Damaged page → storage (M.reads medium) ≡ Err page) }
+    ensures whole { IsTrue M.tells → IfOk result (λ look. look.state ≡ MediumState.Whole →
+        storage (M.reads medium) ≡ Ok look.log) }
+    ensures damaged { IsTrue M.tells → IfOk result (λ look. (page : ℕ) → look.state ≡ MediumState.Damaged page →
+        storage (M.reads medium) ≡ Err page) }
     ensures no_log { IfOk result (λ look. look.state ≢ MediumState.Whole → look.log ≡ []) }
     // How its pages stand, where they were all read.
-    ensures gated { IsTrue M.tells → IfOk result (λ look. look.state ≢ MediumState.Shut → look.gated ≡ gated_below (M.reads medium) (M.page_count medium)) }
-    ensures spoiled { IsTrue M.tells → IfOk result (λ look. look.state ≢ MediumState.Shut → look.spoiled ≡ spoiled_below (M.reads medium) (M.page_count medium)) }
+    ensures gated { IsTrue M.tells → IfOk result (λ look. look.state ≢ MediumState.Shut →
+        look.gated ≡ gated_below (M.reads medium) (M.page_count medium)) }
+    ensures spoiled { IsTrue M.tells → IfOk result (λ look. look.state ≢ MediumState.Shut →
+        look.spoiled ≡ spoiled_below (M.reads medium) (M.page_count medium)) }
     ensures name { IfOk result (λ look. (look.kind ≡ kind) × (look.number ≡ number) × (look.volume ≡ volume)) }
 {
     let pages = medium.pages();

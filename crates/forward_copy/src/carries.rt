@@ -50,18 +50,22 @@ pub fn carry<M: Medium>(
     requires no_whole { has_whole forward.now.kept.items ≡ false }
 
     // After Ok each image has them all.
-    ensures carried { IsTrue M.tells → IfOk result (λ s. (c : Image) → M.may_leave (medium_of s) c → storage c ≡ Ok (between mark forward.now.kept.items)) }
+    ensures carried { IsTrue M.tells → IfOk result (λ s. (c : Image) → M.may_leave (medium_of s) c →
+        storage c ≡ Ok (between mark forward.now.kept.items)) }
 
     // Each image that is left, at every moment, has a front of them.
-    ensures images { IsTrue M.tells → (c : Image) → M.may_leave (handed result) c → LeavesFront (between mark forward.now.kept.items) c }
+    ensures images { IsTrue M.tells → (c : Image) → M.may_leave (handed result) c →
+        LeavesFront (between mark forward.now.kept.items) c }
     ensures any_moment { IsTrue M.tells →
         LeavesOnly M.stages (medium_of fresh) (handed result) (LeavesFront (between mark forward.now.kept.items)) }
 
     // Any fault but Medium comes before all writing, and Full exactly where pages are wanting.
     ensures nothing { IfErr result (λ e. e.1 ≢ StoreFault.Medium → e.0 ≡ medium_of fresh) }
-    ensures full { IfErr result (λ e. (pages : ℕ) → e.1 ≡ StoreFault.Full pages → (pages ≡ M.page_count (medium_of fresh)) ×
+    ensures full { IfErr result (λ e. (pages : ℕ) → e.1 ≡ StoreFault.Full pages →
+        (pages ≡ M.page_count (medium_of fresh)) ×
         (left_in fresh < length (filling (between mark forward.now.kept.items)))) }
-    ensures fits { IfOk result (λ s. left_in s + length (filling (between mark forward.now.kept.items)) ≡ left_in fresh) }
+    ensures fits { IfOk result (λ s. left_in s + length (filling (between mark forward.now.kept.items)) ≡
+        left_in fresh) }
 
     ensures last { M.last_page (handed result) ≡ M.last_page (medium_of fresh) }
     ensures size { M.page_count (handed result) ≡ M.page_count (medium_of fresh) }

@@ -57,8 +57,10 @@ pub fn forward(alloc: Global, log: &[Effect], mark: PseudoTime) -> Result<Forwar
     ensures may { IfOk result (λ f. retirement.MayRetire (reverse log.now) mark) }
     ensures kept { IfOk result (λ f. between mark f.kept.items ≡ retirement.forward log.now mark) }
     ensures dropped { IfOk result (λ f. f.dropped.items ≡ left_behind log.now mark) }
-    ensures old { IfErr result (λ e. (floor : TimeParts) → e ≡ ForwardFault.OldMark floor → IsOldMark (reverse log.now) mark floor) }
-    ensures undecided { IfErr result (λ e. (object : ObjectId) (start : TimeParts) → e ≡ ForwardFault.Undecided object start →
+    ensures old { IfErr result (λ e. (floor : TimeParts) → e ≡ ForwardFault.OldMark floor →
+        IsOldMark (reverse log.now) mark floor) }
+    ensures undecided { IfErr result (λ e. (object : ObjectId) (start : TimeParts) →
+        e ≡ ForwardFault.Undecided object start →
         IsFirstUndecided (reverse log.now) mark object start) }
     ensures in_range { AreEffects log.now → IfOk result (λ f. AreEffects f.kept.items) }
     ensures no_whole { IfOk result (λ f. has_whole f.kept.items ≡ false) }

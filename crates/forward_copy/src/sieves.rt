@@ -15,8 +15,10 @@ pub fn sift(
     log: &[Effect],
     mark: PseudoTime,
 ) -> Result<Forward, AllocError>
-    ensures kept { IfOk result (λ f. f.kept.items ≡ reverse (sifted (λ l f. spec.stays_above firms.now mark (length l) f) (reverse log.now))) }
-    ensures dropped { IfOk result (λ f. f.dropped.items ≡ reverse (sifted (λ l f. not (spec.stays_above firms.now mark (length l) f)) (reverse log.now))) }
+    ensures kept { IfOk result (λ f. f.kept.items ≡ reverse
+        (sifted (λ l f. spec.stays_above firms.now mark (length l) f) (reverse log.now))) }
+    ensures dropped { IfOk result (λ f. f.dropped.items ≡ reverse
+        (sifted (λ l f. not (spec.stays_above firms.now mark (length l) f)) (reverse log.now))) }
 {
     let mut kept = Vec::new(alloc);
     let mut dropped = Vec::new(alloc);

@@ -231,7 +231,8 @@ impl Histories for Silent {
 
 // The same answer with the value 13.
 fn other_value(step: &ReadStep) -> ReadStep
-    ensures marks { (m : List Mark) (o : ObjectId) (t : TimeParts) → after_read m o t result ≡ after_read m o t step.now }
+    ensures marks { (m : List Mark) (o : ObjectId) (t : TimeParts) →
+        after_read m o t result ≡ after_read m o t step.now }
     ensures in_range { IsReadStep result }
 {
     match step {

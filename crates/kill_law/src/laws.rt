@@ -18,10 +18,13 @@ ghost use Rattle.kill_law.specs.Places.{LeftAt, LeftBy, PlacesHavePasts, life_th
 /// had, the logs are again such as runs and retirements left. Each has all that its node had made durable
 /// there.
 pub fn place_has_past()
-    ensures past { (plan : Plan) (asked : List Asked) (t : Trace) → IsOfLanguage plan → IsLegal plan asked t → PlacesHavePasts plan t }
+    ensures past { (plan : Plan) (asked : List Asked) (t : Trace) → IsOfLanguage plan → IsLegal plan asked t →
+        PlacesHavePasts plan t }
     ensures script { (script : List ℕ → Tree) (plan : Plan) (asked : List Asked) (t : Trace) (front rest : List Entry)
-        (logs after : NodeId → List Effect) → ComeFrom (alike script) logs → OpenedWith t.opened logs → Legal script plan asked t →
+        (logs after : NodeId → List Effect) → ComeFrom (alike script) logs → OpenedWith t.opened logs →
+        Legal script plan asked t →
         t.entries ≡ front ++ rest → LeftBy script plan t front logs after → ComeFrom (alike script) after }
     ensures keeps { (plan : Plan) (t : Trace) (front : List Entry) (logs after : NodeId → List Effect) (n : NodeId) →
-        LeftAt plan t front logs after → in_plan plan n ≡ true → (late : List Effect) × (after n ≡ (life_there plan t front n).gated ++ late) }
+        LeftAt plan t front logs after → in_plan plan n ≡ true → (late : List Effect) ×
+        (after n ≡ (life_there plan t front n).gated ++ late) }
 {}

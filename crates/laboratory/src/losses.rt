@@ -66,7 +66,11 @@ impl Fates for LabFates {
     ghost asked = { asked_of };
 
     fn fate(&mut self, number: u32, tag: u8) -> Result<Fate, AllocError>
-        ensures ok { IfOk result (λ fate. asked_of self.new ≡ asked_of self.old ++ record { number = number; tag = tag; fate = fate } ∷ []) }
+        ensures ok { IfOk result (λ fate. asked_of self.new ≡ asked_of self.old ++ record {
+          number = number;
+          tag = tag;
+          fate = fate;
+        } ∷ []) }
         ensures err { OnErr result (asked_of self.new ≡ asked_of self.old) }
         // The divisor decides, and stays.
         ensures fate { IfOk result (λ fate. fate ≡ fate_by (divisor_of self.old) number) }

@@ -70,8 +70,10 @@ pub trait Medium: Drop {
         requires range { at + length bytes.now ≤ 4096 }
         requires open { is_failed self.old ≡ false }
         ensures written { IsTrue tells → OnOk result (Written page at bytes.now (reads self.old) (reads self.new)) }
-        ensures crash { IsTrue tells → Follows (Torn page at (length bytes.now)) (may_leave self.old) (may_leave self.new) }
-        ensures time { IsTrue tells → LeavesOnly stages self.old self.new (EitherSide (may_leave self.old) (may_leave self.new)) }
+        ensures crash { IsTrue tells → Follows (Torn page at (length bytes.now)) (may_leave self.old)
+            (may_leave self.new) }
+        ensures time { IsTrue tells → LeavesOnly stages self.old self.new
+            (EitherSide (may_leave self.old) (may_leave self.new)) }
         ensures last { last_page self.new ≡ last_page self.old }
         ensures size { page_count self.new ≡ page_count self.old }
         ensures state { is_failed self.new ≡ is_err result }
@@ -83,7 +85,8 @@ pub trait Medium: Drop {
         ensures durable { IsTrue tells → OnOk result (Only (reads self.old) (may_leave self.new)) }
         ensures reads { IsTrue tells → reads self.new ≡ reads self.old }
         ensures crash { IsTrue tells → NoMore (may_leave self.old) (may_leave self.new) }
-        ensures time { IsTrue tells → LeavesOnly stages self.old self.new (EitherSide (may_leave self.old) (may_leave self.new)) }
+        ensures time { IsTrue tells → LeavesOnly stages self.old self.new
+            (EitherSide (may_leave self.old) (may_leave self.new)) }
         ensures last { last_page self.new ≡ last_page self.old }
         ensures size { page_count self.new ≡ page_count self.old }
         ensures state { is_failed self.new ≡ is_err result }
@@ -94,7 +97,8 @@ pub trait Medium: Drop {
     fn reopen(&mut self) -> Result<(), MediumFault>
         ensures one { IsTrue tells → OnOk result (may_leave self.old (reads self.new)) }
         ensures crash { IsTrue tells → NoMore (may_leave self.old) (may_leave self.new) }
-        ensures time { IsTrue tells → LeavesOnly stages self.old self.new (EitherSide (may_leave self.old) (may_leave self.new)) }
+        ensures time { IsTrue tells → LeavesOnly stages self.old self.new
+            (EitherSide (may_leave self.old) (may_leave self.new)) }
         ensures last { last_page self.new ≡ last_page self.old }
         ensures size { page_count self.new ≡ page_count self.old }
         ensures state { is_failed self.new ≡ is_err result }

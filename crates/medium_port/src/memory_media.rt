@@ -101,7 +101,8 @@ impl Medium for MemoryMedium {
 
     ghost stages = { stages_of };
 
-    ghost reads_now = { λ m told. reads_left m.past.count (replay (first_disk m.past) (events_in m.past)) m.past.held.items m.past.sound m.past.replayed };
+    ghost reads_now = { λ m told. reads_left m.past.count
+        (replay (first_disk m.past) (events_in m.past)) m.past.held.items m.past.sound m.past.replayed };
 
     ghost counts_now = { λ m c told now. counts_last m.past.count (first_disk m.past) (events_in m.past) c now };
 
@@ -143,9 +144,11 @@ impl Medium for MemoryMedium {
         requires page { page < pages_of self.old }
         requires range { at + length bytes.now ≤ 4096 }
         requires open { failed_in self.old ≡ false }
-        ensures written { IsTrue true → OnOk result (Written page at bytes.now (reads_of self.old) (reads_of self.new)) }
+        ensures written { IsTrue true →
+            OnOk result (Written page at bytes.now (reads_of self.old) (reads_of self.new)) }
         ensures crash { IsTrue true → Follows (Torn page at (length bytes.now)) (leaves self.old) (leaves self.new) }
-        ensures time { IsTrue true → LeavesOnly stages_of self.old self.new (EitherSide (leaves self.old) (leaves self.new)) }
+        ensures time { IsTrue true → LeavesOnly stages_of self.old self.new
+            (EitherSide (leaves self.old) (leaves self.new)) }
         ensures last { last_of self.new ≡ last_of self.old }
         ensures size { pages_of self.new ≡ pages_of self.old }
         ensures state { failed_in self.new ≡ is_err result }
@@ -175,7 +178,8 @@ impl Medium for MemoryMedium {
         ensures durable { IsTrue true → OnOk result (Only (reads_of self.old) (leaves self.new)) }
         ensures reads { IsTrue true → reads_of self.new ≡ reads_of self.old }
         ensures crash { IsTrue true → NoMore (leaves self.old) (leaves self.new) }
-        ensures time { IsTrue true → LeavesOnly stages_of self.old self.new (EitherSide (leaves self.old) (leaves self.new)) }
+        ensures time { IsTrue true → LeavesOnly stages_of self.old self.new
+            (EitherSide (leaves self.old) (leaves self.new)) }
         ensures last { last_of self.new ≡ last_of self.old }
         ensures size { pages_of self.new ≡ pages_of self.old }
         ensures state { failed_in self.new ≡ is_err result }
@@ -200,7 +204,8 @@ impl Medium for MemoryMedium {
     fn reopen(&mut self) -> Result<(), MediumFault>
         ensures one { IsTrue true → OnOk result (leaves self.old (reads_of self.new)) }
         ensures crash { IsTrue true → NoMore (leaves self.old) (leaves self.new) }
-        ensures time { IsTrue true → LeavesOnly stages_of self.old self.new (EitherSide (leaves self.old) (leaves self.new)) }
+        ensures time { IsTrue true → LeavesOnly stages_of self.old self.new
+            (EitherSide (leaves self.old) (leaves self.new)) }
         ensures last { last_of self.new ≡ last_of self.old }
         ensures size { pages_of self.new ≡ pages_of self.old }
         ensures state { failed_in self.new ≡ is_err result }
@@ -208,7 +213,8 @@ impl Medium for MemoryMedium {
         ensures stops { MeetsStops None self.old self.new result }
         ensures done { OnOk result (pending_of self.new ≡ None) }
         // The stop that was waiting has torn what was written and not synced.
-        ensures torn { OnOk result (reads_of self.new ≡ after_stop (pending_of self.old) (unsynced_of self.old) (reads_of self.old)) }
+        ensures torn { OnOk result (reads_of self.new ≡ after_stop (pending_of self.old) (unsynced_of self.old)
+            (reads_of self.old)) }
         ensures unsynced { unsynced_of self.new ≡ unsynced_of self.old }
     {
         self.calls = self.calls.saturating_add(1);

@@ -29,7 +29,8 @@ pub struct MemoryShelf {
     ghost most: { pages ≤ 1048576 },
     ghost size: { length zero ≡ 4096 },
     ghost zeros: { (k : ℕ) → slice_index zero k ≡ 0 },
-    ghost open: { (name : MediumName) (m : MemoryMedium) → slot_of slots.items name ≡ Some (Some m) → m.health.failed ≡ false },
+    ghost open: { (name : MediumName) (m : MemoryMedium) → slot_of slots.items name ≡ Some (Some m) →
+        m.health.failed ≡ false },
 }
 
 impl MemoryShelf {
@@ -75,7 +76,8 @@ impl MemoryShelf {
         medium: MemoryMedium,
     ) -> Result<(), (MemoryMedium, AllocError)>
         requires { failed_in medium ≡ false }
-        ensures now { OnOk result (NowUnder (record { kind = kind; number = number; volume = volume }) (Some medium) self.old self.new) }
+        ensures now { OnOk result (NowUnder (record { kind = kind; number = number; volume = volume })
+            (Some medium) self.old self.new) }
         ensures err { IfErr result (λ e. e.0 ≡ medium) }
         ensures err_kept { OnErr result (SameUnder self.old self.new) }
         ensures fails { failing self.new ≡ failing self.old }
@@ -101,7 +103,11 @@ impl MemoryShelf {
 
     /// Lets each taking of a name fail. After a refusal the shelf is as before.
     pub fn fail(&mut self, kind: NodeKind, number: u8, volume: u32) -> Result<(), AllocError>
-        ensures fails { OnOk result (failing self.new ≡ failing self.old ++ record { kind = kind; number = number; volume = volume } ∷ []) }
+        ensures fails { OnOk result (failing self.new ≡ failing self.old ++ record {
+          kind = kind;
+          number = number;
+          volume = volume;
+        } ∷ []) }
         ensures err { OnErr result (failing self.new ≡ failing self.old) }
         ensures others { SameUnder self.old self.new }
         ensures counts { SameCounts self.old self.new }
@@ -160,29 +166,43 @@ impl Shelf for MemoryShelf {
 
     fn take(&mut self, kind: NodeKind, number: u8, volume: u32) -> Result<MemoryMedium, MediumFault>
         ensures content { IsTrue true → IfOk result
-            (λ m. IsJustSo (image_under self.old (record { kind = kind; number = number; volume = volume })) (reads_of m)
+            (λ m. IsJustSo (image_under self.old (record { kind = kind; number = number; volume = volume }))
+            (reads_of m)
             (LeftUnder self.old (record { kind = kind; number = number; volume = volume })) (leaves m)) }
-        ensures count { IfOk result (λ m. faults_in m ≡ faults_under self.old (record { kind = kind; number = number; volume = volume })) }
+        ensures count { IfOk result (λ m. faults_in m ≡ faults_under self.old
+            (record { kind = kind; number = number; volume = volume })) }
         ensures open { IfOk result (λ m. failed_in m ≡ false) }
         ensures once { TakenFrom self.old (record { kind = kind; number = number; volume = volume }) → IsErr result }
-        ensures taken { IfOk result (λ m. TakenFrom self.new (record { kind = kind; number = number; volume = volume })) }
+        ensures taken { IfOk result (λ m. TakenFrom self.new
+            (record { kind = kind; number = number; volume = volume })) }
         ensures others { (name : MediumName) → name ≢ record { kind = kind; number = number; volume = volume } →
             TakenFrom self.new name ↔ TakenFrom self.old name }
         ensures others_count { (name : MediumName) → name ≢ record { kind = kind; number = number; volume = volume } →
             faults_under self.new name ≡ faults_under self.old name }
-        ensures others_content { IsTrue true → (name : MediumName) → name ≢ record { kind = kind; number = number; volume = volume } →
-            IsJustSo (image_under self.old name) (image_under self.new name) (LeftUnder self.old name) (LeftUnder self.new name) }
+        ensures others_content { IsTrue true → (name : MediumName) →
+            name ≢ record { kind = kind; number = number; volume = volume } →
+            IsJustSo (image_under self.old name) (image_under self.new name) (LeftUnder self.old name)
+            (LeftUnder self.new name) }
         ensures err { OnErr result ((name : MediumName) → TakenFrom self.new name ↔ TakenFrom self.old name) }
-        ensures err_count { OnErr result ((name : MediumName) → faults_under self.new name ≡ faults_under self.old name) }
+        ensures err_count { OnErr result ((name : MediumName) →
+            faults_under self.new name ≡ faults_under self.old name) }
         ensures err_content { IsTrue true →
             OnErr result ((name : MediumName) →
-            IsJustSo (image_under self.old name) (image_under self.new name) (LeftUnder self.old name) (LeftUnder self.new name)) }
-        ensures asked { asked_for self.new ≡ asked_for self.old ++ record { kind = kind; number = number; volume = volume } ∷ [] }
+            IsJustSo (image_under self.old name) (image_under self.new name) (LeftUnder self.old name)
+            (LeftUnder self.new name)) }
+        ensures asked { asked_for self.new ≡ asked_for self.old ++ record {
+          kind = kind;
+          number = number;
+          volume = volume;
+        } ∷ [] }
         ensures cause { HasCause (shelf_faults self.old) (shelf_faults self.new) result }
         // A taking fails exactly where the name is listed, was taken, or memory is wanting.
-        ensures listed { Contains (failing self.old) (record { kind = kind; number = number; volume = volume }) → IsErr result }
-        ensures failed { IsErr result → Contains (failing self.old) (record { kind = kind; number = number; volume = volume }) ⊎
-            (TakenFrom self.old (record { kind = kind; number = number; volume = volume }) ⊎ Rose (shelf_starved self.old) (shelf_starved self.new)) }
+        ensures listed { Contains (failing self.old) (record { kind = kind; number = number; volume = volume }) →
+            IsErr result }
+        ensures failed { IsErr result →
+            Contains (failing self.old) (record { kind = kind; number = number; volume = volume }) ⊎
+            (TakenFrom self.old (record { kind = kind; number = number; volume = volume }) ⊎
+            Rose (shelf_starved self.old) (shelf_starved self.new)) }
         ensures fed { OnOk result (shelf_starved self.new ≡ shelf_starved self.old) }
         ensures list { failing self.new ≡ failing self.old }
         ensures pages { new_pages self.new ≡ new_pages self.old }

@@ -28,15 +28,18 @@ pub struct Past {
 
 // Whether there was memory to remember what was done.
 fn keep(events: &mut Vec<Snapshot<Event>>, event: &Event) -> bool
-    ensures { MatchBool result (happened events.new.items ≡ happened events.old.items ++ event.now ∷ []) (events.new.items ≡ events.old.items) }
+    ensures { MatchBool result (happened events.new.items ≡ happened events.old.items ++ event.now ∷ [])
+        (events.new.items ≡ events.old.items) }
 {
     events.push(Snapshot::of(event)).is_ok()
 }
 
 // Whether there was memory to keep an event that wasn't synced yet.
 fn add(unsynced: &mut Vec<Event>, events: &mut Vec<Snapshot<Event>>, event: Event) -> bool
-    ensures events { MatchBool result (happened events.new.items ≡ happened events.old.items ++ event ∷ []) (events.new.items ≡ events.old.items) }
-    ensures unsynced { MatchBool result (unsynced.new.items ≡ unsynced.old.items ++ event ∷ []) (unsynced.new.items ≡ unsynced.old.items) }
+    ensures events { MatchBool result (happened events.new.items ≡ happened events.old.items ++ event ∷ [])
+        (events.new.items ≡ events.old.items) }
+    ensures unsynced { MatchBool result (unsynced.new.items ≡ unsynced.old.items ++ event ∷ [])
+        (unsynced.new.items ≡ unsynced.old.items) }
 {
     if events.push(Snapshot::of(&event)).is_err() {
         return false;
@@ -57,9 +60,11 @@ fn keep_write(
     at: u16,
     bytes: &[u8],
 ) -> bool
-    ensures events { MatchBool result (happened events.new.items ≡ happened events.old.items ++ Wrote page at bytes.now ∷ []) (events.new.items ≡
+    ensures events { MatchBool result (happened events.new.items ≡ happened events.old.items ++
+        Wrote page at bytes.now ∷ []) (events.new.items ≡
         events.old.items) }
-    ensures unsynced { MatchBool result (unsynced.new.items ≡ unsynced.old.items ++ Wrote page at bytes.now ∷ []) (unsynced.new.items ≡ unsynced.old.items) }
+    ensures unsynced { MatchBool result (unsynced.new.items ≡ unsynced.old.items ++ Wrote page at bytes.now ∷ [])
+        (unsynced.new.items ≡ unsynced.old.items) }
 {
     match WrittenBytes::copy_of(alloc, bytes) {
         Ok(copy) => add(unsynced, events, Event::Wrote(page, at, copy)),
@@ -126,7 +131,8 @@ impl Past {
     pub fn write(&mut self, alloc: Global, page: u32, at: u16, bytes: &[u8]) -> bool
         requires page { page < self.old.count }
         requires range { at + length bytes.now ≤ 4096 }
-        ensures done { MatchBool result (IsWrittenTo page at bytes.now self.old self.new) (IsAsBefore self.old self.new) }
+        ensures done { MatchBool result (IsWrittenTo page at bytes.now self.old self.new)
+            (IsAsBefore self.old self.new) }
         ensures crash { Follows (Torn page at (length bytes.now)) (left_now self.old) (left_now self.new) }
         ensures time { Grows self.old self.new }
         ensures count { self.new.count ≡ self.old.count }
@@ -159,7 +165,8 @@ impl Past {
 
     // Whether there was memory to reopen, after this stop.
     pub fn reopen(&mut self, stop: Option<Stop>) -> bool
-        ensures reads { MatchBool result (self.new.held.items ≡ after_stop stop (unsynced_in self.old) self.old.held.items) (self.new.held.items ≡
+        ensures reads { MatchBool result (self.new.held.items ≡ after_stop stop
+            (unsynced_in self.old) self.old.held.items) (self.new.held.items ≡
             self.old.held.items) }
         ensures unsynced { unsynced_in self.new ≡ unsynced_in self.old }
         ensures one { result ≡ true → left_now self.old self.new.held.items }

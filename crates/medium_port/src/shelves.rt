@@ -43,22 +43,32 @@ pub trait Shelf {
     /// fault.
     fn take(&mut self, kind: NodeKind, number: u8, volume: u32) -> Result<Self::Medium, MediumFault>
         ensures content { IsTrue Self.Medium.tells →
-            IfOk result (λ m. IsJustSo (holds self.old (record { kind = kind; number = number; volume = volume })) (Self.Medium.reads m)
+            IfOk result (λ m. IsJustSo (holds self.old (record { kind = kind; number = number; volume = volume }))
+            (Self.Medium.reads m)
             (may_hold self.old (record { kind = kind; number = number; volume = volume })) (Self.Medium.may_leave m)) }
-        ensures count { IfOk result (λ m. Self.Medium.faults m ≡ medium_faults self.old (record { kind = kind; number = number; volume = volume })) }
+        ensures count { IfOk result (λ m. Self.Medium.faults m ≡ medium_faults self.old
+            (record { kind = kind; number = number; volume = volume })) }
         ensures open { IfOk result (λ m. Self.Medium.is_failed m ≡ false) }
         ensures once { is_taken self.old (record { kind = kind; number = number; volume = volume }) → IsErr result }
-        ensures taken { IfOk result (λ m. is_taken self.new (record { kind = kind; number = number; volume = volume })) }
+        ensures taken { IfOk result (λ m. is_taken self.new
+            (record { kind = kind; number = number; volume = volume })) }
         ensures others { (name : MediumName) → name ≢ record { kind = kind; number = number; volume = volume } →
             is_taken self.new name ↔ is_taken self.old name }
         ensures others_count { (name : MediumName) → name ≢ record { kind = kind; number = number; volume = volume } →
             medium_faults self.new name ≡ medium_faults self.old name }
-        ensures others_content { IsTrue Self.Medium.tells → (name : MediumName) → name ≢ record { kind = kind; number = number; volume = volume } →
+        ensures others_content { IsTrue Self.Medium.tells → (name : MediumName) →
+            name ≢ record { kind = kind; number = number; volume = volume } →
             IsJustSo (holds self.old name) (holds self.new name) (may_hold self.old name) (may_hold self.new name) }
         ensures err { OnErr result ((name : MediumName) → is_taken self.new name ↔ is_taken self.old name) }
-        ensures err_count { OnErr result ((name : MediumName) → medium_faults self.new name ≡ medium_faults self.old name) }
+        ensures err_count { OnErr result ((name : MediumName) →
+            medium_faults self.new name ≡ medium_faults self.old name) }
         ensures err_content { IsTrue Self.Medium.tells →
-            OnErr result ((name : MediumName) → IsJustSo (holds self.old name) (holds self.new name) (may_hold self.old name) (may_hold self.new name)) }
-        ensures asked { asked self.new ≡ asked self.old ++ record { kind = kind; number = number; volume = volume } ∷ [] }
+            OnErr result ((name : MediumName) → IsJustSo (holds self.old name) (holds self.new name)
+            (may_hold self.old name) (may_hold self.new name)) }
+        ensures asked { asked self.new ≡ asked self.old ++ record {
+          kind = kind;
+          number = number;
+          volume = volume;
+        } ∷ [] }
         ensures cause { HasCause (faults self.old) (faults self.new) result };
 }

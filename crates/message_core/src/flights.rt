@@ -57,10 +57,12 @@ fn place(
     fate: Fate,
 ) -> Result<(), AllocError>
     ensures queued { OnOk result ((n : NodeId) →
-        queue_in queues.new.entries n ≡ (if (fate.hold == 0) && same_node copy.to n then option_map (puts (copies_of fate) copy.number fate.overtake)
+        queue_in queues.new.entries n ≡ (if (fate.hold == 0) && same_node copy.to n then option_map
+        (puts (copies_of fate) copy.number fate.overtake)
         (queue_in queues.old.entries n) else queue_in queues.old.entries n)) }
     ensures waiting { OnOk result ((d : ℕ) →
-        held_in held.new.entries d ≡ (if not (fate.hold == 0) && (ticks + fate.hold == d) then held_in held.old.entries d ++
+        held_in held.new.entries d ≡ (if not (fate.hold == 0) &&
+        (ticks + fate.hold == d) then held_in held.old.entries d ++
         replicate (copies_of fate) copy else held_in held.old.entries d)) }
     ensures err { OnErr result ((n : NodeId) → queue_in queues.new.entries n ≡ queue_in queues.old.entries n) }
     ensures err_held { OnErr result ((d : ℕ) → held_in held.new.entries d ≡ held_in held.old.entries d) }
@@ -113,7 +115,8 @@ impl Flight {
     ) -> Result<u32, AllocError>
         requires { IsMessage message.now }
         ensures number { IfOk result (λ number. number ≡ next_number (state_of self.old)) }
-        ensures sent { OnOk result (state_of self.new ≡ sent (state_of self.old) (record { from = from; to = to; text = message_bytes message.now }) fate) }
+        ensures sent { OnOk result (state_of self.new ≡ sent (state_of self.old)
+            (record { from = from; to = to; text = message_bytes message.now }) fate) }
         ensures err { OnErr result (state_of self.new ≡ state_of self.old) }
     {
         let number = self.next_number()?;

@@ -21,26 +21,33 @@ use message_form::messages_apart;
 pub fn copies_counted()
     ensures start { (nodes : List NodeId) → Tallied (start nodes) blank_tally }
     ensures step { (s : State) (l : Tally) (call : Call) → Tallied s l → Tallied (step s call) (noted s l call) }
-    ensures front { (s : State) (l : Tally) → Tallied s l → (n : NodeId) (k : ℕ) (rest : List ℕ) → waiting s n ≡ k ∷ rest → (x : Posted) × IsDue s l n k x ×
+    ensures front { (s : State) (l : Tally) → Tallied s l → (n : NodeId) (k : ℕ) (rest : List ℕ) →
+        waiting s n ≡ k ∷ rest → (x : Posted) × IsDue s l n k x ×
         (count k l.taken < copies_of x.fate) }
-    ensures empty { (s : State) (l : Tally) → Tallied s l → (n : NodeId) (k : ℕ) (x : Posted) → s.queues n ≡ Some [] → IsDue s l n k x →
+    ensures empty { (s : State) (l : Tally) → Tallied s l → (n : NodeId) (k : ℕ) (x : Posted) →
+        s.queues n ≡ Some [] → IsDue s l n k x →
         count k l.taken ≡ copies_of x.fate }
-    ensures whole { (nodes : List NodeId) (calls : List Call) → Tallied (flown (start nodes) calls) (all_noted (start nodes) blank_tally calls) }
+    ensures whole { (nodes : List NodeId) (calls : List Call) →
+        Tallied (flown (start nodes) calls) (all_noted (start nodes) blank_tally calls) }
 {}
 
 /// A law: just the nodes of the run have a queue, each until it is shut.
 pub fn queues_stay()
-    ensures start { (nodes : List NodeId) (n : NodeId) → is_some ((start nodes).queues n) ≡ list_any (λ m. same_node m n) nodes }
-    ensures sent { (s : State) (letter : Letter) (fate : Fate) (n : NodeId) → is_some ((sent s letter fate).queues n) ≡ is_some (s.queues n) }
+    ensures start { (nodes : List NodeId) (n : NodeId) →
+        is_some ((start nodes).queues n) ≡ list_any (λ m. same_node m n) nodes }
+    ensures sent { (s : State) (letter : Letter) (fate : Fate) (n : NodeId) →
+        is_some ((sent s letter fate).queues n) ≡ is_some (s.queues n) }
     ensures taken { (s : State) (node n : NodeId) → is_some ((taken s node).queues n) ≡ is_some (s.queues n) }
     ensures passed { (s : State) (n : NodeId) → is_some ((passed s).queues n) ≡ is_some (s.queues n) }
-    ensures shut { (s : State) (node n : NodeId) → is_some ((was_shut s node).queues n) ≡ (is_some (s.queues n) && not (same_node node n)) }
+    ensures shut { (s : State) (node n : NodeId) →
+        is_some ((was_shut s node).queues n) ≡ (is_some (s.queues n) && not (same_node node n)) }
 {}
 
 /// A law: where the texts are those of these messages, the letter with a message's text is that of
 /// this very message. So a taken copy's message is the one of its number among the messages sent.
 pub fn copies_were_sent()
-    ensures { (posts : List Post) (place : ℕ) (from to : NodeId) (message : Message) → AllInRange posts → IsMessage message
+    ensures { (posts : List Post) (place : ℕ) (from to : NodeId) (message : Message) →
+        AllInRange posts → IsMessage message
         → slice_get (map letter_of posts) place ≡ Some (record { from = from; to = to; text = message_bytes message })
         → slice_get posts place ≡ Some (record { from = from; to = to; message = message }) }
 {

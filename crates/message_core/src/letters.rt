@@ -74,7 +74,11 @@ pub fn arrival_of(alloc: Global, letters: &[Letter], number: u32) -> Result<Arri
     requires texts { AllHaveText letters.now }
     ensures number { IfOk result (λ a. a.number ≡ number) }
     ensures letter { IfOk result (λ a. (node : NodeId) → WentTo letters.now node number →
-        slice_get letters.now (number - 1) ≡ Some (record { from = a.from; to = node; text = message_bytes a.message })) }
+        slice_get letters.now (number - 1) ≡ Some (record {
+          from = a.from;
+          to = node;
+          text = message_bytes a.message;
+        })) }
     ensures in_range { IfOk result (λ a. IsMessage a.message) }
 {
     let letter = &letters[number as usize - 1];

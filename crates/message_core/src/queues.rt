@@ -19,7 +19,8 @@ pub type Queues = BTreeMap<NodeId, VecDeque<u32>>;
 
 // An empty queue for each of these nodes.
 pub fn empty_queues(alloc: Global, nodes: &[NodeId]) -> Result<Queues, AllocError>
-    ensures { IfOk result (λ queues. (n : NodeId) → queue_in queues.entries n ≡ (if list_any (λ m. same_node m n) nodes.now then Some [] else None)) }
+    ensures { IfOk result (λ queues. (n : NodeId) →
+        queue_in queues.entries n ≡ (if list_any (λ m. same_node m n) nodes.now then Some [] else None)) }
 {
     let mut queues = BTreeMap::new(alloc);
     for node in nodes {
@@ -95,7 +96,8 @@ fn drop_last(queue: &mut VecDeque<u32>)
 
 // Takes the copy at the end of its queue away again.
 fn take_back(queues: &mut Queues, copy: HeldCopy)
-    ensures { (before : NodeId → Option (List ℕ)) (earlier : List HeldCopy) → Grew (earlier ++ copy ∷ []) before (queue_in queues.old.entries) →
+    ensures { (before : NodeId → Option (List ℕ)) (earlier : List HeldCopy) →
+        Grew (earlier ++ copy ∷ []) before (queue_in queues.old.entries) →
         Grew earlier before (queue_in queues.new.entries) }
 {
     if let Some(queue) = queues.get_mut(&copy.to) {
@@ -119,7 +121,8 @@ fn spread(queues: &mut Queues, copies: &[HeldCopy]) -> Result<(), AllocError>
 
 // The copies that are held until this tick go to the ends of their queues.
 pub fn arrive(queues: &mut Queues, held: &Holds, tick: u64) -> Result<(), AllocError>
-    ensures ok { OnOk result (Grew (held_in held.now.entries tick) (queue_in queues.old.entries) (queue_in queues.new.entries)) }
+    ensures ok { OnOk result (Grew (held_in held.now.entries tick) (queue_in queues.old.entries)
+        (queue_in queues.new.entries)) }
     ensures err { OnErr result ((n : NodeId) → queue_in queues.new.entries n ≡ queue_in queues.old.entries n) }
 {
     match held.get(&tick) {
@@ -130,7 +133,8 @@ pub fn arrive(queues: &mut Queues, held: &Holds, tick: u64) -> Result<(), AllocE
 
 // Takes these copies away from the ends of their queues again, the last one first.
 fn gather(queues: &mut Queues, copies: &[HeldCopy])
-    ensures { (before : NodeId → Option (List ℕ)) → Grew copies.now before (queue_in queues.old.entries) → Grew [] before (queue_in queues.new.entries) }
+    ensures { (before : NodeId → Option (List ℕ)) → Grew copies.now before (queue_in queues.old.entries) →
+        Grew [] before (queue_in queues.new.entries) }
 {
     for back in 0..copies.len() {
         take_back(queues, copies[copies.len() - 1 - back]);
@@ -156,7 +160,8 @@ pub fn front_of(queues: &Queues, node: NodeId) -> Option<u32>
 // The front copy of a node leaves its queue.
 pub fn drop_front(queues: &mut Queues, node: NodeId)
     ensures { (n : NodeId) → queue_in queues.new.entries n ≡
-        (if same_node node n then option_map (drop 1) (queue_in queues.old.entries n) else queue_in queues.old.entries n) }
+        (if same_node node n then option_map (drop 1) (queue_in queues.old.entries n) else queue_in
+        queues.old.entries n) }
 {
     if let Some(queue) = queues.get_mut(&node) {
         queue.pop_front();
@@ -165,7 +170,8 @@ pub fn drop_front(queues: &mut Queues, node: NodeId)
 
 // The queue of a node is given up.
 pub fn close_queue(queues: &mut Queues, node: NodeId)
-    ensures { (n : NodeId) → queue_in queues.new.entries n ≡ (if same_node node n then None else queue_in queues.old.entries n) }
+    ensures { (n : NodeId) → queue_in queues.new.entries n ≡
+        (if same_node node n then None else queue_in queues.old.entries n) }
 {
     queues.remove(&node);
 }

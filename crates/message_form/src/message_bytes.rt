@@ -74,7 +74,8 @@ fn read_of(bytes: &[u8]) -> Result<Found<'_>, MessageFault>
 }
 
 fn value_of(alloc: Global, bytes: &[u8]) -> Result<Found<'_>, MessageFault>
-    ensures { Gives (λ p. (p.0, p.1.now)) result (whole_two 1 15 variant.Value time_at (λ b. found (value_at b)) bytes.now) }
+    ensures { Gives (λ p. (p.0, p.1.now)) result
+        (whole_two 1 15 variant.Value time_at (λ b. found (value_at b)) bytes.now) }
 {
     let Some((at, rest)) = time_of(bytes) else {
         return Err(MessageFault::Form { at: 1 });
@@ -253,5 +254,6 @@ pub fn read(alloc: Global, bytes: &[u8]) -> Result<Message, MessageFault>
 
 /// A law: no message's bytes begin another's, and each message has one text.
 pub fn messages_apart()
-    ensures { (a b : Message) (x y : List ℕ) → IsMessage a → IsMessage b → message_bytes a ++ x ≡ message_bytes b ++ y → (a ≡ b) × (x ≡ y) }
+    ensures { (a b : Message) (x y : List ℕ) → IsMessage a → IsMessage b → message_bytes a ++ x ≡ message_bytes b ++ y →
+        (a ≡ b) × (x ≡ y) }
 {}

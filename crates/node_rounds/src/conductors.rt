@@ -63,7 +63,8 @@ fn are_done<F: Fates, C: Clock, M: Medium>(nodes: &[RunNode<F, C, M>]) -> bool
 
 // Whether memory was wanting for a node.
 fn was_wanting<F: Fates, C: Clock, M: Medium>(shares: &[Vec<RunNode<F, C, M>>]) -> bool
-    ensures { MatchBool result (SomeNode (λ n. n.condition ≡ Condition.Wanting) shares.now) (EachNode HasMemory shares.now) }
+    ensures { MatchBool result (SomeNode (λ n. n.condition ≡ Condition.Wanting) shares.now)
+        (EachNode HasMemory shares.now) }
 {
     for nodes in shares {
         if is_any_wanting(nodes.as_slice()) {
@@ -131,7 +132,8 @@ fn asked<F: Fates, C: Clock, M: Medium, R: Wait>(
     requires few { ticks ≤ limits.ticks }
     ensures pass { IsWirePass wire.now.lock result.0 }
     ensures next { Follows M.tells limits result.1 shares.now (knows pass) (knows result.0) }
-    ensures ticked { result.1 ≡ Next.Ticked → SomeNode (IsLate M.tells) shares.now × HasTicked (knows pass) (knows result.0) }
+    ensures ticked { result.1 ≡ Next.Ticked → SomeNode (IsLate M.tells) shares.now ×
+        HasTicked (knows pass) (knows result.0) }
 {
     if let Some(reason) = ended_by_nodes(shares) {
         return (pass, Next::End(reason));
@@ -178,7 +180,8 @@ fn go_round<
     ensures kept { EachPlace (IsKeptThrough M.tells M.stages) shares.items result.0.items }
     ensures all { EachNode (HasAllOf (knows result.1).story) result.0.items }
     ensures next { Follows M.tells limits result.2 result.0.items (knows pass) (knows result.1) }
-    ensures wanted { IsTrue M.tells → TicksAreWanted (base_from (base_of wire.now.lock).origin) (knows pass).story shares.items →
+    ensures wanted { IsTrue M.tells → TicksAreWanted (base_from (base_of wire.now.lock).origin)
+        (knows pass).story shares.items →
         TicksAreWanted (base_from (base_of wire.now.lock).origin) (knows result.1).story result.0.items }
 {
     let turns = if limits.workers > 1 { TURNS } else { 1 };
@@ -218,7 +221,8 @@ pub fn go_on<
     ensures conductor { (knows result.1).owner ≡ 0 }
     ensures ticks { tick_count (knows result.1).own ≤ limits.ticks }
     ensures reason { EndsFor M.tells limits result.2 result.0.items (knows result.1) }
-    ensures wanted { IsTrue M.tells → TicksAreWanted (base_from (base_of wire.now.lock).origin) (knows result.1).story result.0.items }
+    ensures wanted { IsTrue M.tells → TicksAreWanted (base_from (base_of wire.now.lock).origin)
+        (knows result.1).story result.0.items }
 {
     let mut shares = shares;
     let mut pass = pass;

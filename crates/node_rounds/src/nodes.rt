@@ -54,7 +54,8 @@ impl<F: Fates, C: Clock, M: Medium> RunNode<F, C, M> {
         requires pass { IsWirePass wire.now.lock self.old.pass × IsWirePass wire.now.lock other.old }
         ensures pass { IsWirePass wire.now.lock self.new.pass × IsWirePass wire.now.lock other.new }
         ensures met { MeetsWith (knows other.old) self.old self.new }
-        ensures other { Looked (knows other.old) (knows other.new) × ((knows other.new).story ≡ (sight self.new).story) }
+        ensures other { Looked (knows other.old) (knows other.new) ×
+            ((knows other.new).story ≡ (sight self.new).story) }
     {
         match &mut self.kind {
             AnyNode::Repository(node) => node.meet(wire, other),
@@ -65,7 +66,8 @@ impl<F: Fates, C: Clock, M: Medium> RunNode<F, C, M> {
     /// Whether nothing keeps the run from ending: a repository is always done; a broker where each of
     /// its acts has its outcome and no request is outstanding. Takes no memory.
     pub fn is_done(&self) -> bool
-        ensures done { IsTrue M.tells → self.now.condition ≡ Condition.AtWork → result ≡ is_done_at (sight self.now) self.now.node }
+        ensures done { IsTrue M.tells → self.now.condition ≡ Condition.AtWork →
+            result ≡ is_done_at (sight self.now) self.now.node }
         ensures own { self.now.condition ≡ Condition.AtWork → result ≡ false → IsOf self.now.node (sight self.now) }
     {
         match &self.kind {

@@ -25,7 +25,8 @@ pub trait Turns<L> {
 
     /// A law: a turn behind others makes of it what turns make.
     fn turns_join()
-        ensures { (shared : L) (first mid last : Self) → does shared first mid → ready shared mid → does shared mid last → does shared first last };
+        ensures { (shared : L) (first mid last : Self) → does shared first mid → ready shared mid →
+            does shared mid last → does shared first last };
 }
 
 /// One worker's share: each of its nodes has a turn, in their order. True where one of them did anything.
@@ -126,7 +127,8 @@ fn beside<L: Sync, S: Turns<L> + Drop + Send, R: Threads + Wait + Sync>(
         { share_often(rt, shared, turns, last) },
         || -> Vec<Vec<S>>
             requires { All (λ nodes. All (S.ready shared.now) nodes.items) shares.items }
-            ensures { AllZip (λ old new. AllZip (S.does shared.entry.now) old.items new.items) shares.items result.items × (vec_len result ≡ vec_len shares) ×
+            ensures { AllZip (λ old new. AllZip (S.does shared.entry.now) old.items new.items) shares.items
+                result.items × (vec_len result ≡ vec_len shares) ×
                 (vec_capacity result ≡ vec_capacity shares) }
         { round(rt, shared, turns, shares) },
     )

@@ -35,7 +35,8 @@ use wire_lock::{SharedWire, WirePass};
 fn leaves<K: StoredCore<M>, M: Medium>(node: NodeId, core: &K, out: &Out) -> bool
     requires able { (K.parts core.now).able ≡ true }
     requires node { (K.parts core.now).node ≡ node }
-    ensures { IsTrue M.tells → (b : Base) (l : Life) → K.lives b core.now l → (is_broker node.kind ≡ true → AsksNobody out.now.message) →
+    ensures { IsTrue M.tells → (b : Base) (l : Life) → K.lives b core.now l →
+        (is_broker node.kind ≡ true → AsksNobody out.now.message) →
         result ≡ leaves (all_effects l) out.now }
 {
     if node.kind == NodeKind::Broker {
@@ -57,7 +58,8 @@ fn add_leaving<K: StoredCore<M>, M: Medium>(
 ) -> Result<(), AllocError>
     requires able { (K.parts core.now).able ≡ true }
     requires node { (K.parts core.now).node ≡ node }
-    ensures leaving { IsTrue M.tells → (b : Base) (l : Life) → K.lives b core.now l → (is_broker node.kind ≡ true → AsksNobody out.now.message) →
+    ensures leaving { IsTrue M.tells → (b : Base) (l : Life) → K.lives b core.now l →
+        (is_broker node.kind ≡ true → AsksNobody out.now.message) →
         OnOk result (all.new.items ≡ all.old.items ++ filter (leaves (all_effects l)) (out.now ∷ [])) }
     ensures in_range { IsMessage out.now.message → AreOuts all.old.items → OnOk result (AreOuts all.new.items) }
 {
@@ -78,7 +80,8 @@ fn leaving<K: StoredCore<M>, M: Medium>(
     requires able { (K.parts core.now).able ≡ true }
     requires node { (K.parts core.now).node ≡ node }
     requires in_range { AreOuts outs.now }
-    ensures leaving { IsTrue M.tells → (b : Base) (l : Life) → K.lives b core.now l → (is_broker node.kind ≡ true → AskNobody outs.now) →
+    ensures leaving { IsTrue M.tells → (b : Base) (l : Life) → K.lives b core.now l →
+        (is_broker node.kind ≡ true → AskNobody outs.now) →
         IfOk result (λ all. all.items ≡ filter (leaves (all_effects l)) outs.now) }
     ensures in_range { IfOk result (λ all. AreOuts all.items) }
 {
@@ -132,18 +135,25 @@ pub fn close<K: StoredCore<M>, F: Fates, C: Clock, M: Medium, R: Wait>(
     pass: WirePass<F, C, M>,
 ) -> (WirePass<F, C, M>, K, Result<usize, StoreFault>)
     requires pass { IsWirePass wire.now.lock pass }
-    requires up { IsUp M.tells K.parts K.fits K.lives K.owes M.page_count M.reads M.may_leave core (knows pass) node gone true draft.now }
+    requires up { IsUp M.tells K.parts K.fits K.lives K.owes M.page_count M.reads M.may_leave core
+        (knows pass) node gone true draft.now }
     ensures pass { IsWirePass wire.now.lock result.0 }
     ensures up { IfOk result.2 (λ durable.
-        IsUp M.tells K.parts K.fits K.lives K.owes M.page_count M.reads M.may_leave result.1 (knows result.0) node gone false (no_draft durable)) }
-    ensures err { IfErr result.2 (λ f. IsAfterAppend M.tells K.parts K.fits K.lives K.owes M.page_count M.reads M.may_leave f result.1
+        IsUp M.tells K.parts K.fits K.lives K.owes M.page_count M.reads M.may_leave result.1
+        (knows result.0) node gone false (no_draft durable)) }
+    ensures err { IfErr result.2 (λ f. IsAfterAppend M.tells K.parts K.fits K.lives K.owes M.page_count M.reads
+        M.may_leave f result.1
         (knows result.0) node draft.now.durable) }
-    ensures sent { OnOk result.2 (Trail node (knows pass) (knows result.0) (owed (world_at (knows pass)) node) [] [] 0) }
+    ensures sent { OnOk result.2 (Trail node (knows pass) (knows result.0)
+        (owed (world_at (knows pass)) node) [] [] 0) }
     ensures unsent { OnErr result.2 (Trail node (knows pass) (knows result.0) [] [] [] 0) }
     ensures later { M.faults (K.parts core).medium ≤ M.faults (K.parts result.1).medium }
-    ensures intact { IsTrue M.tells → OnOk result.2 (IsIntact (M.reads (K.parts core).medium) (M.reads (K.parts result.1).medium)) }
-    ensures nothing { IfErr result.2 (λ f. (number : ℕ) → f ≡ adding.Full number → (K.parts result.1).medium ≡ (K.parts core).medium) }
-    ensures cause { IsErrOf result.2 adding.Medium → Rose (M.faults (K.parts core).medium) (M.faults (K.parts result.1).medium) }
+    ensures intact { IsTrue M.tells →
+        OnOk result.2 (IsIntact (M.reads (K.parts core).medium) (M.reads (K.parts result.1).medium)) }
+    ensures nothing { IfErr result.2 (λ f. (number : ℕ) → f ≡ adding.Full number →
+        (K.parts result.1).medium ≡ (K.parts core).medium) }
+    ensures cause { IsErrOf result.2 adding.Medium →
+        Rose (M.faults (K.parts core).medium) (M.faults (K.parts result.1).medium) }
     ensures passes { IsTrue M.tells → PassesOn node (knows pass) (knows result.0)
         (M.stages (K.parts core).medium) (M.stages (K.parts result.1).medium) }
 {

@@ -43,31 +43,36 @@ pub trait StoredCore<M: Medium>: Drop {
     fn go(&mut self) -> Result<Turn, HistoryFault>
         requires able { (parts self.old).able ≡ true }
         ensures given { is_broker (parts self.old).node.kind ≡ true →
-            IsGiven M.tells parts fits lives owes M.faults M.page_count M.reads M.may_leave M.stages self.old self.new Going result };
+            IsGiven M.tells parts fits lives owes M.faults M.page_count M.reads M.may_leave M.stages self.old
+            self.new Going result };
 
     /// Takes a message from a node.
     fn take(&mut self, from: NodeId, message: &Message) -> Result<Turn, HistoryFault>
         requires able { (parts self.old).able ≡ true }
         requires message { IsMessage message.now }
-        ensures given { IsGiven M.tells parts fits lives owes M.faults M.page_count M.reads M.may_leave M.stages self.old self.new (Taking from message.now) result };
+        ensures given { IsGiven M.tells parts fits lives owes M.faults M.page_count M.reads M.may_leave M.stages
+            self.old self.new (Taking from message.now) result };
 
     /// A repository learns how an attempt was decided. Nothing is said of another node's.
     fn learn(&mut self, stamp: Stamp, committed: bool) -> Result<Turn, HistoryFault>
         requires able { (parts self.old).able ≡ true }
         ensures given { is_broker (parts self.old).node.kind ≡ false →
-            IsGiven M.tells parts fits lives owes M.faults M.page_count M.reads M.may_leave M.stages self.old self.new (Learning stamp committed) result };
+            IsGiven M.tells parts fits lives owes M.faults M.page_count M.reads M.may_leave M.stages self.old self.new
+            (Learning stamp committed) result };
 
     /// Hears a moment of at most 2^63.
     fn hear(&mut self, moment: u64) -> Result<Turn, HistoryFault>
         requires able { (parts self.old).able ≡ true }
         requires moment { moment ≤ 2 ^ 63 }
-        ensures given { IsGiven M.tells parts fits lives owes M.faults M.page_count M.reads M.may_leave M.stages self.old self.new (Hearing moment) result };
+        ensures given { IsGiven M.tells parts fits lives owes M.faults M.page_count M.reads M.may_leave M.stages
+            self.old self.new (Hearing moment) result };
 
     /// Whether a repository's log has a Decide or a Learn of the attempt. Nothing is said of another
     /// node's.
     fn knows(&self, stamp: Stamp) -> bool
         requires able { (parts self.now).able ≡ true }
-        ensures { is_broker (parts self.now).node.kind ≡ false → IsTrue M.tells → (b : Base) (l : Life) → lives b self.now l →
+        ensures { is_broker (parts self.now).node.kind ≡ false → IsTrue M.tells → (b : Base) (l : Life) →
+            lives b self.now l →
             result ≡ knows (all_effects l) stamp };
 
     /// Adds the effects that it gave since its last append to the log on its medium.
@@ -75,12 +80,14 @@ pub trait StoredCore<M: Medium>: Drop {
         requires able { (parts self).able ≡ true }
         requires ranges { AreEffects effects.now }
         requires owed { owes self effects.now }
-        ensures { IsAppended M.tells parts fits lives owes M.faults M.page_count M.reads M.may_leave M.stages self result.0 effects.now result.1 };
+        ensures { IsAppended M.tells parts fits lives owes M.faults M.page_count M.reads M.may_leave M.stages self
+            result.0 effects.now result.1 };
 
     /// Opens its medium anew, and the core over the log that is found. Ok tells how many effects
     /// these are.
     fn reopen(self, alloc: Global) -> (Self, Result<usize, OpenFault>)
-        ensures { IsReopened M.tells parts fits lives owes M.faults M.page_count M.reads M.may_leave M.stages self result.0 result.1 };
+        ensures { IsReopened M.tells parts fits lives owes M.faults M.page_count M.reads M.may_leave M.stages self
+            result.0 result.1 };
 
     /// Its medium.
     fn release(self) -> M

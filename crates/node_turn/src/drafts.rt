@@ -38,7 +38,11 @@ impl Draft {
     pub fn add(&mut self, turn: Turn) -> Result<(), AllocError>
         ensures durable { self.new.durable ≡ self.old.durable }
         ensures ok { OnOk result (self.new ≡
-            record { durable = self.old.durable; effects = self.old.effects ++ turn.effects; outs = self.old.outs ++ turn.outs }) }
+            record {
+              durable = self.old.durable;
+              effects = self.old.effects ++ turn.effects;
+              outs = self.old.outs ++ turn.outs;
+            }) }
     {
         let Turn { effects, outs } = turn;
         let mut effects = effects.into_vec();

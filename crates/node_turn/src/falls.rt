@@ -29,13 +29,16 @@ pub fn go_down<K: StoredCore<M>, F: Fates, C: Clock, M: Medium, R: Wait>(
     pass: WirePass<F, C, M>,
 ) -> (WirePass<F, C, M>, Condition)
     requires pass { IsWirePass wire.now.lock pass }
-    requires struck { IsStruck M.tells K.parts K.fits K.lives K.owes M.page_count M.reads M.may_leave core.now (knows pass) node durable }
+    requires struck { IsStruck M.tells K.parts K.fits K.lives K.owes M.page_count M.reads M.may_leave core.now
+        (knows pass) node durable }
     requires cause { IsCause M.tells M.page_count M.reads cause (K.parts core.now).medium (life_at (knows pass) node) }
     ensures pass { IsWirePass wire.now.lock result.0 }
     ensures keeps { (gone : _) (count : ℕ) →
-        Keeps M.tells K.parts K.fits K.lives K.owes M.page_count M.reads M.may_leave result.1 core.now (knows result.0) node gone count }
+        Keeps M.tells K.parts K.fits K.lives K.owes M.page_count M.reads M.may_leave result.1 core.now
+        (knows result.0) node gone count }
     ensures stops { result.1 ≢ Condition.AtWork }
-    ensures trail { (cost : ℕ) × (cost ≤ cost_of_cause cause) × (result.1 ≢ Condition.Wanting → cost ≡ cost_of_cause cause) ×
+    ensures trail { (cost : ℕ) × (cost ≤ cost_of_cause cause) ×
+        (result.1 ≢ Condition.Wanting → cost ≡ cost_of_cause cause) ×
         Trail node (knows pass) (knows result.0) [] [] [] cost }
     ensures passes { IsTrue M.tells → PassesOn node (knows pass) (knows result.0)
         (M.stages (K.parts core.now).medium) (M.stages (K.parts core.now).medium) }
@@ -85,14 +88,17 @@ pub fn open_anew<K: StoredCore<M>, F: Fates, C: Clock, M: Medium, R: Wait>(
     pass: WirePass<F, C, M>,
 ) -> (WirePass<F, C, M>, Hand<K>)
     requires pass { IsWirePass wire.now.lock pass }
-    requires struck { IsStruck M.tells K.parts K.fits K.lives K.owes M.page_count M.reads M.may_leave core (knows pass) node durable }
+    requires struck { IsStruck M.tells K.parts K.fits K.lives K.owes M.page_count M.reads M.may_leave core
+        (knows pass) node durable }
     ensures pass { IsWirePass wire.now.lock result.0 }
-    ensures keeps { Keeps M.tells K.parts K.fits K.lives K.owes M.page_count M.reads M.may_leave result.1.condition result.1.core
+    ensures keeps { Keeps M.tells K.parts K.fits K.lives K.owes M.page_count M.reads M.may_leave
+        result.1.condition result.1.core
         (knows result.0) node result.1.gone result.1.durable }
     ensures trail { (cost : ℕ) × Trail node (knows pass) (knows result.0) [] [] [] cost }
     ensures paid { PaysFor (costs (knows pass).own + 1) (M.faults (K.parts core).medium) (costs (knows result.0).own)
         (M.faults (K.parts result.1.core).medium) }
-    ensures dear { IsTrue M.tells → result.1.condition ≢ Condition.Wanting → costs (knows pass).own < costs (knows result.0).own }
+    ensures dear { IsTrue M.tells → result.1.condition ≢ Condition.Wanting →
+        costs (knows pass).own < costs (knows result.0).own }
     ensures grew { result.1.condition ≡ Condition.AtWork → Grew (knows pass).own (knows result.0).own }
     ensures passes { IsTrue M.tells → PassesOn node (knows pass) (knows result.0)
         (M.stages (K.parts core).medium) (M.stages (K.parts result.1.core).medium) }

@@ -40,7 +40,12 @@ impl<K: StoredCore<M>, F: Fates, C: Clock, M: Medium> Model for Node<K, F, C, M>
 
     ghost coded = { Prim.hlevel (codes, stmt.the_row.coded) };
 
-    ghost view = { λ n. record { node = n.node; condition = n.hand.condition; pass = n.pass; medium = (K.parts n.hand.core).medium } };
+    ghost view = { λ n. record {
+      node = n.node;
+      condition = n.hand.condition;
+      pass = n.pass;
+      medium = (K.parts n.hand.core).medium;
+    } };
 
     ghost invariant = { λ n. Keeps M.tells K.parts K.fits K.lives K.owes M.page_count M.reads M.may_leave
         n.hand.condition n.hand.core (knows n.pass) n.node n.hand.gone n.hand.durable };
@@ -67,7 +72,8 @@ impl<K: StoredCore<M>, F: Fates, C: Clock, M: Medium> Node<K, F, C, M> {
         core: K,
         pass: WirePass<F, C, M>,
     ) -> Node<K, F, C, M>
-        requires up { IsUp M.tells K.parts K.fits K.lives K.owes M.page_count M.reads M.may_leave core (knows pass) node false false (no_draft count) }
+        requires up { IsUp M.tells K.parts K.fits K.lives K.owes M.page_count M.reads M.may_leave core
+            (knows pass) node false false (no_draft count) }
         ensures { result ≡ new_node node pass (K.parts core).medium }
     {
         Node {
@@ -139,7 +145,8 @@ impl<K: StoredCore<M>, F: Fates, C: Clock, M: Medium> Node<K, F, C, M> {
         ensures medium { (K.parts result.now).medium ≡ self.now.medium }
         ensures node { (K.parts result.now).node ≡ self.now.node }
         ensures own { self.now.condition ≡ Condition.AtWork → IsOf self.now.node (sight self.now) }
-        ensures life { IsTrue M.tells → self.now.condition ≡ Condition.AtWork → K.fits (base_at (sight self.now)) result.now ×
+        ensures life { IsTrue M.tells → self.now.condition ≡ Condition.AtWork →
+            K.fits (base_at (sight self.now)) result.now ×
             K.lives (base_at (sight self.now)) result.now (life_at (sight self.now) self.now.node) }
     {
         &self.hand.core
@@ -157,7 +164,8 @@ impl<K: StoredCore<M>, F: Fates, C: Clock, M: Medium> Node<K, F, C, M> {
         requires pass { IsWirePass wire.now.lock self.old.pass × IsWirePass wire.now.lock other.old }
         ensures pass { IsWirePass wire.now.lock self.new.pass × IsWirePass wire.now.lock other.new }
         ensures met { MeetsWith (knows other.old) self.old self.new }
-        ensures other { Looked (knows other.old) (knows other.new) × ((knows other.new).story ≡ (sight self.new).story) }
+        ensures other { Looked (knows other.old) (knows other.new) ×
+            ((knows other.new).story ≡ (sight self.new).story) }
     {
         wire.meet(&mut self.pass, other);
     }

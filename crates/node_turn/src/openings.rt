@@ -25,7 +25,8 @@ pub fn open_again<M: Medium>(
     ensures images { IsTrue M.tells → NoMore (M.may_leave medium) (M.may_leave (opened result)) }
     ensures any_moment { IsTrue M.tells → LeavesOnly M.stages medium (opened result) (M.may_leave medium) }
     ensures damaged { IsTrue M.tells → IfErr result
-        (λ e. (page : ℕ) → e.1 ≡ OpenFault.Damaged page → (image : Image) × M.may_leave medium image × (storage image ≡ Err page)) }
+        (λ e. (page : ℕ) → e.1 ≡ OpenFault.Damaged page → (image : Image) × M.may_leave medium image ×
+        (storage image ≡ Err page)) }
     ensures ranges { IfOk result (λ r. AreEffects r.1.items) }
     ensures sound { IfOk result (λ r. M.is_failed (medium_of r.0) ≡ false) }
     ensures later { M.faults medium ≤ M.faults (opened result) }

@@ -41,14 +41,18 @@ fn give_up<K: StoredCore<M>, F: Fates, C: Clock, M: Medium, R: Wait>(
     pass: WirePass<F, C, M>,
 ) -> (WirePass<F, C, M>, Hand<K>)
     requires pass { IsWirePass wire.now.lock pass }
-    requires after { IsAfter M.tells K.parts K.fits K.lives K.owes M.page_count M.reads M.may_leave fault core (knows pass) node durable }
+    requires after { IsAfter M.tells K.parts K.fits K.lives K.owes M.page_count M.reads M.may_leave fault core
+        (knows pass) node durable }
     ensures pass { IsWirePass wire.now.lock result.0 }
-    ensures keeps { Keeps M.tells K.parts K.fits K.lives K.owes M.page_count M.reads M.may_leave result.1.condition result.1.core
+    ensures keeps { Keeps M.tells K.parts K.fits K.lives K.owes M.page_count M.reads M.may_leave
+        result.1.condition result.1.core
         (knows result.0) node result.1.gone result.1.durable }
     ensures trail { (cost : ℕ) × Trail node (knows pass) (knows result.0) [] [] [] cost }
-    ensures paid { (before : ℕ) → (fault ≡ HistoryFault.Medium → Rose before (M.faults (K.parts core).medium)) → before ≤ M.faults (K.parts core).medium →
+    ensures paid { (before : ℕ) → (fault ≡ HistoryFault.Medium → Rose before (M.faults (K.parts core).medium)) →
+        before ≤ M.faults (K.parts core).medium →
         PaysFor (costs (knows pass).own) before (costs (knows result.0).own) (M.faults (K.parts result.1.core).medium) }
-    ensures dear { IsTrue M.tells → result.1.condition ≢ Condition.Wanting → costs (knows pass).own < costs (knows result.0).own }
+    ensures dear { IsTrue M.tells → result.1.condition ≢ Condition.Wanting →
+        costs (knows pass).own < costs (knows result.0).own }
     ensures grew { result.1.condition ≡ Condition.AtWork → Grew (knows pass).own (knows result.0).own }
     ensures wanting { fault ≡ HistoryFault.NoMemory → result.1.condition ≡ Condition.Wanting }
     ensures passes { IsTrue M.tells → PassesOn node (knows pass) (knows result.0)
@@ -93,15 +97,19 @@ fn end<K: StoredCore<M>, F: Fates, C: Clock, M: Medium, R: Wait>(
     pass: WirePass<F, C, M>,
 ) -> (WirePass<F, C, M>, Hand<K>)
     requires pass { IsWirePass wire.now.lock pass }
-    requires up { IsUp M.tells K.parts K.fits K.lives K.owes M.page_count M.reads M.may_leave core (knows pass) node gone true draft.now }
+    requires up { IsUp M.tells K.parts K.fits K.lives K.owes M.page_count M.reads M.may_leave core
+        (knows pass) node gone true draft.now }
     ensures pass { IsWirePass wire.now.lock result.0 }
-    ensures keeps { Keeps M.tells K.parts K.fits K.lives K.owes M.page_count M.reads M.may_leave result.1.condition result.1.core
+    ensures keeps { Keeps M.tells K.parts K.fits K.lives K.owes M.page_count M.reads M.may_leave
+        result.1.condition result.1.core
         (knows result.0) node result.1.gone result.1.durable }
     ensures sends { (sent : List _) × (cost : ℕ) × Trail node (knows pass) (knows result.0) sent [] [] cost ×
         (IsTrue M.tells → (out : _) → Has out sent → Has out (owed (world_at (knows pass)) node)) }
-    ensures paid { PaysFor (costs (knows pass).own) (M.faults (K.parts core).medium) (costs (knows result.0).own) (M.faults (K.parts result.1.core).medium) }
+    ensures paid { PaysFor (costs (knows pass).own) (M.faults (K.parts core).medium) (costs (knows result.0).own)
+        (M.faults (K.parts result.1.core).medium) }
     ensures whole { IsTrue M.tells → result.1.condition ≢ Condition.Wanting →
-        StaysWhole (costs (knows pass).own) (costs (knows result.0).own) (M.reads (K.parts core).medium) (M.reads (K.parts result.1.core).medium) }
+        StaysWhole (costs (knows pass).own) (costs (knows result.0).own) (M.reads (K.parts core).medium)
+        (M.reads (K.parts result.1.core).medium) }
     ensures passes { IsTrue M.tells → PassesOn node (knows pass) (knows result.0)
         (M.stages (K.parts core).medium) (M.stages (K.parts result.1.core).medium) }
 {
@@ -157,16 +165,21 @@ fn go_on<K: StoredCore<M>, F: Fates, C: Clock, M: Medium, R: Wait>(
     pass: WirePass<F, C, M>,
 ) -> (WirePass<F, C, M>, Hand<K>)
     requires pass { IsWirePass wire.now.lock pass }
-    requires up { IsUp M.tells K.parts K.fits K.lives K.owes M.page_count M.reads M.may_leave core (knows pass) node gone true draft }
+    requires up { IsUp M.tells K.parts K.fits K.lives K.owes M.page_count M.reads M.may_leave core
+        (knows pass) node gone true draft }
     requires gone { is_broker node.kind ≡ true → gone ≡ true }
     ensures pass { IsWirePass wire.now.lock result.0 }
-    ensures keeps { Keeps M.tells K.parts K.fits K.lives K.owes M.page_count M.reads M.may_leave result.1.condition result.1.core
+    ensures keeps { Keeps M.tells K.parts K.fits K.lives K.owes M.page_count M.reads M.may_leave
+        result.1.condition result.1.core
         (knows result.0) node result.1.gone result.1.durable }
-    ensures paid { PaysFor (costs (knows pass).own) (M.faults (K.parts core).medium) (costs (knows result.0).own) (M.faults (K.parts result.1.core).medium) }
+    ensures paid { PaysFor (costs (knows pass).own) (M.faults (K.parts core).medium) (costs (knows result.0).own)
+        (M.faults (K.parts result.1.core).medium) }
     ensures whole { IsTrue M.tells → result.1.condition ≢ Condition.Wanting →
-        StaysWhole (costs (knows pass).own) (costs (knows result.0).own) (M.reads (K.parts core).medium) (M.reads (K.parts result.1.core).medium) }
+        StaysWhole (costs (knows pass).own) (costs (knows result.0).own) (M.reads (K.parts core).medium)
+        (M.reads (K.parts result.1.core).medium) }
     ensures passes { IsTrue M.tells → result.1.condition ≢ Condition.Wanting →
-        PassesOn node (knows pass) (knows result.0) (M.stages (K.parts core).medium) (M.stages (K.parts result.1.core).medium) }
+        PassesOn node (knows pass) (knows result.0) (M.stages (K.parts core).medium)
+        (M.stages (K.parts result.1.core).medium) }
     ensures tested { IsTrue M.tells → is_broker node.kind ≡ false → HasTested node (knows pass) (knows result.0) }
     ensures adds { Adds (knows pass).own (knows result.0).own }
 {
@@ -201,21 +214,26 @@ pub fn work<K: StoredCore<M>, F: Fates, C: Clock, M: Medium, R: Wait>(
     pass: WirePass<F, C, M>,
 ) -> (WirePass<F, C, M>, Hand<K>, bool)
     requires pass { IsWirePass wire.now.lock pass }
-    requires up { IsUp M.tells K.parts K.fits K.lives K.owes M.page_count M.reads M.may_leave hand.core (knows pass) node hand.gone false
+    requires up { IsUp M.tells K.parts K.fits K.lives K.owes M.page_count M.reads M.may_leave hand.core
+        (knows pass) node hand.gone false
         (no_draft hand.durable) }
     ensures pass { IsWirePass wire.now.lock result.0 }
-    ensures keeps { Keeps M.tells K.parts K.fits K.lives K.owes M.page_count M.reads M.may_leave result.1.condition result.1.core
+    ensures keeps { Keeps M.tells K.parts K.fits K.lives K.owes M.page_count M.reads M.may_leave
+        result.1.condition result.1.core
         (knows result.0) node result.1.gone result.1.durable }
     ensures paid { PaysFor (costs (knows pass).own) (M.faults (K.parts hand.core).medium) (costs (knows result.0).own)
         (M.faults (K.parts result.1.core).medium) }
     ensures whole { IsTrue M.tells → result.1.condition ≢ Condition.Wanting →
-        StaysWhole (costs (knows pass).own) (costs (knows result.0).own) (M.reads (K.parts hand.core).medium) (M.reads (K.parts result.1.core).medium) }
+        StaysWhole (costs (knows pass).own) (costs (knows result.0).own) (M.reads (K.parts hand.core).medium)
+        (M.reads (K.parts result.1.core).medium) }
     ensures passes { IsTrue M.tells → result.1.condition ≢ Condition.Wanting →
-        PassesOn node (knows pass) (knows result.0) (M.stages (K.parts hand.core).medium) (M.stages (K.parts result.1.core).medium) }
+        PassesOn node (knows pass) (knows result.0) (M.stages (K.parts hand.core).medium)
+        (M.stages (K.parts result.1.core).medium) }
     ensures tested { IsTrue M.tells → is_broker node.kind ≡ false → HasTested node (knows pass) (knows result.0) }
     ensures adds { Adds (knows pass).own (knows result.0).own }
     ensures quiet { MatchBool result.2 (IsQuiet node (knows pass) (knows result.0) ×
-        (result.1.condition ≡ Condition.AtWork)) (result.1.condition ≡ Condition.AtWork → Grew (knows pass).own (knows result.0).own) }
+        (result.1.condition ≡ Condition.AtWork)) (result.1.condition ≡ Condition.AtWork →
+        Grew (knows pass).own (knows result.0).own) }
 {
     let Hand {
         mut core,

@@ -82,21 +82,28 @@ impl<M: Medium> HeaderTable<M> {
         ensures content { IfOk result (λ t. content (ledger_of t) ≡ content (ledger_of self)) }
         ensures late { IfOk result (λ t. (ledger_of t).late ≡ []) }
         ensures log { IfOk result (λ t. (ledger_of t).log ≡ (ledger_of self).log ++ effects.now) }
-        ensures left { IfOk result (λ t. left_in (store_of t) + length (filling effects.now) ≡ left_in (store_of self)) }
-        ensures used { IsTrue M.tells → IfOk result (λ t. count_by is_blank (M.reads (medium_of (store_of t))) + length (filling effects.now) ≡
+        ensures left { IfOk result (λ t. left_in (store_of t) + length (filling effects.now) ≡ left_in
+            (store_of self)) }
+        ensures used { IsTrue M.tells →
+            IfOk result (λ t. count_by is_blank (M.reads (medium_of (store_of t))) + length (filling effects.now) ≡
             count_by is_blank (M.reads (medium_of (store_of self)))) }
-        ensures only { IsTrue M.tells → IfOk result (λ t. Only (M.reads (medium_of (store_of t))) (M.may_leave (medium_of (store_of t)))) }
+        ensures only { IsTrue M.tells →
+            IfOk result (λ t. Only (M.reads (medium_of (store_of t))) (M.may_leave (medium_of (store_of t)))) }
 
         // Each image that is left has a prefix, at every moment, and only blank pages are written.
-        ensures images { IsTrue M.tells → (c : Image) → M.may_leave (handed_back result) c → HasPrefix (ledger_of self).log effects.now c }
+        ensures images { IsTrue M.tells → (c : Image) → M.may_leave (handed_back result) c →
+            HasPrefix (ledger_of self).log effects.now c }
         ensures any_moment { IsTrue M.tells →
-            LeavesOnly M.stages (medium_of (store_of self)) (handed_back result) (HasPrefix (ledger_of self).log effects.now) }
+            LeavesOnly M.stages (medium_of (store_of self)) (handed_back result)
+            (HasPrefix (ledger_of self).log effects.now) }
         ensures kept { IsTrue M.tells → LeavesOnly M.stages (medium_of (store_of self)) (handed_back result)
             (KeepsPages (M.reads (medium_of (store_of self)))) }
-        ensures clean { IsTrue M.tells → IfOk result (λ t. StaysClean (M.reads (medium_of (store_of self))) (M.reads (medium_of (store_of t)))) }
+        ensures clean { IsTrue M.tells →
+            IfOk result (λ t. StaysClean (M.reads (medium_of (store_of self))) (M.reads (medium_of (store_of t)))) }
 
         // Full comes only where the pages aren't there, and any fault but Medium before all writing.
-        ensures full { IfErr result (λ e. (pages : ℕ) → e.1 ≡ StoreFault.Full pages → (pages ≡ M.page_count (medium_of (store_of self))) ×
+        ensures full { IfErr result (λ e. (pages : ℕ) → e.1 ≡ StoreFault.Full pages →
+            (pages ≡ M.page_count (medium_of (store_of self))) ×
             (left_in (store_of self) < length (filling effects.now))) }
         ensures full_blank { IsTrue M.tells →
             IfErr result (λ e. (pages : ℕ) → e.1 ≡ StoreFault.Full pages →
@@ -107,7 +114,8 @@ impl<M: Medium> HeaderTable<M> {
         ensures size { M.page_count (handed_back result) ≡ M.page_count (medium_of (store_of self)) }
         ensures state { IfOk result (λ t. M.is_failed (medium_of (store_of t)) ≡ false) }
         ensures later { M.faults (medium_of (store_of self)) ≤ M.faults (handed_back result) }
-        ensures failed { IfErr result (λ e. e.1 ≡ StoreFault.Medium → Rose (M.faults (medium_of (store_of self))) (M.faults e.0)) }
+        ensures failed { IfErr result (λ e. e.1 ≡ StoreFault.Medium →
+            Rose (M.faults (medium_of (store_of self))) (M.faults e.0)) }
     {
         let HeaderTable {
             alloc,
@@ -152,14 +160,17 @@ impl<M: Medium> HeaderTable<M> {
         limit: &Limit,
     ) -> Result<Option<(PseudoTime, Value)>, HistoryFault>
         ensures found { IsTrue M.tells →
-            IfOk result (λ r. r ≡ first_put (passes (ledger_of self.old).settles limit.now) object (content (ledger_of self.old))) }
+            IfOk result (λ r. r ≡ first_put (passes (ledger_of self.old).settles limit.now) object
+            (content (ledger_of self.old))) }
         ensures in_range { IfOk result (λ r. IfSome r (λ f. IsValue f.1)) }
         ensures sound { IsTrue M.tells → IfErr result IsNotDamage }
         ensures ledger { ledger_of self.new ≡ ledger_of self.old }
         ensures left { left_in (store_of self.new) ≡ left_in (store_of self.old) }
-        ensures beneath { told_medium M.tells (M.reads (medium_of (store_of self.new))) (M.stages (medium_of (store_of self.new))) ≡
+        ensures beneath { told_medium M.tells (M.reads (medium_of (store_of self.new)))
+            (M.stages (medium_of (store_of self.new))) ≡
             told_medium M.tells (M.reads (medium_of (store_of self.old))) (M.stages (medium_of (store_of self.old))) }
-        ensures cause { HasHistoryCause (M.faults (medium_of (store_of self.old))) (M.faults (medium_of (store_of self.new))) (damage_in (store_of self.old))
+        ensures cause { HasHistoryCause (M.faults (medium_of (store_of self.old)))
+            (M.faults (medium_of (store_of self.new))) (damage_in (store_of self.old))
             (damage_in (store_of self.new)) result }
     {
         if let Some(found) = self.ledger.first_late(object, limit)? {
@@ -191,9 +202,11 @@ impl<M: Medium> HeaderTable<M> {
         ensures sound { IsTrue M.tells → IfErr result IsNotDamage }
         ensures ledger { ledger_of self.new ≡ ledger_of self.old }
         ensures left { left_in (store_of self.new) ≡ left_in (store_of self.old) }
-        ensures beneath { told_medium M.tells (M.reads (medium_of (store_of self.new))) (M.stages (medium_of (store_of self.new))) ≡
+        ensures beneath { told_medium M.tells (M.reads (medium_of (store_of self.new)))
+            (M.stages (medium_of (store_of self.new))) ≡
             told_medium M.tells (M.reads (medium_of (store_of self.old))) (M.stages (medium_of (store_of self.old))) }
-        ensures cause { HasHistoryCause (M.faults (medium_of (store_of self.old))) (M.faults (medium_of (store_of self.new))) (damage_in (store_of self.old))
+        ensures cause { HasHistoryCause (M.faults (medium_of (store_of self.old)))
+            (M.faults (medium_of (store_of self.new))) (damage_in (store_of self.old))
             (damage_in (store_of self.new)) result }
     {
         if self.ledger.is_odd(object) {
@@ -218,13 +231,16 @@ impl<M: Medium> HeaderTable<M> {
     ) -> Result<bool, HistoryFault>
         requires object { IsObject object }
         requires value { IsValue value.now }
-        ensures answer { IsTrue M.tells → IfOk result (λ b. b ≡ stands_written (content (ledger_of self.old)) object start value.now) }
+        ensures answer { IsTrue M.tells →
+            IfOk result (λ b. b ≡ stands_written (content (ledger_of self.old)) object start value.now) }
         ensures sound { IsTrue M.tells → IfErr result IsNotDamage }
         ensures ledger { ledger_of self.new ≡ ledger_of self.old }
         ensures left { left_in (store_of self.new) ≡ left_in (store_of self.old) }
-        ensures beneath { told_medium M.tells (M.reads (medium_of (store_of self.new))) (M.stages (medium_of (store_of self.new))) ≡
+        ensures beneath { told_medium M.tells (M.reads (medium_of (store_of self.new)))
+            (M.stages (medium_of (store_of self.new))) ≡
             told_medium M.tells (M.reads (medium_of (store_of self.old))) (M.stages (medium_of (store_of self.old))) }
-        ensures cause { HasHistoryCause (M.faults (medium_of (store_of self.old))) (M.faults (medium_of (store_of self.new))) (damage_in (store_of self.old))
+        ensures cause { HasHistoryCause (M.faults (medium_of (store_of self.old)))
+            (M.faults (medium_of (store_of self.new))) (damage_in (store_of self.old))
             (damage_in (store_of self.new)) result }
     {
         if self.ledger.is_odd(object) {

@@ -54,9 +54,11 @@ impl Index {
     /// Adds a version, which lies above every living one of its object, unless that is odd.
     pub fn put(&mut self, object: ObjectId, start: PseudoTime) -> Result<(), AllocError>
         ensures ok { (m : List Mark) (v : Value) → IsIndexed m self.old.settles self.old.heads →
-            ((head_at self.old.heads object).odd ≡ false → Starts (λ y. is_living self.old.settles y ≡ true → lt y start ≡ true) object m) →
+            ((head_at self.old.heads object).odd ≡ false →
+            Starts (λ y. is_living self.old.settles y ≡ true → lt y start ≡ true) object m) →
             OnOk result (IsIndexed (mark.Put object start v ∷ m) self.new.settles self.new.heads) }
-        ensures err { (m : List Mark) → IsIndexed m self.old.settles self.old.heads → OnErr result (IsIndexed m self.new.settles self.new.heads) }
+        ensures err { (m : List Mark) → IsIndexed m self.old.settles self.old.heads →
+            OnErr result (IsIndexed m self.new.settles self.new.heads) }
         ensures same_odd { (o : ObjectId) → (head_at self.new.heads o).odd ≡ (head_at self.old.heads o).odd }
     {
         self.heads.add(&self.settles, object, start)
@@ -77,7 +79,8 @@ impl Index {
     fn test_put(&mut self, object: ObjectId, start: PseudoTime) -> Result<(), AllocError>
         ensures ok { (m : List Mark) → IsIndexed m self.old.settles self.old.heads →
             OnOk result (IsIndexed m self.new.settles self.new.heads ×
-            ((head_at self.new.heads object).odd ≡ false → Starts (λ y. is_living self.new.settles y ≡ true → lt y start ≡ true) object m)) }
+            ((head_at self.new.heads object).odd ≡ false →
+            Starts (λ y. is_living self.new.settles y ≡ true → lt y start ≡ true) object m)) }
     {
         match self.heads.look(&self.settles, object, &Limit::All) {
             Look::Shown(span) => {
@@ -95,7 +98,8 @@ impl Index {
     pub fn stretch(&mut self, object: ObjectId, at: PseudoTime) -> Result<(), AllocError>
         ensures ok { (m : List Mark) → IsIndexed m self.old.settles self.old.heads →
             OnOk result (IsIndexed (mark.Stretch object at ∷ m) self.new.settles self.new.heads) }
-        ensures err { (m : List Mark) → IsIndexed m self.old.settles self.old.heads → OnErr result (IsIndexed m self.new.settles self.new.heads) }
+        ensures err { (m : List Mark) → IsIndexed m self.old.settles self.old.heads →
+            OnErr result (IsIndexed m self.new.settles self.new.heads) }
         ensures same_odd { (o : ObjectId) → (head_at self.new.heads o).odd ≡ (head_at self.old.heads o).odd }
     {
         self.heads.stretch(&self.settles, object, at)
@@ -105,7 +109,8 @@ impl Index {
     pub fn settle(&mut self, stamp: Stamp, committed: bool) -> Result<(), AllocError>
         ensures ok { (m : List Mark) → IsIndexed m self.old.settles self.old.heads →
             OnOk result (IsIndexed (mark.Settle stamp committed ∷ m) self.new.settles self.new.heads) }
-        ensures err { (m : List Mark) → IsIndexed m self.old.settles self.old.heads → OnErr result (IsIndexed m self.new.settles self.new.heads) }
+        ensures err { (m : List Mark) → IsIndexed m self.old.settles self.old.heads →
+            OnErr result (IsIndexed m self.new.settles self.new.heads) }
         ensures same_odd { (o : ObjectId) → (head_at self.new.heads o).odd ≡ (head_at self.old.heads o).odd }
     {
         if self.settles.get(stamp).is_some() {
@@ -116,7 +121,8 @@ impl Index {
 
     /// A Floor touches no header.
     pub fn keeps_floor(&self, at: PseudoTime)
-        ensures { (m : List Mark) → IsIndexed m self.now.settles self.now.heads → IsIndexed (mark.Floor at ∷ m) self.now.settles self.now.heads }
+        ensures { (m : List Mark) → IsIndexed m self.now.settles self.now.heads →
+            IsIndexed (mark.Floor at ∷ m) self.now.settles self.now.heads }
     {}
 
     /// How the attempt was settled.
@@ -136,7 +142,8 @@ impl Index {
     /// What the header says of a read that isn't below the floor.
     pub fn plan_read(&self, floor: Option<PseudoTime>, object: ObjectId, at: PseudoTime) -> ReadPlan
         requires headed { (head_at self.now.heads object).odd ≡ false }
-        ensures plan { (m : List Mark) → IsIndexed m self.now.settles self.now.heads → floor ≡ floor_of m → IsOnFloor m at →
+        ensures plan { (m : List Mark) → IsIndexed m self.now.settles self.now.heads →
+            floor ≡ floor_of m → IsOnFloor m at →
             PlansRead self.now.settles m object at result }
         ensures in_range { IsReadPlan result }
     {
@@ -196,7 +203,8 @@ impl Index {
     /// Whether a version with this start may stand, so that it has to be looked for.
     pub fn may_stand(&self, object: ObjectId, at: PseudoTime) -> bool
         requires headed { (head_at self.now.heads object).odd ≡ false }
-        ensures { (m : List Mark) (v : Value) → IsIndexed m self.now.settles self.now.heads → result ≡ false → stands_written m object at v ≡ false }
+        ensures { (m : List Mark) (v : Value) → IsIndexed m self.now.settles self.now.heads → result ≡ false →
+            stands_written m object at v ≡ false }
     {
         if self.settles.get(at.stamp()) == Some(false) {
             return false;

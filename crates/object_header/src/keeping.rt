@@ -47,7 +47,8 @@ fn keep_mark(
     mark: &Mark,
 ) -> Result<(), AllocError>
     requires { IsMark mark.now }
-    ensures kept { OnOk result (reverse kept.new.items ≡ kept_of (odd_in heads.now) (mark.now ∷ []) ++ reverse kept.old.items) }
+    ensures kept { OnOk result (reverse kept.new.items ≡ kept_of (odd_in heads.now) (mark.now ∷ []) ++
+        reverse kept.old.items) }
     ensures range { AreMarks (reverse kept.old.items) → OnOk result (AreMarks (reverse kept.new.items)) }
 {
     if is_kept(heads, mark) {
@@ -65,7 +66,8 @@ pub fn keep_marks(
     marks: &[Mark],
 ) -> Result<(), AllocError>
     requires { AreMarks marks.now }
-    ensures kept { OnOk result (reverse kept.new.items ≡ kept_of (odd_in heads.now) (reverse marks.now) ++ reverse kept.old.items) }
+    ensures kept { OnOk result (reverse kept.new.items ≡ kept_of (odd_in heads.now) (reverse marks.now) ++
+        reverse kept.old.items) }
     ensures range { AreMarks (reverse kept.old.items) → OnOk result (AreMarks (reverse kept.new.items)) }
 {
     for mark in marks {
@@ -82,7 +84,8 @@ fn keep_effect(
     effect: &Effect,
 ) -> Result<(), AllocError>
     requires { IsEffect effect.now }
-    ensures kept { OnOk result (reverse kept.new.items ≡ kept_of (odd_in heads.now) (added (logs.mark_of effect.now) []) ++ reverse kept.old.items) }
+    ensures kept { OnOk result (reverse kept.new.items ≡ kept_of (odd_in heads.now)
+        (added (logs.mark_of effect.now) []) ++ reverse kept.old.items) }
     ensures range { AreMarks (reverse kept.old.items) → OnOk result (AreMarks (reverse kept.new.items)) }
 {
     match mark_of(alloc, effect)? {

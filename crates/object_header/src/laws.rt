@@ -8,7 +8,10 @@ ghost use Rattle.object_header.specs.Ledgers.{LedgerParts, MediumParts, beneath,
 /// call of histories says is enough for `flush`. The same holds where the histories have the marks
 /// of the store's log with these effects.
 pub fn late_marks()
-    ensures grown { (old new : LedgerParts) (before left : ℕ) (first last : Option MediumParts) (effects : List Effect) → old.late ≡ [] →
-        beneath new left last ≡ beneath old before first → content new ≡ marks (reverse effects) ++ content old → marks (reverse effects) ≡ new.late }
-    ensures logged { (l : LedgerParts) (effects : List Effect) → HasMarks (content l) (l.log ++ effects) → marks (reverse effects) ≡ l.late }
+    ensures grown { (old new : LedgerParts) (before left : ℕ) (first last : Option MediumParts)
+        (effects : List Effect) → old.late ≡ [] →
+        beneath new left last ≡ beneath old before first → content new ≡ marks (reverse effects) ++ content old →
+        marks (reverse effects) ≡ new.late }
+    ensures logged { (l : LedgerParts) (effects : List Effect) → HasMarks (content l) (l.log ++ effects) →
+        marks (reverse effects) ≡ l.late }
 {}

@@ -183,7 +183,8 @@ impl Ledger {
     /// What a write answers that doesn't stand yet.
     pub fn new_write(&self, object: ObjectId, at: PseudoTime) -> WriteStep
         requires headed { is_odd self.now object ≡ false }
-        ensures { result ≡ write_newest at (newest (content self.now) object) (reach (content self.now) object (newest (content self.now) object)) }
+        ensures { result ≡ write_newest at (newest (content self.now) object)
+            (reach (content self.now) object (newest (content self.now) object)) }
     {
         self.index.new_write(self.floor, object, at)
     }
@@ -207,7 +208,8 @@ impl Ledger {
 
     /// A new write that is put lies above every living version.
     pub fn puts_rise(&self, object: ObjectId, at: PseudoTime)
-        ensures { write_newest at (newest (content self.now) object) (reach (content self.now) object (newest (content self.now) object)) ≡ write.Put →
+        ensures { write_newest at (newest (content self.now) object)
+            (reach (content self.now) object (newest (content self.now) object)) ≡ write.Put →
             Starts (λ y. is_living self.now.settles y ≡ true → lt y at ≡ true) object (content self.now) }
     {
         let _in_range = self.late.len();
@@ -239,7 +241,8 @@ impl Ledger {
     ) -> Result<(), AllocError>
         requires object { IsObject object }
         requires value { IsValue value }
-        requires rises { is_odd self.old object ≡ false → Starts (λ y. is_living self.old.settles y ≡ true → lt y start ≡ true) object (content self.old) }
+        requires rises { is_odd self.old object ≡ false →
+            Starts (λ y. is_living self.old.settles y ≡ true → lt y start ≡ true) object (content self.old) }
         ensures log { self.new.log ≡ self.old.log }
         ensures ok { OnOk result (self.new.late ≡ mark.Put object start value ∷ self.old.late) }
         ensures err { OnErr result (self.new.late ≡ self.old.late) }

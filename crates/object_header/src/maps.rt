@@ -90,7 +90,8 @@ impl Heads {
         start: PseudoTime,
     ) -> Result<(), AllocError>
         ensures ok { OnOk result ((o : ObjectId) →
-            AreAlike settles.now (head_at self.new o) (if same_object object o then with_version start (head_at self.old o) else head_at self.old o)) }
+            AreAlike settles.now (head_at self.new o) (if same_object object o then with_version start
+            (head_at self.old o) else head_at self.old o)) }
         ensures err { OnErr result ((o : ObjectId) → AreAlike settles.now (head_at self.new o) (head_at self.old o)) }
     {
         match self.entries.get_mut(&object) {
@@ -113,7 +114,8 @@ impl Heads {
         time: PseudoTime,
     ) -> Result<(), AllocError>
         ensures ok { OnOk result ((o : ObjectId) →
-            head_at self.new o ≡ (if same_object object o then with_end settles.now time (head_at self.old o) else head_at self.old o)) }
+            head_at self.new o ≡ (if same_object object o then with_end settles.now time
+            (head_at self.old o) else head_at self.old o)) }
         ensures err { OnErr result ((o : ObjectId) → head_at self.new o ≡ head_at self.old o) }
     {
         match self.entries.get_mut(&object) {
@@ -132,7 +134,8 @@ impl Heads {
 
     /// The object is kept whole from now on. Where memory is wanting, every header is as before.
     pub fn set_odd(&mut self, object: ObjectId) -> Result<(), AllocError>
-        ensures ok { OnOk result ((o : ObjectId) → head_at self.new o ≡ (if same_object object o then as_odd (head_at self.old o) else head_at self.old o)) }
+        ensures ok { OnOk result ((o : ObjectId) →
+            head_at self.new o ≡ (if same_object object o then as_odd (head_at self.old o) else head_at self.old o)) }
         ensures err { OnErr result ((o : ObjectId) → head_at self.new o ≡ head_at self.old o) }
     {
         match self.entries.get_mut(&object) {

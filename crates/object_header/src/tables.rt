@@ -21,7 +21,8 @@ impl<M: Medium> Histories for HeaderTable<M> {
 
     ghost damage = { λ t. damage_in (store_of t) };
 
-    ghost below = { λ t. beneath (ledger_of t) (left_in (store_of t)) (told_medium M.tells (M.reads (medium_of (store_of t))) (M.stages (medium_of (store_of t)))) };
+    ghost below = { λ t. beneath (ledger_of t) (left_in (store_of t))
+        (told_medium M.tells (M.reads (medium_of (store_of t))) (M.stages (medium_of (store_of t)))) };
 
     fn read(&mut self, object: ObjectId, at: PseudoTime) -> Result<ReadStep, HistoryFault> {
         let step = self.answer(object, at)?;

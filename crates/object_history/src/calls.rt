@@ -69,7 +69,8 @@ pub trait Histories: Drop {
     ) -> Result<bool, HistoryFault>
         requires object { IsObject object }
         requires value { IsValue value.now }
-        ensures answer { IsTrue tells → IfOk result (λ b. b ≡ stands_written (content self.old) object start value.now) }
+        ensures answer { IsTrue tells →
+            IfOk result (λ b. b ≡ stands_written (content self.old) object start value.now) }
         ensures sound { IsTrue tells → IfErr result IsNotDamage }
         ensures content { content self.new ≡ content self.old }
         ensures cause { HasHistoryCause (faults self.old) (faults self.new) (damage self.old) (damage self.new) result }

@@ -106,7 +106,8 @@ impl Tracks {
         start: PseudoTime,
     ) -> Result<(), AllocError>
         ensures ok { OnOk result ((o : ObjectId) →
-            track_at self.new o ≡ (if same_object object o then with_version mark start (track_at self.old o) else track_at self.old o)) }
+            track_at self.new o ≡ (if same_object object o then with_version mark start
+            (track_at self.old o) else track_at self.old o)) }
         ensures err { OnErr result ((o : ObjectId) → track_at self.new o ≡ track_at self.old o) }
     {
         match self.entries.get_mut(&object) {
@@ -129,7 +130,8 @@ impl Tracks {
         time: PseudoTime,
     ) -> Result<(), AllocError>
         ensures ok { OnOk result ((o : ObjectId) →
-            track_at self.new o ≡ (if same_object object o then with_end place time (track_at self.old o) else track_at self.old o)) }
+            track_at self.new o ≡ (if same_object object o then with_end place time
+            (track_at self.old o) else track_at self.old o)) }
         ensures err { OnErr result ((o : ObjectId) → track_at self.new o ≡ track_at self.old o) }
     {
         match self.entries.get_mut(&object) {

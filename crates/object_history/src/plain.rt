@@ -202,7 +202,8 @@ impl PlainHistories {
 
     // Whether a committed version of the object starts above what is seen.
     fn settled_over(&self, object: ObjectId, seen: Option<&Version>) -> bool
-        ensures { result ≡ answers.settled_over self.now object (option_map (seen_in self.now) (option_copied seen.entry)) }
+        ensures { result ≡ answers.settled_over self.now object
+            (option_map (seen_in self.now) (option_copied seen.entry)) }
     {
         let start = start_of(seen);
         match self.tracks.get(object) {
@@ -214,7 +215,8 @@ impl PlainHistories {
     // Whether a read has to stretch what it sees.
     fn needs_stretch(&self, object: ObjectId, at: PseudoTime, seen: Option<&Version>) -> bool
         requires { HasEnd self.now object (option_copied seen) }
-        ensures { result ≡ answers.needs_stretch self.now object at (option_map (seen_in self.now) (option_copied seen.entry)) }
+        ensures { result ≡ answers.needs_stretch self.now object at
+            (option_map (seen_in self.now) (option_copied seen.entry)) }
     {
         let is_above = match self.reach(object, seen) {
             Some(end) => end.is_before(at),
@@ -320,7 +322,8 @@ impl PlainHistories {
 
     // What a write answers that doesn't stand yet.
     fn new_write(&self, object: ObjectId, at: PseudoTime) -> WriteStep
-        ensures { result ≡ answers.write_newest at (history.newest self.now object) (history.reach self.now object (history.newest self.now object)) }
+        ensures { result ≡ answers.write_newest at (history.newest self.now object)
+            (history.reach self.now object (history.newest self.now object)) }
     {
         let newest = self.last(object, &None);
         if let Some(version) = newest {

@@ -26,7 +26,8 @@ pub fn retirement_keeps_views()
     ensures settled { (m : List Mark) (at : TimeParts) (s : StampParts) → settle_of (retired m at) s ≡ settle_of m s }
     ensures floor { (m : List Mark) (at : TimeParts) → floor_of (retired m at) ≡ Some at }
     ensures distinct { (m : List Mark) (at : TimeParts) → Distinct m → Distinct (retired m at) }
-    ensures viewed { (m : List Mark) (at : TimeParts) → MayRetire m at → Distinct m → (o : ObjectId) (t : TimeParts) (v : Value) → lt t at ≡ false →
+    ensures viewed { (m : List Mark) (at : TimeParts) → MayRetire m at → Distinct m →
+        (o : ObjectId) (t : TimeParts) (v : Value) → lt t at ≡ false →
         NoneOwn m o at t → Viewed m o t v → Viewed (retired m at) o t v }
 {}
 
@@ -35,17 +36,21 @@ pub fn retirement_keeps_views()
 pub fn retirement_gives_up()
     ensures retired { (m : List Mark) (at : TimeParts) → MayRetire m at → Distinct m → GivenUp (retired m at) m }
     ensures fits { (m old : List Mark) (f : Mark) → Fits m f → GivenUp m old → GivenUp (f ∷ m) old }
-    ensures again { (m old : List Mark) (at : TimeParts) → MayRetire m at → Distinct m → GivenUp m old → GivenUp (retired m at) old }
+    ensures again { (m old : List Mark) (at : TimeParts) → MayRetire m at → Distinct m → GivenUp m old →
+        GivenUp (retired m at) old }
 {}
 
 /// What a reader was answered once, in this history or in an older one of its chain, is what it sees
 /// over all versions that ever stood; and the last committed version of an object is the same over
 /// these as here.
 pub fn answers_last()
-    ensures viewed { (olds : List (List Mark)) (m all : List Mark) (o : ObjectId) (t : TimeParts) (v : Value) → Chain olds m → AllOf olds m all o →
+    ensures viewed { (olds : List (List Mark)) (m all : List Mark) (o : ObjectId) (t : TimeParts) (v : Value) →
+        Chain olds m → AllOf olds m all o →
         WasViewed (m ∷ olds) o t v → (value_of (views all o t) ≡ v) × Firm all t (views all o t) }
-    ensures newest { (olds : List (List Mark)) (m all : List Mark) (o : ObjectId) → Chain olds m → AllOf olds m all o → (sure : StampParts → Bool) →
-        ((s : StampParts) → settle_of m s ≡ Some false → sure s ≡ false) → ((s : StampParts) → settle_of m s ≡ Some true → sure s ≡ true) →
+    ensures newest { (olds : List (List Mark)) (m all : List Mark) (o : ObjectId) → Chain olds m → AllOf olds m all o →
+        (sure : StampParts → Bool) →
+        ((s : StampParts) → settle_of m s ≡ Some false → sure s ≡ false) →
+        ((s : StampParts) → settle_of m s ≡ Some true → sure s ≡ true) →
         Same (scan (λ x. sure x.stamp) o m) (scan (λ x. sure x.stamp) o all) }
 {}
 
@@ -53,20 +58,26 @@ pub fn answers_last()
 /// that ever stood, where no two versions of the object differ in value alone and no step is 0.
 pub fn all_that_stood()
     ensures { (olds : List (List Mark)) (m : List Mark) (o : ObjectId) → Chain olds m →
-        ((x : TimeParts) (v w : Value) → SomeOf (λ l. Has (mark.Put o x v) l) (m ∷ olds) → SomeOf (λ l. Has (mark.Put o x w) l) (m ∷ olds) → v ≡ w) →
-        ((x : TimeParts) (v : Value) → SomeOf (λ l. Has (mark.Put o x v) l) (m ∷ olds) → 1 ≤ x.step) → AllOf olds m (all_stood olds m) o }
+        ((x : TimeParts) (v w : Value) → SomeOf (λ l. Has (mark.Put o x v) l) (m ∷ olds) →
+        SomeOf (λ l. Has (mark.Put o x w) l) (m ∷ olds) → v ≡ w) →
+        ((x : TimeParts) (v : Value) → SomeOf (λ l. Has (mark.Put o x v) l) (m ∷ olds) → 1 ≤ x.step) →
+        AllOf olds m (all_stood olds m) o }
 {}
 
 /// Nothing is put below the floor.
 pub fn nothing_is_put_below()
-    ensures { (m : List Mark) (o : ObjectId) (x : TimeParts) (v : Value) → Fits m (mark.Put o x v) → (e : TimeParts) → floor_of m ≡ Some e → lt x e ≡ false }
+    ensures { (m : List Mark) (o : ObjectId) (x : TimeParts) (v : Value) → Fits m (mark.Put o x v) → (e : TimeParts) →
+        floor_of m ≡ Some e → lt x e ≡ false }
 {}
 
 /// A log that is carried forward has the retired history. Each commit record is as it was, each decision
 /// stands, and nothing is new but the mark and the Whole.
 pub fn forward_keeps_records()
     ensures history { (l : List Effect) (at : TimeParts) → marks (forwarded l at) ≡ retired (marks l) at }
-    ensures records { (l : List Effect) (at : TimeParts) (s : StampParts) → record_of (forwarded l at) s ≡ record_of l s }
-    ensures decided { (l : List Effect) (at : TimeParts) (s : StampParts) (d : Decision) → Has (effect.Decide s d) l → Has (effect.Decide s d) (forwarded l at) }
-    ensures old { (l : List Effect) (at : TimeParts) (f : Effect) → Has f (forwarded l at) → (f ≡ effect.Whole) ⊎ ((f ≡ effect.Mark at) ⊎ Has f l) }
+    ensures records { (l : List Effect) (at : TimeParts) (s : StampParts) →
+        record_of (forwarded l at) s ≡ record_of l s }
+    ensures decided { (l : List Effect) (at : TimeParts) (s : StampParts) (d : Decision) → Has (effect.Decide s d) l →
+        Has (effect.Decide s d) (forwarded l at) }
+    ensures old { (l : List Effect) (at : TimeParts) (f : Effect) → Has f (forwarded l at) →
+        (f ≡ effect.Whole) ⊎ ((f ≡ effect.Mark at) ⊎ Has f l) }
 {}

@@ -26,7 +26,8 @@ pub fn look<M: Medium>(medium: &mut M, page: u32) -> Result<PageState, MediumFau
     requires page { page < M.page_count medium.old }
     requires open { M.is_failed medium.old ≡ false }
     // For every medium, it is the state of the page that the last read gave.
-    ensures state { IfOk result (λ s. (bytes : List ℕ) × (M.last_page medium.new ≡ Some (page, bytes)) × (s ≡ state_of bytes)) }
+    ensures state { IfOk result (λ s. (bytes : List ℕ) × (M.last_page medium.new ≡ Some (page, bytes)) ×
+        (s ≡ state_of bytes)) }
     ensures found { IsTrue M.tells → IfOk result (λ s. s ≡ state_of (page_of (M.reads medium.old) page)) }
     ensures reads { IsTrue M.tells → M.reads medium.new ≡ M.reads medium.old }
     ensures crash { IsTrue M.tells → NoMore (M.may_leave medium.old) (M.may_leave medium.new) }
@@ -77,11 +78,13 @@ fn write_through<M: Medium>(
     requires page { page < M.page_count medium.old }
     requires range { at + length bytes.now ≤ 4096 }
     requires open { M.is_failed medium.old ≡ false }
-    ensures written { IsTrue M.tells → OnOk result (Written page at bytes.now (M.reads medium.old) (M.reads medium.new)) }
+    ensures written { IsTrue M.tells →
+        OnOk result (Written page at bytes.now (M.reads medium.old) (M.reads medium.new)) }
     ensures durable { IsTrue M.tells → OnOk result (Only (M.reads medium.new) (M.may_leave medium.new)) }
     ensures any_moment { IsTrue M.tells →
         LeavesOnly M.stages medium.old medium.new
-        (λ c. M.may_leave medium.old c ⊎ ((from : Image) × M.may_leave medium.old from × Torn page at (length bytes.now) from c)) }
+        (λ c. M.may_leave medium.old c ⊎ ((from : Image) × M.may_leave medium.old from ×
+        Torn page at (length bytes.now) from c)) }
     ensures last { M.last_page medium.new ≡ M.last_page medium.old }
     ensures size { M.page_count medium.new ≡ M.page_count medium.old }
     ensures failed { M.is_failed medium.new ≡ is_err result }
@@ -105,9 +108,11 @@ pub fn put<M: Medium>(medium: &mut M, page: u32, body: &[u8]) -> Result<(), Medi
     requires some { 1 ≤ length body.now }
     requires most { length body.now ≤ 4095 }
     requires marked { is_blank body.now ≡ false }
-    ensures gated { IsTrue M.tells → OnOk result (M.reads medium.new ≡ slice_set (M.reads medium.old) page (gated_page body.now)) }
+    ensures gated { IsTrue M.tells →
+        OnOk result (M.reads medium.new ≡ slice_set (M.reads medium.old) page (gated_page body.now)) }
     ensures durable { IsTrue M.tells → OnOk result (Only (M.reads medium.new) (M.may_leave medium.new)) }
-    ensures any_moment { IsTrue M.tells → LeavesOnly M.stages medium.old medium.new (MayPut page body.now (M.may_leave medium.old)) }
+    ensures any_moment { IsTrue M.tells → LeavesOnly M.stages medium.old medium.new
+        (MayPut page body.now (M.may_leave medium.old)) }
     ensures last { M.last_page medium.new ≡ M.last_page medium.old }
     ensures size { M.page_count medium.new ≡ M.page_count medium.old }
     ensures failed { M.is_failed medium.new ≡ is_err result }

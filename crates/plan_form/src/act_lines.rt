@@ -60,7 +60,8 @@ fn read_terms(line: &[u8], repositories: u8, brokers: u8) -> Option<Terms>
 
 /// What an act line of a plan with so many repositories and brokers says.
 pub fn terms_of(line: &[u8], repositories: u8, brokers: u8) -> Option<Terms>
-    ensures { MatchOption result ((t : Terms) → IsActLine repositories brokers t line.now → ⊥) (λ t. IsActLine repositories brokers t line.now) }
+    ensures { MatchOption result ((t : Terms) → IsActLine repositories brokers t line.now → ⊥)
+        (λ t. IsActLine repositories brokers t line.now) }
 {
     read_terms(line, repositories, brokers)
 }

@@ -11,8 +11,10 @@ ghost use Rattle.plan_form.specs.Plans.{IsPlan};
 /// just that plan, so long as it isn't too long.
 pub fn law_of_plans()
     ensures one { (bytes : List ℕ) (a b : Plan) → IsPlan bytes a → IsPlan bytes b → a ≡ b }
-    ensures none { (bytes : List ℕ) (line : ℕ) (what : PlanKind) (plan : Plan) → IsPlanFault bytes line what → IsPlan bytes plan → ⊥ }
-    ensures printed { (plan : Plan) → IsOfLanguage plan → length (plan_text plan) ≤ 4194304 → IsPlan (plan_text plan) plan }
+    ensures none { (bytes : List ℕ) (line : ℕ) (what : PlanKind) (plan : Plan) → IsPlanFault bytes line what →
+        IsPlan bytes plan → ⊥ }
+    ensures printed { (plan : Plan) → IsOfLanguage plan → length (plan_text plan) ≤ 4194304 →
+        IsPlan (plan_text plan) plan }
     ensures read { (bytes : List ℕ) (plan : Plan) → IsPlan bytes plan → IsOfLanguage plan }
 {}
 

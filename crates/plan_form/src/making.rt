@@ -67,7 +67,15 @@ fn target_of(source: u64, target: u64) -> u64
 }
 
 fn act_of(index: u32, broker: u8, home: u8, script: Script) -> ActSpec
-    ensures { result ≡ record { index = index; broker = broker; home = home; timeout = 100000; tries = 100; clock = 1; script = script } }
+    ensures { result ≡ record {
+      index = index;
+      broker = broker;
+      home = home;
+      timeout = 100000;
+      tries = 100;
+      clock = 1;
+      script = script;
+    } }
 {
     ActSpec {
         index,

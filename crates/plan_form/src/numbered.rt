@@ -9,7 +9,8 @@ use script_form::first_line;
 
 /// The next line, and what follows it.
 pub fn next_line(bytes: &[u8]) -> Option<(&[u8], &[u8])>
-    ensures { MatchOption result (lines bytes.now ≡ []) (λ p. (lines bytes.now ≡ p.0.now ∷ lines p.1.now) × (length p.1.now < length bytes.now)) }
+    ensures { MatchOption result (lines bytes.now ≡ []) (λ p. (lines bytes.now ≡ p.0.now ∷ lines p.1.now) ×
+        (length p.1.now < length bytes.now)) }
 {
     if bytes.is_empty() {
         return None;
@@ -31,7 +32,8 @@ fn number_line(line: &[u8], word: &[u8], greatest: u64) -> Option<u64>
 pub fn next_number<'a>(bytes: &'a [u8], word: &[u8], greatest: u64) -> Option<(u64, &'a [u8])>
     requires { greatest < 2 ^ 63 }
     ensures { MatchOption result (Lacks (IsNumbered (λ n. word.now ++ decimal n) greatest) (lines bytes.now))
-        (λ p. InRange greatest p.0 × (lines bytes.now ≡ (word.now ++ decimal p.0) ∷ lines p.1.now) × (length p.1.now < length bytes.now)) }
+        (λ p. InRange greatest p.0 × (lines bytes.now ≡ (word.now ++ decimal p.0) ∷ lines p.1.now) ×
+        (length p.1.now < length bytes.now)) }
 {
     let Some((line, rest)) = next_line(bytes) else {
         return None;

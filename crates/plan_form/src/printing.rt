@@ -24,7 +24,8 @@ fn print_number(
 }
 
 fn print_head(alloc: Global, out: &mut Vec<u8>, plan: &Plan) -> Result<(), AllocError>
-    ensures { OnOk result (out.new.items ≡ out.old.items ++ texts.head_text plan.now.run plan.now.repositories plan.now.brokers) }
+    ensures { OnOk result (out.new.items ≡ out.old.items ++
+        texts.head_text plan.now.run plan.now.repositories plan.now.brokers) }
 {
     out.extend_from_slice(b"swallow plan 1")?;
     print_number(alloc, out, b"\nrun ", plan.run as u64)?;

@@ -59,7 +59,8 @@ pub fn set_aside<M: Medium>(volumes: Vec<Opening<M>>) -> (Opening<M>, Aside<M>)
     requires place { spec.working volumes.items < vec_len volumes }
     ensures given { slice_get volumes.items (spec.working volumes.items) ≡ Some result.0 }
     ensures place { result.1.working ≡ spec.working volumes.items }
-    ensures rest { (missing : _) × (result.1.rest.items ≡ slice_set volumes.items (spec.working volumes.items) missing) }
+    ensures rest { (missing : _) ×
+        (result.1.rest.items ≡ slice_set volumes.items (spec.working volumes.items) missing) }
     ensures count { vec_len result.1.rest ≡ vec_len volumes }
 {
     let mut rest = volumes;

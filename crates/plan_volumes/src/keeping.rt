@@ -24,7 +24,8 @@ fn keep_openings<M: Medium>(
 ) -> Vec<Kept<M>>
     requires few { vec_len openings ≤ 1000 }
     requires room { vec_len kept + vec_len openings ≤ vec_capacity kept }
-    ensures kept { result.items ≡ kept.items ++ kept_under (first_names node (length openings.items)) (map medium_in openings.items) }
+    ensures kept { result.items ≡ kept.items ++ kept_under (first_names node (length openings.items))
+        (map medium_in openings.items) }
     ensures room { vec_capacity result ≡ vec_capacity kept }
     ensures few { vec_len result ≤ vec_len kept + vec_len openings }
 {

@@ -34,7 +34,8 @@ fn open_node<S: Shelf>(
     room: Vec<Opening<S::Medium>>,
 ) -> (Opening<S::Medium>, Aside<S::Medium>, bool)
     requires room { (room.items ≡ []) × (1000 ≤ vec_capacity room) }
-    ensures { (v : NodeVolumes S.Medium.Medium) × IsApart S.Medium.Medium (shelf_sight S.Shelf shelf.old) (shelf_sight S.Shelf shelf.new)
+    ensures { (v : NodeVolumes S.Medium.Medium) × IsApart S.Medium.Medium (shelf_sight S.Shelf shelf.old)
+        (shelf_sight S.Shelf shelf.new)
         node v result.0 result.1 result.2 }
 {
     let volumes = open_volumes(alloc, shelf, node, room);
@@ -57,9 +58,11 @@ pub fn open_nodes<S: Shelf>(
     requires room { All (λ room. room.items ≡ []) rooms.items × All (λ room. 1000 ≤ vec_capacity room) rooms.items }
     requires openings { (openings.items ≡ []) × (order.node_count plan.now ≤ vec_capacity openings) }
     requires asides { (asides.items ≡ []) × (order.node_count plan.now ≤ vec_capacity asides) }
-    ensures apart { (volumes : List (NodeVolumes S.Medium.Medium)) × AreApart S.Medium.Medium (shelf_sight S.Shelf shelf.old) (shelf_sight S.Shelf shelf.new)
+    ensures apart { (volumes : List (NodeVolumes S.Medium.Medium)) ×
+        AreApart S.Medium.Medium (shelf_sight S.Shelf shelf.old) (shelf_sight S.Shelf shelf.new)
         plan.now volumes result.openings.items result.asides.items result.wanting }
-    ensures count { (length result.openings.items ≡ order.node_count plan.now) × (length result.asides.items ≡ order.node_count plan.now) }
+    ensures count { (length result.openings.items ≡ order.node_count plan.now) ×
+        (length result.asides.items ≡ order.node_count plan.now) }
 {
     let mut rooms = rooms;
     let mut openings = openings;

@@ -38,7 +38,8 @@ impl Stamp {
 
     /// A stamp of a clock from 1 to [`LAST_CLOCK`], a broker and a home from 1 to 16.
     pub fn new(clock: u64, broker: u8, home: u8) -> Option<Stamp>
-        ensures { SomeIff result (IsInRange clock broker home) (record { clock = clock; broker = broker; home = home }) }
+        ensures { SomeIff result (IsInRange clock broker home)
+            (record { clock = clock; broker = broker; home = home }) }
     {
         if clock < 1 || clock > LAST_CLOCK {
             return None;

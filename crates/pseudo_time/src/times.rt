@@ -102,7 +102,8 @@ impl PseudoTime {
 
 /// A law: the order of the bytes is the order of pseudotimes, and no two have the same bytes.
 pub fn order_of_bytes()
-    ensures order { (a b : TimeParts) → IsTime a → IsTime b → slice_cmp nat_cmp (time_bytes a) (time_bytes b) ≡ time_cmp a b }
+    ensures order { (a b : TimeParts) → IsTime a → IsTime b →
+        slice_cmp nat_cmp (time_bytes a) (time_bytes b) ≡ time_cmp a b }
     ensures one_text { (a b : TimeParts) → IsTime a → IsTime b → time_bytes a ≡ time_bytes b → a ≡ b }
 {}
 
@@ -113,6 +114,7 @@ pub fn order_of_times()
     ensures total { (a b : TimeParts) → lt a b ≡ false → lt b a ≡ false → a ≡ b }
     ensures stamps { (a b : TimeParts) → stamp_lt a.stamp b.stamp ≡ true → lt a b ≡ true }
     ensures own { (x t : TimeParts) → lt x t ≡ true → stamp_lt x.stamp t.stamp ≡ false → x.stamp ≡ t.stamp }
-    ensures steps { (s : StampParts) (n m : ℕ) → lt (record { stamp = s; step = n }) (record { stamp = s; step = m }) ≡ nat_lt n m }
+    ensures steps { (s : StampParts) (n m : ℕ) →
+        lt (record { stamp = s; step = n }) (record { stamp = s; step = m }) ≡ nat_lt n m }
     ensures between { (q x t : TimeParts) → q.stamp ≡ t.stamp → lt x q ≡ false → lt x t ≡ true → x.stamp ≡ q.stamp }
 {}

@@ -59,7 +59,8 @@ impl Member {
     // A Begin.
     fn on_begin(&mut self, from: NodeId, stamp: Stamp, timeout: u32) -> Result<Turn, AllocError>
         requires { IsTimeout timeout }
-        ensures gives { IfOk result (λ t. given t ≡ rules.begin_by self.old.moment from stamp timeout (record_of (rules.book self.old.log) stamp)) }
+        ensures gives { IfOk result (λ t. given t ≡ rules.begin_by self.old.moment from stamp timeout
+            (record_of (rules.book self.old.log) stamp)) }
         ensures log { IfOk result (λ t. self.new ≡ record self.old { log = self.old.log ++ t.effects }) }
         ensures in_range { IfOk result (λ t. AreEffects t.effects × AreOuts t.outs) }
         ensures err { OnErr result (self.new ≡ self.old) }
@@ -82,7 +83,8 @@ impl Member {
 
     // A Commit or a Withdraw.
     fn on_close(&mut self, from: NodeId, stamp: Stamp, wish: Decision) -> Result<Turn, AllocError>
-        ensures gives { IfOk result (λ t. given t ≡ rules.close_by from stamp wish (record_of (rules.book self.old.log) stamp)) }
+        ensures gives { IfOk result (λ t. given t ≡ rules.close_by from stamp wish
+            (record_of (rules.book self.old.log) stamp)) }
         ensures log { IfOk result (λ t. self.new ≡ record self.old { log = self.old.log ++ t.effects }) }
         ensures in_range { IfOk result (λ t. AreEffects t.effects × AreOuts t.outs) }
         ensures err { OnErr result (self.new ≡ self.old) }
@@ -130,7 +132,10 @@ impl Member {
     pub fn hear(&mut self, moment: u64) -> Result<Turn, AllocError>
         requires { moment ≤ 2 ^ 63 }
         ensures gives { IfOk result (λ t. given t ≡ rules.on_moment self.old.log moment) }
-        ensures log { IfOk result (λ t. self.new ≡ record self.old { log = self.old.log ++ t.effects; moment = moment }) }
+        ensures log { IfOk result (λ t. self.new ≡ record self.old {
+          log = self.old.log ++ t.effects;
+          moment = moment;
+        }) }
         ensures in_range { IfOk result (λ t. AreEffects t.effects × AreOuts t.outs) }
         ensures err { OnErr result (self.new ≡ self.old) }
     {
@@ -144,7 +149,10 @@ impl Member {
         requires moment { moment ≤ 2 ^ 63 }
         requires due { due.now ≡ expiries moment (rules.book self.old.log) }
         ensures gives { IfOk result (λ t. given t ≡ rules.on_moment self.old.log moment) }
-        ensures log { IfOk result (λ t. self.new ≡ record self.old { log = self.old.log ++ t.effects; moment = moment }) }
+        ensures log { IfOk result (λ t. self.new ≡ record self.old {
+          log = self.old.log ++ t.effects;
+          moment = moment;
+        }) }
         ensures in_range { IfOk result (λ t. AreEffects t.effects × AreOuts t.outs) }
         ensures err { OnErr result (self.new ≡ self.old) }
     {

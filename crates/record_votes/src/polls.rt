@@ -189,7 +189,8 @@ impl Poll {
 
     // What the first Begun of a member asks for.
     fn wish_of(&self, voter: MemberNumber, ballot: Ballot) -> Result<Vec<Out>, AllocError>
-        ensures asked { ballot ≡ polls.ballot self.now voter → IfOk result (λ v. v.items ≡ (polls.begun_heard self.now voter ballot).outs) }
+        ensures asked { ballot ≡ polls.ballot self.now voter →
+            IfOk result (λ v. v.items ≡ (polls.begun_heard self.now voter ballot).outs) }
         ensures in_range { IfOk result (λ v. AreOuts v.items) }
     {
         let mut outs = Vec::new(self.alloc);
@@ -201,7 +202,8 @@ impl Poll {
 
     // Hears Begun from a member.
     fn hear_begun(&mut self, voter: MemberNumber) -> Result<Turn, AllocError>
-        ensures gives { IfOk result (λ t. (t.effects ≡ []) × (t.outs ≡ (polls.begun_heard self.old voter (polls.ballot self.old voter)).outs)) }
+        ensures gives { IfOk result (λ t. (t.effects ≡ []) ×
+            (t.outs ≡ (polls.begun_heard self.old voter (polls.ballot self.old voter)).outs)) }
         ensures in_range { IfOk result (λ t. AreOuts t.outs) }
         ensures heard { OnOk result (self.new ≡ (polls.begun_heard self.old voter (polls.ballot self.old voter)).poll) }
         ensures err { OnErr result (self.new ≡ self.old) }
@@ -220,7 +222,8 @@ impl Poll {
 
     // Hears Decided from a member.
     fn hear_vote(&mut self, voter: MemberNumber, decision: Decision)
-        ensures { self.new ≡ (polls.vote_heard self.old voter decision (polls.ballot self.old voter) (polls.ballot self.old voter).vote).poll }
+        ensures { self.new ≡ (polls.vote_heard self.old voter decision (polls.ballot self.old voter)
+            (polls.ballot self.old voter).vote).poll }
     {
         let ballot = self.ballot(voter);
         if ballot.vote.is_none() {
@@ -236,7 +239,8 @@ impl Poll {
 
     // Hears a message from a member.
     fn hear_from(&mut self, voter: MemberNumber, message: &Message) -> Result<Turn, AllocError>
-        ensures gives { IfOk result (λ t. (t.effects ≡ []) × (t.outs ≡ (polls.heard_from self.old voter message.now).outs)) }
+        ensures gives { IfOk result (λ t. (t.effects ≡ []) ×
+            (t.outs ≡ (polls.heard_from self.old voter message.now).outs)) }
         ensures in_range { IfOk result (λ t. AreOuts t.outs) }
         ensures heard { OnOk result (self.new ≡ (polls.heard_from self.old voter message.now).poll) }
         ensures err { OnErr result (self.new ≡ self.old) }
@@ -261,7 +265,8 @@ impl Poll {
     /// vote. Where memory is wanting, the poll is as before.
     #[tactic(auto, unfolding(crate::specs::Polls::poll_takes))]
     pub fn take(&mut self, from: NodeId, message: &Message) -> Result<Turn, AllocError>
-        ensures gives { IfOk result (λ t. (t.effects ≡ []) × (t.outs ≡ (polls.poll_takes self.old from message.now).outs)) }
+        ensures gives { IfOk result (λ t. (t.effects ≡ []) ×
+            (t.outs ≡ (polls.poll_takes self.old from message.now).outs)) }
         ensures in_range { IfOk result (λ t. AreOuts t.outs) }
         ensures heard { OnOk result (self.new ≡ (polls.poll_takes self.old from message.now).poll) }
         ensures err { OnErr result (self.new ≡ self.old) }

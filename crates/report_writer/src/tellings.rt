@@ -41,7 +41,8 @@ impl Telling {
     // A version is put.
     fn put(&mut self, start: PseudoTime, value: Value) -> Result<(), AllocError>
         ensures object { OnOk result (self.new.object ≡ self.old.object) }
-        ensures tells { (m : List Mark) → Tells m self.old → OnOk result (Tells (mark.Put self.old.object start value ∷ m) self.new) }
+        ensures tells { (m : List Mark) → Tells m self.old →
+            OnOk result (Tells (mark.Put self.old.object start value ∷ m) self.new) }
     {
         let place = place_for(self.versions.as_slice(), start);
         self.versions.insert(
@@ -75,7 +76,8 @@ impl Telling {
     // A stamp is settled. The first time counts.
     fn settle(&mut self, stamp: Stamp, committed: bool) -> Result<(), AllocError>
         ensures object { OnOk result (self.new.object ≡ self.old.object) }
-        ensures tells { (m : List Mark) → Tells m self.old → OnOk result (Tells (mark.Settle stamp committed ∷ m) self.new) }
+        ensures tells { (m : List Mark) → Tells m self.old →
+            OnOk result (Tells (mark.Settle stamp committed ∷ m) self.new) }
     {
         if self.settles.get(stamp).is_none() {
             self.settles.put(stamp, committed)?;
@@ -86,7 +88,8 @@ impl Telling {
     // Reads an effect.
     fn read(&mut self, alloc: Global, effect: &Effect) -> Result<(), AllocError>
         ensures object { OnOk result (self.new.object ≡ self.old.object) }
-        ensures tells { (log : List Effect) → Tells (marks log) self.old → OnOk result (Tells (marks (effect.now ∷ log)) self.new) }
+        ensures tells { (log : List Effect) → Tells (marks log) self.old →
+            OnOk result (Tells (marks (effect.now ∷ log)) self.new) }
     {
         match effect {
             Effect::Put {

@@ -45,7 +45,8 @@ impl<H: Histories> Books<H> {
         requires since { AreSince H.content H.below H.faults H.damage self.old }
         ensures answer { IsTrue H.tells → IfOk result (λ s. s ≡ read_step (H.content self.old.histories) object at) }
         ensures in_range { IfOk result IsReadStep }
-        ensures agree { (pending : List (StampParts × Decision)) (log : List Effect) → AgreeBut H.content pending log self.old →
+        ensures agree { (pending : List (StampParts × Decision)) (log : List Effect) →
+            AgreeBut H.content pending log self.old →
             IfOk result (λ s. AgreeBut H.content pending (read_by log object at s) self.new) }
         ensures since { AreSince H.content H.below H.faults H.damage self.new }
         ensures fault { IfErr result (HaveFault H.tells H.faults H.damage self.new) }
@@ -65,8 +66,10 @@ impl<H: Histories> Books<H> {
         requires object { IsObject object }
         requires value { IsValue value.now }
         requires since { AreSince H.content H.below H.faults H.damage self.old }
-        ensures answer { IsTrue H.tells → IfOk result (λ s. s ≡ write_step (H.content self.old.histories) object at value.now) }
-        ensures agree { (pending : List (StampParts × Decision)) (log : List Effect) → AgreeBut H.content pending log self.old →
+        ensures answer { IsTrue H.tells →
+            IfOk result (λ s. s ≡ write_step (H.content self.old.histories) object at value.now) }
+        ensures agree { (pending : List (StampParts × Decision)) (log : List Effect) →
+            AgreeBut H.content pending log self.old →
             IfOk result (λ s. AgreeBut H.content pending (wrote log object at value.now s) self.new) }
         ensures since { AreSince H.content H.below H.faults H.damage self.new }
         ensures fault { IfErr result (HaveFault H.tells H.faults H.damage self.new) }
@@ -86,8 +89,10 @@ impl<H: Histories> Books<H> {
         requires object { IsObject object }
         requires value { IsValue value.now }
         requires since { AreSince H.content H.below H.faults H.damage self.old }
-        ensures answer { IsTrue H.tells → IfOk result (λ b. b ≡ stands_written (H.content self.old.histories) object at value.now) }
-        ensures agree { (pending : List (StampParts × Decision)) (log : List Effect) → AgreeBut H.content pending log self.old →
+        ensures answer { IsTrue H.tells →
+            IfOk result (λ b. b ≡ stands_written (H.content self.old.histories) object at value.now) }
+        ensures agree { (pending : List (StampParts × Decision)) (log : List Effect) →
+            AgreeBut H.content pending log self.old →
             AgreeBut H.content pending log self.new }
         ensures since { AreSince H.content H.below H.faults H.damage self.new }
         ensures fault { IfErr result (HaveFault H.tells H.faults H.damage self.new) }
@@ -101,7 +106,8 @@ impl<H: Histories> Books<H> {
     fn settle(&mut self, stamp: Stamp, committed: bool) -> Result<(), HistoryFault>
         requires unsettled { settle_of (H.content self.old.histories) stamp ≡ None }
         requires since { AreSince H.content H.below H.faults H.damage self.old }
-        ensures grown { OnOk result (H.content self.new.histories ≡ mark.Settle stamp committed ∷ H.content self.old.histories) }
+        ensures grown { OnOk result (H.content self.new.histories ≡ mark.Settle stamp committed ∷
+            H.content self.old.histories) }
         ensures rest { (self.new.records ≡ self.old.records) × (self.new.early.entries ≡ self.old.early.entries) }
         ensures since { AreSince H.content H.below H.faults H.damage self.new }
         ensures fault { IfErr result (HaveFault H.tells H.faults H.damage self.new) }
@@ -114,7 +120,8 @@ impl<H: Histories> Books<H> {
     /// How an attempt was settled, if it is known.
     pub fn known(&self, stamp: Stamp) -> Option<bool>
         ensures settled { result ≡ settle_of (H.content self.now.histories) stamp }
-        ensures known { (pending : List (StampParts × Decision)) (log : List Effect) → AgreeBut H.content pending log self.now → result ≡ known log stamp }
+        ensures known { (pending : List (StampParts × Decision)) (log : List Effect) →
+            AgreeBut H.content pending log self.now → result ≡ known log stamp }
     {
         self.histories.settled(stamp)
     }
@@ -128,7 +135,8 @@ impl<H: Histories> Books<H> {
 
     // The decision of an attempt that hasn't begun, if it is known.
     fn decided_early(&self, stamp: Stamp) -> Option<Decision>
-        ensures { result ≡ early_or (listed_at self.now.early.entries stamp) (settle_of (H.content self.now.histories) stamp) }
+        ensures { result ≡ early_or (listed_at self.now.early.entries stamp)
+            (settle_of (H.content self.now.histories) stamp) }
     {
         if let Some(decision) = self.early.get(&stamp) {
             return Some(*decision);
@@ -139,8 +147,10 @@ impl<H: Histories> Books<H> {
 
     /// Begins a record where there is none; if the attempt was settled before, it is decided so.
     pub fn begin(&mut self, stamp: Stamp, deadline: u64) -> Result<BeginStep, AllocError>
-        ensures step { (log : List Effect) → AgreeWith H.content log self.old → IfOk result (λ s. s ≡ begin_step (record_of log stamp)) }
-        ensures agree { (log : List Effect) → AgreeWith H.content log self.old → OnOk result (AgreeWith H.content (began log stamp deadline) self.new) }
+        ensures step { (log : List Effect) → AgreeWith H.content log self.old →
+            IfOk result (λ s. s ≡ begin_step (record_of log stamp)) }
+        ensures agree { (log : List Effect) → AgreeWith H.content log self.old →
+            OnOk result (AgreeWith H.content (began log stamp deadline) self.new) }
         ensures histories { (self.new.histories ≡ self.old.histories) × (self.new.first.value ≡ self.old.first.value) }
     {
         let early = self.decided_early(stamp);
@@ -168,7 +178,8 @@ impl<H: Histories> Books<H> {
     pub fn decide(&mut self, stamp: Stamp, decision: Decision) -> Result<(), HistoryFault>
         requires unsettled { settle_of (H.content self.old.histories) stamp ≡ None }
         requires since { AreSince H.content H.below H.faults H.damage self.old }
-        ensures agree { (log : List Effect) (t : ℕ) → AgreeWith H.content log self.old → record_of log stamp ≡ Some (record_state.Unknown t) →
+        ensures agree { (log : List Effect) (t : ℕ) → AgreeWith H.content log self.old →
+            record_of log stamp ≡ Some (record_state.Unknown t) →
             OnOk result (AgreeWith H.content (effect.Decide stamp decision ∷ log) self.new) }
         ensures since { AreSince H.content H.below H.faults H.damage self.new }
         ensures fault { IfErr result (HaveFault H.tells H.faults H.damage self.new) }
@@ -196,8 +207,10 @@ impl<H: Histories> Books<H> {
 
     /// The records that expire at this moment, in the order of their stamps. From now on they are decided.
     pub fn hear(&mut self, moment: u64) -> Result<Vec<(Stamp, Decision)>, AllocError>
-        ensures agree { (log : List Effect) → AgreeWith H.content log self.old → IfOk result (λ due. AgreeBut H.content due.items log self.new) }
-        ensures due { (log : List Effect) → AgreeWith H.content log self.old → IfOk result (λ due. due.items ≡ expiries moment log) }
+        ensures agree { (log : List Effect) → AgreeWith H.content log self.old →
+            IfOk result (λ due. AgreeBut H.content due.items log self.new) }
+        ensures due { (log : List Effect) → AgreeWith H.content log self.old →
+            IfOk result (λ due. due.items ≡ expiries moment log) }
         ensures histories { (self.new.histories ≡ self.old.histories) × (self.new.first.value ≡ self.old.first.value) }
     {
         let due = self.records.hear(moment)?;
@@ -208,7 +221,8 @@ impl<H: Histories> Books<H> {
     pub fn expire(&mut self, stamp: Stamp, decision: Decision) -> Result<(), HistoryFault>
         requires unsettled { settle_of (H.content self.old.histories) stamp ≡ None }
         requires since { AreSince H.content H.below H.faults H.damage self.old }
-        ensures agree { (rest : List (StampParts × Decision)) (log : List Effect) (t : ℕ) → AgreeBut H.content ((stamp, decision) ∷ rest) log self.old →
+        ensures agree { (rest : List (StampParts × Decision)) (log : List Effect) (t : ℕ) →
+            AgreeBut H.content ((stamp, decision) ∷ rest) log self.old →
             record_of log stamp ≡ Some (record_state.Unknown t) → listed_at rest stamp ≡ None →
             OnOk result (AgreeBut H.content rest (effect.Decide stamp decision ∷ log) self.new) }
         ensures since { AreSince H.content H.below H.faults H.damage self.new }

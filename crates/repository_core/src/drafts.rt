@@ -51,14 +51,23 @@ impl Model for Draft {
       moment = d.moment;
     } };
 
-    ghost invariant = { λ d. (d.moment ≤ 2 ^ 63) × AreHeld d.held.entries × AreEffects d.effects.items × AreOuts d.outs.items };
+    ghost invariant = { λ d. (d.moment ≤ 2 ^ 63) × AreHeld d.held.entries × AreEffects d.effects.items ×
+        AreOuts d.outs.items };
 }
 
 impl Draft {
     /// The draft of a repository that was just opened, with an empty log.
     pub fn new(alloc: Global, number: u8, moment: u64) -> Draft
         requires { moment ≤ 2 ^ 63 }
-        ensures { result ≡ record { number = number; past = []; added = []; outs = []; held = []; askers = []; moment = moment } }
+        ensures { result ≡ record {
+          number = number;
+          past = [];
+          added = [];
+          outs = [];
+          held = [];
+          askers = [];
+          moment = moment;
+        } }
     {
         Draft {
             alloc,
@@ -171,7 +180,10 @@ impl Draft {
     /// Releases the held reads that wait for the attempt, in rising order of pseudotime.
     pub fn release(&mut self, stamp: Stamp) -> Result<Vec<(PseudoTime, HeldRead)>, AllocError>
         ensures released { IfOk result (λ v. v.items ≡ filter (λ e. same_stamp e.1.waits stamp) self.old.held) }
-        ensures rest { OnOk result (self.new ≡ record self.old { held = filter (λ e. not (same_stamp e.1.waits stamp)) self.old.held }) }
+        ensures rest { OnOk result (self.new ≡ record self.old {
+          held = filter
+              (λ e. not (same_stamp e.1.waits stamp)) self.old.held;
+        }) }
         ensures in_range { IfOk result (λ v. AreHeld v.items) }
     {
         let released = self.waiting(stamp)?;
@@ -202,7 +214,10 @@ impl Draft {
     /// Keeps an asker, once.
     pub fn add_asker(&mut self, repository: u8, stamp: Stamp) -> Result<(), AllocError>
         ensures { OnOk result (self.new ≡
-            record self.old { askers = insert_key hands.asker_cmp self.old.askers (record { repository = repository; stamp = stamp }) }) }
+            record self.old {
+              askers = insert_key hands.asker_cmp self.old.askers
+                  (record { repository = repository; stamp = stamp });
+            }) }
     {
         self.askers.insert(Asker { repository, stamp })?;
         Ok(())

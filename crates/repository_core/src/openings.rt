@@ -19,8 +19,17 @@ pub fn open_books(
 ) -> Result<(Draft, Records, BTreeMap<Stamp, Decision>), AllocError>
     requires { moment ≤ 2 ^ 63 }
     ensures draft { IfOk result (λ r. r.0 ≡
-        record { number = number; past = reverse effects.now; added = []; outs = []; held = []; askers = []; moment = moment }) }
-    ensures agreed { IfOk result (λ r. BooksShow [] (reverse effects.now) (marks (reverse effects.now)) r.1 r.2.entries) }
+        record {
+          number = number;
+          past = reverse effects.now;
+          added = [];
+          outs = [];
+          held = [];
+          askers = [];
+          moment = moment;
+        }) }
+    ensures agreed { IfOk result (λ r. BooksShow [] (reverse effects.now)
+        (marks (reverse effects.now)) r.1 r.2.entries) }
 {
     let draft = open_draft(alloc, number, moment, effects)?;
     let (records, early) = records_of(alloc, effects)?;
@@ -35,7 +44,15 @@ fn open_draft(
     effects: &[Effect],
 ) -> Result<Draft, AllocError>
     requires { moment ≤ 2 ^ 63 }
-    ensures { IfOk result (λ d. d ≡ record { number = number; past = reverse effects.now; added = []; outs = []; held = []; askers = []; moment = moment }) }
+    ensures { IfOk result (λ d. d ≡ record {
+      number = number;
+      past = reverse effects.now;
+      added = [];
+      outs = [];
+      held = [];
+      askers = [];
+      moment = moment;
+    }) }
 {
     let mut draft = Draft::new(alloc, number, moment);
     draft.log(effects)?;

@@ -77,7 +77,8 @@ impl Draft {
         requires object { IsObject object }
         requires value { IsValue value }
         ensures { (before : List (TimeParts × HeldRead)) →
-            OnOk result (self.new ≡ rows.read_as before (rows.unhold at self.old) from at object (read_step.Answer value stretch)) }
+            OnOk result (self.new ≡ rows.read_as before (rows.unhold at self.old) from at object
+            (read_step.Answer value stretch)) }
     {
         let _in_range = at.stamp();
         self.unhold(at);
@@ -97,7 +98,8 @@ impl Draft {
         waits: Stamp,
     ) -> Result<(), AllocError>
         requires { IsObject object }
-        ensures { OnOk result (self.new ≡ rows.read_as self.old.held (rows.unhold at self.old) from at object (read_step.Wait waits)) }
+        ensures { OnOk result (self.new ≡ rows.read_as self.old.held (rows.unhold at self.old) from at object
+            (read_step.Wait waits)) }
     {
         let _in_range = waits.clock();
         let home = waits.home();
@@ -124,7 +126,8 @@ impl Draft {
         at: PseudoTime,
         stands: bool,
     ) -> Result<(), AllocError>
-        ensures { (o : ObjectId) (v : Value) (w : WriteStep) → OnOk result (self.new ≡ rows.write_as self.old from at o v stands true w) }
+        ensures { (o : ObjectId) (v : Value) (w : WriteStep) →
+            OnOk result (self.new ≡ rows.write_as self.old from at o v stands true w) }
     {
         let _in_range = at.stamp();
         if stands {
@@ -171,7 +174,8 @@ impl Draft {
 
     /// A record begins.
     pub fn begin(&mut self, from: NodeId, stamp: Stamp, deadline: u64) -> Result<(), AllocError>
-        ensures { OnOk result (self.new ≡ hands.send from (message.Begun stamp) (hands.note (effect.Begin stamp deadline) self.old)) }
+        ensures { OnOk result (self.new ≡ hands.send from (message.Begun stamp)
+            (hands.note (effect.Begin stamp deadline) self.old)) }
     {
         let _in_range = stamp.clock();
         self.note(Effect::Begin { stamp, deadline })?;
@@ -197,7 +201,8 @@ impl Draft {
     /// A record expires: it is decided, and each asker is told that the attempt was aborted. Its broker
     /// isn't answered.
     pub fn expire(&mut self, stamp: Stamp, decision: Decision) -> Result<(), AllocError>
-        ensures { OnOk result (self.new ≡ rows.tell_askers stamp false (hands.note (effect.Decide stamp decision) self.old)) }
+        ensures { OnOk result (self.new ≡ rows.tell_askers stamp false
+            (hands.note (effect.Decide stamp decision) self.old)) }
     {
         self.decide(stamp, decision)?;
         self.tell_askers(stamp, false)

@@ -138,7 +138,12 @@ impl<H: Histories> Repository<H> {
 
     /// Parts the core and its histories.
     pub fn part(self) -> (RepositoryRest, H)
-        ensures state { result.0 ≡ record { number = self.number; log = self.log; mind = self.mind; is_failed = self.is_failed } }
+        ensures state { result.0 ≡ record {
+          number = self.number;
+          log = self.log;
+          mind = self.mind;
+          is_failed = self.is_failed;
+        } }
         ensures histories { result.1 ≡ self.histories }
     {
         let Repository { work, is_failed } = self;
@@ -206,7 +211,13 @@ impl RepositoryRest {
     /// The core with its histories, which are as they were when it was parted.
     pub fn join<H: Histories>(self, histories: H) -> Repository<H>
         requires marks { self.is_failed ≡ false → HasMarks (H.content histories) self.log }
-        ensures { result ≡ record { number = self.number; log = self.log; mind = self.mind; is_failed = self.is_failed; histories = histories } }
+        ensures { result ≡ record {
+          number = self.number;
+          log = self.log;
+          mind = self.mind;
+          is_failed = self.is_failed;
+          histories = histories;
+        } }
     {
         let RepositoryRest {
             alloc,

@@ -45,7 +45,8 @@ impl<H: Histories> Work<H> {
         ensures histories { self.new.books.histories ≡ self.old.books.histories }
         ensures since { AreSince H.content H.below H.faults H.damage self.new.books }
         ensures first { self.new.books.first.value ≡ self.old.books.histories }
-        ensures agreed { (pending : List (StampParts × Decision)) (log : List Effect) → AgreeBut H.content pending log self.old.books →
+        ensures agreed { (pending : List (StampParts × Decision)) (log : List Effect) →
+            AgreeBut H.content pending log self.old.books →
             AgreeBut H.content pending log self.new.books }
     {
         self.books.first = Snapshot::of(&self.books.histories);
@@ -55,13 +56,16 @@ impl<H: Histories> Work<H> {
     fn read(&mut self, from: NodeId, at: PseudoTime, object: ObjectId) -> Result<(), HistoryFault>
         requires object { IsObject object }
         requires since { AreSince H.content H.below H.faults H.damage self.old.books }
-        ensures agreed { StillAgree H.content (now self.old.draft) self.old.books (now self.new.draft) self.new.books result }
+        ensures agreed { StillAgree H.content (now self.old.draft) self.old.books
+            (now self.new.draft) self.new.books result }
         ensures records { OnOk result (HasSameRecords (now self.old.draft) (now self.new.draft)) }
         ensures went { HaveGoneOn H.tells H.content H.below H.faults H.damage self.old.books self.new.books result }
         ensures log { OnOk result (HasSameLog self.old.draft self.new.draft) }
-        ensures gives { IsTrue H.tells → (pending : List (StampParts × Decision)) → AgreeBut H.content pending (now self.old.draft) self.old.books →
+        ensures gives { IsTrue H.tells → (pending : List (StampParts × Decision)) →
+            AgreeBut H.content pending (now self.old.draft) self.old.books →
             OnOk result (self.new.draft ≡
-            rows.read_as self.old.draft.held (rows.unhold at self.old.draft) from at object (read_step (marks (now self.old.draft)) object at)) }
+            rows.read_as self.old.draft.held (rows.unhold at self.old.draft) from at object
+            (read_step (marks (now self.old.draft)) object at)) }
     {
         let step = self.books.read(object, at)?;
         self.draft.read_as(from, at, object, step)?;
@@ -78,11 +82,13 @@ impl<H: Histories> Work<H> {
     ) -> Result<(), HistoryFault>
         requires object { IsObject object }
         requires since { AreSince H.content H.below H.faults H.damage self.old.books }
-        ensures agreed { StillAgree H.content (now self.old.draft) self.old.books (now self.new.draft) self.new.books result }
+        ensures agreed { StillAgree H.content (now self.old.draft) self.old.books
+            (now self.new.draft) self.new.books result }
         ensures records { OnOk result (HasSameRecords (now self.old.draft) (now self.new.draft)) }
         ensures went { HaveGoneOn H.tells H.content H.below H.faults H.damage self.old.books self.new.books result }
         ensures log { OnOk result (HasSameLog self.old.draft self.new.draft) }
-        ensures gives { IsTrue H.tells → (pending : List (StampParts × Decision)) → AgreeBut H.content pending (now self.old.draft) self.old.books →
+        ensures gives { IsTrue H.tells → (pending : List (StampParts × Decision)) →
+            AgreeBut H.content pending (now self.old.draft) self.old.books →
             OnOk result (self.new.draft ≡ rows.on_read self.old.draft from at object) }
     {
         match self.books.known(at.stamp()) {
@@ -97,11 +103,13 @@ impl<H: Histories> Work<H> {
     #[tactic(auto, unfolding(crate::specs::Rows::release))]
     pub fn release(&mut self, stamp: Stamp) -> Result<(), HistoryFault>
         requires since { AreSince H.content H.below H.faults H.damage self.old.books }
-        ensures agreed { StillAgree H.content (now self.old.draft) self.old.books (now self.new.draft) self.new.books result }
+        ensures agreed { StillAgree H.content (now self.old.draft) self.old.books
+            (now self.new.draft) self.new.books result }
         ensures records { OnOk result (HasSameRecords (now self.old.draft) (now self.new.draft)) }
         ensures went { HaveGoneOn H.tells H.content H.below H.faults H.damage self.old.books self.new.books result }
         ensures log { OnOk result (HasSameLog self.old.draft self.new.draft) }
-        ensures gives { IsTrue H.tells → (pending : List (StampParts × Decision)) → AgreeBut H.content pending (now self.old.draft) self.old.books →
+        ensures gives { IsTrue H.tells → (pending : List (StampParts × Decision)) →
+            AgreeBut H.content pending (now self.old.draft) self.old.books →
             OnOk result (self.new.draft ≡ rows.release stamp self.old.draft) }
     {
         let released = self.draft.release(stamp)?;
@@ -128,7 +136,8 @@ impl<H: Histories> Work<H> {
         ensures log { OnOk result (HasSameLog self.old.draft self.new.draft) }
         ensures gives { IsTrue H.tells →
             OnOk result (self.new.draft ≡
-            rows.write_as self.old.draft from at object value.now (stands_written (marks (now self.old.draft)) object at value.now) true
+            rows.write_as self.old.draft from at object value.now
+            (stands_written (marks (now self.old.draft)) object at value.now) true
             (write_step (marks (now self.old.draft)) object at value.now)) }
     {
         let stands = self.books.stands(object, at, value)?;
@@ -153,7 +162,8 @@ impl<H: Histories> Work<H> {
         ensures log { OnOk result (HasSameLog self.old.draft self.new.draft) }
         ensures gives { IsTrue H.tells →
             OnOk result (self.new.draft ≡
-            rows.write_as self.old.draft from at object value.now (stands_written (marks (now self.old.draft)) object at value.now) false
+            rows.write_as self.old.draft from at object value.now
+            (stands_written (marks (now self.old.draft)) object at value.now) false
             (write_step (marks (now self.old.draft)) object at value.now)) }
     {
         let copy = value.copy(self.alloc)?;
@@ -178,7 +188,8 @@ impl<H: Histories> Work<H> {
         ensures agreed { OnOk result (AgreeWith H.content (now self.new.draft) self.new.books) }
         ensures went { HaveGoneOn H.tells H.content H.below H.faults H.damage self.old.books self.new.books result }
         ensures log { OnOk result (HasSameLog self.old.draft self.new.draft) }
-        ensures gives { IsTrue H.tells → OnOk result (self.new.draft ≡ rows.on_write self.old.draft from at object value.now) }
+        ensures gives { IsTrue H.tells →
+            OnOk result (self.new.draft ≡ rows.on_write self.old.draft from at object value.now) }
     {
         match self.books.known(at.stamp()) {
             Some(_) => self.write_known(from, at, object, value)?,
@@ -195,7 +206,8 @@ impl<H: Histories> Work<H> {
         ensures agreed { OnOk result (AgreeWith H.content (now self.new.draft) self.new.books) }
         ensures went { HaveGoneOn H.tells H.content H.below H.faults H.damage self.old.books self.new.books result }
         ensures log { OnOk result (HasSameLog self.old.draft self.new.draft) }
-        ensures gives { IsTrue H.tells → OnOk result (self.new.draft ≡ rows.on_begin self.old.draft from stamp timeout) }
+        ensures gives { IsTrue H.tells →
+            OnOk result (self.new.draft ≡ rows.on_begin self.old.draft from stamp timeout) }
     {
         let deadline = self.draft.deadline(timeout);
         match self.books.begin(stamp, deadline)? {
@@ -256,7 +268,8 @@ impl<H: Histories> Work<H> {
         ensures agreed { OnOk result (AgreeWith H.content (now self.new.draft) self.new.books) }
         ensures went { HaveGoneOn H.tells H.content H.below H.faults H.damage self.old.books self.new.books result }
         ensures log { OnOk result (HasSameLog self.old.draft self.new.draft) }
-        ensures gives { IsTrue H.tells → OnOk result (self.new.draft ≡ rows.on_close self.old.draft from stamp decision) }
+        ensures gives { IsTrue H.tells →
+            OnOk result (self.new.draft ≡ rows.on_close self.old.draft from stamp decision) }
     {
         match self.books.record(stamp) {
             None => (),
@@ -352,7 +365,8 @@ impl<H: Histories> Work<H> {
         ensures agreed { OnOk result (AgreeWith H.content (now self.new.draft) self.new.books) }
         ensures went { HaveGoneOn H.tells H.content H.below H.faults H.damage self.old.books self.new.books result }
         ensures log { OnOk result (HasSameLog self.old.draft self.new.draft) }
-        ensures gives { IsTrue H.tells → OnOk result (self.new.draft ≡ rows.on_message self.old.draft from message.now) }
+        ensures gives { IsTrue H.tells →
+            OnOk result (self.new.draft ≡ rows.on_message self.old.draft from message.now) }
     {
         if accepts(self.draft.number(), from, message) {
             self.on_row(from, message)?;
@@ -364,15 +378,19 @@ impl<H: Histories> Work<H> {
     fn expire(&mut self, stamp: Stamp, decision: Decision) -> Result<(), HistoryFault>
         requires unsettled { settle_of (H.content self.old.books.histories) stamp ≡ None }
         requires since { AreSince H.content H.below H.faults H.damage self.old.books }
-        ensures agreed { (rest : List (StampParts × Decision)) → IsUnknown (now self.old.draft) stamp → listed_at rest stamp ≡ None →
+        ensures agreed { (rest : List (StampParts × Decision)) → IsUnknown (now self.old.draft) stamp →
+            listed_at rest stamp ≡ None →
             AgreeBut H.content ((stamp, decision) ∷ rest) (now self.old.draft) self.old.books →
             OnOk result (AgreeBut H.content rest (now self.new.draft) self.new.books) }
-        ensures records { OnOk result ((s : StampParts) → record_of (now self.new.draft) s ≡ record_of (effect.Decide stamp decision ∷ now self.old.draft) s) }
+        ensures records { OnOk result ((s : StampParts) →
+            record_of (now self.new.draft) s ≡ record_of (effect.Decide stamp decision ∷ now self.old.draft) s) }
         ensures went { HaveGoneOn H.tells H.content H.below H.faults H.damage self.old.books self.new.books result }
         ensures log { OnOk result (HasSameLog self.old.draft self.new.draft) }
-        ensures gives { (rest : List (StampParts × Decision)) → IsTrue H.tells → IsUnknown (now self.old.draft) stamp → listed_at rest stamp ≡ None →
+        ensures gives { (rest : List (StampParts × Decision)) → IsTrue H.tells → IsUnknown (now self.old.draft) stamp →
+            listed_at rest stamp ≡ None →
             AgreeBut H.content ((stamp, decision) ∷ rest) (now self.old.draft) self.old.books →
-            OnOk result (self.new.draft ≡ rows.release stamp (rows.tell_askers stamp false (note (effect.Decide stamp decision) self.old.draft))) }
+            OnOk result (self.new.draft ≡ rows.release stamp
+            (rows.tell_askers stamp false (note (effect.Decide stamp decision) self.old.draft))) }
     {
         self.books.expire(stamp, decision)?;
         self.draft.expire(stamp, decision)?;
@@ -387,7 +405,8 @@ impl<H: Histories> Work<H> {
         ensures agreed { OnOk result (AgreeWith H.content (now self.new.draft) self.new.books) }
         ensures went { HaveGoneOn H.tells H.content H.below H.faults H.damage self.old.books self.new.books result }
         ensures log { OnOk result (HasSameLog self.old.draft self.new.draft) }
-        ensures gives { IsTrue H.tells → OnOk result (self.new.draft ≡ hearing.expired (expiries moment (now self.old.draft)) self.old.draft) }
+        ensures gives { IsTrue H.tells →
+            OnOk result (self.new.draft ≡ hearing.expired (expiries moment (now self.old.draft)) self.old.draft) }
     {
         let due = self.books.hear(moment)?;
         for (stamp, decision) in &due {

@@ -18,7 +18,8 @@ ghost use Rattle.repository_laws.specs.Waits.{Waits, AreOf, IsOf, KeepsReads, Ar
 /// below it whose attempt isn't decided, and the home of that attempt was asked. Each pseudotime asks
 /// for one object, and one broker asks.
 pub fn held_reads_wait()
-    ensures { (asked : TimeParts → ObjectId × NodeId) (h : Hand) (i : Input) → AreOf asked h.held → IsOf asked i → Every (Waits (now h)) h.held →
+    ensures { (asked : TimeParts → ObjectId × NodeId) (h : Hand) (i : Input) → AreOf asked h.held → IsOf asked i →
+        Every (Waits (now h)) h.held →
         KeepsReads asked h (hand_turn h i) }
 {}
 

@@ -69,7 +69,8 @@ pub fn histories_of(alloc: Global, effects: &[Effect]) -> Result<PlainHistories,
 
 /// The floor of a log, with one effect more.
 pub fn floor_with(floor: Option<PseudoTime>, effect: &Effect) -> Option<PseudoTime>
-    ensures { (log : List Effect) → floor ≡ floor_of (logs.marks log) → result ≡ floor_of (logs.marks (effect.now ∷ log)) }
+    ensures { (log : List Effect) → floor ≡ floor_of (logs.marks log) →
+        result ≡ floor_of (logs.marks (effect.now ∷ log)) }
 {
     match effect {
         Effect::Mark { at } => Some(later(*at, &floor)),

@@ -40,7 +40,8 @@ fn open_records(alloc: Global, effects: &[Effect]) -> Result<Records, AllocError
 
 // A record, if the effect begins one.
 fn add_begin(records: &mut Records, effect: &Effect) -> Result<(), AllocError>
-    ensures { (part : List Effect) → AreBegun part records.old → OnOk result (AreBegun (effect.now ∷ part) records.new) }
+    ensures { (part : List Effect) → AreBegun part records.old →
+        OnOk result (AreBegun (effect.now ∷ part) records.new) }
 {
     match begun_by(effect) {
         None => Ok(()),
@@ -74,8 +75,10 @@ fn add_decision(
     early: &mut BTreeMap<Stamp, Decision>,
     effect: &Effect,
 ) -> Result<(), AllocError>
-    ensures records { (whole part : List Effect) → AreDecided whole part records.old → OnOk result (AreDecided whole (effect.now ∷ part) records.new) }
-    ensures early { (whole part : List Effect) → AreDecided whole part records.old → AreKept whole part early.old.entries →
+    ensures records { (whole part : List Effect) → AreDecided whole part records.old →
+        OnOk result (AreDecided whole (effect.now ∷ part) records.new) }
+    ensures early { (whole part : List Effect) → AreDecided whole part records.old →
+        AreKept whole part early.old.entries →
         OnOk result (AreKept whole (effect.now ∷ part) early.new.entries) }
 {
     match decided_by(effect) {
@@ -96,7 +99,8 @@ fn decide_record(
 ) -> Result<(), AllocError>
     ensures records { OnOk result (records.new ≡ settled records.old stamp decision) }
     ensures early { OnOk result ((q : StampParts) →
-        listed_at early.new.entries q ≡ kept_after (finite.get records.old stamp) stamp decision (listed_at early.old.entries q) q) }
+        listed_at early.new.entries q ≡ kept_after (finite.get records.old stamp) stamp decision
+        (listed_at early.old.entries q) q) }
 {
     if records.restore(stamp, decision).is_some() {
         return Ok(());
@@ -110,7 +114,8 @@ fn keep_first(
     stamp: Stamp,
     decision: Decision,
 ) -> Result<(), AllocError>
-    ensures { OnOk result ((q : StampParts) → listed_at early.new.entries q ≡ kept_after None stamp decision (listed_at early.old.entries q) q) }
+    ensures { OnOk result ((q : StampParts) → listed_at early.new.entries q ≡ kept_after None stamp decision
+        (listed_at early.old.entries q) q) }
 {
     if early.get(&stamp).is_none() {
         early.insert(stamp, decision)?;

@@ -52,8 +52,10 @@ pub fn retire<S: Shelf>(
     shelf: &mut S,
 ) -> (Retired, Vec<Kept<S::Medium>>)
     requires first { mark.step ≡ 1 }
-    ensures { spec.TookNothing S.Medium.Medium (shelf_sight S.Shelf shelf.old) (shelf_sight S.Shelf shelf.new) result.1.items result.0
-        ⊎ spec.RetiresOver S.Medium.Medium (shelf_sight S.Shelf shelf.old) (shelf_sight S.Shelf shelf.new) (named repository) mark result.1.items result.0 }
+    ensures { spec.TookNothing S.Medium.Medium (shelf_sight S.Shelf shelf.old)
+        (shelf_sight S.Shelf shelf.new) result.1.items result.0
+        ⊎ spec.RetiresOver S.Medium.Medium (shelf_sight S.Shelf shelf.old) (shelf_sight S.Shelf shelf.new)
+        (named repository) mark result.1.items result.0 }
 {
     let Ok(room) = Vec::with_capacity(alloc, 1_000) else {
         return (Retired::NoMemory, Vec::new(alloc));

@@ -71,7 +71,8 @@ pub fn give_back<M: Medium>(media: Vec<Option<M>>, openings: Vec<Opening<M>>) ->
 /// Whether each node was opened.
 pub fn are_open<M: Medium>(openings: &[Opening<M>]) -> bool
     ensures open { result ≡ true → All IsOpen openings.now }
-    ensures shut { result ≡ false → (place : _) × (opening : _) × (slice_get openings.now place ≡ Some opening) × (IsOpen opening → ⊥) }
+    ensures shut { result ≡ false → (place : _) × (opening : _) × (slice_get openings.now place ≡ Some opening) ×
+        (IsOpen opening → ⊥) }
 {
     for opening in openings {
         match opening {

@@ -36,7 +36,8 @@ pub fn rounds<
     requires some { 1 ≤ length shares.items }
     requires dealt { IsDealt (length shares.items) [] shares.items }
     requires share_room { (count : _) × (vec_len nodes ≤ count) × HaveRoom (length shares.items) count shares.items }
-    requires pass { IsWirePass wire.now.lock conductor × ((knows conductor).owner ≡ 0) × (tick_count (knows conductor).own ≡ 0) }
+    requires pass { IsWirePass wire.now.lock conductor × ((knows conductor).owner ≡ 0) ×
+        (tick_count (knows conductor).own ≡ 0) }
     requires empty { (media.items ≡ []) × (passes.items ≡ []) }
     requires room { (vec_len nodes ≤ vec_capacity media) × (vec_len nodes < vec_capacity passes) }
     ensures passes { All (IsWirePass wire.now.lock) result.passes.items }

@@ -60,7 +60,8 @@ pub fn closed_run<F: Fates, C: Clock, M: Medium>(
     requires passes { All (IsWirePass wire.lock) ended.passes.items }
     requires all { vec_len ended.passes ≡ length (base_of wire.lock).origin.opened + 1 }
     ensures closed { IfRan result.end (λ t.
-        ClosedAs M.tells (base_of wire.lock).origin ended.passes.items ended.reason t (F.asked result.fates) (C.answers result.clock)) }
+        ClosedAs M.tells (base_of wire.lock).origin ended.passes.items ended.reason t (F.asked result.fates)
+        (C.answers result.clock)) }
     // Where it isn't told, there is one, too.
     ensures untold { IfWanting result.end (LeavesUntold M.tells (base_of wire.lock).origin ended.passes.items) }
     ensures media { result.media ≡ ended.media.items }

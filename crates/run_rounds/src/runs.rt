@@ -77,12 +77,15 @@ fn with_nodes<
     media: Vec<Option<M>>,
 ) -> Finished<F, C, M>
     requires plan { IsOfLanguage plan.now }
-    requires set_up { IsSetUp plan.now openings.items (base_of begun.wire.lock).origin.asked (base_of begun.wire.lock).origin.answers
+    requires set_up { IsSetUp plan.now openings.items (base_of begun.wire.lock).origin.asked
+        (base_of begun.wire.lock).origin.answers
         (base_of begun.wire.lock).origin }
     requires start { begun.start ≡ (base_of begun.wire.lock).origin.start }
     requires passes { All (IsWirePass begun.wire.lock) begun.passes.items }
-    requires fresh { map knows begun.passes.items ≡ fresh_for (base_of begun.wire.lock) (base_of begun.wire.lock).origin.opened }
-    requires conductor { IsWirePass begun.wire.lock begun.conductor × (knows begun.conductor ≡ fresh (base_of begun.wire.lock) 0) }
+    requires fresh { map knows begun.passes.items ≡ fresh_for (base_of begun.wire.lock)
+        (base_of begun.wire.lock).origin.opened }
+    requires conductor { IsWirePass begun.wire.lock begun.conductor ×
+        (knows begun.conductor ≡ fresh (base_of begun.wire.lock) 0) }
     requires pass_room { vec_len begun.passes < vec_capacity begun.passes }
     requires count { length openings.items ≡ node_count plan.now }
     requires ready { AreReady plan.now 0 openings.items }
@@ -141,7 +144,8 @@ fn run_nodes<
     requires some { 1 ≤ length shares.items }
     requires dealt { IsDealt (length shares.items) [] shares.items }
     requires share_room { (count : _) × (vec_len nodes ≤ count) × HaveRoom (length shares.items) count shares.items }
-    requires pass { IsWirePass wire.lock conductor × ((knows conductor).owner ≡ 0) × (tick_count (knows conductor).own ≡ 0) }
+    requires pass { IsWirePass wire.lock conductor × ((knows conductor).owner ≡ 0) ×
+        (tick_count (knows conductor).own ≡ 0) }
     requires empty { (media.items ≡ []) × (passes.items ≡ []) }
     requires room { (vec_len nodes ≤ vec_capacity media) × (vec_len nodes < vec_capacity passes) }
     ensures { HasClosed M.Medium wire.lock limits nodes.items result.media result.end
@@ -185,18 +189,22 @@ fn without_nodes<F: Fates, C: Clock, M: Medium, R: Wait>(
     media: Vec<Option<M>>,
 ) -> Finished<F, C, M>
     requires plan { IsOfLanguage plan.now }
-    requires set_up { IsSetUp plan.now openings.items (base_of begun.wire.lock).origin.asked (base_of begun.wire.lock).origin.answers
+    requires set_up { IsSetUp plan.now openings.items (base_of begun.wire.lock).origin.asked
+        (base_of begun.wire.lock).origin.answers
         (base_of begun.wire.lock).origin }
     requires start { begun.start ≡ (base_of begun.wire.lock).origin.start }
     requires passes { All (IsWirePass begun.wire.lock) begun.passes.items }
-    requires fresh { map knows begun.passes.items ≡ fresh_for (base_of begun.wire.lock) (base_of begun.wire.lock).origin.opened }
-    requires conductor { IsWirePass begun.wire.lock begun.conductor × (knows begun.conductor ≡ fresh (base_of begun.wire.lock) 0) }
+    requires fresh { map knows begun.passes.items ≡ fresh_for (base_of begun.wire.lock)
+        (base_of begun.wire.lock).origin.opened }
+    requires conductor { IsWirePass begun.wire.lock begun.conductor ×
+        (knows begun.conductor ≡ fresh (base_of begun.wire.lock) 0) }
     requires pass_room { vec_len begun.passes < vec_capacity begun.passes }
     requires count { length openings.items ≡ node_count plan.now }
     requires ready { AreReady plan.now 0 openings.items }
     requires empty { media.items ≡ [] }
     requires room { vec_len openings ≤ vec_capacity media }
-    requires shut { (place : _) × (opening : _) × (slice_get openings.items place ≡ Some opening) × (IsOpen opening → ⊥) }
+    requires shut { (place : _) × (opening : _) × (slice_get openings.items place ≡ Some opening) ×
+        (IsOpen opening → ⊥) }
     ensures { (most_ticks enough : ℕ) (first : List (Option M)) →
         AllZip (HasOpened M.Medium) first openings.items →
         EndsAs M.Medium most_ticks enough plan.now
@@ -248,7 +256,8 @@ pub fn run<
     requires workers { 1 ≤ limits.workers }
     ensures { (first : List (Option M)) → AllZip (HasOpened M.Medium) first openings.items →
         EndsAs M.Medium limits.ticks limits.messages plan.now
-        (tellers (F.asked fates) (F.asked result.fates) (C.answers clock) (C.answers result.clock)) first result.media result.end }
+        (tellers (F.asked fates) (F.asked result.fates) (C.answers clock) (C.answers result.clock)) first
+        result.media result.end }
 {
     if let Some(refusal) = first_refusal(alloc, plan, openings.as_slice()) {
         return unbegun(refused(refusal), media, openings, fates, clock);

@@ -31,7 +31,8 @@ pub fn deal<T: Drop>(items: Vec<T>, shares: Vec<Vec<T>>) -> (Vec<T>, Vec<Vec<T>>
     requires room { (count : _) × (vec_len items ≤ count) × HaveRoom (length shares.items) count shares.items }
     ensures dealt { IsDealt (length shares.items) items.items result.1.items }
     ensures count { length result.1.items ≡ length shares.items }
-    ensures room { (count : ℕ) → HaveRoom (length shares.items) count shares.items → HaveRoom (length shares.items) count result.1.items }
+    ensures room { (count : ℕ) → HaveRoom (length shares.items) count shares.items →
+        HaveRoom (length shares.items) count result.1.items }
     ensures emptied { (result.0.items ≡ []) × (vec_capacity result.0 ≡ vec_capacity items) }
 {
     let mut items = items;
@@ -53,7 +54,8 @@ pub fn collect<T: Drop>(shares: Vec<Vec<T>>, count: usize, items: Vec<T>) -> Vec
     requires empty { items.items ≡ [] }
     requires room { count ≤ vec_capacity items }
     ensures room { (vec_len result ≡ count) × (vec_capacity result ≡ vec_capacity items) }
-    ensures whole { (xs : List T) → IsDealt (length shares.items) xs shares.items → length xs ≡ count → result.items ≡ xs }
+    ensures whole { (xs : List T) → IsDealt (length shares.items) xs shares.items → length xs ≡ count →
+        result.items ≡ xs }
 {
     if count == 0 {
         return items;

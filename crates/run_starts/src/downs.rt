@@ -51,10 +51,12 @@ pub fn down_visits<F: Fates, C: Clock, M: Medium, R: Wait>(
     requires count { (length openings.now ≡ order.node_count plan.now) × (vec_len passes ≤ length openings.now) }
     requires passes { All (IsWirePass wire.now.lock) passes.items }
     requires unseen { Along (λ i o pass.
-        IsUnseen (base_of wire.now.lock) (order.node_at plan.now i) o pass) 0 (take (vec_len passes) openings.now) passes.items }
+        IsUnseen (base_of wire.now.lock) (order.node_at plan.now i) o pass) 0
+        (take (vec_len passes) openings.now) passes.items }
     ensures passes { All (IsWirePass wire.now.lock) result.0.items }
     ensures fallen { result.1 ≡ Reason.Down →
-        Along (λ i o pass. HasFallen (base_of wire.now.lock) (order.node_at plan.now i) o pass) 0 (take (vec_len passes) openings.now) result.0.items }
+        Along (λ i o pass. HasFallen (base_of wire.now.lock) (order.node_at plan.now i) o pass) 0
+        (take (vec_len passes) openings.now) result.0.items }
     ensures reason { (result.1 ≡ Reason.Down) ⊎ (result.1 ≡ Reason.Wanting) }
     ensures count { (vec_len result.0 ≡ vec_len passes) × (vec_capacity result.0 ≡ vec_capacity passes) }
 {

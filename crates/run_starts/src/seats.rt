@@ -124,19 +124,23 @@ fn seat<F: Fates, C: Clock, M: Medium>(
     requires plan { IsOfLanguage plan.now }
     requires place { place < order.node_count plan.now }
     requires can { CanSeat M.Medium plan.now start place opening pass }
-    requires whole { seated.is_whole ≡ true → (vec_len seated.nodes ≡ place) × (vec_len seated.nodes < vec_capacity seated.nodes) ×
+    requires whole { seated.is_whole ≡ true → (vec_len seated.nodes ≡ place) ×
+        (vec_len seated.nodes < vec_capacity seated.nodes) ×
         (seated.media.items ≡ []) × (seated.passes.items ≡ []) }
     requires back { seated.is_whole ≡ false → (vec_len seated.media ≡ place) × (vec_len seated.passes ≡ place) }
     requires room { (place < vec_capacity seated.media) × (place < vec_capacity seated.passes) }
     ensures new { result.is_whole ≡ true → (seated.is_whole ≡ true) ×
-        ((n : _) × (result.nodes.items ≡ seated.nodes.items ++ n ∷ []) × IsNewNode plan.now place opening n × (n.pass ≡ pass)) }
+        ((n : _) × (result.nodes.items ≡ seated.nodes.items ++ n ∷ []) × IsNewNode plan.now place opening n ×
+        (n.pass ≡ pass)) }
     ensures emptied { result.is_whole ≡ true → (result.media.items ≡ []) × (result.passes.items ≡ []) }
     ensures back { result.is_whole ≡ false → seated.is_whole ≡ true →
         (result.media.items ≡ map (λ n. Some n.medium) seated.nodes.items ++ medium_in opening ∷ []) ×
         (result.passes.items ≡ map (λ n. n.pass) seated.nodes.items ++ pass ∷ []) }
-    ensures more { result.is_whole ≡ false → seated.is_whole ≡ false → (result.media.items ≡ seated.media.items ++ medium_in opening ∷ []) ×
+    ensures more { result.is_whole ≡ false → seated.is_whole ≡ false →
+        (result.media.items ≡ seated.media.items ++ medium_in opening ∷ []) ×
         (result.passes.items ≡ seated.passes.items ++ pass ∷ []) }
-    ensures room { (vec_capacity result.media ≡ vec_capacity seated.media) × (vec_capacity result.passes ≡ vec_capacity seated.passes) }
+    ensures room { (vec_capacity result.media ≡ vec_capacity seated.media) ×
+        (vec_capacity result.passes ≡ vec_capacity seated.passes) }
     ensures room_left { result.is_whole ≡ true → vec_capacity result.nodes ≡ vec_capacity seated.nodes }
 {
     let Seated {
@@ -205,8 +209,10 @@ pub fn open_nodes<F: Fates, C: Clock, M: Medium>(
     ensures new { result.is_whole ≡ true → Along (IsNewNode plan.now) 0 openings.items result.nodes.items }
     ensures passes { result.is_whole ≡ true → map (λ n. n.pass) result.nodes.items ≡ passes.items }
     ensures emptied { result.is_whole ≡ true → (result.media.items ≡ []) × (result.passes.items ≡ []) }
-    ensures back { result.is_whole ≡ false → (result.media.items ≡ map medium_in openings.items) × (result.passes.items ≡ passes.items) }
-    ensures room { (vec_capacity result.media ≡ vec_capacity media) × (vec_capacity result.passes ≡ vec_capacity passes) }
+    ensures back { result.is_whole ≡ false → (result.media.items ≡ map medium_in openings.items) ×
+        (result.passes.items ≡ passes.items) }
+    ensures room { (vec_capacity result.media ≡ vec_capacity media) ×
+        (vec_capacity result.passes ≡ vec_capacity passes) }
     ensures room_left { result.is_whole ≡ true → vec_capacity result.nodes ≡ vec_capacity nodes }
 {
     let mut openings = openings;

@@ -45,11 +45,14 @@ pub fn wire_for<F: Fates, C: Clock, M: Medium>(
 ) -> Result<Begun<F, C, M>, (F, C, AllocError)>
     requires plan { IsOfLanguage plan.now }
     requires count { length openings.now ≡ order.node_count plan.now }
-    ensures set_up { IfOk result (λ b. IsSetUp plan.now openings.now (F.asked fates) (C.answers clock) (base_of b.wire.lock).origin) }
+    ensures set_up { IfOk result (λ b. IsSetUp plan.now openings.now (F.asked fates) (C.answers clock)
+        (base_of b.wire.lock).origin) }
     ensures start { IfOk result (λ b. b.start ≡ (base_of b.wire.lock).origin.start) }
     ensures passes { IfOk result (λ b. All (IsWirePass b.wire.lock) b.passes.items) }
-    ensures fresh { IfOk result (λ b. map knows b.passes.items ≡ fresh_for (base_of b.wire.lock) (base_of b.wire.lock).origin.opened) }
-    ensures conductor { IfOk result (λ b. IsWirePass b.wire.lock b.conductor × (knows b.conductor ≡ fresh (base_of b.wire.lock) 0)) }
+    ensures fresh { IfOk result (λ b. map knows b.passes.items ≡ fresh_for (base_of b.wire.lock)
+        (base_of b.wire.lock).origin.opened) }
+    ensures conductor { IfOk result (λ b. IsWirePass b.wire.lock b.conductor ×
+        (knows b.conductor ≡ fresh (base_of b.wire.lock) 0)) }
     ensures room { IfOk result (λ b. vec_len b.passes < vec_capacity b.passes) }
 {
     let Ok(acts) = copied_acts(alloc, plan.acts.as_slice()) else {
@@ -79,8 +82,10 @@ fn shared<F: Fates, C: Clock, M: Medium>(
     ensures base { IfOk result (λ b. base_of b.wire.lock ≡ wire) }
     ensures start { IfOk result (λ b. b.start ≡ (base_of b.wire.lock).origin.start) }
     ensures passes { IfOk result (λ b. All (IsWirePass b.wire.lock) b.passes.items) }
-    ensures fresh { IfOk result (λ b. map knows b.passes.items ≡ fresh_for (base_of b.wire.lock) (base_of b.wire.lock).origin.opened) }
-    ensures conductor { IfOk result (λ b. IsWirePass b.wire.lock b.conductor × (knows b.conductor ≡ fresh (base_of b.wire.lock) 0)) }
+    ensures fresh { IfOk result (λ b. map knows b.passes.items ≡ fresh_for (base_of b.wire.lock)
+        (base_of b.wire.lock).origin.opened) }
+    ensures conductor { IfOk result (λ b. IsWirePass b.wire.lock b.conductor ×
+        (knows b.conductor ≡ fresh (base_of b.wire.lock) 0)) }
     ensures room { IfOk result (λ b. vec_len b.passes < vec_capacity b.passes) }
 {
     match SharedWire::new(alloc, wire) {

@@ -33,7 +33,9 @@ pub fn open_volumes<S: Shelf>(
 ) -> Vec<Opening<S::Medium>>
     requires empty { room.items ≡ [] }
     requires room { 1000 ≤ vec_capacity room }
-    ensures volumes { (media : List (Option S.Medium)) × AreVolumes S.Medium.Medium (shelf_sight S.Shelf shelf.old) (shelf_sight S.Shelf shelf.new) node media result.items }
+    ensures volumes { (media : List (Option S.Medium)) ×
+        AreVolumes S.Medium.Medium (shelf_sight S.Shelf shelf.old)
+        (shelf_sight S.Shelf shelf.new) node media result.items }
     ensures few { vec_len result ≤ 1000 }
     ensures room { vec_capacity result ≡ vec_capacity room }
 {

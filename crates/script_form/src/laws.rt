@@ -14,16 +14,20 @@ ghost use Rattle.script_form.specs.declared.parse_faults.ParseKind.{ParseKind};
 /// the canonical text of a script of the language are that script, for each greatest repository. The
 /// numbers of a script of the language are in the range that a run of it wants.
 pub fn law_of_lines()
-    ensures one { (greatest : ℕ) (ls : List (List ℕ)) (a b : Block) → IsScriptLines greatest ls a → IsScriptLines greatest ls b → a ≡ b }
-    ensures limits { (greatest : ℕ) (ls : List (List ℕ)) (script : Block) → IsScriptLines greatest ls script → IsPrintable greatest script }
+    ensures one { (greatest : ℕ) (ls : List (List ℕ)) (a b : Block) → IsScriptLines greatest ls a →
+        IsScriptLines greatest ls b → a ≡ b }
+    ensures limits { (greatest : ℕ) (ls : List (List ℕ)) (script : Block) → IsScriptLines greatest ls script →
+        IsPrintable greatest script }
     ensures ranges { (greatest : ℕ) (script : Block) → IsPrintable greatest script → IsBlock script }
-    ensures printed { (greatest : ℕ) (script : Block) → IsPrintable greatest script → IsScriptLines greatest (lines (script_text script)) script }
+    ensures printed { (greatest : ℕ) (script : Block) → IsPrintable greatest script →
+        IsScriptLines greatest (lines (script_text script)) script }
 {}
 
 /// What is parsed, printed and parsed again is the script that it was: for the text that `print` gives
 /// of a script that `parse` gave, `parse` gives just that script, or memory is wanting.
 pub fn law_of_reading_again()
-    ensures { (greatest : ℕ) (ls : List (List ℕ)) (script : Script) (result : Result Script ParseFault) → Parses greatest ls (Ok script) →
+    ensures { (greatest : ℕ) (ls : List (List ℕ)) (script : Script) (result : Result Script ParseFault) →
+        Parses greatest ls (Ok script) →
         Parses greatest (lines (script_text (block script.lines))) result → GivesAgain script result }
 {}
 
@@ -31,13 +35,17 @@ pub fn law_of_reading_again()
 /// to its line are the first that begin no script. So `parse` answers Ok exactly where there is a
 /// script.
 pub fn law_of_faults()
-    ensures begin { (greatest : ℕ) (ls more : List (List ℕ)) (script : Block) → IsScriptLines greatest (ls ++ more) script → BeginScript greatest ls }
+    ensures begin { (greatest : ℕ) (ls more : List (List ℕ)) (script : Block) →
+        IsScriptLines greatest (ls ++ more) script → BeginScript greatest ls }
     ensures there { (greatest : ℕ) (ls : List (List ℕ)) (line : ℕ) (what : ParseKind) → FaultAt greatest ls line what →
         BeginScript greatest (take line ls) → ⊥ }
-    ensures first { (greatest : ℕ) (ls : List (List ℕ)) (line : ℕ) (what : ParseKind) → FaultAt greatest ls line what → (m : ℕ) → m < line →
+    ensures first { (greatest : ℕ) (ls : List (List ℕ)) (line : ℕ) (what : ParseKind) → FaultAt greatest ls line what →
+        (m : ℕ) → m < line →
         BeginScript greatest (take m ls) }
-    ensures none { (greatest : ℕ) (ls : List (List ℕ)) (line : ℕ) (what : ParseKind) (script : Block) → FaultAt greatest ls line what →
+    ensures none { (greatest : ℕ) (ls : List (List ℕ)) (line : ℕ) (what : ParseKind) (script : Block) →
+        FaultAt greatest ls line what →
         IsScriptLines greatest ls script → ⊥ }
-    ensures open_block { (greatest : ℕ) (ls : List (List ℕ)) (line : ℕ) (what : ParseKind) (script : Block) → FaultBehind greatest ls line what →
+    ensures open_block { (greatest : ℕ) (ls : List (List ℕ)) (line : ℕ) (what : ParseKind) (script : Block) →
+        FaultBehind greatest ls line what →
         IsScriptLines greatest ls script → ⊥ }
 {}

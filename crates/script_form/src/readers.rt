@@ -135,7 +135,8 @@ impl ScriptReader {
 
     // With a line that is this row.
     fn with_row(self, alloc: Global, row: Flat) -> Result<ScriptReader, ParseFault>
-        ensures { (before : List (List ℕ)) (line : List ℕ) → HoldsLines before self → LineRow self.greatest line (row_of row) → row_depth (row_of row) ≤ 16 →
+        ensures { (before : List (List ℕ)) (line : List ℕ) → HoldsLines before self →
+            LineRow self.greatest line (row_of row) → row_depth (row_of row) ≤ 16 →
             FeedsLine self.greatest before line result }
     {
         let at = self.lines as u16 + 1;

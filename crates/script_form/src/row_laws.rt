@@ -12,12 +12,15 @@ ghost use Rattle.script_form.specs.RowTexts.{RowInLimits, RowUpTo, row_text, row
 /// in range for each greatest repository that its object keeps to. A row that tokens of scripts spell is
 /// in its limits, and its object keeps to the greatest repository for which they are in range.
 pub fn law_of_rows()
-    ensures one { (a b : Row) (tokens : List Token) → SpellsRow a tokens → SpellsRow b tokens → row_depth a ≤ 16 → a ≡ b }
+    ensures one { (a b : Row) (tokens : List Token) → SpellsRow a tokens → SpellsRow b tokens →
+        row_depth a ≤ 16 → a ≡ b }
     ensures spelled { (a : Row) → RowInLimits a → SpellsRow a (row_tokens a) }
     ensures text { (a : Row) → RowInLimits a → IsTokens (row_text a) (row_tokens a) }
-    ensures in_range { (greatest : ℕ) (a : Row) → RowInLimits a → RowUpTo greatest a → in_range greatest (row_tokens a) ≡ true }
+    ensures in_range { (greatest : ℕ) (a : Row) → RowInLimits a → RowUpTo greatest a →
+        in_range greatest (row_tokens a) ≡ true }
     ensures limits { (a : Row) (tokens : List Token) → SpellsRow a tokens → AreTokens tokens → RowInLimits a }
-    ensures objects { (greatest : ℕ) (a : Row) (tokens : List Token) → SpellsRow a tokens → objects_fit greatest tokens ≡ true → RowUpTo greatest a }
+    ensures objects { (greatest : ℕ) (a : Row) (tokens : List Token) → SpellsRow a tokens →
+        objects_fit greatest tokens ≡ true → RowUpTo greatest a }
 {}
 
 /// Scripts with the same rows are the same.

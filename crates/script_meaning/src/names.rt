@@ -125,7 +125,8 @@ impl Names {
 
     /// The value of the name. None where it was never set.
     pub fn get(&self, name: &[u8]) -> Option<&Value>
-        ensures { MatchOption result (name_value self.now name.now ≡ Nothing) (λ v. name_value self.now name.now ≡ v.now) }
+        ensures { MatchOption result (name_value self.now name.now ≡ Nothing)
+            (λ v. name_value self.now name.now ≡ v.now) }
     {
         let key = key_of(name);
         for entry in &self.entries {

@@ -34,7 +34,11 @@ impl Machine {
         requires left { 0 < self.old.left }
         requires at { self.old.at + 1 < 2 ^ 64 }
         ensures ok { OnOk result (self.new ≡
-            record self.old { left = self.old.left - 1; at = 0; path = (record { after = self.old.at + 1; part = part }) ∷ self.old.path }) }
+            record self.old {
+              left = self.old.left - 1;
+              at = 0;
+              path = (record { after = self.old.at + 1; part = part }) ∷ self.old.path;
+            }) }
         ensures err { OnErr result (self.new ≡ self.old) }
     {
         let frame = Frame {

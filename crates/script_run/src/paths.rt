@@ -43,7 +43,8 @@ impl Path {
     /// Leaves the innermost part, at its end: for its next turn, or for the part around. Gives the
     /// place from where to go on. None where no part was entered.
     pub fn leave(&mut self) -> Option<usize>
-        ensures { MatchOption result ((left_from self.old ≡ None) × (self.new ≡ self.old)) (λ at. left_from self.old ≡ Some (at, self.new)) }
+        ensures { MatchOption result ((left_from self.old ≡ None) × (self.new ≡ self.old))
+            (λ at. left_from self.old ≡ Some (at, self.new)) }
     {
         match self.frames.pop() {
             None => None,

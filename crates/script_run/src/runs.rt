@@ -103,7 +103,8 @@ impl Run {
     /// The answer to a read: what the object holds. Takes no memory.
     pub fn give(&mut self, value: Value)
         requires { IsRead self.old.said }
-        ensures { (o : ObjectId) → self.old.said ≡ Some (Next.Read o) → self.new ≡ answered self.old (Got value) (Line.Read o value) }
+        ensures { (o : ObjectId) → self.old.said ≡ Some (Next.Read o) →
+            self.new ≡ answered self.old (Got value) (Line.Read o value) }
     {
         match mem::replace(&mut self.stop, None) {
             Some(Halt::Read(name, object)) => {
@@ -118,7 +119,8 @@ impl Run {
     /// The answer to a write: it was stored. Takes no memory.
     pub fn stored(&mut self)
         requires { IsWrite self.old.said }
-        ensures { (o : ObjectId) (a : Value) → self.old.said ≡ Some (Next.Write o a) → self.new ≡ answered self.old Stored (Line.Wrote o a) }
+        ensures { (o : ObjectId) (a : Value) → self.old.said ≡ Some (Next.Write o a) →
+            self.new ≡ answered self.old Stored (Line.Wrote o a) }
     {
         match mem::replace(&mut self.stop, None) {
             Some(Halt::Write(object, value)) => {
@@ -170,7 +172,8 @@ fn settle(
     waiting: &mut Option<Bytes>,
     machine: &mut Machine,
 ) -> Result<(), AllocError>
-    ensures ok { OnOk result ((waiting.new ≡ None) × (stand_of machine.new ≡ named waiting.old (stand_of machine.old))) }
+    ensures ok { OnOk result ((waiting.new ≡ None) ×
+        (stand_of machine.new ≡ named waiting.old (stand_of machine.old))) }
     ensures err { OnErr result ((waiting.new ≡ waiting.old) × (machine.new ≡ machine.old)) }
     ensures none { waiting.old ≡ None → machine.new ≡ machine.old }
     ensures lines { machine.new.lines ≡ machine.old.lines }

@@ -25,7 +25,8 @@ fn set_name(
 ) -> Result<Option<Halt>, AllocError>
     requires term { IsTerm (term expression.now) }
     requires passes { MayPass machine.old }
-    ensures { Arrives (spec.begun_at (counted (stand_of machine.old)) (Stmt-F.Let line name.now expression.now)) result machine.old machine.new }
+    ensures { Arrives (spec.begun_at (counted (stand_of machine.old)) (Stmt-F.Let line name.now expression.now)) result
+        machine.old machine.new }
 {
     match evaluate(alloc, &machine.names, expression)? {
         Ok(value) => {
@@ -47,7 +48,8 @@ fn read(
 ) -> Result<Option<Halt>, AllocError>
     requires spot { IsSpot (spot place.now) }
     requires passes { MayPass machine.old }
-    ensures { Arrives (spec.begun_at (counted (stand_of machine.old)) (Stmt-F.Read line name.now place.now)) result machine.old machine.new }
+    ensures { Arrives (spec.begun_at (counted (stand_of machine.old)) (Stmt-F.Read line name.now place.now)) result
+        machine.old machine.new }
 {
     match object_at(alloc, &machine.names, place)? {
         Ok(object) => Ok(Some(Halt::Read(name.copy(alloc)?, object))),
@@ -64,7 +66,8 @@ fn write(
 ) -> Result<Option<Halt>, AllocError>
     requires range { IsSpot (spot place.now) × IsTerm (term expression.now) }
     requires passes { MayPass machine.old }
-    ensures { Arrives (spec.begun_at (counted (stand_of machine.old)) (Stmt-F.Write line place.now expression.now)) result machine.old machine.new }
+    ensures { Arrives (spec.begun_at (counted (stand_of machine.old)) (Stmt-F.Write line place.now expression.now))
+        result machine.old machine.new }
 {
     match object_at(alloc, &machine.names, place)? {
         Ok(object) => match evaluate(alloc, &machine.names, expression)? {
@@ -83,7 +86,8 @@ fn print(
 ) -> Result<Option<Halt>, AllocError>
     requires term { IsTerm (term expression.now) }
     requires passes { MayPass machine.old }
-    ensures { Arrives (spec.begun_at (counted (stand_of machine.old)) (Stmt-F.Print line expression.now)) result machine.old machine.new }
+    ensures { Arrives (spec.begun_at (counted (stand_of machine.old)) (Stmt-F.Print line expression.now)) result
+        machine.old machine.new }
 {
     match evaluate(alloc, &machine.names, expression)? {
         Ok(value) => {
@@ -137,7 +141,8 @@ fn repeat(
 fn begin(alloc: Global, stmt: &Stmt, machine: &mut Machine) -> Result<Option<Halt>, AllocError>
     requires range { IsStep (plain stmt.now) }
     requires passes { MayPass machine.old }
-    ensures { Arrives (spec.begun_at (counted (stand_of machine.old)) (out-Stmt stmt.now)) result machine.old machine.new }
+    ensures { Arrives (spec.begun_at (counted (stand_of machine.old)) (out-Stmt stmt.now)) result
+        machine.old machine.new }
 {
     match stmt {
         Stmt::Let(line, name, value) => Ok(set_name(alloc, *line, name, value, machine)?),
@@ -189,7 +194,8 @@ fn advance(
 
 // The end of a part: its next turn, or past its statement, or the end of the script.
 fn end_part(machine: &mut Machine) -> Option<Halt>
-    ensures { ArrivesAt (spec.at_end (stand_of machine.old) (spec.left_from machine.old.path)) result machine.old machine.new }
+    ensures { ArrivesAt (spec.at_end (stand_of machine.old) (spec.left_from machine.old.path)) result
+        machine.old machine.new }
 {
     match machine.path.leave() {
         None => Some(Halt::End(Ending::Finished)),

@@ -16,7 +16,10 @@ impl<T: Storied> SeatLock<T> {
         requires pass { IsPassOf self.now pass.old }
         requires word { word < board_size self.now }
         ensures pass { IsPassOf self.now pass.new }
-        ensures kept { knows pass.new ≡ record (knows pass.old) { story = (knows pass.new).story; tests = (knows pass.old).tests ++ (word, result) ∷ [] } }
+        ensures kept { knows pass.new ≡ record (knows pass.old) {
+          story = (knows pass.new).story;
+          tests = (knows pass.old).tests ++ (word, result) ∷ [];
+        } }
         ensures carries { CarriesOn T.owner (knows pass.old) (knows pass.new).story }
         ensures may { T.may_hold (base_of self.now) (knows pass.new).story word result }
     {

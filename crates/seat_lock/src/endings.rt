@@ -16,7 +16,8 @@ impl<T: Storied> SeatLock<T> {
         requires passes { All (IsPassOf self.now) passes.items }
         ensures here { seat.new.table_id ≡ seat.old.table_id }
         ensures idle { (seat.new.me.0.stage ≡ Idle) × (length seat.new.me.0.parts ≡ vec_len passes + 1) }
-        ensures covers { Covers T.owner seat.new.me.0 seat.old.me.0 × All (λ p. Covers T.owner seat.new.me.0 p.me.0) passes.items }
+        ensures covers { Covers T.owner seat.new.me.0 seat.old.me.0 ×
+            All (λ p. Covers T.owner seat.new.me.0 p.me.0) passes.items }
     {
         while let Some(pass) = passes.pop() {
             self.table.shared.join_seat::<Gather>(seat, pass);

@@ -14,7 +14,8 @@ impl<T: Storied> Visit<'_, T> {
     /// through it.
     pub fn value(&mut self) -> &mut T
         requires inside { (x : T) × IsInside self.old x }
-        ensures* writes_back { sem 𝓛 (Lends (the_row (record { mir = named 1; lft = [] }) T.row T.Entry.row T.Storied) T.row self.entry result
+        ensures* writes_back { sem 𝓛 (Lends (the_row (record { mir = named 1; lft = [] }) T.row T.Entry.row T.Storied)
+            T.row self.entry result
             (with_value self.old)) }
         ensures value { (x : T) → IsInside self.old x → result.now ≡ x }
         ensures inside { (x : T) → IsInside (with_value self.old x) x }

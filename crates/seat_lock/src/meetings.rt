@@ -13,8 +13,12 @@ impl<T: Storied> SeatLock<T> {
         requires pass { IsPassOf self.now one.old × IsPassOf self.now other.old }
         ensures pass { IsPassOf self.now one.new × IsPassOf self.now other.new }
         ensures other { other.new.me ≡ other.old.me }
-        ensures one { one.new.me.0 ≡ record one.old.me.0 { story = longer one.old.me.0.story other.old.me.0.story; heard = one.new.me.0.heard } }
-        ensures learned { Begins one.old.me.0.story one.new.me.0.story × Begins other.old.me.0.story one.new.me.0.story ×
+        ensures one { one.new.me.0 ≡ record one.old.me.0 {
+          story = longer one.old.me.0.story other.old.me.0.story;
+          heard = one.new.me.0.heard;
+        } }
+        ensures learned { Begins one.old.me.0.story one.new.me.0.story ×
+            Begins other.old.me.0.story one.new.me.0.story ×
             HasOwn T.owner one.old.me.0.parts one.new.me.0.story }
     {
         let shared = &self.table.shared;
@@ -30,9 +34,13 @@ impl<T: Storied> SeatLock<T> {
     pub fn meet(&self, one: &mut Pass<T>, other: &mut Pass<T>)
         requires pass { IsPassOf self.now one.old × IsPassOf self.now other.old }
         ensures pass { IsPassOf self.now one.new × IsPassOf self.now other.new }
-        ensures one { knows one.new ≡ record (knows one.old) { story = longer (knows one.old).story (knows other.old).story } }
+        ensures one { knows one.new ≡ record (knows one.old) {
+          story = longer (knows one.old).story
+              (knows other.old).story;
+        } }
         ensures other { knows other.new ≡ record (knows other.old) { story = (knows one.new).story } }
-        ensures carries { CarriesOn T.owner (knows one.old) (knows one.new).story × CarriesOn T.owner (knows other.old) (knows one.new).story }
+        ensures carries { CarriesOn T.owner (knows one.old) (knows one.new).story ×
+            CarriesOn T.owner (knows other.old) (knows one.new).story }
     {
         self.hear(one, other);
         self.hear(other, one);

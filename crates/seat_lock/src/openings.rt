@@ -28,8 +28,10 @@ impl<T: Storied> SeatLock<T> {
     ) -> Result<(SeatLock<T>, Vec<Pass<T>>), (T, AllocError)>
         requires owners { (0 < length owners.now) × AllPairs (λ a b. a ≢ b) owners.now }
         requires state { T.stands state state × (T.story state ≡ []) }
-        ensures lock { IfOk result (λ r. (owners_of r.0 ≡ owners.now) × (base_of r.0 ≡ state) × (board_size r.0 ≡ words)) }
-        ensures passes { IfOk result (λ r. All (IsPassOf r.0) r.1.items × (map knows r.1.items ≡ map (fresh state) owners.now)) }
+        ensures lock { IfOk result (λ r. (owners_of r.0 ≡ owners.now) × (base_of r.0 ≡ state) ×
+            (board_size r.0 ≡ words)) }
+        ensures passes { IfOk result (λ r. All (IsPassOf r.0) r.1.items ×
+            (map knows r.1.items ≡ map (fresh state) owners.now)) }
         ensures err { IfErr result (λ e. e.0 ≡ state) }
     {
         let Ok(passes) = Vec::with_capacity(alloc, owners.len()) else {
@@ -53,7 +55,8 @@ impl<T: Storied> SeatLock<T> {
     ) -> Result<(SeatLock<T>, Pass<T>), (T, AllocError)>
         requires owners { (0 < length owners.now) × AllPairs (λ a b. a ≢ b) owners.now }
         requires state { T.stands state state × (T.story state ≡ []) }
-        ensures lock { IfOk result (λ r. (owners_of r.0 ≡ owners.now) × (base_of r.0 ≡ state) × (board_size r.0 ≡ words)) }
+        ensures lock { IfOk result (λ r. (owners_of r.0 ≡ owners.now) × (base_of r.0 ≡ state) ×
+            (board_size r.0 ≡ words)) }
         ensures seat { IfOk result (λ r. (r.1.table_id ≡ r.0.table.shared.table_id) ×
             ((b : Snapshot T) × (b.value ≡ state) × (r.1.me ≡ (founder b owners.now, [])))) }
         ensures err { IfErr result (λ e. e.0 ≡ state) }

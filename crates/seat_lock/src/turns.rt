@@ -27,7 +27,8 @@ impl<T: Storied> SeatLock<T> {
         requires pass { IsPassOf self.now seat.old }
         ensures here { (seat.new.table_id ≡ seat.old.table_id) × (seat.new.me.1 ≡ seat.old.me.1) }
         ensures none { IfNone result (seat.new.me ≡ seat.old.me) }
-        ensures some { IfSome result (λ r. (t : ℕ) × (r ≡ t % 2 ^ 64) × (seat.new.me.0 ≡ record seat.old.me.0 { stage = Waiting t })) }
+        ensures some { IfSome result (λ r. (t : ℕ) × (r ≡ t % 2 ^ 64) ×
+            (seat.new.me.0 ≡ record seat.old.me.0 { stage = Waiting t })) }
     {
         let shared = &self.table.shared;
         let served = shared.peek(1);
@@ -44,7 +45,8 @@ impl<T: Storied> SeatLock<T> {
         requires pass { IsPassOf self.now seat.old }
         ensures here { (seat.new.table_id ≡ seat.old.table_id) × (seat.new.me.1 ≡ seat.old.me.1) }
         ensures none { IfNone result (seat.new.me ≡ seat.old.me) }
-        ensures some { IfSome result (λ r. (t : ℕ) × (r ≡ t % 2 ^ 64) × (seat.new.me.0 ≡ record seat.old.me.0 { stage = Waiting t })) }
+        ensures some { IfSome result (λ r. (t : ℕ) × (r ≡ t % 2 ^ 64) ×
+            (seat.new.me.0 ≡ record seat.old.me.0 { stage = Waiting t })) }
     {
         for looks in 0..LOOKS + YIELDS {
             if let Some(ticket) = self.draw_served(seat) {
@@ -64,7 +66,8 @@ impl<T: Storied> SeatLock<T> {
     fn draw(&self, seat: &mut Pass<T>) -> u64
         requires pass { IsPassOf self.now seat.old }
         ensures here { (seat.new.table_id ≡ seat.old.table_id) × (seat.new.me.1 ≡ seat.old.me.1) }
-        ensures ticket { (t : ℕ) × (result ≡ t % 2 ^ 64) × (seat.new.me.0 ≡ record seat.old.me.0 { stage = Waiting t }) }
+        ensures ticket { (t : ℕ) × (result ≡ t % 2 ^ 64) ×
+            (seat.new.me.0 ≡ record seat.old.me.0 { stage = Waiting t }) }
     {
         match self.draw_soon(seat) {
             Some(ticket) => ticket,
@@ -78,7 +81,8 @@ impl<T: Storied> SeatLock<T> {
         requires waits { seat.old.me.0.stage ≡ Waiting (ticket_of seat.old.me.0.stage) }
         requires ticket { ticket ≡ ticket_of seat.old.me.0.stage % 2 ^ 64 }
         ensures here { seat.new.table_id ≡ seat.old.table_id }
-        ensures took { (x : T) × (l : List T.Entry) × Took (meaning T.story T.stands T.owner T.may_hold) seat.old.me seat.new.me x l }
+        ensures took { (x : T) × (l : List T.Entry) ×
+            Took (meaning T.story T.stands T.owner T.may_hold) seat.old.me seat.new.me x l }
     {
         let shared = &self.table.shared;
         let mut looks = 0;
@@ -113,7 +117,8 @@ impl<T: Storied> SeatLock<T> {
     pub fn enter<R: Wait>(&self, rt: &R, pass: Pass<T>) -> Visit<'_, T>
         requires pass { IsPassOf self.now pass }
         ensures lock { lock_of result ≡ self.now }
-        ensures value { (x : T) × IsInside result x × T.stands (base_of self.now) x × (T.story x ≡ (sees result).story) }
+        ensures value { (x : T) × IsInside result x × T.stands (base_of self.now) x ×
+            (T.story x ≡ (sees result).story) }
         ensures carries { CarriesOn T.owner (knows pass) (sees result).story }
         ensures kept { sees result ≡ record (knows pass) { story = (sees result).story } }
         ensures nothing { has_noted result ≡ false }

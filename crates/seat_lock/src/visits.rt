@@ -50,7 +50,8 @@ impl<T: Storied> Visit<'_, T> {
     /// Ends the visit, and lets the next pass in. The value stands for the story that the visit
     /// sees.
     pub fn leave(self) -> Pass<T>
-        requires stands { (x : T) × IsInside self x × T.stands (base_of (lock_of self)) x × (T.story x ≡ (sees self).story) }
+        requires stands { (x : T) × IsInside self x × T.stands (base_of (lock_of self)) x ×
+            (T.story x ≡ (sees self).story) }
         ensures pass { IsPassOf (lock_of self.entry) result }
         ensures kept { knows result ≡ sees self.entry }
     {

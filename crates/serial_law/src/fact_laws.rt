@@ -25,12 +25,16 @@ ghost use Rattle.serial_law.specs.Runs.{Position, log_at, sent_before, whole_at}
 /// An attempt is decided at its home alone, in one way, and nothing is learned of it there. What is
 /// learned of it elsewhere agrees with the decision in its home's durable log.
 pub fn decisions_agree()
-    ensures home { (p : Position) (r : ℕ) (s : StampParts) (d : Decision) → Has (effect.Decide s d) (log_at p (repository r)) → s.home ≡ r }
-    ensures once { (p : Position) (r : ℕ) (s : StampParts) (d e : Decision) → Has (effect.Decide s d) (log_at p (repository r)) →
+    ensures home { (p : Position) (r : ℕ) (s : StampParts) (d : Decision) →
+        Has (effect.Decide s d) (log_at p (repository r)) → s.home ≡ r }
+    ensures once { (p : Position) (r : ℕ) (s : StampParts) (d e : Decision) →
+        Has (effect.Decide s d) (log_at p (repository r)) →
         Has (effect.Decide s e) (log_at p (repository r)) → d ≡ e }
-    ensures apart { (p : Position) (r : ℕ) (s : StampParts) (d : Decision) (c : Bool) → Has (effect.Decide s d) (log_at p (repository r)) →
+    ensures apart { (p : Position) (r : ℕ) (s : StampParts) (d : Decision) (c : Bool) →
+        Has (effect.Decide s d) (log_at p (repository r)) →
         Has (effect.Learn s c) (log_at p (repository r)) → ⊥ }
-    ensures learned { (p : Position) (r : ℕ) (s : StampParts) (c : Bool) → Has (effect.Learn s c) (log_at p (repository r)) →
+    ensures learned { (p : Position) (r : ℕ) (s : StampParts) (c : Bool) →
+        Has (effect.Learn s c) (log_at p (repository r)) →
         repositories.IsDecidedAt (λ k. log_at p (repository k)) s c }
 {}
 
@@ -44,24 +48,29 @@ pub fn answers_were_sent()
 /// Each answer that a try got, and each refusal, was sent by the repository of the object that was asked
 /// for. Of all runs of the log.
 pub fn answers_come_from_there()
-    ensures { (p : Position) (b : ℕ) → Every (IsAnsweredThere p.script b (sent_before p)) (tries (book (log_at p (broker b)))) }
+    ensures { (p : Position) (b : ℕ) → Every (IsAnsweredThere p.script b (sent_before p))
+        (tries (book (log_at p (broker b)))) }
 {}
 
 /// One pseudotime carries one request: all Reads and Writes that were ever sent with it are equal.
 pub fn one_request_each()
-    ensures reads { (p : Position) (b : ℕ) (to two : NodeId) (x : TimeParts) (o u : ObjectId) → WasSent (sent_before p) (broker b) to (message.Read x o) →
+    ensures reads { (p : Position) (b : ℕ) (to two : NodeId) (x : TimeParts) (o u : ObjectId) →
+        WasSent (sent_before p) (broker b) to (message.Read x o) →
         WasSent (sent_before p) (broker b) two (message.Read x u) → o ≡ u }
     ensures writes { (p : Position) (b : ℕ) (to two : NodeId) (x : TimeParts) (o u : ObjectId) (v w : Value) →
-        WasSent (sent_before p) (broker b) to (message.Write x o v) → WasSent (sent_before p) (broker b) two (message.Write x u w) → (o ≡ u) × (v ≡ w) }
+        WasSent (sent_before p) (broker b) to (message.Write x o v) →
+        WasSent (sent_before p) (broker b) two (message.Write x u w) → (o ≡ u) × (v ≡ w) }
     ensures apart { (p : Position) (b : ℕ) (to two : NodeId) (x : TimeParts) (o u : ObjectId) (w : Value) →
-        WasSent (sent_before p) (broker b) to (message.Read x o) → WasSent (sent_before p) (broker b) two (message.Write x u w) → ⊥ }
+        WasSent (sent_before p) (broker b) to (message.Read x o) →
+        WasSent (sent_before p) (broker b) two (message.Write x u w) → ⊥ }
 {}
 
 /// A read answers what its own attempt wrote last to the object before, where such a write was stored.
 pub fn reads_see_own_writes()
     ensures { (p : Position) (x : TimeParts) (v : Value) (o : ObjectId) (y : TimeParts) (w : Value) →
         WasSent (sent_before p) (broker x.stamp.broker) (repository o.repository) (message.Read x o) →
-        WasSent (sent_before p) (repository o.repository) (broker x.stamp.broker) (message.Value x v) → StoredBefore (sent_before p) x o y w →
+        WasSent (sent_before p) (repository o.repository) (broker x.stamp.broker) (message.Value x v) →
+        StoredBefore (sent_before p) x o y w →
         ((z : TimeParts) (u : Value) → StoredBefore (sent_before p) x o z u → lt y z ≡ false) → v ≡ w }
 {}
 
@@ -69,7 +78,8 @@ pub fn reads_see_own_writes()
 /// answers before it, Begin and Withdraw name an attempt and its home, and a Commit was sent only where
 /// the whole transcript stands and the script is finished.
 pub fn requests_are_the_scripts()
-    ensures { (p : Position) (b : ℕ) (to : NodeId) (m : Message) → Has (record { from = broker b; to = to; message = m }) (sent_before p) →
+    ensures { (p : Position) (b : ℕ) (to : NodeId) (m : Message) →
+        Has (record { from = broker b; to = to; message = m }) (sent_before p) →
         PostHolds p.script b (tries (book (log_at p (broker b)))) to m }
 {}
 
@@ -79,9 +89,11 @@ pub fn logs_fit()
     ensures repositories { (p : Position) (r : ℕ) → repositories.IsTidy r (log_at p (repository r)) }
     ensures brokers { (p : Position) (b : ℕ) → brokers.IsTidy p.script b (log_at p (broker b)) }
     ensures stamps { (p : Position) (b : ℕ) → Distinct (tries (book (log_at p (broker b)))) }
-    ensures puts { (p : Position) (r : ℕ) (o : ObjectId) (x : TimeParts) (v : Value) → Has (effect.Put o x v) (log_at p (repository r)) →
+    ensures puts { (p : Position) (r : ℕ) (o : ObjectId) (x : TimeParts) (v : Value) →
+        Has (effect.Put o x v) (log_at p (repository r)) →
         repositories.WriteSent (sent_before p) r x o v }
-    ensures commits { (p : Position) (r : ℕ) (s : StampParts) → Has (effect.Decide s decision.Committed) (log_at p (repository r)) →
+    ensures commits { (p : Position) (r : ℕ) (s : StampParts) →
+        Has (effect.Decide s decision.Committed) (log_at p (repository r)) →
         WasSent (sent_before p) (broker s.broker) (repository r) (message.Commit s) }
 {}
 

@@ -39,7 +39,8 @@ pub fn law_serial()
 /// Nothing. A put that a retirement gave up isn't that one, so the logs as they stand tell the whole map,
 /// and no deed need be carried out for it.
 pub fn law_finals()
-    ensures places { (p : Position) (o : ObjectId) → value_at (last_values (run_at p)) o ≡ value_at (finals (whole_at p)) o }
+    ensures places { (p : Position) (o : ObjectId) →
+        value_at (last_values (run_at p)) o ≡ value_at (finals (whole_at p)) o }
     ensures facts { (k : RunLogs) (ever : List Post) → RunFacts k ever → HoldsAll k (finals k) }
 {}
 
@@ -47,7 +48,8 @@ pub fn law_finals()
 /// all versions that ever stood.
 pub fn law_before()
     ensures places { (p : Position) (s : StampParts) → HoldsBefore (whole_at p) s (before (whole_at p) s) }
-    ensures facts { (k : RunLogs) (ever : List Post) → RunFacts k ever → (s : StampParts) → HoldsBefore k s (before k s) }
+    ensures facts { (k : RunLogs) (ever : List Post) → RunFacts k ever → (s : StampParts) →
+        HoldsBefore k s (before k s) }
 {}
 
 /// Each End of an attempt of the run has its cause in the logs, or in older ones that were retired: a
@@ -61,7 +63,8 @@ pub fn law_before()
 /// script, or that no clock was left.
 pub fn law_causes()
     ensures ends { (p : Position) → Causes (run_at p) (olds_at p) (happened_before p) }
-    ensures spent { (p : Position) (b i c : ℕ) (late early : List Effect) → log_at p (broker b) ≡ late ++ (effect.End i (outcome.Spent c) ∷ early) →
+    ensures spent { (p : Position) (b i c : ℕ) (late early : List Effect) →
+        log_at p (broker b) ≡ late ++ (effect.End i (outcome.Spent c) ∷ early) →
         MayTry i (book early).acts (IsSpent (book early) c) }
     ensures limits { (p : Position) (b : ℕ) → Every IsWithinLimits (book (log_at p (broker b))).acts }
     ensures added { (p : AnyPlace) (b i : ℕ) (o : Outcome) (late early : List Effect) →

@@ -16,7 +16,8 @@ use crate::{law_causes, law_facts, law_finals, law_serial};
 /// other plans the earlier runs had that left its logs, and whatever was retired between them. Of a
 /// committed attempt the puts stand, but for what a retirement gave up.
 pub fn law_of_serial_runs()
-    ensures { (plan : Plan) (asked : List Asked) (t : Trace) → IsOfLanguage plan → IsLegal plan asked t → IsSerialOver plan t }
+    ensures { (plan : Plan) (asked : List Asked) (t : Trace) → IsOfLanguage plan → IsLegal plan asked t →
+        IsSerialOver plan t }
 {
     law_serial();
 }
@@ -24,7 +25,8 @@ pub fn law_of_serial_runs()
 /// What the objects hold by the logs at the end, as a report shows it, is what all committed deeds leave,
 /// also where retirements gave up older versions: so the finals of a report are the committed ones.
 pub fn law_of_finals()
-    ensures { (plan : Plan) (asked : List Asked) (t : Trace) → IsOfLanguage plan → IsLegal plan asked t → HoldsFinals plan t }
+    ensures { (plan : Plan) (asked : List Asked) (t : Trace) → IsOfLanguage plan → IsLegal plan asked t →
+        HoldsFinals plan t }
 {
     law_finals();
 }
@@ -33,7 +35,8 @@ pub fn law_of_finals()
 /// to, a read, a mark or a version above the write that was refused, or a mark above the read that was,
 /// which its repository answered so, in this run or in an earlier one.
 pub fn law_of_reasons()
-    ensures { (plan : Plan) (asked : List Asked) (t : Trace) → IsOfLanguage plan → IsLegal plan asked t → HaveReasons plan t }
+    ensures { (plan : Plan) (asked : List Asked) (t : Trace) → IsOfLanguage plan → IsLegal plan asked t →
+        HaveReasons plan t }
 {
     law_facts();
     law_causes();
@@ -45,13 +48,15 @@ pub fn law_of_reasons()
 /// there still, of an attempt that was committed or of its own, unless the reader itself was aborted. Of
 /// what a retirement gave up the retired volume has it.
 pub fn law_of_answers()
-    ensures { (plan : Plan) (asked : List Asked) (t : Trace) → IsOfLanguage plan → IsLegal plan asked t → KeepsAnswers plan t }
+    ensures { (plan : Plan) (asked : List Asked) (t : Trace) → IsOfLanguage plan → IsLegal plan asked t →
+        KeepsAnswers plan t }
 {}
 
 /// An act is spent only where a new attempt of it might begin, and no clock is left above those of the log
 /// and the one that its refusals showed.
 pub fn law_of_spent_acts()
-    ensures { (plan : Plan) (asked : List Asked) (t : Trace) → IsOfLanguage plan → IsLegal plan asked t → SpendsRightly plan t }
+    ensures { (plan : Plan) (asked : List Asked) (t : Trace) → IsOfLanguage plan → IsLegal plan asked t →
+        SpendsRightly plan t }
 {
     law_causes();
 }

@@ -21,7 +21,8 @@ pub fn law_of_questions()
       lines = (talked_alone (denote script) m).lines;
       world = left_by (denote script) m;
     }) }
-    ensures answered { (script : Block) (ans : List Answer) → IsTalkOf (talked (denote script) ans) (meaning.talk script ans) }
+    ensures answered { (script : Block) (ans : List Answer) →
+        IsTalkOf (talked (denote script) ans) (meaning.talk script ans) }
     ensures stops { (t : Tree) (ans : List Answer) → (talked t ans).stop ≡ stop t ans }
 {}
 
@@ -34,9 +35,12 @@ pub fn law_of_answers()
     ensures front { (script : Block) (m : Objects) (before rest : List Line) (l : Line) (q : Request) →
         (meaning.perform script m).lines ≡ before ++ (l ∷ rest) → request_of l ≡ Some q →
         IsTalkOf (record { lines = before; stop = Asks q }) (meaning.talk script (answers_of before)) }
-    ensures fronts { (lines : List Line) (pre post : List Answer) (a : Answer) → answers_of lines ≡ pre ++ (a ∷ post) → (before : List Line) × (l : Line) ×
-        (rest : List Line) × (q : Request) × (lines ≡ before ++ (l ∷ rest)) × (request_of l ≡ Some q) × (answers_of before ≡ pre) }
-    ensures more { (script : Block) (ans more : List Answer) → IsFrontOf (meaning.talk script ans).lines (meaning.talk script (ans ++ more)).lines }
+    ensures fronts { (lines : List Line) (pre post : List Answer) (a : Answer) → answers_of lines ≡ pre ++ (a ∷ post) →
+        (before : List Line) × (l : Line) ×
+        (rest : List Line) × (q : Request) × (lines ≡ before ++ (l ∷ rest)) × (request_of l ≡ Some q) ×
+        (answers_of before ≡ pre) }
+    ensures more { (script : Block) (ans more : List Answer) →
+        IsFrontOf (meaning.talk script ans).lines (meaning.talk script (ans ++ more)).lines }
 {}
 
 /// Answers that agree with a map: each was what the map held then, with the script's own writes in it.
@@ -45,13 +49,18 @@ pub fn law_of_answers()
 /// those that it has alone over the map.
 pub fn law_of_agreement()
     ensures begins { (t : Tree) (m : Objects) → AnswersOf t [] m × (left_after t [] m ≡ m) }
-    ensures read { (t : Tree) (ans : List Answer) (m : Objects) (o : ObjectId) → AnswersOf t ans m → stop t ans ≡ Asks (ToRead o) →
+    ensures read { (t : Tree) (ans : List Answer) (m : Objects) (o : ObjectId) → AnswersOf t ans m →
+        stop t ans ≡ Asks (ToRead o) →
         AnswersOf t (ans ++ Got (value_at (left_after t ans m) o) ∷ []) m ×
         (left_after t (ans ++ Got (value_at (left_after t ans m) o) ∷ []) m ≡ left_after t ans m) }
-    ensures write { (t : Tree) (ans : List Answer) (m : Objects) (o : ObjectId) (a : Value) → AnswersOf t ans m → stop t ans ≡ Asks (ToWrite o a) →
-        AnswersOf t (ans ++ Stored ∷ []) m × (left_after t (ans ++ Stored ∷ []) m ≡ finite.insert (left_after t ans m) o a) }
-    ensures few { (script : Block) (ans : List Answer) (m : Objects) → AnswersOf (denote script) ans m → length ans ≤ 10000 }
-    ensures whole { (t : Tree) (ans : List Answer) (m : Objects) (e : Ending) → AnswersOf t ans m → stop t ans ≡ Over e → (talked_alone t m ≡ talked t ans) ×
+    ensures write { (t : Tree) (ans : List Answer) (m : Objects) (o : ObjectId) (a : Value) → AnswersOf t ans m →
+        stop t ans ≡ Asks (ToWrite o a) →
+        AnswersOf t (ans ++ Stored ∷ []) m ×
+        (left_after t (ans ++ Stored ∷ []) m ≡ finite.insert (left_after t ans m) o a) }
+    ensures few { (script : Block) (ans : List Answer) (m : Objects) → AnswersOf (denote script) ans m →
+        length ans ≤ 10000 }
+    ensures whole { (t : Tree) (ans : List Answer) (m : Objects) (e : Ending) → AnswersOf t ans m →
+        stop t ans ≡ Over e → (talked_alone t m ≡ talked t ans) ×
         (left_by t m ≡ left_after t ans m) }
 {}
 
@@ -59,8 +68,10 @@ pub fn law_of_agreement()
 /// it is to what is asked then, those before one are such answers too, and there are at most 10,000.
 pub fn law_of_asking()
     ensures begins { (t : Tree) → AreAsked t [] }
-    ensures next { (t : Tree) (ans : List Answer) (a : Answer) → AreAsked t ans → IsAnswerTo (stop t ans) a → AreAsked t (ans ++ a ∷ []) }
-    ensures front { (t : Tree) (pre post : List Answer) (a : Answer) → AreAsked t (pre ++ a ∷ post) → AreAsked t pre × IsAnswerTo (stop t pre) a }
+    ensures next { (t : Tree) (ans : List Answer) (a : Answer) → AreAsked t ans → IsAnswerTo (stop t ans) a →
+        AreAsked t (ans ++ a ∷ []) }
+    ensures front { (t : Tree) (pre post : List Answer) (a : Answer) → AreAsked t (pre ++ a ∷ post) →
+        AreAsked t pre × IsAnswerTo (stop t pre) a }
     ensures few { (script : Block) (ans : List Answer) → AreAsked (denote script) ans → length ans ≤ 10000 }
 {}
 
@@ -71,11 +82,13 @@ pub fn law_of_requests()
     ensures requests { (script : Block) → BlockInRange script → AsksInRange (denote script) }
     ensures stops { (script : Block) (answers : List Answer) → BlockInRange script → Every AnswerHasBytes answers →
         StopInRange (meaning.talk script answers).stop }
-    ensures after { (t : Tree) (answers : List Answer) → AsksInRange t → Every AnswerHasBytes answers → StopInRange (stop t answers) }
+    ensures after { (t : Tree) (answers : List Answer) → AsksInRange t → Every AnswerHasBytes answers →
+        StopInRange (stop t answers) }
 {}
 
 /// In every world that answers requests, a script does what the walk of that world through its tree
 /// of questions does.
 pub fn law_of_worlds<W>()
-    ensures { (answers : Answers W) (script : Block) (w : W) → meaning.carried_out answers script w ≡ walk answers (denote script) [] w }
+    ensures { (answers : Answers W) (script : Block) (w : W) →
+        meaning.carried_out answers script w ≡ walk answers (denote script) [] w }
 {}

@@ -21,7 +21,8 @@ fn set_name(
     work: &mut Work,
 ) -> Result<Option<Ending>, AllocError>
     requires { IsTerm (term expression.now) }
-    ensures { IfOk result (λ r. meaning.begun meaning.over_objects (Let line name.now (term expression.now)) (state_of work.old) ≡ came_to r work.new) }
+    ensures { IfOk result (λ r. meaning.begun meaning.over_objects (Let line name.now (term expression.now))
+        (state_of work.old) ≡ came_to r work.new) }
 {
     match evaluate(alloc, &work.names, expression)? {
         Ok(value) => {
@@ -41,7 +42,8 @@ fn read(
     work: &mut Work,
 ) -> Result<Option<Ending>, AllocError>
     requires { IsSpot (spot place.now) }
-    ensures { IfOk result (λ r. meaning.begun meaning.over_objects (Read line name.now (spot place.now)) (state_of work.old) ≡ came_to r work.new) }
+    ensures { IfOk result (λ r. meaning.begun meaning.over_objects (Read line name.now (spot place.now))
+        (state_of work.old) ≡ came_to r work.new) }
 {
     match object_at(alloc, &work.names, place)? {
         Ok(object) => {
@@ -64,7 +66,8 @@ fn write(
     work: &mut Work,
 ) -> Result<Option<Ending>, AllocError>
     requires { IsSpot (spot place.now) × IsTerm (term expression.now) }
-    ensures { IfOk result (λ r. meaning.begun meaning.over_objects (Write line (spot place.now) (term expression.now)) (state_of work.old) ≡
+    ensures { IfOk result (λ r. meaning.begun meaning.over_objects (Write line (spot place.now) (term expression.now))
+        (state_of work.old) ≡
         came_to r work.new) }
 {
     match object_at(alloc, &work.names, place)? {
@@ -88,7 +91,8 @@ fn print(
     work: &mut Work,
 ) -> Result<Option<Ending>, AllocError>
     requires { IsTerm (term expression.now) }
-    ensures { IfOk result (λ r. meaning.begun meaning.over_objects (Print line (term expression.now)) (state_of work.old) ≡ came_to r work.new) }
+    ensures { IfOk result (λ r. meaning.begun meaning.over_objects (Print line (term expression.now))
+        (state_of work.old) ≡ came_to r work.new) }
 {
     match evaluate(alloc, &work.names, expression)? {
         Ok(value) => {
@@ -103,7 +107,8 @@ fn print(
 #[cycle(statements)]
 fn all(alloc: Global, part: &[Stmt], work: &mut Work) -> Result<Option<Ending>, AllocError>
     requires { IsBlock (block part.now) }
-    ensures { IfOk result (λ r. meaning.all_done meaning.over_objects (block part.now) (state_of work.old) ≡ came_to r work.new) }
+    ensures { IfOk result (λ r. meaning.all_done meaning.over_objects (block part.now) (state_of work.old) ≡
+        came_to r work.new) }
 {
     for stmt in part {
         match one(alloc, stmt, work)? {
@@ -123,7 +128,8 @@ fn turns(
     work: &mut Work,
 ) -> Result<Option<Ending>, AllocError>
     requires { IsBlock (block part.now) }
-    ensures { IfOk result (λ r. meaning.turns meaning.over_objects count (meaning.all_done meaning.over_objects (block part.now)) (state_of work.old) ≡
+    ensures { IfOk result (λ r. meaning.turns meaning.over_objects count
+        (meaning.all_done meaning.over_objects (block part.now)) (state_of work.old) ≡
         came_to r work.new) }
 {
     'turns: for _turn in 0..count {
@@ -139,7 +145,8 @@ fn turns(
 #[cycle(statements)]
 fn begun(alloc: Global, stmt: &Stmt, work: &mut Work) -> Result<Option<Ending>, AllocError>
     requires { IsStep (plain stmt.now) }
-    ensures { IfOk result (λ r. meaning.begun meaning.over_objects (plain stmt.now) (state_of work.old) ≡ came_to r work.new) }
+    ensures { IfOk result (λ r. meaning.begun meaning.over_objects (plain stmt.now) (state_of work.old) ≡
+        came_to r work.new) }
 {
     match stmt {
         Stmt::Let(line, name, value) => Ok(set_name(alloc, *line, name, value, work)?),
@@ -170,7 +177,8 @@ fn begun(alloc: Global, stmt: &Stmt, work: &mut Work) -> Result<Option<Ending>, 
 #[cycle(statements)]
 fn one(alloc: Global, stmt: &Stmt, work: &mut Work) -> Result<Option<Ending>, AllocError>
     requires { IsStep (plain stmt.now) }
-    ensures { IfOk result (λ r. meaning.done meaning.over_objects (plain stmt.now) (state_of work.old) ≡ came_to r work.new) }
+    ensures { IfOk result (λ r. meaning.done meaning.over_objects (plain stmt.now) (state_of work.old) ≡
+        came_to r work.new) }
 {
     if work.left == 0 {
         return Ok(Some(Ending::Failed {

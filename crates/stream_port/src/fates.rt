@@ -31,6 +31,10 @@ pub trait Fates {
 
     /// The fate of a message. Where memory is wanting, the list is as before.
     fn fate(&mut self, number: u32, tag: u8) -> Result<Fate, AllocError>
-        ensures ok { IfOk result (λ fate. asked self.new ≡ asked self.old ++ record { number = number; tag = tag; fate = fate } ∷ []) }
+        ensures ok { IfOk result (λ fate. asked self.new ≡ asked self.old ++ record {
+          number = number;
+          tag = tag;
+          fate = fate;
+        } ∷ []) }
         ensures err { OnErr result (asked self.new ≡ asked self.old) };
 }

@@ -42,7 +42,8 @@ impl Clock for FixedClock {
     ghost answers = { λ c. Some (replicate c.calls c.moment) };
 
     fn moment(&mut self) -> u64
-        ensures answers { Adds (Some (replicate self.old.calls self.old.moment)) (Some (replicate self.new.calls self.new.moment)) (result ∷ []) }
+        ensures answers { Adds (Some (replicate self.old.calls self.old.moment))
+            (Some (replicate self.new.calls self.new.moment)) (result ∷ []) }
         ensures moment { result ≡ self.old.moment }
         ensures counted { self.new ≡ record { moment = self.old.moment; calls = next_count self.old.calls } }
     {

@@ -104,7 +104,11 @@ impl Fates for MemoryFates {
     ghost asked = { λ f. f.asked };
 
     fn fate(&mut self, number: u32, tag: u8) -> Result<Fate, AllocError>
-        ensures ok { IfOk result (λ fate. self.new.asked ≡ self.old.asked ++ record { number = number; tag = tag; fate = fate } ∷ []) }
+        ensures ok { IfOk result (λ fate. self.new.asked ≡ self.old.asked ++ record {
+          number = number;
+          tag = tag;
+          fate = fate;
+        } ∷ []) }
         ensures err { OnErr result (self.new.asked ≡ self.old.asked) }
         // The rules decide, and stay.
         ensures ruled { IfOk result (λ fate. fate ≡ next_fate self.old tag) }

@@ -25,7 +25,14 @@ impl Model for MemorySink {
 
     ghost Value = { SinkParts };
 
-    ghost view = { λ s. record { taken = s.taken.items; most = s.most; fails = s.fails.items; calls = s.calls; faults = s.faults; starved = s.starved } };
+    ghost view = { λ s. record {
+      taken = s.taken.items;
+      most = s.most;
+      fails = s.fails.items;
+      calls = s.calls;
+      faults = s.faults;
+      starved = s.starved;
+    } };
 
     ghost invariant = { λ s. 1 ≤ s.most };
 }
@@ -74,7 +81,8 @@ impl Sink for MemorySink {
         ensures cause { HasCause self.old.faults self.new.faults result }
         // A call fails exactly where the list has its number or memory is wanting.
         ensures listed { Contains self.old.fails (next_count self.old.calls) → IsErr result }
-        ensures failed { IsErr result → Contains self.old.fails (next_count self.old.calls) ⊎ Rose self.old.starved self.new.starved }
+        ensures failed { IsErr result → Contains self.old.fails (next_count self.old.calls) ⊎
+            Rose self.old.starved self.new.starved }
         ensures most { IfOk result (λ n. n ≤ self.old.most) }
         ensures counted { self.new.calls ≡ next_count self.old.calls }
         ensures fails { (self.new.fails ≡ self.old.fails) × (self.new.most ≡ self.old.most) }

@@ -26,7 +26,8 @@ fn down_line(alloc: Global, node: NodeId, cause: DownCause) -> Result<Bytes, All
 
 /// Writes a text. The answer is the status: `written` where the sink took all of it.
 pub fn tell_text<O: Sink>(text: Result<Bytes, AllocError>, written: u8, sink: &mut O) -> u8
-    ensures { TellsText text written result (sinking (O.taken sink.old) (O.taken sink.new) (O.faults sink.old) (O.faults sink.new)) }
+    ensures { TellsText text written result (sinking (O.taken sink.old) (O.taken sink.new) (O.faults sink.old)
+        (O.faults sink.new)) }
 {
     let Ok(text) = text else {
         return 7;
@@ -46,7 +47,8 @@ fn tell_volumes<O: Sink, M: Medium>(
     openings: &[Opening<M>],
     sink: &mut O,
 ) -> u8
-    ensures { TellsVolumes object openings.now result (sinking (O.taken sink.old) (O.taken sink.new) (O.faults sink.old) (O.faults sink.new)) }
+    ensures { TellsVolumes object openings.now result
+        (sinking (O.taken sink.old) (O.taken sink.new) (O.faults sink.old) (O.faults sink.new)) }
 {
     match stand_of(openings) {
         Standing::Open => tell_text(history(alloc, object, node_log(openings)), 0, sink),
@@ -66,8 +68,10 @@ pub fn tell_history<O: Sink, S: Shelf>(
     sink: &mut O,
     shelf: &mut S,
 ) -> (u8, Vec<Kept<S::Medium>>)
-    ensures { AskedNothing S.Medium.Medium (shelf_sight S.Shelf shelf.old) (shelf_sight S.Shelf shelf.new) result.1.items result.0
-        ⊎ TellsHistory S.Medium.Medium (shelf_sight S.Shelf shelf.old) (shelf_sight S.Shelf shelf.new) object result.1.items
+    ensures { AskedNothing S.Medium.Medium (shelf_sight S.Shelf shelf.old)
+        (shelf_sight S.Shelf shelf.new) result.1.items result.0
+        ⊎ TellsHistory S.Medium.Medium (shelf_sight S.Shelf shelf.old)
+        (shelf_sight S.Shelf shelf.new) object result.1.items
         (sinking (O.taken sink.old) (O.taken sink.new) (O.faults sink.old) (O.faults sink.new)) result.0 }
 {
     let Ok(room) = Vec::with_capacity(alloc, 1_000) else {

@@ -17,6 +17,7 @@ ghost use Rattle.swallow_top.specs.Smooth.{IsFinished};
 pub fn law_done_is_finished()
     ensures { (plan : Plan) (logs : NodeId → List Effect) → IsOfLanguage plan →
         ((b : ℕ) → InRange plan.brokers b →
-        AllBegun plan b (counted_by plan b (logs (broker b))) × Every HasOutcome (counted_by plan b (logs (broker b))).acts) →
+        AllBegun plan b (counted_by plan b (logs (broker b))) ×
+        Every HasOutcome (counted_by plan b (logs (broker b))).acts) →
         Every IsFinished (acts_shown plan logs) }
 {}

@@ -20,7 +20,8 @@ use watch_command::watch;
 
 // Writes what came of a command. The answer is the status.
 fn tell_outcome<O: Sink>(outcome: Outcome, sink: &mut O) -> u8
-    ensures { TellsOutcome outcome result (sinking (O.taken sink.old) (O.taken sink.new) (O.faults sink.old) (O.faults sink.new)) }
+    ensures { TellsOutcome outcome result (sinking (O.taken sink.old) (O.taken sink.new) (O.faults sink.old)
+        (O.faults sink.new)) }
 {
     match outcome {
         Outcome::Told(text) => tell_text(Ok(text), 0, sink),
@@ -44,8 +45,10 @@ pub fn tell_map<O: Sink, S: Shelf>(
 ) -> (u8, Vec<Kept<S::Medium>>)
     requires low { 1 ≤ clock }
     requires high { clock ≤ 2 ^ 40 - 1 }
-    ensures { AskedNothing S.Medium.Medium (shelf_sight S.Shelf shelf.old) (shelf_sight S.Shelf shelf.new) result.1.items result.0
-        ⊎ TellsAnswer S.Medium.Medium (shelf_sight S.Shelf shelf.old) (shelf_sight S.Shelf shelf.new) (Question.AsOf repository (mark_at clock)) result.1.items
+    ensures { AskedNothing S.Medium.Medium (shelf_sight S.Shelf shelf.old)
+        (shelf_sight S.Shelf shelf.new) result.1.items result.0
+        ⊎ TellsAnswer S.Medium.Medium (shelf_sight S.Shelf shelf.old) (shelf_sight S.Shelf shelf.new)
+        (Question.AsOf repository (mark_at clock)) result.1.items
         (sinking (O.taken sink.old) (O.taken sink.new) (O.faults sink.old) (O.faults sink.new)) result.0 }
 {
     let mark = mark_of(clock);
@@ -61,8 +64,10 @@ pub fn tell_audit<O: Sink, S: Shelf>(
     sink: &mut O,
     shelf: &mut S,
 ) -> (u8, Vec<Kept<S::Medium>>)
-    ensures { AskedNothing S.Medium.Medium (shelf_sight S.Shelf shelf.old) (shelf_sight S.Shelf shelf.new) result.1.items result.0
-        ⊎ TellsAnswer S.Medium.Medium (shelf_sight S.Shelf shelf.old) (shelf_sight S.Shelf shelf.new) (Question.Audit object) result.1.items
+    ensures { AskedNothing S.Medium.Medium (shelf_sight S.Shelf shelf.old)
+        (shelf_sight S.Shelf shelf.new) result.1.items result.0
+        ⊎ TellsAnswer S.Medium.Medium (shelf_sight S.Shelf shelf.old) (shelf_sight S.Shelf shelf.new)
+        (Question.Audit object) result.1.items
         (sinking (O.taken sink.old) (O.taken sink.new) (O.faults sink.old) (O.faults sink.new)) result.0 }
 {
     let (outcome, media) = ask(alloc, Question::Audit { object }, shelf);
@@ -78,8 +83,10 @@ pub fn tell_watch<O: Sink, S: Shelf>(
     sink: &mut O,
     shelf: &mut S,
 ) -> (u8, Vec<Kept<S::Medium>>)
-    ensures { AskedNothing S.Medium.Medium (shelf_sight S.Shelf shelf.old) (shelf_sight S.Shelf shelf.new) result.1.items result.0
-        ⊎ TellsWatch S.Medium.Medium (shelf_sight S.Shelf shelf.old) (shelf_sight S.Shelf shelf.new) repository rule result.1.items
+    ensures { AskedNothing S.Medium.Medium (shelf_sight S.Shelf shelf.old)
+        (shelf_sight S.Shelf shelf.new) result.1.items result.0
+        ⊎ TellsWatch S.Medium.Medium (shelf_sight S.Shelf shelf.old)
+        (shelf_sight S.Shelf shelf.new) repository rule result.1.items
         (sinking (O.taken sink.old) (O.taken sink.new) (O.faults sink.old) (O.faults sink.new)) result.0 }
 {
     let (outcome, media) = watch(alloc, repository, rule, shelf);

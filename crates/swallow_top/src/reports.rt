@@ -83,7 +83,8 @@ fn tell_run<O: Sink>(alloc: Global, plan: &Plan, wanted: Wanted, trace: &Trace, 
     requires plan { IsOfLanguage plan.now }
     requires nodes { JustNodes plan.now trace.now.opened }
     requires ranges { HasRanges trace.now }
-    ensures { EndsIfAny result (sinking (O.taken sink.old) (O.taken sink.new) (O.faults sink.old) (O.faults sink.new)) (status_of plan.now trace.now)
+    ensures { EndsIfAny result (sinking (O.taken sink.old) (O.taken sink.new) (O.faults sink.old) (O.faults sink.new))
+        (status_of plan.now trace.now)
         (wanted_text wanted plan.now trace.now) }
 {
     let Ok(told) = text_of(alloc, plan, wanted, trace) else {
@@ -98,7 +99,8 @@ fn tell_run<O: Sink>(alloc: Global, plan: &Plan, wanted: Wanted, trace: &Trace, 
 // Writes why a broker's log refuses the plan. The answer is the status.
 fn tell_refusal<O: Sink>(alloc: Global, fault: ResumeFault, sink: &mut O) -> u8
     ensures { (result ≡ 7) ⊎ ((result ≡ 2) ×
-        GotLine (sinking (O.taken sink.old) (O.taken sink.new) (O.faults sink.old) (O.faults sink.new)) (lines.resume_line fault)) }
+        GotLine (sinking (O.taken sink.old) (O.taken sink.new) (O.faults sink.old) (O.faults sink.new))
+        (lines.resume_line fault)) }
 {
     match resume_line(alloc, fault) {
         Ok(text) => {
@@ -120,7 +122,8 @@ pub fn tell<O: Sink>(
     requires plan { IsOfLanguage plan.now }
     requires nodes { OfRun end (λ t. JustNodes plan.now t.opened) }
     requires ranges { OfRun end HasRanges }
-    ensures { TellsEnd wanted plan.now end result.0 result.1 (sinking (O.taken sink.old) (O.taken sink.new) (O.faults sink.old) (O.faults sink.new)) }
+    ensures { TellsEnd wanted plan.now end result.0 result.1
+        (sinking (O.taken sink.old) (O.taken sink.new) (O.faults sink.old) (O.faults sink.new)) }
 {
     match end {
         End::Ran(told) => {

@@ -31,7 +31,8 @@ pub fn mark_of(clock: u64) -> PseudoTime
 
 // Writes what came of a retirement. The answer is the status.
 fn tell_retired<O: Sink>(retired: Retired, sink: &mut O) -> u8
-    ensures { TellsRetired retired result (sinking (O.taken sink.old) (O.taken sink.new) (O.faults sink.old) (O.faults sink.new)) }
+    ensures { TellsRetired retired result (sinking (O.taken sink.old) (O.taken sink.new) (O.faults sink.old)
+        (O.faults sink.new)) }
 {
     match retired {
         Retired::Done(line) => tell_text(Ok(line), 0, sink),
@@ -55,8 +56,10 @@ pub fn tell_retirement<O: Sink, S: Shelf>(
 ) -> (u8, Vec<Kept<S::Medium>>)
     requires low { 1 ≤ clock }
     requires high { clock ≤ 2 ^ 40 - 1 }
-    ensures { AskedNothing S.Medium.Medium (shelf_sight S.Shelf shelf.old) (shelf_sight S.Shelf shelf.new) result.1.items result.0
-        ⊎ TellsRetirement S.Medium.Medium (shelf_sight S.Shelf shelf.old) (shelf_sight S.Shelf shelf.new) repository clock result.1.items
+    ensures { AskedNothing S.Medium.Medium (shelf_sight S.Shelf shelf.old)
+        (shelf_sight S.Shelf shelf.new) result.1.items result.0
+        ⊎ TellsRetirement S.Medium.Medium (shelf_sight S.Shelf shelf.old)
+        (shelf_sight S.Shelf shelf.new) repository clock result.1.items
         (sinking (O.taken sink.old) (O.taken sink.new) (O.faults sink.old) (O.faults sink.new)) result.0 }
 {
     let (retired, media) = retire(alloc, repository, mark_of(clock), shelf);

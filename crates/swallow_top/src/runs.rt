@@ -55,7 +55,8 @@ fn run_opened<
     requires workers { 1 ≤ options.workers }
     ensures ends { (first : List (Option M)) → AllZip (HasOpened M.Medium) first openings.items →
         EndsAs M.Medium options.ticks options.messages plan.now
-        (tellers (F.asked fates) (F.asked result.fates) (C.answers clock) (C.answers result.clock)) first result.media result.end }
+        (tellers (F.asked fates) (F.asked result.fates) (C.answers clock) (C.answers result.clock)) first
+        result.media result.end }
     ensures memory { wanting ≡ true → (result.end ≡ End.NoMemory) × (result.media ≡ map medium_in openings.items) }
 {
     if wanting {
@@ -99,7 +100,8 @@ where
     ensures ran { RunsPlan S.Medium.Medium
         (shelf_sight S.Shelf shelf.old)
         (shelf_sight S.Shelf shelf.new) result.media plan.now wanted options
-        (account_of result.trace (tellers (F.asked fates) (F.asked result.fates) (C.answers clock) (C.answers result.clock)))
+        (account_of result.trace (tellers (F.asked fates) (F.asked result.fates) (C.answers clock)
+        (C.answers result.clock)))
         (sinking (O.taken sink.old) (O.taken sink.new) (O.faults sink.old) (O.faults sink.new)) result.status }
     ensures kept { AllKept (shelf_sight S.Shelf shelf.old)
         (shelf_sight S.Shelf shelf.new) result.media }

@@ -28,7 +28,8 @@ use votes_command::fault_line as votes_line;
 
 // Writes why nothing was run. The answer is the status.
 fn refused<O: Sink>(alloc: Global, stop: Stop, sink: &mut O) -> u8
-    ensures { RefusedAs stop result (sinking (O.taken sink.old) (O.taken sink.new) (O.faults sink.old) (O.faults sink.new)) }
+    ensures { RefusedAs stop result (sinking (O.taken sink.old) (O.taken sink.new) (O.faults sink.old)
+        (O.faults sink.new)) }
 {
     match stop {
         Stop::Words => {
@@ -120,7 +121,8 @@ where
       media_are = S.Medium.Medium;
       shelf_before = (shelf_sight S.Shelf shelf.old);
       shelf = (shelf_sight S.Shelf shelf.new);
-      told = (account_of result.trace (tellers (F.asked fates) (F.asked result.fates) (C.answers clock) (C.answers result.clock)));
+      told = (account_of result.trace (tellers (F.asked fates) (F.asked result.fates) (C.answers clock)
+          (C.answers result.clock)));
       media = result.media;
       votes = result.votes;
     }) }

@@ -68,7 +68,8 @@ fn tell_standings<O: Sink>(
 // Writes what came of votes. The answer is the status, and the trace.
 fn tell_end<O: Sink>(alloc: Global, end: VoteEnd, sink: &mut O) -> (u8, Trace)
     requires { AreFew end }
-    ensures { TellsVotes end result.1 result.0 (sinking (O.taken sink.old) (O.taken sink.new) (O.faults sink.old) (O.faults sink.new)) }
+    ensures { TellsVotes end result.1 result.0 (sinking (O.taken sink.old) (O.taken sink.new) (O.faults sink.old)
+        (O.faults sink.new)) }
 {
     match end {
         VoteEnd::Told(trace, standings) => {
@@ -92,12 +93,16 @@ pub fn tell_votes<O: Sink, S: Shelf, F: Fates, C: Clock>(
     requires polls { Every IsPoll polls.now }
     requires few { length polls.now ≤ 16 }
     requires ticks { options.ticks ≤ 1000000 }
-    ensures polled { (AskedNothing S.Medium.Medium (shelf_sight S.Shelf shelf.old) (shelf_sight S.Shelf shelf.new) result.media result.status
-        × HasNoRun (account_of result.trace (tellers (F.asked fates) (F.asked result.fates) (C.answers clock) (C.answers result.clock)))
+    ensures polled { (AskedNothing S.Medium.Medium (shelf_sight S.Shelf shelf.old)
+        (shelf_sight S.Shelf shelf.new) result.media result.status
+        × HasNoRun (account_of result.trace (tellers (F.asked fates) (F.asked result.fates) (C.answers clock)
+        (C.answers result.clock)))
         × (result.votes ≡ no_trace))
         ⊎ HavePolled S.Medium.Medium (shelf_sight S.Shelf shelf.old) (shelf_sight S.Shelf shelf.new) polls.now options
-        (account_of result.trace (tellers (F.asked fates) (F.asked result.fates) (C.answers clock) (C.answers result.clock)))
-        result.votes result.media (sinking (O.taken sink.old) (O.taken sink.new) (O.faults sink.old) (O.faults sink.new)) result.status }
+        (account_of result.trace (tellers (F.asked fates) (F.asked result.fates) (C.answers clock)
+        (C.answers result.clock)))
+        result.votes result.media (sinking (O.taken sink.old) (O.taken sink.new) (O.faults sink.old)
+        (O.faults sink.new)) result.status }
 {
     let limits = Limits {
         ticks: options.ticks as u32,

@@ -109,7 +109,8 @@ fn last_clerk(
     requires pass { All (IsPassOf lock.now) passes.items }
     requires last { get_or (map (λ p. (knows p).owner) passes.items) (length passes.items - 1) 0 ≡ who }
     ensures pass { IfSome result (λ r. All (IsPassOf lock.now) r.0.items × IsPassOf lock.now r.1.pass) }
-    ensures rest { IfSome result (λ r. map (λ p. (knows p).owner) r.0.items ≡ take (length passes.items - 1) (map (λ p. (knows p).owner) passes.items)) }
+    ensures rest { IfSome result (λ r. map (λ p. (knows p).owner) r.0.items ≡ take (length passes.items - 1)
+        (map (λ p. (knows p).owner) passes.items)) }
 {
     let pass = passes.pop()?;
     Some((passes, Clerk { who, pass }))

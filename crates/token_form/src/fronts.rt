@@ -52,7 +52,8 @@ fn text_token(content: Bytes) -> Option<Token>
 
 fn read_name(alloc: Global, bytes: &[u8]) -> Result<(Option<Token>, &[u8]), AllocError>
     requires { Starts is_name_byte bytes.now }
-    ensures token { IfOk result (λ found. found.0 ≡ reading.kept (reading.name_token (reading.front_of is_name_byte bytes.now))) }
+    ensures token { IfOk result (λ found. found.0 ≡ reading.kept
+        (reading.name_token (reading.front_of is_name_byte bytes.now))) }
     ensures rest { IfOk result (λ found. found.1.now ≡ reading.rest_of is_name_byte bytes.now) }
     ensures shorter { IfOk result (λ found. length found.1.now < length bytes.now) }
 {

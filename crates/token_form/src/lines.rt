@@ -13,7 +13,8 @@ use std::alloc::Global;
 pub fn tokens_of(alloc: Global, line: &[u8], greatest: u8) -> Result<Vec<Token>, LineFault>
     ensures ok { IfOk result (λ tokens. IsTokens line.now tokens.items × (in_range greatest tokens.items ≡ true)) }
     ensures token { IsErrOf result LineFault.Token → (tokens : List Token) → IsTokens line.now tokens → ⊥ }
-    ensures range { IsErrOf result LineFault.Range → (tokens : List Token) × IsTokens line.now tokens × (in_range greatest tokens ≡ false) }
+    ensures range { IsErrOf result LineFault.Range → (tokens : List Token) × IsTokens line.now tokens ×
+        (in_range greatest tokens ≡ false) }
 {
     let mut tokens = Vec::new(alloc);
     let mut in_limits = true;

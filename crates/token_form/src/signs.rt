@@ -82,7 +82,8 @@ fn longest(sign: Sign, after: &[u8]) -> (Sign, &[u8])
 
 // The longest sign at the front, and what follows it.
 pub fn sign_at(first: u8, after: &[u8]) -> Option<(Sign, &[u8])>
-    ensures { MatchOption result (reading.sign_at first after.now ≡ None) (λ found. reading.sign_at first after.now ≡ Some (found.0, found.1.now)) }
+    ensures { MatchOption result (reading.sign_at first after.now ≡ None)
+        (λ found. reading.sign_at first after.now ≡ Some (found.0, found.1.now)) }
 {
     let Some(sign) = sign_of(first) else {
         return None;

@@ -159,7 +159,8 @@ impl NodeCore {
     /// keeps no log, so it is searched here; a broker asks nobody, so it never is.
     pub fn knows(&self, log: &[Effect], stamp: Stamp) -> bool
         requires able { IsAble self.now }
-        ensures { (b : Base) (n : NodeId) (mind : Mind) → StandsFor b n log.now mind self.now → result ≡ knows log.now stamp }
+        ensures { (b : Base) (n : NodeId) (mind : Mind) → StandsFor b n log.now mind self.now →
+            result ≡ knows log.now stamp }
     {
         match self {
             NodeCore::Repository(core) => core.known(stamp).is_some(),

@@ -142,7 +142,8 @@ impl ReplayedNode {
         requires sound { IsSound self.now }
         requires message { IsMessage out.message }
         ensures sent { (b : Base) (l : Life) → Lives b self.now l → l.fresh ≡ []
-            → OnOk result (all_posted letters.new.items ≡ all_posted letters.old.items ++ posts self.now.node (filter (leaves l.gated) (out ∷ []))) }
+            → OnOk result (all_posted letters.new.items ≡ all_posted letters.old.items ++ posts self.now.node
+            (filter (leaves l.gated) (out ∷ []))) }
         ensures in_range { AreLetters letters.old.items → OnOk result (AreLetters letters.new.items) }
     {
         if !self.leaves(&out) {
@@ -158,7 +159,8 @@ impl ReplayedNode {
         requires sound { IsSound self.now }
         requires messages { AreOuts outs.items }
         ensures sent { (b : Base) (l : Life) → Lives b self.now l → l.fresh ≡ []
-            → OnOk result (all_posted letters.new.items ≡ all_posted letters.old.items ++ posts self.now.node (filter (leaves l.gated) outs.items)) }
+            → OnOk result (all_posted letters.new.items ≡ all_posted letters.old.items ++ posts self.now.node
+            (filter (leaves l.gated) outs.items)) }
         ensures in_range { AreLetters letters.old.items → OnOk result (AreLetters letters.new.items) }
     {
         for out in outs {
@@ -172,7 +174,8 @@ impl ReplayedNode {
         requires sound { IsSound self.old }
         ensures lives { (b : Base) (l : Life) → Lives b self.old l → OnOk result (Lives b self.new (gated_life l)) }
         ensures sent { (b : Base) (l : Life) → Lives b self.old l
-            → OnOk result (all_posted letters.new.items ≡ all_posted letters.old.items ++ posts self.old.node (filter (leaves (all_effects l)) l.outs)) }
+            → OnOk result (all_posted letters.new.items ≡ all_posted letters.old.items ++ posts self.old.node
+            (filter (leaves (all_effects l)) l.outs)) }
         ensures in_range { AreLetters letters.old.items → OnOk result (AreLetters letters.new.items) }
         ensures node { OnOk result (self.new.node ≡ self.old.node) }
         ensures sound { OnOk result (IsSound self.new) }

@@ -37,7 +37,8 @@ pub struct Replay {
 // The place of a node.
 fn place_of(replayed: &[ReplayedNode], node: NodeId) -> Option<usize>
     ensures { MatchOption result (IsAbsent node replayed.now)
-        (λ place. (place < length replayed.now) × ((d : ReplayedNode) → same_node (slice_index_or replayed.now place d).node node ≡ true)) }
+        (λ place. (place < length replayed.now) × ((d : ReplayedNode) →
+        same_node (slice_index_or replayed.now place d).node node ≡ true)) }
 {
     for place in 0..replayed.len() {
         if replayed[place].node == node {
@@ -137,7 +138,8 @@ impl Replay {
     // The node takes a message. One that was not sent gives nothing.
     fn take(&mut self, node: NodeId, number: u32) -> Result<(), AllocError>
         requires fit { IsFit self.old }
-        ensures shows { (b : Base) (w : World) → Shows b w self.old → OnOk result (Shows b (step b w (entry.Take node number)) self.new) }
+        ensures shows { (b : Base) (w : World) → Shows b w self.old →
+            OnOk result (Shows b (step b w (entry.Take node number)) self.new) }
         ensures fit { OnOk result (IsFit self.new) }
     {
         let Some(place) = place_of(self.replayed.as_slice(), node) else {
@@ -152,7 +154,8 @@ impl Replay {
     // The node goes.
     fn go(&mut self, node: NodeId) -> Result<(), AllocError>
         requires fit { IsFit self.old }
-        ensures shows { (b : Base) (w : World) → Shows b w self.old → OnOk result (Shows b (step b w (entry.Go node)) self.new) }
+        ensures shows { (b : Base) (w : World) → Shows b w self.old →
+            OnOk result (Shows b (step b w (entry.Go node)) self.new) }
         ensures fit { OnOk result (IsFit self.new) }
     {
         let Some(place) = place_of(self.replayed.as_slice(), node) else {
@@ -164,7 +167,8 @@ impl Replay {
     // The node learns a decision.
     fn learn(&mut self, node: NodeId, stamp: Stamp, committed: bool) -> Result<(), AllocError>
         requires fit { IsFit self.old }
-        ensures shows { (b : Base) (w : World) → Shows b w self.old → OnOk result (Shows b (step b w (entry.Learn node stamp committed)) self.new) }
+        ensures shows { (b : Base) (w : World) → Shows b w self.old →
+            OnOk result (Shows b (step b w (entry.Learn node stamp committed)) self.new) }
         ensures fit { OnOk result (IsFit self.new) }
     {
         let Some(place) = place_of(self.replayed.as_slice(), node) else {
@@ -176,7 +180,8 @@ impl Replay {
     // The node hears the moment of the last Tick. Before any there is none.
     fn hear(&mut self, node: NodeId) -> Result<(), AllocError>
         requires fit { IsFit self.old }
-        ensures shows { (b : Base) (w : World) → Shows b w self.old → OnOk result (Shows b (step b w (entry.Hear node)) self.new) }
+        ensures shows { (b : Base) (w : World) → Shows b w self.old →
+            OnOk result (Shows b (step b w (entry.Hear node)) self.new) }
         ensures fit { OnOk result (IsFit self.new) }
     {
         let Some(place) = place_of(self.replayed.as_slice(), node) else {
@@ -191,7 +196,8 @@ impl Replay {
     // The node gates.
     fn gate(&mut self, node: NodeId) -> Result<(), AllocError>
         requires fit { IsFit self.old }
-        ensures shows { (b : Base) (w : World) → Shows b w self.old → OnOk result (Shows b (step b w (entry.Gate node)) self.new) }
+        ensures shows { (b : Base) (w : World) → Shows b w self.old →
+            OnOk result (Shows b (step b w (entry.Gate node)) self.new) }
         ensures fit { OnOk result (IsFit self.new) }
     {
         let Some(place) = place_of(self.replayed.as_slice(), node) else {
@@ -203,7 +209,8 @@ impl Replay {
     // The node crashes, and is opened anew.
     fn crash(&mut self, node: NodeId, kept: u32) -> Result<(), AllocError>
         requires fit { IsFit self.old }
-        ensures shows { (b : Base) (w : World) → Shows b w self.old → OnOk result (Shows b (step b w (entry.Crash node kept)) self.new) }
+        ensures shows { (b : Base) (w : World) → Shows b w self.old →
+            OnOk result (Shows b (step b w (entry.Crash node kept)) self.new) }
         ensures fit { OnOk result (IsFit self.new) }
     {
         let Some(place) = place_of(self.replayed.as_slice(), node) else {
@@ -216,7 +223,8 @@ impl Replay {
     fn on_entry(&mut self, entry: &Entry) -> Result<(), AllocError>
         requires fit { IsFit self.old }
         requires moment { IsMoment entry.now }
-        ensures shows { (b : Base) (w : World) → Shows b w self.old → OnOk result (Shows b (step b w entry.now) self.new) }
+        ensures shows { (b : Base) (w : World) → Shows b w self.old →
+            OnOk result (Shows b (step b w entry.now) self.new) }
         ensures fit { OnOk result (IsFit self.new) }
     {
         match entry {
@@ -259,7 +267,8 @@ pub fn logs(
     requires start { trace.now.start ≤ 2 ^ 63 }
     requires moments { Every IsMoment trace.now.entries }
     ensures { (script : List ℕ → Tree) → Scripted script acts.now
-        → IfOk result (λ logs. logs.items ≡ logs_in (walk (base_for script run acts.now trace.now) trace.now.entries) trace.now.opened) }
+        → IfOk result (λ logs. logs.items ≡ logs_in (walk (base_for script run acts.now trace.now) trace.now.entries)
+        trace.now.opened) }
 {
     let mut replay = Replay {
         alloc,

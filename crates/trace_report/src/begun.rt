@@ -30,7 +30,11 @@ pub struct BegunAct {
 
 // An act is begun.
 fn begin(alloc: Global, begun: &mut Vec<BegunAct>, index: u32) -> Result<(), AllocError>
-    ensures { OnOk result (kept begun.new.items ≡ record { index = index; tries = []; spent = None } ∷ kept begun.old.items) }
+    ensures { OnOk result (kept begun.new.items ≡ record {
+      index = index;
+      tries = [];
+      spent = None;
+    } ∷ kept begun.old.items) }
 {
     begun.push(BegunAct {
         index,
@@ -58,7 +62,8 @@ fn try_last(alloc: Global, begun: &mut Vec<BegunAct>, stamp: Stamp) -> Result<()
 
 // The last of these attempts got an answer.
 fn gain(tries: &mut Vec<BegunTry>, answer: Answered) -> Result<(), AllocError>
-    ensures { OnOk result (spec.kept_tries tries.new.items ≡ spec.on_first (spec.gained (answer_of answer)) (spec.kept_tries tries.old.items)) }
+    ensures { OnOk result (spec.kept_tries tries.new.items ≡ spec.on_first (spec.gained (answer_of answer))
+        (spec.kept_tries tries.old.items)) }
 {
     let Some(mut last) = tries.pop() else {
         return Ok(());
@@ -70,7 +75,8 @@ fn gain(tries: &mut Vec<BegunTry>, answer: Answered) -> Result<(), AllocError>
 
 // The last of these attempts ended.
 fn finish(tries: &mut Vec<BegunTry>, outcome: Outcome) -> Result<(), AllocError>
-    ensures { OnOk result (spec.kept_tries tries.new.items ≡ spec.on_first (spec.ended outcome) (spec.kept_tries tries.old.items)) }
+    ensures { OnOk result (spec.kept_tries tries.new.items ≡ spec.on_first (spec.ended outcome)
+        (spec.kept_tries tries.old.items)) }
 {
     let Some(mut last) = tries.pop() else {
         return Ok(());
@@ -82,7 +88,8 @@ fn finish(tries: &mut Vec<BegunTry>, outcome: Outcome) -> Result<(), AllocError>
 
 // The last attempt got an answer.
 fn answer_last(begun: &mut Vec<BegunAct>, answer: Answered) -> Result<(), AllocError>
-    ensures { OnOk result (kept begun.new.items ≡ spec.on_last (spec.gained (answer_of answer)) (kept begun.old.items)) }
+    ensures { OnOk result (kept begun.new.items ≡ spec.on_last (spec.gained (answer_of answer))
+        (kept begun.old.items)) }
 {
     let Some(mut act) = begun.pop() else {
         return Ok(());

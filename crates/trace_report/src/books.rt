@@ -66,7 +66,8 @@ fn begun_by(
     requires whole { IsOfLanguage plan.now }
     requires low { 1 ≤ number }
     requires high { number ≤ 16 }
-    ensures { IfOk result (λ begun. kept begun.items ≡ map act_parts (acts.begun_acts plan.now (logs_by logs.now) number)) }
+    ensures { IfOk result (λ begun. kept begun.items ≡ map act_parts
+        (acts.begun_acts plan.now (logs_by logs.now) number)) }
 {
     let own = acts_of(alloc, number, plan.acts.as_slice())?;
     let log = log_of(logs, NodeId::broker(number));
@@ -78,7 +79,8 @@ fn begun_by(
 /// their order.
 pub fn begun_in(alloc: Global, plan: &Plan, logs: &[Opened]) -> Result<Vec<BegunAct>, AllocError>
     requires { IsOfLanguage plan.now }
-    ensures { IfOk result (λ begun. kept begun.items ≡ map act_parts (spec.begun_to plan.now (logs_by logs.now) plan.now.brokers)) }
+    ensures { IfOk result (λ begun. kept begun.items ≡ map act_parts
+        (spec.begun_to plan.now (logs_by logs.now) plan.now.brokers)) }
 {
     let mut all = Vec::new(alloc);
     for count in 0..plan.brokers {

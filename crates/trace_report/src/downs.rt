@@ -54,7 +54,8 @@ fn push_nodes(
     kind: NodeKind,
     most: u8,
 ) -> Result<(), AllocError>
-    ensures { OnOk result (shown.new.items ≡ shown.old.items ++ flat_map (spec.shown fallen.now) (spec.nodes_of_kind kind most)) }
+    ensures { OnOk result (shown.new.items ≡ shown.old.items ++ flat_map (spec.shown fallen.now)
+        (spec.nodes_of_kind kind most)) }
 {
     for below in 0..most {
         let number = below + 1;

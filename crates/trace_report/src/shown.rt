@@ -79,7 +79,8 @@ fn tries_of(
     tries: &[BegunTry],
 ) -> Result<Vec<TryReport>, AllocError>
     requires { IsScript script.now.lines }
-    ensures { IfOk result (λ shown. shown.items ≡ map (λ attempt. spec.try_told script.now.lines (kept_try attempt)) tries.now) }
+    ensures { IfOk result (λ shown. shown.items ≡ map
+        (λ attempt. spec.try_told script.now.lines (kept_try attempt)) tries.now) }
 {
     let mut shown = Vec::new(alloc);
     for attempt in tries {
@@ -145,7 +146,8 @@ fn told_acts(
     begun: Vec<BegunAct>,
 ) -> Result<Vec<ActReport>, AllocError>
     requires { Every (λ act. IsScript act.script.lines) acts.now }
-    ensures { IfOk result (λ shown. shown.items ≡ map (λ act. spec.act_told act (spec.part_at act.index (kept begun.items))) acts.now) }
+    ensures { IfOk result (λ shown. shown.items ≡ map
+        (λ act. spec.act_told act (spec.part_at act.index (kept begun.items))) acts.now) }
 {
     let begun = by_index(alloc, begun)?;
     let mut shown = Vec::new(alloc);
@@ -162,7 +164,8 @@ pub fn acts_of_plan(
     begun: Vec<BegunAct>,
 ) -> Result<Vec<ActReport>, AllocError>
     requires { IsOfLanguage plan.now }
-    ensures { (logs : NodeId → List Effect) → kept begun.items ≡ map act_parts (begun_to plan.now logs plan.now.brokers) →
+    ensures { (logs : NodeId → List Effect) →
+        kept begun.items ≡ map act_parts (begun_to plan.now logs plan.now.brokers) →
         IfOk result (λ shown. shown.items ≡ acts_shown plan.now logs) }
 {
     told_acts(alloc, plan.acts.as_slice(), begun)

@@ -141,9 +141,11 @@ impl Value {
     /// the tag, the number, or the length and the bytes of a text.
     pub fn read(alloc: Global, bytes: &[u8]) -> Result<(Value, usize), ValueFault>
         // What is read stands so in the bytes.
-        ensures found { IfOk result (λ p. IsValue p.0 × (p.1 ≤ length bytes.now) × (take p.1 bytes.now ≡ value_bytes p.0)) }
+        ensures found { IfOk result (λ p. IsValue p.0 × (p.1 ≤ length bytes.now) ×
+            (take p.1 bytes.now ≡ value_bytes p.0)) }
         // What stands in the bytes is read, unless memory is wanting.
-        ensures only { (v : Value) (rest : List ℕ) → IsValue v → bytes.now ≡ value_bytes v ++ rest → GivesCount result (length bytes.now) (Ok (v, rest)) }
+        ensures only { (v : Value) (rest : List ℕ) → IsValue v → bytes.now ≡ value_bytes v ++ rest →
+            GivesCount result (length bytes.now) (Ok (v, rest)) }
         // Where it isn't, at which place.
         ensures exact { GivesCount result (length bytes.now) (value_at bytes.now) }
     {
@@ -153,5 +155,6 @@ impl Value {
 
 /// A law: no value's bytes begin another's.
 pub fn values_apart()
-    ensures { (a b : Value) (x y : List ℕ) → IsValue a → IsValue b → value_bytes a ++ x ≡ value_bytes b ++ y → (a ≡ b) × (x ≡ y) }
+    ensures { (a b : Value) (x y : List ℕ) → IsValue a → IsValue b → value_bytes a ++ x ≡ value_bytes b ++ y →
+        (a ≡ b) × (x ≡ y) }
 {}

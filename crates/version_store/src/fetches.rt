@@ -129,7 +129,8 @@ fn look_next(
     state: &PageState,
     place: Place,
 ) -> Result<Sight, AllocError>
-    ensures sees { (front : List ℕ) → Stand pieces.items front → IsBytes front → IfOk result (λ s. Sees s (next_sight front place (sheet_on state.now))) }
+    ensures sees { (front : List ℕ) → Stand pieces.items front → IsBytes front →
+        IfOk result (λ s. Sees s (next_sight front place (sheet_on state.now))) }
     ensures in_range { IfOk result TellsRange }
 {
     let mut pieces = pieces;
@@ -176,8 +177,10 @@ pub fn find<M: Medium>(
     requires pages { pages ≡ M.page_count medium.old }
     requires page { place.page < pages }
     requires open { M.is_failed medium.old ≡ false }
-    ensures found { IsTrue M.tells → length (M.reads medium.old) ≡ pages → IfOk result (λ r. found_of r ≡ shown_in (M.reads medium.old) place) }
-    ensures tells { IfOk result (λ r. (page : ℕ) × told_of r page × LastTells (M.last_page medium.new) pages page place (found_of r)) }
+    ensures found { IsTrue M.tells → length (M.reads medium.old) ≡ pages →
+        IfOk result (λ r. found_of r ≡ shown_in (M.reads medium.old) place) }
+    ensures tells { IfOk result (λ r. (page : ℕ) × told_of r page ×
+        LastTells (M.last_page medium.new) pages page place (found_of r)) }
     ensures in_range { IfOk result (λ r. IfOk r (λ w. IsWritten w)) }
     ensures reads { IsTrue M.tells → M.reads medium.new ≡ M.reads medium.old }
     ensures crash { IsTrue M.tells → NoMore (M.may_leave medium.old) (M.may_leave medium.new) }

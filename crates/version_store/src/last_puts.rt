@@ -29,9 +29,11 @@ pub fn note(
     requires places { ArePlaces heads.old }
     ensures back { (log : Log) → HeadsFit heads.old log → IfOk result (λ b. b ≡ back_in log effect.now) }
     ensures written { IsEffect effect.now → IfOk result (λ b. IsWritten (effect.now, b)) }
-    ensures heads { (log : Log) → HeadsFit heads.old log → OnOk result (HeadsFit heads.new (log ++ entry_at log place effect.now ∷ [])) }
+    ensures heads { (log : Log) → HeadsFit heads.old log →
+        OnOk result (HeadsFit heads.new (log ++ entry_at log place effect.now ∷ [])) }
     ensures places { OnOk result (ArePlaces heads.new) }
-    ensures below { (limit : ℕ) → place.page < limit → AreBelow limit heads.old → OnOk result (AreBelow limit heads.new) }
+    ensures below { (limit : ℕ) → place.page < limit → AreBelow limit heads.old →
+        OnOk result (AreBelow limit heads.new) }
 {
     match object_put(effect) {
         None => Ok(None),

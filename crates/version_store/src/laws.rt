@@ -12,9 +12,11 @@ ghost use Rattle.version_store.specs.Storage.{log_of, storage};
 /// A law: what is read of an image that a crash of an append left is the log with a prefix of the
 /// call's effects, and how many these are is the number of effects read less those of the log.
 pub fn prefix_is_found()
-    ensures found { (log effects found : List Effect) (image : Image) → storage image ≡ Ok found → (has : HasPrefix log effects image) →
+    ensures found { (log effects found : List Effect) (image : Image) → storage image ≡ Ok found →
+        (has : HasPrefix log effects image) →
         found ≡ log ++ take has.kept effects }
-    ensures kept { (log effects found : List Effect) (image : Image) → storage image ≡ Ok found → (has : HasPrefix log effects image) →
+    ensures kept { (log effects found : List Effect) (image : Image) → storage image ≡ Ok found →
+        (has : HasPrefix log effects image) →
         length log + has.kept ≡ length found }
 {}
 
@@ -25,7 +27,8 @@ pub fn back_places_come_before()
         e.back ≡ back_in (take i (log_of image)) e.effect }
     ensures before { (n : ℕ) (image : Image) (e : Entry) (i : ℕ) → IsImage n image → IsIn (log_of image) e i →
         IfSome e.back (λ (b : Place). IsBefore b e.place) }
-    ensures within { (n : ℕ) (image : Image) (e : Entry) (i : ℕ) → IsImage n image → IsIn (log_of image) e i → e.place.page < n }
+    ensures within { (n : ℕ) (image : Image) (e : Entry) (i : ℕ) → IsImage n image → IsIn (log_of image) e i →
+        e.place.page < n }
 {}
 
 /// A law: the pages that effects fill have them all, in order.
@@ -36,8 +39,10 @@ pub fn pages_keep_the_order()
 /// A law: at the last place of an object stands its last Put. At the back place of an effect in the
 /// log of an image stands a Put of its object, too.
 pub fn places_have_effects()
-    ensures last { (log : Log) (object : ObjectId) (place : Place) → last_put log object ≡ Some place → IsLastPut log object place }
-    ensures back { (n : ℕ) (image : Image) (e : Entry) (i : ℕ) → IsImage n image → IsIn (log_of image) e i → BackStands (log_of image) (e.effect, e.back) }
+    ensures last { (log : Log) (object : ObjectId) (place : Place) → last_put log object ≡ Some place →
+        IsLastPut log object place }
+    ensures back { (n : ℕ) (image : Image) (e : Entry) (i : ℕ) → IsImage n image → IsIn (log_of image) e i →
+        BackStands (log_of image) (e.effect, e.back) }
 {}
 
 /// A law: effects fill no more pages than each of them alone, which are at most seventeen, and one for

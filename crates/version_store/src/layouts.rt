@@ -31,7 +31,8 @@ fn body(alloc: Global, mark: u8, texts: &[u8]) -> Result<Vec<u8>, AllocError>
 fn close(alloc: Global, bodies: &mut Vec<Vec<u8>>, texts: &mut Vec<u8>) -> Result<u32, AllocError>
     requires most { length texts.old.items ≤ 4091 }
     requires bodies { All IsBody bodies.old.items }
-    ensures bytes { IfOk result (λ n. bytes_of bodies.new.items ≡ bytes_of bodies.old.items ++ closed_body texts.old.items) }
+    ensures bytes { IfOk result (λ n. bytes_of bodies.new.items ≡ bytes_of bodies.old.items ++
+        closed_body texts.old.items) }
     ensures count { IfOk result (λ n. n ≡ length (closed_body texts.old.items)) }
     ensures bodies { OnOk result (All IsBody bodies.new.items) }
     ensures texts { OnOk result (texts.new.items ≡ []) }
@@ -61,7 +62,8 @@ fn add(
         OnOk result (texts.new.items ≡ texts.old.items ++ effect_bytes (effect.now, back_in log effect.now)) }
     ensures size { OnOk result (length texts.new.items ≡ length texts.old.items + size_of effect.now) }
     ensures heads { (log : Log) → HeadsFit heads.old log →
-        OnOk result (HeadsFit heads.new (log ++ entry_at log (place_after page (length texts.old.items)) effect.now ∷ [])) }
+        OnOk result (HeadsFit heads.new
+        (log ++ entry_at log (place_after page (length texts.old.items)) effect.now ∷ [])) }
     ensures places { OnOk result (ArePlaces heads.new) }
     ensures below { (limit : ℕ) → page < limit → AreBelow limit heads.old → OnOk result (AreBelow limit heads.new) }
 {
@@ -78,7 +80,8 @@ fn add(
 fn push_pieces(alloc: Global, bodies: &mut Vec<Vec<u8>>, text: &[u8]) -> Result<(), AllocError>
     requires long { 4091 < length text.now }
     requires bodies { All IsBody bodies.old.items }
-    ensures bytes { OnOk result (bytes_of bodies.new.items ≡ bytes_of bodies.old.items ++ piece_bodies 1 ((length text.now - 1) / 4091) text.now) }
+    ensures bytes { OnOk result (bytes_of bodies.new.items ≡ bytes_of bodies.old.items ++ piece_bodies 1
+        ((length text.now - 1) / 4091) text.now) }
     ensures count { OnOk result (length bodies.new.items ≡ length bodies.old.items + (length text.now - 1) / 4091 + 1) }
     ensures bodies { OnOk result (All IsBody bodies.new.items) }
 {
@@ -114,7 +117,8 @@ fn add_alone(
         piece_bodies 1 (full_pages effect.now) (effect_bytes (effect.now, back_in log effect.now))) }
     ensures count { OnOk result (length bodies.new.items ≡ length bodies.old.items + full_pages effect.now + 1) }
     ensures bodies { OnOk result (All IsBody bodies.new.items) }
-    ensures heads { (log : Log) → HeadsFit heads.old log → OnOk result (HeadsFit heads.new (log ++ entry_on log page 0 effect.now ∷ [])) }
+    ensures heads { (log : Log) → HeadsFit heads.old log →
+        OnOk result (HeadsFit heads.new (log ++ entry_on log page 0 effect.now ∷ [])) }
     ensures places { OnOk result (ArePlaces heads.new) }
     ensures below { (limit : ℕ) → page < limit → AreBelow limit heads.old → OnOk result (AreBelow limit heads.new) }
 {
@@ -143,8 +147,10 @@ fn lay_next(
     ensures content { (log : Log) (first : ℕ) (effects rest : List Effect) →
         LaidOut log first effects (bytes_of bodies.old.items) texts.old.items heads.old page (effect.now ∷ rest) →
         IfOk result (λ p. LaidOut log first effects (bytes_of bodies.new.items) texts.new.items heads.new p rest) }
-    ensures filled { (effects : List Effect) (i : ℕ) → Filled effects i (length bodies.old.items) (length texts.old.items) → i < length effects →
-        get_or effects i effect.now ≡ effect.now → OnOk result (Filled effects (i + 1) (length bodies.new.items) (length texts.new.items)) }
+    ensures filled { (effects : List Effect) (i : ℕ) →
+        Filled effects i (length bodies.old.items) (length texts.old.items) → i < length effects →
+        get_or effects i effect.now ≡ effect.now →
+        OnOk result (Filled effects (i + 1) (length bodies.new.items) (length texts.new.items)) }
     ensures at { IfOk result (λ p. p + length bodies.old.items ≡ page + length bodies.new.items) }
     ensures most { OnOk result (length texts.new.items ≤ 4091) }
     ensures bodies { OnOk result (All IsBody bodies.new.items) }
@@ -178,10 +184,13 @@ pub fn lay_out(
     requires places { ArePlaces heads.old }
     ensures count { IfOk result (λ bodies. length bodies.items ≡ length (filling effects.now)) }
     ensures bodies { IfOk result (λ bodies. All IsBody bodies.items) }
-    ensures pages { (log : Log) → HeadsFit heads.old log → IfOk result (λ bodies. bytes_of bodies.items ≡ map body_of (laid log first effects.now)) }
-    ensures heads { (log : Log) → HeadsFit heads.old log → OnOk result (HeadsFit heads.new (log ++ all_of (laid log first effects.now))) }
+    ensures pages { (log : Log) → HeadsFit heads.old log →
+        IfOk result (λ bodies. bytes_of bodies.items ≡ map body_of (laid log first effects.now)) }
+    ensures heads { (log : Log) → HeadsFit heads.old log →
+        OnOk result (HeadsFit heads.new (log ++ all_of (laid log first effects.now))) }
     ensures places { OnOk result (ArePlaces heads.new) }
-    ensures below { (limit : ℕ) → first + length (filling effects.now) ≤ limit → AreBelow limit heads.old → OnOk result (AreBelow limit heads.new) }
+    ensures below { (limit : ℕ) → first + length (filling effects.now) ≤ limit → AreBelow limit heads.old →
+        OnOk result (AreBelow limit heads.new) }
 {
     let mut bodies = Vec::new(alloc);
     let mut texts = Vec::new(alloc);

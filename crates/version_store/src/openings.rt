@@ -41,15 +41,19 @@ fn add_state(
     requires page { page < 1048576 }
     requires held { HeldBelow page found.old.held }
     requires places { ArePlaces found.old.heads }
-    ensures found { (c : Content) → IsFound found.old.heads found.old.effects.items c.log → HeldFit found.old.held c.held →
-        IfOk result (λ b. MatchBool b ((more : Content) × (next (reading_of found.old.ended c) page state.now ≡ reading_of found.new.ended more) ×
+    ensures found { (c : Content) → IsFound found.old.heads found.old.effects.items c.log →
+        HeldFit found.old.held c.held →
+        IfOk result (λ b. MatchBool b ((more : Content) ×
+        (next (reading_of found.old.ended c) page state.now ≡ reading_of found.new.ended more) ×
         IsFound found.new.heads found.new.effects.items more.log × HeldFit found.new.held more.held)
         (next (reading_of found.old.ended c) page state.now ≡ Damaged page)) }
     ensures held { OnOk result (HeldBelow (page + 1) found.new.held) }
-    ensures next { IfOk result (λ b. b ≡ true → found.new.next ≡ (if found.new.ended then found.old.next else page + 1)) }
+    ensures next { IfOk result (λ b. b ≡ true →
+        found.new.next ≡ (if found.new.ended then found.old.next else page + 1)) }
     ensures marked { IfOk result (λ b. b ≡ false → state.now ≢ Blank) }
     ensures places { OnOk result (ArePlaces found.new.heads) }
-    ensures below { (limit : ℕ) → page < limit → AreBelow limit found.old.heads → OnOk result (AreBelow limit found.new.heads) }
+    ensures below { (limit : ℕ) → page < limit → AreBelow limit found.old.heads →
+        OnOk result (AreBelow limit found.new.heads) }
     ensures ranges { AreEffects found.old.effects.items → OnOk result (AreEffects found.new.effects.items) }
 {
     match state {
@@ -98,7 +102,8 @@ pub fn read_pages<M: Medium>(alloc: Global, medium: &mut M, pages: u32) -> Resul
         IfOk result (λ f. Reached (M.reads medium.old) pages f.heads f.effects.items f.held f.next f.ended) }
     ensures damaged { IsTrue M.tells → length (M.reads medium.old) ≡ pages →
         IfErr result (λ e. (page : ℕ) → e ≡ OpenFault.Damaged page → scan begun 0 (M.reads medium.old) ≡ Damaged page) }
-    ensures shown { IfErr result (λ e. (page : ℕ) → e ≡ OpenFault.Damaged page → (bytes : List ℕ) × (M.last_page medium.new ≡ Some (page, bytes)) ×
+    ensures shown { IfErr result (λ e. (page : ℕ) → e ≡ OpenFault.Damaged page →
+        (bytes : List ℕ) × (M.last_page medium.new ≡ Some (page, bytes)) ×
         (is_blank bytes ≡ false)) }
     ensures within { IfOk result (λ f. f.next ≤ pages) }
     ensures places { IfOk result (λ f. ArePlaces f.heads) }

@@ -127,7 +127,8 @@ pub fn keep(alloc: Global, piece: &[u8]) -> Result<Vec<u8>, AllocError>
 /// Adds a piece. Behind more bytes than an effect has it adds none.
 pub fn add_piece(bytes: &mut Vec<u8>, piece: &[u8]) -> Result<(), AllocError>
     ensures small { IsBytes piece.now }
-    ensures stands { (pieces : List ℕ) → Stand bytes.old.items pieces → OnOk result (Stand bytes.new.items (pieces ++ piece.now)) }
+    ensures stands { (pieces : List ℕ) → Stand bytes.old.items pieces →
+        OnOk result (Stand bytes.new.items (pieces ++ piece.now)) }
 {
     if bytes.len() > MOST_EFFECT_BYTES {
         return Ok(());
@@ -149,11 +150,13 @@ fn add_effect<'a>(
     requires places { ArePlaces heads.old }
     ensures found { (log : Log) → IsFound heads.old effects.old.items log →
         IfOk result (λ o. MatchOption o (admitted log place (effect_at bytes.now) ≡ None)
-        (λ rest. (more : Log) × (admitted log place (effect_at bytes.now) ≡ Some (more, rest.now)) × IsFound heads.new effects.new.items more)) }
+        (λ rest. (more : Log) × (admitted log place (effect_at bytes.now) ≡ Some (more, rest.now)) ×
+        IsFound heads.new effects.new.items more)) }
     ensures less { IfOk result (λ o. MatchOption o (Unit {0}) (λ rest. length rest.now ≤ length bytes.now)) }
     ensures small { IsBytes bytes.now }
     ensures places { OnOk result (ArePlaces heads.new) }
-    ensures below { (limit : ℕ) → place.page < limit → AreBelow limit heads.old → OnOk result (AreBelow limit heads.new) }
+    ensures below { (limit : ℕ) → place.page < limit → AreBelow limit heads.old →
+        OnOk result (AreBelow limit heads.new) }
     ensures ranges { AreEffects effects.old.items → OnOk result (AreEffects effects.new.items) }
 {
     match read(alloc, bytes) {
@@ -184,8 +187,10 @@ fn add_effects(
     requires most { from + length texts.now ≤ 4096 }
     requires places { ArePlaces heads.old }
     ensures found { (log : Log) → IsFound heads.old effects.old.items log →
-        IfOk result (λ b. MatchBool b ((more : Log) × (log_at (length texts.now) log page (from + length texts.now) texts.now ≡ Some more) ×
-        IsFound heads.new effects.new.items more) (log_at (length texts.now) log page (from + length texts.now) texts.now ≡ None)) }
+        IfOk result (λ b. MatchBool b ((more : Log) ×
+        (log_at (length texts.now) log page (from + length texts.now) texts.now ≡ Some more) ×
+        IsFound heads.new effects.new.items more) (log_at (length texts.now) log page
+        (from + length texts.now) texts.now ≡ None)) }
     ensures places { OnOk result (ArePlaces heads.new) }
     ensures below { (limit : ℕ) → page < limit → AreBelow limit heads.old → OnOk result (AreBelow limit heads.new) }
     ensures ranges { AreEffects effects.old.items → OnOk result (AreEffects effects.new.items) }
@@ -218,12 +223,15 @@ fn add_held(
 ) -> Result<bool, AllocError>
     requires page { held.now.first < 1048576 }
     requires places { ArePlaces heads.old }
-    ensures found { (log : Log) (pieces : List ℕ) → IsFound heads.old effects.old.items log → Stand held.now.bytes.items pieces → IsBytes pieces →
+    ensures found { (log : Log) (pieces : List ℕ) → IsFound heads.old effects.old.items log →
+        Stand held.now.bytes.items pieces → IsBytes pieces →
         IfOk result (λ b. MatchBool b
-        ((more : Log) × (alone (admitted log (place_alone held.now.first) (effect_at pieces)) ≡ Some more) × IsFound heads.new effects.new.items more)
+        ((more : Log) × (alone (admitted log (place_alone held.now.first) (effect_at pieces)) ≡ Some more) ×
+        IsFound heads.new effects.new.items more)
         (alone (admitted log (place_alone held.now.first) (effect_at pieces)) ≡ None)) }
     ensures places { OnOk result (ArePlaces heads.new) }
-    ensures below { (limit : ℕ) → held.now.first < limit → AreBelow limit heads.old → OnOk result (AreBelow limit heads.new) }
+    ensures below { (limit : ℕ) → held.now.first < limit → AreBelow limit heads.old →
+        OnOk result (AreBelow limit heads.new) }
     ensures ranges { AreEffects effects.old.items → OnOk result (AreEffects effects.new.items) }
 {
     let place = Place {
@@ -248,9 +256,11 @@ fn add_last(
     requires places { ArePlaces heads.old }
     ensures found { (c : Content) → IsFound heads.old effects.old.items c.log → HeldFit held c.held →
         IfOk result (λ b. MatchBool b ((more : Content) × (held_ends c.log c.held piece.now ≡ Some more) ×
-        IsFound heads.new effects.new.items more.log × HeldFit None more.held) (held_ends c.log c.held piece.now ≡ None)) }
+        IsFound heads.new effects.new.items more.log × HeldFit None more.held)
+        (held_ends c.log c.held piece.now ≡ None)) }
     ensures places { OnOk result (ArePlaces heads.new) }
-    ensures below { (limit : ℕ) → HeldBelow limit held → AreBelow limit heads.old → OnOk result (AreBelow limit heads.new) }
+    ensures below { (limit : ℕ) → HeldBelow limit held → AreBelow limit heads.old →
+        OnOk result (AreBelow limit heads.new) }
     ensures ranges { AreEffects effects.old.items → OnOk result (AreEffects effects.new.items) }
 {
     match held {
@@ -267,7 +277,8 @@ fn add_last(
 fn add_middle(held: Option<Held>, piece: &[u8]) -> Result<Option<Held>, AllocError>
     ensures found { (c : Content) → HeldFit held c.held →
         IfOk result (λ h. MatchOption h (held_more c.log c.held piece.now ≡ None)
-        (λ kept. (more : Content) × (held_more c.log c.held piece.now ≡ Some more) × (more.log ≡ c.log) × HeldFit (Some kept) more.held)) }
+        (λ kept. (more : Content) × (held_more c.log c.held piece.now ≡ Some more) × (more.log ≡ c.log) ×
+        HeldFit (Some kept) more.held)) }
     ensures below { (limit : ℕ) → HeldBelow limit held → IfOk result (HeldBelow limit) }
 {
     match held {
@@ -303,7 +314,8 @@ pub fn add_page(
     requires places { ArePlaces heads.old }
     ensures found { (c : Content) → IsFound heads.old effects.old.items c.log → HeldFit held c.held →
         IfOk result (λ o. MatchOption o (next (Going c) page (Gated body.now) ≡ Damaged page)
-        (λ h. (more : Content) × (next (Going c) page (Gated body.now) ≡ Going more) × IsFound heads.new effects.new.items more.log × HeldFit h more.held)) }
+        (λ h. (more : Content) × (next (Going c) page (Gated body.now) ≡ Going more) ×
+        IsFound heads.new effects.new.items more.log × HeldFit h more.held)) }
     ensures held { IfOk result (λ o. IfSome o (HeldBelow (page + 1))) }
     ensures places { OnOk result (ArePlaces heads.new) }
     ensures below { (limit : ℕ) → page < limit → AreBelow limit heads.old → OnOk result (AreBelow limit heads.new) }

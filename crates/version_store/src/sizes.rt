@@ -23,7 +23,8 @@ fn fill(full: u128, size: usize, effect: &Effect) -> (u128, usize)
     requires bytes { IsEffect effect.now }
     requires most { size ≤ 4091 }
     requires few { full ≤ 2 ^ 80 }
-    ensures filled { (effects : List Effect) (i : ℕ) → Filled effects i full size → i < length effects → get_or effects i effect.now ≡ effect.now →
+    ensures filled { (effects : List Effect) (i : ℕ) → Filled effects i full size → i < length effects →
+        get_or effects i effect.now ≡ effect.now →
         Filled effects (i + 1) result.0 result.1 }
     ensures most { result.1 ≤ 4091 }
     ensures few { result.0 ≤ full + 18 }

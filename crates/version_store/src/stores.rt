@@ -81,8 +81,10 @@ impl<M: Medium> Store<M> {
         ensures only { IsTrue M.tells → IfOk result (λ r. Only (M.reads medium) (M.may_leave (medium_of r.0))) }
 
         // The first damaged page is told; over every medium it was read last and isn't blank.
-        ensures damaged { IsTrue M.tells → IfErr result (λ e. (page : ℕ) → e.1 ≡ OpenFault.Damaged page → storage (M.reads medium) ≡ Err page) }
-        ensures shown { IfErr result (λ e. (page : ℕ) → e.1 ≡ OpenFault.Damaged page → (bytes : List ℕ) × (M.last_page e.0 ≡ Some (page, bytes)) ×
+        ensures damaged { IsTrue M.tells → IfErr result (λ e. (page : ℕ) → e.1 ≡ OpenFault.Damaged page →
+            storage (M.reads medium) ≡ Err page) }
+        ensures shown { IfErr result (λ e. (page : ℕ) → e.1 ≡ OpenFault.Damaged page →
+            (bytes : List ℕ) × (M.last_page e.0 ≡ Some (page, bytes)) ×
             (is_blank bytes ≡ false)) }
 
         // No image is new at any moment.
@@ -139,29 +141,39 @@ impl<M: Medium> Store<M> {
         requires ranges { AreEffects effects.now }
 
         // Ok adds them all, on as many pages as they fill, and that is on the medium.
-        ensures added { IsTrue M.tells → IfOk result (λ s. effects_in M.reads s ≡ effects_in M.reads self ++ effects.now) }
-        ensures log { IsTrue M.tells → IfOk result (λ s. (more : Log) × (log_in M.reads s ≡ log_in M.reads self ++ more)) }
+        ensures added { IsTrue M.tells →
+            IfOk result (λ s. effects_in M.reads s ≡ effects_in M.reads self ++ effects.now) }
+        ensures log { IsTrue M.tells →
+            IfOk result (λ s. (more : Log) × (log_in M.reads s ≡ log_in M.reads self ++ more)) }
         ensures left { IfOk result (λ s. left_in s + length (filling effects.now) ≡ left_in self) }
         ensures used { IsTrue M.tells → IfOk result (λ s.
-            count_by is_blank (M.reads (medium_of s)) + length (filling effects.now) ≡ count_by is_blank (M.reads (medium_of self))) }
+            count_by is_blank (M.reads (medium_of s)) + length (filling effects.now) ≡ count_by is_blank
+            (M.reads (medium_of self))) }
         ensures only { IsTrue M.tells → IfOk result (λ s. Only (M.reads (medium_of s)) (M.may_leave (medium_of s))) }
 
         // Each image that is left has a prefix, at every moment.
-        ensures images { IsTrue M.tells → (c : Image) → M.may_leave (handed result) c → HasPrefix (effects_in M.reads self) effects.now c }
+        ensures images { IsTrue M.tells → (c : Image) → M.may_leave (handed result) c →
+            HasPrefix (effects_in M.reads self) effects.now c }
         ensures any_moment { IsTrue M.tells →
             LeavesOnly M.stages (medium_of self) (handed result) (HasPrefix (effects_in M.reads self) effects.now) }
 
         // Only pages that read blank are written, at every moment, and after Ok none of these reads spoiled.
-        ensures kept { IsTrue M.tells → (c : Image) → M.may_leave (handed result) c → KeepsPages (M.reads (medium_of self)) c }
-        ensures kept_then { IsTrue M.tells → LeavesOnly M.stages (medium_of self) (handed result) (KeepsPages (M.reads (medium_of self))) }
-        ensures clean { IsTrue M.tells → IfOk result (λ s. StaysClean (M.reads (medium_of self)) (M.reads (medium_of s))) }
+        ensures kept { IsTrue M.tells → (c : Image) → M.may_leave (handed result) c →
+            KeepsPages (M.reads (medium_of self)) c }
+        ensures kept_then { IsTrue M.tells → LeavesOnly M.stages (medium_of self) (handed result)
+            (KeepsPages (M.reads (medium_of self))) }
+        ensures clean { IsTrue M.tells →
+            IfOk result (λ s. StaysClean (M.reads (medium_of self)) (M.reads (medium_of s))) }
 
         // Full comes exactly where the pages aren't there, and any fault but Medium before all writing.
-        ensures full { IfErr result (λ e. (pages : ℕ) → e.1 ≡ StoreFault.Full pages → (pages ≡ M.page_count (medium_of self)) ×
+        ensures full { IfErr result (λ e. (pages : ℕ) → e.1 ≡ StoreFault.Full pages →
+            (pages ≡ M.page_count (medium_of self)) ×
             (left_in self < length (filling effects.now))) }
         ensures full_blank { IsTrue M.tells →
-            IfErr result (λ e. (pages : ℕ) → e.1 ≡ StoreFault.Full pages → count_by is_blank (M.reads (medium_of self)) < length (filling effects.now)) }
-        ensures fits { left_in self < length (filling effects.now) → result ≡ Err (medium_of self, StoreFault.Full (M.page_count (medium_of self))) }
+            IfErr result (λ e. (pages : ℕ) → e.1 ≡ StoreFault.Full pages →
+            count_by is_blank (M.reads (medium_of self)) < length (filling effects.now)) }
+        ensures fits { left_in self < length (filling effects.now) →
+            result ≡ Err (medium_of self, StoreFault.Full (M.page_count (medium_of self))) }
         ensures nothing { IfErr result (λ e. e.1 ≢ StoreFault.Medium → e.0 ≡ medium_of self) }
         ensures idle { effects.now ≡ [] → result ≡ Ok self }
 
@@ -222,10 +234,12 @@ impl<M: Medium> Store<M> {
 
         // Over every medium it is what the page tells that was read last, and Damaged says that this is none.
         ensures shown { IfOk result (λ r. (page : ℕ) ×
-            LastTells (M.last_page (medium_of self.new)) (M.page_count (medium_of self.new)) page place (Some (r.0, r.1))) }
+            LastTells (M.last_page (medium_of self.new)) (M.page_count (medium_of self.new)) page place
+            (Some (r.0, r.1))) }
         ensures damaged { IfErr result (λ f. (page : ℕ) → f ≡ FetchFault.Damaged page →
             LastTells (M.last_page (medium_of self.new)) (M.page_count (medium_of self.new)) page place None) }
-        ensures before { IfOk result (λ r. IfSome r.1 (λ b. IsBefore b place × (b.page < M.page_count (medium_of self.new)))) }
+        ensures before { IfOk result (λ r. IfSome r.1 (λ b. IsBefore b place ×
+            (b.page < M.page_count (medium_of self.new)))) }
         // It can be stored again.
         ensures in_range { IfOk result (λ r. IsWritten r) }
         ensures damage { damage_in self.new ≡ damage_after (damage_in self.old) result }
@@ -240,7 +254,8 @@ impl<M: Medium> Store<M> {
         ensures size { M.page_count (medium_of self.new) ≡ M.page_count (medium_of self.old) }
         ensures state { M.is_failed (medium_of self.new) ≡ fails_fetching result }
         ensures later { M.faults (medium_of self.old) ≤ M.faults (medium_of self.new) }
-        ensures failed { IfErr result (λ f. f ≡ FetchFault.Medium → Rose (M.faults (medium_of self.old)) (M.faults (medium_of self.new))) }
+        ensures failed { IfErr result (λ f. f ≡ FetchFault.Medium →
+            Rose (M.faults (medium_of self.old)) (M.faults (medium_of self.new))) }
     {
         match find(self.alloc, &mut self.medium, self.pages, place) {
             Err(fault) => Err(fault),

@@ -22,12 +22,17 @@ pub fn write_pages<M: Medium>(
     requires open { M.is_failed medium.old ≡ false }
     requires bodies { All IsBody bodies.now }
     requires blank { IsTrue M.tells → list_all is_blank (drop first (M.reads medium.old)) ≡ true }
-    ensures any_moment { IsTrue M.tells → (log : Log) (pages : List Laid) → IsAtRest log first (M.reads medium.old) (M.may_leave medium.old) →
-        PagesFit (scan begun 0 (take first (M.reads medium.old))) log first pages → bytes_of bodies.now ≡ map body_of pages
+    ensures any_moment { IsTrue M.tells → (log : Log) (pages : List Laid) →
+        IsAtRest log first (M.reads medium.old) (M.may_leave medium.old) →
+        PagesFit (scan begun 0 (take first (M.reads medium.old))) log first pages →
+        bytes_of bodies.now ≡ map body_of pages
         → LeavesOnly M.stages medium.old medium.new (Grows (M.reads medium.old) log pages) }
-    ensures all { IsTrue M.tells → (log : Log) (pages : List Laid) → IsAtRest log first (M.reads medium.old) (M.may_leave medium.old) →
-        PagesFit (scan begun 0 (take first (M.reads medium.old))) log first pages → bytes_of bodies.now ≡ map body_of pages
-        → OnOk result (IsAtRest (log ++ all_of pages) (first + length bodies.now) (M.reads medium.new) (M.may_leave medium.new)) }
+    ensures all { IsTrue M.tells → (log : Log) (pages : List Laid) →
+        IsAtRest log first (M.reads medium.old) (M.may_leave medium.old) →
+        PagesFit (scan begun 0 (take first (M.reads medium.old))) log first pages →
+        bytes_of bodies.now ≡ map body_of pages
+        → OnOk result (IsAtRest (log ++ all_of pages) (first + length bodies.now) (M.reads medium.new)
+        (M.may_leave medium.new)) }
     ensures clean { IsTrue M.tells → OnOk result (StaysClean (M.reads medium.old) (M.reads medium.new)) }
     ensures last { M.last_page medium.new ≡ M.last_page medium.old }
     ensures size { M.page_count medium.new ≡ M.page_count medium.old }

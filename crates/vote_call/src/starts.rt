@@ -114,7 +114,8 @@ pub fn begin<F: Fates, C: Clock, M: Medium>(
     ensures may { MayAllTurn M.Medium result.0 }
     ensures lasts { LastFor M.Medium openings result.0 }
     ensures count { length polls.new.items ≡ length polls.old.items }
-    ensures begun { OnOk result.1 (BegunFor M.Medium openings courier.old polls.old.items courier.new result.0 polls.new.items) }
+    ensures begun { OnOk result.1 (BegunFor M.Medium openings courier.old polls.old.items courier.new result.0
+        polls.new.items) }
 {
     let fallen = fall_all(courier, &openings);
     let start = courier.start();

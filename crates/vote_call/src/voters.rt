@@ -41,7 +41,10 @@ fn push_member<M: Medium>(
     number: u8,
     opening: &Opening<M>,
 ) -> Result<(), AllocError>
-    ensures { OnOk result (opened.new.items ≡ opened.old.items ++ record { node = repository number; effects = log_in opening.now } ∷ []) }
+    ensures { OnOk result (opened.new.items ≡ opened.old.items ++ record {
+      node = repository number;
+      effects = log_in opening.now;
+    } ∷ []) }
 {
     let log = log_of(alloc, opening)?;
     opened.push(Opened {
@@ -58,7 +61,8 @@ pub fn voters<M: Medium>(
     polls: usize,
 ) -> Result<Vec<Opened>, AllocError>
     requires { polls ≤ 255 }
-    ensures { IfOk result (λ opened. opened.items ≡ opened_voters (log_in openings.now.first) (log_in openings.now.second) (log_in openings.now.third) polls) }
+    ensures { IfOk result (λ opened. opened.items ≡ opened_voters (log_in openings.now.first)
+        (log_in openings.now.second) (log_in openings.now.third) polls) }
 {
     let mut opened = Vec::new(alloc);
     push_member(alloc, &mut opened, 1, &openings.first)?;

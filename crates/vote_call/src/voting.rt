@@ -86,7 +86,8 @@ fn go<F: Fates, C: Clock, M: Medium>(
     ensures few { limits.ticks < 2 ^ 32 }
     ensures lasts { LastFor M.Medium openings result.0 }
     ensures count { length polls.new.items ≡ length polls.old.items }
-    ensures ended { OnOk result.1 (EndedFor M.Medium limits openings courier.old polls.old.items courier.new result.0 polls.new.items) }
+    ensures ended { OnOk result.1 (EndedFor M.Medium limits openings courier.old polls.old.items courier.new result.0
+        polls.new.items) }
 {
     let (members, begun) = begin(alloc, courier, openings, polls);
     if begun.is_err() {
@@ -106,7 +107,8 @@ fn run<F: Fates, C: Clock, M: Medium>(
 ) -> Voted<F, C, M>
     requires few { length polls.items ≤ 255 }
     requires opened { SomeOpened M.Medium openings }
-    ensures { RunsAs M.Medium limits lines.now courier openings polls.items result.end result.media (F.asked result.fates) (C.answers result.clock) }
+    ensures { RunsAs M.Medium limits lines.now courier openings polls.items result.end result.media
+        (F.asked result.fates) (C.answers result.clock) }
 {
     let mut courier = courier;
     let mut polls = polls;
@@ -147,7 +149,9 @@ pub fn votes<F: Fates, C: Clock, M: Medium>(
     requires lines { Every IsPoll lines.now }
     requires few { length lines.now ≤ 255 }
     requires usable { AreUsable M.Medium media }
-    ensures ended { EndsAs M.Medium limits lines.now (tellers (F.asked fates) (F.asked result.fates) (C.answers clock) (C.answers result.clock)) media result.media result.end }
+    ensures ended { EndsAs M.Medium limits lines.now
+        (tellers (F.asked fates) (F.asked result.fates) (C.answers clock) (C.answers result.clock)) media
+        result.media result.end }
     ensures kept { AreKept M.Medium media result.media }
 {
     let openings = open_members(alloc, media);

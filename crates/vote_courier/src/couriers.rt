@@ -63,7 +63,8 @@ impl<F: Fates, C: Clock> Courier<F, C> {
         clock: C,
     ) -> Result<Courier<F, C>, (F, C)>
         ensures new { IfOk result (IsNew names.now opened.items (F.asked fates)) }
-        ensures clock { IfOk result (λ c. (first : _) × Adds (C.answers clock) c.answers (first ∷ []) × (c.start ≡ min first (2 ^ 62))) }
+        ensures clock { IfOk result (λ c. (first : _) × Adds (C.answers clock) c.answers (first ∷ []) ×
+            (c.start ≡ min first (2 ^ 62))) }
         ensures err { IfErr result (λ e. F.asked e.0 ≡ F.asked fates) }
     {
         let mut clock = clock;
@@ -158,7 +159,8 @@ impl<F: Fates, C: Clock> Courier<F, C> {
     /// The member stopped for good.
     pub fn down(&mut self, node: NodeId, cause: DownCause) -> Result<(), AllocError>
         ensures ok { OnOk result (state_of self.new.flight ≡ was_shut (state_of self.old.flight) node) }
-        ensures entries { OnOk result (self.new ≡ record (with_entry self.old (entry.Down node cause)) { flight = self.new.flight }) }
+        ensures entries { OnOk result (self.new ≡ record (with_entry self.old (entry.Down node cause))
+            { flight = self.new.flight }) }
         ensures err { OnErr result (self.new ≡ self.old) }
     {
         self.note(Entry::Down { node, cause })?;
@@ -205,10 +207,12 @@ impl<F: Fates, C: Clock> Courier<F, C> {
 
     /// Lets time pass: asks the clock once.
     pub fn tick(&mut self) -> Result<(), AllocError>
-        ensures clock { OnOk result ((answer moment : _) × Adds self.old.answers self.new.answers (answer ∷ []) × (moment ≡ tick_moment self.old answer) ×
+        ensures clock { OnOk result ((answer moment : _) × Adds self.old.answers self.new.answers (answer ∷ []) ×
+            (moment ≡ tick_moment self.old answer) ×
             (self.new.entries ≡ self.old.entries ++ entry.Tick moment ∷ []) × (self.new.last ≡ Some moment)) }
         ensures copies { OnOk result (state_of self.new.flight ≡ passed (state_of self.old.flight)) }
-        ensures same { OnOk result ((self.new.start ≡ self.old.start) × (self.new.opened ≡ self.old.opened) × (self.new.sent ≡ self.old.sent) × (self.new.asked ≡ self.old.asked)) }
+        ensures same { OnOk result ((self.new.start ≡ self.old.start) × (self.new.opened ≡ self.old.opened) ×
+            (self.new.sent ≡ self.old.sent) × (self.new.asked ≡ self.old.asked)) }
     {
         let last = self.last.unwrap_or(self.start);
         let answer = self.clock.moment();

@@ -7,5 +7,6 @@ ghost use Rattle.vote_form.specs.Inputs.{IsInput};
 /// exactly where there is one.
 pub fn law_of_inputs()
     ensures one { (bytes : List ℕ) (a b : List PollLine) → IsInput bytes a → IsInput bytes b → a ≡ b }
-    ensures none { (bytes : List ℕ) (line : ℕ) (polls : List PollLine) → IsInputFault bytes line → IsInput bytes polls → ⊥ }
+    ensures none { (bytes : List ℕ) (line : ℕ) (polls : List PollLine) → IsInputFault bytes line →
+        IsInput bytes polls → ⊥ }
 {}

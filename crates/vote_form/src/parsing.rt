@@ -16,7 +16,8 @@ const MOST_POLLS: usize = 16;
 
 // What follows the first line, if that is the title.
 fn after_title(bytes: &[u8]) -> Option<&[u8]>
-    ensures { MatchOption result (Lacks (λ l. l ≡ title) (lines bytes.now)) (λ rest. lines bytes.now ≡ title ∷ lines rest.now) }
+    ensures { MatchOption result (Lacks (λ l. l ≡ title) (lines bytes.now))
+        (λ rest. lines bytes.now ≡ title ∷ lines rest.now) }
 {
     if bytes.is_empty() {
         return None;

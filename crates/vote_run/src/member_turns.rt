@@ -52,7 +52,8 @@ fn go_on<F: Fates, C: Clock>(
     durable: usize,
     found: &[Effect],
 ) -> Result<Member, AllocError>
-    ensures entry { OnOk result (courier.new ≡ with_entry courier.old (entry.Crash (repository number) (length found.now - durable))) }
+    ensures entry { OnOk result (courier.new ≡ with_entry courier.old
+        (entry.Crash (repository number) (length found.now - durable))) }
     ensures member { IfOk result (λ m. m ≡ record { number = number; log = found.now; moment = courier.old.start }) }
 {
     let node = NodeId::repository(number);
@@ -103,7 +104,8 @@ pub fn end<F: Fates, C: Clock, M: Medium>(
     requires sound { M.is_failed (medium_of store) ≡ false }
     requires effects { AreEffects effects.now }
     requires outs { AreOuts outs.now }
-    ensures { EndsAs M.Medium (repository number) durable courier.old courier.new store effects.now outs.now member result }
+    ensures { EndsAs M.Medium (repository number) durable courier.old courier.new store effects.now
+        outs.now member result }
 {
     let node = NodeId::repository(number);
     let behind = courier.has_ticked();
@@ -139,7 +141,8 @@ fn act<F: Fates, C: Clock, M: Medium>(
     requires number { member.number ≡ number }
     requires sound { M.is_failed (medium_of store) ≡ false }
     ensures { Acted M.Medium (repository number) courier.old courier.new member store durable behind result
-        ⊎ (Stayed M.Medium (repository number) courier.old courier.new member store durable behind result ⊎ Wants M.Medium (medium_of store) result) }
+        ⊎ (Stayed M.Medium (repository number) courier.old courier.new member store durable behind result ⊎
+        Wants M.Medium (medium_of store) result) }
 {
     let node = NodeId::repository(number);
     let moment = courier.moment();

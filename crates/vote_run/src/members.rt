@@ -93,9 +93,11 @@ pub fn members_turn<F: Fates, C: Clock, M: Medium>(
 ) -> Members<M>
     requires { MayAllTurn M.Medium members }
     ensures may { MayAllTurn M.Medium result }
-    ensures sat { IsTrue M.tells → (lines : List Line) → Stands lines courier.old → SitAll M.Medium lines courier.old members →
+    ensures sat { IsTrue M.tells → (lines : List Line) → Stands lines courier.old →
+        SitAll M.Medium lines courier.old members →
         AllSat M.Medium lines courier.old courier.new result }
-    ensures fares { spec.some_wants result ≡ false → FareOn M.Medium courier.old.entries members courier.new.entries result }
+    ensures fares { spec.some_wants result ≡ false →
+        FareOn M.Medium courier.old.entries members courier.new.entries result }
     ensures lasts { LastOn M.Medium members result }
 {
     let Members {

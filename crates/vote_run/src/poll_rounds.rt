@@ -27,7 +27,8 @@ pub fn polls_go<F: Fates, C: Clock>(
 ) -> Result<(), AllocError>
     requires { length polls.old.items ≤ 255 }
     ensures count { length polls.new.items ≡ length polls.old.items }
-    ensures went { (lines : List Line) → Stands lines courier.old → PollsGo (hall_of lines courier.old) 0 polls.old.items →
+    ensures went { (lines : List Line) → Stands lines courier.old →
+        PollsGo (hall_of lines courier.old) 0 polls.old.items →
         OnOk result (PollsWent lines courier.old courier.new (length polls.new.items) polls.new.items) }
     ensures adds { OnOk result (Lengthens is_poll courier.old.entries courier.new.entries) }
 {
@@ -45,7 +46,8 @@ pub fn polls_turn<F: Fates, C: Clock>(
 ) -> Result<(), AllocError>
     requires { length polls.old.items ≤ 255 }
     ensures count { length polls.new.items ≡ length polls.old.items }
-    ensures turned { (lines : List Line) → Stands lines courier.old → PollsAre (hall_of lines courier.old) 0 behind polls.old.items →
+    ensures turned { (lines : List Line) → Stands lines courier.old →
+        PollsAre (hall_of lines courier.old) 0 behind polls.old.items →
         OnOk result (PollsTurned lines courier.old courier.new (length polls.new.items) behind polls.new.items) }
     ensures adds { OnOk result (Lengthens is_poll courier.old.entries courier.new.entries) }
 {

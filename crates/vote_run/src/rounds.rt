@@ -61,7 +61,8 @@ fn round<F: Fates, C: Clock, M: Medium>(
     requires few { length polls.old.items ≤ 255 }
     ensures may { MayAllTurn M.Medium result.0 }
     ensures count { length polls.new.items ≡ length polls.old.items }
-    ensures gone { IsTrue M.tells → (lines : List Line) → Between M.Medium lines courier.old members polls.old.items behind →
+    ensures gone { IsTrue M.tells → (lines : List Line) →
+        Between M.Medium lines courier.old members polls.old.items behind →
         OnOk result.1 (HasGoneRound M.Medium lines courier.old courier.new result.0 polls.new.items) }
     ensures fares { OnOk result.1 (FareOn M.Medium courier.old.entries members courier.new.entries result.0) }
     ensures lasts { LastOn M.Medium members result.0 }

@@ -17,7 +17,8 @@ ghost use Rattle.vote_traces.specs.Replays.{AreCalls, Call, IsRun, TwoDecided};
 
 /// Each legal vote trace is a run of the world of votes.
 pub fn law_of_replays()
-    ensures { (lines : List Line) (asked : List Asked) (t : Trace) → Legal lines asked t → (events : List Event) × IsRun lines t events }
+    ensures { (lines : List Line) (asked : List Asked) (t : Trace) → Legal lines asked t →
+        (events : List Event) × IsRun lines t events }
 {}
 
 /// Where a poll holds a decision, two members' durable logs have a Decide of that kind for its stamp,
@@ -38,7 +39,8 @@ pub fn law_of_causes()
 /// No two polls of one stamp ever hold different decisions, in one call or in two that went on with
 /// one another's logs.
 pub fn one_decision_of_all_traces()
-    ensures { (before between : List Call) (c d : Call) (i j : ℕ) (x y : Bool) → AreCalls no_logs (before ++ (c ∷ (between ++ (d ∷ [])))) →
+    ensures { (before between : List Call) (c d : Call) (i j : ℕ) (x y : Bool) →
+        AreCalls no_logs (before ++ (c ∷ (between ++ (d ∷ [])))) →
         (line_at c.lines i).stamp ≡ (line_at d.lines j).stamp → held ((hall_after c.lines c.trace).polls i) ≡ Some x →
         held ((hall_after d.lines d.trace).polls j) ≡ Some y → x ≡ y }
 {}
@@ -46,7 +48,8 @@ pub fn one_decision_of_all_traces()
 /// A trace without entries is legal for each list of polls whose members and polls were opened,
 /// whatever fates were asked for before.
 pub fn legal_begins()
-    ensures { (lines : List Line) (asked : List Asked) (t : Trace) → JustVoters (length lines) t.opened → t.sent ≡ [] → t.entries ≡ [] → Legal lines asked t }
+    ensures { (lines : List Line) (asked : List Asked) (t : Trace) → JustVoters (length lines) t.opened → t.sent ≡ [] →
+        t.entries ≡ [] → Legal lines asked t }
 {}
 
 /// A legal vote trace stays legal with one more entry that meets its rule, with the messages that it
@@ -57,14 +60,20 @@ pub fn legal_goes_on()
         → sent_by (world_of (step (base_of lines t) (walk (base_of lines t) t.entries) e)) ≡
         sent_by (world_of (walk (base_of lines t) t.entries)) ++ map post_of new
         → Numbered (length t.sent + 1) new
-        → Legal lines (asked ++ map asked_of new) (record { start = t.start; opened = t.opened; sent = t.sent ++ new; entries = t.entries ++ e ∷ [] }) }
+        → Legal lines (asked ++ map asked_of new) (record {
+          start = t.start;
+          opened = t.opened;
+          sent = t.sent ++ new;
+          entries = t.entries ++ e ∷ [];
+        }) }
 {}
 
 /// A worked trace meets the rules, and its poll holds a decision after twelve messages; one that ticks before its poll has gone doesn't, nor does one that
 /// takes a message twice.
 pub fn rules_by_example()
     ensures met { Meets row_base row_fates (start_hall row_base) row_entries }
-    ensures decided { (held ((walk row_base row_entries).polls 1) ≡ Some true) × (length (walk row_base row_entries).sendings ≡ 12) }
+    ensures decided { (held ((walk row_base row_entries).polls 1) ≡ Some true) ×
+        (length (walk row_base row_entries).sendings ≡ 12) }
     ensures early { Meets row_base row_fates (start_hall row_base) early_tick → ⊥ }
     ensures twice { Meets row_base row_fates (start_hall row_base) taken_twice → ⊥ }
 {}

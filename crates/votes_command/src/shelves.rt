@@ -14,7 +14,8 @@ pub const VOTES_VOLUME: u32 = 1_010;
 
 /// Takes the members' media, in their order. None where the shelf gives none.
 pub fn take_members<S: Shelf>(shelf: &mut S) -> MemberMedia<S::Medium>
-    ensures { WereTaken S.Medium.Medium (shelf_sight S.Shelf shelf.old) (shelf_sight S.Shelf shelf.new) member_names (in_order result) }
+    ensures { WereTaken S.Medium.Medium (shelf_sight S.Shelf shelf.old) (shelf_sight S.Shelf shelf.new) member_names
+        (in_order result) }
 {
     let first = take_volume(shelf, NodeId::repository(1), VOTES_VOLUME);
     let second = take_volume(shelf, NodeId::repository(2), VOTES_VOLUME);

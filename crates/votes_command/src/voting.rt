@@ -38,9 +38,11 @@ pub fn vote<S: Shelf, F: Fates, C: Clock>(
     requires lines { Every IsPoll lines.now }
     requires few { length lines.now ≤ 255 }
     ensures { TookNothing S.Medium.Medium (shelf_sight S.Shelf shelf.old) (shelf_sight S.Shelf shelf.new)
-        (tellers (F.asked fates) (F.asked result.fates) (C.answers clock) (C.answers result.clock)) result.media.items result.end
+        (tellers (F.asked fates) (F.asked result.fates) (C.answers clock) (C.answers result.clock))
+        result.media.items result.end
         ⊎ VotesOver S.Medium.Medium (shelf_sight S.Shelf shelf.old) (shelf_sight S.Shelf shelf.new) limits lines.now
-        (tellers (F.asked fates) (F.asked result.fates) (C.answers clock) (C.answers result.clock)) result.media.items result.end }
+        (tellers (F.asked fates) (F.asked result.fates) (C.answers clock) (C.answers result.clock))
+        result.media.items result.end }
 {
     let Ok(kept) = Vec::with_capacity(alloc, 3) else {
         return VotesEnded {

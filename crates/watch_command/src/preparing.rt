@@ -43,8 +43,10 @@ fn refusal(alloc: Global, fault: &WatchFault) -> Outcome
 
 // The puts and the text.
 fn written(alloc: Global, repository: u8, rule: Rule, totals: &Totals) -> Result<Prepared, Outcome>
-    ensures puts { (log : List Effect) → AreCursors (last_total log) totals.now.cursors.entries → IfOk result (λ p. p.puts.items ≡ new_puts log totals.now.list.items) }
-    ensures in_range { Every (λ t. IsObject t.object) totals.now.list.items → IfOk result (λ p. AreEffects p.puts.items) }
+    ensures puts { (log : List Effect) → AreCursors (last_total log) totals.now.cursors.entries →
+        IfOk result (λ p. p.puts.items ≡ new_puts log totals.now.list.items) }
+    ensures in_range { Every (λ t. IsObject t.object) totals.now.list.items →
+        IfOk result (λ p. AreEffects p.puts.items) }
     ensures text { IfOk result (λ p. p.text ≡ text_of repository rule totals.now.list.items) }
     ensures err { IfErr result (λ e. e ≡ Outcome.NoMemory) }
 {

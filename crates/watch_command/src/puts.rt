@@ -26,7 +26,8 @@ fn went_on(cursor: Option<PseudoTime>, total: &Moved<i64>) -> bool
 
 // Adds the put of a total, where it went on.
 fn add_put(puts: &mut Vec<Effect>, cursors: &Cursors, total: &Moved<i64>) -> Result<(), AllocError>
-    ensures puts { (log : List Effect) → spec.AreCursors (last_total log) cursors.now.entries → OnOk result (puts.new.items ≡ puts.old.items ++ spec.new_puts log (total.now ∷ [])) }
+    ensures puts { (log : List Effect) → spec.AreCursors (last_total log) cursors.now.entries →
+        OnOk result (puts.new.items ≡ puts.old.items ++ spec.new_puts log (total.now ∷ [])) }
     ensures in_range { IsObject total.now.object → AreEffects puts.old.items → OnOk result (AreEffects puts.new.items) }
 {
     let _in_range = total.cursor.stamp();
@@ -47,7 +48,8 @@ pub fn puts_of(
     cursors: &Cursors,
     list: &[Moved<i64>],
 ) -> Result<Vec<Effect>, AllocError>
-    ensures puts { (log : List Effect) → spec.AreCursors (last_total log) cursors.now.entries → IfOk result (λ puts. puts.items ≡ spec.new_puts log list.now) }
+    ensures puts { (log : List Effect) → spec.AreCursors (last_total log) cursors.now.entries →
+        IfOk result (λ puts. puts.items ≡ spec.new_puts log list.now) }
     ensures in_range { Every (λ t. IsObject t.object) list.now → IfOk result (λ puts. AreEffects puts.items) }
 {
     let mut puts = Vec::new(alloc);

@@ -44,7 +44,8 @@ fn restore_put<R: WatchRule<Total = i64>, F: Callback<R> + Drop>(
 ) -> Result<(), AllocError>
     requires cursors { AreCursors (λ o. moved_at o watches.old) cursors.old.entries }
     ensures cursors { OnOk result (AreCursors (λ o. moved_at o watches.new) cursors.new.entries) }
-    ensures restored { (log : List Effect) → AreRestored log watches.old → OnOk result (AreRestored (effect.now ∷ log) watches.new) }
+    ensures restored { (log : List Effect) → AreRestored log watches.old →
+        OnOk result (AreRestored (effect.now ∷ log) watches.new) }
 {
     let Some(total) = total_put(effect) else {
         return Ok(());

@@ -33,7 +33,8 @@ fn folded_by<R: WatchRule<Total = i64>, F: Callback<R> + Drop>(
     log: &[Effect],
 ) -> Result<Totals, WatchFault>
     requires follows { F.follows call }
-    ensures each { IfOk result (λ t. (o : ObjectId) → advanced R.first R.next o (reverse marks.now) None (last_total log.now o) ≡ Ok (moved_at o t.list.items)) }
+    ensures each { IfOk result (λ t. (o : ObjectId) →
+        advanced R.first R.next o (reverse marks.now) None (last_total log.now o) ≡ Ok (moved_at o t.list.items)) }
     ensures rising { IfOk result (λ t. AreRising t.list.items) }
     ensures cursors { IfOk result (λ t. AreCursors (last_total log.now) t.cursors.entries) }
     ensures refused { IfErr result (λ e. (e ≡ fault.NoMemory)
@@ -59,7 +60,8 @@ pub fn totals_of(
 ) -> Result<Totals, WatchFault>
     ensures totals { IfOk result (λ t. AreTotals rule (reverse marks.now) log.now t.list.items) }
     ensures cursors { IfOk result (λ t. AreCursors (last_total log.now) t.cursors.entries) }
-    ensures refused { IfErr result (λ e. (e ≡ fault.NoMemory) ⊎ IsRefusal (outcome_of rule (reverse marks.now) log.now) e) }
+    ensures refused { IfErr result (λ e. (e ≡ fault.NoMemory) ⊎
+        IsRefusal (outcome_of rule (reverse marks.now) log.now) e) }
 {
     match rule {
         Rule::Count => folded_by::<Count, _>(

@@ -60,7 +60,8 @@ fn watch_totals<S: Shelf>(
 ) -> (Outcome, Option<S::Medium>)
     requires unretired { floor_of (reverse marks.now) ≡ None }
     requires marks { AreMarks (reverse marks.now) }
-    ensures { spec.TotalsOver S.Medium.Medium (shelf_sight S.Shelf shelf.old) (shelf_sight S.Shelf shelf.new) repository rule (reverse marks.now) result.0 result.1 }
+    ensures { spec.TotalsOver S.Medium.Medium (shelf_sight S.Shelf shelf.old)
+        (shelf_sight S.Shelf shelf.new) repository rule (reverse marks.now) result.0 result.1 }
 {
     let node = NodeId::repository(repository);
     let taken = take_volume(shelf, node, totals_volume(rule));
@@ -80,9 +81,12 @@ pub fn watch<S: Shelf>(
     rule: Rule,
     shelf: &mut S,
 ) -> (Outcome, Vec<Kept<S::Medium>>)
-    ensures { TookNothing S.Medium.Medium (shelf_sight S.Shelf shelf.old) (shelf_sight S.Shelf shelf.new) result.1.items result.0
-        ⊎ (spec.StopsBefore S.Medium.Medium (shelf_sight S.Shelf shelf.old) (shelf_sight S.Shelf shelf.new) repository rule result.1.items result.0
-        ⊎ spec.WatchesOver S.Medium.Medium (shelf_sight S.Shelf shelf.old) (shelf_sight S.Shelf shelf.new) repository rule result.1.items result.0) }
+    ensures { TookNothing S.Medium.Medium (shelf_sight S.Shelf shelf.old)
+        (shelf_sight S.Shelf shelf.new) result.1.items result.0
+        ⊎ (spec.StopsBefore S.Medium.Medium (shelf_sight S.Shelf shelf.old)
+        (shelf_sight S.Shelf shelf.new) repository rule result.1.items result.0
+        ⊎ spec.WatchesOver S.Medium.Medium (shelf_sight S.Shelf shelf.old)
+        (shelf_sight S.Shelf shelf.new) repository rule result.1.items result.0) }
 {
     let Ok(room) = Vec::with_capacity(alloc, 1_000) else {
         return (Outcome::NoMemory, Vec::new(alloc));

@@ -27,7 +27,8 @@ impl<F: Fates, C: Clock, M: Medium> Wire<F, C, M> {
         ensures takes { IfOk result (Takes self.old self.new node) }
         ensures message { IfOk result (IfArrived (IsCopyOf (map post_of self.old.sent) node)) }
         ensures told { IsTrue M.tells → IfOk result (IfArrived (IsCopyOf (sent_by (world_of self.old)) node)) }
-        ensures all { IsTrue M.tells → IfOk result (IfNothing (TookAll (fates_of self.old.sent) (world_of self.old) node)) }
+        ensures all { IsTrue M.tells →
+            IfOk result (IfNothing (TookAll (fates_of self.old.sent) (world_of self.old) node)) }
         ensures err { OnErr result (IsBroken self.old self.new) }
     {
         if self.broken {

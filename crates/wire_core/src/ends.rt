@@ -25,7 +25,8 @@ impl<F: Fates, C: Clock, M: Medium> Wire<F, C, M> {
         ensures up { result.up ≡ ((world_of self.now).flags node).up }
         ensures gone { result.gone ≡ ((world_of self.now).flags node).gone }
         ensures due { result.due ≡ ((world_of self.now).flags node).due }
-        ensures behind { ((world_of self.now).flags node).up ≡ true → result.behind ≡ is_behind (world_of self.now) node }
+        ensures behind { ((world_of self.now).flags node).up ≡ true →
+            result.behind ≡ is_behind (world_of self.now) node }
     {
         self.story.standing(node)
     }
@@ -33,7 +34,8 @@ impl<F: Fates, C: Clock, M: Medium> Wire<F, C, M> {
     /// Whether no node that is up has anything to do. After a want of memory it is false.
     pub fn idle(&self) -> bool
         ensures quiet { IsTrue result ↔ ((self.now.broken ≡ false) × IsQuiet self.now) }
-        ensures idle { IsTrue M.tells → (IsTrue result ↔ ((self.now.broken ≡ false) × Idle (fates_of self.now.sent) (world_of self.now))) }
+        ensures idle { IsTrue M.tells →
+            (IsTrue result ↔ ((self.now.broken ≡ false) × Idle (fates_of self.now.sent) (world_of self.now))) }
     {
         if self.broken {
             return false;
@@ -51,7 +53,8 @@ impl<F: Fates, C: Clock, M: Medium> Wire<F, C, M> {
         ensures moments { Every (λ moment. moment < 2 ^ 63) (tick_moments self.now.entries) }
         ensures copies { self.now.broken ≡ false → IsFlown M.tells self.now }
         ensures fates { self.now.broken ≡ false → self.now.asked ≡ self.now.origin.asked ++ map asked_of self.now.sent }
-        ensures clock { self.now.broken ≡ false → IsClocked self.now.origin.answers self.now.answers self.now.origin.start self.now.entries }
+        ensures clock { self.now.broken ≡ false →
+            IsClocked self.now.origin.answers self.now.answers self.now.origin.start self.now.entries }
     {
         let _ = &self.alloc;
     }
@@ -59,12 +62,14 @@ impl<F: Fates, C: Clock, M: Medium> Wire<F, C, M> {
     /// The trace, and the fates and the clock, handed back.
     pub fn finish(self) -> (Trace, F, C)
         ensures trace { result.0 ≡ trace_of self }
-        ensures legal { IsTrue M.tells → (plan : Plan) → IsRunOf plan self.origin → IsLegal plan (self.origin.asked ++ map asked_of self.sent) result.0 }
+        ensures legal { IsTrue M.tells → (plan : Plan) → IsRunOf plan self.origin →
+            IsLegal plan (self.origin.asked ++ map asked_of self.sent) result.0 }
         ensures sent { IsTrue M.tells → map post_of self.sent ≡ sent_by (world_of self) }
         ensures numbers { Numbered 1 self.sent }
         ensures moments { Every (λ moment. moment < 2 ^ 63) (tick_moments self.entries) }
         ensures fates { self.broken ≡ false → F.asked result.1 ≡ self.origin.asked ++ map asked_of self.sent }
-        ensures clock { self.broken ≡ false → IsClocked self.origin.answers (C.answers result.2) self.origin.start self.entries }
+        ensures clock { self.broken ≡ false →
+            IsClocked self.origin.answers (C.answers result.2) self.origin.start self.entries }
     {
         let Wire {
             alloc: _,

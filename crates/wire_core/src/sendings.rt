@@ -25,8 +25,15 @@ fn send(
     fate: Fate,
 ) -> Result<Sent, AllocError>
     requires { IsMessage out.now.message }
-    ensures sent { IfOk result (λ s. s ≡ record { number = number; from = from; to = out.now.to; message = out.now.message; fate = fate }) }
-    ensures tied { IfOk result (λ s. (w : World) (sent : List Sent) (marks : List Marked) → IsTied (state_of flight.old) w sent marks →
+    ensures sent { IfOk result (λ s. s ≡ record {
+      number = number;
+      from = from;
+      to = out.now.to;
+      message = out.now.message;
+      fate = fate;
+    }) }
+    ensures tied { IfOk result (λ s. (w : World) (sent : List Sent) (marks : List Marked) →
+        IsTied (state_of flight.old) w sent marks →
         IsTied (state_of flight.new) w (sent ++ s ∷ []) (marks ++ all_marked w.ticks (s ∷ []))) }
 {
     let message = out.message.copy(alloc)?;
@@ -55,7 +62,8 @@ pub fn send_all<F: Fates>(
     ensures asked { IfOk result (λ news. F.asked fates.new ≡ F.asked fates.old ++ map asked_of news.items) }
     ensures posted { IfOk result (λ news. map post_of news.items ≡ posts from outs.now) }
     ensures numbered { IfOk result (λ news. Numbered first news.items) }
-    ensures tied { IfOk result (λ news. (w : World) (sent : List Sent) (marks : List Marked) → IsTied (state_of flight.old) w sent marks →
+    ensures tied { IfOk result (λ news. (w : World) (sent : List Sent) (marks : List Marked) →
+        IsTied (state_of flight.old) w sent marks →
         IsTied (state_of flight.new) w (sent ++ news.items) (marks ++ all_marked w.ticks news.items)) }
 {
     let mut news = Vec::new(alloc);

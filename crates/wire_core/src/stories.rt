@@ -39,7 +39,8 @@ pub fn names_of(alloc: Global, opened: &[Opened]) -> Result<Vec<NodeId>, AllocEr
 
 // The nodes with these names, as they are opened.
 fn nodes_with(alloc: Global, names: &[NodeId]) -> Result<Nodes, AllocError>
-    ensures { IfOk result (λ nodes. (n : NodeId) → flags_at nodes.entries n ≡ (if list_any (λ m. same_node m n) names.now then Some new_flags else None)) }
+    ensures { IfOk result (λ nodes. (n : NodeId) →
+        flags_at nodes.entries n ≡ (if list_any (λ m. same_node m n) names.now then Some new_flags else None)) }
 {
     let mut nodes = BTreeMap::new(alloc);
     for name in names {
@@ -50,7 +51,8 @@ fn nodes_with(alloc: Global, names: &[NodeId]) -> Result<Nodes, AllocError>
 
 // The node that an entry names. A tick names none.
 fn node_of(entry: &Entry) -> Option<NodeId>
-    ensures { MatchOption result ((n : NodeId) → names n entry.now ≡ false) (λ m. (n : NodeId) → names n entry.now ≡ same_node m n) }
+    ensures { MatchOption result ((n : NodeId) → names n entry.now ≡ false) (λ m. (n : NodeId) →
+        names n entry.now ≡ same_node m n) }
 {
     match entry {
         Entry::Take { node, number: _ } => Some(*node),
@@ -70,7 +72,8 @@ fn node_of(entry: &Entry) -> Option<NodeId>
 
 // The nodes after an entry.
 fn note(nodes: &mut Nodes, last: Option<u64>, ticks: u64, entry: &Entry)
-    ensures { (n : NodeId) → flags_at nodes.new.entries n ≡ after_entry last ticks entry.now n (flags_at nodes.old.entries n) }
+    ensures { (n : NodeId) → flags_at nodes.new.entries n ≡ after_entry last ticks entry.now n
+        (flags_at nodes.old.entries n) }
 {
     let Some(node) = node_of(entry) else {
         return;
@@ -154,7 +157,8 @@ impl Story {
 
     /// Whether no node that is up has anything to do, beside taking copies.
     pub fn is_idle(&self) -> bool
-        ensures { IsTrue result ↔ ((n : NodeId) → is_idle_at self.now.last self.now.ticks n (flags_at self.now.nodes.entries n) ≡ true) }
+        ensures { IsTrue result ↔ ((n : NodeId) →
+            is_idle_at self.now.last self.now.ticks n (flags_at self.now.nodes.entries n) ≡ true) }
     {
         for (node, _flags) in &self.nodes {
             if !self.is_idle_at(*node) {

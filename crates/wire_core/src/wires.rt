@@ -50,11 +50,13 @@ impl<F: Fates, C: Clock, M: Medium> Model for Wire<F, C, M> {
     ghost coded = { Prim.hlevel (codes, stmt.the_row.coded) };
 
     ghost view = { λ w. parts_with
-        (origin_with w.run w.acts.items w.start w.opened.items (F.asked w.first_fates.value) (C.answers w.first_clock.value))
+        (origin_with w.run w.acts.items w.start w.opened.items (F.asked w.first_fates.value)
+        (C.answers w.first_clock.value))
         w.story w.sent.items (F.asked w.fates) (C.answers w.clock) w.flight w.broken };
 
     ghost invariant = { λ w. IsSound M.tells (parts_with
-        (origin_with w.run w.acts.items w.start w.opened.items (F.asked w.first_fates.value) (C.answers w.first_clock.value))
+        (origin_with w.run w.acts.items w.start w.opened.items (F.asked w.first_fates.value)
+        (C.answers w.first_clock.value))
         w.story w.sent.items (F.asked w.fates) (C.answers w.clock) w.flight w.broken)
         w.story.nodes.entries w.story.ticks w.story.last };
 }

@@ -43,7 +43,8 @@ impl<F: Fates, C: Clock, M: Medium> SharedWire<F, C, M> {
         requires pass { IsWirePass self.now.lock pass.old }
         ensures pass { IsWirePass self.now.lock pass.new }
         ensures tested { Tested (knows pass.old) (knows pass.new) stamp result }
-        ensures stands { IsTrue M.tells → IfSome result (λ committed. IsDecidedAs (world_at (knows pass.new)) stamp committed) }
+        ensures stands { IsTrue M.tells →
+            IfSome result (λ committed. IsDecidedAs (world_at (knows pass.new)) stamp committed) }
     {
         let number = self.lock.test(pass, place_of(stamp));
         if number == number_of(stamp, true) {

@@ -121,11 +121,14 @@ impl<F: Fates, C: Clock, M: Medium> SharedWire<F, C, M> {
     pub fn close(self, passes: Vec<WirePass<F, C, M>>) -> Result<Closed<F, C>, (F, C, AllocError)>
         requires passes { All (IsWirePass self.lock) passes.items }
         requires all { vec_len passes ≡ length (base_of self.lock).origin.opened + 1 }
-        ensures whole { IfOk result (λ r. IsWhole M.tells (base_of self.lock).origin r.told (F.asked r.fates) (C.answers r.clock)) }
-        ensures idle { IsTrue M.tells → IfOk result (λ r. IsTrue r.idle ↔ Idle (fates_of r.told.sent) (end_of (base_of self.lock).origin r.told)) }
+        ensures whole { IfOk result (λ r. IsWhole M.tells (base_of self.lock).origin r.told (F.asked r.fates)
+            (C.answers r.clock)) }
+        ensures idle { IsTrue M.tells →
+            IfOk result (λ r. IsTrue r.idle ↔ Idle (fates_of r.told.sent) (end_of (base_of self.lock).origin r.told)) }
         ensures rest { IfOk result (λ r. IsTrue r.idle → AtRest (end_of (base_of self.lock).origin r.told)) }
         ensures carries { IfOk result (λ r. All (λ pass. CarriesOn owner_of (knows pass) r.told.entries) passes.items) }
-        ensures owned { IfOk result (λ r. All (λ e. IsOneOf (owners_for (base_of self.lock).origin.opened) (owner_of e)) r.told.entries) }
+        ensures owned { IfOk result (λ r. All (λ e. IsOneOf (owners_for (base_of self.lock).origin.opened)
+            (owner_of e)) r.told.entries) }
         // Where it isn't told, there is one, too.
         ensures untold { IfErr result (λ e. LeavesUntold M.tells (base_of self.lock).origin passes.items) }
     {

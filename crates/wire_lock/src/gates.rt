@@ -30,7 +30,8 @@ fn post_all<F: Fates, C: Clock, M: Medium>(
     requires board { board_size (lock_of visit.old) ≡ 4096 }
     requires inside { (x : _) × IsInside visit.old x }
     requires stand { IsTrue M.tells → Every
-        (λ d. IsDecidedAs (walk (base_from (base_of (lock_of visit.old)).origin) (sees visit.old).story) d.0 d.1) decides.now }
+        (λ d. IsDecidedAs (walk (base_from (base_of (lock_of visit.old)).origin) (sees visit.old).story) d.0 d.1)
+        decides.now }
     ensures lock { lock_of visit.new ≡ lock_of visit.old }
     ensures inside { (x : _) → IsInside visit.old x → IsInside visit.new x }
     ensures noted { has_noted visit.new ≡ has_noted visit.old }

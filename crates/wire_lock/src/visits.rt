@@ -32,7 +32,8 @@ impl<F: Fates, C: Clock, M: Medium> SharedWire<F, C, M> {
         requires gone { HasGone (world_at (knows pass)) node }
         ensures pass { IsWirePass self.now.lock result.0 }
         ensures ok { IfOk result.1 (TakesOne M.tells node (knows pass) (knows result.0)) }
-        ensures copy { IsTrue M.tells → IfOk result.1 (IfArrived (IsCopyOf (sent_by (world_at (knows result.0))) node)) }
+        ensures copy { IsTrue M.tells →
+            IfOk result.1 (IfArrived (IsCopyOf (sent_by (world_at (knows result.0))) node)) }
         ensures in_range { IfOk result.1 (IfArrived (λ a. IsMessage a.message)) }
         ensures err { OnErr result.1 (Looked (knows pass) (knows result.0)) }
     {

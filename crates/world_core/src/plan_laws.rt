@@ -28,22 +28,26 @@ pub fn law_of_plans_in_range()
     ensures acts { (plan : Plan) → IsOfLanguage plan → AreBrokerActs plan.acts }
     ensures own { (plan : Plan) (b : ℕ) → IsOfLanguage plan → AreBrokerActs (acts_of b plan.acts) }
     ensures names { (plan : Plan) → IsOfLanguage plan → Every (λ act. IsInRange 1 act.broker act.home) plan.acts }
-    ensures scripts { (plan : Plan) → IsOfLanguage plan → Every (λ act. BlockInRange (block act.script.lines)) plan.acts }
+    ensures scripts { (plan : Plan) → IsOfLanguage plan →
+        Every (λ act. BlockInRange (block act.script.lines)) plan.acts }
     ensures read { (plan : Plan) → IsOfLanguage plan → Scripted (reading plan.acts) plan.acts }
 {}
 
 /// Two readings that both read a plan's scripts give the same walk of its traces, and the same traces
 /// are legal by them.
 pub fn readings_walk_alike()
-    ensures walks { (s s' : List ℕ → Tree) (plan : Plan) (t : Trace) (es : List Entry) → Scripted s plan.acts → Scripted s' plan.acts →
+    ensures walks { (s s' : List ℕ → Tree) (plan : Plan) (t : Trace) (es : List Entry) → Scripted s plan.acts →
+        Scripted s' plan.acts →
         walk (base_of s plan t) es ≡ walk (base_of s' plan t) es }
-    ensures legal { (s s' : List ℕ → Tree) (plan : Plan) (asked : List Asked) (t : Trace) → Scripted s plan.acts → Scripted s' plan.acts →
+    ensures legal { (s s' : List ℕ → Tree) (plan : Plan) (asked : List Asked) (t : Trace) → Scripted s plan.acts →
+        Scripted s' plan.acts →
         Legal s plan asked t → Legal s' plan asked t }
 {}
 
 /// Where earlier runs left these logs, each legal by its own plan, there is one reading of scripts by
 /// which the logs have a past and a trace that is legal by its plan is legal.
 pub fn one_reading_for_all()
-    ensures { (plan : Plan) (asked : List Asked) (t : Trace) (logs : NodeId → List Effect) → IsOfLanguage plan → IsLegal plan asked t → WereLeft logs
+    ensures { (plan : Plan) (asked : List Asked) (t : Trace) (logs : NodeId → List Effect) → IsOfLanguage plan →
+        IsLegal plan asked t → WereLeft logs
         → (script : List ℕ → Tree) × HasPast (alike script) logs × Legal script plan asked t }
 {}
