@@ -25,8 +25,8 @@ pub fn law_of_serial_runs()
 /// What the objects hold by the logs at the end, as a report shows it, is what all committed deeds leave,
 /// also where retirements gave up older versions: so the finals of a report are the committed ones.
 pub fn law_of_finals()
-    ensures { (plan : Plan) (asked : List Asked) (t : Trace) → IsOfLanguage plan → IsLegal plan asked t →
-        HoldsFinals plan t }
+    ensures { (plan : Plan) (asked : List Asked) (t : Trace) → IsOfLanguage plan →
+        IsLegal plan asked t → HoldsFinals plan t }
 {
     law_finals();
 }
