@@ -8,7 +8,7 @@ use Rattle.world_core.specs.declared.entries.Entry.{Entry}
 use Rattle.world_core.specs.declared.entries.Entry.TheVariants.{Tick}
 use Rattle.world_core.specs.Walks.{walk}
 use Rattle.wire_lock.specs.Sights.{Sight, AtRest, Looked, Added, base_at, world_at}
-use Rattle.trace_report.specs.Counts.{is_tick, tick_count}
+use Rattle.world_core.specs.Counts.{is_tick, tick_count}
 use Rattle.node_rounds.specs.declared.limits.Limits.{Limits}
 use Rattle.node_rounds.specs.declared.reasons.Reason.TheVariants as reason
 use Rattle.node_rounds.specs.declared.reasons.Next.{Next}

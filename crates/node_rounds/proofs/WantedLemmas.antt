@@ -19,7 +19,7 @@ use Rattle.wire_core.specs.Wires.{WireParts, base_from}
 use Rattle.wire_core.specs.Boards.{owner_of}
 use Rattle.wire_lock.specs.Sights.{Sight, IsOf, Owns, Looked, Added, base_at, life_at}
 use Rattle.wire_lock.proofs.SightLemmas.{as-before, pass-origin}
-use Rattle.trace_report.specs.Counts.{is_tick, tick_count}
+use Rattle.world_core.specs.Counts.{is_tick, tick_count}
 use Rattle.broker_node.specs.Logs.{is_over}
 use Rattle.node_turn.specs.Nodes.{NodeParts, sight}
 use Rattle.node_rounds.specs.Nodes.{Shares, EachNode, EachPlace, SomeNode, HasAllOf, HasMet, HasPass, HasSeen}

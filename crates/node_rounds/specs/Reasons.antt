@@ -10,7 +10,7 @@ use Rattle.world_core.specs.declared.entries.Entry.TheVariants.{Tick}
 use Rattle.world_core.specs.Walks.{Base, sent_by, walk}
 use Rattle.wire_core.specs.Boards.{owner_of}
 use Rattle.wire_lock.specs.Sights.{Sight, IsOf, AtRest, base_at, world_at}
-use Rattle.trace_report.specs.Counts.{tick_count}
+use Rattle.world_core.specs.Counts.{tick_count}
 use Rattle.node_turn.specs.declared.conditions.Condition.TheVariants as condition
 use Rattle.node_turn.specs.Nodes.{NodeParts, sight}
 use Rattle.broker_node.specs.Logs.{is_over}

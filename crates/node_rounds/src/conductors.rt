@@ -3,7 +3,7 @@ ghost use Rattle.std.specs.Prelude.{◌≡◌, ◌≤◌, All, Any, IsTrue, Matc
 ghost use Rattle.seat_lock.specs.Words.{base_of, knows};
 ghost use Rattle.wire_core.specs.Wires.{base_from};
 ghost use Rattle.wire_lock.specs.Sights.{IsWirePass};
-ghost use Rattle.trace_report.specs.Counts.{tick_count};
+ghost use Rattle.world_core.specs.Counts.{tick_count};
 ghost use Rattle.node_rounds.specs.Nodes.{EachNode, SomeNode, EachPlace, GoesOn, IsKeptThrough, HasAllOf, HasPass, IsReady, IsUp};
 ghost use Rattle.node_rounds.specs.Reasons.{EndsFor, Follows, HasMemory, HasTicked, IsDone, IsDown, IsLate, NodesSay, TicksAreWanted};
 

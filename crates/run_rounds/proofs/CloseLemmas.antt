@@ -21,7 +21,7 @@ use Rattle.wire_core.specs.Wires.{Origin, WireParts}
 use Rattle.wire_core.specs.Boards.{owner_of}
 use Rattle.wire_lock.specs.Sights.{IsWirePass, Sight, owners_for}
 use Rattle.wire_lock.specs.Stories.{IsWhole, LeavesUntold, end_of}
-use Rattle.trace_report.specs.Counts.{tick_count}
+use Rattle.world_core.specs.Counts.{tick_count}
 use Rattle.node_turn.specs.Nodes.{NodeParts}
 use Rattle.run_starts.specs.Limits.{Limits}
 use Rattle.run_starts.specs.Reason.{Reason}

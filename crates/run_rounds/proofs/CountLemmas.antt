@@ -20,7 +20,7 @@ use Rattle.world_core.specs.Readings.{IsLegal, life_after}
 use Rattle.wire_core.specs.Wires.{WireParts}
 use Rattle.wire_core.specs.Boards.{owner_for, owner_of}
 use Rattle.wire_lock.specs.Sights.{IsOf, life_at}
-use Rattle.trace_report.specs.Counts.{down_cause}
+use Rattle.world_core.specs.Counts.{down_cause}
 use Rattle.node_turn.specs.Cores.{IsIntact}
 use Rattle.node_turn.specs.Costs.{costs}
 use Rattle.node_turn.specs.Lives.{IsCause, IsFullFor}

@@ -26,7 +26,7 @@ use Rattle.wire_core.specs.Boards.{owner_for, owner_of, owner_with}
 use Rattle.wire_lock.specs.Sights.{Sight, IsOf, Owns, base_at, flags_at, life_at, world_at}
 use Rattle.wire_lock.specs.Stories.{end_of}
 use Rattle.wire_lock.proofs.SightLemmas.{as-before}
-use Rattle.trace_report.specs.Counts.{is_tick, tick_count}
+use Rattle.world_core.specs.Counts.{is_tick, tick_count}
 use Rattle.node_turn.specs.Costs.{costs}
 use Rattle.run_starts.specs.Logs.{is_over}
 use Rattle.run_starts.specs.Reasons.{is_done_at}

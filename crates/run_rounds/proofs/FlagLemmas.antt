@@ -13,7 +13,7 @@ use Rattle.world_core.specs.declared.entries.Entry.TheVariants.{Take, Go, Learn,
 use Rattle.world_core.specs.Walks.{Base, Flags, World, flagged, is_down, names, opened_log, step, walk_from}
 use Rattle.world_core.specs.Legal.{Meets, Rule}
 use Rattle.world_facts.proofs.Steps.{step-known}
-use Rattle.trace_report.specs.Counts.{down_cause}
+use Rattle.world_core.specs.Counts.{down_cause}
 
 -- ---- the first Down of a node
 

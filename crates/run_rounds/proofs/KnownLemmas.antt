@@ -23,7 +23,7 @@ use Rattle.wire_core.specs.Wires.{Origin, WireParts, base_from}
 use Rattle.wire_core.specs.Boards.{owner_of}
 use Rattle.wire_lock.specs.Sights.{IsOf, IsWirePass, base_at, flags_at, life_at}
 use Rattle.wire_lock.proofs.SightLemmas.{pass-origin}
-use Rattle.trace_report.specs.Counts.{down_cause}
+use Rattle.world_core.specs.Counts.{down_cause}
 use Rattle.node_turn.specs.declared.conditions.Condition.{Condition}
 use Rattle.node_turn.specs.declared.conditions.Condition.TheVariants as condition
 use Rattle.node_turn.specs.Lives.{IsCause}

@@ -18,7 +18,7 @@ use Rattle.world_core.specs.Walks.{Life, opened_log}
 use Rattle.world_core.specs.Readings.{open_effects}
 use Rattle.wire_core.specs.Wires.{WireParts, base_from}
 use Rattle.wire_lock.specs.Sights.{life_at}
-use Rattle.trace_report.specs.Counts.{down_cause}
+use Rattle.world_core.specs.Counts.{down_cause}
 use Rattle.node_turn.specs.Lives.{IsKept}
 use Rattle.node_turn.specs.Nodes.{NodeParts, sight}
 use Rattle.run_starts.specs.Reasons.{HasMemory}

@@ -28,7 +28,7 @@ use Rattle.wire_core.specs.Wires.{Origin, WireParts, base_from}
 use Rattle.wire_core.specs.Boards.{owner_of}
 use Rattle.wire_lock.specs.Sights.{IsOf, IsWirePass}
 use Rattle.wire_lock.specs.Stories.{IsUntold, LeavesUntold}
-use Rattle.trace_report.specs.Counts.{tick_count}
+use Rattle.world_core.specs.Counts.{tick_count}
 use Rattle.node_turn.specs.declared.conditions.Condition.{Condition}
 use Rattle.node_turn.specs.declared.conditions.Condition.TheVariants as condition
 use Rattle.node_turn.specs.Nodes.{NodeParts, IsAtRest, Stands, sight}

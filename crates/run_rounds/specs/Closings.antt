@@ -17,7 +17,7 @@ use Rattle.wire_core.specs.Wires.{Origin, WireParts}
 use Rattle.wire_core.specs.Boards.{owner_of}
 use Rattle.wire_lock.specs.Sights.{AtRest, IsWirePass, Sight, base_at, owners_for, world_at}
 use Rattle.wire_lock.specs.Stories.{IsWhole, LeavesUntold, end_of}
-use Rattle.trace_report.specs.Counts.{tick_count}
+use Rattle.world_core.specs.Counts.{tick_count}
 use Rattle.node_turn.specs.Nodes.{NodeParts, IsAtRest, sight}
 use Rattle.run_starts.specs.Limits.{Limits}
 use Rattle.run_starts.specs.Reason.{Reason}

@@ -12,7 +12,7 @@ use Rattle.world_core.specs.Walks.{is_down, walk}
 use Rattle.world_core.specs.Legal.{Idle, base_of, fates_of, in_plan, is_within}
 use Rattle.world_core.specs.Pasts.{WasNotOpened}
 use Rattle.world_core.specs.Readings.{world_after}
-use Rattle.trace_report.specs.Counts.{tick_count}
+use Rattle.world_core.specs.Counts.{tick_count}
 use Rattle.run_starts.specs.Logs.{is_over}
 
 -- some node is down

@@ -12,7 +12,7 @@ use Rattle.world_core.specs.Walks.{opened_log, own}
 use Rattle.world_core.specs.Legal.{in_plan}
 use Rattle.world_core.specs.Pasts.{WasNotOpened}
 use Rattle.world_core.specs.Readings.{life_after, open_effects}
-use Rattle.trace_report.specs.Counts.{down_cause}
+use Rattle.world_core.specs.Counts.{down_cause}
 use Rattle.node_turn.specs.Cores.{IsIntact}
 use Rattle.node_turn.specs.Costs.{costs}
 use Rattle.node_turn.specs.Lives.{IsKept, IsFullFor}

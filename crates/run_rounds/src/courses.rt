@@ -2,7 +2,7 @@
 ghost use Rattle.std.specs.Prelude.{◌≡◌, ◌≤◌, ◌<◌, [], length, vec_len, vec_capacity, All};
 ghost use Rattle.seat_lock.specs.Words.{knows};
 ghost use Rattle.wire_lock.specs.Sights.{IsWirePass};
-ghost use Rattle.trace_report.specs.Counts.{tick_count};
+ghost use Rattle.world_core.specs.Counts.{tick_count};
 ghost use Rattle.run_starts.specs.Nodes.{IsReady};
 ghost use Rattle.run_rounds.specs.Closings.{HaveGone};
 ghost use Rattle.run_starts.specs.Deals.{IsDealt, HaveRoom};

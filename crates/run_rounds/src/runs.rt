@@ -10,7 +10,7 @@ ghost use Rattle.run_starts.specs.Seats.{IsSound};
 ghost use Rattle.run_starts.specs.Starts.{IsSetUp, fresh_for};
 ghost use Rattle.run_media.specs.Places.{node_count};
 ghost use Rattle.run_starts.specs.Nodes.{IsReady};
-ghost use Rattle.trace_report.specs.Counts.{tick_count};
+ghost use Rattle.world_core.specs.Counts.{tick_count};
 ghost use Rattle.run_rounds.specs.Closings.{HasClosed};
 ghost use Rattle.run_rounds.specs.Finishes.{EndsAs, IsEndFor, tellers};
 

@@ -34,7 +34,7 @@ use Rattle.world_core.specs.Legal.{Meets, base_of, fates_of, in_plan, post_of}
 use Rattle.world_core.specs.Pasts.{WasNotOpened}
 use Rattle.world_core.specs.Readings.{IsLegal, gated_log, life_after}
 use Rattle.trace_report.specs.Acts.{counted_by, shown_end, tasks_of}
-use Rattle.trace_report.specs.Counts.{down_cause}
+use Rattle.world_core.specs.Counts.{down_cause}
 use Rattle.run_rounds.specs.Costs.{cost_of, costs}
 use Rattle.run_rounds.proofs.TrailLemmas.{costs-append}
 use Rattle.run_media.specs.Media.{Media, IsBack}

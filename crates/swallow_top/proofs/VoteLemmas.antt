@@ -3,7 +3,7 @@ use Rattle.std.proofs.Common.{◌≡◌, ◌⊎◌, ◌≤◌, inl, inr, ℕ, Is
 use Rattle.std.proofs.lemmas.List.{length-map}
 use Rattle.stream_port.specs.Causes.{Rose}
 use Rattle.world_core.specs.declared.traces.Trace.{Trace}
-use Rattle.trace_report.specs.Counts.{tick_count}
+use Rattle.world_core.specs.Counts.{tick_count}
 use Rattle.run_media.specs.Media.{AreBack, Media}
 use Rattle.run_rounds.specs.Runs.{Account}
 use Rattle.run_rounds.specs.Stories.{no_trace}

@@ -10,7 +10,7 @@ use Rattle.run_rounds.specs.Runs.{Account}
 use Rattle.run_rounds.specs.Stories.{no_trace}
 use Rattle.run_volumes.specs.Shelves.{ShelfSight}
 use Rattle.run_volumes.specs.declared.kept.Kept.{Kept}
-use Rattle.trace_report.specs.Counts.{tick_count}
+use Rattle.world_core.specs.Counts.{tick_count}
 use Rattle.votes_command.specs.Ends.{tellers}
 use Rattle.votes_command.specs.Tellings.{some_down, told_text}
 use Rattle.votes_command.specs.VoteEnd.{VoteEnd}

@@ -10,7 +10,7 @@ use Rattle.world_core.specs.declared.entries.Entry.TheVariants.{Down, Tick}
 use Rattle.world_core.specs.declared.traces.Trace.{Trace}
 use Rattle.plan_form.specs.declared.plans.Plan.{Plan}
 use Rattle.report_writer.specs.declared.records.Down.{Down as Fallen}
-use Rattle.trace_report.specs.Counts.{down_cause}
+use Rattle.world_core.specs.Counts.{down_cause}
 use Rattle.trace_report.specs.Reports.{down_shown, downs_shown, nodes_of}
 use Rattle.trace_report.specs.Downs.{fallen, cause_of, shown, nodes_of_kind}
 

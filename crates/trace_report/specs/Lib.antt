@@ -1,7 +1,6 @@
 pub mod Acts
 pub mod Begun
 pub mod Books
-pub mod Counts
 pub mod Decided
 pub mod Downs
 pub mod Finals

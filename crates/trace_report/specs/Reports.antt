@@ -31,7 +31,7 @@ use Rattle.report_writer.specs.declared.records.Report.{Report}
 use Rattle.report_writer.specs.declared.records.Wire.{Wire}
 use Rattle.report_writer.specs.Standings.{count_of}
 use Rattle.report_writer.specs.Reports.{report_text, down_text, named}
-use Rattle.trace_report.specs.Counts.{down_cause, tick_count, crash_count, ask_count}
+use Rattle.world_core.specs.Counts.{down_cause, tick_count, crash_count, ask_count}
 use Rattle.trace_report.specs.Acts.{acts_shown}
 use Rattle.trace_report.specs.Finals.{last_values}
 

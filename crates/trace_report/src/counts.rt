@@ -1,5 +1,5 @@
 ghost use Rattle.std.specs.Prelude.{◌≡◌};
-ghost use Rattle.trace_report.specs.Counts as spec;
+ghost use Rattle.world_core.specs.Counts as spec;
 ghost use Rattle.trace_report.specs.Reports.{wire_shown};
 
 use message_form::Message;

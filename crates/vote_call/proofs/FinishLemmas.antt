@@ -35,7 +35,7 @@ use Rattle.run_media.specs.Openings.{HasOpened, IsAsItWas, IsShutFor}
 use Rattle.run_media.specs.Openings as openings
 use Rattle.run_media.specs.declared.openings.Opening.{Opening}
 use Rattle.run_media.specs.declared.openings.Opening.TheVariants as opening
-use Rattle.trace_report.specs.Counts.{down_cause, is_tick, tick_count}
+use Rattle.world_core.specs.Counts.{down_cause, is_tick, tick_count}
 use Rattle.vote_members.specs.Costs.{costs}
 use Rattle.vote_form.specs.declared.poll_lines.PollLine.{PollLine}
 use Rattle.vote_report.specs.declared.standings.PollStanding.{PollStanding}

@@ -27,7 +27,7 @@ use Rattle.run_media.specs.declared.openings.Opening.{Opening}
 use Rattle.run_media.specs.declared.openings.Opening.TheVariants as opening
 use Rattle.run_media.specs.Media.{Media}
 use Rattle.run_media.specs.Openings.{HasOpened, IsAsItWas, IsWanting, log_in}
-use Rattle.trace_report.specs.Counts.{down_cause}
+use Rattle.world_core.specs.Counts.{down_cause}
 use Rattle.vote_form.specs.declared.poll_lines.PollLine.{PollLine}
 use Rattle.vote_members.specs.Closings.{LeavesLog}
 use Rattle.vote_members.specs.Costs.{costs}

@@ -4,7 +4,7 @@ use Rattle.std.specs.List.{list_any}
 use Rattle.pseudo_time.specs.Nodes.{repository}
 use Rattle.pseudo_time.specs.declared.nodes.NodeId.{NodeId}
 use Rattle.report_writer.specs.declared.records.Down.{Down}
-use Rattle.trace_report.specs.Counts.{down_cause}
+use Rattle.world_core.specs.Counts.{down_cause}
 use Rattle.trace_report.specs.Reports.{down_shown, wire_shown}
 use Rattle.vote_report.specs.Texts.{votes_text}
 use Rattle.vote_report.specs.declared.standings.PollStanding.{PollStanding}

@@ -1,7 +1,7 @@
 //! What is told of votes: the text, and the status.
 ghost use Rattle.std.specs.Prelude.{◌≡◌, ◌++◌, ◌<◌, ◌^◌, length, IfOk, OnOk};
 ghost use Rattle.pseudo_time.specs.Nodes.{repository};
-ghost use Rattle.trace_report.specs.Counts.{down_cause};
+ghost use Rattle.world_core.specs.Counts.{down_cause};
 ghost use Rattle.vote_report.specs.Statuses.{all_held, status_with};
 ghost use Rattle.world_core.specs.Walks as walks;
 ghost use Rattle.vote_call.specs.Tellings as spec;

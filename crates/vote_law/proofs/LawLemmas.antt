@@ -45,7 +45,8 @@ use Rattle.vote_traces.specs.Causes.{IsWanted, IsCaused, HasCause, HaveCauses}
 use Rattle.vote_traces.proofs.WalkLemmas.{walk-append, meets-parts}
 use Rattle.vote_traces.proofs.CauseLemmas.{HallCauses, HaveLines, start-causes, walk-causes, flagged-up, numbered-within}
 use Rattle.vote_traces.proofs.ReplayLemmas.{Follow, walk-follows}
-use Rattle.vote_law.specs.Smooth.{AreVotes, IsPlain, is_crash, is_tick, HoldAll, IsUp, IsFit, WishAlike, HasQuorum, IsCalm, TicksForPolls}
+use Rattle.world_core.specs.Counts.{is_crash, is_tick}
+use Rattle.vote_law.specs.Smooth.{AreVotes, IsPlain, HoldAll, IsUp, IsFit, WishAlike, HasQuorum, IsCalm, TicksForPolls}
 use Rattle.vote_law.proofs.Letters.{Mark, FreeFrom, is_taken, waiting, between, marks, all-taken, Taken}
 use Rattle.vote_law.proofs.Talks.{Says, Talks, Silent, settled, few-asks, few-answers}
 use Rattle.vote_law.proofs.Halls.{either-way, no, plain-at, asks_of, answers_of, TalksAt, PollFacts, HallFacts, is_quiet, step-facts}

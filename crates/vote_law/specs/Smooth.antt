@@ -9,9 +9,10 @@ use Rattle.record_votes.specs.declared.member_numbers.MemberNumber.{MemberNumber
 use Rattle.record_votes.specs.Polls.{member, held}
 use Rattle.record_votes.specs.Voting.{Line}
 use Rattle.world_core.specs.declared.entries.Entry.{Entry}
-use Rattle.world_core.specs.declared.entries.Entry.TheVariants.{Crash, Tick}
+use Rattle.world_core.specs.declared.entries.Entry.TheVariants.{Tick}
 use Rattle.world_core.specs.declared.traces.Opened.{Opened}
 use Rattle.world_core.specs.declared.traces.Trace.{Trace}
+use Rattle.world_core.specs.Counts.{is_crash}
 use Rattle.world_core.specs.Legal.{fates_of}
 use Rattle.vote_traces.specs.Walks.{Base, Hall, log_at, walk}
 use Rattle.vote_traces.specs.Legal.{base_of}
@@ -19,12 +20,6 @@ use Rattle.vote_traces.specs.Legal.{base_of}
 -- one copy without a hold
 abbrev pub IsPlain : Fate → Type 0
 IsPlain fate = (fate.copies ≡ 1) × (fate.hold ≡ 0)
-
-abbrev pub is_crash : Entry → Bool
-is_crash e = elim e [ Crash node kept ↦ true | _ ↦ false ]
-
-abbrev pub is_tick : Entry → Bool
-is_tick e = elim e [ Tick moment ↦ true | _ ↦ false ]
 
 -- a Begin or a Decide
 abbrev pub is_vote_effect : Effect → Bool

@@ -5,10 +5,11 @@ ghost use Rattle.record_votes.specs.declared.member_numbers.MemberNumber.{Member
 ghost use Rattle.record_votes.specs.Voting.{Line, all_effects};
 ghost use Rattle.world_core.specs.declared.entries.Entry.{Entry};
 ghost use Rattle.world_core.specs.declared.traces.Trace.{Trace};
+ghost use Rattle.world_core.specs.Counts.{is_tick};
 ghost use Rattle.world_core.specs.Legal.{Idle, fates_of};
 ghost use Rattle.vote_traces.specs.Walks.{log_at, walk, world_of};
 ghost use Rattle.vote_traces.specs.Legal.{Legal, base_of};
-ghost use Rattle.vote_law.specs.Smooth.{AreVotes, HoldAll, IsCalm, TicksForPolls, is_tick};
+ghost use Rattle.vote_law.specs.Smooth.{AreVotes, HoldAll, IsCalm, TicksForPolls};
 
 /// So far as votes are calm, and tick only where a poll is open, no tick stands; where nobody has
 /// anything to do each poll holds a decision; there are at most twelve messages for each poll; and the

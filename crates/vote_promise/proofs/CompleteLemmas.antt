@@ -37,15 +37,14 @@ use Rattle.world_core.specs.declared.traces.Sent.{Sent}
 use Rattle.world_core.specs.declared.traces.Trace.{Trace}
 use Rattle.world_core.specs.Legal.{Idle, fates_of, is_within, post_of}
 use Rattle.world_core.specs.Walks.{Flags, Sending, flagged, is_down, names, own}
-use Rattle.trace_report.specs.Counts as counting
-use Rattle.trace_report.specs.Counts.{down_cause, tick_count}
+use Rattle.world_core.specs.Counts.{down_cause, is_crash, is_tick, tick_count}
 use Rattle.vote_members.specs.Closings.{Grows, HasGrown}
 use Rattle.vote_members.specs.Costs.{cost_of, costs}
 use Rattle.vote_traces.specs.Walks.{Base, Hall, log_at, member_on, start_hall, step, walk, walk_from, world_of}
 use Rattle.vote_traces.specs.Legal.{IsOfDowns, Legal, Meets, Rule, WasNotOpened, base_of, hall_after, is_node}
 use Rattle.vote_traces.proofs.CauseLemmas.{at-if, flagged-up}
 use Rattle.vote_traces.proofs.WalkLemmas.{meets-parts, walk-append}
-use Rattle.vote_law.specs.Smooth.{AreVotes, HasQuorum, HoldAll, IsCalm, IsFit, IsPlain, TicksForPolls, WishAlike, is_crash, is_tick, is_vote_effect}
+use Rattle.vote_law.specs.Smooth.{AreVotes, HasQuorum, HoldAll, IsCalm, IsFit, IsPlain, TicksForPolls, WishAlike, is_vote_effect}
 use Rattle.vote_law.proofs.LawLemmas.{all-quiet, all-still, few-letters, idle-holds, short-logs, votes-alone}
 use Rattle.vote_promise.proofs.BlankLemmas.{blank-count, blank-none}
 use Rattle.vote_promise.proofs.ClauseLemmas.{clash, some-one, unopened-from}
@@ -281,12 +280,12 @@ ok-log a b e = cc e
 ok-err : (a : List Effect) (page : ℕ) → ◌≡◌ {A = Result (List Effect) ℕ} (Ok a) (Err page) → ⊥
 ok-err a page e = cc e
 
-tick-none : (e : Entry) → is_tick e ≡ false → ◌≡◌ {A = ℕ} (cond (counting.is_tick e) 1 0) 0
+tick-none : (e : Entry) → is_tick e ≡ false → ◌≡◌ {A = ℕ} (cond (is_tick e) 1 0) 0
 tick-none (Tick moment) h = absurd (clash true h refl)
 tick-none e h = refl
 
-tick-more : (e : Entry) (es : List Entry) → tick_count (e ∷ es) ≡ cond (counting.is_tick e) 1 0 + tick_count es
-tick-more e es = sum_by-cons (λ (x : Entry). cond (counting.is_tick x) 1 0) e es
+tick-more : (e : Entry) (es : List Entry) → tick_count (e ∷ es) ≡ cond (is_tick e) 1 0 + tick_count es
+tick-more e es = sum_by-cons (λ (x : Entry). cond (is_tick x) 1 0) e es
 
 no-ticks : (es : List Entry) → Every (λ (e : Entry). is_tick e ≡ false) es → tick_count es ≡ 0
 no-ticks [] h = refl

@@ -20,7 +20,7 @@ use Rattle.world_core.specs.Legal.{Idle, fates_of, asked_of}
 use Rattle.world_core.specs.Walks.{own}
 use Rattle.wire_core.specs.Clocked.{IsClocked, tick_moments}
 use Rattle.run_media.specs.Media.{Media, IsUntouched}
-use Rattle.trace_report.specs.Counts.{down_cause, tick_count}
+use Rattle.world_core.specs.Counts.{down_cause, tick_count}
 use Rattle.vote_law.specs.Smooth.{IsPlain, TicksForPolls, WishAlike}
 use Rattle.vote_members.specs.Closings.{Grows}
 use Rattle.vote_members.specs.Costs.{costs}

@@ -26,7 +26,7 @@ use Rattle.wire_core.proofs.MomentLemmas.{clocked-tick, latest}
 use Rattle.wire_core.proofs.QuietLemmas.{not-behind}
 use Rattle.run_media.specs.Media.{Media}
 use Rattle.vote_traces.specs.Walks.{Base, Hall, start_hall, step, walk, walk_from, world_of}
-use Rattle.trace_report.specs.Counts.{down_cause}
+use Rattle.world_core.specs.Counts.{down_cause}
 use Rattle.vote_traces.specs.Legal.{WasNotOpened, base_of, most_of}
 use Rattle.vote_traces.proofs.CauseLemmas.{at-if}
 use Rattle.vote_traces.proofs.WalkLemmas.{walk-append}

@@ -12,7 +12,7 @@ use Rattle.message_core.proofs.NodeLemmas.{same_node-refl}
 use Rattle.world_core.specs.declared.entries.Entry.{Entry}
 use Rattle.world_core.specs.declared.entries.Entry.TheVariants.{Take, Go, Learn, Hear, Gate, Crash, Down, Tick}
 use Rattle.world_core.specs.Walks.{is_down, names, own}
-use Rattle.trace_report.specs.Counts.{down_cause}
+use Rattle.world_core.specs.Counts.{down_cause}
 use Rattle.vote_members.specs.Costs.{cost_of, costs}
 use Rattle.vote_traces.specs.Legal.{IsOfDowns, WasNotOpened}
 use Rattle.vote_courier.proofs.PlaceLemmas.{never-false}

@@ -27,7 +27,7 @@ use Rattle.world_core.specs.declared.entries.Entry.{Entry}
 use Rattle.world_core.specs.declared.entries.Entry.TheVariants.{Gate, Crash, Down, Tick}
 use Rattle.world_core.specs.Walks.{is_down, names, own}
 use Rattle.run_media.specs.Media.{Media}
-use Rattle.trace_report.specs.Counts.{down_cause}
+use Rattle.world_core.specs.Counts.{down_cause}
 use Rattle.vote_members.specs.Closings.{Grows, HasGrown, IsFallenFor}
 use Rattle.vote_members.specs.Costs.{cost_of, costs}
 use Rattle.vote_courier.specs.Couriers.{CourierParts, tick_moment}

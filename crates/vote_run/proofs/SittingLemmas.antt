@@ -19,7 +19,7 @@ use Rattle.record_votes.specs.Polls.{member, number_of}
 use Rattle.record_votes.specs.Voting.{Line, opened}
 use Rattle.world_core.specs.declared.entries.Entry.TheVariants.{Crash, Down, Gate}
 use Rattle.run_media.specs.Media.{Media}
-use Rattle.trace_report.specs.Counts.{down_cause}
+use Rattle.world_core.specs.Counts.{down_cause}
 use Rattle.vote_members.specs.Closings.{IsDurable, IsFallenFor, LeavesLog, LeavesPrefix}
 use Rattle.vote_traces.specs.Walks.{Hall}
 use Rattle.vote_courier.specs.Couriers.{CourierParts, with_entry}

@@ -13,7 +13,7 @@ use Rattle.world_core.specs.declared.entries.Entry.{Entry}
 use Rattle.world_core.specs.Walks.{is_down, own}
 use Rattle.run_media.specs.Media.{Media}
 use Rattle.run_media.specs.Openings.{IsAsItWas, IsShutFor}
-use Rattle.trace_report.specs.Counts.{down_cause}
+use Rattle.world_core.specs.Counts.{down_cause}
 use Rattle.vote_members.specs.Closings.{Grows}
 use Rattle.vote_members.specs.Costs.{costs}
 use Rattle.vote_traces.specs.Legal.{WasNotOpened}

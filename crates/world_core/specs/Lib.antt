@@ -1,6 +1,7 @@
 pub mod Alike
 pub mod Answered
 pub mod Cores
+pub mod Counts
 pub mod Deeds
 pub mod Legal
 pub mod Nodes

@@ -3,7 +3,7 @@ use Rattle.std.specs.Prelude.{IsTrue}
 use Rattle.seat_lock.specs.Words.{base_of, knows}
 use Rattle.wire_core.specs.Wires.{base_from}
 use Rattle.wire_lock.specs.Sights.{IsWirePass}
-use Rattle.trace_report.specs.Counts.{tick_count}
+use Rattle.world_core.specs.Counts.{tick_count}
 use Rattle.node_rounds.specs.Nodes.{EachNode, EachPlace, GoesOn, IsKeptThrough, IsReady}
 use Rattle.node_rounds.specs.Reasons.{TicksAreWanted}
 use Rattle.node_rounds.proofs.conductors.go_on.Given as goal

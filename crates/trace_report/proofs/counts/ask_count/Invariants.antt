@@ -1,5 +1,5 @@
 use Rattle.std.proofs.Common.{◌≡◌, ◌≤◌, take}
-use Rattle.trace_report.specs.Counts as spec
+use Rattle.world_core.specs.Counts as spec
 use Rattle.trace_report.proofs.counts.ask_count.Given as goal
 
 abbrev pub invariant-loop-one : goal.invariant-loop-one
