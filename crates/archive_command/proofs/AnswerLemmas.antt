@@ -8,9 +8,9 @@ use Rattle.archive_store.specs.declared.faults.AsOfFault.{AsOfFault}
 use Rattle.archive_store.specs.declared.faults.AsOfFault.TheVariants as fault
 use Rattle.archive_store.specs.declared.starts.Start.{Start}
 use Rattle.archive_store.specs.Opens.{first_open}
-use Rattle.run_media.specs.declared.openings.Opening.{Opening}
-use Rattle.run_media.specs.Media.{Media}
-use Rattle.run_media.specs.Openings.{medium_in}
+use Rattle.run_volumes.specs.Opening.{Opening}
+use Rattle.run_volumes.specs.Media.{Media}
+use Rattle.run_volumes.specs.Openings.{medium_in}
 use Rattle.run_volumes.specs.declared.kept.Kept.{Kept}
 use Rattle.run_volumes.specs.Kept.{kept_under}
 use Rattle.run_volumes.specs.Shelves.{ShelfSight, first_names}

@@ -3,8 +3,8 @@ use Rattle.std.proofs.Common.{◌≡◌, ◌<◌, ◌≤◌, ◌+◌, ℕ, zero,
 use Rattle.std.proofs.lemmas.List.{append_assoc}
 use Rattle.effect_form.specs.declared.effects.Effect.{Effect}
 use Rattle.archive_store.proofs.JoinLemmas.{drop-item}
-use Rattle.run_media.specs.declared.openings.Opening.{Opening}
-use Rattle.run_media.specs.Openings.{log_in}
+use Rattle.run_volumes.specs.Opening.{Opening}
+use Rattle.run_volumes.specs.Openings.{log_in}
 use Rattle.run_volumes.specs.Volumes.{logs_of}
 use Rattle.archive_command.specs.Archives.{Complete, complete_from, is_complete}
 

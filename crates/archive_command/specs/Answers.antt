@@ -17,9 +17,9 @@ use Rattle.archive_store.specs.Joined.{joined}
 use Rattle.archive_store.specs.Latest.{entry_of, last_below}
 use Rattle.archive_store.specs.Opens.{first_open}
 use Rattle.report_writer.specs.Reports.{down_text}
-use Rattle.run_media.specs.declared.openings.Opening.{Opening}
-use Rattle.run_media.specs.Media.{Media}
-use Rattle.run_media.specs.Openings.{medium_in}
+use Rattle.run_volumes.specs.Opening.{Opening}
+use Rattle.run_volumes.specs.Media.{Media}
+use Rattle.run_volumes.specs.Openings.{medium_in}
 use Rattle.run_volumes.specs.Kept.{kept_under}
 use Rattle.run_volumes.specs.Shelves.{IsLeft, ShelfSight, first_names}
 use Rattle.run_volumes.specs.Standings.{HasShut, WritesNothing}

@@ -12,8 +12,7 @@ use crate::questions::{Question, asked_of};
 use archive_store::{Archive, AsOfFault};
 use medium_port::Medium;
 use pseudo_time::PseudoTime;
-use run_media::Opening;
-use run_volumes::{Standing, stand_of};
+use run_volumes::{Opening, Standing, stand_of};
 use std::alloc::{AllocError, Global};
 use value_form::Bytes;
 

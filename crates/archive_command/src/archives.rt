@@ -1,7 +1,7 @@
 //! The archive of a repository, by its volumes as they were opened.
 ghost use Rattle.std.specs.Prelude.{◌≡◌, ◌≤◌, ◌<◌, ◌+◌, ◌++◌, ◌∷◌, [], IfOk, OnOk, length, map};
 ghost use Rattle.repository_log.specs.Logs.{marks};
-ghost use Rattle.run_media.specs.Openings.{log_in};
+ghost use Rattle.run_volumes.specs.Openings.{log_in};
 ghost use Rattle.run_volumes.specs.Volumes.{logs_of};
 ghost use Rattle.archive_command.specs.Archives as spec;
 
@@ -12,7 +12,7 @@ use medium_port::Medium;
 use object_history::Mark;
 use pseudo_time::PseudoTime;
 use repository_log::marks_of;
-use run_media::Opening;
+use run_volumes::Opening;
 use std::alloc::{AllocError, Global};
 use value_form::ObjectId;
 

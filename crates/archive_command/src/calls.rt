@@ -7,8 +7,7 @@ use crate::answers::answer;
 use crate::outcomes::Outcome;
 use crate::questions::{Question, asked_of};
 use medium_port::{Medium, Shelf};
-use run_media::give_back;
-use run_volumes::{Kept, keep_volumes, open_volumes};
+use run_volumes::{Kept, give_back, keep_volumes, open_volumes};
 use std::alloc::Global;
 
 /// Asks a repository's archive: its volumes are taken and opened, and the logs of the complete ones tell the

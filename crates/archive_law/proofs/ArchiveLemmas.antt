@@ -13,7 +13,7 @@ use Rattle.object_history.specs.History.{settle_of}
 use Rattle.object_retirement.specs.Older.{Gone}
 use Rattle.repository_log.specs.Logs.{known, marks}
 use Rattle.world_core.specs.Pasts.{own_reading}
-use Rattle.world_facts.specs.Earlier.{Earlier, TickedBy, replaced}
+use Rattle.serial_law.specs.Earlier.{Earlier, TickedBy, replaced}
 use Rattle.archive_law.specs.Archives.{EverStood, IsArchive, IsPast, WasDecided, archive, log_after, volumes_left}
 use Rattle.archive_law.proofs.CallLemmas.{last-stood, replaced-stood, stood-stands}
 use Rattle.archive_law.proofs.PastReadings.{Facts, facts-of, no_base}

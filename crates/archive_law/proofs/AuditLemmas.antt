@@ -17,8 +17,8 @@ use Rattle.commit_watch.specs.declared.versions.Version.{Version}
 use Rattle.commit_watch.specs.Folds.{version_of}
 use Rattle.archive_store.specs.Joined.{has_start, holder_of, later}
 use Rattle.world_core.specs.Pasts.{own_reading}
-use Rattle.world_facts.specs.Earlier.{Earlier, replaced}
-use Rattle.world_facts.proofs.Growths.{has-map, map-has}
+use Rattle.serial_law.specs.Earlier.{Earlier, replaced}
+use Rattle.serial_law.proofs.Growths.{has-map, map-has}
 use Rattle.archive_law.specs.Archives.{EverStood, IsArchive, IsPast, archive, log_after, volumes_left}
 use Rattle.archive_law.specs.Audits.{HoldsLast, ListsAll}
 use Rattle.archive_law.proofs.ArchiveLemmas.{archive-is, same-put}

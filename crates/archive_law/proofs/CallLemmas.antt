@@ -16,8 +16,8 @@ use Rattle.world_core.specs.Legal.{base_of, in_plan}
 use Rattle.world_core.specs.Pasts.{Call, IsCall, log_left, own_reading}
 use Rattle.world_core.specs.Walks.{Life, opened_log, walk, walk_from}
 use Rattle.world_core.proofs.Lives.{gated-grows}
-use Rattle.world_facts.specs.Earlier.{AreEarlier, Earlier, replaced}
-use Rattle.world_facts.specs.Earlier.Earlier.{Running, Retiring}
+use Rattle.serial_law.specs.Earlier.{AreEarlier, Earlier, replaced}
+use Rattle.serial_law.specs.Earlier.Earlier.{Running, Retiring}
 use Rattle.archive_law.specs.Archives.{EverStood, log_after, log_there}
 
 -- ---- a run adds to a log

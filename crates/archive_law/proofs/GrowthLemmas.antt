@@ -28,12 +28,12 @@ use Rattle.repository_log.specs.Logs.{known, marks}
 use Rattle.repository_laws.specs.Facts.{FitsLog}
 use Rattle.serial_model.specs.Questions.{Tree}
 use Rattle.world_core.specs.Pasts.{Call, log_left, own_reading}
-use Rattle.world_facts.specs.Earlier.{Earlier, replaced}
-use Rattle.world_facts.specs.Earlier.Earlier.{Running, Retiring}
-use Rattle.world_facts.specs.NodeRules.{node_facts}
-use Rattle.world_facts.specs.Rules.{GrownFrom}
-use Rattle.world_facts.specs.Soft.{Lineage}
-use Rattle.world_facts.proofs.OldChains.{marks-append}
+use Rattle.serial_law.specs.Earlier.{Earlier, replaced}
+use Rattle.serial_law.specs.Earlier.Earlier.{Running, Retiring}
+use Rattle.serial_law.specs.NodeRules.{node_facts}
+use Rattle.serial_law.specs.Rules.{GrownFrom}
+use Rattle.serial_law.specs.Soft.{Lineage}
+use Rattle.serial_law.proofs.OldChains.{marks-append}
 use Rattle.archive_law.specs.Archives.{EverStood, IsPast, WasDecided, log_after, log_there}
 use Rattle.archive_law.proofs.ArchiveLemmas.{here-or-gone}
 use Rattle.archive_law.proofs.CallLemmas.{IsLasting, last-stood, place-left, replaced-stood, retired-old, run-grows, stood-stands}

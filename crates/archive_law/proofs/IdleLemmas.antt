@@ -22,10 +22,10 @@ use Rattle.serial_model.specs.Questions.{Tree}
 use Rattle.world_core.specs.Deeds.{RunLogs, before, in_run, log_of}
 use Rattle.world_core.specs.Pasts.{own_reading}
 use Rattle.world_core.specs.Walks.{Base}
-use Rattle.world_facts.specs.Earlier.{Earlier, TickedBy, replaced}
-use Rattle.world_facts.specs.NodeRules.{node_facts}
-use Rattle.world_facts.specs.Refines.{OlderFacts}
-use Rattle.world_facts.proofs.Growths.{each-has, map-has}
+use Rattle.serial_law.specs.Earlier.{Earlier, TickedBy, replaced}
+use Rattle.serial_law.specs.NodeRules.{node_facts}
+use Rattle.serial_law.specs.Refines.{OlderFacts}
+use Rattle.serial_law.proofs.Growths.{each-has, map-has}
 use Rattle.serial_law.specs.Facts.{RunFacts, Said}
 use Rattle.serial_law.specs.Wholes.{whole_log, whole_run}
 use Rattle.serial_law.proofs.RunFacts.{said-of}

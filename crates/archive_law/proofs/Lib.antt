@@ -11,3 +11,4 @@ pub mod RunLemmas
 pub mod TotalLemmas
 pub mod VolumeLemmas
 pub mod WorkedArchives
+pub use Rattle.serial_law.proofs.Growths

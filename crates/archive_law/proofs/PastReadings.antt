@@ -17,11 +17,11 @@ use Rattle.world_core.specs.Legal.{Legal, Meets, base_of, is_within, most_of}
 use Rattle.world_core.specs.Pasts.{alike, own_reading}
 use Rattle.world_core.specs.Readings.{IsLegal}
 use Rattle.world_core.specs.Walks.{Base, walk_from}
-use Rattle.world_facts.specs.Earlier.{AreEarlier, AreOfLanguage, Earlier, TickedBy, WereLeftOrRetired, logs_left, replaced, sent_earlier}
-use Rattle.world_facts.specs.Earlier.Earlier.{Running, Retiring}
-use Rattle.world_facts.specs.NodeRules.{node_facts}
-use Rattle.world_facts.specs.Refines.{OlderFacts}
-use Rattle.world_facts.proofs.EarlierLemmas.{older-facts}
+use Rattle.serial_law.specs.Earlier.{AreEarlier, AreOfLanguage, Earlier, TickedBy, WereLeftOrRetired, logs_left, replaced, sent_earlier}
+use Rattle.serial_law.specs.Earlier.Earlier.{Running, Retiring}
+use Rattle.serial_law.specs.NodeRules.{node_facts}
+use Rattle.serial_law.specs.Refines.{OlderFacts}
+use Rattle.serial_law.proofs.EarlierLemmas.{older-facts}
 use Rattle.serial_law.proofs.OlderReading.{OneReading, older-reading}
 use Rattle.archive_law.specs.Archives.{IsPast, log_after}
 

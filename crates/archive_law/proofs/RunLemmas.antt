@@ -14,8 +14,8 @@ use Rattle.world_core.specs.Legal.{base_of, in_plan}
 use Rattle.world_core.specs.Pasts.{OpenedWith, alike, own_reading}
 use Rattle.world_core.specs.Readings.{IsLegal, gated_log}
 use Rattle.world_core.specs.Walks.{sent_by}
-use Rattle.world_facts.specs.Earlier.{WereLeftOrRetired, replaced, sent_earlier}
-use Rattle.world_facts.specs.Refines.{logs_at}
+use Rattle.serial_law.specs.Earlier.{WereLeftOrRetired, replaced, sent_earlier}
+use Rattle.serial_law.specs.Refines.{logs_at}
 use Rattle.serial_law.specs.Runs.{Position, TickedBefore, log_at, olds_at, run_at, sent_before, whole_at, world_at}
 use Rattle.serial_law.specs.Serials.{run_in, whole_in}
 use Rattle.serial_law.specs.Wholes.{whole_log}

@@ -26,8 +26,8 @@ use Rattle.commit_watch.specs.Lists.{cursor_of}
 use Rattle.commit_watch.specs.Totals.{IsTotal, folded_so_far}
 use Rattle.commit_watch.proofs.StandingLemmas.{filter-listed}
 use Rattle.commit_watch.proofs.TotalLemmas.{total-advanced}
-use Rattle.world_facts.specs.Earlier.{Earlier}
-use Rattle.world_facts.proofs.Growths.{has-map, map-has}
+use Rattle.serial_law.specs.Earlier.{Earlier}
+use Rattle.serial_law.proofs.Growths.{has-map, map-has}
 use Rattle.archive_law.specs.Archives.{EverStood, IsArchive, IsPast, WasDecided, archive, log_after, volumes_left}
 use Rattle.archive_law.specs.Audits.{Rises}
 use Rattle.archive_law.specs.Totals.{AreWatches, CountsAll, Event, IsCounted, archive_then, calls_of, totals_of}

@@ -32,10 +32,10 @@ use Rattle.serial_law.proofs.Puts.{stands-put}
 use Rattle.serial_law.proofs.WholeFacts.{its-all, its-chain, put-asked}
 use Rattle.serial_model.specs.Questions.{Tree}
 use Rattle.world_core.specs.Walks.{Base}
-use Rattle.world_facts.specs.NodeRules.{node_facts}
-use Rattle.world_facts.specs.Refines.{OlderFacts}
-use Rattle.world_facts.proofs.Growths.{each-has, has-map, map-has}
-use Rattle.world_facts.proofs.OldChains.{marks-append, some-history}
+use Rattle.serial_law.specs.NodeRules.{node_facts}
+use Rattle.serial_law.specs.Refines.{OlderFacts}
+use Rattle.serial_law.proofs.Growths.{each-has, has-map, map-has}
+use Rattle.serial_law.proofs.OldChains.{marks-append, some-history}
 use Rattle.archive_law.specs.Archives.{archive}
 use Rattle.archive_law.proofs.JoinedLemmas.{joined-distinct, joined-from, joined-settles, joined-some}
 

@@ -27,8 +27,8 @@ use Rattle.archive_store.specs.Latest.{last_below}
 use Rattle.archive_store.specs.Opens.{first_among, first_open}
 use Rattle.world_core.specs.Legal.{in_plan}
 use Rattle.world_core.specs.Pasts.{Call, log_left, own_reading}
-use Rattle.world_facts.specs.Earlier.{replaced}
-use Rattle.world_facts.specs.Earlier.Earlier.{Running, Retiring}
+use Rattle.serial_law.specs.Earlier.{replaced}
+use Rattle.serial_law.specs.Earlier.Earlier.{Running, Retiring}
 use Rattle.archive_law.specs.Archives.{archive, log_after, volumes_left}
 
 -- the stamp c.1.1, and its first pseudotime

@@ -20,8 +20,8 @@ use Rattle.world_core.specs.declared.entries.Entry.{Entry}
 use Rattle.world_core.specs.Legal.{base_of, in_plan}
 use Rattle.world_core.specs.Pasts.{Call, own_reading}
 use Rattle.world_core.specs.Walks.{walk}
-use Rattle.world_facts.specs.Earlier.{AreEarlier, AreOfLanguage, Earlier, logs_left, replaced}
-use Rattle.world_facts.specs.Earlier.Earlier.{Running, Retiring}
+use Rattle.serial_law.specs.Earlier.{AreEarlier, AreOfLanguage, Earlier, logs_left, replaced}
+use Rattle.serial_law.specs.Earlier.Earlier.{Running, Retiring}
 
 -- ---- calls, and the logs that they left
 

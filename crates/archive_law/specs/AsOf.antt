@@ -19,7 +19,7 @@ use Rattle.world_core.specs.Deeds.{RunLogs, before}
 use Rattle.world_core.specs.Legal.{in_plan}
 use Rattle.world_core.specs.Pasts.{OpenedWith}
 use Rattle.world_core.specs.Readings.{gated_log}
-use Rattle.world_facts.specs.Earlier.{Earlier, WereLeftOrRetired}
+use Rattle.serial_law.specs.Earlier.{Earlier, WereLeftOrRetired}
 use Rattle.serial_law.specs.Serials.{olds_in, whole_in}
 use Rattle.serial_law.specs.Wholes.{whole_run}
 use Rattle.archive_law.specs.Archives.{archive, log_after, volumes_with}

@@ -13,7 +13,7 @@ use Rattle.repository_log.specs.Logs.{marks}
 use Rattle.commit_watch.specs.declared.versions.Version.{Version}
 use Rattle.commit_watch.specs.Folds.{version_of}
 use Rattle.archive_store.specs.Joined.{holder_of}
-use Rattle.world_facts.specs.Earlier.{Earlier}
+use Rattle.serial_law.specs.Earlier.{Earlier}
 use Rattle.archive_law.specs.Archives.{EverStood}
 
 -- each version starts below those behind it

@@ -10,7 +10,7 @@ use Rattle.object_history.specs.Settled.{settled_versions}
 use Rattle.commit_watch.specs.declared.moved.Moved.{Moved}
 use Rattle.commit_watch.specs.declared.versions.Version.{Version}
 use Rattle.commit_watch.specs.Folds.{advanced, moved_over, version_of}
-use Rattle.world_facts.specs.Earlier.{Earlier}
+use Rattle.serial_law.specs.Earlier.{Earlier}
 use Rattle.archive_law.specs.Archives.{EverStood, WasDecided, archive, volumes_left}
 use Rattle.archive_law.specs.Audits.{Rises}
 

@@ -11,7 +11,7 @@ ghost use Rattle.plan_form.specs.PlanTexts.{IsOfLanguage};
 ghost use Rattle.world_core.specs.declared.traces.Trace.{Trace};
 ghost use Rattle.world_core.specs.Deeds.{before};
 ghost use Rattle.world_core.specs.Readings.{IsLegal};
-ghost use Rattle.world_facts.specs.Earlier.{Earlier};
+ghost use Rattle.serial_law.specs.Earlier.{Earlier};
 ghost use Rattle.archive_law.specs.Archives.{EverStood, IsArchive, IsPast, archive, volumes_left};
 ghost use Rattle.archive_law.specs.AsOf.{TellsMap, TellsRun, idle_run};
 ghost use Rattle.archive_law.specs.Audits.{HasHolder, ListsAll, versions_in};

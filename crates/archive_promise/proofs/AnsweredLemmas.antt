@@ -15,20 +15,20 @@ use Rattle.archive_store.specs.Joined.{holder_of, joined}
 use Rattle.archive_store.specs.Latest.{entry_of, last_below}
 use Rattle.archive_store.specs.Opens.{first_open}
 use Rattle.world_core.specs.Deeds.{before}
-use Rattle.world_facts.specs.Earlier.{Earlier}
+use Rattle.archive_law.specs.Earlier.{Earlier}
 use Rattle.archive_law.specs.Archives.{EverStood, archive, volumes_left}
 use Rattle.archive_law.specs.AsOf.{TellsMap, first_of, idle_run, value_in}
 use Rattle.archive_law.specs.Audits.{HasHolder, HoldsLast, ListsAll, versions_in}
 use Rattle.archive_law.proofs.ArchiveLemmas.{archive-is}
 use Rattle.archive_law.proofs.AuditLemmas.{all-listed, version-held}
 use Rattle.archive_law.proofs.IdleLemmas.{idle-tells}
-use Rattle.archive_command.specs.declared.outcomes.Outcome.{Outcome}
-use Rattle.archive_command.specs.declared.outcomes.Outcome.TheVariants.{Told, Refused, Fallen, NoMemory}
-use Rattle.archive_command.specs.declared.questions.Question.{Question}
-use Rattle.archive_command.specs.declared.questions.Question.TheVariants.{AsOf, Audit}
-use Rattle.archive_command.specs.Answers.{Gives, IsAsOf}
-use Rattle.archive_command.specs.Archives.{Complete, archive_of, complete, holding_volume, newest_first, volume_at, volumes_of}
-use Rattle.archive_command.specs.Versions.{audit_text}
+use Rattle.watch_command.specs.Outcome.{Outcome}
+use Rattle.watch_command.specs.Outcome.TheVariants.{Told, Refused, Fallen, NoMemory}
+use Rattle.watch_command.specs.Question.{Question}
+use Rattle.watch_command.specs.Question.TheVariants.{AsOf, Audit}
+use Rattle.watch_command.specs.Answers.{Gives, IsAsOf}
+use Rattle.watch_command.specs.Archives.{Complete, archive_of, complete, holding_volume, newest_first, volume_at, volumes_of}
+use Rattle.watch_command.specs.Versions.{audit_text}
 use Rattle.archive_promise.specs.Answered.{IsHolder, IsLawful, IsOfStamp, IsPlainMap, IsWholeAudit, TellsPlainMap, TellsWholeAudit, WereLeft, listed_value}
 
 -- ---- complete volumes

@@ -1,2 +1,3 @@
 pub mod AnsweredLemmas
 pub mod WatchedLemmas
+pub use Rattle.watch_command.proofs.KeptLemmas

@@ -16,12 +16,12 @@ use Rattle.object_history.proofs.ObjectLemmas.{same_object-is, same_object-of}
 use Rattle.commit_watch.specs.declared.moved.Moved.{Moved}
 use Rattle.commit_watch.specs.Folds.{advanced}
 use Rattle.commit_watch.specs.Lists.{AreRising, cursor_of, moved_at, object_lt, or_before}
-use Rattle.world_facts.proofs.Growths.{filter-has}
+use Rattle.archive_law.proofs.Growths.{filter-has}
 use Rattle.archive_law.specs.Archives.{archive, volumes_left}
 use Rattle.archive_law.specs.Totals.{AreWatches, CountsAll, Event, archive_then, calls_of, totals_of}
 use Rattle.archive_law.specs.Totals.Event.{Watching}
 use Rattle.archive_law.proofs.TotalLemmas.{some-counted, whole-counted}
-use Rattle.archive_command.specs.Archives.{if_of, last_total, newest_first, total_put}
+use Rattle.watch_command.specs.Archives.{if_of, last_total, newest_first, total_put}
 use Rattle.command_words.specs.declared.rules.Rule.{Rule}
 use Rattle.watch_command.specs.Totals.{AreTotals, new_puts, next_of, outcome_of, total_effect, went_on}
 use Rattle.watch_command.specs.Watches.{IsReady}

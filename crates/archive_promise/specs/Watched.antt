@@ -8,7 +8,7 @@ use Rattle.commit_watch.specs.Folds.{moved_over, version_of}
 use Rattle.commit_watch.specs.Lists.{AreRising, moved_at}
 use Rattle.archive_law.specs.Totals.{AreWatches, CountsAll, Event, archive_then, calls_of, totals_of}
 use Rattle.archive_law.specs.Totals.Event.{Watching}
-use Rattle.archive_command.specs.Archives.{last_total, newest_first}
+use Rattle.watch_command.specs.Archives.{last_total, newest_first}
 use Rattle.command_words.specs.declared.rules.Rule.{Rule}
 use Rattle.watch_command.specs.Lines.{watch_text}
 use Rattle.watch_command.specs.Totals.{next_of}

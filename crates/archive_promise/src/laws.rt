@@ -1,9 +1,9 @@
 ghost use Rattle.std.specs.Prelude.{ℕ, List};
 ghost use Rattle.effect_form.specs.declared.effects.Effect.{Effect};
-ghost use Rattle.archive_command.specs.declared.outcomes.Outcome.{Outcome};
-ghost use Rattle.archive_command.specs.declared.questions.Question.{Question};
-ghost use Rattle.archive_command.specs.Answers.{Gives};
-ghost use Rattle.archive_command.specs.Archives.{archive_of, volumes_of};
+ghost use Rattle.watch_command.specs.Outcome.{Outcome};
+ghost use Rattle.watch_command.specs.Question.{Question};
+ghost use Rattle.watch_command.specs.Answers.{Gives};
+ghost use Rattle.watch_command.specs.Archives.{archive_of, volumes_of};
 ghost use Rattle.command_words.specs.declared.rules.Rule.{Rule};
 ghost use Rattle.archive_promise.specs.Answered.{IsLawful, IsOfStamp};
 ghost use Rattle.archive_promise.specs.Watched.{CountsOver};

@@ -4,3 +4,4 @@
 mod laws;
 
 pub use laws::{law_of_questions, law_of_watches};
+pub use watch_command::{Outcome, Question, ask, watch};

@@ -7,4 +7,5 @@ mod logs;
 mod nodes;
 
 pub use cores::BrokerCore;
+pub use node_turn::{Closed, Condition, SharedWire, Told, Turned, Wire, WirePass};
 pub use nodes::{BrokerNode, is_done, open_broker};

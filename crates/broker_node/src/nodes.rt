@@ -8,7 +8,7 @@ ghost use Rattle.version_store.specs.StoreWords.{medium_of, effects_in};
 ghost use Rattle.seat_lock.specs.Words.{knows};
 ghost use Rattle.world_core.specs.Nodes.{acts_of};
 ghost use Rattle.world_core.specs.Walks.{opened_log};
-ghost use Rattle.wire_lock.specs.Sights.{IsOf, base_at, origin_at, life_at};
+ghost use Rattle.node_turn.specs.Sights.{IsOf, base_at, origin_at, life_at};
 ghost use Rattle.node_turn.specs.Cores.{IsReady};
 ghost use Rattle.node_turn.specs.Nodes.{new_node, sight};
 ghost use Rattle.broker_node.specs.Logs.{is_over};
@@ -19,13 +19,12 @@ use crate::logs::Log;
 use broker_core::Broker;
 use effect_form::Effect;
 use medium_port::Medium;
-use node_turn::{Condition, Node};
+use node_turn::{Condition, Node, WirePass};
 use pseudo_time::NodeId;
 use std::alloc::{AllocError, Global};
 use stream_port::{Clock, Fates};
 use value_form::ActSpec;
 use version_store::Store;
-use wire_lock::WirePass;
 
 /// A broker of a run, with its log on a medium and its pass. Its turns, meetings and release are those
 /// of `Node`.

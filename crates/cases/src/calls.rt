@@ -2,14 +2,13 @@
 
 use crate::faults::CaseFault;
 use crate::setups::{Pace, Setup, name_of};
-use laboratory::{LabFates, lab};
+use laboratory::{Kept, LabFates, lab, swallow};
 use medium_port::{MediumName, MeetShelf, MemoryMedium, MemoryShelf, Shelf};
 use pseudo_time::NodeId;
 use std::alloc::Global;
 use std::sync::Wait;
 use std::thread::Threads;
 use stream_port::{FixedClock, MemoryFates, MemorySink, MemorySource};
-use swallow_top::{Kept, swallow};
 
 /// What a call answers, and what it wrote.
 #[derive(Drop)]

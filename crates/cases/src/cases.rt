@@ -8,13 +8,13 @@ use crate::plans::{add, bytes_of};
 use crate::series::{Series, fails_each, fates_each, stops_each};
 use crate::setups::{Pace, Patch, Setup};
 use crate::shows::{Part, Shown, acts_of, show, show_medium};
+use laboratory::Kept;
 use medium_port::{MediumName, MemoryMedium};
 use std::alloc::Global;
 use std::mem;
 use std::sync::Wait;
 use std::thread::Threads;
 use stream_port::FateRule;
-use swallow_top::Kept;
 
 /// What the lines so far have come to.
 #[derive(Drop)]

@@ -6,12 +6,12 @@ use crate::lines::Stream;
 use crate::setups::{Pace, Setup, restarted};
 use crate::shows::{Shown, acts_of, crashes_of, is_down, lines_of};
 use crate::tables::{Ending, Table};
+use laboratory::Kept;
 use medium_port::MemoryMedium;
 use std::alloc::Global;
 use std::sync::Wait;
 use std::thread::Threads;
 use stream_port::FateRule;
-use swallow_top::Kept;
 
 /// The most calls that are tried in turn.
 const MOST_CALLS: u64 = 10_000;

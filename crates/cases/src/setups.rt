@@ -3,10 +3,10 @@ ghost use Rattle.std.specs.Prelude.{◌≡◌, false, IfOk};
 ghost use Rattle.medium_port.specs.MemoryMedia.{failed_in};
 
 use crate::faults::CaseFault;
+use laboratory::Kept;
 use medium_port::{Medium, MediumName, MemoryMedium, MemoryShelf, Stop, StopAt};
 use std::alloc::{AllocError, Global};
 use stream_port::FateRule;
-use swallow_top::Kept;
 
 /// How many bytes a stream moves a call, and which of its calls fail.
 #[derive(Drop)]

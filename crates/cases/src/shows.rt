@@ -3,10 +3,10 @@
 use crate::calls::Said;
 use crate::faults::CaseFault;
 use crate::setups::reopened;
+use laboratory::Kept;
 use medium_port::{Medium, MemoryMedium};
 use pseudo_time::NodeKind;
 use std::alloc::Global;
-use swallow_top::Kept;
 
 /// Shows a status and a text, each line behind two spaces.
 pub fn show(alloc: Global, said: &mut String, status: u8, text: &str) -> Result<(), CaseFault> {

@@ -30,7 +30,7 @@ use Rattle.complete_law.proofs.Shares.{act-size, acts-share, answers-few, asking
 use Rattle.complete_law.proofs.Sizes.{IsSpare, begun-run, log-pages, log-size, one-if, size-act, size-acts, spare}
 use Rattle.complete_law.proofs.Steps as steps
 use Rattle.complete_law.proofs.Steps.{calm-there, facts-there}
-use Rattle.world_facts.proofs.Growths.{every-at, every-filter}
+use Rattle.serial_law.proofs.Growths.{every-at, every-filter}
 
 -- a task of the plan may be tried, and its script makes few requests
 abbrev pub IsAllowed : (List ℕ → Tree) → ℕ → Task → Type 0

@@ -34,13 +34,13 @@ use Rattle.message_core.specs.Tallies.{count}
 use Rattle.world_core.specs.declared.entries.Entry.TheVariants as entry
 use Rattle.world_core.specs.Walks.{Base, Flags, Life, Sending, World, flagged, lives_on, numbered, sent_by, step, took, went, all_effects}
 use Rattle.world_core.specs.Legal.{MayTake, MayGo, times_taken}
-use Rattle.world_facts.specs.Refines.{Refines, logs_at, soft_of}
-use Rattle.world_facts.specs.NodeRules.{node_turns, node_facts}
-use Rattle.world_facts.specs.Soft.{NodeOk, around, happened}
-use Rattle.world_facts.proofs.Growths.{numbered-has}
-use Rattle.world_facts.proofs.Keeps.{inv-reached}
-use Rattle.world_facts.proofs.NodeLaws.{node-laws}
-use Rattle.world_facts.proofs.Openings.{facts-of}
+use Rattle.serial_law.specs.Refines.{Refines, logs_at, soft_of}
+use Rattle.serial_law.specs.NodeRules.{node_turns, node_facts}
+use Rattle.serial_law.specs.Soft.{NodeOk, around, happened}
+use Rattle.serial_law.proofs.Growths.{numbered-has}
+use Rattle.serial_law.proofs.Keeps.{inv-reached}
+use Rattle.serial_law.proofs.NodeLaws.{node-laws}
+use Rattle.serial_law.proofs.Openings.{facts-of}
 use Rattle.broker_laws.proofs.BookTurns.{DeskSound, Tells, take-sound, go-sound, heard-says, go-says, take-stands, go-stands}
 use Rattle.complete_law.proofs.BrokerEntries.{Moved, moved-asked, moved-askers, moved-outside, moved-placed, moved-rested, moved-said, moved-shut, moved-sound, moved-ups, moved-waits, ignored-placed, owed-placed, PlacedAt}
 use Rattle.complete_law.specs.AtRest.{standing_at}

@@ -40,11 +40,11 @@ use Rattle.broker_laws.proofs.Found.{each-found}
 use Rattle.broker_laws.proofs.Kept.{kept}
 use Rattle.broker_laws.proofs.Moves.{clocks}
 use Rattle.world_core.specs.Walks.{Base, Life, World, sent_by, all_effects}
-use Rattle.world_facts.specs.Refines.{Refines, logs_at, soft_of}
-use Rattle.world_facts.specs.NodeRules.{node_turns, node_facts}
-use Rattle.world_facts.specs.Soft.{NodeOk, around, happened}
-use Rattle.world_facts.proofs.NodeLaws.{node-laws}
-use Rattle.world_facts.proofs.Openings.{facts-of}
+use Rattle.serial_law.specs.Refines.{Refines, logs_at, soft_of}
+use Rattle.serial_law.specs.NodeRules.{node_turns, node_facts}
+use Rattle.serial_law.specs.Soft.{NodeOk, around, happened}
+use Rattle.serial_law.proofs.NodeLaws.{node-laws}
+use Rattle.serial_law.proofs.Openings.{facts-of}
 use Rattle.complete_law.specs.AtRest.{read_to, standing_at}
 use Rattle.repository_laws.proofs.AskServices.{has-record}
 use Rattle.complete_law.proofs.BrokerMoves.{node-there, turn-there}
@@ -54,7 +54,7 @@ use Rattle.complete_law.proofs.Answering.{heeds-read}
 use Rattle.complete_law.proofs.Hearings.{open-closed}
 use Rattle.complete_law.proofs.Places.{log_of, gated_of, Heeds, IsBegun, IsDecided, desk_of, standing_in, tasks_of, CalmWorld}
 use Rattle.complete_law.proofs.RequestServices.{AnsweredBy, OpenDecided, accepted, begin-served, commit-served, withdraw-served, write-served}
-use Rattle.world_facts.proofs.Growths.{each-has}
+use Rattle.serial_law.proofs.Growths.{each-has}
 
 module _ (b : Base) (w : World) (calm : CalmWorld b w) (f : Refines (node_turns b.script) (node_facts b.script) b (λ n. []) (λ n. []) [] (λ t. ⊥) w) (n : ℕ) (known-n : (w.flags (repository n)).known ≡ true) (i : ℕ) (o : Out) (stands : standing_in b w i ≡ Some o) (at-n : o.to ≡ repository n)
     (R : TimeParts → ObjectId → NodeId → Type 0) (agree : (t : TimeParts) (o p : ObjectId) (f g : NodeId) → R t o f → R t p g → (o ≡ p) × (f ≡ g)) where

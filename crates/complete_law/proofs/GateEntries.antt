@@ -26,7 +26,7 @@ use Rattle.script_meaning.specs.Meaning.{ToRead, ToWrite}
 use Rattle.repository_laws.proofs.Logs.{decide-settles, settled-log}
 use Rattle.world_core.specs.Nodes.{leaves}
 use Rattle.world_core.specs.Walks.{numbered}
-use Rattle.world_facts.proofs.Growths.{has-at}
+use Rattle.serial_law.proofs.Growths.{has-at}
 
 -- ---- places in a list
 

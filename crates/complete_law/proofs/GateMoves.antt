@@ -33,9 +33,9 @@ use Rattle.world_core.specs.declared.entries.Entry.TheVariants as entry
 use Rattle.world_core.specs.Nodes.{leaves}
 use Rattle.world_core.specs.Walks.{Base, Flags, Life, Sending, World, flagged, gated_life, leaving, lives_on, numbered, sent_by, step, all_effects}
 use Rattle.world_core.specs.Legal.{MayGate, times_taken}
-use Rattle.world_facts.specs.Refines.{Refines}
-use Rattle.world_facts.specs.NodeRules.{node_turns, node_facts}
-use Rattle.world_facts.proofs.Steps.{sent-gate, step-known, unknown-stays}
+use Rattle.serial_law.specs.Refines.{Refines}
+use Rattle.serial_law.specs.NodeRules.{node_turns, node_facts}
+use Rattle.serial_law.proofs.Steps.{sent-gate, step-known, unknown-stays}
 use Rattle.repository_laws.specs.Waits.{Waits}
 use Rattle.complete_law.specs.AtRest.{read_to, standing_at}
 use Rattle.complete_law.proofs.BrokerEntries.{sound-more}
@@ -46,7 +46,7 @@ use Rattle.repository_laws.proofs.HeldLemmas.{filter-has}
 use Rattle.repository_laws.specs.Waits.{ask_of, tell_of}
 use Rattle.complete_law.proofs.Idles.{waits-has}
 use Rattle.complete_law.proofs.Places.{log_of, gated_of, held_of, IsBegun, IsDecided, Flying, AskedFor, tasks_of, desk_of, standing_in, Placed, SaidOf, CalmWorld, all-off, both-on}
-use Rattle.world_facts.proofs.Growths.{has-filter, has-map, map-has}
+use Rattle.serial_law.proofs.Growths.{has-filter, has-map, map-has}
 
 module _ (b : Base) (w : World) (calm : CalmWorld b w) (f : Refines (node_turns b.script) (node_facts b.script) b (λ n. []) (λ n. []) [] (λ t. ⊥) w) (n : NodeId) (may : MayGate w n) where
   abbrev w' : World

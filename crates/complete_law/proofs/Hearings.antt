@@ -34,13 +34,13 @@ use Rattle.broker_laws.proofs.Found.{each-found}
 use Rattle.broker_laws.proofs.Moves.{clocks, grown, post-grown}
 use Rattle.broker_laws.specs.Posts.{Clocks, IsBelow}
 use Rattle.world_core.specs.Walks.{Base, Life, World, sent_by}
-use Rattle.world_facts.specs.Refines.{LogFacts, logs_at}
-use Rattle.world_facts.specs.NodeRules.{kind_post, node_facts}
-use Rattle.world_facts.specs.Soft.{SentOk}
+use Rattle.serial_law.specs.Refines.{LogFacts, logs_at}
+use Rattle.serial_law.specs.NodeRules.{kind_post, node_facts}
+use Rattle.serial_law.specs.Soft.{SentOk}
 use Rattle.complete_law.proofs.Places.{log_of, gated_of, IsBegun, IsDecided, SaidOf, CalmWorld}
 use Rattle.broker_laws.proofs.BookTurns.{Tells}
 use Rattle.serial_law.proofs.LogLemmas.{SettledBy, settle-marks}
-use Rattle.world_facts.proofs.Growths.{each-has}
+use Rattle.serial_law.proofs.Growths.{each-has}
 
 found-same : (s : StampParts) (ts : List Try) (t u : Try) → find s ts ≡ Some t → find s ts ≡ Some u → t ≡ u
 found-same s ts t u h k = let e : Some t ≡ Some u = sym h ∙ k in cc e

@@ -48,10 +48,10 @@ use Rattle.world_core.specs.Nodes.{acts_of}
 use Rattle.world_core.specs.Walks.{Base, Life, World, numbered, opened_log, sent_by}
 use Rattle.world_core.specs.Legal as legal
 use Rattle.world_core.specs.Legal.{IsIdle, JustNodes, in_plan, times_taken}
-use Rattle.world_facts.specs.Refines.{LogFacts, logs_at}
-use Rattle.world_facts.specs.NodeRules.{node_facts}
-use Rattle.world_facts.specs.Soft.{SentOk}
-use Rattle.world_facts.proofs.Growths.{none-has, each-has}
+use Rattle.serial_law.specs.Refines.{LogFacts, logs_at}
+use Rattle.serial_law.specs.NodeRules.{node_facts}
+use Rattle.serial_law.specs.Soft.{SentOk}
+use Rattle.serial_law.proofs.Growths.{none-has, each-has}
 use Rattle.repository_laws.specs.Waits.{Waits}
 use Rattle.complete_law.specs.AtRest.{DecidedAt, standing_at, is_done, read_to, AtRest}
 use Rattle.complete_law.specs.Calm.{IsPlain}
@@ -61,7 +61,7 @@ use Rattle.repository_laws.specs.Waits.{ask_of, tell_of}
 use Rattle.complete_law.proofs.Places.{log_of, gated_of, held_of, IsBegun, IsDecided, Flying, AskedFor, tasks_of, standing_in, Placed, CalmWorld}
 use Rattle.complete_law.proofs.Rests.{all-done}
 use Rattle.serial_law.proofs.Attempts.{found-in}
-use Rattle.world_facts.proofs.Ranges.{in-range, within}
+use Rattle.serial_law.proofs.Ranges.{in-range, within}
 
 -- a numbered element stands in the list
 numbered-in : {X : Type 0} (xs : List X) (k : ℕ) (x : X) → numbered xs k ≡ Some x → Has x xs

@@ -34,10 +34,10 @@ use Rattle.complete_law.proofs.Steps as steps
 use Rattle.complete_law.proofs.Steps.{calm-there, facts-there}
 use Rattle.repository_laws.specs.Facts as repositories
 use Rattle.world_core.specs.Walks as walks
-use Rattle.world_facts.specs.NodeRules.{node_turns, node_facts}
-use Rattle.world_facts.specs.Refines.{soft_of}
-use Rattle.world_facts.specs.Soft.{NodeOk, SoftNode, Soft, around, happened}
-use Rattle.world_facts.proofs.Growths.{each-has}
+use Rattle.serial_law.specs.NodeRules.{node_turns, node_facts}
+use Rattle.serial_law.specs.Refines.{soft_of}
+use Rattle.serial_law.specs.Soft.{NodeOk, SoftNode, Soft, around, happened}
+use Rattle.serial_law.proofs.Growths.{each-has}
 
 -- ---- the attempts that a log learned of
 

@@ -36,3 +36,5 @@ pub mod Messages
 pub mod Rising
 pub mod Refusals
 pub mod OneBroker
+pub use Rattle.serial_law.proofs.Growths
+pub use Rattle.serial_law.proofs.Ranges as SerialRanges

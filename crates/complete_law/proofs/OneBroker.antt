@@ -64,14 +64,14 @@ use Rattle.world_core.specs.Nodes.{gives, leaves}
 use Rattle.world_core.specs.Nodes.Input.{Learning, Taking}
 use Rattle.world_core.specs.Walks.{Base, Life, Sending, World, after_input, all_effects, leaving, lives_on, sent_by, start_world, step, took}
 use Rattle.world_core.specs.Legal.{MayGate, MayGo, MayLearn, MayTake, Rule, base_of}
-use Rattle.world_facts.specs.Refines.{LogFacts, Refines, logs_at, soft_of}
-use Rattle.world_facts.specs.NodeRules.{kind_post, node_facts, node_turns}
-use Rattle.world_facts.specs.Soft.{NodeOk, around, happened}
-use Rattle.world_facts.proofs.Growths.{numbered-has, each-has, map-has}
-use Rattle.world_facts.proofs.NodeLaws.{node-laws}
-use Rattle.world_facts.proofs.OldChains.{grown-alone, grown-more}
-use Rattle.world_facts.proofs.Openings.{facts-of}
-use Rattle.world_facts.proofs.Steps.{sent-gate}
+use Rattle.serial_law.specs.Refines.{LogFacts, Refines, logs_at, soft_of}
+use Rattle.serial_law.specs.NodeRules.{kind_post, node_facts, node_turns}
+use Rattle.serial_law.specs.Soft.{NodeOk, around, happened}
+use Rattle.serial_law.proofs.Growths.{numbered-has, each-has, map-has}
+use Rattle.serial_law.proofs.NodeLaws.{node-laws}
+use Rattle.serial_law.proofs.OldChains.{grown-alone, grown-more}
+use Rattle.serial_law.proofs.Openings.{facts-of}
+use Rattle.serial_law.proofs.Steps.{sent-gate}
 use Rattle.complete_law.specs.Calm.{CalmPlace, IsUnstopped, IsRefusal, WasRefused, book_at, log_at, sent_at, world_at}
 use Rattle.complete_law.proofs.BrokerMoves.{node-there, not-same, parted, turn-there}
 use Rattle.complete_law.proofs.Hearings.{asking-undecided, gated-same, says}

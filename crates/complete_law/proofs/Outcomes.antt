@@ -28,17 +28,17 @@ use Rattle.broker_laws.proofs.Tries.{played, proven}
 use Rattle.world_core.specs.Walks.{Base, Life, World, sent_by}
 use Rattle.world_core.specs.Walks as walks
 use Rattle.world_core.specs.Legal.{base_of}
-use Rattle.world_facts.specs.Refines.{LogFacts, logs_at}
-use Rattle.world_facts.specs.NodeRules.{kind_post, node_turns, node_facts}
-use Rattle.world_facts.proofs.NodeLaws.{node-laws}
-use Rattle.world_facts.proofs.Openings.{facts-of}
+use Rattle.serial_law.specs.Refines.{LogFacts, logs_at}
+use Rattle.serial_law.specs.NodeRules.{kind_post, node_turns, node_facts}
+use Rattle.serial_law.proofs.NodeLaws.{node-laws}
+use Rattle.serial_law.proofs.Openings.{facts-of}
 use Rattle.complete_law.specs.Calm.{CalmPlace, AllDone, HasOutcome, IsOver, book_at, log_at, tasks_at, world_at}
 use Rattle.complete_law.proofs.BrokerMoves.{turn-there}
 use Rattle.complete_law.proofs.Hearings.{says}
 use Rattle.complete_law.proofs.Places.{desk_of, tasks_of}
 use Rattle.complete_law.proofs.Steps.{calm-there, facts-there}
-use Rattle.world_facts.proofs.Growths.{each-has}
-use Rattle.world_facts.proofs.Ranges.{in-range}
+use Rattle.serial_law.proofs.Growths.{each-has}
+use Rattle.serial_law.proofs.Ranges.{in-range}
 
 -- ---- of plain books
 

@@ -20,7 +20,7 @@ use Rattle.world_core.specs.Nodes.{acts_of}
 use Rattle.serial_law.specs.Facts.{asked_of, request_at}
 use Rattle.serial_law.proofs.Attempts.{try-home}
 use Rattle.serial_law.proofs.Inside.{Inside, inside-after, inside-asks}
-use Rattle.world_facts.proofs.Growths.{every-at, every-filter}
+use Rattle.serial_law.proofs.Growths.{every-at, every-filter}
 use Rattle.serial_law.proofs.RunFacts.{IsKept, kept-acts, kept-tasks}
 
 pub same-run : (m n : ℕ) → nat_lt m n ≡ false → nat_lt n m ≡ false → m ≡ n

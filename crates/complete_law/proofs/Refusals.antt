@@ -34,7 +34,7 @@ use Rattle.repository_core.specs.Turns.{hand_at}
 use Rattle.repository_log.specs.Logs.{known, marks}
 use Rattle.repository_core.specs.declared.waits.HeldRead.{HeldRead}
 use Rattle.world_core.proofs.Refusals.{Ok, OfRequest, OnFloor, Says, on-learn, on-message, refused-under}
-use Rattle.world_facts.proofs.Growths.{every-of}
+use Rattle.serial_law.proofs.Growths.{every-of}
 use Rattle.complete_law.specs.Calm.{IsRefusal}
 
 -- ---- marks of a log

@@ -29,7 +29,7 @@ use Rattle.world_core.specs.Nodes.Input.{Taking, Learning}
 use Rattle.world_core.specs.Walks.{Base, Life, Sending, World, leaving, numbered, sent_by, sendings_after, start_world, step, taken_after, after_input}
 use Rattle.world_core.specs.Walks as walks
 use Rattle.world_core.specs.Legal.{MayLearn, MayTake, Rule, times_taken}
-use Rattle.world_facts.proofs.Growths.{numbered-has, every-at}
+use Rattle.serial_law.proofs.Growths.{numbered-has, every-at}
 use Rattle.complete_law.specs.Calm.{CalmPlace, CalmRun, IsPlain, IsUnstopped, world_at}
 use Rattle.complete_law.proofs.BrokerMoves.{node-there}
 use Rattle.complete_law.proofs.Frames.{grown-log}

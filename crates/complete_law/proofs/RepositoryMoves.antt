@@ -47,12 +47,12 @@ use Rattle.world_core.specs.Nodes.{gives}
 use Rattle.world_core.specs.Nodes.Input.{Learning, Taking}
 use Rattle.world_core.specs.Walks.{Base, Flags, Life, Sending, World, flagged, learned, lives_on, numbered, sent_by, step, after_input, took, all_effects}
 use Rattle.world_core.specs.Legal.{MayTake, times_taken}
-use Rattle.world_facts.specs.Refines.{LogFacts, Refines, logs_at, soft_of}
-use Rattle.world_facts.specs.NodeRules.{kind_post, node_turns, node_facts}
-use Rattle.world_facts.specs.Soft.{NodeOk, SentOk, around, happened}
-use Rattle.world_facts.proofs.Growths.{numbered-has, each-has, every-of}
-use Rattle.world_facts.proofs.NodeLaws.{node-laws}
-use Rattle.world_facts.proofs.Openings.{facts-of}
+use Rattle.serial_law.specs.Refines.{LogFacts, Refines, logs_at, soft_of}
+use Rattle.serial_law.specs.NodeRules.{kind_post, node_turns, node_facts}
+use Rattle.serial_law.specs.Soft.{NodeOk, SentOk, around, happened}
+use Rattle.serial_law.proofs.Growths.{numbered-has, each-has, every-of}
+use Rattle.serial_law.proofs.NodeLaws.{node-laws}
+use Rattle.serial_law.proofs.Openings.{facts-of}
 use Rattle.repository_laws.specs.Waits.{Waits}
 use Rattle.complete_law.specs.AtRest.{read_to}
 use Rattle.repository_laws.proofs.AskerSteps.{Askers, on-learn-askers, on-message-askers}

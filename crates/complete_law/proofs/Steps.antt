@@ -18,11 +18,11 @@ use Rattle.world_core.specs.declared.entries.Entry.TheVariants as entry
 use Rattle.world_core.specs.Walks.{Base, Life, World, opened_life, opened_log, start_world, step, walk_from, all_effects}
 use Rattle.world_core.specs.Legal.{Meets, MayTake, MayGo, MayLearn, MayHear, MayGate, Rule, base_of, fates_of}
 use Rattle.world_core.proofs.Rules.{meets-front}
-use Rattle.world_facts.specs.NodeRules.{node_turns, node_facts}
-use Rattle.world_facts.specs.Refines.{Refines}
-use Rattle.world_facts.proofs.NodeLaws.{node-laws, past-laws}
-use Rattle.world_facts.proofs.Openings.{opens, left-nothing, ready-start}
-use Rattle.world_facts.proofs.Refinements.{step-refines}
+use Rattle.serial_law.specs.NodeRules.{node_turns, node_facts}
+use Rattle.serial_law.specs.Refines.{Refines}
+use Rattle.serial_law.proofs.NodeLaws.{node-laws, past-laws}
+use Rattle.serial_law.proofs.Openings.{opens, left-nothing, ready-start}
+use Rattle.serial_law.proofs.Refinements.{step-refines}
 use Rattle.complete_law.specs.Calm.{CalmRun, CalmPlace, IsUnstopped, IsIdleAt, AllDone, world_at}
 use Rattle.complete_law.proofs.Places.{CalmWorld, IsBegun, IsDecided, tasks_of}
 use Rattle.broker_laws.proofs.BookTurns.{DeskSound}

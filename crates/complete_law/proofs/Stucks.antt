@@ -3,14 +3,14 @@ use Rattle.std.proofs.Common.{[], refl}
 use Rattle.world_core.specs.Walks.{Base, sent_by, start_world}
 use Rattle.world_core.specs.Legal.{base_of, fates_of}
 use Rattle.world_core.specs.Pasts.{OpenedWith}
-use Rattle.world_facts.specs.NodeRules.{node_turns, node_facts}
-use Rattle.world_facts.specs.Refines.{LogFacts, logs_at, Ticked}
-use Rattle.world_facts.proofs.NodeLaws.{node-laws, past-laws}
-use Rattle.world_facts.proofs.Openings.{legal-facts}
+use Rattle.serial_law.specs.NodeRules.{node_turns, node_facts}
+use Rattle.serial_law.specs.Refines.{LogFacts, logs_at, Ticked}
+use Rattle.serial_law.proofs.NodeLaws.{node-laws, past-laws}
+use Rattle.serial_law.proofs.Openings.{legal-facts}
 use Rattle.complete_law.specs.Calm.{CalmPlace, IsIdleAt, AllDone, world_at}
 use Rattle.complete_law.proofs.Places.{CalmWorld}
 use Rattle.complete_law.proofs.Idles.{idle-done}
-use Rattle.world_facts.proofs.Steps.{walk-known}
+use Rattle.serial_law.proofs.Steps.{walk-known}
 
 module _ (p : CalmPlace) where
   abbrev base : Base

@@ -6,8 +6,8 @@ use Rattle.medium_port.specs.MemoryMedia.{pages_of, reads_of, leaves, failed_in,
 use Rattle.medium_port.specs.MemoryShelves.{TakenFrom, asked_for, image_under, LeftUnder, faults_under, shelf_faults}
 use Rattle.medium_port.specs.declared.memory_media.MemoryMedium.{MemoryMedium}
 use Rattle.medium_port.specs.declared.memory_shelves.MemoryShelf.{MemoryShelf}
-use Rattle.wire_lock.specs.Stories.{no_trace}
-use Rattle.run_media.specs.Media.{Media}
+use Rattle.swallow_top.specs.Stories.{no_trace}
+use Rattle.swallow_top.specs.Media.{Media}
 use Rattle.swallow_top.specs.Finishes.{account_of, tellers}
 use Rattle.swallow_top.specs.Promise.{Call, Promise}
 use Rattle.run_volumes.specs.Shelves.{ShelfSight}

@@ -13,3 +13,4 @@ pub use losses::LabFates;
 pub use options::{Lab, LabFault, lab_words};
 pub use runs::lab;
 pub use shelves::shelf_for;
+pub use swallow_top::{Kept, swallow};

@@ -1,7 +1,7 @@
 //! Runs in the laboratory.
 ghost use Rattle.std.specs.Prelude.{◌≡◌, ◌≤◌, ◌⊎◌, [], IfOk};
 ghost use Rattle.std.specs.String.{string_bytes};
-ghost use Rattle.wire_lock.specs.Stories.{no_trace};
+ghost use Rattle.swallow_top.specs.Stories.{no_trace};
 ghost use Rattle.command_words.specs.Words.{said};
 ghost use Rattle.swallow_top.specs.Written.{sinking};
 ghost use Rattle.laboratory.specs.Fates.{asked_of};
@@ -17,9 +17,8 @@ use std::marker::{Brand, PhantomData};
 use std::sync::Wait;
 use std::thread::Threads;
 use stream_port::{FixedClock, Sink, Source};
-use swallow_top::{Finish, no_votes, swallow};
+use swallow_top::{Finish, Told, no_votes, swallow};
 use value_form::Items;
-use wire_lock::Told;
 
 // The words of a text, with a space between each two.
 fn cut<'a>(alloc: Global, text: &'a str) -> Result<Vec<&'a str>, AllocError>

@@ -7,7 +7,7 @@ use denote.Param.SendFields.{declared_send}
 use Rattle.std.proofs.Crossing.{Vec-send, send}
 use Rattle.std.proofs.option.Option.TheSendSync as option
 use Rattle.medium_port.specs.declared.media.Medium as medium
-use Rattle.wire_core.proofs.ScriptCrosses.{n32, act_send, script_send}
+use Rattle.broker_node.proofs.ScriptCrosses.{n32, act_send, script_send}
 use Rattle.value_form.proofs.texts.Bytes.TheSendSync as bytes
 use Rattle.message_form.specs.contracts.logs.SnapshotLog as SnapshotLog
 use Rattle.message_form.specs.contracts.logs.SnapshotLog.TheInside as SnapshotLogInside

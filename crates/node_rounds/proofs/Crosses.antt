@@ -7,11 +7,11 @@ use Rattle.medium_port.specs.declared.media.Medium as medium
 use Rattle.stream_port.specs.declared.clocks.Clock as clock
 use Rattle.stream_port.specs.declared.fates.Fates as fates
 use Rattle.pseudo_time.proofs.nodes.NodeId.TheSendSync as name
-use Rattle.wire_core.proofs.Crosses.{pass_send}
-use Rattle.node_turn.specs.declared.cores.StoredCore as stored
-use Rattle.node_turn.proofs.hands.Hand.TheSendSync as hand
-use Rattle.node_turn.specs.contracts.nodes.Node as Node
-use Rattle.node_turn.specs.contracts.nodes.Node.TheInside as NodeInside
+use Rattle.broker_node.proofs.WireCrosses.{pass_send}
+use Rattle.broker_node.specs.StoredCore as stored
+use Rattle.broker_node.proofs.hands.Hand.TheSendSync as hand
+use Rattle.broker_node.specs.NodeContracts as Node
+use Rattle.broker_node.specs.NodeContracts.TheInside as NodeInside
 use Rattle.broker_node.specs.contracts.cores.BrokerCore as BrokerCore
 use Rattle.broker_node.specs.contracts.cores.BrokerCoreStoredCore.TheImpl as broker
 use Rattle.repository_node.specs.contracts.cores.RepositoryCore as RepositoryCore

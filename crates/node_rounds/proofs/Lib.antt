@@ -9,3 +9,10 @@ pub mod TickLemmas
 pub mod TurnedLemmas
 pub mod WantedLemmas
 pub mod WentLemmas
+pub use Rattle.broker_node.proofs.LifeLemmas
+pub use Rattle.broker_node.proofs.PhaseLemmas
+pub use Rattle.broker_node.proofs.SightLemmas
+pub use Rattle.broker_node.proofs.StepLemmas
+pub use Rattle.broker_node.proofs.TrailLemmas
+pub use Rattle.broker_node.proofs.TurnPageLemmas
+pub use Rattle.broker_node.proofs.WindowLemmas

@@ -9,7 +9,7 @@ use Rattle.effect_form.specs.Effects.{IsEffect}
 use Rattle.version_store.specs.Filling.{KeepsPages, StaysClean}
 use Rattle.version_store.specs.Storage.{storage}
 use Rattle.version_store.proofs.FillingLemmas.{apart-append}
-use Rattle.node_turn.specs.Cores.{HasGrown, IsIntact}
+use Rattle.broker_node.specs.Cores.{HasGrown, IsIntact}
 
 -- pages that each run keeps
 keeps-joins : (a b c : Image) → KeepsPages a b → KeepsPages b c → KeepsPages a c

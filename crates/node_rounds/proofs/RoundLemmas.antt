@@ -11,22 +11,22 @@ use Rattle.medium_port.specs.Image.{Image}
 use Rattle.medium_port.specs.Moment.{Stage, LeftNow, goes_nowhere}
 use Rattle.seat_lock.specs.Story.{Begins, entries_of}
 use Rattle.world_core.specs.declared.entries.Entry.{Entry}
-use Rattle.wire_core.specs.Wires.{WireParts}
-use Rattle.wire_core.specs.Boards.{owner_of}
-use Rattle.wire_core.specs.Boards.{owner_for}
+use Rattle.broker_node.specs.Wires.{WireParts}
+use Rattle.broker_node.specs.Boards.{owner_of}
+use Rattle.broker_node.specs.Boards.{owner_for}
 use Rattle.pseudo_time.specs.declared.nodes.NodeId.{NodeId}
-use Rattle.wire_lock.specs.Sights.{Sight, IsOf, Looked, Owns, life_at}
-use Rattle.wire_lock.proofs.SightLemmas.{looked-of}
-use Rattle.node_turn.specs.declared.conditions.Condition.{Condition}
-use Rattle.node_turn.specs.declared.conditions.Condition.TheVariants as condition
-use Rattle.node_turn.specs.declared.conditions.Turned.{Turned}
-use Rattle.node_turn.specs.Costs.{costs, PaysFor}
-use Rattle.node_turn.specs.Lives.{IsKept}
-use Rattle.node_turn.specs.Windows.{PassesOn}
-use Rattle.node_turn.proofs.PhaseLemmas.{kept-on, passes-on, passes-here, passes-beside}
-use Rattle.node_turn.specs.Nodes.{NodeParts, Adds, StaysWhole, IsCondition, TurnsTo, MeetsWith, sight}
-use Rattle.node_turn.proofs.TrailLemmas.{costs-append, adds-more, adds-none}
-use Rattle.node_turn.proofs.PageLemmas.{whole-same}
+use Rattle.broker_node.specs.Sights.{Sight, IsOf, Looked, Owns, life_at}
+use Rattle.broker_node.proofs.SightLemmas.{looked-of}
+use Rattle.broker_node.specs.Condition.{Condition}
+use Rattle.broker_node.specs.Condition.TheVariants as condition
+use Rattle.broker_node.specs.Turned.{Turned}
+use Rattle.broker_node.specs.Costs.{costs, PaysFor}
+use Rattle.broker_node.specs.Lives.{IsKept}
+use Rattle.broker_node.specs.Windows.{PassesOn}
+use Rattle.broker_node.proofs.PhaseLemmas.{kept-on, passes-on, passes-here, passes-beside}
+use Rattle.broker_node.specs.TurnNodes.{NodeParts, Adds, StaysWhole, IsCondition, TurnsTo, MeetsWith, sight}
+use Rattle.broker_node.proofs.TrailLemmas.{costs-append, adds-more, adds-none}
+use Rattle.broker_node.proofs.TurnPageLemmas.{whole-same}
 use Rattle.node_rounds.specs.Nodes.{IsKeptNow, IsKeptThrough, GoesOn, HadTurn, HasMet, HasAllOf, HasPass, HasSeen, IsReady}
 use Rattle.node_rounds.proofs.PageLemmas.{intact-joins}
 use Rattle.node_rounds.proofs.PairLemmas.{zip-same, zip-through, zip-with}

@@ -3,7 +3,7 @@ use Rattle.std.proofs.Common.{◌≡◌, ◌≢◌, List}
 use Rattle.std.specs.Prelude.{All, Any}
 use Rattle.std.specs.List.{AllZip}
 use Rattle.std.proofs.lemmas.List.Elements.{All-weaker}
-use Rattle.node_turn.specs.Nodes.{NodeParts}
+use Rattle.broker_node.specs.TurnNodes.{NodeParts}
 use Rattle.node_rounds.specs.Nodes.{Shares, EachNode, EachPlace, SomeNode}
 use Rattle.node_rounds.proofs.PairLemmas.{all-through, all-both, any-both, any-through, zip-through, zip-same, zip-with}
 

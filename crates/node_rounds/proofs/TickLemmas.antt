@@ -7,7 +7,7 @@ use Rattle.seat_lock.specs.Story.{Begins}
 use Rattle.world_core.specs.declared.entries.Entry.{Entry}
 use Rattle.world_core.specs.declared.entries.Entry.TheVariants.{Tick}
 use Rattle.world_core.specs.Walks.{walk}
-use Rattle.wire_lock.specs.Sights.{Sight, AtRest, Looked, Added, base_at, world_at}
+use Rattle.broker_node.specs.Sights.{Sight, AtRest, Looked, Added, base_at, world_at}
 use Rattle.world_core.specs.Counts.{is_tick, tick_count}
 use Rattle.node_rounds.specs.declared.limits.Limits.{Limits}
 use Rattle.node_rounds.specs.declared.reasons.Reason.TheVariants as reason

@@ -7,12 +7,12 @@ use Rattle.seat_lock.specs.declared.locks.LockTable.{LockTable}
 use Rattle.medium_port.specs.Image.{Image}
 use Rattle.medium_port.specs.Moment.{Stage}
 use Rattle.world_core.specs.declared.entries.Entry.{Entry}
-use Rattle.wire_core.specs.Wires.{WireParts}
-use Rattle.node_turn.specs.declared.conditions.Condition.{Condition}
-use Rattle.node_turn.specs.declared.conditions.Condition.TheVariants as condition
-use Rattle.node_turn.specs.declared.conditions.Turned.{Turned}
-use Rattle.node_turn.specs.Nodes.{NodeParts, IsCondition, TurnsTo, sight}
-use Rattle.node_turn.specs.Windows.{PassesOn}
+use Rattle.broker_node.specs.Wires.{WireParts}
+use Rattle.broker_node.specs.Condition.{Condition}
+use Rattle.broker_node.specs.Condition.TheVariants as condition
+use Rattle.broker_node.specs.Turned.{Turned}
+use Rattle.broker_node.specs.TurnNodes.{NodeParts, IsCondition, TurnsTo, sight}
+use Rattle.broker_node.specs.Windows.{PassesOn}
 use Rattle.node_rounds.specs.Nodes.{HadTurn, HasPass}
 use Rattle.node_rounds.proofs.RoundLemmas.{goes-turned}
 

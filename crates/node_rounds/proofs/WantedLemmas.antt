@@ -15,13 +15,13 @@ use Rattle.seat_lock.specs.Words.{CarriesOn, base_of as lock_base, knows}
 use Rattle.world_core.specs.declared.entries.Entry.{Entry}
 use Rattle.world_core.specs.declared.entries.Entry.TheVariants.{Take, Go, Learn, Hear, Gate, Crash, Down, Tick}
 use Rattle.world_core.specs.Walks.{Base, Life, walk}
-use Rattle.wire_core.specs.Wires.{WireParts, base_from}
-use Rattle.wire_core.specs.Boards.{owner_of}
-use Rattle.wire_lock.specs.Sights.{Sight, IsOf, Owns, Looked, Added, base_at, life_at}
-use Rattle.wire_lock.proofs.SightLemmas.{as-before, pass-origin}
+use Rattle.broker_node.specs.Wires.{WireParts, base_from}
+use Rattle.broker_node.specs.Boards.{owner_of}
+use Rattle.broker_node.specs.Sights.{Sight, IsOf, Owns, Looked, Added, base_at, life_at}
+use Rattle.broker_node.proofs.SightLemmas.{as-before, pass-origin}
 use Rattle.world_core.specs.Counts.{is_tick, tick_count}
 use Rattle.broker_node.specs.Logs.{is_over}
-use Rattle.node_turn.specs.Nodes.{NodeParts, sight}
+use Rattle.broker_node.specs.TurnNodes.{NodeParts, sight}
 use Rattle.node_rounds.specs.Nodes.{Shares, EachNode, EachPlace, SomeNode, HasAllOf, HasMet, HasPass, HasSeen}
 use Rattle.node_rounds.specs.Reasons.{HasTicked, IsLate, IsLateAfter, SeesMore, TicksAreWanted, is_done_after, is_done_at}
 use Rattle.node_rounds.proofs.RoundLemmas.{begins-joins, looked-own, looked-owner}

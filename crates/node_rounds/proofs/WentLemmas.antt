@@ -7,8 +7,8 @@ use Rattle.seat_lock.specs.declared.views.Founding.{Founding}
 use Rattle.seat_lock.specs.declared.locks.LockTable.{LockTable}
 use Rattle.seat_lock.specs.Story.{Begins}
 use Rattle.world_core.specs.declared.entries.Entry.{Entry}
-use Rattle.wire_core.specs.Wires.{WireParts}
-use Rattle.node_turn.specs.Nodes.{NodeParts}
+use Rattle.broker_node.specs.Wires.{WireParts}
+use Rattle.broker_node.specs.TurnNodes.{NodeParts}
 use Rattle.node_rounds.specs.Nodes.{Shares, EachNode, EachPlace, GoesOn, IsKeptThrough, HadTurn, HasAllOf, HasMet, HasPass, IsReady, IsUp}
 use Rattle.node_rounds.proofs.RoundLemmas.{goes-same, goes-met, goes-joins, has-more, kept-same, kept-met, kept-joins}
 use Rattle.node_rounds.proofs.WantedLemmas.{SameName}

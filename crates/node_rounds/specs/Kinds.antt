@@ -1,7 +1,7 @@
 -- A node of either kind.
 use Rattle.std.specs.Prelude.{◌≡◌, true, false}
 use Rattle.pseudo_time.specs.Nodes.{is_broker}
-use Rattle.node_turn.specs.Nodes.{NodeParts}
+use Rattle.broker_node.specs.TurnNodes.{NodeParts}
 use Rattle.node_rounds.specs.declared.kinds.AnyNode.{AnyNode}
 use Rattle.node_rounds.specs.declared.kinds.AnyNode.TheVariants.{Repository, Broker}
 

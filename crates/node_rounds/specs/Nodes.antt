@@ -10,13 +10,13 @@ use Rattle.seat_lock.specs.declared.views.Founding.{Founding}
 use Rattle.seat_lock.specs.declared.locks.LockTable.{LockTable}
 use Rattle.seat_lock.specs.Story.{Begins}
 use Rattle.world_core.specs.declared.entries.Entry.{Entry}
-use Rattle.wire_core.specs.Wires.{WireParts}
-use Rattle.wire_lock.specs.Sights.{IsOf, IsWirePass, Looked, Owns, life_at}
-use Rattle.node_turn.specs.declared.conditions.Condition.TheVariants as condition
-use Rattle.node_turn.specs.Costs.{costs, PaysFor}
-use Rattle.node_turn.specs.Lives.{IsKept}
-use Rattle.node_turn.specs.Windows.{PassesOn}
-use Rattle.node_turn.specs.Nodes.{NodeParts, Adds, StaysWhole, sight}
+use Rattle.broker_node.specs.Wires.{WireParts}
+use Rattle.broker_node.specs.Sights.{IsOf, IsWirePass, Looked, Owns, life_at}
+use Rattle.broker_node.specs.Condition.TheVariants as condition
+use Rattle.broker_node.specs.Costs.{costs, PaysFor}
+use Rattle.broker_node.specs.Lives.{IsKept}
+use Rattle.broker_node.specs.Windows.{PassesOn}
+use Rattle.broker_node.specs.TurnNodes.{NodeParts, Adds, StaysWhole, sight}
 
 -- ---- shares
 

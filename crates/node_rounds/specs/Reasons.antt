@@ -8,11 +8,11 @@ use Rattle.seat_lock.specs.Words.{CarriesOn}
 use Rattle.world_core.specs.declared.entries.Entry.{Entry}
 use Rattle.world_core.specs.declared.entries.Entry.TheVariants.{Tick}
 use Rattle.world_core.specs.Walks.{Base, sent_by, walk}
-use Rattle.wire_core.specs.Boards.{owner_of}
-use Rattle.wire_lock.specs.Sights.{Sight, IsOf, AtRest, base_at, world_at}
+use Rattle.broker_node.specs.Boards.{owner_of}
+use Rattle.broker_node.specs.Sights.{Sight, IsOf, AtRest, base_at, world_at}
 use Rattle.world_core.specs.Counts.{tick_count}
-use Rattle.node_turn.specs.declared.conditions.Condition.TheVariants as condition
-use Rattle.node_turn.specs.Nodes.{NodeParts, sight}
+use Rattle.broker_node.specs.Condition.TheVariants as condition
+use Rattle.broker_node.specs.TurnNodes.{NodeParts, sight}
 use Rattle.broker_node.specs.Logs.{is_over}
 use Rattle.node_rounds.specs.declared.limits.Limits.{Limits}
 use Rattle.node_rounds.specs.declared.reasons.Reason.{Reason}

@@ -1,8 +1,8 @@
 //! The conductor: rounds, and the five questions behind each.
 ghost use Rattle.std.specs.Prelude.{◌≡◌, ◌≤◌, All, Any, IsTrue, MatchBool};
 ghost use Rattle.seat_lock.specs.Words.{base_of, knows};
-ghost use Rattle.wire_core.specs.Wires.{base_from};
-ghost use Rattle.wire_lock.specs.Sights.{IsWirePass};
+ghost use Rattle.broker_node.specs.Wires.{base_from};
+ghost use Rattle.broker_node.specs.Sights.{IsWirePass};
 ghost use Rattle.world_core.specs.Counts.{tick_count};
 ghost use Rattle.node_rounds.specs.Nodes.{EachNode, SomeNode, EachPlace, GoesOn, IsKeptThrough, HasAllOf, HasPass, IsReady, IsUp};
 ghost use Rattle.node_rounds.specs.Reasons.{EndsFor, Follows, HasMemory, HasTicked, IsDone, IsDown, IsLate, NodesSay, TicksAreWanted};
@@ -12,12 +12,11 @@ use crate::meetings::meet_all;
 use crate::nodes::RunNode;
 use crate::reasons::{Next, Reason};
 use crate::turns::round;
+use broker_node::{Condition, SharedWire, WirePass};
 use medium_port::Medium;
-use node_turn::Condition;
 use std::sync::Wait;
 use std::thread::Threads;
 use stream_port::{Clock, Fates};
-use wire_lock::{SharedWire, WirePass};
 
 // How many turns nodes have in a round, where several threads give them: a thread is made and waited for each
 // round, which costs as much as some turns. One thread gives one turn each, in the order of nodes.

@@ -9,7 +9,7 @@ mod nodes;
 mod reasons;
 mod turns;
 
-pub use broker_node::open_broker;
+pub use broker_node::{Closed, SharedWire, Told, Wire, WirePass, open_broker};
 pub use conductors::go_on;
 pub use kinds::AnyNode;
 pub use limits::Limits;

@@ -2,13 +2,13 @@
 ghost use Rattle.std.specs.Prelude.{◌≡◌, All};
 ghost use Rattle.std.specs.List.{AllZip};
 ghost use Rattle.seat_lock.specs.Words.{knows};
-ghost use Rattle.wire_lock.specs.Sights.{IsWirePass, Looked};
+ghost use Rattle.broker_node.specs.Sights.{IsWirePass, Looked};
 ghost use Rattle.node_rounds.specs.Nodes.{EachNode, EachPlace, HasAllOf, HasMet, HasPass, HasSeen};
 
 use crate::nodes::RunNode;
+use broker_node::{SharedWire, WirePass};
 use medium_port::Medium;
 use stream_port::{Clock, Fates};
-use wire_lock::{SharedWire, WirePass};
 
 // The passes of a share's nodes meet the conductor's, in their order.
 fn meet_share<F: Fates, C: Clock, M: Medium>(

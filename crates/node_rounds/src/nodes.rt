@@ -1,21 +1,19 @@
 //! A node of a run, of either kind.
 ghost use Rattle.std.specs.Prelude.{◌≡◌, false, IsTrue};
 ghost use Rattle.seat_lock.specs.Words.{knows};
-ghost use Rattle.wire_lock.specs.Sights.{IsOf, IsWirePass, Looked};
-ghost use Rattle.node_turn.specs.Nodes.{MeetsWith, sight};
+ghost use Rattle.broker_node.specs.Sights.{IsOf, IsWirePass, Looked};
+ghost use Rattle.broker_node.specs.TurnNodes.{MeetsWith, sight};
 ghost use Rattle.node_rounds.specs.Reasons.{is_done_at};
 
 use crate::kinds::AnyNode;
 use crate::turns::Turns;
-use broker_node::{BrokerNode, is_done};
+use broker_node::{BrokerNode, Condition, SharedWire, Turned, WirePass, is_done};
 use medium_port::Medium;
-use node_turn::{Condition, Turned};
 use repository_node::RepositoryNode;
 use std::alloc::AllocError;
 use std::marker::Model;
 use std::sync::Wait;
 use stream_port::{Clock, Fates};
-use wire_lock::{SharedWire, WirePass};
 
 /// A node of a run, of either kind. Contracts see its name, how it stands, its pass and its medium.
 #[derive(Drop)]
@@ -26,7 +24,7 @@ pub struct RunNode<F: Fates, C: Clock, M: Medium> {
 impl<F: Fates, C: Clock, M: Medium> Model for RunNode<F, C, M> {
     ghost use Rattle.std.specs.Coded.{codes};
     ghost use Rattle.value_form.specs.contracts.scripts.Stmt as stmt;
-    ghost use Rattle.node_turn.specs.Nodes.{NodeParts};
+    ghost use Rattle.broker_node.specs.TurnNodes.{NodeParts};
     ghost use Rattle.node_rounds.specs.Kinds.{parts_of, IsOfKind};
 
     ghost Value = { NodeParts M };

@@ -15,3 +15,7 @@ pub mod WindowLemmas
 pub mod StepLemmas
 pub mod SightSteps
 pub mod PhaseLemmas
+pub use Rattle.wire_core.proofs.Crosses as WireCrosses
+pub use Rattle.wire_core.proofs.ScriptCrosses
+pub use Rattle.wire_lock.proofs.Crosses
+pub use Rattle.wire_lock.proofs.SightLemmas

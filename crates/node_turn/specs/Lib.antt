@@ -5,3 +5,8 @@ pub mod Costs
 pub mod Trails
 pub mod Nodes
 pub mod Came
+pub use Rattle.wire_core.specs.Boards
+pub use Rattle.wire_core.specs.Clocked
+pub use Rattle.wire_core.specs.Wires
+pub use Rattle.wire_lock.specs.Sights
+pub use Rattle.wire_lock.specs.Stories

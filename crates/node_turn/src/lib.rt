@@ -17,3 +17,5 @@ pub use conditions::{Condition, Turned};
 pub use cores::StoredCore;
 pub use nodes::Node;
 pub use openings::open_again;
+pub use wire_core::Wire;
+pub use wire_lock::{Closed, SharedWire, Told, WirePass};

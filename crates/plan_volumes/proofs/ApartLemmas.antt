@@ -8,12 +8,12 @@ use Rattle.pseudo_time.specs.declared.nodes.NodeId.{NodeId}
 use Rattle.medium_port.specs.declared.shelves.MediumName.{MediumName}
 use Rattle.effect_form.specs.declared.effects.Effect.{Effect}
 use Rattle.plan_form.specs.declared.plans.Plan.{Plan}
-use Rattle.run_media.specs.declared.openings.Opening.{Opening}
-use Rattle.run_media.specs.declared.openings.Opening.TheVariants.{Open, Shut, Wanting}
-use Rattle.run_media.specs.Media.{Media}
-use Rattle.run_media.specs.Openings.{HasOpened, IsWanting, medium_in}
-use Rattle.run_media.specs.Places.{kind_place, node_at}
-use Rattle.run_media.proofs.OrderLemmas.{place-at}
+use Rattle.run_volumes.specs.Opening.{Opening}
+use Rattle.run_volumes.specs.Opening.TheVariants.{Open, Shut, Wanting}
+use Rattle.run_volumes.specs.Media.{Media}
+use Rattle.run_volumes.specs.Openings.{HasOpened, IsWanting, medium_in}
+use Rattle.run_volumes.specs.Places.{kind_place, node_at}
+use Rattle.run_volumes.proofs.OrderLemmas.{place-at}
 use Rattle.forward_copy.specs.Currents.{current, current_from}
 use Rattle.forward_copy.specs.Wholes.{has_whole}
 use Rattle.run_volumes.specs.Shelves.{ShelfSight, WereTaken, first_names, volume_name}

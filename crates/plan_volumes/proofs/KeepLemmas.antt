@@ -5,11 +5,11 @@ use Rattle.std.specs.List.{AllZip}
 use Rattle.pseudo_time.specs.declared.nodes.NodeId.{NodeId}
 use Rattle.medium_port.specs.declared.shelves.MediumName.{MediumName}
 use Rattle.plan_form.specs.declared.plans.Plan.{Plan}
-use Rattle.run_media.specs.declared.openings.Opening.{Opening}
-use Rattle.run_media.specs.declared.openings.Opening.TheVariants.{Open, Shut, Wanting}
-use Rattle.run_media.specs.Media.{IsBack, Media}
-use Rattle.run_media.specs.Openings.{HasOpened, medium_in}
-use Rattle.run_media.specs.Places.{node_at}
+use Rattle.run_volumes.specs.Opening.{Opening}
+use Rattle.run_volumes.specs.Opening.TheVariants.{Open, Shut, Wanting}
+use Rattle.run_volumes.specs.Media.{IsBack, Media}
+use Rattle.run_volumes.specs.Openings.{HasOpened, medium_in}
+use Rattle.run_volumes.specs.Places.{node_at}
 use Rattle.run_volumes.specs.Kept.{kept_as, kept_under}
 use Rattle.run_volumes.specs.Shelves.{first_names, volume_name}
 use Rattle.run_volumes.specs.declared.kept.Kept.{Kept}

@@ -8,9 +8,9 @@ use Rattle.pseudo_time.specs.Lists.{Has}
 use Rattle.pseudo_time.specs.declared.nodes.NodeId.{NodeId}
 use Rattle.medium_port.specs.declared.shelves.MediumName.{MediumName}
 use Rattle.plan_form.specs.declared.plans.Plan.{Plan}
-use Rattle.run_media.specs.Media.{Media}
-use Rattle.run_media.specs.Openings.{HasOpened, medium_in}
-use Rattle.run_media.specs.Places.{node_at}
+use Rattle.run_volumes.specs.Media.{Media}
+use Rattle.run_volumes.specs.Openings.{HasOpened, medium_in}
+use Rattle.run_volumes.specs.Places.{node_at}
 use Rattle.run_volumes.specs.Kept.{kept_under}
 use Rattle.run_volumes.specs.Shelves.{IsGiven, ShelfSight, first_names, volume_name}
 use Rattle.run_volumes.specs.declared.kept.Kept.{Kept}

@@ -4,9 +4,9 @@ use Rattle.std.specs.List.{AllZip}
 use Rattle.pseudo_time.specs.Lists.{Every}
 use Rattle.pseudo_time.specs.declared.nodes.NodeId.{NodeId}
 use Rattle.plan_form.specs.declared.plans.Plan.{Plan}
-use Rattle.run_media.specs.declared.openings.Opening.{Opening}
-use Rattle.run_media.specs.Media.{Media}
-use Rattle.run_media.specs.Openings.{HasOpened, IsWanting, medium_in}
+use Rattle.run_volumes.specs.Opening.{Opening}
+use Rattle.run_volumes.specs.Media.{Media}
+use Rattle.run_volumes.specs.Openings.{HasOpened, IsWanting, medium_in}
 use Rattle.run_volumes.specs.Shelves.{ShelfSight, WereTaken}
 use Rattle.run_volumes.specs.Volumes.{AreVolumes}
 use Rattle.plan_volumes.specs.Volumes.{AreNodes, HadMemory, NodeVolumes, all_taken, left_of, names_from, work_taken, working}

@@ -9,11 +9,11 @@ use Rattle.medium_port.specs.declared.shelves.MediumName.{MediumName}
 use Rattle.version_store.specs.Storage.{storage}
 use Rattle.version_store.specs.StoreWords.{medium_of}
 use Rattle.plan_form.specs.declared.plans.Plan.{Plan}
-use Rattle.run_media.specs.declared.openings.Opening.{Opening}
-use Rattle.run_media.specs.declared.openings.Opening.TheVariants.{Open, Shut, Wanting}
-use Rattle.run_media.specs.Media.{Media}
-use Rattle.run_media.specs.Openings.{HasOpened, IsWanting, medium_in}
-use Rattle.run_media.specs.Places.{node_at, node_count}
+use Rattle.run_volumes.specs.Opening.{Opening}
+use Rattle.run_volumes.specs.Opening.TheVariants.{Open, Shut, Wanting}
+use Rattle.run_volumes.specs.Media.{Media}
+use Rattle.run_volumes.specs.Openings.{HasOpened, IsWanting, medium_in}
+use Rattle.run_volumes.specs.Places.{node_at, node_count}
 use Rattle.forward_copy.specs.Currents.{current}
 use Rattle.run_volumes.specs.Kept.{kept_under}
 use Rattle.run_volumes.specs.Shelves.{ShelfSight, WereTaken, first_names}

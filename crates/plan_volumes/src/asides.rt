@@ -1,13 +1,12 @@
 //! A node's volumes stand aside, but for one.
 ghost use Rattle.std.specs.Prelude.{◌≡◌, ◌≤◌, ◌<◌, false, map, slice_get, slice_set, Some, vec_len};
 ghost use Rattle.pseudo_time.specs.Lists.{Every};
-ghost use Rattle.run_media.specs.Openings.{IsWanting, medium_in};
+ghost use Rattle.run_volumes.specs.Openings.{IsWanting, medium_in};
 ghost use Rattle.plan_volumes.specs.Volumes as spec;
 
 use medium_port::Medium;
 use pseudo_time::DownCause;
-use run_media::Opening;
-use run_volumes::current;
+use run_volumes::{Opening, current};
 use std::mem;
 
 /// A node's volumes while a run has one of them.

@@ -2,8 +2,8 @@
 ghost use Rattle.std.specs.Prelude.{◌≡◌, ◌≤◌, ◌+◌, ◌*◌, ◌++◌, [], length, map, List, vec_len, vec_capacity};
 ghost use Rattle.std.specs.List.{AllZip};
 ghost use Rattle.plan_form.specs.PlanTexts.{IsOfLanguage};
-ghost use Rattle.run_media.specs.Openings.{medium_in};
-ghost use Rattle.run_media.specs.Places as order;
+ghost use Rattle.run_volumes.specs.Openings.{medium_in};
+ghost use Rattle.run_volumes.specs.Places as order;
 ghost use Rattle.run_volumes.specs.Kept.{kept_under};
 ghost use Rattle.run_volumes.specs.Shelves.{first_names};
 ghost use Rattle.plan_volumes.specs.Asides.{IsAside};
@@ -13,8 +13,7 @@ use crate::asides::{Aside, put_back};
 use medium_port::Medium;
 use plan_form::Plan;
 use pseudo_time::NodeId;
-use run_media::{Opening, node_at};
-use run_volumes::{Kept, keep_one};
+use run_volumes::{Kept, Opening, keep_one, node_at};
 
 // A node's volumes under their names, from 0 on, behind others. The list has room for them.
 fn keep_openings<M: Medium>(

@@ -11,3 +11,6 @@ pub use asides::Aside;
 pub use keeping::keep_nodes;
 pub use opening::{Opened, open_nodes};
 pub use rooms::{Rooms, make_rooms};
+pub use run_volumes::{
+    Kept, Opening, Standing, give_back, keep_volumes, node_log, open_volumes, stand_of,
+};

@@ -1,7 +1,7 @@
 //! The volumes of all nodes are taken and opened.
 ghost use Rattle.std.specs.Prelude.{◌≡◌, ◌≤◌, [], length, List, All, vec_capacity};
 ghost use Rattle.plan_form.specs.PlanTexts.{IsOfLanguage};
-ghost use Rattle.run_media.specs.Places as order;
+ghost use Rattle.run_volumes.specs.Places as order;
 ghost use Rattle.run_volumes.specs.Shelves.{shelf_sight};
 ghost use Rattle.plan_volumes.specs.Asides.{AreApart, IsApart};
 ghost use Rattle.plan_volumes.specs.Volumes.{NodeVolumes};
@@ -10,8 +10,7 @@ use crate::asides::{Aside, is_wanting, set_aside};
 use medium_port::{Medium, Shelf};
 use plan_form::Plan;
 use pseudo_time::NodeId;
-use run_media::{Opening, node_at};
-use run_volumes::open_volumes;
+use run_volumes::{Opening, node_at, open_volumes};
 use std::alloc::Global;
 
 /// The volumes of a plan's nodes, opened.

@@ -1,13 +1,12 @@
 ghost use Rattle.std.specs.Prelude.{◌≡◌, ◌≤◌, [], length, vec_capacity, All, IfOk};
 ghost use Rattle.plan_form.specs.PlanTexts.{IsOfLanguage};
-ghost use Rattle.run_media.specs.Places as order;
+ghost use Rattle.run_volumes.specs.Places as order;
 ghost use Rattle.plan_volumes.specs.Asides.{HasRoom};
 
 use crate::asides::Aside;
 use medium_port::Medium;
 use plan_form::Plan;
-use run_media::{Opening, node_count};
-use run_volumes::Kept;
+use run_volumes::{Kept, Opening, node_count};
 use std::alloc::{AllocError, Global};
 
 /// Emptied lists for the volumes of a plan's nodes, so that none of these is lost for want of memory.

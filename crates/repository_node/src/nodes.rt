@@ -5,19 +5,18 @@ ghost use Rattle.effect_form.specs.Effects.{AreEffects};
 ghost use Rattle.version_store.specs.StoreWords.{medium_of, effects_in};
 ghost use Rattle.seat_lock.specs.Words.{knows};
 ghost use Rattle.world_core.specs.Walks.{opened_log};
-ghost use Rattle.wire_lock.specs.Sights.{IsOf, origin_at};
+ghost use Rattle.node_turn.specs.Sights.{IsOf, origin_at};
 ghost use Rattle.node_turn.specs.Nodes.{new_node};
 
 use crate::cores::{RepositoryCore, open_core};
 use crate::kept_cores::KeptCore;
 use effect_form::Effect;
 use medium_port::Medium;
-use node_turn::Node;
+use node_turn::{Node, WirePass};
 use pseudo_time::NodeId;
 use std::alloc::{AllocError, Global};
 use stream_port::{Clock, Fates};
 use version_store::Store;
-use wire_lock::WirePass;
 
 /// A repository of a run, with its log and its histories on a medium, and its pass. Its turns,
 /// meetings and release are those of `Node`.

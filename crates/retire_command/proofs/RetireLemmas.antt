@@ -22,10 +22,10 @@ use Rattle.version_store.specs.Causes.{down_of}
 use Rattle.version_store.specs.Filling.{filling}
 use Rattle.version_store.specs.Storage.{storage}
 use Rattle.version_store.specs.StoreWords.{left_in, medium_of}
-use Rattle.run_media.specs.declared.openings.Opening.{Opening}
-use Rattle.run_media.specs.declared.openings.Opening.TheVariants.{Open, Shut, Wanting}
-use Rattle.run_media.specs.Media.{AreBack, IsBack, Media}
-use Rattle.run_media.specs.Openings.{HasOpened, IsOpen, log_in, medium_in}
+use Rattle.run_volumes.specs.Opening.{Opening}
+use Rattle.run_volumes.specs.Opening.TheVariants.{Open, Shut, Wanting}
+use Rattle.run_volumes.specs.Media.{AreBack, IsBack, Media}
+use Rattle.run_volumes.specs.Openings.{HasOpened, IsOpen, log_in, medium_in}
 use Rattle.forward_copy.specs.Carried.{LeavesFront}
 use Rattle.forward_copy.specs.Refusals.{IsFirstUndecided, IsOldMark}
 use Rattle.forward_copy.specs.Sifted.{between}

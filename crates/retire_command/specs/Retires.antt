@@ -18,10 +18,10 @@ use Rattle.version_store.specs.Storage.{storage}
 use Rattle.version_store.specs.StoreWords.{left_in, medium_of}
 use Rattle.object_retirement.specs.Forward.{MayRetire, forward}
 use Rattle.report_writer.specs.Reports.{down_text}
-use Rattle.run_media.specs.declared.openings.Opening.{Opening}
-use Rattle.run_media.specs.declared.openings.Opening.TheVariants.{Open, Shut}
-use Rattle.run_media.specs.Media.{Media}
-use Rattle.run_media.specs.Openings.{medium_in}
+use Rattle.run_volumes.specs.Opening.{Opening}
+use Rattle.run_volumes.specs.Opening.TheVariants.{Open, Shut}
+use Rattle.run_volumes.specs.Media.{Media}
+use Rattle.run_volumes.specs.Openings.{medium_in}
 use Rattle.forward_copy.specs.Carried.{LeavesFront}
 use Rattle.forward_copy.specs.Refusals.{IsFirstUndecided, IsOldMark}
 use Rattle.forward_copy.specs.Sifted.{between, left_behind}

@@ -17,7 +17,7 @@ use crate::preparing::{Prepared, fallen};
 use forward_copy::{Forward, carry};
 use medium_port::Medium;
 use pseudo_time::{NodeId, PseudoTime};
-use run_media::{Opening, give_back};
+use run_volumes::{Opening, give_back};
 use std::alloc::Global;
 use value_form::Bytes;
 use version_store::{Store, StoreFault};

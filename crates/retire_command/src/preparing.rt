@@ -12,8 +12,7 @@ use crate::outcomes::Retired;
 use forward_copy::{Forward, ForwardFault, forward};
 use medium_port::Medium;
 use pseudo_time::{NodeId, PseudoTime};
-use run_media::Opening;
-use run_volumes::{Standing, fresh, node_log as log_of, stand_of};
+use run_volumes::{Opening, Standing, fresh, node_log as log_of, stand_of};
 use std::alloc::{AllocError, Global};
 use value_form::Bytes;
 

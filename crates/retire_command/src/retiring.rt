@@ -13,8 +13,7 @@ use crate::outcomes::Retired;
 use crate::preparing::prepare;
 use medium_port::{Medium, Shelf};
 use pseudo_time::{NodeId, PseudoTime};
-use run_media::{Opening, give_back};
-use run_volumes::{Kept, keep_volumes, open_volumes};
+use run_volumes::{Kept, Opening, give_back, keep_volumes, open_volumes};
 use std::alloc::Global;
 
 // Retires a repository with these volumes. The empty list has room for what is left of them.

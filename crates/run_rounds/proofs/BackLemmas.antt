@@ -29,7 +29,7 @@ use Rattle.run_media.proofs.OrderLemmas.{place-at, at-place, in-at}
 use Rattle.run_rounds.specs.Media.{Became, medium_at, inner}
 use Rattle.run_rounds.specs.Finishes.{IsKeptWhole}
 use Rattle.run_rounds.specs.Runs.{Shows, IsFirstFault}
-use Rattle.world_facts.proofs.Ranges.{in-range}
+use Rattle.kill_law.proofs.Ranges.{in-range}
 use Rattle.run_starts.proofs.AlongLemmas.{zip-back}
 
 zip-mapped : {A B C : Type 0} (P : A → B → Type 0) (Q : A → C → Type 0) (f : B → C) → ((x : A) (y : B) → P x y → Q x (f y)) → (xs : List A) (ys : List B) → AllZip P xs ys → AllZip Q xs (map f ys)

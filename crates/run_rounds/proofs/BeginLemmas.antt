@@ -3,7 +3,7 @@ use Rattle.std.proofs.Common.{◌≡◌, ℕ, List, length, map, Option, Some, i
 use Rattle.std.specs.List.{AllZip}
 use Rattle.stream_port.specs.declared.fates.Asked.{Asked}
 use Rattle.plan_form.specs.declared.plans.Plan.{Plan}
-use Rattle.wire_core.specs.Wires.{Origin}
+use Rattle.run_starts.specs.Wires.{Origin}
 use Rattle.run_media.specs.declared.openings.Opening.{Opening}
 use Rattle.run_media.specs.declared.openings.Refusal.{Refusal}
 use Rattle.run_media.specs.declared.openings.Refusal.TheVariants as refusal

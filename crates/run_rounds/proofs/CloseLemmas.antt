@@ -17,12 +17,12 @@ use Rattle.world_core.specs.declared.entries.Entry.{Entry}
 use Rattle.world_core.specs.declared.traces.Trace.{Trace}
 use Rattle.world_core.specs.Legal.{Idle, fates_of}
 use Rattle.world_core.specs.Readings.{IsLegal}
-use Rattle.wire_core.specs.Wires.{Origin, WireParts}
-use Rattle.wire_core.specs.Boards.{owner_of}
-use Rattle.wire_lock.specs.Sights.{IsWirePass, Sight, owners_for}
-use Rattle.wire_lock.specs.Stories.{IsWhole, LeavesUntold, end_of}
+use Rattle.run_starts.specs.Wires.{Origin, WireParts}
+use Rattle.run_starts.specs.Boards.{owner_of}
+use Rattle.run_starts.specs.Sights.{IsWirePass, Sight, owners_for}
+use Rattle.run_starts.specs.Stories.{IsWhole, LeavesUntold, end_of}
 use Rattle.world_core.specs.Counts.{tick_count}
-use Rattle.node_turn.specs.Nodes.{NodeParts}
+use Rattle.run_starts.specs.TurnNodes.{NodeParts}
 use Rattle.run_starts.specs.Limits.{Limits}
 use Rattle.run_starts.specs.Reason.{Reason}
 use Rattle.run_starts.specs.Reason.TheVariants as reason

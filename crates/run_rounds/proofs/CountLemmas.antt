@@ -17,14 +17,14 @@ use Rattle.world_core.specs.declared.traces.Trace.{Trace}
 use Rattle.world_core.specs.Walks.{Life, names, own, start_world}
 use Rattle.world_core.specs.Legal.{fates_of, in_plan}
 use Rattle.world_core.specs.Readings.{IsLegal, life_after}
-use Rattle.wire_core.specs.Wires.{WireParts}
-use Rattle.wire_core.specs.Boards.{owner_for, owner_of}
-use Rattle.wire_lock.specs.Sights.{IsOf, life_at}
+use Rattle.run_starts.specs.Wires.{WireParts}
+use Rattle.run_starts.specs.Boards.{owner_for, owner_of}
+use Rattle.run_starts.specs.Sights.{IsOf, life_at}
 use Rattle.world_core.specs.Counts.{down_cause}
-use Rattle.node_turn.specs.Cores.{IsIntact}
-use Rattle.node_turn.specs.Costs.{costs}
-use Rattle.node_turn.specs.Lives.{IsCause, IsFullFor}
-use Rattle.node_turn.specs.Nodes.{NodeParts, sight}
+use Rattle.run_starts.specs.Cores.{IsIntact}
+use Rattle.run_starts.specs.Costs.{costs}
+use Rattle.run_starts.specs.Lives.{IsCause, IsFullFor}
+use Rattle.run_starts.specs.TurnNodes.{NodeParts, sight}
 use Rattle.run_media.specs.Media.{Media}
 use Rattle.run_rounds.specs.Media.{AreCounted, Became, HaveCauses}
 use Rattle.run_rounds.proofs.EndLemmas.{costs-whole, own-whole}

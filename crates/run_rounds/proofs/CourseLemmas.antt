@@ -11,10 +11,10 @@ use Rattle.seat_lock.specs.declared.views.Founding.{Founding}
 use Rattle.seat_lock.specs.declared.locks.LockTable.{LockTable}
 use Rattle.seat_lock.specs.Words.{knows}
 use Rattle.world_core.specs.declared.entries.Entry.{Entry}
-use Rattle.wire_core.specs.Wires.{WireParts}
-use Rattle.wire_lock.specs.Sights.{IsWirePass, Sight, base_at}
+use Rattle.run_starts.specs.Wires.{WireParts}
+use Rattle.run_starts.specs.Sights.{IsWirePass, Sight, base_at}
 use Rattle.world_core.specs.Counts.{tick_count}
-use Rattle.node_turn.specs.Nodes.{NodeParts, IsAtRest}
+use Rattle.run_starts.specs.TurnNodes.{NodeParts, IsAtRest}
 use Rattle.run_starts.specs.Limits.{Limits}
 use Rattle.run_starts.specs.Reason.{Reason}
 use Rattle.run_starts.specs.Reason.TheVariants as reason

@@ -15,9 +15,9 @@ use Rattle.seat_lock.specs.Words.{CarriesOn, knows}
 use Rattle.world_core.specs.declared.entries.Entry.{Entry}
 use Rattle.world_core.specs.declared.entries.Entry.TheVariants.{Down}
 use Rattle.world_core.specs.Walks.{Base, Life, World, is_down, lives_on, names, opened_life, opened_log, own, start_world, step, walk, walk_from}
-use Rattle.wire_core.specs.Wires.{WireParts}
-use Rattle.wire_core.specs.Boards.{owner_for, owner_of}
-use Rattle.wire_lock.specs.Sights.{owners_for}
+use Rattle.run_starts.specs.Wires.{WireParts}
+use Rattle.run_starts.specs.Boards.{owner_for, owner_of}
+use Rattle.run_starts.specs.Sights.{owners_for}
 use Rattle.world_core.specs.Counts.{down_cause}
 use Rattle.run_media.specs.declared.openings.Opening.{Opening}
 use Rattle.run_media.specs.declared.openings.Opening.TheVariants.{Open, Shut, Wanting}
@@ -27,7 +27,7 @@ use Rattle.run_starts.specs.Seats.{Along}
 use Rattle.run_starts.specs.Starts.{HasFallen, downs_of}
 use Rattle.run_rounds.specs.Closings.{Pass}
 use Rattle.pseudo_time.proofs.ListLemmas.{every-has}
-use Rattle.world_facts.proofs.Growths.{every-of, has-filter, filter-has}
+use Rattle.kill_law.proofs.Growths.{every-of, has-filter, filter-has}
 
 -- ---- lists
 

@@ -21,19 +21,19 @@ use Rattle.world_core.specs.Walks.{Base, is_down, names, own, sent_by, walk}
 use Rattle.plan_form.specs.declared.plans.Plan.{Plan}
 use Rattle.world_core.specs.Legal.{in_plan, is_within, most_of, post_of}
 use Rattle.world_core.proofs.Lives.{sent-grows}
-use Rattle.wire_core.specs.Wires.{Origin, base_from}
-use Rattle.wire_core.specs.Boards.{owner_for, owner_of, owner_with}
-use Rattle.wire_lock.specs.Sights.{Sight, IsOf, Owns, base_at, flags_at, life_at, world_at}
-use Rattle.wire_lock.specs.Stories.{end_of}
-use Rattle.wire_lock.proofs.SightLemmas.{as-before}
+use Rattle.run_starts.specs.Wires.{Origin, base_from}
+use Rattle.run_starts.specs.Boards.{owner_for, owner_of, owner_with}
+use Rattle.run_starts.specs.Sights.{Sight, IsOf, Owns, base_at, flags_at, life_at, world_at}
+use Rattle.run_starts.specs.Stories.{end_of}
+use Rattle.run_starts.proofs.SightLemmas.{as-before}
 use Rattle.world_core.specs.Counts.{is_tick, tick_count}
-use Rattle.node_turn.specs.Costs.{costs}
+use Rattle.run_starts.specs.Costs.{costs}
 use Rattle.run_starts.specs.Logs.{is_over}
 use Rattle.run_starts.specs.Reasons.{is_done_at}
 use Rattle.run_starts.proofs.WantedLemmas.{life-whole}
 use Rattle.run_rounds.proofs.ListLemmas.{any-has}
-use Rattle.world_facts.proofs.Growths.{filter-has}
-use Rattle.world_facts.proofs.Ranges.{in-range}
+use Rattle.kill_law.proofs.Growths.{filter-has}
+use Rattle.kill_law.proofs.Ranges.{in-range}
 
 -- ---- flags
 

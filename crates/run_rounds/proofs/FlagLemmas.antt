@@ -12,7 +12,7 @@ use Rattle.world_core.specs.declared.entries.Entry.{Entry}
 use Rattle.world_core.specs.declared.entries.Entry.TheVariants.{Take, Go, Learn, Hear, Gate, Crash, Down, Tick}
 use Rattle.world_core.specs.Walks.{Base, Flags, World, flagged, is_down, names, opened_log, step, walk_from}
 use Rattle.world_core.specs.Legal.{Meets, Rule}
-use Rattle.world_facts.proofs.Steps.{step-known}
+use Rattle.kill_law.proofs.Steps.{step-known}
 use Rattle.world_core.specs.Counts.{down_cause}
 
 -- ---- the first Down of a node

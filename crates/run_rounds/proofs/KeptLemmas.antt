@@ -15,11 +15,11 @@ use Rattle.world_core.specs.declared.entries.Entry.{Entry}
 use Rattle.world_core.specs.declared.traces.Opened.{Opened}
 use Rattle.world_core.specs.Walks.{Base, opened_log, walk, walk_from}
 use Rattle.world_core.proofs.Lives.{gated-grows}
-use Rattle.wire_core.specs.Wires.{Origin, WireParts}
-use Rattle.wire_lock.specs.Sights.{IsWirePass, Sight, base_at, life_at, origin_at}
-use Rattle.wire_lock.proofs.SightLemmas.{pass-origin}
-use Rattle.node_turn.specs.Lives.{IsKept}
-use Rattle.node_turn.specs.Nodes.{NodeParts, sight}
+use Rattle.run_starts.specs.Wires.{Origin, WireParts}
+use Rattle.run_starts.specs.Sights.{IsWirePass, Sight, base_at, life_at, origin_at}
+use Rattle.run_starts.proofs.SightLemmas.{pass-origin}
+use Rattle.run_starts.specs.Lives.{IsKept}
+use Rattle.run_starts.specs.TurnNodes.{NodeParts, sight}
 use Rattle.run_media.specs.Media.{Media}
 use Rattle.run_media.specs.Places.{node_at}
 use Rattle.run_starts.specs.Seats.{Along}

@@ -25,16 +25,16 @@ use Rattle.world_core.specs.declared.entries.Entry.{Entry}
 use Rattle.world_core.specs.declared.traces.Trace.{Trace}
 use Rattle.world_core.specs.Legal.{base_of, in_plan}
 use Rattle.world_core.specs.Walks.{Base, Life, names, opened_life, opened_log, own, walk, walk_from}
-use Rattle.wire_core.specs.Wires.{WireParts, base_from}
-use Rattle.wire_core.specs.Boards.{owner_for}
-use Rattle.wire_lock.specs.Sights.{Sight, base_at, life_at}
-use Rattle.wire_lock.proofs.SightLemmas.{looked-of}
-use Rattle.node_turn.specs.Lives.{IsKept}
-use Rattle.node_turn.specs.Nodes.{NodeParts, sight}
-use Rattle.node_turn.specs.Windows.{IsNext, KeptAlong, Mark, Passes, PassesOn, cuts_of, entries_in}
-use Rattle.node_turn.proofs.LifeLemmas.{kept-none}
-use Rattle.node_turn.proofs.PhaseLemmas.{kept-on, passes-beside, passes-on}
-use Rattle.node_turn.proofs.WindowLemmas.{place-of}
+use Rattle.run_starts.specs.Wires.{WireParts, base_from}
+use Rattle.run_starts.specs.Boards.{owner_for}
+use Rattle.run_starts.specs.Sights.{Sight, base_at, life_at}
+use Rattle.run_starts.proofs.SightLemmas.{looked-of}
+use Rattle.run_starts.specs.Lives.{IsKept}
+use Rattle.run_starts.specs.TurnNodes.{NodeParts, sight}
+use Rattle.run_starts.specs.Windows.{IsNext, KeptAlong, Mark, Passes, PassesOn, cuts_of, entries_in}
+use Rattle.run_starts.proofs.LifeLemmas.{kept-none}
+use Rattle.run_starts.proofs.PhaseLemmas.{kept-on, passes-beside, passes-on}
+use Rattle.run_starts.proofs.WindowLemmas.{place-of}
 use Rattle.run_starts.specs.Nodes.{IsKeptNow, IsKeptThrough}
 use Rattle.run_starts.specs.Reasons.{HasMemory}
 use Rattle.run_media.specs.declared.openings.Opening.{Opening}

@@ -19,15 +19,15 @@ use Rattle.world_core.specs.Walks.{Base, Flags, Life, opened_log, start_world, w
 use Rattle.world_core.specs.Legal.{base_of, in_plan}
 use Rattle.world_core.specs.Pasts.{WasNotOpened}
 use Rattle.world_core.specs.Readings.{life_after}
-use Rattle.wire_core.specs.Wires.{Origin, WireParts, base_from}
-use Rattle.wire_core.specs.Boards.{owner_of}
-use Rattle.wire_lock.specs.Sights.{IsOf, IsWirePass, base_at, flags_at, life_at}
-use Rattle.wire_lock.proofs.SightLemmas.{pass-origin}
+use Rattle.run_starts.specs.Wires.{Origin, WireParts, base_from}
+use Rattle.run_starts.specs.Boards.{owner_of}
+use Rattle.run_starts.specs.Sights.{IsOf, IsWirePass, base_at, flags_at, life_at}
+use Rattle.run_starts.proofs.SightLemmas.{pass-origin}
 use Rattle.world_core.specs.Counts.{down_cause}
-use Rattle.node_turn.specs.declared.conditions.Condition.{Condition}
-use Rattle.node_turn.specs.declared.conditions.Condition.TheVariants as condition
-use Rattle.node_turn.specs.Lives.{IsCause}
-use Rattle.node_turn.specs.Nodes.{NodeParts, Stands, sight}
+use Rattle.run_starts.specs.Condition.{Condition}
+use Rattle.run_starts.specs.Condition.TheVariants as condition
+use Rattle.run_starts.specs.Lives.{IsCause}
+use Rattle.run_starts.specs.TurnNodes.{NodeParts, Stands, sight}
 use Rattle.run_starts.specs.Reasons.{HasMemory}
 use Rattle.run_media.specs.declared.openings.Opening.{Opening}
 use Rattle.run_media.specs.Media.{Media}

@@ -20,4 +20,4 @@ pub mod ToldLemmas
 pub mod UnopenedLemmas
 pub use Rattle.run_starts.proofs.AlongLemmas
 pub use Rattle.run_starts.proofs.DealLemmas
-pub use Rattle.node_turn.proofs.TrailLemmas
+pub use Rattle.run_starts.proofs.TrailLemmas

@@ -16,11 +16,11 @@ use Rattle.world_core.specs.Legal.{in_plan}
 use Rattle.world_core.specs.Pasts.{WasNotOpened}
 use Rattle.world_core.specs.Walks.{Life, opened_log}
 use Rattle.world_core.specs.Readings.{open_effects}
-use Rattle.wire_core.specs.Wires.{WireParts, base_from}
-use Rattle.wire_lock.specs.Sights.{life_at}
+use Rattle.run_starts.specs.Wires.{WireParts, base_from}
+use Rattle.run_starts.specs.Sights.{life_at}
 use Rattle.world_core.specs.Counts.{down_cause}
-use Rattle.node_turn.specs.Lives.{IsKept}
-use Rattle.node_turn.specs.Nodes.{NodeParts, sight}
+use Rattle.run_starts.specs.Lives.{IsKept}
+use Rattle.run_starts.specs.TurnNodes.{NodeParts, sight}
 use Rattle.run_starts.specs.Reasons.{HasMemory}
 use Rattle.run_media.specs.Media.{Media}
 use Rattle.run_media.specs.Places.{node_count}

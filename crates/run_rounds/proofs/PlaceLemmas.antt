@@ -9,9 +9,9 @@ use Rattle.plan_form.specs.declared.plans.Plan.{Plan}
 use Rattle.seat_lock.specs.Words.{fresh, knows}
 use Rattle.world_core.specs.declared.traces.Opened.{Opened}
 use Rattle.world_core.specs.Walks.{opened_log}
-use Rattle.wire_core.specs.Wires.{WireParts}
-use Rattle.wire_core.specs.Boards.{owner_for}
-use Rattle.wire_lock.specs.Sights.{Sight}
+use Rattle.run_starts.specs.Wires.{WireParts}
+use Rattle.run_starts.specs.Boards.{owner_for}
+use Rattle.run_starts.specs.Sights.{Sight}
 use Rattle.run_media.specs.declared.openings.Opening.{Opening}
 use Rattle.run_media.specs.Openings.{log_in, opened_from}
 use Rattle.run_media.specs.Places.{node_at}

@@ -24,14 +24,14 @@ use Rattle.world_core.specs.declared.entries.Entry.TheVariants.{Tick}
 use Rattle.world_core.specs.declared.traces.Trace.{Trace}
 use Rattle.world_core.specs.Walks.{Base, World, walk}
 use Rattle.world_core.specs.Legal.{Idle, base_of, fates_of, in_plan, is_within, most_of}
-use Rattle.wire_core.specs.Wires.{Origin, WireParts, base_from}
-use Rattle.wire_core.specs.Boards.{owner_of}
-use Rattle.wire_lock.specs.Sights.{IsOf, IsWirePass}
-use Rattle.wire_lock.specs.Stories.{IsUntold, LeavesUntold}
+use Rattle.run_starts.specs.Wires.{Origin, WireParts, base_from}
+use Rattle.run_starts.specs.Boards.{owner_of}
+use Rattle.run_starts.specs.Sights.{IsOf, IsWirePass}
+use Rattle.run_starts.specs.Stories.{IsUntold, LeavesUntold}
 use Rattle.world_core.specs.Counts.{tick_count}
-use Rattle.node_turn.specs.declared.conditions.Condition.{Condition}
-use Rattle.node_turn.specs.declared.conditions.Condition.TheVariants as condition
-use Rattle.node_turn.specs.Nodes.{NodeParts, IsAtRest, Stands, sight}
+use Rattle.run_starts.specs.Condition.{Condition}
+use Rattle.run_starts.specs.Condition.TheVariants as condition
+use Rattle.run_starts.specs.TurnNodes.{NodeParts, IsAtRest, Stands, sight}
 use Rattle.run_starts.specs.Logs.{is_over}
 use Rattle.run_starts.specs.Limits.{Limits}
 use Rattle.run_starts.specs.Reason.{Reason}

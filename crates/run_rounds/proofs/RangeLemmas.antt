@@ -11,9 +11,9 @@ use Rattle.plan_form.specs.declared.plans.Plan.{Plan}
 use Rattle.plan_form.specs.PlanTexts.{IsOfLanguage}
 use Rattle.world_core.specs.declared.traces.Opened.{Opened}
 use Rattle.world_core.specs.declared.traces.Trace.{Trace}
-use Rattle.wire_core.specs.Wires.{Origin}
-use Rattle.wire_lock.specs.Stories.{IsWhole}
-use Rattle.trace_logs.specs.Replays.{IsOpened}
+use Rattle.run_starts.specs.Wires.{Origin}
+use Rattle.run_starts.specs.Stories.{IsWhole}
+use Rattle.trace_report.specs.Replays.{IsOpened}
 use Rattle.run_media.specs.declared.openings.Opening.{Opening}
 use Rattle.run_media.specs.declared.openings.Opening.TheVariants.{Open, Shut, Wanting}
 use Rattle.run_media.specs.Media.{Media}

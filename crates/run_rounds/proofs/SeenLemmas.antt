@@ -17,13 +17,13 @@ use Rattle.seat_lock.specs.Words.{fresh, knows}
 use Rattle.world_core.specs.declared.traces.Opened.{Opened}
 use Rattle.world_core.specs.Legal.{in_plan}
 use Rattle.world_core.specs.Walks.{opened_log}
-use Rattle.wire_core.specs.Wires.{Origin, WireParts}
-use Rattle.wire_core.specs.Boards.{owner_for}
-use Rattle.wire_lock.specs.Sights.{Sight}
-use Rattle.node_turn.specs.Cores.{IsIntact}
-use Rattle.node_turn.specs.declared.conditions.Condition.TheVariants as condition
-use Rattle.node_turn.specs.Costs.{costs}
-use Rattle.node_turn.specs.Nodes.{NodeParts, IsAtRest, sight}
+use Rattle.run_starts.specs.Wires.{Origin, WireParts}
+use Rattle.run_starts.specs.Boards.{owner_for}
+use Rattle.run_starts.specs.Sights.{Sight}
+use Rattle.run_starts.specs.Cores.{IsIntact}
+use Rattle.run_starts.specs.Condition.TheVariants as condition
+use Rattle.run_starts.specs.Costs.{costs}
+use Rattle.run_starts.specs.TurnNodes.{NodeParts, IsAtRest, sight}
 use Rattle.run_starts.specs.Nodes.{GoesOn}
 use Rattle.run_media.specs.declared.openings.Opening.{Opening}
 use Rattle.run_media.specs.declared.openings.Opening.TheVariants.{Open, Shut, Wanting}

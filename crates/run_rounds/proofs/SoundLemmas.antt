@@ -11,10 +11,10 @@ use Rattle.seat_lock.specs.declared.locks.LockTable.{LockTable}
 use Rattle.seat_lock.specs.Words.{fresh, knows}
 use Rattle.world_core.specs.declared.entries.Entry.{Entry}
 use Rattle.world_core.specs.declared.traces.Opened.{Opened}
-use Rattle.wire_core.specs.Wires.{Origin, WireParts}
-use Rattle.wire_core.specs.Boards.{owner_for}
-use Rattle.wire_lock.specs.Sights.{IsWirePass, Sight}
-use Rattle.node_turn.specs.Nodes.{NodeParts}
+use Rattle.run_starts.specs.Wires.{Origin, WireParts}
+use Rattle.run_starts.specs.Boards.{owner_for}
+use Rattle.run_starts.specs.Sights.{IsWirePass, Sight}
+use Rattle.run_starts.specs.TurnNodes.{NodeParts}
 use Rattle.run_starts.specs.Nodes.{IsReady}
 use Rattle.run_media.specs.declared.openings.Opening.{Opening}
 use Rattle.run_media.specs.declared.openings.Opening.TheVariants.{Open, Shut, Wanting}

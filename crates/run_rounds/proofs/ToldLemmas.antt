@@ -12,9 +12,9 @@ use Rattle.world_core.specs.declared.traces.Trace.{Trace}
 use Rattle.world_core.specs.Nodes.{is_ready}
 use Rattle.world_core.specs.Walks.{opened_log}
 use Rattle.world_core.specs.Legal.{AllReady, JustNodes, base_of}
-use Rattle.wire_core.specs.Wires.{IsRunOf, Origin}
-use Rattle.wire_core.specs.Clocked.{IsClocked}
-use Rattle.wire_lock.specs.Stories.{IsWhole}
+use Rattle.run_starts.specs.Wires.{IsRunOf, Origin}
+use Rattle.run_starts.specs.Clocked.{IsClocked}
+use Rattle.run_starts.specs.Stories.{IsWhole}
 use Rattle.run_media.specs.declared.openings.Opening.{Opening}
 use Rattle.run_media.specs.Openings.{AreReady}
 use Rattle.run_media.specs.Places.{node_count}

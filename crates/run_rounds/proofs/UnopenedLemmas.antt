@@ -28,22 +28,22 @@ use Rattle.world_core.specs.Legal.{base_of, in_plan}
 use Rattle.world_core.specs.Pasts.{WasNotOpened}
 use Rattle.world_core.specs.Readings.{life_after, open_effects}
 use Rattle.broker_core.specs.Readings.{reading}
-use Rattle.wire_core.specs.Wires.{Origin, WireParts}
-use Rattle.wire_core.specs.Boards.{owner_for, owner_of}
-use Rattle.wire_lock.specs.Sights.{Sight, owners_for}
+use Rattle.run_starts.specs.Wires.{Origin, WireParts}
+use Rattle.run_starts.specs.Boards.{owner_for, owner_of}
+use Rattle.run_starts.specs.Sights.{Sight, owners_for}
 use Rattle.world_core.specs.Counts.{down_cause}
-use Rattle.node_turn.specs.Cores.{IsIntact}
-use Rattle.node_turn.specs.Costs.{costs}
-use Rattle.node_turn.specs.Lives.{IsKept}
-use Rattle.node_turn.proofs.LifeLemmas.{kept-none}
-use Rattle.node_turn.proofs.PageLemmas.{whole-same}
-use Rattle.node_turn.proofs.StepLemmas.{passes-between}
+use Rattle.run_starts.specs.Cores.{IsIntact}
+use Rattle.run_starts.specs.Costs.{costs}
+use Rattle.run_starts.specs.Lives.{IsKept}
+use Rattle.run_starts.proofs.LifeLemmas.{kept-none}
+use Rattle.run_starts.proofs.TurnPageLemmas.{whole-same}
+use Rattle.run_starts.proofs.StepLemmas.{passes-between}
 use Rattle.run_starts.specs.Reason.{Reason}
 use Rattle.run_starts.specs.Reason.TheVariants as reason
 use Rattle.run_media.specs.declared.openings.Opening.{Opening}
 use Rattle.run_media.specs.declared.openings.Opening.TheVariants.{Open, Shut, Wanting}
 use Rattle.run_media.specs.Media.{Media}
-use Rattle.node_turn.specs.Windows.{Passes, cuts_of}
+use Rattle.run_starts.specs.Windows.{Passes, cuts_of}
 use Rattle.run_media.specs.Openings.{AreReady, HasOpened, IsAsItWas, IsOpen, IsShutFor, log_in, medium_in, opened_from}
 use Rattle.run_media.specs.Places.{node_at, node_count, place_of}
 use Rattle.run_media.proofs.OrderLemmas.{at-place, in-at, log-at, one-place, place-at}

@@ -13,12 +13,12 @@ use Rattle.world_core.specs.declared.entries.Entry.TheVariants.{Tick}
 use Rattle.world_core.specs.declared.traces.Trace.{Trace}
 use Rattle.world_core.specs.Walks.{sent_by}
 use Rattle.world_core.specs.Legal.{Idle, fates_of}
-use Rattle.wire_core.specs.Wires.{Origin, WireParts}
-use Rattle.wire_core.specs.Boards.{owner_of}
-use Rattle.wire_lock.specs.Sights.{AtRest, IsWirePass, Sight, base_at, owners_for, world_at}
-use Rattle.wire_lock.specs.Stories.{IsWhole, LeavesUntold, end_of}
+use Rattle.run_starts.specs.Wires.{Origin, WireParts}
+use Rattle.run_starts.specs.Boards.{owner_of}
+use Rattle.run_starts.specs.Sights.{AtRest, IsWirePass, Sight, base_at, owners_for, world_at}
+use Rattle.run_starts.specs.Stories.{IsWhole, LeavesUntold, end_of}
 use Rattle.world_core.specs.Counts.{tick_count}
-use Rattle.node_turn.specs.Nodes.{NodeParts, IsAtRest, sight}
+use Rattle.run_starts.specs.TurnNodes.{NodeParts, IsAtRest, sight}
 use Rattle.run_starts.specs.Limits.{Limits}
 use Rattle.run_starts.specs.Reason.{Reason}
 use Rattle.run_starts.specs.Reason.TheVariants as reason

@@ -9,8 +9,8 @@ use Rattle.world_core.specs.Walks.{own}
 use Rattle.world_core.specs.Legal.{in_plan}
 use Rattle.world_core.specs.Pasts.{WasNotOpened}
 use Rattle.kill_law.specs.Places.{life_there}
-use Rattle.node_turn.specs.Lives.{IsKept}
-use Rattle.node_turn.specs.Windows.{cut_at}
+use Rattle.run_starts.specs.Lives.{IsKept}
+use Rattle.run_starts.specs.Windows.{cut_at}
 use Rattle.run_media.specs.Media.{Media}
 use Rattle.run_rounds.specs.Media.{Became}
 

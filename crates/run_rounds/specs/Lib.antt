@@ -4,6 +4,11 @@ pub mod Ends
 pub mod Runs
 pub mod Finishes
 pub mod Closings
-pub use Rattle.node_turn.specs.Costs
-pub use Rattle.node_turn.specs.Lives
-pub use Rattle.wire_lock.specs.Stories
+pub use Rattle.kill_law.specs.Places
+pub use Rattle.trace_report.specs.Acts
+pub use Rattle.trace_report.specs.Replays
+pub use Rattle.trace_report.specs.Reports
+pub use Rattle.run_starts.specs.Clocked
+pub use Rattle.run_starts.specs.Costs
+pub use Rattle.run_starts.specs.Lives
+pub use Rattle.run_starts.specs.Stories

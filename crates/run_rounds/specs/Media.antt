@@ -13,9 +13,9 @@ use Rattle.world_core.specs.Legal.{in_plan}
 use Rattle.world_core.specs.Pasts.{WasNotOpened}
 use Rattle.world_core.specs.Readings.{life_after, open_effects}
 use Rattle.world_core.specs.Counts.{down_cause}
-use Rattle.node_turn.specs.Cores.{IsIntact}
-use Rattle.node_turn.specs.Costs.{costs}
-use Rattle.node_turn.specs.Lives.{IsKept, IsFullFor}
+use Rattle.run_starts.specs.Cores.{IsIntact}
+use Rattle.run_starts.specs.Costs.{costs}
+use Rattle.run_starts.specs.Lives.{IsKept, IsFullFor}
 use Rattle.run_media.specs.Media.{Media, AreBack, IsUntouched}
 use Rattle.run_media.specs.Places.{place_of}
 

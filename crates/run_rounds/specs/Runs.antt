@@ -14,8 +14,8 @@ use Rattle.broker_core.specs.Readings.{reading}
 use Rattle.world_core.specs.declared.traces.Trace.{Trace}
 use Rattle.world_core.specs.Legal.{JustNodes, AllReady, base_of, asked_of, in_plan, is_within}
 use Rattle.world_core.specs.Readings.{IsLegal}
-use Rattle.wire_core.specs.Clocked.{IsClocked, tick_moments}
-use Rattle.trace_logs.specs.Replays.{IsOpened}
+use Rattle.run_starts.specs.Clocked.{IsClocked, tick_moments}
+use Rattle.trace_report.specs.Replays.{IsOpened}
 use Rattle.run_rounds.specs.Ends.{HasEnded, IsUnopened}
 use Rattle.run_media.specs.Media.{Media}
 use Rattle.run_media.specs.Openings.{fault_in}

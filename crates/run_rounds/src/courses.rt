@@ -1,7 +1,7 @@
 //! The rounds of a run whose nodes were all opened.
 ghost use Rattle.std.specs.Prelude.{◌≡◌, ◌≤◌, ◌<◌, [], length, vec_len, vec_capacity, All};
 ghost use Rattle.seat_lock.specs.Words.{knows};
-ghost use Rattle.wire_lock.specs.Sights.{IsWirePass};
+ghost use Rattle.run_starts.specs.Sights.{IsWirePass};
 ghost use Rattle.world_core.specs.Counts.{tick_count};
 ghost use Rattle.run_starts.specs.Nodes.{IsReady};
 ghost use Rattle.run_rounds.specs.Closings.{HaveGone};
@@ -9,11 +9,10 @@ ghost use Rattle.run_starts.specs.Deals.{IsDealt, HaveRoom};
 
 use crate::ends::Ended;
 use medium_port::Medium;
-use run_starts::{Limits, RunNode, collect, deal, go_on, take_apart};
+use run_starts::{Limits, RunNode, SharedWire, WirePass, collect, deal, go_on, take_apart};
 use std::sync::Wait;
 use std::thread::Threads;
 use stream_port::{Clock, Fates};
-use wire_lock::{SharedWire, WirePass};
 
 /// Lets the nodes go on, node i with worker i mod W, until the run has ended, and takes them apart. The
 /// shares are empty, with room for all nodes; so are the lists of media and passes.

@@ -1,16 +1,15 @@
 //! The end of a run.
 ghost use Rattle.std.specs.Prelude.{◌≡◌, ◌+◌, length, vec_len, All};
 ghost use Rattle.seat_lock.specs.Words.{base_of};
-ghost use Rattle.wire_lock.specs.Sights.{IsWirePass};
-ghost use Rattle.wire_lock.specs.Stories.{LeavesUntold};
+ghost use Rattle.run_starts.specs.Sights.{IsWirePass};
+ghost use Rattle.run_starts.specs.Stories.{LeavesUntold};
 ghost use Rattle.run_rounds.specs.Closings.{ClosedAs, IfRan, IfWanting, ToldFor};
 
 use broker_core::ResumeFault;
 use medium_port::Medium;
-use run_starts::Reason;
+use run_starts::{Closed, Reason, SharedWire, Told, WirePass};
 use stream_port::{Clock, Fates};
 use value_form::Items;
-use wire_lock::{Closed, SharedWire, Told, WirePass};
 
 /// How a run ended.
 #[derive(Debug, Drop)]

@@ -6,6 +6,7 @@ mod ends;
 mod runs;
 
 pub use ends::{End, Finished};
-pub use run_starts::Limits;
+pub use kill_law::place_has_past;
+pub use run_starts::{Limits, Told};
 pub use runs::run;
-pub use wire_lock::Told;
+pub use trace_report::{Reported, report, summary};

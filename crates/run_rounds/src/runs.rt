@@ -3,7 +3,7 @@ ghost use Rattle.std.specs.Prelude.{◌≡◌, ◌≤◌, ◌<◌, ℕ, List, []
 ghost use Rattle.std.specs.List.{AllZip};
 ghost use Rattle.seat_lock.specs.Words.{base_of, fresh, knows};
 ghost use Rattle.plan_form.specs.PlanTexts.{IsOfLanguage};
-ghost use Rattle.wire_lock.specs.Sights.{IsWirePass};
+ghost use Rattle.run_starts.specs.Sights.{IsWirePass};
 ghost use Rattle.run_media.specs.Openings.{AreReady, HasOpened, IsOpen, medium_in};
 ghost use Rattle.run_starts.specs.Deals.{HaveRoom, IsDealt};
 ghost use Rattle.run_starts.specs.Seats.{IsSound};
@@ -20,14 +20,14 @@ use medium_port::Medium;
 use plan_form::Plan;
 use run_media::{Opening, Refusal, are_open, first_refusal, give_back};
 use run_starts::{
-    Begun, Limits, Reason, RunNode, Seated, down_visits, empty_shares, open_nodes, wire_for,
+    Begun, Limits, Reason, RunNode, Seated, SharedWire, WirePass, down_visits, empty_shares,
+    open_nodes, wire_for,
 };
 use std::alloc::Global;
 use std::sync::Wait;
 use std::thread::Threads;
 use stream_port::{Clock, Fates};
 use value_form::Items;
-use wire_lock::{SharedWire, WirePass};
 
 // The end of a run that didn't begin.
 fn refused(refusal: Refusal) -> End

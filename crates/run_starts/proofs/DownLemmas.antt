@@ -10,9 +10,9 @@ use Rattle.effect_form.specs.declared.effects.Effect.{Effect}
 use Rattle.world_core.specs.declared.entries.Entry.{Entry}
 use Rattle.world_core.specs.declared.entries.Entry.TheVariants.{Down}
 use Rattle.world_core.specs.Walks.{opened_log, walk_from}
-use Rattle.wire_core.specs.Wires.{WireParts}
-use Rattle.wire_core.specs.Boards.{owner_for}
-use Rattle.wire_lock.specs.Sights.{Sight, HadNothing, Falls, flags_at}
+use Rattle.node_rounds.specs.Wires.{WireParts}
+use Rattle.node_rounds.specs.Boards.{owner_for}
+use Rattle.node_rounds.specs.Sights.{Sight, HadNothing, Falls, flags_at}
 use Rattle.run_media.specs.declared.openings.Opening.{Opening}
 use Rattle.run_media.specs.declared.openings.Opening.TheVariants.{Shut}
 use Rattle.run_media.specs.Openings.{log_in}

@@ -19,11 +19,11 @@ use Rattle.seat_lock.specs.Words.{fresh}
 use Rattle.world_core.specs.Nodes.{acts_of, is_ready}
 use Rattle.world_core.specs.Walks.{opened_log}
 use Rattle.world_core.proofs.PlanRangeLemmas.{plan-own_acts}
-use Rattle.wire_core.specs.Wires.{WireParts}
-use Rattle.wire_core.specs.Boards.{owner_for}
-use Rattle.wire_lock.specs.Sights.{Sight, IsOf, origin_at, base_at}
-use Rattle.node_turn.specs.Cores.{IsReady}
-use Rattle.node_turn.specs.Nodes.{NodeParts}
+use Rattle.node_rounds.specs.Wires.{WireParts}
+use Rattle.node_rounds.specs.Boards.{owner_for}
+use Rattle.node_rounds.specs.Sights.{Sight, IsOf, origin_at, base_at}
+use Rattle.node_rounds.specs.Cores.{IsReady}
+use Rattle.node_rounds.specs.TurnNodes.{NodeParts}
 use Rattle.run_media.specs.declared.openings.Opening.{Opening}
 use Rattle.run_media.specs.declared.openings.Opening.TheVariants.{Open, Shut, Wanting}
 use Rattle.run_media.specs.Media.{Media}

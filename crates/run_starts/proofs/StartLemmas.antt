@@ -21,9 +21,9 @@ use Rattle.world_core.specs.Walks.{opened_log}
 use Rattle.world_core.specs.Legal.{JustNodes}
 use Rattle.world_core.proofs.OneReading.{own-reading}
 use Rattle.broker_core.specs.Tasks.{Scripted}
-use Rattle.wire_core.specs.Wires.{Origin, WireParts, IsRunOf}
-use Rattle.wire_core.specs.Boards.{owner_for}
-use Rattle.wire_lock.specs.Sights.{Sight, owners_for}
+use Rattle.node_rounds.specs.Wires.{Origin, WireParts, IsRunOf}
+use Rattle.node_rounds.specs.Boards.{owner_for}
+use Rattle.node_rounds.specs.Sights.{Sight, owners_for}
 use Rattle.run_media.specs.declared.openings.Opening.{Opening}
 use Rattle.run_media.specs.Openings.{opened_from, log_in, AreReady}
 use Rattle.run_media.specs.Places.{node_count, node_at}

@@ -10,10 +10,10 @@ use Rattle.version_store.specs.StoreWords.{medium_of, effects_in}
 use Rattle.plan_form.specs.declared.plans.Plan.{Plan}
 use Rattle.world_core.specs.declared.entries.Entry.{Entry}
 use Rattle.world_core.specs.Walks.{opened_log}
-use Rattle.wire_core.specs.Wires.{WireParts}
-use Rattle.wire_lock.specs.Sights.{Sight, IsOf, origin_at}
-use Rattle.node_turn.specs.declared.conditions.Condition.TheVariants as condition
-use Rattle.node_turn.specs.Nodes.{NodeParts}
+use Rattle.node_rounds.specs.Wires.{WireParts}
+use Rattle.node_rounds.specs.Sights.{Sight, IsOf, origin_at}
+use Rattle.node_rounds.specs.Condition.TheVariants as condition
+use Rattle.node_rounds.specs.TurnNodes.{NodeParts}
 use Rattle.run_media.specs.declared.openings.Opening.{Opening}
 use Rattle.run_media.specs.declared.openings.Opening.TheVariants.{Open, Shut, Wanting}
 use Rattle.run_media.specs.Media.{Media}

@@ -10,9 +10,9 @@ use Rattle.world_core.specs.declared.entries.Entry.{Entry}
 use Rattle.world_core.specs.declared.entries.Entry.TheVariants.{Down}
 use Rattle.world_core.specs.declared.traces.Opened.{Opened}
 use Rattle.world_core.specs.Walks.{opened_log}
-use Rattle.wire_core.specs.Wires.{Origin, WireParts}
-use Rattle.wire_core.specs.Boards.{owner_for}
-use Rattle.wire_lock.specs.Sights.{Sight}
+use Rattle.node_rounds.specs.Wires.{Origin, WireParts}
+use Rattle.node_rounds.specs.Boards.{owner_for}
+use Rattle.node_rounds.specs.Sights.{Sight}
 use Rattle.run_media.specs.declared.openings.Opening.{Opening}
 use Rattle.run_media.specs.declared.openings.Opening.TheVariants.{Open, Shut, Wanting}
 use Rattle.run_media.specs.Openings.{opened_from, log_in}

@@ -2,20 +2,19 @@
 ghost use Rattle.std.specs.Prelude.{◌≡◌, ◌≤◌, ◌⊎◌, length, take, vec_len, vec_capacity, All, Some, OnOk};
 ghost use Rattle.plan_form.specs.PlanTexts.{IsOfLanguage};
 ghost use Rattle.seat_lock.specs.Words.{base_of};
-ghost use Rattle.wire_lock.specs.Sights.{IsWirePass};
+ghost use Rattle.node_rounds.specs.Sights.{IsWirePass};
 ghost use Rattle.run_media.specs.Places as order;
 ghost use Rattle.run_starts.specs.Seats.{Along};
 ghost use Rattle.run_starts.specs.Starts.{IsUnseen, HasFallen};
 
 use medium_port::Medium;
-use node_rounds::Reason;
+use node_rounds::{Reason, SharedWire, WirePass};
 use plan_form::Plan;
 use pseudo_time::NodeId;
 use run_media::{Opening, node_at};
 use std::alloc::AllocError;
 use std::sync::Wait;
 use stream_port::{Clock, Fates};
-use wire_lock::{SharedWire, WirePass};
 
 // The down visit of a node, if it can't be opened.
 fn down_visit<F: Fates, C: Clock, M: Medium, R: Wait>(

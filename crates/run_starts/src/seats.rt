@@ -5,21 +5,20 @@ ghost use Rattle.plan_form.specs.PlanTexts.{IsOfLanguage};
 ghost use Rattle.version_store.specs.StoreWords.{medium_of, effects_in};
 ghost use Rattle.seat_lock.specs.Words.{knows};
 ghost use Rattle.world_core.specs.Legal.{in_plan};
-ghost use Rattle.node_turn.specs.Nodes.{IsAtRest, new_node};
+ghost use Rattle.node_rounds.specs.TurnNodes.{IsAtRest, new_node};
 ghost use Rattle.run_media.specs.Openings.{medium_in};
 ghost use Rattle.run_media.specs.Places as order;
 ghost use Rattle.run_starts.specs.Seats.{Along, CanOpen, CanSeat, IsNewNode};
 
 use effect_form::Effect;
 use medium_port::Medium;
-use node_rounds::{AnyNode, RunNode, open_broker, open_repository};
+use node_rounds::{AnyNode, RunNode, WirePass, open_broker, open_repository};
 use plan_form::Plan;
 use pseudo_time::{NodeId, NodeKind};
 use run_media::{Opening, node_at, own_acts};
 use std::alloc::{AllocError, Global};
 use stream_port::{Clock, Fates};
 use version_store::Store;
-use wire_lock::WirePass;
 
 // A node that was opened, with its pass.
 fn node_of<F: Fates, C: Clock, M: Medium>(

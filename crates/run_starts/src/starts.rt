@@ -2,18 +2,17 @@
 ghost use Rattle.std.specs.Prelude.{◌≡◌, ◌≢◌, ◌<◌, [], length, map, vec_len, vec_capacity, All, AllPairs, IfOk};
 ghost use Rattle.seat_lock.specs.Words.{base_of, fresh, knows};
 ghost use Rattle.plan_form.specs.PlanTexts.{IsOfLanguage};
-ghost use Rattle.wire_lock.specs.Sights.{IsWirePass, owners_for};
+ghost use Rattle.node_rounds.specs.Sights.{IsWirePass, owners_for};
 ghost use Rattle.run_media.specs.Places as order;
 ghost use Rattle.run_starts.specs.Starts.{IsSetUp, fresh_for};
 
 use medium_port::Medium;
+use node_rounds::{SharedWire, Wire, WirePass};
 use plan_form::Plan;
 use run_media::{Opening, opened_nodes};
 use std::alloc::{AllocError, Global};
 use stream_port::{Clock, Fates};
 use value_form::ActSpec;
-use wire_core::Wire;
-use wire_lock::{SharedWire, WirePass};
 
 /// The wire of a run, with the passes of its nodes, in their order, and the conductor's.
 #[derive(Drop)]

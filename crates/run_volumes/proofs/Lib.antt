@@ -1,3 +1,4 @@
 pub mod ShelfLemmas
 pub mod StandLemmas
 pub mod VolumeLemmas
+pub use Rattle.run_media.proofs.OrderLemmas

@@ -30,5 +30,12 @@ pub mod WholeFacts
 pub mod WholeLemmas
 pub mod WorkedRuns
 pub mod WorkedWholes
+pub use Rattle.world_facts.proofs.EarlierLemmas
 pub use Rattle.world_facts.proofs.Growths
+pub use Rattle.world_facts.proofs.Keeps
+pub use Rattle.world_facts.proofs.NodeLaws
+pub use Rattle.world_facts.proofs.OldChains
+pub use Rattle.world_facts.proofs.Openings
 pub use Rattle.world_facts.proofs.Ranges
+pub use Rattle.world_facts.proofs.Refinements
+pub use Rattle.world_facts.proofs.Steps

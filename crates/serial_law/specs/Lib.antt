@@ -8,3 +8,8 @@ pub mod Runs
 pub mod Serial
 pub mod Serials
 pub mod Wholes
+pub use Rattle.world_facts.specs.Earlier
+pub use Rattle.world_facts.specs.NodeRules
+pub use Rattle.world_facts.specs.Refines
+pub use Rattle.world_facts.specs.Rules
+pub use Rattle.world_facts.specs.Soft

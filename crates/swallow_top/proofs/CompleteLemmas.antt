@@ -21,14 +21,14 @@ use Rattle.broker_core.specs.declared.resume_faults.ResumeFault.{ResumeFault}
 use Rattle.broker_core.specs.declared.resume_faults.ResumeFault.TheVariants as resuming
 use Rattle.world_core.specs.declared.traces.Trace.{Trace}
 use Rattle.world_core.specs.Legal.{in_plan}
-use Rattle.trace_report.specs.Reports.{open_acts}
+use Rattle.run_rounds.specs.Reports.{open_acts}
 use Rattle.command_words.specs.declared.commands.Options.{Options}
-use Rattle.run_media.specs.Media.{Media}
-use Rattle.run_media.specs.declared.openings.Opening.{Opening}
-use Rattle.run_media.specs.declared.openings.Opening.TheVariants.{Open, Shut, Wanting}
-use Rattle.run_media.specs.Openings.{HasOpened, fault_in}
-use Rattle.run_media.specs.Places.{node_at, place_of}
-use Rattle.run_media.proofs.OrderLemmas.{at-place}
+use Rattle.plan_volumes.specs.Media.{Media}
+use Rattle.plan_volumes.specs.Opening.{Opening}
+use Rattle.plan_volumes.specs.Opening.TheVariants.{Open, Shut, Wanting}
+use Rattle.plan_volumes.specs.Openings.{HasOpened, fault_in}
+use Rattle.plan_volumes.specs.Places.{node_at, place_of}
+use Rattle.plan_volumes.proofs.OrderLemmas.{at-place}
 use Rattle.run_rounds.specs.Finishes.{Tellers, account_of}
 use Rattle.run_rounds.specs.Media.{Became, inner, medium_at}
 use Rattle.run_rounds.specs.Runs.{IsFirstFault, Ran}
@@ -37,10 +37,10 @@ use Rattle.swallow_top.proofs.PageLemmas.{blank-none}
 use Rattle.swallow_top.proofs.SmoothLemmas.{complete, none-down}
 use Rattle.swallow_top.proofs.StandingLemmas.{none-open}
 use Rattle.swallow_top.specs.Contract.{IsSmooth}
-use Rattle.run_volumes.specs.Shelves.{IsGiven, IsTaken, ShelfSight, first_names, is_missing, volume_name}
-use Rattle.run_volumes.specs.Volumes.{EndRightly, GoOn, follows, goes_on}
-use Rattle.run_volumes.specs.Kept.{kept_under}
-use Rattle.run_volumes.specs.declared.kept.Kept.{Kept}
+use Rattle.plan_volumes.specs.Shelves.{IsGiven, IsTaken, ShelfSight, first_names, is_missing, volume_name}
+use Rattle.plan_volumes.specs.RunVolumes.{EndRightly, GoOn, follows, goes_on}
+use Rattle.plan_volumes.specs.Kept.{kept_under}
+use Rattle.plan_volumes.specs.Kept.{Kept}
 use Rattle.plan_volumes.specs.Volumes.{HasVolumes, IsNodes, NodeVolumes, all_left, all_taken, names_from, work_taken, working}
 use Rattle.plan_volumes.proofs.ApartLemmas.{ends-some, working-below, zip-long}
 use Rattle.plan_volumes.proofs.PlaceLemmas.{node-given, node-there, volume-at, work-kept}

@@ -7,17 +7,17 @@ use Rattle.pseudo_time.specs.declared.down_causes.DownCause.{DownCause}
 use Rattle.value_form.specs.declared.objects.ObjectId.{ObjectId}
 use Rattle.report_writer.specs.Reports.{down_text}
 use Rattle.report_writer.specs.Histories.{history_text}
-use Rattle.run_media.specs.declared.openings.Opening.{Opening}
-use Rattle.run_media.specs.Media.{Media}
-use Rattle.run_media.specs.Openings.{HasOpened, medium_in}
-use Rattle.run_volumes.specs.declared.kept.Kept.{Kept}
-use Rattle.run_volumes.specs.Kept.{AllKept, kept_under}
-use Rattle.run_volumes.specs.Shelves.{ShelfSight, first_names}
-use Rattle.run_volumes.specs.Standings.{HasShut}
+use Rattle.plan_volumes.specs.Opening.{Opening}
+use Rattle.plan_volumes.specs.Media.{Media}
+use Rattle.plan_volumes.specs.Openings.{HasOpened, medium_in}
+use Rattle.plan_volumes.specs.Kept.{Kept}
+use Rattle.plan_volumes.specs.Kept.{AllKept, kept_under}
+use Rattle.plan_volumes.specs.Shelves.{ShelfSight, first_names}
+use Rattle.plan_volumes.specs.Standings.{HasShut}
 use Rattle.forward_copy.specs.Currents.{node_log}
-use Rattle.run_volumes.specs.Volumes.{AreOpen, AreVolumes, logs_of}
-use Rattle.run_volumes.proofs.ShelfLemmas.{all-kept}
-use Rattle.run_volumes.proofs.StandLemmas.{back-all, given-back, stand-all}
+use Rattle.plan_volumes.specs.RunVolumes.{AreOpen, AreVolumes, logs_of}
+use Rattle.plan_volumes.proofs.ShelfLemmas.{all-kept}
+use Rattle.plan_volumes.proofs.StandLemmas.{back-all, given-back, stand-all}
 use Rattle.swallow_top.specs.Histories.{TellsHistory, TellsVolumes, home_of}
 use Rattle.swallow_top.specs.Written.{Sinking, EndsIfAny}
 

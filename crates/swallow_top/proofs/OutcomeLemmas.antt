@@ -1,23 +1,23 @@
 -- How it is told what came of a question to an archive or of a watch, and what is handed back of it.
 use Rattle.std.proofs.Common.{◌≡◌, ◌⊎◌, ◌≤◌, inl, inr, ℕ, List, length, map, ap, sym, subst, ◌∙◌, arith}
 use Rattle.std.proofs.lemmas.Slice.Zip.{AllZip-long}
-use Rattle.run_media.specs.declared.openings.Opening.{Opening}
-use Rattle.run_media.specs.Media.{Media}
-use Rattle.run_media.specs.Openings.{HasOpened, medium_in}
-use Rattle.run_volumes.specs.declared.kept.Kept.{Kept}
-use Rattle.run_volumes.specs.Kept.{AllKept, kept_under}
-use Rattle.run_volumes.specs.Shelves.{ShelfSight, first_names}
-use Rattle.run_volumes.specs.Volumes.{logs_of}
-use Rattle.run_volumes.proofs.ShelfLemmas.{all-kept}
-use Rattle.run_volumes.proofs.StandLemmas.{back-all}
-use Rattle.archive_command.specs.declared.outcomes.Outcome.{Outcome}
-use Rattle.archive_command.specs.declared.outcomes.Outcome.TheVariants.{Told, Refused, Fallen, NoMemory}
-use Rattle.archive_command.specs.declared.questions.Question.{Question}
-use Rattle.archive_command.specs.declared.questions.Question.TheVariants.{AsOf, Audit}
-use Rattle.archive_command.specs.Answers.{Answers, AnswersOver, TookNothing, asked_of}
+use Rattle.plan_volumes.specs.Opening.{Opening}
+use Rattle.plan_volumes.specs.Media.{Media}
+use Rattle.plan_volumes.specs.Openings.{HasOpened, medium_in}
+use Rattle.plan_volumes.specs.Kept.{Kept}
+use Rattle.plan_volumes.specs.Kept.{AllKept, kept_under}
+use Rattle.plan_volumes.specs.Shelves.{ShelfSight, first_names}
+use Rattle.plan_volumes.specs.RunVolumes.{logs_of}
+use Rattle.plan_volumes.proofs.ShelfLemmas.{all-kept}
+use Rattle.plan_volumes.proofs.StandLemmas.{back-all}
+use Rattle.archive_promise.specs.Outcome.{Outcome}
+use Rattle.archive_promise.specs.Outcome.TheVariants.{Told, Refused, Fallen, NoMemory}
+use Rattle.archive_promise.specs.Question.{Question}
+use Rattle.archive_promise.specs.Question.TheVariants.{AsOf, Audit}
+use Rattle.archive_promise.specs.Answers.{Answers, AnswersOver, TookNothing, asked_of}
 use Rattle.command_words.specs.declared.rules.Rule.{Rule}
-use Rattle.watch_command.specs.Watches.{StopsBefore, WatchesOver}
-use Rattle.watch_command.proofs.KeptLemmas.{watch-kept}
+use Rattle.archive_promise.specs.Watches.{StopsBefore, WatchesOver}
+use Rattle.archive_promise.proofs.KeptLemmas.{watch-kept}
 use Rattle.swallow_top.specs.Histories.{AskedNothing}
 use Rattle.archive_promise.specs.Answered.{IsLawful, IsOfStamp}
 use Rattle.archive_promise.proofs.AnsweredLemmas.{is-lawful}

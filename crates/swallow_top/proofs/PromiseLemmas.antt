@@ -10,7 +10,7 @@ use Rattle.plan_form.specs.PlanTexts.{IsOfLanguage}
 use Rattle.plan_form.specs.Making.{made_plan}
 use Rattle.plan_form.proofs.PlanTextLemmas.{plan_is_whole}
 use Rattle.world_core.specs.declared.traces.Trace.{Trace}
-use Rattle.trace_report.specs.Reports.{open_acts}
+use Rattle.run_rounds.specs.Reports.{open_acts}
 use Rattle.value_form.specs.declared.objects.ObjectId.{ObjectId}
 use Rattle.run_rounds.specs.Stories.{no_trace}
 use Rattle.command_words.specs.declared.commands.Options.{Options}
@@ -18,11 +18,11 @@ use Rattle.command_words.specs.declared.commands.Command.{Command}
 use Rattle.command_words.specs.declared.commands.Command.TheVariants.{Run, Load, History, Retire, Votes, Watch, AsOf, Audit}
 use Rattle.command_words.specs.declared.options.Given.{Given}
 use Rattle.command_words.specs.Words.{AreGiven, AreNone, AreOptions, AreWords, IsWith}
-use Rattle.run_media.specs.Media.{Media}
+use Rattle.plan_volumes.specs.Media.{Media}
 use Rattle.run_rounds.specs.Ends.{some_down}
 use Rattle.run_rounds.specs.Runs.{Account}
-use Rattle.run_volumes.specs.Kept.{AllKept}
-use Rattle.run_volumes.specs.declared.kept.Kept.{Kept}
+use Rattle.plan_volumes.specs.Kept.{AllKept}
+use Rattle.plan_volumes.specs.Kept.{Kept}
 use Rattle.swallow_top.specs.declared.reports.Wanted.{Wanted}
 use Rattle.swallow_top.specs.declared.reports.Wanted.TheVariants.{Report, Summary}
 use Rattle.swallow_top.specs.declared.stops.Stop.{Stop}
@@ -32,10 +32,10 @@ use Rattle.swallow_top.specs.Histories.{AskedNothing, TellsHistory, TellsVolumes
 use Rattle.swallow_top.specs.Inputs.{OfInput}
 use Rattle.swallow_top.specs.Plans.{ReadsPlan}
 use Rattle.swallow_top.specs.Promise.{Call, HasNoWords, TouchedNothing, IsUnread, Promise, WasDone}
-use Rattle.run_volumes.specs.Shelves.{ShelfSight}
+use Rattle.plan_volumes.specs.Shelves.{ShelfSight}
 use Rattle.retire_command.specs.declared.outcomes.Retired.{Retired}
 use Rattle.retire_command.specs.declared.outcomes.Retired.TheVariants.{Done, Refused, Fallen, NoMemory}
-use Rattle.archive_command.specs.declared.questions.Question.TheVariants as question
+use Rattle.archive_promise.specs.Question.TheVariants as question
 use Rattle.command_words.specs.declared.rules.Rule.{Rule}
 use Rattle.swallow_top.specs.Outcomes.{TellsAnswer, TellsWatch}
 use Rattle.swallow_top.specs.Retirements.{TellsRetired, TellsRetirement, mark_at}

@@ -3,11 +3,11 @@ use Rattle.std.proofs.Common.{◌≡◌, ◌⊎◌, inl, inr, ℕ, List, length,
 use Rattle.std.proofs.lemmas.Slice.Zip.{AllZip-long}
 use Rattle.pseudo_time.specs.Nodes.{repository as named}
 use Rattle.pseudo_time.specs.TimeParts.{TimeParts}
-use Rattle.run_media.specs.Media.{IsBack, Media}
-use Rattle.run_volumes.specs.declared.kept.Kept.{Kept}
-use Rattle.run_volumes.specs.Kept.{AllKept, kept_under}
-use Rattle.run_volumes.specs.Shelves.{ShelfSight, first_names}
-use Rattle.run_volumes.proofs.ShelfLemmas.{all-kept}
+use Rattle.plan_volumes.specs.Media.{IsBack, Media}
+use Rattle.plan_volumes.specs.Kept.{Kept}
+use Rattle.plan_volumes.specs.Kept.{AllKept, kept_under}
+use Rattle.plan_volumes.specs.Shelves.{ShelfSight, first_names}
+use Rattle.plan_volumes.proofs.ShelfLemmas.{all-kept}
 use Rattle.retire_command.specs.declared.outcomes.Retired.{Retired}
 use Rattle.retire_command.specs.Retires.{RetiresOver, TookNothing}
 use Rattle.retire_command.proofs.RetireLemmas.{comes-back}

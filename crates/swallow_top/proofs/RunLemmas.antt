@@ -10,18 +10,18 @@ use Rattle.world_core.specs.Legal.{JustNodes}
 use Rattle.world_core.specs.Readings.{IsLegal}
 use Rattle.run_rounds.specs.Stories.{no_trace}
 use Rattle.command_words.specs.declared.commands.Options.{Options}
-use Rattle.run_media.specs.Media.{Media, AreBack, IsBack, IsLeftAlone}
+use Rattle.plan_volumes.specs.Media.{Media, AreBack, IsBack, IsLeftAlone}
 use Rattle.run_rounds.specs.declared.ends.End.{End}
 use Rattle.run_rounds.specs.declared.ends.End.TheVariants as end
 use Rattle.run_rounds.specs.Runs.{Ran, RanUntold, HasRanges}
 use Rattle.run_rounds.specs.Finishes.{EndsAs, IsKeptWhole, Tellers, account_of}
-use Rattle.serial_law.specs.Serials.{HoldsFinals, IsSerialOver}
-use Rattle.serial_law.specs.Acknowledged.{KeepsAnswers, SpendsRightly}
-use Rattle.serial_law.specs.Reasons.{AddedHaveReasons, HaveReasons}
-use Rattle.kill_law.specs.Places.{PlacesHavePasts}
-use Rattle.run_volumes.specs.Kept.{AllKept}
-use Rattle.run_volumes.specs.Shelves.{ShelfSight}
-use Rattle.run_volumes.specs.declared.kept.Kept.{Kept}
+use Rattle.complete_law.specs.Serials.{HoldsFinals, IsSerialOver}
+use Rattle.complete_law.specs.Acknowledged.{KeepsAnswers, SpendsRightly}
+use Rattle.complete_law.specs.Reasons.{AddedHaveReasons, HaveReasons}
+use Rattle.run_rounds.specs.Places.{PlacesHavePasts}
+use Rattle.plan_volumes.specs.Kept.{AllKept}
+use Rattle.plan_volumes.specs.Shelves.{ShelfSight}
+use Rattle.plan_volumes.specs.Kept.{Kept}
 use Rattle.plan_volumes.specs.Volumes.{HadMemory, HasVolumes, NodeVolumes, work_taken}
 use Rattle.swallow_top.specs.declared.reports.Wanted.{Wanted}
 use Rattle.swallow_top.specs.Contract.{CameOf, Completes, RanOver, RunsPlan, WantedMemory}

@@ -5,16 +5,16 @@ use Rattle.pseudo_time.specs.Lists.{Every}
 use Rattle.medium_port.specs.declared.shelves.MediumName.{MediumName}
 use Rattle.version_store.specs.Storage.{storage}
 use Rattle.plan_form.specs.declared.plans.Plan.{Plan}
-use Rattle.run_media.specs.declared.openings.Opening.{Opening}
-use Rattle.run_media.specs.declared.openings.Opening.TheVariants.{Open, Shut, Wanting}
-use Rattle.run_media.specs.Media.{Media, AreBack, IsBack, IsLeftAlone, IsUntouched}
-use Rattle.run_media.specs.Openings.{HasOpened, medium_in}
-use Rattle.run_media.specs.Places.{node_count}
+use Rattle.plan_volumes.specs.Opening.{Opening}
+use Rattle.plan_volumes.specs.Opening.TheVariants.{Open, Shut, Wanting}
+use Rattle.plan_volumes.specs.Media.{Media, AreBack, IsBack, IsLeftAlone, IsUntouched}
+use Rattle.plan_volumes.specs.Openings.{HasOpened, medium_in}
+use Rattle.plan_volumes.specs.Places.{node_count}
 use Rattle.run_rounds.specs.Finishes.{IsKeptWhole, HasItsLog}
-use Rattle.run_volumes.specs.Kept.{AllKept, kept_under, node_of}
-use Rattle.run_volumes.specs.Shelves.{IsGiven, IsTaken, ShelfSight}
-use Rattle.run_volumes.specs.declared.kept.Kept.{Kept}
-use Rattle.run_volumes.proofs.ShelfLemmas as volumes
+use Rattle.plan_volumes.specs.Kept.{AllKept, kept_under, node_of}
+use Rattle.plan_volumes.specs.Shelves.{IsGiven, IsTaken, ShelfSight}
+use Rattle.plan_volumes.specs.Kept.{Kept}
+use Rattle.plan_volumes.proofs.ShelfLemmas as volumes
 use Rattle.plan_volumes.specs.Asides.{AreApart, IsAside}
 use Rattle.plan_volumes.specs.Volumes.{HasVolumes, NodeVolumes, all_left, all_taken, names_from, work_taken}
 use Rattle.plan_volumes.specs.declared.asides.Aside.{Aside}

@@ -33,12 +33,12 @@ use Rattle.world_core.specs.Walks.{Base, Life, all_effects, names, own, start_wo
 use Rattle.world_core.specs.Legal.{Meets, base_of, fates_of, in_plan, post_of}
 use Rattle.world_core.specs.Pasts.{WasNotOpened}
 use Rattle.world_core.specs.Readings.{IsLegal, gated_log, life_after}
-use Rattle.trace_report.specs.Acts.{counted_by, shown_end, tasks_of}
+use Rattle.run_rounds.specs.Acts.{counted_by, shown_end, tasks_of}
 use Rattle.world_core.specs.Counts.{down_cause}
 use Rattle.run_rounds.specs.Costs.{cost_of, costs}
 use Rattle.run_rounds.proofs.TrailLemmas.{costs-append}
-use Rattle.run_media.specs.Media.{Media, IsBack}
-use Rattle.run_media.specs.Places.{place_of}
+use Rattle.plan_volumes.specs.Media.{Media, IsBack}
+use Rattle.plan_volumes.specs.Places.{place_of}
 use Rattle.run_rounds.proofs.AlongLemmas.{zip-at}
 use Rattle.run_rounds.specs.Ends as ends
 use Rattle.run_rounds.specs.Ends.{HasEnded, IsUnopened, some_down}
@@ -58,7 +58,7 @@ use Rattle.swallow_top.specs.Smooth.{WentSmoothly, IsSmoothRun, WasRefused}
 use Rattle.swallow_top.proofs.DownLemmas.{life-down}
 use Rattle.swallow_top.proofs.PageLemmas.{apart-filled, blank-count, blank-none, filled-append, filled-reverse}
 use Rattle.swallow_top.proofs.StandingLemmas.{all-finished, all-tries}
-use Rattle.serial_law.proofs.Ranges.{in-range, within}
+use Rattle.complete_law.proofs.SerialRanges.{in-range, within}
 
 -- ---- quiet entries
 

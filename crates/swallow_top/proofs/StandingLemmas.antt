@@ -28,11 +28,11 @@ use Rattle.report_writer.specs.declared.records.TryOutcome.{TryOutcome}
 use Rattle.report_writer.specs.declared.records.ActOutcome.{ActOutcome}
 use Rattle.report_writer.specs.declared.records.ActOutcome.TheVariants as standing
 use Rattle.report_writer.specs.Standings.{count_of, last_outcome, outcome_in, same, standing_after, standing_of, standing_where}
-use Rattle.trace_report.specs.Acts.{act_begun, act_shown, act_with, acts_in, acts_shown, begun_acts, counted_by, shown_end, tasks_of, tries_shown, try_shown}
+use Rattle.run_rounds.specs.Acts.{act_begun, act_shown, act_with, acts_in, acts_shown, begun_acts, counted_by, shown_end, tasks_of, tries_shown, try_shown}
 use Rattle.complete_law.specs.Calm.{HasOutcome, IsOver}
 use Rattle.swallow_top.specs.Finished.{AllBegun}
 use Rattle.swallow_top.specs.Smooth.{IsFinal, IsFinished}
-use Rattle.serial_law.proofs.Growths.{has-at, map-has, filter-has, has-filter, has-map}
+use Rattle.complete_law.proofs.Growths.{has-at, map-has, filter-has, has-filter, has-map}
 use Rattle.pseudo_time.proofs.ListLemmas.{every-has, has-reverse}
 
 -- ---- lists and places

@@ -6,8 +6,8 @@ use Rattle.pseudo_time.specs.Lists.{Every}
 use Rattle.stream_port.specs.Causes.{Rose}
 use Rattle.world_core.specs.declared.entries.Entry.{Entry}
 use Rattle.world_core.specs.declared.entries.Entry.TheVariants.{Take, Go, Learn, Hear, Gate, Crash, Down, Tick}
-use Rattle.wire_core.specs.Clocked.{tick_moments}
-use Rattle.trace_logs.specs.Replays.{IsMoment}
+use Rattle.run_rounds.specs.Clocked.{tick_moments}
+use Rattle.run_rounds.specs.Replays.{IsMoment}
 use Rattle.swallow_top.specs.declared.stops.Stop.{Stop}
 use Rattle.swallow_top.specs.Histories.{TellsText}
 use Rattle.swallow_top.specs.Written.{AppendsFront, Ends, EndsIfAny, GotLine, Sinking, sinking}

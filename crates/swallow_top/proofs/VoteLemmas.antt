@@ -4,13 +4,13 @@ use Rattle.std.proofs.lemmas.List.{length-map}
 use Rattle.stream_port.specs.Causes.{Rose}
 use Rattle.world_core.specs.declared.traces.Trace.{Trace}
 use Rattle.world_core.specs.Counts.{tick_count}
-use Rattle.run_media.specs.Media.{AreBack, Media}
+use Rattle.plan_volumes.specs.Media.{AreBack, Media}
 use Rattle.run_rounds.specs.Runs.{Account}
 use Rattle.run_rounds.specs.Stories.{no_trace}
-use Rattle.run_volumes.specs.Kept.{AllKept}
-use Rattle.run_volumes.specs.Shelves.{ShelfSight}
-use Rattle.run_volumes.specs.declared.kept.Kept.{Kept}
-use Rattle.run_volumes.proofs.ShelfLemmas.{all-kept}
+use Rattle.plan_volumes.specs.Kept.{AllKept}
+use Rattle.plan_volumes.specs.Shelves.{ShelfSight}
+use Rattle.plan_volumes.specs.Kept.{Kept}
+use Rattle.plan_volumes.proofs.ShelfLemmas.{all-kept}
 use Rattle.command_words.specs.declared.commands.Options.{Options}
 use Rattle.votes_command.specs.Ends.{EndsAs}
 use Rattle.votes_command.specs.MemberMedia.{MemberMedia}

@@ -14,16 +14,16 @@ use Rattle.broker_core.specs.declared.resume_faults.ResumeFault.{ResumeFault}
 use Rattle.world_core.specs.Legal.{fates_of, in_plan}
 use Rattle.run_rounds.specs.Stories.{no_trace}
 use Rattle.command_words.specs.declared.commands.Options.{Options}
-use Rattle.run_media.specs.Media.{Media, IsLeftAlone}
+use Rattle.plan_volumes.specs.Media.{Media, IsLeftAlone}
 use Rattle.run_rounds.specs.Runs.{Account, Ran, RanUntold, IsFirstFault}
-use Rattle.serial_law.specs.Serials.{HoldsFinals, IsSerialOver}
-use Rattle.serial_law.specs.Acknowledged.{KeepsAnswers, SpendsRightly}
-use Rattle.serial_law.specs.Reasons.{AddedHaveReasons, HaveReasons}
+use Rattle.complete_law.specs.Serials.{HoldsFinals, IsSerialOver}
+use Rattle.complete_law.specs.Acknowledged.{KeepsAnswers, SpendsRightly}
+use Rattle.complete_law.specs.Reasons.{AddedHaveReasons, HaveReasons}
 use Rattle.complete_law.specs.Calm.{IsPlain}
-use Rattle.kill_law.specs.Places.{PlacesHavePasts}
+use Rattle.run_rounds.specs.Places.{PlacesHavePasts}
 use Rattle.votes_command.specs.Texts as votes
-use Rattle.run_volumes.specs.Shelves.{ShelfSight, volume_name}
-use Rattle.run_volumes.specs.declared.kept.Kept.{Kept}
+use Rattle.plan_volumes.specs.Shelves.{ShelfSight, volume_name}
+use Rattle.plan_volumes.specs.Kept.{Kept}
 use Rattle.plan_volumes.specs.Volumes.{HadMemory, HasVolumes, NodeVolumes, work_taken}
 use Rattle.swallow_top.specs.Smooth.{AskAtMost, WentSmoothly, messages_for, pages_for, volumes_of_blank}
 use Rattle.swallow_top.specs.declared.reports.Wanted.{Wanted}

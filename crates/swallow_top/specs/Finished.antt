@@ -2,7 +2,7 @@
 use Rattle.std.specs.Prelude.{◌≡◌, ◌⊎◌, ℕ, length, []}
 use Rattle.plan_form.specs.declared.plans.Plan.{Plan}
 use Rattle.broker_core.specs.Book.{Book}
-use Rattle.trace_report.specs.Acts.{tasks_of}
+use Rattle.run_rounds.specs.Acts.{tasks_of}
 
 -- the plan gives the broker nothing; or the book is of the plan's run, and has as many acts as the plan gives it
 abbrev pub AllBegun : Plan → ℕ → Book → Type 0

@@ -7,15 +7,15 @@ use Rattle.value_form.specs.declared.objects.ObjectId.{ObjectId}
 use Rattle.medium_port.specs.declared.shelves.MediumName.{MediumName}
 use Rattle.report_writer.specs.Reports.{down_text}
 use Rattle.report_writer.specs.Histories.{history_text}
-use Rattle.run_media.specs.declared.openings.Opening.{Opening}
-use Rattle.run_media.specs.Media.{Media}
-use Rattle.run_media.specs.Openings.{medium_in}
-use Rattle.run_volumes.specs.declared.kept.Kept.{Kept}
-use Rattle.run_volumes.specs.Kept.{kept_under}
-use Rattle.run_volumes.specs.Shelves.{IsLeft, ShelfSight, first_names}
-use Rattle.run_volumes.specs.Standings.{HasShut, WritesNothing}
+use Rattle.plan_volumes.specs.Opening.{Opening}
+use Rattle.plan_volumes.specs.Media.{Media}
+use Rattle.plan_volumes.specs.Openings.{medium_in}
+use Rattle.plan_volumes.specs.Kept.{Kept}
+use Rattle.plan_volumes.specs.Kept.{kept_under}
+use Rattle.plan_volumes.specs.Shelves.{IsLeft, ShelfSight, first_names}
+use Rattle.plan_volumes.specs.Standings.{HasShut, WritesNothing}
 use Rattle.forward_copy.specs.Currents.{node_log}
-use Rattle.run_volumes.specs.Volumes.{AreOpen, AreVolumes, logs_of}
+use Rattle.plan_volumes.specs.RunVolumes.{AreOpen, AreVolumes, logs_of}
 use Rattle.swallow_top.specs.Written.{Sinking, Ends}
 
 -- the repository of the object

@@ -11,4 +11,6 @@ pub mod Smooth
 pub mod Tellings
 pub mod Votes
 pub mod Written
+pub use Rattle.plan_volumes.specs.Media
 pub use Rattle.run_rounds.specs.Finishes
+pub use Rattle.run_rounds.specs.Stories

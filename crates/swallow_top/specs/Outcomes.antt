@@ -1,17 +1,17 @@
 -- How it is told what came of a command over the volumes of a repository: a question to its archive, or a watch.
 use Rattle.std.specs.Prelude.{◌≡◌, ◌⊎◌, ℕ, List}
-use Rattle.run_media.specs.Media.{Media}
-use Rattle.run_volumes.specs.declared.kept.Kept.{Kept}
-use Rattle.run_volumes.specs.Shelves.{ShelfSight}
-use Rattle.run_volumes.specs.Volumes.{logs_of}
-use Rattle.archive_command.specs.declared.outcomes.Outcome.{Outcome}
-use Rattle.archive_command.specs.declared.outcomes.Outcome.TheVariants.{Told, Refused, Fallen, NoMemory}
-use Rattle.archive_command.specs.declared.questions.Question.{Question}
-use Rattle.archive_command.specs.Answers.{AnswersOver}
+use Rattle.plan_volumes.specs.Media.{Media}
+use Rattle.plan_volumes.specs.Kept.{Kept}
+use Rattle.plan_volumes.specs.Shelves.{ShelfSight}
+use Rattle.plan_volumes.specs.RunVolumes.{logs_of}
+use Rattle.archive_promise.specs.Outcome.{Outcome}
+use Rattle.archive_promise.specs.Outcome.TheVariants.{Told, Refused, Fallen, NoMemory}
+use Rattle.archive_promise.specs.Question.{Question}
+use Rattle.archive_promise.specs.Answers.{AnswersOver}
 use Rattle.command_words.specs.declared.rules.Rule.{Rule}
 use Rattle.archive_promise.specs.Answered.{IsLawful}
 use Rattle.archive_promise.specs.Watched.{CountsOver}
-use Rattle.watch_command.specs.Watches.{StopsBefore, WatchesOver}
+use Rattle.archive_promise.specs.Watches.{StopsBefore, WatchesOver}
 use Rattle.swallow_top.specs.Written.{Sinking, Ends, GotLine}
 
 -- the status and the text that tell it

@@ -9,17 +9,17 @@ use Rattle.command_words.specs.declared.commands.Options.{Options}
 use Rattle.command_words.specs.declared.commands.Command.{Command}
 use Rattle.command_words.specs.declared.commands.Command.TheVariants.{Run, Load, History, Retire, Votes, Watch, AsOf, Audit}
 use Rattle.command_words.specs.Words.{AreWords, AreNone}
-use Rattle.run_media.specs.Media.{Media}
+use Rattle.plan_volumes.specs.Media.{Media}
 use Rattle.run_rounds.specs.Runs.{Account}
-use Rattle.run_volumes.specs.Kept.{AllKept}
-use Rattle.run_volumes.specs.declared.kept.Kept.{Kept}
+use Rattle.plan_volumes.specs.Kept.{AllKept}
+use Rattle.plan_volumes.specs.Kept.{Kept}
 use Rattle.swallow_top.specs.declared.reports.Wanted.TheVariants.{Report, Summary}
 use Rattle.swallow_top.specs.Contract.{HasNoRun, IsNoPlan, RunsPlan}
 use Rattle.swallow_top.specs.Histories.{TellsHistory}
 use Rattle.swallow_top.specs.Inputs.{OfInput}
 use Rattle.swallow_top.specs.Lines.{words_line, source_line}
-use Rattle.run_volumes.specs.Shelves.{ShelfSight}
-use Rattle.archive_command.specs.declared.questions.Question.TheVariants as question
+use Rattle.plan_volumes.specs.Shelves.{ShelfSight}
+use Rattle.archive_promise.specs.Question.TheVariants as question
 use Rattle.swallow_top.specs.Outcomes.{TellsAnswer, TellsWatch}
 use Rattle.swallow_top.specs.Retirements.{TellsRetirement, mark_at}
 use Rattle.swallow_top.specs.Votes.{AreNoPolls, HavePolled}

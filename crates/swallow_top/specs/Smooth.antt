@@ -20,8 +20,8 @@ use Rattle.report_writer.specs.declared.records.TryOutcome.TheVariants as outcom
 use Rattle.report_writer.specs.declared.records.ActOutcome.{ActOutcome}
 use Rattle.report_writer.specs.declared.records.ActOutcome.TheVariants as standing
 use Rattle.report_writer.specs.Standings.{standing_of}
-use Rattle.trace_report.specs.Acts.{acts_shown}
-use Rattle.run_media.specs.Media.{Media}
+use Rattle.run_rounds.specs.Acts.{acts_shown}
+use Rattle.plan_volumes.specs.Media.{Media}
 use Rattle.run_rounds.specs.Media.{Became, medium_at}
 use Rattle.complete_law.specs.Calm.{AsksAtMost, IsPlain, IsUnstopped, tries_in}
 

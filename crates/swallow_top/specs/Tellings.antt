@@ -3,7 +3,7 @@ use Rattle.std.specs.Prelude.{◌≡◌, ◌⊎◌, ℕ, ◌==◌, List, if◌th
 use Rattle.plan_form.specs.declared.plans.Plan.{Plan}
 use Rattle.broker_core.specs.declared.resume_faults.ResumeFault.{ResumeFault}
 use Rattle.world_core.specs.declared.traces.Trace.{Trace}
-use Rattle.trace_report.specs.Reports.{open_acts, run_text, load_text}
+use Rattle.run_rounds.specs.Reports.{open_acts, run_text, load_text}
 use Rattle.run_rounds.specs.Stories.{no_trace}
 use Rattle.run_rounds.specs.declared.ends.End.{End}
 use Rattle.run_rounds.specs.declared.ends.End.TheVariants.{Ran, Refused, NoMemory}

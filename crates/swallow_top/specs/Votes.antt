@@ -5,11 +5,11 @@ use Rattle.std.specs.Io.KnownBytes.{IsAtEnd}
 use Rattle.stream_port.specs.Causes.{Rose}
 use Rattle.world_core.specs.declared.traces.Trace.{Trace}
 use Rattle.command_words.specs.declared.commands.Options.{Options}
-use Rattle.run_media.specs.Media.{Media}
+use Rattle.plan_volumes.specs.Media.{Media}
 use Rattle.run_rounds.specs.Runs.{Account}
 use Rattle.run_rounds.specs.Stories.{no_trace}
-use Rattle.run_volumes.specs.Shelves.{ShelfSight}
-use Rattle.run_volumes.specs.declared.kept.Kept.{Kept}
+use Rattle.plan_volumes.specs.Shelves.{ShelfSight}
+use Rattle.plan_volumes.specs.Kept.{Kept}
 use Rattle.world_core.specs.Counts.{tick_count}
 use Rattle.votes_command.specs.Ends.{tellers}
 use Rattle.votes_command.specs.Tellings.{some_down, told_text}

@@ -1,16 +1,17 @@
 //! The history of an object.
 ghost use Rattle.std.specs.Prelude.{◌≡◌, ◌⊎◌, IfOk};
 ghost use Rattle.report_writer.specs.Reports.{down_text};
-ghost use Rattle.run_volumes.specs.Shelves.{shelf_sight};
+ghost use Rattle.plan_volumes.specs.Shelves.{shelf_sight};
 ghost use Rattle.swallow_top.specs.Histories.{AskedNothing, TellsHistory, TellsText, TellsVolumes};
 ghost use Rattle.swallow_top.specs.Written.{sinking};
 
 use crate::streams::write_all;
 use medium_port::{Medium, Shelf};
+use plan_volumes::{
+    Kept, Opening, Standing, give_back, keep_volumes, node_log, open_volumes, stand_of,
+};
 use pseudo_time::{DownCause, NodeId};
 use report_writer::{Down, history, push_downs};
-use run_media::{Opening, give_back};
-use run_volumes::{Kept, Standing, keep_volumes, node_log, open_volumes, stand_of};
 use std::alloc::{AllocError, Global};
 use stream_port::Sink;
 use value_form::{Bytes, ObjectId};

@@ -7,7 +7,7 @@ ghost use Rattle.effect_form.specs.declared.effects.Effect.{Effect};
 ghost use Rattle.plan_form.specs.declared.plans.Plan.{Plan};
 ghost use Rattle.plan_form.specs.Plans.{InRange};
 ghost use Rattle.plan_form.specs.PlanTexts.{IsOfLanguage};
-ghost use Rattle.trace_report.specs.Acts.{acts_shown, counted_by};
+ghost use Rattle.run_rounds.specs.Acts.{acts_shown, counted_by};
 ghost use Rattle.complete_law.specs.Calm.{HasOutcome};
 ghost use Rattle.swallow_top.specs.Finished.{AllBegun};
 ghost use Rattle.swallow_top.specs.Smooth.{IsFinished};

@@ -17,5 +17,6 @@ mod votes;
 
 pub use laws::law_done_is_finished;
 pub use media::{Finish, no_votes};
-pub use run_volumes::Kept;
+pub use plan_volumes::Kept;
+pub use run_rounds::Told;
 pub use top::swallow;

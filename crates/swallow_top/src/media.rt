@@ -2,8 +2,8 @@ ghost use Rattle.std.specs.Prelude.{◌≡◌};
 ghost use Rattle.run_rounds.specs.Stories.{no_trace};
 
 use medium_port::Medium;
+use plan_volumes::Kept;
 use run_rounds::Told;
-use run_volumes::Kept;
 use std::alloc::Global;
 use value_form::Items;
 use world_core::Trace;

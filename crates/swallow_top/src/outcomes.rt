@@ -1,6 +1,6 @@
 //! What came of a question to an archive, and of a watch.
 ghost use Rattle.std.specs.Prelude.{◌≡◌, ◌⊎◌, ◌≤◌, ◌^◌, ◌-◌};
-ghost use Rattle.run_volumes.specs.Shelves.{shelf_sight};
+ghost use Rattle.plan_volumes.specs.Shelves.{shelf_sight};
 ghost use Rattle.swallow_top.specs.Histories.{AskedNothing};
 ghost use Rattle.swallow_top.specs.Outcomes.{TellsAnswer, TellsOutcome, TellsWatch};
 ghost use Rattle.swallow_top.specs.Retirements.{mark_at};
@@ -9,14 +9,13 @@ ghost use Rattle.swallow_top.specs.Written.{sinking};
 use crate::histories::tell_text;
 use crate::retirements::mark_of;
 use crate::streams::write_all;
-use archive_command::{Outcome, Question, ask};
+use archive_promise::{Outcome, Question, ask, watch};
 use command_words::Rule;
 use medium_port::{Medium, Shelf};
-use run_volumes::Kept;
+use plan_volumes::Kept;
 use std::alloc::Global;
 use stream_port::Sink;
 use value_form::ObjectId;
-use watch_command::watch;
 
 // Writes what came of a command. The answer is the status.
 fn tell_outcome<O: Sink>(outcome: Outcome, sink: &mut O) -> u8

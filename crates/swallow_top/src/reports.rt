@@ -3,7 +3,7 @@ ghost use Rattle.std.specs.Prelude.{◌≡◌, ◌≢◌, ◌==◌, ◌⊎◌, �
 ghost use Rattle.plan_form.specs.PlanTexts.{IsOfLanguage};
 ghost use Rattle.world_core.specs.Walks as walks;
 ghost use Rattle.world_core.specs.Legal.{JustNodes};
-ghost use Rattle.trace_report.specs.Reports.{open_acts};
+ghost use Rattle.run_rounds.specs.Reports.{open_acts};
 ghost use Rattle.broker_core.specs.declared.resume_faults.ResumeFault.TheVariants as resuming;
 ghost use Rattle.run_rounds.specs.Ends as ends;
 ghost use Rattle.run_rounds.specs.Runs.{HasRanges};
@@ -15,10 +15,9 @@ use crate::lines::resume_line;
 use crate::streams::write_all;
 use broker_core::ResumeFault;
 use plan_form::Plan;
-use run_rounds::{End, Told};
+use run_rounds::{End, Reported, Told, report, summary};
 use std::alloc::{AllocError, Global};
 use stream_port::Sink;
-use trace_report::{Reported, report, summary};
 use world_core::{Entry, Trace};
 
 /// Which text tells of a run.

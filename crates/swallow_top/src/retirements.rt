@@ -1,6 +1,6 @@
 //! The retirement of a repository.
 ghost use Rattle.std.specs.Prelude.{◌≡◌, ◌⊎◌, ◌≤◌, ◌^◌, ◌-◌};
-ghost use Rattle.run_volumes.specs.Shelves.{shelf_sight};
+ghost use Rattle.plan_volumes.specs.Shelves.{shelf_sight};
 ghost use Rattle.swallow_top.specs.Histories.{AskedNothing};
 ghost use Rattle.swallow_top.specs.Retirements.{TellsRetired, TellsRetirement, mark_at};
 ghost use Rattle.swallow_top.specs.Written.{sinking};
@@ -8,9 +8,9 @@ ghost use Rattle.swallow_top.specs.Written.{sinking};
 use crate::histories::tell_text;
 use crate::streams::write_all;
 use medium_port::{Medium, Shelf};
+use plan_volumes::Kept;
 use pseudo_time::{PseudoTime, Stamp};
 use retire_command::{Retired, retire};
-use run_volumes::Kept;
 use std::alloc::Global;
 use stream_port::Sink;
 

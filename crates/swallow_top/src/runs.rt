@@ -2,28 +2,26 @@
 ghost use Rattle.std.specs.Prelude.{◌≡◌, ◌≤◌, [], true, length, map, List, Option, vec_len, vec_capacity};
 ghost use Rattle.std.specs.List.{AllZip};
 ghost use Rattle.plan_form.specs.PlanTexts.{IsOfLanguage};
-ghost use Rattle.run_media.specs.Openings.{HasOpened, medium_in};
-ghost use Rattle.run_media.specs.Places as order;
+ghost use Rattle.plan_volumes.specs.Openings.{HasOpened, medium_in};
+ghost use Rattle.plan_volumes.specs.Places as order;
 ghost use Rattle.run_rounds.specs.Finishes.{EndsAs, account_of, tellers};
 ghost use Rattle.run_rounds.specs.Stories.{no_trace};
-ghost use Rattle.run_volumes.specs.Kept.{AllKept};
-ghost use Rattle.run_volumes.specs.Shelves.{shelf_sight};
+ghost use Rattle.plan_volumes.specs.Kept.{AllKept};
+ghost use Rattle.plan_volumes.specs.Shelves.{shelf_sight};
 ghost use Rattle.swallow_top.specs.Contract.{RunsPlan};
 ghost use Rattle.swallow_top.specs.Written.{sinking};
 
 use crate::media::{Finish, no_votes, quiet};
 use crate::reports::{Wanted, tell};
 use command_words::Options;
-use kill_law::place_has_past;
-use medium_port::{Medium, Shelf};
-use plan_form::Plan;
-use plan_volumes::{Opened, Rooms, keep_nodes, make_rooms, open_nodes};
-use run_media::{Opening, give_back};
-use run_rounds::{End, Finished, Limits, run};
-use serial_law::{
+use complete_law::{
     law_of_added_reasons, law_of_answers, law_of_finals, law_of_reasons, law_of_serial_runs,
     law_of_spent_acts,
 };
+use medium_port::{Medium, Shelf};
+use plan_form::Plan;
+use plan_volumes::{Opened, Opening, Rooms, give_back, keep_nodes, make_rooms, open_nodes};
+use run_rounds::{End, Finished, Limits, place_has_past, run};
 use std::alloc::Global;
 use std::sync::Wait;
 use std::thread::Threads;

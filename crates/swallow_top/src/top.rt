@@ -3,7 +3,7 @@ ghost use Rattle.command_words.specs.Words.{said};
 ghost use Rattle.run_rounds.specs.Finishes.{account_of, tellers};
 ghost use Rattle.swallow_top.specs.Contract.{RefusedAs};
 ghost use Rattle.swallow_top.specs.Promise.{Promise};
-ghost use Rattle.run_volumes.specs.Shelves.{shelf_sight};
+ghost use Rattle.plan_volumes.specs.Shelves.{shelf_sight};
 ghost use Rattle.swallow_top.specs.Written.{sinking};
 
 use crate::histories::tell_history;

@@ -3,7 +3,7 @@ ghost use Rattle.std.specs.Prelude.{◌≡◌, ◌⊎◌, ◌≤◌, ◌<◌, �
 ghost use Rattle.pseudo_time.specs.Lists.{Every};
 ghost use Rattle.run_rounds.specs.Finishes.{account_of, tellers};
 ghost use Rattle.run_rounds.specs.Stories.{no_trace};
-ghost use Rattle.run_volumes.specs.Shelves.{shelf_sight};
+ghost use Rattle.plan_volumes.specs.Shelves.{shelf_sight};
 ghost use Rattle.votes_command.specs.Tellings as telling;
 ghost use Rattle.votes_command.specs.Inputs.{IsPoll};
 ghost use Rattle.swallow_top.specs.Histories.{AskedNothing};

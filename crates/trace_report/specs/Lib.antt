@@ -9,3 +9,4 @@ pub mod LastVersions
 pub mod Reports
 pub mod Shown
 pub mod Transcripts
+pub use Rattle.trace_logs.specs.Replays

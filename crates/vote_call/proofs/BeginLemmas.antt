@@ -17,19 +17,19 @@ use Rattle.record_votes.specs.declared.member_numbers.MemberNumber.TheVariants.{
 use Rattle.world_core.specs.declared.entries.Entry.{Entry}
 use Rattle.world_core.specs.Legal.{asked_of}
 use Rattle.world_core.specs.Walks.{opened_log}
-use Rattle.wire_core.specs.Clocked.{tick_moments}
-use Rattle.run_media.specs.declared.openings.Opening.{Opening}
-use Rattle.run_media.specs.declared.openings.Opening.TheVariants as opening
-use Rattle.run_media.specs.Media.{Media}
-use Rattle.run_media.specs.Openings.{HasOpened, IsWanting, log_in}
+use Rattle.vote_run.specs.Clocked.{tick_moments}
+use Rattle.vote_run.specs.Opening.{Opening}
+use Rattle.vote_run.specs.Opening.TheVariants as opening
+use Rattle.vote_run.specs.Media.{Media}
+use Rattle.vote_run.specs.Openings.{HasOpened, IsWanting, log_in}
 use Rattle.vote_form.specs.declared.poll_lines.PollLine.{PollLine}
-use Rattle.vote_traces.specs.Walks.{Hall, line_at, log_at, start_hall}
-use Rattle.vote_traces.specs.Legal.{JustVoters, WasNotOpened, base_of, is_node}
-use Rattle.vote_courier.specs.Couriers.{CourierParts}
-use Rattle.vote_courier.specs.Places.{Keeps, PollIsAt, PollIsNew, Tells}
-use Rattle.vote_courier.specs.Stations.{Stands, hall_of, trace_of}
-use Rattle.vote_courier.proofs.PlaceLemmas.{and-false, never-false}
-use Rattle.vote_courier.proofs.StationLemmas.{begins}
+use Rattle.vote_run.specs.Walks.{Hall, line_at, log_at, start_hall}
+use Rattle.vote_run.specs.Legal.{JustVoters, WasNotOpened, base_of, is_node}
+use Rattle.vote_run.specs.Couriers.{CourierParts}
+use Rattle.vote_run.specs.Places.{Keeps, PollIsAt, PollIsNew, Tells}
+use Rattle.vote_run.specs.Stations.{Stands, hall_of, trace_of}
+use Rattle.vote_run.proofs.PlaceLemmas.{and-false, never-false}
+use Rattle.vote_run.proofs.StationLemmas.{begins}
 use Rattle.vote_run.specs.Fares.{Fares, Lengthens}
 use Rattle.vote_run.specs.Members.{MayAllTurn, some_wants, wants}
 use Rattle.vote_run.specs.Rounds.{PollsGo, PollsWent, is_poll}

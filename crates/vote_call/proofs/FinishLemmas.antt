@@ -29,22 +29,22 @@ use Rattle.world_core.specs.declared.entries.Entry.TheVariants.{Take, Go, Learn,
 use Rattle.world_core.specs.declared.traces.Trace.{Trace}
 use Rattle.world_core.specs.Legal.{fates_of}
 use Rattle.world_core.specs.Walks.{own}
-use Rattle.wire_core.specs.Clocked.{tick_moments}
-use Rattle.run_media.specs.Media.{IsUntouched, Media}
-use Rattle.run_media.specs.Openings.{HasOpened, IsAsItWas, IsShutFor}
-use Rattle.run_media.specs.Openings as openings
-use Rattle.run_media.specs.declared.openings.Opening.{Opening}
-use Rattle.run_media.specs.declared.openings.Opening.TheVariants as opening
+use Rattle.vote_run.specs.Clocked.{tick_moments}
+use Rattle.vote_run.specs.Media.{IsUntouched, Media}
+use Rattle.vote_run.specs.Openings.{HasOpened, IsAsItWas, IsShutFor}
+use Rattle.vote_run.specs.Openings as openings
+use Rattle.vote_run.specs.Opening.{Opening}
+use Rattle.vote_run.specs.Opening.TheVariants as opening
 use Rattle.world_core.specs.Counts.{down_cause, is_tick, tick_count}
-use Rattle.vote_members.specs.Costs.{costs}
+use Rattle.vote_run.specs.Costs.{costs}
 use Rattle.vote_form.specs.declared.poll_lines.PollLine.{PollLine}
 use Rattle.vote_report.specs.declared.standings.PollStanding.{PollStanding}
-use Rattle.vote_traces.specs.Walks.{Base, Hall, log_at, start_hall, step, walk_from}
-use Rattle.vote_traces.specs.Legal.{Legal, Meets, WasNotOpened, base_of}
-use Rattle.vote_courier.specs.Couriers.{CourierParts}
-use Rattle.vote_courier.specs.Places.{Tells}
-use Rattle.vote_courier.specs.Stations.{hall_of, trace_of}
-use Rattle.vote_courier.proofs.PlaceLemmas.{never-false}
+use Rattle.vote_run.specs.Walks.{Base, Hall, log_at, start_hall, step, walk_from}
+use Rattle.vote_run.specs.Legal.{Legal, Meets, WasNotOpened, base_of}
+use Rattle.vote_run.specs.Couriers.{CourierParts}
+use Rattle.vote_run.specs.Places.{Tells}
+use Rattle.vote_run.specs.Stations.{hall_of, trace_of}
+use Rattle.vote_run.proofs.PlaceLemmas.{never-false}
 use Rattle.vote_promise.specs.Clauses.{AllHold, AreCounted, AreDownFor, HasEnded, HasRunOut, HaveVoted, IsTold, KeepsLog, RestoresLogs, gated_log, open_effects}
 use Rattle.vote_promise.proofs.ClauseLemmas.{caused, stand}
 use Rattle.vote_run.specs.Ends.{IsOver, all_held}
@@ -58,7 +58,7 @@ use Rattle.vote_run.specs.declared.members.Members.{Members}
 use Rattle.vote_run.specs.declared.seats.Seat.{Seat}
 use Rattle.vote_run.specs.declared.seats.Seat.TheVariants.{Up, Fallen, Wanting}
 use Rattle.vote_run.proofs.EntryLemmas.{out-down, out-stays, was-opened}
-use Rattle.vote_members.specs.Closings.{Grows}
+use Rattle.vote_run.specs.Closings.{Grows}
 use Rattle.vote_promise.proofs.CompleteLemmas.{completes}
 use Rattle.vote_run.proofs.FareLemmas.{clean-same, grows-same}
 use Rattle.vote_call.specs.Media.{AreKept, HaveOpened, given_back, handed_back, medium_of}

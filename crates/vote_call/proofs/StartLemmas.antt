@@ -23,21 +23,21 @@ use Rattle.world_core.specs.declared.entries.Entry.TheVariants.{Down}
 use Rattle.world_core.specs.declared.traces.Opened.{Opened}
 use Rattle.world_core.specs.Legal.{is_within}
 use Rattle.world_core.specs.Walks.{Flags, is_down, opened_log, own}
-use Rattle.run_media.specs.declared.openings.Opening.{Opening}
-use Rattle.run_media.specs.declared.openings.Opening.TheVariants as opening
-use Rattle.run_media.specs.Media.{Media}
-use Rattle.run_media.specs.Openings.{HasOpened, IsAsItWas, IsWanting, log_in}
+use Rattle.vote_run.specs.Opening.{Opening}
+use Rattle.vote_run.specs.Opening.TheVariants as opening
+use Rattle.vote_run.specs.Media.{Media}
+use Rattle.vote_run.specs.Openings.{HasOpened, IsAsItWas, IsWanting, log_in}
 use Rattle.world_core.specs.Counts.{down_cause}
 use Rattle.vote_form.specs.declared.poll_lines.PollLine.{PollLine}
-use Rattle.vote_members.specs.Closings.{LeavesLog}
-use Rattle.vote_members.specs.Costs.{costs}
-use Rattle.vote_traces.specs.Walks.{Base, Hall, line_at, start_hall, walk, walk_from}
-use Rattle.vote_traces.specs.Legal.{IsOfDowns, base_of}
-use Rattle.vote_courier.specs.Couriers.{CourierParts, with_entry}
-use Rattle.vote_courier.specs.Places.{Keeps, OnlyChanges}
-use Rattle.vote_courier.specs.Stations.{Stands, hall_of, trace_of}
-use Rattle.vote_courier.proofs.PlaceLemmas.{down-called, flags-on, keeps, keeps-still, leads, never-false}
-use Rattle.vote_courier.proofs.StationLemmas.{downs-legal}
+use Rattle.vote_run.specs.Closings.{LeavesLog}
+use Rattle.vote_run.specs.Costs.{costs}
+use Rattle.vote_run.specs.Walks.{Base, Hall, line_at, start_hall, walk, walk_from}
+use Rattle.vote_run.specs.Legal.{IsOfDowns, base_of}
+use Rattle.vote_run.specs.Couriers.{CourierParts, with_entry}
+use Rattle.vote_run.specs.Places.{Keeps, OnlyChanges}
+use Rattle.vote_run.specs.Stations.{Stands, hall_of, trace_of}
+use Rattle.vote_run.proofs.PlaceLemmas.{down-called, flags-on, keeps, keeps-still, leads, never-false}
+use Rattle.vote_run.proofs.StationLemmas.{downs-legal}
 use Rattle.vote_run.specs.Fares.{Fares, FaresWell, HasPaid, Lengthens, NeverOpened, ShutAs}
 use Rattle.vote_run.specs.Lasts.{KeepsWhole, Lasts}
 use Rattle.vote_run.specs.MemberTurns.{MayTurn}
@@ -49,7 +49,7 @@ use Rattle.vote_run.specs.Voters.{opened_voters}
 use Rattle.vote_run.specs.declared.seats.Seat.{Seat}
 use Rattle.vote_run.specs.declared.seats.Seat.TheVariants.{Up, Fallen, Wanting}
 use Rattle.vote_run.proofs.EntryLemmas.{down-more, none-own, own-still}
-use Rattle.vote_members.specs.Closings.{Grows}
+use Rattle.vote_run.specs.Closings.{Grows}
 use Rattle.vote_run.proofs.FareLemmas.{clean-same, grows-same}
 use Rattle.vote_run.proofs.PollLemmas.{new-stays, ready-stays}
 use Rattle.vote_call.specs.Polls.{line_of, lines_of, polls_from}

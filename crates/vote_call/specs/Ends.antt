@@ -3,11 +3,11 @@ use Rattle.std.specs.Prelude.{◌≡◌, ℕ, List, length, map, IsOk, IsTrue, R
 use Rattle.stream_port.specs.declared.fates.Asked.{Asked}
 use Rattle.record_votes.specs.Polls.{PollState}
 use Rattle.world_core.specs.declared.traces.Trace.{Trace}
-use Rattle.run_media.specs.Media.{Media}
+use Rattle.vote_run.specs.Media.{Media}
 use Rattle.vote_form.specs.declared.poll_lines.PollLine.{PollLine}
 use Rattle.vote_report.specs.declared.standings.PollStanding.{PollStanding}
-use Rattle.vote_traces.specs.Legal.{hall_after}
-use Rattle.vote_courier.specs.Couriers.{CourierParts}
+use Rattle.vote_run.specs.Legal.{hall_after}
+use Rattle.vote_run.specs.Couriers.{CourierParts}
 use Rattle.vote_promise.specs.Clauses.{HaveVoted, Tellers}
 use Rattle.vote_run.specs.declared.limits.Limits.{Limits}
 use Rattle.vote_call.specs.Media.{AreKept, HaveOpened, medium_of}

@@ -3,5 +3,7 @@ pub mod Media
 pub mod Polls
 pub mod Starts
 pub mod Tellings
-pub use Rattle.vote_promise.specs.Clauses
+pub use Rattle.vote_run.specs.Legal
+pub use Rattle.vote_run.specs.Walks
 pub use Rattle.vote_run.specs.declared.limits.Limits
+pub use Rattle.vote_promise.specs.Clauses

@@ -2,9 +2,9 @@
 use Rattle.std.specs.Prelude.{IsTrue, Option}
 use Rattle.record_votes.specs.declared.member_numbers.MemberNumber.{MemberNumber}
 use Rattle.record_votes.specs.declared.member_numbers.MemberNumber.TheVariants.{First, Second, Third}
-use Rattle.run_media.specs.Media.{IsBack, IsUsable, Media}
-use Rattle.run_media.specs.Openings.{HasOpened, medium_in}
-use Rattle.run_media.specs.declared.openings.Opening.{Opening}
+use Rattle.vote_run.specs.Media.{IsBack, IsUsable, Media}
+use Rattle.vote_run.specs.Openings.{HasOpened, medium_in}
+use Rattle.vote_run.specs.Opening.{Opening}
 use Rattle.vote_run.specs.Lasts.{KeepsWhole}
 use Rattle.vote_run.specs.Lasts as lasts
 use Rattle.vote_run.specs.declared.members.Members.{Members}

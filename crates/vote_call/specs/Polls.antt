@@ -4,7 +4,7 @@ use Rattle.record_votes.specs.Polls.{PollState, held}
 use Rattle.record_votes.specs.Voting.{Line, new_poll}
 use Rattle.vote_form.specs.declared.poll_lines.PollLine.{PollLine}
 use Rattle.vote_report.specs.declared.standings.PollStanding.{PollStanding}
-use Rattle.vote_traces.specs.Walks.{Hall}
+use Rattle.vote_run.specs.Walks.{Hall}
 
 abbrev pub line_of : PollLine → Line
 line_of p = record { stamp = p.stamp; timeout = p.timeout; wish = p.wish }

@@ -12,17 +12,17 @@ use Rattle.record_votes.specs.declared.member_numbers.MemberNumber.{MemberNumber
 use Rattle.record_votes.specs.Polls.{PollState, member}
 use Rattle.world_core.specs.declared.entries.Entry.TheVariants.{Down}
 use Rattle.world_core.specs.declared.traces.Opened.{Opened}
-use Rattle.wire_core.specs.Flagged.{names_of}
-use Rattle.run_media.specs.Media.{Media}
-use Rattle.run_media.specs.Openings.{log_in}
-use Rattle.run_media.specs.declared.openings.Opening.{Opening}
-use Rattle.run_media.specs.declared.openings.Opening.TheVariants as opening
+use Rattle.vote_run.specs.Flagged.{names_of}
+use Rattle.vote_run.specs.Media.{Media}
+use Rattle.vote_run.specs.Openings.{log_in}
+use Rattle.vote_run.specs.Opening.{Opening}
+use Rattle.vote_run.specs.Opening.TheVariants as opening
 use Rattle.vote_form.specs.declared.poll_lines.PollLine.{PollLine}
-use Rattle.vote_traces.specs.Legal.{WasNotOpened}
-use Rattle.vote_traces.specs.Walks.{log_at}
-use Rattle.vote_courier.specs.Couriers.{CourierParts, IsNew, with_entry}
-use Rattle.vote_courier.specs.Places.{Tells}
-use Rattle.vote_courier.specs.Stations.{hall_of}
+use Rattle.vote_run.specs.Legal.{WasNotOpened}
+use Rattle.vote_run.specs.Walks.{log_at}
+use Rattle.vote_run.specs.Couriers.{CourierParts, IsNew, with_entry}
+use Rattle.vote_run.specs.Places.{Tells}
+use Rattle.vote_run.specs.Stations.{hall_of}
 use Rattle.vote_run.specs.Ends.{Between}
 use Rattle.vote_run.specs.Fares.{AllFare}
 use Rattle.vote_run.specs.Lasts.{AllLast}

@@ -4,8 +4,8 @@ ghost use Rattle.vote_call.specs.Media.{AreUsable, HaveOpened};
 
 use crate::member_media::MemberMedia;
 use medium_port::Medium;
-use run_media::{Opening, open_one};
 use std::alloc::Global;
+use vote_run::{Opening, open_one};
 
 /// What came of opening the three media.
 #[derive(Drop)]

@@ -10,11 +10,9 @@ use crate::voters::{names, voters};
 use medium_port::Medium;
 use pseudo_time::NodeId;
 use record_votes::{Member, Poll};
-use run_media::Opening;
 use std::alloc::{AllocError, Global};
 use stream_port::{Clock, Fates};
-use vote_courier::Courier;
-use vote_run::{Members, Seat, polls_go, some_wants};
+use vote_run::{Courier, Members, Opening, Seat, polls_go, some_wants};
 
 /// A courier between the members and so many polls.
 pub fn courier_for<F: Fates, C: Clock, M: Medium>(

@@ -1,17 +1,17 @@
 //! The members and the polls, each with the log with which it is opened.
 ghost use Rattle.std.specs.Prelude.{◌≡◌, ◌++◌, ◌∷◌, [], ◌≤◌, IfOk, OnOk};
 ghost use Rattle.pseudo_time.specs.Nodes.{repository};
-ghost use Rattle.run_media.specs.Openings.{log_in};
-ghost use Rattle.wire_core.specs.Flagged.{names_of};
+ghost use Rattle.vote_run.specs.Openings.{log_in};
+ghost use Rattle.vote_run.specs.Flagged.{names_of};
 ghost use Rattle.vote_run.specs.Voters.{opened_voters};
 
 use crate::openings::Openings;
 use effect_form::Effect;
 use medium_port::Medium;
 use pseudo_time::NodeId;
-use run_media::Opening;
 use std::alloc::{AllocError, Global};
 use value_form::Items;
+use vote_run::Opening;
 use world_core::Opened;
 
 fn copies(alloc: Global, effects: &[Effect]) -> Result<Vec<Effect>, AllocError>

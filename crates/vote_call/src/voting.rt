@@ -15,10 +15,9 @@ use record_votes::Poll;
 use std::alloc::{AllocError, Global};
 use stream_port::{Clock, Fates};
 use value_form::Items;
-use vote_courier::Courier;
 use vote_form::PollLine;
 use vote_report::PollStanding;
-use vote_run::{Limits, Members, go_on};
+use vote_run::{Courier, Limits, Members, go_on};
 use world_core::Trace;
 
 /// How votes ended.

@@ -22,13 +22,13 @@ use Rattle.world_core.specs.declared.traces.Opened.{Opened}
 use Rattle.world_core.specs.declared.traces.Sent.{Sent}
 use Rattle.world_core.specs.Legal.{HasGone, asked_of, is_behind, post_of}
 use Rattle.world_core.specs.Walks.{Flags, Sending, flagged, has_heard, heard_after, last_after, names, own, ticks_after, with_due}
-use Rattle.wire_core.specs.Clocked.{IsClocked, tick_moments}
-use Rattle.wire_core.proofs.DueLemmas.{is-copy, numbered-from}
-use Rattle.wire_core.proofs.MomentLemmas.{clocked-still}
-use Rattle.wire_core.proofs.QuietLemmas.{behind-parts}
-use Rattle.vote_traces.specs.Walks.{Base, Hall, member_on, owed_on, poll_heard, poll_on, poll_took, step, walk, world_of}
-use Rattle.vote_traces.specs.Legal.{base_of, hall_after}
-use Rattle.vote_traces.proofs.WalkLemmas.{walk-more}
+use Rattle.vote_wire.specs.Clocked.{IsClocked, tick_moments}
+use Rattle.vote_wire.proofs.DueLemmas.{is-copy, numbered-from}
+use Rattle.vote_wire.proofs.MomentLemmas.{clocked-still}
+use Rattle.vote_wire.proofs.QuietLemmas.{behind-parts}
+use Rattle.vote_wire.specs.Walks.{Base, Hall, member_on, owed_on, poll_heard, poll_on, poll_took, step, walk, world_of}
+use Rattle.vote_wire.specs.Legal.{base_of, hall_after}
+use Rattle.vote_wire.proofs.WalkLemmas.{walk-more}
 use Rattle.vote_courier.specs.Couriers.{CourierParts, HasSent, Takes, with_entry}
 use Rattle.vote_courier.specs.Stations.{MayAct, Stands, hall_of, trace_of}
 use Rattle.vote_courier.specs.Places.{IsReady, PollIsAt, PollIsNew, PollOwes, OnlyChanges, Tells, Adds, Keeps}

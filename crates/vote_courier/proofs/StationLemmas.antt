@@ -30,13 +30,13 @@ use Rattle.world_core.specs.declared.traces.Sent.{Sent}
 use Rattle.world_core.specs.declared.traces.Trace.{Trace}
 use Rattle.world_core.specs.Legal.{MayTick, Numbered, fates_of, post_of, asked_of}
 use Rattle.world_core.specs.Walks.{Flags, Sending, flagged, names, opened_log, sent_by, last_after}
-use Rattle.wire_core.specs.Copies.{Marked, IsTied, all_marked}
-use Rattle.wire_core.specs.Flagged.{names_of}
-use Rattle.wire_core.proofs.DueLemmas.{front-cons}
-use Rattle.vote_traces.specs.Walks.{Base, Hall, leaving, start_hall, step, walk_from, walk, world_of}
-use Rattle.vote_traces.specs.Legal.{JustVoters, Legal, Rule, base_of, hall_after}
-use Rattle.vote_traces.proofs.CauseLemmas.{at-if}
-use Rattle.vote_traces.proofs.WalkLemmas.{walk-more, begins-legal, goes-on}
+use Rattle.vote_wire.specs.Copies.{Marked, IsTied, all_marked}
+use Rattle.vote_wire.specs.Flagged.{names_of}
+use Rattle.vote_wire.proofs.DueLemmas.{front-cons}
+use Rattle.vote_wire.specs.Walks.{Base, Hall, leaving, start_hall, step, walk_from, walk, world_of}
+use Rattle.vote_wire.specs.Legal.{JustVoters, Legal, Rule, base_of, hall_after}
+use Rattle.vote_wire.proofs.CauseLemmas.{at-if}
+use Rattle.vote_wire.proofs.WalkLemmas.{walk-more, begins-legal, goes-on}
 use Rattle.vote_wire.specs.Carried.{IsAtRest, IsCarried, LeavesFlight}
 use Rattle.vote_wire.proofs.CarryLemmas.{takes, left-carried, down-carried, tick-carried, idles, gate-carried}
 use Rattle.vote_courier.specs.Couriers.{CourierParts, HasSent, IsNew, Takes, tick_moment, with_entry}

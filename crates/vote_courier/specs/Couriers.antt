@@ -13,7 +13,7 @@ use Rattle.message_form.specs.Posts.{posts}
 use Rattle.message_form.specs.Ranges.{AreOuts}
 use Rattle.world_core.specs.Legal.{Numbered, asked_of, post_of}
 use Rattle.world_core.specs.Walks.{World}
-use Rattle.wire_core.specs.Copies.{IsTied, Marked, all_marked}
+use Rattle.vote_wire.specs.Copies.{IsTied, Marked, all_marked}
 use Rattle.world_core.specs.declared.entries.Entry.{Entry}
 use Rattle.world_core.specs.declared.entries.Entry.TheVariants.{Take, Gate}
 use Rattle.world_core.specs.declared.traces.Opened.{Opened}

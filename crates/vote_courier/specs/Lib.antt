@@ -2,3 +2,8 @@ pub mod Couriers
 pub mod Places
 pub mod Stations
 pub mod Turns
+pub use Rattle.vote_wire.specs.Carried
+pub use Rattle.vote_wire.specs.Clocked
+pub use Rattle.vote_wire.specs.Flagged
+pub use Rattle.vote_wire.specs.Legal
+pub use Rattle.vote_wire.specs.Walks

@@ -10,8 +10,8 @@ use Rattle.record_votes.specs.Voting.{Line}
 use Rattle.world_core.specs.declared.entries.Entry.{Entry}
 use Rattle.world_core.specs.Legal.{HasGone, asked_of, is_behind}
 use Rattle.world_core.specs.Walks.{own}
-use Rattle.wire_core.specs.Clocked.{IsClocked}
-use Rattle.vote_traces.specs.Walks.{Hall, world_of}
+use Rattle.vote_wire.specs.Clocked.{IsClocked}
+use Rattle.vote_wire.specs.Walks.{Hall, world_of}
 use Rattle.vote_courier.specs.Couriers.{CourierParts}
 use Rattle.vote_courier.specs.Stations.{Stands, hall_of}
 

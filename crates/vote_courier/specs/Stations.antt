@@ -7,9 +7,9 @@ use Rattle.record_votes.specs.Voting.{Line}
 use Rattle.message_form.specs.declared.turns.Out.{Out}
 use Rattle.world_core.specs.declared.traces.Trace.{Trace}
 use Rattle.world_core.specs.Legal.{HasGone, is_behind, post_of}
-use Rattle.wire_core.specs.Copies.{Marked}
-use Rattle.vote_traces.specs.Walks.{Hall, life_of, world_of}
-use Rattle.vote_traces.specs.Legal.{Legal, hall_after}
+use Rattle.vote_wire.specs.Copies.{Marked}
+use Rattle.vote_wire.specs.Walks.{Hall, life_of, world_of}
+use Rattle.vote_wire.specs.Legal.{Legal, hall_after}
 use Rattle.vote_wire.specs.Carried.{IsCarried}
 use Rattle.vote_courier.specs.Couriers.{CourierParts}
 

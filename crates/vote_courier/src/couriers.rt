@@ -15,7 +15,7 @@ use std::alloc::{AllocError, Global};
 use std::marker::Model;
 use stream_port::{Clock, Fates};
 use value_form::Items;
-use wire_core::send_all;
+use vote_wire::send_all;
 use world_core::{Entry, Opened, Sent, Trace};
 
 /// The copies of messages between members and polls, and the trace of what happened. After an error

@@ -4,3 +4,6 @@ pub mod Halls
 pub mod Ways
 pub mod Loads
 pub mod LawLemmas
+pub use Rattle.vote_traces.proofs.CauseLemmas
+pub use Rattle.vote_traces.proofs.ReplayLemmas
+pub use Rattle.vote_traces.proofs.WalkLemmas

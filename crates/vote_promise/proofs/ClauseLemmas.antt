@@ -25,13 +25,13 @@ use Rattle.world_core.specs.Walks.{Flags, flagged, is_down, names}
 use Rattle.message_core.proofs.NodeLemmas.{same_is, same_node-refl}
 use Rattle.pseudo_time.specs.Nodes.{same_node}
 use Rattle.run_media.specs.Media.{Media}
-use Rattle.vote_traces.specs.Walks.{Base, Hall, line_at, log_at, member_on, no_line, start_hall, step, walk_from}
-use Rattle.vote_traces.specs.Legal.{IsOfDowns, Legal, Meets, Rule, WasNotOpened, base_of, hall_after}
-use Rattle.vote_traces.specs.Causes.{HaveCauses}
-use Rattle.vote_traces.specs.Replays.{TwoDecided}
-use Rattle.vote_traces.proofs.CauseLemmas.{at-if, causes-front, decisions-caused, flagged-up}
-use Rattle.vote_traces.proofs.ReplayLemmas.{two-decided}
-use Rattle.vote_traces.proofs.WalkLemmas.{walk-append, meets-parts}
+use Rattle.vote_law.specs.Walks.{Base, Hall, line_at, log_at, member_on, no_line, start_hall, step, walk_from}
+use Rattle.vote_law.specs.Legal.{IsOfDowns, Legal, Meets, Rule, WasNotOpened, base_of, hall_after}
+use Rattle.vote_law.specs.Causes.{HaveCauses}
+use Rattle.vote_law.specs.Replays.{TwoDecided}
+use Rattle.vote_law.proofs.CauseLemmas.{at-if, causes-front, decisions-caused, flagged-up}
+use Rattle.vote_law.proofs.ReplayLemmas.{two-decided}
+use Rattle.vote_law.proofs.WalkLemmas.{walk-append, meets-parts}
 use Rattle.vote_promise.specs.Clauses.{HasEnded, HasRunOut, HoldsDecide, IsKept, KeepsLog, RestoresLogs, StandOnMedia, TwoHold, HaveCausesOnMedia, AllHold, gated_log, open_effects}
 
 -- ---- a member that wasn't opened has no log

@@ -40,10 +40,10 @@ use Rattle.world_core.specs.Walks.{Flags, Sending, flagged, is_down, names, own}
 use Rattle.world_core.specs.Counts.{down_cause, is_crash, is_tick, tick_count}
 use Rattle.vote_members.specs.Closings.{Grows, HasGrown}
 use Rattle.vote_members.specs.Costs.{cost_of, costs}
-use Rattle.vote_traces.specs.Walks.{Base, Hall, log_at, member_on, start_hall, step, walk, walk_from, world_of}
-use Rattle.vote_traces.specs.Legal.{IsOfDowns, Legal, Meets, Rule, WasNotOpened, base_of, hall_after, is_node}
-use Rattle.vote_traces.proofs.CauseLemmas.{at-if, flagged-up}
-use Rattle.vote_traces.proofs.WalkLemmas.{meets-parts, walk-append}
+use Rattle.vote_law.specs.Walks.{Base, Hall, log_at, member_on, start_hall, step, walk, walk_from, world_of}
+use Rattle.vote_law.specs.Legal.{IsOfDowns, Legal, Meets, Rule, WasNotOpened, base_of, hall_after, is_node}
+use Rattle.vote_law.proofs.CauseLemmas.{at-if, flagged-up}
+use Rattle.vote_law.proofs.WalkLemmas.{meets-parts, walk-append}
 use Rattle.vote_law.specs.Smooth.{AreVotes, HasQuorum, HoldAll, IsCalm, IsFit, IsPlain, TicksForPolls, WishAlike, is_vote_effect}
 use Rattle.vote_law.proofs.LawLemmas.{all-quiet, all-still, few-letters, idle-holds, short-logs, votes-alone}
 use Rattle.vote_promise.proofs.BlankLemmas.{blank-count, blank-none}

@@ -24,9 +24,9 @@ use Rattle.world_core.specs.Counts.{down_cause, tick_count}
 use Rattle.vote_law.specs.Smooth.{IsPlain, TicksForPolls, WishAlike}
 use Rattle.vote_members.specs.Closings.{Grows}
 use Rattle.vote_members.specs.Costs.{costs}
-use Rattle.vote_traces.specs.Walks.{log_at, world_of}
-use Rattle.vote_traces.specs.Legal.{Legal, WasNotOpened, base_of, hall_after}
-use Rattle.vote_traces.specs.Causes.{HaveCauses}
+use Rattle.vote_law.specs.Walks.{log_at, world_of}
+use Rattle.vote_law.specs.Legal.{Legal, WasNotOpened, base_of, hall_after}
+use Rattle.vote_law.specs.Causes.{HaveCauses}
 
 -- ---- the trace, and what the fates and the clock were asked
 

@@ -5,7 +5,7 @@ ghost use Rattle.record_votes.specs.Polls.{held};
 ghost use Rattle.record_votes.specs.Voting.{Line};
 ghost use Rattle.record_votes.specs.declared.member_numbers.MemberNumber.{MemberNumber};
 ghost use Rattle.world_core.specs.declared.traces.Trace.{Trace};
-ghost use Rattle.vote_traces.specs.Legal.{Legal, hall_after};
+ghost use Rattle.vote_law.specs.Legal.{Legal, hall_after};
 ghost use Rattle.vote_promise.specs.Clauses.{HasEnded, HasRunOut, RestoresLogs, StandOnMedia, HaveCausesOnMedia};
 
 use medium_port::Medium;

@@ -21,18 +21,18 @@ use Rattle.world_core.specs.declared.entries.Entry.{Entry}
 use Rattle.world_core.specs.declared.entries.Entry.TheVariants.{Take, Go, Learn, Hear, Gate, Crash, Down, Tick}
 use Rattle.world_core.specs.Legal.{Idle, asked_of, fates_of, is_behind, is_within}
 use Rattle.world_core.specs.Walks.{Flags, flagged, names, opened_log}
-use Rattle.wire_core.specs.Clocked.{IsClocked, tick_moments}
-use Rattle.wire_core.proofs.MomentLemmas.{clocked-tick, latest}
-use Rattle.wire_core.proofs.QuietLemmas.{not-behind}
+use Rattle.vote_courier.specs.Clocked.{IsClocked, tick_moments}
+use Rattle.vote_courier.proofs.MomentLemmas.{clocked-tick, latest}
+use Rattle.vote_courier.proofs.QuietLemmas.{not-behind}
 use Rattle.run_media.specs.Media.{Media}
-use Rattle.vote_traces.specs.Walks.{Base, Hall, start_hall, step, walk, walk_from, world_of}
+use Rattle.vote_courier.specs.Walks.{Base, Hall, start_hall, step, walk, walk_from, world_of}
 use Rattle.world_core.specs.Counts.{down_cause}
-use Rattle.vote_traces.specs.Legal.{WasNotOpened, base_of, most_of}
-use Rattle.vote_traces.proofs.CauseLemmas.{at-if}
-use Rattle.vote_traces.proofs.WalkLemmas.{walk-append}
+use Rattle.vote_courier.specs.Legal.{WasNotOpened, base_of, most_of}
+use Rattle.vote_courier.proofs.CauseLemmas.{at-if}
+use Rattle.vote_courier.proofs.WalkLemmas.{walk-append}
 use Rattle.vote_law.specs.Smooth.{HoldAll, TicksForPolls}
-use Rattle.vote_wire.specs.Carried.{IsAtRest, IsAtRestAt}
-use Rattle.vote_wire.proofs.CarryLemmas.{idles}
+use Rattle.vote_courier.specs.Carried.{IsAtRest, IsAtRestAt}
+use Rattle.vote_courier.proofs.CarryLemmas.{idles}
 use Rattle.vote_courier.specs.Couriers.{CourierParts, tick_moment}
 use Rattle.vote_courier.specs.Stations.{hall_of, trace_of}
 use Rattle.vote_courier.specs.Places.{Adds, IsReady, PollIsAt, Tells}

@@ -14,7 +14,7 @@ use Rattle.world_core.specs.declared.entries.Entry.TheVariants.{Take, Go, Learn,
 use Rattle.world_core.specs.Walks.{is_down, names, own}
 use Rattle.world_core.specs.Counts.{down_cause}
 use Rattle.vote_members.specs.Costs.{cost_of, costs}
-use Rattle.vote_traces.specs.Legal.{IsOfDowns, WasNotOpened}
+use Rattle.vote_courier.specs.Legal.{IsOfDowns, WasNotOpened}
 use Rattle.vote_courier.proofs.PlaceLemmas.{never-false}
 use Rattle.vote_courier.specs.Couriers.{CourierParts}
 use Rattle.vote_run.specs.Fares.{Lengthens}

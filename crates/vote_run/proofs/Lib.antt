@@ -7,3 +7,5 @@ pub mod MembersLemmas
 pub mod PollLemmas
 pub mod SittingLemmas
 pub mod VoterLemmas
+pub use Rattle.vote_courier.proofs.PlaceLemmas
+pub use Rattle.vote_courier.proofs.StationLemmas

@@ -24,9 +24,9 @@ use Rattle.world_core.specs.declared.entries.Entry.{Entry}
 use Rattle.world_core.specs.declared.entries.Entry.TheVariants.{Take, Hear, Gate, Crash, Down}
 use Rattle.world_core.specs.Legal.{is_behind}
 use Rattle.world_core.specs.Walks.{Flags, with_due}
-use Rattle.wire_core.proofs.QuietLemmas.{behind-parts}
-use Rattle.vote_traces.specs.Walks.{Base, Hall, life_of, life_with, member_heard, member_took, world_of}
-use Rattle.vote_traces.specs.Legal.{base_of}
+use Rattle.vote_courier.proofs.QuietLemmas.{behind-parts}
+use Rattle.vote_courier.specs.Walks.{Base, Hall, life_of, life_with, member_heard, member_took, world_of}
+use Rattle.vote_courier.specs.Legal.{base_of}
 use Rattle.vote_courier.specs.Couriers.{CourierParts, HasSent, with_entry}
 use Rattle.vote_courier.specs.Stations.{Stands, hall_of, owes, trace_of}
 use Rattle.vote_courier.specs.Places.{Keeps}

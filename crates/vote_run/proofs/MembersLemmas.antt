@@ -12,7 +12,7 @@ use Rattle.record_votes.specs.Voting.{Line, Member}
 use Rattle.world_core.specs.Walks.{Flags}
 use Rattle.run_media.specs.Media.{Media}
 use Rattle.world_core.specs.Counts.{down_cause}
-use Rattle.vote_traces.specs.Legal.{WasNotOpened}
+use Rattle.vote_courier.specs.Legal.{WasNotOpened}
 use Rattle.vote_courier.specs.Couriers.{CourierParts}
 use Rattle.vote_courier.specs.Stations.{Stands, hall_of}
 use Rattle.vote_courier.specs.Places.{Adds, Keeps, OnlyChanges}

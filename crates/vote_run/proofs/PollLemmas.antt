@@ -14,7 +14,7 @@ use Rattle.record_votes.specs.Voting.{Line}
 use Rattle.world_core.specs.declared.entries.Entry.{Entry}
 use Rattle.world_core.specs.declared.entries.Entry.TheVariants.{Gate, Go, Hear, Take}
 use Rattle.world_core.specs.Walks.{Flags, names}
-use Rattle.vote_traces.specs.Walks.{Hall}
+use Rattle.vote_courier.specs.Walks.{Hall}
 use Rattle.vote_courier.specs.Couriers.{CourierParts, HasSent, with_entry}
 use Rattle.vote_courier.specs.Stations.{Stands, hall_of}
 use Rattle.vote_courier.specs.Places.{IsReady, OnlyChanges, PollIsAt, PollIsNew}

@@ -21,7 +21,7 @@ use Rattle.world_core.specs.declared.entries.Entry.TheVariants.{Crash, Down, Gat
 use Rattle.run_media.specs.Media.{Media}
 use Rattle.world_core.specs.Counts.{down_cause}
 use Rattle.vote_members.specs.Closings.{IsDurable, IsFallenFor, LeavesLog, LeavesPrefix}
-use Rattle.vote_traces.specs.Walks.{Hall}
+use Rattle.vote_courier.specs.Walks.{Hall}
 use Rattle.vote_courier.specs.Couriers.{CourierParts, with_entry}
 use Rattle.vote_courier.specs.Stations.{Stands, hall_of}
 use Rattle.vote_courier.specs.Places.{Keeps}

@@ -14,7 +14,7 @@ use Rattle.message_core.proofs.NodeLemmas.{same_is}
 use Rattle.world_core.specs.declared.traces.Opened.{Opened}
 use Rattle.world_core.specs.Walks.{opened_log}
 use Rattle.world_core.specs.Legal.{is_within}
-use Rattle.vote_traces.specs.Legal.{JustVoters, is_node, most_of}
+use Rattle.vote_courier.specs.Legal.{JustVoters, is_node, most_of}
 use Rattle.vote_courier.proofs.PlaceLemmas.{never-false}
 use Rattle.vote_run.specs.Voters.{opened_members, opened_voters}
 

@@ -10,8 +10,8 @@ use Rattle.record_votes.specs.Voting.{Line}
 use Rattle.world_core.specs.declared.entries.Entry.TheVariants.{Tick}
 use Rattle.world_core.specs.Legal.{Idle, fates_of}
 use Rattle.run_media.specs.Media.{Media}
-use Rattle.vote_traces.specs.Walks.{world_of}
-use Rattle.vote_traces.specs.Legal.{base_of}
+use Rattle.vote_courier.specs.Walks.{world_of}
+use Rattle.vote_courier.specs.Legal.{base_of}
 use Rattle.vote_law.specs.Smooth.{TicksForPolls}
 use Rattle.vote_courier.specs.Couriers.{CourierParts, tick_moment}
 use Rattle.vote_courier.specs.Places.{Adds}

@@ -16,7 +16,7 @@ use Rattle.run_media.specs.Openings.{IsAsItWas, IsShutFor}
 use Rattle.world_core.specs.Counts.{down_cause}
 use Rattle.vote_members.specs.Closings.{Grows}
 use Rattle.vote_members.specs.Costs.{costs}
-use Rattle.vote_traces.specs.Legal.{WasNotOpened}
+use Rattle.vote_courier.specs.Legal.{WasNotOpened}
 use Rattle.vote_run.specs.declared.members.Members.{Members}
 use Rattle.vote_run.specs.declared.seats.Seat.{Seat}
 use Rattle.vote_run.specs.declared.seats.Seat.TheVariants.{Up, Fallen, Wanting}

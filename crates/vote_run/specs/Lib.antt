@@ -7,3 +7,15 @@ pub mod Rounds
 pub mod Seats
 pub mod Sittings
 pub mod Voters
+pub use Rattle.run_media.specs.Media
+pub use Rattle.run_media.specs.Openings
+pub use Rattle.run_media.specs.declared.openings.Opening
+pub use Rattle.vote_courier.specs.Clocked
+pub use Rattle.vote_courier.specs.Couriers
+pub use Rattle.vote_courier.specs.Flagged
+pub use Rattle.vote_courier.specs.Legal
+pub use Rattle.vote_courier.specs.Places
+pub use Rattle.vote_courier.specs.Stations
+pub use Rattle.vote_courier.specs.Walks
+pub use Rattle.vote_members.specs.Closings
+pub use Rattle.vote_members.specs.Costs

@@ -4,7 +4,7 @@ use Rattle.pseudo_time.specs.Nodes.{is_broker}
 use Rattle.pseudo_time.specs.declared.nodes.NodeId.{NodeId}
 use Rattle.record_votes.specs.Polls.{PollState}
 use Rattle.record_votes.specs.Voting.{Line}
-use Rattle.vote_traces.specs.Walks.{Hall}
+use Rattle.vote_courier.specs.Walks.{Hall}
 use Rattle.vote_courier.specs.Couriers.{CourierParts}
 use Rattle.vote_courier.specs.Stations.{hall_of}
 use Rattle.vote_courier.specs.Places.{Keeps, PollIsAt, PollIsNew}

@@ -7,7 +7,7 @@ use Rattle.record_votes.specs.declared.member_numbers.MemberNumber.{MemberNumber
 use Rattle.record_votes.specs.Polls.{member}
 use Rattle.record_votes.specs.Voting.{opened}
 use Rattle.world_core.specs.Legal.{is_behind}
-use Rattle.vote_traces.specs.Walks.{Hall, world_of}
+use Rattle.vote_courier.specs.Walks.{Hall, world_of}
 use Rattle.vote_courier.specs.Places.{IsReady}
 
 -- a member between its turns

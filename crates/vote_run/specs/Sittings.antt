@@ -17,7 +17,7 @@ use Rattle.record_votes.specs.Voting.{Line}
 use Rattle.run_media.specs.Media.{Media}
 use Rattle.vote_members.specs.Closings.{LeavesLog, LeavesPrefix}
 use Rattle.world_core.specs.Counts.{down_cause}
-use Rattle.vote_traces.specs.Legal.{WasNotOpened}
+use Rattle.vote_courier.specs.Legal.{WasNotOpened}
 use Rattle.vote_courier.specs.Couriers.{CourierParts}
 use Rattle.vote_courier.specs.Stations.{hall_of}
 use Rattle.vote_courier.specs.Places.{Keeps}

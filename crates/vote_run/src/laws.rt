@@ -1,6 +1,6 @@
 ghost use Rattle.std.specs.Prelude.{ℕ, List};
 ghost use Rattle.effect_form.specs.declared.effects.Effect.{Effect};
-ghost use Rattle.vote_traces.specs.Legal.{JustVoters};
+ghost use Rattle.vote_courier.specs.Legal.{JustVoters};
 ghost use Rattle.vote_run.specs.Voters.{opened_voters};
 
 /// Three members with these logs and so many polls are what a vote trace has to be opened with.

@@ -8,3 +8,4 @@ pub use laws::{
     copies_are_carried, entries_alone_decide, front_copies_may_be_taken, gates_are_carried,
     ticks_may_pass,
 };
+pub use wire_core::send_all;

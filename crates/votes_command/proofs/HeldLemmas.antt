@@ -9,8 +9,8 @@ use Rattle.vote_form.specs.declared.poll_lines.PollLine.{PollLine}
 use Rattle.vote_call.specs.Clauses.{AllHold}
 use Rattle.vote_report.specs.Statuses.{all_held}
 use Rattle.vote_report.specs.declared.standings.PollStanding.{PollStanding}
-use Rattle.vote_traces.specs.Legal.{hall_after}
-use Rattle.vote_traces.specs.Walks.{Hall}
+use Rattle.vote_call.specs.Legal.{hall_after}
+use Rattle.vote_call.specs.Walks.{Hall}
 
 all-from : (h : Hall) (i : ℕ) (ls : List PollLine) → ((k : ℕ) (l : PollLine) → slice_get ls k ≡ Some l → is_some (held (h.polls (i + k))) ≡ true) → all_held (standing_from h i ls) ≡ true
 all-from h i [] all = refl

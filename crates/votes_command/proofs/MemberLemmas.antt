@@ -3,7 +3,7 @@ use Rattle.std.proofs.Common.{◌≡◌, ◌⊎◌, ◌++◌, inl, inr, ℕ, Lis
 use Rattle.pseudo_time.specs.Lists.{Has}
 use Rattle.pseudo_time.specs.Nodes.{repository}
 use Rattle.medium_port.specs.declared.shelves.MediumName.{MediumName}
-use Rattle.run_media.specs.Media.{IsUsable, Media}
+use Rattle.run_volumes.specs.Media.{IsUsable, Media}
 use Rattle.run_volumes.specs.Kept.{kept_as, kept_under}
 use Rattle.run_volumes.specs.Shelves.{IsGiven, ShelfSight, TakesOne, WereTaken, volume_name}
 use Rattle.run_volumes.specs.declared.kept.Kept.{Kept}

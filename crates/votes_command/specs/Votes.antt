@@ -1,7 +1,7 @@
 -- What comes of votes over the media that a shelf gives.
 use Rattle.std.specs.Prelude.{◌≡◌, ℕ, List, []}
 use Rattle.medium_port.specs.declared.shelves.MediumName.{MediumName}
-use Rattle.run_media.specs.Media.{Media}
+use Rattle.run_volumes.specs.Media.{Media}
 use Rattle.run_volumes.specs.Kept.{kept_under}
 use Rattle.run_volumes.specs.Shelves.{IsLeft, ShelfSight, WereTaken}
 use Rattle.run_volumes.specs.declared.kept.Kept.{Kept}

@@ -5,10 +5,10 @@ use Rattle.std.proofs.lemmas.Slice.Zip.{AllZip-long}
 use Rattle.pseudo_time.specs.Nodes.{repository as named}
 use Rattle.object_history.specs.declared.marks.Mark.{Mark}
 use Rattle.medium_port.specs.declared.shelves.MediumName.{MediumName}
-use Rattle.run_media.specs.declared.openings.Opening.{Opening}
-use Rattle.run_media.specs.declared.openings.Opening.TheVariants.{Open, Shut, Wanting}
-use Rattle.run_media.specs.Media.{AreBack, IsBack, Media}
-use Rattle.run_media.specs.Openings.{HasOpened, medium_in}
+use Rattle.run_volumes.specs.Opening.{Opening}
+use Rattle.run_volumes.specs.Opening.TheVariants.{Open, Shut, Wanting}
+use Rattle.run_volumes.specs.Media.{AreBack, IsBack, Media}
+use Rattle.run_volumes.specs.Openings.{HasOpened, medium_in}
 use Rattle.run_volumes.specs.declared.kept.Kept.{Kept}
 use Rattle.run_volumes.specs.Kept.{AllKept, kept_as, kept_under}
 use Rattle.run_volumes.specs.Shelves.{ShelfSight, first_names, volume_name}

@@ -12,9 +12,9 @@ use Rattle.repository_log.specs.Logs.{marks}
 use Rattle.repository_log.proofs.MarkLemmas.{marks-in-range}
 use Rattle.archive_store.specs.Joined.{all_firsts, firsts, is_floor, is_new, joined, last_log, met_after}
 use Rattle.archive_store.proofs.ArchiveLemmas.{joined-unretired}
-use Rattle.run_media.specs.declared.openings.Opening.{Opening}
-use Rattle.run_media.specs.declared.openings.Opening.TheVariants.{Open, Shut, Wanting}
-use Rattle.run_media.specs.Media.{Media}
+use Rattle.run_volumes.specs.Opening.{Opening}
+use Rattle.run_volumes.specs.Opening.TheVariants.{Open, Shut, Wanting}
+use Rattle.run_volumes.specs.Media.{Media}
 use Rattle.run_volumes.specs.Standings.{Stands}
 use Rattle.run_volumes.specs.Volumes.{logs_of}
 use Rattle.archive_command.specs.Archives.{Complete, archive_of, complete_from, is_complete}

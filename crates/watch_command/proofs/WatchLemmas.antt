@@ -26,10 +26,10 @@ use Rattle.commit_watch.specs.declared.faults.WatchFault.{WatchFault}
 use Rattle.commit_watch.specs.declared.faults.WatchFault.TheVariants as fault
 use Rattle.commit_watch.specs.declared.moved.Moved.{Moved}
 use Rattle.commit_watch.specs.Refusals.{IsRefusal}
-use Rattle.run_media.specs.declared.openings.Opening.{Opening}
-use Rattle.run_media.specs.declared.openings.Opening.TheVariants.{Open, Shut, Wanting}
-use Rattle.run_media.specs.Media.{Media}
-use Rattle.run_media.specs.Openings.{HasOpened, medium_in}
+use Rattle.run_volumes.specs.Opening.{Opening}
+use Rattle.run_volumes.specs.Opening.TheVariants.{Open, Shut, Wanting}
+use Rattle.run_volumes.specs.Media.{Media}
+use Rattle.run_volumes.specs.Openings.{HasOpened, medium_in}
 use Rattle.run_volumes.specs.declared.kept.Kept.{Kept}
 use Rattle.run_volumes.specs.Kept.{kept_as, kept_under}
 use Rattle.run_volumes.specs.Shelves.{ShelfSight, TakesOne, WereTaken, first_names, volume_name}

@@ -11,4 +11,5 @@ mod volumes;
 mod watching;
 mod writing;
 
+pub use archive_command::{Outcome, Question, ask};
 pub use watching::watch;

@@ -13,8 +13,7 @@ use command_words::Rule;
 use medium_port::Medium;
 use object_history::Mark;
 use pseudo_time::NodeId;
-use run_media::Opening;
-use run_volumes::{Standing, stand_of};
+use run_volumes::{Opening, Standing, stand_of};
 use std::alloc::{AllocError, Global};
 
 /// The volume of a repository with its totals by the rule.

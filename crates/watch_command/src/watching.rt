@@ -16,8 +16,9 @@ use command_words::Rule;
 use medium_port::{Medium, Shelf};
 use object_history::Mark;
 use pseudo_time::NodeId;
-use run_media::{Opening, give_back, open_one};
-use run_volumes::{Kept, keep_one, keep_volumes, open_volumes, take_volume};
+use run_volumes::{
+    Kept, Opening, give_back, keep_one, keep_volumes, open_one, open_volumes, take_volume,
+};
 use std::alloc::Global;
 
 // What comes of a watch over these marks, with this volume of totals. Hands its medium back.

@@ -1,6 +1,6 @@
 use Rattle.std.proofs.Common.{ap, ◌∙◌}
 use Rattle.pseudo_time.specs.declared.nodes.NodeId.{NodeId}
-use Rattle.wire_lock.specs.Sights.{base_at, life_at}
+use Rattle.node_turn.specs.Sights.{base_at, life_at}
 use Rattle.node_turn.specs.Nodes.{sight}
 use Rattle.broker_node.specs.Logs.{is_over}
 use Rattle.broker_node.proofs.nodes.is_done.Goals as goal

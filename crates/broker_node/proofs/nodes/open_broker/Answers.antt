@@ -3,7 +3,7 @@ use Rattle.version_store.specs.StoreWords.{medium_of}
 use Rattle.broker_core.specs.Tasks.{Scripted}
 use Rattle.seat_lock.specs.Words.{knows}
 use Rattle.world_core.specs.Walks.{opened_log}
-use Rattle.wire_lock.specs.Sights.{IsOf, base_at, origin_at}
+use Rattle.node_turn.specs.Sights.{IsOf, base_at, origin_at}
 use Rattle.node_turn.specs.Cores.{IsReady}
 use Rattle.node_turn.proofs.MediumLemmas.{leaves-log}
 use Rattle.node_turn.proofs.NewLemmas.{up-new}

@@ -1,6 +1,6 @@
 use Rattle.std.proofs.Common.{◌≡◌, Some, arith, subst}
 use Rattle.std.specs.Prelude.{IfOk, OnErr}
-use Rattle.wire_lock.specs.Sights.{Looked, TicksOn}
+use Rattle.broker_node.specs.Sights.{Looked, TicksOn}
 use Rattle.seat_lock.specs.Words.{knows}
 use Rattle.node_rounds.proofs.TickLemmas.{is-so, wants-tick}
 use Rattle.node_rounds.proofs.WantedLemmas.{ticked-of}

@@ -1,8 +1,8 @@
 use Rattle.std.proofs.Common.{◌≡◌, ◌≤◌}
 use Rattle.std.specs.Prelude.{IsTrue}
 use Rattle.seat_lock.specs.Words.{base_of, knows}
-use Rattle.wire_core.specs.Wires.{base_from}
-use Rattle.wire_lock.specs.Sights.{IsWirePass}
+use Rattle.broker_node.specs.Wires.{base_from}
+use Rattle.broker_node.specs.Sights.{IsWirePass}
 use Rattle.world_core.specs.Counts.{tick_count}
 use Rattle.node_rounds.specs.Nodes.{EachNode, EachPlace, GoesOn, IsKeptThrough, IsReady}
 use Rattle.node_rounds.specs.Reasons.{TicksAreWanted}

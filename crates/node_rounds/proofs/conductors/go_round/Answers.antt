@@ -6,7 +6,7 @@ use Rattle.seat_lock.specs.Words.{knows}
 use Rattle.node_rounds.specs.declared.reasons.Next.TheVariants as next
 use Rattle.node_rounds.specs.Nodes.{SomeNode}
 use Rattle.node_rounds.specs.Reasons.{Follows, HasTicked, IsLate}
-use Rattle.wire_lock.proofs.Crosses.{shared_sync}
+use Rattle.broker_node.proofs.Crosses.{shared_sync}
 use Rattle.node_rounds.proofs.Crosses.{run_send}
 use Rattle.node_rounds.proofs.TickLemmas.{follows-looked, follows-met, follows-begins, follows-none}
 use Rattle.node_rounds.proofs.WantedLemmas.{round-wanted, still-wanted}

@@ -1,6 +1,6 @@
 use Rattle.std.proofs.Common.{◌≡◌, sym, subst}
 use Rattle.std.specs.Prelude.{All, Any, MatchBool}
-use Rattle.node_turn.specs.declared.conditions.Condition.TheVariants as condition
+use Rattle.broker_node.specs.Condition.TheVariants as condition
 use Rattle.node_rounds.specs.Reasons.{HasMemory}
 use Rattle.node_rounds.proofs.PairLemmas.{within-more}
 use Rattle.node_rounds.proofs.conductors.was_wanting.Goals as goal

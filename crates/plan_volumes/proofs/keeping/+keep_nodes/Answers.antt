@@ -1,8 +1,8 @@
 use Rattle.std.proofs.Common.{rules, ◌∙◌, ap, subst, length, map, arith}
 use Rattle.std.specs.List.{AllZip}
 use Rattle.std.proofs.lemmas.List.{length_push}
-use Rattle.run_media.specs.Openings.{medium_in}
-use Rattle.run_media.specs.Places.{node_at}
+use Rattle.run_volumes.specs.Openings.{medium_in}
+use Rattle.run_volumes.specs.Places.{node_at}
 use Rattle.plan_volumes.specs.Asides.{IsAside}
 use Rattle.plan_volumes.proofs.KeepLemmas.{nodes-joined, none-joined, zip-last}
 use Rattle.plan_volumes.proofs.keeping.+keep_nodes.Goals as goal

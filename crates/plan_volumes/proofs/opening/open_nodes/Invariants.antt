@@ -1,5 +1,5 @@
 use Rattle.std.proofs.Common.{◌≡◌, ◌≤◌, ◌+◌, List, [], length, All, vec_capacity}
-use Rattle.run_media.specs.Places.{node_count}
+use Rattle.run_volumes.specs.Places.{node_count}
 use Rattle.run_volumes.specs.Shelves.{shelf_sight}
 use Rattle.plan_volumes.specs.Asides.{AreApart}
 use Rattle.plan_volumes.specs.Volumes.{NodeVolumes}

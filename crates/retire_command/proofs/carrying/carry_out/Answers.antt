@@ -1,6 +1,6 @@
 use Rattle.std.proofs.Common.{◌∷◌, [], ◌++◌, ap, subst, ◌∙◌}
-use Rattle.run_media.specs.declared.openings.Opening.TheVariants.{Open}
-use Rattle.run_media.specs.Openings.{IsOpen}
+use Rattle.run_volumes.specs.Opening.TheVariants.{Open}
+use Rattle.run_volumes.specs.Openings.{IsOpen}
 use Rattle.retire_command.proofs.RetireLemmas.{carried-out, fresh-empty, fresh-place, last-opened, last-stands}
 use Rattle.retire_command.proofs.carrying.carry_out.Goals as goal
 

@@ -2,8 +2,8 @@ use Rattle.std.proofs.Common.{◌≡◌, ◌∙◌, ◌++◌, ◌∷◌, [], len
 use Rattle.std.proofs.lemmas.List.{length-map}
 use Rattle.seat_lock.specs.Words.{knows}
 use Rattle.world_core.specs.Walks.{Base}
-use Rattle.wire_core.specs.Wires.{base_from}
-use Rattle.wire_lock.proofs.SightLemmas.{pass-origin}
+use Rattle.run_starts.specs.Wires.{base_from}
+use Rattle.run_starts.proofs.SightLemmas.{pass-origin}
 use Rattle.run_starts.specs.Nodes.{IsReady}
 use Rattle.run_starts.specs.Reasons.{TicksAreWanted}
 use Rattle.run_starts.proofs.AlongLemmas.{each-shared}

@@ -2,8 +2,8 @@ use Rattle.std.proofs.Common.{◌≡◌, ◌∙◌, [], length, map, sym, subst,
 use Rattle.std.proofs.lemmas.List.{length-map}
 use Rattle.std.specs.Prelude.{All}
 use Rattle.seat_lock.specs.Words.{base_of, knows}
-use Rattle.wire_lock.specs.Sights.{IsWirePass}
-use Rattle.node_turn.specs.Nodes.{NodeParts}
+use Rattle.run_starts.specs.Sights.{IsWirePass}
+use Rattle.run_starts.specs.TurnNodes.{NodeParts}
 use Rattle.run_starts.specs.Deals.{HaveRoom, IsDealt}
 use Rattle.run_starts.specs.Seats.{IsNewNode}
 use Rattle.run_rounds.specs.declared.ends.End.TheVariants as end

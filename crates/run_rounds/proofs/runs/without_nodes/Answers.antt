@@ -1,6 +1,6 @@
 use Rattle.std.proofs.Common.{◌≡◌, ◌∙◌, length, take, vec_len, sym, subst, ap, arith}
 use Rattle.seat_lock.specs.Words.{base_of}
-use Rattle.wire_lock.specs.Sights.{IsWirePass}
+use Rattle.run_starts.specs.Sights.{IsWirePass}
 use Rattle.run_media.specs.Places.{node_at}
 use Rattle.run_starts.specs.Seats.{Along}
 use Rattle.run_starts.specs.Starts.{HasFallen, IsUnseen}

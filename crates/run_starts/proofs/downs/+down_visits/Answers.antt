@@ -3,7 +3,7 @@ use Rattle.std.proofs.lemmas.List.{length_push}
 use Rattle.std.proofs.lemmas.Option.{get_or_from_slice_get}
 use Rattle.pseudo_time.specs.declared.nodes.NodeId.{NodeId}
 use Rattle.seat_lock.specs.Words.{base_of}
-use Rattle.wire_lock.specs.Sights.{IsWirePass}
+use Rattle.node_rounds.specs.Sights.{IsWirePass}
 use Rattle.run_media.specs.Places as order
 use Rattle.run_starts.specs.Starts.{IsUnseen, HasFallen}
 use Rattle.run_starts.proofs.DealLemmas.{some-within}

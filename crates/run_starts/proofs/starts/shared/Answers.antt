@@ -1,7 +1,7 @@
 use Rattle.std.proofs.Common.{◌≡◌, map, sym, subst}
 use Rattle.seat_lock.specs.Words.{knows, fresh}
-use Rattle.wire_core.specs.Wires.{WireParts}
-use Rattle.wire_lock.specs.Sights.{IsWirePass}
+use Rattle.node_rounds.specs.Wires.{WireParts}
+use Rattle.node_rounds.specs.Sights.{IsWirePass}
 use Rattle.run_starts.specs.Starts.{fresh_for}
 use Rattle.run_starts.proofs.StartLemmas.{split-passes, all-front, all-last}
 use Rattle.run_starts.proofs.starts.shared.Goals as goal

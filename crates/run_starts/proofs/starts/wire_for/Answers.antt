@@ -2,8 +2,8 @@ use Rattle.std.proofs.Common.{◌≢◌, List, ap, sym, subst, ◌∙◌}
 use Rattle.std.specs.List.{AllPairs}
 use Rattle.std.proofs.lemmas.Result.{IfOk-weaker}
 use Rattle.world_core.specs.declared.traces.Opened.{Opened}
-use Rattle.wire_core.specs.Wires.{Origin, WireParts}
-use Rattle.wire_lock.specs.Sights.{owners_for}
+use Rattle.node_rounds.specs.Wires.{Origin, WireParts}
+use Rattle.node_rounds.specs.Sights.{owners_for}
 use Rattle.run_starts.specs.Starts.{IsSetUp}
 use Rattle.run_starts.proofs.StartLemmas.{owners-differ}
 use Rattle.run_starts.proofs.starts.wire_for.Goals as goal

@@ -1,5 +1,5 @@
 use Rattle.std.proofs.Common.{inr, subst}
-use Rattle.run_volumes.specs.Shelves.{shelf_sight}
+use Rattle.plan_volumes.specs.Shelves.{shelf_sight}
 use Rattle.swallow_top.specs.Histories.{TellsVolumes}
 use Rattle.swallow_top.specs.Written.{sinking}
 use Rattle.swallow_top.proofs.HistoryLemmas.{handed-back, tells-history}

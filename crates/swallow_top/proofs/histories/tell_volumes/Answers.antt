@@ -3,7 +3,7 @@ use Rattle.std.specs.Prelude.{IfOk}
 use Rattle.report_writer.specs.Histories.{history_text}
 use Rattle.report_writer.specs.Reports.{down_text}
 use Rattle.forward_copy.specs.Currents.{node_log}
-use Rattle.run_volumes.specs.Volumes.{logs_of}
+use Rattle.plan_volumes.specs.RunVolumes.{logs_of}
 use Rattle.swallow_top.specs.Histories.{home_of}
 use Rattle.swallow_top.specs.Written.{sinking}
 use Rattle.swallow_top.proofs.HistoryLemmas.{open-told, shut-told}

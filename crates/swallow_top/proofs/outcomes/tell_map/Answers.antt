@@ -1,7 +1,7 @@
 use Rattle.std.proofs.Common.{◌⊎◌, refl, subst, sym}
-use Rattle.archive_command.specs.declared.questions.Question.TheVariants as question
+use Rattle.archive_promise.specs.Question.TheVariants as question
 use Rattle.archive_promise.specs.Answered.{IsOfStamp}
-use Rattle.run_volumes.specs.Shelves.{shelf_sight}
+use Rattle.plan_volumes.specs.Shelves.{shelf_sight}
 use Rattle.swallow_top.specs.Histories.{AskedNothing}
 use Rattle.swallow_top.specs.Outcomes.{TellsAnswer}
 use Rattle.swallow_top.specs.Written.{sinking}

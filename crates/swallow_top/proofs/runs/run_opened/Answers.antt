@@ -1,7 +1,7 @@
 use Rattle.std.proofs.Common.{◌≡◌, ◌∙◌, inl, map, sym, subst}
 use Rattle.std.specs.List.{AllZip}
-use Rattle.run_media.specs.Media.{AreBack, IsLeftAlone}
-use Rattle.run_media.specs.Openings.{medium_in}
+use Rattle.plan_volumes.specs.Media.{AreBack, IsLeftAlone}
+use Rattle.plan_volumes.specs.Openings.{medium_in}
 use Rattle.run_rounds.specs.Finishes.{IsKeptWhole}
 use Rattle.swallow_top.proofs.ShelfLemmas.{alone-whole, opened-left, opened-there}
 use Rattle.swallow_top.proofs.runs.run_opened.Goals as goal

@@ -1,10 +1,10 @@
 use Rattle.std.proofs.Common.{◌∙◌, ap, sym, subst, length, map, arith}
 use Rattle.std.specs.List.{AllZip}
 use Rattle.std.proofs.lemmas.List.{length-map}
-use Rattle.run_media.specs.Media.{IsLeftAlone}
+use Rattle.plan_volumes.specs.Media.{IsLeftAlone}
 use Rattle.run_rounds.specs.Finishes.{tellers}
-use Rattle.run_volumes.specs.Kept.{kept_under}
-use Rattle.run_volumes.specs.Shelves.{shelf_sight}
+use Rattle.plan_volumes.specs.Kept.{kept_under}
+use Rattle.plan_volumes.specs.Shelves.{shelf_sight}
 use Rattle.plan_volumes.specs.Asides.{IsAside}
 use Rattle.plan_volumes.specs.Volumes.{all_left, names_from, work_taken}
 use Rattle.plan_volumes.proofs.ApartLemmas.{zip-long}

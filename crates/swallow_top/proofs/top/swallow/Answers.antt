@@ -7,10 +7,10 @@ use Rattle.command_words.proofs.WordLemmas.{few-ticks}
 use Rattle.votes_command.specs.Inputs.{IsPoll}
 use Rattle.swallow_top.specs.Contract.{RefusedAs}
 use Rattle.swallow_top.specs.Histories.{AskedNothing, TellsHistory}
-use Rattle.archive_command.specs.declared.questions.Question.TheVariants as question
+use Rattle.archive_promise.specs.Question.TheVariants as question
 use Rattle.swallow_top.specs.Outcomes.{TellsAnswer, TellsWatch}
 use Rattle.swallow_top.specs.Retirements.{TellsRetirement, mark_at}
-use Rattle.run_volumes.specs.Shelves.{shelf_sight}
+use Rattle.plan_volumes.specs.Shelves.{shelf_sight}
 use Rattle.swallow_top.specs.Written.{sinking}
 use Rattle.swallow_top.proofs.PromiseLemmas.{language-of, polls-of, promise-audit, promise-history, promise-load, promise-map, promise-no-polls, promise-refused, promise-retire, promise-run, promise-votes, promise-watch, quiet-call, some-workers}
 use Rattle.swallow_top.proofs.top.swallow.Goals as goal

@@ -1,6 +1,6 @@
 use Rattle.std.proofs.Common.{refl}
 use Rattle.run_rounds.specs.Finishes.{account_of, tellers}
-use Rattle.run_volumes.specs.Shelves.{shelf_sight}
+use Rattle.plan_volumes.specs.Shelves.{shelf_sight}
 use Rattle.swallow_top.specs.Votes.{limits_of}
 use Rattle.swallow_top.specs.Written.{sinking}
 use Rattle.swallow_top.proofs.VoteLemmas.{few-end, polled}

@@ -1,5 +1,5 @@
 use Rattle.std.proofs.Common.{◌≡◌, take}
-use Rattle.wire_core.specs.Flagged.{names_of}
+use Rattle.vote_run.specs.Flagged.{names_of}
 use Rattle.vote_call.proofs.voters.names.Given as goal
 
 -- those so far

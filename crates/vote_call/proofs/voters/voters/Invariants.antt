@@ -1,5 +1,5 @@
 use Rattle.std.proofs.Common.{◌≡◌}
-use Rattle.run_media.specs.Openings.{log_in}
+use Rattle.vote_run.specs.Openings.{log_in}
 use Rattle.vote_run.specs.Voters.{opened_voters}
 use Rattle.vote_call.proofs.voters.voters.Given as goal
 

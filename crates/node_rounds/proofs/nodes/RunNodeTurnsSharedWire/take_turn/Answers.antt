@@ -1,5 +1,5 @@
 use Rattle.std.proofs.Common.{◌∙◌, ap, sym, subst}
-use Rattle.node_turn.specs.Nodes.{NodeParts, TurnsTo}
+use Rattle.broker_node.specs.TurnNodes.{NodeParts, TurnsTo}
 use Rattle.node_rounds.specs.Kinds.{parts_of}
 use Rattle.node_rounds.proofs.TurnedLemmas.{had-turned}
 use Rattle.node_rounds.proofs.nodes.RunNodeTurnsSharedWire.take_turn.Goals as goal
