@@ -20,7 +20,7 @@ use Rattle.archive_command.specs.declared.questions.Question.{Question}
 use Rattle.archive_command.specs.declared.outcomes.Outcome.{Outcome}
 use Rattle.archive_command.specs.declared.outcomes.Outcome.TheVariants.{Told, Refused, Fallen, NoMemory}
 use Rattle.archive_command.specs.Answers.{Answers, AnswersOver, GivesMap, RefusesFor, asked_of}
-use Rattle.archive_command.specs.Lines.{undecided_line}
+use Rattle.report_writer.specs.Lines.{undecided_line}
 
 module _ (repository : ℕ) (at : TimeParts) (m : List Mark) where
   pub map-refused : (why : AsOfFault) (r : Outcome) → (why ≡ fault.NoMemory) ⊎ ((s : Start) × (first_open m at ≡ Some s) × (why ≡ fault.Undecided s.object s.start)) → RefusesFor why r → GivesMap repository at m r

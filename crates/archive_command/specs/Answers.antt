@@ -30,7 +30,8 @@ use Rattle.archive_command.specs.declared.questions.Question.TheVariants.{AsOf, 
 use Rattle.archive_command.specs.declared.outcomes.Outcome.{Outcome}
 use Rattle.archive_command.specs.declared.outcomes.Outcome.TheVariants.{Told, Refused, Fallen, NoMemory}
 use Rattle.archive_command.specs.Archives.{archive_of, volumes_of}
-use Rattle.archive_command.specs.Lines.{asof_text, undecided_line}
+use Rattle.report_writer.specs.Lines.{undecided_line}
+use Rattle.archive_command.specs.Lines.{asof_text}
 use Rattle.archive_command.specs.Versions.{archive_text}
 
 -- the repository whose archive is asked

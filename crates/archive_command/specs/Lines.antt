@@ -9,7 +9,7 @@ use Rattle.value_form.specs.ValueText.{value_text}
 use Rattle.commit_watch.specs.declared.moved.Moved.{Moved}
 use Rattle.report_writer.specs.Histories.{state_text}
 use Rattle.report_writer.specs.Parts.{access_text, object_text, time_text}
-use Rattle.report_writer.specs.Reports.{named, refusal_text}
+use Rattle.report_writer.specs.Reports.{named}
 
 -- ---- the map as of a mark
 
@@ -30,10 +30,6 @@ moved_line w = value_line w.object w.total
 
 abbrev pub asof_text : ℕ → TimeParts → List (Moved Value) → List ℕ
 asof_text repository at list = asof_head repository at ++ flat_map moved_line list
-
--- a version below the mark is undecided
-abbrev pub undecided_line : ObjectId → TimeParts → List ℕ
-undecided_line object start = refusal_text (codes "swallow: undecided ") object start ++ 10 ∷ []
 
 -- ---- the versions of an object
 

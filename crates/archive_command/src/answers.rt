@@ -5,13 +5,13 @@ ghost use Rattle.archive_command.specs.Answers as spec;
 
 use crate::archives::{Archived, archived_of};
 use crate::audits::audit_text;
-use crate::lines::{down_line, undecided_line};
 use crate::maps::asof_text;
 use crate::outcomes::Outcome;
 use crate::questions::{Question, asked_of};
 use archive_store::{Archive, AsOfFault};
 use medium_port::Medium;
 use pseudo_time::PseudoTime;
+use report_writer::{down_line, undecided_line};
 use run_volumes::{Opening, Standing, stand_of};
 use std::alloc::{AllocError, Global};
 use value_form::Bytes;

@@ -89,6 +89,10 @@ module _ (r : LabRun) where
   abbrev pub IsStarved : Type 0
   IsStarved = RanNothing 7 × IsUnwritten r.sink
 
+  -- that, or it ran
+  abbrev pub MayHaveRun : Lab → Type 0
+  MayHaveRun lab = IsStarved ⊎ RanAs lab
+
   -- The words are refused, and the sink got the line that says so; or memory was wanting before anything was done; or so it ran as they say.
   abbrev pub LabPromise : List (List ℕ) → Type 0
   LabPromise words = (AreRefused words × RanNothing 1 × GotLine r.sink words_line)

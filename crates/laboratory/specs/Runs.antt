@@ -22,3 +22,19 @@ pub record LabRun : Type 0 where
   pub clock : FixedParts
   -- what happened between members and polls
   pub votes : Trace
+
+-- the same of a call's answer: its parts, what its source had and has, how often that had failed and has, and its sink
+abbrev pub ran : (status : ℕ) → Trace → List (Kept MemoryMedium) → LabFates → FixedParts → (votes : Trace) → (input left : Option (List ℕ)) → (faults_before faults : ℕ) → Sinking → LabRun
+ran status trace media fates clock votes input left faults_before faults sink = record {
+  status = status;
+  input = input;
+  left = left;
+  faults_before = faults_before;
+  faults = faults;
+  sink = sink;
+  trace = trace;
+  media = media;
+  fates = fates;
+  clock = clock;
+  votes = votes;
+}

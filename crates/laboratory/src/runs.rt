@@ -1,10 +1,11 @@
 //! Runs in the laboratory.
-ghost use Rattle.std.specs.Prelude.{◌≡◌, ◌≤◌, ◌⊎◌, [], IfOk};
+ghost use Rattle.std.specs.Prelude.{◌≡◌, ◌≤◌, [], IfOk};
 ghost use Rattle.std.specs.String.{string_bytes};
 ghost use Rattle.swallow_top.specs.Stories.{no_trace};
 ghost use Rattle.command_words.specs.Words.{said};
 ghost use Rattle.swallow_top.specs.Written.{sinking};
 ghost use Rattle.laboratory.specs.Fates.{asked_of};
+ghost use Rattle.laboratory.specs.Runs.{ran};
 ghost use Rattle.laboratory.specs.Shelves.{IsLabShelf};
 ghost use Rattle.laboratory.specs.Calls as spec;
 
@@ -59,19 +60,9 @@ fn over<D: Divisor + Send, I: Source, O: Sink, R: Threads + Wait + Sync>(
     requires words { said words.now ≡ spec.cut (string_bytes lab.now.text) }
     requires shelf { IsLabShelf lab.now shelf }
     requires lose { lab.now.lose ≡ D.divisor }
-    ensures { spec.RanAs (record {
-      status = result.status;
-      input = I.left source.old;
-      left = I.left source.new;
-      faults_before = I.faults source.old;
-      faults = I.faults source.new;
-      sink = (sinking (O.taken sink.old) (O.taken sink.new) (O.faults sink.old) (O.faults sink.new));
-      trace = result.trace;
-      media = result.media;
-      fates = result.fates;
-      clock = result.clock;
-      votes = result.votes;
-    }) lab.now }
+    ensures { spec.RanAs (ran result.status result.trace result.media result.fates result.clock result.votes
+        (I.left source.old) (I.left source.new) (I.faults source.old) (I.faults source.new)
+        (sinking (O.taken sink.old) (O.taken sink.new) (O.faults sink.old) (O.faults sink.new))) lab.now }
 {
     let mut shelf = shelf;
     let fates: TiedFates<D> = TiedFates {
@@ -103,31 +94,9 @@ fn run<D: Divisor + Send, I: Source, O: Sink, R: Threads + Wait + Sync>(
     requires some { 1 ≤ lab.now.pages }
     requires most { lab.now.pages ≤ 1048576 }
     requires lose { lab.now.lose ≡ D.divisor }
-    ensures { spec.IsStarved (record {
-      status = result.status;
-      input = I.left source.old;
-      left = I.left source.new;
-      faults_before = I.faults source.old;
-      faults = I.faults source.new;
-      sink = (sinking (O.taken sink.old) (O.taken sink.new) (O.faults sink.old) (O.faults sink.new));
-      trace = result.trace;
-      media = result.media;
-      fates = result.fates;
-      clock = result.clock;
-      votes = result.votes;
-    }) ⊎ spec.RanAs (record {
-      status = result.status;
-      input = I.left source.old;
-      left = I.left source.new;
-      faults_before = I.faults source.old;
-      faults = I.faults source.new;
-      sink = (sinking (O.taken sink.old) (O.taken sink.new) (O.faults sink.old) (O.faults sink.new));
-      trace = result.trace;
-      media = result.media;
-      fates = result.fates;
-      clock = result.clock;
-      votes = result.votes;
-    }) lab.now }
+    ensures { spec.MayHaveRun (ran result.status result.trace result.media result.fates result.clock result.votes
+        (I.left source.old) (I.left source.new) (I.faults source.old) (I.faults source.new)
+        (sinking (O.taken sink.old) (O.taken sink.new) (O.faults sink.old) (O.faults sink.new))) lab.now }
 {
     let Ok(words) = cut(alloc, lab.text.as_str()) else {
         return quiet(alloc, 7);
@@ -152,19 +121,9 @@ pub fn lab<I: Source, O: Sink, R: Threads + Wait + Sync>(
     source: &mut I,
     sink: &mut O,
 ) -> Finish<MemoryMedium, LabFates, FixedClock>
-    ensures promise { spec.LabPromise (record {
-      status = result.status;
-      input = I.left source.old;
-      left = I.left source.new;
-      faults_before = I.faults source.old;
-      faults = I.faults source.new;
-      sink = (sinking (O.taken sink.old) (O.taken sink.new) (O.faults sink.old) (O.faults sink.new));
-      trace = result.trace;
-      media = result.media;
-      fates = result.fates;
-      clock = result.clock;
-      votes = result.votes;
-    }) (said words.now) }
+    ensures promise { spec.LabPromise (ran result.status result.trace result.media result.fates result.clock result.votes
+        (I.left source.old) (I.left source.new) (I.faults source.old) (I.faults source.new)
+        (sinking (O.taken sink.old) (O.taken sink.new) (O.faults sink.old) (O.faults sink.new))) (said words.now) }
 {
     match lab_words(alloc, words) {
         Ok(lab) => run::<Brand, I, O, R>(rt, alloc, &lab, source, sink),

@@ -1,4 +1,5 @@
 pub mod Histories
+pub mod Lines
 pub mod Parts
 pub mod Reports
 pub mod Standings

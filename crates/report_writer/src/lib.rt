@@ -4,6 +4,7 @@
 mod floors;
 mod histories;
 mod history_writing;
+mod lines;
 mod pieces;
 mod records;
 mod tellings;
@@ -13,6 +14,7 @@ mod writing;
 
 pub use floors::{floor_of, latest, reach};
 pub use histories::history;
+pub use lines::{down_line, undecided_line};
 pub use pieces::{push_named, push_object, push_stamp, push_time};
 pub use records::{ActOutcome, ActReport, Down, Final, Report, TryOutcome, TryReport, Wire};
 pub use tellings::{Telling, telling_of};

@@ -1,8 +1,7 @@
 -- The lines that tell of a retirement.
 use Rattle.std.specs.Prelude.{ℕ, List, [], ◌∷◌, ◌++◌, codes}
 use Rattle.pseudo_time.specs.TimeParts.{TimeParts}
-use Rattle.value_form.specs.declared.objects.ObjectId.{ObjectId}
-use Rattle.report_writer.specs.Parts.{object_text, time_text}
+use Rattle.report_writer.specs.Parts.{time_text}
 use Rattle.report_writer.specs.Reports.{named}
 
 -- the repository was retired into this volume at the mark; so many effects were kept and dropped
@@ -14,9 +13,6 @@ retired_line repository volume at kept dropped =
 -- why it wasn't
 abbrev pub old_mark_line : TimeParts → List ℕ
 old_mark_line floor = codes "swallow: old mark " ++ (time_text floor ++ 10 ∷ [])
-
-abbrev pub undecided_line : ObjectId → TimeParts → List ℕ
-undecided_line object start = codes "swallow: undecided " ++ (object_text object ++ (32 ∷ time_text start ++ 10 ∷ []))
 
 abbrev pub last_volume_line : List ℕ
 last_volume_line = codes "swallow: last volume" ++ 10 ∷ []

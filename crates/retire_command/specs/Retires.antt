@@ -37,7 +37,8 @@ use Rattle.forward_copy.specs.declared.faults.ForwardFault.{ForwardFault}
 use Rattle.forward_copy.specs.declared.faults.ForwardFault.TheVariants as fault
 use Rattle.retire_command.specs.declared.outcomes.Retired.{Retired}
 use Rattle.retire_command.specs.declared.outcomes.Retired.TheVariants.{Done, Refused, Fallen, NoMemory}
-use Rattle.retire_command.specs.Lines.{last_volume_line, old_mark_line, retired_line, undecided_line}
+use Rattle.report_writer.specs.Lines.{undecided_line}
+use Rattle.retire_command.specs.Lines.{last_volume_line, old_mark_line, retired_line}
 
 -- ---- why it isn't retired
 

@@ -11,12 +11,12 @@ ghost use Rattle.run_volumes.specs.Standings.{Stands};
 ghost use Rattle.run_volumes.specs.Volumes.{EndRightly};
 ghost use Rattle.retire_command.specs.Retires as spec;
 
-use crate::lines::down_line;
 use crate::outcomes::Retired;
 use crate::preparing::{Prepared, fallen};
 use forward_copy::{Forward, carry};
 use medium_port::Medium;
 use pseudo_time::{NodeId, PseudoTime};
+use report_writer::down_line;
 use run_volumes::{Opening, give_back};
 use std::alloc::Global;
 use value_form::Bytes;

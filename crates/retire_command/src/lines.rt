@@ -1,12 +1,11 @@
 //! The lines that tell of a retirement.
 ghost use Rattle.std.specs.Prelude.{◌≡◌, IfOk};
-ghost use Rattle.report_writer.specs.Reports.{down_text};
 ghost use Rattle.retire_command.specs.Lines as lines;
 
-use pseudo_time::{DownCause, NodeId, PseudoTime};
-use report_writer::{Down, push_downs, push_named, push_object, push_time};
+use pseudo_time::PseudoTime;
+use report_writer::{push_named, push_time};
 use std::alloc::{AllocError, Global};
-use value_form::{Bytes, ObjectId};
+use value_form::Bytes;
 
 /// The line of a repository that was retired into a volume.
 pub fn retired_line(
@@ -41,37 +40,11 @@ pub fn old_mark_line(alloc: Global, floor: PseudoTime) -> Result<Bytes, AllocErr
     Ok(Bytes::of(text))
 }
 
-/// The line of an undecided version below the mark.
-pub fn undecided_line(
-    alloc: Global,
-    object: ObjectId,
-    start: PseudoTime,
-) -> Result<Bytes, AllocError>
-    ensures { IfOk result (λ text. text ≡ lines.undecided_line object start) }
-{
-    let mut text = Vec::new(alloc);
-    text.extend_from_slice(b"swallow: undecided ")?;
-    push_object(alloc, &mut text, object)?;
-    text.push(b' ')?;
-    push_time(alloc, &mut text, start)?;
-    text.push(b'\n')?;
-    Ok(Bytes::of(text))
-}
-
 /// The line where no volume is fresh.
 pub fn last_volume_line(alloc: Global) -> Result<Bytes, AllocError>
     ensures { IfOk result (λ text. text ≡ lines.last_volume_line) }
 {
     let mut text = Vec::new(alloc);
     text.extend_from_slice(b"swallow: last volume\n")?;
-    Ok(Bytes::of(text))
-}
-
-/// The line of a node that is down.
-pub fn down_line(alloc: Global, node: NodeId, cause: DownCause) -> Result<Bytes, AllocError>
-    ensures { IfOk result (λ text. text ≡ down_text (record { node = node; cause = cause })) }
-{
-    let mut text = Vec::new(alloc);
-    push_downs(alloc, &mut text, &[Down { node, cause }])?;
     Ok(Bytes::of(text))
 }

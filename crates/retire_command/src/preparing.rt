@@ -7,11 +7,12 @@ ghost use Rattle.run_volumes.specs.Volumes.{AreOpen, logs_of};
 ghost use Rattle.retire_command.specs.Lines as lines;
 ghost use Rattle.retire_command.specs.Retires as spec;
 
-use crate::lines::{down_line, last_volume_line, old_mark_line, retired_line, undecided_line};
+use crate::lines::{last_volume_line, old_mark_line, retired_line};
 use crate::outcomes::Retired;
 use forward_copy::{Forward, ForwardFault, forward};
 use medium_port::Medium;
 use pseudo_time::{NodeId, PseudoTime};
+use report_writer::{down_line, undecided_line};
 use run_volumes::{Opening, Standing, fresh, node_log as log_of, stand_of};
 use std::alloc::{AllocError, Global};
 use value_form::Bytes;

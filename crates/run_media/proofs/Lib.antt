@@ -1,2 +1,3 @@
+pub mod BlankImageLemmas
 pub mod OpeningLemmas
 pub mod OrderLemmas

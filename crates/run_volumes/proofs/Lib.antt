@@ -1,4 +1,5 @@
 pub mod ShelfLemmas
 pub mod StandLemmas
 pub mod VolumeLemmas
+pub use Rattle.run_media.proofs.BlankImageLemmas
 pub use Rattle.run_media.proofs.OrderLemmas

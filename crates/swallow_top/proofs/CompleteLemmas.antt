@@ -33,7 +33,7 @@ use Rattle.run_rounds.specs.Finishes.{Tellers, account_of}
 use Rattle.run_rounds.specs.Media.{Became, inner, medium_at}
 use Rattle.run_rounds.specs.Runs.{IsFirstFault, Ran}
 use Rattle.swallow_top.specs.Smooth.{WentSmoothly, IsSmoothRun, pages_for, volumes_of_blank}
-use Rattle.swallow_top.proofs.PageLemmas.{blank-none}
+use Rattle.plan_volumes.proofs.BlankImageLemmas.{blank-none}
 use Rattle.swallow_top.proofs.SmoothLemmas.{complete, none-down}
 use Rattle.swallow_top.proofs.StandingLemmas.{none-open}
 use Rattle.swallow_top.specs.Contract.{IsSmooth}

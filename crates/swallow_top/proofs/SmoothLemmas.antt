@@ -56,7 +56,8 @@ use Rattle.complete_law.proofs.Stops.{nothing-stops}
 use Rattle.swallow_top.specs.Finished.{AllBegun}
 use Rattle.swallow_top.specs.Smooth.{WentSmoothly, IsSmoothRun, WasRefused}
 use Rattle.swallow_top.proofs.DownLemmas.{life-down}
-use Rattle.swallow_top.proofs.PageLemmas.{apart-filled, blank-count, blank-none, filled-append, filled-reverse}
+use Rattle.plan_volumes.proofs.BlankImageLemmas.{blank-count, blank-none}
+use Rattle.swallow_top.proofs.PageLemmas.{apart-filled, filled-append, filled-reverse}
 use Rattle.swallow_top.proofs.StandingLemmas.{all-finished, all-tries}
 use Rattle.complete_law.proofs.SerialRanges.{in-range, within}
 

@@ -1,6 +1,5 @@
 //! The history of an object.
-ghost use Rattle.std.specs.Prelude.{◌≡◌, ◌⊎◌, IfOk};
-ghost use Rattle.report_writer.specs.Reports.{down_text};
+ghost use Rattle.std.specs.Prelude.{◌⊎◌};
 ghost use Rattle.plan_volumes.specs.Shelves.{shelf_sight};
 ghost use Rattle.swallow_top.specs.Histories.{AskedNothing, TellsHistory, TellsText, TellsVolumes};
 ghost use Rattle.swallow_top.specs.Written.{sinking};
@@ -10,20 +9,11 @@ use medium_port::{Medium, Shelf};
 use plan_volumes::{
     Kept, Opening, Standing, give_back, keep_volumes, node_log, open_volumes, stand_of,
 };
-use pseudo_time::{DownCause, NodeId};
-use report_writer::{Down, history, push_downs};
+use pseudo_time::NodeId;
+use report_writer::{down_line, history};
 use std::alloc::{AllocError, Global};
 use stream_port::Sink;
 use value_form::{Bytes, ObjectId};
-
-// The line of a node that can't be opened.
-fn down_line(alloc: Global, node: NodeId, cause: DownCause) -> Result<Bytes, AllocError>
-    ensures { IfOk result (λ text. text ≡ down_text (record { node = node; cause = cause })) }
-{
-    let mut text = Vec::new(alloc);
-    push_downs(alloc, &mut text, &[Down { node, cause }])?;
-    Ok(Bytes::of(text))
-}
 
 /// Writes a text. The answer is the status: `written` where the sink took all of it.
 pub fn tell_text<O: Sink>(text: Result<Bytes, AllocError>, written: u8, sink: &mut O) -> u8

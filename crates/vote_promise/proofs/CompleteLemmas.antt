@@ -46,7 +46,7 @@ use Rattle.vote_law.proofs.CauseLemmas.{at-if, flagged-up}
 use Rattle.vote_law.proofs.WalkLemmas.{meets-parts, walk-append}
 use Rattle.vote_law.specs.Smooth.{AreVotes, HasQuorum, HoldAll, IsCalm, IsFit, IsPlain, TicksForPolls, WishAlike, is_vote_effect}
 use Rattle.vote_law.proofs.LawLemmas.{all-quiet, all-still, few-letters, idle-holds, short-logs, votes-alone}
-use Rattle.vote_promise.proofs.BlankLemmas.{blank-count, blank-none}
+use Rattle.run_media.proofs.BlankImageLemmas.{blank-count, blank-none}
 use Rattle.vote_promise.proofs.ClauseLemmas.{clash, some-one, unopened-from}
 use Rattle.vote_promise.specs.Clauses.{AllHold, AreCounted, AreDownFor, AreSound, Became, Completes, HasEnded, HasRunOut, IsSmooth, IsSound, KeepsLog, RestoresLogs, gated_log, open_effects}
 

@@ -1,3 +1,2 @@
-pub mod BlankLemmas
 pub mod ClauseLemmas
 pub mod CompleteLemmas

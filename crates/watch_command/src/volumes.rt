@@ -8,11 +8,12 @@ ghost use Rattle.run_volumes.specs.Volumes.{AreOpen, logs_of};
 ghost use Rattle.watch_command.specs.Totals as totals;
 ghost use Rattle.watch_command.specs.Watches as spec;
 
-use archive_command::{Outcome, archived_of, down_line, fallen};
+use archive_command::{Outcome, archived_of, fallen};
 use command_words::Rule;
 use medium_port::Medium;
 use object_history::Mark;
 use pseudo_time::NodeId;
+use report_writer::down_line;
 use run_volumes::{Opening, Standing, stand_of};
 use std::alloc::{AllocError, Global};
 

@@ -1,10 +1,12 @@
-//! Lines that the texts begin with, and those that tell why there is no text.
+//! Lines that tell why a command gave no text.
 ghost use Rattle.std.specs.Prelude.{◌≡◌, IfOk};
+ghost use Rattle.report_writer.specs.Lines as spec;
 ghost use Rattle.report_writer.specs.Reports.{down_text};
-ghost use Rattle.archive_command.specs.Lines as lines;
 
+use crate::pieces::{push_object, push_time};
+use crate::records::Down;
+use crate::writing::push_downs;
 use pseudo_time::{DownCause, NodeId, PseudoTime};
-use report_writer::{Down, push_downs, push_object, push_time};
 use std::alloc::{AllocError, Global};
 use value_form::{Bytes, ObjectId};
 
@@ -14,7 +16,7 @@ pub fn undecided_line(
     object: ObjectId,
     start: PseudoTime,
 ) -> Result<Bytes, AllocError>
-    ensures { IfOk result (λ text. text ≡ lines.undecided_line object start) }
+    ensures { IfOk result (λ text. text ≡ spec.undecided_line object start) }
 {
     let mut text = Vec::new(alloc);
     text.extend_from_slice(b"swallow: undecided ")?;

@@ -1,5 +1,5 @@
 -- A blank image has an empty log, and all of its pages are blank.
-use Rattle.std.proofs.Common.{◌≡◌, ◌+◌, ◌≤◌, ◌∙◌, ◌==◌, ◌&&◌, ℕ, suc, Bool, true, false, List, [], ◌∷◌, Ok, drop, length, refl, ap, arith, if◌then◌else◌}
+use Rattle.std.proofs.Common.{◌≡◌, ◌+◌, ◌≤◌, ◌∙◌, ◌==◌, ℕ, suc, Bool, true, List, [], ◌∷◌, Ok, drop, length, refl, ap, arith, if◌then◌else◌}
 use Rattle.std.specs.Prelude.{cond, slice_index, slice_index_or}
 use Rattle.std.proofs.lemmas.Bool.{eq-eqb}
 use Rattle.std.specs.List.{count_by}
@@ -8,15 +8,11 @@ use Rattle.medium_port.specs.Image.{Image, IsBlankImage, page_of}
 use Rattle.page_gate.specs.States.{is_blank, state_of}
 use Rattle.page_gate.specs.declared.pages.PageState.{PageState}
 use Rattle.page_gate.specs.declared.pages.PageState.TheVariants.{Blank, Spoiled, Gated}
+use Rattle.broker_core.proofs.SoundLemmas.{and-both}
 use Rattle.version_store.specs.Storage.{Content, Reading, Ended, begun, content_of, effects_found, finish, next, scan, storage}
-
-and-both : {a b : Bool} → a ≡ true → b ≡ true → (a && b) ≡ true
-and-both {a} {b} e f = ap (λ t. t && b) e ∙ f
 
 state-blank : (p : List ℕ) → is_blank p ≡ true → state_of p ≡ Blank
 state-blank p e = ap (λ (t : Bool). if t then Blank else if slice_index p 0 == 165 then Gated (drop 1 p) else Spoiled) e
-
--- ---- blank images
 
 blank-all : (page : List ℕ) → ((at : ℕ) → slice_index_or page at 0 ≡ 0) → is_blank page ≡ true
 blank-all [] h = refl
