@@ -27,7 +27,7 @@ use Rattle.broker_node.proofs.PhaseLemmas.{kept-on, passes-on, passes-here, pass
 use Rattle.broker_node.specs.TurnNodes.{NodeParts, Adds, StaysWhole, IsCondition, TurnsTo, MeetsWith, sight}
 use Rattle.broker_node.proofs.TrailLemmas.{costs-append, adds-more, adds-none}
 use Rattle.broker_node.proofs.TurnPageLemmas.{whole-same}
-use Rattle.node_rounds.specs.Nodes.{IsKeptNow, IsKeptThrough, GoesOn, HadTurn, HasMet, HasAllOf, HasPass, HasSeen, IsReady}
+use Rattle.node_rounds.specs.Nodes.{IsKeptNow, IsKeptThrough, GoesOn, HasMet, HasAllOf, HasPass, HasSeen, IsReady}
 use Rattle.node_rounds.proofs.PageLemmas.{intact-joins}
 use Rattle.node_rounds.proofs.PairLemmas.{zip-same, zip-through, zip-with}
 
@@ -179,8 +179,3 @@ module _ {M : Type 0} (tells : Bool) (stages : M → List Stage) where
         }) in
         passes-on p (subst (λ (n : NodeId). PassesOn n (sight b) (sight c) (stages b.medium) (stages c.medium)) g.node q);
   }
-
-module _ {M Q A : Type 0} (lock : LockTable WireParts (View WireParts Entry) (Founding WireParts) Q A) (tells : Bool) (faults : M → ℕ) (reads : M → Image) (stages : M → List Stage) where
-  -- a turn behind others
-  pub had-again : (a b c : NodeParts M) → HadTurn lock tells faults reads stages a b → IsReady lock b → HadTurn lock tells faults reads stages b c → HadTurn lock tells faults reads stages a c
-  had-again a b c had ready more = record { pass = more.pass; went = goes-joins tells faults reads a b c had.went ready.up more.went; kept = kept-joins tells stages a b c had.kept ready.up more.kept }

@@ -11,6 +11,7 @@ use Rattle.broker_node.specs.Wires.{WireParts}
 use Rattle.broker_node.specs.TurnNodes.{NodeParts}
 use Rattle.node_rounds.specs.Nodes.{Shares, EachNode, EachPlace, GoesOn, IsKeptThrough, HadTurn, HasAllOf, HasMet, HasPass, IsReady, IsUp}
 use Rattle.node_rounds.proofs.RoundLemmas.{goes-same, goes-met, goes-joins, has-more, kept-same, kept-met, kept-joins}
+use Rattle.node_rounds.proofs.TurnedLemmas.{went-turned, kept-turned}
 use Rattle.node_rounds.proofs.WantedLemmas.{SameName}
 use Rattle.node_rounds.proofs.ShareLemmas.{each-weaker, each-both, each-through, place-same, place-with, place-through}
 
@@ -32,7 +33,7 @@ module _ {M Q A : Type 0} (lock : LockTable WireParts (View WireParts Entry) (Fo
 
   -- a round, and meetings behind it
   pub went-round : (old mid new : Shares M) → EachPlace (HadTurn lock tells faults reads stages) old mid → EachPlace HasMet mid new → Went old new
-  went-round old mid new had met = place-through (HadTurn lock tells faults reads stages) HasMet (GoesOn tells faults reads) (λ x y z h m. goes-met tells faults reads x y z h.went m) old mid new had met
+  went-round old mid new had met = place-through (HadTurn lock tells faults reads stages) HasMet (GoesOn tells faults reads) (λ x y z h m. goes-met tells faults reads x y z (went-turned lock tells faults reads stages x y h) m) old mid new had met
 
   pub went-met : (old mid new : Shares M) → Went old mid → EachPlace HasMet mid new → Went old new
   went-met old mid new went met = place-through (GoesOn tells faults reads) HasMet (GoesOn tells faults reads) (goes-met tells faults reads) old mid new went met
@@ -51,7 +52,7 @@ module _ {M Q A : Type 0} (lock : LockTable WireParts (View WireParts Entry) (Fo
   kept-none nodes ready = place-same (IsReady lock) (IsKeptThrough tells stages) (λ n r. kept-same tells stages n) nodes ready
 
   pub kept-round : (old mid new : Shares M) → EachPlace (HadTurn lock tells faults reads stages) old mid → EachPlace HasMet mid new → Kept old new
-  kept-round old mid new had met = place-through (HadTurn lock tells faults reads stages) HasMet (IsKeptThrough tells stages) (λ x y z h m. kept-met tells stages x y z h.kept h.pass.own m) old mid new had met
+  kept-round old mid new had met = place-through (HadTurn lock tells faults reads stages) HasMet (IsKeptThrough tells stages) (λ x y z h m. kept-met tells stages x y z (kept-turned lock tells faults reads stages x y h) h.pass.own m) old mid new had met
 
   pub kept-again : (old mid new : Shares M) → EachNode (HasPass lock) mid → Kept old mid → EachPlace HasMet mid new → Kept old new
   kept-again old mid new passes kept met = place-through (IsKeptThrough tells stages) (λ y z. HasPass lock y × HasMet y z) (IsKeptThrough tells stages) (λ x y z p q. kept-met tells stages x y z p q.0.own q.1)

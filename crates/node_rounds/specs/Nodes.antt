@@ -1,8 +1,9 @@
 -- The nodes of a run between rounds.
-use Rattle.std.specs.Prelude.{◌≡◌, ◌≢◌, ℕ, Bool, List, IsTrue, All, Any}
+use Rattle.std.specs.Prelude.{◌≡◌, ◌≢◌, ℕ, Bool, List, Result, IsTrue, All, Any}
 use Rattle.std.specs.List.{AllZip}
 use Rattle.std.specs.declared.vec.Vec.{Vec}
 use Rattle.std.specs.declared.alloc.Global.{Global}
+use Rattle.std.specs.declared.alloc.AllocError.{AllocError}
 use Rattle.medium_port.specs.Image.{Image}
 use Rattle.medium_port.specs.Moment.{Stage, LeftNow}
 use Rattle.seat_lock.specs.declared.views.View.{View}
@@ -13,10 +14,11 @@ use Rattle.world_core.specs.declared.entries.Entry.{Entry}
 use Rattle.broker_node.specs.Wires.{WireParts}
 use Rattle.broker_node.specs.Sights.{IsOf, IsWirePass, Looked, Owns, life_at}
 use Rattle.broker_node.specs.Condition.TheVariants as condition
+use Rattle.broker_node.specs.Turned.{Turned}
 use Rattle.broker_node.specs.Costs.{costs, PaysFor}
 use Rattle.broker_node.specs.Lives.{IsKept}
 use Rattle.broker_node.specs.Windows.{PassesOn}
-use Rattle.broker_node.specs.TurnNodes.{NodeParts, Adds, StaysWhole, sight}
+use Rattle.broker_node.specs.TurnNodes.{NodeParts, Adds, StaysWhole, TurnsTo, sight}
 
 -- ---- shares
 
@@ -87,8 +89,8 @@ module _ {M Q A : Type 0} (lock : LockTable WireParts (View WireParts Entry) (Fo
     pub pass : HasPass n
     pub up : IsUp n
 
-  -- a node after a turn
+  -- a node that had a turn, with this answer; several that follow each other are told as one
   pub record HadTurn (tells : Bool) (faults : M → ℕ) (reads : M → Image) (stages : M → List Stage) (old new : NodeParts M) : Type 0 where
     pub pass : HasPass new
-    pub went : GoesOn tells faults reads old new
-    pub kept : IsKeptThrough tells stages old new
+    pub answer : Result Turned AllocError
+    pub turned : TurnsTo tells faults reads stages old new answer

@@ -1,4 +1,4 @@
-use Rattle.node_rounds.proofs.RoundLemmas.{had-again}
+use Rattle.node_rounds.proofs.TurnedLemmas.{had-again}
 use Rattle.node_rounds.proofs.nodes.RunNodeTurnsSharedWire.turns_join.Goals as goal
 
 pub returns : goal.returns
