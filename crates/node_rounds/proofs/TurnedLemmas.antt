@@ -50,9 +50,6 @@ with-memory (Err e) c P is f = tt
 -- ---- what a node that had a turn went through
 
 module _ {M Q A : Type 0} (lock : LockTable WireParts (View WireParts Entry) (Founding WireParts) Q A) (tells : Bool) (faults : M → ℕ) (reads : M → Image) (stages : M → List Stage) where
-  pub had-turned : (old new : NodeParts M) (r : Result Turned AllocError) → HasPass lock new → TurnsTo tells faults reads stages old new r → HadTurn lock tells faults reads stages old new
-  had-turned old new r pass t = record { pass = pass; answer = r; turned = t }
-
   pub went-turned : (old new : NodeParts M) → HadTurn lock tells faults reads stages old new → GoesOn tells faults reads old new
   went-turned old new h = goes-turned tells faults reads old new h.answer h.turned
 

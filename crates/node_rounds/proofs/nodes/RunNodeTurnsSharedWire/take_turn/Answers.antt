@@ -1,17 +1,16 @@
 use Rattle.std.proofs.Common.{◌∙◌, ap, sym, subst}
 use Rattle.broker_node.specs.TurnNodes.{NodeParts, TurnsTo}
 use Rattle.node_rounds.specs.Kinds.{parts_of}
-use Rattle.node_rounds.proofs.TurnedLemmas.{had-turned}
 use Rattle.node_rounds.proofs.nodes.RunNodeTurnsSharedWire.take_turn.Goals as goal
 
 pub returns-in-Repository : goal.returns-in-Repository
 returns-in-Repository g c =
     let t = c.turn-node in
     let turned = subst (λ (n : NodeParts g.row.M.Denot). TurnsTo g.M.Medium.tells g.M.Medium.faults g.M.Medium.reads g.M.Medium.stages n t.result.0 t.result.1) (ap parts_of (sym c.in-Repository.is) ∙ c.self.view_is) t.ensures.turns in
-    record { does = had-turned c.args.shared.now.lock g.M.Medium.tells g.M.Medium.faults g.M.Medium.reads g.M.Medium.stages c.args.self t.result.0 t.result.1 t.ensures.pass turned }
+    record { does = record { pass = t.ensures.pass; answer = t.result.1; turned = turned } }
 
 pub returns-in-Broker : goal.returns-in-Broker
 returns-in-Broker g c =
     let t = c.turn-node-in-Broker in
     let turned = subst (λ (n : NodeParts g.row.M.Denot). TurnsTo g.M.Medium.tells g.M.Medium.faults g.M.Medium.reads g.M.Medium.stages n t.result.0 t.result.1) (ap parts_of (sym c.in-Broker.is) ∙ c.self.view_is) t.ensures.turns in
-    record { does = had-turned c.args.shared.now.lock g.M.Medium.tells g.M.Medium.faults g.M.Medium.reads g.M.Medium.stages c.args.self t.result.0 t.result.1 t.ensures.pass turned }
+    record { does = record { pass = t.ensures.pass; answer = t.result.1; turned = turned } }
