@@ -1,6 +1,7 @@
 pub mod Asides
 pub mod Volumes
 pub use Rattle.run_volumes.specs.Kept
+pub use Rattle.run_volumes.specs.declared.kept.Kept as KeptMedium
 pub use Rattle.run_volumes.specs.Media
 pub use Rattle.run_volumes.specs.Opening
 pub use Rattle.run_volumes.specs.Openings

@@ -40,7 +40,7 @@ use Rattle.swallow_top.specs.Contract.{IsSmooth}
 use Rattle.plan_volumes.specs.Shelves.{IsGiven, IsTaken, ShelfSight, first_names, is_missing, volume_name}
 use Rattle.plan_volumes.specs.RunVolumes.{EndRightly, GoOn, follows, goes_on}
 use Rattle.plan_volumes.specs.Kept.{kept_under}
-use Rattle.plan_volumes.specs.Kept.{Kept}
+use Rattle.plan_volumes.specs.KeptMedium.{Kept}
 use Rattle.plan_volumes.specs.Volumes.{HasVolumes, IsNodes, NodeVolumes, all_left, all_taken, names_from, work_taken, working}
 use Rattle.plan_volumes.proofs.ApartLemmas.{ends-some, working-below, zip-long}
 use Rattle.plan_volumes.proofs.PlaceLemmas.{node-given, node-there, volume-at, work-kept}

@@ -10,7 +10,7 @@ use Rattle.report_writer.specs.Histories.{history_text}
 use Rattle.plan_volumes.specs.Opening.{Opening}
 use Rattle.plan_volumes.specs.Media.{Media}
 use Rattle.plan_volumes.specs.Openings.{HasOpened, medium_in}
-use Rattle.plan_volumes.specs.Kept.{Kept}
+use Rattle.plan_volumes.specs.KeptMedium.{Kept}
 use Rattle.plan_volumes.specs.Kept.{AllKept, kept_under}
 use Rattle.plan_volumes.specs.Shelves.{ShelfSight, first_names}
 use Rattle.plan_volumes.specs.Standings.{HasShut}

@@ -4,7 +4,7 @@ use Rattle.std.proofs.lemmas.Slice.Zip.{AllZip-long}
 use Rattle.plan_volumes.specs.Opening.{Opening}
 use Rattle.plan_volumes.specs.Media.{Media}
 use Rattle.plan_volumes.specs.Openings.{HasOpened, medium_in}
-use Rattle.plan_volumes.specs.Kept.{Kept}
+use Rattle.plan_volumes.specs.KeptMedium.{Kept}
 use Rattle.plan_volumes.specs.Kept.{AllKept, kept_under}
 use Rattle.plan_volumes.specs.Shelves.{ShelfSight, first_names}
 use Rattle.plan_volumes.specs.RunVolumes.{logs_of}

@@ -22,7 +22,7 @@ use Rattle.plan_volumes.specs.Media.{Media}
 use Rattle.run_rounds.specs.Ends.{some_down}
 use Rattle.run_rounds.specs.Runs.{Account}
 use Rattle.plan_volumes.specs.Kept.{AllKept}
-use Rattle.plan_volumes.specs.Kept.{Kept}
+use Rattle.plan_volumes.specs.KeptMedium.{Kept}
 use Rattle.swallow_top.specs.declared.reports.Wanted.{Wanted}
 use Rattle.swallow_top.specs.declared.reports.Wanted.TheVariants.{Report, Summary}
 use Rattle.swallow_top.specs.declared.stops.Stop.{Stop}

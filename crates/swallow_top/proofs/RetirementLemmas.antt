@@ -4,7 +4,7 @@ use Rattle.std.proofs.lemmas.Slice.Zip.{AllZip-long}
 use Rattle.pseudo_time.specs.Nodes.{repository as named}
 use Rattle.pseudo_time.specs.TimeParts.{TimeParts}
 use Rattle.plan_volumes.specs.Media.{IsBack, Media}
-use Rattle.plan_volumes.specs.Kept.{Kept}
+use Rattle.plan_volumes.specs.KeptMedium.{Kept}
 use Rattle.plan_volumes.specs.Kept.{AllKept, kept_under}
 use Rattle.plan_volumes.specs.Shelves.{ShelfSight, first_names}
 use Rattle.plan_volumes.proofs.ShelfLemmas.{all-kept}

@@ -21,7 +21,7 @@ use Rattle.complete_law.specs.Reasons.{AddedHaveReasons, HaveReasons}
 use Rattle.run_rounds.specs.Places.{PlacesHavePasts}
 use Rattle.plan_volumes.specs.Kept.{AllKept}
 use Rattle.plan_volumes.specs.Shelves.{ShelfSight}
-use Rattle.plan_volumes.specs.Kept.{Kept}
+use Rattle.plan_volumes.specs.KeptMedium.{Kept}
 use Rattle.plan_volumes.specs.Volumes.{HadMemory, HasVolumes, NodeVolumes, work_taken}
 use Rattle.swallow_top.specs.declared.reports.Wanted.{Wanted}
 use Rattle.swallow_top.specs.Contract.{CameOf, Completes, RanOver, RunsPlan, WantedMemory}

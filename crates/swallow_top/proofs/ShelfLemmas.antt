@@ -13,7 +13,7 @@ use Rattle.plan_volumes.specs.Places.{node_count}
 use Rattle.run_rounds.specs.Finishes.{IsKeptWhole, HasItsLog}
 use Rattle.plan_volumes.specs.Kept.{AllKept, kept_under, node_of}
 use Rattle.plan_volumes.specs.Shelves.{IsGiven, IsTaken, ShelfSight}
-use Rattle.plan_volumes.specs.Kept.{Kept}
+use Rattle.plan_volumes.specs.KeptMedium.{Kept}
 use Rattle.plan_volumes.proofs.ShelfLemmas as volumes
 use Rattle.plan_volumes.specs.Asides.{AreApart, IsAside}
 use Rattle.plan_volumes.specs.Volumes.{HasVolumes, NodeVolumes, all_left, all_taken, names_from, work_taken}

@@ -9,7 +9,7 @@ use Rattle.run_rounds.specs.Runs.{Account}
 use Rattle.run_rounds.specs.Stories.{no_trace}
 use Rattle.plan_volumes.specs.Kept.{AllKept}
 use Rattle.plan_volumes.specs.Shelves.{ShelfSight}
-use Rattle.plan_volumes.specs.Kept.{Kept}
+use Rattle.plan_volumes.specs.KeptMedium.{Kept}
 use Rattle.plan_volumes.proofs.ShelfLemmas.{all-kept}
 use Rattle.command_words.specs.declared.commands.Options.{Options}
 use Rattle.votes_command.specs.Ends.{EndsAs}

@@ -23,7 +23,7 @@ use Rattle.complete_law.specs.Calm.{IsPlain}
 use Rattle.run_rounds.specs.Places.{PlacesHavePasts}
 use Rattle.votes_command.specs.Texts as votes
 use Rattle.plan_volumes.specs.Shelves.{ShelfSight, volume_name}
-use Rattle.plan_volumes.specs.Kept.{Kept}
+use Rattle.plan_volumes.specs.KeptMedium.{Kept}
 use Rattle.plan_volumes.specs.Volumes.{HadMemory, HasVolumes, NodeVolumes, work_taken}
 use Rattle.swallow_top.specs.Smooth.{AskAtMost, WentSmoothly, messages_for, pages_for, volumes_of_blank}
 use Rattle.swallow_top.specs.declared.reports.Wanted.{Wanted}

@@ -1,7 +1,7 @@
 -- How it is told what came of a command over the volumes of a repository: a question to its archive, or a watch.
 use Rattle.std.specs.Prelude.{◌≡◌, ◌⊎◌, ℕ, List}
 use Rattle.plan_volumes.specs.Media.{Media}
-use Rattle.plan_volumes.specs.Kept.{Kept}
+use Rattle.plan_volumes.specs.KeptMedium.{Kept}
 use Rattle.plan_volumes.specs.Shelves.{ShelfSight}
 use Rattle.plan_volumes.specs.RunVolumes.{logs_of}
 use Rattle.archive_promise.specs.Outcome.{Outcome}

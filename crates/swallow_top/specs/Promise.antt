@@ -12,7 +12,7 @@ use Rattle.command_words.specs.Words.{AreWords, AreNone}
 use Rattle.plan_volumes.specs.Media.{Media}
 use Rattle.run_rounds.specs.Runs.{Account}
 use Rattle.plan_volumes.specs.Kept.{AllKept}
-use Rattle.plan_volumes.specs.Kept.{Kept}
+use Rattle.plan_volumes.specs.KeptMedium.{Kept}
 use Rattle.swallow_top.specs.declared.reports.Wanted.TheVariants.{Report, Summary}
 use Rattle.swallow_top.specs.Contract.{HasNoRun, IsNoPlan, RunsPlan}
 use Rattle.swallow_top.specs.Histories.{TellsHistory}

@@ -9,7 +9,7 @@ use Rattle.plan_volumes.specs.Media.{Media}
 use Rattle.run_rounds.specs.Runs.{Account}
 use Rattle.run_rounds.specs.Stories.{no_trace}
 use Rattle.plan_volumes.specs.Shelves.{ShelfSight}
-use Rattle.plan_volumes.specs.Kept.{Kept}
+use Rattle.plan_volumes.specs.KeptMedium.{Kept}
 use Rattle.world_core.specs.Counts.{tick_count}
 use Rattle.votes_command.specs.Ends.{tellers}
 use Rattle.votes_command.specs.Tellings.{some_down, told_text}
