@@ -121,7 +121,8 @@ pub fn lab<I: Source, O: Sink, R: Threads + Wait + Sync>(
     source: &mut I,
     sink: &mut O,
 ) -> Finish<MemoryMedium, LabFates, FixedClock>
-    ensures promise { spec.LabPromise (ran result.status result.trace result.media result.fates result.clock result.votes
+    ensures promise { spec.LabPromise
+        (ran result.status result.trace result.media result.fates result.clock result.votes
         (I.left source.old) (I.left source.new) (I.faults source.old) (I.faults source.new)
         (sinking (O.taken sink.old) (O.taken sink.new) (O.faults sink.old) (O.faults sink.new))) (said words.now) }
 {
