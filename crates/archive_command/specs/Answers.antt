@@ -114,7 +114,7 @@ IsFallen (Err e) r = r ≡ NoMemory
 -- ---- the whole of it
 
 module _ {M : Type 0} (w : Media M) (old new : ShelfSight) where
-  -- Memory was wanting before any medium was asked for.
+  -- Memory ran out before any medium was asked for.
   pub record TookNothing (kept : List (Kept M)) (r : Outcome) : Type 0 where
     pub wanting : r ≡ NoMemory
     pub none : kept ≡ []

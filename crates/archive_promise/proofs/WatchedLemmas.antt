@@ -1,4 +1,4 @@
--- A front of the puts of a watch leaves each object's old total, or the new one.
+-- A prefix of the puts of a watch leaves each object's old total, or the new one.
 use Rattle.std.proofs.Common.{◌≡◌, ◌⊎◌, inl, inr, ℕ, zero, suc, Bool, true, false, List, [], ◌∷◌, ◌++◌, map, filter, take, refl, sym, ◌∙◌, ap, subst, Option, Some, None, if◌then◌else◌}
 use Rattle.std.specs.Prelude.{ℤ, pos, Ok}
 use Rattle.std.specs.Ordering.{is_eq, is_lt}
@@ -44,7 +44,7 @@ unfolding last_total
 last-append [] ys o = before-none (last_total ys o)
 last-append (f ∷ xs) ys o = ap (λ r. or_before r (if_of o (total_put f))) (last-append xs ys o) ∙ before-both (last_total ys o) (last_total xs o) (if_of o (total_put f))
 
--- what a front of such puts has of an object is one of them
+-- what a prefix of such puts has of an object is one of them
 last-in : (k : ℕ) (ws : List (Moved ℤ)) (o : ObjectId) (t : Moved ℤ) → last_total (take k (map total_effect ws)) o ≡ Some t → Has t ws × (t.object ≡ o)
 unfolding last_total
 last-in zero [] o t e = absurd (cc e)

@@ -30,7 +30,7 @@ pub record IsFirstOpen (m : List Mark) (t : TimeParts) (object : ObjectId) (star
   pub first : is_open m object t (λ x. lt x start) ≡ false
   pub least : (o : ObjectId) → object_lt o object ≡ true → is_open m o t (λ x. true) ≡ false
 
--- memory was wanting
+-- memory ran out
 abbrev pub is_wanting : WatchFault → Bool
 is_wanting fault.NoMemory = true
 is_wanting (fault.Retired o e) = false

@@ -7,7 +7,7 @@ use value_form::ObjectId;
 pub enum AsOfFault {
     /// A version below it is undecided.
     Undecided { object: ObjectId, start: PseudoTime },
-    /// The memory for it is wanting.
+    /// Memory for it ran out.
     NoMemory,
 }
 

@@ -135,7 +135,7 @@ fn yielded(
     })
 }
 
-// Why the broker can't go on from a log that led to these notes: `other` is the index of the first act
+// Why the broker can't resume from a log that led to these notes: `other` is the index of the first act
 // that isn't the plan's.
 fn resume_fault(ledger: &Ledger, other: Option<u32>) -> Option<ResumeFault>
     ensures fault { result ≡ inputs.fault_of ledger.now other }
@@ -166,7 +166,7 @@ fn is_over(ledger: &Ledger) -> bool
 impl Broker {
     ghost use Rattle.broker_core.specs.Parts.{BrokerParts};
 
-    /// The broker of this number goes on from its log, in a run with these acts.
+    /// The broker of this number resumes from its log, in a run with these acts.
     ///
     /// Numbers of brokers are 1 to 16, runs count from 1, the acts are those of a plan, and what the log
     /// says is in its ranges. OldRun exactly where the log's

@@ -1,4 +1,4 @@
-//! A broker: it carries out the acts of a plan, one attempt after another, and goes on from its log
+//! A broker: it carries out the acts of a plan, one attempt after another, and resumes from its log
 //! where a crash left it (Reed 1978, Svobodova 1981).
 #![tactic(auto)]
 

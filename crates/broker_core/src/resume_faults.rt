@@ -1,6 +1,6 @@
 use std::alloc::AllocError;
 
-/// Why a broker can't go on from a log.
+/// Why a broker can't resume from a log.
 #[derive(Clone, Copy, Debug, PartialEq, Eq)]
 pub enum ResumeFault {
     /// The log's last run, `latest`, is later than this run.

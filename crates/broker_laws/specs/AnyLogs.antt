@@ -1,4 +1,4 @@
--- What holds of a broker over any log, also one that no calls could have left: it goes on from what counts. Logs stand newest first.
+-- What holds of a broker over any log, also one that no calls could have left: it resumes from what counts. Logs stand newest first.
 use Rattle.std.specs.Prelude.{◌≡◌, ℕ, nat_lt, false, List, ◌∷◌}
 use Rattle.pseudo_time.specs.Lists.{Every}
 use Rattle.pseudo_time.specs.declared.nodes.NodeId.{NodeId}

@@ -1,5 +1,5 @@
 -- What a broker's core and the store beside it say of a life.
-use Rattle.std.proofs.Common.{◌≡◌, ℕ, true, false, List, reverse, Option, Some, is_none, Err, refl, sym, ap, subst, ◌∙◌, append_assoc}
+use Rattle.std.proofs.Common.{◌≡◌, ℕ, true, false, List, reverse, Option, Some, is_none, Ok, Err, inr, refl, sym, ap, subst, ◌∙◌, append_assoc}
 use Rattle.std.proofs.lemmas.List.{append-nil}
 use Rattle.pseudo_time.specs.Nodes.{broker}
 use Rattle.pseudo_time.specs.declared.nodes.NodeId.{NodeId}
@@ -7,6 +7,9 @@ use Rattle.value_form.specs.declared.acts.ActSpec.{ActSpec}
 use Rattle.effect_form.specs.declared.effects.Effect.{Effect}
 use Rattle.message_form.specs.declared.turns.Turn.{Turn}
 use Rattle.serial_model.specs.Questions.{Tree}
+use Rattle.medium_port.specs.Image.{Image}
+use Rattle.version_store.specs.Storage.{storage}
+use Rattle.version_store.specs.declared.faults.OpenFault.{OpenFault}
 use Rattle.version_store.specs.declared.faults.OpenFault.TheVariants as opening
 use Rattle.broker_core.specs.declared.resume_faults.ResumeFault.{ResumeFault}
 use Rattle.broker_core.specs.declared.resume_faults.ResumeFault.TheVariants as resuming
@@ -21,7 +24,7 @@ use Rattle.world_core.specs.Cores.{IsBroker, BrokerGave}
 use Rattle.world_core.specs.Nodes.{Input, broker_gives, with_desk, desk_after, acts_of, is_ready, opened_mind}
 use Rattle.world_core.specs.Walks.{Base, Life, all_effects, opened_life, gated_life, after_input}
 use Rattle.world_core.proofs.CoreTurns.{gives-broker, broker-gave}
-use Rattle.node_turn.specs.Cores.{HasTurn, IsReady, given_for}
+use Rattle.node_turn.specs.Cores.{HasTurn, IsReady, IsDamageOf, given_for}
 use Rattle.broker_node.specs.Logs.{as_damage, is_over}
 
 -- ---- turns
@@ -69,11 +72,25 @@ no-some : {A : Type 0} (o : Option A) (x : A) → o ≡ Some x → is_none o ≡
 no-some o x e h = let z : false ≡ true = sym (ap is_none e) ∙ h in cc z
 
 -- so an opening of it tells none
-pub opens-sound : (b : Base) (i r : ℕ) (acts : List ActSpec) (log : List Effect) (f : ResumeFault) (page : ℕ) → b.run ≡ r → acts ≡ acts_of i b.acts → IsReady b (broker i) log → Opens b.script i r acts log (Err f)
+opens-sound : (b : Base) (i r : ℕ) (acts : List ActSpec) (log : List Effect) (f : ResumeFault) (page : ℕ) → b.run ≡ r → acts ≡ acts_of i b.acts → IsReady b (broker i) log → Opens b.script i r acts log (Err f)
     → as_damage f ≡ opening.Damaged page → ⊥
 opens-sound b i r acts log resuming.NoMemory page run own h o e = cc e
 opens-sound b i r acts log (resuming.OldRun n) page run own h o e = no-some (resume_fault b.script i r (tasks acts) (reverse log)) (resuming.OldRun n) o (no-fault b i r acts log run own h)
 opens-sound b i r acts log (resuming.OtherPlan n) page run own h o e = no-some (resume_fault b.script i r (tasks acts) (reverse log)) (resuming.OtherPlan n) o (no-fault b i r acts log run own h)
+
+page-same : (a b : ℕ) → ◌≡◌ {A = OpenFault} (opening.Damaged a) (opening.Damaged b) → a ≡ b
+page-same a b e = cc e
+
+-- it counts as damage of the first page
+first-page : (f : ResumeFault) (page : ℕ) → as_damage f ≡ opening.Damaged page → page ≡ 0
+first-page resuming.NoMemory page e = absurd (cc e)
+first-page (resuming.OldRun n) page e = sym (page-same 0 page e)
+first-page (resuming.OtherPlan n) page e = sym (page-same 0 page e)
+
+-- which is the damage of the image on which it stands
+pub opens-damaged : (b : Base) (i r : ℕ) (acts : List ActSpec) (log : List Effect) (image : Image) (f : ResumeFault) (page : ℕ) → b.run ≡ r → acts ≡ acts_of i b.acts → storage image ≡ Ok log → Opens b.script i r acts log (Err f)
+    → as_damage f ≡ opening.Damaged page → IsDamageOf b (broker i) image page
+opens-damaged b i r acts log image f page run own found o e = inr (first-page f page e, log, found, λ ready. opens-sound b i r acts log f page run own ready o e)
 
 -- and nothing counts as a fault of the medium
 pub no-medium : (f : ResumeFault) → as_damage f ≡ opening.Medium → ⊥

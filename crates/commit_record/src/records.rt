@@ -58,7 +58,7 @@ impl Records {
     }
 
     /// Makes a record of an attempt, unknown until this deadline, unless there is one. Where memory
-    /// is wanting, the records are as before.
+    /// runs out, the records are as before.
     pub fn begin(&mut self, stamp: Stamp, deadline: u64) -> Result<BeginStep, AllocError>
         ensures step { IfOk result (λ s. s ≡ begin_step (finite.get self.old stamp)) }
         ensures begun { OnOk result (self.new ≡ begun self.old stamp deadline) }
@@ -139,7 +139,7 @@ impl Records {
     }
 
     /// Every unknown record whose deadline is at most the moment expires. They are listed in the
-    /// order of their stamps. Where memory is wanting, the records are as before.
+    /// order of their stamps. Where memory runs out, the records are as before.
     pub fn hear(&mut self, moment: u64) -> Result<Vec<(Stamp, Decision)>, AllocError>
         ensures heard { OnOk result ((q : StampParts) → finite.get self.new q ≡ heard moment (finite.get self.old q)) }
         ensures listed { IfOk result (λ l. (q : StampParts) →

@@ -22,7 +22,7 @@ pub trait WatchRule {
 /// What is called at each version. Every closure of this form is one.
 pub trait Callback<R: WatchRule> {
     /// It may be called on every total and version, and then answers what the rule says, unless
-    /// memory is wanting.
+    /// memory runs out.
     ghost follows: { Self → Type 0 };
 
     fn next(&self, total: &R::Total, version: &Version) -> Result<Option<R::Total>, AllocError>

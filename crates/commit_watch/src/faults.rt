@@ -9,7 +9,7 @@ pub enum WatchFault {
     Retired { object: ObjectId, floor: PseudoTime },
     /// The rule gives no total at this version.
     Overflow { object: ObjectId, start: PseudoTime },
-    /// The memory for it is wanting.
+    /// Memory for it ran out.
     NoMemory,
 }
 

@@ -135,7 +135,7 @@ impl<R: WatchRule, F: Callback<R> + Drop> Watches<R, F> {
         }
     }
 
-    /// Adds an object with what it came to. Where memory is wanting, all is as before.
+    /// Adds an object with what it came to. Where memory runs out, all is as before.
     pub fn restore(
         &mut self,
         object: ObjectId,

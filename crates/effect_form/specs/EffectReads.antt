@@ -6,12 +6,12 @@ use Rattle.effect_form.specs.declared.faults.EffectFault.{EffectFault}
 use Rattle.effect_form.specs.declared.faults.EffectFault.TheVariants.{Form, NoMemory}
 use Rattle.effect_form.specs.Effects.{Written}
 
--- a fault is that of the reading, unless memory was wanting
+-- a fault is that of the reading, unless memory ran out
 abbrev pub Fails : {A : Type 0} → EffectFault → Result A ℕ → Type 0
 Fails (Form at) reading = reading ≡ Err at
 Fails NoMemory reading = Unit {0}
 
--- the answer, seen by view, is what the reading gives, unless memory was wanting
+-- the answer, seen by view, is what the reading gives, unless memory ran out
 abbrev pub Gives : {A B : Type 0} → (A → B) → Result A EffectFault → Result B ℕ → Type 0
 Gives view (Ok x) reading = reading ≡ Ok (view x)
 Gives view (Err fault) reading = Fails fault reading

@@ -316,7 +316,7 @@ pub fn read(alloc: Global, bytes: &[u8]) -> Result<(Effect, Option<Place>, usize
     // What is read stands so in the bytes.
     ensures found { IfOk result (λ p. IsWritten (p.0, p.1) × (p.2 ≤ length bytes.now) ×
         (take p.2 bytes.now ≡ effect_bytes (p.0, p.1))) }
-    // What stands in the bytes is read, unless memory is wanting.
+    // What stands in the bytes is read, unless memory runs out.
     ensures only { (w : Written) (rest : List ℕ) → IsWritten w → bytes.now ≡ effect_bytes w ++ rest →
         GivesCount result (length bytes.now) (Ok (w, rest)) }
     // Where it isn't, at which place.

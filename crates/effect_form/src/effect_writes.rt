@@ -203,7 +203,7 @@ fn bytes_of(alloc: Global, effect: &Effect, back: Option<Place>) -> Result<Vec<u
     Ok(out)
 }
 
-/// Appends the bytes of an effect. Only a Put may have a back place. Where memory is wanting, `out`
+/// Appends the bytes of an effect. Only a Put may have a back place. Where memory runs out, `out`
 /// is as before.
 pub fn write(
     alloc: Global,

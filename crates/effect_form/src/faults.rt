@@ -6,7 +6,7 @@ pub enum EffectFault {
     /// No front of the bytes is an effect. The field that begins at this place is missing, cut short
     /// or out of range.
     Form { at: usize },
-    /// Memory is wanting.
+    /// Memory ran out.
     NoMemory,
 }
 

@@ -136,7 +136,7 @@ fn put_expression(alloc: Global, out: &mut Vec<u8>, expression: &Expr) -> Result
 }
 
 /// Appends the canonical text, with exactly the parentheses that the levels of its operators need.
-/// Where memory is wanting, `out` is as before.
+/// Where memory runs out, `out` is as before.
 pub fn print_expression(
     alloc: Global,
     out: &mut Vec<u8>,

@@ -7,7 +7,7 @@ pub enum ReadFault {
     Syntax,
     /// They do, with an expression that is deeper than 16.
     Depth,
-    /// Memory is wanting.
+    /// Memory ran out.
     NoMemory,
 }
 

@@ -55,7 +55,7 @@ impl<T> Stack<T> {
 }
 
 impl<T: Drop> Stack<T> {
-    /// Puts one on top. Where memory is wanting, it is let go.
+    /// Puts one on top. Where memory runs out, it is let go.
     pub fn push(&mut self, item: T) -> Result<(), AllocError>
         ensures { OnOk result (self.new ≡ item ∷ self.old) }
     {

@@ -11,7 +11,7 @@ const MOST_NODES: u8 = 16;
 /// The greatest number of a volume.
 const MOST_VOLUMES: u32 = 65_536;
 
-/// Why a folder wasn't read: memory is wanting.
+/// Why a folder wasn't read: memory runs out.
 #[derive(Clone, Copy)]
 pub struct LookFault;
 

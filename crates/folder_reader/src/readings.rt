@@ -22,7 +22,7 @@ pub struct Strip {
 pub enum StripFault {
     /// A call of the medium failed.
     Medium,
-    /// Memory is wanting.
+    /// Memory ran out.
     NoMemory,
 }
 

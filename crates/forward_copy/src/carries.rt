@@ -35,7 +35,7 @@ fn carried(alloc: Global, mark: PseudoTime, kept: &[Effect]) -> Result<Vec<Effec
 /// Carries what is kept forward into a fresh volume: one append of the mark, what is kept and a Whole.
 /// A refusal hands the medium back.
 ///
-/// A crash at any moment leaves a front of these effects, and only the last of the call's pages has the
+/// A crash at any moment leaves a prefix of these effects, and only the last of the call's pages has the
 /// Whole. `Full` comes exactly where they need more pages than are blank; it and `NoMemory` come before
 /// anything is written.
 pub fn carry<M: Medium>(
@@ -53,13 +53,13 @@ pub fn carry<M: Medium>(
     ensures carried { IsTrue M.tells → IfOk result (λ s. (c : Image) → M.may_leave (medium_of s) c →
         storage c ≡ Ok (between mark forward.now.kept.items)) }
 
-    // Each image that is left, at every moment, has a front of them.
+    // Each image that is left, at every moment, has a prefix of them.
     ensures images { IsTrue M.tells → (c : Image) → M.may_leave (handed result) c →
         LeavesFront (between mark forward.now.kept.items) c }
     ensures any_moment { IsTrue M.tells →
         LeavesOnly M.stages (medium_of fresh) (handed result) (LeavesFront (between mark forward.now.kept.items)) }
 
-    // Any fault but Medium comes before all writing, and Full exactly where pages are wanting.
+    // Any fault but Medium comes before all writing, and Full exactly where pages are missing.
     ensures nothing { IfErr result (λ e. e.1 ≢ StoreFault.Medium → e.0 ≡ medium_of fresh) }
     ensures full { IfErr result (λ e. (pages : ℕ) → e.1 ≡ StoreFault.Full pages →
         (pages ≡ M.page_count (medium_of fresh)) ×

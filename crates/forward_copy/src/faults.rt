@@ -9,7 +9,7 @@ pub enum ForwardFault {
     OldMark { floor: PseudoTime },
     /// A version below the mark is undecided.
     Undecided { object: ObjectId, start: PseudoTime },
-    /// Memory is wanting.
+    /// Memory ran out.
     NoMemory,
 }
 

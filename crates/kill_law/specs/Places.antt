@@ -19,13 +19,13 @@ life_by script plan t front n = (walk (base_of script plan t) front).life n
 abbrev pub life_there : Plan → Trace → List Entry → NodeId → Life
 life_there plan t front n = life_by (reading plan.acts) plan t front n
 
--- the log is the life's durable log with a beginning of its open effects
+-- the log is the life's durable log with a prefix of its open effects
 pub record IsLogOf (l : Life) (log : List Effect) : Type 0 where
   pub kept : ℕ
   pub few : kept ≤ length l.fresh
   pub is : log ≡ l.gated ++ take kept l.fresh
 
--- Each node of the plan has its durable log of this place with a beginning of its open effects, and other nodes have what they had.
+-- Each node of the plan has its durable log of this place with a prefix of its open effects, and other nodes have what they had.
 pub record LeftBy (script : List ℕ → Tree) (plan : Plan) (t : Trace) (front : List Entry) (logs after : NodeId → List Effect) : Type 0 where
   pub own : (n : NodeId) → in_plan plan n ≡ true → IsLogOf (life_by script plan t front n) (after n)
   pub others : (n : NodeId) → in_plan plan n ≡ false → after n ≡ logs n

@@ -14,7 +14,7 @@ ghost use Rattle.world_facts.specs.Earlier.{ComeFrom};
 ghost use Rattle.kill_law.specs.Places.{LeftAt, LeftBy, PlacesHavePasts, life_there};
 
 /// At whatever place of a legal run over logs that earlier runs left, and retirements, where each node
-/// has its durable log of that place with a beginning of its open effects, and other nodes have what they
+/// has its durable log of that place with a prefix of its open effects, and other nodes have what they
 /// had, the logs are again such as runs and retirements left. Each has all that its node had made durable
 /// there.
 pub fn place_has_past()

@@ -85,7 +85,7 @@ module _ (r : LabRun) where
     pub fates : All (IsFated lab.lose) (asked_of r.fates)
     pub clock : r.clock.moment ≡ 0
 
-  -- memory was wanting before anything was done
+  -- memory ran out before anything was done
   abbrev pub IsStarved : Type 0
   IsStarved = RanNothing 7 × IsUnwritten r.sink
 
@@ -93,7 +93,7 @@ module _ (r : LabRun) where
   abbrev pub MayHaveRun : Lab → Type 0
   MayHaveRun lab = IsStarved ⊎ RanAs lab
 
-  -- The words are refused, and the sink got the line that says so; or memory was wanting before anything was done; or so it ran as they say.
+  -- The words are refused, and the sink got the line that says so; or memory ran out before anything was done; or so it ran as they say.
   abbrev pub LabPromise : List (List ℕ) → Type 0
   LabPromise words = (AreRefused words × RanNothing 1 × GotLine r.sink words_line)
       ⊎ (IsStarved ⊎ ((lab : Lab) × AreFor words lab × RanAs lab))

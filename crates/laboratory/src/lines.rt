@@ -3,7 +3,7 @@ ghost use Rattle.swallow_top.specs.Written.{GotLine, sinking};
 
 use stream_port::Sink;
 
-// Writes the line, or a front of it where the sink fails.
+// Writes the line, or a prefix of it where the sink fails.
 pub fn write_line<O: Sink>(sink: &mut O, line: &[u8])
     ensures { GotLine (sinking (O.taken sink.old) (O.taken sink.new) (O.faults sink.old) (O.faults sink.new)) line.now }
 {

@@ -31,7 +31,7 @@ pub struct Lab {
 pub enum LabFault {
     /// They are none of the laboratory's.
     Words,
-    /// Memory is wanting.
+    /// Memory ran out.
     NoMemory,
 }
 

@@ -113,7 +113,7 @@ fn run<D: Divisor + Send, I: Source, O: Sink, R: Threads + Wait + Sync>(
 /// 0, and of that on which it votes. The clock stands at 0.
 ///
 /// The status is that of the top call; else it is 1, where the laboratory's own words are refused and
-/// `swallow_lab: words` was written, or 7, where memory is wanting.
+/// `swallow_lab: words` was written, or 7, where memory runs out.
 pub fn lab<I: Source, O: Sink, R: Threads + Wait + Sync>(
     rt: &R,
     alloc: Global,

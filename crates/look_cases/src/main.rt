@@ -8,7 +8,7 @@ use std::env;
 use std::io::{self, Write};
 use std::process::ExitCode;
 
-/// The status where memory is wanting, or a word isn't UTF-8.
+/// The status where memory runs out, or a word isn't UTF-8.
 const NO_WORDS: u8 = 7;
 
 /// The status where a page can't be written.

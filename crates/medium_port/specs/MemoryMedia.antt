@@ -57,7 +57,7 @@ faults_in m = m.health.faults
 abbrev pub last_of : MemoryMedium → Option (ℕ × List ℕ)
 last_of m = option_map (λ p. (p.0, p.1.value)) m.last
 
--- how many calls failed for want of memory
+-- how many calls failed because memory ran out
 abbrev pub starved_of : MemoryMedium → ℕ
 starved_of m = m.starved
 
@@ -65,7 +65,7 @@ starved_of m = m.starved
 abbrev pub next_stop : Option (ℕ × ℕ) → MemoryMedium → Option Stop
 next_stop write m = first_met (next_count m.calls) write m.stops.items
 
--- a call fails exactly where it meets a stop or memory is wanting, and each stop is used once
+-- a call fails exactly where it meets a stop or memory runs out, and each stop is used once
 pub record MeetsStops {T E : Type 0} (write : Option (ℕ × ℕ)) (old new : MemoryMedium) (result : Result T E) : Type 0 where
   pub stopped : IsTrue (is_some (next_stop write old)) → IsErr result
   pub failed : IsErr result → IsTrue (is_some (next_stop write old)) ⊎ Rose (starved_of old) (starved_of new)
@@ -75,6 +75,6 @@ pub record MeetsStops {T E : Type 0} (write : Option (ℕ × ℕ)) (old new : Me
   pub waits : MatchOption (next_stop write old) (OnErr result (pending_of new ≡ pending_of old)) (λ stop. pending_of new ≡ Some stop)
   pub counted : calls_of new ≡ next_count (calls_of old)
 
--- the write was made, or the call failed for want of memory and all is as before
+-- the write was made, or the call failed because memory ran out and all is as before
 abbrev pub Writes : {T E : Type 0} → ℕ → ℕ → List ℕ → MemoryMedium → MemoryMedium → Result T E → Type 0
 Writes page at bytes old new result = IsWrittenTo page at bytes old.past new.past ⊎ (IsErr result × Rose (starved_of old) (starved_of new) × IsAsBefore old.past new.past)

@@ -43,7 +43,7 @@ new_pages s = s.pages
 abbrev pub shelf_faults : MemoryShelf → ℕ
 shelf_faults s = s.faults
 
--- how many takings failed for want of memory
+-- how many takings failed because memory ran out
 abbrev pub shelf_starved : MemoryShelf → ℕ
 shelf_starved s = s.starved
 

@@ -28,7 +28,7 @@ impl Account {
         self.path.as_str()
     }
 
-    // Nothing comes of it where standard error takes nothing or memory is wanting.
+    // Nothing comes of it where standard error takes nothing or memory runs out.
     pub fn say<D: Display + Drop>(&mut self, reason: D) {
         if self.is_said {
             return;

@@ -61,7 +61,7 @@ impl MemoryMedium {
         })
     }
 
-    /// How many calls failed for want of memory. It stays at 2^64 - 1.
+    /// How many calls failed because memory ran out. It stays at 2^64 - 1.
     pub fn starved(&self) -> u64
         ensures { result ≡ starved_of self.now }
     {

@@ -59,7 +59,7 @@ impl MemoryShelf {
         }
     }
 
-    /// How many takings failed for want of memory. It stays at 2^64 - 1.
+    /// How many takings failed because memory ran out. It stays at 2^64 - 1.
     pub fn starved(&self) -> u64
         ensures { result ≡ shelf_starved self.now }
     {
@@ -196,7 +196,7 @@ impl Shelf for MemoryShelf {
           volume = volume;
         } ∷ [] }
         ensures cause { HasCause (shelf_faults self.old) (shelf_faults self.new) result }
-        // A taking fails exactly where the name is listed, was taken, or memory is wanting.
+        // A taking fails exactly where the name is listed, was taken, or memory runs out.
         ensures listed { Contains (failing self.old) (record { kind = kind; number = number; volume = volume }) →
             IsErr result }
         ensures failed { IsErr result →

@@ -6,7 +6,7 @@ pub enum MessageFault {
     /// The bytes aren't one message. The field that begins at this place is missing, cut short or out
     /// of range, or a whole message ends there and more bytes follow.
     Form { at: usize },
-    /// Memory is wanting.
+    /// Memory ran out.
     NoMemory,
 }
 

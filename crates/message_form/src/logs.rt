@@ -41,7 +41,7 @@ impl SnapshotLog {
         }
     }
 
-    /// The log has these effects more, the newest last. Where memory is wanting it is as before.
+    /// The log has these effects more, the newest last. Where memory runs out it is as before.
     pub fn add(&mut self, alloc: Global, effects: &[Effect]) -> Result<(), AllocError>
         ensures ok { OnOk result (self.new ≡ self.old ++ effects.now) }
         ensures err { OnErr result (self.new ≡ self.old) }

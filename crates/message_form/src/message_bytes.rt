@@ -244,7 +244,7 @@ fn whole_of(alloc: Global, bytes: &[u8]) -> Result<Message, MessageFault>
 pub fn read(alloc: Global, bytes: &[u8]) -> Result<Message, MessageFault>
     // What is read stands so in the bytes.
     ensures found { IfOk result (λ m. IsMessage m × (bytes.now ≡ message_bytes m)) }
-    // What stands in the bytes is read, unless memory is wanting.
+    // What stands in the bytes is read, unless memory runs out.
     ensures only { (m : Message) → IsMessage m → bytes.now ≡ message_bytes m → Gives (λ x. x) result (Ok m) }
     // Where it isn't, at which place.
     ensures exact { Gives (λ m. m) result (whole_message bytes.now) }

@@ -132,7 +132,7 @@ fn bytes_of(alloc: Global, message: &Message) -> Result<Vec<u8>, AllocError>
     Ok(out)
 }
 
-/// Appends the bytes of a message. Where memory is wanting, `out` is as before.
+/// Appends the bytes of a message. Where memory runs out, `out` is as before.
 pub fn write(alloc: Global, message: &Message, out: &mut Vec<u8>) -> Result<(), AllocError>
     requires { IsMessage message.now }
     ensures ok { OnOk result (out.new.items ≡ out.old.items ++ message_bytes message.now) }

@@ -52,7 +52,7 @@ pub saw-rest : (a b : Sight) → AtRest (world_at a) → Looked a b → SawRest 
 saw-rest a b rest p = (a.story, p.before.carries.begins, subst (λ (k : Sight). AtRest (walk (base_at k) a.story)) (sym p.kept) rest)
 
 module _ {M : Type 0} (tells : Bool) (limits : Limits) where
-  -- memory was wanting for a Tick
+  -- memory ran out for a Tick
   pub wants-tick : (a b c : Sight) (nodes : Shares M) → EachNode IsUp nodes → AtRest (world_at b) → Looked a b → Looked b c → tick_count a.own < limits.ticks → Follows tells limits (next.End reason.Wanting) nodes a c
   wants-tick a b c nodes up rest p q few =
       let m = ap tick_count (looked-own p) in

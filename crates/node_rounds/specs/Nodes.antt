@@ -42,7 +42,7 @@ module _ {M : Type 0} where
   -- ---- what becomes of a node
 
   -- A node went on by turns: its entries went on, its medium's count pays for what they cost, and its pages stay whole where they cost nothing, unless
-  -- memory was wanting.
+  -- memory ran out.
   pub record GoesOn (tells : Bool) (faults : M → ℕ) (reads : M → Image) (old new : NodeParts M) : Type 0 where
     pub node : new.node ≡ old.node
     pub adds : Adds (sight old).own (sight new).own
@@ -54,7 +54,7 @@ module _ {M : Type 0} where
     pub own : IsOf n.node (sight n)
     pub left : (c : Image) → LeftNow (stages n.medium) c → IsKept (life_at (sight n) n.node) c
 
-  -- A node that was so went on, and a crash at any moment of that left the log of the life that it had then, unless memory was wanting.
+  -- A node that was so went on, and a crash at any moment of that left the log of the life that it had then, unless memory ran out.
   pub record IsKeptThrough (tells : Bool) (stages : M → List Stage) (old new : NodeParts M) : Type 0 where
     pub node : new.node ≡ old.node
     pub passes : IsTrue tells → new.condition ≢ condition.Wanting → IsKeptNow stages old → PassesOn old.node (sight old) (sight new) (stages old.medium) (stages new.medium)

@@ -65,7 +65,7 @@ module _ {M : Type 0} where
   -- ---- why no further round follows
 
   -- Of the nodes, and of what the conductor has seen: a node is down; all brokers are done; so many messages were sent that the run ends; or nothing is
-  -- due, and there were as many Ticks as there may be. Or memory was wanting: in a turn of a node, or for a Tick that was due and could be made.
+  -- due, and there were as many Ticks as there may be. Or memory ran out: in a turn of a node, or for a Tick that was due and could be made.
   abbrev pub EndsFor : Bool → Limits → Reason → Shares M → Sight → Type 0
   EndsFor tells limits reason.Down nodes k = EachNode HasMemory nodes × SomeNode IsDown nodes
   EndsFor tells limits reason.Done nodes k = EachNode IsUp nodes × (IsTrue tells → EachNode IsDone nodes)

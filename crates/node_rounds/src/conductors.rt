@@ -22,7 +22,7 @@ use stream_port::{Clock, Fates};
 // round, which costs as much as some turns. One thread gives one turn each, in the order of nodes.
 const TURNS: u32 = 16;
 
-// Whether memory was wanting for a node of a share.
+// Whether memory ran out for a node of a share.
 fn is_any_wanting<F: Fates, C: Clock, M: Medium>(nodes: &[RunNode<F, C, M>]) -> bool
     ensures { MatchBool result (Any (λ n. n.condition ≡ Condition.Wanting) nodes.now) (All HasMemory nodes.now) }
 {
@@ -60,7 +60,7 @@ fn are_done<F: Fates, C: Clock, M: Medium>(nodes: &[RunNode<F, C, M>]) -> bool
     true
 }
 
-// Whether memory was wanting for a node.
+// Whether memory ran out for a node.
 fn was_wanting<F: Fates, C: Clock, M: Medium>(shares: &[Vec<RunNode<F, C, M>>]) -> bool
     ensures { MatchBool result (SomeNode (λ n. n.condition ≡ Condition.Wanting) shares.now)
         (EachNode HasMemory shares.now) }

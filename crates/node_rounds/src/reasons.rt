@@ -9,7 +9,7 @@ pub enum Reason {
     Enough,
     /// Nothing is due, and no further Tick may be made.
     RunOut,
-    /// Memory is wanting.
+    /// Memory ran out.
     Wanting,
 }
 

@@ -1,5 +1,5 @@
 -- What a node has after it went down, or after it was opened anew.
-use Rattle.std.proofs.Common.{◌≡◌, ℕ, ◌+◌, ◌-◌, ◌≤◌, ◌<◌, Bool, true, false, List, [], ◌++◌, length, take, Option, Some, Result, Ok, Err, IsTrue, refl, sym, ap, subst, ◌∙◌, arith, length-append}
+use Rattle.std.proofs.Common.{◌≡◌, ℕ, ◌+◌, ◌-◌, ◌≤◌, ◌<◌, Bool, true, false, List, [], ◌++◌, length, take, Option, Some, Result, Ok, Err, IsTrue, refl, sym, ap, subst, ◌∙◌, arith, length-append, ⊎_elim}
 use Rattle.std.proofs.lemmas.List.{append-nil, length-take-le}
 use Rattle.pseudo_time.specs.declared.nodes.NodeId.{NodeId}
 use Rattle.pseudo_time.specs.declared.down_causes.DownCause.{DownCause}
@@ -16,6 +16,7 @@ use Rattle.wire_lock.proofs.SightLemmas.{looked-of}
 use Rattle.node_turn.specs.Cores.{CoreParts, IsReady, HasFound, IsReopened}
 use Rattle.node_turn.specs.Lives.{no_draft, IsKept, HasLife, up_flags, IsUp, IsStored, IsStruck, IsCause, IsDown, IsFullFor}
 use Rattle.version_store.specs.Causes.{down_of_opening}
+use Rattle.version_store.specs.Storage.{storage}
 use Rattle.node_turn.specs.Costs.{cost_of_cause, PaysFor}
 use Rattle.node_turn.proofs.CostLemmas.{pays-none, pays-one}
 use Rattle.node_turn.proofs.ReadyLemmas.{ready-durable}
@@ -40,6 +41,9 @@ some-same {A} {x} {y} e = cc e
 
 ok-same : {A E : Type 0} (x y : A) → ◌≡◌ {A = Result A E} (Ok x) (Ok y) → x ≡ y
 ok-same x y e = cc e
+
+ok-no-err : {A E : Type 0} (x : A) (y : E) → ◌≡◌ {A = Result A E} (Ok x) (Err y) → ⊥
+ok-no-err x y e = cc e
 
 module _ {K M : Type 0} {tells : Bool} {parts : K → CoreParts M} {fits : Base → K → Type 0} {lives : Base → K → Life → Type 0} {owes : K → List Effect → Type 0}
     {pages : M → ℕ} {reads : M → Image} {may_leave : M → Image → Type 0} where
@@ -141,11 +145,18 @@ module _ {K M : Type 0} {tells : Bool} {parts : K → CoreParts M} {fits : Base 
   pub struck-reopened : IsStruck tells parts fits lives owes pages reads may_leave new k n durable
   struck-reopened = record { stored = stored-reopened; up = s.up; due = s.due; count = s.count; ready = s.ready }
 
-  -- where media tell, an opening finds no damage
+  -- where media tell, an opening finds no damage: whatever a crash could leave is a log with which the node is ready
   pub undamaged : (page : ℕ) → result ≡ Err (opening.Damaged page) → IsTrue tells → ⊥
-  undamaged page e t = r.sound t (base_at k) s.stored.run (λ c i.
-      let x : IsKept (life_at k n) c = s.stored.kept t c i in
-      ((life_at k n).gated ++ take x.kept (life_at k n).fresh, x.is, subst (λ (m : NodeId). IsReady (base_at k) m ((life_at k n).gated ++ take x.kept (life_at k n).fresh)) (sym s.stored.node) (s.ready t x.kept))) page e
+  undamaged page e t =
+      let b : Base = base_at k in
+      let l : Life = life_at k n in
+      let d = r.damaged t b s.stored.run page e in
+      let x : IsKept l d.0 = s.stored.kept t d.0 d.1 in
+      let log : List Effect = l.gated ++ take x.kept l.fresh in
+      ⊎_elim
+      (λ (bad : storage d.0 ≡ Err page). ok-no-err log page (sym x.is ∙ bad))
+      (λ (other : (page ≡ 0) × (found : List Effect) × (storage d.0 ≡ Ok found) × (IsReady b (parts core).node found → ⊥)). other.3 (subst (IsReady b (parts core).node) (ok-same log other.1 (sym x.is ∙ other.2)) (subst (λ (m : NodeId). IsReady b m log) (sym s.stored.node) (s.ready t x.kept))))
+      d.2
 
   -- why the node goes down after an opening
   pub opening-cause : (f : OpenFault) (cause : DownCause) → result ≡ Err f → down_of_opening f ≡ Some cause → IsCause tells pages reads cause (parts new).medium (life_at k n)

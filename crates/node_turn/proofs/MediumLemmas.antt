@@ -1,5 +1,5 @@
 -- What an append and an opening leave of a medium, for the cores that keep their log on it.
-use Rattle.std.proofs.Common.{◌≡◌, ◌≢◌, ℕ, ◌≤◌, ◌<◌, ◌+◌, Bool, true, List, [], ◌++◌, length, Result, Ok, Err, IsTrue, IfOk, IfErr, OnOk, refl, sym, ap, subst, ◌∙◌, arith}
+use Rattle.std.proofs.Common.{◌≡◌, ◌≢◌, ℕ, ◌≤◌, ◌<◌, ◌+◌, Bool, true, List, [], ◌++◌, length, Result, Ok, Err, IsTrue, IfOk, IfErr, OnOk, refl, sym, ap, subst, ◌∙◌, arith, inl}
 use Rattle.std.specs.Prelude.{count_by, IsErrOf}
 use Rattle.stream_port.specs.Causes.{Rose}
 use Rattle.medium_port.specs.Image.{Image, IsImage, Only, NoMore}
@@ -18,7 +18,7 @@ use Rattle.version_store.specs.Settled.{IsSettled}
 use Rattle.version_store.proofs.FillingLemmas.{filling-apart}
 use Rattle.version_store.specs.Storage.{storage, effects_found, log_of}
 use Rattle.world_core.specs.Walks.{Base, Life, opened_life, gated_life}
-use Rattle.node_turn.specs.Cores.{CoreParts, HasGrown, IsIntact, LeavesLog, IsReady, IsFull, IsAppended, IsReopened}
+use Rattle.node_turn.specs.Cores.{CoreParts, HasGrown, IsIntact, LeavesLog, IsDamageOf, IsFull, IsAppended, IsReopened}
 
 -- ---- answers
 
@@ -59,26 +59,15 @@ has-grown old was new is rested rests effects ranges added used log e = record {
 pub none-new : (old new : Image) (was is : Image → Type 0) → new ≡ old → was old → IsSettled new is → NoMore was is
 none-new old new was is same now settled c left = subst was (sym (settled.only c left ∙ same)) now
 
--- ---- images with which a node is ready
+-- ---- damage
 
--- each image has a log with which the node is ready
-abbrev pub AreReady : (Image → Type 0) → NodeId → Base → Type 0
-AreReady images n b = (c : Image) → images c → (log : List Effect) × (storage c ≡ Ok log) × IsReady b n log
+-- the damage of an image that a crash could leave
+abbrev pub HasDamage : (Image → Type 0) → NodeId → Base → ℕ → Type 0
+HasDamage images n b page = (image : Image) × images image × IsDamageOf b n image page
 
--- none of them is damaged
-pub not-damaged : (images : Image → Type 0) (n : NodeId) (b : Base) (f : OpenFault) → ((page : ℕ) → f ≡ opening.Damaged page → (image : Image) × images image × (storage image ≡ Err page))
-    → AreReady images n b → (page : ℕ) → f ≡ opening.Damaged page → ⊥
-not-damaged images n b f damaged ready page e =
-    let d = damaged page e in
-    let r = ready d.0 d.1 in
-    let z : ◌≡◌ {A = Result (List Effect) ℕ} (Ok r.0) (Err page) = sym r.1 ∙ d.2 in
-    cc z
-
--- with the log that was found the node is ready
-pub ready-found : (images : Image → Type 0) (n : NodeId) (b : Base) (image : Image) (log : List Effect) → images image → storage image ≡ Ok log → AreReady images n b → IsReady b n log
-ready-found images n b image log was found ready =
-    let r = ready image was in
-    subst (IsReady b n) (ok-same r.0 log (sym r.1 ∙ found)) r.2
+-- a page that no log has there
+pub damage-told : (images : Image → Type 0) (n : NodeId) (b : Base) (page : ℕ) → (image : Image) × images image × (storage image ≡ Err page) → HasDamage images n b page
+damage-told images n b page d = (d.0, d.1, inl d.2)
 
 -- ---- appends
 
@@ -180,18 +169,18 @@ module _ {K M : Type 0} {tells : Bool} {parts : K → CoreParts M} {fits : Base 
     images = λ t. subst (λ x. NoMore (may_leave x) (may_leave (parts new).medium)) (sym is) (images t);
     at_moments = λ t. subst (λ x. LeavesOnly stages x (parts new).medium (may_leave x)) (sym is) (moments t);
     cause = λ e. absurd (cc e);
-    sound = λ t b f ready page e. absurd (cc e);
+    damaged = λ t b f page e. absurd (cc e);
   }
 
   -- a fault
   pub reopened-none : (f : OpenFault) → faults m ≤ faults (parts new).medium → (IsTrue tells → NoMore (may_leave m) (may_leave (parts new).medium)) → (IsTrue tells → LeavesOnly stages m (parts new).medium (may_leave m)) → (f ≡ opening.Medium → Rose (faults m) (faults (parts new).medium))
-      → (IsTrue tells → (b : Base) → fits b old → AreReady (may_leave m) (parts old).node b → (page : ℕ) → f ≡ opening.Damaged page → ⊥) → IsReopened tells parts fits lives owes faults pages reads may_leave stages old new (Err f)
-  reopened-none f later images moments cause sound = record {
+      → (IsTrue tells → (b : Base) → fits b old → (page : ℕ) → f ≡ opening.Damaged page → HasDamage (may_leave m) (parts old).node b page) → IsReopened tells parts fits lives owes faults pages reads may_leave stages old new (Err f)
+  reopened-none f later images moments cause damaged = record {
     same = record { node = node; run = run; later = subst (λ x. faults x ≤ faults (parts new).medium) (sym is) later };
     able = tt;
     found = λ t. tt;
     images = λ t. subst (λ x. NoMore (may_leave x) (may_leave (parts new).medium)) (sym is) (images t);
     at_moments = λ t. subst (λ x. LeavesOnly stages x (parts new).medium (may_leave x)) (sym is) (moments t);
     cause = λ e. subst (λ x. Rose (faults x) (faults (parts new).medium)) (sym is) (cause (err-same f opening.Medium e));
-    sound = λ t b h ready page e. sound t b h (subst (λ x. AreReady (may_leave x) (parts old).node b) is ready) page (err-same f (opening.Damaged page) e);
+    damaged = λ t b h page e. subst (λ x. HasDamage (may_leave x) (parts old).node b page) (sym is) (damaged t b h page (err-same f (opening.Damaged page) e));
   }

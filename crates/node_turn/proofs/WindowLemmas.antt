@@ -122,7 +122,7 @@ module _ (b : Base) (n : NodeId) where
       (λ long. inr (long.0, ap (λ l. f ∷ l) long.1 ∙ ap (λ y. y ∷ (xs ++ long.0)) (sym same), long.2))
       (fronts xs ys front back (cc h))
 
-  -- a front of entries that ends before the last one
+  -- a prefix of entries that ends before the last one
   before-last : (others front more : List Entry) (entry e : Entry) → others ++ entry ∷ [] ≡ front ++ e ∷ more → (late : List Entry) × (others ≡ front ++ late)
   before-last others [] more entry e h = (others, refl)
   before-last [] (f ∷ front) more entry e h = absurd (too-long front (cc h))

@@ -1,5 +1,5 @@
 -- What the calls of a core that keeps its log on a medium do. Logs stand oldest first.
-use Rattle.std.specs.Prelude.{◌≡◌, ◌≢◌, ◌≤◌, ◌<◌, ◌+◌, ℕ, Bool, true, List, [], ◌++◌, length, count_by, Result, Ok, IsTrue, IfOk, IfErr, OnOk, IsErrOf}
+use Rattle.std.specs.Prelude.{◌≡◌, ◌≢◌, ◌⊎◌, ◌≤◌, ◌<◌, ◌+◌, ℕ, Bool, true, List, [], ◌++◌, length, count_by, Result, Ok, Err, IsTrue, IfOk, IfErr, OnOk, IsErrOf}
 use Rattle.stream_port.specs.Causes.{Rose}
 use Rattle.medium_port.specs.Image.{Image, NoMore}
 use Rattle.medium_port.specs.Moment.{LeavesOnly, Stage}
@@ -57,6 +57,10 @@ pub record IsIntact (old new : Image) : Type 0 where
 abbrev pub IsReady : Base → NodeId → List Effect → Type 0
 IsReady b n log = is_ready b.script b.run b.acts n log ≡ true
 
+-- This page is an image's damage for the node: the first that no log has there; or page 0, where the node isn't ready with the log.
+abbrev pub IsDamageOf : Base → NodeId → Image → ℕ → Type 0
+IsDamageOf b n image page = (storage image ≡ Err page) ⊎ ((page ≡ 0) × (log : List Effect) × (storage image ≡ Ok log) × (IsReady b n log → ⊥))
+
 -- The meanings of a type K of cores over media of a type M: whether media tell their content; the parts of a core; whether it is one
 -- of the run that a walk begins with; whether it has a life, with the durable log on its medium; and whether these are the effects
 -- that it gave since its last append.
@@ -111,8 +115,7 @@ module _ {K M : Type 0} (tells : Bool) (parts : K → CoreParts M) (fits : Base 
     pub only : LeavesLog (may_leave (parts new).medium) log
     pub has : (b : Base) → fits b old → lives b new (opened_life b.start log)
 
-  -- The medium was opened anew, and the core over the log that was found. A damaged page never comes where each image that a crash
-  -- could leave has a log that shows neither a later run nor another plan.
+  -- The medium was opened anew, and the core over the log that was found. A damaged page is the damage of an image that a crash could leave.
   pub record IsReopened (old new : K) (result : Result ℕ OpenFault) : Type 0 where
     pub same : StaysOwn old new
     pub able : OnOk result (((parts new).able ≡ true) × owes new [])
@@ -120,4 +123,4 @@ module _ {K M : Type 0} (tells : Bool) (parts : K → CoreParts M) (fits : Base 
     pub images : IsTrue tells → NoMore (may_leave (parts old).medium) (may_leave (parts new).medium)
     pub at_moments : IsTrue tells → LeavesOnly stages (parts old).medium (parts new).medium (may_leave (parts old).medium)
     pub cause : IsErrOf result opening.Medium → Rose (faults (parts old).medium) (faults (parts new).medium)
-    pub sound : IsTrue tells → (b : Base) → fits b old → ((c : Image) → may_leave (parts old).medium c → (log : List Effect) × (storage c ≡ Ok log) × IsReady b (parts old).node log) → (page : ℕ) → IsErrOf result (opening.Damaged page) → ⊥
+    pub damaged : IsTrue tells → (b : Base) → fits b old → (page : ℕ) → IsErrOf result (opening.Damaged page) → (image : Image) × may_leave (parts old).medium image × IsDamageOf b (parts old).node image page

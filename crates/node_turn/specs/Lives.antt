@@ -38,7 +38,7 @@ no_draft durable = record { durable = durable; effects = []; outs = [] }
 
 -- ---- lives
 
--- the image's log is the node's durable log with a beginning of its new effects
+-- the image's log is the node's durable log with a prefix of its new effects
 pub record IsKept (l : Life) (image : Image) : Type 0 where
   pub kept : ℕ
   pub few : kept ≤ length l.fresh
@@ -106,7 +106,7 @@ module _ {K M : Type 0} (tells : Bool) (parts : K → CoreParts M) (fits : Base 
     pub flags : flags_at k n ≡ up_flags gone due
     pub life : IsTrue tells → HasLife (base_at k) n d (lives (base_at k) core) (images_of core) (life_at k n)
 
-  -- A crash leaves the node's durable log with a beginning of its new effects.
+  -- A crash leaves the node's durable log with a prefix of its new effects.
   pub record IsStored (core : K) (k : Sight) (n : NodeId) : Type 0 where
     pub node : (parts core).node ≡ n
     pub run : fits (base_at k) core
@@ -130,7 +130,7 @@ module _ {K M : Type 0} (tells : Bool) (parts : K → CoreParts M) (fits : Base 
     pub last : k.own ≡ before ++ Down n cause ∷ []
     pub caused : IsCause tells pages reads cause (parts core).medium (life_at k n)
 
-  -- what is left after a fault of a core: where memory is wanting, the turn may not have begun
+  -- what is left after a fault of a core: where memory runs out, the turn may not have begun
   abbrev pub IsAfter : HistoryFault → K → Sight → NodeId → ℕ → Type 0
   IsAfter fault.NoMemory core k n durable = IsStored core k n
   IsAfter fault.Medium core k n durable = IsStruck core k n durable
@@ -142,7 +142,7 @@ module _ {K M : Type 0} (tells : Bool) (parts : K → CoreParts M) (fits : Base 
   IsAfterAppend adding.Medium core k n durable = IsStruck core k n durable
   IsAfterAppend (adding.Full number) core k n durable = IsStruck core k n durable × IsCause tells pages reads (down.Full number) (parts core).medium (life_at k n)
 
-  -- What a node keeps in each condition. Nothing is open between two turns, unless memory is wanting.
+  -- What a node keeps in each condition. Nothing is open between two turns, unless memory runs out.
   abbrev pub Keeps : Condition → K → Sight → NodeId → Bool → ℕ → Type 0
   Keeps condition.AtWork core k n gone durable = IsUp core k n gone false (no_draft durable)
   Keeps (condition.Down cause) core k n gone durable = IsDown core k n cause

@@ -103,7 +103,7 @@ module _ {M : Type 0} (tells : Bool) (pages : M → ℕ) (reads : M → Image) (
   Stands (condition.Down cause) p = ((flags_at (sight p) p.node).up ≡ false) × ((flags_at (sight p) p.node).due ≡ true) × ((before : List Entry) × ((sight p).own ≡ before ++ Down p.node cause ∷ [])) × IsCause tells pages reads cause p.medium (life_at (sight p) p.node)
   Stands condition.Wanting p = Unit {0}
 
-  -- What a node is at rest: a crash now leaves its durable log with a beginning of its new effects, of which there are none while it is up; and
+  -- What a node is at rest: a crash now leaves its durable log with a prefix of its new effects, of which there are none while it is up; and
   -- where it is down, it went down in a turn, and its last entry says so, and why.
   pub record IsAtRest (p : NodeParts M) : Type 0 where
     pub own : IsOf p.node (sight p)

@@ -14,7 +14,8 @@ pub enum Condition {
 #[derive(Clone, Copy, Debug, PartialEq, Eq)]
 pub enum Turned {
     Worked,
-    /// Nothing was due.
+    /// The node has nothing to do but to take copies. That none was due, the wire promises, and not
+    /// the turn.
     Quiet,
     /// The node is down.
     Stopped,

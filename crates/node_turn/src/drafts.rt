@@ -34,7 +34,7 @@ impl Draft {
         }
     }
 
-    /// Adds what a core gave. After a want of memory it is of no use.
+    /// Adds what a core gave. After memory ran out it is of no use.
     pub fn add(&mut self, turn: Turn) -> Result<(), AllocError>
         ensures durable { self.new.durable ≡ self.old.durable }
         ensures ok { OnOk result (self.new ≡

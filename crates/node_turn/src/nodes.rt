@@ -1,5 +1,5 @@
 //! A node: its core with its medium, and its pass.
-ghost use Rattle.std.specs.Prelude.{◌≡◌, false, IsTrue, IfOk};
+ghost use Rattle.std.specs.Prelude.{◌≡◌, [], false, IsTrue, IfOk};
 ghost use Rattle.seat_lock.specs.Words.{knows};
 ghost use Rattle.wire_lock.specs.Sights.{IsOf, IsWirePass, Looked, base_at, life_at};
 ghost use Rattle.node_turn.specs.Lives.{IsUp, no_draft};
@@ -148,6 +148,9 @@ impl<K: StoredCore<M>, F: Fates, C: Clock, M: Medium> Node<K, F, C, M> {
         ensures life { IsTrue M.tells → self.now.condition ≡ Condition.AtWork →
             K.fits (base_at (sight self.now)) result.now ×
             K.lives (base_at (sight self.now)) result.now (life_at (sight self.now) self.now.node) }
+        // Nothing is open between two turns.
+        ensures fresh { IsTrue M.tells → self.now.condition ≡ Condition.AtWork →
+            (life_at (sight self.now) self.now.node).fresh ≡ [] }
     {
         &self.hand.core
     }

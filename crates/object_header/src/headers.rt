@@ -45,7 +45,7 @@ pub struct HeaderTable<M: Medium> {
 impl<M: Medium> HeaderTable<M> {
     ghost use Rattle.object_header.specs.Tables.{ledger_of, store_of, handed_back};
 
-    /// The table of a store, whose log these effects are. Where memory is wanting, the medium comes
+    /// The table of a store, whose log these effects are. Where memory runs out, the medium comes
     /// back.
     pub fn rebuild(
         alloc: Global,

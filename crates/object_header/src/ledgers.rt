@@ -232,7 +232,7 @@ impl Ledger {
         Ok(None)
     }
 
-    /// Adds a version above every living one of its object. Where memory is wanting, all is as before.
+    /// Adds a version above every living one of its object. Where memory runs out, all is as before.
     pub fn put(
         &mut self,
         object: ObjectId,
@@ -255,7 +255,7 @@ impl Ledger {
         Ok(())
     }
 
-    /// Adds a Stretch. Where memory is wanting, all is as before.
+    /// Adds a Stretch. Where memory runs out, all is as before.
     pub fn stretch(&mut self, object: ObjectId, at: PseudoTime) -> Result<(), AllocError>
         requires object { IsObject object }
         ensures log { self.new.log ≡ self.old.log }
@@ -270,7 +270,7 @@ impl Ledger {
         Ok(())
     }
 
-    /// Adds a Settle. Where memory is wanting, all is as before.
+    /// Adds a Settle. Where memory runs out, all is as before.
     pub fn settle(&mut self, stamp: Stamp, committed: bool) -> Result<(), AllocError>
         ensures log { self.new.log ≡ self.old.log }
         ensures ok { OnOk result (self.new.late ≡ mark.Settle stamp committed ∷ self.old.late) }

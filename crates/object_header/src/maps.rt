@@ -82,7 +82,7 @@ impl Heads {
         }
     }
 
-    /// Adds a version of the object. Where memory is wanting, every header says what it said.
+    /// Adds a version of the object. Where memory runs out, every header says what it said.
     pub fn add(
         &mut self,
         settles: &Settles,
@@ -105,7 +105,7 @@ impl Heads {
         }
     }
 
-    /// What a read of the object at this time sees is now read up to it. Where memory is wanting,
+    /// What a read of the object at this time sees is now read up to it. Where memory runs out,
     /// every header is as before.
     pub fn stretch(
         &mut self,
@@ -132,7 +132,7 @@ impl Heads {
         }
     }
 
-    /// The object is kept whole from now on. Where memory is wanting, every header is as before.
+    /// The object is kept whole from now on. Where memory runs out, every header is as before.
     pub fn set_odd(&mut self, object: ObjectId) -> Result<(), AllocError>
         ensures ok { OnOk result ((o : ObjectId) →
             head_at self.new o ≡ (if same_object object o then as_odd (head_at self.old o) else head_at self.old o)) }

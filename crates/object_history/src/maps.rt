@@ -49,7 +49,7 @@ impl Settles {
         self.entries.get(&stamp).copied()
     }
 
-    /// Settles a stamp. Where memory is wanting, all is as before.
+    /// Settles a stamp. Where memory runs out, all is as before.
     pub fn put(&mut self, stamp: Stamp, committed: bool) -> Result<(), AllocError>
         ensures ok { OnOk result (self.new ≡ finite.insert self.old stamp committed) }
         ensures err { OnErr result (self.new ≡ self.old) }
@@ -98,7 +98,7 @@ impl Tracks {
         self.entries.get(&object)
     }
 
-    /// Adds a version of the object, by the number of marks before its own. Where memory is wanting, every track is as before.
+    /// Adds a version of the object, by the number of marks before its own. Where memory runs out, every track is as before.
     pub fn add(
         &mut self,
         object: ObjectId,
@@ -122,7 +122,7 @@ impl Tracks {
     }
 
     /// The object's version at this place, or its origin, is now read up to this time. Where memory
-    /// is wanting, every track is as before.
+    /// runs out, every track is as before.
     pub fn stretch(
         &mut self,
         object: ObjectId,

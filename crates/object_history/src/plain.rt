@@ -96,7 +96,7 @@ impl PlainHistories {
         }
     }
 
-    // Adds a version. Where memory is wanting, all is as before.
+    // Adds a version. Where memory runs out, all is as before.
     fn add_put(
         &mut self,
         object: ObjectId,
@@ -117,7 +117,7 @@ impl PlainHistories {
         Ok(())
     }
 
-    // Adds a Stretch, which falls on what a read at its time sees. Where memory is wanting, all is as
+    // Adds a Stretch, which falls on what a read at its time sees. Where memory runs out, all is as
     // before.
     fn add_stretch(&mut self, object: ObjectId, at: PseudoTime) -> Result<(), AllocError>
         requires { IsObject object }
@@ -133,7 +133,7 @@ impl PlainHistories {
         Ok(())
     }
 
-    // Adds a Settle, which counts where it is the first of its stamp. Where memory is wanting, all is
+    // Adds a Settle, which counts where it is the first of its stamp. Where memory runs out, all is
     // as before.
     fn add_settle(&mut self, stamp: Stamp, committed: bool) -> Result<(), AllocError>
         ensures ok { OnOk result (self.new ≡ mark.Settle stamp committed ∷ self.old) }
@@ -150,7 +150,7 @@ impl PlainHistories {
         Ok(())
     }
 
-    // Adds a Floor. Where memory is wanting, all is as before.
+    // Adds a Floor. Where memory runs out, all is as before.
     fn add_floor(&mut self, at: PseudoTime) -> Result<(), AllocError>
         ensures ok { OnOk result (self.new ≡ mark.Floor at ∷ self.old) }
         ensures err { OnErr result (self.new ≡ self.old) }

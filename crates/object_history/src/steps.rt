@@ -34,7 +34,7 @@ pub enum HistoryFault {
     Medium,
     /// What was read from this page of the medium below is no part of the histories.
     Damaged { page: u32 },
-    /// The memory for it is wanting.
+    /// Memory for it ran out.
     NoMemory,
 }
 

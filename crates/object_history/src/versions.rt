@@ -148,7 +148,7 @@ impl Track {
         }
     }
 
-    /// Adds a version, by the number of marks before its own. Where memory is wanting, the track is
+    /// Adds a version, by the number of marks before its own. Where memory runs out, the track is
     /// as before.
     pub fn add(&mut self, mark: usize, start: PseudoTime) -> Result<(), AllocError>
         ensures ok { OnOk result (self.new ≡ with_version mark start self.old) }

@@ -9,7 +9,7 @@ use Rattle.repository_log.specs.Logs.{marks}
 use Rattle.object_retirement.specs.Retired.{stays_put}
 use Rattle.object_retirement.specs.Retired as histories
 
--- What stays of a beginning of the log, over the mark; `all` is the whole log. Logs stand newest first here. Left out are Marks,
+-- What stays of a prefix of the log, over the mark; `all` is the whole log. Logs stand newest first here. Left out are Marks,
 -- Wholes, Stretches at or below the mark, and each Put below it that isn't the committed one of its object with the greatest
 -- start below it.
 abbrev pub carried : List Effect → TimeParts → List Effect → List Effect

@@ -16,7 +16,7 @@ last_firm all at o = scan (λ x. lt x at && is_committed (settle_of all x.stamp)
 abbrev pub stays_put : List Mark → TimeParts → ObjectId → TimeParts → ℕ → Bool
 stays_put all at o x place = not (lt x at) || same_place (place_of (last_firm all at o)) (Some place)
 
--- what stays of a front of the marks, over the mark
+-- what stays of a prefix of the marks, over the mark
 unfoldable pub kept : List Mark → TimeParts → List Mark → List Mark
 kept all at [] = Floor at ∷ []
 kept all at (Put o x v ∷ m) = if stays_put all at o x (version_count o m) then Put o x v ∷ kept all at m else kept all at m

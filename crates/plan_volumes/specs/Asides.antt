@@ -29,14 +29,14 @@ pub record IsAside {M : Type 0} {w : Media M} (v : NodeVolumes w) (a : Aside M w
   pub count : length a.rest.items ≡ length v.taken
   pub rest : (m : Option M) → slice_set (map medium_in a.rest.items) a.working m ≡ left_of v m
 
--- a node's volumes, taken and opened: one for a run, and the others aside; and whether memory was wanting for one
+-- a node's volumes, taken and opened: one for a run, and the others aside; and whether memory ran out for one
 pub record IsApart {M : Type 0} (w : Media M) (old new : ShelfSight) (n : NodeId) (v : NodeVolumes w) (o : Opening M w) (a : Aside M w) (wanting : Bool) : Type 0 where
   pub volumes : AreVolumes w old new n v.taken v.openings
   pub given : slice_get v.openings (working v.openings) ≡ Some o
   pub aside : IsAside v a
   pub memory : wanting ≡ false → Every (λ (x : Opening M w). IsWanting x → ⊥) v.openings
 
--- the volumes of the plan's first nodes: one of each for a run, and the others aside; and whether memory was wanting for one
+-- the volumes of the plan's first nodes: one of each for a run, and the others aside; and whether memory ran out for one
 pub record AreApart {M : Type 0} (w : Media M) (old new : ShelfSight) (plan : Plan) (volumes : List (NodeVolumes w)) (openings : List (Opening M w)) (asides : List (Aside M w)) (wanting : Bool) : Type 0 where
   pub taken : WereTaken w old new (names_from plan 0 volumes) (all_taken volumes)
   pub are : AreNodes w plan 0 volumes

@@ -89,7 +89,7 @@ module _ {M : Type 0} (w : Media M) where
   AreNodes plan place [] = Unit {0}
   AreNodes plan place (v ∷ volumes) = IsNodes (node_at plan place) v × AreNodes plan (suc place) volumes
 
-  -- memory wasn't wanting for opening any of them
+  -- memory didn't run out when any of them was opened
   abbrev pub HadMemory : List (NodeVolumes w) → Type 0
   HadMemory volumes = Every (λ (v : NodeVolumes w). Every (λ (o : Opening M w). IsWanting o → ⊥) v.openings) volumes
 

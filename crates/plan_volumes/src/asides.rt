@@ -40,7 +40,7 @@ fn working<M: Medium>(openings: &[Opening<M>]) -> usize
     current(openings)
 }
 
-/// Whether memory was wanting for opening one of these.
+/// Whether memory ran out when one of these was opened.
 pub fn is_wanting<M: Medium>(openings: &[Opening<M>]) -> bool
     ensures { result ≡ false → Every (λ opening. IsWanting opening → ⊥) openings.now }
 {

@@ -20,12 +20,12 @@ pub struct Opened<M: Medium> {
     pub openings: Vec<Opening<M>>,
     /// The others.
     pub asides: Vec<Aside<M>>,
-    /// Whether memory was wanting for opening one of them. The media are all there.
+    /// Whether memory ran out when one of them was opened. The media are all there.
     pub wanting: bool,
 }
 
-// Takes and opens the volumes of a node: the one that a run is given, the others, and whether memory was
-// wanting for one of them. The empty list has room for them.
+// Takes and opens the volumes of a node: the one that a run is given, the others, and whether memory ran
+// out for one of them. The empty list has room for them.
 fn open_node<S: Shelf>(
     alloc: Global,
     shelf: &mut S,

@@ -9,7 +9,7 @@ use plan_form::Plan;
 use run_volumes::{Kept, Opening, node_count};
 use std::alloc::{AllocError, Global};
 
-/// Emptied lists for the volumes of a plan's nodes, so that none of these is lost for want of memory.
+/// Emptied lists for the volumes of a plan's nodes, so that none of these is lost because memory ran out.
 #[derive(Drop)]
 pub struct Rooms<M: Medium> {
     /// One for the volumes of each node.

@@ -128,7 +128,7 @@ impl Member {
     }
 
     /// Hears a moment of at most 2^63: each unknown record whose deadline is at most the moment
-    /// expires, and nobody is told. Where memory is wanting, the member is as before.
+    /// expires, and nobody is told. Where memory runs out, the member is as before.
     pub fn hear(&mut self, moment: u64) -> Result<Turn, AllocError>
         requires { moment ≤ 2 ^ 63 }
         ensures gives { IfOk result (λ t. given t ≡ rules.on_moment self.old.log moment) }
@@ -162,7 +162,7 @@ impl Member {
     }
 
     /// Takes a message, of a broker alone. The effects must be durable before the messages are sent.
-    /// Where memory is wanting, the member is as before.
+    /// Where memory runs out, the member is as before.
     #[tactic(auto, unfolding(crate::specs::Members::on_message))]
     pub fn take(&mut self, from: NodeId, message: &Message) -> Result<Turn, AllocError>
         requires { IsMessage message.now }

@@ -262,7 +262,7 @@ impl Poll {
     }
 
     /// Takes a message: the first Begun of a member asks for the wish, and the first Decided is its
-    /// vote. Where memory is wanting, the poll is as before.
+    /// vote. Where memory runs out, the poll is as before.
     #[tactic(auto, unfolding(crate::specs::Polls::poll_takes))]
     pub fn take(&mut self, from: NodeId, message: &Message) -> Result<Turn, AllocError>
         ensures gives { IfOk result (λ t. (t.effects ≡ []) ×

@@ -10,7 +10,7 @@ use value_form::{Bytes, ObjectId};
 
 /// The text of an object's history: a line for the object, one for its origin, and one for each of its
 /// versions, in rising order of start. `effects` are a repository's log, the first one first, of
-/// whatever origin. Only memory may be wanting.
+/// whatever origin. Only memory may run out.
 ///
 /// It costs a walk over the log. An effect of the object costs besides as many steps as versions of it
 /// start above, so none where versions are put in rising order.

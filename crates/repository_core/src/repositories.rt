@@ -96,7 +96,7 @@ impl<H: Histories> Repository<H> {
     }
 
     /// Opens the core of a repository over its log, oldest first. It remembers nothing beside it but
-    /// the moment, of at most 2^63. Where memory is wanting, the histories come back as they were.
+    /// the moment, of at most 2^63. Where memory runs out, the histories come back as they were.
     pub fn open(
         alloc: Global,
         number: u8,

@@ -185,8 +185,8 @@ fn medium_from<M: Medium>(kept: KeptCore<M>) -> M
     }
 }
 
-/// The core of a repository over the log of a store, whose effects these are. Where memory is
-/// wanting, the medium comes back.
+/// The core of a repository over the log of a store, whose effects these are. Where memory
+/// runs out, the medium comes back.
 pub(crate) fn open_core<M: Medium>(
     alloc: Global,
     number: u8,

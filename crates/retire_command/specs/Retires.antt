@@ -111,7 +111,7 @@ module _ {M : Type 0} (w : Media M) {g : _} where
       pub keep : WritesNothing w openings left
       pub is_line : line ≡ down_text (record { node = n; cause = cause })
 
-    -- the fresh volume has a front of what is carried forward, without its Whole unless it has all
+    -- the fresh volume has a prefix of what is carried forward, without its Whole unless it has all
     pub record IsCutOff (line : List ℕ) : Type 0 where
       pub opened : AreOpen openings
       pub may : MayRetire (newest_first at openings) at
@@ -179,7 +179,7 @@ CutsOff n None r = r ≡ NoMemory
 CutsOff n (Some cause) r = (r ≡ NoMemory) ⊎ (r ≡ Fallen (down_text (record { node = n; cause = cause })))
 
 module _ {M : Type 0} (w : Media M) {g : _} (n : NodeId) (effects : List Effect) (store : Store M g) (line : List ℕ) where
-  -- a front of the effects is left
+  -- a prefix of the effects is left
   abbrev pub HasFront : M → Type 0
   HasFront m = IsTrue w.tells → (c : Image) → w.may_leave m c → LeavesFront effects c
 
@@ -193,7 +193,7 @@ module _ {M : Type 0} (w : Media M) {g : _} (n : NodeId) (effects : List Effect)
 -- ---- the whole of it
 
 module _ {M : Type 0} (w : Media M) (old new : ShelfSight) where
-  -- Memory was wanting before any medium was asked for.
+  -- Memory ran out before any medium was asked for.
   pub record TookNothing (kept : List (Kept M)) (r : Retired) : Type 0 where
     pub wanting : r ≡ NoMemory
     pub none : kept ≡ []

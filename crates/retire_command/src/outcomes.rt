@@ -9,6 +9,6 @@ pub enum Retired {
     Refused(Bytes),
     /// A medium stopped it, and this line says so.
     Fallen(Bytes),
-    /// Memory was wanting.
+    /// Memory ran out.
     NoMemory,
 }

@@ -126,7 +126,7 @@ module _ {M : Type 0} {g : _} (plan : Plan) (n : NodeId) (o : Opening M g) where
       go (Some refusal.NoMemory) e = tt
       go (Some (refusal.Resume f)) e = (tt, subst (λ (k : NodeKind). kind_fault plan k n.number effects.items ≡ Some f) (sym kind) e.0, e.1)
 
--- what opening a broker says of its log where it doesn't answer for want of memory
+-- what opening a broker says of its log where it doesn't answer because memory ran out
 pub opens-fault : (s : List ℕ → Tree) (number run : ℕ) (acts : List ActSpec) (log : List Effect) (f : ResumeFault) → f ≢ fault.NoMemory → Opens s number run acts log (Err f) → resume_fault s number run (tasks acts) (reverse log) ≡ Some f
 opens-fault s number run acts log fault.NoMemory other h = absurd (other refl)
 opens-fault s number run acts log (fault.OldRun n) other h = h

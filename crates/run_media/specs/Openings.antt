@@ -94,7 +94,7 @@ module _ {M : Type 0} (w : Media M) where
     HasOpened (Some old) (Wanting new) = IsAsItWas old new
 
 -- ---- refusals
--- why a broker of the plan can't go on from this log, if it can't
+-- why a broker of the plan can't resume from this log, if it can't
 abbrev pub kind_fault : Plan → NodeKind → ℕ → List Effect → Option ResumeFault
 kind_fault plan Repository number log = None
 kind_fault plan Broker number log = resume_fault (reading plan.acts) number plan.run (tasks (acts_of number plan.acts)) (reverse log)
@@ -111,7 +111,7 @@ abbrev pub IsRefusalFor : ResumeFault → Refusal → Type 0
 IsRefusalFor fault refusal.NoMemory = fault ≡ resuming.NoMemory
 IsRefusalFor fault (refusal.Resume told) = (told ≡ fault) × (fault ≢ resuming.NoMemory)
 
--- why a broker can't go on from this log, if it can't
+-- why a broker can't resume from this log, if it can't
 abbrev pub RefusesLog : Plan → ℕ → List Effect → Option Refusal → Type 0
 RefusesLog plan number log None = fault_in plan (broker number) log ≡ None
 RefusesLog plan number log (Some refusal.NoMemory) = Unit {0}

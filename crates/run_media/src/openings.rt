@@ -14,7 +14,7 @@ pub enum Opening<M: Medium> {
     Open(Store<M>, Vec<Effect>),
     /// It can't be opened, for this cause. None where it is missing.
     Shut(Option<M>, DownCause),
-    /// Memory was wanting.
+    /// Memory ran out.
     Wanting(M),
 }
 

@@ -26,7 +26,7 @@ fn refusal_for(fault: ResumeFault) -> Refusal
     }
 }
 
-// Why a broker can't go on from its log in a run of this plan.
+// Why a broker can't resume from its log in a run of this plan.
 fn broker_refusal(alloc: Global, plan: &Plan, number: u8, effects: &[Effect]) -> Option<Refusal>
     requires plan { IsOfLanguage plan.now }
     requires low { 1 ≤ number }
@@ -43,7 +43,7 @@ fn broker_refusal(alloc: Global, plan: &Plan, number: u8, effects: &[Effect]) ->
     }
 }
 
-// Why the node can't go on from its log in a run of this plan.
+// Why the node can't resume from its log in a run of this plan.
 fn refusal_of<M: Medium>(
     alloc: Global,
     plan: &Plan,
@@ -65,8 +65,8 @@ fn refusal_of<M: Medium>(
     }
 }
 
-/// Why no run of the plan begins: the first broker whose log shows a later run or another plan, or a
-/// want of memory before it.
+/// Why no run of the plan begins: the first broker whose log shows a later run or another plan, or
+/// that memory ran out before it.
 pub fn first_refusal<M: Medium>(
     alloc: Global,
     plan: &Plan,

@@ -19,7 +19,7 @@ use Rattle.run_rounds.proofs.BackLemmas.{first-fault, opened-alone, opened-back,
 module _ {M : Type 0} {g : _} (w : Media M) (most_ticks enough : ℕ) (plan : Plan) where
   module _ (told : Tellers) (media : List (Option M)) where
     module _ (os : List (Opening M g)) (opened : AllZip (HasOpened w) media os) where
-      -- memory was wanting
+      -- memory ran out
       pub ends-wanting : EndsAs w most_ticks enough plan told media (map medium_in os) end.NoMemory
       ends-wanting = (opened-back w media os opened, opened-kept w media os opened, λ told. inl (opened-alone w media os opened))
 

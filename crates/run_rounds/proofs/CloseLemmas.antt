@@ -85,7 +85,7 @@ whole-untold tells o passes told asked answers whole carries owned end.NoMemory 
   owned,
 )
 
--- where memory was wanting nothing is told
+-- where memory ran out nothing is told
 pub none-told : (tells : Bool) (o : Origin) (passes : List Pass) (asked : List Asked) (answers : Option (List ℕ)) (e : End) → IfRan e (λ t. ClosedAs tells o passes reason.Wanting t asked answers) → e ≡ end.NoMemory
 none-told tells o passes asked answers (end.Ran t) h = absurd (h.memory refl)
 none-told tells o passes asked answers (end.Refused fault) h = absurd h

@@ -1,4 +1,4 @@
--- Nothing that stood in a node's log is lost, also where memory was wanting in a round.
+-- Nothing that stood in a node's log is lost, also where memory ran out in a round.
 use Rattle.std.proofs.Common.{◌≡◌, ◌∙◌, ◌++◌, ℕ, IsTrue, List, [], Option, Some, Ok, map, take, append_assoc, inr, refl, ap, sym, subst}
 use Rattle.std.specs.List.{AllZip}
 use Rattle.std.specs.Option.{unwrap_or}

@@ -43,7 +43,7 @@ module _ {M Q A : Type 0} (w : Media M) (plan : Plan) (lock : LockTable WirePart
   lives n s told = λ c leaves. subst (λ (l : Life). IsKept l c) (sym (life-end w plan lock t same logs n s.old s.node s.went))
       (subst (λ (m : NodeId). IsKept (life_at (sight s.node) m) c) s.went.name (s.went.rest.kept told c leaves))
 
-  -- whether memory was wanting or not, each medium held its node's log, and has its life
+  -- whether memory ran out or not, each medium held its node's log, and has its life
   pub all-live : IsTrue w.tells → (n : NodeId) → in_plan plan n ≡ true
       → (old : M) × (new : M) × Became plan first (left w plan (origin w plan lock t) (Known w plan lock t) first ps along) n old new × WasHeld w t n old × LeavesLife w plan t n new
   all-live told n is =

@@ -69,7 +69,7 @@ use Rattle.run_starts.proofs.AlongLemmas.{along-length}
 up-memory : {c : Condition} → c ≡ condition.AtWork → c ≢ condition.Wanting
 up-memory e f = let z : condition.AtWork ≡ condition.Wanting = sym e ∙ f in absurd (cc z)
 
--- in a run that doesn't end for want of memory no node wanted any
+-- in a run that doesn't end because memory ran out, no node's memory did
 memory-of : {M : Type 0} (tells : Bool) (limits : Limits) (why : Reason) (nodes : List (NodeParts M)) (k : _) → ListEnds tells limits why nodes k → why ≢ reason.Wanting → All HasMemory nodes
 memory-of tells limits reason.Down nodes k h memory = h.0
 memory-of tells limits reason.Done nodes k h memory = λ i d lt. up-memory (h.0 i d lt)

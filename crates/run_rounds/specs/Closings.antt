@@ -31,19 +31,19 @@ use Rattle.run_rounds.specs.declared.ends.End.TheVariants.{Ran, Refused, NoMemor
 abbrev pub Pass : Type 0
 Pass = Seat WireParts (View WireParts Entry)
 
--- so it is of the trace, where one is told; else memory was wanting
+-- so it is of the trace, where one is told; else memory ran out
 abbrev pub IfRan : End → (Trace → Type 0) → Type 0
 IfRan (Ran t) P = P t
 IfRan (Refused fault) P = ⊥
 IfRan NoMemory P = Unit {0}
 
--- so it is where memory was wanting
+-- so it is where memory ran out
 abbrev pub IfWanting : End → Type 0 → Type 0
 IfWanting (Ran t) P = Unit {0}
 IfWanting (Refused fault) P = Unit {0}
 IfWanting NoMemory P = P
 
--- the trace is told for this reason: not where memory was wanting, and of a run that has run out only where its wire closed idle
+-- the trace is told for this reason: not where memory ran out, and of a run that has run out only where its wire closed idle
 pub record ToldFor (told : Trace) (idle : Bool) (why : Reason) (t : Trace) : Type 0 where
   pub is : t ≡ told
   pub memory : why ≢ reason.Wanting

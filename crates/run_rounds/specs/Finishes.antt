@@ -39,7 +39,7 @@ module _ {M : Type 0} (w : Media M) where
   IsKeptWhole (Some old) None = ⊥
   IsKeptWhole (Some old) (Some new) = IsUntouched w old new ⊎ HasItsLog old new
 
--- A run told its trace; or a broker's log refused the plan, and nothing happened; or memory was wanting, and nothing that stood in a log is lost: either no medium was written to,
+-- A run told its trace; or a broker's log refused the plan, and nothing happened; or memory ran out, and nothing that stood in a log is lost: either no medium was written to,
 -- or there was a run, whose trace isn't told.
 abbrev pub EndsAs : {M : Type 0} → Media M → (most_ticks enough : ℕ) → Plan → Tellers → (media left : List (Option M)) → End → Type 0
 EndsAs w most_ticks enough plan told media left (end.Ran t) = Ran w most_ticks enough plan (account_of t told) media left

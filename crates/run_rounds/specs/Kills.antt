@@ -20,7 +20,7 @@ pub record Course : Type 0 where
   pub cuts : List (List Stage)
 
 -- The window of a place goes from the node's last entry before the place to its next one: from the opening where there is none before, and to what the medium went through in all where none follows. At any
--- moment of it a crash left the node's durable log of the place, with a beginning of its open effects.
+-- moment of it a crash left the node's durable log of the place, with a prefix of its open effects.
 pub record KeepsPlaces (plan : Plan) (t : Trace) (n : NodeId) (c : Course) (all : List Stage) : Type 0 where
   pub each : length c.cuts ≡ length (own n t.entries)
   pub kept : (front rest : List Entry) → t.entries ≡ front ++ rest → Goes (cut_at c.begun c.cuts all (length (own n front))) (cut_at c.begun c.cuts all (suc (length (own n front)))) (IsKept (life_there plan t front n))

@@ -54,7 +54,7 @@ pub record Ran {M : Type 0} (w : Media M) (most_ticks enough : ℕ) (plan : Plan
   pub stops : IsTrue w.tells → HaveCauses w media left plan told.trace
   pub kills : IsTrue w.tells → SurvivesKills w media left plan told.trace
 
--- Memory was wanting in a run of the plan over these media, and its trace is told to no one. There is one: legal for the plan, with each node opened with the log that its medium held, and a crash now
+-- Memory ran out in a run of the plan over these media, and its trace is told to no one. There is one: legal for the plan, with each node opened with the log that its medium held, and a crash now
 -- leaves of each medium its node's durable log there, with the first of its open effects.
 pub record RanUntold {M : Type 0} (w : Media M) (plan : Plan) (asked_before : List Asked) (media left : List (Option M)) : Type 0 where
   pub trace : Trace

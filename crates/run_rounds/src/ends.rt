@@ -31,7 +31,7 @@ pub struct Finished<F, C, M: Medium> {
     pub clock: C,
 }
 
-// A run that ended for this reason tells its trace, unless memory was wanting.
+// A run that ended for this reason tells its trace, unless memory ran out.
 fn told_by(told: Told, idle: bool, reason: Reason) -> End
     ensures { IfRan result (ToldFor told idle reason) }
 {

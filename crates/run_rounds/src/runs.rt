@@ -155,7 +155,7 @@ fn run_nodes<
     closed_run(wire, ended)
 }
 
-// Memory is wanting before the first round.
+// Memory ran out before the first round.
 fn stopped<F: Fates, C: Clock, M: Medium>(
     wire: SharedWire<F, C, M>,
     passes: Vec<WirePass<F, C, M>>,

@@ -99,7 +99,7 @@ pub fn take_apart<F: Fates, C: Clock, M: Medium>(
     (media, passes)
 }
 
-/// What came of opening a run's nodes: all of them, or, where memory was wanting, their media and their
+/// What came of opening a run's nodes: all of them, or, where memory ran out, their media and their
 /// passes.
 #[derive(Drop)]
 pub struct Seated<F: Fates, C: Clock, M: Medium> {
@@ -110,7 +110,7 @@ pub struct Seated<F: Fates, C: Clock, M: Medium> {
     pub is_whole: bool,
 }
 
-// One node more, unless memory was wanting before.
+// One node more, unless memory ran out before.
 fn seat<F: Fates, C: Clock, M: Medium>(
     alloc: Global,
     plan: &Plan,

@@ -11,7 +11,7 @@ pub enum Standing {
     Open,
     /// One can't be opened, for this cause.
     Shut(DownCause),
-    /// Memory was wanting for one.
+    /// Memory ran out for one.
     Wanting,
 }
 

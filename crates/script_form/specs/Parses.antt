@@ -12,7 +12,7 @@ Parses greatest lines (Ok script) = IsScriptLines greatest lines (block script.l
 Parses greatest lines (Err (Fault line what)) = FaultAt greatest lines line what ⊎ FaultBehind greatest lines line what
 Parses greatest lines (Err NoMemory) = Unit {0}
 
--- the script that was known before, unless memory was wanting
+-- the script that was known before, unless memory ran out
 abbrev pub GivesAgain : Script → Result Script ParseFault → Type 0
 GivesAgain script (Ok again) = again ≡ script
 GivesAgain script (Err (Fault line what)) = ⊥

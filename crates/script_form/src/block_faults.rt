@@ -7,7 +7,7 @@ pub enum BlockFault {
     Block,
     /// It opens a block in 16 others.
     Depth,
-    /// Memory is wanting.
+    /// Memory ran out.
     NoMemory,
 }
 

@@ -44,8 +44,8 @@ impl Builder {
         }
     }
 
-    /// Takes what stands on a line, which comes next. Where it doesn't go on the script, or memory is
-    /// wanting, the builder is let go.
+    /// Takes what stands on a line, which comes next. Where it doesn't go on the script, or memory
+    /// runs out, the builder is let go.
     pub fn feed(self, alloc: Global, line: u16, flat: Flat) -> Result<Builder, BlockFault>
         ensures { Fed self (on line (row_of flat)) result }
     {

@@ -24,7 +24,7 @@ pub fn law_of_lines()
 {}
 
 /// What is parsed, printed and parsed again is the script that it was: for the text that `print` gives
-/// of a script that `parse` gave, `parse` gives just that script, or memory is wanting.
+/// of a script that `parse` gave, `parse` gives just that script, or memory runs out.
 pub fn law_of_reading_again()
     ensures { (greatest : ℕ) (ls : List (List ℕ)) (script : Script) (result : Result Script ParseFault) →
         Parses greatest ls (Ok script) →

@@ -121,8 +121,8 @@ fn put_row(alloc: Global, out: &mut Vec<u8>, flat: &Flat) -> Result<(), AllocErr
     }
 }
 
-/// Appends the canonical text of what stands on a line, without the line's end. Where memory is
-/// wanting, `out` is as before.
+/// Appends the canonical text of what stands on a line, without the line's end. Where memory
+/// runs out, `out` is as before.
 pub fn print_row(alloc: Global, out: &mut Vec<u8>, flat: &Flat) -> Result<(), AllocError>
     ensures ok { OnOk result (out.new.items ≡ out.old.items ++ row_text (row_of flat.now)) }
     ensures err { OnErr result (out.new.items ≡ out.old.items) }

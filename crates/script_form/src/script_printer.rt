@@ -90,7 +90,7 @@ fn put_one(alloc: Global, out: &mut Vec<u8>, next: u32, stmt: &Stmt) -> Result<u
 }
 
 /// Appends the canonical text of a script: each statement on its line, and empty lines before where
-/// nothing stands. Where memory is wanting, `out` is as before.
+/// nothing stands. Where memory runs out, `out` is as before.
 pub fn print_script(alloc: Global, out: &mut Vec<u8>, script: &Script) -> Result<(), AllocError>
     ensures ok { OnOk result (out.new.items ≡ out.old.items ++ script_text (block script.now.lines)) }
     ensures err { OnErr result (out.new.items ≡ out.old.items) }

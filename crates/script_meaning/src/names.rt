@@ -106,7 +106,7 @@ impl Names {
         }
     }
 
-    /// Gives the name this value. Where memory is wanting, the names are as before.
+    /// Gives the name this value. Where memory runs out, the names are as before.
     pub fn set(&mut self, name: Bytes, value: Value) -> Result<(), AllocError>
         ensures ok { OnOk result (self.new ≡ with_name self.old name value) }
         ensures err { OnErr result (self.new ≡ self.old) }

@@ -1,4 +1,4 @@
--- What a step of the machine gives. Where memory is wanting, it stands as before.
+-- What a step of the machine gives. Where memory runs out, it stands as before.
 use Rattle.std.specs.Prelude.{◌≡◌, ◌+◌, ◌-◌, ◌<◌, ◌^◌, List, Option, Some, None, Result, Ok, Err}
 use Rattle.std.specs.Vec.{vec_len, vec_capacity}
 use Rattle.value_form.specs.declared.scripts.Stmt.{Stmt}

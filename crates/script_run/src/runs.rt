@@ -69,7 +69,7 @@ impl Run {
     }
 
     /// Goes on to the next request or the end. Called again before an answer it gives the same, and
-    /// after a want of memory a later call gives what this one would have.
+    /// after memory ran out a later call gives what this one would have.
     pub fn next(&mut self, alloc: Global) -> Result<Next, AllocError>
         ensures tells { IfOk result (λ n. Tells self.old.script self.old.answers self.new.lines n) }
         ensures said { IfOk result (λ n. self.new.said ≡ Some n) }

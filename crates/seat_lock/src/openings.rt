@@ -19,7 +19,7 @@ impl<T: Storied> SeatLock<T> {
     /// in order. All words hold 0.
     ///
     /// There is at least one owner, the owners differ, and the state stands for the empty list.
-    /// `Err` comes where memory is wanting, and hands the state back.
+    /// `Err` comes where memory runs out, and hands the state back.
     pub fn new(
         alloc: Global,
         state: T,

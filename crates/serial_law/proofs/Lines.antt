@@ -57,7 +57,7 @@ same-lists (p ∷ ps) (q ∷ qs) s t h j =
 len-one : (n : ℕ) (q : List Answer) (a : Answer) (j : ℕ) → j ≡ (n + 1) + length q → j ≡ n + length (a ∷ q)
 len-one n q a j h = omega (arith, h)
 
--- a Wrote line stands after a front of the answers, and has the front's step
+-- a Wrote line stands after a prefix of the answers, and has the front's step
 pub line-of : (s : StampParts) (t : Tree) (ans : List Answer) (n : ℕ) (v : Version) → In (lines_written s n (talked t ans).lines) v →
     (pre : List Answer) × (v.start.stamp ≡ s) × (v.start.step ≡ n + length pre) × Written t ans v.object pre v.value
 unfolding lines_written

@@ -43,7 +43,7 @@ abbrev pub asked_of : Request → ObjectId
 asked_of (ToRead o) = o
 asked_of (ToWrite o v) = o
 
--- what a script asks at a pseudotime: after a front of the attempt's answers
+-- what a script asks at a pseudotime: after a prefix of the attempt's answers
 abbrev pub Asked : Try → TimeParts → Request → Type 0
 Asked try t q = (pre post : List Answer) × (try.answers ≡ pre ++ post) × (t.step ≡ length pre + 1) × (asks (after try.script pre) ≡ Some q)
 

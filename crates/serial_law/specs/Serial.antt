@@ -25,7 +25,7 @@ pub record IsComplete (t alone : Talked) (e : Ending) : Type 0 where
 
 -- an attempt, with its transcript and what its script does alone
 pub record IsSerial (k : RunLogs) (try : Try) (t alone : Talked) : Type 0 where
-  -- its transcript is a front of what its script does alone
+  -- its transcript is a prefix of what its script does alone
   pub front : IsFrontOf t.lines alone.lines
   -- once it is committed, or its script withdrew or failed, it is all of that
   pub finished : committed k try.stamp ≡ true → IsComplete t alone ending.Finished

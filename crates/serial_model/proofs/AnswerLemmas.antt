@@ -39,7 +39,7 @@ talked-append (Writes o a t) [] more = (_, refl)
 talked-append (Writes o a t) (Stored ∷ ans) more = front_before (line.Wrote o a) (talked t ans) (talked t (ans ++ more)) (talked-append t ans more)
 talked-append (Writes o a t) (Got b ∷ ans) more = ([], refl)
 
--- ---- a front of the answers stops at the request of the next line
+-- ---- a prefix of the answers stops at the request of the next line
 
 unfoldable first_of : Line → List Line → Line
 first_of d [] = d

@@ -164,7 +164,7 @@ left_after (Writes o a t) [] m = m
 left_after (Writes o a t) (Stored ∷ ans) m = left_after t ans (finite.insert m o a)
 left_after (Writes o a t) (Got b ∷ ans) m = m
 
--- the one is a front of the other
+-- the one is a prefix of the other
 abbrev pub IsFrontOf : List Line → List Line → Type 0
 IsFrontOf front all = (rest : List Line) × (front ++ rest ≡ all)
 

@@ -110,7 +110,7 @@ impl ObjectMap {
         Ok(map_of(alloc, entries)?)
     }
 
-    /// Gives the object this value. Where memory is wanting, the map is as before.
+    /// Gives the object this value. Where memory runs out, the map is as before.
     pub fn set(&mut self, object: ObjectId, value: Value) -> Result<(), AllocError>
         ensures ok { OnOk result (self.new ≡ finite.insert self.old object value) }
         ensures err { OnErr result (self.new ≡ self.old) }

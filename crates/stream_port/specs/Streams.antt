@@ -23,7 +23,7 @@ pub record SinkParts : Type 0 where
   pub fails : List ℕ
   pub calls : ℕ
   pub faults : ℕ
-  -- how many calls failed for want of memory
+  -- how many calls failed because memory ran out
   pub starved : ℕ
 
 -- on `Ok(n)` the first n bytes were taken, and at least one where there are any

@@ -29,7 +29,7 @@ pub trait Fates {
     /// The messages asked for so far, each with its fate.
     ghost asked: { Self → List Asked };
 
-    /// The fate of a message. Where memory is wanting, the list is as before.
+    /// The fate of a message. Where memory runs out, the list is as before.
     fn fate(&mut self, number: u32, tag: u8) -> Result<Fate, AllocError>
         ensures ok { IfOk result (λ fate. asked self.new ≡ asked self.old ++ record {
           number = number;

@@ -62,7 +62,7 @@ impl MemorySink {
         self.taken.as_slice()
     }
 
-    /// How many calls failed for want of memory. It stays at 2^64 - 1.
+    /// How many calls failed because memory ran out. It stays at 2^64 - 1.
     pub fn starved(&self) -> u64
         ensures { result ≡ self.now.starved }
     {
@@ -79,7 +79,7 @@ impl Sink for MemorySink {
         ensures bound { TakesSome result bytes.now }
         ensures bytes { WriteAppends (Some self.old.taken) (Some self.new.taken) result bytes.now }
         ensures cause { HasCause self.old.faults self.new.faults result }
-        // A call fails exactly where the list has its number or memory is wanting.
+        // A call fails exactly where the list has its number or memory runs out.
         ensures listed { Contains self.old.fails (next_count self.old.calls) → IsErr result }
         ensures failed { IsErr result → Contains self.old.fails (next_count self.old.calls) ⊎
             Rose self.old.starved self.new.starved }

@@ -6,7 +6,7 @@ ghost use Rattle.stream_port.specs.Causes.{HasCause, next_count};
 use crate::ports::{Source, SourceFault};
 use std::marker::Model;
 
-// Puts a front of `rest`, of at most `most` bytes, at the front of `into`.
+// Puts a prefix of `rest`, of at most `most` bytes, at the front of `into`.
 fn fill(into: &mut [u8], rest: &[u8], most: usize) -> usize
     requires { 1 ≤ most }
     ensures bound { result ≤ length into.new }

@@ -42,7 +42,7 @@ pub trait Sink {
     /// How many calls failed. It never falls, and stays at 2^64 - 1.
     ghost faults: { Self → ℕ };
 
-    /// Takes a front of the bytes and says how many they are: at least one, where there are any.
+    /// Takes a prefix of the bytes and says how many they are: at least one, where there are any.
     fn write(&mut self, bytes: &[u8]) -> Result<usize, SinkFault>
         ensures bound { TakesSome result bytes.now }
         ensures bytes { WriteAppends (taken self.old) (taken self.new) result bytes.now }

@@ -8,7 +8,7 @@ use std::process::ExitCode;
 use std::{env, io};
 use stream_port::{ReadSource, WriteSink};
 
-/// The status where memory is wanting.
+/// The status where memory runs out.
 const NO_MEMORY: u8 = 7;
 
 // Ends a run that hasn't begun.

@@ -17,10 +17,10 @@ const NO_COMMAND: u8 = 1;
 /// The status where the page can't be written.
 const NO_OUTPUT: u8 = 4;
 
-/// The status where memory is wanting.
+/// The status where memory runs out.
 const NO_MEMORY: u8 = 7;
 
-// Ends a look that memory is wanting for.
+// Ends a look whose memory ran out.
 fn without_memory(rt: HostRuntime) -> ExitCode {
     let _said = eprintln!(rt; "swallow_look: out of memory");
     ExitCode::from(NO_MEMORY)

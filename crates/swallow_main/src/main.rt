@@ -16,7 +16,7 @@ use swallow_top::swallow;
 /// The status where the report can't be written.
 const NO_OUTPUT: u8 = 4;
 
-/// The status where memory is wanting.
+/// The status where memory runs out.
 const NO_MEMORY: u8 = 7;
 
 /// The folder of a command line that names none: no word follows, so nothing there is touched.

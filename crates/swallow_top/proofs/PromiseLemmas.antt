@@ -176,7 +176,7 @@ module _ {M : Type 0} (c : Call M) where
   pub promise-wanting : TouchedNothing c 7 → AllKept c.shelf_before c.shelf c.media → Promise c
   promise-wanting quiet kept = record { done = inr (inl quiet); kept = kept; statuses = let e = quiet.status_is in omega (arith, e); votes = inl quiet.no_votes }
 
-  -- a call that asked for no medium, since memory was wanting
+  -- a call that asked for no medium, since memory ran out
   promise-unasked : AskedNothing c.media_are c.shelf_before c.shelf c.media c.status → HasNoRun c.told → c.votes ≡ no_trace → Promise c
   promise-unasked h none votes = promise-wanting (record { status_is = h.wanting; none = h.none; unasked = h.unasked; no_run = none; no_votes = votes }) (none-kept c.shelf_before c.shelf c.media (λ name is. (h.left name).taken.0 is))
 

@@ -80,7 +80,7 @@ module _ {M : Type 0} (w : Media M) (old new : ShelfSight) (plan : Plan) (o : Op
       pasts = λ tells. pasts plan told.asked t language (ran.is_told tells).legal;
     }
 
-    -- memory was wanting in a run that isn't told
+    -- memory ran out in a run that isn't told
     no-memory : (t : Trace) → t ≡ no_trace → AllZip (IsKeptWhole w) media left → (IsTrue w.tells → AllZip (IsLeftAlone w) media left ⊎ (HadMemory w volumes × RanUntold w plan told.asked_before media left))
         → WantedMemory {M = M} w old new kept plan (account_of t told)
     no-memory t none whole past = record { trace = none; volumes = volumes; left = left; has = has; safe = none-lost w old new plan volumes left kept has whole; past = past }
@@ -94,7 +94,7 @@ module _ {M : Type 0} (w : Media M) (old new : ShelfSight) (plan : Plan) (o : Op
           by true is = absurd (other (none is))
           by false is = memory is
 
-      -- memory was wanting for a volume, so that nothing was written; or in a run
+      -- memory ran out for a volume, so that nothing was written; or in a run
       past-of : (wanting ≡ true → IsTrue w.tells → AllZip (IsLeftAlone w) media left) → (IsTrue w.tells → AllZip (IsLeftAlone w) media left ⊎ RanUntold w plan told.asked_before media left)
           → IsTrue w.tells → AllZip (IsLeftAlone w) media left ⊎ (HadMemory w volumes × RanUntold w plan told.asked_before media left)
       past-of alone past tells = by wanting refl (past tells)

@@ -12,12 +12,12 @@ use Rattle.swallow_top.specs.declared.stops.Stop.{Stop}
 use Rattle.swallow_top.specs.Histories.{TellsText}
 use Rattle.swallow_top.specs.Written.{AppendsFront, Ends, EndsIfAny, GotLine, Sinking, sinking}
 
--- a text, or a front of it where the count rose
+-- a text, or a prefix of it where the count rose
 pub written : (old new : Option (List ℕ)) (before after : ℕ) (text : List ℕ) (r : Result (Unit {0}) Stop) → OnOk r (Appends old new text) → OnErr r (AppendsFront old new text) → OnErr r (Rose before after) → GotLine (sinking old new before after) text
 written old new before after text (Ok u) ok front rose = inl ok
 written old new before after text (Err e) ok front rose = inr (front, rose)
 
--- a text that was made was written, or a front of it
+-- a text that was made was written, or a prefix of it
 pub tells-text : {E : Type 0} (r : Result (List ℕ) E) (text : List ℕ) (there status : ℕ) (s : Sinking) → IfOk r (λ t. t ≡ text) → TellsText r there status s → EndsIfAny status s there text
 tells-text (Ok t) text there status s e h = inr (subst (Ends status s there) e h)
 tells-text (Err x) text there status s e h = inl h

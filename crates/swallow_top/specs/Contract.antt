@@ -73,13 +73,13 @@ module _ {M : Type 0} (w : Media M) (old new : ShelfSight) (kept : List (Kept M)
       pub first : IsFirstFault w plan (map work_taken volumes) left why
       pub line : GotLine s (resume_line why)
 
-    -- Memory was wanting before any medium was asked for.
+    -- Memory ran out before any medium was asked for.
     pub record TookNothing (told : Account) : Type 0 where
       pub none : kept ≡ []
       pub unasked : new.asked ≡ old.asked
       pub no_run : HasNoRun told
 
-    -- Memory was wanting, and no trace is told. The media that the shelf gave are handed back, and none lost anything. They have a past all the same: none was written to; or there was a run, whose trace is
+    -- Memory ran out, and no trace is told. The media that the shelf gave are handed back, and none lost anything. They have a past all the same: none was written to; or there was a run, whose trace is
     -- told to no one.
     pub record WantedMemory (told : Account) : Type 0 where
       pub trace : told.trace ≡ no_trace
@@ -89,7 +89,7 @@ module _ {M : Type 0} (w : Media M) (old new : ShelfSight) (kept : List (Kept M)
       pub safe : Every (LosesNothing w old) kept
       pub past : IsTrue w.tells → AllZip (IsLeftAlone w) (map work_taken volumes) left ⊎ (HadMemory w volumes × RanUntold w plan told.asked_before (map work_taken volumes) left)
 
-    -- What came of running the plan: memory was wanting; or a broker's log refuses it; or it ran, and is told unless memory was wanting for that.
+    -- What came of running the plan: memory ran out; or a broker's log refuses it; or it ran, and is told unless memory ran out for that.
     abbrev pub CameOf : Wanted → Options → Account → Sinking → ℕ → Type 0
     CameOf wanted o told s status = ((status ≡ 7) × (TookNothing told ⊎ WantedMemory told))
         ⊎ (((status ≡ 2) × IsRefusedByLog s × HasNoRun told)
@@ -107,7 +107,7 @@ module _ {M : Type 0} (w : Media M) (old new : ShelfSight) (kept : List (Kept M)
       pub few : messages_for plan most < o.messages
       pub plain : Every IsPlain (fates_of told.trace.sent)
 
-    -- Where all is smooth the run is complete, and its text is written, unless memory was wanting.
+    -- Where all is smooth the run is complete, and its text is written, unless memory ran out.
     abbrev pub Completes : Options → Account → Sinking → ℕ → Type 0
     Completes o told s status = IsTrue w.tells → (most : ℕ) → IsSmooth o told s most → (status ≡ 7) ⊎ ((status ≡ 0) × WentSmoothly plan told.trace)
 

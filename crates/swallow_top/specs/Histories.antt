@@ -38,14 +38,14 @@ module _ {M : Type 0} {g : _} (object : ObjectId) (openings : List (Opening M g)
   abbrev pub ShowsDown : List ℕ → Type 0
   ShowsDown text = (cause : DownCause) × HasShut openings cause × (text ≡ down_text (record { node = home_of object; cause = cause }))
 
-  -- The sink got the history, or the line of a repository that can't be opened; or a front of one of these where it failed; or memory was wanting.
+  -- The sink got the history, or the line of a repository that can't be opened; or a prefix of one of these where it failed; or memory ran out.
   abbrev pub TellsVolumes : ℕ → Sinking → Type 0
   TellsVolumes status s = (status ≡ 7) ⊎ (((text : List ℕ) × ShowsHistory text × Ends status s 0 text) ⊎ ((text : List ℕ) × ShowsDown text × Ends status s 6 text))
 
 -- ---- by the shelf
 
 module _ {M : Type 0} (w : Media M) (old new : ShelfSight) where
-  -- memory was wanting before any medium was asked for
+  -- memory ran out before any medium was asked for
   pub record AskedNothing (kept : List (Kept M)) (status : ℕ) : Type 0 where
     pub wanting : status ≡ 7
     pub none : kept ≡ []

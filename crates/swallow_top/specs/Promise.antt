@@ -99,7 +99,7 @@ module _ {M : Type 0} (c : Call M) where
   VotesAlone = (c.votes ≡ no_trace) ⊎ ((o : Options) × AreWords (Votes o) c.words)
 
   pub record Promise : Type 0 where
-    -- The words are no command; or memory was wanting before anything was done; or the words are a command, and this was done.
+    -- The words are no command; or memory ran out before anything was done; or the words are a command, and this was done.
     pub done : HasNoWords ⊎ (TouchedNothing 7 ⊎ ((command : Command) × AreWords command c.words × WasDone command))
     -- Each medium that was taken is handed back.
     pub kept : AllKept c.shelf_before c.shelf c.media

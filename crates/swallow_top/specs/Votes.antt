@@ -67,7 +67,7 @@ limits_of o = record { ticks = o.ticks; messages = o.messages }
 abbrev pub votes_status : Trace → List PollStanding → ℕ
 votes_status t standings = status_with (all_held standings) (some_down t.entries)
 
--- how the polls stand is written, unless memory was wanting, and this is the trace
+-- how the polls stand is written, unless memory ran out, and this is the trace
 abbrev pub TellsVotes : VoteEnd → Trace → ℕ → Sinking → Type 0
 TellsVotes (Told t standings) votes status s = (votes ≡ t) × EndsIfAny status s (votes_status t standings) (told_text t standings)
 TellsVotes NoMemory votes status s = (votes ≡ no_trace) × (status ≡ 7)
@@ -87,5 +87,5 @@ pub record HavePolled {M : Type 0} (w : Media M) (old new : ShelfSight) (polls :
   pub over : VotesOver w old new (limits_of o) polls (tellers_of told) kept end
   pub written : TellsVotes end votes status s
   pub no_run : told.trace ≡ no_trace
-  -- where nothing stands in the way of members, polls and the sink, each poll comes to a decision without a Tick and is told so, unless memory was wanting
+  -- where nothing stands in the way of members, polls and the sink, each poll comes to a decision without a Tick and is told so, unless memory ran out
   pub completes : IsTrue w.tells → AreSmooth w polls o.messages over.media over.left votes → (Rose s.faults_before s.faults → ⊥) → (status ≡ 7) ⊎ ((status ≡ 0) × (tick_count votes.entries ≡ 0))

@@ -3,7 +3,7 @@ use Rattle.std.specs.Prelude.{◌≡◌, ℕ, List, ◌++◌, Option, ◌⊎◌}
 use Rattle.std.specs.Io.KnownBytes.{Appends}
 use Rattle.stream_port.specs.Causes.{Rose}
 
--- it got a front of the text
+-- it got a prefix of the text
 abbrev pub AppendsFront : Option (List ℕ) → Option (List ℕ) → List ℕ → Type 0
 AppendsFront old new text = (front rest : List ℕ) × (text ≡ front ++ rest) × Appends old new front
 
@@ -21,7 +21,7 @@ sinking taken_before taken faults_before faults = record { taken_before = taken_
 abbrev pub Got : Sinking → List ℕ → Type 0
 Got s text = Appends s.taken_before s.taken text
 
--- it failed, and got a front of the text
+-- it failed, and got a prefix of the text
 abbrev pub GotFront : Sinking → List ℕ → Type 0
 GotFront s text = AppendsFront s.taken_before s.taken text × Rose s.faults_before s.faults
 
@@ -29,10 +29,10 @@ GotFront s text = AppendsFront s.taken_before s.taken text × Rose s.faults_befo
 abbrev pub GotLine : Sinking → List ℕ → Type 0
 GotLine s text = Got s text ⊎ GotFront s text
 
--- The sink got the text and this is the status of its run; or it failed and got a front of it, and the status is 4.
+-- The sink got the text and this is the status of its run; or it failed and got a prefix of it, and the status is 4.
 abbrev pub Ends : ℕ → Sinking → (status_there : ℕ) → List ℕ → Type 0
 Ends status s status_there text = ((status ≡ status_there) × Got s text) ⊎ ((status ≡ 4) × GotFront s text)
 
--- or memory was wanting for the text
+-- or memory ran out for the text
 abbrev pub EndsIfAny : ℕ → Sinking → (status_there : ℕ) → List ℕ → Type 0
 EndsIfAny status s status_there text = (status ≡ 7) ⊎ Ends status s status_there text

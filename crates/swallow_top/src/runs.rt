@@ -28,7 +28,7 @@ use std::thread::Threads;
 use stream_port::{Clock, Fates, Sink};
 use value_form::Items;
 
-// Runs the plan over these openings, unless memory was wanting for one of the nodes' volumes.
+// Runs the plan over these openings, unless memory ran out for one of the nodes' volumes.
 fn run_opened<
     F: Fates + Drop + Send,
     C: Clock + Drop + Send,

@@ -4,7 +4,7 @@ use std::alloc::{AllocError, AllocFailed};
 /// Why no plan is run.
 #[derive(Clone, Copy, Debug, PartialEq, Eq)]
 pub enum Stop {
-    /// Memory is wanting.
+    /// Memory ran out.
     NoMemory,
     /// The input isn't a plan: the line of its fault, and what is wrong with it.
     Fault { line: u32, kind: PlanKind },

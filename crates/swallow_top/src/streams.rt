@@ -34,7 +34,7 @@ pub fn read_all<I: Source>(alloc: Global, source: &mut I) -> Result<Vec<u8>, Sto
     Ok(bytes)
 }
 
-/// Writes all the bytes, or a front of them where the sink fails.
+/// Writes all the bytes, or a prefix of them where the sink fails.
 pub fn write_all<O: Sink>(sink: &mut O, bytes: &[u8]) -> Result<(), Stop>
     ensures ok { OnOk result (Appends (O.taken sink.old) (O.taken sink.new) bytes.now) }
     ensures err { OnErr result (AppendsFront (O.taken sink.old) (O.taken sink.new) bytes.now) }

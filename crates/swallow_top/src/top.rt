@@ -86,7 +86,7 @@ fn refused<O: Sink>(alloc: Global, stop: Stop, sink: &mut O) -> u8
 ///   retirement or that of a node that is down was written;
 /// - 5: no node is down, and an act has no outcome, or a poll holds no decision;
 /// - 6: a node is down, and the text says why;
-/// - 7: memory is wanting;
+/// - 7: memory runs out;
 /// - 8: the repository may not be retired at the mark, and nothing was written to its media:
 ///   `swallow: last volume`, `swallow: old mark FLOOR` or `swallow: undecided OBJECT START` says why; or
 ///   there is no map as of the mark, and `swallow: undecided OBJECT START` says why; or no number holds

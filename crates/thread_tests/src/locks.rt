@@ -59,7 +59,7 @@ impl Pairs {
         }
     }
 
-    // False where memory is wanting.
+    // False where memory runs out.
     fn add(&mut self, pair: Pair) -> bool
         ensures { MatchBool result (self.new ≡ self.old ++ pair ∷ []) (self.new ≡ self.old) }
     {

@@ -55,7 +55,7 @@ fn by_two<L: Sync, S: Turns<L> + Drop + Send, R: Threads + Wait + Sync>(
     )
 }
 
-/// A node with its pass, which is gone where memory was wanting.
+/// A node with its pass, which is gone where memory ran out.
 #[derive(Drop)]
 struct Hand {
     node: NodeId,

@@ -103,7 +103,7 @@ pub fn start(alloc: Global) -> Result<Started, AllocError>
     })
 }
 
-/// Ends it. Its passes all came back, so nothing but memory may be wanting.
+/// Ends it. Its passes all came back, so nothing but memory may run out.
 pub fn end(
     alloc: Global,
     wire: TestShared,

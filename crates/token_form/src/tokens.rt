@@ -82,7 +82,7 @@ impl Token {
     ghost use Rattle.token_form.specs.Tokens.{spelling};
 
     /// Appends the token as scripts print it, a text with no escape that it doesn't need. Where
-    /// memory is wanting, `out` is as before.
+    /// memory runs out, `out` is as before.
     pub fn print(&self, alloc: Global, out: &mut Vec<u8>) -> Result<(), AllocError>
         ensures ok { OnOk result (out.new.items ≡ out.old.items ++ spelling self.now) }
         ensures err { OnErr result (out.new.items ≡ out.old.items) }

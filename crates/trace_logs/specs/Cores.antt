@@ -14,7 +14,7 @@ pub use Rattle.world_core.specs.Cores.{IsRepository, IsBroker, own_acts, acts_fo
 use Rattle.trace_logs.specs.declared.cores.NodeCore.{NodeCore}
 use Rattle.trace_logs.specs.declared.cores.NodeCore.TheVariants as core
 
--- only memory was wanting
+-- only memory ran out
 abbrev pub IsWant : HistoryFault → Type 0
 IsWant f = f ≡ fault.NoMemory
 

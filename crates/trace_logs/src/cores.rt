@@ -28,7 +28,7 @@ pub enum NodeCore {
     Broker(Broker),
 }
 
-// A turn, or the want of memory: histories in memory fail in no other way.
+// A turn, or that memory ran out: histories in memory fail in no other way.
 fn wanted(gave: Result<Turn, CoreFault>) -> Result<Turn, AllocError>
     requires { IfErr gave IsWant }
     ensures ok { IfOk result (λ turn. gave ≡ Ok turn) }

@@ -36,7 +36,7 @@ impl<T> Boxed<T> {
 }
 
 impl<T: Drop> Boxed<T> {
-    /// Holds this part. Where memory is wanting, the part is let go.
+    /// Holds this part. Where memory runs out, the part is let go.
     pub fn new(alloc: Global, part: T) -> Result<Boxed<T>, AllocError>
         ensures { IfOk result (λ b. b ≡ part) }
     {

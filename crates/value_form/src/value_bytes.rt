@@ -120,7 +120,7 @@ fn number_bytes(number: i64) -> [u8; 9]
 }
 
 impl Value {
-    /// Appends the value's bytes. Where memory is wanting, `out` is as before.
+    /// Appends the value's bytes. Where memory runs out, `out` is as before.
     pub fn write(&self, alloc: Global, out: &mut Vec<u8>) -> Result<(), AllocError>
         requires { IsValue self.now }
         ensures ok { OnOk result (out.new.items ≡ out.old.items ++ value_bytes self.now) }
@@ -143,7 +143,7 @@ impl Value {
         // What is read stands so in the bytes.
         ensures found { IfOk result (λ p. IsValue p.0 × (p.1 ≤ length bytes.now) ×
             (take p.1 bytes.now ≡ value_bytes p.0)) }
-        // What stands in the bytes is read, unless memory is wanting.
+        // What stands in the bytes is read, unless memory runs out.
         ensures only { (v : Value) (rest : List ℕ) → IsValue v → bytes.now ≡ value_bytes v ++ rest →
             GivesCount result (length bytes.now) (Ok (v, rest)) }
         // Where it isn't, at which place.

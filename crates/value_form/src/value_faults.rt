@@ -6,7 +6,7 @@ pub enum ValueFault {
     /// No front of the bytes is a value. The field that begins at this place is missing, cut short
     /// or out of range.
     Form(usize),
-    /// Memory is wanting.
+    /// Memory ran out.
     NoMemory,
 }
 

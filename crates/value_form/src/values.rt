@@ -55,7 +55,7 @@ pub enum Value {
 impl Value {
     ghost use Rattle.value_form.specs.ValueText.{value_text};
 
-    /// Appends the printed text. Where memory is wanting, `out` is as before.
+    /// Appends the printed text. Where memory runs out, `out` is as before.
     pub fn print(&self, alloc: Global, out: &mut Vec<u8>) -> Result<(), AllocError>
         ensures ok { OnOk result (out.new.items ≡ out.old.items ++ value_text self.now) }
         ensures err { OnErr result (out.new.items ≡ out.old.items) }

@@ -49,7 +49,7 @@ last_from-stands before (x ∷ log) object place is = ⊎_elim
 pub last_put-stands : (log : Log) (object : ObjectId) (place : Place) → last_put log object ≡ Some place → IsLastPut log object place
 last_put-stands log object place is = ⊎_elim (λ nowhere. absurd (cc nowhere.0)) (λ at. at) (last_from-stands None log object place is)
 
--- what stands in a front of the log stands in it
+-- what stands in a prefix of the log stands in it
 stands_on : (log : Log) (i : ℕ) (object : ObjectId) (place : Place) → IsPutAt (take i log) object place → IsPutAt log object place
 stands_on log i object place at = record {
   here = (

@@ -9,7 +9,7 @@ pub enum OpenFault {
     Medium,
     /// This is the first page that no log has there.
     Damaged { page: u32 },
-    /// Memory is wanting.
+    /// Memory ran out.
     NoMemory,
 }
 
@@ -20,14 +20,14 @@ pub enum StoreFault {
     Medium,
     /// The effects need more pages than are blank. The medium has this many in all.
     Full { pages: u32 },
-    /// Memory is wanting.
+    /// Memory ran out.
     NoMemory,
 }
 
 impl StoreFault {
     ghost use Rattle.version_store.specs.Causes.{down_of};
 
-    /// Why the store's node is down. None where memory is wanting: it isn't.
+    /// Why the store's node is down. None where memory runs out: it isn't.
     pub fn down_cause(self) -> Option<DownCause>
         ensures { result ≡ down_of self }
     {
@@ -42,7 +42,7 @@ impl StoreFault {
 impl OpenFault {
     ghost use Rattle.version_store.specs.Causes.{down_of_opening};
 
-    /// Why the store's node is down. None where memory is wanting: it isn't.
+    /// Why the store's node is down. None where memory runs out: it isn't.
     pub fn down_cause(self) -> Option<DownCause>
         ensures { result ≡ down_of_opening self }
     {
@@ -61,6 +61,6 @@ pub enum FetchFault {
     Medium,
     /// This page, which was read last, doesn't have the effect, or the piece of it that is due.
     Damaged { page: u32 },
-    /// Memory is wanting.
+    /// Memory ran out.
     NoMemory,
 }

@@ -108,7 +108,7 @@ module _ {M : Type 0} {g : Media M} (w : Media M) where
   lasts-sit number start first (opening.Shut left cause) seat h (inr wanted) = absurd wanted
   lasts-sit number start first (opening.Wanting left) seat h (inr wanted) = absurd wanted
 
-  -- ---- a seat that doesn't want memory
+  -- ---- a seat whose memory didn't run out
 
   for-wants : (number start : ℕ) (o : Opening M g) → wants (seat_for number start o) ≡ false → IsWanting o → ⊥
   for-wants number start (opening.Open store effects) enough is = is

@@ -69,7 +69,7 @@ module _ {M : Type 0} {g : _} where
   seat_for number start (opening.Shut left cause) = Fallen left
   seat_for number start (opening.Wanting left) = Wanting left
 
-  -- memory was wanting for its log
+  -- memory ran out for its log
   abbrev pub SeatWants : Opening M g → Seat M g → Type 0
   SeatWants (opening.Open store effects) (Wanting left) = left ≡ words.medium_of store
   SeatWants _ _ = ⊥

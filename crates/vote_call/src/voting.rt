@@ -121,7 +121,7 @@ fn run<F: Fates, C: Clock, M: Medium>(
     }
 }
 
-// Memory was wanting before anything was sent or written.
+// Memory ran out before anything was sent or written.
 fn wanting<F, C, M: Medium>(openings: Openings<M>, fates: F, clock: C) -> Voted<F, C, M>
     ensures end { result.end ≡ VoteEnd.NoMemory }
     ensures media { result.media ≡ given_back openings }

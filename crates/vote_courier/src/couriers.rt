@@ -19,7 +19,7 @@ use vote_wire::send_all;
 use world_core::{Entry, Opened, Sent, Trace};
 
 /// The copies of messages between members and polls, and the trace of what happened. After an error
-/// the run has to end: memory is wanting.
+/// the run has to end: memory runs out.
 #[derive(Drop)]
 pub struct Courier<F: Fates, C: Clock> {
     alloc: Global,
@@ -86,7 +86,7 @@ impl<F: Fates, C: Clock> Courier<F, C> {
     }
 
     // Adds an entry. There are fewer than 2^32, and a call that would pass that answers the same as
-    // where memory is wanting.
+    // where memory runs out.
     fn note(&mut self, entry: Entry) -> Result<(), AllocError>
         ensures ok { OnOk result (self.new ≡ with_entry self.old entry) }
         ensures err { OnErr result (self.new ≡ self.old) }

@@ -19,7 +19,7 @@ pub enum Closed<M: Medium> {
     Reopened(Store<M>, Vec<Effect>),
     /// The member can't go on, for this cause.
     Fallen(M, DownCause),
-    /// Memory was wanting.
+    /// Memory ran out.
     Wanting(M),
 }
 

@@ -62,7 +62,7 @@ pub record HasEnded (most_ticks enough : ℕ) (lines : List Line) (t : Trace) : 
 
 -- ---- media
 
--- the image's log is the durable log with a beginning of the new effects
+-- the image's log is the durable log with a prefix of the new effects
 pub record IsKept (gated fresh : List Effect) (image : Image) : Type 0 where
   pub kept : ℕ
   pub few : kept ≤ length fresh

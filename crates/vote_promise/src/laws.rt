@@ -19,7 +19,7 @@ pub fn decisions_stand_on_media<M: Medium>()
         StandOnMedia M.Medium lines left t }
 {}
 
-/// What a crash leaves of a member's medium goes on from the log that was opened, and each Decide
+/// What a crash leaves of a member's medium resumes from the log that was opened, and each Decide
 /// behind that has its cause.
 pub fn decisions_on_media_have_causes<M: Medium>()
     ensures { (lines : List Line) (asked : List Asked) (t : Trace) (media left : MemberNumber → Option M) →

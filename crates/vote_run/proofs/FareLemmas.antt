@@ -242,7 +242,7 @@ module _ {M : Type 0} (w : Media M) (n : NodeId) where
     turn-fares c d (Fallen left) seat (still, same) enough f = subst (Fares w n first d.entries) (sym same) (subst (λ (z : CourierParts). Fares w n {g = g} first z.entries (Fallen left)) (sym still) f)
     turn-fares c d (Wanting left) seat (still, same) enough f = absurd f
 
-    -- which entries it adds, unless memory was wanting
+    -- which entries it adds, unless memory ran out
     ended-longer : (c mid d : CourierParts) (m k : MemberState) (before : Store M g) (durable : ℕ) (behind : Bool) (moment : ℕ) (t : Turn) (outs : List Out) (seat : Seat M g) → Begins behind n moment c mid m k (Some t)
         → EndsAs w n durable mid d before t.effects outs k seat → wants seat ≡ false → Lengthens (same_node n) c.entries d.entries
     ended-longer c mid d m k before durable behind moment t outs seat b ends enough =

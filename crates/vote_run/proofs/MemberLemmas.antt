@@ -142,7 +142,7 @@ module _ (lines : List Line) (s : MemberNumber) where
           },
         )
 
-    -- it goes on from its log with the first of its effects
+    -- it resumes from its log with the first of its effects
     pub crash-kept : (kept : ℕ) → kept ≤ length effects
         → Keeps lines (same_node n) c (with_entry c (Crash n kept)) × MemberIsAt (hall_of lines (with_entry c (Crash n kept))) s (record { number = number_of s; log = log ++ take kept effects; moment = c.start }) (is_some c.last)
     crash-kept kept most =

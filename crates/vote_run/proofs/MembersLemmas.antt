@@ -71,7 +71,7 @@ module _ {M : Type 0} {g : _} (w : Media M) (lines : List Line) where
       inr (record { down = ap (λ (z : Flags). z.up) (o.flags (member s) f) ∙ sits.down; out = subst (λ z. WasNotOpened z (member s)) (sym a.longer) (out-stays (member s) c.entries a.more sits.out) })
   sits-stay of c d s (Wanting left) o a f sits = absurd sits
 
-  -- what one turn leaves, where memory wasn't wanting
+  -- what one turn leaves, where memory didn't run out
   sat-parts : (c d : CourierParts) (s : MemberNumber) (seat : Seat M g) → wants seat ≡ false → SatOn w lines c d s seat → Keeps lines (same_node (member s)) c d × Sits w lines d s seat
   sat-parts c d s (Up m store durable behind) enough h = h
   sat-parts c d s (Fallen left) enough h = h

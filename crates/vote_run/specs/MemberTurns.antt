@@ -65,7 +65,7 @@ module _ {M : Type 0} {g : _} (w : Media M) where
     pub sends : HasSent n outs old new
     pub state : k ≡ m
 
-  -- its medium failed, and it goes on from the log that was found
+  -- its medium failed, and it resumes from the log that was found
   pub record IsReopened (n : NodeId) (durable : ℕ) (old new : CourierParts) (before : Store M g) (effects : List Effect) (m k : MemberState) (s : Store M g) : Type 0 where
     pub found : List Effect
     pub crashed : IsCrashed w before s effects found
@@ -115,7 +115,7 @@ module _ {M : Type 0} {g : _} (w : Media M) where
     pub none : Begins behind n (moment_of old) old new m m None
     pub same : seat ≡ Up m before durable behind
 
-  -- memory was wanting before it did anything
+  -- memory ran out before it did anything
   abbrev pub Wants : M → Seat M g → Type 0
   Wants old (Wanting left) = left ≡ old
   Wants old _ = ⊥

@@ -17,7 +17,7 @@ abbrev pub is_member : NodeId → Bool
 is_member n = not (is_broker n.kind)
 
 module _ {M : Type 0} {g : _} where
-  -- memory was wanting
+  -- memory ran out
   abbrev pub wants : Seat M g → Bool
   wants (Up m s durable behind) = false
   wants (Fallen left) = false
@@ -59,6 +59,6 @@ module _ {M : Type 0} {g : _} where
     pub keeps : Keeps lines is_member c d
     pub sit : SitAll w lines d ms
 
-  -- unless memory was wanting
+  -- unless memory ran out
   abbrev pub AllSat : Media M → List Line → CourierParts → CourierParts → Members M g → Type 0
   AllSat w lines c d ms = some_wants ms ≡ false → HaveSat w lines c d ms

@@ -64,7 +64,7 @@ module _ {M : Type 0} {g : _} (w : Media M) (lines : List Line) where
   Sits c s (Fallen left) = SitsFallen w lines c s left ⊎ SitsDown lines c s
   Sits c s (Wanting left) = ⊥
 
-  -- What a turn of this member leaves, unless memory was wanting.
+  -- What a turn of this member leaves, unless memory ran out.
   abbrev pub SatOn : CourierParts → CourierParts → MemberNumber → Seat M g → Type 0
   SatOn c d s (Up m store durable behind) = Keeps lines (same_node (member s)) c d × SitsUp d s m store durable behind
   SatOn c d s (Fallen left) = Keeps lines (same_node (member s)) c d × (SitsFallen w lines d s left ⊎ SitsDown lines d s)

@@ -44,7 +44,7 @@ pub fn begin<F: Fates, C: Clock>(
     Ok(Some(turn))
 }
 
-// The member goes on from the log that was found.
+// The member resumes from the log that was found.
 fn go_on<F: Fates, C: Clock>(
     alloc: Global,
     courier: &mut Courier<F, C>,
@@ -89,7 +89,7 @@ fn gate<F: Fates, C: Clock, M: Medium>(
 }
 
 /// Ends a member's turn: its effects are made durable, and then its messages are sent. After a fault
-/// of its medium it goes on from the log that is found, or is down.
+/// of its medium it resumes from the log that is found, or is down.
 pub fn end<F: Fates, C: Clock, M: Medium>(
     alloc: Global,
     courier: &mut Courier<F, C>,

@@ -22,7 +22,7 @@ pub struct Members<M: Medium> {
     pub third: Seat<M>,
 }
 
-// Whether memory was wanting.
+// Whether memory ran out.
 fn wants<M: Medium>(seat: &Seat<M>) -> bool
     ensures { result ≡ spec.wants seat.now }
 {
@@ -55,7 +55,7 @@ fn late<M: Medium>(seat: Seat<M>) -> Seat<M>
     }
 }
 
-/// Whether memory was wanting for one of them.
+/// Whether memory ran out for one of them.
 pub fn some_wants<M: Medium>(members: &Members<M>) -> bool
     ensures { result ≡ spec.some_wants members.now }
 {

@@ -10,7 +10,7 @@ pub enum Seat<M: Medium> {
     Up(Member, Store<M>, usize, bool),
     /// It is down. None where its medium is missing.
     Fallen(Option<M>),
-    /// Memory was wanting.
+    /// Memory ran out.
     Wanting(M),
 }
 

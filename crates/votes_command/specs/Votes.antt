@@ -22,7 +22,7 @@ abbrev pub AreSmooth : {M : Type 0} → Media M → List PollLine → ℕ → (m
 AreSmooth w polls enough media left t = IsSmooth w (lines_of polls) (medium_of media) (medium_of left) enough t
 
 module _ {M : Type 0} (w : Media M) (old new : ShelfSight) where
-  -- Memory was wanting before any medium was asked for.
+  -- Memory ran out before any medium was asked for.
   pub record TookNothing (told : Tellers) (kept : List (Kept M)) (end : VoteEnd) : Type 0 where
     pub wanting : end ≡ NoMemory
     pub fates : told.asked ≡ told.asked_before

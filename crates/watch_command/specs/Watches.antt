@@ -128,7 +128,7 @@ module _ {M : Type 0} (w : Media M) {g : _} (repository : ℕ) (rule : Rule) (m 
       pub ready : IsReady repository rule m log puts text
       pub cut : IsCutOff w repository log puts store text new line
 
-    -- memory was wanting for the line of a medium that stopped it
+    -- memory ran out for the line of a medium that stopped it
     pub record IsUntold (new : M) : Type 0 where
       pub puts : List Effect
       pub text : List ℕ
@@ -155,7 +155,7 @@ module _ {M : Type 0} (w : Media M) {g : _} (repository : ℕ) (rule : Rule) (m 
 -- ---- the whole of it
 
 module _ {M : Type 0} {g : _} (repository : ℕ) (openings : List (Opening M g)) where
-  -- why the volume of totals isn't asked for: a volume couldn't be opened, or memory was wanting
+  -- why the volume of totals isn't asked for: a volume couldn't be opened, or memory ran out
   abbrev pub Keeps : Outcome → Type 0
   Keeps (Told text) = ⊥
   Keeps (Refused line) = ⊥

@@ -40,7 +40,7 @@ pub record IsSame (old new : WireParts) : Type 0 where
   pub whole : old.broken ≡ false
   pub same : new ≡ old
 
--- Memory was wanting: the trace is as before, and every later change answers the same.
+-- Memory ran out: the trace is as before, and every later change answers the same.
 pub record IsBroken (old new : WireParts) : Type 0 where
   pub origin : new.origin ≡ old.origin
   pub entries : new.entries ≡ old.entries

@@ -39,7 +39,7 @@ pub record IsSound (told : Bool) (w : WireParts) (nodes : List (NodeId × NodeFl
   -- where media tell their content, the trace is legal
   pub sent : IsTrue told → map post_of w.sent ≡ sent_by (world_of w)
   pub meets : IsTrue told → Meets (base_from w.origin) (fates_of w.sent) (start_world (base_from w.origin)) w.entries
-  -- until memory was wanting
+  -- until memory ran out
   pub asked : w.broken ≡ false → w.asked ≡ w.origin.asked ++ map asked_of w.sent
   pub clocked : w.broken ≡ false → IsClocked w.origin.answers w.answers w.origin.start w.entries
   pub flown : w.broken ≡ false → IsFlown told w

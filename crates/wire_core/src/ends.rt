@@ -31,7 +31,7 @@ impl<F: Fates, C: Clock, M: Medium> Wire<F, C, M> {
         self.story.standing(node)
     }
 
-    /// Whether no node that is up has anything to do. After a want of memory it is false.
+    /// Whether no node that is up has anything to do. After memory ran out it is false.
     pub fn idle(&self) -> bool
         ensures quiet { IsTrue result ↔ ((self.now.broken ≡ false) × IsQuiet self.now) }
         ensures idle { IsTrue M.tells →

@@ -112,7 +112,7 @@ impl Story {
     }
 
     /// Adds an entry. There are fewer than 2^32, and a call that would pass that answers the same as
-    /// where memory is wanting.
+    /// where memory runs out.
     pub fn add(&mut self, entry: Entry) -> Result<(), AllocError>
         ensures ok { OnOk result (HasOneMore self.old self.new entry) }
         ensures err { OnErr result (IsSameStory self.old self.new) }

@@ -113,7 +113,7 @@ impl<F: Fates, C: Clock, M: Medium> SharedWire<F, C, M> {
     }
 
     /// Ends the run: tells its trace, and hands the fates and the clock back. `passes` are all its
-    /// passes, in any order. An error comes just where memory was wanting in a visit, which only the
+    /// passes, in any order. An error comes just where memory ran out in a visit, which only the
     /// wire knows: a pass doesn't.
     ///
     /// The entries begin with the story of each pass, and of the owner of each pass they have just

@@ -45,7 +45,7 @@ impl<F: Fates, C: Clock, M: Medium> SharedWire<F, C, M> {
         }
     }
 
-    /// How many messages the wire has sent, and whether it is idle. After a want of memory in an
+    /// How many messages the wire has sent, and whether it is idle. After memory ran out in an
     /// earlier visit it isn't idle.
     ///
     /// Which copies are due only the wire knows: the run's end tells whether it closed idle.

@@ -25,7 +25,7 @@ module _ {X Y : Type 0} where
   numbered-front xs ys zs zero x z most at here = absurd (cc at)
   numbered-front xs ys zs (suc k) x z most at here = slice-front xs ys zs k x z most at here
 
-  -- a front of what a map gives is what it gives of a front
+  -- a prefix of what a map gives is what it gives of a front
   pub map-front : (f : X → Y) (xs : List X) (ys zs : List Y) → map f xs ≡ ys ++ zs → (us vs : List X) × (xs ≡ us ++ vs) × (map f us ≡ ys)
   map-front f xs [] zs h = ([], xs, refl, refl)
   map-front f [] (y ∷ ys) zs h = absurd (cc h)

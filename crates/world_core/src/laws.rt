@@ -14,7 +14,7 @@ ghost use Rattle.world_core.specs.Walks.{Base, World, own, step, walk, sent_by};
 ghost use Rattle.world_core.specs.Legal.{Rule, Meets, Legal, Numbered, base_of, post_of, fates_of, asked_of, in_plan};
 ghost use Rattle.world_core.specs.Pasts.{Call, IsCall, HasPast, log_left};
 
-/// Of two lists of entries, one a beginning of the other, with the same own entries of a node, both
+/// Of two lists of entries, one a prefix of the other, with the same own entries of a node, both
 /// give the same life of that node.
 pub fn law_of_lives()
     ensures { (b : Base) (es more : List Entry) (n : NodeId) → own n (es ++ more) ≡ own n es →

@@ -2,7 +2,7 @@ use Rattle.std.proofs.Common.{◌-◌, ◌≤◌, length}
 use Rattle.std.specs.Io.KnownBytes.{Consumes}
 use Rattle.swallow_top.proofs.streams.read_all.Given as goal
 
--- what was read is a front of the input, of at most one byte more than a plan has
+-- what was read is a prefix of the input, of at most one byte more than a plan has
 abbrev pub invariant-loop-piece : goal.invariant-loop-piece
 invariant-loop-piece g l = record {
   bytes : Consumes (g.I.Source.left l.fn.source) (g.I.Source.left l.source) l.bytes.items;

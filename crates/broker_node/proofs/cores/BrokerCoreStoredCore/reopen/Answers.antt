@@ -1,12 +1,11 @@
 use Rattle.std.proofs.Common.{◌≤◌, refl, ap, sym, subst, ◌∙◌, Ok, List}
-use Rattle.pseudo_time.specs.Nodes.{broker}
 use Rattle.medium_port.specs.Image.{NoMore}
 use Rattle.medium_port.specs.Moment.{LeavesOnly}
 use Rattle.effect_form.specs.declared.effects.Effect.{Effect}
 use Rattle.version_store.specs.StoreWords.{medium_of}
 use Rattle.broker_core.specs.Tasks.{Scripted}
-use Rattle.node_turn.proofs.MediumLemmas.{reopened-none, ready-found}
-use Rattle.broker_node.proofs.CoreLemmas.{opens-sound, no-medium}
+use Rattle.node_turn.proofs.MediumLemmas.{reopened-none}
+use Rattle.broker_node.proofs.CoreLemmas.{opens-damaged, no-medium}
 use Rattle.broker_node.proofs.cores.BrokerCoreStoredCore.reopen.Goals as goal
 
 -- a log that the broker can't go on from
@@ -21,7 +20,10 @@ returns-in-Err-open g c =
     (λ t. subst (λ z. NoMore (g.M.Medium.may_leave m) (g.M.Medium.may_leave z)) (sym c.release.ensures) (c.in-Ok.ensures.images t))
     (λ t. subst (λ z. LeavesOnly g.M.Medium.stages m z (g.M.Medium.may_leave m)) (sym c.release.ensures) (c.in-Ok.ensures.any_moment t))
     (λ e. absurd (no-medium c.in-Err-open.fault (sym c.damage_of.ensures ∙ e)))
-    (λ t b f ready page e.
-    opens-sound b old.number old.run acts log c.in-Err-open.fault page f.0 (c.as_slice.ensures.acts ∙ f.1)
-    (ready-found (g.M.Medium.may_leave m) (broker old.number) b (g.M.Medium.reads (medium_of c.in-Ok.store)) log (c.in-Ok.ensures.was t) (c.in-Ok.ensures.found t ∙ ap (λ (l : List Effect). Ok l) (sym c.as_slice-in-Ok.ensures.value)) ready)
-    (c.in-Err-open.ensures.opens b.script (subst (Scripted b.script) (sym c.as_slice.ensures.acts) f.2)) (sym c.damage_of.ensures ∙ e))
+    (λ t b f page e. let image = g.M.Medium.reads (medium_of c.in-Ok.store) in (
+      image,
+      c.in-Ok.ensures.was t,
+      opens-damaged b old.number old.run acts log image c.in-Err-open.fault page f.0 (c.as_slice.ensures.acts ∙ f.1)
+          (c.in-Ok.ensures.found t ∙ ap (λ (l : List Effect). Ok l) (sym c.as_slice-in-Ok.ensures.value))
+          (c.in-Err-open.ensures.opens b.script (subst (Scripted b.script) (sym c.as_slice.ensures.acts) f.2)) (sym c.damage_of.ensures ∙ e),
+    ))
