@@ -7,7 +7,7 @@ use Rattle.seat_lock.specs.Story.{Begins}
 use Rattle.world_core.specs.declared.entries.Entry.{Entry}
 use Rattle.world_core.specs.declared.entries.Entry.TheVariants.{Tick}
 use Rattle.world_core.specs.Walks.{walk}
-use Rattle.broker_node.specs.Sights.{Sight, AtRest, Looked, Added, base_at, world_at}
+use Rattle.broker_node.specs.Sights.{Sight, HasNothingOpen, Looked, Added, base_at, world_at}
 use Rattle.world_core.specs.Counts.{is_tick, tick_count}
 use Rattle.node_rounds.specs.declared.limits.Limits.{Limits}
 use Rattle.node_rounds.specs.declared.reasons.Reason.TheVariants as reason
@@ -48,12 +48,12 @@ is-so true e = refl
 is-so false e = absurd cc
 
 -- the conductor saw rest, and then looked once more
-pub saw-rest : (a b : Sight) → AtRest (world_at a) → Looked a b → SawRest b
-saw-rest a b rest p = (a.story, p.before.carries.begins, subst (λ (k : Sight). AtRest (walk (base_at k) a.story)) (sym p.kept) rest)
+pub saw-rest : (a b : Sight) → HasNothingOpen (world_at a) → Looked a b → SawRest b
+saw-rest a b rest p = (a.story, p.before.carries.begins, subst (λ (k : Sight). HasNothingOpen (walk (base_at k) a.story)) (sym p.kept) rest)
 
 module _ {M : Type 0} (tells : Bool) (limits : Limits) where
   -- memory ran out for a Tick
-  pub wants-tick : (a b c : Sight) (nodes : Shares M) → EachNode IsUp nodes → AtRest (world_at b) → Looked a b → Looked b c → tick_count a.own < limits.ticks → Follows tells limits (next.End reason.Wanting) nodes a c
+  pub wants-tick : (a b c : Sight) (nodes : Shares M) → EachNode IsUp nodes → HasNothingOpen (world_at b) → Looked a b → Looked b c → tick_count a.own < limits.ticks → Follows tells limits (next.End reason.Wanting) nodes a c
   wants-tick a b c nodes up rest p q few =
       let m = ap tick_count (looked-own p) in
       let n = ap tick_count (looked-own q) in

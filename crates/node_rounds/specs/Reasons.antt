@@ -9,7 +9,7 @@ use Rattle.world_core.specs.declared.entries.Entry.{Entry}
 use Rattle.world_core.specs.declared.entries.Entry.TheVariants.{Tick}
 use Rattle.world_core.specs.Walks.{Base, sent_by, walk}
 use Rattle.broker_node.specs.Boards.{owner_of}
-use Rattle.broker_node.specs.Sights.{Sight, IsOf, AtRest, base_at, world_at}
+use Rattle.broker_node.specs.Sights.{Sight, IsOf, HasNothingOpen, base_at, world_at}
 use Rattle.world_core.specs.Counts.{tick_count}
 use Rattle.broker_node.specs.Condition.TheVariants as condition
 use Rattle.broker_node.specs.TurnNodes.{NodeParts, sight}
@@ -23,7 +23,7 @@ use Rattle.node_rounds.specs.Nodes.{Shares, EachNode, SomeNode, IsUp}
 
 -- the conductor once saw that nothing was due
 abbrev pub SawRest : Sight → Type 0
-SawRest k = (seen : List Entry) × Begins seen k.story × AtRest (walk (base_at k) seen)
+SawRest k = (seen : List Entry) × Begins seen k.story × HasNothingOpen (walk (base_at k) seen)
 
 -- ---- nodes
 
@@ -70,7 +70,7 @@ module _ {M : Type 0} where
   EndsFor tells limits reason.Down nodes k = EachNode HasMemory nodes × SomeNode IsDown nodes
   EndsFor tells limits reason.Done nodes k = EachNode IsUp nodes × (IsTrue tells → EachNode IsDone nodes)
   EndsFor tells limits reason.Enough nodes k = EachNode IsUp nodes × (IsTrue tells → limits.messages ≤ length (sent_by (world_at k)))
-  EndsFor tells limits reason.RunOut nodes k = EachNode IsUp nodes × AtRest (world_at k) × (tick_count k.own ≡ limits.ticks)
+  EndsFor tells limits reason.RunOut nodes k = EachNode IsUp nodes × HasNothingOpen (world_at k) × (tick_count k.own ≡ limits.ticks)
   EndsFor tells limits reason.Wanting nodes k = SomeNode WantsMemory nodes ⊎ (EachNode IsUp nodes × (tick_count k.own < limits.ticks) × SawRest k)
 
   -- what the nodes alone say: that the run ends, or that all are at work, and one isn't done

@@ -197,7 +197,7 @@ fn go_round<
 
 /// Gives the nodes their turns, round by round, until the run has ended. The pass is the conductor's,
 /// which has made no Tick yet.
-pub fn go_on<
+pub fn conduct<
     F: Fates + Drop + Send,
     C: Clock + Drop + Send,
     M: Medium + Drop + Send,

@@ -10,7 +10,7 @@ mod reasons;
 mod turns;
 
 pub use broker_node::{Closed, SharedWire, Told, Wire, WirePass, open_broker};
-pub use conductors::go_on;
+pub use conductors::conduct;
 pub use kinds::AnyNode;
 pub use limits::Limits;
 pub use nodes::RunNode;

@@ -19,7 +19,7 @@ ghost use Rattle.node_turn.specs.Trails.{Trail};
 ghost use Rattle.node_turn.specs.Windows.{PassesOn};
 
 use crate::cores::StoredCore;
-use crate::drafts::Draft;
+use crate::drafts::TurnDraft;
 use crate::lookups::stamp_asked;
 use effect_form::Effect;
 use medium_port::Medium;
@@ -131,7 +131,7 @@ pub fn close<K: StoredCore<M>, F: Fates, C: Clock, M: Medium, R: Wait>(
     node: NodeId,
     gone: bool,
     core: K,
-    draft: &Draft,
+    draft: &TurnDraft,
     pass: WirePass<F, C, M>,
 ) -> (WirePass<F, C, M>, K, Result<usize, StoreFault>)
     requires pass { IsWirePass wire.now.lock pass }

@@ -8,13 +8,13 @@ use std::marker::Model;
 
 /// What a turn has given so far, and how many effects of its node are durable.
 #[derive(Drop)]
-pub struct Draft {
+pub struct TurnDraft {
     durable: usize,
     effects: Vec<Effect>,
     outs: Vec<Out>,
 }
 
-impl Model for Draft {
+impl Model for TurnDraft {
     ghost use Rattle.node_turn.specs.Lives.{DraftParts};
 
     ghost Value = { DraftParts };
@@ -22,12 +22,12 @@ impl Model for Draft {
     ghost view = { λ d. record { durable = d.durable; effects = d.effects.items; outs = d.outs.items } };
 }
 
-impl Draft {
+impl TurnDraft {
     /// That of a turn that hasn't begun.
-    pub fn new(alloc: Global, durable: usize) -> Draft
+    pub fn new(alloc: Global, durable: usize) -> TurnDraft
         ensures { result ≡ no_draft durable }
     {
-        Draft {
+        TurnDraft {
             durable,
             effects: Vec::new(alloc),
             outs: Vec::new(alloc),

@@ -12,7 +12,7 @@ ghost use Rattle.node_turn.specs.Came.{arrived, Took};
 ghost use Rattle.node_turn.specs.Nodes.{Grew, IsQuiet};
 
 use crate::cores::StoredCore;
-use crate::drafts::Draft;
+use crate::drafts::TurnDraft;
 use medium_port::Medium;
 use message_form::Turn;
 use object_history::HistoryFault;
@@ -23,7 +23,7 @@ use wire_core::Taken;
 use wire_lock::{SharedWire, WirePass};
 
 // Adds what the core gave.
-pub fn added(draft: &mut Draft, gave: Result<Turn, HistoryFault>) -> Result<(), HistoryFault>
+pub fn added(draft: &mut TurnDraft, gave: Result<Turn, HistoryFault>) -> Result<(), HistoryFault>
     ensures ok { OnOk result (IfOk gave (λ turn.
         draft.new ≡ record {
           durable = draft.old.durable;
@@ -47,7 +47,7 @@ fn go<K: StoredCore<M>, F: Fates, C: Clock, M: Medium, R: Wait>(
     wire: &SharedWire<F, C, M>,
     node: NodeId,
     core: &mut K,
-    draft: &mut Draft,
+    draft: &mut TurnDraft,
     pass: WirePass<F, C, M>,
 ) -> (WirePass<F, C, M>, Result<(), HistoryFault>)
     requires pass { IsWirePass wire.now.lock pass }
@@ -85,7 +85,7 @@ fn hear<K: StoredCore<M>, F: Fates, C: Clock, M: Medium, R: Wait>(
     node: NodeId,
     gone: bool,
     core: &mut K,
-    draft: &mut Draft,
+    draft: &mut TurnDraft,
     pass: WirePass<F, C, M>,
 ) -> (WirePass<F, C, M>, Result<(), HistoryFault>)
     requires pass { IsWirePass wire.now.lock pass }
@@ -132,7 +132,7 @@ fn take<K: StoredCore<M>, F: Fates, C: Clock, M: Medium, R: Wait>(
     gone: bool,
     due: bool,
     core: &mut K,
-    draft: &mut Draft,
+    draft: &mut TurnDraft,
     pass: WirePass<F, C, M>,
 ) -> (WirePass<F, C, M>, Result<Came, HistoryFault>)
     requires pass { IsWirePass wire.now.lock pass }
@@ -179,7 +179,7 @@ pub fn begin<K: StoredCore<M>, F: Fates, C: Clock, M: Medium, R: Wait>(
     node: NodeId,
     gone: bool,
     core: &mut K,
-    draft: &mut Draft,
+    draft: &mut TurnDraft,
     pass: WirePass<F, C, M>,
 ) -> (WirePass<F, C, M>, Result<bool, HistoryFault>)
     requires pass { IsWirePass wire.now.lock pass }
@@ -230,7 +230,7 @@ pub fn take_more<K: StoredCore<M>, F: Fates, C: Clock, M: Medium, R: Wait>(
     node: NodeId,
     gone: bool,
     core: &mut K,
-    draft: &mut Draft,
+    draft: &mut TurnDraft,
     mut pass: WirePass<F, C, M>,
 ) -> (WirePass<F, C, M>, Result<(), HistoryFault>)
     requires pass { IsWirePass wire.now.lock pass }

@@ -11,7 +11,7 @@ ghost use Rattle.node_turn.specs.Lives.{IsUp, IsAfter, IsUnwritten};
 ghost use Rattle.node_turn.specs.Trails.{Seeks, IsSought, AreSought, stamp_asked};
 
 use crate::cores::StoredCore;
-use crate::drafts::Draft;
+use crate::drafts::TurnDraft;
 use crate::inputs::added;
 use medium_port::Medium;
 use message_form::{Message, Out};
@@ -49,7 +49,7 @@ fn look_up<K: StoredCore<M>, F: Fates, C: Clock, M: Medium, R: Wait>(
     gone: bool,
     stamp: Stamp,
     core: &mut K,
-    draft: &mut Draft,
+    draft: &mut TurnDraft,
     mut pass: WirePass<F, C, M>,
 ) -> (WirePass<F, C, M>, Result<(), HistoryFault>)
     requires pass { IsWirePass wire.now.lock pass }
@@ -97,7 +97,7 @@ fn look_up_asked<K: StoredCore<M>, F: Fates, C: Clock, M: Medium, R: Wait>(
     gone: bool,
     asked: Option<Stamp>,
     core: &mut K,
-    draft: &mut Draft,
+    draft: &mut TurnDraft,
     pass: WirePass<F, C, M>,
 ) -> (WirePass<F, C, M>, Result<(), HistoryFault>)
     requires pass { IsWirePass wire.now.lock pass }
@@ -136,7 +136,7 @@ pub fn look_up_all<K: StoredCore<M>, F: Fates, C: Clock, M: Medium, R: Wait>(
     node: NodeId,
     gone: bool,
     core: &mut K,
-    draft: &mut Draft,
+    draft: &mut TurnDraft,
     mut pass: WirePass<F, C, M>,
 ) -> (WirePass<F, C, M>, Result<(), HistoryFault>)
     requires pass { IsWirePass wire.now.lock pass }

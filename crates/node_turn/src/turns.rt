@@ -15,7 +15,7 @@ ghost use Rattle.node_turn.specs.Windows.{PassesOn};
 use crate::closings::close;
 use crate::conditions::Condition;
 use crate::cores::StoredCore;
-use crate::drafts::Draft;
+use crate::drafts::TurnDraft;
 use crate::falls::{go_down, open_anew};
 use crate::hands::Hand;
 use crate::inputs::{begin, take_more};
@@ -93,7 +93,7 @@ fn end<K: StoredCore<M>, F: Fates, C: Clock, M: Medium, R: Wait>(
     node: NodeId,
     gone: bool,
     core: K,
-    draft: &Draft,
+    draft: &TurnDraft,
     pass: WirePass<F, C, M>,
 ) -> (WirePass<F, C, M>, Hand<K>)
     requires pass { IsWirePass wire.now.lock pass }
@@ -154,14 +154,14 @@ fn end<K: StoredCore<M>, F: Fates, C: Clock, M: Medium, R: Wait>(
 }
 
 // The rest of a turn that has begun.
-fn go_on<K: StoredCore<M>, F: Fates, C: Clock, M: Medium, R: Wait>(
+fn finish<K: StoredCore<M>, F: Fates, C: Clock, M: Medium, R: Wait>(
     alloc: Global,
     rt: &R,
     wire: &SharedWire<F, C, M>,
     node: NodeId,
     gone: bool,
     core: K,
-    draft: Draft,
+    draft: TurnDraft,
     pass: WirePass<F, C, M>,
 ) -> (WirePass<F, C, M>, Hand<K>)
     requires pass { IsWirePass wire.now.lock pass }
@@ -241,7 +241,7 @@ pub fn work<K: StoredCore<M>, F: Fates, C: Clock, M: Medium, R: Wait>(
         gone,
         durable,
     } = hand;
-    let mut draft = Draft::new(alloc, durable);
+    let mut draft = TurnDraft::new(alloc, durable);
     let (pass, begun) = begin(rt, wire, node, gone, &mut core, &mut draft, pass);
     let gone = has_gone(node, gone);
     match begun {
@@ -251,7 +251,7 @@ pub fn work<K: StoredCore<M>, F: Fates, C: Clock, M: Medium, R: Wait>(
         }
         Ok(started) => {
             if started {
-                let (pass, hand) = go_on(alloc, rt, wire, node, gone, core, draft, pass);
+                let (pass, hand) = finish(alloc, rt, wire, node, gone, core, draft, pass);
                 return (pass, hand, false);
             }
             (

@@ -15,7 +15,7 @@ use Rattle.world_core.specs.Walks.{sent_by}
 use Rattle.world_core.specs.Legal.{Idle, fates_of}
 use Rattle.run_starts.specs.Wires.{Origin, WireParts}
 use Rattle.run_starts.specs.Boards.{owner_of}
-use Rattle.run_starts.specs.Sights.{AtRest, IsWirePass, Sight, base_at, owners_for, world_at}
+use Rattle.run_starts.specs.Sights.{HasNothingOpen, IsWirePass, Sight, base_at, owners_for, world_at}
 use Rattle.run_starts.specs.Stories.{IsWhole, LeavesUntold, end_of}
 use Rattle.world_core.specs.Counts.{tick_count}
 use Rattle.run_starts.specs.TurnNodes.{NodeParts, IsAtRest, sight}
@@ -63,7 +63,7 @@ module _ {M : Type 0} where
   ListEnds tells limits reason.Down nodes k = All HasMemory nodes × Any IsDown nodes
   ListEnds tells limits reason.Done nodes k = All IsUp nodes × (IsTrue tells → All IsDone nodes)
   ListEnds tells limits reason.Enough nodes k = All IsUp nodes × (IsTrue tells → limits.messages ≤ length (sent_by (world_at k)))
-  ListEnds tells limits reason.RunOut nodes k = All IsUp nodes × AtRest (world_at k) × (tick_count k.own ≡ limits.ticks)
+  ListEnds tells limits reason.RunOut nodes k = All IsUp nodes × HasNothingOpen (world_at k) × (tick_count k.own ≡ limits.ticks)
   ListEnds tells limits reason.Wanting nodes k = Unit {0}
 
 module _ {M : Type 0} where

@@ -9,7 +9,7 @@ ghost use Rattle.run_starts.specs.Deals.{IsDealt, HaveRoom};
 
 use crate::ends::Ended;
 use medium_port::Medium;
-use run_starts::{Limits, RunNode, SharedWire, WirePass, collect, deal, go_on, take_apart};
+use run_starts::{Limits, RunNode, SharedWire, WirePass, collect, conduct, deal, take_apart};
 use std::sync::Wait;
 use std::thread::Threads;
 use stream_port::{Clock, Fates};
@@ -45,7 +45,7 @@ pub fn rounds<
 {
     let count = nodes.len();
     let (nodes, shares) = deal(nodes, shares);
-    let (shares, conductor, reason) = go_on(rt, wire, limits, shares, conductor);
+    let (shares, conductor, reason) = conduct(rt, wire, limits, shares, conductor);
     let nodes = collect(shares, count, nodes);
     let (media, passes) = take_apart(nodes, media, passes);
     let mut passes = passes;

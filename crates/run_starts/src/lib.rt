@@ -9,6 +9,6 @@ mod starts;
 
 pub use deals::{collect, deal, empty_shares};
 pub use downs::down_visits;
-pub use node_rounds::{Closed, Limits, Reason, RunNode, SharedWire, Told, WirePass, go_on};
+pub use node_rounds::{Closed, Limits, Reason, RunNode, SharedWire, Told, WirePass, conduct};
 pub use seats::{Seated, open_nodes, take_apart};
 pub use starts::{Begun, wire_for};

@@ -80,12 +80,12 @@ impl Run {
     {
         match &self.stop {
             Some(halt) => Ok(next_of(alloc, halt)?),
-            None => self.go_on(alloc),
+            None => self.run_on(alloc),
         }
     }
 
-    // Goes on to the next request or the end, from where it was answered.
-    fn go_on(&mut self, alloc: Global) -> Result<Next, AllocError>
+    // Runs to the next request or the end, from where it was answered.
+    fn run_on(&mut self, alloc: Global) -> Result<Next, AllocError>
         requires { self.old.said ≡ None }
         ensures tells { IfOk result (λ n. Tells self.old.script self.old.answers self.new.lines n) }
         ensures said { IfOk result (λ n. self.new.said ≡ Some n) }

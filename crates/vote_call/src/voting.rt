@@ -17,7 +17,7 @@ use stream_port::{Clock, Fates};
 use value_form::Items;
 use vote_form::PollLine;
 use vote_report::PollStanding;
-use vote_run::{Courier, Limits, Members, go_on};
+use vote_run::{Courier, Limits, Members, conduct};
 use world_core::Trace;
 
 /// How votes ended.
@@ -92,7 +92,7 @@ fn go<F: Fates, C: Clock, M: Medium>(
     if begun.is_err() {
         return (members, Err(AllocError));
     }
-    go_on(alloc, courier, members, polls, limits)
+    conduct(alloc, courier, members, polls, limits)
 }
 
 // Lets the members and the polls vote, until it is over.

@@ -14,7 +14,7 @@ pub use limits::{Limits, Next};
 pub use member_turns::turn;
 pub use members::{Members, some_wants};
 pub use poll_rounds::polls_go;
-pub use rounds::{all_held, go_on};
+pub use rounds::{all_held, conduct};
 pub use run_media::{Opening, open_one};
 pub use seats::Seat;
 pub use vote_courier::Courier;

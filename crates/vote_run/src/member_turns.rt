@@ -45,7 +45,7 @@ pub fn begin<F: Fates, C: Clock>(
 }
 
 // The member resumes from the log that was found.
-fn go_on<F: Fates, C: Clock>(
+fn resume<F: Fates, C: Clock>(
     alloc: Global,
     courier: &mut Courier<F, C>,
     number: u8,
@@ -115,7 +115,7 @@ pub fn end<F: Fates, C: Clock, M: Medium>(
             gate(courier, node, member, store, count, outs)
         }
         Closed::Reopened(store, found) => {
-            match go_on(alloc, courier, number, durable, found.as_slice()) {
+            match resume(alloc, courier, number, durable, found.as_slice()) {
                 Ok(member) => Seat::Up(member, store, found.len(), behind),
                 Err(_) => Seat::Wanting(store.release()),
             }

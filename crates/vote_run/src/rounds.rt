@@ -112,7 +112,7 @@ fn step<F: Fates, C: Clock, M: Medium>(
 
 /// Rounds, until each poll holds a decision, enough messages were sent, or nobody has anything to do
 /// and the ticks have run out. The polls have gone.
-pub fn go_on<F: Fates, C: Clock, M: Medium>(
+pub fn conduct<F: Fates, C: Clock, M: Medium>(
     alloc: Global,
     courier: &mut Courier<F, C>,
     members: Members<M>,

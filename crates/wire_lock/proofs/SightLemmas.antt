@@ -33,7 +33,7 @@ use Rattle.wire_core.specs.Boards.{owner_for, owner_of, place_of, number_of}
 use Rattle.wire_core.proofs.DueLemmas.{numbered-from}
 use Rattle.wire_lock.specs.Decisions.{Decided, posted, answer_of}
 use Rattle.wire_lock.specs.Stories.{end_of}
-use Rattle.wire_lock.specs.Sights.{Sight, origin_in, origin_at, base_at, world_at, life_at, flags_at, IsOf, Owns, IsWirePass, IsAsBefore, Looked, Added, Visited, Gated, Tested, TicksOn, AtRest, closed}
+use Rattle.wire_lock.specs.Sights.{Sight, origin_in, origin_at, base_at, world_at, life_at, flags_at, IsOf, Owns, IsWirePass, IsAsBefore, Looked, Added, Visited, Gated, Tested, TicksOn, HasNothingOpen, closed}
 
 -- ---- a node's entries are among those of its owner
 
@@ -245,16 +245,16 @@ behind-is k k' l w n t is here h = ap (λ (z : Sight). is_behind (world_at z) n)
 
 -- ---- rest
 
-pub quiet-rest : (w : WireParts) → IsQuiet w → AtRest (world_of w)
+pub quiet-rest : (w : WireParts) → IsQuiet w → HasNothingOpen (world_of w)
 quiet-rest w q = λ n up. ((q n up).closed, (q n up).heard, (q n up).gone)
 
-pub rest-found : (w : WireParts) (v : World) → world_of w ≡ v → IsQuiet w → AtRest v
-rest-found w v here q = subst AtRest here (quiet-rest w q)
+pub rest-found : (w : WireParts) (v : World) → world_of w ≡ v → IsQuiet w → HasNothingOpen v
+rest-found w v here q = subst HasNothingOpen here (quiet-rest w q)
 
-pub rest-left : (k k' : Sight) (l : List Entry) (w : WireParts) → k' ≡ record k { story = l } → world_of w ≡ walk (base_at k) l → IsQuiet w → AtRest (world_at k')
-rest-left k k' l w is here q = subst (λ (z : Sight). AtRest (world_at z)) (sym is) (rest-found w (walk (base_at k) l) here q)
+pub rest-left : (k k' : Sight) (l : List Entry) (w : WireParts) → k' ≡ record k { story = l } → world_of w ≡ walk (base_at k) l → IsQuiet w → HasNothingOpen (world_at k')
+rest-left k k' l w is here q = subst (λ (z : Sight). HasNothingOpen (world_at z)) (sym is) (rest-found w (walk (base_at k) l) here q)
 
-pub ticked-of : (k k' : Sight) (l : List Entry) (moment : ℕ) → Owns k → k' ≡ record k { story = l ++ Tick moment ∷ []; own = k.own ++ Tick moment ∷ [] } → CarriesOn owner_of k l → AtRest (walk (base_at k) l) → TicksOn k k' (Some moment)
+pub ticked-of : (k k' : Sight) (l : List Entry) (moment : ℕ) → Owns k → k' ≡ record k { story = l ++ Tick moment ∷ []; own = k.own ++ Tick moment ∷ [] } → CarriesOn owner_of k l → HasNothingOpen (walk (base_at k) l) → TicksOn k k' (Some moment)
 ticked-of k k' l moment owns is car rest = (record { found = l; before = as-before k l owns car; kept = is }, rest)
 
 pub sent-left : (k k' : Sight) (l : List Entry) (w : World) (n : ℕ) → k' ≡ record k { story = l } → w ≡ walk (base_at k) l → n ≡ length (sent_by w) → n ≡ length (sent_by (world_at k'))
@@ -266,7 +266,7 @@ pub idle-closed : (w : WireParts) (o : Origin) (t : Trace) (idle : Bool) → t �
 idle-closed w o t idle is origin whole h = subst (λ (x : Trace). IsTrue idle ↔ Idle (fates_of x.sent) (end_of o x)) (sym is)
     (subst (λ (q : Origin). IsTrue idle ↔ Idle (fates_of w.sent) (walk (base_from q) w.entries)) origin (λ i. (h.0 i).1, λ d. h.1 (whole, d)))
 
-pub rest-closed : (w : WireParts) (o : Origin) (t : Trace) → t ≡ trace_of w → w.origin ≡ o → IsQuiet w → AtRest (end_of o t)
+pub rest-closed : (w : WireParts) (o : Origin) (t : Trace) → t ≡ trace_of w → w.origin ≡ o → IsQuiet w → HasNothingOpen (end_of o t)
 rest-closed w o t is origin q = rest-found w (end_of o t) (ap (λ (x : Origin). walk (base_from x) w.entries) origin ∙ ap (end_of o) (sym is)) q
 
 -- ---- the start

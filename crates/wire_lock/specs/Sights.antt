@@ -168,10 +168,10 @@ abbrev pub HadNothing : NodeId → Sight → Type 0
 HadNothing n k = (world_at k).moved ≡ false → unwrap_or (opened_log (origin_at k).opened n) [] ≡ []
 
 -- no node that is up has anything to do, beside taking copies
-abbrev pub AtRest : World → Type 0
-AtRest w = (n : NodeId) → (w.flags n).up ≡ true → ((w.flags n).due ≡ false) × (is_behind w n ≡ false) × HasGone w n
+abbrev pub HasNothingOpen : World → Type 0
+HasNothingOpen w = (n : NodeId) → (w.flags n).up ≡ true → ((w.flags n).due ≡ false) × (is_behind w n ≡ false) × HasGone w n
 
 -- what ticking answers: a Tick is added at rest alone
 abbrev pub TicksOn : Sight → Sight → Option ℕ → Type 0
 TicksOn old new None = Looked old new
-TicksOn old new (Some moment) = (added : Added old new (Tick moment)) × AtRest (walk (base_at old) added.found)
+TicksOn old new (Some moment) = (added : Added old new (Tick moment)) × HasNothingOpen (walk (base_at old) added.found)

@@ -4,7 +4,7 @@ ghost use Rattle.seat_lock.specs.Rule.{IsOneOf};
 ghost use Rattle.seat_lock.specs.Words.{CarriesOn, base_of, fresh, knows};
 ghost use Rattle.world_core.specs.Legal.{Idle, fates_of};
 ghost use Rattle.wire_core.specs.Boards.{owner_for, owner_of};
-ghost use Rattle.wire_lock.specs.Sights.{AtRest, IsWirePass, owners_for};
+ghost use Rattle.wire_lock.specs.Sights.{HasNothingOpen, IsWirePass, owners_for};
 ghost use Rattle.wire_lock.specs.Stories.{IsWhole, LeavesUntold, end_of, no_trace};
 
 use crate::shared::{SharedWire, WirePass};
@@ -125,7 +125,7 @@ impl<F: Fates, C: Clock, M: Medium> SharedWire<F, C, M> {
             (C.answers r.clock)) }
         ensures idle { IsTrue M.tells →
             IfOk result (λ r. IsTrue r.idle ↔ Idle (fates_of r.told.sent) (end_of (base_of self.lock).origin r.told)) }
-        ensures rest { IfOk result (λ r. IsTrue r.idle → AtRest (end_of (base_of self.lock).origin r.told)) }
+        ensures rest { IfOk result (λ r. IsTrue r.idle → HasNothingOpen (end_of (base_of self.lock).origin r.told)) }
         ensures carries { IfOk result (λ r. All (λ pass. CarriesOn owner_of (knows pass) r.told.entries) passes.items) }
         ensures owned { IfOk result (λ r. All (λ e. IsOneOf (owners_for (base_of self.lock).origin.opened)
             (owner_of e)) r.told.entries) }

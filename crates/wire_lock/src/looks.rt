@@ -3,7 +3,7 @@ ghost use Rattle.std.specs.Prelude.{◌≡◌, length, IsTrue, IfOk, OnErr};
 ghost use Rattle.seat_lock.specs.Story.{longer};
 ghost use Rattle.seat_lock.specs.Words.{knows};
 ghost use Rattle.world_core.specs.Walks.{sent_by};
-ghost use Rattle.wire_lock.specs.Sights.{IsWirePass, Looked, TicksOn, AtRest, world_at};
+ghost use Rattle.wire_lock.specs.Sights.{IsWirePass, Looked, TicksOn, HasNothingOpen, world_at};
 
 use crate::shared::{SharedWire, WirePass};
 use medium_port::Medium;
@@ -54,7 +54,7 @@ impl<F: Fates, C: Clock, M: Medium> SharedWire<F, C, M> {
         ensures pass { IsWirePass self.now.lock result.0 }
         ensures looked { Looked (knows pass) (knows result.0) }
         ensures sent { IsTrue M.tells → result.1.sent ≡ length (sent_by (world_at (knows result.0))) }
-        ensures rest { IsTrue result.1.idle → AtRest (world_at (knows result.0)) }
+        ensures rest { IsTrue result.1.idle → HasNothingOpen (world_at (knows result.0)) }
     {
         let mut visit = self.lock.enter(rt, pass);
         let wire = visit.value();

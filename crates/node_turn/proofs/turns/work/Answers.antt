@@ -45,37 +45,37 @@ returns-in-Err-clause-quiet g c = λ w.
     let t = c.begin-pass.ensures.trail in
     more-grew (knows c.args.pass).own (knows c.begin-pass.result.0).own (knows c.give_up-pass.result.0).own (t.own, t.adds) (c.give_up-pass.ensures.grew w)
 
-pub go_on-pass-requires-clause-up : goal.go_on-pass-requires-clause-up
-go_on-pass-requires-clause-up g c =
+pub finish-pass-requires-clause-up : goal.finish-pass-requires-clause-up
+finish-pass-requires-clause-up g c =
     let up = λ (gone begun : Bool). IsUp g.M.Medium.tells g.K.StoredCore.parts g.K.StoredCore.fits g.K.StoredCore.lives g.K.StoredCore.owes g.M.Medium.page_count g.M.Medium.reads g.M.Medium.may_leave c.begin-pass.new.core (knows c.begin-pass.result.0) c.args.node gone begun c.begin-pass.new.draft in
     subst (λ (gone : Bool). up gone true) (sym c.has_gone-gone.ensures)
     (subst (λ (begun : Bool). up (c.args.hand.gone || is_broker c.args.node.kind) begun) c.if-started.true (if-ok _ _ _ c.in-Ok.is c.begin-pass.ensures.up))
 
-pub go_on-pass-requires-clause-gone : goal.go_on-pass-requires-clause-gone
-go_on-pass-requires-clause-gone g c = λ h. c.has_gone-gone.ensures ∙ either-gone c.args.hand.gone (is_broker c.args.node.kind) h
+pub finish-pass-requires-clause-gone : goal.finish-pass-requires-clause-gone
+finish-pass-requires-clause-gone g c = λ h. c.has_gone-gone.ensures ∙ either-gone c.args.hand.gone (is_broker c.args.node.kind) h
 
 pub returns-then-started-clause-paid : goal.returns-then-started-clause-paid
 returns-then-started-clause-paid g c =
     let e = trail-cost c.begin-pass.ensures.trail in
-    λ first r. c.go_on-pass.ensures.paid first (pays-none _ _ _ _ (omega (arith, e)) c.begin-pass.ensures.unwritten.later first r)
+    λ first r. c.finish-pass.ensures.paid first (pays-none _ _ _ _ (omega (arith, e)) c.begin-pass.ensures.unwritten.later first r)
 
 pub returns-then-started-clause-whole : goal.returns-then-started-clause-whole
 returns-then-started-clause-whole g c = λ told ne same.
     let e = trail-cost c.begin-pass.ensures.trail in
-    subst (λ (x : Image). IsIntact x (g.M.Medium.reads (g.K.StoredCore.parts c.go_on-pass.result.1.core).medium))
-    (c.begin-pass.ensures.unwritten.still told) (c.go_on-pass.ensures.whole told ne (omega (arith, e, same)))
+    subst (λ (x : Image). IsIntact x (g.M.Medium.reads (g.K.StoredCore.parts c.finish-pass.result.1.core).medium))
+    (c.begin-pass.ensures.unwritten.still told) (c.finish-pass.ensures.whole told ne (omega (arith, e, same)))
 
 pub returns-then-started-clause-tested : goal.returns-then-started-clause-tested
 returns-then-started-clause-tested g c = λ told repository.
-    tested-after c.args.node (knows c.args.pass) (knows c.begin-pass.result.0) (knows c.go_on-pass.result.0) c.begin-pass.ensures.trail (c.go_on-pass.ensures.tested told repository)
+    tested-after c.args.node (knows c.args.pass) (knows c.begin-pass.result.0) (knows c.finish-pass.result.0) c.begin-pass.ensures.trail (c.finish-pass.ensures.tested told repository)
 
 pub returns-then-started-clause-adds : goal.returns-then-started-clause-adds
 returns-then-started-clause-adds g c =
     let t = c.begin-pass.ensures.trail in
-    adds-more (knows c.args.pass).own (knows c.begin-pass.result.0).own (knows c.go_on-pass.result.0).own (t.own, t.adds) c.go_on-pass.ensures.adds
+    adds-more (knows c.args.pass).own (knows c.begin-pass.result.0).own (knows c.finish-pass.result.0).own (t.own, t.adds) c.finish-pass.ensures.adds
 
 pub returns-then-started-clause-quiet : goal.returns-then-started-clause-quiet
-returns-then-started-clause-quiet g c = λ w. grew-more (knows c.args.pass).own (knows c.begin-pass.result.0).own (knows c.go_on-pass.result.0).own (c.begin-pass.ensures.grew (c.in-Ok.is ∙ ap (λ b. Ok b) c.if-started.true)) c.go_on-pass.ensures.adds
+returns-then-started-clause-quiet g c = λ w. grew-more (knows c.args.pass).own (knows c.begin-pass.result.0).own (knows c.finish-pass.result.0).own (c.begin-pass.ensures.grew (c.in-Ok.is ∙ ap (λ b. Ok b) c.if-started.true)) c.finish-pass.ensures.adds
 
 pub returns-clause-keeps : goal.returns-clause-keeps
 returns-clause-keeps g c =
@@ -116,7 +116,7 @@ returns-then-started-clause-passes g c = λ told ne.
     let p = c.begin-pass.ensures in
     passes-on
     (passes-up g.M.Medium.stages g.met.M.Medium.only_now (up-new (sym c.new-draft.ensures) c.requires.up) p.trail (p.unwritten.stages_still told) told (if-ok _ _ _ c.in-Ok.is p.up) p.durable)
-    (c.go_on-pass.ensures.passes told ne)
+    (c.finish-pass.ensures.passes told ne)
 
 pub returns-clause-passes : goal.returns-clause-passes
 returns-clause-passes g c = λ told ne.

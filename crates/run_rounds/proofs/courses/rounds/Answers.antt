@@ -10,20 +10,20 @@ use Rattle.run_starts.proofs.AlongLemmas.{each-shared}
 use Rattle.run_rounds.proofs.CourseLemmas.{all-passes, dealt-again, have-gone, shares-count}
 use Rattle.run_rounds.proofs.courses.rounds.Goals as goal
 
-pub go_on-shares-requires-clause-ready : goal.go_on-shares-requires-clause-ready
-go_on-shares-requires-clause-ready g c κs within =
+pub conduct-shares-requires-clause-ready : goal.conduct-shares-requires-clause-ready
+conduct-shares-requires-clause-ready g c κs within =
     each-shared (length c.args.shares.items) c.requires.some (IsReady c.args.wire.now.lock) c.args.nodes.items c.deal-nodes.result.1.items c.deal-nodes.ensures.dealt c.deal-nodes.ensures.count c.requires.ready
 
 pub collect-nodes-requires-clause-some : goal.collect-nodes-requires-clause-some
 collect-nodes-requires-clause-some g c =
     let w = g.M.Medium in
-    let n = shares-count w (length c.args.shares.items) c.requires.some c.args.nodes.items c.deal-nodes.result.1.items c.go_on-shares.result.0.items c.deal-nodes.ensures.dealt c.deal-nodes.ensures.count c.go_on-shares.ensures.went in
+    let n = shares-count w (length c.args.shares.items) c.requires.some c.args.nodes.items c.deal-nodes.result.1.items c.conduct-shares.result.0.items c.deal-nodes.ensures.dealt c.deal-nodes.ensures.count c.conduct-shares.ensures.went in
     let some = c.requires.some in omega (arith, n, some)
 
 pub collect-nodes-requires-clause-dealt : goal.collect-nodes-requires-clause-dealt
 collect-nodes-requires-clause-dealt g c =
     let w = g.M.Medium in
-    let h = dealt-again w (length c.args.shares.items) c.requires.some c.args.nodes.items c.deal-nodes.result.1.items c.go_on-shares.result.0.items c.deal-nodes.ensures.dealt c.deal-nodes.ensures.count c.go_on-shares.ensures.went in
+    let h = dealt-again w (length c.args.shares.items) c.requires.some c.args.nodes.items c.deal-nodes.result.1.items c.conduct-shares.result.0.items c.deal-nodes.ensures.dealt c.deal-nodes.ensures.count c.conduct-shares.ensures.went in
     let l = h.2 in
     (h.0, h.1, omega (arith, l, c.args.nodes.ok, c.len-count.ensures))
 
@@ -35,16 +35,16 @@ push_reserved-requires g c =
 pub returns-clause-passes : goal.returns-clause-passes
 returns-clause-passes g c =
     let w = g.M.Medium in
-    all-passes w (length c.args.shares.items) c.requires.some c.args.nodes.items c.deal-nodes.result.1.items c.go_on-shares.result.0.items c.deal-nodes.ensures.dealt c.deal-nodes.ensures.count c.go_on-shares.ensures.went
+    all-passes w (length c.args.shares.items) c.requires.some c.args.nodes.items c.deal-nodes.result.1.items c.conduct-shares.result.0.items c.deal-nodes.ensures.dealt c.deal-nodes.ensures.count c.conduct-shares.ensures.went
     c.collect-nodes.result.items (λ xs d l. c.collect-nodes.ensures.whole xs d (omega (arith, l, c.args.nodes.ok, c.len-count.ensures)))
-    c.args.wire.now.lock c.push_reserved.new.self.items c.go_on-shares.result.1 (c.push_reserved.ensures.items ∙ ap (λ l. l ++ c.go_on-shares.result.1 ∷ []) c.take_apart-media.ensures.passes) c.go_on-shares.ensures.passes.0 c.go_on-shares.ensures.passes.1
+    c.args.wire.now.lock c.push_reserved.new.self.items c.conduct-shares.result.1 (c.push_reserved.ensures.items ∙ ap (λ l. l ++ c.conduct-shares.result.1 ∷ []) c.take_apart-media.ensures.passes) c.conduct-shares.ensures.passes.0 c.conduct-shares.ensures.passes.1
 
 pub returns-clause-gone : goal.returns-clause-gone
 returns-clause-gone g c =
     let w = g.M.Medium in
-    have-gone w (length c.args.shares.items) c.requires.some c.args.nodes.items c.deal-nodes.result.1.items c.go_on-shares.result.0.items c.deal-nodes.ensures.dealt c.deal-nodes.ensures.count c.go_on-shares.ensures.went
+    have-gone w (length c.args.shares.items) c.requires.some c.args.nodes.items c.deal-nodes.result.1.items c.conduct-shares.result.0.items c.deal-nodes.ensures.dealt c.deal-nodes.ensures.count c.conduct-shares.ensures.went
     c.collect-nodes.result.items (λ xs d l. c.collect-nodes.ensures.whole xs d (omega (arith, l, c.args.nodes.ok, c.len-count.ensures)))
-    c.args.limits c.go_on-shares.result.2 c.take_apart-media.result.0.items c.push_reserved.new.self.items c.go_on-shares.result.1 (c.push_reserved.ensures.items ∙ ap (λ l. l ++ c.go_on-shares.result.1 ∷ []) c.take_apart-media.ensures.passes)
-    c.take_apart-media.ensures.media c.go_on-shares.ensures.kept c.take_apart-media.ensures.rest c.go_on-shares.ensures.all c.go_on-shares.ensures.conductor c.go_on-shares.ensures.ticks
-    (λ told. subst (λ (b : Base). TicksAreWanted b (knows c.go_on-shares.result.1).story c.go_on-shares.result.0.items) (ap base_from (pass-origin c.args.wire.now.lock c.go_on-shares.result.1 c.go_on-shares.ensures.passes.1.of_lock)) (c.go_on-shares.ensures.wanted told))
-    c.go_on-shares.ensures.reason
+    c.args.limits c.conduct-shares.result.2 c.take_apart-media.result.0.items c.push_reserved.new.self.items c.conduct-shares.result.1 (c.push_reserved.ensures.items ∙ ap (λ l. l ++ c.conduct-shares.result.1 ∷ []) c.take_apart-media.ensures.passes)
+    c.take_apart-media.ensures.media c.conduct-shares.ensures.kept c.take_apart-media.ensures.rest c.conduct-shares.ensures.all c.conduct-shares.ensures.conductor c.conduct-shares.ensures.ticks
+    (λ told. subst (λ (b : Base). TicksAreWanted b (knows c.conduct-shares.result.1).story c.conduct-shares.result.0.items) (ap base_from (pass-origin c.args.wire.now.lock c.conduct-shares.result.1 c.conduct-shares.ensures.passes.1.of_lock)) (c.conduct-shares.ensures.wanted told))
+    c.conduct-shares.ensures.reason

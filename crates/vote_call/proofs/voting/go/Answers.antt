@@ -6,7 +6,7 @@ use Rattle.vote_call.proofs.FinishLemmas.{ended-for}
 use Rattle.vote_call.proofs.voting.go.Goals as goal
 
 pub returns-clause-lasts : goal.returns-clause-lasts
-returns-clause-lasts g c media h = c.go_on.ensures.lasts (medium_of media) (c.begin-members.ensures.lasts media h)
+returns-clause-lasts g c media h = c.conduct.ensures.lasts (medium_of media) (c.begin-members.ensures.lasts media h)
 
 pub returns-clause-ended : goal.returns-clause-ended
 returns-clause-ended g c =
@@ -17,4 +17,4 @@ returns-clause-ended g c =
     let ms0 = c.begin-members.result.0 in
     let begun : BegunFor w os c.args.courier.now c.args.polls.now.items e ms0 ps1 =
     not-err c.begin-members.result.1 (BegunFor w os c.args.courier.now c.args.polls.now.items e ms0 ps1) (sym c.is_err.ensures.value ∙ c.if-is_err.false) c.begin-members.ensures.begun in
-    ended-for w c.args.limits os c.args.courier.now e c.go_on.new.courier c.args.polls.now.items ps1 c.go_on.new.polls.items ms0 c.go_on.result.0 c.go_on.result.1 begun c.begin-members.ensures.count c.go_on.ensures.ended c.go_on.ensures.fares
+    ended-for w c.args.limits os c.args.courier.now e c.conduct.new.courier c.args.polls.now.items ps1 c.conduct.new.polls.items ms0 c.conduct.result.0 c.conduct.result.1 begun c.begin-members.ensures.count c.conduct.ensures.ended c.conduct.ensures.fares

@@ -1,7 +1,7 @@
 use Rattle.script_meaning.specs.Meaning.{answers_of}
 use Rattle.std.proofs.Common.{ap, ◌∙◌}
 use Rattle.script_run.proofs.RunLemmas.{nothing_said, went_on_as, stopped_as, stopped_tells}
-use Rattle.script_run.proofs.runs.Run.go_on.Goals as goal
+use Rattle.script_run.proofs.runs.Run.run_on.Goals as goal
 
 pub invariant_of-self-in_err-halt : goal.invariant_of-self-in_err-halt
 invariant_of-self-in_err-halt c =

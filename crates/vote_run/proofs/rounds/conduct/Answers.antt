@@ -3,7 +3,7 @@ use Rattle.std.specs.Prelude.{Option, IfSome}
 use Rattle.vote_run.specs.Ends.{Came}
 use Rattle.vote_run.proofs.EndLemmas.{come-first, if-ok}
 use Rattle.vote_run.proofs.PollLemmas.{ok-of}
-use Rattle.vote_run.proofs.rounds.go_on.Goals as goal
+use Rattle.vote_run.proofs.rounds.conduct.Goals as goal
 
 pub loop-init : goal.loop-init
 loop-init g c = record {

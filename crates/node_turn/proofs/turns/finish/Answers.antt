@@ -12,7 +12,7 @@ use Rattle.node_turn.proofs.LifeLemmas.{on-ok, if-err}
 use Rattle.node_turn.proofs.PhaseLemmas.{passes-on, passes-up, passes-after}
 use Rattle.node_turn.proofs.SeekLemmas.{seeks-weaker, tested-none, tested-seeks, tested-after, tested-before, tested-sent}
 use Rattle.node_turn.proofs.TrailLemmas.{trail-joins, trail-cost}
-use Rattle.node_turn.proofs.turns.go_on.Goals as goal
+use Rattle.node_turn.proofs.turns.finish.Goals as goal
 
 pub give_up-requires-clause-after : goal.give_up-requires-clause-after
 give_up-requires-clause-after g c =

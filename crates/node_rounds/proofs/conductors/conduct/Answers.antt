@@ -4,7 +4,7 @@ use Rattle.node_rounds.specs.declared.reasons.Next.TheVariants as next
 use Rattle.node_rounds.specs.Reasons.{Follows}
 use Rattle.node_rounds.proofs.WentLemmas.{went-none, went-on, ready-again, kept-none, kept-more}
 use Rattle.node_rounds.proofs.WantedLemmas.{first-wanted}
-use Rattle.node_rounds.proofs.conductors.go_on.Goals as goal
+use Rattle.node_rounds.proofs.conductors.conduct.Goals as goal
 
 pub loop-init : goal.loop-init
 loop-init g c = record {

@@ -5,7 +5,7 @@ use Rattle.vote_run.specs.Ends.{Between, HasCome}
 use Rattle.vote_run.specs.Fares.{FareOn}
 use Rattle.vote_run.specs.Lasts.{LastOn}
 use Rattle.vote_run.specs.Members.{MayAllTurn}
-use Rattle.vote_run.proofs.rounds.go_on.Given as goal
+use Rattle.vote_run.proofs.rounds.conduct.Given as goal
 
 abbrev pub invariant-loop : goal.invariant-loop
 invariant-loop g l = record {

@@ -6,7 +6,7 @@ use Rattle.broker_node.specs.Sights.{IsWirePass}
 use Rattle.world_core.specs.Counts.{tick_count}
 use Rattle.node_rounds.specs.Nodes.{EachNode, EachPlace, GoesOn, IsKeptThrough, IsReady}
 use Rattle.node_rounds.specs.Reasons.{TicksAreWanted}
-use Rattle.node_rounds.proofs.conductors.go_on.Given as goal
+use Rattle.node_rounds.proofs.conductors.conduct.Given as goal
 
 abbrev pub invariant-loop : goal.invariant-loop
 invariant-loop g l = record {
