@@ -1,5 +1,5 @@
 -- What a node keeps of its life: while it is up, after a fault, and when it is down. Logs stand oldest first.
-use Rattle.std.specs.Prelude.{◌≡◌, ◌≤◌, ◌<◌, ℕ, Bool, true, false, List, [], ◌∷◌, ◌++◌, length, take, count_by, Ok, IsTrue}
+use Rattle.std.specs.Prelude.{◌≡◌, ◌≢◌, ◌≤◌, ◌<◌, ℕ, Bool, true, false, List, [], ◌∷◌, ◌++◌, length, take, count_by, Ok, IsTrue}
 use Rattle.pseudo_time.specs.Lists.{Every}
 use Rattle.pseudo_time.specs.declared.nodes.NodeId.{NodeId}
 use Rattle.pseudo_time.specs.Nodes.{is_broker}
@@ -86,6 +86,12 @@ module _ {M : Type 0} (tells : Bool) (pages : M → ℕ) (reads : M → Image) w
   IsCause down.Medium m l = Unit {0}
   IsCause (down.Damaged page) m l = IsTrue tells → ⊥
   IsCause (down.Full number) m l = (number ≡ pages m) × (IsTrue tells → IsFullFor l (reads m))
+
+-- a node that goes down for a damaged page of its core names that page
+abbrev pub NamesPage : HistoryFault → Condition → Type 0
+NamesPage fault.NoMemory c = Unit {0}
+NamesPage fault.Medium c = Unit {0}
+NamesPage (fault.Damaged page) c = c ≢ condition.Wanting → c ≡ condition.Down (down.Damaged page)
 
 -- The meanings are those of a type K of cores over media of a type M. `k` is what the node's pass has seen.
 module _ {K M : Type 0} (tells : Bool) (parts : K → CoreParts M) (fits : Base → K → Type 0) (lives : Base → K → Life → Type 0) (owes : K → List Effect → Type 0)

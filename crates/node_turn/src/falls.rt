@@ -37,6 +37,7 @@ pub fn go_down<K: StoredCore<M>, F: Fates, C: Clock, M: Medium, R: Wait>(
         Keeps M.tells K.parts K.fits K.lives K.owes M.page_count M.reads M.may_leave result.1 core.now
         (knows result.0) node gone count }
     ensures stops { result.1 ≢ Condition.AtWork }
+    ensures names { result.1 ≢ Condition.Wanting → result.1 ≡ Condition.Down cause }
     ensures trail { (cost : ℕ) × (cost ≤ cost_of_cause cause) ×
         (result.1 ≢ Condition.Wanting → cost ≡ cost_of_cause cause) ×
         Trail node (knows pass) (knows result.0) [] [] [] cost }

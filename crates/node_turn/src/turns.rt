@@ -6,7 +6,7 @@ ghost use Rattle.pseudo_time.specs.Nodes.{is_broker};
 ghost use Rattle.seat_lock.specs.Words.{knows};
 ghost use Rattle.wire_core.specs.Changes.{owed};
 ghost use Rattle.wire_lock.specs.Sights.{IsWirePass, world_at};
-ghost use Rattle.node_turn.specs.Lives.{IsUp, IsAfter, Keeps, no_draft};
+ghost use Rattle.node_turn.specs.Lives.{IsUp, IsAfter, Keeps, NamesPage, no_draft};
 ghost use Rattle.node_turn.specs.Costs.{costs, PaysFor};
 ghost use Rattle.node_turn.specs.Trails.{Trail, HasTested};
 ghost use Rattle.node_turn.specs.Nodes.{Adds, Grew, StaysWhole, IsQuiet};
@@ -55,6 +55,7 @@ fn give_up<K: StoredCore<M>, F: Fates, C: Clock, M: Medium, R: Wait>(
         costs (knows pass).own < costs (knows result.0).own }
     ensures grew { result.1.condition ≡ Condition.AtWork → Grew (knows pass).own (knows result.0).own }
     ensures wanting { fault ≡ HistoryFault.NoMemory → result.1.condition ≡ Condition.Wanting }
+    ensures names { NamesPage fault result.1.condition }
     ensures passes { IsTrue M.tells → PassesOn node (knows pass) (knows result.0)
         (M.stages (K.parts core).medium) (M.stages (K.parts result.1.core).medium) }
 {
