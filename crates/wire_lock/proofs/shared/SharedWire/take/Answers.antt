@@ -11,14 +11,14 @@ use Rattle.world_core.specs.Walks.{numbered, sent_by}
 use Rattle.wire_lock.proofs.SightLemmas.{took-copy, copy-left, behind-is, if-gave, if-failed, left-of, none-due}
 use Rattle.wire_lock.proofs.shared.SharedWire.take.Goals as goal
 
-pub take-requires-clause-up : goal.take-requires-clause-up
-take-requires-clause-up g c =
+pub take-taken-requires-clause-up : goal.take-taken-requires-clause-up
+take-taken-requires-clause-up g c =
     let x = c.enter-visit.ensures.value in
     let s = finds c.args.self.now.lock c.args.pass x.0 c.value-wire.result.now _ c.requires.pass x.2 x.3 c.enter-visit.ensures.carries (c.value-wire.ensures.value x.0 x.1) in
     ap (λ (w : World). (w.flags c.args.node).up) s.world ∙ ap (λ (h : Flags). h.up) (s.before.flags c.args.node c.requires.node) ∙ c.requires.up
 
-pub take-requires-clause-gone : goal.take-requires-clause-gone
-take-requires-clause-gone g c =
+pub take-taken-requires-clause-gone : goal.take-taken-requires-clause-gone
+take-taken-requires-clause-gone g c =
     let x = c.enter-visit.ensures.value in
     let s = finds c.args.self.now.lock c.args.pass x.0 c.value-wire.result.now _ c.requires.pass x.2 x.3 c.enter-visit.ensures.carries (c.value-wire.ensures.value x.0 x.1) in
     λ b. ap (λ (w : World). (w.flags c.args.node).gone) s.world ∙ ap (λ (h : Flags). h.gone) (s.before.flags c.args.node c.requires.node) ∙ c.requires.gone b
