@@ -331,8 +331,8 @@ module _ {Q A : Type 0} where
 
 -- ---- the wire as a visit left it
 
-pub if-gave : {A E : Type 0} {P : A → Type 0} (r : Result A E) (x : A) → r ≡ Ok x → IfOk r P → P x
-if-gave {A} {E} {P} r x is h = subst (λ (z : Result A E). IfOk z P) is h
+pub if-gave : {A E : Type 0} (P : A → Type 0) (r : Result A E) (x : A) → r ≡ Ok x → IfOk r P → P x
+if-gave {A} {E} P r x is h = subst (λ (z : Result A E). IfOk z P) is h
 
 pub if-failed : {A E P : Type 0} (r : Result A E) (e : E) → r ≡ Err e → OnErr r P → P
 if-failed {A} {E} {P} r e is h = subst (λ (z : Result A E). OnErr z P) is h
