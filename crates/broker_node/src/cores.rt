@@ -11,7 +11,7 @@ use broker_core::{Broker, ResumeFault};
 use effect_form::Effect;
 use medium_port::Medium;
 use message_form::{Message, Turn};
-use node_turn::{StoredCore, open_again};
+use node_turn::{Meanings, StoredCore, open_again};
 use object_history::HistoryFault;
 use pseudo_time::{NodeId, Stamp};
 use std::alloc::Global;
@@ -31,7 +31,7 @@ pub struct BrokerCore<M: Medium> {
     ghost sound: { has_failed M.is_failed log ≡ false },
 }
 
-impl<M: Medium> StoredCore<M> for BrokerCore<M> {
+impl<M: Medium> Meanings<M> for BrokerCore<M> {
     ghost use Rattle.std.specs.Prelude.{◌≡◌};
     ghost use Rattle.pseudo_time.specs.Nodes.{broker};
     ghost use Rattle.broker_core.specs.Tasks.{Scripted};
@@ -48,7 +48,9 @@ impl<M: Medium> StoredCore<M> for BrokerCore<M> {
         HasEffects M.reads c.log l.gated };
 
     ghost owes = { λ c effects. Unit {0} };
+}
 
+impl<M: Medium> StoredCore<M> for BrokerCore<M> {
     fn node(&self) -> NodeId {
         NodeId::broker(self.number)
     }

@@ -9,6 +9,7 @@ use Rattle.seat_lock.specs.declared.locks.LockTable.{LockTable}
 use Rattle.pseudo_time.specs.declared.down_causes.DownCause.{DownCause}
 use Rattle.medium_port.specs.Image.{Image}
 use Rattle.medium_port.specs.Moment.{Stage, LeftNow, goes_nowhere}
+use Rattle.medium_port.specs.declared.media.Medium.{Ghosts as Media}
 use Rattle.seat_lock.specs.Story.{Begins, entries_of}
 use Rattle.world_core.specs.declared.entries.Entry.{Entry}
 use Rattle.broker_node.specs.Wires.{WireParts}
@@ -98,19 +99,19 @@ module _ {M : Type 0} where
 
   -- ---- turns
 
+  whole-ok : {E : Type 0} (r : Result Turned E) (c : Condition) (P : Type 0) → IsCondition r c → c ≢ condition.Wanting → OnOk r P → P
+  whole-ok (Ok t) c P is ne p = p
+  whole-ok (Err e) c P is ne p = absurd (ne is)
+
+  pub goes-turned : {E : Type 0} (w : Media M) (old new : NodeParts M) (r : Result Turned E) → TurnsTo w old new r → GoesOn w.tells w.faults w.reads old new
+  goes-turned {E} w old new r t = record {
+    node = t.node;
+    adds = t.adds;
+    paid = t.paid;
+    whole = λ told ne. whole-ok r new.condition (StaysWhole (costs (sight old).own) (costs (sight new).own) (w.reads old.medium) (w.reads new.medium)) t.answers ne (t.whole told);
+  }
+
   module _ (tells : Bool) (faults : M → ℕ) (reads : M → Image) where
-    whole-ok : {E : Type 0} (r : Result Turned E) (c : Condition) (P : Type 0) → IsCondition r c → c ≢ condition.Wanting → OnOk r P → P
-    whole-ok (Ok t) c P is ne p = p
-    whole-ok (Err e) c P is ne p = absurd (ne is)
-
-    pub goes-turned : {E : Type 0} {stages : M → List Stage} (old new : NodeParts M) (r : Result Turned E) → TurnsTo tells faults reads stages old new r → GoesOn tells faults reads old new
-    goes-turned {E} {stages} old new r t = record {
-      node = t.node;
-      adds = t.adds;
-      paid = t.paid;
-      whole = λ told ne. whole-ok r new.condition (StaysWhole (costs (sight old).own) (costs (sight new).own) (reads old.medium) (reads new.medium)) t.answers ne (t.whole told);
-    }
-
     pub goes-same : (n : NodeParts M) → GoesOn tells faults reads n n
     goes-same n = record { node = refl; adds = adds-none (sight n).own; paid = λ first r. r; whole = λ told ne same. whole-same (reads n.medium) }
 

@@ -8,8 +8,7 @@ use Rattle.pseudo_time.proofs.ListLemmas.{has-left, has-right, has-either}
 use Rattle.seat_lock.specs.declared.views.View.{View}
 use Rattle.seat_lock.specs.declared.views.Founding.{Founding}
 use Rattle.seat_lock.specs.declared.locks.LockTable.{LockTable}
-use Rattle.medium_port.specs.Image.{Image}
-use Rattle.medium_port.specs.Moment.{Stage}
+use Rattle.medium_port.specs.declared.media.Medium.{Ghosts as Media}
 use Rattle.world_core.specs.declared.entries.Entry.{Entry}
 use Rattle.broker_node.specs.Boards.{place_of, number_of}
 use Rattle.broker_node.specs.Wires.{WireParts}
@@ -49,21 +48,21 @@ with-memory (Err e) c P is f = tt
 
 -- ---- what a node that had a turn went through
 
-module _ {M Q A : Type 0} (lock : LockTable WireParts (View WireParts Entry) (Founding WireParts) Q A) (tells : Bool) (faults : M → ℕ) (reads : M → Image) (stages : M → List Stage) where
-  pub went-turned : (old new : NodeParts M) → HadTurn lock tells faults reads stages old new → GoesOn tells faults reads old new
-  went-turned old new h = goes-turned tells faults reads old new h.answer h.turned
+module _ {M Q A : Type 0} (lock : LockTable WireParts (View WireParts Entry) (Founding WireParts) Q A) (w : Media M) where
+  pub went-turned : (old new : NodeParts M) → HadTurn lock w old new → GoesOn w.tells w.faults w.reads old new
+  went-turned old new h = goes-turned w old new h.answer h.turned
 
-  pub kept-turned : (old new : NodeParts M) → HadTurn lock tells faults reads stages old new → IsKeptThrough tells stages old new
+  pub kept-turned : (old new : NodeParts M) → HadTurn lock w old new → IsKeptThrough w.tells w.stages old new
   kept-turned old new h = record {
     node = h.turned.node;
-    passes = λ told ne k. found-memory h.answer new.condition (PassesOn old.node (sight old) (sight new) (stages old.medium) (stages new.medium)) h.turned.answers ne (h.turned.passes told);
+    passes = λ told ne k. found-memory h.answer new.condition (PassesOn old.node (sight old) (sight new) (w.stages old.medium) (w.stages new.medium)) h.turned.answers ne (h.turned.passes told);
   }
 
 -- ---- one turn after another
 
-module _ {M : Type 0} (tells : Bool) (faults : M → ℕ) (reads : M → Image) (stages : M → List Stage) where
+module _ {M : Type 0} (w : Media M) where
   abbrev Turn : NodeParts M → NodeParts M → Result Turned AllocError → Type 0
-  Turn old new r = TurnsTo tells faults reads stages old new r
+  Turn old new r = TurnsTo w old new r
 
   -- the second turn, said of the node's first name
   renamed : (a b c : NodeParts M) (s : Result Turned AllocError) → b.node ≡ a.node → Turn b c s → Turn (record b { node = a.node }) c s
@@ -73,7 +72,7 @@ module _ {M : Type 0} (tells : Bool) (faults : M → ℕ) (reads : M → Image) 
   joined : (a b c : NodeParts M) (r s x : Result Turned AllocError) → Turn a b r → b.condition ≡ condition.AtWork → Turn b c s
       → IsCondition x c.condition → IfOk x (λ t. Does t a.node (sight a) (sight c)) → Turn a c x
   joined a b c r s x t up u answers does =
-      let g : GoesOn tells faults reads a c = goes-joins tells faults reads a b c (goes-turned tells faults reads a b r t) up (goes-turned tells faults reads b c s u) in
+      let g : GoesOn w.tells w.faults w.reads a c = goes-joins w.tells w.faults w.reads a b c (goes-turned w a b r t) up (goes-turned w b c s u) in
       let v : Turn (record b { node = a.node }) c s = renamed a b c s t.node u in
       record {
         node = g.node;
@@ -81,7 +80,7 @@ module _ {M : Type 0} (tells : Bool) (faults : M → ℕ) (reads : M → Image) 
         does = does;
         adds = g.adds;
         paid = g.paid;
-        whole = λ told. with-memory x c.condition (StaysWhole (costs (sight a).own) (costs (sight c).own) (reads a.medium) (reads c.medium)) answers (g.whole told);
+        whole = λ told. with-memory x c.condition (StaysWhole (costs (sight a).own) (costs (sight c).own) (w.reads a.medium) (w.reads c.medium)) answers (g.whole told);
         tested = λ told repository.
             let h = t.tested told repository in
             let k = v.tested told repository in
@@ -100,9 +99,9 @@ module _ {M : Type 0} (tells : Bool) (faults : M → ℕ) (reads : M → Image) 
                   (λ y. has-right h.tested k.tested (place_of d.0, number_of d.0 d.1) (k.found d y))
                   (has-either h.learned k.learned d i);
             };
-        passes = λ told. with-memory x c.condition (PassesOn a.node (sight a) (sight c) (stages a.medium) (stages c.medium)) answers (λ ne. passes-on
-            (found-memory r b.condition (PassesOn a.node (sight a) (sight b) (stages a.medium) (stages b.medium)) t.answers (up-found b.condition up) (t.passes told))
-            (found-memory s c.condition (PassesOn a.node (sight b) (sight c) (stages b.medium) (stages c.medium)) v.answers ne (v.passes told)));
+        passes = λ told. with-memory x c.condition (PassesOn a.node (sight a) (sight c) (w.stages a.medium) (w.stages c.medium)) answers (λ ne. passes-on
+            (found-memory r b.condition (PassesOn a.node (sight a) (sight b) (w.stages a.medium) (w.stages b.medium)) t.answers (up-found b.condition up) (t.passes told))
+            (found-memory s c.condition (PassesOn a.node (sight b) (sight c) (w.stages b.medium) (w.stages c.medium)) v.answers ne (v.passes told)));
       }
 
   pub turns-join : (a b c : NodeParts M) (r s : Result Turned AllocError) → Turn a b r → b.condition ≡ condition.AtWork → Turn b c s → (x : Result Turned AllocError) × Turn a c x
@@ -123,9 +122,9 @@ module _ {M : Type 0} (tells : Bool) (faults : M → ℕ) (reads : M → Image) 
       apart cause e = cc
   turns-join a b c (Err e) (Ok Quiet) t up u = absurd (up-found b.condition up t.answers)
 
-module _ {M Q A : Type 0} (lock : LockTable WireParts (View WireParts Entry) (Founding WireParts) Q A) (tells : Bool) (faults : M → ℕ) (reads : M → Image) (stages : M → List Stage) where
+module _ {M Q A : Type 0} (lock : LockTable WireParts (View WireParts Entry) (Founding WireParts) Q A) (w : Media M) where
   -- a turn behind others
-  pub had-again : (a b c : NodeParts M) → HadTurn lock tells faults reads stages a b → IsReady lock b → HadTurn lock tells faults reads stages b c → HadTurn lock tells faults reads stages a c
+  pub had-again : (a b c : NodeParts M) → HadTurn lock w a b → IsReady lock b → HadTurn lock w b c → HadTurn lock w a c
   had-again a b c had ready more =
-      let x = turns-join tells faults reads stages a b c had.answer more.answer had.turned ready.up more.turned in
+      let x = turns-join w a b c had.answer more.answer had.turned ready.up more.turned in
       record { pass = more.pass; answer = x.0; turned = x.1 }

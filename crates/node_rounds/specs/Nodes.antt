@@ -6,6 +6,7 @@ use Rattle.std.specs.declared.alloc.Global.{Global}
 use Rattle.std.specs.declared.alloc.AllocError.{AllocError}
 use Rattle.medium_port.specs.Image.{Image}
 use Rattle.medium_port.specs.Moment.{Stage, LeftNow}
+use Rattle.medium_port.specs.declared.media.Medium.{Ghosts as Media}
 use Rattle.seat_lock.specs.declared.views.View.{View}
 use Rattle.seat_lock.specs.declared.views.Founding.{Founding}
 use Rattle.seat_lock.specs.declared.locks.LockTable.{LockTable}
@@ -90,7 +91,7 @@ module _ {M Q A : Type 0} (lock : LockTable WireParts (View WireParts Entry) (Fo
     pub up : IsUp n
 
   -- a node that had a turn, with this answer; several that follow each other are told as one
-  pub record HadTurn (tells : Bool) (faults : M → ℕ) (reads : M → Image) (stages : M → List Stage) (old new : NodeParts M) : Type 0 where
+  pub record HadTurn (w : Media M) (old new : NodeParts M) : Type 0 where
     pub pass : HasPass new
     pub answer : Result Turned AllocError
-    pub turned : TurnsTo tells faults reads stages old new answer
+    pub turned : TurnsTo w old new answer

@@ -88,7 +88,7 @@ impl<F: Fates, C: Clock, M: Medium> Turns<SharedWire<F, C, M>> for RunNode<F, C,
 
     ghost ready = { λ wire n. IsReady wire.lock n };
 
-    ghost does = { λ wire old new. HadTurn wire.lock M.tells M.faults M.reads M.stages old new };
+    ghost does = { λ wire old new. HadTurn wire.lock M.Medium old new };
 
     fn take_turn<R: Wait>(self, rt: &R, shared: &SharedWire<F, C, M>) -> (RunNode<F, C, M>, bool) {
         let RunNode { kind } = self;

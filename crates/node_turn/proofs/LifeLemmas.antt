@@ -1,5 +1,5 @@
 -- What a node keeps of its life, from call to call.
-use Rattle.std.proofs.Common.{◌≡◌, ℕ, Bool, true, false, List, [], ◌++◌, length, Option, Result, Ok, Err, IsTrue, IfOk, IfErr, OnOk, OnErr, IsErrOf, ◌||◌, refl, sym, ap, subst, ◌∙◌, arith, append_assoc}
+use Rattle.std.proofs.Common.{◌≡◌, Bool, true, false, List, [], ◌++◌, length, Option, Result, Ok, Err, IsTrue, IfOk, IfErr, OnOk, OnErr, IsErrOf, ◌||◌, refl, sym, ap, subst, ◌∙◌, arith, append_assoc}
 use Rattle.std.proofs.lemmas.List.{append-nil}
 use Rattle.pseudo_time.proofs.ListLemmas.{every-append}
 use Rattle.pseudo_time.specs.StampParts.{StampParts}
@@ -9,7 +9,7 @@ use Rattle.pseudo_time.specs.declared.nodes.NodeKind.TheVariants.{Repository, Br
 use Rattle.pseudo_time.specs.Nodes.{is_broker}
 use Rattle.stream_port.specs.Causes.{Rose}
 use Rattle.medium_port.specs.Image.{Image, NoMore}
-use Rattle.medium_port.specs.Moment.{Stage}
+use Rattle.medium_port.specs.declared.media.Medium.{Ghosts as Media}
 use Rattle.effect_form.specs.declared.effects.Effect.{Effect}
 use Rattle.effect_form.specs.Effects.{IsEffect}
 use Rattle.message_form.specs.declared.turns.Turn.{Turn}
@@ -26,7 +26,8 @@ use Rattle.world_core.specs.Walks.{Base, Life, Flags, after_input, all_effects, 
 use Rattle.wire_core.specs.Wires.{WireParts, base_from}
 use Rattle.wire_core.specs.declared.takens.Taken.{Taken}
 use Rattle.wire_lock.specs.Sights.{Sight, origin_in, base_at, life_at, flags_at, given, IsOf, IsAsBefore, Looked, Added, Visited, Tested, TakesOne}
-use Rattle.node_turn.specs.Cores.{CoreParts, HasTurn, given_for, IsGiven}
+use Rattle.node_turn.specs.declared.core_meanings.Meanings.{Ghosts as Meanings}
+use Rattle.node_turn.specs.Cores.{HasTurn, given_for, IsGiven}
 use Rattle.node_turn.specs.Lives.{DraftParts, IsKept, StaysReady, HasLife, up_flags, IsUnwritten, IsUp, IsStored, IsStruck, IsAfter}
 use Rattle.node_turn.proofs.ReadyLemmas.{ready-told, asks-told}
 
@@ -117,11 +118,10 @@ life-tested n {k} {k'} is t = let f = follows-of n k k' (ap (λ (s : Sight). s.b
 
 -- ---- nodes
 
-module _ {K M : Type 0} {tells : Bool} {parts : K → CoreParts M} {fits : Base → K → Type 0} {lives : Base → K → Life → Type 0} {owes : K → List Effect → Type 0}
-    {pages : M → ℕ} {reads : M → Image} {may_leave : M → Image → Type 0} where
+module _ {K M : Type 0} {w : Media M} {m : Meanings K M} where
   -- an up node stays so as its pass sees more of others
-  pub up-seen : {core : K} {k k' : Sight} {n : NodeId} {gone due : Bool} {d : DraftParts} → IsUp tells parts fits lives owes pages reads may_leave core k n gone due d → k'.base ≡ k.base → k'.owner ≡ k.owner → IsAsBefore k k'.story
-      → IsUp tells parts fits lives owes pages reads may_leave core k' n gone due d
+  pub up-seen : {core : K} {k k' : Sight} {n : NodeId} {gone due : Bool} {d : DraftParts} → IsUp w m core k n gone due d → k'.base ≡ k.base → k'.owner ≡ k.owner → IsAsBefore k k'.story
+      → IsUp w m core k' n gone due d
   up-seen {core} {k} {k'} {n} {gone} {due} {d} u sb so before =
       let f : Follows n k k' = follows-of n k k' sb so in
       record {
@@ -130,21 +130,21 @@ module _ {K M : Type 0} {tells : Bool} {parts : K → CoreParts M} {fits : Base 
         owed = u.owed;
         effects_fit = u.effects_fit;
         outs_fit = u.outs_fit;
-        run = subst (λ b. fits b core) (sym f.base) u.run;
+        run = subst (λ b. m.fits b core) (sym f.base) u.run;
         own = f.own u.own;
         flags = flags-seen n k k' f.base before u.own ∙ u.flags;
-        life = λ t. subst (λ b. HasLife b n d (lives b core) (may_leave (parts core).medium) (life_at k' n)) (sym f.base)
-            (subst (HasLife (base_at k) n d (lives (base_at k) core) (may_leave (parts core).medium)) (sym (life-seen n k k' f.base before u.own)) (u.life t));
+        life = λ t. subst (λ b. HasLife b n d (m.lives b core) (w.may_leave (m.parts core).medium) (life_at k' n)) (sym f.base)
+            (subst (HasLife (base_at k) n d (m.lives (base_at k) core) (w.may_leave (m.parts core).medium)) (sym (life-seen n k k' f.base before u.own)) (u.life t));
       }
 
-  pub up-looked : {core : K} {k k' : Sight} {n : NodeId} {gone due : Bool} {d : DraftParts} → IsUp tells parts fits lives owes pages reads may_leave core k n gone due d → Looked k k' → IsUp tells parts fits lives owes pages reads may_leave core k' n gone due d
+  pub up-looked : {core : K} {k k' : Sight} {n : NodeId} {gone due : Bool} {d : DraftParts} → IsUp w m core k n gone due d → Looked k k' → IsUp w m core k' n gone due d
   up-looked u look = up-seen u (ap (λ (s : Sight). s.base) look.kept) (ap (λ (s : Sight). s.owner) look.kept) look.before
 
-  pub up-tested : {core : K} {k k' : Sight} {n : NodeId} {gone due : Bool} {d : DraftParts} {stamp : StampParts} {answer : Option Bool} → IsUp tells parts fits lives owes pages reads may_leave core k n gone due d → Tested k k' stamp answer → IsUp tells parts fits lives owes pages reads may_leave core k' n gone due d
+  pub up-tested : {core : K} {k k' : Sight} {n : NodeId} {gone due : Bool} {d : DraftParts} {stamp : StampParts} {answer : Option Bool} → IsUp w m core k n gone due d → Tested k k' stamp answer → IsUp w m core k' n gone due d
   up-tested u t = up-seen u (ap (λ (s : Sight). s.base) t.kept) (ap (λ (s : Sight). s.owner) t.kept) t.before
 
   -- what an up node has on its medium
-  pub up-stored : {core : K} {k : Sight} {n : NodeId} {gone due : Bool} {d : DraftParts} → IsUp tells parts fits lives owes pages reads may_leave core k n gone due d → IsStored tells parts fits lives owes pages reads may_leave core k n
+  pub up-stored : {core : K} {k : Sight} {n : NodeId} {gone due : Bool} {d : DraftParts} → IsUp w m core k n gone due d → IsStored w m core k n
   up-stored {core} {k} {n} {gone} {due} {d} u = record {
     node = u.node;
     run = u.run;
@@ -152,60 +152,59 @@ module _ {K M : Type 0} {tells : Bool} {parts : K → CoreParts M} {fits : Base 
     kept = λ t c i. kept-none (life_at k n) c (life_at k n).gated refl ((u.life t).images_left c i);
   }
 
-  pub stored-looked : {core : K} {k k' : Sight} {n : NodeId} → IsStored tells parts fits lives owes pages reads may_leave core k n → Looked k k' → IsStored tells parts fits lives owes pages reads may_leave core k' n
+  pub stored-looked : {core : K} {k k' : Sight} {n : NodeId} → IsStored w m core k n → Looked k k' → IsStored w m core k' n
   stored-looked {core} {k} {k'} {n} s look =
       let f : Follows n k k' = follows-looked n look in
       record {
         node = s.node;
-        run = subst (λ b. fits b core) (sym f.base) s.run;
+        run = subst (λ b. m.fits b core) (sym f.base) s.run;
         own = f.own s.own;
         kept = λ t c i. subst (λ l. IsKept l c) (sym (life-looked n s.own look)) (s.kept t c i);
       }
 
-module _ {K M : Type 0} {tells : Bool} {parts : K → CoreParts M} {fits : Base → K → Type 0} {lives : Base → K → Life → Type 0} {owes : K → List Effect → Type 0}
-    {faults pages : M → ℕ} {reads : M → Image} {may_leave : M → Image → Type 0} {stages : M → List Stage} where
+module _ {K M : Type 0} {w : Media M} {m : Meanings K M} where
   module _ {old new : K} {k k' : Sight} {n : NodeId} {gone gone' due : Bool} {d : DraftParts} {e : Entry} {flags : Flags} {input : Input} {result : Result Turn HistoryFault}
-      (u : IsUp tells parts fits lives owes pages reads may_leave old k n gone due d) (v : Visited tells n k k' e (given n k input) flags) (flags_are : flags ≡ up_flags gone' true)
-      (g : IsGiven tells parts fits lives owes faults pages reads may_leave stages old new input result) where
+      (u : IsUp w m old k n gone due d) (v : Visited w.tells n k k' e (given n k input) flags) (flags_are : flags ≡ up_flags gone' true)
+      (g : IsGiven w m old new input result) where
     f : Follows n k k'
     f = follows-added n v.added
 
-    here : (t : IsTrue tells) → life_at k' n ≡ after_input (base_at k) n (life_at k n) input
+    here : (t : IsTrue w.tells) → life_at k' n ≡ after_input (base_at k) n (life_at k n) input
     here t = v.lives t
 
     -- the input was given, and the turn is added to the draft
-    up-given : (turn : Turn) → result ≡ Ok turn → IsUp tells parts fits lives owes pages reads may_leave new k' n gone' true (record { durable = d.durable; effects = d.effects ++ turn.effects; outs = d.outs ++ turn.outs })
+    up-given : (turn : Turn) → result ≡ Ok turn → IsUp w m new k' n gone' true (record { durable = d.durable; effects = d.effects ++ turn.effects; outs = d.outs ++ turn.outs })
     up-given turn ok = record {
       node = g.same.node ∙ u.node;
-      able = on-ok result turn ((parts new).able ≡ true) ok g.able;
-      owed = if-ok result turn (λ t. owes new (d.effects ++ t.effects)) ok (g.owed d.effects u.owed);
+      able = on-ok result turn ((m.parts new).able ≡ true) ok g.able;
+      owed = if-ok result turn (λ t. m.owes new (d.effects ++ t.effects)) ok (g.owed d.effects u.owed);
       effects_fit = every-append IsEffect d.effects turn.effects u.effects_fit (if-ok result turn (λ t. AreEffects t.effects × AreOuts t.outs) ok g.in_range).0;
       outs_fit = every-append (λ (o : Out). IsMessage o.message) d.outs turn.outs u.outs_fit (if-ok result turn (λ t. AreEffects t.effects × AreOuts t.outs) ok g.in_range).1;
-      run = subst (λ b. fits b new) (sym f.base) (g.same.run (base_at k) u.run);
+      run = subst (λ b. m.fits b new) (sym f.base) (g.same.run (base_at k) u.run);
       own = f.own u.own;
       flags = v.stands ∙ flags_are;
       life = λ t.
           let b : Base = base_at k in
           let l : Life = life_at k n in
-          let gave : HasTurn (given_for b (parts old).node l input) turn × lives b new (after_input b (parts old).node l input) =
-          if-ok result turn (λ x. HasTurn (given_for b (parts old).node l input) x × lives b new (after_input b (parts old).node l input)) ok (g.gave t b l u.run (u.life t).core) in
-          let at : HasTurn (given_for b n l input) turn × lives b new (after_input b n l input) =
-          subst (λ (m : NodeId). HasTurn (given_for b m l input) turn × lives b new (after_input b m l input)) u.node gave in
+          let gave : HasTurn (given_for b (m.parts old).node l input) turn × m.lives b new (after_input b (m.parts old).node l input) =
+          if-ok result turn (λ x. HasTurn (given_for b (m.parts old).node l input) x × m.lives b new (after_input b (m.parts old).node l input)) ok (g.gave t b l u.run (u.life t).core) in
+          let at : HasTurn (given_for b n l input) turn × m.lives b new (after_input b n l input) =
+          subst (λ (x : NodeId). HasTurn (given_for b x l input) turn × m.lives b new (after_input b x l input)) u.node gave in
           let d' : DraftParts = record { durable = d.durable; effects = d.effects ++ turn.effects; outs = d.outs ++ turn.outs } in
-          let has : HasLife b n d' (lives b new) (may_leave (parts new).medium) (after_input b n l input) =
-          has-told b n d (lives b old) (lives b new) (may_leave (parts old).medium) (may_leave (parts new).medium) l input turn (u.life t) at.0 at.1 (g.images t) in
-          subst (λ (c : Base). HasLife c n d' (lives c new) (may_leave (parts new).medium) (life_at k' n)) (sym f.base) (subst (HasLife b n d' (lives b new) (may_leave (parts new).medium)) (sym (here t)) has);
+          let has : HasLife b n d' (m.lives b new) (w.may_leave (m.parts new).medium) (after_input b n l input) =
+          has-told b n d (m.lives b old) (m.lives b new) (w.may_leave (m.parts old).medium) (w.may_leave (m.parts new).medium) l input turn (u.life t) at.0 at.1 (g.images t) in
+          subst (λ (c : Base). HasLife c n d' (m.lives c new) (w.may_leave (m.parts new).medium) (life_at k' n)) (sym f.base) (subst (HasLife b n d' (m.lives b new) (w.may_leave (m.parts new).medium)) (sym (here t)) has);
     }
 
-    stored-given : IsStored tells parts fits lives owes pages reads may_leave new k' n
+    stored-given : IsStored w m new k' n
     stored-given = record {
       node = g.same.node ∙ u.node;
-      run = subst (λ b. fits b new) (sym f.base) (g.same.run (base_at k) u.run);
+      run = subst (λ b. m.fits b new) (sym f.base) (g.same.run (base_at k) u.run);
       own = f.own u.own;
       kept = λ t c i. kept-none (life_at k' n) c (life_at k n).gated (sym (ap (λ (l : Life). l.gated) (here t))) ((u.life t).images_left c (g.images t c i));
     }
 
-    struck-given : IsStruck tells parts fits lives owes pages reads may_leave new k' n d.durable
+    struck-given : IsStruck w m new k' n d.durable
     struck-given = record {
       stored = stored-given;
       up = ap (λ (x : Flags). x.up) (v.stands ∙ flags_are);
@@ -215,7 +214,7 @@ module _ {K M : Type 0} {tells : Bool} {parts : K → CoreParts M} {fits : Base 
     }
 
     -- the core answered a fault
-    after-given : (h : HistoryFault) → result ≡ Err h → IsAfter tells parts fits lives owes pages reads may_leave h new k' n d.durable
+    after-given : (h : HistoryFault) → result ≡ Err h → IsAfter w m h new k' n d.durable
     after-given fault.NoMemory err = stored-given
     after-given fault.Medium err = struck-given
     after-given (fault.Damaged page) err = (struck-given, λ t. if-err result (fault.Damaged page) IsNotDamage err (g.sound t))
@@ -223,32 +222,32 @@ module _ {K M : Type 0} {tells : Bool} {parts : K → CoreParts M} {fits : Base 
     -- with what became of the draft
     module _ {T : Type 0} (done : Result T HistoryFault) (d' : DraftParts) (ok : OnOk done (IfOk result (λ t. d' ≡ record { durable = d.durable; effects = d.effects ++ t.effects; outs = d.outs ++ t.outs })))
         (err : IfErr result (λ h. done ≡ Err h)) (wanting : IfOk result (λ t. IfErr done (λ h. h ≡ fault.NoMemory))) where
-      pub up-added : OnOk done (IsUp tells parts fits lives owes pages reads may_leave new k' n gone' true d')
+      pub up-added : OnOk done (IsUp w m new k' n gone' true d')
       up-added = go result done refl refl ok err
         where
           go : (r : Result Turn HistoryFault) (x : Result T HistoryFault) → result ≡ r → done ≡ x → OnOk x (IfOk r (λ t. d' ≡ record { durable = d.durable; effects = d.effects ++ t.effects; outs = d.outs ++ t.outs }))
-              → IfErr r (λ h. done ≡ Err h) → OnOk done (IsUp tells parts fits lives owes pages reads may_leave new k' n gone' true d')
-          go r (Err h) p q a b = subst (λ (z : Result T HistoryFault). OnOk z (IsUp tells parts fits lives owes pages reads may_leave new k' n gone' true d')) (sym q) tt
-          go (Ok turn) (Ok v) p q a b = subst (λ (z : Result T HistoryFault). OnOk z (IsUp tells parts fits lives owes pages reads may_leave new k' n gone' true d')) (sym q) (subst (IsUp tells parts fits lives owes pages reads may_leave new k' n gone' true) (sym a) (up-given turn p))
+              → IfErr r (λ h. done ≡ Err h) → OnOk done (IsUp w m new k' n gone' true d')
+          go r (Err h) p q a b = subst (λ (z : Result T HistoryFault). OnOk z (IsUp w m new k' n gone' true d')) (sym q) tt
+          go (Ok turn) (Ok v) p q a b = subst (λ (z : Result T HistoryFault). OnOk z (IsUp w m new k' n gone' true d')) (sym q) (subst (IsUp w m new k' n gone' true) (sym a) (up-given turn p))
           go (Err h) (Ok v) p q a b = absurd (let z : Ok v ≡ Err h = sym q ∙ b in cc z)
 
-      pub after-added : IfErr done (λ h. IsAfter tells parts fits lives owes pages reads may_leave h new k' n d.durable)
+      pub after-added : IfErr done (λ h. IsAfter w m h new k' n d.durable)
       after-added = go result done refl refl err wanting
         where
           After : HistoryFault → Type 0
-          After h = IsAfter tells parts fits lives owes pages reads may_leave h new k' n d.durable
+          After h = IsAfter w m h new k' n d.durable
 
           go : (r : Result Turn HistoryFault) (x : Result T HistoryFault) → result ≡ r → done ≡ x → IfErr r (λ h. done ≡ Err h) → IfOk r (λ t. IfErr done (λ h. h ≡ fault.NoMemory)) → IfErr done After
           go r (Ok v) p q a b = subst (λ (z : Result T HistoryFault). IfErr z After) (sym q) tt
           go (Err h) (Err g') p q a b = subst (λ (z : Result T HistoryFault). IfErr z After) (sym a) (after-given h p)
           go (Ok turn) (Err g') p q a b = subst (λ (z : Result T HistoryFault). IfErr z After) (sym q) (subst After (sym (if-err done g' (λ h. h ≡ fault.NoMemory) q b)) stored-given)
 
-      pub cause-added : IsErrOf done fault.Medium → Rose (faults (parts old).medium) (faults (parts new).medium)
+      pub cause-added : IsErrOf done fault.Medium → Rose (w.faults (m.parts old).medium) (w.faults (m.parts new).medium)
       cause-added = go result refl err wanting
         where
-          go : (r : Result Turn HistoryFault) → result ≡ r → IfErr r (λ h. done ≡ Err h) → IfOk r (λ t. IfErr done (λ h. h ≡ fault.NoMemory)) → done ≡ Err fault.Medium → Rose (faults (parts old).medium) (faults (parts new).medium)
-          go (Ok turn) p a b z = absurd (let w : fault.Medium ≡ fault.NoMemory = if-err done fault.Medium (λ h. h ≡ fault.NoMemory) z b in cc w)
-          go (Err h) p a b z = let w : ◌≡◌ {A = Result T HistoryFault} (Err h) (Err fault.Medium) = sym a ∙ z in let x : h ≡ fault.Medium = cc w in g.cause (p ∙ ap (λ y. Err y) x)
+          go : (r : Result Turn HistoryFault) → result ≡ r → IfErr r (λ h. done ≡ Err h) → IfOk r (λ t. IfErr done (λ h. h ≡ fault.NoMemory)) → done ≡ Err fault.Medium → Rose (w.faults (m.parts old).medium) (w.faults (m.parts new).medium)
+          go (Ok turn) p a b z = absurd (let x : fault.Medium ≡ fault.NoMemory = if-err done fault.Medium (λ h. h ≡ fault.NoMemory) z b in cc x)
+          go (Err h) p a b z = let y : ◌≡◌ {A = Result T HistoryFault} (Err h) (Err fault.Medium) = sym a ∙ z in let x : h ≡ fault.Medium = cc y in g.cause (p ∙ ap (λ y. Err y) x)
 
 -- ---- taking
 
@@ -258,16 +257,15 @@ taken-at tells n k k' e h = subst (TakesOne tells n k k') e h
 
 -- ---- media that weren't written
 
-pub unwritten-none : {M : Type 0} (tells : Bool) (faults : M → ℕ) (reads : M → Image) (stages : M → List Stage) (m : M) → IsUnwritten tells faults reads stages m m
-unwritten-none tells faults reads stages m = record { later = omega arith; still = λ t. refl; stages_still = λ t. refl }
+pub unwritten-none : {M : Type 0} (w : Media M) (x : M) → IsUnwritten w x x
+unwritten-none w x = record { later = omega arith; still = λ t. refl; stages_still = λ t. refl }
 
-pub unwritten-joins : {M : Type 0} {tells : Bool} {faults : M → ℕ} {reads : M → Image} {stages : M → List Stage} {a b c : M} → IsUnwritten tells faults reads stages a b → IsUnwritten tells faults reads stages b c → IsUnwritten tells faults reads stages a c
-unwritten-joins {M} {tells} {faults} {reads} {stages} {a} {b} {c} p q = record { later = let x = p.later in let y = q.later in omega (arith, x, y); still = λ t. q.still t ∙ p.still t; stages_still = λ t. q.stages_still t ∙ p.stages_still t }
+pub unwritten-joins : {M : Type 0} {w : Media M} {a b c : M} → IsUnwritten w a b → IsUnwritten w b c → IsUnwritten w a c
+unwritten-joins {M} {w} {a} {b} {c} p q = record { later = let x = p.later in let y = q.later in omega (arith, x, y); still = λ t. q.still t ∙ p.still t; stages_still = λ t. q.stages_still t ∙ p.stages_still t }
 
-module _ {K M : Type 0} {tells : Bool} {parts : K → CoreParts M} {fits : Base → K → Type 0} {lives : Base → K → Life → Type 0} {owes : K → List Effect → Type 0}
-    {pages : M → ℕ} {reads : M → Image} {may_leave : M → Image → Type 0} where
+module _ {K M : Type 0} {w : Media M} {m : Meanings K M} where
   -- a turn that had begun
-  pub up-or : {core : K} {k : Sight} {n : NodeId} {gone : Bool} {d : DraftParts} (t : Bool) → IsUp tells parts fits lives owes pages reads may_leave core k n gone (t || true) d → IsUp tells parts fits lives owes pages reads may_leave core k n gone true d
+  pub up-or : {core : K} {k : Sight} {n : NodeId} {gone : Bool} {d : DraftParts} (t : Bool) → IsUp w m core k n gone (t || true) d → IsUp w m core k n gone true d
   up-or true u = u
   up-or false u = u
 

@@ -1,9 +1,10 @@
 -- What an append and an opening leave of a medium, for the cores that keep their log on it.
-use Rattle.std.proofs.Common.{◌≡◌, ◌≢◌, ℕ, ◌≤◌, ◌<◌, ◌+◌, Bool, true, List, [], ◌++◌, length, Result, Ok, Err, IsTrue, IfOk, IfErr, OnOk, refl, sym, ap, subst, ◌∙◌, arith, inl}
+use Rattle.std.proofs.Common.{◌≡◌, ◌≢◌, ℕ, ◌≤◌, ◌<◌, ◌+◌, true, List, [], ◌++◌, length, Result, Ok, Err, IsTrue, IfOk, IfErr, OnOk, refl, sym, ap, subst, ◌∙◌, arith, inl}
 use Rattle.std.specs.Prelude.{count_by, IsErrOf}
 use Rattle.stream_port.specs.Causes.{Rose}
 use Rattle.medium_port.specs.Image.{Image, IsImage, Only, NoMore}
-use Rattle.medium_port.specs.Moment.{LeavesOnly, Stage}
+use Rattle.medium_port.specs.Moment.{LeavesOnly}
+use Rattle.medium_port.specs.declared.media.Medium.{Ghosts as Media}
 use Rattle.pseudo_time.specs.declared.nodes.NodeId.{NodeId}
 use Rattle.page_gate.specs.States.{is_blank}
 use Rattle.effect_form.specs.declared.effects.Effect.{Effect}
@@ -18,7 +19,8 @@ use Rattle.version_store.specs.Settled.{IsSettled}
 use Rattle.version_store.proofs.FillingLemmas.{filling-apart}
 use Rattle.version_store.specs.Storage.{storage, effects_found, log_of}
 use Rattle.world_core.specs.Walks.{Base, Life, opened_life, gated_life}
-use Rattle.node_turn.specs.Cores.{CoreParts, HasGrown, IsIntact, LeavesLog, IsDamageOf, IsFull, IsAppended, IsReopened}
+use Rattle.node_turn.specs.declared.core_meanings.Meanings.{Ghosts as Meanings}
+use Rattle.node_turn.specs.Cores.{HasGrown, IsIntact, LeavesLog, IsDamageOf, IsFull, IsAppended, IsReopened}
 
 -- ---- answers
 
@@ -72,45 +74,45 @@ damage-told images n b page d = (d.0, d.1, inl d.2)
 -- ---- appends
 
 -- what an append leaves of the medium
-pub record AppendsTo {M T : Type 0} (tells : Bool) (faults pages : M → ℕ) (reads : M → Image) (may_leave : M → Image → Type 0) (stages : M → List Stage) (old new : M) (effects : List Effect) (result : Result T StoreFault) : Type 0 where
-  pub later : faults old ≤ faults new
-  pub left : IsTrue tells → (log : List Effect) → LeavesLog (may_leave old) log → OnOk result (LeavesLog (may_leave new) (log ++ effects))
-  pub images : IsTrue tells → (log : List Effect) → LeavesLog (may_leave old) log → (c : Image) → may_leave new c → HasPrefix log effects c
-  pub at_moments : IsTrue tells → (log : List Effect) → LeavesLog (may_leave old) log → LeavesOnly stages old new (HasPrefix log effects)
-  pub intact : IsTrue tells → OnOk result (IsIntact (reads old) (reads new))
+pub record AppendsTo {M T : Type 0} (w : Media M) (old new : M) (effects : List Effect) (result : Result T StoreFault) : Type 0 where
+  pub later : w.faults old ≤ w.faults new
+  pub left : IsTrue w.tells → (log : List Effect) → LeavesLog (w.may_leave old) log → OnOk result (LeavesLog (w.may_leave new) (log ++ effects))
+  pub images : IsTrue w.tells → (log : List Effect) → LeavesLog (w.may_leave old) log → (c : Image) → w.may_leave new c → HasPrefix log effects c
+  pub at_moments : IsTrue w.tells → (log : List Effect) → LeavesLog (w.may_leave old) log → LeavesOnly w.stages old new (HasPrefix log effects)
+  pub intact : IsTrue w.tells → OnOk result (IsIntact (w.reads old) (w.reads new))
   pub nothing : IfErr result (λ f. f ≢ adding.Medium → new ≡ old)
-  pub full : IfErr result (λ f. (number : ℕ) → f ≡ adding.Full number → (number ≡ pages old) × (IsTrue tells → count_by is_blank (reads old) < length (filling effects)))
-  pub cause : IsErrOf result adding.Medium → Rose (faults old) (faults new)
+  pub full : IfErr result (λ f. (number : ℕ) → f ≡ adding.Full number → (number ≡ w.page_count old) × (IsTrue w.tells → count_by is_blank (w.reads old) < length (filling effects)))
+  pub cause : IsErrOf result adding.Medium → Rose (w.faults old) (w.faults new)
 
-module _ {M : Type 0} (tells : Bool) (faults pages : M → ℕ) (reads : M → Image) (may_leave : M → Image → Type 0) (stages : M → List Stage) (now : (m : M) → IsTrue tells → may_leave m (reads m)) (old new : M) (effects : List Effect)
-    (settled : IsTrue tells → IsSettled (reads old) (may_leave old)) (later : faults old ≤ faults new)
-    (images : IsTrue tells → (c : Image) → may_leave new c → HasPrefix (effects_read (reads old)) effects c)
-    (moments : IsTrue tells → LeavesOnly stages old new (HasPrefix (effects_read (reads old)) effects)) where
-  moments-from : IsTrue tells → (log : List Effect) → LeavesLog (may_leave old) log → LeavesOnly stages old new (HasPrefix log effects)
-  moments-from t log leaves = subst (λ l. LeavesOnly stages old new (HasPrefix l effects)) (log-left (reads old) (may_leave old) (settled t) log (now old t) leaves) (moments t)
+module _ {M : Type 0} (w : Media M) (now : (x : M) → IsTrue w.tells → w.may_leave x (w.reads x)) (old new : M) (effects : List Effect)
+    (settled : IsTrue w.tells → IsSettled (w.reads old) (w.may_leave old)) (later : w.faults old ≤ w.faults new)
+    (images : IsTrue w.tells → (c : Image) → w.may_leave new c → HasPrefix (effects_read (w.reads old)) effects c)
+    (moments : IsTrue w.tells → LeavesOnly w.stages old new (HasPrefix (effects_read (w.reads old)) effects)) where
+  moments-from : IsTrue w.tells → (log : List Effect) → LeavesLog (w.may_leave old) log → LeavesOnly w.stages old new (HasPrefix log effects)
+  moments-from t log leaves = subst (λ l. LeavesOnly w.stages old new (HasPrefix l effects)) (log-left (w.reads old) (w.may_leave old) (settled t) log (now old t) leaves) (moments t)
 
-  images-from : IsTrue tells → (log : List Effect) → LeavesLog (may_leave old) log → (c : Image) → may_leave new c → HasPrefix log effects c
-  images-from t log leaves c left = subst (λ l. HasPrefix l effects c) (log-left (reads old) (may_leave old) (settled t) log (now old t) leaves) (images t c left)
+  images-from : IsTrue w.tells → (log : List Effect) → LeavesLog (w.may_leave old) log → (c : Image) → w.may_leave new c → HasPrefix log effects c
+  images-from t log leaves c left = subst (λ l. HasPrefix l effects c) (log-left (w.reads old) (w.may_leave old) (settled t) log (now old t) leaves) (images t c left)
 
   -- all was added
-  pub appends-all : {T : Type 0} (x : T) → ((m : M) (c : Image) → IsTrue tells → may_leave m c → IsImage (pages m) c) → pages new ≡ pages old → (IsTrue tells → IsSettled (reads new) (may_leave new)) → (IsTrue tells → effects_read (reads new) ≡ effects_read (reads old) ++ effects)
-      → (IsTrue tells → KeepsPages (reads old) (reads new)) → (IsTrue tells → StaysClean (reads old) (reads new)) → AreEffects effects → (IsTrue tells → count_by is_blank (reads new) + length (filling effects) ≡ count_by is_blank (reads old))
-      → AppendsTo tells faults pages reads may_leave stages old new effects (Ok x)
+  pub appends-all : {T : Type 0} (x : T) → ((d : M) (c : Image) → IsTrue w.tells → w.may_leave d c → IsImage (w.page_count d) c) → w.page_count new ≡ w.page_count old → (IsTrue w.tells → IsSettled (w.reads new) (w.may_leave new)) → (IsTrue w.tells → effects_read (w.reads new) ≡ effects_read (w.reads old) ++ effects)
+      → (IsTrue w.tells → KeepsPages (w.reads old) (w.reads new)) → (IsTrue w.tells → StaysClean (w.reads old) (w.reads new)) → AreEffects effects → (IsTrue w.tells → count_by is_blank (w.reads new) + length (filling effects) ≡ count_by is_blank (w.reads old))
+      → AppendsTo w old new effects (Ok x)
   appends-all x shape size rests grown keeps clean ranges used = record {
     later = later;
-    left = λ t log leaves. leaves-log (reads new) (may_leave new) (rests t) (log ++ effects) (grown t ∙ ap (λ l. l ++ effects) (log-left (reads old) (may_leave old) (settled t) log (now old t) leaves));
+    left = λ t log leaves. leaves-log (w.reads new) (w.may_leave new) (rests t) (log ++ effects) (grown t ∙ ap (λ l. l ++ effects) (log-left (w.reads old) (w.may_leave old) (settled t) log (now old t) leaves));
     images = images-from;
     at_moments = moments-from;
-    intact = λ t. record { count = (shape new (reads new) t (now new t)).count ∙ size ∙ sym (shape old (reads old) t (now old t)).count; keeps = keeps t; clean = clean t; grown = has-grown (reads old) (may_leave old) (reads new) (may_leave new) (settled t) (rests t) effects ranges (grown t) (used t) };
+    intact = λ t. record { count = (shape new (w.reads new) t (now new t)).count ∙ size ∙ sym (shape old (w.reads old) t (now old t)).count; keeps = keeps t; clean = clean t; grown = has-grown (w.reads old) (w.may_leave old) (w.reads new) (w.may_leave new) (settled t) (rests t) effects ranges (grown t) (used t) };
     nothing = tt;
     full = tt;
     cause = λ e. absurd (cc e);
   }
 
   -- a fault
-  pub appends-none : {T : Type 0} (f : StoreFault) → (f ≢ adding.Medium → new ≡ old) → ((number : ℕ) → f ≡ adding.Full number → number ≡ pages old)
-      → (IsTrue tells → (number : ℕ) → f ≡ adding.Full number → count_by is_blank (reads old) < length (filling effects)) → (f ≡ adding.Medium → Rose (faults old) (faults new))
-      → AppendsTo {T = T} tells faults pages reads may_leave stages old new effects (Err f)
+  pub appends-none : {T : Type 0} (f : StoreFault) → (f ≢ adding.Medium → new ≡ old) → ((number : ℕ) → f ≡ adding.Full number → number ≡ w.page_count old)
+      → (IsTrue w.tells → (number : ℕ) → f ≡ adding.Full number → count_by is_blank (w.reads old) < length (filling effects)) → (f ≡ adding.Medium → Rose (w.faults old) (w.faults new))
+      → AppendsTo {T = T} w old new effects (Err f)
   appends-none f nothing all blank cause = record {
     later = later;
     left = λ t log leaves. tt;
@@ -122,15 +124,14 @@ module _ {M : Type 0} (tells : Bool) (faults pages : M → ℕ) (reads : M → I
     cause = λ e. cause (err-same f adding.Medium e);
   }
 
-module _ {K M : Type 0} {tells : Bool} {parts : K → CoreParts M} {fits : Base → K → Type 0} {lives : Base → K → Life → Type 0} {owes : K → List Effect → Type 0}
-    {faults pages : M → ℕ} {reads : M → Image} {may_leave : M → Image → Type 0} {stages : M → List Stage} (old new : K) (m : M) (is : (parts old).medium ≡ m)
-    (node : (parts new).node ≡ (parts old).node) (run : (b : Base) → fits b old → fits b new) where
+module _ {K M : Type 0} {w : Media M} {m : Meanings K M} (old new : K) (medium : M) (is : (m.parts old).medium ≡ medium)
+    (node : (m.parts new).node ≡ (m.parts old).node) (run : (b : Base) → m.fits b old → m.fits b new) where
   -- a core after an append: where all was added, it owes nothing, and has the life after the gate
-  pub appended : {T : Type 0} (effects : List Effect) (result : Result T StoreFault) → AppendsTo tells faults pages reads may_leave stages m (parts new).medium effects result → OnOk result (((parts new).able ≡ true) × owes new [])
-      → (IsTrue tells → (b : Base) (l : Life) → lives b old l → l.fresh ≡ effects → OnOk result (lives b new (gated_life l)))
-      → IsAppended tells parts fits lives owes faults pages reads may_leave stages old new effects result
+  pub appended : {T : Type 0} (effects : List Effect) (result : Result T StoreFault) → AppendsTo w medium (m.parts new).medium effects result → OnOk result (((m.parts new).able ≡ true) × m.owes new [])
+      → (IsTrue w.tells → (b : Base) (l : Life) → m.lives b old l → l.fresh ≡ effects → OnOk result (m.lives b new (gated_life l)))
+      → IsAppended w m old new effects result
   appended {T} effects result to able has =
-      let a : AppendsTo tells faults pages reads may_leave stages (parts old).medium (parts new).medium effects result = subst (λ x. AppendsTo tells faults pages reads may_leave stages x (parts new).medium effects result) (sym is) to in
+      let a : AppendsTo w (m.parts old).medium (m.parts new).medium effects result = subst (λ x. AppendsTo w x (m.parts new).medium effects result) (sym is) to in
       record {
         same = record { node = node; run = run; later = a.later };
         able = able;
@@ -144,43 +145,43 @@ module _ {K M : Type 0} {tells : Bool} {parts : K → CoreParts M} {fits : Base 
         cause = a.cause;
       }
     where
-      fills : (r : Result T StoreFault) → IfErr r (λ f. (number : ℕ) → f ≡ adding.Full number → (number ≡ pages (parts old).medium) × (IsTrue tells → count_by is_blank (reads (parts old).medium) < length (filling effects)))
-          → IfErr r (λ f. (number : ℕ) → f ≡ adding.Full number → IsFull tells parts fits lives owes faults pages reads may_leave stages (parts old).medium effects number)
+      fills : (r : Result T StoreFault) → IfErr r (λ f. (number : ℕ) → f ≡ adding.Full number → (number ≡ w.page_count (m.parts old).medium) × (IsTrue w.tells → count_by is_blank (w.reads (m.parts old).medium) < length (filling effects)))
+          → IfErr r (λ f. (number : ℕ) → f ≡ adding.Full number → IsFull w m (m.parts old).medium effects number)
       fills (Ok x) h = tt
       fills (Err f) h = λ number e. record { all = (h number e).0; blank = (h number e).1 }
 
   -- the medium was opened, and its log found
-  pub reopened-all : (log : List Effect) (count : ℕ) → count ≡ length log → (parts new).able ≡ true → owes new [] → faults m ≤ faults (parts new).medium
-      → (IsTrue tells → may_leave m (reads (parts new).medium)) → (IsTrue tells → storage (reads (parts new).medium) ≡ Ok log) → (IsTrue tells → Only (reads (parts new).medium) (may_leave (parts new).medium))
-      → (IsTrue tells → NoMore (may_leave m) (may_leave (parts new).medium)) → (IsTrue tells → LeavesOnly stages m (parts new).medium (may_leave m)) → (IsTrue tells → (b : Base) → fits b old → lives b new (opened_life b.start log))
-      → IsReopened tells parts fits lives owes faults pages reads may_leave stages old new (Ok count)
+  pub reopened-all : (log : List Effect) (count : ℕ) → count ≡ length log → (m.parts new).able ≡ true → m.owes new [] → w.faults medium ≤ w.faults (m.parts new).medium
+      → (IsTrue w.tells → w.may_leave medium (w.reads (m.parts new).medium)) → (IsTrue w.tells → storage (w.reads (m.parts new).medium) ≡ Ok log) → (IsTrue w.tells → Only (w.reads (m.parts new).medium) (w.may_leave (m.parts new).medium))
+      → (IsTrue w.tells → NoMore (w.may_leave medium) (w.may_leave (m.parts new).medium)) → (IsTrue w.tells → LeavesOnly w.stages medium (m.parts new).medium (w.may_leave medium)) → (IsTrue w.tells → (b : Base) → m.fits b old → m.lives b new (opened_life b.start log))
+      → IsReopened w m old new (Ok count)
   reopened-all log count size able owed later was found only images moments has = record {
-    same = record { node = node; run = run; later = subst (λ x. faults x ≤ faults (parts new).medium) (sym is) later };
+    same = record { node = node; run = run; later = subst (λ x. w.faults x ≤ w.faults (m.parts new).medium) (sym is) later };
     able = (able, owed);
     found = λ t. record {
-      image = reads (parts new).medium;
-      left = subst (λ x. may_leave x (reads (parts new).medium)) (sym is) (was t);
+      image = w.reads (m.parts new).medium;
+      left = subst (λ x. w.may_leave x (w.reads (m.parts new).medium)) (sym is) (was t);
       log = log;
       is = found t;
       size = sym size;
       only = λ c left. ap storage (only t c left) ∙ found t;
       has = has t;
     };
-    images = λ t. subst (λ x. NoMore (may_leave x) (may_leave (parts new).medium)) (sym is) (images t);
-    at_moments = λ t. subst (λ x. LeavesOnly stages x (parts new).medium (may_leave x)) (sym is) (moments t);
+    images = λ t. subst (λ x. NoMore (w.may_leave x) (w.may_leave (m.parts new).medium)) (sym is) (images t);
+    at_moments = λ t. subst (λ x. LeavesOnly w.stages x (m.parts new).medium (w.may_leave x)) (sym is) (moments t);
     cause = λ e. absurd (cc e);
     damaged = λ t b f page e. absurd (cc e);
   }
 
   -- a fault
-  pub reopened-none : (f : OpenFault) → faults m ≤ faults (parts new).medium → (IsTrue tells → NoMore (may_leave m) (may_leave (parts new).medium)) → (IsTrue tells → LeavesOnly stages m (parts new).medium (may_leave m)) → (f ≡ opening.Medium → Rose (faults m) (faults (parts new).medium))
-      → (IsTrue tells → (b : Base) → fits b old → (page : ℕ) → f ≡ opening.Damaged page → HasDamage (may_leave m) (parts old).node b page) → IsReopened tells parts fits lives owes faults pages reads may_leave stages old new (Err f)
+  pub reopened-none : (f : OpenFault) → w.faults medium ≤ w.faults (m.parts new).medium → (IsTrue w.tells → NoMore (w.may_leave medium) (w.may_leave (m.parts new).medium)) → (IsTrue w.tells → LeavesOnly w.stages medium (m.parts new).medium (w.may_leave medium)) → (f ≡ opening.Medium → Rose (w.faults medium) (w.faults (m.parts new).medium))
+      → (IsTrue w.tells → (b : Base) → m.fits b old → (page : ℕ) → f ≡ opening.Damaged page → HasDamage (w.may_leave medium) (m.parts old).node b page) → IsReopened w m old new (Err f)
   reopened-none f later images moments cause damaged = record {
-    same = record { node = node; run = run; later = subst (λ x. faults x ≤ faults (parts new).medium) (sym is) later };
+    same = record { node = node; run = run; later = subst (λ x. w.faults x ≤ w.faults (m.parts new).medium) (sym is) later };
     able = tt;
     found = λ t. tt;
-    images = λ t. subst (λ x. NoMore (may_leave x) (may_leave (parts new).medium)) (sym is) (images t);
-    at_moments = λ t. subst (λ x. LeavesOnly stages x (parts new).medium (may_leave x)) (sym is) (moments t);
-    cause = λ e. subst (λ x. Rose (faults x) (faults (parts new).medium)) (sym is) (cause (err-same f opening.Medium e));
-    damaged = λ t b h page e. subst (λ x. HasDamage (may_leave x) (parts old).node b page) (sym is) (damaged t b h page (err-same f (opening.Damaged page) e));
+    images = λ t. subst (λ x. NoMore (w.may_leave x) (w.may_leave (m.parts new).medium)) (sym is) (images t);
+    at_moments = λ t. subst (λ x. LeavesOnly w.stages x (m.parts new).medium (w.may_leave x)) (sym is) (moments t);
+    cause = λ e. subst (λ x. Rose (w.faults x) (w.faults (m.parts new).medium)) (sym is) (cause (err-same f opening.Medium e));
+    damaged = λ t b h page e. subst (λ x. HasDamage (w.may_leave x) (m.parts old).node b page) (sym is) (damaged t b h page (err-same f (opening.Damaged page) e));
   }

@@ -1,13 +1,14 @@
 -- What a node has that was just opened.
-use Rattle.std.proofs.Common.{◌≡◌, ℕ, Bool, true, false, List, [], length, Option, Some, IsTrue, refl, sym, ap, subst, ◌∙◌}
+use Rattle.std.proofs.Common.{◌≡◌, ℕ, true, false, List, [], length, Option, Some, IsTrue, refl, sym, ap, subst, ◌∙◌}
 use Rattle.std.specs.Prelude.{is_some}
 use Rattle.std.specs.Option.{unwrap_or}
 use Rattle.pseudo_time.specs.declared.nodes.NodeId.{NodeId}
-use Rattle.medium_port.specs.Image.{Image}
+use Rattle.medium_port.specs.declared.media.Medium.{Ghosts as Media}
 use Rattle.effect_form.specs.declared.effects.Effect.{Effect}
-use Rattle.world_core.specs.Walks.{Base, Life, opened_log, opened_life, opened_flags, walk, walk_from}
+use Rattle.world_core.specs.Walks.{Base, opened_log, opened_life, opened_flags, walk, walk_from}
 use Rattle.wire_lock.specs.Sights.{Sight, origin_at, base_at, life_at, flags_at, IsOf}
-use Rattle.node_turn.specs.Cores.{CoreParts, LeavesLog, IsReady}
+use Rattle.node_turn.specs.declared.core_meanings.Meanings.{Ghosts as Meanings}
+use Rattle.node_turn.specs.Cores.{LeavesLog, IsReady}
 use Rattle.node_turn.specs.Lives.{HasLife, IsUp, no_draft, up_flags}
 use Rattle.node_turn.proofs.ReadyLemmas.{ready-durable}
 
@@ -21,13 +22,12 @@ flags-new : (k : Sight) (n : NodeId) (log : List Effect) → k.story ≡ [] → 
 unfolding walk_from
 flags-new k n log new opened = ap (λ es. (walk (base_at k) es).flags n) new ∙ ap (λ (o : Option (List Effect)). opened_flags (is_some o)) opened
 
-module _ {K M : Type 0} {tells : Bool} {parts : K → CoreParts M} {fits : Base → K → Type 0} {lives : Base → K → Life → Type 0} {owes : K → List Effect → Type 0}
-    {pages : M → ℕ} {reads : M → Image} {may_leave : M → Image → Type 0} where
+module _ {K M : Type 0} {w : Media M} {m : Meanings K M} where
   -- its core has the life of a node that was opened with this log, which a crash leaves
-  pub up-new : (core : K) (k : Sight) (n : NodeId) (log : List Effect) (count : ℕ) → (parts core).node ≡ n → (parts core).able ≡ true → owes core [] → fits (base_at k) core → IsOf n k
+  pub up-new : (core : K) (k : Sight) (n : NodeId) (log : List Effect) (count : ℕ) → (m.parts core).node ≡ n → (m.parts core).able ≡ true → m.owes core [] → m.fits (base_at k) core → IsOf n k
       → k.story ≡ [] → opened_log (origin_at k).opened n ≡ Some log → count ≡ length log → IsReady (base_at k) n log
-      → (IsTrue tells → lives (base_at k) core (opened_life (base_at k).start log)) → (IsTrue tells → LeavesLog (may_leave (parts core).medium) log)
-      → IsUp tells parts fits lives owes pages reads may_leave core k n false false (no_draft count)
+      → (IsTrue w.tells → m.lives (base_at k) core (opened_life (base_at k).start log)) → (IsTrue w.tells → LeavesLog (w.may_leave (m.parts core).medium) log)
+      → IsUp w m core k n false false (no_draft count)
   up-new core k n log count node able owed run own new opened size ready has left = record {
     node = node;
     able = able;
@@ -39,7 +39,7 @@ module _ {K M : Type 0} {tells : Bool} {parts : K → CoreParts M} {fits : Base 
     flags = flags-new k n log new opened;
     life = λ t.
         let b : Base = base_at k in
-        let z : HasLife b n (no_draft count) (lives b core) (may_leave (parts core).medium) (opened_life b.start log) = record {
+        let z : HasLife b n (no_draft count) (m.lives b core) (w.may_leave (m.parts core).medium) (opened_life b.start log) = record {
           core = has t;
           durable = size;
           effects = refl;
@@ -48,5 +48,5 @@ module _ {K M : Type 0} {tells : Bool} {parts : K → CoreParts M} {fits : Base 
           ready = ready-durable b n (opened_life b.start log) refl ready;
           asks = λ broker. tt;
         } in
-        subst (HasLife b n (no_draft count) (lives b core) (may_leave (parts core).medium)) (sym (life-new k n log new opened)) z;
+        subst (HasLife b n (no_draft count) (m.lives b core) (w.may_leave (m.parts core).medium)) (sym (life-new k n log new opened)) z;
   }

@@ -5,20 +5,20 @@ use Rattle.pseudo_time.specs.declared.nodes.NodeId.{NodeId}
 use Rattle.pseudo_time.specs.Nodes.{is_broker}
 use Rattle.pseudo_time.specs.declared.down_causes.DownCause.{DownCause}
 use Rattle.medium_port.specs.Image.{Image}
-use Rattle.medium_port.specs.Moment.{Stage, LeftNow}
-use Rattle.effect_form.specs.declared.effects.Effect.{Effect}
+use Rattle.medium_port.specs.Moment.{LeftNow}
+use Rattle.medium_port.specs.declared.media.Medium.{Ghosts as Media}
 use Rattle.atomic_table.specs.declared.shared.Seat.{Seat}
 use Rattle.seat_lock.specs.declared.views.View.{View}
 use Rattle.seat_lock.specs.Words.{knows}
 use Rattle.world_core.specs.declared.entries.Entry.{Entry}
-use Rattle.world_core.specs.Walks.{Base, Life, Flags}
+use Rattle.world_core.specs.Walks.{Flags}
 use Rattle.wire_core.specs.Wires.{WireParts}
 use Rattle.wire_lock.specs.Sights.{Sight, life_at, Looked}
+use Rattle.node_turn.specs.declared.core_meanings.Meanings.{Ghosts as Meanings}
 use Rattle.node_turn.specs.declared.conditions.Condition.{Condition}
 use Rattle.node_turn.specs.declared.conditions.Condition.TheVariants as condition
 use Rattle.node_turn.specs.declared.conditions.Turned.{Turned}
 use Rattle.node_turn.specs.declared.conditions.Turned.TheVariants.{Worked, Quiet, Stopped}
-use Rattle.node_turn.specs.Cores.{CoreParts}
 use Rattle.node_turn.specs.Lives.{no_draft, IsUp, IsDown, Keeps}
 use Rattle.node_turn.specs.Costs.{costs, PaysFor}
 use Rattle.node_turn.specs.Trails.{HasTested}
@@ -35,21 +35,20 @@ use Rattle.node_turn.proofs.TrailLemmas.{trail-none, adds-none}
 abbrev Pass : Type 0
 Pass = Seat WireParts (View WireParts Entry)
 
-module _ {K M : Type 0} (tells : Bool) (parts : K → CoreParts M) (fits : Base → K → Type 0) (lives : Base → K → Life → Type 0) (owes : K → List Effect → Type 0)
-    (pages : M → ℕ) (reads : M → Image) (may_leave : M → Image → Type 0) where
+module _ {K M : Type 0} (w : Media M) (m : Meanings K M) where
   -- ---- what is kept
 
   -- a node as contracts see it
   abbrev seen : NodeId → Condition → Pass → K → NodeParts M
-  seen n c pass core = record { node = n; condition = c; pass = pass; medium = (parts core).medium }
+  seen n c pass core = record { node = n; condition = c; pass = pass; medium = (m.parts core).medium }
 
-  keeps-at : (core : K) (k : Sight) (n : NodeId) (gone : Bool) (durable : ℕ) (c x : Condition) → c ≡ x → Keeps tells parts fits lives owes pages reads may_leave c core k n gone durable
-      → Keeps tells parts fits lives owes pages reads may_leave x core k n gone durable
-  keeps-at core k n gone durable c x e h = subst (λ (y : Condition). Keeps tells parts fits lives owes pages reads may_leave y core k n gone durable) e h
+  keeps-at : (core : K) (k : Sight) (n : NodeId) (gone : Bool) (durable : ℕ) (c x : Condition) → c ≡ x → Keeps w m c core k n gone durable
+      → Keeps w m x core k n gone durable
+  keeps-at core k n gone durable c x e h = subst (λ (y : Condition). Keeps w m y core k n gone durable) e h
 
   -- ---- others move on
 
-  down-looked : {core : K} {k k' : Sight} {n : NodeId} {cause : DownCause} → IsDown tells parts fits lives owes pages reads may_leave core k n cause → Looked k k' → IsDown tells parts fits lives owes pages reads may_leave core k' n cause
+  down-looked : {core : K} {k k' : Sight} {n : NodeId} {cause : DownCause} → IsDown w m core k n cause → Looked k k' → IsDown w m core k' n cause
   down-looked {core} {k} {k'} {n} {cause} d look =
       let f : Follows n k k' = follows-looked n look in
       record {
@@ -58,50 +57,50 @@ module _ {K M : Type 0} (tells : Bool) (parts : K → CoreParts M) (fits : Base 
         due = ap (λ (x : Flags). x.due) (flags-seen n k k' f.base look.before d.stored.own) ∙ d.due;
         before = d.before;
         last = ap (λ (s : Sight). s.own) look.kept ∙ d.last;
-        caused = cause-same tells pages reads cause (parts core).medium (life_at k n) (life_at k' n) (λ t. life-looked n d.stored.own look) d.caused;
+        caused = cause-same w cause (m.parts core).medium (life_at k n) (life_at k' n) (λ t. life-looked n d.stored.own look) d.caused;
       }
 
-  pub keeps-looked : (core : K) (k k' : Sight) (n : NodeId) (gone : Bool) (durable : ℕ) (c : Condition) → Keeps tells parts fits lives owes pages reads may_leave c core k n gone durable → Looked k k'
-      → Keeps tells parts fits lives owes pages reads may_leave c core k' n gone durable
+  pub keeps-looked : (core : K) (k k' : Sight) (n : NodeId) (gone : Bool) (durable : ℕ) (c : Condition) → Keeps w m c core k n gone durable → Looked k k'
+      → Keeps w m c core k' n gone durable
   keeps-looked core k k' n gone durable condition.AtWork u look = up-looked u look
   keeps-looked core k k' n gone durable (condition.Down cause) d look = down-looked d look
   keeps-looked core k k' n gone durable condition.Wanting s look = stored-looked s look
 
   -- ---- at rest
 
-  rest-seen : (core : K) (n : NodeId) (gone : Bool) (durable : ℕ) (pass : Pass) (c : Condition) → Keeps tells parts fits lives owes pages reads may_leave c core (knows pass) n gone durable
-      → IsAtRest tells pages reads may_leave (seen n c pass core)
+  rest-seen : (core : K) (n : NodeId) (gone : Bool) (durable : ℕ) (pass : Pass) (c : Condition) → Keeps w m c core (knows pass) n gone durable
+      → IsAtRest w (seen n c pass core)
   rest-seen core n gone durable pass condition.AtWork u = record { own = u.own; kept = (up-stored u).kept; stands = (ap (λ (x : Flags). x.up) u.flags, λ t. sym (u.life t).effects) }
   rest-seen core n gone durable pass (condition.Down cause) d = record { own = d.stored.own; kept = d.stored.kept; stands = (d.down, d.due, (d.before, d.last), d.caused) }
   rest-seen core n gone durable pass condition.Wanting s = record { own = s.own; kept = s.kept; stands = tt }
 
-  pub keeps-rest : (core : K) (n : NodeId) (gone : Bool) (durable : ℕ) (pass : Pass) (c : Condition) → Keeps tells parts fits lives owes pages reads may_leave c core (knows pass) n gone durable
-      → {old : NodeParts M} → seen n c pass core ≡ old → IsAtRest tells pages reads may_leave old
-  keeps-rest core n gone durable pass c h {old} view = subst (IsAtRest tells pages reads may_leave) view (rest-seen core n gone durable pass c h)
+  pub keeps-rest : (core : K) (n : NodeId) (gone : Bool) (durable : ℕ) (pass : Pass) (c : Condition) → Keeps w m c core (knows pass) n gone durable
+      → {old : NodeParts M} → seen n c pass core ≡ old → IsAtRest w old
+  keeps-rest core n gone durable pass c h {old} view = subst (IsAtRest w) view (rest-seen core n gone durable pass c h)
 
   -- ---- a turn
 
   -- a node that was down already
-  pub turned-down : {E : Type 0} (faults : M → ℕ) (stages : M → List Stage) (only : (m : M) (c : Image) → IsTrue tells → LeftNow (stages m) c → may_leave m c) (core : K) (n : NodeId) (gone : Bool) (durable : ℕ) (pass : Pass) (c : Condition) (cause : DownCause) → c ≡ condition.Down cause
-      → Keeps tells parts fits lives owes pages reads may_leave c core (knows pass) n gone durable → {old : NodeParts M} → seen n c pass core ≡ old → TurnsTo {E = E} tells faults reads stages old (seen n c pass core) (Ok Stopped)
-  turned-down {E} faults stages only core n gone durable pass c cause e h {old} view =
-      let d : IsDown tells parts fits lives owes pages reads may_leave core (knows pass) n cause = keeps-at core (knows pass) n gone durable c (condition.Down cause) e h in
-      subst (λ (p : NodeParts M). TurnsTo {E = E} tells faults reads stages p (seen n c pass core) (Ok Stopped)) view (record {
+  pub turned-down : {E : Type 0} (only : (x : M) (c : Image) → IsTrue w.tells → LeftNow (w.stages x) c → w.may_leave x c) (core : K) (n : NodeId) (gone : Bool) (durable : ℕ) (pass : Pass) (c : Condition) (cause : DownCause) → c ≡ condition.Down cause
+      → Keeps w m c core (knows pass) n gone durable → {old : NodeParts M} → seen n c pass core ≡ old → TurnsTo {E = E} w old (seen n c pass core) (Ok Stopped)
+  turned-down {E} only core n gone durable pass c cause e h {old} view =
+      let d : IsDown w m core (knows pass) n cause = keeps-at core (knows pass) n gone durable c (condition.Down cause) e h in
+      subst (λ (p : NodeParts M). TurnsTo {E = E} w p (seen n c pass core) (Ok Stopped)) view (record {
         node = refl;
         answers = (cause, e);
         does = d.down;
         adds = adds-none (knows pass).own;
         paid = λ first r. r;
-        whole = λ t same. whole-same (reads (parts core).medium);
+        whole = λ t same. whole-same (w.reads (m.parts core).medium);
         tested = λ t repository. tested-none n (knows pass) (knows pass) 0 (trail-none n (knows pass));
-        passes = λ t. passes-stored stages only d.stored t;
+        passes = λ t. passes-stored w only d.stored t;
       })
 
   -- a node that had found no memory before
-  pub turned-wanting : {E : Type 0} (faults : M → ℕ) (stages : M → List Stage) (core : K) (n : NodeId) (pass : Pass) (c : Condition) (x : E) → c ≡ condition.Wanting → {old : NodeParts M} → seen n c pass core ≡ old
-      → TurnsTo tells faults reads stages old (seen n c pass core) (Err x)
-  turned-wanting {E} faults stages core n pass c x e {old} view =
-      subst (λ (p : NodeParts M). TurnsTo {E = E} tells faults reads stages p (seen n c pass core) (Err x)) view (record {
+  pub turned-wanting : {E : Type 0} (core : K) (n : NodeId) (pass : Pass) (c : Condition) (x : E) → c ≡ condition.Wanting → {old : NodeParts M} → seen n c pass core ≡ old
+      → TurnsTo w old (seen n c pass core) (Err x)
+  turned-wanting {E} core n pass c x e {old} view =
+      subst (λ (p : NodeParts M). TurnsTo {E = E} w p (seen n c pass core) (Err x)) view (record {
         node = refl;
         answers = e;
         does = tt;
@@ -113,46 +112,46 @@ module _ {K M : Type 0} (tells : Bool) (parts : K → CoreParts M) (fits : Base 
       })
 
   -- a node that was at work
-  module _ {E : Type 0} (faults : M → ℕ) (stages : M → List Stage) (core new : K) (n : NodeId) (gone : Bool) (durable : ℕ) (pass pass' : Pass) (c c' : Condition) (quiet : Bool) where
-    does-answer : (r : Result Turned E) → Keeps tells parts fits lives owes pages reads may_leave c' new (knows pass') n gone durable → IsCondition r c' → IfOk r (Answers quiet)
+  module _ {E : Type 0} (core new : K) (n : NodeId) (gone : Bool) (durable : ℕ) (pass pass' : Pass) (c c' : Condition) (quiet : Bool) where
+    does-answer : (r : Result Turned E) → Keeps w m c' new (knows pass') n gone durable → IsCondition r c' → IfOk r (Answers quiet)
         → MatchBool quiet (IsQuiet n (knows pass) (knows pass') × (c' ≡ condition.AtWork)) (c' ≡ condition.AtWork → Grew (knows pass).own (knows pass').own)
         → IfOk r (λ t. Does t n (knows pass) (knows pass'))
     does-answer (Ok Worked) h is answers q =
-        let u : IsUp tells parts fits lives owes pages reads may_leave new (knows pass') n gone false (no_draft durable) = keeps-at new (knows pass') n gone durable c' condition.AtWork is h in (
+        let u : IsUp w m new (knows pass') n gone false (no_draft durable) = keeps-at new (knows pass') n gone durable c' condition.AtWork is h in (
           subst (λ (b : Bool). MatchBool b (IsQuiet n (knows pass) (knows pass') × (c' ≡ condition.AtWork)) (c' ≡ condition.AtWork → Grew (knows pass).own (knows pass').own)) answers q is,
           ap (λ (x : Flags). x.up) u.flags,
         )
     does-answer (Ok Quiet) h is answers q =
-        let u : IsUp tells parts fits lives owes pages reads may_leave new (knows pass') n gone false (no_draft durable) = keeps-at new (knows pass') n gone durable c' condition.AtWork is h in (
+        let u : IsUp w m new (knows pass') n gone false (no_draft durable) = keeps-at new (knows pass') n gone durable c' condition.AtWork is h in (
           (subst (λ (b : Bool). MatchBool b (IsQuiet n (knows pass) (knows pass') × (c' ≡ condition.AtWork)) (c' ≡ condition.AtWork → Grew (knows pass).own (knows pass').own)) answers q).0,
           ap (λ (x : Flags). x.up) u.flags,
         )
     does-answer (Ok Stopped) h is answers q =
-        let d : IsDown tells parts fits lives owes pages reads may_leave new (knows pass') n is.0 = keeps-at new (knows pass') n gone durable c' (condition.Down is.0) is.1 h in
+        let d : IsDown w m new (knows pass') n is.0 = keeps-at new (knows pass') n gone durable c' (condition.Down is.0) is.1 h in
         d.down
     does-answer (Err x) h is answers q = tt
 
     whole-answer : (r : Result Turned E) → IsCondition r c' → (W : Type 0) → (c' ≢ condition.Wanting → W) → OnOk r W
-    whole-answer (Ok Worked) is W w = w (λ z. let x : condition.AtWork ≡ condition.Wanting = sym is ∙ z in cc x)
-    whole-answer (Ok Quiet) is W w = w (λ z. let x : condition.AtWork ≡ condition.Wanting = sym is ∙ z in cc x)
-    whole-answer (Ok Stopped) is W w = w (λ z. let x : condition.Down is.0 ≡ condition.Wanting = sym is.1 ∙ z in cc x)
-    whole-answer (Err e) is W w = tt
+    whole-answer (Ok Worked) is W h = h (λ z. let x : condition.AtWork ≡ condition.Wanting = sym is ∙ z in cc x)
+    whole-answer (Ok Quiet) is W h = h (λ z. let x : condition.AtWork ≡ condition.Wanting = sym is ∙ z in cc x)
+    whole-answer (Ok Stopped) is W h = h (λ z. let x : condition.Down is.0 ≡ condition.Wanting = sym is.1 ∙ z in cc x)
+    whole-answer (Err e) is W h = tt
 
-    pub turned-working : (r : Result Turned E) → Keeps tells parts fits lives owes pages reads may_leave c' new (knows pass') n gone durable → IsCondition r c' → IfOk r (Answers quiet)
+    pub turned-working : (r : Result Turned E) → Keeps w m c' new (knows pass') n gone durable → IsCondition r c' → IfOk r (Answers quiet)
         → MatchBool quiet (IsQuiet n (knows pass) (knows pass') × (c' ≡ condition.AtWork)) (c' ≡ condition.AtWork → Grew (knows pass).own (knows pass').own)
         → Adds (knows pass).own (knows pass').own
-        → PaysFor (costs (knows pass).own) (faults (parts core).medium) (costs (knows pass').own) (faults (parts new).medium)
-        → (IsTrue tells → c' ≢ condition.Wanting → StaysWhole (costs (knows pass).own) (costs (knows pass').own) (reads (parts core).medium) (reads (parts new).medium))
-        → (IsTrue tells → is_broker n.kind ≡ false → HasTested n (knows pass) (knows pass'))
-        → (IsTrue tells → c' ≢ condition.Wanting → PassesOn n (knows pass) (knows pass') (stages (parts core).medium) (stages (parts new).medium))
-        → {old : NodeParts M} → seen n c pass core ≡ old → TurnsTo tells faults reads stages old (seen n c' pass' new) r
-    turned-working r h is answers q adds paid whole tested passes {old} view = subst (λ (p : NodeParts M). TurnsTo {E = E} tells faults reads stages p (seen n c' pass' new) r) view (record {
+        → PaysFor (costs (knows pass).own) (w.faults (m.parts core).medium) (costs (knows pass').own) (w.faults (m.parts new).medium)
+        → (IsTrue w.tells → c' ≢ condition.Wanting → StaysWhole (costs (knows pass).own) (costs (knows pass').own) (w.reads (m.parts core).medium) (w.reads (m.parts new).medium))
+        → (IsTrue w.tells → is_broker n.kind ≡ false → HasTested n (knows pass) (knows pass'))
+        → (IsTrue w.tells → c' ≢ condition.Wanting → PassesOn n (knows pass) (knows pass') (w.stages (m.parts core).medium) (w.stages (m.parts new).medium))
+        → {old : NodeParts M} → seen n c pass core ≡ old → TurnsTo w old (seen n c' pass' new) r
+    turned-working r h is answers q adds paid whole tested passes {old} view = subst (λ (p : NodeParts M). TurnsTo {E = E} w p (seen n c' pass' new) r) view (record {
       node = refl;
       answers = is;
       does = does-answer r h is answers q;
       adds = adds;
       paid = paid;
-      whole = λ t. whole-answer r is (StaysWhole (costs (knows pass).own) (costs (knows pass').own) (reads (parts core).medium) (reads (parts new).medium)) (whole t);
+      whole = λ t. whole-answer r is (StaysWhole (costs (knows pass).own) (costs (knows pass').own) (w.reads (m.parts core).medium) (w.reads (m.parts new).medium)) (whole t);
       tested = tested;
-      passes = λ t. whole-answer r is (PassesOn n (knows pass) (knows pass') (stages (parts core).medium) (stages (parts new).medium)) (passes t);
+      passes = λ t. whole-answer r is (PassesOn n (knows pass) (knows pass') (w.stages (m.parts core).medium) (w.stages (m.parts new).medium)) (passes t);
     })

@@ -5,6 +5,7 @@ use Rattle.pseudo_time.specs.declared.nodes.NodeId.{NodeId}
 use Rattle.message_core.proofs.NodeLemmas.{same_node-refl}
 use Rattle.medium_port.specs.Image.{Image}
 use Rattle.medium_port.specs.Moment.{Stage, LeftNow, Goes, goes_nowhere, widens}
+use Rattle.medium_port.specs.declared.media.Medium.{Ghosts as Media}
 use Rattle.effect_form.specs.declared.effects.Effect.{Effect}
 use Rattle.message_form.specs.declared.turns.Out.{Out}
 use Rattle.object_history.specs.declared.steps.HistoryFault.{HistoryFault}
@@ -20,7 +21,8 @@ use Rattle.world_core.proofs.Lives.{gated-grows}
 use Rattle.wire_core.specs.Wires.{WireParts, base_from}
 use Rattle.wire_lock.specs.Decisions.{Decided}
 use Rattle.wire_lock.specs.Sights.{Sight, origin_in, base_at, life_at, flags_at, IsOf, Owns, Looked, Visited, Gated, Crashes, Falls, closed}
-use Rattle.node_turn.specs.Cores.{CoreParts, LeavesLog, HasFound, IsAppended, IsReopened}
+use Rattle.node_turn.specs.declared.core_meanings.Meanings.{Ghosts as Meanings}
+use Rattle.node_turn.specs.Cores.{LeavesLog, HasFound, IsAppended, IsReopened}
 use Rattle.node_turn.specs.Lives.{DraftParts, IsKept, HasLife, IsUp, IsStored, IsStruck, IsAfter}
 use Rattle.node_turn.specs.Trails.{Trail}
 use Rattle.node_turn.specs.Windows.{Passes, PassesOn}
@@ -119,31 +121,30 @@ passes-gated {tells} {n} {k} {k'} {life} {flags} {ds} s is owns g t was now =
 
 -- ---- phases
 
-module _ {K M : Type 0} {tells : Bool} {parts : K → CoreParts M} {fits : Base → K → Type 0} {lives : Base → K → Life → Type 0} {owes : K → List Effect → Type 0}
-    {pages : M → ℕ} {reads : M → Image} {may_leave : M → Image → Type 0} (stages : M → List Stage) (only : (m : M) (c : Image) → IsTrue tells → LeftNow (stages m) c → may_leave m c) where
+module _ {K M : Type 0} (w : Media M) {m : Meanings K M} (only : (x : M) (c : Image) → IsTrue w.tells → LeftNow (w.stages x) c → w.may_leave x c) where
   -- what is stored stays, and no entry is added
-  pub passes-stored : {core : K} {k : Sight} {n : NodeId} → IsStored tells parts fits lives owes pages reads may_leave core k n → IsTrue tells → PassesOn n k k (stages (parts core).medium) (stages (parts core).medium)
-  passes-stored {core} {k} {n} s t = passes-here n k (stages (parts core).medium) (stages (parts core).medium) (goes_nowhere (stages (parts core).medium) (IsKept (life_at k n)) (λ c i. s.kept t c (only (parts core).medium c t i)))
+  pub passes-stored : {core : K} {k : Sight} {n : NodeId} → IsStored w m core k n → IsTrue w.tells → PassesOn n k k (w.stages (m.parts core).medium) (w.stages (m.parts core).medium)
+  passes-stored {core} {k} {n} s t = passes-here n k (w.stages (m.parts core).medium) (w.stages (m.parts core).medium) (goes_nowhere (w.stages (m.parts core).medium) (IsKept (life_at k n)) (λ c i. s.kept t c (only (m.parts core).medium c t i)))
 
   -- or others' entries alone
-  pub passes-seen : {core : K} {k k' : Sight} {n : NodeId} → IsStored tells parts fits lives owes pages reads may_leave core k n → Owns k → Looked k k' → IsTrue tells → PassesOn n k k' (stages (parts core).medium) (stages (parts core).medium)
-  passes-seen {core} {k} {k'} {n} s owns look t = passes-beside n k k' (stages (parts core).medium) (stages (parts core).medium) s.own owns look
-      (goes_nowhere (stages (parts core).medium) (IsKept (life_at k n)) (λ c i. s.kept t c (only (parts core).medium c t i)))
+  pub passes-seen : {core : K} {k k' : Sight} {n : NodeId} → IsStored w m core k n → Owns k → Looked k k' → IsTrue w.tells → PassesOn n k k' (w.stages (m.parts core).medium) (w.stages (m.parts core).medium)
+  passes-seen {core} {k} {k'} {n} s owns look t = passes-beside n k k' (w.stages (m.parts core).medium) (w.stages (m.parts core).medium) s.own owns look
+      (goes_nowhere (w.stages (m.parts core).medium) (IsKept (life_at k n)) (λ c i. s.kept t c (only (m.parts core).medium c t i)))
 
   -- the node went down
-  pub passes-fallen : {core : K} {k k' : Sight} {n : NodeId} {e : Entry} {flags : Flags} → IsStored tells parts fits lives owes pages reads may_leave core k n → Owns k → names n e ≡ true → Visited tells n k k' e (life_at k n) flags → IsTrue tells
-      → PassesOn n k k' (stages (parts core).medium) (stages (parts core).medium)
-  passes-fallen {core} {k} {k'} {n} s owns named v t = passes-visited (stages (parts core).medium) s.own owns named v t (λ c i. s.kept t c (only (parts core).medium c t i)) (λ c i. s.kept t c (only (parts core).medium c t i))
+  pub passes-fallen : {core : K} {k k' : Sight} {n : NodeId} {e : Entry} {flags : Flags} → IsStored w m core k n → Owns k → names n e ≡ true → Visited w.tells n k k' e (life_at k n) flags → IsTrue w.tells
+      → PassesOn n k k' (w.stages (m.parts core).medium) (w.stages (m.parts core).medium)
+  passes-fallen {core} {k} {k'} {n} s owns named v t = passes-visited (w.stages (m.parts core).medium) s.own owns named v t (λ c i. s.kept t c (only (m.parts core).medium c t i)) (λ c i. s.kept t c (only (m.parts core).medium c t i))
 
   module _ {core new : K} {k k' : Sight} {n : NodeId} {gone due : Bool} {d : DraftParts} {sent : List Out} {learned : List Decided} {tested : List (ℕ × ℕ)} {cost : ℕ}
-      (u : IsUp tells parts fits lives owes pages reads may_leave core k n gone due d) (trail : Trail n k k' sent learned tested cost) (still : stages (parts new).medium ≡ stages (parts core).medium) (t : IsTrue tells) where
+      (u : IsUp w m core k n gone due d) (trail : Trail n k k' sent learned tested cost) (still : w.stages (m.parts new).medium ≡ w.stages (m.parts core).medium) (t : IsTrue w.tells) where
     -- inputs that leave the durable log
-    passes-fed : length (life_at k' n).gated ≡ d.durable → PassesOn n k k' (stages (parts core).medium) (stages (parts new).medium)
+    passes-fed : length (life_at k' n).gated ≡ d.durable → PassesOn n k k' (w.stages (m.parts core).medium) (w.stages (m.parts new).medium)
     passes-fed count =
         let b : Base = base_at k in
         let l : Life = life_at k n in
-        let s : List Stage = stages (parts core).medium in
-        let h : HasLife b n d (lives b core) (may_leave (parts core).medium) l = u.life t in
+        let s : List Stage = w.stages (m.parts core).medium in
+        let h : HasLife b n d (m.lives b core) (w.may_leave (m.parts core).medium) l = u.life t in
         let f : Follows n k k' = follows-of n k k' trail.base trail.names in
         let size : length ((walk b (k.story ++ trail.rest)).life n).gated ≡ d.durable =
         ap (λ (es : List Entry). length ((walk b es).life n).gated) (sym trail.story) ∙ (ap (λ (x : Base). length ((walk x k'.story).life n).gated) (sym f.base) ∙ count) in
@@ -153,80 +154,77 @@ module _ {K M : Type 0} {tells : Bool} {parts : K → CoreParts M} {fits : Base 
           names = trail.names;
           passes = subst (λ ss. Passes b n k.story k'.story s ss) (sym still)
               (subst (λ es. Passes b n k.story es s s) (sym trail.story)
-              (passes-still b n s l.gated (λ c i. h.images_left c (only (parts core).medium c t i)) k.story trail.rest refl (omega (arith, size, was))));
+              (passes-still b n s l.gated (λ c i. h.images_left c (only (m.parts core).medium c t i)) k.story trail.rest refl (omega (arith, size, was))));
         }
 
-    pub passes-up : {gone' due' : Bool} {d' : DraftParts} → IsUp tells parts fits lives owes pages reads may_leave new k' n gone' due' d' → d'.durable ≡ d.durable → PassesOn n k k' (stages (parts core).medium) (stages (parts new).medium)
+    pub passes-up : {gone' due' : Bool} {d' : DraftParts} → IsUp w m new k' n gone' due' d' → d'.durable ≡ d.durable → PassesOn n k k' (w.stages (m.parts core).medium) (w.stages (m.parts new).medium)
     passes-up v same = passes-fed (sym (v.life t).durable ∙ same)
 
-    pub passes-struck : IsStruck tells parts fits lives owes pages reads may_leave new k' n d.durable → PassesOn n k k' (stages (parts core).medium) (stages (parts new).medium)
+    pub passes-struck : IsStruck w m new k' n d.durable → PassesOn n k k' (w.stages (m.parts core).medium) (w.stages (m.parts new).medium)
     passes-struck s = passes-fed (sym (s.count t))
 
-    pub passes-after : (f : HistoryFault) → IsAfter tells parts fits lives owes pages reads may_leave f new k' n d.durable → f ≢ fault.NoMemory → PassesOn n k k' (stages (parts core).medium) (stages (parts new).medium)
+    pub passes-after : (f : HistoryFault) → IsAfter w m f new k' n d.durable → f ≢ fault.NoMemory → PassesOn n k k' (w.stages (m.parts core).medium) (w.stages (m.parts new).medium)
     passes-after fault.NoMemory a ne = absurd (ne refl)
     passes-after fault.Medium a ne = passes-struck a
     passes-after (fault.Damaged page) a ne = passes-struck a.0
 
-module _ {K M : Type 0} {tells : Bool} {parts : K → CoreParts M} {fits : Base → K → Type 0} {lives : Base → K → Life → Type 0} {owes : K → List Effect → Type 0}
-    {pages : M → ℕ} {reads : M → Image} {may_leave : M → Image → Type 0} where
+module _ {K M : Type 0} {w : Media M} {m : Meanings K M} where
   -- of an equal draft
-  pub up-new : {core : K} {k : Sight} {n : NodeId} {gone due : Bool} {d d' : DraftParts} → d ≡ d' → IsUp tells parts fits lives owes pages reads may_leave core k n gone due d → IsUp tells parts fits lives owes pages reads may_leave core k n gone due d'
-  up-new {core} {k} {n} {gone} {due} {d} {d'} e u = subst (IsUp tells parts fits lives owes pages reads may_leave core k n gone due) e u
+  pub up-new : {core : K} {k : Sight} {n : NodeId} {gone due : Bool} {d d' : DraftParts} → d ≡ d' → IsUp w m core k n gone due d → IsUp w m core k n gone due d'
+  up-new {core} {k} {n} {gone} {due} {d} {d'} e u = subst (IsUp w m core k n gone due) e u
 
 -- ---- the append and its gate
 
-module _ {K M : Type 0} {tells : Bool} {parts : K → CoreParts M} {fits : Base → K → Type 0} {lives : Base → K → Life → Type 0} {owes : K → List Effect → Type 0}
-    {faults pages : M → ℕ} {reads : M → Image} {may_leave : M → Image → Type 0} {stages : M → List Stage} (only : (m : M) (c : Image) → IsTrue tells → LeftNow (stages m) c → may_leave m c)
+module _ {K M : Type 0} {w : Media M} {m : Meanings K M} (only : (x : M) (c : Image) → IsTrue w.tells → LeftNow (w.stages x) c → w.may_leave x c)
     {T : Type 0} {core new : K} {k : Sight} {n : NodeId} {gone : Bool} {d : DraftParts} {result : Result T StoreFault}
-    (u : IsUp tells parts fits lives owes pages reads may_leave core k n gone true d) (a : IsAppended tells parts fits lives owes faults pages reads may_leave stages core new d.effects result) (t : IsTrue tells) where
-  goes-appended : Goes (stages (parts core).medium) (stages (parts new).medium) (IsKept (life_at k n))
+    (u : IsUp w m core k n gone true d) (a : IsAppended w m core new d.effects result) (t : IsTrue w.tells) where
+  goes-appended : Goes (w.stages (m.parts core).medium) (w.stages (m.parts new).medium) (IsKept (life_at k n))
   goes-appended =
       let l : Life = life_at k n in
-      let h : HasLife (base_at k) n d (lives (base_at k) core) (may_leave (parts core).medium) l = u.life t in
-      widens stages (parts core).medium (parts new).medium (HasPrefix l.gated l.fresh) (IsKept l)
-      (subst (λ (es : List Effect). Goes (stages (parts core).medium) (stages (parts new).medium) (HasPrefix l.gated es)) h.effects (a.at_moments t l.gated h.images_left)) (λ c i. kept-prefix l c i)
+      let h : HasLife (base_at k) n d (m.lives (base_at k) core) (w.may_leave (m.parts core).medium) l = u.life t in
+      widens w.stages (m.parts core).medium (m.parts new).medium (HasPrefix l.gated l.fresh) (IsKept l)
+      (subst (λ (es : List Effect). Goes (w.stages (m.parts core).medium) (w.stages (m.parts new).medium) (HasPrefix l.gated es)) h.effects (a.at_moments t l.gated h.images_left)) (λ c i. kept-prefix l c i)
 
   -- the append, whatever it came to
-  pub passes-appended : PassesOn n k k (stages (parts core).medium) (stages (parts new).medium)
-  passes-appended = passes-here n k (stages (parts core).medium) (stages (parts new).medium) goes-appended
+  pub passes-appended : PassesOn n k k (w.stages (m.parts core).medium) (w.stages (m.parts new).medium)
+  passes-appended = passes-here n k (w.stages (m.parts core).medium) (w.stages (m.parts new).medium) goes-appended
 
   -- and then the wire found no memory for the gate
-  pub passes-ungated : {k' : Sight} → Owns k → Looked k k' → PassesOn n k k' (stages (parts core).medium) (stages (parts new).medium)
-  passes-ungated {k'} owns look = passes-beside n k k' (stages (parts core).medium) (stages (parts new).medium) u.own owns look goes-appended
+  pub passes-ungated : {k' : Sight} → Owns k → Looked k k' → PassesOn n k k' (w.stages (m.parts core).medium) (w.stages (m.parts new).medium)
+  passes-ungated {k'} owns look = passes-beside n k k' (w.stages (m.parts core).medium) (w.stages (m.parts new).medium) u.own owns look goes-appended
 
   -- and then the gate was opened
-  pub passes-closed : {k' : Sight} {ds : List Decided} (v : T) → result ≡ Ok v → Owns k → Gated tells n k k' (Gate n) (gated_life (life_at k n)) (closed (flags_at k n)) ds → PassesOn n k k' (stages (parts core).medium) (stages (parts new).medium)
+  pub passes-closed : {k' : Sight} {ds : List Decided} (v : T) → result ≡ Ok v → Owns k → Gated w.tells n k k' (Gate n) (gated_life (life_at k n)) (closed (flags_at k n)) ds → PassesOn n k k' (w.stages (m.parts core).medium) (w.stages (m.parts new).medium)
   passes-closed {k'} {ds} v ok owns g =
       let l : Life = life_at k n in
-      let s : List Stage = stages (parts new).medium in
-      let log : LeavesLog (may_leave (parts new).medium) (l.gated ++ l.fresh) = λ c i. left-log u a v ok t c i ∙ ap (λ (es : List Effect). Ok (l.gated ++ es)) (u.life t).effects in
+      let s : List Stage = w.stages (m.parts new).medium in
+      let log : LeavesLog (w.may_leave (m.parts new).medium) (l.gated ++ l.fresh) = λ c i. left-log u a v ok t c i ∙ ap (λ (es : List Effect). Ok (l.gated ++ es)) (u.life t).effects in
       passes-on passes-appended
-      (passes-gated s u.own owns g t (λ c i. kept-whole l c (log c (only (parts new).medium c t i))) (λ c i. kept-gated l c (log c (only (parts new).medium c t i))))
+      (passes-gated s u.own owns g t (λ c i. kept-whole l c (log c (only (m.parts new).medium c t i))) (λ c i. kept-gated l c (log c (only (m.parts new).medium c t i))))
 
 -- ---- an opening after a fault
 
-module _ {K M : Type 0} {tells : Bool} {parts : K → CoreParts M} {fits : Base → K → Type 0} {lives : Base → K → Life → Type 0} {owes : K → List Effect → Type 0}
-    {faults pages : M → ℕ} {reads : M → Image} {may_leave : M → Image → Type 0} {stages : M → List Stage} (only : (m : M) (c : Image) → IsTrue tells → LeftNow (stages m) c → may_leave m c)
+module _ {K M : Type 0} {w : Media M} {m : Meanings K M} (only : (x : M) (c : Image) → IsTrue w.tells → LeftNow (w.stages x) c → w.may_leave x c)
     {core new : K} {k : Sight} {n : NodeId} {durable : ℕ} {result : Result ℕ OpenFault}
-    (s : IsStruck tells parts fits lives owes pages reads may_leave core k n durable) (r : IsReopened tells parts fits lives owes faults pages reads may_leave stages core new result) (t : IsTrue tells) where
-  goes-reopened : Goes (stages (parts core).medium) (stages (parts new).medium) (IsKept (life_at k n))
-  goes-reopened = widens stages (parts core).medium (parts new).medium (may_leave (parts core).medium) (IsKept (life_at k n)) (r.at_moments t) (λ c i. s.stored.kept t c i)
+    (s : IsStruck w m core k n durable) (r : IsReopened w m core new result) (t : IsTrue w.tells) where
+  goes-reopened : Goes (w.stages (m.parts core).medium) (w.stages (m.parts new).medium) (IsKept (life_at k n))
+  goes-reopened = widens w.stages (m.parts core).medium (m.parts new).medium (w.may_leave (m.parts core).medium) (IsKept (life_at k n)) (r.at_moments t) (λ c i. s.stored.kept t c i)
 
   -- the opening, whatever it came to
-  pub passes-reopened : PassesOn n k k (stages (parts core).medium) (stages (parts new).medium)
-  passes-reopened = passes-here n k (stages (parts core).medium) (stages (parts new).medium) goes-reopened
+  pub passes-reopened : PassesOn n k k (w.stages (m.parts core).medium) (w.stages (m.parts new).medium)
+  passes-reopened = passes-here n k (w.stages (m.parts core).medium) (w.stages (m.parts new).medium) goes-reopened
 
   -- and then the wire found no memory for the crash
-  pub passes-unnoted : {k' : Sight} → Owns k → Looked k k' → PassesOn n k k' (stages (parts core).medium) (stages (parts new).medium)
-  passes-unnoted {k'} owns look = passes-beside n k k' (stages (parts core).medium) (stages (parts new).medium) s.stored.own owns look goes-reopened
+  pub passes-unnoted : {k' : Sight} → Owns k → Looked k k' → PassesOn n k k' (w.stages (m.parts core).medium) (w.stages (m.parts new).medium)
+  passes-unnoted {k'} owns look = passes-beside n k k' (w.stages (m.parts core).medium) (w.stages (m.parts new).medium) s.stored.own owns look goes-reopened
 
   -- and then the crash was noted
-  pub passes-crashed : {k' : Sight} (count : ℕ) → result ≡ Ok count → Owns k → Crashes tells n k k' (count - durable) → PassesOn n k k' (stages (parts core).medium) (stages (parts new).medium)
+  pub passes-crashed : {k' : Sight} (count : ℕ) → result ≡ Ok count → Owns k → Crashes w.tells n k k' (count - durable) → PassesOn n k k' (w.stages (m.parts core).medium) (w.stages (m.parts new).medium)
   passes-crashed {k'} count ok owns v =
       let l : Life = life_at k n in
-      let ss : List Stage = stages (parts new).medium in
-      let h : HasFound tells parts fits lives owes faults pages reads may_leave stages core new count = if-ok result count (HasFound tells parts fits lives owes faults pages reads may_leave stages core new) ok (r.found t) in
+      let ss : List Stage = w.stages (m.parts new).medium in
+      let h : HasFound w m core new count = if-ok result count (HasFound w m core new) ok (r.found t) in
       let x : Found s r h.log count = found-is s r count ok t h in
-      let found : (c : Image) → LeftNow ss c → storage c ≡ Ok (l.gated ++ take (count - durable) l.fresh) = λ c i. h.only c (only (parts new).medium c t i) ∙ ap (λ (es : List Effect). Ok es) x.is in
+      let found : (c : Image) → LeftNow ss c → storage c ≡ Ok (l.gated ++ take (count - durable) l.fresh) = λ c i. h.only c (only (m.parts new).medium c t i) ∙ ap (λ (es : List Effect). Ok es) x.is in
       passes-on passes-reopened
       (passes-visited ss s.stored.own owns (same_node-refl n) v t (λ c i. kept-found l (count - durable) c x.few (found c i)) (λ c i. kept-crashed (base_at k).start l (count - durable) c (found c i)))

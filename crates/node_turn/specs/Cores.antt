@@ -1,8 +1,9 @@
 -- What the calls of a core that keeps its log on a medium do. Logs stand oldest first.
-use Rattle.std.specs.Prelude.{◌≡◌, ◌≢◌, ◌⊎◌, ◌≤◌, ◌<◌, ◌+◌, ℕ, Bool, true, List, [], ◌++◌, length, count_by, Result, Ok, Err, IsTrue, IfOk, IfErr, OnOk, IsErrOf}
+use Rattle.std.specs.Prelude.{◌≡◌, ◌≢◌, ◌⊎◌, ◌≤◌, ◌<◌, ◌+◌, ℕ, true, List, [], ◌++◌, length, count_by, Result, Ok, Err, IsTrue, IfOk, IfErr, OnOk, IsErrOf}
 use Rattle.stream_port.specs.Causes.{Rose}
 use Rattle.medium_port.specs.Image.{Image, NoMore}
-use Rattle.medium_port.specs.Moment.{LeavesOnly, Stage}
+use Rattle.medium_port.specs.Moment.{LeavesOnly}
+use Rattle.medium_port.specs.declared.media.Medium.{Ghosts as Media}
 use Rattle.page_gate.specs.States.{is_blank}
 use Rattle.pseudo_time.specs.declared.nodes.NodeId.{NodeId}
 use Rattle.effect_form.specs.declared.effects.Effect.{Effect}
@@ -19,13 +20,7 @@ use Rattle.version_store.specs.Filling.{HasPrefix, KeepsPages, StaysClean, filli
 use Rattle.version_store.specs.Storage.{storage}
 use Rattle.world_core.specs.Nodes.{Input, Given, gives, is_ready}
 use Rattle.world_core.specs.Walks.{Base, Life, all_effects, opened_life, gated_life, after_input}
-
--- a core, as contracts see it beside its life
-pub record CoreParts (M : Type 0) : Type 0 where
-  pub node : NodeId
-  -- it can be given inputs: none of its calls has failed since it was opened
-  pub able : Bool
-  pub medium : M
+use Rattle.node_turn.specs.declared.core_meanings.Meanings.{Ghosts as Meanings}
 
 -- a crash leaves no image but those of this log
 abbrev pub LeavesLog : (Image → Type 0) → List Effect → Type 0
@@ -61,66 +56,63 @@ IsReady b n log = is_ready b.script b.run b.acts n log ≡ true
 abbrev pub IsDamageOf : Base → NodeId → Image → ℕ → Type 0
 IsDamageOf b n image page = (storage image ≡ Err page) ⊎ ((page ≡ 0) × (log : List Effect) × (storage image ≡ Ok log) × (IsReady b n log → ⊥))
 
--- The meanings of a type K of cores over media of a type M: whether media tell their content; the parts of a core; whether it is one
--- of the run that a walk begins with; whether it has a life, with the durable log on its medium; and whether these are the effects
--- that it gave since its last append.
-module _ {K M : Type 0} (tells : Bool) (parts : K → CoreParts M) (fits : Base → K → Type 0) (lives : Base → K → Life → Type 0) (owes : K → List Effect → Type 0)
-    (faults pages : M → ℕ) (reads : M → Image) (may_leave : M → Image → Type 0) (stages : M → List Stage) where
+-- The meanings are those of a type K of cores over media of a type M.
+module _ {K M : Type 0} (w : Media M) (m : Meanings K M) where
   -- it stays the core of its node in its run, and its medium's count of faults doesn't fall
   pub record StaysOwn (old new : K) : Type 0 where
-    pub node : (parts new).node ≡ (parts old).node
-    pub run : (b : Base) → fits b old → fits b new
-    pub later : faults (parts old).medium ≤ faults (parts new).medium
+    pub node : (m.parts new).node ≡ (m.parts old).node
+    pub run : (b : Base) → m.fits b old → m.fits b new
+    pub later : w.faults (m.parts old).medium ≤ w.faults (m.parts new).medium
 
   -- An input was given: the turn is what the rules give, and the core has the life after it. Nothing was written, and nothing that crashes see was changed. A fault of the medium
   -- comes only where its count rose, and a damaged page never where media tell their content.
   pub record IsGiven (old new : K) (input : Input) (result : Result Turn HistoryFault) : Type 0 where
     pub same : StaysOwn old new
-    pub able : OnOk result ((parts new).able ≡ true)
-    pub gave : IsTrue tells → (b : Base) (l : Life) → fits b old → lives b old l → IfOk result (λ t. HasTurn (given_for b (parts old).node l input) t × lives b new (after_input b (parts old).node l input))
-    pub owed : (es : List Effect) → owes old es → IfOk result (λ t. owes new (es ++ t.effects))
+    pub able : OnOk result ((m.parts new).able ≡ true)
+    pub gave : IsTrue w.tells → (b : Base) (l : Life) → m.fits b old → m.lives b old l → IfOk result (λ t. HasTurn (given_for b (m.parts old).node l input) t × m.lives b new (after_input b (m.parts old).node l input))
+    pub owed : (es : List Effect) → m.owes old es → IfOk result (λ t. m.owes new (es ++ t.effects))
     pub in_range : IfOk result (λ t. AreEffects t.effects × AreOuts t.outs)
-    pub still : IsTrue tells → reads (parts new).medium ≡ reads (parts old).medium
-    pub stages_still : IsTrue tells → stages (parts new).medium ≡ stages (parts old).medium
-    pub images : IsTrue tells → NoMore (may_leave (parts old).medium) (may_leave (parts new).medium)
-    pub cause : IsErrOf result fault.Medium → Rose (faults (parts old).medium) (faults (parts new).medium)
-    pub sound : IsTrue tells → IfErr result IsNotDamage
+    pub still : IsTrue w.tells → w.reads (m.parts new).medium ≡ w.reads (m.parts old).medium
+    pub stages_still : IsTrue w.tells → w.stages (m.parts new).medium ≡ w.stages (m.parts old).medium
+    pub images : IsTrue w.tells → NoMore (w.may_leave (m.parts old).medium) (w.may_leave (m.parts new).medium)
+    pub cause : IsErrOf result fault.Medium → Rose (w.faults (m.parts old).medium) (w.faults (m.parts new).medium)
+    pub sound : IsTrue w.tells → IfErr result IsNotDamage
 
   -- The effects need more pages than are blank. The number is that of all its pages.
-  pub record IsFull (m : M) (effects : List Effect) (number : ℕ) : Type 0 where
-    pub all : number ≡ pages m
-    pub blank : IsTrue tells → count_by is_blank (reads m) < length (filling effects)
+  pub record IsFull (medium : M) (effects : List Effect) (number : ℕ) : Type 0 where
+    pub all : number ≡ w.page_count medium
+    pub blank : IsTrue w.tells → count_by is_blank (w.reads medium) < length (filling effects)
 
   -- The new effects were added to the log on the medium: the core has the life after it, and a crash leaves that log. Where they
   -- weren't, a crash leaves the old log with a beginning of them; only a fault of the medium comes after anything was written.
   pub record IsAppended {T : Type 0} (old new : K) (effects : List Effect) (result : Result T StoreFault) : Type 0 where
     pub same : StaysOwn old new
-    pub able : OnOk result (((parts new).able ≡ true) × owes new [])
-    pub has : IsTrue tells → (b : Base) (l : Life) → lives b old l → l.fresh ≡ effects → OnOk result (lives b new (gated_life l))
-    pub left : IsTrue tells → (log : List Effect) → LeavesLog (may_leave (parts old).medium) log → OnOk result (LeavesLog (may_leave (parts new).medium) (log ++ effects))
-    pub images : IsTrue tells → (log : List Effect) → LeavesLog (may_leave (parts old).medium) log → (c : Image) → may_leave (parts new).medium c → HasPrefix log effects c
-    pub at_moments : IsTrue tells → (log : List Effect) → LeavesLog (may_leave (parts old).medium) log → LeavesOnly stages (parts old).medium (parts new).medium (HasPrefix log effects)
-    pub intact : IsTrue tells → OnOk result (IsIntact (reads (parts old).medium) (reads (parts new).medium))
-    pub nothing : IfErr result (λ f. f ≢ adding.Medium → (parts new).medium ≡ (parts old).medium)
-    pub full : IfErr result (λ f. (number : ℕ) → f ≡ adding.Full number → IsFull (parts old).medium effects number)
-    pub cause : IsErrOf result adding.Medium → Rose (faults (parts old).medium) (faults (parts new).medium)
+    pub able : OnOk result (((m.parts new).able ≡ true) × m.owes new [])
+    pub has : IsTrue w.tells → (b : Base) (l : Life) → m.lives b old l → l.fresh ≡ effects → OnOk result (m.lives b new (gated_life l))
+    pub left : IsTrue w.tells → (log : List Effect) → LeavesLog (w.may_leave (m.parts old).medium) log → OnOk result (LeavesLog (w.may_leave (m.parts new).medium) (log ++ effects))
+    pub images : IsTrue w.tells → (log : List Effect) → LeavesLog (w.may_leave (m.parts old).medium) log → (c : Image) → w.may_leave (m.parts new).medium c → HasPrefix log effects c
+    pub at_moments : IsTrue w.tells → (log : List Effect) → LeavesLog (w.may_leave (m.parts old).medium) log → LeavesOnly w.stages (m.parts old).medium (m.parts new).medium (HasPrefix log effects)
+    pub intact : IsTrue w.tells → OnOk result (IsIntact (w.reads (m.parts old).medium) (w.reads (m.parts new).medium))
+    pub nothing : IfErr result (λ f. f ≢ adding.Medium → (m.parts new).medium ≡ (m.parts old).medium)
+    pub full : IfErr result (λ f. (number : ℕ) → f ≡ adding.Full number → IsFull (m.parts old).medium effects number)
+    pub cause : IsErrOf result adding.Medium → Rose (w.faults (m.parts old).medium) (w.faults (m.parts new).medium)
 
   -- The log that was found on an image that a crash could leave; so many effects stand in it.
   pub record HasFound (old new : K) (count : ℕ) : Type 0 where
     pub image : Image
-    pub left : may_leave (parts old).medium image
+    pub left : w.may_leave (m.parts old).medium image
     pub log : List Effect
     pub is : storage image ≡ Ok log
     pub size : length log ≡ count
-    pub only : LeavesLog (may_leave (parts new).medium) log
-    pub has : (b : Base) → fits b old → lives b new (opened_life b.start log)
+    pub only : LeavesLog (w.may_leave (m.parts new).medium) log
+    pub has : (b : Base) → m.fits b old → m.lives b new (opened_life b.start log)
 
   -- The medium was opened anew, and the core over the log that was found. A damaged page is the damage of an image that a crash could leave.
   pub record IsReopened (old new : K) (result : Result ℕ OpenFault) : Type 0 where
     pub same : StaysOwn old new
-    pub able : OnOk result (((parts new).able ≡ true) × owes new [])
-    pub found : IsTrue tells → IfOk result (HasFound old new)
-    pub images : IsTrue tells → NoMore (may_leave (parts old).medium) (may_leave (parts new).medium)
-    pub at_moments : IsTrue tells → LeavesOnly stages (parts old).medium (parts new).medium (may_leave (parts old).medium)
-    pub cause : IsErrOf result opening.Medium → Rose (faults (parts old).medium) (faults (parts new).medium)
-    pub damaged : IsTrue tells → (b : Base) → fits b old → (page : ℕ) → IsErrOf result (opening.Damaged page) → (image : Image) × may_leave (parts old).medium image × IsDamageOf b (parts old).node image page
+    pub able : OnOk result (((m.parts new).able ≡ true) × m.owes new [])
+    pub found : IsTrue w.tells → IfOk result (HasFound old new)
+    pub images : IsTrue w.tells → NoMore (w.may_leave (m.parts old).medium) (w.may_leave (m.parts new).medium)
+    pub at_moments : IsTrue w.tells → LeavesOnly w.stages (m.parts old).medium (m.parts new).medium (w.may_leave (m.parts old).medium)
+    pub cause : IsErrOf result opening.Medium → Rose (w.faults (m.parts old).medium) (w.faults (m.parts new).medium)
+    pub damaged : IsTrue w.tells → (b : Base) → m.fits b old → (page : ℕ) → IsErrOf result (opening.Damaged page) → (image : Image) × w.may_leave (m.parts old).medium image × IsDamageOf b (m.parts old).node image page

@@ -1,3 +1,4 @@
+pub mod CoreParts
 pub mod Cores
 pub mod Lives
 pub mod Windows

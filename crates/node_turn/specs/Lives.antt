@@ -6,7 +6,7 @@ use Rattle.pseudo_time.specs.Nodes.{is_broker}
 use Rattle.pseudo_time.specs.declared.down_causes.DownCause.{DownCause}
 use Rattle.pseudo_time.specs.declared.down_causes.DownCause.TheVariants as down
 use Rattle.medium_port.specs.Image.{Image}
-use Rattle.medium_port.specs.Moment.{Stage}
+use Rattle.medium_port.specs.declared.media.Medium.{Ghosts as Media}
 use Rattle.page_gate.specs.States.{is_blank}
 use Rattle.effect_form.specs.declared.effects.Effect.{Effect}
 use Rattle.broker_laws.specs.Works.{AsksNobody}
@@ -24,7 +24,8 @@ use Rattle.world_core.specs.Walks.{Base, Life, Flags}
 use Rattle.wire_lock.specs.Sights.{Sight, IsOf, base_at, life_at, flags_at}
 use Rattle.node_turn.specs.declared.conditions.Condition.{Condition}
 use Rattle.node_turn.specs.declared.conditions.Condition.TheVariants as condition
-use Rattle.node_turn.specs.Cores.{CoreParts, LeavesLog, IsReady}
+use Rattle.node_turn.specs.declared.core_meanings.Meanings.{Ghosts as Meanings}
+use Rattle.node_turn.specs.Cores.{LeavesLog, IsReady}
 
 -- what a turn has given so far, and how many effects are durable
 pub record DraftParts : Type 0 where
@@ -69,10 +70,10 @@ abbrev pub up_flags : Bool → Bool → Flags
 up_flags gone due = record { known = true; up = true; gone = gone; due = due }
 
 -- A call wrote nothing to the medium: what reads give stays, and what crashes see, and its count of faults doesn't fall.
-pub record IsUnwritten {M : Type 0} (tells : Bool) (faults : M → ℕ) (reads : M → Image) (stages : M → List Stage) (old new : M) : Type 0 where
-  pub later : faults old ≤ faults new
-  pub still : IsTrue tells → reads new ≡ reads old
-  pub stages_still : IsTrue tells → stages new ≡ stages old
+pub record IsUnwritten {M : Type 0} (w : Media M) (old new : M) : Type 0 where
+  pub later : w.faults old ≤ w.faults new
+  pub still : IsTrue w.tells → w.reads new ≡ w.reads old
+  pub stages_still : IsTrue w.tells → w.stages new ≡ w.stages old
 
 -- The image is full for a node of this life: it has the node's durable log, and nothing of its new effects, which are in range and need more pages than are blank.
 pub record IsFullFor (l : Life) (image : Image) : Type 0 where
@@ -80,12 +81,12 @@ pub record IsFullFor (l : Life) (image : Image) : Type 0 where
   pub ranges : AreEffects l.fresh
   pub blank : count_by is_blank image < length (filling l.fresh)
 
-module _ {M : Type 0} (tells : Bool) (pages : M → ℕ) (reads : M → Image) where
+module _ {M : Type 0} (w : Media M) where
   -- Why a node may go down. Its medium, of so many pages, is full. A damaged page is no cause where media tell their content.
   abbrev pub IsCause : DownCause → M → Life → Type 0
   IsCause down.Medium m l = Unit {0}
-  IsCause (down.Damaged page) m l = IsTrue tells → ⊥
-  IsCause (down.Full number) m l = (number ≡ pages m) × (IsTrue tells → IsFullFor l (reads m))
+  IsCause (down.Damaged page) m l = IsTrue w.tells → ⊥
+  IsCause (down.Full number) m l = (number ≡ w.page_count m) × (IsTrue w.tells → IsFullFor l (w.reads m))
 
 -- a node that goes down for a damaged page of its core names that page
 abbrev pub NamesPage : HistoryFault → Condition → Type 0
@@ -94,38 +95,37 @@ NamesPage fault.Medium c = Unit {0}
 NamesPage (fault.Damaged page) c = c ≢ condition.Wanting → c ≡ condition.Down (down.Damaged page)
 
 -- The meanings are those of a type K of cores over media of a type M. `k` is what the node's pass has seen.
-module _ {K M : Type 0} (tells : Bool) (parts : K → CoreParts M) (fits : Base → K → Type 0) (lives : Base → K → Life → Type 0) (owes : K → List Effect → Type 0)
-    (pages : M → ℕ) (reads : M → Image) (may_leave : M → Image → Type 0) where
+module _ {K M : Type 0} (w : Media M) (m : Meanings K M) where
   -- what a crash may leave
   abbrev pub images_of : K → Image → Type 0
-  images_of core = may_leave (parts core).medium
+  images_of core = w.may_leave (m.parts core).medium
 
   -- The node is up, and what the code keeps is its life's. `due` says whether a turn has begun.
   pub record IsUp (core : K) (k : Sight) (n : NodeId) (gone due : Bool) (d : DraftParts) : Type 0 where
-    pub node : (parts core).node ≡ n
-    pub able : (parts core).able ≡ true
-    pub owed : owes core d.effects
+    pub node : (m.parts core).node ≡ n
+    pub able : (m.parts core).able ≡ true
+    pub owed : m.owes core d.effects
     pub effects_fit : AreEffects d.effects
     pub outs_fit : AreOuts d.outs
-    pub run : fits (base_at k) core
+    pub run : m.fits (base_at k) core
     pub own : IsOf n k
     pub flags : flags_at k n ≡ up_flags gone due
-    pub life : IsTrue tells → HasLife (base_at k) n d (lives (base_at k) core) (images_of core) (life_at k n)
+    pub life : IsTrue w.tells → HasLife (base_at k) n d (m.lives (base_at k) core) (images_of core) (life_at k n)
 
   -- A crash leaves the node's durable log with a prefix of its new effects.
   pub record IsStored (core : K) (k : Sight) (n : NodeId) : Type 0 where
-    pub node : (parts core).node ≡ n
-    pub run : fits (base_at k) core
+    pub node : (m.parts core).node ≡ n
+    pub run : m.fits (base_at k) core
     pub own : IsOf n k
-    pub kept : IsTrue tells → (c : Image) → images_of core c → IsKept (life_at k n) c
+    pub kept : IsTrue w.tells → (c : Image) → images_of core c → IsKept (life_at k n) c
 
   -- A turn has begun, and can't be closed.
   pub record IsStruck (core : K) (k : Sight) (n : NodeId) (durable : ℕ) : Type 0 where
     pub stored : IsStored core k n
     pub up : (flags_at k n).up ≡ true
     pub due : (flags_at k n).due ≡ true
-    pub count : IsTrue tells → durable ≡ length (life_at k n).gated
-    pub ready : IsTrue tells → StaysReady (base_at k) n (life_at k n)
+    pub count : IsTrue w.tells → durable ≡ length (life_at k n).gated
+    pub ready : IsTrue w.tells → StaysReady (base_at k) n (life_at k n)
 
   -- The node went down in a turn: this is its last entry, and it had this cause.
   pub record IsDown (core : K) (k : Sight) (n : NodeId) (cause : DownCause) : Type 0 where
@@ -134,19 +134,19 @@ module _ {K M : Type 0} (tells : Bool) (parts : K → CoreParts M) (fits : Base 
     pub due : (flags_at k n).due ≡ true
     pub before : List Entry
     pub last : k.own ≡ before ++ Down n cause ∷ []
-    pub caused : IsCause tells pages reads cause (parts core).medium (life_at k n)
+    pub caused : IsCause w cause (m.parts core).medium (life_at k n)
 
   -- what is left after a fault of a core: where memory runs out, the turn may not have begun
   abbrev pub IsAfter : HistoryFault → K → Sight → NodeId → ℕ → Type 0
   IsAfter fault.NoMemory core k n durable = IsStored core k n
   IsAfter fault.Medium core k n durable = IsStruck core k n durable
-  IsAfter (fault.Damaged page) core k n durable = IsStruck core k n durable × (IsTrue tells → ⊥)
+  IsAfter (fault.Damaged page) core k n durable = IsStruck core k n durable × (IsTrue w.tells → ⊥)
 
   -- and after one of its append
   abbrev pub IsAfterAppend : StoreFault → K → Sight → NodeId → ℕ → Type 0
   IsAfterAppend adding.NoMemory core k n durable = IsStored core k n
   IsAfterAppend adding.Medium core k n durable = IsStruck core k n durable
-  IsAfterAppend (adding.Full number) core k n durable = IsStruck core k n durable × IsCause tells pages reads (down.Full number) (parts core).medium (life_at k n)
+  IsAfterAppend (adding.Full number) core k n durable = IsStruck core k n durable × IsCause w (down.Full number) (m.parts core).medium (life_at k n)
 
   -- What a node keeps in each condition. Nothing is open between two turns, unless memory runs out.
   abbrev pub Keeps : Condition → K → Sight → NodeId → Bool → ℕ → Type 0

@@ -4,7 +4,7 @@ use Rattle.pseudo_time.specs.declared.nodes.NodeId.{NodeId}
 use Rattle.pseudo_time.specs.Nodes.{is_broker}
 use Rattle.pseudo_time.specs.declared.down_causes.DownCause.{DownCause}
 use Rattle.medium_port.specs.Image.{Image}
-use Rattle.medium_port.specs.Moment.{Stage}
+use Rattle.medium_port.specs.declared.media.Medium.{Ghosts as Media}
 use Rattle.atomic_table.specs.declared.shared.Seat.{Seat}
 use Rattle.seat_lock.specs.declared.views.View.{View}
 use Rattle.seat_lock.specs.Words.{knows}
@@ -78,15 +78,15 @@ StaysWhole cost new_cost old new = new_cost ≡ cost → IsIntact old new
 
 -- A turn, with its answer: what it did, what it cost in faults, what the board was tested for, and that a crash at any moment of it left
 -- the log of the life that the node had then.
-pub record TurnsTo {M E : Type 0} (tells : Bool) (faults : M → ℕ) (reads : M → Image) (stages : M → List Stage) (old new : NodeParts M) (result : Result Turned E) : Type 0 where
+pub record TurnsTo {M E : Type 0} (w : Media M) (old new : NodeParts M) (result : Result Turned E) : Type 0 where
   pub node : new.node ≡ old.node
   pub answers : IsCondition result new.condition
   pub does : IfOk result (λ t. Does t old.node (sight old) (sight new))
   pub adds : Adds (sight old).own (sight new).own
-  pub paid : PaysFor (costs (sight old).own) (faults old.medium) (costs (sight new).own) (faults new.medium)
-  pub whole : IsTrue tells → OnOk result (StaysWhole (costs (sight old).own) (costs (sight new).own) (reads old.medium) (reads new.medium))
-  pub tested : IsTrue tells → is_broker old.node.kind ≡ false → HasTested old.node (sight old) (sight new)
-  pub passes : IsTrue tells → OnOk result (PassesOn old.node (sight old) (sight new) (stages old.medium) (stages new.medium))
+  pub paid : PaysFor (costs (sight old).own) (w.faults old.medium) (costs (sight new).own) (w.faults new.medium)
+  pub whole : IsTrue w.tells → OnOk result (StaysWhole (costs (sight old).own) (costs (sight new).own) (w.reads old.medium) (w.reads new.medium))
+  pub tested : IsTrue w.tells → is_broker old.node.kind ≡ false → HasTested old.node (sight old) (sight new)
+  pub passes : IsTrue w.tells → OnOk result (PassesOn old.node (sight old) (sight new) (w.stages old.medium) (w.stages new.medium))
 
 -- A meeting with a pass that had seen this: the node has then seen the longer of the two stories, and all else of it is as before.
 pub record MeetsWith {M : Type 0} (other : Sight) (old new : NodeParts M) : Type 0 where
@@ -96,16 +96,16 @@ pub record MeetsWith {M : Type 0} (other : Sight) (old new : NodeParts M) : Type
   pub looked : Looked (sight old) (sight new)
   pub longest : (sight new).story ≡ longer (sight old).story other.story
 
-module _ {M : Type 0} (tells : Bool) (pages : M → ℕ) (reads : M → Image) (may_leave : M → Image → Type 0) where
+module _ {M : Type 0} (w : Media M) where
   -- what a node's condition says of its entries
   abbrev pub Stands : Condition → NodeParts M → Type 0
-  Stands condition.AtWork p = ((flags_at (sight p) p.node).up ≡ true) × (IsTrue tells → (life_at (sight p) p.node).fresh ≡ [])
-  Stands (condition.Down cause) p = ((flags_at (sight p) p.node).up ≡ false) × ((flags_at (sight p) p.node).due ≡ true) × ((before : List Entry) × ((sight p).own ≡ before ++ Down p.node cause ∷ [])) × IsCause tells pages reads cause p.medium (life_at (sight p) p.node)
+  Stands condition.AtWork p = ((flags_at (sight p) p.node).up ≡ true) × (IsTrue w.tells → (life_at (sight p) p.node).fresh ≡ [])
+  Stands (condition.Down cause) p = ((flags_at (sight p) p.node).up ≡ false) × ((flags_at (sight p) p.node).due ≡ true) × ((before : List Entry) × ((sight p).own ≡ before ++ Down p.node cause ∷ [])) × IsCause w cause p.medium (life_at (sight p) p.node)
   Stands condition.Wanting p = Unit {0}
 
   -- What a node is at rest: a crash now leaves its durable log with a prefix of its new effects, of which there are none while it is up; and
   -- where it is down, it went down in a turn, and its last entry says so, and why.
   pub record IsAtRest (p : NodeParts M) : Type 0 where
     pub own : IsOf p.node (sight p)
-    pub kept : IsTrue tells → (c : Image) → may_leave p.medium c → IsKept (life_at (sight p) p.node) c
+    pub kept : IsTrue w.tells → (c : Image) → w.may_leave p.medium c → IsKept (life_at (sight p) p.node) c
     pub stands : Stands p.condition p

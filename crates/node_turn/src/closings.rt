@@ -135,14 +135,11 @@ pub fn close<K: StoredCore<M>, F: Fates, C: Clock, M: Medium, R: Wait>(
     pass: WirePass<F, C, M>,
 ) -> (WirePass<F, C, M>, K, Result<usize, StoreFault>)
     requires pass { IsWirePass wire.now.lock pass }
-    requires up { IsUp M.tells K.parts K.fits K.lives K.owes M.page_count M.reads M.may_leave core
-        (knows pass) node gone true draft.now }
+    requires up { IsUp M.Medium K.Meanings core (knows pass) node gone true draft.now }
     ensures pass { IsWirePass wire.now.lock result.0 }
-    ensures up { IfOk result.2 (λ durable.
-        IsUp M.tells K.parts K.fits K.lives K.owes M.page_count M.reads M.may_leave result.1
-        (knows result.0) node gone false (no_draft durable)) }
-    ensures err { IfErr result.2 (λ f. IsAfterAppend M.tells K.parts K.fits K.lives K.owes M.page_count M.reads
-        M.may_leave f result.1
+    ensures up { IfOk result.2 (λ durable. IsUp M.Medium K.Meanings result.1 (knows result.0) node gone false
+        (no_draft durable)) }
+    ensures err { IfErr result.2 (λ f. IsAfterAppend M.Medium K.Meanings f result.1
         (knows result.0) node draft.now.durable) }
     ensures sent { OnOk result.2 (Trail node (knows pass) (knows result.0)
         (owed (world_at (knows pass)) node) [] [] 0) }

@@ -29,12 +29,10 @@ pub fn go_down<K: StoredCore<M>, F: Fates, C: Clock, M: Medium, R: Wait>(
     pass: WirePass<F, C, M>,
 ) -> (WirePass<F, C, M>, Condition)
     requires pass { IsWirePass wire.now.lock pass }
-    requires struck { IsStruck M.tells K.parts K.fits K.lives K.owes M.page_count M.reads M.may_leave core.now
-        (knows pass) node durable }
-    requires cause { IsCause M.tells M.page_count M.reads cause (K.parts core.now).medium (life_at (knows pass) node) }
+    requires struck { IsStruck M.Medium K.Meanings core.now (knows pass) node durable }
+    requires cause { IsCause M.Medium cause (K.parts core.now).medium (life_at (knows pass) node) }
     ensures pass { IsWirePass wire.now.lock result.0 }
-    ensures keeps { (gone : _) (count : ℕ) →
-        Keeps M.tells K.parts K.fits K.lives K.owes M.page_count M.reads M.may_leave result.1 core.now
+    ensures keeps { (gone : _) (count : ℕ) → Keeps M.Medium K.Meanings result.1 core.now
         (knows result.0) node gone count }
     ensures stops { result.1 ≢ Condition.AtWork }
     ensures names { result.1 ≢ Condition.Wanting → result.1 ≡ Condition.Down cause }
@@ -89,11 +87,9 @@ pub fn open_anew<K: StoredCore<M>, F: Fates, C: Clock, M: Medium, R: Wait>(
     pass: WirePass<F, C, M>,
 ) -> (WirePass<F, C, M>, Hand<K>)
     requires pass { IsWirePass wire.now.lock pass }
-    requires struck { IsStruck M.tells K.parts K.fits K.lives K.owes M.page_count M.reads M.may_leave core
-        (knows pass) node durable }
+    requires struck { IsStruck M.Medium K.Meanings core (knows pass) node durable }
     ensures pass { IsWirePass wire.now.lock result.0 }
-    ensures keeps { Keeps M.tells K.parts K.fits K.lives K.owes M.page_count M.reads M.may_leave
-        result.1.condition result.1.core
+    ensures keeps { Keeps M.Medium K.Meanings result.1.condition result.1.core
         (knows result.0) node result.1.gone result.1.durable }
     ensures trail { (cost : ℕ) × Trail node (knows pass) (knows result.0) [] [] [] cost }
     ensures paid { PaysFor (costs (knows pass).own + 1) (M.faults (K.parts core).medium) (costs (knows result.0).own)

@@ -51,20 +51,15 @@ fn go<K: StoredCore<M>, F: Fates, C: Clock, M: Medium, R: Wait>(
     pass: WirePass<F, C, M>,
 ) -> (WirePass<F, C, M>, Result<(), HistoryFault>)
     requires pass { IsWirePass wire.now.lock pass }
-    requires up { IsUp M.tells K.parts K.fits K.lives K.owes M.page_count M.reads M.may_leave core.old
-        (knows pass) node false false draft.old }
+    requires up { IsUp M.Medium K.Meanings core.old (knows pass) node false false draft.old }
     requires broker { is_broker node.kind ≡ true }
     ensures pass { IsWirePass wire.now.lock result.0 }
-    ensures up { OnOk result.1 (IsUp M.tells K.parts K.fits K.lives K.owes M.page_count M.reads M.may_leave core.new
-        (knows result.0) node true true draft.new) }
+    ensures up { OnOk result.1 (IsUp M.Medium K.Meanings core.new (knows result.0) node true true draft.new) }
     ensures grew { OnOk result.1 (Grew (knows pass).own (knows result.0).own) }
-    ensures err { IfErr result.1 (λ f. IsAfter M.tells K.parts K.fits K.lives K.owes M.page_count M.reads
-        M.may_leave f core.new
-        (knows result.0) node draft.old.durable) }
+    ensures err { IfErr result.1 (λ f. IsAfter M.Medium K.Meanings f core.new (knows result.0) node draft.old.durable) }
     ensures durable { draft.new.durable ≡ draft.old.durable }
     ensures trail { Trail node (knows pass) (knows result.0) [] [] [] 0 }
-    ensures unwritten { IsUnwritten M.tells M.faults M.reads M.stages (K.parts core.old).medium
-        (K.parts core.new).medium }
+    ensures unwritten { IsUnwritten M.Medium (K.parts core.old).medium (K.parts core.new).medium }
     ensures cause { IsErrOf result.1 fault.Medium →
         Rose (M.faults (K.parts core.old).medium) (M.faults (K.parts core.new).medium) }
 {
@@ -89,20 +84,15 @@ fn hear<K: StoredCore<M>, F: Fates, C: Clock, M: Medium, R: Wait>(
     pass: WirePass<F, C, M>,
 ) -> (WirePass<F, C, M>, Result<(), HistoryFault>)
     requires pass { IsWirePass wire.now.lock pass }
-    requires up { IsUp M.tells K.parts K.fits K.lives K.owes M.page_count M.reads M.may_leave core.old
-        (knows pass) node gone false draft.old }
+    requires up { IsUp M.Medium K.Meanings core.old (knows pass) node gone false draft.old }
     requires behind { is_behind (world_at (knows pass)) node ≡ true }
     ensures pass { IsWirePass wire.now.lock result.0 }
-    ensures up { OnOk result.1 (IsUp M.tells K.parts K.fits K.lives K.owes M.page_count M.reads M.may_leave core.new
-        (knows result.0) node gone true draft.new) }
+    ensures up { OnOk result.1 (IsUp M.Medium K.Meanings core.new (knows result.0) node gone true draft.new) }
     ensures grew { OnOk result.1 (Grew (knows pass).own (knows result.0).own) }
-    ensures err { IfErr result.1 (λ f. IsAfter M.tells K.parts K.fits K.lives K.owes M.page_count M.reads
-        M.may_leave f core.new
-        (knows result.0) node draft.old.durable) }
+    ensures err { IfErr result.1 (λ f. IsAfter M.Medium K.Meanings f core.new (knows result.0) node draft.old.durable) }
     ensures durable { draft.new.durable ≡ draft.old.durable }
     ensures trail { Trail node (knows pass) (knows result.0) [] [] [] 0 }
-    ensures unwritten { IsUnwritten M.tells M.faults M.reads M.stages (K.parts core.old).medium
-        (K.parts core.new).medium }
+    ensures unwritten { IsUnwritten M.Medium (K.parts core.old).medium (K.parts core.new).medium }
     ensures cause { IsErrOf result.1 fault.Medium →
         Rose (M.faults (K.parts core.old).medium) (M.faults (K.parts core.new).medium) }
 {
@@ -136,22 +126,17 @@ fn take<K: StoredCore<M>, F: Fates, C: Clock, M: Medium, R: Wait>(
     pass: WirePass<F, C, M>,
 ) -> (WirePass<F, C, M>, Result<Came, HistoryFault>)
     requires pass { IsWirePass wire.now.lock pass }
-    requires up { IsUp M.tells K.parts K.fits K.lives K.owes M.page_count M.reads M.may_leave core.old
-        (knows pass) node gone due draft.old }
+    requires up { IsUp M.Medium K.Meanings core.old (knows pass) node gone due draft.old }
     requires gone { is_broker node.kind ≡ true → gone ≡ true }
     ensures pass { IsWirePass wire.now.lock result.0 }
-    ensures up { IfOk result.1 (λ came. IsUp M.tells K.parts K.fits K.lives K.owes M.page_count M.reads M.may_leave
-        core.new (knows result.0) node gone
+    ensures up { IfOk result.1 (λ came. IsUp M.Medium K.Meanings core.new (knows result.0) node gone
         (arrived came || due) draft.new) }
     ensures came { IfOk result.1 (Took node (knows pass) (knows result.0)) }
-    ensures err { IfErr result.1 (λ f. IsAfter M.tells K.parts K.fits K.lives K.owes M.page_count M.reads
-        M.may_leave f core.new
-        (knows result.0) node draft.old.durable) }
+    ensures err { IfErr result.1 (λ f. IsAfter M.Medium K.Meanings f core.new (knows result.0) node draft.old.durable) }
     ensures draft { IfOk result.1 (λ came. arrived came ≡ false → draft.new ≡ draft.old) }
     ensures durable { draft.new.durable ≡ draft.old.durable }
     ensures trail { Trail node (knows pass) (knows result.0) [] [] [] 0 }
-    ensures unwritten { IsUnwritten M.tells M.faults M.reads M.stages (K.parts core.old).medium
-        (K.parts core.new).medium }
+    ensures unwritten { IsUnwritten M.Medium (K.parts core.old).medium (K.parts core.new).medium }
     ensures cause { IsErrOf result.1 fault.Medium →
         Rose (M.faults (K.parts core.old).medium) (M.faults (K.parts core.new).medium) }
 {
@@ -183,21 +168,16 @@ pub fn begin<K: StoredCore<M>, F: Fates, C: Clock, M: Medium, R: Wait>(
     pass: WirePass<F, C, M>,
 ) -> (WirePass<F, C, M>, Result<bool, HistoryFault>)
     requires pass { IsWirePass wire.now.lock pass }
-    requires up { IsUp M.tells K.parts K.fits K.lives K.owes M.page_count M.reads M.may_leave core.old
-        (knows pass) node gone false draft.old }
+    requires up { IsUp M.Medium K.Meanings core.old (knows pass) node gone false draft.old }
     ensures pass { IsWirePass wire.now.lock result.0 }
-    ensures up { IfOk result.1 (λ begun.
-        IsUp M.tells K.parts K.fits K.lives K.owes M.page_count M.reads M.may_leave core.new (knows result.0) node
+    ensures up { IfOk result.1 (λ begun. IsUp M.Medium K.Meanings core.new (knows result.0) node
         (gone || is_broker node.kind) begun draft.new) }
     ensures grew { result.1 ≡ Ok true → Grew (knows pass).own (knows result.0).own }
     ensures quiet { result.1 ≡ Ok false → IsQuiet node (knows pass) (knows result.0) × (draft.new ≡ draft.old) }
-    ensures err { IfErr result.1 (λ f. IsAfter M.tells K.parts K.fits K.lives K.owes M.page_count M.reads
-        M.may_leave f core.new
-        (knows result.0) node draft.old.durable) }
+    ensures err { IfErr result.1 (λ f. IsAfter M.Medium K.Meanings f core.new (knows result.0) node draft.old.durable) }
     ensures durable { draft.new.durable ≡ draft.old.durable }
     ensures trail { Trail node (knows pass) (knows result.0) [] [] [] 0 }
-    ensures unwritten { IsUnwritten M.tells M.faults M.reads M.stages (K.parts core.old).medium
-        (K.parts core.new).medium }
+    ensures unwritten { IsUnwritten M.Medium (K.parts core.old).medium (K.parts core.new).medium }
     ensures cause { IsErrOf result.1 fault.Medium →
         Rose (M.faults (K.parts core.old).medium) (M.faults (K.parts core.new).medium) }
 {
@@ -234,19 +214,14 @@ pub fn take_more<K: StoredCore<M>, F: Fates, C: Clock, M: Medium, R: Wait>(
     mut pass: WirePass<F, C, M>,
 ) -> (WirePass<F, C, M>, Result<(), HistoryFault>)
     requires pass { IsWirePass wire.now.lock pass }
-    requires up { IsUp M.tells K.parts K.fits K.lives K.owes M.page_count M.reads M.may_leave core.old
-        (knows pass) node gone true draft.old }
+    requires up { IsUp M.Medium K.Meanings core.old (knows pass) node gone true draft.old }
     requires gone { is_broker node.kind ≡ true → gone ≡ true }
     ensures pass { IsWirePass wire.now.lock result.0 }
-    ensures up { OnOk result.1 (IsUp M.tells K.parts K.fits K.lives K.owes M.page_count M.reads M.may_leave core.new
-        (knows result.0) node gone true draft.new) }
-    ensures err { IfErr result.1 (λ f. IsAfter M.tells K.parts K.fits K.lives K.owes M.page_count M.reads
-        M.may_leave f core.new
-        (knows result.0) node draft.old.durable) }
+    ensures up { OnOk result.1 (IsUp M.Medium K.Meanings core.new (knows result.0) node gone true draft.new) }
+    ensures err { IfErr result.1 (λ f. IsAfter M.Medium K.Meanings f core.new (knows result.0) node draft.old.durable) }
     ensures durable { draft.new.durable ≡ draft.old.durable }
     ensures trail { Trail node (knows pass) (knows result.0) [] [] [] 0 }
-    ensures unwritten { IsUnwritten M.tells M.faults M.reads M.stages (K.parts core.old).medium
-        (K.parts core.new).medium }
+    ensures unwritten { IsUnwritten M.Medium (K.parts core.old).medium (K.parts core.new).medium }
     ensures cause { IsErrOf result.1 fault.Medium →
         Rose (M.faults (K.parts core.old).medium) (M.faults (K.parts core.new).medium) }
 {

@@ -3,6 +3,7 @@
 
 mod closings;
 mod conditions;
+mod core_meanings;
 mod cores;
 mod drafts;
 mod falls;
@@ -14,6 +15,7 @@ mod openings;
 mod turns;
 
 pub use conditions::{Condition, Turned};
+pub use core_meanings::Meanings;
 pub use cores::StoredCore;
 pub use nodes::Node;
 pub use openings::open_again;

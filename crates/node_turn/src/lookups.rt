@@ -53,23 +53,18 @@ fn look_up<K: StoredCore<M>, F: Fates, C: Clock, M: Medium, R: Wait>(
     mut pass: WirePass<F, C, M>,
 ) -> (WirePass<F, C, M>, Result<(), HistoryFault>)
     requires pass { IsWirePass wire.now.lock pass }
-    requires up { IsUp M.tells K.parts K.fits K.lives K.owes M.page_count M.reads M.may_leave core.old
-        (knows pass) node gone true draft.old }
+    requires up { IsUp M.Medium K.Meanings core.old (knows pass) node gone true draft.old }
     requires repository { is_broker node.kind ≡ false }
     ensures pass { IsWirePass wire.now.lock result.0 }
-    ensures up { OnOk result.1 (IsUp M.tells K.parts K.fits K.lives K.owes M.page_count M.reads M.may_leave core.new
-        (knows result.0) node gone true draft.new) }
+    ensures up { OnOk result.1 (IsUp M.Medium K.Meanings core.new (knows result.0) node gone true draft.new) }
     ensures more { OnOk result.1 ((outs : List _) × (draft.new.outs ≡ draft.old.outs ++ outs)) }
     ensures log { IsTrue M.tells → (more : List Effect) ×
         (all_effects (life_at (knows result.0) node) ≡ all_effects (life_at (knows pass) node) ++ more) }
     ensures seeks { Seeks node (knows pass) (knows result.0)
         (λ tests. OnOk result.1 (IsTrue M.tells → IsSought (all_effects (life_at (knows result.0) node)) stamp tests)) }
-    ensures err { IfErr result.1 (λ f. IsAfter M.tells K.parts K.fits K.lives K.owes M.page_count M.reads
-        M.may_leave f core.new
-        (knows result.0) node draft.old.durable) }
+    ensures err { IfErr result.1 (λ f. IsAfter M.Medium K.Meanings f core.new (knows result.0) node draft.old.durable) }
     ensures durable { draft.new.durable ≡ draft.old.durable }
-    ensures unwritten { IsUnwritten M.tells M.faults M.reads M.stages (K.parts core.old).medium
-        (K.parts core.new).medium }
+    ensures unwritten { IsUnwritten M.Medium (K.parts core.old).medium (K.parts core.new).medium }
     ensures cause { IsErrOf result.1 fault.Medium →
         Rose (M.faults (K.parts core.old).medium) (M.faults (K.parts core.new).medium) }
 {
@@ -101,24 +96,19 @@ fn look_up_asked<K: StoredCore<M>, F: Fates, C: Clock, M: Medium, R: Wait>(
     pass: WirePass<F, C, M>,
 ) -> (WirePass<F, C, M>, Result<(), HistoryFault>)
     requires pass { IsWirePass wire.now.lock pass }
-    requires up { IsUp M.tells K.parts K.fits K.lives K.owes M.page_count M.reads M.may_leave core.old
-        (knows pass) node gone true draft.old }
+    requires up { IsUp M.Medium K.Meanings core.old (knows pass) node gone true draft.old }
     requires repository { is_broker node.kind ≡ false }
     ensures pass { IsWirePass wire.now.lock result.0 }
-    ensures up { OnOk result.1 (IsUp M.tells K.parts K.fits K.lives K.owes M.page_count M.reads M.may_leave core.new
-        (knows result.0) node gone true draft.new) }
+    ensures up { OnOk result.1 (IsUp M.Medium K.Meanings core.new (knows result.0) node gone true draft.new) }
     ensures more { OnOk result.1 ((outs : List _) × (draft.new.outs ≡ draft.old.outs ++ outs)) }
     ensures log { IsTrue M.tells → (more : List Effect) ×
         (all_effects (life_at (knows result.0) node) ≡ all_effects (life_at (knows pass) node) ++ more) }
     ensures seeks { Seeks node (knows pass) (knows result.0)
         (λ tests. OnOk result.1 (IsTrue M.tells →
         IfSome asked (λ s. IsSought (all_effects (life_at (knows result.0) node)) s tests))) }
-    ensures err { IfErr result.1 (λ f. IsAfter M.tells K.parts K.fits K.lives K.owes M.page_count M.reads
-        M.may_leave f core.new
-        (knows result.0) node draft.old.durable) }
+    ensures err { IfErr result.1 (λ f. IsAfter M.Medium K.Meanings f core.new (knows result.0) node draft.old.durable) }
     ensures durable { draft.new.durable ≡ draft.old.durable }
-    ensures unwritten { IsUnwritten M.tells M.faults M.reads M.stages (K.parts core.old).medium
-        (K.parts core.new).medium }
+    ensures unwritten { IsUnwritten M.Medium (K.parts core.old).medium (K.parts core.new).medium }
     ensures cause { IsErrOf result.1 fault.Medium →
         Rose (M.faults (K.parts core.old).medium) (M.faults (K.parts core.new).medium) }
 {
@@ -140,20 +130,15 @@ pub fn look_up_all<K: StoredCore<M>, F: Fates, C: Clock, M: Medium, R: Wait>(
     mut pass: WirePass<F, C, M>,
 ) -> (WirePass<F, C, M>, Result<(), HistoryFault>)
     requires pass { IsWirePass wire.now.lock pass }
-    requires up { IsUp M.tells K.parts K.fits K.lives K.owes M.page_count M.reads M.may_leave core.old
-        (knows pass) node gone true draft.old }
+    requires up { IsUp M.Medium K.Meanings core.old (knows pass) node gone true draft.old }
     ensures pass { IsWirePass wire.now.lock result.0 }
-    ensures up { OnOk result.1 (IsUp M.tells K.parts K.fits K.lives K.owes M.page_count M.reads M.may_leave core.new
-        (knows result.0) node gone true draft.new) }
+    ensures up { OnOk result.1 (IsUp M.Medium K.Meanings core.new (knows result.0) node gone true draft.new) }
     ensures seeks { Seeks node (knows pass) (knows result.0)
         (λ tests. OnOk result.1 (IsTrue M.tells → is_broker node.kind ≡ false →
         AreSought (all_effects (life_at (knows result.0) node)) draft.new.outs tests)) }
-    ensures err { IfErr result.1 (λ f. IsAfter M.tells K.parts K.fits K.lives K.owes M.page_count M.reads
-        M.may_leave f core.new
-        (knows result.0) node draft.old.durable) }
+    ensures err { IfErr result.1 (λ f. IsAfter M.Medium K.Meanings f core.new (knows result.0) node draft.old.durable) }
     ensures durable { draft.new.durable ≡ draft.old.durable }
-    ensures unwritten { IsUnwritten M.tells M.faults M.reads M.stages (K.parts core.old).medium
-        (K.parts core.new).medium }
+    ensures unwritten { IsUnwritten M.Medium (K.parts core.old).medium (K.parts core.new).medium }
     ensures cause { IsErrOf result.1 fault.Medium →
         Rose (M.faults (K.parts core.old).medium) (M.faults (K.parts core.new).medium) }
 {

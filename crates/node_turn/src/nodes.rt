@@ -47,8 +47,8 @@ impl<K: StoredCore<M>, F: Fates, C: Clock, M: Medium> Model for Node<K, F, C, M>
       medium = (K.parts n.hand.core).medium;
     } };
 
-    ghost invariant = { λ n. Keeps M.tells K.parts K.fits K.lives K.owes M.page_count M.reads M.may_leave
-        n.hand.condition n.hand.core (knows n.pass) n.node n.hand.gone n.hand.durable };
+    ghost invariant = { λ n. Keeps M.Medium K.Meanings n.hand.condition n.hand.core
+        (knows n.pass) n.node n.hand.gone n.hand.durable };
 }
 
 // What a turn answers, by how the node stands after it.
@@ -72,8 +72,7 @@ impl<K: StoredCore<M>, F: Fates, C: Clock, M: Medium> Node<K, F, C, M> {
         core: K,
         pass: WirePass<F, C, M>,
     ) -> Node<K, F, C, M>
-        requires up { IsUp M.tells K.parts K.fits K.lives K.owes M.page_count M.reads M.may_leave core
-            (knows pass) node false false (no_draft count) }
+        requires up { IsUp M.Medium K.Meanings core (knows pass) node false false (no_draft count) }
         ensures { result ≡ new_node node pass (K.parts core).medium }
     {
         Node {
@@ -97,7 +96,7 @@ impl<K: StoredCore<M>, F: Fates, C: Clock, M: Medium> Node<K, F, C, M> {
     ) -> (Node<K, F, C, M>, Result<Turned, AllocError>)
         requires pass { IsWirePass wire.now.lock self.pass }
         ensures pass { IsWirePass wire.now.lock result.0.pass }
-        ensures turns { TurnsTo M.tells M.faults M.reads M.stages self result.0 result.1 }
+        ensures turns { TurnsTo M.Medium self result.0 result.1 }
     {
         let Node {
             alloc,
@@ -176,7 +175,7 @@ impl<K: StoredCore<M>, F: Fates, C: Clock, M: Medium> Node<K, F, C, M> {
     /// The medium and the pass.
     pub fn release(self) -> (M, WirePass<F, C, M>)
         ensures parts { (result.0 ≡ self.medium) × (result.1 ≡ self.pass) }
-        ensures rest { IsAtRest M.tells M.page_count M.reads M.may_leave self }
+        ensures rest { IsAtRest M.Medium self }
     {
         let Node {
             alloc: _,

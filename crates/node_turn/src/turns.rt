@@ -41,11 +41,9 @@ fn give_up<K: StoredCore<M>, F: Fates, C: Clock, M: Medium, R: Wait>(
     pass: WirePass<F, C, M>,
 ) -> (WirePass<F, C, M>, Hand<K>)
     requires pass { IsWirePass wire.now.lock pass }
-    requires after { IsAfter M.tells K.parts K.fits K.lives K.owes M.page_count M.reads M.may_leave fault core
-        (knows pass) node durable }
+    requires after { IsAfter M.Medium K.Meanings fault core (knows pass) node durable }
     ensures pass { IsWirePass wire.now.lock result.0 }
-    ensures keeps { Keeps M.tells K.parts K.fits K.lives K.owes M.page_count M.reads M.may_leave
-        result.1.condition result.1.core
+    ensures keeps { Keeps M.Medium K.Meanings result.1.condition result.1.core
         (knows result.0) node result.1.gone result.1.durable }
     ensures trail { (cost : ℕ) × Trail node (knows pass) (knows result.0) [] [] [] cost }
     ensures paid { (before : ℕ) → (fault ≡ HistoryFault.Medium → Rose before (M.faults (K.parts core).medium)) →
@@ -98,11 +96,9 @@ fn end<K: StoredCore<M>, F: Fates, C: Clock, M: Medium, R: Wait>(
     pass: WirePass<F, C, M>,
 ) -> (WirePass<F, C, M>, Hand<K>)
     requires pass { IsWirePass wire.now.lock pass }
-    requires up { IsUp M.tells K.parts K.fits K.lives K.owes M.page_count M.reads M.may_leave core
-        (knows pass) node gone true draft.now }
+    requires up { IsUp M.Medium K.Meanings core (knows pass) node gone true draft.now }
     ensures pass { IsWirePass wire.now.lock result.0 }
-    ensures keeps { Keeps M.tells K.parts K.fits K.lives K.owes M.page_count M.reads M.may_leave
-        result.1.condition result.1.core
+    ensures keeps { Keeps M.Medium K.Meanings result.1.condition result.1.core
         (knows result.0) node result.1.gone result.1.durable }
     ensures sends { (sent : List _) × (cost : ℕ) × Trail node (knows pass) (knows result.0) sent [] [] cost ×
         (IsTrue M.tells → (out : _) → Has out sent → Has out (owed (world_at (knows pass)) node)) }
@@ -166,12 +162,10 @@ fn finish<K: StoredCore<M>, F: Fates, C: Clock, M: Medium, R: Wait>(
     pass: WirePass<F, C, M>,
 ) -> (WirePass<F, C, M>, Hand<K>)
     requires pass { IsWirePass wire.now.lock pass }
-    requires up { IsUp M.tells K.parts K.fits K.lives K.owes M.page_count M.reads M.may_leave core
-        (knows pass) node gone true draft }
+    requires up { IsUp M.Medium K.Meanings core (knows pass) node gone true draft }
     requires gone { is_broker node.kind ≡ true → gone ≡ true }
     ensures pass { IsWirePass wire.now.lock result.0 }
-    ensures keeps { Keeps M.tells K.parts K.fits K.lives K.owes M.page_count M.reads M.may_leave
-        result.1.condition result.1.core
+    ensures keeps { Keeps M.Medium K.Meanings result.1.condition result.1.core
         (knows result.0) node result.1.gone result.1.durable }
     ensures paid { PaysFor (costs (knows pass).own) (M.faults (K.parts core).medium) (costs (knows result.0).own)
         (M.faults (K.parts result.1.core).medium) }
@@ -215,12 +209,9 @@ pub fn work<K: StoredCore<M>, F: Fates, C: Clock, M: Medium, R: Wait>(
     pass: WirePass<F, C, M>,
 ) -> (WirePass<F, C, M>, Hand<K>, bool)
     requires pass { IsWirePass wire.now.lock pass }
-    requires up { IsUp M.tells K.parts K.fits K.lives K.owes M.page_count M.reads M.may_leave hand.core
-        (knows pass) node hand.gone false
-        (no_draft hand.durable) }
+    requires up { IsUp M.Medium K.Meanings hand.core (knows pass) node hand.gone false (no_draft hand.durable) }
     ensures pass { IsWirePass wire.now.lock result.0 }
-    ensures keeps { Keeps M.tells K.parts K.fits K.lives K.owes M.page_count M.reads M.may_leave
-        result.1.condition result.1.core
+    ensures keeps { Keeps M.Medium K.Meanings result.1.condition result.1.core
         (knows result.0) node result.1.gone result.1.durable }
     ensures paid { PaysFor (costs (knows pass).own) (M.faults (K.parts hand.core).medium) (costs (knows result.0).own)
         (M.faults (K.parts result.1.core).medium) }

@@ -12,7 +12,7 @@ use crate::kept_cores::KeptCore;
 use effect_form::Effect;
 use medium_port::Medium;
 use message_form::{Message, Turn};
-use node_turn::{StoredCore, open_again};
+use node_turn::{Meanings, StoredCore, open_again};
 use object_header::HeaderTable;
 use object_history::HistoryFault;
 use pseudo_time::{NodeId, Stamp};
@@ -31,7 +31,7 @@ pub struct RepositoryCore<M: Medium> {
     ghost marked: { HasMarksOfLog kept },
 }
 
-impl<M: Medium> StoredCore<M> for RepositoryCore<M> {
+impl<M: Medium> Meanings<M> for RepositoryCore<M> {
     ghost use Rattle.std.specs.Prelude.{◌≡◌};
     ghost use Rattle.pseudo_time.specs.Nodes.{repository};
     ghost use Rattle.repository_node.specs.KeptCores.{is_able, medium_in, HasLife, Owes};
@@ -43,7 +43,9 @@ impl<M: Medium> StoredCore<M> for RepositoryCore<M> {
     ghost lives = { λ b c l. HasLife c.kept (repository c.number) l };
 
     ghost owes = { λ c effects. Owes c.kept effects };
+}
 
+impl<M: Medium> StoredCore<M> for RepositoryCore<M> {
     fn node(&self) -> NodeId {
         NodeId::repository(self.number)
     }

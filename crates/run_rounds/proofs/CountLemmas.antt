@@ -70,13 +70,13 @@ module _ {M Q A : Type 0} (w : Media M) (plan : Plan) (lock : LockTable WirePart
   -- ---- causes
 
   module _ (asked : List Asked) (few : plan.repositories ≤ 16) (told : IsTrue w.tells) (legal : IsLegal plan asked t) where
-    cause-of : (n : NodeId) (s : NodeOf n) (c : DownCause) → down_cause n t.entries ≡ Some c → IsCause w.tells w.page_count w.reads c s.node.medium (life_at (sight s.node) n)
+    cause-of : (n : NodeId) (s : NodeOf n) (c : DownCause) → down_cause n t.entries ≡ Some c → IsCause w c s.node.medium (life_at (sight s.node) n)
     cause-of n s c h =
         let d = down-at w plan lock t stood.same stood.opened n s.old s.node s.went (has-memory w plan lock t first ps stood n s) c h in
         let has = has-down w plan lock t stood.same stood.opened n s.old s.node s.went d.0 d.1 in
         let known = known-end w plan lock t stood.same stood.opened n s.old s.node s.went in
         let one : c ≡ d.0 = one-down (base w plan lock t) (fates_of t.sent) (start_world (base w plan lock t)) t.entries n c d.0 known legal.meets h has in
-        subst (λ (x : DownCause). IsCause w.tells w.page_count w.reads x s.node.medium (life_at (sight s.node) n)) (sym one) (cause-at w plan lock t stood.same stood.opened n s.old s.node s.went d.0 d.1)
+        subst (λ (x : DownCause). IsCause w x s.node.medium (life_at (sight s.node) n)) (sym one) (cause-at w plan lock t stood.same stood.opened n s.old s.node s.went d.0 d.1)
 
     -- each entry is of a node of the plan, or a Tick
     all-named : Every (λ (e : Entry). (m : NodeId) → names m e ≡ true → in_plan plan m ≡ true) t.entries

@@ -77,7 +77,7 @@ module _ {M : Type 0} (w : Media M) (W : ℕ) (pos : 0 < W) (begun : List (NodeP
 
     module _ (limits : Limits) (why : Reason) (media : List (Option M)) (passes : List Pass) (conductor : Pass) (passes-are : passes ≡ map (λ (n : NodeParts M). n.pass) nodes ++ conductor ∷ []) (media-are : media ≡ map (λ (n : NodeParts M). Some n.medium) nodes) where
       -- the rounds of a run
-      pub have-gone : EachPlace (IsKeptThrough w.tells w.stages) old new → All (IsAtRest w.tells w.page_count w.reads w.may_leave) nodes → EachNode (HasAllOf (knows conductor).story) new → (knows conductor).owner ≡ 0 → tick_count (knows conductor).own ≤ limits.ticks
+      pub have-gone : EachPlace (IsKeptThrough w.tells w.stages) old new → All (IsAtRest w) nodes → EachNode (HasAllOf (knows conductor).story) new → (knows conductor).owner ≡ 0 → tick_count (knows conductor).own ≤ limits.ticks
           → (IsTrue w.tells → TicksAreWanted (base_at (knows conductor)) (knows conductor).story new)
           → EndsFor w.tells limits why new (knows conductor) → HaveGone w limits begun why media passes
       have-gone kept rest each owner ticks wanted ends = record {

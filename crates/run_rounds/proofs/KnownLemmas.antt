@@ -90,8 +90,8 @@ module _ {M Q A : Type 0} (w : Media M) (plan : Plan) (lock : LockTable WirePart
     pub known-end : ((start_world base).flags n).known ≡ true
     known-end = ap is_some log-end
 
-    stood : (c : Condition) → p.condition ≡ c → Stands w.tells w.page_count w.reads w.may_leave c p
-    stood c e = subst (λ (x : Condition). Stands w.tells w.page_count w.reads w.may_leave x p) e went.rest.stands
+    stood : (c : Condition) → p.condition ≡ c → Stands w c p
+    stood c e = subst (λ (x : Condition). Stands w x p) e went.rest.stands
 
     pub up-at : p.condition ≡ condition.AtWork → (flags_at (sight p) n).up ≡ true
     up-at e = subst (λ (m : NodeId). (flags_at (sight p) m).up ≡ true) went.name (stood condition.AtWork e).0
@@ -106,8 +106,8 @@ module _ {M Q A : Type 0} (w : Media M) (plan : Plan) (lock : LockTable WirePart
       last-at : (before : List Entry) × ((sight p).own ≡ before ++ Down n cause ∷ [])
       last-at = subst (λ (m : NodeId). (before : List Entry) × ((sight p).own ≡ before ++ Down m cause ∷ [])) went.name (stood (condition.Down cause) e).2
 
-      pub cause-at : IsCause w.tells w.page_count w.reads cause p.medium (life_at (sight p) n)
-      cause-at = subst (λ (m : NodeId). IsCause w.tells w.page_count w.reads cause p.medium (life_at (sight p) m)) went.name (stood (condition.Down cause) e).3
+      pub cause-at : IsCause w cause p.medium (life_at (sight p) n)
+      cause-at = subst (λ (m : NodeId). IsCause w cause p.medium (life_at (sight p) m)) went.name (stood (condition.Down cause) e).3
 
       -- its Down stands
       pub has-down : Has (Down n cause) t.entries

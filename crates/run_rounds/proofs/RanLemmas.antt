@@ -113,9 +113,9 @@ module _ {M Q A : Type 0} (w : Media M) (limits : Limits) (plan : Plan) (lock : 
 
     some-down : (i : ℕ) (p : NodeParts M) → i < length gone.nodes → get_or gone.nodes i p ≡ p → (cause : DownCause) → p.condition ≡ condition.Down cause → some_down t.entries ≡ true
     some-down i p lt is cause down =
-        let rest = one-of (IsAtRest w.tells w.page_count w.reads w.may_leave) gone.nodes i p gone.rest lt is in
+        let rest = one-of (IsAtRest w) gone.nodes i p gone.rest lt is in
         let k = one-of (λ (n : NodeParts M). IsKnown n.pass) gone.nodes i p of-node lt is in
-        let stands = subst (λ (c : Condition). Stands w.tells w.page_count w.reads w.may_leave c p) down rest.stands in
+        let stands = subst (λ (c : Condition). Stands w c p) down rest.stands in
         down-whole (sight p) t.entries stands.2.0 p.node cause k.carries stands.2.1
 
     module _ (first : List (Option M)) (stood : HaveStood w plan lock t first gone.nodes) (told : IsTrue w.tells) where

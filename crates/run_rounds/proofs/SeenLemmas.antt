@@ -56,7 +56,7 @@ module _ {M : Type 0} (w : Media M) (plan : Plan) (o : Origin) (Q : Pass → Typ
     pub held : IsTrue w.tells → storage (w.reads old) ≡ Ok log
     pub paid : RoseBy (costs (sight p).own) (w.faults old) (w.faults p.medium)
     pub whole : IsTrue w.tells → p.condition ≢ condition.Wanting → costs (sight p).own ≡ 0 → IsIntact (w.reads old) (w.reads p.medium)
-    pub rest : IsAtRest w.tells w.page_count w.reads w.may_leave p
+    pub rest : IsAtRest w p
     pub pass : Q p.pass
 
   -- so it is of the node in this place, whose medium there was
@@ -65,7 +65,7 @@ module _ {M : Type 0} (w : Media M) (plan : Plan) (o : Origin) (Q : Pass → Typ
 
   module _ {g : _} where
     went-one : (i : ℕ) (x : Option M) (op : Opening M g) (b p : NodeParts M) → HasOpened w x op → IsOpen op → IsNewNode plan i op b → (sight b).own ≡ [] → GoesOn w.tells w.faults w.reads b p
-        → IsAtRest w.tells w.page_count w.reads w.may_leave p → Q p.pass → opened_log o.opened (node_at plan i) ≡ Some (log_in op) → At i x p
+        → IsAtRest w p → Q p.pass → opened_log o.opened (node_at plan i) ≡ Some (log_in op) → At i x p
     went-one i None (Open store effects) b p h is new none went rest pass log = absurd h
     went-one i (Some old) (Open store effects) b p h is new none went rest pass log = (
       old,
@@ -103,7 +103,7 @@ module _ {M : Type 0} (w : Media M) (plan : Plan) (o : Origin) (Q : Pass → Typ
     logs-rest i op os logs = λ k x at. (let z : i + suc k ≡ suc i + k = omega arith in subst (λ (j : ℕ). opened_log o.opened (node_at plan j) ≡ Some (log_in x)) z (logs (suc k) x at))
 
     pub went-along : (i : ℕ) (xs : List (Option M)) (os : List (Opening M g)) (bs ps : List (NodeParts M)) → AllZip (HasOpened w) xs os → All IsOpen os → Along (IsNewNode plan) i os bs → All (λ (b : NodeParts M). (sight b).own ≡ []) bs
-        → AllZip (GoesOn w.tells w.faults w.reads) bs ps → All (IsAtRest w.tells w.page_count w.reads w.may_leave) ps → All (λ (p : NodeParts M). Q p.pass) ps → Logs i os → Along At i xs ps
+        → AllZip (GoesOn w.tells w.faults w.reads) bs ps → All (IsAtRest w) ps → All (λ (p : NodeParts M). Q p.pass) ps → Logs i os → Along At i xs ps
     went-along i [] [] [] [] opened are-open new none went rest pass logs = tt
     went-along i [] [] [] (p ∷ ps) opened are-open new none went rest pass logs = absurd went
     went-along i [] [] (b ∷ bs) ps opened are-open new none went rest pass logs = absurd new
@@ -112,9 +112,9 @@ module _ {M : Type 0} (w : Media M) (plan : Plan) (o : Origin) (Q : Pass → Typ
     went-along i (x ∷ xs) (op ∷ os) [] ps opened are-open new none went rest pass logs = absurd new
     went-along i (x ∷ xs) (op ∷ os) (b ∷ bs) [] opened are-open new none went rest pass logs = absurd went
     went-along i (x ∷ xs) (op ∷ os) (b ∷ bs) (p ∷ ps) opened are-open new none went rest pass logs = (
-      went-one i x op b p opened.0 (all-first IsOpen op os are-open) new.0 (all-first (λ (n : NodeParts M). (sight n).own ≡ []) b bs none) went.0 (all-first (IsAtRest w.tells w.page_count w.reads w.may_leave) p ps rest)
+      went-one i x op b p opened.0 (all-first IsOpen op os are-open) new.0 (all-first (λ (n : NodeParts M). (sight n).own ≡ []) b bs none) went.0 (all-first (IsAtRest w) p ps rest)
           (all-first (λ (n : NodeParts M). Q n.pass) p ps pass) (logs-first i op os logs),
-      went-along (suc i) xs os bs ps opened.1 (all-rest IsOpen op os are-open) new.1 (all-rest (λ (n : NodeParts M). (sight n).own ≡ []) b bs none) went.1 (all-rest (IsAtRest w.tells w.page_count w.reads w.may_leave) p ps rest)
+      went-along (suc i) xs os bs ps opened.1 (all-rest IsOpen op os are-open) new.1 (all-rest (λ (n : NodeParts M). (sight n).own ≡ []) b bs none) went.1 (all-rest (IsAtRest w) p ps rest)
           (all-rest (λ (n : NodeParts M). Q n.pass) p ps pass) (logs-rest i op os logs),
     )
 

@@ -79,7 +79,7 @@ pub record HaveGone {M : Type 0} (w : Media M) (limits : Limits) (begun : List (
   pub passes_are : passes ≡ map (λ n. n.pass) nodes ++ conductor ∷ []
   pub went : AllZip (GoesOn w.tells w.faults w.reads) begun nodes
   pub kept : AllZip (IsKeptThrough w.tells w.stages) begun nodes
-  pub rest : All (IsAtRest w.tells w.page_count w.reads w.may_leave) nodes
+  pub rest : All (IsAtRest w) nodes
   pub all : All (HasAllOf (knows conductor).story) nodes
   pub owner : (knows conductor).owner ≡ 0
   pub ticks : tick_count (knows conductor).own ≤ limits.ticks

@@ -81,7 +81,7 @@ pub fn take_apart<F: Fates, C: Clock, M: Medium>(
     requires room { (vec_len nodes ≤ vec_capacity media) × (vec_len nodes ≤ vec_capacity passes) }
     ensures media { result.0.items ≡ map (λ n. Some n.medium) nodes.items }
     ensures passes { result.1.items ≡ map (λ n. n.pass) nodes.items }
-    ensures rest { All (IsAtRest M.tells M.page_count M.reads M.may_leave) nodes.items }
+    ensures rest { All (IsAtRest M.Medium) nodes.items }
     ensures room { (vec_capacity result.0 ≡ vec_capacity media) × (vec_capacity result.1 ≡ vec_capacity passes) }
 {
     let mut nodes = nodes;

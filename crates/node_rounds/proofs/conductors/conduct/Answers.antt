@@ -9,8 +9,8 @@ use Rattle.node_rounds.proofs.conductors.conduct.Goals as goal
 pub loop-init : goal.loop-init
 loop-init g c = record {
   ready = c.requires.ready;
-  went = went-none c.args.wire.now.lock g.M.Medium.tells g.M.Medium.faults g.M.Medium.reads g.M.Medium.stages c.args.shares.items c.requires.ready;
-  kept = kept-none c.args.wire.now.lock g.M.Medium.tells g.M.Medium.faults g.M.Medium.reads g.M.Medium.stages c.args.shares.items c.requires.ready;
+  went = went-none c.args.wire.now.lock g.M.Medium c.args.shares.items c.requires.ready;
+  kept = kept-none c.args.wire.now.lock g.M.Medium c.args.shares.items c.requires.ready;
   pass_is = c.requires.pass;
   conductor = c.requires.conductor;
   ticked = c.requires.ticks;
@@ -20,11 +20,11 @@ loop-init g c = record {
 
 pub returns-in-End-clause-went : goal.returns-in-End-clause-went
 returns-in-End-clause-went g c =
-    went-on c.args.wire.now.lock g.M.Medium.tells g.M.Medium.faults g.M.Medium.reads g.M.Medium.stages c.args.shares.items c.loop.shares.items c.go_round-nodes.result.0.items c.loop.invariant.ready c.loop.invariant.went c.go_round-nodes.ensures.went
+    went-on c.args.wire.now.lock g.M.Medium c.args.shares.items c.loop.shares.items c.go_round-nodes.result.0.items c.loop.invariant.ready c.loop.invariant.went c.go_round-nodes.ensures.went
 
 pub returns-in-End-clause-kept : goal.returns-in-End-clause-kept
 returns-in-End-clause-kept g c =
-    kept-more c.args.wire.now.lock g.M.Medium.tells g.M.Medium.faults g.M.Medium.reads g.M.Medium.stages c.args.shares.items c.loop.shares.items c.go_round-nodes.result.0.items c.loop.invariant.ready c.loop.invariant.kept c.go_round-nodes.ensures.kept
+    kept-more c.args.wire.now.lock g.M.Medium c.args.shares.items c.loop.shares.items c.go_round-nodes.result.0.items c.loop.invariant.ready c.loop.invariant.kept c.go_round-nodes.ensures.kept
 
 pub returns-in-End-clause-wanted : goal.returns-in-End-clause-wanted
 returns-in-End-clause-wanted g c = λ told. c.go_round-nodes.ensures.wanted told (c.loop.invariant.wanted told)
@@ -36,8 +36,8 @@ loop-preserved-in-Round g c =
     let f = subst (λ what. Follows g.M.Medium.tells c.args.limits what round.result.0.items (knows c.loop.pass) (knows round.result.1)) c.in-Round.is round.ensures.next in
     record {
       ready = ready-again c.args.wire.now.lock round.result.0.items round.ensures.passes.0 f.0;
-      went = went-on c.args.wire.now.lock g.M.Medium.tells g.M.Medium.faults g.M.Medium.reads g.M.Medium.stages c.args.shares.items c.loop.shares.items round.result.0.items inv.ready inv.went round.ensures.went;
-      kept = kept-more c.args.wire.now.lock g.M.Medium.tells g.M.Medium.faults g.M.Medium.reads g.M.Medium.stages c.args.shares.items c.loop.shares.items round.result.0.items inv.ready inv.kept round.ensures.kept;
+      went = went-on c.args.wire.now.lock g.M.Medium c.args.shares.items c.loop.shares.items round.result.0.items inv.ready inv.went round.ensures.went;
+      kept = kept-more c.args.wire.now.lock g.M.Medium c.args.shares.items c.loop.shares.items round.result.0.items inv.ready inv.kept round.ensures.kept;
       pass_is = round.ensures.passes.1;
       conductor = f.1.owner ∙ inv.conductor;
       ticked = omega (arith, f.1.ticked, inv.ticked);
@@ -52,8 +52,8 @@ loop-preserved g c =
     let f = subst (λ what. Follows g.M.Medium.tells c.args.limits what round.result.0.items (knows c.loop.pass) (knows round.result.1)) c.in-Ticked.is round.ensures.next in
     record {
       ready = ready-again c.args.wire.now.lock round.result.0.items round.ensures.passes.0 f.0;
-      went = went-on c.args.wire.now.lock g.M.Medium.tells g.M.Medium.faults g.M.Medium.reads g.M.Medium.stages c.args.shares.items c.loop.shares.items round.result.0.items inv.ready inv.went round.ensures.went;
-      kept = kept-more c.args.wire.now.lock g.M.Medium.tells g.M.Medium.faults g.M.Medium.reads g.M.Medium.stages c.args.shares.items c.loop.shares.items round.result.0.items inv.ready inv.kept round.ensures.kept;
+      went = went-on c.args.wire.now.lock g.M.Medium c.args.shares.items c.loop.shares.items round.result.0.items inv.ready inv.went round.ensures.went;
+      kept = kept-more c.args.wire.now.lock g.M.Medium c.args.shares.items c.loop.shares.items round.result.0.items inv.ready inv.kept round.ensures.kept;
       pass_is = round.ensures.passes.1;
       conductor = f.2.owner ∙ inv.conductor;
       ticked = omega (arith, f.2.ticked, inv.ticked);

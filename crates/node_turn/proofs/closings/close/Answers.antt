@@ -77,13 +77,13 @@ gate-pass-requires-clause-decides g c = λ t.
     c.as_slice-in-Ok-appended.ensures.value ∙ (c.in-Ok-decisions.ensures ∙ ap (decided_by c.args.node) (c.effects.ensures ∙ (c.requires.up.life t).effects))
 
 pub returns-in_default-clause-passes : goal.returns-in_default-clause-passes
-returns-in_default-clause-passes g c = λ told. passes-stored g.M.Medium.stages g.met.M.Medium.only_now (up-stored c.requires.up) told
+returns-in_default-clause-passes g c = λ told. passes-stored g.M.Medium g.met.M.Medium.only_now (up-stored c.requires.up) told
 
 pub returns-in_default-decisions-clause-passes : goal.returns-in_default-decisions-clause-passes
-returns-in_default-decisions-clause-passes g c = λ told. passes-stored g.M.Medium.stages g.met.M.Medium.only_now (up-stored c.requires.up) told
+returns-in_default-decisions-clause-passes g c = λ told. passes-stored g.M.Medium g.met.M.Medium.only_now (up-stored c.requires.up) told
 
 pub returns-in_default-checked_add-clause-passes : goal.returns-in_default-checked_add-clause-passes
-returns-in_default-checked_add-clause-passes g c = λ told. passes-stored g.M.Medium.stages g.met.M.Medium.only_now (up-stored c.requires.up) told
+returns-in_default-checked_add-clause-passes g c = λ told. passes-stored g.M.Medium g.met.M.Medium.only_now (up-stored c.requires.up) told
 
 pub returns-in-Err-clause-passes : goal.returns-in-Err-clause-passes
 returns-in-Err-clause-passes g c = λ told. passes-appended g.met.M.Medium.only_now c.requires.up (appended-at c.effects-3.ensures c.append-core.ensures) told

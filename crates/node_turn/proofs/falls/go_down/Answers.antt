@@ -25,7 +25,7 @@ returns-in-Ok-clause-trail g c =
     (cost_of_cause c.args.cause + 0, omega arith, λ ne. omega arith, trail-added c.args.node [] (cost_of_cause c.args.cause + 0) c.requires.struck.stored.own c.requires.pass.own refl refl refl (on-ok _ _ _ c.in-Ok.is c.down-pass.ensures.ok).added)
 
 pub returns-in-Err-clause-passes : goal.returns-in-Err-clause-passes
-returns-in-Err-clause-passes g c = λ told. passes-seen g.M.Medium.stages g.met.M.Medium.only_now c.requires.struck.stored c.requires.pass.own (on-err _ _ _ c.in-Err.is c.down-pass.ensures.err) told
+returns-in-Err-clause-passes g c = λ told. passes-seen g.M.Medium g.met.M.Medium.only_now c.requires.struck.stored c.requires.pass.own (on-err _ _ _ c.in-Err.is c.down-pass.ensures.err) told
 
 pub returns-in-Ok-clause-passes : goal.returns-in-Ok-clause-passes
-returns-in-Ok-clause-passes g c = λ told. passes-fallen g.M.Medium.stages g.met.M.Medium.only_now c.requires.struck.stored c.requires.pass.own (same_node-refl c.args.node) (on-ok _ _ _ c.in-Ok.is c.down-pass.ensures.ok) told
+returns-in-Ok-clause-passes g c = λ told. passes-fallen g.M.Medium g.met.M.Medium.only_now c.requires.struck.stored c.requires.pass.own (same_node-refl c.args.node) (on-ok _ _ _ c.in-Ok.is c.down-pass.ensures.ok) told

@@ -66,7 +66,7 @@ go_down-pass-requires-clause-cause g c = opening-cause c.requires.struck c.reope
 pub returns-in-Some-clause-paid : goal.returns-in-Some-clause-paid
 returns-in-Some-clause-paid g c =
     let t = c.go_down-pass.ensures.trail in
-    subst (λ (x : ℕ). PaysFor (costs (knows c.args.pass).own + 1) (g.M.Medium.faults (g.K.StoredCore.parts c.args.core).medium) x (g.M.Medium.faults (g.K.StoredCore.parts c.reopen-core.result.0).medium)) (sym (trail-cost t.3))
+    subst (λ (x : ℕ). PaysFor (costs (knows c.args.pass).own + 1) (g.M.Medium.faults (g.K.Meanings.parts c.args.core).medium) x (g.M.Medium.faults (g.K.Meanings.parts c.reopen-core.result.0).medium)) (sym (trail-cost t.3))
     (opening-pays c.requires.struck c.reopen-core.ensures c.in-Err.fault c.in-Some.cause (costs (knows c.args.pass).own) t.0 c.in-Err.is (sym c.down_cause.ensures ∙ c.in-Some.is) t.1)
 
 pub returns-in-Some-clause-dear : goal.returns-in-Some-clause-dear

@@ -6,7 +6,7 @@ use Rattle.node_turn.proofs.TrailLemmas.{trail-none, trail-joins}
 use Rattle.node_turn.proofs.inputs.take_more.Goals as goal
 
 pub loop-init : goal.loop-init
-loop-init g c = record { pass = c.requires.pass; up = c.requires.up; durable = refl; trail = trail-none c.args.node (knows c.args.pass); unwritten = unwritten-none _ _ _ _ _ }
+loop-init g c = record { pass = c.requires.pass; up = c.requires.up; durable = refl; trail = trail-none c.args.node (knows c.args.pass); unwritten = unwritten-none _ _ }
 
 pub returns-in-Err-clause-trail : goal.returns-in-Err-clause-trail
 returns-in-Err-clause-trail g c = trail-joins c.loop.invariant.trail c.take-back.ensures.trail

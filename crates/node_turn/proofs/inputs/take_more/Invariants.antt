@@ -8,8 +8,8 @@ use Rattle.node_turn.proofs.inputs.take_more.Given as goal
 abbrev pub invariant-loop : goal.invariant-loop
 invariant-loop g l = record {
   pass : IsWirePass l.wire.lock l.pass;
-  up : IsUp g.M.Medium.tells g.K.StoredCore.parts g.K.StoredCore.fits g.K.StoredCore.lives g.K.StoredCore.owes g.M.Medium.page_count g.M.Medium.reads g.M.Medium.may_leave l.core (knows l.pass) l.node l.gone true l.draft;
+  up : IsUp g.M.Medium g.K.Meanings l.core (knows l.pass) l.node l.gone true l.draft;
   durable : l.draft.durable ≡ l.initial.draft.durable;
   trail : Trail l.node (knows l.initial.pass) (knows l.pass) [] [] [] 0;
-  unwritten : IsUnwritten g.M.Medium.tells g.M.Medium.faults g.M.Medium.reads g.M.Medium.stages (g.K.StoredCore.parts l.initial.core).medium (g.K.StoredCore.parts l.core).medium;
+  unwritten : IsUnwritten g.M.Medium (g.K.Meanings.parts l.initial.core).medium (g.K.Meanings.parts l.core).medium;
 }

@@ -16,7 +16,7 @@ loop-index-init g c = record {
   pass = c.requires.pass;
   up = c.requires.up;
   durable = refl;
-  unwritten = unwritten-none _ _ _ _ _;
+  unwritten = unwritten-none _ _;
   seeks = seeks-none c.args.node (knows c.args.pass) _ (λ told. sought-none (all_effects (life_at (knows c.args.pass) c.args.node)) c.args.draft.now.outs);
 }
 

@@ -10,9 +10,9 @@ use Rattle.node_turn.proofs.lookups.look_up_all.Given as goal
 abbrev pub invariant-loop-index : goal.invariant-loop-index
 invariant-loop-index g l = record {
   pass : IsWirePass l.wire.lock l.pass;
-  up : IsUp g.M.Medium.tells g.K.StoredCore.parts g.K.StoredCore.fits g.K.StoredCore.lives g.K.StoredCore.owes g.M.Medium.page_count g.M.Medium.reads g.M.Medium.may_leave l.core (knows l.pass) l.node l.gone true l.draft;
+  up : IsUp g.M.Medium g.K.Meanings l.core (knows l.pass) l.node l.gone true l.draft;
   durable : l.draft.durable ≡ l.initial.draft.durable;
-  unwritten : IsUnwritten g.M.Medium.tells g.M.Medium.faults g.M.Medium.reads g.M.Medium.stages (g.K.StoredCore.parts l.initial.core).medium (g.K.StoredCore.parts l.core).medium;
+  unwritten : IsUnwritten g.M.Medium (g.K.Meanings.parts l.initial.core).medium (g.K.Meanings.parts l.core).medium;
   seeks : Seeks l.node (knows l.initial.pass) (knows l.pass) (λ tests. IsTrue g.M.Medium.tells → AreSought (all_effects (life_at (knows l.pass) l.node)) (take l.index l.draft.outs) tests);
 }
 

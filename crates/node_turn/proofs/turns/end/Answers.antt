@@ -41,7 +41,7 @@ returns-in-NoMemory-clause-whole g c = λ told ne. absurd (ne refl)
 
 pub open_anew-requires-clause-struck : goal.open_anew-requires-clause-struck
 open_anew-requires-clause-struck g c =
-    subst (IsStruck g.M.Medium.tells g.K.StoredCore.parts g.K.StoredCore.fits g.K.StoredCore.lives g.K.StoredCore.owes g.M.Medium.page_count g.M.Medium.reads g.M.Medium.may_leave c.close-pass.result.1 (knows c.close-pass.result.0) c.args.node) (sym c.durable-durable.ensures)
+    subst (IsStruck g.M.Medium g.K.Meanings c.close-pass.result.1 (knows c.close-pass.result.0) c.args.node) (sym c.durable-durable.ensures)
     (rw c.in-Medium.is at (if-err _ _ _ c.in-Err.is c.close-pass.ensures.err))
 
 pub returns-in-Medium-clause-sends : goal.returns-in-Medium-clause-sends
@@ -63,7 +63,7 @@ returns-in-Medium-clause-whole g c = λ told ne same.
 
 pub go_down-pass-requires-clause-struck : goal.go_down-pass-requires-clause-struck
 go_down-pass-requires-clause-struck g c =
-    subst (IsStruck g.M.Medium.tells g.K.StoredCore.parts g.K.StoredCore.fits g.K.StoredCore.lives g.K.StoredCore.owes g.M.Medium.page_count g.M.Medium.reads g.M.Medium.may_leave c.close-pass.result.1 (knows c.close-pass.result.0) c.args.node) (sym c.durable-durable.ensures)
+    subst (IsStruck g.M.Medium g.K.Meanings c.close-pass.result.1 (knows c.close-pass.result.0) c.args.node) (sym c.durable-durable.ensures)
     (rw c.in-Full.is at (if-err _ _ _ c.in-Err.is c.close-pass.ensures.err)).0
 
 pub go_down-pass-requires-clause-cause : goal.go_down-pass-requires-clause-cause
@@ -85,8 +85,8 @@ returns-in-Full-clause-paid g c =
 pub returns-in-Full-clause-whole : goal.returns-in-Full-clause-whole
 returns-in-Full-clause-whole g c = λ told ne same.
     let m = if-err _ _ _ c.in-Err.is c.close-pass.ensures.nothing c.in-Full.pages c.in-Full.is in
-    subst (λ x. IsIntact (g.M.Medium.reads (g.K.StoredCore.parts c.args.core).medium) (g.M.Medium.reads x)) (sym m)
-    (whole-same (g.M.Medium.reads (g.K.StoredCore.parts c.args.core).medium))
+    subst (λ x. IsIntact (g.M.Medium.reads (g.K.Meanings.parts c.args.core).medium) (g.M.Medium.reads x)) (sym m)
+    (whole-same (g.M.Medium.reads (g.K.Meanings.parts c.args.core).medium))
 
 pub returns-in-Medium-clause-passes : goal.returns-in-Medium-clause-passes
 returns-in-Medium-clause-passes g c = λ told. passes-on (c.close-pass.ensures.passes told) (c.open_anew.ensures.passes told)

@@ -16,13 +16,13 @@ use Rattle.node_turn.proofs.turns.finish.Goals as goal
 
 pub give_up-requires-clause-after : goal.give_up-requires-clause-after
 give_up-requires-clause-after g c =
-    subst (IsAfter g.M.Medium.tells g.K.StoredCore.parts g.K.StoredCore.fits g.K.StoredCore.lives g.K.StoredCore.owes g.M.Medium.page_count g.M.Medium.reads g.M.Medium.may_leave c.in-Err.fault c.take_more-pass.new.core (knows c.take_more-pass.result.0) c.args.node)
+    subst (IsAfter g.M.Medium g.K.Meanings c.in-Err.fault c.take_more-pass.new.core (knows c.take_more-pass.result.0) c.args.node)
     (sym c.durable-durable.ensures) (if-err _ _ _ c.in-Err.is c.take_more-pass.ensures.err)
 
 pub returns-in-Err-clause-paid : goal.returns-in-Err-clause-paid
 returns-in-Err-clause-paid g c =
     let e = trail-cost c.take_more-pass.ensures.trail in
-    λ first r. c.give_up.ensures.paid (g.M.Medium.faults (g.K.StoredCore.parts c.args.core).medium) (λ m. c.take_more-pass.ensures.cause (c.in-Err.is ∙ ap (λ f. Err f) m)) c.take_more-pass.ensures.unwritten.later
+    λ first r. c.give_up.ensures.paid (g.M.Medium.faults (g.K.Meanings.parts c.args.core).medium) (λ m. c.take_more-pass.ensures.cause (c.in-Err.is ∙ ap (λ f. Err f) m)) c.take_more-pass.ensures.unwritten.later
     first (pays-none _ _ _ _ (omega (arith, e)) (omega arith) first r)
 
 pub returns-in-Err-clause-whole : goal.returns-in-Err-clause-whole
@@ -45,7 +45,7 @@ pub returns-in-Err-sought-clause-paid : goal.returns-in-Err-sought-clause-paid
 returns-in-Err-sought-clause-paid g c =
     let e = trail-cost c.take_more-pass.ensures.trail in
     let s = trail-cost c.look_up_all-pass.ensures.seeks.trail in
-    λ first r. c.give_up-in-Err-sought.ensures.paid (g.M.Medium.faults (g.K.StoredCore.parts c.take_more-pass.new.core).medium) (λ m. c.look_up_all-pass.ensures.cause (c.in-Err-sought.is ∙ ap (λ f. Err f) m)) c.look_up_all-pass.ensures.unwritten.later
+    λ first r. c.give_up-in-Err-sought.ensures.paid (g.M.Medium.faults (g.K.Meanings.parts c.take_more-pass.new.core).medium) (λ m. c.look_up_all-pass.ensures.cause (c.in-Err-sought.is ∙ ap (λ f. Err f) m)) c.look_up_all-pass.ensures.unwritten.later
     first (pays-none _ _ _ _ (omega (arith, e, s)) c.take_more-pass.ensures.unwritten.later first r)
 
 pub returns-in-Err-sought-clause-whole : goal.returns-in-Err-sought-clause-whole
@@ -79,7 +79,7 @@ pub returns-clause-whole : goal.returns-clause-whole
 returns-clause-whole g c = λ told ne same.
     let e = trail-cost c.take_more-pass.ensures.trail in
     let s = trail-cost c.look_up_all-pass.ensures.seeks.trail in
-    subst (λ (x : Image). IsIntact x (g.M.Medium.reads (g.K.StoredCore.parts c.end.result.1.core).medium))
+    subst (λ (x : Image). IsIntact x (g.M.Medium.reads (g.K.Meanings.parts c.end.result.1.core).medium))
     (c.look_up_all-pass.ensures.unwritten.still told ∙ c.take_more-pass.ensures.unwritten.still told) (c.end.ensures.whole told ne (omega (arith, e, s, same)))
 
 pub returns-clause-tested : goal.returns-clause-tested
@@ -103,7 +103,7 @@ pub returns-in-Err-clause-passes : goal.returns-in-Err-clause-passes
 returns-in-Err-clause-passes g c = λ told ne.
     let p = c.take_more-pass.ensures in
     passes-on
-    (passes-after g.M.Medium.stages g.met.M.Medium.only_now c.requires.up p.trail (p.unwritten.stages_still told) told c.in-Err.fault (if-err _ _ _ c.in-Err.is p.err) (λ e. ne (c.give_up.ensures.wanting e)))
+    (passes-after g.M.Medium g.met.M.Medium.only_now c.requires.up p.trail (p.unwritten.stages_still told) told c.in-Err.fault (if-err _ _ _ c.in-Err.is p.err) (λ e. ne (c.give_up.ensures.wanting e)))
     (c.give_up.ensures.passes told)
 
 pub returns-in-Err-sought-clause-passes : goal.returns-in-Err-sought-clause-passes
@@ -112,9 +112,9 @@ returns-in-Err-sought-clause-passes g c = λ told ne.
     let q = c.look_up_all-pass.ensures in
     let u = on-ok _ _ _ c.in_default.is p.up in
     passes-on
-    (passes-up g.M.Medium.stages g.met.M.Medium.only_now c.requires.up p.trail (p.unwritten.stages_still told) told u p.durable)
+    (passes-up g.M.Medium g.met.M.Medium.only_now c.requires.up p.trail (p.unwritten.stages_still told) told u p.durable)
     (passes-on
-    (passes-after g.M.Medium.stages g.met.M.Medium.only_now u q.seeks.trail (q.unwritten.stages_still told) told c.in-Err-sought.fault (if-err _ _ _ c.in-Err-sought.is q.err) (λ e. ne (c.give_up-in-Err-sought.ensures.wanting e)))
+    (passes-after g.M.Medium g.met.M.Medium.only_now u q.seeks.trail (q.unwritten.stages_still told) told c.in-Err-sought.fault (if-err _ _ _ c.in-Err-sought.is q.err) (λ e. ne (c.give_up-in-Err-sought.ensures.wanting e)))
     (c.give_up-in-Err-sought.ensures.passes told))
 
 pub returns-clause-passes : goal.returns-clause-passes
@@ -123,7 +123,7 @@ returns-clause-passes g c = λ told ne.
     let q = c.look_up_all-pass.ensures in
     let u = on-ok _ _ _ c.in_default.is p.up in
     passes-on
-    (passes-up g.M.Medium.stages g.met.M.Medium.only_now c.requires.up p.trail (p.unwritten.stages_still told) told u p.durable)
+    (passes-up g.M.Medium g.met.M.Medium.only_now c.requires.up p.trail (p.unwritten.stages_still told) told u p.durable)
     (passes-on
-    (passes-up g.M.Medium.stages g.met.M.Medium.only_now u q.seeks.trail (q.unwritten.stages_still told) told (on-ok _ _ _ c.in_default-sought.is q.up) q.durable)
+    (passes-up g.M.Medium g.met.M.Medium.only_now u q.seeks.trail (q.unwritten.stages_still told) told (on-ok _ _ _ c.in_default-sought.is q.up) q.durable)
     (c.end.ensures.passes told))

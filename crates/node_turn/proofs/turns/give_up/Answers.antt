@@ -46,4 +46,4 @@ pub returns-in-Damaged-clause-grew : goal.returns-in-Damaged-clause-grew
 returns-in-Damaged-clause-grew g c = λ w. absurd (c.go_down-pass.ensures.stops w)
 
 pub returns-in-NoMemory-clause-passes : goal.returns-in-NoMemory-clause-passes
-returns-in-NoMemory-clause-passes g c = λ told. passes-stored g.M.Medium.stages g.met.M.Medium.only_now (rw c.in-NoMemory.is at c.requires.after) told
+returns-in-NoMemory-clause-passes g c = λ told. passes-stored g.M.Medium g.met.M.Medium.only_now (rw c.in-NoMemory.is at c.requires.after) told

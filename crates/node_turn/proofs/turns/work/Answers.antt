@@ -14,13 +14,13 @@ use Rattle.node_turn.proofs.turns.work.Goals as goal
 
 pub give_up-pass-requires-clause-after : goal.give_up-pass-requires-clause-after
 give_up-pass-requires-clause-after g c =
-    subst (IsAfter g.M.Medium.tells g.K.StoredCore.parts g.K.StoredCore.fits g.K.StoredCore.lives g.K.StoredCore.owes g.M.Medium.page_count g.M.Medium.reads g.M.Medium.may_leave c.in-Err.fault c.begin-pass.new.core (knows c.begin-pass.result.0) c.args.node)
+    subst (IsAfter g.M.Medium g.K.Meanings c.in-Err.fault c.begin-pass.new.core (knows c.begin-pass.result.0) c.args.node)
     (ap (λ (d : DraftParts). d.durable) c.new-draft.ensures) (if-err _ _ _ c.in-Err.is c.begin-pass.ensures.err)
 
 pub returns-in-Err-clause-paid : goal.returns-in-Err-clause-paid
 returns-in-Err-clause-paid g c =
     let e = trail-cost c.begin-pass.ensures.trail in
-    λ first r. c.give_up-pass.ensures.paid (g.M.Medium.faults (g.K.StoredCore.parts c.args.hand.core).medium) (λ m. c.begin-pass.ensures.cause (c.in-Err.is ∙ ap (λ f. Err f) m)) c.begin-pass.ensures.unwritten.later
+    λ first r. c.give_up-pass.ensures.paid (g.M.Medium.faults (g.K.Meanings.parts c.args.hand.core).medium) (λ m. c.begin-pass.ensures.cause (c.in-Err.is ∙ ap (λ f. Err f) m)) c.begin-pass.ensures.unwritten.later
     first (pays-none _ _ _ _ (omega (arith, e)) (omega arith) first r)
 
 pub returns-in-Err-clause-whole : goal.returns-in-Err-clause-whole
@@ -47,7 +47,7 @@ returns-in-Err-clause-quiet g c = λ w.
 
 pub finish-pass-requires-clause-up : goal.finish-pass-requires-clause-up
 finish-pass-requires-clause-up g c =
-    let up = λ (gone begun : Bool). IsUp g.M.Medium.tells g.K.StoredCore.parts g.K.StoredCore.fits g.K.StoredCore.lives g.K.StoredCore.owes g.M.Medium.page_count g.M.Medium.reads g.M.Medium.may_leave c.begin-pass.new.core (knows c.begin-pass.result.0) c.args.node gone begun c.begin-pass.new.draft in
+    let up = λ (gone begun : Bool). IsUp g.M.Medium g.K.Meanings c.begin-pass.new.core (knows c.begin-pass.result.0) c.args.node gone begun c.begin-pass.new.draft in
     subst (λ (gone : Bool). up gone true) (sym c.has_gone-gone.ensures)
     (subst (λ (begun : Bool). up (c.args.hand.gone || is_broker c.args.node.kind) begun) c.if-started.true (if-ok _ _ _ c.in-Ok.is c.begin-pass.ensures.up))
 
@@ -62,7 +62,7 @@ returns-then-started-clause-paid g c =
 pub returns-then-started-clause-whole : goal.returns-then-started-clause-whole
 returns-then-started-clause-whole g c = λ told ne same.
     let e = trail-cost c.begin-pass.ensures.trail in
-    subst (λ (x : Image). IsIntact x (g.M.Medium.reads (g.K.StoredCore.parts c.finish-pass.result.1.core).medium))
+    subst (λ (x : Image). IsIntact x (g.M.Medium.reads (g.K.Meanings.parts c.finish-pass.result.1.core).medium))
     (c.begin-pass.ensures.unwritten.still told) (c.finish-pass.ensures.whole told ne (omega (arith, e, same)))
 
 pub returns-then-started-clause-tested : goal.returns-then-started-clause-tested
@@ -79,7 +79,7 @@ returns-then-started-clause-quiet g c = λ w. grew-more (knows c.args.pass).own 
 
 pub returns-clause-keeps : goal.returns-clause-keeps
 returns-clause-keeps g c =
-    let up = λ (gone begun : Bool) (d : DraftParts). IsUp g.M.Medium.tells g.K.StoredCore.parts g.K.StoredCore.fits g.K.StoredCore.lives g.K.StoredCore.owes g.M.Medium.page_count g.M.Medium.reads g.M.Medium.may_leave c.begin-pass.new.core (knows c.begin-pass.result.0) c.args.node gone begun d in
+    let up = λ (gone begun : Bool) (d : DraftParts). IsUp g.M.Medium g.K.Meanings c.begin-pass.new.core (knows c.begin-pass.result.0) c.args.node gone begun d in
     let q = c.begin-pass.ensures.quiet (c.in-Ok.is ∙ ap (λ b. Ok b) c.if-started.false) in
     subst (λ (d : DraftParts). up c.has_gone-gone.result false d) (q.1 ∙ c.new-draft.ensures)
     (subst (λ (gone : Bool). up gone false c.begin-pass.new.draft) (sym c.has_gone-gone.ensures)
@@ -92,8 +92,8 @@ returns-clause-paid g c =
 
 pub returns-clause-whole : goal.returns-clause-whole
 returns-clause-whole g c = λ told ne same.
-    subst (λ (x : Image). IsIntact (g.M.Medium.reads (g.K.StoredCore.parts c.args.hand.core).medium) x)
-    (sym (c.begin-pass.ensures.unwritten.still told)) (whole-same (g.M.Medium.reads (g.K.StoredCore.parts c.args.hand.core).medium))
+    subst (λ (x : Image). IsIntact (g.M.Medium.reads (g.K.Meanings.parts c.args.hand.core).medium) x)
+    (sym (c.begin-pass.ensures.unwritten.still told)) (whole-same (g.M.Medium.reads (g.K.Meanings.parts c.args.hand.core).medium))
 
 pub returns-clause-tested : goal.returns-clause-tested
 returns-clause-tested g c = λ told repository. tested-none c.args.node (knows c.args.pass) (knows c.begin-pass.result.0) 0 c.begin-pass.ensures.trail
@@ -108,17 +108,17 @@ pub returns-in-Err-clause-passes : goal.returns-in-Err-clause-passes
 returns-in-Err-clause-passes g c = λ told ne.
     let p = c.begin-pass.ensures in
     passes-on
-    (passes-after g.M.Medium.stages g.met.M.Medium.only_now (up-new (sym c.new-draft.ensures) c.requires.up) p.trail (p.unwritten.stages_still told) told c.in-Err.fault (if-err _ _ _ c.in-Err.is p.err) (λ e. ne (c.give_up-pass.ensures.wanting e)))
+    (passes-after g.M.Medium g.met.M.Medium.only_now (up-new (sym c.new-draft.ensures) c.requires.up) p.trail (p.unwritten.stages_still told) told c.in-Err.fault (if-err _ _ _ c.in-Err.is p.err) (λ e. ne (c.give_up-pass.ensures.wanting e)))
     (c.give_up-pass.ensures.passes told)
 
 pub returns-then-started-clause-passes : goal.returns-then-started-clause-passes
 returns-then-started-clause-passes g c = λ told ne.
     let p = c.begin-pass.ensures in
     passes-on
-    (passes-up g.M.Medium.stages g.met.M.Medium.only_now (up-new (sym c.new-draft.ensures) c.requires.up) p.trail (p.unwritten.stages_still told) told (if-ok _ _ _ c.in-Ok.is p.up) p.durable)
+    (passes-up g.M.Medium g.met.M.Medium.only_now (up-new (sym c.new-draft.ensures) c.requires.up) p.trail (p.unwritten.stages_still told) told (if-ok _ _ _ c.in-Ok.is p.up) p.durable)
     (c.finish-pass.ensures.passes told ne)
 
 pub returns-clause-passes : goal.returns-clause-passes
 returns-clause-passes g c = λ told ne.
     let p = c.begin-pass.ensures in
-    passes-up g.M.Medium.stages g.met.M.Medium.only_now (up-new (sym c.new-draft.ensures) c.requires.up) p.trail (p.unwritten.stages_still told) told (if-ok _ _ _ c.in-Ok.is p.up) p.durable
+    passes-up g.M.Medium g.met.M.Medium.only_now (up-new (sym c.new-draft.ensures) c.requires.up) p.trail (p.unwritten.stages_still told) told (if-ok _ _ _ c.in-Ok.is p.up) p.durable

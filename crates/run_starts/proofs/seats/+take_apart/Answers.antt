@@ -11,12 +11,12 @@ returns-clause-rest g t c =
     elim c.match-kind.branch [
       | in-Repository w ↦ (
           let is = ap parts_of (sym w.in-Repository.is) ∙ c.node.view_is in
-          let rest = subst (λ (n : NodeParts g.row.M.Denot). IsAtRest g.M.Medium.tells g.M.Medium.page_count g.M.Medium.reads g.M.Medium.may_leave n) is w.release.ensures.rest in
-          all-pushed (λ (n : NodeParts g.row.M.Denot). IsAtRest g.M.Medium.tells g.M.Medium.page_count g.M.Medium.reads g.M.Medium.may_leave n) c.args.nodes.items c.pop.new.self.items c.in-Some.node c.in-Some.ensures.items c.take_apart-media.ensures.rest rest)
+          let rest = subst (λ (n : NodeParts g.row.M.Denot). IsAtRest g.M.Medium n) is w.release.ensures.rest in
+          all-pushed (λ (n : NodeParts g.row.M.Denot). IsAtRest g.M.Medium n) c.args.nodes.items c.pop.new.self.items c.in-Some.node c.in-Some.ensures.items c.take_apart-media.ensures.rest rest)
       | in-Broker w ↦ (
           let is = ap parts_of (sym w.in-Broker.is) ∙ c.node.view_is in
-          let rest = subst (λ (n : NodeParts g.row.M.Denot). IsAtRest g.M.Medium.tells g.M.Medium.page_count g.M.Medium.reads g.M.Medium.may_leave n) is w.release-in-Broker.ensures.rest in
-          all-pushed (λ (n : NodeParts g.row.M.Denot). IsAtRest g.M.Medium.tells g.M.Medium.page_count g.M.Medium.reads g.M.Medium.may_leave n) c.args.nodes.items c.pop.new.self.items c.in-Some.node c.in-Some.ensures.items c.take_apart-media.ensures.rest rest)
+          let rest = subst (λ (n : NodeParts g.row.M.Denot). IsAtRest g.M.Medium n) is w.release-in-Broker.ensures.rest in
+          all-pushed (λ (n : NodeParts g.row.M.Denot). IsAtRest g.M.Medium n) c.args.nodes.items c.pop.new.self.items c.in-Some.node c.in-Some.ensures.items c.take_apart-media.ensures.rest rest)
     ]
 
 pub returns-clause-media : goal.returns-clause-media

@@ -12,7 +12,7 @@ returns-in-Ok g c =
     let r = c.in-Ok.store in
     let now = g.met.M.Medium.reads_now in
     appended c.args.self _ (medium_of s) (ap (λ z. medium_in z) c.in-Open.is) refl (λ b f. f) c.args.effects.now _
-    (appends-all g.M.Medium.tells g.M.Medium.faults g.M.Medium.page_count g.M.Medium.reads g.M.Medium.may_leave g.M.Medium.stages now (medium_of s) (medium_of r) c.args.effects.now s.settled c.in-Ok.ensures.later c.in-Ok.ensures.images c.in-Ok.ensures.any_moment tt g.met.M.Medium.shape c.in-Ok.ensures.size r.settled c.in-Ok.ensures.added
+    (appends-all g.M.Medium now (medium_of s) (medium_of r) c.args.effects.now s.settled c.in-Ok.ensures.later c.in-Ok.ensures.images c.in-Ok.ensures.any_moment tt g.met.M.Medium.shape c.in-Ok.ensures.size r.settled c.in-Ok.ensures.added
     (λ t. c.in-Ok.ensures.kept t (g.M.Medium.reads (medium_of r)) (now (medium_of r) t)) c.in-Ok.ensures.clean c.requires.ranges c.in-Ok.ensures.used)
     (refl, tt)
     (λ t b l h fresh. (
@@ -24,6 +24,6 @@ pub returns-in-Err : goal.returns-in-Err
 returns-in-Err g c =
     let s = c.in-Open.store in
     appended c.args.self _ (medium_of s) (ap (λ z. medium_in z) c.in-Open.is) refl (λ b f. f) c.args.effects.now _
-    (appends-none g.M.Medium.tells g.M.Medium.faults g.M.Medium.page_count g.M.Medium.reads g.M.Medium.may_leave g.M.Medium.stages g.met.M.Medium.reads_now (medium_of s) c.in-Err.medium c.args.effects.now s.settled c.in-Err.ensures.later c.in-Err.ensures.images c.in-Err.ensures.any_moment c.in-Err.fault c.in-Err.ensures.nothing
+    (appends-none g.M.Medium g.met.M.Medium.reads_now (medium_of s) c.in-Err.medium c.args.effects.now s.settled c.in-Err.ensures.later c.in-Err.ensures.images c.in-Err.ensures.any_moment c.in-Err.fault c.in-Err.ensures.nothing
     (λ number e. (c.in-Err.ensures.full number e).0) c.in-Err.ensures.full_blank c.in-Err.ensures.failed)
     tt (λ t b l h fresh. tt)

@@ -4,5 +4,5 @@ use Rattle.node_turn.proofs.nodes.Node.release.Goals as goal
 pub returns-clause-rest : goal.returns-clause-rest
 returns-clause-rest g c =
     let i = c.self.inside in
-    keeps-rest g.M.Medium.tells g.K.StoredCore.parts g.K.StoredCore.fits g.K.StoredCore.lives g.K.StoredCore.owes g.M.Medium.page_count g.M.Medium.reads g.M.Medium.may_leave
+    keeps-rest g.M.Medium g.K.Meanings
     i.hand.core i.node i.hand.gone i.hand.durable i.pass i.hand.condition c.self.invariant c.self.view_is

@@ -42,8 +42,8 @@ returns-in-Ok g c =
     let stored : (ledger_of c.join.result.histories).log ≡ (ledger_of core.histories).log ++ effects =
     ap (λ h. (ledger_of h).log) j.4 ∙ c.in-Ok.ensures.log ∙ ap (λ h. (ledger_of h).log ++ effects) c.part-rest.ensures.histories in
     appended c.args.self _ m was refl (λ b f. f) effects _
-    (subst (λ h. AppendsTo g.M.Medium.tells g.M.Medium.faults g.M.Medium.page_count g.M.Medium.reads g.M.Medium.may_leave g.M.Medium.stages m (medium_of (store_of h)) effects (Ok tt)) (sym j.4)
-    (appends-all g.M.Medium.tells g.M.Medium.faults g.M.Medium.page_count g.M.Medium.reads g.M.Medium.may_leave g.M.Medium.stages now m n effects (store_of old).settled c.in-Ok.ensures.later
+    (subst (λ h. AppendsTo g.M.Medium m (medium_of (store_of h)) effects (Ok tt)) (sym j.4)
+    (appends-all g.M.Medium now m n effects (store_of old).settled c.in-Ok.ensures.later
     (λ t i left. subst (λ l. HasPrefix l effects i) (sym (old.stored t)) (c.in-Ok.ensures.images t i left))
     (λ t. subst (λ l. LeavesOnly g.M.Medium.stages m n (HasPrefix l effects)) (sym (old.stored t)) (c.in-Ok.ensures.any_moment t)) tt g.met.M.Medium.shape c.in-Ok.ensures.size (store_of new).settled
     (λ t. new.stored t ∙ c.in-Ok.ensures.log ∙ ap (λ l. l ++ effects) (sym (old.stored t)))
@@ -61,7 +61,7 @@ returns-in-Err g c =
     let m = medium_of (store_of old) in
     let was = ap (λ z. medium_in z) c.in-Open.is ∙ ap (λ h. medium_of (store_of h)) (sym c.part-rest.ensures.histories) in
     appended c.args.self _ m was refl (λ b f. f) effects _
-    (appends-none g.M.Medium.tells g.M.Medium.faults g.M.Medium.page_count g.M.Medium.reads g.M.Medium.may_leave g.M.Medium.stages g.met.M.Medium.reads_now m c.in-Err.medium effects (store_of old).settled c.in-Err.ensures.later
+    (appends-none g.M.Medium g.met.M.Medium.reads_now m c.in-Err.medium effects (store_of old).settled c.in-Err.ensures.later
     (λ t i left. subst (λ l. HasPrefix l effects i) (sym (old.stored t)) (c.in-Err.ensures.images t i left))
     (λ t. subst (λ l. LeavesOnly g.M.Medium.stages m c.in-Err.medium (HasPrefix l effects)) (sym (old.stored t)) (c.in-Err.ensures.any_moment t)) c.in-Err.fault c.in-Err.ensures.nothing
     (λ number e. (c.in-Err.ensures.full number e).0) c.in-Err.ensures.full_blank c.in-Err.ensures.failed)
